@@ -1,0 +1,14 @@
+-- Writes, and outcomes that are good.
+use Rattle.std.specs.Prelude.{ℕ, ◌%◌, Bool, true, false, ◌&&◌, ◌==◌, nat_lt, nat_le, Result, Ok, Err}
+use Rattle.errno.specs.declared.Errno.{Errno}
+use Rattle.message.specs.declared.Kind.{Kind}
+use Rattle.message.specs.declared.Kind.TheVariants.{Read, Write}
+
+abbrev pub is_write : Kind → Bool
+is_write Read = false
+is_write Write = true
+
+-- an outcome is good if it is a number of bytes that is a multiple of 512, above 0, at most the count
+abbrev pub is_good : ℕ → Result ℕ Errno → Bool
+is_good count (Ok n) = (n % 512 == 0) && nat_lt 0 n && nat_le n count
+is_good count (Err e) = false

@@ -1,0 +1,8 @@
+pub mod Maps
+pub mod Small
+mod NodeRows
+mod NameRows
+mod FileRows
+pub mod Leaves
+pub mod Fresh
+pub mod Needs

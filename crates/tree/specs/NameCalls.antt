@@ -1,0 +1,149 @@
+-- Calls on names of directories. Each line of a do block is one refusal, in their order.
+use Rattle.std.specs.Prelude.{ℕ, ◌+◌, List, length, Bool, false, not, ◌&&◌, ◌||◌, ◌==◌, nat_lt, None, Some, Option, Result, Ok, if◌then◌else◌}
+use Rattle.layout.specs.declared.Geometry.{Geometry}
+use Rattle.errno.specs.declared.Errno.{Errno}
+use Rattle.errno.specs.declared.Errno.TheVariants.{EPERM, ENOENT, EACCES, EBUSY, EEXIST, ENOTDIR, EISDIR, EINVAL, EMLINK, ENOTEMPTY}
+use Rattle.tree.specs.declared.User.{User}
+use Rattle.tree.specs.Sums.{one_if, some_below}
+use Rattle.tree.specs.Names.{inode_of, with_name, without_name}
+use Rattle.tree.specs.Tree.{Node, Tree, names_of, is_dir, is_open, with_node, on_node, most_links, most_permissions}
+use Rattle.tree.specs.IsTree.{above}
+use Rattle.tree.specs.Refusals.{◌>>=◌, or_refuse, refuse_if}
+use Rattle.tree.specs.Walk.{read_path, walk_parts, parent_walk, node_at, has_last_name, is_taken, Place, may_access, to_write}
+use Rattle.tree.specs.Changes.{touched, with_names, with_parent, more_links, fewer_links, unlinked, new_node, empty_directory, free_inode, without_nameless}
+use Rattle.tree.specs.Answers.{done, Effect, if_it_fits}
+
+-- the tree with a name more, or without one
+abbrev pub named : Tree → ℕ → Place → ℕ → Tree
+named t now place n = on_node t place.directory (with_names now (λ names. with_name names place.name n))
+
+abbrev pub unnamed : Tree → ℕ → Place → Tree
+unnamed t now place = on_node t place.directory (with_names now (λ names. without_name names place.name))
+
+abbrev pub is_empty : Node → Bool
+is_empty node = length (names_of (Some node)) == 0
+
+-- the tree in which a node loses one name, and goes where that was the last and it isn't open
+abbrev pub with_name_lost : Tree → ℕ → ℕ → Tree
+with_name_lost t now n = without_nameless (on_node t n (unlinked now)) n
+
+abbrev pub link : Geometry → Tree → User → ℕ → List ℕ → List ℕ → Effect
+link g t user now old new = do
+  old_parts ← read_path old
+  new_parts ← read_path new
+  n ← walk_parts t user old_parts
+  node ← node_at t n
+  _ ← refuse_if (is_dir node) EPERM
+  _ ← refuse_if (node.links == most_links) EMLINK
+  place ← parent_walk t user new_parts
+  _ ← refuse_if (is_taken place new_parts) EEXIST
+  parent ← node_at t place.directory
+  _ ← refuse_if (not (may_access user parent to_write)) EACCES
+  if_it_fits g done (named (with_node t n (Some (touched now (more_links 1 node)))) now place n)
+
+abbrev pub unlink : Tree → User → ℕ → List ℕ → Effect
+unlink t user now path = do
+  parts ← read_path path
+  _ ← refuse_if (not (has_last_name parts)) EINVAL
+  place ← parent_walk t user parts
+  n ← or_refuse (inode_of place.names place.name) ENOENT
+  parent ← node_at t place.directory
+  _ ← refuse_if (not (may_access user parent to_write)) EACCES
+  node ← node_at t n
+  _ ← refuse_if (is_dir node) EPERM
+  Ok (done, with_name_lost (unnamed t now place) now n)
+
+abbrev pub mkdir : Geometry → Tree → User → ℕ → List ℕ → ℕ → Effect
+mkdir g t user now path mode = do
+  _ ← refuse_if (nat_lt most_permissions mode) EINVAL
+  parts ← read_path path
+  place ← parent_walk t user parts
+  _ ← refuse_if (is_taken place parts) EEXIST
+  parent ← node_at t place.directory
+  _ ← refuse_if (not (may_access user parent to_write)) EACCES
+  _ ← refuse_if (parent.links == most_links) EMLINK
+  n ← free_inode g t
+  if_it_fits g done (on_node
+      (named (with_node t n (Some (new_node now user mode 2 (empty_directory place.directory)))) now place n)
+      place.directory (more_links 1))
+
+abbrev pub rmdir : Tree → User → ℕ → List ℕ → Effect
+rmdir t user now path = do
+  parts ← read_path path
+  _ ← refuse_if (not (has_last_name parts)) EINVAL
+  place ← parent_walk t user parts
+  n ← or_refuse (inode_of place.names place.name) ENOENT
+  parent ← node_at t place.directory
+  _ ← refuse_if (not (may_access user parent to_write)) EACCES
+  node ← node_at t n
+  _ ← refuse_if (not (is_dir node)) ENOTDIR
+  _ ← refuse_if (not (is_empty node)) ENOTEMPTY
+  _ ← refuse_if (is_open t n) EBUSY
+  Ok (done, with_node (on_node (unnamed t now place) place.directory (fewer_links 1)) n None)
+
+-- the node is the other, or lies below it
+abbrev pub is_within : Geometry → Tree → ℕ → ℕ → Bool
+is_within g t n top = some_below (λ k. above t.nodes k n == top) (g.inodes + 1)
+
+-- a node may take another's name: both or neither are directories, and a directory is empty and not open
+abbrev pub can_replace : Tree → Node → ℕ → Node → Result ℕ Errno
+can_replace t node m other = do
+  _ ← refuse_if (is_dir node && not (is_dir other)) ENOTDIR
+  _ ← refuse_if (not (is_dir node) && is_dir other) EISDIR
+  _ ← refuse_if (is_dir other && not (is_empty other)) ENOTEMPTY
+  refuse_if (is_dir other && is_open t m) EBUSY
+
+-- a directory that moves counts with its new parent, which may have no room for another link
+abbrev pub has_room_for_link : Node → ℕ → ℕ → Node → Result ℕ Errno
+has_room_for_link node old_parent new_parent parent =
+    refuse_if (is_dir node && not (old_parent == new_parent) && (parent.links == most_links)) EMLINK
+
+-- the node leaves its old place
+abbrev pub moved_out : Tree → ℕ → Place → Node → Tree
+moved_out t now old node = on_node (unnamed t now old) old.directory (fewer_links (one_if (is_dir node)))
+
+-- and stands at its new one
+abbrev pub moved_in : Tree → ℕ → Place → ℕ → Node → Tree
+moved_in t now new n node =
+    on_node (on_node (named t now new n) new.directory (more_links (one_if (is_dir node))))
+    n (λ moved. touched now (with_parent new.directory moved))
+
+-- a node whose name another takes: a file loses that name, an empty directory goes
+abbrev pub replaced : Tree → ℕ → Place → ℕ → Node → Tree
+replaced t now new m other =
+    if is_dir other
+    then with_node (on_node t new.directory (fewer_links 1)) m None
+    else with_name_lost t now m
+
+-- rename of node n at a place to another at which m stands, or nothing
+abbrev pub renamed_onto : Geometry → Tree → ℕ → Place → Place → ℕ → Node → Option ℕ → Effect
+renamed_onto g t now old new n node None = do
+  parent ← node_at t new.directory
+  _ ← has_room_for_link node old.directory new.directory parent
+  if_it_fits g done (moved_in (moved_out t now old node) now new n node)
+renamed_onto g t now old new n node (Some m) = do
+  other ← node_at t m
+  _ ← can_replace t node m other
+  if_it_fits g done (replaced (moved_in (moved_out t now old node) now new n node) now new m other)
+
+abbrev pub is_same : ℕ → Option ℕ → Bool
+is_same n None = false
+is_same n (Some m) = n == m
+
+abbrev pub rename : Geometry → Tree → User → ℕ → List ℕ → List ℕ → Effect
+rename g t user now old_path new_path = do
+  old_parts ← read_path old_path
+  new_parts ← read_path new_path
+  _ ← refuse_if (not (has_last_name old_parts) || not (has_last_name new_parts)) EINVAL
+  old ← parent_walk t user old_parts
+  n ← or_refuse (inode_of old.names old.name) ENOENT
+  new ← parent_walk t user new_parts
+  old_parent ← node_at t old.directory
+  _ ← refuse_if (not (may_access user old_parent to_write)) EACCES
+  new_parent ← node_at t new.directory
+  _ ← refuse_if (not (may_access user new_parent to_write)) EACCES
+  node ← node_at t n
+  let there = inode_of new.names new.name in
+      if is_same n there then Ok (done, t) else do
+        _ ← refuse_if (is_dir node && is_within g t new.directory n) EINVAL
+        renamed_onto g t now old new n node there

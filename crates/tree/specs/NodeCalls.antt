@@ -1,0 +1,79 @@
+-- Calls on a node that is there. Each line of a do block is one refusal, in their order.
+use Rattle.std.specs.Prelude.{ℕ, List, not, ◌==◌, nat_lt, Some, Result, Ok, Err}
+use Rattle.layout.specs.declared.Geometry.{Geometry}
+use Rattle.errno.specs.declared.Errno.{Errno}
+use Rattle.errno.specs.declared.Errno.TheVariants.{EPERM, EACCES, EISDIR, EINVAL, EFBIG}
+use Rattle.tree.specs.declared.User.{User}
+use Rattle.tree.specs.declared.Attributes.{Attributes}
+use Rattle.tree.specs.Tree.{File, is_file, is_directory, Node, Tree, with_node, mode_of, size_of, most_size, most_permissions}
+use Rattle.tree.specs.Space.{data_zones, free_zones, free_inodes}
+use Rattle.tree.specs.Refusals.{◌>>=◌, refuse_if}
+use Rattle.tree.specs.Walk.{walk, node_at, may_access, to_write, is_owner}
+use Rattle.tree.specs.Changes.{touched, with_body, resized}
+use Rattle.tree.specs.Answers.{done, node_is, room_is, Effect}
+
+abbrev pub attributes_of : ℕ → Node → Attributes
+attributes_of n node = record {
+  inode = n;
+  mode = mode_of node;
+  links = node.links;
+  uid = node.uid;
+  gid = node.gid;
+  size = size_of node.body;
+  atime = node.atime;
+  mtime = node.mtime;
+  ctime = node.ctime;
+}
+
+-- the file that a node is, or the refusal of a directory
+abbrev pub file_or : Node → Errno → Result File Errno
+file_or node e = elim node.body [ is_file f ↦ Ok f | is_directory d ↦ Err e ]
+
+abbrev pub stat : Tree → User → List ℕ → Effect
+stat t user path = do
+  n ← walk t user path
+  node ← node_at t n
+  Ok (node_is (attributes_of n node), t)
+
+abbrev pub chmod : Tree → User → ℕ → List ℕ → ℕ → Effect
+chmod t user now path mode = do
+  _ ← refuse_if (nat_lt most_permissions mode) EINVAL
+  n ← walk t user path
+  node ← node_at t n
+  _ ← refuse_if (not (is_owner user node)) EPERM
+  Ok (done, with_node t n (Some (touched now (record node { permissions = mode }))))
+
+abbrev pub chown : Tree → User → ℕ → List ℕ → ℕ → ℕ → Effect
+chown t user now path uid gid = do
+  n ← walk t user path
+  node ← node_at t n
+  _ ← refuse_if (not (user.uid == 0)) EPERM
+  Ok (done, with_node t n (Some (touched now (record node { uid = uid; gid = gid }))))
+
+abbrev pub utime : Tree → User → ℕ → List ℕ → ℕ → ℕ → Effect
+utime t user now path atime mtime = do
+  n ← walk t user path
+  node ← node_at t n
+  _ ← refuse_if (not (is_owner user node)) EPERM
+  Ok (done, with_node t n (Some (touched now (record node { atime = atime; mtime = mtime }))))
+
+abbrev pub truncate : Geometry → Tree → User → ℕ → List ℕ → ℕ → Effect
+truncate g t user now path size = do
+  _ ← refuse_if (nat_lt most_size size) EFBIG
+  n ← walk t user path
+  node ← node_at t n
+  f ← file_or node EISDIR
+  _ ← refuse_if (not (may_access user node to_write)) EACCES
+  Ok (done, with_node t n (Some (with_body now (is_file (resized g f size)) node)))
+
+abbrev pub statfs : Geometry → Tree → Effect
+statfs g t = Ok (
+  room_is (record {
+    block_size = g.block_size;
+    zones = data_zones g;
+    free_zones = free_zones g t;
+    inodes = g.inodes;
+    free_inodes = free_inodes g t;
+  }),
+  t,
+)

@@ -1,0 +1,16 @@
+pub mod Names
+pub mod Search
+pub mod Steps
+pub mod OpenFiles
+pub mod FileBodies
+pub mod OpenFileCalls
+pub mod Freed
+pub mod Closed
+pub mod ByteCalls
+pub mod Weights
+pub mod Unlinked
+pub mod Places
+pub mod Ways
+pub mod UnlinkCall
+pub mod Kept
+pub mod AttributeCalls

@@ -1,0 +1,5 @@
+use Rattle.tree_laws.proofs.UnlinkCall.{unlink_keeps}
+use Rattle.tree_laws.proofs.unlink_keeps.Goals as goal
+
+pub returns : goal.returns
+returns c = unlink_keeps

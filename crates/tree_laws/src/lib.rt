@@ -1,0 +1,34 @@
+//! Laws of the file tree: every client call keeps a tree a tree.
+#![tactic(auto)]
+
+ghost use Rattle.tree_laws.specs.Keeps.{ChmodKeeps, ChownKeeps, UtimeKeeps, SeekKeeps, ReadKeeps, DupKeeps, CloseKeeps, WriteKeeps, TruncateKeeps, UnlinkKeeps};
+
+/// The calls that set attributes keep a tree a tree.
+pub fn attribute_calls_keep()
+    ensures chmod { ChmodKeeps }
+    ensures chown { ChownKeeps }
+    ensures utime { UtimeKeeps }
+{}
+
+/// The calls that move positions and take descriptors keep a tree a tree.
+pub fn position_calls_keep()
+    ensures seek { SeekKeeps }
+    ensures read { ReadKeeps }
+    ensures dup { DupKeeps }
+{}
+
+/// Close keeps a tree a tree, whether or not the file is freed.
+pub fn close_keeps()
+    ensures { CloseKeeps }
+{}
+
+/// The calls that change a file's bytes keep a tree a tree.
+pub fn byte_calls_keep()
+    ensures write { WriteKeeps }
+    ensures truncate { TruncateKeeps }
+{}
+
+/// Unlink keeps a tree a tree, whether or not the file is freed.
+pub fn unlink_keeps()
+    ensures { UnlinkKeeps }
+{}
