@@ -1,0 +1,7 @@
+pub mod Records
+pub mod Sectors
+pub mod Places
+pub mod Delivering
+pub mod Stepping
+pub mod Others
+pub mod Keeps
