@@ -49,7 +49,8 @@ is_on_sectors position count = (position % 512 == 0) && (count % 512 == 0) && na
 abbrev pub cut : ℕ → ℕ → ℕ × ℕ → Run
 cut position count range = record {
   first = range.0 + min (position / 512) range.1;
-  count = min (count / 512) (range.1 - position / 512) }
+  count = min (count / 512) (range.1 - position / 512);
+}
 
 -- the same, where there is a range and position and count are on sectors
 abbrev pub plan_in : Option (ℕ × ℕ) → ℕ → ℕ → Option Run

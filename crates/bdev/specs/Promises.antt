@@ -14,7 +14,7 @@ use Rattle.bdev.specs.declared.Answer.{Answer}
 use Rattle.bdev.specs.declared.Step.{Step}
 use Rattle.bdev.specs.declared.Step.TheVariants.{Working, Idle, Done, Failed}
 use Rattle.bdev.specs.declared.Run.{Run}
-use Rattle.bdev.specs.DriverState.{DriverState, Work, Ranges, range_of, plan, chunk}
+use Rattle.bdev.specs.DriverState.{DriverState, Work, Ranges, plan, chunk}
 
 -- 1 while a request is in work, else 0
 abbrev pub waiting : {A : Type 0} → Option A → ℕ

@@ -157,7 +157,12 @@ impl Media {
     }
 
     /// Writes sector `n` under a generation. A refused write changes nothing.
-    pub fn write_sector(&mut self, generation: u32, n: u32, bytes: &[u8; SECTOR]) -> Result<(), SectorRefusal>
+    pub fn write_sector(
+        &mut self,
+        generation: u32,
+        n: u32,
+        bytes: &[u8; SECTOR],
+    ) -> Result<(), SectorRefusal>
         ensures after { self.new ≡ media_after self.old (Write generation n bytes.now) }
         ensures answer { result ≡ write_answer self.old generation n }
     {
@@ -165,7 +170,12 @@ impl Media {
     }
 
     /// Leaves in sector `n` the bytes that the death of a driver in the middle of a write left there.
-    pub fn tear(&mut self, generation: u32, n: u32, bytes: &[u8; SECTOR]) -> Result<(), SectorRefusal>
+    pub fn tear(
+        &mut self,
+        generation: u32,
+        n: u32,
+        bytes: &[u8; SECTOR],
+    ) -> Result<(), SectorRefusal>
         ensures after { self.new ≡ media_after self.old (Tear generation n bytes.now) }
         ensures answer { result ≡ write_answer self.old generation n }
     {

@@ -1,4 +1,4 @@
-use Rattle.std.proofs.Common.{◌≡◌, ◌≤◌, ◌*◌, ◌/◌, length, arith, rules}
+use Rattle.std.proofs.Common.{◌≡◌, ◌/◌, length, arith, rules}
 use Rattle.std.specs.Simd.{first_chunks}
 use Rattle.media.proofs.SectorLaws.{IsWhole-first_chunks}
 use Rattle.media.proofs.Media.from_bytes.Goals as goal
