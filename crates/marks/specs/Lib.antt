@@ -2,4 +2,5 @@
 pub mod Marks
 pub mod Open
 pub mod Disk
+pub mod Opening
 pub mod Told

@@ -17,13 +17,14 @@ use Rattle.message.specs.Good.{is_write}
 use Rattle.media.specs.Contents.{MediaState, sector}
 use Rattle.bdev.specs.DriverState.{DriverState, Work}
 use Rattle.bdev.specs.Promises.{waiting}
-use Rattle.true_replies.specs.State.{Volume, State, Place, Moved, Fits, WorkHolds, AnyWorkHolds, AnswerHolds, ReplyHolds, MediaHold, OutsideHolds, PostHolds, Invariant, payload}
-use Rattle.true_replies.specs.Posted.{IsSent, driver_at, since_start}
+use Rattle.marks.specs.Opening.{Opening, Fits}
+use Rattle.true_replies.specs.State.{State, Place, Moved, WorkHolds, AnyWorkHolds, AnswerHolds, ReplyHolds, MediaHold, OutsideHolds, PostHolds, Invariant, payload}
+use Rattle.true_replies.specs.Posted.{IsSent, driver_at, started_at, since_start}
 use Rattle.true_replies.specs.Events.{delivered}
 use Rattle.true_replies.proofs.Records.{with_id_in, open_answered, open_stays, moved_le}
 
 -- the request and the good answer that a delivery is about
-pub record Good (v : Volume) (media : MediaState) (marks : List Mark) (a : BlockReply) (r : BlockRequest) (n : ℕ) : Type 0 where
+pub record Good (v : Opening) (media : MediaState) (marks : List Mark) (a : BlockReply) (r : BlockRequest) (n : ℕ) : Type 0 where
   pub there : with_id a.id (open_requests marks) ≡ Some r
   pub good : moved_of (with_id a.id (open_requests marks)) a ≡ Some n
   pub few : n ≤ r.count
@@ -53,7 +54,7 @@ disk_is : (image : Contents) (marks : List Mark) (a : BlockReply) (r : BlockRequ
     ≡ cond (is_write r.kind && nat_le r.position p && nat_lt p (r.position + n)) (slice_index r.bytes (p - r.position)) (disk_after image marks p)
 disk_is image marks a r n p there good = rw (good, there) refl
 
-answered_read : (v : Volume) (image : Contents) (media : MediaState) (marks : List Mark) (a : BlockReply) (r : BlockRequest) (n : ℕ) → Good v media marks a r n
+answered_read : (v : Opening) (image : Contents) (media : MediaState) (marks : List Mark) (a : BlockReply) (r : BlockRequest) (n : ℕ) → Good v media marks a r n
     → is_write r.kind ≡ false → MediaHold v image media marks → MediaHold v image media (Answered a ∷ marks)
 answered_read v image media marks a r n g read h = record { each = λ s o inside less sure.
   let p : ℕ = 512 * s + o in
@@ -61,7 +62,7 @@ answered_read v image media marks a r n g read h = record { each = λ s o inside
   let d : disk_after image (Answered a ∷ marks) p ≡ disk_after image marks p = disk_is image marks a r n p g.there g.good ∙ rw read refl in
   h.each s o inside less (sym u ∙ sure) ∙ sym d }
 
-answered_write : (v : Volume) (image : Contents) (media : MediaState) (marks : List Mark) (a : BlockReply) (r : BlockRequest) (n : ℕ) → Good v media marks a r n
+answered_write : (v : Opening) (image : Contents) (media : MediaState) (marks : List Mark) (a : BlockReply) (r : BlockRequest) (n : ℕ) → Good v media marks a r n
     → r.kind ≡ Write → MediaHold v image media marks → MediaHold v image media (Answered a ∷ marks)
 answered_write v image media marks a r n g kind h = record { each = λ s o inside less sure. at s o inside less sure } where
   write : is_write r.kind ≡ true
@@ -99,13 +100,13 @@ answered_write v image media marks a r n g kind h = record { each = λ s o insid
         | inr before ↦ within s o inside less (omega (arith, low.1)) (omega (arith, before.1)) ]
     | inr before ↦ out s o inside less (inl (omega (arith, before.1))) sure ]
 
-answered_media : (v : Volume) (image : Contents) (media : MediaState) (marks : List Mark) (a : BlockReply) (r : BlockRequest) (n : ℕ) (kind : Kind) → Good v media marks a r n
+answered_media : (v : Opening) (image : Contents) (media : MediaState) (marks : List Mark) (a : BlockReply) (r : BlockRequest) (n : ℕ) (kind : Kind) → Good v media marks a r n
     → r.kind ≡ kind → MediaHold v image media marks → MediaHold v image media (Answered a ∷ marks)
 answered_media v image media marks a r n Read g kind h = answered_read v image media marks a r n g (ap is_write kind) h
 answered_media v image media marks a r n Write g kind h = answered_write v image media marks a r n g kind h
 
 -- a good answer to a read is true
-answer_true : (v : Volume) (image : Contents) (media : MediaState) (marks : List Mark) (a : BlockReply) (r : BlockRequest) (n : ℕ) (kind : Kind) → Good v media marks a r n
+answer_true : (v : Opening) (image : Contents) (media : MediaState) (marks : List Mark) (a : BlockReply) (r : BlockRequest) (n : ℕ) (kind : Kind) → Good v media marks a r n
     → r.kind ≡ kind → is_write kind ≡ false → MediaHold v image media marks → IsTrueOf image marks r n a.bytes
 answer_true v image media marks a r n Write g kind read h = cc
 answer_true v image media marks a r n Read g kind read h = record { each = λ k less sure.
@@ -142,6 +143,10 @@ same_true (Some d) e h =
 some_is : {A : Type 0} (x y : A) → Some x ≡ Some y → x ≡ y
 some_is x y e = cc
 
+last_is : (g : ℕ) (e : Endpoint) → started_at g ≡ Some e → e ≡ driver_at g
+last_is zero e h = cc
+last_is (suc g) e h = some_is e (driver_at (suc g)) (sym h)
+
 -- an answer that counts, with the request that it is for
 record Counted (x : State) (a : BlockReply) (r : BlockRequest) : Type 0 where
   from : last_started x.marks ≡ Some a.from
@@ -149,7 +154,7 @@ record Counted (x : State) (a : BlockReply) (r : BlockRequest) : Type 0 where
   there : with_id a.id (open_requests x.marks) ≡ Some r
 
 -- what stays, whatever the answer is
-answered_with : (v : Volume) (image : Contents) (given : MediaState) (x : State) (a : BlockReply) (r : BlockRequest) → Invariant v image given x → IsSent a x.sent → Counted x a r
+answered_with : (v : Opening) (image : Contents) (given : MediaState) (x : State) (a : BlockReply) (r : BlockRequest) → Invariant v image given x → IsSent a x.sent → Counted x a r
     → MediaHold v image x.media (Answered a ∷ x.marks)
     → IsTrueAnswer image x.marks (with_id a.id (open_requests x.marks)) (moved_of (with_id a.id (open_requests x.marks)) a) a.bytes
     → Invariant v image given (record x { marks = Answered a ∷ x.marks })
@@ -174,7 +179,7 @@ answered_with v image given x a r inv sent c media true_answer =
   work_answered (Some w) e h = record {
     opened = open_stays x.marks a w.request (λ same. omega (arith, same, e, h.id)) h.opened; id = h.id; moved = h.moved }
 
-answered_good : (v : Volume) (image : Contents) (given : MediaState) (x : State) (a : BlockReply) (r : BlockRequest) (m : Option ℕ) → Invariant v image given x → IsSent a x.sent → Counted x a r
+answered_good : (v : Opening) (image : Contents) (given : MediaState) (x : State) (a : BlockReply) (r : BlockRequest) (m : Option ℕ) → Invariant v image given x → IsSent a x.sent → Counted x a r
     → moved_of (with_id a.id (open_requests x.marks)) a ≡ m → Invariant v image given (record x { marks = Answered a ∷ x.marks })
 answered_good v image given x a r None inv sent c good =
     answered_with v image given x a r inv sent c
@@ -195,15 +200,15 @@ answered_good v image given x a r (Some n) inv sent c good =
       (answered_media v image x.media x.marks a r n r.kind g refl inv.media)
       (rw (good, c.there) (λ read. answer_true v image x.media x.marks a r n r.kind g refl read inv.media))
 
-answered_some : (v : Volume) (image : Contents) (given : MediaState) (x : State) (a : BlockReply) (o : Option BlockRequest) → Invariant v image given x → IsSent a x.sent
+answered_some : (v : Opening) (image : Contents) (given : MediaState) (x : State) (a : BlockReply) (o : Option BlockRequest) → Invariant v image given x → IsSent a x.sent
     → last_started x.marks ≡ Some a.from → with_id a.id (open_requests x.marks) ≡ o → is_some o ≡ true
     → Invariant v image given (record x { marks = Answered a ∷ x.marks })
 answered_some v image given x a None inv sent from there some = cc
 answered_some v image given x a (Some r) inv sent from there some =
     answered_good v image given x a r (moved_of (with_id a.id (open_requests x.marks)) a) inv sent
-      (record { from = from; own = some_is a.from (driver_at x.media.generation) (sym from ∙ inv.started); there = there }) refl
+      (record { from = from; own = last_is x.media.generation a.from (sym inv.started ∙ from); there = there }) refl
 
-pub delivered_keeps : (v : Volume) (image : Contents) (given : MediaState) (x : State) (a : BlockReply) → Invariant v image given x → IsSent a x.sent
+pub delivered_keeps : (v : Opening) (image : Contents) (given : MediaState) (x : State) (a : BlockReply) → Invariant v image given x → IsSent a x.sent
     → Invariant v image given (delivered x a)
 delivered_keeps v image given x a inv sent = at (counts x.marks a) refl where
   at : (b : Bool) → counts x.marks a ≡ b → Invariant v image given (record x { marks = cond b (Answered a ∷ x.marks) x.marks })

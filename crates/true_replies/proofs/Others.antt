@@ -21,8 +21,9 @@ use Rattle.bdev.specs.declared.Step.{Step}
 use Rattle.bdev.specs.declared.Step.TheVariants.{Working, Idle, Done, Failed}
 use Rattle.bdev.specs.DriverState.{DriverState, Work, Ranges, range_of, plan, range_while_fresh, is_fresh}
 use Rattle.bdev.specs.Promises.{waiting, IsDriver, IsOfAWrite, StepKeeps, StepsAt, AcceptKeeps, Takes, MovesAtMostOne}
-use Rattle.true_replies.specs.State.{Volume, State, Place, Moved, Fits, WorkHolds, AnyWorkHolds, AnswerHolds, ReplyHolds, MediaHold, OutsideHolds, PostHolds, Invariant, payload}
-use Rattle.true_replies.specs.Posted.{IsSent, driver_at, since_start}
+use Rattle.marks.specs.Opening.{Opening, Fits}
+use Rattle.true_replies.specs.State.{State, Place, Moved, WorkHolds, AnyWorkHolds, AnswerHolds, ReplyHolds, MediaHold, OutsideHolds, PostHolds, Invariant, payload}
+use Rattle.true_replies.specs.Posted.{IsSent, driver_at, started_at, since_start}
 use Rattle.true_replies.specs.Events.{sent_after, reply_of, stepped_older, line_after, handed, torn, dead, replaced, issued, repeated}
 use Rattle.true_replies.proofs.Records.{one_id, two_open, open_below, since_below, open_after_issue, OpenAfterIssue, in_push}
 use Rattle.true_replies.proofs.Places.{Planned, planned, misses_place, moved_elsewhere, written_media, written_outside}
@@ -50,7 +51,7 @@ older_sent g (Done answer) a sent i = elim (sent_push a (reply_of g answer) sent
     inl j ↦ inl j
   | inr e ↦ inr (ap (λ (b : BlockReply). b.from) e) ]
 
-pub older_keeps : (v : Volume) (image : Contents) (given : MediaState) (x : State) (g : ℕ) (b a : DriverState) (step : Step) (media : MediaState)
+pub older_keeps : (v : Opening) (image : Contents) (given : MediaState) (x : State) (g : ℕ) (b a : DriverState) (step : Step) (media : MediaState)
     → Invariant v image given x → g < x.media.generation → StepKeeps b x.media g step a media
     → Invariant v image given (stepped_older x g step media)
 older_keeps v image given x g b a step media inv less k =
@@ -68,7 +69,7 @@ older_keeps v image given x g b a step media inv less k =
     subst (λ (d : MediaState). Invariant v image given (stepped_older x g step d)) (sym is) result
 
 -- a driver is handed the front of its line
-some_work : (v : Volume) (media : MediaState) (marks : List Mark) (last : ℕ) (q : BlockRequest) (o : Option Work)
+some_work : (v : Opening) (media : MediaState) (marks : List Mark) (last : ℕ) (q : BlockRequest) (o : Option Work)
     → IsSomeAnd o (λ (w : Work). (w.request ≡ q) × ((k : ℕ) → w.moved k ≡ false)) → IsIn q (open_requests marks) → q.id ≡ last
     → AnyWorkHolds v media marks last o
 some_work v media marks last q None h i e = absurd h
@@ -81,7 +82,7 @@ waiting_few : (o : Option Work) → waiting o ≤ 1
 waiting_few None = omega arith
 waiting_few (Some w) = omega arith
 
-pub handed_keeps : (v : Volume) (image : Contents) (given : MediaState) (x : State) (result : Accept) (q : BlockRequest) (rest : List BlockRequest) (a : DriverState)
+pub handed_keeps : (v : Opening) (image : Contents) (given : MediaState) (x : State) (result : Accept) (q : BlockRequest) (rest : List BlockRequest) (a : DriverState)
     → Invariant v image given x → x.line ≡ q ∷ rest → AcceptKeeps x.current q result a → IsDriver a
     → Invariant v image given (handed x result q rest a)
 handed_keeps v image given x Taken q rest a inv is k driver =
@@ -91,7 +92,7 @@ handed_keeps v image given x Taken q rest a inv is k driver =
     let last : a.last ≡ q.id = t.last in
     record {
       well_formed = inv.well_formed; started = inv.started;
-      range = ap (λ (r : Ranges). range_of r v.minor) t.same_ranges ∙ inv.range;
+      range = λ l. ap (λ (r : Ranges). range_of r v.minor) t.same_ranges ∙ inv.range l;
       media = inv.media; outside = inv.outside; true_replies = inv.true_replies; driver = driver;
       last = omega (arith, t.last, since_below x.marks q (inv.line q front));
       fits = inv.fits;
@@ -115,16 +116,16 @@ handed_keeps v image given x Old q rest a inv is k driver =
     subst (λ (m : DriverState). Invariant v image given (handed x Old q rest m)) (sym k.2) result
 
 -- a driver dies
-pub dead_keeps : (v : Volume) (image : Contents) (given : MediaState) (x : State) → Invariant v image given x → Invariant v image given (dead x)
+pub dead_keeps : (v : Opening) (image : Contents) (given : MediaState) (x : State) → Invariant v image given x → Invariant v image given (dead x)
 dead_keeps v image given x inv = record {
-  well_formed = inv.well_formed; started = inv.started; range = inv.range; media = inv.media;
+  well_formed = inv.well_formed; started = inv.started; range = λ l. absurd (never l); media = inv.media;
   outside = inv.outside; true_replies = inv.true_replies; driver = inv.driver; last = inv.last; fits = inv.fits; posts = inv.posts;
   line = inv.line; work = λ l. absurd (never l); older = inv.older; sent = inv.sent } where
   never : false ≡ true → ⊥
   never e = cc
 
 -- a sector that the driver names is one of an open write
-record Names (v : Volume) (x : State) (s : ℕ) : Type 0 where
+record Names (v : Opening) (x : State) (s : ℕ) : Type 0 where
   w : Work
   is : x.current.work ≡ Some w
   holds : WorkHolds v x.media x.marks x.current.last w
@@ -133,29 +134,30 @@ record Names (v : Volume) (x : State) (s : ℕ) : Type 0 where
   place : Place v w.request j
   at : s ≡ v.first + place.at
 
-names : (v : Volume) (image : Contents) (given : MediaState) (x : State) (s : ℕ) (o : Option Work) → Invariant v image given x → x.current.work ≡ o
+names : (v : Opening) (image : Contents) (given : MediaState) (x : State) (s : ℕ) (o : Option Work) → Invariant v image given x
+    → range_of x.current.ranges v.minor ≡ Some (v.first, v.count) → x.current.work ≡ o
     → AnyWorkHolds v x.media x.marks x.current.last o → IsOfAWrite x.current.ranges o s → Names v x s
-names v image given x s None inv is h n = absurd n
-names v image given x s (Some w) inv is h n = at (plan x.current.ranges w.request) refl n.1 where
+names v image given x s None inv range is h n = absurd n
+names v image given x s (Some w) inv range is h n = at (plan x.current.ranges w.request) refl n.1 where
   at : (o : Option Run) → plan x.current.ranges w.request ≡ o → IsSomeAnd o (λ (r : Run). (r.first ≤ s) × (s < r.first + r.count)) → Names v x s
   at None e b = absurd b
   at (Some run) e b =
       let p : Planned v w.request run (s - run.first) =
-          planned v x.current.ranges w.request run (s - run.first) inv.range (inv.fits w.request h.opened).minor e (omega (arith, b.0, b.1)) in
+          planned v x.current.ranges w.request run (s - run.first) range (inv.fits w.request h.opened).minor e (omega (arith, b.0, b.1)) in
       record { w = w; is = is; holds = h; write = ap is_write n.0; j = s - run.first; place = p.place; at = omega (arith, b.0, p.at) }
 
 named : (ranges : Ranges) (work : Option Work) (o : Option ℕ) (s : ℕ) → o ≡ Some s → IfSome o (λ s. IsOfAWrite ranges work s) → IsOfAWrite ranges work s
 named ranges work o s e h = let P : Option ℕ → Type 0 = λ o. IfSome o (λ s. IsOfAWrite ranges work s) in subst P e h
 
-torn_at : (v : Volume) (image : Contents) (given : MediaState) (x : State) (g s : ℕ) (bytes : List ℕ) → Invariant v image given x → Names v x s
+torn_at : (v : Opening) (image : Contents) (given : MediaState) (x : State) (g s : ℕ) (bytes : List ℕ) → Invariant v image given x → Names v x s
     → Invariant v image given (torn x g s bytes)
 torn_at v image given x g s bytes inv n =
     let there : MediaState = written x.media g (v.first + n.place.at) bytes in
     let generation : there.generation ≡ x.media.generation = generation-written x.media g (v.first + n.place.at) bytes in
     let result : Invariant v image given (torn x g (v.first + n.place.at) bytes) = record {
       well_formed = inv.well_formed;
-      started = inv.started ∙ ap (λ (g : ℕ). Some (driver_at g)) (sym generation);
-      range = inv.range;
+      started = inv.started ∙ ap started_at (sym generation);
+      range = λ l. absurd (never l);
       media = written_media v image x.media x.marks n.w.request n.j g bytes inv.well_formed n.holds.opened n.write n.place inv.media;
       outside = written_outside v given x.media n.w.request n.j g bytes n.place inv.outside;
       true_replies = inv.true_replies; driver = inv.driver; last = inv.last; fits = inv.fits; posts = inv.posts;
@@ -176,12 +178,17 @@ torn_at v image given x g s bytes inv n =
   never : false ≡ true → ⊥
   never e = cc
 
-pub torn_keeps : (v : Volume) (image : Contents) (given : MediaState) (x : State) (g s : ℕ) (bytes : List ℕ) → Invariant v image given x → x.live ≡ true → x.current.in_work ≡ Some s
+pub torn_keeps : (v : Opening) (image : Contents) (given : MediaState) (x : State) (g s : ℕ) (bytes : List ℕ) → Invariant v image given x → x.live ≡ true → x.current.in_work ≡ Some s
     → Invariant v image given (torn x g s bytes)
 torn_keeps v image given x g s bytes inv live is =
     torn_at v image given x g s bytes inv
-      (names v image given x s x.current.work inv refl (inv.work live)
+      (names v image given x s x.current.work inv (inv.range live) refl (inv.work live)
         (named x.current.ranges x.current.work x.current.in_work s is inv.driver.names_its_own))
+
+-- a generation that was started is above 0
+started_some : (g : ℕ) → 0 < g → Some (driver_at g) ≡ started_at g
+started_some zero less = absurd (omega arith)
+started_some (suc g) less = refl
 
 -- a driver is started
 pub fresh_range : (m : DriverState) (minor : ℕ) (r : ℕ × ℕ) → range_while_fresh m minor ≡ Some r → (m.last ≡ 0) × (range_of m.ranges minor ≡ Some r)
@@ -191,11 +198,11 @@ fresh_range m minor r e = at (m.last == 0) refl (not m.failed) e where
   at true t false e = cc
   at false t c e = cc
 
-pub none_waits : (v : Volume) (media : MediaState) (marks : List Mark) (last : ℕ) (o : Option Work) → waiting o ≤ 0 → AnyWorkHolds v media marks last o
+pub none_waits : (v : Opening) (media : MediaState) (marks : List Mark) (last : ℕ) (o : Option Work) → waiting o ≤ 0 → AnyWorkHolds v media marks last o
 none_waits v media marks last None h = tt
 none_waits v media marks last (Some w) h = absurd (omega arith)
 
-pub replaced_keeps : (v : Volume) (image : Contents) (given : MediaState) (x : State) (g : ℕ) (m : DriverState) → Invariant v image given x → x.media.generation < g
+pub replaced_keeps : (v : Opening) (image : Contents) (given : MediaState) (x : State) (g : ℕ) (m : DriverState) → Invariant v image given x → x.media.generation < g
     → IsDriver m → range_while_fresh m v.minor ≡ Some (v.first, v.count) → Invariant v image given (replaced x g m)
 replaced_keeps v image given x g m inv less driver fresh =
     let top : max x.media.generation g ≡ g = omega (arith, less) in
@@ -203,8 +210,8 @@ replaced_keeps v image given x g m inv less driver fresh =
     let zero_last : m.last ≡ 0 = f.0 in
     record {
       well_formed = (inv.well_formed, tt);
-      started = ap (λ (n : ℕ). Some (driver_at n)) (sym top);
-      range = f.1;
+      started = started_some g (omega (arith, less)) ∙ ap started_at (sym top);
+      range = λ l. f.1;
       media = record { each = inv.media.each };
       outside = record { each = inv.outside.each };
       true_replies = inv.true_replies; driver = driver;
@@ -223,12 +230,12 @@ sure_before : (a b : Bool) → (a || b) ≡ false → b ≡ false
 sure_before true b e = cc
 sure_before false b e = e
 
-work_issued : (v : Volume) (media : MediaState) (marks : List Mark) (r : BlockRequest) (to : Endpoint) (last : ℕ) (o : Option Work) → OpenAfterIssue marks r to
+work_issued : (v : Opening) (media : MediaState) (marks : List Mark) (r : BlockRequest) (to : Endpoint) (last : ℕ) (o : Option Work) → OpenAfterIssue marks r to
     → AnyWorkHolds v media marks last o → AnyWorkHolds v media (Issued r to ∷ marks) last o
 work_issued v media marks r to last None a h = tt
 work_issued v media marks r to last (Some w) a h = record { opened = a.old w.request h.opened; id = h.id; moved = h.moved }
 
-pub issued_keeps : (v : Volume) (image : Contents) (given : MediaState) (x : State) (r : BlockRequest) (to : Endpoint) → Invariant v image given x
+pub issued_keeps : (v : Opening) (image : Contents) (given : MediaState) (x : State) (r : BlockRequest) (to : Endpoint) → Invariant v image given x
     → MayFollow (Issued r to) x.marks → Fits v r → Invariant v image given (issued x r to)
 issued_keeps v image given x r to inv may fits =
     let a : OpenAfterIssue x.marks r to = open_after_issue x.marks r to may.1 in
@@ -256,7 +263,7 @@ issued_keeps v image given x r to inv may fits =
               inl k ↦ old.answer q k same
             | inr e ↦ let h : q.id ≡ r.id = ap (λ (p : BlockRequest). p.id) e.0 in absurd (omega (arith, h, e.1, same, old.ended, inv.last)) ] } }
 
-pub repeated_keeps : (v : Volume) (image : Contents) (given : MediaState) (x : State) (r : BlockRequest) → Invariant v image given x
+pub repeated_keeps : (v : Opening) (image : Contents) (given : MediaState) (x : State) (r : BlockRequest) → Invariant v image given x
     → IsIn r (since_start x.marks) → Invariant v image given (repeated x r)
 repeated_keeps v image given x r inv posted = record {
   well_formed = inv.well_formed; started = inv.started; range = inv.range; media = inv.media;

@@ -22,8 +22,9 @@ use Rattle.bdev.specs.declared.Step.{Step}
 use Rattle.bdev.specs.declared.Step.TheVariants.{Working, Idle, Done, Failed}
 use Rattle.bdev.specs.DriverState.{DriverState, Work, Ranges, range_of, plan, chunk}
 use Rattle.bdev.specs.Promises.{waiting, IsDriver, StepKeeps, StepsAt, Says, SaysIdle, MovesNothing, IsRefused, MovesSector, MovesAtMostOne, MovesBytes, MayAnswer, BearsBytes, EndsBy, GoesOn}
-use Rattle.true_replies.specs.State.{Volume, State, Place, Moved, Fits, WorkHolds, AnyWorkHolds, AnswerHolds, ReplyHolds, MediaHold, OutsideHolds, PostHolds, Invariant, payload}
-use Rattle.true_replies.specs.Posted.{IsSent, driver_at}
+use Rattle.marks.specs.Opening.{Opening, Fits}
+use Rattle.true_replies.specs.State.{State, Place, Moved, WorkHolds, AnyWorkHolds, AnswerHolds, ReplyHolds, MediaHold, OutsideHolds, PostHolds, Invariant, payload}
+use Rattle.true_replies.specs.Posted.{IsSent, driver_at, started_at}
 use Rattle.true_replies.specs.Events.{stepped, sent_after, reply_of}
 use Rattle.true_replies.proofs.Records.{one_id, two_open, moved_is}
 use Rattle.true_replies.proofs.Places.{Planned, planned, chunk_at, misses_place, other_place, moved_elsewhere, written_media, written_outside}
@@ -34,7 +35,7 @@ was_moved false true h e = cc
 was_moved false false h e = h
 
 -- what a step leaves of the media, w being the request in work before it and w' after it
-record Went (v : Volume) (image : Contents) (given : MediaState) (x : State) (kind : Kind) (w w' : Work) (media : MediaState) : Type 0 where
+record Went (v : Opening) (image : Contents) (given : MediaState) (x : State) (kind : Kind) (w w' : Work) (media : MediaState) : Type 0 where
   generation : media.generation ≡ x.media.generation
   request : w'.request ≡ w.request
   moves : (j : ℕ) → IsTrue (w'.moved j) → Moved v media w.request (payload kind w.request.bytes w'.got) j
@@ -43,14 +44,14 @@ record Went (v : Volume) (image : Contents) (given : MediaState) (x : State) (ki
   others : (r : BlockRequest) (bytes : List ℕ) (k : ℕ) → IsIn r (open_requests x.marks) → (r.id ≡ w.request.id → ⊥)
       → Moved v x.media r bytes k → Moved v media r bytes k
 
-went_nothing : (v : Volume) (image : Contents) (given : MediaState) (x : State) (w w' : Work) (media : MediaState)
+went_nothing : (v : Opening) (image : Contents) (given : MediaState) (x : State) (w w' : Work) (media : MediaState)
     → Invariant v image given x → WorkHolds v x.media x.marks x.current.last w → MovesNothing w x.media w' media
     → Went v image given x w.request.kind w w' media
 went_nothing v image given x w w' media inv h m = rw (m.same_work, m.same_media) (record {
   generation = refl; request = refl; moves = h.moved; held = inv.media; outside = inv.outside;
   others = λ r bytes k i other moved. moved })
 
-went_moves : (v : Volume) (image : Contents) (given : MediaState) (x : State) (kind : Kind) (w w' : Work) (media : MediaState) (run : Run) (j : ℕ)
+went_moves : (v : Opening) (image : Contents) (given : MediaState) (x : State) (kind : Kind) (w w' : Work) (media : MediaState) (run : Run) (j : ℕ)
     → Invariant v image given x → IsIn w.request (open_requests x.marks) → w.request.kind ≡ kind
     → ((j : ℕ) → IsTrue (w.moved j) → Moved v x.media w.request (payload kind w.request.bytes w.got) j)
     → Planned v w.request run j → w'.request ≡ w.request → ((k : ℕ) → w'.moved k ≡ (w.moved k || (k == j)))
@@ -112,25 +113,25 @@ went_moves v image given x Write w w' media run j inv opened kind before p same 
 accepted_inside : (m : MediaState) (g n : ℕ) → accepts m g n ≡ true → n < length m.sectors
 accepted_inside m g n e = grind (arith, nat_tests)
 
-went_sector : (v : Volume) (image : Contents) (given : MediaState) (x : State) (w w' : Work) (media : MediaState)
-    → Invariant v image given x → WorkHolds v x.media x.marks x.current.last w
+went_sector : (v : Opening) (image : Contents) (given : MediaState) (x : State) (w w' : Work) (media : MediaState)
+    → Invariant v image given x → range_of x.current.ranges v.minor ≡ Some (v.first, v.count) → WorkHolds v x.media x.marks x.current.last w
     → MovesSector x.current w x.media x.media.generation w' media
     → Went v image given x w.request.kind w w' media
-went_sector v image given x w w' media inv h m =
+went_sector v image given x w w' media inv range h m =
     went_moves v image given x w.request.kind w w' media m.run m.number inv h.opened refl h.moved
-      (planned v x.current.ranges w.request m.run m.number inv.range (inv.fits w.request h.opened).minor m.next.plan m.next.within)
+      (planned v x.current.ranges w.request m.run m.number range (inv.fits w.request h.opened).minor m.next.plan m.next.within)
       m.same_request m.moved (accepted_inside x.media x.media.generation (m.run.first + m.number) m.accepted) m.bytes
 
-went : (v : Volume) (image : Contents) (given : MediaState) (x : State) (w w' : Work) (media : MediaState) (step : Step)
-    → Invariant v image given x → WorkHolds v x.media x.marks x.current.last w
+went : (v : Opening) (image : Contents) (given : MediaState) (x : State) (w w' : Work) (media : MediaState) (step : Step)
+    → Invariant v image given x → range_of x.current.ranges v.minor ≡ Some (v.first, v.count) → WorkHolds v x.media x.marks x.current.last w
     → MovesAtMostOne x.current w x.media x.media.generation step w' media
     → Went v image given x w.request.kind w w' media
-went v image given x w w' media step inv h (inl m) = went_nothing v image given x w w' media inv h m
-went v image given x w w' media step inv h (inr (inl m)) = went_nothing v image given x w w' media inv h m.still
-went v image given x w w' media step inv h (inr (inr m)) = went_sector v image given x w w' media inv h m
+went v image given x w w' media step inv range h (inl m) = went_nothing v image given x w w' media inv h m
+went v image given x w w' media step inv range h (inr (inl m)) = went_nothing v image given x w w' media inv h m.still
+went v image given x w w' media step inv range h (inr (inr m)) = went_sector v image given x w w' media inv range h m
 
 -- the state after a step, from its parts
-pub record Parts (v : Volume) (image : Contents) (given : MediaState) (x : State) (a : DriverState) (media : MediaState) (live : Bool) (replies : List BlockReply) : Type 0 where
+pub record Parts (v : Opening) (image : Contents) (given : MediaState) (x : State) (a : DriverState) (media : MediaState) (live : Bool) (replies : List BlockReply) : Type 0 where
   pub ranges : a.ranges ≡ x.current.ranges
   pub last : a.last ≡ x.current.last
   pub generation : media.generation ≡ x.media.generation
@@ -141,13 +142,13 @@ pub record Parts (v : Volume) (image : Contents) (given : MediaState) (x : State
   pub older : (r : BlockReply) → IsSent r replies → r.from.generation ≤ x.media.generation
   pub sent : (r : BlockReply) → IsSent r replies → r.from ≡ driver_at x.media.generation → ReplyHolds v media x.marks a r
 
-pub from_parts : (v : Volume) (image : Contents) (given : MediaState) (x : State) (a : DriverState) (media : MediaState) (live : Bool) (sent : List BlockReply)
-    → Invariant v image given x → Parts v image given x a media live sent
+pub from_parts : (v : Opening) (image : Contents) (given : MediaState) (x : State) (a : DriverState) (media : MediaState) (live : Bool) (sent : List BlockReply)
+    → Invariant v image given x → range_of x.current.ranges v.minor ≡ Some (v.first, v.count) → Parts v image given x a media live sent
     → Invariant v image given (record x { media = media; current = a; live = live; sent = sent })
-from_parts v image given x a media live sent inv p = record {
+from_parts v image given x a media live sent inv range p = record {
   well_formed = inv.well_formed;
-  started = inv.started ∙ ap (λ (g : ℕ). Some (driver_at g)) (sym p.generation);
-  range = ap (λ (r : Ranges). range_of r v.minor) p.ranges ∙ inv.range;
+  started = inv.started ∙ ap started_at (sym p.generation);
+  range = λ l. ap (λ (r : Ranges). range_of r v.minor) p.ranges ∙ range;
   media = p.held;
   outside = p.outside;
   true_replies = inv.true_replies;
@@ -167,14 +168,14 @@ sent_push a b (c ∷ bs) (inl e) = inl (inl e)
 sent_push a b (c ∷ bs) (inr i) = elim (sent_push a b bs i) [ inl h ↦ inl (inr h) | inr h ↦ inr h ]
 
 -- an answer that the current driver gives is true of the media
-bears : (v : Volume) (media : MediaState) (kind : Kind) (r : BlockRequest) (got told : List ℕ) (m j : ℕ) → BearsBytes kind got told m → 512 * j < m
+bears : (v : Opening) (media : MediaState) (kind : Kind) (r : BlockRequest) (got told : List ℕ) (m j : ℕ) → BearsBytes kind got told m → 512 * j < m
     → Moved v media r (payload kind r.bytes got) j → Moved v media r (payload kind r.bytes told) j
 bears v media Read r got told m j b less h = record {
   place = h.place;
   same = λ o few. sym (chunk_at j o told few) ∙ ap (λ (l : List ℕ). slice_index l o) (b j less) ∙ chunk_at j o got few ∙ h.same o few }
 bears v media Write r got told m j b less h = h
 
-answers : (v : Volume) (media : MediaState) (o : Option Run) (w : Work) (outcome : Result ℕ Errno) (told : List ℕ)
+answers : (v : Opening) (media : MediaState) (o : Option Run) (w : Work) (outcome : Result ℕ Errno) (told : List ℕ)
     → ((j : ℕ) → IsTrue (w.moved j) → Moved v media w.request (payload w.request.kind w.request.bytes w.got) j)
     → MayAnswer o w outcome told → (n : ℕ) → moved w.request.count outcome ≡ Some n → (j : ℕ) → 512 * j < n
     → Moved v media w.request (payload w.request.kind w.request.bytes told) j
@@ -188,7 +189,7 @@ answers v media (Some run) w (Ok m) told all may n good j less =
     bears v media w.request.kind w.request w.got told m j may.bears fewer (all j (may.moved j fewer))
 
 -- a reply that was sent earlier stays true
-reply_stays : (v : Volume) (image : Contents) (given : MediaState) (x : State) (w w' : Work) (media : MediaState) (a : DriverState) (r : BlockReply)
+reply_stays : (v : Opening) (image : Contents) (given : MediaState) (x : State) (w w' : Work) (media : MediaState) (a : DriverState) (r : BlockReply)
     → Invariant v image given x → x.current.work ≡ Some w → WorkHolds v x.media x.marks x.current.last w
     → Went v image given x w.request.kind w w' media → a.last ≡ x.current.last → waiting a.work ≤ 1
     → ReplyHolds v x.media x.marks x.current r → ReplyHolds v media x.marks a r
@@ -204,7 +205,7 @@ waiting_one : (o : Option Work) → waiting o ≤ 1
 waiting_one None = omega arith
 waiting_one (Some w) = omega arith
 
-work_after : (v : Volume) (image : Contents) (given : MediaState) (x : State) (w w' : Work) (media : MediaState)
+work_after : (v : Opening) (image : Contents) (given : MediaState) (x : State) (w w' : Work) (media : MediaState)
     → WorkHolds v x.media x.marks x.current.last w → Went v image given x w.request.kind w w' media
     → WorkHolds v media x.marks x.current.last w'
 work_after v image given x w w' media h g = record {
@@ -213,13 +214,13 @@ work_after v image given x w w' media h g = record {
   moved = λ j is. subst (λ (q : BlockRequest). Moved v media q (payload q.kind q.bytes w'.got) j) (sym g.request) (g.moves j is) }
 
 -- the driver goes on, or has failed
-goes_on : (v : Volume) (image : Contents) (given : MediaState) (x : State) (w w' : Work) (a : DriverState) (media : MediaState) (live failed : Bool)
-    → Invariant v image given x → x.current.work ≡ Some w → WorkHolds v x.media x.marks x.current.last w
+goes_on : (v : Opening) (image : Contents) (given : MediaState) (x : State) (w w' : Work) (a : DriverState) (media : MediaState) (live failed : Bool)
+    → Invariant v image given x → range_of x.current.ranges v.minor ≡ Some (v.first, v.count) → x.current.work ≡ Some w → WorkHolds v x.media x.marks x.current.last w
     → a.ranges ≡ x.current.ranges → a.last ≡ x.current.last → IsDriver a
     → Went v image given x w.request.kind w w' media → GoesOn x.current w' failed a
     → Invariant v image given (record x { media = media; current = a; live = live; sent = x.sent })
-goes_on v image given x w w' a media live failed inv is h ranges last driver g says =
-    from_parts v image given x a media live x.sent inv (record {
+goes_on v image given x w w' a media live failed inv range is h ranges last driver g says =
+    from_parts v image given x a media live x.sent inv range (record {
       ranges = ranges; last = last; generation = g.generation; held = g.held; outside = g.outside; driver = driver;
       work = λ l. let P : Option Work → Type 0 = λ o. AnyWorkHolds v media x.marks a.last o in subst P (sym says.stays)
         (let Q : ℕ → Type 0 = λ n. WorkHolds v media x.marks n w' in subst Q (sym last) (work_after v image given x w w' media h g));
@@ -227,12 +228,12 @@ goes_on v image given x w w' a media live failed inv is h ranges last driver g s
       sent = λ r i from. reply_stays v image given x w w' media a r inv is h g last (waiting_one a.work) (inv.sent r i from) })
 
 -- the driver answers
-ends : (v : Volume) (image : Contents) (given : MediaState) (x : State) (w w' : Work) (a : DriverState) (media : MediaState) (answer : Answer)
-    → Invariant v image given x → x.current.work ≡ Some w → WorkHolds v x.media x.marks x.current.last w
+ends : (v : Opening) (image : Contents) (given : MediaState) (x : State) (w w' : Work) (a : DriverState) (media : MediaState) (answer : Answer)
+    → Invariant v image given x → range_of x.current.ranges v.minor ≡ Some (v.first, v.count) → x.current.work ≡ Some w → WorkHolds v x.media x.marks x.current.last w
     → a.ranges ≡ x.current.ranges → a.last ≡ x.current.last → IsDriver a
     → Went v image given x w.request.kind w w' media → EndsBy x.current w' answer a
     → Invariant v image given (stepped x (Done answer) a media)
-ends v image given x w w' a media answer inv is h ranges last driver g says =
+ends v image given x w w' a media answer inv range is h ranges last driver g says =
     let after : WorkHolds v media x.marks x.current.last w' = work_after v image given x w w' media h g in
     let none : waiting a.work ≡ 0 = ap (λ (o : Option Work). waiting o) says.ended in
     let own : ReplyHolds v media x.marks a (reply_of x.media.generation answer) = record {
@@ -241,7 +242,7 @@ ends v image given x w w' a media answer inv is h ranges last driver g says =
         let one : w'.request ≡ q = one_id x.marks inv.well_formed w'.request q after.opened i (sym (same ∙ says.id)) in
         subst (λ (q : BlockRequest). AnswerHolds v media (reply_of x.media.generation answer) q) one (record {
           each = answers v media (plan x.current.ranges w'.request) w' answer.outcome answer.bytes after.moved says.answers }) } in
-    from_parts v image given x a media x.live (x.sent ++ reply_of x.media.generation answer ∷ []) inv (record {
+    from_parts v image given x a media x.live (x.sent ++ reply_of x.media.generation answer ∷ []) inv range (record {
       ranges = ranges; last = last; generation = g.generation; held = g.held; outside = g.outside; driver = driver;
       work = λ l. let P : Option Work → Type 0 = λ o. AnyWorkHolds v media x.marks a.last o in subst P (sym says.ended) tt;
       older = λ r i. elim (sent_push r (reply_of x.media.generation answer) x.sent i) [
@@ -251,24 +252,24 @@ ends v image given x w w' a media answer inv is h ranges last driver g says =
           inl j ↦ reply_stays v image given x w w' media a r inv is h g last (waiting_one a.work) (inv.sent r j from)
         | inr e ↦ let P : BlockReply → Type 0 = λ b. ReplyHolds v media x.marks a b in subst P (sym e) own ] })
 
-says_keeps : (v : Volume) (image : Contents) (given : MediaState) (x : State) (w w' : Work) (step : Step) (a : DriverState) (media : MediaState)
-    → Invariant v image given x → x.current.work ≡ Some w → WorkHolds v x.media x.marks x.current.last w
+says_keeps : (v : Opening) (image : Contents) (given : MediaState) (x : State) (w w' : Work) (step : Step) (a : DriverState) (media : MediaState)
+    → Invariant v image given x → range_of x.current.ranges v.minor ≡ Some (v.first, v.count) → x.current.work ≡ Some w → WorkHolds v x.media x.marks x.current.last w
     → a.ranges ≡ x.current.ranges → a.last ≡ x.current.last → IsDriver a
     → Went v image given x w.request.kind w w' media → Says x.current w' step a
     → Invariant v image given (stepped x step a media)
-says_keeps v image given x w w' Working a media inv is h ranges last driver g says = goes_on v image given x w w' a media x.live x.current.failed inv is h ranges last driver g says
-says_keeps v image given x w w' Failed a media inv is h ranges last driver g says = goes_on v image given x w w' a media false true inv is h ranges last driver g says
-says_keeps v image given x w w' (Done answer) a media inv is h ranges last driver g says = ends v image given x w w' a media answer inv is h ranges last driver g says
-says_keeps v image given x w w' Idle a media inv is h ranges last driver g says = absurd says
+says_keeps v image given x w w' Working a media inv range is h ranges last driver g says = goes_on v image given x w w' a media x.live x.current.failed inv range is h ranges last driver g says
+says_keeps v image given x w w' Failed a media inv range is h ranges last driver g says = goes_on v image given x w w' a media false true inv range is h ranges last driver g says
+says_keeps v image given x w w' (Done answer) a media inv range is h ranges last driver g says = ends v image given x w w' a media answer inv range is h ranges last driver g says
+says_keeps v image given x w w' Idle a media inv range is h ranges last driver g says = absurd says
 
 -- a driver without a request answers Idle, or fails
-idle_keeps : (v : Volume) (image : Contents) (given : MediaState) (x : State) (step : Step) (a : DriverState) (media : MediaState)
-    → Invariant v image given x → a.ranges ≡ x.current.ranges → a.last ≡ x.current.last → IsDriver a
+idle_keeps : (v : Opening) (image : Contents) (given : MediaState) (x : State) (step : Step) (a : DriverState) (media : MediaState)
+    → Invariant v image given x → range_of x.current.ranges v.minor ≡ Some (v.first, v.count) → a.ranges ≡ x.current.ranges → a.last ≡ x.current.last → IsDriver a
     → media ≡ x.media → SaysIdle x.current step a → Invariant v image given (stepped x step a media)
-idle_keeps v image given x Idle a media inv ranges last driver same says = rw (same, says) inv
-idle_keeps v image given x Failed a media inv ranges last driver same says =
+idle_keeps v image given x Idle a media inv range ranges last driver same says = rw (same, says) inv
+idle_keeps v image given x Failed a media inv range ranges last driver same says =
     let work_is : a.work ≡ x.current.work = ap (λ (d : DriverState). d.work) says in
-    let result : Invariant v image given (stepped x Failed a x.media) = from_parts v image given x a x.media false x.sent inv (record {
+    let result : Invariant v image given (stepped x Failed a x.media) = from_parts v image given x a x.media false x.sent inv range (record {
       ranges = ranges; last = last; generation = refl; held = inv.media; outside = inv.outside; driver = driver;
       work = λ l. absurd (never l); older = inv.older;
       sent = λ r i from.
@@ -277,21 +278,21 @@ idle_keeps v image given x Failed a media inv ranges last driver same says =
     subst (λ (m : MediaState). Invariant v image given (stepped x Failed a m)) (sym same) result where
   never : false ≡ true → ⊥
   never e = cc
-idle_keeps v image given x Working a media inv ranges last driver same says = absurd says
-idle_keeps v image given x (Done answer) a media inv ranges last driver same says = absurd says
+idle_keeps v image given x Working a media inv range ranges last driver same says = absurd says
+idle_keeps v image given x (Done answer) a media inv range ranges last driver same says = absurd says
 
-steps_keep : (v : Volume) (image : Contents) (given : MediaState) (x : State) (o : Option Work) (step : Step) (a : DriverState) (media : MediaState)
-    → Invariant v image given x → x.current.work ≡ o → AnyWorkHolds v x.media x.marks x.current.last o
+steps_keep : (v : Opening) (image : Contents) (given : MediaState) (x : State) (o : Option Work) (step : Step) (a : DriverState) (media : MediaState)
+    → Invariant v image given x → range_of x.current.ranges v.minor ≡ Some (v.first, v.count) → x.current.work ≡ o → AnyWorkHolds v x.media x.marks x.current.last o
     → a.ranges ≡ x.current.ranges → a.last ≡ x.current.last → IsDriver a
     → StepsAt x.current o x.media x.media.generation step a media
     → Invariant v image given (stepped x step a media)
-steps_keep v image given x None step a media inv is h ranges last driver s = idle_keeps v image given x step a media inv ranges last driver s.0 s.1
-steps_keep v image given x (Some w) step a media inv is h ranges last driver s =
-    says_keeps v image given x w s.0 step a media inv is h ranges last driver (went v image given x w s.0 media step inv h s.1) s.2
+steps_keep v image given x None step a media inv range is h ranges last driver s = idle_keeps v image given x step a media inv range ranges last driver s.0 s.1
+steps_keep v image given x (Some w) step a media inv range is h ranges last driver s =
+    says_keeps v image given x w s.0 step a media inv range is h ranges last driver (went v image given x w s.0 media step inv range h s.1) s.2
 
-pub step_keeps : (v : Volume) (image : Contents) (given : MediaState) (x : State) (step : Step) (a : DriverState) (media : MediaState)
+pub step_keeps : (v : Opening) (image : Contents) (given : MediaState) (x : State) (step : Step) (a : DriverState) (media : MediaState)
     → Invariant v image given x → x.live ≡ true
     → StepKeeps x.current x.media x.media.generation step a media → IsDriver a
     → Invariant v image given (stepped x step a media)
 step_keeps v image given x step a media inv live k driver =
-    steps_keep v image given x x.current.work step a media inv refl (inv.work live) k.same_ranges k.same_last driver k.steps
+    steps_keep v image given x x.current.work step a media inv (inv.range live) refl (inv.work live) k.same_ranges k.same_last driver k.steps

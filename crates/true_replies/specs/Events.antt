@@ -1,5 +1,5 @@
 -- What the events of a schedule do to the state of a run.
-use Rattle.std.specs.Prelude.{◌≡◌, ◌⊎◌, ℕ, ◌<◌, ◌+◌, ◌*◌, length, slice_index, List, [], ◌∷◌, ◌++◌, Bool, true, false, Option, Some, None}
+use Rattle.std.specs.Prelude.{◌≡◌, ◌⊎◌, ℕ, ◌<◌, ◌+◌, ◌*◌, ◌%◌, ◌≤◌, length, slice_index, List, [], ◌∷◌, ◌++◌, Bool, true, false, Option, Some, None}
 use Rattle.endpoint.specs.declared.Endpoint.{Endpoint}
 use Rattle.message.specs.declared.BlockRequest.{BlockRequest}
 use Rattle.message.specs.declared.BlockReply.{BlockReply}
@@ -8,7 +8,7 @@ use Rattle.marks.specs.Marks.{Mark, Issued, Started, Answered, Flush, GaveUp, To
 use Rattle.marks.specs.Open.{IsIn, MayFollow, IsWellFormed}
 use Rattle.marks.specs.Disk.{HasTrueReplies, Contents}
 use Rattle.marks.specs.Told.{received}
-use Rattle.media.specs.Contents.{MediaState, sector, written, adopted}
+use Rattle.media.specs.Contents.{MediaState, sector, written, adopted, sectors_of}
 use Rattle.bdev.specs.declared.Accept.{Accept}
 use Rattle.bdev.specs.declared.Accept.TheVariants.{Taken, Busy, Old}
 use Rattle.bdev.specs.declared.Answer.{Answer}
@@ -16,7 +16,8 @@ use Rattle.bdev.specs.declared.Step.{Step}
 use Rattle.bdev.specs.declared.Step.TheVariants.{Working, Idle, Done, Failed}
 use Rattle.bdev.specs.DriverState.{DriverState, range_while_fresh}
 use Rattle.bdev.specs.Promises.{AcceptKeeps, StepKeeps, IsDriver}
-use Rattle.true_replies.specs.State.{Volume, State, MediaHold, OutsideHolds, Fits}
+use Rattle.marks.specs.Opening.{Opening, Fits, contents_at}
+use Rattle.true_replies.specs.State.{State, MediaHold, OutsideHolds}
 use Rattle.true_replies.specs.Posted.{IsSent, driver_at, since_start}
 
 -- whoever runs a driver stamps its answers
@@ -91,7 +92,7 @@ ChangesNothing (Answered a) = ⊥
 ChangesNothing _ = Unit {0}
 
 -- what one event, or one call's doing at the link, may make of a state
-pub data Next (v : Volume) (x : State) : State → Type 0 where
+pub data Next (v : Opening) (x : State) : State → Type 0 where
   Stepped : (step : Step) (a : DriverState) (media : MediaState) → x.live ≡ true
       → StepKeeps x.current x.media x.media.generation step a media → IsDriver a → Next v x (stepped x step a media)
   SteppedOlder : (generation : ℕ) (b a : DriverState) (step : Step) (media : MediaState) → generation < x.media.generation
@@ -109,23 +110,33 @@ pub data Next (v : Volume) (x : State) : State → Type 0 where
   Noted : (m : Mark) → ChangesNothing m → Next v x (noted x m)
 
 -- one after the other
-pub data Run (v : Volume) (x : State) : State → Type 0 where
+pub data Run (v : Opening) (x : State) : State → Type 0 where
   Start : Run v x x
   Then : (y z : State) → Run v x y → Next v y z → Run v x z
 
--- how a run begins: the first driver was started, the volume of the given media is the image
-pub record IsOpening (v : Volume) (image : Contents) (before : MediaState) (x : State) : Type 0 where
-  pub given : x.media.sectors ≡ before.sectors
-  pub holds : (s o : ℕ) → s < v.count → o < 512 → slice_index (sector x.media (v.first + s)) o ≡ image (512 * s + o)
+-- the media as they were handed in, before any generation was adopted
+abbrev pub opening_media : Opening → MediaState
+opening_media v = record { sectors = sectors_of v.media; generation = 0 }
+
+-- how a run begins: no driver was started, and the media are as they were handed in
+pub record IsOpening (v : Opening) (x : State) : Type 0 where
+  pub media : x.media ≡ opening_media v
   pub driver : IsDriver x.current
-  pub fresh : range_while_fresh x.current v.minor ≡ Some (v.first, v.count)
-  pub marks : x.marks ≡ Started (driver_at x.media.generation) ∷ []
+  pub unused : x.current.last ≡ 0
+  pub live : x.live ≡ false
   pub line : x.line ≡ []
   pub sent : x.sent ≡ []
+  pub marks : x.marks ≡ []
+
+-- the media handed in are whole sectors, and the volume lies on them
+pub record IsOnMedia (v : Opening) : Type 0 where
+  pub whole : length v.media % 512 ≡ 0
+  pub most : length v.media ≤ 67108864
+  pub inside : 512 * (v.first + v.count) ≤ length v.media
 
 -- every reply that counted was true; the media are the disk where that is sure, and as given outside of the volume
-pub record RunIsTrue (v : Volume) (image : Contents) (given : MediaState) (y : State) : Type 0 where
+pub record RunIsTrue (v : Opening) (y : State) : Type 0 where
   pub well_formed : IsWellFormed y.marks
-  pub true_replies : HasTrueReplies image y.marks
-  pub media : MediaHold v image y.media y.marks
-  pub outside : OutsideHolds v given y.media
+  pub true_replies : HasTrueReplies (contents_at v) y.marks
+  pub media : MediaHold v (contents_at v) y.media y.marks
+  pub outside : OutsideHolds v (opening_media v) y.media

@@ -1,5 +1,5 @@
 -- What was posted to the last driver, and the replies that drivers sent.
-use Rattle.std.specs.Prelude.{◌≡◌, ◌⊎◌, ℕ, List, [], ◌∷◌}
+use Rattle.std.specs.Prelude.{◌≡◌, ◌⊎◌, ℕ, zero, suc, Option, Some, None, List, [], ◌∷◌}
 use Rattle.endpoint.specs.declared.Endpoint.{Endpoint}
 use Rattle.message.specs.declared.BlockRequest.{BlockRequest}
 use Rattle.message.specs.declared.BlockReply.{BlockReply}
@@ -7,6 +7,11 @@ use Rattle.marks.specs.Marks.{Mark, Issued, Started}
 
 abbrev pub driver_at : ℕ → Endpoint
 driver_at generation = record { slot = 1; generation = generation }
+
+-- the endpoint of the last start, by its generation: none before the first
+abbrev pub started_at : ℕ → Option Endpoint
+started_at zero = None
+started_at (suc g) = Some (driver_at (suc g))
 
 -- what was issued to the endpoint of the last start
 abbrev pub since_start : List Mark → List BlockRequest

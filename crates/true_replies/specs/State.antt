@@ -8,16 +8,11 @@ use Rattle.message.specs.declared.BlockReply.{BlockReply}
 use Rattle.marks.specs.Marks.{Mark, Issued, Started, Answered, Flush, GaveUp, last_started, Took, Fault}
 use Rattle.marks.specs.Open.{moved, open_requests, greatest, IsIn, IsWellFormed}
 use Rattle.marks.specs.Disk.{disk_after, unsure, HasTrueReplies, Contents}
-use Rattle.media.specs.Contents.{MediaState, sector}
+use Rattle.marks.specs.Opening.{Opening, Fits, contents_at}
+use Rattle.media.specs.Contents.{MediaState, sector, sectors_of}
 use Rattle.bdev.specs.DriverState.{DriverState, Work, range_of}
 use Rattle.bdev.specs.Promises.{waiting, IsDriver}
-use Rattle.true_replies.specs.Posted.{driver_at, since_start, IsSent}
-
--- the volume: its minor and its range of the media
-pub record Volume : Type 0 where
-  pub minor : ℕ
-  pub first : ℕ
-  pub count : ℕ
+use Rattle.true_replies.specs.Posted.{driver_at, started_at, since_start, IsSent}
 
 -- a run between two events: of the drivers the last one started alone, since the others can do nothing more
 pub record State : Type 0 where
@@ -34,59 +29,53 @@ payload Read own got = got
 payload Write own got = own
 
 -- the j-th sector of a request, as a sector of the volume
-pub record Place (v : Volume) (r : BlockRequest) (j : ℕ) : Type 0 where
+pub record Place (v : Opening) (r : BlockRequest) (j : ℕ) : Type 0 where
   pub at : ℕ
   pub position : 512 * at ≡ r.position + 512 * j
   pub inside : at < v.count
   pub within : 512 * j + 512 ≤ r.count
 
 -- the media hold these bytes at the j-th sector of the request
-pub record Moved (v : Volume) (media : MediaState) (r : BlockRequest) (bytes : List ℕ) (j : ℕ) : Type 0 where
+pub record Moved (v : Opening) (media : MediaState) (r : BlockRequest) (bytes : List ℕ) (j : ℕ) : Type 0 where
   pub place : Place v r j
   pub same : (o : ℕ) → o < 512 → slice_index bytes (512 * j + o) ≡ slice_index (sector media (v.first + place.at)) o
 
--- what the file server may issue
-pub record Fits (v : Volume) (r : BlockRequest) : Type 0 where
-  pub minor : r.minor ≡ v.minor
-  pub full : length r.bytes ≡ 4096
-  pub small : r.count ≤ 4096
-
 -- a request in work at a live current driver is open, and what it moved stands on the media
-pub record WorkHolds (v : Volume) (media : MediaState) (marks : List Mark) (last : ℕ) (w : Work) : Type 0 where
+pub record WorkHolds (v : Opening) (media : MediaState) (marks : List Mark) (last : ℕ) (w : Work) : Type 0 where
   pub opened : IsIn w.request (open_requests marks)
   pub id : w.request.id ≡ last
   pub moved : (j : ℕ) → IsTrue (w.moved j) → Moved v media w.request (payload w.request.kind w.request.bytes w.got) j
 
-abbrev pub AnyWorkHolds : Volume → MediaState → List Mark → ℕ → Option Work → Type 0
+abbrev pub AnyWorkHolds : Opening → MediaState → List Mark → ℕ → Option Work → Type 0
 AnyWorkHolds v media marks last None = Unit {0}
 AnyWorkHolds v media marks last (Some w) = WorkHolds v media marks last w
 
 -- a good answer to this open request is true of the media
-pub record AnswerHolds (v : Volume) (media : MediaState) (a : BlockReply) (r : BlockRequest) : Type 0 where
+pub record AnswerHolds (v : Opening) (media : MediaState) (a : BlockReply) (r : BlockRequest) : Type 0 where
   pub each : (n : ℕ) → moved r.count a.outcome ≡ Some n → (j : ℕ) → 512 * j < n → Moved v media r (payload r.kind r.bytes a.bytes) j
 
 -- a reply of the current driver: of a request that it ended
-pub record ReplyHolds (v : Volume) (media : MediaState) (marks : List Mark) (d : DriverState) (a : BlockReply) : Type 0 where
+pub record ReplyHolds (v : Opening) (media : MediaState) (marks : List Mark) (d : DriverState) (a : BlockReply) : Type 0 where
   pub ended : a.id + waiting d.work ≤ d.last
   pub answer : (r : BlockRequest) → IsIn r (open_requests marks) → r.id ≡ a.id → AnswerHolds v media a r
 
 -- the media are the disk of the record where that is sure
-pub record MediaHold (v : Volume) (image : Contents) (media : MediaState) (marks : List Mark) : Type 0 where
+pub record MediaHold (v : Opening) (image : Contents) (media : MediaState) (marks : List Mark) : Type 0 where
   pub each : (s o : ℕ) → s < v.count → o < 512 → unsure marks (512 * s + o) ≡ false
       → slice_index (sector media (v.first + s)) o ≡ disk_after image marks (512 * s + o)
 
 -- outside of the volume nothing was changed
-pub record OutsideHolds (v : Volume) (given media : MediaState) : Type 0 where
+pub record OutsideHolds (v : Opening) (given media : MediaState) : Type 0 where
   pub each : (n : ℕ) → (n < v.first) ⊎ (v.first + v.count ≤ n) → sector media n ≡ sector given n
 
 -- a request issued to the current driver
-pub record PostHolds (v : Volume) (marks : List Mark) (last : ℕ) (q : BlockRequest) : Type 0 where
+pub record PostHolds (v : Opening) (marks : List Mark) (last : ℕ) (q : BlockRequest) : Type 0 where
   pub opened : last < q.id → IsIn q (open_requests marks)
 
-pub record Invariant (v : Volume) (image : Contents) (given : MediaState) (x : State) : Type 0 where
+pub record Invariant (v : Opening) (image : Contents) (given : MediaState) (x : State) : Type 0 where
   pub well_formed : IsWellFormed x.marks
-  pub started : last_started x.marks ≡ Some (driver_at x.media.generation)
-  pub range : range_of x.current.ranges v.minor ≡ Some (v.first, v.count)
+  pub started : last_started x.marks ≡ started_at x.media.generation
+  pub range : x.live ≡ true → range_of x.current.ranges v.minor ≡ Some (v.first, v.count)
   pub media : MediaHold v image x.media x.marks
   pub outside : OutsideHolds v given x.media
   pub true_replies : HasTrueReplies image x.marks
