@@ -22,7 +22,8 @@ abbrev pub StartAnswers : List ℕ → ℕ → Result Endpoint SlotRefusal → L
 StartAnswers old slot (Err NoSuchSlot) new = (16 ≤ slot) × (new ≡ old)
 StartAnswers old slot (Err GenerationsSpent) new = (slice_index old slot ≡ 4294967295) × (new ≡ old)
 StartAnswers old slot (Ok e) new =
-    (slot < 16) × (e ≡ record { slot = slot; generation = slice_index old slot + 1 }) × (new ≡ slice_set old slot (slice_index old slot + 1))
+    (slot < 16) × (e ≡ record { slot = slot; generation = slice_index old slot + 1 })
+    × (slice_index new slot ≡ e.generation) × (new ≡ slice_set old slot e.generation)
 
 -- the endpoint that the last start of its slot gave
 abbrev pub is_last_start : List ℕ → Endpoint → Bool

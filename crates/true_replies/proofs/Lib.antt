@@ -5,3 +5,4 @@ pub mod Delivering
 pub mod Stepping
 pub mod Others
 pub mod Keeps
+pub mod Between

@@ -4,7 +4,7 @@ use Rattle.endpoint.specs.declared.Endpoint.{Endpoint}
 use Rattle.message.specs.declared.BlockRequest.{BlockRequest}
 use Rattle.message.specs.declared.BlockReply.{BlockReply}
 use Rattle.message.specs.declared.Incoming.TheVariants as incoming
-use Rattle.marks.specs.Marks.{Mark, Issued, Started, Answered, Flush, GaveUp, Took, Fault}
+use Rattle.marks.specs.Marks.{Mark, Issued, Started, Answered, Flush, GaveUp, Took, Fault, ChangesNothing}
 use Rattle.marks.specs.Open.{IsIn, MayFollow, IsWellFormed}
 use Rattle.marks.specs.Disk.{HasTrueReplies, Contents}
 use Rattle.marks.specs.Told.{received}
@@ -83,13 +83,6 @@ delivered x a = record x { marks = received (incoming.Reply a) x.marks }
 -- a mark that changes nothing of this
 abbrev pub noted : State → Mark → State
 noted x m = record x { marks = m ∷ x.marks }
-
--- these marks change no request, no byte of the disk and no driver
-abbrev pub ChangesNothing : Mark → Type 0
-ChangesNothing (Issued r e) = ⊥
-ChangesNothing (Started e) = ⊥
-ChangesNothing (Answered a) = ⊥
-ChangesNothing _ = Unit {0}
 
 -- what one event, or one call's doing at the link, may make of a state
 pub data Next (v : Opening) (x : State) : State → Type 0 where

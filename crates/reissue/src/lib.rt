@@ -1,0 +1,4 @@
+//! stub
+#![tactic(auto)]
+
+pub mod link;

@@ -1,0 +1,4 @@
+pub mod Running
+pub mod Notes
+pub mod Inline
+pub mod InlineLaws

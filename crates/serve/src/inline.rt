@@ -1,0 +1,63 @@
+//! A link that runs the drivers itself, and stores all that it was told and gave.
+
+ghost use Rattle.std.specs.Prelude.{map, vec_len, vec_capacity};
+ghost use Rattle.std.specs.Option.{option_map};
+ghost use Rattle.serve.specs.Inline.{LinkKept};
+ghost use Rattle.serve.specs.Notes.{history_of, room_of};
+
+use endpoint::Endpoint;
+use message::{BlockRequest, Incoming};
+use reissue::link::{Link, LinkRefusal};
+
+use crate::drivers::Drivers;
+use crate::local::LocalDriver;
+use crate::note::{Note, Notes};
+
+/// The link of a server to drivers that it runs itself.
+#[derive(Drop)]
+pub struct Inline<D: LocalDriver> {
+    pub(crate) drivers: Drivers<D>,
+    pub(crate) notes: Notes,
+}
+
+impl<D: LocalDriver> Link for Inline<D> {
+    ghost use Rattle.serve.specs.InlineLaws.{noted_kept};
+
+    ghost history = { λ l. history_of l.notes.ended l.notes.items.items };
+
+    ghost budget_left = { λ l. l.drivers.budget };
+
+    ghost room = { λ l. room_of l.notes.ended (vec_capacity l.notes.items) (vec_len l.notes.items) };
+
+    ghost truth = { λ l v marks. LinkKept v l.drivers.media l.drivers.slots l.drivers.endpoint (option_map D.state l.drivers.running)
+        (map D.state l.drivers.supply.items) l.drivers.line.items marks };
+
+    ghost noted = { λ l v marks m nothing kept. noted_kept v l.drivers.media l.drivers.slots l.drivers.endpoint (option_map D.state l.drivers.running)
+        (map D.state l.drivers.supply.items) l.drivers.line.items marks m nothing kept };
+
+    fn post(&mut self, to: Endpoint, request: &BlockRequest) -> Result<(), LinkRefusal> {
+        let posted = self.drivers.put_on_line(to, request);
+        self.notes.told(Note::Posted(to, *request, posted.is_ok()));
+        posted
+    }
+
+    fn complain(&mut self, about: Endpoint) {
+        self.drivers.let_go(about);
+        self.notes.told(Note::Complained(about));
+    }
+
+    fn take(&mut self) -> Incoming {
+        if self.notes.ended || self.drivers.is_over() || !self.notes.make_room() {
+            self.drivers.stop();
+            self.notes.end();
+            return Incoming::End;
+        }
+        let message = self.drivers.next();
+        self.notes.heard(message);
+        message
+    }
+
+    fn budget(&self) -> u64 {
+        self.drivers.budget
+    }
+}
