@@ -39,18 +39,6 @@ has_absorbed [] = false
 has_absorbed (Absorbed message ∷ acts) = true
 has_absorbed (_ ∷ acts) = has_absorbed acts
 
--- whether a message was taken
-abbrev pub has_taken : List Act → Bool
-has_taken [] = false
-has_taken (AtLink (Received message) ∷ acts) = true
-has_taken (_ ∷ acts) = has_taken acts
-
--- whether a take gave End
-abbrev pub has_taken_end : List Act → Bool
-has_taken_end [] = false
-has_taken_end (AtLink (Received incoming.End) ∷ acts) = true
-has_taken_end (_ ∷ acts) = has_taken_end acts
-
 -- What a server still owes its link. Pending are the open requests and those never issued. All lists are in rising order of ids.
 pub record Outbox : Type 0 where
   -- pending, and never issued: an accepted post would be the first
@@ -120,7 +108,7 @@ needs_message marks o =
     || (if is_some (last_started marks) then o.stopped && not (has_none o.unposted) else not (has_none o.never_issued))
 
 -- a request is for the server's range of the media, and has a block's bytes
-pub record Fits (minor : ℕ) (r : BlockRequest) : Type 0 where
+pub record FitsMinor (minor : ℕ) (r : BlockRequest) : Type 0 where
   pub minor_is : r.minor ≡ minor
   pub count : r.count ≤ 4096
   pub bytes : length r.bytes ≡ 4096
@@ -141,7 +129,7 @@ pub record MayPost (minor : ℕ) (marks : List Mark) (o : Outbox) (to : Endpoint
   pub endpoint : last_started marks ≡ Some to
   pub not_stopped : o.stopped ≡ false
   pub first : first_of o.unposted ≡ Some r
-  pub fits : Fits minor r
+  pub fits : FitsMinor minor r
 
 -- a take is made when nothing is due, and one is needed
 pub record MayTake (marks : List Mark) (o : Outbox) : Type 0 where

@@ -32,3 +32,15 @@ with_told (Received message) marks = received message marks
 abbrev pub grown : List Told → List Mark → List Mark
 grown [] marks = marks
 grown (t ∷ told) marks = with_told t (grown told marks)
+
+-- whether a take gave End
+abbrev pub took_end : List Told → Bool
+took_end [] = false
+took_end (Received incoming.End ∷ told) = true
+took_end (_ ∷ told) = took_end told
+
+-- whether no message was taken
+abbrev pub took_nothing : List Told → Bool
+took_nothing [] = true
+took_nothing (Received message ∷ told) = false
+took_nothing (_ ∷ told) = took_nothing told
