@@ -50,6 +50,12 @@ bytes_read (Answered a ∷ marks) place =
     if fetches (asked_by a marks) (moved_by a marks) place then byte_of (asked_by a marks) a place else bytes_read marks place
 bytes_read (_ ∷ marks) place = bytes_read marks place
 
+-- whether a good answer to a read covered the place
+abbrev pub is_read : List Mark → ℕ → Bool
+is_read [] place = false
+is_read (Answered a ∷ marks) place = fetches (asked_by a marks) (moved_by a marks) place || is_read marks place
+is_read (_ ∷ marks) place = is_read marks place
+
 -- a write that covers the place was issued after the last good answer to a write that covers it (or with none so far)
 abbrev pub unsure : List Mark → ℕ → Bool
 unsure [] place = false
