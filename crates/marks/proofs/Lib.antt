@@ -5,3 +5,6 @@ pub mod Growing
 pub mod FirstIssue
 pub mod Changes
 pub mod ActLaws
+pub mod Rows
+mod DiskRows
+mod ActRows
