@@ -1,15 +1,14 @@
 -- Writes and reads worked by hand: what the disk is, what is unsure, what was read, and which replies are true.
-use Rattle.std.specs.Prelude.{◌≡◌, ℕ, ◌+◌, ◌<◌, List, [], ◌∷◌, true, false, Ok, Err, refl, if◌then◌else◌, nat_lt, slice_index}
+use Rattle.std.specs.Prelude.{◌≡◌, ℕ, ◌+◌, ◌<◌, List, [], ◌∷◌, true, false, Ok, refl, slice_index}
 use Rattle.std.proofs.Common.{arith, sym, ◌∙◌}
 use Rattle.std.proofs.lemmas.Bool.Decides.{nat_tests}
 use Rattle.message.specs.Good.{is_write}
-use Rattle.endpoint.specs.declared.Endpoint.{Endpoint}
 use Rattle.message.specs.declared.Kind.TheVariants.{Write}
 use Rattle.message.specs.declared.BlockRequest.{BlockRequest}
 use Rattle.message.specs.declared.BlockReply.{BlockReply}
 use Rattle.message.specs.declared.Incoming.TheVariants as incoming
 use Rattle.marks.specs.declared.Cause.TheVariants.{Exit}
-use Rattle.marks.specs.Marks.{Mark, Started, Answered, GaveUp, Issued, Fault}
+use Rattle.marks.specs.Marks.{Mark, Started, Answered, Issued, Fault}
 use Rattle.marks.specs.Open.{open_requests}
 use Rattle.marks.specs.Disk.{Contents, disk_after, unsure, is_unsure, bytes_read, is_read, HasTrueReplies, IsTrueOf, IsSure}
 use Rattle.marks.specs.Told.{received}

@@ -1,15 +1,15 @@
 -- Records of one driver or two, worked by hand: what is open, what is well formed, which replies count.
-use Rattle.std.specs.Prelude.{◌≡◌, ◌⊎◌, ℕ, zero, suc, ◌+◌, ◌*◌, ◌%◌, List, [], ◌∷◌, ◌++◌, Bool, true, false, ◌<◌, ◌≤◌, Some, None, Ok, Err, refl}
+use Rattle.std.specs.Prelude.{◌≡◌, ℕ, zero, suc, ◌+◌, ◌*◌, ◌%◌, List, [], ◌∷◌, Bool, true, false, ◌<◌, ◌≤◌, Some, None, Ok, Err, refl}
 use Rattle.std.proofs.Common.{inl, inr, arith, ap}
 use Rattle.errno.specs.declared.Errno.TheVariants.{EIO}
 use Rattle.endpoint.specs.declared.Endpoint.{Endpoint}
-use Rattle.message.specs.declared.Kind.TheVariants.{Read, Write}
+use Rattle.message.specs.declared.Kind.TheVariants.{Read}
 use Rattle.message.specs.declared.BlockRequest.{BlockRequest}
 use Rattle.message.specs.declared.BlockReply.{BlockReply}
 use Rattle.message.specs.declared.Incoming.TheVariants as incoming
 use Rattle.marks.specs.declared.Cause.TheVariants.{Exit, Complaint}
-use Rattle.marks.specs.Marks.{Mark, Started, Answered, Flush, GaveUp, Issued, Fault, counted, last_started, awaits_start}
-use Rattle.marks.specs.Open.{IsWellFormed, IsNew, IsAgain, MayFollow, open_requests, moved_by, is_open, is_unfinished, greatest}
+use Rattle.marks.specs.Marks.{Mark, Started, Answered, Flush, GaveUp, Issued, Fault, counted}
+use Rattle.marks.specs.Open.{IsWellFormed, IsNew, IsAgain, MayFollow, open_requests, moved_by, is_unfinished, greatest}
 use Rattle.marks.specs.Told.{received}
 use Rattle.marks.specs.Acts.{complaint_due}
 
@@ -170,6 +170,7 @@ other_request h = elim h.1 [ inl new ↦ next new | inr again ↦ same again ]
   where
     next : IsNew (Started (driver 2) ∷ complained) (read 4 18432 1024) → ⊥
     next new = let e : ◌≡◌ {A = ℕ} 4 5 = new.next in absurd (omega arith)
+
     same : IsAgain (Started (driver 2) ∷ complained) (read 4 18432 1024) → ⊥
     same again = elim again.same [
       | inl e ↦ (let counts : ◌≡◌ {A = ℕ} 1024 2048 = ap (λ (r : BlockRequest). r.count) e in absurd (omega arith))
