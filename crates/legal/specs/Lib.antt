@@ -5,3 +5,4 @@ pub mod ServerCall
 pub mod Mount
 pub mod Unmount
 pub mod Session
+pub mod Laws

@@ -1,12 +1,12 @@
 -- What opening and mounting promise, over any link.
-use Rattle.std.specs.Prelude.{◌≡◌, ◌≢◌, ◌↔◌, ℕ, zero, suc, ◌*◌, ◌<◌, List, [], ◌∷◌, ◌++◌, Bool, true, false, ◌&&◌, nat_le, Option, None, Result, Ok, Err, if◌then◌else◌}
+use Rattle.std.specs.Prelude.{◌≡◌, ◌≢◌, ℕ, zero, suc, ◌*◌, ◌<◌, List, [], ◌∷◌, ◌++◌, Bool, true, false, ◌&&◌, nat_le, None, Err}
 use Rattle.layout.specs.declared.Geometry.{Geometry}
 use Rattle.layout.specs.declared.LayoutRefusal.{LayoutRefusal}
 use Rattle.layout.specs.declared.LayoutRefusal.TheVariants.{DoesNotFit}
 use Rattle.layout.specs.Places.{superblock_geometry, geometry_of}
 use Rattle.tree.specs.Tree.{Tree}
 use Rattle.volume.specs.declared.Finding.{Finding}
-use Rattle.volume.specs.Verdict.{Verdict, Clean, Found, verdict_of, HoldsClosed}
+use Rattle.volume.specs.Verdict.{Clean, Found, verdict_of, HoldsClosed}
 use Rattle.marks.specs.Marks.{Mark, gave_up}
 use Rattle.marks.specs.Disk.{Contents, HasTrueReplies, bytes_read, is_read}
 use Rattle.marks.specs.Told.{Told, took_end}
