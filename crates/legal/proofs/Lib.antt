@@ -1,2 +1,3 @@
 pub mod Legality
 pub mod Sessions
+mod LegalRows
