@@ -1,3 +1,5 @@
 pub mod Legality
 pub mod Sessions
 mod LegalRows
+mod ViewRows
+mod SessionRows
