@@ -3,3 +3,4 @@ pub mod Sessions
 mod LegalRows
 mod ViewRows
 mod SessionRows
+mod ServerRows
