@@ -1,29 +1,26 @@
 -- Short records over the tree of a new volume, worked by hand: which are legal.
-use Rattle.std.specs.Prelude.{◌≡◌, ℕ, ◌+◌, pos, List, [], ◌∷◌, Bool, true, false, IsTrue, refl}
+use Rattle.std.specs.Prelude.{◌≡◌, ℕ, pos, List, [], ◌∷◌, Bool, true, false, IsTrue, refl}
 use Rattle.std.proofs.Common.{inl, inr, arith, ap, codes}
 use Rattle.std.specs.Borrow.{Bor}
 use Rattle.errno.specs.Numbers.{number_of}
-use Rattle.errno.specs.declared.Errno.{Errno}
-use Rattle.errno.specs.declared.Errno.TheVariants.{EIO, ENOMEM, EBADF}
-use Rattle.endpoint.specs.declared.Endpoint.{Endpoint}
+use Rattle.errno.specs.declared.Errno.TheVariants.{EIO, ENOMEM}
 use Rattle.message.specs.declared.Kind.TheVariants.{Write}
 use Rattle.message.specs.declared.BlockRequest.{BlockRequest}
 use Rattle.layout.specs.declared.Geometry.{Geometry}
 use Rattle.tree.specs.declared.Who.{Who}
-use Rattle.tree.specs.declared.OpenFlags.{OpenFlags}
 use Rattle.tree.specs.declared.Whence.TheVariants.{Set}
 use Rattle.tree.specs.declared.Call.{Call}
 use Rattle.tree.specs.declared.Call.TheVariants as call
 use Rattle.tree.specs.Sums.{sum_below, some_below, least_below}
 use Rattle.tree.specs.Tree.{Tree}
 use Rattle.tree.specs.Laws.{fresh_tree}
-use Rattle.tree.specs.Answers.{Answer, refused, done, descriptor, some_bytes, wrote, position, node_is, names_are, room_is}
+use Rattle.tree.specs.Answers.{Answer, refused, done, some_bytes, node_is}
 use Rattle.tree.specs.Effects.{tree_after_call}
 use Rattle.volume.specs.Reading.{blocks_of}
 use Rattle.volume.specs.Holds.{Holds}
-use Rattle.marks.specs.Marks.{Mark, Started, Flush, GaveUp, Took, Issued}
+use Rattle.marks.specs.Marks.{Started, Flush, GaveUp, Took, Issued}
 use Rattle.marks.specs.Disk.{Contents}
-use Rattle.legal.specs.Legal.{IsLegal, IsLegalCall, IsReplyOf, tree_after, tree_after_answer}
+use Rattle.legal.specs.Legal.{IsLegal, IsReplyOf, tree_after, tree_after_answer}
 
 -- pages of 64 bytes, 58 data zones, 8 inodes
 abbrev pub small : Geometry

@@ -1,6 +1,7 @@
 pub mod Legality
 pub mod Sessions
-mod LegalRows
+pub mod LegalRows
 mod ViewRows
 mod SessionRows
 mod ServerRows
+mod ServerRight

@@ -1,24 +1,22 @@
 -- What opening, mounting, calls and unmounting may not do, and what follows of a mount over any link.
-use Rattle.std.specs.Prelude.{◌≡◌, ◌≢◌, ℕ, ◌+◌, ◌<◌, List, [], ◌∷◌, ◌++◌, Bool, true, false, Option, Some, None, Result, Ok, Err, IsTrue, refl}
-use Rattle.std.proofs.Common.{inl, inr, arith, ap, sym, subst, ◌∙◌}
+use Rattle.std.specs.Prelude.{◌≡◌, ℕ, List, [], ◌∷◌, Bool, true, false, Some, None, IsTrue, refl}
+use Rattle.std.proofs.Common.{arith, sym, subst, ◌∙◌}
 use Rattle.endpoint.specs.declared.Endpoint.{Endpoint}
-use Rattle.message.specs.declared.Incoming.{Incoming}
 use Rattle.message.specs.declared.Incoming.TheVariants as incoming
 use Rattle.layout.specs.declared.Geometry.{Geometry}
 use Rattle.layout.specs.declared.LayoutRefusal.TheVariants.{BadMagic}
 use Rattle.tree.specs.declared.Who.{Who}
 use Rattle.tree.specs.declared.Call.{Call}
 use Rattle.tree.specs.Tree.{Tree}
-use Rattle.tree.specs.Answers.{Answer, done}
-use Rattle.volume.specs.declared.Finding.{Finding}
-use Rattle.marks.specs.Marks.{Mark, Started, GaveUp, Took, gave_up}
+use Rattle.tree.specs.Answers.{Answer}
+use Rattle.marks.specs.Marks.{Started, GaveUp}
 use Rattle.marks.specs.Open.{IsWellFormed}
 use Rattle.marks.specs.Disk.{Contents, HasTrueReplies}
-use Rattle.marks.specs.Told.{Told, Posted, Complained, Received}
-use Rattle.marks.specs.Acts.{Act, Began, Absorbed, AtLink, marks_after, outbox_after, empty_outbox, KeepsRules, IsAtRest, Outbox}
-use Rattle.legal.specs.Legal.{IsLegal, IsAtFirst}
-use Rattle.legal.specs.ServerCall.{Serving, Serves, Leads, Rules, Outcome, Replied, Cut, with_outcome, CallKeeps, AbsorbKeeps}
-use Rattle.legal.specs.Mount.{OpenKeeps, Mounting, MountKeeps, IsWhyNotMounted, Layout, Inconsistent, Eio, LinkEnded, BadFrames}
+use Rattle.marks.specs.Told.{Told, Complained, Received}
+use Rattle.marks.specs.Acts.{Act, AtLink, marks_after, empty_outbox, KeepsRules, Outbox}
+use Rattle.legal.specs.Legal.{IsLegal}
+use Rattle.legal.specs.ServerCall.{Serving, Outcome, Replied, Cut, with_outcome, CallKeeps}
+use Rattle.legal.specs.Mount.{OpenKeeps, MountKeeps, IsWhyNotMounted, Layout, Eio, LinkEnded, BadFrames}
 use Rattle.legal.specs.Unmount.{UnmountKeeps, Unmounted, Busy, unmounting_of}
 use Rattle.legal.specs.Unmount as unmount
 

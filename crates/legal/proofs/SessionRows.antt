@@ -1,14 +1,12 @@
 -- Sessions worked by hand: two with one number, one after the other, and one with another number.
-use Rattle.std.specs.Prelude.{◌≡◌, ℕ, ◌+◌, List, [], ◌∷◌, ◌++◌, length, Bool, true, false, refl}
-use Rattle.std.proofs.Common.{inl, inr, arith, ap}
-use Rattle.endpoint.specs.declared.Endpoint.{Endpoint}
+use Rattle.std.specs.Prelude.{◌≡◌, ℕ, List, [], ◌∷◌, length, Bool, true, false, refl}
+use Rattle.std.proofs.Common.{inr, arith, ap}
 use Rattle.tree.specs.declared.Who.{Who}
-use Rattle.tree.specs.declared.Call.{Call}
 use Rattle.tree.specs.declared.Call.TheVariants as call
-use Rattle.tree.specs.Answers.{Answer, refused, done, wrote, position}
-use Rattle.marks.specs.Marks.{Mark, Started, Flush, GaveUp, Took, IsBeginning}
+use Rattle.tree.specs.Answers.{done}
+use Rattle.marks.specs.Marks.{Mark, Started, Flush, GaveUp, Took}
 use Rattle.legal.specs.ServerCall.{Replied, Cut}
-use Rattle.legal.specs.Session.{calls_of, Seen, IsSession, IsNewSession, LearnsMore, EndsWith, MeetKeeps, IsLonger, went_on, DeviceKeeps}
+use Rattle.legal.specs.Session.{calls_of, Seen, IsSession, IsNewSession, LearnsMore, EndsWith, MeetKeeps, DeviceKeeps}
 
 -- user 0 in this session
 abbrev pub user_in : ℕ → Who
@@ -123,12 +121,16 @@ concealed h = let e : ◌≡◌ {A = Bool} false true = h.always refl in cc
 told : DeviceKeeps (session_5 given_up (sync 5 12 ∷ [])) true (session_5 given_up (sync 5 12 ∷ []))
 told = record {
   learns = record { number = refl; place = refl; beginning = record { later = []; is = refl }; own = refl };
-  own = refl; only = λ yes_it_is. refl; always = λ went. refl;
+  own = refl;
+  only = λ yes_it_is. refl;
+  always = λ went. refl;
 }
 
 -- where it has seen that alone, and no call after it, both answers may be
 live_still : DeviceKeeps (session_5 (GaveUp ∷ first_part) []) false (session_5 (GaveUp ∷ first_part) [])
 live_still = record {
   learns = record { number = refl; place = refl; beginning = record { later = []; is = refl }; own = refl };
-  own = refl; only = λ never. cc; always = λ never. cc;
+  own = refl;
+  only = λ never. cc;
+  always = λ never. cc;
 }

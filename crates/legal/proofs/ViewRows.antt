@@ -1,12 +1,10 @@
 -- What a server would read back, worked by hand.
-use Rattle.std.specs.Prelude.{◌≡◌, ℕ, ◌+◌, ◌/◌, ◌<◌, ◌≤◌, List, [], ◌∷◌, Bool, true, false, ◌&&◌, ◌||◌, ◌==◌, nat_le, nat_lt, Option, Some, None, IsSome, IsTrue, if◌then◌else◌, refl}
+use Rattle.std.specs.Prelude.{◌≡◌, ℕ, ◌/◌, ◌<◌, ◌≤◌, List, [], ◌∷◌, Bool, true, false, ◌==◌, nat_le, nat_lt, Some, None, IsSome, if◌then◌else◌, refl}
 use Rattle.std.proofs.Common.{arith, subst, sym}
 use Rattle.std.proofs.lemmas.Bool.Decides.{nat_tests}
-use Rattle.endpoint.specs.declared.Endpoint.{Endpoint}
 use Rattle.message.specs.declared.Kind.TheVariants.{Write}
-use Rattle.message.specs.declared.BlockRequest.{BlockRequest}
 use Rattle.layout.specs.declared.Geometry.{Geometry}
-use Rattle.marks.specs.Marks.{Mark, Started, Issued}
+use Rattle.marks.specs.Marks.{Mark, Issued}
 use Rattle.marks.specs.Disk.{Contents, unsure}
 use Rattle.legal.specs.View.{Frames, server_view, IsCovered}
 
