@@ -15,4 +15,5 @@ pub mod NodeCalls
 pub mod NameCalls
 pub mod FileCalls
 pub mod Effects
+pub mod IsCall
 pub mod Laws
