@@ -1,6 +1,6 @@
 -- What a superblock that isn't refused promises.
 use Rattle.std.proofs.Common.{◌≡◌, ◌<◌, ◌≤◌, ◌+◌, ◌-◌, ◌*◌, ℕ, List, length, slice_index, Bool, true, false, refl, sym, ap, subst, ◌∙◌, arith}
-use mathlib.Core.Logic.{inl, inr}
+use mathlib.Core.Logic.{◌⊎◌, inl, inr}
 use Rattle.std.specs.Prelude.{Result, Ok, Err, T, not, is_ok, ◌==◌, ◌&&◌, ◌||◌, nat_lt, nat_le, if◌then◌else◌, IsTrue}
 use Rattle.std.proofs.lemmas.Bool.{and_parts, eqb-true, leb-true, ltb-true, ltb-false}
 use Rattle.layout.specs.declared.Geometry.{Geometry}
@@ -28,15 +28,24 @@ the_ok g = Ok g
 read_is : (g h : Geometry) → the_ok g ≡ the_ok h → g ≡ h
 read_is g h e = ap (λ r. elim r [ Ok x ↦ x | Err _ ↦ g ]) e
 
--- one of the block sizes is above 0
-is_sized : (n : ℕ) → is_block_size n ≡ true → 0 < n
-is_sized n h = above (n == 1024) (n == 2048) (n == 4096) (eqb-true n 1024) (eqb-true n 2048) (eqb-true n 4096) h
+-- an accepted block size is one of three
+pub block_sizes : (n : ℕ) → is_block_size n ≡ true → (n ≡ 1024) ⊎ (n ≡ 2048) ⊎ (n ≡ 4096)
+block_sizes n h = one_of (n == 1024) (n == 2048) (n == 4096) (eqb-true n 1024) (eqb-true n 2048) (eqb-true n 4096) h
   where
-    above : (a b c : Bool) → (a ≡ true → n ≡ 1024) → (b ≡ true → n ≡ 2048) → (c ≡ true → n ≡ 4096) → a || b || c ≡ true → 0 < n
-    above true b c first second third h = let e = first refl in omega arith
-    above false true c first second third h = let e = second refl in omega arith
-    above false false true first second third h = let e = third refl in omega arith
-    above false false false first second third h = absurd (subst (λ b. T (not b)) h tt)
+    one_of : (a b c : Bool) → (a ≡ true → n ≡ 1024) → (b ≡ true → n ≡ 2048) → (c ≡ true → n ≡ 4096) → a || b || c ≡ true
+        → (n ≡ 1024) ⊎ (n ≡ 2048) ⊎ (n ≡ 4096)
+    one_of true b c first second third h = inl (first refl)
+    one_of false true c first second third h = inr (inl (second refl))
+    one_of false false true first second third h = inr (inr (third refl))
+    one_of false false false first second third h = absurd (subst (λ b. T (not b)) h tt)
+
+-- an accepted block size is above 0
+pub is_sized : (n : ℕ) → is_block_size n ≡ true → 0 < n
+is_sized n h = elim (block_sizes n h) [
+  | inl e ↦ omega arith
+  | inr (inl e) ↦ omega arith
+  | inr (inr e) ↦ omega arith
+]
 
 -- the counts, read as facts
 counts_fit : (g : Geometry) → is_block_size g.block_size ≡ true → counts_agree g ≡ true → IsGeometry g

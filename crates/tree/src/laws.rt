@@ -1,7 +1,7 @@
 //! Laws of the definitions: functions without a body, each of which stands for its clause.
 
 ghost use Rattle.tree.specs.IsCall.{IsBytes, IsCall, IsCaller};
-ghost use Rattle.tree.specs.Laws.{FreshIsTree, LooksLeave, RefusedLeaves};
+ghost use Rattle.tree.specs.Laws.{FreshIsTree, HeldPagesFit, LooksLeave, PagesFit, RefusedLeaves};
 ghost use Rattle.tree.specs.ZonesNeededByPlace.{ZonesNeededIsByPlace};
 
 use super::{Call, Who};
@@ -94,4 +94,11 @@ pub fn fresh_is_tree()
 #[tactic(auto, using(crate::proofs::Needs::zones_needed_is_by_place))]
 pub fn zones_needed_is_by_place()
     ensures { ZonesNeededIsByPlace }
+{}
+
+/// Every page that a file or a directory holds is among those that its inode has room for.
+#[tactic(auto, using(crate::proofs::Pages::pages_fit, crate::proofs::Pages::held_pages_fit))]
+pub fn pages_fit()
+    ensures below { PagesFit }
+    ensures held { HeldPagesFit }
 {}
