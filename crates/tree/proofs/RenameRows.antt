@@ -212,8 +212,8 @@ no_zone_no_link : Rows (record small { zones = 26 }) (on_node seven 1 (more_link
 unfolding seven rooms house sum_below some_below least_below
 no_zone_no_link = refl
 
--- Below itself comes before all that is there: a file /d/k, and /d/e with 7 entries, which holds a directory already
--- full of links.
+-- A directory's move below itself comes before what stands at the new name and before the zones: /d has a file /d/k, and
+-- /d/e has 7 entries. 25 zones are used.
 unfoldable crowded : Tree
 crowded = after rooms (Link (path "/f") (path "/d/k") ∷ Link (path "/f") (path "/d/e/1") ∷ Link (path "/f") (path "/d/e/2")
     ∷ Link (path "/f") (path "/d/e/3") ∷ Link (path "/f") (path "/d/e/4") ∷ Link (path "/f") (path "/d/e/5") ∷ [])
