@@ -1,25 +1,25 @@
 -- A new volume holds a root alone.
-use Rattle.std.proofs.Common.{◌≡◌, ◌≢◌, ◌<◌, ◌≤◌, ◌+◌, ◌-◌, ◌*◌, ◌/◌, ◌%◌, ◌^◌, ℕ, zero, suc, List, [], ◌∷◌, replicate, Bool, true, false, cond, refl, sym, ap, subst, ◌∙◌, arith}
-use mathlib.Core.Logic.{◌⊎◌, inl, inr}
-use Rattle.std.specs.Prelude.{◌==◌, ◌&&◌, ◌||◌, ◌↔◌, not, nat_le, nat_lt, slice_index, Option, None, Some, IsTrue, if◌then◌else◌}
-use Rattle.std.proofs.lemmas.Bool.{cases_Bool, cases_eq, cases_lt, cond-true, cond-false, eq-eqb, ne_eqb, and_left, and_right, and_from, and_parts, or_parts, leb-true, le-leb, lt-leb, lt-ltb, le-ltb, eqb-true, or_cases, false≢true, true≢false, false_from_ne_true}
+use Rattle.std.proofs.Common.{◌≡◌, ◌≢◌, ◌<◌, ◌≤◌, ◌+◌, ◌-◌, ◌*◌, ◌/◌, ◌%◌, ℕ, zero, suc, [], ◌∷◌, replicate, Bool, true, false, refl, sym, ap, subst, ◌∙◌, arith}
+use mathlib.Core.Logic.{inl, inr}
+use Rattle.std.specs.Prelude.{◌==◌, ◌&&◌, ◌||◌, not, nat_le, nat_lt, slice_index, None, Some, IsTrue, if◌then◌else◌}
+use Rattle.std.proofs.lemmas.Bool.{cases_eq, cond-true, cond-false, eq-eqb, ne_eqb, and_from, and_parts, leb-true, le-leb, lt-ltb, eqb-true, or_cases, false_from_ne_true}
 use Rattle.std.proofs.Math.Nat.{div-eq_of_lt, div-eq_of_lt-le, mod-eq_of_lt}
 use Rattle.layout.specs.declared.Geometry.{Geometry}
-use Rattle.layout.specs.Places.{IsGeometry, is_block_size}
-use Rattle.tree.specs.Sums.{some_below, put}
+use Rattle.layout.specs.Places.{IsGeometry}
+use Rattle.tree.specs.Sums.{some_below}
 use Rattle.tree.specs.Names.{Name, dot, dot_dot}
-use Rattle.tree.specs.Tree.{is_directory, Node}
+use Rattle.tree.specs.Tree.{is_directory}
 use Rattle.tree.specs.Space.{numbers_in_zone, pages_of}
 use Rattle.tree.specs.Laws.{fresh_root, fresh_tree}
-use Rattle.tree.proofs.Maps.{not_true, put-same, put-other}
+use Rattle.tree.proofs.Maps.{put-same, put-other}
 use Rattle.tree.proofs.Fresh.{fresh_is_tree}
 use Rattle.volume.specs.declared.Inode.{Inode}
 use Rattle.volume.specs.Reading.{is_inode, is_data_zone, u32_in}
 use Rattle.volume.specs.Pieces.{Pieces}
-use Rattle.volume.specs.Nodes.{word, number, slot, second_block, last_block, zone_of, page_zone, page_byte, file_byte, text_in, entry_name, entry_inode, names_in, node_of, is_marked, nodes_of}
-use Rattle.volume.specs.Places.{zone_at, Use, IsSamePlace, has_number}
-use Rattle.volume.specs.Entries.{is_directory_inode, entry_count, name_at, target_at, is_field, is_name_field}
-use Rattle.volume.specs.Holds.{ZonesAgree, IsSoundInode, IsSoundDirectory, IsSound, HoldsNodes}
+use Rattle.volume.specs.Nodes.{word, number, slot, second_block, last_block, page_zone, page_byte, file_byte, text_in, entry_name, entry_inode, names_in, node_of, is_marked, nodes_of}
+use Rattle.volume.specs.Places.{zone_at, Use}
+use Rattle.volume.specs.Entries.{name_at, target_at, is_field}
+use Rattle.volume.specs.Holds.{ZonesAgree, IsSoundInode, IsSoundDirectory, IsSound}
 use Rattle.volume.specs.Fresh.{fresh_inode, fresh_entries, fresh_pieces, FreshHolds}
 
 -- a choice of two values that are one
