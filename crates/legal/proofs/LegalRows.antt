@@ -2,8 +2,7 @@
 use Rattle.std.specs.Prelude.{◌≡◌, ℕ, pos, List, [], ◌∷◌, Bool, true, false, IsTrue, refl}
 use Rattle.std.proofs.Common.{inl, inr, arith, ap, codes}
 use Rattle.std.specs.Borrow.{Bor}
-use Rattle.errno.specs.Numbers.{number_of}
-use Rattle.errno.specs.declared.Errno.TheVariants.{EIO, ENOMEM}
+use Rattle.errno.specs.declared.Errno.TheVariants.{EIO, EBADF, ENOMEM}
 use Rattle.message.specs.declared.Kind.TheVariants.{Write}
 use Rattle.message.specs.declared.BlockRequest.{BlockRequest}
 use Rattle.layout.specs.declared.Geometry.{Geometry}
@@ -53,9 +52,11 @@ abbrev size_in : Answer → ℕ
 size_in (node_is a) = a.size
 size_in _ = 0
 
--- the number of a refusal
+-- 5 for EIO, 9 for EBADF, 12 for ENOMEM, 0 for all else
 abbrev number_in : Answer → ℕ
-number_in (refused e) = number_of e
+number_in (refused EIO) = 5
+number_in (refused EBADF) = 9
+number_in (refused ENOMEM) = 12
 number_in _ = 0
 
 not_true : IsTrue false → ⊥

@@ -44,7 +44,7 @@ pub record AreRead (marks : List Mark) (n : ℕ) : Type 0 where
   pub each : (place : ℕ) → place < n → is_read marks place ≡ true
 
 -- a server just made: its cache is empty, no file is open and nothing is owed
-pub record IsNew (new : Serving) : Type 0 where
+pub record IsJustMade (new : Serving) : Type 0 where
   pub frames : (block : ℕ) → new.frames block ≡ None
   pub not_busy : new.is_busy ≡ false
   pub not_ended : new.ended ≡ false
@@ -55,7 +55,7 @@ pub record OpenKeeps (g : Geometry) (minor frames : ℕ) (before : List Told) (n
   pub geometry : new.geometry ≡ g
   pub minor_is : new.minor ≡ minor
   pub told : new.told ≡ before
-  pub is_new : IsNew new
+  pub is_new : IsJustMade new
   pub outbox : new.outbox ≡ empty_outbox
   pub serves : (image : Contents) (tree : Tree) → IsAtFirst g image tree → Serves new image tree []
 
@@ -73,7 +73,7 @@ pub record MountKeeps (minor frames : ℕ) (before : List Told) (new : Serving) 
   pub mounting : Mounting minor before acts new.told
   pub minor_is : new.minor ≡ minor
   pub geometry : new.geometry ≡ geometry_read (marks_after acts [])
-  pub is_new : IsNew new
+  pub is_new : IsJustMade new
   pub none_ended : took_end (told_of acts) ≡ false
   pub not_given_up : gave_up (marks_after acts []) ≡ false
   pub outbox : new.outbox ≡ outbox_after acts [] empty_outbox
