@@ -1,6 +1,8 @@
--- The record of a file server, and what its link was told.
+-- The record of a file server, and what happens at its link.
 pub mod Marks
 pub mod Open
 pub mod Disk
 pub mod Opening
 pub mod Told
+pub mod Acts
+pub mod Laws
