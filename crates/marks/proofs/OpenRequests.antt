@@ -9,7 +9,7 @@ use Rattle.marks.specs.Marks.{Mark, Issued, Started, Answered, Flush, GaveUp, To
 use Rattle.marks.specs.Open.{greatest, open_requests, without_id, with_id, moved_of, Misses, MissesAll, IsIn, IsNew, IsAgain, IsWellFormed}
 
 -- each of these has an id up to g
-abbrev Below : ℕ → List BlockRequest → Type 0
+abbrev pub Below : ℕ → List BlockRequest → Type 0
 Below g [] = Unit {0}
 Below g (r ∷ rs) = (r.id ≤ g) × Below g rs
 
@@ -30,7 +30,7 @@ below_without g id [] b = tt
 below_without g id (r ∷ rs) b =
     cond_has (Below g) (r.id == id) rs (r ∷ without_id id rs) b.1 (b.0, below_without g id rs b.1)
 
-below_open : (marks : List Mark) → Below (greatest marks) (open_requests marks)
+pub below_open : (marks : List Mark) → Below (greatest marks) (open_requests marks)
 below_open [] = tt
 below_open (Issued r e ∷ marks) =
     let old : Below (max (greatest marks) r.id) (open_requests marks) =
