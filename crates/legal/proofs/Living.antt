@@ -1,10 +1,6 @@
 -- A server serves after each call and message.
-use Rattle.std.specs.Prelude.{ℕ, List}
-use Rattle.tree.specs.Tree.{Tree}
-use Rattle.marks.specs.Marks.{Mark}
-use Rattle.marks.specs.Disk.{Contents}
-use Rattle.legal.specs.ServerCall.{Serving, Serves}
-use Rattle.legal.specs.Lives.{Lives, Begins, Calls, Absorbs, StillServes}
+use Rattle.legal.specs.ServerCall.{Serving}
+use Rattle.legal.specs.Lives.{Begins, Calls, Absorbs, StillServes}
 
 -- each call and each message keeps it
 pub still_serves : {Server : Type 0} (serving : Server → Serving) → StillServes Server serving

@@ -6,7 +6,7 @@ use Rattle.tree.specs.declared.Call.TheVariants as call
 use Rattle.tree.specs.Answers.{done}
 use Rattle.marks.specs.Marks.{Mark, Started, Flush, GaveUp, Took}
 use Rattle.legal.specs.ServerCall.{Replied, Cut}
-use Rattle.legal.specs.Session.{calls_of, Seen, IsSession, IsNewSession, LearnsMore, EndsWith, MeetKeeps, DeviceKeeps}
+use Rattle.legal.specs.Session.{calls_of, tally_of, Seen, IsSession, IsNewSession, LearnsMore, EndsWith, MeetKeeps, DeviceKeeps}
 
 -- user 0 in this session
 abbrev pub user_in : ℕ → Who
@@ -36,6 +36,10 @@ calls_of_7 = refl
 
 no_calls : calls_of 6 0 all ≡ []
 no_calls = refl
+
+-- a start, four calls and a flush
+all_counted : tally_of all ≡ 6
+all_counted = refl
 
 -- it was made having seen the calls with its number so far
 made : IsNewSession (record { number = 5; place = 3; seen = first_part; mine = [] }) first_part

@@ -4,7 +4,7 @@ use Rattle.std.proofs.lemmas.Bool.Decides.{nat_tests}
 use Rattle.std.specs.Prelude.{nat_lt, is_some, ◌==◌, if◌then◌else◌}
 use Rattle.message.specs.declared.BlockRequest.{BlockRequest}
 use Rattle.marks.specs.Marks.{Mark, Issued, Started, Answered, Flush, GaveUp, Took, Fault}
-use Rattle.marks.specs.Open.{greatest, open_requests, without_id, moved_by, IsIn}
+use Rattle.marks.specs.Open.{greatest, open_requests, without_id, moved_by}
 use Rattle.marks.specs.Laws.{AllAbove, IsRising}
 use Rattle.marks.proofs.OpenRequests.{Below, below_open}
 
