@@ -1,5 +1,6 @@
 pub mod Legality
 pub mod Sessions
+pub mod Living
 pub mod LegalRows
 mod ViewRows
 mod SessionRows

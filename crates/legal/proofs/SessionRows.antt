@@ -6,7 +6,7 @@ use Rattle.tree.specs.declared.Call.TheVariants as call
 use Rattle.tree.specs.Answers.{done}
 use Rattle.marks.specs.Marks.{Mark, Started, Flush, GaveUp, Took}
 use Rattle.legal.specs.ServerCall.{Replied, Cut}
-use Rattle.legal.specs.Session.{calls_of, Seen, IsSession, IsNewSession, LearnsMore, EndsWith, MeetKeeps, DeviceKeeps}
+use Rattle.legal.specs.Session.{calls_of, tally_of, Seen, IsSession, IsNewSession, LearnsMore, EndsWith, MeetKeeps, DeviceKeeps}
 
 -- user 0 in this session
 abbrev pub user_in : ℕ → Who
@@ -20,6 +20,7 @@ sync session now = Took (user_in session) now call.Sync done
 abbrev pub first_part : List Mark
 first_part = sync 7 11 ∷ sync 5 10 ∷ Started (record { slot = 1; generation = 1 }) ∷ []
 
+-- the whole record
 abbrev pub all : List Mark
 all = sync 5 13 ∷ Flush ∷ sync 5 12 ∷ first_part
 
@@ -36,6 +37,10 @@ calls_of_7 = refl
 
 no_calls : calls_of 6 0 all ≡ []
 no_calls = refl
+
+-- a start, four calls and a flush
+all_counted : tally_of all ≡ 6
+all_counted = refl
 
 -- it was made having seen the calls with its number so far
 made : IsNewSession (record { number = 5; place = 3; seen = first_part; mine = [] }) first_part
@@ -89,6 +94,7 @@ cut_call = refl
 abbrev pub session_7 : List Mark → Seen
 session_7 seen = record { number = 7; place = 2; seen = seen; mine = sync 7 11 ∷ [] }
 
+-- the calls of the later session 5
 abbrev pub own_5 : List Mark
 own_5 = sync 5 13 ∷ sync 5 12 ∷ []
 

@@ -5,4 +5,5 @@ pub mod ServerCall
 pub mod Mount
 pub mod Unmount
 pub mod Session
+pub mod Lives
 pub mod Laws

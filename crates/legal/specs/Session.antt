@@ -1,10 +1,10 @@
 -- What a session has seen of the service's record, which marks of it are its own, and what its calls keep.
-use Rattle.std.specs.Prelude.{◌≡◌, ◌⊎◌, ℕ, ◌&&◌, ◌||◌, ◌==◌, List, [], ◌∷◌, Bool, true, false, length, nat_le, if◌then◌else◌}
+use Rattle.std.specs.Prelude.{◌≡◌, ◌⊎◌, ℕ, ◌%◌, ◌^◌, ◌&&◌, ◌||◌, ◌==◌, List, [], ◌∷◌, Bool, true, false, length, nat_le, if◌then◌else◌}
 use Rattle.layout.specs.declared.Geometry.{Geometry}
 use Rattle.tree.specs.declared.Who.{Who}
 use Rattle.tree.specs.declared.Call.{Call}
 use Rattle.tree.specs.Tree.{Tree}
-use Rattle.marks.specs.Marks.{Mark, Took, gave_up, IsBeginning}
+use Rattle.marks.specs.Marks.{Mark, Took, counted, gave_up, IsBeginning}
 use Rattle.marks.specs.Disk.{Contents, HasTrueReplies}
 use Rattle.legal.specs.Legal.{IsLegal}
 use Rattle.legal.specs.ServerCall.{Outcome, Replied, Cut}
@@ -27,6 +27,10 @@ pub record Seen : Type 0 where
   pub seen : List Mark
   -- the marks of its own calls
   pub mine : List Mark
+
+-- the number that the board shows of a record: its counted marks, in 64 bits
+abbrev pub tally_of : List Mark → ℕ
+tally_of marks = counted marks % 2 ^ 64
 
 -- what always holds of a session and the record of its service
 pub record IsSession (s : Seen) (marks : List Mark) : Type 0 where

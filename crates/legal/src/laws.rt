@@ -4,7 +4,10 @@ ghost use Rattle.std.specs.Prelude.{List};
 ghost use Rattle.layout.specs.declared.Geometry.{Geometry};
 ghost use Rattle.marks.specs.Marks.{Mark};
 ghost use Rattle.marks.specs.Disk.{Contents};
+ghost use Rattle.legal.specs.Lives.{StillServes};
 ghost use Rattle.legal.specs.Laws.{BeginningsAreLegal, OnlyCallsMoveTree, GivenUpStays, NoMemoryLeaves, SyncedIsHeld, WithoutFrames, OwnCallsGrow, NewSessionIsSession};
+
+use crate::Serve;
 
 /// A legal record has legal beginnings.
 #[tactic(auto, using(crate::proofs::Legality::beginnings_are_legal))]
@@ -49,4 +52,10 @@ pub fn own_calls_grow()
 /// What always holds of a session holds when it is made.
 pub fn new_session_is_session()
     ensures { NewSessionIsSession }
+{}
+
+/// From its opening or mounting on, after every list of calls and messages and over any link, a server's record is well formed;
+/// over true replies it is legal, and while the link hasn't ended and the device isn't given up the tree now would be read back.
+pub fn still_serves<S: Serve>()
+    ensures { StillServes S S.serving }
 {}

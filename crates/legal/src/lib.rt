@@ -3,3 +3,11 @@
 #![tactic(auto)]
 
 pub mod laws;
+
+/// A server as contracts see it.
+pub trait Serve {
+    ghost use Rattle.legal.specs.ServerCall.{Serving};
+
+    // its volume, its frames, what it owes and was told by its link, and the records that it agrees with
+    ghost serving: { Self → Serving };
+}

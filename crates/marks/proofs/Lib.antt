@@ -1,4 +1,5 @@
 pub mod OpenRequests
+pub mod Rising
 pub mod Unsure
 pub mod Sectors
 pub mod Growing

@@ -47,6 +47,20 @@ OpenAreWhole = (marks : List Mark) (r : BlockRequest) → IsWellFormed marks →
 abbrev pub OpenAreNumbered : Type 0
 OpenAreNumbered = (marks : List Mark) (r : BlockRequest) → IsIn r (open_requests marks) → r.id ≤ greatest marks
 
+-- each of these has a greater id
+abbrev pub AllAbove : ℕ → List BlockRequest → Type 0
+AllAbove id [] = Unit {0}
+AllAbove id (r ∷ rs) = (id < r.id) × AllAbove id rs
+
+-- these stand in the rising order of their ids
+abbrev pub IsRising : List BlockRequest → Type 0
+IsRising [] = Unit {0}
+IsRising (r ∷ rs) = AllAbove r.id rs × IsRising rs
+
+-- the open requests stand in the rising order of their ids
+abbrev pub OpenAreRising : Type 0
+OpenAreRising = (marks : List Mark) → IsRising (open_requests marks)
+
 -- two open requests with one id are one
 abbrev pub OneOpenForEachId : Type 0
 OneOpenForEachId =

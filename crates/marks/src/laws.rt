@@ -3,7 +3,7 @@
 ghost use Rattle.std.specs.Prelude.{ℕ, List};
 ghost use Rattle.marks.specs.Marks.{Mark};
 ghost use Rattle.marks.specs.Acts.{Act, Outbox};
-ghost use Rattle.marks.specs.Laws.{BeginningsAreWellFormed, ReceivedIsWellFormed, EachCountedOnce, OpenedByFirstIssue, OpenAreWhole, OpenAreNumbered, OneOpenForEachId, OpenAreApart, OpenWritesAreUnsure, SectorsAreUnsureTogether, NothingIsUnsureAtFirst, MarksChangeDisk, UnwrittenIsImage, ActsCompose, MarksAreTold};
+ghost use Rattle.marks.specs.Laws.{BeginningsAreWellFormed, ReceivedIsWellFormed, EachCountedOnce, OpenedByFirstIssue, OpenAreWhole, OpenAreNumbered, OpenAreRising, OneOpenForEachId, OpenAreApart, OpenWritesAreUnsure, SectorsAreUnsureTogether, NothingIsUnsureAtFirst, MarksChangeDisk, UnwrittenIsImage, ActsCompose, MarksAreTold};
 
 /// A well-formed record has well-formed beginnings.
 #[tactic(auto, using(crate::proofs::Growing::well_formed_beginning))]
@@ -39,6 +39,12 @@ pub fn open_are_whole()
 #[tactic(auto, using(crate::proofs::OpenRequests::open_below))]
 pub fn open_are_numbered()
     ensures { OpenAreNumbered }
+{}
+
+/// The open requests stand in the rising order of their ids.
+#[tactic(auto, using(crate::proofs::Rising::open_are_rising))]
+pub fn open_are_rising()
+    ensures { OpenAreRising }
 {}
 
 /// Two open requests with one id are one.
