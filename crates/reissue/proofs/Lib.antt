@@ -1,0 +1,13 @@
+mod Maps
+mod Places
+mod Finding
+mod Tickets
+mod Writes
+mod Joined
+mod Steps
+mod Answering
+mod Closing
+mod Settling
+mod Messages
+mod Joining
+mod Posting

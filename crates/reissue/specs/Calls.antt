@@ -1,0 +1,161 @@
+-- What each call of transfers adds to the record, and what it does to the disk, to those that are pending, and to what the link guarantees.
+use Rattle.std.specs.Prelude.{◌≡◌, ℕ, ◌+◌, List, [], ◌∷◌, ◌++◌, length, Bool, true, false, ◌==◌, MatchBool, Result, Ok, Err, Option, Some, None}
+use Rattle.message.specs.declared.BlockRequest.{BlockRequest}
+use Rattle.message.specs.declared.Incoming.{Incoming}
+use Rattle.message.specs.declared.Incoming.TheVariants as incoming
+use Rattle.marks.specs.Marks.{Mark}
+use Rattle.marks.specs.Disk.{Contents, HasTrueReplies}
+use Rattle.marks.specs.Told.{Told, Received, grown, received}
+use Rattle.reissue.specs.declared.ask.Ask.{Ask}
+use Rattle.reissue.specs.declared.ask.Settled.{Settled}
+use Rattle.reissue.specs.declared.ask.Settled.TheVariants as settled
+use Rattle.reissue.specs.declared.pending.Pending.{Pending}
+use Rattle.reissue.specs.declared.table.Table.{Table}
+use Rattle.marks.specs.Opening.{Opening, contents_at}
+use Rattle.reissue.specs.Moves.{Begun, Touches, IsQuiet, Spares, Moves, Closes, Joins, state_after, request_for, begun_by}
+use Rattle.reissue.specs.Entries.{pending_of, begun_of, AllOfMinor}
+use Rattle.reissue.specs.Agrees.{Agrees, unposted}
+use Rattle.reissue.specs.Hears.{Hears}
+use Rattle.reissue.specs.Posts.{OnlyPosts, accepted_of, PostsInOrder, PostsAfter, due_after, complaints_about}
+
+-- what a link guarantees of a record, for a run from an opening
+abbrev pub Truth : Type 1
+Truth = Opening → List Mark → Type 0
+
+-- what was posted leads from a record that agrees to one that agrees
+pub record Leads (old new : Table) (before after : List Told) (was is : Truth) : Type 0 where
+  pub posts : List Told
+  pub history : after ≡ posts ++ before
+  pub only_posts : OnlyPosts posts
+  pub same : new.pending ≡ old.pending
+  pub posted : new.posted ≡ old.posted + accepted_of posts
+  pub agrees : (marks : List Mark) → Agrees old marks → Agrees new (grown posts marks)
+  pub spares : (image : Contents) (marks : List Mark) → Agrees old marks
+      → Spares (pending_of old.pending) (state_after image marks) (state_after image (grown posts marks))
+  pub truth : (opening : Opening) (marks : List Mark) → Agrees old marks → AllOfMinor opening.minor old.pending
+      → was opening marks → is opening (grown posts marks)
+
+-- no pending write has a place of a write that was settled
+abbrev pub LeavesQuiet : Settled → (ℕ → Option Begun) → (ℕ → Option Begun) → Type 0
+LeavesQuiet (settled.Written t) old new = (r : Begun) → old t ≡ Some r → (place : ℕ) → Touches r place → IsQuiet new place
+LeavesQuiet (settled.Read t bytes) old new = Unit {0}
+LeavesQuiet settled.Nothing old new = Unit {0}
+LeavesQuiet settled.Flush old new = Unit {0}
+LeavesQuiet settled.GaveUp old new = Unit {0}
+LeavesQuiet settled.End old new = Unit {0}
+
+-- what a message does to the disk, from the one record to the other
+pub record Closing (result : Settled) (old new : List Pending) (marks more : List Mark) : Type 0 where
+  pub moves : (image : Contents) → HasTrueReplies image more
+      → Moves result (pending_of old) (state_after image marks) (state_after image more)
+  pub joins : Joins result (pending_of old) more
+  pub leaves : LeavesQuiet result (pending_of old) (pending_of new)
+
+-- what is done on a message before anything is posted: the complaint that is due
+pub record TakesIn (message : Incoming) (result : Settled) (old mid : Table) (before after : List Told) (was is : Truth) : Type 0 where
+  pub complaints : List Told
+  pub history : after ≡ complaints ++ before
+  pub silent : (marks : List Mark) → grown complaints marks ≡ marks
+  pub due : (marks : List Mark) → Agrees old marks → complaints ≡ complaints_about (due_after message marks)
+  pub hears : (marks : List Mark) → Agrees old marks → Hears message old mid marks
+  pub agrees : (marks : List Mark) → Agrees old marks → Agrees mid (received message marks)
+  pub closes : Closes result (pending_of old.pending) (pending_of mid.pending)
+  pub closing : (marks : List Mark) → Agrees old marks → Closing result old.pending mid.pending marks (received message marks)
+  pub minors : (minor : ℕ) → AllOfMinor minor old.pending → AllOfMinor minor mid.pending
+  pub truth : (opening : Opening) (marks : List Mark) → was opening marks → is opening marks
+
+-- what is done on a message: the complaint that is due, and then the posts
+pub record Absorbs (message : Incoming) (result : Settled) (old new : Table) (before after : List Told) (was is : Truth) : Type 0 where
+  pub mid : Table
+  pub posts : List Told
+  pub complaints : List Told
+  pub history : after ≡ posts ++ (complaints ++ before)
+  pub only_posts : OnlyPosts posts
+  pub silent : (marks : List Mark) → grown complaints marks ≡ marks
+  pub due : (marks : List Mark) → Agrees old marks → complaints ≡ complaints_about (due_after message marks)
+  pub hears : (marks : List Mark) → Agrees old marks → Hears message old mid marks
+  pub in_order : PostsAfter message mid (complaints ++ before) after
+  pub same : new.pending ≡ mid.pending
+  pub posted : new.posted ≡ mid.posted + accepted_of posts
+  pub agrees : (marks : List Mark) → Agrees old marks → Agrees new (grown posts (received message marks))
+  pub closes : Closes result (pending_of old.pending) (pending_of new.pending)
+  pub closing : (marks : List Mark) → Agrees old marks
+      → Closing result old.pending new.pending marks (grown posts (received message marks))
+  pub minors : (minor : ℕ) → AllOfMinor minor old.pending → AllOfMinor minor new.pending
+  pub truth : (opening : Opening) (marks : List Mark) → Agrees old marks → AllOfMinor opening.minor old.pending
+      → was opening (received message marks) → is opening (grown posts (received message marks))
+
+-- a reply settles a request or nothing
+abbrev pub IsOfReply : Settled → Type 0
+IsOfReply settled.Nothing = Unit {0}
+IsOfReply (settled.Read t bytes) = Unit {0}
+IsOfReply (settled.Written t) = Unit {0}
+IsOfReply settled.Flush = ⊥
+IsOfReply settled.GaveUp = ⊥
+IsOfReply settled.End = ⊥
+
+-- what is answered to each message
+abbrev pub IsAnswerTo : Incoming → Settled → Type 0
+IsAnswerTo (incoming.Reply a) result = IsOfReply result
+IsAnswerTo (incoming.Started e) result = result ≡ settled.Nothing
+IsAnswerTo incoming.GaveUp result = result ≡ settled.GaveUp
+IsAnswerTo incoming.Flush result = result ≡ settled.Flush
+IsAnswerTo incoming.End result = result ≡ settled.End
+
+-- a message was taken and absorbed; what was told after it
+pub record Steps (result : Settled) (old new : Table) (before after : List Told) (was is : Truth) : Type 0 where
+  pub message : Incoming
+  pub mid : Table
+  pub posts : List Told
+  pub complaints : List Told
+  pub history : after ≡ posts ++ (complaints ++ (Received message ∷ before))
+  pub only_posts : OnlyPosts posts
+  pub answer : IsAnswerTo message result
+  pub due : (marks : List Mark) → Agrees old marks → complaints ≡ complaints_about (due_after message marks)
+  pub hears : (marks : List Mark) → Agrees old marks → Hears message old mid marks
+  pub in_order : PostsAfter message mid (complaints ++ (Received message ∷ before)) after
+  pub same : new.pending ≡ mid.pending
+  pub posted : new.posted ≡ mid.posted + accepted_of posts
+  pub grows : (marks : List Mark) → grown (posts ++ (complaints ++ (Received message ∷ []))) marks ≡ grown posts (received message marks)
+  pub agrees : (marks : List Mark) → Agrees old marks → Agrees new (grown posts (received message marks))
+  pub closes : Closes result (pending_of old.pending) (pending_of new.pending)
+  pub closing : (marks : List Mark) → Agrees old marks
+      → Closing result old.pending new.pending marks (grown posts (received message marks))
+  pub minors : (minor : ℕ) → AllOfMinor minor old.pending → AllOfMinor minor new.pending
+  pub truth : (opening : Opening) (marks : List Mark) → Agrees old marks → AllOfMinor opening.minor old.pending → was opening marks
+      → is opening (grown posts (received message marks)) × HasTrueReplies (contents_at opening) (grown posts (received message marks))
+
+-- a request was taken up, or refused
+pub record Begins (ask : Ask) (old new : Table) (before after : List Told) (was is : Truth) : Type 0 where
+  pub posts : List Told
+  pub history : after ≡ posts ++ before
+  pub only_posts : OnlyPosts posts
+  pub posted : new.posted ≡ old.posted + accepted_of posts
+  pub agrees : (marks : List Mark) → Agrees old marks → Agrees new (grown posts marks)
+  pub spares : (image : Contents) (marks : List Mark) → Agrees old marks
+      → Spares (pending_of new.pending) (state_after image marks) (state_after image (grown posts marks))
+  pub minors : (minor : ℕ) → ask.minor ≡ minor → AllOfMinor minor old.pending → AllOfMinor minor new.pending
+  pub truth : (opening : Opening) (marks : List Mark) → Agrees old marks → ask.minor ≡ opening.minor
+      → AllOfMinor opening.minor old.pending → was opening marks → is opening (grown posts marks)
+
+-- where each earlier one was posted, the new request is posted; where not, it waits behind them
+abbrev pub PostsNew : Table → BlockRequest → List Told → List Told → Type 0
+PostsNew old r before after = MatchBool (old.posted == length old.pending) (PostsInOrder old.current (r ∷ []) before after) (after ≡ before)
+
+-- the request stands at the end, under the next id
+pub record Adds (ask : Ask) (old new : Table) (before after : List Told) : Type 0 where
+  pub entry : Pending
+  pub pending : new.pending ≡ old.pending ++ entry ∷ []
+  pub begun : begun_of entry ≡ begun_by ask
+  pub request : entry.request ≡ request_for ask (old.ids + 1)
+  pub ids : new.ids ≡ old.ids + 1
+  pub in_order : PostsNew old (request_for ask (old.ids + 1)) before after
+
+-- another message may come
+abbrev pub goes_on : Settled → Bool
+goes_on settled.End = false
+goes_on settled.Nothing = true
+goes_on (settled.Read t bytes) = true
+goes_on (settled.Written t) = true
+goes_on settled.Flush = true
+goes_on settled.GaveUp = true
