@@ -1,0 +1,90 @@
+//! What a file server sees of its drivers: a line to post to, to complain on, and to take messages from.
+
+ghost use Rattle.std.specs.Prelude.{◌≡◌, ◌<◌, ◌≤◌, ◌+◌, ◌∷◌, List, ℕ, is_ok, OnOk, OnErr};
+ghost use Rattle.marks.specs.Marks.{Mark, Issued};
+ghost use Rattle.marks.specs.Open.{MayFollow};
+ghost use Rattle.marks.specs.Disk.{HasTrueReplies};
+ghost use Rattle.marks.specs.Told.{Told, Posted, Complained, received};
+ghost use Rattle.reissue.specs.Opening.{Opening, contents_at, Fits};
+ghost use Rattle.reissue.specs.Refusals.{link_refusal_number};
+ghost use Rattle.reissue.specs.Room.{LeavesRoom};
+
+use endpoint::Endpoint;
+use message::{BlockRequest, Incoming};
+use thiserror::Error;
+
+/// Why a request wasn't posted: nothing was handed over, and it may be posted later.
+#[derive(Clone, Copy, Debug, PartialEq, Eq, Error)]
+pub enum LinkRefusal {
+    /// The driver of this endpoint has ended.
+    #[error("DeadEndpoint")]
+    DeadEndpoint,
+    /// The driver's line is full.
+    #[error("Full")]
+    Full,
+}
+
+impl LinkRefusal {
+    /// Its number: 1 or 2.
+    pub fn number(self) -> u32
+        ensures { result ≡ link_refusal_number self }
+    {
+        match self {
+            LinkRefusal::DeadEndpoint => 1,
+            LinkRefusal::Full => 2,
+        }
+    }
+}
+
+/// A line to the drivers.
+///
+/// Contracts see four things of it. `history` is all that it was told and all that it gave, the newest first.
+/// `budget_left` bounds how many messages it still gives. `room` is how many more posts and complaints it can note
+/// before the next message. `truth` is what the link guarantees of a record for a run that starts from an opening: a
+/// link that guarantees nothing has no record of which it holds.
+pub trait Link {
+    ghost history: { Self → List Told };
+
+    ghost budget_left: { Self → ℕ };
+
+    ghost room: { Self → ℕ };
+
+    ghost truth: { Self → Opening → List Mark → Type 0 };
+
+    /// Hands a request to the driver of this endpoint, or says why not: 1 DeadEndpoint, 2 Full. Either way it is noted.
+    fn post(&mut self, to: Endpoint, request: &BlockRequest) -> Result<(), LinkRefusal>
+        requires { 0 < room self.old }
+        ensures told { history self.new ≡ Posted to request.now (is_ok result) ∷ history self.old }
+        ensures budget { budget_left self.new ≤ budget_left self.old }
+        ensures room { room self.old ≤ room self.new + 1 }
+
+        // What holds of a record holds of it and the issued request, if that may follow and fits.
+        ensures accepted { (opening : Opening) (marks : List Mark) → truth self.old opening marks
+            → OnOk result (MayFollow (Issued request.now to) marks → Fits opening request.now
+                → truth self.new opening (Issued request.now to ∷ marks)) }
+        ensures refused { (opening : Opening) (marks : List Mark) → truth self.old opening marks
+            → OnErr result (truth self.new opening marks) };
+
+    /// Tells the reincarnation server that this driver gave an answer that isn't good.
+    fn complain(&mut self, about: Endpoint)
+        requires { 0 < room self.old }
+        ensures told { history self.new ≡ Complained about ∷ history self.old }
+        ensures budget { budget_left self.new ≤ budget_left self.old }
+        ensures room { room self.old ≤ room self.new + 1 }
+        ensures truth { (opening : Opening) (marks : List Mark) → truth self.old opening marks → truth self.new opening marks };
+
+    /// The next message; End, if the budget is spent or nothing comes any more.
+    fn take(&mut self) -> Incoming
+        ensures told { history self.new ≡ Received result ∷ history self.old }
+        ensures budget { 0 < budget_left self.old → budget_left self.new < budget_left self.old }
+        ensures spent { budget_left self.old ≡ 0 → result ≡ Incoming.End }
+        ensures room { LeavesRoom result (room self.new) }
+
+        // What holds of a record holds of it and the message's mark, and the replies in it are true.
+        ensures truth { (opening : Opening) (marks : List Mark) → truth self.old opening marks
+            → truth self.new opening (received result marks) × HasTrueReplies (contents_at opening) (received result marks) };
+
+    /// How many messages it still gives, at most.
+    fn budget(&self) -> u64
+        ensures { result ≡ budget_left self.now };
+}
