@@ -1,1 +1,9 @@
+mod Maps
 mod Places
+mod Tickets
+mod Writes
+mod Joined
+mod Steps
+mod Answering
+mod Closing
+mod Posting

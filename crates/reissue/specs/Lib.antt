@@ -3,3 +3,10 @@ pub mod Opening
 pub mod Refusals
 pub mod Room
 pub mod Queue
+pub mod Entries
+pub mod LastRead
+pub mod Moves
+pub mod Agrees
+pub mod Hears
+pub mod Posts
+pub mod Calls

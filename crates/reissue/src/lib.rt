@@ -8,3 +8,4 @@ pub mod queue;
 
 pub use ask::{Ask, BeginRefusal, Settled, Ticket};
 pub use link::{Link, LinkRefusal};
+pub mod table;

@@ -1,0 +1,86 @@
+-- What each call of transfers adds to the record, and what it does to the disk, to those that are pending, and to what the link guarantees.
+use Rattle.std.specs.Prelude.{◌≡◌, ℕ, ◌+◌, List, [], ◌∷◌, ◌++◌, length, Bool, true, false, ◌==◌, Result, Ok, Err, Option, Some, None}
+use Rattle.message.specs.declared.Incoming.{Incoming}
+use Rattle.message.specs.declared.Incoming.TheVariants as incoming
+use Rattle.marks.specs.Marks.{Mark}
+use Rattle.marks.specs.Disk.{Contents, HasTrueReplies}
+use Rattle.marks.specs.Told.{Told, Received, grown, received, complaint_due}
+use Rattle.reissue.specs.declared.ask.Ask.{Ask}
+use Rattle.reissue.specs.declared.ask.Settled.{Settled}
+use Rattle.reissue.specs.declared.ask.Settled.TheVariants as settled
+use Rattle.reissue.specs.declared.pending.Pending.{Pending}
+use Rattle.reissue.specs.declared.table.Table.{Table}
+use Rattle.reissue.specs.Opening.{Opening}
+use Rattle.reissue.specs.Moves.{Begun, Touches, IsQuiet, Spares, Moves, Closes, Joins, state_after, request_for}
+use Rattle.reissue.specs.Entries.{pending_of, request_of, AllOfMinor}
+use Rattle.reissue.specs.Agrees.{Agrees, unposted}
+use Rattle.reissue.specs.Hears.{Hears}
+use Rattle.reissue.specs.Posts.{OnlyPosts, PostsInOrder, PostsAfter, complaints_about}
+
+-- what a link guarantees of a record, for a run from an opening
+abbrev pub Truth : Type 1
+Truth = Opening → List Mark → Type 0
+
+-- what was posted leads from a record that agrees to one that agrees
+pub record Leads (old new : Table) (before after : List Told) (was is : Truth) : Type 0 where
+  pub posts : List Told
+  pub history : after ≡ posts ++ before
+  pub only_posts : OnlyPosts posts
+  pub same : new.pending ≡ old.pending
+  pub agrees : (marks : List Mark) → Agrees old marks → Agrees new (grown posts marks)
+  pub spares : (image : Contents) (marks : List Mark) → Agrees old marks
+      → Spares (pending_of old.pending) (state_after image marks) (state_after image (grown posts marks))
+  pub truth : (opening : Opening) (marks : List Mark) → Agrees old marks → AllOfMinor opening.minor old.pending
+      → was opening marks → is opening (grown posts marks)
+
+-- no pending write has a place of a write that was settled
+abbrev pub LeavesQuiet : Settled → (ℕ → Option Begun) → (ℕ → Option Begun) → Type 0
+LeavesQuiet (settled.Written t) old new = (r : Begun) → old t ≡ Some r → (place : ℕ) → Touches r place → IsQuiet new place
+LeavesQuiet (settled.Read t bytes) old new = Unit {0}
+LeavesQuiet settled.Nothing old new = Unit {0}
+LeavesQuiet settled.Flush old new = Unit {0}
+LeavesQuiet settled.GaveUp old new = Unit {0}
+LeavesQuiet settled.End old new = Unit {0}
+
+-- what a message does to the disk, from the one record to the other
+pub record Closing (result : Settled) (old new : List Pending) (marks more : List Mark) : Type 0 where
+  pub moves : (image : Contents) → HasTrueReplies image more
+      → Moves result (pending_of old) (state_after image marks) (state_after image more)
+  pub joins : Joins result (pending_of old) more
+  pub leaves : LeavesQuiet result (pending_of old) (pending_of new)
+
+-- what is done on a message: the complaint that is due, and then the posts
+pub record Absorbs (message : Incoming) (result : Settled) (old new : Table) (before after : List Told) (was is : Truth) : Type 0 where
+  pub mid : Table
+  pub posts : List Told
+  pub complaints : List Told
+  pub history : after ≡ posts ++ (complaints ++ before)
+  pub only_posts : OnlyPosts posts
+  pub silent : (marks : List Mark) → grown complaints marks ≡ marks
+  pub due : (marks : List Mark) → Agrees old marks → complaints ≡ complaints_about (complaint_due (Received message) marks)
+  pub hears : (marks : List Mark) → Agrees old marks → Hears message old mid marks
+  pub in_order : PostsAfter message mid (complaints ++ before) after
+  pub agrees : (marks : List Mark) → Agrees old marks → Agrees new (grown posts (received message marks))
+  pub closes : Closes result (pending_of old.pending) (pending_of new.pending)
+  pub closing : (marks : List Mark) → Agrees old marks
+      → Closing result old.pending new.pending marks (grown posts (received message marks))
+  pub minors : (minor : ℕ) → AllOfMinor minor old.pending → AllOfMinor minor new.pending
+  pub truth : (opening : Opening) (marks : List Mark) → Agrees old marks → AllOfMinor opening.minor old.pending
+      → was opening (received message marks) → is opening (grown posts (received message marks))
+
+-- a reply settles a request or nothing
+abbrev pub IsOfReply : Settled → Type 0
+IsOfReply settled.Nothing = Unit {0}
+IsOfReply (settled.Read t bytes) = Unit {0}
+IsOfReply (settled.Written t) = Unit {0}
+IsOfReply settled.Flush = ⊥
+IsOfReply settled.GaveUp = ⊥
+IsOfReply settled.End = ⊥
+
+-- what is answered to each message
+abbrev pub IsAnswerTo : Incoming → Settled → Type 0
+IsAnswerTo (incoming.Reply a) result = IsOfReply result
+IsAnswerTo (incoming.Started e) result = result ≡ settled.Nothing
+IsAnswerTo incoming.GaveUp result = result ≡ settled.GaveUp
+IsAnswerTo incoming.Flush result = result ≡ settled.Flush
+IsAnswerTo incoming.End result = result ≡ settled.End

@@ -1,0 +1,56 @@
+-- What a link is told: posts in order, complaints that are due, and the room that they need.
+use Rattle.std.specs.Prelude.{◌≡◌, ◌⊎◌, ℕ, ◌+◌, ◌<◌, ◌≤◌, List, [], ◌∷◌, length, Option, Some, None, IsSome, Bool, true, false}
+use Rattle.endpoint.specs.declared.Endpoint.{Endpoint}
+use Rattle.message.specs.declared.BlockRequest.{BlockRequest}
+use Rattle.message.specs.declared.Incoming.{Incoming}
+use Rattle.message.specs.declared.Incoming.TheVariants as incoming
+use Rattle.marks.specs.Told.{Told, Posted, Complained, Received, last_refused}
+use Rattle.reissue.specs.declared.table.Table.{Table}
+use Rattle.reissue.specs.Agrees.{unposted}
+
+-- these are all posts
+abbrev pub OnlyPosts : List Told → Type 0
+OnlyPosts [] = Unit {0}
+OnlyPosts (Posted to r accepted ∷ told) = OnlyPosts told
+OnlyPosts (Complained about ∷ told) = ⊥
+OnlyPosts (Received message ∷ told) = ⊥
+
+-- from the one history to the other these are posted, in order, up to the first that is refused, and nothing else is told
+abbrev pub ArePostedTo : Endpoint → List BlockRequest → List Told → List Told → Type 0
+ArePostedTo to [] before after = after ≡ before
+ArePostedTo to (r ∷ rs) before after =
+    (after ≡ Posted to r false ∷ before) ⊎ ArePostedTo to rs (Posted to r true ∷ before) after
+
+-- they are posted where there is an endpoint to post to
+abbrev pub PostsInOrder : Option Endpoint → List BlockRequest → List Told → List Told → Type 0
+PostsInOrder None rs before after = after ≡ before
+PostsInOrder (Some to) rs before after = ArePostedTo to rs before after
+
+-- what is posted after a message: all that isn't posted yet; nothing after End, which is no message
+abbrev pub PostsAfter : Incoming → Table → List Told → List Told → Type 0
+PostsAfter incoming.End mid before after = after ≡ before
+PostsAfter (incoming.Reply a) mid before after = PostsInOrder mid.current (unposted mid) before after
+PostsAfter (incoming.Started e) mid before after = PostsInOrder mid.current (unposted mid) before after
+PostsAfter incoming.GaveUp mid before after = PostsInOrder mid.current (unposted mid) before after
+PostsAfter incoming.Flush mid before after = PostsInOrder mid.current (unposted mid) before after
+
+-- the complaint about this endpoint, if one is due
+abbrev pub complaints_about : Option Endpoint → List Told
+complaints_about None = []
+complaints_about (Some e) = Complained e ∷ []
+
+-- where something isn't posted though there is an endpoint, its last post was refused
+pub record IsTried (table : Table) (history : List Told) : Type 0 where
+  pub refused : IsSome table.current → table.posted < length table.pending → last_refused history ≡ true
+
+-- the link has room for the posts of the requests that may be begun before the next message
+pub record HasRoom (table : Table) (room : ℕ) : Type 0 where
+  pub enough : IsSome table.current → table.posted ≡ length table.pending → 16 ≤ room + table.posted
+
+-- a message that is absorbed needs this much room: for a complaint and each post, accepted or refused; End needs none
+abbrev pub room_needed : Incoming → ℕ
+room_needed incoming.End = 0
+room_needed (incoming.Reply a) = 33
+room_needed (incoming.Started e) = 33
+room_needed incoming.GaveUp = 33
+room_needed incoming.Flush = 33
