@@ -1,9 +1,11 @@
 mod Maps
 mod Places
+mod Finding
 mod Tickets
 mod Writes
 mod Joined
 mod Steps
 mod Answering
 mod Closing
+mod Settling
 mod Posting

@@ -10,3 +10,4 @@ pub mod Agrees
 pub mod Hears
 pub mod Posts
 pub mod Calls
+pub mod Answers

@@ -1,6 +1,7 @@
 //! Up to sixteen pending requests in a fixed order.
 
-ghost use Rattle.std.specs.Prelude.{◌≡◌, ◌+◌, ◌<◌, ◌≤◌, ◌∷◌, ◌++◌, [], length, remove, IfOk, slice_get, slice_index_or, Some};
+ghost use Rattle.std.specs.Prelude.{◌≡◌, ◌+◌, ◌<◌, ◌≤◌, ◌∷◌, ◌++◌, [], length, remove, IfOk, slice_get, slice_index_or, Some, position, take, ◌==◌, ◌&&◌};
+ghost use Rattle.std.specs.List.{list_any};
 
 use slab::Slab;
 use std::alloc::{AllocError, Global};
@@ -59,6 +60,32 @@ impl Queue {
             Some(entry) => entry,
             None => unreachable!(),
         }
+    }
+
+    /// Where the first of the leading `within` that is under this id stands.
+    pub fn find(&self, id: u64, within: usize) -> Option<usize>
+        requires { within ≤ length self.now }
+        ensures { result ≡ position (λ p. p.request.id == id) (take within self.now) }
+    {
+        for at in 0..within {
+            if self.get(at).request.id == id {
+                return Some(at);
+            }
+        }
+        None
+    }
+
+    /// Whether one has this very range, as it was asked for.
+    pub fn has_range(&self, start: u64, size: u32) -> bool
+        ensures { result ≡ list_any (λ p. (p.start == start) && (p.size == size)) self.now }
+    {
+        for at in 0..self.len() {
+            let entry = self.get(at);
+            if entry.start == start && entry.size == size {
+                return true;
+            }
+        }
+        false
     }
 
     /// Puts one at the end.
