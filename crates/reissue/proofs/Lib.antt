@@ -8,4 +8,5 @@ mod Steps
 mod Answering
 mod Closing
 mod Settling
+mod Messages
 mod Posting

@@ -1,5 +1,6 @@
 -- What each call of transfers adds to the record, and what it does to the disk, to those that are pending, and to what the link guarantees.
-use Rattle.std.specs.Prelude.{◌≡◌, ℕ, ◌+◌, List, [], ◌∷◌, ◌++◌, length, Bool, true, false, ◌==◌, Result, Ok, Err, Option, Some, None}
+use Rattle.std.specs.Prelude.{◌≡◌, ℕ, ◌+◌, List, [], ◌∷◌, ◌++◌, length, Bool, true, false, ◌==◌, MatchBool, Result, Ok, Err, Option, Some, None}
+use Rattle.message.specs.declared.BlockRequest.{BlockRequest}
 use Rattle.message.specs.declared.Incoming.{Incoming}
 use Rattle.message.specs.declared.Incoming.TheVariants as incoming
 use Rattle.marks.specs.Marks.{Mark}
@@ -10,9 +11,9 @@ use Rattle.reissue.specs.declared.ask.Settled.{Settled}
 use Rattle.reissue.specs.declared.ask.Settled.TheVariants as settled
 use Rattle.reissue.specs.declared.pending.Pending.{Pending}
 use Rattle.reissue.specs.declared.table.Table.{Table}
-use Rattle.reissue.specs.Opening.{Opening}
-use Rattle.reissue.specs.Moves.{Begun, Touches, IsQuiet, Spares, Moves, Closes, Joins, state_after, request_for}
-use Rattle.reissue.specs.Entries.{pending_of, request_of, AllOfMinor}
+use Rattle.reissue.specs.Opening.{Opening, contents_at}
+use Rattle.reissue.specs.Moves.{Begun, Touches, IsQuiet, Spares, Moves, Closes, Joins, state_after, request_for, begun_by}
+use Rattle.reissue.specs.Entries.{pending_of, begun_of, AllOfMinor}
 use Rattle.reissue.specs.Agrees.{Agrees, unposted}
 use Rattle.reissue.specs.Hears.{Hears}
 use Rattle.reissue.specs.Posts.{OnlyPosts, PostsInOrder, PostsAfter, complaints_about}
@@ -49,6 +50,19 @@ pub record Closing (result : Settled) (old new : List Pending) (marks more : Lis
   pub joins : Joins result (pending_of old) more
   pub leaves : LeavesQuiet result (pending_of old) (pending_of new)
 
+-- what is done on a message before anything is posted: the complaint that is due
+pub record TakesIn (message : Incoming) (result : Settled) (old mid : Table) (before after : List Told) (was is : Truth) : Type 0 where
+  pub complaints : List Told
+  pub history : after ≡ complaints ++ before
+  pub silent : (marks : List Mark) → grown complaints marks ≡ marks
+  pub due : (marks : List Mark) → Agrees old marks → complaints ≡ complaints_about (complaint_due (Received message) marks)
+  pub hears : (marks : List Mark) → Agrees old marks → Hears message old mid marks
+  pub agrees : (marks : List Mark) → Agrees old marks → Agrees mid (received message marks)
+  pub closes : Closes result (pending_of old.pending) (pending_of mid.pending)
+  pub closing : (marks : List Mark) → Agrees old marks → Closing result old.pending mid.pending marks (received message marks)
+  pub minors : (minor : ℕ) → AllOfMinor minor old.pending → AllOfMinor minor mid.pending
+  pub truth : (opening : Opening) (marks : List Mark) → was opening marks → is opening marks
+
 -- what is done on a message: the complaint that is due, and then the posts
 pub record Absorbs (message : Incoming) (result : Settled) (old new : Table) (before after : List Told) (was is : Truth) : Type 0 where
   pub mid : Table
@@ -84,3 +98,47 @@ IsAnswerTo (incoming.Started e) result = result ≡ settled.Nothing
 IsAnswerTo incoming.GaveUp result = result ≡ settled.GaveUp
 IsAnswerTo incoming.Flush result = result ≡ settled.Flush
 IsAnswerTo incoming.End result = result ≡ settled.End
+
+-- a message was taken and absorbed; what was told after it
+pub record Steps (result : Settled) (old new : Table) (before after : List Told) (was is : Truth) : Type 0 where
+  pub message : Incoming
+  pub mid : Table
+  pub posts : List Told
+  pub complaints : List Told
+  pub history : after ≡ posts ++ (complaints ++ (Received message ∷ before))
+  pub only_posts : OnlyPosts posts
+  pub answer : IsAnswerTo message result
+  pub due : (marks : List Mark) → Agrees old marks → complaints ≡ complaints_about (complaint_due (Received message) marks)
+  pub hears : (marks : List Mark) → Agrees old marks → Hears message old mid marks
+  pub in_order : PostsAfter message mid (complaints ++ (Received message ∷ before)) after
+  pub grows : (marks : List Mark) → grown (posts ++ (complaints ++ (Received message ∷ []))) marks ≡ grown posts (received message marks)
+  pub agrees : (marks : List Mark) → Agrees old marks → Agrees new (grown posts (received message marks))
+  pub closing : (marks : List Mark) → Agrees old marks
+      → Closing result old.pending new.pending marks (grown posts (received message marks))
+  pub truth : (opening : Opening) (marks : List Mark) → Agrees old marks → AllOfMinor opening.minor old.pending → was opening marks
+      → is opening (grown posts (received message marks)) × HasTrueReplies (contents_at opening) (grown posts (received message marks))
+
+-- a request was taken up, or refused
+pub record Begins (ask : Ask) (old new : Table) (before after : List Told) (was is : Truth) : Type 0 where
+  pub posts : List Told
+  pub history : after ≡ posts ++ before
+  pub only_posts : OnlyPosts posts
+  pub agrees : (marks : List Mark) → Agrees old marks → Agrees new (grown posts marks)
+  pub spares : (image : Contents) (marks : List Mark) → Agrees old marks
+      → Spares (pending_of new.pending) (state_after image marks) (state_after image (grown posts marks))
+  pub minors : (minor : ℕ) → ask.minor ≡ minor → AllOfMinor minor old.pending → AllOfMinor minor new.pending
+  pub truth : (opening : Opening) (marks : List Mark) → Agrees old marks → ask.minor ≡ opening.minor
+      → AllOfMinor opening.minor old.pending → was opening marks → is opening (grown posts marks)
+
+-- where each earlier one was posted, the new request is posted; where not, it waits behind them
+abbrev pub PostsNew : Table → BlockRequest → List Told → List Told → Type 0
+PostsNew old r before after = MatchBool (old.posted == length old.pending) (PostsInOrder old.current (r ∷ []) before after) (after ≡ before)
+
+-- the request stands at the end, under the next id
+pub record Adds (ask : Ask) (old new : Table) (before after : List Told) : Type 0 where
+  pub entry : Pending
+  pub pending : new.pending ≡ old.pending ++ entry ∷ []
+  pub begun : begun_of entry ≡ begun_by ask
+  pub request : entry.request ≡ request_for ask (old.ids + 1)
+  pub ids : new.ids ≡ old.ids + 1
+  pub in_order : PostsNew old (request_for ask (old.ids + 1)) before after

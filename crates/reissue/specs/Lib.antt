@@ -11,3 +11,4 @@ pub mod Hears
 pub mod Posts
 pub mod Calls
 pub mod Answers
+pub mod Transfers

@@ -1,5 +1,5 @@
 -- Pending requests and the disk as those who begin requests see them: what each call may change, and what a settled request tells.
-use Rattle.std.specs.Prelude.{◌≡◌, ℕ, ◌+◌, ◌<◌, ◌≤◌, ◌==◌, List, Option, Some, None, Result, Ok, Err, Bool, true, false, if◌then◌else◌, slice_index}
+use Rattle.std.specs.Prelude.{◌≡◌, ◌⊎◌, ℕ, ◌+◌, ◌<◌, ◌≤◌, ◌==◌, List, Option, Some, None, Result, Ok, Err, Bool, true, false, if◌then◌else◌, slice_index}
 use Rattle.message.specs.declared.Kind.{Kind}
 use Rattle.message.specs.declared.Kind.TheVariants.{Read, Write}
 use Rattle.message.specs.declared.BlockRequest.{BlockRequest}
@@ -62,6 +62,11 @@ pub record IsBusy (pending : ℕ → Option Begun) : Type 0 where
   pub ticket : ℕ
   pub request : Begun
   pub is : pending ticket ≡ Some request
+
+-- each pending range is this one or misses it
+pub record IsFree (start size : ℕ) (pending : ℕ → Option Begun) : Type 0 where
+  pub each : (t : ℕ) (r : Begun) → pending t ≡ Some r
+      → ((r.start ≡ start) × (r.size ≡ size)) ⊎ ((start + size ≤ r.start) ⊎ (r.start + r.size ≤ start))
 
 -- what beginning a request does to those that are pending: the ticket is new; a refusal changes nothing
 abbrev pub Opens : Result ℕ BeginRefusal → Begun → (ℕ → Option Begun) → (ℕ → Option Begun) → Type 0

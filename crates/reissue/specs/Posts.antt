@@ -47,10 +47,10 @@ pub record IsTried (table : Table) (history : List Told) : Type 0 where
 pub record HasRoom (table : Table) (room : ℕ) : Type 0 where
   pub enough : IsSome table.current → table.posted ≡ length table.pending → 16 ≤ room + table.posted
 
--- a message that is absorbed needs this much room: for a complaint and each post, accepted or refused; End needs none
-abbrev pub room_needed : Incoming → ℕ
-room_needed incoming.End = 0
-room_needed (incoming.Reply a) = 33
-room_needed (incoming.Started e) = 33
-room_needed incoming.GaveUp = 33
-room_needed incoming.Flush = 33
+-- the link has room for the posts of what is pending
+pub record CanPost (table : Table) (room : ℕ) : Type 0 where
+  pub enough : IsSome table.current → length table.pending ≤ room + table.posted
+
+-- each accepted post took a place of the room at most; so did a refused one, and then something is left unposted
+pub record TakesRoom (old new : Table) (before after : ℕ) : Type 0 where
+  pub left : IsSome old.current → new.posted ≡ length new.pending → before + old.posted ≤ after + new.posted

@@ -7,7 +7,7 @@ ghost use Rattle.marks.specs.Disk.{HasTrueReplies};
 ghost use Rattle.marks.specs.Told.{Told, Posted, Complained, Received, received};
 ghost use Rattle.reissue.specs.Opening.{Opening, contents_at, Fits};
 ghost use Rattle.reissue.specs.Refusals.{link_refusal_number};
-ghost use Rattle.reissue.specs.Room.{LeavesRoom};
+ghost use Rattle.reissue.specs.Room.{room_needed};
 
 use endpoint::Endpoint;
 use message::{BlockRequest, Incoming};
@@ -78,7 +78,7 @@ pub trait Link {
         ensures told { history self.new ≡ Received result ∷ history self.old }
         ensures budget { 0 < budget_left self.old → budget_left self.new < budget_left self.old }
         ensures spent { budget_left self.old ≡ 0 → result ≡ Incoming.End }
-        ensures room { LeavesRoom result (room self.new) }
+        ensures room { room_needed result ≤ room self.new }
 
         // What holds of a record holds of it and the message's mark, and the replies in it are true.
         ensures truth { (opening : Opening) (marks : List Mark) → truth self.old opening marks

@@ -1,0 +1,204 @@
+//! Requests over a link, each pending until it is answered good over its whole range.
+
+ghost use Rattle.std.specs.Prelude.{◌≡◌, ◌+◌, ◌<◌, ◌≤◌, ◌^◌, ◌==◌, ◌&&◌, ◌↔◌, ◌∷◌, [], List, ℕ, length, IsOk, IsTrue, IfOk, OnOk, OnErr, IsErrOf, IsSome, true, false, Option, ◌⊎◌};
+ghost use Rattle.std.specs.Borrow.{Lends, sem};
+ghost use Rattle.std.specs.List.{list_any};
+ghost use Rattle.marks.specs.Told.{last_refused};
+ghost use Rattle.reissue.specs.Room.{room_needed};
+ghost use Rattle.reissue.specs.Moves.{Opens, Closes, IsFree, begun_by};
+ghost use Rattle.reissue.specs.Entries.{pending_of};
+
+use endpoint::Endpoint;
+use message::Incoming;
+use std::alloc::{AllocError, Global};
+
+use crate::ask::{Ask, BeginRefusal, Settled, Ticket};
+use crate::link::Link;
+use crate::table::{Answer, Table};
+
+/// The pending requests of a file server, and the link that they go over.
+///
+/// A request is pending from `begin` until it was answered good over its whole range. Requests get ids that rise by one from 1.
+/// Each new driver is posted all that is pending, in rising order, up to the first that the link refuses; the rest is tried
+/// again after the next message. After a good answer that moved less than was asked for, what is left goes on under a new id.
+/// Of an answer that isn't good the link is told by a complaint, and the request stays pending. Once the device was given up,
+/// nothing is posted any more and no reply counts.
+#[derive(Drop)]
+pub struct Transfers<L> {
+    link: L,
+    table: Table,
+}
+
+impl<L: Link> Transfers<L> {
+    ghost use Rattle.marks.specs.Marks.{Mark};
+    ghost use Rattle.reissue.specs.Agrees.{Agrees, unposted};
+    ghost use Rattle.reissue.specs.Posts.{PostsInOrder, IsTried, HasRoom, CanPost, TakesRoom};
+    ghost use Rattle.reissue.specs.Calls.{Leads, TakesIn, Absorbs, Steps, Begins, Adds, IsAnswerTo};
+    ghost use Rattle.reissue.specs.Transfers.{link_of, table_of, begun_in, with_link};
+    ghost use Rattle.reissue.specs.contracts.transfers.Transfers.{the_row};
+
+    /// Nothing pending, over this link. It takes memory for sixteen requests, and nothing here takes any later.
+    pub fn new(alloc: Global, link: L) -> Result<Transfers<L>, AllocError>
+    where
+        L: Drop,
+        ensures link { IfOk result (λ t. link_of t ≡ link) }
+        ensures pending { IfOk result (λ t. (table_of t).pending ≡ []) }
+        ensures ids { IfOk result (λ t. (table_of t).ids ≡ 0) }
+        ensures current { IfOk result (λ t. (table_of t).current ≡ Option.None) }
+        ensures agrees { IfOk result (λ t. Agrees (table_of t) []) }
+    {
+        Ok(Transfers {
+            link,
+            table: Table::new(alloc)?,
+        })
+    }
+
+    /// How many ids were given.
+    pub fn ids(&self) -> u64
+        ensures { result ≡ (table_of self.now).ids }
+    {
+        self.table.ids
+    }
+
+    /// The link.
+    pub fn link(&self) -> &L
+        ensures { result.now ≡ link_of self.now }
+    {
+        &self.link
+    }
+
+    /// The link, to be changed: what is pending stays as it is.
+    pub fn link_mut(&mut self) -> &mut L
+        ensures* lends { sem 𝓛 (Lends (the_row L.row) L.row self.entry result (with_link self.entry.now)) }
+        ensures value { result.now ≡ link_of self.old }
+    {
+        &mut self.link
+    }
+
+    /// Posts what isn't posted yet, in order, up to the first that is refused.
+    fn post_rest(&mut self)
+        requires { CanPost (table_of self.old) (L.room (link_of self.old)) }
+        ensures leads { Leads (table_of self.old) (table_of self.new) (L.history (link_of self.old)) (L.history (link_of self.new))
+            (L.truth (link_of self.old)) (L.truth (link_of self.new)) }
+        ensures budget { L.budget_left (link_of self.new) ≤ L.budget_left (link_of self.old) }
+        ensures posts { PostsInOrder (table_of self.old).current (unposted (table_of self.old)) (L.history (link_of self.old)) (L.history (link_of self.new)) }
+        ensures ids { (table_of self.new).ids ≡ (table_of self.old).ids }
+        ensures current { (table_of self.new).current ≡ (table_of self.old).current }
+        ensures room { TakesRoom (table_of self.old) (table_of self.new) (L.room (link_of self.old)) (L.room (link_of self.new)) }
+        ensures tried { IsTried (table_of self.new) (L.history (link_of self.new)) }
+    {
+        let Some(to) = self.table.current else { return };
+        while let Some(request) = self.table.next_to_post() {
+            match self.link.post(to, request) {
+                Ok(()) => self.table.count_post(),
+                Err(_) => return,
+            }
+        }
+    }
+
+    /// Does what a message asks for, but for posts.
+    fn take_in(&mut self, message: &Incoming) -> Settled
+        requires ids { (table_of self.old).ids < 2 ^ 60 }
+        requires room { room_needed message.now ≤ L.room (link_of self.old) }
+        ensures takes { TakesIn message.now result (table_of self.old) (table_of self.new) (L.history (link_of self.old)) (L.history (link_of self.new))
+            (L.truth (link_of self.old)) (L.truth (link_of self.new)) }
+        ensures answer { IsAnswerTo message.now result }
+        ensures budget { L.budget_left (link_of self.new) ≤ L.budget_left (link_of self.old) }
+        ensures room { L.room (link_of self.old) ≤ L.room (link_of self.new) + 1 }
+        ensures ids { (table_of self.new).ids ≤ (table_of self.old).ids + 1 }
+    {
+        match message {
+            Incoming::Reply(reply) => match self.table.answer(reply) {
+                Answer::Dropped => Settled::Nothing,
+                Answer::Rest => Settled::Nothing,
+                Answer::Bad => {
+                    self.link.complain(reply.from);
+                    Settled::Nothing
+                }
+                Answer::Read(ticket, bytes) => Settled::Read(ticket, bytes),
+                Answer::Written(ticket) => Settled::Written(ticket),
+            },
+            Incoming::Started(endpoint) => {
+                self.table.restart(*endpoint);
+                Settled::Nothing
+            }
+            Incoming::GaveUp => {
+                self.table.give_up();
+                Settled::GaveUp
+            }
+            Incoming::Flush => Settled::Flush,
+            Incoming::End => Settled::End,
+        }
+    }
+
+    /// Does what a message asks for: a complaint where an answer isn't good, then the posts that are due. End changes nothing.
+    pub fn absorb(&mut self, message: Incoming) -> Settled
+        requires ids { (table_of self.old).ids < 2 ^ 60 }
+        requires room { room_needed message ≤ L.room (link_of self.old) }
+        ensures absorbs { Absorbs message result (table_of self.old) (table_of self.new) (L.history (link_of self.old)) (L.history (link_of self.new))
+            (L.truth (link_of self.old)) (L.truth (link_of self.new)) }
+        ensures answer { IsAnswerTo message result }
+        ensures closes { Closes result (begun_in self.old) (begun_in self.new) }
+        ensures ended { message ≡ Incoming.End → self.new ≡ self.old }
+        ensures budget { L.budget_left (link_of self.new) ≤ L.budget_left (link_of self.old) }
+        ensures room { (message ≡ Incoming.End) ⊎ HasRoom (table_of self.new) (L.room (link_of self.new)) }
+        ensures tried { IsTried (table_of self.old) (L.history (link_of self.old)) → IsTried (table_of self.new) (L.history (link_of self.new)) }
+        ensures ids { (table_of self.new).ids ≤ (table_of self.old).ids + 1 }
+    {
+        if let Incoming::End = message {
+            return Settled::End;
+        }
+        let settled = self.take_in(&message);
+        self.post_rest();
+        settled
+    }
+
+    /// Takes a message and absorbs it.
+    pub fn step(&mut self) -> Settled
+        requires { (table_of self.old).ids < 2 ^ 60 }
+        ensures steps { Steps result (table_of self.old) (table_of self.new) (L.history (link_of self.old)) (L.history (link_of self.new))
+            (L.truth (link_of self.old)) (L.truth (link_of self.new)) }
+        ensures closes { Closes result (begun_in self.old) (begun_in self.new) }
+        ensures budget { 0 < L.budget_left (link_of self.old) → L.budget_left (link_of self.new) < L.budget_left (link_of self.old) }
+        ensures spent { L.budget_left (link_of self.old) ≡ 0 → result ≡ Settled.End }
+        ensures room { (result ≡ Settled.End) ⊎ HasRoom (table_of self.new) (L.room (link_of self.new)) }
+        ensures tried { IsTried (table_of self.old) (L.history (link_of self.old)) → IsTried (table_of self.new) (L.history (link_of self.new)) }
+        ensures ids { (table_of self.new).ids ≤ (table_of self.old).ids + 1 }
+    {
+        let message = self.link.take();
+        self.absorb(message)
+    }
+
+    /// Takes a request up: 1 TableFull where sixteen are pending, 2 BlockPending where one of this very range is. It is posted at
+    /// once where each earlier one was. Its range is that of a pending one, or has no byte in common with any.
+    pub fn begin(&mut self, ask: &Ask) -> Result<Ticket, BeginRefusal>
+        requires ids { (table_of self.old).ids < 2 ^ 60 }
+        requires room { HasRoom (table_of self.old) (L.room (link_of self.old)) }
+        requires free { IsFree ask.now.position ask.now.count (begun_in self.old) }
+        ensures full { IsErrOf result BeginRefusal.TableFull ↔ (length (table_of self.old).pending ≡ 16) }
+        ensures pending { IsErrOf result BeginRefusal.BlockPending
+            ↔ ((length (table_of self.old).pending < 16)
+                × IsTrue (list_any (λ p. (p.start == ask.now.position) && (p.size == ask.now.count)) (table_of self.old).pending)) }
+        ensures refused { OnErr result (self.new ≡ self.old) }
+        ensures adds { OnOk result (Adds ask.now (table_of self.old) (table_of self.new) (L.history (link_of self.old)) (L.history (link_of self.new))) }
+        ensures opens { Opens result (begun_by ask.now) (begun_in self.old) (begun_in self.new) }
+        ensures begins { Begins ask.now (table_of self.old) (table_of self.new) (L.history (link_of self.old)) (L.history (link_of self.new))
+            (L.truth (link_of self.old)) (L.truth (link_of self.new)) }
+        ensures budget { L.budget_left (link_of self.new) ≤ L.budget_left (link_of self.old) }
+        ensures room { HasRoom (table_of self.new) (L.room (link_of self.new)) }
+        ensures tried { IsTried (table_of self.old) (L.history (link_of self.old)) → IsTried (table_of self.new) (L.history (link_of self.new)) }
+    {
+        if self.table.is_full() {
+            return Err(BeginRefusal::TableFull);
+        }
+        if self.table.has_range(ask.position, ask.count) {
+            return Err(BeginRefusal::BlockPending);
+        }
+        let posted = self.table.is_posted();
+        let ticket = self.table.add(ask);
+        if posted {
+            self.post_rest();
+        }
+        Ok(ticket)
+    }
+}
