@@ -9,4 +9,5 @@ mod Answering
 mod Closing
 mod Settling
 mod Messages
+mod Joining
 mod Posting

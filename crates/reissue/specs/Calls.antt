@@ -142,3 +142,12 @@ pub record Adds (ask : Ask) (old new : Table) (before after : List Told) : Type 
   pub request : entry.request ≡ request_for ask (old.ids + 1)
   pub ids : new.ids ≡ old.ids + 1
   pub in_order : PostsNew old (request_for ask (old.ids + 1)) before after
+
+-- another message may come
+abbrev pub goes_on : Settled → Bool
+goes_on settled.End = false
+goes_on settled.Nothing = true
+goes_on (settled.Read t bytes) = true
+goes_on (settled.Written t) = true
+goes_on settled.Flush = true
+goes_on settled.GaveUp = true

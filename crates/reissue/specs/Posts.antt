@@ -1,5 +1,5 @@
 -- What a link is told: posts in order, complaints that are due, and the room that they need.
-use Rattle.std.specs.Prelude.{◌≡◌, ◌⊎◌, ℕ, ◌+◌, ◌<◌, ◌≤◌, List, [], ◌∷◌, length, Option, Some, None, IsSome, Bool, true, false}
+use Rattle.std.specs.Prelude.{◌≡◌, ◌⊎◌, ℕ, ◌+◌, ◌<◌, ◌≤◌, List, [], ◌∷◌, length, Option, Some, None, IsSome, Bool, true, false, MatchBool}
 use Rattle.endpoint.specs.declared.Endpoint.{Endpoint}
 use Rattle.message.specs.declared.BlockRequest.{BlockRequest}
 use Rattle.message.specs.declared.Incoming.{Incoming}
@@ -26,13 +26,17 @@ abbrev pub PostsInOrder : Option Endpoint → List BlockRequest → List Told �
 PostsInOrder None rs before after = after ≡ before
 PostsInOrder (Some to) rs before after = ArePostedTo to rs before after
 
--- what is posted after a message: all that isn't posted yet; nothing after End, which is no message
+-- End is no message
+abbrev pub is_message : Incoming → Bool
+is_message incoming.End = false
+is_message (incoming.Reply a) = true
+is_message (incoming.Started e) = true
+is_message incoming.GaveUp = true
+is_message incoming.Flush = true
+
+-- what is posted after a message: all that isn't posted yet; nothing after End
 abbrev pub PostsAfter : Incoming → Table → List Told → List Told → Type 0
-PostsAfter incoming.End mid before after = after ≡ before
-PostsAfter (incoming.Reply a) mid before after = PostsInOrder mid.current (unposted mid) before after
-PostsAfter (incoming.Started e) mid before after = PostsInOrder mid.current (unposted mid) before after
-PostsAfter incoming.GaveUp mid before after = PostsInOrder mid.current (unposted mid) before after
-PostsAfter incoming.Flush mid before after = PostsInOrder mid.current (unposted mid) before after
+PostsAfter message mid before after = MatchBool (is_message message) (PostsInOrder mid.current (unposted mid) before after) (after ≡ before)
 
 -- the complaint about this endpoint, if one is due
 abbrev pub complaints_about : Option Endpoint → List Told

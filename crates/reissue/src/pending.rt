@@ -1,6 +1,6 @@
 //! A pending request.
 
-ghost use Rattle.std.specs.Prelude.{◌≡◌, ◌+◌, ◌<◌, ◌≤◌, ◌^◌, ◌-◌, ◌%◌, ℕ, slice_index, true, false};
+ghost use Rattle.std.specs.Prelude.{◌≡◌, ◌+◌, ◌<◌, ◌≤◌, ◌^◌, ◌-◌, ◌%◌, ℕ, length, slice_index, true, false};
 ghost use Rattle.message.specs.Good.{is_write};
 
 use message::{BlockRequest, Kind};
@@ -26,6 +26,7 @@ pub struct Pending {
     pub ghost end: { request.position + request.count ≡ start + size },
     pub ghost whole_position: { request.position % 512 ≡ 0 },
     pub ghost whole_count: { request.count % 512 ≡ 0 },
+    pub ghost full: { length request.bytes ≡ 4096 },
 }
 
 /// The bytes from the n-th on, at the front.

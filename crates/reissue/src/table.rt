@@ -82,7 +82,7 @@ impl Table {
 
     /// Whether each pending request was posted to the present endpoint.
     pub fn is_posted(&self) -> bool
-        ensures { IsTrue result ↔ (self.now.posted ≡ length self.now.pending) }
+        ensures { result ≡ (self.now.posted == length self.now.pending) }
     {
         self.posted == self.pending.len()
     }

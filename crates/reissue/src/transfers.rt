@@ -1,10 +1,11 @@
 //! Requests over a link, each pending until it is answered good over its whole range.
 
-ghost use Rattle.std.specs.Prelude.{◌≡◌, ◌+◌, ◌<◌, ◌≤◌, ◌^◌, ◌==◌, ◌&&◌, ◌↔◌, ◌∷◌, [], List, ℕ, length, IsOk, IsTrue, IfOk, OnOk, OnErr, IsErrOf, IsSome, true, false, Option, ◌⊎◌};
+ghost use Rattle.std.specs.Prelude.{◌≡◌, ◌+◌, ◌<◌, ◌≤◌, ◌^◌, ◌==◌, ◌&&◌, ◌↔◌, ◌∷◌, [], List, ℕ, length, IsOk, IsTrue, IfOk, OnOk, OnErr, IsErrOf, IsSome, true, false, Option, MatchBool};
 ghost use Rattle.std.specs.Borrow.{Lends, sem};
 ghost use Rattle.std.specs.List.{list_any};
 ghost use Rattle.marks.specs.Told.{last_refused};
 ghost use Rattle.reissue.specs.Room.{room_needed};
+ghost use Rattle.reissue.specs.Posts.{is_message};
 ghost use Rattle.reissue.specs.Moves.{Opens, Closes, IsFree, begun_by};
 ghost use Rattle.reissue.specs.Entries.{pending_of};
 
@@ -29,11 +30,24 @@ pub struct Transfers<L> {
     table: Table,
 }
 
+/// Whether posts are due after this: after each message, and not after End.
+fn posts_after(message: &Incoming) -> bool
+    ensures { result ≡ is_message message.now }
+{
+    match message {
+        Incoming::End => false,
+        Incoming::Reply(_) => true,
+        Incoming::Started(_) => true,
+        Incoming::GaveUp => true,
+        Incoming::Flush => true,
+    }
+}
+
 impl<L: Link> Transfers<L> {
     ghost use Rattle.marks.specs.Marks.{Mark};
     ghost use Rattle.reissue.specs.Agrees.{Agrees, unposted};
     ghost use Rattle.reissue.specs.Posts.{PostsInOrder, IsTried, HasRoom, CanPost, TakesRoom};
-    ghost use Rattle.reissue.specs.Calls.{Leads, TakesIn, Absorbs, Steps, Begins, Adds, IsAnswerTo};
+    ghost use Rattle.reissue.specs.Calls.{Leads, TakesIn, Absorbs, Steps, Begins, Adds, IsAnswerTo, goes_on};
     ghost use Rattle.reissue.specs.Transfers.{link_of, table_of, begun_in, with_link};
     ghost use Rattle.reissue.specs.contracts.transfers.Transfers.{the_row};
 
@@ -96,6 +110,26 @@ impl<L: Link> Transfers<L> {
         }
     }
 
+    /// Posts what isn't posted yet, if that is due.
+    fn post_if(&mut self, due: bool)
+        requires { due ≡ true → CanPost (table_of self.old) (L.room (link_of self.old)) }
+        ensures leads { Leads (table_of self.old) (table_of self.new) (L.history (link_of self.old)) (L.history (link_of self.new))
+            (L.truth (link_of self.old)) (L.truth (link_of self.new)) }
+        ensures budget { L.budget_left (link_of self.new) ≤ L.budget_left (link_of self.old) }
+        ensures posts { MatchBool due
+            (PostsInOrder (table_of self.old).current (unposted (table_of self.old)) (L.history (link_of self.old)) (L.history (link_of self.new)))
+            (L.history (link_of self.new) ≡ L.history (link_of self.old)) }
+        ensures ids { (table_of self.new).ids ≡ (table_of self.old).ids }
+        ensures current { (table_of self.new).current ≡ (table_of self.old).current }
+        ensures room { due ≡ true → TakesRoom (table_of self.old) (table_of self.new) (L.room (link_of self.old)) (L.room (link_of self.new)) }
+        ensures tried { due ≡ true → IsTried (table_of self.new) (L.history (link_of self.new)) }
+        ensures kept { due ≡ false → self.new ≡ self.old }
+    {
+        if due {
+            self.post_rest();
+        }
+    }
+
     /// Does what a message asks for, but for posts.
     fn take_in(&mut self, message: &Incoming) -> Settled
         requires ids { (table_of self.old).ids < 2 ^ 60 }
@@ -103,6 +137,7 @@ impl<L: Link> Transfers<L> {
         ensures takes { TakesIn message.now result (table_of self.old) (table_of self.new) (L.history (link_of self.old)) (L.history (link_of self.new))
             (L.truth (link_of self.old)) (L.truth (link_of self.new)) }
         ensures answer { IsAnswerTo message.now result }
+        ensures ended { message.now ≡ Incoming.End → self.new ≡ self.old }
         ensures budget { L.budget_left (link_of self.new) ≤ L.budget_left (link_of self.old) }
         ensures room { L.room (link_of self.old) ≤ L.room (link_of self.new) + 1 }
         ensures ids { (table_of self.new).ids ≤ (table_of self.old).ids + 1 }
@@ -141,15 +176,13 @@ impl<L: Link> Transfers<L> {
         ensures closes { Closes result (begun_in self.old) (begun_in self.new) }
         ensures ended { message ≡ Incoming.End → self.new ≡ self.old }
         ensures budget { L.budget_left (link_of self.new) ≤ L.budget_left (link_of self.old) }
-        ensures room { (message ≡ Incoming.End) ⊎ HasRoom (table_of self.new) (L.room (link_of self.new)) }
+        ensures room { is_message message ≡ true → HasRoom (table_of self.new) (L.room (link_of self.new)) }
         ensures tried { IsTried (table_of self.old) (L.history (link_of self.old)) → IsTried (table_of self.new) (L.history (link_of self.new)) }
         ensures ids { (table_of self.new).ids ≤ (table_of self.old).ids + 1 }
     {
-        if let Incoming::End = message {
-            return Settled::End;
-        }
+        let due = posts_after(&message);
         let settled = self.take_in(&message);
-        self.post_rest();
+        self.post_if(due);
         settled
     }
 
@@ -161,7 +194,7 @@ impl<L: Link> Transfers<L> {
         ensures closes { Closes result (begun_in self.old) (begun_in self.new) }
         ensures budget { 0 < L.budget_left (link_of self.old) → L.budget_left (link_of self.new) < L.budget_left (link_of self.old) }
         ensures spent { L.budget_left (link_of self.old) ≡ 0 → result ≡ Settled.End }
-        ensures room { (result ≡ Settled.End) ⊎ HasRoom (table_of self.new) (L.room (link_of self.new)) }
+        ensures room { goes_on result ≡ true → HasRoom (table_of self.new) (L.room (link_of self.new)) }
         ensures tried { IsTried (table_of self.old) (L.history (link_of self.old)) → IsTried (table_of self.new) (L.history (link_of self.new)) }
         ensures ids { (table_of self.new).ids ≤ (table_of self.old).ids + 1 }
     {
@@ -194,11 +227,9 @@ impl<L: Link> Transfers<L> {
         if self.table.has_range(ask.position, ask.count) {
             return Err(BeginRefusal::BlockPending);
         }
-        let posted = self.table.is_posted();
+        let due = self.table.is_posted();
         let ticket = self.table.add(ask);
-        if posted {
-            self.post_rest();
-        }
+        self.post_if(due);
         Ok(ticket)
     }
 }

@@ -1,0 +1,41 @@
+use Rattle.std.proofs.Common.{rules, sym, ◌∙◌, ap, ◌≡◌, ◌<◌, ◌≤◌, arith, refl, length, List}
+use Rattle.message.specs.declared.BlockRequest.{BlockRequest}
+use Rattle.reissue.specs.Entries.{pending_of}
+use Rattle.reissue.proofs.Posting.{busy, busy_any}
+use Rattle.reissue.proofs.Joining.{begins_add, posts_new, free_list}
+use Rattle.reissue.proofs.transfers.Transfers.begin.Goals as goal
+
+pub add-ticket-requires-clause-free : goal.add-ticket-requires-clause-free
+add-ticket-requires-clause-free g c = free_list _ _ c.args.self.now.table.pending c.args.self.now.table.numbers.distinct c.requires.free
+
+pub returns-then-is_full-clause-opens : goal.returns-then-is_full-clause-opens
+returns-then-is_full-clause-opens g c =
+    let full : 16 ≤ length c.args.self.now.table.pending = search rules in
+    (refl, busy c.args.self.now.table.pending (omega (arith, full)))
+
+pub returns-then-has_range-clause-opens : goal.returns-then-has_range-clause-opens
+returns-then-has_range-clause-opens g c =
+    (refl, busy_any _ c.args.self.now.table.pending (sym c.has_range.ensures ∙ c.if-has_range.true))
+
+pub returns-clause-adds : goal.returns-clause-adds
+returns-clause-adds g c =
+    let a = c.add-ticket.ensures in
+    let l = c.post_if.ensures.leads in
+    record {
+      entry = a.added.0;
+      pending = l.same ∙ a.added.1;
+      begun = a.added.2;
+      request = a.added.3;
+      ids = c.post_if.ensures.ids ∙ a.ids;
+      in_order = posts_new c.args.self.now.table c.add-ticket.new.self a.added.0 _ _ _ _ c.is_posted-due.ensures a.added.1 a.posted a.current a.added.3 c.post_if.ensures.posts;
+    }
+
+pub returns-clause-opens : goal.returns-clause-opens
+returns-clause-opens g c =
+    let a = c.add-ticket.ensures in
+    (a.fresh, ap pending_of c.post_if.ensures.leads.same ∙ a.opens)
+
+pub returns-clause-begins : goal.returns-clause-begins
+returns-clause-begins g c =
+    let a = c.add-ticket.ensures in
+    begins_add _ _ _ _ a.added.0 _ _ _ _ a.agrees a.added.1 (ap (λ (r : BlockRequest). r.minor) a.added.3) c.post_if.ensures.leads
