@@ -16,7 +16,7 @@ use Rattle.reissue.specs.Moves.{Begun, Touches, IsQuiet, Spares, Moves, Closes, 
 use Rattle.reissue.specs.Entries.{pending_of, begun_of, AllOfMinor}
 use Rattle.reissue.specs.Agrees.{Agrees, unposted}
 use Rattle.reissue.specs.Hears.{Hears}
-use Rattle.reissue.specs.Posts.{OnlyPosts, PostsInOrder, PostsAfter, complaints_about}
+use Rattle.reissue.specs.Posts.{OnlyPosts, accepted_of, PostsInOrder, PostsAfter, complaints_about}
 
 -- what a link guarantees of a record, for a run from an opening
 abbrev pub Truth : Type 1
@@ -28,6 +28,7 @@ pub record Leads (old new : Table) (before after : List Told) (was is : Truth) :
   pub history : after ≡ posts ++ before
   pub only_posts : OnlyPosts posts
   pub same : new.pending ≡ old.pending
+  pub posted : new.posted ≡ old.posted + accepted_of posts
   pub agrees : (marks : List Mark) → Agrees old marks → Agrees new (grown posts marks)
   pub spares : (image : Contents) (marks : List Mark) → Agrees old marks
       → Spares (pending_of old.pending) (state_after image marks) (state_after image (grown posts marks))
@@ -74,6 +75,8 @@ pub record Absorbs (message : Incoming) (result : Settled) (old new : Table) (be
   pub due : (marks : List Mark) → Agrees old marks → complaints ≡ complaints_about (complaint_due (Received message) marks)
   pub hears : (marks : List Mark) → Agrees old marks → Hears message old mid marks
   pub in_order : PostsAfter message mid (complaints ++ before) after
+  pub same : new.pending ≡ mid.pending
+  pub posted : new.posted ≡ mid.posted + accepted_of posts
   pub agrees : (marks : List Mark) → Agrees old marks → Agrees new (grown posts (received message marks))
   pub closes : Closes result (pending_of old.pending) (pending_of new.pending)
   pub closing : (marks : List Mark) → Agrees old marks
@@ -111,10 +114,14 @@ pub record Steps (result : Settled) (old new : Table) (before after : List Told)
   pub due : (marks : List Mark) → Agrees old marks → complaints ≡ complaints_about (complaint_due (Received message) marks)
   pub hears : (marks : List Mark) → Agrees old marks → Hears message old mid marks
   pub in_order : PostsAfter message mid (complaints ++ (Received message ∷ before)) after
+  pub same : new.pending ≡ mid.pending
+  pub posted : new.posted ≡ mid.posted + accepted_of posts
   pub grows : (marks : List Mark) → grown (posts ++ (complaints ++ (Received message ∷ []))) marks ≡ grown posts (received message marks)
   pub agrees : (marks : List Mark) → Agrees old marks → Agrees new (grown posts (received message marks))
+  pub closes : Closes result (pending_of old.pending) (pending_of new.pending)
   pub closing : (marks : List Mark) → Agrees old marks
       → Closing result old.pending new.pending marks (grown posts (received message marks))
+  pub minors : (minor : ℕ) → AllOfMinor minor old.pending → AllOfMinor minor new.pending
   pub truth : (opening : Opening) (marks : List Mark) → Agrees old marks → AllOfMinor opening.minor old.pending → was opening marks
       → is opening (grown posts (received message marks)) × HasTrueReplies (contents_at opening) (grown posts (received message marks))
 
@@ -123,6 +130,7 @@ pub record Begins (ask : Ask) (old new : Table) (before after : List Told) (was 
   pub posts : List Told
   pub history : after ≡ posts ++ before
   pub only_posts : OnlyPosts posts
+  pub posted : new.posted ≡ old.posted + accepted_of posts
   pub agrees : (marks : List Mark) → Agrees old marks → Agrees new (grown posts marks)
   pub spares : (image : Contents) (marks : List Mark) → Agrees old marks
       → Spares (pending_of new.pending) (state_after image marks) (state_after image (grown posts marks))

@@ -15,6 +15,14 @@ OnlyPosts (Posted to r accepted ∷ told) = OnlyPosts told
 OnlyPosts (Complained about ∷ told) = ⊥
 OnlyPosts (Received message ∷ told) = ⊥
 
+-- how many of them were accepted
+abbrev pub accepted_of : List Told → ℕ
+accepted_of [] = 0
+accepted_of (Posted to r true ∷ told) = accepted_of told + 1
+accepted_of (Posted to r false ∷ told) = accepted_of told
+accepted_of (Complained about ∷ told) = accepted_of told
+accepted_of (Received message ∷ told) = accepted_of told
+
 -- from the one history to the other these are posted, in order, up to the first that is refused, and nothing else is told
 abbrev pub ArePostedTo : Endpoint → List BlockRequest → List Told → List Told → Type 0
 ArePostedTo to [] before after = after ≡ before

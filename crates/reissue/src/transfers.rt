@@ -6,7 +6,7 @@ ghost use Rattle.std.specs.List.{list_any};
 ghost use Rattle.marks.specs.Told.{last_refused};
 ghost use Rattle.reissue.specs.Room.{room_needed};
 ghost use Rattle.reissue.specs.Posts.{is_message};
-ghost use Rattle.reissue.specs.Moves.{Opens, Closes, IsFree, begun_by};
+ghost use Rattle.reissue.specs.Moves.{Opens, IsFree, begun_by};
 ghost use Rattle.reissue.specs.Entries.{pending_of};
 
 use endpoint::Endpoint;
@@ -173,7 +173,6 @@ impl<L: Link> Transfers<L> {
         ensures absorbs { Absorbs message result (table_of self.old) (table_of self.new) (L.history (link_of self.old)) (L.history (link_of self.new))
             (L.truth (link_of self.old)) (L.truth (link_of self.new)) }
         ensures answer { IsAnswerTo message result }
-        ensures closes { Closes result (begun_in self.old) (begun_in self.new) }
         ensures ended { message ≡ Incoming.End → self.new ≡ self.old }
         ensures budget { L.budget_left (link_of self.new) ≤ L.budget_left (link_of self.old) }
         ensures room { is_message message ≡ true → HasRoom (table_of self.new) (L.room (link_of self.new)) }
@@ -191,7 +190,6 @@ impl<L: Link> Transfers<L> {
         requires { (table_of self.old).ids < 2 ^ 60 }
         ensures steps { Steps result (table_of self.old) (table_of self.new) (L.history (link_of self.old)) (L.history (link_of self.new))
             (L.truth (link_of self.old)) (L.truth (link_of self.new)) }
-        ensures closes { Closes result (begun_in self.old) (begun_in self.new) }
         ensures budget { 0 < L.budget_left (link_of self.old) → L.budget_left (link_of self.new) < L.budget_left (link_of self.old) }
         ensures spent { L.budget_left (link_of self.old) ≡ 0 → result ≡ Settled.End }
         ensures room { goes_on result ≡ true → HasRoom (table_of self.new) (L.room (link_of self.new)) }
@@ -214,6 +212,7 @@ impl<L: Link> Transfers<L> {
                 × IsTrue (list_any (λ p. (p.start == ask.now.position) && (p.size == ask.now.count)) (table_of self.old).pending)) }
         ensures refused { OnErr result (self.new ≡ self.old) }
         ensures adds { OnOk result (Adds ask.now (table_of self.old) (table_of self.new) (L.history (link_of self.old)) (L.history (link_of self.new))) }
+        ensures ticket { IfOk result (λ t. t ≡ (table_of self.old).ids + 1) }
         ensures opens { Opens result (begun_by ask.now) (begun_in self.old) (begun_in self.new) }
         ensures begins { Begins ask.now (table_of self.old) (table_of self.new) (L.history (link_of self.old)) (L.history (link_of self.new))
             (L.truth (link_of self.old)) (L.truth (link_of self.new)) }
