@@ -1,6 +1,5 @@
 -- When a record is legal: each answer is that of the tree, which each call moves once.
-use Rattle.std.specs.Prelude.{◌≡◌, ◌⊎◌, ℕ, ◌+◌, ◌*◌, List, [], ◌∷◌, Bool, true, false, ◌&&◌, ◌==◌, nat_lt, if◌then◌else◌, IsTrue}
-use Rattle.errno.specs.Numbers.{number_of}
+use Rattle.std.specs.Prelude.{◌≡◌, ◌⊎◌, ℕ, List, [], ◌∷◌, Bool, true, false, ◌&&◌, if◌then◌else◌, IsTrue}
 use Rattle.errno.specs.declared.Errno.TheVariants.{EIO, ENOMEM}
 use Rattle.layout.specs.declared.Geometry.{Geometry}
 use Rattle.tree.specs.declared.Who.{Who}
@@ -10,15 +9,10 @@ use Rattle.tree.specs.Tree.{Tree}
 use Rattle.tree.specs.IsTree.{IsClosed}
 use Rattle.tree.specs.Answers.{Answer, refused}
 use Rattle.tree.specs.Effects.{reply_to, tree_after_call, may_want_memory}
-use Rattle.volume.specs.Reading.{Disk}
+use Rattle.volume.specs.Reading.{blocks_of}
 use Rattle.volume.specs.Holds.{Holds}
 use Rattle.marks.specs.Marks.{Mark, Took, gave_up}
 use Rattle.marks.specs.Disk.{Contents, disk_after, IsSure}
-
--- a volume's contents, from block to offset to byte
-abbrev pub blocks_of : Geometry → Contents → Disk
-blocks_of g contents = λ block offset.
-    if nat_lt offset g.block_size then contents (block * g.block_size + offset) else 0
 
 -- the image holds the tree, in which no file is open
 pub record IsAtFirst (g : Geometry) (image : Contents) (tree : Tree) : Type 0 where
@@ -32,7 +26,7 @@ is_success _ = true
 
 -- whether the answer is want of memory
 abbrev pub is_no_memory : Answer → Bool
-is_no_memory (refused e) = number_of e == number_of ENOMEM
+is_no_memory (refused ENOMEM) = true
 is_no_memory _ = false
 
 -- whether the call is sync

@@ -2,11 +2,11 @@
 use Rattle.std.specs.Prelude.{ℕ, ◌/◌, List, Option, Some, None, IsSome, IsTrue, slice_index}
 use Rattle.layout.specs.declared.Geometry.{Geometry}
 use Rattle.tree.specs.Tree.{Tree}
-use Rattle.volume.specs.Reading.{Disk}
+use Rattle.volume.specs.Reading.{Disk, blocks_of}
 use Rattle.volume.specs.Holds.{Holds}
 use Rattle.marks.specs.Marks.{Mark}
 use Rattle.marks.specs.Disk.{Contents, disk_after, unsure}
-use Rattle.legal.specs.Legal.{blocks_of, tree_after}
+use Rattle.legal.specs.Legal.{tree_after}
 
 -- the bytes of the frame of each block that has one, a block's length of them
 abbrev pub Frames : Type 0

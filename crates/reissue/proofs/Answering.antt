@@ -14,15 +14,16 @@ use Rattle.reissue.specs.declared.pending.Pending.{Pending}
 use Rattle.reissue.specs.declared.table.Table.{Table}
 use Rattle.reissue.proofs.Steps.{started_at}
 use Rattle.reissue.specs.Hears.{counted_move}
-use Rattle.reissue.specs.LastRead.{last_read}
+use Rattle.marks.specs.Disk.{bytes_read}
 use Rattle.reissue.proofs.Joined.{joined_like, joined_answered, joined_rest, joined_push, joined_out}
 use Rattle.reissue.proofs.Writes.{same_at, all_wrote_answered, wrote_rest, wrote_like, wrote_push, wrote_out, wrote_all}
 use Rattle.marks.specs.Disk.{Contents, HasTrueReplies, IsTrueOf, disk_after, settles, unsure}
 use Rattle.marks.specs.Marks.{gave_up, last_started, Answered, Mark, is_endpoint, last_started}
 use Rattle.marks.specs.Open.{asked_by, counts, greatest, moved, moved_by, open_requests, with_id, without_id}
-use Rattle.marks.specs.Told.{Received, complaint_due, AreNumbered, received}
+use Rattle.marks.specs.Told.{received}
 use Rattle.message.specs.Good.{is_write}
-use Rattle.reissue.specs.Agrees.{IsJoined, target, Agrees, AllApart, AllReadDisk, Apart, ApartFromAll, Holds, ReadsDisk, Wrote}
+use Rattle.marks.specs.Acts.{complaint_due}
+use Rattle.reissue.specs.Agrees.{AreNumbered, IsJoined, target, Agrees, AllApart, AllReadDisk, Apart, ApartFromAll, Holds, ReadsDisk, Wrote}
 use Rattle.reissue.specs.Entries.{MissesOrSame, request_of}
 
 -- the first entry with this id, with those before and after it
@@ -368,7 +369,7 @@ pub done_joined : (t v : Table) (marks : List Mark) (a : BlockReply) (e r : Pend
     → r.start ≡ e.start → r.size ≡ e.size → r.request.position ≡ e.request.position + n → r.request.count ≡ 0
     → ((k : ℕ) → e.start + k < e.request.position → slice_index r.bytes k ≡ slice_index e.bytes k)
     → ((k : ℕ) → k < n → slice_index r.bytes (e.request.position - e.start + k) ≡ slice_index a.bytes k)
-    → (k : ℕ) → k < e.size → slice_index r.bytes k ≡ last_read (Answered a ∷ marks) (e.start + k)
+    → (k : ℕ) → k < e.size → slice_index r.bytes k ≡ bytes_read (Answered a ∷ marks) (e.start + k)
 done_joined t v marks a e r n x m read start size position none before new k lt =
     let all = joined_rest marks a e r n x.there m read (x.joined read) start position before new in
     let end : r.request.position ≡ r.start + r.size = omega (arith, r.end) in
@@ -472,7 +473,7 @@ agrees_bad t marks a r h from w m =
 -- a reply that is dropped leaves no mark and asks for no complaint
 pub record Dropped (marks : List Mark) (a : BlockReply) : Type 0 where
   pub stays : received (incoming.Reply a) marks ≡ marks
-  pub due : complaint_due (Received (incoming.Reply a)) marks ≡ None
+  pub due : complaint_due a marks ≡ None
   pub moves : counted_move marks a ≡ None
 
 dropped : (marks : List Mark) (a : BlockReply) → counts marks a ≡ false → Dropped marks a
@@ -488,7 +489,7 @@ dropped_unknown t marks a h e = dropped marks a (counts_none marks a (not_found 
 -- a reply that counts leaves its mark, and asks for a complaint where it isn't good
 pub record Counted (marks : List Mark) (a : BlockReply) (m : Option ℕ) : Type 0 where
   pub grows : received (incoming.Reply a) marks ≡ Answered a ∷ marks
-  pub due : complaint_due (Received (incoming.Reply a)) marks ≡ cond (not (is_some m)) (Some a.from) None
+  pub due : complaint_due a marks ≡ cond (not (is_some m)) (Some a.from) None
   pub moves : moved_by a marks ≡ m
   pub counted : counted_move marks a ≡ m
 

@@ -9,7 +9,7 @@ use Rattle.message.specs.declared.BlockReply.{BlockReply}
 use Rattle.marks.specs.Marks.{Mark, Answered}
 use Rattle.marks.specs.Open.{asked_by, moved_by}
 use Rattle.reissue.specs.declared.pending.Pending.{Pending}
-use Rattle.reissue.specs.LastRead.{reads, last_read}
+use Rattle.marks.specs.Disk.{fetches, bytes_read}
 use Rattle.reissue.specs.Agrees.{ApartFromAll, IsJoined, AllJoined}
 
 not_within : (w : Bool) (position n place : ℕ) → (place < position) ⊎ (position + n ≤ place)
@@ -23,24 +23,24 @@ within false position n place e h k = grind (arith, nat_tests)
 within true position n place e h k = cc
 
 -- at a place that the answer didn't cover
-last_read_other : (marks : List Mark) (a : BlockReply) (r : BlockRequest) (n place : ℕ) → asked_by a marks ≡ Some r → moved_by a marks ≡ Some n
-    → (place < r.position) ⊎ (r.position + n ≤ place) → last_read (Answered a ∷ marks) place ≡ last_read marks place
-last_read_other marks a r n place w m o = rw (m, w) (kept o) where
+bytes_read_other : (marks : List Mark) (a : BlockReply) (r : BlockRequest) (n place : ℕ) → asked_by a marks ≡ Some r → moved_by a marks ≡ Some n
+    → (place < r.position) ⊎ (r.position + n ≤ place) → bytes_read (Answered a ∷ marks) place ≡ bytes_read marks place
+bytes_read_other marks a r n place w m o = rw (m, w) (kept o) where
   kept : (place < r.position) ⊎ (r.position + n ≤ place)
-      → cond (reads (Some r) (Some n) place) (slice_index a.bytes (place - r.position)) (last_read marks place) ≡ last_read marks place
-  kept h = ap (λ (b : Bool). cond b (slice_index a.bytes (place - r.position)) (last_read marks place))
+      → cond (fetches (Some r) (Some n) place) (slice_index a.bytes (place - r.position)) (bytes_read marks place) ≡ bytes_read marks place
+  kept h = ap (λ (b : Bool). cond b (slice_index a.bytes (place - r.position)) (bytes_read marks place))
       (not_within (is_write r.kind) r.position n place h)
 
 -- and at one that it did
-last_read_here : (marks : List Mark) (a : BlockReply) (r : BlockRequest) (n place : ℕ) → asked_by a marks ≡ Some r → moved_by a marks ≡ Some n
+bytes_read_here : (marks : List Mark) (a : BlockReply) (r : BlockRequest) (n place : ℕ) → asked_by a marks ≡ Some r → moved_by a marks ≡ Some n
     → is_write r.kind ≡ false → r.position ≤ place → place < r.position + n
-    → last_read (Answered a ∷ marks) place ≡ slice_index a.bytes (place - r.position)
-last_read_here marks a r n place w m read from to = rw (m, w)
-    (cond-true (reads (Some r) (Some n) place) (slice_index a.bytes (place - r.position)) (last_read marks place)
+    → bytes_read (Answered a ∷ marks) place ≡ slice_index a.bytes (place - r.position)
+bytes_read_here marks a r n place w m read from to = rw (m, w)
+    (cond-true (fetches (Some r) (Some n) place) (slice_index a.bytes (place - r.position)) (bytes_read marks place)
       (within (is_write r.kind) r.position n place read from to))
 
 -- marks that aren't good answers leave the bytes joined
-pub joined_like : (marks more : List Mark) (ps : List Pending) → ((place : ℕ) → last_read more place ≡ last_read marks place)
+pub joined_like : (marks more : List Mark) (ps : List Pending) → ((place : ℕ) → bytes_read more place ≡ bytes_read marks place)
     → AllJoined marks ps → AllJoined more ps
 joined_like marks more [] e h = tt
 joined_like marks more (p ∷ ps) e h =
@@ -55,7 +55,7 @@ joined_answered marks a q n (p ∷ ps) w m le ap' h =
     (λ read. record { each = λ k lt.
       let out : (p.start + k < q.request.position) ⊎ (q.request.position + n ≤ p.start + k) =
           elim (ap'.0.apart) [ inl l ↦ inr (omega (arith, l, q.end)) | inr l ↦ inl (omega (arith, l, p.end, q.from)) ] in
-      (h.0 read).each k lt ∙ sym (last_read_other marks a q.request n (p.start + k) w m out) },
+      (h.0 read).each k lt ∙ sym (bytes_read_other marks a q.request n (p.start + k) w m out) },
     joined_answered marks a q n ps w m le ap'.1 h.1)
 
 -- what was read so far and the answer's bytes
@@ -67,16 +67,16 @@ pub joined_rest : (marks : List Mark) (a : BlockReply) (q r : Pending) (n : ℕ)
     → ((k : ℕ) → k < n → slice_index r.bytes (q.request.position - q.start + k) ≡ slice_index a.bytes k)
     → IsJoined (Answered a ∷ marks) r
 joined_rest marks a q r n w m read old start position before new = record { each = λ k lt. rw start (here k (omega (arith, lt, start, position))) } where
-  here : (k : ℕ) → q.start + k < q.request.position + n → slice_index r.bytes k ≡ last_read (Answered a ∷ marks) (q.start + k)
+  here : (k : ℕ) → q.start + k < q.request.position + n → slice_index r.bytes k ≡ bytes_read (Answered a ∷ marks) (q.start + k)
   here k lt = elim (leb_tells (q.start + k + 1) q.request.position) [
       inl h ↦ before k (omega (arith, h.1)) ∙ old.each k (omega (arith, h.1))
-        ∙ sym (last_read_other marks a q.request n (q.start + k) w m (inl (omega (arith, h.1))))
+        ∙ sym (bytes_read_other marks a q.request n (q.start + k) w m (inl (omega (arith, h.1))))
     | inr h ↦
         let j = q.start + k - q.request.position in
         let at : q.request.position - q.start + j ≡ k = omega (arith, h.1, q.from) in
         let less : j < n = omega (arith, h.1, lt) in
         ap (λ (x : ℕ). slice_index r.bytes x) (sym at) ∙ new j less
-        ∙ sym (last_read_here marks a q.request n (q.start + k) w m read (omega (arith, h.1)) lt)
+        ∙ sym (bytes_read_here marks a q.request n (q.start + k) w m read (omega (arith, h.1)) lt)
     ]
 
 -- one more, and one less

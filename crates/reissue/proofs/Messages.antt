@@ -7,18 +7,19 @@ use Rattle.message.specs.declared.Incoming.{Incoming}
 use Rattle.message.specs.declared.Incoming.TheVariants as incoming
 use Rattle.marks.specs.Marks.{Mark, Started, Flush, GaveUp, gave_up, last_started}
 use Rattle.marks.specs.Disk.{Contents, unsure, disk_after}
-use Rattle.marks.specs.Told.{Told, Received, Complained, received, grown, complaint_due}
+use Rattle.marks.specs.Told.{Told, Received, Complained, received, grown}
 use Rattle.reissue.specs.declared.pending.Pending.{Pending}
 use Rattle.reissue.specs.declared.table.Table.{Table}
 use Rattle.reissue.specs.declared.table.Answer.{Answer}
 use Rattle.reissue.specs.declared.ask.Settled.{Settled}
 use Rattle.reissue.specs.declared.ask.Settled.TheVariants as settled
 use Rattle.reissue.specs.Opening.{Opening}
-use Rattle.reissue.specs.LastRead.{last_read}
+use Rattle.marks.specs.Disk.{bytes_read}
 use Rattle.reissue.specs.Moves.{Closes, Spares, Moves, Tells}
 use Rattle.reissue.specs.Entries.{pending_of, AllOfMinor}
 use Rattle.reissue.specs.Agrees.{Agrees, Holds, target, AllReadDisk, ReadsDisk}
 use Rattle.reissue.specs.Hears.{Hears, HearsStart, HearsAnswer, counted_move}
+use Rattle.marks.specs.Acts.{complaint_due}
 use Rattle.reissue.specs.Posts.{complaints_about}
 use Rattle.reissue.specs.Calls.{Truth, TakesIn, Closing}
 use Rattle.reissue.specs.Answers.{is_bad, settled_of, complained}
@@ -92,7 +93,7 @@ pub takes_reply : (message : Incoming) (a : BlockReply) (r : Answer) (t u : Tabl
     → message ≡ incoming.Reply a
     → ((marks : List Mark) → Agrees t marks → Agrees u (received (incoming.Reply a) marks))
     → ((marks : List Mark) → Agrees t marks → HearsAnswer t u a.id (counted_move marks a))
-    → ((marks : List Mark) → Agrees t marks → complained r a ≡ complaints_about (complaint_due (Received (incoming.Reply a)) marks))
+    → ((marks : List Mark) → Agrees t marks → complained r a ≡ complaints_about (complaint_due a marks))
     → Closes (settled_of r) (pending_of t.pending) (pending_of u.pending)
     → ((marks : List Mark) → Agrees t marks → Closing (settled_of r) t.pending u.pending marks (received (incoming.Reply a) marks))
     → ((minor : ℕ) → AllOfMinor minor t.pending → AllOfMinor minor u.pending)

@@ -16,7 +16,7 @@ use Rattle.marks.specs.Told.{Complained, Posted, Received, Told, grown}
 use Rattle.reissue.specs.Agrees.{Agrees}
 use Rattle.reissue.specs.Calls.{Closing, Leads, LeavesQuiet}
 use Rattle.reissue.specs.Entries.{begun_of, pending_of}
-use Rattle.reissue.specs.LastRead.{last_read}
+use Rattle.marks.specs.Disk.{bytes_read}
 use Rattle.reissue.specs.Moves.{Begun, Closes, Joins, IsBusy, IsQuiet, Spares, Tells, put, state_after}
 use Rattle.reissue.specs.Posts.{OnlyPosts}
 
@@ -68,16 +68,16 @@ tells_posted settled.Flush f g es image marks o l s h = tt
 tells_posted settled.GaveUp f g es image marks o l s h = tt
 tells_posted settled.End f g es image marks o l s h = tt
 
-last_read_posted : (es : List Told) (marks : List Mark) (p : ℕ) → OnlyPosts es → last_read (grown es marks) p ≡ last_read marks p
-last_read_posted [] marks p o = refl
-last_read_posted (Posted to r true ∷ es) marks p o = last_read_posted es marks p o
-last_read_posted (Posted to r false ∷ es) marks p o = last_read_posted es marks p o
-last_read_posted (Complained e ∷ es) marks p o = absurd o
-last_read_posted (Received m ∷ es) marks p o = absurd o
+bytes_read_posted : (es : List Told) (marks : List Mark) (p : ℕ) → OnlyPosts es → bytes_read (grown es marks) p ≡ bytes_read marks p
+bytes_read_posted [] marks p o = refl
+bytes_read_posted (Posted to r true ∷ es) marks p o = bytes_read_posted es marks p o
+bytes_read_posted (Posted to r false ∷ es) marks p o = bytes_read_posted es marks p o
+bytes_read_posted (Complained e ∷ es) marks p o = absurd o
+bytes_read_posted (Received m ∷ es) marks p o = absurd o
 
 joins_posted : (res : Settled) (f : ℕ → Option Begun) (es : List Told) (marks : List Mark) → OnlyPosts es
     → Joins res f marks → Joins res f (grown es marks)
-joins_posted (settled.Read t b) f es marks o h = λ r is k lt. h r is k lt ∙ sym (last_read_posted es marks (r.start + k) o)
+joins_posted (settled.Read t b) f es marks o h = λ r is k lt. h r is k lt ∙ sym (bytes_read_posted es marks (r.start + k) o)
 joins_posted (settled.Written t) f es marks o h = tt
 joins_posted settled.Nothing f es marks o h = tt
 joins_posted settled.Flush f es marks o h = tt

@@ -13,8 +13,8 @@ use Rattle.reissue.proofs.Joined.{joined_like}
 use Rattle.marks.specs.Disk.{Contents}
 use Rattle.marks.specs.Marks.{last_started, gave_up, Took, Fault, Answered, Flush, GaveUp, Issued, Mark, Started}
 use Rattle.marks.specs.Open.{IsIn, IsNew, Misses, MissesAll, greatest, moved_by, open_requests, without_id}
-use Rattle.marks.specs.Told.{AreNumbered, Posted, Told, grown}
-use Rattle.reissue.specs.Agrees.{target, Agrees, AllApart, AllReadDisk, AllWrote, Apart, ApartFromAll, Holds, unposted}
+use Rattle.marks.specs.Told.{Posted, Told, grown}
+use Rattle.reissue.specs.Agrees.{AreNumbered, target, Agrees, AllApart, AllReadDisk, AllWrote, Apart, ApartFromAll, Holds, unposted}
 use Rattle.marks.specs.Open.{MayFollow}
 use Rattle.reissue.specs.Calls.{Leads, Truth}
 use Rattle.reissue.specs.Opening.{Opening, Fits}

@@ -5,12 +5,10 @@ use Rattle.message.specs.Good.{is_write}
 use Rattle.message.specs.declared.BlockRequest.{BlockRequest}
 use Rattle.marks.specs.Marks.{Mark, Answered, last_started, gave_up}
 use Rattle.marks.specs.Open.{greatest, open_requests, IsWellFormed, asked_by, moved_by}
-use Rattle.marks.specs.Disk.{Contents, disk_after, unsure, HasTrueReplies}
-use Rattle.marks.specs.Told.{AreNumbered}
+use Rattle.marks.specs.Disk.{Contents, disk_after, bytes_read, unsure, HasTrueReplies}
 use Rattle.reissue.specs.declared.pending.Pending.{Pending}
 use Rattle.reissue.specs.declared.table.Table.{Table}
 use Rattle.reissue.specs.Entries.{request_of}
-use Rattle.reissue.specs.LastRead.{last_read}
 
 -- the pending requests that weren't posted to the present endpoint, in rising order of ids
 abbrev pub unposted : Table → List BlockRequest
@@ -23,6 +21,11 @@ never_issued table = map request_of (drop table.issued table.pending)
 -- where requests are posted, and whose replies count: the endpoint of the last start, until the device is given up
 abbrev pub target : List Mark → Option Endpoint
 target marks = if gave_up marks then None else last_started marks
+
+-- these ids, one after the other
+abbrev pub AreNumbered : ℕ → List BlockRequest → Type 0
+AreNumbered next [] = Unit {0}
+AreNumbered next (r ∷ rs) = (r.id ≡ next) × AreNumbered (next + 1) rs
 
 -- the ranges that were asked for have no byte in common
 pub record Apart (p q : Pending) : Type 0 where
@@ -60,7 +63,7 @@ AllWrote image marks (p ∷ ps) = (is_write p.request.kind ≡ true → Wrote im
 
 -- of a read: what was read so far are the answers' bytes, joined
 pub record IsJoined (marks : List Mark) (p : Pending) : Type 0 where
-  pub each : (k : ℕ) → p.start + k < p.request.position → slice_index p.bytes k ≡ last_read marks (p.start + k)
+  pub each : (k : ℕ) → p.start + k < p.request.position → slice_index p.bytes k ≡ bytes_read marks (p.start + k)
 
 abbrev pub AllJoined : List Mark → List Pending → Type 0
 AllJoined marks [] = Unit {0}

@@ -5,7 +5,7 @@ use Rattle.message.specs.declared.Incoming.{Incoming}
 use Rattle.message.specs.declared.Incoming.TheVariants as incoming
 use Rattle.marks.specs.Marks.{Mark}
 use Rattle.marks.specs.Disk.{Contents, HasTrueReplies}
-use Rattle.marks.specs.Told.{Told, Received, grown, received, complaint_due}
+use Rattle.marks.specs.Told.{Told, Received, grown, received}
 use Rattle.reissue.specs.declared.ask.Ask.{Ask}
 use Rattle.reissue.specs.declared.ask.Settled.{Settled}
 use Rattle.reissue.specs.declared.ask.Settled.TheVariants as settled
@@ -16,7 +16,7 @@ use Rattle.reissue.specs.Moves.{Begun, Touches, IsQuiet, Spares, Moves, Closes, 
 use Rattle.reissue.specs.Entries.{pending_of, begun_of, AllOfMinor}
 use Rattle.reissue.specs.Agrees.{Agrees, unposted}
 use Rattle.reissue.specs.Hears.{Hears}
-use Rattle.reissue.specs.Posts.{OnlyPosts, accepted_of, PostsInOrder, PostsAfter, complaints_about}
+use Rattle.reissue.specs.Posts.{OnlyPosts, accepted_of, PostsInOrder, PostsAfter, due_after, complaints_about}
 
 -- what a link guarantees of a record, for a run from an opening
 abbrev pub Truth : Type 1
@@ -56,7 +56,7 @@ pub record TakesIn (message : Incoming) (result : Settled) (old mid : Table) (be
   pub complaints : List Told
   pub history : after ≡ complaints ++ before
   pub silent : (marks : List Mark) → grown complaints marks ≡ marks
-  pub due : (marks : List Mark) → Agrees old marks → complaints ≡ complaints_about (complaint_due (Received message) marks)
+  pub due : (marks : List Mark) → Agrees old marks → complaints ≡ complaints_about (due_after message marks)
   pub hears : (marks : List Mark) → Agrees old marks → Hears message old mid marks
   pub agrees : (marks : List Mark) → Agrees old marks → Agrees mid (received message marks)
   pub closes : Closes result (pending_of old.pending) (pending_of mid.pending)
@@ -72,7 +72,7 @@ pub record Absorbs (message : Incoming) (result : Settled) (old new : Table) (be
   pub history : after ≡ posts ++ (complaints ++ before)
   pub only_posts : OnlyPosts posts
   pub silent : (marks : List Mark) → grown complaints marks ≡ marks
-  pub due : (marks : List Mark) → Agrees old marks → complaints ≡ complaints_about (complaint_due (Received message) marks)
+  pub due : (marks : List Mark) → Agrees old marks → complaints ≡ complaints_about (due_after message marks)
   pub hears : (marks : List Mark) → Agrees old marks → Hears message old mid marks
   pub in_order : PostsAfter message mid (complaints ++ before) after
   pub same : new.pending ≡ mid.pending
@@ -111,7 +111,7 @@ pub record Steps (result : Settled) (old new : Table) (before after : List Told)
   pub history : after ≡ posts ++ (complaints ++ (Received message ∷ before))
   pub only_posts : OnlyPosts posts
   pub answer : IsAnswerTo message result
-  pub due : (marks : List Mark) → Agrees old marks → complaints ≡ complaints_about (complaint_due (Received message) marks)
+  pub due : (marks : List Mark) → Agrees old marks → complaints ≡ complaints_about (due_after message marks)
   pub hears : (marks : List Mark) → Agrees old marks → Hears message old mid marks
   pub in_order : PostsAfter message mid (complaints ++ (Received message ∷ before)) after
   pub same : new.pending ≡ mid.pending

@@ -4,7 +4,6 @@ pub mod Refusals
 pub mod Room
 pub mod Queue
 pub mod Entries
-pub mod LastRead
 pub mod Moves
 pub mod Agrees
 pub mod Hears

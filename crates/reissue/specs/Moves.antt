@@ -4,8 +4,7 @@ use Rattle.message.specs.declared.Kind.{Kind}
 use Rattle.message.specs.declared.Kind.TheVariants.{Read, Write}
 use Rattle.message.specs.declared.BlockRequest.{BlockRequest}
 use Rattle.marks.specs.Marks.{Mark}
-use Rattle.marks.specs.Disk.{Contents, disk_after, unsure}
-use Rattle.reissue.specs.LastRead.{last_read}
+use Rattle.marks.specs.Disk.{Contents, disk_after, bytes_read, unsure}
 use Rattle.reissue.specs.declared.ask.Ask.{Ask}
 use Rattle.reissue.specs.declared.ask.BeginRefusal.{BeginRefusal}
 use Rattle.reissue.specs.declared.ask.Settled.{Settled}
@@ -99,7 +98,7 @@ Tells settled.End pending w = Unit {0}
 -- a settled read has the bytes of the good answers to it, joined
 abbrev pub Joins : Settled → (ℕ → Option Begun) → List Mark → Type 0
 Joins (settled.Read t bytes) pending marks =
-    (r : Begun) → pending t ≡ Some r → (k : ℕ) → k < r.size → slice_index bytes k ≡ last_read marks (r.start + k)
+    (r : Begun) → pending t ≡ Some r → (k : ℕ) → k < r.size → slice_index bytes k ≡ bytes_read marks (r.start + k)
 Joins (settled.Written t) pending marks = Unit {0}
 Joins settled.Nothing pending marks = Unit {0}
 Joins settled.Flush pending marks = Unit {0}

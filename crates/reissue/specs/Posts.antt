@@ -1,10 +1,12 @@
 -- What a link is told: posts in order, complaints that are due, and the room that they need.
-use Rattle.std.specs.Prelude.{◌≡◌, ◌⊎◌, ℕ, ◌+◌, ◌<◌, ◌≤◌, List, [], ◌∷◌, length, Option, Some, None, IsSome, Bool, true, false, MatchBool}
+use Rattle.std.specs.Prelude.{◌≡◌, ◌⊎◌, ℕ, ◌+◌, ◌<◌, ◌≤◌, List, [], ◌∷◌, length, Option, Some, None, IsSome, Bool, true, false, not, MatchBool}
 use Rattle.endpoint.specs.declared.Endpoint.{Endpoint}
 use Rattle.message.specs.declared.BlockRequest.{BlockRequest}
 use Rattle.message.specs.declared.Incoming.{Incoming}
 use Rattle.message.specs.declared.Incoming.TheVariants as incoming
-use Rattle.marks.specs.Told.{Told, Posted, Complained, Received, last_refused}
+use Rattle.marks.specs.Told.{Told, Posted, Complained, Received}
+use Rattle.marks.specs.Marks.{Mark}
+use Rattle.marks.specs.Acts.{complaint_due}
 use Rattle.reissue.specs.declared.table.Table.{Table}
 use Rattle.reissue.specs.Agrees.{unposted}
 
@@ -50,6 +52,21 @@ PostsAfter message mid before after = MatchBool (is_message message) (PostsInOrd
 abbrev pub complaints_about : Option Endpoint → List Told
 complaints_about None = []
 complaints_about (Some e) = Complained e ∷ []
+
+-- the complaint that a message asks for
+abbrev pub due_after : Incoming → List Mark → Option Endpoint
+due_after (incoming.Reply a) marks = complaint_due a marks
+due_after (incoming.Started e) marks = None
+due_after incoming.GaveUp marks = None
+due_after incoming.Flush marks = None
+due_after incoming.End marks = None
+
+-- the last post was refused
+abbrev pub last_refused : List Told → Bool
+last_refused [] = false
+last_refused (Posted to r accepted ∷ told) = not accepted
+last_refused (Complained about ∷ told) = last_refused told
+last_refused (Received message ∷ told) = last_refused told
 
 -- where something isn't posted though there is an endpoint, its last post was refused
 pub record IsTried (table : Table) (history : List Told) : Type 0 where

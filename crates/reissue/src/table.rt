@@ -226,7 +226,8 @@ impl Table {
     ghost use Rattle.message.specs.declared.Incoming.TheVariants as incoming;
     ghost use Rattle.marks.specs.Marks.{Mark, Answered};
     ghost use Rattle.marks.specs.Open.{asked_by, moved_by};
-    ghost use Rattle.marks.specs.Told.{Received, received, complaint_due};
+    ghost use Rattle.marks.specs.Told.{Received, received};
+    ghost use Rattle.marks.specs.Acts.{complaint_due};
     ghost use Rattle.reissue.specs.declared.pending.Pending.{Pending};
     ghost use Rattle.reissue.specs.Moves.{Closes, begun_by, put, request_for};
     ghost use Rattle.reissue.specs.Entries.{AllOfMinor, MissesOrSame, begun_of};
@@ -286,7 +287,7 @@ impl Table {
         ensures agrees { (marks : List Mark) → Agrees self.old marks → Agrees self.new (received (incoming.Reply reply.now) marks) }
         ensures hears { (marks : List Mark) → Agrees self.old marks → HearsAnswer self.old self.new reply.now.id (counted_move marks reply.now) }
         ensures due { (marks : List Mark) → Agrees self.old marks
-            → complained result reply.now ≡ complaints_about (complaint_due (Received (incoming.Reply reply.now)) marks) }
+            → complained result reply.now ≡ complaints_about (complaint_due reply.now marks) }
         ensures closes { Closes (settled_of result) (pending_of self.old.pending) (pending_of self.new.pending) }
         ensures closing { (marks : List Mark) → Agrees self.old marks
             → Closing (settled_of result) self.old.pending self.new.pending marks (received (incoming.Reply reply.now) marks) }

@@ -3,7 +3,6 @@
 ghost use Rattle.std.specs.Prelude.{◌≡◌, ◌+◌, ◌<◌, ◌≤◌, ◌^◌, ◌==◌, ◌&&◌, ◌↔◌, ◌∷◌, [], List, ℕ, length, IsOk, IsTrue, IfOk, OnOk, OnErr, IsErrOf, IsSome, true, false, Option, MatchBool};
 ghost use Rattle.std.specs.Borrow.{Lends, sem};
 ghost use Rattle.std.specs.List.{list_any};
-ghost use Rattle.marks.specs.Told.{last_refused};
 ghost use Rattle.reissue.specs.Room.{room_needed};
 ghost use Rattle.reissue.specs.Posts.{is_message};
 ghost use Rattle.reissue.specs.Moves.{Opens, IsFree, begun_by};
