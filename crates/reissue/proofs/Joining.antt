@@ -14,7 +14,7 @@ use Rattle.reissue.specs.declared.ask.Settled.{Settled}
 use Rattle.reissue.specs.declared.ask.Settled.TheVariants as settled
 use Rattle.reissue.specs.declared.pending.Pending.{Pending}
 use Rattle.reissue.specs.declared.table.Table.{Table}
-use Rattle.marks.specs.Opening.{Opening, contents_at}
+use Rattle.reissue.specs.Opening.{Opening, contents_at}
 use Rattle.reissue.specs.Room.{room_needed}
 use Rattle.reissue.specs.Moves.{Begun, Closes, IsFree, Spares, state_after, begun_by, request_for}
 use Rattle.reissue.specs.Entries.{pending_of, begun_of, request_of, AllOfMinor, MissesOrSame, AreDistinct, IsAmong}

@@ -11,7 +11,7 @@ use Rattle.reissue.specs.declared.ask.Settled.{Settled}
 use Rattle.reissue.specs.declared.ask.Settled.TheVariants as settled
 use Rattle.reissue.specs.declared.pending.Pending.{Pending}
 use Rattle.reissue.specs.declared.table.Table.{Table}
-use Rattle.marks.specs.Opening.{Opening, contents_at}
+use Rattle.reissue.specs.Opening.{Opening, contents_at}
 use Rattle.reissue.specs.Moves.{Begun, Touches, IsQuiet, Spares, Moves, Closes, Joins, state_after, request_for, begun_by}
 use Rattle.reissue.specs.Entries.{pending_of, begun_of, AllOfMinor}
 use Rattle.reissue.specs.Agrees.{Agrees, unposted}

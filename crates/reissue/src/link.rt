@@ -5,7 +5,7 @@ ghost use Rattle.marks.specs.Marks.{Mark, Issued};
 ghost use Rattle.marks.specs.Open.{MayFollow};
 ghost use Rattle.marks.specs.Disk.{HasTrueReplies};
 ghost use Rattle.marks.specs.Told.{Told, Posted, Complained, Received, received};
-ghost use Rattle.marks.specs.Opening.{Opening, contents_at, Fits};
+ghost use Rattle.reissue.specs.Opening.{Opening, contents_at, Fits};
 ghost use Rattle.reissue.specs.Refusals.{link_refusal_number};
 ghost use Rattle.reissue.specs.Room.{room_needed};
 
