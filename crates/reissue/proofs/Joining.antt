@@ -8,13 +8,13 @@ use Rattle.message.specs.declared.Incoming.{Incoming}
 use Rattle.message.specs.declared.Incoming.TheVariants as incoming
 use Rattle.marks.specs.Marks.{Mark, Issued}
 use Rattle.marks.specs.Disk.{Contents, HasTrueReplies}
-use Rattle.marks.specs.Told.{Told, Posted, Complained, Received, grown, received}
+use Rattle.marks.specs.Told.{Told, Posted, Complained, Received, grown, received, heard}
 use Rattle.reissue.specs.declared.ask.Ask.{Ask}
 use Rattle.reissue.specs.declared.ask.Settled.{Settled}
 use Rattle.reissue.specs.declared.ask.Settled.TheVariants as settled
 use Rattle.reissue.specs.declared.pending.Pending.{Pending}
 use Rattle.reissue.specs.declared.table.Table.{Table}
-use Rattle.reissue.specs.Opening.{Opening, contents_at}
+use Rattle.marks.specs.Opening.{Opening, contents_at}
 use Rattle.reissue.specs.Room.{room_needed}
 use Rattle.reissue.specs.Moves.{Begun, Closes, IsFree, Spares, state_after, begun_by, request_for}
 use Rattle.reissue.specs.Entries.{pending_of, begun_of, request_of, AllOfMinor, MissesOrSame, AreDistinct, IsAmong}
@@ -80,7 +80,7 @@ absorbs_then m res s t u before between after was mid is x l posts =
 
 -- a message taken, and what was done on it
 pub steps_one : (m : Incoming) (res : Settled) (t u : Table) (before taken after : List Told) (was mid is : Truth)
-    → taken ≡ Received m ∷ before
+    → taken ≡ heard m before
     → ((opening : Opening) (marks : List Mark) → was opening marks
         → mid opening (received m marks) × HasTrueReplies (contents_at opening) (received m marks))
     → Absorbs m res t u taken after mid is → IsAnswerTo m res → Steps res t u before after was is

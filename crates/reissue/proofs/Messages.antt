@@ -13,7 +13,7 @@ use Rattle.reissue.specs.declared.table.Table.{Table}
 use Rattle.reissue.specs.declared.table.Answer.{Answer}
 use Rattle.reissue.specs.declared.ask.Settled.{Settled}
 use Rattle.reissue.specs.declared.ask.Settled.TheVariants as settled
-use Rattle.reissue.specs.Opening.{Opening}
+use Rattle.marks.specs.Opening.{Opening}
 use Rattle.marks.specs.Disk.{bytes_read}
 use Rattle.reissue.specs.Moves.{Closes, Spares, Moves, Tells}
 use Rattle.reissue.specs.Entries.{pending_of, AllOfMinor}

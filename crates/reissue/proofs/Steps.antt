@@ -17,7 +17,7 @@ use Rattle.marks.specs.Told.{Posted, Told, grown}
 use Rattle.reissue.specs.Agrees.{AreNumbered, target, Agrees, AllApart, AllReadDisk, AllWrote, Apart, ApartFromAll, Holds, unposted}
 use Rattle.marks.specs.Open.{MayFollow}
 use Rattle.reissue.specs.Calls.{Leads, Truth}
-use Rattle.reissue.specs.Opening.{Opening, Fits}
+use Rattle.marks.specs.Opening.{Opening, Fits}
 use Rattle.reissue.specs.Entries.{AllOfMinor, IsAmong, pending_of, request_of}
 use Rattle.reissue.specs.Moves.{Spares, state_after}
 use Rattle.reissue.specs.Posts.{ArePostedTo}

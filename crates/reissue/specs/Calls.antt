@@ -5,13 +5,13 @@ use Rattle.message.specs.declared.Incoming.{Incoming}
 use Rattle.message.specs.declared.Incoming.TheVariants as incoming
 use Rattle.marks.specs.Marks.{Mark}
 use Rattle.marks.specs.Disk.{Contents, HasTrueReplies}
-use Rattle.marks.specs.Told.{Told, Received, grown, received}
+use Rattle.marks.specs.Told.{Told, Received, grown, received, heard}
 use Rattle.reissue.specs.declared.ask.Ask.{Ask}
 use Rattle.reissue.specs.declared.ask.Settled.{Settled}
 use Rattle.reissue.specs.declared.ask.Settled.TheVariants as settled
 use Rattle.reissue.specs.declared.pending.Pending.{Pending}
 use Rattle.reissue.specs.declared.table.Table.{Table}
-use Rattle.reissue.specs.Opening.{Opening, contents_at}
+use Rattle.marks.specs.Opening.{Opening, contents_at}
 use Rattle.reissue.specs.Moves.{Begun, Touches, IsQuiet, Spares, Moves, Closes, Joins, state_after, request_for, begun_by}
 use Rattle.reissue.specs.Entries.{pending_of, begun_of, AllOfMinor}
 use Rattle.reissue.specs.Agrees.{Agrees, unposted}
@@ -108,12 +108,12 @@ pub record Steps (result : Settled) (old new : Table) (before after : List Told)
   pub mid : Table
   pub posts : List Told
   pub complaints : List Told
-  pub history : after ≡ posts ++ (complaints ++ (Received message ∷ before))
+  pub history : after ≡ posts ++ (complaints ++ heard message before)
   pub only_posts : OnlyPosts posts
   pub answer : IsAnswerTo message result
   pub due : (marks : List Mark) → Agrees old marks → complaints ≡ complaints_about (due_after message marks)
   pub hears : (marks : List Mark) → Agrees old marks → Hears message old mid marks
-  pub in_order : PostsAfter message mid (complaints ++ (Received message ∷ before)) after
+  pub in_order : PostsAfter message mid (complaints ++ heard message before) after
   pub same : new.pending ≡ mid.pending
   pub posted : new.posted ≡ mid.posted + accepted_of posts
   pub grows : (marks : List Mark) → grown (posts ++ (complaints ++ (Received message ∷ []))) marks ≡ grown posts (received message marks)

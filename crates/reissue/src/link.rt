@@ -1,11 +1,11 @@
 //! What a file server sees of its drivers: a line to post to, to complain on, and to take messages from.
 
 ghost use Rattle.std.specs.Prelude.{◌≡◌, ◌<◌, ◌≤◌, ◌+◌, ◌∷◌, List, ℕ, is_ok, OnOk, OnErr};
-ghost use Rattle.marks.specs.Marks.{Mark, Issued};
+ghost use Rattle.marks.specs.Marks.{Mark, Issued, ChangesNothing};
 ghost use Rattle.marks.specs.Open.{MayFollow};
 ghost use Rattle.marks.specs.Disk.{HasTrueReplies};
-ghost use Rattle.marks.specs.Told.{Told, Posted, Complained, Received, received};
-ghost use Rattle.reissue.specs.Opening.{Opening, contents_at, Fits};
+ghost use Rattle.marks.specs.Told.{Told, Posted, Complained, received, heard};
+ghost use Rattle.marks.specs.Opening.{Opening, contents_at, Fits};
 ghost use Rattle.reissue.specs.Refusals.{link_refusal_number};
 ghost use Rattle.reissue.specs.Room.{room_needed};
 
@@ -75,7 +75,8 @@ pub trait Link {
 
     /// The next message; End, if the budget is spent or nothing comes any more.
     fn take(&mut self) -> Incoming
-        ensures told { history self.new ≡ Received result ∷ history self.old }
+        // A message is noted; of Ends the first alone, so that a link which has ended needs no room for more.
+        ensures told { history self.new ≡ heard result (history self.old) }
         ensures budget { 0 < budget_left self.old → budget_left self.new < budget_left self.old }
         ensures spent { budget_left self.old ≡ 0 → result ≡ Incoming.End }
         ensures room { room_needed result ≤ room self.new }
@@ -87,4 +88,8 @@ pub trait Link {
     /// How many messages it still gives, at most.
     fn budget(&self) -> u64
         ensures { result ≡ budget_left self.now };
+
+    // What a link guarantees of a record doesn't rest on marks that change no request, byte or driver.
+    ghost noted: { (link : Self) (opening : Opening) (marks : List Mark) (mark : Mark) → ChangesNothing mark
+        → truth link opening marks → truth link opening (mark ∷ marks) };
 }
