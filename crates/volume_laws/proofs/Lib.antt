@@ -1,0 +1,9 @@
+pub mod Sums
+pub mod Cube
+pub mod Naming
+pub mod Mentions
+pub mod Spots
+pub mod Once
+pub mod Reach
+pub mod Reached
+pub mod Entries
