@@ -7,3 +7,4 @@ pub mod Once
 pub mod Reach
 pub mod Reached
 pub mod Entries
+pub mod Bridge
