@@ -8,3 +8,5 @@ pub mod Reach
 pub mod Reached
 pub mod Entries
 pub mod Bridge
+pub mod Quiet
+pub mod Ranges
