@@ -10,3 +10,5 @@ pub mod Entries
 pub mod Bridge
 pub mod Quiet
 pub mod Ranges
+pub mod ZonesFrom
+pub mod DirectoriesFrom
