@@ -12,3 +12,4 @@ pub mod Quiet
 pub mod Ranges
 pub mod ZonesFrom
 pub mod DirectoriesFrom
+pub mod NodesAs
