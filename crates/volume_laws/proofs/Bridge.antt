@@ -9,8 +9,8 @@ use Rattle.tree.specs.Sums.{sum_below, count_below, some_below}
 use Rattle.tree.specs.ZonesNeeded.{page_limit}
 use Rattle.tree.specs.Space.{numbers_in_zone}
 use Rattle.volume.specs.Pieces.{Pieces}
-use Rattle.volume.specs.Nodes.{word, number, slot, second, last, zone_of, is_marked}
-use Rattle.volume.specs.Places.{zone_at, Use, some_slot, is_entered, uses_in_inodes, uses}
+use Rattle.volume.specs.Nodes.{word, number, slot, second_block, last_block, zone_of, is_marked}
+use Rattle.volume.specs.Places.{zone_at, Use, is_in_slot, is_entered, uses_in_inodes, uses}
 use Rattle.volume_laws.proofs.Naming.{Naming, room, front, spot, Place, entered, uses as uses_of}
 use Rattle.volume_laws.proofs.Spots.{under, beside, spot_top, spot_next}
 
@@ -72,7 +72,7 @@ module _ (g : Geometry) (v : Pieces) (sized : 0 < numbers_in_zone g) where
   entered_is : (k z : ℕ) → is_entered g v k z ≡ entered m k z
   unfolding entered
   entered_is zero z = refl
-  entered_is (suc k) z = λ i. not (z == 0) && (some_slot g v (8 - k) z
+  entered_is (suc k) z = λ i. not (z == 0) && (is_in_slot g v (8 - k) z
       || some_below (λ above. entered_is k above i && some_below (λ j. word v above j == z) (numbers_in_zone g)) g.zones)
 
   -- and its counts
@@ -80,7 +80,7 @@ module _ (g : Geometry) (v : Pieces) (sized : 0 < numbers_in_zone g) where
   uses_are z = λ i. uses_in_inodes g v z
       + sum_below (λ k. sum_below (λ above. cond (entered_is k above i) (count_below (λ j. word v above j == z) (numbers_in_zone g)) 0) g.zones) 3
 
-  second_spot : (n k : ℕ) → second (numbers_in_zone g) v (v.inodes n) k ≡ spot m n 1 k
+  second_spot : (n k : ℕ) → second_block (numbers_in_zone g) v (v.inodes n) k ≡ spot m n 1 k
   second_spot n k = elim (cases_eq k 0) [
     | inl e ↦
         let place : front 0 + k ≡ 8 = omega arith in
@@ -103,7 +103,7 @@ module _ (g : Geometry) (v : Pieces) (sized : 0 < numbers_in_zone g) where
           ]
     ]
 
-  last_spot : (n k : ℕ) → last (numbers_in_zone g) v (v.inodes n) k ≡ spot m n 2 k
+  last_spot : (n k : ℕ) → last_block (numbers_in_zone g) v (v.inodes n) k ≡ spot m n 2 k
   last_spot n k = elim (cases_eq k 0) [
     | inl e ↦
         let place : front 1 + k ≡ 7 = omega arith in

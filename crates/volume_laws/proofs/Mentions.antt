@@ -5,7 +5,7 @@ use Rattle.std.specs.Prelude.{not, ◌&&◌, ◌||◌, ◌==◌, nat_lt, if◌th
 use Rattle.std.proofs.lemmas.Bool.{cases_eq, cases_Bool, cases_lt, or_cases, or_left, or_right, and_parts, and_from, cond-true, cond-false, eq-eqb, ne_eqb, eqb-true, ltb-true, ltb-false, lt-ltb, le-ltb, not-true, not_from_false}
 use Rattle.std.proofs.lemmas.Nat.{div-add-mod', div-mul-add, mod-mul-add}
 use Rattle.tree.specs.Sums.{sum_below, count_below, some_below, one_if}
-use Rattle.volume_laws.proofs.Naming.{Naming, room, front, named, spot, some_slot, entered, uses, Place}
+use Rattle.volume_laws.proofs.Naming.{Naming, room, front, named, spot, is_in_slot, entered, uses, Place}
 use Rattle.tree.proofs.Maps.{same_sum}
 use Rattle.volume_laws.proofs.Sums.{some_from, some_witness}
 use Rattle.volume_laws.proofs.Cube.{cube, Point, cube_at, cube_some, cube_same, cube_single}

@@ -26,13 +26,13 @@ unfoldable pub spot : Naming → ℕ → ℕ → ℕ → ℕ
 spot m n zero i = if i == 0 then m.slot n 9 else 0
 spot m n (suc h) i = if nat_lt i (room h) then m.slot n (front h + i) else named m (spot m n h ((i - room h) / m.width)) ((i - room h) % m.width)
 
-abbrev pub some_slot : Naming → ℕ → ℕ → Bool
-some_slot m s z = some_below (λ n. m.marked n && (m.slot n s == z)) m.inodes
+abbrev pub is_in_slot : Naming → ℕ → ℕ → Bool
+is_in_slot m s z = some_below (λ n. m.marked n && (m.slot n s == z)) m.inodes
 
 -- the zones that are entered at a height
 unfoldable pub entered : Naming → ℕ → ℕ → Bool
-entered m zero z = not (z == 0) && some_slot m 9 z
-entered m (suc h) z = not (z == 0) && (some_slot m (8 - h) z || some_below (λ above. entered m h above && some_below (λ j. m.word above j == z) m.width) m.zones)
+entered m zero z = not (z == 0) && is_in_slot m 9 z
+entered m (suc h) z = not (z == 0) && (is_in_slot m (8 - h) z || some_below (λ above. entered m h above && some_below (λ j. m.word above j == z) m.width) m.zones)
 
 -- how often a number stands in marked inodes and in entered zones
 abbrev pub uses : Naming → ℕ → ℕ

@@ -14,7 +14,7 @@ use Rattle.tree.specs.IsTree.{names_to, subdirectories, all_names_to}
 use Rattle.tree.proofs.Maps.{same_sum, is_the_one}
 use Rattle.volume.specs.Pieces.{Pieces}
 use Rattle.volume.specs.Nodes.{file_byte, entry_inode, entry_name, names_in, is_directory_mode, body_of, node_of, nodes_of, directory_of, file_of, is_marked}
-use Rattle.volume.specs.Entries.{is_dir_inode, entries, name_at, target_at}
+use Rattle.volume.specs.Entries.{is_directory_inode, entry_count, name_at, target_at}
 use Rattle.volume.specs.Findings.{names_in_of, all_names_of, subdirectories_of}
 use Rattle.volume_laws.proofs.Entries.{collected, tally, found_entry, entry_found, tally_entries, length_entries, sorted, all_good, Distinct}
 
@@ -68,22 +68,22 @@ module _ (g : Geometry) (v : Pieces) where
       (is, is_the_one node (node_of g v (v.inodes n)) (sym e ∙ node_marked n is))
 
   -- the kind of a node
-  pub body_directory : (n : ℕ) → is_dir_inode g v n ≡ true → body_of g v (v.inodes n) ≡ is_directory (directory_of g v (v.inodes n))
+  pub body_directory : (n : ℕ) → is_directory_inode g v n ≡ true → body_of g v (v.inodes n) ≡ is_directory (directory_of g v (v.inodes n))
   body_directory n is = cond-true (is_directory_mode (v.inodes n).mode) _ _ (and_parts (is_marked g v n) (is_directory_mode (v.inodes n).mode) is).1
 
-  not_directory : (n : ℕ) → is_marked g v n ≡ true → is_dir_inode g v n ≡ false → is_directory_mode (v.inodes n).mode ≡ false
+  not_directory : (n : ℕ) → is_marked g v n ≡ true → is_directory_inode g v n ≡ false → is_directory_mode (v.inodes n).mode ≡ false
   not_directory n is out = sym (ap (λ b. b && is_directory_mode (v.inodes n).mode) is) ∙ out
 
-  pub body_file : (n : ℕ) → is_marked g v n ≡ true → is_dir_inode g v n ≡ false → body_of g v (v.inodes n) ≡ is_file (file_of g v (v.inodes n))
+  pub body_file : (n : ℕ) → is_marked g v n ≡ true → is_directory_inode g v n ≡ false → body_of g v (v.inodes n) ≡ is_file (file_of g v (v.inodes n))
   body_file n is out = cond-false (is_directory_mode (v.inodes n).mode) _ _ (not_directory n is out)
 
-  marked_of : (n : ℕ) → is_dir_inode g v n ≡ true → is_marked g v n ≡ true
+  marked_of : (n : ℕ) → is_directory_inode g v n ≡ true → is_marked g v n ≡ true
   marked_of n is = (and_parts (is_marked g v n) (is_directory_mode (v.inodes n).mode) is).0
 
-  pub dir_node : (n : ℕ) → is_dir_at nodes n ≡ is_dir_inode g v n
+  pub dir_node : (n : ℕ) → is_dir_at nodes n ≡ is_directory_inode g v n
   unfolding body_dir
   dir_node n = elim (cases_Bool (is_marked g v n)) [
-    | inl is ↦ elim (cases_Bool (is_dir_inode g v n)) [
+    | inl is ↦ elim (cases_Bool (is_directory_inode g v n)) [
       | inl d ↦ ap (λ o. elim o [ None ↦ false | Some x ↦ body_dir x.body ]) (node_marked n is) ∙ ap body_dir (body_directory n d) ∙ sym d
       | inr f ↦ ap (λ o. elim o [ None ↦ false | Some x ↦ body_dir x.body ]) (node_marked n is) ∙ ap body_dir (body_file n is f) ∙ sym f
       ]
@@ -97,17 +97,17 @@ module _ (g : Geometry) (v : Pieces) where
   target_after n e = target_at g v n (e + 2)
 
   abbrev pub further : ℕ → ℕ
-  further n = entries v n - 2
+  further n = entry_count v n - 2
 
   -- the names of a directory, as the map and as a row
   directory_names : (n : ℕ) → (directory_of g v (v.inodes n)).names ≡ collected (name_after n) (target_after n) (further n)
   directory_names n = names_in_collected (file_byte g v (v.inodes n)) (further n)
 
-  pub names_node : (n : ℕ) → is_dir_inode g v n ≡ true → names_of (nodes n) ≡ collected (name_after n) (target_after n) (further n)
+  pub names_node : (n : ℕ) → is_directory_inode g v n ≡ true → names_of (nodes n) ≡ collected (name_after n) (target_after n) (further n)
   unfolding body_names
   names_node n is = ap names_of (node_marked n (marked_of n is)) ∙ ap body_names (body_directory n is) ∙ directory_names n
 
-  pub names_none : (n : ℕ) → is_dir_inode g v n ≡ false → names_of (nodes n) ≡ []
+  pub names_none : (n : ℕ) → is_directory_inode g v n ≡ false → names_of (nodes n) ≡ []
   unfolding body_names
   names_none n out = elim (cases_Bool (is_marked g v n)) [
     | inl is ↦ ap names_of (node_marked n is) ∙ ap body_names (body_file n is out)
@@ -115,11 +115,11 @@ module _ (g : Geometry) (v : Pieces) where
     ]
 
   -- its parent, and that of no directory
-  pub parent_node : (n : ℕ) → is_dir_inode g v n ≡ true → parent_of (nodes n) ≡ target_at g v n 1
+  pub parent_node : (n : ℕ) → is_directory_inode g v n ≡ true → parent_of (nodes n) ≡ target_at g v n 1
   unfolding body_parent
   parent_node n is = ap parent_of (node_marked n (marked_of n is)) ∙ ap body_parent (body_directory n is)
 
-  pub parent_none : (n : ℕ) → is_dir_inode g v n ≡ false → parent_of (nodes n) ≡ 0
+  pub parent_none : (n : ℕ) → is_directory_inode g v n ≡ false → parent_of (nodes n) ≡ 0
   unfolding body_parent
   parent_none n out = elim (cases_Bool (is_marked g v n)) [
     | inl is ↦ ap parent_of (node_marked n is) ∙ ap body_parent (body_file n is out)
@@ -133,21 +133,21 @@ module _ (g : Geometry) (v : Pieces) where
   pub names_good : (n : ℕ) → ((e : ℕ) → e < further n → is_name (name_after n e) ≡ true) → list_all (λ e. is_name e.0) (directory_of g v (v.inodes n)).names ≡ true
   names_good n each = ap (list_all (λ e. is_name e.0)) (directory_names n) ∙ all_good (name_after n) (target_after n) is_name (further n) each
 
-  module _ (different : (n e f : ℕ) → is_dir_inode g v n ≡ true → e < f → f < entries v n → name_at g v n e ≢ name_at g v n f) where
-    apart : (n : ℕ) → is_dir_inode g v n ≡ true → Distinct (name_after n) (target_after n) (further n)
+  module _ (different : (n e f : ℕ) → is_directory_inode g v n ≡ true → e < f → f < entry_count v n → name_at g v n e ≢ name_at g v n f) where
+    apart : (n : ℕ) → is_directory_inode g v n ≡ true → Distinct (name_after n) (target_after n) (further n)
     apart n is e f less low = different n (e + 2) (f + 2) is (omega arith) (omega arith)
 
     -- a name of the map is that of an entry, and each entry's is in the map
     pub find_entry : (n m : ℕ) (name : Name) → inode_of (names_of (nodes n)) name ≡ Some m
-        → (is_dir_inode g v n ≡ true) × ((e : ℕ) × (e + 2 < entries v n) × (name_at g v n (e + 2) ≡ name) × (target_at g v n (e + 2) ≡ m))
-    find_entry n m name e = elim (cases_Bool (is_dir_inode g v n)) [
+        → (is_directory_inode g v n ≡ true) × ((e : ℕ) × (e + 2 < entry_count v n) × (name_at g v n (e + 2) ≡ name) × (target_at g v n (e + 2) ≡ m))
+    find_entry n m name e = elim (cases_Bool (is_directory_inode g v n)) [
       | inl is ↦
           let w = found_entry (name_after n) (target_after n) (further n) name m (ap (λ es. inode_of es name) (sym (names_node n is)) ∙ e) in
           (is, (w.0, omega (arith, w.1), w.2, w.3))
       | inr out ↦ let none : None ≡ Some m = ap (λ es. inode_of es name) (sym (names_none n out)) ∙ e in absurd (cc)
       ]
 
-    pub entry_in : (n e : ℕ) → is_dir_inode g v n ≡ true → 2 ≤ e → e < entries v n → inode_of (names_of (nodes n)) (name_at g v n e) ≡ Some (target_at g v n e)
+    pub entry_in : (n e : ℕ) → is_directory_inode g v n ≡ true → 2 ≤ e → e < entry_count v n → inode_of (names_of (nodes n)) (name_at g v n e) ≡ Some (target_at g v n e)
     entry_in n e is two low =
         let back : e - 2 + 2 ≡ e = omega arith in
         ap (λ k. inode_of (names_of (nodes n)) (name_at g v n k)) (sym back)
@@ -155,22 +155,22 @@ module _ (g : Geometry) (v : Pieces) where
         ∙ entry_found (name_after n) (target_after n) (further n) (e - 2) (apart n is) (omega arith)
         ∙ ap (λ k. Some (target_at g v n k)) back
 
-    tally_node : (p : ℕ → Bool) (n : ℕ) → is_dir_inode g v n ≡ true → tally p (names_of (nodes n)) ≡ count_below (λ e. p (target_after n e)) (further n)
+    tally_node : (p : ℕ → Bool) (n : ℕ) → is_directory_inode g v n ≡ true → tally p (names_of (nodes n)) ≡ count_below (λ e. p (target_after n e)) (further n)
     tally_node p n is = ap (tally p) (names_node n is) ∙ tally_entries (name_after n) (target_after n) p (further n) (apart n is)
 
     -- the counts of names and of subdirectories
     pub named_node : (k n : ℕ) → names_to k (names_of (nodes n)) ≡ names_in_of g v n k
-    named_node k n = names_to_tally k (names_of (nodes n)) ∙ elim (cases_Bool (is_dir_inode g v n)) [
-      | inl is ↦ tally_node (λ t. t == k) n is ∙ sym (cond-true (is_dir_inode g v n) _ 0 is)
-      | inr out ↦ ap (tally (λ t. t == k)) (names_none n out) ∙ sym (cond-false (is_dir_inode g v n) _ 0 out)
+    named_node k n = names_to_tally k (names_of (nodes n)) ∙ elim (cases_Bool (is_directory_inode g v n)) [
+      | inl is ↦ tally_node (λ t. t == k) n is ∙ sym (cond-true (is_directory_inode g v n) _ 0 is)
+      | inr out ↦ ap (tally (λ t. t == k)) (names_none n out) ∙ sym (cond-false (is_directory_inode g v n) _ 0 out)
       ]
 
     pub all_named_node : (k : ℕ) → all_names_to g nodes k ≡ all_names_of g v k
     all_named_node k = same_sum _ _ (g.inodes + 1) (λ n _. named_node k n)
 
-    pub subdirectories_node : (n : ℕ) → is_dir_inode g v n ≡ true → subdirectories nodes (names_of (nodes n)) ≡ subdirectories_of g v n
+    pub subdirectories_node : (n : ℕ) → is_directory_inode g v n ≡ true → subdirectories nodes (names_of (nodes n)) ≡ subdirectories_of g v n
     subdirectories_node n is = subdirectories_tally nodes (names_of (nodes n)) ∙ tally_node (is_dir_at nodes) n is
         ∙ same_sum _ _ (further n) (λ e _. ap one_if (dir_node (target_after n e)))
 
-    pub length_node : (n : ℕ) → is_dir_inode g v n ≡ true → length (directory_of g v (v.inodes n)).names ≡ further n
+    pub length_node : (n : ℕ) → is_directory_inode g v n ≡ true → length (directory_of g v (v.inodes n)).names ≡ further n
     length_node n is = ap length (directory_names n) ∙ length_entries (name_after n) (target_after n) (further n) (apart n is)

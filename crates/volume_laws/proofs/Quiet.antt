@@ -6,7 +6,7 @@ use Rattle.std.proofs.lemmas.Bool.{cases_Bool, cond-true, cond-false}
 use Rattle.layout.specs.declared.Geometry.{Geometry}
 use Rattle.tree.specs.Sums.{some_below, least_below}
 use Rattle.volume.specs.Pieces.{Pieces}
-use Rattle.volume.specs.Findings.{no_inode_bit, no_zone_bit, no_root, bad_mode, bad_size, bad_number, used_twice, bad_bit, bad_end, has_hole, bad_dots, bad_entries, bad_targets, bad_place, bad_links}
+use Rattle.volume.specs.Findings.{lacks_inode_bit, lacks_zone_bit, lacks_root, has_bad_mode, has_bad_size, has_bad_number, is_used_twice, has_bad_bit, has_spare_zone, has_hole, has_bad_dots, has_bad_entry, has_bad_target, is_misplaced, has_bad_links}
 use Rattle.volume.specs.Verdict.{Verdict, Clean, Test, found, first_found, tests, verdict_of_pieces}
 
 -- no place is past it
@@ -19,21 +19,21 @@ Never g test = some_below test (limit g) ≡ false
 
 -- no finding, each by its name
 pub record Quiet (g : Geometry) (v : Pieces) : Type 0 where
-  pub inode_bit : Never g (no_inode_bit g v)
-  pub zone_bit : Never g (no_zone_bit g v)
-  pub root : Never g (no_root g v)
-  pub modes : Never g (bad_mode g v)
-  pub sizes : Never g (bad_size g v)
-  pub numbers : Never g (bad_number g v)
-  pub twice : Never g (used_twice g v)
-  pub bits : Never g (bad_bit g v)
-  pub ends : Never g (bad_end g v)
+  pub inode_bit : Never g (lacks_inode_bit g v)
+  pub zone_bit : Never g (lacks_zone_bit g v)
+  pub root : Never g (lacks_root g v)
+  pub modes : Never g (has_bad_mode g v)
+  pub sizes : Never g (has_bad_size g v)
+  pub numbers : Never g (has_bad_number g v)
+  pub twice : Never g (is_used_twice g v)
+  pub bits : Never g (has_bad_bit g v)
+  pub ends : Never g (has_spare_zone g v)
   pub holes : Never g (has_hole g v)
-  pub dots : Never g (bad_dots g v)
-  pub entries : Never g (bad_entries g v)
-  pub targets : Never g (bad_targets g v)
-  pub places : Never g (bad_place g v)
-  pub links : Never g (bad_links g v)
+  pub dots : Never g (has_bad_dots g v)
+  pub entries : Never g (has_bad_entry g v)
+  pub targets : Never g (has_bad_target g v)
+  pub places : Never g (is_misplaced g v)
+  pub links : Never g (has_bad_links g v)
 
 AllNever : Geometry → List Test → Type 0
 AllNever g [] = Unit {0}

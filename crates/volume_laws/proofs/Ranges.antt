@@ -8,7 +8,7 @@ use Rattle.tree.specs.Sums.{some_below}
 use Rattle.volume.specs.Reading.{is_inode, is_data_zone}
 use Rattle.volume.specs.Pieces.{IsGeometry, Pieces}
 use Rattle.volume.specs.Nodes.{is_directory_mode, is_marked}
-use Rattle.volume.specs.Entries.{is_dir_inode}
+use Rattle.volume.specs.Entries.{is_directory_inode}
 use Rattle.volume_laws.proofs.Sums.{none_below}
 use Rattle.volume_laws.proofs.Quiet.{limit, guarded_false}
 
@@ -38,7 +38,7 @@ module _ (g : Geometry) (v : Pieces) where
   pub data_some : IsGeometry g → (z : ℕ) → is_data_zone g z ≡ true → z ≢ 0
   data_some ok z is e = let low = data_low z is in absurd (omega (arith, low.0, ok.first))
 
-  pub dir_marked : (n : ℕ) → is_dir_inode g v n ≡ true → is_marked g v n ≡ true
+  pub dir_marked : (n : ℕ) → is_directory_inode g v n ≡ true → is_marked g v n ≡ true
   dir_marked n is = (and_parts (is_marked g v n) (is_directory_mode (v.inodes n).mode) is).0
 
   -- a test that no inode, no directory, no data zone meets
@@ -47,10 +47,10 @@ module _ (g : Geometry) (v : Pieces) where
       let low = marked_low n is in
       guarded_false (is_marked g v n) (p n) (none_below (λ k. is_marked g v k && p k) (limit g) none n (omega (arith, low.1))) is
 
-  pub at_dir : (p : ℕ → Bool) (n : ℕ) → some_below (λ k. is_dir_inode g v k && p k) (limit g) ≡ false → is_dir_inode g v n ≡ true → p n ≡ false
+  pub at_dir : (p : ℕ → Bool) (n : ℕ) → some_below (λ k. is_directory_inode g v k && p k) (limit g) ≡ false → is_directory_inode g v n ≡ true → p n ≡ false
   at_dir p n none is =
       let low = marked_low n (dir_marked n is) in
-      guarded_false (is_dir_inode g v n) (p n) (none_below (λ k. is_dir_inode g v k && p k) (limit g) none n (omega (arith, low.1))) is
+      guarded_false (is_directory_inode g v n) (p n) (none_below (λ k. is_directory_inode g v k && p k) (limit g) none n (omega (arith, low.1))) is
 
   pub at_zone : (p : ℕ → Bool) (z : ℕ) → some_below (λ k. is_data_zone g k && p k) (limit g) ≡ false → is_data_zone g z ≡ true → p z ≡ false
   at_zone p z none is =

@@ -5,7 +5,7 @@ use Rattle.std.specs.Prelude.{not, ◌&&◌, ◌||◌, ◌==◌, nat_lt, if◌th
 use Rattle.std.proofs.lemmas.Bool.{cases_eq, cases_Bool, cases_lt, or_cases, or_left, or_right, and_parts, and_from, cond-true, cond-false, eq-eqb, ne_eqb, eqb-true, ltb-true, ltb-false, lt-ltb, le-ltb, not-true, not_from_false}
 use Rattle.std.proofs.lemmas.Nat.{div-add-mod', div-mul-add, mod-mul-add}
 use Rattle.tree.specs.Sums.{some_below}
-use Rattle.volume_laws.proofs.Naming.{Naming, room, front, named, spot, some_slot, entered}
+use Rattle.volume_laws.proofs.Naming.{Naming, room, front, named, spot, is_in_slot, entered}
 use Rattle.volume_laws.proofs.Sums.{some_from, some_witness}
 
 pub room_front : (h : ℕ) → h < 3 → ((h ≡ 2) × (room h ≡ 7) × (front h ≡ 0)) ⊎ ((h < 2) × (room h ≡ 1) × (front h ≡ 8 - h))
@@ -90,12 +90,12 @@ module _ (m : Naming) where
       ∙ cond-false (y == 0) 0 _ (ne_eqb y 0 some)
       ∙ ap (m.word y) r
 
-  pub entered_top : (z : ℕ) → entered m 0 z ≡ (not (z == 0) && some_slot m 9 z)
+  pub entered_top : (z : ℕ) → entered m 0 z ≡ (not (z == 0) && is_in_slot m 9 z)
   unfolding entered
   entered_top z = refl
 
   pub entered_next : (h z : ℕ) → entered m (suc h) z
-      ≡ (not (z == 0) && (some_slot m (8 - h) z || some_below (λ above. entered m h above && some_below (λ j. m.word above j == z) m.width) m.zones))
+      ≡ (not (z == 0) && (is_in_slot m (8 - h) z || some_below (λ above. entered m h above && some_below (λ j. m.word above j == z) m.width) m.zones))
   unfolding entered
   entered_next h z = refl
 
@@ -112,13 +112,13 @@ module _ (m : Naming) where
 
   pub entered_named : (h z : ℕ) → h < 3 → entered m h z ≡ true → Named h z
   entered_named zero z l is =
-      let parts = and_parts (not (z == 0)) (some_slot m 9 z) (sym (entered_top z) ∙ is) in
+      let parts = and_parts (not (z == 0)) (is_in_slot m 9 z) (sym (entered_top z) ∙ is) in
       let w = some_witness (λ n. m.marked n && (m.slot n 9 == z)) m.inodes parts.1 in
       let at = and_parts (m.marked w.0) (m.slot w.0 9 == z) w.2 in
       record { inode = w.0; index = 0; marked = at.0; names = spot_top w.0 0 ∙ eqb-true (m.slot w.0 9) z at.1; some = not_zero z parts.0 }
   entered_named (suc h) z l is =
       let parts = and_parts (not (z == 0)) _ (sym (entered_next h z) ∙ is) in
-      elim (or_cases (some_slot m (8 - h) z) _ parts.1) [
+      elim (or_cases (is_in_slot m (8 - h) z) _ parts.1) [
         | inl s ↦
             let w = some_witness (λ n. m.marked n && (m.slot n (8 - h) == z)) m.inodes s in
             let at = and_parts (m.marked w.0) (m.slot w.0 (8 - h) == z) w.2 in
@@ -140,14 +140,14 @@ module _ (m : Naming) where
       (inside : (n : ℕ) → m.marked n ≡ true → n < m.inodes)
       (bounded : (n h i : ℕ) → m.marked n ≡ true → h < 4 → spot m n h i ≢ 0 → spot m n h i < m.zones) where
 
-    is_some_slot : (s n z : ℕ) → m.marked n ≡ true → m.slot n s ≡ z → some_slot m s z ≡ true
+    is_some_slot : (s n z : ℕ) → m.marked n ≡ true → m.slot n s ≡ z → is_in_slot m s z ≡ true
     is_some_slot s n z is e = some_from _ m.inodes n (inside n is) (and_from (m.marked n) (m.slot n s == z) is (eq-eqb (m.slot n s) z e))
 
     -- A zone that is named at a place of height 0, 1 or 2 is entered there.
     pub named_entered : (h n i z : ℕ) → h < 3 → m.marked n ≡ true → spot m n h i ≡ z → z ≢ 0 → entered m h z ≡ true
     named_entered zero n i z l is e some =
         let at = seen_top n i z e some in
-        entered_top z ∙ and_from (not (z == 0)) (some_slot m 9 z) (not_from_false (z == 0) (ne_eqb z 0 some)) (is_some_slot 9 n z is at.1)
+        entered_top z ∙ and_from (not (z == 0)) (is_in_slot m 9 z) (not_from_false (z == 0) (ne_eqb z 0 some)) (is_some_slot 9 n z is at.1)
     named_entered (suc h) n i z l is e some =
         entered_next h z ∙ and_from (not (z == 0)) _ (not_from_false (z == 0) (ne_eqb z 0 some)) (elim (seen_next n h i z e some) [
           | inl low ↦
@@ -155,11 +155,11 @@ module _ (m : Naming) where
               let one : room h ≡ 1 = cond-false (h == 2) 7 1 (ne_eqb h 2 small) in
               let at_front : front h ≡ 8 - h = cond-false (h == 2) 0 (8 - h) (ne_eqb h 2 small) in
               let place : front h + i ≡ 8 - h = omega (arith, low.low) in
-              or_left (some_slot m (8 - h) z) _ (is_some_slot (8 - h) n z is (ap (m.slot n) (sym place) ∙ low.names))
+              or_left (is_in_slot m (8 - h) z) _ (is_some_slot (8 - h) n z is (ap (m.slot n) (sym place) ∙ low.names))
           | inr up ↦
               let y = spot m n h (under h i) in
               let before = named_entered h n (under h i) y (omega arith) is refl up.some in
               let room_j : beside h i < m.width = omega arith in
-              or_right (some_slot m (8 - h) z) _ (some_from _ m.zones y (bounded n h (under h i) is (omega arith) up.some)
+              or_right (is_in_slot m (8 - h) z) _ (some_from _ m.zones y (bounded n h (under h i) is (omega arith) up.some)
                 (and_from (entered m h y) _ before (some_from _ m.width (beside h i) room_j (eq-eqb (m.word y (beside h i)) z up.names))))
           ])
