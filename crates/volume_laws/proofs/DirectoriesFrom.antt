@@ -7,7 +7,8 @@ use Rattle.tree.specs.Sums.{some_below}
 use Rattle.tree.specs.Names.{same_name, dot, dot_dot}
 use Rattle.tree.specs.Tree.{most_size}
 use Rattle.tree.specs.Space.{pages_of, numbers_in_zone}
-use Rattle.volume.specs.Pieces.{IsGeometry, Pieces}
+use Rattle.layout.specs.Places.{IsGeometry}
+use Rattle.volume.specs.Pieces.{Pieces}
 use Rattle.volume.specs.Nodes.{page_zone, is_marked}
 use Rattle.volume.specs.Entries.{is_directory_inode, entry_count, name_at, target_at, is_field, is_name_field}
 use Rattle.volume.specs.Findings.{is_bad_directory_size, is_bad_entry}

@@ -7,15 +7,11 @@ use Rattle.layout.specs.declared.Geometry.{Geometry}
 use Rattle.tree.specs.Sums.{some_below, least_below}
 use Rattle.volume.specs.Pieces.{Pieces}
 use Rattle.volume.specs.Findings.{lacks_inode_bit, lacks_zone_bit, lacks_root, has_bad_mode, has_bad_size, has_bad_number, is_used_twice, has_bad_bit, has_spare_zone, has_hole, has_bad_dots, has_bad_entry, has_bad_target, is_misplaced, has_bad_links}
-use Rattle.volume.specs.Verdict.{Verdict, Clean, Test, found, first_found, tests, verdict_of_pieces}
-
--- no place is past it
-abbrev pub limit : Geometry → ℕ
-limit g = g.zones + g.inodes + 1
+use Rattle.volume.specs.Verdict.{Verdict, Clean, Test, found, first_found, tests, place_limit, verdict_of_pieces}
 
 -- a test that is true nowhere
 abbrev pub Never : Geometry → Test → Type 0
-Never g test = some_below test (limit g) ≡ false
+Never g test = some_below test (place_limit g) ≡ false
 
 -- no finding, each by its name
 pub record Quiet (g : Geometry) (v : Pieces) : Type 0 where
@@ -39,18 +35,18 @@ AllNever : Geometry → List Test → Type 0
 AllNever g [] = Unit {0}
 AllNever g (test ∷ rest) = (Never g test) × AllNever g rest
 
-clean_never : (g : Geometry) (k : ℕ) (all : List Test) → first_found (limit g) k all ≡ Clean → AllNever g all
+clean_never : (g : Geometry) (k : ℕ) (all : List Test) → first_found (place_limit g) k all ≡ Clean → AllNever g all
 unfolding AllNever
 clean_never g k [] e = tt
-clean_never g k (test ∷ rest) e = elim (cases_Bool (some_below test (limit g))) [
-  | inl is ↦ let f = sym (cond-true (some_below test (limit g)) (found k (least_below test (limit g))) (first_found (limit g) (k + 1) rest) is) ∙ e in absurd (cc)
-  | inr out ↦ (out, clean_never g (k + 1) rest (sym (cond-false (some_below test (limit g)) _ (first_found (limit g) (k + 1) rest) out) ∙ e))
+clean_never g k (test ∷ rest) e = elim (cases_Bool (some_below test (place_limit g))) [
+  | inl is ↦ let f = sym (cond-true (some_below test (place_limit g)) (found k (least_below test (place_limit g))) (first_found (place_limit g) (k + 1) rest) is) ∙ e in absurd (cc)
+  | inr out ↦ (out, clean_never g (k + 1) rest (sym (cond-false (some_below test (place_limit g)) _ (first_found (place_limit g) (k + 1) rest) out) ∙ e))
   ]
 
-never_clean : (g : Geometry) (k : ℕ) (all : List Test) → AllNever g all → first_found (limit g) k all ≡ Clean
+never_clean : (g : Geometry) (k : ℕ) (all : List Test) → AllNever g all → first_found (place_limit g) k all ≡ Clean
 unfolding AllNever
 never_clean g k [] q = refl
-never_clean g k (test ∷ rest) q = cond-false (some_below test (limit g)) _ (first_found (limit g) (k + 1) rest) q.0 ∙ never_clean g (k + 1) rest q.1
+never_clean g k (test ∷ rest) q = cond-false (some_below test (place_limit g)) _ (first_found (place_limit g) (k + 1) rest) q.0 ∙ never_clean g (k + 1) rest q.1
 
 -- a clean verdict finds nothing
 pub clean_quiet : (g : Geometry) (v : Pieces) → verdict_of_pieces g v ≡ Clean → Quiet g v

@@ -6,11 +6,13 @@ use Rattle.layout.specs.declared.Geometry.{Geometry}
 use Rattle.tree.specs.Names.{same_name}
 use Rattle.tree.specs.Sums.{some_below}
 use Rattle.volume.specs.Reading.{is_inode, is_data_zone}
-use Rattle.volume.specs.Pieces.{IsGeometry, Pieces}
+use Rattle.layout.specs.Places.{IsGeometry}
+use Rattle.volume.specs.Pieces.{Pieces}
 use Rattle.volume.specs.Nodes.{is_directory_mode, is_marked}
 use Rattle.volume.specs.Entries.{is_directory_inode}
 use Rattle.volume_laws.proofs.Sums.{none_below}
-use Rattle.volume_laws.proofs.Quiet.{limit, guarded_false}
+use Rattle.volume.specs.Verdict.{place_limit}
+use Rattle.volume_laws.proofs.Quiet.{guarded_false}
 
 -- the test of names against equality
 pub same_name_true : (xs ys : List ℕ) → same_name xs ys ≡ true → xs ≡ ys
@@ -42,17 +44,17 @@ module _ (g : Geometry) (v : Pieces) where
   dir_marked n is = (and_parts (is_marked g v n) (is_directory_mode (v.inodes n).mode) is).0
 
   -- a test that no inode, no directory, no data zone meets
-  pub at_inode : (p : ℕ → Bool) (n : ℕ) → some_below (λ k. is_marked g v k && p k) (limit g) ≡ false → is_marked g v n ≡ true → p n ≡ false
+  pub at_inode : (p : ℕ → Bool) (n : ℕ) → some_below (λ k. is_marked g v k && p k) (place_limit g) ≡ false → is_marked g v n ≡ true → p n ≡ false
   at_inode p n none is =
       let low = marked_low n is in
-      guarded_false (is_marked g v n) (p n) (none_below (λ k. is_marked g v k && p k) (limit g) none n (omega (arith, low.1))) is
+      guarded_false (is_marked g v n) (p n) (none_below (λ k. is_marked g v k && p k) (place_limit g) none n (omega (arith, low.1))) is
 
-  pub at_dir : (p : ℕ → Bool) (n : ℕ) → some_below (λ k. is_directory_inode g v k && p k) (limit g) ≡ false → is_directory_inode g v n ≡ true → p n ≡ false
+  pub at_dir : (p : ℕ → Bool) (n : ℕ) → some_below (λ k. is_directory_inode g v k && p k) (place_limit g) ≡ false → is_directory_inode g v n ≡ true → p n ≡ false
   at_dir p n none is =
       let low = marked_low n (dir_marked n is) in
-      guarded_false (is_directory_inode g v n) (p n) (none_below (λ k. is_directory_inode g v k && p k) (limit g) none n (omega (arith, low.1))) is
+      guarded_false (is_directory_inode g v n) (p n) (none_below (λ k. is_directory_inode g v k && p k) (place_limit g) none n (omega (arith, low.1))) is
 
-  pub at_zone : (p : ℕ → Bool) (z : ℕ) → some_below (λ k. is_data_zone g k && p k) (limit g) ≡ false → is_data_zone g z ≡ true → p z ≡ false
+  pub at_zone : (p : ℕ → Bool) (z : ℕ) → some_below (λ k. is_data_zone g k && p k) (place_limit g) ≡ false → is_data_zone g z ≡ true → p z ≡ false
   at_zone p z none is =
       let low = data_low z is in
-      guarded_false (is_data_zone g z) (p z) (none_below (λ k. is_data_zone g k && p k) (limit g) none z (omega (arith, low.1))) is
+      guarded_false (is_data_zone g z) (p z) (none_below (λ k. is_data_zone g k && p k) (place_limit g) none z (omega (arith, low.1))) is

@@ -52,7 +52,7 @@ module _ (edge : ℕ → ℕ → Bool) (limit : ℕ) where
   abbrev r : ℕ → ℕ → Bool
   r k n = reached edge limit k n
 
-  next : (k n : ℕ) → r (suc k) n ≡ (r k n || some_below (λ m. r k m && edge m n) limit)
+  next : (k n : ℕ) → r (suc k) n ≡ (r k n || some_below (λ m. edge m n && r k m) limit)
   unfolding reached
   next k n = refl
 
@@ -68,7 +68,7 @@ module _ (edge : ℕ → ℕ → Bool) (limit : ℕ) where
   grows_by (suc j) k n is = let e : suc j + k ≡ suc (j + k) = omega arith in ap (λ a. r a n) e ∙ grows (j + k) n (grows_by j k n is)
 
   pub along : (k m n : ℕ) → m < limit → r k m ≡ true → edge m n ≡ true → r (suc k) n ≡ true
-  along k m n l is step = next k n ∙ or_right (r k n) _ (some_from _ limit m l (and_from (r k m) (edge m n) is step))
+  along k m n l is step = next k n ∙ or_right (r k n) _ (some_from _ limit m l (and_from (edge m n) (r k m) step is))
 
   abbrev Stable : ℕ → Type 0
   Stable k = (n : ℕ) → n < limit → r (suc k) n ≡ true → r k n ≡ true
@@ -78,9 +78,9 @@ module _ (edge : ℕ → ℕ → Bool) (limit : ℕ) where
   stays k still n l is = elim (or_cases (r (suc k) n) _ (sym (next (suc k) n) ∙ is)) [
     | inl e ↦ e
     | inr s ↦
-        let w = some_witness (λ m. r (suc k) m && edge m n) limit s in
-        let at = and_parts (r (suc k) w.0) (edge w.0 n) w.2 in
-        along k w.0 n w.1 (still w.0 w.1 at.0) at.1
+        let w = some_witness (λ m. edge m n && r (suc k) m) limit s in
+        let at = and_parts (edge w.0 n) (r (suc k) w.0) w.2 in
+        along k w.0 n w.1 (still w.0 w.1 at.1) at.0
     ]
 
   stays_by : (j k : ℕ) → Stable k → Stable (j + k)
@@ -135,9 +135,9 @@ module _ (edge : ℕ → ℕ → Bool) (limit : ℕ) where
   reached_inside set root closed (suc k) n is = elim (or_cases (r k n) _ (sym (next k n) ∙ is)) [
     | inl before ↦ reached_inside set root closed k n before
     | inr s ↦
-        let w = some_witness (λ m. r k m && edge m n) limit s in
-        let at = and_parts (r k w.0) (edge w.0 n) w.2 in
-        closed w.0 n w.1 (reached_inside set root closed k w.0 at.0) at.1
+        let w = some_witness (λ m. edge m n && r k m) limit s in
+        let at = and_parts (edge w.0 n) (r k w.0) w.2 in
+        closed w.0 n w.1 (reached_inside set root closed k w.0 at.1) at.0
     ]
 
   -- so a walk that ends with such a set, and added only what is reached, has found just what is reached
@@ -199,9 +199,9 @@ module _ (edge : ℕ → ℕ → Bool) (limit : ℕ) where
         | inr s ↦ elim (cases_eq n 1) [
           | inl o ↦ (0, up_none n ∙ o)
           | inr d ↦
-              let w = some_witness (λ m. r k m && edge m n) limit s in
-              let at = and_parts (r k w.0) (edge w.0 n) w.2 in
-              let before = reached_climbs k w.0 (from w.0 n at.1).1 at.0 in
-              (suc before.0, up_next before.0 n ∙ ap (up before.0) (sym (alone w.0 n is d at.1)) ∙ before.1)
+              let w = some_witness (λ m. edge m n && r k m) limit s in
+              let at = and_parts (edge w.0 n) (r k w.0) w.2 in
+              let before = reached_climbs k w.0 (from w.0 n at.0).1 at.1 in
+              (suc before.0, up_next before.0 n ∙ ap (up before.0) (sym (alone w.0 n is d at.0)) ∙ before.1)
           ]
         ]

@@ -8,9 +8,11 @@ use Rattle.tree.specs.Sums.{some_below}
 use Rattle.tree.specs.ZonesNeeded.{page_limit}
 use Rattle.tree.specs.Space.{pages_of, numbers_in_zone}
 use Rattle.volume.specs.Reading.{is_data_zone}
-use Rattle.volume.specs.Pieces.{IsGeometry, Pieces}
+use Rattle.layout.specs.Places.{IsGeometry}
+use Rattle.volume.specs.Pieces.{Pieces}
 use Rattle.volume.specs.Nodes.{page_zone, is_marked}
 use Rattle.volume.specs.Places.{zone_at, Use, IsSamePlace, has_number, uses}
+use Rattle.volume.specs.Verdict.{place_limit}
 use Rattle.volume.specs.Holds.{ZonesAgree, IsSoundInode}
 use Rattle.volume_laws.proofs.Naming.{spot}
 use Rattle.volume_laws.proofs.Sums.{none_below}
@@ -90,8 +92,8 @@ module _ (g : Geometry) (v : Pieces) (ok : IsGeometry g) (sized : 0 < numbers_in
 
   pub zones_agree : ZonesAgree g v
   zones_agree = record {
-    inode_bit_0 = not-false _ (none_below _ (g.zones + g.inodes + 1) q.inode_bit 0 (omega arith));
-    zone_bit_0 = not-false _ (none_below _ (g.zones + g.inodes + 1) q.zone_bit 0 (omega arith));
+    inode_bit_0 = not-false _ (none_below _ (place_limit g) q.inode_bit 0 (omega arith));
+    zone_bit_0 = not-false _ (none_below _ (place_limit g) q.zone_bit 0 (omega arith));
     numbers = numbers;
     once = once;
     mapped = mapped;
