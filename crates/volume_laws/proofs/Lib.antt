@@ -13,3 +13,5 @@ pub mod Ranges
 pub mod ZonesFrom
 pub mod DirectoriesFrom
 pub mod NodesAs
+pub mod Widths
+pub mod Files
