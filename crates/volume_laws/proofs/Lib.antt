@@ -15,3 +15,5 @@ pub mod DirectoriesFrom
 pub mod NodesAs
 pub mod Widths
 pub mod Files
+pub mod Ways
+pub mod TreeFrom
