@@ -17,3 +17,6 @@ pub mod Widths
 pub mod Files
 pub mod Ways
 pub mod TreeFrom
+pub mod QuietFrom
+pub mod Parsed
+pub mod CleanTree
