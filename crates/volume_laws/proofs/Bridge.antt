@@ -24,7 +24,7 @@ pub div_some : (a n : ℕ) → 0 < n → n ≤ a → a / n ≢ 0
 div_some a n s h z = let e = div-add-mod' a n in let t : a / n * n ≡ 0 * n = ap (λ q. q * n) z in absurd (omega arith)
 
 -- no place past the limit of its height names a zone
-pub limit_at : ℕ → ℕ → ℕ
+unfoldable pub limit_at : ℕ → ℕ → ℕ
 limit_at n zero = 1
 limit_at n (suc h) = room h + limit_at n h * n
 

@@ -20,3 +20,5 @@ pub mod TreeFrom
 pub mod QuietFrom
 pub mod Parsed
 pub mod CleanTree
+pub mod Swapped
+pub mod Levels
