@@ -22,3 +22,6 @@ pub mod Parsed
 pub mod CleanTree
 pub mod Swapped
 pub mod Levels
+pub mod ZonesOf
+pub mod MarkedZones
+pub mod LeavesRoom

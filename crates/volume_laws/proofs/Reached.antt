@@ -5,12 +5,7 @@ use Rattle.std.specs.Prelude.{not, ◌&&◌, ◌||◌, ◌==◌}
 use Rattle.std.proofs.lemmas.Bool.{cases_eq, cases_Bool, cases_lt, or_cases, or_left, or_right, and_parts, and_from, cond-true, cond-false, eq-eqb, eqb-true, not-true, not_from_false, both_ways}
 use Rattle.tree.specs.Sums.{sum_below, count_below, some_below, one_if}
 use Rattle.volume_laws.proofs.Reach.{reached, climb}
-use Rattle.volume_laws.proofs.Sums.{some_from, same_some, some_witness, none_below, one_most, one_true}
-
-count_most : (p : ℕ → Bool) (n : ℕ) → count_below p n ≤ n
-unfolding sum_below
-count_most p zero = omega arith
-count_most p (suc n) = let before = count_most p n in let here = one_most (p n) in omega arith
+use Rattle.volume_laws.proofs.Sums.{some_from, same_some, some_witness, none_below, one_most, one_true, count_most}
 
 -- as many as there are numbers: all
 count_full : (p : ℕ → Bool) (n : ℕ) → n ≤ count_below p n → (k : ℕ) → k < n → p k ≡ true

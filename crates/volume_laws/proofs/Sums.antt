@@ -42,6 +42,12 @@ pub one_most : (b : Bool) → one_if b ≤ 1
 one_most true = omega arith
 one_most false = omega arith
 
+-- a count is at most the bound
+pub count_most : (p : ℕ → Bool) (n : ℕ) → count_below p n ≤ n
+unfolding sum_below
+count_most p zero = omega arith
+count_most p (suc n) = let before = count_most p n in let here = one_most (p n) in omega arith
+
 pub one_true : (b : Bool) → b ≡ true → one_if b ≡ 1
 one_true b e = ap one_if e
 
