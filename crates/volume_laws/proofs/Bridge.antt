@@ -1,6 +1,6 @@
 -- The places of inodes as the volume's definitions name them, and its counts, are the plain ones.
-use Rattle.std.proofs.Common.{◌≡◌, ◌≢◌, ◌⊎◌, ◌<◌, ◌≤◌, ◌+◌, ◌-◌, ◌*◌, ◌/◌, ◌%◌, ℕ, zero, suc, Bool, true, false, refl, sym, ap, ◌∙◌, cond, arith}
-use mathlib.Core.Logic.{inl, inr, ◌↔◌}
+use Rattle.std.proofs.Common.{◌≡◌, ◌≢◌, ◌<◌, ◌≤◌, ◌+◌, ◌-◌, ◌*◌, ◌/◌, ◌%◌, ℕ, zero, suc, refl, sym, ap, ◌∙◌, cond, arith}
+use mathlib.Core.Logic.{inl, inr}
 use Rattle.std.specs.Prelude.{not, ◌==◌, ◌&&◌, ◌||◌, nat_lt, nat_le}
 use Rattle.std.proofs.lemmas.Bool.{cases_eq, cases_lt, cond-true, cond-false, eq-eqb, ne_eqb, lt-ltb, le-ltb, le-leb, lt-leb, ltb-true}
 use Rattle.std.proofs.lemmas.Nat.{div-add-mod', div_below}
@@ -43,7 +43,7 @@ beyond m n (suc h) i s l =
           let turn : a * w ≡ (suc q + d) * w = ap (λ x. x * w) (let e : a ≡ suc q + d = omega arith in e) in
           absurd (grind arith)
       | inr most ↦ most
-      ]
+    ]
 
 spread : (n : ℕ) → (1 + (1 + 1 * n) * n) * n ≡ n + n * n + n * n * n
 spread n = grind arith
@@ -100,8 +100,8 @@ module _ (g : Geometry) (v : Pieces) (sized : 0 < numbers_in_zone g) where
               cond-true (nat_le k w) _ _ (le-leb k w near)
               ∙ ap (number v (slot (v.inodes n) 9)) (sym (mod_all (k - 1) w low))
               ∙ ap (λ z. number v z (beside m 0 k)) (sym up) ∙ sym out
-          ]
-    ]
+        ]
+  ]
 
   last_spot : (n k : ℕ) → last_block (numbers_in_zone g) v (v.inodes n) k ≡ spot m n 2 k
   last_spot n k = elim (cases_eq k 0) [
@@ -113,7 +113,7 @@ module _ (g : Geometry) (v : Pieces) (sized : 0 < numbers_in_zone g) where
         cond-false (k == 0) _ _ (ne_eqb k 0 d)
         ∙ ap (λ z. number v z (beside m 1 k)) (second_spot n (under m 1 k))
         ∙ sym (spot_next m n 1 k ∙ cond-false (nat_lt k (room 1)) _ _ (le-ltb k (room 1) (omega arith)))
-    ]
+  ]
 
   page_spot : (n k : ℕ) → zone_of (numbers_in_zone g) v (v.inodes n) k ≡ spot m n 3 k
   page_spot n k = elim (cases_lt k 7) [
@@ -125,7 +125,7 @@ module _ (g : Geometry) (v : Pieces) (sized : 0 < numbers_in_zone g) where
         cond-false (nat_lt k 7) _ _ (le-ltb k 7 high)
         ∙ ap (λ z. number v z (beside m 2 k)) (last_spot n (under m 2 k))
         ∙ sym (spot_next m n 2 k ∙ cond-false (nat_lt k (room 2)) _ _ (le-ltb k (room 2) (omega arith)))
-    ]
+  ]
 
   top_spot : (n k : ℕ) → zone_at g v (v.inodes n) 3 k ≡ spot m n 0 k
   top_spot n k = sym (spot_top m n k)
@@ -150,20 +150,31 @@ module _ (g : Geometry) (v : Pieces) (sized : 0 < numbers_in_zone g) where
   -- a use is a place
   pub place_of_use : (z : ℕ) → z ≢ 0 → Use g v z → Place m z
   place_of_use z some u = elim (cases_lt u.level 4) [
-    | inl l ↦ record { inode = u.inode; height = 3 - u.level; index = u.index; most = lt-ltb (3 - u.level) 4 (omega arith); marked = u.marked;
-        names = sym (zone_spot u.inode u.level u.index l) ∙ u.names }
+    | inl l ↦ record {
+      inode = u.inode;
+      height = 3 - u.level;
+      index = u.index;
+      most = lt-ltb (3 - u.level) 4 (omega arith);
+      marked = u.marked;
+      names = sym (zone_spot u.inode u.level u.index l) ∙ u.names;
+    }
     | inr far ↦ absurd (some (sym u.names ∙ no_level u.inode u.level u.index far))
-    ]
+  ]
 
   pub level_low : (z : ℕ) → z ≢ 0 → (u : Use g v z) → u.level < 4
   level_low z some u = elim (cases_lt u.level 4) [
     | inl l ↦ l
     | inr far ↦ absurd (some (sym u.names ∙ no_level u.inode u.level u.index far))
-    ]
+  ]
 
   abbrev pub use_of_place : (z : ℕ) → Place m z → Use g v z
   use_of_place z p =
       let low = ltb-true p.height 4 p.most in
       let back : 3 - (3 - p.height) ≡ p.height = omega arith in
-      record { inode = p.inode; level = 3 - p.height; index = p.index; marked = p.marked;
-        names = zone_spot p.inode (3 - p.height) p.index (omega arith) ∙ ap (λ h. spot m p.inode h p.index) back ∙ p.names }
+      record {
+        inode = p.inode;
+        level = 3 - p.height;
+        index = p.index;
+        marked = p.marked;
+        names = zone_spot p.inode (3 - p.height) p.index (omega arith) ∙ ap (λ h. spot m p.inode h p.index) back ∙ p.names;
+      }

@@ -1,20 +1,15 @@
 -- The verdict on an image is Clean exactly where it holds a tree without open files.
-use Rattle.std.proofs.Common.{◌≡◌, ◌≢◌, ◌⊎◌, ◌<◌, ◌≤◌, ◌+◌, ◌*◌, ◌/◌, ℕ, List, length, Bool, true, false, refl, sym, ap, ◌∙◌, cond, arith, subst}
-use mathlib.Core.Logic.{inl, inr, ◌↔◌}
-use Rattle.std.specs.Prelude.{All, IsTrue, slice_index, not, ◌&&◌, ◌||◌, ◌==◌, nat_lt, nat_le, Result, Ok, Err}
-use Rattle.std.proofs.lemmas.Bool.{or_cases, and_parts, cond-true, cond-false, eqb-true, ltb-true, leb-true, not-false}
+use Rattle.std.proofs.Common.{◌≡◌, ◌<◌, ℕ, List, refl, sym, ap, ◌∙◌, subst}
+use Rattle.std.specs.Prelude.{All, Result, Ok, Err}
 use Rattle.layout.specs.declared.Geometry.{Geometry}
 use Rattle.layout.specs.declared.LayoutRefusal.{LayoutRefusal}
-use Rattle.layout.specs.declared.LayoutRefusal.TheVariants.{Truncated, BadMagic, BadBlockSize, BadVersion, BadCounts, DoesNotFit}
-use Rattle.layout.specs.Bytes.{u16_at, u32_at}
-use Rattle.layout.specs.Places.{superblock_geometry, table_blocks, counts_agree, is_block_size, geometry_of, IsGeometry}
+use Rattle.layout.specs.Places.{geometry_of, IsGeometry}
 use Rattle.tree.specs.Tree.{Tree}
 use Rattle.tree.specs.IsTree.{IsTree, IsClosed}
-use Rattle.tree.specs.Space.{numbers_in_zone}
 use Rattle.volume.specs.Reading.{disk_of}
 use Rattle.volume.specs.Pieces.{Pieces, pieces}
 use Rattle.volume.specs.Nodes.{nodes_of}
-use Rattle.volume.specs.Holds.{HoldsNodes, Holds}
+use Rattle.volume.specs.Holds.{HoldsNodes}
 use Rattle.volume.specs.Verdict.{Verdict, Clean, found, refusal_number, verdict_of_pieces, verdict_of, HoldsClosed}
 use Rattle.volume_laws.specs.Laws.{CleanIsATree}
 use Rattle.volume_laws.proofs.Quiet.{clean_quiet, quiet_clean}
@@ -38,13 +33,13 @@ judged image (Ok g) = verdict_of_pieces g (pieces g (disk_of g image))
 verdict_judged : (image : List ℕ) (r : Result Geometry LayoutRefusal) → geometry_of image ≡ r → verdict_of image ≡ judged image r
 unfolding judged
 verdict_judged image (Err refusal) e = ap (λ (r : Result Geometry LayoutRefusal). elim r [
-    | Err refusal ↦ found 1 (refusal_number refusal)
-    | Ok g ↦ verdict_of_pieces g (pieces g (disk_of g image))
-    ]) e
+  | Err refusal ↦ found 1 (refusal_number refusal)
+  | Ok g ↦ verdict_of_pieces g (pieces g (disk_of g image))
+]) e
 verdict_judged image (Ok g) e = ap (λ (r : Result Geometry LayoutRefusal). elim r [
-    | Err refusal ↦ found 1 (refusal_number refusal)
-    | Ok g ↦ verdict_of_pieces g (pieces g (disk_of g image))
-    ]) e
+  | Err refusal ↦ found 1 (refusal_number refusal)
+  | Ok g ↦ verdict_of_pieces g (pieces g (disk_of g image))
+]) e
 
 judged_held : (image : List ℕ) → All (λ b. b < 256) image → (r : Result Geometry LayoutRefusal) → geometry_of image ≡ r → judged image r ≡ Clean → (t : Tree) × HoldsClosed image t
 unfolding judged
@@ -57,7 +52,8 @@ judged_held image bytes (Ok g) e is =
 pub clean_is_a_tree : CleanIsATree
 unfolding judged
 clean_is_a_tree image bytes = (
-    λ is. judged_held image bytes (geometry_of image) refl (sym (verdict_judged image (geometry_of image) refl) ∙ is),
-    λ h. let c = h.1 in
-        verdict_judged image (Ok c.geometry) c.parsed
-        ∙ held_clean c.geometry (pieces c.geometry (disk_of c.geometry image)) (parsed image c.geometry c.parsed) h.0 c.holds c.closed)
+  λ is. judged_held image bytes (geometry_of image) refl (sym (verdict_judged image (geometry_of image) refl) ∙ is),
+  λ h. let c = h.1 in
+      verdict_judged image (Ok c.geometry) c.parsed
+      ∙ held_clean c.geometry (pieces c.geometry (disk_of c.geometry image)) (parsed image c.geometry c.parsed) h.0 c.holds c.closed,
+)

@@ -1,5 +1,5 @@
 -- A count over three numbers: when it is at most one.
-use Rattle.std.proofs.Common.{◌≡◌, ◌≢◌, ◌<◌, ◌≤◌, ◌+◌, ◌-◌, ℕ, zero, suc, Bool, true, false, refl, sym, ap, ◌∙◌, arith}
+use Rattle.std.proofs.Common.{◌≡◌, ◌<◌, ◌≤◌, ℕ, Bool, true, ap, ◌∙◌, arith}
 use Rattle.tree.specs.Sums.{sum_below, count_below, one_if}
 use Rattle.volume_laws.proofs.Sums.{one_most, one_true, true_one, sum_at, sum_some, sum_same, sum_single}
 
@@ -77,11 +77,11 @@ module _ (p : ℕ → ℕ → ℕ → Bool) (a : ℕ) (b c : ℕ → ℕ) where
   pub cube_single : ((s t : Point p a b c) → (s.k ≡ t.k) × (s.y ≡ t.y) × (s.j ≡ t.j)) → cube p a b c ≤ 1
   cube_single same =
       sum_single (λ k. sum_below (λ y. count_below (p k y) (c k)) (b k)) a
-        (λ k hk. sum_single (λ y. count_below (p k y) (c k)) (b k)
-          (λ y hy. sum_single (λ j. one_if (p k y j)) (c k) (λ j _. one_most (p k y j))
-            (λ j j' hj hj' is is'. (same (point k y j hk hy hj (true_one _ is)) (point k y j' hk hy hj' (true_one _ is'))).2))
-          (λ y y' hy hy' is is'.
-            let w = sum_some (λ j. one_if (p k y j)) (c k) is in
-            let x = sum_some (λ j. one_if (p k y' j)) (c k) is' in
-            (same (point k y w.0 hk hy w.1 (true_one _ w.2)) (point k y' x.0 hk hy' x.1 (true_one _ x.2))).1))
-        (λ k k' hk hk' is is'. (same (on_face k hk is) (on_face k' hk' is')).0)
+      (λ k hk. sum_single (λ y. count_below (p k y) (c k)) (b k)
+      (λ y hy. sum_single (λ j. one_if (p k y j)) (c k) (λ j _. one_most (p k y j))
+      (λ j j' hj hj' is is'. (same (point k y j hk hy hj (true_one _ is)) (point k y j' hk hy hj' (true_one _ is'))).2))
+      (λ y y' hy hy' is is'.
+      let w = sum_some (λ j. one_if (p k y j)) (c k) is in
+      let x = sum_some (λ j. one_if (p k y' j)) (c k) is' in
+      (same (point k y w.0 hk hy w.1 (true_one _ w.2)) (point k y' x.0 hk hy' x.1 (true_one _ x.2))).1))
+      (λ k k' hk hk' is is'. (same (on_face k hk is) (on_face k' hk' is')).0)

@@ -1,5 +1,5 @@
 -- Where no finding holds, the rules of the format on directories hold.
-use Rattle.std.proofs.Common.{◌≡◌, ◌≢◌, ◌<◌, ◌≤◌, ◌+◌, ◌/◌, ◌%◌, ℕ, Bool, true, false, sym, ap, ◌∙◌, arith}
+use Rattle.std.proofs.Common.{◌≡◌, ◌≢◌, ◌<◌, ◌≤◌, ◌%◌, ℕ, true, false, sym, ap, ◌∙◌, arith}
 use Rattle.std.specs.Prelude.{not, ◌&&◌, ◌||◌, ◌==◌, nat_lt, nat_le}
 use Rattle.std.proofs.lemmas.Bool.{or_parts, eqb-true, eqb-false, ltb-false, le-leb, not-false, both_ways}
 use Rattle.layout.specs.declared.Geometry.{Geometry}
@@ -11,7 +11,7 @@ use Rattle.layout.specs.Places.{IsGeometry}
 use Rattle.volume.specs.Pieces.{Pieces}
 use Rattle.volume.specs.Nodes.{page_zone, is_marked}
 use Rattle.volume.specs.Entries.{is_directory_inode, entry_count, name_at, target_at, is_field, is_name_field}
-use Rattle.volume.specs.Findings.{is_bad_directory_size, is_bad_entry}
+use Rattle.volume.specs.Findings.{is_bad_entry}
 use Rattle.volume.specs.Holds.{IsSoundDirectory, IsSound}
 use Rattle.volume_laws.proofs.Sums.{none_below}
 use Rattle.volume_laws.proofs.Quiet.{Quiet, guarded_false}
@@ -44,7 +44,7 @@ module _ (g : Geometry) (v : Pieces) (q : Quiet g v) where
   -- an entry's three tests
   entry_parts : (n e : ℕ) → is_bad_entry g v n e ≡ false
       → ((target_at g v n e == 0) ≡ false) × ((nat_le 2 e && not (is_name_field g v n e)) ≡ false)
-        × (some_below (λ f. same_name (name_at g v n f) (name_at g v n e)) e ≡ false)
+      × (some_below (λ f. same_name (name_at g v n f) (name_at g v n e)) e ≡ false)
   entry_parts n e none =
       let t = target_at g v n e == 0 in
       let k = nat_le 2 e && not (is_name_field g v n e) in
@@ -61,7 +61,7 @@ module _ (g : Geometry) (v : Pieces) (q : Quiet g v) where
   distinct n e f is less low same =
       let apart = none_below (λ a. same_name (name_at g v n a) (name_at g v n f)) f (entry_parts n f (entry_good n f is low)).2 e less in
       both_ways (same_name (name_at g v n e) (name_at g v n f)) apart
-        (ap (λ x. same_name (name_at g v n e) x) (sym same) ∙ same_name_itself (name_at g v n e))
+      (ap (λ x. same_name (name_at g v n e) x) (sym same) ∙ same_name_itself (name_at g v n e))
 
   sound_directory : (n : ℕ) → is_directory_inode g v n ≡ true → IsSoundDirectory g v n
   sound_directory n is =

@@ -1,7 +1,7 @@
 -- A row of entries with different names against the map that it makes.
-use Rattle.std.proofs.Common.{◌≡◌, ◌≢◌, ◌⊎◌, ◌<◌, ◌≤◌, ◌+◌, ◌-◌, ℕ, zero, suc, List, [], ◌∷◌, length, Bool, true, false, refl, sym, ap, ◌∙◌, cond, arith, subst}
+use Rattle.std.proofs.Common.{◌≡◌, ◌≢◌, ◌<◌, ◌+◌, ℕ, zero, suc, [], ◌∷◌, length, Bool, true, false, refl, sym, ap, ◌∙◌, cond, arith, subst}
 use mathlib.Core.Logic.{inl, inr}
-use Rattle.std.specs.Prelude.{None, Some, T, IsTrue, ◌&&◌, is_some, Option}
+use Rattle.std.specs.Prelude.{None, Some, T, IsTrue, is_some}
 use Rattle.std.specs.List.{list_all}
 use Rattle.std.specs.declared.cmp.Ordering.{Ordering}
 use Rattle.std.specs.declared.cmp.Ordering.TheVariants.{Less, Equal, Greater}
@@ -66,7 +66,7 @@ pub cmp_apart : (x y : Name) → x ≢ y → eq_by_cmp name_cmp x y ≡ false
 cmp_apart x y d = elim (cases_Bool (eq_by_cmp name_cmp x y)) [
   | inl e ↦ absurd (d (same_by_cmp x y e))
   | inr e ↦ e
-  ]
+]
 
 some_same : (x y : ℕ) → Some x ≡ Some y → x ≡ y
 some_same x y e = cc
@@ -124,7 +124,7 @@ module _ (name : ℕ → Name) (target : ℕ → ℕ) where
     | inr e ↦
         let before = found_entry k q t (sym (cond-false _ (Some (target k)) (inode_of (map_of k) q) e) ∙ sym (asked k q) ∙ is) in
         (before.0, omega (arith, before.1), before.2, before.3)
-    ]
+  ]
 
   pub not_found : (k : ℕ) (q : Name) → ((e : ℕ) → e < k → name e ≢ q) → inode_of (map_of k) q ≡ None
   not_found zero q apart = ap (λ es. inode_of es q) first
@@ -141,7 +141,7 @@ module _ (name : ℕ → Name) (target : ℕ → ℕ) where
     | inl same ↦ asked k (name e) ∙ cond-true _ (Some (target k)) (inode_of (map_of k) (name e)) (ap (λ x. eq_by_cmp name_cmp x (name k)) (ap name same) ∙ cmp_itself (name k)) ∙ ap (λ x. Some (target x)) (sym same)
     | inr d ↦ asked k (name e) ∙ cond-false _ (Some (target k)) (inode_of (map_of k) (name e)) (cmp_apart (name e) (name k) (apart e k (omega arith) (omega arith)))
         ∙ entry_found k e (λ a b l h. apart a b l (omega arith)) (omega arith)
-    ]
+  ]
 
   fresh : (k : ℕ) → Distinct (suc k) → inode_of (map_of k) (name k) ≡ None
   fresh k apart = not_found k (name k) (λ e h. apart e k h (omega arith))

@@ -1,8 +1,8 @@
 -- The file of a sound inode is a file.
-use Rattle.std.proofs.Common.{◌≡◌, ◌≢◌, ◌<◌, ◌≤◌, ◌+◌, ◌-◌, ◌*◌, ◌/◌, ◌%◌, ℕ, suc, Bool, true, false, refl, sym, ap, ◌∙◌, cond, arith}
+use Rattle.std.proofs.Common.{◌≡◌, ◌≢◌, ◌<◌, ◌≤◌, ◌+◌, ◌-◌, ◌*◌, ◌/◌, ◌%◌, ℕ, suc, Bool, true, false, refl, ap, cond, arith}
 use mathlib.Core.Logic.{inl, inr}
 use Rattle.std.specs.Prelude.{not, ◌||◌, ◌==◌, nat_lt, nat_le}
-use Rattle.std.proofs.lemmas.Bool.{or_cases, cond-true, cond-false, eqb-false, leb-true, le-ltb, not-true, not-false}
+use Rattle.std.proofs.lemmas.Bool.{or_cases, cond-false, eqb-false, leb-true, le-ltb, not-true, not-false}
 use Rattle.std.proofs.lemmas.Nat.{div-add-mod'}
 use Rattle.layout.specs.declared.Geometry.{Geometry}
 use Rattle.volume.specs.declared.Inode.{Inode}
@@ -37,7 +37,7 @@ module _ (g : Geometry) (v : Pieces) (i : Inode) (some : 0 < g.block_size) (byte
   past p is = elim (or_cases (nat_le i.size p) (not (not (page_zone g v i (p / g.block_size) == 0))) is) [
     | inl far ↦ cond-false (nat_lt p i.size) _ 0 (le-ltb p i.size (leb-true i.size p far))
     | inr hole ↦ none_in_hole (nat_lt p i.size) (page_zone g v i (p / g.block_size) == 0) _ (not-false _ (not-true _ hole))
-    ]
+  ]
 
   -- a file by its inode
   pub is_file_of : IsFile g (file_of g v i)

@@ -1,6 +1,6 @@
 -- The tree that a volume holds leaves room.
-use Rattle.std.proofs.Common.{◌≡◌, ◌≤◌, ◌+◌, ℕ, ◌∙◌, arith}
-use Rattle.tree.specs.Sums.{sum_below, count_below}
+use Rattle.std.proofs.Common.{◌+◌, ◌∙◌, arith}
+use Rattle.tree.specs.Sums.{sum_below}
 use Rattle.tree.specs.Space.{zones_of, data_zones}
 use Rattle.volume.specs.Reading.{disk_of}
 use Rattle.volume.specs.Pieces.{pieces}

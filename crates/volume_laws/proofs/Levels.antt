@@ -1,8 +1,8 @@
 -- The zones that a file needs are the places at which zones stand, level by level.
-use Rattle.std.proofs.Common.{◌≡◌, ◌≢◌, ◌<◌, ◌≤◌, ◌+◌, ◌-◌, ◌*◌, ◌/◌, ◌%◌, ℕ, zero, suc, Bool, true, false, refl, sym, ap, ◌∙◌, cond, arith}
+use Rattle.std.proofs.Common.{◌≡◌, ◌≢◌, ◌<◌, ◌+◌, ◌-◌, ◌*◌, ◌/◌, ℕ, suc, Bool, true, refl, sym, ap, ◌∙◌, arith}
 use mathlib.Core.Logic.{inl, inr}
 use Rattle.std.specs.Prelude.{not, ◌==◌, nat_lt}
-use Rattle.std.proofs.lemmas.Bool.{cases_eq, cond-true, cond-false, eq-eqb, ne_eqb, eqb-false, le-ltb, not-true, not_from_false}
+use Rattle.std.proofs.lemmas.Bool.{cases_eq, cond-true, cond-false, eq-eqb, ne_eqb, le-ltb, not_from_false}
 use Rattle.std.proofs.lemmas.Nat.{div-mul-add}
 use Rattle.tree.specs.Sums.{sum_below, count_below, some_below, one_if}
 use Rattle.tree.specs.ZonesNeeded.{page_limit, zones_needed}
@@ -41,7 +41,7 @@ module _ (m : Naming) (n : ℕ) where
           let there : spot m n (suc h) (room h + (i * m.width + w.0)) ≡ m.word (spot m n h i) w.0 = spot_word m n h i w.0 (spot m n h i) w.1 refl some in
           some_from (λ j. taken m n (suc h) (room h + (i * m.width + j))) m.width w.0 w.1 (ap (λ z. not (z == 0)) there ∙ w.2)
           ∙ sym (not_from_false (spot m n h i == 0) (ne_eqb (spot m n h i) 0 some))
-      ]
+    ]
 
     module _ (held : ℕ → Bool) (pages : (p : ℕ) → held p ≡ taken m n 3 p) where
       last_taken : (k : ℕ) → last_needed m.width held k ≡ taken m n 2 k
@@ -63,13 +63,13 @@ module _ (m : Naming) (n : ℕ) where
           let f : ℕ → ℕ = λ h. count_below (taken m n h) (limit_at w h) in
           let parts = zones_needed_is_by_place w held in
           let a : count_below held (page_limit w) ≡ f 3 =
-              same_sum _ _ (page_limit w) (λ p _. ap one_if (pages p))
-              ∙ ap (count_below (taken m n 3)) (let e : page_limit w ≡ limit_at w 3 = grind arith in e) in
+          same_sum _ _ (page_limit w) (λ p _. ap one_if (pages p))
+          ∙ ap (count_below (taken m n 3)) (let e : page_limit w ≡ limit_at w 3 = grind arith in e) in
           let b : count_below (last_needed w held) (1 + w + w * w) ≡ f 2 =
-              same_sum _ _ (1 + w + w * w) (λ k _. ap one_if (last_taken k))
-              ∙ ap (count_below (taken m n 2)) (let e : 1 + w + w * w ≡ limit_at w 2 = grind arith in e) in
+          same_sum _ _ (1 + w + w * w) (λ k _. ap one_if (last_taken k))
+          ∙ ap (count_below (taken m n 2)) (let e : 1 + w + w * w ≡ limit_at w 2 = grind arith in e) in
           let c : count_below (second_needed w held) (1 + w) ≡ f 1 =
-              same_sum _ _ (1 + w) (λ k _. ap one_if (second_taken k))
-              ∙ ap (count_below (taken m n 1)) (let e : 1 + w ≡ limit_at w 1 = omega arith in e) in
+          same_sum _ _ (1 + w) (λ k _. ap one_if (second_taken k))
+          ∙ ap (count_below (taken m n 1)) (let e : 1 + w ≡ limit_at w 1 = omega arith in e) in
           let d : one_if (third_needed w held) ≡ f 0 = let e = ap one_if third_taken in omega arith in
           omega arith

@@ -1,8 +1,8 @@
 -- The zones that a held tree uses are those that the zone map marks.
-use Rattle.std.proofs.Common.{◌≡◌, ◌≢◌, ◌<◌, ◌≤◌, ◌+◌, ◌-◌, ℕ, zero, suc, Bool, true, false, refl, sym, ap, ◌∙◌, arith}
-use mathlib.Core.Logic.{inl, inr, ◌↔◌}
-use Rattle.std.specs.Prelude.{not, ◌&&◌, ◌==◌, nat_lt, nat_le}
-use Rattle.std.proofs.lemmas.Bool.{cases_Bool, cases_lt, and_parts, and_from, eq-eqb, ne_eqb, eqb-true, ltb-true, le-leb, lt-ltb, both_ways}
+use Rattle.std.proofs.Common.{◌≡◌, ◌≢◌, ◌<◌, ◌≤◌, ◌+◌, ◌-◌, ℕ, Bool, true, refl, sym, ap, ◌∙◌, arith}
+use mathlib.Core.Logic.{inl, inr}
+use Rattle.std.specs.Prelude.{◌&&◌, ◌==◌, nat_lt, nat_le}
+use Rattle.std.proofs.lemmas.Bool.{cases_Bool, cases_lt, and_parts, and_from, eq-eqb, eqb-true, ltb-true, le-leb, lt-ltb, both_ways}
 use Rattle.layout.specs.declared.Geometry.{Geometry}
 use Rattle.layout.specs.Places.{IsGeometry}
 use Rattle.tree.specs.Sums.{sum_below, count_below, one_if}
@@ -11,10 +11,10 @@ use Rattle.tree.proofs.Maps.{same_sum}
 use Rattle.volume.specs.Reading.{is_data_zone}
 use Rattle.volume.specs.Pieces.{Pieces}
 use Rattle.volume.specs.Nodes.{is_marked}
-use Rattle.volume.specs.Places.{zone_at, Use}
+use Rattle.volume.specs.Places.{Use}
 use Rattle.volume.specs.Holds.{IsSound}
-use Rattle.volume_laws.proofs.Naming.{spot, Place}
-use Rattle.volume_laws.proofs.Sums.{one_most, one_true}
+use Rattle.volume_laws.proofs.Naming.{spot}
+use Rattle.volume_laws.proofs.Sums.{one_true}
 use Rattle.volume_laws.proofs.Cube.{cube, Point, cube_at, cube_some, cube_single}
 use Rattle.volume_laws.proofs.Bridge.{m, beyond, limit_at, place_of_use, use_of_place}
 use Rattle.volume_laws.proofs.Ranges.{marked_low, data_low, data_some}
@@ -46,13 +46,15 @@ module _ (g : Geometry) (v : Pieces) (ok : IsGeometry g) (sized : 0 < numbers_in
       let p = place_of_use g v sized z some u in
       let low = marked_low g v p.inode p.marked in
       record {
-        k = p.height; y = p.inode; j = p.index;
+        k = p.height;
+        y = p.inode;
+        j = p.index;
         in_k = ltb-true p.height 4 p.most;
         in_y = omega (arith, low.1);
         in_j = elim (cases_lt p.index (limits p.height)) [
           | inl near ↦ near
           | inr far ↦ absurd (some (sym p.names ∙ beyond (m g v sized) p.inode p.height p.index sized far))
-          ];
+        ];
         is = and_from (is_marked g v p.inode) _ p.marked (eq-eqb _ z p.names);
       }
 
@@ -79,7 +81,7 @@ module _ (g : Geometry) (v : Pieces) (ok : IsGeometry g) (sized : 0 < numbers_in
         | inr clear ↦ elim (cases_lt 0 (cube (stands z) 4 inodes limits)) [
           | inl more ↦ absurd (both_ways (v.zone_map (k + 1)) clear (sym bit ∙ (s.zones.mapped z is).1 (use_at z (cube_some (stands z) 4 inodes limits more))))
           | inr none ↦ let zero : one_if (v.zone_map (k + 1)) ≡ 0 = ap one_if clear in omega arith
-          ]
+        ]
       ]
 
   -- what stands at a place of a marked inode is 0 or a data zone
@@ -101,10 +103,10 @@ module _ (g : Geometry) (v : Pieces) (ok : IsGeometry g) (sized : 0 < numbers_in
       let d = data_zones g in
       sum_swap (λ k h. sum_below (λ n. count_below (stands (g.first_zone + k) h n) (limits h)) (inodes h)) d 4
       ∙ same_sum _ _ 4 (λ h l.
-          sum_swap (λ k n. count_below (stands (g.first_zone + k) h n) (limits h)) d (inodes h)
-          ∙ same_sum _ _ (inodes h) (λ n _.
-              sum_swap (λ k i. one_if (stands (g.first_zone + k) h n i)) d (limits h)
-              ∙ same_sum _ _ (limits h) (λ i _. one_place h n i l)))
+      sum_swap (λ k n. count_below (stands (g.first_zone + k) h n) (limits h)) d (inodes h)
+      ∙ same_sum _ _ (inodes h) (λ n _.
+      sum_swap (λ k i. one_if (stands (g.first_zone + k) h n i)) d (limits h)
+      ∙ same_sum _ _ (limits h) (λ i _. one_place h n i l)))
 
   -- the zones of all nodes are as many as bits are set
   pub zones_are_marked : sum_below (λ n. zones_of g (nodes g v n)) (g.inodes + 1) ≡ count_below (λ k. v.zone_map (k + 1)) (data_zones g)

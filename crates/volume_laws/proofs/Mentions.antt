@@ -1,14 +1,12 @@
 -- Counts of uses against places: a zone is used at most once exactly where it has at most one place.
-use Rattle.std.proofs.Common.{◌≡◌, ◌≢◌, ◌⊎◌, ◌<◌, ◌≤◌, ◌+◌, ◌-◌, ◌*◌, ◌/◌, ◌%◌, ℕ, zero, suc, Bool, true, false, refl, sym, ap, ◌∙◌, cond, arith}
+use Rattle.std.proofs.Common.{◌≡◌, ◌⊎◌, ◌<◌, ◌+◌, ℕ, zero, suc, Bool, true, false, refl, sym, ap, ◌∙◌, cond, arith}
 use mathlib.Core.Logic.{inl, inr}
-use Rattle.std.specs.Prelude.{not, ◌&&◌, ◌||◌, ◌==◌, nat_lt, if◌then◌else◌}
-use Rattle.std.proofs.lemmas.Bool.{cases_eq, cases_Bool, cases_lt, or_cases, or_left, or_right, and_parts, and_from, cond-true, cond-false, eq-eqb, ne_eqb, eqb-true, ltb-true, ltb-false, lt-ltb, le-ltb, not-true, not_from_false}
-use Rattle.std.proofs.lemmas.Nat.{div-add-mod', div-mul-add, mod-mul-add}
-use Rattle.tree.specs.Sums.{sum_below, count_below, some_below, one_if}
-use Rattle.volume_laws.proofs.Naming.{Naming, room, front, named, spot, is_in_slot, entered, uses, Place}
+use Rattle.std.specs.Prelude.{◌&&◌, ◌==◌, if◌then◌else◌}
+use Rattle.std.proofs.lemmas.Bool.{cases_eq, and_parts, and_from, cond-true, cond-false, eq-eqb, ne_eqb, eqb-true}
+use Rattle.tree.specs.Sums.{sum_below, count_below}
+use Rattle.volume_laws.proofs.Naming.{Naming, entered, uses}
 use Rattle.tree.proofs.Maps.{same_sum}
-use Rattle.volume_laws.proofs.Sums.{some_from, some_witness}
-use Rattle.volume_laws.proofs.Cube.{cube, Point, cube_at, cube_some, cube_same, cube_single}
+use Rattle.volume_laws.proofs.Cube.{cube, Point}
 
 -- One row of numbers for each (k, y): row y of k = 3 is inode y, of k < 3 the zone y entered at height k.
 module _ (m : Naming) where
@@ -45,9 +43,9 @@ module _ (m : Naming) where
       let f : ℕ → ℕ = λ k. sum_below (λ y. count_below (test z k y) (cells k)) (rows k) in
       let split = three_and_one f in
       let inodes : sum_below (λ n. cond (m.marked n) (count_below (λ s. m.slot n s == z) 10) 0) m.inodes ≡ f 3
-          = same_sum _ _ m.inodes (λ n _. sym (guard_count (m.marked n) (λ s. m.slot n s == z) 10)) in
+      = same_sum _ _ m.inodes (λ n _. sym (guard_count (m.marked n) (λ s. m.slot n s == z) 10)) in
       let zones : sum_below (λ h. sum_below (λ above. cond (entered m h above) (count_below (λ j. m.word above j == z) m.width) 0) m.zones) 3 ≡ sum_below f 3
-          = same_sum _ f 3 (λ h l. level z h l) in
+      = same_sum _ f 3 (λ h l. level z h l) in
       omega arith
     where
       level : (z h : ℕ) → h < 3 → sum_below (λ above. cond (entered m h above) (count_below (λ j. m.word above j == z) m.width) 0) m.zones
@@ -65,11 +63,16 @@ module _ (m : Naming) where
   abbrev pub in_word : (k y j z : ℕ) → k < 3 → y < m.zones → j < m.width → entered m k y ≡ true → m.word y j ≡ z → Mention z
   in_word k y j z hk hy hj is e =
       let no = ne_eqb k 3 (λ e. absurd (omega arith)) in
-      record { k = k; y = y; j = j; in_k = omega arith;
+      record {
+        k = k;
+        y = y;
+        j = j;
+        in_k = omega arith;
         in_y = omega (arith, cond-false (k == 3) m.inodes m.zones no);
         in_j = omega (arith, cond-false (k == 3) 10 m.width no);
         is = and_from (there k y) (cell k y j == z) (cond-false (k == 3) (m.marked y) (entered m k y) no ∙ is)
-          (eq-eqb (cell k y j) z (cond-false (k == 3) (m.slot y j) (m.word y j) no ∙ e)) }
+            (eq-eqb (cell k y j) z (cond-false (k == 3) (m.slot y j) (m.word y j) no ∙ e));
+      }
 
   -- the kinds of a mention
   pub record Direct (z : ℕ) (s : Mention z) : Type 0 where
@@ -98,7 +101,8 @@ module _ (m : Naming) where
               in_y = omega (arith, cond-true (s.k == 3) m.inodes m.zones yes, s.in_y);
               in_j = omega (arith, cond-true (s.k == 3) 10 m.width yes, s.in_j);
               marked = sym (cond-true (s.k == 3) (m.marked s.y) (entered m s.k s.y) yes) ∙ parts.0;
-              names = sym (cond-true (s.k == 3) (m.slot s.y s.j) (m.word s.y s.j) yes) ∙ at; })
+              names = sym (cond-true (s.k == 3) (m.slot s.y s.j) (m.word s.y s.j) yes) ∙ at;
+            })
         | inr d ↦
             let no = ne_eqb s.k 3 d in
             inr (record {
@@ -106,5 +110,6 @@ module _ (m : Naming) where
               in_y = omega (arith, cond-false (s.k == 3) m.inodes m.zones no, s.in_y);
               in_j = omega (arith, cond-false (s.k == 3) 10 m.width no, s.in_j);
               is_entered = sym (cond-false (s.k == 3) (m.marked s.y) (entered m s.k s.y) no) ∙ parts.0;
-              names = sym (cond-false (s.k == 3) (m.slot s.y s.j) (m.word s.y s.j) no) ∙ at; })
+              names = sym (cond-false (s.k == 3) (m.slot s.y s.j) (m.word s.y s.j) no) ∙ at;
+            })
       ]

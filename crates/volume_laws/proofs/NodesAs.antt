@@ -1,15 +1,14 @@
 -- What the nodes of a volume show of its inodes and entries.
-use Rattle.std.proofs.Common.{◌≡◌, ◌≢◌, ◌<◌, ◌≤◌, ◌+◌, ◌-◌, ◌*◌, ◌/◌, ℕ, zero, suc, List, [], ◌∷◌, length, Bool, true, false, refl, sym, ap, ◌∙◌, cond, arith}
+use Rattle.std.proofs.Common.{◌≡◌, ◌≢◌, ◌<◌, ◌≤◌, ◌+◌, ◌-◌, ℕ, zero, suc, [], ◌∷◌, length, Bool, true, false, refl, sym, ap, ◌∙◌, arith}
 use mathlib.Core.Logic.{inl, inr}
-use Rattle.std.specs.Prelude.{◌&&◌, ◌==◌, Option, None, Some, is_some, IsTrue}
+use Rattle.std.specs.Prelude.{◌&&◌, ◌==◌, Option, None, Some, is_some}
 use Rattle.std.specs.List.{list_all}
 use Rattle.std.specs.FinMap.Entries.{is_sorted}
 use Rattle.std.proofs.lemmas.Bool.{cases_Bool, and_parts, and_left, cond-true, cond-false}
 use Rattle.layout.specs.declared.Geometry.{Geometry}
-use Rattle.volume.specs.declared.Inode.{Inode}
-use Rattle.tree.specs.Sums.{sum_below, count_below, one_if}
+use Rattle.tree.specs.Sums.{count_below, one_if}
 use Rattle.tree.specs.Names.{Name, Names, name_cmp, is_name, inode_of, with_name}
-use Rattle.tree.specs.Tree.{File, Directory, Body, is_file, is_directory, Node, is_dir_at, names_of, parent_of}
+use Rattle.tree.specs.Tree.{Body, is_file, is_directory, Node, is_dir_at, names_of, parent_of}
 use Rattle.tree.specs.IsTree.{names_to, subdirectories, all_names_to}
 use Rattle.tree.proofs.Maps.{same_sum, is_the_one}
 use Rattle.volume.specs.Pieces.{Pieces}
@@ -60,7 +59,7 @@ module _ (g : Geometry) (v : Pieces) where
   some_node n = elim (cases_Bool (is_marked g v n)) [
     | inl is ↦ ap is_some (node_marked n is) ∙ sym is
     | inr out ↦ ap is_some (node_unmarked n out) ∙ sym out
-    ]
+  ]
 
   pub node_is : (n : ℕ) (node : Node) → nodes n ≡ Some node → (is_marked g v n ≡ true) × (node ≡ node_of g v (v.inodes n))
   node_is n node e =
@@ -86,9 +85,9 @@ module _ (g : Geometry) (v : Pieces) where
     | inl is ↦ elim (cases_Bool (is_directory_inode g v n)) [
       | inl d ↦ ap (λ o. elim o [ None ↦ false | Some x ↦ body_dir x.body ]) (node_marked n is) ∙ ap body_dir (body_directory n d) ∙ sym d
       | inr f ↦ ap (λ o. elim o [ None ↦ false | Some x ↦ body_dir x.body ]) (node_marked n is) ∙ ap body_dir (body_file n is f) ∙ sym f
-      ]
-    | inr out ↦ ap (λ o. elim o [ None ↦ false | Some x ↦ body_dir x.body ]) (node_unmarked n out) ∙ sym (and_left (is_marked g v n) (is_directory_mode (v.inodes n).mode) out)
     ]
+    | inr out ↦ ap (λ o. elim o [ None ↦ false | Some x ↦ body_dir x.body ]) (node_unmarked n out) ∙ sym (and_left (is_marked g v n) (is_directory_mode (v.inodes n).mode) out)
+  ]
 
   abbrev pub name_after : ℕ → ℕ → Name
   name_after n e = name_at g v n (e + 2)
@@ -112,7 +111,7 @@ module _ (g : Geometry) (v : Pieces) where
   names_none n out = elim (cases_Bool (is_marked g v n)) [
     | inl is ↦ ap names_of (node_marked n is) ∙ ap body_names (body_file n is out)
     | inr none ↦ ap names_of (node_unmarked n none)
-    ]
+  ]
 
   -- its parent, and that of no directory
   pub parent_node : (n : ℕ) → is_directory_inode g v n ≡ true → parent_of (nodes n) ≡ target_at g v n 1
@@ -124,7 +123,7 @@ module _ (g : Geometry) (v : Pieces) where
   parent_none n out = elim (cases_Bool (is_marked g v n)) [
     | inl is ↦ ap parent_of (node_marked n is) ∙ ap body_parent (body_file n is out)
     | inr none ↦ ap parent_of (node_unmarked n none)
-    ]
+  ]
 
   -- the map is in order, and its names are good where those of the row are
   pub names_sorted : (n : ℕ) → is_sorted name_cmp (directory_of g v (v.inodes n)).names ≡ true
@@ -145,7 +144,7 @@ module _ (g : Geometry) (v : Pieces) where
           let w = found_entry (name_after n) (target_after n) (further n) name m (ap (λ es. inode_of es name) (sym (names_node n is)) ∙ e) in
           (is, (w.0, omega (arith, w.1), w.2, w.3))
       | inr out ↦ let none : None ≡ Some m = ap (λ es. inode_of es name) (sym (names_none n out)) ∙ e in absurd (cc)
-      ]
+    ]
 
     pub entry_in : (n e : ℕ) → is_directory_inode g v n ≡ true → 2 ≤ e → e < entry_count v n → inode_of (names_of (nodes n)) (name_at g v n e) ≡ Some (target_at g v n e)
     entry_in n e is two low =
@@ -163,7 +162,7 @@ module _ (g : Geometry) (v : Pieces) where
     named_node k n = names_to_tally k (names_of (nodes n)) ∙ elim (cases_Bool (is_directory_inode g v n)) [
       | inl is ↦ tally_node (λ t. t == k) n is ∙ sym (cond-true (is_directory_inode g v n) _ 0 is)
       | inr out ↦ ap (tally (λ t. t == k)) (names_none n out) ∙ sym (cond-false (is_directory_inode g v n) _ 0 out)
-      ]
+    ]
 
     pub all_named_node : (k : ℕ) → all_names_to g nodes k ≡ all_names_of g v k
     all_named_node k = same_sum _ _ (g.inodes + 1) (λ n _. named_node k n)

@@ -1,13 +1,12 @@
 -- A zone is used at most once exactly where it has at most one place, and used exactly where it has one.
-use Rattle.std.proofs.Common.{◌≡◌, ◌≢◌, ◌⊎◌, ◌<◌, ◌≤◌, ◌+◌, ◌-◌, ◌*◌, ◌/◌, ◌%◌, ℕ, zero, suc, Bool, true, false, refl, sym, ap, ◌∙◌, cond, arith}
-use mathlib.Core.Logic.{inl, inr, ◌↔◌}
-use Rattle.std.specs.Prelude.{nat_lt}
-use Rattle.std.proofs.lemmas.Bool.{cases_eq, cases_lt, lt-ltb, ltb-true}
+use Rattle.std.proofs.Common.{◌≡◌, ◌≢◌, ◌<◌, ◌≤◌, ◌+◌, ◌-◌, ◌*◌, ℕ, zero, suc, true, refl, sym, ap, ◌∙◌, arith}
+use mathlib.Core.Logic.{inl, inr}
+use Rattle.std.proofs.lemmas.Bool.{cases_eq, lt-ltb, ltb-true}
 use Rattle.std.proofs.lemmas.Nat.{div-add-mod', same_from_place}
-use Rattle.volume_laws.proofs.Naming.{Naming, room, front, spot, entered, uses, Place}
-use Rattle.volume_laws.proofs.Cube.{Point, cube_at, cube_some, cube_same, cube_single}
-use Rattle.volume_laws.proofs.Mentions.{test, rows, cells, uses_cube, Mention, in_slot, in_word, Direct, Below, kinds}
-use Rattle.volume_laws.proofs.Spots.{under, beside, room_front, front_below, front_same, spot_top, spot_slot, spot_word, seen_top, Inner, Outer, seen_next, Named, entered_named, named_entered}
+use Rattle.volume_laws.proofs.Naming.{Naming, room, front, spot, uses, Place}
+use Rattle.volume_laws.proofs.Cube.{cube_at, cube_some, cube_same, cube_single}
+use Rattle.volume_laws.proofs.Mentions.{test, rows, cells, uses_cube, Mention, in_slot, in_word, kinds}
+use Rattle.volume_laws.proofs.Spots.{under, beside, front_below, front_same, spot_top, spot_slot, spot_word, seen_top, Inner, Outer, seen_next, Named, entered_named, named_entered}
 
 pub mentioned : (m : Naming) (z : ℕ) → Mention m z → 0 < uses m z
 mentioned m z s = let more = cube_at (test m z) 4 (rows m) (cells m) s in let same = uses_cube m z in omega arith
@@ -24,7 +23,6 @@ one_mention m z same = let e = uses_cube m z in let most = cube_single (test m z
 module _ (m : Naming) (sized : 0 < m.width)
     (inside : (n : ℕ) → m.marked n ≡ true → n < m.inodes)
     (bounded : (n h i : ℕ) → m.marked n ≡ true → h < 4 → spot m n h i ≢ 0 → spot m n h i < m.zones) where
-
   top_mention : (n i z : ℕ) → m.marked n ≡ true → (i ≡ 0) × (m.slot n 9 ≡ z) → Mention m z
   top_mention n i z is at = in_slot m n 9 z (inside n is) (omega arith) is at.1
 
@@ -34,14 +32,14 @@ module _ (m : Naming) (sized : 0 < m.width)
   outer_mention : (n h i z : ℕ) → h < 3 → m.marked n ≡ true → Outer m n h i z → Mention m z
   outer_mention n h i z l is at =
       in_word m h (spot m n h (under m h i)) (beside m h i) z l (bounded n h (under m h i) is (omega arith) at.some) (omega arith)
-        (named_entered m sized inside bounded h n (under m h i) _ l is refl at.some) at.names
+      (named_entered m sized inside bounded h n (under m h i) _ l is refl at.some) at.names
 
   pub place_mention : (n h i z : ℕ) → h < 4 → m.marked n ≡ true → spot m n h i ≡ z → z ≢ 0 → Mention m z
   place_mention n zero i z l is e some = top_mention n i z is (seen_top m n i z e some)
   place_mention n (suc h) i z l is e some = elim (seen_next m n h i z e some) [
     | inl low ↦ inner_mention n h i z (omega arith) is low
     | inr up ↦ outer_mention n h i z (omega arith) is up
-    ]
+  ]
 
   -- at most one use of every zone: at most one place of each
   module _ (single : (z : ℕ) → z ≢ 0 → z < m.zones → uses m z ≤ 1) where
@@ -54,8 +52,8 @@ module _ (m : Naming) (sized : 0 < m.width)
         → h < 3 → m.marked n' ≡ true → Outer m n' h i' z → ⊥
     not_both n s h n' i' z some low l is e lh is' at =
         let r = same_mention m z (single z some low) (in_slot m n s z (inside n is) l is e)
-              (in_word m h (spot m n' h (under m h i')) (beside m h i') z lh (bounded n' h (under m h i') is' (omega arith) at.some) (omega arith)
-                (named_entered m sized inside bounded h n' (under m h i') _ lh is' refl at.some) at.names) in
+        (in_word m h (spot m n' h (under m h i')) (beside m h i') z lh (bounded n' h (under m h i') is' (omega arith) at.some) (omega arith)
+        (named_entered m sized inside bounded h n' (under m h i') _ lh is' refl at.some) at.names) in
         absurd (omega (arith, r.0))
 
     by_words : (n h i n' h' i' z : ℕ) → z ≢ 0 → z < m.zones → h < 3 → h' < 3 → m.marked n ≡ true → m.marked n' ≡ true
@@ -63,10 +61,10 @@ module _ (m : Naming) (sized : 0 < m.width)
         → (h ≡ h') × (spot m n h (under m h i) ≡ spot m n' h' (under m h' i')) × (beside m h i ≡ beside m h' i')
     by_words n h i n' h' i' z some low l l' is is' u v =
         same_mention m z (single z some low)
-          (in_word m h (spot m n h (under m h i)) (beside m h i) z l (bounded n h (under m h i) is (omega arith) u.some) (omega arith)
-            (named_entered m sized inside bounded h n (under m h i) _ l is refl u.some) u.names)
-          (in_word m h' (spot m n' h' (under m h' i')) (beside m h' i') z l' (bounded n' h' (under m h' i') is' (omega arith) v.some) (omega arith)
-            (named_entered m sized inside bounded h' n' (under m h' i') _ l' is' refl v.some) v.names)
+        (in_word m h (spot m n h (under m h i)) (beside m h i) z l (bounded n h (under m h i) is (omega arith) u.some) (omega arith)
+        (named_entered m sized inside bounded h n (under m h i) _ l is refl u.some) u.names)
+        (in_word m h' (spot m n' h' (under m h' i')) (beside m h' i') z l' (bounded n' h' (under m h' i') is' (omega arith) v.some) (omega arith)
+        (named_entered m sized inside bounded h' n' (under m h' i') _ l' is' refl v.some) v.names)
 
     low_of : (n h i z : ℕ) → h < 4 → m.marked n ≡ true → spot m n h i ≡ z → z ≢ 0 → z < m.zones
     low_of n h i z l is e some = let b = bounded n h i is l (λ o. some (sym e ∙ o)) in omega arith
@@ -100,32 +98,32 @@ module _ (m : Naming) (sized : 0 < m.width)
         let low = low_of n (suc h) i z l is e some in
         elim (seen_next m n h i z e some) [
           | inl a ↦ elim (seen_next m n' h' i' z e' some) [
-              | inl b ↦
-                  let at = front_below h i (omega arith) a.low in
-                  let at' = front_below h' i' (omega arith) b.low in
-                  let r = by_slots n (front h + i) n' (front h' + i') z some low (omega arith) (omega arith) is is' a.names b.names in
-                  let f = front_same h h' i i' (omega arith) (omega arith) a.low b.low r.1 in
-                  (r.0, ap suc f.0, f.1)
-              | inr b ↦
-                  let at = front_below h i (omega arith) a.low in
-                  absurd (not_both n (front h + i) h' n' i' z some low (omega arith) is a.names (omega arith) is' b)
-            ]
+            | inl b ↦
+                let at = front_below h i (omega arith) a.low in
+                let at' = front_below h' i' (omega arith) b.low in
+                let r = by_slots n (front h + i) n' (front h' + i') z some low (omega arith) (omega arith) is is' a.names b.names in
+                let f = front_same h h' i i' (omega arith) (omega arith) a.low b.low r.1 in
+                (r.0, ap suc f.0, f.1)
+            | inr b ↦
+                let at = front_below h i (omega arith) a.low in
+                absurd (not_both n (front h + i) h' n' i' z some low (omega arith) is a.names (omega arith) is' b)
+          ]
           | inr a ↦ elim (seen_next m n' h' i' z e' some) [
-              | inl b ↦
-                  let at' = front_below h' i' (omega arith) b.low in
-                  absurd (not_both n' (front h' + i') h n i z some low (omega arith) is' b.names (omega arith) is a)
-              | inr b ↦
-                  let r = by_words n h i n' h' i' z some low (omega arith) (omega arith) is is' a b in
-                  let up = same_place h n (under m h i) h' n' (under m h' i') (spot m n h (under m h i)) (omega arith) (omega arith) is is' refl (sym r.1) a.some in
-                  let turn : under m h i * m.width ≡ under m h' i' * m.width = ap (λ q. q * m.width) up.2 in
-                  let whole : under m h i * m.width + beside m h i ≡ i - room h = div-add-mod' (i - room h) m.width in
-                  let whole' : under m h' i' * m.width + beside m h' i' ≡ i' - room h' = div-add-mod' (i' - room h') m.width in
-                  let rooms : room h ≡ room h' = ap room r.0 in
-                  let j = r.2 in
-                  let high = a.high in
-                  let high' = b.high in
-                  (up.0, ap suc r.0, omega arith)
-            ]
+            | inl b ↦
+                let at' = front_below h' i' (omega arith) b.low in
+                absurd (not_both n' (front h' + i') h n i z some low (omega arith) is' b.names (omega arith) is a)
+            | inr b ↦
+                let r = by_words n h i n' h' i' z some low (omega arith) (omega arith) is is' a b in
+                let up = same_place h n (under m h i) h' n' (under m h' i') (spot m n h (under m h i)) (omega arith) (omega arith) is is' refl (sym r.1) a.some in
+                let turn : under m h i * m.width ≡ under m h' i' * m.width = ap (λ q. q * m.width) up.2 in
+                let whole : under m h i * m.width + beside m h i ≡ i - room h = div-add-mod' (i - room h) m.width in
+                let whole' : under m h' i' * m.width + beside m h' i' ≡ i' - room h' = div-add-mod' (i' - room h') m.width in
+                let rooms : room h ≡ room h' = ap room r.0 in
+                let j = r.2 in
+                let high = a.high in
+                let high' = b.high in
+                (up.0, ap suc r.0, omega arith)
+          ]
         ]
 
   abbrev code : ℕ → ℕ → ℕ
@@ -150,26 +148,38 @@ module _ (m : Naming) (sized : 0 < m.width)
         | inr d'' ↦
             let zero_plus : front 2 + s ≡ s = omega arith in
             record { height = 3; index = s; low = omega arith; names = spot_slot m n 2 s (omega arith) ∙ ap (m.slot n) zero_plus ∙ e; is_code = sym zero_plus; inner = λ a x. let y : a ≡ 2 = omega arith in omega (arith, ap room y) }
-        ]
       ]
     ]
+  ]
 
   pub mention_place : (z : ℕ) → Mention m z → Place m z
   mention_place z s = elim (kinds m z s) [
     | inl d ↦ let at = slot_place s.y s.j z d.in_j d.names in
         record { inode = s.y; height = at.height; index = at.index; most = lt-ltb at.height 4 at.low; marked = d.marked; names = at.names }
     | inr b ↦ let up = entered_named m s.k s.y b.level b.is_entered in
-        record { inode = up.inode; height = suc s.k; index = room s.k + (up.index * m.width + s.j); most = lt-ltb (suc s.k) 4 (omega (arith, b.level));
-          marked = up.marked; names = spot_word m up.inode s.k up.index s.j s.y b.in_j up.names up.some ∙ b.names }
-    ]
+        record {
+          inode = up.inode;
+          height = suc s.k;
+          index = room s.k + (up.index * m.width + s.j);
+          most = lt-ltb (suc s.k) 4 (omega (arith, b.level));
+          marked = up.marked;
+          names = spot_word m up.inode s.k up.index s.j s.y b.in_j up.names up.some ∙ b.names;
+        }
+  ]
 
   abbrev of_slot : (z n s : ℕ) → At n s z → m.marked n ≡ true → Place m z
   of_slot z n s at is = record { inode = n; height = at.height; index = at.index; most = lt-ltb at.height 4 at.low; marked = is; names = at.names }
 
   abbrev of_word : (z k y j : ℕ) → Named m k y → k < 3 → j < m.width → m.word y j ≡ z → Place m z
   of_word z k y j up l lj e =
-      record { inode = up.inode; height = suc k; index = room k + (up.index * m.width + j); most = lt-ltb (suc k) 4 (omega arith);
-          marked = up.marked; names = spot_word m up.inode k up.index j y lj up.names up.some ∙ e }
+      record {
+        inode = up.inode;
+        height = suc k;
+        index = room k + (up.index * m.width + j);
+        most = lt-ltb (suc k) 4 (omega arith);
+        marked = up.marked;
+        names = spot_word m up.inode k up.index j y lj up.names up.some ∙ e;
+      }
 
   -- at most one place of a zone: at most one use
   pub single_use : (z : ℕ) → ((p q : Place m z) → (p.inode ≡ q.inode) × (p.height ≡ q.height) × (p.index ≡ q.index)) → uses m z ≤ 1
@@ -185,7 +195,7 @@ module _ (m : Naming) (sized : 0 < m.width)
           let up = entered_named m t.k t.y b.level b.is_entered in
           let r = same (of_slot z s.y s.j u a.marked) (of_word z t.k t.y t.j up b.level b.in_j b.names) in
           absurd (omega (arith, u.inner t.k r.1, r.2))
-      ]
+    ]
     | inr a ↦ elim (kinds m z t) [
       | inl b ↦
           let u = slot_place t.y t.j z b.in_j b.names in
@@ -201,8 +211,8 @@ module _ (m : Naming) (sized : 0 < m.width)
           let index = r.2 in
           let f = same_from_place up.index s.j vp.index t.j m.width a.in_j b.in_j (omega arith) in
           (k, sym up.names ∙ (λ i. spot m (r.0 i) (k i) (f.0 i)) ∙ vp.names, f.1)
-      ]
-    ])
+    ]
+  ])
 
   -- used: it has a place
   pub used_place : (z : ℕ) → 0 < uses m z → Place m z

@@ -1,5 +1,5 @@
 -- What an accepted superblock promises.
-use Rattle.std.proofs.Common.{◌≡◌, ◌≢◌, ◌⊎◌, ◌<◌, ◌≤◌, ◌+◌, ◌-◌, ◌*◌, ◌/◌, ℕ, List, length, Bool, true, false, refl, sym, ap, ◌∙◌, cond, arith, subst}
+use Rattle.std.proofs.Common.{◌≡◌, ◌<◌, ◌≤◌, ◌+◌, ◌-◌, ◌*◌, ℕ, List, length, Bool, true, false, refl, ap, cond, arith, subst}
 use mathlib.Core.Logic.{inl, inr}
 use Rattle.std.specs.Prelude.{slice_index, not, ◌&&◌, ◌||◌, ◌==◌, nat_lt, nat_le, Result, Ok, Err}
 use Rattle.std.proofs.lemmas.Bool.{and_parts, or_cases, eqb-true, ltb-true, leb-true, not-false}
@@ -34,9 +34,9 @@ big g size = elim (or_cases ((g.block_size == 1024) || (g.block_size == 2048)) (
   | inl e ↦ elim (or_cases (g.block_size == 1024) (g.block_size == 2048) e) [
     | inl f ↦ let x = eqb-true g.block_size 1024 f in omega arith
     | inr f ↦ let x = eqb-true g.block_size 2048 f in omega arith
-    ]
-  | inr f ↦ let x = eqb-true g.block_size 4096 f in omega arith
   ]
+  | inr f ↦ let x = eqb-true g.block_size 4096 f in omega arith
+]
 
 agreed : (g : Geometry) → is_block_size g.block_size ≡ true → counts_agree g ≡ true → IsGeometry g
 agreed g size counts =

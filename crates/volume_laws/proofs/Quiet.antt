@@ -1,13 +1,13 @@
 -- A verdict is Clean exactly where no test holds anywhere.
-use Rattle.std.proofs.Common.{◌≡◌, ◌+◌, ℕ, List, [], ◌∷◌, Bool, true, false, refl, sym, ◌∙◌, cond}
+use Rattle.std.proofs.Common.{◌≡◌, ◌+◌, ℕ, List, [], ◌∷◌, Bool, true, false, refl, sym, ◌∙◌}
 use mathlib.Core.Logic.{inl, inr}
-use Rattle.std.specs.Prelude.{◌&&◌, ◌||◌}
+use Rattle.std.specs.Prelude.{◌&&◌}
 use Rattle.std.proofs.lemmas.Bool.{cases_Bool, cond-true, cond-false}
 use Rattle.layout.specs.declared.Geometry.{Geometry}
 use Rattle.tree.specs.Sums.{some_below, least_below}
 use Rattle.volume.specs.Pieces.{Pieces}
 use Rattle.volume.specs.Findings.{lacks_inode_bit, lacks_zone_bit, lacks_root, has_bad_mode, has_bad_size, has_bad_number, is_used_twice, has_bad_bit, has_spare_zone, has_hole, has_bad_dots, has_bad_entry, has_bad_target, is_misplaced, has_bad_links}
-use Rattle.volume.specs.Verdict.{Verdict, Clean, Test, found, first_found, tests, place_limit, verdict_of_pieces}
+use Rattle.volume.specs.Verdict.{Clean, Test, found, first_found, tests, place_limit, verdict_of_pieces}
 
 -- a test that is true nowhere
 abbrev pub Never : Geometry → Test → Type 0
@@ -41,7 +41,7 @@ clean_never g k [] e = tt
 clean_never g k (test ∷ rest) e = elim (cases_Bool (some_below test (place_limit g))) [
   | inl is ↦ let f = sym (cond-true (some_below test (place_limit g)) (found k (least_below test (place_limit g))) (first_found (place_limit g) (k + 1) rest) is) ∙ e in absurd (cc)
   | inr out ↦ (out, clean_never g (k + 1) rest (sym (cond-false (some_below test (place_limit g)) _ (first_found (place_limit g) (k + 1) rest) out) ∙ e))
-  ]
+]
 
 never_clean : (g : Geometry) (k : ℕ) (all : List Test) → AllNever g all → first_found (place_limit g) k all ≡ Clean
 unfolding AllNever
@@ -56,9 +56,21 @@ clean_quiet g v e =
     let r = q.1.1.1.1.1 in
     let s = r.1.1.1.1.1 in
     record {
-      inode_bit = q.0; zone_bit = q.1.0; root = q.1.1.0; modes = q.1.1.1.0; sizes = q.1.1.1.1.0;
-      numbers = r.0; twice = r.1.0; bits = r.1.1.0; ends = r.1.1.1.0; holes = r.1.1.1.1.0;
-      dots = s.0; entries = s.1.0; targets = s.1.1.0; places = s.1.1.1.0; links = s.1.1.1.1.0;
+      inode_bit = q.0;
+      zone_bit = q.1.0;
+      root = q.1.1.0;
+      modes = q.1.1.1.0;
+      sizes = q.1.1.1.1.0;
+      numbers = r.0;
+      twice = r.1.0;
+      bits = r.1.1.0;
+      ends = r.1.1.1.0;
+      holes = r.1.1.1.1.0;
+      dots = s.0;
+      entries = s.1.0;
+      targets = s.1.1.0;
+      places = s.1.1.1.0;
+      links = s.1.1.1.1.0;
     }
 
 -- and where nothing is found it is clean

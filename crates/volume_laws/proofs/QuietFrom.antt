@@ -1,20 +1,20 @@
 -- Where a tree without open files is held, no finding holds.
-use Rattle.std.proofs.Common.{◌≡◌, ◌≢◌, ◌<◌, ◌≤◌, ◌+◌, ◌-◌, ◌*◌, ◌/◌, ◌%◌, ℕ, suc, length, Bool, true, false, refl, sym, ap, ◌∙◌, cond, arith, subst}
-use mathlib.Core.Logic.{inl, inr, ◌↔◌}
+use Rattle.std.proofs.Common.{◌≡◌, ◌≢◌, ◌<◌, ◌≤◌, ◌+◌, ◌-◌, ℕ, suc, Bool, true, false, refl, sym, ap, ◌∙◌, arith, subst}
+use mathlib.Core.Logic.{inl, inr}
 use Rattle.std.specs.Prelude.{not, ◌&&◌, ◌||◌, ◌==◌, nat_lt, nat_le, None, Some}
-use Rattle.std.proofs.lemmas.Bool.{cases_eq, cases_Bool, cases_lt, or_from, cond-true, cond-false, eq-eqb, ne_eqb, eqb-true, eqb-false, leb-true, ltb-true, lt-ltb, le-ltb, not-true, not_from_true, both_ways, false_from_ne_true}
+use Rattle.std.proofs.lemmas.Bool.{cases_eq, cases_Bool, cases_lt, or_from, cond-true, cond-false, eq-eqb, ne_eqb, eqb-false, leb-true, ltb-true, lt-ltb, le-ltb, not-true, not_from_true, both_ways, false_from_ne_true}
 use Rattle.layout.specs.declared.Geometry.{Geometry}
 use Rattle.layout.specs.Places.{IsGeometry}
 use Rattle.tree.specs.Sums.{some_below, one_if}
 use Rattle.tree.specs.ZonesNeeded.{page_limit}
 use Rattle.tree.specs.Names.{same_name, dot, dot_dot}
-use Rattle.tree.specs.Tree.{Tree, is_dir, is_dir_at, names_of, parent_of, opens, is_open, most_size, most_links, most_open_files}
-use Rattle.tree.specs.IsTree.{IsBody, IsNode, IsTree, IsClosed, above, names_to, all_names_to, links_due, subdirectories}
+use Rattle.tree.specs.Tree.{Tree, is_dir, names_of, opens, is_open, most_size, most_links, most_open_files}
+use Rattle.tree.specs.IsTree.{IsBody, IsTree, IsClosed, above, links_due, subdirectories}
 use Rattle.tree.specs.Space.{pages_of, numbers_in_zone}
 use Rattle.volume.specs.Reading.{is_data_zone}
 use Rattle.volume.specs.Pieces.{Pieces}
-use Rattle.volume.specs.Nodes.{page_zone, is_marked, node_of, directory_of, body_of, nodes_of}
-use Rattle.volume.specs.Places.{zone_at, Use, IsSamePlace, has_number, uses}
+use Rattle.volume.specs.Nodes.{page_zone, is_marked, node_of}
+use Rattle.volume.specs.Places.{zone_at, uses}
 use Rattle.volume.specs.Entries.{is_directory_inode, entry_count, name_at, target_at, is_field, is_name_field}
 use Rattle.volume.specs.Findings.{has_bad_size, has_bad_number, is_used_twice, has_bad_bit, has_spare_zone, has_hole, has_bad_dots, is_bad_entry, has_bad_entry, has_bad_target, is_misplaced, has_bad_links, names_in_of, all_names_of, is_reached, is_parent, links_of}
 use Rattle.volume.specs.Holds.{IsSound}
@@ -49,7 +49,7 @@ module _ (g : Geometry) (v : Pieces) (ok : IsGeometry g) (sized : 0 < numbers_in
   quiet_numbers : (n : ℕ) → has_bad_number g v n ≡ false
   quiet_numbers n = guard_false (is_marked g v n) _ (λ is.
       none_from _ 4 (λ l _. none_from _ (page_limit (numbers_in_zone g)) (λ k _.
-        guard_false (not (zone_at g v (v.inodes n) l k == 0)) _ (λ some. not_false_from _ (data_at n l k is (eqb-false _ 0 (not-true _ some)))))))
+      guard_false (not (zone_at g v (v.inodes n) l k == 0)) _ (λ some. not_false_from _ (data_at n l k is (eqb-false _ 0 (not-true _ some)))))))
 
   same_places : (z : ℕ) → z ≢ 0 → (p q : Place (m g v sized) z) → (p.inode ≡ q.inode) × (p.height ≡ q.height) × (p.index ≡ q.index)
   same_places z some p q =
@@ -78,18 +78,18 @@ module _ (g : Geometry) (v : Pieces) (ok : IsGeometry g) (sized : 0 < numbers_in
               let set = (s.zones.mapped z is).1 (use_of_place g v sized z (used_place (m g v sized) sized inodes_inside bounded z (omega arith))) in
               absurd (both_ways bit clear set)
           | inr none ↦ le-ltb 0 _ none
-          ]
+        ]
       ])
 
   quiet_ends : (n : ℕ) → has_spare_zone g v n ≡ false
   quiet_ends n = guard_false (is_marked g v n) _ (λ is. or_from _ _
       (none_from _ (page_limit (numbers_in_zone g)) (λ p _. guard_false (nat_le (pages_of g (v.inodes n).size) p) _ (λ past.
-        not_false_from _ (elim (cases_eq (page_zone g v (v.inodes n) p) 0) [
-          | inl e ↦ eq-eqb _ 0 e
-          | inr some ↦ let low = (s.inodes n is).inside p some in let high = leb-true _ p past in absurd (omega arith)
-          ]))))
+      not_false_from _ (elim (cases_eq (page_zone g v (v.inodes n) p) 0) [
+        | inl e ↦ eq-eqb _ 0 e
+        | inr some ↦ let low = (s.inodes n is).inside p some in let high = leb-true _ p past in absurd (omega arith)
+      ]))))
       (none_from _ 3 (λ l _. none_from _ (page_limit (numbers_in_zone g)) (λ k _. guard_false (not (zone_at g v (v.inodes n) (suc l) k == 0)) _ (λ some.
-        not_false_from _ ((s.inodes n is).full l k (eqb-false _ 0 (not-true _ some))))))))
+      not_false_from _ ((s.inodes n is).full l k (eqb-false _ 0 (not-true _ some))))))))
 
   quiet_holes : (n : ℕ) → has_hole g v n ≡ false
   quiet_holes n = guard_false (is_directory_inode g v n) _ (λ is. none_from _ (pages_of g (v.inodes n).size) (λ p low. ne_eqb _ 0 ((s.directories n is).whole p low)))
@@ -98,8 +98,8 @@ module _ (g : Geometry) (v : Pieces) (ok : IsGeometry g) (sized : 0 < numbers_in
   quiet_dots n = guard_false (is_directory_inode g v n) _ (λ is.
       let d = s.directories n is in
       or_from (not (is_field g v n 0 dot) || not (target_at g v n 0 == n)) (not (is_field g v n 1 dot_dot))
-        (or_from (not (is_field g v n 0 dot)) (not (target_at g v n 0 == n)) (not_false_from _ d.dot_entry.0) (not_false_from _ (eq-eqb _ n d.dot_entry.1)))
-        (not_false_from _ d.dot_dot_entry))
+      (or_from (not (is_field g v n 0 dot)) (not (target_at g v n 0 == n)) (not_false_from _ d.dot_entry.0) (not_false_from _ (eq-eqb _ n d.dot_entry.1)))
+      (not_false_from _ d.dot_dot_entry))
 
   quiet_entry : (n e : ℕ) → is_directory_inode g v n ≡ true → e < entry_count v n → is_bad_entry g v n e ≡ false
   quiet_entry n e is low =
@@ -108,9 +108,9 @@ module _ (g : Geometry) (v : Pieces) (ok : IsGeometry g) (sized : 0 < numbers_in
       let k = nat_le 2 e && not (is_name_field g v n e) in
       let o = some_below (λ f. same_name (name_at g v n f) (name_at g v n e)) e in
       or_from (t || k) o (or_from t k
-          (ne_eqb (target_at g v n e) 0 (d.used e low))
-          (guard_false (nat_le 2 e) _ (λ two. not_false_from (is_name_field g v n e) (d.names e (leb-true 2 e two) low))))
-        (none_from (λ f. same_name (name_at g v n f) (name_at g v n e)) e (λ f less. false_from_ne_true _ (λ same. d.distinct f e less low (same_name_true _ _ same))))
+      (ne_eqb (target_at g v n e) 0 (d.used e low))
+      (guard_false (nat_le 2 e) _ (λ two. not_false_from (is_name_field g v n e) (d.names e (leb-true 2 e two) low))))
+      (none_from (λ f. same_name (name_at g v n f) (name_at g v n e)) e (λ f less. false_from_ne_true _ (λ same. d.distinct f e less low (same_name_true _ _ same))))
 
   quiet_entries : (n : ℕ) → has_bad_entry g v n ≡ false
   quiet_entries n = guard_false (is_directory_inode g v n) _ (λ is. none_from (is_bad_entry g v n) (entry_count v n) (λ e low. quiet_entry n e is low))
@@ -139,7 +139,7 @@ module _ (g : Geometry) (v : Pieces) (ok : IsGeometry g) (sized : 0 < numbers_in
     quiet_sizes n = guard_false (is_marked g v n) _ (λ is. or_from _ _
         (le-ltb most_size _ (size_low n is))
         (guard_false (is_directory_inode g v n) _ (λ d. let sound = s.directories n d in
-          or_from _ _ (le-ltb _ 128 (omega (arith, sound.two))) (not_false_from _ (eq-eqb _ 0 sound.sized)))))
+        or_from _ _ (le-ltb _ 128 (omega (arith, sound.two))) (not_false_from _ (eq-eqb _ 0 sound.sized)))))
 
     root_dir : is_directory_inode g v 1 ≡ true
     root_dir = sym (dir_node g v 1) ∙ tree.nodes.root
@@ -160,7 +160,7 @@ module _ (g : Geometry) (v : Pieces) (ok : IsGeometry g) (sized : 0 < numbers_in
             | inl d ↦ dir_marked g v _ d
             | inr f ↦ let none : names_in_of g v (target_at g v n 1) n ≡ 0 = cond-false (is_directory_inode g v (target_at g v n 1)) _ 0 f in absurd (omega arith)
           ]
-      ]
+    ]
 
     target_marked : (n e : ℕ) → is_directory_inode g v n ≡ true → e < entry_count v n → is_marked g v (target_at g v n e) ≡ true
     target_marked n e is low = elim (cases_lt e 2) [
@@ -168,8 +168,8 @@ module _ (g : Geometry) (v : Pieces) (ok : IsGeometry g) (sized : 0 < numbers_in
       | inl front ↦ elim (cases_eq e 0) [
         | inl o ↦ ap (λ k. is_marked g v (target_at g v n k)) o ∙ ap (is_marked g v) (s.directories n is).dot_entry.1 ∙ dir_marked g v n is
         | inr d ↦ let one : e ≡ 1 = omega arith in ap (λ k. is_marked g v (target_at g v n k)) one ∙ parent_marked n is
-        ]
       ]
+    ]
 
     quiet_targets : (n : ℕ) → has_bad_target g v n ≡ false
     quiet_targets n = guard_false (is_directory_inode g v n) _ (λ is. none_from _ (entry_count v n) (λ e low. not_false_from _ (target_marked n e is low)))
@@ -182,25 +182,25 @@ module _ (g : Geometry) (v : Pieces) (ok : IsGeometry g) (sized : 0 < numbers_in
         let low = marked_low g v n is in
         reached_is g v g.inodes n
         ∙ climbed_reached (edge g v) (g.inodes + 1) (dir g v) (parent g v) (edge_from g v) edge_parent (orphan g v) (nowhere g v) g.inodes k n
-          (omega (arith, low.0, low.1)) (omega arith) (omega (arith, low.1)) (sym (above_climbs (nodes g v) k n) ∙ up)
+        (omega (arith, low.0, low.1)) (omega arith) (omega (arith, low.1)) (sym (above_climbs (nodes g v) k n) ∙ up)
 
     reaches : (n : ℕ) → is_directory_inode g v n ≡ true → is_reached g v g.inodes n ≡ true
     reaches n is = elim (cases_eq n 1) [
       | inl e ↦ climbs n 0 (dir_marked g v n is) e
       | inr other ↦ let up = (tree.nodes.placed n other (as_node n is)).reached in climbs n up.0 (dir_marked g v n is) up.1
-      ]
+    ]
 
     named_once : (n : ℕ) → is_directory_inode g v n ≡ true → all_names_of g v n ≡ one_if (not (n == 1))
     named_once n is = elim (cases_eq n 1) [
       | inl e ↦ ap (all_names_of g v) e ∙ sym (all_named_node g v differ 1) ∙ tree.nodes.root_name ∙ sym (ap (λ b. one_if (not b)) (eq-eqb n 1 e))
       | inr other ↦ sym (all_named_node g v differ n) ∙ (tree.nodes.placed n other (as_node n is)).one_name ∙ sym (ap (λ b. one_if (not b)) (ne_eqb n 1 other))
-      ]
+    ]
 
     right_parent : (n : ℕ) → is_directory_inode g v n ≡ true → is_parent g v n (target_at g v n 1) ≡ true
     right_parent n is = elim (cases_eq n 1) [
       | inl e ↦ cond-true (n == 1) _ _ (eq-eqb n 1 e) ∙ eq-eqb _ 1 (ap (λ k. target_at g v k 1) e ∙ root_parent)
       | inr other ↦ cond-false (n == 1) _ _ (ne_eqb n 1 other) ∙ ap (λ k. edge g v k n) (sym (parent_node g v n is)) ∙ edge_parent n (as_node n is) other
-      ]
+    ]
 
     quiet_places : (n : ℕ) → is_misplaced g v n ≡ false
     quiet_places n = guard_false (is_directory_inode g v n) _ (λ is.
@@ -208,8 +208,8 @@ module _ (g : Geometry) (v : Pieces) (ok : IsGeometry g) (sized : 0 < numbers_in
         let o = all_names_of g v n == one_if (not (n == 1)) in
         let p = is_parent g v n (target_at g v n 1) in
         or_from (not r || not o) (not p)
-          (or_from (not r) (not o) (not_false_from r (reaches n is)) (not_false_from o (eq-eqb _ _ (named_once n is))))
-          (not_false_from p (right_parent n is)))
+        (or_from (not r) (not o) (not_false_from r (reaches n is)) (not_false_from o (eq-eqb _ _ (named_once n is))))
+        (not_false_from p (right_parent n is)))
 
     links_node : (n : ℕ) → is_marked g v n ≡ true → links_due g (nodes g v) n (node_of g v (v.inodes n)) ≡ links_of g v n
     links_node n is =
@@ -230,10 +230,10 @@ module _ (g : Geometry) (v : Pieces) (ok : IsGeometry g) (sized : 0 < numbers_in
         let at = node_marked g v n is in
         let l = (v.inodes n).links in
         or_from (not (l == links_of g v n) || (l == 0)) (nat_lt most_links l)
-          (or_from (not (l == links_of g v n)) (l == 0)
-            (not_false_from _ (eq-eqb l _ (tree.nodes.links n node at ∙ links_node n is)))
-            (ne_eqb l 0 (λ z. both_ways _ (none_open n) (tree.nameless n node at z))))
-          (le-ltb most_links l (tree.nodes.each n node at).links))
+        (or_from (not (l == links_of g v n)) (l == 0)
+        (not_false_from _ (eq-eqb l _ (tree.nodes.links n node at ∙ links_node n is)))
+        (ne_eqb l 0 (λ z. both_ways _ (none_open n) (tree.nameless n node at z))))
+        (le-ltb most_links l (tree.nodes.each n node at).links))
 
     -- nothing is found
     pub is_quiet : Quiet g v

@@ -1,11 +1,11 @@
 -- A directory is reached by names within the bound exactly where its parents lead to the root.
-use Rattle.std.proofs.Common.{◌≡◌, ◌≢◌, ◌⊎◌, ◌<◌, ◌≤◌, ◌+◌, ◌-◌, ℕ, zero, suc, Bool, true, false, refl, sym, ap, ◌∙◌, cond, arith}
+use Rattle.std.proofs.Common.{◌≡◌, ◌≢◌, ◌⊎◌, ◌<◌, ◌≤◌, ◌+◌, ℕ, zero, suc, Bool, true, false, refl, sym, ap, ◌∙◌, arith}
 use mathlib.Core.Logic.{inl, inr}
 use Rattle.std.specs.Prelude.{not, ◌&&◌, ◌||◌, ◌==◌}
-use Rattle.std.proofs.lemmas.Bool.{cases_eq, cases_Bool, cases_lt, or_cases, or_left, or_right, and_parts, and_from, cond-true, cond-false, eq-eqb, eqb-true, not-true, not_from_false, both_ways}
+use Rattle.std.proofs.lemmas.Bool.{cases_eq, cases_Bool, or_cases, or_left, or_right, and_parts, and_from, eq-eqb, eqb-true, not-true, not_from_false, both_ways}
 use Rattle.tree.specs.Sums.{sum_below, count_below, some_below, one_if}
 use Rattle.volume_laws.proofs.Reach.{reached, climb}
-use Rattle.volume_laws.proofs.Sums.{some_from, same_some, some_witness, none_below, one_most, one_true, count_most}
+use Rattle.volume_laws.proofs.Sums.{some_from, some_witness, none_below, one_true, count_most}
 
 -- as many as there are numbers: all
 count_full : (p : ℕ → Bool) (n : ℕ) → n ≤ count_below p n → (k : ℕ) → k < n → p k ≡ true
@@ -15,9 +15,9 @@ count_full p (suc n) h k l = elim (cases_Bool (p n)) [
   | inl is ↦ elim (cases_eq k n) [
     | inl e ↦ ap p e ∙ is
     | inr d ↦ let one = one_true (p n) is in count_full p n (omega arith) k (omega arith)
-    ]
-  | inr out ↦ let most = count_most p n in let none : one_if (p n) ≡ 0 = ap one_if out in absurd (omega arith)
   ]
+  | inr out ↦ let most = count_most p n in let none : one_if (p n) ≡ 0 = ap one_if out in absurd (omega arith)
+]
 
 one_within : (a b : Bool) → (a ≡ true → b ≡ true) → one_if a ≤ one_if b
 one_within true b h = let e = one_true b (h refl) in omega arith
@@ -41,7 +41,7 @@ count_more p q (suc n) k h l out is = elim (cases_eq k n) [
       let before = count_more p q n k h (omega arith) out is in
       let here = one_within (p n) (q n) (h n) in
       omega arith
-  ]
+]
 
 module _ (edge : ℕ → ℕ → Bool) (limit : ℕ) where
   abbrev r : ℕ → ℕ → Bool
@@ -76,7 +76,7 @@ module _ (edge : ℕ → ℕ → Bool) (limit : ℕ) where
         let w = some_witness (λ m. edge m n && r (suc k) m) limit s in
         let at = and_parts (edge w.0 n) (r (suc k) w.0) w.2 in
         along k w.0 n w.1 (still w.0 w.1 at.1) at.0
-    ]
+  ]
 
   stays_by : (j k : ℕ) → Stable k → Stable (j + k)
   stays_by zero k still n l is = let e : 0 + k ≡ k = omega arith in
@@ -97,20 +97,20 @@ module _ (edge : ℕ → ℕ → Bool) (limit : ℕ) where
           let step = count_more (r k) (r (suc k)) limit w.0 (grows k) w.1 (not-true (r k w.0) at.1) at.0 in
           inl (omega arith)
       | inr none ↦ inr (stays k (λ n l is. elim (cases_Bool (r k n)) [
-          | inl old ↦ old
-          | inr out ↦ let f = none_below (λ n. r (suc k) n && not (r k n)) limit none n l in
-              let t = and_from (r (suc k) n) (not (r k n)) is (not_from_false (r k n) out) in absurd (cc)
-          ]))
-      ]
-    | inr still ↦ inr (stays k still)
+        | inl old ↦ old
+        | inr out ↦ let f = none_below (λ n. r (suc k) n && not (r k n)) limit none n l in
+            let t = and_from (r (suc k) n) (not (r k n)) is (not_from_false (r k n) out) in absurd (cc)
+      ]))
     ]
+    | inr still ↦ inr (stays k still)
+  ]
 
   -- after as many steps as there are numbers nothing is added
   pub enough : (k : ℕ) → 1 < limit → limit ≡ suc k → Stable k
   enough k big e = elim (grown_or_stable k big) [
     | inl more ↦ λ n l is. count_full (r k) limit (omega arith) n l
     | inr still ↦ still
-    ]
+  ]
 
   within : (k j n : ℕ) → 1 < limit → limit ≡ suc k → n < limit → r (j + k) n ≡ true → r k n ≡ true
   within k zero n big e l is = let s : 0 + k ≡ k = omega arith in ap (λ a. r a n) (sym s) ∙ is
@@ -133,7 +133,7 @@ module _ (edge : ℕ → ℕ → Bool) (limit : ℕ) where
         let w = some_witness (λ m. edge m n && r k m) limit s in
         let at = and_parts (edge w.0 n) (r k w.0) w.2 in
         closed w.0 n w.1 (reached_inside set root closed k w.0 at.1) at.0
-    ]
+  ]
 
   -- so a walk that ends with such a set, and added only what is reached, has found just what is reached
   pub walk_found : (set : ℕ → Bool) (k : ℕ) → 1 < limit → limit ≡ suc k → set 1 ≡ true
@@ -145,8 +145,8 @@ module _ (edge : ℕ → ℕ → Bool) (limit : ℕ) where
     | inr out ↦ elim (cases_Bool (r k n)) [
       | inl is ↦ absurd (both_ways (set n) out (reached_inside set root closed k n is))
       | inr none ↦ out ∙ sym none
-      ]
     ]
+  ]
 
   module _ (dir : ℕ → Bool) (parent : ℕ → ℕ)
       (from : (m n : ℕ) → edge m n ≡ true → (m < limit) × (dir m ≡ true))
@@ -177,10 +177,10 @@ module _ (edge : ℕ → ℕ → Bool) (limit : ℕ) where
         | inl is ↦
             let step = in_parent n is d in
             along j (parent n) n (from (parent n) n step).0
-              (climbed j (parent n) (sym (up_next j n) ∙ e)) step
+            (climbed j (parent n) (sym (up_next j n) ∙ e)) step
         | inr out ↦ let z = sym (up_zero j) ∙ sym (ap (up j) (orphan n out)) ∙ sym (up_next j n) ∙ e in absurd (omega arith)
-        ]
       ]
+    ]
 
     pub climbed_reached : (k j n : ℕ) → 1 < limit → limit ≡ suc k → n < limit → up j n ≡ 1 → r k n ≡ true
     climbed_reached k j n big e l is = fuel_enough k j n big e l (climbed j n is)
@@ -198,5 +198,5 @@ module _ (edge : ℕ → ℕ → Bool) (limit : ℕ) where
               let at = and_parts (edge w.0 n) (r k w.0) w.2 in
               let before = reached_climbs k w.0 (from w.0 n at.0).1 at.1 in
               (suc before.0, up_next before.0 n ∙ ap (up before.0) (sym (alone w.0 n is d at.0)) ∙ before.1)
-          ]
         ]
+      ]

@@ -1,36 +1,36 @@
 -- The places at each height, one level at a time.
-use Rattle.std.proofs.Common.{◌≡◌, ◌≢◌, ◌⊎◌, ◌<◌, ◌≤◌, ◌+◌, ◌-◌, ◌*◌, ◌/◌, ◌%◌, ℕ, zero, suc, Bool, true, false, refl, sym, ap, ◌∙◌, cond, arith}
+use Rattle.std.proofs.Common.{◌≡◌, ◌≢◌, ◌⊎◌, ◌<◌, ◌≤◌, ◌+◌, ◌-◌, ◌*◌, ◌/◌, ◌%◌, ℕ, zero, suc, true, refl, sym, ap, ◌∙◌, cond, arith}
 use mathlib.Core.Logic.{inl, inr}
-use Rattle.std.specs.Prelude.{not, ◌&&◌, ◌||◌, ◌==◌, nat_lt, if◌then◌else◌}
-use Rattle.std.proofs.lemmas.Bool.{cases_eq, cases_Bool, cases_lt, or_cases, or_left, or_right, and_parts, and_from, cond-true, cond-false, eq-eqb, ne_eqb, eqb-true, ltb-true, ltb-false, lt-ltb, le-ltb, not-true, not_from_false}
-use Rattle.std.proofs.lemmas.Nat.{div-add-mod', div-mul-add, mod-mul-add}
+use Rattle.std.specs.Prelude.{not, ◌&&◌, ◌||◌, ◌==◌, nat_lt}
+use Rattle.std.proofs.lemmas.Bool.{cases_eq, cases_lt, or_cases, or_left, or_right, and_parts, and_from, cond-true, cond-false, eq-eqb, ne_eqb, eqb-true, lt-ltb, le-ltb, not-true, not_from_false}
+use Rattle.std.proofs.lemmas.Nat.{div-mul-add, mod-mul-add}
 use Rattle.tree.specs.Sums.{some_below}
-use Rattle.volume_laws.proofs.Naming.{Naming, room, front, named, spot, is_in_slot, entered}
+use Rattle.volume_laws.proofs.Naming.{Naming, room, front, spot, is_in_slot, entered}
 use Rattle.volume_laws.proofs.Sums.{some_from, some_witness}
 
 pub room_front : (h : ℕ) → h < 3 → ((h ≡ 2) × (room h ≡ 7) × (front h ≡ 0)) ⊎ ((h < 2) × (room h ≡ 1) × (front h ≡ 8 - h))
 room_front h l = elim (cases_eq h 2) [
   | inl e ↦ let t = eq-eqb h 2 e in inl (e, cond-true (h == 2) 7 1 t, cond-true (h == 2) 0 (8 - h) t)
   | inr d ↦ let t = ne_eqb h 2 d in inr (omega arith, cond-false (h == 2) 7 1 t, cond-false (h == 2) 0 (8 - h) t)
-  ]
+]
 
 pub front_below : (h i : ℕ) → h < 3 → i < room h → front h + i < 9
 front_below h i l r = elim (room_front h l) [
   | inl e ↦ omega (arith, e.1, e.2)
   | inr e ↦ omega (arith, e.1, e.2, e.0)
-  ]
+]
 
 pub front_same : (a b i j : ℕ) → a < 3 → b < 3 → i < room a → j < room b → front a + i ≡ front b + j → (a ≡ b) × (i ≡ j)
 front_same a b i j ha hb hi hj e = elim (room_front a ha) [
   | inl p ↦ elim (room_front b hb) [
     | inl q ↦ (omega (arith, p.0, q.0), omega (arith, p.2, q.2))
     | inr q ↦ absurd (omega (arith, p.0, p.1, p.2, q.0, q.1, q.2))
-    ]
+  ]
   | inr p ↦ elim (room_front b hb) [
     | inl q ↦ absurd (omega (arith, p.0, p.1, p.2, q.0, q.1, q.2))
     | inr q ↦ (omega (arith, p.0, p.1, p.2, q.0, q.1, q.2), omega (arith, p.0, p.1, p.2, q.0, q.1, q.2))
-    ]
   ]
+]
 
 module _ (m : Naming) where
   abbrev pub under : ℕ → ℕ → ℕ
@@ -51,7 +51,7 @@ module _ (m : Naming) where
   seen_top n i z e some = elim (cases_eq i 0) [
     | inl o ↦ (o, sym (cond-true (i == 0) (m.slot n 9) 0 (eq-eqb i 0 o)) ∙ sym (spot_top n i) ∙ e)
     | inr d ↦ absurd (some (sym e ∙ spot_top n i ∙ cond-false (i == 0) (m.slot n 9) 0 (ne_eqb i 0 d)))
-    ]
+  ]
 
   pub record Inner (n h i z : ℕ) : Type 0 where
     pub low : i < room h
@@ -67,12 +67,12 @@ module _ (m : Naming) where
     | inl low ↦ inl (record { low = low; names = sym (cond-true (nat_lt i (room h)) _ _ (lt-ltb i (room h) low)) ∙ sym (spot_next n h i) ∙ e })
     | inr high ↦
         let rest : cond (spot m n h (under h i) == 0) 0 (m.word (spot m n h (under h i)) (beside h i)) ≡ z
-            = sym (cond-false (nat_lt i (room h)) _ _ (le-ltb i (room h) high)) ∙ sym (spot_next n h i) ∙ e in
+        = sym (cond-false (nat_lt i (room h)) _ _ (le-ltb i (room h) high)) ∙ sym (spot_next n h i) ∙ e in
         elim (cases_eq (spot m n h (under h i)) 0) [
           | inl o ↦ absurd (some (sym rest ∙ cond-true (spot m n h (under h i) == 0) 0 _ (eq-eqb _ 0 o)))
           | inr d ↦ inr (record { high = high; some = d; names = sym (cond-false (spot m n h (under h i) == 0) 0 _ (ne_eqb _ 0 d)) ∙ rest })
         ]
-    ]
+  ]
 
   pub spot_slot : (n h i : ℕ) → i < room h → spot m n (suc h) i ≡ m.slot n (front h + i)
   spot_slot n h i low = spot_next n h i ∙ cond-true (nat_lt i (room h)) _ _ (lt-ltb i (room h) low)
@@ -132,14 +132,18 @@ module _ (m : Naming) where
             let at = and_parts (entered m h w.0) (some_below (λ j. m.word w.0 j == z) m.width) w.2 in
             let up = entered_named h w.0 (omega arith) at.0 in
             let x = some_witness (λ j. m.word w.0 j == z) m.width at.1 in
-            record { inode = up.inode; index = room h + (up.index * m.width + x.0); marked = up.marked;
-              names = spot_word up.inode h up.index x.0 w.0 x.1 up.names up.some ∙ eqb-true (m.word w.0 x.0) z x.2; some = not_zero z parts.0 }
+            record {
+              inode = up.inode;
+              index = room h + (up.index * m.width + x.0);
+              marked = up.marked;
+              names = spot_word up.inode h up.index x.0 w.0 x.1 up.names up.some ∙ eqb-true (m.word w.0 x.0) z x.2;
+              some = not_zero z parts.0;
+            }
       ]
 
   module _ (sized : 0 < m.width)
       (inside : (n : ℕ) → m.marked n ≡ true → n < m.inodes)
       (bounded : (n h i : ℕ) → m.marked n ≡ true → h < 4 → spot m n h i ≢ 0 → spot m n h i < m.zones) where
-
     is_some_slot : (s n z : ℕ) → m.marked n ≡ true → m.slot n s ≡ z → is_in_slot m s z ≡ true
     is_some_slot s n z is e = some_from _ m.inodes n (inside n is) (and_from (m.marked n) (m.slot n s == z) is (eq-eqb (m.slot n s) z e))
 
@@ -161,5 +165,5 @@ module _ (m : Naming) where
               let before = named_entered h n (under h i) y (omega arith) is refl up.some in
               let room_j : beside h i < m.width = omega arith in
               or_right (is_in_slot m (8 - h) z) _ (some_from _ m.zones y (bounded n h (under h i) is (omega arith) up.some)
-                (and_from (entered m h y) _ before (some_from _ m.width (beside h i) room_j (eq-eqb (m.word y (beside h i)) z up.names))))
-          ])
+              (and_from (entered m h y) _ before (some_from _ m.width (beside h i) room_j (eq-eqb (m.word y (beside h i)) z up.names))))
+        ])

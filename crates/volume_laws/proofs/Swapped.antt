@@ -1,10 +1,8 @@
 -- Sums of sums in the other order, and a count of numbers that are hit once.
-use Rattle.std.proofs.Common.{◌≡◌, ◌≢◌, ◌⊎◌, ◌<◌, ◌≤◌, ◌+◌, ◌-◌, ℕ, zero, suc, Bool, true, false, refl, sym, ap, ◌∙◌, arith}
-use mathlib.Core.Logic.{inl, inr}
+use Rattle.std.proofs.Common.{◌≡◌, ◌≢◌, ◌<◌, ◌≤◌, ◌+◌, ◌-◌, ℕ, zero, suc, Bool, true, false, refl, sym, ap, ◌∙◌, arith}
 use Rattle.std.specs.Prelude.{not, ◌&&◌, ◌==◌}
 use Rattle.std.proofs.lemmas.Bool.{eq-eqb, ne_eqb, eqb-true}
 use Rattle.tree.specs.Sums.{sum_below, count_below, one_if}
-use Rattle.tree.proofs.Maps.{same_sum}
 use Rattle.volume_laws.proofs.Sums.{one_most, one_true, true_one, sum_at, sum_single}
 
 -- a sum of sums of two functions
@@ -40,6 +38,6 @@ hit_once true (suc y) first d some range =
     let hit : f (x - first) ≡ 1 = one_true (x == first + (x - first)) (eq-eqb x (first + (x - first)) (omega (arith, low.0))) in
     let least : f (x - first) ≤ sum_below f d = sum_at f d (x - first) (omega (arith, low.0, low.1)) in
     let most : sum_below f d ≤ 1 = sum_single f d (λ k h. one_most (x == first + k))
-          (λ a b ha hb pa pb. let u = eqb-true x (first + a) (true_one _ pa) in let w = eqb-true x (first + b) (true_one _ pb) in omega arith) in
+    (λ a b ha hb pa pb. let u = eqb-true x (first + a) (true_one _ pa) in let w = eqb-true x (first + b) (true_one _ pb) in omega arith) in
     let one : one_if (not (x == 0)) ≡ 1 = ap (λ b. one_if (not b)) (ne_eqb x 0 (λ e. absurd (omega arith))) in
     omega arith

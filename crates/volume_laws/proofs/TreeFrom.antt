@@ -1,15 +1,14 @@
 -- Where no finding holds, the nodes of the volume are a tree.
-use Rattle.std.proofs.Common.{◌≡◌, ◌≢◌, ◌<◌, ◌≤◌, ◌+◌, ◌-◌, ◌*◌, ◌/◌, ◌%◌, ◌^◌, ℕ, zero, suc, length, Bool, true, false, refl, sym, ap, ◌∙◌, cond, arith, subst}
+use Rattle.std.proofs.Common.{◌≡◌, ◌≢◌, ◌<◌, ◌≤◌, ◌+◌, ℕ, true, false, refl, sym, ap, ◌∙◌, arith, subst}
 use mathlib.Core.Logic.{inl, inr}
-use Rattle.std.specs.Prelude.{not, ◌&&◌, ◌||◌, ◌==◌, nat_lt, None, Some, is_some}
-use Rattle.std.proofs.lemmas.Bool.{cases_Bool, cases_eq, and_parts, or_parts, cond-true, cond-false, eq-eqb, ne_eqb, eqb-true, eqb-false, ltb-true, ltb-false, lt-ltb, not-false}
-use Rattle.std.proofs.lemmas.Nat.{mod_below}
+use Rattle.std.specs.Prelude.{not, ◌&&◌, ◌||◌, ◌==◌, nat_lt, None, Some}
+use Rattle.std.proofs.lemmas.Bool.{cases_Bool, and_parts, or_parts, cond-true, cond-false, ne_eqb, eqb-true, eqb-false, ltb-true, ltb-false, lt-ltb, not-false}
 use Rattle.layout.specs.declared.Geometry.{Geometry}
 use Rattle.layout.specs.Places.{IsGeometry}
 use Rattle.tree.specs.Sums.{one_if, some_below}
 use Rattle.tree.specs.Names.{is_name}
-use Rattle.tree.specs.Tree.{is_file, is_directory, Node, Tree, is_dir, is_dir_at, names_of, parent_of, most_size, most_links, most_permissions}
-use Rattle.tree.specs.IsTree.{IsBody, IsDirectory, IsNode, IsPlaced, NodesAgree, OpenFilesAgree, IsTree, IsClosed, names_to, all_names_to, links_due, subdirectories}
+use Rattle.tree.specs.Tree.{Node, Tree, is_dir, names_of, most_links}
+use Rattle.tree.specs.IsTree.{IsBody, IsDirectory, IsNode, IsPlaced, NodesAgree, OpenFilesAgree, IsTree, IsClosed, links_due, subdirectories}
 use Rattle.tree.specs.Space.{numbers_in_zone}
 use Rattle.tree.proofs.Maps.{not_nothing}
 use Rattle.volume.specs.Pieces.{Pieces}
@@ -23,7 +22,7 @@ use Rattle.volume_laws.proofs.Reached.{reached_climbs}
 use Rattle.volume_laws.proofs.Quiet.{Quiet}
 use Rattle.volume_laws.proofs.Ranges.{marked_low, dir_marked, at_inode, at_dir}
 use Rattle.volume_laws.proofs.DirectoriesFrom.{size_low, is_sound}
-use Rattle.volume_laws.proofs.NodesAs.{nodes, node_marked, some_node, node_is, body_directory, body_file, dir_node, names_node, names_sorted, names_good, parent_node, find_entry, named_node, all_named_node, subdirectories_node, length_node}
+use Rattle.volume_laws.proofs.NodesAs.{nodes, node_marked, some_node, node_is, body_directory, body_file, dir_node, names_sorted, names_good, parent_node, find_entry, named_node, all_named_node, subdirectories_node, length_node}
 use Rattle.volume_laws.proofs.Widths.{IsOfBytes}
 use Rattle.volume_laws.proofs.Files.{is_file_of}
 use Rattle.volume_laws.proofs.Ways.{edge, reached_is, above_climbs, dir, parent, as_dir, edge_from, orphan, nowhere}
@@ -38,7 +37,7 @@ module _ (g : Geometry) (v : Pieces) (ok : IsGeometry g) (sized : 0 < numbers_in
   targets_marked : (n e : ℕ) → is_directory_inode g v n ≡ true → e < entry_count v n → is_marked g v (target_at g v n e) ≡ true
   targets_marked n e is low =
       not-false _ (none_below (λ e. not (is_marked g v (target_at g v n e))) (entry_count v n)
-        (at_dir g v (λ n. some_below (λ e. not (is_marked g v (target_at g v n e))) (entry_count v n)) n q.targets is) e low)
+      (at_dir g v (λ n. some_below (λ e. not (is_marked g v (target_at g v n e))) (entry_count v n)) n q.targets is) e low)
 
   -- what finding 15 asks of a directory
   record Placed (n : ℕ) : Type 0 where
@@ -66,7 +65,7 @@ module _ (g : Geometry) (v : Pieces) (ok : IsGeometry g) (sized : 0 < numbers_in
   linked n is =
       let l = (v.inodes n).links in
       let none : (not (l == links_of g v n) || (l == 0) || nat_lt most_links l) ≡ false
-          = at_inode g v (λ n. not ((v.inodes n).links == links_of g v n) || ((v.inodes n).links == 0) || nat_lt most_links (v.inodes n).links) n q.links is in
+      = at_inode g v (λ n. not ((v.inodes n).links == links_of g v n) || ((v.inodes n).links == 0) || nat_lt most_links (v.inodes n).links) n q.links is in
       let a = or_parts (not (l == links_of g v n) || (l == 0)) (nat_lt most_links l) none in
       let b = or_parts (not (l == links_of g v n)) (l == 0) a.0 in
       record { due = eqb-true _ _ (not-false _ b.0); some = eqb-false l 0 b.1; few = ltb-false most_links l a.1 }
@@ -103,7 +102,7 @@ module _ (g : Geometry) (v : Pieces) (ok : IsGeometry g) (sized : 0 < numbers_in
   is_placed n other is =
       let d = as_dir g v n is in
       let up = reached_climbs (edge g v) (g.inodes + 1) (dir g v) (parent g v) (edge_from g v) edge_parent (orphan g v) (nowhere g v) alone g.inodes n is
-            (sym (reached_is g v g.inodes n) ∙ (placed n d).is_reached) in
+      (sym (reached_is g v g.inodes n) ∙ (placed n d).is_reached) in
       record {
         one_name = all_named_node g v differ n ∙ one_name n d other;
         in_parent = named_node g v differ n (parent g v n) ∙ once_in_parent n d other;
@@ -117,7 +116,7 @@ module _ (g : Geometry) (v : Pieces) (ok : IsGeometry g) (sized : 0 < numbers_in
         ∙ sym (cond-true (is_dir (node_of g v (v.inodes n))) _ _ (sym (ap (λ o. elim o [ None ↦ false | Some x ↦ is_dir x ]) (node_marked g v n is)) ∙ dir_node g v n ∙ d))
     | inr f ↦ cond-false (is_directory_inode g v n) _ _ f ∙ sym (all_named_node g v differ n)
         ∙ sym (cond-false (is_dir (node_of g v (v.inodes n))) _ _ (sym (ap (λ o. elim o [ None ↦ false | Some x ↦ is_dir x ]) (node_marked g v n is)) ∙ dir_node g v n ∙ f))
-    ]
+  ]
 
   directory_good : (n : ℕ) → is_directory_inode g v n ≡ true → IsDirectory (directory_of g v (v.inodes n))
   directory_good n is =
@@ -135,7 +134,7 @@ module _ (g : Geometry) (v : Pieces) (ok : IsGeometry g) (sized : 0 < numbers_in
     | inl d ↦ subst (IsBody g) (sym (body_directory g v n d)) (directory_good n d)
     | inr f ↦ subst (IsBody g) (sym (body_file g v n is f))
         (is_file_of g v (v.inodes n) ok.sized bytes.zones (size_low g v q n is) (s.inodes n is).inside)
-    ]
+  ]
 
   node_good : (n : ℕ) → is_marked g v n ≡ true → IsNode g (node_of g v (v.inodes n))
   node_good n is =
@@ -143,7 +142,11 @@ module _ (g : Geometry) (v : Pieces) (ok : IsGeometry g) (sized : 0 < numbers_in
       record {
         permissions = omega arith;
         links = (linked n is).few;
-        uid = fits.uid; gid = fits.gid; atime = fits.atime; mtime = fits.mtime; ctime = fits.ctime;
+        uid = fits.uid;
+        gid = fits.gid;
+        atime = fits.atime;
+        mtime = fits.mtime;
+        ctime = fits.ctime;
         body = body_good n is;
       }
 

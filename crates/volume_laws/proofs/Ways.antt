@@ -1,5 +1,5 @@
 -- The volume's and the tree's ways to the root are the plain ones.
-use Rattle.std.proofs.Common.{◌≡◌, ◌≢◌, ◌<◌, ◌≤◌, ◌+◌, ℕ, zero, suc, Bool, true, false, refl, sym, ap, ◌∙◌, arith}
+use Rattle.std.proofs.Common.{◌≡◌, ◌<◌, ◌+◌, ℕ, zero, suc, Bool, true, false, refl, sym, ◌∙◌, arith}
 use mathlib.Core.Logic.{inl, inr}
 use Rattle.std.specs.Prelude.{◌&&◌, ◌||◌, nat_lt, Option}
 use Rattle.std.proofs.lemmas.Bool.{cases_Bool, cond-false, ltb-true}
@@ -47,7 +47,7 @@ module _ (g : Geometry) (v : Pieces) where
         let some = ltb-true 0 (names_in_of g v k n) e in
         let none : names_in_of g v k n ≡ 0 = cond-false (is_directory_inode g v k) _ 0 out in
         absurd (omega arith)
-    ]
+  ]
 
   -- and parents
   pub orphan : (n : ℕ) → dir n ≡ false → parent n ≡ 0
@@ -57,4 +57,4 @@ module _ (g : Geometry) (v : Pieces) where
   nowhere = elim (cases_Bool (dir 0)) [
     | inl is ↦ let low = marked_low g v 0 (dir_marked g v 0 (as_dir 0 is)) in absurd (omega (arith, low.0))
     | inr out ↦ out
-    ]
+  ]

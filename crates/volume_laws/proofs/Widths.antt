@@ -1,5 +1,5 @@
 -- The numbers of a volume of bytes fit their widths.
-use Rattle.std.proofs.Common.{◌≡◌, ◌<◌, ◌≤◌, ◌+◌, ◌*◌, ◌^◌, ℕ, List, length, Bool, true, false, arith, cond}
+use Rattle.std.proofs.Common.{◌<◌, ◌+◌, ◌*◌, ◌^◌, ℕ, List, length, Bool, true, false, arith, cond}
 use mathlib.Core.Logic.{inl, inr}
 use Rattle.std.specs.Prelude.{slice_index, All}
 use Rattle.std.proofs.lemmas.Bool.{cases_lt}
@@ -56,7 +56,7 @@ byte_low : (image : List ℕ) → All (λ b. b < 256) image → (i : ℕ) → sl
 byte_low image all i = elim (cases_lt i (length image)) [
   | inl low ↦ All-get_or (λ b. b < 256) image i 0 low all
   | inr far ↦ let e = get_or_past image i 0 far in omega arith
-  ]
+]
 
 -- the pieces of an image of bytes
 pub image_of_bytes : (g : Geometry) (image : List ℕ) → All (λ b. b < 256) image → IsOfBytes (pieces g (disk_of g image))

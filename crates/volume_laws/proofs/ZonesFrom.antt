@@ -1,10 +1,9 @@
 -- Where no finding holds, the rules of the format on zones hold.
-use Rattle.std.proofs.Common.{◌≡◌, ◌≢◌, ◌<◌, ◌≤◌, ◌+◌, ◌-◌, ◌/◌, ℕ, suc, Bool, true, false, sym, ap, ◌∙◌, cond, arith}
+use Rattle.std.proofs.Common.{◌≡◌, ◌≢◌, ◌<◌, ◌≤◌, ◌+◌, ◌-◌, ℕ, suc, true, false, sym, ap, ◌∙◌, cond, arith}
 use mathlib.Core.Logic.{inl, inr, ◌↔◌}
-use Rattle.std.specs.Prelude.{not, ◌&&◌, ◌||◌, ◌==◌, nat_lt, nat_le}
-use Rattle.std.proofs.lemmas.Bool.{cases_Bool, cases_lt, or_parts, cond-true, cond-false, ne_eqb, eqb-true, eqb-false, ltb-true, ltb-false, le-leb, not-false, not_from_false, both_ways}
+use Rattle.std.specs.Prelude.{not, ◌==◌, nat_lt}
+use Rattle.std.proofs.lemmas.Bool.{cases_Bool, cases_lt, or_parts, cond-true, cond-false, ne_eqb, eqb-true, eqb-false, ltb-false, le-leb, not-false, not_from_false}
 use Rattle.layout.specs.declared.Geometry.{Geometry}
-use Rattle.tree.specs.Sums.{some_below}
 use Rattle.tree.specs.ZonesNeeded.{page_limit}
 use Rattle.tree.specs.Space.{pages_of, numbers_in_zone}
 use Rattle.volume.specs.Reading.{is_data_zone}
@@ -33,8 +32,8 @@ module _ (g : Geometry) (v : Pieces) (ok : IsGeometry g) (sized : 0 < numbers_in
           let level = none_below _ 4 all l low in
           let here = none_below _ (page_limit (numbers_in_zone g)) level k near in
           not-false _ (guarded_false (not (zone_at g v (v.inodes n) l k == 0)) _ here (not_from_false (zone_at g v (v.inodes n) l k == 0) (ne_eqb _ 0 some)))
-      ]
     ]
+  ]
 
   abbrev inodes_inside : (n : ℕ) → (m g v sized).marked n ≡ true → n < (m g v sized).inodes
   inodes_inside n is = let low = marked_low g v n is in omega (arith, low.1)
@@ -65,30 +64,31 @@ module _ (g : Geometry) (v : Pieces) (ok : IsGeometry g) (sized : 0 < numbers_in
     | inr out ↦ elim (cases_lt 0 (uses g v z)) [
       | inl more ↦ let is = numbers z some (use_of_uses z more) in absurd (cc)
       | inr none ↦ omega arith
-      ]
     ]
+  ]
 
   once : (z : ℕ) → z ≢ 0 → (a b : Use g v z) → IsSamePlace a b
   once z some a b =
       let la = level_low g v sized z some a in
       let lb = level_low g v sized z some b in
       let r = same_place (m g v sized) sized inodes_inside bounded (λ y s l. let e = uses_are g v sized y in let o = single y s l in omega arith)
-            (3 - a.level) a.inode a.index (3 - b.level) b.inode b.index z (omega arith) (omega arith) a.marked b.marked
-            (sym (zone_spot g v sized a.inode a.level a.index la) ∙ a.names) (sym (zone_spot g v sized b.inode b.level b.index lb) ∙ b.names) some in
+      (3 - a.level) a.inode a.index (3 - b.level) b.inode b.index z (omega arith) (omega arith) a.marked b.marked
+      (sym (zone_spot g v sized a.inode a.level a.index la) ∙ a.names) (sym (zone_spot g v sized b.inode b.level b.index lb) ∙ b.names) some in
       record { inode = r.0; level = omega (arith, r.1); index = r.2 }
 
   mapped : (z : ℕ) → is_data_zone g z ≡ true → (v.zone_map (z - g.first_zone + 1) ≡ true) ↔ Use g v z
   mapped z is =
       let bit = v.zone_map (z - g.first_zone + 1) in
-      let differ : cond bit (uses g v z == 0) (nat_lt 0 (uses g v z)) ≡ false = at_zone g v _ z q.bits is in
-      (λ set. let some = eqb-false _ 0 (sym (cond-true bit (uses g v z == 0) (nat_lt 0 (uses g v z)) set) ∙ differ) in use_of_uses z (omega arith),
-       λ u. elim (cases_Bool bit) [
-         | inl set ↦ set
-         | inr clear ↦
-             let some = uses_of_use z (data_some g v ok z is) u in
-             let none = ltb-false 0 _ (sym (cond-false bit (uses g v z == 0) (nat_lt 0 (uses g v z)) clear) ∙ differ) in
-             absurd (omega arith)
-       ])
+      let differ : cond bit (uses g v z == 0) (nat_lt 0 (uses g v z)) ≡ false = at_zone g v _ z q.bits is in (
+        λ set. let some = eqb-false _ 0 (sym (cond-true bit (uses g v z == 0) (nat_lt 0 (uses g v z)) set) ∙ differ) in use_of_uses z (omega arith),
+        λ u. elim (cases_Bool bit) [
+          | inl set ↦ set
+          | inr clear ↦
+              let some = uses_of_use z (data_some g v ok z is) u in
+              let none = ltb-false 0 _ (sym (cond-false bit (uses g v z == 0) (nat_lt 0 (uses g v z)) clear) ∙ differ) in
+              absurd (omega arith)
+        ],
+      )
 
   pub zones_agree : ZonesAgree g v
   zones_agree = record {
@@ -111,7 +111,7 @@ module _ (g : Geometry) (v : Pieces) (ok : IsGeometry g) (sized : 0 < numbers_in
               let f = guarded_false _ _ here (le-leb (pages_of g (v.inodes n).size) p past) in
               absurd (some (eqb-true _ 0 (not-false _ f)))
         ]
-    ]
+  ]
 
   full : (n l k : ℕ) → is_marked g v n ≡ true → zone_at g v (v.inodes n) (suc l) k ≢ 0 → has_number g v (zone_at g v (v.inodes n) (suc l) k) ≡ true
   full n l k is some = elim (cases_lt l 3) [
@@ -123,8 +123,8 @@ module _ (g : Geometry) (v : Pieces) (ok : IsGeometry g) (sized : 0 < numbers_in
           let level = none_below _ 3 both.1 l low in
           let here = none_below _ (page_limit (numbers_in_zone g)) level k near in
           not-false _ (guarded_false (not (zone_at g v (v.inodes n) (suc l) k == 0)) _ here (not_from_false (zone_at g v (v.inodes n) (suc l) k == 0) (ne_eqb _ 0 some)))
-      ]
     ]
+  ]
 
   pub sound_inode : (n : ℕ) → is_marked g v n ≡ true → IsSoundInode g v (v.inodes n)
   sound_inode n is = record {

@@ -1,19 +1,16 @@
 -- The zones of a node of a sound volume, level by level.
-use Rattle.std.proofs.Common.{◌≡◌, ◌≢◌, ◌<◌, ◌≤◌, ◌+◌, ◌-◌, ◌*◌, ◌/◌, ◌%◌, ℕ, suc, length, Bool, true, false, refl, sym, ap, ◌∙◌, arith}
+use Rattle.std.proofs.Common.{◌≡◌, ◌≢◌, ◌<◌, ◌≤◌, ◌+◌, ◌-◌, ◌*◌, ℕ, suc, length, Bool, true, false, refl, sym, ap, ◌∙◌, arith}
 use mathlib.Core.Logic.{inl, inr}
-use Rattle.std.specs.Prelude.{not, ◌&&◌, ◌==◌, nat_lt, None, Some}
+use Rattle.std.specs.Prelude.{not, ◌&&◌, ◌==◌, nat_lt}
 use Rattle.std.proofs.lemmas.Bool.{cases_Bool, cases_eq, cases_lt, eq-eqb, ne_eqb, lt-ltb, le-ltb, not_from_false}
 use Rattle.layout.specs.declared.Geometry.{Geometry}
-use Rattle.tree.specs.Sums.{sum_below, count_below, some_below, one_if}
-use Rattle.tree.specs.ZonesNeeded.{zones_needed}
-use Rattle.tree.specs.Tree.{Tree, Body, is_directory}
-use Rattle.tree.specs.Space.{pages_of, held_of, numbers_in_zone, zones_of, zones_used}
-use Rattle.tree.proofs.Maps.{same_sum}
+use Rattle.tree.specs.Sums.{sum_below, count_below, some_below}
+use Rattle.tree.specs.Space.{pages_of, held_of, numbers_in_zone, zones_of}
 use Rattle.volume.specs.Pieces.{Pieces}
-use Rattle.volume.specs.Nodes.{page_zone, word, is_marked, body_of, directory_of, nodes_of}
+use Rattle.volume.specs.Nodes.{page_zone, word, is_marked, body_of, directory_of}
 use Rattle.volume.specs.Places.{zone_at, has_number}
 use Rattle.volume.specs.Entries.{is_directory_inode, entry_count, name_at}
-use Rattle.volume.specs.Holds.{IsSound, HoldsNodes}
+use Rattle.volume.specs.Holds.{IsSound}
 use Rattle.volume_laws.proofs.Naming.{spot}
 use Rattle.volume_laws.proofs.Bridge.{m, zone_spot, limit_at}
 use Rattle.volume_laws.proofs.NodesAs.{nodes, node_marked, node_unmarked, body_directory, body_file, length_node}
@@ -43,8 +40,8 @@ module _ (g : Geometry) (v : Pieces) (sized : 0 < numbers_in_zone g) (s : IsSoun
     | inr past ↦ le-ltb p _ past ∙ elim (cases_eq (page_zone g v (v.inodes n) p) 0) [
       | inl e ↦ sym (ap not (eq-eqb _ 0 e))
       | inr some ↦ absurd (not_past n p is some past)
-      ]
     ]
+  ]
 
   held_pages : (n p : ℕ) → is_marked g v n ≡ true → held_of g (body_of g v (v.inodes n)) p ≡ taken (m g v sized) n 3 p
   held_pages n p is =
@@ -75,4 +72,4 @@ module _ (g : Geometry) (v : Pieces) (sized : 0 < numbers_in_zone g) (s : IsSoun
         ∙ needed_by_level (m g v sized) n (λ h i. full n h i is) (held_of g (body_of g v (v.inodes n))) (λ p. held_pages n p is)
         ∙ guard_all (is_marked g v n) (taken (m g v sized) n) (limit_at (numbers_in_zone g)) is
     | inr out ↦ ap (zones_of g) (node_unmarked g v n out) ∙ sym (guard_none (is_marked g v n) (taken (m g v sized) n) (limit_at (numbers_in_zone g)) out)
-    ]
+  ]
