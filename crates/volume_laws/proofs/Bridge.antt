@@ -56,17 +56,20 @@ limit_most n k (suc (suc zero)) far h = omega arith
 limit_most n k (suc (suc (suc zero))) far h = omega arith
 limit_most n k (suc (suc (suc (suc l)))) far h = absurd (omega arith)
 
+-- the numbers of the marked inodes and of all zones, as plain functions
+abbrev pub naming : Geometry → Pieces → Naming
+naming g v = record {
+  width = numbers_in_zone g;
+  inodes = g.inodes + 1;
+  zones = g.zones;
+  marked = is_marked g v;
+  slot = λ n s. slot (v.inodes n) s;
+  word = word v;
+}
+
 module _ (g : Geometry) (v : Pieces) (sized : 0 < numbers_in_zone g) where
-  -- the numbers of the marked inodes and of all zones, as plain functions
-  abbrev pub m : Naming
-  m = record {
-    width = numbers_in_zone g;
-    inodes = g.inodes + 1;
-    zones = g.zones;
-    marked = is_marked g v;
-    slot = λ n s. slot (v.inodes n) s;
-    word = word v;
-  }
+  abbrev m : Naming
+  m = naming g v
 
   -- the zones that the check enters
   entered_is : (k z : ℕ) → is_entered g v k z ≡ entered m k z

@@ -16,7 +16,7 @@ use Rattle.volume.specs.Holds.{IsSound}
 use Rattle.volume_laws.proofs.Naming.{spot}
 use Rattle.volume_laws.proofs.Sums.{one_true}
 use Rattle.volume_laws.proofs.Cube.{cube, Point, cube_at, cube_some, cube_single}
-use Rattle.volume_laws.proofs.Bridge.{m, beyond, limit_at, place_of_use, use_of_place}
+use Rattle.volume_laws.proofs.Bridge.{naming, beyond, limit_at, place_of_use, use_of_place}
 use Rattle.volume_laws.proofs.Ranges.{marked_low, data_low, data_some}
 use Rattle.volume_laws.proofs.NodesAs.{nodes}
 use Rattle.volume_laws.proofs.Swapped.{sum_swap, hit_once}
@@ -32,12 +32,12 @@ module _ (g : Geometry) (v : Pieces) (ok : IsGeometry g) (sized : 0 < numbers_in
 
   -- zone z stands at place i of level h of inode n
   abbrev stands : ℕ → ℕ → ℕ → ℕ → Bool
-  stands z h n i = is_marked g v n && (spot (m g v sized) n h i == z)
+  stands z h n i = is_marked g v n && (spot (naming g v) n h i == z)
 
   -- the use at such a point
   abbrev use_at : (z : ℕ) → Point (stands z) 4 inodes limits → Use g v z
   use_at z p =
-      let both = and_parts (is_marked g v p.y) (spot (m g v sized) p.y p.k p.j == z) p.is in
+      let both = and_parts (is_marked g v p.y) (spot (naming g v) p.y p.k p.j == z) p.is in
       use_of_place g v sized z (record { inode = p.y; height = p.k; index = p.j; most = lt-ltb p.k 4 p.in_k; marked = both.0; names = eqb-true _ z both.1 })
 
   -- the point of a use
@@ -53,7 +53,7 @@ module _ (g : Geometry) (v : Pieces) (ok : IsGeometry g) (sized : 0 < numbers_in
         in_y = omega (arith, low.1);
         in_j = elim (cases_lt p.index (limits p.height)) [
           | inl near ↦ near
-          | inr far ↦ absurd (some (sym p.names ∙ beyond (m g v sized) p.inode p.height p.index sized far))
+          | inr far ↦ absurd (some (sym p.names ∙ beyond (naming g v) p.inode p.height p.index sized far))
         ];
         is = and_from (is_marked g v p.inode) _ p.marked (eq-eqb _ z p.names);
       }
@@ -85,20 +85,20 @@ module _ (g : Geometry) (v : Pieces) (ok : IsGeometry g) (sized : 0 < numbers_in
       ]
 
   -- what stands at a place of a marked inode is 0 or a data zone
-  in_range : (h n i : ℕ) → h < 4 → is_marked g v n ≡ true → spot (m g v sized) n h i ≢ 0
-      → (g.first_zone ≤ spot (m g v sized) n h i) × (spot (m g v sized) n h i < g.first_zone + data_zones g)
+  in_range : (h n i : ℕ) → h < 4 → is_marked g v n ≡ true → spot (naming g v) n h i ≢ 0
+      → (g.first_zone ≤ spot (naming g v) n h i) × (spot (naming g v) n h i < g.first_zone + data_zones g)
   in_range h n i l is some =
-      let z = spot (m g v sized) n h i in
+      let z = spot (naming g v) n h i in
       let u = use_of_place g v sized z (record { inode = n; height = h; index = i; most = lt-ltb h 4 l; marked = is; names = refl }) in
       let low = data_low g v z (s.zones.numbers z some u) in
       (low.0, omega (arith, low.0, low.1))
 
-  one_place : (h n i : ℕ) → h < 4 → count_below (λ k. stands (g.first_zone + k) h n i) (data_zones g) ≡ one_if (is_marked g v n && taken (m g v sized) n h i)
-  one_place h n i l = hit_once (is_marked g v n) (spot (m g v sized) n h i) g.first_zone (data_zones g) (omega (arith, ok.first)) (in_range h n i l)
+  one_place : (h n i : ℕ) → h < 4 → count_below (λ k. stands (g.first_zone + k) h n i) (data_zones g) ≡ one_if (is_marked g v n && taken (naming g v) n h i)
+  one_place h n i l = hit_once (is_marked g v n) (spot (naming g v) n h i) g.first_zone (data_zones g) (omega (arith, ok.first)) (in_range h n i l)
 
   -- all data zones, by zones and by places
   by_places : sum_below (λ k. cube (stands (g.first_zone + k)) 4 inodes limits) (data_zones g)
-      ≡ sum_below (λ h. sum_below (λ n. count_below (λ i. is_marked g v n && taken (m g v sized) n h i) (limits h)) (inodes h)) 4
+      ≡ sum_below (λ h. sum_below (λ n. count_below (λ i. is_marked g v n && taken (naming g v) n h i) (limits h)) (inodes h)) 4
   by_places =
       let d = data_zones g in
       sum_swap (λ k h. sum_below (λ n. count_below (stands (g.first_zone + k) h n) (limits h)) (inodes h)) d 4
@@ -112,6 +112,6 @@ module _ (g : Geometry) (v : Pieces) (ok : IsGeometry g) (sized : 0 < numbers_in
   pub zones_are_marked : sum_below (λ n. zones_of g (nodes g v n)) (g.inodes + 1) ≡ count_below (λ k. v.zone_map (k + 1)) (data_zones g)
   zones_are_marked =
       same_sum _ _ (g.inodes + 1) (λ n _. zones_by_level g v sized s n)
-      ∙ sum_swap (λ n h. count_below (λ i. is_marked g v n && taken (m g v sized) n h i) (limits h)) (g.inodes + 1) 4
+      ∙ sum_swap (λ n h. count_below (λ i. is_marked g v n && taken (naming g v) n h i) (limits h)) (g.inodes + 1) 4
       ∙ sym by_places
       ∙ same_sum _ _ (data_zones g) (λ k low. counted k low)

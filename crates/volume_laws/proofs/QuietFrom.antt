@@ -22,7 +22,7 @@ use Rattle.volume.specs.Verdict.{place_limit}
 use Rattle.volume_laws.proofs.Naming.{spot, Place}
 use Rattle.volume_laws.proofs.Sums.{none_from}
 use Rattle.volume_laws.proofs.Once.{single_use, used_place, place_used}
-use Rattle.volume_laws.proofs.Bridge.{m, uses_are, zone_spot, place_of_use, use_of_place}
+use Rattle.volume_laws.proofs.Bridge.{naming, uses_are, zone_spot, place_of_use, use_of_place}
 use Rattle.volume_laws.proofs.Reached.{climbed_reached}
 use Rattle.volume_laws.proofs.Quiet.{Quiet, guard_false}
 use Rattle.volume_laws.proofs.Ranges.{marked_low, data_low, data_some, dir_marked, same_name_true}
@@ -39,10 +39,10 @@ module _ (g : Geometry) (v : Pieces) (ok : IsGeometry g) (sized : 0 < numbers_in
   data_at : (n l k : ℕ) → is_marked g v n ≡ true → zone_at g v (v.inodes n) l k ≢ 0 → is_data_zone g (zone_at g v (v.inodes n) l k) ≡ true
   data_at n l k is some = s.zones.numbers (zone_at g v (v.inodes n) l k) some (record { inode = n; level = l; index = k; marked = is; names = refl })
 
-  bounded : (n h i : ℕ) → is_marked g v n ≡ true → h < 4 → spot (m g v sized) n h i ≢ 0 → spot (m g v sized) n h i < g.zones
+  bounded : (n h i : ℕ) → is_marked g v n ≡ true → h < 4 → spot (naming g v) n h i ≢ 0 → spot (naming g v) n h i < g.zones
   bounded n h i is low some =
       let back : 3 - (3 - h) ≡ h = omega arith in
-      let same : zone_at g v (v.inodes n) (3 - h) i ≡ spot (m g v sized) n h i = zone_spot g v sized n (3 - h) i (omega arith) ∙ ap (λ a. spot (m g v sized) n a i) back in
+      let same : zone_at g v (v.inodes n) (3 - h) i ≡ spot (naming g v) n h i = zone_spot g v sized n (3 - h) i (omega arith) ∙ ap (λ a. spot (naming g v) n a i) back in
       let there = data_low g v (zone_at g v (v.inodes n) (3 - h) i) (data_at n (3 - h) i is (λ e. some (sym same ∙ e))) in
       omega (arith, there.1)
 
@@ -51,7 +51,7 @@ module _ (g : Geometry) (v : Pieces) (ok : IsGeometry g) (sized : 0 < numbers_in
       none_from _ 4 (λ l _. none_from _ (page_limit (numbers_in_zone g)) (λ k _.
       guard_false (not (zone_at g v (v.inodes n) l k == 0)) _ (λ some. not_false_from _ (data_at n l k is (eqb-false _ 0 (not-true _ some)))))))
 
-  same_places : (z : ℕ) → z ≢ 0 → (p q : Place (m g v sized) z) → (p.inode ≡ q.inode) × (p.height ≡ q.height) × (p.index ≡ q.index)
+  same_places : (z : ℕ) → z ≢ 0 → (p q : Place (naming g v) z) → (p.inode ≡ q.inode) × (p.height ≡ q.height) × (p.index ≡ q.index)
   same_places z some p q =
       let r = s.zones.once z some (use_of_place g v sized z p) (use_of_place g v sized z q) in
       let lp = ltb-true p.height 4 p.most in
@@ -61,7 +61,7 @@ module _ (g : Geometry) (v : Pieces) (ok : IsGeometry g) (sized : 0 < numbers_in
   quiet_uses : (z : ℕ) → is_used_twice g v z ≡ false
   quiet_uses z = guard_false (is_data_zone g z) _ (λ is.
       let e = uses_are g v sized z in
-      let one = single_use (m g v sized) sized inodes_inside bounded z (same_places z (data_some g v ok z is)) in
+      let one = single_use (naming g v) sized inodes_inside bounded z (same_places z (data_some g v ok z is)) in
       le-ltb 1 _ (omega arith))
 
   quiet_bits : (z : ℕ) → has_bad_bit g v z ≡ false
@@ -71,11 +71,11 @@ module _ (g : Geometry) (v : Pieces) (ok : IsGeometry g) (sized : 0 < numbers_in
       let e = uses_are g v sized z in
       elim (cases_Bool bit) [
         | inl set ↦
-            let more = place_used (m g v sized) sized inodes_inside bounded z some (place_of_use g v sized z some ((s.zones.mapped z is).0 set)) in
+            let more = place_used (naming g v) sized inodes_inside bounded z some (place_of_use g v sized z some ((s.zones.mapped z is).0 set)) in
             cond-true bit _ _ set ∙ ne_eqb _ 0 (λ none. absurd (omega arith))
         | inr clear ↦ cond-false bit _ _ clear ∙ elim (cases_lt 0 (uses g v z)) [
           | inl more ↦
-              let set = (s.zones.mapped z is).1 (use_of_place g v sized z (used_place (m g v sized) sized inodes_inside bounded z (omega arith))) in
+              let set = (s.zones.mapped z is).1 (use_of_place g v sized z (used_place (naming g v) sized inodes_inside bounded z (omega arith))) in
               absurd (both_ways bit clear set)
           | inr none ↦ le-ltb 0 _ none
         ]

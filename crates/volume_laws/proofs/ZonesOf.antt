@@ -12,7 +12,7 @@ use Rattle.volume.specs.Places.{zone_at, has_number}
 use Rattle.volume.specs.Entries.{is_directory_inode, entry_count, name_at}
 use Rattle.volume.specs.Holds.{IsSound}
 use Rattle.volume_laws.proofs.Naming.{spot}
-use Rattle.volume_laws.proofs.Bridge.{m, zone_spot, limit_at}
+use Rattle.volume_laws.proofs.Bridge.{naming, zone_spot, limit_at}
 use Rattle.volume_laws.proofs.NodesAs.{nodes, node_marked, node_unmarked, body_directory, body_file, length_node}
 use Rattle.volume_laws.proofs.Swapped.{sum_none}
 use Rattle.volume_laws.proofs.Levels.{taken, needed_by_level}
@@ -22,11 +22,11 @@ module _ (g : Geometry) (v : Pieces) (sized : 0 < numbers_in_zone g) (s : IsSoun
   differ n e f is = (s.directories n is).distinct e f
 
   -- a block has a number
-  full : (n h i : ℕ) → is_marked g v n ≡ true → h < 3 → spot (m g v sized) n h i ≢ 0
-      → some_below (λ j. not (word v (spot (m g v sized) n h i) j == 0)) (numbers_in_zone g) ≡ true
+  full : (n h i : ℕ) → is_marked g v n ≡ true → h < 3 → spot (naming g v) n h i ≢ 0
+      → some_below (λ j. not (word v (spot (naming g v) n h i) j == 0)) (numbers_in_zone g) ≡ true
   full n h i is low some =
       let back : 3 - suc (2 - h) ≡ h = omega arith in
-      let same : zone_at g v (v.inodes n) (suc (2 - h)) i ≡ spot (m g v sized) n h i = zone_spot g v sized n (suc (2 - h)) i (omega arith) ∙ ap (λ a. spot (m g v sized) n a i) back in
+      let same : zone_at g v (v.inodes n) (suc (2 - h)) i ≡ spot (naming g v) n h i = zone_spot g v sized n (suc (2 - h)) i (omega arith) ∙ ap (λ a. spot (naming g v) n a i) back in
       ap (has_number g v) (sym same) ∙ (s.inodes n is).full (2 - h) i (λ e. some (sym same ∙ e))
 
   -- a page past the end has no zone
@@ -43,9 +43,9 @@ module _ (g : Geometry) (v : Pieces) (sized : 0 < numbers_in_zone g) (s : IsSoun
     ]
   ]
 
-  held_pages : (n p : ℕ) → is_marked g v n ≡ true → held_of g (body_of g v (v.inodes n)) p ≡ taken (m g v sized) n 3 p
+  held_pages : (n p : ℕ) → is_marked g v n ≡ true → held_of g (body_of g v (v.inodes n)) p ≡ taken (naming g v) n 3 p
   held_pages n p is =
-      let page : not (page_zone g v (v.inodes n) p == 0) ≡ taken (m g v sized) n 3 p = ap (λ z. not (z == 0)) (zone_spot g v sized n 0 p (omega arith)) in
+      let page : not (page_zone g v (v.inodes n) p == 0) ≡ taken (naming g v) n 3 p = ap (λ z. not (z == 0)) (zone_spot g v sized n 0 p (omega arith)) in
       elim (cases_Bool (is_directory_inode g v n)) [
         | inl d ↦
             let sound = s.directories n d in
@@ -65,11 +65,11 @@ module _ (g : Geometry) (v : Pieces) (sized : 0 < numbers_in_zone g) (s : IsSoun
 
   -- as many zones as stand at places of the inode, if it is marked
   pub zones_by_level : (n : ℕ) → zones_of g (nodes g v n)
-      ≡ sum_below (λ h. count_below (λ i. is_marked g v n && taken (m g v sized) n h i) (limit_at (numbers_in_zone g) h)) 4
+      ≡ sum_below (λ h. count_below (λ i. is_marked g v n && taken (naming g v) n h i) (limit_at (numbers_in_zone g) h)) 4
   zones_by_level n = elim (cases_Bool (is_marked g v n)) [
     | inl is ↦
         ap (zones_of g) (node_marked g v n is)
-        ∙ needed_by_level (m g v sized) n (λ h i. full n h i is) (held_of g (body_of g v (v.inodes n))) (λ p. held_pages n p is)
-        ∙ guard_all (is_marked g v n) (taken (m g v sized) n) (limit_at (numbers_in_zone g)) is
-    | inr out ↦ ap (zones_of g) (node_unmarked g v n out) ∙ sym (guard_none (is_marked g v n) (taken (m g v sized) n) (limit_at (numbers_in_zone g)) out)
+        ∙ needed_by_level (naming g v) n (λ h i. full n h i is) (held_of g (body_of g v (v.inodes n))) (λ p. held_pages n p is)
+        ∙ guard_all (is_marked g v n) (taken (naming g v) n) (limit_at (numbers_in_zone g)) is
+    | inr out ↦ ap (zones_of g) (node_unmarked g v n out) ∙ sym (guard_none (is_marked g v n) (taken (naming g v) n) (limit_at (numbers_in_zone g)) out)
   ]
