@@ -15,7 +15,7 @@ use Rattle.volume_laws.specs.Laws.{CleanIsATree}
 use Rattle.volume_laws.proofs.Quiet.{clean_quiet, quiet_clean}
 use Rattle.volume_laws.proofs.Widths.{IsOfBytes, image_of_bytes}
 use Rattle.volume_laws.proofs.TreeFrom.{held}
-use Rattle.volume_laws.proofs.QuietFrom.{is_quiet}
+use Rattle.volume_laws.proofs.QuietTree.{is_quiet}
 use Rattle.volume_laws.proofs.Parsed.{numbers_sized, parsed}
 
 clean_held : (g : Geometry) (v : Pieces) → IsGeometry g → IsOfBytes v → verdict_of_pieces g v ≡ Clean → (t : Tree) × (HoldsNodes g v t × IsClosed t)

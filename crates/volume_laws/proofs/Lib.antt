@@ -17,7 +17,8 @@ pub mod Widths
 pub mod Files
 pub mod Ways
 pub mod TreeFrom
-pub mod QuietFrom
+pub mod QuietSound
+pub mod QuietTree
 pub mod Parsed
 pub mod CleanTree
 pub mod Swapped

@@ -15,6 +15,7 @@ use Rattle.volume.specs.Pieces.{Pieces}
 use Rattle.volume.specs.Nodes.{file_byte, entry_inode, entry_name, names_in, is_directory_mode, body_of, node_of, nodes_of, directory_of, file_of, is_marked}
 use Rattle.volume.specs.Entries.{is_directory_inode, entry_count, name_at, target_at}
 use Rattle.volume.specs.Findings.{names_in_of, all_names_of, subdirectories_of}
+use Rattle.volume.specs.Holds.{IsSound}
 use Rattle.volume_laws.proofs.Entries.{collected, tally, found_entry, entry_found, tally_entries, length_entries, sorted, all_good, Distinct}
 
 -- the counts of the tree are tallies
@@ -131,6 +132,10 @@ module _ (g : Geometry) (v : Pieces) where
 
   pub names_good : (n : ℕ) → ((e : ℕ) → e < further n → is_name (name_after n e) ≡ true) → list_all (λ e. is_name e.0) (directory_of g v (v.inodes n)).names ≡ true
   names_good n each = ap (list_all (λ e. is_name e.0)) (directory_names n) ∙ all_good (name_after n) (target_after n) is_name (further n) each
+
+  -- the names of a sound volume's directories differ
+  pub names_differ : IsSound g v → (n e f : ℕ) → is_directory_inode g v n ≡ true → e < f → f < entry_count v n → name_at g v n e ≢ name_at g v n f
+  names_differ s n e f is = (s.directories n is).distinct e f
 
   module _ (different : (n e f : ℕ) → is_directory_inode g v n ≡ true → e < f → f < entry_count v n → name_at g v n e ≢ name_at g v n f) where
     apart : (n : ℕ) → is_directory_inode g v n ≡ true → Distinct (name_after n) (target_after n) (further n)

@@ -1,5 +1,5 @@
 -- The numbers of marked inodes and of data zones are in range, so a test that holds nowhere doesn't hold of them.
-use Rattle.std.proofs.Common.{◌≡◌, ◌≢◌, ◌<◌, ◌≤◌, ℕ, List, [], ◌∷◌, Bool, true, false, refl, arith}
+use Rattle.std.proofs.Common.{◌≡◌, ◌≢◌, ◌<◌, ◌≤◌, ◌+◌, ℕ, List, [], ◌∷◌, Bool, true, false, refl, arith}
 use Rattle.std.specs.Prelude.{◌&&◌, ◌==◌, nat_lt, nat_le}
 use Rattle.std.proofs.lemmas.Bool.{and_parts, and_from, leb-true, ltb-true, eqb-true, eq-eqb}
 use Rattle.layout.specs.declared.Geometry.{Geometry}
@@ -33,6 +33,9 @@ module _ (g : Geometry) (v : Pieces) where
       let inside = (and_parts (is_inode g n) (v.inode_map n) is).0 in
       let both = and_parts (nat_le 1 n) (nat_le n g.inodes) inside in
       (leb-true 1 n both.0, leb-true n g.inodes both.1)
+
+  pub marked_below : (n : ℕ) → is_marked g v n ≡ true → n < g.inodes + 1
+  marked_below n is = let low = marked_low n is in omega (arith, low.1)
 
   pub data_low : (z : ℕ) → is_data_zone g z ≡ true → (g.first_zone ≤ z) × (z < g.zones)
   data_low z is = let both = and_parts (nat_le g.first_zone z) (nat_lt z g.zones) is in (leb-true g.first_zone z both.0, ltb-true z g.zones both.1)

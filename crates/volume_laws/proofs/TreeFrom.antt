@@ -22,7 +22,7 @@ use Rattle.volume_laws.proofs.Reached.{reached_climbs}
 use Rattle.volume_laws.proofs.Quiet.{Quiet}
 use Rattle.volume_laws.proofs.Ranges.{marked_low, dir_marked, at_inode, at_dir}
 use Rattle.volume_laws.proofs.DirectoriesFrom.{size_low, is_sound}
-use Rattle.volume_laws.proofs.NodesAs.{nodes, node_marked, some_node, node_is, body_directory, body_file, dir_node, names_sorted, names_good, parent_node, find_entry, named_node, all_named_node, subdirectories_node, length_node}
+use Rattle.volume_laws.proofs.NodesAs.{nodes, names_differ, node_marked, some_node, node_is, body_directory, body_file, dir_node, names_sorted, names_good, parent_node, find_entry, named_node, all_named_node, subdirectories_node, length_node}
 use Rattle.volume_laws.proofs.Widths.{IsOfBytes}
 use Rattle.volume_laws.proofs.Files.{is_file_of}
 use Rattle.volume_laws.proofs.Ways.{edge, reached_is, above_climbs, dir, parent, as_dir, edge_from, orphan, nowhere}
@@ -30,9 +30,6 @@ use Rattle.volume_laws.proofs.Ways.{edge, reached_is, above_climbs, dir, parent,
 module _ (g : Geometry) (v : Pieces) (ok : IsGeometry g) (sized : 0 < numbers_in_zone g) (bytes : IsOfBytes v) (q : Quiet g v) where
   abbrev s : IsSound g v
   s = is_sound g v q ok sized
-
-  abbrev differ : (n e f : ℕ) → is_directory_inode g v n ≡ true → e < f → f < entry_count v n → name_at g v n e ≢ name_at g v n f
-  differ n e f is = (s.directories n is).distinct e f
 
   targets_marked : (n e : ℕ) → is_directory_inode g v n ≡ true → e < entry_count v n → is_marked g v (target_at g v n e) ≡ true
   targets_marked n e is low =
@@ -104,24 +101,24 @@ module _ (g : Geometry) (v : Pieces) (ok : IsGeometry g) (sized : 0 < numbers_in
       let up = reached_climbs (edge g v) (g.inodes + 1) (dir g v) (parent g v) (edge_from g v) edge_parent (orphan g v) (nowhere g v) alone g.inodes n is
       (sym (reached_is g v g.inodes n) ∙ (placed n d).is_reached) in
       record {
-        one_name = all_named_node g v differ n ∙ one_name n d other;
-        in_parent = named_node g v differ n (parent g v n) ∙ once_in_parent n d other;
+        one_name = all_named_node g v (names_differ g v s) n ∙ one_name n d other;
+        in_parent = named_node g v (names_differ g v s) n (parent g v n) ∙ once_in_parent n d other;
         reached = (up.0, above_climbs (nodes g v) up.0 n ∙ up.1);
       }
 
   links_node : (n : ℕ) → is_marked g v n ≡ true → links_of g v n ≡ links_due g (nodes g v) n (node_of g v (v.inodes n))
   links_node n is = elim (cases_Bool (is_directory_inode g v n)) [
     | inl d ↦ cond-true (is_directory_inode g v n) _ _ d
-        ∙ ap (λ a. 2 + a) (sym (subdirectories_node g v differ n d) ∙ ap (λ o. subdirectories (nodes g v) (names_of o)) (node_marked g v n is))
+        ∙ ap (λ a. 2 + a) (sym (subdirectories_node g v (names_differ g v s) n d) ∙ ap (λ o. subdirectories (nodes g v) (names_of o)) (node_marked g v n is))
         ∙ sym (cond-true (is_dir (node_of g v (v.inodes n))) _ _ (sym (ap (λ o. elim o [ None ↦ false | Some x ↦ is_dir x ]) (node_marked g v n is)) ∙ dir_node g v n ∙ d))
-    | inr f ↦ cond-false (is_directory_inode g v n) _ _ f ∙ sym (all_named_node g v differ n)
+    | inr f ↦ cond-false (is_directory_inode g v n) _ _ f ∙ sym (all_named_node g v (names_differ g v s) n)
         ∙ sym (cond-false (is_dir (node_of g v (v.inodes n))) _ _ (sym (ap (λ o. elim o [ None ↦ false | Some x ↦ is_dir x ]) (node_marked g v n is)) ∙ dir_node g v n ∙ f))
   ]
 
   directory_good : (n : ℕ) → is_directory_inode g v n ≡ true → IsDirectory (directory_of g v (v.inodes n))
   directory_good n is =
       let d = s.directories n is in
-      let many = length_node g v differ n is in
+      let many = length_node g v (names_differ g v s) n is in
       let low = size_low g v q n (dir_marked g v n is) in
       record {
         size = omega (arith, d.sized, d.two);
@@ -155,11 +152,11 @@ module _ (g : Geometry) (v : Pieces) (ok : IsGeometry g) (sized : 0 < numbers_in
     inside = λ n is. marked_low g v n (sym (some_node g v n) ∙ is);
     each = λ n node e. let w = node_is g v n node e in subst (IsNode g) (sym w.1) (node_good n w.0);
     targets = λ n k name e.
-        let w = find_entry g v differ n k name e in
+        let w = find_entry g v (names_differ g v s) n k name e in
         some_node g v k ∙ ap (is_marked g v) (sym w.1.3) ∙ targets_marked n (w.1.0 + 2) w.0 w.1.1;
     root = dir_node g v 1 ∙ root_dir;
     root_parent = parent_node g v 1 root_dir ∙ eqb-true (target_at g v 1 1) 1 (placed 1 root_dir).parent;
-    root_name = all_named_node g v differ 1 ∙ (placed 1 root_dir).once;
+    root_name = all_named_node g v (names_differ g v s) 1 ∙ (placed 1 root_dir).once;
     placed = is_placed;
     links = λ n node e.
         let w = node_is g v n node e in

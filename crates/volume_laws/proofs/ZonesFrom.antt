@@ -16,9 +16,9 @@ use Rattle.volume.specs.Holds.{ZonesAgree, IsSoundInode}
 use Rattle.volume_laws.proofs.Naming.{spot}
 use Rattle.volume_laws.proofs.Sums.{none_below}
 use Rattle.volume_laws.proofs.Once.{same_place, used_place, place_used}
-use Rattle.volume_laws.proofs.Bridge.{naming, uses_are, zone_spot, no_level, no_index, place_of_use, level_low, use_of_place}
+use Rattle.volume_laws.proofs.Bridge.{naming, bounded, uses_are, zone_spot, no_level, no_index, place_of_use, level_low, use_of_place}
 use Rattle.volume_laws.proofs.Quiet.{Quiet, guarded_false}
-use Rattle.volume_laws.proofs.Ranges.{marked_low, data_low, data_some, at_inode, at_zone}
+use Rattle.volume_laws.proofs.Ranges.{marked_below, data_low, data_some, at_inode, at_zone}
 
 module _ (g : Geometry) (v : Pieces) (ok : IsGeometry g) (sized : 0 < numbers_in_zone g) (q : Quiet g v) where
   -- each place names a data zone or nothing
@@ -35,27 +35,20 @@ module _ (g : Geometry) (v : Pieces) (ok : IsGeometry g) (sized : 0 < numbers_in
     ]
   ]
 
-  abbrev inodes_inside : (n : ℕ) → (naming g v).marked n ≡ true → n < (naming g v).inodes
-  inodes_inside n is = let low = marked_low g v n is in omega (arith, low.1)
-
-  bounded : (n h i : ℕ) → is_marked g v n ≡ true → h < 4 → spot (naming g v) n h i ≢ 0 → spot (naming g v) n h i < g.zones
-  bounded n h i is low some =
-      let back : 3 - (3 - h) ≡ h = omega arith in
-      let same : zone_at g v (v.inodes n) (3 - h) i ≡ spot (naming g v) n h i = zone_spot g v sized n (3 - h) i (omega arith) ∙ ap (λ a. spot (naming g v) n a i) back in
-      let there = data_low g v (zone_at g v (v.inodes n) (3 - h) i) (data_at n (3 - h) i is (λ e. some (sym same ∙ e))) in
-      omega (arith, there.1)
+  low_at : (n h i : ℕ) → is_marked g v n ≡ true → h < 4 → spot (naming g v) n h i ≢ 0 → spot (naming g v) n h i < g.zones
+  low_at = bounded g v sized (λ n l k is some. (data_low g v _ (data_at n l k is some)).1)
 
   numbers : (z : ℕ) → z ≢ 0 → Use g v z → is_data_zone g z ≡ true
   numbers z some u = ap (is_data_zone g) (sym u.names) ∙ data_at u.inode u.level u.index u.marked (λ e. some (sym u.names ∙ e))
 
   -- what is counted has a use, and what has a use is counted
   use_of_uses : (z : ℕ) → 0 < uses g v z → Use g v z
-  use_of_uses z h = let e = uses_are g v sized z in use_of_place g v sized z (used_place (naming g v) sized inodes_inside bounded z (omega arith))
+  use_of_uses z h = let e = uses_are g v sized z in use_of_place g v sized z (used_place (naming g v) sized (marked_below g v) low_at z (omega arith))
 
   uses_of_use : (z : ℕ) → z ≢ 0 → Use g v z → 0 < uses g v z
   uses_of_use z some u =
       let e = uses_are g v sized z in
-      let more = place_used (naming g v) sized inodes_inside bounded z some (place_of_use g v sized z some u) in
+      let more = place_used (naming g v) sized (marked_below g v) low_at z some (place_of_use g v sized z some u) in
       omega arith
 
   single : (z : ℕ) → z ≢ 0 → z < g.zones → uses g v z ≤ 1
@@ -71,7 +64,7 @@ module _ (g : Geometry) (v : Pieces) (ok : IsGeometry g) (sized : 0 < numbers_in
   once z some a b =
       let la = level_low g v sized z some a in
       let lb = level_low g v sized z some b in
-      let r = same_place (naming g v) sized inodes_inside bounded (λ y s l. let e = uses_are g v sized y in let o = single y s l in omega arith)
+      let r = same_place (naming g v) sized (marked_below g v) low_at (λ y s l. let e = uses_are g v sized y in let o = single y s l in omega arith)
       (3 - a.level) a.inode a.index (3 - b.level) b.inode b.index z (omega arith) (omega arith) a.marked b.marked
       (sym (zone_spot g v sized a.inode a.level a.index la) ∙ a.names) (sym (zone_spot g v sized b.inode b.level b.index lb) ∙ b.names) some in
       record { inode = r.0; level = omega (arith, r.1); index = r.2 }

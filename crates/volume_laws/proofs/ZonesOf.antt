@@ -13,14 +13,11 @@ use Rattle.volume.specs.Entries.{is_directory_inode, entry_count, name_at}
 use Rattle.volume.specs.Holds.{IsSound}
 use Rattle.volume_laws.proofs.Naming.{spot}
 use Rattle.volume_laws.proofs.Bridge.{naming, zone_spot, limit_at}
-use Rattle.volume_laws.proofs.NodesAs.{nodes, node_marked, node_unmarked, body_directory, body_file, length_node}
+use Rattle.volume_laws.proofs.NodesAs.{nodes, names_differ, node_marked, node_unmarked, body_directory, body_file, length_node}
 use Rattle.volume_laws.proofs.Swapped.{sum_none}
 use Rattle.volume_laws.proofs.Levels.{taken, needed_by_level}
 
 module _ (g : Geometry) (v : Pieces) (sized : 0 < numbers_in_zone g) (s : IsSound g v) where
-  differ : (n e f : ℕ) → is_directory_inode g v n ≡ true → e < f → f < entry_count v n → name_at g v n e ≢ name_at g v n f
-  differ n e f is = (s.directories n is).distinct e f
-
   -- a block has a number
   full : (n h i : ℕ) → is_marked g v n ≡ true → h < 3 → spot (naming g v) n h i ≢ 0
       → some_below (λ j. not (word v (spot (naming g v) n h i) j == 0)) (numbers_in_zone g) ≡ true
@@ -49,7 +46,7 @@ module _ (g : Geometry) (v : Pieces) (sized : 0 < numbers_in_zone g) (s : IsSoun
       elim (cases_Bool (is_directory_inode g v n)) [
         | inl d ↦
             let sound = s.directories n d in
-            let many = length_node g v differ n d in
+            let many = length_node g v (names_differ g v s) n d in
             let size : 64 * (length (directory_of g v (v.inodes n)).names + 2) ≡ (v.inodes n).size = omega (arith, sound.sized, sound.two) in
             ap (λ b. held_of g b p) (body_directory g v n d) ∙ ap (λ b. nat_lt p (pages_of g b)) size ∙ covered n p is d ∙ page
         | inr f ↦ ap (λ b. held_of g b p) (body_file g v n is f) ∙ page
