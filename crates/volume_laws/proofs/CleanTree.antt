@@ -18,18 +18,22 @@ use Rattle.volume_laws.proofs.TreeFrom.{held}
 use Rattle.volume_laws.proofs.QuietTree.{is_quiet}
 use Rattle.volume_laws.proofs.Parsed.{numbers_sized, parsed}
 
+-- from a clean verdict on pieces to a tree
 clean_held : (g : Geometry) (v : Pieces) → IsGeometry g → IsOfBytes v → verdict_of_pieces g v ≡ Clean → (t : Tree) × (HoldsNodes g v t × IsClosed t)
 clean_held g v ok bytes clean = held g v ok (numbers_sized g ok) bytes (clean_quiet g v clean)
 
+-- and back
 held_clean : (g : Geometry) (v : Pieces) → IsGeometry g → (t : Tree) → HoldsNodes g v t → IsClosed t → verdict_of_pieces g v ≡ Clean
 held_clean g v ok t h closed =
     let p : t ≡ record t { nodes = nodes_of g v } = λ i. record t { nodes = h.nodes i } in
     quiet_clean g v (is_quiet g v ok (numbers_sized g ok) h.sound t (subst (IsTree g) p h.tree) closed)
 
+-- the verdict on a layout that was read or refused
 judged : List ℕ → Result Geometry LayoutRefusal → Verdict
 judged image (Err refusal) = found 1 (refusal_number refusal)
 judged image (Ok g) = verdict_of_pieces g (pieces g (disk_of g image))
 
+-- it is the verdict on the image
 verdict_judged : (image : List ℕ) (r : Result Geometry LayoutRefusal) → geometry_of image ≡ r → verdict_of image ≡ judged image r
 unfolding judged
 verdict_judged image (Err refusal) e = ap (λ (r : Result Geometry LayoutRefusal). elim r [
@@ -41,6 +45,7 @@ verdict_judged image (Ok g) e = ap (λ (r : Result Geometry LayoutRefusal). elim
   | Ok g ↦ verdict_of_pieces g (pieces g (disk_of g image))
 ]) e
 
+-- a clean one holds a tree
 judged_held : (image : List ℕ) → All (λ b. b < 256) image → (r : Result Geometry LayoutRefusal) → geometry_of image ≡ r → judged image r ≡ Clean → (t : Tree) × HoldsClosed image t
 unfolding judged
 judged_held image bytes (Err refusal) e is = absurd (cc)

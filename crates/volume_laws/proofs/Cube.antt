@@ -17,6 +17,7 @@ pub record Point (p : ℕ → ℕ → ℕ → Bool) (a : ℕ) (b c : ℕ → ℕ
   pub in_j : j < c k
   pub is : p k y j ≡ true
 
+-- a point is counted
 pub cube_at : (p : ℕ → ℕ → ℕ → Bool) (a : ℕ) (b c : ℕ → ℕ) → Point p a b c → 0 < cube p a b c
 cube_at p a b c s =
     let one = one_true (p s.k s.y s.j) s.is in
@@ -25,6 +26,7 @@ cube_at p a b c s =
     let whole : sum_below (λ y. count_below (p s.k y) (c s.k)) (b s.k) ≤ cube p a b c = sum_at (λ k. sum_below (λ y. count_below (p k y) (c k)) (b k)) a s.k s.in_k in
     omega arith
 
+-- a count that isn't 0 has a point
 pub cube_some : (p : ℕ → ℕ → ℕ → Bool) (a : ℕ) (b c : ℕ → ℕ) → 0 < cube p a b c → Point p a b c
 cube_some p a b c h =
     let k = sum_some (λ k. sum_below (λ y. count_below (p k y) (c k)) (b k)) a h in
@@ -33,18 +35,21 @@ cube_some p a b c h =
     record { k = k.0; y = y.0; j = j.0; in_k = k.1; in_y = y.1; in_j = j.1; is = true_one (p k.0 y.0 j.0) j.2 }
 
 module _ (p : ℕ → ℕ → ℕ → Bool) (a : ℕ) (b c : ℕ → ℕ) where
+  -- the line of a point counts it
   line_at : (s : Point p a b c) → 0 < count_below (p s.k s.y) (c s.k)
   line_at s =
       let one = one_true (p s.k s.y s.j) s.is in
       let line : one_if (p s.k s.y s.j) ≤ count_below (p s.k s.y) (c s.k) = sum_at (λ j. one_if (p s.k s.y j)) (c s.k) s.j s.in_j in
       omega arith
 
+  -- the face of a point counts it
   face_at : (s : Point p a b c) → 0 < sum_below (λ y. count_below (p s.k y) (c s.k)) (b s.k)
   face_at s =
       let line = line_at s in
       let face : count_below (p s.k s.y) (c s.k) ≤ sum_below (λ y. count_below (p s.k y) (c s.k)) (b s.k) = sum_at (λ y. count_below (p s.k y) (c s.k)) (b s.k) s.y s.in_y in
       omega arith
 
+  -- two points of a face of a count of at most one are one
   same_line : cube p a b c ≤ 1 → (k y y' j j' : ℕ) → k < a → y < b k → y' < b k → j < c k → j' < c k → p k y j ≡ true → p k y' j' ≡ true → (y ≡ y') × (j ≡ j')
   same_line most k y y' j j' hk hy hy' hj hj' is is' =
       let f : ℕ → ℕ = λ x. count_below (p k x) (c k) in
@@ -58,6 +63,7 @@ module _ (p : ℕ → ℕ → ℕ → Bool) (a : ℕ) (b c : ℕ → ℕ) where
       let t = one_true (p k y j') there in
       (e, sum_same (λ x. one_if (p k y x)) (c k) j j' (omega arith) hj hj' (omega arith) (omega arith))
 
+  -- two points of a count of at most one are one
   pub cube_same : cube p a b c ≤ 1 → (s t : Point p a b c) → (s.k ≡ t.k) × (s.y ≡ t.y) × (s.j ≡ t.j)
   cube_same most s t =
       let f : ℕ → ℕ = λ k. sum_below (λ y. count_below (p k y) (c k)) (b k) in
@@ -65,15 +71,18 @@ module _ (p : ℕ → ℕ → ℕ → Bool) (a : ℕ) (b c : ℕ → ℕ) where
       let r = same_line most s.k s.y t.y s.j t.j s.in_k s.in_y (omega (arith, ap b e, t.in_y)) s.in_j (omega (arith, ap c e, t.in_j)) s.is (ap (λ k. p k t.y t.j) e ∙ t.is) in
       (e, r.0, r.1)
 
+  -- a point of a face that counts one
   abbrev on_face : (k : ℕ) → k < a → 0 < sum_below (λ y. count_below (p k y) (c k)) (b k) → Point p a b c
   on_face k hk is =
       let y = sum_some (λ y. count_below (p k y) (c k)) (b k) is in
       let j = sum_some (λ j. one_if (p k y.0 j)) (c k) y.2 in
       record { k = k; y = y.0; j = j.0; in_k = hk; in_y = y.1; in_j = j.1; is = true_one (p k y.0 j.0) j.2 }
 
+  -- a point by its numbers
   abbrev point : (k y j : ℕ) → k < a → y < b k → j < c k → p k y j ≡ true → Point p a b c
   point k y j hk hy hj is = record { k = k; y = y; j = j; in_k = hk; in_y = hy; in_j = hj; is = is }
 
+  -- where all points are one the count is at most one
   pub cube_single : ((s t : Point p a b c) → (s.k ≡ t.k) × (s.y ≡ t.y) × (s.j ≡ t.j)) → cube p a b c ≤ 1
   cube_single same =
       sum_single (λ k. sum_below (λ y. count_below (p k y) (c k)) (b k)) a

@@ -24,9 +24,11 @@ abbrev pub tally : (ℕ → Bool) → Names → ℕ
 tally p [] = 0
 tally p (e ∷ es) = one_if (p e.1) + tally p es
 
+-- a true test as a fact
 to_T : (b : Bool) → b ≡ true → T b
 to_T b e = subst T (sym e) tt
 
+-- a fact as a true test
 from_T : (b : Bool) → T b → b ≡ true
 from_T true t = refl
 from_T false t = absurd t
@@ -35,11 +37,11 @@ from_T false t = absurd t
 asked_with_name : (names : Names) (name : Name) (n : ℕ) (q : Name) → inode_of (with_name names name n) q ≡ cond (eq_by_cmp name_cmp q name) (Some n) (inode_of names q)
 asked_with_name names name n q = find-put name_cmp nat_list_cmp_total q name n names
 
--- it stays in order
+-- a map in order stays in order
 sorted_with_name : (names : Names) (name : Name) (n : ℕ) → IsTrue (is_sorted name_cmp names) → IsTrue (is_sorted name_cmp (with_name names name n))
 sorted_with_name names name n s = from_T _ (is_sorted-put name_cmp nat_list_cmp_total name n names (to_T _ s))
 
--- and all its names are good where the new one is
+-- a map of good names stays one with a good name more
 all_with_name : (good : Name → Bool) (name : Name) (n : ℕ) (es : Names) → list_all (λ e. good e.0) es ≡ true → good name ≡ true
     → list_all (λ e. good e.0) (with_name es name n) ≡ true
 all_with_name good name n [] all is = and_from (good name) true is refl
@@ -51,23 +53,28 @@ all_with_name good name n (e ∷ es) all is =
       | Greater ↦ and_from (good e.0) _ both.0 (all_with_name good name n es both.1 is)
     ]
 
+-- only Equal is equal
 same_Equal : (o : Ordering) → is_eq o ≡ true → o ≡ Equal
 same_Equal Less e = absurd (cc)
 same_Equal Equal e = refl
 same_Equal Greater e = absurd (cc)
 
+-- names that compare as equal are one
 pub same_by_cmp : (x y : Name) → eq_by_cmp name_cmp x y ≡ true → x ≡ y
 same_by_cmp x y e = slice_cmp-IsAntisymmetric nat_cmp-IsAntisymmetric x y (same_Equal (name_cmp x y) e)
 
+-- a name compares as equal to itself
 pub cmp_itself : (x : Name) → eq_by_cmp name_cmp x x ≡ true
 cmp_itself x = ap is_eq (tied_itself nat_list_cmp_total x)
 
+-- and as not equal to another name
 pub cmp_apart : (x y : Name) → x ≢ y → eq_by_cmp name_cmp x y ≡ false
 cmp_apart x y d = elim (cases_Bool (eq_by_cmp name_cmp x y)) [
   | inl e ↦ absurd (d (same_by_cmp x y e))
   | inr e ↦ e
 ]
 
+-- what stands in equal options is equal
 some_same : (x y : ℕ) → Some x ≡ Some y → x ≡ y
 some_same x y e = cc
 
@@ -81,24 +88,30 @@ tally_put p q v (e ∷ es) none =
       | Greater ↦ λ r. let before = tally_put p q v es (beyond r) in omega arith
     ] refl
   where
+    -- a name that compares as equal is there
     there : name_cmp q e.0 ≡ Equal → ⊥
     there r = let f = sym (cond-true (eq_by_cmp name_cmp q e.0) (Some e.1) (inode_of es q) (ap is_eq r)) ∙ none in absurd (cc)
 
+    -- one that comes later isn't in the rest
     beyond : name_cmp q e.0 ≡ Greater → inode_of es q ≡ None
     beyond r = sym (cond-false (eq_by_cmp name_cmp q e.0) (Some e.1) (inode_of es q) (ap is_eq r)) ∙ none
 
 module _ (name : ℕ → Name) (target : ℕ → ℕ) where
+  -- the map of the first k entries
   abbrev map_of : ℕ → Names
   map_of k = collected name target k
 
+  -- the map of one entry more
   pub next : (k : ℕ) → map_of (suc k) ≡ with_name (map_of k) (name k) (target k)
   unfolding collected
   next k = refl
 
+  -- the map of no entry
   pub first : map_of 0 ≡ []
   unfolding collected
   first = refl
 
+  -- what the map answers with one entry more
   asked : (k : ℕ) (q : Name) → inode_of (map_of (suc k)) q ≡ cond (eq_by_cmp name_cmp q (name k)) (Some (target k)) (inode_of (map_of k) q)
   asked k q = ap (λ es. inode_of es q) (next k) ∙ asked_with_name (map_of k) (name k) (target k) q
 
@@ -126,15 +139,18 @@ module _ (name : ℕ → Name) (target : ℕ → ℕ) where
         (before.0, omega (arith, before.1), before.2, before.3)
   ]
 
+  -- a name that no entry has is not in the map
   pub not_found : (k : ℕ) (q : Name) → ((e : ℕ) → e < k → name e ≢ q) → inode_of (map_of k) q ≡ None
   not_found zero q apart = ap (λ es. inode_of es q) first
   not_found (suc k) q apart =
       asked k q ∙ cond-false _ (Some (target k)) (inode_of (map_of k) q) (cmp_apart q (name k) (λ e. apart k (omega arith) (sym e)))
       ∙ not_found k q (λ e h. apart e (omega arith))
 
+  -- the first k names differ
   abbrev pub Distinct : ℕ → Type 0
   Distinct k = (e f : ℕ) → e < f → f < k → name e ≢ name f
 
+  -- where names differ each entry is in the map
   pub entry_found : (k e : ℕ) → Distinct k → e < k → inode_of (map_of k) (name e) ≡ Some (target e)
   entry_found zero e apart h = absurd (omega arith)
   entry_found (suc k) e apart h = elim (cases_eq e k) [
@@ -143,6 +159,7 @@ module _ (name : ℕ → Name) (target : ℕ → ℕ) where
         ∙ entry_found k e (λ a b l h. apart a b l (omega arith)) (omega arith)
   ]
 
+  -- where names differ the next one is not there yet
   fresh : (k : ℕ) → Distinct (suc k) → inode_of (map_of k) (name k) ≡ None
   fresh k apart = not_found k (name k) (λ e h. apart e k h (omega arith))
 
@@ -155,6 +172,7 @@ module _ (name : ℕ → Name) (target : ℕ → ℕ) where
       let here = ap (tally p) (next k) ∙ tally_put p (name k) (target k) (map_of k) (fresh k apart) in
       omega arith
 
+  -- the map has as many names as there are entries
   pub length_entries : (k : ℕ) → Distinct k → length (map_of k) ≡ k
   length_entries zero apart = ap length first
   length_entries (suc k) apart =

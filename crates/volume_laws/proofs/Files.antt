@@ -21,11 +21,13 @@ page_starts q s b some h =
     let spread : (suc q + d) * b ≡ q * b + b + d * b = grind arith in
     omega arith
 
+-- a byte under two tests is a byte
 byte_in_two : (a b : Bool) (x : ℕ) → x < 256 → cond a (cond b 0 x) 0 < 256
 byte_in_two true true x h = omega arith
 byte_in_two true false x h = h
 byte_in_two false b x h = omega arith
 
+-- and is 0 in a hole
 none_in_hole : (a b : Bool) (x : ℕ) → b ≡ true → cond a (cond b 0 x) 0 ≡ 0
 none_in_hole true true x e = refl
 none_in_hole false true x e = refl
@@ -33,6 +35,7 @@ none_in_hole a false x e = absurd (cc)
 
 module _ (g : Geometry) (v : Pieces) (i : Inode) (some : 0 < g.block_size) (bytes : (z o : ℕ) → v.zones z o < 256)
     (low : i.size ≤ most_size) (inside : (p : ℕ) → page_zone g v i p ≢ 0 → p < pages_of g i.size) where
+  -- past the end and in a hole each byte is 0
   past : (p : ℕ) → (nat_le i.size p || not (not (page_zone g v i (p / g.block_size) == 0))) ≡ true → file_byte g v i p ≡ 0
   past p is = elim (or_cases (nat_le i.size p) (not (not (page_zone g v i (p / g.block_size) == 0))) is) [
     | inl far ↦ cond-false (nat_lt p i.size) _ 0 (le-ltb p i.size (leb-true i.size p far))

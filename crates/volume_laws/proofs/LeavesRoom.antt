@@ -9,15 +9,18 @@ use Rattle.volume_laws.proofs.Sums.{count_most}
 use Rattle.volume_laws.proofs.Parsed.{numbers_sized, parsed}
 use Rattle.volume_laws.proofs.MarkedZones.{zones_are_marked}
 
+-- zones used are zones marked
 pub used_zones_are_marked : UsedZonesAreMarked
 used_zones_are_marked g d t ok h =
     (λ i. sum_below (λ n. zones_of g (h.nodes i n)) (g.inodes + 1)) ∙ zones_are_marked g (pieces g d) ok (numbers_sized g ok) h.sound
 
+-- there are no more of these than data zones
 pub held_leaves_room : HeldLeavesRoom
 held_leaves_room g d t ok h =
     let same = used_zones_are_marked g d t ok h in
     let most = count_most (λ k. (pieces g d).zone_map (k + 1)) (data_zones g) in
     omega arith
 
+-- the same of an image
 pub image_leaves_room : ImageLeavesRoom
 image_leaves_room image t h = held_leaves_room h.geometry (disk_of h.geometry image) t (parsed image h.geometry h.parsed) h.holds

@@ -24,9 +24,11 @@ use Rattle.volume_laws.proofs.Levels.{taken}
 use Rattle.volume_laws.proofs.ZonesOf.{zones_by_level}
 
 module _ (g : Geometry) (v : Pieces) (ok : IsGeometry g) (sized : 0 < numbers_in_zone g) (s : IsSound g v) where
+  -- the numbers of inodes at each level
   abbrev inodes : ℕ → ℕ
   inodes h = g.inodes + 1
 
+  -- the places of each level
   abbrev limits : ℕ → ℕ
   limits h = limit_at (numbers_in_zone g) h
 
@@ -58,6 +60,7 @@ module _ (g : Geometry) (v : Pieces) (ok : IsGeometry g) (sized : 0 < numbers_in
         is = and_from (is_marked g v p.inode) _ p.marked (eq-eqb _ z p.names);
       }
 
+  -- there is one such point at most
   same_point : (z : ℕ) → z ≢ 0 → (p q : Point (stands z) 4 inodes limits) → (p.k ≡ q.k) × (p.y ≡ q.y) × (p.j ≡ q.j)
   same_point z some p q =
       let r = s.zones.once z some (use_at z p) (use_at z q) in
@@ -93,6 +96,7 @@ module _ (g : Geometry) (v : Pieces) (ok : IsGeometry g) (sized : 0 < numbers_in
       let low = data_low g v z (s.zones.numbers z some u) in
       (low.0, omega (arith, low.0, low.1))
 
+  -- a place is that of one data zone, or of none
   one_place : (h n i : ℕ) → h < 4 → count_below (λ k. stands (g.first_zone + k) h n i) (data_zones g) ≡ one_if (is_marked g v n && taken (naming g v) n h i)
   one_place h n i l = hit_once (is_marked g v n) (spot (naming g v) n h i) g.first_zone (data_zones g) (omega (arith, ok.first)) (in_range h n i l)
 

@@ -10,34 +10,43 @@ use Rattle.volume_laws.proofs.Cube.{cube, Point}
 
 -- One row of numbers for each (k, y): row y of k = 3 is inode y, of k < 3 the zone y entered at height k.
 module _ (m : Naming) where
+  -- row y of kind k is there: inode y is marked, or zone y is entered
   abbrev pub there : ℕ → ℕ → Bool
   there k y = if k == 3 then m.marked y else entered m k y
 
+  -- number j of the row
   abbrev pub cell : ℕ → ℕ → ℕ → ℕ
   cell k y j = if k == 3 then m.slot y j else m.word y j
 
+  -- how many rows there are
   abbrev pub rows : ℕ → ℕ
   rows k = if k == 3 then m.inodes else m.zones
 
+  -- how many numbers a row has
   abbrev pub cells : ℕ → ℕ
   cells k = if k == 3 then 10 else m.width
 
+  -- the row is there, and its number j is z
   abbrev pub test : ℕ → ℕ → ℕ → ℕ → Bool
   test z k y j = there k y && (cell k y j == z)
 
+  -- a test that is never true counts 0
   none_counted : (n : ℕ) → count_below (λ _. false) n ≡ 0
   unfolding sum_below
   none_counted zero = refl
   none_counted (suc n) = let before = none_counted n in omega arith
 
+  -- a count under a guard
   guard_count : (b : Bool) (p : ℕ → Bool) (n : ℕ) → count_below (λ j. b && p j) n ≡ cond b (count_below p n) 0
   guard_count true p n = refl
   guard_count false p n = none_counted n
 
+  -- a sum of four by its last
   three_and_one : (f : ℕ → ℕ) → sum_below f 4 ≡ f 3 + sum_below f 3
   unfolding sum_below
   three_and_one f = omega arith
 
+  -- the uses of a number are the points of the rows where it stands
   pub uses_cube : (z : ℕ) → uses m z ≡ cube (test z) 4 rows cells
   uses_cube z =
       let f : ℕ → ℕ = λ k. sum_below (λ y. count_below (test z k y) (cells k)) (rows k) in
@@ -57,9 +66,11 @@ module _ (m : Naming) where
   abbrev pub Mention : ℕ → Type 0
   Mention z = Point (test z) 4 rows cells
 
+  -- the mention in a slot of an inode
   abbrev pub in_slot : (n s z : ℕ) → n < m.inodes → s < 10 → m.marked n ≡ true → m.slot n s ≡ z → Mention z
   in_slot n s z hn hs is e = record { k = 3; y = n; j = s; in_k = omega arith; in_y = hn; in_j = hs; is = and_from (m.marked n) (m.slot n s == z) is (eq-eqb (m.slot n s) z e) }
 
+  -- the mention in an entered zone
   abbrev pub in_word : (k y j z : ℕ) → k < 3 → y < m.zones → j < m.width → entered m k y ≡ true → m.word y j ≡ z → Mention z
   in_word k y j z hk hy hj is e =
       let no = ne_eqb k 3 (λ e. absurd (omega arith)) in
@@ -74,7 +85,7 @@ module _ (m : Naming) where
             (eq-eqb (cell k y j) z (cond-false (k == 3) (m.slot y j) (m.word y j) no ∙ e));
       }
 
-  -- the kinds of a mention
+  -- a mention in an inode
   pub record Direct (z : ℕ) (s : Mention z) : Type 0 where
     pub level : s.k ≡ 3
     pub in_y : s.y < m.inodes
@@ -82,6 +93,7 @@ module _ (m : Naming) where
     pub marked : m.marked s.y ≡ true
     pub names : m.slot s.y s.j ≡ z
 
+  -- a mention in an entered zone
   pub record Below (z : ℕ) (s : Mention z) : Type 0 where
     pub level : s.k < 3
     pub in_y : s.y < m.zones
@@ -89,6 +101,7 @@ module _ (m : Naming) where
     pub is_entered : entered m s.k s.y ≡ true
     pub names : m.word s.y s.j ≡ z
 
+  -- each mention is one of the two
   pub kinds : (z : ℕ) (s : Mention z) → Direct z s ⊎ Below z s
   kinds z s =
       let parts = and_parts (there s.k s.y) (cell s.k s.y s.j == z) s.is in

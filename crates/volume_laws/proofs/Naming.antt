@@ -15,9 +15,11 @@ pub record Naming : Type 0 where
 abbrev pub room : ℕ → ℕ
 room h = if h == 2 then 7 else 1
 
+-- they begin at this slot
 abbrev pub front : ℕ → ℕ
 front h = if h == 2 then 0 else 8 - h
 
+-- number j of a zone; 0 is a hole in which no number stands
 abbrev pub named : Naming → ℕ → ℕ → ℕ
 named m z j = if z == 0 then 0 else m.word z j
 
@@ -26,6 +28,7 @@ unfoldable pub spot : Naming → ℕ → ℕ → ℕ → ℕ
 spot m n zero i = if i == 0 then m.slot n 9 else 0
 spot m n (suc h) i = if nat_lt i (room h) then m.slot n (front h + i) else named m (spot m n h ((i - room h) / m.width)) ((i - room h) % m.width)
 
+-- the number stands in that slot of a marked inode
 abbrev pub is_in_slot : Naming → ℕ → ℕ → Bool
 is_in_slot m s z = some_below (λ n. m.marked n && (m.slot n s == z)) m.inodes
 

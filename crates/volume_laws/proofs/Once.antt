@@ -8,32 +8,40 @@ use Rattle.volume_laws.proofs.Cube.{cube_at, cube_some, cube_same, cube_single}
 use Rattle.volume_laws.proofs.Mentions.{test, rows, cells, uses_cube, Mention, in_slot, in_word, kinds}
 use Rattle.volume_laws.proofs.Spots.{under, beside, front_below, front_same, spot_top, spot_slot, spot_word, seen_top, Inner, Outer, seen_next, Named, entered_named, named_entered}
 
+-- a mention is counted
 pub mentioned : (m : Naming) (z : ℕ) → Mention m z → 0 < uses m z
 mentioned m z s = let more = cube_at (test m z) 4 (rows m) (cells m) s in let same = uses_cube m z in omega arith
 
+-- what is counted is mentioned
 pub mention_of_use : (m : Naming) (z : ℕ) → 0 < uses m z → Mention m z
 mention_of_use m z h = let same = uses_cube m z in cube_some (test m z) 4 (rows m) (cells m) (omega arith)
 
+-- what is counted once at most has one mention at most
 pub same_mention : (m : Naming) (z : ℕ) → uses m z ≤ 1 → (s t : Mention m z) → (s.k ≡ t.k) × (s.y ≡ t.y) × (s.j ≡ t.j)
 same_mention m z most s t = let same = uses_cube m z in cube_same (test m z) 4 (rows m) (cells m) (omega arith) s t
 
+-- what has one mention at most is counted once at most
 pub one_mention : (m : Naming) (z : ℕ) → ((s t : Mention m z) → (s.k ≡ t.k) × (s.y ≡ t.y) × (s.j ≡ t.j)) → uses m z ≤ 1
 one_mention m z same = let e = uses_cube m z in let most = cube_single (test m z) 4 (rows m) (cells m) same in omega arith
 
 module _ (m : Naming) (sized : 0 < m.width)
     (inside : (n : ℕ) → m.marked n ≡ true → n < m.inodes)
     (bounded : (n h i : ℕ) → m.marked n ≡ true → h < 4 → spot m n h i ≢ 0 → spot m n h i < m.zones) where
+  -- the mention of a place of height 0
   top_mention : (n i z : ℕ) → m.marked n ≡ true → (i ≡ 0) × (m.slot n 9 ≡ z) → Mention m z
   top_mention n i z is at = in_slot m n 9 z (inside n is) (omega arith) is at.1
 
+  -- the mention of a place in an inode
   inner_mention : (n h i z : ℕ) → h < 3 → m.marked n ≡ true → Inner m n h i z → Mention m z
   inner_mention n h i z l is at = let low = front_below h i l at.low in in_slot m n (front h + i) z (inside n is) (omega arith) is at.names
 
+  -- the mention of a place in a zone
   outer_mention : (n h i z : ℕ) → h < 3 → m.marked n ≡ true → Outer m n h i z → Mention m z
   outer_mention n h i z l is at =
       in_word m h (spot m n h (under m h i)) (beside m h i) z l (bounded n h (under m h i) is (omega arith) at.some) (omega arith)
       (named_entered m sized inside bounded h n (under m h i) _ l is refl at.some) at.names
 
+  -- the mention of any place
   pub place_mention : (n h i z : ℕ) → h < 4 → m.marked n ≡ true → spot m n h i ≡ z → z ≢ 0 → Mention m z
   place_mention n zero i z l is e some = top_mention n i z is (seen_top m n i z e some)
   place_mention n (suc h) i z l is e some = elim (seen_next m n h i z e some) [
@@ -43,11 +51,13 @@ module _ (m : Naming) (sized : 0 < m.width)
 
   -- at most one use of every zone: at most one place of each
   module _ (single : (z : ℕ) → z ≢ 0 → z < m.zones → uses m z ≤ 1) where
+    -- two slots that name a zone are one
     by_slots : (n s n' s' z : ℕ) → z ≢ 0 → z < m.zones → s < 10 → s' < 10 → m.marked n ≡ true → m.marked n' ≡ true
         → m.slot n s ≡ z → m.slot n' s' ≡ z → (n ≡ n') × (s ≡ s')
     by_slots n s n' s' z some low l l' is is' e e' =
         let r = same_mention m z (single z some low) (in_slot m n s z (inside n is) l is e) (in_slot m n' s' z (inside n' is') l' is' e') in (r.1, r.2)
 
+    -- a slot and a word don't name one zone
     not_both : (n s h n' i' z : ℕ) → z ≢ 0 → z < m.zones → s < 10 → m.marked n ≡ true → m.slot n s ≡ z
         → h < 3 → m.marked n' ≡ true → Outer m n' h i' z → ⊥
     not_both n s h n' i' z some low l is e lh is' at =
@@ -56,6 +66,7 @@ module _ (m : Naming) (sized : 0 < m.width)
         (named_entered m sized inside bounded h n' (under m h i') _ lh is' refl at.some) at.names) in
         absurd (omega (arith, r.0))
 
+    -- two words that name a zone are one
     by_words : (n h i n' h' i' z : ℕ) → z ≢ 0 → z < m.zones → h < 3 → h' < 3 → m.marked n ≡ true → m.marked n' ≡ true
         → (u : Outer m n h i z) (v : Outer m n' h' i' z)
         → (h ≡ h') × (spot m n h (under m h i) ≡ spot m n' h' (under m h' i')) × (beside m h i ≡ beside m h' i')
@@ -66,9 +77,11 @@ module _ (m : Naming) (sized : 0 < m.width)
         (in_word m h' (spot m n' h' (under m h' i')) (beside m h' i') z l' (bounded n' h' (under m h' i') is' (omega arith) v.some) (omega arith)
         (named_entered m sized inside bounded h' n' (under m h' i') _ l' is' refl v.some) v.names)
 
+    -- a zone that is named is below the bound
     low_of : (n h i z : ℕ) → h < 4 → m.marked n ≡ true → spot m n h i ≡ z → z ≢ 0 → z < m.zones
     low_of n h i z l is e some = let b = bounded n h i is l (λ o. some (sym e ∙ o)) in omega arith
 
+    -- two places that name a zone are one
     pub same_place : (h n i h' n' i' z : ℕ) → h < 4 → h' < 4 → m.marked n ≡ true → m.marked n' ≡ true
         → spot m n h i ≡ z → spot m n' h' i' ≡ z → z ≢ 0 → (n ≡ n') × (h ≡ h') × (i ≡ i')
     same_place zero n i zero n' i' z l l' is is' e e' some =
@@ -126,10 +139,12 @@ module _ (m : Naming) (sized : 0 < m.width)
           ]
         ]
 
+  -- the slot of a place that stands in an inode
   abbrev code : ℕ → ℕ → ℕ
   code zero i = 9
   code (suc a) i = front a + i
 
+  -- the place of a slot
   record At (n s z : ℕ) : Type 0 where
     height : ℕ
     index : ℕ
@@ -138,6 +153,7 @@ module _ (m : Naming) (sized : 0 < m.width)
     is_code : s ≡ code height index
     inner : (a : ℕ) → height ≡ suc a → index < room a
 
+  -- each slot is that of a place
   slot_place : (n s z : ℕ) → s < 10 → m.slot n s ≡ z → At n s z
   slot_place n s z l e = elim (cases_eq s 9) [
     | inl o ↦ record { height = 0; index = 0; low = omega arith; names = spot_top m n 0 ∙ ap (m.slot n) (sym o) ∙ e; is_code = o; inner = λ a x. absurd (omega arith) }
@@ -152,6 +168,7 @@ module _ (m : Naming) (sized : 0 < m.width)
     ]
   ]
 
+  -- a mention is a place
   pub mention_place : (z : ℕ) → Mention m z → Place m z
   mention_place z s = elim (kinds m z s) [
     | inl d ↦ let at = slot_place s.y s.j z d.in_j d.names in
@@ -167,9 +184,11 @@ module _ (m : Naming) (sized : 0 < m.width)
         }
   ]
 
+  -- the place of a mention in a slot
   abbrev of_slot : (z n s : ℕ) → At n s z → m.marked n ≡ true → Place m z
   of_slot z n s at is = record { inode = n; height = at.height; index = at.index; most = lt-ltb at.height 4 at.low; marked = is; names = at.names }
 
+  -- the place of a mention in a zone
   abbrev of_word : (z k y j : ℕ) → Named m k y → k < 3 → j < m.width → m.word y j ≡ z → Place m z
   of_word z k y j up l lj e =
       record {
@@ -214,9 +233,10 @@ module _ (m : Naming) (sized : 0 < m.width)
     ]
   ])
 
-  -- used: it has a place
+  -- what is used has a place
   pub used_place : (z : ℕ) → 0 < uses m z → Place m z
   used_place z h = mention_place z (mention_of_use m z h)
 
+  -- what has a place is used
   pub place_used : (z : ℕ) → z ≢ 0 → Place m z → 0 < uses m z
   place_used z some p = mentioned m z (place_mention p.inode p.height p.index z (ltb-true p.height 4 p.most) p.marked p.names some)

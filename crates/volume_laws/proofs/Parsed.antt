@@ -10,25 +10,31 @@ use Rattle.layout.specs.Bytes.{u16_at, u32_at}
 use Rattle.layout.specs.Places.{superblock_geometry, table_blocks, counts_agree, is_block_size, geometry_of, IsGeometry}
 use Rattle.tree.specs.Space.{numbers_in_zone}
 
+-- what isn't refused passed the test
 refused : {E X : Type 0} (b : Bool) (e : E) (r : Result X E) (x : X) → cond b (Err e) r ≡ Ok x → (b ≡ false) × (r ≡ Ok x)
 refused true e r x is = absurd (cc)
 refused false e r x is = (refl, is)
 
+-- the value, or another where there is none
 of_result : Geometry → Result Geometry LayoutRefusal → Geometry
 of_result g (Ok x) = x
 of_result g (Err e) = g
 
+-- a geometry that was read
 accepted : Geometry → Result Geometry LayoutRefusal
 accepted x = Ok x
 
+-- two that were read are equal where the results are
 same_ok : (x y : Geometry) → accepted x ≡ accepted y → x ≡ y
 unfolding of_result accepted
 same_ok x y e = ap (of_result x) e
 
+-- the same result at another type of refusals
 ok_is : (x y : Geometry) (e : let r : Result Geometry LayoutRefusal = Ok x in r ≡ Ok y) → accepted x ≡ accepted y
 unfolding accepted
 ok_is x y e = e
 
+-- blocks are large
 big : (g : Geometry) → is_block_size g.block_size ≡ true → 1024 ≤ g.block_size
 big g size = elim (or_cases ((g.block_size == 1024) || (g.block_size == 2048)) (g.block_size == 4096) size) [
   | inl e ↦ elim (or_cases (g.block_size == 1024) (g.block_size == 2048) e) [
@@ -38,6 +44,7 @@ big g size = elim (or_cases ((g.block_size == 1024) || (g.block_size == 2048)) (
   | inr f ↦ let x = eqb-true g.block_size 4096 f in omega arith
 ]
 
+-- what the tests of the counts say
 agreed : (g : Geometry) → is_block_size g.block_size ≡ true → counts_agree g ≡ true → IsGeometry g
 agreed g size counts =
     let a = and_parts _ (nat_le (g.zones - g.first_zone + 1) (8 * g.block_size * g.zone_map_blocks)) counts in

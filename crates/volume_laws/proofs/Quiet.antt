@@ -31,10 +31,12 @@ pub record Quiet (g : Geometry) (v : Pieces) : Type 0 where
   pub places : Never g (is_misplaced g v)
   pub links : Never g (has_bad_links g v)
 
+-- tests that are all true nowhere
 AllNever : Geometry → List Test → Type 0
 AllNever g [] = Unit {0}
 AllNever g (test ∷ rest) = (Never g test) × AllNever g rest
 
+-- a clean verdict says so of all tests
 clean_never : (g : Geometry) (k : ℕ) (all : List Test) → first_found (place_limit g) k all ≡ Clean → AllNever g all
 unfolding AllNever
 clean_never g k [] e = tt
@@ -43,6 +45,7 @@ clean_never g k (test ∷ rest) e = elim (cases_Bool (some_below test (place_lim
   | inr out ↦ (out, clean_never g (k + 1) rest (sym (cond-false (some_below test (place_limit g)) _ (first_found (place_limit g) (k + 1) rest) out) ∙ e))
 ]
 
+-- and is clean where it is so
 never_clean : (g : Geometry) (k : ℕ) (all : List Test) → AllNever g all → first_found (place_limit g) k all ≡ Clean
 unfolding AllNever
 never_clean g k [] q = refl
@@ -84,6 +87,7 @@ pub guarded_false : (a b : Bool) → (a && b) ≡ false → a ≡ true → b ≡
 guarded_false true b e is = e
 guarded_false false b e is = absurd (cc)
 
+-- a guarded test is false where it is false under the guard
 pub guard_false : (a b : Bool) → (a ≡ true → b ≡ false) → (a && b) ≡ false
 guard_false true b h = h refl
 guard_false false b h = refl

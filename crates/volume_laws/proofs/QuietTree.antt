@@ -1,41 +1,35 @@
 -- Where a tree without open files is held, no finding holds.
-use Rattle.std.proofs.Common.{◌≡◌, ◌≢◌, ◌<◌, ◌≤◌, ◌+◌, ◌-◌, ℕ, suc, Bool, true, false, refl, sym, ap, ◌∙◌, arith, subst}
+use Rattle.std.proofs.Common.{◌≡◌, ◌≢◌, ◌<◌, ◌≤◌, ◌+◌, ℕ, true, false, sym, ap, ◌∙◌, arith, subst}
 use mathlib.Core.Logic.{inl, inr}
-use Rattle.std.specs.Prelude.{not, ◌&&◌, ◌||◌, ◌==◌, nat_lt, nat_le, None, Some}
-use Rattle.std.proofs.lemmas.Bool.{cases_eq, cases_Bool, cases_lt, or_from, cond-true, cond-false, eq-eqb, ne_eqb, eqb-false, leb-true, ltb-true, lt-ltb, le-ltb, not-true, not_from_true, both_ways, false_from_ne_true}
+use Rattle.std.specs.Prelude.{not, ◌||◌, ◌==◌, nat_lt, None, Some}
+use Rattle.std.proofs.lemmas.Bool.{cases_eq, cases_Bool, cases_lt, or_from, cond-true, cond-false, eq-eqb, ne_eqb, lt-ltb, le-ltb, both_ways}
 use Rattle.layout.specs.declared.Geometry.{Geometry}
 use Rattle.layout.specs.Places.{IsGeometry}
-use Rattle.tree.specs.Sums.{some_below, one_if}
-use Rattle.tree.specs.ZonesNeeded.{page_limit}
-use Rattle.tree.specs.Names.{same_name, dot, dot_dot}
+use Rattle.tree.specs.Sums.{one_if}
 use Rattle.tree.specs.Tree.{Tree, is_dir, names_of, opens, is_open, most_size, most_links, most_open_files}
 use Rattle.tree.specs.IsTree.{IsBody, IsTree, IsClosed, above, links_due, subdirectories}
-use Rattle.tree.specs.Space.{pages_of, numbers_in_zone}
-use Rattle.volume.specs.Reading.{is_data_zone}
+use Rattle.tree.specs.Space.{numbers_in_zone}
 use Rattle.volume.specs.Pieces.{Pieces}
-use Rattle.volume.specs.Nodes.{page_zone, is_marked, node_of}
-use Rattle.volume.specs.Places.{zone_at, uses}
-use Rattle.volume.specs.Entries.{is_directory_inode, entry_count, name_at, target_at, is_field, is_name_field}
-use Rattle.volume.specs.Findings.{has_bad_size, has_bad_number, is_used_twice, has_bad_bit, has_spare_zone, has_hole, has_bad_dots, is_bad_entry, has_bad_entry, has_bad_target, is_misplaced, has_bad_links, names_in_of, all_names_of, is_reached, is_parent, links_of}
+use Rattle.volume.specs.Nodes.{is_marked, node_of}
+use Rattle.volume.specs.Entries.{is_directory_inode, entry_count, name_at, target_at}
+use Rattle.volume.specs.Findings.{has_bad_size, has_bad_target, is_misplaced, has_bad_links, names_in_of, all_names_of, is_reached, is_parent, links_of}
 use Rattle.volume.specs.Holds.{IsSound}
 use Rattle.volume.specs.Verdict.{place_limit}
-use Rattle.volume_laws.proofs.Naming.{spot, Place}
 use Rattle.volume_laws.proofs.Sums.{none_from}
-use Rattle.volume_laws.proofs.Once.{single_use, used_place, place_used}
-use Rattle.volume_laws.proofs.Bridge.{naming, bounded, uses_are, zone_spot, place_of_use, use_of_place}
 use Rattle.volume_laws.proofs.Reached.{climbed_reached}
 use Rattle.volume_laws.proofs.Quiet.{Quiet, guard_false}
-use Rattle.volume_laws.proofs.Ranges.{marked_low, marked_below, data_low, data_some, dir_marked, same_name_true}
+use Rattle.volume_laws.proofs.Ranges.{marked_low, dir_marked}
 use Rattle.volume_laws.proofs.NodesAs.{nodes, names_differ, node_marked, some_node, body_directory, body_file, dir_node, parent_node, entry_in, named_node, all_named_node, subdirectories_node, length_node}
 use Rattle.volume_laws.proofs.Ways.{edge, reached_is, above_climbs, dir, parent, edge_from, orphan, nowhere}
-
 use Rattle.volume_laws.proofs.QuietSound.{not_false_from, quiet_numbers, quiet_uses, quiet_bits, quiet_ends, quiet_holes, quiet_dots, quiet_entries}
 
 module _ (g : Geometry) (v : Pieces) (ok : IsGeometry g) (sized : 0 < numbers_in_zone g) (s : IsSound g v) (u : Tree)
     (tree : IsTree g (record u { nodes = nodes g v })) (closed : IsClosed u) where
+  -- the inode of a directory has the node of one
   as_node : (n : ℕ) → is_directory_inode g v n ≡ true → dir g v n ≡ true
   as_node n is = dir_node g v n ∙ is
 
+  -- the tree keeps the limit of sizes
   size_low : (n : ℕ) → is_marked g v n ≡ true → (v.inodes n).size ≤ most_size
   size_low n is =
       let body = (tree.nodes.each n (node_of g v (v.inodes n)) (node_marked g v n is)).body in
@@ -49,15 +43,18 @@ module _ (g : Geometry) (v : Pieces) (ok : IsGeometry g) (sized : 0 < numbers_in
         | inr f ↦ (subst (IsBody g) (body_file g v n is f) body).size
       ]
 
+  -- finding 6
   quiet_sizes : (n : ℕ) → has_bad_size g v n ≡ false
   quiet_sizes n = guard_false (is_marked g v n) _ (λ is. or_from _ _
       (le-ltb most_size _ (size_low n is))
       (guard_false (is_directory_inode g v n) _ (λ d. let sound = s.directories n d in
       or_from _ _ (le-ltb _ 128 (omega (arith, sound.two))) (not_false_from _ (eq-eqb _ 0 sound.sized)))))
 
+  -- inode 1 is a directory
   root_dir : is_directory_inode g v 1 ≡ true
   root_dir = sym (dir_node g v 1) ∙ tree.nodes.root
 
+  -- and its own parent
   root_parent : target_at g v 1 1 ≡ 1
   root_parent = sym (parent_node g v 1 root_dir) ∙ tree.nodes.root_parent
 
@@ -65,6 +62,7 @@ module _ (g : Geometry) (v : Pieces) (ok : IsGeometry g) (sized : 0 < numbers_in
   named_in_parent : (n : ℕ) → dir g v n ≡ true → n ≢ 1 → names_in_of g v (parent g v n) n ≡ 1
   named_in_parent n is other = sym (named_node g v (names_differ g v s) n (parent g v n)) ∙ (tree.nodes.placed n other is).in_parent
 
+  -- .. leads to a marked inode
   parent_marked : (n : ℕ) → is_directory_inode g v n ≡ true → is_marked g v (target_at g v n 1) ≡ true
   parent_marked n is = elim (cases_eq n 1) [
     | inl e ↦ ap (is_marked g v) (ap (λ k. target_at g v k 1) e ∙ root_parent) ∙ dir_marked g v 1 root_dir
@@ -76,6 +74,7 @@ module _ (g : Geometry) (v : Pieces) (ok : IsGeometry g) (sized : 0 < numbers_in
         ]
   ]
 
+  -- and so does each entry
   target_marked : (n e : ℕ) → is_directory_inode g v n ≡ true → e < entry_count v n → is_marked g v (target_at g v n e) ≡ true
   target_marked n e is low = elim (cases_lt e 2) [
     | inr high ↦ sym (some_node g v (target_at g v n e)) ∙ tree.nodes.targets n (target_at g v n e) (name_at g v n e) (entry_in g v (names_differ g v s) n e is high low)
@@ -85,12 +84,15 @@ module _ (g : Geometry) (v : Pieces) (ok : IsGeometry g) (sized : 0 < numbers_in
     ]
   ]
 
+  -- finding 14
   quiet_targets : (n : ℕ) → has_bad_target g v n ≡ false
   quiet_targets n = guard_false (is_directory_inode g v n) _ (λ is. none_from _ (entry_count v n) (λ e low. not_false_from _ (target_marked n e is low)))
 
+  -- the parent names a directory
   edge_parent : (n : ℕ) → dir g v n ≡ true → n ≢ 1 → edge g v (parent g v n) n ≡ true
   edge_parent n is other = let one = named_in_parent n is other in lt-ltb 0 _ (omega arith)
 
+  -- where parents lead to the root, names lead back
   climbs : (n k : ℕ) → is_marked g v n ≡ true → above (nodes g v) k n ≡ 1 → is_reached g v g.inodes n ≡ true
   climbs n k is up =
       let low = marked_low g v n is in
@@ -98,24 +100,28 @@ module _ (g : Geometry) (v : Pieces) (ok : IsGeometry g) (sized : 0 < numbers_in
       ∙ climbed_reached (edge g v) (g.inodes + 1) (dir g v) (parent g v) (edge_from g v) edge_parent (orphan g v) (nowhere g v) g.inodes k n
       (omega (arith, low.0, low.1)) (omega arith) (omega (arith, low.1)) (sym (above_climbs (nodes g v) k n) ∙ up)
 
+  -- so each directory is reached
   reaches : (n : ℕ) → is_directory_inode g v n ≡ true → is_reached g v g.inodes n ≡ true
   reaches n is = elim (cases_eq n 1) [
     | inl e ↦ climbs n 0 (dir_marked g v n is) e
     | inr other ↦ let up = (tree.nodes.placed n other (as_node n is)).reached in climbs n up.0 (dir_marked g v n is) up.1
   ]
 
+  -- it is named once, and the root never
   named_once : (n : ℕ) → is_directory_inode g v n ≡ true → all_names_of g v n ≡ one_if (not (n == 1))
   named_once n is = elim (cases_eq n 1) [
     | inl e ↦ ap (all_names_of g v) e ∙ sym (all_named_node g v (names_differ g v s) 1) ∙ tree.nodes.root_name ∙ sym (ap (λ b. one_if (not b)) (eq-eqb n 1 e))
     | inr other ↦ sym (all_named_node g v (names_differ g v s) n) ∙ (tree.nodes.placed n other (as_node n is)).one_name ∙ sym (ap (λ b. one_if (not b)) (ne_eqb n 1 other))
   ]
 
+  -- .. leads to the parent
   right_parent : (n : ℕ) → is_directory_inode g v n ≡ true → is_parent g v n (target_at g v n 1) ≡ true
   right_parent n is = elim (cases_eq n 1) [
     | inl e ↦ cond-true (n == 1) _ _ (eq-eqb n 1 e) ∙ eq-eqb _ 1 (ap (λ k. target_at g v k 1) e ∙ root_parent)
     | inr other ↦ cond-false (n == 1) _ _ (ne_eqb n 1 other) ∙ ap (λ k. edge g v k n) (sym (parent_node g v n is)) ∙ edge_parent n (as_node n is) other
   ]
 
+  -- finding 15
   quiet_places : (n : ℕ) → is_misplaced g v n ≡ false
   quiet_places n = guard_false (is_directory_inode g v n) _ (λ is.
       let r = is_reached g v g.inodes n in
@@ -125,6 +131,7 @@ module _ (g : Geometry) (v : Pieces) (ok : IsGeometry g) (sized : 0 < numbers_in
       (or_from (not r) (not o) (not_false_from r (reaches n is)) (not_false_from o (eq-eqb _ _ (named_once n is))))
       (not_false_from p (right_parent n is)))
 
+  -- the links due are those of the findings
   links_node : (n : ℕ) → is_marked g v n ≡ true → links_due g (nodes g v) n (node_of g v (v.inodes n)) ≡ links_of g v n
   links_node n is =
       let kind : is_dir (node_of g v (v.inodes n)) ≡ is_directory_inode g v n = sym (ap (λ o. elim o [ None ↦ false | Some x ↦ is_dir x ]) (node_marked g v n is)) ∙ dir_node g v n in
@@ -135,9 +142,11 @@ module _ (g : Geometry) (v : Pieces) (ok : IsGeometry g) (sized : 0 < numbers_in
         | inr f ↦ cond-false (is_dir (node_of g v (v.inodes n))) _ _ (kind ∙ f) ∙ all_named_node g v (names_differ g v s) n ∙ sym (cond-false (is_directory_inode g v n) _ _ f)
       ]
 
+  -- no node is open
   none_open : (n : ℕ) → is_open (record u { nodes = nodes g v }) n ≡ false
   none_open n = none_from (λ k. opens n (u.open_files k)) most_open_files (λ k _. λ i. opens n (closed.open_files i k))
 
+  -- finding 16
   quiet_links : (n : ℕ) → has_bad_links g v n ≡ false
   quiet_links n = guard_false (is_marked g v n) _ (λ is.
       let node = node_of g v (v.inodes n) in

@@ -23,26 +23,32 @@ same_name_true (x ∷ xs) (y ∷ ys) e =
     let parts = and_parts (x == y) (same_name xs ys) e in
     λ i. eqb-true x y parts.0 i ∷ same_name_true xs ys parts.1 i
 
+-- a name is the same as itself
 pub same_name_itself : (xs : List ℕ) → same_name xs xs ≡ true
 same_name_itself [] = refl
 same_name_itself (x ∷ xs) = and_from (x == x) (same_name xs xs) (eq-eqb x x refl) (same_name_itself xs)
 
 module _ (g : Geometry) (v : Pieces) where
+  -- the number of a marked inode is in range
   pub marked_low : (n : ℕ) → is_marked g v n ≡ true → (1 ≤ n) × (n ≤ g.inodes)
   marked_low n is =
       let inside = (and_parts (is_inode g n) (v.inode_map n) is).0 in
       let both = and_parts (nat_le 1 n) (nat_le n g.inodes) inside in
       (leb-true 1 n both.0, leb-true n g.inodes both.1)
 
+  -- and below the bound of sums
   pub marked_below : (n : ℕ) → is_marked g v n ≡ true → n < g.inodes + 1
   marked_below n is = let low = marked_low n is in omega (arith, low.1)
 
+  -- a data zone is in range
   pub data_low : (z : ℕ) → is_data_zone g z ≡ true → (g.first_zone ≤ z) × (z < g.zones)
   data_low z is = let both = and_parts (nat_le g.first_zone z) (nat_lt z g.zones) is in (leb-true g.first_zone z both.0, ltb-true z g.zones both.1)
 
+  -- and isn't 0
   pub data_some : IsGeometry g → (z : ℕ) → is_data_zone g z ≡ true → z ≢ 0
   data_some ok z is e = let low = data_low z is in absurd (omega (arith, low.0, ok.first))
 
+  -- a directory is marked
   pub dir_marked : (n : ℕ) → is_directory_inode g v n ≡ true → is_marked g v n ≡ true
   dir_marked n is = (and_parts (is_marked g v n) (is_directory_mode (v.inodes n).mode) is).0
 
@@ -52,11 +58,13 @@ module _ (g : Geometry) (v : Pieces) where
       let low = marked_low n is in
       guarded_false (is_marked g v n) (p n) (none_below (λ k. is_marked g v k && p k) (place_limit g) none n (omega (arith, low.1))) is
 
+  -- one that no directory meets
   pub at_dir : (p : ℕ → Bool) (n : ℕ) → some_below (λ k. is_directory_inode g v k && p k) (place_limit g) ≡ false → is_directory_inode g v n ≡ true → p n ≡ false
   at_dir p n none is =
       let low = marked_low n (dir_marked n is) in
       guarded_false (is_directory_inode g v n) (p n) (none_below (λ k. is_directory_inode g v k && p k) (place_limit g) none n (omega (arith, low.1))) is
 
+  -- one that no data zone meets
   pub at_zone : (p : ℕ → Bool) (z : ℕ) → some_below (λ k. is_data_zone g k && p k) (place_limit g) ≡ false → is_data_zone g z ≡ true → p z ≡ false
   at_zone p z none is =
       let low = data_low z is in

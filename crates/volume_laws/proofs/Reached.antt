@@ -19,15 +19,18 @@ count_full p (suc n) h k l = elim (cases_Bool (p n)) [
   | inr out ↦ let most = count_most p n in let none : one_if (p n) ≡ 0 = ap one_if out in absurd (omega arith)
 ]
 
+-- a test within another counts no more
 one_within : (a b : Bool) → (a ≡ true → b ≡ true) → one_if a ≤ one_if b
 one_within true b h = let e = one_true b (h refl) in omega arith
 one_within false b h = omega arith
 
+-- and so does a set within another
 count_within : (p q : ℕ → Bool) (n : ℕ) → ((k : ℕ) → p k ≡ true → q k ≡ true) → count_below p n ≤ count_below q n
 unfolding sum_below
 count_within p q zero h = omega arith
 count_within p q (suc n) h = let before = count_within p q n h in let here = one_within (p n) (q n) (h n) in omega arith
 
+-- it counts less where one number more is in the other
 count_more : (p q : ℕ → Bool) (n k : ℕ) → ((k : ℕ) → p k ≡ true → q k ≡ true) → k < n → p k ≡ false → q k ≡ true → count_below p n < count_below q n
 unfolding sum_below
 count_more p q zero k h l out is = absurd (omega arith)
@@ -44,27 +47,34 @@ count_more p q (suc n) k h l out is = elim (cases_eq k n) [
 ]
 
 module _ (edge : ℕ → ℕ → Bool) (limit : ℕ) where
+  -- reached in at most k steps
   abbrev r : ℕ → ℕ → Bool
   r k n = reached edge limit k n
 
+  -- one step more
   next : (k n : ℕ) → r (suc k) n ≡ (r k n || some_below (λ m. edge m n && r k m) limit)
   unfolding reached
   next k n = refl
 
+  -- no step
   at_root : (n : ℕ) → r 0 n ≡ (n == 1)
   unfolding reached
   at_root n = refl
 
+  -- what is reached stays reached with one step more
   grows : (k n : ℕ) → r k n ≡ true → r (suc k) n ≡ true
   grows k n is = next k n ∙ or_left (r k n) _ is
 
+  -- and with more
   pub grows_by : (j k n : ℕ) → r k n ≡ true → r (j + k) n ≡ true
   grows_by zero k n is = let e : 0 + k ≡ k = omega arith in ap (λ a. r a n) e ∙ is
   grows_by (suc j) k n is = let e : suc j + k ≡ suc (j + k) = omega arith in ap (λ a. r a n) e ∙ grows (j + k) n (grows_by j k n is)
 
+  -- one step from what is reached
   pub along : (k m n : ℕ) → m < limit → r k m ≡ true → edge m n ≡ true → r (suc k) n ≡ true
   along k m n l is step = next k n ∙ or_right (r k n) _ (some_from _ limit m l (and_from (edge m n) (r k m) step is))
 
+  -- one step more adds nothing
   abbrev Stable : ℕ → Type 0
   Stable k = (n : ℕ) → n < limit → r (suc k) n ≡ true → r k n ≡ true
 
@@ -78,12 +88,14 @@ module _ (edge : ℕ → ℕ → Bool) (limit : ℕ) where
         along k w.0 n w.1 (still w.0 w.1 at.1) at.0
   ]
 
+  -- nor do more
   stays_by : (j k : ℕ) → Stable k → Stable (j + k)
   stays_by zero k still n l is = let e : 0 + k ≡ k = omega arith in
       ap (λ a. r a n) e ∙ still n l (ap (λ a. r (suc a) n) (sym e) ∙ is)
   stays_by (suc j) k still n l is = let e : suc j + k ≡ suc (j + k) = omega arith in
       ap (λ a. r a n) e ∙ stays (j + k) (stays_by j k still) n l (ap (λ a. r (suc a) n) (sym e) ∙ is)
 
+  -- after k steps more than k are reached, or nothing is added
   grown_or_stable : (k : ℕ) → 1 < limit → (k < count_below (r k) limit) ⊎ Stable k
   grown_or_stable zero big =
       let one = one_true (r 0 1) (at_root 1 ∙ eq-eqb 1 1 refl) in
@@ -112,6 +124,7 @@ module _ (edge : ℕ → ℕ → Bool) (limit : ℕ) where
     | inr still ↦ still
   ]
 
+  -- what is reached in more steps is reached in as many as there are numbers
   within : (k j n : ℕ) → 1 < limit → limit ≡ suc k → n < limit → r (j + k) n ≡ true → r k n ≡ true
   within k zero n big e l is = let s : 0 + k ≡ k = omega arith in ap (λ a. r a n) (sym s) ∙ is
   within k (suc j) n big e l is =
@@ -152,13 +165,16 @@ module _ (edge : ℕ → ℕ → Bool) (limit : ℕ) where
       (from : (m n : ℕ) → edge m n ≡ true → (m < limit) × (dir m ≡ true))
       (in_parent : (n : ℕ) → dir n ≡ true → n ≢ 1 → edge (parent n) n ≡ true)
       (orphan : (n : ℕ) → dir n ≡ false → parent n ≡ 0) (nowhere : dir 0 ≡ false) where
+    -- k steps to the parent
     abbrev up : ℕ → ℕ → ℕ
     up k n = climb parent k n
 
+    -- one step first
     up_next : (k n : ℕ) → up (suc k) n ≡ up k (parent n)
     unfolding climb
     up_next k n = refl
 
+    -- no step
     up_none : (n : ℕ) → up 0 n ≡ n
     unfolding climb
     up_none n = refl
@@ -182,6 +198,7 @@ module _ (edge : ℕ → ℕ → Bool) (limit : ℕ) where
       ]
     ]
 
+    -- within the bound
     pub climbed_reached : (k j n : ℕ) → 1 < limit → limit ≡ suc k → n < limit → up j n ≡ 1 → r k n ≡ true
     climbed_reached k j n big e l is = fuel_enough k j n big e l (climbed j n is)
 

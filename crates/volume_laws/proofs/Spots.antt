@@ -8,18 +8,21 @@ use Rattle.tree.specs.Sums.{some_below}
 use Rattle.volume_laws.proofs.Naming.{Naming, room, front, spot, is_in_slot, entered}
 use Rattle.volume_laws.proofs.Sums.{some_from, some_witness}
 
+-- the pages stand in slots 0 to 6, each block in a slot of its own
 pub room_front : (h : ℕ) → h < 3 → ((h ≡ 2) × (room h ≡ 7) × (front h ≡ 0)) ⊎ ((h < 2) × (room h ≡ 1) × (front h ≡ 8 - h))
 room_front h l = elim (cases_eq h 2) [
   | inl e ↦ let t = eq-eqb h 2 e in inl (e, cond-true (h == 2) 7 1 t, cond-true (h == 2) 0 (8 - h) t)
   | inr d ↦ let t = ne_eqb h 2 d in inr (omega arith, cond-false (h == 2) 7 1 t, cond-false (h == 2) 0 (8 - h) t)
 ]
 
+-- those slots are below 9
 pub front_below : (h i : ℕ) → h < 3 → i < room h → front h + i < 9
 front_below h i l r = elim (room_front h l) [
   | inl e ↦ omega (arith, e.1, e.2)
   | inr e ↦ omega (arith, e.1, e.2, e.0)
 ]
 
+-- and no two places share one
 pub front_same : (a b i j : ℕ) → a < 3 → b < 3 → i < room a → j < room b → front a + i ≡ front b + j → (a ≡ b) × (i ≡ j)
 front_same a b i j ha hb hi hj e = elim (room_front a ha) [
   | inl p ↦ elim (room_front b hb) [
@@ -33,35 +36,43 @@ front_same a b i j ha hb hi hj e = elim (room_front a ha) [
 ]
 
 module _ (m : Naming) where
+  -- the place of the block that names a place
   abbrev pub under : ℕ → ℕ → ℕ
   under h i = (i - room h) / m.width
 
+  -- which of the block's numbers that is
   abbrev pub beside : ℕ → ℕ → ℕ
   beside h i = (i - room h) % m.width
 
+  -- the triple's block
   pub spot_top : (n i : ℕ) → spot m n 0 i ≡ cond (i == 0) (m.slot n 9) 0
   unfolding spot
   spot_top n i = refl
 
+  -- a place below height 0: in a slot, or in the block that names it
   pub spot_next : (n h i : ℕ) → spot m n (suc h) i ≡ cond (nat_lt i (room h)) (m.slot n (front h + i)) (cond (spot m n h (under h i) == 0) 0 (m.word (spot m n h (under h i)) (beside h i)))
   unfolding spot
   spot_next n h i = refl
 
+  -- a zone at height 0 stands in slot 9
   pub seen_top : (n i z : ℕ) → spot m n 0 i ≡ z → z ≢ 0 → (i ≡ 0) × (m.slot n 9 ≡ z)
   seen_top n i z e some = elim (cases_eq i 0) [
     | inl o ↦ (o, sym (cond-true (i == 0) (m.slot n 9) 0 (eq-eqb i 0 o)) ∙ sym (spot_top n i) ∙ e)
     | inr d ↦ absurd (some (sym e ∙ spot_top n i ∙ cond-false (i == 0) (m.slot n 9) 0 (ne_eqb i 0 d)))
   ]
 
+  -- a zone that stands in the inode
   pub record Inner (n h i z : ℕ) : Type 0 where
     pub low : i < room h
     pub names : m.slot n (front h + i) ≡ z
 
+  -- a zone that stands in the block above
   pub record Outer (n h i z : ℕ) : Type 0 where
     pub high : room h ≤ i
     pub some : spot m n h (under h i) ≢ 0
     pub names : m.word (spot m n h (under h i)) (beside h i) ≡ z
 
+  -- each zone below height 0 is one of the two
   pub seen_next : (n h i z : ℕ) → spot m n (suc h) i ≡ z → z ≢ 0 → Inner n h i z ⊎ Outer n h i z
   seen_next n h i z e some = elim (cases_lt i (room h)) [
     | inl low ↦ inl (record { low = low; names = sym (cond-true (nat_lt i (room h)) _ _ (lt-ltb i (room h) low)) ∙ sym (spot_next n h i) ∙ e })
@@ -74,9 +85,11 @@ module _ (m : Naming) where
         ]
   ]
 
+  -- what stands at the first places of a height
   pub spot_slot : (n h i : ℕ) → i < room h → spot m n (suc h) i ≡ m.slot n (front h + i)
   spot_slot n h i low = spot_next n h i ∙ cond-true (nat_lt i (room h)) _ _ (lt-ltb i (room h) low)
 
+  -- what stands at the places of a block
   pub spot_word : (n h i j y : ℕ) → j < m.width → spot m n h i ≡ y → y ≢ 0 → spot m n (suc h) (room h + (i * m.width + j)) ≡ m.word y j
   spot_word n h i j y l e some =
       let p = room h + (i * m.width + j) in
@@ -90,10 +103,12 @@ module _ (m : Naming) where
       ∙ cond-false (y == 0) 0 _ (ne_eqb y 0 some)
       ∙ ap (m.word y) r
 
+  -- entered at height 0
   pub entered_top : (z : ℕ) → entered m 0 z ≡ (not (z == 0) && is_in_slot m 9 z)
   unfolding entered
   entered_top z = refl
 
+  -- entered below height 0
   pub entered_next : (h z : ℕ) → entered m (suc h) z
       ≡ (not (z == 0) && (is_in_slot m (8 - h) z || some_below (λ above. entered m h above && some_below (λ j. m.word above j == z) m.width) m.zones))
   unfolding entered
@@ -107,9 +122,11 @@ module _ (m : Naming) where
     pub names : spot m inode h index ≡ z
     pub some : z ≢ 0
 
+  -- what is not 0 by its test is not 0
   not_zero : (z : ℕ) → not (z == 0) ≡ true → z ≢ 0
   not_zero z e o = let t = eq-eqb z 0 o in let f = not-true (z == 0) e in absurd (cc)
 
+  -- each entered zone is so named
   pub entered_named : (h z : ℕ) → h < 3 → entered m h z ≡ true → Named h z
   entered_named zero z l is =
       let parts = and_parts (not (z == 0)) (is_in_slot m 9 z) (sym (entered_top z) ∙ is) in
@@ -144,6 +161,7 @@ module _ (m : Naming) where
   module _ (sized : 0 < m.width)
       (inside : (n : ℕ) → m.marked n ≡ true → n < m.inodes)
       (bounded : (n h i : ℕ) → m.marked n ≡ true → h < 4 → spot m n h i ≢ 0 → spot m n h i < m.zones) where
+    -- what stands in a slot of a marked inode stands in some slot
     is_some_slot : (s n z : ℕ) → m.marked n ≡ true → m.slot n s ≡ z → is_in_slot m s z ≡ true
     is_some_slot s n z is e = some_from _ m.inodes n (inside n is) (and_from (m.marked n) (m.slot n s == z) is (eq-eqb (m.slot n s) z e))
 

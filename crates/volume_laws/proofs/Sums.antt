@@ -5,6 +5,7 @@ use Rattle.std.specs.Prelude.{◌||◌}
 use Rattle.std.proofs.lemmas.Bool.{cases_eq, cases_Bool, cases_order, or_cases, or_left, or_right, cases_lt}
 use Rattle.tree.specs.Sums.{sum_below, count_below, some_below, one_if}
 
+-- a number that passes
 pub some_from : (p : ℕ → Bool) (n j : ℕ) → j < n → p j ≡ true → some_below p n ≡ true
 unfolding some_below
 some_from p zero j h is = absurd (omega arith)
@@ -13,11 +14,13 @@ some_from p (suc n) j h is = elim (cases_eq j n) [
   | inr d ↦ or_left (some_below p n) (p n) (some_from p n j (omega arith) is)
 ]
 
+-- tests that agree below the bound
 pub same_some : (p q : ℕ → Bool) (n : ℕ) → ((j : ℕ) → j < n → p j ≡ q j) → some_below p n ≡ some_below q n
 unfolding some_below
 same_some p q zero alike = refl
 same_some p q (suc n) alike = λ i. same_some p q n (λ j h. alike j (omega arith)) i || alike n (omega arith) i
 
+-- the number that passes, where one does
 pub some_witness : (p : ℕ → Bool) (n : ℕ) → some_below p n ≡ true → (k : ℕ) × (k < n) × (p k ≡ true)
 unfolding some_below
 some_witness p zero e = absurd (cc)
@@ -26,18 +29,21 @@ some_witness p (suc n) e = elim (or_cases (some_below p n) (p n) e) [
   | inr here ↦ (n, omega arith, here)
 ]
 
+-- where none passes, each fails
 pub none_below : (p : ℕ → Bool) (n : ℕ) → some_below p n ≡ false → (k : ℕ) → k < n → p k ≡ false
 none_below p n e k h = elim (cases_Bool (p k)) [
   | inl is ↦ let t = some_from p n k h is in absurd (cc)
   | inr out ↦ out
 ]
 
+-- and the converse
 pub none_from : (p : ℕ → Bool) (n : ℕ) → ((k : ℕ) → k < n → p k ≡ false) → some_below p n ≡ false
 none_from p n none = elim (cases_Bool (some_below p n)) [
   | inl is ↦ let w = some_witness p n is in let o = none w.0 w.1 in let i : p w.0 ≡ true = w.2 in absurd (cc)
   | inr out ↦ out
 ]
 
+-- a test counts one at most
 pub one_most : (b : Bool) → one_if b ≤ 1
 one_most true = omega arith
 one_most false = omega arith
@@ -48,13 +54,16 @@ unfolding sum_below
 count_most p zero = omega arith
 count_most p (suc n) = let before = count_most p n in let here = one_most (p n) in omega arith
 
+-- a true test counts one
 pub one_true : (b : Bool) → b ≡ true → one_if b ≡ 1
 one_true b e = ap one_if e
 
+-- and what counts is true
 pub true_one : (b : Bool) → 0 < one_if b → b ≡ true
 true_one true h = refl
 true_one false h = absurd (omega arith)
 
+-- a part is at most the sum
 pub sum_at : (f : ℕ → ℕ) (n k : ℕ) → k < n → f k ≤ sum_below f n
 unfolding sum_below
 sum_at f zero k h = absurd (omega arith)
@@ -63,6 +72,7 @@ sum_at f (suc n) k h = elim (cases_eq k n) [
   | inr d ↦ let before = sum_at f n k (omega arith) in omega arith
 ]
 
+-- and so are two parts
 pub sum_two : (f : ℕ → ℕ) (n a b : ℕ) → a < b → b < n → f a + f b ≤ sum_below f n
 unfolding sum_below
 sum_two f zero a b h l = absurd (omega arith)
@@ -71,6 +81,7 @@ sum_two f (suc n) a b h l = elim (cases_eq b n) [
   | inr d ↦ let before = sum_two f n a b h (omega arith) in omega arith
 ]
 
+-- a sum that isn't 0 has a part that isn't
 pub sum_some : (f : ℕ → ℕ) (n : ℕ) → 0 < sum_below f n → (k : ℕ) × (k < n) × (0 < f k)
 unfolding sum_below
 sum_some f zero h = absurd (omega arith)

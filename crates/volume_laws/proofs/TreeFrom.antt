@@ -28,9 +28,11 @@ use Rattle.volume_laws.proofs.Files.{is_file_of}
 use Rattle.volume_laws.proofs.Ways.{edge, reached_is, above_climbs, dir, parent, as_dir, edge_from, orphan, nowhere}
 
 module _ (g : Geometry) (v : Pieces) (ok : IsGeometry g) (sized : 0 < numbers_in_zone g) (bytes : IsOfBytes v) (q : Quiet g v) where
+  -- the rules of the format hold
   abbrev s : IsSound g v
   s = is_sound g v q ok sized
 
+  -- each entry leads to a marked inode
   targets_marked : (n e : ℕ) → is_directory_inode g v n ≡ true → e < entry_count v n → is_marked g v (target_at g v n e) ≡ true
   targets_marked n e is low =
       not-false _ (none_below (λ e. not (is_marked g v (target_at g v n e))) (entry_count v n)
@@ -42,6 +44,7 @@ module _ (g : Geometry) (v : Pieces) (ok : IsGeometry g) (sized : 0 < numbers_in
     once : all_names_of g v n ≡ one_if (not (n == 1))
     parent : is_parent g v n (target_at g v n 1) ≡ true
 
+  -- and each has it
   placed : (n : ℕ) → is_directory_inode g v n ≡ true → Placed n
   placed n is =
       let r = not (is_reached g v g.inodes n) in
@@ -58,6 +61,7 @@ module _ (g : Geometry) (v : Pieces) (ok : IsGeometry g) (sized : 0 < numbers_in
     some : (v.inodes n).links ≢ 0
     few : (v.inodes n).links ≤ most_links
 
+  -- and each has it
   linked : (n : ℕ) → is_marked g v n ≡ true → Linked n
   linked n is =
       let l = (v.inodes n).links in
@@ -67,26 +71,32 @@ module _ (g : Geometry) (v : Pieces) (ok : IsGeometry g) (sized : 0 < numbers_in
       let b = or_parts (not (l == links_of g v n)) (l == 0) a.0 in
       record { due = eqb-true _ _ (not-false _ b.0); some = eqb-false l 0 b.1; few = ltb-false most_links l a.1 }
 
+  -- inode 1 is a directory
   root_dir : is_directory_inode g v 1 ≡ true
   root_dir = not-false _ (none_below (λ n. (n == 1) && not (is_directory_inode g v 1)) (place_limit g) q.root 1 (omega (arith, ok.some_zone)))
 
+  -- a directory is named in the one that .. leads to
   named_in_parent : (n : ℕ) → is_directory_inode g v n ≡ true → n ≢ 1 → 0 < names_in_of g v (target_at g v n 1) n
   named_in_parent n is other = ltb-true 0 (names_in_of g v (target_at g v n 1) n) (sym (cond-false (n == 1) (target_at g v n 1 == 1) _ (ne_eqb n 1 other)) ∙ (placed n is).parent)
 
+  -- so its parent names it
   edge_parent : (n : ℕ) → dir g v n ≡ true → n ≢ 1 → edge g v (parent g v n) n ≡ true
   edge_parent n is other =
       let d = as_dir g v n is in
       ap (λ k. edge g v k n) (parent_node g v n d) ∙ lt-ltb 0 _ (named_in_parent n d other)
 
+  -- a directory but the root has one name
   one_name : (n : ℕ) → is_directory_inode g v n ≡ true → n ≢ 1 → all_names_of g v n ≡ 1
   one_name n is other = (placed n is).once ∙ ap (λ b. one_if (not b)) (ne_eqb n 1 other)
 
+  -- so it is named in its parent alone
   alone : (k n : ℕ) → dir g v n ≡ true → n ≢ 1 → edge g v k n ≡ true → k ≡ parent g v n
   alone k n is other e =
       let there = edge_parent n is other in
       let one = one_name n (as_dir g v n is) other in
       sum_same (λ k. names_in_of g v k n) (g.inodes + 1) k (parent g v n) (omega arith) (edge_from g v k n e).0 (edge_from g v (parent g v n) n there).0 (ltb-true 0 _ e) (ltb-true 0 _ there)
 
+  -- and once there
   once_in_parent : (n : ℕ) → is_directory_inode g v n ≡ true → n ≢ 1 → names_in_of g v (parent g v n) n ≡ 1
   once_in_parent n is other =
       let there = edge_parent n (dir_node g v n ∙ is) other in
@@ -95,6 +105,7 @@ module _ (g : Geometry) (v : Pieces) (ok : IsGeometry g) (sized : 0 < numbers_in
       let part : names_in_of g v (parent g v n) n ≤ all_names_of g v n = sum_at (λ k. names_in_of g v k n) (g.inodes + 1) (parent g v n) (edge_from g v (parent g v n) n there).0 in
       omega arith
 
+  -- so a directory has its place
   is_placed : (n : ℕ) → n ≢ 1 → dir g v n ≡ true → IsPlaced g (nodes g v) n
   is_placed n other is =
       let d = as_dir g v n is in
@@ -106,6 +117,7 @@ module _ (g : Geometry) (v : Pieces) (ok : IsGeometry g) (sized : 0 < numbers_in
         reached = (up.0, above_climbs (nodes g v) up.0 n ∙ up.1);
       }
 
+  -- the links due are those of the nodes
   links_node : (n : ℕ) → is_marked g v n ≡ true → links_of g v n ≡ links_due g (nodes g v) n (node_of g v (v.inodes n))
   links_node n is = elim (cases_Bool (is_directory_inode g v n)) [
     | inl d ↦ cond-true (is_directory_inode g v n) _ _ d
@@ -115,6 +127,7 @@ module _ (g : Geometry) (v : Pieces) (ok : IsGeometry g) (sized : 0 < numbers_in
         ∙ sym (cond-false (is_dir (node_of g v (v.inodes n))) _ _ (sym (ap (λ o. elim o [ None ↦ false | Some x ↦ is_dir x ]) (node_marked g v n is)) ∙ dir_node g v n ∙ f))
   ]
 
+  -- a directory is one by its own rules
   directory_good : (n : ℕ) → is_directory_inode g v n ≡ true → IsDirectory (directory_of g v (v.inodes n))
   directory_good n is =
       let d = s.directories n is in
@@ -126,6 +139,7 @@ module _ (g : Geometry) (v : Pieces) (ok : IsGeometry g) (sized : 0 < numbers_in
         sorted = names_sorted g v n;
       }
 
+  -- and so is a body of either kind
   body_good : (n : ℕ) → is_marked g v n ≡ true → IsBody g (body_of g v (v.inodes n))
   body_good n is = elim (cases_Bool (is_directory_inode g v n)) [
     | inl d ↦ subst (IsBody g) (sym (body_directory g v n d)) (directory_good n d)
@@ -133,6 +147,7 @@ module _ (g : Geometry) (v : Pieces) (ok : IsGeometry g) (sized : 0 < numbers_in
         (is_file_of g v (v.inodes n) ok.sized bytes.zones (size_low g v q n is) (s.inodes n is).inside)
   ]
 
+  -- a node fits
   node_good : (n : ℕ) → is_marked g v n ≡ true → IsNode g (node_of g v (v.inodes n))
   node_good n is =
       let fits = bytes.inodes n in
@@ -147,6 +162,7 @@ module _ (g : Geometry) (v : Pieces) (ok : IsGeometry g) (sized : 0 < numbers_in
         body = body_good n is;
       }
 
+  -- the nodes agree
   nodes_agree : NodesAgree g (nodes g v)
   nodes_agree = record {
     inside = λ n is. marked_low g v n (sym (some_node g v n) ∙ is);
@@ -163,9 +179,11 @@ module _ (g : Geometry) (v : Pieces) (ok : IsGeometry g) (sized : 0 < numbers_in
         ap (λ (x : Node). x.links) w.1 ∙ (linked n w.0).due ∙ links_node n w.0 ∙ ap (links_due g (nodes g v) n) (sym w.1);
   }
 
+  -- the nodes without open files
   abbrev tree : Tree
   tree = record { nodes = nodes g v; open_files = λ k. None; descriptors = λ s fd. None }
 
+  -- where there is no open file they agree
   none_open : OpenFilesAgree tree
   none_open = record {
     numbers = λ k is. absurd (cc);
@@ -174,6 +192,7 @@ module _ (g : Geometry) (v : Pieces) (ok : IsGeometry g) (sized : 0 < numbers_in
     in_use = λ k is. absurd (cc);
   }
 
+  -- they are a tree
   is_tree : IsTree g tree
   is_tree = record {
     nodes = nodes_agree;

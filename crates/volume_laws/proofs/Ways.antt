@@ -25,17 +25,21 @@ module _ (g : Geometry) (v : Pieces) where
   abbrev pub edge : ℕ → ℕ → Bool
   edge m n = nat_lt 0 (names_in_of g v m n)
 
+  -- reached by names
   pub reached_is : (k n : ℕ) → is_reached g v k n ≡ reached edge (g.inodes + 1) k n
   unfolding reached
   reached_is zero n = refl
   reached_is (suc k) n = λ i. reached_is k n i || some_below (λ m. edge m n && reached_is k m i) (g.inodes + 1)
 
+  -- a node is a directory
   abbrev pub dir : ℕ → Bool
   dir n = is_dir_at (nodes g v) n
 
+  -- its parent
   abbrev pub parent : ℕ → ℕ
   parent n = parent_of (nodes g v n)
 
+  -- then its inode is one
   pub as_dir : (n : ℕ) → dir n ≡ true → is_directory_inode g v n ≡ true
   as_dir n is = sym (dir_node g v n) ∙ is
 
@@ -53,6 +57,7 @@ module _ (g : Geometry) (v : Pieces) where
   pub orphan : (n : ℕ) → dir n ≡ false → parent n ≡ 0
   orphan n out = parent_none g v n (sym (dir_node g v n) ∙ out)
 
+  -- 0 is no directory
   pub nowhere : dir 0 ≡ false
   nowhere = elim (cases_Bool (dir 0)) [
     | inl is ↦ let low = marked_low g v 0 (dir_marked g v 0 (as_dir 0 is)) in absurd (omega (arith, low.0))

@@ -23,20 +23,25 @@ pub record IsOfBytes (v : Pieces) : Type 0 where
   pub zones : (z o : ℕ) → v.zones z o < 256
   pub inodes : (n : ℕ) → Fits (v.inodes n)
 
+-- two bytes fit 16 bits
 u16_low : (f : ℕ → ℕ) (p : ℕ) → ((o : ℕ) → f o < 256) → u16_in f p < 2 ^ 16
 u16_low f p low = let a = low p in let b = low (p + 1) in omega arith
 
+-- four bytes fit 32 bits
 u32_low : (f : ℕ → ℕ) (p : ℕ) → ((o : ℕ) → f o < 256) → u32_in f p < 2 ^ 32
 u32_low f p low = let a = u16_low f p low in let b = u16_low f (p + 2) low in omega arith
 
+-- a byte under a test is a byte
 byte_or_none : (b : Bool) (x : ℕ) → x < 256 → cond b x 0 < 256
 byte_or_none true x h = h
 byte_or_none false x h = omega arith
 
+-- an inode that fits, or the blank one, fits
 inode_or_blank : (b : Bool) (i : Inode) → Fits i → Fits (cond b i blank)
 inode_or_blank true i h = h
 inode_or_blank false i h = record { uid = omega arith; gid = omega arith; atime = omega arith; mtime = omega arith; ctime = omega arith }
 
+-- an inode in bytes fits
 inode_fits : (f : ℕ → ℕ) (p : ℕ) → ((o : ℕ) → f o < 256) → Fits (inode_in f p)
 inode_fits f p low = record {
   uid = u16_low f (p + 4) low;
@@ -46,12 +51,14 @@ inode_fits f p low = record {
   ctime = u32_low f (p + 20) low;
 }
 
+-- the pieces of a disk of bytes
 pieces_of_bytes : (g : Geometry) (d : Disk) → ((b o : ℕ) → d b o < 256) → IsOfBytes (pieces g d)
 pieces_of_bytes g d low = record {
   zones = λ z o. byte_or_none (is_data_zone g z) (d z o) (low z o);
   inodes = λ n. inode_or_blank (is_inode g n) _ (inode_fits (d (inode_block g n)) (inode_offset g n) (low (inode_block g n)));
 }
 
+-- each byte of an image of bytes, and 0 past its end
 byte_low : (image : List ℕ) → All (λ b. b < 256) image → (i : ℕ) → slice_index image i < 256
 byte_low image all i = elim (cases_lt i (length image)) [
   | inl low ↦ All-get_or (λ b. b < 256) image i 0 low all

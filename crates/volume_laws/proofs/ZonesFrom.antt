@@ -35,22 +35,26 @@ module _ (g : Geometry) (v : Pieces) (ok : IsGeometry g) (sized : 0 < numbers_in
     ]
   ]
 
+  -- so what stands there is below the bound
   low_at : (n h i : ℕ) → is_marked g v n ≡ true → h < 4 → spot (naming g v) n h i ≢ 0 → spot (naming g v) n h i < g.zones
   low_at = bounded g v sized (λ n l k is some. (data_low g v _ (data_at n l k is some)).1)
 
+  -- what has a use is a data zone
   numbers : (z : ℕ) → z ≢ 0 → Use g v z → is_data_zone g z ≡ true
   numbers z some u = ap (is_data_zone g) (sym u.names) ∙ data_at u.inode u.level u.index u.marked (λ e. some (sym u.names ∙ e))
 
-  -- what is counted has a use, and what has a use is counted
+  -- what is counted has a use
   use_of_uses : (z : ℕ) → 0 < uses g v z → Use g v z
   use_of_uses z h = let e = uses_are g v sized z in use_of_place g v sized z (used_place (naming g v) sized (marked_below g v) low_at z (omega arith))
 
+  -- what has a use is counted
   uses_of_use : (z : ℕ) → z ≢ 0 → Use g v z → 0 < uses g v z
   uses_of_use z some u =
       let e = uses_are g v sized z in
       let more = place_used (naming g v) sized (marked_below g v) low_at z some (place_of_use g v sized z some u) in
       omega arith
 
+  -- each zone is counted once at most
   single : (z : ℕ) → z ≢ 0 → z < g.zones → uses g v z ≤ 1
   single z some low = elim (cases_Bool (is_data_zone g z)) [
     | inl is ↦ ltb-false 1 _ (at_zone g v _ z q.twice is)
@@ -60,6 +64,7 @@ module _ (g : Geometry) (v : Pieces) (ok : IsGeometry g) (sized : 0 < numbers_in
     ]
   ]
 
+  -- so two uses of a zone are one
   once : (z : ℕ) → z ≢ 0 → (a b : Use g v z) → IsSamePlace a b
   once z some a b =
       let la = level_low g v sized z some a in
@@ -69,6 +74,7 @@ module _ (g : Geometry) (v : Pieces) (ok : IsGeometry g) (sized : 0 < numbers_in
       (sym (zone_spot g v sized a.inode a.level a.index la) ∙ a.names) (sym (zone_spot g v sized b.inode b.level b.index lb) ∙ b.names) some in
       record { inode = r.0; level = omega (arith, r.1); index = r.2 }
 
+  -- a data zone is marked where it has a use
   mapped : (z : ℕ) → is_data_zone g z ≡ true → (v.zone_map (z - g.first_zone + 1) ≡ true) ↔ Use g v z
   mapped z is =
       let bit = v.zone_map (z - g.first_zone + 1) in
@@ -83,6 +89,7 @@ module _ (g : Geometry) (v : Pieces) (ok : IsGeometry g) (sized : 0 < numbers_in
         ],
       )
 
+  -- all rules of zones
   pub zones_agree : ZonesAgree g v
   zones_agree = record {
     inode_bit_0 = not-false _ (none_below _ (place_limit g) q.inode_bit 0 (omega arith));
@@ -92,6 +99,7 @@ module _ (g : Geometry) (v : Pieces) (ok : IsGeometry g) (sized : 0 < numbers_in
     mapped = mapped;
   }
 
+  -- no page past the end has a zone
   inside : (n p : ℕ) → is_marked g v n ≡ true → page_zone g v (v.inodes n) p ≢ 0 → p < pages_of g (v.inodes n).size
   inside n p is some = elim (cases_lt p (page_limit (numbers_in_zone g))) [
     | inr far ↦ absurd (some (no_index g v sized n 0 p (omega arith) far))
@@ -106,6 +114,7 @@ module _ (g : Geometry) (v : Pieces) (ok : IsGeometry g) (sized : 0 < numbers_in
         ]
   ]
 
+  -- each block has a number
   full : (n l k : ℕ) → is_marked g v n ≡ true → zone_at g v (v.inodes n) (suc l) k ≢ 0 → has_number g v (zone_at g v (v.inodes n) (suc l) k) ≡ true
   full n l k is some = elim (cases_lt l 3) [
     | inr far ↦ absurd (some (no_level g v sized n (suc l) k (omega arith)))
@@ -119,6 +128,7 @@ module _ (g : Geometry) (v : Pieces) (ok : IsGeometry g) (sized : 0 < numbers_in
     ]
   ]
 
+  -- all rules of an inode
   pub sound_inode : (n : ℕ) → is_marked g v n ≡ true → IsSoundInode g v (v.inodes n)
   sound_inode n is = record {
     mode = not-false _ (at_inode g v _ n q.modes is);

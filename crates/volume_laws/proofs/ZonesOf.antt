@@ -9,7 +9,7 @@ use Rattle.tree.specs.Space.{pages_of, held_of, numbers_in_zone, zones_of}
 use Rattle.volume.specs.Pieces.{Pieces}
 use Rattle.volume.specs.Nodes.{page_zone, word, is_marked, body_of, directory_of}
 use Rattle.volume.specs.Places.{zone_at, has_number}
-use Rattle.volume.specs.Entries.{is_directory_inode, entry_count, name_at}
+use Rattle.volume.specs.Entries.{is_directory_inode}
 use Rattle.volume.specs.Holds.{IsSound}
 use Rattle.volume_laws.proofs.Naming.{spot}
 use Rattle.volume_laws.proofs.Bridge.{naming, zone_spot, limit_at}
@@ -40,6 +40,7 @@ module _ (g : Geometry) (v : Pieces) (sized : 0 < numbers_in_zone g) (s : IsSoun
     ]
   ]
 
+  -- a page is held where a zone stands at its place
   held_pages : (n p : ℕ) → is_marked g v n ≡ true → held_of g (body_of g v (v.inodes n)) p ≡ taken (naming g v) n 3 p
   held_pages n p is =
       let page : not (page_zone g v (v.inodes n) p == 0) ≡ taken (naming g v) n 3 p = ap (λ z. not (z == 0)) (zone_spot g v sized n 0 p (omega arith)) in
@@ -52,10 +53,12 @@ module _ (g : Geometry) (v : Pieces) (sized : 0 < numbers_in_zone g) (s : IsSoun
         | inr f ↦ ap (λ b. held_of g b p) (body_file g v n is f) ∙ page
       ]
 
+  -- under a false guard nothing is counted
   guard_none : (b : Bool) (p : ℕ → ℕ → Bool) (c : ℕ → ℕ) → b ≡ false → sum_below (λ h. count_below (λ i. b && p h i) (c h)) 4 ≡ 0
   guard_none true p c e = absurd (cc)
   guard_none false p c e = sum_none _ 4 (λ h _. sum_none _ (c h) (λ i _. refl))
 
+  -- and under a true one all
   guard_all : (b : Bool) (p : ℕ → ℕ → Bool) (c : ℕ → ℕ) → b ≡ true → sum_below (λ h. count_below (p h) (c h)) 4 ≡ sum_below (λ h. count_below (λ i. b && p h i) (c h)) 4
   guard_all true p c e = refl
   guard_all false p c e = absurd (cc)
