@@ -1,5 +1,5 @@
 -- The places of inodes as the volume's definitions name them, and its counts, are the plain ones.
-use Rattle.std.proofs.Common.{◌≡◌, ◌≢◌, ◌<◌, ◌≤◌, ◌+◌, ◌-◌, ◌*◌, ◌/◌, ◌%◌, ℕ, zero, suc, true, refl, sym, ap, ◌∙◌, cond, arith}
+use Rattle.std.proofs.Common.{◌≡◌, ◌≢◌, ◌<◌, ◌≤◌, ◌+◌, ◌-◌, ◌*◌, ◌/◌, ◌%◌, ℕ, zero, suc, refl, sym, ap, ◌∙◌, cond, arith}
 use mathlib.Core.Logic.{inl, inr}
 use Rattle.std.specs.Prelude.{not, ◌==◌, ◌&&◌, ◌||◌, nat_lt, nat_le}
 use Rattle.std.proofs.lemmas.Bool.{cases_eq, cases_lt, cond-true, cond-false, eq-eqb, ne_eqb, lt-ltb, le-ltb, le-leb, lt-leb, ltb-true}
@@ -197,12 +197,3 @@ module _ (g : Geometry) (v : Pieces) (sized : 0 < numbers_in_zone g) where
         marked = p.marked;
         names = zone_spot p.inode (3 - p.height) p.index (omega arith) ∙ ap (λ h. spot m p.inode h p.index) back ∙ p.names;
       }
-
-  -- where each place has a data zone or none, the numbers there are below the bound of zones
-  pub bounded : ((n l k : ℕ) → is_marked g v n ≡ true → zone_at g v (v.inodes n) l k ≢ 0 → zone_at g v (v.inodes n) l k < g.zones)
-      → (n h i : ℕ) → is_marked g v n ≡ true → h < 4 → spot m n h i ≢ 0 → spot m n h i < g.zones
-  bounded low n h i is l some =
-      let back : 3 - (3 - h) ≡ h = omega arith in
-      let same : zone_at g v (v.inodes n) (3 - h) i ≡ spot m n h i = zone_spot n (3 - h) i (omega arith) ∙ ap (λ a. spot m n a i) back in
-      let there = low n (3 - h) i is (λ e. some (sym same ∙ e)) in
-      omega arith

@@ -3,7 +3,7 @@ use Rattle.std.proofs.Common.{◌≡◌, ◌<◌, ℕ, List, refl, sym, ap, ◌�
 use Rattle.std.specs.Prelude.{All, Result, Ok, Err}
 use Rattle.layout.specs.declared.Geometry.{Geometry}
 use Rattle.layout.specs.declared.LayoutRefusal.{LayoutRefusal}
-use Rattle.layout.specs.Places.{geometry_of, IsGeometry}
+use Rattle.layout.specs.Places.{geometry_of}
 use Rattle.tree.specs.Tree.{Tree}
 use Rattle.tree.specs.IsTree.{IsTree, IsClosed}
 use Rattle.volume.specs.Reading.{disk_of}
@@ -16,17 +16,18 @@ use Rattle.volume_laws.proofs.Quiet.{clean_quiet, quiet_clean}
 use Rattle.volume_laws.proofs.Widths.{IsOfBytes, image_of_bytes}
 use Rattle.volume_laws.proofs.TreeFrom.{held}
 use Rattle.volume_laws.proofs.QuietTree.{is_quiet}
-use Rattle.volume_laws.proofs.Parsed.{numbers_sized, parsed}
+use Rattle.volume_laws.proofs.Parsed.{parsed}
+use Rattle.volume_laws.proofs.Volumes.{IsVolume, is_volume}
 
 -- from a clean verdict on pieces to a tree
-clean_held : (g : Geometry) (v : Pieces) → IsGeometry g → IsOfBytes v → verdict_of_pieces g v ≡ Clean → (t : Tree) × (HoldsNodes g v t × IsClosed t)
-clean_held g v ok bytes clean = held g v ok (numbers_sized g ok) bytes (clean_quiet g v clean)
+clean_held : (g : Geometry) (v : Pieces) → IsVolume g v → IsOfBytes v → verdict_of_pieces g v ≡ Clean → (t : Tree) × (HoldsNodes g v t × IsClosed t)
+clean_held g v ok bytes clean = held g v ok bytes (clean_quiet g v clean)
 
 -- and back
-held_clean : (g : Geometry) (v : Pieces) → IsGeometry g → (t : Tree) → HoldsNodes g v t → IsClosed t → verdict_of_pieces g v ≡ Clean
+held_clean : (g : Geometry) (v : Pieces) → IsVolume g v → (t : Tree) → HoldsNodes g v t → IsClosed t → verdict_of_pieces g v ≡ Clean
 held_clean g v ok t h closed =
     let p : t ≡ record t { nodes = nodes_of g v } = λ i. record t { nodes = h.nodes i } in
-    quiet_clean g v (is_quiet g v ok (numbers_sized g ok) h.sound t (subst (IsTree g) p h.tree) closed)
+    quiet_clean g v (is_quiet g v ok h.sound t (subst (IsTree g) p h.tree) closed)
 
 -- the verdict on a layout that was read or refused
 judged : List ℕ → Result Geometry LayoutRefusal → Verdict
@@ -50,7 +51,7 @@ judged_held : (image : List ℕ) → All (λ b. b < 256) image → (r : Result G
 unfolding judged
 judged_held image bytes (Err refusal) e is = absurd (cc)
 judged_held image bytes (Ok g) e is =
-    let h = clean_held g (pieces g (disk_of g image)) (parsed image g e) (image_of_bytes g image bytes) is in
+    let h = clean_held g (pieces g (disk_of g image)) (is_volume g (disk_of g image) (parsed image g e)) (image_of_bytes g image bytes) is in
     (h.0, record { geometry = g; parsed = e; holds = h.1.0; closed = h.1.1 })
 
 -- the law
@@ -60,5 +61,5 @@ clean_is_a_tree image bytes = (
   λ is. judged_held image bytes (geometry_of image) refl (sym (verdict_judged image (geometry_of image) refl) ∙ is),
   λ h. let c = h.1 in
       verdict_judged image (Ok c.geometry) c.parsed
-      ∙ held_clean c.geometry (pieces c.geometry (disk_of c.geometry image)) (parsed image c.geometry c.parsed) h.0 c.holds c.closed,
+      ∙ held_clean c.geometry (pieces c.geometry (disk_of c.geometry image)) (is_volume c.geometry (disk_of c.geometry image) (parsed image c.geometry c.parsed)) h.0 c.holds c.closed,
 )

@@ -6,8 +6,7 @@ use Rattle.layout.specs.declared.Geometry.{Geometry}
 use Rattle.tree.specs.Sums.{some_below}
 use Rattle.tree.specs.Names.{same_name, dot, dot_dot}
 use Rattle.tree.specs.Tree.{most_size}
-use Rattle.tree.specs.Space.{pages_of, numbers_in_zone}
-use Rattle.layout.specs.Places.{IsGeometry}
+use Rattle.tree.specs.Space.{pages_of}
 use Rattle.volume.specs.Pieces.{Pieces}
 use Rattle.volume.specs.Nodes.{page_zone, is_marked}
 use Rattle.volume.specs.Entries.{is_directory_inode, entry_count, name_at, target_at, is_field, is_name_field}
@@ -15,6 +14,7 @@ use Rattle.volume.specs.Findings.{is_bad_entry}
 use Rattle.volume.specs.Holds.{IsSoundDirectory, IsSound}
 use Rattle.volume_laws.proofs.Sums.{none_below}
 use Rattle.volume_laws.proofs.Quiet.{Quiet, guarded_false}
+use Rattle.volume_laws.proofs.Volumes.{IsVolume}
 use Rattle.volume_laws.proofs.Ranges.{dir_marked, at_inode, at_dir, same_name_itself}
 use Rattle.volume_laws.proofs.ZonesFrom.{zones_agree, sound_inode}
 
@@ -87,9 +87,9 @@ module _ (g : Geometry) (v : Pieces) (q : Quiet g v) where
       }
 
   -- all rules of the format
-  pub is_sound : IsGeometry g → 0 < numbers_in_zone g → IsSound g v
-  is_sound ok sized = record {
-    zones = zones_agree g v ok sized q;
-    inodes = sound_inode g v ok sized q;
+  pub is_sound : IsVolume g v → IsSound g v
+  is_sound ok = record {
+    zones = zones_agree g v ok q;
+    inodes = sound_inode g v ok q;
     directories = sound_directory;
   }

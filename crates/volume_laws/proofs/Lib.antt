@@ -10,6 +10,8 @@ pub mod Entries
 pub mod Bridge
 pub mod Quiet
 pub mod Ranges
+pub mod Parsed
+pub mod Volumes
 pub mod ZonesFrom
 pub mod DirectoriesFrom
 pub mod NodesAs
@@ -19,7 +21,6 @@ pub mod Ways
 pub mod TreeFrom
 pub mod QuietSound
 pub mod QuietTree
-pub mod Parsed
 pub mod CleanTree
 pub mod Swapped
 pub mod Levels

@@ -26,7 +26,7 @@ one_mention m z same = let e = uses_cube m z in let most = cube_single (test m z
 
 module _ (m : Naming) (sized : 0 < m.width)
     (inside : (n : ℕ) → m.marked n ≡ true → n < m.inodes)
-    (bounded : (n h i : ℕ) → m.marked n ≡ true → h < 4 → spot m n h i ≢ 0 → spot m n h i < m.zones) where
+    (bounded : (y j : ℕ) → m.word y j ≢ 0 → y < m.zones) where
   -- the mention of a place of height 0
   top_mention : (n i z : ℕ) → m.marked n ≡ true → (i ≡ 0) × (m.slot n 9 ≡ z) → Mention m z
   top_mention n i z is at = in_slot m n 9 z (inside n is) (omega arith) is at.1
@@ -36,9 +36,9 @@ module _ (m : Naming) (sized : 0 < m.width)
   inner_mention n h i z l is at = let low = front_below h i l at.low in in_slot m n (front h + i) z (inside n is) (omega arith) is at.names
 
   -- the mention of a place in a zone
-  outer_mention : (n h i z : ℕ) → h < 3 → m.marked n ≡ true → Outer m n h i z → Mention m z
-  outer_mention n h i z l is at =
-      in_word m h (spot m n h (under m h i)) (beside m h i) z l (bounded n h (under m h i) is (omega arith) at.some) (omega arith)
+  outer_mention : (n h i z : ℕ) → h < 3 → m.marked n ≡ true → z ≢ 0 → Outer m n h i z → Mention m z
+  outer_mention n h i z l is some at =
+      in_word m h (spot m n h (under m h i)) (beside m h i) z l (bounded _ (beside m h i) (λ e. some (sym at.names ∙ e))) (omega arith)
       (named_entered m sized inside bounded h n (under m h i) _ l is refl at.some) at.names
 
   -- the mention of any place
@@ -46,40 +46,36 @@ module _ (m : Naming) (sized : 0 < m.width)
   place_mention n zero i z l is e some = top_mention n i z is (seen_top m n i z e some)
   place_mention n (suc h) i z l is e some = elim (seen_next m n h i z e some) [
     | inl low ↦ inner_mention n h i z (omega arith) is low
-    | inr up ↦ outer_mention n h i z (omega arith) is up
+    | inr up ↦ outer_mention n h i z (omega arith) is some up
   ]
 
   -- at most one use of every zone: at most one place of each
-  module _ (single : (z : ℕ) → z ≢ 0 → z < m.zones → uses m z ≤ 1) where
+  module _ (single : (z : ℕ) → z ≢ 0 → uses m z ≤ 1) where
     -- two slots that name a zone are one
-    by_slots : (n s n' s' z : ℕ) → z ≢ 0 → z < m.zones → s < 10 → s' < 10 → m.marked n ≡ true → m.marked n' ≡ true
+    by_slots : (n s n' s' z : ℕ) → z ≢ 0 → s < 10 → s' < 10 → m.marked n ≡ true → m.marked n' ≡ true
         → m.slot n s ≡ z → m.slot n' s' ≡ z → (n ≡ n') × (s ≡ s')
-    by_slots n s n' s' z some low l l' is is' e e' =
-        let r = same_mention m z (single z some low) (in_slot m n s z (inside n is) l is e) (in_slot m n' s' z (inside n' is') l' is' e') in (r.1, r.2)
+    by_slots n s n' s' z some l l' is is' e e' =
+        let r = same_mention m z (single z some) (in_slot m n s z (inside n is) l is e) (in_slot m n' s' z (inside n' is') l' is' e') in (r.1, r.2)
 
     -- a slot and a word don't name one zone
-    not_both : (n s h n' i' z : ℕ) → z ≢ 0 → z < m.zones → s < 10 → m.marked n ≡ true → m.slot n s ≡ z
+    not_both : (n s h n' i' z : ℕ) → z ≢ 0 → s < 10 → m.marked n ≡ true → m.slot n s ≡ z
         → h < 3 → m.marked n' ≡ true → Outer m n' h i' z → ⊥
-    not_both n s h n' i' z some low l is e lh is' at =
-        let r = same_mention m z (single z some low) (in_slot m n s z (inside n is) l is e)
-        (in_word m h (spot m n' h (under m h i')) (beside m h i') z lh (bounded n' h (under m h i') is' (omega arith) at.some) (omega arith)
+    not_both n s h n' i' z some l is e lh is' at =
+        let r = same_mention m z (single z some) (in_slot m n s z (inside n is) l is e)
+        (in_word m h (spot m n' h (under m h i')) (beside m h i') z lh (bounded _ (beside m h i') (λ e. some (sym at.names ∙ e))) (omega arith)
         (named_entered m sized inside bounded h n' (under m h i') _ lh is' refl at.some) at.names) in
         absurd (omega (arith, r.0))
 
     -- two words that name a zone are one
-    by_words : (n h i n' h' i' z : ℕ) → z ≢ 0 → z < m.zones → h < 3 → h' < 3 → m.marked n ≡ true → m.marked n' ≡ true
+    by_words : (n h i n' h' i' z : ℕ) → z ≢ 0 → h < 3 → h' < 3 → m.marked n ≡ true → m.marked n' ≡ true
         → (u : Outer m n h i z) (v : Outer m n' h' i' z)
         → (h ≡ h') × (spot m n h (under m h i) ≡ spot m n' h' (under m h' i')) × (beside m h i ≡ beside m h' i')
-    by_words n h i n' h' i' z some low l l' is is' u v =
-        same_mention m z (single z some low)
-        (in_word m h (spot m n h (under m h i)) (beside m h i) z l (bounded n h (under m h i) is (omega arith) u.some) (omega arith)
+    by_words n h i n' h' i' z some l l' is is' u v =
+        same_mention m z (single z some)
+        (in_word m h (spot m n h (under m h i)) (beside m h i) z l (bounded _ (beside m h i) (λ e. some (sym u.names ∙ e))) (omega arith)
         (named_entered m sized inside bounded h n (under m h i) _ l is refl u.some) u.names)
-        (in_word m h' (spot m n' h' (under m h' i')) (beside m h' i') z l' (bounded n' h' (under m h' i') is' (omega arith) v.some) (omega arith)
+        (in_word m h' (spot m n' h' (under m h' i')) (beside m h' i') z l' (bounded _ (beside m h' i') (λ e. some (sym v.names ∙ e))) (omega arith)
         (named_entered m sized inside bounded h' n' (under m h' i') _ l' is' refl v.some) v.names)
-
-    -- a zone that is named is below the bound
-    low_of : (n h i z : ℕ) → h < 4 → m.marked n ≡ true → spot m n h i ≡ z → z ≢ 0 → z < m.zones
-    low_of n h i z l is e some = let b = bounded n h i is l (λ o. some (sym e ∙ o)) in omega arith
 
     -- two places that name a zone are one
     pub same_place : (h n i h' n' i' z : ℕ) → h < 4 → h' < 4 → m.marked n ≡ true → m.marked n' ≡ true
@@ -87,46 +83,43 @@ module _ (m : Naming) (sized : 0 < m.width)
     same_place zero n i zero n' i' z l l' is is' e e' some =
         let a = seen_top m n i z e some in
         let b = seen_top m n' i' z e' some in
-        let r = by_slots n 9 n' 9 z some (low_of n 0 i z l is e some) (omega arith) (omega arith) is is' a.1 b.1 in
+        let r = by_slots n 9 n' 9 z some (omega arith) (omega arith) is is' a.1 b.1 in
         (r.0, refl, a.0 ∙ sym b.0)
     same_place zero n i (suc h') n' i' z l l' is is' e e' some =
-        let low = low_of n 0 i z l is e some in
         let a = seen_top m n i z e some in
         elim (seen_next m n' h' i' z e' some) [
           | inl b ↦
               let at = front_below h' i' (omega arith) b.low in
-              let r = by_slots n 9 n' (front h' + i') z some low (omega arith) (omega arith) is is' a.1 b.names in absurd (omega (arith, r.1))
-          | inr b ↦ absurd (not_both n 9 h' n' i' z some low (omega arith) is a.1 (omega arith) is' b)
+              let r = by_slots n 9 n' (front h' + i') z some (omega arith) (omega arith) is is' a.1 b.names in absurd (omega (arith, r.1))
+          | inr b ↦ absurd (not_both n 9 h' n' i' z some (omega arith) is a.1 (omega arith) is' b)
         ]
     same_place (suc h) n i zero n' i' z l l' is is' e e' some =
-        let low = low_of n' 0 i' z l' is' e' some in
         let b = seen_top m n' i' z e' some in
         elim (seen_next m n h i z e some) [
           | inl a ↦
               let at = front_below h i (omega arith) a.low in
-              let r = by_slots n (front h + i) n' 9 z some low (omega arith) (omega arith) is is' a.names b.1 in absurd (omega (arith, r.1))
-          | inr a ↦ absurd (not_both n' 9 h n i z some low (omega arith) is' b.1 (omega arith) is a)
+              let r = by_slots n (front h + i) n' 9 z some (omega arith) (omega arith) is is' a.names b.1 in absurd (omega (arith, r.1))
+          | inr a ↦ absurd (not_both n' 9 h n i z some (omega arith) is' b.1 (omega arith) is a)
         ]
     same_place (suc h) n i (suc h') n' i' z l l' is is' e e' some =
-        let low = low_of n (suc h) i z l is e some in
         elim (seen_next m n h i z e some) [
           | inl a ↦ elim (seen_next m n' h' i' z e' some) [
             | inl b ↦
                 let at = front_below h i (omega arith) a.low in
                 let at' = front_below h' i' (omega arith) b.low in
-                let r = by_slots n (front h + i) n' (front h' + i') z some low (omega arith) (omega arith) is is' a.names b.names in
+                let r = by_slots n (front h + i) n' (front h' + i') z some (omega arith) (omega arith) is is' a.names b.names in
                 let f = front_same h h' i i' (omega arith) (omega arith) a.low b.low r.1 in
                 (r.0, ap suc f.0, f.1)
             | inr b ↦
                 let at = front_below h i (omega arith) a.low in
-                absurd (not_both n (front h + i) h' n' i' z some low (omega arith) is a.names (omega arith) is' b)
+                absurd (not_both n (front h + i) h' n' i' z some (omega arith) is a.names (omega arith) is' b)
           ]
           | inr a ↦ elim (seen_next m n' h' i' z e' some) [
             | inl b ↦
                 let at' = front_below h' i' (omega arith) b.low in
-                absurd (not_both n' (front h' + i') h n i z some low (omega arith) is' b.names (omega arith) is a)
+                absurd (not_both n' (front h' + i') h n i z some (omega arith) is' b.names (omega arith) is a)
             | inr b ↦
-                let r = by_words n h i n' h' i' z some low (omega arith) (omega arith) is is' a b in
+                let r = by_words n h i n' h' i' z some (omega arith) (omega arith) is is' a b in
                 let up = same_place h n (under m h i) h' n' (under m h' i') (spot m n h (under m h i)) (omega arith) (omega arith) is is' refl (sym r.1) a.some in
                 let turn : under m h i * m.width ≡ under m h' i' * m.width = ap (λ q. q * m.width) up.2 in
                 let whole : under m h i * m.width + beside m h i ≡ i - room h = div-add-mod' (i - room h) m.width in

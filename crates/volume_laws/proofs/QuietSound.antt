@@ -4,7 +4,6 @@ use mathlib.Core.Logic.{inl, inr}
 use Rattle.std.specs.Prelude.{not, ◌&&◌, ◌||◌, ◌==◌, nat_le}
 use Rattle.std.proofs.lemmas.Bool.{cases_eq, cases_Bool, cases_lt, or_from, cond-true, cond-false, eq-eqb, ne_eqb, eqb-false, leb-true, ltb-true, le-ltb, not-true, not_from_true, both_ways, false_from_ne_true}
 use Rattle.layout.specs.declared.Geometry.{Geometry}
-use Rattle.layout.specs.Places.{IsGeometry}
 use Rattle.tree.specs.Sums.{some_below}
 use Rattle.tree.specs.ZonesNeeded.{page_limit}
 use Rattle.tree.specs.Names.{same_name, dot, dot_dot}
@@ -16,25 +15,22 @@ use Rattle.volume.specs.Places.{zone_at, uses}
 use Rattle.volume.specs.Entries.{is_directory_inode, entry_count, name_at, target_at, is_field, is_name_field}
 use Rattle.volume.specs.Findings.{has_bad_number, is_used_twice, has_bad_bit, has_spare_zone, has_hole, has_bad_dots, is_bad_entry, has_bad_entry}
 use Rattle.volume.specs.Holds.{IsSound}
-use Rattle.volume_laws.proofs.Naming.{spot, Place}
+use Rattle.volume_laws.proofs.Naming.{Place}
 use Rattle.volume_laws.proofs.Sums.{none_from}
 use Rattle.volume_laws.proofs.Once.{single_use, used_place, place_used}
-use Rattle.volume_laws.proofs.Bridge.{naming, bounded, uses_are, place_of_use, use_of_place}
+use Rattle.volume_laws.proofs.Bridge.{naming, uses_are, place_of_use, use_of_place}
 use Rattle.volume_laws.proofs.Quiet.{guard_false}
-use Rattle.volume_laws.proofs.Ranges.{marked_below, data_low, data_some, same_name_true}
+use Rattle.volume_laws.proofs.Volumes.{IsVolume}
+use Rattle.volume_laws.proofs.Ranges.{marked_below, data_some, same_name_true}
 
 -- the opposite of what is true is false
 pub not_false_from : (b : Bool) → b ≡ true → not b ≡ false
 not_false_from b e = not_from_true b e
 
-module _ (g : Geometry) (v : Pieces) (ok : IsGeometry g) (sized : 0 < numbers_in_zone g) (s : IsSound g v) where
+module _ (g : Geometry) (v : Pieces) (ok : IsVolume g v) (s : IsSound g v) where
   -- at each place stands 0 or a data zone
   data_at : (n l k : ℕ) → is_marked g v n ≡ true → zone_at g v (v.inodes n) l k ≢ 0 → is_data_zone g (zone_at g v (v.inodes n) l k) ≡ true
   data_at n l k is some = s.zones.numbers (zone_at g v (v.inodes n) l k) some (record { inode = n; level = l; index = k; marked = is; names = refl })
-
-  -- so what stands there is below the bound
-  low_at : (n h i : ℕ) → is_marked g v n ≡ true → h < 4 → spot (naming g v) n h i ≢ 0 → spot (naming g v) n h i < g.zones
-  low_at = bounded g v sized (λ n l k is some. (data_low g v _ (data_at n l k is some)).1)
 
   -- finding 7
   pub quiet_numbers : (n : ℕ) → has_bad_number g v n ≡ false
@@ -45,7 +41,7 @@ module _ (g : Geometry) (v : Pieces) (ok : IsGeometry g) (sized : 0 < numbers_in
   -- the places of a zone are one
   same_places : (z : ℕ) → z ≢ 0 → (p q : Place (naming g v) z) → (p.inode ≡ q.inode) × (p.height ≡ q.height) × (p.index ≡ q.index)
   same_places z some p q =
-      let r = s.zones.once z some (use_of_place g v sized z p) (use_of_place g v sized z q) in
+      let r = s.zones.once z some (use_of_place g v ok.sized z p) (use_of_place g v ok.sized z q) in
       let lp = ltb-true p.height 4 p.most in
       let lq = ltb-true q.height 4 q.most in
       (r.inode, omega (arith, r.level), r.index)
@@ -53,23 +49,23 @@ module _ (g : Geometry) (v : Pieces) (ok : IsGeometry g) (sized : 0 < numbers_in
   -- finding 8
   pub quiet_uses : (z : ℕ) → is_used_twice g v z ≡ false
   quiet_uses z = guard_false (is_data_zone g z) _ (λ is.
-      let e = uses_are g v sized z in
-      let one = single_use (naming g v) sized (marked_below g v) low_at z (same_places z (data_some g v ok z is)) in
+      let e = uses_are g v ok.sized z in
+      let one = single_use (naming g v) ok.sized (marked_below g v) ok.words z (same_places z (data_some g v ok.geometry z is)) in
       le-ltb 1 _ (omega arith))
 
   -- finding 9
   pub quiet_bits : (z : ℕ) → has_bad_bit g v z ≡ false
   quiet_bits z = guard_false (is_data_zone g z) _ (λ is.
       let bit = v.zone_map (z - g.first_zone + 1) in
-      let some = data_some g v ok z is in
-      let e = uses_are g v sized z in
+      let some = data_some g v ok.geometry z is in
+      let e = uses_are g v ok.sized z in
       elim (cases_Bool bit) [
         | inl set ↦
-            let more = place_used (naming g v) sized (marked_below g v) low_at z some (place_of_use g v sized z some ((s.zones.mapped z is).0 set)) in
+            let more = place_used (naming g v) ok.sized (marked_below g v) ok.words z some (place_of_use g v ok.sized z some ((s.zones.mapped z is).0 set)) in
             cond-true bit _ _ set ∙ ne_eqb _ 0 (λ none. absurd (omega arith))
         | inr clear ↦ cond-false bit _ _ clear ∙ elim (cases_lt 0 (uses g v z)) [
           | inl more ↦
-              let set = (s.zones.mapped z is).1 (use_of_place g v sized z (used_place (naming g v) sized (marked_below g v) low_at z (omega arith))) in
+              let set = (s.zones.mapped z is).1 (use_of_place g v ok.sized z (used_place (naming g v) ok.sized (marked_below g v) ok.words z (omega arith))) in
               absurd (both_ways bit clear set)
           | inr none ↦ le-ltb 0 _ none
         ]

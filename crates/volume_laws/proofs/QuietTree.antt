@@ -4,11 +4,9 @@ use mathlib.Core.Logic.{inl, inr}
 use Rattle.std.specs.Prelude.{not, ◌||◌, ◌==◌, nat_lt, None, Some}
 use Rattle.std.proofs.lemmas.Bool.{cases_eq, cases_Bool, cases_lt, or_from, cond-true, cond-false, eq-eqb, ne_eqb, lt-ltb, le-ltb, both_ways}
 use Rattle.layout.specs.declared.Geometry.{Geometry}
-use Rattle.layout.specs.Places.{IsGeometry}
 use Rattle.tree.specs.Sums.{one_if}
 use Rattle.tree.specs.Tree.{Tree, is_dir, names_of, opens, is_open, most_size, most_links, most_open_files}
 use Rattle.tree.specs.IsTree.{IsBody, IsTree, IsClosed, above, links_due, subdirectories}
-use Rattle.tree.specs.Space.{numbers_in_zone}
 use Rattle.volume.specs.Pieces.{Pieces}
 use Rattle.volume.specs.Nodes.{is_marked, node_of}
 use Rattle.volume.specs.Entries.{is_directory_inode, entry_count, name_at, target_at}
@@ -18,12 +16,13 @@ use Rattle.volume.specs.Verdict.{place_limit}
 use Rattle.volume_laws.proofs.Sums.{none_from}
 use Rattle.volume_laws.proofs.Reached.{climbed_reached}
 use Rattle.volume_laws.proofs.Quiet.{Quiet, guard_false}
+use Rattle.volume_laws.proofs.Volumes.{IsVolume}
 use Rattle.volume_laws.proofs.Ranges.{marked_low, dir_marked}
 use Rattle.volume_laws.proofs.NodesAs.{nodes, names_differ, node_marked, some_node, body_directory, body_file, dir_node, parent_node, entry_in, named_node, all_named_node, subdirectories_node, length_node}
 use Rattle.volume_laws.proofs.Ways.{edge, reached_is, above_climbs, dir, parent, edge_from, orphan, nowhere}
 use Rattle.volume_laws.proofs.QuietSound.{not_false_from, quiet_numbers, quiet_uses, quiet_bits, quiet_ends, quiet_holes, quiet_dots, quiet_entries}
 
-module _ (g : Geometry) (v : Pieces) (ok : IsGeometry g) (sized : 0 < numbers_in_zone g) (s : IsSound g v) (u : Tree)
+module _ (g : Geometry) (v : Pieces) (ok : IsVolume g v) (s : IsSound g v) (u : Tree)
     (tree : IsTree g (record u { nodes = nodes g v })) (closed : IsClosed u) where
   -- the inode of a directory has the node of one
   as_node : (n : ℕ) → is_directory_inode g v n ≡ true → dir g v n ≡ true
@@ -166,13 +165,13 @@ module _ (g : Geometry) (v : Pieces) (ok : IsGeometry g) (sized : 0 < numbers_in
     root = none_from _ (place_limit g) (λ n _. guard_false (n == 1) _ (λ _. not_false_from _ root_dir));
     modes = none_from _ (place_limit g) (λ n _. guard_false (is_marked g v n) _ (λ is. not_false_from _ (s.inodes n is).mode));
     sizes = none_from _ (place_limit g) (λ n _. quiet_sizes n);
-    numbers = none_from _ (place_limit g) (λ n _. quiet_numbers g v ok sized s n);
-    twice = none_from _ (place_limit g) (λ z _. quiet_uses g v ok sized s z);
-    bits = none_from _ (place_limit g) (λ z _. quiet_bits g v ok sized s z);
-    ends = none_from _ (place_limit g) (λ n _. quiet_ends g v ok sized s n);
-    holes = none_from _ (place_limit g) (λ n _. quiet_holes g v ok sized s n);
-    dots = none_from _ (place_limit g) (λ n _. quiet_dots g v ok sized s n);
-    entries = none_from _ (place_limit g) (λ n _. quiet_entries g v ok sized s n);
+    numbers = none_from _ (place_limit g) (λ n _. quiet_numbers g v ok s n);
+    twice = none_from _ (place_limit g) (λ z _. quiet_uses g v ok s z);
+    bits = none_from _ (place_limit g) (λ z _. quiet_bits g v ok s z);
+    ends = none_from _ (place_limit g) (λ n _. quiet_ends g v ok s n);
+    holes = none_from _ (place_limit g) (λ n _. quiet_holes g v ok s n);
+    dots = none_from _ (place_limit g) (λ n _. quiet_dots g v ok s n);
+    entries = none_from _ (place_limit g) (λ n _. quiet_entries g v ok s n);
     targets = none_from _ (place_limit g) (λ n _. quiet_targets n);
     places = none_from _ (place_limit g) (λ n _. quiet_places n);
     links = none_from _ (place_limit g) (λ n _. quiet_links n);

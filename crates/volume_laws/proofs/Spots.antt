@@ -160,7 +160,7 @@ module _ (m : Naming) where
 
   module _ (sized : 0 < m.width)
       (inside : (n : ℕ) → m.marked n ≡ true → n < m.inodes)
-      (bounded : (n h i : ℕ) → m.marked n ≡ true → h < 4 → spot m n h i ≢ 0 → spot m n h i < m.zones) where
+      (bounded : (y j : ℕ) → m.word y j ≢ 0 → y < m.zones) where
     -- what stands in a slot of a marked inode stands in some slot
     is_some_slot : (s n z : ℕ) → m.marked n ≡ true → m.slot n s ≡ z → is_in_slot m s z ≡ true
     is_some_slot s n z is e = some_from _ m.inodes n (inside n is) (and_from (m.marked n) (m.slot n s == z) is (eq-eqb (m.slot n s) z e))
@@ -182,6 +182,6 @@ module _ (m : Naming) where
               let y = spot m n h (under h i) in
               let before = named_entered h n (under h i) y (omega arith) is refl up.some in
               let room_j : beside h i < m.width = omega arith in
-              or_right (is_in_slot m (8 - h) z) _ (some_from _ m.zones y (bounded n h (under h i) is (omega arith) up.some)
+              or_right (is_in_slot m (8 - h) z) _ (some_from _ m.zones y (bounded y (beside h i) (λ e. some (sym up.names ∙ e)))
               (and_from (entered m h y) _ before (some_from _ m.width (beside h i) room_j (eq-eqb (m.word y (beside h i)) z up.names))))
         ])

@@ -4,12 +4,10 @@ use mathlib.Core.Logic.{inl, inr}
 use Rattle.std.specs.Prelude.{not, ◌&&◌, ◌||◌, ◌==◌, nat_lt, None, Some}
 use Rattle.std.proofs.lemmas.Bool.{cases_Bool, and_parts, or_parts, cond-true, cond-false, ne_eqb, eqb-true, eqb-false, ltb-true, ltb-false, lt-ltb, not-false}
 use Rattle.layout.specs.declared.Geometry.{Geometry}
-use Rattle.layout.specs.Places.{IsGeometry}
 use Rattle.tree.specs.Sums.{one_if, some_below}
 use Rattle.tree.specs.Names.{is_name}
 use Rattle.tree.specs.Tree.{Node, Tree, is_dir, names_of, most_links}
 use Rattle.tree.specs.IsTree.{IsBody, IsDirectory, IsNode, IsPlaced, NodesAgree, OpenFilesAgree, IsTree, IsClosed, links_due, subdirectories}
-use Rattle.tree.specs.Space.{numbers_in_zone}
 use Rattle.tree.proofs.Maps.{not_nothing}
 use Rattle.volume.specs.Pieces.{Pieces}
 use Rattle.volume.specs.Nodes.{is_marked, node_of, directory_of, body_of}
@@ -20,6 +18,7 @@ use Rattle.volume.specs.Verdict.{place_limit}
 use Rattle.volume_laws.proofs.Sums.{none_below, sum_at, sum_same}
 use Rattle.volume_laws.proofs.Reached.{reached_climbs}
 use Rattle.volume_laws.proofs.Quiet.{Quiet}
+use Rattle.volume_laws.proofs.Volumes.{IsVolume}
 use Rattle.volume_laws.proofs.Ranges.{marked_low, dir_marked, at_inode, at_dir}
 use Rattle.volume_laws.proofs.DirectoriesFrom.{size_low, is_sound}
 use Rattle.volume_laws.proofs.NodesAs.{nodes, names_differ, node_marked, some_node, node_is, body_directory, body_file, dir_node, names_sorted, names_good, parent_node, find_entry, named_node, all_named_node, subdirectories_node, length_node}
@@ -27,10 +26,10 @@ use Rattle.volume_laws.proofs.Widths.{IsOfBytes}
 use Rattle.volume_laws.proofs.Files.{is_file_of}
 use Rattle.volume_laws.proofs.Ways.{edge, reached_is, above_climbs, dir, parent, as_dir, edge_from, orphan, nowhere}
 
-module _ (g : Geometry) (v : Pieces) (ok : IsGeometry g) (sized : 0 < numbers_in_zone g) (bytes : IsOfBytes v) (q : Quiet g v) where
+module _ (g : Geometry) (v : Pieces) (ok : IsVolume g v) (bytes : IsOfBytes v) (q : Quiet g v) where
   -- the rules of the format hold
   abbrev s : IsSound g v
-  s = is_sound g v q ok sized
+  s = is_sound g v q ok
 
   -- each entry leads to a marked inode
   targets_marked : (n e : ℕ) → is_directory_inode g v n ≡ true → e < entry_count v n → is_marked g v (target_at g v n e) ≡ true
@@ -73,7 +72,7 @@ module _ (g : Geometry) (v : Pieces) (ok : IsGeometry g) (sized : 0 < numbers_in
 
   -- inode 1 is a directory
   root_dir : is_directory_inode g v 1 ≡ true
-  root_dir = not-false _ (none_below (λ n. (n == 1) && not (is_directory_inode g v 1)) (place_limit g) q.root 1 (omega (arith, ok.some_zone)))
+  root_dir = not-false _ (none_below (λ n. (n == 1) && not (is_directory_inode g v 1)) (place_limit g) q.root 1 (omega (arith, ok.geometry.some_zone)))
 
   -- a directory is named in the one that .. leads to
   named_in_parent : (n : ℕ) → is_directory_inode g v n ≡ true → n ≢ 1 → 0 < names_in_of g v (target_at g v n 1) n
@@ -144,7 +143,7 @@ module _ (g : Geometry) (v : Pieces) (ok : IsGeometry g) (sized : 0 < numbers_in
   body_good n is = elim (cases_Bool (is_directory_inode g v n)) [
     | inl d ↦ subst (IsBody g) (sym (body_directory g v n d)) (directory_good n d)
     | inr f ↦ subst (IsBody g) (sym (body_file g v n is f))
-        (is_file_of g v (v.inodes n) ok.sized bytes.zones (size_low g v q n is) (s.inodes n is).inside)
+        (is_file_of g v (v.inodes n) ok.geometry.sized bytes.zones (size_low g v q n is) (s.inodes n is).inside)
   ]
 
   -- a node fits
