@@ -1,14 +1,13 @@
 -- What is read of the bytes of a small volume: inodes, zones, bytes, names and nodes.
-use Rattle.std.proofs.Common.{◌≡◌, ℕ, List, [], ◌∷◌, ◌++◌, ◌+◌, ◌*◌, replicate, map, refl, Bool, true, false}
-use Rattle.std.specs.Prelude.{slice_index, is_some, Option, None, flat_map}
+use Rattle.std.proofs.Common.{◌≡◌, ℕ, [], ◌∷◌, ◌++◌, replicate, refl, Bool, true, false}
+use Rattle.std.specs.Prelude.{slice_index, is_some, flat_map}
 use Rattle.volume.specs.declared.Inode.{Inode}
-use Rattle.tree.specs.Sums.{some_below}
-use Rattle.tree.specs.Tree.{Node, size_of, is_dir, names_of, parent_of}
-use Rattle.volume.specs.Reading.{Disk, blocks_of, disk_of, u16_in, u32_in, bit_in, map_bit, inode_bit, zone_bit, inode_block, inode_offset, inode_in, inode_of_disk}
-use Rattle.volume.specs.Pieces.{pieces, blank}
-use Rattle.volume.specs.Nodes.{slot, second_block, last_block, page_zone, file_byte, file_of, entry_inode, entry_name, names_in, type_in, permissions_in, is_mode, node_of, nodes_of}
-use Rattle.volume.specs.Places.{zone_at, uses}
-use Rattle.volume.proofs.Small.{Gives, u16, u32, entry, inode, with_block, with_byte, start, small, small_pieces, tree, wide, wide_pieces}
+use Rattle.tree.specs.Tree.{size_of, is_dir, names_of, parent_of}
+use Rattle.volume.specs.Reading.{blocks_of, disk_of, u16_in, u32_in, bit_in, map_bit, inode_block, inode_offset, inode_in}
+use Rattle.volume.specs.Pieces.{blank}
+use Rattle.volume.specs.Nodes.{page_zone, file_byte, file_of, entry_inode, entry_name, names_in, type_in, permissions_in, is_mode, node_of, nodes_of}
+use Rattle.volume.specs.Places.{zone_at}
+use Rattle.volume.proofs.Small.{Gives, u16, u32, entry, with_block, with_byte, start, small, small_pieces, tree, wide, wide_pieces}
 
 -- Blocks of 64 bytes: byte 130 of an image is byte 2 of block 2; past a block's end and past the image there are zeros.
 blocks : Gives (λ (at : ℕ × ℕ). disk_of small (replicate 130 7 ++ (9 ∷ 8 ∷ [])) at.0 at.1)

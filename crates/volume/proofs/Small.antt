@@ -1,5 +1,5 @@
 -- Small volumes written out in bytes: a root alone, and a tree with files in all ranges. A block holds one inode, one entry or 16 numbers.
-use Rattle.std.proofs.Common.{◌≡◌, ℕ, List, [], ◌∷◌, ◌+◌, ◌/◌, ◌%◌, ◌++◌, map, drop}
+use Rattle.std.proofs.Common.{◌≡◌, ℕ, List, [], ◌∷◌, ◌/◌, ◌%◌, ◌++◌, map, drop}
 use Rattle.std.specs.Prelude.{slice_index, flat_map}
 use Rattle.layout.specs.declared.Geometry.{Geometry}
 use Rattle.tree.specs.Sums.{put}

@@ -1,12 +1,12 @@
 -- Verdicts on a tree with directories and a file in all ranges, and on changes of it.
-use Rattle.std.proofs.Common.{◌≡◌, ℕ, List, [], ◌∷◌, replicate, refl}
+use Rattle.std.proofs.Common.{◌≡◌, [], ◌∷◌, replicate, refl}
 use Rattle.layout.specs.declared.Geometry.{Geometry}
 use Rattle.tree.specs.Sums.{sum_below, some_below, least_below}
 use Rattle.volume.specs.Reading.{Disk}
 use Rattle.volume.specs.Pieces.{pieces}
 use Rattle.volume.specs.Nodes.{names_in}
 use Rattle.volume.specs.Verdict.{Verdict, Clean, found, verdict_of_pieces}
-use Rattle.volume.proofs.Small.{Rows, Gives, u32, inode, entry, with_block, with_byte, tree, wide_verdict, later_verdict}
+use Rattle.volume.proofs.Small.{Rows, Gives, inode, entry, with_block, with_byte, tree, wide_verdict, later_verdict}
 
 -- The tree. Bytes that are unseen: of both first blocks, of an inode that isn't marked, of a zone without a use, and of the last page past the
 -- end. Then a file without permissions, a name of a high byte, one of 60 bytes, and a hole of the greatest size.
