@@ -3,20 +3,20 @@ use Rattle.std.proofs.Common.{◌≡◌, ◌<◌, ℕ, List, refl, sym, ap, ◌�
 use Rattle.std.specs.Prelude.{All, Result, Ok, Err}
 use Rattle.layout.specs.declared.Geometry.{Geometry}
 use Rattle.layout.specs.declared.LayoutRefusal.{LayoutRefusal}
-use Rattle.layout.specs.Places.{geometry_of}
+use Rattle.layout.specs.Places.{geometry_of, refusal_number}
+use Rattle.layout.proofs.Parsed.{geometry_fits}
 use Rattle.tree.specs.Tree.{Tree}
 use Rattle.tree.specs.IsTree.{IsTree, IsClosed}
 use Rattle.volume.specs.Reading.{disk_of}
 use Rattle.volume.specs.Pieces.{Pieces, pieces}
 use Rattle.volume.specs.Nodes.{nodes_of}
 use Rattle.volume.specs.Holds.{HoldsNodes}
-use Rattle.volume.specs.Verdict.{Verdict, Clean, found, refusal_number, verdict_of_pieces, verdict_of, HoldsClosed}
+use Rattle.volume.specs.Verdict.{Verdict, Clean, found, verdict_of_pieces, verdict_of, HoldsClosed}
 use Rattle.volume_laws.specs.Laws.{CleanIsATree}
 use Rattle.volume_laws.proofs.Quiet.{clean_quiet, quiet_clean}
 use Rattle.volume_laws.proofs.Widths.{IsOfBytes, image_of_bytes}
 use Rattle.volume_laws.proofs.TreeFrom.{held}
 use Rattle.volume_laws.proofs.QuietTree.{is_quiet}
-use Rattle.volume_laws.proofs.Parsed.{parsed}
 use Rattle.volume_laws.proofs.Volumes.{IsVolume, is_volume}
 
 -- from a clean verdict on pieces to a tree
@@ -51,7 +51,7 @@ judged_held : (image : List ℕ) → All (λ b. b < 256) image → (r : Result G
 unfolding judged
 judged_held image bytes (Err refusal) e is = absurd (cc)
 judged_held image bytes (Ok g) e is =
-    let h = clean_held g (pieces g (disk_of g image)) (is_volume g (disk_of g image) (parsed image g e)) (image_of_bytes g image bytes) is in
+    let h = clean_held g (pieces g (disk_of g image)) (is_volume g (disk_of g image) (geometry_fits image g e).0) (image_of_bytes g image bytes) is in
     (h.0, record { geometry = g; parsed = e; holds = h.1.0; closed = h.1.1 })
 
 -- the law
@@ -61,5 +61,5 @@ clean_is_a_tree image bytes = (
   λ is. judged_held image bytes (geometry_of image) refl (sym (verdict_judged image (geometry_of image) refl) ∙ is),
   λ h. let c = h.1 in
       verdict_judged image (Ok c.geometry) c.parsed
-      ∙ held_clean c.geometry (pieces c.geometry (disk_of c.geometry image)) (is_volume c.geometry (disk_of c.geometry image) (parsed image c.geometry c.parsed)) h.0 c.holds c.closed,
+      ∙ held_clean c.geometry (pieces c.geometry (disk_of c.geometry image)) (is_volume c.geometry (disk_of c.geometry image) (geometry_fits image c.geometry c.parsed).0) h.0 c.holds c.closed,
 )

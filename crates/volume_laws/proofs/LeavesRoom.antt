@@ -1,12 +1,13 @@
 -- The tree that a volume holds leaves room.
 use Rattle.std.proofs.Common.{◌+◌, ◌∙◌, arith}
+use Rattle.layout.proofs.Parsed.{geometry_fits}
 use Rattle.tree.specs.Sums.{sum_below}
 use Rattle.tree.specs.Space.{zones_of, data_zones}
 use Rattle.volume.specs.Reading.{disk_of}
 use Rattle.volume.specs.Pieces.{pieces}
 use Rattle.volume_laws.specs.Laws.{UsedZonesAreMarked, HeldLeavesRoom, ImageLeavesRoom}
 use Rattle.volume_laws.proofs.Sums.{count_most}
-use Rattle.volume_laws.proofs.Parsed.{numbers_sized, parsed}
+use Rattle.volume_laws.proofs.Volumes.{numbers_sized}
 use Rattle.volume_laws.proofs.MarkedZones.{zones_are_marked}
 
 -- zones used are zones marked
@@ -23,4 +24,4 @@ held_leaves_room g d t ok h =
 
 -- the same of an image
 pub image_leaves_room : ImageLeavesRoom
-image_leaves_room image t h = held_leaves_room h.geometry (disk_of h.geometry image) t (parsed image h.geometry h.parsed) h.holds
+image_leaves_room image t h = held_leaves_room h.geometry (disk_of h.geometry image) t (geometry_fits image h.geometry h.parsed).0 h.holds

@@ -10,7 +10,6 @@ pub mod Entries
 pub mod Bridge
 pub mod Quiet
 pub mod Ranges
-pub mod Parsed
 pub mod Volumes
 pub mod ZonesFrom
 pub mod DirectoriesFrom

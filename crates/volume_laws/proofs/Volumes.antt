@@ -4,18 +4,26 @@ use mathlib.Core.Logic.{inl, inr}
 use Rattle.std.proofs.lemmas.Bool.{cases_Bool}
 use Rattle.layout.specs.declared.Geometry.{Geometry}
 use Rattle.layout.specs.Places.{IsGeometry}
+use Rattle.layout.proofs.Parsed.{block_sizes}
 use Rattle.tree.specs.Space.{numbers_in_zone}
 use Rattle.volume.specs.Reading.{Disk, u32_in, is_data_zone}
 use Rattle.volume.specs.Pieces.{Pieces, pieces}
 use Rattle.volume.specs.Nodes.{word}
 use Rattle.volume_laws.proofs.Ranges.{data_low}
-use Rattle.volume_laws.proofs.Parsed.{numbers_sized}
 
 -- a zone holds numbers, and no number but 0 stands past the last zone
 pub record IsVolume (g : Geometry) (v : Pieces) : Type 0 where
   pub geometry : IsGeometry g
   pub sized : 0 < numbers_in_zone g
   pub words : (z j : ℕ) → word v z j ≢ 0 → z < g.zones
+
+-- a block has room for numbers
+pub numbers_sized : (g : Geometry) → IsGeometry g → 0 < numbers_in_zone g
+numbers_sized g ok = elim (block_sizes g.block_size ok.block_size) [
+  | inl e ↦ omega arith
+  | inr (inl e) ↦ omega arith
+  | inr (inr e) ↦ omega arith
+]
 
 -- under a false guard stands 0
 zero_word : (b : Bool) (f : ℕ → ℕ) (p : ℕ) → b ≡ false → u32_in (λ o. cond b (f o) 0) p ≡ 0
