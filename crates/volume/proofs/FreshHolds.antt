@@ -205,10 +205,11 @@ module _ (g : Geometry) (now : ℕ) (geometry : IsGeometry g) where
         let q = only_use z d b in
         record { inode = p.inode ∙ sym q.inode; level = p.level ∙ sym q.level; index = p.index ∙ sym q.index };
     mapped = λ z is.
-        let from = leb-true g.first_zone z (and_parts _ _ is).0 in
-        (λ e. let at : z ≡ g.first_zone = let low = leb-true (z - g.first_zone + 1) 1 e in omega arith in
+        let from = leb-true g.first_zone z (and_parts _ _ is).0 in (
+          λ e. let at : z ≡ g.first_zone = let low = leb-true (z - g.first_zone + 1) 1 e in omega arith in
               record { inode = 1; level = 0; index = 0; marked = root_marked; names = sym at },
-         λ u. let at = (only_use z (λ e. let late = first_is_late in omega arith) u).zone in le-leb (z - g.first_zone + 1) 1 (omega arith));
+          λ u. let at = (only_use z (λ e. let late = first_is_late in omega arith) u).zone in le-leb (z - g.first_zone + 1) 1 (omega arith),
+        );
   }
 
   sound_root : IsSoundInode g v root

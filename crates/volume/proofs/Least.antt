@@ -28,8 +28,8 @@ least_passes p zero e = absurd (false≢true e)
 least_passes p (suc n) e = elim (cases_Bool (some_below p n)) [
   | inl is ↦ ap p (cond-true (some_below p n) (least_below p n) (if p n then n else suc n) is) ∙ least_passes p n is
   | inr out ↦
-    let here = the_last (some_below p n) (p n) e out in
-    ap p (cond-false (some_below p n) (least_below p n) (if p n then n else suc n) out ∙ cond-true (p n) n (suc n) here) ∙ here
+      let here = the_last (some_below p n) (p n) e out in
+      ap p (cond-false (some_below p n) (least_below p n) (if p n then n else suc n) out ∙ cond-true (p n) n (suc n) here) ∙ here
 ]
 
 -- none below the least passes
@@ -39,14 +39,14 @@ below_least p zero k h = absurd (omega arith)
 below_least p (suc n) k h = elim (cases_Bool (some_below p n)) [
   | inl is ↦ below_least p n k (subst (λ m. k < m) (cond-true (some_below p n) (least_below p n) (if p n then n else suc n) is) h)
   | inr out ↦
-    let g : k < (if p n then n else suc n) = subst (λ m. k < m) (cond-false (some_below p n) (least_below p n) (if p n then n else suc n) out) h in
-    elim (cases_Bool (p n)) [
-      | inl here ↦ none_below p n out k (subst (λ m. k < m) (cond-true (p n) n (suc n) here) g)
-      | inr there ↦ elim (cases_eq k n) [
-        | inl is ↦ ap p is ∙ there
-        | inr other ↦ let under : k < suc n = subst (λ m. k < m) (cond-false (p n) n (suc n) there) g in none_below p n out k (omega arith)
+      let g : k < (if p n then n else suc n) = subst (λ m. k < m) (cond-false (some_below p n) (least_below p n) (if p n then n else suc n) out) h in
+      elim (cases_Bool (p n)) [
+        | inl here ↦ none_below p n out k (subst (λ m. k < m) (cond-true (p n) n (suc n) here) g)
+        | inr there ↦ elim (cases_eq k n) [
+          | inl is ↦ ap p is ∙ there
+          | inr other ↦ let under : k < suc n = subst (λ m. k < m) (cond-false (p n) n (suc n) there) g in none_below p n out k (omega arith)
+        ]
       ]
-    ]
 ]
 
 -- no test is true at the limit or past it
@@ -102,15 +102,15 @@ pub first_is_least : (limit k : ℕ) (ts : List Test) → IsWithin limit ts → 
 first_is_least limit k [] within = λ number place. refl
 first_is_least limit k (t ∷ ts) within = elim (cases_Bool (some_below t limit)) [
   | inl is ↦
-    let place = least_below t limit in
-    subst (IsFirstOf k (t ∷ ts)) (sym (cond-true (some_below t limit) (found k place) (first_found limit (k + 1) ts) is)) (record {
-      from = omega arith;
-      true_there = at_first k t ts k place refl ∙ least_passes t limit is;
-      no_lesser_number = λ number p under. before_first k (t ∷ ts) number p under;
-      no_lesser_place = λ p under. at_first k t ts k p refl ∙ below_least t limit p under;
-    })
+      let place = least_below t limit in
+      subst (IsFirstOf k (t ∷ ts)) (sym (cond-true (some_below t limit) (found k place) (first_found limit (k + 1) ts) is)) (record {
+        from = omega arith;
+        true_there = at_first k t ts k place refl ∙ least_passes t limit is;
+        no_lesser_number = λ number p under. before_first k (t ∷ ts) number p under;
+        no_lesser_place = λ p under. at_first k t ts k p refl ∙ below_least t limit p under;
+      })
   | inr out ↦
-    let quiet : (p : ℕ) → t p ≡ false = λ p. elim (cases_lt p limit) [ inl under ↦ none_below t limit out p under | inr over ↦ within.0 p over ] in
-    subst (IsFirstOf k (t ∷ ts)) (sym (cond-false (some_below t limit) (found k (least_below t limit)) (first_found limit (k + 1) ts) out))
-        (behind k t ts quiet (first_found limit (k + 1) ts) (first_is_least limit (k + 1) ts within.1))
+      let quiet : (p : ℕ) → t p ≡ false = λ p. elim (cases_lt p limit) [ inl under ↦ none_below t limit out p under | inr over ↦ within.0 p over ] in
+      subst (IsFirstOf k (t ∷ ts)) (sym (cond-false (some_below t limit) (found k (least_below t limit)) (first_found limit (k + 1) ts) out))
+      (behind k t ts quiet (first_found limit (k + 1) ts) (first_is_least limit (k + 1) ts within.1))
 ]

@@ -32,21 +32,50 @@ module _ (g : Geometry) (v : Pieces) (some_inode : 1 ≤ g.inodes) where
   tests_within : IsWithin (place_limit g) (tests g v)
   tests_within = (
     λ p h. and_left (p == 0) _ (ne_eqb p 0 (λ e. omega arith)),
-    (λ p h. and_left (p == 0) _ (ne_eqb p 0 (λ e. omega arith)),
-    (λ p h. and_left (p == 1) _ (ne_eqb p 1 (λ e. omega arith)),
-    (λ p h. and_left (is_marked g v p) _ (unmarked p h),
-    (λ p h. and_left (is_marked g v p) _ (unmarked p h),
-    (λ p h. and_left (is_marked g v p) _ (unmarked p h),
-    (λ p h. and_left (is_data_zone g p) _ (no_zone p h),
-    (λ p h. and_left (is_data_zone g p) _ (no_zone p h),
-    (λ p h. and_left (is_marked g v p) _ (unmarked p h),
-    (λ p h. and_left (is_directory_inode g v p) _ (no_directory p h),
-    (λ p h. and_left (is_directory_inode g v p) _ (no_directory p h),
-    (λ p h. and_left (is_directory_inode g v p) _ (no_directory p h),
-    (λ p h. and_left (is_directory_inode g v p) _ (no_directory p h),
-    (λ p h. and_left (is_directory_inode g v p) _ (no_directory p h),
-    (λ p h. and_left (is_marked g v p) _ (unmarked p h),
-    tt)))))))))))))))
+    (
+      λ p h. and_left (p == 0) _ (ne_eqb p 0 (λ e. omega arith)),
+      (
+        λ p h. and_left (p == 1) _ (ne_eqb p 1 (λ e. omega arith)),
+        (
+          λ p h. and_left (is_marked g v p) _ (unmarked p h),
+          (
+            λ p h. and_left (is_marked g v p) _ (unmarked p h),
+            (
+              λ p h. and_left (is_marked g v p) _ (unmarked p h),
+              (
+                λ p h. and_left (is_data_zone g p) _ (no_zone p h),
+                (
+                  λ p h. and_left (is_data_zone g p) _ (no_zone p h),
+                  (
+                    λ p h. and_left (is_marked g v p) _ (unmarked p h),
+                    (
+                      λ p h. and_left (is_directory_inode g v p) _ (no_directory p h),
+                      (
+                        λ p h. and_left (is_directory_inode g v p) _ (no_directory p h),
+                        (
+                          λ p h. and_left (is_directory_inode g v p) _ (no_directory p h),
+                          (
+                            λ p h. and_left (is_directory_inode g v p) _ (no_directory p h),
+                            (
+                              λ p h. and_left (is_directory_inode g v p) _ (no_directory p h),
+                              (
+                                λ p h. and_left (is_marked g v p) _ (unmarked p h),
+                                tt,
+                              ),
+                            ),
+                          ),
+                        ),
+                      ),
+                    ),
+                  ),
+                ),
+              ),
+            ),
+          ),
+        ),
+      ),
+    ),
+  )
 
 -- an image is refused or read
 either : (r : Result Geometry LayoutRefusal) → ((refusal : LayoutRefusal) × (r ≡ Err refusal)) ⊎ ((g : Geometry) × (r ≡ Ok g))
@@ -87,8 +116,8 @@ pub verdict_is_least : VerdictIsLeast
 verdict_is_least image = elim (either (geometry_of image)) [
   | inl (refusal, e) ↦ subst (IsVerdict image) (sym (ap (verdict_by image) e)) (refused image refusal e)
   | inr (g, e) ↦
-    let v = pieces g (disk_of g image) in
-    subst (IsVerdict image) (sym (ap (verdict_by image) e))
-        (from_tests image 2 (tests g v) (λ number place. ap (finding_by image number place) e) (verdict_of_pieces g v)
-            (first_is_least (place_limit g) 2 (tests g v) (tests_within g v (geometry_fits image g e).0.some_inode)))
+      let v = pieces g (disk_of g image) in
+      subst (IsVerdict image) (sym (ap (verdict_by image) e))
+      (from_tests image 2 (tests g v) (λ number place. ap (finding_by image number place) e) (verdict_of_pieces g v)
+      (first_is_least (place_limit g) 2 (tests g v) (tests_within g v (geometry_fits image g e).0.some_inode)))
 ]
