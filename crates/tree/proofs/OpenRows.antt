@@ -5,7 +5,6 @@ use Rattle.errno.specs.declared.Errno.{Errno}
 use Rattle.errno.specs.declared.Errno.TheVariants.{ENOENT, EBADF, EACCES, EEXIST, ENOTDIR, EISDIR, EINVAL, ENFILE, EMFILE, ENOSPC, ENAMETOOLONG}
 use Rattle.tree.specs.declared.Call.TheVariants.{Open, Close, Dup, Read, Write, Seek, Stat, Fstat, Unlink, Mkdir, Chmod, Statfs}
 use Rattle.tree.specs.declared.Whence.TheVariants.{Set}
-
 use Rattle.tree.specs.Sums.{sum_below, some_below, least_below}
 use Rattle.tree.specs.Tree.{OpenFile, Tree}
 use Rattle.tree.specs.Answers.{refused, done, descriptor, some_bytes, node_is, room_is}
