@@ -8,6 +8,7 @@ mod NodeRows
 mod LinkRows
 mod DirectoryRows
 mod RenameRows
+mod ZoneRows
 pub mod Leaves
 pub mod Fresh
 pub mod Needs

@@ -14,14 +14,14 @@ or_false : (a : Bool) → a ≡ a || false
 or_false true = refl
 or_false false = refl
 
-some_add : (p : ℕ → Bool) (a b : ℕ) → some_below p (a + b) ≡ some_below p a || some_below (λ j. p (a + j)) b
+pub some_add : (p : ℕ → Bool) (a b : ℕ) → some_below p (a + b) ≡ some_below p a || some_below (λ j. p (a + j)) b
 unfolding some_below
 some_add p a zero = ap (some_below p) (let e : a + 0 ≡ a = omega arith in e) ∙ or_false (some_below p a)
 some_add p a (suc b) =
     ap (some_below p) (let e : a + suc b ≡ suc (a + b) = omega arith in e)
     ∙ ap (λ x. x || p (a + b)) (some_add p a b) ∙ or_assoc (some_below p a) (some_below (λ j. p (a + j)) b) (p (a + b))
 
-sum_add : (f : ℕ → ℕ) (a b : ℕ) → sum_below f (a + b) ≡ sum_below f a + sum_below (λ j. f (a + j)) b
+pub sum_add : (f : ℕ → ℕ) (a b : ℕ) → sum_below f (a + b) ≡ sum_below f a + sum_below (λ j. f (a + j)) b
 unfolding sum_below
 sum_add f a zero = let e : sum_below f (a + 0) ≡ sum_below f a = ap (sum_below f) (let z : a + 0 ≡ a = omega arith in z) in omega arith
 sum_add f a (suc b) =
@@ -37,7 +37,7 @@ in_groups p (suc a) b =
     ap (some_below p) (let e : suc a * b ≡ a * b + b = omega arith in e)
     ∙ some_add p (a * b) b ∙ ap (λ x. x || some_below (λ j. p (a * b + j)) b) (in_groups p a b)
 
-none_counted : (p : ℕ → Bool) (n : ℕ) → some_below p n ≡ false → count_below p n ≡ 0
+pub none_counted : (p : ℕ → Bool) (n : ℕ) → some_below p n ≡ false → count_below p n ≡ 0
 unfolding some_below sum_below
 none_counted p zero h = refl
 none_counted p (suc n) h = both (some_below p n) (p n) h (none_counted p n)
