@@ -11,6 +11,7 @@ use Rattle.tree.specs.Space.{pages_of}
 use Rattle.tree.specs.ZonesNeeded.{page_limit}
 use Rattle.tree.specs.Laws.{PagesFit, HeldPagesFit}
 
+-- a page that begins below a size is one of those of its inode
 pub pages_fit : PagesFit
 pages_fit width q size accepted small below = elim (block_sizes width accepted) [
   | inl e ↦ subst (λ w. q * w < size → q < page_limit (w / 4)) (sym e) (λ l. omega arith) below
@@ -27,6 +28,7 @@ begins_below width size q sized below =
     let next : (q + 1) * width ≡ q * width + width = omega arith in
     omega arith
 
+-- and so is each page that is held
 pub held_pages_fit : HeldPagesFit
 held_pages_fit g (is_file f) q accepted fits held = pages_fit g.block_size q f.size accepted fits.size (fits.held q held)
 held_pages_fit g (is_directory d) q accepted fits held =
