@@ -8,6 +8,7 @@ mod NodeRows
 mod LinkRows
 mod DirectoryRows
 mod RenameRows
+mod TriplePage
 mod ZoneRows
 pub mod Leaves
 pub mod Fresh

@@ -6,6 +6,7 @@ use Rattle.tree.specs.Sums.{sum_below, some_below, count_below}
 use Rattle.tree.specs.ZonesNeeded.{page_limit, from_page, single_blocks, double_blocks, triple_blocks, zones_needed}
 use Rattle.tree.proofs.Maps.{not_true}
 use Rattle.tree.proofs.Needs.{sum_add, none_counted}
+use Rattle.tree.proofs.TriplePage.{only, triple_page}
 
 -- nothing passes where nothing does
 none_below : (p : ℕ → Bool) (n : ℕ) → ((q : ℕ) → p q ≡ false) → some_below p n ≡ false
@@ -31,16 +32,15 @@ no_triple n b held low h =
     without true x e = absurd (not_true (sym e))
     without false x e = refl
 
--- one page alone, and pages up to one
-abbrev only : ℕ → ℕ → Bool
-only p q = q == p
-
+-- past a page that is alone none is held
 past_only : (p q : ℕ) → suc p ≤ q → only p q ≡ false
 past_only p q l = ne_eqb q p (λ e. absurd (omega arith))
 
+-- the first k pages
 abbrev first : ℕ → ℕ → Bool
 first k q = nat_lt q k
 
+-- past them none is held
 past_first : (k q : ℕ) → k ≤ q → first k q ≡ false
 past_first k q l = le-ltb q k l
 
@@ -120,3 +120,10 @@ each_range = refl
 full_single : zones_needed 16 (first 24) ≡ 27
 unfolding sum_below some_below
 full_single = refl
+
+-- the first page of the triple range, and the last that a file's greatest size reaches
+page_65799 : zones_needed 256 (only 65799) ≡ 4
+page_65799 = triple_page 256 0 (omega arith) (omega arith)
+
+page_2097151 : zones_needed 256 (only 2097151) ≡ 4
+page_2097151 = triple_page 256 2031352 (omega arith) (omega arith)
