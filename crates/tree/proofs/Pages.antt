@@ -1,12 +1,10 @@
 -- Held pages are among those that an inode has room for.
-use Rattle.std.proofs.Common.{◌≡◌, ◌<◌, ◌≤◌, ◌+◌, ◌-◌, ◌*◌, ◌/◌, ℕ, refl, sym, subst, arith}
+use Rattle.std.proofs.Common.{◌≡◌, ◌<◌, ◌≤◌, ◌+◌, ◌-◌, ◌*◌, ◌/◌, ℕ, sym, subst, arith}
 use mathlib.Core.Logic.{inl, inr}
-use Rattle.std.specs.Prelude.{nat_lt, IsTrue}
 use Rattle.std.proofs.lemmas.Bool.{ltb-true}
 use Rattle.std.proofs.Math.Nat.{div-mul-le_self, mul-le-mul_right}
-use Rattle.layout.specs.declared.Geometry.{Geometry}
 use Rattle.layout.proofs.Parsed.{block_sizes, is_sized}
-use Rattle.tree.specs.Tree.{is_file, is_directory, most_size, size_of}
+use Rattle.tree.specs.Tree.{is_file, is_directory, size_of}
 use Rattle.tree.specs.Space.{pages_of}
 use Rattle.tree.specs.ZonesNeeded.{page_limit}
 use Rattle.tree.specs.Laws.{PagesFit, HeldPagesFit}

@@ -1,6 +1,6 @@
 -- The zones that held pages need, by computation: 256 numbers in a zone as in blocks of 1024 bytes, and 16 for the triple range.
-use Rattle.std.proofs.Common.{◌≡◌, ◌≢◌, ◌<◌, ◌≤◌, ◌+◌, ◌-◌, ◌*◌, ℕ, zero, suc, Bool, true, false, refl, sym, ap, ◌∙◌, arith}
-use Rattle.std.specs.Prelude.{◌||◌, ◌==◌, nat_lt, if◌then◌else◌}
+use Rattle.std.proofs.Common.{◌≡◌, ◌≤◌, ◌+◌, ◌-◌, ◌*◌, ℕ, zero, suc, Bool, true, false, refl, sym, ap, arith}
+use Rattle.std.specs.Prelude.{◌||◌, nat_lt, if◌then◌else◌}
 use Rattle.std.proofs.lemmas.Bool.{ne_eqb, le-ltb, or_from}
 use Rattle.tree.specs.Sums.{sum_below, some_below, count_below}
 use Rattle.tree.specs.ZonesNeeded.{page_limit, from_page, single_blocks, double_blocks, triple_blocks, zones_needed}
