@@ -1,16 +1,18 @@
--- What a call answers, and the effect_of of a call: its answer with the tree after it, or its refusal.
+-- What a call answers, and its effect: its answer with the tree after it, or its refusal.
 use Rattle.std.specs.Prelude.{ℕ, List, map, Result, Ok, Err, nat_lt, if◌then◌else◌}
 use Rattle.layout.specs.declared.Geometry.{Geometry}
 use Rattle.errno.specs.declared.Errno.{Errno}
 use Rattle.errno.specs.declared.Errno.TheVariants.{ENOSPC}
 use Rattle.tree.specs.declared.Attributes.{Attributes}
 use Rattle.tree.specs.declared.Room.{Room}
+use Rattle.tree.specs.declared.Entry.{Entry}
 use Rattle.tree.specs.declared.Reply.{Reply}
 use Rattle.tree.specs.declared.Reply.TheVariants.{Refused, Done, Descriptor, Bytes, Wrote, At, Inode, Names, Space}
-use Rattle.tree.specs.Names.{Names as NameMap}
+use Rattle.tree.specs.Names.{Name, Names as NameMap}
 use Rattle.tree.specs.Tree.{Tree}
 use Rattle.tree.specs.Space.{zones_used, data_zones}
 
+-- an answer, as definitions have it: a reply of Rust owns its bytes and can't be made here
 pub data Answer : Type 0 where
   refused : Errno → Answer
   done : Answer
@@ -22,6 +24,10 @@ pub data Answer : Type 0 where
   names_are : NameMap → Answer
   room_is : Room → Answer
 
+-- an entry of a reply, as definitions have it
+abbrev pub entry_of : Entry → Name × ℕ
+entry_of e = (e.name.items, e.inode)
+
 -- what a reply says
 abbrev pub answer_of : Reply → Answer
 answer_of (Refused e) = refused e
@@ -31,9 +37,10 @@ answer_of (Bytes bytes) = some_bytes bytes.items
 answer_of (Wrote n) = wrote n
 answer_of (At n) = position n
 answer_of (Inode a) = node_is a
-answer_of (Names names) = names_are (map (λ e. (e.name.items, e.inode)) names.items)
+answer_of (Names names) = names_are (map entry_of names.items)
 answer_of (Space r) = room_is r
 
+-- an answer and the tree after the call, or the refusal
 abbrev pub Effect : Type 0
 Effect = Result (Answer × Tree) Errno
 

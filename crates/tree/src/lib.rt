@@ -1,140 +1,240 @@
-//! The file tree of a volume, the client calls on it, and their replies, as contracts see them.
+//! The file tree of a volume, the client calls on it, and their replies: the words that every layer
+//! above the disk shares. No zone, block or message is known here.
 #![tactic(auto)]
 
-ghost use Rattle.std.specs.Prelude.{◌≡◌, ◌<◌};
-ghost use Rattle.tree.specs.Answers.{answer_of};
-ghost use Rattle.tree.specs.Effects.{may_want_memory, reply_to};
-ghost use Rattle.layout.specs.declared.Geometry.{Geometry};
-ghost use Rattle.tree.specs.Tree.{Tree};
-ghost use Rattle.tree.specs.declared.Call.TheVariants.{Sync};
-ghost use Rattle.tree.specs.ZonesNeededByPlace.{ZonesNeededIsByPlace};
-ghost use Rattle.tree.specs.Laws.{RefusedLeaves, LooksLeave, FreshIsTree};
+pub mod laws;
+#[cfg(test)]
+mod tests;
+mod text;
 
+ghost use Rattle.std.specs.Prelude.{⊤, [], ◌∷◌, codes};
+
+use bitflags::{Flag, Flags, bitflag_items};
 use errno::Errno;
 
-/// Who asks.
+/// How many sessions a server has: they are numbered below it, and a call of another answers EINVAL.
+pub const MAX_SESSIONS: u8 = 64;
+
+/// How many descriptors a session has, numbered from 0; past them a call answers EMFILE.
+pub const MAX_DESCRIPTORS: u32 = 32;
+
+/// How many files all sessions together have open; past them open answers ENFILE.
+pub const MAX_OPEN_FILES: usize = 128;
+
+/// The most bytes of one read or write; past them the call answers EINVAL.
+pub const MAX_TRANSFER: u32 = 65536;
+
+/// The most bytes of a file; a write or truncate past them answers EFBIG, a seek EINVAL.
+pub const MAX_SIZE: u32 = 2147483647;
+
+/// The most links of a node; past them a call answers EMLINK.
+pub const MAX_LINKS: u16 = 32767;
+
+/// All permission bits of a mode; a mode with others answers EINVAL.
+pub const MAX_PERMISSIONS: u16 = 0o777;
+
+/// The most bytes of a name; a path with a longer one answers ENAMETOOLONG.
+pub const MAX_NAME: usize = 60;
+
+/// The most bytes of a path; a longer one answers ENAMETOOLONG.
+pub const MAX_PATH: usize = 1024;
+
+/// The user and the group that ask. User 0 may do all.
 #[derive(Clone, Copy, Debug, PartialEq, Eq)]
 pub struct User {
     pub uid: u16,
     pub gid: u16,
 }
 
-/// Who calls, and in which session.
+/// Who calls: the session, whose descriptors the call means, and the user and group that it asks for.
 #[derive(Clone, Copy, Debug, PartialEq, Eq)]
 pub struct Who {
+    /// Below [`MAX_SESSIONS`]; a call of another session answers EINVAL.
     pub session: u8,
     pub uid: u16,
     pub gid: u16,
 }
 
-/// The flags of open: read 1, write 2, append 4, create 8, exclusive 16, truncate 32.
+/// The flags of open. Any bits may stand here: open answers EINVAL for those that it doesn't take.
 #[derive(Clone, Copy, Debug, PartialEq, Eq)]
-pub struct OpenFlags(pub u8);
+pub struct OpenFlags(u8);
 
-/// Where a seek counts from.
+bitflag_items! {
+    impl OpenFlags: u8 {
+        const READ = 1;
+        const WRITE = 2;
+        const APPEND = 4;
+        const CREATE = 8;
+        const EXCLUSIVE = 16;
+        const TRUNCATE = 32;
+    }
+}
+
+impl Flags for OpenFlags {
+    type Bits = u8;
+
+    ghost exact = { ⊤ };
+
+    ghost table = { (codes "READ", 1) ∷ (codes "WRITE", 2) ∷ (codes "APPEND", 4) ∷ (codes "CREATE", 8)
+        ∷ (codes "EXCLUSIVE", 16) ∷ (codes "TRUNCATE", 32) ∷ [] };
+
+    ghost set_of = { λ flags. flags.0 };
+
+    fn flags<'a>() -> &'a [Flag<OpenFlags>] {
+        OpenFlags::FLAGS
+    }
+
+    fn bits(&self) -> u8 {
+        self.0
+    }
+
+    fn from_bits_retain(bits: u8) -> OpenFlags {
+        OpenFlags(bits)
+    }
+}
+
+/// The place from which a seek counts.
 #[derive(Clone, Copy, Debug, PartialEq, Eq)]
 pub enum Whence {
+    /// The start of the file.
     Set,
+    /// The position of the open file.
     Cur,
+    /// The end of the file.
     End,
 }
 
-/// A client call.
+/// A client call. A path begins with `/` and is read from the root on; `.` and `..` mean what they do
+/// in POSIX, repeated slashes count as one, and those at the end are dropped. A mode is permission bits
+/// alone, at most octal 777. Each refusal leaves everything as it was.
 #[derive(Clone, Copy, Debug, PartialEq, Eq)]
 pub enum Call<'a> {
+    /// Opens a file or a directory, at position 0, under the lowest free descriptor. With the create flag
+    /// a missing file is made with the mode; with the truncate flag a file that is there is emptied.
     Open {
         path: &'a [u8],
         flags: OpenFlags,
         mode: u16,
     },
+    /// Frees a descriptor. The last one of a file without a name frees the file.
     Close {
         fd: u32,
     },
+    /// The lowest free descriptor for the same open file, so with the same position.
     Dup {
         fd: u32,
     },
+    /// Up to `count` bytes from the position on, which moves behind them; fewer at the end of the file.
     Read {
         fd: u32,
         count: u32,
     },
+    /// Writes all the bytes at the position, or with the append flag at the end of the file, and moves the
+    /// position behind them. No bytes change nothing.
     Write {
         fd: u32,
         bytes: &'a [u8],
     },
+    /// Moves the position of an open file, to 0 up to [`MAX_SIZE`]; it may lie past the end.
     Seek {
         fd: u32,
         whence: Whence,
         offset: i64,
     },
+    /// The attributes of what a path leads to.
     Stat {
         path: &'a [u8],
     },
+    /// The attributes of what a descriptor has open.
     Fstat {
         fd: u32,
     },
+    /// A further name for a file.
     Link {
         old: &'a [u8],
         new: &'a [u8],
     },
+    /// Takes a name from a file. A file without a name is freed once it isn't open.
     Unlink {
         path: &'a [u8],
     },
+    /// Makes an empty directory.
     Mkdir {
         path: &'a [u8],
         mode: u16,
     },
+    /// Removes an empty directory that isn't open.
     Rmdir {
         path: &'a [u8],
     },
+    /// Moves a file or a directory to another name. What stood there loses the name: a file if a file
+    /// moves, an empty directory that isn't open if a directory does.
     Rename {
         old: &'a [u8],
         new: &'a [u8],
     },
+    /// Sets the permissions, for the owner and user 0.
     Chmod {
         path: &'a [u8],
         mode: u16,
     },
+    /// Sets the owner and the group, for user 0.
     Chown {
         path: &'a [u8],
         uid: u16,
         gid: u16,
     },
+    /// Sets the times of access and of change, in seconds since 1970, for the owner and user 0.
     Utime {
         path: &'a [u8],
         atime: u32,
         mtime: u32,
     },
+    /// Sets the size of a file, at most [`MAX_SIZE`]; where it grows there is a hole, which reads as zeros.
     Truncate {
         path: &'a [u8],
         size: u32,
     },
+    /// The names of a directory but `.` and `..`, with their inodes, in the order of their bytes.
     Readdir {
         fd: u32,
     },
+    /// Answers once all that was changed lies on the disk.
     Sync,
+    /// The sizes of the volume, and what is free of them.
     Statfs,
 }
 
 /// What stat tells of a node.
 #[derive(Clone, Copy, Debug, PartialEq, Eq)]
 pub struct Attributes {
+    /// Its number; the root's is 1.
     pub inode: u16,
+    /// Its type and permissions: octal 0040000 for a directory, 0100000 for a file, and bits of 0777.
     pub mode: u16,
+    /// How many names a file has; for a directory 2 and its subdirectories.
     pub links: u16,
     pub uid: u16,
     pub gid: u16,
+    /// Bytes of a file; for a directory 64 for each entry, `.` and `..` among them.
     pub size: u32,
+    /// When it was made, or what utime set: reads don't change it. Seconds since 1970, as the others.
     pub atime: u32,
+    /// When its bytes or names changed last, or what utime set.
     pub mtime: u32,
+    /// When it changed last in any way but by a read.
     pub ctime: u32,
 }
 
-/// What statfs tells of a volume: the data zones and the inodes, and how many of each are free.
+/// What statfs tells of a volume.
 #[derive(Clone, Copy, Debug, PartialEq, Eq)]
 pub struct Room {
+    /// Bytes of a block, and of a zone.
     pub block_size: u32,
+    /// How many data zones there are.
     pub zones: u32,
     pub free_zones: u32,
+    /// How many inodes there are.
     pub inodes: u32,
     pub free_inodes: u32,
 }
@@ -142,6 +242,7 @@ pub struct Room {
 /// A name in a directory, and its inode.
 #[derive(Debug, PartialEq, Eq, Drop)]
 pub struct Entry {
+    /// 1 to 60 bytes, neither `/` nor zero.
     pub name: Vec<u8>,
     pub inode: u16,
 }
@@ -149,54 +250,31 @@ pub struct Entry {
 /// The reply to a call.
 #[derive(Debug, PartialEq, Eq, Drop)]
 pub enum Reply {
+    /// The call is refused, and nothing is changed.
     Refused(Errno),
+    /// A call that has nothing to tell succeeded.
     Done,
+    /// The descriptor of open or dup.
     Descriptor(u32),
+    /// The bytes of a read.
     Bytes(Vec<u8>),
+    /// How many bytes were written: all of them.
     Wrote(u32),
+    /// The position after a seek.
     At(u32),
+    /// The attributes of stat or fstat.
     Inode(Attributes),
+    /// The names of readdir.
     Names(Vec<Entry>),
+    /// The room of statfs.
     Space(Room),
 }
 
-/// A refused call leaves the tree.
-#[tactic(auto, using(crate::proofs::Leaves::refused_leaves))]
-pub fn refused_leaves()
-    ensures { RefusedLeaves }
-{}
-
-/// Calls that only look leave the tree.
-#[tactic(auto, using(crate::proofs::Leaves::looks_leave))]
-pub fn looks_leave()
-    ensures { LooksLeave }
-{}
-
-/// A root alone is a tree.
-#[tactic(auto, using(crate::proofs::Fresh::fresh_is_tree))]
-pub fn fresh_is_tree()
-    ensures { FreshIsTree }
-{}
-
-/// Both ways to count the zones of a file agree.
-#[tactic(auto, using(crate::proofs::Needs::zones_needed_is_by_place))]
-pub fn zones_needed_is_by_place()
-    ensures { ZonesNeededIsByPlace }
-{}
-
-impl Call<'_> {
-    /// Whether the call may be refused for want of memory.
-    pub fn may_want_memory(&self) -> bool
-        ensures { result ≡ may_want_memory self.now }
-    {
-        matches!(self, Call::Read { .. } | Call::Readdir { .. })
-    }
-}
-
-/// The reply to a sync.
-pub fn reply_to_sync(who: Who, now: u32) -> Reply
-    requires { who.session < 64 }
-    ensures { (g : Geometry) (t : Tree) → answer_of result ≡ reply_to g t who now Sync }
-{
-    Reply::Done
+/// The server's answer to a call.
+#[derive(Debug, PartialEq, Eq, Drop)]
+pub enum Outcome {
+    /// A reply.
+    Reply(Reply),
+    /// No reply: the link to the disk has ended. Whether the call had an effect isn't told.
+    Cut,
 }
