@@ -50,9 +50,14 @@ below_least p (suc n) k h = elim (cases_Bool (some_below p n)) [
 ]
 
 -- no test is true at the limit or past it
-abbrev pub IsWithin : ℕ → List Test → Type 0
-IsWithin limit [] = Unit {0}
-IsWithin limit (t ∷ ts) = ((p : ℕ) → limit ≤ p → t p ≡ false) × IsWithin limit ts
+pub data IsWithin (limit : ℕ) : List Test → Type 0 where
+  no_test : IsWithin limit []
+  also : {t : Test} {ts : List Test} → ((p : ℕ) → limit ≤ p → t p ≡ false) → IsWithin limit ts → IsWithin limit (t ∷ ts)
+
+infixr 5 ◌⨾◌
+-- a test that is false from the limit on, before others
+pub ◌⨾◌ : {limit : ℕ} {t : Test} {ts : List Test} → ((p : ℕ) → limit ≤ p → t p ≡ false) → IsWithin limit ts → IsWithin limit (t ∷ ts)
+h ⨾ hs = also h hs
 
 -- of tests numbered from k on, the finding is true and the least that is
 pub record IsFirst (k : ℕ) (ts : List Test) (f : Finding) : Type 0 where
@@ -100,7 +105,7 @@ behind k t ts quiet (Found f) h =
 -- the first that is found is the least that is true, where no test is true past the limit
 pub first_is_least : (limit k : ℕ) (ts : List Test) → IsWithin limit ts → IsFirstOf k ts (first_found limit k ts)
 first_is_least limit k [] within = λ number place. refl
-first_is_least limit k (t ∷ ts) within = elim (cases_Bool (some_below t limit)) [
+first_is_least limit k (t ∷ ts) (also outside within) = elim (cases_Bool (some_below t limit)) [
   | inl is ↦
       let place = least_below t limit in
       subst (IsFirstOf k (t ∷ ts)) (sym (cond-true (some_below t limit) (found k place) (first_found limit (k + 1) ts) is)) (record {
@@ -110,7 +115,7 @@ first_is_least limit k (t ∷ ts) within = elim (cases_Bool (some_below t limit)
         no_lesser_place = λ p under. at_first k t ts k p refl ∙ below_least t limit p under;
       })
   | inr out ↦
-      let quiet : (p : ℕ) → t p ≡ false = λ p. elim (cases_lt p limit) [ inl under ↦ none_below t limit out p under | inr over ↦ within.0 p over ] in
+      let quiet : (p : ℕ) → t p ≡ false = λ p. elim (cases_lt p limit) [ inl under ↦ none_below t limit out p under | inr over ↦ outside p over ] in
       subst (IsFirstOf k (t ∷ ts)) (sym (cond-false (some_below t limit) (found k (least_below t limit)) (first_found limit (k + 1) ts) out))
-      (behind k t ts quiet (first_found limit (k + 1) ts) (first_is_least limit (k + 1) ts within.1))
+      (behind k t ts quiet (first_found limit (k + 1) ts) (first_is_least limit (k + 1) ts within))
 ]
