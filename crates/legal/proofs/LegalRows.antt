@@ -29,6 +29,7 @@ small = record { block_size = 64; inodes = 8; zones = 64; inode_map_blocks = 1; 
 abbrev pub user_0 : Who
 user_0 = record { session = 0; uid = 0; gid = 0 }
 
+-- bytes, lent
 abbrev pub path : List ℕ → Bor (List ℕ)
 path bytes = record { ref_ptr = (0, 0); now = bytes }
 
@@ -40,6 +41,7 @@ fresh = fresh_tree 50
 abbrev pub zeros : Contents
 zeros place = 0
 
+-- what the root is
 abbrev pub stat_root : Call
 stat_root = call.Stat (path (codes "/"))
 
@@ -59,6 +61,7 @@ number_in (refused EBADF) = 9
 number_in (refused ENOMEM) = 12
 number_in _ = 0
 
+-- false does not hold
 not_true : IsTrue false → ⊥
 not_true h = let e : ◌≡◌ {A = Bool} false true = h in cc
 
@@ -89,6 +92,7 @@ late_eio = (tt, refl)
 late_stat : IsLegal small zeros fresh (Took user_0 100 stat_root (root_of_size 128) ∷ GaveUp ∷ []) → ⊥
 late_stat h = let number : ◌≡◌ {A = ℕ} 0 5 = ap number_in h.1 in absurd (omega arith)
 
+-- a directory is made
 abbrev pub make_d : Call
 make_d = call.Mkdir (path (codes "/d")) 493
 

@@ -31,6 +31,7 @@ server is_busy ended = record {
   ended = ended;
 }
 
+-- of no open files none is open
 none_open : some_below (λ k. is_some {T = OpenFile} None) most_open_files ≡ false
 unfolding some_below
 none_open = refl
@@ -44,9 +45,11 @@ after_stat : tree_after_answer small fresh user_0 100 stat_root (root_of_size 12
 unfolding sum_below some_below least_below
 after_stat = refl
 
+-- false is not true
 false_is_true : false ≡ true → ⊥
 false_is_true e = cc
 
+-- the stat of the root is legal
 legal_stat : (image : Contents) (marks : List Mark) → IsLegalCall small image fresh marks user_0 100 stat_root (root_of_size 128)
 unfolding sum_below some_below least_below
 legal_stat image marks = record { replies = inl refl; syncs = λ sync ok. absurd (false_is_true sync) }
@@ -56,6 +59,7 @@ stays_fresh : (tree : Tree) (marks : List Mark) → tree_after small tree marks 
     → tree_after small tree (Took user_0 100 stat_root (root_of_size 128) ∷ marks) ≡ fresh
 stays_fresh tree marks is_fresh live = rw (live, is_fresh) after_stat
 
+-- also after any record that it agrees with
 legal_took : (image : Contents) (tree : Tree) (marks : List Mark) → tree_after small tree marks ≡ fresh → gave_up marks ≡ false
     → IsLegalTook small image (tree_after small tree marks) marks (gave_up marks) user_0 100 stat_root (root_of_size 128)
 legal_took image tree marks is_fresh live =
@@ -63,6 +67,7 @@ legal_took image tree marks is_fresh live =
     let Q : Bool → Type 0 = λ given_up. IsLegalTook small image fresh marks given_up user_0 100 stat_root (root_of_size 128) in
     subst P (sym is_fresh) (subst Q (sym live) (legal_stat image marks))
 
+-- its answer is not EIO
 replied_eio : Replied (root_of_size 128) ≡ Replied (refused EIO) → ⊥
 replied_eio e = let p : ◌≡◌ {A = Bool} true false = ap is_told e in cc
   where
@@ -70,6 +75,7 @@ replied_eio e = let p : ◌≡◌ {A = Bool} true false = ap is_told e in cc
     is_told (Replied (refused e)) = false
     is_told _ = true
 
+-- an answer is no cut
 replied_cut : (a : Answer) → Replied a ≡ Cut → ⊥
 replied_cut a e = cc
 
@@ -115,6 +121,7 @@ right_cut = record {
   serves = λ image tree marks s. s;
 }
 
+-- busy is not unmounted
 busy_unmounted : Busy ≡ Unmounted → ⊥
 busy_unmounted e = cc
 

@@ -32,15 +32,19 @@ complaint = AtLink (Complained (driver 1)) ∷ []
 abbrev take : List Act
 take = AtLink (Received incoming.Flush) ∷ []
 
+-- nothing is not something
 none_is_some : (e : Endpoint) → None ≡ Some e → ⊥
 none_is_some e h = cc
 
+-- false does not hold
 not_true : IsTrue false → ⊥
 not_true h = let e : ◌≡◌ {A = Bool} false true = h in cc
 
+-- the rules refuse the complaint
 no_complaint : (minor : ℕ) → KeepsRules minor complaint [] empty_outbox → ⊥
 no_complaint minor h = none_is_some (driver 1) h.1
 
+-- and the take
 no_take : (minor : ℕ) → KeepsRules minor take [] empty_outbox → ⊥
 no_take minor h = not_true h.1.needed
 

@@ -20,6 +20,7 @@ sync session now = Took (user_in session) now call.Sync done
 abbrev pub first_part : List Mark
 first_part = sync 7 11 ∷ sync 5 10 ∷ Started (record { slot = 1; generation = 1 }) ∷ []
 
+-- the whole record
 abbrev pub all : List Mark
 all = sync 5 13 ∷ Flush ∷ sync 5 12 ∷ first_part
 
@@ -93,6 +94,7 @@ cut_call = refl
 abbrev pub session_7 : List Mark → Seen
 session_7 seen = record { number = 7; place = 2; seen = seen; mine = sync 7 11 ∷ [] }
 
+-- the calls of the later session 5
 abbrev pub own_5 : List Mark
 own_5 = sync 5 13 ∷ sync 5 12 ∷ []
 

@@ -12,6 +12,7 @@ use Rattle.legal.specs.View.{Frames, server_view, IsCovered}
 abbrev pub volume : Geometry
 volume = record { block_size = 1024; inodes = 32; zones = 64; inode_map_blocks = 1; zone_map_blocks = 1; first_zone = 6 }
 
+-- an image whose byte at each place is 9
 abbrev pub nines : Contents
 nines place = 9
 
@@ -35,6 +36,7 @@ view_of_disk = refl
 view_past_block : server_view volume one_frame nines issued 3 1024 ≡ 0
 view_past_block = refl
 
+-- what is unsure lies in block 2
 in_block_2 : (place : ℕ) → unsure issued place ≡ true → place / 1024 ≡ 2
 in_block_2 place is_unsure =
     let from : nat_le 2048 place ≡ true = grind (arith, nat_tests) in

@@ -33,6 +33,7 @@ keep_both minor (act ∷ later) acts marks o first then = (
   rw (marks_after_both later acts marks, owed_after_both later acts marks o) then.1,
 )
 
+-- all of these together
 pub acts_compose : (minor : ℕ) (later acts : List Act) (marks : List Mark) (o : Outbox) → ActsCompose minor later acts marks o
 acts_compose minor later acts marks o = record {
   record_after = marks_after_both later acts marks;

@@ -19,13 +19,16 @@ block = replicate 4096 0
 abbrev pub ask : ℕ → ℕ → ℕ → BlockRequest
 ask id position count = record { id = id; kind = Read; minor = 0; position = position; count = count; bytes = block }
 
+-- a block has 4096 bytes
 block_length : length block ≡ 4096
 unfolding block
 block_length = refl
 
+-- up to 4096 bytes fit
 fits : (id position count : ℕ) → count ≤ 4096 → FitsMinor 0 (ask id position count)
 fits id position count small = record { minor_is = refl; count = small; bytes = block_length }
 
+-- the request became pending
 abbrev pub began : ℕ → ℕ → ℕ → Act
 began id position count = Began (ask id position count)
 
@@ -37,12 +40,15 @@ posted g id position count = AtLink (Posted (driver g) (ask id position count) t
 abbrev pub refused : ℕ → ℕ → ℕ → ℕ → Act
 refused g id position count = AtLink (Posted (driver g) (ask id position count) false)
 
+-- the start of this generation was taken
 abbrev pub started : ℕ → Act
 started g = AtLink (Received (incoming.Started (driver g)))
 
+-- a reply of driver 1 was taken
 abbrev pub answered : ℕ → ℕ → Act
 answered id n = AtLink (Received (incoming.Reply (answer id n)))
 
+-- it was complained of
 abbrev pub complained : ℕ → Act
 complained g = AtLink (Complained (driver g))
 
@@ -50,9 +56,11 @@ complained g = AtLink (Complained (driver g))
 abbrev pub Keeps : List Act → Type 0
 Keeps acts = KeepsRules 0 acts [] empty_outbox
 
+-- nothing is owed after these
 abbrev pub Rests : List Act → Type 0
 Rests acts = IsAtRest (marks_after acts []) (outbox_after acts [] empty_outbox)
 
+-- as both parts say
 rests : {marks : List Mark} {o : Outbox} → o.complaint ≡ None → is_post_due marks o ≡ false → IsAtRest marks o
 rests none not_due = record { complaint = none; post = not_due }
 
@@ -60,12 +68,15 @@ rests none not_due = record { complaint = none; post = not_due }
 abbrev pub one_begun : List Act
 one_begun = began 1 16384 4096 ∷ []
 
+-- at the start it is posted
 abbrev pub one_posted : List Act
 one_posted = posted 1 1 16384 4096 ∷ started 1 ∷ one_begun
 
+-- and answered in full
 abbrev pub one_answered : List Act
 one_answered = answered 1 4096 ∷ one_posted
 
+-- a post that the rules allow
 posts : (acts : List Act) (g id position count : ℕ) → count ≤ 4096
     → (outbox_after acts [] empty_outbox).complaint ≡ None
     → last_started (marks_after acts []) ≡ Some (driver g)
@@ -80,12 +91,14 @@ posts acts g id position count small complaint last stopped first = record {
   fits = fits id position count small;
 }
 
+-- a request that may become pending
 begins : (acts : List Act) (id position count : ℕ)
     → id ≡ greatest (marks_after acts []) + length (outbox_after acts [] empty_outbox).never_issued + 1
     → length (open_requests (marks_after acts [])) + length (outbox_after acts [] empty_outbox).never_issued < 16
     → MayBegin (marks_after acts []) (outbox_after acts [] empty_outbox) (ask id position count)
 begins acts id position count next room = record { next = next; room = room }
 
+-- a take that the rules allow
 takes : (acts : List Act) → Rests acts → IsTrue (needs_message (marks_after acts []) (outbox_after acts [] empty_outbox))
     → MayTake (marks_after acts []) (outbox_after acts [] empty_outbox)
 takes acts rest needed = record { at_rest = rest; needed = needed }
@@ -160,21 +173,27 @@ next_posted_open = refl
 next_posted_last : last_started (marks_after next_posted []) ≡ Some (driver 2)
 next_posted_last = refl
 
+-- true is not false
 is_true_false : true ≡ false → ⊥
 is_true_false e = cc
 
+-- something is not nothing
 some_is_none : (e : Endpoint) → Some e ≡ None → ⊥
 some_is_none e h = cc
 
+-- false does not hold
 not_true : IsTrue false → ⊥
 not_true h = let e : ◌≡◌ {A = Bool} false true = h in cc
 
+-- one endpoint has one generation
 some_generation : (g k : ℕ) → Some (driver g) ≡ Some (driver k) → g ≡ k
 some_generation g k e = let same : driver g ≡ driver k = cc in ap (λ (d : Endpoint). d.generation) same
 
+-- one request has one id
 some_id : (r s : BlockRequest) → Some r ≡ Some s → r.id ≡ s.id
 some_id r s e = let same : r ≡ s = cc in ap (λ (q : BlockRequest). q.id) same
 
+-- nothing is no request
 none_is_request : (r : BlockRequest) → ◌≡◌ {A = Option BlockRequest} None (Some r) → ⊥
 none_is_request r e = cc
 

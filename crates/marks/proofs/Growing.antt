@@ -41,6 +41,7 @@ kept a marks true h well =
     let asked : is_some (asked_by a marks) ≡ true = grind (arith, nat_tests) in
     (well, (same_endpoint a.from (last_started marks) from, asked))
 
+-- each message keeps a record well formed
 pub well_formed_received : (message : Incoming) (marks : List Mark) → IsWellFormed marks → IsWellFormed (received message marks)
 well_formed_received (incoming.Reply a) marks well = kept a marks (counts marks a) refl well
 well_formed_received (incoming.Started e) marks well = (well, tt)

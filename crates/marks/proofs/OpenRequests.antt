@@ -13,23 +13,28 @@ abbrev pub Below : ℕ → List BlockRequest → Type 0
 Below g [] = Unit {0}
 Below g (r ∷ rs) = (r.id ≤ g) × Below g rs
 
+-- a greater bound holds too
 below_more : (g h : ℕ) (rs : List BlockRequest) → g ≤ h → Below g rs → Below h rs
 below_more g h [] le b = tt
 below_more g h (r ∷ rs) le b = (omega (arith, b.0), below_more g h rs le b.1)
 
+-- one more up to the bound
 below_push : (g : ℕ) (rs : List BlockRequest) (r : BlockRequest) → Below g rs → r.id ≤ g → Below g (rs ++ r ∷ [])
 below_push g [] r b le = (le, tt)
 below_push g (s ∷ rs) r b le = (b.0, below_push g rs r b.1 le)
 
+-- what holds of both holds of either
 pub cond_has : {X : Type 0} (P : X → Type 0) (b : Bool) (x y : X) → P x → P y → P (cond b x y)
 cond_has P true x y p q = p
 cond_has P false x y p q = q
 
+-- one taken out
 below_without : (g id : ℕ) (rs : List BlockRequest) → Below g rs → Below g (without_id id rs)
 below_without g id [] b = tt
 below_without g id (r ∷ rs) b =
     cond_has (Below g) (r.id == id) rs (r ∷ without_id id rs) b.1 (b.0, below_without g id rs b.1)
 
+-- no open id is above the greatest
 pub below_open : (marks : List Mark) → Below (greatest marks) (open_requests marks)
 below_open [] = tt
 below_open (Issued r e ∷ marks) =
@@ -48,41 +53,50 @@ below_open (GaveUp ∷ marks) = below_open marks
 below_open (Took who now call said ∷ marks) = below_open marks
 below_open (Fault e cause ∷ marks) = below_open marks
 
+-- a request of the list has an id up to the bound
 below_in : (g : ℕ) (rs : List BlockRequest) (r : BlockRequest) → Below g rs → IsIn r rs → r.id ≤ g
 below_in g [] r b i = absurd i
 below_in g (s ∷ rs) r b (inl e) = let h : r.id ≡ s.id = ap (λ (x : BlockRequest). x.id) e in omega (arith, b.0)
 below_in g (s ∷ rs) r b (inr i) = below_in g rs r b.1 i
 
+-- an open request has an id up to the greatest
 pub open_below : (marks : List Mark) (r : BlockRequest) → IsIn r (open_requests marks) → r.id ≤ greatest marks
 open_below marks r i = below_in (greatest marks) (open_requests marks) r (below_open marks) i
 
+-- the test whether an id is new fails up to the greatest
 not_less : (a b : ℕ) → b ≤ a → nat_lt a b ≡ false
 not_less a b h = grind (arith, nat_tests)
 
+-- and holds above it
 is_less : (a b : ℕ) → a < b → nat_lt a b ≡ true
 is_less a b h = grind (arith, nat_tests)
 
+-- an issue of an id up to the greatest opens nothing
 pub open_again : (marks : List Mark) (r : BlockRequest) (to : Endpoint) → r.id ≤ greatest marks
     → open_requests (Issued r to ∷ marks) ≡ open_requests marks
 open_again marks r to h =
     ap (λ (b : Bool). cond b (open_requests marks ++ r ∷ []) (open_requests marks)) (not_less (greatest marks) r.id h)
 
+-- one of a greater id opens its request, at the end
 pub open_new : (marks : List Mark) (r : BlockRequest) (to : Endpoint) → greatest marks < r.id
     → open_requests (Issued r to ∷ marks) ≡ open_requests marks ++ r ∷ []
 open_new marks r to h =
     ap (λ (b : Bool). cond b (open_requests marks ++ r ∷ []) (open_requests marks)) (is_less (greatest marks) r.id h)
 
+-- what is in a list with one more at the end
 pub in_push : (rs : List BlockRequest) (r q : BlockRequest) → IsIn q (rs ++ r ∷ []) → IsIn q rs ⊎ (q ≡ r)
 in_push [] r q (inl e) = inr e
 in_push [] r q (inr i) = absurd i
 in_push (s ∷ rs) r q (inl e) = inl (inl e)
 in_push (s ∷ rs) r q (inr i) = elim (in_push rs r q i) [ inl h ↦ inl (inr h) | inr h ↦ inr h ]
 
+-- what was in the list
 pub in_push_old : (rs : List BlockRequest) (r q : BlockRequest) → IsIn q rs → IsIn q (rs ++ r ∷ [])
 in_push_old [] r q i = absurd i
 in_push_old (s ∷ rs) r q (inl e) = inl e
 in_push_old (s ∷ rs) r q (inr i) = inr (in_push_old rs r q i)
 
+-- the one at the end
 pub in_push_new : (rs : List BlockRequest) (r : BlockRequest) → IsIn r (rs ++ r ∷ [])
 in_push_new [] r = inl refl
 in_push_new (s ∷ rs) r = inr (in_push_new rs r)
@@ -93,6 +107,7 @@ pub record OpenAfterIssue (marks : List Mark) (r : BlockRequest) (e : Endpoint) 
   pub own : IsIn r (open_requests (Issued r e ∷ marks))
   pub only : (q : BlockRequest) → IsIn q (open_requests (Issued r e ∷ marks)) → IsIn q (open_requests marks) ⊎ ((q ≡ r) × (r.id ≡ greatest marks + 1))
 
+-- an issue opens its request if it is new, and no other
 pub open_after_issue : (marks : List Mark) (r : BlockRequest) (e : Endpoint) → IsNew marks r ⊎ IsAgain marks r → OpenAfterIssue marks r e
 open_after_issue marks r e (inl new) =
     let is : open_requests (Issued r e ∷ marks) ≡ open_requests marks ++ r ∷ [] = open_new marks r e (omega (arith, new.next)) in
@@ -114,27 +129,33 @@ abbrev AllMiss : List BlockRequest → Type 0
 AllMiss [] = Unit {0}
 AllMiss (r ∷ rs) = MissesAll r rs × AllMiss rs
 
+-- missing goes both ways
 pub misses_sym : (r s : BlockRequest) → Misses r s → Misses s r
 misses_sym r s m = record { apart = elim m.apart [ inl h ↦ inr h | inr h ↦ inl h ] }
 
+-- a request misses one more
 misses_push : (r s : BlockRequest) (rs : List BlockRequest) → MissesAll s rs → Misses r s → MissesAll s (rs ++ r ∷ [])
 misses_push r s [] m h = (h, tt)
 misses_push r s (q ∷ rs) m h = (m.0, misses_push r s rs m.1 h)
 
+-- all miss each other, with one more that misses all
 all_miss_push : (r : BlockRequest) (rs : List BlockRequest) → AllMiss rs → MissesAll r rs → AllMiss (rs ++ r ∷ [])
 all_miss_push r [] a m = (tt, tt)
 all_miss_push r (s ∷ rs) a m = (misses_push r s rs a.0 (misses_sym s r m.0), all_miss_push r rs a.1 m.1)
 
+-- a request misses what is left
 misses_without : (id : ℕ) (r : BlockRequest) (rs : List BlockRequest) → MissesAll r rs → MissesAll r (without_id id rs)
 misses_without id r [] m = tt
 misses_without id r (s ∷ rs) m =
     cond_has (MissesAll r) (s.id == id) rs (s ∷ without_id id rs) m.1 (m.0, misses_without id r rs m.1)
 
+-- and so do all that are left
 all_miss_without : (id : ℕ) (rs : List BlockRequest) → AllMiss rs → AllMiss (without_id id rs)
 all_miss_without id [] a = tt
 all_miss_without id (s ∷ rs) a =
     cond_has AllMiss (s.id == id) rs (s ∷ without_id id rs) a.1 (misses_without id s rs a.0, all_miss_without id rs a.1)
 
+-- open requests miss each other
 all_miss : (marks : List Mark) → IsWellFormed marks → AllMiss (open_requests marks)
 all_miss [] w = tt
 all_miss (Issued r e ∷ marks) w = at (all_miss marks w.0) w.1.1 where
@@ -151,11 +172,13 @@ all_miss (GaveUp ∷ marks) w = all_miss marks w.0
 all_miss (Took who now call said ∷ marks) w = all_miss marks w.0
 all_miss (Fault e cause ∷ marks) w = all_miss marks w.0
 
+-- a request misses each of those that miss it
 misses_in : (r s : BlockRequest) (rs : List BlockRequest) → MissesAll r rs → IsIn s rs → Misses s r
 misses_in r s [] m i = absurd i
 misses_in r s (q ∷ rs) m (inl e) = let P : BlockRequest → Type 0 = λ x. Misses x r in subst P (sym e) m.0
 misses_in r s (q ∷ rs) m (inr i) = misses_in r s rs m.1 i
 
+-- two of a list whose requests miss each other
 two_in : (r s : BlockRequest) (rs : List BlockRequest) → AllMiss rs → IsIn r rs → IsIn s rs → (r ≡ s) ⊎ Misses r s
 two_in r s [] a i j = absurd i
 two_in r s (q ∷ rs) a (inl e) (inl f) = inl (e ∙ sym f)
@@ -163,6 +186,7 @@ two_in r s (q ∷ rs) a (inl e) (inr j) = inr (let P : BlockRequest → Type 0 =
 two_in r s (q ∷ rs) a (inr i) (inl f) = inr (let P : BlockRequest → Type 0 = λ x. Misses r x in subst P (sym f) (misses_in q r rs a.0 i))
 two_in r s (q ∷ rs) a (inr i) (inr j) = two_in r s rs a.1 i j
 
+-- two open requests are one, or miss each other
 pub two_open : (marks : List Mark) → IsWellFormed marks → (r s : BlockRequest) → IsIn r (open_requests marks) → IsIn s (open_requests marks) → (r ≡ s) ⊎ Misses r s
 two_open marks w r s i j = two_in r s (open_requests marks) (all_miss marks w) i j
 
@@ -175,6 +199,7 @@ in_without id q (r ∷ rs) i = at (λ j. in_without id q rs j) (r.id == id) i wh
   at rest false (inl e) = inl e
   at rest false (inr j) = inr (rest j)
 
+-- what is open after an answer was open before
 pub open_answered : (marks : List Mark) (a : BlockReply) (q : BlockRequest) → IsIn q (open_requests (Answered a ∷ marks)) → IsIn q (open_requests marks)
 open_answered marks a q i = at (is_some (moved_of (with_id a.id (open_requests marks)) a)) i where
   at : (b : Bool) → IsIn q (cond b (without_id a.id (open_requests marks)) (open_requests marks)) → IsIn q (open_requests marks)
@@ -191,6 +216,7 @@ in_without_other id q (r ∷ rs) other i = at (λ j. in_without_other id q rs ot
   at rest false t (inl e) = inl e
   at rest false t (inr j) = inr (rest j)
 
+-- what the answer is not for stays open
 pub open_stays : (marks : List Mark) (a : BlockReply) (q : BlockRequest) → (q.id ≡ a.id → ⊥) → IsIn q (open_requests marks) → IsIn q (open_requests (Answered a ∷ marks))
 open_stays marks a q other i =
     cond_has (IsIn q) (is_some (moved_of (with_id a.id (open_requests marks)) a))
@@ -214,6 +240,7 @@ left_misses id q r (s ∷ rs) a e i = at (λ f j. left_misses id q r rs a.1 f j)
   at rest false e (inl f) = let P : BlockRequest → Type 0 = λ x. Misses x r in subst P (sym f) (misses_sym r s (misses_in s r rs a.0 (with_id_in id rs r e).0))
   at rest false e (inr j) = rest e j
 
+-- what stays open after a good answer misses the request that was answered
 pub open_misses : (marks : List Mark) → IsWellFormed marks → (a : BlockReply) (r q : BlockRequest) (n : ℕ)
     → with_id a.id (open_requests marks) ≡ Some r → moved_of (with_id a.id (open_requests marks)) a ≡ Some n
     → IsIn q (open_requests (Answered a ∷ marks)) → Misses q r

@@ -26,16 +26,19 @@ above_kept : (b : Bool) (id : ℕ) (r : BlockRequest) (rs others : List BlockReq
 above_kept true id r rs others less all rest = all
 above_kept false id r rs others less all rest = (less, rest)
 
+-- those that are left
 above_without : (id out : ℕ) (rs : List BlockRequest) → AllAbove id rs → AllAbove id (without_id out rs)
 above_without id out [] above = tt
 above_without id out (r ∷ rs) above =
     above_kept (r.id == out) id r rs (without_id out rs) above.0 above.1 (above_without id out rs above.1)
 
+-- the rest in rising order, with the first kept or not
 rising_kept : (b : Bool) (r : BlockRequest) (rs others : List BlockRequest) → IsRising rs → AllAbove r.id others → IsRising others
     → IsRising (if b then rs else r ∷ others)
 rising_kept true r rs others rising above rest = rising
 rising_kept false r rs others rising above rest = (above, rest)
 
+-- one id taken out
 rising_without : (out : ℕ) (rs : List BlockRequest) → IsRising rs → IsRising (without_id out rs)
 rising_without out [] rising = tt
 rising_without out (r ∷ rs) rising =
@@ -47,10 +50,12 @@ rising_opened : (b : Bool) (g : ℕ) (rs : List BlockRequest) (r : BlockRequest)
 rising_opened true g rs r new rising below = let less : g < r.id = grind (arith, nat_tests) in rising_push g rs r rising below less
 rising_opened false g rs r new rising below = rising
 
+-- an answer closes one, or none
 rising_answered : (b : Bool) (id : ℕ) (rs : List BlockRequest) → IsRising rs → IsRising (if b then without_id id rs else rs)
 rising_answered true id rs rising = rising_without id rs rising
 rising_answered false id rs rising = rising
 
+-- open requests stand in the rising order of their ids
 pub open_are_rising : (marks : List Mark) → IsRising (open_requests marks)
 open_are_rising [] = tt
 open_are_rising (Started e ∷ marks) = open_are_rising marks

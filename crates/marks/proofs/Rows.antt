@@ -150,6 +150,7 @@ replaced_well_formed =
     let four : IsWellFormed fourth = ((three, (refl, refl)), (refl, inl (new (Answered (answer 3 1024) ∷ third) refl (read 4 18432 2048) refl refl refl))) in
     (((((four, (refl, refl)), tt), tt)), (refl, inr (record { same = inl refl })))
 
+-- something is one thing
 some_same : (d e : Endpoint) → Some d ≡ Some e → d ≡ e
 some_same d e h = cc
 

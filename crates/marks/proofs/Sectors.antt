@@ -10,47 +10,58 @@ use Rattle.marks.specs.Marks.{Mark, Started, Answered, Flush, GaveUp, Took, Issu
 use Rattle.marks.specs.Open.{IsWellFormed, IsNew, IsAgain, IsIn, open_requests, with_id, without_id, greatest, moved, moved_of, asked_by, moved_by, IsWhole}
 use Rattle.marks.specs.Disk.{unsure, is_unsure, covers, settles}
 
+-- each of these is for whole sectors
 abbrev pub AllWhole : List BlockRequest → Type 0
 AllWhole [] = Unit {0}
 AllWhole (r ∷ rs) = IsWhole r × AllWhole rs
 
+-- with one more at the end
 whole_and : (rs : List BlockRequest) (r : BlockRequest) → AllWhole rs → IsWhole r → AllWhole (rs ++ r ∷ [])
 whole_and [] r all whole = (whole, tt)
 whole_and (s ∷ rs) r all whole = (all.0, whole_and rs r all.1 whole)
 
+-- with the first kept or not
 whole_kept : (b : Bool) (r : BlockRequest) (rs others : List BlockRequest) → IsWhole r → AllWhole rs → AllWhole others → AllWhole (if b then rs else r ∷ others)
 whole_kept true r rs others whole all rest = all
 whole_kept false r rs others whole all rest = (whole, rest)
 
+-- with one id taken out
 whole_without : (id : ℕ) (rs : List BlockRequest) → AllWhole rs → AllWhole (without_id id rs)
 whole_without id [] all = tt
 whole_without id (r ∷ rs) all = whole_kept (r.id == id) r rs (without_id id rs) all.0 all.1 (whole_without id rs all.1)
 
+-- each request of the list
 whole_in : (r : BlockRequest) (rs : List BlockRequest) → IsIn r rs → AllWhole rs → IsWhole r
 whole_in r [] h all = absurd h
 whole_in r (s ∷ rs) (inl e) all = subst IsWhole (sym e) all.0
 whole_in r (s ∷ rs) (inr h) all = whole_in r rs h all.1
 
+-- a request, if there is one, is for whole sectors
 abbrev pub MaybeWhole : Option BlockRequest → Type 0
 MaybeWhole None = Unit {0}
 MaybeWhole (Some r) = IsWhole r
 
+-- the first or one behind it
 whole_found : (b : Bool) (r : BlockRequest) (o : Option BlockRequest) → IsWhole r → MaybeWhole o → MaybeWhole (if b then Some r else o)
 whole_found true r o whole rest = whole
 whole_found false r o whole rest = rest
 
+-- the one with an id
 whole_with : (id : ℕ) (rs : List BlockRequest) → AllWhole rs → MaybeWhole (with_id id rs)
 whole_with id [] all = tt
 whole_with id (r ∷ rs) all = whole_found (r.id == id) r (with_id id rs) all.0 (whole_with id rs all.1)
 
+-- an issued request is for whole sectors: it is new, or open already
 whole_issued : (marks : List Mark) (r : BlockRequest) → AllWhole (open_requests marks) → IsNew marks r ⊎ IsAgain marks r → IsWhole r
 whole_issued marks r all (inl new) = new.whole
 whole_issued marks r all (inr again) = whole_in r (open_requests marks) again.same all
 
+-- after an issue
 whole_opened : (b : Bool) (rs : List BlockRequest) (r : BlockRequest) → AllWhole rs → IsWhole r → AllWhole (if b then rs ++ r ∷ [] else rs)
 whole_opened true rs r all whole = whole_and rs r all whole
 whole_opened false rs r all whole = all
 
+-- after an answer
 whole_answered : (b : Bool) (id : ℕ) (rs : List BlockRequest) → AllWhole rs → AllWhole (if b then without_id id rs else rs)
 whole_answered true id rs all = whole_without id rs all
 whole_answered false id rs all = all
@@ -68,26 +79,33 @@ open_whole (Issued r e ∷ marks) h =
     whole_opened (nat_lt (greatest marks) r.id) (open_requests marks) r all (whole_issued marks r all h.1.1)
 open_whole (Fault e cause ∷ marks) h = open_whole marks h.0
 
+-- a place of a sector is behind a border exactly where the first place is
 same_le : (p s k : ℕ) → p % 512 ≡ 0 → k < 512 → nat_le p (512 * s + k) ≡ nat_le p (512 * s)
 same_le p s k whole less = grind (arith, nat_tests)
 
+-- and before one
 same_lt : (p s k : ℕ) → p % 512 ≡ 0 → k < 512 → nat_lt (512 * s + k) p ≡ nat_lt (512 * s) p
 same_lt p s k whole less = grind (arith, nat_tests)
 
+-- the end of whole sectors is a border
 whole_sum : (p c : ℕ) → p % 512 ≡ 0 → c % 512 ≡ 0 → (p + c) % 512 ≡ 0
 whole_sum p c a b = omega arith
 
+-- a request covers all places of a sector, or none
 same_covers : (r : BlockRequest) (s k : ℕ) → IsWhole r → k < 512 → covers r (512 * s + k) ≡ covers r (512 * s)
 same_covers r s k whole less =
     rw (same_le r.position s k whole.position less, same_lt (r.position + r.count) s k (whole_sum r.position r.count whole.position whole.count) less) refl
 
+-- a good answer is for whole sectors
 good_whole : (count : ℕ) (n : ℕ) → is_good count (Ok n) ≡ true → n % 512 ≡ 0
 good_whole count n h = grind (arith, nat_tests)
 
+-- a number of bytes, if there is one, is a multiple of 512
 abbrev pub MaybeMultiple : Option ℕ → Type 0
 MaybeMultiple None = Unit {0}
 MaybeMultiple (Some n) = n % 512 ≡ 0
 
+-- what an outcome moved
 moved_whole : (count : ℕ) (outcome : Result ℕ Errno) → MaybeMultiple (moved count outcome)
 moved_whole count (Err e) = tt
 moved_whole count (Ok n) = at (is_good count (Ok n)) refl
@@ -96,10 +114,12 @@ moved_whole count (Ok n) = at (is_good count (Ok n)) refl
     at true h = good_whole count n h
     at false h = tt
 
+-- what a reply moved
 moved_of_whole : (o : Option BlockRequest) (a : BlockReply) → MaybeMultiple (moved_of o a)
 moved_of_whole None a = tt
 moved_of_whole (Some r) a = moved_whole r.count a.outcome
 
+-- a good answer settles all places of a sector, or none
 same_settles : (o : Option BlockRequest) (m : Option ℕ) (s k : ℕ) → MaybeWhole o → MaybeMultiple m → k < 512
     → settles o m (512 * s + k) ≡ settles o m (512 * s)
 same_settles None m s k whole multiple less = refl

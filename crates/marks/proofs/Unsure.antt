@@ -15,30 +15,37 @@ or_left : (a b : Bool) → a ≡ true → (a || b) ≡ true
 or_left true b e = refl
 or_left false b e = cc
 
+-- one of two is true
 or_right : (a b : Bool) → b ≡ true → (a || b) ≡ true
 or_right true b e = refl
 or_right false b e = e
 
+-- one of two is false
 and_false : (a b : Bool) → b ≡ false → (a && b) ≡ false
 and_false true b e = e
 and_false false b e = refl
 
+-- both are true
 and_both : (a b : Bool) → a ≡ true → b ≡ true → (a && b) ≡ true
 and_both true b e f = f
 and_both false b e f = cc
 
+-- a number that there is only where a test holds
 cond_some : (b : Bool) (m n : ℕ) → cond b (Some m) None ≡ Some n → (b ≡ true) × (m ≡ n)
 cond_some true m n e = (refl, cc)
 cond_some false m n e = cc
 
+-- the first of two that are true
 and_left : (a b : Bool) → (a && b) ≡ true → a ≡ true
 and_left true b e = refl
 and_left false b e = cc
 
+-- the second
 and_right : (a b : Bool) → (a && b) ≡ true → b ≡ true
 and_right true b e = e
 and_right false b e = cc
 
+-- what was moved is at most the count, and above 0
 pub moved_le : (count n : ℕ) (o : Result ℕ Errno) → moved count o ≡ Some n → (n ≤ count) × (0 < n)
 moved_le count n (Ok m) e =
     let h = cond_some ((m % 512 == 0) && nat_lt 0 m && nat_le m count) m n e in
@@ -48,14 +55,17 @@ moved_le count n (Ok m) e =
     (grind (arith, nat_tests), grind (arith, nat_tests))
 moved_le count n (Err x) e = cc
 
+-- a place that a request covers lies between its ends
 covers_bounds : (r : BlockRequest) (p : ℕ) → covers r p ≡ true → (r.position ≤ p) × (p < r.position + r.count)
 covers_bounds r p t = (grind (arith, nat_tests), grind (arith, nat_tests))
 
+-- an answer settles no place outside the bytes that it moved
 not_settles : (w : Bool) (position n place : ℕ) → (place < position) ⊎ (position + n ≤ place)
     → (w && nat_le position place && nat_lt place (position + n)) ≡ false
 not_settles true position n place h = grind (arith, nat_tests)
 not_settles false position n place h = refl
 
+-- each place of an open write is unsure
 pub unsure_open : (marks : List Mark) → IsWellFormed marks → (q : BlockRequest) (p : ℕ) → IsIn q (open_requests marks) → is_write q.kind ≡ true → covers q p ≡ true → unsure marks p ≡ true
 unsure_open [] w q p i write touch = absurd i
 unsure_open (Issued r e ∷ marks) w q p i write touch = at (λ j. unsure_open marks w.0 q p j write touch) ((open_after_issue marks r e w.1.1).only q i) where
@@ -80,6 +90,7 @@ unsure_open (GaveUp ∷ marks) w q p i write touch = unsure_open marks w.0 q p i
 unsure_open (Took who now call said ∷ marks) w q p i write touch = unsure_open marks w.0 q p i write touch
 unsure_open (Fault e cause ∷ marks) w q p i write touch = unsure_open marks w.0 q p i write touch
 
+-- what was moved is the number of the outcome
 pub moved_is : (count n : ℕ) (o : Result ℕ Errno) → moved count o ≡ Some n → o ≡ Ok n
 moved_is count n (Ok m) e = ap (λ (x : ℕ). Ok x) ((cond_some ((m % 512 == 0) && nat_lt 0 m && nat_le m count) m n e).1)
 moved_is count n (Err x) e = cc
