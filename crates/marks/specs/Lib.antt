@@ -2,6 +2,7 @@
 pub mod Marks
 pub mod Open
 pub mod Disk
+pub mod Opening
 pub mod Told
 pub mod Acts
 pub mod Laws

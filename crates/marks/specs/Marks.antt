@@ -61,3 +61,10 @@ is_endpoint e (Some d) = (d.slot == e.slot) && (d.generation == e.generation)
 pub record IsBeginning (beginning marks : List Mark) : Type 0 where
   pub later : List Mark
   pub is : marks ≡ later ++ beginning
+
+-- these marks change no request, no byte of the disk and no driver
+abbrev pub ChangesNothing : Mark → Type 0
+ChangesNothing (Issued r e) = ⊥
+ChangesNothing (Started e) = ⊥
+ChangesNothing (Answered a) = ⊥
+ChangesNothing _ = Unit {0}
