@@ -1,4 +1,4 @@
--- The findings of a check: each is a number, and the places at which it is true.
+-- The findings of the check: of each its number, and the places at which it is true.
 use Rattle.std.specs.Prelude.{ℕ, zero, suc, ◌+◌, ◌-◌, ◌%◌, Bool, not, ◌&&◌, ◌||◌, ◌==◌, nat_lt, nat_le, if◌then◌else◌}
 use Rattle.layout.specs.declared.Geometry.{Geometry}
 use Rattle.tree.specs.Sums.{sum_below, count_below, some_below, one_if}
@@ -10,111 +10,122 @@ use Rattle.volume.specs.Reading.{is_data_zone}
 use Rattle.volume.specs.Pieces.{Pieces}
 use Rattle.volume.specs.Nodes.{page_zone, is_mode, is_marked}
 use Rattle.volume.specs.Places.{zone_at, has_number, uses}
-use Rattle.volume.specs.Entries.{is_dir_inode, entries, name_at, target_at, is_field, is_name_field}
+use Rattle.volume.specs.Entries.{is_directory_inode, entry_count, name_at, target_at, is_field, is_name_field}
 
 module _ (g : Geometry) (v : Pieces) where
-  -- all places of a level, and one more than the greatest place of any level
+  -- more than any place of any level of an inode
   abbrev pub all_places : ℕ
   all_places = page_limit (numbers_in_zone g)
 
-  -- 2 and 3, at place 0
-  abbrev pub no_inode_bit : ℕ → Bool
-  no_inode_bit p = (p == 0) && not (v.inode_map 0)
+  -- 2, at place 0: bit 0 of the inode map is clear
+  abbrev pub lacks_inode_bit : ℕ → Bool
+  lacks_inode_bit p = (p == 0) && not (v.inode_map 0)
 
-  abbrev pub no_zone_bit : ℕ → Bool
-  no_zone_bit p = (p == 0) && not (v.zone_map 0)
+  -- 3, at place 0: bit 0 of the zone map is clear
+  abbrev pub lacks_zone_bit : ℕ → Bool
+  lacks_zone_bit p = (p == 0) && not (v.zone_map 0)
 
-  -- 4
-  abbrev pub no_root : ℕ → Bool
-  no_root n = (n == 1) && not (is_dir_inode g v 1)
+  -- 4, at inode 1: it isn't marked or is no directory
+  abbrev pub lacks_root : ℕ → Bool
+  lacks_root n = (n == 1) && not (is_directory_inode g v 1)
 
-  -- 5
-  abbrev pub bad_mode : ℕ → Bool
-  bad_mode n = is_marked g v n && not (is_mode (v.inodes n).mode)
+  -- 5, at an inode: a mode of no known type, or with bits past the permissions
+  abbrev pub has_bad_mode : ℕ → Bool
+  has_bad_mode n = is_marked g v n && not (is_mode (v.inodes n).mode)
 
-  -- 6
-  abbrev pub bad_directory_size : ℕ → Bool
-  bad_directory_size size = nat_lt size 128 || not (size % 64 == 0)
+  -- under two entries, or no whole number of them
+  abbrev pub is_bad_directory_size : ℕ → Bool
+  is_bad_directory_size size = nat_lt size 128 || not (size % 64 == 0)
 
-  abbrev pub bad_size : ℕ → Bool
-  bad_size n = is_marked g v n && (nat_lt most_size (v.inodes n).size || (is_dir_inode g v n && bad_directory_size (v.inodes n).size))
+  -- 6, at an inode: a size over the greatest, or one that no directory has
+  abbrev pub has_bad_size : ℕ → Bool
+  has_bad_size n =
+      is_marked g v n && (nat_lt most_size (v.inodes n).size || (is_directory_inode g v n && is_bad_directory_size (v.inodes n).size))
 
-  -- 7: some number but 0 at some place is no data zone
+  -- a number but 0 that is no data zone's
   abbrev pub is_bad_zone : ℕ → Bool
   is_bad_zone z = not (z == 0) && not (is_data_zone g z)
 
-  abbrev pub bad_number : ℕ → Bool
-  bad_number n = is_marked g v n && some_below (λ l. some_below (λ k. is_bad_zone (zone_at g v (v.inodes n) l k)) all_places) 4
+  -- 7, at an inode: at one of its places stands a number that is no data zone's
+  abbrev pub has_bad_number : ℕ → Bool
+  has_bad_number n = is_marked g v n && some_below (λ l. some_below (λ k. is_bad_zone (zone_at g v (v.inodes n) l k)) all_places) 4
 
-  -- 8 and 9, of data zones
-  abbrev pub used_twice : ℕ → Bool
-  used_twice z = is_data_zone g z && nat_lt 1 (uses g v z)
+  -- 8, at a data zone: it has two uses
+  abbrev pub is_used_twice : ℕ → Bool
+  is_used_twice z = is_data_zone g z && nat_lt 1 (uses g v z)
 
-  abbrev pub bad_bit : ℕ → Bool
-  bad_bit z = is_data_zone g z && (if v.zone_map (z - g.first_zone + 1) then uses g v z == 0 else nat_lt 0 (uses g v z))
+  -- 9, at a data zone: its bit is set and it has no use, or clear and it has one
+  abbrev pub has_bad_bit : ℕ → Bool
+  has_bad_bit z = is_data_zone g z && (if v.zone_map (z - g.first_zone + 1) then uses g v z == 0 else nat_lt 0 (uses g v z))
 
-  -- 10: a page at or past the end has a zone, or an indirect block has no number
+  -- page p lies at or past the end of inode n and has a zone
   abbrev pub is_past_end : ℕ → ℕ → Bool
   is_past_end n p = nat_le (pages_of g (v.inodes n).size) p && not (page_zone g v (v.inodes n) p == 0)
 
+  -- an indirect block lies there, and no number stands in it
   abbrev pub is_empty_block : ℕ → Bool
   is_empty_block z = not (z == 0) && not (has_number g v z)
 
-  abbrev pub bad_end : ℕ → Bool
-  bad_end n = is_marked g v n
+  -- 10, at an inode: a page at or past its end has a zone, or an indirect block of it has no number
+  abbrev pub has_spare_zone : ℕ → Bool
+  has_spare_zone n = is_marked g v n
       && (some_below (is_past_end n) all_places
       || some_below (λ l. some_below (λ k. is_empty_block (zone_at g v (v.inodes n) (suc l) k)) all_places) 3)
 
-  -- 11
+  -- 11, at a directory: a page below its end has no zone
   abbrev pub has_hole : ℕ → Bool
-  has_hole n = is_dir_inode g v n && some_below (λ p. page_zone g v (v.inodes n) p == 0) (pages_of g (v.inodes n).size)
+  has_hole n = is_directory_inode g v n && some_below (λ p. page_zone g v (v.inodes n) p == 0) (pages_of g (v.inodes n).size)
 
-  -- 12
-  abbrev pub bad_dots : ℕ → Bool
-  bad_dots n = is_dir_inode g v n
+  -- 12, at a directory: entry 0 isn't . with its own number, or entry 1 isn't named ..
+  abbrev pub has_bad_dots : ℕ → Bool
+  has_bad_dots n = is_directory_inode g v n
       && (not (is_field g v n 0 dot) || not (target_at g v n 0 == n) || not (is_field g v n 1 dot_dot))
 
-  -- 13: a free entry, a field that is no name, or a name that stands earlier too
-  abbrev pub bad_entry : ℕ → ℕ → Bool
-  bad_entry n e =
+  -- a free entry, one past . and .. whose field is no name, or one whose name stands earlier too
+  abbrev pub is_bad_entry : ℕ → ℕ → Bool
+  is_bad_entry n e =
       (target_at g v n e == 0) || (nat_le 2 e && not (is_name_field g v n e))
       || some_below (λ f. same_name (name_at g v n f) (name_at g v n e)) e
 
-  abbrev pub bad_entries : ℕ → Bool
-  bad_entries n = is_dir_inode g v n && some_below (bad_entry n) (entries v n)
+  -- 13, at a directory: one of its entries is such
+  abbrev pub has_bad_entry : ℕ → Bool
+  has_bad_entry n = is_directory_inode g v n && some_below (is_bad_entry n) (entry_count v n)
 
-  -- 14
-  abbrev pub bad_targets : ℕ → Bool
-  bad_targets n = is_dir_inode g v n && some_below (λ e. not (is_marked g v (target_at g v n e))) (entries v n)
+  -- 14, at a directory: an entry leads to no marked inode
+  abbrev pub has_bad_target : ℕ → Bool
+  has_bad_target n = is_directory_inode g v n && some_below (λ e. not (is_marked g v (target_at g v n e))) (entry_count v n)
 
-  -- how many names of directory n lead to m, and how many of all directories
+  -- how many names of directory n lead to inode m
   abbrev pub names_in_of : ℕ → ℕ → ℕ
-  names_in_of n m = if is_dir_inode g v n then count_below (λ e. target_at g v n (e + 2) == m) (entries v n - 2) else 0
+  names_in_of n m = if is_directory_inode g v n then count_below (λ e. target_at g v n (e + 2) == m) (entry_count v n - 2) else 0
 
+  -- how many names of all directories lead to inode m
   abbrev pub all_names_of : ℕ → ℕ
   all_names_of m = sum_below (λ n. names_in_of n m) (g.inodes + 1)
 
-  -- from the root by at most k names
+  -- inode n is reached from the root by at most k names
   abbrev pub is_reached : ℕ → ℕ → Bool
   is_reached zero n = n == 1
-  is_reached (suc k) n = is_reached k n || some_below (λ m. is_reached k m && nat_lt 0 (names_in_of m n)) (g.inodes + 1)
+  is_reached (suc k) n = is_reached k n || some_below (λ m. nat_lt 0 (names_in_of m n) && is_reached k m) (g.inodes + 1)
 
-  -- .. leads to the directory that names this one; the root's to the root
+  -- m is directory n's parent: the one that names it, and the root's is the root
   abbrev pub is_parent : ℕ → ℕ → Bool
   is_parent n m = if n == 1 then m == 1 else nat_lt 0 (names_in_of m n)
 
-  -- 15: not reached, named other than once (the root: named), or another .. than the parent
-  abbrev pub bad_place : ℕ → Bool
-  bad_place n = is_dir_inode g v n
+  -- 15, at a directory: it isn't reached, is named other than once (the root: named), or its .. isn't its parent
+  abbrev pub is_misplaced : ℕ → Bool
+  is_misplaced n = is_directory_inode g v n
       && (not (is_reached g.inodes n) || not (all_names_of n == one_if (not (n == 1))) || not (is_parent n (target_at g v n 1)))
 
-  -- 16
+  -- how many names of directory n lead to directories
   abbrev pub subdirectories_of : ℕ → ℕ
-  subdirectories_of n = count_below (λ e. is_dir_inode g v (target_at g v n (e + 2))) (entries v n - 2)
+  subdirectories_of n = count_below (λ e. is_directory_inode g v (target_at g v n (e + 2))) (entry_count v n - 2)
 
+  -- the link count that inode n should have
   abbrev pub links_of : ℕ → ℕ
-  links_of n = if is_dir_inode g v n then 2 + subdirectories_of n else all_names_of n
+  links_of n = if is_directory_inode g v n then 2 + subdirectories_of n else all_names_of n
 
-  abbrev pub bad_links : ℕ → Bool
-  bad_links n = is_marked g v n
+  -- 16, at an inode: another link count than that, 0, or one over the greatest
+  abbrev pub has_bad_links : ℕ → Bool
+  has_bad_links n = is_marked g v n
       && (not ((v.inodes n).links == links_of n) || ((v.inodes n).links == 0) || nat_lt most_links (v.inodes n).links)

@@ -10,7 +10,7 @@ use Rattle.volume.specs.Reading.{Disk, is_data_zone}
 use Rattle.volume.specs.Pieces.{Pieces, pieces}
 use Rattle.volume.specs.Nodes.{page_zone, is_mode, is_marked, nodes_of}
 use Rattle.volume.specs.Places.{zone_at, Use, IsSamePlace, has_number}
-use Rattle.volume.specs.Entries.{is_dir_inode, entries, name_at, target_at, is_field, is_name_field}
+use Rattle.volume.specs.Entries.{is_directory_inode, entry_count, name_at, target_at, is_field, is_name_field}
 
 -- each zone that is named is a data zone and named once, and the zone map is the set of these; bit 0 of both maps is set
 pub record ZonesAgree (g : Geometry) (v : Pieces) : Type 0 where
@@ -29,19 +29,19 @@ pub record IsSoundInode (g : Geometry) (v : Pieces) (i : Inode) : Type 0 where
 -- a directory has no hole and no free entry; its entries are ., .. and names that differ
 pub record IsSoundDirectory (g : Geometry) (v : Pieces) (n : ℕ) : Type 0 where
   pub sized : (v.inodes n).size % 64 ≡ 0
-  pub two : 2 ≤ entries v n
+  pub two : 2 ≤ entry_count v n
   pub whole : (p : ℕ) → p < pages_of g (v.inodes n).size → page_zone g v (v.inodes n) p ≢ 0
-  pub first : IsTrue (is_field g v n 0 dot) × (target_at g v n 0 ≡ n)
-  pub second : IsTrue (is_field g v n 1 dot_dot)
-  pub used : (e : ℕ) → e < entries v n → target_at g v n e ≢ 0
-  pub names : (e : ℕ) → 2 ≤ e → e < entries v n → IsTrue (is_name_field g v n e)
-  pub distinct : (e f : ℕ) → e < f → f < entries v n → name_at g v n e ≢ name_at g v n f
+  pub dot_entry : IsTrue (is_field g v n 0 dot) × (target_at g v n 0 ≡ n)
+  pub dot_dot_entry : IsTrue (is_field g v n 1 dot_dot)
+  pub used : (e : ℕ) → e < entry_count v n → target_at g v n e ≢ 0
+  pub names : (e : ℕ) → 2 ≤ e → e < entry_count v n → IsTrue (is_name_field g v n e)
+  pub distinct : (e f : ℕ) → e < f → f < entry_count v n → name_at g v n e ≢ name_at g v n f
 
--- the rules of the format that a tree doesn't show
+-- The rules of the format that a tree doesn't show. Those of a third kind of node, as symbolic links, join here.
 pub record IsSound (g : Geometry) (v : Pieces) : Type 0 where
   pub zones : ZonesAgree g v
   pub inodes : (n : ℕ) → IsTrue (is_marked g v n) → IsSoundInode g v (v.inodes n)
-  pub directories : (n : ℕ) → IsTrue (is_dir_inode g v n) → IsSoundDirectory g v n
+  pub directories : (n : ℕ) → IsTrue (is_directory_inode g v n) → IsSoundDirectory g v n
 
 -- the pieces are those of the tree's nodes
 pub record HoldsNodes (g : Geometry) (v : Pieces) (t : Tree) : Type 0 where
@@ -52,3 +52,7 @@ pub record HoldsNodes (g : Geometry) (v : Pieces) (t : Tree) : Type 0 where
 -- the volume's bytes hold the tree's nodes
 abbrev pub Holds : Geometry → Disk → Tree → Type 0
 Holds g d t = HoldsNodes g (pieces g d) t
+
+-- whatever two trees a volume's bytes hold, their nodes are equal
+abbrev pub OneMapOfNodes : Type 0
+OneMapOfNodes = (g : Geometry) (d : Disk) (t u : Tree) → Holds g d t → Holds g d u → t.nodes ≡ u.nodes

@@ -1,22 +1,14 @@
--- A volume's bytes as four pieces that no other bytes reach: each layer changes one of them at one key.
-use Rattle.std.specs.Prelude.{◌≡◌, ℕ, ◌+◌, ◌-◌, ◌*◌, ◌<◌, [], Bool, ◌&&◌, nat_le, if◌then◌else◌}
+-- A volume's bytes as four pieces that share no byte, so that each layer changes one of them at one key.
+use Rattle.std.specs.Prelude.{ℕ, ◌-◌, [], Bool, ◌&&◌, nat_le, if◌then◌else◌}
 use Rattle.layout.specs.declared.Geometry.{Geometry}
-use Rattle.layout.specs.Places.{table_blocks}
 use Rattle.volume.specs.declared.Inode.{Inode}
 use Rattle.volume.specs.Reading.{Disk, is_inode, is_data_zone, inode_bit, zone_bit, inode_of_disk}
 
--- What `Geometry::parse` promises of a geometry.
-pub record IsGeometry (g : Geometry) : Type 0 where
-  pub sized : 0 < g.block_size
-  pub inode_map : g.inodes < 8 * g.block_size * g.inode_map_blocks
-  pub zone_map : g.zones - g.first_zone < 8 * g.block_size * g.zone_map_blocks
-  pub first : g.first_zone ≡ 2 + g.inode_map_blocks + g.zone_map_blocks + table_blocks g
-  pub some_zone : g.first_zone < g.zones
-
+-- the inode of a number that no inode has
 abbrev pub blank : Inode
 blank = record { mode = 0; links = 0; uid = 0; gid = 0; size = 0; atime = 0; mtime = 0; ctime = 0; zones = [] }
 
--- The bits of both maps by their numbers, bit 0 among them; the inodes; the bytes of the data zones.
+-- The bits of both maps by their numbers, bit 0 among them; the inodes by their numbers; the bytes of the data zones.
 -- What lies past the last is false, blank or 0, so that a piece says nothing of other bytes.
 pub record Pieces : Type 0 where
   pub inode_map : ℕ → Bool
@@ -24,6 +16,7 @@ pub record Pieces : Type 0 where
   pub inodes : ℕ → Inode
   pub zones : ℕ → ℕ → ℕ
 
+-- the pieces of a disk
 abbrev pub pieces : Geometry → Disk → Pieces
 pieces g d = record {
   inode_map = λ n. nat_le n g.inodes && inode_bit g d n;
