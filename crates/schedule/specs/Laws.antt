@@ -1,0 +1,25 @@
+-- What holds of each beginning of a schedule.
+use Rattle.std.specs.Prelude.{◌≡◌, ℕ, List, ◌++◌}
+use Rattle.bdev.specs.DriverState.{DriverState}
+use Rattle.policy.specs.declared.Policy.{Policy}
+use Rattle.marks.specs.Marks.{IsBeginning}
+use Rattle.schedule.specs.declared.Sent.{Sent}
+use Rattle.schedule.specs.declared.Event.{Event}
+use Rattle.schedule.specs.Groups.{Group, marks_of, schedule_of, EachGroup}
+use Rattle.schedule.specs.Justified.{GroupKeeps}
+
+-- the run over these events, the first of those of these groups: its record is a beginning of theirs, and each event keeps what it must
+pub record HasBeginning (policy : Policy) (supply : ℕ) (sent : List Sent) (drivers : List DriverState) (groups : List Group) (events : List Event) : Type 0 where
+  pub first : List Group
+  pub schedule : schedule_of first ≡ events
+  pub beginning : IsBeginning (marks_of first) (marks_of groups)
+  pub keep : EachGroup (GroupKeeps policy supply sent drivers) first
+
+-- What a run keeps at each event it keeps over each beginning of its schedule. The replies sent and the drivers are those of the whole
+-- run here. What is said of how replies, drivers and calls left stand at the end isn't in it: at the end of the beginning they stood
+-- otherwise (fewer replies, fewer drivers, in other states), and the run over the beginning alone shows that in its own transcript.
+abbrev pub BeginningKeeps : Type 0
+BeginningKeeps =
+    (policy : Policy) (supply : ℕ) (sent : List Sent) (drivers : List DriverState) (groups : List Group) (events later : List Event)
+    → EachGroup (GroupKeeps policy supply sent drivers) groups → schedule_of groups ≡ events ++ later
+    → HasBeginning policy supply sent drivers groups events
