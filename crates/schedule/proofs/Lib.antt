@@ -1,1 +1,6 @@
 pub mod Beginnings
+pub mod Making
+pub mod Small
+pub mod WorkedRuns
+pub mod GivenUp
+pub mod RightRun
