@@ -3,13 +3,10 @@ use Rattle.std.specs.Prelude.{zero, suc, ◌≡◌, ℕ, List, [], ◌∷◌, �
 use Rattle.std.proofs.Common.{ap, sym, ◌∙◌}
 use Rattle.std.proofs.Math.Seq.{drop-append_seam}
 use Rattle.std.proofs.lemmas.List.{append_assoc, drop-map, length-reverse, reverse-append, reverse-reverse}
-use Rattle.bdev.specs.DriverState.{DriverState}
-use Rattle.policy.specs.declared.Policy.{Policy}
 use Rattle.marks.specs.Marks.{Mark, IsBeginning}
-use Rattle.schedule.specs.declared.Sent.{Sent}
 use Rattle.schedule.specs.declared.Event.{Event}
 use Rattle.schedule.specs.Groups.{Group, marks_of, event_of, schedule_of, EachGroup}
-use Rattle.schedule.specs.Laws.{HasBeginning, BeginningKeeps}
+use Rattle.schedule.specs.Laws.{BeginningKeeps}
 
 -- what each group keeps, each of the earlier ones keeps
 pub EachGroup-drop : (Keeps : Event → List Mark → List Group → Type 0) (n : ℕ) (groups : List Group) → EachGroup Keeps groups → EachGroup Keeps (drop n groups)
@@ -25,7 +22,7 @@ IsBeginning-drop (suc n) (g ∷ groups) =
     let sooner : IsBeginning (marks_of (drop n groups)) (marks_of groups) = IsBeginning-drop n groups in
     record {
       later = g.1 ++ sooner.later;
-      is = ap (λ marks. g.1 ++ marks) sooner.is ∙ sym (append_assoc g.1 sooner.later (marks_of (drop n groups)))
+      is = ap (λ marks. g.1 ++ marks) sooner.is ∙ sym (append_assoc g.1 sooner.later (marks_of (drop n groups)));
     }
 
 -- the events of a schedule, newest first

@@ -1,25 +1,22 @@
 -- Each driver dies as soon as it is started: starts at ticks 1, 3, 7, 15, 31, and then the device is given up.
-use Rattle.std.specs.Prelude.{zero, suc, ◌≡◌, ℕ, List, [], ◌∷◌, ◌++◌, pos, Some, None, IfSome, refl}
-use Rattle.std.proofs.Common.{inl}
+use Rattle.std.specs.Prelude.{zero, suc, ℕ, List, [], ◌∷◌, pos, None, IfSome, refl}
 use Rattle.errno.specs.declared.Errno.TheVariants.{EIO}
-use Rattle.tree.specs.declared.Who.{Who}
 use Rattle.tree.specs.declared.Call.{Call}
 use Rattle.tree.specs.declared.Call.TheVariants.{Seek}
 use Rattle.tree.specs.declared.Whence.TheVariants.{Set}
 use Rattle.tree.specs.Answers.{refused}
 use Rattle.policy.specs.Policy.{default_policy}
 use Rattle.policy.specs.Watch.{driver}
-use Rattle.marks.specs.declared.Cause.TheVariants.{Exit, Hung, Complaint}
-use Rattle.marks.specs.Marks.{Mark, Started, Answered, Flush, GaveUp, Took, Issued, Fault}
-use Rattle.schedule.specs.declared.Sent.{Sent}
+use Rattle.marks.specs.declared.Cause.TheVariants.{Exit}
+use Rattle.marks.specs.Marks.{Started, GaveUp, Took, Fault}
 use Rattle.schedule.specs.declared.Event.TheVariants as event
-use Rattle.schedule.specs.Groups.{Group, marks_of, schedule_of}
+use Rattle.schedule.specs.Groups.{Group, marks_of}
 use Rattle.schedule.specs.Lives.{state_of}
 use Rattle.schedule.specs.Faults.{FailsAtItsStep}
 use Rattle.schedule.specs.Replies.{RepliesOf}
 use Rattle.schedule.specs.Justified.{Justified}
-use Rattle.schedule.proofs.Making.{all_taken, still_wait, shown, quiet, two_is_not_one, one_is_not_two, second_is_not_first, first_is_not_second}
-use Rattle.schedule.proofs.Small.{client, stat_root, root_is, inode_block, issued_to, answer_of, replied, idle, done, working}
+use Rattle.schedule.proofs.Making.{all_taken, still_wait, shown, quiet}
+use Rattle.schedule.proofs.Small.{client, stat_root, issued_to, idle}
 
 abbrev pub seek : Call
 seek = Seek 0 Set (pos 0)

@@ -1,5 +1,5 @@
 -- How the proofs of worked runs are put together.
-use Rattle.std.specs.Prelude.{◌≡◌, ◌≢◌, ℕ, List, [], ◌∷◌, ◌++◌, true, false, None, refl}
+use Rattle.std.specs.Prelude.{◌≡◌, ℕ, List, [], ◌∷◌, ◌++◌, true, false, None, refl}
 use Rattle.std.proofs.Common.{arith, ap}
 use Rattle.endpoint.specs.declared.Endpoint.{Endpoint}
 use Rattle.bdev.specs.DriverState.{DriverState}

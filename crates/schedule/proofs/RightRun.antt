@@ -1,25 +1,24 @@
 -- A run with most of what can happen: queued calls, a flush in a call, a death twice, a bad answer of a dead driver, events that
 -- name nothing, a hang, and giving up for want of a spare.
-use Rattle.std.specs.Prelude.{zero, suc, ◌≡◌, ℕ, List, [], ◌∷◌, ◌++◌, Some, None, IfSome, refl, Err}
+use Rattle.std.specs.Prelude.{zero, suc, ℕ, List, [], ◌∷◌, None, IfSome, refl, Err}
 use Rattle.std.proofs.Common.{inl}
 use Rattle.errno.specs.declared.Errno.TheVariants.{EIO}
 use Rattle.message.specs.declared.BlockReply.{BlockReply}
-use Rattle.tree.specs.declared.Who.{Who}
 use Rattle.tree.specs.Answers.{refused}
 use Rattle.bdev.specs.DriverState.{DriverState}
 use Rattle.policy.specs.Policy.{default_policy}
 use Rattle.policy.specs.Watch.{driver}
-use Rattle.marks.specs.declared.Cause.TheVariants.{Exit, Hung, Complaint}
-use Rattle.marks.specs.Marks.{Mark, Started, Answered, Flush, GaveUp, Took, Issued, Fault}
+use Rattle.marks.specs.declared.Cause.TheVariants.{Exit, Hung}
+use Rattle.marks.specs.Marks.{Started, Answered, Flush, GaveUp, Took, Fault}
 use Rattle.schedule.specs.declared.Sent.{Sent}
 use Rattle.schedule.specs.declared.Event.TheVariants as event
-use Rattle.schedule.specs.Groups.{Group, marks_of, schedule_of}
+use Rattle.schedule.specs.Groups.{Group, marks_of}
 use Rattle.schedule.specs.Lives.{state_of}
 use Rattle.schedule.specs.Faults.{FailsAtItsStep}
 use Rattle.schedule.specs.Replies.{RepliesOf}
 use Rattle.schedule.specs.Justified.{Justified}
-use Rattle.schedule.proofs.Making.{all_taken, still_wait, shown, quiet, two_is_not_one, one_is_not_two, second_is_not_first, first_is_not_second}
-use Rattle.schedule.proofs.Small.{client, stat_root, root_is, inode_block, issued_to, answer_of, replied, idle, done, working}
+use Rattle.schedule.proofs.Making.{all_taken, still_wait, shown, quiet, one_is_not_two, second_is_not_first}
+use Rattle.schedule.proofs.Small.{client, stat_root, issued_to, idle, done}
 
 -- driver 1 answers an error
 abbrev pub bad_reply : BlockReply
@@ -57,6 +56,7 @@ right =
     ∷ (event.Arrive (client 0) 1 stat_root, issued_to 1 ∷ [])
     ∷ []
 
+-- the replies that were sent
 abbrev pub right_sent : List Sent
 right_sent = record { reply = bad_reply; place = 4 } ∷ []
 

@@ -1,6 +1,5 @@
 -- A small volume with a root alone, and a call on it: what the worked runs are made of.
-use Rattle.std.specs.Prelude.{◌≡◌, ℕ, List, [], ◌∷◌, false, codes, Option, Some, None, Result, Ok, Err, refl}
-use Rattle.std.specs.Borrow.{Bor}
+use Rattle.std.specs.Prelude.{◌≡◌, ℕ, [], ◌∷◌, false, codes, Some, None, Ok, refl}
 use Rattle.layout.specs.declared.Geometry.{Geometry}
 use Rattle.message.specs.declared.BlockReply.{BlockReply}
 use Rattle.message.specs.declared.BlockRequest.{BlockRequest}
@@ -9,7 +8,7 @@ use Rattle.tree.specs.declared.Who.{Who}
 use Rattle.tree.specs.declared.Call.{Call}
 use Rattle.tree.specs.declared.Call.TheVariants.{Stat}
 use Rattle.tree.specs.Answers.{Answer, node_is}
-use Rattle.tree.specs.Effects.{reply_to, tree_after_call}
+use Rattle.tree.specs.Effects.{reply_to}
 use Rattle.tree.specs.Laws.{fresh_tree}
 use Rattle.bdev.specs.DriverState.{DriverState}
 use Rattle.policy.specs.Watch.{driver}

@@ -1,20 +1,19 @@
 -- Worked runs of one `stat` that are justified as a whole.
-use Rattle.std.specs.Prelude.{zero, suc, ◌≡◌, ℕ, List, [], ◌∷◌, ◌++◌, Some, None, IfSome, refl}
+use Rattle.std.specs.Prelude.{zero, suc, ℕ, List, [], ◌∷◌, None, IfSome, refl}
 use Rattle.std.proofs.Common.{inl}
-use Rattle.tree.specs.declared.Who.{Who}
 use Rattle.policy.specs.Policy.{default_policy}
 use Rattle.policy.specs.Watch.{driver}
-use Rattle.marks.specs.declared.Cause.TheVariants.{Exit, Hung, Complaint}
-use Rattle.marks.specs.Marks.{Mark, Started, Answered, Flush, GaveUp, Took, Issued, Fault}
+use Rattle.marks.specs.declared.Cause.TheVariants.{Exit, Hung}
+use Rattle.marks.specs.Marks.{Started, Answered, Fault}
 use Rattle.schedule.specs.declared.Sent.{Sent}
 use Rattle.schedule.specs.declared.Event.TheVariants as event
-use Rattle.schedule.specs.Groups.{Group, marks_of, schedule_of}
+use Rattle.schedule.specs.Groups.{Group, marks_of}
 use Rattle.schedule.specs.Lives.{state_of}
 use Rattle.schedule.specs.Faults.{FailsAtItsStep}
 use Rattle.schedule.specs.Replies.{RepliesOf}
 use Rattle.schedule.specs.Justified.{Justified}
 use Rattle.schedule.proofs.Making.{all_taken, still_wait, shown, quiet, two_is_not_one, one_is_not_two, second_is_not_first, first_is_not_second}
-use Rattle.schedule.proofs.Small.{client, stat_root, root_is, inode_block, issued_to, answer_of, replied, idle, done, working}
+use Rattle.schedule.proofs.Small.{client, stat_root, issued_to, answer_of, replied, idle, done, working}
 
 -- driver 1 dies, driver 2 is started at the next tick and answers
 abbrev pub replaced : List Group
@@ -28,6 +27,7 @@ replaced =
     ∷ (event.Arrive (client 0) 100 stat_root, issued_to 1 ∷ [])
     ∷ []
 
+-- the replies that were sent
 abbrev pub replaced_sent : List Sent
 replaced_sent = record { reply = answer_of 2; place = 5 } ∷ []
 
@@ -110,6 +110,7 @@ hung =
     ∷ (event.Arrive (client 0) 100 stat_root, issued_to 1 ∷ [])
     ∷ []
 
+-- the replies that were sent
 abbrev pub hung_sent : List Sent
 hung_sent = record { reply = answer_of 1; place = 2 } ∷ record { reply = answer_of 2; place = 10 } ∷ []
 
@@ -154,6 +155,7 @@ repeated =
     ∷ (event.Arrive (client 0) 100 stat_root, issued_to 1 ∷ [])
     ∷ []
 
+-- the replies that were sent
 abbrev pub repeated_sent : List Sent
 repeated_sent = record { reply = answer_of 1; place = 2 } ∷ []
 
@@ -194,6 +196,7 @@ queued =
     ∷ (event.Arrive (client 0) 100 stat_root, issued_to 1 ∷ [])
     ∷ []
 
+-- the replies that were sent
 abbrev pub queued_sent : List Sent
 queued_sent = record { reply = answer_of 1; place = 3 } ∷ []
 

@@ -1,24 +1,20 @@
 -- Runs with wrong calls and flushes: each is refused by the clause that its proof names.
 use Rattle.std.specs.Prelude.{◌≡◌, ◌≢◌, ℕ, List, [], ◌∷◌, ◌++◌, length, drop, true, false, None, refl}
 use Rattle.std.proofs.Common.{ap}
-use Rattle.errno.specs.declared.Errno.TheVariants.{EIO}
-use Rattle.endpoint.specs.declared.Endpoint.{Endpoint}
 use Rattle.bdev.specs.DriverState.{DriverState}
 use Rattle.policy.specs.Policy.{default_policy}
 use Rattle.policy.specs.Watch.{driver}
-use Rattle.tree.specs.declared.Who.{Who}
-use Rattle.tree.specs.Answers.{refused}
 use Rattle.marks.specs.Open.{is_unfinished}
-use Rattle.marks.specs.Marks.{Mark, gave_up, Started, Answered, Flush, GaveUp, Took, Issued, Fault}
-use Rattle.marks.specs.declared.Cause.TheVariants.{Exit, Hung, Complaint}
+use Rattle.marks.specs.Marks.{gave_up, Answered, Flush, GaveUp, Fault}
+use Rattle.marks.specs.declared.Cause.TheVariants.{Exit}
 use Rattle.schedule.specs.declared.Sent.{Sent}
 use Rattle.schedule.specs.declared.Event.TheVariants as event
 use Rattle.schedule.specs.Groups.{Group, marks_of}
-use Rattle.schedule.specs.Calls.{Arrival, arrived, taken, MayWait, CallsSoFar, IsUnanswered}
+use Rattle.schedule.specs.Calls.{Arrival, arrived, taken, MayWait, CallsSoFar}
 use Rattle.schedule.specs.Justified.{Justified}
 use Rattle.schedule.proofs.WorkedRuns.{waits, replaced, queued}
 use Rattle.schedule.proofs.GivenUp.{given_up}
-use Rattle.schedule.proofs.Small.{client, stat_root, root_is, inode_block, issued_to, answer_of, replied, idle, done, working}
+use Rattle.schedule.proofs.Small.{client, stat_root, answer_of, replied}
 
 -- where a call may not wait, each that arrived was taken
 all_are_taken : (groups : List Group) → CallsSoFar groups → (MayWait (marks_of groups) → ⊥) → arrived groups ≡ taken (marks_of groups)

@@ -1,21 +1,21 @@
 -- Runs with wrong exits, missed heartbeats and complaints: each is refused by the clause that its proof names.
-use Rattle.std.specs.Prelude.{◌≡◌, ◌⊎◌, ℕ, List, [], ◌∷◌, ◌++◌, Bool, true, false, Option, Some, None, refl}
+use Rattle.std.specs.Prelude.{◌≡◌, ◌⊎◌, ℕ, List, [], ◌∷◌, true, false, Option, Some, None, refl}
 use Rattle.std.proofs.Common.{inl, inr}
 use Rattle.endpoint.specs.declared.Endpoint.{Endpoint}
 use Rattle.bdev.specs.DriverState.{DriverState}
 use Rattle.policy.specs.Policy.{default_policy}
 use Rattle.policy.specs.Watch.{driver}
-use Rattle.marks.specs.Marks.{Mark, Started, Answered, Flush, GaveUp, Took, Issued, Fault}
+use Rattle.marks.specs.Marks.{Mark, Started, Answered, Flush, Fault}
 use Rattle.marks.specs.declared.Cause.TheVariants.{Exit, Hung, Complaint}
 use Rattle.schedule.specs.declared.Sent.{Sent}
 use Rattle.schedule.specs.declared.Event.TheVariants as event
-use Rattle.schedule.specs.Groups.{Group, marks_of}
+use Rattle.schedule.specs.Groups.{Group}
 use Rattle.schedule.specs.Lives.{exits_in}
 use Rattle.schedule.specs.Faults.{ExitsAtStep, FailsAtItsStep}
 use Rattle.schedule.specs.Justified.{Justified}
 use Rattle.schedule.proofs.WorkedRuns.{waits}
 use Rattle.schedule.proofs.RightRun.{bad_reply}
-use Rattle.schedule.proofs.Small.{client, stat_root, root_is, inode_block, issued_to, answer_of, replied, idle, done, working}
+use Rattle.schedule.proofs.Small.{issued_to, answer_of, idle, working}
 
 -- driver 1 was replaced by driver 2
 abbrev after_first : List Group

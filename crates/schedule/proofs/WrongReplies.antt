@@ -1,21 +1,19 @@
 -- Runs with wrong replies and answers: each is refused by the clause that its proof names.
-use Rattle.std.specs.Prelude.{◌≡◌, ℕ, List, [], ◌∷◌, ◌++◌, drop, true, false, Option, Some, None, refl}
+use Rattle.std.specs.Prelude.{◌≡◌, ℕ, List, [], ◌∷◌, drop, true, false, Some, None, refl}
 use Rattle.message.specs.declared.BlockReply.{BlockReply}
-use Rattle.endpoint.specs.declared.Endpoint.{Endpoint}
 use Rattle.bdev.specs.DriverState.{DriverState}
 use Rattle.policy.specs.Policy.{default_policy}
 use Rattle.policy.specs.Watch.{driver}
-use Rattle.marks.specs.Marks.{Mark, Started, Answered, Flush, GaveUp, Took, Issued, Fault}
-use Rattle.marks.specs.declared.Cause.TheVariants.{Exit, Hung, Complaint}
+use Rattle.marks.specs.Marks.{Started, Answered, GaveUp, Fault}
+use Rattle.marks.specs.declared.Cause.TheVariants.{Exit, Complaint}
 use Rattle.schedule.specs.declared.Sent.{Sent}
 use Rattle.schedule.specs.declared.Event.TheVariants as event
 use Rattle.schedule.specs.Groups.{Group, marks_of}
-use Rattle.schedule.specs.Lives.{state_of}
-use Rattle.schedule.specs.Replies.{IsSentAtItsStep, RepliesOf}
+use Rattle.schedule.specs.Replies.{RepliesOf}
 use Rattle.schedule.specs.Justified.{Justified}
 use Rattle.schedule.proofs.WorkedRuns.{waits, replaced, replaced_sent, hung, hung_sent, repeated}
 use Rattle.schedule.proofs.RightRun.{bad_reply}
-use Rattle.schedule.proofs.Small.{client, stat_root, root_is, inode_block, issued_to, answer_of, replied, idle, done, working}
+use Rattle.schedule.proofs.Small.{client, stat_root, issued_to, answer_of, replied, idle, done, working}
 
 -- two steps of driver 1, after its request was issued
 abbrev stepped : List Group

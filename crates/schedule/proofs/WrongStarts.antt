@@ -1,18 +1,18 @@
 -- Runs with wrong starts and wrong giving up: each is refused by the clause that its proof names.
-use Rattle.std.specs.Prelude.{◌≡◌, ℕ, List, [], ◌∷◌, ◌++◌, drop, true, false, None}
+use Rattle.std.specs.Prelude.{◌≡◌, ℕ, List, [], ◌∷◌, drop, true, false, None}
 use Rattle.endpoint.specs.declared.Endpoint.{Endpoint}
 use Rattle.bdev.specs.DriverState.{DriverState}
 use Rattle.policy.specs.Policy.{default_policy}
 use Rattle.policy.specs.Watch.{driver}
-use Rattle.marks.specs.Marks.{Mark, Started, Answered, Flush, GaveUp, Took, Issued, Fault}
-use Rattle.marks.specs.declared.Cause.TheVariants.{Exit, Hung, Complaint}
+use Rattle.marks.specs.Marks.{Mark, Started, GaveUp, Fault}
+use Rattle.marks.specs.declared.Cause.TheVariants.{Exit}
 use Rattle.schedule.specs.declared.Sent.{Sent}
 use Rattle.schedule.specs.declared.Event.TheVariants as event
-use Rattle.schedule.specs.Groups.{Group, marks_of}
+use Rattle.schedule.specs.Groups.{Group}
 use Rattle.schedule.specs.Justified.{Justified}
 use Rattle.schedule.proofs.WorkedRuns.{waits}
 use Rattle.schedule.proofs.GivenUp.{given_up}
-use Rattle.schedule.proofs.Small.{client, stat_root, root_is, inode_block, issued_to, answer_of, replied, idle, done, working}
+use Rattle.schedule.proofs.Small.{issued_to}
 
 -- driver 1 died at tick 0
 abbrev first_died : List Group

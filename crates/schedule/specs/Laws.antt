@@ -1,4 +1,4 @@
--- What holds of each beginning of a schedule.
+-- What holds of each beginning of a schedule, and of the refusals of a run.
 use Rattle.std.specs.Prelude.{◌≡◌, ℕ, List, ◌++◌}
 use Rattle.bdev.specs.DriverState.{DriverState}
 use Rattle.policy.specs.declared.Policy.{Policy}
@@ -7,6 +7,8 @@ use Rattle.schedule.specs.declared.Sent.{Sent}
 use Rattle.schedule.specs.declared.Event.{Event}
 use Rattle.schedule.specs.Groups.{Group, marks_of, schedule_of, EachGroup}
 use Rattle.schedule.specs.Justified.{GroupKeeps}
+use Rattle.schedule.specs.Headline.{Range}
+use Rattle.schedule.specs.Refusals.{Start, Refusal, IsRefusedFor, IsAccepted}
 
 -- the run over these events, the first of those of these groups: its record is a beginning of theirs, and each event keeps what it must
 pub record HasBeginning (policy : Policy) (supply : ℕ) (sent : List Sent) (drivers : List DriverState) (groups : List Group) (events : List Event) : Type 0 where
@@ -23,3 +25,11 @@ BeginningKeeps =
     (policy : Policy) (supply : ℕ) (sent : List Sent) (drivers : List DriverState) (groups : List Group) (events later : List Event)
     → EachGroup (GroupKeeps policy supply sent drivers) groups → schedule_of groups ≡ events ++ later
     → HasBeginning policy supply sent drivers groups events
+
+-- a run is refused for one reason alone
+abbrev pub RefusedForOne : Type 0
+RefusedForOne = (start : Start) (a b : Refusal) → IsRefusedFor start a → IsRefusedFor start b → a ≡ b
+
+-- a run that is refused isn't accepted
+abbrev pub RefusedOrAccepted : Type 0
+RefusedOrAccepted = (start : Start) (a : Refusal) (range : Range) → IsRefusedFor start a → IsAccepted start range → ⊥

@@ -5,7 +5,6 @@ use Rattle.bdev.specs.DriverState.{DriverState}
 use Rattle.policy.specs.Watch.{driver}
 use Rattle.marks.specs.Marks.{Mark, Fault, is_endpoint}
 use Rattle.marks.specs.declared.Cause.TheVariants.{Exit}
-use Rattle.schedule.specs.declared.Event.{Event}
 use Rattle.schedule.specs.declared.Event.TheVariants as event
 use Rattle.schedule.specs.Groups.{Group, marks_of, running, generation}
 

@@ -4,7 +4,7 @@
 //! A driver is live from its start until it dies or fails. An event that names nothing has no effect.
 #![tactic(auto)]
 
-ghost use Rattle.schedule.specs.Laws.{BeginningKeeps};
+ghost use Rattle.schedule.specs.Laws.{BeginningKeeps, RefusedForOne, RefusedOrAccepted};
 
 use message::BlockReply;
 use tree::{Call, Who};
@@ -47,4 +47,11 @@ pub struct Sent {
 #[tactic(auto, using(crate::proofs::Beginnings::beginning_keeps))]
 pub fn beginning_keeps()
     ensures { BeginningKeeps }
+{}
+
+/// A run is refused for one reason alone, and one that is refused isn't accepted.
+#[tactic(auto, using(crate::proofs::OneRefusal::refused_for_one, crate::proofs::OneRefusal::refused_or_accepted))]
+pub fn one_refusal()
+    ensures refused { RefusedForOne }
+    ensures accepted { RefusedOrAccepted }
 {}
