@@ -32,14 +32,15 @@ pub shown : {policy : Policy} {supply : ℕ} {sent : List Sent} {drivers : List 
     → is_given_up_after_fault group (marks_of earlier) ≡ true → IssuesFollow [] group (marks_of earlier) → answers_in group ≡ answers_due sent event earlier
     → flushes_in group ≡ flushes_due event → CallsSoFar ((event, group) ∷ earlier) → GroupKeeps policy supply sent drivers event group earlier
 shown exits hung complaints starts times after_fault issues answers flushes calls = record {
-  exits = exits;
-  hung = hung;
-  complaints = complaints;
-  starts = starts;
-  giving_up = record { times = times; after_fault = after_fault };
-  issues = issues;
-  answers = answers;
-  flushes = flushes;
+  faults = record {
+    exits = exits;
+    hung = hung;
+    complaints = complaints;
+    starts = starts;
+    giving_up = record { times = times; after_fault = after_fault };
+    issues = issues;
+  };
+  answers = record { answered = answers; flushed = flushes };
   calls = calls;
 }
 

@@ -1,5 +1,5 @@
 -- A small volume with a root alone, and a call on it: what the worked runs are made of.
-use Rattle.std.specs.Prelude.{◌≡◌, ℕ, [], ◌∷◌, false, codes, Some, None, Ok, refl}
+use Rattle.std.specs.Prelude.{List, ◌≡◌, ℕ, [], ◌∷◌, false, codes, Some, None, Ok, refl}
 use Rattle.layout.specs.declared.Geometry.{Geometry}
 use Rattle.message.specs.declared.BlockReply.{BlockReply}
 use Rattle.message.specs.declared.BlockRequest.{BlockRequest}
@@ -12,6 +12,7 @@ use Rattle.tree.specs.Effects.{reply_to}
 use Rattle.tree.specs.Laws.{fresh_tree}
 use Rattle.bdev.specs.DriverState.{DriverState}
 use Rattle.policy.specs.Watch.{driver}
+use Rattle.schedule.specs.Calls.{Arrival}
 use Rattle.marks.specs.Marks.{Mark, Took, Issued}
 
 -- 64 blocks of 1024 bytes with 32 inodes
@@ -22,10 +23,15 @@ small = record { block_size = 1024; inodes = 32; zones = 64; inode_map_blocks = 
 abbrev pub client : ℕ → Who
 client session = record { session = session; uid = 0; gid = 0 }
 
+-- `stat /`
 abbrev pub stat_root : Call
 stat_root = Stat (record { ref_ptr = (0, 0); now = codes "/" })
 
--- the attributes of a root made at 50
+-- the call of session 0, which waits
+abbrev pub first_call : List Arrival
+first_call = (client 0, 100, stat_root) ∷ []
+
+-- its root, made at 50
 abbrev pub root_is : Answer
 root_is = node_is (record { inode = 1; mode = 16877; links = 2; uid = 0; gid = 0; size = 128; atime = 50; mtime = 50; ctime = 50 })
 
@@ -37,12 +43,15 @@ row_root_is = refl
 abbrev pub inode_block : BlockRequest
 inode_block = record { id = 1; kind = Read; minor = 0; position = 4096; count = 1024; bytes = [] }
 
+-- it is issued to driver g
 abbrev pub issued_to : ℕ → Mark
 issued_to g = Issued inode_block (driver g)
 
+-- driver g's good reply to it
 abbrev pub answer_of : ℕ → BlockReply
 answer_of g = record { from = driver g; id = 1; outcome = Ok 1024; bytes = [] }
 
+-- the call of this session gets its reply
 abbrev pub replied : ℕ → Mark
 replied session = Took (client session) 100 stat_root root_is
 

@@ -1,5 +1,5 @@
 -- Worked runs of one `stat` that are justified as a whole.
-use Rattle.std.specs.Prelude.{zero, suc, ℕ, List, [], ◌∷◌, None, IfSome, refl}
+use Rattle.std.specs.Prelude.{zero, suc, ◌≡◌, ℕ, List, [], ◌∷◌, None, IfSome, refl}
 use Rattle.std.proofs.Common.{inl}
 use Rattle.policy.specs.Policy.{default_policy}
 use Rattle.policy.specs.Watch.{driver}
@@ -7,13 +7,13 @@ use Rattle.marks.specs.declared.Cause.TheVariants.{Exit, Hung}
 use Rattle.marks.specs.Marks.{Started, Answered, Fault}
 use Rattle.schedule.specs.declared.Sent.{Sent}
 use Rattle.schedule.specs.declared.Event.TheVariants as event
-use Rattle.schedule.specs.Groups.{Group, marks_of}
+use Rattle.schedule.specs.Groups.{Group, marks_of, schedule_of}
 use Rattle.schedule.specs.Lives.{state_of}
 use Rattle.schedule.specs.Faults.{FailsAtItsStep}
 use Rattle.schedule.specs.Replies.{RepliesOf}
 use Rattle.schedule.specs.Justified.{Justified}
 use Rattle.schedule.proofs.Making.{all_taken, still_wait, shown, quiet, two_is_not_one, one_is_not_two, second_is_not_first, first_is_not_second}
-use Rattle.schedule.proofs.Small.{client, stat_root, issued_to, answer_of, replied, idle, done, working}
+use Rattle.schedule.proofs.Small.{client, stat_root, first_call, issued_to, answer_of, replied, idle, done, working}
 
 -- driver 1 dies, driver 2 is started at the next tick and answers
 abbrev pub replaced : List Group
@@ -26,6 +26,14 @@ replaced =
     ∷ (event.Step 1, [])
     ∷ (event.Arrive (client 0) 100 stat_root, issued_to 1 ∷ [])
     ∷ []
+
+-- its events, oldest first
+replaced_schedule : schedule_of replaced ≡ event.Arrive (client 0) 100 stat_root ∷ event.Step 1 ∷ event.Die 1 None ∷ event.Tick ∷ event.Step 2 ∷ event.Step 2 ∷ event.Deliver 0 ∷ []
+replaced_schedule = refl
+
+-- its record, newest first
+replaced_record : marks_of replaced ≡ replied 0 ∷ Answered (answer_of 2) ∷ issued_to 2 ∷ Started (driver 2) ∷ Fault (driver 1) Exit ∷ issued_to 1 ∷ Started (driver 1) ∷ []
+replaced_record = refl
 
 -- the replies that were sent
 abbrev pub replaced_sent : List Sent
@@ -48,16 +56,31 @@ replaced_replies (suc (suc (suc g))) = tt
 -- the run is justified
 replaced_justified : Justified default_policy 6 replaced replaced_sent (working ∷ done ∷ []) 0
 replaced_justified = record {
-  events = (shown refl refl (refl, (refl, refl)) refl refl refl (tt, (tt, tt)) refl refl (all_taken refl), (quiet (inl refl) refl refl refl refl (still_wait ((client 0, 100, stat_root) ∷ []) refl refl refl), (quiet (inl refl) refl refl refl refl (still_wait ((client 0, 100, stat_root) ∷ []) refl refl refl), (shown refl refl (refl, (refl, refl)) refl refl refl (tt, (([], refl), tt)) refl refl (still_wait ((client 0, 100, stat_root) ∷ []) refl refl refl), (shown refl refl (refl, refl) refl refl refl (tt, tt) refl refl (still_wait ((client 0, 100, stat_root) ∷ []) refl refl refl), (quiet (inl refl) refl refl refl refl (still_wait ((client 0, 100, stat_root) ∷ []) refl refl refl), (shown refl refl (refl, refl) refl refl refl (tt, tt) refl refl (still_wait ((client 0, 100, stat_root) ∷ []) refl refl refl), tt)))))));
-  end = record {
-    all_drivers = refl;
-    running = refl;
-    failures = replaced_failures;
-    order = refl;
-    steps = (record { from = refl; step = refl; live = refl; asked = refl }, tt);
-    replies = replaced_replies;
-    unanswered = record { left = []; order = refl; number = refl };
-  };
+  events = (
+    shown refl refl (refl, (refl, refl)) refl refl refl (tt, (tt, tt)) refl refl (all_taken refl),
+    (
+      quiet (inl refl) refl refl refl refl (still_wait first_call refl refl refl),
+      (
+        quiet (inl refl) refl refl refl refl (still_wait first_call refl refl refl),
+        (
+          shown refl refl (refl, (refl, refl)) refl refl refl (tt, (([], refl), tt)) refl refl (still_wait first_call refl refl refl),
+          (
+            shown refl refl (refl, refl) refl refl refl (tt, tt) refl refl (still_wait first_call refl refl refl),
+            (
+              quiet (inl refl) refl refl refl refl (still_wait first_call refl refl refl),
+              (
+                shown refl refl (refl, refl) refl refl refl (tt, tt) refl refl (still_wait first_call refl refl refl),
+                tt,
+              ),
+            ),
+          ),
+        ),
+      ),
+    ),
+  );
+  drivers_stand = record { all = refl; sound = refl; failures = replaced_failures };
+  replies_stand = record { order = refl; steps = (record { from = refl; step = refl; live = refl; asked = refl }, tt); own = replaced_replies };
+  calls_left = record { left = []; order = refl; number = refl };
 }
 
 -- the call waits on a request when the schedule ends
@@ -81,16 +104,13 @@ waits_replies (suc (suc g)) = tt
 -- the run is justified
 waits_justified : Justified default_policy 6 waits [] (idle ∷ []) 1
 waits_justified = record {
-  events = (shown refl refl (refl, refl) refl refl refl (tt, tt) refl refl (still_wait ((client 0, 100, stat_root) ∷ []) refl refl refl), tt);
-  end = record {
-    all_drivers = refl;
-    running = refl;
-    failures = waits_failures;
-    order = refl;
-    steps = tt;
-    replies = waits_replies;
-    unanswered = record { left = (client 0, 100, stat_root) ∷ []; order = refl; number = refl };
-  };
+  events = (
+    shown refl refl (refl, refl) refl refl refl (tt, tt) refl refl (still_wait first_call refl refl refl),
+    tt,
+  );
+  drivers_stand = record { all = refl; sound = refl; failures = waits_failures };
+  replies_stand = record { order = refl; steps = tt; own = waits_replies };
+  calls_left = record { left = first_call; order = refl; number = refl };
 }
 
 -- driver 1 answers and hangs; it is found out at the third tick, driver 2 starts at the fourth, and the old answer leaves no mark
@@ -131,16 +151,46 @@ hung_replies (suc (suc (suc g))) = tt
 -- the run is justified
 hung_justified : Justified default_policy 6 hung hung_sent (done ∷ done ∷ []) 0
 hung_justified = record {
-  events = (shown refl refl (refl, (refl, refl)) refl refl refl (tt, (tt, tt)) refl refl (all_taken refl), (quiet (inl refl) refl refl refl refl (still_wait ((client 0, 100, stat_root) ∷ []) refl refl refl), (quiet (inl refl) refl refl refl refl (still_wait ((client 0, 100, stat_root) ∷ []) refl refl refl), (quiet refl refl refl refl refl (still_wait ((client 0, 100, stat_root) ∷ []) refl refl refl), (shown refl refl (refl, (refl, refl)) refl refl refl (tt, (([], refl), tt)) refl refl (still_wait ((client 0, 100, stat_root) ∷ []) refl refl refl), (shown refl refl (refl, refl) refl refl refl (tt, tt) refl refl (still_wait ((client 0, 100, stat_root) ∷ []) refl refl refl), (quiet refl refl refl refl refl (still_wait ((client 0, 100, stat_root) ∷ []) refl refl refl), (quiet refl refl refl refl refl (still_wait ((client 0, 100, stat_root) ∷ []) refl refl refl), (quiet refl refl refl refl refl (still_wait ((client 0, 100, stat_root) ∷ []) refl refl refl), (quiet (inl refl) refl refl refl refl (still_wait ((client 0, 100, stat_root) ∷ []) refl refl refl), (quiet (inl refl) refl refl refl refl (still_wait ((client 0, 100, stat_root) ∷ []) refl refl refl), (shown refl refl (refl, refl) refl refl refl (tt, tt) refl refl (still_wait ((client 0, 100, stat_root) ∷ []) refl refl refl), tt))))))))))));
-  end = record {
-    all_drivers = refl;
-    running = refl;
-    failures = hung_failures;
-    order = refl;
-    steps = (record { from = refl; step = refl; live = refl; asked = refl }, (record { from = refl; step = refl; live = refl; asked = refl }, tt));
-    replies = hung_replies;
-    unanswered = record { left = []; order = refl; number = refl };
-  };
+  events = (
+    shown refl refl (refl, (refl, refl)) refl refl refl (tt, (tt, tt)) refl refl (all_taken refl),
+    (
+      quiet (inl refl) refl refl refl refl (still_wait first_call refl refl refl),
+      (
+        quiet (inl refl) refl refl refl refl (still_wait first_call refl refl refl),
+        (
+          quiet refl refl refl refl refl (still_wait first_call refl refl refl),
+          (
+            shown refl refl (refl, (refl, refl)) refl refl refl (tt, (([], refl), tt)) refl refl (still_wait first_call refl refl refl),
+            (
+              shown refl refl (refl, refl) refl refl refl (tt, tt) refl refl (still_wait first_call refl refl refl),
+              (
+                quiet refl refl refl refl refl (still_wait first_call refl refl refl),
+                (
+                  quiet refl refl refl refl refl (still_wait first_call refl refl refl),
+                  (
+                    quiet refl refl refl refl refl (still_wait first_call refl refl refl),
+                    (
+                      quiet (inl refl) refl refl refl refl (still_wait first_call refl refl refl),
+                      (
+                        quiet (inl refl) refl refl refl refl (still_wait first_call refl refl refl),
+                        (
+                          shown refl refl (refl, refl) refl refl refl (tt, tt) refl refl (still_wait first_call refl refl refl),
+                          tt,
+                        ),
+                      ),
+                    ),
+                  ),
+                ),
+              ),
+            ),
+          ),
+        ),
+      ),
+    ),
+  );
+  drivers_stand = record { all = refl; sound = refl; failures = hung_failures };
+  replies_stand = record { order = refl; steps = (record { from = refl; step = refl; live = refl; asked = refl }, (record { from = refl; step = refl; live = refl; asked = refl }, tt)); own = hung_replies };
+  calls_left = record { left = []; order = refl; number = refl };
 }
 
 -- a request is repeated after its reply, and the reply is delivered twice
@@ -174,16 +224,31 @@ repeated_replies (suc (suc g)) = tt
 -- the run is justified
 repeated_justified : Justified default_policy 6 repeated repeated_sent (done ∷ []) 0
 repeated_justified = record {
-  events = (quiet refl refl refl refl refl (all_taken refl), (shown refl refl (refl, (refl, refl)) refl refl refl (tt, (tt, tt)) refl refl (all_taken refl), (quiet (inl refl) refl refl refl refl (still_wait ((client 0, 100, stat_root) ∷ []) refl refl refl), (quiet refl refl refl refl refl (still_wait ((client 0, 100, stat_root) ∷ []) refl refl refl), (quiet (inl refl) refl refl refl refl (still_wait ((client 0, 100, stat_root) ∷ []) refl refl refl), (quiet (inl refl) refl refl refl refl (still_wait ((client 0, 100, stat_root) ∷ []) refl refl refl), (shown refl refl (refl, refl) refl refl refl (tt, tt) refl refl (still_wait ((client 0, 100, stat_root) ∷ []) refl refl refl), tt)))))));
-  end = record {
-    all_drivers = refl;
-    running = refl;
-    failures = repeated_failures;
-    order = refl;
-    steps = (record { from = refl; step = refl; live = refl; asked = refl }, tt);
-    replies = repeated_replies;
-    unanswered = record { left = []; order = refl; number = refl };
-  };
+  events = (
+    quiet refl refl refl refl refl (all_taken refl),
+    (
+      shown refl refl (refl, (refl, refl)) refl refl refl (tt, (tt, tt)) refl refl (all_taken refl),
+      (
+        quiet (inl refl) refl refl refl refl (still_wait first_call refl refl refl),
+        (
+          quiet refl refl refl refl refl (still_wait first_call refl refl refl),
+          (
+            quiet (inl refl) refl refl refl refl (still_wait first_call refl refl refl),
+            (
+              quiet (inl refl) refl refl refl refl (still_wait first_call refl refl refl),
+              (
+                shown refl refl (refl, refl) refl refl refl (tt, tt) refl refl (still_wait first_call refl refl refl),
+                tt,
+              ),
+            ),
+          ),
+        ),
+      ),
+    ),
+  );
+  drivers_stand = record { all = refl; sound = refl; failures = repeated_failures };
+  replies_stand = record { order = refl; steps = (record { from = refl; step = refl; live = refl; asked = refl }, tt); own = repeated_replies };
+  calls_left = record { left = []; order = refl; number = refl };
 }
 
 -- a second call is queued and answered from the same block
@@ -215,16 +280,25 @@ queued_replies (suc (suc g)) = tt
 -- the run is justified
 queued_justified : Justified default_policy 6 queued queued_sent (done ∷ []) 0
 queued_justified = record {
-  events = (shown refl refl (refl, (refl, (refl, refl))) refl refl refl (tt, (tt, (tt, tt))) refl refl (all_taken refl), (quiet (inl refl) refl refl refl refl (still_wait ((client 1, 100, stat_root) ∷ (client 0, 100, stat_root) ∷ []) refl refl refl), (quiet (inl refl) refl refl refl refl (still_wait ((client 1, 100, stat_root) ∷ (client 0, 100, stat_root) ∷ []) refl refl refl), (quiet refl refl refl refl refl (still_wait ((client 1, 100, stat_root) ∷ (client 0, 100, stat_root) ∷ []) refl refl refl), (shown refl refl (refl, refl) refl refl refl (tt, tt) refl refl (still_wait ((client 0, 100, stat_root) ∷ []) refl refl refl), tt)))));
-  end = record {
-    all_drivers = refl;
-    running = refl;
-    failures = queued_failures;
-    order = refl;
-    steps = (record { from = refl; step = refl; live = refl; asked = refl }, tt);
-    replies = queued_replies;
-    unanswered = record { left = []; order = refl; number = refl };
-  };
+  events = (
+    shown refl refl (refl, (refl, (refl, refl))) refl refl refl (tt, (tt, (tt, tt))) refl refl (all_taken refl),
+    (
+      quiet (inl refl) refl refl refl refl (still_wait ((client 1, 100, stat_root) ∷ (client 0, 100, stat_root) ∷ []) refl refl refl),
+      (
+        quiet (inl refl) refl refl refl refl (still_wait ((client 1, 100, stat_root) ∷ (client 0, 100, stat_root) ∷ []) refl refl refl),
+        (
+          quiet refl refl refl refl refl (still_wait ((client 1, 100, stat_root) ∷ (client 0, 100, stat_root) ∷ []) refl refl refl),
+          (
+            shown refl refl (refl, refl) refl refl refl (tt, tt) refl refl (still_wait first_call refl refl refl),
+            tt,
+          ),
+        ),
+      ),
+    ),
+  );
+  drivers_stand = record { all = refl; sound = refl; failures = queued_failures };
+  replies_stand = record { order = refl; steps = (record { from = refl; step = refl; live = refl; asked = refl }, tt); own = queued_replies };
+  calls_left = record { left = []; order = refl; number = refl };
 }
 
 -- a reply that was not sent yet, and one that never is, are delivered
@@ -251,14 +325,20 @@ not_sent_yet_replies (suc (suc g)) = tt
 -- the run is justified
 not_sent_yet_justified : Justified default_policy 6 not_sent_yet [] (working ∷ []) 1
 not_sent_yet_justified = record {
-  events = (quiet refl refl refl refl refl (still_wait ((client 0, 100, stat_root) ∷ []) refl refl refl), (quiet refl refl refl refl refl (still_wait ((client 0, 100, stat_root) ∷ []) refl refl refl), (quiet (inl refl) refl refl refl refl (still_wait ((client 0, 100, stat_root) ∷ []) refl refl refl), (shown refl refl (refl, refl) refl refl refl (tt, tt) refl refl (still_wait ((client 0, 100, stat_root) ∷ []) refl refl refl), tt))));
-  end = record {
-    all_drivers = refl;
-    running = refl;
-    failures = not_sent_yet_failures;
-    order = refl;
-    steps = tt;
-    replies = not_sent_yet_replies;
-    unanswered = record { left = (client 0, 100, stat_root) ∷ []; order = refl; number = refl };
-  };
+  events = (
+    quiet refl refl refl refl refl (still_wait first_call refl refl refl),
+    (
+      quiet refl refl refl refl refl (still_wait first_call refl refl refl),
+      (
+        quiet (inl refl) refl refl refl refl (still_wait first_call refl refl refl),
+        (
+          shown refl refl (refl, refl) refl refl refl (tt, tt) refl refl (still_wait first_call refl refl refl),
+          tt,
+        ),
+      ),
+    ),
+  );
+  drivers_stand = record { all = refl; sound = refl; failures = not_sent_yet_failures };
+  replies_stand = record { order = refl; steps = tt; own = not_sent_yet_replies };
+  calls_left = record { left = first_call; order = refl; number = refl };
 }
