@@ -15,7 +15,7 @@ use Rattle.schedule.specs.Lives.{state_of}
 use Rattle.schedule.specs.Faults.{FailsAtItsStep}
 use Rattle.schedule.specs.Replies.{RepliesOf}
 use Rattle.schedule.specs.Justified.{Justified}
-use Rattle.schedule.proofs.Making.{all_taken, still_wait, shown, quiet}
+use Rattle.schedule.proofs.Making.{◌▸◌, all_taken, still_wait, shown, quiet}
 use Rattle.schedule.proofs.Small.{client, stat_root, first_call, issued_to, idle}
 
 abbrev pub seek : Call
@@ -90,124 +90,47 @@ given_up_replies (suc (suc (suc (suc (suc (suc (suc g))))))) = tt
 -- the run is justified
 given_up_justified : Justified default_policy 7 given_up [] (idle ∷ idle ∷ idle ∷ idle ∷ idle ∷ idle ∷ []) 0
 given_up_justified = record {
-  events = (
-    shown refl refl (refl, refl) refl refl refl (tt, tt) refl refl (all_taken refl),
-    (
-      shown refl refl (refl, (refl, (refl, refl))) refl refl refl (tt, (tt, (tt, tt))) refl refl (all_taken refl),
-      (
-        shown refl refl (refl, (refl, refl)) refl refl refl (tt, (([], refl), tt)) refl refl (still_wait first_call refl refl refl),
-        (
-          quiet refl refl refl refl refl (still_wait first_call refl refl refl),
-          (
-            quiet refl refl refl refl refl (still_wait first_call refl refl refl),
-            (
-              quiet refl refl refl refl refl (still_wait first_call refl refl refl),
-              (
-                quiet refl refl refl refl refl (still_wait first_call refl refl refl),
-                (
-                  quiet refl refl refl refl refl (still_wait first_call refl refl refl),
-                  (
-                    quiet refl refl refl refl refl (still_wait first_call refl refl refl),
-                    (
-                      quiet refl refl refl refl refl (still_wait first_call refl refl refl),
-                      (
-                        quiet refl refl refl refl refl (still_wait first_call refl refl refl),
-                        (
-                          quiet refl refl refl refl refl (still_wait first_call refl refl refl),
-                          (
-                            quiet refl refl refl refl refl (still_wait first_call refl refl refl),
-                            (
-                              quiet refl refl refl refl refl (still_wait first_call refl refl refl),
-                              (
-                                quiet refl refl refl refl refl (still_wait first_call refl refl refl),
-                                (
-                                  quiet refl refl refl refl refl (still_wait first_call refl refl refl),
-                                  (
-                                    quiet refl refl refl refl refl (still_wait first_call refl refl refl),
-                                    (
-                                      quiet refl refl refl refl refl (still_wait first_call refl refl refl),
-                                      (
-                                        shown refl refl (refl, refl) refl refl refl (tt, tt) refl refl (still_wait first_call refl refl refl),
-                                        (
-                                          shown refl refl (refl, (refl, refl)) refl refl refl (tt, (([], refl), tt)) refl refl (still_wait first_call refl refl refl),
-                                          (
-                                            quiet refl refl refl refl refl (still_wait first_call refl refl refl),
-                                            (
-                                              quiet refl refl refl refl refl (still_wait first_call refl refl refl),
-                                              (
-                                                quiet refl refl refl refl refl (still_wait first_call refl refl refl),
-                                                (
-                                                  quiet refl refl refl refl refl (still_wait first_call refl refl refl),
-                                                  (
-                                                    quiet refl refl refl refl refl (still_wait first_call refl refl refl),
-                                                    (
-                                                      quiet refl refl refl refl refl (still_wait first_call refl refl refl),
-                                                      (
-                                                        quiet refl refl refl refl refl (still_wait first_call refl refl refl),
-                                                        (
-                                                          shown refl refl (refl, refl) refl refl refl (tt, tt) refl refl (still_wait first_call refl refl refl),
-                                                          (
-                                                            shown refl refl (refl, (refl, refl)) refl refl refl (tt, (([], refl), tt)) refl refl (still_wait first_call refl refl refl),
-                                                            (
-                                                              quiet refl refl refl refl refl (still_wait first_call refl refl refl),
-                                                              (
-                                                                quiet refl refl refl refl refl (still_wait first_call refl refl refl),
-                                                                (
-                                                                  quiet refl refl refl refl refl (still_wait first_call refl refl refl),
-                                                                  (
-                                                                    shown refl refl (refl, refl) refl refl refl (tt, tt) refl refl (still_wait first_call refl refl refl),
-                                                                    (
-                                                                      shown refl refl (refl, (refl, refl)) refl refl refl (tt, (([], refl), tt)) refl refl (still_wait first_call refl refl refl),
-                                                                      (
-                                                                        quiet refl refl refl refl refl (still_wait first_call refl refl refl),
-                                                                        (
-                                                                          shown refl refl (refl, refl) refl refl refl (tt, tt) refl refl (still_wait first_call refl refl refl),
-                                                                          (
-                                                                            shown refl refl (refl, (refl, refl)) refl refl refl (tt, (([], refl), tt)) refl refl (still_wait first_call refl refl refl),
-                                                                            (
-                                                                              shown refl refl (refl, refl) refl refl refl (tt, tt) refl refl (still_wait first_call refl refl refl),
-                                                                              (
-                                                                                shown refl refl (refl, refl) refl refl refl (tt, tt) refl refl (still_wait first_call refl refl refl),
-                                                                                tt,
-                                                                              ),
-                                                                            ),
-                                                                          ),
-                                                                        ),
-                                                                      ),
-                                                                    ),
-                                                                  ),
-                                                                ),
-                                                              ),
-                                                            ),
-                                                          ),
-                                                        ),
-                                                      ),
-                                                    ),
-                                                  ),
-                                                ),
-                                              ),
-                                            ),
-                                          ),
-                                        ),
-                                      ),
-                                    ),
-                                  ),
-                                ),
-                              ),
-                            ),
-                          ),
-                        ),
-                      ),
-                    ),
-                  ),
-                ),
-              ),
-            ),
-          ),
-        ),
-      ),
-    ),
-  );
+  events =
+      shown refl refl (refl, refl) refl refl refl (tt, tt) refl refl (all_taken refl)
+      ▸ shown refl refl (refl, (refl, (refl, refl))) refl refl refl (tt, (tt, (tt, tt))) refl refl (all_taken refl)
+      ▸ shown refl refl (refl, (refl, refl)) refl refl refl (tt, (([], refl), tt)) refl refl (still_wait first_call refl refl refl)
+      ▸ quiet refl refl refl refl refl (still_wait first_call refl refl refl)
+      ▸ quiet refl refl refl refl refl (still_wait first_call refl refl refl)
+      ▸ quiet refl refl refl refl refl (still_wait first_call refl refl refl)
+      ▸ quiet refl refl refl refl refl (still_wait first_call refl refl refl)
+      ▸ quiet refl refl refl refl refl (still_wait first_call refl refl refl)
+      ▸ quiet refl refl refl refl refl (still_wait first_call refl refl refl)
+      ▸ quiet refl refl refl refl refl (still_wait first_call refl refl refl)
+      ▸ quiet refl refl refl refl refl (still_wait first_call refl refl refl)
+      ▸ quiet refl refl refl refl refl (still_wait first_call refl refl refl)
+      ▸ quiet refl refl refl refl refl (still_wait first_call refl refl refl)
+      ▸ quiet refl refl refl refl refl (still_wait first_call refl refl refl)
+      ▸ quiet refl refl refl refl refl (still_wait first_call refl refl refl)
+      ▸ quiet refl refl refl refl refl (still_wait first_call refl refl refl)
+      ▸ quiet refl refl refl refl refl (still_wait first_call refl refl refl)
+      ▸ quiet refl refl refl refl refl (still_wait first_call refl refl refl)
+      ▸ shown refl refl (refl, refl) refl refl refl (tt, tt) refl refl (still_wait first_call refl refl refl)
+      ▸ shown refl refl (refl, (refl, refl)) refl refl refl (tt, (([], refl), tt)) refl refl (still_wait first_call refl refl refl)
+      ▸ quiet refl refl refl refl refl (still_wait first_call refl refl refl)
+      ▸ quiet refl refl refl refl refl (still_wait first_call refl refl refl)
+      ▸ quiet refl refl refl refl refl (still_wait first_call refl refl refl)
+      ▸ quiet refl refl refl refl refl (still_wait first_call refl refl refl)
+      ▸ quiet refl refl refl refl refl (still_wait first_call refl refl refl)
+      ▸ quiet refl refl refl refl refl (still_wait first_call refl refl refl)
+      ▸ quiet refl refl refl refl refl (still_wait first_call refl refl refl)
+      ▸ shown refl refl (refl, refl) refl refl refl (tt, tt) refl refl (still_wait first_call refl refl refl)
+      ▸ shown refl refl (refl, (refl, refl)) refl refl refl (tt, (([], refl), tt)) refl refl (still_wait first_call refl refl refl)
+      ▸ quiet refl refl refl refl refl (still_wait first_call refl refl refl)
+      ▸ quiet refl refl refl refl refl (still_wait first_call refl refl refl)
+      ▸ quiet refl refl refl refl refl (still_wait first_call refl refl refl)
+      ▸ shown refl refl (refl, refl) refl refl refl (tt, tt) refl refl (still_wait first_call refl refl refl)
+      ▸ shown refl refl (refl, (refl, refl)) refl refl refl (tt, (([], refl), tt)) refl refl (still_wait first_call refl refl refl)
+      ▸ quiet refl refl refl refl refl (still_wait first_call refl refl refl)
+      ▸ shown refl refl (refl, refl) refl refl refl (tt, tt) refl refl (still_wait first_call refl refl refl)
+      ▸ shown refl refl (refl, (refl, refl)) refl refl refl (tt, (([], refl), tt)) refl refl (still_wait first_call refl refl refl)
+      ▸ shown refl refl (refl, refl) refl refl refl (tt, tt) refl refl (still_wait first_call refl refl refl)
+      ▸ shown refl refl (refl, refl) refl refl refl (tt, tt) refl refl (still_wait first_call refl refl refl)
+      ▸ tt;
   drivers_stand = record { all = refl; sound = tt; failures = given_up_failures };
   replies_stand = record { order = refl; steps = tt; own = given_up_replies };
   calls_left = record { left = []; order = refl; number = refl };

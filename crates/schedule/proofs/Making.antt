@@ -16,6 +16,11 @@ use Rattle.schedule.specs.Replies.{answers_in, answers_due}
 use Rattle.schedule.specs.Calls.{Arrival, arrived, taken, CallsSoFar, flushes_in, flushes_due}
 use Rattle.schedule.specs.Justified.{GroupKeeps}
 
+infixr 3 ◌▸◌
+-- a group, and those before it
+pub ◌▸◌ : {A B : Type 0} → A → B → A × B
+later ▸ earlier = (later, earlier)
+
 -- every call that arrived was taken
 pub all_taken : {groups : List Group} → arrived groups ≡ taken (marks_of groups) → CallsSoFar groups
 all_taken order = record { left = []; order = order; waits = λ some. absurd (some refl) }

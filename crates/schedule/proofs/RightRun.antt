@@ -17,7 +17,7 @@ use Rattle.schedule.specs.Lives.{state_of}
 use Rattle.schedule.specs.Faults.{FailsAtItsStep}
 use Rattle.schedule.specs.Replies.{RepliesOf}
 use Rattle.schedule.specs.Justified.{Justified}
-use Rattle.schedule.proofs.Making.{all_taken, still_wait, shown, quiet, one_is_not_two, second_is_not_first}
+use Rattle.schedule.proofs.Making.{◌▸◌, all_taken, still_wait, shown, quiet, one_is_not_two, second_is_not_first}
 use Rattle.schedule.proofs.Small.{client, stat_root, issued_to, idle, done}
 
 -- driver 1 answers an error
@@ -77,76 +77,31 @@ right_replies (suc (suc (suc g))) = tt
 -- the run is justified
 right_justified : Justified default_policy 2 right right_sent (bad_done ∷ idle ∷ []) 0
 right_justified = record {
-  events = (
-    quiet refl refl refl refl refl (all_taken refl),
-    (
-      shown refl refl (refl, refl) refl refl refl (tt, tt) refl refl (all_taken refl),
-      (
-        shown refl refl (refl, refl) refl refl refl (tt, tt) refl refl (all_taken refl),
-        (
-          quiet (inl refl) refl refl refl refl (all_taken refl),
-          (
-            quiet refl refl refl refl refl (all_taken refl),
-            (
-              shown refl refl (refl, (refl, (refl, (refl, refl)))) refl refl refl (tt, (tt, (tt, (tt, tt)))) refl refl (all_taken refl),
-              (
-                quiet refl refl refl refl refl (still_wait ((client 0, 2, stat_root) ∷ (client 0, 1, stat_root) ∷ []) refl refl refl),
-                (
-                  quiet refl refl refl refl refl (still_wait ((client 0, 2, stat_root) ∷ (client 0, 1, stat_root) ∷ []) refl refl refl),
-                  (
-                    quiet refl refl refl refl refl (still_wait ((client 0, 2, stat_root) ∷ (client 0, 1, stat_root) ∷ []) refl refl refl),
-                    (
-                      quiet refl refl refl refl refl (still_wait ((client 0, 2, stat_root) ∷ (client 0, 1, stat_root) ∷ []) refl refl refl),
-                      (
-                        quiet refl refl refl refl refl (still_wait ((client 0, 2, stat_root) ∷ (client 0, 1, stat_root) ∷ []) refl refl refl),
-                        (
-                          quiet refl refl refl refl refl (still_wait ((client 0, 2, stat_root) ∷ (client 0, 1, stat_root) ∷ []) refl refl refl),
-                          (
-                            quiet refl refl refl refl refl (still_wait ((client 0, 2, stat_root) ∷ (client 0, 1, stat_root) ∷ []) refl refl refl),
-                            (
-                              shown refl refl (refl, (refl, refl)) refl refl refl (tt, (([], refl), tt)) refl refl (still_wait ((client 0, 2, stat_root) ∷ (client 0, 1, stat_root) ∷ []) refl refl refl),
-                              (
-                                quiet refl refl refl refl refl (still_wait ((client 0, 2, stat_root) ∷ (client 0, 1, stat_root) ∷ []) refl refl refl),
-                                (
-                                  shown refl refl (refl, refl) refl refl refl (tt, tt) refl refl (still_wait ((client 0, 2, stat_root) ∷ (client 0, 1, stat_root) ∷ []) refl refl refl),
-                                  (
-                                    quiet refl refl refl refl refl (still_wait ((client 0, 2, stat_root) ∷ (client 0, 1, stat_root) ∷ []) refl refl refl),
-                                    (
-                                      shown refl refl (refl, refl) refl refl refl (tt, tt) refl refl (still_wait ((client 0, 2, stat_root) ∷ (client 0, 1, stat_root) ∷ []) refl refl refl),
-                                      (
-                                        quiet (inl refl) refl refl refl refl (still_wait ((client 0, 2, stat_root) ∷ (client 0, 1, stat_root) ∷ []) refl refl refl),
-                                        (
-                                          quiet (inl refl) refl refl refl refl (still_wait ((client 0, 2, stat_root) ∷ (client 0, 1, stat_root) ∷ []) refl refl refl),
-                                          (
-                                            shown refl refl (refl, refl) refl refl refl (tt, tt) refl refl (still_wait ((client 0, 2, stat_root) ∷ (client 0, 1, stat_root) ∷ []) refl refl refl),
-                                            (
-                                              quiet refl refl refl refl refl (still_wait ((client 0, 2, stat_root) ∷ (client 0, 1, stat_root) ∷ []) refl refl refl),
-                                              (
-                                                shown refl refl (refl, refl) refl refl refl (tt, tt) refl refl (still_wait ((client 0, 1, stat_root) ∷ []) refl refl refl),
-                                                tt,
-                                              ),
-                                            ),
-                                          ),
-                                        ),
-                                      ),
-                                    ),
-                                  ),
-                                ),
-                              ),
-                            ),
-                          ),
-                        ),
-                      ),
-                    ),
-                  ),
-                ),
-              ),
-            ),
-          ),
-        ),
-      ),
-    ),
-  );
+  events =
+      quiet refl refl refl refl refl (all_taken refl)
+      ▸ shown refl refl (refl, refl) refl refl refl (tt, tt) refl refl (all_taken refl)
+      ▸ shown refl refl (refl, refl) refl refl refl (tt, tt) refl refl (all_taken refl)
+      ▸ quiet (inl refl) refl refl refl refl (all_taken refl)
+      ▸ quiet refl refl refl refl refl (all_taken refl)
+      ▸ shown refl refl (refl, (refl, (refl, (refl, refl)))) refl refl refl (tt, (tt, (tt, (tt, tt)))) refl refl (all_taken refl)
+      ▸ quiet refl refl refl refl refl (still_wait ((client 0, 2, stat_root) ∷ (client 0, 1, stat_root) ∷ []) refl refl refl)
+      ▸ quiet refl refl refl refl refl (still_wait ((client 0, 2, stat_root) ∷ (client 0, 1, stat_root) ∷ []) refl refl refl)
+      ▸ quiet refl refl refl refl refl (still_wait ((client 0, 2, stat_root) ∷ (client 0, 1, stat_root) ∷ []) refl refl refl)
+      ▸ quiet refl refl refl refl refl (still_wait ((client 0, 2, stat_root) ∷ (client 0, 1, stat_root) ∷ []) refl refl refl)
+      ▸ quiet refl refl refl refl refl (still_wait ((client 0, 2, stat_root) ∷ (client 0, 1, stat_root) ∷ []) refl refl refl)
+      ▸ quiet refl refl refl refl refl (still_wait ((client 0, 2, stat_root) ∷ (client 0, 1, stat_root) ∷ []) refl refl refl)
+      ▸ quiet refl refl refl refl refl (still_wait ((client 0, 2, stat_root) ∷ (client 0, 1, stat_root) ∷ []) refl refl refl)
+      ▸ shown refl refl (refl, (refl, refl)) refl refl refl (tt, (([], refl), tt)) refl refl (still_wait ((client 0, 2, stat_root) ∷ (client 0, 1, stat_root) ∷ []) refl refl refl)
+      ▸ quiet refl refl refl refl refl (still_wait ((client 0, 2, stat_root) ∷ (client 0, 1, stat_root) ∷ []) refl refl refl)
+      ▸ shown refl refl (refl, refl) refl refl refl (tt, tt) refl refl (still_wait ((client 0, 2, stat_root) ∷ (client 0, 1, stat_root) ∷ []) refl refl refl)
+      ▸ quiet refl refl refl refl refl (still_wait ((client 0, 2, stat_root) ∷ (client 0, 1, stat_root) ∷ []) refl refl refl)
+      ▸ shown refl refl (refl, refl) refl refl refl (tt, tt) refl refl (still_wait ((client 0, 2, stat_root) ∷ (client 0, 1, stat_root) ∷ []) refl refl refl)
+      ▸ quiet (inl refl) refl refl refl refl (still_wait ((client 0, 2, stat_root) ∷ (client 0, 1, stat_root) ∷ []) refl refl refl)
+      ▸ quiet (inl refl) refl refl refl refl (still_wait ((client 0, 2, stat_root) ∷ (client 0, 1, stat_root) ∷ []) refl refl refl)
+      ▸ shown refl refl (refl, refl) refl refl refl (tt, tt) refl refl (still_wait ((client 0, 2, stat_root) ∷ (client 0, 1, stat_root) ∷ []) refl refl refl)
+      ▸ quiet refl refl refl refl refl (still_wait ((client 0, 2, stat_root) ∷ (client 0, 1, stat_root) ∷ []) refl refl refl)
+      ▸ shown refl refl (refl, refl) refl refl refl (tt, tt) refl refl (still_wait ((client 0, 1, stat_root) ∷ []) refl refl refl)
+      ▸ tt;
   drivers_stand = record { all = refl; sound = tt; failures = right_failures };
   replies_stand = record { order = refl; steps = (record { from = refl; step = refl; live = refl; asked = refl }, tt); own = right_replies };
   calls_left = record { left = []; order = refl; number = refl };

@@ -12,7 +12,7 @@ use Rattle.schedule.specs.Lives.{state_of}
 use Rattle.schedule.specs.Faults.{FailsAtItsStep}
 use Rattle.schedule.specs.Replies.{RepliesOf}
 use Rattle.schedule.specs.Justified.{Justified}
-use Rattle.schedule.proofs.Making.{all_taken, still_wait, shown, quiet, two_is_not_one, one_is_not_two, second_is_not_first, first_is_not_second}
+use Rattle.schedule.proofs.Making.{◌▸◌, all_taken, still_wait, shown, quiet, two_is_not_one, one_is_not_two, second_is_not_first, first_is_not_second}
 use Rattle.schedule.proofs.Small.{client, stat_root, first_call, issued_to, answer_of, replied, idle, done, working}
 
 -- driver 1 dies, driver 2 is started at the next tick and answers
@@ -56,28 +56,15 @@ replaced_replies (suc (suc (suc g))) = tt
 -- the run is justified
 replaced_justified : Justified default_policy 6 replaced replaced_sent (working ∷ done ∷ []) 0
 replaced_justified = record {
-  events = (
-    shown refl refl (refl, (refl, refl)) refl refl refl (tt, (tt, tt)) refl refl (all_taken refl),
-    (
-      quiet (inl refl) refl refl refl refl (still_wait first_call refl refl refl),
-      (
-        quiet (inl refl) refl refl refl refl (still_wait first_call refl refl refl),
-        (
-          shown refl refl (refl, (refl, refl)) refl refl refl (tt, (([], refl), tt)) refl refl (still_wait first_call refl refl refl),
-          (
-            shown refl refl (refl, refl) refl refl refl (tt, tt) refl refl (still_wait first_call refl refl refl),
-            (
-              quiet (inl refl) refl refl refl refl (still_wait first_call refl refl refl),
-              (
-                shown refl refl (refl, refl) refl refl refl (tt, tt) refl refl (still_wait first_call refl refl refl),
-                tt,
-              ),
-            ),
-          ),
-        ),
-      ),
-    ),
-  );
+  events =
+      shown refl refl (refl, (refl, refl)) refl refl refl (tt, (tt, tt)) refl refl (all_taken refl)
+      ▸ quiet (inl refl) refl refl refl refl (still_wait first_call refl refl refl)
+      ▸ quiet (inl refl) refl refl refl refl (still_wait first_call refl refl refl)
+      ▸ shown refl refl (refl, (refl, refl)) refl refl refl (tt, (([], refl), tt)) refl refl (still_wait first_call refl refl refl)
+      ▸ shown refl refl (refl, refl) refl refl refl (tt, tt) refl refl (still_wait first_call refl refl refl)
+      ▸ quiet (inl refl) refl refl refl refl (still_wait first_call refl refl refl)
+      ▸ shown refl refl (refl, refl) refl refl refl (tt, tt) refl refl (still_wait first_call refl refl refl)
+      ▸ tt;
   drivers_stand = record { all = refl; sound = refl; failures = replaced_failures };
   replies_stand = record { order = refl; steps = (record { from = refl; step = refl; live = refl; asked = refl }, tt); own = replaced_replies };
   calls_left = record { left = []; order = refl; number = refl };
@@ -104,10 +91,9 @@ waits_replies (suc (suc g)) = tt
 -- the run is justified
 waits_justified : Justified default_policy 6 waits [] (idle ∷ []) 1
 waits_justified = record {
-  events = (
-    shown refl refl (refl, refl) refl refl refl (tt, tt) refl refl (still_wait first_call refl refl refl),
-    tt,
-  );
+  events =
+      shown refl refl (refl, refl) refl refl refl (tt, tt) refl refl (still_wait first_call refl refl refl)
+      ▸ tt;
   drivers_stand = record { all = refl; sound = refl; failures = waits_failures };
   replies_stand = record { order = refl; steps = tt; own = waits_replies };
   calls_left = record { left = first_call; order = refl; number = refl };
@@ -151,43 +137,20 @@ hung_replies (suc (suc (suc g))) = tt
 -- the run is justified
 hung_justified : Justified default_policy 6 hung hung_sent (done ∷ done ∷ []) 0
 hung_justified = record {
-  events = (
-    shown refl refl (refl, (refl, refl)) refl refl refl (tt, (tt, tt)) refl refl (all_taken refl),
-    (
-      quiet (inl refl) refl refl refl refl (still_wait first_call refl refl refl),
-      (
-        quiet (inl refl) refl refl refl refl (still_wait first_call refl refl refl),
-        (
-          quiet refl refl refl refl refl (still_wait first_call refl refl refl),
-          (
-            shown refl refl (refl, (refl, refl)) refl refl refl (tt, (([], refl), tt)) refl refl (still_wait first_call refl refl refl),
-            (
-              shown refl refl (refl, refl) refl refl refl (tt, tt) refl refl (still_wait first_call refl refl refl),
-              (
-                quiet refl refl refl refl refl (still_wait first_call refl refl refl),
-                (
-                  quiet refl refl refl refl refl (still_wait first_call refl refl refl),
-                  (
-                    quiet refl refl refl refl refl (still_wait first_call refl refl refl),
-                    (
-                      quiet (inl refl) refl refl refl refl (still_wait first_call refl refl refl),
-                      (
-                        quiet (inl refl) refl refl refl refl (still_wait first_call refl refl refl),
-                        (
-                          shown refl refl (refl, refl) refl refl refl (tt, tt) refl refl (still_wait first_call refl refl refl),
-                          tt,
-                        ),
-                      ),
-                    ),
-                  ),
-                ),
-              ),
-            ),
-          ),
-        ),
-      ),
-    ),
-  );
+  events =
+      shown refl refl (refl, (refl, refl)) refl refl refl (tt, (tt, tt)) refl refl (all_taken refl)
+      ▸ quiet (inl refl) refl refl refl refl (still_wait first_call refl refl refl)
+      ▸ quiet (inl refl) refl refl refl refl (still_wait first_call refl refl refl)
+      ▸ quiet refl refl refl refl refl (still_wait first_call refl refl refl)
+      ▸ shown refl refl (refl, (refl, refl)) refl refl refl (tt, (([], refl), tt)) refl refl (still_wait first_call refl refl refl)
+      ▸ shown refl refl (refl, refl) refl refl refl (tt, tt) refl refl (still_wait first_call refl refl refl)
+      ▸ quiet refl refl refl refl refl (still_wait first_call refl refl refl)
+      ▸ quiet refl refl refl refl refl (still_wait first_call refl refl refl)
+      ▸ quiet refl refl refl refl refl (still_wait first_call refl refl refl)
+      ▸ quiet (inl refl) refl refl refl refl (still_wait first_call refl refl refl)
+      ▸ quiet (inl refl) refl refl refl refl (still_wait first_call refl refl refl)
+      ▸ shown refl refl (refl, refl) refl refl refl (tt, tt) refl refl (still_wait first_call refl refl refl)
+      ▸ tt;
   drivers_stand = record { all = refl; sound = refl; failures = hung_failures };
   replies_stand = record { order = refl; steps = (record { from = refl; step = refl; live = refl; asked = refl }, (record { from = refl; step = refl; live = refl; asked = refl }, tt)); own = hung_replies };
   calls_left = record { left = []; order = refl; number = refl };
@@ -224,28 +187,15 @@ repeated_replies (suc (suc g)) = tt
 -- the run is justified
 repeated_justified : Justified default_policy 6 repeated repeated_sent (done ∷ []) 0
 repeated_justified = record {
-  events = (
-    quiet refl refl refl refl refl (all_taken refl),
-    (
-      shown refl refl (refl, (refl, refl)) refl refl refl (tt, (tt, tt)) refl refl (all_taken refl),
-      (
-        quiet (inl refl) refl refl refl refl (still_wait first_call refl refl refl),
-        (
-          quiet refl refl refl refl refl (still_wait first_call refl refl refl),
-          (
-            quiet (inl refl) refl refl refl refl (still_wait first_call refl refl refl),
-            (
-              quiet (inl refl) refl refl refl refl (still_wait first_call refl refl refl),
-              (
-                shown refl refl (refl, refl) refl refl refl (tt, tt) refl refl (still_wait first_call refl refl refl),
-                tt,
-              ),
-            ),
-          ),
-        ),
-      ),
-    ),
-  );
+  events =
+      quiet refl refl refl refl refl (all_taken refl)
+      ▸ shown refl refl (refl, (refl, refl)) refl refl refl (tt, (tt, tt)) refl refl (all_taken refl)
+      ▸ quiet (inl refl) refl refl refl refl (still_wait first_call refl refl refl)
+      ▸ quiet refl refl refl refl refl (still_wait first_call refl refl refl)
+      ▸ quiet (inl refl) refl refl refl refl (still_wait first_call refl refl refl)
+      ▸ quiet (inl refl) refl refl refl refl (still_wait first_call refl refl refl)
+      ▸ shown refl refl (refl, refl) refl refl refl (tt, tt) refl refl (still_wait first_call refl refl refl)
+      ▸ tt;
   drivers_stand = record { all = refl; sound = refl; failures = repeated_failures };
   replies_stand = record { order = refl; steps = (record { from = refl; step = refl; live = refl; asked = refl }, tt); own = repeated_replies };
   calls_left = record { left = []; order = refl; number = refl };
@@ -280,22 +230,13 @@ queued_replies (suc (suc g)) = tt
 -- the run is justified
 queued_justified : Justified default_policy 6 queued queued_sent (done ∷ []) 0
 queued_justified = record {
-  events = (
-    shown refl refl (refl, (refl, (refl, refl))) refl refl refl (tt, (tt, (tt, tt))) refl refl (all_taken refl),
-    (
-      quiet (inl refl) refl refl refl refl (still_wait ((client 1, 100, stat_root) ∷ (client 0, 100, stat_root) ∷ []) refl refl refl),
-      (
-        quiet (inl refl) refl refl refl refl (still_wait ((client 1, 100, stat_root) ∷ (client 0, 100, stat_root) ∷ []) refl refl refl),
-        (
-          quiet refl refl refl refl refl (still_wait ((client 1, 100, stat_root) ∷ (client 0, 100, stat_root) ∷ []) refl refl refl),
-          (
-            shown refl refl (refl, refl) refl refl refl (tt, tt) refl refl (still_wait first_call refl refl refl),
-            tt,
-          ),
-        ),
-      ),
-    ),
-  );
+  events =
+      shown refl refl (refl, (refl, (refl, refl))) refl refl refl (tt, (tt, (tt, tt))) refl refl (all_taken refl)
+      ▸ quiet (inl refl) refl refl refl refl (still_wait ((client 1, 100, stat_root) ∷ (client 0, 100, stat_root) ∷ []) refl refl refl)
+      ▸ quiet (inl refl) refl refl refl refl (still_wait ((client 1, 100, stat_root) ∷ (client 0, 100, stat_root) ∷ []) refl refl refl)
+      ▸ quiet refl refl refl refl refl (still_wait ((client 1, 100, stat_root) ∷ (client 0, 100, stat_root) ∷ []) refl refl refl)
+      ▸ shown refl refl (refl, refl) refl refl refl (tt, tt) refl refl (still_wait first_call refl refl refl)
+      ▸ tt;
   drivers_stand = record { all = refl; sound = refl; failures = queued_failures };
   replies_stand = record { order = refl; steps = (record { from = refl; step = refl; live = refl; asked = refl }, tt); own = queued_replies };
   calls_left = record { left = []; order = refl; number = refl };
@@ -325,19 +266,12 @@ not_sent_yet_replies (suc (suc g)) = tt
 -- the run is justified
 not_sent_yet_justified : Justified default_policy 6 not_sent_yet [] (working ∷ []) 1
 not_sent_yet_justified = record {
-  events = (
-    quiet refl refl refl refl refl (still_wait first_call refl refl refl),
-    (
-      quiet refl refl refl refl refl (still_wait first_call refl refl refl),
-      (
-        quiet (inl refl) refl refl refl refl (still_wait first_call refl refl refl),
-        (
-          shown refl refl (refl, refl) refl refl refl (tt, tt) refl refl (still_wait first_call refl refl refl),
-          tt,
-        ),
-      ),
-    ),
-  );
+  events =
+      quiet refl refl refl refl refl (still_wait first_call refl refl refl)
+      ▸ quiet refl refl refl refl refl (still_wait first_call refl refl refl)
+      ▸ quiet (inl refl) refl refl refl refl (still_wait first_call refl refl refl)
+      ▸ shown refl refl (refl, refl) refl refl refl (tt, tt) refl refl (still_wait first_call refl refl refl)
+      ▸ tt;
   drivers_stand = record { all = refl; sound = refl; failures = not_sent_yet_failures };
   replies_stand = record { order = refl; steps = tt; own = not_sent_yet_replies };
   calls_left = record { left = first_call; order = refl; number = refl };
