@@ -5,7 +5,7 @@ use Rattle.policy.specs.declared.Event.TheVariants.{Exit, Tick, Complaint}
 use Rattle.policy.specs.Policy.{IsAllowed, default_policy}
 use Rattle.policy.specs.Faults.{last_fault, restart_tick}
 use Rattle.policy.specs.Watch.{Nothing, WaitUntil, Start, GiveUp, Waiting, actions, new_watch, with_spare, watch_after, driver}
-use Rattle.policy.specs.Laws.{fault_ticks}
+use Rattle.policy.specs.Laws.{fault_ticks, misses_in, pulses_after}
 
 -- two drivers: a second exit of the first is ignored, the second's exit leaves no spare
 row_two_drivers : actions default_policy (new_watch 2) (Tick 0 (0, 0) ∷ Exit (driver 1) 0 ∷ Exit (driver 1) 0 ∷ Tick 1 (0, 0) ∷ Exit (driver 2) 1 ∷ [])
@@ -111,3 +111,11 @@ row_default = record {
   some_misses = omega arith;
   few_misses = omega arith;
 }
+
+-- two misses in a row, after a beat
+row_misses_in : misses_in ((1, 2) ∷ (1, 2) ∷ (1, 2) ∷ (1, 1) ∷ (1, 1) ∷ []) ≡ 2
+row_misses_in = refl
+
+-- the pulses since the second start
+row_pulses : pulses_after default_policy (new_watch 3) (Tick 0 (0, 0) ∷ Exit (driver 1) 0 ∷ Tick 1 (0, 0) ∷ Tick 2 (2, 1) ∷ Tick 3 (2, 2) ∷ []) [] ≡ (2, 2) ∷ (2, 1) ∷ (0, 0) ∷ []
+row_pulses = refl

@@ -24,7 +24,7 @@ last_fault calm (tick ∷ ticks) = Some (next_fault calm (last_fault calm ticks)
 -- a fault with this number gives the device up: it is one too many, or no spare or generation is left
 abbrev pub gives_up : Policy → ℕ → ℕ → ℕ → Bool
 gives_up policy number spares generation =
-    nat_lt policy.max_faults number || (spares == 0) || nat_lt (2 ^ 32) (generation + 2)
+    nat_lt policy.max_faults number || (spares == 0) || nat_le (2 ^ 32) (generation + 1)
 
 -- else the next driver is started at the first tick not before this one: twice as long after each fault, up to the cap
 abbrev pub restart_tick : Policy → LastFault → ℕ

@@ -1,10 +1,10 @@
 -- The watch against the plain list of faults.
-use Rattle.std.specs.Prelude.{◌≡◌, ℕ, ◌+◌, ◌<◌, List, [], ◌∷◌, Bool, true, false, if◌then◌else◌, Option, Some, None}
+use Rattle.std.specs.Prelude.{◌≡◌, ℕ, ◌+◌, ◌<◌, List, [], ◌∷◌, Bool, true, false, ◌==◌, if◌then◌else◌, Option, Some, None}
 use Rattle.policy.specs.declared.Policy.{Policy}
 use Rattle.policy.specs.declared.Event.{Event}
 use Rattle.policy.specs.declared.Event.TheVariants.{Exit, Tick, Complaint}
 use Rattle.policy.specs.Faults.{LastFault, last_fault, gives_up, restart_tick}
-use Rattle.policy.specs.Watch.{Action, Nothing, WaitUntil, Start, GiveUp, Phase, Running, Waiting, GivenUp, Watch, new_watch, on, watch_after}
+use Rattle.policy.specs.Watch.{Action, Nothing, WaitUntil, Start, GiveUp, Phase, Running, Waiting, GivenUp, Watch, new_watch, is_same_pulse, on, watch_after}
 
 -- a wait or a giving up is what is done at a fault, and at nothing else
 abbrev pub is_of_fault : Action → Bool
@@ -45,3 +45,34 @@ abbrev pub WatchFollowsFaults : Type 0
 WatchFollowsFaults =
     (policy : Policy) (drivers : ℕ) (events : List Event) → 0 < drivers
     → FollowsFaults policy drivers (fault_ticks policy (new_watch drivers) events []) (watch_after policy (new_watch drivers) events)
+
+-- how many of the last ticks, newest first, had the pulse of the tick before them: the misses in a row
+abbrev pub misses_in : List (ℕ × ℕ) → ℕ
+misses_in [] = 0
+misses_in (pulse ∷ []) = 0
+misses_in (pulse ∷ before ∷ pulses) = if is_same_pulse pulse before then misses_in (before ∷ pulses) + 1 else 0
+
+-- the pulses of the ticks since the last start, newest first, with this event; the first is that at the start
+abbrev pub with_pulse : Event → Action → List (ℕ × ℕ) → List (ℕ × ℕ)
+with_pulse (Tick tick pulse) (Start e) earlier = pulse ∷ []
+with_pulse (Tick tick pulse) _ earlier = pulse ∷ earlier
+with_pulse _ _ earlier = earlier
+
+-- so it is after these events, oldest first
+abbrev pub pulses_after : Policy → Watch → List Event → List (ℕ × ℕ) → List (ℕ × ℕ)
+pulses_after policy watch [] earlier = earlier
+pulses_after policy watch (event ∷ events) earlier =
+    pulses_after policy (on policy watch event).0 events (with_pulse event (on policy watch event).1 earlier)
+
+-- a driver runs
+abbrev pub is_running : Phase → Bool
+is_running (Running pulse missed) = true
+is_running _ = false
+
+-- a tick is a fault of the running driver exactly where it is the last of as many misses in a row as the policy has
+abbrev pub TickIsFault : Type 0
+TickIsFault =
+    (policy : Policy) (drivers : ℕ) (events : List Event) (tick : ℕ) (pulse : ℕ × ℕ) → 0 < policy.misses
+    → is_running (watch_after policy (new_watch drivers) events).phase ≡ true
+    → is_of_fault (on policy (watch_after policy (new_watch drivers) events) (Tick tick pulse)).1
+    ≡ (misses_in (pulse ∷ pulses_after policy (new_watch drivers) events []) == policy.misses)

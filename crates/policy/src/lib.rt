@@ -4,7 +4,7 @@
 #![tactic(auto)]
 
 ghost use Rattle.std.specs.Prelude.{◌≡◌, ◌↔◌, IsTrue};
-ghost use Rattle.policy.specs.Laws.{WatchFollowsFaults};
+ghost use Rattle.policy.specs.Laws.{TickIsFault, WatchFollowsFaults};
 
 use endpoint::Endpoint;
 
@@ -77,4 +77,10 @@ impl Default for Policy {
 #[tactic(auto, using(crate::proofs::WatchLaws::watch_follows_faults))]
 pub fn watch_follows_faults()
     ensures { WatchFollowsFaults }
+{}
+
+/// A tick is a fault exactly where it is the last of enough misses in a row.
+#[tactic(auto, using(crate::proofs::PulseLaws::tick_is_fault))]
+pub fn tick_is_fault()
+    ensures { TickIsFault }
 {}
