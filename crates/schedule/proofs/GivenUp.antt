@@ -68,12 +68,12 @@ given_up =
 -- no driver has failed
 given_up_failures : (g : ℕ) → IfSome (state_of (idle ∷ idle ∷ idle ∷ idle ∷ idle ∷ idle ∷ []) g) (FailsAtItsStep given_up g)
 given_up_failures zero = tt
-given_up_failures (suc zero) = record { seen = λ failed. cc }
-given_up_failures (suc (suc zero)) = record { seen = λ failed. cc }
-given_up_failures (suc (suc (suc zero))) = record { seen = λ failed. cc }
-given_up_failures (suc (suc (suc (suc zero)))) = record { seen = λ failed. cc }
-given_up_failures (suc (suc (suc (suc (suc zero))))) = record { seen = λ failed. cc }
-given_up_failures (suc (suc (suc (suc (suc (suc zero)))))) = record { seen = λ failed. cc }
+given_up_failures (suc zero) = record { seen = λ f. cc }
+given_up_failures (suc (suc zero)) = record { seen = λ f. cc }
+given_up_failures (suc (suc (suc zero))) = record { seen = λ f. cc }
+given_up_failures (suc (suc (suc (suc zero)))) = record { seen = λ f. cc }
+given_up_failures (suc (suc (suc (suc (suc zero))))) = record { seen = λ f. cc }
+given_up_failures (suc (suc (suc (suc (suc (suc zero)))))) = record { seen = λ f. cc }
 given_up_failures (suc (suc (suc (suc (suc (suc (suc g))))))) = tt
 
 -- the replies are those of the drivers

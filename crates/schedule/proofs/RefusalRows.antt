@@ -6,7 +6,7 @@ use Rattle.volume.specs.Verdict.{Clean, Found}
 use Rattle.policy.specs.declared.Setup.{Setup}
 use Rattle.policy.specs.Policy.{IsAllowed, default_policy}
 use Rattle.schedule.specs.Headline.{Range}
-use Rattle.schedule.specs.Refusals.{Start, NotMedia, NoVolume, NotClean, BadSetup, NoDriver, IsRefusedFor, IsAccepted}
+use Rattle.schedule.specs.Refusals.{Start, NotMedia, NoVolume, NotClean, BadSetup, NoDriver, IsRefusedFor, IsAccepted, start_of}
 use Rattle.schedule.proofs.Small.{idle, done}
 
 -- the whole media of 128 sectors
@@ -89,3 +89,11 @@ row_no_volume = (refl, refl)
 -- an image of no whole sectors is refusal 1
 row_no_media : IsRefusedFor (record good { media = Some NotWholeSectors; range = None }) (NotMedia NotWholeSectors)
 row_no_media = refl
+
+-- a byte alone makes no media
+row_one_byte : IsRefusedFor (start_of (0 ∷ []) None usual []) (NotMedia NotWholeSectors)
+row_one_byte = refl
+
+-- no bytes make a media without a volume: finding 1 at 1
+row_no_bytes : IsRefusedFor (start_of [] (Some (record { first = 0; count = 0 })) usual []) (NotClean (record { number = 1; place = 1 }))
+row_no_bytes = (record { first = 0; count = 0 }, record { media = refl; range_is = refl }, refl)

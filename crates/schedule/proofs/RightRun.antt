@@ -63,8 +63,8 @@ right_sent = record { reply = bad_reply; place = 4 } ∷ []
 -- no driver has failed
 right_failures : (g : ℕ) → IfSome (state_of (bad_done ∷ idle ∷ []) g) (FailsAtItsStep right g)
 right_failures zero = tt
-right_failures (suc zero) = record { seen = λ failed. cc }
-right_failures (suc (suc zero)) = record { seen = λ failed. cc }
+right_failures (suc zero) = record { seen = λ f. cc }
+right_failures (suc (suc zero)) = record { seen = λ f. cc }
 right_failures (suc (suc (suc g))) = tt
 
 -- the replies are those of the drivers

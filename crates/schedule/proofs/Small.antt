@@ -1,5 +1,5 @@
 -- A small volume with a root alone, and a call on it: what the worked runs are made of.
-use Rattle.std.specs.Prelude.{List, ◌≡◌, ℕ, [], ◌∷◌, false, codes, Some, None, Ok, refl}
+use Rattle.std.specs.Prelude.{List, ◌≡◌, ℕ, [], ◌∷◌, true, false, codes, Some, None, Ok, refl}
 use Rattle.layout.specs.declared.Geometry.{Geometry}
 use Rattle.message.specs.declared.BlockReply.{BlockReply}
 use Rattle.message.specs.declared.BlockRequest.{BlockRequest}
@@ -66,3 +66,7 @@ done = record idle { last = 1 }
 -- one at work on id 1
 abbrev pub working : DriverState
 working = record idle { last = 1; work = Some (record { request = inode_block; moved = λ k. false; got = [] }) }
+
+-- one that failed while it was
+abbrev pub failed : DriverState
+failed = record working { failed = true }

@@ -1,6 +1,6 @@
 -- Worked runs of one `stat` that are justified as a whole.
 use Rattle.std.specs.Prelude.{zero, suc, ◌≡◌, ℕ, List, [], ◌∷◌, None, IfSome, refl}
-use Rattle.std.proofs.Common.{inl}
+use Rattle.std.proofs.Common.{inl, inr}
 use Rattle.policy.specs.Policy.{default_policy}
 use Rattle.policy.specs.Watch.{driver}
 use Rattle.marks.specs.declared.Cause.TheVariants.{Exit, Hung}
@@ -13,7 +13,7 @@ use Rattle.schedule.specs.Faults.{FailsAtItsStep}
 use Rattle.schedule.specs.Replies.{RepliesOf}
 use Rattle.schedule.specs.Justified.{Justified}
 use Rattle.schedule.proofs.Making.{◌▸◌, all_taken, still_wait, shown, quiet, two_is_not_one, one_is_not_two, second_is_not_first, first_is_not_second}
-use Rattle.schedule.proofs.Small.{client, stat_root, first_call, issued_to, answer_of, replied, idle, done, working}
+use Rattle.schedule.proofs.Small.{client, stat_root, first_call, issued_to, answer_of, replied, idle, done, working, failed}
 
 -- driver 1 dies, driver 2 is started at the next tick and answers
 abbrev pub replaced : List Group
@@ -42,8 +42,8 @@ replaced_sent = record { reply = answer_of 2; place = 5 } ∷ []
 -- no driver has failed
 replaced_failures : (g : ℕ) → IfSome (state_of (working ∷ done ∷ []) g) (FailsAtItsStep replaced g)
 replaced_failures zero = tt
-replaced_failures (suc zero) = record { seen = λ failed. cc }
-replaced_failures (suc (suc zero)) = record { seen = λ failed. cc }
+replaced_failures (suc zero) = record { seen = λ f. cc }
+replaced_failures (suc (suc zero)) = record { seen = λ f. cc }
 replaced_failures (suc (suc (suc g))) = tt
 
 -- the replies are those of the drivers
@@ -79,7 +79,7 @@ waits =
 -- no driver has failed
 waits_failures : (g : ℕ) → IfSome (state_of (idle ∷ []) g) (FailsAtItsStep waits g)
 waits_failures zero = tt
-waits_failures (suc zero) = record { seen = λ failed. cc }
+waits_failures (suc zero) = record { seen = λ f. cc }
 waits_failures (suc (suc g)) = tt
 
 -- the replies are those of the drivers
@@ -123,8 +123,8 @@ hung_sent = record { reply = answer_of 1; place = 2 } ∷ record { reply = answe
 -- no driver has failed
 hung_failures : (g : ℕ) → IfSome (state_of (done ∷ done ∷ []) g) (FailsAtItsStep hung g)
 hung_failures zero = tt
-hung_failures (suc zero) = record { seen = λ failed. cc }
-hung_failures (suc (suc zero)) = record { seen = λ failed. cc }
+hung_failures (suc zero) = record { seen = λ f. cc }
+hung_failures (suc (suc zero)) = record { seen = λ f. cc }
 hung_failures (suc (suc (suc g))) = tt
 
 -- the replies are those of the drivers
@@ -175,7 +175,7 @@ repeated_sent = record { reply = answer_of 1; place = 2 } ∷ []
 -- no driver has failed
 repeated_failures : (g : ℕ) → IfSome (state_of (done ∷ []) g) (FailsAtItsStep repeated g)
 repeated_failures zero = tt
-repeated_failures (suc zero) = record { seen = λ failed. cc }
+repeated_failures (suc zero) = record { seen = λ f. cc }
 repeated_failures (suc (suc g)) = tt
 
 -- the replies are those of the drivers
@@ -218,7 +218,7 @@ queued_sent = record { reply = answer_of 1; place = 3 } ∷ []
 -- no driver has failed
 queued_failures : (g : ℕ) → IfSome (state_of (done ∷ []) g) (FailsAtItsStep queued g)
 queued_failures zero = tt
-queued_failures (suc zero) = record { seen = λ failed. cc }
+queued_failures (suc zero) = record { seen = λ f. cc }
 queued_failures (suc (suc g)) = tt
 
 -- the replies are those of the drivers
@@ -254,7 +254,7 @@ not_sent_yet =
 -- no driver has failed
 not_sent_yet_failures : (g : ℕ) → IfSome (state_of (working ∷ []) g) (FailsAtItsStep not_sent_yet g)
 not_sent_yet_failures zero = tt
-not_sent_yet_failures (suc zero) = record { seen = λ failed. cc }
+not_sent_yet_failures (suc zero) = record { seen = λ f. cc }
 not_sent_yet_failures (suc (suc g)) = tt
 
 -- the replies are those of the drivers
@@ -275,4 +275,119 @@ not_sent_yet_justified = record {
   drivers_stand = record { all = refl; sound = refl; failures = not_sent_yet_failures };
   replies_stand = record { order = refl; steps = tt; own = not_sent_yet_replies };
   calls_left = record { left = first_call; order = refl; number = refl };
+}
+
+-- a step of driver 1 fails; driver 2 is started
+abbrev pub fails : List Group
+fails =
+    (event.Tick, issued_to 2 ∷ Started (driver 2) ∷ [])
+    ∷ (event.Step 1, Fault (driver 1) Exit ∷ [])
+    ∷ (event.Step 1, [])
+    ∷ (event.Arrive (client 0) 100 stat_root, issued_to 1 ∷ [])
+    ∷ []
+
+-- driver 1 failed at a step that shows it
+fails_failures : (g : ℕ) → IfSome (state_of (failed ∷ idle ∷ []) g) (FailsAtItsStep fails g)
+fails_failures zero = tt
+fails_failures (suc zero) = record { seen = λ f. refl }
+fails_failures (suc (suc zero)) = record { seen = λ f. cc }
+fails_failures (suc (suc (suc g))) = tt
+
+-- the replies are those of the drivers
+fails_replies : (g : ℕ) → IfSome (state_of (failed ∷ idle ∷ []) g) (RepliesOf (marks_of fails) [] g)
+fails_replies zero = tt
+fails_replies (suc zero) = record { bad = refl; one = ((λ e d. cc), (tt, (tt, ((λ e d. cc), (tt, tt))))); own = tt }
+fails_replies (suc (suc zero)) = record { bad = refl; one = ((λ e d. cc), (tt, (tt, ((λ e d. cc), (tt, tt))))); own = tt }
+fails_replies (suc (suc (suc g))) = tt
+
+-- the run is justified
+fails_justified : Justified default_policy 6 fails [] (failed ∷ idle ∷ []) 1
+fails_justified = record {
+  events =
+      shown refl refl (refl, (refl, refl)) refl refl refl (tt, (([], refl), tt)) refl refl (still_wait first_call refl refl refl)
+      ▸ shown (inr (record { one = refl; runs = refl; failed = refl })) refl (refl, refl) refl refl refl (tt, tt) refl refl (still_wait first_call refl refl refl)
+      ▸ quiet (inl refl) refl refl refl refl (still_wait first_call refl refl refl)
+      ▸ shown refl refl (refl, refl) refl refl refl (tt, tt) refl refl (still_wait first_call refl refl refl)
+      ▸ tt;
+  drivers_stand = record { all = refl; sound = refl; failures = fails_failures };
+  replies_stand = record { order = refl; steps = tt; own = fails_replies };
+  calls_left = record { left = first_call; order = refl; number = refl };
+}
+
+-- driver 1 hangs and is replaced; its next step is refused by the media, and no mark shows it
+abbrev pub fails_late : List Group
+fails_late =
+    (event.Deliver 0, replied 0 ∷ Answered (answer_of 2) ∷ [])
+    ∷ (event.Step 2, [])
+    ∷ (event.Step 1, [])
+    ∷ (event.Tick, issued_to 2 ∷ Started (driver 2) ∷ [])
+    ∷ (event.Tick, Fault (driver 1) Hung ∷ [])
+    ∷ (event.Tick, [])
+    ∷ (event.Tick, [])
+    ∷ (event.Hang 1, [])
+    ∷ (event.Step 1, [])
+    ∷ (event.Arrive (client 0) 100 stat_root, issued_to 1 ∷ [])
+    ∷ []
+
+-- the replies that were sent
+abbrev pub fails_late_sent : List Sent
+fails_late_sent = record { reply = answer_of 2; place = 8 } ∷ []
+
+-- driver 1 failed at a step that shows it
+fails_late_failures : (g : ℕ) → IfSome (state_of (failed ∷ done ∷ []) g) (FailsAtItsStep fails_late g)
+fails_late_failures zero = tt
+fails_late_failures (suc zero) = record { seen = λ f. refl }
+fails_late_failures (suc (suc zero)) = record { seen = λ f. cc }
+fails_late_failures (suc (suc (suc g))) = tt
+
+-- the replies are those of the drivers
+fails_late_replies : (g : ℕ) → IfSome (state_of (failed ∷ done ∷ []) g) (RepliesOf (marks_of fails_late) fails_late_sent g)
+fails_late_replies zero = tt
+fails_late_replies (suc zero) = record { bad = refl; one = (tt, (tt, ((λ e d. cc), (tt, (tt, ((λ e d. cc), (tt, tt))))))); own = (record { done = λ e. absurd (two_is_not_one e) }, tt) }
+fails_late_replies (suc (suc zero)) = record { bad = refl; one = (tt, (tt, ((λ e d. refl), (tt, (tt, ((λ e d. absurd (first_is_not_second e)), (tt, tt))))))); own = (record { done = λ e. refl }, tt) }
+fails_late_replies (suc (suc (suc g))) = tt
+
+-- the run is justified
+fails_late_justified : Justified default_policy 6 fails_late fails_late_sent (failed ∷ done ∷ []) 0
+fails_late_justified = record {
+  events =
+      shown refl refl (refl, (refl, refl)) refl refl refl (tt, (tt, tt)) refl refl (all_taken refl)
+      ▸ quiet (inl refl) refl refl refl refl (still_wait first_call refl refl refl)
+      ▸ quiet (inl refl) refl refl refl refl (still_wait first_call refl refl refl)
+      ▸ shown refl refl (refl, (refl, refl)) refl refl refl (tt, (([], refl), tt)) refl refl (still_wait first_call refl refl refl)
+      ▸ shown refl refl (refl, refl) refl refl refl (tt, tt) refl refl (still_wait first_call refl refl refl)
+      ▸ quiet refl refl refl refl refl (still_wait first_call refl refl refl)
+      ▸ quiet refl refl refl refl refl (still_wait first_call refl refl refl)
+      ▸ quiet refl refl refl refl refl (still_wait first_call refl refl refl)
+      ▸ quiet (inl refl) refl refl refl refl (still_wait first_call refl refl refl)
+      ▸ shown refl refl (refl, refl) refl refl refl (tt, tt) refl refl (still_wait first_call refl refl refl)
+      ▸ tt;
+  drivers_stand = record { all = refl; sound = refl; failures = fails_late_failures };
+  replies_stand = record { order = refl; steps = (record { from = refl; step = refl; live = refl; asked = refl }, tt); own = fails_late_replies };
+  calls_left = record { left = []; order = refl; number = refl };
+}
+
+-- no event at all
+abbrev pub empty : List Group
+empty = []
+
+-- no driver has failed
+empty_failures : (g : ℕ) → IfSome (state_of (idle ∷ []) g) (FailsAtItsStep empty g)
+empty_failures zero = tt
+empty_failures (suc zero) = record { seen = λ f. cc }
+empty_failures (suc (suc g)) = tt
+
+-- the replies are those of the drivers
+empty_replies : (g : ℕ) → IfSome (state_of (idle ∷ []) g) (RepliesOf (marks_of empty) [] g)
+empty_replies zero = tt
+empty_replies (suc zero) = record { bad = refl; one = (tt, tt); own = tt }
+empty_replies (suc (suc g)) = tt
+
+-- the run is justified
+empty_justified : Justified default_policy 6 empty [] (idle ∷ []) 0
+empty_justified = record {
+  events = tt;
+  drivers_stand = record { all = refl; sound = refl; failures = empty_failures };
+  replies_stand = record { order = refl; steps = tt; own = empty_replies };
+  calls_left = record { left = []; order = refl; number = refl };
 }

@@ -15,7 +15,7 @@ use Rattle.schedule.specs.Faults.{ExitsAtStep, FailsAtItsStep}
 use Rattle.schedule.specs.Justified.{Justified}
 use Rattle.schedule.proofs.WorkedRuns.{waits}
 use Rattle.schedule.proofs.RightRun.{bad_reply}
-use Rattle.schedule.proofs.Small.{issued_to, answer_of, idle, working}
+use Rattle.schedule.proofs.Small.{issued_to, answer_of, idle, failed}
 
 -- driver 1 was replaced by driver 2
 abbrev after_first : List Group
@@ -24,10 +24,6 @@ after_first = (event.Tick, issued_to 2 ∷ Started (driver 2) ∷ []) ∷ (event
 -- driver 1 hangs, and two ticks were missed
 abbrev two_missed : List Group
 two_missed = (event.Tick, []) ∷ (event.Tick, []) ∷ (event.Hang 1, []) ∷ waits
-
--- a driver that has failed
-abbrev failed : DriverState
-failed = record working { failed = true }
 
 -- an exit that nobody had
 exit_nobody_had : (sent : List Sent) (drivers : List DriverState) (left : ℕ) → Justified default_policy 6 ((event.Flush, Flush ∷ Fault (driver 1) Exit ∷ []) ∷ waits) sent drivers left → ⊥

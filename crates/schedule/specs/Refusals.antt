@@ -1,15 +1,16 @@
 -- When a run is refused before its first event, and why.
-use Rattle.std.specs.Prelude.{◌≡◌, ◌≢◌, ◌≤◌, ℕ, List, [], Option, Some, None}
+use Rattle.std.specs.Prelude.{◌≡◌, ◌≢◌, ◌≤◌, ◌%◌, ℕ, List, [], length, nat_lt, if◌then◌else◌, Option, Some, None}
 use Rattle.media.specs.declared.MediaRefusal.{MediaRefusal}
+use Rattle.media.specs.declared.MediaRefusal.TheVariants.{NotWholeSectors, TooLarge}
 use Rattle.volume.specs.declared.Finding.{Finding}
-use Rattle.volume.specs.Verdict.{Verdict, Clean, Found}
+use Rattle.volume.specs.Verdict.{Verdict, Clean, Found, verdict_of}
 use Rattle.bdev.specs.DriverState.{DriverState, range_while_fresh}
 use Rattle.policy.specs.declared.Setup.{Setup}
 use Rattle.policy.specs.Policy.{IsAllowed}
 use Rattle.schedule.specs.Groups.{Each}
-use Rattle.schedule.specs.Headline.{Range}
+use Rattle.schedule.specs.Headline.{Range, volume_bytes}
 
--- what a run is started with: why the image makes no media, if so; the range of the minor, where the partition table is read and has
+-- what a run is started with: why the image makes no media, if so (want of memory is no reason here); the range of the minor, where the partition table is read and has
 -- one there of MINIX's type; the verdict of the check on the volume in that range; the setup; the drivers handed in
 pub record Start : Type 0 where
   pub media : Option MediaRefusal
@@ -17,6 +18,21 @@ pub record Start : Type 0 where
   pub verdict : Verdict
   pub setup : Setup
   pub drivers : List DriverState
+
+-- why bytes make no media: they are no whole sectors, or more than 64 MiB
+abbrev pub media_refusal_of : List ℕ → Option MediaRefusal
+media_refusal_of image =
+    if nat_lt 0 (length image % 512) then Some NotWholeSectors else if nat_lt 67108864 (length image) then Some TooLarge else None
+
+-- the verdict on the volume in a range of the image; where there is no range, no volume is looked at
+abbrev pub verdict_in : List ℕ → Option Range → Verdict
+verdict_in image None = Clean
+verdict_in image (Some range) = verdict_of (volume_bytes range image)
+
+-- the start of a run over this image, the range of the minor being given
+abbrev pub start_of : List ℕ → Option Range → Setup → List DriverState → Start
+start_of image range setup drivers =
+    record { media = media_refusal_of image; range = range; verdict = verdict_in image range; setup = setup; drivers = drivers }
 
 -- why a run is refused
 pub data Refusal : Type 0 where
