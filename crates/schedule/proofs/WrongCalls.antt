@@ -2,6 +2,7 @@
 use Rattle.std.specs.Prelude.{◌≡◌, ◌≢◌, ℕ, List, [], ◌∷◌, ◌++◌, length, drop, true, false, None, refl}
 use Rattle.std.proofs.Common.{ap}
 use Rattle.bdev.specs.DriverState.{DriverState}
+use Rattle.policy.specs.declared.Policy.{Policy}
 use Rattle.policy.specs.Policy.{default_policy}
 use Rattle.policy.specs.Watch.{driver}
 use Rattle.marks.specs.Open.{is_unfinished}
@@ -59,9 +60,13 @@ call_taken_twice sent drivers left run = let h : ◌≡◌ {A = List Arrival} (f
 begun_after_the_last_event : (sent : List Sent) (drivers : List DriverState) (left : ℕ) → Justified default_policy 6 ((event.Tick, replied 0 ∷ []) ∷ (event.Arrive (client 0) 100 stat_root, []) ∷ []) sent drivers left → ⊥
 begun_after_the_last_event sent drivers left run = let h : ◌≡◌ {A = List Arrival} (first_call) ([]) = taken_if_finished ((event.Arrive (client 0) 100 stat_root, []) ∷ []) run.events.1.0.calls refl in cc
 
--- no call is answered after giving up
-silent_after_giving_up : (sent : List Sent) (drivers : List DriverState) (left : ℕ) → Justified default_policy 1 ((event.Die 1 None, GaveUp ∷ Fault (driver 1) Exit ∷ []) ∷ waits) sent drivers left → ⊥
-silent_after_giving_up sent drivers left run = let h : ◌≡◌ {A = List Arrival} (first_call) ([]) = taken_if_over ((event.Die 1 None, GaveUp ∷ Fault (driver 1) Exit ∷ []) ∷ waits) run.events.0.calls refl in cc
+-- no fault is allowed
+abbrev strict : Policy
+strict = record default_policy { max_faults = 0 }
+
+-- no call is answered after giving up, with an id open for ever
+silent_after_giving_up : (sent : List Sent) (drivers : List DriverState) (left : ℕ) → Justified strict 6 ((event.Tick, []) ∷ (event.Die 1 None, GaveUp ∷ Fault (driver 1) Exit ∷ []) ∷ waits) sent drivers left → ⊥
+silent_after_giving_up sent drivers left run = let h : ◌≡◌ {A = List Arrival} (first_call) ([]) = taken_if_over ((event.Die 1 None, GaveUp ∷ Fault (driver 1) Exit ∷ []) ∷ waits) run.events.1.0.calls refl in cc
 
 -- a call that arrives after giving up isn't answered
 silent_later : (sent : List Sent) (drivers : List DriverState) (left : ℕ) → Justified default_policy 7 ((event.Arrive (client 0) 100 stat_root, []) ∷ given_up) sent drivers left → ⊥

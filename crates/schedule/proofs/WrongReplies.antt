@@ -1,10 +1,13 @@
 -- Runs with wrong replies and answers: each is refused by the clause that its proof names.
 use Rattle.std.specs.Prelude.{◌≡◌, ℕ, List, [], ◌∷◌, drop, true, false, Some, None, refl}
+use Rattle.errno.specs.declared.Errno.TheVariants.{EIO}
 use Rattle.message.specs.declared.BlockReply.{BlockReply}
 use Rattle.bdev.specs.DriverState.{DriverState}
+use Rattle.tree.specs.Answers.{refused}
+use Rattle.policy.specs.declared.Policy.{Policy}
 use Rattle.policy.specs.Policy.{default_policy}
 use Rattle.policy.specs.Watch.{driver}
-use Rattle.marks.specs.Marks.{Started, Answered, GaveUp, Fault}
+use Rattle.marks.specs.Marks.{Started, Answered, GaveUp, Took, Fault}
 use Rattle.marks.specs.declared.Cause.TheVariants.{Exit, Complaint}
 use Rattle.schedule.specs.declared.Sent.{Sent}
 use Rattle.schedule.specs.declared.Event.TheVariants as event
@@ -63,8 +66,12 @@ reply_sent_twice left run = let replies : RepliesOf (marks_of ((event.Step 1, []
 good_reply_made_an_error : (left : ℕ) → Justified default_policy 6 ((event.Step 1, []) ∷ (event.Step 1, []) ∷ waits) (error_at 2 ∷ []) (done ∷ []) left → ⊥
 good_reply_made_an_error left run = let replies : RepliesOf (marks_of ((event.Step 1, []) ∷ (event.Step 1, []) ∷ waits)) (error_at 2 ∷ []) 1 done = run.replies_stand.own 1 in let h : ◌≡◌ {A = ℕ} 1 0 = replies.bad in cc
 
--- the same, with the driver left out of those shown
-error_of_no_driver_shown : (left : ℕ) → Justified default_policy 1 ((event.Deliver 0, GaveUp ∷ Fault (driver 1) Complaint ∷ Answered bad_reply ∷ []) ∷ (event.Step 1, []) ∷ waits) (error_at 1 ∷ []) [] left → ⊥
+-- no fault is allowed
+abbrev strict : Policy
+strict = record default_policy { max_faults = 0 }
+
+-- the driver answered well, the server is given an error, and no driver is shown
+error_of_no_driver_shown : (left : ℕ) → Justified strict 6 ((event.Deliver 0, Took (client 0) 100 stat_root (refused EIO) ∷ GaveUp ∷ Fault (driver 1) Complaint ∷ Answered bad_reply ∷ []) ∷ (event.Step 1, []) ∷ waits) (error_at 1 ∷ []) [] left → ⊥
 error_of_no_driver_shown left run = let h : ◌≡◌ {A = ℕ} 0 1 = run.drivers_stand.all in cc
 
 -- a reply to a request that its driver is still at work on
@@ -75,13 +82,24 @@ reply_to_a_request_in_work left run = let replies : RepliesOf (marks_of ((event.
 reply_to_a_request_never_taken : (left : ℕ) → Justified default_policy 6 ((event.Step 1, []) ∷ (event.Step 1, []) ∷ waits) (sent_at 2 ∷ []) (idle ∷ []) left → ⊥
 reply_to_a_request_never_taken left run = let replies : RepliesOf (marks_of ((event.Step 1, []) ∷ (event.Step 1, []) ∷ waits)) (sent_at 2 ∷ []) 1 idle = run.replies_stand.own 1 in let h : false ≡ true = replies.own.0.done refl in cc
 
--- driver 2 replies at a step before its start
-reply_of_a_driver_not_started : (drivers : List DriverState) (left : ℕ) → Justified default_policy 6 ((event.Tick, issued_to 2 ∷ Started (driver 2) ∷ []) ∷ (event.Die 1 None, Fault (driver 1) Exit ∷ []) ∷ (event.Arrive (client 0) 100 stat_root, issued_to 1 ∷ []) ∷ (event.Step 2, []) ∷ []) (of_driver 2 0 ∷ []) drivers left → ⊥
+-- a reply of driver 2, sent at a step before its start, is taken; one of a driver 99 stands there too
+abbrev invented : List Group
+invented =
+    (event.Deliver 0, replied 0 ∷ Answered (answer_of 2) ∷ [])
+    ∷ (event.Tick, issued_to 2 ∷ Started (driver 2) ∷ [])
+    ∷ (event.Die 1 None, Fault (driver 1) Exit ∷ [])
+    ∷ (event.Arrive (client 0) 100 stat_root, issued_to 1 ∷ [])
+    ∷ (event.Step 99, [])
+    ∷ (event.Step 2, [])
+    ∷ []
+
+-- a driver that wasn't started yet replies
+reply_of_a_driver_not_started : (drivers : List DriverState) (left : ℕ) → Justified default_policy 6 invented (of_driver 2 0 ∷ of_driver 99 1 ∷ []) drivers left → ⊥
 reply_of_a_driver_not_started drivers left run = let h : false ≡ true = run.replies_stand.steps.0.live in cc
 
--- driver 99 replies
-reply_of_a_driver_that_never_was : (drivers : List DriverState) (left : ℕ) → Justified default_policy 6 ((event.Step 99, []) ∷ waits) (of_driver 99 1 ∷ []) drivers left → ⊥
-reply_of_a_driver_that_never_was drivers left run = let h : false ≡ true = run.replies_stand.steps.0.live in cc
+-- a driver that never was replies
+reply_of_a_driver_that_never_was : (drivers : List DriverState) (left : ℕ) → Justified default_policy 6 invented (of_driver 2 0 ∷ of_driver 99 1 ∷ []) drivers left → ⊥
+reply_of_a_driver_that_never_was drivers left run = let h : false ≡ true = run.replies_stand.steps.1.0.live in cc
 
 -- driver 1 replies after its death
 reply_of_a_dead_driver : (drivers : List DriverState) (left : ℕ) → Justified default_policy 6 ((event.Step 1, []) ∷ (event.Die 1 None, Fault (driver 1) Exit ∷ []) ∷ waits) (sent_at 2 ∷ []) drivers left → ⊥

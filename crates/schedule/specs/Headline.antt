@@ -38,7 +38,8 @@ abbrev pub volume_in : Range → List ℕ → Contents
 volume_in range image = slice_index (volume_bytes range image)
 
 -- Replies and read-back: the server's record is well formed, what drivers answered is true, each reply is that of the file tree
--- after each earlier call taken once, and what the server would read back is that tree.
+-- after each earlier call taken once, a sync that answered ok left that tree on the disk alone, and at the end, where the device
+-- isn't given up and no call waits, the server would read it back.
 pub record RepliesHold (g : Geometry) (volume : Contents) (tree : Tree) (t : Transcript) : Type 0 where
   pub well_formed : IsWellFormed t.marks
   pub true_replies : HasTrueReplies volume t.marks
@@ -65,7 +66,7 @@ pub record IsJustified (policy : Policy) (supply : ℕ) (events : List Event) (t
   pub record_is : marks_of groups ≡ t.marks
   pub justified : Justified policy supply groups t.sent t.drivers t.unanswered
 
--- THE HEADLINE. There is a file tree that the volume in this range held at first, without an open file, of which the three parts hold.
+-- The headline: the volume in this range held a file tree at first, without an open file, of which the three parts hold.
 pub record Headline (policy : Policy) (supply : ℕ) (range : Range) (image : List ℕ) (events : List Event) (t : Transcript) : Type 0 where
   pub geometry : Geometry
   pub parsed : geometry_of (volume_bytes range image) ≡ Ok geometry

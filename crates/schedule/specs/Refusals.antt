@@ -10,8 +10,9 @@ use Rattle.policy.specs.Policy.{IsAllowed}
 use Rattle.schedule.specs.Groups.{Each}
 use Rattle.schedule.specs.Headline.{Range, volume_bytes}
 
--- what a run is started with: why the image makes no media, if so (want of memory is no reason here); the range of the minor, where the partition table is read and has
--- one there of MINIX's type; the verdict of the check on the volume in that range; the setup; the drivers handed in
+-- What a run is started with: why the image makes no media, if so (want of memory is no reason here); the range of the minor, where
+-- the partition table is read and has one there of MINIX's type (minor 0 is the whole media, of which no table is read); the verdict
+-- of the check on the volume in that range; the setup; the drivers handed in.
 pub record Start : Type 0 where
   pub media : Option MediaRefusal
   pub range : Option Range
@@ -43,12 +44,12 @@ pub data Refusal : Type 0 where
   NoDriver : Refusal
 
 -- the numbers of the refusals
-abbrev pub number_of : Refusal → ℕ
-number_of (NotMedia refusal) = 1
-number_of NoVolume = 2
-number_of (NotClean finding) = 3
-number_of BadSetup = 4
-number_of NoDriver = 5
+abbrev pub refusal_number : Refusal → ℕ
+refusal_number (NotMedia refusal) = 1
+refusal_number NoVolume = 2
+refusal_number (NotClean finding) = 3
+refusal_number BadSetup = 4
+refusal_number NoDriver = 5
 
 -- a setup for this range: the policy is allowed, there are 16 to 4096 frames, and each driver took nothing yet and serves just the range
 pub record IsGoodSetup (setup : Setup) (range : Range) (drivers : List DriverState) : Type 0 where
