@@ -1,4 +1,5 @@
 pub mod Beginnings
+pub mod GoingOn
 pub mod OneRefusal
 pub mod Making
 pub mod Small

@@ -7,7 +7,7 @@
 //! more. An event that names nothing has no effect.
 #![tactic(auto)]
 
-ghost use Rattle.schedule.specs.Laws.{BeginningKeeps, RefusedForOne, RefusedOrAccepted};
+ghost use Rattle.schedule.specs.Laws.{BeginningKeeps, GroupsStay, RefusedForOne, RefusedOrAccepted, RepliesStay};
 
 use message::BlockReply;
 use tree::{Call, Who};
@@ -50,6 +50,12 @@ pub struct Sent {
 #[tactic(auto, using(crate::proofs::Beginnings::beginning_keeps))]
 pub fn beginning_keeps()
     ensures { BeginningKeeps }
+{}
+
+/// What a run kept at its events so far it keeps while it goes on.
+pub fn run_goes_on()
+    ensures groups { GroupsStay }
+    ensures replies { RepliesStay }
 {}
 
 /// A run is refused for one reason alone, and one that is refused isn't accepted.
