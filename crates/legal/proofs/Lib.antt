@@ -1,0 +1,8 @@
+pub mod Legality
+pub mod Sessions
+pub mod Living
+pub mod LegalRows
+mod ViewRows
+mod SessionRows
+mod ServerRows
+mod ServerRight

@@ -1,6 +1,5 @@
 -- When a record is legal: each answer is that of the tree, which each call moves once.
-use Rattle.std.specs.Prelude.{◌≡◌, ◌⊎◌, ℕ, List, [], ◌∷◌, Bool, true, false, ◌&&◌, ◌==◌, if◌then◌else◌, IsTrue}
-use Rattle.errno.specs.Numbers.{number_of}
+use Rattle.std.specs.Prelude.{◌≡◌, ◌⊎◌, ℕ, List, [], ◌∷◌, Bool, true, false, ◌&&◌, if◌then◌else◌, IsTrue}
 use Rattle.errno.specs.declared.Errno.TheVariants.{EIO, ENOMEM}
 use Rattle.layout.specs.declared.Geometry.{Geometry}
 use Rattle.tree.specs.declared.Who.{Who}
@@ -27,7 +26,7 @@ is_success _ = true
 
 -- whether the answer is want of memory
 abbrev pub is_no_memory : Answer → Bool
-is_no_memory (refused e) = number_of e == number_of ENOMEM
+is_no_memory (refused ENOMEM) = true
 is_no_memory _ = false
 
 -- whether the call is sync

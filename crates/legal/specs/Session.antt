@@ -1,6 +1,13 @@
--- What a session has seen of the service's record, and which marks of it are its own.
-use Rattle.std.specs.Prelude.{◌≡◌, ℕ, ◌&&◌, ◌==◌, List, [], ◌∷◌, length, nat_le, if◌then◌else◌}
-use Rattle.marks.specs.Marks.{Mark, Took, IsBeginning}
+-- What a session has seen of the service's record, which marks of it are its own, and what its calls keep.
+use Rattle.std.specs.Prelude.{◌≡◌, ◌⊎◌, ℕ, ◌%◌, ◌^◌, ◌&&◌, ◌||◌, ◌==◌, List, [], ◌∷◌, Bool, true, false, length, nat_le, if◌then◌else◌}
+use Rattle.layout.specs.declared.Geometry.{Geometry}
+use Rattle.tree.specs.declared.Who.{Who}
+use Rattle.tree.specs.declared.Call.{Call}
+use Rattle.tree.specs.Tree.{Tree}
+use Rattle.marks.specs.Marks.{Mark, Took, counted, gave_up, IsBeginning}
+use Rattle.marks.specs.Disk.{Contents, HasTrueReplies}
+use Rattle.legal.specs.Legal.{IsLegal}
+use Rattle.legal.specs.ServerCall.{Outcome, Replied, Cut}
 
 -- the calls taken of the session with this number, past this place (as many marks as stood there when it was made)
 abbrev pub calls_of : ℕ → ℕ → List Mark → List Mark
@@ -11,9 +18,74 @@ calls_of number place (Took who now call answer ∷ marks) =
     else calls_of number place marks
 calls_of number place (_ ∷ marks) = calls_of number place marks
 
--- what a session knows: its number, the place at which it was made, the beginning of the record that it has seen, its own calls
+-- What a session knows.
 pub record Seen : Type 0 where
   pub number : ℕ
+  -- how many marks stood when it was made
   pub place : ℕ
+  -- the beginning of the service's record that it has learnt of
   pub seen : List Mark
+  -- the marks of its own calls
   pub mine : List Mark
+
+-- the number that the board shows of a record: its counted marks, in 64 bits
+abbrev pub tally_of : List Mark → ℕ
+tally_of marks = counted marks % 2 ^ 64
+
+-- what always holds of a session and the record of its service
+pub record IsSession (s : Seen) (marks : List Mark) : Type 0 where
+  pub beginning : IsBeginning s.seen marks
+  pub own : s.mine ≡ calls_of s.number s.place s.seen
+
+-- what holds when it is made: it has seen each call so far with its number
+pub record IsNewSession (s : Seen) (marks : List Mark) : Type 0 where
+  pub beginning : IsBeginning s.seen marks
+  pub here : s.place ≡ length s.seen
+  pub none : s.mine ≡ []
+  pub saw_all : calls_of s.number s.place marks ≡ []
+
+-- the later state knows more of the same session
+pub record LearnsMore (old new : Seen) : Type 0 where
+  pub number : new.number ≡ old.number
+  pub place : new.place ≡ old.place
+  pub beginning : IsBeginning old.seen new.seen
+  pub own : new.mine ≡ calls_of new.number new.place new.seen
+
+-- an answer is this call's mark, last in what was seen and in what is its own; a cut adds none of its own
+abbrev pub EndsWith : Outcome → Who → ℕ → Call → Seen → Seen → Type 0
+EndsWith (Replied answer) who now call old new =
+    (before : List Mark) × (new.seen ≡ Took who now call answer ∷ before) × (new.mine ≡ Took who now call answer ∷ old.mine)
+EndsWith Cut who now call old new = new.mine ≡ old.mine
+
+-- one call of a session
+pub record SessionCallKeeps (g : Geometry) (image : Contents) (tree : Tree) (old : Seen) (who : Who) (now : ℕ) (call : Call) (outcome : Outcome) (new : Seen) : Type 0 where
+  pub learns : LearnsMore old new
+  pub session : who.session ≡ old.number
+  pub ends : EndsWith outcome who now call old new
+  pub legal : HasTrueReplies image new.seen → IsLegal g image tree new.seen
+
+-- the longer of two records, which begins with the other
+abbrev pub IsLonger : List Mark → List Mark → List Mark → Type 0
+IsLonger longer a b = ((longer ≡ a) × IsBeginning b a) ⊎ ((longer ≡ b) × IsBeginning a b)
+
+-- two sessions of one service meet: both have then seen the longer of their records, and neither makes a mark
+pub record MeetKeeps (a b newer_a newer_b : Seen) : Type 0 where
+  pub first : LearnsMore a newer_a
+  pub second : LearnsMore b newer_b
+  pub same : newer_a.seen ≡ newer_b.seen
+  pub longer : IsLonger newer_a.seen a.seen b.seen
+  pub first_own : newer_a.mine ≡ a.mine
+  pub second_own : newer_b.mine ≡ b.mine
+
+-- whether a call was taken after the device was given up
+abbrev pub went_on : List Mark → Bool
+went_on [] = false
+went_on (Took who now call answer ∷ marks) = gave_up marks || went_on marks
+went_on (_ ∷ marks) = went_on marks
+
+-- A session asks whether the device was given up. Yes only where it has then seen so, and yes where it had seen a call taken after it.
+pub record DeviceKeeps (old : Seen) (given_up : Bool) (new : Seen) : Type 0 where
+  pub learns : LearnsMore old new
+  pub own : new.mine ≡ old.mine
+  pub only : given_up ≡ true → gave_up new.seen ≡ true
+  pub always : went_on old.seen ≡ true → given_up ≡ true

@@ -2,6 +2,7 @@
 use Rattle.std.specs.Prelude.{◌≡◌, ℕ, ◌+◌, ◌-◌, ◌*◌, ◌<◌, List, [], ◌∷◌, Bool, false, ◌&&◌, ◌||◌, not, nat_lt, nat_le, if◌then◌else◌, Option, Some, None, slice_index}
 use Rattle.message.specs.Good.{is_write}
 use Rattle.message.specs.declared.BlockRequest.{BlockRequest}
+use Rattle.message.specs.declared.BlockReply.{BlockReply}
 use Rattle.marks.specs.Marks.{Mark, Answered, Issued}
 use Rattle.marks.specs.Open.{asked_by, moved_by}
 
@@ -19,6 +20,12 @@ settles (Some r) (Some n) place = is_write r.kind && nat_le r.position place && 
 settles (Some r) None place = false
 settles None n place = false
 
+-- a good answer to a read covers this place within the bytes that it moved
+abbrev pub fetches : Option BlockRequest → Option ℕ → ℕ → Bool
+fetches (Some r) (Some n) place = not (is_write r.kind) && nat_le r.position place && nat_lt place (r.position + n)
+fetches (Some r) None place = false
+fetches None n place = false
+
 -- the byte that a request has for this place
 abbrev pub byte_for : Option BlockRequest → ℕ → ℕ
 byte_for (Some r) place = slice_index r.bytes (place - r.position)
@@ -30,6 +37,24 @@ disk_after image [] place = image place
 disk_after image (Answered a ∷ marks) place =
     if settles (asked_by a marks) (moved_by a marks) place then byte_for (asked_by a marks) place else disk_after image marks place
 disk_after image (_ ∷ marks) place = disk_after image marks place
+
+-- the byte that a reply has for this place
+abbrev pub byte_of : Option BlockRequest → BlockReply → ℕ → ℕ
+byte_of (Some r) a place = slice_index a.bytes (place - r.position)
+byte_of None a place = 0
+
+-- what was read, be it true or not: the byte that the last good answer to a read gave for the place, or 0 with none
+abbrev pub bytes_read : List Mark → Contents
+bytes_read [] place = 0
+bytes_read (Answered a ∷ marks) place =
+    if fetches (asked_by a marks) (moved_by a marks) place then byte_of (asked_by a marks) a place else bytes_read marks place
+bytes_read (_ ∷ marks) place = bytes_read marks place
+
+-- whether a good answer to a read covered the place
+abbrev pub is_read : List Mark → ℕ → Bool
+is_read [] place = false
+is_read (Answered a ∷ marks) place = fetches (asked_by a marks) (moved_by a marks) place || is_read marks place
+is_read (_ ∷ marks) place = is_read marks place
 
 -- a write that covers the place was issued after the last good answer to a write that covers it (or with none so far)
 abbrev pub unsure : List Mark → ℕ → Bool

@@ -1,6 +1,8 @@
 //! The record of a file server: its marks, when they are well formed, what they say of the disk, and what a link was told.
 #![tactic(auto)]
 
+pub mod laws;
+
 /// Why a driver is replaced.
 #[derive(Clone, Copy, Debug, PartialEq, Eq)]
 pub enum Cause {

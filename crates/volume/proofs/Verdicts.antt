@@ -1,21 +1,19 @@
 -- The verdict on an image is its least finding.
-use Rattle.std.proofs.Common.{◌≡◌, ◌<◌, ◌≤◌, ◌+◌, ◌-◌, ◌*◌, ℕ, zero, suc, List, [], ◌∷◌, Bool, true, false, length, refl, sym, ap, subst, ◌∙◌, arith}
+use Rattle.std.proofs.Common.{◌≡◌, ◌≤◌, ℕ, List, Bool, false, refl, sym, ap, subst, ◌∙◌, arith}
 use mathlib.Core.Logic.{◌⊎◌, inl, inr}
-use Rattle.std.specs.Prelude.{◌==◌, ◌&&◌, not, nat_le, nat_lt, slice_index, Result, Ok, Err, if◌then◌else◌}
-use Rattle.std.proofs.lemmas.Bool.{cases_Bool, cases_eq, cond-true, cond-false, ne_eqb, eq-eqb, and_left, and_right, and_parts, leb-true, leb-false, le-leb, lt-ltb, ltb-true, false_from_ne_true, not-false}
+use Rattle.std.specs.Prelude.{◌==◌, ◌&&◌, nat_le, nat_lt, Result, Ok, Err}
+use Rattle.std.proofs.lemmas.Bool.{ne_eqb, eq-eqb, and_left, and_right, leb-true, ltb-true, false_from_ne_true}
 use Rattle.layout.specs.declared.Geometry.{Geometry}
 use Rattle.layout.specs.declared.LayoutRefusal.{LayoutRefusal}
-use Rattle.layout.specs.declared.LayoutRefusal.TheVariants.{Truncated, BadMagic, BadBlockSize, BadVersion, BadCounts, DoesNotFit}
-use Rattle.layout.specs.Bytes.{u16_at, u32_at}
-use Rattle.layout.specs.Places.{geometry_of, superblock_geometry, counts_agree, is_block_size}
-use Rattle.volume.specs.declared.Finding.{Finding}
+use Rattle.layout.specs.Places.{geometry_of, refusal_number}
+use Rattle.layout.proofs.Parsed.{geometry_fits}
 use Rattle.volume.specs.Reading.{disk_of, is_inode, is_data_zone}
 use Rattle.volume.specs.Pieces.{Pieces, pieces}
 use Rattle.volume.specs.Nodes.{is_marked, is_directory_mode}
 use Rattle.volume.specs.Entries.{is_directory_inode}
-use Rattle.volume.specs.Verdict.{Verdict, Clean, Found, Test, found, tests, refusal_number, place_limit, verdict_of_pieces, verdict_of}
-use Rattle.volume.specs.IsVerdict.{is_true_at, is_finding, IsLeastFinding, IsVerdict, VerdictIsLeast}
-use Rattle.volume.proofs.Least.{IsWithin, IsFirst, IsFirstOf, first_is_least}
+use Rattle.volume.specs.Verdict.{Verdict, Clean, Found, Test, found, tests, place_limit, verdict_of_pieces}
+use Rattle.volume.specs.IsVerdict.{is_true_at, is_finding, IsVerdict, VerdictIsLeast}
+use Rattle.volume.proofs.Least.{IsWithin, IsFirstOf, first_is_least}
 
 module _ (g : Geometry) (v : Pieces) (some_inode : 1 ≤ g.inodes) where
   -- no inode has a number so great
@@ -49,26 +47,6 @@ module _ (g : Geometry) (v : Pieces) (some_inode : 1 ≤ g.inodes) where
     (λ p h. and_left (is_directory_inode g v p) _ (no_directory p h),
     (λ p h. and_left (is_marked g v p) _ (unmarked p h),
     tt)))))))))))))))
-
--- a refusal that didn't come
-passed : (b : Bool) (refusal : LayoutRefusal) (r : Result Geometry LayoutRefusal) (g : Geometry) → (if b then Err refusal else r) ≡ Ok g → (b ≡ false) × (r ≡ Ok g)
-passed true refusal r g e = absurd (cc)
-passed false refusal r g e = (refl, e)
-
--- an image that isn't refused has an inode
-some_inode : (image : List ℕ) (g : Geometry) → geometry_of image ≡ Ok g → 1 ≤ g.inodes
-some_inode image g e =
-    let named = superblock_geometry image in
-    let truncated = passed (nat_lt (length image) 1055) Truncated _ g e in
-    let magic = passed (not (u16_at image 1048 == 19802)) BadMagic _ g truncated.1 in
-    let size = passed (not (is_block_size named.block_size)) BadBlockSize _ g magic.1 in
-    let version = passed (not ((slice_index image 1054 == 0) && (u16_at image 1036 == 0))) BadVersion _ g size.1 in
-    let counts = passed (not ((u32_at image 1040 == 2147483647) && counts_agree named)) BadCounts _ g version.1 in
-    let fits = passed (nat_lt (length image) (named.zones * named.block_size)) DoesNotFit (Ok named) g counts.1 in
-    let agree : counts_agree named ≡ true = (and_parts _ _ (not-false _ counts.0)).1 in
-    let first : nat_le 1 named.inodes ≡ true = (and_parts _ _ (and_parts _ _ (and_parts _ _ (and_parts _ _ (and_parts _ _ (and_parts _ _ agree).0).0).0).0).0).0 in
-    let same : named.inodes ≡ g.inodes = ap (λ (r : Result Geometry LayoutRefusal). elim r [ Ok x ↦ x.inodes | Err x ↦ 0 ]) fits.1 in
-    subst (λ n. 1 ≤ n) same (leb-true 1 named.inodes first)
 
 -- an image is refused or read
 either : (r : Result Geometry LayoutRefusal) → ((refusal : LayoutRefusal) × (r ≡ Err refusal)) ⊎ ((g : Geometry) × (r ≡ Ok g))
@@ -112,5 +90,5 @@ verdict_is_least image = elim (either (geometry_of image)) [
     let v = pieces g (disk_of g image) in
     subst (IsVerdict image) (sym (ap (verdict_by image) e))
         (from_tests image 2 (tests g v) (λ number place. ap (finding_by image number place) e) (verdict_of_pieces g v)
-            (first_is_least (place_limit g) 2 (tests g v) (tests_within g v (some_inode image g e))))
+            (first_is_least (place_limit g) 2 (tests g v) (tests_within g v (geometry_fits image g e).0.some_inode)))
 ]

@@ -1,10 +1,10 @@
 -- What the verdict is, apart from how it is looked for: of the findings that are true of an image, the least.
 use Rattle.std.specs.Prelude.{◌≡◌, ◌<◌, ℕ, ◌+◌, List, [], ◌∷◌, Bool, true, false, ◌&&◌, ◌==◌, Ok, Err, if◌then◌else◌}
-use Rattle.layout.specs.Places.{geometry_of}
+use Rattle.layout.specs.Places.{geometry_of, refusal_number}
 use Rattle.volume.specs.declared.Finding.{Finding}
 use Rattle.volume.specs.Reading.{disk_of}
 use Rattle.volume.specs.Pieces.{pieces}
-use Rattle.volume.specs.Verdict.{Verdict, Clean, Found, Test, tests, refusal_number, verdict_of}
+use Rattle.volume.specs.Verdict.{Verdict, Clean, Found, Test, tests, verdict_of}
 
 -- of the tests, which are numbered from k on, the one with this number is true at this place
 abbrev pub is_true_at : ℕ → List Test → ℕ → ℕ → Bool

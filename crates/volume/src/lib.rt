@@ -1,6 +1,7 @@
 //! What the bytes of a volume say: the tree that an image holds, and the findings of the check.
 #![tactic(auto)]
 
+ghost use Rattle.volume.specs.Fresh.{FreshHolds};
 ghost use Rattle.volume.specs.Holds.{OneMapOfNodes};
 ghost use Rattle.volume.specs.IsVerdict.{VerdictIsLeast};
 
@@ -62,4 +63,9 @@ pub fn one_map_of_nodes()
 #[tactic(auto, using(crate::proofs::Verdicts::verdict_is_least))]
 pub fn verdict_is_least()
     ensures { VerdictIsLeast }
+{}
+
+/// A new volume holds a root alone, whatever its geometry: what `mkfs` has to write is sound, and is a tree.
+pub fn fresh_holds()
+    ensures { FreshHolds }
 {}

@@ -1,0 +1,110 @@
+-- What opening and mounting promise, over any link.
+use Rattle.std.specs.Prelude.{◌≡◌, ◌≢◌, ℕ, zero, suc, ◌*◌, ◌<◌, List, [], ◌∷◌, ◌++◌, Bool, true, false, ◌&&◌, nat_le, None, Err}
+use Rattle.layout.specs.declared.Geometry.{Geometry}
+use Rattle.layout.specs.declared.LayoutRefusal.{LayoutRefusal}
+use Rattle.layout.specs.declared.LayoutRefusal.TheVariants.{DoesNotFit}
+use Rattle.layout.specs.Places.{superblock_geometry, geometry_of}
+use Rattle.tree.specs.Tree.{Tree}
+use Rattle.volume.specs.declared.Finding.{Finding}
+use Rattle.volume.specs.Verdict.{Clean, Found, verdict_of, HoldsClosed}
+use Rattle.marks.specs.Marks.{Mark, gave_up}
+use Rattle.marks.specs.Disk.{Contents, HasTrueReplies, bytes_read, is_read}
+use Rattle.marks.specs.Told.{Told, took_end}
+use Rattle.marks.specs.Acts.{Act, told_of, has_absorbed, marks_after, empty_outbox, outbox_after, KeepsRules}
+use Rattle.legal.specs.Legal.{IsAtFirst}
+use Rattle.legal.specs.ServerCall.{Serving, Serves}
+
+-- how many frames a cache may have: 16 to 4096
+abbrev pub is_frame_count : ℕ → Bool
+is_frame_count frames = nat_le 16 frames && nat_le frames 4096
+
+-- the bytes of the first places
+unfoldable pub first_bytes : Contents → ℕ → List ℕ
+first_bytes contents zero = []
+first_bytes contents (suc n) = first_bytes contents n ++ contents n ∷ []
+
+-- the first 2048 bytes that were read: the boot block and the superblock
+abbrev pub head_read : List Mark → List ℕ
+head_read marks = first_bytes (bytes_read marks) 2048
+
+-- the sizes that the superblock gives, as it was read
+abbrev pub geometry_read : List Mark → Geometry
+geometry_read marks = superblock_geometry (head_read marks)
+
+-- how many bytes the volume has, by these
+abbrev pub volume_size : List Mark → ℕ
+volume_size marks = let g = geometry_read marks in g.zones * g.block_size
+
+-- the volume as it was read
+abbrev pub volume_read : List Mark → List ℕ
+volume_read marks = first_bytes (bytes_read marks) (volume_size marks)
+
+-- each of the first places was read
+pub record AreRead (marks : List Mark) (n : ℕ) : Type 0 where
+  pub each : (place : ℕ) → place < n → is_read marks place ≡ true
+
+-- a server just made: its cache is empty, no file is open and nothing is owed
+pub record IsJustMade (new : Serving) : Type 0 where
+  pub frames : (block : ℕ) → new.frames block ≡ None
+  pub not_busy : new.is_busy ≡ false
+  pub not_ended : new.ended ≡ false
+
+-- A server that was opened: it told its link nothing and took nothing. Whatever tree the link's disk holds, it serves that.
+pub record OpenKeeps (g : Geometry) (minor frames : ℕ) (before : List Told) (new : Serving) : Type 0 where
+  pub frame_count : is_frame_count frames ≡ true
+  pub geometry : new.geometry ≡ g
+  pub minor_is : new.minor ≡ minor
+  pub told : new.told ≡ before
+  pub is_new : IsJustMade new
+  pub outbox : new.outbox ≡ empty_outbox
+  pub serves : (image : Contents) (tree : Tree) → IsAtFirst g image tree → Serves new image tree []
+
+-- what mounting does at its link, from the empty record on: it keeps the rules, and nothing is handed over in it
+pub record Mounting (minor : ℕ) (before : List Told) (acts : List Act) (after : List Told) : Type 0 where
+  pub told : after ≡ told_of acts ++ before
+  pub none_absorbed : has_absorbed acts ≡ false
+  pub keep : KeepsRules minor acts [] empty_outbox
+
+-- A server that was mounted. What was read is clean, and holds the tree that is served, over any link; over true replies the
+-- image holds it.
+pub record MountKeeps (minor frames : ℕ) (before : List Told) (new : Serving) : Type 0 where
+  pub acts : List Act
+  pub frame_count : is_frame_count frames ≡ true
+  pub mounting : Mounting minor before acts new.told
+  pub minor_is : new.minor ≡ minor
+  pub geometry : new.geometry ≡ geometry_read (marks_after acts [])
+  pub is_new : IsJustMade new
+  pub none_ended : took_end (told_of acts) ≡ false
+  pub not_given_up : gave_up (marks_after acts []) ≡ false
+  pub outbox : new.outbox ≡ outbox_after acts [] empty_outbox
+  pub clean : verdict_of (volume_read (marks_after acts [])) ≡ Clean
+  pub tree : Tree
+  pub held : HoldsClosed (volume_read (marks_after acts [])) tree
+  pub at_first : (image : Contents) → HasTrueReplies image (marks_after acts []) → IsAtFirst new.geometry image tree
+  pub serves : (image : Contents) → Serves new image tree (marks_after acts [])
+
+-- Why nothing is mounted, in the order of the refusals' numbers.
+pub data MountRefusal : Type 0 where
+  Layout : (refusal : LayoutRefusal) → MountRefusal
+  Inconsistent : (finding : Finding) → MountRefusal
+  OutOfMemory : MountRefusal
+  Eio : MountRefusal
+  LinkEnded : MountRefusal
+  BadFrames : MountRefusal
+
+-- when each refusal comes, the marks being those of mounting and ended that a take gave End; the number of frames is looked at first
+abbrev pub IsWhyNotMounted : ℕ → List Mark → Bool → MountRefusal → Type 0
+IsWhyNotMounted frames marks ended (Layout refusal) =
+    (is_frame_count frames ≡ true) × AreRead marks 2048 × (geometry_of (head_read marks) ≡ Err refusal) × (refusal ≢ DoesNotFit)
+IsWhyNotMounted frames marks ended (Inconsistent finding) =
+    (is_frame_count frames ≡ true) × AreRead marks (volume_size marks) × (verdict_of (volume_read marks) ≡ Found finding)
+IsWhyNotMounted frames marks ended OutOfMemory = is_frame_count frames ≡ true
+IsWhyNotMounted frames marks ended Eio = (is_frame_count frames ≡ true) × (gave_up marks ≡ true)
+IsWhyNotMounted frames marks ended LinkEnded = (is_frame_count frames ≡ true) × (ended ≡ true)
+IsWhyNotMounted frames marks ended BadFrames = (is_frame_count frames ≡ false) × (marks ≡ [])
+
+-- a refused mount: what it did at its link until then, and why it stopped
+pub record MountRefused (minor frames : ℕ) (before : List Told) (refusal : MountRefusal) (after : List Told) : Type 0 where
+  pub acts : List Act
+  pub mounting : Mounting minor before acts after
+  pub why : IsWhyNotMounted frames (marks_after acts []) (took_end (told_of acts)) refusal
