@@ -44,12 +44,12 @@ pub data Refusal : Type 0 where
   NoDriver : Refusal
 
 -- the numbers of the refusals
-abbrev pub refusal_number : Refusal → ℕ
-refusal_number (NotMedia refusal) = 1
-refusal_number NoVolume = 2
-refusal_number (NotClean finding) = 3
-refusal_number BadSetup = 4
-refusal_number NoDriver = 5
+abbrev pub run_refusal_number : Refusal → ℕ
+run_refusal_number (NotMedia refusal) = 1
+run_refusal_number NoVolume = 2
+run_refusal_number (NotClean finding) = 3
+run_refusal_number BadSetup = 4
+run_refusal_number NoDriver = 5
 
 -- a setup for this range: the policy is allowed, there are 16 to 4096 frames, and each driver took nothing yet and serves just the range
 pub record IsGoodSetup (setup : Setup) (range : Range) (drivers : List DriverState) : Type 0 where
