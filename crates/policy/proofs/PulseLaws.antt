@@ -138,6 +138,7 @@ fault_at_tick policy watch (Running last missed) tick pulse pulses some runs cou
 fault_at_tick policy watch (Waiting until) tick pulse pulses some runs counts = cc
 fault_at_tick policy watch GivenUp tick pulse pulses some runs counts = cc
 
+-- so it is after any events
 pub tick_is_fault : TickIsFault
 tick_is_fault policy drivers events tick pulse some runs =
     fault_at_tick policy (watch_after policy (new_watch drivers) events) (watch_after policy (new_watch drivers) events).phase tick pulse

@@ -85,6 +85,7 @@ kept_after policy drivers ticks watch [] follows = follows
 kept_after policy drivers ticks watch (event ∷ events) follows =
     kept_after policy drivers (if is_of_fault (on policy watch event).1 then tick_of event ∷ ticks else ticks) (on policy watch event).0 events (kept_at policy drivers ticks watch event follows)
 
+-- from a new watch on
 pub watch_follows_faults : WatchFollowsFaults
 watch_follows_faults policy drivers events some =
     kept_after policy drivers [] (new_watch drivers) events (record { last = refl; phase = (refl, some); supply = omega arith })

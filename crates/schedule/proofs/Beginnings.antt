@@ -41,6 +41,7 @@ schedule_of-drop groups events later e =
     ∙ drop-append_seam (reverse later) (reverse events))))
     ∙ reverse-reverse events
 
+-- the groups but for the later ones are those of the beginning
 pub beginning_keeps : BeginningKeeps
 beginning_keeps policy supply sent drivers groups events later each e = record {
   first = drop (length later) groups;

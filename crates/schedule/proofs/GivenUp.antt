@@ -18,6 +18,7 @@ use Rattle.schedule.specs.Justified.{Justified}
 use Rattle.schedule.proofs.Making.{◌▸◌, all_taken, still_wait, shown, quiet}
 use Rattle.schedule.proofs.Small.{client, stat_root, first_call, issued_to, idle}
 
+-- `seek 0 set 0`
 abbrev pub seek : Call
 seek = Seek 0 Set (pos 0)
 

@@ -102,6 +102,7 @@ each_stays policy supply sent more drivers drivers' (g ∷ groups) later failed 
       each_stays policy supply sent more drivers drivers' groups sooner failed each.1,
     )
 
+-- the replies of all are the earlier ones and more
 pub groups_stay : GroupsStay
 groups_stay policy supply sent drivers sent' drivers' groups went each =
     let P : List Sent → Type 0 = λ all. EachGroup (GroupKeeps policy supply all drivers') groups in
@@ -127,6 +128,7 @@ first_groups-next n g groups within =
     let e : length (g ∷ groups) - n ≡ suc (length groups - n) = omega (arith, within) in
     ap (λ k. drop k (g ∷ groups)) e
 
+-- the events and groups before a step stay what they are
 pub replies_stay : RepliesStay
 replies_stay g groups s stands = record {
   from = stands.from;

@@ -59,6 +59,7 @@ quiet exits hung starts answers flushes calls = shown exits hung refl starts ref
 pub two_is_not_one : ◌≡◌ {A = ℕ} 2 1 → ⊥
 two_is_not_one e = omega arith
 
+-- the other way round
 pub one_is_not_two : ◌≡◌ {A = ℕ} 1 2 → ⊥
 one_is_not_two e = omega arith
 
@@ -66,5 +67,6 @@ one_is_not_two e = omega arith
 pub second_is_not_first : driver 2 ≡ driver 1 → ⊥
 second_is_not_first e = two_is_not_one (ap (λ (x : Endpoint). x.generation) e)
 
+-- the other way round
 pub first_is_not_second : driver 1 ≡ driver 2 → ⊥
 first_is_not_second e = one_is_not_two (ap (λ (x : Endpoint). x.generation) e)

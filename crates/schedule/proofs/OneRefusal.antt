@@ -33,6 +33,7 @@ same_setup start a b at_a at_b good =
     let P : Range → Type 0 = λ r. IsGoodSetup start.setup r start.drivers in
     subst P (same_range start a b at_a at_b) good
 
+-- each two reasons but equal ones rule each other out
 pub refused_for_one : RefusedForOne
 refused_for_one start (NotMedia r) (NotMedia s) h k = ap NotMedia (same_some (sym h ∙ k))
 refused_for_one start (NotMedia r) NoVolume h k = absurd (some_or_none h k.0)
@@ -60,6 +61,7 @@ refused_for_one start NoDriver (NotClean s) h k = absurd (found_or_clean k.2 h.2
 refused_for_one start NoDriver BadSetup h k = absurd (k.3 (same_setup start h.0 k.0 h.1 k.1 h.3))
 refused_for_one start NoDriver NoDriver h k = refl
 
+-- each reason rules being accepted out
 pub refused_or_accepted : RefusedOrAccepted
 refused_or_accepted start (NotMedia r) range h accepted = some_or_none h accepted.volume.media
 refused_or_accepted start NoVolume range h accepted = some_or_none accepted.volume.range_is h.1
