@@ -1,0 +1,2 @@
+pub mod DriverState
+pub mod Promises

@@ -1,0 +1,210 @@
+//! The media of a disk: sectors of 512 bytes behind a fence of generations.
+//!
+//! A driver moves sectors under the generation that it was started with. Once a later generation is
+//! adopted, every call under an earlier one is refused and changes nothing: a driver that was
+//! replaced can't write any more, however late it wakes up.
+#![tactic(auto)]
+
+ghost use Rattle.std.specs.Prelude.{◌≡◌, ◌≢◌, ◌≤◌, ◌<◌, ◌*◌, ◌%◌, ◌/◌, ◌↔◌, length, IsTrue, IsNone, IfSome, IfOk, IfErr};
+ghost use Rattle.std.specs.List.{concat};
+ghost use Rattle.media.specs.Contents.{IsWhole, Adopt, Write, Tear, accepts, media_after, sectors_of, written};
+ghost use Rattle.media.specs.Answers.{media_refusal_number, sector_refusal_number, refusal_of, read_answer, write_answer};
+
+use std::alloc::{AllocError, Global};
+use std::marker::Model;
+use thiserror::Error;
+
+/// The bytes of a sector.
+pub const SECTOR: usize = 512;
+
+/// The most bytes of a media (own): 64 MiB, which is 131072 sectors.
+pub const MOST_BYTES: usize = 67108864;
+
+/// Why bytes don't make a media, or a media gives no image.
+#[derive(Clone, Copy, Debug, Drop, Error, PartialEq, Eq)]
+pub enum MediaRefusal {
+    /// The number of bytes is no multiple of 512.
+    #[error("NotWholeSectors")]
+    NotWholeSectors,
+    /// There are more than 67108864 bytes.
+    #[error("TooLarge")]
+    TooLarge,
+    /// No memory was found.
+    #[error("OutOfMemory")]
+    OutOfMemory,
+}
+
+impl MediaRefusal {
+    /// Its number.
+    pub fn number(&self) -> u32
+        ensures { result ≡ media_refusal_number self.now }
+    {
+        match self {
+            MediaRefusal::NotWholeSectors => 1,
+            MediaRefusal::TooLarge => 2,
+            MediaRefusal::OutOfMemory => 3,
+        }
+    }
+}
+
+impl From<AllocError> for MediaRefusal {
+    ghost use Rattle.media.specs.declared.MediaRefusal.TheVariants.{OutOfMemory};
+
+    ghost from_gives = { λ _ e. e ≡ OutOfMemory };
+
+    fn from(_error: AllocError) -> MediaRefusal {
+        MediaRefusal::OutOfMemory
+    }
+}
+
+/// Why a sector isn't moved. The generation is looked at first.
+#[derive(Clone, Copy, Debug, Drop, Error, PartialEq, Eq)]
+pub enum SectorRefusal {
+    /// The generation isn't the current one.
+    #[error("Revoked")]
+    Revoked,
+    /// There is no sector of this number.
+    #[error("PastEnd")]
+    PastEnd,
+}
+
+impl SectorRefusal {
+    /// Its number.
+    pub fn number(&self) -> u32
+        ensures { result ≡ sector_refusal_number self.now }
+    {
+        match self {
+            SectorRefusal::Revoked => 1,
+            SectorRefusal::PastEnd => 2,
+        }
+    }
+}
+
+/// Sectors, and the generation that may move them: the greatest one adopted so far, 0 at first.
+#[derive(Drop)]
+pub struct Media {
+    sectors: Vec<[u8; SECTOR]>,
+    generation: u32,
+}
+
+impl Model for Media {
+    ghost use Rattle.media.specs.Contents.{MediaState, IsWhole};
+
+    ghost Value = { MediaState };
+
+    ghost view = { λ m. record { sectors = m.sectors.items; generation = m.generation } };
+
+    ghost invariant = { λ m. IsWhole m.sectors.items };
+}
+
+impl Media {
+    /// The media that hold these bytes, 512 in each sector, in order. The current generation is 0.
+    pub fn from_bytes(alloc: Global, bytes: &[u8]) -> Result<Media, MediaRefusal>
+        ensures not_whole { (result ≡ Err MediaRefusal.NotWholeSectors) ↔ (length bytes.now % 512 ≢ 0) }
+        ensures too_large { (result ≡ Err MediaRefusal.TooLarge) ↔ ((length bytes.now % 512 ≡ 0) × (67108864 < length bytes.now)) }
+        ensures ok { IfOk result (λ m. m ≡ record { sectors = sectors_of bytes.now; generation = 0 }) }
+    {
+        let (sectors, rest) = bytes.as_chunks::<SECTOR>();
+        if !rest.is_empty() {
+            return Err(MediaRefusal::NotWholeSectors);
+        }
+        if bytes.len() > MOST_BYTES {
+            return Err(MediaRefusal::TooLarge);
+        }
+        let sectors = sectors.iter().copied().collect(alloc)?;
+        Ok(Media {
+            sectors,
+            generation: 0,
+        })
+    }
+
+    /// How many sectors there are: at most 131072.
+    pub fn sectors(&self) -> u32
+        ensures value { result ≡ length self.now.sectors }
+        ensures whole { IsWhole self.now.sectors }
+    {
+        self.sectors.len() as u32
+    }
+
+    /// The bytes of all sectors, in order.
+    #[tactic(auto, using(crate::proofs::SectorLaws::joined_more))]
+    pub fn image(&self, alloc: Global) -> Result<Vec<u8>, MediaRefusal>
+        ensures ok { IfOk result (λ v. v.items ≡ concat self.now.sectors) }
+        ensures err { IfErr result (λ e. e ≡ MediaRefusal.OutOfMemory) }
+    {
+        let mut bytes = Vec::with_capacity(alloc, SECTOR * self.sectors.len())?;
+        for sector in &self.sectors {
+            bytes.extend_from_slice(sector)?;
+        }
+        Ok(bytes)
+    }
+
+    /// Makes a greater generation the current one; one that isn't greater changes nothing.
+    pub fn adopt(&mut self, generation: u32)
+        ensures { self.new ≡ media_after self.old (Adopt generation) }
+    {
+        self.generation = self.generation.max(generation);
+    }
+
+    /// The bytes of sector `n`, read under a generation.
+    pub fn read_sector(&self, generation: u32, n: u32) -> Result<[u8; SECTOR], SectorRefusal>
+        ensures { result ≡ read_answer self.now generation n }
+    {
+        match self.refusal(generation, n) {
+            None => Ok(self.sectors[n as usize]),
+            Some(refusal) => Err(refusal),
+        }
+    }
+
+    /// Writes sector `n` under a generation. A refused write changes nothing.
+    pub fn write_sector(
+        &mut self,
+        generation: u32,
+        n: u32,
+        bytes: &[u8; SECTOR],
+    ) -> Result<(), SectorRefusal>
+        ensures after { self.new ≡ media_after self.old (Write generation n bytes.now) }
+        ensures answer { result ≡ write_answer self.old generation n }
+    {
+        self.put(generation, n, bytes)
+    }
+
+    /// Leaves in sector `n` the bytes that the death of a driver in the middle of a write left there.
+    pub fn tear(
+        &mut self,
+        generation: u32,
+        n: u32,
+        bytes: &[u8; SECTOR],
+    ) -> Result<(), SectorRefusal>
+        ensures after { self.new ≡ media_after self.old (Tear generation n bytes.now) }
+        ensures answer { result ≡ write_answer self.old generation n }
+    {
+        self.put(generation, n, bytes)
+    }
+
+    /// Why generation `generation` may not move sector `n`, if it may not.
+    fn refusal(&self, generation: u32, n: u32) -> Option<SectorRefusal>
+        ensures moves { IsNone result ↔ IsTrue (accepts self.now generation n) }
+        ensures why { IfSome result (λ e. e ≡ refusal_of self.now generation) }
+    {
+        if generation != self.generation {
+            Some(SectorRefusal::Revoked)
+        } else if n as usize >= self.sectors.len() {
+            Some(SectorRefusal::PastEnd)
+        } else {
+            None
+        }
+    }
+
+    /// Puts bytes into sector `n` under a generation.
+    fn put(&mut self, generation: u32, n: u32, bytes: &[u8; SECTOR]) -> Result<(), SectorRefusal>
+        ensures after { self.new ≡ written self.old generation n bytes.now }
+        ensures answer { result ≡ write_answer self.old generation n }
+    {
+        if let Some(refusal) = self.refusal(generation, n) {
+            return Err(refusal);
+        }
+        self.sectors[n as usize] = *bytes;
+        Ok(())
+    }
+}
