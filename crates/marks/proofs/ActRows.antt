@@ -8,7 +8,8 @@ use Rattle.message.specs.declared.Incoming.TheVariants as incoming
 use Rattle.marks.specs.Marks.{Mark, last_started}
 use Rattle.marks.specs.Open.{greatest, open_requests}
 use Rattle.marks.specs.Told.{Posted, Complained, Received}
-use Rattle.marks.specs.Acts.{Act, Began, Absorbed, AtLink, marks_after, outbox_after, empty_outbox, is_post_due, needs_message, first_of, KeepsRules, IsAtRest, FitsMinor, MayBegin, MayPost, MayTake, Outbox}
+use Rattle.marks.specs.Acts.{Act, Began, Absorbed, AtLink, marks_after, outbox_after, empty_outbox, is_post_due, needs_message, first_of, KeepsRules, IsAtRest, MayBegin, MayPost, MayTake, Outbox, target}
+use Rattle.marks.specs.Opening.{FitsMinor}
 use Rattle.marks.proofs.Rows.{driver, answer}
 
 -- a block's bytes
@@ -79,7 +80,7 @@ one_answered = answered 1 4096 ∷ one_posted
 -- a post that the rules allow
 posts : (acts : List Act) (g id position count : ℕ) → count ≤ 4096
     → (outbox_after acts [] empty_outbox).complaint ≡ None
-    → last_started (marks_after acts []) ≡ Some (driver g)
+    → target (marks_after acts []) ≡ Some (driver g)
     → (outbox_after acts [] empty_outbox).stopped ≡ false
     → first_of (outbox_after acts [] empty_outbox).unposted ≡ Some (ask id position count)
     → MayPost 0 (marks_after acts []) (outbox_after acts [] empty_outbox) (driver g) (ask id position count)
@@ -308,3 +309,13 @@ other_minor h = let e : ◌≡◌ {A = ℕ} 0 1 = h.1.fits.minor_is in absurd (o
 
 too_long : Keeps (posted 1 1 16384 8192 ∷ started 1 ∷ began 1 16384 8192 ∷ []) → ⊥
 too_long h = let small : 8192 ≤ 4096 = h.1.fits.count in absurd (omega arith)
+
+-- once the device is given up nothing is posted, not even to a driver that is started all the same
+abbrev given_up : List Act
+given_up = AtLink (Received (incoming.Started (driver 2))) ∷ AtLink (Received incoming.GaveUp) ∷ one_posted
+
+given_up_rests : Rests given_up
+given_up_rests = rests refl refl
+
+not_posted_after_giving_up : MayPost 0 (marks_after given_up []) (outbox_after given_up [] empty_outbox) (driver 2) (ask 1 16384 4096) → ⊥
+not_posted_after_giving_up may = let h : ◌≡◌ {A = Option Endpoint} None (Some (driver 2)) = may.endpoint in cc

@@ -5,8 +5,9 @@ use Rattle.message.specs.declared.BlockRequest.{BlockRequest}
 use Rattle.message.specs.declared.BlockReply.{BlockReply}
 use Rattle.message.specs.declared.Incoming.{Incoming}
 use Rattle.message.specs.declared.Incoming.TheVariants as incoming
-use Rattle.marks.specs.Marks.{Mark, last_started}
+use Rattle.marks.specs.Marks.{Mark, last_started, gave_up}
 use Rattle.marks.specs.Open.{open_requests, greatest, counts, moved_by, has_none, without_id}
+use Rattle.marks.specs.Opening.{FitsMinor}
 use Rattle.marks.specs.Told.{Told, Posted, Complained, Received, received, with_told}
 
 -- A request becomes pending; a message is handed over between two calls; the link is told or gives something.
@@ -62,12 +63,14 @@ complaint_due a marks = if counts marks a && not (is_some (moved_by a marks)) th
 abbrev pub without_answered : BlockReply → List Mark → List BlockRequest → List BlockRequest
 without_answered a marks rs = if counts marks a && is_some (moved_by a marks) then without_id a.id rs else rs
 
--- what is owed after a message: at a start all pending requests are to be posted, and any message lets a refused post be tried again
+-- what is owed after a message: at a start all pending requests are to be posted, unless the device was given up, and any message lets a
+-- refused post be tried again
 abbrev pub owed_after_message : Incoming → List Mark → Outbox → Outbox
 owed_after_message (incoming.Reply a) marks o =
     record o { unposted = without_answered a marks o.unposted; stopped = false; complaint = complaint_due a marks }
 owed_after_message (incoming.Started e) marks o =
-    record o { unposted = open_requests marks ++ o.never_issued; stopped = false }
+    if gave_up marks then record o { stopped = false }
+    else record o { unposted = open_requests marks ++ o.never_issued; stopped = false }
 owed_after_message incoming.GaveUp marks o = record o { stopped = false }
 owed_after_message incoming.Flush marks o = record o { stopped = false }
 owed_after_message incoming.End marks o = o
@@ -92,9 +95,13 @@ abbrev pub outbox_after : List Act → List Mark → Outbox → Outbox
 outbox_after [] marks o = o
 outbox_after (act ∷ acts) marks o = owed_after_act act (marks_after acts marks) (outbox_after acts marks o)
 
--- whether a post is due: a driver was started, no post was refused since the last message, and some request is unposted
+-- where requests are posted: to the driver of the last start, until the device is given up
+abbrev pub target : List Mark → Option Endpoint
+target marks = if gave_up marks then None else last_started marks
+
+-- whether a post is due: there is a driver to post to, no post was refused since the last message, and some request is unposted
 abbrev pub is_post_due : List Mark → Outbox → Bool
-is_post_due marks o = is_some (last_started marks) && not o.stopped && not (has_none o.unposted)
+is_post_due marks o = is_some (target marks) && not o.stopped && not (has_none o.unposted)
 
 -- no complaint and no post is due
 pub record IsAtRest (marks : List Mark) (o : Outbox) : Type 0 where
@@ -107,12 +114,6 @@ needs_message marks o =
     not (has_none (open_requests marks))
     || (if is_some (last_started marks) then o.stopped && not (has_none o.unposted) else not (has_none o.never_issued))
 
--- a request is for the server's range of the media, and has a block's bytes
-pub record FitsMinor (minor : ℕ) (r : BlockRequest) : Type 0 where
-  pub minor_is : r.minor ≡ minor
-  pub count : r.count ≤ 4096
-  pub bytes : length r.bytes ≡ 4096
-
 -- the first request, if there is one
 abbrev pub first_of : List BlockRequest → Option BlockRequest
 first_of [] = None
@@ -123,10 +124,10 @@ pub record MayBegin (marks : List Mark) (o : Outbox) (r : BlockRequest) : Type 0
   pub next : r.id ≡ greatest marks + length o.never_issued + 1
   pub room : length (open_requests marks) + length o.never_issued < 16
 
--- a post is of the first unposted request, to the driver of the last start, after the complaint and while none is refused
+-- a post is of the first unposted request, to the driver of the last start while the device isn't given up, after the complaint and while none is refused
 pub record MayPost (minor : ℕ) (marks : List Mark) (o : Outbox) (to : Endpoint) (r : BlockRequest) : Type 0 where
   pub complained : o.complaint ≡ None
-  pub endpoint : last_started marks ≡ Some to
+  pub endpoint : target marks ≡ Some to
   pub not_stopped : o.stopped ≡ false
   pub first : first_of o.unposted ≡ Some r
   pub fits : FitsMinor minor r

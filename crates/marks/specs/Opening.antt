@@ -1,4 +1,4 @@
--- What a run starts from.
+-- What a run starts from, and the requests that fit it.
 use Rattle.std.specs.Prelude.{◌≡◌, ℕ, ◌*◌, ◌≤◌, List, length, take, drop, slice_index}
 use Rattle.message.specs.declared.BlockRequest.{BlockRequest}
 use Rattle.marks.specs.Disk.{Contents}
@@ -18,8 +18,12 @@ volume_of opening = take (512 * opening.count) (drop (512 * opening.first) openi
 abbrev pub contents_at : Opening → Contents
 contents_at opening = slice_index (volume_of opening)
 
--- the request is for the volume, of at most a block's bytes, and bears a block of bytes
-pub record Fits (opening : Opening) (r : BlockRequest) : Type 0 where
-  pub minor : r.minor ≡ opening.minor
+-- a request is for the server's range of the media, of a block's bytes at most, and bears a block of bytes
+pub record FitsMinor (minor : ℕ) (r : BlockRequest) : Type 0 where
+  pub minor_is : r.minor ≡ minor
   pub count : r.count ≤ 4096
   pub bytes : length r.bytes ≡ 4096
+
+-- the same, for the volume of an opening
+abbrev pub Fits : Opening → BlockRequest → Type 0
+Fits opening r = FitsMinor opening.minor r

@@ -45,7 +45,8 @@ took_nothing [] = true
 took_nothing (Received message ∷ told) = false
 took_nothing (_ ∷ told) = took_nothing told
 
--- what a take adds: its message; of Ends the first alone, so that a link which has ended needs no room for more
+-- what a take adds to what a link was told and gave: its message; of Ends the first alone, so that a link which has ended
+-- needs no room for more
 abbrev pub heard : Incoming → List Told → List Told
 heard incoming.End told = if took_end told then told else Received incoming.End ∷ told
 heard message told = Received message ∷ told

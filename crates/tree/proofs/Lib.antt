@@ -8,6 +8,8 @@ mod NodeRows
 mod LinkRows
 mod DirectoryRows
 mod RenameRows
+mod TriplePage
+mod ZoneRows
 pub mod Leaves
 pub mod Fresh
 pub mod Needs

@@ -1,10 +1,9 @@
 -- Link and unlink: what they answer and leave, each refusal, and of two the one that is answered.
-use Rattle.std.proofs.Common.{◌≡◌, ◌++◌, List, [], ◌∷◌, refl, codes, replicate}
+use Rattle.std.proofs.Common.{◌++◌, List, [], ◌∷◌, refl, codes, replicate}
 use Rattle.std.specs.Borrow.{Bor}
 use Rattle.std.proofs.Common.{ℕ}
-use Rattle.errno.specs.declared.Errno.{Errno}
 use Rattle.errno.specs.declared.Errno.TheVariants.{EPERM, ENOENT, EACCES, EEXIST, ENOTDIR, EINVAL, ENAMETOOLONG, EMLINK, ENOSPC}
-use Rattle.tree.specs.declared.Call.TheVariants.{Open, Close, Stat, Link, Unlink, Chmod, Statfs}
+use Rattle.tree.specs.declared.Call.TheVariants.{Stat, Link, Unlink, Statfs}
 use Rattle.tree.specs.Sums.{sum_below, some_below, least_below}
 use Rattle.tree.specs.Tree.{Tree, on_node}
 use Rattle.tree.specs.Changes.{more_links}

@@ -1,5 +1,5 @@
 -- Paths and access: each refusal of a path, which of two is answered, and whose permission bits are looked at.
-use Rattle.std.proofs.Common.{◌≡◌, ◌++◌, [], ◌∷◌, refl, codes, replicate}
+use Rattle.std.proofs.Common.{◌++◌, [], ◌∷◌, refl, codes, replicate}
 use Rattle.tree.specs.declared.Call.TheVariants.{Chmod, Chown, Open, Stat}
 use Rattle.errno.specs.declared.Errno.TheVariants.{ENOENT, EACCES, ENOTDIR, EINVAL, ENAMETOOLONG}
 use Rattle.tree.specs.Sums.{sum_below, some_below, least_below}
@@ -7,12 +7,14 @@ use Rattle.tree.specs.Tree.{Tree}
 use Rattle.tree.specs.Answers.{Answer, refused, done, descriptor, node_is}
 use Rattle.tree.proofs.Small.{small, user, user0, other, at, path, flags, after, house, Rows, empty_path, long_path, zero_path, wide_path}
 
+-- what stat says of /d, and of the root
 abbrev d_is : Answer
 d_is = node_is (record { inode = 2; mode = 16877; links = 3; uid = 0; gid = 0; size = 192; atime = 100; mtime = 100; ctime = 100 })
 
 abbrev root_is : Answer
 root_is = node_is (record { inode = 1; mode = 16877; links = 4; uid = 0; gid = 0; size = 320; atime = 50; mtime = 100; ctime = 100 })
 
+-- paths that lead to them
 found : Rows small house (
     (other, Stat (path "/d"), d_is)
     ∷ (other, Stat (path "//d///"), d_is)
@@ -25,6 +27,7 @@ found : Rows small house (
 unfolding house sum_below some_below least_below
 found = refl
 
+-- each refusal, for user 9
 refused_paths : Rows small house (
     (other, Stat empty_path, refused ENOENT)
     ∷ (other, Stat long_path, refused ENAMETOOLONG)
@@ -70,6 +73,7 @@ first_of_two = refl
 shared : Tree
 shared = after house (Chown (path "/f") 5 7 ∷ Chmod (path "/f") 258 ∷ [])
 
+-- the owner's bits, else the group's, else the others'
 access : Rows small shared (
     (user 5 7, Open (path "/f") (flags 1) 0, descriptor 0)
     ∷ (user 5 7, Open (path "/f") (flags 2) 0, refused EACCES)

@@ -1,5 +1,5 @@
 -- Rename: what it answers and leaves, each refusal, and of two the one that is answered.
-use Rattle.std.proofs.Common.{◌≡◌, ◌++◌, List, [], ◌∷◌, refl}
+use Rattle.std.proofs.Common.{◌++◌, List, [], ◌∷◌, refl}
 use Rattle.std.specs.Borrow.{Bor}
 use Rattle.std.proofs.Common.{ℕ}
 use Rattle.errno.specs.declared.Errno.TheVariants.{ENOENT, EACCES, EBUSY, ENOTDIR, EISDIR, EINVAL, ENAMETOOLONG, ENOTEMPTY, EMLINK, ENOSPC}

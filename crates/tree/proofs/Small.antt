@@ -21,6 +21,7 @@ small = record { block_size = 64; inodes = 8; zones = 64; inode_map_blocks = 1; 
 abbrev pub tight : Geometry
 tight = record small { zones = 19 }
 
+-- a root without names, made at 50
 abbrev pub root : Node
 root = record { permissions = 493; uid = 0; gid = 0; links = 2; atime = 50; mtime = 50; ctime = 50; body = is_directory (record { parent = 1; names = [] }) }
 
@@ -28,6 +29,7 @@ root = record { permissions = 493; uid = 0; gid = 0; links = 2; atime = 50; mtim
 abbrev pub start : Tree
 start = record { nodes = put (λ n. None) 1 (Some root); open_files = λ k. None; descriptors = λ s fd. None }
 
+-- a user of session 0
 abbrev pub user : ℕ → ℕ → Who
 user uid gid = record { session = 0; uid = uid; gid = gid }
 
@@ -38,12 +40,15 @@ user0 = user 0 0
 abbrev pub other : Who
 other = user 9 9
 
+-- a path or bytes, as a call has them
 abbrev pub at : List ℕ → Bor (List ℕ)
 at bytes = record { ref_ptr = (0, 0); now = bytes }
 
+-- the same from a text
 abbrev pub path : String → Bor (List ℕ)
 path text = at (codes text)
 
+-- flags from their number
 abbrev pub flags : ℕ → OpenFlags
 flags f = record { 0 = f }
 
@@ -62,6 +67,7 @@ house = after start (Mkdir (path "/d") 493 ∷ Mkdir (path "/d/e") 493 ∷ Mkdir
 abbrev pub Row : Type 0
 Row = Who × Call × Answer
 
+-- each call answers what its row says
 abbrev pub Rows : Geometry → Tree → List Row → Type 0
 Rows g t rows = map (λ row. reply_to g t row.0 100 row.1) rows ≡ map (λ row. row.2) rows
 

@@ -143,7 +143,7 @@ names v image given x s (Some w) inv range is h n = at (plan x.current.ranges w.
   at None e b = absurd b
   at (Some run) e b =
       let p : Planned v w.request run (s - run.first) =
-          planned v x.current.ranges w.request run (s - run.first) range (inv.fits w.request h.opened).minor e (omega (arith, b.0, b.1)) in
+          planned v x.current.ranges w.request run (s - run.first) range (inv.fits w.request h.opened).minor_is e (omega (arith, b.0, b.1)) in
       record { w = w; is = is; holds = h; write = ap is_write n.0; j = s - run.first; place = p.place; at = omega (arith, b.0, p.at) }
 
 named : (ranges : Ranges) (work : Option Work) (o : Option ℕ) (s : ℕ) → o ≡ Some s → IfSome o (λ s. IsOfAWrite ranges work s) → IsOfAWrite ranges work s

@@ -119,7 +119,7 @@ went_sector : (v : Opening) (image : Contents) (given : MediaState) (x : State) 
     → Went v image given x w.request.kind w w' media
 went_sector v image given x w w' media inv range h m =
     went_moves v image given x w.request.kind w w' media m.run m.number inv h.opened refl h.moved
-      (planned v x.current.ranges w.request m.run m.number range (inv.fits w.request h.opened).minor m.next.plan m.next.within)
+      (planned v x.current.ranges w.request m.run m.number range (inv.fits w.request h.opened).minor_is m.next.plan m.next.within)
       m.same_request m.moved (accepted_inside x.media x.media.generation (m.run.first + m.number) m.accepted) m.bytes
 
 went : (v : Opening) (image : Contents) (given : MediaState) (x : State) (w w' : Work) (media : MediaState) (step : Step)

@@ -58,15 +58,19 @@ same_number f h p e =
     omega arith
 
 module _ (g : Geometry) (now : ℕ) (geometry : IsGeometry g) where
+  -- the pieces of the new volume
   abbrev v : Pieces
   v = fresh_pieces g now
 
+  -- the root's inode
   abbrev root : Inode
   root = fresh_inode g now
 
+  -- how many numbers a block holds
   abbrev width : ℕ
   width = numbers_in_zone g
 
+  -- a block holds both entries
   block_is_large : 128 ≤ g.block_size
   block_is_large = elim (or_cases ((g.block_size == 1024) || (g.block_size == 2048)) (g.block_size == 4096) geometry.block_size) [
     | inl small ↦ elim (or_cases (g.block_size == 1024) (g.block_size == 2048) small) [
@@ -76,12 +80,15 @@ module _ (g : Geometry) (now : ℕ) (geometry : IsGeometry g) where
     | inr is ↦ let size = eqb-true g.block_size 4096 is in omega arith
   ]
 
+  -- the first data zone lies behind both boot blocks
   first_is_late : 2 ≤ g.first_zone
   first_is_late = let e = geometry.first in omega arith
 
+  -- so it is no hole
   none_first : g.first_zone ≡ 0 → ⊥
   none_first e = let late = first_is_late in omega arith
 
+  -- and it is a data zone
   first_is_zone : is_data_zone g g.first_zone ≡ true
   first_is_zone = and_from _ _ (le-leb g.first_zone g.first_zone (omega arith)) (lt-ltb g.first_zone g.zones geometry.some_zone)
 
@@ -93,10 +100,12 @@ module _ (g : Geometry) (now : ℕ) (geometry : IsGeometry g) where
   number_of_none : (z j : ℕ) → z ≡ 0 → number v z j ≡ 0
   number_of_none z j e = cond-true (z == 0) 0 (word v z j) (eq-eqb z 0 e)
 
+  -- there is no block that names blocks
   no_second : (m : ℕ) → second_block width v root m ≡ 0
   no_second m = same_choice (m == 0) (slot root 8) _ 0 (later_slot 7)
       (same_choice (nat_le m width) (number v (slot root 9) (m - 1)) 0 0 (number_of_none (slot root 9) (m - 1) (later_slot 8)) refl)
 
+  -- nor one that names pages
   no_last : (k : ℕ) → last_block width v root k ≡ 0
   no_last k = same_choice (k == 0) (slot root 7) _ 0 (later_slot 6) (number_of_none (second_block width v root ((k - 1) / width)) ((k - 1) % width) (no_second ((k - 1) / width)))
 
@@ -125,6 +134,7 @@ module _ (g : Geometry) (now : ℕ) (geometry : IsGeometry g) where
       ∙ cond-false (zone == 0) 0 (v.zones zone p) (ne_eqb zone 0 (λ e. none_first e))
       ∙ cond-true (zone == zone) (slice_index fresh_entries p) 0 (eq-eqb zone zone refl)
 
+  -- the bytes of the root's directory
   abbrev bytes : ℕ → ℕ
   bytes = file_byte g v root
 
@@ -132,23 +142,28 @@ module _ (g : Geometry) (now : ℕ) (geometry : IsGeometry g) where
   root_target : (e : ℕ) → e < 2 → target_at g v 1 e ≡ entry_inode (slice_index fresh_entries) e
   root_target e h = same_number bytes (slice_index fresh_entries) (64 * e) (λ q under. root_byte q (omega arith))
 
+  -- and the name
   root_name : (e : ℕ) → e < 2 → name_at g v 1 e ≡ entry_name (slice_index fresh_entries) e
   root_name e h = same_text bytes (slice_index fresh_entries) 60 (64 * e + 4) (λ q under. root_byte q (omega arith))
 
+  -- both entries lead to the root
   both_targets : (e : ℕ) → e < 2 → target_at g v 1 e ≡ 1
   both_targets e h = elim (cases_eq e 0) [
     | inl is ↦ ap (target_at g v 1) is ∙ root_target 0 (omega arith)
     | inr other ↦ let is : e ≡ 1 = omega arith in ap (target_at g v 1) is ∙ root_target 1 (omega arith)
   ]
 
+  -- whether a name fills the field of entry e is what its bytes say
   root_field : (e : ℕ) (name : Name) → e < 2
       → is_field g v 1 e name ≡ not (some_below (λ a. not (slice_index fresh_entries (64 * e + 4 + a) == slice_index name a)) 60)
   root_field e name h = ap not (same_some _ _ 60 (λ a under. ap (λ b. not (b == slice_index name a)) (root_byte (64 * e + 4 + a) (omega arith))))
 
+  -- entry 0 is named .
   dot_field : is_field g v 1 0 dot ≡ true
   unfolding some_below
   dot_field = root_field 0 dot (omega arith) ∙ refl
 
+  -- entry 1 is named ..
   dot_dot_field : is_field g v 1 1 dot_dot ≡ true
   unfolding some_below
   dot_dot_field = root_field 1 dot_dot (omega arith) ∙ refl
@@ -157,6 +172,7 @@ module _ (g : Geometry) (now : ℕ) (geometry : IsGeometry g) where
   root_marked : is_marked g v 1 ≡ true
   root_marked = and_from (is_inode g 1) true (and_from true (nat_le 1 g.inodes) refl (le-leb 1 g.inodes geometry.some_inode)) refl
 
+  -- a marked inode is the root
   only_root : (m : ℕ) → is_marked g v m ≡ true → m ≡ 1
   only_root m e =
       let parts = and_parts (is_inode g m) (nat_le m 1) e in
@@ -164,6 +180,7 @@ module _ (g : Geometry) (now : ℕ) (geometry : IsGeometry g) where
       let high = leb-true m 1 parts.1 in
       omega arith
 
+  -- another is not marked
   unmarked : (m : ℕ) → m ≢ 1 → is_marked g v m ≡ false
   unmarked m d = false_from_ne_true (is_marked g v m) (λ e. d (only_root m e))
 
@@ -171,6 +188,7 @@ module _ (g : Geometry) (now : ℕ) (geometry : IsGeometry g) where
   one_page : pages_of g 128 ≡ 1
   one_page = let large = block_is_large in div-eq_of_lt-le {k = 1} g.block_size {m = 128 + g.block_size - 1} (omega arith) (omega arith)
 
+  -- a page that the root covers is page 0
   first_page : (p : ℕ) → p < pages_of g 128 → p ≡ 0
   first_page p h = let one = one_page in let under : p < 1 = subst (λ k. p < k) one h in omega arith
 
@@ -189,12 +207,14 @@ module _ (g : Geometry) (now : ℕ) (geometry : IsGeometry g) where
     pub index : u.index ≡ 0
     pub zone : z ≡ g.first_zone
 
+  -- a use of a zone is page 0 of the root
   only_use : (z : ℕ) → z ≢ 0 → (u : Use g v z) → IsRootUse u
   only_use z d u =
       let is = only_root u.inode u.marked in
       let place = root_place u.level u.index z (subst (λ m. zone_at g v (v.inodes m) u.level u.index ≡ z) is u.names) d in
       record { inode = is; level = place.0; index = place.1; zone = place.2 }
 
+  -- the first data zone is the one that is used, and its bit is set
   zones_agree : ZonesAgree g v
   zones_agree = record {
     inode_bit_0 = refl;
@@ -205,12 +225,14 @@ module _ (g : Geometry) (now : ℕ) (geometry : IsGeometry g) where
         let q = only_use z d b in
         record { inode = p.inode ∙ sym q.inode; level = p.level ∙ sym q.level; index = p.index ∙ sym q.index };
     mapped = λ z is.
-        let from = leb-true g.first_zone z (and_parts _ _ is).0 in
-        (λ e. let at : z ≡ g.first_zone = let low = leb-true (z - g.first_zone + 1) 1 e in omega arith in
+        let from = leb-true g.first_zone z (and_parts _ _ is).0 in (
+          λ e. let at : z ≡ g.first_zone = let low = leb-true (z - g.first_zone + 1) 1 e in omega arith in
               record { inode = 1; level = 0; index = 0; marked = root_marked; names = sym at },
-         λ u. let at = (only_use z (λ e. let late = first_is_late in omega arith) u).zone in le-leb (z - g.first_zone + 1) 1 (omega arith));
+          λ u. let at = (only_use z (λ e. let late = first_is_late in omega arith) u).zone in le-leb (z - g.first_zone + 1) 1 (omega arith),
+        );
   }
 
+  -- the root's inode is sound
   sound_root : IsSoundInode g v root
   sound_root = record {
     mode = refl;
@@ -221,6 +243,7 @@ module _ (g : Geometry) (now : ℕ) (geometry : IsGeometry g) where
     full = λ l k d. absurd (d (no_block l k));
   }
 
+  -- the root's directory is sound
   sound_directory : IsSoundDirectory g v 1
   sound_directory = record {
     sized = refl;
@@ -237,6 +260,7 @@ module _ (g : Geometry) (now : ℕ) (geometry : IsGeometry g) where
         absurd (cc);
   }
 
+  -- the new volume keeps the rules of the format
   is_sound : IsSound g v
   is_sound = record {
     zones = zones_agree;
@@ -244,16 +268,19 @@ module _ (g : Geometry) (now : ℕ) (geometry : IsGeometry g) where
     directories = λ m is. subst (IsSoundDirectory g v) (sym (only_root m (and_parts _ _ is).0)) sound_directory;
   }
 
+  -- its one node is that of a new tree
   root_node : node_of g v root ≡ fresh_root now
   unfolding names_in
   root_node = ap (λ parent. record (fresh_root now) { body = is_directory (record { parent = parent; names = [] }) }) (root_target 1 (omega arith))
 
+  -- at each number stands the node of a new tree
   nodes_are : (m : ℕ) → (fresh_tree now).nodes m ≡ nodes_of g v m
   nodes_are m = elim (cases_eq m 1) [
     | inl is ↦ ap (fresh_tree now).nodes is ∙ put-same (λ k. None) 1 (Some (fresh_root now)) ∙ sym (ap (nodes_of g v) is ∙ cond-true (is_marked g v 1) (Some (node_of g v root)) None root_marked ∙ ap Some root_node)
     | inr other ↦ put-other (λ k. None) 1 (Some (fresh_root now)) m other ∙ sym (cond-false (is_marked g v m) (Some (node_of g v (v.inodes m))) None (unmarked m other))
   ]
 
+-- a new volume holds a root alone
 pub fresh_holds : FreshHolds
 fresh_holds g now geometry small = record {
   nodes = λ i m. nodes_are g now geometry m i;

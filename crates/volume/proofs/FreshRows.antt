@@ -24,18 +24,23 @@ abbrev down : ℕ → List ℕ
 down zero = zero ∷ []
 down (suc k) = suc k ∷ down k
 
+-- bits of the inode map, past the last too
 inode_maps : map (pieces plain made).inode_map (down 40) ≡ map (fresh_pieces plain 50).inode_map (down 40)
 inode_maps = refl
 
+-- bits of the zone map, past the last too
 zone_maps : map (pieces plain made).zone_map (down 70) ≡ map (fresh_pieces plain 50).zone_map (down 70)
 zone_maps = refl
 
+-- all inodes, and the numbers beside them
 inodes : map (pieces plain made).inodes (down 34) ≡ map (fresh_pieces plain 50).inodes (down 34)
 inodes = refl
 
+-- the root's entries
 root_zone : map ((pieces plain made).zones 6) (down 140) ≡ map ((fresh_pieces plain 50).zones 6) (down 140)
 root_zone = refl
 
+-- a byte of each block, which is seen in data zones alone
 other_zones : map (λ z. (pieces plain made).zones z 4) (down 70) ≡ map (λ z. (fresh_pieces plain 50).zones z 4) (down 70)
 other_zones = refl
 
@@ -43,6 +48,7 @@ other_zones = refl
 abbrev little : Geometry
 little = record { block_size = 128; inodes = 2; zones = 7; inode_map_blocks = 1; zone_map_blocks = 1; first_zone = 5 }
 
+-- the check finds nothing there
 new_is_clean : verdict_of_pieces little (fresh_pieces little 50) ≡ Clean
 unfolding sum_below some_below least_below names_in
 new_is_clean = refl

@@ -28,8 +28,8 @@ least_passes p zero e = absurd (false≢true e)
 least_passes p (suc n) e = elim (cases_Bool (some_below p n)) [
   | inl is ↦ ap p (cond-true (some_below p n) (least_below p n) (if p n then n else suc n) is) ∙ least_passes p n is
   | inr out ↦
-    let here = the_last (some_below p n) (p n) e out in
-    ap p (cond-false (some_below p n) (least_below p n) (if p n then n else suc n) out ∙ cond-true (p n) n (suc n) here) ∙ here
+      let here = the_last (some_below p n) (p n) e out in
+      ap p (cond-false (some_below p n) (least_below p n) (if p n then n else suc n) out ∙ cond-true (p n) n (suc n) here) ∙ here
 ]
 
 -- none below the least passes
@@ -39,20 +39,25 @@ below_least p zero k h = absurd (omega arith)
 below_least p (suc n) k h = elim (cases_Bool (some_below p n)) [
   | inl is ↦ below_least p n k (subst (λ m. k < m) (cond-true (some_below p n) (least_below p n) (if p n then n else suc n) is) h)
   | inr out ↦
-    let g : k < (if p n then n else suc n) = subst (λ m. k < m) (cond-false (some_below p n) (least_below p n) (if p n then n else suc n) out) h in
-    elim (cases_Bool (p n)) [
-      | inl here ↦ none_below p n out k (subst (λ m. k < m) (cond-true (p n) n (suc n) here) g)
-      | inr there ↦ elim (cases_eq k n) [
-        | inl is ↦ ap p is ∙ there
-        | inr other ↦ let under : k < suc n = subst (λ m. k < m) (cond-false (p n) n (suc n) there) g in none_below p n out k (omega arith)
+      let g : k < (if p n then n else suc n) = subst (λ m. k < m) (cond-false (some_below p n) (least_below p n) (if p n then n else suc n) out) h in
+      elim (cases_Bool (p n)) [
+        | inl here ↦ none_below p n out k (subst (λ m. k < m) (cond-true (p n) n (suc n) here) g)
+        | inr there ↦ elim (cases_eq k n) [
+          | inl is ↦ ap p is ∙ there
+          | inr other ↦ let under : k < suc n = subst (λ m. k < m) (cond-false (p n) n (suc n) there) g in none_below p n out k (omega arith)
+        ]
       ]
-    ]
 ]
 
 -- no test is true at the limit or past it
-abbrev pub IsWithin : ℕ → List Test → Type 0
-IsWithin limit [] = Unit {0}
-IsWithin limit (t ∷ ts) = ((p : ℕ) → limit ≤ p → t p ≡ false) × IsWithin limit ts
+pub data IsWithin (limit : ℕ) : List Test → Type 0 where
+  no_test : IsWithin limit []
+  also : {t : Test} {ts : List Test} → ((p : ℕ) → limit ≤ p → t p ≡ false) → IsWithin limit ts → IsWithin limit (t ∷ ts)
+
+infixr 5 ◌⨾◌
+-- a test that is false from the limit on, before others
+pub ◌⨾◌ : {limit : ℕ} {t : Test} {ts : List Test} → ((p : ℕ) → limit ≤ p → t p ≡ false) → IsWithin limit ts → IsWithin limit (t ∷ ts)
+h ⨾ hs = also h hs
 
 -- of tests numbered from k on, the finding is true and the least that is
 pub record IsFirst (k : ℕ) (ts : List Test) (f : Finding) : Type 0 where
@@ -100,17 +105,17 @@ behind k t ts quiet (Found f) h =
 -- the first that is found is the least that is true, where no test is true past the limit
 pub first_is_least : (limit k : ℕ) (ts : List Test) → IsWithin limit ts → IsFirstOf k ts (first_found limit k ts)
 first_is_least limit k [] within = λ number place. refl
-first_is_least limit k (t ∷ ts) within = elim (cases_Bool (some_below t limit)) [
+first_is_least limit k (t ∷ ts) (also outside within) = elim (cases_Bool (some_below t limit)) [
   | inl is ↦
-    let place = least_below t limit in
-    subst (IsFirstOf k (t ∷ ts)) (sym (cond-true (some_below t limit) (found k place) (first_found limit (k + 1) ts) is)) (record {
-      from = omega arith;
-      true_there = at_first k t ts k place refl ∙ least_passes t limit is;
-      no_lesser_number = λ number p under. before_first k (t ∷ ts) number p under;
-      no_lesser_place = λ p under. at_first k t ts k p refl ∙ below_least t limit p under;
-    })
+      let place = least_below t limit in
+      subst (IsFirstOf k (t ∷ ts)) (sym (cond-true (some_below t limit) (found k place) (first_found limit (k + 1) ts) is)) (record {
+        from = omega arith;
+        true_there = at_first k t ts k place refl ∙ least_passes t limit is;
+        no_lesser_number = λ number p under. before_first k (t ∷ ts) number p under;
+        no_lesser_place = λ p under. at_first k t ts k p refl ∙ below_least t limit p under;
+      })
   | inr out ↦
-    let quiet : (p : ℕ) → t p ≡ false = λ p. elim (cases_lt p limit) [ inl under ↦ none_below t limit out p under | inr over ↦ within.0 p over ] in
-    subst (IsFirstOf k (t ∷ ts)) (sym (cond-false (some_below t limit) (found k (least_below t limit)) (first_found limit (k + 1) ts) out))
-        (behind k t ts quiet (first_found limit (k + 1) ts) (first_is_least limit (k + 1) ts within.1))
+      let quiet : (p : ℕ) → t p ≡ false = λ p. elim (cases_lt p limit) [ inl under ↦ none_below t limit out p under | inr over ↦ outside p over ] in
+      subst (IsFirstOf k (t ∷ ts)) (sym (cond-false (some_below t limit) (found k (least_below t limit)) (first_found limit (k + 1) ts) out))
+      (behind k t ts quiet (first_found limit (k + 1) ts) (first_is_least limit (k + 1) ts within))
 ]

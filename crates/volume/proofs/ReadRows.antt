@@ -18,10 +18,11 @@ blocks = refl
 places : Gives (λ (at : ℕ × ℕ). blocks_of small (λ p. p) at.0 at.1) (((0, 5), 5) ∷ ((3, 1), 193) ∷ ((3, 64), 0) ∷ [])
 places = refl
 
--- little-endian numbers, and bits from the least of each byte
+-- little-endian numbers of two and of four bytes
 little_endian : (u16_in (slice_index (1 ∷ 2 ∷ 3 ∷ 4 ∷ 5 ∷ [])) 1 ≡ 770) × (u32_in (slice_index (1 ∷ 2 ∷ 3 ∷ 4 ∷ 5 ∷ [])) 1 ≡ 84148994)
 little_endian = (refl, refl)
 
+-- bits are counted from the least of each byte
 bits : Gives (bit_in (slice_index (1 ∷ 128 ∷ 5 ∷ []))) ((0, true) ∷ (1, false) ∷ (7, false) ∷ (8, false) ∷ (15, true) ∷ (16, true) ∷ (17, false) ∷ (18, true) ∷ (24, false) ∷ [])
 bits = refl
 
@@ -54,6 +55,7 @@ pages : Gives (page_zone wide (wide_pieces tree) file)
     ((0, 23) ∷ (1, 0) ∷ (6, 0) ∷ (7, 25) ∷ (8, 0) ∷ (22, 0) ∷ (23, 28) ∷ (24, 0) ∷ (39, 0) ∷ (278, 0) ∷ (279, 32) ∷ (280, 0) ∷ (4374, 0) ∷ (4375, 0) ∷ (100000, 0) ∷ [])
 pages = refl
 
+-- a page is held where it has a zone
 held : Gives (file_of wide (wide_pieces tree) file).held ((0, true) ∷ (1, false) ∷ (7, true) ∷ (23, true) ∷ (279, true) ∷ (280, false) ∷ [])
 held = refl
 
@@ -93,7 +95,7 @@ entries : (entry_name (slice_index (entry 1 (97 ∷ 98 ∷ 0 ∷ 99 ∷ []))) 0 
     × (entry_name (slice_index (replicate 64 0 ++ entry 66051 (97 ∷ []))) 1 ≡ 97 ∷ []) × (entry_inode (slice_index (replicate 64 0 ++ entry 66051 (97 ∷ []))) 1 ≡ 66051)
 entries = (refl, refl, refl, refl)
 
--- The names of the root and of directory 2, in the order of their bytes, also where a's entry is named zz on the disk; their parents.
+-- The names of the root and of directory 2, in the order of their bytes, also where a's entry is named zz on the disk.
 names : (names_of (nodes_of wide (wide_pieces tree) 1) ≡ (97 ∷ [], 2) ∷ (102 ∷ [], 4) ∷ (103 ∷ [], 5) ∷ [])
     × (names_of (nodes_of wide (wide_pieces tree) 2) ≡ (98 ∷ [], 3) ∷ (104 ∷ [], 4) ∷ [])
     × (names_of (nodes_of wide (wide_pieces tree) 3) ≡ [])
@@ -101,6 +103,7 @@ names : (names_of (nodes_of wide (wide_pieces tree) 1) ≡ (97 ∷ [], 2) ∷ (1
 unfolding names_in
 names = (refl, refl, refl, refl)
 
+-- a directory's entry 1 leads to its parent; a file has none
 parents : Gives (λ n. parent_of (nodes_of wide (wide_pieces tree) n)) ((1, 1) ∷ (2, 1) ∷ (3, 2) ∷ (4, 0) ∷ [])
 parents = refl
 

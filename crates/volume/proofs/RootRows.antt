@@ -136,13 +136,18 @@ twice_rows = refl
 -- Inodes 2 and 3 share block 15, which names 14. As single of both it is entered once, so 14 has one use; as single of one and double
 -- of the other it is entered twice, at two levels.
 abbrev shared : Rows Disk Verdict
-shared =
-    (with_byte 2 0 15 (with_byte 3 0 31 (with_block 15 (u32 14)
-        (with_block 5 (inode 33188 1 512 (0 ∷ 0 ∷ 0 ∷ 0 ∷ 0 ∷ 0 ∷ 0 ∷ 15 ∷ []))
-        (with_block 6 (inode 33188 1 512 (0 ∷ 0 ∷ 0 ∷ 0 ∷ 0 ∷ 0 ∷ 0 ∷ 15 ∷ [])) start)))), found 8 15)
-    ∷ (with_byte 2 0 15 (with_byte 3 0 31 (with_block 15 (u32 14)
-        (with_block 5 (inode 33188 1 512 (0 ∷ 0 ∷ 0 ∷ 0 ∷ 0 ∷ 0 ∷ 0 ∷ 15 ∷ []))
-        (with_block 6 (inode 33188 1 512 (0 ∷ 0 ∷ 0 ∷ 0 ∷ 0 ∷ 0 ∷ 0 ∷ 0 ∷ 15 ∷ [])) start)))), found 8 14)
+shared = (
+  with_byte 2 0 15 (with_byte 3 0 31 (with_block 15 (u32 14)
+      (with_block 5 (inode 33188 1 512 (0 ∷ 0 ∷ 0 ∷ 0 ∷ 0 ∷ 0 ∷ 0 ∷ 15 ∷ []))
+      (with_block 6 (inode 33188 1 512 (0 ∷ 0 ∷ 0 ∷ 0 ∷ 0 ∷ 0 ∷ 0 ∷ 15 ∷ [])) start)))),
+  found 8 15,
+)
+    ∷ (
+      with_byte 2 0 15 (with_byte 3 0 31 (with_block 15 (u32 14)
+          (with_block 5 (inode 33188 1 512 (0 ∷ 0 ∷ 0 ∷ 0 ∷ 0 ∷ 0 ∷ 0 ∷ 15 ∷ []))
+          (with_block 6 (inode 33188 1 512 (0 ∷ 0 ∷ 0 ∷ 0 ∷ 0 ∷ 0 ∷ 0 ∷ 0 ∷ 15 ∷ [])) start)))),
+      found 8 14,
+    )
     ∷ []
 
 shared_rows : Gives verdict shared

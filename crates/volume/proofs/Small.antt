@@ -7,10 +7,11 @@ use Rattle.volume.specs.Reading.{Disk}
 use Rattle.volume.specs.Pieces.{Pieces, pieces}
 use Rattle.volume.specs.Verdict.{Verdict, tests, first_found, place_limit, verdict_of_pieces}
 
--- the two bytes of a number, and the four
+-- the two bytes of a number
 abbrev pub u16 : ℕ → List ℕ
 u16 x = x % 256 ∷ x / 256 ∷ []
 
+-- the four bytes of a number
 abbrev pub u32 : ℕ → List ℕ
 u32 x = u16 (x % 65536) ++ u16 (x / 65536)
 
@@ -47,10 +48,11 @@ abbrev pub start : Disk
 start = with_block 2 (3 ∷ []) (with_block 3 (7 ∷ []) (with_block 4 (inode 16877 2 128 (12 ∷ 13 ∷ []))
     (with_block 12 (entry 1 (46 ∷ [])) (with_block 13 (entry 1 (46 ∷ 46 ∷ [])) (λ b o. 0)))))
 
--- the pieces of a small disk, and the verdict on it
+-- the pieces of a small disk
 abbrev pub small_pieces : Disk → Pieces
 small_pieces d = pieces small d
 
+-- the verdict on a small disk
 abbrev pub verdict : Disk → Verdict
 verdict d = verdict_of_pieces small (small_pieces d)
 
@@ -71,6 +73,7 @@ wide_inodes d =
     (with_block 7 (inode 33188 2 17866 (23 ∷ 0 ∷ 0 ∷ 0 ∷ 0 ∷ 0 ∷ 0 ∷ 24 ∷ 26 ∷ 29 ∷ []))
     (with_block 8 (inode 33188 1 0 []) d))))
 
+-- the entries of its three directories
 abbrev pub wide_entries : Disk → Disk
 wide_entries d =
     with_block 12 (entry 1 (46 ∷ [])) (with_block 13 (entry 1 (46 ∷ 46 ∷ [])) (with_block 14 (entry 2 (97 ∷ []))
@@ -84,12 +87,15 @@ wide_file d =
     with_block 23 (65 ∷ []) (with_block 24 (u32 25) (with_block 25 (66 ∷ []) (with_block 26 (u32 27) (with_block 27 (u32 28) (with_block 28 (67 ∷ [])
     (with_block 29 (u32 30) (with_block 30 (u32 31) (with_block 31 (u32 32) (with_block 32 (68 ∷ 69 ∷ []) d)))))))))
 
+-- the whole tree
 abbrev pub tree : Disk
 tree = wide_inodes (wide_entries (wide_file wide_maps))
 
+-- the pieces of a wide disk
 abbrev pub wide_pieces : Disk → Pieces
 wide_pieces d = pieces wide d
 
+-- the verdict on a wide disk
 abbrev pub wide_verdict : Disk → Verdict
 wide_verdict d = verdict_of_pieces wide (wide_pieces d)
 

@@ -13,7 +13,7 @@ use Rattle.volume.specs.Nodes.{is_marked, is_directory_mode}
 use Rattle.volume.specs.Entries.{is_directory_inode}
 use Rattle.volume.specs.Verdict.{Verdict, Clean, Found, Test, found, tests, place_limit, verdict_of_pieces}
 use Rattle.volume.specs.IsVerdict.{is_true_at, is_finding, IsVerdict, VerdictIsLeast}
-use Rattle.volume.proofs.Least.{IsWithin, IsFirstOf, first_is_least}
+use Rattle.volume.proofs.Least.{IsWithin, no_test, ◌⨾◌, IsFirstOf, first_is_least}
 
 module _ (g : Geometry) (v : Pieces) (some_inode : 1 ≤ g.inodes) where
   -- no inode has a number so great
@@ -21,6 +21,7 @@ module _ (g : Geometry) (v : Pieces) (some_inode : 1 ≤ g.inodes) where
   unmarked n h = and_left (is_inode g n) (v.inode_map n)
       (and_right (nat_le 1 n) (nat_le n g.inodes) (false_from_ne_true (nat_le n g.inodes) (λ e. let under = leb-true n g.inodes e in omega arith)))
 
+  -- so none is a directory
   no_directory : (n : ℕ) → place_limit g ≤ n → is_directory_inode g v n ≡ false
   no_directory n h = and_left (is_marked g v n) (is_directory_mode (v.inodes n).mode) (unmarked n h)
 
@@ -30,23 +31,23 @@ module _ (g : Geometry) (v : Pieces) (some_inode : 1 ≤ g.inodes) where
 
   -- so no finding is true there
   tests_within : IsWithin (place_limit g) (tests g v)
-  tests_within = (
-    λ p h. and_left (p == 0) _ (ne_eqb p 0 (λ e. omega arith)),
-    (λ p h. and_left (p == 0) _ (ne_eqb p 0 (λ e. omega arith)),
-    (λ p h. and_left (p == 1) _ (ne_eqb p 1 (λ e. omega arith)),
-    (λ p h. and_left (is_marked g v p) _ (unmarked p h),
-    (λ p h. and_left (is_marked g v p) _ (unmarked p h),
-    (λ p h. and_left (is_marked g v p) _ (unmarked p h),
-    (λ p h. and_left (is_data_zone g p) _ (no_zone p h),
-    (λ p h. and_left (is_data_zone g p) _ (no_zone p h),
-    (λ p h. and_left (is_marked g v p) _ (unmarked p h),
-    (λ p h. and_left (is_directory_inode g v p) _ (no_directory p h),
-    (λ p h. and_left (is_directory_inode g v p) _ (no_directory p h),
-    (λ p h. and_left (is_directory_inode g v p) _ (no_directory p h),
-    (λ p h. and_left (is_directory_inode g v p) _ (no_directory p h),
-    (λ p h. and_left (is_directory_inode g v p) _ (no_directory p h),
-    (λ p h. and_left (is_marked g v p) _ (unmarked p h),
-    tt)))))))))))))))
+  tests_within =
+      (λ p h. and_left (p == 0) _ (ne_eqb p 0 (λ e. omega arith)))
+      ⨾ (λ p h. and_left (p == 0) _ (ne_eqb p 0 (λ e. omega arith)))
+      ⨾ (λ p h. and_left (p == 1) _ (ne_eqb p 1 (λ e. omega arith)))
+      ⨾ (λ p h. and_left (is_marked g v p) _ (unmarked p h))
+      ⨾ (λ p h. and_left (is_marked g v p) _ (unmarked p h))
+      ⨾ (λ p h. and_left (is_marked g v p) _ (unmarked p h))
+      ⨾ (λ p h. and_left (is_data_zone g p) _ (no_zone p h))
+      ⨾ (λ p h. and_left (is_data_zone g p) _ (no_zone p h))
+      ⨾ (λ p h. and_left (is_marked g v p) _ (unmarked p h))
+      ⨾ (λ p h. and_left (is_directory_inode g v p) _ (no_directory p h))
+      ⨾ (λ p h. and_left (is_directory_inode g v p) _ (no_directory p h))
+      ⨾ (λ p h. and_left (is_directory_inode g v p) _ (no_directory p h))
+      ⨾ (λ p h. and_left (is_directory_inode g v p) _ (no_directory p h))
+      ⨾ (λ p h. and_left (is_directory_inode g v p) _ (no_directory p h))
+      ⨾ (λ p h. and_left (is_marked g v p) _ (unmarked p h))
+      ⨾ no_test
 
 -- an image is refused or read
 either : (r : Result Geometry LayoutRefusal) → ((refusal : LayoutRefusal) × (r ≡ Err refusal)) ⊎ ((g : Geometry) × (r ≡ Ok g))
@@ -63,10 +64,11 @@ from_tests image k ts same (Found f) h = record {
   no_lesser_place = λ place under. same f.number place ∙ h.no_lesser_place place under;
 }
 
--- the verdict, and the findings, by what the layout says
+-- the verdict, by what the layout says
 abbrev verdict_by : List ℕ → Result Geometry LayoutRefusal → Verdict
 verdict_by image r = elim r [ Err refusal ↦ found 1 (refusal_number refusal) | Ok g ↦ verdict_of_pieces g (pieces g (disk_of g image)) ]
 
+-- the findings, by what the layout says
 abbrev finding_by : List ℕ → ℕ → ℕ → Result Geometry LayoutRefusal → Bool
 finding_by image number place r = elim r [
   | Err refusal ↦ (number == 1) && (place == refusal_number refusal)
@@ -83,12 +85,13 @@ refused image refusal e =
       no_lesser_place = λ place under. same 1 place ∙ ne_eqb place (refusal_number refusal) (λ is. omega arith);
     }
 
+-- the verdict on an image is its least finding
 pub verdict_is_least : VerdictIsLeast
 verdict_is_least image = elim (either (geometry_of image)) [
   | inl (refusal, e) ↦ subst (IsVerdict image) (sym (ap (verdict_by image) e)) (refused image refusal e)
   | inr (g, e) ↦
-    let v = pieces g (disk_of g image) in
-    subst (IsVerdict image) (sym (ap (verdict_by image) e))
-        (from_tests image 2 (tests g v) (λ number place. ap (finding_by image number place) e) (verdict_of_pieces g v)
-            (first_is_least (place_limit g) 2 (tests g v) (tests_within g v (geometry_fits image g e).0.some_inode)))
+      let v = pieces g (disk_of g image) in
+      subst (IsVerdict image) (sym (ap (verdict_by image) e))
+      (from_tests image 2 (tests g v) (λ number place. ap (finding_by image number place) e) (verdict_of_pieces g v)
+      (first_is_least (place_limit g) 2 (tests g v) (tests_within g v (geometry_fits image g e).0.some_inode)))
 ]

@@ -57,8 +57,8 @@ file_of g v i = record {
   held = λ p. not (page_zone g v i p == 0);
 }
 
--- A directory's file is a row of entries of 64 bytes: an inode number of four, and 60 of name, filled with zeros. Entries of
--- another size, as those of 16 bytes of version 2 volumes, would stand here beside them and be chosen by the geometry.
+-- A directory's file is a row of entries of 64 bytes: an inode number of four, and 60 of name, filled with zeros. Another reading,
+-- as of version 2 volumes with entries of 16 bytes, would stand beside these two, and be told by what the superblock says.
 
 -- the inode number of entry e of a directory's bytes
 abbrev pub entry_inode : (ℕ → ℕ) → ℕ → ℕ

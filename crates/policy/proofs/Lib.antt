@@ -1,0 +1,3 @@
+mod Rows
+pub mod WatchLaws
+pub mod PulseLaws

@@ -1,0 +1,145 @@
+-- What was kept stays so while a run goes on.
+use Rattle.std.specs.Prelude.{zero, suc, ◌≡◌, ◌⊎◌, ◌<◌, ◌≤◌, ℕ, ◌-◌, List, [], ◌∷◌, ◌++◌, length, drop, map, Bool, false, ◌&&◌, nat_lt, if◌then◌else◌, Some, refl, slice_get}
+use Rattle.std.proofs.Common.{ap, arith, inl, inr, subst, sym, ◌∙◌}
+use Rattle.std.proofs.lemmas.Bool.Decides.{nat_tests}
+use Rattle.std.proofs.lemmas.List.{length-map, length-reverse, reverse-append}
+use Rattle.std.proofs.lemmas.Option.{slice_get_within}
+use Rattle.bdev.specs.DriverState.{DriverState}
+use Rattle.policy.specs.declared.Policy.{Policy}
+use Rattle.marks.specs.Marks.{Mark}
+use Rattle.marks.specs.Open.{counts}
+use Rattle.schedule.specs.declared.Sent.{Sent}
+use Rattle.schedule.specs.declared.Event.{Event}
+use Rattle.schedule.specs.declared.Event.TheVariants as event
+use Rattle.schedule.specs.Groups.{Group, marks_of, event_of, schedule_of, first_groups, Each, EachGroup}
+use Rattle.schedule.specs.Lives.{exits_in, is_live}
+use Rattle.schedule.specs.Faults.{ExitsOfGroup, ExitsAtStep}
+use Rattle.schedule.specs.Replies.{answer_to, answers_due, is_issued_to}
+use Rattle.schedule.specs.Justified.{GroupKeeps}
+use Rattle.schedule.specs.Laws.{HasFailed, GroupsStay, RepliesStay}
+
+-- the replies sent at this event or later
+abbrev AreLater : ℕ → List Sent → Type 0
+AreLater n more = Each (λ s. n ≤ s.place) more
+
+-- such a reply isn't answered before it
+answer_to-later : (s : Sent) (earlier : List Group) → length earlier ≤ s.place → answer_to (Some s) earlier ≡ []
+answer_to-later s earlier later =
+    let early : nat_lt s.place (length earlier) ≡ false = grind (arith, nat_tests, later) in
+    ap (λ (b : Bool). if b && counts (marks_of earlier) s.reply then s.reply ∷ [] else []) early
+
+-- whichever of them is delivered
+answer_to-among_later : (k : ℕ) (more : List Sent) (earlier : List Group) → AreLater (length earlier) more → answer_to (slice_get more k) earlier ≡ []
+answer_to-among_later k [] earlier later = refl
+answer_to-among_later zero (s ∷ more) earlier later = answer_to-later s earlier later.0
+answer_to-among_later (suc k) (s ∷ more) earlier later = answer_to-among_later k more earlier later.1
+
+-- a delivery is answered as it was
+answer_to-append : (k : ℕ) (sent more : List Sent) (earlier : List Group) → AreLater (length earlier) more
+    → answer_to (slice_get (sent ++ more) k) earlier ≡ answer_to (slice_get sent k) earlier
+answer_to-append k [] more earlier later = answer_to-among_later k more earlier later
+answer_to-append zero (s ∷ sent) more earlier later = refl
+answer_to-append (suc k) (s ∷ sent) more earlier later = answer_to-append k sent more earlier later
+
+-- so each event is
+answers_due-append : (sent more : List Sent) (event : Event) (earlier : List Group) → AreLater (length earlier) more
+    → answers_due (sent ++ more) event earlier ≡ answers_due sent event earlier
+answers_due-append sent more (event.Deliver k) earlier later = answer_to-append k sent more earlier later
+answers_due-append sent more (event.Arrive who now call) earlier later = refl
+answers_due-append sent more event.Flush earlier later = refl
+answers_due-append sent more event.Tick earlier later = refl
+answers_due-append sent more (event.Step g) earlier later = refl
+answers_due-append sent more (event.Die g bytes) earlier later = refl
+answers_due-append sent more (event.Hang g) earlier later = refl
+answers_due-append sent more (event.Repeat n) earlier later = refl
+
+-- exits stay justified by drivers that still have failed
+exits_stay : (drivers drivers' : List DriverState) (event : Event) (group : List Mark) (earlier : List Group) → ((g : ℕ) → HasFailed drivers g → HasFailed drivers' g)
+    → ExitsOfGroup drivers event group earlier → ExitsOfGroup drivers' event group earlier
+exits_stay drivers drivers' (event.Step g) group earlier failed exits = at exits
+  where
+    at : (exits_in group ≡ []) ⊎ ExitsAtStep drivers g group earlier → (exits_in group ≡ []) ⊎ ExitsAtStep drivers' g group earlier
+    at (inl none) = inl none
+    at (inr one) = inr (record { one = one.one; runs = one.runs; failed = failed g one.failed })
+exits_stay drivers drivers' (event.Die g bytes) group earlier failed exits = exits
+exits_stay drivers drivers' (event.Deliver k) group earlier failed exits = exits
+exits_stay drivers drivers' (event.Arrive who now call) group earlier failed exits = exits
+exits_stay drivers drivers' event.Flush group earlier failed exits = exits
+exits_stay drivers drivers' event.Tick group earlier failed exits = exits
+exits_stay drivers drivers' (event.Hang g) group earlier failed exits = exits
+exits_stay drivers drivers' (event.Repeat n) group earlier failed exits = exits
+
+-- what is later than more events is later than fewer
+AreLater-below : (m n : ℕ) (more : List Sent) → m ≤ n → AreLater n more → AreLater m more
+AreLater-below m n [] below later = tt
+AreLater-below m n (s ∷ more) below later = (omega (arith, below, later.0), AreLater-below m n more below later.1)
+
+-- one event, its marks and the groups before it
+group_stays : (policy : Policy) (supply : ℕ) (sent more : List Sent) (drivers drivers' : List DriverState) (event : Event) (group : List Mark) (earlier : List Group)
+    → AreLater (length earlier) more → ((g : ℕ) → HasFailed drivers g → HasFailed drivers' g)
+    → GroupKeeps policy supply sent drivers event group earlier → GroupKeeps policy supply (sent ++ more) drivers' event group earlier
+group_stays policy supply sent more drivers drivers' event group earlier later failed keeps = record {
+  faults = record {
+    exits = exits_stay drivers drivers' event group earlier failed keeps.faults.exits;
+    hung = keeps.faults.hung;
+    complaints = keeps.faults.complaints;
+    starts = keeps.faults.starts;
+    giving_up = keeps.faults.giving_up;
+    issues = keeps.faults.issues;
+  };
+  answers = record { answered = keeps.answers.answered ∙ sym (answers_due-append sent more event earlier later); flushed = keeps.answers.flushed };
+  calls = keeps.calls;
+}
+
+-- all events so far
+each_stays : (policy : Policy) (supply : ℕ) (sent more : List Sent) (drivers drivers' : List DriverState) (groups : List Group)
+    → AreLater (length groups) more → ((g : ℕ) → HasFailed drivers g → HasFailed drivers' g)
+    → EachGroup (GroupKeeps policy supply sent drivers) groups → EachGroup (GroupKeeps policy supply (sent ++ more) drivers') groups
+each_stays policy supply sent more drivers drivers' [] later failed each = tt
+each_stays policy supply sent more drivers drivers' (g ∷ groups) later failed each =
+    let sooner : AreLater (length groups) more = AreLater-below (length groups) (length (g ∷ groups)) more (omega arith) later in (
+      group_stays policy supply sent more drivers drivers' g.0 g.1 groups sooner failed each.0,
+      each_stays policy supply sent more drivers drivers' groups sooner failed each.1,
+    )
+
+-- the replies of all are the earlier ones and more
+pub groups_stay : GroupsStay
+groups_stay policy supply sent drivers sent' drivers' groups went each =
+    let P : List Sent → Type 0 = λ all. EachGroup (GroupKeeps policy supply all drivers') groups in
+    subst P (sym went.sent_is) (each_stays policy supply sent went.more drivers drivers' groups went.later went.failed each)
+
+-- one event more stands at the schedule's end
+schedule_of-next : (g : Group) (groups : List Group) → schedule_of (g ∷ groups) ≡ schedule_of groups ++ event_of g ∷ []
+schedule_of-next g groups = reverse-append (event_of g ∷ []) (map event_of groups)
+
+-- what stands in a list stands at its place when more follows
+slice_get-append : {A : Type 0} (xs ys : List A) (k : ℕ) (x : A) → slice_get xs k ≡ Some x → slice_get (xs ++ ys) k ≡ Some x
+slice_get-append [] ys k x e = cc
+slice_get-append (y ∷ xs) ys zero x e = e
+slice_get-append (y ∷ xs) ys (suc k) x e = slice_get-append xs ys k x e
+
+-- as many events as groups
+length-schedule_of : (groups : List Group) → length (schedule_of groups) ≡ length groups
+length-schedule_of groups = length-reverse (map event_of groups) ∙ length-map groups event_of
+
+-- the first groups stay the first
+first_groups-next : (n : ℕ) (g : Group) (groups : List Group) → n ≤ length groups → first_groups n (g ∷ groups) ≡ first_groups n groups
+first_groups-next n g groups within =
+    let e : length (g ∷ groups) - n ≡ suc (length groups - n) = omega (arith, within) in
+    ap (λ k. drop k (g ∷ groups)) e
+
+-- the events and groups before a step stay what they are
+pub replies_stay : RepliesStay
+replies_stay g groups s stands = record {
+  from = stands.from;
+  step = ap (λ events. slice_get events s.place) (schedule_of-next g groups)
+      ∙ slice_get-append (schedule_of groups) (event_of g ∷ []) s.place (event.Step s.reply.from.generation) stands.step;
+  live = ap (is_live s.reply.from.generation) same ∙ stands.live;
+  asked = ap (λ first. is_issued_to s.reply.from.generation s.reply.id (marks_of first)) same ∙ stands.asked;
+}
+  where
+    within : s.place < length (schedule_of groups)
+    within = slice_get_within (schedule_of groups) s.place (event.Step s.reply.from.generation) stands.step
+
+    same : first_groups s.place (g ∷ groups) ≡ first_groups s.place groups
+    same = first_groups-next s.place g groups (omega (arith, within, length-schedule_of groups))

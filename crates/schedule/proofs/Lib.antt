@@ -1,0 +1,14 @@
+pub mod Beginnings
+pub mod GoingOn
+pub mod OneRefusal
+pub mod Making
+pub mod Small
+pub mod WorkedRuns
+pub mod GivenUp
+pub mod RightRun
+mod LegalRows
+mod WrongFaults
+mod WrongStarts
+mod WrongReplies
+mod WrongCalls
+mod RefusalRows

@@ -1,0 +1,77 @@
+-- What a run of the server over a schedule promises.
+use Rattle.std.specs.Prelude.{◌≡◌, ℕ, ◌+◌, ◌*◌, ◌<◌, ◌≤◌, ◌⊎◌, List, length, take, drop, false, Ok, slice_index}
+use Rattle.layout.specs.declared.Geometry.{Geometry}
+use Rattle.layout.specs.Places.{geometry_of}
+use Rattle.tree.specs.Tree.{Tree}
+use Rattle.bdev.specs.DriverState.{DriverState}
+use Rattle.policy.specs.declared.Policy.{Policy}
+use Rattle.marks.specs.Marks.{Mark, gave_up}
+use Rattle.marks.specs.Open.{IsWellFormed}
+use Rattle.marks.specs.Disk.{Contents, disk_after, is_unsure, HasTrueReplies}
+use Rattle.legal.specs.Legal.{IsAtFirst, IsLegal}
+use Rattle.legal.specs.View.{Frames, ReadsBack}
+use Rattle.schedule.specs.declared.Sent.{Sent}
+use Rattle.schedule.specs.declared.Event.{Event}
+use Rattle.schedule.specs.Groups.{Group, marks_of, schedule_of}
+use Rattle.schedule.specs.Justified.{Justified}
+
+-- what a run shows: its record, the replies sent, the drivers started, the server's frames, the calls left, and the media's bytes
+pub record Transcript : Type 0 where
+  pub marks : List Mark
+  pub sent : List Sent
+  pub drivers : List DriverState
+  pub frames : Frames
+  pub unanswered : ℕ
+  pub image : List ℕ
+
+-- where a volume lies on the media, in sectors
+pub record Range : Type 0 where
+  pub first : ℕ
+  pub count : ℕ
+
+-- the bytes of the volume in this range of the media
+abbrev pub volume_bytes : Range → List ℕ → List ℕ
+volume_bytes range image = take (512 * range.count) (drop (512 * range.first) image)
+
+-- the same, by place
+abbrev pub volume_in : Range → List ℕ → Contents
+volume_in range image = slice_index (volume_bytes range image)
+
+-- Replies and read-back: the server's record is well formed, what drivers answered is true, each reply is that of the file tree
+-- after each earlier call taken once, a sync that answered ok left that tree on the disk alone, and at the end, where the device
+-- isn't given up and no call waits, the server would read it back.
+pub record RepliesHold (g : Geometry) (volume : Contents) (tree : Tree) (t : Transcript) : Type 0 where
+  pub well_formed : IsWellFormed t.marks
+  pub true_replies : HasTrueReplies volume t.marks
+  pub legal : IsLegal g volume tree t.marks
+  pub reads_back : gave_up t.marks ≡ false → t.unanswered ≡ 0 → ReadsBack g t.frames volume tree t.marks
+
+-- a sector of the media that isn't one of the volume's
+abbrev pub IsOutside : Range → ℕ → Type 0
+IsOutside range sector = (sector < range.first) ⊎ (range.first + range.count ≤ sector)
+
+-- The media: at the end they hold, of the volume, what the record says was written, in each sector that isn't unsure; outside the
+-- volume, what was handed in.
+pub record MediaHold (range : Range) (image : List ℕ) (t : Transcript) : Type 0 where
+  pub size : length t.image ≡ length image
+  pub inside : (sector k : ℕ) → sector < range.count → k < 512 → is_unsure t.marks sector ≡ false
+      → slice_index t.image (512 * (range.first + sector) + k) ≡ disk_after (volume_in range image) t.marks (512 * sector + k)
+  pub outside : (sector k : ℕ) → IsOutside range sector → k < 512
+      → slice_index t.image (512 * sector + k) ≡ slice_index image (512 * sector + k)
+
+-- Justified: the record can be cut into groups, one for each event of the schedule, that justify the run.
+pub record IsJustified (policy : Policy) (supply : ℕ) (events : List Event) (t : Transcript) : Type 0 where
+  pub groups : List Group
+  pub schedule : schedule_of groups ≡ events
+  pub record_is : marks_of groups ≡ t.marks
+  pub justified : Justified policy supply groups t.sent t.drivers t.unanswered
+
+-- The headline: the volume in this range held a file tree at first, without an open file, of which the three parts hold.
+pub record Headline (policy : Policy) (supply : ℕ) (range : Range) (image : List ℕ) (events : List Event) (t : Transcript) : Type 0 where
+  pub geometry : Geometry
+  pub parsed : geometry_of (volume_bytes range image) ≡ Ok geometry
+  pub tree : Tree
+  pub at_first : IsAtFirst geometry (volume_in range image) tree
+  pub replies : RepliesHold geometry (volume_in range image) tree t
+  pub media : MediaHold range image t
+  pub justified : IsJustified policy supply events t

@@ -1,0 +1,11 @@
+-- What a run over a schedule must show.
+pub mod Groups
+pub mod Lives
+pub mod Faults
+pub mod Starts
+pub mod Replies
+pub mod Calls
+pub mod Justified
+pub mod Headline
+pub mod Refusals
+pub mod Laws

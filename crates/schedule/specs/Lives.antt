@@ -1,0 +1,57 @@
+-- Which drivers were started, died, hang, and run.
+use Rattle.std.specs.Prelude.{zero, suc, ℕ, ◌+◌, List, [], ◌∷◌, Bool, true, false, not, ◌&&◌, ◌||◌, ◌==◌, nat_lt, nat_le, Option, None, if◌then◌else◌, slice_get}
+use Rattle.endpoint.specs.declared.Endpoint.{Endpoint}
+use Rattle.bdev.specs.DriverState.{DriverState}
+use Rattle.policy.specs.Watch.{driver}
+use Rattle.marks.specs.Marks.{Mark, Fault, is_endpoint}
+use Rattle.marks.specs.declared.Cause.TheVariants.{Exit}
+use Rattle.schedule.specs.declared.Event.TheVariants as event
+use Rattle.schedule.specs.Groups.{Group, marks_of, running, generation}
+
+-- driver g as it stands: the g-th of those started
+abbrev pub state_of : List DriverState → ℕ → Option DriverState
+state_of drivers zero = None
+state_of drivers (suc g) = slice_get drivers g
+
+-- the drivers that exit in these marks, newest first
+abbrev pub exits_in : List Mark → List Endpoint
+exits_in [] = []
+exits_in (Fault e Exit ∷ marks) = e ∷ exits_in marks
+exits_in (_ ∷ marks) = exits_in marks
+
+-- whether there is an exit
+abbrev pub has_exit : List Mark → Bool
+has_exit [] = false
+has_exit (Fault e Exit ∷ marks) = true
+has_exit (_ ∷ marks) = has_exit marks
+
+-- whether driver g was started
+abbrev pub has_started : ℕ → List Group → Bool
+has_started g groups = nat_lt 0 g && nat_le g (generation (marks_of groups))
+
+-- whether driver g runs: it was started, and had no fault since
+abbrev pub is_running : ℕ → List Group → Bool
+is_running g groups = is_endpoint (driver g) (running (marks_of groups))
+
+-- whether driver g died after its start, or had an exit at its step
+abbrev pub has_ended : ℕ → List Group → Bool
+has_ended g [] = false
+has_ended g ((event.Die h bytes, group) ∷ earlier) = ((h == g) && has_started g earlier) || has_ended g earlier
+has_ended g ((event.Step h, group) ∷ earlier) = ((h == g) && has_exit group) || has_ended g earlier
+has_ended g ((_, group) ∷ earlier) = has_ended g earlier
+
+-- whether driver g may still step: it was started and hasn't ended
+abbrev pub is_live : ℕ → List Group → Bool
+is_live g groups = has_started g groups && not (has_ended g groups)
+
+-- whether driver g hangs: it was hung after its start
+abbrev pub is_hung : ℕ → List Group → Bool
+is_hung g [] = false
+is_hung g ((event.Hang h, group) ∷ earlier) = ((h == g) && has_started g earlier) || is_hung g earlier
+is_hung g ((_, group) ∷ earlier) = is_hung g earlier
+
+-- the ticks since driver g was hung: at each of them it beat no more
+abbrev pub missed : ℕ → List Group → ℕ
+missed g [] = 0
+missed g ((event.Tick, group) ∷ earlier) = if is_hung g earlier then missed g earlier + 1 else 0
+missed g ((_, group) ∷ earlier) = missed g earlier

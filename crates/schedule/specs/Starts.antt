@@ -1,0 +1,85 @@
+-- The starts that a run must show, the requests that follow each, and giving up.
+use Rattle.std.specs.Prelude.{◌≡◌, ℕ, ◌+◌, ◌-◌, List, [], ◌∷◌, ◌++◌, map, Bool, true, false, not, ◌&&◌, nat_le, Option, Some, None, if◌then◌else◌}
+use Rattle.endpoint.specs.declared.Endpoint.{Endpoint}
+use Rattle.policy.specs.declared.Policy.{Policy}
+use Rattle.policy.specs.Faults.{LastFault, last_fault, gives_up, restart_tick}
+use Rattle.policy.specs.Watch.{driver}
+use Rattle.marks.specs.Marks.{Mark, Started, GaveUp, Issued, Fault, gave_up, awaits_start}
+use Rattle.marks.specs.Open.{open_requests}
+use Rattle.schedule.specs.declared.Event.{Event}
+use Rattle.schedule.specs.declared.Event.TheVariants as event
+use Rattle.schedule.specs.Groups.{Group, marks_of, tick_of, generation}
+
+-- the ticks of the faults in these marks, all at this tick, before those of earlier ones
+abbrev pub fault_ticks_in : ℕ → List Mark → List ℕ → List ℕ
+fault_ticks_in tick [] earlier = earlier
+fault_ticks_in tick (Fault e cause ∷ group) earlier = tick ∷ fault_ticks_in tick group earlier
+fault_ticks_in tick (_ ∷ group) earlier = fault_ticks_in tick group earlier
+
+-- the ticks of the faults so far, newest first
+abbrev pub fault_ticks : List Group → List ℕ
+fault_ticks [] = []
+fault_ticks ((event, group) ∷ earlier) = fault_ticks_in (tick_of ((event, group) ∷ earlier)) group (fault_ticks earlier)
+
+-- the last fault so far, numbered by the policy
+abbrev pub fault_of : Policy → List Group → Option LastFault
+fault_of policy groups = last_fault policy.calm (fault_ticks groups)
+
+-- the tick of the start after the last fault has come
+abbrev pub has_come : Policy → Option LastFault → ℕ → Bool
+has_come policy None tick = false
+has_come policy (Some fault) tick = nat_le (restart_tick policy fault) tick
+
+-- at a tick the next driver is started, where one is awaited and its tick has come; at no other event, and none after giving up
+abbrev pub starts_due : Policy → Event → List Group → List Endpoint
+starts_due policy event.Tick earlier =
+    if awaits_start (marks_of earlier) && not (gave_up (marks_of earlier)) && has_come policy (fault_of policy earlier) (tick_of earlier + 1)
+    then driver (generation (marks_of earlier) + 1) ∷ []
+    else []
+starts_due policy _ earlier = []
+
+-- how often these marks give the device up
+abbrev pub times_gave_up : List Mark → ℕ
+times_gave_up [] = 0
+times_gave_up (GaveUp ∷ marks) = times_gave_up marks + 1
+times_gave_up (_ ∷ marks) = times_gave_up marks
+
+-- whether there is a fault
+abbrev pub has_fault : List Mark → Bool
+has_fault [] = false
+has_fault (Fault e cause ∷ marks) = true
+has_fault (_ ∷ marks) = has_fault marks
+
+-- a fault gives the device up: its number is too great, or of the supply or of the generations none is left
+abbrev pub gives_up_at : Policy → ℕ → Option LastFault → ℕ → Bool
+gives_up_at policy supply None generation = false
+gives_up_at policy supply (Some fault) generation = gives_up policy fault.number (supply - generation) generation
+
+-- the device is given up once, in the group of a fault that gives it up
+abbrev pub times_due : Policy → ℕ → List Group → ℕ
+times_due policy supply [] = 0
+times_due policy supply ((event, group) ∷ earlier) =
+    if has_fault group && gives_up_at policy supply (fault_of policy ((event, group) ∷ earlier)) (generation (group ++ marks_of earlier))
+    then 1 else 0
+
+-- the device is given up only after a fault that waits for its start
+abbrev pub is_given_up_after_fault : List Mark → List Mark → Bool
+is_given_up_after_fault [] before = true
+is_given_up_after_fault (GaveUp ∷ group) before = awaits_start (group ++ before) && is_given_up_after_fault group before
+is_given_up_after_fault (_ ∷ group) before = is_given_up_after_fault group before
+
+-- the device is given up where the policy says, after its fault
+pub record GivingUpOfGroup (policy : Policy) (supply : ℕ) (event : Event) (group : List Mark) (earlier : List Group) : Type 0 where
+  pub times : times_gave_up group ≡ times_due policy supply ((event, group) ∷ earlier)
+  pub after_fault : is_given_up_after_fault group (marks_of earlier) ≡ true
+
+-- right after a start all open requests are issued to the new driver, in rising order; after being the later marks, oldest first
+abbrev pub IsFollowedByIssues : List Mark → Mark → List Mark → Type 0
+IsFollowedByIssues after (Started e) before =
+    (rest : List Mark) × (after ≡ map (λ r. Issued r e) (open_requests before) ++ rest)
+IsFollowedByIssues after _ before = Unit {0}
+
+-- so it is from mark to mark of a group
+abbrev pub IssuesFollow : List Mark → List Mark → List Mark → Type 0
+IssuesFollow after [] before = Unit {0}
+IssuesFollow after (m ∷ group) before = IsFollowedByIssues after m (group ++ before) × IssuesFollow (m ∷ after) group before

@@ -1,0 +1,2 @@
+-- Laws of the volume.
+pub mod Laws
