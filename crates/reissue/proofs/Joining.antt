@@ -67,6 +67,7 @@ absorbs_then m res s t u before between after was mid is x l posts =
       in_order = subst (λ (h : List Told). PostsAfter m t h after) x.history posts;
       same = l.same;
       posted = l.posted;
+      issued = l.issued;
       agrees = λ marks h. l.agrees (received m marks) (x.agrees marks h);
       closes = subst (λ (ls : List Pending). Closes res (pending_of s.pending) (pending_of ls)) (sym l.same) x.closes;
       closing = λ marks h.
@@ -98,6 +99,7 @@ steps_one m res t u before taken after was mid is told truth x answer =
       in_order = subst (λ (h : List Told). PostsAfter m x.mid (x.complaints ++ h) after) told x.in_order;
       same = x.same;
       posted = x.posted;
+      issued = x.issued;
       closes = x.closes;
       minors = x.minors;
       grows = λ marks. grown_append x.posts (x.complaints ++ (Received m ∷ [])) marks
@@ -113,9 +115,9 @@ steps_one m res t u before taken after was mid is told truth x answer =
 -- a request is added, and posted or not
 pub begins_add : (ask : Ask) (s t u : Table) (p : Pending) (before after : List Told) (was is : Truth)
     → ((marks : List Mark) → Agrees s marks → Agrees t marks)
-    → t.pending ≡ s.pending ++ p ∷ [] → t.posted ≡ s.posted → p.request.minor ≡ ask.minor
+    → t.pending ≡ s.pending ++ p ∷ [] → t.posted ≡ s.posted → t.issued ≡ s.issued → p.request.minor ≡ ask.minor
     → Leads t u before after was is → Begins ask s u before after was is
-begins_add ask s t u p before after was is agrees items posted minor l =
+begins_add ask s t u p before after was is agrees items posted issued minor l =
     let minors : (n : ℕ) → ask.minor ≡ n → AllOfMinor n s.pending → AllOfMinor n t.pending = λ n e h.
         subst (λ (ls : List Pending). AllOfMinor n ls) (sym items) (minors_push n s.pending p h (minor ∙ e)) in
     record {
@@ -123,6 +125,7 @@ begins_add ask s t u p before after was is agrees items posted minor l =
       history = l.history;
       only_posts = l.only_posts;
       posted = omega (arith, l.posted, posted);
+      issued = omega (arith, l.issued, issued);
       agrees = λ marks h. l.agrees marks (agrees marks h);
       spares = λ image marks h.
         subst (λ (x : List Pending). Spares (pending_of x) (state_after image marks) (state_after image (grown l.posts marks))) (sym l.same)

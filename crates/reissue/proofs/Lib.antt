@@ -10,4 +10,6 @@ mod Closing
 mod Settling
 mod Messages
 mod Joining
+mod Order
+mod PostRules
 mod Posting

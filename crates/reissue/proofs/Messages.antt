@@ -126,9 +126,9 @@ closing_same result ps us marks more d u = record {
 
 -- what a start does, given whether the device was given up before
 started_hears : (t u : Table) (e : Endpoint) (b : Bool) → u.pending ≡ t.pending → u.ids ≡ t.ids
-    → u.posted ≡ cond b t.posted 0 → u.current ≡ cond b t.current (Some e) → (b ≡ true → t.current ≡ None) → HearsStart t u e b
-started_hears t u e true items ids posted current none = (record { pending = items; ids = ids; posted = posted }, current ∙ none refl)
-started_hears t u e false items ids posted current none = (items, ids, posted, current)
+    → u.posted ≡ cond b t.posted 0 → u.issued ≡ t.issued → u.current ≡ cond b t.current (Some e) → (b ≡ true → t.current ≡ None) → HearsStart t u e b
+started_hears t u e true items ids posted issued current none = (record { pending = items; ids = ids; posted = posted; issued = issued }, current ∙ none refl)
+started_hears t u e false items ids posted issued current none = (items, ids, posted, issued, current)
 
 -- once the device was given up there is nowhere to post to
 pub nowhere : (t : Table) (marks : List Mark) → Agrees t marks → t.given_up ≡ true → t.current ≡ None
@@ -143,7 +143,7 @@ pub takes_started : (message : Incoming) (e : Endpoint) (t u : Table) (history :
 takes_started message e t u history was is items posted issued ids current given_up =
     rw is (record {
       complaints = []; history = refl; silent = λ _. refl; due = λ _ _. refl;
-      hears = λ marks h. started_hears t u e t.given_up items ids posted current (nowhere t marks h);
+      hears = λ marks h. started_hears t u e t.given_up items ids posted issued current (nowhere t marks h);
       agrees = λ marks h. agrees_started t u marks e h items issued ids current given_up;
       closes = ap pending_of items;
       closing = λ marks h. closing_same settled.Nothing t.pending u.pending marks (Started e ∷ marks) (λ _ _. refl) (λ _. refl);
@@ -157,7 +157,7 @@ pub takes_flush : (message : Incoming) (t : Table) (history : List Told) (was : 
 takes_flush message t history was is =
     rw is (record {
       complaints = []; history = refl; silent = λ _. refl; due = λ _ _. refl;
-      hears = λ marks h. (record { pending = refl; ids = refl; posted = refl }, refl);
+      hears = λ marks h. (record { pending = refl; ids = refl; posted = refl; issued = refl }, refl);
       agrees = λ marks h. agrees_flushed t marks h; closes = refl;
       closing = λ marks h. record { moves = λ image tr. record { spares = record { disk = λ p q. refl; sure = λ p q s. s }; tells = tt }; joins = tt; leaves = tt };
       minors = λ minor h. h;
@@ -171,7 +171,7 @@ pub takes_gave_up : (message : Incoming) (t u : Table) (history : List Told) (wa
 takes_gave_up message t u history was is items posted issued ids current given_up =
     rw is (record {
       complaints = []; history = refl; silent = λ _. refl; due = λ _ _. refl;
-      hears = λ marks h. (record { pending = items; ids = ids; posted = posted }, current);
+      hears = λ marks h. (record { pending = items; ids = ids; posted = posted; issued = issued }, current);
       agrees = λ marks h. agrees_gave_up t u marks h items issued ids current given_up; closes = ap pending_of items;
       closing = λ marks h. record { moves = λ image tr. record { spares = record { disk = λ p q. refl; sure = λ p q s. s }; tells = tt }; joins = tt; leaves = tt };
       minors = λ minor h. rw items h;
@@ -184,7 +184,7 @@ pub takes_end : (message : Incoming) (t : Table) (history : List Told) (was : Tr
 takes_end message t history was is =
     rw is (record {
       complaints = []; history = refl; silent = λ _. refl; due = λ _ _. refl;
-      hears = λ marks h. (record { pending = refl; ids = refl; posted = refl }, refl);
+      hears = λ marks h. (record { pending = refl; ids = refl; posted = refl; issued = refl }, refl);
       agrees = λ marks h. h; closes = refl;
       closing = λ marks h. record { moves = λ image tr. record { spares = record { disk = λ p q. refl; sure = λ p q s. s }; tells = tt }; joins = tt; leaves = tt };
       minors = λ minor h. h;

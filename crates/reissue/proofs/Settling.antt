@@ -21,21 +21,23 @@ is_less n m lt = grind (arith, nat_tests)
 -- nothing is left of it
 pub answered_whole : (t v : Table) (id at n : ℕ) (e : Pending) → at < t.issued → e ≡ get_or t.pending at e → e.request.id ≡ id
     → n ≡ e.request.count → v.pending ≡ remove t.pending at → v.ids ≡ t.ids
-    → v.posted ≡ cond (nat_lt at t.posted) (t.posted - 1) t.posted → IsAnswered t v id n
-answered_whole t v id at n e lt is same all items ids posted = record {
-    at = at; entry = e; within = issued_within t at lt; there = is; id_is = same;
+    → v.posted ≡ cond (nat_lt at t.posted) (t.posted - 1) t.posted → v.issued + 1 ≡ t.issued → IsAnswered t v id n
+answered_whole t v id at n e lt is same all items ids posted issued = record {
+    at = at; entry = e; issued = lt; there = is; id_is = same;
     left = subst (λ (b : Bool). LeavesRest t v at e n b) (sym (not_less n e.request.count all)) (items, ids);
     posted = posted;
+    issued_left = issued;
   }
 
 -- its rest goes to the end
 pub answered_part : (t v : Table) (id at n : ℕ) (e r : Pending) → at < t.issued → e ≡ get_or t.pending at e → e.request.id ≡ id
     → n < e.request.count → v.pending ≡ remove t.pending at ++ r ∷ [] → v.ids ≡ t.ids + 1 → IsRest e r n (t.ids + 1)
-    → v.posted ≡ cond (nat_lt at t.posted) (t.posted - 1) t.posted → IsAnswered t v id n
-answered_part t v id at n e r lt is same part items ids rest posted = record {
-    at = at; entry = e; within = issued_within t at lt; there = is; id_is = same;
+    → v.posted ≡ cond (nat_lt at t.posted) (t.posted - 1) t.posted → v.issued + 1 ≡ t.issued → IsAnswered t v id n
+answered_part t v id at n e r lt is same part items ids rest posted issued = record {
+    at = at; entry = e; issued = lt; there = is; id_is = same;
     left = subst (λ (b : Bool). LeavesRest t v at e n b) (sym (is_less n e.request.count part)) (r, items, rest, ids);
     posted = posted;
+    issued_left = issued;
   }
 
 -- the minors of the others

@@ -253,6 +253,7 @@ leads_post s t u before between after was mid is r to d l told keeps cur lt same
       only_posts = l.only_posts;
       same = items ∙ l.same;
       posted = omega (arith, posted, l.posted);
+      issued = omega (arith, issued, posted, l.issued);
       spares = λ image marks h.
         let q = get_or t.pending t.posted d in
         let P : BlockRequest → Type 0 = λ x. Spares (pending_of s.pending) (state_after image marks) (state_after image (Issued x to ∷ grown l.posts marks)) in
@@ -280,6 +281,7 @@ leads_refused s t before between after was mid is r to l told keeps =
       only_posts = l.only_posts;
       same = l.same;
       posted = l.posted;
+      issued = l.issued;
       agrees = l.agrees;
       spares = l.spares;
       truth = λ opening marks h minors k. keeps opening (grown l.posts marks) (l.truth opening marks h minors k);
@@ -288,7 +290,7 @@ leads_refused s t before between after was mid is r to l told keeps =
 -- nothing was posted
 pub leads_none : (t : Table) (history : List Told) (was : Truth) → Leads t t history history was was
 leads_none t history was = record {
-    posts = []; history = refl; only_posts = tt; same = refl; posted = omega arith; agrees = λ marks h. h;
+    posts = []; history = refl; only_posts = tt; same = refl; posted = omega arith; issued = omega (arith, t.order); agrees = λ marks h. h;
     spares = λ image marks h. record { disk = λ p q. refl; sure = λ p q s. s };
     truth = λ opening marks h minors k. k;
   }

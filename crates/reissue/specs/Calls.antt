@@ -1,5 +1,5 @@
 -- What each call of transfers adds to the record, and what it does to the disk, to those that are pending, and to what the link guarantees.
-use Rattle.std.specs.Prelude.{◌≡◌, ℕ, ◌+◌, List, [], ◌∷◌, ◌++◌, length, Bool, true, false, ◌==◌, MatchBool, Result, Ok, Err, Option, Some, None}
+use Rattle.std.specs.Prelude.{◌≡◌, ℕ, ◌+◌, List, [], ◌∷◌, ◌++◌, length, max, Bool, true, false, ◌==◌, MatchBool, Result, Ok, Err, Option, Some, None}
 use Rattle.message.specs.declared.BlockRequest.{BlockRequest}
 use Rattle.message.specs.declared.Incoming.{Incoming}
 use Rattle.message.specs.declared.Incoming.TheVariants as incoming
@@ -29,6 +29,7 @@ pub record Leads (old new : Table) (before after : List Told) (was is : Truth) :
   pub only_posts : OnlyPosts posts
   pub same : new.pending ≡ old.pending
   pub posted : new.posted ≡ old.posted + accepted_of posts
+  pub issued : new.issued ≡ max old.issued new.posted
   pub agrees : (marks : List Mark) → Agrees old marks → Agrees new (grown posts marks)
   pub spares : (image : Contents) (marks : List Mark) → Agrees old marks
       → Spares (pending_of old.pending) (state_after image marks) (state_after image (grown posts marks))
@@ -77,6 +78,7 @@ pub record Absorbs (message : Incoming) (result : Settled) (old new : Table) (be
   pub in_order : PostsAfter message mid (complaints ++ before) after
   pub same : new.pending ≡ mid.pending
   pub posted : new.posted ≡ mid.posted + accepted_of posts
+  pub issued : new.issued ≡ max mid.issued new.posted
   pub agrees : (marks : List Mark) → Agrees old marks → Agrees new (grown posts (received message marks))
   pub closes : Closes result (pending_of old.pending) (pending_of new.pending)
   pub closing : (marks : List Mark) → Agrees old marks
@@ -116,6 +118,7 @@ pub record Steps (result : Settled) (old new : Table) (before after : List Told)
   pub in_order : PostsAfter message mid (complaints ++ heard message before) after
   pub same : new.pending ≡ mid.pending
   pub posted : new.posted ≡ mid.posted + accepted_of posts
+  pub issued : new.issued ≡ max mid.issued new.posted
   pub grows : (marks : List Mark) → grown (posts ++ (complaints ++ (Received message ∷ []))) marks ≡ grown posts (received message marks)
   pub agrees : (marks : List Mark) → Agrees old marks → Agrees new (grown posts (received message marks))
   pub closes : Closes result (pending_of old.pending) (pending_of new.pending)
@@ -131,6 +134,7 @@ pub record Begins (ask : Ask) (old new : Table) (before after : List Told) (was 
   pub history : after ≡ posts ++ before
   pub only_posts : OnlyPosts posts
   pub posted : new.posted ≡ old.posted + accepted_of posts
+  pub issued : new.issued ≡ max old.issued new.posted
   pub agrees : (marks : List Mark) → Agrees old marks → Agrees new (grown posts marks)
   pub spares : (image : Contents) (marks : List Mark) → Agrees old marks
       → Spares (pending_of new.pending) (state_after image marks) (state_after image (grown posts marks))

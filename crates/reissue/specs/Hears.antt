@@ -33,17 +33,19 @@ LeavesRest old mid at q n false = (mid.pending ≡ remove old.pending at) × (mi
 pub record IsAnswered (old mid : Table) (id n : ℕ) : Type 0 where
   pub at : ℕ
   pub entry : Pending
-  pub within : at < length old.pending
+  pub issued : at < old.issued
   pub there : entry ≡ slice_index_or old.pending at entry
   pub id_is : entry.request.id ≡ id
   pub left : LeavesRest old mid at entry n (nat_lt n entry.request.count)
   pub posted : mid.posted ≡ (if nat_lt at old.posted then old.posted - 1 else old.posted)
+  pub issued_left : mid.issued + 1 ≡ old.issued
 
 -- nothing is taken out or put in
 pub record IsUnanswered (old mid : Table) : Type 0 where
   pub pending : mid.pending ≡ old.pending
   pub ids : mid.ids ≡ old.ids
   pub posted : mid.posted ≡ old.posted
+  pub issued : mid.issued ≡ old.issued
 
 -- an answer that moved so much
 abbrev pub HearsAnswer : Table → Table → ℕ → Option ℕ → Type 0
@@ -57,7 +59,7 @@ counted_move marks a = if counts marks a then moved_by a marks else None
 -- a start, before the device is given up: nothing is posted to that endpoint yet
 abbrev pub HearsStart : Table → Table → Endpoint → Bool → Type 0
 HearsStart old mid e true = IsUnanswered old mid × (mid.current ≡ None)
-HearsStart old mid e false = (mid.pending ≡ old.pending) × (mid.ids ≡ old.ids) × (mid.posted ≡ 0) × (mid.current ≡ Some e)
+HearsStart old mid e false = (mid.pending ≡ old.pending) × (mid.ids ≡ old.ids) × (mid.posted ≡ 0) × (mid.issued ≡ old.issued) × (mid.current ≡ Some e)
 
 -- what each message does, for a record that the table agrees with
 abbrev pub Hears : Incoming → Table → Table → List Mark → Type 0

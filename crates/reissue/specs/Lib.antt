@@ -10,3 +10,4 @@ pub mod Posts
 pub mod Calls
 pub mod Answers
 pub mod Transfers
+pub mod Rules

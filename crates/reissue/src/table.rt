@@ -321,6 +321,7 @@ impl Table {
         ensures opens { pending_of self.new.pending ≡ put (pending_of self.old.pending) result (Some (begun_by ask.now)) }
         ensures ids { self.new.ids ≡ self.old.ids + 1 }
         ensures posted { self.new.posted ≡ self.old.posted }
+        ensures issued { self.new.issued ≡ self.old.issued }
         ensures current { self.new.current ≡ self.old.current }
     {
         let id = self.ids + 1;

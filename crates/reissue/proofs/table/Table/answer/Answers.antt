@@ -36,7 +36,7 @@ returns-in_default-clause-agrees c = λ marks h.
 
 pub returns-in_default-clause-hears : goal.returns-in_default-clause-hears
 returns-in_default-clause-hears c = λ marks h.
-    rw (dropped_unknown c.args.self.now marks c.args.reply.now h (sym c.in_default.ensures)).moves (record { pending = refl; ids = refl; posted = refl })
+    rw (dropped_unknown c.args.self.now marks c.args.reply.now h (sym c.in_default.ensures)).moves (record { pending = refl; ids = refl; posted = refl; issued = refl })
 
 pub returns-in_default-clause-due : goal.returns-in_default-clause-due
 returns-in_default-clause-due c = λ marks h.
@@ -55,7 +55,7 @@ returns-in_default-moved_bytes-clause-agrees c = λ marks h.
 
 pub returns-in_default-moved_bytes-clause-hears : goal.returns-in_default-moved_bytes-clause-hears
 returns-in_default-moved_bytes-clause-hears c = λ marks h.
-    rw (bad_here c marks h).counted (record { pending = refl; ids = refl; posted = refl })
+    rw (bad_here c marks h).counted (record { pending = refl; ids = refl; posted = refl; issued = refl })
 
 pub returns-in_default-moved_bytes-clause-due : goal.returns-in_default-moved_bytes-clause-due
 returns-in_default-moved_bytes-clause-due c = λ marks h. sym (ap complaints_about (bad_here c marks h).due)

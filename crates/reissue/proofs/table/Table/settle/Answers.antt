@@ -43,7 +43,7 @@ returns-then-rest-gt0-clause-hears c =
       (p.items ∙ ap (λ (l : List Pending). l ++ c.with_answer-rest.result ∷ []) o.items) (omega (arith, p.ids, o.ids))
       (record { ticket = w.ticket; start = w.start; size = w.size; number = w.id ∙ omega (arith, o.ids); kind = w.kind; minor = w.minor;
         position = w.position; count = w.count; left = w.rest })
-      (p.posted ∙ o.posted)
+      (p.posted ∙ o.posted) (omega (arith, p.issued, o.issued))
 
 pub returns-then-rest-gt0-clause-closes : goal.returns-then-rest-gt0-clause-closes
 returns-then-rest-gt0-clause-closes c =
@@ -83,7 +83,7 @@ returns-in-Read-clause-hears c =
     let o = c.take_out-entry.ensures in
     let w = c.with_answer-rest.ensures in
     answered_whole c.args.self.now _ _ c.args.at c.args.n c.take_out-entry.result c.requires.at o.value
-      (c.requires.there c.take_out-entry.result o.value) (omega (arith, w.count, c.if-rest-gt0.false)) o.items o.ids o.posted
+      (c.requires.there c.take_out-entry.result o.value) (omega (arith, w.count, c.if-rest-gt0.false)) o.items o.ids o.posted o.issued
 
 pub returns-in-Read-clause-closes : goal.returns-in-Read-clause-closes
 returns-in-Read-clause-closes c =
@@ -127,7 +127,7 @@ returns-in-Write-clause-hears c =
     let o = c.take_out-entry.ensures in
     let w = c.with_answer-rest.ensures in
     answered_whole c.args.self.now _ _ c.args.at c.args.n c.take_out-entry.result c.requires.at o.value
-      (c.requires.there c.take_out-entry.result o.value) (omega (arith, w.count, c.if-rest-gt0.false)) o.items o.ids o.posted
+      (c.requires.there c.take_out-entry.result o.value) (omega (arith, w.count, c.if-rest-gt0.false)) o.items o.ids o.posted o.issued
 
 pub returns-in-Write-clause-closes : goal.returns-in-Write-clause-closes
 returns-in-Write-clause-closes c =

@@ -38,4 +38,4 @@ returns-clause-opens g c =
 pub returns-clause-begins : goal.returns-clause-begins
 returns-clause-begins g c =
     let a = c.add-ticket.ensures in
-    begins_add _ _ _ _ a.added.0 _ _ _ _ a.agrees a.added.1 a.posted (ap (λ (r : BlockRequest). r.minor) a.added.3) c.post_if.ensures.leads
+    begins_add _ _ _ _ a.added.0 _ _ _ _ a.agrees a.added.1 a.posted a.issued (ap (λ (r : BlockRequest). r.minor) a.added.3) c.post_if.ensures.leads
