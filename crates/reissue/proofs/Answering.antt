@@ -23,7 +23,8 @@ use Rattle.marks.specs.Open.{asked_by, counts, greatest, moved, moved_by, open_r
 use Rattle.marks.specs.Told.{received}
 use Rattle.message.specs.Good.{is_write}
 use Rattle.marks.specs.Acts.{complaint_due}
-use Rattle.reissue.specs.Agrees.{AreNumbered, IsJoined, target, Agrees, AllApart, AllReadDisk, Apart, ApartFromAll, Holds, ReadsDisk, Wrote}
+use Rattle.marks.specs.Acts.{target}
+use Rattle.reissue.specs.Agrees.{AreNumbered, IsJoined, Agrees, AllApart, AllReadDisk, Apart, ApartFromAll, Holds, ReadsDisk, Wrote}
 use Rattle.reissue.specs.Entries.{MissesOrSame, request_of}
 
 -- the first entry with this id, with those before and after it

@@ -17,7 +17,8 @@ use Rattle.marks.specs.Opening.{Opening}
 use Rattle.marks.specs.Disk.{bytes_read}
 use Rattle.reissue.specs.Moves.{Closes, Spares, Moves, Tells}
 use Rattle.reissue.specs.Entries.{pending_of, AllOfMinor}
-use Rattle.reissue.specs.Agrees.{Agrees, Holds, target, AllReadDisk, ReadsDisk}
+use Rattle.marks.specs.Acts.{target}
+use Rattle.reissue.specs.Agrees.{Agrees, Holds, AllReadDisk, ReadsDisk}
 use Rattle.reissue.specs.Hears.{Hears, HearsStart, HearsAnswer, counted_move}
 use Rattle.marks.specs.Acts.{complaint_due}
 use Rattle.reissue.specs.Posts.{complaints_about}

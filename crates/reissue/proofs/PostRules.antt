@@ -9,12 +9,13 @@ use Rattle.message.specs.declared.BlockRequest.{BlockRequest}
 use Rattle.marks.specs.Marks.{Mark, Issued, last_started, gave_up}
 use Rattle.marks.specs.Open.{without_id}
 use Rattle.marks.specs.Told.{Told, Posted, Complained, Received, grown}
-use Rattle.marks.specs.Acts.{Act, AtLink, Outbox, KeepsRules, outbox_after, marks_after, told_of, FitsMinor, MayPost}
+use Rattle.marks.specs.Acts.{Act, AtLink, Outbox, KeepsRules, outbox_after, marks_after, target, told_of, MayPost}
+use Rattle.marks.specs.Opening.{FitsMinor}
 use Rattle.marks.proofs.ActLaws.{acts_compose}
 use Rattle.reissue.specs.declared.pending.Pending.{Pending}
 use Rattle.reissue.specs.declared.table.Table.{Table}
 use Rattle.reissue.specs.Entries.{AreRising, AllOfMinor, request_of}
-use Rattle.reissue.specs.Agrees.{target, unposted, never_issued}
+use Rattle.reissue.specs.Agrees.{unposted, never_issued}
 use Rattle.reissue.specs.Posts.{ArePostedTo, PostsInOrder, accepted_of}
 use Rattle.reissue.specs.Rules.{outbox_of}
 use Rattle.reissue.proofs.Order.{without_lower, drop_twice, append_cancel}
@@ -58,7 +59,7 @@ pub record Then (minor : ℕ) (posts : List Told) (marks : List Mark) (to : Endp
       ≡ outbox_after (at_link posts) (Issued r to ∷ marks) (box ms us false)
 
 post_then : (minor : ℕ) (posts : List Told) (marks : List Mark) (to : Endpoint) (r : BlockRequest) (ns ms us : List BlockRequest)
-    → last_started marks ≡ Some to → FitsMinor minor r → without_id r.id ns ≡ ms
+    → target marks ≡ Some to → FitsMinor minor r → without_id r.id ns ≡ ms
     → KeepsRules minor (at_link posts) (Issued r to ∷ marks) (box ms us false)
     → Then minor posts marks to r ns ms us
 post_then minor posts marks to r ns ms us started fits left keeps =
@@ -105,7 +106,7 @@ rising_suffix low ids (f ∷ fs) ws h = lower low f.request.id ws (omega (arith,
   lower low m (w ∷ ws) le h = (omega (arith, h.0), h.1, h.2)
 
 refused_first : (minor : ℕ) (to : Endpoint) (fs ws : List Pending) (p : Pending) (ps : List Pending) (marks : List Mark) (before after : List Told)
-    → fs ++ ws ≡ p ∷ ps → last_started marks ≡ Some to → p.request.minor ≡ minor
+    → fs ++ ws ≡ p ∷ ps → target marks ≡ Some to → p.request.minor ≡ minor
     → after ≡ Posted to p.request false ∷ before → IsPosted minor fs ws marks before after
 refused_first minor to fs ws p ps marks before after is started m e = record {
     posts = Posted to p.request false ∷ [];
@@ -118,7 +119,7 @@ refused_first minor to fs ws p ps marks before after is started m e = record {
   }
 
 pub posted_keep : (minor low ids : ℕ) (to : Endpoint) (fs ws : List Pending) (marks : List Mark) (before after : List Told)
-    → AreRising low ids (fs ++ ws) → AllOfMinor minor (fs ++ ws) → last_started marks ≡ Some to
+    → AreRising low ids (fs ++ ws) → AllOfMinor minor (fs ++ ws) → target marks ≡ Some to
     → ArePostedTo to (map request_of (fs ++ ws)) before after → IsPosted minor fs ws marks before after
 posted_keep minor low ids to [] [] marks before after h m s e = record { posts = []; history = e; keeps = tt; owes = refl }
 posted_keep minor low ids to [] (w ∷ ws) marks before after h m s (inl e) = refused_first minor to [] (w ∷ ws) w ws marks before after refl s m.0 e

@@ -14,7 +14,8 @@ use Rattle.marks.specs.Disk.{Contents}
 use Rattle.marks.specs.Marks.{last_started, gave_up, Took, Fault, Answered, Flush, GaveUp, Issued, Mark, Started}
 use Rattle.marks.specs.Open.{IsIn, IsNew, Misses, MissesAll, greatest, moved_by, open_requests, without_id}
 use Rattle.marks.specs.Told.{Posted, Told, grown}
-use Rattle.reissue.specs.Agrees.{AreNumbered, target, Agrees, AllApart, AllReadDisk, AllWrote, Apart, ApartFromAll, Holds, unposted}
+use Rattle.marks.specs.Acts.{target}
+use Rattle.reissue.specs.Agrees.{AreNumbered, Agrees, AllApart, AllReadDisk, AllWrote, Apart, ApartFromAll, Holds, unposted}
 use Rattle.marks.specs.Open.{MayFollow}
 use Rattle.reissue.specs.Calls.{Leads, Truth}
 use Rattle.marks.specs.Opening.{Opening, Fits}
@@ -229,7 +230,7 @@ minor_at minor (p ∷ ps) (suc i) d lt h = minor_at minor ps i d (omega arith) h
 -- a pending request fits the opening of its minor
 fits_of : (opening : Opening) (q : Pending) (r : BlockRequest) → r ≡ q.request → q.request.minor ≡ opening.minor → length r.bytes ≡ 4096 → Fits opening r
 fits_of opening q r is minor bytes = record {
-    minor = ap (λ (x : BlockRequest). x.minor) is ∙ minor;
+    minor_is = ap (λ (x : BlockRequest). x.minor) is ∙ minor;
     count = omega (arith, ap (λ (x : BlockRequest). x.count) is, q.from, q.end, q.small);
     bytes = bytes;
   }

@@ -3,7 +3,8 @@ use Rattle.std.specs.Prelude.{◌≡◌, ◌⊎◌, ℕ, ◌+◌, ◌-◌, ◌<�
 use Rattle.endpoint.specs.declared.Endpoint.{Endpoint}
 use Rattle.message.specs.Good.{is_write}
 use Rattle.message.specs.declared.BlockRequest.{BlockRequest}
-use Rattle.marks.specs.Marks.{Mark, Answered, last_started, gave_up}
+use Rattle.marks.specs.Marks.{Mark, Answered, gave_up}
+use Rattle.marks.specs.Acts.{target}
 use Rattle.marks.specs.Open.{greatest, open_requests, IsWellFormed, asked_by, moved_by}
 use Rattle.marks.specs.Disk.{Contents, disk_after, bytes_read, unsure, HasTrueReplies}
 use Rattle.reissue.specs.declared.pending.Pending.{Pending}
@@ -17,10 +18,6 @@ unposted table = map request_of (drop table.posted table.pending)
 -- the pending requests that were never issued
 abbrev pub never_issued : Table → List BlockRequest
 never_issued table = map request_of (drop table.issued table.pending)
-
--- where requests are posted, and whose replies count: the endpoint of the last start, until the device is given up
-abbrev pub target : List Mark → Option Endpoint
-target marks = if gave_up marks then None else last_started marks
 
 -- these ids, one after the other
 abbrev pub AreNumbered : ℕ → List BlockRequest → Type 0
