@@ -8,7 +8,7 @@ use Rattle.tree.specs.Sums.{sum_below, some_below, least_below}
 use Rattle.tree.specs.Tree.{Tree}
 use Rattle.tree.specs.Answers.{refused, some_bytes, wrote, position, node_is, names_are, room_is}
 use Rattle.tree.specs.Effects.{tree_after_call}
-use Rattle.tree.proofs.Small.{small, tight, start, user0, at, path, flags, after, house, Rows}
+use Rattle.tree_rows.proofs.Small.{small, tight, start, user0, at, path, flags, after, house, Rows}
 
 -- descriptors: 0 the directory /d; 1 the file /f for both, with the byte A and the position after it; 2 /f for reading;
 -- 3 /f for writing at its end

@@ -6,7 +6,7 @@ use Rattle.tree.specs.Sums.{sum_below, some_below, count_below}
 use Rattle.tree.specs.ZonesNeeded.{page_limit, from_page, single_blocks, double_blocks, triple_blocks, zones_needed}
 use Rattle.tree.proofs.Maps.{not_true}
 use Rattle.tree.proofs.Needs.{sum_add, none_counted}
-use Rattle.tree.proofs.TriplePage.{only, triple_page}
+use Rattle.tree_rows.proofs.TriplePage.{only, triple_page}
 
 -- nothing passes where nothing does
 none_below : (p : ℕ → Bool) (n : ℕ) → ((q : ℕ) → p q ≡ false) → some_below p n ≡ false

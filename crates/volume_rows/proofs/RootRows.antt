@@ -4,7 +4,7 @@ use Rattle.tree.specs.Sums.{sum_below, some_below, least_below}
 use Rattle.volume.specs.Reading.{Disk}
 use Rattle.volume.specs.Nodes.{names_in}
 use Rattle.volume.specs.Verdict.{Verdict, Clean, found}
-use Rattle.volume.proofs.Small.{Rows, Gives, u32, inode, entry, with_block, with_byte, start, verdict}
+use Rattle.volume_rows.proofs.Small.{Rows, Gives, u32, inode, entry, with_block, with_byte, start, verdict}
 
 -- one byte set, or two or three: of the maps, of inode 1 (block 4), of its entries (blocks 12 and 13)
 abbrev bytes_set : Rows Disk Verdict

@@ -9,7 +9,7 @@ use Rattle.tree.specs.Tree.{Tree, on_node}
 use Rattle.tree.specs.Changes.{more_links}
 use Rattle.tree.specs.Answers.{refused, done, node_is, room_is}
 use Rattle.tree.specs.Effects.{tree_after_call}
-use Rattle.tree.proofs.Small.{small, user0, other, path, flags, after, house, Row, Rows, empty_path, long_path, zero_path, wide_path}
+use Rattle.tree_rows.proofs.Small.{small, user0, other, path, flags, after, house, Row, Rows, empty_path, long_path, zero_path, wide_path}
 
 -- with /g (7) and the empty /g/h (8): 6 entries of the root, 3 each of /d, /g and /p, 2 each of /d/e and /g/h, so 19 zones
 unfoldable rooms : Tree

@@ -1,5 +1,5 @@
 //! Each error's number and text.
-use super::Errno;
+use errno::Errno;
 use std::alloc::AllocError;
 
 #[test]

@@ -1,5 +1,5 @@
 //! The texts of replies, and the flags by their letters: expected values are the format's.
-use super::{Attributes, Entry, OpenFlags, Outcome, Reply, Room};
+use tree::{Attributes, Entry, OpenFlags, Outcome, Reply, Room};
 use bitflags::Flags;
 use errno::Errno;
 use std::alloc::AllocError;

@@ -7,7 +7,7 @@ use Rattle.volume.specs.Pieces.{pieces}
 use Rattle.volume.specs.Nodes.{names_in}
 use Rattle.volume.specs.Verdict.{Clean, verdict_of_pieces}
 use Rattle.volume.specs.Fresh.{fresh_pieces}
-use Rattle.volume.proofs.Small.{with_block}
+use Rattle.volume_rows.proofs.Small.{with_block}
 
 -- 64 blocks of 1024 bytes, 32 inodes: 2 inode map, 3 zone map, 4 and 5 the inodes, 6 the root's zone
 abbrev plain : Geometry

@@ -6,7 +6,7 @@ use Rattle.volume.specs.Reading.{Disk}
 use Rattle.volume.specs.Pieces.{pieces}
 use Rattle.volume.specs.Nodes.{names_in}
 use Rattle.volume.specs.Verdict.{Verdict, Clean, found, verdict_of_pieces}
-use Rattle.volume.proofs.Small.{Rows, Gives, inode, entry, with_block, with_byte, tree, wide_verdict, later_verdict}
+use Rattle.volume_rows.proofs.Small.{Rows, Gives, inode, entry, with_block, with_byte, tree, wide_verdict, later_verdict}
 
 -- The tree. Bytes that are unseen: of both first blocks, of an inode that isn't marked, of a zone without a use, and of the last page past the
 -- end. Then a file without permissions, a name of a high byte, one of 60 bytes, and a hole of the greatest size.

@@ -2,7 +2,7 @@
 use Rattle.std.proofs.Common.{ℕ, List, [], ◌∷◌, ◌++◌, take, replicate, refl}
 use Rattle.tree.specs.Sums.{some_below, least_below}
 use Rattle.volume.specs.Verdict.{found, verdict_of}
-use Rattle.volume.proofs.Small.{Gives, u16, u32}
+use Rattle.volume_rows.proofs.Small.{Gives, u16, u32}
 
 -- the boot block and a superblock: inodes, both maps' blocks, first data zone, log2, maximum size, zones, magic, block size, version
 abbrev superblock : ℕ → ℕ → ℕ → ℕ → ℕ → ℕ → ℕ → ℕ → ℕ → ℕ → List ℕ
