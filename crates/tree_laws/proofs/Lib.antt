@@ -10,7 +10,13 @@ pub mod ByteCalls
 pub mod Weights
 pub mod Unlinked
 pub mod Places
+pub mod Totals
+pub mod Shapes
 pub mod Ways
+pub mod FileNames
+pub mod NewDirectory
+pub mod GoneDirectory
+pub mod MovedDirectory
 pub mod UnlinkCall
 pub mod Kept
 pub mod AttributeCalls
