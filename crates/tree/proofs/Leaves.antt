@@ -12,10 +12,10 @@ use Rattle.tree.specs.Answers.{Answer, refused, node_is, names_are, Effect}
 use Rattle.tree.proofs.Maps.{not_true}
 use Rattle.tree.specs.Flags.{reads}
 use Rattle.tree.specs.Walk.{walk, node_at}
-use Rattle.tree.specs.Changes.{opened}
+use Rattle.tree.specs.Changes.{open_file_of}
 use Rattle.tree.specs.NodeCalls.{stat, attributes_of}
 use Rattle.tree.specs.FileCalls.{fstat, readdir, names_or}
-use Rattle.tree.specs.Effects.{row, user_of}
+use Rattle.tree.specs.Effects.{effect_in_session, user_of}
 use Rattle.tree.specs.Laws.{RefusedLeaves, LooksLeave}
 
 abbrev answer_after : Effect → Answer
@@ -46,12 +46,12 @@ stat_leaves t user path =
 
 fstat_leaves : (t : Tree) (session fd : ℕ) → Leaves t (fstat t session fd)
 fstat_leaves t session fd =
-    bound t (opened t session fd) (λ found. node_at t found.1.inode >>= λ node. Ok (node_is (attributes_of found.1.inode node), t)) (λ found.
+    bound t (open_file_of t session fd) (λ found. node_at t found.1.inode >>= λ node. Ok (node_is (attributes_of found.1.inode node), t)) (λ found.
     bound t (node_at t found.1.inode) (λ node. Ok (node_is (attributes_of found.1.inode node), t)) (λ node. answered t _))
 
 readdir_leaves : (t : Tree) (session fd : ℕ) → Leaves t (readdir t session fd)
 readdir_leaves t session fd =
-    bound t (opened t session fd) (λ found. refuse_if (not (reads found.1.flags)) EBADF >>= λ _. node_at t found.1.inode >>= λ node. names_or node ENOTDIR >>= λ names. Ok (names_are names, t)) (λ found.
+    bound t (open_file_of t session fd) (λ found. refuse_if (not (reads found.1.flags)) EBADF >>= λ _. node_at t found.1.inode >>= λ node. names_or node ENOTDIR >>= λ names. Ok (names_are names, t)) (λ found.
     bound t (refuse_if (not (reads found.1.flags)) EBADF) (λ _. node_at t found.1.inode >>= λ node. names_or node ENOTDIR >>= λ names. Ok (names_are names, t)) (λ _.
     bound t (node_at t found.1.inode) (λ node. names_or node ENOTDIR >>= λ names. Ok (names_are names, t)) (λ node.
     bound t (names_or node ENOTDIR) (λ names. Ok (names_are names, t)) (λ names. answered t _))))
@@ -60,11 +60,11 @@ abbrev session_refused : Who → Result ℕ Errno
 session_refused who = refuse_if (nat_le most_sessions who.session) EINVAL
 
 pub looks_leave : LooksLeave
-looks_leave g t who now (Stat path) h = (bound t (session_refused who) (λ _. row g t who now (Stat path)) (λ _. stat_leaves t (user_of who) path.now)).same
-looks_leave g t who now (Fstat fd) h = (bound t (session_refused who) (λ _. row g t who now (Fstat fd)) (λ _. fstat_leaves t who.session fd)).same
-looks_leave g t who now (Readdir fd) h = (bound t (session_refused who) (λ _. row g t who now (Readdir fd)) (λ _. readdir_leaves t who.session fd)).same
-looks_leave g t who now Sync h = (bound t (session_refused who) (λ _. row g t who now Sync) (λ _. answered t _)).same
-looks_leave g t who now Statfs h = (bound t (session_refused who) (λ _. row g t who now Statfs) (λ _. answered t _)).same
+looks_leave g t who now (Stat path) h = (bound t (session_refused who) (λ _. effect_in_session g t who now (Stat path)) (λ _. stat_leaves t (user_of who) path.now)).same
+looks_leave g t who now (Fstat fd) h = (bound t (session_refused who) (λ _. effect_in_session g t who now (Fstat fd)) (λ _. fstat_leaves t who.session fd)).same
+looks_leave g t who now (Readdir fd) h = (bound t (session_refused who) (λ _. effect_in_session g t who now (Readdir fd)) (λ _. readdir_leaves t who.session fd)).same
+looks_leave g t who now Sync h = (bound t (session_refused who) (λ _. effect_in_session g t who now Sync) (λ _. answered t _)).same
+looks_leave g t who now Statfs h = (bound t (session_refused who) (λ _. effect_in_session g t who now Statfs) (λ _. answered t _)).same
 looks_leave g t who now (Open path flags mode) h = absurd (not_true h)
 looks_leave g t who now (Close fd) h = absurd (not_true h)
 looks_leave g t who now (Dup fd) h = absurd (not_true h)

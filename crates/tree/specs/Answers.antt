@@ -1,4 +1,4 @@
--- What a call answers, and the effect_of of a call: its answer with the tree after it, or its refusal.
+-- What a call answers, and its effect: its answer with the tree after it, or its refusal.
 use Rattle.std.specs.Prelude.{ℕ, List, map, Result, Ok, Err, nat_lt, if◌then◌else◌}
 use Rattle.layout.specs.declared.Geometry.{Geometry}
 use Rattle.errno.specs.declared.Errno.{Errno}
@@ -11,6 +11,7 @@ use Rattle.tree.specs.Names.{Names as NameMap}
 use Rattle.tree.specs.Tree.{Tree}
 use Rattle.tree.specs.Space.{zones_used, data_zones}
 
+-- an answer, as definitions have it: a reply of Rust owns its bytes and can't be made here
 pub data Answer : Type 0 where
   refused : Errno → Answer
   done : Answer
@@ -34,6 +35,7 @@ answer_of (Inode a) = node_is a
 answer_of (Names names) = names_are (map (λ e. (e.name.items, e.inode)) names.items)
 answer_of (Space r) = room_is r
 
+-- an answer and the tree after the call, or the refusal
 abbrev pub Effect : Type 0
 Effect = Result (Answer × Tree) Errno
 

@@ -13,45 +13,48 @@ use Rattle.tree.specs.NodeCalls.{stat, chmod, chown, utime, truncate, statfs}
 use Rattle.tree.specs.NameCalls.{link, unlink, mkdir, rmdir, rename}
 use Rattle.tree.specs.FileCalls.{open_path, close, dup, read, write, seek, fstat, readdir}
 
+-- the user who calls
 abbrev pub user_of : Who → User
 user_of who = record { uid = who.uid; gid = who.gid }
 
--- the call by its own rules
-abbrev pub row : Geometry → Tree → Who → ℕ → Call → Effect
-row g t who now (Open path flags mode) = open_path g t (user_of who) now who.session path.now flags.0 mode
-row g t who now (Close fd) = close t who.session fd
-row g t who now (Dup fd) = dup t who.session fd
-row g t who now (Read fd count) = read t who.session fd count
-row g t who now (Write fd bytes) = write g t now who.session fd bytes.now
-row g t who now (Seek fd whence offset) = seek t who.session fd whence offset
-row g t who now (Stat path) = stat t (user_of who) path.now
-row g t who now (Fstat fd) = fstat t who.session fd
-row g t who now (Link old new) = link g t (user_of who) now old.now new.now
-row g t who now (Unlink path) = unlink t (user_of who) now path.now
-row g t who now (Mkdir path mode) = mkdir g t (user_of who) now path.now mode
-row g t who now (Rmdir path) = rmdir t (user_of who) now path.now
-row g t who now (Rename old new) = rename g t (user_of who) now old.now new.now
-row g t who now (Chmod path mode) = chmod t (user_of who) now path.now mode
-row g t who now (Chown path uid gid) = chown t (user_of who) now path.now uid gid
-row g t who now (Utime path atime mtime) = utime t (user_of who) now path.now atime mtime
-row g t who now (Truncate path size) = truncate g t (user_of who) now path.now size
-row g t who now (Readdir fd) = readdir t who.session fd
-row g t who now Sync = Ok (done, t)
-row g t who now Statfs = statfs g t
+-- the effect of a call of a session that may be
+abbrev pub effect_in_session : Geometry → Tree → Who → ℕ → Call → Effect
+effect_in_session g t who now (Open path flags mode) = open_path g t (user_of who) now who.session path.now flags.0 mode
+effect_in_session g t who now (Close fd) = close t who.session fd
+effect_in_session g t who now (Dup fd) = dup t who.session fd
+effect_in_session g t who now (Read fd count) = read t who.session fd count
+effect_in_session g t who now (Write fd bytes) = write g t now who.session fd bytes.now
+effect_in_session g t who now (Seek fd whence offset) = seek t who.session fd whence offset
+effect_in_session g t who now (Stat path) = stat t (user_of who) path.now
+effect_in_session g t who now (Fstat fd) = fstat t who.session fd
+effect_in_session g t who now (Link old new) = link g t (user_of who) now old.now new.now
+effect_in_session g t who now (Unlink path) = unlink t (user_of who) now path.now
+effect_in_session g t who now (Mkdir path mode) = mkdir g t (user_of who) now path.now mode
+effect_in_session g t who now (Rmdir path) = rmdir t (user_of who) now path.now
+effect_in_session g t who now (Rename old new) = rename g t (user_of who) now old.now new.now
+effect_in_session g t who now (Chmod path mode) = chmod t (user_of who) now path.now mode
+effect_in_session g t who now (Chown path uid gid) = chown t (user_of who) now path.now uid gid
+effect_in_session g t who now (Utime path atime mtime) = utime t (user_of who) now path.now atime mtime
+effect_in_session g t who now (Truncate path size) = truncate g t (user_of who) now path.now size
+effect_in_session g t who now (Readdir fd) = readdir t who.session fd
+effect_in_session g t who now Sync = Ok (done, t)
+effect_in_session g t who now Statfs = statfs g t
 
--- what a call answers with the tree that it leaves, or why it is refused; a refused call leaves the tree
+-- the effect of a call; sessions are numbered below 64
 abbrev pub effect_of : Geometry → Tree → Who → ℕ → Call → Effect
 effect_of g t who now call = do
   _ ← refuse_if (nat_le most_sessions who.session) EINVAL
-  row g t who now call
+  effect_in_session g t who now call
 
+-- what the call answers
 abbrev pub reply_to : Geometry → Tree → Who → ℕ → Call → Answer
 reply_to g t who now call = elim (effect_of g t who now call) [ Ok made ↦ made.0 | Err e ↦ refused e ]
 
+-- the tree that the call leaves: a refused call changes nothing
 abbrev pub tree_after_call : Geometry → Tree → Who → ℕ → Call → Tree
 tree_after_call g t who now call = elim (effect_of g t who now call) [ Ok made ↦ made.1 | Err e ↦ t ]
 
--- the calls that may answer ENOMEM in place of a success
+-- the calls whose answer takes memory, so that ENOMEM may stand in place of a success; the tree then stays
 abbrev pub may_want_memory : Call → Bool
 may_want_memory (Read fd count) = true
 may_want_memory (Readdir fd) = true

@@ -1,5 +1,5 @@
 -- Calls on names of directories. Each line of a do block is one refusal, in their order.
-use Rattle.std.specs.Prelude.{ℕ, ◌+◌, List, length, Bool, false, not, ◌&&◌, ◌||◌, ◌==◌, nat_lt, None, Some, Option, Result, Ok, if◌then◌else◌}
+use Rattle.std.specs.Prelude.{ℕ, ◌+◌, List, length, Bool, false, not, ◌&&◌, ◌||◌, ◌==◌, nat_lt, nat_le, None, Some, Option, Result, Ok, if◌then◌else◌}
 use Rattle.layout.specs.declared.Geometry.{Geometry}
 use Rattle.errno.specs.declared.Errno.{Errno}
 use Rattle.errno.specs.declared.Errno.TheVariants.{EPERM, ENOENT, EACCES, EBUSY, EEXIST, ENOTDIR, EISDIR, EINVAL, EMLINK, ENOTEMPTY}
@@ -10,23 +10,26 @@ use Rattle.tree.specs.Tree.{Node, Tree, names_of, is_dir, is_open, with_node, on
 use Rattle.tree.specs.IsTree.{above}
 use Rattle.tree.specs.Refusals.{◌>>=◌, or_refuse, refuse_if}
 use Rattle.tree.specs.Walk.{read_path, walk_parts, parent_walk, node_at, has_last_name, is_taken, Place, may_access, to_write}
-use Rattle.tree.specs.Changes.{touched, with_names, with_parent, more_links, fewer_links, unlinked, new_node, empty_directory, free_inode, without_nameless}
+use Rattle.tree.specs.Changes.{with_ctime, with_names, with_parent, more_links, fewer_links, with_link_lost, new_node, empty_directory, free_inode, without_nameless}
 use Rattle.tree.specs.Answers.{done, Effect, if_it_fits}
 
--- the tree with a name more, or without one
-abbrev pub named : Tree → ℕ → Place → ℕ → Tree
-named t now place n = on_node t place.directory (with_names now (λ names. with_name names place.name n))
+-- the tree in which the place's name leads to node n
+abbrev pub with_entry : Tree → ℕ → Place → ℕ → Tree
+with_entry t now place n = on_node t place.directory (with_names now (λ names. with_name names place.name n))
 
-abbrev pub unnamed : Tree → ℕ → Place → Tree
-unnamed t now place = on_node t place.directory (with_names now (λ names. without_name names place.name))
+-- the tree in which the place's directory has no such name
+abbrev pub without_entry : Tree → ℕ → Place → Tree
+without_entry t now place = on_node t place.directory (with_names now (λ names. without_name names place.name))
 
+-- no names; a file has none
 abbrev pub is_empty : Node → Bool
 is_empty node = length (names_of (Some node)) == 0
 
--- the tree in which a node loses one name, and goes where that was the last and it isn't open
+-- the tree in which node n has one link less, and is gone where that was the last and it isn't open
 abbrev pub with_name_lost : Tree → ℕ → ℕ → Tree
-with_name_lost t now n = without_nameless (on_node t n (unlinked now)) n
+with_name_lost t now n = without_nameless (on_node t n (with_link_lost now)) n
 
+-- link: a file has one name more
 abbrev pub link : Geometry → Tree → User → ℕ → List ℕ → List ℕ → Effect
 link g t user now old new = do
   old_parts ← read_path old
@@ -34,13 +37,14 @@ link g t user now old new = do
   n ← walk_parts t user old_parts
   node ← node_at t n
   _ ← refuse_if (is_dir node) EPERM
-  _ ← refuse_if (node.links == most_links) EMLINK
+  _ ← refuse_if (nat_le most_links node.links) EMLINK
   place ← parent_walk t user new_parts
   _ ← refuse_if (is_taken place new_parts) EEXIST
   parent ← node_at t place.directory
   _ ← refuse_if (not (may_access user parent to_write)) EACCES
-  if_it_fits g done (named (with_node t n (Some (touched now (more_links 1 node)))) now place n)
+  if_it_fits g done (with_entry (with_node t n (Some (with_ctime now (more_links 1 node)))) now place n)
 
+-- unlink: a file has one name less; one that is open lives on without a name
 abbrev pub unlink : Tree → User → ℕ → List ℕ → Effect
 unlink t user now path = do
   parts ← read_path path
@@ -51,8 +55,9 @@ unlink t user now path = do
   _ ← refuse_if (not (may_access user parent to_write)) EACCES
   node ← node_at t n
   _ ← refuse_if (is_dir node) EPERM
-  Ok (done, with_name_lost (unnamed t now place) now n)
+  Ok (done, with_name_lost (without_entry t now place) now n)
 
+-- mkdir: a new directory, which is one link more of its parent
 abbrev pub mkdir : Geometry → Tree → User → ℕ → List ℕ → ℕ → Effect
 mkdir g t user now path mode = do
   _ ← refuse_if (nat_lt most_permissions mode) EINVAL
@@ -61,12 +66,13 @@ mkdir g t user now path mode = do
   _ ← refuse_if (is_taken place parts) EEXIST
   parent ← node_at t place.directory
   _ ← refuse_if (not (may_access user parent to_write)) EACCES
-  _ ← refuse_if (parent.links == most_links) EMLINK
+  _ ← refuse_if (nat_le most_links parent.links) EMLINK
   n ← free_inode g t
   if_it_fits g done (on_node
-      (named (with_node t n (Some (new_node now user mode 2 (empty_directory place.directory)))) now place n)
+      (with_entry (with_node t n (Some (new_node now user mode 2 (empty_directory place.directory)))) now place n)
       place.directory (more_links 1))
 
+-- rmdir: an empty directory that isn't open is gone
 abbrev pub rmdir : Tree → User → ℕ → List ℕ → Effect
 rmdir t user now path = do
   parts ← read_path path
@@ -79,13 +85,13 @@ rmdir t user now path = do
   _ ← refuse_if (not (is_dir node)) ENOTDIR
   _ ← refuse_if (not (is_empty node)) ENOTEMPTY
   _ ← refuse_if (is_open t n) EBUSY
-  Ok (done, with_node (on_node (unnamed t now place) place.directory (fewer_links 1)) n None)
+  Ok (done, with_node (on_node (without_entry t now place) place.directory (fewer_links 1)) n None)
 
--- the node is the other, or lies below it
+-- node n is `top`, or lies below it: some number of steps to the parent leads there
 abbrev pub is_within : Geometry → Tree → ℕ → ℕ → Bool
 is_within g t n top = some_below (λ k. above t.nodes k n == top) (g.inodes + 1)
 
--- a node may take another's name: both or neither are directories, and a directory is empty and not open
+-- why node m may not lose its name to another: both or neither have to be directories, and a directory empty and not open
 abbrev pub can_replace : Tree → Node → ℕ → Node → Result ℕ Errno
 can_replace t node m other = do
   _ ← refuse_if (is_dir node && not (is_dir other)) ENOTDIR
@@ -93,43 +99,45 @@ can_replace t node m other = do
   _ ← refuse_if (is_dir other && not (is_empty other)) ENOTEMPTY
   refuse_if (is_dir other && is_open t m) EBUSY
 
--- a directory that moves counts with its new parent, which may have no room for another link
+-- a directory that moves to another parent is one link more of it, which may have no room for another
 abbrev pub has_room_for_link : Node → ℕ → ℕ → Node → Result ℕ Errno
 has_room_for_link node old_parent new_parent parent =
-    refuse_if (is_dir node && not (old_parent == new_parent) && (parent.links == most_links)) EMLINK
+    refuse_if (is_dir node && not (old_parent == new_parent) && nat_le most_links parent.links) EMLINK
 
--- the node leaves its old place
-abbrev pub moved_out : Tree → ℕ → Place → Node → Tree
-moved_out t now old node = on_node (unnamed t now old) old.directory (fewer_links (one_if (is_dir node)))
+-- the tree without the node that moves: its name is gone from its old place
+abbrev pub without_moved : Tree → ℕ → Place → Node → Tree
+without_moved t now old node = on_node (without_entry t now old) old.directory (fewer_links (one_if (is_dir node)))
 
--- and stands at its new one
-abbrev pub moved_in : Tree → ℕ → Place → ℕ → Node → Tree
-moved_in t now new n node =
-    on_node (on_node (named t now new n) new.directory (more_links (one_if (is_dir node))))
-    n (λ moved. touched now (with_parent new.directory moved))
+-- the tree with it at its new place, under its new parent
+abbrev pub with_moved : Tree → ℕ → Place → ℕ → Node → Tree
+with_moved t now new n node =
+    on_node (on_node (with_entry t now new n) new.directory (more_links (one_if (is_dir node))))
+    n (λ moved. with_ctime now (with_parent new.directory moved))
 
--- a node whose name another takes: a file loses that name, an empty directory goes
-abbrev pub replaced : Tree → ℕ → Place → ℕ → Node → Tree
-replaced t now new m other =
+-- the tree without node m, whose name another took: a file has lost that name, an empty directory is gone
+abbrev pub without_replaced : Tree → ℕ → Place → ℕ → Node → Tree
+without_replaced t now new m other =
     if is_dir other
     then with_node (on_node t new.directory (fewer_links 1)) m None
     else with_name_lost t now m
 
--- rename of node n at a place to another at which m stands, or nothing
-abbrev pub renamed_onto : Geometry → Tree → ℕ → Place → Place → ℕ → Node → Option ℕ → Effect
-renamed_onto g t now old new n node None = do
+-- the effect of a rename of node n from a place to one where m stands, or nothing
+abbrev pub rename_onto : Geometry → Tree → ℕ → Place → Place → ℕ → Node → Option ℕ → Effect
+rename_onto g t now old new n node None = do
   parent ← node_at t new.directory
   _ ← has_room_for_link node old.directory new.directory parent
-  if_it_fits g done (moved_in (moved_out t now old node) now new n node)
-renamed_onto g t now old new n node (Some m) = do
+  if_it_fits g done (with_moved (without_moved t now old node) now new n node)
+rename_onto g t now old new n node (Some m) = do
   other ← node_at t m
   _ ← can_replace t node m other
-  if_it_fits g done (replaced (moved_in (moved_out t now old node) now new n node) now new m other)
+  if_it_fits g done (without_replaced (with_moved (without_moved t now old node) now new n node) now new m other)
 
+-- the node that is there, if any, is n
 abbrev pub is_same : ℕ → Option ℕ → Bool
 is_same n None = false
 is_same n (Some m) = n == m
 
+-- rename: two names of one inode change nothing
 abbrev pub rename : Geometry → Tree → User → ℕ → List ℕ → List ℕ → Effect
 rename g t user now old_path new_path = do
   old_parts ← read_path old_path
@@ -146,4 +154,4 @@ rename g t user now old_path new_path = do
   let there = inode_of new.names new.name in
       if is_same n there then Ok (done, t) else do
         _ ← refuse_if (is_dir node && is_within g t new.directory n) EINVAL
-        renamed_onto g t now old new n node there
+        rename_onto g t now old new n node there

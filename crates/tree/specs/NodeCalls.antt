@@ -9,9 +9,10 @@ use Rattle.tree.specs.Tree.{File, is_file, is_directory, Node, Tree, with_node, 
 use Rattle.tree.specs.Space.{data_zones, free_zones, free_inodes}
 use Rattle.tree.specs.Refusals.{◌>>=◌, refuse_if}
 use Rattle.tree.specs.Walk.{walk, node_at, may_access, to_write, is_owner}
-use Rattle.tree.specs.Changes.{touched, with_body, resized}
+use Rattle.tree.specs.Changes.{with_ctime, with_body, file_after_resize}
 use Rattle.tree.specs.Answers.{done, node_is, room_is, Effect}
 
+-- what stat tells of node n
 abbrev pub attributes_of : ℕ → Node → Attributes
 attributes_of n node = record {
   inode = n;
@@ -29,34 +30,39 @@ attributes_of n node = record {
 abbrev pub file_or : Node → Errno → Result File Errno
 file_or node e = elim node.body [ is_file f ↦ Ok f | is_directory d ↦ Err e ]
 
+-- stat
 abbrev pub stat : Tree → User → List ℕ → Effect
 stat t user path = do
   n ← walk t user path
   node ← node_at t n
   Ok (node_is (attributes_of n node), t)
 
+-- chmod: the permissions; the type stays
 abbrev pub chmod : Tree → User → ℕ → List ℕ → ℕ → Effect
 chmod t user now path mode = do
   _ ← refuse_if (nat_lt most_permissions mode) EINVAL
   n ← walk t user path
   node ← node_at t n
   _ ← refuse_if (not (is_owner user node)) EPERM
-  Ok (done, with_node t n (Some (touched now (record node { permissions = mode }))))
+  Ok (done, with_node t n (Some (with_ctime now (record node { permissions = mode }))))
 
+-- chown: for user 0 alone
 abbrev pub chown : Tree → User → ℕ → List ℕ → ℕ → ℕ → Effect
 chown t user now path uid gid = do
   n ← walk t user path
   node ← node_at t n
   _ ← refuse_if (not (user.uid == 0)) EPERM
-  Ok (done, with_node t n (Some (touched now (record node { uid = uid; gid = gid }))))
+  Ok (done, with_node t n (Some (with_ctime now (record node { uid = uid; gid = gid }))))
 
+-- utime: both times as given, and the change of attributes at `now`
 abbrev pub utime : Tree → User → ℕ → List ℕ → ℕ → ℕ → Effect
 utime t user now path atime mtime = do
   n ← walk t user path
   node ← node_at t n
   _ ← refuse_if (not (is_owner user node)) EPERM
-  Ok (done, with_node t n (Some (touched now (record node { atime = atime; mtime = mtime }))))
+  Ok (done, with_node t n (Some (with_ctime now (record node { atime = atime; mtime = mtime }))))
 
+-- truncate: another size
 abbrev pub truncate : Geometry → Tree → User → ℕ → List ℕ → ℕ → Effect
 truncate g t user now path size = do
   _ ← refuse_if (nat_lt most_size size) EFBIG
@@ -64,8 +70,9 @@ truncate g t user now path size = do
   node ← node_at t n
   f ← file_or node EISDIR
   _ ← refuse_if (not (may_access user node to_write)) EACCES
-  Ok (done, with_node t n (Some (with_body now (is_file (resized g f size)) node)))
+  Ok (done, with_node t n (Some (with_body now (is_file (file_after_resize g f size)) node)))
 
+-- statfs: the data zones and the inodes, and how many of each are free
 abbrev pub statfs : Geometry → Tree → Effect
 statfs g t = Ok (
   room_is (record {

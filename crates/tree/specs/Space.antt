@@ -18,6 +18,7 @@ abbrev pub held_of : Geometry → Body → ℕ → Bool
 held_of g (is_file f) = f.held
 held_of g (is_directory d) = λ q. nat_lt q (pages_of g (size_of (is_directory d)))
 
+-- how many zones a node takes
 abbrev pub zones_of : Geometry → Option Node → ℕ
 zones_of g None = 0
 zones_of g (Some node) = zones_needed (numbers_in_zone g) (held_of g node.body)
@@ -26,11 +27,14 @@ zones_of g (Some node) = zones_needed (numbers_in_zone g) (held_of g node.body)
 abbrev pub zones_used : Geometry → Tree → ℕ
 zones_used g t = sum_below (λ n. zones_of g (t.nodes n)) (g.inodes + 1)
 
+-- how many zones a volume has for bytes and names
 abbrev pub data_zones : Geometry → ℕ
 data_zones g = g.zones - g.first_zone
 
+-- how many of them the tree leaves
 abbrev pub free_zones : Geometry → Tree → ℕ
 free_zones g t = data_zones g - zones_used g t
 
+-- how many inodes the tree leaves
 abbrev pub free_inodes : Geometry → Tree → ℕ
 free_inodes g t = g.inodes - count_below (λ n. is_some (t.nodes n)) (g.inodes + 1)

@@ -1,16 +1,40 @@
-//! The file tree of a volume, the client calls on it, and their replies, as contracts see them.
+//! The file tree of a volume, the client calls on it, and their replies: the words that every layer
+//! above the disk shares. No zone, block or message is known here.
 #![tactic(auto)]
 
-ghost use Rattle.std.specs.Prelude.{◌≡◌, ◌<◌};
-ghost use Rattle.tree.specs.Answers.{answer_of};
-ghost use Rattle.tree.specs.Effects.{may_want_memory, reply_to};
-ghost use Rattle.layout.specs.declared.Geometry.{Geometry};
-ghost use Rattle.tree.specs.Tree.{Tree};
-ghost use Rattle.tree.specs.declared.Call.TheVariants.{Sync};
-ghost use Rattle.tree.specs.ZonesNeededByPlace.{ZonesNeededIsByPlace};
-ghost use Rattle.tree.specs.Laws.{RefusedLeaves, LooksLeave, FreshIsTree};
+pub mod laws;
 
+ghost use Rattle.std.specs.Prelude.{⊤, [], ◌∷◌, codes};
+
+use bitflags::{Flag, Flags, bitflag_items};
 use errno::Errno;
+
+/// How many sessions a server has: they are numbered below it, and a call of another answers EINVAL.
+pub const MAX_SESSIONS: u8 = 64;
+
+/// How many descriptors a session has, numbered from 0; past them a call answers EMFILE.
+pub const MAX_DESCRIPTORS: u32 = 32;
+
+/// How many files all sessions together have open; past them open answers ENFILE.
+pub const MAX_OPEN_FILES: usize = 128;
+
+/// The most bytes of one read or write; past them the call answers EINVAL.
+pub const MAX_TRANSFER: u32 = 65536;
+
+/// The most bytes of a file; a write or truncate past them answers EFBIG, a seek EINVAL.
+pub const MAX_SIZE: u32 = 2147483647;
+
+/// The most links of a node; past them a call answers EMLINK.
+pub const MAX_LINKS: u16 = 32767;
+
+/// All permission bits of a mode; a mode with others answers EINVAL.
+pub const MAX_PERMISSIONS: u16 = 0o777;
+
+/// The most bytes of a name; a path with a longer one answers ENAMETOOLONG.
+pub const MAX_NAME: usize = 60;
+
+/// The most bytes of a path; a longer one answers ENAMETOOLONG.
+pub const MAX_PATH: usize = 1024;
 
 /// Who asks.
 #[derive(Clone, Copy, Debug, PartialEq, Eq)]
@@ -27,9 +51,43 @@ pub struct Who {
     pub gid: u16,
 }
 
-/// The flags of open: read 1, write 2, append 4, create 8, exclusive 16, truncate 32.
+/// The flags of open. Any bits may stand here: open answers EINVAL for those that it doesn't take.
 #[derive(Clone, Copy, Debug, PartialEq, Eq)]
-pub struct OpenFlags(pub u8);
+pub struct OpenFlags(u8);
+
+bitflag_items! {
+    impl OpenFlags: u8 {
+        const READ = 1;
+        const WRITE = 2;
+        const APPEND = 4;
+        const CREATE = 8;
+        const EXCLUSIVE = 16;
+        const TRUNCATE = 32;
+    }
+}
+
+impl Flags for OpenFlags {
+    type Bits = u8;
+
+    ghost exact = { ⊤ };
+
+    ghost table = { (codes "READ", 1) ∷ (codes "WRITE", 2) ∷ (codes "APPEND", 4) ∷ (codes "CREATE", 8)
+        ∷ (codes "EXCLUSIVE", 16) ∷ (codes "TRUNCATE", 32) ∷ [] };
+
+    ghost set_of = { λ flags. flags.0 };
+
+    fn flags<'a>() -> &'a [Flag<OpenFlags>] {
+        OpenFlags::FLAGS
+    }
+
+    fn bits(&self) -> u8 {
+        self.0
+    }
+
+    fn from_bits_retain(bits: u8) -> OpenFlags {
+        OpenFlags(bits)
+    }
+}
 
 /// Where a seek counts from.
 #[derive(Clone, Copy, Debug, PartialEq, Eq)]
@@ -160,43 +218,9 @@ pub enum Reply {
     Space(Room),
 }
 
-/// A refused call leaves the tree.
-#[tactic(auto, using(crate::proofs::Leaves::refused_leaves))]
-pub fn refused_leaves()
-    ensures { RefusedLeaves }
-{}
-
-/// Calls that only look leave the tree.
-#[tactic(auto, using(crate::proofs::Leaves::looks_leave))]
-pub fn looks_leave()
-    ensures { LooksLeave }
-{}
-
-/// A root alone is a tree.
-#[tactic(auto, using(crate::proofs::Fresh::fresh_is_tree))]
-pub fn fresh_is_tree()
-    ensures { FreshIsTree }
-{}
-
-/// Both ways to count the zones of a file agree.
-#[tactic(auto, using(crate::proofs::Needs::zones_needed_is_by_place))]
-pub fn zones_needed_is_by_place()
-    ensures { ZonesNeededIsByPlace }
-{}
-
-impl Call<'_> {
-    /// Whether the call may be refused for want of memory.
-    pub fn may_want_memory(&self) -> bool
-        ensures { result ≡ may_want_memory self.now }
-    {
-        matches!(self, Call::Read { .. } | Call::Readdir { .. })
-    }
-}
-
-/// The reply to a sync.
-pub fn reply_to_sync(who: Who, now: u32) -> Reply
-    requires { who.session < 64 }
-    ensures { (g : Geometry) (t : Tree) → answer_of result ≡ reply_to g t who now Sync }
-{
-    Reply::Done
+/// The server's answer to a call: a reply, or none, since the link to the disk has ended.
+#[derive(Debug, PartialEq, Eq, Drop)]
+pub enum Outcome {
+    Reply(Reply),
+    Cut,
 }

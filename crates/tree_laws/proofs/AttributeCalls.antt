@@ -10,7 +10,7 @@ use Rattle.tree.specs.Tree.{Node, Tree, is_dir, names_of, parent_of, with_node, 
 use Rattle.tree.specs.IsTree.{IsNode, IsTree}
 use Rattle.tree.specs.Refusals.{◌>>=◌, refuse_if}
 use Rattle.tree.specs.Walk.{walk, node_at, is_owner}
-use Rattle.tree.specs.Changes.{touched}
+use Rattle.tree.specs.Changes.{with_ctime}
 use Rattle.tree.specs.Answers.{done}
 use Rattle.tree.specs.NodeCalls.{chmod, chown, utime}
 use Rattle.tree.specs.Effects.{user_of}
@@ -40,9 +40,9 @@ module _ (g : Geometry) (t : Tree) (who : Who) (tree : IsTree g t) where
   chmod_kept : (now mode : ℕ) (path : List ℕ) → now < 2 ^ 32 → IsTree g (tree_after t (session_refused >>= λ _. chmod t (user_of who) now path mode))
   chmod_kept now mode path small =
       step g t session_refused (λ _. chmod t (user_of who) now path mode) tree (λ _ _.
-      step g t (refuse_if (nat_lt most_permissions mode) EINVAL) (λ _. walk t (user_of who) path >>= λ n. node_at t n >>= λ node. refuse_if (not (is_owner (user_of who) node)) EPERM >>= λ _. Ok (done, with_node t n (Some (touched now (record node { permissions = mode }))))) tree (λ x fits.
-      step g t (walk t (user_of who) path) (λ n. node_at t n >>= λ node. refuse_if (not (is_owner (user_of who) node)) EPERM >>= λ _. Ok (done, with_node t n (Some (touched now (record node { permissions = mode }))))) tree (λ n _.
-      changed n (λ node. not (is_owner (user_of who) node)) (λ node. touched now (record node { permissions = mode }))
+      step g t (refuse_if (nat_lt most_permissions mode) EINVAL) (λ _. walk t (user_of who) path >>= λ n. node_at t n >>= λ node. refuse_if (not (is_owner (user_of who) node)) EPERM >>= λ _. Ok (done, with_node t n (Some (with_ctime now (record node { permissions = mode }))))) tree (λ x fits.
+      step g t (walk t (user_of who) path) (λ n. node_at t n >>= λ node. refuse_if (not (is_owner (user_of who) node)) EPERM >>= λ _. Ok (done, with_node t n (Some (with_ctime now (record node { permissions = mode }))))) tree (λ n _.
+      changed n (λ node. not (is_owner (user_of who) node)) (λ node. with_ctime now (record node { permissions = mode }))
       (λ node old. record { permissions = let e = ltb-false most_permissions mode (passed _ _ x fits) in omega arith; links = old.links; uid = old.uid; gid = old.gid; atime = old.atime; mtime = old.mtime; ctime = small; body = old.body })
       (λ node. refl) (λ node. refl))))
 
@@ -50,8 +50,8 @@ module _ (g : Geometry) (t : Tree) (who : Who) (tree : IsTree g t) where
       → IsTree g (tree_after t (session_refused >>= λ _. chown t (user_of who) now path uid gid))
   chown_kept now uid gid path small u v =
       step g t session_refused (λ _. chown t (user_of who) now path uid gid) tree (λ _ _.
-      step g t (walk t (user_of who) path) (λ n. node_at t n >>= λ node. refuse_if (not ((user_of who).uid == 0)) EPERM >>= λ _. Ok (done, with_node t n (Some (touched now (record node { uid = uid; gid = gid }))))) tree (λ n _.
-      changed n (λ node. not ((user_of who).uid == 0)) (λ node. touched now (record node { uid = uid; gid = gid }))
+      step g t (walk t (user_of who) path) (λ n. node_at t n >>= λ node. refuse_if (not ((user_of who).uid == 0)) EPERM >>= λ _. Ok (done, with_node t n (Some (with_ctime now (record node { uid = uid; gid = gid }))))) tree (λ n _.
+      changed n (λ node. not ((user_of who).uid == 0)) (λ node. with_ctime now (record node { uid = uid; gid = gid }))
       (λ node old. record { permissions = old.permissions; links = old.links; uid = u; gid = v; atime = old.atime; mtime = old.mtime; ctime = small; body = old.body })
       (λ node. refl) (λ node. refl)))
 
@@ -59,8 +59,8 @@ module _ (g : Geometry) (t : Tree) (who : Who) (tree : IsTree g t) where
       → IsTree g (tree_after t (session_refused >>= λ _. utime t (user_of who) now path atime mtime))
   utime_kept now atime mtime path small a m =
       step g t session_refused (λ _. utime t (user_of who) now path atime mtime) tree (λ _ _.
-      step g t (walk t (user_of who) path) (λ n. node_at t n >>= λ node. refuse_if (not (is_owner (user_of who) node)) EPERM >>= λ _. Ok (done, with_node t n (Some (touched now (record node { atime = atime; mtime = mtime }))))) tree (λ n _.
-      changed n (λ node. not (is_owner (user_of who) node)) (λ node. touched now (record node { atime = atime; mtime = mtime }))
+      step g t (walk t (user_of who) path) (λ n. node_at t n >>= λ node. refuse_if (not (is_owner (user_of who) node)) EPERM >>= λ _. Ok (done, with_node t n (Some (with_ctime now (record node { atime = atime; mtime = mtime }))))) tree (λ n _.
+      changed n (λ node. not (is_owner (user_of who) node)) (λ node. with_ctime now (record node { atime = atime; mtime = mtime }))
       (λ node old. record { permissions = old.permissions; links = old.links; uid = old.uid; gid = old.gid; atime = a; mtime = m; ctime = small; body = old.body })
       (λ node. refl) (λ node. refl)))
 

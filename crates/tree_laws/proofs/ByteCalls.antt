@@ -13,7 +13,7 @@ use Rattle.tree.specs.Space.{zones_used, data_zones}
 use Rattle.tree.specs.IsTree.{IsFile, IsBody, IsNode, IsTree}
 use Rattle.tree.specs.Refusals.{◌>>=◌, refuse_if}
 use Rattle.tree.specs.Walk.{walk, node_at, may_access, to_write}
-use Rattle.tree.specs.Changes.{opened, at_position, with_body, written, resized}
+use Rattle.tree.specs.Changes.{open_file_of, at_position, with_body, file_after_write, file_after_resize}
 use Rattle.tree.specs.Answers.{Answer, done, wrote, Effect, if_it_fits}
 use Rattle.tree.specs.NodeCalls.{file_or, truncate}
 use Rattle.tree.specs.FileCalls.{write}
@@ -52,7 +52,7 @@ module _ (g : Geometry) (t : Tree) (who : Who) (now : ℕ) (small : now < 2 ^ 32
   session_refused = refuse_if (nat_le most_sessions who.session) EINVAL
 
   abbrev cut : ℕ → ℕ → Node → File → Effect
-  cut size n node f = refuse_if (not (may_access (user_of who) node to_write)) EACCES >>= λ _. Ok (done, with_node t n (Some (with_body now (is_file (resized g f size)) node)))
+  cut size n node f = refuse_if (not (may_access (user_of who) node to_write)) EACCES >>= λ _. Ok (done, with_node t n (Some (with_body now (is_file (file_after_resize g f size)) node)))
 
   abbrev cut_node : ℕ → ℕ → Node → Effect
   cut_node size n node = file_or node EISDIR >>= cut size n node
@@ -64,10 +64,10 @@ module _ (g : Geometry) (t : Tree) (who : Who) (now : ℕ) (small : now < 2 ^ 32
       step g t (walk t (user_of who) path) (λ n. node_at t n >>= cut_node size n) tree (λ n _.
       step g t (node_at t n) (cut_node size n) tree (λ node at_node.
       step g t (file_or node EISDIR) (cut size n node) tree (λ f is_f.
-      step g t (refuse_if (not (may_access (user_of who) node to_write)) EACCES) (λ _. Ok (done, with_node t n (Some (with_body now (is_file (resized g f size)) node)))) tree (λ _ _.
+      step g t (refuse_if (not (may_access (user_of who) node to_write)) EACCES) (λ _. Ok (done, with_node t n (Some (with_body now (is_file (file_after_resize g f size)) node)))) tree (λ _ _.
       let there = was_there _ _ _ at_node in
       let is = file_is node EISDIR f is_f in
-      file_changed g t n now node f (resized g f size) small there is
+      file_changed g t n now node f (file_after_resize g f size) small there is
       (resized_fits g f size (ltb-false most_size size (passed _ _ x within)) (file_fits g node f (tree.nodes.each n node there) is)) tree))))))
 
   module _ (some : 0 < g.block_size) (bytes : List ℕ) (are_bytes : All (λ b. b < 256) bytes) where
@@ -76,7 +76,7 @@ module _ (g : Geometry) (t : Tree) (who : Who) (now : ℕ) (small : now < 2 ^ 32
 
     abbrev after_write : ℕ × OpenFile → Node → File → Tree
     after_write found node f =
-        at_position (with_node t found.1.inode (Some (with_body now (is_file (written g f (start found.1 f) bytes)) node))) found.0 found.1 (start found.1 f + length bytes)
+        at_position (with_node t found.1.inode (Some (with_body now (is_file (file_after_write g f (start found.1 f) bytes)) node))) found.0 found.1 (start found.1 f + length bytes)
 
     abbrev put_bytes : ℕ × OpenFile → Node → File → Effect
     put_bytes found node f = if length bytes == 0 then Ok (wrote 0, t) else if_it_fits g (wrote (length bytes)) (after_write found node f)
@@ -93,7 +93,7 @@ module _ (g : Geometry) (t : Tree) (who : Who) (now : ℕ) (small : now < 2 ^ 32
     write_kept : (fd : ℕ) → IsTree g (tree_after t (session_refused >>= λ _. write g t now who.session fd bytes))
     write_kept fd =
         step g t session_refused (λ _. write g t now who.session fd bytes) tree (λ _ _.
-        step g t (opened t who.session fd) write_open tree (λ found led.
+        step g t (open_file_of t who.session fd) write_open tree (λ found led.
         step g t (refuse_if (not (writes found.1.flags)) EBADF) (λ _. refuse_if (nat_lt most_bytes (length bytes)) EINVAL >>= λ _. write_node found) tree (λ _ _.
         step g t (refuse_if (nat_lt most_bytes (length bytes)) EINVAL) (λ _. write_node found) tree (λ _ _.
         step g t (node_at t found.1.inode) (λ node. file_or node EBADF >>= write_in found node) tree (λ node at_node.
@@ -105,8 +105,8 @@ module _ (g : Geometry) (t : Tree) (who : Who) (now : ℕ) (small : now < 2 ^ 32
         cond_both (length bytes == 0) (Ok (wrote 0, t)) (if_it_fits g (wrote (length bytes)) (after_write found node f)) (λ o. IsTree g (tree_after t o))
         (λ _. tree)
         (λ _. taken_if_it_fits g t (wrote (length bytes)) (after_write found node f) tree (λ _.
-        position_kept g (with_node t found.1.inode (Some (with_body now (is_file (written g f (start found.1 f) bytes)) node))) found.0 found.1 _ (is_opened t who.session fd found led).file fits
-        (file_changed g t found.1.inode now node f (written g f (start found.1 f) bytes) small there is
+        position_kept g (with_node t found.1.inode (Some (with_body now (is_file (file_after_write g f (start found.1 f) bytes)) node))) found.0 found.1 _ (is_opened t who.session fd found led).file fits
+        (file_changed g t found.1.inode now node f (file_after_write g f (start found.1 f) bytes) small there is
         (written_fits g f (start found.1 f) bytes some fits are_bytes (file_fits g node f (tree.nodes.each found.1.inode node there) is)) tree))))))))))
 
 pub truncate_keeps : TruncateKeeps

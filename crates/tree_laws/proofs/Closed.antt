@@ -9,7 +9,7 @@ use Rattle.tree.specs.declared.Who.{Who}
 use Rattle.tree.specs.Tree.{OpenFile, Tree, opens, is_open, has_descriptor, with_open_file, with_descriptor, most_sessions, most_open_files}
 use Rattle.tree.specs.IsTree.{IsTree}
 use Rattle.tree.specs.Refusals.{◌>>=◌, refuse_if}
-use Rattle.tree.specs.Changes.{opened, without_unused, without_nameless}
+use Rattle.tree.specs.Changes.{open_file_of, without_unused, without_nameless}
 use Rattle.tree.specs.Answers.{done}
 use Rattle.tree.specs.FileCalls.{close}
 use Rattle.tree_laws.specs.Keeps.{CloseKeeps}
@@ -93,7 +93,7 @@ module _ (g : Geometry) (t : Tree) (session fd k : ℕ) (o : OpenFile) (led : t.
 close_kept : (g : Geometry) (t : Tree) (who : Who) (fd : ℕ) → IsTree g t → IsTree g (tree_after t (refuse_if (nat_le most_sessions who.session) EINVAL >>= λ _. close t who.session fd))
 close_kept g t who fd tree =
     step g t (refuse_if (nat_le most_sessions who.session) EINVAL) (λ _. close t who.session fd) tree (λ _ _.
-    step g t (opened t who.session fd) (λ found. Ok (done, without_nameless (without_unused (with_descriptor t who.session fd None) found.0) found.1.inode)) tree (λ found led.
+    step g t (open_file_of t who.session fd) (λ found. Ok (done, without_nameless (without_unused (with_descriptor t who.session fd None) found.0) found.1.inode)) tree (λ found led.
     let is = is_opened t who.session fd found led in
     closed g t who.session fd found.0 found.1 is.descriptor is.file tree))
 

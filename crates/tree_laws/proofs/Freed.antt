@@ -68,7 +68,7 @@ module _ (g : Geometry) (old new : ℕ → Option Node) (same_names : (m : ℕ) 
 
   pub placed_alike : (m : ℕ) → IsPlaced g old m → IsPlaced g new m
   placed_alike m p = record {
-    named = all_names_alike m ∙ p.named;
+    one_name = all_names_alike m ∙ p.one_name;
     in_parent = ap (λ q. names_to m (names_of (new q))) (same_parent m) ∙ ap (names_to m) (same_names (parent_of (old m))) ∙ p.in_parent;
     reached = (p.reached.0, above_alike p.reached.0 m ∙ p.reached.1);
   }

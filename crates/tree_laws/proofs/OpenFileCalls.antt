@@ -12,7 +12,7 @@ use Rattle.tree.specs.Flags.{reads}
 use Rattle.tree.specs.IsTree.{IsFile, IsBody, IsNode, IsTree}
 use Rattle.tree.specs.Refusals.{◌>>=◌, refuse_if, or_refuse, free_place}
 use Rattle.tree.specs.Walk.{node_at}
-use Rattle.tree.specs.Changes.{opened, at_position}
+use Rattle.tree.specs.Changes.{open_file_of, at_position}
 use Rattle.tree.specs.Answers.{descriptor, some_bytes, position, Effect}
 use Rattle.tree.specs.NodeCalls.{file_or}
 use Rattle.tree.specs.FileCalls.{bytes_from, bytes_read, seek_base, seek_place, seek, read, dup}
@@ -62,7 +62,7 @@ module _ (g : Geometry) (t : Tree) (who : Who) (tree : IsTree g t) where
   seek_kept : (fd : ℕ) (whence : Whence) (offset : ℤ) → IsTree g (tree_after t (session_refused >>= λ _. seek t who.session fd whence offset))
   seek_kept fd whence offset =
       step g t session_refused (λ _. seek t who.session fd whence offset) tree (λ _ _.
-      step g t (opened t who.session fd) (seek_at whence offset) tree (λ found led.
+      step g t (open_file_of t who.session fd) (seek_at whence offset) tree (λ found led.
       step g t (node_at t found.1.inode) (λ node. file_or node EISDIR >>= seek_in found whence offset) tree (λ node _.
       step g t (file_or node EISDIR) (seek_in found whence offset) tree (λ f _.
       step g t (or_refuse (seek_place (seek_base f found.1.position whence) offset) EINVAL) (seek_to found) tree (λ at _.
@@ -81,7 +81,7 @@ module _ (g : Geometry) (t : Tree) (who : Who) (tree : IsTree g t) where
   read_kept : (fd count : ℕ) → IsTree g (tree_after t (session_refused >>= λ _. read t who.session fd count))
   read_kept fd count =
       step g t session_refused (λ _. read t who.session fd count) tree (λ _ _.
-      step g t (opened t who.session fd) (λ found. refuse_if (not (reads found.1.flags)) EBADF >>= read_at found count) tree (λ found led.
+      step g t (open_file_of t who.session fd) (λ found. refuse_if (not (reads found.1.flags)) EBADF >>= read_at found count) tree (λ found led.
       step g t (refuse_if (not (reads found.1.flags)) EBADF) (read_at found count) tree (λ y _.
       step g t (node_at t found.1.inode) (λ node. file_or node EISDIR >>= read_in found count) tree (λ node at_node.
       step g t (file_or node EISDIR) (read_in found count) tree (λ f is_f.
@@ -97,7 +97,7 @@ module _ (g : Geometry) (t : Tree) (who : Who) (tree : IsTree g t) where
   dup_kept : (fd : ℕ) → IsTree g (tree_after t (session_refused >>= λ _. dup t who.session fd))
   dup_kept fd =
       step g t session_refused (λ _. dup t who.session fd) tree (λ _ _.
-      step g t (opened t who.session fd) (λ found. free_place (t.descriptors who.session) most_descriptors EMFILE >>= λ other. Ok (descriptor other, with_descriptor t who.session other (Some found.0))) tree (λ found led.
+      step g t (open_file_of t who.session fd) (λ found. free_place (t.descriptors who.session) most_descriptors EMFILE >>= λ other. Ok (descriptor other, with_descriptor t who.session other (Some found.0))) tree (λ found led.
       step g t (free_place (t.descriptors who.session) most_descriptors EMFILE) (λ other. Ok (descriptor other, with_descriptor t who.session other (Some found.0))) tree (λ other free.
       let is = is_opened t who.session fd found led in
       let place = free_place_is (t.descriptors who.session) most_descriptors EMFILE other free in

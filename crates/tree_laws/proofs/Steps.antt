@@ -7,7 +7,7 @@ use Rattle.errno.specs.declared.Errno.TheVariants.{EBADF}
 use Rattle.tree.specs.Tree.{OpenFile, Tree}
 use Rattle.tree.specs.IsTree.{IsTree}
 use Rattle.tree.specs.Refusals.{◌>>=◌, refuse_if, or_refuse}
-use Rattle.tree.specs.Changes.{opened}
+use Rattle.tree.specs.Changes.{open_file_of}
 use Rattle.tree.specs.Answers.{Effect}
 use Rattle.tree.proofs.Maps.{not_nothing}
 
@@ -52,7 +52,7 @@ pub record IsOpened (t : Tree) (session fd : ℕ) (found : ℕ × OpenFile) : Ty
   pub descriptor : t.descriptors session fd ≡ Some found.0
   pub file : t.open_files found.0 ≡ Some found.1
 
-pub is_opened : (t : Tree) (session fd : ℕ) (found : ℕ × OpenFile) → opened t session fd ≡ Ok found → IsOpened t session fd found
+pub is_opened : (t : Tree) (session fd : ℕ) (found : ℕ × OpenFile) → open_file_of t session fd ≡ Ok found → IsOpened t session fd found
 is_opened t session fd found h =
     let first = both_steps (or_refuse (t.descriptors session fd) EBADF) (λ k. or_refuse (t.open_files k) EBADF >>= λ o. Ok (k, o)) found h in
     let second = both_steps (or_refuse (t.open_files first.0) EBADF) (λ o. Ok (first.0, o)) found first.2 in

@@ -10,9 +10,9 @@ use Rattle.tree.specs.Tree.{Directory, is_file, is_directory, Node, Tree, is_dir
 use Rattle.tree.specs.IsTree.{IsBody, IsDirectory, IsNode, IsTree, names_to}
 use Rattle.tree.specs.Refusals.{◌>>=◌, refuse_if, or_refuse}
 use Rattle.tree.specs.Walk.{Place, read_path, has_last_name, parent_walk, node_at, may_access, to_write}
-use Rattle.tree.specs.Changes.{unlinked, with_names, with_body, without_nameless}
+use Rattle.tree.specs.Changes.{with_link_lost, with_names, with_body, without_nameless}
 use Rattle.tree.specs.Answers.{done, Effect}
-use Rattle.tree.specs.NameCalls.{unnamed, with_name_lost, unlink}
+use Rattle.tree.specs.NameCalls.{without_entry, with_name_lost, unlink}
 use Rattle.tree.specs.Effects.{user_of}
 use Rattle.tree_laws.specs.Keeps.{UnlinkKeeps}
 use Rattle.tree.specs.Sums.{put}
@@ -72,9 +72,9 @@ module _ (g : Geometry) (t : Tree) (now : ℕ) (small : now < 2 ^ 32) (tree : Is
   changed = ap (λ b. elim b [ is_file f ↦ D | is_directory x ↦ with_body now (is_directory (record x { names = without_name x.names place.name })) D ]) at.body
 
   abbrev after : Tree
-  after = record t { nodes = put (put t.nodes d (Some D2)) n (Some (unlinked now node)) }
+  after = record t { nodes = put (put t.nodes d (Some D2)) n (Some (with_link_lost now node)) }
 
-  N_fits : IsNode g (unlinked now node)
+  N_fits : IsNode g (with_link_lost now node)
   N_fits = let old = tree.nodes.each n node there in record {
     permissions = old.permissions; links = let l = old.links in omega (arith, l); uid = old.uid; gid = old.gid; atime = old.atime; mtime = old.mtime; ctime = small; body = old.body;
   }
@@ -87,30 +87,30 @@ module _ (g : Geometry) (t : Tree) (now : ℕ) (small : now < 2 ^ 32) (tree : Is
 
   unlinked_is_tree : IsTree g (without_nameless after n)
   unlinked_is_tree = without_nameless_is_tree g after n
-      (unlinked_is_tree_but g t.nodes d n D D2 node (unlinked now node) at.there there D_dir refl file file (sym D_parent) refl refl refl
+      (unlinked_is_tree_but g t.nodes d n D D2 node (with_link_lost now node) at.there there D_dir refl file file (sym D_parent) refl refl refl
       (let l = has_link in omega (arith, l))
       (λ w. ap (weigh w) D_names ∙ weigh_without_name w place.name n at.directory.names directory_fits.sorted is_named)
       (λ q m h. ap (λ es. inode_of es q) D_names ∙ found_without at.directory.names place.name q m h)
       D2_fits N_fits tree.nodes t refl tree)
 
   n_is_not_d : n ≡ d → ⊥
-  n_is_not_d e = apart g t.nodes d n D D2 node (unlinked now node) at.there there D_dir refl file file (sym D_parent) refl refl refl
+  n_is_not_d e = apart g t.nodes d n D D2 node (with_link_lost now node) at.there there D_dir refl file file (sym D_parent) refl refl refl
       (let l = has_link in omega (arith, l))
       (λ w. ap (weigh w) D_names ∙ weigh_without_name w place.name n at.directory.names directory_fits.sorted is_named)
       (λ q m h. ap (λ es. inode_of es q) D_names ∙ found_without at.directory.names place.name q m h)
       D2_fits N_fits tree.nodes e
 
-  is_after : on_node (unnamed t now place) n (unlinked now) ≡ after
+  is_after : on_node (without_entry t now place) n (with_link_lost now) ≡ after
   is_after =
-      ap (λ u. on_node u n (unlinked now)) (on_node_there t d (with_names now (λ names. without_name names place.name)) D at.there ∙ ap (λ x. with_node t d (Some x)) changed)
-      ∙ on_node_there (with_node t d (Some D2)) n (unlinked now) node (put-other t.nodes d (Some D2) n n_is_not_d ∙ there)
+      ap (λ u. on_node u n (with_link_lost now)) (on_node_there t d (with_names now (λ names. without_name names place.name)) D at.there ∙ ap (λ x. with_node t d (Some x)) changed)
+      ∙ on_node_there (with_node t d (Some D2)) n (with_link_lost now) node (put-other t.nodes d (Some D2) n n_is_not_d ∙ there)
 
-  pub unlink_is_tree : IsTree g (with_name_lost (unnamed t now place) now n)
+  pub unlink_is_tree : IsTree g (with_name_lost (without_entry t now place) now n)
   unlink_is_tree = subst (λ u. IsTree g (without_nameless u n)) (sym is_after) unlinked_is_tree
 
 module _ (g : Geometry) (t : Tree) (who : Who) (now : ℕ) (small : now < 2 ^ 32) (tree : IsTree g t) where
   abbrev lose : Place → ℕ → Effect
-  lose place n = Ok (done, with_name_lost (unnamed t now place) now n)
+  lose place n = Ok (done, with_name_lost (without_entry t now place) now n)
 
   abbrev from_node : Place → ℕ → Node → Effect
   from_node place n node = refuse_if (is_dir node) EPERM >>= λ _. lose place n

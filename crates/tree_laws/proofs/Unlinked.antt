@@ -96,7 +96,7 @@ module _ (g : Geometry) (nodes : ℕ → Option Node) (d n : ℕ) (D D2 N N2 : N
 
   placed_same : (m : ℕ) → m ≢ n → IsPlaced g nodes m → IsPlaced g new m
   placed_same m e p = record {
-    named = same_all m e ∙ p.named;
+    one_name = same_all m e ∙ p.one_name;
     in_parent = ap (λ q. names_to m (names_of (new q))) (parent_same m) ∙ sym (same_names_of g new nodes d n d_within weigh_at_d names_elsewhere m (parent_of (nodes m)) (one_of_other m e)) ∙ p.in_parent;
     reached = (p.reached.0, above_same nodes new parent_same p.reached.0 m ∙ p.reached.1);
   }

@@ -1,17 +1,8 @@
 -- A volume's bytes as four pieces that no other bytes reach: each layer changes one of them at one key.
-use Rattle.std.specs.Prelude.{◌≡◌, ℕ, ◌+◌, ◌-◌, ◌*◌, ◌<◌, [], Bool, ◌&&◌, nat_le, if◌then◌else◌}
+use Rattle.std.specs.Prelude.{ℕ, ◌-◌, [], Bool, ◌&&◌, nat_le, if◌then◌else◌}
 use Rattle.layout.specs.declared.Geometry.{Geometry}
-use Rattle.layout.specs.Places.{table_blocks}
 use Rattle.volume.specs.declared.Inode.{Inode}
 use Rattle.volume.specs.Reading.{Disk, is_inode, is_data_zone, inode_bit, zone_bit, inode_of_disk}
-
--- What `Geometry::parse` promises of a geometry.
-pub record IsGeometry (g : Geometry) : Type 0 where
-  pub sized : 0 < g.block_size
-  pub inode_map : g.inodes < 8 * g.block_size * g.inode_map_blocks
-  pub zone_map : g.zones - g.first_zone < 8 * g.block_size * g.zone_map_blocks
-  pub first : g.first_zone ≡ 2 + g.inode_map_blocks + g.zone_map_blocks + table_blocks g
-  pub some_zone : g.first_zone < g.zones
 
 abbrev pub blank : Inode
 blank = record { mode = 0; links = 0; uid = 0; gid = 0; size = 0; atime = 0; mtime = 0; ctime = 0; zones = [] }
