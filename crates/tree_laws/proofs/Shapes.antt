@@ -117,7 +117,7 @@ module _ (g : Geometry) (nodes : Nodes) (agree : NodesAgree g nodes) where
     root = agree.root;
     root_parent = agree.root_parent;
     root_name = sym (totals_alike g nodes 1) ∙ agree.root_name;
-    one_name = λ n d h. sym (totals_alike g nodes n) ∙ (agree.placed n d h).named;
+    one_name = λ n d h. sym (totals_alike g nodes n) ∙ (agree.placed n d h).one_name;
     in_parent = λ n d h. sym (names_weigh n (names_of (nodes (parent_of (nodes n))))) ∙ (agree.placed n d h).in_parent;
     reached = λ n h. elim (cases_eq n 1) [ inl e ↦ (0, e) | inr d ↦ (agree.placed n d h).reached ];
     directory_links = λ n h. links_in n (nodes n) refl h;
@@ -135,7 +135,7 @@ shaped_agree g nodes shape fits = record {
   root_parent = shape.root_parent;
   root_name = totals_alike g nodes 1 ∙ shape.root_name;
   placed = λ n d h. record {
-    named = totals_alike g nodes n ∙ shape.one_name n d h;
+    one_name = totals_alike g nodes n ∙ shape.one_name n d h;
     in_parent = names_weigh n (names_of (nodes (parent_of (nodes n)))) ∙ shape.in_parent n d h;
     reached = shape.reached n h;
   };
