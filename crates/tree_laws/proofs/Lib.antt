@@ -13,6 +13,9 @@ pub mod Places
 pub mod Totals
 pub mod Shapes
 pub mod Ways
+pub mod PathNames
+pub mod Growth
+pub mod Entries
 pub mod FileNames
 pub mod NewDirectory
 pub mod GoneDirectory

@@ -58,11 +58,11 @@ is_place t user parts place h =
     (record { node = found.node; directory = found.directory; there = found.there; body = found.body; names = found.same })
 
 -- A directory without a name.
-true_from : (b : Bool) → T b → b ≡ true
+pub true_from : (b : Bool) → T b → b ≡ true
 true_from true h = refl
 true_from false h = absurd h
 
-from_true : (b : Bool) → b ≡ true → T b
+pub from_true : (b : Bool) → b ≡ true → T b
 from_true b h = subst T (sym h) tt
 
 all_left : (name : Name) (es : Names) → list_all (λ e. is_name e.0) es ≡ true → list_all (λ e. is_name e.0) (without_name es name) ≡ true

@@ -6,7 +6,7 @@ use Rattle.std.proofs.lemmas.Bool.{cases_eq, cases_Bool, cond-true, cond-false}
 use Rattle.layout.specs.declared.Geometry.{Geometry}
 use Rattle.tree.specs.Sums.{sum_below, one_if}
 use Rattle.tree.specs.Names.{Name, inode_of}
-use Rattle.tree.specs.Tree.{Body, is_file, is_directory, Node, is_dir, is_dir_at, names_of, parent_of}
+use Rattle.tree.specs.Tree.{Body, is_file, is_directory, Node, is_dir, is_dir_at, names_of, parent_of, most_links}
 use Rattle.tree.specs.IsTree.{IsDirectory, IsBody, IsNode, IsPlaced, NodesAgree, names_to, all_names_to, subdirectories, above, links_due}
 use Rattle.tree.proofs.Maps.{same_sum, not_true}
 use Rattle.tree_laws.proofs.Weights.{weigh, names_weigh, subdirectories_weigh}
@@ -47,8 +47,19 @@ pub record IsShape (g : Geometry) (nodes : Nodes) : Type 0 where
   pub directory_links : (n : ℕ) → kind_of (nodes n) ≡ true → links_of (nodes n) ≡ 2 + weight nodes (one_for_each nodes) n
   pub file_links : (n : ℕ) → kind_of (nodes n) ≡ false → links_of (nodes n) ≡ total g nodes (one_for n)
 
+-- each node fits, whatever its links
 abbrev pub AllFit : Geometry → Nodes → Type 0
-AllFit g nodes = (n : ℕ) (node : Node) → nodes n ≡ Some node → IsNode g node
+AllFit g nodes = (n : ℕ) (node : Node) → nodes n ≡ Some node → IsNode g (record node { links = 0 })
+
+pub fits_without_links : (g : Geometry) (node : Node) → IsNode g node → IsNode g (record node { links = 0 })
+fits_without_links g node fits = record {
+  permissions = fits.permissions; links = omega arith; uid = fits.uid; gid = fits.gid; atime = fits.atime; mtime = fits.mtime; ctime = fits.ctime; body = fits.body;
+}
+
+pub fits_with_links : (g : Geometry) (node : Node) → IsNode g (record node { links = 0 }) → node.links ≤ most_links → IsNode g node
+fits_with_links g node fits links = record {
+  permissions = fits.permissions; links = links; uid = fits.uid; gid = fits.gid; atime = fits.atime; mtime = fits.mtime; ctime = fits.ctime; body = fits.body;
+}
 
 pub totals_alike : (g : Geometry) (nodes : Nodes) (n : ℕ) → all_names_to g nodes n ≡ total g nodes (one_for n)
 totals_alike g nodes n = same_sum (λ m. names_to n (names_of (nodes m))) (λ a. weight nodes (one_for n) a) (g.inodes + 1) (λ k _. names_weigh n (names_of (nodes k)))
@@ -124,11 +135,21 @@ module _ (g : Geometry) (nodes : Nodes) (agree : NodesAgree g nodes) where
     file_links = λ n h. file_links_in n (nodes n) refl h;
   }
 
+  pub all_fit : AllFit g nodes
+  all_fit n node e = fits_without_links g node (agree.each n node e)
+
+  pub links_fit : (n : ℕ) → links_of (nodes n) ≤ most_links
+  links_fit n = by_node (nodes n) refl
+    where
+      by_node : (o : Option Node) → nodes n ≡ o → links_of o ≤ most_links
+      by_node None e = omega arith
+      by_node (Some node) e = (agree.each n node e).links
+
 -- Nodes of this shape, each of which fits, agree.
-pub shaped_agree : (g : Geometry) (nodes : Nodes) → IsShape g nodes → AllFit g nodes → NodesAgree g nodes
-shaped_agree g nodes shape fits = record {
+pub shaped_agree : (g : Geometry) (nodes : Nodes) → IsShape g nodes → AllFit g nodes → ((n : ℕ) → links_of (nodes n) ≤ most_links) → NodesAgree g nodes
+shaped_agree g nodes shape fits few_links = record {
   inside = shape.inside;
-  each = fits;
+  each = λ n node e. fits_with_links g node (fits n node e) (subst (λ o. links_of o ≤ most_links) e (few_links n));
   targets = λ a b name h.
       shape.targets a b (let found = weigh_found (one_for b) (names_of (nodes a)) name b h in let one = one_for_itself b in omega (arith, found, one));
   root = shape.root;
