@@ -16,6 +16,7 @@ pub mod Ways
 pub mod PathNames
 pub mod Growth
 pub mod Entries
+pub mod Views
 pub mod FileNames
 pub mod NewDirectory
 pub mod GoneDirectory
