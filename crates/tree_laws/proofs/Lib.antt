@@ -16,7 +16,11 @@ pub mod Ways
 pub mod PathNames
 pub mod Growth
 pub mod Entries
+pub mod Outcomes
+pub mod NameOutcomes
 pub mod Views
+pub mod TreeOver
+pub mod Linked
 pub mod FileNames
 pub mod NewDirectory
 pub mod GoneDirectory

@@ -50,7 +50,7 @@ on_node_missing : (t : Tree) (n : ℕ) (f : Node → Node) → t.nodes n ≡ Non
 on_node_missing t n f h = ap (λ o. elim o [ None ↦ t | Some x ↦ with_node t n (Some (f x)) ]) h
 
 -- what holds of the tree as it is, and of the tree with the changed node, holds of `on_node`
-on_node_is : (t : Tree) (n : ℕ) (f : Node → Node) (P : Tree → Type 0) → P t → ((node : Node) → t.nodes n ≡ Some node → P (with_node t n (Some (f node)))) → P (on_node t n f)
+pub on_node_is : (t : Tree) (n : ℕ) (f : Node → Node) (P : Tree → Type 0) → P t → ((node : Node) → t.nodes n ≡ Some node → P (with_node t n (Some (f node)))) → P (on_node t n f)
 on_node_is t n f P missing there = by_node (t.nodes n) refl
   where
     by_node : (o : Option Node) → t.nodes n ≡ o → P (on_node t n f)
