@@ -21,6 +21,9 @@ pub mod NameOutcomes
 pub mod Views
 pub mod TreeOver
 pub mod Linked
+pub mod NewPlaces
+pub mod Made
+pub mod Gone
 pub mod FileNames
 pub mod NewDirectory
 pub mod GoneDirectory
