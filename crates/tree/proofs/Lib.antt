@@ -1,4 +1,5 @@
 pub mod Maps
+pub mod Pages
 pub mod Small
 mod NodeRows
 mod NameRows

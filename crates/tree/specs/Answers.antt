@@ -5,9 +5,10 @@ use Rattle.errno.specs.declared.Errno.{Errno}
 use Rattle.errno.specs.declared.Errno.TheVariants.{ENOSPC}
 use Rattle.tree.specs.declared.Attributes.{Attributes}
 use Rattle.tree.specs.declared.Room.{Room}
+use Rattle.tree.specs.declared.Entry.{Entry}
 use Rattle.tree.specs.declared.Reply.{Reply}
 use Rattle.tree.specs.declared.Reply.TheVariants.{Refused, Done, Descriptor, Bytes, Wrote, At, Inode, Names, Space}
-use Rattle.tree.specs.Names.{Names as NameMap}
+use Rattle.tree.specs.Names.{Name, Names as NameMap}
 use Rattle.tree.specs.Tree.{Tree}
 use Rattle.tree.specs.Space.{zones_used, data_zones}
 
@@ -23,6 +24,10 @@ pub data Answer : Type 0 where
   names_are : NameMap → Answer
   room_is : Room → Answer
 
+-- an entry of a reply, as definitions have it
+abbrev pub entry_of : Entry → Name × ℕ
+entry_of e = (e.name.items, e.inode)
+
 -- what a reply says
 abbrev pub answer_of : Reply → Answer
 answer_of (Refused e) = refused e
@@ -32,7 +37,7 @@ answer_of (Bytes bytes) = some_bytes bytes.items
 answer_of (Wrote n) = wrote n
 answer_of (At n) = position n
 answer_of (Inode a) = node_is a
-answer_of (Names names) = names_are (map (λ e. (e.name.items, e.inode)) names.items)
+answer_of (Names names) = names_are (map entry_of names.items)
 answer_of (Space r) = room_is r
 
 -- an answer and the tree after the call, or the refusal

@@ -1,14 +1,17 @@
 -- Laws of the tree.
-use Rattle.std.specs.Prelude.{◌≡◌, ◌≤◌, ◌<◌, ◌^◌, ℕ, Bool, true, false, None, Some, Err, IsTrue}
+use Rattle.std.specs.Prelude.{◌≡◌, ◌≤◌, ◌<◌, ◌*◌, ◌/◌, ◌^◌, ℕ, Bool, true, false, None, Some, Err, IsTrue}
 use Rattle.layout.specs.declared.Geometry.{Geometry}
+use Rattle.layout.specs.Places.{is_block_size}
 use Rattle.errno.specs.declared.Errno.{Errno}
 use Rattle.tree.specs.declared.Who.{Who}
 use Rattle.tree.specs.declared.Call.{Call}
 use Rattle.tree.specs.declared.Call.TheVariants.{Stat, Fstat, Readdir, Sync, Statfs}
 use Rattle.tree.specs.declared.Whence.{Whence}
 use Rattle.tree.specs.Sums.{put}
-use Rattle.tree.specs.Tree.{Node, Tree}
-use Rattle.tree.specs.IsTree.{IsTree}
+use Rattle.tree.specs.ZonesNeeded.{page_limit}
+use Rattle.tree.specs.Tree.{Body, Node, Tree, most_size}
+use Rattle.tree.specs.Space.{numbers_in_zone, held_of}
+use Rattle.tree.specs.IsTree.{IsBody, IsTree}
 use Rattle.tree.specs.Changes.{new_node, empty_directory}
 use Rattle.tree.specs.Answers.{refused}
 use Rattle.tree.specs.Effects.{effect_of, reply_to, tree_after_call}
@@ -19,7 +22,7 @@ RefusedLeaves =
     (g : Geometry) (t : Tree) (who : Who) (now : ℕ) (call : Call) (e : Errno) → effect_of g t who now call ≡ Err e
     → (reply_to g t who now call ≡ refused e) × (tree_after_call g t who now call ≡ t)
 
--- these calls change nothing
+-- the calls that only look
 abbrev pub only_looks : Call → Bool
 only_looks (Stat path) = true
 only_looks (Fstat fd) = true
@@ -28,6 +31,7 @@ only_looks Sync = true
 only_looks Statfs = true
 only_looks _ = false
 
+-- they leave the tree
 abbrev pub LooksLeave : Type 0
 LooksLeave =
     (g : Geometry) (t : Tree) (who : Who) (now : ℕ) (call : Call) → IsTrue (only_looks call)
@@ -37,8 +41,22 @@ LooksLeave =
 abbrev pub fresh_root : ℕ → Node
 fresh_root now = new_node now (record { uid = 0; gid = 0 }) 493 2 (empty_directory 1)
 
+-- that root, and no open file
 abbrev pub fresh_tree : ℕ → Tree
 fresh_tree now = record { nodes = put (λ n. None) 1 (Some (fresh_root now)); open_files = λ k. None; descriptors = λ s fd. None }
 
+-- it is a tree, for times that fit 32 bits
 abbrev pub FreshIsTree : Type 0
 FreshIsTree = (g : Geometry) (now : ℕ) → 1 ≤ g.inodes → now < 2 ^ 32 → IsTree g (fresh_tree now)
+
+-- a page that begins below a size within the limit is one of those that an inode has room for
+abbrev pub PagesFit : Type 0
+PagesFit =
+    (block_size q size : ℕ) → IsTrue (is_block_size block_size) → size ≤ most_size → q * block_size < size
+    → q < page_limit (block_size / 4)
+
+-- so no held page is past them, and a count of zones that looks at those alone loses none
+abbrev pub HeldPagesFit : Type 0
+HeldPagesFit =
+    (g : Geometry) (body : Body) (q : ℕ) → IsTrue (is_block_size g.block_size) → IsBody g body → IsTrue (held_of g body q)
+    → q < page_limit (numbers_in_zone g)

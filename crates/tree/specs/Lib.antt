@@ -14,5 +14,7 @@ pub mod Answers
 pub mod NodeCalls
 pub mod NameCalls
 pub mod FileCalls
+pub mod Text
 pub mod Effects
+pub mod IsCall
 pub mod Laws

@@ -24,5 +24,6 @@ zones_needed_by_place n held =
     + count_below (second_needed n held) (1 + n)
     + one_if (third_needed n held)
 
+-- the count by places is the count by ranges
 abbrev pub ZonesNeededIsByPlace : Type 0
 ZonesNeededIsByPlace = (n : ℕ) (held : ℕ → Bool) → zones_needed n held ≡ zones_needed_by_place n held

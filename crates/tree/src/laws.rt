@@ -1,7 +1,76 @@
 //! Laws of the definitions: functions without a body, each of which stands for its clause.
 
-ghost use Rattle.tree.specs.Laws.{FreshIsTree, LooksLeave, RefusedLeaves};
+ghost use Rattle.tree.specs.IsCall.{IsBytes, IsCall, IsCaller};
+ghost use Rattle.tree.specs.Laws.{FreshIsTree, HeldPagesFit, LooksLeave, PagesFit, RefusedLeaves};
 ghost use Rattle.tree.specs.ZonesNeededByPlace.{ZonesNeededIsByPlace};
+
+use super::{Call, Who};
+use bitflags::Flags;
+
+/// Every call meets what the laws ask of one, by its types.
+pub fn is_call(call: &Call<'_>)
+    ensures { IsCall call.now }
+{
+    match *call {
+        Call::Open { path, flags, mode } => {
+            are_bytes(path);
+            let _flags = flags.bits();
+            let _mode = mode;
+        }
+        Call::Write { fd, bytes } => {
+            are_bytes(bytes);
+            let _number = fd;
+        }
+        Call::Mkdir { path, mode } | Call::Chmod { path, mode } => {
+            are_bytes(path);
+            let _number = mode;
+        }
+        Call::Chown { path, uid, gid } => {
+            are_bytes(path);
+            let _uid = uid;
+            let _gid = gid;
+        }
+        Call::Utime { path, atime, mtime } => {
+            are_bytes(path);
+            let _atime = atime;
+            let _mtime = mtime;
+        }
+        Call::Truncate { path, size } => {
+            are_bytes(path);
+            let _number = size;
+        }
+        Call::Stat { path } | Call::Unlink { path } | Call::Rmdir { path } => are_bytes(path),
+        Call::Link { old, new } | Call::Rename { old, new } => {
+            are_bytes(old);
+            are_bytes(new);
+        }
+        Call::Read { fd, count } => {
+            let _fd = fd;
+            let _count = count;
+        }
+        Call::Close { fd } | Call::Dup { fd } | Call::Fstat { fd } | Call::Readdir { fd } => {
+            let _number = fd;
+        }
+        Call::Seek {
+            fd,
+            whence: _,
+            offset: _,
+        } => {
+            let _number = fd;
+        }
+        Call::Sync | Call::Statfs => {}
+    }
+}
+
+/// The elements of a slice of bytes are bytes.
+fn are_bytes(bytes: &[u8])
+    ensures { IsBytes bytes.now }
+{}
+
+/// Every caller meets what the laws ask of one, by its types.
+pub fn is_caller(who: Who)
+    ensures { IsCaller who }
+{}
 
 /// A refused call leaves the tree.
 #[tactic(auto, using(crate::proofs::Leaves::refused_leaves))]
@@ -25,4 +94,11 @@ pub fn fresh_is_tree()
 #[tactic(auto, using(crate::proofs::Needs::zones_needed_is_by_place))]
 pub fn zones_needed_is_by_place()
     ensures { ZonesNeededIsByPlace }
+{}
+
+/// Every page that a file or a directory holds is among those that its inode has room for.
+#[tactic(auto, using(crate::proofs::Pages::pages_fit, crate::proofs::Pages::held_pages_fit))]
+pub fn pages_fit()
+    ensures below { PagesFit }
+    ensures held { HeldPagesFit }
 {}

@@ -3,6 +3,7 @@
 #![tactic(auto)]
 
 pub mod laws;
+mod text;
 
 ghost use Rattle.std.specs.Prelude.{⊤, [], ◌∷◌, codes};
 

@@ -1,0 +1,175 @@
+//! The texts of replies: numbers are decimal, modes octal in seven digits, bytes lower-case hexadecimal.
+
+ghost use Rattle.std.specs.Prelude.{Some, map};
+ghost use Rattle.tree.specs.Answers.{answer_of, entry_of};
+ghost use Rattle.tree.specs.Text.{answer_text, attributes_text, details_text, entry_text, hex_text, octal_text, outcome_text, owner_text, room_text, times_text};
+
+use super::{Attributes, Entry, Outcome, Reply, Room};
+use std::fmt;
+
+/// A number of 16 bits in seven octal digits.
+#[derive(Clone, Copy)]
+struct Octal(u16);
+
+impl fmt::Display for Octal {
+    ghost output = { λ o. Some (octal_text o.0) };
+
+    #[tactic(auto, unfolding(crate::specs::Text::octal_text))]
+    fn fmt<W: fmt::Write>(&self, f: &mut fmt::Formatter<W>) -> fmt::Result {
+        let n = self.0;
+        let (a, b, c) = (n / 0o100000 % 8, n / 0o10000 % 8, n / 0o1000 % 8);
+        let (d, e, g) = (n / 0o100 % 8, n / 0o10 % 8, n % 8);
+        write!(f, "0{a}{b}{c}{d}{e}{g}")
+    }
+}
+
+/// Bytes in hexadecimal.
+#[derive(Clone, Copy)]
+struct Hex<'a>(&'a [u8]);
+
+impl fmt::Display for Hex<'_> {
+    ghost output = { λ h. Some (hex_text h.0.now) };
+
+    fn fmt<W: fmt::Write>(&self, f: &mut fmt::Formatter<W>) -> fmt::Result {
+        for byte in self.0 {
+            let (high, low) = (*byte / 16, *byte % 16);
+            write!(f, "{high:x}{low:x}")?;
+        }
+        Ok(())
+    }
+}
+
+/// The owner's user and group.
+#[derive(Clone, Copy)]
+struct Owner(u16, u16);
+
+impl fmt::Display for Owner {
+    ghost output = { λ o. Some (owner_text o.0 o.1) };
+
+    #[tactic(auto, unfolding(crate::specs::Text::owner_text))]
+    fn fmt<W: fmt::Write>(&self, f: &mut fmt::Formatter<W>) -> fmt::Result {
+        let Owner(uid, gid) = *self;
+        write!(f, "uid {uid} gid {gid}")
+    }
+}
+
+/// The times of access, change and change of attributes.
+#[derive(Clone, Copy)]
+struct Times(u32, u32, u32);
+
+impl fmt::Display for Times {
+    ghost output = { λ t. Some (times_text t.0 t.1 t.2) };
+
+    #[tactic(auto, unfolding(crate::specs::Text::times_text))]
+    fn fmt<W: fmt::Write>(&self, f: &mut fmt::Formatter<W>) -> fmt::Result {
+        let Times(atime, mtime, ctime) = *self;
+        write!(f, "{atime} {mtime} {ctime}")
+    }
+}
+
+/// What stands after a node's links.
+#[derive(Clone, Copy)]
+struct Details(Attributes);
+
+impl fmt::Display for Details {
+    ghost output = { λ d. Some (details_text d.0) };
+
+    #[tactic(auto, unfolding(crate::specs::Text::details_text))]
+    fn fmt<W: fmt::Write>(&self, f: &mut fmt::Formatter<W>) -> fmt::Result {
+        let Details(a) = *self;
+        let (owner, size, times) = (
+            Owner(a.uid, a.gid),
+            a.size,
+            Times(a.atime, a.mtime, a.ctime),
+        );
+        write!(f, "{owner} size {size} times {times}")
+    }
+}
+
+/// Writes `inode N mode OOOOOOO links N uid N gid N size N times A M C`.
+impl fmt::Display for Attributes {
+    ghost output = { λ a. Some (attributes_text a) };
+
+    fn fmt<W: fmt::Write>(&self, f: &mut fmt::Formatter<W>) -> fmt::Result {
+        let (inode, mode, links, details) = (
+            self.inode,
+            Octal(self.mode),
+            self.links,
+            Details(*self),
+        );
+        write!(f, "inode {inode} mode {mode} links {links} {details}")
+    }
+}
+
+/// Writes `block B zones Z free F inodes I free J`.
+impl fmt::Display for Room {
+    ghost output = { λ r. Some (room_text r) };
+
+    fn fmt<W: fmt::Write>(&self, f: &mut fmt::Formatter<W>) -> fmt::Result {
+        let Room {
+            block_size,
+            zones,
+            free_zones,
+            inodes,
+            free_inodes,
+        } = *self;
+        write!(
+            f,
+            "block {block_size} zones {zones} free {free_zones} inodes {inodes} free {free_inodes}"
+        )
+    }
+}
+
+/// Writes a space, the name in hexadecimal, a colon and the inode.
+impl fmt::Display for Entry {
+    ghost output = { λ e. Some (entry_text (entry_of e)) };
+
+    fn fmt<W: fmt::Write>(&self, f: &mut fmt::Formatter<W>) -> fmt::Result {
+        let name = Hex(self.name.as_slice());
+        let inode = self.inode;
+        write!(f, " {name}:{inode}")
+    }
+}
+
+/// Writes a refusal's name; `ok`; `fd N`; `bytes` with the bytes in hexadecimal, or with `-` for none;
+/// `wrote N`; `at N`; a node's attributes; `names K` and the entries; or a volume's room.
+impl fmt::Display for Reply {
+    ghost output = { λ r. Some (answer_text (answer_of r)) };
+
+    fn fmt<W: fmt::Write>(&self, f: &mut fmt::Formatter<W>) -> fmt::Result {
+        match self {
+            Reply::Refused(errno) => write!(f, "{errno}"),
+            Reply::Done => f.write_str("ok"),
+            Reply::Descriptor(fd) => write!(f, "fd {fd}"),
+            Reply::Bytes(bytes) if bytes.is_empty() => f.write_str("bytes -"),
+            Reply::Bytes(bytes) => {
+                let hex = Hex(bytes.as_slice());
+                write!(f, "bytes {hex}")
+            }
+            Reply::Wrote(count) => write!(f, "wrote {count}"),
+            Reply::At(position) => write!(f, "at {position}"),
+            Reply::Inode(attributes) => write!(f, "{attributes}"),
+            Reply::Names(names) => {
+                let count = names.len();
+                write!(f, "names {count}")?;
+                for name in names {
+                    write!(f, "{name}")?;
+                }
+                Ok(())
+            }
+            Reply::Space(room) => write!(f, "{room}"),
+        }
+    }
+}
+
+/// Writes the reply, or `cut`.
+impl fmt::Display for Outcome {
+    ghost output = { λ outcome. Some (outcome_text outcome) };
+
+    fn fmt<W: fmt::Write>(&self, f: &mut fmt::Formatter<W>) -> fmt::Result {
+        match self {
+            Outcome::Reply(reply) => write!(f, "{reply}"),
+            Outcome::Cut => f.write_str("cut"),
+        }
+    }
+}
