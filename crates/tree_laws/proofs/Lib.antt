@@ -12,6 +12,8 @@ pub mod Unlinked
 pub mod Places
 pub mod Totals
 pub mod Shapes
+pub mod CallsKeep
+pub mod OpenCall
 pub mod Ways
 pub mod PathNames
 pub mod Growth
@@ -20,6 +22,8 @@ pub mod Outcomes
 pub mod NameOutcomes
 pub mod Views
 pub mod TreeOver
+pub mod NewlyOpen
+pub mod OpenOutcomes
 pub mod Linked
 pub mod NewPlaces
 pub mod Made

@@ -28,6 +28,13 @@ pub no_names_of : (o : Option Node) → kind_of o ≡ false → names_of o ≡ [
 no_names_of None h = refl
 no_names_of (Some node) h = no_names node h
 
+-- the tree after it, over the same open files, and its node n, which is a file
+pub record IsLinked (g : Geometry) (t after : Tree) (n : ℕ) : Type 0 where
+  pub is_tree : IsTree g after
+  pub over : IsOver t after
+  pub some : IsTrue (is_some (after.nodes n))
+  pub file : kind_of (after.nodes n) ≡ false
+
 module _ (g : Geometry) (is_geometry : IsGeometry g) (t : Tree) (tree : IsTree g t) (now : ℕ) (small : now < 2 ^ 32) (place : Place) (at : IsPlace t place)
     (free : inode_of place.names place.name ≡ None) (named : is_name place.name ≡ true)
     (n : ℕ) (from : 1 ≤ n) (to : n ≤ g.inodes) (file : kind_of (t.nodes n) ≡ false)
@@ -133,8 +140,13 @@ module _ (g : Geometry) (is_geometry : IsGeometry g) (t : Tree) (tree : IsTree g
           | inr q ↦ nameless_open g t tree m (sym (some_other m q) ∙ ap is_some e) (omega (arith, is, zero))
         ]
 
-    pub linked_is_tree : IsTree g after
-    linked_is_tree = tree_over g t after
-        (over_on_node t middle d _ (over_with_node t t n (Some N) (over_itself t))) tree agree
-        (λ i some opened. (some_kept i some, kind i))
-        nameless
+    over : IsOver t after
+    over = over_on_node t middle d _ (over_with_node t t n (Some N) (over_itself t))
+
+    pub linked : IsLinked g t after n
+    linked = record {
+      is_tree = tree_over g t after over tree agree (λ i some opened. (some_kept i some, kind i)) nameless;
+      over = over;
+      some = some_n n refl;
+      file = kind n ∙ file;
+    }

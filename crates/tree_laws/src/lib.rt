@@ -1,7 +1,7 @@
 //! Laws of the file tree: every client call keeps a tree a tree.
 #![tactic(auto)]
 
-ghost use Rattle.tree_laws.specs.Keeps.{ChmodKeeps, ChownKeeps, UtimeKeeps, SeekKeeps, ReadKeeps, DupKeeps, CloseKeeps, WriteKeeps, TruncateKeeps, UnlinkKeeps};
+ghost use Rattle.tree_laws.specs.Keeps.{ChmodKeeps, ChownKeeps, UtimeKeeps, SeekKeeps, ReadKeeps, DupKeeps, CloseKeeps, WriteKeeps, TruncateKeeps, UnlinkKeeps, LinkKeeps, MkdirKeeps, RmdirKeeps, OpenKeeps};
 
 /// The calls that set attributes keep a tree a tree.
 pub fn attribute_calls_keep()
@@ -31,4 +31,20 @@ pub fn byte_calls_keep()
 /// Unlink keeps a tree a tree, whether or not the file is freed.
 pub fn unlink_keeps()
     ensures { UnlinkKeeps }
+{}
+
+/// Link keeps a tree a tree.
+pub fn link_keeps()
+    ensures { LinkKeeps }
+{}
+
+/// Mkdir and rmdir keep a tree a tree.
+pub fn directory_calls_keep()
+    ensures mkdir { MkdirKeeps }
+    ensures rmdir { RmdirKeeps }
+{}
+
+/// Open keeps a tree a tree, whether or not it makes the file.
+pub fn open_keeps()
+    ensures { OpenKeeps }
 {}

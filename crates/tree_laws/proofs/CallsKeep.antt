@@ -1,0 +1,75 @@
+-- Link, mkdir and rmdir keep a tree a tree.
+use Rattle.std.proofs.Common.{◌≡◌, ◌<◌, ◌≤◌, ◌+◌, ◌^◌, ℕ, List, Bool, true, false, refl, sym, ap, subst, ◌∙◌, arith}
+use Rattle.std.specs.Prelude.{Option, None, Some, is_some, Result, Ok, Err, nat_le}
+use Rattle.std.specs.List.{All}
+use Rattle.std.proofs.lemmas.Bool.{leb-false}
+use Rattle.layout.specs.declared.Geometry.{Geometry}
+use Rattle.layout.specs.Places.{IsGeometry}
+use Rattle.errno.specs.declared.Errno.{Errno}
+use Rattle.errno.specs.declared.Errno.TheVariants.{EINVAL}
+use Rattle.tree.specs.declared.Who.{Who}
+use Rattle.tree.specs.declared.Call.{Call}
+use Rattle.tree.specs.declared.Call.TheVariants.{Link, Mkdir, Rmdir}
+use Rattle.tree.specs.IsCall.{IsCaller}
+use Rattle.tree.specs.Tree.{Node, Tree, with_node, on_node, most_sessions}
+use Rattle.tree.specs.IsTree.{IsNode, IsTree}
+use Rattle.tree.specs.Refusals.{◌>>=◌, refuse_if}
+use Rattle.tree.specs.Walk.{Place}
+use Rattle.tree.specs.Changes.{with_ctime, more_links, new_node, empty_directory}
+use Rattle.tree.specs.Answers.{done, Effect}
+use Rattle.tree.specs.NameCalls.{with_entry}
+use Rattle.tree.specs.Effects.{user_of, effect_in_session, tree_after_call}
+use Rattle.tree_laws.specs.Keeps.{LinkKeeps, MkdirKeeps, RmdirKeeps}
+use Rattle.tree_laws.proofs.Steps.{tree_after, passed, step}
+use Rattle.tree_laws.proofs.Places.{is_place}
+use Rattle.tree_laws.proofs.ByteCalls.{taken_if_it_fits}
+use Rattle.tree_laws.proofs.Shapes.{kind_of, links_of}
+use Rattle.tree_laws.proofs.Outcomes.{Effects, IsClosed}
+use Rattle.tree_laws.proofs.NameOutcomes.{IsLinkMade, link_each, IsDirectoryMade, mkdir_each, IsDirectoryGone, rmdir_each}
+use Rattle.tree_laws.proofs.NewPlaces.{IsNewPlace, new_place}
+use Rattle.tree_laws.proofs.Linked.{linked}
+use Rattle.tree_laws.proofs.Made.{made_is_tree}
+use Rattle.tree_laws.proofs.Gone.{empty_weighs, gone_is_tree}
+
+-- the effect keeps a tree a tree, on the volume as it is
+abbrev pub Keeps : Geometry → Tree → Effects → Type 0
+Keeps g t F = IsTree g (tree_after t (F g.zones))
+
+pub keeps_closed : (g : Geometry) (t : Tree) → IsTree g t → IsClosed (Keeps g t)
+keeps_closed g t base A (Ok x) f plain h = h x refl
+keeps_closed g t base A (Err e) f plain h = base
+
+-- a call in a session that may be
+pub in_session : (g : Geometry) (t : Tree) (who : Who) (now : ℕ) (call : Call) → IsTree g t
+    → (who.session < most_sessions → IsTree g (tree_after t (effect_in_session g t who now call))) → IsTree g (tree_after_call g t who now call)
+in_session g t who now call base h =
+    step g t (refuse_if (nat_le most_sessions who.session) EINVAL) (λ _. effect_in_session g t who now call) base (λ x allowed.
+    h (leb-false most_sessions who.session (passed _ _ x allowed)))
+
+pub link_keeps : LinkKeeps
+link_keeps g t who now old new is small bytes tree = in_session g t who now (Link old new) tree (λ _.
+    link_each g t (user_of who) now (Keeps g t) (keeps_closed g t tree) old.now new.now (λ n node place made.
+    let at = new_place t (user_of who) new.now made.parts place bytes made.read made.walked made.free in
+    let inside = tree.nodes.inside n (ap is_some made.there) in
+    let fit = tree.nodes.each n node made.there in
+    let few = made.few in
+    taken_if_it_fits g t done (with_entry (with_node t n (Some (with_ctime now (more_links 1 node)))) now place n) tree (λ fits.
+    (linked g is t tree now small place at.at at.free at.is_named n inside.0 inside.1 (ap kind_of made.there ∙ made.file)
+    (with_ctime now (more_links 1 node)) made.file
+    (record { permissions = fit.permissions; links = omega arith; uid = fit.uid; gid = fit.gid; atime = fit.atime; mtime = fit.mtime; ctime = small; body = fit.body })
+    (ap (λ o. links_of o + 1) (sym made.there)) (omega (arith, few)) fits).is_tree)))
+
+pub mkdir_keeps : MkdirKeeps
+mkdir_keeps g t who now path mode is caller small bytes tree = in_session g t who now (Mkdir path mode) tree (λ _.
+    mkdir_each g t (user_of who) now (Keeps g t) (keeps_closed g t tree) path.now mode (λ _. tree) (λ n place parent made.
+    let at = new_place t (user_of who) path.now made.parts place bytes made.read made.walked made.free in
+    taken_if_it_fits g t done
+    (on_node (with_entry (with_node t n (Some (new_node now (user_of who) mode 2 (empty_directory place.directory)))) now place n) place.directory (more_links 1)) tree (λ fits.
+    made_is_tree g is t tree now small (user_of who) caller.uid caller.gid mode made.fits place at n made.inode
+    (subst (λ o. links_of o < 32767) (sym made.parent) made.few) fits)))
+
+pub rmdir_keeps : RmdirKeeps
+rmdir_keeps g t who now path small tree = in_session g t who now (Rmdir path) tree (λ _.
+    rmdir_each g t (user_of who) now (Keeps g t) (keeps_closed g t tree) path.now (λ n node place gone.
+    gone_is_tree g t tree now small place (is_place t (user_of who) gone.parts place gone.walked) n gone.found
+    (ap kind_of gone.there ∙ gone.directory) (empty_weighs t n node gone.there gone.empty) gone.closed))
