@@ -12,6 +12,7 @@ pub mod Unlinked
 pub mod Places
 pub mod Totals
 pub mod Shapes
+pub mod Pigeonhole
 pub mod CallsKeep
 pub mod OpenCall
 pub mod Ways
