@@ -13,6 +13,8 @@ pub mod Places
 pub mod Totals
 pub mod Shapes
 pub mod Pigeonhole
+pub mod RenameOutcomes
+pub mod Moved
 pub mod CallsKeep
 pub mod OpenCall
 pub mod Ways
