@@ -74,7 +74,7 @@ module _ (g : Geometry) (old new : Nodes) (shape : IsShape g old) (d n : ℕ)
         has_names (one_for m) (old (parent_of (old m))) (omega (arith, one)))
   ]
 
-  way : (k m : ℕ) → m ≢ n → kind_of (old m) ≡ true → above new k m ≡ above old k m
+  pub way : (k m : ℕ) → m ≢ n → kind_of (old m) ≡ true → above new k m ≡ above old k m
   way zero m e h = refl
   way (suc k) m e h = let up = parent_stays m h in ap (above new k) (parent m e) ∙ way k (parent_of (old m)) up.0 up.1
 

@@ -15,6 +15,8 @@ pub mod Shapes
 pub mod Pigeonhole
 pub mod RenameOutcomes
 pub mod Moved
+pub mod MovedFile
+pub mod MovedTree
 pub mod CallsKeep
 pub mod OpenCall
 pub mod Ways
