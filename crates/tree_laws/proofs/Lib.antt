@@ -18,6 +18,8 @@ pub mod Moved
 pub mod MovedFile
 pub mod MovedTree
 pub mod CallsKeep
+pub mod RenameCall
+pub mod EveryCall
 pub mod OpenCall
 pub mod Ways
 pub mod PathNames

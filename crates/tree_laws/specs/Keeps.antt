@@ -7,8 +7,9 @@ use Rattle.layout.specs.Places.{IsGeometry}
 use Rattle.tree.specs.declared.Who.{Who}
 use Rattle.tree.specs.declared.Whence.{Whence}
 use Rattle.tree.specs.declared.OpenFlags.{OpenFlags}
-use Rattle.tree.specs.declared.Call.TheVariants.{Chmod, Chown, Utime, Seek, Read, Dup, Close, Write, Truncate, Unlink, Link, Mkdir, Rmdir, Open}
-use Rattle.tree.specs.IsCall.{IsBytes, IsCaller}
+use Rattle.tree.specs.declared.Call.{Call}
+use Rattle.tree.specs.declared.Call.TheVariants.{Chmod, Chown, Utime, Seek, Read, Dup, Close, Write, Truncate, Unlink, Link, Mkdir, Rmdir, Open, Rename}
+use Rattle.tree.specs.IsCall.{IsBytes, IsCall, IsCaller}
 use Rattle.tree.specs.Tree.{Tree}
 use Rattle.tree.specs.IsTree.{IsTree}
 use Rattle.tree.specs.Effects.{tree_after_call}
@@ -81,3 +82,14 @@ abbrev pub OpenKeeps : Type 0
 OpenKeeps =
     (g : Geometry) (t : Tree) (who : Who) (now : ℕ) (path : Bor (List ℕ)) (flags : OpenFlags) (mode : ℕ) → IsGeometry g → IsCaller who → now < 2 ^ 32 → IsBytes path.now
     → IsTree g t → IsTree g (tree_after_call g t who now (Open path flags mode))
+
+abbrev pub RenameKeeps : Type 0
+RenameKeeps =
+    (g : Geometry) (t : Tree) (who : Who) (now : ℕ) (old new : Bor (List ℕ)) → IsGeometry g → now < 2 ^ 32 → IsBytes new.now
+    → IsTree g t → IsTree g (tree_after_call g t who now (Rename old new))
+
+-- Every client call keeps a tree a tree.
+abbrev pub EveryCallKeeps : Type 0
+EveryCallKeeps =
+    (g : Geometry) (t : Tree) (who : Who) (now : ℕ) (call : Call) → IsGeometry g → IsCaller who → now < 2 ^ 32 → IsCall call
+    → IsTree g t → IsTree g (tree_after_call g t who now call)

@@ -1,7 +1,7 @@
 //! Laws of the file tree: every client call keeps a tree a tree.
 #![tactic(auto)]
 
-ghost use Rattle.tree_laws.specs.Keeps.{ChmodKeeps, ChownKeeps, UtimeKeeps, SeekKeeps, ReadKeeps, DupKeeps, CloseKeeps, WriteKeeps, TruncateKeeps, UnlinkKeeps, LinkKeeps, MkdirKeeps, RmdirKeeps, OpenKeeps};
+ghost use Rattle.tree_laws.specs.Keeps.{ChmodKeeps, ChownKeeps, UtimeKeeps, SeekKeeps, ReadKeeps, DupKeeps, CloseKeeps, WriteKeeps, TruncateKeeps, UnlinkKeeps, LinkKeeps, MkdirKeeps, RmdirKeeps, OpenKeeps, RenameKeeps, EveryCallKeeps};
 
 /// The calls that set attributes keep a tree a tree.
 pub fn attribute_calls_keep()
@@ -47,4 +47,14 @@ pub fn directory_calls_keep()
 /// Open keeps a tree a tree, whether or not it makes the file.
 pub fn open_keeps()
     ensures { OpenKeeps }
+{}
+
+/// Rename keeps a tree a tree, of a file and of a directory, onto nothing and onto another node.
+pub fn rename_keeps()
+    ensures { RenameKeeps }
+{}
+
+/// Every client call keeps a tree a tree, refused or not: for each geometry that a superblock can have, each caller, time and call of Rust.
+pub fn every_call_keeps()
+    ensures { EveryCallKeeps }
 {}
