@@ -24,7 +24,7 @@ use Rattle.tree_laws.proofs.Steps.{tree_after, passed, step}
 use Rattle.tree_laws.proofs.Places.{is_place}
 use Rattle.tree_laws.proofs.ByteCalls.{taken_if_it_fits}
 use Rattle.tree_laws.proofs.Shapes.{kind_of, links_of}
-use Rattle.tree_laws.proofs.Outcomes.{Effects, IsClosed}
+use Rattle.tree_laws.proofs.Outcomes.{Effects, IsClosed, with_zones}
 use Rattle.tree_laws.proofs.NameOutcomes.{IsLinkMade, link_each, IsDirectoryMade, mkdir_each, IsDirectoryGone, rmdir_each}
 use Rattle.tree_laws.proofs.NewPlaces.{IsNewPlace, new_place}
 use Rattle.tree_laws.proofs.Linked.{linked}
@@ -38,6 +38,10 @@ Keeps g t F = IsTree g (tree_after t (F g.zones))
 pub keeps_closed : (g : Geometry) (t : Tree) → IsTree g t → IsClosed (Keeps g t)
 keeps_closed g t base A (Ok x) f plain h = h x refl
 keeps_closed g t base A (Err e) f plain h = base
+
+-- what is kept on each number of zones is kept on the volume as it is
+pub as_it_is : (g : Geometry) (t : Tree) (F : Geometry → Effect) → Keeps g t (λ z. F (with_zones z g)) → IsTree g (tree_after t (F g))
+as_it_is g t F h = h
 
 -- a call in a session that may be
 pub in_session : (g : Geometry) (t : Tree) (who : Who) (now : ℕ) (call : Call) → IsTree g t

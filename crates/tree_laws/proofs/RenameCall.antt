@@ -14,7 +14,7 @@ use Rattle.tree.specs.IsTree.{IsTree, above}
 use Rattle.tree.specs.Walk.{Place}
 use Rattle.tree.specs.Changes.{fewer_links}
 use Rattle.tree.specs.Answers.{done, if_it_fits}
-use Rattle.tree.specs.NameCalls.{is_within, is_empty, with_name_lost, without_moved, with_moved, without_replaced}
+use Rattle.tree.specs.NameCalls.{is_within, is_empty, with_name_lost, without_moved, with_moved, without_replaced, rename}
 use Rattle.tree.specs.Effects.{user_of}
 use Rattle.tree.proofs.Maps.{not_true}
 use Rattle.tree_laws.specs.Keeps.{RenameKeeps}
@@ -29,7 +29,7 @@ use Rattle.tree_laws.proofs.Pigeonhole.{never_above}
 use Rattle.tree_laws.proofs.RenameOutcomes.{IsMove, IsMoveToFree, IsMoveOnto, rename_each}
 use Rattle.tree_laws.proofs.MovedFile.{file_moved, file_moved_onto}
 use Rattle.tree_laws.proofs.MovedTree.{directory_moved, directory_moved_onto}
-use Rattle.tree_laws.proofs.CallsKeep.{Keeps, keeps_closed, in_session}
+use Rattle.tree_laws.proofs.CallsKeep.{Keeps, keeps_closed, as_it_is, in_session}
 
 -- the second part of a test that fails, where the first holds
 second_fails : (a b : Bool) → (a && b) ≡ false → a ≡ true → b ≡ false
@@ -88,5 +88,6 @@ module _ (g : Geometry) (t : Tree) (user : User) (now : ℕ) (old_path new_path 
 
 pub rename_keeps : RenameKeeps
 rename_keeps g t who now old new is small bytes tree = in_session g t who now (Rename old new) tree (λ _.
-    rename_each g t (user_of who) now old.now new.now (Keeps g t) (keeps_closed g t tree) tree
-    (to_free g t (user_of who) now old.now new.now is small bytes tree) (onto g t (user_of who) now old.now new.now is small bytes tree))
+    as_it_is g t (λ h. rename h t (user_of who) now old.now new.now)
+    (rename_each g t (user_of who) now old.now new.now (Keeps g t) (keeps_closed g t tree) tree
+    (to_free g t (user_of who) now old.now new.now is small bytes tree) (onto g t (user_of who) now old.now new.now is small bytes tree)))
