@@ -14,6 +14,8 @@ pub mod Totals
 pub mod Shapes
 pub mod Pigeonhole
 pub mod RenameOutcomes
+pub mod NodeOutcomes
+pub mod FileOutcomes
 pub mod Moved
 pub mod MovedFile
 pub mod MovedTree

@@ -48,7 +48,7 @@ plain_can_replace t node q other =
     from_kind = refuse_if (not (is_dir node) && is_dir other) EISDIR >>= λ _. from_empty
 
 -- either branch of a test
-at_test : (P : Effects → Type 0) (b : Bool) (F G : Effects) → (b ≡ true → P F) → (b ≡ false → P G) → P (λ z. if b then F z else G z)
+pub at_test : (P : Effects → Type 0) (b : Bool) (F G : Effects) → (b ≡ true → P F) → (b ≡ false → P G) → P (λ z. if b then F z else G z)
 at_test P true F G yes_case no_case = yes_case refl
 at_test P false F G yes_case no_case = no_case refl
 
