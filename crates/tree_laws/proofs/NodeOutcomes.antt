@@ -71,25 +71,27 @@ module _ (t : Tree) (user : User) (now : ℕ) (P : Effects → Type 0) (steps : 
   utime_each path atime mtime each = changed_each path (λ node. not (is_owner user node)) (λ node. with_ctime now (record node { atime = atime; mtime = mtime })) each
 
   -- A file that another size is set of.
-  module _ (g : Geometry) (path : List ℕ) (size : ℕ)
-      (each : (n : ℕ) (node : Node) (f : File) → size ≤ most_size → t.nodes n ≡ Some node → node.body ≡ is_file f
-      → P (λ z. Ok (done, with_node t n (Some (with_body now (is_file (file_after_resize g f size)) node))))) where
-    abbrev set_size : ℕ → Node → File → Effects
-    set_size n node f z = Ok (done, with_node t n (Some (with_body now (is_file (file_after_resize g f size)) node)))
-
+  module _ (path : List ℕ) (size : ℕ) (set_size : ℕ → Node → File → Effects)
+      (each : (n : ℕ) (node : Node) (f : File) → size ≤ most_size → t.nodes n ≡ Some node → node.body ≡ is_file f → P (set_size n node f)) where
     abbrev at_file : ℕ → Node → File → Effects
     at_file n node f z = refuse_if (not (may_access user node to_write)) EACCES >>= λ _. set_size n node f z
 
     abbrev at_node : ℕ → Node → Effects
     at_node n node z = file_or node EISDIR >>= λ f. at_file n node f z
 
-    pub truncate_each : P (λ z. truncate g t user now path size)
-    truncate_each =
+    sized_each : P (λ z. refuse_if (nat_lt most_size size) EFBIG >>= λ _. walk t user path >>= λ n. node_at t n >>= λ node. at_node n node z)
+    sized_each =
         steps _ (refuse_if (nat_lt most_size size) EFBIG) (λ _ z. walk t user path >>= λ n. node_at t n >>= λ node. at_node n node z) (plain_refuse _ _ refl) (λ x fits.
         found_each path at_node (λ n node there.
         steps _ (file_or node EISDIR) (at_file n node) (plain_file node EISDIR refl) (λ f is_f.
         steps _ (refuse_if (not (may_access user node to_write)) EACCES) (λ _. set_size n node f) (plain_refuse _ _ refl) (λ _ _.
         each n node f (ltb-false most_size size (passed _ _ x fits)) there (file_is node EISDIR f is_f)))))
+
+  pub truncate_each : (g : Geometry) (path : List ℕ) (size : ℕ)
+      → ((n : ℕ) (node : Node) (f : File) → size ≤ most_size → t.nodes n ≡ Some node → node.body ≡ is_file f
+      → P (λ z. Ok (done, with_node t n (Some (with_body now (is_file (file_after_resize g f size)) node)))))
+      → P (λ z. truncate g t user now path size)
+  truncate_each g path size each = sized_each path size (λ n node f z. Ok (done, with_node t n (Some (with_body now (is_file (file_after_resize g f size)) node)))) each
 
   -- A file that loses a name.
   pub record IsUnlinked (n : ℕ) (node : Node) (place : Place) : Type 0 where
@@ -99,10 +101,7 @@ module _ (t : Tree) (user : User) (now : ℕ) (P : Effects → Type 0) (steps : 
     pub there : t.nodes n ≡ Some node
     pub file : is_dir node ≡ false
 
-  module _ (path : List ℕ) (each : (n : ℕ) (node : Node) (place : Place) → IsUnlinked n node place → P (λ z. Ok (done, with_name_lost (without_entry t now place) now n))) where
-    abbrev lose : Place → ℕ → Effects
-    lose place n z = Ok (done, with_name_lost (without_entry t now place) now n)
-
+  module _ (path : List ℕ) (lose : Place → ℕ → Effects) (each : (n : ℕ) (node : Node) (place : Place) → IsUnlinked n node place → P (lose place n)) where
     abbrev from_node : Place → ℕ → Node → Effects
     from_node place n node z = refuse_if (is_dir node) EPERM >>= λ _. lose place n z
 
@@ -124,8 +123,8 @@ module _ (t : Tree) (user : User) (now : ℕ) (P : Effects → Type 0) (steps : 
     abbrev from_parts : List Name → Effects
     from_parts parts z = refuse_if (not (has_last_name parts)) EINVAL >>= λ _. from_last parts z
 
-    pub unlink_each : P (λ z. unlink t user now path)
-    unlink_each =
+    named_each : P (λ z. read_path path >>= λ parts. from_parts parts z)
+    named_each =
         steps _ (read_path path) from_parts (plain_read path) (λ parts _.
         steps _ (refuse_if (not (has_last_name parts)) EINVAL) (λ _. from_last parts) (plain_refuse _ _ refl) (λ _ _.
         steps _ (parent_walk t user parts) from_place (plain_parent_walk t user parts) (λ place walked.
@@ -135,3 +134,7 @@ module _ (t : Tree) (user : User) (now : ℕ) (P : Effects → Type 0) (steps : 
         steps _ (node_at t n) (from_node place n) (plain_node t n) (λ node at_node.
         steps _ (refuse_if (is_dir node) EPERM) (λ _. lose place n) (plain_refuse _ _ refl) (λ x file.
         each n node place (record { parts = parts; walked = walked; found = was_there _ _ _ named; there = was_there _ _ _ at_node; file = passed _ _ x file })))))))))
+
+  pub unlink_each : (path : List ℕ) → ((n : ℕ) (node : Node) (place : Place) → IsUnlinked n node place → P (λ z. Ok (done, with_name_lost (without_entry t now place) now n)))
+      → P (λ z. unlink t user now path)
+  unlink_each path each = named_each path (λ place n z. Ok (done, with_name_lost (without_entry t now place) now n)) each
