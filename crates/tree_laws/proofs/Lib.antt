@@ -19,7 +19,10 @@ pub mod FileOutcomes
 pub mod Moved
 pub mod MovedFile
 pub mod MovedTree
+pub mod Fewer
+pub mod Spaced
 pub mod CallsKeep
+pub mod SpacedCalls
 pub mod RenameCall
 pub mod EveryCall
 pub mod OpenCall

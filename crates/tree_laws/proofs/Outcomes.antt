@@ -16,6 +16,7 @@ use Rattle.tree.specs.Refusals.{◌>>=◌, or_refuse, refuse_if, free_place}
 use Rattle.tree.specs.Walk.{read_path, parts_of, begins_with_slash, most_path, enter, next, walk_from, walk_parts, walk, node_at, Place, parent_walk, has_last_name, all_but_last, last_part, Found, is_there, found_at, look_up, may_access, to_search}
 use Rattle.tree.specs.Changes.{free_inode}
 use Rattle.tree.specs.Answers.{Effect}
+pub use Rattle.tree_laws.specs.Room.{with_zones, NoInodeFree}
 use Rattle.tree.proofs.Maps.{not_true}
 use Rattle.tree_laws.proofs.Search.{found_below, least_is_one, least_is_end, free_place_is}
 use Rattle.tree_laws.proofs.Steps.{both_steps, ok_is}
@@ -28,10 +29,6 @@ is_enospc _ = false
 abbrev pub is_plain : {A : Type 0} → Result A Errno → Bool
 is_plain (Ok x) = true
 is_plain (Err e) = not (is_enospc e)
-
--- the same volume with that many zones
-abbrev pub with_zones : ℕ → Geometry → Geometry
-with_zones z g = record g { zones = z }
 
 abbrev pub Effects : Type 0
 Effects = ℕ → Effect
@@ -112,9 +109,6 @@ plain_look_up t user parts =
     (λ _. plain_bind (walk_parts t user parts) (λ n. Ok (is_there n)) (plain_walk_parts t user parts) (λ n. refl))
 
 -- The one that does: the least inode that is free.
-
-abbrev pub NoInodeFree : Geometry → Tree → Type 0
-NoInodeFree g t = (n : ℕ) → 1 ≤ n → n ≤ g.inodes → IsTrue (is_some (t.nodes n))
 
 pub record IsFree (g : Geometry) (t : Tree) (n : ℕ) : Type 0 where
   pub from : 1 ≤ n

@@ -2,6 +2,7 @@
 #![tactic(auto)]
 
 ghost use Rattle.tree_laws.specs.Keeps.{ChmodKeeps, ChownKeeps, UtimeKeeps, SeekKeeps, ReadKeeps, DupKeeps, CloseKeeps, WriteKeeps, TruncateKeeps, UnlinkKeeps, LinkKeeps, MkdirKeeps, RmdirKeeps, OpenKeeps, RenameKeeps, EveryCallKeeps};
+ghost use Rattle.tree_laws.specs.Room.{EveryCallFits, TooBigIsRefused, EnospcMeans, FullMakesNone, OthersHaveRoom};
 
 /// The calls that set attributes keep a tree a tree.
 pub fn attribute_calls_keep()
@@ -57,4 +58,18 @@ pub fn rename_keeps()
 /// Every client call keeps a tree a tree, refused or not: for each geometry that a superblock can have, each caller, time and call of Rust.
 pub fn every_call_keeps()
     ensures { EveryCallKeeps }
+{}
+
+/// A tree that fits its volume fits it after each client call, refused or not.
+pub fn every_call_fits()
+    ensures { EveryCallFits }
+{}
+
+/// ENOSPC is answered exactly where the tree would be too big for the volume, or a node is to be made and no inode is free. The
+/// calls that take no room never answer it.
+pub fn enospc_is_exact()
+    ensures too_big { TooBigIsRefused }
+    ensures means { EnospcMeans }
+    ensures full { FullMakesNone }
+    ensures others { OthersHaveRoom }
 {}
