@@ -29,7 +29,7 @@ one_if_less : (b c : Bool) → (b ≡ true → c ≡ true) → one_if b ≤ one_
 one_if_less false c h = omega arith
 one_if_less true c h = let one : one_if c ≡ 1 = ap one_if (h refl) in omega (arith, one)
 
-some_less : (p q : ℕ → Bool) (n : ℕ) → ((k : ℕ) → p k ≡ true → q k ≡ true) → some_below p n ≡ true → some_below q n ≡ true
+pub some_less : (p q : ℕ → Bool) (n : ℕ) → ((k : ℕ) → p k ≡ true → q k ≡ true) → some_below p n ≡ true → some_below q n ≡ true
 some_less p q n less h = let one = one_below p n h in found_below q n one.0 one.1 (less one.0 one.2)
 
 count_less : (p q : ℕ → Bool) (n : ℕ) → ((k : ℕ) → p k ≡ true → q k ≡ true) → count_below p n ≤ count_below q n

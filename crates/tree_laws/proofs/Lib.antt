@@ -21,6 +21,7 @@ pub mod MovedFile
 pub mod MovedTree
 pub mod Fewer
 pub mod Spaced
+pub mod NeedGrows
 pub mod CallsKeep
 pub mod SpacedCalls
 pub mod RenameCall

@@ -15,7 +15,7 @@ use Rattle.tree_laws.proofs.Shapes.{Nodes, kind_of, IsShape, is_there, has_names
 use Rattle.tree_laws.proofs.Totals.{one_for}
 
 -- a test that holds of no number
-none_pass : (p : ℕ → Bool) (n : ℕ) → ((k : ℕ) → k < n → p k ≡ true → ⊥) → count_below p n ≡ 0
+pub none_pass : (p : ℕ → Bool) (n : ℕ) → ((k : ℕ) → k < n → p k ≡ true → ⊥) → count_below p n ≡ 0
 unfolding sum_below
 none_pass p zero never = refl
 none_pass p (suc n) never = elim (cases_Bool (p n)) [

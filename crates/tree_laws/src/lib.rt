@@ -3,6 +3,7 @@
 
 ghost use Rattle.tree_laws.specs.Keeps.{ChmodKeeps, ChownKeeps, UtimeKeeps, SeekKeeps, ReadKeeps, DupKeeps, CloseKeeps, WriteKeeps, TruncateKeeps, UnlinkKeeps, LinkKeeps, MkdirKeeps, RmdirKeeps, OpenKeeps, RenameKeeps, EveryCallKeeps};
 ghost use Rattle.tree_laws.specs.Room.{EveryCallFits, TooBigIsRefused, EnospcMeans, FullMakesNone, OthersHaveRoom};
+ghost use Rattle.tree_laws.specs.Zones.{NeedIsMonotone, NeedGrows, OnePageMore, PagesLetGo};
 
 /// The calls that set attributes keep a tree a tree.
 pub fn attribute_calls_keep()
@@ -72,4 +73,12 @@ pub fn enospc_is_exact()
     ensures means { EnospcMeans }
     ensures full { FullMakesNone }
     ensures others { OthersHaveRoom }
+{}
+
+/// How the zones that a file needs change: with more pages held, with one more, and with all from a page on let go.
+pub fn need_changes()
+    ensures monotone { NeedIsMonotone }
+    ensures more { NeedGrows }
+    ensures one { OnePageMore }
+    ensures let_go { PagesLetGo }
 {}
