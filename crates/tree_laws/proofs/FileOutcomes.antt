@@ -1,7 +1,7 @@
 -- What holds of the refusals and of the successes of the calls on open files holds of the calls.
 use Rattle.std.proofs.Common.{◌≡◌, ◌<◌, ◌≤◌, ◌+◌, ℕ, ℤ, List, Bool, true, false, refl, ap, subst, length}
 use Rattle.std.specs.Prelude.{None, Some, Result, Ok, Err, not, ◌==◌, nat_lt, if◌then◌else◌}
-use Rattle.std.proofs.lemmas.Bool.{ltb-false, not-false}
+use Rattle.std.proofs.lemmas.Bool.{ltb-false, eqb-true}
 use Rattle.layout.specs.declared.Geometry.{Geometry}
 use Rattle.errno.specs.declared.Errno.{Errno}
 use Rattle.errno.specs.declared.Errno.TheVariants.{EBADF, ENOTDIR, EISDIR, EINVAL, EMFILE, EFBIG}
@@ -77,7 +77,7 @@ module _ (t : Tree) (session : ℕ) (P : Effects → Type 0) (steps : IsClosed P
       steps _ (node_at t found.1.inode) (λ node z. Ok (node_is (attributes_of found.1.inode node), t)) (plain_node t found.1.inode) (λ node _. each found node))
 
   -- A directory whose names are told.
-  module _ (fd : ℕ) (each : (found : ℕ × OpenFile) (node : Node) (d : Directory) → t.nodes found.1.inode ≡ Some node → node.body ≡ is_directory d → P (λ z. Ok (names_are d.names, t))) where
+  module _ (fd : ℕ) (each : (found : ℕ × OpenFile) (node : Node) (d : Directory) → IsOpened t session fd found → t.nodes found.1.inode ≡ Some node → node.body ≡ is_directory d → P (λ z. Ok (names_are d.names, t))) where
     abbrev tell : Names → Effects
     tell names z = Ok (names_are names, t)
 
@@ -93,7 +93,7 @@ module _ (t : Tree) (session : ℕ) (P : Effects → Type 0) (steps : IsClosed P
         steps _ (node_at t found.1.inode) at_names (plain_node t found.1.inode) (λ node there.
         steps _ (names_or node ENOTDIR) tell (plain_in ENOTDIR refl node.body node) (λ names are.
         let is = names_in ENOTDIR node.body node names are in
-        subst (λ ns. P (tell ns)) is.2 (each found node is.0 (was_there _ _ _ there) is.1)))))
+        subst (λ ns. P (tell ns)) is.2 (each found node is.0 opened (was_there _ _ _ there) is.1)))))
 
   -- A place that is sought.
   module _ (fd : ℕ) (whence : Whence) (offset : ℤ)
@@ -140,8 +140,8 @@ module _ (t : Tree) (session : ℕ) (P : Effects → Type 0) (steps : IsClosed P
       at_position (with_node t found.1.inode (Some (with_body now (is_file (file_after_write g f (start found.1 f) bytes)) node))) found.0 found.1 (start found.1 f + length bytes)
 
   module _ (g : Geometry) (now fd : ℕ) (bytes : List ℕ)
-      (nothing : P (λ z. Ok (wrote 0, t)))
-      (each : (found : ℕ × OpenFile) (node : Node) (f : File) → IsOpenOf fd found node f → start found.1 f + length bytes ≤ most_size
+      (nothing : (found : ℕ × OpenFile) (node : Node) (f : File) → IsOpenOf fd found node f → length bytes ≡ 0 → P (λ z. Ok (wrote 0, t)))
+      (each : (found : ℕ × OpenFile) (node : Node) (f : File) → IsOpenOf fd found node f → length bytes ≤ most_bytes → start found.1 f + length bytes ≤ most_size
       → P (λ z. if_it_fits (with_zones z g) (wrote (length bytes)) (after_write g now found node f bytes))) where
     abbrev put_bytes : ℕ × OpenFile → Node → File → Effects
     put_bytes found node f z = if_it_fits (with_zones z g) (wrote (length bytes)) (after_write g now found node f bytes)
@@ -158,8 +158,8 @@ module _ (t : Tree) (session : ℕ) (P : Effects → Type 0) (steps : IsClosed P
     pub write_each : P (λ z. write (with_zones z g) t now session fd bytes)
     write_each = opened_each fd (λ found z. refuse_if (not (writes found.1.flags)) EBADF >>= λ _. write_few found z) (λ found opened.
         steps _ (refuse_if (not (writes found.1.flags)) EBADF) (λ _. write_few found) (plain_refuse _ _ refl) (λ _ _.
-        steps _ (refuse_if (nat_lt most_bytes (length bytes)) EINVAL) (λ _. at_file write_in EBADF found) (plain_refuse _ _ refl) (λ _ _.
+        steps _ (refuse_if (nat_lt most_bytes (length bytes)) EINVAL) (λ _. at_file write_in EBADF found) (plain_refuse _ _ refl) (λ y few.
         file_each fd write_in EBADF refl found opened (λ node f is.
         steps _ (refuse_if (nat_lt most_size (start found.1 f + length bytes)) EFBIG) (λ _. put_any found node f) (plain_refuse _ _ refl) (λ x fits.
-        at_test P (length bytes == 0) (λ z. Ok (wrote 0, t)) (put_bytes found node f) (λ _. nothing) (λ _.
-        each found node f is (ltb-false most_size (start found.1 f + length bytes) (passed _ _ x fits))))))))
+        at_test P (length bytes == 0) (λ z. Ok (wrote 0, t)) (put_bytes found node f) (λ none. nothing found node f is (eqb-true (length bytes) 0 none)) (λ _.
+        each found node f is (ltb-false most_bytes (length bytes) (passed _ _ y few)) (ltb-false most_size (start found.1 f + length bytes) (passed _ _ x fits))))))))

@@ -24,6 +24,7 @@ pub mod Spaced
 pub mod NeedGrows
 pub mod CallsKeep
 pub mod SpacedCalls
+pub mod OtherSessions
 pub mod RenameCall
 pub mod EveryCall
 pub mod OpenCall

@@ -119,7 +119,7 @@ module _ (g : Geometry) (sized : 0 < g.block_size) (t : Tree) (who : Who) (now :
       read_each t who.session (IsSpaced g t false false) (spaced_closed g t false false) fd count (λ found node f _.
       spaced_ok g t false false (λ _. some_bytes (bytes_read f found.1.position count)) _ (no_less (zones_used g t)) (no_more_itself t))
   call_spaced (Write fd bytes) =
-      write_each t who.session (IsSpaced g t true false) (spaced_closed g t true false) g now fd bytes.now (same true false (wrote 0)) (λ found node f is _.
+      write_each t who.session (IsSpaced g t true false) (spaced_closed g t true false) g now fd bytes.now (λ _ _ _ _ _. same true false (wrote 0)) (λ found node f is _ _.
       spaced_fit g t false (wrote (length bytes.now)) (after_write t who.session (IsSpaced g t true false) (spaced_closed g t true false) g now found node f bytes.now)
       (λ _. no_more_at t found.1.inode node _ is.there))
   call_spaced (Seek fd whence offset) =
@@ -160,7 +160,7 @@ module _ (g : Geometry) (sized : 0 < g.block_size) (t : Tree) (who : Who) (now :
   call_spaced (Truncate path size) =
       truncate_each t (user_of who) now (IsSpaced g t false false) (spaced_closed g t false false) g path.now size (λ n node f _ there body. changed false false done n node _ there (resized_less g now size node f body))
   call_spaced (Readdir fd) =
-      readdir_each t who.session (IsSpaced g t false false) (spaced_closed g t false false) fd (λ found node d _ _. same false false (names_are d.names))
+      readdir_each t who.session (IsSpaced g t false false) (spaced_closed g t false false) fd (λ found node d _ _ _. same false false (names_are d.names))
   call_spaced Sync = same false false done
   call_spaced Statfs =
       spaced_ok g t false false

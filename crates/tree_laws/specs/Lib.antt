@@ -1,3 +1,4 @@
 pub mod Keeps
 pub mod Room
 pub mod Zones
+pub mod Sessions
