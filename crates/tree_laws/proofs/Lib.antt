@@ -25,6 +25,8 @@ pub mod NeedGrows
 pub mod CallsKeep
 pub mod SpacedCalls
 pub mod OtherSessions
+pub mod SameName
+pub mod Listing
 pub mod RenameCall
 pub mod EveryCall
 pub mod OpenCall

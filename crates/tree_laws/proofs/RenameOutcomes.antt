@@ -57,6 +57,7 @@ module _ (g : Geometry) (t : Tree) (user : User) (now : ℕ) (old_path new_path 
   pub record IsMove (old new : Place) (n : ℕ) (node : Node) : Type 0 where
     pub old_parts : List Name
     pub new_parts : List Name
+    pub read_old : read_path old_path ≡ Ok old_parts
     pub read : read_path new_path ≡ Ok new_parts
     pub last : has_last_name new_parts ≡ true
     pub from : parent_walk t user old_parts ≡ Ok old
@@ -150,7 +151,7 @@ module _ (g : Geometry) (t : Tree) (user : User) (now : ℕ) (old_path new_path 
 
     pub rename_each : P (λ z. rename (with_zones z g) t user now old_path new_path)
     rename_each =
-        steps _ (read_path old_path) at_old_read (plain_read old_path) (λ old_parts _.
+        steps _ (read_path old_path) at_old_read (plain_read old_path) (λ old_parts read_old.
         steps _ (read_path new_path) (at_parts old_parts) (plain_read new_path) (λ new_parts read.
         steps _ (refuse_if (not (has_last_name old_parts) || not (has_last_name new_parts)) EINVAL) (λ _. at_last old_parts new_parts) (plain_refuse _ _ refl) (λ x last.
         steps _ (parent_walk t user old_parts) (at_old new_parts) (plain_parent_walk t user old_parts) (λ old from.
@@ -164,6 +165,6 @@ module _ (g : Geometry) (t : Tree) (user : User) (now : ℕ) (old_path new_path 
         at_test P (is_same n (inode_of new.names new.name)) (λ z. Ok (done, t)) (at_other_node old new n node) (λ _. same) (λ differs.
         steps _ (refuse_if (is_dir node && is_within g t new.directory n) EINVAL) (λ _. at_place old new n node) (plain_refuse _ _ refl) (λ y within.
         onto_each old new n node (record {
-          old_parts = old_parts; new_parts = new_parts; read = read; last = not-false _ (or_parts _ (not (has_last_name new_parts)) (passed _ _ x last)).1;
+          old_parts = old_parts; new_parts = new_parts; read_old = read_old; read = read; last = not-false _ (or_parts _ (not (has_last_name new_parts)) (passed _ _ x last)).1;
           from = from; to = to; found = was_there _ _ _ found; there = was_there _ _ _ node_is;
         }) (passed _ _ y within) (inode_of new.names new.name) refl differs)))))))))))))

@@ -58,7 +58,7 @@ ReaddirLists =
 -- After a write, and a seek back to where its bytes begin, a read of so many bytes by the same descriptor gives them.
 abbrev pub ReadGivesWritten : Type 0
 ReadGivesWritten =
-    (g : Geometry) (t after : Tree) (who : Who) (now later last fd at number : ℕ) (file : OpenFile) (bytes : Bor (List ℕ))
+    (g : Geometry) (t after : Tree) (who : Who) (now later last fd at number : ℕ) (file : OpenFile) (bytes : Bor (List ℕ)) → IsTree g t
     → effect_of g t who now (Write fd bytes) ≡ Ok (wrote (length bytes.now), after)
     → open_file_of after who.session fd ≡ Ok (number, file) → reads file.flags ≡ true → file.position ≡ at + length bytes.now
     → reply_to g (tree_after_call g after who later (Seek fd Set (pos at))) who last (Read fd (length bytes.now)) ≡ some_bytes bytes.now
