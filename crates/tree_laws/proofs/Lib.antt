@@ -27,6 +27,7 @@ pub mod SpacedCalls
 pub mod OtherSessions
 pub mod SameName
 pub mod Listing
+pub mod ReadBack
 pub mod RenameCall
 pub mod EveryCall
 pub mod OpenCall

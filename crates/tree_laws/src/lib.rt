@@ -1,8 +1,10 @@
-//! Laws of the file tree: every client call keeps a tree a tree.
+//! Laws of the file tree: every client call keeps a tree a tree and keeps to the room on its volume, and what a server and its
+//! clients may rest on from call to call. Each law is the contract of a function that does nothing.
 #![tactic(auto)]
 
 ghost use Rattle.tree_laws.specs.Keeps.{ChmodKeeps, ChownKeeps, UtimeKeeps, SeekKeeps, ReadKeeps, DupKeeps, CloseKeeps, WriteKeeps, TruncateKeeps, UnlinkKeeps, LinkKeeps, MkdirKeeps, RmdirKeeps, OpenKeeps, RenameKeeps, EveryCallKeeps};
 ghost use Rattle.tree_laws.specs.Room.{EveryCallFits, TooBigIsRefused, EnospcMeans, FullMakesNone, OthersHaveRoom};
+ghost use Rattle.tree_laws.specs.Sessions.{OtherSessionsStay, RenameOfSameStays, ReaddirLists, ReadGivesWritten};
 ghost use Rattle.tree_laws.specs.Zones.{NeedIsMonotone, NeedGrows, OnePageMore, PagesLetGo};
 
 /// The calls that set attributes keep a tree a tree.
@@ -81,4 +83,24 @@ pub fn need_changes()
     ensures more { NeedGrows }
     ensures one { OnePageMore }
     ensures let_go { PagesLetGo }
+{}
+
+/// No call of one session changes another's descriptors.
+pub fn other_sessions_stay()
+    ensures { OtherSessionsStay }
+{}
+
+/// A rename of one name of a node onto another name of it changes nothing.
+pub fn rename_of_same_stays()
+    ensures { RenameOfSameStays }
+{}
+
+/// A readdir that succeeds lists exactly the names of the directory, in the order of their bytes, each once.
+pub fn readdir_lists()
+    ensures { ReaddirLists }
+{}
+
+/// After a write, and a seek back to where its bytes begin, a read of as many bytes by the same descriptor gives them.
+pub fn read_gives_written()
+    ensures { ReadGivesWritten }
 {}
