@@ -22,7 +22,7 @@ use Rattle.tree.specs.Effects.{user_of, effect_in_session, tree_after_call}
 use Rattle.tree_laws.specs.Keeps.{LinkKeeps, MkdirKeeps, RmdirKeeps}
 use Rattle.tree_laws.proofs.Steps.{tree_after, passed, step}
 use Rattle.tree_laws.proofs.Places.{is_place}
-use Rattle.tree_laws.proofs.ByteCalls.{taken_if_it_fits}
+use Rattle.tree_laws.proofs.Keeping.{Keeps, keeps_closed, in_session, taken_if_it_fits}
 use Rattle.tree_laws.proofs.Shapes.{kind_of, links_of}
 use Rattle.tree_laws.proofs.Outcomes.{Effects, IsClosed, with_zones}
 use Rattle.tree_laws.proofs.NameOutcomes.{IsLinkMade, link_each, IsDirectoryMade, mkdir_each, IsDirectoryGone, rmdir_each}
@@ -30,25 +30,6 @@ use Rattle.tree_laws.proofs.NewPlaces.{IsNewPlace, new_place}
 use Rattle.tree_laws.proofs.Linked.{linked}
 use Rattle.tree_laws.proofs.Made.{made_is_tree}
 use Rattle.tree_laws.proofs.Gone.{empty_weighs, gone_is_tree}
-
--- the effect keeps a tree a tree, on the volume as it is
-abbrev pub Keeps : Geometry → Tree → Effects → Type 0
-Keeps g t F = IsTree g (tree_after t (F g.zones))
-
-pub keeps_closed : (g : Geometry) (t : Tree) → IsTree g t → IsClosed (Keeps g t)
-keeps_closed g t base A (Ok x) f plain h = h x refl
-keeps_closed g t base A (Err e) f plain h = base
-
--- what is kept on each number of zones is kept on the volume as it is
-pub as_it_is : (g : Geometry) (t : Tree) (F : Geometry → Effect) → Keeps g t (λ z. F (with_zones z g)) → IsTree g (tree_after t (F g))
-as_it_is g t F h = h
-
--- a call in a session that may be
-pub in_session : (g : Geometry) (t : Tree) (who : Who) (now : ℕ) (call : Call) → IsTree g t
-    → (who.session < most_sessions → IsTree g (tree_after t (effect_in_session g t who now call))) → IsTree g (tree_after_call g t who now call)
-in_session g t who now call base h =
-    step g t (refuse_if (nat_le most_sessions who.session) EINVAL) (λ _. effect_in_session g t who now call) base (λ x allowed.
-    h (leb-false most_sessions who.session (passed _ _ x allowed)))
 
 pub link_keeps : LinkKeeps
 link_keeps g t who now old new is small bytes tree = in_session g t who now (Link old new) tree (λ _.

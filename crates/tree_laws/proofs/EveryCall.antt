@@ -10,7 +10,7 @@ use Rattle.tree_laws.proofs.AttributeCalls.{chmod_keeps, chown_keeps, utime_keep
 use Rattle.tree_laws.proofs.OpenFileCalls.{seek_keeps, read_keeps, dup_keeps}
 use Rattle.tree_laws.proofs.Closed.{close_keeps}
 use Rattle.tree_laws.proofs.ByteCalls.{write_keeps, truncate_keeps}
-use Rattle.tree_laws.proofs.UnlinkCall.{unlink_keeps}
+use Rattle.tree_laws.proofs.Unlinked.{unlink_keeps}
 use Rattle.tree_laws.proofs.CallsKeep.{link_keeps, mkdir_keeps, rmdir_keeps}
 use Rattle.tree_laws.proofs.OpenCall.{open_keeps}
 use Rattle.tree_laws.proofs.RenameCall.{rename_keeps}

@@ -1,6 +1,7 @@
 pub mod Names
 pub mod Search
 pub mod Steps
+pub mod Keeping
 pub mod OpenFiles
 pub mod FileBodies
 pub mod OpenFileCalls
@@ -49,6 +50,5 @@ pub mod FileNames
 pub mod NewDirectory
 pub mod GoneDirectory
 pub mod MovedDirectory
-pub mod UnlinkCall
 pub mod Kept
 pub mod AttributeCalls

@@ -16,7 +16,7 @@ use Rattle.tree_laws.proofs.Freed.{no_names}
 use Rattle.tree_laws.proofs.Weights.{weigh}
 use Rattle.tree_laws.proofs.OpenFiles.{alike_put}
 use Rattle.tree_laws.proofs.Places.{IsPlace}
-use Rattle.tree_laws.proofs.Totals.{one_for, one_for_itself, none_for_other, only_at, only_here, only_elsewhere, only_nothing, sum_gained}
+use Rattle.tree_laws.proofs.Totals.{one_for, only_one, one_for_itself, none_for_other, only_at, only_here, only_elsewhere, only_nothing, sum_gained}
 use Rattle.tree_laws.proofs.Shapes.{kind_of, links_of, weight, total, IsShape, AllFit, shape_of, all_fit, links_fit, shaped_agree, no_parent_of, is_there}
 use Rattle.tree_laws.proofs.NewDirectory.{directory_inside}
 use Rattle.tree_laws.proofs.FileNames.{file_names_change}
@@ -97,12 +97,6 @@ module _ (g : Geometry) (is_geometry : IsGeometry g) (t : Tree) (tree : IsTree g
   not_n : (m : ℕ) → kind_of (t.nodes m) ≡ true → m ≢ n
   not_n m h e = not_true (sym file ∙ ap (λ k. kind_of (t.nodes k)) (sym e) ∙ h)
 
-  one_more : (m : ℕ) → only_at n 1 m ≡ one_for m n
-  one_more m = elim (cases_eq m n) [
-    | inl e ↦ only_here n 1 m e ∙ sym (ap (λ k. one_for k n) e ∙ one_for_itself n)
-    | inr e ↦ only_elsewhere n 1 m e ∙ sym (none_for_other m n (λ q. e (sym q)))
-  ]
-
   shape : IsShape g after.nodes
   shape = file_names_change g t.nodes after.nodes F
       (λ m h. elim (cases_eq m n) [ inl e ↦ (omega (arith, from, e), omega (arith, to, e)) | inr e ↦ F.inside m (sym (some_other m e) ∙ h) ])
@@ -116,7 +110,7 @@ module _ (g : Geometry) (is_geometry : IsGeometry g) (t : Tree) (tree : IsTree g
       kind parent
       (λ w vanishes m. let is = weights w m in let none = only_nothing d (w n) m (vanishes n file) in omega (arith, is, none))
       (λ m h. let is = links m in let none = only_elsewhere n 1 m (not_n m h) in omega (arith, is, none))
-      (λ m h. let is = links m in let was = F.file_links m h in let one = one_more m in let all = totals m in omega (arith, is, was, one, all))
+      (λ m h. let is = links m in let was = F.file_links m h in let one = only_one n m in let all = totals m in omega (arith, is, was, one, all))
 
   links_few : (m : ℕ) → links_of (after.nodes m) ≤ most_links
   links_few m = elim (cases_eq m n) [

@@ -17,7 +17,7 @@ use Rattle.tree.proofs.Maps.{put-other, not_true, same_sum}
 use Rattle.tree_laws.proofs.Places.{IsPlace}
 use Rattle.tree_laws.proofs.Weights.{weigh}
 use Rattle.tree_laws.proofs.Freed.{part_below, without_nameless_is_tree}
-use Rattle.tree_laws.proofs.Totals.{one_for, one_for_itself, none_for_other, only_at, only_here, only_elsewhere, only_nothing, sum_gained, sum_moved, weigh_found}
+use Rattle.tree_laws.proofs.Totals.{one_for, only_one, one_for_itself, none_for_other, only_at, only_here, only_elsewhere, only_nothing, sum_gained, sum_moved, weigh_found}
 use Rattle.tree_laws.proofs.Shapes.{kind_of, links_of, weight, total, IsShape, AllFit, shape_of, links_fit, shaped_agree, no_parent_of, is_there, has_names}
 use Rattle.tree_laws.proofs.NewDirectory.{directory_inside}
 use Rattle.tree_laws.proofs.FileNames.{file_names_change}
@@ -164,12 +164,6 @@ module _ (g : Geometry) (is : IsGeometry g) (t : Tree) (tree : IsTree g t) (now 
             (λ x. let w = lost_weights (one_for m) x in omega (arith, w)) in
         omega (arith, a, b)
 
-    one_less : (m : ℕ) → only_at q 1 m ≡ one_for m q
-    one_less m = elim (cases_eq m q) [
-      | inl e ↦ only_here q 1 m e ∙ sym (ap (λ k. one_for k q) e ∙ one_for_itself q)
-      | inr e ↦ only_elsewhere q 1 m e ∙ sym (none_for_other m q (λ x. e (sym x)))
-    ]
-
     lost_shape : IsShape g lost.nodes
     lost_shape = file_names_change g t.nodes lost.nodes shape
         (λ m h. shape.inside m (sym (lost_some m) ∙ h))
@@ -197,7 +191,7 @@ module _ (g : Geometry) (is : IsGeometry g) (t : Tree) (tree : IsTree g t) (now 
         let same = lost_links m in
         let due = shape.file_links m h in
         let all = lost_totals m in
-        let one = one_less m in
+        let one = only_one q m in
         omega (arith, same, due, all, one))
 
     d_not_q : d ≢ q

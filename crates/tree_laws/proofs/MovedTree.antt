@@ -16,7 +16,7 @@ use Rattle.tree.specs.NameCalls.{without_entry, without_moved, with_moved}
 use Rattle.tree.proofs.Maps.{put-same, put-other, not_true}
 use Rattle.tree_laws.proofs.Places.{IsPlace}
 use Rattle.tree_laws.proofs.Weights.{weigh}
-use Rattle.tree_laws.proofs.Totals.{one_for, one_for_itself, none_for_other, only_at, only_here, only_elsewhere, only_nothing, weigh_found}
+use Rattle.tree_laws.proofs.Totals.{one_for, only_few, one_for_itself, none_for_other, only_at, only_here, only_elsewhere, only_nothing, weigh_found}
 use Rattle.tree_laws.proofs.Shapes.{kind_of, links_of, weight, IsShape, AllFit, shape_of, links_fit, shaped_agree, is_there, has_names}
 use Rattle.tree_laws.proofs.NewDirectory.{directory_inside}
 use Rattle.tree_laws.proofs.GoneDirectory.{way}
@@ -131,12 +131,9 @@ module _ (g : Geometry) (is : IsGeometry g) (t : Tree) (tree : IsTree g t) (now 
           | inr other ↦ let nothing = only_elsewhere d 1 m other in was_nameless m (links_of (after.nodes m)) zero (omega (arith, same, nothing)) h
           | inl here ↦
               let two = two_links m (ap (λ k. kind_of (t.nodes k)) here ∙ d_is) in
-              let at_p = at_most_one m in
+              let at_p = only_few p 1 m in
               absurd (omega (arith, zero, same, two, at_p))
         ])
-      where
-        at_most_one : (m : ℕ) → only_at p 1 m ≤ 1
-        at_most_one m = elim (cases_eq m p) [ inl e ↦ let one = only_here p 1 m e in omega (arith, one) | inr e ↦ let none = only_elsewhere p 1 m e in omega (arith, none) ]
 
   -- To the place of q, an empty directory.
   module _ (q : ℕ) (differs : n ≢ q) (taken : inode_of new.names new.name ≡ Some q) (q_directory : kind_of (t.nodes q) ≡ true)
@@ -207,12 +204,9 @@ module _ (g : Geometry) (is : IsGeometry g) (t : Tree) (tree : IsTree g t) (now 
         let two = two_links d d_is in
         let same = links d in
         let one = only_here d 1 d refl in
-        let at_p = at_most_one d in
+        let at_p = only_few p 1 d in
         let here : links_of (after.nodes d) ≡ x.links = ap links_of e in
         omega (arith, two, same, one, at_p, here)) m
-      where
-        at_most_one : (m : ℕ) → only_at p 1 m ≤ 1
-        at_most_one m = elim (cases_eq m p) [ inl e ↦ let one = only_here p 1 m e in omega (arith, one) | inr e ↦ let none = only_elsewhere p 1 m e in omega (arith, none) ]
 
     -- against the tree before
     links_before : (m : ℕ) → m ≢ q → links_of (final.nodes m) + only_at p 1 m ≡ links_of (t.nodes m)

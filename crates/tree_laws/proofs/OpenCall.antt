@@ -24,14 +24,14 @@ use Rattle.tree_laws.specs.Keeps.{OpenKeeps}
 use Rattle.tree_laws.proofs.Steps.{both_steps, ok_is}
 use Rattle.tree_laws.proofs.Places.{is_place}
 use Rattle.tree_laws.proofs.FileBodies.{resized_fits}
-use Rattle.tree_laws.proofs.ByteCalls.{taken_if_it_fits, file_fits, file_changed}
+use Rattle.tree_laws.proofs.ByteCalls.{file_fits, file_changed}
 use Rattle.tree_laws.proofs.Shapes.{kind_of, links_of}
 use Rattle.tree_laws.proofs.NewPlaces.{none_there, last_named}
 use Rattle.tree_laws.proofs.NewlyOpen.{IsFreeSlot, opened_is_tree}
 use Rattle.tree_laws.proofs.OpenOutcomes.{IsAsked, IsThere, IsMissing, open_each}
 use Rattle.tree_laws.proofs.TreeOver.{IsOver}
 use Rattle.tree_laws.proofs.Linked.{linked}
-use Rattle.tree_laws.proofs.CallsKeep.{Keeps, keeps_closed, in_session}
+use Rattle.tree_laws.proofs.Keeping.{Keeps, keeps_closed, in_session, taken_if_it_fits}
 
 -- What a name that is missing tells.
 pub record IsMissingAt (t : Tree) (user : User) (parts : List Name) (place : Place) : Type 0 where

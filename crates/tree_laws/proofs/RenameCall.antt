@@ -20,7 +20,6 @@ use Rattle.tree.proofs.Maps.{not_true}
 use Rattle.tree_laws.specs.Keeps.{RenameKeeps}
 use Rattle.tree_laws.proofs.Steps.{tree_after}
 use Rattle.tree_laws.proofs.Places.{IsPlace, is_place}
-use Rattle.tree_laws.proofs.ByteCalls.{taken_if_it_fits}
 use Rattle.tree_laws.proofs.Shapes.{kind_of, shape_of}
 use Rattle.tree_laws.proofs.TreeOver.{place_kind}
 use Rattle.tree_laws.proofs.NewPlaces.{last_named}
@@ -29,7 +28,7 @@ use Rattle.tree_laws.proofs.Pigeonhole.{never_above}
 use Rattle.tree_laws.proofs.RenameOutcomes.{IsMove, IsMoveToFree, IsMoveOnto, rename_each}
 use Rattle.tree_laws.proofs.MovedFile.{file_moved, file_moved_onto}
 use Rattle.tree_laws.proofs.MovedTree.{directory_moved, directory_moved_onto}
-use Rattle.tree_laws.proofs.CallsKeep.{Keeps, keeps_closed, as_it_is, in_session}
+use Rattle.tree_laws.proofs.Keeping.{Keeps, keeps_closed, as_it_is, in_session, taken_if_it_fits}
 
 -- the second part of a test that fails, where the first holds
 second_fails : (a b : Bool) → (a && b) ≡ false → a ≡ true → b ≡ false

@@ -36,6 +36,15 @@ only_elsewhere d x m e = cond-false (m == d) x 0 (ne_eqb m d e)
 pub only_nothing : (d x m : ℕ) → x ≡ 0 → only_at d x m ≡ 0
 only_nothing d x m z = elim (cases_eq m d) [ inl e ↦ only_here d x m e ∙ z | inr e ↦ only_elsewhere d x m e ]
 
+pub only_few : (d x m : ℕ) → only_at d x m ≤ x
+only_few d x m = elim (cases_eq m d) [ inl e ↦ let all = only_here d x m e in omega (arith, all) | inr e ↦ let none = only_elsewhere d x m e in omega (arith, none) ]
+
+pub only_one : (n m : ℕ) → only_at n 1 m ≡ one_for m n
+only_one n m = elim (cases_eq m n) [
+  | inl e ↦ only_here n 1 m e ∙ sym (ap (λ k. one_for k n) e ∙ one_for_itself n)
+  | inr e ↦ only_elsewhere n 1 m e ∙ sym (none_for_other m n (λ x. e (sym x)))
+]
+
 -- Sums over the names.
 
 pub weigh_same : (w v : ℕ → ℕ) → ((k : ℕ) → w k ≡ v k) → (es : Names) → weigh w es ≡ weigh v es

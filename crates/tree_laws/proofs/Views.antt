@@ -17,7 +17,7 @@ use Rattle.tree_laws.proofs.Places.{from_true, without_name_fits}
 use Rattle.tree_laws.proofs.Weights.{weigh, weigh_with_name, weigh_without_name}
 use Rattle.tree_laws.proofs.Totals.{only_at, only_here, only_elsewhere, weigh_one}
 use Rattle.tree_laws.proofs.Entries.{with_name_fits, weigh_with_name_over}
-use Rattle.tree_laws.proofs.Shapes.{Nodes, kind_of, links_of, weight, AllFit}
+use Rattle.tree_laws.proofs.Shapes.{Nodes, is_there, kind_of, links_of, weight, AllFit}
 
 -- Any map with one place changed.
 
@@ -124,10 +124,6 @@ module _ (t : Tree) (d now : ℕ) (F : Names → Names) where
   pub links_named : (m : ℕ) → links_of ((on_node t d (with_names now F)).nodes m) ≡ links_of (t.nodes m)
   links_named = view_kept links_of t d (with_names now F) (λ node. names_kept links_of now F (λ x y. refl) node.body node)
 
-some_directory : (o : Option Node) → kind_of o ≡ true → IsTrue (is_some o)
-some_directory None h = absurd (not_true h)
-some_directory (Some node) h = refl
-
 -- A name more, or the same name of another node.
 module _ (t : Tree) (now : ℕ) (place : Place) (n : ℕ) (directory : kind_of (t.nodes place.directory) ≡ true) where
   abbrev F : Names → Names
@@ -141,7 +137,7 @@ module _ (t : Tree) (now : ℕ) (place : Place) (n : ℕ) (directory : kind_of (
   pub weight_with : inode_of (names_of (t.nodes place.directory)) place.name ≡ None
       → (w : ℕ → ℕ) (m : ℕ) → weight (with_entry t now place n).nodes w m ≡ weight t.nodes w m + only_at place.directory (w n) m
   weight_with free w =
-      view_gained (λ o. weigh w (names_of o)) t place.directory (with_names now F) (w n) (some_directory _ directory)
+      view_gained (λ o. weigh w (names_of o)) t place.directory (with_names now F) (w n) (is_there _ directory)
       (λ node e. more_in w node.body node (ap kind_of (sym e) ∙ directory) (ap (λ o. inode_of (names_of o) place.name) (sym e) ∙ free))
 
   pub fits_with : (g : Geometry) → now < 2 ^ 32 → is_name place.name ≡ true → 64 * (weight (with_entry t now place n).nodes (λ _. 1) place.directory + 2) ≤ most_size
@@ -203,7 +199,7 @@ module _ (g : Geometry) (t : Tree) (now : ℕ) (place : Place) (n : ℕ) (fits :
 
   pub weight_without : (w : ℕ → ℕ) (m : ℕ) → weight t.nodes w m ≡ weight (without_entry t now place).nodes w m + only_at place.directory (w n) m
   weight_without w =
-      view_lost (λ o. weigh w (names_of o)) t place.directory (with_names now L) (w n) (some_directory _ directory)
+      view_lost (λ o. weigh w (names_of o)) t place.directory (with_names now L) (w n) (is_there _ directory)
       (λ node e. less_in w node.body node (fits place.directory node e) (ap (λ o. inode_of (names_of o) place.name) (sym e) ∙ found))
 
   pub fits_without : now < 2 ^ 32 → AllFit g (without_entry t now place).nodes
