@@ -1,5 +1,5 @@
 -- The calls that set attributes keep a tree a tree.
-use Rattle.std.proofs.Common.{◌≡◌, ◌<◌, ◌≤◌, ◌^◌, ℕ, refl, ap}
+use Rattle.std.proofs.Common.{◌≡◌, ℕ, refl, ap}
 use Rattle.std.specs.Prelude.{Some}
 use Rattle.layout.specs.declared.Geometry.{Geometry}
 use Rattle.tree.specs.declared.Call.TheVariants.{Chmod, Chown, Utime}

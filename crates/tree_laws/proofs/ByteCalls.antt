@@ -14,7 +14,7 @@ use Rattle.tree_laws.proofs.FileBodies.{written_fits, resized_fits}
 use Rattle.tree_laws.proofs.OpenFiles.{position_kept}
 use Rattle.tree_laws.proofs.NodeOutcomes.{truncate_each}
 use Rattle.tree_laws.proofs.FileOutcomes.{write_each, start, after_write}
-use Rattle.tree_laws.proofs.Keeping.{Keeps, keeps_closed, as_it_is, in_session, taken_if_it_fits}
+use Rattle.tree_laws.proofs.Keeping.{Keeps, keeps_closed, in_session, taken_if_it_fits}
 
 pub file_fits : (g : Geometry) (node : Node) (f : File) → IsNode g node → node.body ≡ is_file f → IsFile g f
 file_fits g node f fits is = subst (λ b. IsBody g b) is fits.body

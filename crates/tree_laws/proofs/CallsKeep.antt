@@ -1,32 +1,18 @@
 -- Link, mkdir and rmdir keep a tree a tree.
-use Rattle.std.proofs.Common.{◌≡◌, ◌<◌, ◌≤◌, ◌+◌, ◌^◌, ℕ, List, Bool, true, false, refl, sym, ap, subst, ◌∙◌, arith}
-use Rattle.std.specs.Prelude.{Option, None, Some, is_some, Result, Ok, Err, nat_le}
-use Rattle.std.specs.List.{All}
-use Rattle.std.proofs.lemmas.Bool.{leb-false}
-use Rattle.layout.specs.declared.Geometry.{Geometry}
-use Rattle.layout.specs.Places.{IsGeometry}
-use Rattle.errno.specs.declared.Errno.{Errno}
-use Rattle.errno.specs.declared.Errno.TheVariants.{EINVAL}
-use Rattle.tree.specs.declared.Who.{Who}
-use Rattle.tree.specs.declared.Call.{Call}
+use Rattle.std.proofs.Common.{◌<◌, ◌+◌, sym, ap, subst, ◌∙◌, arith}
+use Rattle.std.specs.Prelude.{Some, is_some}
 use Rattle.tree.specs.declared.Call.TheVariants.{Link, Mkdir, Rmdir}
-use Rattle.tree.specs.IsCall.{IsCaller}
-use Rattle.tree.specs.Tree.{Node, Tree, with_node, on_node, most_sessions}
-use Rattle.tree.specs.IsTree.{IsNode, IsTree}
-use Rattle.tree.specs.Refusals.{◌>>=◌, refuse_if}
-use Rattle.tree.specs.Walk.{Place}
+use Rattle.tree.specs.Tree.{with_node, on_node}
 use Rattle.tree.specs.Changes.{with_ctime, more_links, new_node, empty_directory}
-use Rattle.tree.specs.Answers.{done, Effect}
+use Rattle.tree.specs.Answers.{done}
 use Rattle.tree.specs.NameCalls.{with_entry}
-use Rattle.tree.specs.Effects.{user_of, effect_in_session, tree_after_call}
+use Rattle.tree.specs.Effects.{user_of}
 use Rattle.tree_laws.specs.Keeps.{LinkKeeps, MkdirKeeps, RmdirKeeps}
-use Rattle.tree_laws.proofs.Steps.{tree_after, passed, step}
 use Rattle.tree_laws.proofs.Places.{is_place}
 use Rattle.tree_laws.proofs.Keeping.{Keeps, keeps_closed, in_session, taken_if_it_fits}
 use Rattle.tree_laws.proofs.Shapes.{kind_of, links_of}
-use Rattle.tree_laws.proofs.Outcomes.{Effects, IsClosed, with_zones}
-use Rattle.tree_laws.proofs.NameOutcomes.{IsLinkMade, link_each, IsDirectoryMade, mkdir_each, IsDirectoryGone, rmdir_each}
-use Rattle.tree_laws.proofs.NewPlaces.{IsNewPlace, new_place}
+use Rattle.tree_laws.proofs.NameOutcomes.{link_each, mkdir_each, rmdir_each}
+use Rattle.tree_laws.proofs.NewPlaces.{new_place}
 use Rattle.tree_laws.proofs.Linked.{linked}
 use Rattle.tree_laws.proofs.Made.{made_is_tree}
 use Rattle.tree_laws.proofs.Gone.{empty_weighs, gone_is_tree}

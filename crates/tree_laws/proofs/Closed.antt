@@ -1,17 +1,13 @@
 -- Close keeps a tree a tree: the descriptor goes, its open file with the last one, and a file without a name with its last open file.
 use Rattle.std.proofs.Common.{◌≡◌, ◌≢◌, ℕ, true, false, refl, sym, ap, ◌∙◌}
 use mathlib.Core.Logic.{inl, inr}
-use Rattle.std.specs.Prelude.{Option, None, Some, is_some, Ok, IsTrue, nat_le}
+use Rattle.std.specs.Prelude.{Option, None, Some, is_some, IsTrue}
 use Rattle.std.proofs.lemmas.Bool.{cases_eq, cond_both, eqb-true}
 use Rattle.layout.specs.declared.Geometry.{Geometry}
-use Rattle.errno.specs.declared.Errno.TheVariants.{EINVAL}
 use Rattle.tree.specs.declared.Call.TheVariants.{Close}
-use Rattle.tree.specs.Tree.{OpenFile, Tree, opens, is_open, has_descriptor, with_open_file, with_descriptor, most_sessions, most_open_files}
+use Rattle.tree.specs.Tree.{OpenFile, Tree, opens, is_open, has_descriptor, with_open_file, with_descriptor, most_open_files}
 use Rattle.tree.specs.IsTree.{IsTree}
-use Rattle.tree.specs.Refusals.{◌>>=◌, refuse_if}
-use Rattle.tree.specs.Changes.{open_file_of, without_unused, without_nameless}
-use Rattle.tree.specs.Answers.{done}
-use Rattle.tree.specs.FileCalls.{close}
+use Rattle.tree.specs.Changes.{without_unused, without_nameless}
 use Rattle.tree_laws.specs.Keeps.{CloseKeeps}
 use Rattle.tree.proofs.Maps.{put-same, put-other, not_nothing, not_true, is_the_one}
 use Rattle.tree_laws.proofs.Search.{found_below, one_below}
@@ -80,9 +76,12 @@ module _ (g : Geometry) (t : Tree) (session fd k : ℕ) (o : OpenFile) (led : t.
       numbers = λ j e. tree.open_files.numbers j (some_left j e).1;
       each = λ j x e. let old = tree.open_files.each j x (left j x e).1 in record { node = old.node; position = old.position; flags = old.flags; not_a_directory = old.not_a_directory };
       descriptors = λ s f j e.
-          let old = tree.open_files.descriptors s f j (was s f j e) in
-          (old.0, old.1, ap is_some (put-other t.open_files k None j (λ is.
-          not_true (sym h ∙ held less.descriptors k (record { session = s; fd = f; session_in = old.0; fd_in = old.1; leads = e ∙ ap Some is })))) ∙ old.2);
+          let old = tree.open_files.descriptors s f j (was s f j e) in (
+            old.0,
+            old.1,
+            ap is_some (put-other t.open_files k None j (λ is.
+                not_true (sym h ∙ held less.descriptors k (record { session = s; fd = f; session_in = old.0; fd_in = old.1; leads = e ∙ ap Some is })))) ∙ old.2,
+          );
       in_use = λ j e. let it = some_left j e in others_held j it.0 it.1;
     };
     nameless = λ m x e l d. still_open m d (tree.nameless m x e l);

@@ -1,7 +1,7 @@
 -- A directory with one name more, or with another node under a name.
-use Rattle.std.proofs.Common.{◌≡◌, ◌≤◌, ◌+◌, ◌*◌, ℕ, Bool, true, false, refl, sym, ap, ◌∙◌, arith, [], ◌∷◌, length, cond}
+use Rattle.std.proofs.Common.{◌≡◌, ◌≤◌, ◌+◌, ◌*◌, ℕ, true, false, refl, sym, ap, ◌∙◌, arith, [], ◌∷◌, length, cond}
 use mathlib.Core.Logic.{inl, inr}
-use Rattle.std.specs.Prelude.{T, Option, None, Some, is_some, not}
+use Rattle.std.specs.Prelude.{T, None, Some, not}
 use Rattle.std.specs.List.{list_all}
 use Rattle.std.specs.Ordering.{eq_by_cmp, is_eq}
 use Rattle.std.specs.declared.cmp.Ordering.TheVariants.{Less, Equal, Greater}

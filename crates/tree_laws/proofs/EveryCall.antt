@@ -1,7 +1,5 @@
 -- Every client call keeps a tree a tree.
 use Rattle.std.proofs.Common.{refl, sym, subst}
-use Rattle.layout.specs.declared.Geometry.{Geometry}
-use Rattle.tree.specs.declared.Who.{Who}
 use Rattle.tree.specs.declared.Call.TheVariants.{Open, Close, Dup, Read, Write, Seek, Stat, Fstat, Link, Unlink, Mkdir, Rmdir, Rename, Chmod, Chown, Utime, Truncate, Readdir, Sync, Statfs}
 use Rattle.tree.specs.IsTree.{IsTree}
 use Rattle.tree.proofs.Leaves.{looks_leave}

@@ -1,20 +1,20 @@
 -- Fewer held pages need no more zones, and nodes that hold fewer use no more.
-use Rattle.std.proofs.Common.{◌≡◌, ◌≤◌, ◌<◌, ◌+◌, ◌-◌, ◌*◌, ◌/◌, ℕ, zero, suc, Bool, true, false, refl, sym, ap, subst, ◌∙◌, arith, [], ◌∷◌, length}
+use Rattle.std.proofs.Common.{◌≡◌, ◌≤◌, ◌<◌, ◌+◌, ◌-◌, ◌*◌, ℕ, zero, suc, Bool, true, false, refl, ap, ◌∙◌, arith, [], ◌∷◌, length}
 use mathlib.Core.Logic.{inl, inr}
 use Rattle.std.specs.Prelude.{Option, None, Some, nat_lt, not, ◌&&◌, if◌then◌else◌}
 use Rattle.std.specs.Ordering.{eq_by_cmp}
 use Rattle.std.proofs.Math.Nat.{div-mul-le_self, le-div_iff_mul-le}
-use Rattle.std.proofs.lemmas.Bool.{cases_eq, cases_Bool, cond_both, cond-true, cond-false, and_parts, ltb-true, lt-ltb}
+use Rattle.std.proofs.lemmas.Bool.{cases_eq, cond_both, cond-true, and_parts, ltb-true, lt-ltb}
 use Rattle.layout.specs.declared.Geometry.{Geometry}
 use Rattle.tree.specs.Sums.{sum_below, count_below, some_below, one_if, put}
-use Rattle.tree.specs.ZonesNeeded.{page_limit, from_page, quotients, single_blocks, double_blocks, triple_blocks, zones_needed}
+use Rattle.tree.specs.ZonesNeeded.{page_limit, from_page, quotients, zones_needed}
 use Rattle.tree.specs.Names.{Name, Names, name_cmp, without_name}
-use Rattle.tree.specs.Tree.{Body, File, Directory, is_file, is_directory, Node, Tree, size_of, with_node, on_node, is_open}
-use Rattle.tree.specs.Space.{numbers_in_zone, pages_of, held_of, zones_of, zones_used}
+use Rattle.tree.specs.Tree.{Body, File, is_file, is_directory, Node, Tree, size_of, with_node, on_node, is_open}
+use Rattle.tree.specs.Space.{numbers_in_zone, pages_of, zones_of, zones_used}
 use Rattle.tree.specs.Walk.{Place}
 use Rattle.tree.specs.Changes.{with_names, with_body, without_nameless, has_no_link, file_after_resize}
 use Rattle.tree.specs.NameCalls.{without_entry}
-use Rattle.tree.proofs.Maps.{put-same, put-other, not_true}
+use Rattle.tree.proofs.Maps.{put-same, put-other}
 use Rattle.tree_laws.proofs.Search.{found_below, one_below}
 use Rattle.tree_laws.proofs.Views.{on_node_is}
 
@@ -49,15 +49,15 @@ fewer_needed n fewer more less =
     let pages = count_less fewer more (page_limit n) less in
     let single = one_if_less (some_below (from_page 7 fewer) n) (some_below (from_page 7 more) n) (some_less (from_page 7 fewer) (from_page 7 more) n (from 7)) in
     let double = if_less (some_below (from_page (7 + n) fewer) (n * n)) (some_below (from_page (7 + n) more) (n * n))
-        (1 + quotients (from_page (7 + n) fewer) n n) (1 + quotients (from_page (7 + n) more) n n)
-        (some_less (from_page (7 + n) fewer) (from_page (7 + n) more) (n * n) (from (7 + n)))
-        (let q = quotients_less (from_page (7 + n) fewer) (from_page (7 + n) more) n n (from (7 + n)) in omega (arith, q)) in
+    (1 + quotients (from_page (7 + n) fewer) n n) (1 + quotients (from_page (7 + n) more) n n)
+    (some_less (from_page (7 + n) fewer) (from_page (7 + n) more) (n * n) (from (7 + n)))
+    (let q = quotients_less (from_page (7 + n) fewer) (from_page (7 + n) more) n n (from (7 + n)) in omega (arith, q)) in
     let s = 7 + n + n * n in
     let triple = if_less (some_below (from_page s fewer) (n * n * n)) (some_below (from_page s more) (n * n * n))
-        (1 + quotients (from_page s fewer) (n * n) n + quotients (from_page s fewer) n (n * n))
-        (1 + quotients (from_page s more) (n * n) n + quotients (from_page s more) n (n * n))
-        (some_less (from_page s fewer) (from_page s more) (n * n * n) (from s))
-        (let q = quotients_less (from_page s fewer) (from_page s more) (n * n) n (from s) in let r = quotients_less (from_page s fewer) (from_page s more) n (n * n) (from s) in omega (arith, q, r)) in
+    (1 + quotients (from_page s fewer) (n * n) n + quotients (from_page s fewer) n (n * n))
+    (1 + quotients (from_page s more) (n * n) n + quotients (from_page s more) n (n * n))
+    (some_less (from_page s fewer) (from_page s more) (n * n * n) (from s))
+    (let q = quotients_less (from_page s fewer) (from_page s more) (n * n) n (from s) in let r = quotients_less (from_page s fewer) (from_page s more) n (n * n) (from s) in omega (arith, q, r)) in
     four_less pages single double triple
   where
     from : (start k : ℕ) → from_page start fewer k ≡ true → from_page start more k ≡ true

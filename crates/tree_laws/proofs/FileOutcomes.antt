@@ -1,6 +1,6 @@
 -- What holds of the refusals and of the successes of the calls on open files holds of the calls.
-use Rattle.std.proofs.Common.{◌≡◌, ◌<◌, ◌≤◌, ◌+◌, ℕ, ℤ, List, Bool, true, false, refl, ap, subst, length}
-use Rattle.std.specs.Prelude.{None, Some, Result, Ok, Err, not, ◌==◌, nat_lt, if◌then◌else◌}
+use Rattle.std.proofs.Common.{◌≡◌, ◌<◌, ◌≤◌, ◌+◌, ℕ, ℤ, List, true, false, refl, ap, subst, length}
+use Rattle.std.specs.Prelude.{None, Some, Ok, not, ◌==◌, nat_lt, if◌then◌else◌}
 use Rattle.std.proofs.lemmas.Bool.{ltb-false, eqb-true}
 use Rattle.layout.specs.declared.Geometry.{Geometry}
 use Rattle.errno.specs.declared.Errno.{Errno}

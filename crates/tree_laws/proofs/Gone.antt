@@ -1,11 +1,11 @@
 -- An empty directory that goes leaves a tree a tree.
-use Rattle.std.proofs.Common.{◌≡◌, ◌≢◌, ◌<◌, ◌≤◌, ◌+◌, ◌-◌, ◌^◌, ℕ, Bool, true, false, refl, sym, ap, subst, ◌∙◌, arith, [], ◌∷◌, length}
+use Rattle.std.proofs.Common.{◌≡◌, ◌≢◌, ◌<◌, ◌≤◌, ◌+◌, ◌^◌, ℕ, true, false, refl, sym, ap, ◌∙◌, arith, [], ◌∷◌, length}
 use mathlib.Core.Logic.{inl, inr}
 use Rattle.std.specs.Prelude.{Option, None, Some, is_some, IsTrue}
 use Rattle.std.proofs.lemmas.Bool.{cases_eq, eqb-true}
 use Rattle.layout.specs.declared.Geometry.{Geometry}
 use Rattle.tree.specs.Names.{Names, inode_of, without_name}
-use Rattle.tree.specs.Tree.{Node, Tree, is_dir, names_of, parent_of, with_node, on_node, is_open, most_links}
+use Rattle.tree.specs.Tree.{Node, Tree, names_of, parent_of, with_node, on_node, is_open, most_links}
 use Rattle.tree.specs.IsTree.{NodesAgree, IsTree}
 use Rattle.tree.specs.Walk.{Place}
 use Rattle.tree.specs.Changes.{fewer_links}

@@ -1,7 +1,7 @@
 -- An empty directory that goes, with its name: the shape of a tree stays.
-use Rattle.std.proofs.Common.{◌≡◌, ◌≢◌, ◌≤◌, ◌<◌, ◌+◌, ℕ, zero, suc, Bool, true, false, sym, ap, ◌∙◌, refl, arith}
+use Rattle.std.proofs.Common.{◌≡◌, ◌≢◌, ◌≤◌, ◌<◌, ◌+◌, ℕ, zero, suc, true, sym, ap, ◌∙◌, refl, arith}
 use mathlib.Core.Logic.{inl, inr}
-use Rattle.std.specs.Prelude.{None, is_some, IsTrue}
+use Rattle.std.specs.Prelude.{None, is_some}
 use Rattle.std.proofs.lemmas.Bool.{cases_eq}
 use Rattle.layout.specs.declared.Geometry.{Geometry}
 use Rattle.tree.specs.Sums.{one_if}
@@ -10,7 +10,7 @@ use Rattle.tree.specs.IsTree.{above}
 use Rattle.tree.proofs.Maps.{not_true}
 use Rattle.tree_laws.proofs.Freed.{part_below}
 use Rattle.tree_laws.proofs.Totals.{one_for, one_for_itself, none_for_other, only_at, only_here, only_elsewhere, only_nothing, weigh_off, sum_gained}
-use Rattle.tree_laws.proofs.Shapes.{Nodes, kind_of, links_of, weight, total, one_for_each, IsShape, is_there, has_names}
+use Rattle.tree_laws.proofs.Shapes.{Nodes, kind_of, links_of, weight, total, one_for_each, IsShape, has_names}
 use Rattle.tree_laws.proofs.NewDirectory.{directory_inside}
 
 module _ (g : Geometry) (old new : Nodes) (shape : IsShape g old) (d n : ℕ)
@@ -69,9 +69,10 @@ module _ (g : Geometry) (old new : Nodes) (shape : IsShape g old) (d n : ℕ)
         let up = ap (λ k. parent_of (old k)) e ∙ shape.root_parent in
         ((λ q. not_root (sym q ∙ up)), ap (λ k. kind_of (old k)) up ∙ shape.root)
     | inr e ↦
-        let one = shape.in_parent m e h in
-        ((λ q. let none = empty (one_for m) in let here = ap (weight old (one_for m)) q in absurd (omega (arith, one, none, here))),
-        has_names (one_for m) (old (parent_of (old m))) (omega (arith, one)))
+        let one = shape.in_parent m e h in (
+          (λ q. let none = empty (one_for m) in let here = ap (weight old (one_for m)) q in absurd (omega (arith, one, none, here))),
+          has_names (one_for m) (old (parent_of (old m))) (omega (arith, one)),
+        )
   ]
 
   pub way : (k m : ℕ) → m ≢ n → kind_of (old m) ≡ true → above new k m ≡ above old k m

@@ -1,6 +1,6 @@
 -- Effects that keep a tree a tree.
-use Rattle.std.proofs.Common.{◌≡◌, ◌≤◌, ◌<◌, refl, ℕ}
-use Rattle.std.specs.Prelude.{Result, Ok, Err, nat_le, nat_lt}
+use Rattle.std.proofs.Common.{◌≤◌, ◌<◌, refl, ℕ}
+use Rattle.std.specs.Prelude.{Ok, Err, nat_le, nat_lt}
 use Rattle.std.proofs.lemmas.Bool.{leb-false, ltb-false, cond_both}
 use Rattle.layout.specs.declared.Geometry.{Geometry}
 use Rattle.errno.specs.declared.Errno.TheVariants.{EINVAL, ENOSPC}
@@ -9,7 +9,7 @@ use Rattle.tree.specs.declared.Call.{Call}
 use Rattle.tree.specs.Tree.{Tree, most_sessions}
 use Rattle.tree.specs.IsTree.{IsTree}
 use Rattle.tree.specs.Space.{zones_used, data_zones}
-use Rattle.tree.specs.Refusals.{◌>>=◌, refuse_if}
+use Rattle.tree.specs.Refusals.{refuse_if}
 use Rattle.tree.specs.Answers.{Answer, Effect, if_it_fits}
 use Rattle.tree.specs.Effects.{effect_in_session, tree_after_call}
 use Rattle.tree_laws.specs.Room.{with_zones}

@@ -1,5 +1,5 @@
 -- One name more of a file, or of a new one, leaves a tree a tree.
-use Rattle.std.proofs.Common.{◌≡◌, ◌≢◌, ◌<◌, ◌≤◌, ◌+◌, ◌*◌, ◌^◌, ℕ, Bool, true, false, refl, sym, ap, ◌∙◌, arith, []}
+use Rattle.std.proofs.Common.{◌≡◌, ◌≢◌, ◌<◌, ◌≤◌, ◌+◌, ◌^◌, ℕ, true, false, refl, sym, ap, ◌∙◌, arith, []}
 use mathlib.Core.Logic.{inl, inr}
 use Rattle.std.specs.Prelude.{Option, None, Some, is_some, IsTrue}
 use Rattle.std.proofs.lemmas.Bool.{cases_eq}
@@ -16,8 +16,8 @@ use Rattle.tree_laws.proofs.Freed.{no_names}
 use Rattle.tree_laws.proofs.Weights.{weigh}
 use Rattle.tree_laws.proofs.OpenFiles.{alike_put}
 use Rattle.tree_laws.proofs.Places.{IsPlace}
-use Rattle.tree_laws.proofs.Totals.{one_for, only_one, one_for_itself, none_for_other, only_at, only_here, only_elsewhere, only_nothing, sum_gained}
-use Rattle.tree_laws.proofs.Shapes.{kind_of, links_of, weight, total, IsShape, AllFit, shape_of, all_fit, links_fit, shaped_agree, no_parent_of, is_there}
+use Rattle.tree_laws.proofs.Totals.{one_for, only_one, none_for_other, only_at, only_here, only_elsewhere, only_nothing, sum_gained}
+use Rattle.tree_laws.proofs.Shapes.{kind_of, links_of, weight, total, IsShape, shape_of, all_fit, links_fit, shaped_agree, no_parent_of}
 use Rattle.tree_laws.proofs.NewDirectory.{directory_inside}
 use Rattle.tree_laws.proofs.FileNames.{file_names_change}
 use Rattle.tree_laws.proofs.Growth.{grown_fits}

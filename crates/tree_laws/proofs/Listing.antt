@@ -1,6 +1,6 @@
 -- A readdir lists the names of the directory, in the order of their bytes.
 use Rattle.std.proofs.Common.{◌≡◌, ℕ, refl, sym, ap, subst, ◌∙◌}
-use Rattle.std.specs.Prelude.{Some, Ok, Err, nat_le}
+use Rattle.std.specs.Prelude.{Ok, Err, nat_le}
 use Rattle.layout.specs.declared.Geometry.{Geometry}
 use Rattle.errno.specs.declared.Errno.TheVariants.{EINVAL, EBADF}
 use Rattle.tree.specs.declared.Who.{Who}
@@ -35,7 +35,10 @@ module _ (g : Geometry) (t : Tree) (who : Who) (fd : ℕ) (tree : IsTree g t) wh
       readdir_each t who.session Lists closed fd (λ found node d opened there body made is.
       let directory : IsDirectory d = subst (IsBody g) body (tree.nodes.each found.1.inode node there).body in
       record {
-        number = found.0; file = found.1; node = node; directory = d;
+        number = found.0;
+        file = found.1;
+        node = node;
+        directory = d;
         opened = opens_to t who.session fd found opened;
         there = there;
         body = body;

@@ -1,7 +1,7 @@
 -- A new directory leaves a tree a tree.
-use Rattle.std.proofs.Common.{◌≡◌, ◌≢◌, ◌<◌, ◌≤◌, ◌+◌, ◌*◌, ◌^◌, ℕ, Bool, true, false, refl, sym, ap, subst, ◌∙◌, arith}
+use Rattle.std.proofs.Common.{◌≡◌, ◌≢◌, ◌<◌, ◌≤◌, ◌+◌, ◌*◌, ◌^◌, ℕ, true, refl, sym, ap, ◌∙◌, arith}
 use mathlib.Core.Logic.{inl, inr}
-use Rattle.std.specs.Prelude.{Option, None, Some, is_some, IsTrue}
+use Rattle.std.specs.Prelude.{Option, Some, is_some, IsTrue}
 use Rattle.std.proofs.lemmas.Bool.{cases_eq}
 use Rattle.layout.specs.declared.Geometry.{Geometry}
 use Rattle.layout.specs.Places.{IsGeometry}
@@ -118,7 +118,13 @@ module _ (g : Geometry) (is_geometry : IsGeometry g) (t : Tree) (tree : IsTree g
 
   N_fits : IsNode g (record N { links = 0 })
   N_fits = record {
-    permissions = mode_fits; links = omega arith; uid = uid; gid = gid; atime = small; mtime = small; ctime = small;
+    permissions = mode_fits;
+    links = omega arith;
+    uid = uid;
+    gid = gid;
+    atime = small;
+    mtime = small;
+    ctime = small;
     body = record { size = omega arith; names = refl; sorted = refl };
   }
 

@@ -1,7 +1,7 @@
 -- The nodes after a node moved from one place to another.
-use Rattle.std.proofs.Common.{◌≡◌, ◌≢◌, ◌<◌, ◌≤◌, ◌+◌, ◌-◌, ◌*◌, ◌^◌, ℕ, Bool, true, false, refl, sym, ap, subst, ◌∙◌, arith}
+use Rattle.std.proofs.Common.{◌≡◌, ◌≢◌, ◌<◌, ◌≤◌, ◌+◌, ◌*◌, ◌^◌, ℕ, true, false, refl, sym, ap, ◌∙◌, arith}
 use mathlib.Core.Logic.{inl, inr}
-use Rattle.std.specs.Prelude.{Option, None, Some, is_some, IsTrue}
+use Rattle.std.specs.Prelude.{Option, None, Some, is_some}
 use Rattle.std.specs.Ordering.{eq_by_cmp, is_eq}
 use Rattle.std.specs.declared.cmp.Ordering.{Ordering}
 use Rattle.std.specs.declared.cmp.Ordering.TheVariants.{Less, Equal, Greater}
@@ -19,17 +19,13 @@ use Rattle.tree.specs.NameCalls.{with_entry, without_entry, without_moved, with_
 use Rattle.tree.proofs.Maps.{not_true, not_nothing, is_the_one}
 use Rattle.tree_laws.proofs.Places.{IsPlace, found_without}
 use Rattle.tree_laws.proofs.Weights.{weigh}
-use Rattle.tree_laws.proofs.Totals.{one_for, one_for_itself, only_at, only_here, only_elsewhere, weigh_found}
+use Rattle.tree_laws.proofs.Totals.{one_for, one_for_itself, only_at, weigh_found}
 use Rattle.tree_laws.proofs.Entries.{other_name}
-use Rattle.tree_laws.proofs.Shapes.{kind_of, links_of, weight, IsShape, AllFit, shape_of, all_fit, is_there, no_parent_of}
+use Rattle.tree_laws.proofs.Shapes.{kind_of, links_of, weight, IsShape, AllFit, shape_of, all_fit, is_there}
 use Rattle.tree_laws.proofs.Views.{view_kept, view_gained, view_lost, on_node_at, on_node_elsewhere, fits_on, some_named, kind_named, parent_named, links_named, weight_with, weight_over, weight_without, fits_with, fits_without}
 use Rattle.tree_laws.proofs.TreeOver.{IsOver, over_itself, over_on_node, place_kind, place_names}
 
--- the parent of a directory under another
-parent_in : {X : Type 0} (v : Option Node → X) (now d : ℕ) → ((node : Node) (body : Body) → v (Some (with_ctime now (with_parent d (record node { body = body })))) ≡ v (Some (record node { body = body })))
-    → (node : Node) → v (Some (with_ctime now (with_parent d node))) ≡ v (Some node)
-parent_in v now d h node = h node node.body
-
+-- the parent of a directory under another changes nothing else
 kind_in : (now d : ℕ) (node : Node) (body : Body) → kind_of (Some (with_ctime now (with_parent d (record node { body = body })))) ≡ kind_of (Some (record node { body = body }))
 kind_in now d node (is_file f) = refl
 kind_in now d node (is_directory x) = refl
@@ -50,10 +46,23 @@ under now d node (is_directory x) h = refl
 under_fits : (g : Geometry) (now d : ℕ) → now < 2 ^ 32 → (node : Node) (body : Body) → IsNode g (record node { links = 0; body = body })
     → IsNode g (record (with_ctime now (with_parent d (record node { body = body }))) { links = 0 })
 under_fits g now d small node (is_file f) fit = record {
-  permissions = fit.permissions; links = omega arith; uid = fit.uid; gid = fit.gid; atime = fit.atime; mtime = fit.mtime; ctime = small; body = fit.body;
+  permissions = fit.permissions;
+  links = omega arith;
+  uid = fit.uid;
+  gid = fit.gid;
+  atime = fit.atime;
+  mtime = fit.mtime;
+  ctime = small;
+  body = fit.body;
 }
 under_fits g now d small node (is_directory x) fit = record {
-  permissions = fit.permissions; links = omega arith; uid = fit.uid; gid = fit.gid; atime = fit.atime; mtime = fit.mtime; ctime = small;
+  permissions = fit.permissions;
+  links = omega arith;
+  uid = fit.uid;
+  gid = fit.gid;
+  atime = fit.atime;
+  mtime = fit.mtime;
+  ctime = small;
   body = record { size = fit.body.size; names = fit.body.names; sorted = fit.body.sorted };
 }
 
@@ -165,7 +174,7 @@ module _ (g : Geometry) (t : Tree) (tree : IsTree g t) (now : ℕ) (small : now 
       let b = view_gained links_of entered d (more_links k) k (some_named out d now M d ∙ is_there (out.nodes d) (kind_out d ∙ d_directory)) (λ x e. refl) m in
       let c = links_named out d now M m in
       let e = view_lost links_of left p (fewer_links k) k (some_named t p now L p ∙ is_there (t.nodes p) p_directory)
-          (λ x q. let few = few_enough in let is : links_of (left.nodes p) ≡ x.links = ap links_of q in omega (arith, few, is)) m in
+      (λ x q. let few = few_enough in let is : links_of (left.nodes p) ≡ x.links = ap links_of q in omega (arith, few, is)) m in
       let f = links_named t p now L m in
       omega (arith, a, b, c, e, f)
 

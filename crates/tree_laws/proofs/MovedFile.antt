@@ -1,24 +1,24 @@
 -- A file that moves leaves a tree a tree, whether or not it takes another's name.
-use Rattle.std.proofs.Common.{◌≡◌, ◌≢◌, ◌<◌, ◌≤◌, ◌+◌, ◌-◌, ◌*◌, ◌^◌, ℕ, Bool, true, false, refl, sym, ap, subst, ◌∙◌, arith}
+use Rattle.std.proofs.Common.{◌≡◌, ◌≢◌, ◌<◌, ◌≤◌, ◌+◌, ◌*◌, ◌^◌, ℕ, true, false, refl, sym, ap, ◌∙◌, arith}
 use mathlib.Core.Logic.{inl, inr}
-use Rattle.std.specs.Prelude.{Option, None, Some, is_some, IsTrue, not, ◌&&◌}
+use Rattle.std.specs.Prelude.{None, Some, is_some, IsTrue, not, ◌&&◌}
 use Rattle.std.proofs.lemmas.Bool.{cases_eq, cond_both}
 use Rattle.layout.specs.declared.Geometry.{Geometry}
 use Rattle.layout.specs.Places.{IsGeometry}
-use Rattle.tree.specs.Sums.{one_if, sum_below}
+use Rattle.tree.specs.Sums.{one_if}
 use Rattle.tree.specs.Names.{is_name, inode_of}
-use Rattle.tree.specs.Tree.{Node, Tree, is_dir, names_of, parent_of, with_node, on_node, is_open, most_links, most_size}
-use Rattle.tree.specs.IsTree.{IsNode, NodesAgree, IsTree}
+use Rattle.tree.specs.Tree.{Node, Tree, is_dir, names_of, parent_of, with_node, on_node, is_open, most_size}
+use Rattle.tree.specs.IsTree.{NodesAgree, IsTree}
 use Rattle.tree.specs.Space.{zones_used, data_zones}
 use Rattle.tree.specs.Walk.{Place}
-use Rattle.tree.specs.Changes.{with_ctime, fewer_links, with_link_lost, has_no_link, without_nameless}
+use Rattle.tree.specs.Changes.{with_link_lost, has_no_link, without_nameless}
 use Rattle.tree.specs.NameCalls.{without_moved, with_moved}
-use Rattle.tree.proofs.Maps.{put-other, not_true, same_sum}
+use Rattle.tree.proofs.Maps.{put-other, not_true}
 use Rattle.tree_laws.proofs.Places.{IsPlace}
 use Rattle.tree_laws.proofs.Weights.{weigh}
 use Rattle.tree_laws.proofs.Freed.{part_below, without_nameless_is_tree}
-use Rattle.tree_laws.proofs.Totals.{one_for, only_one, one_for_itself, none_for_other, only_at, only_here, only_elsewhere, only_nothing, sum_gained, sum_moved, weigh_found}
-use Rattle.tree_laws.proofs.Shapes.{kind_of, links_of, weight, total, IsShape, AllFit, shape_of, links_fit, shaped_agree, no_parent_of, is_there, has_names}
+use Rattle.tree_laws.proofs.Totals.{one_for, only_one, one_for_itself, none_for_other, only_at, only_elsewhere, only_nothing, sum_gained, sum_moved, weigh_found}
+use Rattle.tree_laws.proofs.Shapes.{kind_of, links_of, weight, total, IsShape, shape_of, links_fit, shaped_agree, no_parent_of, has_names}
 use Rattle.tree_laws.proofs.NewDirectory.{directory_inside}
 use Rattle.tree_laws.proofs.FileNames.{file_names_change}
 use Rattle.tree_laws.proofs.Growth.{grown_fits}
@@ -161,7 +161,7 @@ module _ (g : Geometry) (is : IsGeometry g) (t : Tree) (tree : IsTree g t) (now 
         let f : ℕ → ℕ = λ a. weight lost.nodes (one_for m) a + only_at d (one_for m q) a in
         let a = sum_gained (λ a. weight lost.nodes (one_for m) a) f d (one_for m q) (g.inodes + 1) d_in (λ x. refl) in
         let b = sum_moved (λ a. weight t.nodes (one_for m) a) f p (one_for m n) d (one_for m n) (g.inodes + 1) p_in d_in
-            (λ x. let w = lost_weights (one_for m) x in omega (arith, w)) in
+        (λ x. let w = lost_weights (one_for m) x in omega (arith, w)) in
         omega (arith, a, b)
 
     lost_shape : IsShape g lost.nodes

@@ -1,5 +1,5 @@
 -- A directory that moves leaves a tree a tree, whether or not it takes an empty one's name.
-use Rattle.std.proofs.Common.{◌≡◌, ◌≢◌, ◌<◌, ◌≤◌, ◌+◌, ◌-◌, ◌*◌, ◌^◌, ℕ, Bool, true, false, refl, sym, ap, subst, ◌∙◌, arith}
+use Rattle.std.proofs.Common.{◌≡◌, ◌≢◌, ◌<◌, ◌≤◌, ◌+◌, ◌*◌, ◌^◌, ℕ, true, false, refl, sym, ap, subst, ◌∙◌, arith}
 use mathlib.Core.Logic.{inl, inr}
 use Rattle.std.specs.Prelude.{Option, None, Some, is_some, IsTrue, not, ◌&&◌, ◌==◌, nat_le}
 use Rattle.std.proofs.lemmas.Bool.{cases_eq, and_cases, leb-false, eqb-true, not-false}
@@ -16,8 +16,8 @@ use Rattle.tree.specs.NameCalls.{without_entry, without_moved, with_moved}
 use Rattle.tree.proofs.Maps.{put-same, put-other, not_true}
 use Rattle.tree_laws.proofs.Places.{IsPlace}
 use Rattle.tree_laws.proofs.Weights.{weigh}
-use Rattle.tree_laws.proofs.Totals.{one_for, only_few, one_for_itself, none_for_other, only_at, only_here, only_elsewhere, only_nothing, weigh_found}
-use Rattle.tree_laws.proofs.Shapes.{kind_of, links_of, weight, IsShape, AllFit, shape_of, links_fit, shaped_agree, is_there, has_names}
+use Rattle.tree_laws.proofs.Totals.{one_for, only_few, none_for_other, only_at, only_here, only_elsewhere, only_nothing}
+use Rattle.tree_laws.proofs.Shapes.{kind_of, links_of, weight, IsShape, shape_of, links_fit, shaped_agree, is_there, has_names}
 use Rattle.tree_laws.proofs.NewDirectory.{directory_inside}
 use Rattle.tree_laws.proofs.GoneDirectory.{way}
 use Rattle.tree_laws.proofs.MovedDirectory.{moved_directory}

@@ -1,17 +1,16 @@
 -- What holds of the refusals and of the successes of link, mkdir and rmdir holds of the calls.
-use Rattle.std.proofs.Common.{◌≡◌, ◌<◌, ◌≤◌, ℕ, List, Bool, true, false, refl, sym, ap, ◌∙◌, arith}
-use Rattle.std.specs.Prelude.{Option, None, Some, Result, Ok, Err, not, ◌==◌, nat_le, nat_lt}
-use Rattle.std.proofs.lemmas.Bool.{leb-false, ltb-false, or_parts, not-false}
+use Rattle.std.proofs.Common.{◌≡◌, ◌<◌, ◌≤◌, ℕ, List, true, false, refl}
+use Rattle.std.specs.Prelude.{None, Some, Ok, Err, not, nat_le, nat_lt}
+use Rattle.std.proofs.lemmas.Bool.{leb-false, ltb-false, not-false}
 use Rattle.layout.specs.declared.Geometry.{Geometry}
-use Rattle.errno.specs.declared.Errno.{Errno}
 use Rattle.errno.specs.declared.Errno.TheVariants.{EPERM, ENOENT, EACCES, EBUSY, EEXIST, ENOTDIR, EINVAL, EMLINK, ENOTEMPTY, ENOSPC}
 use Rattle.tree.specs.declared.User.{User}
-use Rattle.tree.specs.Names.{Name, inode_of, has_name}
+use Rattle.tree.specs.Names.{Name, inode_of}
 use Rattle.tree.specs.Tree.{Node, Tree, is_dir, is_open, with_node, on_node, most_links, most_permissions}
 use Rattle.tree.specs.Refusals.{◌>>=◌, or_refuse, refuse_if}
 use Rattle.tree.specs.Walk.{read_path, walk_parts, parent_walk, node_at, has_last_name, is_taken, Place, may_access, to_write}
 use Rattle.tree.specs.Changes.{with_ctime, more_links, fewer_links, new_node, empty_directory, free_inode}
-use Rattle.tree.specs.Answers.{done, Effect, if_it_fits}
+use Rattle.tree.specs.Answers.{done, if_it_fits}
 use Rattle.tree.specs.NameCalls.{with_entry, without_entry, is_empty, link, mkdir, rmdir}
 use Rattle.tree_laws.proofs.Steps.{passed, was_there}
 use Rattle.tree_laws.proofs.Outcomes.{Effects, IsClosed, with_zones, IsFree, NoInodeFree, at_free_inode, plain_refuse, plain_or, plain_node, plain_read, plain_walk_parts, plain_parent_walk}
@@ -72,8 +71,13 @@ module _ (g : Geometry) (t : Tree) (user : User) (now : ℕ) (P : Effects → Ty
         steps _ (node_at t place.directory) (from_parent n node place) (plain_node t place.directory) (λ parent _.
         steps _ (refuse_if (not (may_access user parent to_write)) EACCES) (λ _. put_link n node place) (plain_refuse _ _ refl) (λ _ _.
         made n node place (record {
-          there = was_there _ _ _ at_node; file = passed _ _ x file; few = leb-false most_links node.links (passed _ _ y few);
-          parts = parts; read = read; walked = walked; free = passed _ _ u free;
+          there = was_there _ _ _ at_node;
+          file = passed _ _ x file;
+          few = leb-false most_links node.links (passed _ _ y few);
+          parts = parts;
+          read = read;
+          walked = walked;
+          free = passed _ _ u free;
         })))))))))))
 
   -- A directory that is made.
@@ -128,8 +132,14 @@ module _ (g : Geometry) (t : Tree) (user : User) (now : ℕ) (P : Effects → Ty
         steps _ (refuse_if (nat_le most_links parent.links) EMLINK) (λ _. below_few place) (plain_refuse _ _ refl) (λ u few.
         at_free_inode g t P (put_directory place) full (λ n inode.
         made n place parent (record {
-          fits = ltb-false most_permissions mode (passed _ _ x fits); parts = parts; read = read; walked = walked; free = passed _ _ y free;
-          parent = was_there _ _ _ at_parent; few = leb-false most_links parent.links (passed _ _ u few); inode = inode;
+          fits = ltb-false most_permissions mode (passed _ _ x fits);
+          parts = parts;
+          read = read;
+          walked = walked;
+          free = passed _ _ y free;
+          parent = was_there _ _ _ at_parent;
+          few = leb-false most_links parent.links (passed _ _ u few);
+          inode = inode;
         })))))))))
 
   -- A directory that goes.
@@ -187,6 +197,11 @@ module _ (g : Geometry) (t : Tree) (user : User) (now : ℕ) (P : Effects → Ty
         steps _ (refuse_if (not (is_empty node)) ENOTEMPTY) (λ _. after_empty place n) (plain_refuse _ _ refl) (λ y empty.
         steps _ (refuse_if (is_open t n) EBUSY) (λ _. take place n) (plain_refuse _ _ refl) (λ u closed.
         gone n node place (record {
-          parts = parts; walked = walked; found = was_there _ _ _ found; there = was_there _ _ _ at_node;
-          directory = not-false _ (passed _ _ x directory); empty = not-false _ (passed _ _ y empty); closed = passed _ _ u closed;
+          parts = parts;
+          walked = walked;
+          found = was_there _ _ _ found;
+          there = was_there _ _ _ at_node;
+          directory = not-false _ (passed _ _ x directory);
+          empty = not-false _ (passed _ _ y empty);
+          closed = passed _ _ u closed;
         })))))))))))

@@ -1,12 +1,12 @@
 -- How the zones needed change with the pages that are held.
-use Rattle.std.proofs.Common.{◌≡◌, ◌≢◌, ◌≤◌, ◌<◌, ◌+◌, ◌-◌, ◌*◌, ℕ, zero, suc, Bool, true, false, refl, sym, ap, subst, ◌∙◌, arith}
+use Rattle.std.proofs.Common.{◌≡◌, ◌<◌, ◌+◌, ◌-◌, ◌*◌, ℕ, zero, suc, Bool, true, false, refl, sym, ap, subst, ◌∙◌, arith}
 use mathlib.Core.Logic.{inl, inr}
-use Rattle.std.specs.Prelude.{not, ◌&&◌, nat_lt, if◌then◌else◌, ◌==◌}
+use Rattle.std.specs.Prelude.{not, ◌&&◌, nat_lt, if◌then◌else◌}
 use Rattle.std.proofs.lemmas.Bool.{cases_eq, cases_Bool, cond-true, cond-false, and_parts}
 use Rattle.tree.specs.Sums.{sum_below, count_below, some_below, one_if, put}
-use Rattle.tree.specs.ZonesNeeded.{page_limit, from_page, quotients, double_blocks, triple_blocks, zones_needed}
+use Rattle.tree.specs.ZonesNeeded.{page_limit, from_page, quotients, double_blocks, triple_blocks}
 use Rattle.tree.proofs.Maps.{put-same, put-other, not_true}
-use Rattle.tree_laws.specs.Zones.{only_in, newly_some, newly_used, new_single, new_double, new_triple, new_blocks, pages_below, NeedGrows, OnePageMore, PagesLetGo}
+use Rattle.tree_laws.specs.Zones.{only_in, newly_some, newly_used, new_double, new_triple, pages_below, NeedGrows, OnePageMore, PagesLetGo}
 use Rattle.tree_laws.proofs.Search.{found_below, one_below}
 use Rattle.tree_laws.proofs.Fewer.{some_less}
 use Rattle.tree_laws.proofs.Totals.{only_at, only_here, only_elsewhere, sum_gained, sum_of_none}

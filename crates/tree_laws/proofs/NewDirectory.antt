@@ -1,14 +1,13 @@
 -- A new directory, with a name in another: the shape of a tree stays.
-use Rattle.std.proofs.Common.{◌≡◌, ◌≢◌, ◌≤◌, ◌<◌, ◌+◌, ℕ, suc, Bool, true, false, sym, ap, subst, ◌∙◌, refl, arith}
+use Rattle.std.proofs.Common.{◌≡◌, ◌≢◌, ◌≤◌, ◌<◌, ◌+◌, ℕ, suc, true, false, sym, ap, ◌∙◌, refl, arith}
 use mathlib.Core.Logic.{inl, inr}
-use Rattle.std.specs.Prelude.{Option, None, is_some, IsTrue}
+use Rattle.std.specs.Prelude.{None, is_some}
 use Rattle.std.proofs.lemmas.Bool.{cases_eq, cases_Bool}
 use Rattle.layout.specs.declared.Geometry.{Geometry}
 use Rattle.tree.specs.Sums.{one_if}
 use Rattle.tree.specs.Tree.{names_of, parent_of}
 use Rattle.tree.specs.IsTree.{above}
 use Rattle.tree.proofs.Maps.{not_true}
-use Rattle.tree_laws.proofs.Freed.{part_below}
 use Rattle.tree_laws.proofs.Weights.{weigh}
 use Rattle.tree_laws.proofs.Ways.{way_kept}
 use Rattle.tree_laws.proofs.Totals.{one_for, one_for_itself, none_for_other, only_at, only_here, only_elsewhere, only_nothing, weigh_off, sum_gained, sum_of_none}

@@ -1,11 +1,10 @@
 -- A node that is opened, at a free number and a free descriptor, leaves a tree a tree.
-use Rattle.std.proofs.Common.{◌≡◌, ◌≢◌, ◌<◌, ◌≤◌, ℕ, Bool, true, false, refl, sym, ap, subst, ◌∙◌, arith}
+use Rattle.std.proofs.Common.{◌≡◌, ◌≢◌, ◌<◌, ℕ, false, sym, ap, ◌∙◌, arith}
 use mathlib.Core.Logic.{inl, inr}
-use Rattle.std.specs.Prelude.{Option, None, Some, is_some, IsTrue, not}
+use Rattle.std.specs.Prelude.{None, Some, is_some, IsTrue, not}
 use Rattle.std.proofs.lemmas.Bool.{cases_eq}
 use Rattle.layout.specs.declared.Geometry.{Geometry}
-use Rattle.tree.specs.Sums.{put}
-use Rattle.tree.specs.Tree.{OpenFile, Tree, opens, is_open, has_descriptor, with_open_file, most_sessions, most_descriptors, most_open_files}
+use Rattle.tree.specs.Tree.{OpenFile, Tree, opens, is_open, with_open_file, most_sessions, most_descriptors, most_open_files}
 use Rattle.tree.specs.Flags.{writes, bad_flags}
 use Rattle.tree.specs.IsTree.{IsOpenFile, IsTree}
 use Rattle.tree.specs.FileCalls.{Slot, with_open}
@@ -63,7 +62,10 @@ module _ (g : Geometry) (t : Tree) (tree : IsTree g t) (slot : Slot) (free : IsF
       ];
       in_use = λ k h. elim (cases_eq k slot.number) [
         | inl e ↦ held after.descriptors k (record {
-          session = slot.session; fd = slot.fd; session_in = free.session; fd_in = free.fd;
+          session = slot.session;
+          fd = slot.fd;
+          session_in = free.session;
+          fd_in = free.fd;
           leads = at_place put_file slot.session slot.fd (Some slot.number) ∙ ap Some (sym e);
         })
         | inr d ↦ held after.descriptors k (still_held put_file slot.session slot.fd (Some slot.number) k (λ e. not_nothing k (sym free.no_descriptor ∙ e)) (holder t.descriptors k (tree.open_files.in_use k (cases_some k d h))))

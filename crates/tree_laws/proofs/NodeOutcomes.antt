@@ -1,6 +1,6 @@
 -- What holds of the refusals and of the successes of the calls on a node, and of unlink, holds of the calls.
 use Rattle.std.proofs.Common.{◌≡◌, ◌≤◌, ℕ, List, Bool, true, false, refl, ap}
-use Rattle.std.specs.Prelude.{Some, Result, Ok, not, ◌==◌, nat_lt}
+use Rattle.std.specs.Prelude.{Some, Ok, not, ◌==◌, nat_lt}
 use Rattle.std.proofs.lemmas.Bool.{ltb-false}
 use Rattle.layout.specs.declared.Geometry.{Geometry}
 use Rattle.errno.specs.declared.Errno.{Errno}

@@ -1,7 +1,7 @@
 -- Open keeps a tree a tree.
-use Rattle.std.proofs.Common.{◌≡◌, ◌<◌, ◌≤◌, ◌+◌, ◌^◌, ℕ, List, Bool, true, false, refl, sym, ap, subst, ◌∙◌, arith}
+use Rattle.std.proofs.Common.{◌≡◌, ◌<◌, ◌+◌, ◌^◌, ℕ, List, Bool, true, false, refl, sym, ap, subst, ◌∙◌, arith}
 use mathlib.Core.Logic.{inl, inr}
-use Rattle.std.specs.Prelude.{Option, None, Some, is_some, IsTrue, Result, Ok, not, ◌&&◌}
+use Rattle.std.specs.Prelude.{Option, None, Some, is_some, Ok}
 use Rattle.std.specs.List.{All}
 use Rattle.std.proofs.lemmas.Bool.{cases_Bool, cond_both, cond-true, cond-false, and_cases, not_from_false}
 use Rattle.layout.specs.declared.Geometry.{Geometry}
@@ -9,9 +9,9 @@ use Rattle.layout.specs.Places.{IsGeometry}
 use Rattle.tree.specs.declared.User.{User}
 use Rattle.tree.specs.declared.Call.TheVariants.{Open}
 use Rattle.tree.specs.Names.{Name, inode_of}
-use Rattle.tree.specs.Flags.{writes, truncates, bad_flags}
+use Rattle.tree.specs.Flags.{writes, truncates}
 use Rattle.tree.specs.Tree.{Body, File, is_file, is_directory, Node, Tree, is_dir, with_node, most_sessions}
-use Rattle.tree.specs.IsTree.{IsNode, IsTree}
+use Rattle.tree.specs.IsTree.{IsTree}
 use Rattle.tree.specs.Refusals.{◌>>=◌}
 use Rattle.tree.specs.Walk.{Place, Found, is_there, is_missing, found_at, look_up, walk_parts, parent_walk, has_last_name}
 use Rattle.tree.specs.Changes.{new_node, empty_file, with_body, file_after_resize}
@@ -26,7 +26,7 @@ use Rattle.tree_laws.proofs.Places.{is_place}
 use Rattle.tree_laws.proofs.FileBodies.{resized_fits}
 use Rattle.tree_laws.proofs.ByteCalls.{file_fits, file_changed}
 use Rattle.tree_laws.proofs.Shapes.{kind_of, links_of}
-use Rattle.tree_laws.proofs.NewPlaces.{none_there, last_named}
+use Rattle.tree_laws.proofs.NewPlaces.{last_named}
 use Rattle.tree_laws.proofs.NewlyOpen.{IsFreeSlot, opened_is_tree}
 use Rattle.tree_laws.proofs.OpenOutcomes.{IsAsked, IsThere, IsMissing, open_each}
 use Rattle.tree_laws.proofs.TreeOver.{IsOver}
@@ -110,13 +110,19 @@ module _ (g : Geometry) (t : Tree) (user : User) (now session : ℕ) (path : Lis
       let missing = missing_at t user is_it.parts place is_it.asked.looked in
       let free = is_it.inode in
       let made = linked g is t tree now small place (is_place t user is_it.parts place missing.walked) missing.free
-          (last_named t user path is_it.parts place bytes is_it.asked.read missing.walked missing.last)
-          n free.from free.to (ap kind_of free.nothing) (new_node now user mode 1 empty_file) refl
-          (record {
-            permissions = is_it.asked.fits; links = omega arith; uid = uid; gid = gid; atime = small; mtime = small; ctime = small;
-            body = record { size = omega arith; held = λ q h. absurd (not_true h); zeros = λ p h. refl; bytes = λ p. omega arith };
-          })
-          (ap (λ o. links_of o + 1) (sym free.nothing)) (omega arith) in
+      (last_named t user path is_it.parts place bytes is_it.asked.read missing.walked missing.last)
+      n free.from free.to (ap kind_of free.nothing) (new_node now user mode 1 empty_file) refl
+      (record {
+        permissions = is_it.asked.fits;
+        links = omega arith;
+        uid = uid;
+        gid = gid;
+        atime = small;
+        mtime = small;
+        ctime = small;
+        body = record { size = omega arith; held = λ q h. absurd (not_true h); zeros = λ p h. refl; bytes = λ p. omega arith };
+      })
+      (ap (λ o. links_of o + 1) (sym free.nothing)) (omega arith) in
       taken_if_it_fits g t (descriptor slot.fd) (with_open (with_entry (with_node t n (Some (new_node now user mode 1 empty_file))) now place n) slot n flags) tree (λ fits.
       let it = made fits in
       opened_is_tree g (with_entry (with_node t n (Some (new_node now user mode 1 empty_file))) now place n) it.is_tree slot

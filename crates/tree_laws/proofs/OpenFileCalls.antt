@@ -2,7 +2,6 @@
 use Rattle.std.proofs.Common.{◌≡◌, ◌≤◌, ◌+◌, ◌-◌, ℕ, zero, suc, length, refl, ap, subst, arith}
 use Rattle.std.specs.Prelude.{nat_lt, is_some, if◌then◌else◌}
 use Rattle.std.proofs.lemmas.Bool.{ltb-false, cond_both}
-use Rattle.layout.specs.declared.Geometry.{Geometry}
 use Rattle.tree.specs.declared.Call.TheVariants.{Seek, Read, Dup}
 use Rattle.tree.specs.Tree.{File, most_size}
 use Rattle.tree.specs.IsTree.{IsFile, IsBody}

@@ -1,6 +1,6 @@
 -- What holds of the refusals and of the successes of open holds of the call.
-use Rattle.std.proofs.Common.{◌≡◌, ◌<◌, ◌≤◌, ℕ, List, Bool, true, false, refl, sym, ap, ◌∙◌, arith}
-use Rattle.std.specs.Prelude.{Option, None, Some, Result, Ok, Err, not, ◌&&◌, ◌||◌, nat_lt}
+use Rattle.std.proofs.Common.{◌≡◌, ◌<◌, ◌≤◌, ℕ, List, false, refl}
+use Rattle.std.specs.Prelude.{None, Some, Ok, Err, not, ◌&&◌, ◌||◌, nat_lt}
 use Rattle.std.proofs.lemmas.Bool.{ltb-false, or_parts}
 use Rattle.layout.specs.declared.Geometry.{Geometry}
 use Rattle.errno.specs.declared.Errno.TheVariants.{ENOENT, EACCES, EEXIST, EISDIR, EINVAL, ENFILE, EMFILE, ENOSPC}
@@ -11,7 +11,7 @@ use Rattle.tree.specs.Tree.{Node, Tree, is_dir, with_node, most_descriptors, mos
 use Rattle.tree.specs.Refusals.{◌>>=◌, refuse_if, free_place}
 use Rattle.tree.specs.Walk.{read_path, node_at, Place, Found, is_there, is_missing, look_up, may_access, to_read, to_write}
 use Rattle.tree.specs.Changes.{new_node, empty_file, free_inode}
-use Rattle.tree.specs.Answers.{descriptor, Effect, if_it_fits}
+use Rattle.tree.specs.Answers.{descriptor, if_it_fits}
 use Rattle.tree.specs.NameCalls.{with_entry}
 use Rattle.tree.specs.FileCalls.{Slot, with_open, after_truncate_flag, open_found, open_path}
 use Rattle.tree_laws.proofs.Search.{free_place_is}
@@ -110,8 +110,11 @@ module _ (g : Geometry) (t : Tree) (user : User) (now session : ℕ) (path : Lis
         steps _ (look_up t user parts) (at_found fd k) (plain_look_up t user parts) (λ found looked.
         let flags_and_mode = or_parts (bad_flags flags) (nat_lt most_permissions mode) (passed _ _ x good) in
         found_each (slot_at fd k) parts found (record {
-          good = flags_and_mode.0; fits = ltb-false most_permissions mode flags_and_mode.1; session_is = refl;
+          good = flags_and_mode.0;
+          fits = ltb-false most_permissions mode flags_and_mode.1;
+          session_is = refl;
           fd = free_place_is (t.descriptors session) most_descriptors EMFILE fd free_fd;
           number = free_place_is t.open_files most_open_files ENFILE k free_k;
-          read = read; looked = looked;
+          read = read;
+          looked = looked;
         }))))))

@@ -1,6 +1,6 @@
 -- No call of one session changes another's descriptors.
-use Rattle.std.proofs.Common.{◌≡◌, ◌≢◌, ℕ, Bool, true, false, refl, sym, ap, ◌∙◌, length}
-use Rattle.std.specs.Prelude.{Option, None, Some, Result, Ok, Err, nat_lt, nat_le, not, ◌&&◌}
+use Rattle.std.proofs.Common.{◌≡◌, ◌≢◌, ℕ, refl, ap, ◌∙◌}
+use Rattle.std.specs.Prelude.{None, Some, Ok, Err, nat_lt, nat_le, not, ◌&&◌}
 use Rattle.std.proofs.lemmas.Bool.{cond_both}
 use Rattle.layout.specs.declared.Geometry.{Geometry}
 use Rattle.errno.specs.declared.Errno.TheVariants.{EINVAL, ENOSPC}
@@ -9,13 +9,13 @@ use Rattle.tree.specs.declared.Call.{Call}
 use Rattle.tree.specs.declared.Call.TheVariants.{Open, Close, Dup, Read, Write, Seek, Stat, Fstat, Link, Unlink, Mkdir, Rmdir, Rename, Chmod, Chown, Utime, Truncate, Readdir, Sync, Statfs}
 use Rattle.tree.specs.Tree.{Node, Tree, is_dir, is_open, has_descriptor, with_node, on_node, with_open_file, with_descriptor, most_sessions}
 use Rattle.tree.specs.Space.{zones_used, data_zones}
-use Rattle.tree.specs.Refusals.{◌>>=◌, refuse_if}
+use Rattle.tree.specs.Refusals.{refuse_if}
 use Rattle.tree.specs.Walk.{Place}
 use Rattle.tree.specs.Changes.{has_no_link, without_nameless, without_unused, with_link_lost, fewer_links, more_links, with_ctime, new_node, empty_file, empty_directory}
 use Rattle.tree.specs.NameCalls.{with_entry, without_entry, with_name_lost, without_moved, with_moved, without_replaced}
 use Rattle.tree.specs.FileCalls.{Slot, with_open, after_truncate_flag}
-use Rattle.tree.specs.Answers.{Answer, Effect, if_it_fits}
-use Rattle.tree.specs.Effects.{user_of, effect_in_session, effect_of, tree_after_call}
+use Rattle.tree.specs.Answers.{Answer, if_it_fits}
+use Rattle.tree.specs.Effects.{user_of, effect_in_session, effect_of}
 use Rattle.tree_laws.specs.Sessions.{OtherSessionsStay}
 use Rattle.tree_laws.specs.Room.{with_zones}
 use Rattle.tree_laws.proofs.Steps.{tree_after}
@@ -24,7 +24,7 @@ use Rattle.tree_laws.proofs.Outcomes.{Effects, IsClosed, plain_refuse}
 use Rattle.tree_laws.proofs.NodeOutcomes.{stat_each, chmod_each, chown_each, utime_each, truncate_each, unlink_each}
 use Rattle.tree_laws.proofs.FileOutcomes.{close_each, dup_each, fstat_each, readdir_each, seek_each, read_each, write_each}
 use Rattle.tree_laws.proofs.NameOutcomes.{link_each, mkdir_each, rmdir_each}
-use Rattle.tree_laws.proofs.OpenOutcomes.{IsAsked, IsThere, IsMissing, open_each}
+use Rattle.tree_laws.proofs.OpenOutcomes.{open_each}
 use Rattle.tree_laws.proofs.RenameOutcomes.{rename_each}
 use Rattle.tree_laws.proofs.OpenCall.{cut_is}
 use Rattle.tree_laws.proofs.TreeOver.{IsOver, over_itself, over_with_node, over_on_node}

@@ -1,25 +1,24 @@
 -- What holds of each refusal, and of each success, of a call holds of the call. A call is looked at on volumes of all sizes
 -- at once: an effect for each number of zones.
-use Rattle.std.proofs.Common.{◌≡◌, ◌<◌, ◌≤◌, ◌+◌, ◌-◌, ℕ, List, Bool, true, false, refl, sym, ap, subst, ◌∙◌, arith, [], ◌∷◌, length}
+use Rattle.std.proofs.Common.{◌≡◌, ◌≤◌, ◌+◌, ◌-◌, ℕ, List, Bool, true, false, refl, sym, ap, subst, ◌∙◌, arith, [], ◌∷◌, length}
 use mathlib.Core.Logic.{inl, inr, ◌⊎◌}
 use Rattle.std.specs.Prelude.{Option, None, Some, is_some, is_none, IsTrue, Result, Ok, Err, not, ◌==◌, ◌||◌, nat_lt}
 use Rattle.std.specs.List.{list_any}
-use Rattle.std.proofs.lemmas.Bool.{cases_Bool, cond_both, cond-true, cond-false, eq-eqb, ne_eqb, eqb-true, eqb-false}
+use Rattle.std.proofs.lemmas.Bool.{cases_Bool, cond_both, cond-true, cond-false, eq-eqb, ne_eqb}
 use Rattle.layout.specs.declared.Geometry.{Geometry}
 use Rattle.errno.specs.declared.Errno.{Errno}
-use Rattle.errno.specs.declared.Errno.TheVariants.{ENOENT, EACCES, ENOTDIR, EINVAL, ENAMETOOLONG, ENOSPC}
+use Rattle.errno.specs.declared.Errno.TheVariants.{ENOENT, EACCES, EINVAL, ENAMETOOLONG, ENOSPC}
 use Rattle.tree.specs.declared.User.{User}
 use Rattle.tree.specs.Sums.{some_below, least_below}
 use Rattle.tree.specs.Names.{Name, Names, most_name, same_name, dot, dot_dot, inode_of}
 use Rattle.tree.specs.Tree.{Body, is_file, is_directory, Node, Tree}
 use Rattle.tree.specs.Refusals.{◌>>=◌, or_refuse, refuse_if, free_place}
-use Rattle.tree.specs.Walk.{read_path, parts_of, begins_with_slash, most_path, enter, next, walk_from, walk_parts, walk, node_at, Place, parent_walk, has_last_name, all_but_last, last_part, Found, is_there, found_at, look_up, may_access, to_search}
+use Rattle.tree.specs.Walk.{read_path, parts_of, begins_with_slash, most_path, enter, next, walk_from, walk_parts, walk, node_at, parent_walk, has_last_name, all_but_last, last_part, is_there, found_at, look_up, may_access, to_search}
 use Rattle.tree.specs.Changes.{free_inode}
 use Rattle.tree.specs.Answers.{Effect}
 pub use Rattle.tree_laws.specs.Room.{with_zones, NoInodeFree}
 use Rattle.tree.proofs.Maps.{not_true}
 use Rattle.tree_laws.proofs.Search.{found_below, least_is_one, least_is_end, free_place_is}
-use Rattle.tree_laws.proofs.Steps.{both_steps, ok_is}
 
 abbrev pub is_enospc : Errno → Bool
 is_enospc ENOSPC = true

@@ -1,10 +1,10 @@
 -- The last part of a path that is read, where it is a name, is one that a directory can have.
 use Rattle.std.proofs.Common.{◌≡◌, ◌≤◌, ◌<◌, ℕ, List, Bool, true, false, refl, sym, ap, ◌∙◌, arith, [], ◌∷◌, ◌++◌, length}
 use mathlib.Core.Logic.{inl, inr}
-use Rattle.std.specs.Prelude.{Ok, not, ◌&&◌, ◌||◌, ◌==◌, nat_lt, nat_le, if◌then◌else◌}
+use Rattle.std.specs.Prelude.{Ok, not, ◌||◌, ◌==◌, nat_lt, nat_le, if◌then◌else◌}
 use Rattle.std.specs.List.{All, list_any}
 use Rattle.std.proofs.lemmas.List.Folds.{list_any_none, list_any-append}
-use Rattle.std.proofs.lemmas.Bool.{cases_Bool, cond_both, and_from, and_parts, or_from, or_parts, ltb-true, ltb-false, le-leb, eqb-false, not-true, not_from_false, cond-true, cond-false}
+use Rattle.std.proofs.lemmas.Bool.{cases_Bool, cond_both, and_from, and_parts, or_from, or_parts, ltb-true, ltb-false, le-leb, eqb-false, not-true, not_from_false}
 use Rattle.errno.specs.declared.Errno.TheVariants.{ENOENT, EINVAL, ENAMETOOLONG}
 use Rattle.tree.specs.Names.{Name, is_name, is_dots, most_name}
 use Rattle.tree.specs.Refusals.{◌>>=◌, refuse_if}
@@ -71,8 +71,8 @@ last_is_name path parts bytes h named =
     let some : 1 ≤ length last = let d = eqb-false (length last) 0 (not-true _ has.0) in omega (arith, d) in
     let within : length last ≤ most_name = ltb-false most_name (length last) (last_clean (λ part. nat_lt most_name (length part)) parts refl read.short) in
     let clean : list_any is_bad last ≡ false =
-        last_clean (λ x. list_any is_bad x) parts refl
-        (ap (λ ps. list_any (λ x. list_any is_bad x) ps) (sym read.are_parts) ∙ parts_clean [] path refl read.no_zero (below_256 path bytes)) in
+    last_clean (λ x. list_any is_bad x) parts refl
+    (ap (λ ps. list_any (λ x. list_any is_bad x) ps) (sym read.are_parts) ∙ parts_clean [] path refl read.no_zero (below_256 path bytes)) in
     and_from _ (not (is_dots last))
     (and_from _ (not (list_any is_bad last))
     (and_from (nat_le 1 (length last)) (nat_le (length last) most_name) (le-leb 1 (length last) some) (le-leb (length last) most_name within))

@@ -1,11 +1,11 @@
 -- Steps to the parent that go round: each directory above another is met in few steps.
 use Rattle.std.proofs.Common.{◌≡◌, ◌≢◌, ◌<◌, ◌≤◌, ◌+◌, ◌-◌, ℕ, zero, suc, Bool, true, false, refl, sym, ap, ◌∙◌, arith}
 use mathlib.Core.Logic.{inl, inr}
-use Rattle.std.specs.Prelude.{Option, ◌==◌}
+use Rattle.std.specs.Prelude.{◌==◌}
 use Rattle.std.proofs.lemmas.Bool.{cases_eq, cases_Bool, cases_lt, cond-true, cond-false, eqb-true, eq-eqb, ne_eqb}
 use Rattle.layout.specs.declared.Geometry.{Geometry}
 use Rattle.tree.specs.Sums.{sum_below, count_below, some_below, one_if}
-use Rattle.tree.specs.Tree.{Node, Tree, parent_of}
+use Rattle.tree.specs.Tree.{Tree, parent_of}
 use Rattle.tree.specs.IsTree.{above}
 use Rattle.tree.specs.NameCalls.{is_within}
 use Rattle.tree.proofs.Maps.{not_true}
@@ -69,8 +69,8 @@ two_alike f n within = elim (cases_Bool (some_below (λ b. some_below (λ a. f a
       let c : ℕ → ℕ = λ v. count_below (λ k. f k == v) (n + 1) in
       let met = all_met f (n + 1) (n + 1) (λ k l. let is = within k l in omega (arith, is.1)) in
       let few : (v : ℕ) → c v ≤ 1 = λ v. few_pass (λ k. f k == v) (n + 1) (λ a b l k p q.
-          not_true (sym none ∙ found_below (λ b. some_below (λ a. f a == f b) b) (n + 1) b k
-          (found_below (λ a. f a == f b) b a l (eq-eqb (f a) (f b) (eqb-true (f a) v p ∙ sym (eqb-true (f b) v q)))))) in
+      not_true (sym none ∙ found_below (λ b. some_below (λ a. f a == f b) b) (n + 1) b k
+      (found_below (λ a. f a == f b) b a l (eq-eqb (f a) (f b) (eqb-true (f a) v p ∙ sym (eqb-true (f b) v q)))))) in
       let zero_none : c 0 ≡ 0 = none_pass (λ k. f k == 0) (n + 1) (λ k l h. let is = within k l in let e = eqb-true (f k) 0 h in absurd (omega (arith, is.0, e))) in
       let all = few_in_all c n zero_none few in
       let same : sum_below c (n + 1) ≡ sum_below c (suc n) = ap (sum_below c) (omega arith) in

@@ -39,7 +39,10 @@ entered_body user (is_directory d) node dir e h =
     let is : cond (may_access user node to_search) (Ok (d.parent, d.names)) (Err EACCES) ≡ Ok dir = sym (ap (λ b. enter user (Some (record node { body = b }))) e) ∙ h in
     elim (cases_Bool (may_access user node to_search)) [
       | inl ay ↦ record {
-        node = node; directory = d; there = refl; body = e;
+        node = node;
+        directory = d;
+        there = refl;
+        body = e;
         same = ap (λ x. x.1) (ok_is (d.parent, d.names) dir (Ok (d.parent, d.names)) refl (sym (cond-true (may_access user node to_search) (Ok (d.parent, d.names)) (Err EACCES) ay) ∙ is));
       }
       | inr nay ↦ absurd (not_refused EACCES dir (sym (cond-false (may_access user node to_search) (Ok (d.parent, d.names)) (Err EACCES) nay) ∙ is))
@@ -85,7 +88,7 @@ pub found_without : (es : Names) (name q : Name) (m : ℕ) → inode_of (without
 found_without es name q m h =
     let p : Name → Bool = λ x. not (eq_by_cmp name_cmp name x) in
     let is : cond (p q) (inode_of es q) None ≡ Some m =
-        sym (find-where_key name_cmp p q (λ x tie. ap (λ r. not (is_eq r)) (sym (alike_right nat_list_cmp_total q x name tie))) es) ∙ h in
+    sym (find-where_key name_cmp p q (λ x tie. ap (λ r. not (is_eq r)) (sym (alike_right nat_list_cmp_total q x name tie))) es) ∙ h in
     elim (cases_Bool (p q)) [
       | inl ay ↦ sym (cond-true (p q) (inode_of es q) None ay) ∙ is
       | inr nay ↦ absurd (not_nothing m (sym (cond-false (p q) (inode_of es q) None nay) ∙ is))

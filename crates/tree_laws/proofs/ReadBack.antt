@@ -1,6 +1,6 @@
 -- A read gives the bytes that a write put there.
-use Rattle.std.proofs.Common.{◌≡◌, ◌≤◌, ◌<◌, ◌+◌, ◌-◌, ℕ, zero, suc, List, [], ◌∷◌, Bool, true, false, refl, sym, ap, subst, ◌∙◌, arith, length, get_or, pos}
-use Rattle.std.specs.Prelude.{Some, Result, Ok, Err, nat_le, nat_lt, not, ◌&&◌, slice_index, if◌then◌else◌}
+use Rattle.std.proofs.Common.{◌≡◌, ◌≤◌, ◌<◌, ◌+◌, ◌-◌, ℕ, suc, List, [], ◌∷◌, true, false, refl, sym, ap, subst, ◌∙◌, arith, length, pos}
+use Rattle.std.specs.Prelude.{Some, Result, Ok, Err, nat_le, nat_lt, not, ◌&&◌, slice_index}
 use mathlib.Core.Logic.{inl, inr}
 use Rattle.std.proofs.lemmas.Bool.{cases_Bool, cond-true, cond-false, and_from, le-leb, lt-ltb, ltb-true, ltb-false, not_from_true}
 use Rattle.layout.specs.declared.Geometry.{Geometry}
@@ -8,9 +8,9 @@ use Rattle.errno.specs.declared.Errno.{Errno}
 use Rattle.errno.specs.declared.Errno.TheVariants.{ENOENT, EISDIR, EBADF, EINVAL, ENOSPC}
 use Rattle.tree.specs.declared.Who.{Who}
 use Rattle.tree.specs.declared.Whence.TheVariants.{Set}
-use Rattle.tree.specs.declared.Call.TheVariants.{Read, Write, Seek}
+use Rattle.tree.specs.declared.Call.TheVariants.{Read, Seek}
 use Rattle.tree.specs.Flags.{reads}
-use Rattle.tree.specs.Tree.{File, is_file, Node, OpenFile, Tree, with_node, most_sessions, most_bytes, most_size}
+use Rattle.tree.specs.Tree.{File, is_file, Node, OpenFile, Tree, most_sessions, most_bytes, most_size}
 use Rattle.tree.specs.IsTree.{IsTree}
 use Rattle.tree.specs.Space.{zones_used, data_zones}
 use Rattle.tree.specs.Refusals.{◌>>=◌, or_refuse, refuse_if}
@@ -19,12 +19,12 @@ use Rattle.tree.specs.Changes.{open_file_of, at_position, with_body, file_after_
 use Rattle.tree.specs.Answers.{Answer, refused, some_bytes, wrote, position, Effect, if_it_fits}
 use Rattle.tree.specs.NodeCalls.{file_or}
 use Rattle.tree.specs.FileCalls.{write, seek, read, bytes_from, bytes_read, seek_base, seek_place}
-use Rattle.tree.specs.Effects.{effect_of, effect_in_session, reply_to, tree_after_call}
+use Rattle.tree.specs.Effects.{effect_of, reply_to, tree_after_call}
 use Rattle.tree.proofs.Maps.{put-same}
 use Rattle.tree_laws.specs.Room.{with_zones}
 use Rattle.tree_laws.specs.Sessions.{ReadGivesWritten}
 use Rattle.tree_laws.proofs.Steps.{not_refused, ok_is, passed, both_steps, IsOpened}
-use Rattle.tree_laws.proofs.Outcomes.{Effects, IsClosed, plain_refuse}
+use Rattle.tree_laws.proofs.Outcomes.{Effects, IsClosed}
 use Rattle.tree_laws.proofs.FileOutcomes.{write_each, start, after_write}
 use Rattle.tree_laws.proofs.Listing.{opens_to}
 
@@ -80,9 +80,17 @@ module _ (g : Geometry) (t : Tree) (tree : IsTree g t) (who : Who) (now fd : ℕ
       (λ found node f is none made made_is.
       let at_most = (tree.open_files.each found.0 found.1 is.opened.file).position in
       subst (λ u. IsWritten u who.session fd bytes) (ap (λ x. x.1) (ok_is (wrote 0, t) made (Ok (wrote 0, t)) refl made_is)) (record {
-        number = found.0; file = found.1; node = node; f = f; first = found.1.position;
-        opened = is.opened; there = is.there; body = is.file;
-        place = omega (arith, none); fits = omega (arith, none, at_most); few = omega (arith, none);
+        number = found.0;
+        file = found.1;
+        node = node;
+        f = f;
+        first = found.1.position;
+        opened = is.opened;
+        there = is.there;
+        body = is.file;
+        place = omega (arith, none);
+        fits = omega (arith, none, at_most);
+        few = omega (arith, none);
         whole = not_below (f.size - found.1.position) (length bytes) (omega (arith, none));
         each = λ j l. absurd (omega (arith, none, l));
       }))
@@ -98,7 +106,9 @@ module _ (g : Geometry) (t : Tree) (tree : IsTree g t) (who : Who) (now fd : ℕ
         opened = record { descriptor = is.opened.descriptor; file = put-same t.open_files found.0 _ };
         there = put-same t.nodes found.1.inode (Some new);
         body = refl;
-        place = refl; fits = fits; few = few;
+        place = refl;
+        fits = fits;
+        few = few;
         whole = whole_is g f (start t who.session Puts closed found.1 f) bytes;
         each = byte_is g f (start t who.session Puts closed found.1 f) bytes;
       }))
@@ -187,7 +197,7 @@ module _ (g : Geometry) (u : Tree) (who : Who) (allowed : nat_le most_sessions w
   read_back : (later last : ℕ) → reply_to g (tree_after_call g u who later (Seek fd Set (pos at))) who last (Read fd n) ≡ some_bytes bytes
   read_back later last =
       let seeks : effect_of g u who later (Seek fd Set (pos at)) ≡ Ok (position (0 + at), back) =
-          ap (λ b. refuse_if b EINVAL >>= λ _. seek u who.session fd Set (pos at)) allowed ∙ sought in
+      ap (λ b. refuse_if b EINVAL >>= λ _. seek u who.session fd Set (pos at)) allowed ∙ sought in
       let reads_it : effect_of g back who last (Read fd n) ≡ take w.f = ap (λ b. refuse_if b EINVAL >>= λ _. read back who.session fd n) allowed ∙ read_is in
       ap (λ e. reply_to g (elim e [ Ok made ↦ made.1 | Err _ ↦ u ]) who last (Read fd n)) seeks
       ∙ ap (λ e. elim e [ Ok made ↦ made.0 | Err x ↦ refused x ]) reads_it

@@ -1,16 +1,16 @@
 -- What holds of the refusals and of the successes of rename holds of the call.
-use Rattle.std.proofs.Common.{◌≡◌, ◌≢◌, ◌<◌, ◌≤◌, ℕ, List, Bool, true, false, refl, sym, ap, ◌∙◌, arith}
-use Rattle.std.specs.Prelude.{Option, None, Some, Result, Ok, Err, not, ◌&&◌, ◌||◌, ◌==◌, nat_le, if◌then◌else◌}
+use Rattle.std.proofs.Common.{◌≡◌, ◌≢◌, ℕ, List, Bool, true, false, refl}
+use Rattle.std.specs.Prelude.{Option, None, Some, Result, Ok, not, ◌&&◌, ◌||◌, ◌==◌, nat_le, if◌then◌else◌}
 use Rattle.std.proofs.lemmas.Bool.{or_parts, not-false, eqb-false}
 use Rattle.layout.specs.declared.Geometry.{Geometry}
 use Rattle.errno.specs.declared.Errno.{Errno}
-use Rattle.errno.specs.declared.Errno.TheVariants.{ENOENT, EACCES, EBUSY, EINVAL, EISDIR, EMLINK, ENOTDIR, ENOTEMPTY}
+use Rattle.errno.specs.declared.Errno.TheVariants.{ENOENT, EACCES, EBUSY, EINVAL, EISDIR, ENOTDIR, ENOTEMPTY}
 use Rattle.tree.specs.declared.User.{User}
 use Rattle.tree.specs.Names.{Name, inode_of}
 use Rattle.tree.specs.Tree.{Node, Tree, is_dir, is_open, most_links}
 use Rattle.tree.specs.Refusals.{◌>>=◌, or_refuse, refuse_if}
 use Rattle.tree.specs.Walk.{read_path, parent_walk, node_at, has_last_name, Place, may_access, to_write}
-use Rattle.tree.specs.Answers.{done, Effect, if_it_fits}
+use Rattle.tree.specs.Answers.{done, if_it_fits}
 use Rattle.tree.specs.NameCalls.{is_empty, is_within, can_replace, has_room_for_link, without_moved, with_moved, without_replaced, rename_onto, is_same, rename}
 use Rattle.tree_laws.proofs.Steps.{passed, was_there, both_steps}
 use Rattle.tree_laws.proofs.Outcomes.{Effects, IsClosed, with_zones, is_plain, plain_refuse, plain_or, plain_bind, plain_node, plain_read, plain_parent_walk}
@@ -107,7 +107,12 @@ module _ (g : Geometry) (t : Tree) (user : User) (now : ℕ) (old_path new_path 
         steps _ (node_at t q) (at_other old new n node q) (plain_node t q) (λ other other_is.
         steps _ (can_replace t node q other) (λ _. move_onto old new n node q other) (plain_can_replace t node q other) (λ x can.
         onto old new n node q other (record {
-          move = move; not_within = not_within; taken = taken; differs = eqb-false n q differs; other_there = was_there _ _ _ other_is; can = is_replaceable t node q other x can;
+          move = move;
+          not_within = not_within;
+          taken = taken;
+          differs = eqb-false n q differs;
+          other_there = was_there _ _ _ other_is;
+          can = is_replaceable t node q other x can;
         })))
 
     abbrev at_place : Place → Place → ℕ → Node → Effects
@@ -165,6 +170,13 @@ module _ (g : Geometry) (t : Tree) (user : User) (now : ℕ) (old_path new_path 
         at_test P (is_same n (inode_of new.names new.name)) (λ z. Ok (done, t)) (at_other_node old new n node) (λ _. same) (λ differs.
         steps _ (refuse_if (is_dir node && is_within g t new.directory n) EINVAL) (λ _. at_place old new n node) (plain_refuse _ _ refl) (λ y within.
         onto_each old new n node (record {
-          old_parts = old_parts; new_parts = new_parts; read_old = read_old; read = read; last = not-false _ (or_parts _ (not (has_last_name new_parts)) (passed _ _ x last)).1;
-          from = from; to = to; found = was_there _ _ _ found; there = was_there _ _ _ node_is;
+          old_parts = old_parts;
+          new_parts = new_parts;
+          read_old = read_old;
+          read = read;
+          last = not-false _ (or_parts _ (not (has_last_name new_parts)) (passed _ _ x last)).1;
+          from = from;
+          to = to;
+          found = was_there _ _ _ found;
+          there = was_there _ _ _ node_is;
         }) (passed _ _ y within) (inode_of new.names new.name) refl differs)))))))))))))

@@ -1,16 +1,16 @@
 -- The shape of a tree: what its nodes' names, parents, kinds and links have to do with one another, by sums of weights.
-use Rattle.std.proofs.Common.{◌≡◌, ◌≢◌, ◌<◌, ◌≤◌, ◌+◌, ℕ, Bool, true, false, refl, sym, ap, subst, ◌∙◌, arith}
+use Rattle.std.proofs.Common.{◌≡◌, ◌≢◌, ◌≤◌, ◌+◌, ℕ, Bool, true, false, refl, sym, ap, subst, ◌∙◌, arith}
 use mathlib.Core.Logic.{inl, inr}
-use Rattle.std.specs.Prelude.{Option, None, Some, is_some, IsTrue, if◌then◌else◌}
+use Rattle.std.specs.Prelude.{Option, None, Some, is_some, IsTrue}
 use Rattle.std.proofs.lemmas.Bool.{cases_eq, cases_Bool, cond-true, cond-false}
 use Rattle.layout.specs.declared.Geometry.{Geometry}
 use Rattle.tree.specs.Sums.{sum_below, one_if}
 use Rattle.tree.specs.Names.{Name, inode_of}
 use Rattle.tree.specs.Tree.{Body, is_file, is_directory, Node, is_dir, is_dir_at, names_of, parent_of, most_links}
-use Rattle.tree.specs.IsTree.{IsDirectory, IsBody, IsNode, IsPlaced, NodesAgree, names_to, all_names_to, subdirectories, above, links_due}
+use Rattle.tree.specs.IsTree.{IsDirectory, IsBody, IsNode, NodesAgree, names_to, all_names_to, subdirectories, above, links_due}
 use Rattle.tree.proofs.Maps.{same_sum, not_true}
 use Rattle.tree_laws.proofs.Weights.{weigh, names_weigh, subdirectories_weigh}
-use Rattle.tree_laws.proofs.Freed.{part_below, no_names, no_parent}
+use Rattle.tree_laws.proofs.Freed.{no_names, no_parent}
 use Rattle.tree_laws.proofs.Totals.{one_for, one_for_itself, weigh_found, name_found, sum_of_none}
 
 abbrev pub Nodes : Type 0
@@ -53,12 +53,26 @@ AllFit g nodes = (n : ℕ) (node : Node) → nodes n ≡ Some node → IsNode g 
 
 pub fits_without_links : (g : Geometry) (node : Node) → IsNode g node → IsNode g (record node { links = 0 })
 fits_without_links g node fits = record {
-  permissions = fits.permissions; links = omega arith; uid = fits.uid; gid = fits.gid; atime = fits.atime; mtime = fits.mtime; ctime = fits.ctime; body = fits.body;
+  permissions = fits.permissions;
+  links = omega arith;
+  uid = fits.uid;
+  gid = fits.gid;
+  atime = fits.atime;
+  mtime = fits.mtime;
+  ctime = fits.ctime;
+  body = fits.body;
 }
 
 pub fits_with_links : (g : Geometry) (node : Node) → IsNode g (record node { links = 0 }) → node.links ≤ most_links → IsNode g node
 fits_with_links g node fits links = record {
-  permissions = fits.permissions; links = links; uid = fits.uid; gid = fits.gid; atime = fits.atime; mtime = fits.mtime; ctime = fits.ctime; body = fits.body;
+  permissions = fits.permissions;
+  links = links;
+  uid = fits.uid;
+  gid = fits.gid;
+  atime = fits.atime;
+  mtime = fits.mtime;
+  ctime = fits.ctime;
+  body = fits.body;
 }
 
 pub totals_alike : (g : Geometry) (nodes : Nodes) (n : ℕ) → all_names_to g nodes n ≡ total g nodes (one_for n)

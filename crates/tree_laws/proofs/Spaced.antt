@@ -1,20 +1,19 @@
 -- What an effect does to the room on a volume.
 use Rattle.std.proofs.Common.{◌≡◌, ◌≤◌, ◌<◌, ◌+◌, ◌-◌, ℕ, Bool, true, false, refl, sym, ap, ◌∙◌, arith}
 use mathlib.Core.Logic.{inl, inr, ◌⊎◌}
-use Rattle.std.specs.Prelude.{Option, None, Some, is_some, IsTrue, Result, Ok, Err, nat_lt, not, ◌&&◌}
+use Rattle.std.specs.Prelude.{Option, None, Some, is_some, IsTrue, Ok, Err, nat_lt, not, ◌&&◌}
 use Rattle.std.proofs.lemmas.Bool.{cases_eq, cases_Bool, cond_both, cond-true, cond-false, ltb-true, ltb-false, lt-ltb, not-true}
 use Rattle.layout.specs.declared.Geometry.{Geometry}
 use Rattle.errno.specs.declared.Errno.{Errno}
 use Rattle.errno.specs.declared.Errno.TheVariants.{ENOSPC}
 use Rattle.tree.specs.Tree.{Node, Tree, is_open, with_node, on_node}
 use Rattle.tree.specs.Space.{zones_used, data_zones}
-use Rattle.tree.specs.Refusals.{◌>>=◌}
 use Rattle.tree.specs.Changes.{has_no_link, without_nameless}
 use Rattle.tree.specs.Answers.{Answer, Effect, if_it_fits}
 use Rattle.tree.proofs.Maps.{put-same, put-other, not_true}
 use Rattle.tree_laws.specs.Room.{with_zones, NoInodeFree}
 use Rattle.tree_laws.proofs.Steps.{not_refused, ok_is}
-use Rattle.tree_laws.proofs.Outcomes.{Effects, IsClosed, is_enospc, is_plain}
+use Rattle.tree_laws.proofs.Outcomes.{Effects, IsClosed, is_enospc}
 use Rattle.tree_laws.proofs.Views.{view_kept}
 
 -- some number of zones lets it leave a tree that uses more than there are
@@ -92,15 +91,18 @@ module _ (g : Geometry) (t : Tree) (makes : Bool) (answer : Answer) (after : Tre
     refused = λ z made is more bound.
         let same = ap (λ x. zones_used g x.1) (made_is z made is).1 in
         cond-true (is_over g.zones) (Err ENOSPC) (Ok (answer, after)) (lt-ltb (data_zones g) (zones_used g after) (omega (arith, same, more)));
-    why = λ is. (refl, elim (cases_Bool (is_over g.zones)) [
-      | inr fits ↦ absurd (ok_never (answer, after) ENOSPC (sym (cond-false (is_over g.zones) (Err ENOSPC) (Ok (answer, after)) fits) ∙ is))
-      | inl over ↦ inl (record {
-        zones = g.first_zone + zones_used g after;
-        made = (answer, after);
-        is_made = cond-false (is_over (g.first_zone + zones_used g after)) (Err ENOSPC) (Ok (answer, after)) (never_over (g.first_zone + zones_used g after) (omega arith));
-        too_big = ltb-true (data_zones g) (zones_used g after) over;
-      })
-    ]);
+    why = λ is. (
+      refl,
+      elim (cases_Bool (is_over g.zones)) [
+        | inr fits ↦ absurd (ok_never (answer, after) ENOSPC (sym (cond-false (is_over g.zones) (Err ENOSPC) (Ok (answer, after)) fits) ∙ is))
+        | inl over ↦ inl (record {
+          zones = g.first_zone + zones_used g after;
+          made = (answer, after);
+          is_made = cond-false (is_over (g.first_zone + zones_used g after)) (Err ENOSPC) (Ok (answer, after)) (never_over (g.first_zone + zones_used g after) (omega arith));
+          too_big = ltb-true (data_zones g) (zones_used g after) over;
+        })
+      ],
+    );
     none_made = λ full z made is m h. none full m (ap (λ x. is_some (x.1.nodes m)) (made_is z made is).1 ∙ h);
   }
     where

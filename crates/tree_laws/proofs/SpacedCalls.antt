@@ -1,35 +1,34 @@
 -- What each client call does to the room on a volume.
-use Rattle.std.proofs.Common.{◌≡◌, ◌≤◌, ◌<◌, ◌+◌, ℕ, List, Bool, true, false, refl, sym, ap, subst, ◌∙◌, arith, length}
-use mathlib.Core.Logic.{inl, inr, ◌⊎◌}
-use Rattle.std.specs.Prelude.{Option, None, Some, is_some, IsTrue, Result, Ok, Err, nat_le, not}
+use Rattle.std.proofs.Common.{◌≡◌, ◌≤◌, ◌<◌, ℕ, Bool, true, false, refl, sym, ap, subst, ◌∙◌, arith, length}
+use mathlib.Core.Logic.{inl, inr}
+use Rattle.std.specs.Prelude.{Option, None, Some, is_some, IsTrue, Ok, Err, nat_le}
 use Rattle.std.proofs.lemmas.Bool.{cond_both}
 use Rattle.layout.specs.declared.Geometry.{Geometry}
-use Rattle.layout.specs.Places.{IsGeometry}
-use Rattle.errno.specs.declared.Errno.TheVariants.{EINVAL, ENOSPC}
+use Rattle.errno.specs.declared.Errno.TheVariants.{EINVAL}
 use Rattle.tree.specs.declared.Who.{Who}
 use Rattle.tree.specs.declared.Call.{Call}
 use Rattle.tree.specs.declared.Call.TheVariants.{Open, Close, Dup, Read, Write, Seek, Stat, Fstat, Link, Unlink, Mkdir, Rmdir, Rename, Chmod, Chown, Utime, Truncate, Readdir, Sync, Statfs}
-use Rattle.tree.specs.Tree.{File, is_file, Node, OpenFile, Tree, has_descriptor, with_node, on_node, with_open_file, with_descriptor, is_dir, most_sessions}
+use Rattle.tree.specs.Tree.{Node, Tree, has_descriptor, with_node, on_node, with_open_file, with_descriptor, is_dir, most_sessions}
 use Rattle.tree.specs.Space.{zones_of, zones_used, data_zones, free_zones, free_inodes}
-use Rattle.tree.specs.Refusals.{◌>>=◌, refuse_if}
+use Rattle.tree.specs.Refusals.{refuse_if}
 use Rattle.tree.specs.Walk.{Place}
-use Rattle.tree.specs.Changes.{with_ctime, with_body, with_link_lost, fewer_links, more_links, new_node, empty_file, empty_directory, file_after_resize, without_nameless, without_unused}
+use Rattle.tree.specs.Changes.{with_ctime, with_link_lost, fewer_links, more_links, new_node, empty_file, empty_directory, without_nameless, without_unused}
 use Rattle.tree.specs.NodeCalls.{attributes_of}
 use Rattle.tree.specs.NameCalls.{with_entry, without_entry, with_name_lost, without_moved, with_moved, without_replaced}
 use Rattle.tree.specs.FileCalls.{bytes_read, with_open, after_truncate_flag}
 use Rattle.tree.specs.Answers.{Answer, Effect, done, descriptor, some_bytes, wrote, position, node_is, names_are, room_is}
 use Rattle.tree.specs.Effects.{user_of, effect_in_session, effect_of, tree_after_call}
 use Rattle.tree.proofs.Maps.{not_true}
-use Rattle.tree_laws.specs.Room.{with_zones, NoInodeFree, may_take, may_make, IsTooBig, EveryCallFits, TooBigIsRefused, EnospcMeans, FullMakesNone, OthersHaveRoom}
-use Rattle.tree_laws.proofs.Outcomes.{Effects, IsFree, plain_refuse}
+use Rattle.tree_laws.specs.Room.{with_zones, NoInodeFree, may_take, may_make, EveryCallFits, TooBigIsRefused, EnospcMeans, FullMakesNone, OthersHaveRoom}
+use Rattle.tree_laws.proofs.Outcomes.{IsFree, plain_refuse}
 use Rattle.tree_laws.proofs.NodeOutcomes.{stat_each, chmod_each, chown_each, utime_each, truncate_each, unlink_each}
 use Rattle.tree_laws.proofs.FileOutcomes.{close_each, dup_each, fstat_each, readdir_each, seek_each, read_each, write_each, after_write}
 use Rattle.tree_laws.proofs.NameOutcomes.{link_each, mkdir_each, rmdir_each}
 use Rattle.tree_laws.proofs.OpenOutcomes.{open_each}
-use Rattle.tree_laws.proofs.RenameOutcomes.{IsMove, rename_each}
+use Rattle.tree_laws.proofs.RenameOutcomes.{rename_each}
 use Rattle.tree_laws.proofs.OpenCall.{cut_is}
 use Rattle.tree_laws.proofs.Fewer.{with_node_less, on_node_less, nameless_less, resized_less, without_entry_less}
-use Rattle.tree_laws.proofs.Spaced.{IsNoMore, IsTooBigIn, IsSpaced, spaced_closed, spaced_ok, spaced_fit, spaced_full, no_more_itself, no_more_at, no_more_on, no_more_gone, no_more_nameless}
+use Rattle.tree_laws.proofs.Spaced.{IsNoMore, IsSpaced, spaced_closed, spaced_ok, spaced_fit, spaced_full, no_more_itself, no_more_at, no_more_on, no_more_gone, no_more_nameless}
 
 no_less : (n : ℕ) → n ≤ n
 no_less n = omega arith

@@ -1,5 +1,5 @@
 -- A tree whose nodes alone changed.
-use Rattle.std.proofs.Common.{◌≡◌, ◌≢◌, ℕ, Bool, true, false, refl, sym, ap, subst, ◌∙◌}
+use Rattle.std.proofs.Common.{◌≡◌, ◌≢◌, ℕ, true, refl, sym, ap, subst, ◌∙◌}
 use Rattle.std.specs.Prelude.{Option, None, Some, is_some, IsTrue}
 use Rattle.std.proofs.lemmas.Bool.{eq-eqb}
 use Rattle.layout.specs.declared.Geometry.{Geometry}
@@ -39,10 +39,6 @@ nameless_open g t tree m some none = by_node (t.nodes m) refl some none
 pub is_open_by : (g : Geometry) (t : Tree) → IsTree g t → (k : ℕ) (o : OpenFile) → t.open_files k ≡ Some o → IsTrue (is_open t o.inode)
 is_open_by g t tree k o e =
     found_below (λ j. opens o.inode (t.open_files j)) most_open_files k (tree.open_files.numbers k (ap is_some e)) (ap (opens o.inode) e ∙ eq-eqb o.inode o.inode refl)
-
--- what is open is there
-pub open_is_there : (g : Geometry) (t : Tree) → IsTree g t → (k : ℕ) (o : OpenFile) → t.open_files k ≡ Some o → IsTrue (is_some (t.nodes o.inode))
-open_is_there g t tree k o e = (tree.open_files.each k o e).node
 
 module _ (g : Geometry) (t u : Tree) (over : IsOver t u) (tree : IsTree g t) (agree : NodesAgree g u.nodes)
     (open_kept : (i : ℕ) → IsTrue (is_some (t.nodes i)) → IsTrue (is_open t i) → IsTrue (is_some (u.nodes i)) × (kind_of (u.nodes i) ≡ kind_of (t.nodes i))) where

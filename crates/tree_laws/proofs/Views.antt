@@ -1,17 +1,17 @@
 -- What a change of one node leaves, and adds or takes, in all nodes.
-use Rattle.std.proofs.Common.{◌≡◌, ◌≢◌, ◌<◌, ◌≤◌, ◌+◌, ◌*◌, ◌^◌, ℕ, Bool, true, false, refl, sym, ap, subst, ◌∙◌, arith, length}
+use Rattle.std.proofs.Common.{◌≡◌, ◌≢◌, ◌<◌, ◌≤◌, ◌+◌, ◌*◌, ◌^◌, ℕ, true, refl, sym, ap, subst, ◌∙◌, arith, length}
 use mathlib.Core.Logic.{inl, inr}
 use Rattle.std.specs.Prelude.{Option, None, Some, is_some, IsTrue}
 use Rattle.std.proofs.lemmas.Bool.{cases_eq}
 use Rattle.layout.specs.declared.Geometry.{Geometry}
 use Rattle.tree.specs.Sums.{put}
-use Rattle.tree.specs.Names.{Name, Names, is_name, inode_of, with_name, without_name}
+use Rattle.tree.specs.Names.{Names, is_name, inode_of, with_name, without_name}
 use Rattle.tree.specs.Tree.{Body, Directory, is_file, is_directory, Node, Tree, names_of, parent_of, with_node, on_node, most_size}
-use Rattle.tree.specs.IsTree.{IsDirectory, IsBody, IsNode}
+use Rattle.tree.specs.IsTree.{IsNode}
 use Rattle.tree.specs.Walk.{Place}
-use Rattle.tree.specs.Changes.{with_names, with_body, with_parent, with_ctime}
+use Rattle.tree.specs.Changes.{with_names, with_body}
 use Rattle.tree.specs.NameCalls.{with_entry, without_entry}
-use Rattle.tree.proofs.Maps.{put-same, put-other, not_true, not_nothing, is_the_one}
+use Rattle.tree.proofs.Maps.{put-same, put-other, not_true, not_nothing}
 use Rattle.tree_laws.proofs.OpenFiles.{alike_put, of_put}
 use Rattle.tree_laws.proofs.Places.{from_true, without_name_fits}
 use Rattle.tree_laws.proofs.Weights.{weigh, weigh_with_name, weigh_without_name}
@@ -149,9 +149,15 @@ module _ (t : Tree) (now : ℕ) (place : Place) (n : ℕ) (directory : kind_of (
       in_body (is_file f) node e fits = fits
       in_body (is_directory d) node e fits =
           let count : weight (with_entry t now place n).nodes (λ _. 1) place.directory ≡ length (with_name d.names place.name n) =
-              ap (λ o. weigh (λ _. 1) (names_of o)) (on_node_at t place.directory (with_names now F) (record node { body = is_directory d }) e) ∙ weigh_one (with_name d.names place.name n) in
+          ap (λ o. weigh (λ _. 1) (names_of o)) (on_node_at t place.directory (with_names now F) (record node { body = is_directory d }) e) ∙ weigh_one (with_name d.names place.name n) in
           record {
-            permissions = fits.permissions; links = omega arith; uid = fits.uid; gid = fits.gid; atime = fits.atime; mtime = small; ctime = small;
+            permissions = fits.permissions;
+            links = omega arith;
+            uid = fits.uid;
+            gid = fits.gid;
+            atime = fits.atime;
+            mtime = small;
+            ctime = small;
             body = with_name_fits d place.name n named (omega (arith, count, size)) fits.body;
           }
 
@@ -208,6 +214,12 @@ module _ (g : Geometry) (t : Tree) (now : ℕ) (place : Place) (n : ℕ) (fits :
       in_body : (body : Body) (node : Node) → IsNode g (record node { links = 0; body = body }) → IsNode g (record (with_names now L (record node { body = body })) { links = 0 })
       in_body (is_file f) node fit = fit
       in_body (is_directory d) node fit = record {
-        permissions = fit.permissions; links = omega arith; uid = fit.uid; gid = fit.gid; atime = fit.atime; mtime = small; ctime = small;
+        permissions = fit.permissions;
+        links = omega arith;
+        uid = fit.uid;
+        gid = fit.gid;
+        atime = fit.atime;
+        mtime = small;
+        ctime = small;
         body = without_name_fits d place.name fit.body;
       }

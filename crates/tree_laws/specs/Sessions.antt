@@ -1,5 +1,5 @@
 -- What sessions, names and bytes may rest on from call to call.
-use Rattle.std.specs.Prelude.{◌≡◌, ◌≢◌, ℕ, ◌+◌, List, length, pos, Bool, true, Ok, Some}
+use Rattle.std.specs.Prelude.{◌≡◌, ◌≢◌, ℕ, ◌+◌, List, length, pos, true, Ok, Some}
 use Rattle.std.specs.Borrow.{Bor}
 use Rattle.std.specs.FinMap.Entries.{is_sorted}
 use Rattle.layout.specs.declared.Geometry.{Geometry}
