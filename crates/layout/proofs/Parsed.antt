@@ -1,13 +1,13 @@
 -- What a superblock that isn't refused promises.
-use Rattle.std.proofs.Common.{◌≡◌, ◌<◌, ◌≤◌, ◌+◌, ◌-◌, ◌*◌, ℕ, List, length, slice_index, Bool, true, false, refl, sym, ap, subst, ◌∙◌, arith}
+use Rattle.std.proofs.Common.{◌≡◌, ◌<◌, ◌≤◌, ◌+◌, ◌-◌, ◌*◌, ℕ, length, slice_index, Bool, true, false, refl, sym, ap, subst, arith}
 use mathlib.Core.Logic.{◌⊎◌, inl, inr}
-use Rattle.std.specs.Prelude.{Result, Ok, Err, T, not, is_ok, ◌==◌, ◌&&◌, ◌||◌, nat_lt, nat_le, if◌then◌else◌, IsTrue}
+use Rattle.std.specs.Prelude.{Result, Ok, Err, T, not, is_ok, ◌==◌, ◌&&◌, ◌||◌, nat_lt, if◌then◌else◌}
 use Rattle.std.proofs.lemmas.Bool.{and_parts, eqb-true, leb-true, ltb-true, ltb-false}
 use Rattle.layout.specs.declared.Geometry.{Geometry}
 use Rattle.layout.specs.declared.LayoutRefusal.{LayoutRefusal}
 use Rattle.layout.specs.declared.LayoutRefusal.TheVariants.{Truncated, BadMagic, BadBlockSize, BadVersion, BadCounts, DoesNotFit}
 use Rattle.layout.specs.Bytes.{u16_at, u32_at}
-use Rattle.layout.specs.Places.{superblock_geometry, table_blocks, counts_agree, is_block_size, IsGeometry, geometry_of, GeometryFits}
+use Rattle.layout.specs.Places.{superblock_geometry, counts_agree, is_block_size, IsGeometry, GeometryFits}
 
 -- a test that was passed, and what comes after it
 passed : (b : Bool) (refusal : LayoutRefusal) (rest : Result Geometry LayoutRefusal) (g : Geometry)

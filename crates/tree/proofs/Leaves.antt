@@ -18,12 +18,14 @@ use Rattle.tree.specs.FileCalls.{fstat, readdir, names_or}
 use Rattle.tree.specs.Effects.{effect_in_session, user_of}
 use Rattle.tree.specs.Laws.{RefusedLeaves, LooksLeave}
 
+-- what a call with that effect answers, and the tree it leaves
 abbrev answer_after : Effect → Answer
 answer_after o = elim o [ Ok made ↦ made.0 | Err e ↦ refused e ]
 
 abbrev tree_after : Tree → Effect → Tree
 tree_after t o = elim o [ Ok made ↦ made.1 | Err e ↦ t ]
 
+-- the law of refused calls
 pub refused_leaves : RefusedLeaves
 refused_leaves g t who now call e h = (ap answer_after h, ap (tree_after t) h)
 
@@ -31,6 +33,7 @@ refused_leaves g t who now call e h = (ap answer_after h, ap (tree_after t) h)
 record Leaves (t : Tree) (o : Effect) : Type 0 where
   same : tree_after t o ≡ t
 
+-- an answer with the same tree leaves it
 answered : (t : Tree) (a : Answer) → Leaves t (Ok (a, t))
 answered t a = record { same = refl }
 
@@ -39,16 +42,19 @@ bound : {A : Type 0} (t : Tree) (r : Result A Errno) (f : A → Effect) → ((x 
 bound t (Ok x) f h = h x
 bound t (Err e) f h = record { same = refl }
 
+-- stat leaves the tree
 stat_leaves : (t : Tree) (user : User) (path : List ℕ) → Leaves t (stat t user path)
 stat_leaves t user path =
     bound t (walk t user path) (λ n. node_at t n >>= λ node. Ok (node_is (attributes_of n node), t)) (λ n.
     bound t (node_at t n) (λ node. Ok (node_is (attributes_of n node), t)) (λ node. answered t _))
 
+-- fstat leaves the tree
 fstat_leaves : (t : Tree) (session fd : ℕ) → Leaves t (fstat t session fd)
 fstat_leaves t session fd =
     bound t (open_file_of t session fd) (λ found. node_at t found.1.inode >>= λ node. Ok (node_is (attributes_of found.1.inode node), t)) (λ found.
     bound t (node_at t found.1.inode) (λ node. Ok (node_is (attributes_of found.1.inode node), t)) (λ node. answered t _))
 
+-- readdir leaves the tree
 readdir_leaves : (t : Tree) (session fd : ℕ) → Leaves t (readdir t session fd)
 readdir_leaves t session fd =
     bound t (open_file_of t session fd) (λ found. refuse_if (not (reads found.1.flags)) EBADF >>= λ _. node_at t found.1.inode >>= λ node. names_or node ENOTDIR >>= λ names. Ok (names_are names, t)) (λ found.
@@ -56,9 +62,11 @@ readdir_leaves t session fd =
     bound t (node_at t found.1.inode) (λ node. names_or node ENOTDIR >>= λ names. Ok (names_are names, t)) (λ node.
     bound t (names_or node ENOTDIR) (λ names. Ok (names_are names, t)) (λ names. answered t _))))
 
+-- the test of the session
 abbrev session_refused : Who → Result ℕ Errno
 session_refused who = refuse_if (nat_le most_sessions who.session) EINVAL
 
+-- the law of calls that only look
 pub looks_leave : LooksLeave
 looks_leave g t who now (Stat path) h = (bound t (session_refused who) (λ _. effect_in_session g t who now (Stat path)) (λ _. stat_leaves t (user_of who) path.now)).same
 looks_leave g t who now (Fstat fd) h = (bound t (session_refused who) (λ _. effect_in_session g t who now (Fstat fd)) (λ _. fstat_leaves t who.session fd)).same

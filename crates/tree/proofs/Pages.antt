@@ -1,16 +1,15 @@
 -- Held pages are among those that an inode has room for.
-use Rattle.std.proofs.Common.{◌≡◌, ◌<◌, ◌≤◌, ◌+◌, ◌-◌, ◌*◌, ◌/◌, ℕ, refl, sym, subst, arith}
+use Rattle.std.proofs.Common.{◌≡◌, ◌<◌, ◌≤◌, ◌+◌, ◌-◌, ◌*◌, ◌/◌, ℕ, sym, subst, arith}
 use mathlib.Core.Logic.{inl, inr}
-use Rattle.std.specs.Prelude.{nat_lt, IsTrue}
 use Rattle.std.proofs.lemmas.Bool.{ltb-true}
 use Rattle.std.proofs.Math.Nat.{div-mul-le_self, mul-le-mul_right}
-use Rattle.layout.specs.declared.Geometry.{Geometry}
 use Rattle.layout.proofs.Parsed.{block_sizes, is_sized}
-use Rattle.tree.specs.Tree.{is_file, is_directory, most_size, size_of}
+use Rattle.tree.specs.Tree.{is_file, is_directory, size_of}
 use Rattle.tree.specs.Space.{pages_of}
 use Rattle.tree.specs.ZonesNeeded.{page_limit}
 use Rattle.tree.specs.Laws.{PagesFit, HeldPagesFit}
 
+-- a page that begins below a size is one of those of its inode
 pub pages_fit : PagesFit
 pages_fit width q size accepted small below = elim (block_sizes width accepted) [
   | inl e ↦ subst (λ w. q * w < size → q < page_limit (w / 4)) (sym e) (λ l. omega arith) below
@@ -27,6 +26,7 @@ begins_below width size q sized below =
     let next : (q + 1) * width ≡ q * width + width = omega arith in
     omega arith
 
+-- and so is each page that is held
 pub held_pages_fit : HeldPagesFit
 held_pages_fit g (is_file f) q accepted fits held = pages_fit g.block_size q f.size accepted fits.size (fits.held q held)
 held_pages_fit g (is_directory d) q accepted fits held =

@@ -6,7 +6,6 @@ use Rattle.errno.specs.declared.Errno.{Errno}
 use Rattle.tree.specs.declared.Who.{Who}
 use Rattle.tree.specs.declared.Call.{Call}
 use Rattle.tree.specs.declared.Call.TheVariants.{Stat, Fstat, Readdir, Sync, Statfs}
-use Rattle.tree.specs.declared.Whence.{Whence}
 use Rattle.tree.specs.Sums.{put}
 use Rattle.tree.specs.ZonesNeeded.{page_limit}
 use Rattle.tree.specs.Tree.{Body, Node, Tree, most_size}

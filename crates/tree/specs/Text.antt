@@ -6,7 +6,7 @@ use Rattle.tree.specs.declared.Attributes.{Attributes}
 use Rattle.tree.specs.declared.Room.{Room}
 use Rattle.tree.specs.declared.Outcome.{Outcome}
 use Rattle.tree.specs.declared.Outcome.TheVariants.{Reply, Cut}
-use Rattle.tree.specs.Names.{Name, Names}
+use Rattle.tree.specs.Names.{Name}
 use Rattle.tree.specs.Answers.{Answer, refused, done, descriptor, some_bytes, wrote, position, node_is, names_are, room_is, answer_of}
 
 -- the two lower-case hexadecimal digits of a byte

@@ -45,13 +45,15 @@ bits_for user node =
     if user.uid == node.uid then node.permissions / 64 % 8 else
     if user.gid == node.gid then node.permissions / 8 % 8 else node.permissions % 8
 
--- the bits of a wish
+-- the bit of a wish to read
 abbrev pub to_read : ℕ
 to_read = 4
 
+-- to write, or to change a directory's names
 abbrev pub to_write : ℕ
 to_write = 2
 
+-- to search a directory
 abbrev pub to_search : ℕ
 to_search = 1
 

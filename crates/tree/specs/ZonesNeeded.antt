@@ -14,13 +14,15 @@ from_page start held q = held (start + q)
 abbrev pub quotients : (ℕ → Bool) → ℕ → ℕ → ℕ
 quotients held width n = count_below (λ k. some_below (λ j. held (k * width + j)) width) n
 
--- the blocks of the single, the double and the triple range, of pages counted from its start
+-- the block of the single range, whose pages are counted from its start; so below
 abbrev pub single_blocks : ℕ → (ℕ → Bool) → ℕ
 single_blocks n held = one_if (some_below held n)
 
+-- the blocks of the double range: its top, and one for each n pages of which one is held
 abbrev pub double_blocks : ℕ → (ℕ → Bool) → ℕ
 double_blocks n held = if some_below held (n * n) then 1 + quotients held n n else 0
 
+-- the blocks of the triple range: its top, one for each n * n pages, and one for each n
 abbrev pub triple_blocks : ℕ → (ℕ → Bool) → ℕ
 triple_blocks n held = if some_below held (n * n * n) then 1 + quotients held (n * n) n + quotients held n (n * n) else 0
 

@@ -1,10 +1,17 @@
 //! Laws of the definitions: functions without a body, each of which stands for its clause.
 
+ghost use Rattle.std.specs.Prelude.{◌≡◌};
 ghost use Rattle.tree.specs.IsCall.{IsBytes, IsCall, IsCaller};
 ghost use Rattle.tree.specs.Laws.{FreshIsTree, HeldPagesFit, LooksLeave, PagesFit, RefusedLeaves};
+ghost use Rattle.tree.specs.Names.{most_name};
+ghost use Rattle.tree.specs.Tree.{most_bytes, most_descriptors, most_links, most_open_files, most_permissions, most_sessions, most_size};
+ghost use Rattle.tree.specs.Walk.{most_path};
 ghost use Rattle.tree.specs.ZonesNeededByPlace.{ZonesNeededIsByPlace};
 
-use super::{Call, Who};
+use super::{
+    Call, MAX_DESCRIPTORS, MAX_LINKS, MAX_NAME, MAX_OPEN_FILES, MAX_PATH, MAX_PERMISSIONS,
+    MAX_SESSIONS, MAX_SIZE, MAX_TRANSFER, Who,
+};
 use bitflags::Flags;
 
 /// Every call meets what the laws ask of one, by its types.
@@ -101,4 +108,17 @@ pub fn zones_needed_is_by_place()
 pub fn pages_fit()
     ensures below { PagesFit }
     ensures held { HeldPagesFit }
+{}
+
+/// The constants of the code are the limits of the definitions.
+pub fn limits_agree()
+    ensures sessions { MAX_SESSIONS ≡ most_sessions }
+    ensures descriptors { MAX_DESCRIPTORS ≡ most_descriptors }
+    ensures open_files { MAX_OPEN_FILES ≡ most_open_files }
+    ensures transfer { MAX_TRANSFER ≡ most_bytes }
+    ensures size { MAX_SIZE ≡ most_size }
+    ensures links { MAX_LINKS ≡ most_links }
+    ensures permissions { MAX_PERMISSIONS ≡ most_permissions }
+    ensures name { MAX_NAME ≡ most_name }
+    ensures path { MAX_PATH ≡ most_path }
 {}

@@ -3,6 +3,8 @@
 #![tactic(auto)]
 
 pub mod laws;
+#[cfg(test)]
+mod tests;
 mod text;
 
 ghost use Rattle.std.specs.Prelude.{⊤, [], ◌∷◌, codes};
@@ -37,16 +39,17 @@ pub const MAX_NAME: usize = 60;
 /// The most bytes of a path; a longer one answers ENAMETOOLONG.
 pub const MAX_PATH: usize = 1024;
 
-/// Who asks.
+/// The user and the group that ask. User 0 may do all.
 #[derive(Clone, Copy, Debug, PartialEq, Eq)]
 pub struct User {
     pub uid: u16,
     pub gid: u16,
 }
 
-/// Who calls, and in which session.
+/// Who calls: the session, whose descriptors the call means, and the user and group that it asks for.
 #[derive(Clone, Copy, Debug, PartialEq, Eq)]
 pub struct Who {
+    /// Below [`MAX_SESSIONS`]; a call of another session answers EINVAL.
     pub session: u8,
     pub uid: u16,
     pub gid: u16,
@@ -90,110 +93,148 @@ impl Flags for OpenFlags {
     }
 }
 
-/// Where a seek counts from.
+/// The place from which a seek counts.
 #[derive(Clone, Copy, Debug, PartialEq, Eq)]
 pub enum Whence {
+    /// The start of the file.
     Set,
+    /// The position of the open file.
     Cur,
+    /// The end of the file.
     End,
 }
 
-/// A client call.
+/// A client call. A path begins with `/` and is read from the root on; `.` and `..` mean what they do
+/// in POSIX, repeated slashes count as one, and those at the end are dropped. A mode is permission bits
+/// alone, at most octal 777. Each refusal leaves everything as it was.
 #[derive(Clone, Copy, Debug, PartialEq, Eq)]
 pub enum Call<'a> {
+    /// Opens a file or a directory, at position 0, under the lowest free descriptor. With the create flag
+    /// a missing file is made with the mode; with the truncate flag a file that is there is emptied.
     Open {
         path: &'a [u8],
         flags: OpenFlags,
         mode: u16,
     },
+    /// Frees a descriptor. The last one of a file without a name frees the file.
     Close {
         fd: u32,
     },
+    /// The lowest free descriptor for the same open file, so with the same position.
     Dup {
         fd: u32,
     },
+    /// Up to `count` bytes from the position on, which moves behind them; fewer at the end of the file.
     Read {
         fd: u32,
         count: u32,
     },
+    /// Writes all the bytes at the position, or with the append flag at the end of the file, and moves the
+    /// position behind them. No bytes change nothing.
     Write {
         fd: u32,
         bytes: &'a [u8],
     },
+    /// Moves the position of an open file, to 0 up to [`MAX_SIZE`]; it may lie past the end.
     Seek {
         fd: u32,
         whence: Whence,
         offset: i64,
     },
+    /// The attributes of what a path leads to.
     Stat {
         path: &'a [u8],
     },
+    /// The attributes of what a descriptor has open.
     Fstat {
         fd: u32,
     },
+    /// A further name for a file.
     Link {
         old: &'a [u8],
         new: &'a [u8],
     },
+    /// Takes a name from a file. A file without a name is freed once it isn't open.
     Unlink {
         path: &'a [u8],
     },
+    /// Makes an empty directory.
     Mkdir {
         path: &'a [u8],
         mode: u16,
     },
+    /// Removes an empty directory that isn't open.
     Rmdir {
         path: &'a [u8],
     },
+    /// Moves a file or a directory to another name. What stood there loses the name: a file if a file
+    /// moves, an empty directory that isn't open if a directory does.
     Rename {
         old: &'a [u8],
         new: &'a [u8],
     },
+    /// Sets the permissions, for the owner and user 0.
     Chmod {
         path: &'a [u8],
         mode: u16,
     },
+    /// Sets the owner and the group, for user 0.
     Chown {
         path: &'a [u8],
         uid: u16,
         gid: u16,
     },
+    /// Sets the times of access and of change, in seconds since 1970, for the owner and user 0.
     Utime {
         path: &'a [u8],
         atime: u32,
         mtime: u32,
     },
+    /// Sets the size of a file, at most [`MAX_SIZE`]; where it grows there is a hole, which reads as zeros.
     Truncate {
         path: &'a [u8],
         size: u32,
     },
+    /// The names of a directory but `.` and `..`, with their inodes, in the order of their bytes.
     Readdir {
         fd: u32,
     },
+    /// Answers once all that was changed lies on the disk.
     Sync,
+    /// The sizes of the volume, and what is free of them.
     Statfs,
 }
 
 /// What stat tells of a node.
 #[derive(Clone, Copy, Debug, PartialEq, Eq)]
 pub struct Attributes {
+    /// Its number; the root's is 1.
     pub inode: u16,
+    /// Its type and permissions: octal 0040000 for a directory, 0100000 for a file, and bits of 0777.
     pub mode: u16,
+    /// How many names a file has; for a directory 2 and its subdirectories.
     pub links: u16,
     pub uid: u16,
     pub gid: u16,
+    /// Bytes of a file; for a directory 64 for each entry, `.` and `..` among them.
     pub size: u32,
+    /// When it was made, or what utime set: reads don't change it. Seconds since 1970, as the others.
     pub atime: u32,
+    /// When its bytes or names changed last, or what utime set.
     pub mtime: u32,
+    /// When it changed last in any way but by a read.
     pub ctime: u32,
 }
 
-/// What statfs tells of a volume: the data zones and the inodes, and how many of each are free.
+/// What statfs tells of a volume.
 #[derive(Clone, Copy, Debug, PartialEq, Eq)]
 pub struct Room {
+    /// Bytes of a block, and of a zone.
     pub block_size: u32,
+    /// How many data zones there are.
     pub zones: u32,
     pub free_zones: u32,
+    /// How many inodes there are.
     pub inodes: u32,
     pub free_inodes: u32,
 }
@@ -201,6 +242,7 @@ pub struct Room {
 /// A name in a directory, and its inode.
 #[derive(Debug, PartialEq, Eq, Drop)]
 pub struct Entry {
+    /// 1 to 60 bytes, neither `/` nor zero.
     pub name: Vec<u8>,
     pub inode: u16,
 }
@@ -208,20 +250,31 @@ pub struct Entry {
 /// The reply to a call.
 #[derive(Debug, PartialEq, Eq, Drop)]
 pub enum Reply {
+    /// The call is refused, and nothing is changed.
     Refused(Errno),
+    /// A call that has nothing to tell succeeded.
     Done,
+    /// The descriptor of open or dup.
     Descriptor(u32),
+    /// The bytes of a read.
     Bytes(Vec<u8>),
+    /// How many bytes were written: all of them.
     Wrote(u32),
+    /// The position after a seek.
     At(u32),
+    /// The attributes of stat or fstat.
     Inode(Attributes),
+    /// The names of readdir.
     Names(Vec<Entry>),
+    /// The room of statfs.
     Space(Room),
 }
 
-/// The server's answer to a call: a reply, or none, since the link to the disk has ended.
+/// The server's answer to a call.
 #[derive(Debug, PartialEq, Eq, Drop)]
 pub enum Outcome {
+    /// A reply.
     Reply(Reply),
+    /// No reply: the link to the disk has ended. Whether the call had an effect isn't told.
     Cut,
 }
