@@ -44,8 +44,8 @@ if_less : (b c : Bool) (x y : ℕ) → (b ≡ true → c ≡ true) → x ≤ y �
 if_less false c x y h l = omega arith
 if_less true c x y h l = let is : (if c then y else 0) ≡ y = cond-true c y 0 (h refl) in omega (arith, is, l)
 
-pub fewer_needed : (n : ℕ) (fewer more : ℕ → Bool) → ((q : ℕ) → fewer q ≡ true → more q ≡ true) → zones_needed n fewer ≤ zones_needed n more
-fewer_needed n fewer more less =
+pub fewer_needed : (n : ℕ) (more fewer : ℕ → Bool) → ((q : ℕ) → fewer q ≡ true → more q ≡ true) → zones_needed n fewer ≤ zones_needed n more
+fewer_needed n more fewer less =
     let pages = count_less fewer more (page_limit n) less in
     let single = one_if_less (some_below (from_page 7 fewer) n) (some_below (from_page 7 more) n) (some_less (from_page 7 fewer) (from_page 7 more) n (from 7)) in
     let double = if_less (some_below (from_page (7 + n) fewer) (n * n)) (some_below (from_page (7 + n) more) (n * n))
@@ -94,7 +94,7 @@ nameless_less g t n =
 pub resized_less : (g : Geometry) (now size : ℕ) (node : Node) (f : File) → node.body ≡ is_file f
     → zones_of g (Some (with_body now (is_file (file_after_resize g f size)) node)) ≤ zones_of g (Some node)
 resized_less g now size node f e =
-    let less = fewer_needed (numbers_in_zone g) (λ q. f.held q && nat_lt (q * g.block_size) size) f.held (λ q h. (and_parts (f.held q) (nat_lt (q * g.block_size) size) h).0) in
+    let less = fewer_needed (numbers_in_zone g) f.held (λ q. f.held q && nat_lt (q * g.block_size) size) (λ q h. (and_parts (f.held q) (nat_lt (q * g.block_size) size) h).0) in
     let is : zones_of g (Some node) ≡ zones_needed (numbers_in_zone g) f.held = ap (λ b. zones_of g (Some (record node { body = b }))) e in
     omega (arith, less, is)
 
@@ -116,7 +116,7 @@ entry_less_in g sized now name (is_directory d) node =
     let small = size_of (is_directory (record d { names = without_name d.names name })) in
     let big = size_of (is_directory d) in
     let pages = pages_less g sized small big (let l = length_less name d.names in omega (arith, l)) in
-    fewer_needed (numbers_in_zone g) (λ q. nat_lt q (pages_of g small)) (λ q. nat_lt q (pages_of g big))
+    fewer_needed (numbers_in_zone g) (λ q. nat_lt q (pages_of g big)) (λ q. nat_lt q (pages_of g small))
     (λ q h. let below = ltb-true q (pages_of g small) h in lt-ltb q (pages_of g big) (omega (arith, below, pages)))
 
 pub without_entry_less : (g : Geometry) → 0 < g.block_size → (t : Tree) (now : ℕ) (place : Place) → zones_used g (without_entry t now place) ≤ zones_used g t

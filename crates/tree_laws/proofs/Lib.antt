@@ -52,3 +52,4 @@ pub mod GoneDirectory
 pub mod MovedDirectory
 pub mod Kept
 pub mod AttributeCalls
+pub mod Order

@@ -5,6 +5,7 @@
 ghost use Rattle.tree_laws.specs.Keeps.{ChmodKeeps, ChownKeeps, UtimeKeeps, SeekKeeps, ReadKeeps, DupKeeps, CloseKeeps, WriteKeeps, TruncateKeeps, UnlinkKeeps, LinkKeeps, MkdirKeeps, RmdirKeeps, OpenKeeps, RenameKeeps, EveryCallKeeps};
 ghost use Rattle.tree_laws.specs.Room.{EveryCallFits, TooBigIsRefused, EnospcMeans, FullMakesNone, OthersHaveRoom};
 ghost use Rattle.tree_laws.specs.Sessions.{OtherSessionsStay, RenameOfSameStays, ReaddirLists, ReadGivesWritten};
+ghost use Rattle.tree_laws.specs.Order.{LinkOrder, OpenOrder, FoundOrder, RenameOrder};
 ghost use Rattle.tree_laws.specs.Zones.{NeedIsMonotone, NeedGrows, OnePageMore, PagesLetGo};
 
 /// The calls that set attributes keep a tree a tree.
@@ -103,4 +104,12 @@ pub fn readdir_lists()
 /// After a write, and a seek back to where its bytes begin, a read of as many bytes by the same descriptor gives them.
 pub fn read_gives_written()
     ensures { ReadGivesWritten }
+{}
+
+/// Where two refusals of link, open or rename hold at once, the first in the order of the call's rules is answered.
+pub fn first_refusal_is_answered()
+    ensures link { LinkOrder }
+    ensures open { OpenOrder }
+    ensures found { FoundOrder }
+    ensures rename { RenameOrder }
 {}

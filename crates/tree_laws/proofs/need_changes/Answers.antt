@@ -3,7 +3,7 @@ use Rattle.tree_laws.proofs.NeedGrows.{need_grows, one_page_more, pages_let_go}
 use Rattle.tree_laws.proofs.need_changes.Goals as goal
 
 pub returns-clause-monotone : goal.returns-clause-monotone
-returns-clause-monotone c = λ n more fewer less. fewer_needed n fewer more less
+returns-clause-monotone c = fewer_needed
 
 pub returns-clause-more : goal.returns-clause-more
 returns-clause-more c = need_grows
