@@ -1,5 +1,5 @@
 -- What the refusals leave: tables whose entries lie apart.
-use Rattle.std.proofs.Common.{◌≡◌, ◌≢◌, ℕ, zero, suc, ◌+◌, ◌≤◌, ◌<◌, ◌||◌, Bool, true, false, List, [], ◌∷◌, length, map, refl, sym, ◌∙◌, ap, arith, inl, inr}
+use Rattle.std.proofs.Common.{◌≡◌, ◌≢◌, ℕ, zero, suc, ◌+◌, ◌≤◌, ◌<◌, ◌^◌, ◌||◌, Bool, true, false, List, [], ◌∷◌, length, map, refl, sym, ◌∙◌, ap, arith, inl, inr}
 use Rattle.std.specs.Prelude.{Option, Some, None, IfSome, get_or}
 use Rattle.std.specs.List.{list_any}
 use Rattle.std.proofs.lemmas.Bool.Decides.{nat_tests}
@@ -92,8 +92,9 @@ table_apart t is i j s other x y = elim (cases_lt i j) [
   | inr more ↦ apart (get_or t.entries j None) (get_or t.entries i None) s (none_meet t.entries is j i (omega arith)) y x ]
 
 -- what passes no test of the refusals is a table
-pub is_table : (t : TableState) → length t.entries ≡ 4 → list_any (passes t.sectors) t.entries ≡ false → has_overlap t.entries ≡ false → IsTable t
-is_table t four within overlapping = record {
+pub is_table : (t : TableState) → t.sectors < 2 ^ 32 → length t.entries ≡ 4 → list_any (passes t.sectors) t.entries ≡ false → has_overlap t.entries ≡ false → IsTable t
+is_table t fits four within overlapping = record {
+  fits = fits;
   four = four;
   inside = table_inside t within;
   off_sector_0 = table_off_sector_0 t (left_false (list_any holds_sector_0 t.entries) (overlap t.entries) overlapping);

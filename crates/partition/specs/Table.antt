@@ -1,5 +1,5 @@
 -- The ranges that a partition table gives, by minor.
-use Rattle.std.specs.Prelude.{ℕ, ◌≡◌, ◌≢◌, ◌+◌, ◌≤◌, ◌<◌, List, [], ◌∷◌, length, map, Option, Some, None, option_map, IfSome}
+use Rattle.std.specs.Prelude.{ℕ, ◌≡◌, ◌≢◌, ◌+◌, ◌≤◌, ◌<◌, ◌^◌, List, [], ◌∷◌, length, map, Option, Some, None, option_map, IfSome}
 use Rattle.std.proofs.Common.{get_or}
 use Rattle.partition.specs.declared.Entry.{Entry}
 
@@ -30,8 +30,9 @@ abbrev pub HoldsSector : Option (ℕ × ℕ) → ℕ → Type 0
 HoldsSector None s = ⊥
 HoldsSector (Some r) s = (r.0 ≤ s) × (s < r.0 + r.1)
 
--- what holds of every table: the ranges of its four entries lie in the media, without sector 0, and no two share a sector
+-- what holds of every table: sectors are counted in 32 bits, the ranges of its four entries lie in the media, without sector 0, and no two share a sector
 pub record IsTable (t : TableState) : Type 0 where
+  pub fits : t.sectors < 2 ^ 32
   pub four : length t.entries ≡ 4
   pub inside : (minor : ℕ) → IfSome (range_at t minor) (λ r. r.0 + r.1 ≤ t.sectors)
   pub off_sector_0 : (minor : ℕ) → 0 < minor → IfSome (range_at t minor) (λ r. 0 < r.0)

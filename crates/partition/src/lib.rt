@@ -1,7 +1,7 @@
 //! The DOS partition table in the first sector of a disk.
 #![tactic(auto)]
 
-ghost use Rattle.std.specs.Prelude.{◌≡◌, ◌+◌, ◌≤◌, [], ◌∷◌, IfOk, get_or};
+ghost use Rattle.std.specs.Prelude.{◌≡◌, ◌+◌, ◌≤◌, [], ◌∷◌, IfOk, IfSome, get_or};
 ghost use Rattle.std.specs.List.{list_any};
 ghost use Rattle.partition.specs.Entries.{entry_at, unless_empty, entries_of, has_overlap, has_signature, holds_sector_0, meets, overlap, passes};
 ghost use Rattle.partition.specs.Table.{IsTable, kind_at, range_at, range_of_entry};
@@ -83,6 +83,7 @@ impl Table {
     /// an entry that isn't empty for minors 1 to 4.
     pub fn range(&self, minor: u8) -> Option<(u32, u32)>
         ensures value { result ≡ range_at self.now minor }
+        ensures inside { IfSome result (λ r. r.0 + r.1 ≤ self.now.sectors) }
         ensures table { IsTable self.now }
     {
         if minor == 0 {

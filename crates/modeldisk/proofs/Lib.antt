@@ -1,0 +1,5 @@
+pub mod ChunkLaws
+pub mod OrderLaws
+pub mod PromiseLaws
+pub mod MoverLaws
+pub mod SweepLaws

@@ -1,0 +1,5 @@
+//! Three drivers over media in memory.
+#![tactic(auto)]
+
+mod chunks;
+mod mover;
