@@ -3,3 +3,5 @@ pub mod OrderLaws
 pub mod PromiseLaws
 pub mod MoverLaws
 pub mod SweepLaws
+pub mod FaultLaws
+pub mod FilterLaws

@@ -44,8 +44,9 @@ next_some from o run i is less =
 next_in_run : (from : ℕ) (o : Option Run) (i : ℕ) → IfSome (slice_get (order_in from o) i) (λ s. IsSomeAnd o (λ run. (run.first ≤ s) × (s < run.first + run.count)))
 next_in_run from None i = tt
 next_in_run from (Some run) i = elim (cases_lt i run.count) [
-    inl less ↦ rw (next_some from (Some run) run i refl less) (in_run from run i less)
-  | inr past ↦ rw (next_past from (Some run) run i refl past) tt ]
+  | inl less ↦ rw (next_some from (Some run) run i refl less) (in_run from run i less)
+  | inr past ↦ rw (next_past from (Some run) run i refl past) tt
+]
 
 -- a sector is named only of a write in work
 names_own : (busy : Bool) (kind : Kind) (ranges : Ranges) (w : Work) (o : Option ℕ) → w.request.kind ≡ kind
@@ -65,7 +66,8 @@ few_waiting false w bad last h = h
 pub is_driver : (d : Mover) → IsFew d → IsDriver (state_of d)
 is_driver d few = record {
   bad_is_few = few_waiting d.busy (work_of d) d.bad d.last few;
-  names_its_own = names_own d.busy d.request.kind (ranges_of d.table) (work_of d) (slice_get (order d) d.done) refl (next_in_run d.from (run_of d) d.done) }
+  names_its_own = names_own d.busy d.request.kind (ranges_of d.table) (work_of d) (slice_get (order d) d.done) refl (next_in_run d.from (run_of d) d.done);
+}
 
 -- the request in work is there
 work_is : (d : Mover) → d.busy ≡ true → (state_of d).work ≡ Some (work_of d)
@@ -91,12 +93,14 @@ moves_sector b run number got m g m' busy is less at within t = record {
   next = record {
     plan = is;
     within = within;
-    named = λ write. names_next b.busy b.request.kind b.from (run_of b) run b.done busy write is less ∙ ap Some at };
+    named = λ write. names_next b.busy b.request.kind b.from (run_of b) run b.done busy write is less ∙ ap Some at;
+  };
   accepted = t.0;
   same_request = refl;
   moved = λ k. let P : Option Run → Type 0 = λ o. moved_in b.from (b.done + 1) o k ≡ (moved_in b.from b.done o k || (k == number)) in
-    subst P (sym is) (moved_more b.from run b.done number k less at);
-  bytes = moves_bytes b.request.kind (work_of b) m g (run.first + number) number (work_of (after b run number got)) m' t.1 }
+      subst P (sym is) (moved_more b.from run b.done number k less at);
+  bytes = moves_bytes b.request.kind (work_of b) m g (run.first + number) number (work_of (after b run number got)) m' t.1;
+}
 
 -- the answer of the request in work, in the mover d that b became
 ends_by : (b d : Mover) (outcome : Result ℕ Errno) → d.bad ≡ b.bad → d.failed ≡ b.failed → MayAnswer (plan (ranges_of b.table) d.request) (work_of d) outcome d.got
@@ -106,7 +110,8 @@ ends_by b d outcome bad failed may = record {
   same_failed = failed;
   id = refl;
   answers = may;
-  counts = ap (λ n. n + (if is_good d.request.count outcome then 0 else 1)) bad }
+  counts = ap (λ n. n + (if is_good d.request.count outcome then 0 else 1)) bad;
+}
 
 -- all bytes of the run, once all its sectors were moved
 may_whole : (d : Mover) (run : Run) → run_of d ≡ Some run → run.count ≤ d.done → MayAnswer (run_of d) (work_of d) (Ok (512 * run.count)) d.got
@@ -116,7 +121,8 @@ may_whole d run is all =
       whole = mul-mod_right 512 run.count;
       within = omega arith;
       moved = λ k less. all_moved d.from run d.done k all (omega arith);
-      bears = bears_own d.request.kind d.got (512 * run.count) })
+      bears = bears_own d.request.kind d.got (512 * run.count);
+    })
 
 -- EINVAL, where there is no run
 may_refuse : (d : Mover) → run_of d ≡ None → MayAnswer (run_of d) (work_of d) (Err EINVAL) d.got
@@ -129,7 +135,7 @@ pub keeps_answer : (b : Mover) (outcome : Result ℕ Errno) (m : MediaState) (g 
     → StepKeeps (state_of b) m g (Done (record { id = b.request.id; outcome = outcome; bytes = b.got })) (state_of (ended outcome b)) m
 keeps_answer b outcome m g busy may =
     StepKeeps-still (state_of b) m g (Done (record { id = b.request.id; outcome = outcome; bytes = b.got })) (state_of (ended outcome b)) (work_of b) (work_is b busy) refl refl
-      (ends_by b b outcome refl refl may)
+    (ends_by b b outcome refl refl may)
 
 -- the step of a request without a run
 pub keeps_unsound : (b : Mover) (m : MediaState) (g : ℕ) → b.busy ≡ true → run_of b ≡ None
@@ -148,9 +154,9 @@ keeps_working b run m g a m' busy is less next =
     let P : Mover → Type 0 = λ x. StepKeeps (state_of b) m g Working (state_of x) m' in
     let x : Mover = after b run next.number a.got in
     subst P (sym next.after)
-      (StepKeeps-moved (state_of b) m g Working (state_of x) m' (work_of b) (work_of x) (work_is b busy) refl refl
-        (moves_sector b run next.number a.got m g m' busy is less next.at next.within next.transfers)
-        (record { stays = work_is x busy; failed_is = refl; same_bad = refl }))
+    (StepKeeps-moved (state_of b) m g Working (state_of x) m' (work_of b) (work_of x) (work_is b busy) refl refl
+    (moves_sector b run next.number a.got m g m' busy is less next.at next.within next.transfers)
+    (record { stays = work_is x busy; failed_is = refl; same_bad = refl }))
 
 -- a step that moves the last sector, and answers
 pub keeps_last : (b : Mover) (run : Run) (m : MediaState) (g : ℕ) (a : Mover) (m' : MediaState)
@@ -161,6 +167,6 @@ keeps_last b run m g a m' busy is less next all =
     let P : Mover → Type 0 = λ x. run.count ≤ x.done → StepKeeps (state_of b) m g (Done (record { id = x.request.id; outcome = outcome; bytes = x.got })) (state_of (ended outcome x)) m' in
     let x : Mover = after b run next.number a.got in
     (subst P (sym next.after)
-      (λ whole. StepKeeps-moved (state_of b) m g (Done (record { id = x.request.id; outcome = outcome; bytes = x.got })) (state_of (ended outcome x)) m' (work_of b) (work_of x) (work_is b busy) refl refl
-        (moves_sector b run next.number a.got m g m' busy is less next.at next.within next.transfers)
-        (ends_by b x outcome refl refl (may_whole x run is whole)))) all
+    (λ whole. StepKeeps-moved (state_of b) m g (Done (record { id = x.request.id; outcome = outcome; bytes = x.got })) (state_of (ended outcome x)) m' (work_of b) (work_of x) (work_is b busy) refl refl
+    (moves_sector b run next.number a.got m g m' busy is less next.at next.within next.transfers)
+    (ends_by b x outcome refl refl (may_whole x run is whole)))) all

@@ -27,8 +27,8 @@ order_high arm run i less =
     let low : List ℕ = range_with_len run.first (below arm run) in
     let h : length high ≡ run.count - below arm run = length-range_with_len (run.first + below arm run) (run.count - below arm run) in
     get_or_append_left high low 0 i (omega arith)
-      ∙ get_or-range_with_len (run.first + below arm run) (run.count - below arm run) i 0 (omega arith)
-      ∙ omega arith
+    ∙ get_or-range_with_len (run.first + below arm run) (run.count - below arm run) i 0 (omega arith)
+    ∙ omega arith
 
 -- the others are those below it
 pub order_low : (arm : ℕ) (run : Run) (i : ℕ) → run.count ≤ below arm run + i → i < run.count → get_or (order_of arm run) i 0 ≡ run.first + (below arm run + i - run.count)
@@ -37,20 +37,22 @@ order_low arm run i more less =
     let low : List ℕ = range_with_len run.first (below arm run) in
     let h : length high ≡ run.count - below arm run = length-range_with_len (run.first + below arm run) (run.count - below arm run) in
     get_or-append_right high low (run.count - below arm run) i 0 h (omega arith)
-      ∙ get_or-range_with_len run.first (below arm run) (i - (run.count - below arm run)) 0 (omega arith)
-      ∙ omega arith
+    ∙ get_or-range_with_len run.first (below arm run) (i - (run.count - below arm run)) 0 (omega arith)
+    ∙ omega arith
 
 -- each sector of the order is one of the run
 pub in_run : (arm : ℕ) (run : Run) (i : ℕ) → i < run.count → let s : ℕ = get_or (order_of arm run) i 0 in (run.first ≤ s) × (s < run.first + run.count)
 in_run arm run i less = elim (cases_lt (below arm run + i) run.count) [
-    inl high ↦ let e : get_or (order_of arm run) i 0 ≡ run.first + (below arm run + i) = order_high arm run i high in (omega arith, omega arith)
-  | inr low ↦ let e : get_or (order_of arm run) i 0 ≡ run.first + (below arm run + i - run.count) = order_low arm run i low less in (omega arith, omega arith) ]
+  | inl high ↦ let e : get_or (order_of arm run) i 0 ≡ run.first + (below arm run + i) = order_high arm run i high in (omega arith, omega arith)
+  | inr low ↦ let e : get_or (order_of arm run) i 0 ≡ run.first + (below arm run + i - run.count) = order_low arm run i low less in (omega arith, omega arith)
+]
 
 -- the k-th sector of a run has a place in the order
 pub place_of : (arm : ℕ) (run : Run) (k : ℕ) → k < run.count → (i : ℕ) × (i < run.count) × (get_or (order_of arm run) i 0 ≡ run.first + k)
 place_of arm run k less = elim (cases_lt k (below arm run)) [
-    inl low ↦ (k + run.count - below arm run, omega arith, order_low arm run (k + run.count - below arm run) (omega arith) (omega arith) ∙ omega arith)
-  | inr high ↦ (k - below arm run, omega arith, order_high arm run (k - below arm run) (omega arith) ∙ omega arith) ]
+  | inl low ↦ (k + run.count - below arm run, omega arith, order_low arm run (k + run.count - below arm run) (omega arith) (omega arith) ∙ omega arith)
+  | inr high ↦ (k - below arm run, omega arith, order_high arm run (k - below arm run) (omega arith) ∙ omega arith)
+]
 
 -- once all were moved, each of them was
 pub all_moved : (arm : ℕ) (run : Run) (n k : ℕ) → run.count ≤ n → k < run.count → list_any (λ s. s == run.first + k) (take n (order_of arm run)) ≡ true
@@ -67,6 +69,6 @@ pub moved_more : (arm : ℕ) (run : Run) (n j k : ℕ) → n < run.count → get
 moved_more arm run n j k less at =
     let l : length (order_of arm run) ≡ run.count = length-order_of arm run in
     let more : take (n + 1) (order_of arm run) ≡ take n (order_of arm run) ++ (run.first + j) ∷ [] =
-      rw (add-one) (take-suc (order_of arm run) n 0 (omega arith) ∙ ap (λ s. take n (order_of arm run) ++ s ∷ []) at) in
+    rw (add-one) (take-suc (order_of arm run) n 0 (omega arith) ∙ ap (λ s. take n (order_of arm run) ++ s ∷ []) at) in
     let last : ((run.first + j == run.first + k) || false) ≡ (k == j) = grind (arith, nat_tests) in
     rw (more, list_any-append) (ap (λ b. list_any (λ s. s == run.first + k) (take n (order_of arm run)) || b) last)

@@ -16,7 +16,8 @@ StepKeeps-still b m g step a w is ranges last says = record {
   same_ranges = ranges;
   same_last = last;
   steps = let P : Option Work → Type 0 = λ o. StepsAt b o m g step a m in
-    subst P (sym is) (w, inl (record { same_work = refl; same_media = refl }), says) }
+      subst P (sym is) (w, inl (record { same_work = refl; same_media = refl }), says);
+}
 
 -- a step that moved a sector of the request in work
 pub StepKeeps-moved : (b : DriverState) (m : MediaState) (g : ℕ) (step : Step) (a : DriverState) (m' : MediaState) (w w' : Work)
@@ -25,7 +26,8 @@ StepKeeps-moved b m g step a m' w w' is ranges last moves says = record {
   same_ranges = ranges;
   same_last = last;
   steps = let P : Option Work → Type 0 = λ o. StepsAt b o m g step a m' in
-    subst P (sym is) (w', inr (inr moves), says) }
+      subst P (sym is) (w', inr (inr moves), says);
+}
 
 -- what a transfer does is what the promise asks of a moved sector
 pub moves_bytes : (kind : Kind) (w : Work) (m : MediaState) (g s k : ℕ) (w' : Work) (m' : MediaState)

@@ -86,21 +86,21 @@ pub refused_in_order : (b : Mover) (run : Run) (m : MediaState) (g : ℕ) (a : M
     → StepsInOrder b.busy (left_of b) (outcome_of b) m g Failed (left_of a)
 refused_in_order b run m g a m' busy is less next =
     steps_refused b.busy (left_of b) (outcome_of b) m g (left_of a) (run.first + next.number) (drop (b.done + 1) (order_of b.from run)) busy
-      (left_next b run next.number busy is less next.at) next.transfers.0 (ap left_of next.after)
+    (left_next b run next.number busy is less next.at) next.transfers.0 (ap left_of next.after)
 
 -- it leaves the arm
 pub refused_arm : (b : Mover) (run : Run) (m : MediaState) (g : ℕ) (a : Mover) (m' : MediaState)
     → b.busy ≡ true → run_of b ≡ Some run → b.done < run.count → MovesNext run b m g false a m' → a.arm ≡ arm_after (left_of b) m g b.arm
 refused_arm b run m g a m' busy is less next =
     ap (λ (x : Mover). x.arm) next.after
-      ∙ sym (arm_refused (left_of b) m g b.arm (run.first + next.number) (drop (b.done + 1) (order_of b.from run)) (left_next b run next.number busy is less next.at) next.transfers.0)
+    ∙ sym (arm_refused (left_of b) m g b.arm (run.first + next.number) (drop (b.done + 1) (order_of b.from run)) (left_next b run next.number busy is less next.at) next.transfers.0)
 
 -- a moved sector sets the arm
 pub moved_arm : (b : Mover) (run : Run) (m : MediaState) (g : ℕ) (a : Mover) (m' : MediaState)
     → b.busy ≡ true → run_of b ≡ Some run → b.done < run.count → MovesNext run b m g true a m' → a.arm ≡ arm_after (left_of b) m g b.arm
 moved_arm b run m g a m' busy is less next =
     ap (λ (x : Mover). x.arm) next.after
-      ∙ sym (arm_moved (left_of b) m g b.arm (run.first + next.number) (drop (b.done + 1) (order_of b.from run)) (left_next b run next.number busy is less next.at) next.transfers.0)
+    ∙ sym (arm_moved (left_of b) m g b.arm (run.first + next.number) (drop (b.done + 1) (order_of b.from run)) (left_next b run next.number busy is less next.at) next.transfers.0)
 
 -- the sectors after the first one of those that are left
 left_after : (b : Mover) (run : Run) (m : MediaState) (g : ℕ) (a : Mover) (m' : MediaState)
@@ -120,8 +120,8 @@ working_in_order b run m g a m' busy is less next more =
     let done : a.done ≡ b.done + 1 = ap (λ (x : Mover). x.done) next.after in
     let rest : List ℕ = drop (b.done + 1) (order_of b.from run) in
     steps_moved b.busy (left_of b) (outcome_of b) m g Working (left_of a) (run.first + next.number) rest busy
-      (left_next b run next.number busy is less next.at) next.transfers.0
-      (goes_on (order_of b.from run) (b.done + 1) (outcome_of b) (omega arith)) (left_after b run m g a m' busy is next)
+    (left_next b run next.number busy is less next.at) next.transfers.0
+    (goes_on (order_of b.from run) (b.done + 1) (outcome_of b) (omega arith)) (left_after b run m g a m' busy is next)
 
 -- with none left, it answers
 answers_at_last : (rest : List ℕ) (outcome : Result ℕ Errno) (step : Step) → rest ≡ [] → AnswersWith outcome step → GoesOnWith rest outcome step
@@ -139,5 +139,5 @@ last_in_order b run m g a m' busy is less next all =
     let answer : Step = Done (record { id = a.request.id; outcome = Ok (512 * run.count); bytes = a.got }) in
     let same : Ok (512 * run.count) ≡ outcome_of b = rw is refl in
     steps_moved b.busy (left_of b) (outcome_of b) m g answer [] (run.first + next.number) rest busy
-      (left_next b run next.number busy is less next.at) next.transfers.0
-      (answers_at_last rest (outcome_of b) answer none same) (sym none)
+    (left_next b run next.number busy is less next.at) next.transfers.0
+    (answers_at_last rest (outcome_of b) answer none same) (sym none)

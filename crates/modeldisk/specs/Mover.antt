@@ -44,7 +44,8 @@ state_of d = record {
   work = if d.busy then Some (work_of d) else None;
   in_work = if d.busy && is_write d.request.kind then slice_get (order d) d.done else None;
   bad = d.bad;
-  failed = d.failed }
+  failed = d.failed;
+}
 
 -- there is at most one answer for each request taken
 abbrev pub IsFew : Mover → Type 0

@@ -88,8 +88,9 @@ table_off_sector_0 t is (suc k) more = rw (range_later t k) (off_sector_0 (get_o
 -- no two entries share a sector
 table_apart : (t : TableState) → overlap t.entries ≡ false → (i j s : ℕ) → i ≢ j → HoldsSector (range_of_entry (get_or t.entries i None)) s → HoldsSector (range_of_entry (get_or t.entries j None)) s → ⊥
 table_apart t is i j s other x y = elim (cases_lt i j) [
-    inl less ↦ apart (get_or t.entries i None) (get_or t.entries j None) s (none_meet t.entries is i j less) x y
-  | inr more ↦ apart (get_or t.entries j None) (get_or t.entries i None) s (none_meet t.entries is j i (omega arith)) y x ]
+  | inl less ↦ apart (get_or t.entries i None) (get_or t.entries j None) s (none_meet t.entries is i j less) x y
+  | inr more ↦ apart (get_or t.entries j None) (get_or t.entries i None) s (none_meet t.entries is j i (omega arith)) y x
+]
 
 -- what passes no test of the refusals is a table
 pub is_table : (t : TableState) → t.sectors < 2 ^ 32 → length t.entries ≡ 4 → list_any (passes t.sectors) t.entries ≡ false → has_overlap t.entries ≡ false → IsTable t
@@ -98,11 +99,12 @@ is_table t fits four within overlapping = record {
   four = four;
   inside = table_inside t within;
   off_sector_0 = table_off_sector_0 t (left_false (list_any holds_sector_0 t.entries) (overlap t.entries) overlapping);
-  apart = minors }
+  apart = minors;
+}
   where
     minors : (m n s : ℕ) → 0 < m → 0 < n → m ≢ n → HoldsSector (range_at t m) s → HoldsSector (range_at t n) s → ⊥
     minors zero n s a b other x y = absurd (omega arith)
     minors (suc m) zero s a b other x y = absurd (omega arith)
     minors (suc m) (suc n) s a b other x y =
         table_apart t (right_false (list_any holds_sector_0 t.entries) (overlap t.entries) overlapping) m n s (λ e. other (ap suc e))
-          (rw (range_later t m) at x) (rw (range_later t n) at y)
+        (rw (range_later t m) at x) (rw (range_later t n) at y)

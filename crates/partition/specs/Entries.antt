@@ -9,7 +9,8 @@ abbrev pub entry_at : List ℕ → ℕ → Entry
 entry_at bytes p = record {
   kind = slice_index bytes (p + 4);
   first = little_number 4 (drop (p + 8) bytes);
-  count = little_number 4 (drop (p + 12) bytes) }
+  count = little_number 4 (drop (p + 12) bytes);
+}
 
 -- an entry of type 0 or of no sectors is empty
 abbrev pub unless_empty : Entry → Option Entry
@@ -19,7 +20,7 @@ unless_empty e = if (e.kind == 0) || (e.count == 0) then None else Some e
 abbrev pub entries_of : List ℕ → List (Option Entry)
 entries_of bytes =
     unless_empty (entry_at bytes 446) ∷ unless_empty (entry_at bytes 462)
-      ∷ unless_empty (entry_at bytes 478) ∷ unless_empty (entry_at bytes 494) ∷ []
+    ∷ unless_empty (entry_at bytes 478) ∷ unless_empty (entry_at bytes 494) ∷ []
 
 -- 0x55 and 0xaa stand at byte 510
 abbrev pub has_signature : List ℕ → Bool

@@ -11,12 +11,12 @@ use Rattle.modeldisk.proofs.mover.Mover.step.Goals as goal
 pub returns-in_default-clause-keeps : goal.returns-in_default-clause-keeps
 returns-in_default-clause-keeps c =
     rw (c.end.ensures.step, c.end.ensures.rest)
-      (keeps_unsound c.args.self.now c.args.media.now c.args.generation c.if-not-self.false (sym c.plan.ensures.value ∙ c.in_default.is))
+    (keeps_unsound c.args.self.now c.args.media.now c.args.generation c.if-not-self.false (sym c.plan.ensures.value ∙ c.in_default.is))
 
 pub returns-in_default-clause-order : goal.returns-in_default-clause-order
 returns-in_default-clause-order c =
     rw (c.end.ensures.step, c.end.ensures.rest)
-      (unsound_in_order c.args.self.now c.args.media.now c.args.generation c.if-not-self.false (sym c.plan.ensures.value ∙ c.in_default.is))
+    (unsound_in_order c.args.self.now c.args.media.now c.args.generation c.if-not-self.false (sym c.plan.ensures.value ∙ c.in_default.is))
 
 pub returns-in_default-clause-arm : goal.returns-in_default-clause-arm
 returns-in_default-clause-arm c =
@@ -25,12 +25,12 @@ returns-in_default-clause-arm c =
 pub returns-then-self-run-clause-keeps : goal.returns-then-self-run-clause-keeps
 returns-then-self-run-clause-keeps c =
     rw (c.end-then-self-run.ensures.step, c.end-then-self-run.ensures.rest)
-      (keeps_empty c.args.self.now c.in-Some.run' c.args.media.now c.args.generation c.if-not-self.false (sym c.plan.ensures.value ∙ c.in-Some.is) c.if-self-run.true)
+    (keeps_empty c.args.self.now c.in-Some.run' c.args.media.now c.args.generation c.if-not-self.false (sym c.plan.ensures.value ∙ c.in-Some.is) c.if-self-run.true)
 
 pub returns-then-self-run-clause-order : goal.returns-then-self-run-clause-order
 returns-then-self-run-clause-order c =
     rw (c.end-then-self-run.ensures.step, c.end-then-self-run.ensures.rest)
-      (empty_in_order c.args.self.now c.in-Some.run' c.args.media.now c.args.generation c.if-not-self.false (sym c.plan.ensures.value ∙ c.in-Some.is) c.if-self-run.true)
+    (empty_in_order c.args.self.now c.in-Some.run' c.args.media.now c.args.generation c.if-not-self.false (sym c.plan.ensures.value ∙ c.in-Some.is) c.if-self-run.true)
 
 pub returns-then-self-run-clause-arm : goal.returns-then-self-run-clause-arm
 returns-then-self-run-clause-arm c =
@@ -59,12 +59,12 @@ returns-then-self-run-2-clause-arm c =
 pub returns-clause-keeps : goal.returns-clause-keeps
 returns-clause-keeps c =
     rw (c.end-2.ensures.step, c.end-2.ensures.rest)
-      (keeps_last c.args.self.now c.in-Some.run' c.args.media.now c.args.generation c.move_next.new.self c.move_next.new.media c.if-not-self.false (sym c.plan.ensures.value ∙ c.in-Some.is) c.if-self-run.false (rw c.if-not-move_next.false at c.move_next.ensures) c.if-self-run-2.false)
+    (keeps_last c.args.self.now c.in-Some.run' c.args.media.now c.args.generation c.move_next.new.self c.move_next.new.media c.if-not-self.false (sym c.plan.ensures.value ∙ c.in-Some.is) c.if-self-run.false (rw c.if-not-move_next.false at c.move_next.ensures) c.if-self-run-2.false)
 
 pub returns-clause-order : goal.returns-clause-order
 returns-clause-order c =
     rw (c.end-2.ensures.step, c.end-2.ensures.rest)
-      (last_in_order c.args.self.now c.in-Some.run' c.args.media.now c.args.generation c.move_next.new.self c.move_next.new.media c.if-not-self.false (sym c.plan.ensures.value ∙ c.in-Some.is) c.if-self-run.false (rw c.if-not-move_next.false at c.move_next.ensures) c.if-self-run-2.false)
+    (last_in_order c.args.self.now c.in-Some.run' c.args.media.now c.args.generation c.move_next.new.self c.move_next.new.media c.if-not-self.false (sym c.plan.ensures.value ∙ c.in-Some.is) c.if-self-run.false (rw c.if-not-move_next.false at c.move_next.ensures) c.if-self-run-2.false)
 
 pub returns-clause-arm : goal.returns-clause-arm
 returns-clause-arm c =
