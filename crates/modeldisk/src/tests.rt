@@ -4,6 +4,7 @@ use errno::Errno;
 use media::{Media, MediaRefusal, SectorRefusal};
 use message::{BlockRequest, Kind};
 use partition::{PartitionRefusal, Table, parse};
+use std::alloc::{AllocError, Global};
 use std::process::Abort;
 use std::test::Fail;
 
@@ -14,6 +15,11 @@ fn numbered(alloc: Global, sectors: u8) -> Result<Media, MediaRefusal> {
         bytes.extend_from_slice(&[sector; 512])?;
     }
     Media::from_bytes(alloc, bytes.as_slice())
+}
+
+/// So many zeros.
+fn zeros(alloc: Global, count: usize) -> Result<Vec<u8>, AllocError> {
+    vec![in alloc; 0; count]
 }
 
 /// A request; a write's bytes are all 200.
@@ -129,17 +135,15 @@ fn partitions_bound_requests(rt: HostRuntime) -> Result<(), Fail> {
     let mut driver = RamDriver::new(table);
     assert_eq!(rt; driver.ready(1), Some((1, 128)));
     let rows = [
-        (1, 65024, 1024, Ok(512)),
-        (1, 65536, 1024, Ok(0)),
-        (2, 0, 512, Err(Errno::EINVAL)),
-        (1, 0, 0, Err(Errno::EINVAL)),
-        (1, 0, 513, Err(Errno::EINVAL)),
-        (1, 0, 4608, Err(Errno::EINVAL)),
-        (1, 511, 512, Err(Errno::EINVAL)),
+        (1, 1, 65024, 1024, Ok(512)),
+        (2, 1, 65536, 1024, Ok(0)),
+        (3, 2, 0, 512, Err(Errno::EINVAL)),
+        (4, 1, 0, 0, Err(Errno::EINVAL)),
+        (5, 1, 0, 513, Err(Errno::EINVAL)),
+        (6, 1, 0, 4608, Err(Errno::EINVAL)),
+        (7, 1, 511, 512, Err(Errno::EINVAL)),
     ];
-    let mut id = 0;
-    for (minor, position, count, answer) in rows {
-        id += 1;
+    for (id, minor, position, count, answer) in rows {
         driver.accept(request(id, Kind::Read, minor, position, count));
         let step = driver.step(&mut media, 0);
         assert_eq!(rt; outcome(&step), Some(answer));
@@ -200,7 +204,7 @@ fn generations_fence(rt: HostRuntime) -> Result<(), Fail> {
 
 #[test]
 fn images_are_refused(rt: HostRuntime) -> Result<(), Fail> {
-    let large = vec![in rt.alloc(); 0u8; 67109376]?;
+    let large = zeros(rt.alloc(), 67109376)?;
     for (bytes, refusal) in [
         (1, Some(MediaRefusal::NotWholeSectors)),
         (67108865, Some(MediaRefusal::NotWholeSectors)),
@@ -208,6 +212,7 @@ fn images_are_refused(rt: HostRuntime) -> Result<(), Fail> {
         (67108864, None),
         (0, None),
     ] {
+        assert!(rt; bytes <= large.len());
         assert!(rt; Media::from_bytes(rt.alloc(), &large[..bytes]).err() == refusal);
     }
     let texts = format!(in rt.alloc();
@@ -254,7 +259,7 @@ fn deaths_and_hangs_keep_what_was_moved(rt: HostRuntime) -> Result<(), Fail> {
 /// Of eight sectors from the fourth on the first so many hold a write's bytes, and no others do.
 fn keeps_first(rt: &impl Abort, media: &Media, after: u32) {
     for sector in 0..16u32 {
-        let moved = 4 <= sector && sector < 4 + after;
+        let moved = 4 <= sector && sector - 4 < after;
         assert_eq!(rt;
             first_byte(media, sector),
             Some(if moved { 200 } else { sector as u8 })
@@ -280,15 +285,13 @@ fn errors_are_answered(rt: HostRuntime) -> Result<(), Fail> {
     }
     let mut driver = ScriptedDriver::new(Inner::Ram(RamDriver::new(Table::whole(16))), script);
     let rows = [
-        (1024, Ok(1024)),
-        (1024, Err(Errno::EIO)),
-        (513, Err(Errno::EINVAL)),
-        (512, Ok(0)),
-        (512, Ok(512)),
+        (1, 1024, Ok(1024)),
+        (2, 1024, Err(Errno::EIO)),
+        (3, 513, Err(Errno::EINVAL)),
+        (4, 512, Ok(0)),
+        (5, 512, Ok(512)),
     ];
-    let mut id = 0;
-    for (count, answer) in rows {
-        id += 1;
+    for (id, count, answer) in rows {
         driver.accept(request(id, Kind::Read, 0, 0, count));
         assert_eq!(rt; run(&mut driver, &mut media, 0), Some(answer));
     }
