@@ -1,7 +1,7 @@
 -- What faults do keeps the promises of a driver.
-use Rattle.std.specs.Prelude.{ℕ, ◌≡◌, ◌≢◌, ◌+◌, ◌-◌, ◌*◌, ◌≤◌, ◌<◌, ◌==◌, ◌||◌, Bool, true, false, List, [], ◌∷◌, length, take, get_or, IsTrue, Option, Some, None, Result, Ok, Err}
+use Rattle.std.specs.Prelude.{ℕ, ◌≡◌, ◌≢◌, ◌+◌, ◌-◌, ◌*◌, ◌≤◌, ◌<◌, ◌==◌, true, false, List, [], ◌∷◌, length, take, get_or, Option, Some, Ok, Err}
 use Rattle.std.specs.List.{list_any}
-use Rattle.std.proofs.Common.{inl, inr, zero, suc, refl, sym, ◌∙◌, ap, subst, arith}
+use Rattle.std.proofs.Common.{inl, inr, suc, refl, sym, ◌∙◌, subst, arith}
 use Rattle.std.proofs.Math.Nat.{mul-mod_right}
 use Rattle.std.proofs.lemmas.Bool.{cases_lt}
 use Rattle.std.proofs.lemmas.Bool.Decides.{nat_tests}
@@ -10,12 +10,11 @@ use Rattle.std.proofs.lemmas.List.Folds.{list_any_at}
 use Rattle.errno.specs.declared.Errno.{Errno}
 use Rattle.media.specs.Contents.{MediaState}
 use Rattle.bdev.specs.declared.Run.{Run}
-use Rattle.bdev.specs.declared.Step.{Step}
-use Rattle.bdev.specs.declared.Step.TheVariants.{Working, Idle, Done, Failed}
+use Rattle.bdev.specs.declared.Step.TheVariants.{Done}
 use Rattle.bdev.specs.Promises.{StepKeeps, MayAnswer}
 use Rattle.modeldisk.specs.declared.mover.Mover.{Mover}
 use Rattle.modeldisk.specs.Order.{below, order_of}
-use Rattle.modeldisk.specs.Mover.{ended, left_of, moved_in, outcome_of, run_of, state_of, work_of}
+use Rattle.modeldisk.specs.Mover.{ended, moved_in, run_of, state_of, work_of}
 use Rattle.modeldisk.specs.Faults.{IsLeading}
 use Rattle.modeldisk.proofs.OrderLaws.{length-order_of, order_high, order_low, all_moved}
 use Rattle.modeldisk.proofs.PromiseLaws.{bears_own}

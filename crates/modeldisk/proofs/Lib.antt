@@ -5,3 +5,4 @@ pub mod MoverLaws
 pub mod SweepLaws
 pub mod FaultLaws
 pub mod FilterLaws
+mod Rows

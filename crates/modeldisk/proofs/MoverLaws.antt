@@ -1,11 +1,8 @@
 -- What a mover does keeps the promises of a driver, in the order of its sweep.
-use Rattle.std.specs.Prelude.{ℕ, ◌≡◌, ◌+◌, ◌*◌, ◌≤◌, ◌<◌, ◌%◌, ◌&&◌, ◌||◌, ◌==◌, Bool, true, false, List, [], ◌∷◌, length, take, drop, get_or, slice_get, IsTrue, if◌then◌else◌}
+use Rattle.std.specs.Prelude.{ℕ, ◌≡◌, ◌+◌, ◌*◌, ◌≤◌, ◌<◌, ◌&&◌, ◌||◌, ◌==◌, Bool, true, false, List, length, get_or, slice_get, if◌then◌else◌}
 use Rattle.std.specs.Prelude.{Option, Some, None, IfSome, IsSomeAnd, Result, Ok, Err}
-use Rattle.std.specs.List.{list_any}
-use Rattle.std.proofs.Common.{inl, inr, refl, sym, ◌∙◌, ap, subst, arith, add-one}
+use Rattle.std.proofs.Common.{inl, inr, refl, sym, ◌∙◌, ap, subst, arith}
 use Rattle.std.proofs.Math.Nat.{mul-mod_right}
-use Rattle.std.proofs.Math.Seq.{drop-cons}
-use Rattle.std.proofs.Math.ListN.{drop_of_length-le}
 use Rattle.std.proofs.lemmas.Bool.{cases_lt}
 use Rattle.std.proofs.lemmas.Option.{slice_get-get_or, slice_get_past}
 use Rattle.errno.specs.declared.Errno.{Errno}
@@ -13,18 +10,16 @@ use Rattle.errno.specs.declared.Errno.TheVariants.{EINVAL}
 use Rattle.message.specs.declared.Kind.{Kind}
 use Rattle.message.specs.declared.Kind.TheVariants.{Read, Write}
 use Rattle.message.specs.Good.{is_good, is_write}
-use Rattle.media.specs.Contents.{MediaState, accepts}
+use Rattle.media.specs.Contents.{MediaState}
 use Rattle.partition.specs.Table.{ranges_of}
 use Rattle.bdev.specs.declared.Run.{Run}
-use Rattle.bdev.specs.declared.Step.{Step}
-use Rattle.bdev.specs.declared.Step.TheVariants.{Working, Idle, Done, Failed}
-use Rattle.bdev.specs.declared.Answer.{Answer}
-use Rattle.bdev.specs.DriverState.{DriverState, Work, Ranges, plan}
+use Rattle.bdev.specs.declared.Step.TheVariants.{Working, Done}
+use Rattle.bdev.specs.DriverState.{Work, Ranges, plan}
 use Rattle.bdev.specs.Promises.{IsDriver, IsOfAWrite, StepKeeps, MovesSector, MayAnswer, EndsBy, waiting}
 use Rattle.modeldisk.specs.declared.mover.Mover.{Mover}
-use Rattle.modeldisk.specs.Order.{order_of, order_in, whole_outcome, arm_after, AnswersWith, GoesOnWith, StepsInOrder}
+use Rattle.modeldisk.specs.Order.{order_of, order_in}
 use Rattle.modeldisk.specs.Transfer.{TransfersIf}
-use Rattle.modeldisk.specs.Mover.{IsFew, MovesNext, ended, left_of, moved_in, order, outcome_of, run_of, state_of, work_of}
+use Rattle.modeldisk.specs.Mover.{IsFew, MovesNext, ended, moved_in, order, run_of, state_of, work_of}
 use Rattle.modeldisk.proofs.OrderLaws.{length-order_of, in_run, all_moved, moved_more}
 use Rattle.modeldisk.proofs.PromiseLaws.{StepKeeps-still, StepKeeps-moved, moves_bytes, bears_own}
 
@@ -78,7 +73,7 @@ names_next : (busy : Bool) (kind : Kind) (from : ℕ) (o : Option Run) (run : Ru
     → (if busy && is_write kind then slice_get (order_in from o) done else None) ≡ Some (get_or (order_of from run) done 0)
 names_next busy kind from o run done b k is less = rw (b, k) (next_some from o run done is less)
 
--- the mover after its next sector, the so manieth of the request, was moved
+-- the mover after its next sector, at place `number` in the request, was moved
 abbrev pub after : Mover → Run → ℕ → List ℕ → Mover
 after b run number got = record b { done = b.done + 1; arm = run.first + number + 1; got = got }
 

@@ -1,5 +1,5 @@
 -- How the promises of a step follow from what it did.
-use Rattle.std.specs.Prelude.{ℕ, ◌≡◌, ◌+◌, ◌*◌, ◌<◌, List, Bool, Option, Some, None, Result, Ok, Err}
+use Rattle.std.specs.Prelude.{ℕ, ◌≡◌, List, Option, Some}
 use Rattle.std.proofs.Common.{inl, inr, refl, sym, subst}
 use Rattle.media.specs.Contents.{MediaState}
 use Rattle.message.specs.declared.Kind.{Kind}

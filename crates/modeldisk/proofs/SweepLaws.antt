@@ -1,6 +1,6 @@
 -- A mover's steps go on in the order of its sweep.
-use Rattle.std.specs.Prelude.{ℕ, ◌≡◌, ◌+◌, ◌*◌, ◌≤◌, ◌<◌, Bool, true, false, List, [], ◌∷◌, length, drop, get_or, Option, Some, None, Result, Ok, Err}
-use Rattle.std.proofs.Common.{refl, sym, ◌∙◌, ap, subst, arith, suc, add-one}
+use Rattle.std.specs.Prelude.{ℕ, ◌≡◌, ◌+◌, ◌*◌, ◌≤◌, ◌<◌, Bool, true, false, List, [], ◌∷◌, length, drop, get_or, Some, None, Result, Ok, Err}
+use Rattle.std.proofs.Common.{refl, sym, ◌∙◌, ap, arith, suc, add-one}
 use Rattle.std.proofs.Math.Seq.{drop-cons}
 use Rattle.std.proofs.Math.ListN.{drop_of_length-le}
 use Rattle.errno.specs.declared.Errno.{Errno}
@@ -10,8 +10,8 @@ use Rattle.bdev.specs.declared.Run.{Run}
 use Rattle.bdev.specs.declared.Step.{Step}
 use Rattle.bdev.specs.declared.Step.TheVariants.{Working, Done, Failed}
 use Rattle.modeldisk.specs.declared.mover.Mover.{Mover}
-use Rattle.modeldisk.specs.Order.{order_of, order_in, whole_outcome, arm_after, AnswersWith, GoesOnWith, StepsInOrder}
-use Rattle.modeldisk.specs.Mover.{MovesNext, ended, left_of, order, outcome_of, run_of}
+use Rattle.modeldisk.specs.Order.{order_of, arm_after, AnswersWith, GoesOnWith, StepsInOrder}
+use Rattle.modeldisk.specs.Mover.{MovesNext, ended, left_of, outcome_of, run_of}
 use Rattle.modeldisk.proofs.OrderLaws.{length-order_of}
 
 -- where none is left, the step answers

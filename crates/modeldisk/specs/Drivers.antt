@@ -1,5 +1,5 @@
 -- What the drivers show of their movers.
-use Rattle.std.specs.Prelude.{ℕ, Bool, List, Option, Result}
+use Rattle.std.specs.Prelude.{ℕ, Bool, List, Result}
 use Rattle.errno.specs.declared.Errno.{Errno}
 use Rattle.partition.specs.Table.{ranges_of}
 use Rattle.bdev.specs.DriverState.{DriverState, Ranges}

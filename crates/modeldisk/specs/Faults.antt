@@ -1,5 +1,5 @@
 -- What the faults of a script do.
-use Rattle.std.specs.Prelude.{ℕ, ◌≡◌, ◌*◌, ◌<◌, Bool, true, false, IsTrue, Option, Some, None, Result, Ok, Err}
+use Rattle.std.specs.Prelude.{ℕ, ◌≡◌, ◌*◌, ◌<◌, Bool, true, false, IsTrue, Option, Some, None, Ok, Err}
 use Rattle.media.specs.Contents.{MediaState}
 use Rattle.bdev.specs.declared.Run.{Run}
 use Rattle.bdev.specs.declared.Step.{Step}

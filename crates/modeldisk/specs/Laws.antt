@@ -1,5 +1,5 @@
 -- What the order of a sweep is.
-use Rattle.std.specs.Prelude.{ℕ, ◌≡◌, ◌++◌, List, filter, nat_le, nat_lt}
+use Rattle.std.specs.Prelude.{ℕ, ◌≡◌, ◌++◌, filter, nat_le, nat_lt}
 use Rattle.std.specs.List.{range_with_len}
 use Rattle.bdev.specs.declared.Run.{Run}
 use Rattle.modeldisk.specs.Order.{order_of}

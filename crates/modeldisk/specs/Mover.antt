@@ -55,7 +55,7 @@ IsFew d = d.bad + (if d.busy then 1 else 0) ≤ d.last
 abbrev pub ended : Result ℕ Errno → Mover → Mover
 ended outcome d = record d { busy = false; bad = d.bad + (if is_good d.request.count outcome then 0 else 1) }
 
--- the next sector of the run, the so manieth of the request, is moved where the media accept it; else nothing changes
+-- the next sector of the run, at place `number` in the request, is moved where the media accept it; else nothing changes
 pub record MovesNext (run : Run) (b : Mover) (m : MediaState) (g : ℕ) (moved : Bool) (a : Mover) (m' : MediaState) : Type 0 where
   pub number : ℕ
   pub at : get_or (order_of b.from run) b.done 0 ≡ run.first + number

@@ -1,5 +1,5 @@
 -- Worked rows of the partition table, by computation.
-use Rattle.std.specs.Prelude.{◌≡◌, ℕ, ◌-◌, ◌*◌, List, [], ◌∷◌, ◌++◌, length, map, replicate, Option, Some, None, Result, Ok, Err, refl}
+use Rattle.std.specs.Prelude.{◌≡◌, ℕ, ◌-◌, List, [], ◌∷◌, ◌++◌, length, map, replicate, Some, None, Ok, Err, refl}
 use Rattle.partition.specs.declared.PartitionRefusal.TheVariants.{NoSignature, PastMedia, Overlap}
 use Rattle.partition.specs.Table.{TableState, range_at, kind_at}
 use Rattle.partition.specs.Refusals.{table_of}

@@ -1,5 +1,5 @@
 -- The ranges that a partition table gives, by minor.
-use Rattle.std.specs.Prelude.{ℕ, ◌≡◌, ◌≢◌, ◌+◌, ◌≤◌, ◌<◌, ◌^◌, List, [], ◌∷◌, length, map, Option, Some, None, option_map, IfSome}
+use Rattle.std.specs.Prelude.{ℕ, ◌≡◌, ◌≢◌, ◌+◌, ◌≤◌, ◌<◌, ◌^◌, List, ◌∷◌, length, map, Option, Some, None, option_map, IfSome}
 use Rattle.std.proofs.Common.{get_or}
 use Rattle.partition.specs.declared.Entry.{Entry}
 

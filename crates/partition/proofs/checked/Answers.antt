@@ -1,5 +1,4 @@
-use Rattle.std.proofs.Common.{◌≡◌, length, sym, ◌∙◌, rules}
-use Rattle.partition.specs.Table.{TableState, IsTable}
+use Rattle.std.proofs.Common.{sym, ◌∙◌, rules}
 use Rattle.partition.proofs.TableLaws.{is_table}
 use Rattle.partition.proofs.checked.Goals as goal
 

@@ -1,4 +1,4 @@
-use Rattle.std.proofs.Common.{◌≡◌, sym, ◌∙◌, ap, rules, true}
+use Rattle.std.proofs.Common.{◌≡◌, sym, ◌∙◌, ap, true}
 use Rattle.partition.specs.Entries.{has_signature}
 use Rattle.partition.specs.Refusals.{checked}
 use Rattle.partition.proofs.parse.Goals as goal

@@ -1,9 +1,4 @@
-use Rattle.std.proofs.Common.{◌≡◌, sym, ◌∙◌, ap, subst}
-use Rattle.std.specs.Prelude.{Bool, Some, true, false}
-use Rattle.media.specs.Contents.{MediaState}
-use Rattle.bdev.specs.declared.Run.{Run}
-use Rattle.modeldisk.specs.declared.mover.Mover.{Mover}
-use Rattle.modeldisk.specs.Mover.{MovesNext, run_of}
+use Rattle.std.proofs.Common.{sym, ◌∙◌}
 use Rattle.modeldisk.proofs.MoverLaws.{keeps_unsound, keeps_empty, keeps_working, keeps_last}
 use Rattle.modeldisk.proofs.SweepLaws.{unsound_in_order, empty_in_order, unsound_arm, empty_arm, refused_in_order, refused_arm, moved_arm, working_in_order, last_in_order}
 use Rattle.modeldisk.proofs.mover.Mover.step.Goals as goal
