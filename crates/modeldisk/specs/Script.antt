@@ -1,6 +1,8 @@
 -- The script of a driver's faults.
-use Rattle.std.specs.Prelude.{ℕ, ◌&&◌, ◌==◌, List, find, option_map, Option}
+use Rattle.std.specs.Prelude.{ℕ, ◌+◌, Bool, true, false, if◌then◌else◌, ◌&&◌, ◌==◌, List, find, option_map, Option}
 use Rattle.media.specs.Contents.{MediaState}
+use Rattle.bdev.specs.declared.Accept.{Accept}
+use Rattle.bdev.specs.declared.Accept.TheVariants.{Taken, Busy, Old}
 use Rattle.bdev.specs.declared.Step.{Step}
 use Rattle.bdev.specs.DriverState.{DriverState}
 use Rattle.modeldisk.specs.declared.mover.Mover.{Mover}
@@ -24,6 +26,31 @@ mover_of d = d.mover
 -- its state
 abbrev pub scripted_state : ScriptedDriver → DriverState
 scripted_state d = state_of d.mover
+
+-- the inner driver has an arm
+abbrev pub has_arm : Inner → Bool
+has_arm (Ram d) = false
+has_arm (Model d) = true
+
+-- where the sweep over a request that is taken begins
+abbrev pub sweep_start : ScriptedDriver → ℕ
+sweep_start d = if d.sweeps then d.mover.arm else 0
+
+-- a script: its faults, how many requests were taken, and whether the inner driver has an arm
+pub record Script : Type 0 where
+  pub faults : List Fault
+  pub taken : ℕ
+  pub sweeps : Bool
+
+-- the script of a driver
+abbrev pub script_of : ScriptedDriver → Script
+script_of d = record { faults = d.faults.items; taken = d.taken; sweeps = d.sweeps }
+
+-- a request that is taken counts
+abbrev pub counted : Accept → Script → Script
+counted Taken s = record s { taken = s.taken + 1 }
+counted Busy s = s
+counted Old s = s
 
 -- the first fault of the script for this request, with so many of its sectors moved
 abbrev pub due_in : List Fault → ℕ → ℕ → Option FaultKind

@@ -1,5 +1,9 @@
 ghost use Rattle.std.specs.Prelude.{◌≡◌, ◌+◌, ◌≤◌, if◌then◌else◌};
+ghost use Rattle.partition.specs.Table.{ranges_of};
+ghost use Rattle.bdev.specs.DriverState.{plan};
 ghost use Rattle.bdev.specs.Promises.{AcceptKeeps, IsDriver, StepKeeps};
+ghost use Rattle.modeldisk.specs.Order.{order_in};
+ghost use Rattle.modeldisk.specs.Mover.{left_of};
 
 use crate::fault::{Fault, FaultKind};
 use crate::model::ModelDriver;
@@ -30,11 +34,12 @@ pub struct ScriptedDriver {
 }
 
 impl ScriptedDriver {
-    ghost use Rattle.modeldisk.specs.Script.{due_of, inner_state, mover_of, scripted_state};
+    ghost use Rattle.modeldisk.specs.Script.{due_of, has_arm, inner_state, script_of, scripted_state};
 
     /// The inner driver with a script of faults.
     pub fn new(inner: Inner, faults: Vec<Fault>) -> ScriptedDriver
-        ensures { scripted_state result ≡ inner_state inner }
+        ensures state { scripted_state result ≡ inner_state inner }
+        ensures script { script_of result ≡ record { faults = faults.items; taken = 0; sweeps = has_arm inner } }
     {
         let (mover, sweeps) = match inner {
             Inner::Ram(driver) => (driver.mover, false),
@@ -59,11 +64,17 @@ impl ScriptedDriver {
 }
 
 impl BlockDriver for ScriptedDriver {
-    ghost use Rattle.modeldisk.specs.Script.{due_of, mover_of, scripted_state, FollowsScript};
+    ghost use Rattle.modeldisk.specs.Script.{counted, due_of, mover_of, script_of, scripted_state, sweep_start, FollowsScript};
 
     ghost state = { scripted_state };
 
-    fn accept(&mut self, request: BlockRequest) -> Accept {
+    /// A request that is taken has its sectors moved as the inner driver would.
+    fn accept(&mut self, request: BlockRequest) -> Accept
+        ensures keeps { AcceptKeeps (scripted_state self.old) request result (scripted_state self.new) }
+        ensures driver { IsDriver (scripted_state self.new) }
+        ensures order { result ≡ Accept.Taken → left_of (mover_of self.new) ≡ order_in (sweep_start self.old) (plan (ranges_of (mover_of self.old).table) request) }
+        ensures script { script_of self.new ≡ counted result (script_of self.old) }
+    {
         let from = if self.sweeps { self.mover.arm } else { 0 };
         let accept = self.mover.accept(request, from);
         if accept == Accept::Taken {
@@ -88,7 +99,8 @@ impl BlockDriver for ScriptedDriver {
     fn step(&mut self, media: &mut Media, generation: u32) -> Step
         ensures keeps { StepKeeps (scripted_state self.old) media.old generation result (scripted_state self.new) media.new }
         ensures driver { IsDriver (scripted_state self.new) }
-        ensures script { FollowsScript (due_of self.old) (mover_of self.old) media.old generation result (mover_of self.new) }
+        ensures fault { FollowsScript (due_of self.old) (mover_of self.old) media.old generation result (mover_of self.new) }
+        ensures script { script_of self.new ≡ script_of self.old }
     {
         match self.due() {
             None => self.mover.step(media, generation),
