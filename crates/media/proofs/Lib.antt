@@ -1,1 +1,4 @@
 pub mod SectorLaws
+pub mod WrittenLaws
+pub mod CallLaws
+mod Rows

@@ -1,13 +1,14 @@
 -- Cutting bytes into sectors, and joining sectors.
-use Rattle.std.proofs.Common.{◌≡◌, ℕ, zero, suc, ◌+◌, ◌*◌, ◌≤◌, ◌<◌, List, [], ◌++◌, length, get_or, take, drop, refl, ap, arith, length-drop, add-one}
+use Rattle.std.proofs.Common.{◌≡◌, ℕ, zero, suc, ◌+◌, ◌*◌, ◌/◌, ◌≤◌, ◌<◌, List, [], ◌∷◌, ◌++◌, length, get_or, take, drop, refl, ◌∙◌, ap, arith, length-append, length-drop, add-one, zero-add}
 use Rattle.std.specs.Prelude.{All}
 use Rattle.std.specs.List.{concat}
 use Rattle.std.specs.Simd.{first_chunks}
-use Rattle.std.proofs.Math.Seq.{take-suc}
-use Rattle.std.proofs.lemmas.List.Elements.{All-nil, All-cons}
-use Rattle.std.proofs.lemmas.List.{length-take-le, append-nil}
+use Rattle.std.proofs.Math.Seq.{take-append_seam, drop-append_seam, take-suc, take-length}
+use Rattle.std.proofs.lemmas.List.Elements.{All-nil, All-cons, All-head, All-tail}
+use Rattle.std.proofs.lemmas.List.{take-append-drop, take-take, drop-take, length-take-le, append-nil, get_or_append_left, get_or-append-add}
 use Rattle.std.proofs.lemmas.List.Folds.{concat-append}
 use Rattle.media.specs.Contents.{IsWhole}
+use Rattle.media.specs.Laws.{IsSameImage}
 
 -- k sectors are cut
 pub length-first_chunks : (k : ℕ) (bytes : List ℕ) → length (first_chunks 512 k bytes) ≡ k
@@ -31,3 +32,60 @@ IsWhole-first_chunks k bytes fits few = record {
 -- one more sector
 pub joined_more : (xs : List (List ℕ)) (i : ℕ) → i < length xs → concat (take (i + 1) xs) ≡ concat (take i xs) ++ get_or xs i []
 joined_more xs i less = rw (add-one, take-suc xs i [] less, concat-append) (ap (λ ys. concat (take i xs) ++ ys) (append-nil (get_or xs i [])))
+
+-- the first n bytes and the next m
+take_next : (n m : ℕ) (bytes : List ℕ) → take n bytes ++ take m (drop n bytes) ≡ take (n + m) bytes
+take_next n m bytes =
+    let front : take n (take (n + m) bytes) ≡ take n bytes = take-take n (n + m) bytes (omega arith) in
+    let back : drop n (take (n + m) bytes) ≡ take m (drop n bytes) = drop-take n m bytes in
+    rw (← front, ← back) (take-append-drop n (take (n + m) bytes))
+
+-- k sectors joined are the first 512 * k bytes
+concat-first_chunks : (k : ℕ) (bytes : List ℕ) → concat (first_chunks 512 k bytes) ≡ take (512 * k) bytes
+concat-first_chunks zero bytes = refl
+concat-first_chunks (suc k) bytes =
+    let more : 512 + 512 * k ≡ 512 * suc k = omega arith in
+    ap (λ ys. take 512 bytes ++ ys) (concat-first_chunks k (drop 512 bytes)) ∙ take_next 512 (512 * k) bytes ∙ ap (λ n. take n bytes) more
+
+-- sectors of 512 bytes each have 512 bytes in all for each
+pub length-concat : (sectors : List (List ℕ)) → All (λ s. length s ≡ 512) sectors → length (concat sectors) ≡ 512 * length sectors
+length-concat [] each = refl
+length-concat (s ∷ sectors) each =
+    let h : length (concat sectors) ≡ 512 * length sectors = length-concat sectors (All-tail (λ x. length x ≡ 512) s sectors each) in
+    let l : length s ≡ 512 = All-head (λ x. length x ≡ 512) s sectors each in
+    omega (arith, length-append s (concat sectors))
+
+-- joined sectors are cut into themselves
+first_chunks-concat : (sectors : List (List ℕ)) → All (λ s. length s ≡ 512) sectors → first_chunks 512 (length sectors) (concat sectors) ≡ sectors
+first_chunks-concat [] each = refl
+first_chunks-concat (s ∷ sectors) each =
+    let h : first_chunks 512 (length sectors) (concat sectors) ≡ sectors = first_chunks-concat sectors (All-tail (λ x. length x ≡ 512) s sectors each) in
+    let l : length s ≡ 512 = All-head (λ x. length x ≡ 512) s sectors each in
+    let front : take 512 (s ++ concat sectors) ≡ s = rw l at (take-append_seam s (concat sectors)) in
+    let back : drop 512 (s ++ concat sectors) ≡ concat sectors = rw l at (drop-append_seam s (concat sectors)) in
+    rw (front, back, h) refl
+
+-- byte o of sector s stands in the image at 512 * s + o
+places : (sectors : List (List ℕ)) → All (λ s. length s ≡ 512) sectors → (s o : ℕ) → s < length sectors → o < 512
+    → get_or (concat sectors) (512 * s + o) 0 ≡ get_or (get_or sectors s []) o 0
+places [] each s o less within = absurd (omega arith)
+places (x ∷ sectors) each zero o less within =
+    let l : length x ≡ 512 = All-head (λ y. length y ≡ 512) x sectors each in
+    rw (zero-add o) (get_or_append_left x (concat sectors) 0 o (omega arith))
+places (x ∷ sectors) each (suc s) o less within =
+    let l : length x ≡ 512 = All-head (λ y. length y ≡ 512) x sectors each in
+    let more : 512 * suc s + o ≡ length x + (512 * s + o) = omega arith in
+    rw more (get_or-append-add x (concat sectors) (512 * s + o) 0 ∙ places sectors (All-tail (λ y. length y ≡ 512) x sectors each) s o (omega arith) within)
+
+-- cutting and joining undo one another
+pub is_same_image : IsSameImage
+is_same_image = record {
+  joined = λ bytes whole.
+      let all : 512 * (length bytes / 512) ≡ length bytes = omega arith in
+      concat-first_chunks (length bytes / 512) bytes ∙ rw all (take-length bytes);
+  cut = λ sectors whole.
+      let number : length (concat sectors) / 512 ≡ length sectors = let l : length (concat sectors) ≡ 512 * length sectors = length-concat sectors whole.each in omega arith in
+      rw number (first_chunks-concat sectors whole.each);
+  long = λ sectors whole. length-concat sectors whole.each;
+  places = λ sectors whole. places sectors whole.each;
+}

@@ -8,6 +8,7 @@
 ghost use Rattle.std.specs.Prelude.{◌≡◌, ◌≢◌, ◌≤◌, ◌<◌, ◌*◌, ◌%◌, ◌/◌, ◌↔◌, length, IsTrue, IsNone, IfSome, IfOk, IfErr};
 ghost use Rattle.std.specs.List.{concat};
 ghost use Rattle.media.specs.Contents.{IsWhole, Adopt, Write, Tear, accepts, media_after, sectors_of, written};
+ghost use Rattle.media.specs.Laws.{ContentsFollow, RevokedForEver, ChangesOneSector, IsSameImage};
 ghost use Rattle.media.specs.Answers.{media_refusal_number, sector_refusal_number, refusal_of, read_answer, write_answer};
 
 use std::alloc::{AllocError, Global};
@@ -169,17 +170,17 @@ impl Media {
         self.put(generation, n, bytes)
     }
 
-    /// Leaves in sector `n` the bytes that the death of a driver in the middle of a write left there.
+    /// Puts into sector `n` the bytes that a driver which died in the middle of a write left there. A refused tear changes nothing.
     pub fn tear(
         &mut self,
         generation: u32,
         n: u32,
-        bytes: &[u8; SECTOR],
+        left: &[u8; SECTOR],
     ) -> Result<(), SectorRefusal>
-        ensures after { self.new ≡ media_after self.old (Tear generation n bytes.now) }
+        ensures after { self.new ≡ media_after self.old (Tear generation n left.now) }
         ensures answer { result ≡ write_answer self.old generation n }
     {
-        self.put(generation, n, bytes)
+        self.put(generation, n, left)
     }
 
     /// Why generation `generation` may not move sector `n`, if it may not.
@@ -208,3 +209,28 @@ impl Media {
         Ok(())
     }
 }
+
+/// The contents of new media after any calls are the first ones, changed in order by each write and
+/// tear whose sector exists and whose generation is the greatest adopted before it.
+#[tactic(auto, using(crate::proofs::CallLaws::contents_follow))]
+pub fn contents_follow_calls()
+    ensures { ContentsFollow }
+{}
+
+/// Once a later generation was adopted, no call under an earlier one ever changes anything.
+#[tactic(auto, using(crate::proofs::CallLaws::revoked_for_ever))]
+pub fn stays_revoked()
+    ensures { RevokedForEver }
+{}
+
+/// A write changes its own sector at most.
+#[tactic(auto, using(crate::proofs::WrittenLaws::changes_one_sector))]
+pub fn changes_its_sector()
+    ensures { ChangesOneSector }
+{}
+
+/// The image of media made from bytes is those bytes, and its sectors are those of the media.
+#[tactic(auto, using(crate::proofs::SectorLaws::is_same_image))]
+pub fn keeps_the_image()
+    ensures { IsSameImage }
+{}

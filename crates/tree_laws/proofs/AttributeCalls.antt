@@ -1,74 +1,42 @@
 -- The calls that set attributes keep a tree a tree.
-use Rattle.std.proofs.Common.{◌≡◌, ◌<◌, ◌^◌, ℕ, Bool, refl, sym, ap, ◌∙◌, arith, List}
-use Rattle.std.specs.Prelude.{Some, Result, Ok, nat_lt, nat_le, not, ◌==◌}
-use Rattle.std.proofs.lemmas.Bool.{ltb-false}
+use Rattle.std.proofs.Common.{◌≡◌, ℕ, refl, ap}
+use Rattle.std.specs.Prelude.{Some}
 use Rattle.layout.specs.declared.Geometry.{Geometry}
-use Rattle.errno.specs.declared.Errno.{Errno}
-use Rattle.errno.specs.declared.Errno.TheVariants.{EINVAL, EPERM, ENOENT}
-use Rattle.tree.specs.declared.Who.{Who}
-use Rattle.tree.specs.Tree.{Node, Tree, is_dir, names_of, parent_of, with_node, most_permissions, most_sessions}
+use Rattle.tree.specs.declared.Call.TheVariants.{Chmod, Chown, Utime}
+use Rattle.tree.specs.Tree.{Node, Tree, is_dir, names_of, parent_of, with_node}
 use Rattle.tree.specs.IsTree.{IsNode, IsTree}
-use Rattle.tree.specs.Refusals.{◌>>=◌, refuse_if}
-use Rattle.tree.specs.Walk.{walk, node_at, is_owner}
 use Rattle.tree.specs.Changes.{with_ctime}
-use Rattle.tree.specs.Answers.{done}
-use Rattle.tree.specs.NodeCalls.{chmod, chown, utime}
 use Rattle.tree.specs.Effects.{user_of}
 use Rattle.tree_laws.specs.Keeps.{ChmodKeeps, ChownKeeps, UtimeKeeps}
-use Rattle.tree_laws.proofs.Steps.{tree_after, taken, taken_or_refuse, passed, step}
 use Rattle.tree_laws.proofs.Kept.{kept}
+use Rattle.tree_laws.proofs.NodeOutcomes.{chmod_each, chown_each, utime_each}
+use Rattle.tree_laws.proofs.Keeping.{Keeps, keeps_closed, in_session}
 
-module _ (g : Geometry) (t : Tree) (who : Who) (tree : IsTree g t) where
-  abbrev session_refused : Result ℕ Errno
-  session_refused = refuse_if (nat_le most_sessions who.session) EINVAL
-
-  -- a node that is found, asked for its owner or another right, and changed in its attributes
-  changed : (n : ℕ) (refused : Node → Bool) (change : Node → Node)
-      → ((node : Node) → IsNode g node → IsNode g (change node))
-      → ((node : Node) → (change node).body ≡ node.body) → ((node : Node) → (change node).links ≡ node.links)
-      → IsTree g (tree_after t (node_at t n >>= λ node. refuse_if (refused node) EPERM >>= λ _. Ok (done, with_node t n (Some (change node)))))
-  changed n refused change fits body links =
-      step g t (node_at t n) (λ node. refuse_if (refused node) EPERM >>= λ _. Ok (done, with_node t n (Some (change node)))) tree (λ node found.
-      let there : t.nodes n ≡ Some node = sym (taken_or_refuse (t.nodes n) ENOENT) ∙ ap taken found in
-      step g t (refuse_if (refused node) EPERM) (λ _. Ok (done, with_node t n (Some (change node)))) tree (λ _ _.
-      kept g t n node (change node) there
-      (ap (λ b. is_dir (record node { body = b })) (body node))
-      (ap (λ b. names_of (Some (record node { body = b }))) (body node))
-      (ap (λ b. parent_of (Some (record node { body = b }))) (body node))
-      (links node) (fits node (tree.nodes.each n node there)) tree))
-
-  chmod_kept : (now mode : ℕ) (path : List ℕ) → now < 2 ^ 32 → IsTree g (tree_after t (session_refused >>= λ _. chmod t (user_of who) now path mode))
-  chmod_kept now mode path small =
-      step g t session_refused (λ _. chmod t (user_of who) now path mode) tree (λ _ _.
-      step g t (refuse_if (nat_lt most_permissions mode) EINVAL) (λ _. walk t (user_of who) path >>= λ n. node_at t n >>= λ node. refuse_if (not (is_owner (user_of who) node)) EPERM >>= λ _. Ok (done, with_node t n (Some (with_ctime now (record node { permissions = mode }))))) tree (λ x fits.
-      step g t (walk t (user_of who) path) (λ n. node_at t n >>= λ node. refuse_if (not (is_owner (user_of who) node)) EPERM >>= λ _. Ok (done, with_node t n (Some (with_ctime now (record node { permissions = mode }))))) tree (λ n _.
-      changed n (λ node. not (is_owner (user_of who) node)) (λ node. with_ctime now (record node { permissions = mode }))
-      (λ node old. record { permissions = let e = ltb-false most_permissions mode (passed _ _ x fits) in omega arith; links = old.links; uid = old.uid; gid = old.gid; atime = old.atime; mtime = old.mtime; ctime = small; body = old.body })
-      (λ node. refl) (λ node. refl))))
-
-  chown_kept : (now uid gid : ℕ) (path : List ℕ) → now < 2 ^ 32 → uid < 2 ^ 16 → gid < 2 ^ 16
-      → IsTree g (tree_after t (session_refused >>= λ _. chown t (user_of who) now path uid gid))
-  chown_kept now uid gid path small u v =
-      step g t session_refused (λ _. chown t (user_of who) now path uid gid) tree (λ _ _.
-      step g t (walk t (user_of who) path) (λ n. node_at t n >>= λ node. refuse_if (not ((user_of who).uid == 0)) EPERM >>= λ _. Ok (done, with_node t n (Some (with_ctime now (record node { uid = uid; gid = gid }))))) tree (λ n _.
-      changed n (λ node. not ((user_of who).uid == 0)) (λ node. with_ctime now (record node { uid = uid; gid = gid }))
-      (λ node old. record { permissions = old.permissions; links = old.links; uid = u; gid = v; atime = old.atime; mtime = old.mtime; ctime = small; body = old.body })
-      (λ node. refl) (λ node. refl)))
-
-  utime_kept : (now atime mtime : ℕ) (path : List ℕ) → now < 2 ^ 32 → atime < 2 ^ 32 → mtime < 2 ^ 32
-      → IsTree g (tree_after t (session_refused >>= λ _. utime t (user_of who) now path atime mtime))
-  utime_kept now atime mtime path small a m =
-      step g t session_refused (λ _. utime t (user_of who) now path atime mtime) tree (λ _ _.
-      step g t (walk t (user_of who) path) (λ n. node_at t n >>= λ node. refuse_if (not (is_owner (user_of who) node)) EPERM >>= λ _. Ok (done, with_node t n (Some (with_ctime now (record node { atime = atime; mtime = mtime }))))) tree (λ n _.
-      changed n (λ node. not (is_owner (user_of who) node)) (λ node. with_ctime now (record node { atime = atime; mtime = mtime }))
-      (λ node old. record { permissions = old.permissions; links = old.links; uid = old.uid; gid = old.gid; atime = a; mtime = m; ctime = small; body = old.body })
-      (λ node. refl) (λ node. refl)))
+-- a node that is the same but for its attributes
+same_body : (g : Geometry) (t : Tree) (n : ℕ) (node changed : Node) → IsTree g t → t.nodes n ≡ Some node → changed.body ≡ node.body → changed.links ≡ node.links
+    → IsNode g changed → IsTree g (with_node t n (Some changed))
+same_body g t n node changed tree there body links fits =
+    kept g t n node changed there
+    (ap (λ b. is_dir (record node { body = b })) body) (ap (λ b. names_of (Some (record node { body = b }))) body) (ap (λ b. parent_of (Some (record node { body = b }))) body)
+    links fits tree
 
 pub chmod_keeps : ChmodKeeps
-chmod_keeps g t who now mode path small tree = chmod_kept g t who tree now mode path.now small
+chmod_keeps g t who now mode path small tree = in_session g t who now (Chmod path mode) tree (λ _.
+    chmod_each t (user_of who) now (Keeps g t) (keeps_closed g t tree) path.now mode (λ fits n node there.
+    let old = tree.nodes.each n node there in
+    same_body g t n node (with_ctime now (record node { permissions = mode })) tree there refl refl
+    (record { permissions = fits; links = old.links; uid = old.uid; gid = old.gid; atime = old.atime; mtime = old.mtime; ctime = small; body = old.body })))
 
 pub chown_keeps : ChownKeeps
-chown_keeps g t who now uid gid path small u v tree = chown_kept g t who tree now uid gid path.now small u v
+chown_keeps g t who now uid gid path small u v tree = in_session g t who now (Chown path uid gid) tree (λ _.
+    chown_each t (user_of who) now (Keeps g t) (keeps_closed g t tree) path.now uid gid (λ n node there.
+    let old = tree.nodes.each n node there in
+    same_body g t n node (with_ctime now (record node { uid = uid; gid = gid })) tree there refl refl
+    (record { permissions = old.permissions; links = old.links; uid = u; gid = v; atime = old.atime; mtime = old.mtime; ctime = small; body = old.body })))
 
 pub utime_keeps : UtimeKeeps
-utime_keeps g t who now atime mtime path small a m tree = utime_kept g t who tree now atime mtime path.now small a m
+utime_keeps g t who now atime mtime path small a m tree = in_session g t who now (Utime path atime mtime) tree (λ _.
+    utime_each t (user_of who) now (Keeps g t) (keeps_closed g t tree) path.now atime mtime (λ n node there.
+    let old = tree.nodes.each n node there in
+    same_body g t n node (with_ctime now (record node { atime = atime; mtime = mtime })) tree there refl refl
+    (record { permissions = old.permissions; links = old.links; uid = old.uid; gid = old.gid; atime = a; mtime = m; ctime = small; body = old.body })))

@@ -1,21 +1,18 @@
 -- Close keeps a tree a tree: the descriptor goes, its open file with the last one, and a file without a name with its last open file.
 use Rattle.std.proofs.Common.{◌≡◌, ◌≢◌, ℕ, true, false, refl, sym, ap, ◌∙◌}
 use mathlib.Core.Logic.{inl, inr}
-use Rattle.std.specs.Prelude.{Option, None, Some, is_some, Ok, IsTrue, nat_le}
+use Rattle.std.specs.Prelude.{Option, None, Some, is_some, IsTrue}
 use Rattle.std.proofs.lemmas.Bool.{cases_eq, cond_both, eqb-true}
 use Rattle.layout.specs.declared.Geometry.{Geometry}
-use Rattle.errno.specs.declared.Errno.TheVariants.{EINVAL}
-use Rattle.tree.specs.declared.Who.{Who}
-use Rattle.tree.specs.Tree.{OpenFile, Tree, opens, is_open, has_descriptor, with_open_file, with_descriptor, most_sessions, most_open_files}
+use Rattle.tree.specs.declared.Call.TheVariants.{Close}
+use Rattle.tree.specs.Tree.{OpenFile, Tree, opens, is_open, has_descriptor, with_open_file, with_descriptor, most_open_files}
 use Rattle.tree.specs.IsTree.{IsTree}
-use Rattle.tree.specs.Refusals.{◌>>=◌, refuse_if}
-use Rattle.tree.specs.Changes.{open_file_of, without_unused, without_nameless}
-use Rattle.tree.specs.Answers.{done}
-use Rattle.tree.specs.FileCalls.{close}
+use Rattle.tree.specs.Changes.{without_unused, without_nameless}
 use Rattle.tree_laws.specs.Keeps.{CloseKeeps}
 use Rattle.tree.proofs.Maps.{put-same, put-other, not_nothing, not_true, is_the_one}
 use Rattle.tree_laws.proofs.Search.{found_below, one_below}
-use Rattle.tree_laws.proofs.Steps.{step, is_opened, tree_after}
+use Rattle.tree_laws.proofs.FileOutcomes.{close_each}
+use Rattle.tree_laws.proofs.Keeping.{Keeps, keeps_closed, in_session}
 use Rattle.tree_laws.proofs.OpenFiles.{holder, held, descriptor_cases, is_at_place, still_held}
 use Rattle.tree_laws.proofs.Freed.{IsTreeBut, without_nameless_is_tree}
 
@@ -79,9 +76,12 @@ module _ (g : Geometry) (t : Tree) (session fd k : ℕ) (o : OpenFile) (led : t.
       numbers = λ j e. tree.open_files.numbers j (some_left j e).1;
       each = λ j x e. let old = tree.open_files.each j x (left j x e).1 in record { node = old.node; position = old.position; flags = old.flags; not_a_directory = old.not_a_directory };
       descriptors = λ s f j e.
-          let old = tree.open_files.descriptors s f j (was s f j e) in
-          (old.0, old.1, ap is_some (put-other t.open_files k None j (λ is.
-          not_true (sym h ∙ held less.descriptors k (record { session = s; fd = f; session_in = old.0; fd_in = old.1; leads = e ∙ ap Some is })))) ∙ old.2);
+          let old = tree.open_files.descriptors s f j (was s f j e) in (
+            old.0,
+            old.1,
+            ap is_some (put-other t.open_files k None j (λ is.
+                not_true (sym h ∙ held less.descriptors k (record { session = s; fd = f; session_in = old.0; fd_in = old.1; leads = e ∙ ap Some is })))) ∙ old.2,
+          );
       in_use = λ j e. let it = some_left j e in others_held j it.0 it.1;
     };
     nameless = λ m x e l d. still_open m d (tree.nameless m x e l);
@@ -90,12 +90,7 @@ module _ (g : Geometry) (t : Tree) (session fd k : ℕ) (o : OpenFile) (led : t.
   pub closed : IsTree g (without_nameless (without_unused less k) o.inode)
   closed = without_nameless_is_tree g (without_unused less k) o.inode (cond_both (has_descriptor less k) less unused (λ u. IsTreeBut g u o.inode) stays goes)
 
-close_kept : (g : Geometry) (t : Tree) (who : Who) (fd : ℕ) → IsTree g t → IsTree g (tree_after t (refuse_if (nat_le most_sessions who.session) EINVAL >>= λ _. close t who.session fd))
-close_kept g t who fd tree =
-    step g t (refuse_if (nat_le most_sessions who.session) EINVAL) (λ _. close t who.session fd) tree (λ _ _.
-    step g t (open_file_of t who.session fd) (λ found. Ok (done, without_nameless (without_unused (with_descriptor t who.session fd None) found.0) found.1.inode)) tree (λ found led.
-    let is = is_opened t who.session fd found led in
-    closed g t who.session fd found.0 found.1 is.descriptor is.file tree))
-
 pub close_keeps : CloseKeeps
-close_keeps g t who now fd tree = close_kept g t who fd tree
+close_keeps g t who now fd tree = in_session g t who now (Close fd) tree (λ _.
+    close_each t who.session (Keeps g t) (keeps_closed g t tree) fd (λ found opened.
+    closed g t who.session fd found.0 found.1 opened.descriptor opened.file tree))

@@ -108,7 +108,10 @@ module _ (t : Tree) (session fd : ℕ) (x : Option ℕ) where
   -- an open file that the old descriptor was not of keeps its holders
   pub still_held : (k : ℕ) → t.descriptors session fd ≢ Some k → Holder t.descriptors k → Holder now k
   still_held k d h = record {
-    session = h.session; fd = h.fd; session_in = h.session_in; fd_in = h.fd_in;
+    session = h.session;
+    fd = h.fd;
+    session_in = h.session_in;
+    fd_in = h.fd_in;
     leads = elim (descriptor_cases h.session h.fd) [
       | inl at ↦ absurd (d (sym (λ i. t.descriptors (at.0 i) (at.1 i)) ∙ h.leads))
       | inr same ↦ same ∙ h.leads

@@ -39,7 +39,10 @@ entered_body user (is_directory d) node dir e h =
     let is : cond (may_access user node to_search) (Ok (d.parent, d.names)) (Err EACCES) ≡ Ok dir = sym (ap (λ b. enter user (Some (record node { body = b }))) e) ∙ h in
     elim (cases_Bool (may_access user node to_search)) [
       | inl ay ↦ record {
-        node = node; directory = d; there = refl; body = e;
+        node = node;
+        directory = d;
+        there = refl;
+        body = e;
         same = ap (λ x. x.1) (ok_is (d.parent, d.names) dir (Ok (d.parent, d.names)) refl (sym (cond-true (may_access user node to_search) (Ok (d.parent, d.names)) (Err EACCES) ay) ∙ is));
       }
       | inr nay ↦ absurd (not_refused EACCES dir (sym (cond-false (may_access user node to_search) (Ok (d.parent, d.names)) (Err EACCES) nay) ∙ is))
@@ -58,11 +61,11 @@ is_place t user parts place h =
     (record { node = found.node; directory = found.directory; there = found.there; body = found.body; names = found.same })
 
 -- A directory without a name.
-true_from : (b : Bool) → T b → b ≡ true
+pub true_from : (b : Bool) → T b → b ≡ true
 true_from true h = refl
 true_from false h = absurd h
 
-from_true : (b : Bool) → b ≡ true → T b
+pub from_true : (b : Bool) → b ≡ true → T b
 from_true b h = subst T (sym h) tt
 
 all_left : (name : Name) (es : Names) → list_all (λ e. is_name e.0) es ≡ true → list_all (λ e. is_name e.0) (without_name es name) ≡ true
@@ -85,7 +88,7 @@ pub found_without : (es : Names) (name q : Name) (m : ℕ) → inode_of (without
 found_without es name q m h =
     let p : Name → Bool = λ x. not (eq_by_cmp name_cmp name x) in
     let is : cond (p q) (inode_of es q) None ≡ Some m =
-        sym (find-where_key name_cmp p q (λ x tie. ap (λ r. not (is_eq r)) (sym (alike_right nat_list_cmp_total q x name tie))) es) ∙ h in
+    sym (find-where_key name_cmp p q (λ x tie. ap (λ r. not (is_eq r)) (sym (alike_right nat_list_cmp_total q x name tie))) es) ∙ h in
     elim (cases_Bool (p q)) [
       | inl ay ↦ sym (cond-true (p q) (inode_of es q) None ay) ∙ is
       | inr nay ↦ absurd (not_nothing m (sym (cond-false (p q) (inode_of es q) None nay) ∙ is))

@@ -3,9 +3,13 @@ use Rattle.std.specs.Prelude.{◌<◌, ◌^◌, ℕ, ℤ, List}
 use Rattle.std.specs.Borrow.{Bor}
 use Rattle.std.specs.List.{All}
 use Rattle.layout.specs.declared.Geometry.{Geometry}
+use Rattle.layout.specs.Places.{IsGeometry}
 use Rattle.tree.specs.declared.Who.{Who}
 use Rattle.tree.specs.declared.Whence.{Whence}
-use Rattle.tree.specs.declared.Call.TheVariants.{Chmod, Chown, Utime, Seek, Read, Dup, Close, Write, Truncate, Unlink}
+use Rattle.tree.specs.declared.OpenFlags.{OpenFlags}
+use Rattle.tree.specs.declared.Call.{Call}
+use Rattle.tree.specs.declared.Call.TheVariants.{Chmod, Chown, Utime, Seek, Read, Dup, Close, Write, Truncate, Unlink, Link, Mkdir, Rmdir, Open, Rename}
+use Rattle.tree.specs.IsCall.{IsBytes, IsCall, IsCaller}
 use Rattle.tree.specs.Tree.{Tree}
 use Rattle.tree.specs.IsTree.{IsTree}
 use Rattle.tree.specs.Effects.{tree_after_call}
@@ -57,3 +61,35 @@ abbrev pub UnlinkKeeps : Type 0
 UnlinkKeeps =
     (g : Geometry) (t : Tree) (who : Who) (now : ℕ) (path : Bor (List ℕ)) → now < 2 ^ 32
     → IsTree g t → IsTree g (tree_after_call g t who now (Unlink path))
+
+abbrev pub LinkKeeps : Type 0
+LinkKeeps =
+    (g : Geometry) (t : Tree) (who : Who) (now : ℕ) (old new : Bor (List ℕ)) → IsGeometry g → now < 2 ^ 32 → IsBytes new.now
+    → IsTree g t → IsTree g (tree_after_call g t who now (Link old new))
+
+abbrev pub MkdirKeeps : Type 0
+MkdirKeeps =
+    (g : Geometry) (t : Tree) (who : Who) (now : ℕ) (path : Bor (List ℕ)) (mode : ℕ) → IsGeometry g → IsCaller who → now < 2 ^ 32 → IsBytes path.now
+    → IsTree g t → IsTree g (tree_after_call g t who now (Mkdir path mode))
+
+abbrev pub RmdirKeeps : Type 0
+RmdirKeeps =
+    (g : Geometry) (t : Tree) (who : Who) (now : ℕ) (path : Bor (List ℕ)) → now < 2 ^ 32
+    → IsTree g t → IsTree g (tree_after_call g t who now (Rmdir path))
+
+-- Open keeps a tree a tree, of what is there and of what it makes.
+abbrev pub OpenKeeps : Type 0
+OpenKeeps =
+    (g : Geometry) (t : Tree) (who : Who) (now : ℕ) (path : Bor (List ℕ)) (flags : OpenFlags) (mode : ℕ) → IsGeometry g → IsCaller who → now < 2 ^ 32 → IsBytes path.now
+    → IsTree g t → IsTree g (tree_after_call g t who now (Open path flags mode))
+
+abbrev pub RenameKeeps : Type 0
+RenameKeeps =
+    (g : Geometry) (t : Tree) (who : Who) (now : ℕ) (old new : Bor (List ℕ)) → IsGeometry g → now < 2 ^ 32 → IsBytes new.now
+    → IsTree g t → IsTree g (tree_after_call g t who now (Rename old new))
+
+-- Every client call keeps a tree a tree.
+abbrev pub EveryCallKeeps : Type 0
+EveryCallKeeps =
+    (g : Geometry) (t : Tree) (who : Who) (now : ℕ) (call : Call) → IsGeometry g → IsCaller who → now < 2 ^ 32 → IsCall call
+    → IsTree g t → IsTree g (tree_after_call g t who now call)

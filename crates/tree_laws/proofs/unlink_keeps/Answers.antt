@@ -1,4 +1,4 @@
-use Rattle.tree_laws.proofs.UnlinkCall.{unlink_keeps}
+use Rattle.tree_laws.proofs.Unlinked.{unlink_keeps}
 use Rattle.tree_laws.proofs.unlink_keeps.Goals as goal
 
 pub returns : goal.returns

@@ -1,0 +1,24 @@
+-- What parsing a table answers, and the numbers of its refusals.
+use Rattle.std.specs.Prelude.{ℕ, List, Result, Ok, Err, not, if◌then◌else◌}
+use Rattle.std.specs.List.{list_any}
+use Rattle.partition.specs.declared.PartitionRefusal.{PartitionRefusal}
+use Rattle.partition.specs.declared.PartitionRefusal.TheVariants.{NoSignature, PastMedia, Overlap}
+use Rattle.partition.specs.Entries.{entries_of, has_overlap, has_signature, passes}
+use Rattle.partition.specs.Table.{TableState}
+
+-- the numbers of the refusals
+abbrev pub partition_refusal_number : PartitionRefusal → ℕ
+partition_refusal_number NoSignature = 1
+partition_refusal_number PastMedia = 2
+partition_refusal_number Overlap = 3
+
+-- a table, or why it is refused: some entry passes the media; two entries meet, or one holds sector 0
+abbrev pub checked : TableState → Result TableState PartitionRefusal
+checked t =
+    if list_any (passes t.sectors) t.entries then Err PastMedia
+    else (if has_overlap t.entries then Err Overlap else Ok t)
+
+-- the table in the first sector of media of so many sectors; the signature is looked at first
+abbrev pub table_of : List ℕ → ℕ → Result TableState PartitionRefusal
+table_of bytes sectors =
+    if not (has_signature bytes) then Err NoSignature else checked (record { sectors = sectors; entries = entries_of bytes })

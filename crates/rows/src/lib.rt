@@ -1,0 +1,7 @@
+//! Rows that run: what the programs' crates answer, each expected value taken from a format or worked out by hand.
+#![tactic(auto)]
+
+#[cfg(test)]
+mod errno;
+#[cfg(test)]
+mod tree;

@@ -1,0 +1,6 @@
+pub mod Small
+mod LayoutRows
+mod RootRows
+mod TreeRows
+mod ReadRows
+mod FreshRows
