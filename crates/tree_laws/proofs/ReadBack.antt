@@ -213,4 +213,5 @@ read_gives_written g t after who now later last fd at number file bytes tree wro
     let same : (w.number, w.file) ≡ (number, file) = ok_is (w.number, w.file) (number, file) (open_file_of after who.session fd) (opens_to after who.session fd (w.number, w.file) w.opened) opened in
     let position_is : w.file.position ≡ file.position = ap (λ x. x.1.position) same in
     let was = w.place in
-    read_back g after who (passed _ _ steps.0 steps.1) fd at bytes.now w (omega (arith, position_is, was, place)) (ap (λ x. reads x.1.flags) same ∙ readable) later last
+    let here : at ≡ w.first = omega (arith, position_is, was, place) in
+    read_back g after who (passed _ _ steps.0 steps.1) fd at bytes.now w here (ap (λ x. reads x.1.flags) same ∙ readable) later last
