@@ -16,7 +16,7 @@ use Rattle.tree.specs.Laws.{fresh_tree}
 use Rattle.tree.specs.Answers.{Answer, refused, done, some_bytes, node_is}
 use Rattle.tree.specs.Effects.{tree_after_call}
 use Rattle.volume.specs.Reading.{blocks_of}
-use Rattle.volume.specs.Holds.{Holds}
+use Rattle.volume.specs.Holds.{HoldsVolume}
 use Rattle.marks.specs.Marks.{Started, Flush, GaveUp, Took, Issued}
 use Rattle.marks.specs.Disk.{Contents}
 use Rattle.legal.specs.Legal.{IsLegal, IsReplyOf, tree_after, tree_after_answer}
@@ -158,9 +158,9 @@ sync_with_open_write h = let e : ◌≡◌ {A = Bool} true false = (h.1.syncs re
 
 -- one after which nothing is unsure, but the disk is zeros: bit 0 of the inode map isn't set
 sync_of_nothing : IsLegal small zeros fresh (Took user_0 100 call.Sync done ∷ []) → ⊥
-sync_of_nothing h = let e : ◌≡◌ {A = Bool} false true = (h.1.syncs refl refl).holds.sound.zones.inode_bit_0 in cc
+sync_of_nothing h = let e : ◌≡◌ {A = Bool} false true = (h.1.syncs refl refl).holds.nodes.sound.zones.inode_bit_0 in cc
 
 -- one over an image that holds the tree
-right_sync : (image : Contents) → Holds small (blocks_of small image) fresh → IsLegal small image fresh (Took user_0 100 call.Sync done ∷ Flush ∷ [])
+right_sync : (image : Contents) → HoldsVolume small (blocks_of small image) fresh → IsLegal small image fresh (Took user_0 100 call.Sync done ∷ Flush ∷ [])
 right_sync image holds =
     (tt, record { replies = inl refl; syncs = λ sync ok. record { sure = record { each = λ place. refl }; holds = holds } })

@@ -7,7 +7,7 @@ use Rattle.tree.specs.Sums.{sum_below, some_below, least_below}
 use Rattle.tree.specs.Tree.{Tree, OpenFile, most_open_files}
 use Rattle.tree.specs.IsTree.{IsClosed}
 use Rattle.tree.specs.Answers.{Answer, refused}
-use Rattle.volume.specs.Holds.{Holds}
+use Rattle.volume.specs.Holds.{HoldsVolume}
 use Rattle.marks.specs.Marks.{Mark, Took, gave_up}
 use Rattle.marks.specs.Disk.{Contents}
 use Rattle.marks.specs.Acts.{empty_outbox}
@@ -101,7 +101,7 @@ right_call = record {
             record {
               reads_back = record {
                 holds =
-                    let P : Tree → Type 0 = λ t. Holds small (server_view small (λ block. None) image marks) t in subst P (sym after) was.reads_back.holds;
+                    let P : Tree → Type 0 = λ t. HoldsVolume small (server_view small (λ block. None) image marks) t in subst P (sym after) was.reads_back.holds;
                 covered = record { each = was.reads_back.covered.each };
               };
               open_files = let P : Tree → Type 0 = λ t. false ≡ has_open_file t in subst P (sym after) was.open_files;

@@ -10,13 +10,13 @@ use Rattle.tree.specs.IsTree.{IsClosed}
 use Rattle.tree.specs.Answers.{Answer, refused}
 use Rattle.tree.specs.Effects.{reply_to, tree_after_call, may_want_memory}
 use Rattle.volume.specs.Reading.{blocks_of}
-use Rattle.volume.specs.Holds.{Holds}
+use Rattle.volume.specs.Holds.{HoldsVolume}
 use Rattle.marks.specs.Marks.{Mark, Took, gave_up}
 use Rattle.marks.specs.Disk.{Contents, disk_after, IsSure}
 
 -- the image holds the tree, in which no file is open
 pub record IsAtFirst (g : Geometry) (image : Contents) (tree : Tree) : Type 0 where
-  pub holds : Holds g (blocks_of g image) tree
+  pub holds : HoldsVolume g (blocks_of g image) tree
   pub closed : IsClosed tree
 
 -- whether the answer is no refusal
@@ -60,7 +60,7 @@ IsReplyOf g tree who now call answer =
 -- nothing is unsure, and the disk alone holds the tree
 pub record IsSynced (g : Geometry) (image : Contents) (marks : List Mark) (now : Tree) : Type 0 where
   pub sure : IsSure marks
-  pub holds : Holds g (blocks_of g (disk_after image marks)) now
+  pub holds : HoldsVolume g (blocks_of g (disk_after image marks)) now
 
 -- a call is taken before the device was given up: its answer is the tree's, and a sync that answered ok left the tree on the disk
 pub record IsLegalCall (g : Geometry) (image : Contents) (before : Tree) (marks : List Mark) (who : Who) (now : ℕ) (call : Call) (answer : Answer) : Type 0 where

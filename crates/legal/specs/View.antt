@@ -3,7 +3,7 @@ use Rattle.std.specs.Prelude.{ℕ, ◌/◌, List, Option, Some, None, IsSome, Is
 use Rattle.layout.specs.declared.Geometry.{Geometry}
 use Rattle.tree.specs.Tree.{Tree}
 use Rattle.volume.specs.Reading.{Disk, blocks_of}
-use Rattle.volume.specs.Holds.{Holds}
+use Rattle.volume.specs.Holds.{HoldsVolume}
 use Rattle.marks.specs.Marks.{Mark}
 use Rattle.marks.specs.Disk.{Contents, disk_after, unsure}
 use Rattle.legal.specs.Legal.{tree_after}
@@ -28,5 +28,5 @@ pub record IsCovered (g : Geometry) (frames : Frames) (marks : List Mark) : Type
 
 -- what the server would read back is the tree now, and each unsure place lies in a block with a frame
 pub record ReadsBack (g : Geometry) (frames : Frames) (image : Contents) (tree : Tree) (marks : List Mark) : Type 0 where
-  pub holds : Holds g (server_view g frames image marks) (tree_after g tree marks)
+  pub holds : HoldsVolume g (server_view g frames image marks) (tree_after g tree marks)
   pub covered : IsCovered g frames marks

@@ -25,5 +25,3 @@ pub fn sweeps_in_order()
     ensures { IsSweep }
 {}
 
-#[cfg(test)]
-mod tests;

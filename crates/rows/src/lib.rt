@@ -2,6 +2,8 @@
 #![tactic(auto)]
 
 #[cfg(test)]
+mod drivers;
+#[cfg(test)]
 mod errno;
 #[cfg(test)]
 mod tree;

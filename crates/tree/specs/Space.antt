@@ -27,7 +27,7 @@ zones_of g (Some node) = zones_needed (numbers_in_zone g) (held_of g node.body)
 abbrev pub zones_used : Geometry → Tree → ℕ
 zones_used g t = sum_below (λ n. zones_of g (t.nodes n)) (g.inodes + 1)
 
--- how many zones a volume has for bytes and names
+-- how many zones a volume has for bytes, names and indirect blocks
 abbrev pub data_zones : Geometry → ℕ
 data_zones g = g.zones - g.first_zone
 

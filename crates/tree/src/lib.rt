@@ -1,5 +1,5 @@
 //! The file tree of a volume, the client calls on it, and their replies: the words that every layer
-//! above the disk shares. No zone, block or message is known here.
+//! above the disk shares. Of the disk only the numbers of its blocks, zones and inodes are known here.
 #![tactic(auto)]
 
 pub mod laws;
@@ -182,7 +182,7 @@ pub enum Call<'a> {
         uid: u16,
         gid: u16,
     },
-    /// Sets the times of access and of change, in seconds since 1970, for the owner and user 0.
+    /// Sets the times of access and of modification, in seconds since 1970, for the owner and user 0.
     Utime {
         path: &'a [u8],
         atime: u32,

@@ -53,7 +53,7 @@ impl fmt::Display for Owner {
     }
 }
 
-/// The times of access, change and change of attributes.
+/// The times of access, of modification and of status change.
 #[derive(Clone, Copy)]
 struct Times(u32, u32, u32);
 

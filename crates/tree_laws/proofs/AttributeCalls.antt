@@ -20,6 +20,7 @@ same_body g t n node changed tree there body links fits =
     (ap (λ b. is_dir (record node { body = b })) body) (ap (λ b. names_of (Some (record node { body = b }))) body) (ap (λ b. parent_of (Some (record node { body = b }))) body)
     links fits tree
 
+-- chmod
 pub chmod_keeps : ChmodKeeps
 chmod_keeps g t who now mode path small tree = in_session g t who now (Chmod path mode) tree (λ _.
     chmod_each t (user_of who) now (Keeps g t) (keeps_closed g t tree) path.now mode (λ fits n node there.
@@ -27,6 +28,7 @@ chmod_keeps g t who now mode path small tree = in_session g t who now (Chmod pat
     same_body g t n node (with_ctime now (record node { permissions = mode })) tree there refl refl
     (record { permissions = fits; links = old.links; uid = old.uid; gid = old.gid; atime = old.atime; mtime = old.mtime; ctime = small; body = old.body })))
 
+-- chown
 pub chown_keeps : ChownKeeps
 chown_keeps g t who now uid gid path small u v tree = in_session g t who now (Chown path uid gid) tree (λ _.
     chown_each t (user_of who) now (Keeps g t) (keeps_closed g t tree) path.now uid gid (λ n node there.
@@ -34,6 +36,7 @@ chown_keeps g t who now uid gid path small u v tree = in_session g t who now (Ch
     same_body g t n node (with_ctime now (record node { uid = uid; gid = gid })) tree there refl refl
     (record { permissions = old.permissions; links = old.links; uid = u; gid = v; atime = old.atime; mtime = old.mtime; ctime = small; body = old.body })))
 
+-- utime
 pub utime_keeps : UtimeKeeps
 utime_keeps g t who now atime mtime path small a m tree = in_session g t who now (Utime path atime mtime) tree (λ _.
     utime_each t (user_of who) now (Keeps g t) (keeps_closed g t tree) path.now atime mtime (λ n node there.

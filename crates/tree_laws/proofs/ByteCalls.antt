@@ -16,6 +16,7 @@ use Rattle.tree_laws.proofs.NodeOutcomes.{truncate_each}
 use Rattle.tree_laws.proofs.FileOutcomes.{write_each, start, after_write}
 use Rattle.tree_laws.proofs.Keeping.{Keeps, keeps_closed, in_session, taken_if_it_fits}
 
+-- the file that a node is fits
 pub file_fits : (g : Geometry) (node : Node) (f : File) → IsNode g node → node.body ≡ is_file f → IsFile g f
 file_fits g node f fits is = subst (λ b. IsBody g b) is fits.body
 
@@ -32,12 +33,14 @@ file_changed g t n now node f new small there is fits tree =
     (record { permissions = old.permissions; links = old.links; uid = old.uid; gid = old.gid; atime = old.atime; mtime = small; ctime = small; body = fits })
     tree
 
+-- truncate
 pub truncate_keeps : TruncateKeeps
 truncate_keeps g t who now size path small tree = in_session g t who now (Truncate path size) tree (λ _.
     truncate_each t (user_of who) now (Keeps g t) (keeps_closed g t tree) g path.now size (λ n node f within there is.
     file_changed g t n now node f (file_after_resize g f size) small there is
     (resized_fits g f size within (file_fits g node f (tree.nodes.each n node there) is)) tree))
 
+-- write
 pub write_keeps : WriteKeeps
 write_keeps g t who now fd bytes some small are_bytes tree = in_session g t who now (Write fd bytes) tree (λ _.
     write_each t who.session (Keeps g t) (keeps_closed g t tree) g now fd bytes.now (λ _ _ _ _ _. tree) (λ found node f is _ fits.

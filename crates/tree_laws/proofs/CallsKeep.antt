@@ -17,6 +17,7 @@ use Rattle.tree_laws.proofs.Linked.{linked}
 use Rattle.tree_laws.proofs.Made.{made_is_tree}
 use Rattle.tree_laws.proofs.Gone.{empty_weighs, gone_is_tree}
 
+-- link
 pub link_keeps : LinkKeeps
 link_keeps g t who now old new is small bytes tree = in_session g t who now (Link old new) tree (λ _.
     link_each g t (user_of who) now (Keeps g t) (keeps_closed g t tree) old.now new.now (λ n node place made.
@@ -30,6 +31,7 @@ link_keeps g t who now old new is small bytes tree = in_session g t who now (Lin
     (record { permissions = fit.permissions; links = omega arith; uid = fit.uid; gid = fit.gid; atime = fit.atime; mtime = fit.mtime; ctime = small; body = fit.body })
     (ap (λ o. links_of o + 1) (sym made.there)) (omega (arith, few)) fits).is_tree)))
 
+-- mkdir
 pub mkdir_keeps : MkdirKeeps
 mkdir_keeps g t who now path mode is caller small bytes tree = in_session g t who now (Mkdir path mode) tree (λ _.
     mkdir_each g t (user_of who) now (Keeps g t) (keeps_closed g t tree) path.now mode (λ _. tree) (λ n place parent made.
@@ -39,6 +41,7 @@ mkdir_keeps g t who now path mode is caller small bytes tree = in_session g t wh
     made_is_tree g is t tree now small (user_of who) caller.uid caller.gid mode made.fits place at n made.inode
     (subst (λ o. links_of o < 32767) (sym made.parent) made.few) fits)))
 
+-- rmdir
 pub rmdir_keeps : RmdirKeeps
 rmdir_keeps g t who now path small tree = in_session g t who now (Rmdir path) tree (λ _.
     rmdir_each g t (user_of who) now (Keeps g t) (keeps_closed g t tree) path.now (λ n node place gone.

@@ -16,6 +16,7 @@ use Rattle.tree_laws.proofs.Keeping.{Keeps, keeps_closed, in_session}
 use Rattle.tree_laws.proofs.OpenFiles.{holder, held, descriptor_cases, is_at_place, still_held}
 use Rattle.tree_laws.proofs.Freed.{IsTreeBut, without_nameless_is_tree}
 
+-- an open file that is of a node
 opens_is : (n : ℕ) (o : Option OpenFile) → opens n o ≡ true → (x : OpenFile) × (o ≡ Some x) × (x.inode ≡ n)
 opens_is n None h = absurd (not_true h)
 opens_is n (Some x) h = (x, refl, eqb-true x.inode n h)
@@ -90,6 +91,7 @@ module _ (g : Geometry) (t : Tree) (session fd k : ℕ) (o : OpenFile) (led : t.
   pub closed : IsTree g (without_nameless (without_unused less k) o.inode)
   closed = without_nameless_is_tree g (without_unused less k) o.inode (cond_both (has_descriptor less k) less unused (λ u. IsTreeBut g u o.inode) stays goes)
 
+-- close
 pub close_keeps : CloseKeeps
 close_keeps g t who now fd tree = in_session g t who now (Close fd) tree (λ _.
     close_each t who.session (Keeps g t) (keeps_closed g t tree) fd (λ found opened.

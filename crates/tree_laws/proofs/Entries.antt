@@ -17,6 +17,7 @@ use Rattle.tree_laws.proofs.Names.{inode_of-with_name, sorted-with_name, same_na
 use Rattle.tree_laws.proofs.Places.{from_true, true_from}
 use Rattle.tree_laws.proofs.Weights.{weigh, weigh_with_name, weigh_without_name}
 
+-- all names can be names, with the new one
 all_with : (name : Name) (n : ℕ) (es : Names) → is_name name ≡ true → list_all (λ e. is_name e.0) es ≡ true → list_all (λ e. is_name e.0) (with_name es name n) ≡ true
 all_with name n [] h all = and_from (is_name name) true h refl
 all_with name n (e ∷ es) h all =
@@ -27,6 +28,7 @@ all_with name n (e ∷ es) h all =
       | Greater ↦ and_from (is_name e.0) _ parts.0 (all_with name n es h parts.1)
     ]
 
+-- a directory with one name more fits
 pub with_name_fits : (d : Directory) (name : Name) (n : ℕ) → is_name name ≡ true → 64 * (length (with_name d.names name n) + 2) ≤ most_size → IsDirectory d
     → IsDirectory (record d { names = with_name d.names name n })
 with_name_fits d name n named size old = record {
@@ -40,6 +42,7 @@ inode_of-without_name : (es : Names) (name q : Name) → inode_of (without_name 
 inode_of-without_name es name q =
     find-where_key name_cmp (λ x. not (eq_by_cmp name_cmp name x)) q (λ x tie. ap (λ r. not (is_eq r)) (sym (alike_right nat_list_cmp_total q x name tie))) es
 
+-- a name that was taken away isn't found
 pub gone_name : (es : Names) (name : Name) → inode_of (without_name es name) name ≡ None
 gone_name es name =
     inode_of-without_name es name name

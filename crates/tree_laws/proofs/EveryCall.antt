@@ -13,6 +13,7 @@ use Rattle.tree_laws.proofs.CallsKeep.{link_keeps, mkdir_keeps, rmdir_keeps}
 use Rattle.tree_laws.proofs.OpenCall.{open_keeps}
 use Rattle.tree_laws.proofs.RenameCall.{rename_keeps}
 
+-- all twenty
 pub every_call_keeps : EveryCallKeeps
 every_call_keeps g t who now (Open path flags mode) is caller small fits tree = open_keeps g t who now path flags mode is caller small fits.0 tree
 every_call_keeps g t who now (Close fd) is caller small fits tree = close_keeps g t who now fd tree

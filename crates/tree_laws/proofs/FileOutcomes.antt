@@ -21,6 +21,7 @@ use Rattle.tree_laws.proofs.NodeOutcomes.{file_is, plain_file}
 use Rattle.tree_laws.proofs.RenameOutcomes.{at_test}
 use Rattle.tree_laws.proofs.Outcomes.{Effects, IsClosed, with_zones, is_enospc, is_plain, plain_refuse, plain_or, plain_bind, plain_node, plain_free_place}
 
+-- looking up a descriptor doesn't ask for room
 plain_opened : (t : Tree) (session fd : ℕ) → is_plain (open_file_of t session fd) ≡ true
 plain_opened t session fd =
     plain_bind (or_refuse (t.descriptors session fd) EBADF) (λ k. or_refuse (t.open_files k) EBADF >>= λ o. Ok (k, o)) (plain_or _ _ refl) (λ k.
@@ -28,10 +29,12 @@ plain_opened t session fd =
 
 -- The names of a directory.
 
+-- the names that are told are a directory's
 names_in : (e : Errno) (body : Body) (node : Node) (names : Names) → names_or (record node { body = body }) e ≡ Ok names → (d : Directory) × (body ≡ is_directory d) × (d.names ≡ names)
 names_in e (is_file x) node names h = absurd (not_refused e names h)
 names_in e (is_directory d) node names h = (d, refl, ok_is d.names names (Ok d.names) refl h)
 
+-- telling names doesn't ask for room
 plain_in : (e : Errno) → is_enospc e ≡ false → (body : Body) (node : Node) → is_plain (names_or (record node { body = body }) e) ≡ true
 plain_in e h (is_file x) node = ap not h
 plain_in e h (is_directory d) node = refl

@@ -34,6 +34,7 @@ found_counts (e ∷ es) name n h = elim (cases_Bool (eq_by_cmp name_cmp name e.0
   | inr f ↦ let rest = found_counts es name n (sym (cond-false (eq_by_cmp name_cmp name e.0) (Some e.1) (inode_of es name) f) ∙ h) in omega arith
 ]
 
+-- a node that is no directory has no names
 no_names_in : (body : Body) (node : Node) → node.body ≡ body → is_dir node ≡ false → names_of (Some node) ≡ []
 no_names_in (is_file f) node e h = ap (λ b. names_of (Some (record node { body = b }))) e
 no_names_in (is_directory d) node e h = absurd (not_true (sym h ∙ ap (λ b. is_dir (record node { body = b })) e))
@@ -42,10 +43,12 @@ no_names_in (is_directory d) node e h = absurd (not_true (sym h ∙ ap (λ b. is
 pub no_names : (node : Node) → is_dir node ≡ false → names_of (Some node) ≡ []
 no_names node h = no_names_in node.body node refl h
 
+-- a node that is no directory has no parent
 no_parent_in : (body : Body) (node : Node) → node.body ≡ body → is_dir node ≡ false → parent_of (Some node) ≡ 0
 no_parent_in (is_file f) node e h = ap (λ b. parent_of (Some (record node { body = b }))) e
 no_parent_in (is_directory d) node e h = absurd (not_true (sym h ∙ ap (λ b. is_dir (record node { body = b })) e))
 
+-- a file has no parent
 pub no_parent : (node : Node) → is_dir node ≡ false → parent_of (Some node) ≡ 0
 no_parent node h = no_parent_in node.body node refl h
 
@@ -137,10 +140,12 @@ pub record IsTreeBut (g : Geometry) (t : Tree) (n : ℕ) : Type 0 where
   pub open_files : OpenFilesAgree t
   pub nameless : (m : ℕ) (node : Node) → t.nodes m ≡ Some node → node.links ≡ 0 → m ≢ n → IsTrue (is_open t m)
 
+-- a node without a link is there
 nameless_node : (o : Option Node) → has_no_link o ≡ true → (node : Node) × (o ≡ Some node) × (node.links ≡ 0)
 nameless_node None h = absurd (not_true h)
 nameless_node (Some node) h = (node, refl, eqb-true node.links 0 h)
 
+-- what is a tree but for a nameless node is one without it
 pub without_nameless_is_tree : (g : Geometry) (t : Tree) (n : ℕ) → IsTreeBut g t n → IsTree g (without_nameless t n)
 without_nameless_is_tree g t n tree = cond_both (has_no_link (t.nodes n) && not (is_open t n)) (with_node t n None) t (IsTree g) goes stays
   where

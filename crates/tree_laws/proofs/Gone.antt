@@ -19,6 +19,7 @@ use Rattle.tree_laws.proofs.GoneDirectory.{gone_directory}
 use Rattle.tree_laws.proofs.Views.{view_kept, view_lost, fits_gone, fits_on, some_named, kind_named, parent_named, links_named, weight_without, fits_without}
 use Rattle.tree_laws.proofs.TreeOver.{over_itself, over_with_node, over_on_node, nameless_open, tree_over, place_kind, place_names}
 
+-- no names weigh nothing
 no_weight : (w : ℕ → ℕ) (es : Names) → length es ≡ 0 → weigh w es ≡ 0
 no_weight w [] h = refl
 no_weight w (e ∷ es) h = absurd (omega (arith, h))

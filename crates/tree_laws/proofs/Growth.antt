@@ -21,6 +21,7 @@ record IsSmall (b : ℕ) : Type 0 where
   most : b ≤ 4096
   room : 65536 < page_limit (b / 4)
 
+-- each block size is one of these
 is_small : (b : ℕ) → is_block_size b ≡ true → IsSmall b
 is_small b h = elim (or_cases ((b == 1024) || (b == 2048)) (b == 4096) h) [
   | inl e ↦ elim (or_cases (b == 1024) (b == 2048) e) [
@@ -30,18 +31,21 @@ is_small b h = elim (or_cases ((b == 1024) || (b == 2048)) (b == 4096) h) [
   | inr x ↦ subst IsSmall (sym (eqb-true b 4096 x)) (record { some = omega arith; most = omega arith; room = omega arith })
 ]
 
+-- few pages cover few bytes
 few_bytes : (b s : ℕ) → 0 < b → (s + b - 1) / b ≤ 65536 → s ≤ 65536 * b
 few_bytes b s some l = elim (cases_lt (65536 * b) s) [
   | inr within ↦ within
   | inl past ↦ let more = (le-div_iff_mul-le {k = b} {x = 65537} {y = s + b - 1} some).1 (omega (arith, past, some)) in absurd (omega (arith, more, l))
 ]
 
+-- few zones hold few pages
 few_pages : (n pages : ℕ) → 65536 < page_limit n → zones_needed n (λ q. nat_lt q pages) ≤ 65536 → pages ≤ 65536
 few_pages n pages room l = elim (cases_lt (page_limit n) pages) [
   | inl past ↦ let all = count_all pages (page_limit n) (omega (arith, past)) in absurd (omega (arith, all, room, l))
   | inr within ↦ let all = count_first pages (page_limit n) within in omega (arith, all, l)
 ]
 
+-- few zones hold a directory within the limit
 directory_size : (g : Geometry) → IsGeometry g → (s : ℕ) → zones_needed (numbers_in_zone g) (λ q. nat_lt q (pages_of g s)) ≤ 65536 → s ≤ most_size
 directory_size g is s l =
     let small = is_small g.block_size is.block_size in
@@ -50,6 +54,7 @@ directory_size g is s l =
     let most = small.most in
     omega (arith, bytes, most)
 
+-- a directory of a tree that fits is within the limit
 pub grown_fits : (g : Geometry) → IsGeometry g → (t : Tree) (d : ℕ) → d < g.inodes + 1 → kind_of (t.nodes d) ≡ true → zones_used g t ≤ data_zones g
     → 64 * (weight t.nodes (λ _. 1) d + 2) ≤ most_size
 grown_fits g is t d inside directory fits = by_node (t.nodes d) refl directory

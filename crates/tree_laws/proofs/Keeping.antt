@@ -20,6 +20,7 @@ use Rattle.tree_laws.proofs.Outcomes.{Effects, IsClosed, plain_refuse}
 abbrev pub Keeps : Geometry → Tree → Effects → Type 0
 Keeps g t F = IsTree g (tree_after t (F g.zones))
 
+-- a step keeps a tree a tree where each of its values does
 pub keeps_closed : (g : Geometry) (t : Tree) → IsTree g t → IsClosed (Keeps g t)
 keeps_closed g t base A (Ok x) f plain h = h x refl
 keeps_closed g t base A (Err e) f plain h = base

@@ -24,6 +24,7 @@ use Rattle.tree_laws.proofs.Growth.{grown_fits}
 use Rattle.tree_laws.proofs.Views.{put_gained, fits_put, some_named, kind_named, parent_named, links_named, weight_with, fits_with}
 use Rattle.tree_laws.proofs.TreeOver.{IsOver, over_itself, over_with_node, over_on_node, nameless_open, tree_over, place_kind, place_names}
 
+-- what is no directory has no names
 pub no_names_of : (o : Option Node) → kind_of o ≡ false → names_of o ≡ []
 no_names_of None h = refl
 no_names_of (Some node) h = no_names node h

@@ -46,5 +46,6 @@ module _ (g : Geometry) (t : Tree) (who : Who) (fd : ℕ) (tree : IsTree g t) wh
         sorted = directory.sorted;
       }))
 
+-- readdir
 pub readdir_lists : ReaddirLists
 readdir_lists g t who now fd made tree is = lists g t who fd tree made is

@@ -30,19 +30,23 @@ kind_in : (now d : ℕ) (node : Node) (body : Body) → kind_of (Some (with_ctim
 kind_in now d node (is_file f) = refl
 kind_in now d node (is_directory x) = refl
 
+-- its links
 links_in : (now d : ℕ) (node : Node) (body : Body) → links_of (Some (with_ctime now (with_parent d (record node { body = body })))) ≡ links_of (Some (record node { body = body }))
 links_in now d node (is_file f) = refl
 links_in now d node (is_directory x) = refl
 
+-- its names
 weigh_in : (w : ℕ → ℕ) (now d : ℕ) (node : Node) (body : Body)
     → weigh w (names_of (Some (with_ctime now (with_parent d (record node { body = body }))))) ≡ weigh w (names_of (Some (record node { body = body })))
 weigh_in w now d node (is_file f) = refl
 weigh_in w now d node (is_directory x) = refl
 
+-- its parent is the new one
 under : (now d : ℕ) (node : Node) (body : Body) → kind_of (Some (record node { body = body })) ≡ true → parent_of (Some (with_ctime now (with_parent d (record node { body = body })))) ≡ d
 under now d node (is_file f) h = absurd (not_true h)
 under now d node (is_directory x) h = refl
 
+-- it fits
 under_fits : (g : Geometry) (now d : ℕ) → now < 2 ^ 32 → (node : Node) (body : Body) → IsNode g (record node { links = 0; body = body })
     → IsNode g (record (with_ctime now (with_parent d (record node { body = body }))) { links = 0 })
 under_fits g now d small node (is_file f) fit = record {
@@ -66,11 +70,13 @@ under_fits g now d small node (is_directory x) fit = record {
   body = record { size = fit.body.size; names = fit.body.names; sorted = fit.body.sorted };
 }
 
+-- a directory without a name has the names without it
 names_left : (now : ℕ) (name : Name) (body : Body) (node : Node)
     → names_of (Some (with_names now (λ names. without_name names name) (record node { body = body }))) ≡ without_name (names_of (Some (record node { body = body }))) name
 names_left now name (is_file f) node = refl
 names_left now name (is_directory d) node = refl
 
+-- an order that is a tie
 is_equal : (r : Ordering) → is_eq r ≡ true → r ≡ Equal
 is_equal Less h = absurd (not_true h)
 is_equal Equal h = refl

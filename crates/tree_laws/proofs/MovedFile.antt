@@ -26,6 +26,7 @@ use Rattle.tree_laws.proofs.Views.{view_kept, view_lost, fits_on}
 use Rattle.tree_laws.proofs.TreeOver.{over_on_node, nameless_open, tree_over, tree_but_over, place_names}
 use Rattle.tree_laws.proofs.Moved.{moved_some, moved_kind, moved_parent, moved_links, moved_weights, replaced_weights, moved_fit, moved_over, named_in_p, d_directory}
 
+-- a nameless node that goes leaves the others
 nameless_elsewhere : (t : Tree) (n m : ℕ) → m ≢ n → (without_nameless t n).nodes m ≡ t.nodes m
 nameless_elsewhere t n m e =
     cond_both (has_no_link (t.nodes n) && not (is_open t n)) (with_node t n None) t (λ u. u.nodes m ≡ t.nodes m) (λ _. put-other t.nodes n None m e) (λ _. refl)

@@ -12,11 +12,13 @@ use Rattle.tree_laws.proofs.Fewer.{some_less}
 use Rattle.tree_laws.proofs.Totals.{only_at, only_here, only_elsewhere, sum_gained, sum_of_none}
 use Rattle.tree_laws.proofs.Pigeonhole.{none_pass}
 
+-- a sum of sums
 sum_of_both : (f h : ℕ → ℕ) (n : ℕ) → sum_below (λ k. f k + h k) n ≡ sum_below f n + sum_below h n
 unfolding sum_below
 sum_of_both f h zero = refl
 sum_of_both f h (suc n) = let front = sum_of_both f h n in omega (arith, front)
 
+-- equal parts, equal sums
 same_below : (f h : ℕ → ℕ) (n : ℕ) → ((k : ℕ) → f k ≡ h k) → sum_below f n ≡ sum_below h n
 same_below f h n same = ap (λ x. sum_below x n) (λ i k. same k i)
 
@@ -27,6 +29,7 @@ one_split true false h = refl
 one_split false true h = absurd (not_true (h refl))
 one_split false false h = refl
 
+-- a count and what it has more
 count_split : (more fewer : ℕ → Bool) (n : ℕ) → ((k : ℕ) → fewer k ≡ true → more k ≡ true) → count_below more n ≡ count_below fewer n + count_below (only_in more fewer) n
 count_split more fewer n less =
     same_below (λ k. one_if (more k)) (λ k. one_if (fewer k) + one_if (only_in more fewer k)) n (λ k. one_split (more k) (fewer k) (less k))
@@ -38,9 +41,11 @@ quotients_split more fewer width n less =
     count_split (λ k. some_below (λ j. more (k * width + j)) width) (λ k. some_below (λ j. fewer (k * width + j)) width) n
     (λ k. some_less (λ j. fewer (k * width + j)) (λ j. more (k * width + j)) width (λ j. less (k * width + j)))
 
+-- a place within a block is before the end of the block
 before_last : (k d width j : ℕ) → j < width → k * width + j < (k + 1 + d) * width
 before_last k d width j l = omega (arith, l)
 
+-- and before the end of all blocks
 in_range : (k n width j : ℕ) → k < n → j < width → k * width + j < n * width
 in_range k n width j l m =
     let is : k + 1 + (n - (k + 1)) ≡ n = omega (arith, l) in
@@ -52,6 +57,7 @@ no_blocks held width n none = none_pass (λ k. some_below (λ j. held (k * width
     let one = one_below (λ j. held (k * width + j)) width h in
     not_true (sym none ∙ found_below held (n * width) (k * width + one.0) (in_range k n width one.0 l one.1) one.2))
 
+-- a test and what it finds more
 some_split : (more fewer : ℕ → Bool) (n : ℕ) → ((k : ℕ) → fewer k ≡ true → more k ≡ true) → one_if (some_below more n) ≡ one_if (some_below fewer n) + one_if (newly_some more fewer n)
 some_split more fewer n less = one_split (some_below more n) (some_below fewer n) (some_less fewer more n less)
 
@@ -60,6 +66,7 @@ with_front : (b : Bool) (x : ℕ) → (b ≡ false → x ≡ 0) → (if b then 1
 with_front true x h = refl
 with_front false x h = let none = h refl in omega (arith, none)
 
+-- the double range
 double_split : (n : ℕ) (more fewer : ℕ → Bool) → ((k : ℕ) → fewer k ≡ true → more k ≡ true) → double_blocks n more ≡ double_blocks n fewer + new_double n more fewer
 double_split n more fewer less =
     let a = with_front (some_below more (n * n)) (quotients more n n) (no_blocks more n n) in
@@ -68,6 +75,7 @@ double_split n more fewer less =
     let d = quotients_split more fewer n n less in
     omega (arith, a, b, c, d)
 
+-- the test in front of the triple range is as good as none
 triple_front : (n : ℕ) (held : ℕ → Bool) → triple_blocks n held ≡ one_if (some_below held (n * n * n)) + (quotients held (n * n) n + quotients held n (n * n))
 triple_front n held = elim (cases_Bool (some_below held (n * n * n))) [
   | inl t ↦
@@ -83,6 +91,7 @@ triple_front n held = elim (cases_Bool (some_below held (n * n * n))) [
       omega (arith, a, b, c, d)
 ]
 
+-- the triple range
 triple_split : (n : ℕ) (more fewer : ℕ → Bool) → ((k : ℕ) → fewer k ≡ true → more k ≡ true) → triple_blocks n more ≡ triple_blocks n fewer + new_triple n more fewer
 triple_split n more fewer less =
     let a = triple_front n more in
@@ -92,6 +101,7 @@ triple_split n more fewer less =
     let e = quotients_split more fewer n (n * n) less in
     omega (arith, a, b, c, d, e)
 
+-- all ranges
 pub need_grows : NeedGrows
 need_grows n more fewer less =
     let pages = count_split more fewer (page_limit n) less in
@@ -125,6 +135,7 @@ one_new held q n free l =
           omega (arith, is, none)
     ]
 
+-- one page
 pub one_page_more : OnePageMore
 one_page_more n held q free l =
     let grows = need_grows n (put held q true) held still in
@@ -134,5 +145,6 @@ one_page_more n held q free l =
     still : (k : ℕ) → held k ≡ true → put held q true k ≡ true
     still k h = elim (cases_eq k q) [ inl e ↦ ap (put held q true) e ∙ put-same held q true | inr d ↦ put-other held q true k d ∙ h ]
 
+-- all pages from one on
 pub pages_let_go : PagesLetGo
 pages_let_go n held p = need_grows n held (pages_below p held) (λ q h. (and_parts (held q) (nat_lt q p) h).0)

@@ -20,12 +20,14 @@ unnamed_number g nodes shape n a none = elim (cases_eq (weight nodes (one_for n)
   | inr d ↦ absurd (not_true (sym (ap is_some none) ∙ shape.targets a n (omega (arith, d))))
 ]
 
+-- number 0 is no directory
 pub nothing_at_zero : (g : Geometry) (nodes : Nodes) → IsShape g nodes → kind_of (nodes 0) ≡ false
 nothing_at_zero g nodes shape = elim (cases_Bool (kind_of (nodes 0))) [
   | inl t ↦ let within = (shape.inside 0 (is_there (nodes 0) t)).0 in absurd (omega (arith, within))
   | inr f ↦ f
 ]
 
+-- a directory has a number of the volume
 pub directory_inside : (g : Geometry) (nodes : Nodes) → IsShape g nodes → (n : ℕ) → kind_of (nodes n) ≡ true → n < g.inodes + 1
 directory_inside g nodes shape n h = let within = (shape.inside n (is_there (nodes n) h)).1 in omega (arith, within)
 

@@ -13,10 +13,12 @@ use Rattle.tree_laws.proofs.Steps.{both_steps, ok_is}
 use Rattle.tree_laws.proofs.Places.{IsPlace, is_place}
 use Rattle.tree_laws.proofs.PathNames.{last_is_name}
 
+-- what is not there is None
 pub none_there : {A : Type 0} (o : Option A) → is_some o ≡ false → o ≡ None
 none_there None h = refl
 none_there (Some x) h = absurd (not_true (sym h))
 
+-- the name of a place is the last part
 place_name : (t : Tree) (user : User) (parts : List Name) (place : Place) → parent_walk t user parts ≡ Ok place → place.name ≡ last_part parts
 place_name t user parts place h =
     let first = both_steps (walk_parts t user (all_but_last parts)) (λ here. enter user (t.nodes here) >>= λ dir. Ok (record { directory = here; names = dir.1; name = last_part parts })) place h in
@@ -33,6 +35,7 @@ pub record IsNewPlace (t : Tree) (place : Place) : Type 0 where
   pub free : inode_of place.names place.name ≡ None
   pub is_named : is_name place.name ≡ true
 
+-- a place that is not taken is new
 pub new_place : (t : Tree) (user : User) (path : List ℕ) (parts : List Name) (place : Place) → All (λ b. b < 256) path → read_path path ≡ Ok parts
     → parent_walk t user parts ≡ Ok place → is_taken place parts ≡ false → IsNewPlace t place
 new_place t user path parts place bytes read walked untaken =

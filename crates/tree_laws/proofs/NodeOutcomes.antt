@@ -19,17 +19,21 @@ use Rattle.tree_laws.proofs.Outcomes.{Effects, IsClosed, is_enospc, is_plain, pl
 
 -- The file that a node is.
 
+-- a node that is taken for a file is one
 file_in : (e : Errno) (body : Body) (node : Node) (f : File) → file_or (record node { body = body }) e ≡ Ok f → body ≡ is_file f
 file_in e (is_file x) node f h = ap is_file (ok_is x f (Ok x) refl h)
 file_in e (is_directory d) node f h = absurd (not_refused e f h)
 
+-- the file that it is
 pub file_is : (node : Node) (e : Errno) (f : File) → file_or node e ≡ Ok f → node.body ≡ is_file f
 file_is node e f h = file_in e node.body node f h
 
+-- taking a node for a file doesn't ask for room
 plain_in : (e : Errno) → is_enospc e ≡ false → (body : Body) (node : Node) → is_plain (file_or (record node { body = body }) e) ≡ true
 plain_in e h (is_file x) node = refl
 plain_in e h (is_directory d) node = ap not h
 
+-- nor does taking a whole node
 pub plain_file : (node : Node) (e : Errno) → is_enospc e ≡ false → is_plain (file_or node e) ≡ true
 plain_file node e h = plain_in e h node.body node
 

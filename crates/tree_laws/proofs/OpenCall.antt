@@ -39,18 +39,22 @@ pub record IsMissingAt (t : Tree) (user : User) (parts : List Name) (place : Pla
   pub walked : parent_walk t user parts ≡ Ok place
   pub free : inode_of place.names place.name ≡ None
 
+-- what was found is a missing name
 abbrev is_missing_place : Found → Bool
 is_missing_place (is_there n) = false
 is_missing_place (is_missing place) = true
 
+-- the place of a missing name
 abbrev place_or : Place → Found → Place
 place_or x (is_there n) = x
 place_or x (is_missing place) = place
 
+-- a name that is missing is not found
 found_missing : (place other : Place) (o : Option ℕ) → inode_of place.names place.name ≡ o → found_at place ≡ is_missing other → (inode_of place.names place.name ≡ None) × (place ≡ other)
 found_missing place other None e h = (e, ap (place_or place) (sym (ap (λ o. elim o [ None ↦ is_missing place | Some n ↦ is_there n ]) e) ∙ h))
 found_missing place other (Some n) e h = absurd (not_true (ap is_missing_place (sym (ap (λ o. elim o [ None ↦ is_missing place | Some n ↦ is_there n ]) e) ∙ h)))
 
+-- a look-up that finds no name
 pub missing_at : (t : Tree) (user : User) (parts : List Name) (place : Place) → look_up t user parts ≡ Ok (is_missing place) → IsMissingAt t user parts place
 missing_at t user parts place h = elim (cases_Bool (has_last_name parts)) [
   | inl last ↦
@@ -128,6 +132,7 @@ module _ (g : Geometry) (t : Tree) (user : User) (now session : ℕ) (path : Lis
       opened_is_tree g (with_entry (with_node t n (Some (new_node now user mode 1 empty_file))) now place n) it.is_tree slot
       (slot_free slot is_it.parts (is_missing place) is_it.asked _ it.over) n flags it.some (not_from_false _ is_it.asked.good) (λ w. it.file))
 
+-- open
 pub open_keeps : OpenKeeps
 open_keeps g t who now path flags mode is caller small bytes tree = in_session g t who now (Open path flags mode) tree (λ session_in.
     open_each g t (user_of who) now who.session path.now flags.0 mode (Keeps g t) (keeps_closed g t tree) (λ _. tree)

@@ -11,6 +11,7 @@ use Rattle.tree_laws.proofs.OpenFiles.{position_kept, descriptor_added}
 use Rattle.tree_laws.proofs.FileOutcomes.{seek_each, read_each, dup_each}
 use Rattle.tree_laws.proofs.Keeping.{Keeps, keeps_closed, in_session}
 
+-- so many bytes are so many
 pub length-bytes_from : (byte : ℕ → ℕ) (at k : ℕ) → length (bytes_from byte at k) ≡ k
 length-bytes_from byte at zero = refl
 length-bytes_from byte at (suc k) = ap suc (length-bytes_from byte (suc at) k)
@@ -22,11 +23,13 @@ read_within f at count most a b =
     let few : (if nat_lt (f.size - at) count then f.size - at else count) ≤ f.size - at = cond_both (nat_lt (f.size - at) count) (f.size - at) count (λ k. k ≤ f.size - at) (λ _. omega arith) (λ e. ltb-false (f.size - at) count e) in
     omega (arith, is, few, a, b)
 
+-- seek
 pub seek_keeps : SeekKeeps
 seek_keeps g t who now fd whence offset tree = in_session g t who now (Seek fd whence offset) tree (λ _.
     seek_each t who.session (Keeps g t) (keeps_closed g t tree) fd whence offset (λ found node f at is _ fits.
     position_kept g t found.0 found.1 at is.opened.file fits tree))
 
+-- read
 pub read_keeps : ReadKeeps
 read_keeps g t who now fd count tree = in_session g t who now (Read fd count) tree (λ _.
     read_each t who.session (Keeps g t) (keeps_closed g t tree) fd count (λ found node f is.
@@ -34,6 +37,7 @@ read_keeps g t who now fd count tree = in_session g t who now (Read fd count) tr
     position_kept g t found.0 found.1 _ is.opened.file
     (read_within f found.1.position count most_size (tree.open_files.each found.0 found.1 is.opened.file).position file.size) tree))
 
+-- dup
 pub dup_keeps : DupKeeps
 dup_keeps g t who now fd tree = in_session g t who now (Dup fd) tree (λ _.
     dup_each t who.session (Keeps g t) (keeps_closed g t tree) fd (λ found other opened free.

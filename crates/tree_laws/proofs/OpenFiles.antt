@@ -58,22 +58,27 @@ pub record Holder (descriptors : ℕ → ℕ → Option ℕ) (k : ℕ) : Type 0 
   pub fd_in : fd < most_descriptors
   pub leads : descriptors session fd ≡ Some k
 
+-- some descriptor is of the open file
 abbrev holders : (ℕ → ℕ → Option ℕ) → ℕ → Bool
 holders descriptors k = some_below (λ s. some_below (λ fd. leads_to k (descriptors s fd)) most_descriptors) most_sessions
 
+-- a descriptor that leads to k
 leads_is : (k : ℕ) (o : Option ℕ) → leads_to k o ≡ true → o ≡ Some k
 leads_is k None h = absurd (not_true h)
 leads_is k (Some j) h = ap Some (eqb-true j k h)
 
+-- and back
 is_leading : (k : ℕ) (o : Option ℕ) → o ≡ Some k → leads_to k o ≡ true
 is_leading k o h = ap (leads_to k) h ∙ eq-eqb k k refl
 
+-- an open file that has a descriptor
 pub holder : (descriptors : ℕ → ℕ → Option ℕ) (k : ℕ) → holders descriptors k ≡ true → Holder descriptors k
 holder descriptors k h =
     let one = one_below (λ s. some_below (λ fd. leads_to k (descriptors s fd)) most_descriptors) most_sessions h in
     let two = one_below (λ fd. leads_to k (descriptors one.0 fd)) most_descriptors one.2 in
     record { session = one.0; fd = two.0; session_in = one.1; fd_in = two.1; leads = leads_is k _ two.2 }
 
+-- and back
 pub held : (descriptors : ℕ → ℕ → Option ℕ) (k : ℕ) → Holder descriptors k → holders descriptors k ≡ true
 held descriptors k h =
     found_below (λ s. some_below (λ fd. leads_to k (descriptors s fd)) most_descriptors) most_sessions h.session h.session_in

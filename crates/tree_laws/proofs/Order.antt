@@ -21,6 +21,7 @@ use Rattle.tree_laws.specs.Order.{LinkRefusesInOrder, LinkOrder, OpenRefusesInOr
 goes_on : {A : Type 0} (r : Result A Errno) (f : A → Effect) (x : A) → r ≡ Ok x → (r >>= f) ≡ f x
 goes_on r f x h = ap (λ y. y >>= f) h
 
+-- a step that refuses ends the call
 ends : {A : Type 0} (r : Result A Errno) (f : A → Effect) (e : Errno) → r ≡ Err e → (r >>= f) ≡ Err e
 ends r f e h = ap (λ y. y >>= f) h
 
@@ -28,6 +29,7 @@ ends r f e h = ap (λ y. y >>= f) h
 passes : (b : Bool) (e : Errno) (f : Effect) → b ≡ false → (refuse_if b e >>= λ _. f) ≡ f
 passes b e f h = ap (λ x. refuse_if x e >>= λ _. f) h
 
+-- a test that holds ends the call
 holds : (b : Bool) (e : Errno) (f : Effect) → b ≡ true → (refuse_if b e >>= λ _. f) ≡ Err e
 holds b e f h = ap (λ x. refuse_if x e >>= λ _. f) h
 
@@ -88,6 +90,7 @@ module _ (g : Geometry) (t : Tree) (user : User) (now : ℕ) (old new : List ℕ
         ∙ at_there t place.directory parent (at_parent n node place) there ∙ holds (not (may_access user parent to_write)) EACCES (put_link n node place) (ap not h);
   }
 
+-- link
 pub link_order : LinkOrder
 link_order = link_in_order
 
@@ -126,6 +129,7 @@ module _ (g : Geometry) (t : Tree) (user : User) (now : ℕ) (slot : Slot) (flag
         ∙ passes (not (may_access user parent to_write)) EACCES (free_inode g t >>= make_it place) (ap not c) ∙ ends (free_inode g t) (make_it place) e h;
   }
 
+-- what open found
 pub found_order : FoundOrder
 found_order = found_in_order
 
@@ -163,6 +167,7 @@ module _ (g : Geometry) (t : Tree) (user : User) (now session : ℕ) (path : Lis
     found = λ fd k ps found a b c d h. to_path fd k a b c ∙ goes_on (read_path path) (after_path fd k) ps d ∙ goes_on (look_up t user ps) (after_look fd k) found h;
   }
 
+-- open
 pub open_order : OpenOrder
 open_order = open_in_order
 
@@ -266,5 +271,6 @@ module _ (g : Geometry) (t : Tree) (user : User) (now : ℕ) (old new : List ℕ
         ∙ ends (can_replace t node m other) (λ _. replacing from to n node m other) e h;
   }
 
+-- rename
 pub rename_order : RenameOrder
 rename_order = rename_in_order

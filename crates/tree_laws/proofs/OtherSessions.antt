@@ -29,19 +29,23 @@ use Rattle.tree_laws.proofs.RenameOutcomes.{rename_each}
 use Rattle.tree_laws.proofs.OpenCall.{cut_is}
 use Rattle.tree_laws.proofs.TreeOver.{IsOver, over_itself, over_with_node, over_on_node}
 
+-- a nameless node that goes
 over_nameless : (t u : Tree) (n : ℕ) → IsOver t u → IsOver t (without_nameless u n)
 over_nameless t u n over = cond_both (has_no_link (u.nodes n) && not (is_open u n)) (with_node u n None) u (IsOver t) (λ _. over_with_node t u n None over) (λ _. over)
 
+-- a node that moves
 over_moved : (t : Tree) (now : ℕ) (old new : Place) (n : ℕ) (node : Node) → IsOver t (with_moved (without_moved t now old node) now new n node)
 over_moved t now old new n node =
     over_on_node t _ n _ (over_on_node t _ new.directory _ (over_on_node t _ new.directory _ (over_on_node t _ old.directory _ (over_on_node t t old.directory _ (over_itself t)))))
 
+-- a node whose name another takes
 over_replaced : (t u : Tree) (now : ℕ) (new : Place) (q : ℕ) (other : Node) → IsOver t u → IsOver t (without_replaced u now new q other)
 over_replaced t u now new q other over =
     cond_both (is_dir other) (with_node (on_node u new.directory (fewer_links 1)) q None) (with_name_lost u now q) (IsOver t)
     (λ _. over_with_node t (on_node u new.directory (fewer_links 1)) q None (over_on_node t u new.directory _ over))
     (λ _. over_nameless t (on_node u q (with_link_lost now)) q (over_on_node t u q _ over))
 
+-- a file that open cuts
 over_cut : (g : Geometry) (t : Tree) (now flags n : ℕ) (node : Node) → IsOver t (after_truncate_flag g t now flags n node)
 over_cut g t now flags n node = cut_is g t now flags n (IsOver t) (over_itself t) node.body node (λ f _. over_with_node t t n _ (over_itself t))
 
@@ -119,5 +123,6 @@ module _ (g : Geometry) (t : Tree) (who : Who) (now : ℕ) (s : ℕ) (other : s 
   stays : (call : Call) → Stays (λ z. effect_of (with_zones z g) t who now call)
   stays call = closed _ (refuse_if (nat_le most_sessions who.session) EINVAL) (λ _ z. effect_in_session (with_zones z g) t who now call) (plain_refuse _ _ refl) (λ _ _. call_stays call)
 
+-- all twenty
 pub other_sessions_stay : OtherSessionsStay
 other_sessions_stay g t who now call session other = stays g t who now session other call

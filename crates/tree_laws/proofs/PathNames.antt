@@ -15,6 +15,7 @@ use Rattle.tree_laws.proofs.Steps.{passed, both_steps, ok_is}
 abbrev is_bad : ℕ → Bool
 is_bad c = (c == 47) || (c == 0) || nat_lt 255 c
 
+-- no byte is above 255
 below_256 : (bytes : List ℕ) → All (λ b. b < 256) bytes → list_any (λ c. nat_lt 255 c) bytes ≡ false
 below_256 bytes h = list_any_none (λ c. nat_lt 255 c) bytes (λ k d l. not_above _ (h k d l))
   where
@@ -50,6 +51,7 @@ record IsRead (path : List ℕ) (parts : List Name) : Type 0 where
   no_zero : list_any (λ c. c == 0) path ≡ false
   short : list_any (λ part. nat_lt most_name (length part)) parts ≡ false
 
+-- a path that is read
 is_read : (path : List ℕ) (parts : List Name) → read_path path ≡ Ok parts → IsRead path parts
 is_read path parts h =
     let some = both_steps (refuse_if (length path == 0) ENOENT) (λ _. refuse_if (nat_lt most_path (length path)) ENAMETOOLONG >>= λ _. refuse_if (not (begins_with_slash path) || list_any (λ c. c == 0) path) EINVAL >>= λ _. refuse_if (list_any (λ part. nat_lt most_name (length part)) (parts_of path)) ENAMETOOLONG >>= λ _. Ok (parts_of path)) parts h in
@@ -63,6 +65,7 @@ is_read path parts h =
       short = ap (λ ps. list_any (λ part. nat_lt most_name (length part)) ps) (sym are) ∙ passed _ _ short.0 short.1;
     }
 
+-- its last part is a name
 pub last_is_name : (path : List ℕ) (parts : List Name) → All (λ b. b < 256) path → read_path path ≡ Ok parts → has_last_name parts ≡ true → is_name (last_part parts) ≡ true
 last_is_name path parts bytes h named =
     let read = is_read path parts h in

@@ -53,6 +53,7 @@ all_met f limit (suc n) within =
       | inr d ↦ cond-false (f n == v) 1 0 (ne_eqb (f n) v (λ e. d (sym e))) ∙ sym (only_elsewhere (f n) 1 v d)
     ]
 
+-- what is met once at most, and 0 never, is met few times
 few_in_all : (c : ℕ → ℕ) (n : ℕ) → c 0 ≡ 0 → ((v : ℕ) → c v ≤ 1) → sum_below c (suc n) ≤ n
 unfolding sum_below
 few_in_all c zero none few = omega (arith, none)
@@ -77,6 +78,7 @@ two_alike f n within = elim (cases_Bool (some_below (λ b. some_below (λ a. f a
       absurd (omega (arith, met, all, same))
 ]
 
+-- steps and then more steps
 above_plus : (nodes : Nodes) (j i m : ℕ) → above nodes (j + i) m ≡ above nodes i (above nodes j m)
 above_plus nodes zero i m = let e : zero + i ≡ i = omega arith in ap (λ k. above nodes k m) e
 above_plus nodes (suc j) i m = let e : suc j + i ≡ suc (j + i) = omega arith in ap (λ k. above nodes k m) e ∙ above_plus nodes j i (parent_of (nodes m))

@@ -33,6 +33,7 @@ record Entered (o : Option Node) (names : Names) : Type 0 where
   body : node.body ≡ is_directory directory
   same : directory.names ≡ names
 
+-- a directory that is entered, by its body
 entered_body : (user : User) (body : Body) (node : Node) (dir : ℕ × Names) → node.body ≡ body → enter user (Some node) ≡ Ok dir → Entered (Some node) dir.1
 entered_body user (is_file f) node dir e h = absurd (not_refused ENOTDIR dir (sym (ap (λ b. enter user (Some (record node { body = b }))) e) ∙ h))
 entered_body user (is_directory d) node dir e h =
@@ -48,10 +49,12 @@ entered_body user (is_directory d) node dir e h =
       | inr nay ↦ absurd (not_refused EACCES dir (sym (cond-false (may_access user node to_search) (Ok (d.parent, d.names)) (Err EACCES) nay) ∙ is))
     ]
 
+-- a directory that is entered
 entered : (user : User) (o : Option Node) (dir : ℕ × Names) → enter user o ≡ Ok dir → Entered o dir.1
 entered user None dir h = absurd (not_refused ENOENT dir h)
 entered user (Some node) dir h = entered_body user node.body node dir refl h
 
+-- a place that a parent walk finds
 pub is_place : (t : Tree) (user : User) (parts : List Name) (place : Place) → parent_walk t user parts ≡ Ok place → IsPlace t place
 is_place t user parts place h =
     let first = both_steps (walk_parts t user (all_but_last parts)) (λ here. enter user (t.nodes here) >>= λ dir. Ok (record { directory = here; names = dir.1; name = last_part parts })) place h in
@@ -65,9 +68,11 @@ pub true_from : (b : Bool) → T b → b ≡ true
 true_from true h = refl
 true_from false h = absurd h
 
+-- a test that holds
 pub from_true : (b : Bool) → b ≡ true → T b
 from_true b h = subst T (sym h) tt
 
+-- all names that are left can be names
 all_left : (name : Name) (es : Names) → list_all (λ e. is_name e.0) es ≡ true → list_all (λ e. is_name e.0) (without_name es name) ≡ true
 all_left name [] h = refl
 all_left name (e ∷ es) h =
@@ -76,6 +81,7 @@ all_left name (e ∷ es) h =
     cond_both (not (eq_by_cmp name_cmp name e.0)) (e ∷ without_name es name) (without_name es name) (λ xs. list_all (λ x. is_name x.0) xs ≡ true)
     (λ _. and_from (is_name e.0) _ parts.0 rest) (λ _. rest)
 
+-- a directory without a name fits
 pub without_name_fits : (d : Directory) (name : Name) → IsDirectory d → IsDirectory (record d { names = without_name d.names name })
 without_name_fits d name old = record {
   size = let l = length_without name_cmp nat_list_cmp_total name d.names (from_true _ old.sorted) in let s = old.size in omega (arith, l, s);

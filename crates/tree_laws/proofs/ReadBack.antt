@@ -44,6 +44,7 @@ record IsWritten (u : Tree) (session fd : ℕ) (bytes : List ℕ) : Type 0 where
   whole : nat_lt (f.size - first) (length bytes) ≡ false
   each : (j : ℕ) → j < length bytes → f.byte (first + j) ≡ slice_index bytes j
 
+-- a number that is no less
 not_below : (a b : ℕ) → b ≤ a → nat_lt a b ≡ false
 not_below a b l = elim (cases_Bool (nat_lt a b)) [ inl t ↦ let less = ltb-true a b t in absurd (omega (arith, l, less)) | inr f ↦ f ]
 
@@ -131,6 +132,7 @@ bytes_are (x ∷ xs) byte at each =
 onward : {A : Type 0} (r : Result A Errno) (f : A → Effect) (x : A) → r ≡ Ok x → (r >>= f) ≡ f x
 onward r f x e = ap (λ y. y >>= f) e
 
+-- a node that is a file is taken for it
 file_is_it : (node : Node) (e : Errno) (f : File) → node.body ≡ is_file f → file_or node e ≡ Ok f
 file_is_it node e f h = ap (λ b. file_or (record node { body = b }) e) h
 
@@ -203,6 +205,7 @@ module _ (g : Geometry) (u : Tree) (who : Who) (allowed : nat_le most_sessions w
       ∙ ap (λ e. elim e [ Ok made ↦ made.0 | Err x ↦ refused x ]) reads_it
       ∙ ap some_bytes bytes_same
 
+-- write, seek, read
 pub read_gives_written : ReadGivesWritten
 read_gives_written g t after who now later last fd at number file bytes tree wrote_it opened readable place =
     let steps = both_steps (refuse_if (nat_le most_sessions who.session) EINVAL) (λ _. write g t now who.session fd bytes.now) (wrote (length bytes.now), after) wrote_it in
@@ -210,4 +213,5 @@ read_gives_written g t after who now later last fd at number file bytes tree wro
     let same : (w.number, w.file) ≡ (number, file) = ok_is (w.number, w.file) (number, file) (open_file_of after who.session fd) (opens_to after who.session fd (w.number, w.file) w.opened) opened in
     let position_is : w.file.position ≡ file.position = ap (λ x. x.1.position) same in
     let was = w.place in
-    read_back g after who (passed _ _ steps.0 steps.1) fd at bytes.now w (omega (arith, position_is, was, place)) (ap (λ x. reads x.1.flags) same ∙ readable) later last
+    let here : at ≡ w.first = omega (arith, position_is, was, place) in
+    read_back g after who (passed _ _ steps.0 steps.1) fd at bytes.now w here (ap (λ x. reads x.1.flags) same ∙ readable) later last

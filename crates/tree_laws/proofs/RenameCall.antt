@@ -85,6 +85,7 @@ module _ (g : Geometry) (t : Tree) (user : User) (now : ℕ) (old_path new_path 
             (ap is_some made.other_there) (ap kind_of made.other_there ∙ other_file)))
       ]
 
+-- rename
 pub rename_keeps : RenameKeeps
 rename_keeps g t who now old new is small bytes tree = in_session g t who now (Rename old new) tree (λ _.
     as_it_is g t (λ h. rename h t (user_of who) now old.now new.now)

@@ -22,6 +22,7 @@ pub record IsReplaceable (t : Tree) (node : Node) (q : ℕ) (other : Node) : Typ
   pub empty : (is_dir other && not (is_empty other)) ≡ false
   pub closed : (is_dir other && is_open t q) ≡ false
 
+-- a node that may take another's name
 is_replaceable : (t : Tree) (node : Node) (q : ℕ) (other : Node) (x : ℕ) → can_replace t node q other ≡ Ok x → IsReplaceable t node q other
 is_replaceable t node q other x h =
     let a = both_steps (refuse_if (is_dir node && not (is_dir other)) ENOTDIR) (λ _. from_kind) x h in
@@ -35,6 +36,7 @@ is_replaceable t node q other x h =
     from_kind : Result ℕ Errno
     from_kind = refuse_if (not (is_dir node) && is_dir other) EISDIR >>= λ _. from_empty
 
+-- asking whether it may doesn't ask for room
 plain_can_replace : (t : Tree) (node : Node) (q : ℕ) (other : Node) → is_plain (can_replace t node q other) ≡ true
 plain_can_replace t node q other =
     plain_bind (refuse_if (is_dir node && not (is_dir other)) ENOTDIR) (λ _. from_kind) (plain_refuse _ _ refl) (λ _.

@@ -44,5 +44,6 @@ module _ (g : Geometry) (t : Tree) (who : Who) (now n : ℕ) (old new : List ℕ
       let b = is_the_one n q (sym (same_found t (user_of who) new n new_name made.move.new_parts to made.move.read made.move.to) ∙ made.taken) in
       absurd (made.differs (a ∙ b))))
 
+-- rename
 pub rename_of_same_stays : RenameOfSameStays
 rename_of_same_stays g t who now n old new old_name new_name = same_stays g t who now n old.now new.now old_name new_name

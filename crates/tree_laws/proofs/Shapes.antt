@@ -13,12 +13,15 @@ use Rattle.tree_laws.proofs.Weights.{weigh, names_weigh, subdirectories_weigh}
 use Rattle.tree_laws.proofs.Freed.{no_names, no_parent}
 use Rattle.tree_laws.proofs.Totals.{one_for, one_for_itself, weigh_found, name_found, sum_of_none}
 
+-- nodes by their numbers
 abbrev pub Nodes : Type 0
 Nodes = ℕ → Option Node
 
+-- what may be a directory, and None is none
 abbrev pub kind_of : Option Node → Bool
 kind_of o = is_dir_at (λ _. o) 0
 
+-- the links of a node, and 0 of none
 abbrev pub links_of : Option Node → ℕ
 links_of None = 0
 links_of (Some node) = node.links
@@ -51,6 +54,7 @@ pub record IsShape (g : Geometry) (nodes : Nodes) : Type 0 where
 abbrev pub AllFit : Geometry → Nodes → Type 0
 AllFit g nodes = (n : ℕ) (node : Node) → nodes n ≡ Some node → IsNode g (record node { links = 0 })
 
+-- a node that fits, fits whatever its links
 pub fits_without_links : (g : Geometry) (node : Node) → IsNode g node → IsNode g (record node { links = 0 })
 fits_without_links g node fits = record {
   permissions = fits.permissions;
@@ -63,6 +67,7 @@ fits_without_links g node fits = record {
   body = fits.body;
 }
 
+-- and fits with links within the limit
 pub fits_with_links : (g : Geometry) (node : Node) → IsNode g (record node { links = 0 }) → node.links ≤ most_links → IsNode g node
 fits_with_links g node fits links = record {
   permissions = fits.permissions;
@@ -75,19 +80,23 @@ fits_with_links g node fits links = record {
   body = fits.body;
 }
 
+-- names to a node are a sum of weights
 pub totals_alike : (g : Geometry) (nodes : Nodes) (n : ℕ) → all_names_to g nodes n ≡ total g nodes (one_for n)
 totals_alike g nodes n = same_sum (λ m. names_to n (names_of (nodes m))) (λ a. weight nodes (one_for n) a) (g.inodes + 1) (λ k _. names_weigh n (names_of (nodes k)))
 
 -- What is no directory has no names and no parent; a directory is there.
 
+-- what is no directory has no names
 pub nothing_in : (w : ℕ → ℕ) (o : Option Node) → kind_of o ≡ false → weigh w (names_of o) ≡ 0
 nothing_in w None h = refl
 nothing_in w (Some node) h = ap (weigh w) (no_names node h)
 
+-- nor a parent
 pub no_parent_of : (o : Option Node) → kind_of o ≡ false → parent_of o ≡ 0
 no_parent_of None h = refl
 no_parent_of (Some node) h = no_parent node h
 
+-- a directory is there
 pub is_there : (o : Option Node) → kind_of o ≡ true → IsTrue (is_some o)
 is_there None h = absurd (not_true h)
 is_there (Some node) h = refl
@@ -96,6 +105,7 @@ is_there (Some node) h = refl
 pub has_names : (w : ℕ → ℕ) (o : Option Node) → 1 ≤ weigh w (names_of o) → kind_of o ≡ true
 has_names w o l = elim (cases_Bool (kind_of o)) [ inl t ↦ t | inr f ↦ let none = nothing_in w o f in absurd (omega (arith, l, none)) ]
 
+-- a name that counts is found
 pub directory_sorted : (g : Geometry) (node : Node) → IsNode g node → (name : ℕ) → 1 ≤ weigh (one_for name) (names_of (Some node)) → (q : Name) × (inode_of (names_of (Some node)) q ≡ Some name)
 directory_sorted g node fits n l = by_body node.body node refl fits l
   where

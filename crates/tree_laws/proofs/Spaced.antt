@@ -34,6 +34,7 @@ pub record IsSpaced (g : Geometry) (t : Tree) (takes makes : Bool) (F : Effects)
   pub why : F g.zones ≡ Err ENOSPC → (takes ≡ true) × (IsTooBigIn g F ⊎ ((makes ≡ true) × NoInodeFree g t))
   pub none_made : NoInodeFree g t → (z : ℕ) (made : Answer × Tree) → F z ≡ Ok made → IsNoMore made.1 t
 
+-- an effect that refuses
 abbrev refusal : Errno → Effect
 refusal e = Err e
 
@@ -45,6 +46,7 @@ plain_never e plain h = not_true (sym (not-true _ plain) ∙ ap lacks_room h)
     lacks_room (Ok made) = false
     lacks_room (Err x) = is_enospc x
 
+-- a step that asks for no room
 pub spaced_closed : (g : Geometry) (t : Tree) (takes makes : Bool) → IsClosed (IsSpaced g t takes makes)
 spaced_closed g t takes makes A (Ok x) f plain h = h x refl
 spaced_closed g t takes makes A (Err e) f plain h = record {
@@ -54,6 +56,7 @@ spaced_closed g t takes makes A (Err e) f plain h = record {
   none_made = λ full z made is. absurd (not_refused e made is);
 }
 
+-- a success is no refusal
 ok_never : {A : Type 0} (x : A) (e : Errno) → Ok x ≡ Err e → ⊥
 ok_never x e h = not_refused e x (sym h)
 
@@ -123,24 +126,29 @@ spaced_full g t full = record {
 
 -- Trees without a new node.
 
+-- the tree itself
 pub no_more_itself : (t : Tree) → IsNoMore t t
 no_more_itself t m h = h
 
+-- a node that is there
 pub no_more_at : (t : Tree) (n : ℕ) (node : Node) (o : Option Node) → t.nodes n ≡ Some node → IsNoMore (with_node t n o) t
 no_more_at t n node o there m h = elim (cases_eq m n) [
   | inl e ↦ ap (λ k. is_some (t.nodes k)) e ∙ ap is_some there
   | inr d ↦ sym (ap is_some (put-other t.nodes n o m d)) ∙ h
 ]
 
+-- a node that is changed
 pub no_more_on : (t u : Tree) (n : ℕ) (f : Node → Node) → IsNoMore u t → IsNoMore (on_node u n f) t
 no_more_on t u n f old m h = old m (sym (view_kept is_some u n f (λ _. refl) m) ∙ h)
 
+-- a node that goes
 pub no_more_gone : (t u : Tree) (n : ℕ) → IsNoMore u t → IsNoMore (with_node u n None) t
 no_more_gone t u n old m h = elim (cases_eq m n) [
   | inl e ↦ absurd (not_true (sym (ap is_some (ap (with_node u n None).nodes e ∙ put-same u.nodes n None)) ∙ h))
   | inr d ↦ old m (sym (ap is_some (put-other u.nodes n None m d)) ∙ h)
 ]
 
+-- a nameless node that goes
 pub no_more_nameless : (t u : Tree) (n : ℕ) → IsNoMore u t → IsNoMore (without_nameless u n) t
 no_more_nameless t u n old =
     cond_both (has_no_link (u.nodes n) && not (is_open u n)) (with_node u n None) u (λ x. IsNoMore x t) (λ _. no_more_gone t u n old) (λ _. old)

@@ -30,9 +30,11 @@ use Rattle.tree_laws.proofs.OpenCall.{cut_is}
 use Rattle.tree_laws.proofs.Fewer.{with_node_less, on_node_less, nameless_less, resized_less, without_entry_less}
 use Rattle.tree_laws.proofs.Spaced.{IsNoMore, IsSpaced, spaced_closed, spaced_ok, spaced_fit, spaced_full, no_more_itself, no_more_at, no_more_on, no_more_gone, no_more_nameless}
 
+-- a number is at most itself
 no_less : (n : ℕ) → n ≤ n
 no_less n = omega arith
 
+-- one order after another
 no_later : (a b c : ℕ) → a ≤ b → b ≤ c → a ≤ c
 no_later a b c l k = omega (arith, l, k)
 
@@ -176,6 +178,7 @@ module _ (g : Geometry) (sized : 0 < g.block_size) (t : Tree) (who : Who) (now :
       spaced_closed g t (may_take call) (may_make call) _ (refuse_if (nat_le most_sessions who.session) EINVAL) (λ _ z. effect_in_session (with_zones z g) t who now call) (plain_refuse _ _ refl) (λ _ _.
       call_spaced call)
 
+-- the room is kept
 pub every_call_fits : EveryCallFits
 every_call_fits g t who now call is bound = by_effect (effect_of g t who now call) refl
   where
@@ -185,17 +188,21 @@ every_call_fits g t who now call is bound = by_effect (effect_of g t who now cal
         subst (λ o. zones_used g (elim o [ Ok made ↦ made.1 | Err _ ↦ t ]) ≤ data_zones g) (sym e) fits
     by_effect (Err x) e = subst (λ o. zones_used g (elim o [ Ok made ↦ made.1 | Err _ ↦ t ]) ≤ data_zones g) (sym e) bound
 
+-- a tree too big is refused
 pub too_big_is_refused : TooBigIsRefused
 too_big_is_refused g t who now call is bound big = (effect_spaced g is.sized t who now call).refused big.zones big.made big.is_made big.too_big bound
 
+-- without an inode no node is made
 pub full_makes_none : FullMakesNone
 full_makes_none g t who now zones call made geometry full is = (effect_spaced g geometry.sized t who now call).none_made full zones made is
 
+-- what ENOSPC means
 pub enospc_means : EnospcMeans
 enospc_means g t who now call geometry is = elim ((effect_spaced g geometry.sized t who now call).why is).1 [
   | inl big ↦ inl (record { zones = big.zones; made = big.made; is_made = big.is_made; too_big = big.too_big })
   | inr full ↦ inr full
 ]
 
+-- the calls that take none
 pub others_have_room : OthersHaveRoom
 others_have_room g t who now call geometry other is = not_true (sym other ∙ ((effect_spaced g geometry.sized t who now call).why is).0)

@@ -11,20 +11,25 @@ use Rattle.tree.specs.Changes.{open_file_of}
 use Rattle.tree.specs.Answers.{Effect}
 use Rattle.tree.proofs.Maps.{not_nothing}
 
+-- the tree that an effect leaves
 abbrev pub tree_after : Tree → Effect → Tree
 tree_after t o = elim o [ Ok made ↦ made.1 | Err e ↦ t ]
 
+-- the value of a result, if any
 abbrev pub taken : {A : Type 0} → Result A Errno → Option A
 taken (Ok x) = Some x
 taken (Err e) = None
 
+-- a refusal is no success
 pub not_refused : {A : Type 0} (e : Errno) (x : A) → Err e ≡ Ok x → ⊥
 not_refused e x h = not_nothing x (ap taken h)
 
+-- a value that may be missing, back
 pub taken_or_refuse : {A : Type 0} (o : Option A) (e : Errno) → taken (or_refuse o e) ≡ o
 taken_or_refuse None e = refl
 taken_or_refuse (Some x) e = refl
 
+-- a value that was found was there
 pub was_there : {A : Type 0} (o : Option A) (e : Errno) (x : A) → or_refuse o e ≡ Ok x → o ≡ Some x
 was_there o e x h = sym (taken_or_refuse o e) ∙ ap taken h
 
@@ -44,6 +49,7 @@ pub both_steps : {A B : Type 0} (r : Result A Errno) (f : A → Result B Errno) 
 both_steps (Ok x) f y h = (x, refl, h)
 both_steps (Err e) f y h = absurd (not_refused e y h)
 
+-- a result has one value
 pub ok_is : {A : Type 0} (x y : A) (e : Result A Errno) → e ≡ Ok x → e ≡ Ok y → x ≡ y
 ok_is {A} x y e p q = ap (λ r. elim r [ Ok z ↦ z | Err _ ↦ x ]) (sym p ∙ q)
 
@@ -52,6 +58,7 @@ pub record IsOpened (t : Tree) (session fd : ℕ) (found : ℕ × OpenFile) : Ty
   pub descriptor : t.descriptors session fd ≡ Some found.0
   pub file : t.open_files found.0 ≡ Some found.1
 
+-- a descriptor that was looked up
 pub is_opened : (t : Tree) (session fd : ℕ) (found : ℕ × OpenFile) → open_file_of t session fd ≡ Ok found → IsOpened t session fd found
 is_opened t session fd found h =
     let first = both_steps (or_refuse (t.descriptors session fd) EBADF) (λ k. or_refuse (t.open_files k) EBADF >>= λ o. Ok (k, o)) found h in

@@ -17,9 +17,11 @@ use Rattle.tree_laws.proofs.Freed.{part_below}
 abbrev pub one_for : ℕ → ℕ → ℕ
 one_for b k = one_if (k == b)
 
+-- 1 for the number itself
 pub one_for_itself : (b : ℕ) → one_for b b ≡ 1
 one_for_itself b = cond-true (b == b) 1 0 (eq-eqb b b refl)
 
+-- 0 for another
 pub none_for_other : (b k : ℕ) → k ≢ b → one_for b k ≡ 0
 none_for_other b k d = cond-false (k == b) 1 0 (ne_eqb k b d)
 
@@ -27,18 +29,23 @@ none_for_other b k d = cond-false (k == b) 1 0 (ne_eqb k b d)
 abbrev pub only_at : ℕ → ℕ → ℕ → ℕ
 only_at d x m = if m == d then x else 0
 
+-- x at the place
 pub only_here : (d x m : ℕ) → m ≡ d → only_at d x m ≡ x
 only_here d x m e = cond-true (m == d) x 0 (eq-eqb m d e)
 
+-- 0 elsewhere
 pub only_elsewhere : (d x m : ℕ) → m ≢ d → only_at d x m ≡ 0
 only_elsewhere d x m e = cond-false (m == d) x 0 (ne_eqb m d e)
 
+-- nothing is nothing everywhere
 pub only_nothing : (d x m : ℕ) → x ≡ 0 → only_at d x m ≡ 0
 only_nothing d x m z = elim (cases_eq m d) [ inl e ↦ only_here d x m e ∙ z | inr e ↦ only_elsewhere d x m e ]
 
+-- x at most
 pub only_few : (d x m : ℕ) → only_at d x m ≤ x
 only_few d x m = elim (cases_eq m d) [ inl e ↦ let all = only_here d x m e in omega (arith, all) | inr e ↦ let none = only_elsewhere d x m e in omega (arith, none) ]
 
+-- 1 at n is 1 for n
 pub only_one : (n m : ℕ) → only_at n 1 m ≡ one_for m n
 only_one n m = elim (cases_eq m n) [
   | inl e ↦ only_here n 1 m e ∙ sym (ap (λ k. one_for k n) e ∙ one_for_itself n)
@@ -47,10 +54,12 @@ only_one n m = elim (cases_eq m n) [
 
 -- Sums over the names.
 
+-- equal weights, equal sums
 pub weigh_same : (w v : ℕ → ℕ) → ((k : ℕ) → w k ≡ v k) → (es : Names) → weigh w es ≡ weigh v es
 weigh_same w v same [] = refl
 weigh_same w v same (e ∷ es) = λ i. same e.1 i + weigh_same w v same es i
 
+-- each name weighs 1
 pub weigh_one : (es : Names) → weigh (λ _. 1) es ≡ length es
 weigh_one [] = refl
 weigh_one (e ∷ es) = let rest = weigh_one es in omega (arith, rest)
@@ -74,6 +83,7 @@ weigh_found w (e ∷ es) name n h = elim (cases_Bool (eq_by_cmp name_cmp name e.
   | inr f ↦ let rest = weigh_found w es name n (sym (cond-false (eq_by_cmp name_cmp name e.0) (Some e.1) (inode_of es name) f) ∙ h) in omega (arith, rest)
 ]
 
+-- a name that counts is found
 pub name_found : (es : Names) (n : ℕ) → is_sorted name_cmp es ≡ true → 1 ≤ weigh (one_for n) es → (name : Name) × (inode_of es name ≡ Some n)
 name_found [] n s l = absurd (omega (arith, l))
 name_found (e ∷ es) n s l = elim (cases_eq e.1 n) [
@@ -92,11 +102,13 @@ name_found (e ∷ es) n s l = elim (cases_eq e.1 n) [
 
 -- Sums over the directories.
 
+-- a sum of zeros
 pub sum_of_none : (f : ℕ → ℕ) (n : ℕ) → ((k : ℕ) → f k ≡ 0) → sum_below f n ≡ 0
 unfolding sum_below
 sum_of_none f zero h = refl
 sum_of_none f (suc n) h = let front = sum_of_none f n h in let last = h n in omega arith
 
+-- a sum that is more at one place
 pub sum_gained : (f h : ℕ → ℕ) (d x n : ℕ) → d < n → ((m : ℕ) → h m ≡ f m + only_at d x m) → sum_below h n ≡ sum_below f n + x
 sum_gained f h d x n l each =
     sum_with_more f h d x n l

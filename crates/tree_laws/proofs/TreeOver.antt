@@ -18,12 +18,15 @@ pub record IsOver (t u : Tree) : Type 0 where
   pub files : u.open_files ≡ t.open_files
   pub descriptors : u.descriptors ≡ t.descriptors
 
+-- the tree itself
 pub over_itself : (t : Tree) → IsOver t t
 over_itself t = record { files = refl; descriptors = refl }
 
+-- a node put
 pub over_with_node : (t u : Tree) (n : ℕ) (o : Option Node) → IsOver t u → IsOver t (with_node u n o)
 over_with_node t u n o over = record { files = over.files; descriptors = over.descriptors }
 
+-- a node changed
 pub over_on_node : (t u : Tree) (n : ℕ) (f : Node → Node) → IsOver t u → IsOver t (on_node u n f)
 over_on_node t u n f over = on_node_is u n f (IsOver t) over (λ node e. record { files = over.files; descriptors = over.descriptors })
 
@@ -80,5 +83,6 @@ module _ (g : Geometry) (t u : Tree) (over : IsOver t u) (tree : IsTree g t) (ag
 pub place_kind : (t : Tree) (place : Place) → IsPlace t place → kind_of (t.nodes place.directory) ≡ true
 place_kind t place at = ap kind_of at.there ∙ ap (λ b. kind_of (Some (record at.node { body = b }))) at.body
 
+-- a place's names
 pub place_names : (t : Tree) (place : Place) → IsPlace t place → names_of (t.nodes place.directory) ≡ place.names
 place_names t place at = ap names_of at.there ∙ ap (λ b. names_of (Some (record at.node { body = b }))) at.body ∙ at.names

@@ -111,6 +111,7 @@ module _ (g : Geometry) (t : Tree) (tree : IsTree g t) (now : ℕ) (small : now 
       (λ m node e is none. nameless_open g t tree m (sym (some m) ∙ ap is_some is)
       (let same = links m in let zero : links_of (after.nodes m) ≡ 0 = ap links_of is ∙ none in let other = only_elsewhere n 1 m e in omega (arith, same, zero, other))))
 
+-- unlink
 pub unlink_keeps : UnlinkKeeps
 unlink_keeps g t who now path small tree = in_session g t who now (Unlink path) tree (λ _.
     unlink_each t (user_of who) now (Keeps g t) (keeps_closed g t tree) path.now (λ n node place is.

@@ -21,6 +21,7 @@ use Rattle.tree_laws.proofs.Shapes.{Nodes, is_there, kind_of, links_of, weight, 
 
 -- Any map with one place changed.
 
+-- what is put has x more
 pub put_gained : {X : Type 0} (v : X → ℕ) (map : ℕ → X) (n : ℕ) (o : X) (x : ℕ) → v o ≡ v (map n) + x → (m : ℕ) → v (put map n o m) ≡ v (map m) + only_at n x m
 put_gained v map n o x h m = elim (cases_eq m n) [
   | inl e ↦
@@ -31,6 +32,7 @@ put_gained v map n o x h m = elim (cases_eq m n) [
   | inr d ↦ let same = ap v (put-other map n o m d) in let none = only_elsewhere n x m d in omega (arith, same, none)
 ]
 
+-- what is put has x less
 pub put_lost : {X : Type 0} (v : X → ℕ) (map : ℕ → X) (n : ℕ) (o : X) (x : ℕ) → v (map n) ≡ v o + x → (m : ℕ) → v (map m) ≡ v (put map n o m) + only_at n x m
 put_lost v map n o x h m = elim (cases_eq m n) [
   | inl e ↦
@@ -43,9 +45,11 @@ put_lost v map n o x h m = elim (cases_eq m n) [
 
 -- A node changed by f.
 
+-- a node that is there is changed
 pub on_node_there : (t : Tree) (n : ℕ) (f : Node → Node) (node : Node) → t.nodes n ≡ Some node → on_node t n f ≡ with_node t n (Some (f node))
 on_node_there t n f node h = ap (λ o. elim o [ None ↦ t | Some x ↦ with_node t n (Some (f x)) ]) h
 
+-- and nothing else
 on_node_missing : (t : Tree) (n : ℕ) (f : Node → Node) → t.nodes n ≡ None → on_node t n f ≡ t
 on_node_missing t n f h = ap (λ o. elim o [ None ↦ t | Some x ↦ with_node t n (Some (f x)) ]) h
 
@@ -57,11 +61,13 @@ on_node_is t n f P missing there = by_node (t.nodes n) refl
     by_node None e = subst P (sym (on_node_missing t n f e)) missing
     by_node (Some node) e = subst P (sym (on_node_there t n f node e)) (there node e)
 
+-- what f leaves of each node, it leaves of all
 pub view_kept : {X : Type 0} (v : Option Node → X) (t : Tree) (n : ℕ) (f : Node → Node) → ((node : Node) → v (Some (f node)) ≡ v (Some node))
     → (m : ℕ) → v ((on_node t n f).nodes m) ≡ v (t.nodes m)
 view_kept v t n f same m =
     on_node_is t n f (λ u. v (u.nodes m) ≡ v (t.nodes m)) refl (λ node e. alike_put v t.nodes n (Some (f node)) (same node ∙ sym (ap v e)) m)
 
+-- what f adds to the node
 pub view_gained : (v : Option Node → ℕ) (t : Tree) (n : ℕ) (f : Node → Node) (x : ℕ) → IsTrue (is_some (t.nodes n))
     → ((node : Node) → t.nodes n ≡ Some node → v (Some (f node)) ≡ v (Some node) + x) → (m : ℕ) → v ((on_node t n f).nodes m) ≡ v (t.nodes m) + only_at n x m
 view_gained v t n f x some more m = by_node (t.nodes n) refl some
@@ -72,6 +78,7 @@ view_gained v t n f x some more m = by_node (t.nodes n) refl some
         ap (λ u. v (u.nodes m)) (on_node_there t n f node e)
         ∙ put_gained v t.nodes n (Some (f node)) x (more node e ∙ ap (λ o. v o + x) (sym e)) m
 
+-- what f takes from the node
 pub view_lost : (v : Option Node → ℕ) (t : Tree) (n : ℕ) (f : Node → Node) (x : ℕ) → IsTrue (is_some (t.nodes n))
     → ((node : Node) → t.nodes n ≡ Some node → v (Some node) ≡ v (Some (f node)) + x) → (m : ℕ) → v (t.nodes m) ≡ v ((on_node t n f).nodes m) + only_at n x m
 view_lost v t n f x some less m = by_node (t.nodes n) refl some
@@ -82,29 +89,35 @@ view_lost v t n f x some less m = by_node (t.nodes n) refl some
         put_lost v t.nodes n (Some (f node)) x (ap v e ∙ less node e) m
         ∙ ap (λ u. v (u.nodes m) + only_at n x m) (sym (on_node_there t n f node e))
 
+-- the changed node
 pub on_node_at : (t : Tree) (n : ℕ) (f : Node → Node) (node : Node) → t.nodes n ≡ Some node → (on_node t n f).nodes n ≡ Some (f node)
 on_node_at t n f node e = ap (λ u. u.nodes n) (on_node_there t n f node e) ∙ put-same t.nodes n (Some (f node))
 
+-- the others
 pub on_node_elsewhere : (t : Tree) (n : ℕ) (f : Node → Node) (m : ℕ) → m ≢ n → (on_node t n f).nodes m ≡ t.nodes m
 on_node_elsewhere t n f m d = on_node_is t n f (λ u. u.nodes m ≡ t.nodes m) refl (λ node e. put-other t.nodes n (Some (f node)) m d)
 
 -- Each node fits after a change.
 
+-- a node that fits is put
 pub fits_put : (g : Geometry) (nodes : Nodes) (n : ℕ) (node : Node) → IsNode g (record node { links = 0 }) → AllFit g nodes → AllFit g (put nodes n (Some node))
 fits_put g nodes n node fits old = of_put nodes n node (λ m x. IsNode g (record x { links = 0 })) fits (λ m x d e. old m x e)
 
+-- a node goes
 pub fits_gone : (g : Geometry) (nodes : Nodes) (n : ℕ) → AllFit g nodes → AllFit g (put nodes n None)
 fits_gone g nodes n old m x e = elim (cases_eq m n) [
   | inl is ↦ absurd (not_nothing x (sym (ap (put nodes n None) is ∙ put-same nodes n None) ∙ e))
   | inr d ↦ old m x (sym (put-other nodes n None m d) ∙ e)
 ]
 
+-- a node is changed, and fits
 pub fits_on : (g : Geometry) (t : Tree) (n : ℕ) (f : Node → Node) → AllFit g t.nodes
     → ((node : Node) → t.nodes n ≡ Some node → IsNode g (record node { links = 0 }) → IsNode g (record (f node) { links = 0 })) → AllFit g (on_node t n f).nodes
 fits_on g t n f old fits = on_node_is t n f (λ u. AllFit g u.nodes) old (λ node e. fits_put g t.nodes n (f node) (fits node e (old n node e)) old)
 
 -- A directory whose names are changed by F.
 
+-- what a change of names leaves
 names_kept : {X : Type 0} (v : Option Node → X) (now : ℕ) (F : Names → Names)
     → ((node : Node) (d : Directory) → v (Some (with_body now (is_directory (record d { names = F d.names })) node)) ≡ v (Some (record node { body = is_directory d })))
     → (body : Body) (node : Node) → v (Some (with_names now F (record node { body = body }))) ≡ v (Some (record node { body = body }))

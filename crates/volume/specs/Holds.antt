@@ -1,6 +1,7 @@
 -- When a volume's bytes hold a tree.
-use Rattle.std.specs.Prelude.{◌≡◌, ◌≢◌, ◌↔◌, ℕ, suc, ◌+◌, ◌-◌, ◌%◌, ◌<◌, ◌≤◌, true, IsTrue}
+use Rattle.std.specs.Prelude.{◌≡◌, ◌≢◌, ◌↔◌, ℕ, suc, ◌+◌, ◌-◌, ◌/◌, ◌%◌, ◌<◌, ◌≤◌, List, slice_index, Result, Ok, true, IsTrue}
 use Rattle.layout.specs.declared.Geometry.{Geometry}
+use Rattle.layout.specs.Places.{geometry_of}
 use Rattle.volume.specs.declared.Inode.{Inode}
 use Rattle.tree.specs.Names.{dot, dot_dot}
 use Rattle.tree.specs.Tree.{Tree}
@@ -37,7 +38,7 @@ pub record IsSoundDirectory (g : Geometry) (v : Pieces) (n : ℕ) : Type 0 where
   pub names : (e : ℕ) → 2 ≤ e → e < entry_count v n → IsTrue (is_name_field g v n e)
   pub distinct : (e f : ℕ) → e < f → f < entry_count v n → name_at g v n e ≢ name_at g v n f
 
--- The rules of the format that a tree doesn't show. Those of a third kind of node, as symbolic links, join here.
+-- The rules of the format that a tree doesn't show.
 pub record IsSound (g : Geometry) (v : Pieces) : Type 0 where
   pub zones : ZonesAgree g v
   pub inodes : (n : ℕ) → IsTrue (is_marked g v n) → IsSoundInode g v (v.inodes n)
@@ -52,6 +53,17 @@ pub record HoldsNodes (g : Geometry) (v : Pieces) (t : Tree) : Type 0 where
 -- the volume's bytes hold the tree's nodes
 abbrev pub Holds : Geometry → Disk → Tree → Type 0
 Holds g d t = HoldsNodes g (pieces g d) t
+
+-- the bytes of the superblock are those of an image that is read as this geometry
+pub record HasSuperblock (g : Geometry) (d : Disk) : Type 0 where
+  pub image : List ℕ
+  pub parsed : geometry_of image ≡ Ok g
+  pub same : (p : ℕ) → 1024 ≤ p → p < 1055 → d (p / g.block_size) (p % g.block_size) ≡ slice_index image p
+
+-- the bytes are a volume of this geometry, which holds the tree
+pub record HoldsVolume (g : Geometry) (d : Disk) (t : Tree) : Type 0 where
+  pub superblock : HasSuperblock g d
+  pub nodes : Holds g d t
 
 -- whatever two trees a volume's bytes hold, their nodes are equal
 abbrev pub OneMapOfNodes : Type 0

@@ -57,8 +57,7 @@ file_of g v i = record {
   held = λ p. not (page_zone g v i p == 0);
 }
 
--- A directory's file is a row of entries of 64 bytes: an inode number of four, and 60 of name, filled with zeros. Another reading,
--- as of version 2 volumes with entries of 16 bytes, would stand beside these two, and be told by what the superblock says.
+-- A directory's file is a row of entries of 64 bytes: an inode number of four, and 60 of name, filled with zeros.
 
 -- the inode number of entry e of a directory's bytes
 abbrev pub entry_inode : (ℕ → ℕ) → ℕ → ℕ
@@ -103,11 +102,11 @@ permissions_in mode = mode % 8 ^ 3
 abbrev pub is_directory_mode : ℕ → Bool
 is_directory_mode mode = type_in mode == 4
 
--- A known type, and no bits between the type and the permissions. A third kind, as symbolic links of type 10, joins here.
+-- A known type, and no bits between the type and the permissions.
 abbrev pub is_mode : ℕ → Bool
 is_mode mode = ((type_in mode == 4) || (type_in mode == 8)) && nat_lt (mode % 8 ^ 4) (8 ^ 3)
 
--- The body that an inode says. A third kind of body, as a symbolic link's target, joins here.
+-- The body that an inode says.
 abbrev pub body_of : Geometry → Pieces → Inode → Body
 body_of g v i = if is_directory_mode i.mode then is_directory (directory_of g v i) else is_file (file_of g v i)
 

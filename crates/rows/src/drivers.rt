@@ -1,4 +1,4 @@
-use crate::{Fault, FaultKind, Inner, ModelDriver, RamDriver, ScriptedDriver};
+use modeldisk::{Fault, FaultKind, Inner, ModelDriver, RamDriver, ScriptedDriver};
 use bdev::{Accept, BlockDriver, Driver, Step};
 use errno::Errno;
 use media::{Media, MediaRefusal, SectorRefusal};
