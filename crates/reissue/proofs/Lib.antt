@@ -12,4 +12,6 @@ mod Messages
 mod Joining
 mod Order
 mod PostRules
+mod TableRules
+mod StepRules
 mod Posting
