@@ -22,6 +22,7 @@ use Rattle.reissue.specs.Agrees.{Agrees, unposted}
 use Rattle.reissue.specs.Posts.{OnlyPosts, PostsInOrder, PostsAfter, is_message}
 use Rattle.reissue.specs.Calls.{Truth, Leads, TakesIn, Absorbs, Steps, Begins, Adds, PostsNew, IsAnswerTo, goes_on}
 use Rattle.reissue.proofs.Posting.{closing_posted}
+use Rattle.reissue.proofs.CallRules.{absorb_rules, step_rules, begin_rules}
 use Rattle.reissue.proofs.Settling.{minors_push}
 use Rattle.reissue.proofs.Tickets.{pending_among}
 
@@ -52,23 +53,31 @@ true_after (Received m ∷ es) image marks o h = absurd o
 -- the posts after what was done on a message
 pub absorbs_then : (m : Incoming) (res : Settled) (s t u : Table) (before between after : List Told) (was mid is : Truth)
     → TakesIn m res s t before between was mid → Leads t u between after mid is
-    → MatchBool (is_message m) (PostsInOrder t.current (unposted t) between after) (after ≡ between)
+    → MatchBool (is_message m) (PostsInOrder t.current (unposted t) between after) (after ≡ between) → u.current ≡ t.current
     → Absorbs m res s u before after was is
-absorbs_then m res s t u before between after was mid is x l posts =
+absorbs_then m res s t u before between after was mid is x l posts current =
+    let in_order = subst (λ (h : List Told). PostsAfter m t h after) x.history posts in
+    let history = l.history ∙ ap (λ (h : List Told). l.posts ++ h) x.history in
+    let agrees : (marks : List Mark) → Agrees s marks → Agrees u (grown l.posts (received m marks)) = λ marks h. l.agrees (received m marks) (x.agrees marks h) in
     record {
+      heard = x.agrees;
+      current = current;
+      rules = λ minor marks h minors going.
+        absorb_rules minor m s t u marks before after l.posts x.complaints h (x.agrees marks h) (agrees marks h) (x.hears marks h)
+          (x.minors minor minors) (x.due marks h) in_order history l.only_posts l.same l.posted l.issued current going;
       mid = t;
       posts = l.posts;
       complaints = x.complaints;
-      history = l.history ∙ ap (λ (h : List Told). l.posts ++ h) x.history;
+      history = history;
       only_posts = l.only_posts;
       silent = x.silent;
       due = x.due;
       hears = x.hears;
-      in_order = subst (λ (h : List Told). PostsAfter m t h after) x.history posts;
+      in_order = in_order;
       same = l.same;
       posted = l.posted;
       issued = l.issued;
-      agrees = λ marks h. l.agrees (received m marks) (x.agrees marks h);
+      agrees = agrees;
       closes = subst (λ (ls : List Pending). Closes res (pending_of s.pending) (pending_of ls)) (sym l.same) x.closes;
       closing = λ marks h.
         closing_posted res s.pending t.pending u.pending marks (received m marks) l.posts l.only_posts l.same x.closes
@@ -86,17 +95,23 @@ pub steps_one : (m : Incoming) (res : Settled) (t u : Table) (before taken after
         → mid opening (received m marks) × HasTrueReplies (contents_at opening) (received m marks))
     → Absorbs m res t u taken after mid is → IsAnswerTo m res → Steps res t u before after was is
 steps_one m res t u before taken after was mid is told truth x answer =
+    let in_order = subst (λ (h : List Told). PostsAfter m x.mid (x.complaints ++ h) after) told x.in_order in
+    let history = x.history ∙ ap (λ (h : List Told). x.posts ++ (x.complaints ++ h)) told in
     record {
+      rules = λ minor marks h minors busy going.
+        step_rules minor m t x.mid u marks before after x.posts x.complaints h (x.heard marks h) (x.agrees marks h) (x.hears marks h)
+          (subst (λ (ls : List Pending). AllOfMinor minor ls) x.same (x.minors minor minors)) (x.due marks h) in_order history x.only_posts
+          x.same x.posted x.issued x.current busy going;
       message = m;
       mid = x.mid;
       posts = x.posts;
       complaints = x.complaints;
-      history = x.history ∙ ap (λ (h : List Told). x.posts ++ (x.complaints ++ h)) told;
+      history = history;
       only_posts = x.only_posts;
       answer = answer;
       due = x.due;
       hears = x.hears;
-      in_order = subst (λ (h : List Told). PostsAfter m x.mid (x.complaints ++ h) after) told x.in_order;
+      in_order = in_order;
       same = x.same;
       posted = x.posted;
       issued = x.issued;
@@ -113,14 +128,20 @@ steps_one m res t u before taken after was mid is told truth x answer =
     }
 
 -- a request is added, and posted or not
-pub begins_add : (ask : Ask) (s t u : Table) (p : Pending) (before after : List Told) (was is : Truth)
+pub begins_add : (ask : Ask) (s t u : Table) (p : Pending) (due : Bool) (before after : List Told) (was is : Truth)
     → ((marks : List Mark) → Agrees s marks → Agrees t marks)
     → t.pending ≡ s.pending ++ p ∷ [] → t.posted ≡ s.posted → t.issued ≡ s.issued → p.request.minor ≡ ask.minor
+    → t.current ≡ s.current → u.current ≡ t.current → p.request.id ≡ s.ids + 1 → length s.pending < 16
+    → due ≡ (s.posted == length s.pending)
+    → MatchBool due (PostsInOrder t.current (unposted t) before after) (after ≡ before)
     → Leads t u before after was is → Begins ask s u before after was is
-begins_add ask s t u p before after was is agrees items posted issued minor l =
+begins_add ask s t u p due before after was is agrees items posted issued minor here there id few is_due in_order l =
     let minors : (n : ℕ) → ask.minor ≡ n → AllOfMinor n s.pending → AllOfMinor n t.pending = λ n e h.
         subst (λ (ls : List Pending). AllOfMinor n ls) (sym items) (minors_push n s.pending p h (minor ∙ e)) in
     record {
+      rules = λ n marks h m e going.
+        begin_rules n s t u p due marks before after l.posts h m (minor ∙ e) items posted issued here there id few is_due in_order l.history
+          l.same l.posted l.issued going;
       posts = l.posts;
       history = l.history;
       only_posts = l.only_posts;
@@ -133,6 +154,21 @@ begins_add ask s t u p before after was is agrees items posted issued minor l =
       minors = λ n e h. subst (λ (ls : List Pending). AllOfMinor n ls) (sym l.same) (minors n e h);
       truth = λ opening marks h e m k. l.truth opening marks (agrees marks h) (minors opening.minor e m) k;
     }
+
+-- nothing is begun
+pub begins_none : (ask : Ask) (t : Table) (history : List Told) (was : Truth) → Begins ask t t history history was was
+begins_none ask t history was = record {
+    posts = [];
+    history = refl;
+    only_posts = tt;
+    posted = omega arith;
+    issued = omega (arith, t.order);
+    agrees = λ marks h. h;
+    spares = λ image marks h. record { disk = λ p q. refl; sure = λ p q s. s };
+    minors = λ n e h. h;
+    truth = λ opening marks h e m k. k;
+    rules = λ n marks h m e going. ([], record { told = refl; grows = refl; keeps = tt; owes = refl });
+  }
 
 drop_front : (xs : List Pending) (p : Pending) (n : ℕ) → n ≡ length xs → drop n (xs ++ p ∷ []) ≡ p ∷ []
 drop_front xs p n e = rw e (go xs) where
