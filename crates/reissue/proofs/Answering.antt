@@ -36,6 +36,7 @@ pub record Found (id n : ℕ) (os : List Pending) (at : ℕ) : Type 0 where
   pub there : with_id id (map request_of os) ≡ Some entry.request
   pub gone : without_id id (map request_of os) ≡ map request_of (front ++ back)
 
+-- the first entry passes the test or not
 found_by_test : (id n : ℕ) (p : Pending) (os : List Pending) (at : ℕ) (b : Bool) → (p.request.id == id) ≡ b
     → (position_from (λ (p : Pending). p.request.id == id) (n + 1) os ≡ Some at → Found id (n + 1) os at)
     → cond b (Some n) (position_from (λ (p : Pending). p.request.id == id) (n + 1) os) ≡ Some at
@@ -57,12 +58,14 @@ found_by_test id n p os at false q rest e =
       gone = rw q (ap (λ (l : List BlockRequest). p.request ∷ l) r.gone);
     }
 
+-- counted from n on
 found_from : (id n : ℕ) (os : List Pending) (at : ℕ)
     → position_from (λ (p : Pending). p.request.id == id) n os ≡ Some at → Found id n os at
 found_from id n [] at e = cc
 found_from id n (p ∷ os) at e =
     found_by_test id n p os at (p.request.id == id) refl (λ h. found_from id (n + 1) os at h) e
 
+-- the entry at the place that was found
 pub found : (id : ℕ) (os : List Pending) (at : ℕ)
     → position (λ (p : Pending). p.request.id == id) os ≡ Some at → Found id 0 os at
 found id os at e = found_from id 0 os at (sym (position_from-zero (λ (p : Pending). p.request.id == id) os) ∙ e)
@@ -71,10 +74,12 @@ found id os at e = found_from id 0 os at (sym (position_from-zero (λ (p : Pendi
 apart_sym : (p q : Pending) → Apart p q → Apart q p
 apart_sym p q a = record { apart = elim a.apart [ inl h ↦ inr h | inr h ↦ inl h ] }
 
+-- apart from all, also without one
 apart_less : (p q : Pending) (xs ys : List Pending) → ApartFromAll p (xs ++ q ∷ ys) → Apart p q × ApartFromAll p (xs ++ ys)
 apart_less p q [] ys h = (h.0, h.1)
 apart_less p q (x ∷ xs) ys h = let r = apart_less p q xs ys h.1 in (r.0, (h.0, r.1))
 
+-- one taken out: the others are apart, and it from them
 pub apart_out : (q : Pending) (xs ys : List Pending) → AllApart (xs ++ q ∷ ys) → AllApart (xs ++ ys) × ApartFromAll q (xs ++ ys)
 apart_out q [] ys h = (h.1, h.0)
 apart_out q (x ∷ xs) ys h =
@@ -82,6 +87,7 @@ apart_out q (x ∷ xs) ys h =
     let rest = apart_out q xs ys h.1 in
     ((here.1, rest.0), (apart_sym x q here.0, rest.1))
 
+-- one more that is apart
 pub apart_push : (q : Pending) (xs : List Pending) → AllApart xs → ApartFromAll q xs → AllApart (xs ++ q ∷ [])
 apart_push q [] h a = (tt, tt)
 apart_push q (x ∷ xs) h a = (further x xs h.0 (apart_sym q x a.0), apart_push q xs h.1 a.1) where
@@ -89,24 +95,29 @@ apart_push q (x ∷ xs) h a = (further x xs h.0 (apart_sym q x a.0), apart_push 
   further x [] h a = (a, tt)
   further x (y ∷ ys) h a = (h.0, further x ys h.1 a)
 
+-- the same range is apart from the same
 pub apart_like : (q r : Pending) (xs : List Pending) → r.start ≡ q.start → r.size ≡ q.size → ApartFromAll q xs → ApartFromAll r xs
 apart_like q r [] s z h = tt
 apart_like q r (x ∷ xs) s z h =
     (record { apart = elim (h.0.apart) [ inl l ↦ inl (omega (arith, l, s, z)) | inr l ↦ inr (omega (arith, l, s, z)) ] },
     apart_like q r xs s z h.1)
 
+-- something stands only where the test passes
 cond_some : (b : Bool) (m n : ℕ) → cond b (Some m) None ≡ Some n → (b ≡ true) × (m ≡ n)
 cond_some true m n e = (refl, cc)
 cond_some false m n e = cc
 
+-- both hold: the left
 and_left : (a b : Bool) → (a && b) ≡ true → a ≡ true
 and_left true b e = refl
 and_left false b e = cc
 
+-- both hold: the right
 and_right : (a b : Bool) → (a && b) ≡ true → b ≡ true
 and_right true b e = e
 and_right false b e = cc
 
+-- a good answer moves something, and no more than was asked for
 pub moved_le : (count n : ℕ) (o : Result ℕ Errno) → moved count o ≡ Some n → (n ≤ count) × (0 < n)
 moved_le count n (Ok m) e =
     let h = cond_some ((m % 512 == 0) && nat_lt 0 m && nat_le m count) m n e in
@@ -116,17 +127,20 @@ moved_le count n (Ok m) e =
     (grind (arith, nat_tests), grind (arith, nat_tests))
 moved_le count n (Err x) e = cc
 
+-- the entry behind these is taken out
 remove_front : (front : List Pending) (q : Pending) (rest : List Pending)
     → remove (front ++ q ∷ rest) (length front) ≡ front ++ rest
 remove_front [] q rest = refl
 remove_front (p ∷ front) q rest = ap (λ (l : List Pending). p ∷ l) (remove_front front q rest)
 
+-- what was read true, without one
 reads_out : (image : Contents) (marks : List Mark) (q : Pending) (xs ys : List Pending)
     → AllReadDisk image marks (xs ++ q ∷ ys)
     → AllReadDisk image marks (xs ++ ys) × (is_write q.request.kind ≡ false → ReadsDisk image marks q)
 reads_out image marks q [] ys h = (h.1, h.0)
 reads_out image marks q (x ∷ xs) ys h = let r = reads_out image marks q xs ys h.1 in ((h.0, r.0), r.1)
 
+-- an answer to a request that is apart leaves what was read true
 reads_answered : (image : Contents) (marks : List Mark) (a : BlockReply) (q : Pending) (n : ℕ) (ps : List Pending)
     → asked_by a marks ≡ Some q.request → moved_by a marks ≡ Some n
     → n ≤ q.request.count
@@ -140,9 +154,11 @@ reads_answered image marks a q n (p ∷ ps) w m le ap' h =
       (h.0 is_read).each k lt (sym s.0 ∙ sure) ∙ sym s.1 },
     reads_answered image marks a q n ps w m le ap'.1 h.1)
 
+-- the endpoint of a slot and a generation
 abbrev endpoint : ℕ → ℕ → Endpoint
 endpoint s g = record { slot = s; generation = g }
 
+-- an endpoint that is there is that one
 same_true : (o : Option Endpoint) (e : Endpoint) → is_endpoint e o ≡ true → o ≡ Some e
 same_true None e h = cc
 same_true (Some d) e h =
@@ -287,6 +303,7 @@ pub record Taken (t v : Table) (marks : List Mark) (a : BlockReply) (e : Pending
   pub within : n ≤ e.request.count
   pub joined : is_write e.request.kind ≡ false → IsJoined marks e
 
+-- the entry that is taken out on an answer
 pub taken : (t v : Table) (marks : List Mark) (a : BlockReply) (e : Pending) (at n : ℕ)
     → Agrees t marks → position (λ (p : Pending). p.request.id == a.id) (take t.issued t.pending) ≡ Some at
     → moved_by a marks ≡ Some n
@@ -346,6 +363,7 @@ agrees_rest t v u marks a e r n x m items ids number posted issued current given
           wrote_rest image marks a e r n x.there m x.within w' (x.writes image w') start position count (bytes w') (left w'));
     }
 
+-- nothing is left of the request
 pub agrees_done : (t v : Table) (marks : List Mark) (a : BlockReply) (e : Pending) (n : ℕ)
     → Taken t v marks a e n → Agrees v (Answered a ∷ marks)
 agrees_done t v marks a e n x = record { opened = x.opened; waiting = x.waiting; holds = x.holds }
@@ -388,6 +406,7 @@ prefix_none id n (p ∷ os) e =
   none_by_test id n p os true q rest e = cc
   none_by_test id n p os false q rest e = rw q (rest e)
 
+-- an id that isn't found isn't open
 not_found : (t : Table) (marks : List Mark) (id : ℕ) → Agrees t marks
     → position (λ (p : Pending). p.request.id == id) (take t.issued t.pending) ≡ None
     → with_id id (open_requests marks) ≡ None
@@ -397,6 +416,7 @@ not_found t marks id h e =
     rw (← h.holds.requests)
     (prefix_none id 0 h.opened (sym (position_from-zero (λ (p : Pending). p.request.id == id) h.opened) ∙ rw (← front) e))
 
+-- not both
 and_false : (b : Bool) → (b && false) ≡ false
 and_false true = refl
 and_false false = refl
@@ -439,6 +459,7 @@ entry_found t marks id at e h place is =
         ∙ get_or_at f.front f.entry (f.back ++ h.waiting) e at (omega (arith, f.place)) in
     rw (same, ← h.holds.requests) f.there
 
+-- an answer that isn't good leaves what was read true
 reads_bad : (image : Contents) (marks : List Mark) (a : BlockReply) (r : BlockRequest) (ps : List Pending)
     → asked_by a marks ≡ Some r → moved_by a marks ≡ None
     → AllReadDisk image marks ps → AllReadDisk image (Answered a ∷ marks) ps
@@ -449,6 +470,7 @@ reads_bad image marks a r (p ∷ ps) w m h =
   still : (place : ℕ) → unsure (Answered a ∷ marks) place ≡ unsure marks place
   still place = rw (m, w) refl
 
+-- an answer that isn't good changes nothing in the table
 pub agrees_bad : (t : Table) (marks : List Mark) (a : BlockReply) (r : BlockRequest) → Agrees t marks
     → is_endpoint a.from t.current ≡ true
     → asked_by a marks ≡ Some r → moved_by a marks ≡ None
@@ -476,12 +498,15 @@ pub record Dropped (marks : List Mark) (a : BlockReply) : Type 0 where
   pub due : complaint_due a marks ≡ None
   pub moves : counted_move marks a ≡ None
 
+-- a reply that doesn't count
 dropped : (marks : List Mark) (a : BlockReply) → counts marks a ≡ false → Dropped marks a
 dropped marks a e = record { stays = rw e refl; due = rw e refl; moves = rw e refl }
 
+-- one from elsewhere
 pub dropped_other : (t : Table) (marks : List Mark) (a : BlockReply) → Agrees t marks → is_endpoint a.from t.current ≡ false → Dropped marks a
 dropped_other t marks a h e = dropped marks a (counts_other t marks a h e)
 
+-- one whose id isn't open
 pub dropped_unknown : (t : Table) (marks : List Mark) (a : BlockReply) → Agrees t marks
     → position (λ (p : Pending). p.request.id == a.id) (take t.issued t.pending) ≡ None → Dropped marks a
 dropped_unknown t marks a h e = dropped marks a (counts_none marks a (not_found t marks a.id h e))
@@ -493,6 +518,7 @@ pub record Counted (marks : List Mark) (a : BlockReply) (m : Option ℕ) : Type 
   pub moves : moved_by a marks ≡ m
   pub counted : counted_move marks a ≡ m
 
+-- a reply to the entry that was found
 pub counted : (t : Table) (marks : List Mark) (a : BlockReply) (e : Pending) (at : ℕ) (m : Option ℕ) → Agrees t marks
     → is_endpoint a.from t.current ≡ true
     → position (λ (p : Pending). p.request.id == a.id) (take t.issued t.pending) ≡ Some at
@@ -530,6 +556,7 @@ apart_new q (p ∷ ps) h e =
       let y : true ≡ false = sym x ∙ f in
       cc
 
+-- a request that becomes pending
 pub agrees_add : (t u : Table) (marks : List Mark) (q : Pending) → Agrees t marks
     → u.pending ≡ t.pending ++ q ∷ [] → u.ids ≡ t.ids + 1 → q.request.id ≡ t.ids + 1
     → u.posted ≡ t.posted → u.issued ≡ t.issued → u.current ≡ t.current → u.given_up ≡ t.given_up

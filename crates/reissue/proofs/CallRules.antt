@@ -27,6 +27,7 @@ use Rattle.reissue.proofs.PostRules.{at_link, told_at_link, box, box_same}
 use Rattle.reissue.proofs.TableRules.{loose, ends_same, table_posts, PostsKeep, at_rest, needed}
 use Rattle.reissue.proofs.StepRules.{Arrives, Heard, heard}
 
+-- the marks of what the link was told
 marks_at_link : (told : List Told) (marks : List Mark) → marks_after (at_link told) marks ≡ grown told marks
 marks_at_link [] marks = refl
 marks_at_link (t ∷ told) marks = ap (λ (l : List Mark). with_told t l) (marks_at_link told marks)
@@ -50,6 +51,7 @@ posts_then minor acts posts old mid new marks M before after keeps owes grows to
         ∙ ap (λ (o : Outbox). outbox_after (at_link posts) M o) owes ∙ y.owes;
     }
 
+-- posts give nothing up
 gave_up_posted : (posts : List Told) (marks : List Mark) → OnlyPosts posts → gave_up (grown posts marks) ≡ gave_up marks
 gave_up_posted [] marks o = refl
 gave_up_posted (Posted to r true ∷ posts) marks o = gave_up_posted posts marks o
@@ -57,6 +59,7 @@ gave_up_posted (Posted to r false ∷ posts) marks o = gave_up_posted posts mark
 gave_up_posted (Complained e ∷ posts) marks o = absurd o
 gave_up_posted (Received m ∷ posts) marks o = absurd o
 
+-- nor does a reply
 gave_up_reply : (b : Bool) (a : BlockReply) (marks : List Mark) → gave_up (cond b (Answered a ∷ marks) marks) ≡ gave_up marks
 gave_up_reply true a marks = refl
 gave_up_reply false a marks = refl
@@ -170,16 +173,19 @@ may_begin minor old marks r h id few =
       room = omega (arith, open_count, never, few, old.within);
     }
 
+-- the end of the list, with one more
 pushed : (n m : ℕ) (old mid : List Pending) (p : Pending) → n ≡ m → n ≤ length old → mid ≡ old ++ p ∷ []
     → map request_of (drop n old) ++ p.request ∷ [] ≡ map request_of (drop m mid)
 pushed n m old mid p e le items =
     sym (map-append request_of (drop n old) (p ∷ [])) ∙ ap (λ (l : List Pending). map request_of l) (sym (drop_push n old p le))
     ∙ ends_same n m (old ++ p ∷ []) mid e (sym items)
 
+-- behind a refused post, one more changes nothing
 stopped_same : (o : Option Endpoint) (n l : ℕ) → n ≤ l → (n == l) ≡ false → (is_some o && nat_lt n l) ≡ (is_some o && nat_lt n (l + 1))
 stopped_same None n l le e = refl
 stopped_same (Some to) n l le e = grind (arith, nat_tests)
 
+-- where all are posted nothing was refused
 stopped_none : (o : Option Endpoint) (n l : ℕ) → (n == l) ≡ true → (is_some o && nat_lt n l) ≡ false
 stopped_none None n l e = refl
 stopped_none (Some to) n l e = grind (arith, nat_tests)

@@ -12,11 +12,13 @@ use Rattle.reissue.specs.declared.pending.Pending.{Pending}
 use Rattle.marks.specs.Disk.{fetches, bytes_read}
 use Rattle.reissue.specs.Agrees.{ApartFromAll, IsJoined, AllJoined}
 
+-- a place outside isn't covered
 not_within : (w : Bool) (position n place : ℕ) → (place < position) ⊎ (position + n ≤ place)
     → (not w && nat_le position place && nat_lt place (position + n)) ≡ false
 not_within false position n place h = grind (arith, nat_tests)
 not_within true position n place h = refl
 
+-- a place inside is covered
 within : (w : Bool) (position n place : ℕ) → w ≡ false → position ≤ place → place < position + n
     → (not w && nat_le position place && nat_lt place (position + n)) ≡ true
 within false position n place e h k = grind (arith, nat_tests)
@@ -85,6 +87,7 @@ pub joined_push : (marks : List Mark) (q : Pending) (ps : List Pending) → AllJ
 joined_push marks q [] h r = (r, tt)
 joined_push marks q (p ∷ ps) h r = (h.0, joined_push marks q ps h.1 r)
 
+-- and one less
 pub joined_out : (marks : List Mark) (q : Pending) (xs ys : List Pending) → AllJoined marks (xs ++ q ∷ ys)
     → AllJoined marks (xs ++ ys) × (is_write q.request.kind ≡ false → IsJoined marks q)
 joined_out marks q [] ys h = (h.1, h.0)

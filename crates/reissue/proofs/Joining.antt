@@ -26,6 +26,7 @@ use Rattle.reissue.proofs.CallRules.{absorb_rules, step_rules, begin_rules}
 use Rattle.reissue.proofs.Settling.{minors_push}
 use Rattle.reissue.proofs.Tickets.{pending_among}
 
+-- the record after both
 pub grown_append : (es fs : List Told) (marks : List Mark) → grown (es ++ fs) marks ≡ grown es (grown fs marks)
 grown_append [] fs marks = refl
 grown_append (Posted to r true ∷ es) fs marks = ap (λ (m : List Mark). Issued r to ∷ m) (grown_append es fs marks)
@@ -42,6 +43,7 @@ true_before (Posted to r false ∷ es) image marks o h = true_before es image ma
 true_before (Complained e ∷ es) image marks o h = absurd o
 true_before (Received m ∷ es) image marks o h = absurd o
 
+-- and after them
 true_after : (es : List Told) (image : Contents) (marks : List Mark) → OnlyPosts es
     → HasTrueReplies image marks → HasTrueReplies image (grown es marks)
 true_after [] image marks o h = h
@@ -170,6 +172,7 @@ begins_none ask t history was = record {
     rules = λ n marks h m e going. ([], record { told = refl; grows = refl; keeps = tt; owes = refl });
   }
 
+-- behind these stands the last
 drop_front : (xs : List Pending) (p : Pending) (n : ℕ) → n ≡ length xs → drop n (xs ++ p ∷ []) ≡ p ∷ []
 drop_front xs p n e = rw e (go xs) where
   go : (xs : List Pending) → drop (length xs) (xs ++ p ∷ []) ≡ p ∷ []
@@ -195,6 +198,7 @@ posts_new s t p r due before after e items posted current is h =
       (subst (λ (l : List BlockRequest). PostsInOrder t.current l before after) (unposted_is f) h)
   by false f h = h
 
+-- each of them is one of all
 free_each : (start size : ℕ) (all ps : List Pending) → AreDistinct all → IsFree start size (pending_of all)
     → ((q : Pending) → IsAmong q ps → IsAmong q all) → MissesOrSame start size ps
 free_each start size all [] d f among = tt

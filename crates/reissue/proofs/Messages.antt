@@ -42,6 +42,7 @@ started_target : (t u : Table) (marks : List Mark) (e : Endpoint) (b : Bool) →
 started_target t u marks e true g h current new = rw (← h, g) (new ∙ current ∙ rw (← h, g) refl)
 started_target t u marks e false g h current new = rw (← h, g) new
 
+-- a start
 agrees_started : (t u : Table) (marks : List Mark) (e : Endpoint) → Agrees t marks
     → u.pending ≡ t.pending → u.issued ≡ t.issued → u.ids ≡ t.ids → u.current ≡ cond t.given_up t.current (Some e)
     → u.given_up ≡ t.given_up → Agrees u (Started e ∷ marks)
@@ -58,6 +59,7 @@ agrees_started t u marks e h items issued ids current given_up =
       writes = λ image. wrote_like image marks (Started e ∷ marks) (h.opened ++ h.waiting) (λ _. refl) (λ _. refl) (s.writes image);
     } }
 
+-- a flush
 agrees_flushed : (t : Table) (marks : List Mark) → Agrees t marks → Agrees t (Flush ∷ marks)
 agrees_flushed t marks h =
     let s = h.holds in
@@ -70,6 +72,7 @@ agrees_flushed t marks h =
       writes = λ image. wrote_like image marks (Flush ∷ marks) (h.opened ++ h.waiting) (λ _. refl) (λ _. refl) (s.writes image);
     } }
 
+-- the device is given up
 agrees_gave_up : (t u : Table) (marks : List Mark) → Agrees t marks
     → u.pending ≡ t.pending → u.issued ≡ t.issued → u.ids ≡ t.ids → u.current ≡ None → u.given_up ≡ true → Agrees u (GaveUp ∷ marks)
 agrees_gave_up t u marks h items issued ids current given_up =
@@ -115,6 +118,7 @@ takes_reply message a r t u before after was is same agrees hears due closes clo
       truth = truth;
     })
 
+-- the disk and what is sure stay
 closing_same : (result : Settled) (ps us : List Pending) (marks more : List Mark)
     → ((image : Contents) (p : ℕ) → disk_after image more p ≡ disk_after image marks p) → ((p : ℕ) → unsure more p ≡ unsure marks p)
     → Closing settled.Nothing ps us marks more

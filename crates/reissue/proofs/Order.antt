@@ -8,17 +8,13 @@ use Rattle.message.specs.declared.BlockRequest.{BlockRequest}
 use Rattle.marks.specs.Open.{without_id}
 use Rattle.reissue.specs.declared.pending.Pending.{Pending}
 use Rattle.reissue.specs.Entries.{AreRising, request_of}
-
--- a lower bound holds too
-rising_from : (low m ids : ℕ) (ps : List Pending) → low ≤ m → AreRising m ids ps → AreRising low ids ps
-rising_from low m ids [] le h = tt
-rising_from low m ids (p ∷ ps) le h = (omega (arith, h.0), h.1, h.2)
+use Rattle.reissue.proofs.Tickets.{rising_lower}
 
 -- the end of a rising list rises
 pub rising_drop : (low ids n : ℕ) (ps : List Pending) → AreRising low ids ps → AreRising low ids (drop n ps)
 rising_drop low ids zero ps h = h
 rising_drop low ids (suc n) [] h = tt
-rising_drop low ids (suc n) (p ∷ ps) h = rising_from low p.request.id ids (drop n ps) (omega (arith, h.0)) (rising_drop p.request.id ids n ps h.2)
+rising_drop low ids (suc n) (p ∷ ps) h = rising_lower low p.request.id ids (drop n ps) (omega (arith, h.0)) (rising_drop p.request.id ids n ps h.2)
 
 -- an id that is below all of them is none of theirs
 pub without_lower : (id low ids : ℕ) (ps : List Pending) → AreRising low ids ps → id ≤ low → without_id id (map request_of ps) ≡ map request_of ps
@@ -98,6 +94,7 @@ drop_push zero ps q le = refl
 drop_push (suc n) [] q le = absurd (omega arith)
 drop_push (suc n) (p ∷ ps) q le = drop_push n ps q (omega arith)
 
+-- no list has an end but no list
 drop_none : (k : ℕ) → ◌≡◌ {A = List Pending} (drop k []) []
 drop_none zero = refl
 drop_none (suc k) = refl

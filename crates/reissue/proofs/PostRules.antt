@@ -17,6 +17,8 @@ use Rattle.reissue.specs.Entries.{AreRising, AllOfMinor, request_of}
 use Rattle.reissue.specs.Agrees.{target, unposted, never_issued}
 use Rattle.reissue.specs.Posts.{ArePostedTo, PostsInOrder, accepted_of}
 use Rattle.reissue.specs.Rules.{outbox_of}
+use Rattle.reissue.proofs.Steps.{fits_minor}
+use Rattle.reissue.proofs.Tickets.{rising_lower}
 use Rattle.reissue.proofs.Order.{without_lower, drop_twice, append_cancel}
 
 -- the link was told and gave these
@@ -24,10 +26,12 @@ abbrev pub at_link : List Told → List Act
 at_link [] = []
 at_link (t ∷ told) = AtLink t ∷ at_link told
 
+-- both one after the other
 at_link_append : (xs ys : List Told) → at_link (xs ++ ys) ≡ at_link xs ++ at_link ys
 at_link_append [] ys = refl
 at_link_append (x ∷ xs) ys = ap (λ (l : List Act). AtLink x ∷ l) (at_link_append xs ys)
 
+-- what was told by these acts
 pub told_at_link : (told : List Told) → told_of (at_link told) ≡ told
 told_at_link [] = refl
 told_at_link (t ∷ told) = ap (λ (l : List Told). t ∷ l) (told_at_link told)
@@ -36,6 +40,7 @@ told_at_link (t ∷ told) = ap (λ (l : List Told). t ∷ l) (told_at_link told)
 abbrev pub box : List BlockRequest → List BlockRequest → Bool → Outbox
 box ns us stopped = record { never_issued = ns; unposted = us; stopped = stopped; complaint = None }
 
+-- the same is owed
 pub box_same : (ns ms us vs : List BlockRequest) (b c : Bool) → ns ≡ ms → us ≡ vs → b ≡ c → box ns us b ≡ box ms vs c
 box_same ns ms us vs b c n u s =
     ap (λ (x : List BlockRequest). box x us b) n ∙ ap (λ (x : List BlockRequest). box ms x b) u ∙ ap (λ (x : Bool). box ms vs x) s
@@ -44,6 +49,7 @@ box_same ns ms us vs b c n u s =
 without_head : (r : BlockRequest) (rs : List BlockRequest) → without_id r.id (r ∷ rs) ≡ rs
 without_head r rs = cond-true (r.id == r.id) rs (r ∷ without_id r.id rs) (eq-eqb r.id r.id refl)
 
+-- one more was accepted
 accepted_more : (told : List Told) (to : Endpoint) (r : BlockRequest) → accepted_of (told ++ Posted to r true ∷ []) ≡ accepted_of told + 1
 accepted_more [] to r = refl
 accepted_more (Posted t s true ∷ told) to r = ap (λ (n : ℕ). n + 1) (accepted_more told to r)
@@ -57,6 +63,7 @@ pub record Then (minor : ℕ) (posts : List Told) (marks : List Mark) (to : Endp
   pub owes : outbox_after (at_link (posts ++ Posted to r true ∷ [])) marks (box ns (r ∷ us) false)
       ≡ outbox_after (at_link posts) (Issued r to ∷ marks) (box ms us false)
 
+-- an accepted post, and then the others
 post_then : (minor : ℕ) (posts : List Told) (marks : List Mark) (to : Endpoint) (r : BlockRequest) (ns ms us : List BlockRequest)
     → last_started marks ≡ Some to → FitsMinor minor r → without_id r.id ns ≡ ms
     → KeepsRules minor (at_link posts) (Issued r to ∷ marks) (box ms us false)
@@ -76,9 +83,6 @@ post_then minor posts marks to r ns ms us started fits left keeps =
       owes = rw (at_link_append posts (Posted to r true ∷ [])) (c.owed ∙ ap (λ (x : Outbox). outbox_after (at_link posts) (Issued r to ∷ marks) x) after);
     }
 
-fits_minor : (minor : ℕ) (p : Pending) → p.request.minor ≡ minor → FitsMinor minor p.request
-fits_minor minor p e = record { minor_is = e; count = omega (arith, p.from, p.end, p.small); bytes = p.full }
-
 -- the issued ones of those that aren't posted, and then those never issued, were posted
 pub record IsPosted (minor : ℕ) (fs ws : List Pending) (marks : List Mark) (before after : List Told) : Type 0 where
   pub posts : List Told
@@ -88,22 +92,24 @@ pub record IsPosted (minor : ℕ) (fs ws : List Pending) (marks : List Mark) (be
       ≡ box (map request_of (drop (accepted_of posts - length fs) ws)) (map request_of (drop (accepted_of posts) (fs ++ ws)))
         (nat_lt (accepted_of posts) (length (fs ++ ws)))
 
+-- one before the others
 joined : (posts : List Told) (t : Told) (before after : List Told) → after ≡ posts ++ (t ∷ before) → after ≡ (posts ++ t ∷ []) ++ before
 joined posts t before after h = h ∙ sym (append_assoc posts (t ∷ []) before)
 
+-- less by one on both sides
 less_suc : (k n : ℕ) → nat_lt k n ≡ nat_lt (suc k) (suc n)
 less_suc k n = elim (leb_tells n k) [ inl h ↦ grind (arith, nat_tests) | inr h ↦ grind (arith, nat_tests) ]
 
+-- none is less than one
 zero_less : (n : ℕ) → true ≡ nat_lt 0 (suc n)
 zero_less n = grind (arith, nat_tests)
 
+-- the end of a rising list rises
 rising_suffix : (low ids : ℕ) (fs ws : List Pending) → AreRising low ids (fs ++ ws) → AreRising low ids ws
 rising_suffix low ids [] ws h = h
-rising_suffix low ids (f ∷ fs) ws h = lower low f.request.id ws (omega (arith, h.0)) (rising_suffix f.request.id ids fs ws h.2) where
-  lower : (low m : ℕ) (ws : List Pending) → low ≤ m → AreRising m ids ws → AreRising low ids ws
-  lower low m [] le h = tt
-  lower low m (w ∷ ws) le h = (omega (arith, h.0), h.1, h.2)
+rising_suffix low ids (f ∷ fs) ws h = rising_lower low f.request.id ids ws (omega (arith, h.0)) (rising_suffix f.request.id ids fs ws h.2)
 
+-- the first is refused
 refused_first : (minor : ℕ) (to : Endpoint) (fs ws : List Pending) (p : Pending) (ps : List Pending) (marks : List Mark) (before after : List Told)
     → fs ++ ws ≡ p ∷ ps → last_started marks ≡ Some to → p.request.minor ≡ minor
     → after ≡ Posted to p.request false ∷ before → IsPosted minor fs ws marks before after
@@ -117,6 +123,7 @@ refused_first minor to fs ws p ps marks before after is started m e = record {
         (nat_lt 0 (length (fs ++ ws))) (rw none refl) refl (rw is (zero_less (length ps)));
   }
 
+-- posts in order, up to the first that is refused, keep the rules
 pub posted_keep : (minor low ids : ℕ) (to : Endpoint) (fs ws : List Pending) (marks : List Mark) (before after : List Told)
     → AreRising low ids (fs ++ ws) → AllOfMinor minor (fs ++ ws) → last_started marks ≡ Some to
     → ArePostedTo to (map request_of (fs ++ ws)) before after → IsPosted minor fs ws marks before after

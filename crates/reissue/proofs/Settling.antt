@@ -12,9 +12,11 @@ use Rattle.reissue.specs.Hears.{IsRest, LeavesRest, IsAnswered}
 pub issued_within : (t : Table) (at : ℕ) → at < t.issued → at < length t.pending
 issued_within t at lt = omega (arith, lt, t.within)
 
+-- the same isn't less
 not_less : (n m : ℕ) → n ≡ m → nat_lt n m ≡ false
 not_less n m e = grind (arith, nat_tests)
 
+-- what is less passes the test
 is_less : (n m : ℕ) → n < m → nat_lt n m ≡ true
 is_less n m lt = grind (arith, nat_tests)
 
@@ -47,10 +49,12 @@ minors_rest minor [] (suc at) h = tt
 minors_rest minor (p ∷ ps) zero h = h.1
 minors_rest minor (p ∷ ps) (suc at) h = (h.0, minors_rest minor ps at h.1)
 
+-- and of one more
 pub minors_push : (minor : ℕ) (ps : List Pending) (q : Pending) → AllOfMinor minor ps → q.request.minor ≡ minor → AllOfMinor minor (ps ++ q ∷ [])
 minors_push minor [] q h e = (e, tt)
 minors_push minor (p ∷ ps) q h e = (h.0, minors_push minor ps q h.1 e)
 
+-- the minor of the entry at a place
 pub minor_there : (minor : ℕ) (ps : List Pending) (at : ℕ) (e : Pending) → at < length ps → e ≡ get_or ps at e → AllOfMinor minor ps
     → e.request.minor ≡ minor
 minor_there minor [] at e lt is h = absurd (omega arith)

@@ -86,19 +86,23 @@ loose_same old mid x = box_same (never_issued old) (never_issued mid) (unposted 
     (ends_same old.issued mid.issued old.pending mid.pending (sym x.issued) (sym x.pending))
     (ends_same old.posted mid.posted old.pending mid.pending (sym x.posted) (sym x.pending)) refl
 
+-- both tests at once
 and_some : (b : Bool) (o : Option ℕ) → (b && is_some o) ≡ is_some (cond b o None)
 and_some true o = refl
 and_some false o = refl
 
+-- a good answer asks for no complaint
 none_due : (b : Bool) (o : Option ℕ) (n : ℕ) (e : Endpoint) → cond b o None ≡ Some n → cond (b && not (is_some o)) (Some e) None ≡ None
 none_due true None n e h = cc
 none_due true (Some k) n e h = refl
 none_due false o n e h = cc
 
+-- what a reply leaves unposted
 left_after : (marks : List Mark) (a : BlockReply) (us : List BlockRequest) (m : Option ℕ) → counted_move marks a ≡ m
     → without_answered a marks us ≡ cond (is_some m) (without_id a.id us) us
 left_after marks a us m e = ap (λ (b : Bool). cond b (without_id a.id us) us) (and_some (counts marks a) (moved_by a marks) ∙ ap (λ (o : Option ℕ). is_some o) e)
 
+-- one less
 length_removed : (ps : List Pending) (at : ℕ) → at < length ps → length (remove ps at) + 1 ≡ length ps
 length_removed [] at lt = absurd (omega arith)
 length_removed (p ∷ ps) zero lt = omega arith

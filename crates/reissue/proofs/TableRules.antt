@@ -27,11 +27,13 @@ loose t = box (never_issued t) (unposted t) false
 pub ends_same : (n m : ℕ) (ps qs : List Pending) → n ≡ m → ps ≡ qs → map request_of (drop n ps) ≡ map request_of (drop m qs)
 ends_same n m ps qs e f = ap (λ (k : ℕ). map request_of (drop k ps)) e ∙ ap (λ (l : List Pending). map request_of (drop m l)) f
 
+-- the minors of an end
 minors_drop : (minor n : ℕ) (ps : List Pending) → AllOfMinor minor ps → AllOfMinor minor (drop n ps)
 minors_drop minor zero ps h = h
 minors_drop minor (suc n) [] h = tt
 minors_drop minor (suc n) (p ∷ ps) h = minors_drop minor n ps h.1
 
+-- less by as many on both sides
 less_shift : (k p l m : ℕ) → m ≡ l - p → p ≤ l → nat_lt k m ≡ nat_lt (p + k) l
 less_shift k p l m e le = elim (leb_tells l (p + k)) [ inl h ↦ grind (arith, nat_tests) | inr h ↦ grind (arith, nat_tests) ]
 
@@ -107,9 +109,11 @@ some_posted minor mid new to marks between after posts current started minors h 
         (subst (λ (o : Outbox). outbox_after (at_link x.posts) marks o ≡ outbox_of new) first (x.owes ∙ last));
     }
 
+-- where requests are posted is the last start
 started_of : (marks : List Mark) (o : Option Endpoint) → o ≡ target marks → gave_up marks ≡ false → last_started marks ≡ o
 started_of marks o e g = sym (e ∙ rw g refl)
 
+-- the posts of a table keep the rules
 pub table_posts : (minor : ℕ) (mid new : Table) (marks : List Mark) (between after posts : List Told)
     → mid.current ≡ target marks → gave_up marks ≡ false → new.current ≡ mid.current → AllOfMinor minor mid.pending
     → PostsInOrder mid.current (unposted mid) between after → after ≡ posts ++ between
@@ -128,6 +132,7 @@ none_left zero (p ∷ ps) le = absurd (omega arith)
 none_left (suc n) [] le = refl
 none_left (suc n) (p ∷ ps) le = none_left n ps (omega arith)
 
+-- no post is due between two calls
 not_due : (t : Table) (o : Option Endpoint) → (is_some o && not (is_some o && nat_lt t.posted (length t.pending)) && not (has_none (unposted t))) ≡ false
 not_due t None = refl
 not_due t (Some e) = by (nat_lt t.posted (length t.pending)) refl where
@@ -135,6 +140,7 @@ not_due t (Some e) = by (nat_lt t.posted (length t.pending)) refl where
   by true e = refl
   by false e = let le : length t.pending ≤ t.posted = grind (arith, nat_tests) in rw (none_left t.posted t.pending le) refl
 
+-- between two calls nothing is owed
 pub at_rest : (t : Table) (marks : List Mark) → Agrees t marks → gave_up marks ≡ false → IsAtRest marks (outbox_of t)
 at_rest t marks h g = record {
     complaint = refl;
@@ -151,11 +157,13 @@ some_pending [] b = absurd (nothing b.request b.is) where
   nothing r e = cc
 some_pending (p ∷ ps) b = omega arith
 
+-- something stands before the end
 some_left : (n : ℕ) (ps : List Pending) → n < length ps → has_none (map request_of (drop n ps)) ≡ false
 some_left n [] lt = absurd (omega arith)
 some_left zero (p ∷ ps) lt = refl
 some_left (suc n) (p ∷ ps) lt = some_left n ps (omega arith)
 
+-- either holds: the right
 or_right : (a b : Bool) → b ≡ true → (a || b) ≡ true
 or_right true b e = refl
 or_right false b e = e

@@ -23,6 +23,7 @@ pub record AreWritten (image : Contents) (marks : List Mark) (start size : ℕ) 
   pub each : (k : ℕ) → k < size
       → (disk_after image marks (start + k) ≡ slice_index bytes k) × (unsure marks (start + k) ≡ false)
 
+-- a place outside isn't covered
 not_within : (w : Bool) (position n place : ℕ) → (place < position) ⊎ (position + n ≤ place)
     → (w && nat_le position place && nat_lt place (position + n)) ≡ false
 not_within true position n place h = grind (arith, nat_tests)
@@ -46,6 +47,7 @@ same_at image marks a r n place w m o =
   kept (inr h) = ap (λ (b : Bool). cond b (slice_index r.bytes (place - r.position)) (disk_after image marks place))
       (not_within (is_write r.kind) r.position n place h)
 
+-- an issue doesn't cover a place outside
 not_touched : (r : BlockRequest) (place : ℕ) → (place < r.position) ⊎ (r.position + r.count ≤ place)
     → (is_write r.kind && covers r place) ≡ false
 not_touched r place h = by (is_write r.kind) where
@@ -55,6 +57,7 @@ not_touched r place h = by (is_write r.kind) where
   by true = none
   by false = refl
 
+-- an issue covers a place inside
 touched : (w : Bool) (r : BlockRequest) (place : ℕ) → (w && covers r place) ≡ true
     → (w ≡ true) × (r.position ≤ place) × (place < r.position + r.count)
 touched true r place e = (refl, grind (arith, nat_tests), grind (arith, nat_tests))
@@ -71,15 +74,18 @@ abbrev pub IsOneOf : Pending → List Pending → Type 0
 IsOneOf q [] = Unit {0}
 IsOneOf q (p ∷ ps) = ((q ≡ p) ⊎ Apart p q) × IsOneOf q ps
 
+-- one that is apart from all
 pub one_apart : (q : Pending) (ps : List Pending) → ApartFromAll q ps → IsOneOf q ps
 one_apart q [] a = tt
 one_apart q (p ∷ ps) a = (inr (record { apart = elim (a.0.apart) [ inl h ↦ inr h | inr h ↦ inl h ] }), one_apart q ps a.1)
 
+-- one that is apart from one of them
 apart_from : (p q : Pending) (ps : List Pending) → ApartFromAll p ps → IsAmong q ps → Apart p q
 apart_from p q [] a i = absurd i
 apart_from p q (x ∷ ps) a (inl e) = subst (Apart p) (sym e) a.0
 apart_from p q (x ∷ ps) a (inr i) = apart_from p q ps a.1 i
 
+-- one of those that are apart
 pub one_among : (q : Pending) (ps : List Pending) → AllApart ps → IsAmong q ps → IsOneOf q ps
 one_among q [] a i = absurd i
 one_among q (p ∷ ps) a (inl e) = (inl e, subst (λ (x : Pending). IsOneOf x ps) (sym e) (one_apart p ps a.0))
@@ -99,6 +105,7 @@ wrote_issued image marks q to p o h = record {
   outside (inl e) k lt = rw e (inl lt)
   outside (inr a) k lt = elim a.apart [ inl l ↦ inl (omega (arith, l, q.from, p.end)) | inr l ↦ inr (omega (arith, l, q.end)) ]
 
+-- and of each of them
 pub all_wrote_issued : (image : Contents) (marks : List Mark) (q : Pending) (to : Endpoint) (ps : List Pending)
     → IsOneOf q ps → AllWrote image marks ps → AllWrote image (Issued q.request to ∷ marks) ps
 all_wrote_issued image marks q to [] o h = tt
@@ -123,6 +130,7 @@ all_wrote_answered image marks a q n (p ∷ ps) w m le ap' h =
     },
     all_wrote_answered image marks a q n ps w m le ap'.1 h.1)
 
+-- a place inside is covered
 within : (w : Bool) (position n place : ℕ) → w ≡ true → position ≤ place → place < position + n
     → (w && nat_le position place && nat_lt place (position + n)) ≡ true
 within true position n place e h k = grind (arith, nat_tests)
@@ -181,6 +189,7 @@ pub is_written : (k : Kind) (bytes : List ℕ) → is_write k ≡ true → writt
 is_written kind.Write bytes e = refl
 is_written kind.Read bytes e = cc
 
+-- a quiet place is outside each pending write
 quiet_at : (q : Pending) (ps : List Pending) (place : ℕ) → AreDistinct ps → IsAmong q ps → is_write q.request.kind ≡ true
     → IsQuiet (pending_of ps) place → (place < q.start) ⊎ (q.start + q.size ≤ place)
 quiet_at q ps place d i w h =
@@ -191,10 +200,12 @@ quiet_at q ps place d i w h =
       | inr r ↦ absurd (h.none q.ticket (begun_of q) q.bytes (pending_among q ps d i) (is_written q.request.kind q.bytes w)
           (record { from = l.1; to = omega (arith, r.1) })) ] ]
 
+-- neither holds
 or_false : (b c : Bool) → b ≡ false → c ≡ false → (b || c) ≡ false
 or_false true c e f = cc
 or_false false c e f = f
 
+-- an issue spares what isn't pending
 pub spares_issued : (image : Contents) (marks : List Mark) (q : Pending) (to : Endpoint) (ps : List Pending)
     → AreDistinct ps → IsAmong q ps
     → Spares (pending_of ps) (state_after image marks) (state_after image (Issued q.request to ∷ marks))
@@ -207,6 +218,7 @@ spares_issued image marks q to ps d i = record {
       (elim (quiet_at q ps p d i e h) [ inl l ↦ inl (omega (arith, l, q.from)) | inr l ↦ inr (omega (arith, l, q.end)) ])
   stays p h false e = rw e refl
 
+-- an answer spares what isn't pending
 pub spares_answered : (image : Contents) (marks : List Mark) (a : BlockReply) (q : Pending) (n : ℕ) (ps : List Pending)
     → asked_by a marks ≡ Some q.request → moved_by a marks ≡ Some n
     → n ≤ q.request.count
@@ -230,12 +242,14 @@ pub spares_same : (pending : ℕ → Option Begun) (image : Contents) (marks mor
     → Spares pending (state_after image marks) (state_after image more)
 spares_same pending image marks more d u = record { disk = λ p h. d p; sure = λ p h s. u p ∙ s }
 
+-- one after the other
 pub spares_then : (pending : ℕ → Option Begun) (u v w : DiskState) → Spares pending u v → Spares pending v w → Spares pending u w
 spares_then pending u v w x y = record {
     disk = λ p h. y.disk p h ∙ x.disk p h;
     sure = λ p h s. y.sure p h (x.sure p h s);
   }
 
+-- other marks leave what was written
 pub wrote_like : (image : Contents) (marks more : List Mark) (ps : List Pending)
     → ((place : ℕ) → unsure more place ≡ unsure marks place)
     → ((place : ℕ) → disk_after image more place ≡ disk_after image marks place)
@@ -247,11 +261,13 @@ wrote_like image marks more (p ∷ ps) u d h =
       left = o.left; },
     wrote_like image marks more ps u d h.1)
 
+-- one more
 pub wrote_push : (image : Contents) (marks : List Mark) (q : Pending) (ps : List Pending) → AllWrote image marks ps
     → (is_write q.request.kind ≡ true → Wrote image marks q) → AllWrote image marks (ps ++ q ∷ [])
 wrote_push image marks q [] h r = (r, tt)
 wrote_push image marks q (p ∷ ps) h r = (h.0, wrote_push image marks q ps h.1 r)
 
+-- and one less
 pub wrote_out : (image : Contents) (marks : List Mark) (q : Pending) (xs ys : List Pending) → AllWrote image marks (xs ++ q ∷ ys)
     → AllWrote image marks (xs ++ ys) × (is_write q.request.kind ≡ true → Wrote image marks q)
 wrote_out image marks q [] ys h = (h.1, h.0)

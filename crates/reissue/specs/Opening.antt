@@ -1,7 +1,8 @@
 -- What a run starts from.
-use Rattle.std.specs.Prelude.{◌≡◌, ℕ, ◌+◌, ◌*◌, ◌≤◌, List, length, slice_index}
+use Rattle.std.specs.Prelude.{ℕ, ◌+◌, ◌*◌, List, slice_index}
 use Rattle.message.specs.declared.BlockRequest.{BlockRequest}
 use Rattle.marks.specs.Disk.{Contents}
+use Rattle.marks.specs.Acts.{FitsMinor}
 
 -- the media's bytes as they were handed in, the volume's first sector and number of sectors on them, and its minor
 pub record Opening : Type 0 where
@@ -15,7 +16,5 @@ abbrev pub contents_at : Opening → Contents
 contents_at opening place = slice_index opening.media (512 * opening.first + place)
 
 -- the request is for the volume, and of a block's bytes at most
-pub record Fits (opening : Opening) (r : BlockRequest) : Type 0 where
-  pub minor : r.minor ≡ opening.minor
-  pub count : r.count ≤ 4096
-  pub bytes : length r.bytes ≡ 4096
+abbrev pub Fits : Opening → BlockRequest → Type 0
+Fits opening r = FitsMinor opening.minor r

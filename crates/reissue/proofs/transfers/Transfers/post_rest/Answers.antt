@@ -14,9 +14,8 @@ loop-request-preserved g c =
     let p = c.in-Some-next_to_post.ensures.request in
     let e = c.count_post.ensures in
     let k = c.in-Ok.ensures in
-    let bytes : length c.in-Some-next_to_post.request.now.bytes ≡ 4096 = ap (λ (r : BlockRequest). length r.bytes) p.2 ∙ p.0.full in
     record {
-      leads = leads_post _ _ _ _ _ _ _ _ _ _ _ p.0 i.leads k.told k.accepted i.current (search rules) (p.2 ∙ ap (λ (x : Pending). x.request) p.1) bytes
+      leads = leads_post _ _ _ _ _ _ _ _ _ _ _ p.0 i.leads k.told k.accepted i.current (search rules) (p.2 ∙ ap (λ (x : Pending). x.request) p.1)
         e.items e.ids e.current e.given_up e.issued e.posted;
       current = e.current ∙ i.current;
       same = e.current ∙ i.same;
