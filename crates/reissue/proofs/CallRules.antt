@@ -1,6 +1,6 @@
 -- Each call's acts, together, are acts that the rules allow.
 use Rattle.std.proofs.Common.{◌≡◌, ℕ, ◌+◌, ◌-◌, ◌<◌, ◌≤◌, List, [], ◌∷◌, ◌++◌, length, drop, map, max, Bool, true, false, cond, refl, sym, ◌∙◌, ap, subst, arith, append_assoc, Option, Some, None}
-use Rattle.std.proofs.lemmas.Bool.Decides.{leb_tells, nat_tests}
+use Rattle.std.proofs.lemmas.Bool.Decides.{nat_tests}
 use Rattle.std.proofs.lemmas.List.{length-append, length-drop, length-map, map-append}
 use Rattle.std.specs.Prelude.{nat_lt, is_some, ◌&&◌, ◌==◌, MatchBool}
 use Rattle.endpoint.specs.declared.Endpoint.{Endpoint}
@@ -9,7 +9,7 @@ use Rattle.message.specs.declared.BlockReply.{BlockReply}
 use Rattle.message.specs.declared.Incoming.{Incoming}
 use Rattle.message.specs.declared.Incoming.TheVariants as incoming
 use Rattle.marks.specs.Marks.{Mark, Answered, gave_up}
-use Rattle.marks.specs.Open.{open_requests, greatest, counts}
+use Rattle.marks.specs.Open.{open_requests, counts}
 use Rattle.marks.specs.Told.{Told, Posted, Complained, Received, received, grown, with_told}
 use Rattle.marks.specs.Acts.{Act, Began, Absorbed, AtLink, Outbox, KeepsRules, MayAct, outbox_after, marks_after, told_of}
 use Rattle.marks.proofs.ActLaws.{acts_compose}
@@ -17,7 +17,7 @@ use Rattle.reissue.specs.declared.pending.Pending.{Pending}
 use Rattle.reissue.specs.declared.table.Table.{Table}
 use Rattle.reissue.specs.Moves.{IsBusy}
 use Rattle.reissue.specs.Entries.{AllOfMinor, request_of, pending_of}
-use Rattle.reissue.specs.Agrees.{Agrees, target, unposted, never_issued}
+use Rattle.reissue.specs.Agrees.{Agrees, unposted, never_issued}
 use Rattle.reissue.specs.Hears.{Hears, IsUnanswered}
 use Rattle.reissue.specs.Posts.{OnlyPosts, PostsInOrder, PostsAfter, accepted_of, complaints_about, due_after, is_message}
 use Rattle.reissue.specs.Rules.{outbox_of, KeepsRulesBy}
@@ -25,7 +25,7 @@ use Rattle.reissue.proofs.Order.{append_cancel, drop_push}
 use Rattle.reissue.proofs.Settling.{minors_push}
 use Rattle.reissue.proofs.PostRules.{at_link, told_at_link, box, box_same}
 use Rattle.reissue.proofs.TableRules.{loose, ends_same, table_posts, PostsKeep, at_rest, needed}
-use Rattle.reissue.proofs.StepRules.{Arrives, Heard, heard}
+use Rattle.reissue.proofs.StepRules.{Arrives, heard}
 
 -- the marks of what the link was told
 marks_at_link : (told : List Told) (marks : List Mark) → marks_after (at_link told) marks ≡ grown told marks
@@ -40,15 +40,15 @@ posts_then : (minor : ℕ) (acts : List Act) (posts : List Told) (old mid new : 
 posts_then minor acts posts old mid new marks M before after keeps owes grows told y =
     let c = acts_compose minor (at_link posts) acts marks (outbox_of old) in
     let second : KeepsRules minor (at_link posts) (marks_after acts marks) (outbox_after acts marks (outbox_of old)) =
-        subst (λ (ms : List Mark). KeepsRules minor (at_link posts) ms (outbox_after acts marks (outbox_of old))) (sym grows)
-        (subst (λ (o : Outbox). KeepsRules minor (at_link posts) M o) (sym owes) y.keeps) in
+    subst (λ (ms : List Mark). KeepsRules minor (at_link posts) ms (outbox_after acts marks (outbox_of old))) (sym grows)
+    (subst (λ (o : Outbox). KeepsRules minor (at_link posts) M o) (sym owes) y.keeps) in
     record {
       told = told ∙ sym (append_assoc posts (told_of acts) before)
-        ∙ ap (λ (l : List Told). (l ++ told_of acts) ++ before) (sym (told_at_link posts)) ∙ ap (λ (l : List Told). l ++ before) (sym c.told);
+          ∙ ap (λ (l : List Told). (l ++ told_of acts) ++ before) (sym (told_at_link posts)) ∙ ap (λ (l : List Told). l ++ before) (sym c.told);
       grows = c.record_after ∙ ap (λ (ms : List Mark). marks_after (at_link posts) ms) grows ∙ marks_at_link posts M;
       keeps = c.keep keeps second;
       owes = c.owed ∙ ap (λ (ms : List Mark). outbox_after (at_link posts) ms (outbox_after acts marks (outbox_of old))) grows
-        ∙ ap (λ (o : Outbox). outbox_after (at_link posts) M o) owes ∙ y.owes;
+          ∙ ap (λ (o : Outbox). outbox_after (at_link posts) M o) owes ∙ y.owes;
     }
 
 -- posts give nothing up
@@ -92,37 +92,41 @@ message_rules : (minor : ℕ) (act : Act) (m : Incoming) (old mid new : Table) (
     → (acts : List Act) × KeepsRulesBy acts minor old new before after marks (grown posts (received m marks))
 message_rules minor act m old mid new marks before between after posts complaints arrives h k hears g minors due order history here pending posted issued current =
     by m refl where
-  whole : (n : Incoming) → n ≡ m → is_message n ≡ true → (acts : List Act) × KeepsRulesBy acts minor old new before after marks (grown posts (received m marks))
-  whole n e message =
-      let real : is_message m ≡ true = ap is_message (sym e) ∙ message in
-      let x = heard minor act m old mid marks arrives h k hears g real in
-      let order' : PostsInOrder mid.current (unposted mid) (complaints ++ between) after =
+      whole : (n : Incoming) → n ≡ m → is_message n ≡ true → (acts : List Act) × KeepsRulesBy acts minor old new before after marks (grown posts (received m marks))
+      whole n e message =
+          let real : is_message m ≡ true = ap is_message (sym e) ∙ message in
+          let x = heard minor act m old mid marks arrives h k hears g real in
+          let order' : PostsInOrder mid.current (unposted mid) (complaints ++ between) after =
           subst (λ (b : Bool). MatchBool b (PostsInOrder mid.current (unposted mid) (complaints ++ between) after) (after ≡ complaints ++ between)) real order in
-      let y = table_posts minor mid new (received m marks) (complaints ++ between) after posts k.holds.current g current minors order' history pending posted issued in
-      let told : after ≡ posts ++ (told_of x.acts ++ before) =
+          let y = table_posts minor mid new (received m marks) (complaints ++ between) after posts k.holds.current g current minors order' history pending posted issued in
+          let told : after ≡ posts ++ (told_of x.acts ++ before) =
           history ∙ ap (λ (l : List Told). posts ++ l)
-            (ap (λ (l : List Told). complaints ++ l) here ∙ sym (append_assoc complaints (told_of (act ∷ [])) before)
-              ∙ ap (λ (l : List Told). (l ++ told_of (act ∷ [])) ++ before) due ∙ ap (λ (l : List Told). l ++ before) (sym x.told)) in
-      (at_link posts ++ x.acts, posts_then minor x.acts posts old mid new marks (received m marks) before after x.keeps x.owes x.grows told y)
-  ended : m ≡ incoming.End → (acts : List Act) × KeepsRulesBy acts minor old new before after marks (grown posts (received m marks))
-  ended e =
-      let no_complaint : complaints ≡ [] = due ∙ ap (λ (n : Incoming). complaints_about (due_after n marks)) e in
-      let quiet : after ≡ complaints ++ between = subst (λ (n : Incoming). PostsAfter n mid (complaints ++ between) after) e order in
-      let no_post : posts ≡ [] = append_cancel posts [] (complaints ++ between) (sym history ∙ quiet) in
-      let x = subst (λ (n : Incoming). Hears n old mid marks) e hears in
-      let nothing : new.posted ≡ mid.posted = omega (arith, posted, ap accepted_of no_post) in
-      (act ∷ [], record {
-        told = quiet ∙ ap (λ (l : List Told). l ++ between) no_complaint ∙ here;
-        grows = arrives.grows ∙ ap (λ (l : List Told). grown l (received m marks)) (sym no_post);
-        keeps = (tt, arrives.may);
-        owes = arrives.owed ∙ rw e (owes_same old mid new x.0 x.1 pending nothing issued current);
-      })
-  by : (n : Incoming) → n ≡ m → (acts : List Act) × KeepsRulesBy acts minor old new before after marks (grown posts (received m marks))
-  by incoming.End e = ended (sym e)
-  by (incoming.Reply a) e = whole (incoming.Reply a) e refl
-  by (incoming.Started d) e = whole (incoming.Started d) e refl
-  by incoming.GaveUp e = whole incoming.GaveUp e refl
-  by incoming.Flush e = whole incoming.Flush e refl
+          (ap (λ (l : List Told). complaints ++ l) here ∙ sym (append_assoc complaints (told_of (act ∷ [])) before)
+          ∙ ap (λ (l : List Told). (l ++ told_of (act ∷ [])) ++ before) due ∙ ap (λ (l : List Told). l ++ before) (sym x.told)) in
+          (at_link posts ++ x.acts, posts_then minor x.acts posts old mid new marks (received m marks) before after x.keeps x.owes x.grows told y)
+
+      ended : m ≡ incoming.End → (acts : List Act) × KeepsRulesBy acts minor old new before after marks (grown posts (received m marks))
+      ended e =
+          let no_complaint : complaints ≡ [] = due ∙ ap (λ (n : Incoming). complaints_about (due_after n marks)) e in
+          let quiet : after ≡ complaints ++ between = subst (λ (n : Incoming). PostsAfter n mid (complaints ++ between) after) e order in
+          let no_post : posts ≡ [] = append_cancel posts [] (complaints ++ between) (sym history ∙ quiet) in
+          let x = subst (λ (n : Incoming). Hears n old mid marks) e hears in
+          let nothing : new.posted ≡ mid.posted = omega (arith, posted, ap accepted_of no_post) in (
+            act ∷ [],
+            record {
+              told = quiet ∙ ap (λ (l : List Told). l ++ between) no_complaint ∙ here;
+              grows = arrives.grows ∙ ap (λ (l : List Told). grown l (received m marks)) (sym no_post);
+              keeps = (tt, arrives.may);
+              owes = arrives.owed ∙ rw e (owes_same old mid new x.0 x.1 pending nothing issued current);
+            },
+          )
+
+      by : (n : Incoming) → n ≡ m → (acts : List Act) × KeepsRulesBy acts minor old new before after marks (grown posts (received m marks))
+      by incoming.End e = ended (sym e)
+      by (incoming.Reply a) e = whole (incoming.Reply a) e refl
+      by (incoming.Started d) e = whole (incoming.Started d) e refl
+      by incoming.GaveUp e = whole incoming.GaveUp e refl
+      by incoming.Flush e = whole incoming.Flush e refl
 
 -- not given up after the posts
 live_after : (m : Incoming) (new : Table) (marks : List Mark) (posts : List Told) → OnlyPosts posts → Agrees new (grown posts (received m marks))
@@ -140,7 +144,7 @@ pub absorb_rules : (minor : ℕ) (m : Incoming) (old mid new : Table) (marks : L
 absorb_rules minor m old mid new marks before after posts complaints h k l hears minors due order history only pending posted issued current going =
     let live = live_after m new marks posts only l going in
     let arrives : Arrives minor (Absorbed m) m marks (outbox_of old) =
-        record { grows = refl; owed = refl; may = at_rest old marks h (live_before m marks live) } in
+    record { grows = refl; owed = refl; may = at_rest old marks h (live_before m marks live) } in
     message_rules minor (Absorbed m) m old mid new marks before before after posts complaints arrives h k hears live minors due order history refl
     pending posted issued current
 
@@ -156,7 +160,7 @@ step_rules minor m old mid new marks before after posts complaints h k l hears m
     let live = live_after m new marks posts only l going in
     let was = live_before m marks live in
     let arrives : Arrives minor (AtLink (Received m)) m marks (outbox_of old) =
-        record { grows = refl; owed = refl; may = record { at_rest = at_rest old marks h was; needed = needed old marks h was busy } } in
+    record { grows = refl; owed = refl; may = record { at_rest = at_rest old marks h was; needed = needed old marks h was busy } } in
     message_rules minor (AtLink (Received m)) m old mid new marks before (Received m ∷ before) after posts complaints arrives h k hears live minors due order
     history refl pending posted issued current
 
@@ -167,7 +171,7 @@ may_begin minor old marks r h id few =
     let both : length h.opened + length h.waiting ≡ length old.pending = sym (length-append h.opened h.waiting) ∙ ap (λ (l : List Pending). length l) (sym h.holds.items) in
     let never : length (never_issued old) ≡ length old.pending - old.issued = length-map (drop old.issued old.pending) request_of ∙ length-drop old.issued old.pending in
     let open_count : length (open_requests marks) ≡ old.issued =
-        ap (λ (l : List BlockRequest). length l) (sym h.holds.requests) ∙ length-map h.opened request_of ∙ sym h.holds.issued in
+    ap (λ (l : List BlockRequest). length l) (sym h.holds.requests) ∙ length-map h.opened request_of ∙ sym h.holds.issued in
     record {
       next = omega (arith, id, h.holds.ids, both, never, h.holds.issued);
       room = omega (arith, open_count, never, few, old.within);
@@ -202,37 +206,44 @@ pub begin_rules : (minor : ℕ) (old mid new : Table) (p : Pending) (due : Bool)
     → (acts : List Act) × KeepsRulesBy acts minor old new before after marks (grown posts marks)
 begin_rules minor old mid new p due marks before after posts h minors minor_is items posted_is issued_is here there id few is_due order history pending posted issued going =
     by (old.posted == length old.pending) refl (subst (λ (b : Bool). MatchBool b (PostsInOrder mid.current (unposted mid) before after) (after ≡ before)) is_due order) where
-  live : gave_up marks ≡ false
-  live = sym h.holds.given_up ∙ going
-  may : MayAct minor marks (outbox_of old) (Began p.request)
-  may = may_begin minor old marks p.request h id few
-  never : never_issued old ++ p.request ∷ [] ≡ never_issued mid
-  never = pushed old.issued mid.issued old.pending mid.pending p (sym issued_is) old.within items
-  rest : unposted old ++ p.request ∷ [] ≡ unposted mid
-  rest = pushed old.posted mid.posted old.pending mid.pending p (sym posted_is) (omega (arith, old.order, old.within)) items
-  minors' : AllOfMinor minor mid.pending
-  minors' = subst (λ (l : List Pending). AllOfMinor minor l) (sym items) (minors_push minor old.pending p minors minor_is)
-  by : (b : Bool) → (old.posted == length old.pending) ≡ b → MatchBool b (PostsInOrder mid.current (unposted mid) before after) (after ≡ before)
-      → (acts : List Act) × KeepsRulesBy acts minor old new before after marks (grown posts marks)
-  by true e order =
-      let full : box (never_issued old ++ p.request ∷ []) (unposted old ++ p.request ∷ []) (is_some old.current && nat_lt old.posted (length old.pending)) ≡ loose mid =
+      live : gave_up marks ≡ false
+      live = sym h.holds.given_up ∙ going
+
+      may : MayAct minor marks (outbox_of old) (Began p.request)
+      may = may_begin minor old marks p.request h id few
+
+      never : never_issued old ++ p.request ∷ [] ≡ never_issued mid
+      never = pushed old.issued mid.issued old.pending mid.pending p (sym issued_is) old.within items
+
+      rest : unposted old ++ p.request ∷ [] ≡ unposted mid
+      rest = pushed old.posted mid.posted old.pending mid.pending p (sym posted_is) (omega (arith, old.order, old.within)) items
+
+      minors' : AllOfMinor minor mid.pending
+      minors' = subst (λ (l : List Pending). AllOfMinor minor l) (sym items) (minors_push minor old.pending p minors minor_is)
+
+      by : (b : Bool) → (old.posted == length old.pending) ≡ b → MatchBool b (PostsInOrder mid.current (unposted mid) before after) (after ≡ before)
+          → (acts : List Act) × KeepsRulesBy acts minor old new before after marks (grown posts marks)
+      by true e order =
+          let full : box (never_issued old ++ p.request ∷ []) (unposted old ++ p.request ∷ []) (is_some old.current && nat_lt old.posted (length old.pending)) ≡ loose mid =
           box_same (never_issued old ++ p.request ∷ []) (never_issued mid) (unposted old ++ p.request ∷ []) (unposted mid)
           (is_some old.current && nat_lt old.posted (length old.pending)) false never rest (stopped_none old.current old.posted (length old.pending) e) in
-      let y = table_posts minor mid new marks before after posts (here ∙ h.holds.current) live there minors' order history pending posted issued in
-      (at_link posts ++ (Began p.request ∷ []), posts_then minor (Began p.request ∷ []) posts old mid new marks marks before after (tt, may) full refl history y)
-  by false e order =
-      let no_post : posts ≡ [] = append_cancel posts [] before (sym history ∙ order) in
-      let nothing : new.posted ≡ mid.posted = omega (arith, posted, ap accepted_of no_post) in
-      let longer : length mid.pending ≡ length old.pending + 1 = ap (λ (l : List Pending). length l) items ∙ omega (arith, length-append old.pending (p ∷ [])) in
-      (Began p.request ∷ [], record {
-        told = order;
-        grows = ap (λ (l : List Told). grown l marks) (sym no_post);
-        keeps = (tt, may);
-        owes =
-          box_same (never_issued old ++ p.request ∷ []) (never_issued new) (unposted old ++ p.request ∷ []) (unposted new)
-          (is_some old.current && nat_lt old.posted (length old.pending)) (is_some new.current && nat_lt new.posted (length new.pending))
-          (never ∙ ends_same mid.issued new.issued mid.pending new.pending (omega (arith, issued, nothing, mid.order)) (sym pending))
-          (rest ∙ ends_same mid.posted new.posted mid.pending new.pending (sym nothing) (sym pending))
-          (stopped_same old.current old.posted (length old.pending) (omega (arith, old.order, old.within)) e
-            ∙ rw (there, here, nothing, posted_is, pending, longer) refl);
-      })
+          let y = table_posts minor mid new marks before after posts (here ∙ h.holds.current) live there minors' order history pending posted issued in
+          (at_link posts ++ (Began p.request ∷ []), posts_then minor (Began p.request ∷ []) posts old mid new marks marks before after (tt, may) full refl history y)
+      by false e order =
+          let no_post : posts ≡ [] = append_cancel posts [] before (sym history ∙ order) in
+          let nothing : new.posted ≡ mid.posted = omega (arith, posted, ap accepted_of no_post) in
+          let longer : length mid.pending ≡ length old.pending + 1 = ap (λ (l : List Pending). length l) items ∙ omega (arith, length-append old.pending (p ∷ [])) in (
+            Began p.request ∷ [],
+            record {
+              told = order;
+              grows = ap (λ (l : List Told). grown l marks) (sym no_post);
+              keeps = (tt, may);
+              owes =
+                  box_same (never_issued old ++ p.request ∷ []) (never_issued new) (unposted old ++ p.request ∷ []) (unposted new)
+                  (is_some old.current && nat_lt old.posted (length old.pending)) (is_some new.current && nat_lt new.posted (length new.pending))
+                  (never ∙ ends_same mid.issued new.issued mid.pending new.pending (omega (arith, issued, nothing, mid.order)) (sym pending))
+                  (rest ∙ ends_same mid.posted new.posted mid.pending new.pending (sym nothing) (sym pending))
+                  (stopped_same old.current old.posted (length old.pending) (omega (arith, old.order, old.within)) e
+                  ∙ rw (there, here, nothing, posted_is, pending, longer) refl);
+            },
+          )

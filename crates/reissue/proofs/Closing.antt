@@ -1,18 +1,17 @@
 -- What an answer does to the pending requests as those who began them see them, and to the disk.
-use Rattle.std.proofs.Common.{◌≡◌, ◌≢◌, ◌⊎◌, ℕ, suc, zero, ◌+◌, ◌-◌, ◌<◌, ◌≤◌, List, [], ◌∷◌, ◌++◌, length, get_or, Bool, true, false, cond, refl, sym, ◌∙◌, ap, subst, inl, inr, arith, Option, Some, None}
+use Rattle.std.proofs.Common.{◌≡◌, ℕ, suc, zero, ◌+◌, ◌<◌, ◌≤◌, List, [], ◌∷◌, ◌++◌, length, get_or, Bool, true, false, cond, refl, sym, ◌∙◌, ap, subst, inl, inr, arith, Option, Some, None}
 use Rattle.std.specs.Prelude.{◌==◌, slice_index, remove}
 use Rattle.message.specs.declared.Kind.{Kind}
 use Rattle.message.specs.declared.Kind.TheVariants as kind
 use Rattle.message.specs.declared.BlockRequest.{BlockRequest}
 use Rattle.message.specs.declared.BlockReply.{BlockReply}
-use Rattle.reissue.specs.declared.ask.Settled.{Settled}
 use Rattle.reissue.specs.declared.ask.Settled.TheVariants as settled
 use Rattle.reissue.specs.declared.pending.Pending.{Pending}
 use Rattle.reissue.specs.declared.table.Table.{Table}
 use Rattle.reissue.proofs.Answering.{Taken, AreDisk}
-use Rattle.reissue.proofs.Writes.{AreWritten, spares_answered, spares_same, is_written, wrote_rest, wrote_all}
-use Rattle.reissue.proofs.Tickets.{rising_out, rising_push, pending_among, pending_removed, pending_rest, pending_here, split_at, Split, among_split, among_at, distinct_out, distinct_push, up_to_out, up_to_push, pending_pushed, pending_none, fresh_above}
-use Rattle.marks.specs.Disk.{Contents, HasTrueReplies, unsure}
+use Rattle.reissue.proofs.Writes.{AreWritten, spares_same, is_written, wrote_rest, wrote_all}
+use Rattle.reissue.proofs.Tickets.{rising_out, rising_push, pending_among, pending_removed, pending_rest, split_at, among_at, distinct_out, distinct_push, up_to_out, up_to_push}
+use Rattle.marks.specs.Disk.{Contents, HasTrueReplies}
 use Rattle.marks.specs.Marks.{Answered, Mark}
 use Rattle.marks.specs.Open.{asked_by, moved_by}
 use Rattle.message.specs.Good.{is_write}
@@ -39,10 +38,10 @@ tickets_out ids ps at e lt is h =
 pub tickets_push : (ids : ℕ) (ps : List Pending) (q : Pending) → HasNumbers ids ps → IsFresh q.ticket ps → q.ticket ≤ ids + 1 → q.request.id ≡ ids + 1
     → HasNumbers (ids + 1) (ps ++ q ∷ [])
 tickets_push ids ps q h f le e = record {
-    distinct = distinct_push q ps h.distinct f;
-    up_to = up_to_push ids q ps h.up_to le;
-    rising = rising_push 0 ids q ps (omega arith) e h.rising;
-  }
+  distinct = distinct_push q ps h.distinct f;
+  up_to = up_to_push ids q ps h.up_to le;
+  rising = rising_push 0 ids q ps (omega arith) e h.rising;
+}
 
 -- without one, its ticket is free
 removed_put : (ps : List Pending) (at : ℕ) (e : Pending) → at < length ps → e ≡ get_or ps at e → AreDistinct ps
@@ -62,16 +61,25 @@ pub closes_written : (ps us : List Pending) (at t : ℕ) (e : Pending) (ids : �
     → us ≡ remove ps at → t ≡ e.ticket → is_write e.request.kind ≡ true
     → Closes (settled.Written t) (pending_of ps) (pending_of us)
 closes_written ps us at t e ids lt is h items ticket w =
-    rw (ticket, items) (begun_of e, e.bytes, pending_among e ps h.distinct (among_here ps at e lt is),
-      is_written e.request.kind e.bytes w, removed_put ps at e lt is h.distinct)
+    rw (ticket, items) (
+      begun_of e,
+      e.bytes,
+      pending_among e ps h.distinct (among_here ps at e lt is),
+      is_written e.request.kind e.bytes w,
+      removed_put ps at e lt is h.distinct,
+    )
 
 -- a read is settled
 pub closes_read : (ps us : List Pending) (at t : ℕ) (bytes : List ℕ) (e : Pending) (ids : ℕ) → at < length ps → e ≡ get_or ps at e → HasNumbers ids ps
     → us ≡ remove ps at → t ≡ e.ticket → is_write e.request.kind ≡ false
     → Closes (settled.Read t bytes) (pending_of ps) (pending_of us)
 closes_read ps us at t bytes e ids lt is h items ticket w =
-    rw (ticket, items) (begun_of e, pending_among e ps h.distinct (among_here ps at e lt is),
-      not_written e.request.kind e.bytes w, removed_put ps at e lt is h.distinct)
+    rw (ticket, items) (
+      begun_of e,
+      pending_among e ps h.distinct (among_here ps at e lt is),
+      not_written e.request.kind e.bytes w,
+      removed_put ps at e lt is h.distinct,
+    )
 
 -- a request as it was begun, by its parts
 abbrev begun : ℕ → ℕ → Option (List ℕ) → Begun
@@ -111,8 +119,8 @@ tells_read ps e image more bytes d i h = λ r is.
     let same : begun_of e ≡ r = some_same (sym (pending_among e ps d i) ∙ is) in
     subst (λ (x : Begun). (k : ℕ) → k < x.size → (state_after image more).unsure (x.start + k) ≡ false → slice_index bytes k ≡ (state_after image more).disk (x.start + k)) same h.each
   where
-  some_same : {r : Begun} → Some (begun_of e) ≡ Some r → begun_of e ≡ r
-  some_same h = cc
+    some_same : {r : Begun} → Some (begun_of e) ≡ Some r → begun_of e ≡ r
+    some_same h = cc
 
 -- a settled read has the answers' bytes
 pub joins_read : (ps : List Pending) (e : Pending) (more : List Mark) (bytes : List ℕ)
@@ -122,8 +130,8 @@ joins_read ps e more bytes d i h = λ r is.
     let same : begun_of e ≡ r = some_same (sym (pending_among e ps d i) ∙ is) in
     subst (λ (x : Begun). (k : ℕ) → k < x.size → slice_index bytes k ≡ bytes_read more (x.start + k)) same h
   where
-  some_same : {r : Begun} → Some (begun_of e) ≡ Some r → begun_of e ≡ r
-  some_same h = cc
+    some_same : {r : Begun} → Some (begun_of e) ≡ Some r → begun_of e ≡ r
+    some_same h = cc
 
 -- a settled write is the disk's, and sure
 pub tells_written : (ps : List Pending) (e : Pending) (image : Contents) (more : List Mark)
@@ -137,10 +145,11 @@ tells_written ps e image more d i w h = λ r bytes is wr k lt.
     let x = h.each k (omega (arith, lt, z)) in
     rw (← s, ← b) x
   where
-  some_same : {r : Begun} → Some (begun_of e) ≡ Some r → begun_of e ≡ r
-  some_same h = cc
-  some_bytes : {b : List ℕ} → Some e.bytes ≡ Some b → e.bytes ≡ b
-  some_bytes h = cc
+    some_same : {r : Begun} → Some (begun_of e) ≡ Some r → begun_of e ≡ r
+    some_same h = cc
+
+    some_bytes : {b : List ℕ} → Some e.bytes ≡ Some b → e.bytes ≡ b
+    some_bytes h = cc
 
 -- a place of an entry that is apart from all pending ones
 pub quiet_apart : (e : Pending) (ps : List Pending) (place : ℕ) → ApartFromAll e ps → e.start ≤ place → place < e.start + e.size
@@ -151,10 +160,12 @@ quiet_apart e ps place a from to = record { none = λ t r bytes is w touch. none
       let s : q.start ≡ r.start = ap (λ (x : Begun). x.start) is in
       let z : q.size ≡ r.size = ap (λ (x : Begun). x.size) is in
       elim a.apart [ inl l ↦ omega (arith, l, s, z, touch.from, touch.to, from, to) | inr l ↦ omega (arith, l, s, z, touch.from, touch.to, from, to) ]
+
   by : (q : Pending) (rest : Option Begun) (r : Begun) (b : Bool) → Apart e q → cond b (Some (begun_of q)) rest ≡ Some r
       → (rest ≡ Some r → ⊥) → Touches r place → ⊥
   by q rest r true a is more touch = let same : begun_of q ≡ r = cc in here q r a same touch
   by q rest r false a is more touch = more is
+
   none : (ps : List Pending) → ApartFromAll e ps → (t : ℕ) (r : Begun) → pending_of ps t ≡ Some r → Touches r place → ⊥
   none [] a t r is touch = cc
   none (q ∷ qs) a t r is touch = by q (pending_of qs t) r (q.ticket == t) a.0 is (λ m. none qs a.1 t r m touch) touch
@@ -173,10 +184,10 @@ pub closing_read : (ps us : List Pending) (marks more : List Mark) (e : Pending)
     → ((k : ℕ) → k < e.size → slice_index bytes k ≡ bytes_read more (e.start + k))
     → Closing (settled.Read t bytes) ps us marks more
 closing_read ps us marks more e t bytes d i ticket s h j = rw ticket (record {
-    moves = λ image tr. record { spares = s image; tells = tells_read ps e image more bytes d i (h image tr) };
-    joins = joins_read ps e more bytes d i j;
-    leaves = tt;
-  })
+  moves = λ image tr. record { spares = s image; tells = tells_read ps e image more bytes d i (h image tr) };
+  joins = joins_read ps e more bytes d i j;
+  leaves = tt;
+})
 
 -- a write is settled
 pub closing_written : (ps us : List Pending) (marks more : List Mark) (e : Pending) (t : ℕ)
@@ -186,14 +197,14 @@ pub closing_written : (ps us : List Pending) (marks more : List Mark) (e : Pendi
     → ApartFromAll e us
     → Closing (settled.Written t) ps us marks more
 closing_written ps us marks more e t d i ticket w s h a = rw ticket (record {
-    moves = λ image tr. record { spares = s image; tells = tells_written ps e image more d i w (h image) };
-    joins = tt;
-    leaves = λ r is place touch.
+  moves = λ image tr. record { spares = s image; tells = tells_written ps e image more d i w (h image) };
+  joins = tt;
+  leaves = λ r is place touch.
       let same : begun_of e ≡ r = some_same (sym (pending_among e ps d i) ∙ is) in
       let s : e.start ≡ r.start = ap (λ (x : Begun). x.start) same in
       let z : e.size ≡ r.size = ap (λ (x : Begun). x.size) same in
       quiet_apart e us place a (omega (arith, s, touch.from)) (omega (arith, s, z, touch.to));
-  }) where
+}) where
   some_same : {r : Begun} → Some (begun_of e) ≡ Some r → begun_of e ≡ r
   some_same h = cc
 
@@ -232,5 +243,5 @@ pub done_writes : (t v : Table) (marks : List Mark) (image : Contents) (a : Bloc
     → AreWritten image (Answered a ∷ marks) e.start e.size e.bytes
 done_writes t v marks image a e r n x m w start size position count none bytes =
     let all = wrote_rest image marks a e r n x.there m x.within w (x.writes image w) start position count
-        (λ k. ap (λ (l : List ℕ). slice_index l k) bytes) (λ k lt. absurd (omega (arith, lt, none))) in
+    (λ k. ap (λ (l : List ℕ). slice_index l k) bytes) (λ k lt. absurd (omega (arith, lt, none))) in
     rw (← start, ← size, ← bytes) (wrote_all image (Answered a ∷ marks) r none all)

@@ -1,8 +1,8 @@
 -- Looking for an entry from the front of a list.
 use Rattle.std.proofs.Common.{◌≡◌, ℕ, suc, zero, ◌+◌, ◌<◌, ◌≤◌, List, [], ◌∷◌, length, take, get_or, Bool, true, false, cond, refl, sym, ◌∙◌, ap, arith, Option, Some, None}
 use Rattle.std.proofs.lemmas.Iterator.Adapters.{position_from-zero}
-use Rattle.std.specs.List.{position_from, list_any}
-use Rattle.std.specs.Prelude.{position, ◌||◌}
+use Rattle.std.specs.List.{position_from}
+use Rattle.std.specs.Prelude.{position}
 use Rattle.reissue.specs.declared.pending.Pending.{Pending}
 
 -- nothing stands only where the test fails

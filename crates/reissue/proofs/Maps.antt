@@ -21,7 +21,7 @@ is_put {X} f g n x here there = λ i m. each m i
     each m = elim (cases_eq m n) [
       | inl e ↦ ap g e ∙ here ∙ sym (ap (put f n x) e ∙ put-same f n x)
       | inr h ↦ there m h ∙ sym (put-other f n x m h)
-      ]
+    ]
 
 -- at any place
 pub put_cases : {X : Type 0} (f : ℕ → X) (n : ℕ) (x : X) (m : ℕ)
@@ -29,4 +29,4 @@ pub put_cases : {X : Type 0} (f : ℕ → X) (n : ℕ) (x : X) (m : ℕ)
 put_cases f n x m = elim (cases_eq m n) [
   | inl e ↦ inl (e, ap (put f n x) e ∙ put-same f n x)
   | inr h ↦ inr (h, put-other f n x m h)
-  ]
+]

@@ -1,5 +1,5 @@
 -- Lists of pending requests in the rising order of their ids: what taking one out leaves of their ends.
-use Rattle.std.proofs.Common.{◌≡◌, ◌≢◌, ◌⊎◌, ℕ, suc, zero, ◌+◌, ◌-◌, ◌<◌, ◌≤◌, List, [], ◌∷◌, ◌++◌, length, drop, map, get_or, Bool, true, false, cond, refl, sym, ◌∙◌, ap, subst, inl, inr, arith}
+use Rattle.std.proofs.Common.{◌≡◌, ℕ, suc, zero, ◌+◌, ◌-◌, ◌<◌, ◌≤◌, List, [], ◌∷◌, ◌++◌, length, drop, map, get_or, cond, refl, sym, ◌∙◌, ap, subst, inl, inr, arith}
 use Rattle.std.proofs.lemmas.Bool.{cond-true, cond-false, eq-eqb, ne_eqb}
 use Rattle.std.proofs.lemmas.Bool.Decides.{leb_tells, nat_tests}
 use Rattle.std.proofs.lemmas.List.{length-append}
@@ -74,9 +74,9 @@ without_posted ids at n k ps e h lt is count = by n count where
       let same : k ≡ 0 = grind (arith, nat_tests) in
       rw same (without_after 0 ids 0 at ps e h lt is (omega arith))
   by (suc m) c = elim (leb_tells (suc m) at) [
-      inl le ↦ let same : k ≡ suc m = grind (arith, nat_tests) in rw same (without_after 0 ids (suc m) at ps e h lt is le.1)
+    | inl le ↦ let same : k ≡ suc m = grind (arith, nat_tests) in rw same (without_after 0 ids (suc m) at ps e h lt is le.1)
     | inr gt ↦ let same : k ≡ m = grind (arith, nat_tests) in rw same (without_before 0 ids m at ps e h lt is (omega (arith, gt.1)))
-    ]
+  ]
 
 -- what stands behind the entry stays
 pub drop_removed : (m at : ℕ) (ps : List Pending) → at ≤ m → drop m (remove ps at) ≡ drop (suc m) ps

@@ -1,5 +1,5 @@
 -- What posts leave of what an answer told.
-use Rattle.std.proofs.Common.{◌≡◌, ◌≢◌, ◌⊎◌, ℕ, ◌+◌, ◌<◌, ◌≤◌, List, [], ◌∷◌, Bool, true, false, cond, refl, sym, ◌∙◌, ap, subst, inl, inr, Option, Some, None, arith}
+use Rattle.std.proofs.Common.{◌≡◌, ℕ, ◌+◌, ◌<◌, List, [], ◌∷◌, Bool, true, false, refl, sym, ◌∙◌, subst, inl, inr, Option, Some, None, arith}
 use Rattle.std.specs.Prelude.{◌||◌}
 use Rattle.reissue.specs.declared.ask.Settled.{Settled}
 use Rattle.reissue.specs.declared.ask.Settled.TheVariants as settled
@@ -7,14 +7,12 @@ use Rattle.reissue.proofs.Maps.{put_cases}
 use Rattle.reissue.specs.declared.pending.Pending.{Pending}
 use Rattle.reissue.proofs.Writes.{spares_then}
 use Rattle.reissue.proofs.Tickets.{pending_here}
-use Rattle.reissue.specs.declared.table.Table.{Table}
 use Rattle.std.proofs.Common.{length}
 use Rattle.std.specs.List.{list_any}
 use Rattle.marks.specs.Disk.{Contents, HasTrueReplies, disk_after, unsure}
-use Rattle.marks.specs.Marks.{Flush, GaveUp, Mark}
+use Rattle.marks.specs.Marks.{Mark}
 use Rattle.marks.specs.Told.{Complained, Posted, Received, Told, grown}
-use Rattle.reissue.specs.Agrees.{Agrees}
-use Rattle.reissue.specs.Calls.{Closing, Leads, LeavesQuiet}
+use Rattle.reissue.specs.Calls.{Closing, LeavesQuiet}
 use Rattle.reissue.specs.Entries.{begun_of, pending_of}
 use Rattle.marks.specs.Disk.{bytes_read}
 use Rattle.reissue.specs.Moves.{Begun, Closes, Joins, IsBusy, IsQuiet, Spares, Tells, put, state_after}
@@ -22,10 +20,12 @@ use Rattle.reissue.specs.Posts.{OnlyPosts}
 
 -- a place stays quiet when a request is settled
 quiet_put : (f : ℕ → Option Begun) (t p : ℕ) → IsQuiet f p → IsQuiet (put f t None) p
-quiet_put f t p h = record { none = λ m r bytes is w touch. elim (put_cases f t None m) [
+quiet_put f t p h = record {
+  none = λ m r bytes is w touch. elim (put_cases f t None m) [
     | inl e ↦ absurd (none_some (sym e.1 ∙ is))
     | inr e ↦ h.none m r bytes (sym e.1 ∙ is) w touch
-    ] } where
+  ];
+} where
   none_some : {r : Begun} → None ≡ Some r → ⊥
   none_some h = cc
 
@@ -99,17 +99,19 @@ pub closing_posted : (res : Settled) (ps ts us : List Pending) (marks mid : List
     → ((image : Contents) → Spares (pending_of ts) (state_after image mid) (state_after image (grown es mid)))
     → Closing res ps ts marks mid → Closing res ps us marks (grown es mid)
 closing_posted res ps ts us marks mid es o same c before s h = record {
-    moves = λ image tr.
+  moves = λ image tr.
       let m = h.moves image (before image tr) in
       record {
         spares = spares_then (pending_of ps) (state_after image marks) (state_after image mid) (state_after image (grown es mid)) m.spares
-          (record { disk = λ p q. (s image).disk p (quiet_closed res (pending_of ps) (pending_of ts) c p q);
-                    sure = λ p q u. (s image).sure p (quiet_closed res (pending_of ps) (pending_of ts) c p q) u });
+            (record {
+              disk = λ p q. (s image).disk p (quiet_closed res (pending_of ps) (pending_of ts) c p q);
+              sure = λ p q u. (s image).sure p (quiet_closed res (pending_of ps) (pending_of ts) c p q) u;
+            });
         tells = tells_posted res (pending_of ps) (pending_of ts) es image mid o h.leaves (s image) m.tells;
       };
-    joins = joins_posted res (pending_of ps) es mid o h.joins;
-    leaves = subst (λ (l : List Pending). LeavesQuiet res (pending_of ps) (pending_of l)) (sym same) h.leaves;
-  }
+  joins = joins_posted res (pending_of ps) es mid o h.joins;
+  leaves = subst (λ (l : List Pending). LeavesQuiet res (pending_of ps) (pending_of l)) (sym same) h.leaves;
+}
 
 -- where there is an entry, something is pending
 pub busy : (ps : List Pending) → 0 < length ps → IsBusy (pending_of ps)
@@ -120,4 +122,3 @@ busy (p ∷ ps) lt = record { ticket = p.ticket; request = begun_of p; is = pend
 pub busy_any : (test : Pending → Bool) (ps : List Pending) → list_any test ps ≡ true → IsBusy (pending_of ps)
 busy_any test [] e = cc
 busy_any test (p ∷ ps) e = busy (p ∷ ps) (omega arith)
-

@@ -1,29 +1,27 @@
 -- What is done on a message are acts that the rules allow.
-use Rattle.std.proofs.Common.{◌≡◌, ℕ, suc, zero, ◌+◌, ◌-◌, ◌<◌, ◌≤◌, List, [], ◌∷◌, ◌++◌, length, drop, map, get_or, Bool, true, false, cond, refl, sym, ◌∙◌, ap, subst, inl, inr, arith, append_assoc, Option, Some, None}
-use Rattle.std.proofs.lemmas.Bool.Decides.{nat_tests}
+use Rattle.std.proofs.Common.{◌≡◌, ℕ, suc, zero, ◌+◌, ◌-◌, ◌<◌, ◌≤◌, List, [], ◌∷◌, ◌++◌, length, drop, map, Bool, true, false, cond, refl, sym, ◌∙◌, ap, subst, arith, Option, Some, None}
 use Rattle.std.proofs.lemmas.List.{length-append, length-drop, length-map, map-append}
 use Rattle.std.proofs.Math.Seq.{drop-append_seam}
-use Rattle.std.specs.Prelude.{nat_lt, is_some, ◌&&◌, not, remove, MatchBool}
+use Rattle.std.specs.Prelude.{nat_lt, is_some, ◌&&◌, not, remove}
 use Rattle.endpoint.specs.declared.Endpoint.{Endpoint}
 use Rattle.message.specs.declared.BlockRequest.{BlockRequest}
 use Rattle.message.specs.declared.BlockReply.{BlockReply}
 use Rattle.message.specs.declared.Incoming.{Incoming}
 use Rattle.message.specs.declared.Incoming.TheVariants as incoming
-use Rattle.marks.specs.Marks.{Mark, Answered, gave_up, last_started}
+use Rattle.marks.specs.Marks.{Mark, gave_up}
 use Rattle.marks.specs.Open.{open_requests, greatest, counts, moved_by, without_id}
-use Rattle.marks.specs.Told.{Told, Complained, Posted, Received, received, grown}
+use Rattle.marks.specs.Told.{Complained, received}
 use Rattle.marks.specs.Acts.{Act, Began, AtLink, Outbox, KeepsRules, MayAct, outbox_after, marks_after, told_of, with_act, owed_after_act, owed_after_message, complaint_due, without_answered}
-use Rattle.marks.proofs.ActLaws.{acts_compose}
 use Rattle.reissue.specs.declared.pending.Pending.{Pending}
 use Rattle.reissue.specs.declared.table.Table.{Table}
-use Rattle.reissue.specs.Entries.{AllOfMinor, request_of}
-use Rattle.reissue.specs.Agrees.{Agrees, target, unposted, never_issued}
-use Rattle.reissue.specs.Hears.{Hears, HearsAnswer, HearsStart, IsAnswered, IsUnanswered, LeavesRest, IsRest, counted_move}
-use Rattle.reissue.specs.Posts.{OnlyPosts, PostsInOrder, PostsAfter, accepted_of, complaints_about, due_after, is_message}
-use Rattle.reissue.specs.Rules.{outbox_of, KeepsRulesBy}
-use Rattle.reissue.proofs.Order.{append_cancel, without_posted, drop_removed, drop_push}
-use Rattle.reissue.proofs.PostRules.{at_link, told_at_link, box, box_same}
-use Rattle.reissue.proofs.TableRules.{loose, ends_same, table_posts, PostsKeep}
+use Rattle.reissue.specs.Entries.{request_of}
+use Rattle.reissue.specs.Agrees.{Agrees, unposted, never_issued}
+use Rattle.reissue.specs.Hears.{Hears, HearsAnswer, HearsStart, IsAnswered, IsUnanswered, LeavesRest, counted_move}
+use Rattle.reissue.specs.Posts.{complaints_about, due_after, is_message}
+use Rattle.reissue.specs.Rules.{outbox_of}
+use Rattle.reissue.proofs.Order.{without_posted, drop_removed, drop_push}
+use Rattle.reissue.proofs.PostRules.{box, box_same}
+use Rattle.reissue.proofs.TableRules.{loose, ends_same}
 
 -- a message that arrives: what this act adds to the record and to what is owed
 pub record Arrives (minor : ℕ) (act : Act) (m : Incoming) (marks : List Mark) (o : Outbox) : Type 0 where
@@ -43,8 +41,12 @@ pub record Heard (minor : ℕ) (act : Act) (m : Incoming) (marks : List Mark) (o
 heard_alone : (minor : ℕ) (act : Act) (m : Incoming) (marks : List Mark) (o next : Outbox) → Arrives minor act m marks o
     → due_after m marks ≡ None → owed_after_message m marks o ≡ next → Heard minor act m marks o next
 heard_alone minor act m marks o next a due e = record {
-    acts = act ∷ []; told = rw due refl; keeps = (tt, a.may); owes = a.owed ∙ e; grows = a.grows;
-  }
+  acts = act ∷ [];
+  told = rw due refl;
+  keeps = (tt, a.may);
+  owes = a.owed ∙ e;
+  grows = a.grows;
+}
 
 -- an answer that isn't good, or doesn't count: a complaint where one is due
 heard_complaint : (minor : ℕ) (act : Act) (m : Incoming) (marks : List Mark) (o : Outbox) (ns us : List BlockRequest) → Arrives minor act m marks o
@@ -118,28 +120,34 @@ heard_answer : (minor : ℕ) (act : Act) (a : BlockReply) (n : ℕ) (old mid : T
 heard_answer minor act a n old mid marks arrives h moves x = by (nat_lt n x.entry.request.count) x.left where
   within : x.at < length old.pending
   within = omega (arith, x.issued, old.within)
+
   due : due_after (incoming.Reply a) marks ≡ None
   due = none_due (counts marks a) (moved_by a marks) n a.from moves
+
   ends : drop mid.issued (remove old.pending x.at) ≡ drop old.issued old.pending
   ends = let next : suc mid.issued ≡ old.issued = omega (arith, x.issued_left) in
       drop_removed mid.issued x.at old.pending (omega (arith, x.issued, x.issued_left)) ∙ ap (λ (k : ℕ). drop k old.pending) next
+
   left : without_id a.id (unposted old) ≡ map request_of (drop mid.posted (remove old.pending x.at))
   left = rw (← x.id_is) (without_posted old.ids x.at old.posted mid.posted old.pending x.entry old.numbers.rising within x.there x.posted)
+
   owed : owed_after_message (incoming.Reply a) marks (outbox_of old)
       ≡ box (map request_of (drop mid.issued (remove old.pending x.at))) (map request_of (drop mid.posted (remove old.pending x.at))) false
   owed =
       ap (λ (c : Option Endpoint). record { never_issued = never_issued old; unposted = without_answered a marks (unposted old); stopped = false; complaint = c }) due
       ∙ box_same (never_issued old) (map request_of (drop mid.issued (remove old.pending x.at)))
-        (without_answered a marks (unposted old)) (map request_of (drop mid.posted (remove old.pending x.at))) false false
-        (ap (λ (l : List Pending). map request_of l) (sym ends)) (left_after marks a (unposted old) (Some n) moves ∙ left) refl
+      (without_answered a marks (unposted old)) (map request_of (drop mid.posted (remove old.pending x.at))) false false
+      (ap (λ (l : List Pending). map request_of l) (sym ends)) (left_after marks a (unposted old) (Some n) moves ∙ left) refl
+
   less : length (remove old.pending x.at) + 1 ≡ length old.pending
   less = length_removed old.pending x.at within
+
   by : (b : Bool) → LeavesRest old mid x.at x.entry n b → Heard minor act (incoming.Reply a) marks (outbox_of old) (loose mid)
   by false l = heard_alone minor act (incoming.Reply a) marks (outbox_of old) (loose mid) arrives due (owed
       ∙ box_same (map request_of (drop mid.issued (remove old.pending x.at))) (never_issued mid)
-        (map request_of (drop mid.posted (remove old.pending x.at))) (unposted mid) false false
-        (ends_same mid.issued mid.issued (remove old.pending x.at) mid.pending refl (sym l.0))
-        (ends_same mid.posted mid.posted (remove old.pending x.at) mid.pending refl (sym l.0)) refl)
+      (map request_of (drop mid.posted (remove old.pending x.at))) (unposted mid) false false
+      (ends_same mid.issued mid.issued (remove old.pending x.at) mid.pending refl (sym l.0))
+      (ends_same mid.posted mid.posted (remove old.pending x.at) mid.pending refl (sym l.0)) refl)
   by true l =
       let rs = remove old.pending x.at in
       let r = l.0 in
@@ -149,16 +157,16 @@ heard_answer minor act a n old mid marks arrives h moves x = by (nat_lt n x.entr
       let never : length (map request_of (drop mid.issued rs)) ≡ length rs - mid.issued = length-map (drop mid.issued rs) request_of ∙ length-drop mid.issued rs in
       let both : length h.opened + length h.waiting ≡ length mid.pending = sym (length-append h.opened h.waiting) ∙ ap (λ (l : List Pending). length l) (sym h.holds.items) in
       let open_count : length (open_requests (received (incoming.Reply a) marks)) ≡ mid.issued =
-          ap (λ (l : List BlockRequest). length l) (sym h.holds.requests) ∙ length-map h.opened request_of ∙ sym h.holds.issued in
+      ap (λ (l : List BlockRequest). length l) (sym h.holds.requests) ∙ length-map h.opened request_of ∙ sym h.holds.issued in
       subst (λ (x : Outbox). Heard minor act (incoming.Reply a) marks (outbox_of old) x)
-        (box_same (map request_of (drop mid.issued rs) ++ r.request ∷ []) (never_issued mid) (map request_of (drop mid.posted rs) ++ r.request ∷ []) (unposted mid) false false
-          (sym (map-append request_of (drop mid.issued rs) (r ∷ [])) ∙ ap (λ (l : List Pending). map request_of l) (sym (drop_push mid.issued rs r issued_le))
-            ∙ ends_same mid.issued mid.issued (rs ++ r ∷ []) mid.pending refl (sym l.1))
-          (sym (map-append request_of (drop mid.posted rs) (r ∷ [])) ∙ ap (λ (l : List Pending). map request_of l) (sym (drop_push mid.posted rs r posted_le))
-            ∙ ends_same mid.posted mid.posted (rs ++ r ∷ []) mid.pending refl (sym l.1)) refl)
-        (heard_rest minor act (incoming.Reply a) marks (outbox_of old) (map request_of (drop mid.issued rs)) (map request_of (drop mid.posted rs)) r.request arrives due owed
-          (l.2.number ∙ omega (arith, l.3, h.holds.ids, h.holds.issued, both, items, never, less, x.issued_left))
-          (omega (arith, open_count, never, less, old.few, x.issued_left, old.within)))
+      (box_same (map request_of (drop mid.issued rs) ++ r.request ∷ []) (never_issued mid) (map request_of (drop mid.posted rs) ++ r.request ∷ []) (unposted mid) false false
+      (sym (map-append request_of (drop mid.issued rs) (r ∷ [])) ∙ ap (λ (l : List Pending). map request_of l) (sym (drop_push mid.issued rs r issued_le))
+      ∙ ends_same mid.issued mid.issued (rs ++ r ∷ []) mid.pending refl (sym l.1))
+      (sym (map-append request_of (drop mid.posted rs) (r ∷ [])) ∙ ap (λ (l : List Pending). map request_of l) (sym (drop_push mid.posted rs r posted_le))
+      ∙ ends_same mid.posted mid.posted (rs ++ r ∷ []) mid.pending refl (sym l.1)) refl)
+      (heard_rest minor act (incoming.Reply a) marks (outbox_of old) (map request_of (drop mid.issued rs)) (map request_of (drop mid.posted rs)) r.request arrives due owed
+      (l.2.number ∙ omega (arith, l.3, h.holds.ids, h.holds.issued, both, items, never, less, x.issued_left))
+      (omega (arith, open_count, never, less, old.few, x.issued_left, old.within)))
 
 -- a reply
 heard_reply : (minor : ℕ) (act : Act) (a : BlockReply) (old mid : Table) (marks : List Mark)
@@ -168,8 +176,8 @@ heard_reply minor act a old mid marks arrives h x = by (counted_move marks a) re
   by : (m : Option ℕ) → counted_move marks a ≡ m → HearsAnswer old mid a.id m → Heard minor act (incoming.Reply a) marks (outbox_of old) (loose mid)
   by None e x = subst (λ (o : Outbox). Heard minor act (incoming.Reply a) marks (outbox_of old) o) (loose_same old mid x)
       (heard_complaint minor act (incoming.Reply a) marks (outbox_of old) (never_issued old) (unposted old) arrives
-        (ap (λ (l : List BlockRequest). record { never_issued = never_issued old; unposted = l; stopped = false; complaint = complaint_due a marks })
-          (left_after marks a (unposted old) None e)))
+      (ap (λ (l : List BlockRequest). record { never_issued = never_issued old; unposted = l; stopped = false; complaint = complaint_due a marks })
+      (left_after marks a (unposted old) None e)))
   by (Some n) e x = heard_answer minor act a n old mid marks arrives h e x
 
 -- a start, before the device is given up
@@ -178,16 +186,16 @@ heard_start : (minor : ℕ) (act : Act) (e : Endpoint) (old mid : Table) (marks 
     → HearsStart old mid e false → Heard minor act (incoming.Started e) marks (outbox_of old) (loose mid)
 heard_start minor act e old mid marks arrives h x =
     let waiting : drop old.issued old.pending ≡ h.waiting =
-        ap (λ (k : ℕ). drop k old.pending) h.holds.issued ∙ ap (λ (l : List Pending). drop (length h.opened) l) h.holds.items
-        ∙ drop-append_seam h.opened h.waiting in
+    ap (λ (k : ℕ). drop k old.pending) h.holds.issued ∙ ap (λ (l : List Pending). drop (length h.opened) l) h.holds.items
+    ∙ drop-append_seam h.opened h.waiting in
     let all : open_requests marks ++ never_issued old ≡ unposted mid =
-        ap (λ (l : List BlockRequest). l ++ never_issued old) (sym h.holds.requests)
-        ∙ ap (λ (l : List Pending). map request_of h.opened ++ map request_of l) waiting
-        ∙ sym (map-append request_of h.opened h.waiting) ∙ ap (λ (l : List Pending). map request_of l) (sym h.holds.items)
-        ∙ ends_same 0 mid.posted old.pending mid.pending (sym x.2) (sym x.0) in
+    ap (λ (l : List BlockRequest). l ++ never_issued old) (sym h.holds.requests)
+    ∙ ap (λ (l : List Pending). map request_of h.opened ++ map request_of l) waiting
+    ∙ sym (map-append request_of h.opened h.waiting) ∙ ap (λ (l : List Pending). map request_of l) (sym h.holds.items)
+    ∙ ends_same 0 mid.posted old.pending mid.pending (sym x.2) (sym x.0) in
     heard_alone minor act (incoming.Started e) marks (outbox_of old) (loose mid) arrives refl
-      (box_same (never_issued old) (never_issued mid) (open_requests marks ++ never_issued old) (unposted mid) false false
-        (ends_same old.issued mid.issued old.pending mid.pending (sym x.3) (sym x.0)) all refl)
+    (box_same (never_issued old) (never_issued mid) (open_requests marks ++ never_issued old) (unposted mid) false false
+    (ends_same old.issued mid.issued old.pending mid.pending (sym x.3) (sym x.0)) all refl)
 
 -- a message but End, while the device isn't given up
 pub heard : (minor : ℕ) (act : Act) (m : Incoming) (old mid : Table) (marks : List Mark)

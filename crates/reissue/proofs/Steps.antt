@@ -1,8 +1,7 @@
 -- What one step at the link or the table does to agreement with the record.
-use Rattle.std.proofs.Common.{◌≡◌, ◌⊎◌, ℕ, suc, zero, ◌+◌, ◌-◌, ◌<◌, ◌≤◌, List, [], ◌∷◌, ◌++◌, length, take, drop, map, get_or, Bool, true, false, cond, refl, sym, ◌∙◌, ap, subst, inl, inr, arith, append_assoc, max, Option, Some, None}
+use Rattle.std.proofs.Common.{◌≡◌, ℕ, suc, zero, ◌+◌, ◌<◌, ◌≤◌, List, [], ◌∷◌, ◌++◌, length, drop, map, get_or, Bool, true, false, cond, refl, sym, ◌∙◌, ap, subst, inl, inr, arith, append_assoc, max, Option, Some, None}
 use Rattle.std.proofs.lemmas.List.{drop_more, map-append, length-append, get_or_append_left, length-map, get_or_at}
-use Rattle.std.proofs.lemmas.Bool.Decides.{leb_tells, nat_tests}
-use Rattle.std.specs.Prelude.{nat_lt, is_some, ◌==◌}
+use Rattle.std.proofs.lemmas.Bool.Decides.{leb_tells}
 use Rattle.endpoint.specs.declared.Endpoint.{Endpoint}
 use Rattle.message.specs.declared.BlockRequest.{BlockRequest}
 use Rattle.reissue.specs.declared.pending.Pending.{Pending}
@@ -13,8 +12,8 @@ use Rattle.reissue.proofs.Joined.{joined_like}
 use Rattle.marks.proofs.OpenRequests.{open_below, open_again, open_new}
 use Rattle.marks.specs.Acts.{FitsMinor}
 use Rattle.marks.specs.Disk.{Contents}
-use Rattle.marks.specs.Marks.{last_started, gave_up, Took, Fault, Answered, Flush, GaveUp, Issued, Mark, Started}
-use Rattle.marks.specs.Open.{IsIn, IsNew, Misses, MissesAll, greatest, moved_by, open_requests, without_id}
+use Rattle.marks.specs.Marks.{last_started, gave_up, Issued, Mark}
+use Rattle.marks.specs.Open.{IsIn, IsNew, Misses, MissesAll, greatest, open_requests}
 use Rattle.marks.specs.Told.{Posted, Told, grown}
 use Rattle.reissue.specs.Agrees.{AreNumbered, target, Agrees, AllApart, AllReadDisk, AllWrote, Apart, ApartFromAll, Holds, unposted}
 use Rattle.marks.specs.Open.{MayFollow}
@@ -34,9 +33,10 @@ in_map (p ∷ ps) (suc i) d lt = inr (in_map ps i d (omega arith))
 reads_issued : (image : Contents) (marks : List Mark) (r : BlockRequest) (to : Endpoint) (ps : List Pending)
     → AllReadDisk image marks ps → AllReadDisk image (Issued r to ∷ marks) ps
 reads_issued image marks r to [] h = tt
-reads_issued image marks r to (p ∷ ps) h =
-    (λ is_read. record { each = λ k lt sure. (h.0 is_read).each k lt (grind arith) },
-    reads_issued image marks r to ps h.1)
+reads_issued image marks r to (p ∷ ps) h = (
+  λ is_read. record { each = λ k lt sure. (h.0 is_read).each k lt (grind arith) },
+  reads_issued image marks r to ps h.1,
+)
 
 -- the same numbers
 pub numbered_at : (n m : ℕ) (rs : List BlockRequest) → n ≡ m → AreNumbered n rs → AreNumbered m rs
@@ -70,13 +70,13 @@ writes_posted : (t : Table) (marks : List Mark) (r : BlockRequest) (to : Endpoin
 writes_posted t marks r to d opened waiting a lt is image =
     let q = get_or t.pending t.posted d in
     let lt' : t.posted < length t.pending =
-        omega (arith, lt, ap (λ (l : List Pending). length l) a.items, length-append opened waiting) in
+    omega (arith, lt, ap (λ (l : List Pending). length l) a.items, length-append opened waiting) in
     let P : BlockRequest → Type 0 = λ x. AllWrote image (Issued x to ∷ marks) (opened ++ waiting) in
     subst P (sym is)
     (all_wrote_issued image marks q to (opened ++ waiting)
-      (one_among q (opened ++ waiting) a.apart
-        (subst (λ (l : List Pending). IsAmong q l) a.items (among_at t.pending t.posted d lt')))
-      (a.writes image))
+    (one_among q (opened ++ waiting) a.apart
+    (subst (λ (l : List Pending). IsAmong q l) a.items (among_at t.pending t.posted d lt')))
+    (a.writes image))
 
 -- the next request was posted, which had been issued before
 posts_again : (t u : Table) (marks : List Mark) (r : BlockRequest) (to : Endpoint) (d : Pending) (opened waiting : List Pending)
@@ -88,9 +88,9 @@ posts_again : (t u : Table) (marks : List Mark) (r : BlockRequest) (to : Endpoin
 posts_again t u marks r to d opened waiting a cur lt is items ids current given_up issued posted =
     let at : t.posted < length opened = omega (arith, a.issued) in
     let here : get_or t.pending t.posted d ≡ get_or opened t.posted d =
-        rw a.items (get_or_append_left opened waiting d t.posted at) in
+    rw a.items (get_or_append_left opened waiting d t.posted at) in
     let inside : IsIn r (open_requests marks) =
-        rw (is, here, ← a.requests) (in_map opened t.posted d at) in
+    rw (is, here, ← a.requests) (in_map opened t.posted d at) in
     let le : r.id ≤ greatest marks = open_below marks r inside in
     let top : max (greatest marks) r.id ≡ greatest marks = omega arith in
     record {
@@ -118,19 +118,19 @@ posts_new : (t u : Table) (marks : List Mark) (r : BlockRequest) (to : Endpoint)
     → Holds u (Issued r to ∷ marks) (opened ++ q ∷ []) ws
 posts_new t u marks r to d opened q ws a cur eq is items ids current given_up issued posted =
     let here : get_or t.pending t.posted d ≡ q =
-        rw a.items (get_or_at opened q ws d t.posted (sym eq)) in
+    rw a.items (get_or_at opened q ws d t.posted (sym eq)) in
     let same : r ≡ q.request = is ∙ ap request_of here in
     let number : r.id ≡ greatest marks + 1 = ap (λ (x : BlockRequest). x.id) same ∙ a.numbered.0 in
     let top : max (greatest marks) r.id ≡ greatest marks + 1 = omega arith in
     let len : length (opened ++ q ∷ []) ≡ length opened + 1 = grind (arith, length-append {A = Pending}) in
     let lists : opened ++ q ∷ ws ≡ (opened ++ q ∷ []) ++ ws = sym (append_assoc opened (q ∷ []) ws) in
     let fresh : IsNew marks r =
-        record {
-          next = number;
-          whole = rw same (record { position = q.whole_position; count = q.whole_count });
-          room = rw (← a.requests, length-map opened request_of) (omega (arith, t.few, ap (λ (l : List Pending). length l) a.items, length-append opened (q ∷ ws)));
-          apart = rw (← a.requests, same) (misses_front opened q ws a.apart);
-        } in
+    record {
+      next = number;
+      whole = rw same (record { position = q.whole_position; count = q.whole_count });
+      room = rw (← a.requests, length-map opened request_of) (omega (arith, t.few, ap (λ (l : List Pending). length l) a.items, length-append opened (q ∷ ws)));
+      apart = rw (← a.requests, same) (misses_front opened q ws a.apart);
+    } in
     record {
       items = items ∙ a.items ∙ lists;
       issued = omega arith;
@@ -155,14 +155,26 @@ pub posts_one : (t u : Table) (marks : List Mark) (r : BlockRequest) (to : Endpo
     → Agrees u (Issued r to ∷ marks)
 posts_one t u marks r to d opened [] a cur lt is items ids current given_up issued posted =
     let len : length t.pending ≡ length opened = rw a.items (grind (arith, length-append {A = Pending})) in
-    record { opened = opened; waiting = []; holds =
-      posts_again t u marks r to d opened [] a cur (omega (arith, a.issued)) is items ids current given_up (omega (arith, a.issued)) posted }
+    record {
+      opened = opened;
+      waiting = [];
+      holds =
+          posts_again t u marks r to d opened [] a cur (omega (arith, a.issued)) is items ids current given_up (omega (arith, a.issued)) posted;
+    }
 posts_one t u marks r to d opened (q ∷ ws) a cur lt is items ids current given_up issued posted =
     elim (leb_tells t.issued t.posted) [
-      inl h ↦ record { opened = opened ++ q ∷ []; waiting = ws; holds =
-        posts_new t u marks r to d opened q ws a cur (omega (arith, a.issued, t.order, h.1)) is items ids current given_up (omega (arith, a.issued, t.order, h.1)) posted }
-    | inr h ↦ record { opened = opened; waiting = q ∷ ws; holds =
-        posts_again t u marks r to d opened (q ∷ ws) a cur h.1 is items ids current given_up (omega (arith, h.1)) posted }
+      | inl h ↦ record {
+        opened = opened ++ q ∷ [];
+        waiting = ws;
+        holds =
+            posts_new t u marks r to d opened q ws a cur (omega (arith, a.issued, t.order, h.1)) is items ids current given_up (omega (arith, a.issued, t.order, h.1)) posted;
+      }
+      | inr h ↦ record {
+        opened = opened;
+        waiting = q ∷ ws;
+        holds =
+            posts_again t u marks r to d opened (q ∷ ws) a cur h.1 is items ids current given_up (omega (arith, h.1)) posted;
+      }
     ]
 
 -- the minor of one of them
@@ -187,7 +199,7 @@ pub leads_post : (s t u : Table) (before between after : List Told) (was mid is 
     → Leads s u before after was is
 leads_post s t u before between after was mid is r to d l told keeps cur lt same items ids current given_up issued posted =
     let one : (marks : List Mark) → Agrees t marks → Agrees u (Issued r to ∷ marks) = λ marks a.
-        posts_one t u marks r to d a.opened a.waiting a.holds cur lt same items ids current given_up issued posted in
+    posts_one t u marks r to d a.opened a.waiting a.holds cur lt same items ids current given_up issued posted in
     record {
       posts = Posted to r true ∷ l.posts;
       history = told ∙ ap (λ (es : List Told). Posted to r true ∷ es) l.history;
@@ -196,17 +208,17 @@ leads_post s t u before between after was mid is r to d l told keeps cur lt same
       posted = omega (arith, posted, l.posted);
       issued = omega (arith, issued, posted, l.issued);
       spares = λ image marks h.
-        let q = get_or t.pending t.posted d in
-        let P : BlockRequest → Type 0 = λ x. Spares (pending_of s.pending) (state_after image marks) (state_after image (Issued x to ∷ grown l.posts marks)) in
-        let Q : List Pending → Type 0 = λ ls. Spares (pending_of ls) (state_after image (grown l.posts marks)) (state_after image (Issued q.request to ∷ grown l.posts marks)) in
-        subst P (sym same)
-        (spares_then (pending_of s.pending) (state_after image marks) (state_after image (grown l.posts marks)) (state_after image (Issued q.request to ∷ grown l.posts marks))
+          let q = get_or t.pending t.posted d in
+          let P : BlockRequest → Type 0 = λ x. Spares (pending_of s.pending) (state_after image marks) (state_after image (Issued x to ∷ grown l.posts marks)) in
+          let Q : List Pending → Type 0 = λ ls. Spares (pending_of ls) (state_after image (grown l.posts marks)) (state_after image (Issued q.request to ∷ grown l.posts marks)) in
+          subst P (sym same)
+          (spares_then (pending_of s.pending) (state_after image marks) (state_after image (grown l.posts marks)) (state_after image (Issued q.request to ∷ grown l.posts marks))
           (l.spares image marks h)
           (subst Q l.same (spares_issued image (grown l.posts marks) q to t.pending t.numbers.distinct (among_at t.pending t.posted d lt))));
       agrees = λ marks h. one (grown l.posts marks) (l.agrees marks h);
       truth = λ opening marks h minors k.
-        let minors' : AllOfMinor opening.minor t.pending = subst (λ (ps : List Pending). AllOfMinor opening.minor ps) (sym l.same) minors in
-        keeps opening (grown l.posts marks) (l.truth opening marks h minors k)
+          let minors' : AllOfMinor opening.minor t.pending = subst (λ (ps : List Pending). AllOfMinor opening.minor ps) (sym l.same) minors in
+          keeps opening (grown l.posts marks) (l.truth opening marks h minors k)
           ((one (grown l.posts marks) (l.agrees marks h)).holds.well_formed.1)
           (subst (λ (x : BlockRequest). Fits opening x) (sym same) (fits_minor opening.minor (get_or t.pending t.posted d) (minor_at opening.minor t.pending t.posted d lt minors')));
     }
@@ -231,10 +243,16 @@ leads_refused s t before between after was mid is r to l told keeps =
 -- nothing was posted
 pub leads_none : (t : Table) (history : List Told) (was : Truth) → Leads t t history history was was
 leads_none t history was = record {
-    posts = []; history = refl; only_posts = tt; same = refl; posted = omega arith; issued = omega (arith, t.order); agrees = λ marks h. h;
-    spares = λ image marks h. record { disk = λ p q. refl; sure = λ p q s. s };
-    truth = λ opening marks h minors k. k;
-  }
+  posts = [];
+  history = refl;
+  only_posts = tt;
+  same = refl;
+  posted = omega arith;
+  issued = omega (arith, t.order);
+  agrees = λ marks h. h;
+  spares = λ image marks h. record { disk = λ p q. refl; sure = λ p q s. s };
+  truth = λ opening marks h minors k. k;
+}
 
 -- the next to post, and the others
 to_post_more : (t : Table) (p : Pending) → t.posted < length t.pending → p ≡ get_or t.pending t.posted p

@@ -4,11 +4,10 @@ use Rattle.std.proofs.lemmas.Bool.Decides.{leb_tells, nat_tests}
 use Rattle.std.proofs.lemmas.List.{take-append-drop, length-drop, length-append}
 use Rattle.std.specs.Prelude.{nat_lt, is_some, ◌&&◌, not, ◌||◌, IsTrue}
 use Rattle.endpoint.specs.declared.Endpoint.{Endpoint}
-use Rattle.message.specs.declared.BlockRequest.{BlockRequest}
 use Rattle.marks.specs.Marks.{Mark, last_started, gave_up}
 use Rattle.marks.specs.Open.{open_requests, has_none}
 use Rattle.marks.specs.Told.{Told}
-use Rattle.marks.specs.Acts.{Outbox, KeepsRules, outbox_after, IsAtRest, MayTake, is_post_due, needs_message}
+use Rattle.marks.specs.Acts.{Outbox, KeepsRules, outbox_after, IsAtRest, needs_message}
 use Rattle.reissue.specs.declared.pending.Pending.{Pending}
 use Rattle.reissue.specs.declared.table.Table.{Table}
 use Rattle.reissue.specs.Entries.{AreRising, AllOfMinor, request_of, pending_of}
@@ -54,9 +53,9 @@ none_posted minor mid new marks between after posts current e history pending po
     subst P (sym none) (record {
       keeps = tt;
       owes = box_same (never_issued mid) (never_issued new) (unposted mid) (unposted new) false (is_some new.current && nat_lt new.posted (length new.pending))
-        (ends_same mid.issued new.issued mid.pending new.pending (omega (arith, issued, posted, zero_more, mid.order)) (sym pending))
-        (ends_same mid.posted new.posted mid.pending new.pending (omega (arith, posted, zero_more)) (sym pending))
-        (rw current refl);
+          (ends_same mid.issued new.issued mid.pending new.pending (omega (arith, issued, posted, zero_more, mid.order)) (sym pending))
+          (ends_same mid.posted new.posted mid.pending new.pending (omega (arith, posted, zero_more)) (sym pending))
+          (rw current refl);
     })
 
 -- with an endpoint to post to
@@ -72,9 +71,9 @@ some_posted minor mid new to marks between after posts current started minors h 
     let ws = drop n us in
     let whole : fs ++ ws ≡ us = take-append-drop n us in
     let x = posted_keep minor 0 mid.ids to fs ws marks between after
-        (subst (λ (l : List Pending). AreRising 0 mid.ids l) (sym whole) (rising_drop 0 mid.ids mid.posted mid.pending mid.numbers.rising))
-        (subst (λ (l : List Pending). AllOfMinor minor l) (sym whole) (minors_drop minor mid.posted mid.pending minors)) started
-        (subst (λ (l : List Pending). ArePostedTo to (map request_of l) between after) (sym whole) h) in
+    (subst (λ (l : List Pending). AreRising 0 mid.ids l) (sym whole) (rising_drop 0 mid.ids mid.posted mid.pending mid.numbers.rising))
+    (subst (λ (l : List Pending). AllOfMinor minor l) (sym whole) (minors_drop minor mid.posted mid.pending minors)) started
+    (subst (λ (l : List Pending). ArePostedTo to (map request_of l) between after) (sym whole) h) in
     let same : x.posts ≡ posts = append_cancel x.posts posts between (sym x.history ∙ history) in
     let count : accepted_of x.posts ≡ accepted_of posts = ap accepted_of same in
     let long : length us ≡ length mid.pending - mid.posted = length-drop mid.posted mid.pending in
@@ -83,30 +82,30 @@ some_posted minor mid new to marks between after posts current started minors h 
     let issued_part : length fs ≡ n = omega (arith, long, rest, both, mid.within, mid.order) in
     let at : mid.posted + n ≡ mid.issued = omega (arith, mid.order) in
     let first : box (map request_of ws) (map request_of (fs ++ ws)) false ≡ loose mid =
-        box_same (map request_of ws) (never_issued mid) (map request_of (fs ++ ws)) (unposted mid) false false
-        (ap (λ (l : List Pending). map request_of l) (drop_twice n mid.posted mid.pending) ∙ ends_same (mid.posted + n) mid.issued mid.pending mid.pending at refl)
-        (ap (λ (l : List Pending). map request_of l) whole) refl in
+    box_same (map request_of ws) (never_issued mid) (map request_of (fs ++ ws)) (unposted mid) false false
+    (ap (λ (l : List Pending). map request_of l) (drop_twice n mid.posted mid.pending) ∙ ends_same (mid.posted + n) mid.issued mid.pending mid.pending at refl)
+    (ap (λ (l : List Pending). map request_of l) whole) refl in
     let last : box (map request_of (drop (accepted_of x.posts - length fs) ws)) (map request_of (drop (accepted_of x.posts) (fs ++ ws)))
-          (nat_lt (accepted_of x.posts) (length (fs ++ ws))) ≡ outbox_of new =
-        box_same (map request_of (drop (accepted_of x.posts - length fs) ws)) (never_issued new)
-        (map request_of (drop (accepted_of x.posts) (fs ++ ws))) (unposted new)
-        (nat_lt (accepted_of x.posts) (length (fs ++ ws))) (is_some new.current && nat_lt new.posted (length new.pending))
-        (ap (λ (l : List Pending). map request_of l)
-          (ap (λ (l : List Pending). drop (accepted_of x.posts - length fs) l) (drop_twice n mid.posted mid.pending)
-            ∙ drop_twice (accepted_of x.posts - length fs) (mid.posted + n) mid.pending)
-          ∙ ends_same (mid.posted + n + (accepted_of x.posts - length fs)) new.issued mid.pending new.pending
-            (omega (arith, at, issued_part, count, issued, posted, mid.order)) (sym pending))
-        (ap (λ (l : List Pending). map request_of (drop (accepted_of x.posts) l)) whole
-          ∙ ap (λ (l : List Pending). map request_of l) (drop_twice (accepted_of x.posts) mid.posted mid.pending)
-          ∙ ends_same (mid.posted + accepted_of x.posts) new.posted mid.pending new.pending (omega (arith, count, posted)) (sym pending))
-        (ap (λ (l : List Pending). nat_lt (accepted_of x.posts) (length l)) whole
-          ∙ less_shift (accepted_of x.posts) mid.posted (length mid.pending) (length us) long (omega (arith, mid.order, mid.within))
-          ∙ rw (current, posted, pending, count) refl) in
+    (nat_lt (accepted_of x.posts) (length (fs ++ ws))) ≡ outbox_of new =
+    box_same (map request_of (drop (accepted_of x.posts - length fs) ws)) (never_issued new)
+    (map request_of (drop (accepted_of x.posts) (fs ++ ws))) (unposted new)
+    (nat_lt (accepted_of x.posts) (length (fs ++ ws))) (is_some new.current && nat_lt new.posted (length new.pending))
+    (ap (λ (l : List Pending). map request_of l)
+    (ap (λ (l : List Pending). drop (accepted_of x.posts - length fs) l) (drop_twice n mid.posted mid.pending)
+    ∙ drop_twice (accepted_of x.posts - length fs) (mid.posted + n) mid.pending)
+    ∙ ends_same (mid.posted + n + (accepted_of x.posts - length fs)) new.issued mid.pending new.pending
+    (omega (arith, at, issued_part, count, issued, posted, mid.order)) (sym pending))
+    (ap (λ (l : List Pending). map request_of (drop (accepted_of x.posts) l)) whole
+    ∙ ap (λ (l : List Pending). map request_of l) (drop_twice (accepted_of x.posts) mid.posted mid.pending)
+    ∙ ends_same (mid.posted + accepted_of x.posts) new.posted mid.pending new.pending (omega (arith, count, posted)) (sym pending))
+    (ap (λ (l : List Pending). nat_lt (accepted_of x.posts) (length l)) whole
+    ∙ less_shift (accepted_of x.posts) mid.posted (length mid.pending) (length us) long (omega (arith, mid.order, mid.within))
+    ∙ rw (current, posted, pending, count) refl) in
     record {
       keeps = subst (λ (ts : List Told). KeepsRules minor (at_link ts) marks (loose mid)) same
-        (subst (λ (o : Outbox). KeepsRules minor (at_link x.posts) marks o) first x.keeps);
+          (subst (λ (o : Outbox). KeepsRules minor (at_link x.posts) marks o) first x.keeps);
       owes = subst (λ (ts : List Told). outbox_after (at_link ts) marks (loose mid) ≡ outbox_of new) same
-        (subst (λ (o : Outbox). outbox_after (at_link x.posts) marks o ≡ outbox_of new) first (x.owes ∙ last));
+          (subst (λ (o : Outbox). outbox_after (at_link x.posts) marks o ≡ outbox_of new) first (x.owes ∙ last));
     }
 
 -- where requests are posted is the last start
@@ -121,9 +120,9 @@ pub table_posts : (minor : ℕ) (mid new : Table) (marks : List Mark) (between a
     → PostsKeep minor mid new marks posts
 table_posts minor mid new marks between after posts current going same minors h history pending posted issued =
     by mid.current refl h where
-  by : (o : Option Endpoint) → mid.current ≡ o → PostsInOrder o (unposted mid) between after → PostsKeep minor mid new marks posts
-  by None e h = none_posted minor mid new marks between after posts (same ∙ e) h history pending posted issued
-  by (Some to) e h = some_posted minor mid new to marks between after posts (same ∙ e) (started_of marks mid.current current going ∙ e) minors h history pending posted issued
+      by : (o : Option Endpoint) → mid.current ≡ o → PostsInOrder o (unposted mid) between after → PostsKeep minor mid new marks posts
+      by None e h = none_posted minor mid new marks between after posts (same ∙ e) h history pending posted issued
+      by (Some to) e h = some_posted minor mid new to marks between after posts (same ∙ e) (started_of marks mid.current current going ∙ e) minors h history pending posted issued
 
 -- between two calls nothing is due
 none_left : (n : ℕ) (ps : List Pending) → length ps ≤ n → has_none (map request_of (drop n ps)) ≡ true
@@ -143,12 +142,12 @@ not_due t (Some e) = by (nat_lt t.posted (length t.pending)) refl where
 -- between two calls nothing is owed
 pub at_rest : (t : Table) (marks : List Mark) → Agrees t marks → gave_up marks ≡ false → IsAtRest marks (outbox_of t)
 at_rest t marks h g = record {
-    complaint = refl;
-    post =
+  complaint = refl;
+  post =
       let started : last_started marks ≡ t.current = started_of marks t.current h.holds.current g in
       let same : is_some (last_started marks) ≡ is_some t.current = ap (λ (o : Option Endpoint). is_some o) started in
       ap (λ (b : Bool). b && not (is_some t.current && nat_lt t.posted (length t.pending)) && not (has_none (unposted t))) same ∙ not_due t t.current;
-  }
+}
 
 -- something is pending
 some_pending : (ps : List Pending) → IsBusy (pending_of ps) → 0 < length ps
@@ -180,6 +179,7 @@ needed t marks h g b = by h.opened refl where
       let lt : t.posted < length t.pending = omega (arith, first, some_pending t.pending b) in
       let less : nat_lt t.posted (length t.pending) ≡ true = grind (arith, nat_tests) in
       rw (c, l, less, some_left t.posted t.pending lt) refl
+
   by : (os : List Pending) → h.opened ≡ os → IsTrue (needs_message marks (outbox_of t))
   by (p ∷ ps) e =
       let opened : open_requests marks ≡ map request_of (p ∷ ps) = sym h.holds.requests ∙ ap (λ (l : List Pending). map request_of l) e in

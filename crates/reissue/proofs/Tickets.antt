@@ -1,5 +1,5 @@
 -- Pending requests by their tickets. Lists alone.
-use Rattle.std.proofs.Common.{◌≡◌, ◌≢◌, ◌⊎◌, ℕ, suc, zero, ◌+◌, ◌<◌, ◌≤◌, List, [], ◌∷◌, ◌++◌, length, take, drop, get_or, Bool, true, false, cond, refl, sym, ◌∙◌, ap, subst, inl, inr, arith, Option, Some, None}
+use Rattle.std.proofs.Common.{◌≡◌, ◌≢◌, ℕ, suc, zero, ◌+◌, ◌<◌, ◌≤◌, List, [], ◌∷◌, ◌++◌, length, get_or, cond, refl, sym, ◌∙◌, ap, subst, inl, inr, arith, Option, Some, None}
 use Rattle.std.proofs.lemmas.Bool.{cond-true, cond-false, eq-eqb, ne_eqb, cases_eq}
 use Rattle.std.specs.Prelude.{◌==◌, remove}
 use Rattle.reissue.proofs.Maps.{is_put}
@@ -101,13 +101,13 @@ pending_rest q r xs ys d t o = λ i m. each m i where
   each : (m : ℕ) → pending_of ((xs ++ ys) ++ r ∷ []) m ≡ pending_of (xs ++ q ∷ ys) m
   each m = elim (cases_eq m q.ticket) [
     | inl e ↦
-      pending_front (xs ++ ys) (r ∷ []) m (subst (λ (n : ℕ). IsFresh n (xs ++ ys)) (sym e) (distinct_out q xs ys d).1)
-      ∙ pending_here r [] m (e ∙ sym t) ∙ ap (λ (x : Begun). Some x) o
-      ∙ sym (ap (pending_of (xs ++ q ∷ ys)) e ∙ pending_at q xs ys d)
+        pending_front (xs ++ ys) (r ∷ []) m (subst (λ (n : ℕ). IsFresh n (xs ++ ys)) (sym e) (distinct_out q xs ys d).1)
+        ∙ pending_here r [] m (e ∙ sym t) ∙ ap (λ (x : Begun). Some x) o
+        ∙ sym (ap (pending_of (xs ++ q ∷ ys)) e ∙ pending_at q xs ys d)
     | inr h ↦
-      pending_skip (xs ++ ys) [] r m (λ e. h (sym e ∙ t)) ∙ pending_end (xs ++ ys) m
-      ∙ sym (pending_skip xs ys q m (λ e. h (sym e)))
-    ]
+        pending_skip (xs ++ ys) [] r m (λ e. h (sym e ∙ t)) ∙ pending_end (xs ++ ys) m
+        ∙ sym (pending_skip xs ys q m (λ e. h (sym e)))
+  ]
 
 -- one between others is one of them
 pub among_split : (q : Pending) (xs ys : List Pending) → IsAmong q (xs ++ q ∷ ys)
@@ -148,9 +148,12 @@ split_at [] at e lt is = absurd (omega arith)
 split_at (p ∷ ps) zero e lt is = record { front = []; back = ps; whole = ap (λ (x : Pending). x ∷ ps) (sym is); gone = refl }
 split_at (p ∷ ps) (suc at) e lt is =
     let r = split_at ps at e (omega arith) is in
-    record { front = p ∷ r.front; back = r.back;
+    record {
+      front = p ∷ r.front;
+      back = r.back;
       whole = ap (λ (l : List Pending). p ∷ l) r.whole;
-      gone = ap (λ (l : List Pending). p ∷ l) r.gone }
+      gone = ap (λ (l : List Pending). p ∷ l) r.gone;
+    }
 
 -- a lower bound holds too
 pub rising_lower : (low m ids : ℕ) (ps : List Pending) → low ≤ m → AreRising m ids ps → AreRising low ids ps

@@ -1,10 +1,10 @@
 -- When the table of pending requests agrees with a record.
-use Rattle.std.specs.Prelude.{◌≡◌, ◌⊎◌, ℕ, ◌+◌, ◌-◌, ◌<◌, ◌≤◌, List, [], ◌∷◌, ◌++◌, length, drop, map, Bool, true, false, Option, Some, None, if◌then◌else◌, ◌&&◌, nat_le, nat_lt, slice_index, not}
+use Rattle.std.specs.Prelude.{◌≡◌, ◌⊎◌, ℕ, ◌+◌, ◌-◌, ◌<◌, ◌≤◌, List, [], ◌∷◌, ◌++◌, length, drop, map, true, false, Option, None, if◌then◌else◌, slice_index}
 use Rattle.endpoint.specs.declared.Endpoint.{Endpoint}
 use Rattle.message.specs.Good.{is_write}
 use Rattle.message.specs.declared.BlockRequest.{BlockRequest}
-use Rattle.marks.specs.Marks.{Mark, Answered, last_started, gave_up}
-use Rattle.marks.specs.Open.{greatest, open_requests, IsWellFormed, asked_by, moved_by}
+use Rattle.marks.specs.Marks.{Mark, last_started, gave_up}
+use Rattle.marks.specs.Open.{greatest, open_requests, IsWellFormed}
 use Rattle.marks.specs.Disk.{Contents, disk_after, bytes_read, unsure, HasTrueReplies}
 use Rattle.reissue.specs.declared.pending.Pending.{Pending}
 use Rattle.reissue.specs.declared.table.Table.{Table}

@@ -1,5 +1,5 @@
 -- What each call of transfers adds to the record, and what it does to the disk, to those that are pending, and to what the link guarantees.
-use Rattle.std.specs.Prelude.{◌≡◌, ℕ, ◌+◌, List, [], ◌∷◌, ◌++◌, length, max, Bool, true, false, ◌==◌, MatchBool, Result, Ok, Err, Option, Some, None}
+use Rattle.std.specs.Prelude.{◌≡◌, ℕ, ◌+◌, List, [], ◌∷◌, ◌++◌, length, max, Bool, true, false, ◌==◌, MatchBool, Option, Some}
 use Rattle.message.specs.declared.BlockRequest.{BlockRequest}
 use Rattle.message.specs.declared.Incoming.{Incoming}
 use Rattle.message.specs.declared.Incoming.TheVariants as incoming
@@ -14,7 +14,7 @@ use Rattle.reissue.specs.declared.table.Table.{Table}
 use Rattle.reissue.specs.Opening.{Opening, contents_at}
 use Rattle.reissue.specs.Moves.{Begun, Touches, IsQuiet, IsBusy, Spares, Moves, Closes, Joins, state_after, request_for, begun_by}
 use Rattle.reissue.specs.Entries.{pending_of, begun_of, AllOfMinor}
-use Rattle.reissue.specs.Agrees.{Agrees, unposted}
+use Rattle.reissue.specs.Agrees.{Agrees}
 use Rattle.marks.specs.Acts.{Act}
 use Rattle.reissue.specs.Rules.{KeepsRulesBy}
 use Rattle.reissue.specs.Hears.{Hears}

@@ -1,5 +1,5 @@
 -- Pending requests by their tickets and ids, and what holds of their bytes.
-use Rattle.std.specs.Prelude.{◌≡◌, ◌≢◌, ◌⊎◌, ℕ, ◌+◌, ◌-◌, ◌<◌, ◌≤◌, ◌==◌, List, [], ◌∷◌, Option, Some, None, Bool, true, false, if◌then◌else◌, slice_index}
+use Rattle.std.specs.Prelude.{◌≡◌, ◌≢◌, ◌⊎◌, ℕ, ◌+◌, ◌<◌, ◌≤◌, ◌==◌, List, [], ◌∷◌, Option, Some, None, if◌then◌else◌}
 use Rattle.std.proofs.Common.{refl}
 use Rattle.std.proofs.Math.Bridge.{le_prop}
 use Rattle.message.specs.declared.BlockRequest.{BlockRequest}
@@ -66,10 +66,10 @@ prop_rising low ids (p ∷ ps) x y = λ i. (le_prop x.0 y.0 i, le_prop x.1 y.1 i
 -- there is one proof of it at most
 pub prop_numbers : (ids : ℕ) (ps : List Pending) (x y : HasNumbers ids ps) → x ≡ y
 prop_numbers ids ps x y = λ i. record {
-    distinct = prop_distinct ps x.distinct y.distinct i;
-    up_to = prop_up_to ids ps x.up_to y.up_to i;
-    rising = prop_rising 0 ids ps x.rising y.rising i;
-  }
+  distinct = prop_distinct ps x.distinct y.distinct i;
+  up_to = prop_up_to ids ps x.up_to y.up_to i;
+  rising = prop_rising 0 ids ps x.rising y.rising i;
+}
 
 -- one of them
 abbrev pub IsAmong : Pending → List Pending → Type 0

@@ -9,11 +9,11 @@ use Rattle.reissue.specs.Agrees.{unposted, never_issued}
 -- what a table owes its link between two calls, while the device isn't given up
 abbrev pub outbox_of : Table → Outbox
 outbox_of table = record {
-    never_issued = never_issued table;
-    unposted = unposted table;
-    stopped = is_some table.current && nat_lt table.posted (length table.pending);
-    complaint = None;
-  }
+  never_issued = never_issued table;
+  unposted = unposted table;
+  stopped = is_some table.current && nat_lt table.posted (length table.pending);
+  complaint = None;
+}
 
 -- these acts are what the link was told and gave, each is one that the rules allow, and they lead to the record and from what the one
 -- table owes to what the other does

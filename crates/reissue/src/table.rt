@@ -7,14 +7,13 @@ ghost use Rattle.marks.specs.Marks.{is_endpoint};
 ghost use Rattle.marks.specs.Open.{moved};
 ghost use Rattle.reissue.specs.Entries.{HasNumbers, prop_numbers, IsFresh, pending_of};
 
+use crate::ask::{Ask, Ticket};
+use crate::pending::Pending;
+use crate::queue::{PLACES, Queue};
 use endpoint::Endpoint;
 use errno::Errno;
 use message::{BlockReply, BlockRequest, Kind};
 use std::alloc::{AllocError, Global};
-
-use crate::ask::{Ask, Ticket};
-use crate::pending::Pending;
-use crate::queue::{PLACES, Queue};
 
 /// What an answer did.
 #[derive(Clone, Copy)]

@@ -8,13 +8,12 @@ ghost use Rattle.reissue.specs.Posts.{is_message};
 ghost use Rattle.reissue.specs.Moves.{Opens, IsFree, begun_by};
 ghost use Rattle.reissue.specs.Entries.{pending_of};
 
-use endpoint::Endpoint;
-use message::Incoming;
-use std::alloc::{AllocError, Global};
-
 use crate::ask::{Ask, BeginRefusal, Settled, Ticket};
 use crate::link::Link;
 use crate::table::{Answer, Table};
+use endpoint::Endpoint;
+use message::Incoming;
+use std::alloc::{AllocError, Global};
 
 /// The pending requests of a file server, and the link that they go over.
 ///
@@ -208,7 +207,7 @@ impl<L: Link> Transfers<L> {
         ensures full { IsErrOf result BeginRefusal.TableFull ↔ (length (table_of self.old).pending ≡ 16) }
         ensures pending { IsErrOf result BeginRefusal.BlockPending
             ↔ ((length (table_of self.old).pending < 16)
-                × IsTrue (list_any (λ p. (p.start == ask.now.position) && (p.size == ask.now.count)) (table_of self.old).pending)) }
+            × IsTrue (list_any (λ p. (p.start == ask.now.position) && (p.size == ask.now.count)) (table_of self.old).pending)) }
         ensures refused { OnErr result (self.new ≡ self.old) }
         ensures adds { OnOk result (Adds ask.now (table_of self.old) (table_of self.new) (L.history (link_of self.old)) (L.history (link_of self.new))) }
         ensures ticket { IfOk result (λ t. t ≡ (table_of self.old).ids + 1) }

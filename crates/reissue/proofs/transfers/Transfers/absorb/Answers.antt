@@ -1,4 +1,3 @@
-use Rattle.std.proofs.Common.{rules, ◌≡◌, ap, sym, ◌∙◌}
 use Rattle.reissue.proofs.Joining.{absorbs_then}
 use Rattle.reissue.proofs.transfers.Transfers.absorb.Goals as goal
 
