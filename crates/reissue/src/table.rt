@@ -58,6 +58,8 @@ impl Table {
     /// A table with nothing pending.
     pub fn new(alloc: Global) -> Result<Table, AllocError>
         ensures pending { IfOk result (λ t. t.pending ≡ []) }
+        ensures issued { IfOk result (λ t. t.issued ≡ 0) }
+        ensures posted { IfOk result (λ t. t.posted ≡ 0) }
         ensures ids { IfOk result (λ t. t.ids ≡ 0) }
         ensures current { IfOk result (λ t. t.current ≡ Option.None) }
         ensures given_up { IfOk result (λ t. t.given_up ≡ false) }

@@ -43,6 +43,8 @@ fn posts_after(message: &Incoming) -> bool
 
 impl<L: Link> Transfers<L> {
     ghost use Rattle.marks.specs.Marks.{Mark};
+    ghost use Rattle.marks.specs.Acts.{empty_outbox};
+    ghost use Rattle.reissue.specs.Rules.{outbox_of};
     ghost use Rattle.reissue.specs.Agrees.{Agrees, unposted};
     ghost use Rattle.reissue.specs.Posts.{PostsInOrder, IsTried, HasRoom, CanPost, TakesRoom};
     ghost use Rattle.reissue.specs.Calls.{Leads, TakesIn, Absorbs, Steps, Begins, Adds, IsAnswerTo, goes_on};
@@ -57,7 +59,11 @@ impl<L: Link> Transfers<L> {
         ensures pending { IfOk result (λ t. (table_of t).pending ≡ []) }
         ensures ids { IfOk result (λ t. (table_of t).ids ≡ 0) }
         ensures current { IfOk result (λ t. (table_of t).current ≡ Option.None) }
+        ensures given_up { IfOk result (λ t. (table_of t).given_up ≡ false) }
         ensures agrees { IfOk result (λ t. Agrees (table_of t) []) }
+        ensures owes { IfOk result (λ t. outbox_of (table_of t) ≡ empty_outbox) }
+        ensures room { IfOk result (λ t. HasRoom (table_of t) (L.room (link_of t))) }
+        ensures tried { IfOk result (λ t. IsTried (table_of t) (L.history (link_of t))) }
     {
         Ok(Transfers {
             link,
