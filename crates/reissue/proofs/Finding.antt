@@ -1,10 +1,11 @@
 -- Looking for an entry from the front of a list.
 use Rattle.std.proofs.Common.{◌≡◌, ℕ, suc, zero, ◌+◌, ◌<◌, ◌≤◌, List, [], ◌∷◌, length, take, get_or, Bool, true, false, cond, refl, sym, ◌∙◌, ap, arith, Option, Some, None}
 use Rattle.std.proofs.lemmas.Iterator.Adapters.{position_from-zero}
-use Rattle.std.specs.List.{position_from, list_any}
-use Rattle.std.specs.Prelude.{position, ◌||◌}
+use Rattle.std.specs.List.{position_from}
+use Rattle.std.specs.Prelude.{position}
 use Rattle.reissue.specs.declared.pending.Pending.{Pending}
 
+-- nothing stands only where the test fails
 cond_none : (b : Bool) (n : ℕ) (o : Option ℕ) → cond b (Some n) o ≡ None → (b ≡ false) × (o ≡ None)
 cond_none true n o e = cc
 cond_none false n o e = (refl, e)
@@ -27,6 +28,7 @@ position_here test xs i w d lt le e f =
     position_from-zero test (take w xs) ∙ here test 0 xs i w d lt le (sym (position_from-zero test (take i xs)) ∙ e) f
     ∙ ap (λ (k : ℕ). Some k) (omega arith)
 
+-- the one that is found passes, counted from n on
 passes : (test : Pending → Bool) (n : ℕ) (xs : List Pending) (w at : ℕ) (d : Pending) → position_from test n (take w xs) ≡ Some at
     → (i : ℕ) × (at ≡ n + i) × (test (get_or xs i d) ≡ true)
 passes test n [] zero at d e = cc

@@ -1,5 +1,5 @@
 -- What each mark does to the bytes of good answers to reads.
-use Rattle.std.proofs.Common.{◌≡◌, ◌⊎◌, ℕ, ◌+◌, ◌-◌, ◌<◌, ◌≤◌, List, [], ◌∷◌, ◌++◌, Bool, true, false, cond, refl, sym, ◌∙◌, ap, inl, inr, arith, Option, Some, None}
+use Rattle.std.proofs.Common.{◌≡◌, ◌⊎◌, ℕ, ◌+◌, ◌-◌, ◌<◌, ◌≤◌, List, [], ◌∷◌, ◌++◌, Bool, true, false, cond, refl, sym, ◌∙◌, ap, inl, inr, arith, Some}
 use Rattle.std.proofs.lemmas.Bool.{cond-true}
 use Rattle.std.proofs.lemmas.Bool.Decides.{leb_tells, nat_tests}
 use Rattle.std.specs.Prelude.{nat_lt, nat_le, ◌&&◌, not, slice_index}
@@ -12,11 +12,13 @@ use Rattle.reissue.specs.declared.pending.Pending.{Pending}
 use Rattle.marks.specs.Disk.{fetches, bytes_read}
 use Rattle.reissue.specs.Agrees.{ApartFromAll, IsJoined, AllJoined}
 
+-- a place outside isn't covered
 not_within : (w : Bool) (position n place : ℕ) → (place < position) ⊎ (position + n ≤ place)
     → (not w && nat_le position place && nat_lt place (position + n)) ≡ false
 not_within false position n place h = grind (arith, nat_tests)
 not_within true position n place h = refl
 
+-- a place inside is covered
 within : (w : Bool) (position n place : ℕ) → w ≡ false → position ≤ place → place < position + n
     → (not w && nat_le position place && nat_lt place (position + n)) ≡ true
 within false position n place e h k = grind (arith, nat_tests)
@@ -37,7 +39,7 @@ bytes_read_here : (marks : List Mark) (a : BlockReply) (r : BlockRequest) (n pla
     → bytes_read (Answered a ∷ marks) place ≡ slice_index a.bytes (place - r.position)
 bytes_read_here marks a r n place w m read from to = rw (m, w)
     (cond-true (fetches (Some r) (Some n) place) (slice_index a.bytes (place - r.position)) (bytes_read marks place)
-      (within (is_write r.kind) r.position n place read from to))
+    (within (is_write r.kind) r.position n place read from to))
 
 -- marks that aren't good answers leave the bytes joined
 pub joined_like : (marks more : List Mark) (ps : List Pending) → ((place : ℕ) → bytes_read more place ≡ bytes_read marks place)
@@ -51,12 +53,15 @@ pub joined_answered : (marks : List Mark) (a : BlockReply) (q : Pending) (n : �
     → asked_by a marks ≡ Some q.request → moved_by a marks ≡ Some n → n ≤ q.request.count
     → ApartFromAll q ps → AllJoined marks ps → AllJoined (Answered a ∷ marks) ps
 joined_answered marks a q n [] w m le ap' h = tt
-joined_answered marks a q n (p ∷ ps) w m le ap' h =
-    (λ read. record { each = λ k lt.
-      let out : (p.start + k < q.request.position) ⊎ (q.request.position + n ≤ p.start + k) =
-          elim (ap'.0.apart) [ inl l ↦ inr (omega (arith, l, q.end)) | inr l ↦ inl (omega (arith, l, p.end, q.from)) ] in
-      (h.0 read).each k lt ∙ sym (bytes_read_other marks a q.request n (p.start + k) w m out) },
-    joined_answered marks a q n ps w m le ap'.1 h.1)
+joined_answered marks a q n (p ∷ ps) w m le ap' h = (
+  λ read. record {
+    each = λ k lt.
+        let out : (p.start + k < q.request.position) ⊎ (q.request.position + n ≤ p.start + k) =
+        elim (ap'.0.apart) [ inl l ↦ inr (omega (arith, l, q.end)) | inr l ↦ inl (omega (arith, l, p.end, q.from)) ] in
+        (h.0 read).each k lt ∙ sym (bytes_read_other marks a q.request n (p.start + k) w m out);
+  },
+  joined_answered marks a q n ps w m le ap'.1 h.1,
+)
 
 -- what was read so far and the answer's bytes
 pub joined_rest : (marks : List Mark) (a : BlockReply) (q r : Pending) (n : ℕ)
@@ -69,7 +74,7 @@ pub joined_rest : (marks : List Mark) (a : BlockReply) (q r : Pending) (n : ℕ)
 joined_rest marks a q r n w m read old start position before new = record { each = λ k lt. rw start (here k (omega (arith, lt, start, position))) } where
   here : (k : ℕ) → q.start + k < q.request.position + n → slice_index r.bytes k ≡ bytes_read (Answered a ∷ marks) (q.start + k)
   here k lt = elim (leb_tells (q.start + k + 1) q.request.position) [
-      inl h ↦ before k (omega (arith, h.1)) ∙ old.each k (omega (arith, h.1))
+    | inl h ↦ before k (omega (arith, h.1)) ∙ old.each k (omega (arith, h.1))
         ∙ sym (bytes_read_other marks a q.request n (q.start + k) w m (inl (omega (arith, h.1))))
     | inr h ↦
         let j = q.start + k - q.request.position in
@@ -77,7 +82,7 @@ joined_rest marks a q r n w m read old start position before new = record { each
         let less : j < n = omega (arith, h.1, lt) in
         ap (λ (x : ℕ). slice_index r.bytes x) (sym at) ∙ new j less
         ∙ sym (bytes_read_here marks a q.request n (q.start + k) w m read (omega (arith, h.1)) lt)
-    ]
+  ]
 
 -- one more, and one less
 pub joined_push : (marks : List Mark) (q : Pending) (ps : List Pending) → AllJoined marks ps
@@ -85,6 +90,7 @@ pub joined_push : (marks : List Mark) (q : Pending) (ps : List Pending) → AllJ
 joined_push marks q [] h r = (r, tt)
 joined_push marks q (p ∷ ps) h r = (h.0, joined_push marks q ps h.1 r)
 
+-- and one less
 pub joined_out : (marks : List Mark) (q : Pending) (xs ys : List Pending) → AllJoined marks (xs ++ q ∷ ys)
     → AllJoined marks (xs ++ ys) × (is_write q.request.kind ≡ false → IsJoined marks q)
 joined_out marks q [] ys h = (h.1, h.0)

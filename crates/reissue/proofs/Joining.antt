@@ -1,5 +1,5 @@
 -- What is told on a message and the posts after it, together.
-use Rattle.std.proofs.Common.{◌≡◌, ℕ, ◌+◌, ◌<◌, ◌≤◌, List, [], ◌∷◌, ◌++◌, length, drop, map, Bool, true, false, refl, sym, ◌∙◌, ap, subst, append_assoc, arith, inl, inr, Option, Some, None}
+use Rattle.std.proofs.Common.{◌≡◌, ℕ, ◌+◌, ◌<◌, List, [], ◌∷◌, ◌++◌, length, drop, map, Bool, true, false, refl, sym, ◌∙◌, ap, subst, arith, inl, inr, Option}
 use Rattle.std.proofs.lemmas.Bool.Decides.{nat_tests}
 use Rattle.std.specs.Prelude.{MatchBool, ◌==◌}
 use Rattle.endpoint.specs.declared.Endpoint.{Endpoint}
@@ -11,20 +11,21 @@ use Rattle.marks.specs.Disk.{Contents, HasTrueReplies}
 use Rattle.marks.specs.Told.{Told, Posted, Complained, Received, grown, received, heard}
 use Rattle.reissue.specs.declared.ask.Ask.{Ask}
 use Rattle.reissue.specs.declared.ask.Settled.{Settled}
-use Rattle.reissue.specs.declared.ask.Settled.TheVariants as settled
 use Rattle.reissue.specs.declared.pending.Pending.{Pending}
 use Rattle.reissue.specs.declared.table.Table.{Table}
 use Rattle.marks.specs.Opening.{Opening, contents_at}
 use Rattle.reissue.specs.Room.{room_needed}
-use Rattle.reissue.specs.Moves.{Begun, Closes, IsFree, Spares, state_after, begun_by, request_for}
+use Rattle.reissue.specs.Moves.{Closes, IsFree, Spares, state_after}
 use Rattle.reissue.specs.Entries.{pending_of, begun_of, request_of, AllOfMinor, MissesOrSame, AreDistinct, IsAmong}
 use Rattle.reissue.specs.Agrees.{Agrees, unposted}
 use Rattle.reissue.specs.Posts.{OnlyPosts, PostsInOrder, PostsAfter, is_message}
-use Rattle.reissue.specs.Calls.{Truth, Leads, TakesIn, Absorbs, Steps, Begins, Adds, PostsNew, IsAnswerTo, goes_on}
+use Rattle.reissue.specs.Calls.{Truth, Leads, TakesIn, Absorbs, Steps, Begins, PostsNew, IsAnswerTo, goes_on}
 use Rattle.reissue.proofs.Posting.{closing_posted}
+use Rattle.reissue.proofs.CallRules.{absorb_rules, step_rules, begin_rules}
 use Rattle.reissue.proofs.Settling.{minors_push}
 use Rattle.reissue.proofs.Tickets.{pending_among}
 
+-- the record after both
 pub grown_append : (es fs : List Told) (marks : List Mark) → grown (es ++ fs) marks ≡ grown es (grown fs marks)
 grown_append [] fs marks = refl
 grown_append (Posted to r true ∷ es) fs marks = ap (λ (m : List Mark). Issued r to ∷ m) (grown_append es fs marks)
@@ -41,6 +42,7 @@ true_before (Posted to r false ∷ es) image marks o h = true_before es image ma
 true_before (Complained e ∷ es) image marks o h = absurd o
 true_before (Received m ∷ es) image marks o h = absurd o
 
+-- and after them
 true_after : (es : List Told) (image : Contents) (marks : List Mark) → OnlyPosts es
     → HasTrueReplies image marks → HasTrueReplies image (grown es marks)
 true_after [] image marks o h = h
@@ -52,75 +54,95 @@ true_after (Received m ∷ es) image marks o h = absurd o
 -- the posts after what was done on a message
 pub absorbs_then : (m : Incoming) (res : Settled) (s t u : Table) (before between after : List Told) (was mid is : Truth)
     → TakesIn m res s t before between was mid → Leads t u between after mid is
-    → MatchBool (is_message m) (PostsInOrder t.current (unposted t) between after) (after ≡ between)
+    → MatchBool (is_message m) (PostsInOrder t.current (unposted t) between after) (after ≡ between) → u.current ≡ t.current
     → Absorbs m res s u before after was is
-absorbs_then m res s t u before between after was mid is x l posts =
+absorbs_then m res s t u before between after was mid is x l posts current =
+    let in_order = subst (λ (h : List Told). PostsAfter m t h after) x.history posts in
+    let history = l.history ∙ ap (λ (h : List Told). l.posts ++ h) x.history in
+    let agrees : (marks : List Mark) → Agrees s marks → Agrees u (grown l.posts (received m marks)) = λ marks h. l.agrees (received m marks) (x.agrees marks h) in
     record {
+      heard = x.agrees;
+      current = current;
+      rules = λ minor marks h minors.
+          absorb_rules minor m s t u marks before after l.posts x.complaints h (x.agrees marks h) (x.hears marks h)
+          (x.minors minor minors) (x.due marks h) in_order history l.same l.posted l.issued current;
       mid = t;
       posts = l.posts;
       complaints = x.complaints;
-      history = l.history ∙ ap (λ (h : List Told). l.posts ++ h) x.history;
+      history = history;
       only_posts = l.only_posts;
       silent = x.silent;
       due = x.due;
       hears = x.hears;
-      in_order = subst (λ (h : List Told). PostsAfter m t h after) x.history posts;
+      in_order = in_order;
       same = l.same;
       posted = l.posted;
       issued = l.issued;
-      agrees = λ marks h. l.agrees (received m marks) (x.agrees marks h);
+      agrees = agrees;
       closes = subst (λ (ls : List Pending). Closes res (pending_of s.pending) (pending_of ls)) (sym l.same) x.closes;
       closing = λ marks h.
-        closing_posted res s.pending t.pending u.pending marks (received m marks) l.posts l.only_posts l.same x.closes
+          closing_posted res s.pending t.pending u.pending marks (received m marks) l.posts l.only_posts l.same x.closes
           (λ image tr. true_before l.posts image (received m marks) l.only_posts tr)
           (λ image. l.spares image (received m marks) (x.agrees marks h)) (x.closing marks h);
       minors = λ minor h. subst (λ (ls : List Pending). AllOfMinor minor ls) (sym l.same) (x.minors minor h);
       truth = λ opening marks h minors k.
-        l.truth opening (received m marks) (x.agrees marks h) (x.minors opening.minor minors) (x.truth opening (received m marks) k);
+          l.truth opening (received m marks) (x.agrees marks h) (x.minors opening.minor minors) (x.truth opening (received m marks) k);
     }
 
 -- a message taken, and what was done on it
 pub steps_one : (m : Incoming) (res : Settled) (t u : Table) (before taken after : List Told) (was mid is : Truth)
     → taken ≡ heard m before
     → ((opening : Opening) (marks : List Mark) → was opening marks
-        → mid opening (received m marks) × HasTrueReplies (contents_at opening) (received m marks))
+    → mid opening (received m marks) × HasTrueReplies (contents_at opening) (received m marks))
     → Absorbs m res t u taken after mid is → IsAnswerTo m res → Steps res t u before after was is
 steps_one m res t u before taken after was mid is told truth x answer =
+    let in_order = subst (λ (h : List Told). PostsAfter m x.mid (x.complaints ++ h) after) told x.in_order in
+    let history = x.history ∙ ap (λ (h : List Told). x.posts ++ (x.complaints ++ h)) told in
     record {
+      rules = λ minor marks h minors busy going.
+          step_rules minor m t x.mid u marks before after x.posts x.complaints h (x.heard marks h) (x.hears marks h)
+          (subst (λ (ls : List Pending). AllOfMinor minor ls) x.same (x.minors minor minors)) (x.due marks h) in_order history
+          x.same x.posted x.issued x.current busy going;
       message = m;
       mid = x.mid;
       posts = x.posts;
       complaints = x.complaints;
-      history = x.history ∙ ap (λ (h : List Told). x.posts ++ (x.complaints ++ h)) told;
+      history = history;
       only_posts = x.only_posts;
       answer = answer;
       due = x.due;
       hears = x.hears;
-      in_order = subst (λ (h : List Told). PostsAfter m x.mid (x.complaints ++ h) after) told x.in_order;
+      in_order = in_order;
       same = x.same;
       posted = x.posted;
       issued = x.issued;
       closes = x.closes;
       minors = x.minors;
       grows = λ marks. grown_append x.posts (x.complaints ++ (Received m ∷ [])) marks
-        ∙ ap (λ (l : List Mark). grown x.posts l)
+          ∙ ap (λ (l : List Mark). grown x.posts l)
           (grown_append x.complaints (Received m ∷ []) marks ∙ x.silent (received m marks));
       agrees = x.agrees;
       closing = x.closing;
       truth = λ opening marks h minors k.
-        let taken' = truth opening marks k in
-        (x.truth opening marks h minors taken'.0, true_after x.posts (contents_at opening) (received m marks) x.only_posts taken'.1);
+          let taken' = truth opening marks k in
+          (x.truth opening marks h minors taken'.0, true_after x.posts (contents_at opening) (received m marks) x.only_posts taken'.1);
     }
 
 -- a request is added, and posted or not
-pub begins_add : (ask : Ask) (s t u : Table) (p : Pending) (before after : List Told) (was is : Truth)
+pub begins_add : (ask : Ask) (s t u : Table) (p : Pending) (due : Bool) (before after : List Told) (was is : Truth)
     → ((marks : List Mark) → Agrees s marks → Agrees t marks)
     → t.pending ≡ s.pending ++ p ∷ [] → t.posted ≡ s.posted → t.issued ≡ s.issued → p.request.minor ≡ ask.minor
+    → t.current ≡ s.current → u.current ≡ t.current → p.request.id ≡ s.ids + 1 → length s.pending < 16
+    → due ≡ (s.posted == length s.pending)
+    → MatchBool due (PostsInOrder t.current (unposted t) before after) (after ≡ before)
     → Leads t u before after was is → Begins ask s u before after was is
-begins_add ask s t u p before after was is agrees items posted issued minor l =
+begins_add ask s t u p due before after was is agrees items posted issued minor here there id few is_due in_order l =
     let minors : (n : ℕ) → ask.minor ≡ n → AllOfMinor n s.pending → AllOfMinor n t.pending = λ n e h.
-        subst (λ (ls : List Pending). AllOfMinor n ls) (sym items) (minors_push n s.pending p h (minor ∙ e)) in
+    subst (λ (ls : List Pending). AllOfMinor n ls) (sym items) (minors_push n s.pending p h (minor ∙ e)) in
     record {
+      rules = λ n marks h m e.
+          begin_rules n s t u p due marks before after l.posts h m (minor ∙ e) items posted issued here there id few is_due in_order l.history
+          l.same l.posted l.issued;
       posts = l.posts;
       history = l.history;
       only_posts = l.only_posts;
@@ -128,12 +150,28 @@ begins_add ask s t u p before after was is agrees items posted issued minor l =
       issued = omega (arith, l.issued, issued);
       agrees = λ marks h. l.agrees marks (agrees marks h);
       spares = λ image marks h.
-        subst (λ (x : List Pending). Spares (pending_of x) (state_after image marks) (state_after image (grown l.posts marks))) (sym l.same)
-        (l.spares image marks (agrees marks h));
+          subst (λ (x : List Pending). Spares (pending_of x) (state_after image marks) (state_after image (grown l.posts marks))) (sym l.same)
+          (l.spares image marks (agrees marks h));
       minors = λ n e h. subst (λ (ls : List Pending). AllOfMinor n ls) (sym l.same) (minors n e h);
       truth = λ opening marks h e m k. l.truth opening marks (agrees marks h) (minors opening.minor e m) k;
     }
 
+-- nothing is begun
+pub begins_none : (ask : Ask) (t : Table) (history : List Told) (was : Truth) → Begins ask t t history history was was
+begins_none ask t history was = record {
+  posts = [];
+  history = refl;
+  only_posts = tt;
+  posted = omega arith;
+  issued = omega (arith, t.order);
+  agrees = λ marks h. h;
+  spares = λ image marks h. record { disk = λ p q. refl; sure = λ p q s. s };
+  minors = λ n e h. h;
+  truth = λ opening marks h e m k. k;
+  rules = λ n marks h m e. ([], record { told = refl; grows = refl; keeps = tt; owes = refl });
+}
+
+-- behind these stands the last
 drop_front : (xs : List Pending) (p : Pending) (n : ℕ) → n ≡ length xs → drop n (xs ++ p ∷ []) ≡ p ∷ []
 drop_front xs p n e = rw e (go xs) where
   go : (xs : List Pending) → drop (length xs) (xs ++ p ∷ []) ≡ p ∷ []
@@ -148,25 +186,29 @@ pub posts_new : (s t : Table) (p : Pending) (r : BlockRequest) (due : Bool) (bef
     → PostsNew s r before after
 posts_new s t p r due before after e items posted current is h =
     subst (λ (b : Bool). MatchBool b (PostsInOrder s.current (r ∷ []) before after) (after ≡ before)) e (by due (sym e) h) where
-  unposted_is : (s.posted == length s.pending) ≡ true → unposted t ≡ r ∷ []
-  unposted_is f =
-      let all : s.posted ≡ length s.pending = grind (arith, nat_tests) in
-      rw (items, posted) (ap (λ (l : List Pending). map request_of l) (drop_front s.pending p s.posted all) ∙ ap (λ (x : BlockRequest). x ∷ []) is)
-  by : (b : Bool) → (s.posted == length s.pending) ≡ b → MatchBool b (PostsInOrder t.current (unposted t) before after) (after ≡ before)
-      → MatchBool b (PostsInOrder s.current (r ∷ []) before after) (after ≡ before)
-  by true f h =
-      subst (λ (o : Option Endpoint). PostsInOrder o (r ∷ []) before after) current
-      (subst (λ (l : List BlockRequest). PostsInOrder t.current l before after) (unposted_is f) h)
-  by false f h = h
+      unposted_is : (s.posted == length s.pending) ≡ true → unposted t ≡ r ∷ []
+      unposted_is f =
+          let all : s.posted ≡ length s.pending = grind (arith, nat_tests) in
+          rw (items, posted) (ap (λ (l : List Pending). map request_of l) (drop_front s.pending p s.posted all) ∙ ap (λ (x : BlockRequest). x ∷ []) is)
 
+      by : (b : Bool) → (s.posted == length s.pending) ≡ b → MatchBool b (PostsInOrder t.current (unposted t) before after) (after ≡ before)
+          → MatchBool b (PostsInOrder s.current (r ∷ []) before after) (after ≡ before)
+      by true f h =
+          subst (λ (o : Option Endpoint). PostsInOrder o (r ∷ []) before after) current
+          (subst (λ (l : List BlockRequest). PostsInOrder t.current l before after) (unposted_is f) h)
+      by false f h = h
+
+-- each of them is one of all
 free_each : (start size : ℕ) (all ps : List Pending) → AreDistinct all → IsFree start size (pending_of all)
     → ((q : Pending) → IsAmong q ps → IsAmong q all) → MissesOrSame start size ps
 free_each start size all [] d f among = tt
-free_each start size all (p ∷ ps) d f among =
-    (f.each p.ticket (begun_of p) (pending_among p all d (among p (here p ps))),
-    free_each start size all ps d f (λ q i. among q (there q p ps i))) where
+free_each start size all (p ∷ ps) d f among = (
+  f.each p.ticket (begun_of p) (pending_among p all d (among p (here p ps))),
+  free_each start size all ps d f (λ q i. among q (there q p ps i)),
+) where
   here : (p : Pending) (ps : List Pending) → IsAmong p (p ∷ ps)
   here p ps = inl refl
+
   there : (q p : Pending) (ps : List Pending) → IsAmong q ps → IsAmong q (p ∷ ps)
   there q p ps i = inr i
 

@@ -9,7 +9,10 @@ mod Answering
 mod Closing
 mod Settling
 mod Messages
-mod Joining
 mod Order
 mod PostRules
+mod TableRules
+mod StepRules
+mod CallRules
+mod Joining
 mod Posting

@@ -1,30 +1,27 @@
 -- What a message does to agreement with the record.
-use Rattle.std.proofs.Common.{◌≡◌, ℕ, ◌+◌, ◌≤◌, List, [], ◌∷◌, ◌++◌, Bool, true, false, cond, refl, sym, ◌∙◌, ap, subst, append_assoc, Option, Some, None}
-use Rattle.std.specs.Prelude.{slice_index}
+use Rattle.std.proofs.Common.{◌≡◌, ℕ, ◌+◌, List, [], ◌∷◌, ◌++◌, Bool, true, false, cond, refl, sym, ◌∙◌, ap, Some, None}
 use Rattle.endpoint.specs.declared.Endpoint.{Endpoint}
 use Rattle.message.specs.declared.BlockReply.{BlockReply}
 use Rattle.message.specs.declared.Incoming.{Incoming}
 use Rattle.message.specs.declared.Incoming.TheVariants as incoming
-use Rattle.marks.specs.Marks.{Mark, Started, Flush, GaveUp, gave_up, last_started}
+use Rattle.marks.specs.Marks.{Mark, Started, Flush, GaveUp, gave_up}
 use Rattle.marks.specs.Disk.{Contents, unsure, disk_after}
-use Rattle.marks.specs.Told.{Told, Received, Complained, received, grown}
+use Rattle.marks.specs.Told.{Told, Complained, received, grown}
 use Rattle.reissue.specs.declared.pending.Pending.{Pending}
 use Rattle.reissue.specs.declared.table.Table.{Table}
 use Rattle.reissue.specs.declared.table.Answer.{Answer}
 use Rattle.reissue.specs.declared.ask.Settled.{Settled}
 use Rattle.reissue.specs.declared.ask.Settled.TheVariants as settled
 use Rattle.marks.specs.Opening.{Opening}
-use Rattle.marks.specs.Disk.{bytes_read}
-use Rattle.reissue.specs.Moves.{Closes, Spares, Moves, Tells}
+use Rattle.reissue.specs.Moves.{Closes}
 use Rattle.reissue.specs.Entries.{pending_of, AllOfMinor}
-use Rattle.marks.specs.Acts.{target}
-use Rattle.reissue.specs.Agrees.{Agrees, Holds, AllReadDisk, ReadsDisk}
-use Rattle.reissue.specs.Hears.{Hears, HearsStart, HearsAnswer, counted_move}
-use Rattle.marks.specs.Acts.{complaint_due}
+use Rattle.reissue.specs.Agrees.{Agrees, AllReadDisk}
+use Rattle.reissue.specs.Hears.{HearsStart, HearsAnswer, counted_move}
+use Rattle.marks.specs.Acts.{complaint_due, target}
 use Rattle.reissue.specs.Posts.{complaints_about}
 use Rattle.reissue.specs.Calls.{Truth, TakesIn, Closing}
 use Rattle.reissue.specs.Answers.{is_bad, settled_of, complained}
-use Rattle.reissue.proofs.Writes.{wrote_like, spares_same}
+use Rattle.reissue.proofs.Writes.{wrote_like}
 use Rattle.reissue.proofs.Joined.{joined_like}
 
 -- marks that leave the disk and what is sure of it leave what was read true
@@ -33,9 +30,10 @@ reads_like : (image : Contents) (marks more : List Mark) (ps : List Pending)
     → ((place : ℕ) → disk_after image marks place ≡ disk_after image more place)
     → AllReadDisk image marks ps → AllReadDisk image more ps
 reads_like image marks more [] u d h = tt
-reads_like image marks more (p ∷ ps) u d h =
-    (λ is_read. record { each = λ k lt sure. (h.0 is_read).each k lt (sym (u (p.start + k)) ∙ sure) ∙ d (p.start + k) },
-    reads_like image marks more ps u d h.1)
+reads_like image marks more (p ∷ ps) u d h = (
+  λ is_read. record { each = λ k lt sure. (h.0 is_read).each k lt (sym (u (p.start + k)) ∙ sure) ∙ d (p.start + k) },
+  reads_like image marks more ps u d h.1,
+)
 
 -- where requests go after a start, given whether the device was given up before
 started_target : (t u : Table) (marks : List Mark) (e : Endpoint) (b : Bool) → t.given_up ≡ b → t.given_up ≡ gave_up marks
@@ -43,46 +41,77 @@ started_target : (t u : Table) (marks : List Mark) (e : Endpoint) (b : Bool) →
 started_target t u marks e true g h current new = rw (← h, g) (new ∙ current ∙ rw (← h, g) refl)
 started_target t u marks e false g h current new = rw (← h, g) new
 
+-- a start
 agrees_started : (t u : Table) (marks : List Mark) (e : Endpoint) → Agrees t marks
     → u.pending ≡ t.pending → u.issued ≡ t.issued → u.ids ≡ t.ids → u.current ≡ cond t.given_up t.current (Some e)
     → u.given_up ≡ t.given_up → Agrees u (Started e ∷ marks)
 agrees_started t u marks e h items issued ids current given_up =
     let s = h.holds in
-    record { opened = h.opened; waiting = h.waiting; holds = record {
-      items = items ∙ s.items; issued = issued ∙ s.issued; requests = s.requests; numbered = s.numbered;
-      ids = ids ∙ s.ids; well_formed = (s.well_formed, tt);
-      current = started_target t u marks e t.given_up refl s.given_up s.current current;
-      given_up = given_up ∙ s.given_up;
-      apart = s.apart;
-      joined = joined_like marks (Started e ∷ marks) (h.opened ++ h.waiting) (λ _. refl) s.joined;
-      reads = λ image tr. reads_like image marks (Started e ∷ marks) (h.opened ++ h.waiting) (λ _. refl) (λ _. refl) (s.reads image tr);
-      writes = λ image. wrote_like image marks (Started e ∷ marks) (h.opened ++ h.waiting) (λ _. refl) (λ _. refl) (s.writes image);
-    } }
+    record {
+      opened = h.opened;
+      waiting = h.waiting;
+      holds = record {
+        items = items ∙ s.items;
+        issued = issued ∙ s.issued;
+        requests = s.requests;
+        numbered = s.numbered;
+        ids = ids ∙ s.ids;
+        well_formed = (s.well_formed, tt);
+        current = started_target t u marks e t.given_up refl s.given_up s.current current;
+        given_up = given_up ∙ s.given_up;
+        apart = s.apart;
+        joined = joined_like marks (Started e ∷ marks) (h.opened ++ h.waiting) (λ _. refl) s.joined;
+        reads = λ image tr. reads_like image marks (Started e ∷ marks) (h.opened ++ h.waiting) (λ _. refl) (λ _. refl) (s.reads image tr);
+        writes = λ image. wrote_like image marks (Started e ∷ marks) (h.opened ++ h.waiting) (λ _. refl) (λ _. refl) (s.writes image);
+      };
+    }
 
+-- a flush
 agrees_flushed : (t : Table) (marks : List Mark) → Agrees t marks → Agrees t (Flush ∷ marks)
 agrees_flushed t marks h =
     let s = h.holds in
-    record { opened = h.opened; waiting = h.waiting; holds = record {
-      items = s.items; issued = s.issued; requests = s.requests; numbered = s.numbered;
-      ids = s.ids; well_formed = (s.well_formed, tt); current = s.current; given_up = s.given_up;
-      apart = s.apart;
-      joined = joined_like marks (Flush ∷ marks) (h.opened ++ h.waiting) (λ _. refl) s.joined;
-      reads = λ image tr. reads_like image marks (Flush ∷ marks) (h.opened ++ h.waiting) (λ _. refl) (λ _. refl) (s.reads image tr);
-      writes = λ image. wrote_like image marks (Flush ∷ marks) (h.opened ++ h.waiting) (λ _. refl) (λ _. refl) (s.writes image);
-    } }
+    record {
+      opened = h.opened;
+      waiting = h.waiting;
+      holds = record {
+        items = s.items;
+        issued = s.issued;
+        requests = s.requests;
+        numbered = s.numbered;
+        ids = s.ids;
+        well_formed = (s.well_formed, tt);
+        current = s.current;
+        given_up = s.given_up;
+        apart = s.apart;
+        joined = joined_like marks (Flush ∷ marks) (h.opened ++ h.waiting) (λ _. refl) s.joined;
+        reads = λ image tr. reads_like image marks (Flush ∷ marks) (h.opened ++ h.waiting) (λ _. refl) (λ _. refl) (s.reads image tr);
+        writes = λ image. wrote_like image marks (Flush ∷ marks) (h.opened ++ h.waiting) (λ _. refl) (λ _. refl) (s.writes image);
+      };
+    }
 
+-- the device is given up
 agrees_gave_up : (t u : Table) (marks : List Mark) → Agrees t marks
     → u.pending ≡ t.pending → u.issued ≡ t.issued → u.ids ≡ t.ids → u.current ≡ None → u.given_up ≡ true → Agrees u (GaveUp ∷ marks)
 agrees_gave_up t u marks h items issued ids current given_up =
     let s = h.holds in
-    record { opened = h.opened; waiting = h.waiting; holds = record {
-      items = items ∙ s.items; issued = issued ∙ s.issued; requests = s.requests; numbered = s.numbered;
-      ids = ids ∙ s.ids; well_formed = (s.well_formed, tt); current = current; given_up = given_up;
-      apart = s.apart;
-      joined = joined_like marks (GaveUp ∷ marks) (h.opened ++ h.waiting) (λ _. refl) s.joined;
-      reads = λ image tr. reads_like image marks (GaveUp ∷ marks) (h.opened ++ h.waiting) (λ _. refl) (λ _. refl) (s.reads image tr);
-      writes = λ image. wrote_like image marks (GaveUp ∷ marks) (h.opened ++ h.waiting) (λ _. refl) (λ _. refl) (s.writes image);
-    } }
+    record {
+      opened = h.opened;
+      waiting = h.waiting;
+      holds = record {
+        items = items ∙ s.items;
+        issued = issued ∙ s.issued;
+        requests = s.requests;
+        numbered = s.numbered;
+        ids = ids ∙ s.ids;
+        well_formed = (s.well_formed, tt);
+        current = current;
+        given_up = given_up;
+        apart = s.apart;
+        joined = joined_like marks (GaveUp ∷ marks) (h.opened ++ h.waiting) (λ _. refl) s.joined;
+        reads = λ image tr. reads_like image marks (GaveUp ∷ marks) (h.opened ++ h.waiting) (λ _. refl) (λ _. refl) (s.reads image tr);
+        writes = λ image. wrote_like image marks (GaveUp ∷ marks) (h.opened ++ h.waiting) (λ _. refl) (λ _. refl) (s.writes image);
+      };
+    }
 
 -- a complaint adds nothing to the record
 complaint_silent : (b : Bool) (e : Endpoint) (marks : List Mark) → grown (cond b (Complained e ∷ []) []) marks ≡ marks
@@ -116,14 +145,15 @@ takes_reply message a r t u before after was is same agrees hears due closes clo
       truth = truth;
     })
 
+-- the disk and what is sure stay
 closing_same : (result : Settled) (ps us : List Pending) (marks more : List Mark)
     → ((image : Contents) (p : ℕ) → disk_after image more p ≡ disk_after image marks p) → ((p : ℕ) → unsure more p ≡ unsure marks p)
     → Closing settled.Nothing ps us marks more
 closing_same result ps us marks more d u = record {
-    moves = λ image tr. record { spares = record { disk = λ p q. d image p; sure = λ p q s. u p ∙ s }; tells = tt };
-    joins = tt;
-    leaves = tt;
-  }
+  moves = λ image tr. record { spares = record { disk = λ p q. d image p; sure = λ p q s. u p ∙ s }; tells = tt };
+  joins = tt;
+  leaves = tt;
+}
 
 -- what a start does, given whether the device was given up before
 started_hears : (t u : Table) (e : Endpoint) (b : Bool) → u.pending ≡ t.pending → u.ids ≡ t.ids
@@ -143,7 +173,10 @@ pub takes_started : (message : Incoming) (e : Endpoint) (t u : Table) (history :
     → TakesIn message settled.Nothing t u history history was was
 takes_started message e t u history was is items posted issued ids current given_up =
     rw is (record {
-      complaints = []; history = refl; silent = λ _. refl; due = λ _ _. refl;
+      complaints = [];
+      history = refl;
+      silent = λ _. refl;
+      due = λ _ _. refl;
       hears = λ marks h. started_hears t u e t.given_up items ids posted issued current (nowhere t marks h);
       agrees = λ marks h. agrees_started t u marks e h items issued ids current given_up;
       closes = ap pending_of items;
@@ -157,9 +190,13 @@ pub takes_flush : (message : Incoming) (t : Table) (history : List Told) (was : 
     → TakesIn message settled.Flush t t history history was was
 takes_flush message t history was is =
     rw is (record {
-      complaints = []; history = refl; silent = λ _. refl; due = λ _ _. refl;
+      complaints = [];
+      history = refl;
+      silent = λ _. refl;
+      due = λ _ _. refl;
       hears = λ marks h. (record { pending = refl; ids = refl; posted = refl; issued = refl }, refl);
-      agrees = λ marks h. agrees_flushed t marks h; closes = refl;
+      agrees = λ marks h. agrees_flushed t marks h;
+      closes = refl;
       closing = λ marks h. record { moves = λ image tr. record { spares = record { disk = λ p q. refl; sure = λ p q s. s }; tells = tt }; joins = tt; leaves = tt };
       minors = λ minor h. h;
       truth = λ opening marks k. k;
@@ -171,9 +208,13 @@ pub takes_gave_up : (message : Incoming) (t u : Table) (history : List Told) (wa
     → TakesIn message settled.GaveUp t u history history was was
 takes_gave_up message t u history was is items posted issued ids current given_up =
     rw is (record {
-      complaints = []; history = refl; silent = λ _. refl; due = λ _ _. refl;
+      complaints = [];
+      history = refl;
+      silent = λ _. refl;
+      due = λ _ _. refl;
       hears = λ marks h. (record { pending = items; ids = ids; posted = posted; issued = issued }, current);
-      agrees = λ marks h. agrees_gave_up t u marks h items issued ids current given_up; closes = ap pending_of items;
+      agrees = λ marks h. agrees_gave_up t u marks h items issued ids current given_up;
+      closes = ap pending_of items;
       closing = λ marks h. record { moves = λ image tr. record { spares = record { disk = λ p q. refl; sure = λ p q s. s }; tells = tt }; joins = tt; leaves = tt };
       minors = λ minor h. rw items h;
       truth = λ opening marks k. k;
@@ -184,9 +225,13 @@ pub takes_end : (message : Incoming) (t : Table) (history : List Told) (was : Tr
     → TakesIn message settled.End t t history history was was
 takes_end message t history was is =
     rw is (record {
-      complaints = []; history = refl; silent = λ _. refl; due = λ _ _. refl;
+      complaints = [];
+      history = refl;
+      silent = λ _. refl;
+      due = λ _ _. refl;
       hears = λ marks h. (record { pending = refl; ids = refl; posted = refl; issued = refl }, refl);
-      agrees = λ marks h. h; closes = refl;
+      agrees = λ marks h. h;
+      closes = refl;
       closing = λ marks h. record { moves = λ image tr. record { spares = record { disk = λ p q. refl; sure = λ p q s. s }; tells = tt }; joins = tt; leaves = tt };
       minors = λ minor h. h;
       truth = λ opening marks k. k;

@@ -1,5 +1,5 @@
 -- Lists of pending requests in the rising order of their ids: what taking one out leaves of their ends.
-use Rattle.std.proofs.Common.{◌≡◌, ◌≢◌, ◌⊎◌, ℕ, suc, zero, ◌+◌, ◌-◌, ◌<◌, ◌≤◌, List, [], ◌∷◌, ◌++◌, length, drop, map, get_or, Bool, true, false, cond, refl, sym, ◌∙◌, ap, subst, inl, inr, arith}
+use Rattle.std.proofs.Common.{◌≡◌, ℕ, suc, zero, ◌+◌, ◌-◌, ◌<◌, ◌≤◌, List, [], ◌∷◌, ◌++◌, length, drop, map, get_or, cond, refl, sym, ◌∙◌, ap, subst, inl, inr, arith}
 use Rattle.std.proofs.lemmas.Bool.{cond-true, cond-false, eq-eqb, ne_eqb}
 use Rattle.std.proofs.lemmas.Bool.Decides.{leb_tells, nat_tests}
 use Rattle.std.proofs.lemmas.List.{length-append}
@@ -8,17 +8,13 @@ use Rattle.message.specs.declared.BlockRequest.{BlockRequest}
 use Rattle.marks.specs.Open.{without_id}
 use Rattle.reissue.specs.declared.pending.Pending.{Pending}
 use Rattle.reissue.specs.Entries.{AreRising, request_of}
-
--- a lower bound holds too
-rising_from : (low m ids : ℕ) (ps : List Pending) → low ≤ m → AreRising m ids ps → AreRising low ids ps
-rising_from low m ids [] le h = tt
-rising_from low m ids (p ∷ ps) le h = (omega (arith, h.0), h.1, h.2)
+use Rattle.reissue.proofs.Tickets.{rising_lower}
 
 -- the end of a rising list rises
 pub rising_drop : (low ids n : ℕ) (ps : List Pending) → AreRising low ids ps → AreRising low ids (drop n ps)
 rising_drop low ids zero ps h = h
 rising_drop low ids (suc n) [] h = tt
-rising_drop low ids (suc n) (p ∷ ps) h = rising_from low p.request.id ids (drop n ps) (omega (arith, h.0)) (rising_drop p.request.id ids n ps h.2)
+rising_drop low ids (suc n) (p ∷ ps) h = rising_lower low p.request.id ids (drop n ps) (omega (arith, h.0)) (rising_drop p.request.id ids n ps h.2)
 
 -- an id that is below all of them is none of theirs
 pub without_lower : (id low ids : ℕ) (ps : List Pending) → AreRising low ids ps → id ≤ low → without_id id (map request_of ps) ≡ map request_of ps
@@ -78,9 +74,9 @@ without_posted ids at n k ps e h lt is count = by n count where
       let same : k ≡ 0 = grind (arith, nat_tests) in
       rw same (without_after 0 ids 0 at ps e h lt is (omega arith))
   by (suc m) c = elim (leb_tells (suc m) at) [
-      inl le ↦ let same : k ≡ suc m = grind (arith, nat_tests) in rw same (without_after 0 ids (suc m) at ps e h lt is le.1)
+    | inl le ↦ let same : k ≡ suc m = grind (arith, nat_tests) in rw same (without_after 0 ids (suc m) at ps e h lt is le.1)
     | inr gt ↦ let same : k ≡ m = grind (arith, nat_tests) in rw same (without_before 0 ids m at ps e h lt is (omega (arith, gt.1)))
-    ]
+  ]
 
 -- what stands behind the entry stays
 pub drop_removed : (m at : ℕ) (ps : List Pending) → at ≤ m → drop m (remove ps at) ≡ drop (suc m) ps
@@ -98,6 +94,7 @@ drop_push zero ps q le = refl
 drop_push (suc n) [] q le = absurd (omega arith)
 drop_push (suc n) (p ∷ ps) q le = drop_push n ps q (omega arith)
 
+-- no list has an end but no list
 drop_none : (k : ℕ) → ◌≡◌ {A = List Pending} (drop k []) []
 drop_none zero = refl
 drop_none (suc k) = refl

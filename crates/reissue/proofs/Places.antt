@@ -1,5 +1,5 @@
 -- Entries of a slab in the order of a list of keys: what an insert and a removal do to that list.
-use Rattle.std.proofs.Common.{◌≡◌, ◌≢◌, ℕ, suc, zero, ◌+◌, ◌<◌, ◌≤◌, List, [], ◌∷◌, ◌++◌, length, get_or, refl, sym, ◌∙◌, ap, subst, arith, Option, Some, None}
+use Rattle.std.proofs.Common.{◌≡◌, ◌≢◌, ℕ, suc, zero, ◌+◌, ◌<◌, List, [], ◌∷◌, ◌++◌, length, get_or, refl, sym, ◌∙◌, ap, subst, arith, Option, Some, None}
 use Rattle.std.specs.Prelude.{remove}
 use Rattle.slab.specs.Slab.{Slab, get, Updates}
 use Rattle.reissue.specs.declared.pending.Pending.{Pending}
@@ -67,9 +67,9 @@ holds_push old new key p [] e h u = ((p, u.changed), tt, tt)
 holds_push old new key p (k ∷ keys) e h u =
     let o = is_other old key (k ∷ keys) e h in
     ((h.0.0, u.others k o.0 ∙ h.0.1), other_push keys h.1 o.0, holds_push old new key p keys e h.2 u) where
-  other_push : (keys : List ℕ) → IsOtherKey k keys → k ≢ key → IsOtherKey k (keys ++ key ∷ [])
-  other_push [] x n = ((λ same. n (sym same)), tt)
-  other_push (l ∷ keys) x n = (x.0, other_push keys x.1 n)
+      other_push : (keys : List ℕ) → IsOtherKey k keys → k ≢ key → IsOtherKey k (keys ++ key ∷ [])
+      other_push [] x n = ((λ same. n (sym same)), tt)
+      other_push (l ∷ keys) x n = (x.0, other_push keys x.1 n)
 
 -- the others without one of them
 other_remove : (key : ℕ) (keys : List ℕ) (at : ℕ) → IsOtherKey key keys → IsOtherKey key (remove keys at)

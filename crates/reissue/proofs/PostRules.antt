@@ -1,34 +1,34 @@
 -- Posts in order are acts that the rules allow.
-use Rattle.std.proofs.Common.{◌≡◌, ◌⊎◌, ℕ, suc, zero, ◌+◌, ◌-◌, ◌<◌, ◌≤◌, List, [], ◌∷◌, ◌++◌, length, take, drop, map, max, Bool, true, false, cond, refl, sym, ◌∙◌, ap, subst, inl, inr, arith, Option, Some, None, append_assoc}
+use Rattle.std.proofs.Common.{◌≡◌, ℕ, suc, ◌+◌, ◌-◌, List, [], ◌∷◌, ◌++◌, length, drop, map, Bool, true, false, refl, sym, ◌∙◌, ap, subst, inl, inr, arith, Some, None, append_assoc}
 use Rattle.std.proofs.lemmas.Bool.{cond-true, eq-eqb}
 use Rattle.std.proofs.lemmas.Bool.Decides.{leb_tells, nat_tests}
-use Rattle.std.proofs.lemmas.List.{length-append}
-use Rattle.std.specs.Prelude.{nat_lt, is_some, ◌&&◌, ◌==◌}
+use Rattle.std.specs.Prelude.{nat_lt, ◌==◌}
 use Rattle.endpoint.specs.declared.Endpoint.{Endpoint}
 use Rattle.message.specs.declared.BlockRequest.{BlockRequest}
-use Rattle.marks.specs.Marks.{Mark, Issued, last_started, gave_up}
+use Rattle.marks.specs.Marks.{Mark, Issued}
 use Rattle.marks.specs.Open.{without_id}
-use Rattle.marks.specs.Told.{Told, Posted, Complained, Received, grown}
-use Rattle.marks.specs.Acts.{Act, AtLink, Outbox, KeepsRules, outbox_after, marks_after, target, told_of, MayPost}
+use Rattle.marks.specs.Told.{Told, Posted, Complained, Received}
+use Rattle.marks.specs.Acts.{Act, AtLink, Outbox, KeepsRules, outbox_after, target, told_of}
 use Rattle.marks.specs.Opening.{FitsMinor}
 use Rattle.marks.proofs.ActLaws.{acts_compose}
 use Rattle.reissue.specs.declared.pending.Pending.{Pending}
-use Rattle.reissue.specs.declared.table.Table.{Table}
 use Rattle.reissue.specs.Entries.{AreRising, AllOfMinor, request_of}
-use Rattle.reissue.specs.Agrees.{unposted, never_issued}
-use Rattle.reissue.specs.Posts.{ArePostedTo, PostsInOrder, accepted_of}
-use Rattle.reissue.specs.Rules.{outbox_of}
-use Rattle.reissue.proofs.Order.{without_lower, drop_twice, append_cancel}
+use Rattle.reissue.specs.Posts.{ArePostedTo, accepted_of}
+use Rattle.reissue.proofs.Steps.{fits_minor}
+use Rattle.reissue.proofs.Tickets.{rising_lower}
+use Rattle.reissue.proofs.Order.{without_lower}
 
 -- the link was told and gave these
 abbrev pub at_link : List Told → List Act
 at_link [] = []
 at_link (t ∷ told) = AtLink t ∷ at_link told
 
+-- both one after the other
 at_link_append : (xs ys : List Told) → at_link (xs ++ ys) ≡ at_link xs ++ at_link ys
 at_link_append [] ys = refl
 at_link_append (x ∷ xs) ys = ap (λ (l : List Act). AtLink x ∷ l) (at_link_append xs ys)
 
+-- what was told by these acts
 pub told_at_link : (told : List Told) → told_of (at_link told) ≡ told
 told_at_link [] = refl
 told_at_link (t ∷ told) = ap (λ (l : List Told). t ∷ l) (told_at_link told)
@@ -37,6 +37,7 @@ told_at_link (t ∷ told) = ap (λ (l : List Told). t ∷ l) (told_at_link told)
 abbrev pub box : List BlockRequest → List BlockRequest → Bool → Outbox
 box ns us stopped = record { never_issued = ns; unposted = us; stopped = stopped; complaint = None }
 
+-- the same is owed
 pub box_same : (ns ms us vs : List BlockRequest) (b c : Bool) → ns ≡ ms → us ≡ vs → b ≡ c → box ns us b ≡ box ms vs c
 box_same ns ms us vs b c n u s =
     ap (λ (x : List BlockRequest). box x us b) n ∙ ap (λ (x : List BlockRequest). box ms x b) u ∙ ap (λ (x : Bool). box ms vs x) s
@@ -45,6 +46,7 @@ box_same ns ms us vs b c n u s =
 without_head : (r : BlockRequest) (rs : List BlockRequest) → without_id r.id (r ∷ rs) ≡ rs
 without_head r rs = cond-true (r.id == r.id) rs (r ∷ without_id r.id rs) (eq-eqb r.id r.id refl)
 
+-- one more was accepted
 accepted_more : (told : List Told) (to : Endpoint) (r : BlockRequest) → accepted_of (told ++ Posted to r true ∷ []) ≡ accepted_of told + 1
 accepted_more [] to r = refl
 accepted_more (Posted t s true ∷ told) to r = ap (λ (n : ℕ). n + 1) (accepted_more told to r)
@@ -58,6 +60,7 @@ pub record Then (minor : ℕ) (posts : List Told) (marks : List Mark) (to : Endp
   pub owes : outbox_after (at_link (posts ++ Posted to r true ∷ [])) marks (box ns (r ∷ us) false)
       ≡ outbox_after (at_link posts) (Issued r to ∷ marks) (box ms us false)
 
+-- an accepted post, and then the others
 post_then : (minor : ℕ) (posts : List Told) (marks : List Mark) (to : Endpoint) (r : BlockRequest) (ns ms us : List BlockRequest)
     → target marks ≡ Some to → FitsMinor minor r → without_id r.id ns ≡ ms
     → KeepsRules minor (at_link posts) (Issued r to ∷ marks) (box ms us false)
@@ -66,19 +69,16 @@ post_then minor posts marks to r ns ms us started fits left keeps =
     let one : List Act = AtLink (Posted to r true) ∷ [] in
     let o = box ns (r ∷ us) false in
     let after : box (without_id r.id ns) (without_id r.id (r ∷ us)) false ≡ box ms us false =
-        box_same (without_id r.id ns) ms (without_id r.id (r ∷ us)) us false false left (without_head r us) refl in
+    box_same (without_id r.id ns) ms (without_id r.id (r ∷ us)) us false false left (without_head r us) refl in
     let c = acts_compose minor (at_link posts) (AtLink (Posted to r true) ∷ []) marks o in
     let first : KeepsRules minor (AtLink (Posted to r true) ∷ []) marks o =
-        (tt, record { complained = refl; endpoint = started; not_stopped = refl; first = refl; fits = fits }) in
+    (tt, record { complained = refl; endpoint = started; not_stopped = refl; first = refl; fits = fits }) in
     let second : KeepsRules minor (at_link posts) (Issued r to ∷ marks) (box (without_id r.id ns) (without_id r.id (r ∷ us)) false) =
-        subst (λ (x : Outbox). KeepsRules minor (at_link posts) (Issued r to ∷ marks) x) (sym after) keeps in
+    subst (λ (x : Outbox). KeepsRules minor (at_link posts) (Issued r to ∷ marks) x) (sym after) keeps in
     record {
       keeps = rw (at_link_append posts (Posted to r true ∷ [])) (c.keep first second);
       owes = rw (at_link_append posts (Posted to r true ∷ [])) (c.owed ∙ ap (λ (x : Outbox). outbox_after (at_link posts) (Issued r to ∷ marks) x) after);
     }
-
-fits_minor : (minor : ℕ) (p : Pending) → p.request.minor ≡ minor → FitsMinor minor p.request
-fits_minor minor p e = record { minor_is = e; count = omega (arith, p.from, p.end, p.small); bytes = p.full }
 
 -- the issued ones of those that aren't posted, and then those never issued, were posted
 pub record IsPosted (minor : ℕ) (fs ws : List Pending) (marks : List Mark) (before after : List Told) : Type 0 where
@@ -87,37 +87,40 @@ pub record IsPosted (minor : ℕ) (fs ws : List Pending) (marks : List Mark) (be
   pub keeps : KeepsRules minor (at_link posts) marks (box (map request_of ws) (map request_of (fs ++ ws)) false)
   pub owes : outbox_after (at_link posts) marks (box (map request_of ws) (map request_of (fs ++ ws)) false)
       ≡ box (map request_of (drop (accepted_of posts - length fs) ws)) (map request_of (drop (accepted_of posts) (fs ++ ws)))
-        (nat_lt (accepted_of posts) (length (fs ++ ws)))
+      (nat_lt (accepted_of posts) (length (fs ++ ws)))
 
+-- one before the others
 joined : (posts : List Told) (t : Told) (before after : List Told) → after ≡ posts ++ (t ∷ before) → after ≡ (posts ++ t ∷ []) ++ before
 joined posts t before after h = h ∙ sym (append_assoc posts (t ∷ []) before)
 
+-- less by one on both sides
 less_suc : (k n : ℕ) → nat_lt k n ≡ nat_lt (suc k) (suc n)
 less_suc k n = elim (leb_tells n k) [ inl h ↦ grind (arith, nat_tests) | inr h ↦ grind (arith, nat_tests) ]
 
+-- none is less than one
 zero_less : (n : ℕ) → true ≡ nat_lt 0 (suc n)
 zero_less n = grind (arith, nat_tests)
 
+-- the end of a rising list rises
 rising_suffix : (low ids : ℕ) (fs ws : List Pending) → AreRising low ids (fs ++ ws) → AreRising low ids ws
 rising_suffix low ids [] ws h = h
-rising_suffix low ids (f ∷ fs) ws h = lower low f.request.id ws (omega (arith, h.0)) (rising_suffix f.request.id ids fs ws h.2) where
-  lower : (low m : ℕ) (ws : List Pending) → low ≤ m → AreRising m ids ws → AreRising low ids ws
-  lower low m [] le h = tt
-  lower low m (w ∷ ws) le h = (omega (arith, h.0), h.1, h.2)
+rising_suffix low ids (f ∷ fs) ws h = rising_lower low f.request.id ids ws (omega (arith, h.0)) (rising_suffix f.request.id ids fs ws h.2)
 
+-- the first is refused
 refused_first : (minor : ℕ) (to : Endpoint) (fs ws : List Pending) (p : Pending) (ps : List Pending) (marks : List Mark) (before after : List Told)
     → fs ++ ws ≡ p ∷ ps → target marks ≡ Some to → p.request.minor ≡ minor
     → after ≡ Posted to p.request false ∷ before → IsPosted minor fs ws marks before after
 refused_first minor to fs ws p ps marks before after is started m e = record {
-    posts = Posted to p.request false ∷ [];
-    history = e;
-    keeps = (tt, record { complained = refl; endpoint = started; not_stopped = refl; first = rw is refl; fits = fits_minor minor p m });
-    owes =
+  posts = Posted to p.request false ∷ [];
+  history = e;
+  keeps = (tt, record { complained = refl; endpoint = started; not_stopped = refl; first = rw is refl; fits = fits_minor minor p m });
+  owes =
       let none : 0 - length fs ≡ 0 = omega arith in
       box_same (map request_of ws) (map request_of (drop (0 - length fs) ws)) (map request_of (fs ++ ws)) (map request_of (fs ++ ws)) true
-        (nat_lt 0 (length (fs ++ ws))) (rw none refl) refl (rw is (zero_less (length ps)));
-  }
+      (nat_lt 0 (length (fs ++ ws))) (rw none refl) refl (rw is (zero_less (length ps)));
+}
 
+-- posts in order, up to the first that is refused, keep the rules
 pub posted_keep : (minor low ids : ℕ) (to : Endpoint) (fs ws : List Pending) (marks : List Mark) (before after : List Told)
     → AreRising low ids (fs ++ ws) → AllOfMinor minor (fs ++ ws) → target marks ≡ Some to
     → ArePostedTo to (map request_of (fs ++ ws)) before after → IsPosted minor fs ws marks before after
@@ -126,7 +129,7 @@ posted_keep minor low ids to [] (w ∷ ws) marks before after h m s (inl e) = re
 posted_keep minor low ids to [] (w ∷ ws) marks before after h m s (inr e) =
     let x = posted_keep minor w.request.id ids to [] ws (Issued w.request to ∷ marks) (Posted to w.request true ∷ before) after h.2 m.1 s e in
     let t = post_then minor x.posts marks to w.request (map request_of (w ∷ ws)) (map request_of ws) (map request_of ws) s (fits_minor minor w m.0)
-        (without_head w.request (map request_of ws)) x.keeps in
+    (without_head w.request (map request_of ws)) x.keeps in
     let k : accepted_of (x.posts ++ Posted to w.request true ∷ []) ≡ suc (accepted_of x.posts) = omega (arith, accepted_more x.posts to w.request) in
     let same : accepted_of x.posts - 0 ≡ accepted_of x.posts = omega arith in
     let next : suc (accepted_of x.posts) - 0 ≡ suc (accepted_of x.posts) = omega arith in
@@ -135,7 +138,7 @@ posted_keep minor low ids to [] (w ∷ ws) marks before after h m s (inr e) =
       history = joined x.posts (Posted to w.request true) before after x.history;
       keeps = t.keeps;
       owes = t.owes ∙ x.owes ∙ rw (k, same, next)
-        (box_same (map request_of (drop (accepted_of x.posts) ws)) (map request_of (drop (accepted_of x.posts) ws))
+          (box_same (map request_of (drop (accepted_of x.posts) ws)) (map request_of (drop (accepted_of x.posts) ws))
           (map request_of (drop (accepted_of x.posts) ws)) (map request_of (drop (accepted_of x.posts) ws))
           (nat_lt (accepted_of x.posts) (length ws)) (nat_lt (suc (accepted_of x.posts)) (suc (length ws))) refl refl (less_suc (accepted_of x.posts) (length ws)));
     }
@@ -143,7 +146,7 @@ posted_keep minor low ids to (f ∷ fs) ws marks before after h m s (inl e) = re
 posted_keep minor low ids to (f ∷ fs) ws marks before after h m s (inr e) =
     let x = posted_keep minor f.request.id ids to fs ws (Issued f.request to ∷ marks) (Posted to f.request true ∷ before) after h.2 m.1 s e in
     let t = post_then minor x.posts marks to f.request (map request_of ws) (map request_of ws) (map request_of (fs ++ ws)) s (fits_minor minor f m.0)
-        (without_lower f.request.id f.request.id ids ws (rising_suffix f.request.id ids fs ws h.2) (omega arith)) x.keeps in
+    (without_lower f.request.id f.request.id ids ws (rising_suffix f.request.id ids fs ws h.2) (omega arith)) x.keeps in
     let k : accepted_of (x.posts ++ Posted to f.request true ∷ []) ≡ suc (accepted_of x.posts) = omega (arith, accepted_more x.posts to f.request) in
     let one : suc (accepted_of x.posts) - suc (length fs) ≡ accepted_of x.posts - length fs = omega arith in
     record {
@@ -151,7 +154,7 @@ posted_keep minor low ids to (f ∷ fs) ws marks before after h m s (inr e) =
       history = joined x.posts (Posted to f.request true) before after x.history;
       keeps = t.keeps;
       owes = t.owes ∙ x.owes ∙ rw (k, one)
-        (box_same (map request_of (drop (accepted_of x.posts - length fs) ws)) (map request_of (drop (accepted_of x.posts - length fs) ws))
+          (box_same (map request_of (drop (accepted_of x.posts - length fs) ws)) (map request_of (drop (accepted_of x.posts - length fs) ws))
           (map request_of (drop (accepted_of x.posts) (fs ++ ws))) (map request_of (drop (accepted_of x.posts) (fs ++ ws)))
           (nat_lt (accepted_of x.posts) (length (fs ++ ws))) (nat_lt (suc (accepted_of x.posts)) (suc (length (fs ++ ws)))) refl refl
           (less_suc (accepted_of x.posts) (length (fs ++ ws))));

@@ -1,5 +1,5 @@
 -- What posts leave of what an answer told.
-use Rattle.std.proofs.Common.{◌≡◌, ◌≢◌, ◌⊎◌, ℕ, ◌+◌, ◌<◌, ◌≤◌, List, [], ◌∷◌, Bool, true, false, cond, refl, sym, ◌∙◌, ap, subst, inl, inr, Option, Some, None, arith}
+use Rattle.std.proofs.Common.{◌≡◌, ℕ, ◌+◌, ◌<◌, List, [], ◌∷◌, Bool, true, false, refl, sym, ◌∙◌, subst, inl, inr, Option, Some, None, arith}
 use Rattle.std.specs.Prelude.{◌||◌}
 use Rattle.reissue.specs.declared.ask.Settled.{Settled}
 use Rattle.reissue.specs.declared.ask.Settled.TheVariants as settled
@@ -7,27 +7,29 @@ use Rattle.reissue.proofs.Maps.{put_cases}
 use Rattle.reissue.specs.declared.pending.Pending.{Pending}
 use Rattle.reissue.proofs.Writes.{spares_then}
 use Rattle.reissue.proofs.Tickets.{pending_here}
-use Rattle.reissue.specs.declared.table.Table.{Table}
 use Rattle.std.proofs.Common.{length}
 use Rattle.std.specs.List.{list_any}
 use Rattle.marks.specs.Disk.{Contents, HasTrueReplies, disk_after, unsure}
-use Rattle.marks.specs.Marks.{Flush, GaveUp, Mark}
+use Rattle.marks.specs.Marks.{Mark}
 use Rattle.marks.specs.Told.{Complained, Posted, Received, Told, grown}
-use Rattle.reissue.specs.Agrees.{Agrees}
-use Rattle.reissue.specs.Calls.{Closing, Leads, LeavesQuiet}
+use Rattle.reissue.specs.Calls.{Closing, LeavesQuiet}
 use Rattle.reissue.specs.Entries.{begun_of, pending_of}
 use Rattle.marks.specs.Disk.{bytes_read}
 use Rattle.reissue.specs.Moves.{Begun, Closes, Joins, IsBusy, IsQuiet, Spares, Tells, put, state_after}
 use Rattle.reissue.specs.Posts.{OnlyPosts}
 
+-- a place stays quiet when a request is settled
 quiet_put : (f : ℕ → Option Begun) (t p : ℕ) → IsQuiet f p → IsQuiet (put f t None) p
-quiet_put f t p h = record { none = λ m r bytes is w touch. elim (put_cases f t None m) [
+quiet_put f t p h = record {
+  none = λ m r bytes is w touch. elim (put_cases f t None m) [
     | inl e ↦ absurd (none_some (sym e.1 ∙ is))
     | inr e ↦ h.none m r bytes (sym e.1 ∙ is) w touch
-    ] } where
+  ];
+} where
   none_some : {r : Begun} → None ≡ Some r → ⊥
   none_some h = cc
 
+-- and on each message
 quiet_closed : (res : Settled) (f g : ℕ → Option Begun) → Closes res f g → (p : ℕ) → IsQuiet f p → IsQuiet g p
 quiet_closed (settled.Read t b) f g c p h = subst (λ (x : ℕ → Option Begun). IsQuiet x p) (sym c.3) (quiet_put f t p h)
 quiet_closed (settled.Written t) f g c p h = subst (λ (x : ℕ → Option Begun). IsQuiet x p) (sym c.4) (quiet_put f t p h)
@@ -36,6 +38,7 @@ quiet_closed settled.Flush f g c p h = subst (λ (x : ℕ → Option Begun). IsQ
 quiet_closed settled.GaveUp f g c p h = subst (λ (x : ℕ → Option Begun). IsQuiet x p) (sym c) h
 quiet_closed settled.End f g c p h = subst (λ (x : ℕ → Option Begun). IsQuiet x p) (sym c) h
 
+-- posts leave the disk
 disk_posted : (es : List Told) (image : Contents) (marks : List Mark) (p : ℕ) → OnlyPosts es → disk_after image (grown es marks) p ≡ disk_after image marks p
 disk_posted [] image marks p o = refl
 disk_posted (Posted to r true ∷ es) image marks p o = disk_posted es image marks p o
@@ -43,10 +46,12 @@ disk_posted (Posted to r false ∷ es) image marks p o = disk_posted es image ma
 disk_posted (Complained e ∷ es) image marks p o = absurd o
 disk_posted (Received m ∷ es) image marks p o = absurd o
 
+-- neither holds: the right
 or_right : (a b : Bool) → (a || b) ≡ false → b ≡ false
 or_right true b e = cc
 or_right false b e = e
 
+-- what is sure after posts was sure before
 sure_posted : (es : List Told) (marks : List Mark) (p : ℕ) → OnlyPosts es → unsure (grown es marks) p ≡ false → unsure marks p ≡ false
 sure_posted [] marks p o h = h
 sure_posted (Posted to r true ∷ es) marks p o h = sure_posted es marks p o (or_right _ (unsure (grown es marks) p) h)
@@ -54,6 +59,7 @@ sure_posted (Posted to r false ∷ es) marks p o h = sure_posted es marks p o h
 sure_posted (Complained e ∷ es) marks p o h = absurd o
 sure_posted (Received m ∷ es) marks p o h = absurd o
 
+-- what a settled request tells still holds after posts
 tells_posted : (res : Settled) (f g : ℕ → Option Begun) (es : List Told) (image : Contents) (marks : List Mark) → OnlyPosts es
     → LeavesQuiet res f g → Spares g (state_after image marks) (state_after image (grown es marks))
     → Tells res f (state_after image marks) → Tells res f (state_after image (grown es marks))
@@ -68,6 +74,7 @@ tells_posted settled.Flush f g es image marks o l s h = tt
 tells_posted settled.GaveUp f g es image marks o l s h = tt
 tells_posted settled.End f g es image marks o l s h = tt
 
+-- posts leave what was read
 bytes_read_posted : (es : List Told) (marks : List Mark) (p : ℕ) → OnlyPosts es → bytes_read (grown es marks) p ≡ bytes_read marks p
 bytes_read_posted [] marks p o = refl
 bytes_read_posted (Posted to r true ∷ es) marks p o = bytes_read_posted es marks p o
@@ -75,6 +82,7 @@ bytes_read_posted (Posted to r false ∷ es) marks p o = bytes_read_posted es ma
 bytes_read_posted (Complained e ∷ es) marks p o = absurd o
 bytes_read_posted (Received m ∷ es) marks p o = absurd o
 
+-- and so what a settled read has
 joins_posted : (res : Settled) (f : ℕ → Option Begun) (es : List Told) (marks : List Mark) → OnlyPosts es
     → Joins res f marks → Joins res f (grown es marks)
 joins_posted (settled.Read t b) f es marks o h = λ r is k lt. h r is k lt ∙ sym (bytes_read_posted es marks (r.start + k) o)
@@ -84,29 +92,33 @@ joins_posted settled.Flush f es marks o h = tt
 joins_posted settled.GaveUp f es marks o h = tt
 joins_posted settled.End f es marks o h = tt
 
+-- what a message did, and then posts
 pub closing_posted : (res : Settled) (ps ts us : List Pending) (marks mid : List Mark) (es : List Told)
     → OnlyPosts es → us ≡ ts → Closes res (pending_of ps) (pending_of ts)
     → ((image : Contents) → HasTrueReplies image (grown es mid) → HasTrueReplies image mid)
     → ((image : Contents) → Spares (pending_of ts) (state_after image mid) (state_after image (grown es mid)))
     → Closing res ps ts marks mid → Closing res ps us marks (grown es mid)
 closing_posted res ps ts us marks mid es o same c before s h = record {
-    moves = λ image tr.
+  moves = λ image tr.
       let m = h.moves image (before image tr) in
       record {
         spares = spares_then (pending_of ps) (state_after image marks) (state_after image mid) (state_after image (grown es mid)) m.spares
-          (record { disk = λ p q. (s image).disk p (quiet_closed res (pending_of ps) (pending_of ts) c p q);
-                    sure = λ p q u. (s image).sure p (quiet_closed res (pending_of ps) (pending_of ts) c p q) u });
+            (record {
+              disk = λ p q. (s image).disk p (quiet_closed res (pending_of ps) (pending_of ts) c p q);
+              sure = λ p q u. (s image).sure p (quiet_closed res (pending_of ps) (pending_of ts) c p q) u;
+            });
         tells = tells_posted res (pending_of ps) (pending_of ts) es image mid o h.leaves (s image) m.tells;
       };
-    joins = joins_posted res (pending_of ps) es mid o h.joins;
-    leaves = subst (λ (l : List Pending). LeavesQuiet res (pending_of ps) (pending_of l)) (sym same) h.leaves;
-  }
+  joins = joins_posted res (pending_of ps) es mid o h.joins;
+  leaves = subst (λ (l : List Pending). LeavesQuiet res (pending_of ps) (pending_of l)) (sym same) h.leaves;
+}
 
+-- where there is an entry, something is pending
 pub busy : (ps : List Pending) → 0 < length ps → IsBusy (pending_of ps)
 busy [] lt = absurd (omega arith)
 busy (p ∷ ps) lt = record { ticket = p.ticket; request = begun_of p; is = pending_here p ps p.ticket refl }
 
+-- where one passes a test, something is pending
 pub busy_any : (test : Pending → Bool) (ps : List Pending) → list_any test ps ≡ true → IsBusy (pending_of ps)
 busy_any test [] e = cc
 busy_any test (p ∷ ps) e = busy (p ∷ ps) (omega arith)
-

@@ -1,11 +1,11 @@
 -- When the table of pending requests agrees with a record.
-use Rattle.std.specs.Prelude.{◌≡◌, ◌⊎◌, ℕ, ◌+◌, ◌-◌, ◌<◌, ◌≤◌, List, [], ◌∷◌, ◌++◌, length, drop, map, Bool, true, false, Option, Some, None, if◌then◌else◌, ◌&&◌, nat_le, nat_lt, slice_index, not}
+use Rattle.std.specs.Prelude.{◌≡◌, ◌⊎◌, ℕ, ◌+◌, ◌-◌, ◌<◌, ◌≤◌, List, [], ◌∷◌, ◌++◌, length, drop, map, true, false, Option, None, if◌then◌else◌, slice_index}
 use Rattle.endpoint.specs.declared.Endpoint.{Endpoint}
 use Rattle.message.specs.Good.{is_write}
 use Rattle.message.specs.declared.BlockRequest.{BlockRequest}
-use Rattle.marks.specs.Marks.{Mark, Answered, gave_up}
+use Rattle.marks.specs.Marks.{Mark, gave_up}
 use Rattle.marks.specs.Acts.{target}
-use Rattle.marks.specs.Open.{greatest, open_requests, IsWellFormed, asked_by, moved_by}
+use Rattle.marks.specs.Open.{greatest, open_requests, IsWellFormed}
 use Rattle.marks.specs.Disk.{Contents, disk_after, bytes_read, unsure, HasTrueReplies}
 use Rattle.reissue.specs.declared.pending.Pending.{Pending}
 use Rattle.reissue.specs.declared.table.Table.{Table}
@@ -28,6 +28,7 @@ AreNumbered next (r ∷ rs) = (r.id ≡ next) × AreNumbered (next + 1) rs
 pub record Apart (p q : Pending) : Type 0 where
   pub apart : (p.start + p.size ≤ q.start) ⊎ (q.start + q.size ≤ p.start)
 
+-- it is apart from each of them
 abbrev pub ApartFromAll : Pending → List Pending → Type 0
 ApartFromAll p [] = Unit {0}
 ApartFromAll p (q ∷ qs) = Apart p q × ApartFromAll p qs
@@ -42,6 +43,7 @@ pub record ReadsDisk (image : Contents) (marks : List Mark) (p : Pending) : Type
   pub each : (k : ℕ) → p.start + k < p.request.position → unsure marks (p.start + k) ≡ false
       → slice_index p.bytes k ≡ disk_after image marks (p.start + k)
 
+-- so it is of each read among them
 abbrev pub AllReadDisk : Contents → List Mark → List Pending → Type 0
 AllReadDisk image marks [] = Unit {0}
 AllReadDisk image marks (p ∷ ps) =
@@ -54,6 +56,7 @@ pub record Wrote (image : Contents) (marks : List Mark) (p : Pending) : Type 0 w
   pub left : (k : ℕ) → k < p.request.count
       → slice_index p.request.bytes k ≡ slice_index p.bytes (p.request.position - p.start + k)
 
+-- so it is of each write among them
 abbrev pub AllWrote : Contents → List Mark → List Pending → Type 0
 AllWrote image marks [] = Unit {0}
 AllWrote image marks (p ∷ ps) = (is_write p.request.kind ≡ true → Wrote image marks p) × AllWrote image marks ps
@@ -62,6 +65,7 @@ AllWrote image marks (p ∷ ps) = (is_write p.request.kind ≡ true → Wrote im
 pub record IsJoined (marks : List Mark) (p : Pending) : Type 0 where
   pub each : (k : ℕ) → p.start + k < p.request.position → slice_index p.bytes k ≡ bytes_read marks (p.start + k)
 
+-- so it is of each read among them
 abbrev pub AllJoined : List Mark → List Pending → Type 0
 AllJoined marks [] = Unit {0}
 AllJoined marks (p ∷ ps) = (is_write p.request.kind ≡ false → IsJoined marks p) × AllJoined marks ps

@@ -1,5 +1,5 @@
 -- What each call of transfers adds to the record, and what it does to the disk, to those that are pending, and to what the link guarantees.
-use Rattle.std.specs.Prelude.{◌≡◌, ℕ, ◌+◌, List, [], ◌∷◌, ◌++◌, length, max, Bool, true, false, ◌==◌, MatchBool, Result, Ok, Err, Option, Some, None}
+use Rattle.std.specs.Prelude.{◌≡◌, ℕ, ◌+◌, List, [], ◌∷◌, ◌++◌, length, max, Bool, true, false, ◌==◌, MatchBool, Option, Some}
 use Rattle.message.specs.declared.BlockRequest.{BlockRequest}
 use Rattle.message.specs.declared.Incoming.{Incoming}
 use Rattle.message.specs.declared.Incoming.TheVariants as incoming
@@ -12,9 +12,11 @@ use Rattle.reissue.specs.declared.ask.Settled.TheVariants as settled
 use Rattle.reissue.specs.declared.pending.Pending.{Pending}
 use Rattle.reissue.specs.declared.table.Table.{Table}
 use Rattle.marks.specs.Opening.{Opening, contents_at}
-use Rattle.reissue.specs.Moves.{Begun, Touches, IsQuiet, Spares, Moves, Closes, Joins, state_after, request_for, begun_by}
+use Rattle.reissue.specs.Moves.{Begun, Touches, IsQuiet, IsBusy, Spares, Moves, Closes, Joins, state_after, request_for, begun_by}
 use Rattle.reissue.specs.Entries.{pending_of, begun_of, AllOfMinor}
-use Rattle.reissue.specs.Agrees.{Agrees, unposted}
+use Rattle.reissue.specs.Agrees.{Agrees}
+use Rattle.marks.specs.Acts.{Act}
+use Rattle.reissue.specs.Rules.{KeepsRulesBy}
 use Rattle.reissue.specs.Hears.{Hears}
 use Rattle.reissue.specs.Posts.{OnlyPosts, accepted_of, PostsInOrder, PostsAfter, due_after, complaints_about}
 
@@ -75,8 +77,10 @@ pub record Absorbs (message : Incoming) (result : Settled) (old new : Table) (be
   pub silent : (marks : List Mark) → grown complaints marks ≡ marks
   pub due : (marks : List Mark) → Agrees old marks → complaints ≡ complaints_about (due_after message marks)
   pub hears : (marks : List Mark) → Agrees old marks → Hears message old mid marks
+  pub heard : (marks : List Mark) → Agrees old marks → Agrees mid (received message marks)
   pub in_order : PostsAfter message mid (complaints ++ before) after
   pub same : new.pending ≡ mid.pending
+  pub current : new.current ≡ mid.current
   pub posted : new.posted ≡ mid.posted + accepted_of posts
   pub issued : new.issued ≡ max mid.issued new.posted
   pub agrees : (marks : List Mark) → Agrees old marks → Agrees new (grown posts (received message marks))
@@ -86,6 +90,8 @@ pub record Absorbs (message : Incoming) (result : Settled) (old new : Table) (be
   pub minors : (minor : ℕ) → AllOfMinor minor old.pending → AllOfMinor minor new.pending
   pub truth : (opening : Opening) (marks : List Mark) → Agrees old marks → AllOfMinor opening.minor old.pending
       → was opening (received message marks) → is opening (grown posts (received message marks))
+  pub rules : (minor : ℕ) (marks : List Mark) → Agrees old marks → AllOfMinor minor old.pending
+      → (acts : List Act) × KeepsRulesBy acts minor old new before after marks (grown posts (received message marks))
 
 -- a reply settles a request or nothing
 abbrev pub IsOfReply : Settled → Type 0
@@ -127,6 +133,9 @@ pub record Steps (result : Settled) (old new : Table) (before after : List Told)
   pub minors : (minor : ℕ) → AllOfMinor minor old.pending → AllOfMinor minor new.pending
   pub truth : (opening : Opening) (marks : List Mark) → Agrees old marks → AllOfMinor opening.minor old.pending → was opening marks
       → is opening (grown posts (received message marks)) × HasTrueReplies (contents_at opening) (grown posts (received message marks))
+  pub rules : (minor : ℕ) (marks : List Mark) → Agrees old marks → AllOfMinor minor old.pending → IsBusy (pending_of old.pending)
+      → old.given_up ≡ false
+      → (acts : List Act) × KeepsRulesBy acts minor old new before after marks (grown posts (received message marks))
 
 -- a request was taken up, or refused
 pub record Begins (ask : Ask) (old new : Table) (before after : List Told) (was is : Truth) : Type 0 where
@@ -141,6 +150,8 @@ pub record Begins (ask : Ask) (old new : Table) (before after : List Told) (was 
   pub minors : (minor : ℕ) → ask.minor ≡ minor → AllOfMinor minor old.pending → AllOfMinor minor new.pending
   pub truth : (opening : Opening) (marks : List Mark) → Agrees old marks → ask.minor ≡ opening.minor
       → AllOfMinor opening.minor old.pending → was opening marks → is opening (grown posts marks)
+  pub rules : (minor : ℕ) (marks : List Mark) → Agrees old marks → AllOfMinor minor old.pending → ask.minor ≡ minor
+      → (acts : List Act) × KeepsRulesBy acts minor old new before after marks (grown posts marks)
 
 -- where each earlier one was posted, the new request is posted; where not, it waits behind them
 abbrev pub PostsNew : Table → BlockRequest → List Told → List Told → Type 0

@@ -1,5 +1,5 @@
 -- Pending requests by their tickets and ids, and what holds of their bytes.
-use Rattle.std.specs.Prelude.{◌≡◌, ◌≢◌, ◌⊎◌, ℕ, ◌+◌, ◌-◌, ◌<◌, ◌≤◌, ◌==◌, List, [], ◌∷◌, Option, Some, None, Bool, true, false, if◌then◌else◌, slice_index}
+use Rattle.std.specs.Prelude.{◌≡◌, ◌≢◌, ◌⊎◌, ℕ, ◌+◌, ◌<◌, ◌≤◌, ◌==◌, List, [], ◌∷◌, Option, Some, None, if◌then◌else◌}
 use Rattle.std.proofs.Common.{refl}
 use Rattle.std.proofs.Math.Bridge.{le_prop}
 use Rattle.message.specs.declared.BlockRequest.{BlockRequest}
@@ -45,20 +45,24 @@ pub record HasNumbers (ids : ℕ) (ps : List Pending) : Type 0 where
   pub up_to : AreUpTo ids ps
   pub rising : AreRising 0 ids ps
 
+-- each of these facts has one proof at most
 prop_fresh : (t : ℕ) (ps : List Pending) (x y : IsFresh t ps) → x ≡ y
 prop_fresh t [] x y = refl
 prop_fresh t (p ∷ ps) x y = λ i. (λ e. nothing (x.0 e) (y.0 e) i, prop_fresh t ps x.1 y.1 i) where
   nothing : (a b : ⊥) → a ≡ b
   nothing a b = absurd a
 
+-- that no two have one ticket
 prop_distinct : (ps : List Pending) (x y : AreDistinct ps) → x ≡ y
 prop_distinct [] x y = refl
 prop_distinct (p ∷ ps) x y = λ i. (prop_fresh p.ticket ps x.0 y.0 i, prop_distinct ps x.1 y.1 i)
 
+-- that no ticket is above a number
 prop_up_to : (ids : ℕ) (ps : List Pending) (x y : AreUpTo ids ps) → x ≡ y
 prop_up_to ids [] x y = refl
 prop_up_to ids (p ∷ ps) x y = λ i. (le_prop x.0 y.0 i, prop_up_to ids ps x.1 y.1 i)
 
+-- that the ids rise
 prop_rising : (low ids : ℕ) (ps : List Pending) (x y : AreRising low ids ps) → x ≡ y
 prop_rising low ids [] x y = refl
 prop_rising low ids (p ∷ ps) x y = λ i. (le_prop x.0 y.0 i, le_prop x.1 y.1 i, prop_rising p.request.id ids ps x.2 y.2 i)
@@ -66,10 +70,10 @@ prop_rising low ids (p ∷ ps) x y = λ i. (le_prop x.0 y.0 i, le_prop x.1 y.1 i
 -- there is one proof of it at most
 pub prop_numbers : (ids : ℕ) (ps : List Pending) (x y : HasNumbers ids ps) → x ≡ y
 prop_numbers ids ps x y = λ i. record {
-    distinct = prop_distinct ps x.distinct y.distinct i;
-    up_to = prop_up_to ids ps x.up_to y.up_to i;
-    rising = prop_rising 0 ids ps x.rising y.rising i;
-  }
+  distinct = prop_distinct ps x.distinct y.distinct i;
+  up_to = prop_up_to ids ps x.up_to y.up_to i;
+  rising = prop_rising 0 ids ps x.rising y.rising i;
+}
 
 -- one of them
 abbrev pub IsAmong : Pending → List Pending → Type 0

@@ -1,5 +1,5 @@
 -- What a message does to the table of pending requests, before anything is posted after it.
-use Rattle.std.specs.Prelude.{◌≡◌, ℕ, ◌+◌, ◌-◌, ◌<◌, List, [], ◌∷◌, ◌++◌, length, remove, Option, Some, None, Bool, true, false, if◌then◌else◌, nat_lt, slice_index, slice_index_or}
+use Rattle.std.specs.Prelude.{◌≡◌, ℕ, ◌+◌, ◌-◌, ◌<◌, List, [], ◌∷◌, ◌++◌, remove, Option, Some, None, Bool, true, false, if◌then◌else◌, nat_lt, slice_index, slice_index_or}
 use Rattle.endpoint.specs.declared.Endpoint.{Endpoint}
 use Rattle.message.specs.Good.{is_write}
 use Rattle.message.specs.declared.BlockReply.{BlockReply}

@@ -1,5 +1,5 @@
 -- The entries of a slab in the order of a list of keys.
-use Rattle.std.specs.Prelude.{◌≡◌, ◌≢◌, ℕ, ◌≤◌, List, [], ◌∷◌, length, Option, Some, None, IsSome}
+use Rattle.std.specs.Prelude.{◌≡◌, ◌≢◌, ℕ, ◌≤◌, List, [], ◌∷◌, length, Option, Some, None}
 use Rattle.slab.specs.Slab.{Slab, get, slab_len}
 use Rattle.reissue.specs.declared.pending.Pending.{Pending}
 

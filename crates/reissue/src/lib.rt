@@ -9,5 +9,6 @@ pub mod queue;
 pub use ask::{Ask, BeginRefusal, Settled, Ticket};
 pub use link::{Link, LinkRefusal};
 pub use transfers::Transfers;
+
 pub mod table;
 pub mod transfers;

@@ -61,7 +61,7 @@ pub trait Link {
         // What holds of a record holds of it and the issued request, if that may follow and fits.
         ensures accepted { (opening : Opening) (marks : List Mark) → truth self.old opening marks
             → OnOk result (MayFollow (Issued request.now to) marks → Fits opening request.now
-                → truth self.new opening (Issued request.now to ∷ marks)) }
+            → truth self.new opening (Issued request.now to ∷ marks)) }
         ensures refused { (opening : Opening) (marks : List Mark) → truth self.old opening marks
             → OnErr result (truth self.new opening marks) };
 

@@ -3,9 +3,8 @@
 ghost use Rattle.std.specs.Prelude.{◌≡◌, ◌+◌, ◌<◌, ◌≤◌, ◌^◌, ◌-◌, ◌%◌, ℕ, length, slice_index, true, false};
 ghost use Rattle.message.specs.Good.{is_write};
 
-use message::{BlockRequest, Kind};
-
 use crate::ask::Ticket;
+use message::{BlockRequest, Kind};
 
 /// A request that isn't settled: the range that was asked for, and the request for what is left of it.
 #[derive(Clone, Copy)]

@@ -3,11 +3,10 @@
 ghost use Rattle.std.specs.Prelude.{◌≡◌, ◌+◌, ◌<◌, ◌≤◌, ◌∷◌, ◌++◌, [], length, remove, IfOk, slice_get, slice_index_or, Some, position, take, ◌==◌, ◌&&◌};
 ghost use Rattle.std.specs.List.{list_any};
 
+use crate::pending::Pending;
 use slab::Slab;
 use std::alloc::{AllocError, Global};
 use std::marker::Model;
-
-use crate::pending::Pending;
 
 /// How many requests may be pending.
 pub const PLACES: usize = 16;

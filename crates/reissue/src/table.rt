@@ -7,14 +7,13 @@ ghost use Rattle.marks.specs.Marks.{is_endpoint};
 ghost use Rattle.marks.specs.Open.{moved};
 ghost use Rattle.reissue.specs.Entries.{HasNumbers, prop_numbers, IsFresh, pending_of};
 
+use crate::ask::{Ask, Ticket};
+use crate::pending::Pending;
+use crate::queue::{PLACES, Queue};
 use endpoint::Endpoint;
 use errno::Errno;
 use message::{BlockReply, BlockRequest, Kind};
 use std::alloc::{AllocError, Global};
-
-use crate::ask::{Ask, Ticket};
-use crate::pending::Pending;
-use crate::queue::{PLACES, Queue};
 
 /// What an answer did.
 #[derive(Clone, Copy)]
@@ -59,6 +58,8 @@ impl Table {
     /// A table with nothing pending.
     pub fn new(alloc: Global) -> Result<Table, AllocError>
         ensures pending { IfOk result (λ t. t.pending ≡ []) }
+        ensures issued { IfOk result (λ t. t.issued ≡ 0) }
+        ensures posted { IfOk result (λ t. t.posted ≡ 0) }
         ensures ids { IfOk result (λ t. t.ids ≡ 0) }
         ensures current { IfOk result (λ t. t.current ≡ Option.None) }
         ensures given_up { IfOk result (λ t. t.given_up ≡ false) }

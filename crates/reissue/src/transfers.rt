@@ -8,13 +8,12 @@ ghost use Rattle.reissue.specs.Posts.{is_message};
 ghost use Rattle.reissue.specs.Moves.{Opens, IsFree, begun_by};
 ghost use Rattle.reissue.specs.Entries.{pending_of};
 
-use endpoint::Endpoint;
-use message::Incoming;
-use std::alloc::{AllocError, Global};
-
 use crate::ask::{Ask, BeginRefusal, Settled, Ticket};
 use crate::link::Link;
 use crate::table::{Answer, Table};
+use endpoint::Endpoint;
+use message::Incoming;
+use std::alloc::{AllocError, Global};
 
 /// The pending requests of a file server, and the link that they go over.
 ///
@@ -44,6 +43,8 @@ fn posts_after(message: &Incoming) -> bool
 
 impl<L: Link> Transfers<L> {
     ghost use Rattle.marks.specs.Marks.{Mark};
+    ghost use Rattle.marks.specs.Acts.{empty_outbox};
+    ghost use Rattle.reissue.specs.Rules.{outbox_of};
     ghost use Rattle.reissue.specs.Agrees.{Agrees, unposted};
     ghost use Rattle.reissue.specs.Posts.{PostsInOrder, IsTried, HasRoom, CanPost, TakesRoom};
     ghost use Rattle.reissue.specs.Calls.{Leads, TakesIn, Absorbs, Steps, Begins, Adds, IsAnswerTo, goes_on};
@@ -58,7 +59,11 @@ impl<L: Link> Transfers<L> {
         ensures pending { IfOk result (λ t. (table_of t).pending ≡ []) }
         ensures ids { IfOk result (λ t. (table_of t).ids ≡ 0) }
         ensures current { IfOk result (λ t. (table_of t).current ≡ Option.None) }
+        ensures given_up { IfOk result (λ t. (table_of t).given_up ≡ false) }
         ensures agrees { IfOk result (λ t. Agrees (table_of t) []) }
+        ensures owes { IfOk result (λ t. outbox_of (table_of t) ≡ empty_outbox) }
+        ensures room { IfOk result (λ t. HasRoom (table_of t) (L.room (link_of t))) }
+        ensures tried { IfOk result (λ t. IsTried (table_of t) (L.history (link_of t))) }
     {
         Ok(Transfers {
             link,
@@ -208,7 +213,7 @@ impl<L: Link> Transfers<L> {
         ensures full { IsErrOf result BeginRefusal.TableFull ↔ (length (table_of self.old).pending ≡ 16) }
         ensures pending { IsErrOf result BeginRefusal.BlockPending
             ↔ ((length (table_of self.old).pending < 16)
-                × IsTrue (list_any (λ p. (p.start == ask.now.position) && (p.size == ask.now.count)) (table_of self.old).pending)) }
+            × IsTrue (list_any (λ p. (p.start == ask.now.position) && (p.size == ask.now.count)) (table_of self.old).pending)) }
         ensures refused { OnErr result (self.new ≡ self.old) }
         ensures adds { OnOk result (Adds ask.now (table_of self.old) (table_of self.new) (L.history (link_of self.old)) (L.history (link_of self.new))) }
         ensures ticket { IfOk result (λ t. t ≡ (table_of self.old).ids + 1) }

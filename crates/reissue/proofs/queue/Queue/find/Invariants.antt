@@ -1,4 +1,4 @@
-use Rattle.std.proofs.Common.{◌≡◌, None, ℕ, take}
+use Rattle.std.proofs.Common.{◌≡◌, None, take}
 use Rattle.std.specs.Prelude.{position, ◌==◌}
 use Rattle.reissue.specs.declared.pending.Pending.{Pending}
 use Rattle.reissue.proofs.queue.Queue.find.Given as goal

@@ -1,4 +1,4 @@
-use Rattle.std.proofs.Common.{rules, ◌≡◌, ◌<◌, length, List, sym, ◌∙◌, ap, arith, Some, None, get_or}
+use Rattle.std.proofs.Common.{◌≡◌, sym, ◌∙◌, ap, arith, Some, None}
 use Rattle.std.specs.Option.{option_copied}
 use Rattle.slab.specs.Slab.{get}
 use Rattle.reissue.proofs.Places.{place_below, entry_at, held_at}

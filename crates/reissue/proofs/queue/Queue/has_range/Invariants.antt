@@ -1,4 +1,4 @@
-use Rattle.std.proofs.Common.{◌≡◌, ℕ, take, false}
+use Rattle.std.proofs.Common.{◌≡◌, take, false}
 use Rattle.std.specs.Prelude.{◌==◌, ◌&&◌}
 use Rattle.std.specs.List.{list_any}
 use Rattle.reissue.specs.declared.pending.Pending.{Pending}

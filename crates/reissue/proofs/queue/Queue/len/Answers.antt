@@ -1,5 +1,4 @@
-use Rattle.std.proofs.Common.{rules, ◌≡◌, length, List, sym, ◌∙◌, ap, arith}
-use Rattle.reissue.specs.declared.pending.Pending.{Pending}
+use Rattle.std.proofs.Common.{arith}
 use Rattle.reissue.proofs.Places.{length_entries}
 use Rattle.reissue.proofs.queue.Queue.len.Goals as goal
 

@@ -1,6 +1,5 @@
-use Rattle.std.proofs.Common.{rules, ◌≡◌, ◌<◌, ◌+◌, length, List, sym, ◌∙◌, ap, arith, length-append, ℕ, ◌++◌, ◌∷◌, []}
+use Rattle.std.proofs.Common.{List, ◌∙◌, ap, arith, length-append, ℕ, ◌++◌, ◌∷◌, []}
 use Rattle.reissue.specs.declared.pending.Pending.{Pending}
-use Rattle.reissue.specs.Queue.{entries_at}
 use Rattle.reissue.proofs.Places.{keys_below, entries_push, holds_push}
 use Rattle.reissue.proofs.queue.Queue.push.Goals as goal
 
@@ -30,4 +29,4 @@ returns c =
     let i = c.insert_reserved-key.ensures in
     let p = c.push_reserved.ensures in
     rw p.items (entries_push c.self.inside.entries _ _ c.args.entry c.self.inside.keys.items i.was_vacant c.self.invariant.holds i.updates
-      ∙ ap (λ (l : List Pending). l ++ c.args.entry ∷ []) c.self.view_is)
+    ∙ ap (λ (l : List Pending). l ++ c.args.entry ∷ []) c.self.view_is)

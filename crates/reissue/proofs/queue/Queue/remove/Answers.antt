@@ -1,7 +1,4 @@
-use Rattle.std.proofs.Common.{rules, ◌≡◌, ◌<◌, ◌+◌, length, List, sym, ◌∙◌, ap, arith, ℕ, get_or, Some}
-use Rattle.std.specs.Prelude.{remove, IsSome}
-use Rattle.reissue.specs.declared.pending.Pending.{Pending}
-use Rattle.reissue.specs.Queue.{entries_at}
+use Rattle.std.proofs.Common.{rules, arith}
 use Rattle.reissue.proofs.Places.{place_below, entry_at, held_at, entries_remove, holds_remove, length_rest}
 use Rattle.reissue.proofs.queue.Queue.remove.Goals as goal
 

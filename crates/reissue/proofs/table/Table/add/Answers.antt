@@ -1,4 +1,4 @@
-use Rattle.std.proofs.Common.{rules, ◌≡◌, ◌<◌, refl, arith, length, ◌∙◌, ap, ◌+◌, ℕ, List}
+use Rattle.std.proofs.Common.{refl, arith, ◌∙◌, ap}
 use Rattle.reissue.specs.Entries.{pending_of}
 use Rattle.reissue.proofs.Tickets.{fresh_above, pending_none, pending_pushed}
 use Rattle.reissue.proofs.Answering.{agrees_add}

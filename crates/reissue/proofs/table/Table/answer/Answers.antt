@@ -1,4 +1,4 @@
-use Rattle.std.proofs.Common.{rules, ◌≡◌, ◌+◌, ◌<◌, ◌≤◌, ℕ, arith, sym, ◌∙◌, ap, Bool, true, false, Some, None, List, refl}
+use Rattle.std.proofs.Common.{rules, ◌≡◌, ℕ, arith, sym, ◌∙◌, ap, true, Some, None, List, refl}
 use Rattle.std.specs.Prelude.{◌==◌}
 use Rattle.std.proofs.lemmas.Bool.Decides.{nat_tests}
 use Rattle.marks.specs.Marks.{Mark}
@@ -6,7 +6,7 @@ use Rattle.marks.specs.Open.{moved}
 use Rattle.reissue.specs.declared.pending.Pending.{Pending}
 use Rattle.reissue.specs.Agrees.{Agrees}
 use Rattle.reissue.specs.Posts.{complaints_about}
-use Rattle.reissue.proofs.Answering.{dropped_other, dropped_unknown, counted, Counted, agrees_bad, entry_found, moved_le}
+use Rattle.reissue.proofs.Answering.{dropped_unknown, counted, Counted, agrees_bad, entry_found}
 use Rattle.reissue.proofs.Closing.{closing_dropped, closing_bad}
 use Rattle.reissue.proofs.Finding.{position_passes}
 use Rattle.reissue.proofs.table.Table.answer.Goals as goal
@@ -15,14 +15,14 @@ bad_here : (c : goal.In_default-moved_bytes) (marks : List Mark) → Agrees c.ar
 bad_here c marks h =
     let e = c.count_at.ensures in
     counted c.args.self.now marks c.args.reply.now e.0 c.in-Some.at None h (search rules) (sym c.in-Some.ensures) e.1
-      (ap (λ (x : ℕ). moved x c.args.reply.now.outcome) (sym e.2) ∙ sym c.in_default-moved_bytes.ensures)
+    (ap (λ (x : ℕ). moved x c.args.reply.now.outcome) (sym e.2) ∙ sym c.in_default-moved_bytes.ensures)
 
 good_here : (c : goal.After-settle) (marks : List Mark) → Agrees c.args.self.now marks
     → Counted marks c.args.reply.now (Some c.in-Some-moved_bytes.n)
 good_here c marks h =
     let e = c.count_at.ensures in
     counted c.args.self.now marks c.args.reply.now e.0 c.in-Some.at (Some c.in-Some-moved_bytes.n) h (search rules) (sym c.in-Some.ensures) e.1
-      (ap (λ (x : ℕ). moved x c.args.reply.now.outcome) (sym e.2) ∙ sym c.in-Some-moved_bytes.ensures)
+    (ap (λ (x : ℕ). moved x c.args.reply.now.outcome) (sym e.2) ∙ sym c.in-Some-moved_bytes.ensures)
 
 pub settle-requires-clause-there : goal.settle-requires-clause-there
 settle-requires-clause-there c = λ p is.
@@ -51,7 +51,7 @@ returns-in_default-moved_bytes-clause-agrees c = λ marks h.
     let e = c.count_at.ensures in
     let k = bad_here c marks h in
     rw k.grows (agrees_bad c.args.self.now marks c.args.reply.now e.0.request h (search rules)
-      (entry_found c.args.self.now marks c.args.reply.now.id c.in-Some.at e.0 h (sym c.in-Some.ensures) e.1) k.moves)
+    (entry_found c.args.self.now marks c.args.reply.now.id c.in-Some.at e.0 h (sym c.in-Some.ensures) e.1) k.moves)
 
 pub returns-in_default-moved_bytes-clause-hears : goal.returns-in_default-moved_bytes-clause-hears
 returns-in_default-moved_bytes-clause-hears c = λ marks h.
@@ -65,7 +65,7 @@ returns-in_default-moved_bytes-clause-closing c = λ marks h.
     let e = c.count_at.ensures in
     let k = bad_here c marks h in
     rw k.grows (closing_bad _ marks c.args.reply.now e.0.request
-      (entry_found c.args.self.now marks c.args.reply.now.id c.in-Some.at e.0 h (sym c.in-Some.ensures) e.1) k.moves)
+    (entry_found c.args.self.now marks c.args.reply.now.id c.in-Some.at e.0 h (sym c.in-Some.ensures) e.1) k.moves)
 
 pub returns-clause-agrees : goal.returns-clause-agrees
 returns-clause-agrees c = λ marks h.

@@ -1,4 +1,3 @@
-use Rattle.std.proofs.Common.{rules, ◌≡◌, ◌+◌, List, sym, ap, subst}
 use Rattle.reissue.proofs.Closing.{tickets_push}
 use Rattle.reissue.proofs.table.Table.push.Goals as goal
 

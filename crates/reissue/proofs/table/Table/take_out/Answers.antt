@@ -1,4 +1,4 @@
-use Rattle.std.proofs.Common.{rules, ◌≡◌, ◌<◌, ◌+◌, List, sym, ap, subst, length, arith, refl, get_or}
+use Rattle.std.proofs.Common.{◌<◌, length, arith}
 use Rattle.reissue.proofs.Closing.{tickets_gone}
 use Rattle.reissue.proofs.table.Table.take_out.Goals as goal
 

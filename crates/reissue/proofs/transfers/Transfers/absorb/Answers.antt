@@ -1,7 +1,6 @@
-use Rattle.std.proofs.Common.{rules, ◌≡◌, ap, sym, ◌∙◌}
 use Rattle.reissue.proofs.Joining.{absorbs_then}
 use Rattle.reissue.proofs.transfers.Transfers.absorb.Goals as goal
 
 pub returns-clause-absorbs : goal.returns-clause-absorbs
 returns-clause-absorbs g c =
-    absorbs_then _ _ _ _ _ _ _ _ _ _ _ c.take_in-settled.ensures.takes c.post_if.ensures.leads (rw (← c.posts_after-due.ensures) c.post_if.ensures.posts)
+    absorbs_then _ _ _ _ _ _ _ _ _ _ _ c.take_in-settled.ensures.takes c.post_if.ensures.leads (rw (← c.posts_after-due.ensures) c.post_if.ensures.posts) c.post_if.ensures.current

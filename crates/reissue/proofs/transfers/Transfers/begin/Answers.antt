@@ -1,8 +1,8 @@
-use Rattle.std.proofs.Common.{rules, sym, ◌∙◌, ap, ◌≡◌, ◌<◌, ◌≤◌, arith, refl, length, List}
+use Rattle.std.proofs.Common.{rules, sym, ◌∙◌, ap, ◌≤◌, arith, refl, length}
 use Rattle.message.specs.declared.BlockRequest.{BlockRequest}
 use Rattle.reissue.specs.Entries.{pending_of}
 use Rattle.reissue.proofs.Posting.{busy, busy_any}
-use Rattle.reissue.proofs.Joining.{begins_add, posts_new, free_list}
+use Rattle.reissue.proofs.Joining.{begins_add, begins_none, posts_new, free_list}
 use Rattle.reissue.proofs.transfers.Transfers.begin.Goals as goal
 
 pub add-ticket-requires-clause-free : goal.add-ticket-requires-clause-free
@@ -38,4 +38,11 @@ returns-clause-opens g c =
 pub returns-clause-begins : goal.returns-clause-begins
 returns-clause-begins g c =
     let a = c.add-ticket.ensures in
-    begins_add _ _ _ _ a.added.0 _ _ _ _ a.agrees a.added.1 a.posted a.issued (ap (λ (r : BlockRequest). r.minor) a.added.3) c.post_if.ensures.leads
+    begins_add _ c.args.self.now.table c.add-ticket.new.self _ a.added.0 _ _ _ _ _ a.agrees a.added.1 a.posted a.issued (ap (λ (r : BlockRequest). r.minor) a.added.3)
+    a.current c.post_if.ensures.current (ap (λ (r : BlockRequest). r.id) a.added.3) (search rules) c.is_posted-due.ensures c.post_if.ensures.posts c.post_if.ensures.leads
+
+pub returns-then-is_full-clause-begins : goal.returns-then-is_full-clause-begins
+returns-then-is_full-clause-begins g c = begins_none _ _ _ _
+
+pub returns-then-has_range-clause-begins : goal.returns-then-has_range-clause-begins
+returns-then-has_range-clause-begins g c = begins_none _ _ _ _

@@ -1,5 +1,4 @@
-use Rattle.std.proofs.Common.{rules, ◌≡◌, ◌+◌, ◌<◌, ◌≤◌, arith, ◌∙◌, ap, sym, length, refl}
-use Rattle.message.specs.declared.BlockRequest.{BlockRequest}
+use Rattle.std.proofs.Common.{rules, arith, ◌∙◌, ap, length}
 use Rattle.reissue.specs.declared.pending.Pending.{Pending}
 use Rattle.reissue.proofs.Steps.{leads_post, leads_refused, order_post}
 use Rattle.reissue.proofs.transfers.Transfers.post_rest.Goals as goal
@@ -14,10 +13,9 @@ loop-request-preserved g c =
     let p = c.in-Some-next_to_post.ensures.request in
     let e = c.count_post.ensures in
     let k = c.in-Ok.ensures in
-    let bytes : length c.in-Some-next_to_post.request.now.bytes ≡ 4096 = ap (λ (r : BlockRequest). length r.bytes) p.2 ∙ p.0.full in
     record {
-      leads = leads_post _ _ _ _ _ _ _ _ _ _ _ p.0 i.leads k.told k.accepted i.current (search rules) (p.2 ∙ ap (λ (x : Pending). x.request) p.1) bytes
-        e.items e.ids e.current e.given_up e.issued e.posted;
+      leads = leads_post _ _ _ _ _ _ _ _ _ _ _ p.0 i.leads k.told k.accepted i.current (search rules) (p.2 ∙ ap (λ (x : Pending). x.request) p.1)
+          e.items e.ids e.current e.given_up e.issued e.posted;
       current = e.current ∙ i.current;
       same = e.current ∙ i.same;
       budget = omega (arith, k.budget, i.budget);
@@ -25,5 +23,5 @@ loop-request-preserved g c =
       enough = omega (arith, k.room, i.enough, e.posted, ap length e.items);
       taken = omega (arith, k.room, i.taken, e.posted);
       order = λ after h. i.order after
-        (order_post c.loop-request.self.table c.count_post.new.self p.0 _ _ _ _ _ (search rules) p.1 p.2 e.items e.posted k.told h);
+          (order_post c.loop-request.self.table c.count_post.new.self p.0 _ _ _ _ _ (search rules) p.1 p.2 e.items e.posted k.told h);
     }

@@ -1,4 +1,3 @@
-use Rattle.std.proofs.Common.{rules}
 use Rattle.reissue.proofs.Joining.{steps_one}
 use Rattle.reissue.proofs.transfers.Transfers.step.Goals as goal
 
