@@ -6,3 +6,4 @@ mod ViewRows
 mod SessionRows
 mod ServerRows
 mod ServerRight
+mod MountRows

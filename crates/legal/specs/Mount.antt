@@ -1,5 +1,6 @@
 -- What opening and mounting promise, over any link.
 use Rattle.std.specs.Prelude.{◌≡◌, ◌≢◌, ℕ, zero, suc, ◌*◌, ◌<◌, List, [], ◌∷◌, ◌++◌, Bool, true, false, ◌&&◌, nat_le, None, Err}
+use Rattle.message.specs.Good.{is_write}
 use Rattle.layout.specs.declared.Geometry.{Geometry}
 use Rattle.layout.specs.declared.LayoutRefusal.{LayoutRefusal}
 use Rattle.layout.specs.declared.LayoutRefusal.TheVariants.{DoesNotFit}
@@ -10,7 +11,7 @@ use Rattle.volume.specs.Verdict.{Clean, Found, verdict_of, HoldsClosed}
 use Rattle.marks.specs.Marks.{Mark, gave_up}
 use Rattle.marks.specs.Disk.{Contents, HasTrueReplies, bytes_read, is_read}
 use Rattle.marks.specs.Told.{Told, took_end}
-use Rattle.marks.specs.Acts.{Act, told_of, has_absorbed, marks_after, empty_outbox, outbox_after, KeepsRules}
+use Rattle.marks.specs.Acts.{Act, Began, Absorbed, AtLink, told_of, has_absorbed, marks_after, empty_outbox, outbox_after, KeepsRules}
 use Rattle.legal.specs.Legal.{IsAtFirst}
 use Rattle.legal.specs.ServerCall.{Serving, Serves}
 
@@ -59,10 +60,18 @@ pub record OpenKeeps (g : Geometry) (minor frames : ℕ) (before : List Told) (n
   pub outbox : new.outbox ≡ empty_outbox
   pub serves : (image : Contents) (tree : Tree) → IsAtFirst g image tree → Serves new image tree []
 
--- what mounting does at its link, from the empty record on: it keeps the rules, and nothing is handed over in it
+-- each request that becomes pending is a read
+abbrev pub OnlyReads : List Act → Type 0
+OnlyReads [] = Unit {0}
+OnlyReads (Began r ∷ acts) = (is_write r.kind ≡ false) × OnlyReads acts
+OnlyReads (Absorbed message ∷ acts) = OnlyReads acts
+OnlyReads (AtLink told ∷ acts) = OnlyReads acts
+
+-- what mounting does at its link, from the empty record on: it reads, it keeps the rules, and nothing is handed over in it
 pub record Mounting (minor : ℕ) (before : List Told) (acts : List Act) (after : List Told) : Type 0 where
   pub told : after ≡ told_of acts ++ before
   pub none_absorbed : has_absorbed acts ≡ false
+  pub only_reads : OnlyReads acts
   pub keep : KeepsRules minor acts [] empty_outbox
 
 -- A server that was mounted. What was read is clean, and holds the tree that is served, over any link; over true replies the
@@ -97,7 +106,8 @@ abbrev pub IsWhyNotMounted : ℕ → List Mark → Bool → MountRefusal → Typ
 IsWhyNotMounted frames marks ended (Layout refusal) =
     (is_frame_count frames ≡ true) × AreRead marks 2048 × (geometry_of (head_read marks) ≡ Err refusal) × (refusal ≢ DoesNotFit)
 IsWhyNotMounted frames marks ended (Inconsistent finding) =
-    (is_frame_count frames ≡ true) × AreRead marks (volume_size marks) × (verdict_of (volume_read marks) ≡ Found finding)
+    (is_frame_count frames ≡ true) × AreRead marks 2048 × ((refusal : LayoutRefusal) → geometry_of (head_read marks) ≡ Err refusal → refusal ≡ DoesNotFit)
+    × AreRead marks (volume_size marks) × (verdict_of (volume_read marks) ≡ Found finding)
 IsWhyNotMounted frames marks ended OutOfMemory = is_frame_count frames ≡ true
 IsWhyNotMounted frames marks ended Eio = (is_frame_count frames ≡ true) × (gave_up marks ≡ true)
 IsWhyNotMounted frames marks ended LinkEnded = (is_frame_count frames ≡ true) × (ended ≡ true)

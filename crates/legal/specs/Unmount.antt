@@ -1,5 +1,5 @@
 -- What unmounting promises, over any link.
-use Rattle.std.specs.Prelude.{◌≡◌, List, [], Bool, false, if◌then◌else◌}
+use Rattle.std.specs.Prelude.{◌≡◌, List, [], Bool, true, false, if◌then◌else◌}
 use Rattle.tree.specs.Tree.{Tree}
 use Rattle.marks.specs.Marks.{Mark, gave_up}
 use Rattle.marks.specs.Disk.{Contents, HasTrueReplies}
@@ -24,7 +24,7 @@ pub record UnmountKeeps (old : Serving) (result : Unmounting) (new : Serving) : 
   pub leads : Leads old acts new
   pub none_absorbed : has_absorbed acts ≡ false
   pub same_files : new.is_busy ≡ old.is_busy
-  pub busy : result ≡ Busy → acts ≡ []
+  pub busy : old.is_busy ≡ true → acts ≡ []
   pub rules : (image : Contents) (tree : Tree) (marks : List Mark) → old.Agrees image tree marks → Rules old acts new marks
   pub is : (image : Contents) (tree : Tree) (marks : List Mark) → old.Agrees image tree marks
       → result ≡ unmounting_of new.ended (gave_up (marks_after acts marks)) old.is_busy

@@ -86,6 +86,7 @@ group_stays policy supply sent more drivers drivers' event group earlier later f
     starts = keeps.faults.starts;
     giving_up = keeps.faults.giving_up;
     issues = keeps.faults.issues;
+    in_place = keeps.faults.in_place;
   };
   answers = record { answered = keeps.answers.answered ∙ sym (answers_due-append sent more event earlier later); flushed = keeps.answers.flushed };
   calls = keeps.calls;

@@ -8,6 +8,7 @@ pub mod GivenUp
 pub mod RightRun
 mod LegalRows
 mod WrongFaults
+mod WrongIssues
 mod WrongStarts
 mod WrongReplies
 mod WrongCalls

@@ -1,5 +1,5 @@
 -- How the proofs of worked runs are put together.
-use Rattle.std.specs.Prelude.{◌≡◌, ℕ, List, [], ◌∷◌, ◌++◌, true, false, None, refl}
+use Rattle.std.specs.Prelude.{◌≡◌, ℕ, List, [], ◌∷◌, ◌++◌, Bool, ◌&&◌, true, false, None, refl}
 use Rattle.std.proofs.Common.{arith, ap}
 use Rattle.endpoint.specs.declared.Endpoint.{Endpoint}
 use Rattle.bdev.specs.DriverState.{DriverState}
@@ -11,7 +11,7 @@ use Rattle.schedule.specs.declared.Sent.{Sent}
 use Rattle.schedule.specs.declared.Event.{Event}
 use Rattle.schedule.specs.Groups.{Group, marks_of, started_in}
 use Rattle.schedule.specs.Faults.{ExitsOfGroup, hung_in, hung_due, ComplaintsFollow}
-use Rattle.schedule.specs.Starts.{starts_due, times_gave_up, times_due, is_given_up_after_fault, IssuesFollow}
+use Rattle.schedule.specs.Starts.{starts_due, times_gave_up, times_due, is_given_up_after_fault, are_issued_in_place, IssuesFollow}
 use Rattle.schedule.specs.Replies.{answers_in, answers_due}
 use Rattle.schedule.specs.Calls.{Arrival, arrived, taken, CallsSoFar, flushes_in, flushes_due}
 use Rattle.schedule.specs.Justified.{GroupKeeps}
@@ -30,20 +30,26 @@ pub still_wait : {groups : List Group} (left : List Arrival) → arrived groups 
     → is_unfinished (marks_of groups) ≡ true → gave_up (marks_of groups) ≡ false → CallsSoFar groups
 still_wait left order unfinished kept = record { left = left; order = order; waits = λ some. record { unfinished = unfinished; not_given_up = kept } }
 
+-- both of two tests
+each_true : (a b : Bool) → (a && b) ≡ true → (a ≡ true) × (b ≡ true)
+each_true true b e = (refl, e)
+each_true false b e = cc
+
 -- an event and its marks keep what they must
 pub shown : {policy : Policy} {supply : ℕ} {sent : List Sent} {drivers : List DriverState} {event : Event} {group : List Mark} {earlier : List Group}
     → ExitsOfGroup drivers event group earlier → hung_in group ≡ hung_due policy event earlier → ComplaintsFollow None group (marks_of earlier)
     → started_in group ≡ starts_due policy event earlier → times_gave_up group ≡ times_due policy supply ((event, group) ∷ earlier)
-    → is_given_up_after_fault group (marks_of earlier) ≡ true → IssuesFollow [] group (marks_of earlier) → answers_in group ≡ answers_due sent event earlier
+    → (is_given_up_after_fault event group (marks_of earlier) && are_issued_in_place ((event, group) ∷ earlier) group (marks_of earlier)) ≡ true → IssuesFollow [] group (marks_of earlier) → answers_in group ≡ answers_due sent event earlier
     → flushes_in group ≡ flushes_due event → CallsSoFar ((event, group) ∷ earlier) → GroupKeeps policy supply sent drivers event group earlier
-shown exits hung complaints starts times after_fault issues answers flushes calls = record {
+shown {event = event} {group = group} {earlier = earlier} exits hung complaints starts times both issues answers flushes calls = record {
   faults = record {
     exits = exits;
     hung = hung;
     complaints = complaints;
     starts = starts;
-    giving_up = record { times = times; after_fault = after_fault };
+    giving_up = record { times = times; after_fault = (each_true (is_given_up_after_fault event group (marks_of earlier)) (are_issued_in_place ((event, group) ∷ earlier) group (marks_of earlier)) both).0 };
     issues = issues;
+    in_place = (each_true (is_given_up_after_fault event group (marks_of earlier)) (are_issued_in_place ((event, group) ∷ earlier) group (marks_of earlier)) both).1;
   };
   answers = record { answered = answers; flushed = flushes };
   calls = calls;

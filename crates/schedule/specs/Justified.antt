@@ -8,7 +8,7 @@ use Rattle.schedule.specs.declared.Event.{Event}
 use Rattle.schedule.specs.Groups.{Group, marks_of, started_in, generation, running, Each, EachGroup}
 use Rattle.schedule.specs.Lives.{state_of}
 use Rattle.schedule.specs.Faults.{ExitsOfGroup, hung_in, hung_due, ComplaintsFollow, FailsAtItsStep, HasNotFailed}
-use Rattle.schedule.specs.Starts.{starts_due, GivingUpOfGroup, IssuesFollow}
+use Rattle.schedule.specs.Starts.{starts_due, GivingUpOfGroup, IssuesFollow, are_issued_in_place}
 use Rattle.schedule.specs.Replies.{answers_in, answers_due, IsSentAtItsStep, are_in_order, RepliesOf}
 use Rattle.schedule.specs.Calls.{CallsSoFar, IsUnanswered, flushes_in, flushes_due}
 
@@ -20,6 +20,7 @@ pub record FaultsAndRestarts (policy : Policy) (supply : ℕ) (drivers : List Dr
   pub starts : started_in group ≡ starts_due policy event earlier
   pub giving_up : GivingUpOfGroup policy supply event group earlier
   pub issues : IssuesFollow [] group (marks_of earlier)
+  pub in_place : are_issued_in_place ((event, group) ∷ earlier) group (marks_of earlier) ≡ true
 
 -- answers and flushes, at an event
 pub record AnswersAndFlushes (sent : List Sent) (event : Event) (group : List Mark) (earlier : List Group) : Type 0 where

@@ -1,14 +1,16 @@
 -- The starts that a run must show, the requests that follow each, and giving up.
-use Rattle.std.specs.Prelude.{◌≡◌, ℕ, ◌+◌, ◌-◌, List, [], ◌∷◌, ◌++◌, map, Bool, true, false, not, ◌&&◌, nat_le, Option, Some, None, if◌then◌else◌}
+use Rattle.std.specs.Prelude.{◌≡◌, ℕ, ◌+◌, ◌-◌, List, [], ◌∷◌, ◌++◌, map, Bool, true, false, not, ◌&&◌, ◌||◌, nat_le, nat_lt, Option, Some, None, if◌then◌else◌}
 use Rattle.endpoint.specs.declared.Endpoint.{Endpoint}
+use Rattle.message.specs.declared.BlockRequest.{BlockRequest}
 use Rattle.policy.specs.declared.Policy.{Policy}
 use Rattle.policy.specs.Faults.{LastFault, last_fault, gives_up, restart_tick}
 use Rattle.policy.specs.Watch.{driver}
 use Rattle.marks.specs.Marks.{Mark, Started, GaveUp, Issued, Fault, gave_up, awaits_start}
-use Rattle.marks.specs.Open.{open_requests}
+use Rattle.marks.specs.Open.{open_requests, greatest}
 use Rattle.schedule.specs.declared.Event.{Event}
 use Rattle.schedule.specs.declared.Event.TheVariants as event
 use Rattle.schedule.specs.Groups.{Group, marks_of, tick_of, generation}
+use Rattle.schedule.specs.Lives.{is_live}
 
 -- the ticks of the faults in these marks, all at this tick, before those of earlier ones
 abbrev pub fault_ticks_in : ℕ → List Mark → List ℕ → List ℕ
@@ -62,16 +64,28 @@ times_due policy supply ((event, group) ∷ earlier) =
     if has_fault group && gives_up_at policy supply (fault_of policy ((event, group) ∷ earlier)) (generation (group ++ marks_of earlier))
     then 1 else 0
 
--- the device is given up only after a fault that waits for its start
-abbrev pub is_given_up_after_fault : List Mark → List Mark → Bool
-is_given_up_after_fault [] before = true
-is_given_up_after_fault (GaveUp ∷ group) before = awaits_start (group ++ before) && is_given_up_after_fault group before
-is_given_up_after_fault (_ ∷ group) before = is_given_up_after_fault group before
+-- whether the last of these marks is a fault
+abbrev pub ends_in_fault : List Mark → Bool
+ends_in_fault (Fault e cause ∷ marks) = true
+ends_in_fault _ = false
+
+-- when the server learns that the device is given up: right after an exit or a missed heartbeat; after a complaint while a start is awaited
+abbrev pub may_give_up : Event → List Mark → Bool
+may_give_up (event.Die g bytes) marks = ends_in_fault marks
+may_give_up (event.Step g) marks = ends_in_fault marks
+may_give_up event.Tick marks = ends_in_fault marks
+may_give_up _ marks = awaits_start marks
+
+-- the device is given up only after its fault
+abbrev pub is_given_up_after_fault : Event → List Mark → List Mark → Bool
+is_given_up_after_fault event [] before = true
+is_given_up_after_fault event (GaveUp ∷ group) before = may_give_up event (group ++ before) && is_given_up_after_fault event group before
+is_given_up_after_fault event (_ ∷ group) before = is_given_up_after_fault event group before
 
 -- the device is given up where the policy says, after its fault
 pub record GivingUpOfGroup (policy : Policy) (supply : ℕ) (event : Event) (group : List Mark) (earlier : List Group) : Type 0 where
   pub times : times_gave_up group ≡ times_due policy supply ((event, group) ∷ earlier)
-  pub after_fault : is_given_up_after_fault group (marks_of earlier) ≡ true
+  pub after_fault : is_given_up_after_fault event group (marks_of earlier) ≡ true
 
 -- right after a start all open requests are issued to the new driver, in rising order; after being the later marks, oldest first
 abbrev pub IsFollowedByIssues : List Mark → Mark → List Mark → Type 0
@@ -83,3 +97,21 @@ IsFollowedByIssues after _ before = Unit {0}
 abbrev pub IssuesFollow : List Mark → List Mark → List Mark → Type 0
 IssuesFollow after [] before = Unit {0}
 IssuesFollow after (m ∷ group) before = IsFollowedByIssues after m (group ++ before) × IssuesFollow (m ∷ after) group before
+
+-- the last of these marks are a start and the requests issued since, each of a lesser id than the next one, which is this
+abbrev pub is_among_first : ℕ → List Mark → Bool
+is_among_first id (Started e ∷ marks) = true
+is_among_first id (Issued r e ∷ marks) = nat_lt r.id id && is_among_first r.id marks
+is_among_first id _ = false
+
+-- when a request is issued: to a live driver, before the device is given up, and again only among the first ones after a start
+abbrev pub may_issue : List Group → BlockRequest → Endpoint → List Mark → Bool
+may_issue groups r to marks =
+    is_live to.generation groups && not (gave_up marks) && (nat_lt (greatest marks) r.id || is_among_first r.id marks)
+
+-- so it is of each request of a group
+abbrev pub are_issued_in_place : List Group → List Mark → List Mark → Bool
+are_issued_in_place groups [] before = true
+are_issued_in_place groups (Issued r to ∷ group) before =
+    may_issue groups r to (group ++ before) && are_issued_in_place groups group before
+are_issued_in_place groups (_ ∷ group) before = are_issued_in_place groups group before

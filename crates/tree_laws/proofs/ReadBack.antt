@@ -210,7 +210,7 @@ pub read_gives_written : ReadGivesWritten
 read_gives_written g t after who now later last fd at number file bytes tree wrote_it opened readable place =
     let steps = both_steps (refuse_if (nat_le most_sessions who.session) EINVAL) (λ _. write g t now who.session fd bytes.now) (wrote (length bytes.now), after) wrote_it in
     let w = puts g t tree who now fd bytes.now (wrote (length bytes.now), after) steps.2 in
-    let same : (w.number, w.file) ≡ (number, file) = ok_is (w.number, w.file) (number, file) (open_file_of after who.session fd) (opens_to after who.session fd (w.number, w.file) w.opened) opened in
+    let same : ◌≡◌ {A = ℕ × OpenFile} (w.number, w.file) (number, file) = ok_is (w.number, w.file) (number, file) (open_file_of after who.session fd) (opens_to after who.session fd (w.number, w.file) w.opened) opened in
     let position_is : w.file.position ≡ file.position = ap (λ x. x.1.position) same in
     let was = w.place in
     let here : at ≡ w.first = omega (arith, position_is, was, place) in
