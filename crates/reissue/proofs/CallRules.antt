@@ -1,16 +1,15 @@
 -- Each call's acts, together, are acts that the rules allow.
-use Rattle.std.proofs.Common.{◌≡◌, ℕ, ◌+◌, ◌-◌, ◌<◌, ◌≤◌, List, [], ◌∷◌, ◌++◌, length, drop, map, max, Bool, true, false, cond, refl, sym, ◌∙◌, ap, subst, arith, append_assoc, Option, Some, None}
+use Rattle.std.proofs.Common.{◌≡◌, ℕ, ◌+◌, ◌-◌, ◌<◌, ◌≤◌, List, [], ◌∷◌, ◌++◌, length, drop, map, max, Bool, true, false, refl, sym, ◌∙◌, ap, subst, arith, append_assoc, Option, Some, None}
 use Rattle.std.proofs.lemmas.Bool.Decides.{nat_tests}
 use Rattle.std.proofs.lemmas.List.{length-append, length-drop, length-map, map-append}
 use Rattle.std.specs.Prelude.{nat_lt, is_some, ◌&&◌, ◌==◌, MatchBool}
 use Rattle.endpoint.specs.declared.Endpoint.{Endpoint}
 use Rattle.message.specs.declared.BlockRequest.{BlockRequest}
-use Rattle.message.specs.declared.BlockReply.{BlockReply}
 use Rattle.message.specs.declared.Incoming.{Incoming}
 use Rattle.message.specs.declared.Incoming.TheVariants as incoming
-use Rattle.marks.specs.Marks.{Mark, Answered, gave_up}
-use Rattle.marks.specs.Open.{open_requests, counts}
-use Rattle.marks.specs.Told.{Told, Posted, Complained, Received, received, grown, with_told}
+use Rattle.marks.specs.Marks.{Mark, gave_up}
+use Rattle.marks.specs.Open.{open_requests}
+use Rattle.marks.specs.Told.{Told, Received, received, grown, with_told}
 use Rattle.marks.specs.Acts.{Act, Began, Absorbed, AtLink, Outbox, KeepsRules, MayAct, outbox_after, marks_after, told_of}
 use Rattle.marks.proofs.ActLaws.{acts_compose}
 use Rattle.reissue.specs.declared.pending.Pending.{Pending}
@@ -19,7 +18,7 @@ use Rattle.reissue.specs.Moves.{IsBusy}
 use Rattle.reissue.specs.Entries.{AllOfMinor, request_of, pending_of}
 use Rattle.reissue.specs.Agrees.{Agrees, unposted, never_issued}
 use Rattle.reissue.specs.Hears.{Hears, IsUnanswered}
-use Rattle.reissue.specs.Posts.{OnlyPosts, PostsInOrder, PostsAfter, accepted_of, complaints_about, due_after, is_message}
+use Rattle.reissue.specs.Posts.{PostsInOrder, PostsAfter, accepted_of, complaints_about, due_after, is_message}
 use Rattle.reissue.specs.Rules.{outbox_of, KeepsRulesBy}
 use Rattle.reissue.proofs.Order.{append_cancel, drop_push}
 use Rattle.reissue.proofs.Settling.{minors_push}
@@ -51,27 +50,6 @@ posts_then minor acts posts old mid new marks M before after keeps owes grows to
           ∙ ap (λ (o : Outbox). outbox_after (at_link posts) M o) owes ∙ y.owes;
     }
 
--- posts give nothing up
-gave_up_posted : (posts : List Told) (marks : List Mark) → OnlyPosts posts → gave_up (grown posts marks) ≡ gave_up marks
-gave_up_posted [] marks o = refl
-gave_up_posted (Posted to r true ∷ posts) marks o = gave_up_posted posts marks o
-gave_up_posted (Posted to r false ∷ posts) marks o = gave_up_posted posts marks o
-gave_up_posted (Complained e ∷ posts) marks o = absurd o
-gave_up_posted (Received m ∷ posts) marks o = absurd o
-
--- nor does a reply
-gave_up_reply : (b : Bool) (a : BlockReply) (marks : List Mark) → gave_up (cond b (Answered a ∷ marks) marks) ≡ gave_up marks
-gave_up_reply true a marks = refl
-gave_up_reply false a marks = refl
-
--- what isn't given up after a message wasn't before
-live_before : (m : Incoming) (marks : List Mark) → gave_up (received m marks) ≡ false → gave_up marks ≡ false
-live_before (incoming.Reply a) marks g = sym (gave_up_reply (counts marks a) a marks) ∙ g
-live_before (incoming.Started e) marks g = g
-live_before incoming.GaveUp marks g = cc
-live_before incoming.Flush marks g = g
-live_before incoming.End marks g = g
-
 -- a table that stays as it is owes the same
 owes_same : (old mid new : Table) → IsUnanswered old mid → mid.current ≡ old.current → new.pending ≡ mid.pending
     → new.posted ≡ mid.posted → new.issued ≡ max mid.issued new.posted → new.current ≡ mid.current → outbox_of old ≡ outbox_of new
@@ -85,7 +63,7 @@ owes_same old mid new x current pending posted issued same =
 -- a message that arrives by this act, and all that is done on it
 message_rules : (minor : ℕ) (act : Act) (m : Incoming) (old mid new : Table) (marks : List Mark) (before between after posts complaints : List Told)
     → Arrives minor act m marks (outbox_of old) → Agrees old marks → Agrees mid (received m marks) → Hears m old mid marks
-    → gave_up (received m marks) ≡ false → AllOfMinor minor mid.pending
+    → gave_up marks ≡ false → AllOfMinor minor mid.pending
     → complaints ≡ complaints_about (due_after m marks) → PostsAfter m mid (complaints ++ between) after
     → after ≡ posts ++ (complaints ++ between) → between ≡ told_of (act ∷ []) ++ before
     → new.pending ≡ mid.pending → new.posted ≡ mid.posted + accepted_of posts → new.issued ≡ max mid.issued new.posted → new.current ≡ mid.current
@@ -98,7 +76,7 @@ message_rules minor act m old mid new marks before between after posts complaint
           let x = heard minor act m old mid marks arrives h k hears g real in
           let order' : PostsInOrder mid.current (unposted mid) (complaints ++ between) after =
           subst (λ (b : Bool). MatchBool b (PostsInOrder mid.current (unposted mid) (complaints ++ between) after) (after ≡ complaints ++ between)) real order in
-          let y = table_posts minor mid new (received m marks) (complaints ++ between) after posts k.holds.current g current minors order' history pending posted issued in
+          let y = table_posts minor mid new (received m marks) (complaints ++ between) after posts k.holds.current current minors order' history pending posted issued in
           let told : after ≡ posts ++ (told_of x.acts ++ before) =
           history ∙ ap (λ (l : List Told). posts ++ l)
           (ap (λ (l : List Told). complaints ++ l) here ∙ sym (append_assoc complaints (told_of (act ∷ [])) before)
@@ -128,39 +106,33 @@ message_rules minor act m old mid new marks before between after posts complaint
       by incoming.GaveUp e = whole incoming.GaveUp e refl
       by incoming.Flush e = whole incoming.Flush e refl
 
--- not given up after the posts
-live_after : (m : Incoming) (new : Table) (marks : List Mark) (posts : List Told) → OnlyPosts posts → Agrees new (grown posts (received m marks))
-    → new.given_up ≡ false → gave_up (received m marks) ≡ false
-live_after m new marks posts only k going = sym (gave_up_posted posts (received m marks) only) ∙ sym k.holds.given_up ∙ going
-
 -- a message that was handed over between two calls
 pub absorb_rules : (minor : ℕ) (m : Incoming) (old mid new : Table) (marks : List Mark) (before after posts complaints : List Told)
-    → Agrees old marks → Agrees mid (received m marks) → Agrees new (grown posts (received m marks)) → Hears m old mid marks
+    → Agrees old marks → Agrees mid (received m marks) → Hears m old mid marks
     → AllOfMinor minor mid.pending → complaints ≡ complaints_about (due_after m marks) → PostsAfter m mid (complaints ++ before) after
-    → after ≡ posts ++ (complaints ++ before) → OnlyPosts posts
+    → after ≡ posts ++ (complaints ++ before)
     → new.pending ≡ mid.pending → new.posted ≡ mid.posted + accepted_of posts → new.issued ≡ max mid.issued new.posted → new.current ≡ mid.current
-    → new.given_up ≡ false
+    → old.given_up ≡ false
     → (acts : List Act) × KeepsRulesBy acts minor old new before after marks (grown posts (received m marks))
-absorb_rules minor m old mid new marks before after posts complaints h k l hears minors due order history only pending posted issued current going =
-    let live = live_after m new marks posts only l going in
+absorb_rules minor m old mid new marks before after posts complaints h k hears minors due order history pending posted issued current going =
+    let live = sym h.holds.given_up ∙ going in
     let arrives : Arrives minor (Absorbed m) m marks (outbox_of old) =
-    record { grows = refl; owed = refl; may = at_rest old marks h (live_before m marks live) } in
+    record { grows = refl; owed = refl; may = at_rest old marks h live } in
     message_rules minor (Absorbed m) m old mid new marks before before after posts complaints arrives h k hears live minors due order history refl
     pending posted issued current
 
 -- a message that was taken while something was pending
 pub step_rules : (minor : ℕ) (m : Incoming) (old mid new : Table) (marks : List Mark) (before after posts complaints : List Told)
-    → Agrees old marks → Agrees mid (received m marks) → Agrees new (grown posts (received m marks)) → Hears m old mid marks
+    → Agrees old marks → Agrees mid (received m marks) → Hears m old mid marks
     → AllOfMinor minor mid.pending → complaints ≡ complaints_about (due_after m marks)
-    → PostsAfter m mid (complaints ++ (Received m ∷ before)) after → after ≡ posts ++ (complaints ++ (Received m ∷ before)) → OnlyPosts posts
+    → PostsAfter m mid (complaints ++ (Received m ∷ before)) after → after ≡ posts ++ (complaints ++ (Received m ∷ before))
     → new.pending ≡ mid.pending → new.posted ≡ mid.posted + accepted_of posts → new.issued ≡ max mid.issued new.posted → new.current ≡ mid.current
-    → IsBusy (pending_of old.pending) → new.given_up ≡ false
+    → IsBusy (pending_of old.pending) → old.given_up ≡ false
     → (acts : List Act) × KeepsRulesBy acts minor old new before after marks (grown posts (received m marks))
-step_rules minor m old mid new marks before after posts complaints h k l hears minors due order history only pending posted issued current busy going =
-    let live = live_after m new marks posts only l going in
-    let was = live_before m marks live in
+step_rules minor m old mid new marks before after posts complaints h k hears minors due order history pending posted issued current busy going =
+    let live = sym h.holds.given_up ∙ going in
     let arrives : Arrives minor (AtLink (Received m)) m marks (outbox_of old) =
-    record { grows = refl; owed = refl; may = record { at_rest = at_rest old marks h was; needed = needed old marks h was busy } } in
+    record { grows = refl; owed = refl; may = record { at_rest = at_rest old marks h live; needed = needed old marks h live busy } } in
     message_rules minor (AtLink (Received m)) m old mid new marks before (Received m ∷ before) after posts complaints arrives h k hears live minors due order
     history refl pending posted issued current
 
@@ -227,7 +199,7 @@ begin_rules minor old mid new p due marks before after posts h minors minor_is i
           let full : box (never_issued old ++ p.request ∷ []) (unposted old ++ p.request ∷ []) (is_some old.current && nat_lt old.posted (length old.pending)) ≡ loose mid =
           box_same (never_issued old ++ p.request ∷ []) (never_issued mid) (unposted old ++ p.request ∷ []) (unposted mid)
           (is_some old.current && nat_lt old.posted (length old.pending)) false never rest (stopped_none old.current old.posted (length old.pending) e) in
-          let y = table_posts minor mid new marks before after posts (here ∙ h.holds.current) live there minors' order history pending posted issued in
+          let y = table_posts minor mid new marks before after posts (here ∙ h.holds.current) there minors' order history pending posted issued in
           (at_link posts ++ (Began p.request ∷ []), posts_then minor (Began p.request ∷ []) posts old mid new marks marks before after (tt, may) full refl history y)
       by false e order =
           let no_post : posts ≡ [] = append_cancel posts [] before (sym history ∙ order) in

@@ -64,8 +64,8 @@ absorbs_then m res s t u before between after was mid is x l posts current =
       heard = x.agrees;
       current = current;
       rules = λ minor marks h minors going.
-          absorb_rules minor m s t u marks before after l.posts x.complaints h (x.agrees marks h) (agrees marks h) (x.hears marks h)
-          (x.minors minor minors) (x.due marks h) in_order history l.only_posts l.same l.posted l.issued current going;
+          absorb_rules minor m s t u marks before after l.posts x.complaints h (x.agrees marks h) (x.hears marks h)
+          (x.minors minor minors) (x.due marks h) in_order history l.same l.posted l.issued current going;
       mid = t;
       posts = l.posts;
       complaints = x.complaints;
@@ -100,8 +100,8 @@ steps_one m res t u before taken after was mid is told truth x answer =
     let history = x.history ∙ ap (λ (h : List Told). x.posts ++ (x.complaints ++ h)) told in
     record {
       rules = λ minor marks h minors busy going.
-          step_rules minor m t x.mid u marks before after x.posts x.complaints h (x.heard marks h) (x.agrees marks h) (x.hears marks h)
-          (subst (λ (ls : List Pending). AllOfMinor minor ls) x.same (x.minors minor minors)) (x.due marks h) in_order history x.only_posts
+          step_rules minor m t x.mid u marks before after x.posts x.complaints h (x.heard marks h) (x.hears marks h)
+          (subst (λ (ls : List Pending). AllOfMinor minor ls) x.same (x.minors minor minors)) (x.due marks h) in_order history
           x.same x.posted x.issued x.current busy going;
       message = m;
       mid = x.mid;

@@ -197,15 +197,16 @@ heard_start minor act e old mid marks arrives h x =
     (box_same (never_issued old) (never_issued mid) (open_requests marks ++ never_issued old) (unposted mid) false false
     (ends_same old.issued mid.issued old.pending mid.pending (sym x.3) (sym x.0)) all refl)
 
--- a message but End, while the device isn't given up
+-- a message but End, where the device wasn't given up before
 pub heard : (minor : ℕ) (act : Act) (m : Incoming) (old mid : Table) (marks : List Mark)
     → Arrives minor act m marks (outbox_of old) → Agrees old marks → Agrees mid (received m marks) → Hears m old mid marks
-    → gave_up (received m marks) ≡ false → is_message m ≡ true → Heard minor act m marks (outbox_of old) (loose mid)
+    → gave_up marks ≡ false → is_message m ≡ true → Heard minor act m marks (outbox_of old) (loose mid)
 heard minor act (incoming.Reply a) old mid marks arrives h k x g e = heard_reply minor act a old mid marks arrives k x.0
 heard minor act (incoming.Started d) old mid marks arrives h k x g e =
     let live : old.given_up ≡ false = h.holds.given_up ∙ g in
     heard_start minor act d old mid marks arrives h (subst (λ (b : Bool). HearsStart old mid d b) live x)
-heard minor act incoming.GaveUp old mid marks arrives h k x g e = cc
+heard minor act incoming.GaveUp old mid marks arrives h k x g e =
+    heard_alone minor act incoming.GaveUp marks (outbox_of old) (loose mid) arrives refl (loose_same old mid x.0)
 heard minor act incoming.Flush old mid marks arrives h k x g e =
     heard_alone minor act incoming.Flush marks (outbox_of old) (loose mid) arrives refl (loose_same old mid x.0)
 heard minor act incoming.End old mid marks arrives h k x g e = cc

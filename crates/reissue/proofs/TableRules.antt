@@ -16,6 +16,7 @@ use Rattle.reissue.specs.Agrees.{Agrees, target, unposted, never_issued}
 use Rattle.reissue.specs.Posts.{ArePostedTo, PostsInOrder, accepted_of}
 use Rattle.reissue.specs.Rules.{outbox_of}
 use Rattle.reissue.proofs.Order.{drop_twice, append_cancel, rising_drop}
+use Rattle.reissue.proofs.Steps.{started_at}
 use Rattle.reissue.proofs.PostRules.{at_link, box, box_same, posted_keep}
 
 -- what is owed before the posts that a message or a new request asks for
@@ -114,15 +115,15 @@ started_of marks o e g = sym (e ∙ rw g refl)
 
 -- the posts of a table keep the rules
 pub table_posts : (minor : ℕ) (mid new : Table) (marks : List Mark) (between after posts : List Told)
-    → mid.current ≡ target marks → gave_up marks ≡ false → new.current ≡ mid.current → AllOfMinor minor mid.pending
+    → mid.current ≡ target marks → new.current ≡ mid.current → AllOfMinor minor mid.pending
     → PostsInOrder mid.current (unposted mid) between after → after ≡ posts ++ between
     → new.pending ≡ mid.pending → new.posted ≡ mid.posted + accepted_of posts → new.issued ≡ max mid.issued new.posted
     → PostsKeep minor mid new marks posts
-table_posts minor mid new marks between after posts current going same minors h history pending posted issued =
+table_posts minor mid new marks between after posts current same minors h history pending posted issued =
     by mid.current refl h where
       by : (o : Option Endpoint) → mid.current ≡ o → PostsInOrder o (unposted mid) between after → PostsKeep minor mid new marks posts
       by None e h = none_posted minor mid new marks between after posts (same ∙ e) h history pending posted issued
-      by (Some to) e h = some_posted minor mid new to marks between after posts (same ∙ e) (started_of marks mid.current current going ∙ e) minors h history pending posted issued
+      by (Some to) e h = some_posted minor mid new to marks between after posts (same ∙ e) (started_at marks mid.current to current e) minors h history pending posted issued
 
 -- between two calls nothing is due
 none_left : (n : ℕ) (ps : List Pending) → length ps ≤ n → has_none (map request_of (drop n ps)) ≡ true

@@ -90,7 +90,7 @@ pub record Absorbs (message : Incoming) (result : Settled) (old new : Table) (be
   pub minors : (minor : ℕ) → AllOfMinor minor old.pending → AllOfMinor minor new.pending
   pub truth : (opening : Opening) (marks : List Mark) → Agrees old marks → AllOfMinor opening.minor old.pending
       → was opening (received message marks) → is opening (grown posts (received message marks))
-  pub rules : (minor : ℕ) (marks : List Mark) → Agrees old marks → AllOfMinor minor old.pending → new.given_up ≡ false
+  pub rules : (minor : ℕ) (marks : List Mark) → Agrees old marks → AllOfMinor minor old.pending → old.given_up ≡ false
       → (acts : List Act) × KeepsRulesBy acts minor old new before after marks (grown posts (received message marks))
 
 -- a reply settles a request or nothing
@@ -134,7 +134,7 @@ pub record Steps (result : Settled) (old new : Table) (before after : List Told)
   pub truth : (opening : Opening) (marks : List Mark) → Agrees old marks → AllOfMinor opening.minor old.pending → was opening marks
       → is opening (grown posts (received message marks)) × HasTrueReplies (contents_at opening) (grown posts (received message marks))
   pub rules : (minor : ℕ) (marks : List Mark) → Agrees old marks → AllOfMinor minor old.pending → IsBusy (pending_of old.pending)
-      → new.given_up ≡ false
+      → old.given_up ≡ false
       → (acts : List Act) × KeepsRulesBy acts minor old new before after marks (grown posts (received message marks))
 
 -- a request was taken up, or refused
