@@ -1,5 +1,5 @@
 -- What is told on a message and the posts after it, together.
-use Rattle.std.proofs.Common.{◌≡◌, ℕ, ◌+◌, ◌<◌, List, [], ◌∷◌, ◌++◌, length, drop, map, Bool, true, false, refl, sym, ◌∙◌, ap, subst, arith, inl, inr, Option}
+use Rattle.std.proofs.Common.{◌≡◌, ℕ, ◌+◌, ◌<◌, List, [], ◌∷◌, ◌++◌, length, drop, map, Bool, true, false, refl, sym, ◌∙◌, ap, subst, arith, inl, inr, Option, zero, suc}
 use Rattle.std.proofs.lemmas.Bool.Decides.{nat_tests}
 use Rattle.std.specs.Prelude.{MatchBool, ◌==◌}
 use Rattle.endpoint.specs.declared.Endpoint.{Endpoint}
@@ -241,3 +241,10 @@ went_on (incoming.Reply x) res a g = refl
 went_on (incoming.Started d) res a g = refl
 went_on incoming.GaveUp res a g = refl
 went_on incoming.Flush res a g = refl
+
+-- a message came, so the budget wasn't spent, and fell
+pub falls_to : (m : Incoming) (res : Settled) (a b : ℕ) → IsAnswerTo m res → goes_on res ≡ true → (0 < a → b < a) → (a ≡ 0 → m ≡ incoming.End) → b < a
+falls_to m res zero b answer on less spent = absurd (nothing (ap is_message (sym (spent refl)) ∙ went_on m res answer on)) where
+  nothing : is_message incoming.End ≡ true → ⊥
+  nothing e = cc
+falls_to m res (suc a) b answer on less spent = less (omega arith)

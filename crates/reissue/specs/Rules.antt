@@ -6,7 +6,7 @@ use Rattle.marks.specs.Acts.{Act, Outbox, KeepsRules, outbox_after, marks_after,
 use Rattle.reissue.specs.declared.table.Table.{Table}
 use Rattle.reissue.specs.Agrees.{unposted, never_issued}
 
--- what a table owes its link between two calls, while the device isn't given up
+-- what a table owes its link between two calls
 abbrev pub outbox_of : Table → Outbox
 outbox_of table = record {
   never_issued = never_issued table;

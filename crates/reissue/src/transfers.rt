@@ -196,6 +196,7 @@ impl<L: Link> Transfers<L> {
             (L.truth (link_of self.old)) (L.truth (link_of self.new)) }
         ensures budget { 0 < L.budget_left (link_of self.old) → L.budget_left (link_of self.new) < L.budget_left (link_of self.old) }
         ensures spent { L.budget_left (link_of self.old) ≡ 0 → result ≡ Settled.End }
+        ensures falls { goes_on result ≡ true → L.budget_left (link_of self.new) < L.budget_left (link_of self.old) }
         ensures room { goes_on result ≡ true → HasRoom (table_of self.new) (L.room (link_of self.new)) }
         ensures tried { IsTried (table_of self.old) (L.history (link_of self.old)) → IsTried (table_of self.new) (L.history (link_of self.new)) }
         ensures ids { (table_of self.new).ids ≤ (table_of self.old).ids + 1 }

@@ -1,6 +1,12 @@
-use Rattle.reissue.proofs.Joining.{steps_one}
+use Rattle.std.proofs.Common.{arith}
+use Rattle.reissue.proofs.Joining.{falls_to, steps_one}
 use Rattle.reissue.proofs.transfers.Transfers.step.Goals as goal
 
 pub returns-clause-steps : goal.returns-clause-steps
 returns-clause-steps g c =
     steps_one _ _ _ _ _ _ _ _ _ _ c.take-message.ensures.told c.take-message.ensures.truth c.absorb.ensures.absorbs c.absorb.ensures.answer
+
+pub returns-clause-falls : goal.returns-clause-falls
+returns-clause-falls g c = λ on.
+    let less = falls_to _ _ _ _ c.absorb.ensures.answer on c.take-message.ensures.budget c.take-message.ensures.spent in
+    omega (arith, less, c.absorb.ensures.budget)
