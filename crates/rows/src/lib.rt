@@ -4,6 +4,6 @@
 #[cfg(test)]
 mod drivers;
 #[cfg(test)]
-mod errno;
+mod errors;
 #[cfg(test)]
-mod tree;
+mod replies;
