@@ -9,20 +9,33 @@ const SUPERBLOCK: [u8; 31] = [
     0x4d, 0, 0, 0, 4, 0,
 ];
 
+/// So many zeros.
+fn zeros(alloc: Global, length: usize) -> Result<Vec<u8>, AllocError> {
+    vec![in alloc; 0u8; length]
+}
+
+/// Sets a byte of an image.
+fn put(image: &mut Vec<u8>, at: usize, byte: u8) {
+    if let Some(place) = image.get_mut(at) {
+        *place = byte;
+    }
+}
+
 /// The image of that volume with some bytes changed, and cut to a length.
 fn parse(
     alloc: Global,
     length: usize,
     changes: &[(usize, u8)],
 ) -> Result<Result<Geometry, LayoutRefusal>, AllocError> {
-    let mut image = vec![in alloc; 0u8; 65536]?;
+    let mut image = zeros(alloc, 65536)?;
     for (at, byte) in SUPERBLOCK.iter().enumerate() {
-        image[1024 + at] = *byte;
+        put(&mut image, 1024 + at, *byte);
     }
     for (at, byte) in changes {
-        image[*at] = *byte;
+        put(&mut image, *at, *byte);
     }
-    Ok(Geometry::parse(&image[..length]))
+    image.truncate(length);
+    Ok(Geometry::parse(&image))
 }
 
 #[test]

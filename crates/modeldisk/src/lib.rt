@@ -24,4 +24,3 @@ pub use scripted::{Inner, ScriptedDriver};
 pub fn sweeps_in_order()
     ensures { IsSweep }
 {}
-

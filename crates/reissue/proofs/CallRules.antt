@@ -162,9 +162,9 @@ step_rules minor m old mid new marks before after posts complaints h k hears min
           let same : taken m before ≡ before = rw e (rw again refl) in
           let quiet : PostsAfter m mid (complaints ++ before) after = subst (λ (l : List Told). PostsAfter m mid (complaints ++ l) after) same order in
           rw e (ended_again minor old mid new marks before after posts complaints
-            (subst (λ (n : Incoming). Hears n old mid marks) e hears) (due ∙ ap (λ (n : Incoming). complaints_about (due_after n marks)) e)
-            (subst (λ (n : Incoming). PostsAfter n mid (complaints ++ before) after) e quiet)
-            (subst (λ (l : List Told). after ≡ posts ++ (complaints ++ l)) same history) pending posted issued current)
+          (subst (λ (n : Incoming). Hears n old mid marks) e hears) (due ∙ ap (λ (n : Incoming). complaints_about (due_after n marks)) e)
+          (subst (λ (n : Incoming). PostsAfter n mid (complaints ++ before) after) e quiet)
+          (subst (λ (l : List Told). after ≡ posts ++ (complaints ++ l)) same history) pending posted issued current)
 
       by : (n : Incoming) → m ≡ n → (acts : List Act) × KeepsRulesBy acts minor old new before after marks (grown posts (received m marks))
       by incoming.End e = ended e (took_end before) refl

@@ -1,8 +1,8 @@
-use modeldisk::{Fault, FaultKind, Inner, ModelDriver, RamDriver, ScriptedDriver};
 use bdev::{Accept, BlockDriver, Driver, Step};
 use errno::Errno;
 use media::{Media, MediaRefusal, SectorRefusal};
 use message::{BlockRequest, Kind};
+use modeldisk::{Fault, FaultKind, Inner, ModelDriver, RamDriver, ScriptedDriver};
 use partition::{PartitionRefusal, Table, parse};
 use std::alloc::{AllocError, Global};
 use std::process::Abort;

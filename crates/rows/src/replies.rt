@@ -1,8 +1,8 @@
 //! The texts of replies, and the flags by their letters: expected values are the format's.
-use tree::{Attributes, Entry, OpenFlags, Outcome, Reply, Room};
 use bitflags::Flags;
 use errno::Errno;
 use std::alloc::AllocError;
+use tree::{Attributes, Entry, OpenFlags, Outcome, Reply, Room};
 
 #[test]
 fn writes_plain_replies(rt: HostRuntime) -> Result<(), AllocError> {

@@ -47,8 +47,14 @@ pub given_up_kept : (v : Opening) (media : MediaState) (slots : List ℕ) (endpo
     → LinkKept v media slots endpoint running supply line marks → LinkKept v media slots endpoint running rest line (GaveUp ∷ marks)
 given_up_kept v media slots endpoint running supply rest gone line marks is kept =
     let k = noted_kept v media slots endpoint running supply line marks GaveUp tt kept in
-    record { driver = k.driver; kept = k.kept; current = k.current; endpoint_is = k.endpoint_is; slots_are = k.slots_are;
-      supply_is = (All-pop (IsReady v) supply rest gone is k.supply_is).0 }
+    record {
+      driver = k.driver;
+      kept = k.kept;
+      current = k.current;
+      endpoint_is = k.endpoint_is;
+      slots_are = k.slots_are;
+      supply_is = (All-pop (IsReady v) supply rest gone is k.supply_is).0;
+    }
 
 -- the next driver is started
 pub started_kept : (v : Opening) (media : MediaState) (slots new : List ℕ) (endpoint e : Endpoint) (running : Option DriverState)
@@ -64,14 +70,15 @@ started_kept v media slots new endpoint e running supply rest d line marks is at
     let top : max media.generation e.generation ≡ e.generation = omega (arith, later) in
     let here : e ≡ driver_at e.generation = ap (λ (s : ℕ). record { slot = s; generation = e.generation }) (ap (λ (x : Endpoint). x.slot) at) in
     let after : Kept v (adopted media e.generation) d true [] (Started (driver_at e.generation) ∷ marks) =
-        replaced_keeps v (contents_at v) (opening_media v) (state_of media kept.driver (is_some running) line [] marks) e.generation d kept.kept later own.driver own.ready in
+    replaced_keeps v (contents_at v) (opening_media v) (state_of media kept.driver (is_some running) line [] marks) e.generation d kept.kept later own.driver own.ready in
     record {
       driver = d;
       kept = subst (λ (x : Endpoint). Kept v (adopted media e.generation) d true [] (Started x ∷ marks)) (sym here) after;
       current = refl;
       endpoint_is = here ∙ ap driver_at (sym top);
       slots_are = slot ∙ sym top;
-      supply_is = ready.0 }
+      supply_is = ready.0;
+    }
 
 -- a request is put on the line
 pub posted_kept : (v : Opening) (media : MediaState) (slots : List ℕ) (endpoint : Endpoint) (running : Option DriverState)
@@ -81,8 +88,12 @@ pub posted_kept : (v : Opening) (media : MediaState) (slots : List ℕ) (endpoin
 posted_kept v media slots endpoint running supply line new marks r to is kept may fits = record {
   driver = kept.driver;
   kept = subst (λ (l : List BlockRequest). Kept v media kept.driver (is_some running) l (Issued r to ∷ marks)) (sym is)
-    (issued_keeps v (contents_at v) (opening_media v) (state_of media kept.driver (is_some running) line [] marks) r to kept.kept may fits);
-  current = kept.current; endpoint_is = kept.endpoint_is; slots_are = kept.slots_are; supply_is = kept.supply_is }
+      (issued_keeps v (contents_at v) (opening_media v) (state_of media kept.driver (is_some running) line [] marks) r to kept.kept may fits);
+  current = kept.current;
+  endpoint_is = kept.endpoint_is;
+  slots_are = kept.slots_are;
+  supply_is = kept.supply_is;
+}
 
 -- the driver is dropped
 pub dropped_kept : (v : Opening) (media : MediaState) (slots : List ℕ) (endpoint : Endpoint) (running : Option DriverState)
@@ -91,7 +102,11 @@ pub dropped_kept : (v : Opening) (media : MediaState) (slots : List ℕ) (endpoi
 dropped_kept v media slots endpoint running supply line marks kept = record {
   driver = kept.driver;
   kept = dead_keeps v (contents_at v) (opening_media v) (state_of media kept.driver (is_some running) line [] marks) kept.kept;
-  current = tt; endpoint_is = tt; slots_are = kept.slots_are; supply_is = kept.supply_is }
+  current = tt;
+  endpoint_is = tt;
+  slots_are = kept.slots_are;
+  supply_is = kept.supply_is;
+}
 
 -- the running driver answers
 pub answered_kept : (v : Opening) (media after : MediaState) (slots : List ℕ) (endpoint : Endpoint) (running : Option DriverState) (d a : DriverState)
@@ -107,10 +122,10 @@ answered_kept v media after slots endpoint running d a supply line new result an
     let own : kept.driver ≡ d = subst (λ (o : Option DriverState). IfSome o (λ d. kept.driver ≡ d)) is kept.current in
     let live : is_some running ≡ true = ap is_some is in
     let before : Kept v media d true line marks =
-        subst (λ (b : Bool). Kept v media d b line marks) live (subst (λ (x : DriverState). Kept v media x (is_some running) line marks) own kept.kept) in
+    subst (λ (b : Bool). Kept v media d b line marks) live (subst (λ (x : DriverState). Kept v media x (is_some running) line marks) own kept.kept) in
     let generation : endpoint.generation ≡ media.generation = ap (λ (e : Endpoint). e.generation) here in
     let ran_leaves : RunLeaves v endpoint.generation (ran.Answered answer) after a new marks =
-        subst (λ (r : Ran). RunLeaves v endpoint.generation r after a new marks) ran_is (leaves v marks generation before) in
+    subst (λ (r : Ran). RunLeaves v endpoint.generation r after a new marks) ran_is (leaves v marks generation before) in
     let reply_is : reply ≡ reply_of endpoint.generation answer = stamp endpoint.generation (here ∙ ap driver_at (sym generation)) in
     record {
       driver = a;
@@ -118,4 +133,5 @@ answered_kept v media after slots endpoint running d a supply line new result an
       current = refl;
       endpoint_is = here ∙ ap driver_at (sym same);
       slots_are = kept.slots_are ∙ sym same;
-      supply_is = kept.supply_is }
+      supply_is = kept.supply_is;
+    }

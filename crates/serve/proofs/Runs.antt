@@ -27,7 +27,7 @@ pub hands : (v : Opening) (media : MediaState) (d a : DriverState) (line new : L
     → Kept v media d true line marks → Kept v media a true new marks
 hands v media d a line new q result marks some is keeps driver e kept =
     subst (λ (l : List BlockRequest). Kept v media a true l marks) (sym e)
-      (handed_keeps v (contents_at v) (opening_media v) (state_of media d true line [] marks) result q (drop 1 line) a kept (front line q some is) keeps driver)
+    (handed_keeps v (contents_at v) (opening_media v) (state_of media d true line [] marks) result q (drop 1 line) a kept (front line q some is) keeps driver)
 
 steps_current : (v : Opening) (media after : MediaState) (d a : DriverState) (step : Step) (line : List BlockRequest) (marks : List Mark)
     → StepKeeps d media media.generation step a after → IsDriver a → Kept v media d true line marks → StepLeaves v media.generation step after a line marks
@@ -45,4 +45,4 @@ pub steps : (v : Opening) (media after : MediaState) (d a : DriverState) (g : �
     → StepKeeps d media g step a after → IsDriver a → g ≡ media.generation → Kept v media d true line marks → StepLeaves v g step after a line marks
 steps v media after d a g step line marks keeps driver is kept =
     subst (λ (n : ℕ). StepLeaves v n step after a line marks) (sym is)
-      (steps_current v media after d a step line marks (subst (λ (n : ℕ). StepKeeps d media n step a after) is keeps) driver kept)
+    (steps_current v media after d a step line marks (subst (λ (n : ℕ). StepKeeps d media n step a after) is keeps) driver kept)

@@ -18,5 +18,9 @@ pub noted_kept : (v : Opening) (media : MediaState) (slots : List ℕ) (endpoint
 noted_kept v media slots endpoint running supply line marks m nothing kept = record {
   driver = kept.driver;
   kept = next_keeps v (contents_at v) (opening_media v) (state_of media kept.driver (is_some running) line [] marks)
-    (state_of media kept.driver (is_some running) line [] (m ∷ marks)) kept.kept (Noted m nothing);
-  current = kept.current; endpoint_is = kept.endpoint_is; slots_are = kept.slots_are; supply_is = kept.supply_is }
+      (state_of media kept.driver (is_some running) line [] (m ∷ marks)) kept.kept (Noted m nothing);
+  current = kept.current;
+  endpoint_is = kept.endpoint_is;
+  slots_are = kept.slots_are;
+  supply_is = kept.supply_is;
+}

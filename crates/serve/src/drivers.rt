@@ -13,15 +13,14 @@ ghost use Rattle.true_replies.specs.Events.{reply_of};
 ghost use Rattle.true_replies.specs.Posted.{driver_at};
 ghost use Rattle.serve.specs.Inline.{LinkKept};
 
+use crate::local::LocalDriver;
+use crate::running::{Ran, run};
 use bdev::Answer;
 use endpoint::{DISK_DRIVER, Endpoint, Slots};
 use media::Media;
 use message::{BlockReply, BlockRequest, Incoming};
 use reissue::link::LinkRefusal;
 use std::collections::VecDeque;
-
-use crate::local::LocalDriver;
-use crate::running::{Ran, run};
 
 /// How many requests the line of a driver holds.
 pub const LINE: usize = 32;
@@ -129,11 +128,15 @@ impl<D: LocalDriver> Drivers<D> {
     }
 
     /// Puts a request on the line of the running driver.
-    pub(crate) fn put_on_line(&mut self, to: Endpoint, request: &BlockRequest) -> Result<(), LinkRefusal>
+    pub(crate) fn put_on_line(
+        &mut self,
+        to: Endpoint,
+        request: &BlockRequest,
+    ) -> Result<(), LinkRefusal>
         ensures accepted { (v : Opening) (marks : List Mark)
             → LinkKept v self.old.media self.old.slots self.old.endpoint (option_map D.state self.old.running) (map D.state self.old.supply.items) self.old.line.items marks
             → OnOk result (MayFollow (Issued request.now to) marks → Fits v request.now
-                → LinkKept v self.new.media self.new.slots self.new.endpoint (option_map D.state self.new.running) (map D.state self.new.supply.items) self.new.line.items (Issued request.now to ∷ marks)) }
+            → LinkKept v self.new.media self.new.slots self.new.endpoint (option_map D.state self.new.running) (map D.state self.new.supply.items) self.new.line.items (Issued request.now to ∷ marks)) }
         ensures refused { OnErr result (self.new ≡ self.old) }
         ensures budget { self.new.budget ≡ self.old.budget }
     {

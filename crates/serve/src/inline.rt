@@ -5,13 +5,12 @@ ghost use Rattle.std.specs.Option.{option_map};
 ghost use Rattle.serve.specs.Inline.{LinkKept};
 ghost use Rattle.serve.specs.Notes.{history_of, room_of};
 
-use endpoint::Endpoint;
-use message::{BlockRequest, Incoming};
-use reissue::link::{Link, LinkRefusal};
-
 use crate::drivers::Drivers;
 use crate::local::LocalDriver;
 use crate::note::{Note, Notes};
+use endpoint::Endpoint;
+use message::{BlockRequest, Incoming};
+use reissue::link::{Link, LinkRefusal};
 
 /// The link of a server to drivers that it runs itself.
 #[derive(Drop)]

@@ -1,6 +1,6 @@
 //! What a link stores of what it was told and gave.
 
-ghost use Rattle.std.specs.Prelude.{◌≡◌, ◌≢◌, ◌≤◌, ◌<◌, ◌+◌, ◌∷◌, [], false, true, vec_len, vec_capacity, IsTrue, };
+ghost use Rattle.std.specs.Prelude.{◌≡◌, ◌≢◌, ◌≤◌, ◌<◌, ◌+◌, ◌∷◌, [], false, true, vec_len, vec_capacity, IsTrue};
 ghost use Rattle.std.specs.Bool.{OnTrue};
 ghost use Rattle.marks.specs.Told.{heard, took_end};
 ghost use Rattle.serve.specs.Notes.{history_of, note_told, room_of, told_of};

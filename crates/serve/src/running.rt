@@ -7,12 +7,11 @@ ghost use Rattle.marks.specs.Opening.{Opening};
 ghost use Rattle.media.specs.Contents.{MediaState};
 ghost use Rattle.serve.specs.Running.{Kept, StepLeaves, RunLeaves};
 
+use crate::local::LocalDriver;
 use bdev::{Accept, Answer, Step};
 use media::Media;
 use message::BlockRequest;
 use std::collections::VecDeque;
-
-use crate::local::LocalDriver;
 
 /// How a run of a driver ended.
 #[derive(Clone, Copy)]
@@ -51,7 +50,12 @@ fn drop_front(line: &mut VecDeque<BlockRequest>)
 }
 
 /// One step of the driver, with the front of its line at hand.
-fn step_once<D: LocalDriver>(driver: &mut D, line: &mut VecDeque<BlockRequest>, media: &mut Media, generation: u32) -> Step
+fn step_once<D: LocalDriver>(
+    driver: &mut D,
+    line: &mut VecDeque<BlockRequest>,
+    media: &mut Media,
+    generation: u32,
+) -> Step
     ensures leaves { (v : Opening) (marks : List Mark) → generation ≡ media.old.generation → Kept v media.old (D.state driver.old) true line.old.items marks
         → StepLeaves v generation result media.new (D.state driver.new) line.new.items marks }
     ensures generation { media.new.generation ≡ media.old.generation }

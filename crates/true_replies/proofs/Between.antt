@@ -26,9 +26,21 @@ use Rattle.true_replies.proofs.Delivering.{delivered_keeps}
 -- replies that are never delivered may be forgotten
 pub forgotten : (v : Opening) (image : Contents) (given : MediaState) (x : State) → Invariant v image given x → Invariant v image given (record x { sent = [] })
 forgotten v image given x inv = record {
-  well_formed = inv.well_formed; started = inv.started; range = inv.range; media = inv.media; outside = inv.outside;
-  true_replies = inv.true_replies; driver = inv.driver; last = inv.last; fits = inv.fits; posts = inv.posts; line = inv.line;
-  work = inv.work; older = λ a i. absurd i; sent = λ a i from. absurd i }
+  well_formed = inv.well_formed;
+  started = inv.started;
+  range = inv.range;
+  media = inv.media;
+  outside = inv.outside;
+  true_replies = inv.true_replies;
+  driver = inv.driver;
+  last = inv.last;
+  fits = inv.fits;
+  posts = inv.posts;
+  line = inv.line;
+  work = inv.work;
+  older = λ a i. absurd i;
+  sent = λ a i from. absurd i;
+}
 
 -- a step answers a request: its reply is delivered at once
 pub answered_keeps : (v : Opening) (image : Contents) (given : MediaState) (x : State) (answer : Answer) (a : DriverState) (media : MediaState)
@@ -38,9 +50,9 @@ pub answered_keeps : (v : Opening) (image : Contents) (given : MediaState) (x : 
 answered_keeps v image given x answer a media inv live none k driver =
     let y : State = stepped x (Done answer) a media in
     let sent : IsSent (reply_of x.media.generation answer) y.sent =
-        subst (λ (l : List BlockReply). IsSent (reply_of x.media.generation answer) (l ++ reply_of x.media.generation answer ∷ [])) (sym none) (inl refl) in
+    subst (λ (l : List BlockReply). IsSent (reply_of x.media.generation answer) (l ++ reply_of x.media.generation answer ∷ [])) (sym none) (inl refl) in
     let after : Invariant v image given (delivered y (reply_of x.media.generation answer)) =
-        delivered_keeps v image given y (reply_of x.media.generation answer) (step_keeps v image given x (Done answer) a media inv live k driver) sent in
+    delivered_keeps v image given y (reply_of x.media.generation answer) (step_keeps v image given x (Done answer) a media inv live k driver) sent in
     forgotten v image given (delivered y (reply_of x.media.generation answer)) after
 
 moved_generation : (kind : Kind) (w w' : Work) (m m' : MediaState) (g s j : ℕ) → MovesBytes kind w m g s j w' m' → m'.generation ≡ m.generation
@@ -54,6 +66,7 @@ step_generation b a m m' g step k = at b.work k.steps where
   by_move w w' (inl h) = ap (λ (d : MediaState). d.generation) h.same_media
   by_move w w' (inr (inl h)) = ap (λ (d : MediaState). d.generation) h.still.same_media
   by_move w w' (inr (inr h)) = moved_generation w.request.kind w w' m m' g (h.run.first + h.number) h.number h.bytes
+
   at : (o : Option Work) → StepsAt b o m g step a m' → m'.generation ≡ m.generation
   at None s = ap (λ (d : MediaState). d.generation) s.0
   at (Some w) s = by_move w s.0 s.1

@@ -24,38 +24,78 @@ use Rattle.true_replies.proofs.Delivering.{delivered_keeps}
 noted_keeps : (v : Opening) (image : Contents) (given : MediaState) (x : State) (m : Mark) → Invariant v image given x → ChangesNothing m
     → Invariant v image given (noted x m)
 noted_keeps v image given x Flush inv nothing = record {
-  well_formed = (inv.well_formed, tt); started = inv.started; range = inv.range; media = record { each = inv.media.each };
-  outside = inv.outside; true_replies = inv.true_replies; driver = inv.driver; last = inv.last; fits = inv.fits;
+  well_formed = (inv.well_formed, tt);
+  started = inv.started;
+  range = inv.range;
+  media = record { each = inv.media.each };
+  outside = inv.outside;
+  true_replies = inv.true_replies;
+  driver = inv.driver;
+  last = inv.last;
+  fits = inv.fits;
   posts = λ q i. record { opened = (inv.posts q i).opened };
-  line = inv.line; work = λ l. work_same x.current.work (inv.work l); older = inv.older;
-  sent = λ b i from. let old = inv.sent b i from in record { ended = old.ended; answer = old.answer } } where
+  line = inv.line;
+  work = λ l. work_same x.current.work (inv.work l);
+  older = inv.older;
+  sent = λ b i from. let old = inv.sent b i from in record { ended = old.ended; answer = old.answer };
+} where
   work_same : (o : Option Work) → AnyWorkHolds v x.media x.marks x.current.last o → AnyWorkHolds v x.media (Flush ∷ x.marks) x.current.last o
   work_same None h = tt
   work_same (Some w) h = record { opened = h.opened; id = h.id; moved = h.moved }
 noted_keeps v image given x GaveUp inv nothing = record {
-  well_formed = (inv.well_formed, tt); started = inv.started; range = inv.range; media = record { each = inv.media.each };
-  outside = inv.outside; true_replies = inv.true_replies; driver = inv.driver; last = inv.last; fits = inv.fits;
+  well_formed = (inv.well_formed, tt);
+  started = inv.started;
+  range = inv.range;
+  media = record { each = inv.media.each };
+  outside = inv.outside;
+  true_replies = inv.true_replies;
+  driver = inv.driver;
+  last = inv.last;
+  fits = inv.fits;
   posts = λ q i. record { opened = (inv.posts q i).opened };
-  line = inv.line; work = λ l. work_same x.current.work (inv.work l); older = inv.older;
-  sent = λ b i from. let old = inv.sent b i from in record { ended = old.ended; answer = old.answer } } where
+  line = inv.line;
+  work = λ l. work_same x.current.work (inv.work l);
+  older = inv.older;
+  sent = λ b i from. let old = inv.sent b i from in record { ended = old.ended; answer = old.answer };
+} where
   work_same : (o : Option Work) → AnyWorkHolds v x.media x.marks x.current.last o → AnyWorkHolds v x.media (GaveUp ∷ x.marks) x.current.last o
   work_same None h = tt
   work_same (Some w) h = record { opened = h.opened; id = h.id; moved = h.moved }
 noted_keeps v image given x (Took who now call answer) inv nothing = record {
-  well_formed = (inv.well_formed, tt); started = inv.started; range = inv.range; media = record { each = inv.media.each };
-  outside = inv.outside; true_replies = inv.true_replies; driver = inv.driver; last = inv.last; fits = inv.fits;
+  well_formed = (inv.well_formed, tt);
+  started = inv.started;
+  range = inv.range;
+  media = record { each = inv.media.each };
+  outside = inv.outside;
+  true_replies = inv.true_replies;
+  driver = inv.driver;
+  last = inv.last;
+  fits = inv.fits;
   posts = λ q i. record { opened = (inv.posts q i).opened };
-  line = inv.line; work = λ l. work_same x.current.work (inv.work l); older = inv.older;
-  sent = λ b i from. let old = inv.sent b i from in record { ended = old.ended; answer = old.answer } } where
+  line = inv.line;
+  work = λ l. work_same x.current.work (inv.work l);
+  older = inv.older;
+  sent = λ b i from. let old = inv.sent b i from in record { ended = old.ended; answer = old.answer };
+} where
   work_same : (o : Option Work) → AnyWorkHolds v x.media x.marks x.current.last o → AnyWorkHolds v x.media (Took who now call answer ∷ x.marks) x.current.last o
   work_same None h = tt
   work_same (Some w) h = record { opened = h.opened; id = h.id; moved = h.moved }
 noted_keeps v image given x (Fault e cause) inv nothing = record {
-  well_formed = (inv.well_formed, tt); started = inv.started; range = inv.range; media = record { each = inv.media.each };
-  outside = inv.outside; true_replies = inv.true_replies; driver = inv.driver; last = inv.last; fits = inv.fits;
+  well_formed = (inv.well_formed, tt);
+  started = inv.started;
+  range = inv.range;
+  media = record { each = inv.media.each };
+  outside = inv.outside;
+  true_replies = inv.true_replies;
+  driver = inv.driver;
+  last = inv.last;
+  fits = inv.fits;
   posts = λ q i. record { opened = (inv.posts q i).opened };
-  line = inv.line; work = λ l. work_same x.current.work (inv.work l); older = inv.older;
-  sent = λ b i from. let old = inv.sent b i from in record { ended = old.ended; answer = old.answer } } where
+  line = inv.line;
+  work = λ l. work_same x.current.work (inv.work l);
+  older = inv.older;
+  sent = λ b i from. let old = inv.sent b i from in record { ended = old.ended; answer = old.answer };
+} where
   work_same : (o : Option Work) → AnyWorkHolds v x.media x.marks x.current.last o → AnyWorkHolds v x.media (Fault e cause ∷ x.marks) x.current.last o
   work_same None h = tt
   work_same (Some w) h = record { opened = h.opened; id = h.id; moved = h.moved }
@@ -104,24 +144,32 @@ opening_at v s o on inside less =
 pub opening_holds : (v : Opening) (x : State) → IsOnMedia v → IsOpening v x → Invariant v (contents_at v) (opening_media v) x
 opening_holds v x on o =
     let P : MediaState → Bool → List BlockRequest → List BlockReply → List Mark → Type 0 =
-        λ media live line sent marks. Invariant v (contents_at v) (opening_media v) (state_of media x.current live line sent marks) in
+    λ media live line sent marks. Invariant v (contents_at v) (opening_media v) (state_of media x.current live line sent marks) in
     let result : P (opening_media v) false [] [] [] = record {
-      well_formed = tt; started = refl; range = λ l. absurd (never l);
+      well_formed = tt;
+      started = refl;
+      range = λ l. absurd (never l);
       media = record { each = λ s k inside less sure. opening_at v s k on inside less };
       outside = record { each = λ n out. refl };
-      true_replies = tt; driver = o.driver; last = omega (arith, o.unused);
-      fits = λ q i. absurd i; posts = λ q i. absurd i; line = λ q i. absurd i;
+      true_replies = tt;
+      driver = o.driver;
+      last = omega (arith, o.unused);
+      fits = λ q i. absurd i;
+      posts = λ q i. absurd i;
+      line = λ q i. absurd i;
       work = λ l. absurd (never l);
-      older = λ r i. absurd i; sent = λ r i from. absurd i } in
+      older = λ r i. absurd i;
+      sent = λ r i from. absurd i;
+    } in
     let same : state_of (opening_media v) x.current false [] [] [] ≡ x =
-        ap (λ (m : MediaState). state_of m x.current false [] [] []) (sym o.media)
-        ∙ ap (λ (b : Bool). state_of x.media x.current b [] [] []) (sym o.live)
-        ∙ ap (λ (l : List BlockRequest). state_of x.media x.current x.live l [] []) (sym o.line)
-        ∙ ap (λ (l : List BlockReply). state_of x.media x.current x.live x.line l []) (sym o.sent)
-        ∙ ap (λ (l : List Mark). state_of x.media x.current x.live x.line x.sent l) (sym o.marks) in
+    ap (λ (m : MediaState). state_of m x.current false [] [] []) (sym o.media)
+    ∙ ap (λ (b : Bool). state_of x.media x.current b [] [] []) (sym o.live)
+    ∙ ap (λ (l : List BlockRequest). state_of x.media x.current x.live l [] []) (sym o.line)
+    ∙ ap (λ (l : List BlockReply). state_of x.media x.current x.live x.line l []) (sym o.sent)
+    ∙ ap (λ (l : List Mark). state_of x.media x.current x.live x.line x.sent l) (sym o.marks) in
     subst (λ (y : State). Invariant v (contents_at v) (opening_media v) y) same result where
-  never : false ≡ true → ⊥
-  never e = cc
+      never : false ≡ true → ⊥
+      never e = cc
 
 -- what holds of every run from there
 pub is_true : (v : Opening) (y : State) → Invariant v (contents_at v) (opening_media v) y → RunIsTrue v y

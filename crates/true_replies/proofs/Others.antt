@@ -48,8 +48,9 @@ older_sent g Working a sent i = inl i
 older_sent g Idle a sent i = inl i
 older_sent g Failed a sent i = inl i
 older_sent g (Done answer) a sent i = elim (sent_push a (reply_of g answer) sent i) [
-    inl j ↦ inl j
-  | inr e ↦ inr (ap (λ (b : BlockReply). b.from) e) ]
+  | inl j ↦ inl j
+  | inr e ↦ inr (ap (λ (b : BlockReply). b.from) e)
+]
 
 pub older_keeps : (v : Opening) (image : Contents) (given : MediaState) (x : State) (g : ℕ) (b a : DriverState) (step : Step) (media : MediaState)
     → Invariant v image given x → g < x.media.generation → StepKeeps b x.media g step a media
@@ -57,15 +58,27 @@ pub older_keeps : (v : Opening) (image : Contents) (given : MediaState) (x : Sta
 older_keeps v image given x g b a step media inv less k =
     let is : media ≡ x.media = revoked b a b.work x.media media g step less k.steps in
     let result : Invariant v image given (stepped_older x g step x.media) = record {
-      well_formed = inv.well_formed; started = inv.started; range = inv.range; media = inv.media;
-      outside = inv.outside; true_replies = inv.true_replies; driver = inv.driver; last = inv.last; fits = inv.fits;
-      posts = inv.posts; line = inv.line; work = inv.work;
+      well_formed = inv.well_formed;
+      started = inv.started;
+      range = inv.range;
+      media = inv.media;
+      outside = inv.outside;
+      true_replies = inv.true_replies;
+      driver = inv.driver;
+      last = inv.last;
+      fits = inv.fits;
+      posts = inv.posts;
+      line = inv.line;
+      work = inv.work;
       older = λ r i. elim (older_sent g step r x.sent i) [
-          inl j ↦ inv.older r j
-        | inr e ↦ let h : r.from.generation ≡ g = ap (λ (d : Endpoint). d.generation) e in omega (arith, h, less) ];
+        | inl j ↦ inv.older r j
+        | inr e ↦ let h : r.from.generation ≡ g = ap (λ (d : Endpoint). d.generation) e in omega (arith, h, less)
+      ];
       sent = λ r i from. elim (older_sent g step r x.sent i) [
-          inl j ↦ inv.sent r j from
-        | inr e ↦ let h : x.media.generation ≡ g = ap (λ (d : Endpoint). d.generation) (sym from ∙ e) in absurd (omega (arith, h, less)) ] } in
+        | inl j ↦ inv.sent r j from
+        | inr e ↦ let h : x.media.generation ≡ g = ap (λ (d : Endpoint). d.generation) (sym from ∙ e) in absurd (omega (arith, h, less))
+      ];
+    } in
     subst (λ (d : MediaState). Invariant v image given (stepped_older x g step d)) (sym is) result
 
 -- a driver is handed the front of its line
@@ -76,7 +89,8 @@ some_work v media marks last q None h i e = absurd h
 some_work v media marks last q (Some w) h i e = record {
   opened = subst (λ (r : BlockRequest). IsIn r (open_requests marks)) (sym h.0) i;
   id = ap (λ (r : BlockRequest). r.id) h.0 ∙ e;
-  moved = λ j is. absurd (let f : w.moved j ≡ false = h.1 j in let t : w.moved j ≡ true = is in cc) }
+  moved = λ j is. absurd (let f : w.moved j ≡ false = h.1 j in let t : w.moved j ≡ true = is in cc);
+}
 
 waiting_few : (o : Option Work) → waiting o ≤ 1
 waiting_few None = omega arith
@@ -91,9 +105,13 @@ handed_keeps v image given x Taken q rest a inv is k driver =
     let less : x.current.last < q.id = k.1 in
     let last : a.last ≡ q.id = t.last in
     record {
-      well_formed = inv.well_formed; started = inv.started;
+      well_formed = inv.well_formed;
+      started = inv.started;
       range = λ l. ap (λ (r : Ranges). range_of r v.minor) t.same_ranges ∙ inv.range l;
-      media = inv.media; outside = inv.outside; true_replies = inv.true_replies; driver = driver;
+      media = inv.media;
+      outside = inv.outside;
+      true_replies = inv.true_replies;
+      driver = driver;
       last = omega (arith, t.last, since_below x.marks q (inv.line q front));
       fits = inv.fits;
       posts = λ p i. record { opened = λ l. (inv.posts p i).opened (omega (arith, l, less, last)) };
@@ -101,26 +119,50 @@ handed_keeps v image given x Taken q rest a inv is k driver =
       work = λ l. some_work v x.media x.marks a.last q a.work t.work ((inv.posts q (inv.line q front)).opened less) (sym last);
       older = inv.older;
       sent = λ r i from.
-        let old : ReplyHolds v x.media x.marks x.current r = inv.sent r i from in
-        record { ended = omega (arith, old.ended, less, last, waiting_few a.work); answer = old.answer } }
+          let old : ReplyHolds v x.media x.marks x.current r = inv.sent r i from in
+          record { ended = omega (arith, old.ended, less, last, waiting_few a.work); answer = old.answer };
+    }
 handed_keeps v image given x Busy q rest a inv is k driver =
     let same : handed x Busy q rest a ≡ x =
-        ap (λ (m : DriverState). record x { current = m; line = q ∷ rest }) k.1 ∙ ap (λ (l : List BlockRequest). record x { line = l }) (sym is) in
+    ap (λ (m : DriverState). record x { current = m; line = q ∷ rest }) k.1 ∙ ap (λ (l : List BlockRequest). record x { line = l }) (sym is) in
     subst (λ (y : State). Invariant v image given y) (sym same) inv
 handed_keeps v image given x Old q rest a inv is k driver =
     let result : Invariant v image given (handed x Old q rest x.current) = record {
-      well_formed = inv.well_formed; started = inv.started; range = inv.range; media = inv.media;
-      outside = inv.outside; true_replies = inv.true_replies; driver = inv.driver; last = inv.last; fits = inv.fits; posts = inv.posts;
+      well_formed = inv.well_formed;
+      started = inv.started;
+      range = inv.range;
+      media = inv.media;
+      outside = inv.outside;
+      true_replies = inv.true_replies;
+      driver = inv.driver;
+      last = inv.last;
+      fits = inv.fits;
+      posts = inv.posts;
       line = λ p i. inv.line p (subst (λ (l : List BlockRequest). IsIn p l) (sym is) (inr i));
-      work = inv.work; older = inv.older; sent = inv.sent } in
+      work = inv.work;
+      older = inv.older;
+      sent = inv.sent;
+    } in
     subst (λ (m : DriverState). Invariant v image given (handed x Old q rest m)) (sym k.2) result
 
 -- a driver dies
 pub dead_keeps : (v : Opening) (image : Contents) (given : MediaState) (x : State) → Invariant v image given x → Invariant v image given (dead x)
 dead_keeps v image given x inv = record {
-  well_formed = inv.well_formed; started = inv.started; range = λ l. absurd (never l); media = inv.media;
-  outside = inv.outside; true_replies = inv.true_replies; driver = inv.driver; last = inv.last; fits = inv.fits; posts = inv.posts;
-  line = inv.line; work = λ l. absurd (never l); older = inv.older; sent = inv.sent } where
+  well_formed = inv.well_formed;
+  started = inv.started;
+  range = λ l. absurd (never l);
+  media = inv.media;
+  outside = inv.outside;
+  true_replies = inv.true_replies;
+  driver = inv.driver;
+  last = inv.last;
+  fits = inv.fits;
+  posts = inv.posts;
+  line = inv.line;
+  work = λ l. absurd (never l);
+  older = inv.older;
+  sent = inv.sent;
+} where
   never : false ≡ true → ⊥
   never e = cc
 
@@ -143,7 +185,7 @@ names v image given x s (Some w) inv range is h n = at (plan x.current.ranges w.
   at None e b = absurd b
   at (Some run) e b =
       let p : Planned v w.request run (s - run.first) =
-          planned v x.current.ranges w.request run (s - run.first) range (inv.fits w.request h.opened).minor_is e (omega (arith, b.0, b.1)) in
+      planned v x.current.ranges w.request run (s - run.first) range (inv.fits w.request h.opened).minor_is e (omega (arith, b.0, b.1)) in
       record { w = w; is = is; holds = h; write = ap is_write n.0; j = s - run.first; place = p.place; at = omega (arith, b.0, p.at) }
 
 named : (ranges : Ranges) (work : Option Work) (o : Option ℕ) (s : ℕ) → o ≡ Some s → IfSome o (λ s. IsOfAWrite ranges work s) → IsOfAWrite ranges work s
@@ -160,30 +202,40 @@ torn_at v image given x g s bytes inv n =
       range = λ l. absurd (never l);
       media = written_media v image x.media x.marks n.w.request n.j g bytes inv.well_formed n.holds.opened n.write n.place inv.media;
       outside = written_outside v given x.media n.w.request n.j g bytes n.place inv.outside;
-      true_replies = inv.true_replies; driver = inv.driver; last = inv.last; fits = inv.fits; posts = inv.posts;
-      line = inv.line; work = λ l. absurd (never l);
+      true_replies = inv.true_replies;
+      driver = inv.driver;
+      last = inv.last;
+      fits = inv.fits;
+      posts = inv.posts;
+      line = inv.line;
+      work = λ l. absurd (never l);
       older = λ r i. omega (arith, inv.older r i, generation);
       sent = λ r i from.
-        let old : ReplyHolds v x.media x.marks x.current r = inv.sent r i (from ∙ ap driver_at generation) in
-        let ended : r.id + 1 ≤ x.current.last = subst (λ (o : Option Work). r.id + waiting o ≤ x.current.last) n.is old.ended in
-        record {
-          ended = old.ended;
-          answer = λ q j same. record { each = λ k good i less.
-            let m : Moved v x.media q (payload q.kind q.bytes r.bytes) i = (old.answer q j same).each k good i less in
-            moved_elsewhere v x.media q (payload q.kind q.bytes r.bytes) i g n.place.at bytes m
-              (elim (two_open x.marks inv.well_formed q n.w.request j n.holds.opened) [
-                inl is ↦ let e : q.id ≡ n.w.request.id = ap (λ (b : BlockRequest). b.id) is in absurd (omega (arith, e, same, ended, n.holds.id))
-              | inr misses ↦ misses_place v q n.w.request i n.j misses m.place n.place ]) } } } in
+          let old : ReplyHolds v x.media x.marks x.current r = inv.sent r i (from ∙ ap driver_at generation) in
+          let ended : r.id + 1 ≤ x.current.last = subst (λ (o : Option Work). r.id + waiting o ≤ x.current.last) n.is old.ended in
+          record {
+            ended = old.ended;
+            answer = λ q j same. record {
+              each = λ k good i less.
+                  let m : Moved v x.media q (payload q.kind q.bytes r.bytes) i = (old.answer q j same).each k good i less in
+                  moved_elsewhere v x.media q (payload q.kind q.bytes r.bytes) i g n.place.at bytes m
+                  (elim (two_open x.marks inv.well_formed q n.w.request j n.holds.opened) [
+                    | inl is ↦ let e : q.id ≡ n.w.request.id = ap (λ (b : BlockRequest). b.id) is in absurd (omega (arith, e, same, ended, n.holds.id))
+                    | inr misses ↦ misses_place v q n.w.request i n.j misses m.place n.place
+                  ]);
+            };
+          };
+    } in
     subst (λ (t : ℕ). Invariant v image given (torn x g t bytes)) (sym n.at) result where
-  never : false ≡ true → ⊥
-  never e = cc
+      never : false ≡ true → ⊥
+      never e = cc
 
 pub torn_keeps : (v : Opening) (image : Contents) (given : MediaState) (x : State) (g s : ℕ) (bytes : List ℕ) → Invariant v image given x → x.live ≡ true → x.current.in_work ≡ Some s
     → Invariant v image given (torn x g s bytes)
 torn_keeps v image given x g s bytes inv live is =
     torn_at v image given x g s bytes inv
-      (names v image given x s x.current.work inv (inv.range live) refl (inv.work live)
-        (named x.current.ranges x.current.work x.current.in_work s is inv.driver.names_its_own))
+    (names v image given x s x.current.work inv (inv.range live) refl (inv.work live)
+    (named x.current.ranges x.current.work x.current.in_work s is inv.driver.names_its_own))
 
 -- a generation that was started is above 0
 started_some : (g : ℕ) → 0 < g → Some (driver_at g) ≡ started_at g
@@ -214,7 +266,8 @@ replaced_keeps v image given x g m inv less driver fresh =
       range = λ l. f.1;
       media = record { each = inv.media.each };
       outside = record { each = inv.outside.each };
-      true_replies = inv.true_replies; driver = driver;
+      true_replies = inv.true_replies;
+      driver = driver;
       last = omega (arith, zero_last);
       fits = inv.fits;
       posts = λ q i. absurd i;
@@ -222,8 +275,9 @@ replaced_keeps v image given x g m inv less driver fresh =
       work = λ l. none_waits v (adopted x.media g) (Started (driver_at g) ∷ x.marks) m.last m.work (omega (arith, driver.bad_is_few, zero_last));
       older = λ r i. omega (arith, inv.older r i, top, less);
       sent = λ r i from.
-        let h : r.from.generation ≡ max x.media.generation g = ap (λ (d : Endpoint). d.generation) from in
-        absurd (omega (arith, inv.older r i, h, top, less)) }
+          let h : r.from.generation ≡ max x.media.generation g = ap (λ (d : Endpoint). d.generation) from in
+          absurd (omega (arith, inv.older r i, h, top, less));
+    }
 
 -- a request is issued, or put on the line again
 sure_before : (a b : Bool) → (a || b) ≡ false → b ≡ false
@@ -241,34 +295,56 @@ issued_keeps v image given x r to inv may fits =
     let a : OpenAfterIssue x.marks r to = open_after_issue x.marks r to may.1 in
     record {
       well_formed = (inv.well_formed, may);
-      started = inv.started; range = inv.range;
-      media = record { each = λ s o inside less sure. inv.media.each s o inside less
-        (sure_before (is_write r.kind && covers r (512 * s + o)) (unsure x.marks (512 * s + o)) sure) };
-      outside = inv.outside; true_replies = inv.true_replies; driver = inv.driver;
+      started = inv.started;
+      range = inv.range;
+      media = record {
+        each = λ s o inside less sure. inv.media.each s o inside less
+            (sure_before (is_write r.kind && covers r (512 * s + o)) (unsure x.marks (512 * s + o)) sure);
+      };
+      outside = inv.outside;
+      true_replies = inv.true_replies;
+      driver = inv.driver;
       last = omega (arith, inv.last);
       fits = λ q i. elim (a.only q i) [
-          inl j ↦ inv.fits q j
-        | inr e ↦ subst (λ (p : BlockRequest). Fits v p) (sym e.0) fits ];
+        | inl j ↦ inv.fits q j
+        | inr e ↦ subst (λ (p : BlockRequest). Fits v p) (sym e.0) fits
+      ];
       posts = λ q i. elim i [
-          inl e ↦ record { opened = λ l. subst (λ (p : BlockRequest). IsIn p (open_requests (Issued r to ∷ x.marks))) (sym e) a.own }
-        | inr j ↦ record { opened = λ l. a.old q ((inv.posts q j).opened l) } ];
+        | inl e ↦ record { opened = λ l. subst (λ (p : BlockRequest). IsIn p (open_requests (Issued r to ∷ x.marks))) (sym e) a.own }
+        | inr j ↦ record { opened = λ l. a.old q ((inv.posts q j).opened l) }
+      ];
       line = λ q i. elim (in_push x.line r q i) [ inl j ↦ inr (inv.line q j) | inr e ↦ inl e ];
       work = λ l. work_issued v x.media x.marks r to x.current.last x.current.work a (inv.work l);
       older = inv.older;
       sent = λ b i from.
-        let old : ReplyHolds v x.media x.marks x.current b = inv.sent b i from in
-        record {
-          ended = old.ended;
-          answer = λ q j same. elim (a.only q j) [
-              inl k ↦ old.answer q k same
-            | inr e ↦ let h : q.id ≡ r.id = ap (λ (p : BlockRequest). p.id) e.0 in absurd (omega (arith, h, e.1, same, old.ended, inv.last)) ] } }
+          let old : ReplyHolds v x.media x.marks x.current b = inv.sent b i from in
+          record {
+            ended = old.ended;
+            answer = λ q j same. elim (a.only q j) [
+              | inl k ↦ old.answer q k same
+              | inr e ↦ let h : q.id ≡ r.id = ap (λ (p : BlockRequest). p.id) e.0 in absurd (omega (arith, h, e.1, same, old.ended, inv.last))
+            ];
+          };
+    }
 
 pub repeated_keeps : (v : Opening) (image : Contents) (given : MediaState) (x : State) (r : BlockRequest) → Invariant v image given x
     → IsIn r (since_start x.marks) → Invariant v image given (repeated x r)
 repeated_keeps v image given x r inv posted = record {
-  well_formed = inv.well_formed; started = inv.started; range = inv.range; media = inv.media;
-  outside = inv.outside; true_replies = inv.true_replies; driver = inv.driver; last = inv.last; fits = inv.fits; posts = inv.posts;
+  well_formed = inv.well_formed;
+  started = inv.started;
+  range = inv.range;
+  media = inv.media;
+  outside = inv.outside;
+  true_replies = inv.true_replies;
+  driver = inv.driver;
+  last = inv.last;
+  fits = inv.fits;
+  posts = inv.posts;
   line = λ q i. elim (in_push x.line r q i) [
-      inl j ↦ inv.line q j
-    | inr e ↦ subst (λ (p : BlockRequest). IsIn p (since_start x.marks)) (sym e) posted ];
-  work = inv.work; older = inv.older; sent = inv.sent }
+    | inl j ↦ inv.line q j
+    | inr e ↦ subst (λ (p : BlockRequest). IsIn p (since_start x.marks)) (sym e) posted
+  ];
+  work = inv.work;
+  older = inv.older;
+  sent = inv.sent;
+}

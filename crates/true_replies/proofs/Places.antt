@@ -47,8 +47,8 @@ pub planned : (v : Opening) (ranges : Ranges) (q : BlockRequest) (run : Run) (j 
     → plan ranges q ≡ Some run → j < run.count → Planned v q run j
 planned v ranges q run j range minor e less =
     planned_in v q run j (is_on_sectors q.position q.count) refl
-      (let o : range_of ranges q.minor ≡ Some (v.first, v.count) = ap (λ (m : ℕ). range_of ranges m) minor ∙ range in
-       sym (ap (λ (x : Option (ℕ × ℕ)). plan_in x q.position q.count) o) ∙ e) less
+    (let o : range_of ranges q.minor ≡ Some (v.first, v.count) = ap (λ (m : ℕ). range_of ranges m) minor ∙ range in
+    sym (ap (λ (x : Option (ℕ × ℕ)). plan_in x q.position q.count) o) ∙ e) less
 
 pub chunk_at : (j o : ℕ) (bytes : List ℕ) → o < 512 → slice_index (chunk j bytes) o ≡ slice_index bytes (512 * j + o)
 chunk_at j o bytes less = get_or-take 512 (drop (512 * j) bytes) o 0 less ∙ get_or-drop (512 * j) bytes o 0
@@ -56,8 +56,9 @@ chunk_at j o bytes less = get_or-take 512 (drop (512 * j) bytes) o 0 less ∙ ge
 -- two requests that miss each other have no sector in common
 pub misses_place : (v : Opening) (r w : BlockRequest) (k j : ℕ) → Misses r w → (p : Place v r k) (q : Place v w j) → p.at ≢ q.at
 misses_place v r w k j m p q e = elim m.apart [
-    inl h ↦ omega (arith, h, p.position, q.position, p.within, q.within, e)
-  | inr h ↦ omega (arith, h, p.position, q.position, p.within, q.within, e) ]
+  | inl h ↦ omega (arith, h, p.position, q.position, p.within, q.within, e)
+  | inr h ↦ omega (arith, h, p.position, q.position, p.within, q.within, e)
+]
 
 pub other_place : (v : Opening) (r : BlockRequest) (k j : ℕ) → k ≢ j → (p : Place v r k) (q : Place v r j) → p.at ≢ q.at
 other_place v r k j other p q e = other (omega (arith, p.position, q.position, e))
@@ -67,33 +68,39 @@ pub moved_elsewhere : (v : Opening) (media : MediaState) (r : BlockRequest) (byt
 moved_elsewhere v media r bytes k g s new m other = record {
   place = m.place;
   same = λ o less. m.same o less ∙ ap (λ (l : List ℕ). slice_index l o)
-    (sym (sector-written_other media g (v.first + s) (v.first + m.place.at) new (λ e. other (omega (arith, e))))) }
+      (sym (sector-written_other media g (v.first + s) (v.first + m.place.at) new (λ e. other (omega (arith, e)))));
+}
 
 -- the places of an open write are unsure
 pub place_unsure : (v : Opening) (marks : List Mark) (w : BlockRequest) (j o : ℕ) → IsWellFormed marks → IsIn w (open_requests marks) → is_write w.kind ≡ true
     → (p : Place v w j) → o < 512 → unsure marks (512 * p.at + o) ≡ true
 place_unsure v marks w j o wf i write p less =
     unsure_open marks wf w (512 * p.at + o) i write
-      (let low : w.position ≤ 512 * p.at + o = omega (arith, p.position) in
-       let high : 512 * p.at + o < w.position + w.count = omega (arith, p.position, p.within) in
-       grind (arith, nat_tests))
+    (let low : w.position ≤ 512 * p.at + o = omega (arith, p.position) in
+    let high : 512 * p.at + o < w.position + w.count = omega (arith, p.position, p.within) in
+    grind (arith, nat_tests))
 
 pub written_media : (v : Opening) (image : Contents) (media : MediaState) (marks : List Mark) (w : BlockRequest) (j g : ℕ) (new : List ℕ) → IsWellFormed marks → IsIn w (open_requests marks) → is_write w.kind ≡ true
     → (p : Place v w j) → MediaHold v image media marks → MediaHold v image (written media g (v.first + p.at) new) marks
-written_media v image media marks w j g new wf i write p h = record { each = λ s o inside less sure.
-  elim (cases_eq s p.at) [
-    inl same ↦
-      let t : unsure marks (512 * s + o) ≡ true = ap (λ (x : ℕ). unsure marks (512 * x + o)) same ∙ place_unsure v marks w j o wf i write p less in
-      absurd (differ (sym sure ∙ t))
-  | inr other ↦
-      ap (λ (l : List ℕ). slice_index l o) (sector-written_other media g (v.first + p.at) (v.first + s) new (λ e. other (omega (arith, e))))
-      ∙ h.each s o inside less sure ] } where
+written_media v image media marks w j g new wf i write p h = record {
+  each = λ s o inside less sure.
+      elim (cases_eq s p.at) [
+        | inl same ↦
+            let t : unsure marks (512 * s + o) ≡ true = ap (λ (x : ℕ). unsure marks (512 * x + o)) same ∙ place_unsure v marks w j o wf i write p less in
+            absurd (differ (sym sure ∙ t))
+        | inr other ↦
+            ap (λ (l : List ℕ). slice_index l o) (sector-written_other media g (v.first + p.at) (v.first + s) new (λ e. other (omega (arith, e))))
+            ∙ h.each s o inside less sure
+      ];
+} where
   differ : (false ≡ true) → ⊥
   differ e = cc
 
 pub written_outside : (v : Opening) (given media : MediaState) (w : BlockRequest) (j g : ℕ) (new : List ℕ) → (p : Place v w j)
     → OutsideHolds v given media → OutsideHolds v given (written media g (v.first + p.at) new)
-written_outside v given media w j g new p h = record { each = λ n out.
-  sector-written_other media g (v.first + p.at) n new
-    (λ e. elim out [ inl l ↦ absurd (omega (arith, l, e)) | inr l ↦ absurd (omega (arith, l, e, p.inside)) ])
-  ∙ h.each n out }
+written_outside v given media w j g new p h = record {
+  each = λ n out.
+      sector-written_other media g (v.first + p.at) n new
+      (λ e. elim out [ inl l ↦ absurd (omega (arith, l, e)) | inr l ↦ absurd (omega (arith, l, e, p.inside)) ])
+      ∙ h.each n out;
+}

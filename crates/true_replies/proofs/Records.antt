@@ -37,7 +37,7 @@ below_open : (marks : List Mark) → Below (greatest marks) (open_requests marks
 below_open [] = tt
 below_open (Issued r e ∷ marks) =
     let old : Below (max (greatest marks) r.id) (open_requests marks) =
-        below_more (greatest marks) (max (greatest marks) r.id) (open_requests marks) (omega arith) (below_open marks) in
+    below_more (greatest marks) (max (greatest marks) r.id) (open_requests marks) (omega arith) (below_open marks) in
     cond_has (Below (max (greatest marks) r.id)) (nat_lt (greatest marks) r.id)
     (open_requests marks ++ r ∷ []) (open_requests marks)
     (below_push (max (greatest marks) r.id) (open_requests marks) r old (omega arith)) old
@@ -237,7 +237,7 @@ pub open_misses : (marks : List Mark) → IsWellFormed marks → (a : BlockReply
     → IsIn q (open_requests (Answered a ∷ marks)) → Misses q r
 open_misses marks w a r q n is good i =
     left_misses a.id q r (open_requests marks) (all_miss marks w) is
-      (let P : Option ℕ → Type 0 = λ o. IsIn q (cond (is_some o) (without_id a.id (open_requests marks)) (open_requests marks)) in subst P good i)
+    (let P : Option ℕ → Type 0 = λ o. IsIn q (cond (is_some o) (without_id a.id (open_requests marks)) (open_requests marks)) in subst P good i)
 
 -- a place of an open write is unsure
 or_left : (a b : Bool) → a ≡ true → (a || b) ≡ true
@@ -314,17 +314,17 @@ pub one_id : (marks : List Mark) → IsWellFormed marks → (r s : BlockRequest)
 one_id [] w r s i j same = absurd i
 one_id (Issued q e ∷ marks) w r s i j same =
     at (λ k l. one_id marks w.0 r s k l same) ((open_after_issue marks q e w.1.1).only r i) ((open_after_issue marks q e w.1.1).only s j) where
-  at : (IsIn r (open_requests marks) → IsIn s (open_requests marks) → r ≡ s)
-      → IsIn r (open_requests marks) ⊎ ((r ≡ q) × (q.id ≡ greatest marks + 1))
-      → IsIn s (open_requests marks) ⊎ ((s ≡ q) × (q.id ≡ greatest marks + 1)) → r ≡ s
-  at old (inl k) (inl l) = old k l
-  at old (inl k) (inr n) =
-      let le : r.id ≤ greatest marks = open_below marks r k in
-      let is : s.id ≡ q.id = ap (λ (x : BlockRequest). x.id) n.0 in absurd (omega (arith, le, is, n.1, same))
-  at old (inr m) (inl l) =
-      let le : s.id ≤ greatest marks = open_below marks s l in
-      let is : r.id ≡ q.id = ap (λ (x : BlockRequest). x.id) m.0 in absurd (omega (arith, le, is, m.1, same))
-  at old (inr m) (inr n) = m.0 ∙ sym n.0
+      at : (IsIn r (open_requests marks) → IsIn s (open_requests marks) → r ≡ s)
+          → IsIn r (open_requests marks) ⊎ ((r ≡ q) × (q.id ≡ greatest marks + 1))
+          → IsIn s (open_requests marks) ⊎ ((s ≡ q) × (q.id ≡ greatest marks + 1)) → r ≡ s
+      at old (inl k) (inl l) = old k l
+      at old (inl k) (inr n) =
+          let le : r.id ≤ greatest marks = open_below marks r k in
+          let is : s.id ≡ q.id = ap (λ (x : BlockRequest). x.id) n.0 in absurd (omega (arith, le, is, n.1, same))
+      at old (inr m) (inl l) =
+          let le : s.id ≤ greatest marks = open_below marks s l in
+          let is : r.id ≡ q.id = ap (λ (x : BlockRequest). x.id) m.0 in absurd (omega (arith, le, is, m.1, same))
+      at old (inr m) (inr n) = m.0 ∙ sym n.0
 one_id (Answered a ∷ marks) w r s i j same = one_id marks w.0 r s (open_answered marks a r i) (open_answered marks a s j) same
 one_id (Started e ∷ marks) w r s i j same = one_id marks w.0 r s i j same
 one_id (Flush ∷ marks) w r s i j same = one_id marks w.0 r s i j same

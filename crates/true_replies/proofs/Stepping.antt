@@ -48,8 +48,13 @@ went_nothing : (v : Opening) (image : Contents) (given : MediaState) (x : State)
     → Invariant v image given x → WorkHolds v x.media x.marks x.current.last w → MovesNothing w x.media w' media
     → Went v image given x w.request.kind w w' media
 went_nothing v image given x w w' media inv h m = rw (m.same_work, m.same_media) (record {
-  generation = refl; request = refl; moves = h.moved; held = inv.media; outside = inv.outside;
-  others = λ r bytes k i other moved. moved })
+  generation = refl;
+  request = refl;
+  moves = h.moved;
+  held = inv.media;
+  outside = inv.outside;
+  others = λ r bytes k i other moved. moved;
+})
 
 went_moves : (v : Opening) (image : Contents) (given : MediaState) (x : State) (kind : Kind) (w w' : Work) (media : MediaState) (run : Run) (j : ℕ)
     → Invariant v image given x → IsIn w.request (open_requests x.marks) → w.request.kind ≡ kind
@@ -63,19 +68,22 @@ went_moves v image given x Read w w' media run j inv opened kind before p same f
       generation = ap (λ (d : MediaState). d.generation) mb.0;
       request = same;
       moves = λ k h. elim (cases_eq k j) [
-          inl is ↦ subst (λ (n : ℕ). Moved v media w.request w'.got n) (sym is) (record {
-            place = p.place;
-            same = λ o less.
+        | inl is ↦ subst (λ (n : ℕ). Moved v media w.request w'.got n) (sym is) (record {
+          place = p.place;
+          same = λ o less.
               sym (chunk_at j o w'.got less) ∙ ap (λ (l : List ℕ). slice_index l o) (mb.1 ∙ ap (λ (n : ℕ). sector x.media n) p.at)
-              ∙ ap (λ (d : MediaState). slice_index (sector d (v.first + p.place.at)) o) (sym mb.0) })
+              ∙ ap (λ (d : MediaState). slice_index (sector d (v.first + p.place.at)) o) (sym mb.0);
+        })
         | inr other ↦
             let was : IsTrue (w.moved k) = was_moved (w.moved k) (k == j) (rw (flags k) at h) (grind (arith, nat_tests)) in
             let m : Moved v x.media w.request w.got k = before k was in
             record {
               place = m.place;
               same = λ o less.
-                sym (chunk_at k o w'.got less) ∙ ap (λ (l : List ℕ). slice_index l o) (mb.2 k other) ∙ chunk_at k o w.got less
-                ∙ m.same o less ∙ ap (λ (d : MediaState). slice_index (sector d (v.first + m.place.at)) o) (sym mb.0) } ];
+                  sym (chunk_at k o w'.got less) ∙ ap (λ (l : List ℕ). slice_index l o) (mb.2 k other) ∙ chunk_at k o w.got less
+                  ∙ m.same o less ∙ ap (λ (d : MediaState). slice_index (sector d (v.first + m.place.at)) o) (sym mb.0);
+            }
+      ];
       held = subst (λ (d : MediaState). MediaHold v image d x.marks) (sym mb.0) inv.media;
       outside = subst (λ (d : MediaState). OutsideHolds v given d) (sym mb.0) inv.outside;
       others = λ r bytes k i other m. subst (λ (d : MediaState). Moved v d r bytes k) (sym mb.0) m;
@@ -90,23 +98,26 @@ went_moves v image given x Write w w' media run j inv opened kind before p same 
       generation = generation-written x.media x.media.generation (v.first + p.place.at) new;
       request = same;
       moves = λ k h. elim (cases_eq k j) [
-          inl is ↦ subst (λ (n : ℕ). Moved v there w.request w.request.bytes n) (sym is) (record {
-            place = p.place;
-            same = λ o less.
+        | inl is ↦ subst (λ (n : ℕ). Moved v there w.request w.request.bytes n) (sym is) (record {
+          place = p.place;
+          same = λ o less.
               sym (chunk_at j o w.request.bytes less)
-              ∙ ap (λ (l : List ℕ). slice_index l o) (sym (sector-written_same x.media x.media.generation (v.first + p.place.at) new refl inside)) })
+              ∙ ap (λ (l : List ℕ). slice_index l o) (sym (sector-written_same x.media x.media.generation (v.first + p.place.at) new refl inside));
+        })
         | inr other ↦
             let was : IsTrue (w.moved k) = was_moved (w.moved k) (k == j) (rw (flags k) at h) (grind (arith, nat_tests)) in
             let m : Moved v x.media w.request w.request.bytes k = before k was in
             moved_elsewhere v x.media w.request w.request.bytes k x.media.generation p.place.at new m
-              (other_place v w.request k j other m.place p.place) ];
+            (other_place v w.request k j other m.place p.place)
+      ];
       held = written_media v image x.media x.marks w.request j x.media.generation new inv.well_formed opened write p.place inv.media;
       outside = written_outside v given x.media w.request j x.media.generation new p.place inv.outside;
       others = λ r bytes k i other m.
-        moved_elsewhere v x.media r bytes k x.media.generation p.place.at new m
+          moved_elsewhere v x.media r bytes k x.media.generation p.place.at new m
           (elim (two_open x.marks inv.well_formed r w.request i opened) [
-            inl is ↦ absurd (other (ap (λ (q : BlockRequest). q.id) is))
-          | inr misses ↦ misses_place v r w.request k j misses m.place p.place ]);
+            | inl is ↦ absurd (other (ap (λ (q : BlockRequest). q.id) is))
+            | inr misses ↦ misses_place v r w.request k j misses m.place p.place
+          ]);
     } in subst (λ (d : MediaState). Went v image given x Write w w' d) (sym is) result
 
 -- what the media accept is a sector of theirs
@@ -119,8 +130,8 @@ went_sector : (v : Opening) (image : Contents) (given : MediaState) (x : State) 
     → Went v image given x w.request.kind w w' media
 went_sector v image given x w w' media inv range h m =
     went_moves v image given x w.request.kind w w' media m.run m.number inv h.opened refl h.moved
-      (planned v x.current.ranges w.request m.run m.number range (inv.fits w.request h.opened).minor_is m.next.plan m.next.within)
-      m.same_request m.moved (accepted_inside x.media x.media.generation (m.run.first + m.number) m.accepted) m.bytes
+    (planned v x.current.ranges w.request m.run m.number range (inv.fits w.request h.opened).minor_is m.next.plan m.next.within)
+    m.same_request m.moved (accepted_inside x.media x.media.generation (m.run.first + m.number) m.accepted) m.bytes
 
 went : (v : Opening) (image : Contents) (given : MediaState) (x : State) (w w' : Work) (media : MediaState) (step : Step)
     → Invariant v image given x → range_of x.current.ranges v.minor ≡ Some (v.first, v.count) → WorkHolds v x.media x.marks x.current.last w
@@ -159,7 +170,8 @@ from_parts v image given x a media live sent inv range p = record {
   line = inv.line;
   work = p.work;
   older = λ r i. omega (arith, p.older r i, p.generation);
-  sent = λ r i from. p.sent r i (from ∙ ap driver_at p.generation) }
+  sent = λ r i from. p.sent r i (from ∙ ap driver_at p.generation);
+}
 
 pub sent_push : (a b : BlockReply) (bs : List BlockReply) → IsSent a (bs ++ b ∷ []) → IsSent a bs ⊎ (a ≡ b)
 sent_push a b [] (inl e) = inr e
@@ -172,7 +184,8 @@ bears : (v : Opening) (media : MediaState) (kind : Kind) (r : BlockRequest) (got
     → Moved v media r (payload kind r.bytes got) j → Moved v media r (payload kind r.bytes told) j
 bears v media Read r got told m j b less h = record {
   place = h.place;
-  same = λ o few. sym (chunk_at j o told few) ∙ ap (λ (l : List ℕ). slice_index l o) (b j less) ∙ chunk_at j o got few ∙ h.same o few }
+  same = λ o few. sym (chunk_at j o told few) ∙ ap (λ (l : List ℕ). slice_index l o) (b j less) ∙ chunk_at j o got few ∙ h.same o few;
+}
 bears v media Write r got told m j b less h = h
 
 answers : (v : Opening) (media : MediaState) (o : Option Run) (w : Work) (outcome : Result ℕ Errno) (told : List ℕ)
@@ -197,9 +210,12 @@ reply_stays v image given x w w' media a r inv is h g last one old =
     let ended : r.id + 1 ≤ x.current.last = subst (λ (o : Option Work). r.id + waiting o ≤ x.current.last) is old.ended in
     record {
       ended = omega (arith, ended, last, one);
-      answer = λ q i same. record { each = λ n good j less.
-        g.others q (payload q.kind q.bytes r.bytes) j i (λ e. omega (arith, e, same, ended, h.id))
-          ((old.answer q i same).each n good j less) } }
+      answer = λ q i same. record {
+        each = λ n good j less.
+            g.others q (payload q.kind q.bytes r.bytes) j i (λ e. omega (arith, e, same, ended, h.id))
+            ((old.answer q i same).each n good j less);
+      };
+    }
 
 waiting_one : (o : Option Work) → waiting o ≤ 1
 waiting_one None = omega arith
@@ -211,7 +227,8 @@ work_after : (v : Opening) (image : Contents) (given : MediaState) (x : State) (
 work_after v image given x w w' media h g = record {
   opened = subst (λ (q : BlockRequest). IsIn q (open_requests x.marks)) (sym g.request) h.opened;
   id = ap (λ (q : BlockRequest). q.id) g.request ∙ h.id;
-  moved = λ j is. subst (λ (q : BlockRequest). Moved v media q (payload q.kind q.bytes w'.got) j) (sym g.request) (g.moves j is) }
+  moved = λ j is. subst (λ (q : BlockRequest). Moved v media q (payload q.kind q.bytes w'.got) j) (sym g.request) (g.moves j is);
+}
 
 -- the driver goes on, or has failed
 goes_on : (v : Opening) (image : Contents) (given : MediaState) (x : State) (w w' : Work) (a : DriverState) (media : MediaState) (live failed : Bool)
@@ -221,11 +238,17 @@ goes_on : (v : Opening) (image : Contents) (given : MediaState) (x : State) (w w
     → Invariant v image given (record x { media = media; current = a; live = live; sent = x.sent })
 goes_on v image given x w w' a media live failed inv range is h ranges last driver g says =
     from_parts v image given x a media live x.sent inv range (record {
-      ranges = ranges; last = last; generation = g.generation; held = g.held; outside = g.outside; driver = driver;
+      ranges = ranges;
+      last = last;
+      generation = g.generation;
+      held = g.held;
+      outside = g.outside;
+      driver = driver;
       work = λ l. let P : Option Work → Type 0 = λ o. AnyWorkHolds v media x.marks a.last o in subst P (sym says.stays)
-        (let Q : ℕ → Type 0 = λ n. WorkHolds v media x.marks n w' in subst Q (sym last) (work_after v image given x w w' media h g));
+          (let Q : ℕ → Type 0 = λ n. WorkHolds v media x.marks n w' in subst Q (sym last) (work_after v image given x w w' media h g));
       older = inv.older;
-      sent = λ r i from. reply_stays v image given x w w' media a r inv is h g last (waiting_one a.work) (inv.sent r i from) })
+      sent = λ r i from. reply_stays v image given x w w' media a r inv is h g last (waiting_one a.work) (inv.sent r i from);
+    })
 
 -- the driver answers
 ends : (v : Opening) (image : Contents) (given : MediaState) (x : State) (w w' : Work) (a : DriverState) (media : MediaState) (answer : Answer)
@@ -239,18 +262,28 @@ ends v image given x w w' a media answer inv range is h ranges last driver g say
     let own : ReplyHolds v media x.marks a (reply_of x.media.generation answer) = record {
       ended = omega (arith, says.id, after.id, last, none);
       answer = λ q i same.
-        let one : w'.request ≡ q = one_id x.marks inv.well_formed w'.request q after.opened i (sym (same ∙ says.id)) in
-        subst (λ (q : BlockRequest). AnswerHolds v media (reply_of x.media.generation answer) q) one (record {
-          each = answers v media (plan x.current.ranges w'.request) w' answer.outcome answer.bytes after.moved says.answers }) } in
+          let one : w'.request ≡ q = one_id x.marks inv.well_formed w'.request q after.opened i (sym (same ∙ says.id)) in
+          subst (λ (q : BlockRequest). AnswerHolds v media (reply_of x.media.generation answer) q) one (record {
+            each = answers v media (plan x.current.ranges w'.request) w' answer.outcome answer.bytes after.moved says.answers;
+          });
+    } in
     from_parts v image given x a media x.live (x.sent ++ reply_of x.media.generation answer ∷ []) inv range (record {
-      ranges = ranges; last = last; generation = g.generation; held = g.held; outside = g.outside; driver = driver;
+      ranges = ranges;
+      last = last;
+      generation = g.generation;
+      held = g.held;
+      outside = g.outside;
+      driver = driver;
       work = λ l. let P : Option Work → Type 0 = λ o. AnyWorkHolds v media x.marks a.last o in subst P (sym says.ended) tt;
       older = λ r i. elim (sent_push r (reply_of x.media.generation answer) x.sent i) [
-          inl j ↦ inv.older r j
-        | inr e ↦ let k : r.from.generation ≡ x.media.generation = ap (λ (b : BlockReply). b.from.generation) e in omega (arith, k) ];
+        | inl j ↦ inv.older r j
+        | inr e ↦ let k : r.from.generation ≡ x.media.generation = ap (λ (b : BlockReply). b.from.generation) e in omega (arith, k)
+      ];
       sent = λ r i from. elim (sent_push r (reply_of x.media.generation answer) x.sent i) [
-          inl j ↦ reply_stays v image given x w w' media a r inv is h g last (waiting_one a.work) (inv.sent r j from)
-        | inr e ↦ let P : BlockReply → Type 0 = λ b. ReplyHolds v media x.marks a b in subst P (sym e) own ] })
+        | inl j ↦ reply_stays v image given x w w' media a r inv is h g last (waiting_one a.work) (inv.sent r j from)
+        | inr e ↦ let P : BlockReply → Type 0 = λ b. ReplyHolds v media x.marks a b in subst P (sym e) own
+      ];
+    })
 
 says_keeps : (v : Opening) (image : Contents) (given : MediaState) (x : State) (w w' : Work) (step : Step) (a : DriverState) (media : MediaState)
     → Invariant v image given x → range_of x.current.ranges v.minor ≡ Some (v.first, v.count) → x.current.work ≡ Some w → WorkHolds v x.media x.marks x.current.last w
@@ -270,14 +303,21 @@ idle_keeps v image given x Idle a media inv range ranges last driver same says =
 idle_keeps v image given x Failed a media inv range ranges last driver same says =
     let work_is : a.work ≡ x.current.work = ap (λ (d : DriverState). d.work) says in
     let result : Invariant v image given (stepped x Failed a x.media) = from_parts v image given x a x.media false x.sent inv range (record {
-      ranges = ranges; last = last; generation = refl; held = inv.media; outside = inv.outside; driver = driver;
-      work = λ l. absurd (never l); older = inv.older;
+      ranges = ranges;
+      last = last;
+      generation = refl;
+      held = inv.media;
+      outside = inv.outside;
+      driver = driver;
+      work = λ l. absurd (never l);
+      older = inv.older;
       sent = λ r i from.
-        let old : ReplyHolds v x.media x.marks x.current r = inv.sent r i from in
-        record { ended = subst (λ (o : Option Work). r.id + waiting o ≤ a.last) (sym work_is) (omega (arith, old.ended, last)); answer = old.answer } }) in
+          let old : ReplyHolds v x.media x.marks x.current r = inv.sent r i from in
+          record { ended = subst (λ (o : Option Work). r.id + waiting o ≤ a.last) (sym work_is) (omega (arith, old.ended, last)); answer = old.answer };
+    }) in
     subst (λ (m : MediaState). Invariant v image given (stepped x Failed a m)) (sym same) result where
-  never : false ≡ true → ⊥
-  never e = cc
+      never : false ≡ true → ⊥
+      never e = cc
 idle_keeps v image given x Working a media inv range ranges last driver same says = absurd says
 idle_keeps v image given x (Done answer) a media inv range ranges last driver same says = absurd says
 

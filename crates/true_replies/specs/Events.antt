@@ -69,7 +69,8 @@ replaced x generation m = record {
   live = true;
   line = [];
   sent = x.sent;
-  marks = Started (driver_at generation) ∷ x.marks }
+  marks = Started (driver_at generation) ∷ x.marks;
+}
 
 abbrev pub issued : State → BlockRequest → Endpoint → State
 issued x r to = record x { line = x.line ++ r ∷ []; marks = Issued r to ∷ x.marks }

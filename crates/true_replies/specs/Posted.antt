@@ -23,4 +23,3 @@ since_start (_ ∷ marks) = since_start marks
 abbrev pub IsSent : BlockReply → List BlockReply → Type 0
 IsSent a [] = ⊥
 IsSent a (b ∷ bs) = (a ≡ b) ⊎ IsSent a bs
-

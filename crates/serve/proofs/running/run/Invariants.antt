@@ -8,8 +8,8 @@ use Rattle.serve.proofs.running.run.Given as goal
 abbrev pub invariant-loop-budget : goal.invariant-loop-budget
 invariant-loop-budget g l =
     ((v : Opening) (marks : List Mark) → l.generation ≡ l.fn.media.generation
-      → Kept v l.fn.media (g.D.LocalDriver.state l.fn.driver) true l.fn.line.items marks
-      → Kept v l.media (g.D.LocalDriver.state l.driver) true l.line.items marks)
+    → Kept v l.fn.media (g.D.LocalDriver.state l.fn.driver) true l.fn.line.items marks
+    → Kept v l.media (g.D.LocalDriver.state l.driver) true l.line.items marks)
     × (l.media.generation ≡ l.fn.media.generation)
     × (deque_capacity l.line ≡ deque_capacity l.fn.line)
     × (l.budget ≤ l.fn.budget)
