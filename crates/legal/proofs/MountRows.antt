@@ -1,6 +1,6 @@
 -- Mounts and an unmount that are refused for no reason, or do what they may not.
 use Rattle.std.specs.Prelude.{◌≡◌, List, [], ◌∷◌, ◌++◌, replicate, Bool, true, false, None}
-use Rattle.std.proofs.Common.{arith, refl, sym, subst}
+use Rattle.std.proofs.Common.{arith, refl, subst}
 use Rattle.endpoint.specs.declared.Endpoint.{Endpoint}
 use Rattle.message.specs.declared.Kind.TheVariants.{Write}
 use Rattle.message.specs.declared.BlockRequest.{BlockRequest}

@@ -1,16 +1,15 @@
 -- Each call's acts, together, are acts that the rules allow.
-use Rattle.std.proofs.Common.{◌≡◌, ℕ, ◌+◌, ◌-◌, ◌<◌, ◌≤◌, List, [], ◌∷◌, ◌++◌, length, drop, map, max, Bool, true, false, cond, refl, sym, ◌∙◌, ap, subst, arith, append_assoc, Option, Some, None}
+use Rattle.std.proofs.Common.{◌≡◌, ℕ, ◌+◌, ◌-◌, ◌<◌, ◌≤◌, List, [], ◌∷◌, ◌++◌, length, drop, map, max, Bool, true, false, refl, sym, ◌∙◌, ap, subst, arith, append_assoc, Option, Some, None}
 use Rattle.std.proofs.lemmas.Bool.Decides.{nat_tests}
 use Rattle.std.proofs.lemmas.List.{length-append, length-drop, length-map, map-append}
 use Rattle.std.specs.Prelude.{nat_lt, is_some, ◌&&◌, ◌==◌, MatchBool}
 use Rattle.endpoint.specs.declared.Endpoint.{Endpoint}
 use Rattle.message.specs.declared.BlockRequest.{BlockRequest}
-use Rattle.message.specs.declared.BlockReply.{BlockReply}
 use Rattle.message.specs.declared.Incoming.{Incoming}
 use Rattle.message.specs.declared.Incoming.TheVariants as incoming
-use Rattle.marks.specs.Marks.{Mark, Answered, gave_up}
-use Rattle.marks.specs.Open.{open_requests, counts}
-use Rattle.marks.specs.Told.{heard as taken, took_end, Told, Posted, Complained, Received, received, grown, with_told}
+use Rattle.marks.specs.Marks.{Mark}
+use Rattle.marks.specs.Open.{open_requests}
+use Rattle.marks.specs.Told.{heard as taken, took_end, Told, Received, received, grown, with_told}
 use Rattle.marks.specs.Acts.{Act, Began, Absorbed, AtLink, Outbox, KeepsRules, MayAct, outbox_after, marks_after, told_of}
 use Rattle.marks.proofs.ActLaws.{acts_compose}
 use Rattle.reissue.specs.declared.pending.Pending.{Pending}
@@ -19,7 +18,7 @@ use Rattle.reissue.specs.Moves.{IsBusy}
 use Rattle.reissue.specs.Entries.{AllOfMinor, request_of, pending_of}
 use Rattle.reissue.specs.Agrees.{Agrees, unposted, never_issued}
 use Rattle.reissue.specs.Hears.{Hears, IsUnanswered}
-use Rattle.reissue.specs.Posts.{OnlyPosts, PostsInOrder, PostsAfter, accepted_of, complaints_about, due_after, is_message}
+use Rattle.reissue.specs.Posts.{PostsInOrder, PostsAfter, accepted_of, complaints_about, due_after, is_message}
 use Rattle.reissue.specs.Rules.{outbox_of, KeepsRulesBy}
 use Rattle.reissue.proofs.Order.{append_cancel, drop_push}
 use Rattle.reissue.proofs.Settling.{minors_push}

@@ -1,6 +1,5 @@
 -- When the table of pending requests agrees with a record.
-use Rattle.std.specs.Prelude.{◌≡◌, ◌⊎◌, ℕ, ◌+◌, ◌-◌, ◌<◌, ◌≤◌, List, [], ◌∷◌, ◌++◌, length, drop, map, true, false, Option, None, if◌then◌else◌, slice_index}
-use Rattle.endpoint.specs.declared.Endpoint.{Endpoint}
+use Rattle.std.specs.Prelude.{◌≡◌, ◌⊎◌, ℕ, ◌+◌, ◌-◌, ◌<◌, ◌≤◌, List, [], ◌∷◌, ◌++◌, length, drop, map, true, false, slice_index}
 use Rattle.message.specs.Good.{is_write}
 use Rattle.message.specs.declared.BlockRequest.{BlockRequest}
 use Rattle.marks.specs.Marks.{Mark, gave_up}

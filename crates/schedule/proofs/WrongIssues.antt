@@ -7,7 +7,6 @@ use Rattle.marks.specs.declared.Cause.TheVariants.{Exit}
 use Rattle.marks.specs.Marks.{Flush, GaveUp, Fault}
 use Rattle.schedule.specs.declared.Sent.{Sent}
 use Rattle.schedule.specs.declared.Event.TheVariants as event
-use Rattle.schedule.specs.Groups.{Group}
 use Rattle.schedule.specs.Justified.{Justified}
 use Rattle.schedule.proofs.Small.{client, stat_root, issued_to, replied}
 use Rattle.schedule.proofs.WorkedRuns.{waits}

@@ -1,6 +1,6 @@
 -- What a start, giving up, a post and a reply leave of what the inline link has.
-use Rattle.std.proofs.Common.{◌≡◌, ◌⊎◌, ℕ, ◌+◌, ◌<◌, List, [], ◌∷◌, ◌++◌, Bool, true, false, refl, sym, ◌∙◌, ap, subst, arith, max, Option, Some, None}
-use Rattle.std.specs.Prelude.{All, map, is_some, IfSome, slice_index}
+use Rattle.std.proofs.Common.{◌≡◌, ℕ, ◌+◌, ◌<◌, List, [], ◌∷◌, ◌++◌, Bool, true, refl, sym, ◌∙◌, ap, subst, arith, max, Option, Some, None}
+use Rattle.std.specs.Prelude.{map, is_some, IfSome, slice_index}
 use Rattle.std.proofs.lemmas.List.{map-append}
 use Rattle.std.specs.Option.{option_to_list}
 use Rattle.std.proofs.lemmas.List.Elements.{All-pop}

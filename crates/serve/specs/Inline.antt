@@ -1,5 +1,5 @@
 -- What the inline link has of its drivers.
-use Rattle.std.specs.Prelude.{◌≡◌, ℕ, List, [], ◌∷◌, All, Bool, if◌then◌else◌, Option, Some, is_some, IfSome, slice_index}
+use Rattle.std.specs.Prelude.{◌≡◌, ℕ, List, All, Option, Some, is_some, IfSome, slice_index}
 use Rattle.endpoint.specs.declared.Endpoint.{Endpoint}
 use Rattle.message.specs.declared.BlockRequest.{BlockRequest}
 use Rattle.marks.specs.Marks.{Mark}

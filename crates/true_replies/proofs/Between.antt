@@ -1,24 +1,21 @@
 -- What a runner of drivers uses of the invariant: one step, one hand-over, one start, at its parts.
-use Rattle.std.proofs.Common.{◌≡◌, ◌⊎◌, ℕ, ◌<◌, ◌+◌, List, [], ◌∷◌, ◌++◌, Bool, true, false, refl, sym, ◌∙◌, ap, subst, inl, inr, Option, Some, None}
-use Rattle.message.specs.declared.BlockRequest.{BlockRequest}
+use Rattle.std.proofs.Common.{◌≡◌, ℕ, ◌+◌, List, [], ◌∷◌, ◌++◌, true, refl, sym, ◌∙◌, ap, subst, inl, inr, Option, Some, None}
 use Rattle.message.specs.declared.BlockReply.{BlockReply}
 use Rattle.message.specs.declared.Kind.{Kind}
 use Rattle.message.specs.declared.Kind.TheVariants.{Read, Write}
 use Rattle.message.specs.declared.Incoming.TheVariants as incoming
-use Rattle.marks.specs.Marks.{Mark, Started}
 use Rattle.marks.specs.Disk.{Contents}
 use Rattle.marks.specs.Opening.{Opening}
 use Rattle.marks.specs.Told.{received}
-use Rattle.media.specs.Contents.{MediaState, adopted, written}
-use Rattle.bdev.specs.declared.Accept.{Accept}
+use Rattle.media.specs.Contents.{MediaState}
 use Rattle.bdev.specs.declared.Answer.{Answer}
 use Rattle.bdev.specs.declared.Step.{Step}
-use Rattle.bdev.specs.declared.Step.TheVariants.{Working, Idle, Done, Failed}
-use Rattle.bdev.specs.DriverState.{DriverState, Work, range_while_fresh}
-use Rattle.bdev.specs.Promises.{IsDriver, AcceptKeeps, StepKeeps, StepsAt, MovesAtMostOne, MovesBytes}
-use Rattle.true_replies.specs.Posted.{IsSent, driver_at}
-use Rattle.true_replies.specs.State.{State, state_of, Invariant}
-use Rattle.true_replies.specs.Events.{reply_of, stepped, handed, line_after, delivered, replaced}
+use Rattle.bdev.specs.declared.Step.TheVariants.{Done}
+use Rattle.bdev.specs.DriverState.{DriverState, Work}
+use Rattle.bdev.specs.Promises.{IsDriver, StepKeeps, StepsAt, MovesAtMostOne, MovesBytes}
+use Rattle.true_replies.specs.Posted.{IsSent}
+use Rattle.true_replies.specs.State.{State, Invariant}
+use Rattle.true_replies.specs.Events.{reply_of, stepped, delivered}
 use Rattle.true_replies.proofs.Sectors.{generation-written}
 use Rattle.true_replies.proofs.Stepping.{step_keeps}
 use Rattle.true_replies.proofs.Delivering.{delivered_keeps}

@@ -1,25 +1,22 @@
 -- A delivered reply keeps the invariant, and is true of the disk if it counts.
-use Rattle.std.proofs.Common.{◌≡◌, ◌≢◌, ◌⊎◌, ℕ, suc, zero, ◌+◌, ◌-◌, ◌*◌, ◌/◌, ◌%◌, ◌<◌, ◌≤◌, List, [], ◌∷◌, ◌++◌, length, take, drop, get_or, Bool, true, false, cond, refl, sym, ◌∙◌, ap, subst, inl, inr, arith, rules, max, Option, Some, None, IsTrue, eqb, ltb, get_or-take}
-use Rattle.std.proofs.lemmas.List.{length-take-le}
+use Rattle.std.proofs.Common.{◌≡◌, ◌⊎◌, ℕ, suc, zero, ◌+◌, ◌-◌, ◌*◌, ◌/◌, ◌%◌, ◌<◌, ◌≤◌, List, ◌∷◌, Bool, true, false, cond, refl, sym, ◌∙◌, ap, inl, inr, arith, Option, Some, None}
 use Rattle.std.proofs.lemmas.Bool.Decides.{leb_tells, nat_tests}
-use Rattle.std.specs.Prelude.{slice_index, ◌||◌, ◌&&◌, ◌==◌, not, nat_le, nat_lt, is_some}
+use Rattle.std.specs.Prelude.{slice_index, ◌&&◌, ◌==◌, not, nat_le, nat_lt, is_some}
 use Rattle.endpoint.specs.declared.Endpoint.{Endpoint}
 use Rattle.message.specs.declared.Kind.{Kind}
 use Rattle.message.specs.declared.Kind.TheVariants.{Read, Write}
 use Rattle.message.specs.declared.BlockRequest.{BlockRequest}
 use Rattle.message.specs.declared.BlockReply.{BlockReply}
-use Rattle.message.specs.declared.Incoming.TheVariants as incoming
-use Rattle.marks.specs.Marks.{Mark, Issued, Started, Answered, Flush, GaveUp, last_started, is_endpoint, Took, Fault, gave_up}
-use Rattle.marks.specs.Open.{MayFollow, greatest, open_requests, with_id, moved, moved_of, Misses, IsIn, IsWellFormed, counts}
-use Rattle.marks.specs.Disk.{unsure, covers, settles, disk_after, HasTrueReplies, IsTrueOf, IsTrueAnswer, Contents}
-use Rattle.marks.specs.Told.{received}
+use Rattle.marks.specs.Marks.{Mark, Answered, last_started, is_endpoint, gave_up}
+use Rattle.marks.specs.Open.{open_requests, with_id, moved, moved_of, counts}
+use Rattle.marks.specs.Disk.{unsure, disk_after, IsTrueOf, IsTrueAnswer, Contents}
 use Rattle.message.specs.Good.{is_write}
 use Rattle.media.specs.Contents.{MediaState, sector}
-use Rattle.bdev.specs.DriverState.{DriverState, Work}
+use Rattle.bdev.specs.DriverState.{Work}
 use Rattle.bdev.specs.Promises.{waiting}
 use Rattle.marks.specs.Opening.{Opening, Fits}
-use Rattle.true_replies.specs.State.{State, Place, Moved, WorkHolds, AnyWorkHolds, AnswerHolds, ReplyHolds, MediaHold, OutsideHolds, PostHolds, Invariant, payload}
-use Rattle.true_replies.specs.Posted.{IsSent, driver_at, started_at, since_start}
+use Rattle.true_replies.specs.State.{State, Moved, AnyWorkHolds, ReplyHolds, MediaHold, Invariant, payload}
+use Rattle.true_replies.specs.Posted.{IsSent, driver_at, started_at}
 use Rattle.true_replies.specs.Events.{delivered}
 use Rattle.true_replies.proofs.Records.{with_id_in, open_answered, open_stays, moved_le}
 

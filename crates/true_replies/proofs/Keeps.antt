@@ -3,21 +3,18 @@ use Rattle.std.specs.Prelude.{slice_index, ◌/◌}
 use Rattle.std.specs.Simd.{first_chunks}
 use Rattle.bdev.specs.DriverState.{chunk}
 use Rattle.true_replies.proofs.Places.{chunk_at}
-use Rattle.std.proofs.Common.{get_or, drop-drop, zero, suc, take, drop, get_or-take, get_or-drop, ◌≡◌, ◌⊎◌, ℕ, ◌+◌, ◌*◌, ◌<◌, ◌≤◌, List, [], ◌∷◌, length, Bool, true, false, refl, sym, ◌∙◌, ap, subst, arith, Option, Some, None}
+use Rattle.std.proofs.Common.{get_or, drop-drop, zero, suc, take, drop, get_or-take, get_or-drop, ◌≡◌, ℕ, ◌+◌, ◌*◌, ◌<◌, List, [], ◌∷◌, length, Bool, true, false, refl, sym, ◌∙◌, ap, subst, arith, Option, Some, None}
 use Rattle.marks.specs.Marks.{Mark, Started, Answered, Issued, Flush, GaveUp, Took, Fault, ChangesNothing}
-use Rattle.marks.specs.Open.{IsWellFormed}
-use Rattle.marks.specs.Disk.{HasTrueReplies, disk_after, unsure, Contents}
+use Rattle.marks.specs.Disk.{Contents}
 use Rattle.media.specs.Contents.{MediaState, sector}
-use Rattle.bdev.specs.DriverState.{DriverState, Work, range_while_fresh}
+use Rattle.bdev.specs.DriverState.{Work}
 use Rattle.message.specs.declared.BlockRequest.{BlockRequest}
 use Rattle.message.specs.declared.BlockReply.{BlockReply}
-use Rattle.bdev.specs.Promises.{IsDriver}
 use Rattle.marks.specs.Opening.{Opening, contents_at}
-use Rattle.true_replies.specs.State.{State, state_of, Invariant, AnyWorkHolds, MediaHold, OutsideHolds}
-use Rattle.true_replies.specs.Posted.{driver_at}
+use Rattle.true_replies.specs.State.{State, state_of, Invariant, AnyWorkHolds}
 use Rattle.true_replies.specs.Events.{RunIsTrue, IsOnMedia, opening_media, Next, Stepped, SteppedOlder, Handed, Torn, Dead, Replaced, IssuedNow, Repeated, Delivered, Noted, noted, Run, Start, Then, IsOpening}
 use Rattle.true_replies.proofs.Stepping.{step_keeps}
-use Rattle.true_replies.proofs.Others.{older_keeps, handed_keeps, torn_keeps, dead_keeps, replaced_keeps, issued_keeps, repeated_keeps, none_waits, fresh_range}
+use Rattle.true_replies.proofs.Others.{older_keeps, handed_keeps, torn_keeps, dead_keeps, replaced_keeps, issued_keeps, repeated_keeps}
 use Rattle.true_replies.proofs.Delivering.{delivered_keeps}
 
 -- a mark that changes nothing

@@ -1,31 +1,28 @@
 -- The events other than a step and a delivery keep the invariant.
-use Rattle.std.proofs.Common.{◌≡◌, ◌≢◌, ◌⊎◌, ℕ, suc, zero, ◌+◌, ◌-◌, ◌*◌, ◌<◌, ◌≤◌, List, [], ◌∷◌, ◌++◌, length, Bool, true, false, cond, refl, sym, ◌∙◌, ap, subst, inl, inr, arith, rules, max, Option, Some, None, IsTrue, eqb, ltb}
+use Rattle.std.proofs.Common.{◌≡◌, ◌⊎◌, ℕ, suc, zero, ◌+◌, ◌-◌, ◌*◌, ◌<◌, ◌≤◌, List, ◌∷◌, Bool, true, false, cond, refl, sym, ◌∙◌, ap, subst, inl, inr, arith, max, Option, Some, None}
 use Rattle.std.proofs.lemmas.Bool.Decides.{nat_tests}
-use Rattle.std.specs.Prelude.{slice_index, ◌||◌, ◌&&◌, ◌==◌, nat_lt, not, IsSomeAnd, IfSome}
+use Rattle.std.specs.Prelude.{◌||◌, ◌&&◌, ◌==◌, not, IsSomeAnd, IfSome}
 use Rattle.endpoint.specs.declared.Endpoint.{Endpoint}
-use Rattle.message.specs.declared.Kind.{Kind}
-use Rattle.message.specs.declared.Kind.TheVariants.{Read, Write}
 use Rattle.message.specs.declared.BlockRequest.{BlockRequest}
 use Rattle.message.specs.declared.BlockReply.{BlockReply}
-use Rattle.marks.specs.Marks.{Mark, Issued, Started, Answered, Flush, GaveUp, last_started, Took, Fault}
-use Rattle.marks.specs.Open.{MayFollow, greatest, open_requests, moved, Misses, IsIn, IsNew, IsAgain, IsWellFormed}
+use Rattle.marks.specs.Marks.{Mark, Issued, Started}
+use Rattle.marks.specs.Open.{MayFollow, open_requests, IsIn}
 use Rattle.marks.specs.Disk.{unsure, covers, Contents}
 use Rattle.message.specs.Good.{is_write}
-use Rattle.media.specs.Contents.{MediaState, sector, written, adopted, accepts}
+use Rattle.media.specs.Contents.{MediaState, written, adopted, accepts}
 use Rattle.true_replies.proofs.Sectors.{generation-written}
 use Rattle.bdev.specs.declared.Run.{Run}
-use Rattle.bdev.specs.declared.Answer.{Answer}
 use Rattle.bdev.specs.declared.Accept.{Accept}
 use Rattle.bdev.specs.declared.Accept.TheVariants.{Taken, Busy, Old}
 use Rattle.bdev.specs.declared.Step.{Step}
 use Rattle.bdev.specs.declared.Step.TheVariants.{Working, Idle, Done, Failed}
-use Rattle.bdev.specs.DriverState.{DriverState, Work, Ranges, range_of, plan, range_while_fresh, is_fresh}
+use Rattle.bdev.specs.DriverState.{DriverState, Work, Ranges, range_of, plan, range_while_fresh}
 use Rattle.bdev.specs.Promises.{waiting, IsDriver, IsOfAWrite, StepKeeps, StepsAt, AcceptKeeps, Takes, MovesAtMostOne}
 use Rattle.marks.specs.Opening.{Opening, Fits}
-use Rattle.true_replies.specs.State.{State, Place, Moved, WorkHolds, AnyWorkHolds, AnswerHolds, ReplyHolds, MediaHold, OutsideHolds, PostHolds, Invariant, payload}
+use Rattle.true_replies.specs.State.{State, Place, Moved, WorkHolds, AnyWorkHolds, ReplyHolds, Invariant, payload}
 use Rattle.true_replies.specs.Posted.{IsSent, driver_at, started_at, since_start}
-use Rattle.true_replies.specs.Events.{sent_after, reply_of, stepped_older, line_after, handed, torn, dead, replaced, issued, repeated}
-use Rattle.true_replies.proofs.Records.{one_id, two_open, open_below, since_below, open_after_issue, OpenAfterIssue, in_push}
+use Rattle.true_replies.specs.Events.{sent_after, reply_of, stepped_older, handed, torn, dead, replaced, issued, repeated}
+use Rattle.true_replies.proofs.Records.{two_open, since_below, open_after_issue, OpenAfterIssue, in_push}
 use Rattle.true_replies.proofs.Places.{Planned, planned, misses_place, moved_elsewhere, written_media, written_outside}
 use Rattle.true_replies.proofs.Stepping.{sent_push}
 

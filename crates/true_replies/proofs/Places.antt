@@ -1,20 +1,18 @@
 -- Where a request's sectors lie, and what a write of one of them leaves.
-use Rattle.std.proofs.Common.{◌≡◌, ◌≢◌, ◌⊎◌, ℕ, suc, zero, ◌+◌, ◌-◌, ◌*◌, ◌/◌, ◌%◌, ◌<◌, ◌≤◌, List, [], ◌∷◌, ◌++◌, length, take, drop, get_or, Bool, true, false, cond, refl, sym, ◌∙◌, ap, subst, inl, inr, arith, rules, max, min, Option, Some, None, IsTrue, get_or-take, get_or-drop, eqb, ltb}
+use Rattle.std.proofs.Common.{◌≡◌, ◌≢◌, ℕ, ◌+◌, ◌-◌, ◌*◌, ◌/◌, ◌%◌, ◌<◌, ◌≤◌, List, drop, Bool, true, false, cond, refl, sym, ◌∙◌, ap, inl, inr, arith, min, Option, Some, None, get_or-take, get_or-drop}
 use Rattle.std.proofs.lemmas.Bool.{cases_eq}
-use Rattle.std.proofs.lemmas.Bool.Decides.{leb_tells, nat_tests}
-use Rattle.std.specs.Prelude.{slice_index, ◌&&◌}
-use Rattle.message.specs.declared.Kind.{Kind}
-use Rattle.message.specs.declared.Kind.TheVariants.{Read, Write}
+use Rattle.std.proofs.lemmas.Bool.Decides.{nat_tests}
+use Rattle.std.specs.Prelude.{slice_index}
 use Rattle.message.specs.declared.BlockRequest.{BlockRequest}
 use Rattle.marks.specs.Marks.{Mark}
 use Rattle.marks.specs.Open.{open_requests, Misses, IsIn, IsWellFormed}
-use Rattle.marks.specs.Disk.{unsure, covers, Contents}
+use Rattle.marks.specs.Disk.{unsure, Contents}
 use Rattle.message.specs.Good.{is_write}
-use Rattle.media.specs.Contents.{MediaState, sector, written}
-use Rattle.true_replies.proofs.Sectors.{sector-written_same, sector-written_other, generation-written}
+use Rattle.media.specs.Contents.{MediaState, written}
+use Rattle.true_replies.proofs.Sectors.{sector-written_other}
 use Rattle.bdev.specs.declared.Run.{Run}
 use Rattle.bdev.specs.DriverState.{Ranges, range_of, plan, plan_in, cut, is_on_sectors, chunk}
-use Rattle.marks.specs.Opening.{Opening, Fits}
+use Rattle.marks.specs.Opening.{Opening}
 use Rattle.true_replies.specs.State.{Place, Moved, MediaHold, OutsideHolds}
 use Rattle.true_replies.proofs.Records.{unsure_open}
 

@@ -1,16 +1,16 @@
 -- What a well formed record says of its open requests.
-use Rattle.std.proofs.Common.{◌≡◌, ◌⊎◌, ℕ, suc, zero, ◌+◌, ◌-◌, ◌*◌, ◌<◌, ◌≤◌, List, [], ◌∷◌, ◌++◌, length, take, drop, get_or, Bool, true, false, cond, refl, sym, ◌∙◌, ap, subst, inl, inr, arith, rules, max, Option, Some, None, Result, Ok, Err, IsTrue}
-use Rattle.std.proofs.lemmas.Bool.Decides.{leb_tells, nat_tests}
+use Rattle.std.proofs.Common.{◌≡◌, ◌⊎◌, ℕ, ◌+◌, ◌<◌, ◌≤◌, List, [], ◌∷◌, ◌++◌, Bool, true, false, cond, refl, sym, ◌∙◌, ap, subst, inl, inr, arith, max, Option, Some, None, Result, Ok, Err}
+use Rattle.std.proofs.lemmas.Bool.Decides.{nat_tests}
 use Rattle.std.specs.Prelude.{nat_lt, nat_le, is_some, ◌==◌, ◌&&◌, ◌||◌, not, ◌%◌}
 use Rattle.endpoint.specs.declared.Endpoint.{Endpoint}
 use Rattle.message.specs.declared.BlockRequest.{BlockRequest}
 use Rattle.message.specs.declared.BlockReply.{BlockReply}
 use Rattle.errno.specs.declared.Errno.{Errno}
-use Rattle.marks.specs.Marks.{Mark, Issued, Started, Answered, Flush, GaveUp, last_started, is_endpoint, Took, Fault}
-use Rattle.marks.specs.Open.{greatest, open_requests, without_id, with_id, moved, moved_of, Misses, MissesAll, IsIn, IsNew, IsAgain, IsWellFormed, counts}
+use Rattle.marks.specs.Marks.{Mark, Issued, Started, Answered, Flush, GaveUp, Took, Fault}
+use Rattle.marks.specs.Open.{greatest, open_requests, without_id, with_id, moved, moved_of, Misses, MissesAll, IsIn, IsNew, IsAgain, IsWellFormed}
 use Rattle.marks.specs.Disk.{unsure, covers, settles}
 use Rattle.message.specs.Good.{is_write}
-use Rattle.true_replies.specs.Posted.{since_start, driver_at}
+use Rattle.true_replies.specs.Posted.{since_start}
 
 abbrev Below : ℕ → List BlockRequest → Type 0
 Below g [] = Unit {0}

@@ -1,6 +1,6 @@
 -- The sectors of media after a write.
 use Rattle.std.specs.Prelude.{ℕ, ◌≡◌, ◌≢◌, ◌<◌, Bool, true, false, List, length, refl, slice_set, if◌then◌else◌}
-use Rattle.std.proofs.Common.{arith, get_or-set_other, get_or-set_same, length-set}
+use Rattle.std.proofs.Common.{arith, get_or-set_other, get_or-set_same}
 use Rattle.std.proofs.lemmas.Bool.Decides.{nat_tests}
 use Rattle.media.specs.Contents.{MediaState, sector, written, accepts}
 

@@ -1,31 +1,28 @@
 -- A step of the current driver keeps the invariant.
-use Rattle.std.proofs.Common.{◌≡◌, ◌≢◌, ◌⊎◌, ℕ, suc, zero, ◌+◌, ◌-◌, ◌*◌, ◌<◌, ◌≤◌, List, [], ◌∷◌, ◌++◌, length, Bool, true, false, cond, refl, sym, ◌∙◌, ap, subst, inl, inr, arith, rules, Option, Some, None, Result, Ok, Err, IsTrue, eqb, ltb}
+use Rattle.std.proofs.Common.{◌≡◌, ◌⊎◌, ℕ, ◌+◌, ◌*◌, ◌<◌, ◌≤◌, List, [], ◌∷◌, ◌++◌, length, Bool, true, false, refl, sym, ◌∙◌, ap, subst, inl, inr, arith, Option, Some, None, Result, Ok, Err, IsTrue}
 use Rattle.std.proofs.lemmas.Bool.{cases_eq}
 use Rattle.std.proofs.lemmas.Bool.Decides.{nat_tests}
-use Rattle.std.specs.Prelude.{slice_index, ◌||◌, ◌&&◌, ◌==◌, nat_lt}
-use Rattle.endpoint.specs.declared.Endpoint.{Endpoint}
+use Rattle.std.specs.Prelude.{slice_index, ◌||◌, ◌==◌}
 use Rattle.errno.specs.declared.Errno.{Errno}
-use Rattle.errno.specs.declared.Errno.TheVariants.{EINVAL}
 use Rattle.message.specs.declared.Kind.{Kind}
 use Rattle.message.specs.declared.Kind.TheVariants.{Read, Write}
 use Rattle.message.specs.declared.BlockRequest.{BlockRequest}
 use Rattle.message.specs.declared.BlockReply.{BlockReply}
-use Rattle.marks.specs.Marks.{Mark}
-use Rattle.marks.specs.Open.{open_requests, moved, Misses, IsIn, IsWellFormed}
-use Rattle.marks.specs.Disk.{unsure, Contents}
+use Rattle.marks.specs.Open.{open_requests, moved, IsIn}
+use Rattle.marks.specs.Disk.{Contents}
 use Rattle.message.specs.Good.{is_write}
 use Rattle.media.specs.Contents.{MediaState, sector, written, accepts}
-use Rattle.true_replies.proofs.Sectors.{sector-written_same, sector-written_other, generation-written}
+use Rattle.true_replies.proofs.Sectors.{sector-written_same, generation-written}
 use Rattle.bdev.specs.declared.Run.{Run}
 use Rattle.bdev.specs.declared.Answer.{Answer}
 use Rattle.bdev.specs.declared.Step.{Step}
 use Rattle.bdev.specs.declared.Step.TheVariants.{Working, Idle, Done, Failed}
 use Rattle.bdev.specs.DriverState.{DriverState, Work, Ranges, range_of, plan, chunk}
-use Rattle.bdev.specs.Promises.{waiting, IsDriver, StepKeeps, StepsAt, Says, SaysIdle, MovesNothing, IsRefused, MovesSector, MovesAtMostOne, MovesBytes, MayAnswer, BearsBytes, EndsBy, GoesOn}
-use Rattle.marks.specs.Opening.{Opening, Fits}
-use Rattle.true_replies.specs.State.{State, Place, Moved, WorkHolds, AnyWorkHolds, AnswerHolds, ReplyHolds, MediaHold, OutsideHolds, PostHolds, Invariant, payload}
+use Rattle.bdev.specs.Promises.{waiting, IsDriver, StepKeeps, StepsAt, Says, SaysIdle, MovesNothing, MovesSector, MovesAtMostOne, MovesBytes, MayAnswer, BearsBytes, EndsBy, GoesOn}
+use Rattle.marks.specs.Opening.{Opening}
+use Rattle.true_replies.specs.State.{State, Moved, WorkHolds, AnyWorkHolds, AnswerHolds, ReplyHolds, MediaHold, OutsideHolds, Invariant, payload}
 use Rattle.true_replies.specs.Posted.{IsSent, driver_at, started_at}
-use Rattle.true_replies.specs.Events.{stepped, sent_after, reply_of}
+use Rattle.true_replies.specs.Events.{stepped, reply_of}
 use Rattle.true_replies.proofs.Records.{one_id, two_open, moved_is}
 use Rattle.true_replies.proofs.Places.{Planned, planned, chunk_at, misses_place, other_place, moved_elsewhere, written_media, written_outside}
 

@@ -1,12 +1,12 @@
 -- What the events of a schedule do to the state of a run.
-use Rattle.std.specs.Prelude.{◌≡◌, ◌⊎◌, ℕ, ◌<◌, ◌+◌, ◌*◌, ◌%◌, ◌≤◌, length, slice_index, List, [], ◌∷◌, ◌++◌, Bool, true, false, Option, Some, None}
+use Rattle.std.specs.Prelude.{◌≡◌, ℕ, ◌<◌, ◌+◌, ◌*◌, ◌%◌, ◌≤◌, length, List, [], ◌∷◌, ◌++◌, Bool, true, false, Some}
 use Rattle.endpoint.specs.declared.Endpoint.{Endpoint}
 use Rattle.message.specs.declared.BlockRequest.{BlockRequest}
 use Rattle.message.specs.declared.BlockReply.{BlockReply}
 use Rattle.message.specs.declared.Incoming.TheVariants as incoming
-use Rattle.marks.specs.Marks.{Mark, Issued, Started, Answered, Flush, GaveUp, Took, Fault, ChangesNothing}
+use Rattle.marks.specs.Marks.{Mark, Issued, Started, ChangesNothing}
 use Rattle.marks.specs.Open.{IsIn, MayFollow, IsWellFormed}
-use Rattle.marks.specs.Disk.{HasTrueReplies, Contents}
+use Rattle.marks.specs.Disk.{HasTrueReplies}
 use Rattle.marks.specs.Told.{received}
 use Rattle.media.specs.Contents.{MediaState, sector, written, adopted, sectors_of}
 use Rattle.bdev.specs.declared.Accept.{Accept}

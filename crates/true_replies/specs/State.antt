@@ -1,15 +1,14 @@
 -- The state of a run and what holds of it between events.
-use Rattle.std.specs.Prelude.{◌≡◌, ◌⊎◌, ℕ, ◌+◌, ◌*◌, ◌<◌, ◌≤◌, List, [], ◌∷◌, ◌++◌, length, Bool, true, false, Option, Some, None, Result, Ok, Err, IsTrue, slice_index}
-use Rattle.endpoint.specs.declared.Endpoint.{Endpoint}
+use Rattle.std.specs.Prelude.{◌≡◌, ◌⊎◌, ℕ, ◌+◌, ◌*◌, ◌<◌, ◌≤◌, List, Bool, true, false, Option, Some, None, IsTrue, slice_index}
 use Rattle.message.specs.declared.Kind.{Kind}
 use Rattle.message.specs.declared.Kind.TheVariants.{Read, Write}
 use Rattle.message.specs.declared.BlockRequest.{BlockRequest}
 use Rattle.message.specs.declared.BlockReply.{BlockReply}
-use Rattle.marks.specs.Marks.{Mark, Issued, Started, Answered, Flush, GaveUp, last_started, Took, Fault}
+use Rattle.marks.specs.Marks.{Mark, last_started}
 use Rattle.marks.specs.Open.{moved, open_requests, greatest, IsIn, IsWellFormed}
 use Rattle.marks.specs.Disk.{disk_after, unsure, HasTrueReplies, Contents}
-use Rattle.marks.specs.Opening.{Opening, Fits, contents_at}
-use Rattle.media.specs.Contents.{MediaState, sector, sectors_of}
+use Rattle.marks.specs.Opening.{Opening, Fits}
+use Rattle.media.specs.Contents.{MediaState, sector}
 use Rattle.bdev.specs.DriverState.{DriverState, Work, range_of}
 use Rattle.bdev.specs.Promises.{waiting, IsDriver}
 use Rattle.true_replies.specs.Posted.{driver_at, started_at, since_start, IsSent}

@@ -1,4 +1,4 @@
-use Rattle.std.proofs.Common.{◌∙◌, ap, rules}
+use Rattle.std.proofs.Common.{rules}
 use Rattle.serve.proofs.Runs.{hands}
 use Rattle.serve.proofs.running.hand_over.Goals as goal
 

@@ -1,4 +1,4 @@
-use Rattle.std.proofs.Common.{◌≡◌, ◌≤◌, List, true, ℕ}
+use Rattle.std.proofs.Common.{◌≡◌, ◌≤◌, List, true}
 use Rattle.std.specs.VecDeque.{deque_capacity}
 use Rattle.marks.specs.Marks.{Mark}
 use Rattle.marks.specs.Opening.{Opening}

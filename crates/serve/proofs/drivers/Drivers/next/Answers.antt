@@ -1,4 +1,4 @@
-use Rattle.std.proofs.Common.{◌≡◌, refl, Some, None, ap, sym, ◌∙◌, subst}
+use Rattle.std.proofs.Common.{ap, sym}
 use Rattle.std.specs.Option.{option_map}
 use Rattle.serve.proofs.LinkLaws.{answered_kept}
 use Rattle.serve.proofs.drivers.Drivers.next.Goals as goal

@@ -1,6 +1,4 @@
-use Rattle.std.proofs.Common.{◌≡◌, refl, Some, None, ap, sym, ◌∙◌, subst}
-use Rattle.std.specs.Prelude.{map}
-use Rattle.serve.specs.Inline.{LinkKept}
+use Rattle.std.proofs.Common.{◌≡◌, refl, Some, None}
 use Rattle.serve.proofs.LinkLaws.{given_up_kept, started_kept, states_of_pop, refused_start}
 use Rattle.serve.proofs.drivers.Drivers.start_next.Goals as goal
 

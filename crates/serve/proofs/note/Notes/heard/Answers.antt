@@ -1,5 +1,4 @@
-use Rattle.std.proofs.Common.{refl, ap, ◌∙◌}
-use Rattle.marks.specs.Told.{took_end, Received}
+use Rattle.std.proofs.Common.{refl}
 use Rattle.serve.specs.declared.note.Note.TheVariants as note
 use Rattle.serve.proofs.NotesLaws.{unended_push, heard_push}
 use Rattle.serve.proofs.note.Notes.heard.Goals as goal
