@@ -119,3 +119,11 @@ row_misses_in = refl
 -- the pulses since the second start
 row_pulses : pulses_after default_policy (new_watch 3) (Tick 0 (0, 0) ∷ Exit (driver 1) 0 ∷ Tick 1 (0, 0) ∷ Tick 2 (2, 1) ∷ Tick 3 (2, 2) ∷ []) [] ≡ (2, 2) ∷ (2, 1) ∷ (0, 0) ∷ []
 row_pulses = refl
+
+-- two faults less than 64 ticks apart: the second has the number 2, and waits two ticks
+row_not_calm : last_fault 64 (62 ∷ 0 ∷ []) ≡ Some (record { number = 2; tick = 62 })
+row_not_calm = refl
+
+-- and 64 ticks apart: the number 1 again, and one tick
+row_calm : last_fault 64 (64 ∷ 0 ∷ []) ≡ Some (record { number = 1; tick = 64 })
+row_calm = refl

@@ -18,7 +18,8 @@ use Rattle.marks.specs.Opening.{Opening, Fits}
 use Rattle.true_replies.specs.State.{State, Moved, AnyWorkHolds, ReplyHolds, MediaHold, Invariant, payload}
 use Rattle.true_replies.specs.Posted.{IsSent, driver_at, started_at}
 use Rattle.true_replies.specs.Events.{delivered}
-use Rattle.true_replies.proofs.Records.{with_id_in, open_answered, open_stays, moved_le}
+use Rattle.marks.proofs.OpenRequests.{with_id_in, open_answered, open_stays}
+use Rattle.marks.proofs.Unsure.{moved_le}
 
 -- the request and the good answer that a delivery is about
 pub record Good (v : Opening) (media : MediaState) (marks : List Mark) (a : BlockReply) (r : BlockRequest) (n : ℕ) : Type 0 where

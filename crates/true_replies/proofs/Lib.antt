@@ -1,4 +1,4 @@
-pub mod Records
+pub mod Since
 pub mod Sectors
 pub mod Places
 pub mod Delivering

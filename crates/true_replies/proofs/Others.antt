@@ -22,7 +22,8 @@ use Rattle.marks.specs.Opening.{Opening, Fits}
 use Rattle.true_replies.specs.State.{State, Place, Moved, WorkHolds, AnyWorkHolds, ReplyHolds, Invariant, payload}
 use Rattle.true_replies.specs.Posted.{IsSent, driver_at, started_at, since_start}
 use Rattle.true_replies.specs.Events.{sent_after, reply_of, stepped_older, handed, torn, dead, replaced, issued, repeated}
-use Rattle.true_replies.proofs.Records.{two_open, since_below, open_after_issue, OpenAfterIssue, in_push}
+use Rattle.marks.proofs.OpenRequests.{two_open, open_after_issue, OpenAfterIssue, in_push}
+use Rattle.true_replies.proofs.Since.{since_below}
 use Rattle.true_replies.proofs.Places.{Planned, planned, misses_place, moved_elsewhere, written_media, written_outside}
 use Rattle.true_replies.proofs.Stepping.{sent_push}
 

@@ -14,7 +14,7 @@ use Rattle.bdev.specs.declared.Run.{Run}
 use Rattle.bdev.specs.DriverState.{Ranges, range_of, plan, plan_in, cut, is_on_sectors, chunk}
 use Rattle.marks.specs.Opening.{Opening}
 use Rattle.true_replies.specs.State.{Place, Moved, MediaHold, OutsideHolds}
-use Rattle.true_replies.proofs.Records.{unsure_open}
+use Rattle.marks.proofs.Unsure.{unsure_open}
 
 -- the j-th sector of the plan is the j-th of the request
 pub record Planned (v : Opening) (q : BlockRequest) (run : Run) (j : ℕ) : Type 0 where

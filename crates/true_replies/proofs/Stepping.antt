@@ -23,7 +23,8 @@ use Rattle.marks.specs.Opening.{Opening}
 use Rattle.true_replies.specs.State.{State, Moved, WorkHolds, AnyWorkHolds, AnswerHolds, ReplyHolds, MediaHold, OutsideHolds, Invariant, payload}
 use Rattle.true_replies.specs.Posted.{IsSent, driver_at, started_at}
 use Rattle.true_replies.specs.Events.{stepped, reply_of}
-use Rattle.true_replies.proofs.Records.{one_id, two_open, moved_is}
+use Rattle.marks.proofs.OpenRequests.{one_id, two_open}
+use Rattle.marks.proofs.Unsure.{moved_is}
 use Rattle.true_replies.proofs.Places.{Planned, planned, chunk_at, misses_place, other_place, moved_elsewhere, written_media, written_outside}
 
 was_moved : (a b : Bool) → IsTrue (a || b) → b ≡ false → IsTrue a
