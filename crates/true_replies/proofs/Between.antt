@@ -16,7 +16,7 @@ use Rattle.bdev.specs.Promises.{IsDriver, StepKeeps, StepsAt, MovesAtMostOne, Mo
 use Rattle.true_replies.specs.Posted.{IsSent}
 use Rattle.true_replies.specs.State.{State, Invariant}
 use Rattle.true_replies.specs.Events.{reply_of, stepped, delivered}
-use Rattle.true_replies.proofs.Sectors.{generation-written}
+use Rattle.media.proofs.WrittenLaws.{generation-written}
 use Rattle.true_replies.proofs.Stepping.{step_keeps}
 use Rattle.true_replies.proofs.Delivering.{delivered_keeps}
 

@@ -1,5 +1,4 @@
 pub mod Since
-pub mod Sectors
 pub mod Places
 pub mod Delivering
 pub mod Stepping

@@ -9,7 +9,7 @@ use Rattle.marks.specs.Open.{open_requests, Misses, IsIn, IsWellFormed}
 use Rattle.marks.specs.Disk.{unsure, Contents}
 use Rattle.message.specs.Good.{is_write}
 use Rattle.media.specs.Contents.{MediaState, written}
-use Rattle.true_replies.proofs.Sectors.{sector-written_other}
+use Rattle.media.proofs.WrittenLaws.{sector-written_other}
 use Rattle.bdev.specs.declared.Run.{Run}
 use Rattle.bdev.specs.DriverState.{Ranges, range_of, plan, plan_in, cut, is_on_sectors, chunk}
 use Rattle.marks.specs.Opening.{Opening}

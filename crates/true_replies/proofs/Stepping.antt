@@ -12,7 +12,7 @@ use Rattle.marks.specs.Open.{open_requests, moved, IsIn}
 use Rattle.marks.specs.Disk.{Contents}
 use Rattle.message.specs.Good.{is_write}
 use Rattle.media.specs.Contents.{MediaState, sector, written, accepts}
-use Rattle.true_replies.proofs.Sectors.{sector-written_same, generation-written}
+use Rattle.media.proofs.WrittenLaws.{accepts-true, sector-written_same, generation-written}
 use Rattle.bdev.specs.declared.Run.{Run}
 use Rattle.bdev.specs.declared.Answer.{Answer}
 use Rattle.bdev.specs.declared.Step.{Step}
@@ -100,7 +100,7 @@ went_moves v image given x Write w w' media run j inv opened kind before p same 
           place = p.place;
           same = λ o less.
               sym (chunk_at j o w.request.bytes less)
-              ∙ ap (λ (l : List ℕ). slice_index l o) (sym (sector-written_same x.media x.media.generation (v.first + p.place.at) new refl inside));
+              ∙ ap (λ (l : List ℕ). slice_index l o) (sym (sector-written_same x.media x.media.generation (v.first + p.place.at) new (accepts-true x.media x.media.generation (v.first + p.place.at) refl inside)));
         })
         | inr other ↦
             let was : IsTrue (w.moved k) = was_moved (w.moved k) (k == j) (rw (flags k) at h) (grind (arith, nat_tests)) in
