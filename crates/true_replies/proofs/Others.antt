@@ -10,7 +10,7 @@ use Rattle.marks.specs.Open.{MayFollow, open_requests, IsIn}
 use Rattle.marks.specs.Disk.{unsure, covers, Contents}
 use Rattle.message.specs.Good.{is_write}
 use Rattle.media.specs.Contents.{MediaState, written, adopted, accepts}
-use Rattle.true_replies.proofs.Sectors.{generation-written}
+use Rattle.media.proofs.WrittenLaws.{generation-written}
 use Rattle.bdev.specs.declared.Run.{Run}
 use Rattle.bdev.specs.declared.Accept.{Accept}
 use Rattle.bdev.specs.declared.Accept.TheVariants.{Taken, Busy, Old}
