@@ -1,6 +1,7 @@
 //! Reading scripts: a line `user UID GID`, and then a line `NOW CALL` for each call. Of the calls `stat /` alone is read so far.
 
-ghost use Rattle.std.specs.Prelude.{◌<◌, ◌≤◌, IfSome, length};
+ghost use Rattle.std.specs.Prelude.{◌≡◌, ◌≢◌, ℕ, ◌<◌, ◌≤◌, List, ◌∷◌, [], MatchOption, IfOk, IfErr, length};
+ghost use Rattle.tools.specs.Script.{parts_of, words_of, number_of, user_of, time_of, script_of, IsRefused};
 
 use std::alloc::Global;
 use thiserror::Error;
@@ -27,51 +28,34 @@ pub enum ScriptRefusal {
     OutOfMemory,
 }
 
-/// The words of a line, each up to the next space.
-#[derive(Drop)]
-struct Words<'a> {
-    rest: Option<&'a [u8]>,
+/// What stands before the first separator of a text, and what stands after it.
+fn cut(text: &[u8], separator: u8) -> Option<(&[u8], &[u8])>
+    ensures { MatchOption result (parts_of separator text.now ≡ text.now ∷ [])
+        (λ cut. (parts_of separator text.now ≡ cut.0.now ∷ parts_of separator cut.1.now) × (length cut.1.now < length text.now)) }
+{
+    match text.iter().position(|byte| *byte == separator) {
+        Some(end) => Some((&text[..end], &text[end + 1..])),
+        None => None,
+    }
 }
 
-impl<'a> Words<'a> {
-    /// All words of a line.
-    fn new(line: &'a [u8]) -> Words<'a> {
-        Words { rest: Some(line) }
-    }
-
-    /// The next word; none where the line has ended.
-    fn word(&mut self) -> Option<&'a [u8]> {
-        let rest = self.rest?;
-        match rest.iter().position(|byte| *byte == b' ') {
-            Some(end) => {
-                self.rest = Some(&rest[end + 1..]);
-                Some(&rest[..end])
-            }
-            None => {
-                self.rest = None;
-                Some(rest)
-            }
-        }
-    }
-
-    /// The next word as a number in decimal.
-    fn number(&mut self) -> Option<u32> {
-        decimal(self.word()?)
-    }
-
-    /// The next word as a number in decimal, at most 65535.
-    fn half(&mut self) -> Option<u16> {
-        u16::try_from(self.number()?).ok()
-    }
-
-    /// Whether the line has ended.
-    fn is_at_end(&self) -> bool {
-        self.rest.is_none()
+/// The words of a line of three words.
+fn three_words(line: &[u8]) -> Option<(&[u8], &[u8], &[u8])>
+    ensures { MatchOption result ((a b c : List ℕ) → words_of line.now ≢ a ∷ b ∷ c ∷ [])
+        (λ words. words_of line.now ≡ words.0.now ∷ words.1.now ∷ words.2.now ∷ []) }
+{
+    let (first, rest) = cut(line, b' ')?;
+    let (second, third) = cut(rest, b' ')?;
+    match cut(third, b' ') {
+        Some(_) => None,
+        None => Some((first, second, third)),
     }
 }
 
 /// A number of decimal digits, at most 4294967295.
-fn decimal(word: &[u8]) -> Option<u32> {
+fn decimal(word: &[u8]) -> Option<u32>
+    ensures { result ≡ number_of u32.MAX word.now }
+{
     if word.is_empty() {
         return None;
     }
@@ -83,57 +67,55 @@ fn decimal(word: &[u8]) -> Option<u32> {
     Some(value)
 }
 
-/// The first line of a text, up to its newline, and what follows it.
-fn split_line(text: &[u8]) -> Option<(&[u8], &[u8])>
-    ensures { IfSome result (λ parts. length parts.1.now < length text.now) }
+/// A number of decimal digits, at most 65535.
+fn half(word: &[u8]) -> Option<u16>
+    ensures { result ≡ number_of u16.MAX word.now }
 {
-    let end = text.iter().position(|byte| *byte == b'\n')?;
-    Some((&text[..end], &text[end + 1..]))
+    u16::try_from(decimal(word)?).ok()
 }
 
 /// The user and the group of a line `user UID GID`.
-fn read_user(line: &[u8]) -> Option<(u16, u16)> {
-    let mut words = Words::new(line);
-    if words.word()? != b"user".as_slice() {
+fn read_user(line: &[u8]) -> Option<(u16, u16)>
+    ensures { result ≡ user_of line.now }
+{
+    let (name, uid, gid) = three_words(line)?;
+    if name != b"user".as_slice() {
         return None;
     }
-    let uid = words.half()?;
-    let gid = words.half()?;
-    if words.is_at_end() {
-        Some((uid, gid))
-    } else {
-        None
-    }
+    let uid = half(uid)?;
+    let gid = half(gid)?;
+    Some((uid, gid))
 }
 
 /// The time of a line `NOW stat /`.
-fn read_stat(line: &[u8]) -> Option<u32> {
-    let mut words = Words::new(line);
-    let now = words.number()?;
-    let name = words.word()?;
-    let path = words.word()?;
-    if name == b"stat".as_slice() && path == b"/".as_slice() && words.is_at_end() {
-        Some(now)
-    } else {
-        None
+fn read_stat(line: &[u8]) -> Option<u32>
+    ensures { result ≡ time_of line.now }
+{
+    let (now, name, path) = three_words(line)?;
+    if name != b"stat".as_slice() || path != b"/".as_slice() {
+        return None;
     }
+    decimal(now)
 }
 
 /// Reads a script: a line for the user and then one for each call, each ended by a newline.
 ///
 /// The refusal names the first line that can't be read; no bytes are a bad line 1.
-pub fn read_script(alloc: Global, text: &[u8]) -> Result<Script, ScriptRefusal> {
-    let Some((first, mut rest)) = split_line(text) else {
+pub fn read_script(alloc: Global, text: &[u8]) -> Result<Script, ScriptRefusal>
+    ensures ok { IfOk result (λ script. script_of text.now ≡ Ok (script.uid, script.gid, script.times.items)) }
+    ensures err { IfErr result (IsRefused text.now) }
+{
+    let Some((first, mut rest)) = cut(text, b'\n') else {
         return Err(ScriptRefusal::BadLine(1));
     };
     let Some((uid, gid)) = read_user(first) else {
         return Err(ScriptRefusal::BadLine(1));
     };
     let mut times = Vec::new(alloc);
-    let mut number: u64 = 1;
     while !rest.is_empty() {
-        number = number.saturating_add(1);
-        let Some((line, after)) = split_line(rest) else {
+        // The user's line and one for each time stand before this one.
+        let number = times.len() as u64 + 2;
+        let Some((line, after)) = cut(rest, b'\n') else {
             return Err(ScriptRefusal::BadLine(number));
         };
         rest = after;

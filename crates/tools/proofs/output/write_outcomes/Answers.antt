@@ -1,5 +1,4 @@
-use Rattle.std.proofs.Common.{sym, ap, ◌∙◌, ◌++◌, ◌∷◌, []}
-use Rattle.tools.specs.Output.{line_text}
+use Rattle.std.proofs.Common.{◌∙◌}
 use Rattle.tools.proofs.Writes.{appends_more, part_of_more, part_before, text_next, text_split, on_err}
 use Rattle.tools.proofs.output.write_outcomes.Goals as goal
 
