@@ -2,6 +2,7 @@
 use Rattle.std.specs.Prelude.{◌≡◌, ℕ, ◌+◌, Bool, List, ◌∷◌, [], ◌==◌, ◌&&◌, nat_le, nat_lt, length, cond, Option, Some, None, Result, Ok, Err, ⊤, codes}
 use Rattle.std.specs.List.{slice_split, list_all}
 use Rattle.std.specs.Char.{is_digit}
+use Rattle.std.specs.Option.{option_zip}
 use Rattle.std.specs.Str.{bytes_eq}
 use Rattle.std.specs.Str.Parse.{digits_value}
 use Rattle.tools.specs.declared.script.ScriptRefusal.{ScriptRefusal}
@@ -27,15 +28,9 @@ is_decimal word = nat_lt 0 (length word) && list_all (λ b. is_digit b 10) word
 abbrev pub number_of : ℕ → List ℕ → Option ℕ
 number_of most word = cond (is_decimal word && nat_le (digits_value 10 word) most) (Some (digits_value 10 word)) None
 
--- both values
-abbrev pub both : Option ℕ → Option ℕ → Option (ℕ × ℕ)
-both (Some a) (Some b) = Some (a, b)
-both (Some a) None = None
-both None b = None
-
 -- the user and the group that the words `user UID GID` name, each at most 65535
 abbrev pub user_of_words : List (List ℕ) → Option (ℕ × ℕ)
-user_of_words (name ∷ uid ∷ gid ∷ []) = cond (bytes_eq name (codes "user")) (both (number_of 65535 uid) (number_of 65535 gid)) None
+user_of_words (name ∷ uid ∷ gid ∷ []) = cond (bytes_eq name (codes "user")) (option_zip (number_of 65535 uid) (number_of 65535 gid)) None
 user_of_words _ = None
 
 -- the time that the words `NOW stat /` name, at most 4294967295
