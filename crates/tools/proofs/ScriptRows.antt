@@ -1,7 +1,7 @@
 -- Scripts by hand.
-use Rattle.std.proofs.Common.{◌≡◌, ◌∷◌, [], refl}
+use Rattle.std.proofs.Common.{true, false, ◌≡◌, ◌∷◌, [], refl}
 use Rattle.std.specs.Prelude.{Ok, Err, Some, None, codes}
-use Rattle.tools.specs.Script.{script_of, number_of, user_of, time_of}
+use Rattle.tools.specs.Script.{script_of, number_of, user_of, time_of, has_call}
 
 -- no bytes are a bad line 1
 empty : script_of [] ≡ Err 1
@@ -74,3 +74,15 @@ name_alone = refl
 -- a call's line names its time
 time : time_of (codes "100 stat /") ≡ Some 100
 time = refl
+
+-- memory is needed only for a call's time: none for a script without calls
+no_call_to_keep : has_call (script_of (codes "user 0 0\n")) ≡ false
+no_call_to_keep = refl
+
+-- nor where the first call's line is bad
+bad_call_to_keep : has_call (script_of (codes "user 0 0\n1 stat\n")) ≡ false
+bad_call_to_keep = refl
+
+-- but for a call before a bad line
+call_to_keep : has_call (script_of (codes "user 0 0\n1 stat /\n1 stat\n")) ≡ true
+call_to_keep = refl

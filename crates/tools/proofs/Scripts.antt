@@ -1,5 +1,7 @@
 -- Reading scripts.
 use Rattle.std.proofs.Common.{◌≡◌, ◌≢◌, ℕ, ◌+◌, ◌*◌, ◌<◌, ◌≤◌, ◌&&◌, nat_le, get_or, List, [], ◌∷◌, ◌++◌, length, take, drop, true, false, cond, refl, sym, ap, ◌∙◌, append_assoc, arith, Option, Some, None, Result, Ok, Err, ◌==◌, lit≤, subst}
+use Rattle.std.specs.Prelude.{⊤, Bool}
+use Rattle.std.proofs.lemmas.Grind.{common_steps}
 use Rattle.std.specs.List.{list_all, position_or_len}
 use Rattle.std.specs.Char.{is_digit, digit_value}
 use Rattle.std.specs.Str.Parse.{digits_value}
@@ -10,7 +12,7 @@ use Rattle.std.proofs.lemmas.List.Sums.{position_or_len_is}
 use Rattle.std.proofs.lemmas.List.Folds.{list_all_at}
 use Rattle.std.proofs.lemmas.Int.Digits.{digits_value_more}
 use Rattle.std.proofs.lemmas.Str.Parse.{digits_value-take-le}
-use Rattle.tools.specs.Script.{parts_of, words_of, lines_of, is_decimal, number_of, user_of, time_of, times_of, time_before, with_user, script_of, script_of_lines}
+use Rattle.tools.specs.Script.{parts_of, words_of, lines_of, is_decimal, number_of, user_of, time_of, times_of, time_before, with_user, script_of, script_of_lines, has_call}
 
 -- the first part ends at the first separator
 pub parts_at : (separator : ℕ) (text : List ℕ) (i : ℕ) → i < length text → get_or text i 0 ≡ separator → ((k : ℕ) → k < i → get_or text k 0 ≢ separator)
@@ -102,3 +104,37 @@ script_bad all uid gid done rest line after number h split is =
     h ∙ ap (λ ls. with_user (Some (uid, gid)) (times_before done (times_of number ls))) split
     ∙ ap (λ r. with_user (Some (uid, gid)) (times_before done r)) (times_of-line number line (lines_of after) (some_line after))
     ∙ ap (λ t. with_user (Some (uid, gid)) (times_before done (time_before t number (times_of (number + 1) (lines_of after))))) (sym is)
+
+-- the first bad line isn't one before
+abbrev pub IsFrom : ℕ → Result (List ℕ) ℕ → Type 0
+IsFrom number (Ok times) = ⊤
+IsFrom number (Err bad) = number ≤ bad
+
+from_last : (number : ℕ) (b : Bool) → IsFrom number (cond b (Ok []) (Err number))
+from_last number true = tt
+from_last number false = omega arith
+
+from_line : (number : ℕ) (time : Option ℕ) (later : Result (List ℕ) ℕ) → IsFrom (number + 1) later → IsFrom number (time_before time number later)
+from_line number None later h = omega arith
+from_line number (Some time) (Ok times) h = tt
+from_line number (Some time) (Err bad) h = omega arith
+
+-- no line before the lines' first is their first bad one
+times_of-from : (number : ℕ) (lines : List (List ℕ)) → IsFrom number (times_of number lines)
+times_of-from number [] = omega arith
+times_of-from number (last ∷ []) = from_last number (length last == 0)
+times_of-from number (line ∷ next ∷ more) = from_line number (time_of line) (times_of (number + 1) (next ∷ more)) (times_of-from (number + 1) (next ∷ more))
+
+has_call-more : (uid gid : ℕ) (done : List ℕ) (time number : ℕ) (later : Result (List ℕ) ℕ) → 1 < number → IsFrom (number + 1) later
+    → has_call (with_user (Some (uid, gid)) (times_before (done ++ time ∷ []) later)) ≡ true
+has_call-more uid gid done time number (Ok times) least h =
+    let size : 0 < length ((done ++ time ∷ []) ++ times) = grind (arith, common_steps) in grind (arith, nat_tests)
+has_call-more uid gid done time number (Err bad) least h = grind (arith, nat_tests)
+
+-- a call's line was read
+pub has_call_read : (all : Result (ℕ × ℕ × List ℕ) ℕ) (uid gid : ℕ) (done rest line after : List ℕ) (number time : ℕ)
+    → all ≡ with_user (Some (uid, gid)) (times_before done (times_of number (lines_of rest))) → lines_of rest ≡ line ∷ lines_of after → Some time ≡ time_of line → 1 < number
+    → has_call all ≡ true
+has_call_read all uid gid done rest line after number time h split is least =
+    ap has_call (script_goes_on all (Some (uid, gid)) done rest line after number time h split is)
+    ∙ has_call-more uid gid done time number (times_of (number + 1) (lines_of after)) least (times_of-from (number + 1) (lines_of after))

@@ -1,5 +1,5 @@
 -- What a text says as a script.
-use Rattle.std.specs.Prelude.{◌≡◌, ℕ, ◌+◌, Bool, List, ◌∷◌, [], ◌==◌, ◌&&◌, nat_le, nat_lt, length, cond, Option, Some, None, Result, Ok, Err, ⊤, codes}
+use Rattle.std.specs.Prelude.{◌≡◌, ℕ, ◌+◌, Bool, List, ◌∷◌, [], ◌==◌, ◌&&◌, nat_le, nat_lt, length, cond, Option, Some, None, Result, Ok, Err, IsTrue, codes}
 use Rattle.std.specs.List.{slice_split, list_all}
 use Rattle.std.specs.Char.{is_digit}
 use Rattle.std.specs.Option.{option_zip}
@@ -58,7 +58,7 @@ times_of number [] = Err number
 times_of number (last ∷ []) = cond (length last == 0) (Ok []) (Err number)
 times_of number (line ∷ next ∷ more) = time_before (time_of line) number (times_of (number + 1) (next ∷ more))
 
--- the user, the group and the times, or the number of the first line that can't be read
+-- line 1's user and group with the times of the later lines, or the number of the first line that can't be read
 abbrev pub with_user : Option (ℕ × ℕ) → Result (List ℕ) ℕ → Result (ℕ × ℕ × List ℕ) ℕ
 with_user None calls = Err 1
 with_user (Some user) (Ok times) = Ok (user.0, user.1, times)
@@ -73,7 +73,12 @@ script_of_lines _ = Err 1
 abbrev pub script_of : List ℕ → Result (ℕ × ℕ × List ℕ) ℕ
 script_of text = script_of_lines (lines_of text)
 
--- why a text isn't read: its first bad line is this one, or there was no memory
+-- whether the lines of the user and of a first call can be read
+abbrev pub has_call : Result (ℕ × ℕ × List ℕ) ℕ → Bool
+has_call (Ok script) = nat_lt 0 (length script.2)
+has_call (Err bad) = nat_lt 2 bad
+
+-- why a text isn't read: this is its first bad line, or there was no memory for the time of a call
 abbrev pub IsRefused : List ℕ → ScriptRefusal → Type 0
 IsRefused text (BadLine number) = script_of text ≡ Err number
-IsRefused text OutOfMemory = ⊤
+IsRefused text OutOfMemory = IsTrue (has_call (script_of text))

@@ -23,7 +23,7 @@ pub enum ScriptRefusal {
     /// The line of this number, counted from 1, can't be read.
     #[error("bad line {0}")]
     BadLine(u64),
-    /// No memory was found.
+    /// No memory was found for the time of a call.
     #[error("OutOfMemory")]
     OutOfMemory,
 }
@@ -100,7 +100,7 @@ fn read_stat(line: &[u8]) -> Option<u32>
 
 /// Reads a script: a line for the user and then one for each call, each ended by a newline.
 ///
-/// The refusal names the first line that can't be read; no bytes are a bad line 1.
+/// A bad line is the first that can't be read; no bytes are a bad line 1. Memory is sought only once a call's line was read.
 pub fn read_script(alloc: Global, text: &[u8]) -> Result<Script, ScriptRefusal>
     ensures ok { IfOk result (λ script. script_of text.now ≡ Ok (script.uid, script.gid, script.times.items)) }
     ensures err { IfErr result (IsRefused text.now) }

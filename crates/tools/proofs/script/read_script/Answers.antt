@@ -1,6 +1,6 @@
 use Rattle.std.proofs.Common.{◌≡◌, ◌+◌, ◌++◌, ◌∷◌, [], ◌∙◌, Some, Err, ap, arith, rules, length, length-append}
 use Rattle.tools.specs.Script.{script_of}
-use Rattle.tools.proofs.Scripts.{script_starts, script_goes_on, script_bad}
+use Rattle.tools.proofs.Scripts.{script_starts, script_goes_on, script_bad, has_call_read}
 use Rattle.tools.proofs.script.read_script.Goals as goal
 
 pub loop-rest-init : goal.loop-rest-init
@@ -23,3 +23,8 @@ loop-rest-preserved c =
     rw (items, count)
     (script_goes_on (script_of c.args.text.now) (Some (c.in-Some-read_user.uid, c.in-Some-read_user.gid)) done c.loop-rest.rest.now c.in-Some-cut.line.now c.in-Some-cut.after.now
     (length done + 2) now c.loop-rest.invariant (search rules) (search rules))
+
+pub returns-then-is_err-clause-err : goal.returns-then-is_err-clause-err
+returns-then-is_err-clause-err c =
+    has_call_read (script_of c.args.text.now) c.in-Some-read_user.uid c.in-Some-read_user.gid c.loop-rest.times.items c.loop-rest.rest.now c.in-Some-cut.line.now c.in-Some-cut.after.now
+    (length c.loop-rest.times.items + 2) c.in-Some-read_stat.now c.loop-rest.invariant (search rules) (search rules) (omega arith)
