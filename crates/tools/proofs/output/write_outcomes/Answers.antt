@@ -1,0 +1,19 @@
+use Rattle.std.proofs.Common.{◌∙◌}
+use Rattle.tools.proofs.Writes.{appends_more, part_of_more, part_before, text_next, text_split, on_err}
+use Rattle.tools.proofs.output.write_outcomes.Goals as goal
+
+pub returns-in_err-line-clause-err : goal.returns-in_err-line-clause-err
+returns-in_err-line-clause-err g c = on_err _ _ (part_before _ _ _ _ c.loop-outcome.invariant)
+
+pub returns-in_err-write_text-clause-err : goal.returns-in_err-write_text-clause-err
+returns-in_err-write_text-clause-err g c =
+    let line = c.as_bytes.ensures.value ∙ c.in_ok-line.ensures.ok in
+    on_err _ _
+    (part_of_more _ _ _ _ _ _ _ (text_split c.args.outcomes.now c.loop-outcome.outcome-index c.outcome-item.result c.loop-outcome-test.true c.outcome-item.is)
+    c.loop-outcome.invariant (rw line at c.in_err-write_text.ensures.err))
+
+pub loop-outcome-preserved : goal.loop-outcome-preserved
+loop-outcome-preserved g c =
+    let line = c.as_bytes.ensures.value ∙ c.in_ok-line.ensures.ok in
+    let h = appends_more _ _ _ _ _ c.loop-outcome.invariant (rw line at c.in_ok-write_text.ensures.ok) in
+    rw (text_next c.args.outcomes.now c.loop-outcome.outcome-index c.outcome-item.result c.loop-outcome-test.true c.outcome-item.is) h

@@ -1,0 +1,5 @@
+//! What the programs do, between the bytes that they read and the bytes that they write.
+#![tactic(auto)]
+
+pub mod output;
+pub mod script;
