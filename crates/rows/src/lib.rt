@@ -7,3 +7,5 @@ mod drivers;
 mod errors;
 #[cfg(test)]
 mod replies;
+#[cfg(test)]
+mod scripts;

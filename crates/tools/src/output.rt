@@ -1,6 +1,6 @@
 //! Writing, with a record of what went out.
 
-ghost use Rattle.std.specs.Prelude.{OnOk, OnErr};
+ghost use Rattle.std.specs.Prelude.{◌≡◌, [], IsOk, OnOk, OnErr};
 ghost use Rattle.std.specs.Io.KnownBytes.{Appends};
 ghost use Rattle.tools.specs.Output.{AppendsPart, number_text, outcomes_text, session_text};
 
@@ -29,6 +29,7 @@ impl From<AllocError> for OutputRefusal {
 /// Writes a text, as many bytes at a time as the writer takes.
 #[tactic(auto, using(crate::proofs::Writes::part_of_front))]
 pub fn write_text<W: Write>(to: &mut W, text: &[u8]) -> Result<(), OutputRefusal>
+    ensures empty { text.now ≡ [] → IsOk result }
     ensures ok { OnOk result (Appends (W.contents to.old) (W.contents to.new) text.now) }
     ensures err { OnErr result (AppendsPart (W.contents to.old) (W.contents to.new) text.now) }
 {
