@@ -22,7 +22,7 @@ use message::{BlockReply, BlockRequest, Incoming};
 use reissue::link::LinkRefusal;
 use std::collections::VecDeque;
 
-/// How many requests the line of a driver holds.
+/// How many requests the line of a driver holds at most (own); one more is refused as `Full`.
 pub const LINE: usize = 32;
 
 /// A media, the driver that runs on it, and those that weren't started.

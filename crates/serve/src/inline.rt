@@ -12,7 +12,17 @@ use endpoint::Endpoint;
 use message::{BlockRequest, Incoming};
 use reissue::link::{Link, LinkRefusal};
 
-/// The link of a server to drivers that it runs itself.
+/// The link of a server to drivers that it runs itself (own), one after the other, on media in memory.
+///
+/// - `post` refuses with `DeadEndpoint` where no driver runs or the endpoint isn't that of the last start, else with
+///   `Full` where 32 requests wait on the line; a refused request is noted, and no driver sees it.
+/// - `complain` lets the driver go if it is the one that runs: the next message is then `Started`, `GaveUp` or `End`.
+/// - `take` steps the running driver until it answers, fails or no step is left; where none runs, or the one that ran
+///   has failed, it starts the next one, or gives the device up where there is none or no generation for it.
+/// - `take` answers `End` once no step is left, after `GaveUp`, and where no memory for notes was found. From then on
+///   the budget is 0, and each further one answers `End`.
+///
+/// The budget counts steps, each of at most one sector; a start that no failed step comes before counts as one.
 #[derive(Drop)]
 pub struct Inline<D: LocalDriver> {
     pub(crate) drivers: Drivers<D>,

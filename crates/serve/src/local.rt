@@ -11,12 +11,15 @@ use message::BlockRequest;
 pub trait LocalDriver: Drop {
     ghost state: { Self → DriverState };
 
-    /// Hands over a request.
+    /// Hands over a request. It is `Taken` where none is in work and its id is above that of the last one taken; else it
+    /// is dropped and nothing changes: `Busy` while one is in work, `Old` where its id isn't above.
     fn accept_here(&mut self, request: BlockRequest) -> Accept
         ensures keeps { AcceptKeeps (state self.old) request result (state self.new) }
         ensures driver { IsDriver (state self.new) };
 
-    /// Works on the request in work, under the generation that the driver was started with.
+    /// Works on the request in work, under the generation that the driver was started with: moves at most one sector of
+    /// 512 bytes. `Done` bears its answer and ends it. `Failed`, as where the media refuse the sector, leaves it in work.
+    /// With none in work it is `Idle` or `Failed`, and the media stay.
     fn step_here(&mut self, media: &mut Media, generation: u32) -> Step
         ensures keeps { StepKeeps (state self.old) media.old generation result (state self.new) media.new }
         ensures driver { IsDriver (state self.new) };
