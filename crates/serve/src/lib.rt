@@ -1,4 +1,4 @@
-//! The file server as programs use it.
+//! The link of a file server to drivers that it runs itself.
 #![tactic(auto)]
 
 mod drivers;
