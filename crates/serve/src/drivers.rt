@@ -1,6 +1,6 @@
 //! The drivers of a media, run one after the other by whoever waits for them.
 
-ghost use Rattle.std.specs.Prelude.{◌≡◌, ◌≢◌, ◌≤◌, ◌<◌, List, ◌∷◌, ℕ, map, None, Some, OnOk, OnErr};
+ghost use Rattle.std.specs.Prelude.{◌≡◌, ◌≢◌, ◌≤◌, ◌<◌, ◌⊎◌, ◌↔◌, slice_index, List, [], ◌∷◌, ◌++◌, length, ℕ, map, None, Some, Err, OnOk, OnErr};
 ghost use Rattle.std.specs.Bool.{OnFalse};
 ghost use Rattle.std.specs.Option.{option_map};
 ghost use Rattle.std.specs.VecDeque.{deque_capacity};
@@ -78,6 +78,9 @@ impl<D: LocalDriver> Drivers<D> {
         ensures kept { (v : Opening) (marks : List Mark)
             → LinkKept v self.old.media self.old.slots self.old.endpoint (option_map D.state self.old.running) (map D.state self.old.supply.items) self.old.line.items marks
             → LinkKept v self.new.media self.new.slots self.new.endpoint (option_map D.state self.new.running) (map D.state self.new.supply.items) self.new.line.items (received result marks) }
+        ensures started { (e : Endpoint) → result ≡ Incoming.Started e → (self.new.running ≢ None) × (self.new.endpoint ≡ e) }
+        ensures none_left { self.old.supply.items ≡ [] → result ≡ Incoming.GaveUp }
+        ensures gave_up { result ≡ Incoming.GaveUp → (self.old.supply.items ≡ []) ⊎ (slice_index self.old.slots 1 ≡ 4294967295) }
         ensures budget { self.new.budget ≡ self.old.budget }
     {
         let Some(driver) = self.supply.pop() else {
@@ -137,6 +140,10 @@ impl<D: LocalDriver> Drivers<D> {
             → LinkKept v self.old.media self.old.slots self.old.endpoint (option_map D.state self.old.running) (map D.state self.old.supply.items) self.old.line.items marks
             → OnOk result (MayFollow (Issued request.now to) marks → Fits v request.now
             → LinkKept v self.new.media self.new.slots self.new.endpoint (option_map D.state self.new.running) (map D.state self.new.supply.items) self.new.line.items (Issued request.now to ∷ marks)) }
+        ensures dead { (result ≡ Err LinkRefusal.DeadEndpoint) ↔ ((self.old.running ≡ None) ⊎ (to ≢ self.old.endpoint)) }
+        ensures full { (result ≡ Err LinkRefusal.Full) ↔ ((self.old.running ≢ None) × (to ≡ self.old.endpoint) × (32 ≤ length self.old.line.items)) }
+        ensures on_line { OnOk result (self.new.line.items ≡ self.old.line.items ++ request.now ∷ []) }
+        ensures running { self.new.running ≡ self.old.running }
         ensures refused { OnErr result (self.new ≡ self.old) }
         ensures budget { self.new.budget ≡ self.old.budget }
     {
@@ -155,6 +162,8 @@ impl<D: LocalDriver> Drivers<D> {
         ensures kept { (v : Opening) (marks : List Mark)
             → LinkKept v self.old.media self.old.slots self.old.endpoint (option_map D.state self.old.running) (map D.state self.old.supply.items) self.old.line.items marks
             → LinkKept v self.new.media self.new.slots self.new.endpoint (option_map D.state self.new.running) (map D.state self.new.supply.items) self.new.line.items marks }
+        ensures lets_go { about ≡ self.old.endpoint → self.new.running ≡ None }
+        ensures leaves { about ≢ self.old.endpoint → self.new ≡ self.old }
         ensures budget { self.new.budget ≡ self.old.budget }
     {
         if about == self.endpoint {
