@@ -81,6 +81,8 @@ impl<D: LocalDriver> Drivers<D> {
         ensures started { (e : Endpoint) → result ≡ Incoming.Started e → (self.new.running ≢ None) × (self.new.endpoint ≡ e) }
         ensures none_left { self.old.supply.items ≡ [] → result ≡ Incoming.GaveUp }
         ensures gave_up { result ≡ Incoming.GaveUp → (self.old.supply.items ≡ []) ⊎ (slice_index self.old.slots 1 ≡ 4294967295) }
+        ensures no_end { result ≢ Incoming.End }
+        ensures no_flush { result ≢ Incoming.Flush }
         ensures budget { self.new.budget ≡ self.old.budget }
     {
         let Some(driver) = self.supply.pop() else {
@@ -104,6 +106,10 @@ impl<D: LocalDriver> Drivers<D> {
         ensures kept { (v : Opening) (marks : List Mark)
             → LinkKept v self.old.media self.old.slots self.old.endpoint (option_map D.state self.old.running) (map D.state self.old.supply.items) self.old.line.items marks
             → LinkKept v self.new.media self.new.slots self.new.endpoint (option_map D.state self.new.running) (map D.state self.new.supply.items) self.new.line.items (received result marks) }
+        ensures started { (e : Endpoint) → result ≡ Incoming.Started e → (self.new.running ≢ None) × (self.new.endpoint ≡ e) }
+        ensures gave_up { result ≡ Incoming.GaveUp → (self.old.supply.items ≡ []) ⊎ (slice_index self.old.slots 1 ≡ 4294967295) }
+        ensures ended { result ≡ Incoming.End → self.new.budget ≡ 0 }
+        ensures no_flush { result ≢ Incoming.Flush }
         ensures budget { self.new.budget < self.old.budget }
     {
         let Some(mut driver) = self.running.take() else {

@@ -78,6 +78,7 @@ pub(crate) fn run<D: LocalDriver>(
     ensures generation { media.new.generation ≡ media.old.generation }
     ensures room { deque_capacity line.new ≡ deque_capacity line.old }
     ensures budget { 0 < budget.old → budget.new < budget.old }
+    ensures spent { result ≡ Ran.Spent → budget.new ≡ 0 }
 {
     while *budget > 0 {
         *budget -= 1;
