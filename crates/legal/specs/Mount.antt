@@ -44,7 +44,7 @@ volume_read marks = first_bytes (bytes_read marks) (volume_size marks)
 pub record AreRead (marks : List Mark) (n : ℕ) : Type 0 where
   pub each : (place : ℕ) → place < n → is_read marks place ≡ true
 
--- a server just made: its cache is empty, no file is open and nothing is owed
+-- a server just made: its cache is empty, no file is open and its link hasn't ended
 pub record IsJustMade (new : Serving) : Type 0 where
   pub frames : (block : ℕ) → new.frames block ≡ None
   pub not_busy : new.is_busy ≡ false
@@ -110,7 +110,7 @@ IsWhyNotMounted frames marks ended (Inconsistent finding) =
     × AreRead marks (volume_size marks) × (verdict_of (volume_read marks) ≡ Found finding)
 IsWhyNotMounted frames marks ended OutOfMemory = is_frame_count frames ≡ true
 IsWhyNotMounted frames marks ended Eio = (is_frame_count frames ≡ true) × (gave_up marks ≡ true)
-IsWhyNotMounted frames marks ended LinkEnded = (is_frame_count frames ≡ true) × (ended ≡ true)
+IsWhyNotMounted frames marks ended LinkEnded = (is_frame_count frames ≡ true) × (ended ≡ true) × (gave_up marks ≡ false)
 IsWhyNotMounted frames marks ended BadFrames = (is_frame_count frames ≡ false) × (marks ≡ [])
 
 -- a refused mount: what it did at its link until then, and why it stopped
