@@ -155,3 +155,20 @@ fn numbers_and_names(rt: HostRuntime) -> Result<(), AllocError> {
     }
     Ok(())
 }
+
+#[test]
+fn writes_a_volume(rt: HostRuntime) -> Result<(), AllocError> {
+    let volume = Geometry {
+        block_size: 1024,
+        inodes: 32,
+        zones: 64,
+        inode_map_blocks: 1,
+        zone_map_blocks: 1,
+        first_zone: 6,
+    };
+    let mut image = vec![in rt.alloc(); 9u8; 1056]?;
+    volume.write(&mut image);
+    assert_eq!(rt; &image[1024..1055], SUPERBLOCK.as_slice());
+    assert_eq!(rt; (image[0], image[1023], image[1055]), (9, 9, 9));
+    Ok(())
+}
