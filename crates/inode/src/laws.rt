@@ -1,0 +1,15 @@
+//! Laws of inodes, each a function whose contract is the law.
+
+ghost use Rattle.inode.specs.Laws.{HeldAttributes, RootReply};
+
+/// Where a volume holds a tree, what an inode's bytes tell is what stat tells of its node.
+#[tactic(auto, using(crate::proofs::Stat::held_attributes))]
+pub fn held_attributes()
+    ensures { HeldAttributes }
+{}
+
+/// Where a volume holds a tree, the 64 bytes of inode 1 answer each `stat /`, which leaves the tree.
+#[tactic(auto, using(crate::proofs::Stat::root_reply))]
+pub fn root_reply()
+    ensures { RootReply }
+{}
