@@ -1,8 +1,9 @@
-use Rattle.std.proofs.Common.{◌≡◌, ◌+◌, ◌*◌, ◌++◌, length, take, drop, List, [], arith, sym, ap, ◌∙◌, slice_index}
-use Rattle.std.proofs.lemmas.List.{take_all, drop_all, append-nil}
+use Rattle.std.proofs.Common.{◌≡◌, ◌<◌, ◌+◌, ◌*◌, ◌++◌, ℕ, length, take, drop, List, [], arith, sym, ap, ◌∙◌, slice_index}
+use mathlib.Core.Logic.{inl, inr}
+use Rattle.std.proofs.lemmas.Bool.{cases_lt}
+use Rattle.std.proofs.lemmas.List.{take_all, drop_all, append-nil, get_or_past}
 use Rattle.volume.specs.Reading.{inode_in}
-use Rattle.inode.specs.Bytes.{bytes_of}
-use Rattle.inode.proofs.RoundTrip.{read_back}
+use Rattle.inode.proofs.RoundTrip.{Fits, read_back}
 use Rattle.inode.proofs.encode.Goals as goal
 
 pub returns-clause-bytes : goal.returns-clause-bytes
@@ -14,6 +15,19 @@ returns-clause-bytes c =
 pub returns-clause-reads : goal.returns-clause-reads
 returns-clause-reads c =
     let i = c.args.inode.now in
-    let fits = c.fits-inode in
-    let ten : length i.zones ≡ 10 = omega arith in
-    ap (λ bytes. inode_in (slice_index bytes) 0) (returns-clause-bytes c) ∙ ?
+    let fitting : Fits i = record {
+      mode = omega arith;
+      links = omega arith;
+      uid = omega arith;
+      gid = omega arith;
+      size = omega arith;
+      atime = omega arith;
+      mtime = omega arith;
+      ctime = omega arith;
+      ten = omega arith;
+      zones = λ k. elim (cases_lt k 10) [
+        | inl low ↦ c.loop-k.invariant.fit k (omega arith)
+        | inr past ↦ let none = get_or_past i.zones k 0 (omega arith) in omega arith
+      ];
+    } in
+    ap (λ bytes. inode_in (slice_index bytes) 0) (returns-clause-bytes c) ∙ read_back i fitting
