@@ -1,10 +1,10 @@
 -- What a volume's inodes tell is what stat answers.
-use Rattle.std.proofs.Common.{◌≡◌, ◌<◌, ◌≤◌, ◌+◌, ◌*◌, ◌/◌, ◌%◌, ◌^◌, ℕ, List, [], ◌∷◌, length, Bool, true, false, refl, sym, ap, ◌∙◌, arith}
+use Rattle.std.proofs.Common.{◌≡◌, ◌<◌, ◌≤◌, ◌+◌, ◌*◌, ◌%◌, ◌^◌, ℕ, List, [], ◌∷◌, length, true, false, refl, sym, ap, ◌∙◌, arith}
 use mathlib.Core.Logic.{inl, inr}
-use Rattle.std.specs.Prelude.{Option, None, Some, Ok, Err, IsTrue, ◌==◌, ◌||◌, nat_le, nat_lt, codes}
+use Rattle.std.specs.Prelude.{Option, None, Some, Ok, Err, IsTrue, ◌==◌, ◌||◌, nat_lt, codes}
 use Rattle.std.specs.Borrow.{Bor}
 use Rattle.std.proofs.lemmas.Bool.{cases_Bool, and_parts, eqb-true, ltb-true, lt-ltb, le-leb, lt-leb, or_cases, and_from, cond-true, cond-false}
-use Rattle.std.proofs.Math.Nat.{zero-add, zero-div, zero-mod}
+use Rattle.std.proofs.Math.Nat.{zero-add}
 use Rattle.layout.specs.declared.Geometry.{Geometry}
 use Rattle.layout.proofs.Parsed.{block_sizes, geometry_fits}
 use Rattle.errno.specs.declared.Errno.TheVariants.{EINVAL, ENOENT}
@@ -21,10 +21,11 @@ use Rattle.volume.specs.declared.Inode.{Inode}
 use Rattle.volume.specs.Reading.{Disk, u16_in, u32_in, inode_in, blocks_of, is_inode, inode_block, inode_offset, inode_of_disk}
 use Rattle.volume.specs.Pieces.{Pieces, pieces, blank}
 use Rattle.volume.specs.Nodes.{type_in, permissions_in, is_directory_mode, is_marked, body_of, file_of, node_of, directory_of}
-use Rattle.volume.specs.Holds.{IsSound, Holds, HoldsVolume}
+use Rattle.volume.specs.Holds.{IsSound, HoldsVolume}
 use Rattle.volume_laws.proofs.NodesAs.{names_differ, node_is as node_from, length_node}
 use Rattle.inode.specs.Bytes.{attributes_in}
-use Rattle.inode.specs.Laws.{root_place, HeldAttributes, StatOfRoot, RootReply}
+use Rattle.inode.proofs.Root.{block, offset}
+use Rattle.inode.specs.Laws.{root_place, HeldAttributes, RootReply}
 
 module _ (f h : ℕ → ℕ) (p : ℕ) (same : (k : ℕ) → k < 64 → f (p + k) ≡ h k) where
   -- a byte
@@ -169,10 +170,8 @@ module _ (g : Geometry) (image : ℕ → ℕ) (t : Tree) (holds : HoldsVolume g 
   root_byte : (k : ℕ) → k < 64 → d (inode_block g 1) (inode_offset g 1 + k) ≡ image (root_place g + k)
   root_byte k under =
       let start = 2 + g.inode_map_blocks + g.zone_map_blocks in
-      let block : inode_block g 1 ≡ start = ap (λ q. start + q) (zero-div (g.block_size / 64)) ∙ omega arith in
-      let offset : inode_offset g 1 ≡ 0 = ap (λ q. 64 * q) (zero-mod (g.block_size / 64)) in
       let enough = room in
-      ap (λ b. d b (inode_offset g 1 + k)) block ∙ ap (λ o. d start (o + k)) offset ∙ ap (d start) (zero-add k)
+      ap (λ b. d b (inode_offset g 1 + k)) (block g) ∙ ap (λ o. d start (o + k)) (offset g) ∙ ap (d start) (zero-add k)
       ∙ cond-true (nat_lt k g.block_size) (image (start * g.block_size + k)) 0 (lt-ltb k g.block_size (omega arith))
 
   module _ (bytes : ℕ → ℕ) (same : (k : ℕ) → k < 64 → bytes k ≡ image (root_place g + k)) where

@@ -1,7 +1,8 @@
 -- Laws of inodes: what a volume's inodes tell is what stat answers of the tree that it holds.
-use Rattle.std.specs.Prelude.{◌≡◌, ◌≤◌, ◌<◌, ℕ, ◌+◌, ◌*◌, List, Some, false, codes}
+use Rattle.std.specs.Prelude.{◌≡◌, ◌≤◌, ◌<◌, ℕ, ◌+◌, ◌*◌, ◌%◌, List, Some, false, codes}
 use Rattle.std.specs.Borrow.{Bor}
 use Rattle.layout.specs.declared.Geometry.{Geometry}
+use Rattle.layout.specs.Places.{IsGeometry}
 use Rattle.errno.specs.declared.Errno.TheVariants.{EINVAL}
 use Rattle.tree.specs.declared.Who.{Who}
 use Rattle.tree.specs.declared.Attributes.{Attributes}
@@ -14,13 +15,20 @@ use Rattle.volume.specs.Reading.{Disk, blocks_of, inode_in, inode_block, inode_o
 use Rattle.volume.specs.Holds.{Holds, HoldsVolume}
 use Rattle.inode.specs.Bytes.{attributes_in}
 
--- the byte of the volume at which inode n begins
-abbrev pub inode_place : Geometry → ℕ → ℕ
-inode_place g n = inode_block g n * g.block_size + inode_offset g n
-
 -- where the root begins: behind the boot block, the superblock and both maps
 abbrev pub root_place : Geometry → ℕ
 root_place g = (2 + g.inode_map_blocks + g.zone_map_blocks) * g.block_size
+
+-- The root begins its block, which is the inode table's first: it lies before the data zones, and on whole sectors.
+pub record RootBlock (g : Geometry) : Type 0 where
+  pub block : inode_block g 1 ≡ 2 + g.inode_map_blocks + g.zone_map_blocks
+  pub offset : inode_offset g 1 ≡ 0
+  pub inside : root_place g + g.block_size ≤ g.first_zone * g.block_size
+  pub sectors : root_place g % 512 ≡ 0
+
+-- so it is in each volume
+abbrev pub RootIsPlaced : Type 0
+RootIsPlaced = (g : Geometry) → IsGeometry g → RootBlock g
 
 -- what an inode tells is what stat tells of its node
 abbrev pub HeldAttributes : Type 0
