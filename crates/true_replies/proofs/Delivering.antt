@@ -8,9 +8,9 @@ use Rattle.message.specs.declared.Kind.TheVariants.{Read, Write}
 use Rattle.message.specs.declared.BlockRequest.{BlockRequest}
 use Rattle.message.specs.declared.BlockReply.{BlockReply}
 use Rattle.marks.specs.Marks.{Mark, Answered, last_started, is_endpoint, gave_up}
-use Rattle.marks.specs.Open.{open_requests, with_id, moved, moved_of, counts}
+use Rattle.marks.specs.Open.{open_requests, with_id, moved_of, counts}
 use Rattle.marks.specs.Disk.{unsure, disk_after, IsTrueOf, IsTrueAnswer, Contents}
-use Rattle.message.specs.Good.{is_write}
+use Rattle.message.specs.Good.{is_write, moved}
 use Rattle.media.specs.Contents.{MediaState, sector}
 use Rattle.bdev.specs.DriverState.{Work}
 use Rattle.bdev.specs.Promises.{waiting}

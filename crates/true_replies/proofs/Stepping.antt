@@ -8,9 +8,9 @@ use Rattle.message.specs.declared.Kind.{Kind}
 use Rattle.message.specs.declared.Kind.TheVariants.{Read, Write}
 use Rattle.message.specs.declared.BlockRequest.{BlockRequest}
 use Rattle.message.specs.declared.BlockReply.{BlockReply}
-use Rattle.marks.specs.Open.{open_requests, moved, IsIn}
+use Rattle.marks.specs.Open.{open_requests, IsIn}
 use Rattle.marks.specs.Disk.{Contents}
-use Rattle.message.specs.Good.{is_write}
+use Rattle.message.specs.Good.{is_write, moved}
 use Rattle.media.specs.Contents.{MediaState, sector, written, accepts}
 use Rattle.media.proofs.WrittenLaws.{accepts-true, sector-written_same, generation-written}
 use Rattle.bdev.specs.declared.Run.{Run}
