@@ -10,7 +10,7 @@ use crate::ask::{Ask, Ticket};
 use crate::pending::Pending;
 use crate::queue::{PLACES, Queue};
 use endpoint::Endpoint;
-use message::{moved_bytes, BlockReply, BlockRequest, Kind};
+use message::{BlockReply, BlockRequest, Kind, moved_bytes};
 use std::alloc::{AllocError, Global};
 
 /// What an answer did.
