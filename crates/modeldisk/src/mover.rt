@@ -12,7 +12,7 @@ use crate::fault::FaultKind;
 use bdev::{Accept, Answer, Run, Step};
 use errno::Errno;
 use media::Media;
-use message::{moved_bytes, BlockRequest, Kind};
+use message::{BlockRequest, Kind, moved_bytes};
 use partition::Table;
 
 /// Moves the sectors of one request at a time, in the order of a sweep.
