@@ -50,10 +50,6 @@ abbrev pub has_none : List BlockRequest → Bool
 has_none [] = true
 has_none (_ ∷ _) = false
 
--- whether the id is one of an open request
-abbrev pub is_open : ℕ → List Mark → Bool
-is_open id marks = is_some (with_id id (open_requests marks))
-
 -- some id is open, or the last fault has no later start and no later giving up
 abbrev pub is_unfinished : List Mark → Bool
 is_unfinished marks = not (has_none (open_requests marks)) || awaits_start marks
