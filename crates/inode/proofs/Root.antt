@@ -14,9 +14,11 @@ module _ (g : Geometry) where
   abbrev start : ℕ
   start = 2 + g.inode_map_blocks + g.zone_map_blocks
 
+  -- it is the table's first
   pub block : inode_block g 1 ≡ start
   block = ap (λ q. start + q) (zero-div (g.block_size / 64)) ∙ omega arith
 
+  -- and the root begins it
   pub offset : inode_offset g 1 ≡ 0
   offset = ap (λ q. 64 * q) (zero-mod (g.block_size / 64))
 
@@ -40,9 +42,11 @@ module _ (g : Geometry) where
     before : start + 1 ≤ g.first_zone
     before = let first = geometry.first in let some = some_table in omega arith
 
+    -- with all its bytes
     inside : root_place g + g.block_size ≤ g.first_zone * g.block_size
     inside = let more = mul-le-mul_right g.block_size before in let sum = add-mul start 1 g.block_size in omega arith
 
+    -- and it begins at a sector
     sectors : root_place g % 512 ≡ 0
     sectors = elim (block_sizes g.block_size geometry.block_size) [
       | inl e ↦ let same : start * g.block_size ≡ start * 1024 = ap (λ n. start * n) e in omega arith

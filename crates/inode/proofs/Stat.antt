@@ -68,10 +68,11 @@ module _ (g : Geometry) (v : Pieces) (sound : IsSound g v) (n : ℕ) (marked : i
   mode_with : Body → ℕ
   mode_with body = elim body [ is_file f ↦ file_type + permissions_in i.mode | is_directory d ↦ directory_type + permissions_in i.mode ]
 
-  -- its mode is a type and permissions, and nothing else
+  -- its mode is a known type
   known : (type_in i.mode == 4) || (type_in i.mode == 8) ≡ true
   known = (and_parts _ _ (sound.inodes n marked).mode).0
 
+  -- with permissions and nothing else
   bare : i.mode % 8 ^ 4 < 8 ^ 3
   bare = ltb-true (i.mode % 8 ^ 4) (8 ^ 3) (and_parts _ _ (sound.inodes n marked).mode).1
 
@@ -106,7 +107,7 @@ module _ (g : Geometry) (v : Pieces) (sound : IsSound g v) (n : ℕ) (marked : i
         ap mode_with (of_file out) ∙ sum
   ]
 
-  -- a directory's size is that of its entries
+  -- a directory has as many names as its size says
   directory_size : is_directory_mode i.mode ≡ true → 64 * (length (directory_of g v i).names + 2) ≡ i.size
   directory_size is =
       let directory = and_from (is_marked g v n) (is_directory_mode i.mode) marked is in
@@ -114,7 +115,7 @@ module _ (g : Geometry) (v : Pieces) (sound : IsSound g v) (n : ℕ) (marked : i
       let whole = sound.directories n directory in
       omega (arith, whole.sized, whole.two)
 
-  -- and so is its size
+  -- the size of its node is its own
   same_size : size_of (node_of g v i).body ≡ i.size
   same_size = elim (cases_Bool (is_directory_mode i.mode)) [
     | inl is ↦ ap size_of (of_directory is) ∙ directory_size is

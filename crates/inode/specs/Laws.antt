@@ -15,7 +15,7 @@ use Rattle.volume.specs.Reading.{Disk, blocks_of, inode_in, inode_block, inode_o
 use Rattle.volume.specs.Holds.{Holds, HoldsVolume}
 use Rattle.inode.specs.Bytes.{attributes_in}
 
--- where the root begins: behind the boot block, the superblock and both maps
+-- the byte at which the root begins: behind two blocks, of the boot block and the superblock, and both maps
 abbrev pub root_place : Geometry → ℕ
 root_place g = (2 + g.inode_map_blocks + g.zone_map_blocks) * g.block_size
 
@@ -26,7 +26,7 @@ pub record RootBlock (g : Geometry) : Type 0 where
   pub inside : root_place g + g.block_size ≤ g.first_zone * g.block_size
   pub sectors : root_place g % 512 ≡ 0
 
--- so it is in each volume
+-- this holds of every geometry that was read
 abbrev pub RootIsPlaced : Type 0
 RootIsPlaced = (g : Geometry) → IsGeometry g → RootBlock g
 
