@@ -2,3 +2,4 @@ pub mod Runs
 pub mod NotesLaws
 pub mod LinkLaws
 pub mod ReadLaws
+pub mod ServerLaws
