@@ -1,3 +1,5 @@
 pub mod Runs
 pub mod NotesLaws
 pub mod LinkLaws
+pub mod ReadLaws
+pub mod ServerLaws

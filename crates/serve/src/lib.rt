@@ -1,8 +1,12 @@
-//! The link of a file server to drivers that it runs itself.
+//! The link of a file server to drivers that it runs itself, and a server that reads over any link.
 #![tactic(auto)]
 
 mod drivers;
 pub mod inline;
 pub mod local;
 mod note;
+mod reading;
 pub mod running;
+pub mod server;
+
+pub use server::Server;
