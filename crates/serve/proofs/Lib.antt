@@ -1,3 +1,4 @@
 pub mod Runs
+pub mod Going
 pub mod NotesLaws
 pub mod LinkLaws
