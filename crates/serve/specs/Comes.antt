@@ -52,12 +52,26 @@ pub record Spends (e : Endpoint) (b a : Running) : Type 0 where
   pub goes : GoesOn e.generation (machine_of driver b) b.budget after
   pub now : a ≡ running_of after 0
 
+-- the next driver is started on these media, with nothing on its line; or the device is given up
+abbrev pub StartsNext : List BlockRequest → MediaState → Incoming → Option DriverState → List BlockRequest → MediaState → Type 0
+StartsNext line media (incoming.Started e) driver after now = (now ≡ adopted media e.generation) × (after ≡ []) × (is_some driver ≡ true)
+StartsNext line media incoming.GaveUp driver after now = (now ≡ media) × (after ≡ line) × (driver ≡ None)
+StartsNext line media (incoming.Reply reply) driver after now = ⊥
+StartsNext line media incoming.Flush driver after now = ⊥
+StartsNext line media incoming.End driver after now = ⊥
+
+-- once no driver runs any more, the next one is started, or the device is given up
+pub record StartsAfter (e : Endpoint) (b : Running) (message : Incoming) (a : Running) : Type 0 where
+  pub line : List BlockRequest
+  pub media : MediaState
+  pub gone : IsGone e b media a.budget
+  pub starts : StartsNext line media message a.driver a.line a.media
+
 -- what each message says of what ran under the endpoint, and of what runs now
 abbrev pub ComesTo : Endpoint → Running → Incoming → Running → Type 0
 ComesTo e b (incoming.Reply reply) a = Replies e b reply a
-ComesTo e b (incoming.Started to) a =
-    (media : MediaState) × IsGone e b media a.budget × (a.media ≡ adopted media to.generation) × (a.line ≡ []) × (is_some a.driver ≡ true)
-ComesTo e b incoming.GaveUp a = IsGone e b a.media a.budget × (a.driver ≡ None)
+ComesTo e b (incoming.Started to) a = StartsAfter e b (incoming.Started to) a
+ComesTo e b incoming.GaveUp a = StartsAfter e b incoming.GaveUp a
 ComesTo e b incoming.Flush a = ⊥
 ComesTo e b incoming.End a = Spends e b a
 
