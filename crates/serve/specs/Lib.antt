@@ -4,3 +4,4 @@ pub mod Comes
 pub mod Notes
 pub mod Inline
 pub mod InlineLaws
+pub mod Refusals
