@@ -19,12 +19,12 @@ use Rattle.reissue.specs.Entries.{AllOfMinor, request_of, pending_of}
 use Rattle.reissue.specs.Agrees.{Agrees, unposted, never_issued}
 use Rattle.reissue.specs.Hears.{Hears, IsUnanswered}
 use Rattle.reissue.specs.Posts.{PostsInOrder, PostsAfter, accepted_of, complaints_about, due_after, is_message}
-use Rattle.reissue.specs.Rules.{outbox_of, KeepsRulesBy}
+use Rattle.reissue.specs.Rules.{outbox_of, KeepsRulesBy, at_link, all_began, began_on, arrival, acts_on}
 use Rattle.reissue.proofs.Order.{append_cancel, drop_push}
 use Rattle.reissue.proofs.Settling.{minors_push}
-use Rattle.reissue.proofs.PostRules.{at_link, told_at_link, box, box_same}
+use Rattle.reissue.proofs.PostRules.{told_at_link, box, box_same}
 use Rattle.reissue.proofs.TableRules.{loose, ends_same, table_posts, PostsKeep, at_rest, needed}
-use Rattle.reissue.proofs.StepRules.{Arrives, heard}
+use Rattle.reissue.proofs.StepRules.{Arrives, heard, began_none}
 
 -- the marks of what the link was told
 marks_at_link : (told : List Told) (marks : List Mark) → marks_after (at_link told) marks ≡ grown told marks
@@ -60,6 +60,11 @@ owes_same old mid new x current pending posted issued same =
     (ends_same old.posted new.posted old.pending new.pending (omega (arith, x.posted, posted)) (sym (pending ∙ x.pending)))
     (rw (same, current, posted, x.posted, pending, x.pending) refl)
 
+-- nothing but the message
+acts_alone : (posts : List Told) (old mid : Table) (complaints : List Told) (arrived : List Act) → posts ≡ [] → mid.ids ≡ old.ids → complaints ≡ []
+    → acts_on posts old mid complaints arrived ≡ arrived
+acts_alone posts old mid complaints arrived no_post same no_complaint = rw (no_post, no_complaint, began_none old mid same) refl
+
 -- a message that arrives by this act, and all that is done on it
 message_rules : (minor : ℕ) (act : Act) (m : Incoming) (old mid new : Table) (marks : List Mark) (before between after posts complaints : List Told)
     → Arrives minor act m marks (outbox_of old) → Agrees old marks → Agrees mid (received m marks) → Hears m old mid marks
@@ -67,10 +72,10 @@ message_rules : (minor : ℕ) (act : Act) (m : Incoming) (old mid new : Table) (
     → complaints ≡ complaints_about (due_after m marks) → PostsAfter m mid (complaints ++ between) after
     → after ≡ posts ++ (complaints ++ between) → between ≡ told_of (act ∷ []) ++ before
     → new.pending ≡ mid.pending → new.posted ≡ mid.posted + accepted_of posts → new.issued ≡ max mid.issued new.posted → new.current ≡ mid.current
-    → (acts : List Act) × KeepsRulesBy acts minor old new before after marks (grown posts (received m marks))
+    → KeepsRulesBy (acts_on posts old mid complaints (act ∷ [])) minor old new before after marks (grown posts (received m marks))
 message_rules minor act m old mid new marks before between after posts complaints arrives h k hears minors due order history here pending posted issued current =
     by m refl where
-      whole : (n : Incoming) → n ≡ m → is_message n ≡ true → (acts : List Act) × KeepsRulesBy acts minor old new before after marks (grown posts (received m marks))
+      whole : (n : Incoming) → n ≡ m → is_message n ≡ true → KeepsRulesBy (acts_on posts old mid complaints (act ∷ [])) minor old new before after marks (grown posts (received m marks))
       whole n e message =
           let real : is_message m ≡ true = ap is_message (sym e) ∙ message in
           let x = heard minor act m old mid marks arrives h k hears real in
@@ -81,25 +86,28 @@ message_rules minor act m old mid new marks before between after posts complaint
           history ∙ ap (λ (l : List Told). posts ++ l)
           (ap (λ (l : List Told). complaints ++ l) here ∙ sym (append_assoc complaints (told_of (act ∷ [])) before)
           ∙ ap (λ (l : List Told). (l ++ told_of (act ∷ [])) ++ before) due ∙ ap (λ (l : List Told). l ++ before) (sym x.told)) in
-          (at_link posts ++ x.acts, posts_then minor x.acts posts old mid new marks (received m marks) before after x.keeps x.owes x.grows told y)
+          let same : at_link posts ++ x.acts ≡ acts_on posts old mid complaints (act ∷ []) =
+          ap (λ (l : List Act). at_link posts ++ l) x.are ∙ ap (λ (l : List Told). acts_on posts old mid l (act ∷ [])) (sym due) in
+          subst (λ (acts : List Act). KeepsRulesBy acts minor old new before after marks (grown posts (received m marks))) same
+          (posts_then minor x.acts posts old mid new marks (received m marks) before after x.keeps x.owes x.grows told y)
 
-      ended : m ≡ incoming.End → (acts : List Act) × KeepsRulesBy acts minor old new before after marks (grown posts (received m marks))
+      ended : m ≡ incoming.End → KeepsRulesBy (acts_on posts old mid complaints (act ∷ [])) minor old new before after marks (grown posts (received m marks))
       ended e =
           let no_complaint : complaints ≡ [] = due ∙ ap (λ (n : Incoming). complaints_about (due_after n marks)) e in
           let quiet : after ≡ complaints ++ between = subst (λ (n : Incoming). PostsAfter n mid (complaints ++ between) after) e order in
           let no_post : posts ≡ [] = append_cancel posts [] (complaints ++ between) (sym history ∙ quiet) in
           let x = subst (λ (n : Incoming). Hears n old mid marks) e hears in
-          let nothing : new.posted ≡ mid.posted = omega (arith, posted, ap accepted_of no_post) in (
-            act ∷ [],
-            record {
-              told = quiet ∙ ap (λ (l : List Told). l ++ between) no_complaint ∙ here;
-              grows = arrives.grows ∙ ap (λ (l : List Told). grown l (received m marks)) (sym no_post);
-              keeps = (tt, arrives.may);
-              owes = arrives.owed ∙ rw e (owes_same old mid new x.0 x.1 pending nothing issued current);
-            },
-          )
+          let nothing : new.posted ≡ mid.posted = omega (arith, posted, ap accepted_of no_post) in
+          subst (λ (acts : List Act). KeepsRulesBy acts minor old new before after marks (grown posts (received m marks)))
+          (sym (acts_alone posts old mid complaints (act ∷ []) no_post x.0.ids no_complaint))
+          (record {
+            told = quiet ∙ ap (λ (l : List Told). l ++ between) no_complaint ∙ here;
+            grows = arrives.grows ∙ ap (λ (l : List Told). grown l (received m marks)) (sym no_post);
+            keeps = (tt, arrives.may);
+            owes = arrives.owed ∙ rw e (owes_same old mid new x.0 x.1 pending nothing issued current);
+          })
 
-      by : (n : Incoming) → n ≡ m → (acts : List Act) × KeepsRulesBy acts minor old new before after marks (grown posts (received m marks))
+      by : (n : Incoming) → n ≡ m → KeepsRulesBy (acts_on posts old mid complaints (act ∷ [])) minor old new before after marks (grown posts (received m marks))
       by incoming.End e = ended (sym e)
       by (incoming.Reply a) e = whole (incoming.Reply a) e refl
       by (incoming.Started d) e = whole (incoming.Started d) e refl
@@ -112,7 +120,7 @@ pub absorb_rules : (minor : ℕ) (m : Incoming) (old mid new : Table) (marks : L
     → AllOfMinor minor mid.pending → complaints ≡ complaints_about (due_after m marks) → PostsAfter m mid (complaints ++ before) after
     → after ≡ posts ++ (complaints ++ before)
     → new.pending ≡ mid.pending → new.posted ≡ mid.posted + accepted_of posts → new.issued ≡ max mid.issued new.posted → new.current ≡ mid.current
-    → (acts : List Act) × KeepsRulesBy acts minor old new before after marks (grown posts (received m marks))
+    → KeepsRulesBy (acts_on posts old mid complaints (Absorbed m ∷ [])) minor old new before after marks (grown posts (received m marks))
 absorb_rules minor m old mid new marks before after posts complaints h k hears minors due order history pending posted issued current =
     let arrives : Arrives minor (Absorbed m) m marks (outbox_of old) =
     record { grows = refl; owed = refl; may = at_rest old marks h } in
@@ -123,18 +131,18 @@ absorb_rules minor m old mid new marks before after posts complaints h k hears m
 ended_again : (minor : ℕ) (old mid new : Table) (marks : List Mark) (before after posts complaints : List Told)
     → Hears incoming.End old mid marks → complaints ≡ [] → after ≡ complaints ++ before → after ≡ posts ++ (complaints ++ before)
     → new.pending ≡ mid.pending → new.posted ≡ mid.posted + accepted_of posts → new.issued ≡ max mid.issued new.posted → new.current ≡ mid.current
-    → (acts : List Act) × KeepsRulesBy acts minor old new before after marks (grown posts marks)
+    → KeepsRulesBy (acts_on posts old mid complaints []) minor old new before after marks (grown posts marks)
 ended_again minor old mid new marks before after posts complaints x none quiet history pending posted issued current =
     let no_post : posts ≡ [] = append_cancel posts [] (complaints ++ before) (sym history ∙ quiet) in
-    let nothing : new.posted ≡ mid.posted = omega (arith, posted, ap accepted_of no_post) in (
-      [],
-      record {
-        told = quiet ∙ ap (λ (l : List Told). l ++ before) none;
-        grows = ap (λ (l : List Told). grown l marks) (sym no_post);
-        keeps = tt;
-        owes = owes_same old mid new x.0 x.1 pending nothing issued current;
-      },
-    )
+    let nothing : new.posted ≡ mid.posted = omega (arith, posted, ap accepted_of no_post) in
+    subst (λ (acts : List Act). KeepsRulesBy acts minor old new before after marks (grown posts marks))
+    (sym (acts_alone posts old mid complaints [] no_post x.0.ids none))
+    (record {
+      told = quiet ∙ ap (λ (l : List Told). l ++ before) none;
+      grows = ap (λ (l : List Told). grown l marks) (sym no_post);
+      keeps = tt;
+      owes = owes_same old mid new x.0 x.1 pending nothing issued current;
+    })
 
 -- a message that was taken while something was pending
 pub step_rules : (minor : ℕ) (m : Incoming) (old mid new : Table) (marks : List Mark) (before after posts complaints : List Told)
@@ -143,34 +151,37 @@ pub step_rules : (minor : ℕ) (m : Incoming) (old mid new : Table) (marks : Lis
     → PostsAfter m mid (complaints ++ taken m before) after → after ≡ posts ++ (complaints ++ taken m before)
     → new.pending ≡ mid.pending → new.posted ≡ mid.posted + accepted_of posts → new.issued ≡ max mid.issued new.posted → new.current ≡ mid.current
     → IsBusy (pending_of old.pending) → old.given_up ≡ false
-    → (acts : List Act) × KeepsRulesBy acts minor old new before after marks (grown posts (received m marks))
+    → KeepsRulesBy (acts_on posts old mid complaints (arrival m before)) minor old new before after marks (grown posts (received m marks))
 step_rules minor m old mid new marks before after posts complaints h k hears minors due order history pending posted issued current busy going =
     by m refl where
       arrives : Arrives minor (AtLink (Received m)) m marks (outbox_of old)
       arrives = record { grows = refl; owed = refl; may = record { at_rest = at_rest old marks h; needed = needed old marks h (sym h.holds.given_up ∙ going) busy } }
 
-      first : taken m before ≡ Received m ∷ before → (acts : List Act) × KeepsRulesBy acts minor old new before after marks (grown posts (received m marks))
-      first e =
-          message_rules minor (AtLink (Received m)) m old mid new marks before (Received m ∷ before) after posts complaints arrives h k hears minors due
+      first : taken m before ≡ Received m ∷ before → arrival m before ≡ AtLink (Received m) ∷ [] → KeepsRulesBy (acts_on posts old mid complaints (arrival m before)) minor old new before after marks (grown posts (received m marks))
+      first e one =
+          subst (λ (arrived : List Act). KeepsRulesBy (acts_on posts old mid complaints arrived) minor old new before after marks (grown posts (received m marks))) (sym one)
+          (message_rules minor (AtLink (Received m)) m old mid new marks before (Received m ∷ before) after posts complaints arrives h k hears minors due
           (subst (λ (l : List Told). PostsAfter m mid (complaints ++ l) after) e order) (subst (λ (l : List Told). after ≡ posts ++ (complaints ++ l)) e history)
-          refl pending posted issued current
+          refl pending posted issued current)
 
-      ended : m ≡ incoming.End → (b : Bool) → took_end before ≡ b → (acts : List Act) × KeepsRulesBy acts minor old new before after marks (grown posts (received m marks))
-      ended e false first_end = first (rw e (rw first_end refl))
+      ended : m ≡ incoming.End → (b : Bool) → took_end before ≡ b → KeepsRulesBy (acts_on posts old mid complaints (arrival m before)) minor old new before after marks (grown posts (received m marks))
+      ended e false first_end = first (rw e (rw first_end refl)) (rw e (rw first_end refl))
       ended e true again =
           let same : taken m before ≡ before = rw e (rw again refl) in
           let quiet : PostsAfter m mid (complaints ++ before) after = subst (λ (l : List Told). PostsAfter m mid (complaints ++ l) after) same order in
-          rw e (ended_again minor old mid new marks before after posts complaints
+          let none : arrival m before ≡ [] = rw e (rw again refl) in
+          subst (λ (arrived : List Act). KeepsRulesBy (acts_on posts old mid complaints arrived) minor old new before after marks (grown posts (received m marks))) (sym none)
+          (rw e (ended_again minor old mid new marks before after posts complaints
           (subst (λ (n : Incoming). Hears n old mid marks) e hears) (due ∙ ap (λ (n : Incoming). complaints_about (due_after n marks)) e)
           (subst (λ (n : Incoming). PostsAfter n mid (complaints ++ before) after) e quiet)
-          (subst (λ (l : List Told). after ≡ posts ++ (complaints ++ l)) same history) pending posted issued current)
+          (subst (λ (l : List Told). after ≡ posts ++ (complaints ++ l)) same history) pending posted issued current))
 
-      by : (n : Incoming) → m ≡ n → (acts : List Act) × KeepsRulesBy acts minor old new before after marks (grown posts (received m marks))
+      by : (n : Incoming) → m ≡ n → KeepsRulesBy (acts_on posts old mid complaints (arrival m before)) minor old new before after marks (grown posts (received m marks))
       by incoming.End e = ended e (took_end before) refl
-      by (incoming.Reply a) e = first (rw e refl)
-      by (incoming.Started d) e = first (rw e refl)
-      by incoming.GaveUp e = first (rw e refl)
-      by incoming.Flush e = first (rw e refl)
+      by (incoming.Reply a) e = first (rw e refl) (rw e refl)
+      by (incoming.Started d) e = first (rw e refl) (rw e refl)
+      by incoming.GaveUp e = first (rw e refl) (rw e refl)
+      by incoming.Flush e = first (rw e refl) (rw e refl)
 
 -- a request becomes pending
 may_begin : (minor : ℕ) (old : Table) (marks : List Mark) (r : BlockRequest) → Agrees old marks → r.id ≡ old.ids + 1 → length old.pending < 16
@@ -210,7 +221,7 @@ pub begin_rules : (minor : ℕ) (old mid new : Table) (p : Pending) (due : Bool)
     → due ≡ (old.posted == length old.pending)
     → MatchBool due (PostsInOrder mid.current (unposted mid) before after) (after ≡ before) → after ≡ posts ++ before
     → new.pending ≡ mid.pending → new.posted ≡ mid.posted + accepted_of posts → new.issued ≡ max mid.issued new.posted
-    → (acts : List Act) × KeepsRulesBy acts minor old new before after marks (grown posts marks)
+    → KeepsRulesBy (at_link posts ++ Began p.request ∷ []) minor old new before after marks (grown posts marks)
 begin_rules minor old mid new p due marks before after posts h minors minor_is items posted_is issued_is here there id few is_due order history pending posted issued =
     by (old.posted == length old.pending) refl (subst (λ (b : Bool). MatchBool b (PostsInOrder mid.current (unposted mid) before after) (after ≡ before)) is_due order) where
       may : MayAct minor marks (outbox_of old) (Began p.request)
@@ -226,28 +237,28 @@ begin_rules minor old mid new p due marks before after posts h minors minor_is i
       minors' = subst (λ (l : List Pending). AllOfMinor minor l) (sym items) (minors_push minor old.pending p minors minor_is)
 
       by : (b : Bool) → (old.posted == length old.pending) ≡ b → MatchBool b (PostsInOrder mid.current (unposted mid) before after) (after ≡ before)
-          → (acts : List Act) × KeepsRulesBy acts minor old new before after marks (grown posts marks)
+          → KeepsRulesBy (at_link posts ++ Began p.request ∷ []) minor old new before after marks (grown posts marks)
       by true e order =
           let full : box (never_issued old ++ p.request ∷ []) (unposted old ++ p.request ∷ []) (is_some old.current && nat_lt old.posted (length old.pending)) ≡ loose mid =
           box_same (never_issued old ++ p.request ∷ []) (never_issued mid) (unposted old ++ p.request ∷ []) (unposted mid)
           (is_some old.current && nat_lt old.posted (length old.pending)) false never rest (stopped_none old.current old.posted (length old.pending) e) in
           let y = table_posts minor mid new marks before after posts (here ∙ h.holds.current) there minors' order history pending posted issued in
-          (at_link posts ++ (Began p.request ∷ []), posts_then minor (Began p.request ∷ []) posts old mid new marks marks before after (tt, may) full refl history y)
+          posts_then minor (Began p.request ∷ []) posts old mid new marks marks before after (tt, may) full refl history y
       by false e order =
           let no_post : posts ≡ [] = append_cancel posts [] before (sym history ∙ order) in
           let nothing : new.posted ≡ mid.posted = omega (arith, posted, ap accepted_of no_post) in
-          let longer : length mid.pending ≡ length old.pending + 1 = ap (λ (l : List Pending). length l) items ∙ omega (arith, length-append old.pending (p ∷ [])) in (
-            Began p.request ∷ [],
-            record {
-              told = order;
-              grows = ap (λ (l : List Told). grown l marks) (sym no_post);
-              keeps = (tt, may);
-              owes =
-                  box_same (never_issued old ++ p.request ∷ []) (never_issued new) (unposted old ++ p.request ∷ []) (unposted new)
-                  (is_some old.current && nat_lt old.posted (length old.pending)) (is_some new.current && nat_lt new.posted (length new.pending))
-                  (never ∙ ends_same mid.issued new.issued mid.pending new.pending (omega (arith, issued, nothing, mid.order)) (sym pending))
-                  (rest ∙ ends_same mid.posted new.posted mid.pending new.pending (sym nothing) (sym pending))
-                  (stopped_same old.current old.posted (length old.pending) (omega (arith, old.order, old.within)) e
-                  ∙ rw (there, here, nothing, posted_is, pending, longer) refl);
-            },
+          let longer : length mid.pending ≡ length old.pending + 1 = ap (λ (l : List Pending). length l) items ∙ omega (arith, length-append old.pending (p ∷ [])) in
+          subst (λ (l : List Told). KeepsRulesBy (at_link l ++ Began p.request ∷ []) minor old new before after marks (grown posts marks)) (sym no_post) (
+          record {
+            told = order;
+            grows = ap (λ (l : List Told). grown l marks) (sym no_post);
+            keeps = (tt, may);
+            owes =
+                box_same (never_issued old ++ p.request ∷ []) (never_issued new) (unposted old ++ p.request ∷ []) (unposted new)
+                (is_some old.current && nat_lt old.posted (length old.pending)) (is_some new.current && nat_lt new.posted (length new.pending))
+                (never ∙ ends_same mid.issued new.issued mid.pending new.pending (omega (arith, issued, nothing, mid.order)) (sym pending))
+                (rest ∙ ends_same mid.posted new.posted mid.pending new.pending (sym nothing) (sym pending))
+                (stopped_same old.current old.posted (length old.pending) (omega (arith, old.order, old.within)) e
+                ∙ rw (there, here, nothing, posted_is, pending, longer) refl);
+          }
           )

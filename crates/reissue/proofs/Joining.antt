@@ -1,16 +1,18 @@
 -- What is told on a message and the posts after it, together.
-use Rattle.std.proofs.Common.{◌≡◌, ℕ, ◌+◌, ◌<◌, List, [], ◌∷◌, ◌++◌, length, drop, map, Bool, true, false, refl, sym, ◌∙◌, ap, subst, arith, inl, inr, Option, zero, suc}
+use Rattle.std.proofs.Common.{◌≡◌, ℕ, ◌+◌, ◌-◌, ◌<◌, List, [], ◌∷◌, ◌++◌, length, drop, map, Bool, true, false, refl, sym, ◌∙◌, ap, subst, arith, append_assoc, inl, inr, Option, zero, suc}
 use Rattle.std.proofs.lemmas.Bool.Decides.{nat_tests}
-use Rattle.std.specs.Prelude.{MatchBool, ◌==◌}
+use Rattle.std.specs.Prelude.{MatchBool, ◌==◌, ◌||◌, not, nat_lt, cond}
 use Rattle.endpoint.specs.declared.Endpoint.{Endpoint}
 use Rattle.message.specs.declared.BlockRequest.{BlockRequest}
 use Rattle.message.specs.declared.Incoming.{Incoming}
 use Rattle.message.specs.declared.Incoming.TheVariants as incoming
 use Rattle.marks.specs.Marks.{Mark, Issued}
 use Rattle.marks.specs.Disk.{Contents, HasTrueReplies}
-use Rattle.marks.specs.Told.{Told, Posted, Complained, Received, grown, received, heard}
+use Rattle.marks.specs.Told.{Told, Posted, Complained, Received, grown, received, heard, took_end}
+use Rattle.marks.specs.Acts.{Act, Began, AtLink, told_of, has_absorbed}
 use Rattle.reissue.specs.declared.ask.Ask.{Ask}
 use Rattle.reissue.specs.declared.ask.Settled.{Settled}
+use Rattle.reissue.specs.declared.ask.Settled.TheVariants as settled
 use Rattle.reissue.specs.declared.pending.Pending.{Pending}
 use Rattle.reissue.specs.declared.table.Table.{Table}
 use Rattle.marks.specs.Opening.{Opening, contents_at}
@@ -21,6 +23,7 @@ use Rattle.reissue.specs.Agrees.{Agrees, unposted}
 use Rattle.reissue.specs.Posts.{OnlyPosts, PostsInOrder, PostsAfter, is_message}
 use Rattle.reissue.specs.Calls.{Truth, Leads, TakesIn, Absorbs, Steps, Begins, PostsNew, IsAnswerTo, goes_on}
 use Rattle.reissue.proofs.Posting.{closing_posted}
+use Rattle.reissue.specs.Rules.{at_link, all_began, began_on, arrival, acts_on}
 use Rattle.reissue.proofs.CallRules.{absorb_rules, step_rules, begin_rules}
 use Rattle.reissue.proofs.Settling.{minors_push}
 use Rattle.reissue.proofs.Tickets.{pending_among}
@@ -51,6 +54,109 @@ true_after (Posted to r false ∷ es) image marks o h = true_after es image mark
 true_after (Complained e ∷ es) image marks o h = absurd o
 true_after (Received m ∷ es) image marks o h = absurd o
 
+-- posts end nothing
+ended_posts : (es before : List Told) → OnlyPosts es → took_end (es ++ before) ≡ took_end before
+ended_posts [] before o = refl
+ended_posts (Posted to r accepted ∷ es) before o = ended_posts es before o
+ended_posts (Complained e ∷ es) before o = absurd o
+ended_posts (Received m ∷ es) before o = absurd o
+
+-- nor does a post's history
+ended_after : (es before after : List Told) → OnlyPosts es → after ≡ es ++ before → took_end after ≡ took_end before
+ended_after es before after o history = ap took_end history ∙ ended_posts es before o
+
+-- an answer of End is that to an End
+ended_heard : (m : Incoming) (res : Settled) (before : List Told) → IsAnswerTo m res
+    → took_end (heard m before) ≡ (not (goes_on res) || took_end before)
+ended_heard incoming.End res before a = rw a (by (took_end before) refl) where
+  by : (b : Bool) → took_end before ≡ b → took_end (cond b before (Received incoming.End ∷ before)) ≡ true
+  by true e = e
+  by false e = refl
+ended_heard (incoming.Reply x) settled.Nothing before a = refl
+ended_heard (incoming.Reply x) (settled.Read t bytes) before a = refl
+ended_heard (incoming.Reply x) (settled.Written t) before a = refl
+ended_heard (incoming.Reply x) settled.Flush before a = absurd a
+ended_heard (incoming.Reply x) settled.GaveUp before a = absurd a
+ended_heard (incoming.Reply x) settled.End before a = absurd a
+ended_heard (incoming.Started d) res before a = rw a refl
+ended_heard incoming.GaveUp res before a = rw a refl
+ended_heard incoming.Flush res before a = rw a refl
+
+-- no message is handed over in what is told
+none_told : (told : List Told) (acts : List Act) → has_absorbed (at_link told ++ acts) ≡ has_absorbed acts
+none_told [] acts = refl
+none_told (t ∷ told) acts = none_told told acts
+
+-- nor in what becomes pending
+none_begun : (ps : List Pending) (acts : List Act) → has_absorbed (all_began ps ++ acts) ≡ has_absorbed acts
+none_begun [] acts = refl
+none_begun (p ∷ ps) acts = none_begun ps acts
+
+-- nor in a taken message
+none_arrives : (m : Incoming) (before : List Told) → has_absorbed (arrival m before) ≡ false
+none_arrives incoming.End before = by (took_end before) where
+  by : (b : Bool) → has_absorbed (cond b [] (AtLink (Received incoming.End) ∷ [])) ≡ false
+  by true = refl
+  by false = refl
+none_arrives (incoming.Reply a) before = refl
+none_arrives (incoming.Started d) before = refl
+none_arrives incoming.GaveUp before = refl
+none_arrives incoming.Flush before = refl
+
+-- and so in a step
+none_absorbed : (posts : List Told) (old mid : Table) (complaints : List Told) (m : Incoming) (before : List Told)
+    → has_absorbed (acts_on posts old mid complaints (arrival m before)) ≡ false
+none_absorbed posts old mid complaints m before =
+    none_told posts (began_on old mid ++ (at_link complaints ++ arrival m before)) ∙ by (nat_lt old.ids mid.ids)
+  where
+    rest : has_absorbed (at_link complaints ++ arrival m before) ≡ false
+    rest = none_told complaints (arrival m before) ∙ none_arrives m before
+
+    by : (b : Bool) → has_absorbed (cond b (all_began (drop (length mid.pending - 1) mid.pending)) [] ++ (at_link complaints ++ arrival m before)) ≡ false
+    by true = none_begun (drop (length mid.pending - 1) mid.pending) (at_link complaints ++ arrival m before) ∙ rest
+    by false = rest
+
+-- what the link was told stands in front
+told_first : (told : List Told) (acts : List Act) → told_of (at_link told ++ acts) ≡ told ++ told_of acts
+told_first [] acts = refl
+told_first (t ∷ told) acts = ap (λ (l : List Told). t ∷ l) (told_first told acts)
+
+-- what becomes pending isn't told
+told_begun : (ps : List Pending) (acts : List Act) → told_of (all_began ps ++ acts) ≡ told_of acts
+told_begun [] acts = refl
+told_begun (p ∷ ps) acts = told_begun ps acts
+
+-- a taken message is
+told_arrival : (m : Incoming) (before : List Told) → told_of (arrival m before) ++ before ≡ heard m before
+told_arrival incoming.End before = by (took_end before) where
+  by : (b : Bool) → told_of (cond b [] (AtLink (Received incoming.End) ∷ [])) ++ before ≡ cond b before (Received incoming.End ∷ before)
+  by true = refl
+  by false = refl
+told_arrival (incoming.Reply a) before = refl
+told_arrival (incoming.Started d) before = refl
+told_arrival incoming.GaveUp before = refl
+told_arrival incoming.Flush before = refl
+
+-- all that is told in a step
+told_on : (posts : List Told) (old mid : Table) (complaints : List Told) (m : Incoming) (before : List Told)
+    → told_of (acts_on posts old mid complaints (arrival m before)) ++ before ≡ posts ++ (complaints ++ heard m before)
+told_on posts old mid complaints m before =
+    ap (λ (l : List Told). l ++ before)
+    (told_first posts (began_on old mid ++ (at_link complaints ++ arrival m before))
+    ∙ ap (λ (l : List Told). posts ++ l) (by (nat_lt old.ids mid.ids) ∙ told_first complaints (arrival m before)))
+    ∙ append_assoc posts (complaints ++ told_of (arrival m before)) before
+    ∙ ap (λ (l : List Told). posts ++ l) (append_assoc complaints (told_of (arrival m before)) before ∙ ap (λ (l : List Told). complaints ++ l) (told_arrival m before))
+  where
+    by : (b : Bool) → told_of (cond b (all_began (drop (length mid.pending - 1) mid.pending)) [] ++ (at_link complaints ++ arrival m before))
+        ≡ told_of (at_link complaints ++ arrival m before)
+    by true = told_begun (drop (length mid.pending - 1) mid.pending) (at_link complaints ++ arrival m before)
+    by false = refl
+
+-- what is told where a request is begun
+told_began : (posts before after : List Told) (r : BlockRequest) → after ≡ posts ++ before → after ≡ told_of (at_link posts ++ Began r ∷ []) ++ before
+told_began posts before after r history =
+    history ∙ sym (ap (λ (l : List Told). l ++ before) (told_first posts (Began r ∷ [])) ∙ append_assoc posts [] before)
+
 -- the posts after what was done on a message
 pub absorbs_then : (m : Incoming) (res : Settled) (s t u : Table) (before between after : List Told) (was mid is : Truth)
     → TakesIn m res s t before between was mid → Leads t u between after mid is
@@ -63,6 +169,8 @@ absorbs_then m res s t u before between after was mid is x l posts current =
     record {
       heard = x.agrees;
       current = current;
+      given_up = l.given_up ∙ x.given_up;
+      ended = ended_after l.posts between after l.only_posts l.history ∙ x.ended;
       rules = λ minor marks h minors.
           absorb_rules minor m s t u marks before after l.posts x.complaints h (x.agrees marks h) (x.hears marks h)
           (x.minors minor minors) (x.due marks h) in_order history l.same l.posted l.issued current;
@@ -103,6 +211,11 @@ steps_one m res t u before taken after was mid is told truth x answer =
           step_rules minor m t x.mid u marks before after x.posts x.complaints h (x.heard marks h) (x.hears marks h)
           (subst (λ (ls : List Pending). AllOfMinor minor ls) x.same (x.minors minor minors)) (x.due marks h) in_order history
           x.same x.posted x.issued x.current busy going;
+      acts = acts_on x.posts t x.mid x.complaints (arrival m before);
+      told = history ∙ sym (told_on x.posts t x.mid x.complaints m before);
+      none_absorbed = none_absorbed x.posts t x.mid x.complaints m before;
+      given_up = x.given_up;
+      ended = x.ended ∙ ap took_end told ∙ ended_heard m res before answer;
       message = m;
       mid = x.mid;
       posts = x.posts;
@@ -132,20 +245,25 @@ steps_one m res t u before taken after was mid is told truth x answer =
 pub begins_add : (ask : Ask) (s t u : Table) (p : Pending) (due : Bool) (before after : List Told) (was is : Truth)
     → ((marks : List Mark) → Agrees s marks → Agrees t marks)
     → t.pending ≡ s.pending ++ p ∷ [] → t.posted ≡ s.posted → t.issued ≡ s.issued → p.request.minor ≡ ask.minor
-    → t.current ≡ s.current → u.current ≡ t.current → p.request.id ≡ s.ids + 1 → length s.pending < 16
+    → t.current ≡ s.current → u.current ≡ t.current → t.given_up ≡ s.given_up → p.request.id ≡ s.ids + 1 → length s.pending < 16
     → due ≡ (s.posted == length s.pending)
     → MatchBool due (PostsInOrder t.current (unposted t) before after) (after ≡ before)
     → Leads t u before after was is → Begins ask s u before after was is
-begins_add ask s t u p due before after was is agrees items posted issued minor here there id few is_due in_order l =
+begins_add ask s t u p due before after was is agrees items posted issued minor here there up id few is_due in_order l =
     let minors : (n : ℕ) → ask.minor ≡ n → AllOfMinor n s.pending → AllOfMinor n t.pending = λ n e h.
     subst (λ (ls : List Pending). AllOfMinor n ls) (sym items) (minors_push n s.pending p h (minor ∙ e)) in
     record {
       rules = λ n marks h m e.
           begin_rules n s t u p due marks before after l.posts h m (minor ∙ e) items posted issued here there id few is_due in_order l.history
           l.same l.posted l.issued;
+      acts = at_link l.posts ++ Began p.request ∷ [];
+      told = told_began l.posts before after p.request l.history;
+      none_absorbed = none_told l.posts (Began p.request ∷ []);
       posts = l.posts;
       history = l.history;
       only_posts = l.only_posts;
+      given_up = l.given_up ∙ up;
+      ended = ended_after l.posts before after l.only_posts l.history;
       posted = omega (arith, l.posted, posted);
       issued = omega (arith, l.issued, issued);
       agrees = λ marks h. l.agrees marks (agrees marks h);
@@ -159,6 +277,11 @@ begins_add ask s t u p due before after was is agrees items posted issued minor 
 -- nothing is begun
 pub begins_none : (ask : Ask) (t : Table) (history : List Told) (was : Truth) → Begins ask t t history history was was
 begins_none ask t history was = record {
+  acts = [];
+  told = refl;
+  none_absorbed = refl;
+  given_up = refl;
+  ended = refl;
   posts = [];
   history = refl;
   only_posts = tt;
@@ -168,7 +291,7 @@ begins_none ask t history was = record {
   spares = λ image marks h. record { disk = λ p q. refl; sure = λ p q s. s };
   minors = λ n e h. h;
   truth = λ opening marks h e m k. k;
-  rules = λ n marks h m e. ([], record { told = refl; grows = refl; keeps = tt; owes = refl });
+  rules = λ n marks h m e. record { told = refl; grows = refl; keeps = tt; owes = refl };
 }
 
 -- behind these stands the last

@@ -1,7 +1,7 @@
-mod Maps
+pub mod Maps
 mod Places
 mod Finding
-mod Tickets
+pub mod Tickets
 mod Writes
 mod Joined
 mod Steps
@@ -9,9 +9,10 @@ mod Answering
 mod Closing
 mod Settling
 mod Messages
+pub mod Taking
 mod Order
 mod PostRules
-mod TableRules
+pub mod TableRules
 mod StepRules
 mod CallRules
 mod Joining

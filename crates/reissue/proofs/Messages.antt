@@ -1,15 +1,17 @@
 -- What a message does to agreement with the record.
 use Rattle.std.proofs.Common.{◌≡◌, ℕ, ◌+◌, List, [], ◌∷◌, ◌++◌, Bool, true, false, cond, refl, sym, ◌∙◌, ap, Some, None}
+use Rattle.std.specs.Prelude.{◌||◌}
 use Rattle.endpoint.specs.declared.Endpoint.{Endpoint}
 use Rattle.message.specs.declared.BlockReply.{BlockReply}
 use Rattle.message.specs.declared.Incoming.{Incoming}
 use Rattle.message.specs.declared.Incoming.TheVariants as incoming
 use Rattle.marks.specs.Marks.{Mark, Started, Flush, GaveUp, gave_up}
 use Rattle.marks.specs.Disk.{Contents, unsure, disk_after}
-use Rattle.marks.specs.Told.{Told, Complained, received, grown}
+use Rattle.marks.specs.Told.{Told, Complained, received, grown, took_end}
 use Rattle.reissue.specs.declared.pending.Pending.{Pending}
 use Rattle.reissue.specs.declared.table.Table.{Table}
 use Rattle.reissue.specs.declared.table.Answer.{Answer}
+use Rattle.reissue.specs.declared.table.Answer.TheVariants as answer
 use Rattle.reissue.specs.declared.ask.Settled.{Settled}
 use Rattle.reissue.specs.declared.ask.Settled.TheVariants as settled
 use Rattle.marks.specs.Opening.{Opening}
@@ -19,13 +21,13 @@ use Rattle.reissue.specs.Agrees.{Agrees, AllReadDisk}
 use Rattle.reissue.specs.Hears.{HearsStart, HearsAnswer, counted_move}
 use Rattle.marks.specs.Acts.{complaint_due, target}
 use Rattle.reissue.specs.Posts.{complaints_about}
-use Rattle.reissue.specs.Calls.{Truth, TakesIn, Closing}
+use Rattle.reissue.specs.Calls.{Truth, TakesIn, Closing, gives_up}
 use Rattle.reissue.specs.Answers.{is_bad, settled_of, complained}
 use Rattle.reissue.proofs.Writes.{wrote_like}
 use Rattle.reissue.proofs.Joined.{joined_like}
 
 -- marks that leave the disk and what is sure of it leave what was read true
-reads_like : (image : Contents) (marks more : List Mark) (ps : List Pending)
+pub reads_like : (image : Contents) (marks more : List Mark) (ps : List Pending)
     → ((place : ℕ) → unsure more place ≡ unsure marks place)
     → ((place : ℕ) → disk_after image marks place ≡ disk_after image more place)
     → AllReadDisk image marks ps → AllReadDisk image more ps
@@ -118,6 +120,19 @@ complaint_silent : (b : Bool) (e : Endpoint) (marks : List Mark) → grown (cond
 complaint_silent true e marks = refl
 complaint_silent false e marks = refl
 
+-- nor does it end anything
+complaint_ends_none : (b : Bool) (e : Endpoint) (before : List Told) → took_end (cond b (Complained e ∷ []) [] ++ before) ≡ took_end before
+complaint_ends_none true e before = refl
+complaint_ends_none false e before = refl
+
+-- no answer gives the device up
+reply_gives_none_up : (r : Answer) → gives_up (settled_of r) ≡ false
+reply_gives_none_up answer.Dropped = refl
+reply_gives_none_up answer.Bad = refl
+reply_gives_none_up answer.Rest = refl
+reply_gives_none_up (answer.Read t bytes) = refl
+reply_gives_none_up (answer.Written t) = refl
+
 -- a reply
 pub takes_reply : (message : Incoming) (a : BlockReply) (r : Answer) (t u : Table) (before after : List Told) (was is : Truth)
     → message ≡ incoming.Reply a
@@ -127,12 +142,14 @@ pub takes_reply : (message : Incoming) (a : BlockReply) (r : Answer) (t u : Tabl
     → Closes (settled_of r) (pending_of t.pending) (pending_of u.pending)
     → ((marks : List Mark) → Agrees t marks → Closing (settled_of r) t.pending u.pending marks (received (incoming.Reply a) marks))
     → ((minor : ℕ) → AllOfMinor minor t.pending → AllOfMinor minor u.pending)
-    → u.current ≡ t.current
+    → u.current ≡ t.current → u.given_up ≡ t.given_up
     → after ≡ complained r a ++ before
     → ((opening : Opening) (marks : List Mark) → was opening marks → is opening marks)
     → TakesIn message (settled_of r) t u before after was is
-takes_reply message a r t u before after was is same agrees hears due closes closing minors current told truth =
+takes_reply message a r t u before after was is same agrees hears due closes closing minors current up told truth =
     rw same (record {
+      given_up = up ∙ ap (λ (b : Bool). b || t.given_up) (sym (reply_gives_none_up r));
+      ended = ap took_end told ∙ complaint_ends_none (is_bad r) a.from before;
       complaints = complained r a;
       history = told;
       silent = λ marks. complaint_silent (is_bad r) a.from marks;
@@ -173,6 +190,8 @@ pub takes_started : (message : Incoming) (e : Endpoint) (t u : Table) (history :
     → TakesIn message settled.Nothing t u history history was was
 takes_started message e t u history was is items posted issued ids current given_up =
     rw is (record {
+      given_up = given_up;
+      ended = refl;
       complaints = [];
       history = refl;
       silent = λ _. refl;
@@ -190,6 +209,8 @@ pub takes_flush : (message : Incoming) (t : Table) (history : List Told) (was : 
     → TakesIn message settled.Flush t t history history was was
 takes_flush message t history was is =
     rw is (record {
+      given_up = refl;
+      ended = refl;
       complaints = [];
       history = refl;
       silent = λ _. refl;
@@ -208,6 +229,8 @@ pub takes_gave_up : (message : Incoming) (t u : Table) (history : List Told) (wa
     → TakesIn message settled.GaveUp t u history history was was
 takes_gave_up message t u history was is items posted issued ids current given_up =
     rw is (record {
+      given_up = given_up;
+      ended = refl;
       complaints = [];
       history = refl;
       silent = λ _. refl;
@@ -225,6 +248,8 @@ pub takes_end : (message : Incoming) (t : Table) (history : List Told) (was : Tr
     → TakesIn message settled.End t t history history was was
 takes_end message t history was is =
     rw is (record {
+      given_up = refl;
+      ended = refl;
       complaints = [];
       history = refl;
       silent = λ _. refl;

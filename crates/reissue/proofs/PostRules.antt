@@ -14,14 +14,10 @@ use Rattle.marks.proofs.ActLaws.{acts_compose}
 use Rattle.reissue.specs.declared.pending.Pending.{Pending}
 use Rattle.reissue.specs.Entries.{AreRising, AllOfMinor, request_of}
 use Rattle.reissue.specs.Posts.{ArePostedTo, accepted_of}
+use Rattle.reissue.specs.Rules.{at_link}
 use Rattle.reissue.proofs.Steps.{fits_minor}
 use Rattle.reissue.proofs.Tickets.{rising_lower}
 use Rattle.reissue.proofs.Order.{without_lower}
-
--- the link was told and gave these
-abbrev pub at_link : List Told → List Act
-at_link [] = []
-at_link (t ∷ told) = AtLink t ∷ at_link told
 
 -- both one after the other
 at_link_append : (xs ys : List Told) → at_link (xs ++ ys) ≡ at_link xs ++ at_link ys

@@ -14,9 +14,9 @@ use Rattle.reissue.specs.Entries.{AreRising, AllOfMinor, request_of, pending_of}
 use Rattle.reissue.specs.Moves.{Begun, IsBusy}
 use Rattle.reissue.specs.Agrees.{Agrees, unposted, never_issued}
 use Rattle.reissue.specs.Posts.{ArePostedTo, PostsInOrder, accepted_of}
-use Rattle.reissue.specs.Rules.{outbox_of}
+use Rattle.reissue.specs.Rules.{outbox_of, at_link}
 use Rattle.reissue.proofs.Order.{drop_twice, append_cancel, rising_drop}
-use Rattle.reissue.proofs.PostRules.{at_link, box, box_same, posted_keep}
+use Rattle.reissue.proofs.PostRules.{box, box_same, posted_keep}
 
 -- what is owed before the posts that a message or a new request asks for
 abbrev pub loose : Table → Outbox

@@ -1,11 +1,11 @@
 -- What each call of transfers adds to the record, and what it does to the disk, to those that are pending, and to what the link guarantees.
-use Rattle.std.specs.Prelude.{◌≡◌, ℕ, ◌+◌, List, [], ◌∷◌, ◌++◌, length, max, Bool, true, false, ◌==◌, MatchBool, Option, Some}
+use Rattle.std.specs.Prelude.{◌≡◌, ℕ, ◌+◌, List, [], ◌∷◌, ◌++◌, length, max, Bool, true, false, not, ◌||◌, ◌==◌, MatchBool, Option, Some}
 use Rattle.message.specs.declared.BlockRequest.{BlockRequest}
 use Rattle.message.specs.declared.Incoming.{Incoming}
 use Rattle.message.specs.declared.Incoming.TheVariants as incoming
 use Rattle.marks.specs.Marks.{Mark}
 use Rattle.marks.specs.Disk.{Contents, HasTrueReplies}
-use Rattle.marks.specs.Told.{Told, Received, grown, received, heard}
+use Rattle.marks.specs.Told.{Told, Received, grown, received, heard, took_end}
 use Rattle.reissue.specs.declared.ask.Ask.{Ask}
 use Rattle.reissue.specs.declared.ask.Settled.{Settled}
 use Rattle.reissue.specs.declared.ask.Settled.TheVariants as settled
@@ -15,8 +15,8 @@ use Rattle.marks.specs.Opening.{Opening, contents_at}
 use Rattle.reissue.specs.Moves.{Begun, Touches, IsQuiet, IsBusy, Spares, Moves, Closes, Joins, state_after, request_for, begun_by}
 use Rattle.reissue.specs.Entries.{pending_of, begun_of, AllOfMinor}
 use Rattle.reissue.specs.Agrees.{Agrees}
-use Rattle.marks.specs.Acts.{Act}
-use Rattle.reissue.specs.Rules.{KeepsRulesBy}
+use Rattle.marks.specs.Acts.{Act, Absorbed, told_of, has_absorbed}
+use Rattle.reissue.specs.Rules.{KeepsRulesBy, acts_on}
 use Rattle.reissue.specs.Hears.{Hears}
 use Rattle.reissue.specs.Posts.{OnlyPosts, accepted_of, PostsInOrder, PostsAfter, due_after, complaints_about}
 
@@ -30,6 +30,7 @@ pub record Leads (old new : Table) (before after : List Told) (was is : Truth) :
   pub history : after ≡ posts ++ before
   pub only_posts : OnlyPosts posts
   pub same : new.pending ≡ old.pending
+  pub given_up : new.given_up ≡ old.given_up
   pub posted : new.posted ≡ old.posted + accepted_of posts
   pub issued : new.issued ≡ max old.issued new.posted
   pub agrees : (marks : List Mark) → Agrees old marks → Agrees new (grown posts marks)
@@ -47,6 +48,15 @@ LeavesQuiet settled.Flush old new = Unit {0}
 LeavesQuiet settled.GaveUp old new = Unit {0}
 LeavesQuiet settled.End old new = Unit {0}
 
+-- the device was given up by it
+abbrev pub gives_up : Settled → Bool
+gives_up settled.GaveUp = true
+gives_up (settled.Read t bytes) = false
+gives_up (settled.Written t) = false
+gives_up settled.Nothing = false
+gives_up settled.Flush = false
+gives_up settled.End = false
+
 -- what a message does to the disk, from the one record to the other
 pub record Closing (result : Settled) (old new : List Pending) (marks more : List Mark) : Type 0 where
   pub moves : (image : Contents) → HasTrueReplies image more
@@ -62,6 +72,8 @@ pub record TakesIn (message : Incoming) (result : Settled) (old mid : Table) (be
   pub due : (marks : List Mark) → Agrees old marks → complaints ≡ complaints_about (due_after message marks)
   pub hears : (marks : List Mark) → Agrees old marks → Hears message old mid marks
   pub agrees : (marks : List Mark) → Agrees old marks → Agrees mid (received message marks)
+  pub given_up : mid.given_up ≡ (gives_up result || old.given_up)
+  pub ended : took_end after ≡ took_end before
   pub closes : Closes result (pending_of old.pending) (pending_of mid.pending)
   pub closing : (marks : List Mark) → Agrees old marks → Closing result old.pending mid.pending marks (received message marks)
   pub minors : (minor : ℕ) → AllOfMinor minor old.pending → AllOfMinor minor mid.pending
@@ -81,6 +93,8 @@ pub record Absorbs (message : Incoming) (result : Settled) (old new : Table) (be
   pub in_order : PostsAfter message mid (complaints ++ before) after
   pub same : new.pending ≡ mid.pending
   pub current : new.current ≡ mid.current
+  pub given_up : new.given_up ≡ (gives_up result || old.given_up)
+  pub ended : took_end after ≡ took_end before
   pub posted : new.posted ≡ mid.posted + accepted_of posts
   pub issued : new.issued ≡ max mid.issued new.posted
   pub agrees : (marks : List Mark) → Agrees old marks → Agrees new (grown posts (received message marks))
@@ -91,7 +105,7 @@ pub record Absorbs (message : Incoming) (result : Settled) (old new : Table) (be
   pub truth : (opening : Opening) (marks : List Mark) → Agrees old marks → AllOfMinor opening.minor old.pending
       → was opening (received message marks) → is opening (grown posts (received message marks))
   pub rules : (minor : ℕ) (marks : List Mark) → Agrees old marks → AllOfMinor minor old.pending
-      → (acts : List Act) × KeepsRulesBy acts minor old new before after marks (grown posts (received message marks))
+      → KeepsRulesBy (acts_on posts old mid complaints (Absorbed message ∷ [])) minor old new before after marks (grown posts (received message marks))
 
 -- a reply settles a request or nothing
 abbrev pub IsOfReply : Settled → Type 0
@@ -110,8 +124,20 @@ IsAnswerTo incoming.GaveUp result = result ≡ settled.GaveUp
 IsAnswerTo incoming.Flush result = result ≡ settled.Flush
 IsAnswerTo incoming.End result = result ≡ settled.End
 
+-- another message may come
+abbrev pub goes_on : Settled → Bool
+goes_on settled.End = false
+goes_on settled.Nothing = true
+goes_on (settled.Read t bytes) = true
+goes_on (settled.Written t) = true
+goes_on settled.Flush = true
+goes_on settled.GaveUp = true
+
 -- a message was taken and absorbed; what was told after it
 pub record Steps (result : Settled) (old new : Table) (before after : List Told) (was is : Truth) : Type 0 where
+  pub acts : List Act
+  pub told : after ≡ told_of acts ++ before
+  pub none_absorbed : has_absorbed acts ≡ false
   pub message : Incoming
   pub mid : Table
   pub posts : List Told
@@ -123,6 +149,8 @@ pub record Steps (result : Settled) (old new : Table) (before after : List Told)
   pub hears : (marks : List Mark) → Agrees old marks → Hears message old mid marks
   pub in_order : PostsAfter message mid (complaints ++ heard message before) after
   pub same : new.pending ≡ mid.pending
+  pub given_up : new.given_up ≡ (gives_up result || old.given_up)
+  pub ended : took_end after ≡ (not (goes_on result) || took_end before)
   pub posted : new.posted ≡ mid.posted + accepted_of posts
   pub issued : new.issued ≡ max mid.issued new.posted
   pub grows : (marks : List Mark) → grown (posts ++ (complaints ++ (Received message ∷ []))) marks ≡ grown posts (received message marks)
@@ -135,13 +163,18 @@ pub record Steps (result : Settled) (old new : Table) (before after : List Told)
       → is opening (grown posts (received message marks)) × HasTrueReplies (contents_at opening) (grown posts (received message marks))
   pub rules : (minor : ℕ) (marks : List Mark) → Agrees old marks → AllOfMinor minor old.pending → IsBusy (pending_of old.pending)
       → old.given_up ≡ false
-      → (acts : List Act) × KeepsRulesBy acts minor old new before after marks (grown posts (received message marks))
+      → KeepsRulesBy acts minor old new before after marks (grown posts (received message marks))
 
 -- a request was taken up, or refused
 pub record Begins (ask : Ask) (old new : Table) (before after : List Told) (was is : Truth) : Type 0 where
+  pub acts : List Act
+  pub told : after ≡ told_of acts ++ before
+  pub none_absorbed : has_absorbed acts ≡ false
   pub posts : List Told
   pub history : after ≡ posts ++ before
   pub only_posts : OnlyPosts posts
+  pub given_up : new.given_up ≡ old.given_up
+  pub ended : took_end after ≡ took_end before
   pub posted : new.posted ≡ old.posted + accepted_of posts
   pub issued : new.issued ≡ max old.issued new.posted
   pub agrees : (marks : List Mark) → Agrees old marks → Agrees new (grown posts marks)
@@ -151,7 +184,7 @@ pub record Begins (ask : Ask) (old new : Table) (before after : List Told) (was 
   pub truth : (opening : Opening) (marks : List Mark) → Agrees old marks → ask.minor ≡ opening.minor
       → AllOfMinor opening.minor old.pending → was opening marks → is opening (grown posts marks)
   pub rules : (minor : ℕ) (marks : List Mark) → Agrees old marks → AllOfMinor minor old.pending → ask.minor ≡ minor
-      → (acts : List Act) × KeepsRulesBy acts minor old new before after marks (grown posts marks)
+      → KeepsRulesBy acts minor old new before after marks (grown posts marks)
 
 -- where each earlier one was posted, the new request is posted; where not, it waits behind them
 abbrev pub PostsNew : Table → BlockRequest → List Told → List Told → Type 0
@@ -165,12 +198,3 @@ pub record Adds (ask : Ask) (old new : Table) (before after : List Told) : Type 
   pub request : entry.request ≡ request_for ask (old.ids + 1)
   pub ids : new.ids ≡ old.ids + 1
   pub in_order : PostsNew old (request_for ask (old.ids + 1)) before after
-
--- another message may come
-abbrev pub goes_on : Settled → Bool
-goes_on settled.End = false
-goes_on settled.Nothing = true
-goes_on (settled.Read t bytes) = true
-goes_on (settled.Written t) = true
-goes_on settled.Flush = true
-goes_on settled.GaveUp = true

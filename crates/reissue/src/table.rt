@@ -261,6 +261,7 @@ impl Table {
         ensures minors { (minor : ℕ) → AllOfMinor minor self.old.pending → AllOfMinor minor self.new.pending }
         ensures ids { self.new.ids ≤ self.old.ids + 1 }
         ensures current { self.new.current ≡ self.old.current }
+        ensures given_up { self.new.given_up ≡ self.old.given_up }
     {
         let entry = self.take_out(at);
         let rest = entry.with_answer(n, &reply.bytes, self.ids + 1);
@@ -295,6 +296,7 @@ impl Table {
         ensures minors { (minor : ℕ) → AllOfMinor minor self.old.pending → AllOfMinor minor self.new.pending }
         ensures ids { self.new.ids ≤ self.old.ids + 1 }
         ensures current { self.new.current ≡ self.old.current }
+        ensures given_up { self.new.given_up ≡ self.old.given_up }
     {
         if !self.is_current(&reply.from) {
             return Answer::Dropped;
@@ -324,6 +326,7 @@ impl Table {
         ensures posted { self.new.posted ≡ self.old.posted }
         ensures issued { self.new.issued ≡ self.old.issued }
         ensures current { self.new.current ≡ self.old.current }
+        ensures given_up { self.new.given_up ≡ self.old.given_up }
     {
         let id = self.ids + 1;
         let ticket = Ticket::of_id(id);

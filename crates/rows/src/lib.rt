@@ -6,6 +6,8 @@ mod drivers;
 #[cfg(test)]
 mod errors;
 #[cfg(test)]
+mod inodes;
+#[cfg(test)]
 mod replies;
 #[cfg(test)]
 mod scripts;

@@ -4,3 +4,4 @@ pub mod Coming
 pub mod Opens
 pub mod NotesLaws
 pub mod LinkLaws
+pub mod ReadLaws

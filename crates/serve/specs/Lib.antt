@@ -5,3 +5,6 @@ pub mod Notes
 pub mod Inline
 pub mod InlineLaws
 pub mod Refusals
+pub mod Reader
+pub mod Reading
+pub mod Server

@@ -1,4 +1,4 @@
-//! The link of a file server to drivers that it runs itself.
+//! The link of a file server to drivers that it runs itself, and a server that reads over any link.
 #![tactic(auto)]
 
 pub mod alone;
@@ -6,5 +6,9 @@ mod drivers;
 pub mod inline;
 pub mod local;
 mod note;
+mod reading;
 pub mod refusal;
 pub mod running;
+pub mod server;
+
+pub use server::Server;

@@ -39,7 +39,7 @@ pub returns-clause-begins : goal.returns-clause-begins
 returns-clause-begins g c =
     let a = c.add-ticket.ensures in
     begins_add _ c.args.self.now.table c.add-ticket.new.self _ a.added.0 _ _ _ _ _ a.agrees a.added.1 a.posted a.issued (ap (λ (r : BlockRequest). r.minor) a.added.3)
-    a.current c.post_if.ensures.current (ap (λ (r : BlockRequest). r.id) a.added.3) (search rules) c.is_posted-due.ensures c.post_if.ensures.posts c.post_if.ensures.leads
+    a.current c.post_if.ensures.current a.given_up (ap (λ (r : BlockRequest). r.id) a.added.3) (search rules) c.is_posted-due.ensures c.post_if.ensures.posts c.post_if.ensures.leads
 
 pub returns-then-is_full-clause-begins : goal.returns-then-is_full-clause-begins
 returns-then-is_full-clause-begins g c = begins_none _ _ _ _
