@@ -7,3 +7,4 @@ pub mod Starts
 pub mod NotesLaws
 pub mod LinkLaws
 pub mod ReadLaws
+pub mod ServerLaws
