@@ -27,6 +27,7 @@ use Rattle.serve.specs.declared.running.Ran.TheVariants as ran
 use Rattle.true_replies.proofs.Others.{replaced_keeps, issued_keeps, dead_keeps}
 use Rattle.serve.specs.Running.{Kept, RunLeaves}
 use Rattle.serve.specs.Inline.{IsReady, LinkKept}
+use Rattle.serve.specs.Comes.{stamp}
 use Rattle.serve.specs.InlineLaws.{noted_kept}
 
 -- the supply after its last driver was taken, as states
@@ -114,10 +115,10 @@ pub answered_kept : (v : Opening) (media after : MediaState) (slots : List ℕ) 
     → running ≡ Some d
     → ((v : Opening) (marks : List Mark) → endpoint.generation ≡ media.generation → Kept v media d true line marks → RunLeaves v endpoint.generation result after a new marks)
     → after.generation ≡ media.generation → result ≡ ran.Answered answer
-    → ((g : ℕ) → endpoint ≡ driver_at g → reply ≡ reply_of g answer)
+    → reply ≡ stamp endpoint answer
     → LinkKept v media slots endpoint running supply line marks
     → LinkKept v after slots endpoint (Some a) supply new (received (incoming.Reply reply) marks)
-answered_kept v media after slots endpoint running d a supply line new result answer marks reply is leaves same ran_is stamp kept =
+answered_kept v media after slots endpoint running d a supply line new result answer marks reply is leaves same ran_is stamped kept =
     let here : endpoint ≡ driver_at media.generation = subst (λ (o : Option DriverState). IfSome o (λ d. endpoint ≡ driver_at media.generation)) is kept.endpoint_is in
     let own : kept.driver ≡ d = subst (λ (o : Option DriverState). IfSome o (λ d. kept.driver ≡ d)) is kept.current in
     let live : is_some running ≡ true = ap is_some is in
@@ -126,7 +127,7 @@ answered_kept v media after slots endpoint running d a supply line new result an
     let generation : endpoint.generation ≡ media.generation = ap (λ (e : Endpoint). e.generation) here in
     let ran_leaves : RunLeaves v endpoint.generation (ran.Answered answer) after a new marks =
     subst (λ (r : Ran). RunLeaves v endpoint.generation r after a new marks) ran_is (leaves v marks generation before) in
-    let reply_is : reply ≡ reply_of endpoint.generation answer = stamp endpoint.generation (here ∙ ap driver_at (sym generation)) in
+    let reply_is : reply ≡ reply_of endpoint.generation answer = stamped ∙ ap (λ (e : Endpoint). stamp e answer) (here ∙ ap driver_at (sym generation)) in
     record {
       driver = a;
       kept = subst (λ (r : BlockReply). Kept v after a true new (received (incoming.Reply r) marks)) (sym reply_is) ran_leaves;

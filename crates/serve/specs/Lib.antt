@@ -1,7 +1,10 @@
 pub mod Running
+pub mod Steps
+pub mod Comes
 pub mod Notes
 pub mod Inline
 pub mod InlineLaws
+pub mod Refusals
 pub mod Reader
 pub mod Reading
 pub mod Server

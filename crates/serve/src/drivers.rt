@@ -1,17 +1,16 @@
 //! The drivers of a media, run one after the other by whoever waits for them.
 
-ghost use Rattle.std.specs.Prelude.{◌≡◌, ◌≢◌, ◌≤◌, ◌<◌, ◌⊎◌, ◌↔◌, slice_index, List, [], ◌∷◌, ◌++◌, length, ℕ, map, None, Some, Err, OnOk, OnErr};
-ghost use Rattle.std.specs.Bool.{OnFalse};
-ghost use Rattle.std.specs.Option.{option_map};
+ghost use Rattle.std.specs.Prelude.{◌≡◌, ◌≢◌, ◌≤◌, ◌<◌, ◌⊎◌, ◌↔◌, ◌||◌, ◌==◌, true, false, slice_index, List, [], ◌∷◌, ◌++◌, length, ℕ, map, reverse as reversed, None, Some, Err, OnOk, OnErr, IfOk};
+ghost use Rattle.std.specs.Option.{option_map, option_to_list};
 ghost use Rattle.std.specs.VecDeque.{deque_capacity};
 ghost use Rattle.endpoint.specs.declared.Endpoint.{Endpoint};
+ghost use Rattle.endpoint.specs.Slots.{no_starts};
 ghost use Rattle.marks.specs.Marks.{Mark, Issued};
 ghost use Rattle.marks.specs.Open.{MayFollow};
 ghost use Rattle.marks.specs.Opening.{Opening, Fits};
 ghost use Rattle.marks.specs.Told.{received};
-ghost use Rattle.true_replies.specs.Events.{reply_of};
-ghost use Rattle.true_replies.specs.Posted.{driver_at};
 ghost use Rattle.serve.specs.Inline.{LinkKept};
+ghost use Rattle.serve.specs.Comes.{ComesTo, StartsNext, stamp};
 
 use crate::local::LocalDriver;
 use crate::running::{Ran, run};
@@ -20,7 +19,11 @@ use endpoint::{DISK_DRIVER, Endpoint, Slots};
 use media::Media;
 use message::{BlockReply, BlockRequest, Incoming};
 use reissue::link::LinkRefusal;
+use std::alloc::{AllocError, Global};
 use std::collections::VecDeque;
+
+/// How many steps a link makes at most (own).
+const BUDGET: u64 = 1099511627776;
 
 /// How many requests the line of a driver holds at most (own); one more is refused as `Full`.
 pub const LINE: usize = 32;
@@ -43,7 +46,7 @@ pub(crate) struct Drivers<D: LocalDriver> {
 
 /// A driver's answer, under the driver's endpoint.
 fn stamped(from: Endpoint, answer: &Answer) -> BlockReply
-    ensures { (g : ℕ) → from ≡ driver_at g → result ≡ reply_of g answer.now }
+    ensures { result ≡ stamp from answer.now }
 {
     let bytes = answer.bytes;
     BlockReply {
@@ -55,9 +58,39 @@ fn stamped(from: Endpoint, answer: &Answer) -> BlockReply
 }
 
 impl<D: LocalDriver> Drivers<D> {
+    /// These media, with no driver running, and these drivers to be started on them, the first one first.
+    pub(crate) fn new(
+        alloc: Global,
+        media: Media,
+        mut supply: Vec<D>,
+    ) -> Result<Drivers<D>, AllocError>
+        ensures media { IfOk result (λ d. d.media ≡ media) }
+        ensures supply { IfOk result (λ d. d.supply.items ≡ reversed supply.items) }
+        ensures none_runs { IfOk result (λ d. d.running ≡ None) }
+        ensures slots { IfOk result (λ d. d.slots ≡ no_starts) }
+        ensures line { IfOk result (λ d. d.line.items ≡ []) }
+        ensures given_up { IfOk result (λ d. d.given_up ≡ false) }
+        ensures budget { IfOk result (λ d. d.budget ≡ 1099511627776) }
+    {
+        supply.reverse();
+        Ok(Drivers {
+            media,
+            slots: Slots::new(),
+            supply,
+            running: None,
+            endpoint: Endpoint {
+                slot: DISK_DRIVER,
+                generation: 0,
+            },
+            line: VecDeque::with_capacity(alloc, LINE)?,
+            given_up: false,
+            budget: BUDGET,
+        })
+    }
+
     /// Whether nothing comes any more: the device was given up, or no step is left.
     pub(crate) fn is_over(&self) -> bool
-        ensures { OnFalse result (0 < self.now.budget) }
+        ensures { result ≡ (self.now.given_up || (self.now.budget == 0)) }
     {
         self.given_up || self.budget == 0
     }
@@ -68,6 +101,7 @@ impl<D: LocalDriver> Drivers<D> {
             → LinkKept v self.old.media self.old.slots self.old.endpoint (option_map D.state self.old.running) (map D.state self.old.supply.items) self.old.line.items marks
             → LinkKept v self.new.media self.new.slots self.new.endpoint (option_map D.state self.new.running) (map D.state self.new.supply.items) self.new.line.items marks }
         ensures budget { self.new.budget ≡ 0 }
+        ensures rest { (self.new.running ≡ self.old.running) × (self.new.line.items ≡ self.old.line.items) × (self.new.media ≡ self.old.media) × (self.new.given_up ≡ self.old.given_up) }
     {
         self.budget = 0;
     }
@@ -78,11 +112,12 @@ impl<D: LocalDriver> Drivers<D> {
         ensures kept { (v : Opening) (marks : List Mark)
             → LinkKept v self.old.media self.old.slots self.old.endpoint (option_map D.state self.old.running) (map D.state self.old.supply.items) self.old.line.items marks
             → LinkKept v self.new.media self.new.slots self.new.endpoint (option_map D.state self.new.running) (map D.state self.new.supply.items) self.new.line.items (received result marks) }
-        ensures started { (e : Endpoint) → result ≡ Incoming.Started e → (self.new.running ≢ None) × (self.new.endpoint ≡ e) }
+        ensures started { (e : Endpoint) → result ≡ Incoming.Started e → self.new.endpoint ≡ e }
         ensures none_left { self.old.supply.items ≡ [] → result ≡ Incoming.GaveUp }
         ensures gave_up { result ≡ Incoming.GaveUp → (self.old.supply.items ≡ []) ⊎ (slice_index self.old.slots 1 ≡ 4294967295) }
-        ensures no_end { result ≢ Incoming.End }
-        ensures no_flush { result ≢ Incoming.Flush }
+        ensures next { (e : Endpoint) → result ≡ Incoming.Started e → self.old.supply.items ≡ self.new.supply.items ++ option_to_list self.new.running }
+        ensures starts { StartsNext self.old.line.items self.old.media result (option_map D.state self.new.running) self.new.line.items self.new.media }
+        ensures over { (self.new.given_up ≡ true) ↔ ((result ≡ Incoming.GaveUp) ⊎ (self.old.given_up ≡ true)) }
         ensures budget { self.new.budget ≡ self.old.budget }
     {
         let Some(driver) = self.supply.pop() else {
@@ -106,10 +141,13 @@ impl<D: LocalDriver> Drivers<D> {
         ensures kept { (v : Opening) (marks : List Mark)
             → LinkKept v self.old.media self.old.slots self.old.endpoint (option_map D.state self.old.running) (map D.state self.old.supply.items) self.old.line.items marks
             → LinkKept v self.new.media self.new.slots self.new.endpoint (option_map D.state self.new.running) (map D.state self.new.supply.items) self.new.line.items (received result marks) }
-        ensures started { (e : Endpoint) → result ≡ Incoming.Started e → (self.new.running ≢ None) × (self.new.endpoint ≡ e) }
+        ensures started { (e : Endpoint) → result ≡ Incoming.Started e → self.new.endpoint ≡ e }
         ensures gave_up { result ≡ Incoming.GaveUp → (self.old.supply.items ≡ []) ⊎ (slice_index self.old.slots 1 ≡ 4294967295) }
-        ensures ended { result ≡ Incoming.End → self.new.budget ≡ 0 }
-        ensures no_flush { result ≢ Incoming.Flush }
+        ensures next { (e : Endpoint) → result ≡ Incoming.Started e → self.old.supply.items ≡ self.new.supply.items ++ option_to_list self.new.running }
+        ensures comes { ComesTo self.old.endpoint
+            (record { driver = option_map D.state self.old.running; line = self.old.line.items; media = self.old.media; budget = self.old.budget }) result
+            (record { driver = option_map D.state self.new.running; line = self.new.line.items; media = self.new.media; budget = self.new.budget }) }
+        ensures over { (self.new.given_up ≡ true) ↔ ((result ≡ Incoming.GaveUp) ⊎ (self.old.given_up ≡ true)) }
         ensures budget { self.new.budget < self.old.budget }
     {
         let Some(mut driver) = self.running.take() else {
@@ -170,6 +208,7 @@ impl<D: LocalDriver> Drivers<D> {
             → LinkKept v self.new.media self.new.slots self.new.endpoint (option_map D.state self.new.running) (map D.state self.new.supply.items) self.new.line.items marks }
         ensures lets_go { about ≡ self.old.endpoint → self.new.running ≡ None }
         ensures leaves { about ≢ self.old.endpoint → self.new ≡ self.old }
+        ensures rest { (self.new.media ≡ self.old.media) × (self.new.supply.items ≡ self.old.supply.items) × (self.new.given_up ≡ self.old.given_up) }
         ensures budget { self.new.budget ≡ self.old.budget }
     {
         if about == self.endpoint {

@@ -1,6 +1,7 @@
 //! A driver as the one thread sees it that runs it.
 
-ghost use Rattle.bdev.specs.DriverState.{DriverState};
+ghost use Rattle.std.specs.Prelude.{◌≡◌};
+ghost use Rattle.bdev.specs.DriverState.{DriverState, range_while_fresh};
 ghost use Rattle.bdev.specs.Promises.{IsDriver, AcceptKeeps, StepKeeps};
 
 use bdev::{Accept, BlockDriver, Step};
@@ -17,6 +18,11 @@ pub trait LocalDriver: Drop {
         ensures keeps { AcceptKeeps (state self.old) request result (state self.new) }
         ensures driver { IsDriver (state self.new) };
 
+    /// The first sector and the count of a minor's range, while nothing was taken and nothing failed.
+    fn ready_here(&self, minor: u8) -> Option<(u32, u32)>
+        ensures value { result ≡ range_while_fresh (state self.now) minor }
+        ensures driver { IsDriver (state self.now) };
+
     /// Works on the request in work, under the generation that the driver was started with: moves at most one sector of
     /// 512 bytes. `Done` bears its answer and ends it. `Failed`, as where the media refuse the sector, leaves it in work.
     /// With none in work it is `Idle` or `Failed`, and the media stay.
@@ -30,6 +36,10 @@ impl<D: BlockDriver> LocalDriver for D {
 
     fn accept_here(&mut self, request: BlockRequest) -> Accept {
         self.accept(request)
+    }
+
+    fn ready_here(&self, minor: u8) -> Option<(u32, u32)> {
+        self.ready(minor)
     }
 
     fn step_here(&mut self, media: &mut Media, generation: u32) -> Step {

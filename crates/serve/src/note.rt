@@ -1,12 +1,13 @@
 //! What a link stores of what it was told and gave.
 
-ghost use Rattle.std.specs.Prelude.{◌≡◌, ◌≢◌, ◌≤◌, ◌<◌, ◌+◌, ◌∷◌, [], false, true, vec_len, vec_capacity, IsTrue};
-ghost use Rattle.std.specs.Bool.{OnTrue};
+ghost use Rattle.std.specs.Prelude.{◌≡◌, ◌≢◌, ◌≤◌, ◌<◌, ◌+◌, ◌∷◌, [], false, true, vec_len, vec_capacity, IfOk};
+ghost use Rattle.std.specs.Bool.{OnTrue, OnFalse};
 ghost use Rattle.marks.specs.Told.{heard, took_end};
 ghost use Rattle.serve.specs.Notes.{history_of, note_told, room_of, told_of};
 
 use endpoint::Endpoint;
 use message::{BlockRequest, Incoming};
+use std::alloc::{AllocError, Global};
 
 /// How many things a link may be told between two messages, and the message.
 const ROOM: usize = 34;
@@ -31,6 +32,18 @@ pub(crate) struct Notes {
 }
 
 impl Notes {
+    /// Nothing was told or given, and there is room for what is told before the first message, and for it.
+    pub(crate) fn new(alloc: Global) -> Result<Notes, AllocError>
+        ensures items { IfOk result (λ n. n.items.items ≡ []) }
+        ensures ended { IfOk result (λ n. n.ended ≡ false) }
+        ensures room { IfOk result (λ n. 34 ≤ vec_capacity n.items) }
+    {
+        Ok(Notes {
+            items: Vec::with_capacity(alloc, ROOM)?,
+            ended: false,
+        })
+    }
+
     /// Notes a post or a complaint.
     pub(crate) fn told(&mut self, note: Note)
         requires room { 0 < room_of self.old.ended (vec_capacity self.old.items) (vec_len self.old.items) }
@@ -47,6 +60,7 @@ impl Notes {
         ensures history { history_of self.new.ended self.new.items.items ≡ history_of self.old.ended self.old.items.items }
         ensures ended { self.new.ended ≡ self.old.ended }
         ensures room { OnTrue result (34 + vec_len self.new.items ≤ vec_capacity self.new.items) }
+        ensures full { OnFalse result (vec_capacity self.old.items < vec_len self.old.items + 34) }
     {
         self.items.reserve(ROOM).is_ok()
     }

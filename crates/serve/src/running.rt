@@ -6,6 +6,7 @@ ghost use Rattle.marks.specs.Marks.{Mark};
 ghost use Rattle.marks.specs.Opening.{Opening};
 ghost use Rattle.media.specs.Contents.{MediaState};
 ghost use Rattle.serve.specs.Running.{Kept, StepLeaves, RunLeaves};
+ghost use Rattle.serve.specs.Steps.{Machine, HandsOver, StepsOnce, RunsTo};
 
 use crate::local::LocalDriver;
 use bdev::{Accept, Answer, Step};
@@ -28,6 +29,7 @@ pub(crate) enum Ran {
 fn hand_over<D: LocalDriver>(driver: &mut D, line: &mut VecDeque<BlockRequest>)
     ensures kept { (v : Opening) (media : MediaState) (marks : List Mark) → Kept v media (D.state driver.old) true line.old.items marks
         → Kept v media (D.state driver.new) true line.new.items marks }
+    ensures hands { HandsOver (D.state driver.old) line.old.items (D.state driver.new) line.new.items }
     ensures room { deque_capacity line.new ≡ deque_capacity line.old }
 {
     let Some(front) = line.front() else {
@@ -58,6 +60,8 @@ fn step_once<D: LocalDriver>(
 ) -> Step
     ensures leaves { (v : Opening) (marks : List Mark) → generation ≡ media.old.generation → Kept v media.old (D.state driver.old) true line.old.items marks
         → StepLeaves v generation result media.new (D.state driver.new) line.new.items marks }
+    ensures steps { StepsOnce generation (record { driver = D.state driver.old; line = line.old.items; media = media.old }) result
+        (record { driver = D.state driver.new; line = line.new.items; media = media.new }) }
     ensures generation { media.new.generation ≡ media.old.generation }
     ensures room { deque_capacity line.new ≡ deque_capacity line.old }
 {
@@ -66,6 +70,7 @@ fn step_once<D: LocalDriver>(
 }
 
 /// Steps the driver until it answers or fails, each step for one of the budget.
+#[tactic(auto, using(crate::proofs::Going::gone_nowhere, crate::proofs::Going::gone_working, crate::proofs::Going::gone_idle, crate::proofs::Going::gone_to_end, crate::proofs::Going::gone_all))]
 pub(crate) fn run<D: LocalDriver>(
     driver: &mut D,
     line: &mut VecDeque<BlockRequest>,
@@ -75,6 +80,8 @@ pub(crate) fn run<D: LocalDriver>(
 ) -> Ran
     ensures leaves { (v : Opening) (marks : List Mark) → generation ≡ media.old.generation → Kept v media.old (D.state driver.old) true line.old.items marks
         → RunLeaves v generation result media.new (D.state driver.new) line.new.items marks }
+    ensures runs { RunsTo generation (record { driver = D.state driver.old; line = line.old.items; media = media.old }) budget.old result
+        (record { driver = D.state driver.new; line = line.new.items; media = media.new }) budget.new }
     ensures generation { media.new.generation ≡ media.old.generation }
     ensures room { deque_capacity line.new ≡ deque_capacity line.old }
     ensures budget { 0 < budget.old → budget.new < budget.old }

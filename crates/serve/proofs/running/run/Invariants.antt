@@ -3,6 +3,7 @@ use Rattle.std.specs.VecDeque.{deque_capacity}
 use Rattle.marks.specs.Marks.{Mark}
 use Rattle.marks.specs.Opening.{Opening}
 use Rattle.serve.specs.Running.{Kept}
+use Rattle.serve.proofs.Going.{HasGone}
 use Rattle.serve.proofs.running.run.Given as goal
 
 abbrev pub invariant-loop-budget : goal.invariant-loop-budget
@@ -13,6 +14,8 @@ invariant-loop-budget g l =
     × (l.media.generation ≡ l.fn.media.generation)
     × (deque_capacity l.line ≡ deque_capacity l.fn.line)
     × (l.budget ≤ l.fn.budget)
+    × HasGone l.generation (record { driver = g.D.LocalDriver.state l.fn.driver; line = l.fn.line.items; media = l.fn.media }) l.fn.budget
+    (record { driver = g.D.LocalDriver.state l.driver; line = l.line.items; media = l.media }) l.budget
 
 abbrev pub decreases-loop-budget : goal.decreases-loop-budget
 decreases-loop-budget g l = l.budget
