@@ -1,0 +1,94 @@
+//! The reincarnation server over its supply of drivers.
+
+ghost use Rattle.std.specs.Prelude.{◌≡◌, ◌<◌, ◌^◌, List, [], ◌∷◌, IfErr, IfOk, OnOk};
+ghost use Rattle.policy.specs.declared.Policy.{Policy};
+ghost use Rattle.policy.specs.Laws.{tick_of};
+ghost use Rattle.reincarnate.specs.Runs.{Added, Follows, Met, Turn};
+ghost use Rattle.reincarnate.specs.Supply.{Decides, NewAnswers, with_driver};
+
+use crate::watch::{Decision, Watch};
+use crate::{Action, SupplyRefusal};
+use bdev::Driver;
+use policy::{Event, Policy};
+use std::alloc::Global;
+use std::collections::VecDeque;
+use std::marker::Model;
+
+/// The reincarnation server of the disk driver, with the drivers that weren't started yet.
+#[derive(Drop)]
+pub struct Reincarnation<D = Driver> {
+    watch: Watch,
+    // The next one first.
+    supply: VecDeque<D>,
+}
+
+impl<D> Model for Reincarnation<D> {
+    ghost use Rattle.std.specs.Prelude.{length};
+    ghost use Rattle.reincarnate.specs.Supply.{ReincarnationState, state_of};
+    ghost use Rattle.reincarnate.specs.Known.{HasSpare};
+
+    ghost Value = { ReincarnationState D };
+
+    ghost view = { λ r. state_of r.watch r.supply.items };
+
+    ghost invariant = { λ r. HasSpare r.watch.phase (length r.supply.items) };
+}
+
+impl<D: Drop> Reincarnation<D> {
+    /// A reincarnation server over these drivers, the first of which is started at the first tick.
+    ///
+    /// BadPolicy goes before NoDriver. Where it is refused, the drivers are let go.
+    pub fn new(
+        alloc: Global,
+        policy: Policy,
+        drivers: Vec<D>,
+    ) -> Result<Reincarnation<D>, SupplyRefusal>
+        ensures answers { NewAnswers policy drivers.items result }
+        ensures follows { IfOk result (λ r. Follows policy drivers.items [] r) }
+    {
+        if !policy.is_allowed() {
+            return Err(SupplyRefusal::BadPolicy);
+        }
+        if drivers.is_empty() {
+            return Err(SupplyRefusal::NoDriver);
+        }
+        let Ok(supply) = drivers.into_iter().collect::<VecDeque<D>>(alloc) else {
+            return Err(SupplyRefusal::OutOfMemory);
+        };
+        Ok(Reincarnation {
+            watch: Watch::new(policy),
+            supply,
+        })
+    }
+
+    /// Adds a driver at the end of the supply, or hands it back where no memory was found for it.
+    pub fn add_spare(&mut self, driver: D) -> Result<(), D>
+        ensures ok { OnOk result (self.new ≡ with_driver self.old driver) }
+        ensures follows { (policy : Policy) (drivers : List D) (turns : List (Turn D))
+            → Follows policy drivers turns self.old → OnOk result (Follows policy drivers (Added driver ∷ turns) self.new) }
+        ensures refused { IfErr result (λ back. (back ≡ driver) × (self.new ≡ self.old)) }
+    {
+        match self.supply.push_back(driver) {
+            Ok(()) => Ok(()),
+            Err(refused) => Err(refused.value),
+        }
+    }
+
+    /// What is to be done at this event. Ticks are below 2^48 and never fall.
+    pub fn on(&mut self, event: Event) -> Action<D>
+        requires { tick_of event < 2 ^ 48 }
+        ensures decides { Decides self.old event result self.new }
+        ensures follows { (policy : Policy) (drivers : List D) (turns : List (Turn D))
+            → Follows policy drivers turns self.old → Follows policy drivers (Met event result ∷ turns) self.new }
+    {
+        match self.watch.on(event, self.supply.len()) {
+            Decision::Nothing => Action::Nothing,
+            Decision::WaitUntil(tick) => Action::WaitUntil(tick),
+            Decision::Start(endpoint) => match self.supply.pop_front() {
+                Some(driver) => Action::Start(endpoint, driver),
+                None => unreachable!(),
+            },
+            Decision::GiveUp => Action::GiveUp,
+        }
+    }
+}
