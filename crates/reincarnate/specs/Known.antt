@@ -19,6 +19,10 @@ pub record Known : Type 0 where
   pub fault : Option LastFault
   pub phase : restart.Phase
 
+-- at first nothing was started, and the first start is awaited
+abbrev pub known_at_first : Policy → Known
+known_at_first rules = record { policy = rules; generation = 0; fault = None; phase = restart.Waiting 0 }
+
 -- with so many drivers left, this is what the policy knows
 abbrev pub watch_with : Known → ℕ → restart.Watch
 watch_with known spares = record { spares = spares; generation = known.generation; fault = known.fault; phase = known.phase }

@@ -2,3 +2,4 @@
 pub mod Known
 pub mod Supply
 pub mod Runs
+pub mod Follows

@@ -1,18 +1,25 @@
 //! The reincarnation server over its supply of drivers.
 
 ghost use Rattle.std.specs.Prelude.{◌≡◌, ◌<◌, ◌^◌, List, [], ◌∷◌, IfErr, IfOk, OnOk};
-ghost use Rattle.policy.specs.declared.Policy.{Policy};
 ghost use Rattle.policy.specs.Laws.{tick_of};
-ghost use Rattle.reincarnate.specs.Runs.{Added, Follows, Met, Turn};
+ghost use Rattle.reincarnate.specs.Follows.{Follows};
+ghost use Rattle.reincarnate.specs.Runs.{Added, Met, Turn};
 ghost use Rattle.reincarnate.specs.Supply.{Decides, NewAnswers, with_driver};
 
 use crate::watch::{Decision, Watch};
 use crate::{Action, SupplyRefusal};
 use bdev::Driver;
 use policy::{Event, Policy};
-use std::alloc::Global;
+use std::alloc::{AllocError, Global};
 use std::collections::VecDeque;
 use std::marker::Model;
+
+/// A supply of these drivers, in their order.
+fn supply_of<D: Drop>(alloc: Global, drivers: Vec<D>) -> Result<VecDeque<D>, AllocError>
+    ensures { IfOk result (λ supply. supply.items ≡ drivers.items) }
+{
+    drivers.into_iter().collect(alloc)
+}
 
 /// The reincarnation server of the disk driver, with the drivers that weren't started yet.
 #[derive(Drop)]
@@ -44,7 +51,7 @@ impl<D: Drop> Reincarnation<D> {
         drivers: Vec<D>,
     ) -> Result<Reincarnation<D>, SupplyRefusal>
         ensures answers { NewAnswers policy drivers.items result }
-        ensures follows { IfOk result (λ r. Follows policy drivers.items [] r) }
+        ensures follows { IfOk result (λ r. Follows drivers.items [] r) }
     {
         if !policy.is_allowed() {
             return Err(SupplyRefusal::BadPolicy);
@@ -52,7 +59,7 @@ impl<D: Drop> Reincarnation<D> {
         if drivers.is_empty() {
             return Err(SupplyRefusal::NoDriver);
         }
-        let Ok(supply) = drivers.into_iter().collect::<VecDeque<D>>(alloc) else {
+        let Ok(supply) = supply_of(alloc, drivers) else {
             return Err(SupplyRefusal::OutOfMemory);
         };
         Ok(Reincarnation {
@@ -62,10 +69,11 @@ impl<D: Drop> Reincarnation<D> {
     }
 
     /// Adds a driver at the end of the supply, or hands it back where no memory was found for it.
+    #[tactic(auto, using(crate::proofs::FollowLaws::follows_added))]
     pub fn add_spare(&mut self, driver: D) -> Result<(), D>
         ensures ok { OnOk result (self.new ≡ with_driver self.old driver) }
-        ensures follows { (policy : Policy) (drivers : List D) (turns : List (Turn D))
-            → Follows policy drivers turns self.old → OnOk result (Follows policy drivers (Added driver ∷ turns) self.new) }
+        ensures follows { (drivers : List D) (turns : List (Turn D))
+            → Follows drivers turns self.old → OnOk result (Follows drivers (Added driver ∷ turns) self.new) }
         ensures refused { IfErr result (λ back. (back ≡ driver) × (self.new ≡ self.old)) }
     {
         match self.supply.push_back(driver) {
@@ -78,8 +86,8 @@ impl<D: Drop> Reincarnation<D> {
     pub fn on(&mut self, event: Event) -> Action<D>
         requires { tick_of event < 2 ^ 48 }
         ensures decides { Decides self.old event result self.new }
-        ensures follows { (policy : Policy) (drivers : List D) (turns : List (Turn D))
-            → Follows policy drivers turns self.old → Follows policy drivers (Met event result ∷ turns) self.new }
+        ensures follows { (drivers : List D) (turns : List (Turn D))
+            → Follows drivers turns self.old → Follows drivers (Met event result ∷ turns) self.new }
     {
         match self.watch.on(event, self.supply.len()) {
             Decision::Nothing => Action::Nothing,

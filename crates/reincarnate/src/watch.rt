@@ -3,9 +3,9 @@
 ghost use Rattle.std.specs.Prelude.{◌≡◌, ◌≤◌, ◌<◌, ◌-◌, ◌^◌, ℕ, min, true};
 ghost use Rattle.policy.specs.Policy.{IsAllowed};
 ghost use Rattle.policy.specs.Faults.{fault_number};
-ghost use Rattle.policy.specs.Watch.{new_watch, on, on_fault, on_report, on_start, on_tick};
+ghost use Rattle.policy.specs.Watch.{on, on_fault, on_report, on_start, on_tick};
 ghost use Rattle.policy.specs.Laws.{is_running, tick_of};
-ghost use Rattle.reincarnate.specs.Known.{HasSpare, Makes, is_waiting, watch_with};
+ghost use Rattle.reincarnate.specs.Known.{HasSpare, Makes, is_waiting, known_at_first, watch_with};
 
 use endpoint::{DISK_DRIVER, Endpoint, Slots};
 use policy::{Event, Policy};
@@ -65,8 +65,7 @@ impl Watch {
     /// Nothing was started, and the first start is awaited for tick 0.
     pub(crate) fn new(policy: Policy) -> Watch
         requires { IsAllowed policy }
-        ensures policy { result.policy ≡ policy }
-        ensures watch { (drivers : ℕ) → watch_with result drivers ≡ new_watch drivers }
+        ensures { result ≡ known_at_first policy }
     {
         Watch {
             policy,
