@@ -1,9 +1,9 @@
 -- A step by the policy follows it over the whole run.
 use Rattle.std.specs.Prelude.{◌≡◌, ◌≢◌, ◌<◌, ℕ, ◌+◌, ◌-◌, List, [], ◌∷◌, ◌++◌, length, Bool, true, false, ◌==◌, nat_le, if◌then◌else◌, Some, refl}
-use Rattle.std.proofs.Common.{arith, rules, append_assoc, length-append, ap, sym, subst, ◌∙◌}
+use Rattle.std.specs.List.{flat_map}
+use Rattle.std.proofs.Common.{arith, append_assoc, length-append, ap, sym, subst, ◌∙◌}
 use Rattle.std.proofs.lemmas.Bool.Decides.{nat_tests}
 use Rattle.std.proofs.lemmas.List.{append-nil}
-use Rattle.std.proofs.lemmas.Grind.{common_steps}
 use Rattle.endpoint.specs.declared.Endpoint.{Endpoint}
 use Rattle.policy.specs.declared.Policy.{Policy}
 use Rattle.policy.specs.declared.Event.{Event}
@@ -11,13 +11,13 @@ use Rattle.policy.specs.declared.Event.TheVariants.{Exit, Tick, Complaint}
 use Rattle.policy.specs.Policy.{IsAllowed}
 use Rattle.policy.specs.Faults.{next_fault, last_fault, gives_up, restart_tick}
 use Rattle.policy.specs.Watch.{Action, Nothing, WaitUntil, Start, GiveUp, Phase, Running, Waiting, GivenUp, Watch, driver, is_last_started, is_same_pulse, on, on_fault, on_report, on_start, on_tick}
-use Rattle.policy.specs.Laws.{is_of_fault, tick_of, misses_in, with_pulse}
+use Rattle.policy.specs.Laws.{tick_of, misses_in, with_pulse}
 use Rattle.reincarnate.specs.declared.Action.{Action as Answer}
 use Rattle.reincarnate.specs.declared.Action.TheVariants as answers
 use Rattle.reincarnate.specs.Known.{HasSpare}
 use Rattle.reincarnate.specs.Supply.{ReincarnationState, Decides, action_of, handed_over, new_state, with_driver}
 use Rattle.reincarnate.specs.Runs.{Turn, Met, Added, handed_in, started, last_done, fault_ticks, pulses, last_after, with_fault, is_fault, is_start, is_same_endpoint, due_at_fault, due_by, due, all_due, all_done}
-use Rattle.reincarnate.specs.Follows.{Counts, PhaseIs, Knows, Follows}
+use Rattle.reincarnate.specs.Follows.{Counts, PhaseIs, Knows, Follows, IsPolicyRun, EveryListIsDecided}
 
 -- how many drivers were started, after this
 abbrev starts_after : Action → ℕ → ℕ
@@ -225,8 +225,8 @@ follows_by : {D : Type 0} (drivers : List D) (turns : List (Turn D)) (policy : P
 follows_by drivers turns policy event answer state same allowed done before order knows = record {
   allowed = rw same allowed;
   answers =
-    let P : Policy → Type 0 = λ p. all_done (Met event answer ∷ turns) ≡ all_due p drivers (Met event answer ∷ turns) in
-    subst P (sym same) (ap (λ a. a ∷ all_done turns) done ∙ ap (λ l. due policy drivers turns event ∷ l) before);
+      let P : Policy → Type 0 = λ p. all_done (Met event answer ∷ turns) ≡ all_due p drivers (Met event answer ∷ turns) in
+      subst P (sym same) (ap (λ a. a ∷ all_done turns) done ∙ ap (λ l. due policy drivers turns event ∷ l) before);
   order = order;
   knows = rw (same, length-started (started turns) answer) knows;
 }
@@ -273,3 +273,18 @@ follows_at_first policy (driver ∷ drivers) allowed some = record {
   order = refl;
   knows = record { generation = refl; spares = omega arith; fault = refl; phase = refl; spare = omega arith };
 }
+
+-- one event more, before a list of them
+run_more : {D : Type 0} (old between new : ReincarnationState D) (event : Event) (answer : Answer D) (steps : List (Event × Answer D))
+    → Decides old event answer between → IsPolicyRun between steps new → IsPolicyRun old ((event, answer) ∷ steps) new
+run_more {D} old between new event answer steps decides run = record {
+  policy = run.policy ∙ decides.policy;
+  watch = rw (run.watch, decides.policy, decides.keeps.knows) refl;
+  answers = rw (run.answers, decides.policy, decides.keeps.knows, decides.keeps.does) refl;
+  supply = decides.supply ∙ (ap (λ l. handed_over answer ++ l) run.supply ∙ sym (append_assoc (handed_over answer) (flat_map (λ (s : Event × Answer D). handed_over s.1) steps) new.supply));
+}
+
+-- any list of events
+pub every_list_is_decided : {D : Type 0} → EveryListIsDecided D
+every_list_is_decided old new [] same = rw same (record { policy = refl; watch = refl; answers = refl; supply = refl })
+every_list_is_decided old new (step ∷ steps) (between, decides, rest) = run_more old between new step.0 step.1 steps decides (every_list_is_decided between new steps rest)

@@ -1,7 +1,6 @@
 -- What is remembered between events, against what the restart policy knows.
 use Rattle.std.specs.Prelude.{◌≡◌, ℕ, ◌+◌, ◌-◌, ◌^◌, ◌<◌, ◌≤◌, List, slice_index, Bool, true, false, Option, Some, None}
 use Rattle.std.specs.Option.{option_map}
-use Rattle.endpoint.specs.declared.Endpoint.{Endpoint}
 use Rattle.policy.specs.declared.Policy.{Policy}
 use Rattle.policy.specs.Policy.{IsAllowed}
 use Rattle.policy.specs.Faults.{LastFault}

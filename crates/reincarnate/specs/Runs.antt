@@ -1,5 +1,5 @@
 -- What a reincarnation server met and did, and what the restart policy says of it: no state, only what happened.
-use Rattle.std.specs.Prelude.{ℕ, ◌+◌, ◌-◌, List, [], ◌∷◌, ◌++◌, length, Bool, true, false, ◌&&◌, ◌==◌, nat_le, if◌then◌else◌}
+use Rattle.std.specs.Prelude.{ℕ, ◌+◌, ◌-◌, List, [], ◌∷◌, ◌++◌, length, Bool, false, ◌&&◌, ◌==◌, nat_le, if◌then◌else◌}
 use Rattle.endpoint.specs.declared.Endpoint.{Endpoint}
 use Rattle.policy.specs.declared.Policy.{Policy}
 use Rattle.policy.specs.declared.Event.{Event}

@@ -1,6 +1,5 @@
 -- The reincarnation server with its supply of drivers.
 use Rattle.std.specs.Prelude.{◌≡◌, ◌≢◌, ℕ, List, [], ◌∷◌, ◌++◌, length, Result, Ok, Err}
-use Rattle.endpoint.specs.declared.Endpoint.{Endpoint}
 use Rattle.policy.specs.declared.Policy.{Policy}
 use Rattle.policy.specs.Policy.{IsAllowed}
 use Rattle.policy.specs.declared.Event.{Event}

@@ -4,15 +4,15 @@
 #![tactic(auto)]
 
 ghost use Rattle.std.specs.Prelude.{◌≡◌};
+ghost use Rattle.reincarnate.specs.Follows.{EveryListIsDecided};
 ghost use Rattle.reincarnate.specs.Supply.{refusal_number};
 
 mod reincarnation;
 mod watch;
 
+use endpoint::Endpoint;
 pub use policy::{Event, Policy, Setup};
 pub use reincarnation::Reincarnation;
-
-use endpoint::Endpoint;
 use thiserror::Error;
 
 /// What is to be done at an event.
@@ -54,3 +54,9 @@ impl SupplyRefusal {
         }
     }
 }
+
+/// What is decided at each of a list of events is what the restart policy does at them, and the drivers are started in their order.
+#[tactic(auto, using(crate::proofs::FollowLaws::every_list_is_decided))]
+pub fn every_list_is_decided<D>()
+    ensures { EveryListIsDecided D }
+{}

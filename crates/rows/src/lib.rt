@@ -8,4 +8,6 @@ mod errors;
 #[cfg(test)]
 mod replies;
 #[cfg(test)]
+mod restarts;
+#[cfg(test)]
 mod scripts;

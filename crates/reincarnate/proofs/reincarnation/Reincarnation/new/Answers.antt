@@ -1,8 +1,8 @@
-use Rattle.std.proofs.Common.{rules, arith, subst, sym}
-use Rattle.std.specs.Prelude.{◌≡◌, ◌≢◌, List, [], ◌==◌, false, length, refl}
+use Rattle.std.proofs.Common.{rules}
+use Rattle.std.specs.Prelude.{◌≡◌, ◌≢◌, List, [], refl}
 use Rattle.policy.specs.declared.Policy.{Policy}
 use Rattle.reincarnate.specs.Known.{Known, known_at_first}
-use Rattle.reincarnate.specs.Supply.{ReincarnationState, state_of, new_state}
+use Rattle.reincarnate.specs.Supply.{state_of, new_state}
 use Rattle.reincarnate.proofs.FollowLaws.{follows_at_first}
 use Rattle.reincarnate.proofs.reincarnation.Reincarnation.new.Goals as goal
 
