@@ -44,7 +44,8 @@ impl<D> Model for Reincarnation<D> {
 impl<D: Drop> Reincarnation<D> {
     /// A reincarnation server over these drivers, the first of which is started at the first tick.
     ///
-    /// BadPolicy goes before NoDriver. Where it is refused, the drivers are let go.
+    /// `BadPolicy`: a number of the policy isn't in its range. `NoDriver`: else, where there is no driver. `OutOfMemory`: no
+    /// memory was found for the supply. A refusal lets the drivers go.
     pub fn new(
         alloc: Global,
         policy: Policy,
@@ -82,7 +83,11 @@ impl<D: Drop> Reincarnation<D> {
         }
     }
 
-    /// What is to be done at this event. Ticks are below 2^48 and never fall.
+    /// What is to be done at this event, whose tick is below 2^48. It takes no memory.
+    ///
+    /// A fault of the driver that runs answers `WaitUntil` or `GiveUp`; a tick at which a start is awaited for it or for an
+    /// earlier one answers `Start`, with the next driver of the supply. Everything else answers `Nothing`: events about any
+    /// other endpoint, events while a start is awaited, and all events after `GiveUp`.
     pub fn on(&mut self, event: Event) -> Action<D>
         requires { tick_of event < 2 ^ 48 }
         ensures decides { Decides self.old event result self.new }

@@ -177,8 +177,9 @@ impl Watch {
         ensures first { 1 ≤ result }
     {
         match self.last_fault {
-            Some(earlier) if tick < earlier.tick + u64::from(self.policy.calm) => earlier.number
-                + 1,
+            Some(earlier) if tick < earlier.tick + u64::from(self.policy.calm) => {
+                earlier.number + 1
+            }
             _ => 1,
         }
     }
