@@ -4,11 +4,12 @@ use Rattle.std.proofs.Common.{arith}
 use Rattle.policy.specs.declared.Policy.{Policy}
 use Rattle.policy.specs.declared.Event.TheVariants.{Exit, Tick, Complaint}
 use Rattle.policy.specs.Policy.{IsAllowed, default_policy}
+use Rattle.policy.specs.Watch as restart
 use Rattle.policy.specs.Watch.{driver}
 use Rattle.reincarnate.specs.declared.Action.TheVariants.{Nothing, WaitUntil, Start, GiveUp}
 use Rattle.reincarnate.specs.declared.SupplyRefusal.TheVariants.{BadPolicy, NoDriver}
 use Rattle.reincarnate.specs.Supply.{NewAnswers}
-use Rattle.reincarnate.specs.Runs.{Turn, Met, Added, handed_in, started, all_due, all_done}
+use Rattle.reincarnate.specs.Runs.{Turn, Met, Added, handed_in, started, due_by, all_due, all_done}
 
 -- each answer is what was due, and the drivers were started in their order, but for these
 abbrev IsRun : Policy → List ℕ → List (Turn ℕ) → List ℕ → Type 0
@@ -69,6 +70,14 @@ row_misses_anew : IsRun default_policy (71 ∷ 72 ∷ 73 ∷ [])
     (Met (Tick 4 (0, 0)) (WaitUntil 6) ∷ Met (Tick 3 (0, 0)) Nothing ∷ Met (Tick 2 (0, 0)) Nothing ∷ Met (Tick 1 (0, 0)) (Start (driver 2) 72)
     ∷ Met (Exit (driver 1) 0) (WaitUntil 1) ∷ Met (Tick 0 (0, 0)) (Start (driver 1) 71) ∷ []) (73 ∷ [])
 row_misses_anew = (refl, refl)
+
+-- the driver started last but one of all generations is followed by one more
+row_last_but_one : due_by default_policy (restart.Start (driver 4294967294)) [] [] 4294967294 4294967296 (Exit (driver 4294967294) 9) ≡ restart.WaitUntil 10
+row_last_but_one = refl
+
+-- after the last generation the device is given up, though a driver is left
+row_last_generation : due_by default_policy (restart.Start (driver 4294967295)) [] [] 4294967295 4294967296 (Exit (driver 4294967295) 9) ≡ restart.GiveUp
+row_last_generation = refl
 
 -- the default is allowed
 allowed : IsAllowed default_policy

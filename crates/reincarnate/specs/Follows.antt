@@ -12,7 +12,7 @@ use Rattle.reincarnate.specs.declared.Action.{Action as Answer}
 use Rattle.reincarnate.specs.Supply.{ReincarnationState, Decides, action_of, handed_over}
 use Rattle.reincarnate.specs.Runs.{Turn, handed_in, started, last_done, fault_ticks, pulses, all_due, all_done}
 
--- the last pulse, and the misses in a row
+-- of these pulses, newest first: the last one, and the misses in a row
 abbrev pub Counts : List (ℕ × ℕ) → ℕ × ℕ → ℕ → Type 0
 Counts [] last missed = ⊥
 Counts (pulse ∷ earlier) last missed = (last ≡ pulse) × (missed ≡ misses_in (pulse ∷ earlier))
@@ -23,7 +23,8 @@ PhaseIs done earlier starts (Running last missed) = (done ≡ Start (driver star
 PhaseIs done earlier starts (Waiting until) = done ≡ WaitUntil until
 PhaseIs done earlier starts GivenUp = done ≡ GiveUp
 
--- what is known is what happened; where a start is awaited, a driver is left for it
+-- what is known is what happened: what was last done, the faults' ticks, the pulses since the last start, how many drivers were started and handed in;
+-- where a start is awaited, a driver is left for it
 pub record Knows (policy : Policy) (last : Action) (ticks : List ℕ) (earlier : List (ℕ × ℕ)) (starts drivers : ℕ) (watch : Watch) : Type 0 where
   pub generation : watch.generation ≡ starts
   pub spares : watch.spares + starts ≡ drivers
