@@ -10,4 +10,6 @@ mod inodes;
 #[cfg(test)]
 mod replies;
 #[cfg(test)]
+mod restarts;
+#[cfg(test)]
 mod scripts;
