@@ -1,0 +1,4 @@
+use Rattle.board.proofs.board.Board.give_as.Goals as goal
+
+pub returns-clause-session : goal.returns-clause-session
+returns-clause-session g c = ?

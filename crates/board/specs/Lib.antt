@@ -1,0 +1,4 @@
+pub mod View
+pub mod Words
+pub mod Rule
+pub mod Steps

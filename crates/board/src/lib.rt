@@ -1,0 +1,16 @@
+//! The status words that the threads of a service share: the tally of its record, the generation of its driver, whether the
+//! device was given up, and the driver's pulse. No call waits.
+//!
+//! The record itself, a list of marks, is stored nowhere: it stands in the proofs, as what the record's seat has seen. Every
+//! other seat has seen a beginning of it. What a step adds to the record is named by the caller of the step, as the ghost
+//! member `mark` of a type parameter (`NewMark`), since no word holds it.
+#![tactic(auto)]
+
+mod board;
+mod mark;
+mod rule;
+mod seat;
+
+pub use board::{Board, Device};
+pub use mark::NewMark;
+pub use seat::{Knowledge, Seat};
