@@ -87,7 +87,10 @@ right_call = record {
   none_absorbed = refl;
   cut = (λ e. absurd (replied_cut (root_of_size 128) e), λ e. absurd (false_is_true e));
   rules = λ image tree marks agrees. record { keep = tt; outbox = refl };
-  gave_up = λ image tree marks agrees e. absurd (replied_eio e);
+  only_given_up = λ image tree marks agrees e. absurd (replied_eio e);
+  once_given_up = λ image tree marks agrees given_up. absurd (false_is_true (sym agrees.1 ∙ given_up));
+  after_giving_up = λ image tree marks agrees given_up. refl;
+  after_end = λ ended. refl;
   serves = λ image tree marks s.
       let after : tree_after small tree (Took user_0 100 stat_root (root_of_size 128) ∷ marks) ≡ tree_after small tree marks =
       stays_fresh tree marks s.agrees.0 s.agrees.1 ∙ sym s.agrees.0 in
@@ -117,7 +120,10 @@ right_cut = record {
   none_absorbed = refl;
   cut = (λ e. refl, λ e. refl);
   rules = λ image tree marks agrees. record { keep = tt; outbox = refl };
-  gave_up = λ image tree marks agrees e. absurd (replied_cut (refused EIO) (sym e));
+  only_given_up = λ image tree marks agrees e. absurd (replied_cut (refused EIO) (sym e));
+  once_given_up = λ image tree marks agrees given_up. inl refl;
+  after_giving_up = λ image tree marks agrees given_up. refl;
+  after_end = λ ended. refl;
   serves = λ image tree marks s. s;
 }
 
@@ -133,8 +139,10 @@ right_busy = record {
   none_absorbed = refl;
   same_files = refl;
   busy = λ e. refl;
+  after_end = λ ended. refl;
   rules = λ image tree marks agrees. record { keep = tt; outbox = refl };
   is = λ image tree marks agrees. rw agrees.1 refl;
+  after_giving_up = λ image tree marks agrees given_up. refl;
   serves = λ image tree marks s. s;
   synced = λ image tree marks s e. absurd (busy_unmounted e);
 }

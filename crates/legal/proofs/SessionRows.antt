@@ -1,12 +1,15 @@
 -- Sessions worked by hand: two with one number, one after the other, and one with another number.
 use Rattle.std.specs.Prelude.{◌≡◌, ℕ, List, [], ◌∷◌, length, Bool, true, false, refl}
 use Rattle.std.proofs.Common.{inr, arith, ap}
+use Rattle.layout.specs.declared.Geometry.{Geometry}
 use Rattle.tree.specs.declared.Who.{Who}
 use Rattle.tree.specs.declared.Call.TheVariants as call
+use Rattle.tree.specs.Tree.{Tree}
 use Rattle.tree.specs.Answers.{done}
 use Rattle.marks.specs.Marks.{Mark, Started, Flush, GaveUp, Took}
+use Rattle.marks.specs.Disk.{Contents}
 use Rattle.legal.specs.ServerCall.{Replied, Cut}
-use Rattle.legal.specs.Session.{calls_of, tally_of, Seen, IsSession, IsNewSession, LearnsMore, EndsWith, MeetKeeps, DeviceKeeps}
+use Rattle.legal.specs.Session.{calls_of, tally_of, Seen, IsSession, IsNewSession, LearnsMore, SessionState, IsMadeFor, SessionGoesOn, EndsWith, SessionCallKeeps, MeetKeeps, DeviceKeeps}
 
 -- user 0 in this session
 abbrev pub user_in : ℕ → Who
@@ -90,6 +93,26 @@ not_its_own h = no_call (sync 5 12) [] h.2
 cut_call : EndsWith Cut (user_in 5) 12 call.Sync (session_5 first_part []) (session_5 (Flush ∷ first_part) [])
 cut_call = refl
 
+-- user 0's session
+abbrev pub of_user_0 : Seen → SessionState
+of_user_0 knows = record { uid = 0; gid = 0; knows = knows }
+
+-- a call that another user makes in its name
+abbrev pub other_user : Who
+other_user = record { session = 5; uid = 9; gid = 0 }
+
+call_of_another : (g : Geometry) (image : Contents) (tree : Tree) (new : SessionState)
+    → SessionCallKeeps g image tree (of_user_0 (session_5 first_part [])) other_user 12 call.Sync (Replied done) new → ⊥
+call_of_another g image tree new h = let nine : ◌≡◌ {A = ℕ} 9 0 = ap (λ (who : Who). who.uid) h.caller in absurd (omega arith)
+
+-- a session whose user is another one afterwards
+changed_user : (knows : Seen) → SessionGoesOn (of_user_0 (session_5 first_part [])) (record { uid = 9; gid = 0; knows = knows }) → ⊥
+changed_user knows h = let nine : ◌≡◌ {A = ℕ} 9 0 = h.user in absurd (omega arith)
+
+-- a session made for another user than was asked
+made_for_another : (marks : List Mark) → IsMadeFor 9 0 (of_user_0 (session_5 first_part [])) marks → ⊥
+made_for_another marks h = let zero_is : ◌≡◌ {A = ℕ} 0 9 = h.user in absurd (omega arith)
+
 -- Two sessions meet: 7 had seen the first part alone, 5 all of it.
 abbrev pub session_7 : List Mark → Seen
 session_7 seen = record { number = 7; place = 2; seen = seen; mine = sync 7 11 ∷ [] }
@@ -98,10 +121,19 @@ session_7 seen = record { number = 7; place = 2; seen = seen; mine = sync 7 11 �
 abbrev pub own_5 : List Mark
 own_5 = sync 5 13 ∷ sync 5 12 ∷ []
 
-met : MeetKeeps (session_7 first_part) (session_5 all own_5) (session_7 all) (session_5 all own_5)
+-- both are user 0's
+met : MeetKeeps (of_user_0 (session_7 first_part)) (of_user_0 (session_5 all own_5)) (of_user_0 (session_7 all)) (of_user_0 (session_5 all own_5))
 met = record {
-  first = record { number = refl; place = refl; beginning = record { later = sync 5 13 ∷ Flush ∷ sync 5 12 ∷ []; is = refl }; own = refl };
-  second = record { number = refl; place = refl; beginning = record { later = []; is = refl }; own = refl };
+  first = record {
+    user = refl;
+    group = refl;
+    learns = record { number = refl; place = refl; beginning = record { later = sync 5 13 ∷ Flush ∷ sync 5 12 ∷ []; is = refl }; own = refl };
+  };
+  second = record {
+    user = refl;
+    group = refl;
+    learns = record { number = refl; place = refl; beginning = record { later = []; is = refl }; own = refl };
+  };
   same = refl;
   longer = inr (refl, record { later = sync 5 13 ∷ Flush ∷ sync 5 12 ∷ []; is = refl });
   first_own = refl;
@@ -109,7 +141,7 @@ met = record {
 }
 
 -- a meeting after which one of them knows no more
-one_way : MeetKeeps (session_7 first_part) (session_5 all own_5) (session_7 first_part) (session_5 all own_5) → ⊥
+one_way : MeetKeeps (of_user_0 (session_7 first_part)) (of_user_0 (session_5 all own_5)) (of_user_0 (session_7 first_part)) (of_user_0 (session_5 all own_5)) → ⊥
 one_way h = let three : ◌≡◌ {A = ℕ} 3 6 = ap length h.same in absurd (omega arith)
 
 -- A call after giving up, and one before.
@@ -117,26 +149,24 @@ abbrev pub given_up : List Mark
 given_up = sync 5 12 ∷ GaveUp ∷ first_part
 
 -- it answers that the device was given up only where it has seen that
-invented : DeviceKeeps (session_5 first_part []) true (session_5 first_part []) → ⊥
+invented : DeviceKeeps (of_user_0 (session_5 first_part [])) true (of_user_0 (session_5 first_part [])) → ⊥
 invented h = let e : ◌≡◌ {A = Bool} false true = h.only refl in cc
 
 -- and always where it had seen a call after it
-concealed : DeviceKeeps (session_5 given_up (sync 5 12 ∷ [])) false (session_5 given_up (sync 5 12 ∷ [])) → ⊥
+concealed : DeviceKeeps (of_user_0 (session_5 given_up (sync 5 12 ∷ []))) false (of_user_0 (session_5 given_up (sync 5 12 ∷ []))) → ⊥
 concealed h = let e : ◌≡◌ {A = Bool} false true = h.always refl in cc
 
-told : DeviceKeeps (session_5 given_up (sync 5 12 ∷ [])) true (session_5 given_up (sync 5 12 ∷ []))
-told = record {
-  learns = record { number = refl; place = refl; beginning = record { later = []; is = refl }; own = refl };
-  own = refl;
-  only = λ yes_it_is. refl;
-  always = λ went. refl;
+-- a session that learnt nothing more
+learnt_nothing : (seen mine : List Mark) → mine ≡ calls_of 5 3 seen → SessionGoesOn (of_user_0 (session_5 seen mine)) (of_user_0 (session_5 seen mine))
+learnt_nothing seen mine own = record {
+  user = refl;
+  group = refl;
+  learns = record { number = refl; place = refl; beginning = record { later = []; is = refl }; own = own };
 }
 
+told : DeviceKeeps (of_user_0 (session_5 given_up (sync 5 12 ∷ []))) true (of_user_0 (session_5 given_up (sync 5 12 ∷ [])))
+told = record { goes_on = learnt_nothing given_up (sync 5 12 ∷ []) refl; own = refl; only = λ yes_it_is. refl; always = λ went. refl }
+
 -- where it has seen that alone, and no call after it, both answers may be
-live_still : DeviceKeeps (session_5 (GaveUp ∷ first_part) []) false (session_5 (GaveUp ∷ first_part) [])
-live_still = record {
-  learns = record { number = refl; place = refl; beginning = record { later = []; is = refl }; own = refl };
-  own = refl;
-  only = λ never. cc;
-  always = λ never. cc;
-}
+live_still : DeviceKeeps (of_user_0 (session_5 (GaveUp ∷ first_part) [])) false (of_user_0 (session_5 (GaveUp ∷ first_part) []))
+live_still = record { goes_on = learnt_nothing (GaveUp ∷ first_part) [] refl; own = refl; only = λ never. cc; always = λ never. cc }

@@ -4,8 +4,12 @@ use Rattle.std.proofs.Common.{sym, ap, subst, ◌∙◌}
 use Rattle.layout.specs.declared.Geometry.{Geometry}
 use Rattle.marks.specs.Marks.{Mark, Started, Answered, Flush, GaveUp, Took, Issued, Fault, IsBeginning}
 use Rattle.marks.specs.Disk.{Contents, unsure}
-use Rattle.legal.specs.Session.{calls_of, Seen, IsSession, IsNewSession}
-use Rattle.legal.specs.Laws.{WithoutFrames}
+use Rattle.tree.specs.declared.Who.{Who}
+use Rattle.tree.specs.declared.Call.{Call}
+use Rattle.tree.specs.Tree.{Tree}
+use Rattle.legal.specs.ServerCall.{Outcome, Replied, Cut}
+use Rattle.legal.specs.Session.{calls_of, Seen, IsSession, IsNewSession, SessionState, caller_of, AreCallsOf, SessionGoesOn, SessionCallKeeps}
+use Rattle.legal.specs.Laws.{WithoutFrames, OwnCallsAreByItsUser}
 
 -- one more call of its own, or not, in front
 grows_by : (b : Bool) (m : Mark) (own all : List Mark) → IsBeginning own all → IsBeginning own (if b then m ∷ all else all)
@@ -39,6 +43,31 @@ new_session_is_session s marks new = record {
       let all : calls_of s.number s.place (new.beginning.later ++ s.seen) ≡ [] =
       subst (λ (ms : List Mark). calls_of s.number s.place ms ≡ []) new.beginning.is new.saw_all in
       new.none ∙ sym (beginning_of_none grown.later (calls_of s.number s.place s.seen) (sym grown.is ∙ all));
+}
+
+-- the caller stays
+same_caller : (old new : SessionState) → SessionGoesOn old new → caller_of new ≡ caller_of old
+same_caller old new on = rw (on.user, on.group, on.learns.number) refl
+
+-- these calls are the caller's, whichever of two equal names is used of both
+same_calls : (mine grown : List Mark) (before after : Who) → grown ≡ mine → after ≡ before → AreCallsOf before mine → AreCallsOf after grown
+same_calls mine grown before after same caller are = rw (same, caller) are
+
+-- a call adds its own
+by_its_user : (g : Geometry) (image : Contents) (tree : Tree) (old new : SessionState) (who : Who) (now : ℕ) (call : Call) (outcome : Outcome)
+    → SessionCallKeeps g image tree old who now call outcome new → AreCallsOf (caller_of old) old.knows.mine
+    → AreCallsOf (caller_of new) new.knows.mine
+by_its_user g image tree old new who now call (Replied answer) keeps are =
+    same_calls (Took who now call answer ∷ old.knows.mine) new.knows.mine (caller_of old) (caller_of new) keeps.ends.2
+    (same_caller old new keeps.goes_on) (keeps.caller, are)
+by_its_user g image tree old new who now call Cut keeps are =
+    same_calls old.knows.mine new.knows.mine (caller_of old) (caller_of new) keeps.ends (same_caller old new keeps.goes_on) are
+
+-- a session's own calls are by its user and group
+pub own_calls_are_by_its_user : (g : Geometry) (image : Contents) (tree : Tree) → OwnCallsAreByItsUser g image tree
+own_calls_are_by_its_user g image tree = record {
+  at_first = λ uid gid s marks made. same_calls [] s.knows.mine (caller_of s) (caller_of s) made.new.none refl tt;
+  after_call = by_its_user g image tree;
 }
 
 -- a place without a frame isn't unsure

@@ -11,7 +11,8 @@ use Rattle.marks.specs.Marks.{Mark, Took, gave_up, IsBeginning}
 use Rattle.marks.specs.Disk.{Contents, disk_after, unsure}
 use Rattle.legal.specs.Legal.{is_sync, is_success, may_lack_memory, tree_after_answer, tree_after, IsSynced, IsLegal}
 use Rattle.legal.specs.View.{server_view, IsCovered}
-use Rattle.legal.specs.Session.{calls_of, Seen, IsSession, IsNewSession}
+use Rattle.legal.specs.ServerCall.{Outcome}
+use Rattle.legal.specs.Session.{calls_of, Seen, IsSession, IsNewSession, SessionState, caller_of, AreCallsOf, IsMadeFor, SessionCallKeeps}
 
 -- a legal record has legal beginnings
 abbrev pub BeginningsAreLegal : Type 0
@@ -62,3 +63,10 @@ OwnCallsGrow =
 -- a session that was just made is one
 abbrev pub NewSessionIsSession : Type 0
 NewSessionIsSession = (s : Seen) (marks : List Mark) → IsNewSession s marks → IsSession s marks
+
+-- a session's own calls are all made by its user and group: it has none at first, and each call keeps it
+pub record OwnCallsAreByItsUser (g : Geometry) (image : Contents) (tree : Tree) : Type 0 where
+  pub at_first : (uid gid : ℕ) (s : SessionState) (marks : List Mark) → IsMadeFor uid gid s marks → AreCallsOf (caller_of s) s.knows.mine
+  pub after_call : (old new : SessionState) (who : Who) (now : ℕ) (call : Call) (outcome : Outcome)
+      → SessionCallKeeps g image tree old who now call outcome new → AreCallsOf (caller_of old) old.knows.mine
+      → AreCallsOf (caller_of new) new.knows.mine

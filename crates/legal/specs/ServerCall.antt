@@ -1,5 +1,5 @@
 -- What a call of a server and a message between two calls keep, over any link.
-use Rattle.std.specs.Prelude.{◌≡◌, ◌↔◌, ℕ, List, [], ◌∷◌, ◌++◌, Bool, true, false, ◌||◌, is_some}
+use Rattle.std.specs.Prelude.{◌≡◌, ◌↔◌, ◌⊎◌, ℕ, List, [], ◌∷◌, ◌++◌, Bool, true, false, ◌||◌, is_some}
 use Rattle.errno.specs.declared.Errno.TheVariants.{EIO}
 use Rattle.layout.specs.declared.Geometry.{Geometry}
 use Rattle.message.specs.declared.Incoming.{Incoming}
@@ -73,15 +73,21 @@ abbrev pub with_outcome : Who → ℕ → Call → Outcome → List Mark → Lis
 with_outcome who now call (Replied answer) marks = Took who now call answer ∷ marks
 with_outcome who now call Cut marks = marks
 
--- One call. Nothing is handed over in it; it is cut exactly where a take gave End, in it or earlier; EIO comes only after giving up.
+-- One call. Nothing is handed over in it. It is cut exactly where a take gave End, in it or earlier. Else it answers EIO exactly where
+-- the device is given up, in it or earlier. Where either was so earlier, it does nothing.
 pub record CallKeeps (old : Serving) (who : Who) (now : ℕ) (call : Call) (outcome : Outcome) (new : Serving) : Type 0 where
   pub acts : List Act
   pub leads : Leads old acts new
   pub none_absorbed : has_absorbed acts ≡ false
   pub cut : (outcome ≡ Cut) ↔ (new.ended ≡ true)
   pub rules : (image : Contents) (tree : Tree) (marks : List Mark) → old.Agrees image tree marks → Rules old acts new marks
-  pub gave_up : (image : Contents) (tree : Tree) (marks : List Mark) → old.Agrees image tree marks
+  pub only_given_up : (image : Contents) (tree : Tree) (marks : List Mark) → old.Agrees image tree marks
       → outcome ≡ Replied (refused EIO) → gave_up (marks_after acts marks) ≡ true
+  pub once_given_up : (image : Contents) (tree : Tree) (marks : List Mark) → old.Agrees image tree marks
+      → gave_up (marks_after acts marks) ≡ true → (outcome ≡ Cut) ⊎ (outcome ≡ Replied (refused EIO))
+  pub after_giving_up : (image : Contents) (tree : Tree) (marks : List Mark) → old.Agrees image tree marks
+      → gave_up marks ≡ true → acts ≡ []
+  pub after_end : old.ended ≡ true → acts ≡ []
   pub serves : (image : Contents) (tree : Tree) (marks : List Mark) → Serves old image tree marks
       → Serves new image tree (with_outcome who now call outcome (marks_after acts marks))
 

@@ -51,31 +51,59 @@ pub record LearnsMore (old new : Seen) : Type 0 where
   pub beginning : IsBeginning old.seen new.seen
   pub own : new.mine ≡ calls_of new.number new.place new.seen
 
+-- A session: the user and group that it was made for, and what it knows.
+pub record SessionState : Type 0 where
+  pub uid : ℕ
+  pub gid : ℕ
+  pub knows : Seen
+
+-- who calls in a session: its number, user and group
+abbrev pub caller_of : SessionState → Who
+caller_of s = record { session = s.knows.number; uid = s.uid; gid = s.gid }
+
+-- each of these marks is a call of this caller
+abbrev pub AreCallsOf : Who → List Mark → Type 0
+AreCallsOf caller [] = Unit {0}
+AreCallsOf caller (Took who now call answer ∷ marks) = (who ≡ caller) × AreCallsOf caller marks
+AreCallsOf caller (_ ∷ marks) = ⊥
+
+-- what holds of a session just made for this user and group
+pub record IsMadeFor (uid gid : ℕ) (s : SessionState) (marks : List Mark) : Type 0 where
+  pub user : s.uid ≡ uid
+  pub group : s.gid ≡ gid
+  pub new : IsNewSession s.knows marks
+
+-- the same session later: its user and group stay, and it knows more
+pub record SessionGoesOn (old new : SessionState) : Type 0 where
+  pub user : new.uid ≡ old.uid
+  pub group : new.gid ≡ old.gid
+  pub learns : LearnsMore old.knows new.knows
+
 -- an answer is this call's mark, last in what was seen and in what is its own; a cut adds none of its own
 abbrev pub EndsWith : Outcome → Who → ℕ → Call → Seen → Seen → Type 0
 EndsWith (Replied answer) who now call old new =
     (before : List Mark) × (new.seen ≡ Took who now call answer ∷ before) × (new.mine ≡ Took who now call answer ∷ old.mine)
 EndsWith Cut who now call old new = new.mine ≡ old.mine
 
--- one call of a session
-pub record SessionCallKeeps (g : Geometry) (image : Contents) (tree : Tree) (old : Seen) (who : Who) (now : ℕ) (call : Call) (outcome : Outcome) (new : Seen) : Type 0 where
-  pub learns : LearnsMore old new
-  pub session : who.session ≡ old.number
-  pub ends : EndsWith outcome who now call old new
-  pub legal : HasTrueReplies image new.seen → IsLegal g image tree new.seen
+-- one call of a session, made by its user and group
+pub record SessionCallKeeps (g : Geometry) (image : Contents) (tree : Tree) (old : SessionState) (who : Who) (now : ℕ) (call : Call) (outcome : Outcome) (new : SessionState) : Type 0 where
+  pub goes_on : SessionGoesOn old new
+  pub caller : who ≡ caller_of old
+  pub ends : EndsWith outcome who now call old.knows new.knows
+  pub legal : HasTrueReplies image new.knows.seen → IsLegal g image tree new.knows.seen
 
 -- the longer of two records, which begins with the other
 abbrev pub IsLonger : List Mark → List Mark → List Mark → Type 0
 IsLonger longer a b = ((longer ≡ a) × IsBeginning b a) ⊎ ((longer ≡ b) × IsBeginning a b)
 
 -- two sessions of one service meet: both have then seen the longer of their records, and neither makes a mark
-pub record MeetKeeps (a b newer_a newer_b : Seen) : Type 0 where
-  pub first : LearnsMore a newer_a
-  pub second : LearnsMore b newer_b
-  pub same : newer_a.seen ≡ newer_b.seen
-  pub longer : IsLonger newer_a.seen a.seen b.seen
-  pub first_own : newer_a.mine ≡ a.mine
-  pub second_own : newer_b.mine ≡ b.mine
+pub record MeetKeeps (a b newer_a newer_b : SessionState) : Type 0 where
+  pub first : SessionGoesOn a newer_a
+  pub second : SessionGoesOn b newer_b
+  pub same : newer_a.knows.seen ≡ newer_b.knows.seen
+  pub longer : IsLonger newer_a.knows.seen a.knows.seen b.knows.seen
+  pub first_own : newer_a.knows.mine ≡ a.knows.mine
+  pub second_own : newer_b.knows.mine ≡ b.knows.mine
 
 -- whether a call was taken after the device was given up
 abbrev pub went_on : List Mark → Bool
@@ -84,8 +112,8 @@ went_on (Took who now call answer ∷ marks) = gave_up marks || went_on marks
 went_on (_ ∷ marks) = went_on marks
 
 -- A session asks whether the device was given up. Yes only where it has then seen so, and yes where it had seen a call taken after it.
-pub record DeviceKeeps (old : Seen) (given_up : Bool) (new : Seen) : Type 0 where
-  pub learns : LearnsMore old new
-  pub own : new.mine ≡ old.mine
-  pub only : given_up ≡ true → gave_up new.seen ≡ true
-  pub always : went_on old.seen ≡ true → given_up ≡ true
+pub record DeviceKeeps (old : SessionState) (given_up : Bool) (new : SessionState) : Type 0 where
+  pub goes_on : SessionGoesOn old new
+  pub own : new.knows.mine ≡ old.knows.mine
+  pub only : given_up ≡ true → gave_up new.knows.seen ≡ true
+  pub always : went_on old.knows.seen ≡ true → given_up ≡ true

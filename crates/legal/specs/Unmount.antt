@@ -18,16 +18,20 @@ pub data Unmounting : Type 0 where
 abbrev pub unmounting_of : Bool → Bool → Bool → Unmounting
 unmounting_of ended given_up is_busy = if ended then LinkEnded else if given_up then Eio else if is_busy then Busy else Unmounted
 
--- Unmounting syncs: where it is done, over true replies, the disk alone holds the tree. Where a file is open nothing is done.
+-- Unmounting syncs: where it is done, over true replies, the disk alone holds the tree. Where a file is open, the device was given up or a
+-- take gave End before it, nothing is done.
 pub record UnmountKeeps (old : Serving) (result : Unmounting) (new : Serving) : Type 0 where
   pub acts : List Act
   pub leads : Leads old acts new
   pub none_absorbed : has_absorbed acts ≡ false
   pub same_files : new.is_busy ≡ old.is_busy
   pub busy : old.is_busy ≡ true → acts ≡ []
+  pub after_end : old.ended ≡ true → acts ≡ []
   pub rules : (image : Contents) (tree : Tree) (marks : List Mark) → old.Agrees image tree marks → Rules old acts new marks
   pub is : (image : Contents) (tree : Tree) (marks : List Mark) → old.Agrees image tree marks
       → result ≡ unmounting_of new.ended (gave_up (marks_after acts marks)) old.is_busy
+  pub after_giving_up : (image : Contents) (tree : Tree) (marks : List Mark) → old.Agrees image tree marks
+      → gave_up marks ≡ true → acts ≡ []
   pub serves : (image : Contents) (tree : Tree) (marks : List Mark) → Serves old image tree marks
       → Serves new image tree (marks_after acts marks)
   pub synced : (image : Contents) (tree : Tree) (marks : List Mark) → Serves old image tree marks → result ≡ Unmounted

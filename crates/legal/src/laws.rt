@@ -2,10 +2,11 @@
 
 ghost use Rattle.std.specs.Prelude.{List};
 ghost use Rattle.layout.specs.declared.Geometry.{Geometry};
+ghost use Rattle.tree.specs.Tree.{Tree};
 ghost use Rattle.marks.specs.Marks.{Mark};
 ghost use Rattle.marks.specs.Disk.{Contents};
 ghost use Rattle.legal.specs.Lives.{StillServes};
-ghost use Rattle.legal.specs.Laws.{BeginningsAreLegal, OnlyCallsMoveTree, GivenUpStays, NoMemoryLeaves, SyncedIsHeld, WithoutFrames, OwnCallsGrow, NewSessionIsSession};
+ghost use Rattle.legal.specs.Laws.{BeginningsAreLegal, OnlyCallsMoveTree, GivenUpStays, NoMemoryLeaves, SyncedIsHeld, WithoutFrames, OwnCallsGrow, OwnCallsAreByItsUser, NewSessionIsSession};
 
 use crate::Serve;
 
@@ -47,6 +48,11 @@ pub fn without_frames()
 /// A session's calls stay in the record, in their order.
 pub fn own_calls_grow()
     ensures { OwnCallsGrow }
+{}
+
+/// A session's own calls are all made by the user and group that it was made for.
+pub fn own_calls_are_by_its_user()
+    ensures { (g : Geometry) (image : Contents) (tree : Tree) → OwnCallsAreByItsUser g image tree }
 {}
 
 /// What always holds of a session holds when it is made.
