@@ -8,9 +8,12 @@ use Rattle.atomic_table.specs.Table.{State, Splits, Joins}
 use Rattle.atomic_table.proofs.Lists.{set_else, at_longer, at_last}
 use Rattle.marks.specs.Marks.{Mark, IsBeginning}
 use Rattle.legal.specs.Session.{calls_of, IsSession, IsNewSession, LearnsMore, MeetKeeps, IsLonger}
-use Rattle.board.specs.View.{View, session_of, nobody, is_used, without, other_of, caller_of, with_used, hosting, alone, guest_of, spending, telling, called, caller_after}
+use Rattle.board.specs.View.{View, session_of, nobody, is_used, without, other_of, new_caller, with_used, hosting, alone, guest_of, spending, telling, called, caller_after}
 use Rattle.board.specs.Rule.{BoardState, words_of, DeviceIs, KeepsRecord, HasNumber, Fits, Kept}
-use Rattle.board.specs.Steps.{SessionLearns, OwnsCalls, Meets, SessionsMeet, SessionIsNew}
+use Rattle.message.specs.declared.Incoming.{Incoming}
+use Rattle.message.specs.declared.Incoming.TheVariants as incoming
+use Rattle.board.specs.Words.{mark_of}
+use Rattle.board.specs.Steps.{SessionLearns, IsEvent, OwnsCalls, Meets, SessionsMeet, SessionIsNew}
 use Rattle.board.proofs.Records.{begins_self, begins_all, begins_with, begins_length, calls_none}
 use Rattle.board.proofs.Lists.{at_parted, at_joined, at_here, new_at, shift, shift_here, shift_else, is_number, used_here, used_more, used_rest, used_without, used_left}
 use Rattle.board.proofs.Moves.{Ruled, apart}
@@ -105,7 +108,7 @@ copies id v s k at =
 
 -- the seat of a new number
 fresh_number : (b : BoardState) (owner : ℕ → ℕ) (used : List ℕ) (id n m : ℕ) (v : View) → v.seen ≡ b.marks → n ≡ m → owner m ≡ id → is_used m used ≡ true
-    → HasNumber (numbered b owner used) id m (caller_of n v)
+    → HasNumber (numbered b owner used) id m (new_caller n v)
 fresh_number b owner used id n m v all same there in_use = record {
   owner = there;
   used = in_use;
@@ -115,7 +118,7 @@ fresh_number b owner used id n m v all same there in_use = record {
 }
 
 -- a further seat with a number
-pub gives : {S : Type 0} (id n : ℕ) (v : View) → v.keeps ≡ true → is_used n v.used ≡ false → Splits {S = S} Ruled id v (with_used n v) (caller_of n v)
+pub gives : {S : Type 0} (id n : ℕ) (v : View) → v.keeps ≡ true → is_used n v.used ≡ false → Splits {S = S} Ruled id v (with_used n v) (new_caller n v)
 gives id n v is fresh s k at =
     let b = k.board in
     let f = k.fits id v at in
@@ -126,16 +129,16 @@ gives id n v is fresh s k at =
     let free : (m : ℕ) → is_used m b.used ≡ true → Some n ≢ Some m = λ m h e.
         let same : n ≡ m = cc in
         let h' : is_used n v.used ≡ true = ap (λ (xs : List ℕ). is_used n xs) own.used ∙ (ap (λ (x : ℕ). is_used x b.used) same ∙ h) in cc in
-    let V : ℕ → View → Type 0 = λ i x. get_elem? (set s.views id (with_used n v) ++ caller_of n v ∷ []) i ≡ some x in
-    parted s.words s.views id (with_used n v) (caller_of n v) owner used k
+    let V : ℕ → View → Type 0 = λ i x. get_elem? (set s.views id (with_used n v) ++ new_caller n v ∷ []) i ≡ some x in
+    parted s.words s.views id (with_used n v) (new_caller n v) owner used k
         (λ m h. ⊎_elim
-            (λ e. (caller_of n v, subst (λ (i : ℕ). V i (caller_of n v)) (sym (shift_here (Some n) m new b.owner e))
-                (at_last (set s.views id (with_used n v)) (caller_of n v) new (length-set s.views id (with_used n v))), e))
+            (λ e. (new_caller n v, subst (λ (i : ℕ). V i (new_caller n v)) (sym (shift_here (Some n) m new b.owner e))
+                (at_last (set s.views id (with_used n v)) (new_caller n v) new (length-set s.views id (with_used n v))), e))
             (λ ne.
                 let o = k.held m (used_rest n m b.used ne h) in
                 let t = new_at (λ (x : View). x.number) s.views id (b.owner m) v (with_used n v) o.0 at refl o.1 in
                 (t.0, subst (λ (i : ℕ). V i t.0) (sym (shift_else (Some n) m new b.owner ne))
-                    (at_longer (set s.views id (with_used n v)) (caller_of n v ∷ []) (b.owner m) t.0 t.1), t.2 ∙ o.2))
+                    (at_longer (set s.views id (with_used n v)) (new_caller n v ∷ []) (b.owner m) t.0 t.1), t.2 ∙ o.2))
             (is_number (Some n) m))
         (λ j u e ne. kept_by b owner used j u (λ r. ne (((k.fits j u e).keeper r).seat ∙ sym own.seat))
             (λ m is h. (shift_else (Some n) m new b.owner (free m h), used_more n m b.used h)) (k.fits j u e))
@@ -306,7 +309,7 @@ tells id other v w none' s k at apart' at' =
         (nobody_fits b other)
 
 -- the session of a seat with a new number
-pub new_session : (n : ℕ) (v w : View) → w ≡ caller_of n v → SessionIsNew n w v.seen
+pub new_session : (n : ℕ) (v w : View) → w ≡ new_caller n v → SessionIsNew n w v.seen
 new_session n v w e = (
   ap (λ (x : View). x.number) e,
   ap (λ (x : View). x.seen) e,
@@ -322,11 +325,19 @@ caller_learns m v w u e beginning owns n is =
 
 -- the sessions of two seats that have met
 pub sessions_meet : (a b c d : View) → Meets a c → Meets b d → c.seen ≡ d.seen → IsLonger c.seen a.seen b.seen → SessionsMeet a b c d
-sessions_meet a b c d first second same longer m n is is' = record {
-  first = first.session m is;
-  second = second.session n is';
+sessions_meet a b c d first second same longer m n uid gid other_uid other_gid is is' = record {
+  first = record { user = refl; group = refl; learns = first.session m is };
+  second = record { user = refl; group = refl; learns = second.session n is' };
   same = same;
   longer = longer;
   first_own = ap (λ (x : View). x.mine) first.same;
   second_own = ap (λ (x : View). x.mine) second.same;
 }
+
+-- the mark of a message is counted, and no call
+pub message_is_event : (message : Incoming) → IsEvent (mark_of message)
+message_is_event (incoming.Reply a) = record { counts = refl; no_call = refl }
+message_is_event (incoming.Started e) = record { counts = refl; no_call = refl }
+message_is_event incoming.GaveUp = record { counts = refl; no_call = refl }
+message_is_event incoming.Flush = record { counts = refl; no_call = refl }
+message_is_event incoming.End = record { counts = refl; no_call = refl }

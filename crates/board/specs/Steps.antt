@@ -4,7 +4,7 @@ use Rattle.marks.specs.Marks.{Mark, Took, is_counted, gave_up, IsBeginning}
 use Rattle.legal.specs.Laws.{is_call}
 use Rattle.legal.specs.Session.{calls_of, tally_of, went_on, LearnsMore, IsNewSession, MeetKeeps, DeviceKeeps, IsLonger}
 use Rattle.atomic_table.specs.Table.{Me, Step}
-use Rattle.board.specs.View.{View, session_of, noted, called}
+use Rattle.board.specs.View.{View, session_of, session_for, noted, called}
 
 -- the session of the seat, if it has a number, has learnt more
 abbrev pub SessionLearns : View → View → Type 0
@@ -88,15 +88,16 @@ pub record Meets (v w : View) : Type 0 where
   pub whole : v.keeps ≡ true → w.seen ≡ v.seen
   pub session : SessionLearns v w
 
--- the sessions of two seats, if both have numbers, have met
+-- the sessions of two seats, if both have numbers, have met, whoever they were made for
 abbrev pub SessionsMeet : View → View → View → View → Type 0
 SessionsMeet a b newer_a newer_b =
-    (m n : ℕ) → a.number ≡ Some m → b.number ≡ Some n
-    → MeetKeeps (session_of m a) (session_of n b) (session_of m newer_a) (session_of n newer_b)
+    (m n uid gid other_uid other_gid : ℕ) → a.number ≡ Some m → b.number ≡ Some n
+    → MeetKeeps (session_for uid gid m a) (session_for other_uid other_gid n b) (session_for uid gid m newer_a) (session_for other_uid other_gid n newer_b)
 
 -- the session of the seat, if it has a number, has asked whether the device was given up
 abbrev pub SessionAsks : View → Bool → View → Type 0
-SessionAsks v given_up w = (n : ℕ) → v.number ≡ Some n → DeviceKeeps (session_of n v) given_up (session_of n w)
+SessionAsks v given_up w =
+    (n uid gid : ℕ) → v.number ≡ Some n → DeviceKeeps (session_for uid gid n v) given_up (session_for uid gid n w)
 
 -- the session of a new seat with this number is new, and has seen the whole record
 abbrev pub SessionIsNew : ℕ → View → List Mark → Type 0

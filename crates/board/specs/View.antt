@@ -3,7 +3,7 @@ use Rattle.std.specs.Prelude.{◌≡◌, ℕ, List, [], ◌∷◌, length, Bool,
 use Rattle.std.specs.List.{filter, list_any}
 use Rattle.atomic_table.specs.Seated.{TableId}
 use Rattle.marks.specs.Marks.{Mark}
-use Rattle.legal.specs.Session.{Seen}
+use Rattle.legal.specs.Session.{Seen, SessionState}
 
 -- What a seat knows. The record is a list of marks, newest first.
 pub record View : Type 0 where
@@ -35,6 +35,10 @@ pub record SeatState : Type 0 where
 abbrev pub session_of : ℕ → View → Seen
 session_of n v = record { number = n; place = v.place; seen = v.seen; mine = v.mine }
 
+-- the same session, made for this user and group
+abbrev pub session_for : ℕ → ℕ → ℕ → View → SessionState
+session_for uid gid n v = record { uid = uid; gid = gid; knows = session_of n v }
+
 -- a seat that was spent
 abbrev pub nobody : View
 nobody =
@@ -58,8 +62,8 @@ abbrev pub other_of : View → View
 other_of v = record nobody { seen = v.seen; generation = v.generation; pulse = v.pulse }
 
 -- a further seat with a number
-abbrev pub caller_of : ℕ → View → View
-caller_of n v = record (other_of v) { number = Some n; place = length v.seen }
+abbrev pub new_caller : ℕ → View → View
+new_caller n v = record (other_of v) { number = Some n; place = length v.seen }
 
 -- the record's seat after it gave a number out
 abbrev pub with_used : ℕ → View → View

@@ -1,11 +1,12 @@
 //! The board.
 
-ghost use Rattle.std.specs.Prelude.{◌≡◌, ℕ, ◌+◌, ◌*◌, ◌^◌, ◌≤◌, max, true, false, None, Some, IfOk, IsOk, IfSome, MatchOption};
-ghost use Rattle.marks.specs.Marks.{is_counted, gave_up, IsBeginning};
+ghost use Rattle.std.specs.Prelude.{◌≡◌, ◌≢◌, ℕ, ◌+◌, ◌*◌, ◌^◌, ◌≤◌, max, true, false, None, Some, IfOk, IsOk, IfSome, MatchOption};
+ghost use Rattle.tree.specs.Answers.{answer_of};
+ghost use Rattle.marks.specs.Marks.{Took, Issued, gave_up, IsBeginning};
 ghost use Rattle.legal.specs.Session.{tally_of, went_on, IsLonger};
-ghost use Rattle.board.specs.View.{opener, is_used, other_of, caller_of, with_used, hosting, alone, guest_of, noted, called, keeper_after, caller_after, spending, telling};
-ghost use Rattle.board.specs.Steps.{SessionLearns, SeesMore, IsEvent, IsCallOf, OwnsCalls, LearnsTold, Meets, SessionsMeet, SessionAsks, SessionIsNew};
-ghost use Rattle.board.specs.Words.{pulse_word, is_given_up};
+ghost use Rattle.board.specs.View.{opener, is_used, other_of, new_caller, with_used, hosting, alone, guest_of, noted, called, keeper_after, caller_after, spending, telling};
+ghost use Rattle.board.specs.Steps.{SessionLearns, SeesMore, IsCallOf, OwnsCalls, LearnsTold, Meets, SessionsMeet, SessionAsks, SessionIsNew};
+ghost use Rattle.board.specs.Words.{pulse_word, is_given_up, mark_of};
 
 use crate::mark::{NewMark, NewNumber};
 use crate::rule::{
@@ -14,9 +15,12 @@ use crate::rule::{
 };
 use crate::seat::{Knowledge, Seat};
 use atomic_table::Table;
+use endpoint::Endpoint;
+use message::{BlockRequest, Incoming};
 use std::alloc::{AllocError, Global};
 use std::marker::{Brand, Model};
 use std::mem;
+use tree::{Call, Reply, Who};
 
 const TALLY: usize = 0;
 
@@ -73,7 +77,7 @@ impl Board {
         requires number { IfSome number (λ n. (seat.old.view.keeps ≡ true) × (is_used n seat.old.view.used ≡ false)) }
         ensures made { IsOk result }
         ensures seat { (seat.new.table ≡ self.now) × MatchOption number (seat.new.view ≡ seat.old.view) (λ n. seat.new.view ≡ with_used n seat.old.view) }
-        ensures other { IfOk result (λ s. (s.table ≡ self.now) × MatchOption number (s.view ≡ other_of seat.old.view) (λ n. s.view ≡ caller_of n seat.old.view)) }
+        ensures other { IfOk result (λ s. (s.table ≡ self.now) × MatchOption number (s.view ≡ other_of seat.old.view) (λ n. s.view ≡ new_caller n seat.old.view)) }
         ensures session { IfOk result (λ s. IfSome number (λ n. SessionIsNew n s.view seat.old.view.seen)) }
     {
         match number {
@@ -181,48 +185,47 @@ impl Board {
             .fetch_max::<Beat>(&mut seat.inner, PULSE, word);
     }
 
-    /// Adds a counted mark to the record, which is no call.
-    pub fn note<C: NewMark>(&self, keeper: &mut Seat)
+    /// Adds the mark of a message to the record, with the record's seat. The tally grows by one.
+    pub fn note(&self, keeper: &mut Seat, message: &Incoming)
         requires table { keeper.old.table ≡ self.now }
         requires keeps { keeper.old.view.keeps ≡ true }
-        requires event { IsEvent C.mark }
+        requires message { message.now ≢ Incoming.End }
         ensures table { keeper.new.table ≡ self.now }
-        ensures seen { keeper.new.view ≡ noted C.mark keeper.old.view }
+        ensures seen { keeper.new.view ≡ noted (mark_of message.now) keeper.old.view }
     {
-        self.table
-            .shared
-            .fetch_add::<Note<C>>(&mut keeper.inner, TALLY, 1);
+        self.note_as::<Brand>(keeper, message);
     }
 
-    /// Adds a mark to the record that isn't counted. The tally stays.
-    pub fn note_uncounted<C: NewMark>(&self, keeper: &mut Seat)
+    /// Adds the issue of a request to this endpoint to the record, with the record's seat. It isn't counted: the tally stays.
+    pub fn issue(&self, keeper: &mut Seat, request: &BlockRequest, to: Endpoint)
         requires table { keeper.old.table ≡ self.now }
         requires keeps { keeper.old.view.keeps ≡ true }
-        requires uncounted { is_counted C.mark ≡ false }
         ensures table { keeper.new.table ≡ self.now }
-        ensures seen { keeper.new.view ≡ noted C.mark keeper.old.view }
+        ensures seen { keeper.new.view ≡ noted (Issued request.now to) keeper.old.view }
     {
-        self.table
-            .shared
-            .load::<Note<C>>(&mut keeper.inner, TALLY);
+        self.issue_as::<Brand>(keeper, request, to);
     }
 
-    /// Adds a call of the caller's session to the record. The caller has then seen the whole record, its call last.
-    pub fn count<C: NewMark>(&self, keeper: &mut Seat, caller: &mut Seat)
+    /// Adds a call of the caller's session, with its reply, to the record. The tally grows by one. The caller has then seen
+    /// the whole record, its call last. Once the record has a giving up, the device word is to be set before any call.
+    pub fn count(
+        &self,
+        keeper: &mut Seat,
+        caller: &mut Seat,
+        who: Who,
+        now: u32,
+        call: &Call,
+        reply: &Reply,
+    )
         requires keeper { (keeper.old.table ≡ self.now) × (keeper.old.view.keeps ≡ true) × (keeper.old.view.number ≡ None) }
-        requires caller { caller.old.table ≡ self.now }
-        requires call { IsCallOf caller.old.view.number C.mark }
-        requires living { gave_up keeper.old.view.seen ≡ true → keeper.old.view.given_up ≡ true }
-        ensures keeper { (keeper.new.table ≡ self.now) × (keeper.new.view ≡ keeper_after C.mark keeper.old.view caller.old.view) }
-        ensures caller { (caller.new.table ≡ self.now) × (caller.new.view ≡ caller_after C.mark keeper.old.view caller.old.view) }
+        requires caller { (caller.old.table ≡ self.now) × (caller.old.view.number ≡ Some who.session) }
+        requires told { gave_up keeper.old.view.seen ≡ true → keeper.old.view.given_up ≡ true }
+        ensures keeper { (keeper.new.table ≡ self.now) × (keeper.new.view ≡ keeper_after (Took who now call.now (answer_of reply.now)) keeper.old.view caller.old.view) }
+        ensures caller { (caller.new.table ≡ self.now) × (caller.new.view ≡ caller_after (Took who now call.now (answer_of reply.now)) keeper.old.view caller.old.view) }
         ensures beginning { IsBeginning caller.old.view.seen keeper.old.view.seen }
         ensures session { SessionLearns caller.old.view caller.new.view }
     {
-        let empty = self.copy(caller);
-        let guest = mem::replace(caller, empty);
-        self.host(keeper, guest);
-        self.take::<C>(keeper);
-        *caller = self.part(keeper);
+        self.count_as::<Brand>(keeper, caller, who, now, call, reply);
     }
 
     /// Both have then seen the longer of what the two had seen, which begins with the other.
@@ -253,7 +256,7 @@ impl Board {
         requires keeps { keeper.old.view.keeps ≡ true }
         requires free { is_used C.number keeper.old.view.used ≡ false }
         ensures keeper { (keeper.new.table ≡ self.now) × (keeper.new.view ≡ with_used C.number keeper.old.view) }
-        ensures caller { (result.table ≡ self.now) × (result.view ≡ caller_of C.number keeper.old.view) }
+        ensures caller { (result.table ≡ self.now) × (result.view ≡ new_caller C.number keeper.old.view) }
     {
         Seat {
             inner: self
@@ -270,11 +273,61 @@ impl Board {
         requires keeps { keeper.old.view.keeps ≡ true }
         requires free { is_used number keeper.old.view.used ≡ false }
         ensures keeper { (keeper.new.table ≡ self.now) × (keeper.new.view ≡ with_used number keeper.old.view) }
-        ensures caller { (result.table ≡ self.now) × (result.view ≡ caller_of number keeper.old.view) }
+        ensures caller { (result.table ≡ self.now) × (result.view ≡ new_caller number keeper.old.view) }
         ensures session { SessionIsNew number result.view keeper.old.view.seen }
     {
-        let _ = number;
         self.give::<C>(keeper)
+    }
+
+    // The caller picks the mark from the message that it hands over, and so below.
+    fn note_as<C: NewMark>(&self, keeper: &mut Seat, message: &Incoming)
+        requires is { C.mark ≡ mark_of message.now }
+        requires table { keeper.old.table ≡ self.now }
+        requires keeps { keeper.old.view.keeps ≡ true }
+        requires message { message.now ≢ Incoming.End }
+        ensures table { keeper.new.table ≡ self.now }
+        ensures seen { keeper.new.view ≡ noted C.mark keeper.old.view }
+    {
+        self.table
+            .shared
+            .fetch_add::<Note<C>>(&mut keeper.inner, TALLY, 1);
+    }
+
+    fn issue_as<C: NewMark>(&self, keeper: &mut Seat, request: &BlockRequest, to: Endpoint)
+        requires is { C.mark ≡ Issued request.now to }
+        requires table { keeper.old.table ≡ self.now }
+        requires keeps { keeper.old.view.keeps ≡ true }
+        ensures table { keeper.new.table ≡ self.now }
+        ensures seen { keeper.new.view ≡ noted C.mark keeper.old.view }
+    {
+        self.table
+            .shared
+            .load::<Note<C>>(&mut keeper.inner, TALLY);
+    }
+
+    fn count_as<C: NewMark>(
+        &self,
+        keeper: &mut Seat,
+        caller: &mut Seat,
+        who: Who,
+        now: u32,
+        call: &Call,
+        reply: &Reply,
+    )
+        requires is { C.mark ≡ Took who now call.now (answer_of reply.now) }
+        requires keeper { (keeper.old.table ≡ self.now) × (keeper.old.view.keeps ≡ true) × (keeper.old.view.number ≡ None) }
+        requires caller { (caller.old.table ≡ self.now) × (caller.old.view.number ≡ Some who.session) }
+        requires told { gave_up keeper.old.view.seen ≡ true → keeper.old.view.given_up ≡ true }
+        ensures keeper { (keeper.new.table ≡ self.now) × (keeper.new.view ≡ keeper_after C.mark keeper.old.view caller.old.view) }
+        ensures caller { (caller.new.table ≡ self.now) × (caller.new.view ≡ caller_after C.mark keeper.old.view caller.old.view) }
+        ensures beginning { IsBeginning caller.old.view.seen keeper.old.view.seen }
+        ensures session { SessionLearns caller.old.view caller.new.view }
+    {
+        let empty = self.copy(caller);
+        let guest = mem::replace(caller, empty);
+        self.host(keeper, guest);
+        self.take::<C>(keeper);
+        *caller = self.part(keeper);
     }
 
     fn host(&self, keeper: &mut Seat, caller: Seat)
@@ -292,7 +345,7 @@ impl Board {
         requires table { keeper.old.table ≡ self.now }
         requires keeps { keeper.old.view.keeps ≡ true }
         requires call { IsCallOf keeper.old.view.number C.mark }
-        requires living { gave_up keeper.old.view.seen ≡ true → keeper.old.view.given_up ≡ true }
+        requires told { gave_up keeper.old.view.seen ≡ true → keeper.old.view.given_up ≡ true }
         ensures table { keeper.new.table ≡ self.now }
         ensures seen { keeper.new.view ≡ called C.mark keeper.old.view }
         ensures told { IsBeginning keeper.old.view.told keeper.old.view.seen }

@@ -2,8 +2,7 @@
 //! device was given up, and the driver's pulse. No call waits.
 //!
 //! The record itself, a list of marks, is stored nowhere: it stands in the proofs, as what the record's seat has seen. Every
-//! other seat has seen a beginning of it. What a step adds to the record is named by the caller of the step, as the ghost
-//! member `mark` of a type parameter (`NewMark`), since no word holds it.
+//! other seat has seen a beginning of it. What a step adds to the record is told by the arguments of its call.
 #![tactic(auto)]
 
 mod board;
@@ -12,5 +11,4 @@ mod rule;
 mod seat;
 
 pub use board::{Board, Device};
-pub use mark::NewMark;
 pub use seat::{Knowledge, Seat};

@@ -2,7 +2,7 @@
 
 use std::marker::Brand;
 
-/// The mark that a step adds to the record. The caller of `note`, `note_uncounted` and `count` picks it, at `Brand`.
+/// The mark that a step adds to the record. `note`, `issue` and `count` pick it from what they are given.
 pub trait NewMark {
     ghost use Rattle.marks.specs.Marks.{Mark};
 

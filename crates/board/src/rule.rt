@@ -128,11 +128,11 @@ pub(crate) struct Give<C> {
 }
 
 impl<C: NewNumber> Split<Knowledge> for Give<C> {
-    ghost use Rattle.board.specs.View.{with_used, caller_of};
+    ghost use Rattle.board.specs.View.{with_used, new_caller};
 
     ghost left = { with_used C.number };
 
-    ghost right = { caller_of C.number };
+    ghost right = { new_caller C.number };
 }
 
 /// The guest of the record's seat gets a seat of its own.

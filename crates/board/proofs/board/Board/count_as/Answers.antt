@@ -3,7 +3,7 @@ use Rattle.marks.specs.Marks.{IsBeginning}
 use Rattle.board.specs.View.{View, SeatState, hosting, called, guest_of}
 use Rattle.board.specs.Steps.{OwnsCalls}
 use Rattle.board.proofs.Joins.{caller_learns}
-use Rattle.board.proofs.board.Board.count.Goals as goal
+use Rattle.board.proofs.board.Board.count_as.Goals as goal
 
 pub returns-clause-session : goal.returns-clause-session
 returns-clause-session g c =
