@@ -39,6 +39,10 @@ session_of n v = record { number = n; place = v.place; seen = v.seen; mine = v.m
 abbrev pub session_for : ℕ → ℕ → ℕ → View → SessionState
 session_for uid gid n v = record { uid = uid; gid = gid; knows = session_of n v }
 
+-- the seat is the record's seat of this board
+abbrev pub IsKeeper : TableId → SeatState → Type 0
+IsKeeper table s = (s.table ≡ table) × (s.view.keeps ≡ true) × (s.view.number ≡ None)
+
 -- a seat that was spent
 abbrev pub nobody : View
 nobody =

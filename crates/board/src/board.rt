@@ -4,7 +4,7 @@ ghost use Rattle.std.specs.Prelude.{◌≡◌, ◌≢◌, ℕ, ◌+◌, ◌*◌,
 ghost use Rattle.tree.specs.Answers.{answer_of};
 ghost use Rattle.marks.specs.Marks.{Took, Issued, gave_up, IsBeginning};
 ghost use Rattle.legal.specs.Session.{tally_of, went_on, IsLonger};
-ghost use Rattle.board.specs.View.{opener, is_used, other_of, new_caller, with_used, hosting, alone, guest_of, noted, called, keeper_after, caller_after, spending, telling};
+ghost use Rattle.board.specs.View.{opener, is_used, other_of, new_caller, with_used, hosting, alone, guest_of, IsKeeper, noted, called, keeper_after, caller_after, spending, telling};
 ghost use Rattle.board.specs.Steps.{SessionLearns, SeesMore, IsCallOf, OwnsCalls, LearnsTold, Meets, SessionsMeet, SessionAsks, SessionIsNew};
 ghost use Rattle.board.specs.Words.{pulse_word, is_given_up, mark_of};
 
@@ -64,7 +64,7 @@ impl Model for Board {
 impl Board {
     /// A board whose record is empty, and the record's seat. It refuses where no memory was found.
     pub fn new(alloc: Global) -> Result<(Board, Seat), AllocError>
-        ensures { IfOk result (λ r. (r.1.table ≡ r.0) × (r.1.view ≡ opener)) }
+        ensures { IfOk result (λ r. IsKeeper r.0 r.1 × (r.1.view ≡ opener)) }
     {
         let (table, seat) = Table::of_words(alloc, &[0, 0, 0, 0], &())?;
         Ok((Board { table }, Seat { inner: seat }))
@@ -74,7 +74,7 @@ impl Board {
     /// yet; its session is new. It takes no memory, so it is never refused.
     pub fn split(&self, seat: &mut Seat, number: Option<u8>) -> Result<Seat, AllocError>
         requires table { seat.old.table ≡ self.now }
-        requires number { IfSome number (λ n. (seat.old.view.keeps ≡ true) × (is_used n seat.old.view.used ≡ false)) }
+        requires number { IfSome number (λ n. IsKeeper self.now seat.old × (is_used n seat.old.view.used ≡ false)) }
         ensures made { IsOk result }
         ensures seat { (seat.new.table ≡ self.now) × MatchOption number (seat.new.view ≡ seat.old.view) (λ n. seat.new.view ≡ with_used n seat.old.view) }
         ensures other { IfOk result (λ s. (s.table ≡ self.now) × MatchOption number (s.view ≡ other_of seat.old.view) (λ n. s.view ≡ new_caller n seat.old.view)) }
@@ -88,9 +88,10 @@ impl Board {
 
     /// Ends a seat, with the record's. Its number, if it has one, is no longer in use.
     pub fn spend(&self, keeper: &mut Seat, caller: Seat)
-        requires keeper { (keeper.old.table ≡ self.now) × (keeper.old.view.keeps ≡ true) }
+        requires keeper { IsKeeper self.now keeper.old }
         requires caller { caller.table ≡ self.now }
-        ensures { (keeper.new.table ≡ self.now) × (keeper.new.view ≡ spending keeper.old.view caller.view) }
+        ensures keeper { IsKeeper self.now keeper.new }
+        ensures seen { keeper.new.view ≡ spending keeper.old.view caller.view }
     {
         let Seat { inner } = caller;
         self.table
@@ -147,10 +148,9 @@ impl Board {
 
     /// Sets the device word, with the record's seat, once the record has the giving up.
     pub fn give_up(&self, keeper: &mut Seat)
-        requires table { keeper.old.table ≡ self.now }
-        requires keeps { keeper.old.view.keeps ≡ true }
+        requires keeper { IsKeeper self.now keeper.old }
         requires ended { gave_up keeper.old.view.seen ≡ true }
-        ensures table { keeper.new.table ≡ self.now }
+        ensures keeper { IsKeeper self.now keeper.new }
         ensures seen { keeper.new.view ≡ record keeper.old.view { given_up = true } }
     {
         self.table
@@ -187,10 +187,9 @@ impl Board {
 
     /// Adds the mark of a message to the record, with the record's seat. The tally grows by one.
     pub fn note(&self, keeper: &mut Seat, message: &Incoming)
-        requires table { keeper.old.table ≡ self.now }
-        requires keeps { keeper.old.view.keeps ≡ true }
+        requires keeper { IsKeeper self.now keeper.old }
         requires message { message.now ≢ Incoming.End }
-        ensures table { keeper.new.table ≡ self.now }
+        ensures keeper { IsKeeper self.now keeper.new }
         ensures seen { keeper.new.view ≡ noted (mark_of message.now) keeper.old.view }
     {
         self.note_as::<Brand>(keeper, message);
@@ -198,9 +197,8 @@ impl Board {
 
     /// Adds the issue of a request to this endpoint to the record, with the record's seat. It isn't counted: the tally stays.
     pub fn issue(&self, keeper: &mut Seat, request: &BlockRequest, to: Endpoint)
-        requires table { keeper.old.table ≡ self.now }
-        requires keeps { keeper.old.view.keeps ≡ true }
-        ensures table { keeper.new.table ≡ self.now }
+        requires keeper { IsKeeper self.now keeper.old }
+        ensures keeper { IsKeeper self.now keeper.new }
         ensures seen { keeper.new.view ≡ noted (Issued request.now to) keeper.old.view }
     {
         self.issue_as::<Brand>(keeper, request, to);
@@ -217,10 +215,11 @@ impl Board {
         call: &Call,
         reply: &Reply,
     )
-        requires keeper { (keeper.old.table ≡ self.now) × (keeper.old.view.keeps ≡ true) × (keeper.old.view.number ≡ None) }
+        requires keeper { IsKeeper self.now keeper.old }
         requires caller { (caller.old.table ≡ self.now) × (caller.old.view.number ≡ Some who.session) }
         requires told { gave_up keeper.old.view.seen ≡ true → keeper.old.view.given_up ≡ true }
-        ensures keeper { (keeper.new.table ≡ self.now) × (keeper.new.view ≡ keeper_after (Took who now call.now (answer_of reply.now)) keeper.old.view caller.old.view) }
+        ensures keeper { IsKeeper self.now keeper.new }
+        ensures seen { keeper.new.view ≡ keeper_after (Took who now call.now (answer_of reply.now)) keeper.old.view caller.old.view }
         ensures caller { (caller.new.table ≡ self.now) × (caller.new.view ≡ caller_after (Took who now call.now (answer_of reply.now)) keeper.old.view caller.old.view) }
         ensures beginning { IsBeginning caller.old.view.seen keeper.old.view.seen }
         ensures session { SessionLearns caller.old.view caller.new.view }
@@ -252,8 +251,7 @@ impl Board {
     }
 
     fn give<C: NewNumber>(&self, keeper: &mut Seat) -> Seat
-        requires table { keeper.old.table ≡ self.now }
-        requires keeps { keeper.old.view.keeps ≡ true }
+        requires keeper { IsKeeper self.now keeper.old }
         requires free { is_used C.number keeper.old.view.used ≡ false }
         ensures keeper { (keeper.new.table ≡ self.now) × (keeper.new.view ≡ with_used C.number keeper.old.view) }
         ensures caller { (result.table ≡ self.now) × (result.view ≡ new_caller C.number keeper.old.view) }
@@ -269,8 +267,7 @@ impl Board {
     // The caller picks the number from what it hands over.
     fn give_as<C: NewNumber>(&self, keeper: &mut Seat, number: u8) -> Seat
         requires is { number ≡ C.number }
-        requires table { keeper.old.table ≡ self.now }
-        requires keeps { keeper.old.view.keeps ≡ true }
+        requires keeper { IsKeeper self.now keeper.old }
         requires free { is_used number keeper.old.view.used ≡ false }
         ensures keeper { (keeper.new.table ≡ self.now) × (keeper.new.view ≡ with_used number keeper.old.view) }
         ensures caller { (result.table ≡ self.now) × (result.view ≡ new_caller number keeper.old.view) }
@@ -282,10 +279,9 @@ impl Board {
     // The caller picks the mark from the message that it hands over, and so below.
     fn note_as<C: NewMark>(&self, keeper: &mut Seat, message: &Incoming)
         requires is { C.mark ≡ mark_of message.now }
-        requires table { keeper.old.table ≡ self.now }
-        requires keeps { keeper.old.view.keeps ≡ true }
+        requires keeper { IsKeeper self.now keeper.old }
         requires message { message.now ≢ Incoming.End }
-        ensures table { keeper.new.table ≡ self.now }
+        ensures keeper { IsKeeper self.now keeper.new }
         ensures seen { keeper.new.view ≡ noted C.mark keeper.old.view }
     {
         self.table
@@ -295,9 +291,8 @@ impl Board {
 
     fn issue_as<C: NewMark>(&self, keeper: &mut Seat, request: &BlockRequest, to: Endpoint)
         requires is { C.mark ≡ Issued request.now to }
-        requires table { keeper.old.table ≡ self.now }
-        requires keeps { keeper.old.view.keeps ≡ true }
-        ensures table { keeper.new.table ≡ self.now }
+        requires keeper { IsKeeper self.now keeper.old }
+        ensures keeper { IsKeeper self.now keeper.new }
         ensures seen { keeper.new.view ≡ noted C.mark keeper.old.view }
     {
         self.table
@@ -315,7 +310,7 @@ impl Board {
         reply: &Reply,
     )
         requires is { C.mark ≡ Took who now call.now (answer_of reply.now) }
-        requires keeper { (keeper.old.table ≡ self.now) × (keeper.old.view.keeps ≡ true) × (keeper.old.view.number ≡ None) }
+        requires keeper { IsKeeper self.now keeper.old }
         requires caller { (caller.old.table ≡ self.now) × (caller.old.view.number ≡ Some who.session) }
         requires told { gave_up keeper.old.view.seen ≡ true → keeper.old.view.given_up ≡ true }
         ensures keeper { (keeper.new.table ≡ self.now) × (keeper.new.view ≡ keeper_after C.mark keeper.old.view caller.old.view) }
@@ -331,7 +326,7 @@ impl Board {
     }
 
     fn host(&self, keeper: &mut Seat, caller: Seat)
-        requires keeper { (keeper.old.table ≡ self.now) × (keeper.old.view.keeps ≡ true) × (keeper.old.view.number ≡ None) }
+        requires keeper { IsKeeper self.now keeper.old }
         requires caller { caller.table ≡ self.now }
         ensures { (keeper.new.table ≡ self.now) × (keeper.new.view ≡ hosting keeper.old.view caller.view) }
     {
@@ -342,8 +337,7 @@ impl Board {
     }
 
     fn take<C: NewMark>(&self, keeper: &mut Seat)
-        requires table { keeper.old.table ≡ self.now }
-        requires keeps { keeper.old.view.keeps ≡ true }
+        requires keeper { (keeper.old.table ≡ self.now) × (keeper.old.view.keeps ≡ true) }
         requires call { IsCallOf keeper.old.view.number C.mark }
         requires told { gave_up keeper.old.view.seen ≡ true → keeper.old.view.given_up ≡ true }
         ensures table { keeper.new.table ≡ self.now }

@@ -8,6 +8,6 @@ split_seat-requires g c =
     let n = g.C.NewNumber.number in (
       search rules,
       search rules,
-      gives _ n _ (ap (λ (s : SeatState). s.view.keeps) c.keeper.view_is ∙ c.requires.keeps)
+      gives _ n _ (ap (λ (s : SeatState). s.view.keeps) c.keeper.view_is ∙ c.requires.keeper.1)
           (ap (λ (s : SeatState). is_used n s.view.used) c.keeper.view_is ∙ c.requires.free),
     )

@@ -8,6 +8,6 @@ pub fetch_or-requires : goal.fetch_or-requires
 fetch_or-requires c = (
   search rules,
   search rules,
-  gives_up _ _ _ (ap (λ (s : SeatState). s.view.keeps) c.keeper.view_is ∙ c.requires.keeps)
+  gives_up _ _ _ (ap (λ (s : SeatState). s.view.keeps) c.keeper.view_is ∙ c.requires.keeper.1)
       (ap (λ (s : SeatState). gave_up s.view.seen) c.keeper.view_is ∙ c.requires.ended),
 )

@@ -8,6 +8,6 @@ pub load-requires : goal.load-requires
 load-requires g c = (
   search rules,
   search rules,
-  notes_uncounted _ _ _ g.C.NewMark.mark (ap (λ (s : SeatState). s.view.keeps) c.keeper.view_is ∙ c.requires.keeps)
+  notes_uncounted _ _ _ g.C.NewMark.mark (ap (λ (s : SeatState). s.view.keeps) c.keeper.view_is ∙ c.requires.keeper.1)
       (ap is_counted c.requires.is),
 )

@@ -11,6 +11,6 @@ pub fetch_add-requires : goal.fetch_add-requires
 fetch_add-requires g c = (
   search rules,
   search rules,
-  notes _ _ _ g.C.NewMark.mark (ap (λ (s : SeatState). s.view.keeps) c.keeper.view_is ∙ c.requires.keeps)
+  notes _ _ _ g.C.NewMark.mark (ap (λ (s : SeatState). s.view.keeps) c.keeper.view_is ∙ c.requires.keeper.1)
       (subst (λ (m : Mark). IsEvent m) (sym c.requires.is) (message_is_event c.args.message.now)),
 )
