@@ -9,3 +9,5 @@ mod errors;
 mod replies;
 #[cfg(test)]
 mod scripts;
+#[cfg(test)]
+mod status_words;
