@@ -3,3 +3,4 @@ pub mod Lists
 pub mod Moves
 pub mod Joins
 pub mod Steps
+pub mod RuleSays

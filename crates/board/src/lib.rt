@@ -6,6 +6,7 @@
 #![tactic(auto)]
 
 mod board;
+pub mod laws;
 mod mark;
 mod rule;
 mod seat;

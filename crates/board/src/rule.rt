@@ -1,4 +1,9 @@
 //! The rule of the four words, and what each step tells.
+//!
+//! A step is of one of five kinds: a fetch_add of the tally by the record's seat, alone or with a caller's joined into it
+//! (`Note`, `Take`); a load (`Look`, `Learn`, `Find`, `Feel`, `Ask`; `Note` of a mark that isn't counted; and each split and
+//! each join of seats); a fetch_max of the generation (`Start`); a fetch_max of the pulse (`Beat`); a fetch_or of the device
+//! word by the record's seat (`GiveUp`).
 
 use crate::mark::{NewMark, NewNumber};
 use crate::seat::Knowledge;
