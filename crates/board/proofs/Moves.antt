@@ -1,17 +1,17 @@
 -- Loads of the tally and marks added to the record keep the rule, and tell what they say.
-use Rattle.std.proofs.Common.{◌≡◌, ◌≢◌, ℕ, zero, suc, ◌+◌, ◌%◌, ◌^◌, ◌<◌, ◌≤◌, ◌⊎◌, Bool, true, false, List, [], ◌∷◌, ◌++◌, length, set, slice_index, slice_set, Option, Some, None, refl, ap, sym, ◌∙◌, subst, inl, inr, ⊎_elim, arith, zero-le}
+use Rattle.std.proofs.Common.{◌≡◌, ◌≢◌, ℕ, zero, suc, ◌+◌, ◌%◌, ◌^◌, ◌<◌, ◌≤◌, ◌⊎◌, true, false, List, [], ◌∷◌, length, set, slice_index, slice_set, Some, refl, ap, sym, ◌∙◌, subst, inl, inr, ⊎_elim, arith, zero-le}
 use Rattle.std.proofs.Math.Nat.{mod-add-mod}
 use mathlib.Core.Option.{some, none, some-injective, some-ne-none}
 use lib.ListN.{get_elem?}
-use Rattle.atomic_table.specs.Table.{State, Me, Step, Act, keeps, step, Allows}
+use Rattle.atomic_table.specs.Table.{State, Me, keeps, step, Allows}
 use Rattle.atomic_table.proofs.Lists.{at_set}
 use Rattle.marks.specs.Marks.{Mark, is_counted, counted, gave_up, IsBeginning}
 use Rattle.legal.specs.Laws.{is_call}
-use Rattle.legal.specs.Session.{calls_of, tally_of, went_on, IsSession}
-use Rattle.board.specs.View.{View, session_of, opener, is_used, noted, called}
+use Rattle.legal.specs.Session.{calls_of, tally_of, went_on}
+use Rattle.board.specs.View.{View, opener, is_used}
 use Rattle.board.specs.Rule.{BoardState, words_of, DeviceIs, KeepsRecord, HasNumber, Fits, Kept}
 use Rattle.board.specs.Steps.{SessionLearns, SeesMore, Looked, IsEvent, IsCallOf, OwnsCalls, Noted, Called}
-use Rattle.board.proofs.Records.{begins_self, begins_all, begins_with, begins_length, between, skips, no_later_call, uncounted_is_no_call, counts_one, counts_none, call_counts, call_is_own, call_is_no_other, gave_up_with, call_goes_on}
+use Rattle.board.proofs.Records.{begins_self, begins_with, begins_length, between, skips, no_later_call, uncounted_is_no_call, counts_one, counts_none, call_counts, call_is_own, call_is_no_other, gave_up_with, call_goes_on}
 use Rattle.board.proofs.Lists.{new_at}
 
 -- a board that keeps the rule, as the steps of a table see it
@@ -35,9 +35,9 @@ moved words words' views id v w k b owners uses at same eq device small others o
   small = small;
   fits = λ j u e.
       ⊎_elim
-          (λ t. let is : j ≡ id = t.0 in let wu : w ≡ u = t.1 in
-              subst (λ (x : View). Fits b j x) wu (subst (λ (i : ℕ). Fits b i w) (sym is) own))
-          (λ t. others j u t.1 t.0) (at_set views id j w u e);
+      (λ t. let is : j ≡ id = t.0 in let wu : w ≡ u = t.1 in
+      subst (λ (x : View). Fits b j x) wu (subst (λ (i : ℕ). Fits b i w) (sym is) own))
+      (λ t. others j u t.1 t.0) (at_set views id j w u e);
   held = λ n h.
       let o = k.held n (ap (is_used n) (sym uses) ∙ h) in
       let t = new_at (λ (x : View). x.number) views id (k.board.owner n) v w o.0 at same o.1 in
@@ -181,7 +181,7 @@ adds slots id f' me m mine is counts skip grows after s k sized at small =
       tt,
       moved s.words (slice_set s.words 0 (f' (slice_index s.words 0))) s.views id v w k new refl refl at refl
           (ap (λ (ws : List ℕ). slice_set ws 0 (f' (slice_index ws 0))) k.words_are
-              ∙ ap (λ (n : ℕ). n ∷ b.generation ∷ b.device ∷ b.pulse ∷ []) (counts b.marks))
+          ∙ ap (λ (n : ℕ). n ∷ b.generation ∷ b.device ∷ b.pulse ∷ []) (counts b.marks))
           record {
             bit = k.device.bit;
             only = λ h. gave_up_with m b.marks (k.device.only h);
@@ -190,8 +190,8 @@ adds slots id f' me m mine is counts skip grows after s k sized at small =
           }
           k.small
           (λ j u e ne. further b m j u (λ r. ne (((k.fits j u e).keeper r).seat ∙ sym own.seat))
-              (λ n is. skip n u.place b.marks (λ is'. ne (apart s.words s.views j id n u v k e at is is')))
-              (k.fits j u e))
+          (λ n is. skip n u.place b.marks (λ is'. ne (apart s.words s.views j id n u v k e at is is')))
+          (k.fits j u e))
           fit,
       (
         refl,
@@ -213,8 +213,8 @@ notes_by : {S : Type 0} (slots id a : ℕ) (f' : ℕ → ℕ) (me : Me S View) (
     → Allows {S = S} Ruled slots id me 0 f' (Noted m (step slots 0 a 0 none) me)
 notes_by {S = S} slots id a f' me m is plain counts =
     weaker slots id 0 f' me (Added m me.0.mine me) (Noted m (step slots 0 a 0 none) me) (λ n w t. (t.0, t.1, t.2))
-        (adds slots id f' me m me.0.mine is counts (λ n place marks ne. skips m plain n place marks)
-            (λ n marks e le own. own ∙ sym (skips m plain n me.0.place marks)) (λ marks h all. inl (sym (no_later_call m plain marks) ∙ h)))
+    (adds slots id f' me m me.0.mine is counts (λ n place marks ne. skips m plain n place marks)
+    (λ n marks e le own. own ∙ sym (skips m plain n me.0.place marks)) (λ marks h all. inl (sym (no_later_call m plain marks) ∙ h)))
 
 tally_one : (m : Mark) → is_counted m ≡ true → (marks : List Mark) → (tally_of marks + 1) % 2 ^ 64 ≡ tally_of (m ∷ marks)
 tally_one m is marks = mod-add-mod (counted marks) (2 ^ 64) 1 ∙ ap (λ (n : ℕ). n % 2 ^ 64) (sym (counts_one m marks is))
@@ -236,9 +236,9 @@ pub calls : {S : Type 0} (slots id : ℕ) (me : Me S View) (m : Mark) → me.0.k
     → Allows {S = S} Ruled slots id me 0 (λ n. (n + 1) % 2 ^ 64) (Called m (step slots 0 1 0 none) me)
 calls slots id me m is call living =
     adds slots id (λ n. (n + 1) % 2 ^ 64) me m (m ∷ me.0.mine) is (tally_one m (call_counts m me.0.number call))
-        (λ n place marks ne. call_is_no_other m me.0.number call n place marks ne)
-        (λ n marks e le own. ap (λ (ms : List Mark). m ∷ ms) own ∙ sym (call_is_own m me.0.number call n me.0.place marks e le))
-        (λ marks h all. inr (living (ap gave_up all ∙ call_goes_on m me.0.number call marks h)))
+    (λ n place marks ne. call_is_no_other m me.0.number call n place marks ne)
+    (λ n marks e le own. ap (λ (ms : List Mark). m ∷ ms) own ∙ sym (call_is_own m me.0.number call n me.0.place marks e le))
+    (λ marks h all. inr (living (ap gave_up all ∙ call_goes_on m me.0.number call marks h)))
 
 -- the rule at the start
 pub starts : Kept (0 ∷ 0 ∷ 0 ∷ 0 ∷ []) (opener ∷ [])
@@ -255,12 +255,12 @@ starts = record {
         → Fits (record { keeper = 0; owner = λ n. 0; marks = []; used = []; given_up = false; generation = 0; device = 0; pulse = 0 }) id v
     starts_fits zero v e =
         subst (λ (x : View). Fits (record { keeper = 0; owner = λ n. 0; marks = []; used = []; given_up = false; generation = 0; device = 0; pulse = 0 }) 0 x)
-            (some-injective opener v e) record {
-              seen = begins_self [];
-              told = begins_self [];
-              keeper = λ r. record { seat = refl; all = refl; used = refl; given_up = refl };
-              number = λ n is. absurd cc;
-              generation = zero-le;
-              pulse = zero-le;
-            }
+        (some-injective opener v e) record {
+          seen = begins_self [];
+          told = begins_self [];
+          keeper = λ r. record { seat = refl; all = refl; used = refl; given_up = refl };
+          number = λ n is. absurd cc;
+          generation = zero-le;
+          pulse = zero-le;
+        }
     starts_fits (suc i) v e = absurd (some-ne-none v (sym e))

@@ -1,5 +1,5 @@
 -- Beginnings of records, and what a mark more says of them.
-use Rattle.std.proofs.Common.{◌≡◌, ◌≢◌, ◌⊎◌, ℕ, ◌+◌, ◌≤◌, List, [], ◌∷◌, ◌++◌, length, Bool, true, false, ◌&&◌, ◌||◌, ◌==◌, not, nat_le, if◌then◌else◌, Option, Some, None, refl, ap, sym, ◌∙◌, subst, inl, inr, ⊎_elim, arith, append_assoc, eq-eqb, ne_eqb}
+use Rattle.std.proofs.Common.{◌≡◌, ◌≢◌, ◌⊎◌, ℕ, ◌+◌, ◌≤◌, List, [], ◌∷◌, ◌++◌, length, Bool, true, false, ◌&&◌, ◌||◌, ◌==◌, nat_le, if◌then◌else◌, Option, Some, refl, ap, sym, ◌∙◌, subst, inl, inr, ⊎_elim, arith, append_assoc, eq-eqb, ne_eqb}
 use Rattle.std.proofs.lemmas.List.{append-nil, length-append}
 use Rattle.std.proofs.lemmas.Bool.Decides.{nat_tests}
 use Rattle.marks.specs.Marks.{Mark, Started, Answered, Flush, GaveUp, Took, Issued, Fault, is_counted, counted, gave_up, IsBeginning}
@@ -63,8 +63,8 @@ pub between : (n place : ℕ) (mine a b c : List Mark) → IsBeginning a b → I
     → mine ≡ calls_of n place b
 between n place mine a b c h k here there =
     begins_both mine (calls_of n place b)
-        (subst (λ (ms : List Mark). IsBeginning ms (calls_of n place b)) (sym here) (calls_begin n place a b h))
-        (subst (λ (ms : List Mark). IsBeginning (calls_of n place b) ms) (sym there) (calls_begin n place b c k))
+    (subst (λ (ms : List Mark). IsBeginning ms (calls_of n place b)) (sym here) (calls_begin n place a b h))
+    (subst (λ (ms : List Mark). IsBeginning (calls_of n place b) ms) (sym there) (calls_begin n place b c k))
 
 pub skips : (m : Mark) → is_call m ≡ false → (n place : ℕ) (marks : List Mark) → calls_of n place (m ∷ marks) ≡ calls_of n place marks
 skips (Started e) plain n place marks = refl
@@ -203,7 +203,7 @@ before_place n place (Took who now call answer ∷ later) marks le =
     let l = length-append later marks in
     let out : nat_le place (length (later ++ marks)) ≡ false = grind (arith, nat_tests) in
     ap (λ (b : Bool). if (who.session == n) && b then Took who now call answer ∷ calls_of n place (later ++ marks) else calls_of n place (later ++ marks)) out
-        ∙ (neither (who.session == n) (Took who now call answer) (calls_of n place (later ++ marks)) ∙ before_place n place later marks (omega arith))
+    ∙ (neither (who.session == n) (Took who now call answer) (calls_of n place (later ++ marks)) ∙ before_place n place later marks (omega arith))
   where
     neither : (b : Bool) (m : Mark) (rest : List Mark) → (if b && false then m ∷ rest else rest) ≡ rest
     neither true m rest = refl
@@ -215,4 +215,4 @@ before_place n place (Fault e cause ∷ later) marks le = before_place n place l
 pub calls_none : (n : ℕ) (marks : List Mark) → calls_of n (length marks) marks ≡ []
 calls_none n marks =
     ap (λ (ms : List Mark). calls_of n (length marks) ms) (sym (append-nil marks))
-        ∙ before_place n (length marks) marks [] (omega arith)
+    ∙ before_place n (length marks) marks [] (omega arith)

@@ -1,10 +1,10 @@
 -- The rule, sentence by sentence.
-use Rattle.std.proofs.Common.{◌≡◌, ℕ, ◌≤◌, List, ◌∷◌, Option, Some, true, slice_index, refl, ap, sym, ◌∙◌, subst}
+use Rattle.std.proofs.Common.{◌≡◌, ℕ, ◌≤◌, List, slice_index, ap, sym, ◌∙◌, subst}
 use Rattle.marks.specs.Marks.{Mark, gave_up, IsBeginning}
-use Rattle.legal.specs.Session.{calls_of, tally_of, went_on, IsSession}
+use Rattle.legal.specs.Session.{calls_of, tally_of, IsSession}
 use Rattle.board.specs.View.{View, session_of, is_used}
-use Rattle.board.specs.Rule.{words_of, KeepsRecord, Kept}
-use Rattle.board.specs.Laws.{Knows, IsRecords, RecordSays, RuleSays, RuleSaysSo}
+use Rattle.board.specs.Rule.{words_of, Kept}
+use Rattle.board.specs.Laws.{Knows, IsRecords, RecordSays, RuleSaysSo}
 use Rattle.board.proofs.Records.{went_on_longer}
 use Rattle.board.proofs.Moves.{apart}
 

@@ -1,16 +1,16 @@
 -- The steps on the generation, the device word and the pulse, and what a seat learns of another, keep the rule and tell what they say.
-use Rattle.std.proofs.Common.{◌≡◌, ◌≢◌, ℕ, zero, suc, ◌+◌, ◌^◌, ◌<◌, ◌≤◌, ◌⊎◌, Bool, true, false, List, [], ◌∷◌, length, set, slice_index, slice_set, Option, Some, None, max, bit_or, refl, ap, sym, ◌∙◌, subst, inl, inr, ⊎_elim, arith, le_refl, zero-le, lt_of_not-le}
+use Rattle.std.proofs.Common.{◌≡◌, ℕ, zero, suc, ◌^◌, ◌<◌, ◌≤◌, true, List, [], ◌∷◌, length, set, slice_index, slice_set, max, bit_or, refl, ap, sym, ◌∙◌, subst, inl, inr, arith, le_refl, lt_of_not-le}
 use Rattle.std.proofs.Math.Nat.{le-max_left}
 use mathlib.Core.Option.{some, none}
 use native.Mathlib.Decide.{dec_le}
 use lib.ListN.{get_elem?}
-use Rattle.atomic_table.specs.Table.{State, Me, Step, Act, keeps, step, Allows}
+use Rattle.atomic_table.specs.Table.{State, Me, keeps, step, Allows}
 use Rattle.marks.specs.Marks.{Mark, gave_up, IsBeginning}
-use Rattle.legal.specs.Session.{tally_of, went_on, IsLonger}
+use Rattle.legal.specs.Session.{tally_of, IsLonger}
 use Rattle.board.specs.View.{View}
-use Rattle.board.specs.Rule.{BoardState, words_of, DeviceIs, KeepsRecord, HasNumber, Fits, Kept}
-use Rattle.board.specs.Steps.{SessionLearns, SeesMore, Found, Started, Felt, Beaten, Asked, GivenUp, LearnsTold, Learned}
-use Rattle.board.proofs.Records.{begins_self, begins_all, begins_length, begins_shorter, begins_both, between, went_on_longer}
+use Rattle.board.specs.Rule.{BoardState, DeviceIs, Fits, Kept}
+use Rattle.board.specs.Steps.{SessionLearns, Found, Started, Felt, Beaten, Asked, GivenUp, Learned}
+use Rattle.board.proofs.Records.{begins_self, begins_all, begins_length, begins_shorter, begins_both, went_on_longer}
 use Rattle.board.proofs.Moves.{Ruled, moved, risen, seen_more, session_learns, sees}
 
 -- what is so of a seat with another generation and another pulse
@@ -137,7 +137,7 @@ gives_up slots id me is ended s k sized at small =
       tt,
       moved s.words (slice_set s.words 2 (bit_or (slice_index s.words 2) 1)) s.views id v (record v { given_up = true }) k new refl refl at refl
           (ap (λ (ws : List ℕ). slice_set ws 2 (bit_or (slice_index ws 2) 1)) k.words_are
-              ∙ ap (λ (n : ℕ). tally_of b.marks ∷ b.generation ∷ n ∷ b.pulse ∷ []) (or_one b.device k.device.bit))
+          ∙ ap (λ (n : ℕ). tally_of b.marks ∷ b.generation ∷ n ∷ b.pulse ∷ []) (or_one b.device k.device.bit))
           record { bit = omega arith; only = λ h. ap gave_up (sym own.all) ∙ ended; stays = λ h. refl; after = λ h. refl }
           k.small
           (λ j u e ne. let g = k.fits j u e in record {
@@ -163,7 +163,7 @@ gives_up slots id me is ended s k sized at small =
 taken : {S : Type 0} (slots id : ℕ) (me : Me S View) (l : List Mark) (s : State S View) (k : Kept s.words s.views) → get_elem? s.views id ≡ some me.0
     → (me.0.keeps ≡ true → l ≡ k.board.marks) → IsLonger l me.0.seen me.0.told → IsBeginning me.0.seen l → IsBeginning l k.board.marks
     → (w : View) × Kept (slice_set s.words 0 (slice_index s.words 0)) (set s.views id w)
-        × Learned (step slots 0 0 0 none) me (slice_index s.words 0) (w, me.1)
+    × Learned (step slots 0 0 0 none) me (slice_index s.words 0) (w, me.1)
 taken slots id me l s k at all longer more less =
     let v : View = me.0 in
     let b = k.board in
@@ -199,12 +199,12 @@ learns {S = S} slots id me s k sized at small = let t = go (dec_le (length me.0.
 
     go : Dec (length me.0.seen ≤ length me.0.told)
         → (w : View) × Kept (slice_set s.words 0 (slice_index s.words 0)) (set s.views id w)
-            × Learned (step slots 0 0 0 none) me (slice_index s.words 0) (w, me.1)
+        × Learned (step slots 0 0 0 none) me (slice_index s.words 0) (w, me.1)
     go (yes d) =
         let p = begins_shorter me.0.seen me.0.told k.board.marks f.seen f.told d in
         taken slots id me me.0.told s k at
-            (λ r. begins_both me.0.told k.board.marks f.told (subst (λ (ms : List Mark). IsBeginning ms me.0.told) (f.keeper r).all p))
-            (inr (refl, p)) p f.told
+        (λ r. begins_both me.0.told k.board.marks f.told (subst (λ (ms : List Mark). IsBeginning ms me.0.told) (f.keeper r).all p))
+        (inr (refl, p)) p f.told
     go (no d) =
         let p = begins_shorter me.0.told me.0.seen k.board.marks f.told f.seen (let h = lt_of_not-le d in omega arith) in
         taken slots id me me.0.seen s k at (λ r. (f.keeper r).all) (inl (refl, p)) (begins_self me.0.seen) f.seen

@@ -257,10 +257,7 @@ impl Board {
         ensures caller { (result.table ≡ self.now) × (result.view ≡ new_caller C.number keeper.old.view) }
     {
         Seat {
-            inner: self
-                .table
-                .shared
-                .split_seat::<Give<C>>(&mut keeper.inner),
+            inner: self.table.shared.split_seat::<Give<C>>(&mut keeper.inner),
         }
     }
 
@@ -295,9 +292,7 @@ impl Board {
         ensures keeper { IsKeeper self.now keeper.new }
         ensures seen { keeper.new.view ≡ noted C.mark keeper.old.view }
     {
-        self.table
-            .shared
-            .load::<Note<C>>(&mut keeper.inner, TALLY);
+        self.table.shared.load::<Note<C>>(&mut keeper.inner, TALLY);
     }
 
     fn count_as<C: NewMark>(

@@ -14,5 +14,5 @@ returns-clause-session g c =
     let hosted : c.host.new.keeper.view ≡ hosting v w = c.host.ensures.1 ∙ ap (λ (s : SeatState). hosting v s.view) guest in
     let taken : c.take.new.keeper.view ≡ called m (hosting v w) = c.take.ensures.seen ∙ ap (called m) hosted in
     caller_learns m v w c.part.result.view (c.part.ensures.caller.1 ∙ ap guest_of taken)
-        (subst (λ (x : View). IsBeginning x.told x.seen) hosted c.take.ensures.told)
-        (subst (λ (x : View). OwnsCalls x) taken c.take.ensures.own)
+    (subst (λ (x : View). IsBeginning x.told x.seen) hosted c.take.ensures.told)
+    (subst (λ (x : View). OwnsCalls x) taken c.take.ensures.own)

@@ -17,7 +17,7 @@ met a b c d other same kept first e second =
 pub returns-clause-same : goal.returns-clause-same
 returns-clause-same c =
     (met c.inform.new.seat c.inform.new.other c.args.other.now c.args.seat.now c.inform-2.new.seat c.inform.ensures.seat c.inform-2.ensures.seat
-        c.inform.ensures.longer c.inform-2.new.other.view.seen c.inform-2.ensures.longer).0
+    c.inform.ensures.longer c.inform-2.new.other.view.seen c.inform-2.ensures.longer).0
 
 pub returns-clause-sessions : goal.returns-clause-sessions
 returns-clause-sessions c =
@@ -26,8 +26,8 @@ returns-clause-sessions c =
     let newer = c.inform-2.new.other.view in
     let newer_other = c.inform-2.new.seat.view in
     let both = met c.inform.new.seat c.inform.new.other c.args.other.now c.args.seat.now c.inform-2.new.seat c.inform.ensures.seat c.inform-2.ensures.seat
-        c.inform.ensures.longer newer.seen c.inform-2.ensures.longer in
+    c.inform.ensures.longer newer.seen c.inform-2.ensures.longer in
     sessions_meet seat other newer newer_other
-        (subst (λ (s : SeatState). Meets s.view newer) c.inform.ensures.seat c.inform-2.ensures.other)
-        (subst (λ (s : SeatState). Meets other s.view) (sym c.inform-2.ensures.seat) c.inform.ensures.other)
-        both.0 both.1
+    (subst (λ (s : SeatState). Meets s.view newer) c.inform.ensures.seat c.inform-2.ensures.other)
+    (subst (λ (s : SeatState). Meets other s.view) (sym c.inform-2.ensures.seat) c.inform.ensures.other)
+    both.0 both.1

@@ -2,7 +2,6 @@ use Rattle.std.proofs.Common.{rules, ap, sym, subst, ◌∙◌}
 use Rattle.marks.specs.Marks.{Mark}
 use Rattle.board.specs.View.{SeatState}
 use Rattle.board.specs.Steps.{IsEvent}
-use Rattle.board.specs.Words.{mark_of}
 use Rattle.board.proofs.Moves.{notes}
 use Rattle.board.proofs.Joins.{message_is_event}
 use Rattle.board.proofs.board.Board.note_as.Goals as goal

@@ -1,4 +1,4 @@
-use Rattle.std.proofs.Common.{rules, arith}
+use Rattle.std.proofs.Common.{rules}
 use Rattle.board.proofs.Steps.{starts_at}
 use Rattle.board.proofs.board.Board.started.Goals as goal
 
