@@ -22,7 +22,7 @@ pub record View : Type 0 where
   -- of the record's seat: the numbers in use, and whether the device word was set
   pub used : List ℕ
   pub given_up : Bool
-  -- the generation and the pulse that it wrote or read last
+  -- the greatest generation and the greatest pulse that it knows of
   pub generation : ℕ
   pub pulse : ℕ
 

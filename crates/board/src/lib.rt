@@ -12,4 +12,4 @@ mod rule;
 mod seat;
 
 pub use board::{Board, Device};
-pub use seat::{Knowledge, Seat};
+pub use seat::Seat;

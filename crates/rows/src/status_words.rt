@@ -6,6 +6,7 @@ use endpoint::Endpoint;
 use message::{BlockRequest, Incoming, Kind};
 use std::alloc::{AllocError, Global};
 use std::process::Abort;
+use std::thread::join;
 use tree::{Call, Reply, Who};
 
 /// The pulse after one beat.
@@ -24,6 +25,32 @@ fn old_beats_change_nothing(rt: HostRuntime) -> Result<(), AllocError> {
     assert_eq!(rt; beaten(&board, &mut seat, 1, 4), (1, 5));
     assert_eq!(rt; beaten(&board, &mut seat, 2, 0), (2, 0));
     assert_eq!(rt; beaten(&board, &mut seat, 1, 9), (2, 0));
+    Ok(())
+}
+
+/// One beat, with a seat that ends.
+fn beats_once(board: &Board, mut seat: Seat, generation: u32, count: u32)
+    requires { seat.table ≡ board.now }
+{
+    board.beat(&mut seat, generation, count);
+}
+
+#[test]
+fn seats_beat_in_two_threads(rt: HostRuntime) -> Result<(), AllocError> {
+    let (board, mut keeper) = Board::new(rt.alloc())?;
+    let old = board.split(&mut keeper, None)?;
+    let new = board.split(&mut keeper, None)?;
+    let words = &board;
+    let _ = join(
+        &rt,
+        move || -> ()
+            requires { old.table ≡ words.now }
+        { beats_once(words, old, 1, 9) },
+        move || -> ()
+            requires { new.table ≡ words.now }
+        { beats_once(words, new, 2, 0) },
+    );
+    assert_eq!(rt; board.pulse(&mut keeper), (2, 0));
     Ok(())
 }
 
