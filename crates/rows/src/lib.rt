@@ -13,3 +13,5 @@ mod replies;
 mod restarts;
 #[cfg(test)]
 mod scripts;
+#[cfg(test)]
+mod status_words;

@@ -1,0 +1,6 @@
+pub mod Records
+pub mod Lists
+pub mod Moves
+pub mod Joins
+pub mod Steps
+pub mod RuleSays

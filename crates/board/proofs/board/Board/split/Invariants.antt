@@ -1,0 +1,4 @@
+use Rattle.board.proofs.board.Board.split.Given as goal
+
+abbrev pub ghosts-give_as : goal.ghosts-give_as
+ghosts-give_as a = record { number = a.number }
