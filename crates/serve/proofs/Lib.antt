@@ -5,3 +5,4 @@ pub mod Opens
 pub mod NotesLaws
 pub mod LinkLaws
 pub mod ReadLaws
+pub mod ServerLaws

@@ -98,7 +98,7 @@ some_same : {b r : Begun} → Some b ≡ Some r → b ≡ r
 some_same e = cc
 
 -- where one request alone is pending, a ticket with a request is its ticket
-only_begun : (b : Begun) (ticket : ℕ) (pending : ℕ → Option Begun) → pending ≡ put (λ t. None) ticket (Some b)
+pub only_begun : (b : Begun) (ticket : ℕ) (pending : ℕ → Option Begun) → pending ≡ put (λ t. None) ticket (Some b)
     → (t : ℕ) (r : Begun) → pending t ≡ Some r → (t ≡ ticket) × (b ≡ r)
 only_begun b ticket pending is t r there = elim (put_cases (λ t. None) ticket (Some b) t) [
   | inl e ↦ (e.0, some_same (sym e.1 ∙ sym (ap (λ (f : ℕ → Option Begun). f t) is) ∙ there))
@@ -204,7 +204,7 @@ pub went_step : (minor : ℕ) (res : Settled) (s t u : Table) (before between af
     → Went minor s u before after was is
 went_step minor res s t u before between after was mid is r x busy quiet live =
     let then : (marks : List Mark) → Agrees s marks → AllOfMinor minor s.pending
-        → Then minor r.acts x.acts s t u marks (grown x.posts (received x.message (marks_after r.acts marks))) =
+    → Then minor r.acts x.acts s t u marks (grown x.posts (received x.message (marks_after r.acts marks))) =
     step_then minor res s t u before between after was mid is r x busy live in
     record {
       acts = x.acts ++ r.acts;
@@ -237,6 +237,7 @@ pub ends_read : (ask : Ask) (ticket n : ℕ) (bytes : List ℕ) (s t u : Table) 
     → Went ask.minor s t before between was mid → Steps (settled.Read n bytes) t u between after mid is
     → HasRoom u left → u.ids + 2 * budget ≤ 2 ^ 59
     → Reads (Ok bytes) ask.minor ask.position ask.count s u before after was is left budget
+unfolding went_step
 ends_read ask ticket n bytes s t u before between after was mid is left budget read pending live unended r x room numbers =
     let one = only_begun (begun_by ask) ticket (pending_of t.pending) pending n x.closes.0 x.closes.1 in
     let there : pending_of t.pending n ≡ Some (begun_by ask) = x.closes.1 ∙ ap (λ (b : Begun). Some b) (sym one.1) in
@@ -261,6 +262,7 @@ pub ends_given_up : (ask : Ask) (ticket : ℕ) (s t u : Table) (before between a
     → ask.kind ≡ Read → pending_of t.pending ≡ put (λ t. None) ticket (Some (begun_by ask)) → t.given_up ≡ false → took_end between ≡ false
     → Went ask.minor s t before between was mid → Steps settled.GaveUp t u between after mid is
     → Reads (Err GaveUp) ask.minor ask.position ask.count s u before after was is left budget
+unfolding went_step
 ends_given_up ask ticket s t u before between after was mid is left budget read pending live unended r x =
     let busy : IsBusy (pending_of t.pending) = record { ticket = ticket; request = begun_by ask; is = is_begun (begun_by ask) ticket (pending_of t.pending) pending } in
     record {
@@ -273,6 +275,7 @@ pub ends_ended : (ask : Ask) (ticket : ℕ) (s t u : Table) (before between afte
     → ask.kind ≡ Read → pending_of t.pending ≡ put (λ t. None) ticket (Some (begun_by ask)) → t.given_up ≡ false
     → Went ask.minor s t before between was mid → Steps settled.End t u between after mid is
     → Reads (Err Ended) ask.minor ask.position ask.count s u before after was is left budget
+unfolding went_step
 ends_ended ask ticket s t u before between after was mid is left budget read pending live r x =
     let busy : IsBusy (pending_of t.pending) = record { ticket = ticket; request = begun_by ask; is = is_begun (begun_by ask) ticket (pending_of t.pending) pending } in
     record {
