@@ -2,12 +2,18 @@
 #![tactic(auto)]
 
 #[cfg(test)]
+mod deaths;
+#[cfg(test)]
 mod drivers;
 #[cfg(test)]
 mod errors;
 #[cfg(test)]
 mod inodes;
 #[cfg(test)]
+mod plays;
+#[cfg(test)]
 mod replies;
 #[cfg(test)]
 mod scripts;
+#[cfg(test)]
+mod volumes;

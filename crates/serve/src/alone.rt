@@ -1,6 +1,6 @@
 //! A file server over the image of a volume, whose drivers it runs itself.
 
-ghost use Rattle.std.specs.Prelude.{◌≡◌, ◌≢◌, ◌↔◌, ◌⊎◌, ◌<◌, ◌/◌, ◌%◌, IfErr, None, [], All, Some, Ok, Err, IfOk, length, map, ℕ};
+ghost use Rattle.std.specs.Prelude.{◌≡◌, ◌≢◌, ◌/◌, IfErr, None, [], true, false, All, OnOk, Some, Ok, Err, IfOk, length, map, ℕ};
 ghost use Rattle.std.specs.Bool.{OnTrue};
 ghost use Rattle.std.specs.List.{list_all};
 ghost use Rattle.layout.specs.Places.{geometry_of};
@@ -9,12 +9,18 @@ ghost use Rattle.volume.specs.Pieces.{pieces};
 ghost use Rattle.volume.specs.Reading.{disk_of};
 ghost use Rattle.media.specs.Contents.{sectors_of};
 ghost use Rattle.bdev.specs.Promises.{IsDriver};
-ghost use Rattle.serve.specs.Refusals.{is_ready_for, refusal_in, whole_image, why_not_mounted, why_not_started};
+ghost use Rattle.serve.specs.Refusals.{is_ready_for, refusal_in, whole_image, why_no_media, why_not_supplied, why_not_mounted, why_not_started};
+ghost use Rattle.serve.specs.Reader.{Stands};
+ghost use Rattle.serve.specs.Server.{serving, guarantee_of, is_given_up};
+ghost use Rattle.marks.specs.Opening.{contents_at};
+ghost use Rattle.legal.specs.Legal.{IsAtFirst};
+ghost use Rattle.tree.specs.Tree.{Tree};
 
 use crate::inline::Inline;
 use crate::local::LocalDriver;
 use crate::refusal::{MountRefusal, StartRefusal};
-use layout::{Geometry, geometry_fits, u16_at};
+use crate::server::Server;
+use layout::{Geometry, u16_at};
 use media::{Media, MediaRefusal};
 use partition::Table;
 use reissue::link::Link;
@@ -34,11 +40,11 @@ const NO_ROOT: Finding = Finding {
 };
 
 /// The media that hold an image.
+#[tactic(auto, using(crate::proofs::Starts::many_sectors))]
 fn media_of(alloc: Global, image: &[u8]) -> Result<Media, StartRefusal>
-    ensures not_whole { (result ≡ Err (StartRefusal.Media MediaRefusal.NotWholeSectors)) ↔ (length image.now % 512 ≢ 0) }
-    ensures too_large { (result ≡ Err (StartRefusal.Media MediaRefusal.TooLarge)) ↔ ((length image.now % 512 ≡ 0) × (67108864 < length image.now)) }
-    ensures refusals { IfErr result (λ e. (e ≡ StartRefusal.OutOfMemory) ⊎ ((e ≡ StartRefusal.Media MediaRefusal.NotWholeSectors) ⊎ (e ≡ StartRefusal.Media MediaRefusal.TooLarge))) }
-    ensures ok { IfOk result (λ m. m ≡ record { sectors = sectors_of image.now; generation = 0 }) }
+    ensures refusal { IfErr result (λ e. e ≢ StartRefusal.OutOfMemory → why_no_media image.now ≡ Some e) }
+    ensures ok { IfOk result (λ m. (why_no_media image.now ≡ None) × (m ≡ record { sectors = sectors_of image.now; generation = 0 })) }
+    ensures sectors { IfOk result (λ m. length m.sectors ≡ length image.now / 512) }
 {
     match Media::from_bytes(alloc, image) {
         Ok(media) => Ok(media),
@@ -49,8 +55,8 @@ fn media_of(alloc: Global, image: &[u8]) -> Result<Media, StartRefusal>
 
 /// Whether each driver serves these sectors, and took nothing and didn't fail.
 fn are_ready<D: LocalDriver>(supply: &[D], range: Option<(u32, u32)>) -> bool
-    ensures value { result ≡ list_all (is_ready_for range) (map D.state supply.now) }
-    ensures drivers { OnTrue result (All IsDriver (map D.state supply.now)) }
+    ensures value { result ≡ list_all (λ d. is_ready_for range (D.state d)) supply.now }
+    ensures drivers { OnTrue result (All (λ d. IsDriver (D.state d)) supply.now) }
 {
     for driver in supply {
         if driver.ready_here(MINOR) != range {
@@ -60,15 +66,31 @@ fn are_ready<D: LocalDriver>(supply: &[D], range: Option<(u32, u32)>) -> bool
     true
 }
 
+/// Whether there are drivers, and each is ready for the whole of media of so many sectors.
+fn check_supply<D: LocalDriver>(supply: &[D], sectors: u32) -> Result<(), StartRefusal>
+    ensures refusal { IfErr result (λ e. why_not_supplied sectors (map D.state supply.now) ≡ Some e) }
+    ensures ready { OnOk result (list_all (λ d. is_ready_for (Some (0, sectors)) (D.state d)) supply.now ≡ true) }
+    ensures drivers { OnOk result (All (λ d. IsDriver (D.state d)) supply.now) }
+    ensures ok { OnOk result (why_not_supplied sectors (map D.state supply.now) ≡ None) }
+{
+    if !are_ready(supply, Table::whole(sectors).range(MINOR)) {
+        return Err(StartRefusal::BadSetup);
+    }
+    if supply.is_empty() {
+        return Err(StartRefusal::NoDriver);
+    }
+    Ok(())
+}
+
 /// Whether inode 1 is marked and is a directory.
+#[tactic(auto, using(crate::proofs::RootLaws::root_is, crate::proofs::RootLaws::root_within))]
 fn has_root(geometry: &Geometry, image: &[u8]) -> bool
     requires { geometry_of image.now ≡ Ok geometry.now }
     ensures { result ≡ is_directory_inode geometry.now (pieces geometry.now (disk_of geometry.now image.now)) 1 }
 {
-    geometry_fits();
     let block = geometry.block_size as usize;
     let table = (2 + geometry.inode_map_blocks + geometry.zone_map_blocks) as usize;
-    let is_marked = image[2 * block] & 2 != 0;
+    let is_marked = image[2 * block] / 2 % 2 == 1;
     is_marked && u16_at(image, table * block) >> 12 == DIRECTORY
 }
 
@@ -87,4 +109,47 @@ fn volume_in(image: &[u8]) -> Result<Geometry, MountRefusal>
         }
         Err(refusal) => Err(MountRefusal::Layout(refusal)),
     }
+}
+
+/// The link of a server over an image, and the volume's sizes.
+fn prepare<D: LocalDriver>(
+    alloc: Global,
+    image: &[u8],
+    supply: Vec<D>,
+) -> Result<(Inline<D>, Geometry), StartRefusal>
+    ensures refusal { result ≢ Err StartRefusal.OutOfMemory → refusal_in result ≡ why_not_started image.now (map D.state supply.items) }
+    ensures geometry { IfOk result (λ r. geometry_of image.now ≡ Ok r.1) }
+    ensures history { IfOk result (λ r. ⟦<Inline<D> as Link>⟧.history r.0 ≡ []) }
+    ensures budget { IfOk result (λ r. ⟦<Inline<D> as Link>⟧.budget_left r.0 ≡ 1099511627776) }
+    ensures truth { IfOk result (λ r. ⟦<Inline<D> as Link>⟧.truth r.0 (whole_image image.now) []) }
+{
+    let media = media_of(alloc, image)?;
+    check_supply(&supply, media.sectors())?;
+    let geometry = volume_in(image).map_err(StartRefusal::Mount)?;
+    let link = Inline::new(alloc, media, supply)?;
+    Ok((link, geometry))
+}
+
+/// A file server over the volume that fills an image, on minor 0 and from its first sector on: no partition table is read. The
+/// drivers are run by the server itself, in their order, each from the start that a message tells of.
+///
+/// It is refused where the image makes no media, where a driver isn't ready for all its sectors, where there is no driver, where
+/// the superblock is refused, and where inode 1 isn't marked or no directory, which is finding 4 at inode 1: the first of these
+/// that holds is answered. It may also be refused for want of memory, whatever else holds. `Partition` doesn't come.
+///
+/// That the rest of the image is a volume isn't looked at. Where it is one, the server stands on the tree that it holds.
+pub fn alone<D: LocalDriver>(
+    alloc: Global,
+    image: &[u8],
+    supply: Vec<D>,
+) -> Result<Server<Inline<D>>, StartRefusal>
+    ensures refusal { result ≢ Err StartRefusal.OutOfMemory → refusal_in result ≡ why_not_started image.now (map D.state supply.items) }
+    ensures geometry { IfOk result (λ s. geometry_of image.now ≡ Ok s.geometry) }
+    ensures minor { IfOk result (λ s. s.minor ≡ 0) }
+    ensures stands { IfOk result (λ s. (tree : Tree) → IsAtFirst s.geometry (contents_at (whole_image image.now)) tree
+        → Stands (serving s) (guarantee_of s) (whole_image image.now) tree []) }
+    ensures new { IfOk result (λ s. (s.ended ≡ false) × (is_given_up s ≡ false)) }
+{
+    let (link, geometry) = prepare(alloc, image, supply)?;
+    Ok(Server::open(alloc, link, MINOR, geometry)?)
 }
