@@ -2,8 +2,11 @@
 use Rattle.std.proofs.Common.{◌≡◌, ℕ, ◌+◌, ◌*◌, ◌<◌, ◌≤◌, List, [], ◌∷◌, ◌++◌, Bool, true, false, cond, refl, sym, ◌∙◌, ap, subst, inl, inr, arith, Option, Some, None}
 use Rattle.std.specs.Prelude.{slice_index, ◌||◌, ◌&&◌, is_some, IsTrue, codes}
 use Rattle.std.specs.Borrow.{Bor}
+use Rattle.errno.specs.declared.Errno.{Errno}
 use Rattle.errno.specs.declared.Errno.TheVariants.{EIO, EINVAL}
 use Rattle.layout.specs.declared.Geometry.{Geometry}
+use Rattle.layout.specs.Places.{IsGeometry}
+use Rattle.layout.proofs.Parsed.{block_sizes}
 use Rattle.message.specs.declared.Incoming.{Incoming}
 use Rattle.message.specs.declared.Incoming.TheVariants as incoming
 use Rattle.tree.specs.declared.Who.{Who}
@@ -28,14 +31,16 @@ use Rattle.marks.specs.Acts.{Act, Began, Absorbed, AtLink, told_of, has_absorbed
 use Rattle.marks.specs.Opening.{Opening, contents_at}
 use Rattle.legal.specs.Legal.{IsAtFirst, IsLegal, IsLegalTook, IsLegalCall, may_lack_memory, is_no_memory, tree_after, tree_after_answer}
 use Rattle.legal.specs.ServerCall.{Serving, HasTree, Serves, Leads, Rules, has_open_file, Outcome, Replied, Cut, CallKeeps}
+use Rattle.reissue.specs.declared.pending.Pending.{Pending}
 use Rattle.reissue.specs.declared.table.Table.{Table}
 use Rattle.reissue.specs.Agrees.{Agrees}
+use Rattle.reissue.specs.Entries.{AllOfMinor}
 use Rattle.reissue.specs.Calls.{Truth}
 use Rattle.reissue.proofs.TableRules.{at_rest}
 use Rattle.reissue.proofs.Taking.{agrees_took}
 use Rattle.serve.specs.Reader.{IsUnwritten, IsReader, reader, Stands}
 use Rattle.serve.specs.Reading.{Went, LeavesDisk, AreRead}
-use Rattle.serve.specs.Server.{Calls}
+use Rattle.serve.specs.Server.{Calls, StatsRoot, root_read}
 use Rattle.serve.proofs.ReadLaws.{true_before}
 
 -- an End in either
@@ -94,13 +99,13 @@ legal_acts g image tree (AtLink (Complained e) ∷ acts) marks h = legal_acts g 
 legal_acts g image tree (AtLink (Received m) ∷ acts) marks h = legal_received g image tree m (marks_after acts marks) (legal_acts g image tree acts marks h)
 
 -- false is not true
-false_is_true : false ≡ true → ⊥
+pub false_is_true : false ≡ true → ⊥
 false_is_true e = cc
 
 -- what is true isn't false
 not_both : (b : Bool) → IsTrue b → b ≡ false → ⊥
 not_both true t e = cc
-not_both false t e = absurd t
+not_both false t e = cc
 
 -- of no open files none is open
 none_open : some_below (λ k. is_some {T = OpenFile} None) most_open_files ≡ false
@@ -114,8 +119,8 @@ no_open_file tree closed = rw closed.open_files none_open
 -- over true replies the tree is there
 reader_has_tree : (g : Geometry) (minor : ℕ) (t : Table) (told : List Told) (ended : Bool) (image : Contents) (tree : Tree) (marks : List Mark)
     → IsReader g minor t image tree marks → HasTrueReplies image marks → HasTree (reader g minor t told ended) image tree marks
-reader_has_tree g minor t told ended image tree marks r true =
-    let u = r.unwritten true in
+reader_has_tree g minor t told ended image tree marks r replies =
+    let u = r.unwritten replies in
     let same : disk_after image marks ≡ image = λ i place. u.disk place i in
     record {
       reads_back = record {
@@ -132,9 +137,9 @@ reader_after : (g : Geometry) (minor : ℕ) (old new : Table) (before after : Li
 reader_after g minor old new before after was is image tree marks w r = record {
   table = (w.follows marks r.table r.minors).agrees;
   minors = w.minors r.minors;
-  unwritten = λ true.
-      let l = w.leaves image marks r.table r.minors true in
-      let u = r.unwritten (true_before w.acts image marks true) in
+  unwritten = λ replies.
+      let l = w.leaves image marks r.table r.minors replies in
+      let u = r.unwritten (true_before w.acts image marks replies) in
       record { disk = λ place. l.disk place ∙ u.disk place; sure = λ place. l.sure place (u.sure place) };
   at_first = r.at_first;
   unmoved = tree_acts g tree w.acts marks ∙ r.unmoved;
@@ -150,8 +155,8 @@ serves_after g minor old new before after was is o e image tree marks w s =
       agrees = r;
       well_formed = r.table.holds.well_formed;
       at_rest = at_rest new (marks_after w.acts marks) r.table;
-      legal = λ true. legal_acts g image tree w.acts marks (s.legal (true_before w.acts image marks true));
-      has_tree = λ true live not_given_up. reader_has_tree g minor new after e image tree (marks_after w.acts marks) r true;
+      legal = λ replies. legal_acts g image tree w.acts marks (s.legal (true_before w.acts image marks replies));
+      has_tree = λ replies live not_given_up. reader_has_tree g minor new after e image tree (marks_after w.acts marks) r replies;
     }
 
 -- An answer is right after these marks: it leaves the tree, and is legal over true replies.
@@ -176,7 +181,7 @@ serves_took g minor t told e image tree marks who now call answer right s =
     record {
       table = agrees_took t marks who now call answer r.table;
       minors = r.minors;
-      unwritten = λ true. let u = r.unwritten true in record { disk = u.disk; sure = u.sure };
+      unwritten = λ replies. let u = r.unwritten replies in record { disk = u.disk; sure = u.sure };
       at_first = r.at_first;
       unmoved = unmoved_took g (gave_up marks) tree (tree_after g tree marks) (tree_after_answer g (tree_after g tree marks) who now call answer) r.unmoved
           (λ live. ap (λ (x : Tree). tree_after_answer g x who now call answer) r.unmoved ∙ right.stays (up ∙ live));
@@ -185,12 +190,12 @@ serves_took g minor t told e image tree marks who now call answer right s =
       agrees = taken;
       well_formed = (s.well_formed, tt);
       at_rest = at_rest t (Took who now call answer ∷ marks) taken.table;
-      legal = λ true. (
-        s.legal true,
+      legal = λ replies. (
+        s.legal replies,
         subst (λ (x : Tree). IsLegalTook g image x marks (gave_up marks) who now call answer) (sym r.unmoved)
-            (subst (λ (b : Bool). IsLegalTook g image tree marks b who now call answer) up (right.legal true)),
+            (subst (λ (b : Bool). IsLegalTook g image tree marks b who now call answer) up (right.legal replies)),
       );
-      has_tree = λ true live not_given_up. reader_has_tree g minor t told e image tree (Took who now call answer ∷ marks) taken true;
+      has_tree = λ replies live not_given_up. reader_has_tree g minor t told e image tree (Took who now call answer ∷ marks) taken replies;
     }
 
 -- what its acts lead to
@@ -253,7 +258,7 @@ calls_cut g minor old new before after was is o e who now call w q ended =
         after_end = q.ended;
         serves = serves;
       };
-      truth = λ v tree marks same r k true. w.truth v marks same r.table r.minors k true;
+      truth = λ v tree marks same r k replies. w.truth v marks same r.table r.minors k replies;
       stands = λ v tree marks s.
           let k = w.truth v marks s.minor s.serves.agrees.table s.serves.agrees.minors s.truth s.true_replies in
           record { minor = s.minor; serves = serves (contents_at v) tree marks s.serves; truth = k.0; true_replies = k.1 };
@@ -271,10 +276,10 @@ calls_answered g minor old new before after was is o e who now call answer w q l
     let serves = λ (image : Contents) (tree : Tree) (marks : List Mark) (s : Serves (reader g minor old before o) image tree marks).
     serves_took g minor new after e image tree (marks_after w.acts marks) who now call answer (right image tree marks s.agrees)
     (serves_after g minor old new before after was is o e image tree marks w s) in
-    let truth = λ (v : Opening) (tree : Tree) (marks : List Mark) (same : v.minor ≡ minor) (r : IsReader g minor old (contents_at v) tree marks)
-    (k : was v marks) (true : HasTrueReplies (contents_at v) marks).
-    let t = w.truth v marks same r.table r.minors k true in
-    (noted v (marks_after w.acts marks) (Took who now call answer) tt t.0, t.1) in
+    let truth : (v : Opening) (tree : Tree) (marks : List Mark) → v.minor ≡ minor → IsReader g minor old (contents_at v) tree marks → was v marks
+        → HasTrueReplies (contents_at v) marks → is v (Took who now call answer ∷ marks_after w.acts marks) × HasTrueReplies (contents_at v) (marks_after w.acts marks) =
+    λ v tree marks same r k replies.
+        let t = w.truth v marks same r.table r.minors k replies in (noted v (marks_after w.acts marks) (Took who now call answer) tt t.0, t.1) in
     record {
       keeps = record {
         acts = w.acts;
@@ -299,15 +304,15 @@ calls_answered g minor old new before after was is o e who now call answer w q l
     }
 
 -- nothing was done
-pub went_none : (minor : ℕ) (t : Table) (told : List Told) (was : Truth) → Went minor t t told told was was
+abbrev pub went_none : (minor : ℕ) (t : Table) (told : List Told) (was : Truth) → Went minor t t told told was was
 went_none minor t told was = record {
   acts = [];
   told = refl;
   none_absorbed = refl;
   minors = λ m. m;
   follows = λ marks h m. record { keep = tt; owes = refl; agrees = h };
-  leaves = λ image marks h m true. record { disk = λ place. refl; sure = λ place sure. sure };
-  truth = λ v marks same h m k true. (k, true);
+  leaves = λ image marks h m replies. record { disk = λ place. refl; sure = λ place sure. sure };
+  truth = λ v marks same h m k replies. (k, replies);
 }
 
 -- nothing is done where none was
@@ -334,7 +339,7 @@ pub right_eio : (g : Geometry) (given_up : Bool) (image : Contents) (tree : Tree
     → given_up ≡ true → RightAnswer g given_up image tree marks who now call (refused EIO)
 right_eio g given_up image tree marks who now call e = record {
   stays = λ live. absurd (false_is_true (sym live ∙ e));
-  legal = λ true. subst (λ (b : Bool). IsLegalTook g image tree marks b who now call (refused EIO)) (sym e) refl;
+  legal = λ replies. subst (λ (b : Bool). IsLegalTook g image tree marks b who now call (refused EIO)) (sym e) refl;
 }
 
 -- an answer to a stat of the root that is the tree's is right before that
@@ -344,9 +349,9 @@ right_stat : (g : Geometry) (given_up : Bool) (image : Contents) (tree : Tree) (
     → RightAnswer g given_up image tree marks who now (Stat path) answer
 right_stat g given_up image tree marks who now path answer stays live reply = record {
   stays = λ e. stays_at (may_lack_memory g tree who now (Stat path) && is_no_memory answer) tree (tree_after_call g tree who now (Stat path)) stays;
-  legal = λ true.
+  legal = λ replies.
       let legal : IsLegalCall g image tree marks who now (Stat path) answer =
-      record { replies = inl (reply true); syncs = λ sync ok. absurd (false_is_true sync) } in
+      record { replies = inl (reply replies); syncs = λ sync ok. absurd (false_is_true sync) } in
       subst (λ (b : Bool). IsLegalTook g image tree marks b who now (Stat path) answer) (sym live) legal;
 }
 
@@ -361,7 +366,7 @@ pub right_einval : (g : Geometry) (minor : ℕ) (t : Table) (image : Contents) (
     → RightAnswer g t.given_up image tree marks who now (Stat path) (refused EINVAL)
 right_einval g minor t image tree marks who now path r live high =
     let root = root_of g minor t image tree marks r in
-    right_stat g t.given_up image tree marks who now path (refused EINVAL) (root.stays who now path) live (λ true. sym (root.refusal who now path high))
+    right_stat g t.given_up image tree marks who now path (refused EINVAL) (root.stays who now path) live (λ replies. sym (root.refusal who now path high))
 
 -- the bytes that were read tell of the root
 pub right_root : (g : Geometry) (minor : ℕ) (old new : Table) (before after : List Told) (was is : Truth) (image : Contents) (tree : Tree) (marks : List Mark)
@@ -374,10 +379,10 @@ right_root g minor old new before after was is image tree marks who now path byt
     let next = reader_after g minor old new before after was is image tree marks w r in
     right_stat g new.given_up image tree more who now path (node_is (attributes_in 1 (inode_in (slice_index bytes) 0)))
     ((root_of g minor old image tree marks r).stays who now path) live
-    (λ true.
-    let u = next.unwritten true in
+    (λ replies.
+    let u = next.unwritten replies in
     let root = root_reply g image tree r.at_first.holds (slice_index bytes)
-    (λ k lt. read.are_disk image true k (omega (arith, lt, enough)) (u.sure (root_place g + k)) ∙ u.disk (root_place g + k)) in
+    (λ k lt. read.are_disk image replies k (omega (arith, lt, enough)) (u.sure (root_place g + k)) ∙ u.disk (root_place g + k)) in
     sym (root.reply who now path slash low))
 
 -- two bytes that are the same
@@ -404,3 +409,110 @@ attributes_same n f h same =
       mtime = four 16 (omega arith) i;
       ctime = four 20 (omega arith) i;
     }
+
+-- a refusal is no node
+refused_node : (e : Errno) (a : Attributes) → refused e ≡ node_is a → ⊥
+refused_node e a h = cc
+
+-- two answers of a node that are one tell the same
+same_node : (a b : Attributes) → node_is a ≡ node_is b → a ≡ b
+same_node a b e = cc
+
+-- a stat that is cut
+pub stat_cut : (g : Geometry) (minor : ℕ) (old new : Table) (before after : List Told) (was is : Truth) (o e : Bool) (who : Who) (now : ℕ) (path : Bor (List ℕ))
+    (w : Went minor old new before after was is) → Quiet w.acts old before after o e → e ≡ true
+    → StatsRoot (reader g minor old before o) (reader g minor new after e) was is who now (Stat path) Cut
+stat_cut g minor old new before after was is o e who now path w q ended = record {
+  calls = calls_cut g minor old new before after was is o e who now (Stat path) w q ended;
+  read = λ image tree marks a r answered. absurd (cut_replied (node_is a) (sym answered));
+}
+
+-- a stat that is refused
+pub stat_refused : (g : Geometry) (minor : ℕ) (old new : Table) (before after : List Told) (was is : Truth) (o e : Bool) (who : Who) (now : ℕ) (path : Bor (List ℕ)) (error : Errno)
+    (w : Went minor old new before after was is) → Quiet w.acts old before after o e → e ≡ false
+    → (refused error ≡ refused EIO → new.given_up ≡ true) → (new.given_up ≡ true → refused error ≡ refused EIO)
+    → ((image : Contents) (tree : Tree) (marks : List Mark) → IsReader g minor old image tree marks
+    → RightAnswer g new.given_up image tree (marks_after w.acts marks) who now (Stat path) (refused error))
+    → ((v : Opening) (marks : List Mark) (m : Mark) → ChangesNothing m → is v marks → is v (m ∷ marks))
+    → StatsRoot (reader g minor old before o) (reader g minor new after e) was is who now (Stat path) (Replied (refused error))
+stat_refused g minor old new before after was is o e who now path error w q live only once right noted = record {
+  calls = calls_answered g minor old new before after was is o e who now (Stat path) (refused error) w q live only once right noted;
+  read = λ image tree marks a r answered. absurd (refused_node error a (same_reply (refused error) (node_is a) answered));
+}
+
+-- a stat that is answered by the bytes that were read
+pub stat_read : (g : Geometry) (minor : ℕ) (old new : Table) (before after : List Told) (was is : Truth) (o e : Bool) (who : Who) (now : ℕ) (path : Bor (List ℕ))
+    (bytes : List ℕ) (size : ℕ) (w : Went minor old new before after was is) → Quiet w.acts old before after o e → e ≡ false
+    → new.given_up ≡ false → path.now ≡ codes "/" → who.session < 64 → 64 ≤ size
+    → ((marks : List Mark) → Agrees old marks → AllOfMinor minor old.pending → AreRead (root_place g) size bytes (marks_after w.acts marks))
+    → ((v : Opening) (marks : List Mark) (m : Mark) → ChangesNothing m → is v marks → is v (m ∷ marks))
+    → StatsRoot (reader g minor old before o) (reader g minor new after e) was is who now (Stat path)
+    (Replied (node_is (attributes_in 1 (inode_in (slice_index bytes) 0))))
+unfolding calls_answered
+stat_read g minor old new before after was is o e who now path bytes size w q live alive slash low enough read noted =
+    let a = attributes_in 1 (inode_in (slice_index bytes) 0) in
+    record {
+      calls = calls_answered g minor old new before after was is o e who now (Stat path) (node_is a) w q live
+          (λ eio. absurd (refused_node EIO a (sym eio))) (λ given_up. absurd (false_is_true (sym alive ∙ given_up)))
+          (λ image tree marks r. right_root g minor old new before after was is image tree marks who now path bytes size w r alive slash low enough
+              (read marks r.table r.minors))
+          noted;
+      read = λ image tree marks b r answered.
+          sym (same_node a b (same_reply (node_is a) (node_is b) answered))
+          ∙ attributes_same 1 (slice_index bytes) (λ k. bytes_read (marks_after w.acts marks) (root_place g + k))
+              (λ k lt. (read marks r.table r.minors).joined k (omega (arith, lt, enough)));
+    }
+
+-- the same volume
+pub same_volume : (old : Serving) (g h : Geometry) (minor number : ℕ) (t : Table) (told : List Told) (e : Bool) (was is : Truth) (who : Who) (now : ℕ) (call : Call)
+    (outcome : Outcome) → h ≡ g → number ≡ minor → StatsRoot old (reader g minor t told e) was is who now call outcome
+    → StatsRoot old (reader h number t told e) was is who now call outcome
+same_volume old g h minor number t told e was is who now call outcome same_g same_minor x =
+    subst (λ (k : Geometry). StatsRoot old (reader k number t told e) was is who now call outcome) (sym same_g)
+    (subst (λ (n : ℕ). StatsRoot old (reader g n t told e) was is who now call outcome) (sym same_minor) x)
+
+-- what was just opened has of the empty record what it should
+reader_opened : (g : Geometry) (minor : ℕ) (t : Table) (image : Contents) (tree : Tree) → Agrees t [] → t.pending ≡ [] → IsAtFirst g image tree
+    → IsReader g minor t image tree []
+reader_opened g minor t image tree h none first = record {
+  table = h;
+  minors = subst (λ (ps : List Pending). AllOfMinor minor ps) (sym none) tt;
+  unwritten = λ replies. record { disk = λ place. refl; sure = λ place. refl };
+  at_first = first;
+  unmoved = refl;
+}
+
+-- and stands
+pub stands_opened : (g : Geometry) (minor : ℕ) (t : Table) (told : List Told) (guarantee : Truth) → Agrees t [] → t.pending ≡ []
+    → (v : Opening) (tree : Tree) → v.minor ≡ minor → IsAtFirst g (contents_at v) tree → guarantee v []
+    → Stands (reader g minor t told false) guarantee v tree []
+stands_opened g minor t told guarantee h none v tree same first truth =
+    let r = reader_opened g minor t (contents_at v) tree h none first in
+    record {
+      minor = same;
+      serves = record {
+        agrees = r;
+        well_formed = tt;
+        at_rest = at_rest t [] h;
+        legal = λ replies. tt;
+        has_tree = λ replies live not_given_up. reader_has_tree g minor t told false (contents_at v) tree [] r replies;
+      };
+      truth = truth;
+      true_replies = tt;
+    }
+
+-- a block holds an inode
+pub holds_inode : (g : Geometry) → IsGeometry g → 64 ≤ g.block_size
+holds_inode g sizes = elim (block_sizes g.block_size sizes.block_size) [
+  | inl e ↦ omega (arith, e)
+  | inr (inl e) ↦ omega (arith, e)
+  | inr (inr e) ↦ omega (arith, e)
+]
+
+-- these refusals are two
+pub einval_eio : refused EINVAL ≡ refused EIO → ⊥
+einval_eio e = let p : number_in (refused EINVAL) ≡ number_in (refused EIO) = ap number_in e in cc
+  where
+    number_in : Answer → ℕ
+    number_in (refused EINVAL) = 22
+    number_in _ = 0
