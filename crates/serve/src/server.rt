@@ -10,6 +10,7 @@ use crate::reading::{Stop, read_range};
 use errno::Errno;
 use inode::{attributes, decode_in};
 use layout::Geometry;
+use legal::Serve;
 use reissue::{Ask, Link, Transfers};
 use std::alloc::{AllocError, Global};
 use tree::{Call, MAX_SESSIONS, Outcome, Reply, Who};
@@ -135,4 +136,10 @@ impl<L: Link> Server<L> {
     {
         self.transfers.link()
     }
+}
+
+impl<L: Link> Serve for Server<L> {
+    ghost use Rattle.serve.specs.Server.{serving as as_seen};
+
+    ghost serving = { as_seen };
 }

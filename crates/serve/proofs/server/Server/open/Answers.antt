@@ -1,7 +1,12 @@
-use Rattle.std.proofs.Common.{◌≡◌, refl, sym, ◌∙◌, ap, subst, rules}
+use Rattle.std.proofs.Common.{◌≡◌, List, [], subst, sym}
+use Rattle.marks.specs.Opening.{Opening}
 use Rattle.reissue.specs.Transfers.{link_of, table_of}
 use Rattle.serve.proofs.ServerLaws.{stands_opened}
 use Rattle.serve.proofs.server.Server.open.Goals as goal
 
 pub returns-clause-stands : goal.returns-clause-stands
-returns-clause-stands g c = let h = c.in_ok-transfers in ?
+returns-clause-stands g c = λ v tree same first truth.
+    let t = c.in_ok-new.field-0 in
+    let e = c.in_ok-new.ensures in
+    let guarantee : g.L.Link.truth (link_of t) v [] = rw e.link truth in
+    stands_opened c.args.geometry c.args.minor (table_of t) (g.L.Link.history (link_of t)) (g.L.Link.truth (link_of t)) e.agrees e.pending v tree same first guarantee
