@@ -8,12 +8,14 @@ pub(crate) fn command<'a>(alloc: Global) -> Result<Command<'a>, AllocError> {
     let image = Arg::new(alloc, "IMAGE")
         .required(true)
         .help("The file of a MINIX 3 volume; it is read only");
-    let script = Arg::new(alloc, "SCRIPT")
-        .required(true)
-        .help("The file of a script: a line `user UID GID`, then a line `NOW stat /` for each call");
+    let script = Arg::new(alloc, "SCRIPT").required(true).help(
+        "The file of a script: a line `user UID GID`, then a line `NOW stat /` for each call",
+    );
     Command::new(alloc, "mfs")
         .version("0.1.0")
-        .about("Plays a script of client calls against a file server over the image of a volume, and prints the replies")
+        .about(
+            "Plays a script of client calls against a file server over the image of a volume, and prints the replies",
+        )
         .arg(image)?
         .arg(script)
 }

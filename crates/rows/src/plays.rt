@@ -23,7 +23,10 @@ fn the_root_is_told(rt: HostRuntime) -> Result<(), Fail> {
         let image = new_volume(alloc, block)?;
         let played = play_with(alloc, image.as_slice(), STAT, &[None])?;
         assert_eq!(rt; played.status, 0);
-        assert_eq!(rt; played.out.as_str(), format!(in alloc; "session 0\n{ROOT}")?.as_str());
+        assert_eq!(rt;
+            played.out.as_str(),
+            format!(in alloc; "session 0\n{ROOT}")?.as_str()
+        );
         assert_eq!(rt; played.err.as_str(), "");
     }
     Ok(())
@@ -69,7 +72,11 @@ fn images_are_refused_by_name(rt: HostRuntime) -> Result<(), Fail> {
     ];
     for (at, byte, line) in rows {
         let image = changed(alloc, at, byte)?;
-        is_refused(&rt, &play_with(alloc, image.as_slice(), STAT, &[None])?, line);
+        is_refused(
+            &rt,
+            &play_with(alloc, image.as_slice(), STAT, &[None])?,
+            line,
+        );
     }
     let image = new_volume(alloc, 1024)?;
     let cut = [
@@ -81,7 +88,11 @@ fn images_are_refused_by_name(rt: HostRuntime) -> Result<(), Fail> {
         let image = image.get(..length).unwrap_or(&[]);
         is_refused(&rt, &play_with(alloc, image, STAT, &[None])?, line);
     }
-    is_refused(&rt, &play_with(alloc, image.as_slice(), STAT, &[])?, "NoDriver\n");
+    is_refused(
+        &rt,
+        &play_with(alloc, image.as_slice(), STAT, &[])?,
+        "NoDriver\n",
+    );
     Ok(())
 }
 
@@ -141,7 +152,10 @@ fn a_writer_fails(rt: HostRuntime) -> Result<(), Fail> {
         };
         let status = play(alloc, image, script, supply, &mut out, &mut err);
         assert_eq!(rt; status.number(), 1);
-        assert_eq!(rt; err.as_slice(), b"cannot write standard output\n".as_slice());
+        assert_eq!(rt;
+            err.as_slice(),
+            b"cannot write standard output\n".as_slice()
+        );
         for (at, byte) in text.as_bytes().iter().take(70).enumerate() {
             let wrote = space.get(at) == Some(byte);
             assert!(rt; wrote == (at < room), "{at} of {room}");

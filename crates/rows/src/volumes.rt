@@ -7,8 +7,7 @@ use std::test::Fail;
 use tools::play::{File, play};
 
 /// The reply to `stat /` on a new volume.
-pub(crate) const ROOT: &str =
-    "inode 1 mode 0040755 links 2 uid 0 gid 0 size 128 times 50 50 50\n";
+pub(crate) const ROOT: &str = "inode 1 mode 0040755 links 2 uid 0 gid 0 size 128 times 50 50 50\n";
 
 /// Puts bytes at a place.
 fn put(image: &mut [u8], at: usize, bytes: &[u8]) {
@@ -32,16 +31,28 @@ pub(crate) fn new_volume(alloc: Global, block: usize) -> Result<Vec<u8>, AllocEr
         (2, [3, 0, 0, 0, 0xfe, 0xff, 0xff, 0xff]),
         (3, [3, 0, 0, 0, 0, 0, 0, last_bits]),
     ] {
-        put(image.as_mut_slice(), block.saturating_mul(map), filled.as_slice());
+        put(
+            image.as_mut_slice(),
+            block.saturating_mul(map),
+            filled.as_slice(),
+        );
         put(image.as_mut_slice(), block.saturating_mul(map), &bits);
     }
     let owner = [0xed, 0x41, 2, 0, 0, 0, 0, 0, 128, 0, 0, 0];
     let rest = [50, 0, 0, 0, 50, 0, 0, 0, 50, 0, 0, 0, first];
     put(image.as_mut_slice(), block.saturating_mul(4), &owner);
-    put(image.as_mut_slice(), block.saturating_mul(4).saturating_add(12), &rest);
+    put(
+        image.as_mut_slice(),
+        block.saturating_mul(4).saturating_add(12),
+        &rest,
+    );
     let root = block.saturating_mul(usize::from(first));
     put(image.as_mut_slice(), root, &[1, 0, 0, 0, b'.']);
-    put(image.as_mut_slice(), root.saturating_add(64), &[1, 0, 0, 0, b'.', b'.']);
+    put(
+        image.as_mut_slice(),
+        root.saturating_add(64),
+        &[1, 0, 0, 0, b'.', b'.'],
+    );
     Ok(image)
 }
 

@@ -1,5 +1,5 @@
 -- One call after others.
-use Rattle.std.proofs.Common.{◌≡◌, ℕ, List, [], ◌∷◌, ◌++◌, length, true, false, ◌||◌, refl, sym, ap, ◌∙◌, arith, length-append, if◌then◌else◌, rules, subst, Ok, All, Result}
+use Rattle.std.proofs.Common.{◌≡◌, ℕ, List, [], ◌∷◌, ◌++◌, length, true, false, ◌||◌, refl, sym, ap, ◌∙◌, arith, length-append, if◌then◌else◌, rules, subst, Ok, Err, Result}
 use Rattle.layout.specs.declared.Geometry.{Geometry}
 use Rattle.layout.specs.Places.{geometry_of}
 use Rattle.legal.specs.Legal.{IsLegal, IsAtFirst}
@@ -25,7 +25,7 @@ use Rattle.legal.specs.ServerCall.{Cut as IsCut}
 use Rattle.reissue.specs.Calls.{Truth}
 use Rattle.serve.specs.Reader.{Stands}
 use Rattle.serve.specs.Refusals.{whole_image}
-use Rattle.serve.specs.Server.{StatsRoot, outcome_of, Calls}
+use Rattle.serve.specs.Server.{outcome_of, Calls}
 use Rattle.tools.specs.Played.{root_path, calls_in, calls_made, some_cut, all_cut, cuts_last, caller, Plays, IsAnswered}
 
 -- messages, posts and complaints leave no call in the record
@@ -131,66 +131,60 @@ ended-more outcomes Cut before between after heard last was is cut = record {
 ended-more outcomes (Reply r) before between after heard last was is cut =
     let live : after ≡ false = not_true after (λ ended. not_cut (answer_of r) (cut.1 ended)) in
     let both = ended-reply outcomes r before between after heard was is live in
-    record { cuts = cuts_last-reply outcomes r both.1; ended = both.0; }
+    record { cuts = cuts_last-reply outcomes r both.1; ended = both.0 }
 
 -- what stood before the calls stands after one more
 stands-more : (old between new : Serving) (was mid is : Truth) (who : Who) (times : List ℕ) (outcomes : List Outcome) (now : ℕ) (outcome : Outcome)
-    (plays : Plays old between was mid who times outcomes) → StatsRoot between new mid is who now (outcome_of outcome)
+    (plays : Plays old between was mid who times outcomes) → Calls between new mid is who now (Stat root_path) (outcome_of outcome)
     → (v : Opening) (tree : Tree) (marks : List Mark) → Stands old was v tree marks
     → (later : List Mark) × Stands new is v tree later × (calls_in later ≡ calls_made who (times ++ now ∷ []) (outcomes ++ outcome ∷ []) (calls_in marks))
-stands-more old between new was mid is who times outcomes now outcome plays stats v tree marks stood =
-    let call = stats root_path refl in
+stands-more old between new was mid is who times outcomes now outcome plays call v tree marks stood =
     let (before, stands, calls) = plays.stands v tree marks stood in
-    let after = marks_after call.keeps.acts before in
-    let guaranteed = call.truth v tree before stands.minor stands.serves.agrees stands.kept stands.true_replies in
-    (
+    let after = marks_after call.keeps.acts before in (
       with_outcome who now (Stat root_path) (outcome_of outcome) after,
-      record {
-        minor = stands.minor ∙ sym call.keeps.leads.minor;
-        serves = call.keeps.serves (contents_at v) tree before stands.serves;
-        kept = guaranteed.0;
-        true_replies = guaranteed.1;
-      },
+      call.stands v tree before stands,
       calls_made-more who times outcomes now outcome (calls_in marks) after plays.each (calls_in-after call.keeps.acts before ∙ calls),
     )
 
 -- one call more was made
 pub plays_more : (old between new : Serving) (was mid is : Truth) (who : Who) (times : List ℕ) (outcomes : List Outcome) (now : ℕ) (outcome : Outcome)
-    → Plays old between was mid who times outcomes → StatsRoot between new mid is who now (outcome_of outcome)
+    → Plays old between was mid who times outcomes → Calls between new mid is who now (Stat root_path) (outcome_of outcome)
     → Plays old new was is who (times ++ now ∷ []) (outcomes ++ outcome ∷ [])
-plays_more old between new was mid is who times outcomes now outcome plays stats =
-    let call = stats root_path refl in
+plays_more old between new was mid is who times outcomes now outcome plays call =
     let ends = ended-more outcomes outcome old.ended between.ended new.ended _ plays.cuts_last plays.ended call.keeps.leads.ended call.keeps.cut in
     record {
       geometry = call.keeps.leads.geometry ∙ plays.geometry;
       each = omega (arith, length-append outcomes (outcome ∷ []), length-append times (now ∷ []), plays.each);
       cuts_last = ends.cuts;
       ended = ends.ended;
-      stands = stands-more old between new was mid is who times outcomes now outcome plays stats;
+      stands = stands-more old between new was mid is who times outcomes now outcome plays call;
     }
 
 ok_is : {E A : Type 0} (a b : A) → let one : Result A E = Ok a in let other : Result A E = Ok b in one ≡ other → a ≡ b
 ok_is a b h = cc
 
+pub err_is : {A E : Type 0} (a b : E) → let one : Result A E = Err a in let other : Result A E = Err b in one ≡ other → a ≡ b
+err_is a b h = cc
+
 -- from a server that stands at first, the calls are recorded
-pub is_answered : (old new : Serving) (was is : Truth) (image : List ℕ) (supply : List DriverState) (uid gid : ℕ) (times : List ℕ) (outcomes : List Outcome) (gave : Bool)
+pub is_answered : (old new : Serving) (was is : Truth) (image : List ℕ) (uid gid : ℕ) (times : List ℕ) (outcomes : List Outcome) (gave : Bool)
     → geometry_of image ≡ Ok old.geometry
-    → ((g : Geometry) (tree : Tree) → geometry_of image ≡ Ok g → IsAtFirst g (contents_at (whole_image image)) tree → All (IsReady (whole_image image)) supply
-      → Stands old was (whole_image image) tree [])
+    → ((tree : Tree) → IsAtFirst old.geometry (contents_at (whole_image image)) tree → Stands old was (whole_image image) tree [])
     → Plays old new was is (caller uid gid) times outcomes
     → ((v : Opening) (tree : Tree) (marks : List Mark) → Stands new is v tree marks → gave ≡ gave_up marks)
-    → IsAnswered image supply (uid, gid, times) outcomes gave
-is_answered old new was is image supply uid gid times outcomes gave sizes opens plays given = record {
+    → IsAnswered image (uid, gid, times) outcomes gave
+is_answered old new was is image uid gid times outcomes gave sizes opens plays given = record {
   each = plays.each;
   cuts = plays.cuts_last;
-  recorded = λ g tree parsed first ready.
-      let same : new.geometry ≡ g = plays.geometry ∙ ok_is old.geometry g (sym sizes ∙ parsed) in
-      let (marks, stands, calls) = plays.stands (whole_image image) tree [] (opens g tree parsed first ready) in
+  recorded = λ g tree parsed first.
+      let same : g ≡ old.geometry = ok_is g old.geometry (sym parsed ∙ sizes) in
+      let volume = contents_at (whole_image image) in
+      let (marks, stands, calls) = plays.stands (whole_image image) tree [] (opens tree (subst (λ g. IsAtFirst g volume tree) same first)) in
       record {
         marks = marks;
         well_formed = stands.serves.well_formed;
         true_replies = stands.true_replies;
-        legal = subst (λ g. IsLegal g (contents_at (whole_image image)) tree marks) same (stands.serves.legal stands.true_replies);
+        legal = subst (λ g. IsLegal g volume tree marks) (plays.geometry ∙ sym same) (stands.serves.legal stands.true_replies);
         calls = calls;
         given_up = sym (given (whole_image image) tree marks stands);
       };

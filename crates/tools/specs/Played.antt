@@ -1,5 +1,5 @@
 -- What playing a script comes to.
-use Rattle.std.specs.Prelude.{◌≡◌, ◌⊎◌, ℕ, List, [], ◌∷◌, ◌++◌, Bool, true, false, ◌||◌, codes, decimal, length, All, Option, Some, None, Result, Ok, Err, IsSome, IfSome}
+use Rattle.std.specs.Prelude.{◌≡◌, ◌≢◌, ◌⊎◌, ℕ, List, [], ◌∷◌, ◌++◌, Bool, true, false, ◌||◌, codes, decimal, length, All, Option, Some, None, Result, Ok, Err, IsSome, IfSome}
 use Rattle.std.specs.Borrow.{Bor}
 use Rattle.tree.specs.declared.Who.{Who}
 use Rattle.tree.specs.declared.Call.TheVariants.{Stat}
@@ -113,10 +113,11 @@ IsNoScript file (Start refusal) = ⊥
 IsNoScript file OutOfMemory = IsSome file.bytes
 IsNoScript file NotWritten = ⊥
 
--- The files' script was played on the files' image, and got these outcomes.
-pub record IsPlayed (image script : File) (outcomes : List Outcome) (gave : Bool) : Type 0 where
+-- The files' script was played on the files' image, for which a server starts, and got these outcomes.
+pub record IsPlayed (image script : File) (supply : List DriverState) (outcomes : List Outcome) (gave : Bool) : Type 0 where
   pub bytes : Bor (List ℕ)
   pub read : image.bytes ≡ Some bytes
+  pub started : why_not_started bytes.now supply ≡ None
   pub calls : ℕ × ℕ × List ℕ
   pub scripted : IsScript script calls
   pub answered : IsAnswered bytes.now calls outcomes gave
@@ -126,15 +127,15 @@ abbrev pub IsUnplayed : File → File → List DriverState → PlayRefusal → T
 IsUnplayed image script supply (CannotRead name) = IsUnread image name ⊎ (IsSome image.bytes × IsUnread script name)
 IsUnplayed image script supply (BadLine number name) = IsSome image.bytes × HasBadLine script number × (name ≡ script.name)
 IsUnplayed image script supply (Start refusal) =
-    ((bytes : Bor (List ℕ)) × (image.bytes ≡ Some bytes) × ((refusal ≡ NoMemory) ⊎ (why_not_started bytes.now supply ≡ Some refusal)))
+    ((bytes : Bor (List ℕ)) × (image.bytes ≡ Some bytes) × (refusal ≢ NoMemory → why_not_started bytes.now supply ≡ Some refusal))
     × ((calls : ℕ × ℕ × List ℕ) × IsScript script calls)
 IsUnplayed image script supply OutOfMemory = IsSome image.bytes × IsSome script.bytes
 IsUnplayed image script supply NotWritten = ⊥
 
 -- the script was played, and of the session's text this went out
-abbrev pub IsShown : File → File → Bool → (List ℕ → Type 0) → Type 0
-IsShown image script gave WentOut =
-    (outcomes : List Outcome) × IsPlayed image script outcomes gave × WentOut (session_text 0 outcomes)
+abbrev pub IsShown : File → File → List DriverState → Bool → (List ℕ → Type 0) → Type 0
+IsShown image script supply gave WentOut =
+    (outcomes : List Outcome) × IsPlayed image script supply outcomes gave × WentOut (session_text 0 outcomes)
 
 -- whether it is about writing
 abbrev pub is_of_output : PlayRefusal → Bool
@@ -146,7 +147,7 @@ is_of_output _ = false
 abbrev pub IsCutShort : File → File → List DriverState → PlayRefusal → Type 0 → (List ℕ → Type 0) → Type 0
 IsCutShort image script supply refusal Nothing Part =
     (Nothing × IsUnplayed image script supply refusal)
-    ⊎ ((is_of_output refusal ≡ true) × ((gave : Bool) × IsShown image script gave Part))
+    ⊎ ((is_of_output refusal ≡ true) × ((gave : Bool) × IsShown image script supply gave Part))
 
 -- the text of a refusal; that of a server's start is its own
 abbrev pub refusal_text : PlayRefusal → Option (List ℕ)

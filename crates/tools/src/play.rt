@@ -9,11 +9,11 @@ ghost use Rattle.tools.specs.Status.{status_number, gave_of};
 
 use crate::output::{OutputRefusal, write_session, write_text};
 use crate::script::{Script, ScriptRefusal, read_script};
-use serve::local::LocalDriver;
+use reissue::link::Link;
 use serve::alone::alone;
+use serve::local::LocalDriver;
 use serve::refusal::StartRefusal;
 use serve::server::Server;
-use reissue::link::Link;
 use std::alloc::{AllocError, Global};
 use std::fmt;
 use std::io::Write;
@@ -93,7 +93,7 @@ pub fn play<D: LocalDriver, W: Write, E: Write>(
     out: &mut W,
     err: &mut E,
 ) -> Status
-    ensures whole { result ≢ Status.Refused → IsShown image.entry script.entry (gave_of result)
+    ensures whole { result ≢ Status.Refused → IsShown image.entry script.entry (map D.state supply.items) (gave_of result)
         (Appends (W.contents out.old) (W.contents out.new)) × (err.new ≡ err.old) }
     ensures refused { result ≡ Status.Refused → (refusal : PlayRefusal) × Tells refusal (E.contents err.old) (E.contents err.new)
         × IsCutShort image.entry script.entry (map D.state supply.items) refusal (out.new ≡ out.old) (AppendsPart (W.contents out.old) (W.contents out.new)) }
@@ -125,7 +125,7 @@ fn run<'a, D: LocalDriver, W: Write>(
     supply: Vec<D>,
     out: &mut W,
 ) -> Result<Status, PlayRefusal<'a>>
-    ensures shown { IfOk result (λ status. (status ≢ Status.Refused) × IsShown image.entry script.entry (gave_of status)
+    ensures shown { IfOk result (λ status. (status ≢ Status.Refused) × IsShown image.entry script.entry (map D.state supply.items) (gave_of status)
         (Appends (W.contents out.old) (W.contents out.new))) }
     ensures refused { IfErr result (λ refusal. IsCutShort image.entry script.entry (map D.state supply.items) refusal (out.new ≡ out.old)
         (AppendsPart (W.contents out.old) (W.contents out.new))) }
@@ -152,7 +152,7 @@ fn play_session<'a, D: LocalDriver>(
     script: File<'a>,
     supply: Vec<D>,
 ) -> Result<Session, PlayRefusal<'a>>
-    ensures played { IfOk result (λ session. IsPlayed image.entry script.entry session.outcomes.items session.given_up) }
+    ensures played { IfOk result (λ session. IsPlayed image.entry script.entry (map D.state supply.items) session.outcomes.items session.given_up) }
     ensures unplayed { IfErr result (IsUnplayed image.entry script.entry (map D.state supply.items)) }
 {
     let image = readable(image)?;

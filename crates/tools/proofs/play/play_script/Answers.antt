@@ -1,4 +1,5 @@
-use Rattle.std.proofs.Common.{rules, ◌≡◌, ◌+◌, ◌∷◌, [], ◌++◌, take, arith, get_or}
+use Rattle.std.proofs.Common.{rules, ◌≡◌, ◌+◌, ◌∷◌, [], ◌++◌, take, arith, get_or, refl}
+use Rattle.tools.specs.Played.{root_path}
 use Rattle.std.proofs.lemmas.Grind.{common_steps}
 use Rattle.tools.proofs.Plays.{plays_more}
 use Rattle.tools.proofs.play.play_script.Goals as goal
@@ -9,4 +10,4 @@ loop-now-preserved g c =
     let at = c.loop-now.now-index in
     let next : take (at + 1) items ≡ take at items ++ get_or items at 0 ∷ [] = grind (arith, common_steps) in
     rw (next, c.push_reserved.ensures.items)
-    (plays_more _ _ _ _ _ _ _ _ _ _ _ c.loop-now.invariant c.stat_root.ensures.calls)
+    (plays_more _ _ _ _ _ _ _ _ _ _ _ c.loop-now.invariant (c.stat_root.ensures.stats root_path refl).calls)
