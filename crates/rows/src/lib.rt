@@ -2,11 +2,15 @@
 #![tactic(auto)]
 
 #[cfg(test)]
+mod deaths;
+#[cfg(test)]
 mod drivers;
 #[cfg(test)]
 mod errors;
 #[cfg(test)]
 mod inodes;
+#[cfg(test)]
+mod plays;
 #[cfg(test)]
 mod replies;
 #[cfg(test)]
@@ -15,3 +19,5 @@ mod restarts;
 mod scripts;
 #[cfg(test)]
 mod status_words;
+#[cfg(test)]
+mod volumes;

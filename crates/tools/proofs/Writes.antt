@@ -1,10 +1,11 @@
 -- Writes one after another.
-use Rattle.std.proofs.Common.{◌≡◌, ℕ, ◌+◌, ◌-◌, ◌≤◌, ◌<◌, get_or, List, [], ◌∷◌, ◌++◌, length, take, drop, sym, ap, ◌∙◌, append_assoc, arith, length-drop}
+use Rattle.std.proofs.Common.{◌≡◌, ℕ, ◌+◌, ◌-◌, ◌≤◌, ◌<◌, get_or, List, [], ◌∷◌, ◌++◌, length, take, drop, sym, ap, ◌∙◌, append_assoc, append-nil, arith, length-drop, codes}
 use Rattle.std.proofs.lemmas.Grind.{common_steps, flat_map-append}
 use Rattle.tree.specs.declared.Outcome.{Outcome}
 use Rattle.tools.specs.Output.{line_text, outcomes_text}
 use Rattle.std.proofs.Math.Seq.{take-add}
-use Rattle.std.specs.Prelude.{Option, Some, None, Result, Ok, Err, OnOk, OnErr}
+use Rattle.std.specs.Prelude.{Option, Some, None, Result, Ok, Err, OnOk, OnErr, IfSome}
+use Rattle.std.specs.Fmt.{◌++?◌}
 use Rattle.std.specs.Io.KnownBytes.{Appends}
 use Rattle.std.proofs.lemmas.List.{take-append-drop, flat_map_more}
 use Rattle.tools.specs.Output.{AppendsPart}
@@ -81,3 +82,17 @@ second_ok (Err e) a b c front back h k = tt
 pub second_err : {E : Type 0} (r : Result (Unit {0}) E) (a b c : Option (List ℕ)) (front back : List ℕ) → Appends a b front → OnErr r (AppendsPart b c back) → OnErr r (AppendsPart a c (front ++ back))
 second_err (Ok x) a b c front back h k = tt
 second_err (Err e) a b c front back h k = part_of_back a b c front back h k
+
+-- all of a text is a part of it
+pub part_of_all : (a b : Option (List ℕ)) (text : List ℕ) → Appends a b text → AppendsPart a b text
+part_of_all a b text h = (text, [], sym (append-nil text), h)
+
+-- whether all was written or not, a part was
+pub part_either : {E : Type 0} (r : Result (Unit {0}) E) (a b : Option (List ℕ)) (text : List ℕ) → OnOk r (Appends a b text) → OnErr r (AppendsPart a b text) → AppendsPart a b text
+part_either (Ok x) a b text h k = part_of_all a b text h
+part_either (Err e) a b text h k = k
+
+-- a text with a newline
+pub with_newline : (text : Option (List ℕ)) (line written : List ℕ) → line ≡ written → IfSome (text ++? Some (codes "\n")) (λ t. written ≡ t) → IfSome text (λ t. line ≡ t ++ codes "\n")
+with_newline None line written same h = tt
+with_newline (Some t) line written same h = same ∙ h

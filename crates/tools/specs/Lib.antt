@@ -1,2 +1,4 @@
 pub mod Output
+pub mod Played
 pub mod Script
+pub mod Status

@@ -2,4 +2,5 @@
 #![tactic(auto)]
 
 pub mod output;
+pub mod play;
 pub mod script;

@@ -1,0 +1,42 @@
+//! Drivers that die, hang or answer wrongly in the middle of a read.
+use crate::volumes::{ROOT, new_volume, play_with};
+use endpoint::{SlotRefusal, Slots};
+use errno::Errno;
+use modeldisk::FaultKind;
+use std::test::Fail;
+
+const TWICE: &[u8] = b"user 0 0\n100 stat /\n101 stat /\n";
+
+#[test]
+fn replies_outlive_drivers(rt: HostRuntime) -> Result<(), Fail> {
+    let alloc = rt.alloc();
+    let image = new_volume(alloc, 1024)?;
+    let dies = |after| Some((after, FaultKind::Die));
+    let short = |after| Some((after, FaultKind::Short));
+    let errs = Some((0, FaultKind::Error(Errno::EIO)));
+    let rows: [(&[Option<(u32, FaultKind)>], bool); 7] = [
+        (&[dies(1), None], true),
+        (&[dies(0), dies(0), None], true),
+        (&[dies(1)], false),
+        // The rest is issued under a new id, without a complaint: the one driver goes on.
+        (&[short(1)], true),
+        (&[errs, short(0), None], true),
+        (&[errs], false),
+        (&[short(0)], false),
+    ];
+    for (faults, answers) in rows {
+        let played = play_with(alloc, image.as_slice(), TWICE, faults)?;
+        let reply = if answers { ROOT } else { "EIO\n" };
+        let text = format!(in alloc; "session 0\n{reply}{reply}")?;
+        assert_eq!(rt; played.out.as_str(), text.as_str());
+        assert_eq!(rt; played.status, if answers { 0 } else { 3 });
+        assert_eq!(rt; played.err.as_str(), "");
+    }
+    Ok(())
+}
+
+#[test]
+fn slots_are_sixteen(rt: HostRuntime) {
+    let mut slots = Slots::new();
+    assert_eq!(rt; slots.start(16), Err(SlotRefusal::NoSuchSlot));
+}

@@ -1,0 +1,165 @@
+//! Scripts played on volumes: the replies, and what is refused.
+use crate::volumes::{Played, ROOT, changed, new_volume, play_with, supply_of};
+use bdev::Driver;
+use modeldisk::RamDriver;
+use partition::Table;
+use std::process::Abort;
+use std::test::Fail;
+use tools::play::{File, play};
+
+const STAT: &[u8] = b"user 0 0\n100 stat /\n";
+
+/// It was refused before anything was played, with this line.
+fn is_refused(rt: &impl Abort, played: &Played, line: &str) {
+    assert_eq!(rt; played.status, 1, "{line}");
+    assert_eq!(rt; played.out.as_str(), "");
+    assert_eq!(rt; played.err.as_str(), line);
+}
+
+#[test]
+fn the_root_is_told(rt: HostRuntime) -> Result<(), Fail> {
+    let alloc = rt.alloc();
+    for block in [1024, 2048, 4096] {
+        let image = new_volume(alloc, block)?;
+        let played = play_with(alloc, image.as_slice(), STAT, &[None])?;
+        assert_eq!(rt; played.status, 0);
+        assert_eq!(rt;
+            played.out.as_str(),
+            format!(in alloc; "session 0\n{ROOT}")?.as_str()
+        );
+        assert_eq!(rt; played.err.as_str(), "");
+    }
+    Ok(())
+}
+
+#[test]
+fn bad_lines_are_named(rt: HostRuntime) -> Result<(), Fail> {
+    let alloc = rt.alloc();
+    let image = new_volume(alloc, 1024)?;
+    let rows: [(&[u8], u32); 8] = [
+        (b"user 0 0\n100 stat\n", 2),
+        (b"", 1),
+        (b"user 0 0", 1),
+        (b"user 0 0\n100 stat /\n100 stat /", 3),
+        (b"user 65536 0\n100 stat /\n", 1),
+        (b"user 0 0\n4294967296 stat /\n", 2),
+        (b"user 0 0\r\n100 stat /\n", 1),
+        (b"user 0 0\n100 stat /\r\n", 2),
+    ];
+    for (script, number) in rows {
+        let played = play_with(alloc, image.as_slice(), script, &[None])?;
+        is_refused(
+            &rt,
+            &played,
+            format!(in alloc; "bad line {number} of s.txt\n")?.as_str(),
+        );
+    }
+    Ok(())
+}
+
+#[test]
+fn images_are_refused_by_name(rt: HostRuntime) -> Result<(), Fail> {
+    let alloc = rt.alloc();
+    let rows = [
+        (1048, 0x00, "Mount Layout BadMagic\n"),
+        (1053, 0x05, "Mount Layout BadBlockSize\n"),
+        (1054, 0x01, "Mount Layout BadVersion\n"),
+        (1036, 0x01, "Mount Layout BadVersion\n"),
+        (1034, 0x07, "Mount Layout BadCounts\n"),
+        (1044, 0x41, "Mount Layout DoesNotFit\n"),
+        (2048, 0x01, "Mount Inconsistent finding 4 at 1\n"),
+        (4097, 0x81, "Mount Inconsistent finding 4 at 1\n"),
+    ];
+    for (at, byte, line) in rows {
+        let image = changed(alloc, at, byte)?;
+        is_refused(
+            &rt,
+            &play_with(alloc, image.as_slice(), STAT, &[None])?,
+            line,
+        );
+    }
+    let image = new_volume(alloc, 1024)?;
+    let cut = [
+        (1024, "Mount Layout Truncated\n"),
+        (1023, "Media NotWholeSectors\n"),
+        (65024, "Mount Layout DoesNotFit\n"),
+    ];
+    for (length, line) in cut {
+        let image = image.get(..length).unwrap_or(&[]);
+        is_refused(&rt, &play_with(alloc, image, STAT, &[None])?, line);
+    }
+    is_refused(
+        &rt,
+        &play_with(alloc, image.as_slice(), STAT, &[])?,
+        "NoDriver\n",
+    );
+    Ok(())
+}
+
+#[test]
+fn the_first_fault_is_told(rt: HostRuntime) -> Result<(), Fail> {
+    let alloc = rt.alloc();
+    let bad = changed(alloc, 1048, 0)?;
+    let (bad, script): (&[u8], &[u8]) = (bad.as_slice(), b"user 0\n");
+    let rows = [
+        (None, None, "cannot read v.img\n"),
+        (None, Some(script), "cannot read v.img\n"),
+        (Some(bad), None, "cannot read s.txt\n"),
+        (Some(bad), Some(script), "bad line 1 of s.txt\n"),
+        (Some(bad), Some(STAT), "BadSetup\n"),
+    ];
+    for (image, script, line) in rows {
+        let (mut out, mut err) = (Vec::new(alloc), Vec::new(alloc));
+        let image = File {
+            name: "v.img",
+            bytes: image,
+        };
+        let script = File {
+            name: "s.txt",
+            bytes: script,
+        };
+        // Drivers of other media than the image's.
+        let supply = supply_of(alloc, 127, &[None])?;
+        let status = play(alloc, image, script, supply, &mut out, &mut err);
+        let played = Played {
+            status: status.number(),
+            out: String::from_utf8(out)?,
+            err: String::from_utf8(err)?,
+        };
+        is_refused(&rt, &played, line);
+    }
+    Ok(())
+}
+
+#[test]
+fn a_writer_fails(rt: HostRuntime) -> Result<(), Fail> {
+    let alloc = rt.alloc();
+    let image = new_volume(alloc, 1024)?;
+    let text = format!(in alloc; "session 0\n{ROOT}")?;
+    for room in [0usize, 3, 10, 11, 70] {
+        let mut space = [0u8; 70];
+        let mut out = space.get_mut(..room).unwrap_or(&mut []);
+        let mut err = Vec::new(alloc);
+        let mut supply: Vec<Driver> = Vec::new(alloc);
+        supply.push(Box::new(alloc, RamDriver::new(Table::whole(128)))?)?;
+        let image = File {
+            name: "v.img",
+            bytes: Some(image.as_slice()),
+        };
+        let script = File {
+            name: "s.txt",
+            bytes: Some(STAT),
+        };
+        let status = play(alloc, image, script, supply, &mut out, &mut err);
+        assert_eq!(rt; status.number(), 1);
+        assert_eq!(rt;
+            err.as_slice(),
+            b"cannot write standard output\n".as_slice()
+        );
+        for (at, byte) in text.as_bytes().iter().take(70).enumerate() {
+            let wrote = space.get(at) == Some(byte);
+            assert!(rt; wrote == (at < room), "{at} of {room}");
+        }
+    }
+    Ok(())
+}

@@ -1,0 +1,15 @@
+-- How a play ends, as a number.
+use Rattle.std.specs.Prelude.{ℕ, Bool, true, false}
+use Rattle.tools.specs.declared.play.Status.{Status}
+use Rattle.tools.specs.declared.play.Status.TheVariants.{Done, Refused, GivenUp}
+
+-- the status of the process
+abbrev pub status_number : Status → ℕ
+status_number Done = 0
+status_number Refused = 1
+status_number GivenUp = 3
+
+-- whether it says that the device was given up
+abbrev pub gave_of : Status → Bool
+gave_of GivenUp = true
+gave_of _ = false

@@ -1,0 +1,227 @@
+//! Playing a script against a server of its own, from the bytes of its files to the lines of its answers.
+
+ghost use Rattle.std.specs.Prelude.{◌≡◌, ◌≢◌, IfOk, IfErr, OnErr, map, Some, None};
+ghost use Rattle.tools.specs.Played.{Plays, caller, IsPlayed, IsUnplayed, IsShown, IsCutShort, IsScript, IsNoScript, Tells, refusal_text};
+ghost use Rattle.std.specs.Io.KnownBytes.{Appends};
+ghost use Rattle.tools.specs.Output.{AppendsPart};
+ghost use Rattle.serve.specs.Server.{serving, guarantee_of};
+ghost use Rattle.tools.specs.Status.{status_number, gave_of};
+
+use crate::output::{OutputRefusal, write_session, write_text};
+use crate::script::{Script, ScriptRefusal, read_script};
+use reissue::link::Link;
+use serve::alone::alone;
+use serve::local::LocalDriver;
+use serve::refusal::StartRefusal;
+use serve::server::Server;
+use std::alloc::{AllocError, Global};
+use std::fmt;
+use std::io::Write;
+use tree::{Outcome, Who};
+
+/// A file that the command line names, and its bytes if it could be read.
+#[derive(Clone, Copy)]
+pub struct File<'a> {
+    /// The name as it was given.
+    pub name: &'a str,
+    /// All its bytes; none where it couldn't be read.
+    pub bytes: Option<&'a [u8]>,
+}
+
+/// How a play ended.
+#[derive(Clone, Copy, Debug, PartialEq, Eq)]
+pub enum Status {
+    /// Each call was made, and all of the text was written.
+    Done,
+    /// Nothing was played, or not all of the text was written. A line says why.
+    Refused,
+    /// As `Done`, and the device was given up.
+    GivenUp,
+}
+
+impl Status {
+    /// The status of the process: 0, 1 or 3.
+    pub fn number(self) -> u8
+        ensures { result ≡ status_number self }
+    {
+        match self {
+            Status::Done => 0,
+            Status::Refused => 1,
+            Status::GivenUp => 3,
+        }
+    }
+}
+
+/// Why a script wasn't played, or not all of its answers were written.
+#[derive(Clone, Copy)]
+pub enum PlayRefusal<'a> {
+    /// The file of this name can't be read.
+    CannotRead(&'a str),
+    /// The line of this number, from 1, of the script of this name can't be read.
+    BadLine(u64, &'a str),
+    /// The server doesn't start on this image.
+    Start(StartRefusal),
+    /// No memory was found.
+    OutOfMemory,
+    /// Standard output refused bytes; those before them went out.
+    NotWritten,
+}
+
+impl fmt::Display for PlayRefusal<'_> {
+    ghost output = { λ r. refusal_text r };
+
+    fn fmt<W: fmt::Write>(&self, f: &mut fmt::Formatter<W>) -> fmt::Result {
+        match self {
+            PlayRefusal::CannotRead(name) => write!(f, "cannot read {name}"),
+            PlayRefusal::BadLine(number, name) => write!(f, "bad line {number} of {name}"),
+            PlayRefusal::Start(refusal) => write!(f, "{refusal}"),
+            PlayRefusal::OutOfMemory => f.write_str("OutOfMemory"),
+            PlayRefusal::NotWritten => f.write_str("cannot write standard output"),
+        }
+    }
+}
+
+/// Plays a script against a server over an image, and writes the answers on `out`: a line `session 0`, and then a line for each call.
+///
+/// Faults are looked for in this order: reading the image, reading the script, its lines, the start of the server. For the first of them, or
+/// where the answers can't be written, a line goes to `err`, and nothing is played after it.
+pub fn play<D: LocalDriver, W: Write, E: Write>(
+    alloc: Global,
+    image: File<'_>,
+    script: File<'_>,
+    supply: Vec<D>,
+    out: &mut W,
+    err: &mut E,
+) -> Status
+    ensures whole { result ≢ Status.Refused → IsShown image.entry script.entry (map D.state supply.items) (gave_of result)
+        (Appends (W.contents out.old) (W.contents out.new)) × (err.new ≡ err.old) }
+    ensures refused { result ≡ Status.Refused → (refusal : PlayRefusal) × Tells refusal (E.contents err.old) (E.contents err.new)
+        × IsCutShort image.entry script.entry (map D.state supply.items) refusal (out.new ≡ out.old) (AppendsPart (W.contents out.old) (W.contents out.new)) }
+{
+    match run(alloc, image, script, supply, out) {
+        Ok(status) => status,
+        Err(refusal) => {
+            write_refusal(alloc, err, refusal);
+            Status::Refused
+        }
+    }
+}
+
+/// Writes the line of a refusal.
+fn write_refusal<E: Write>(alloc: Global, err: &mut E, refusal: PlayRefusal<'_>)
+    ensures { Tells refusal.entry (E.contents err.old) (E.contents err.new) }
+{
+    let _ = match format!(in alloc; "{refusal}\n") {
+        Ok(line) => write_text(err, line.as_bytes()),
+        Err(_) => write_text(err, b"OutOfMemory\n"),
+    };
+}
+
+/// Plays, and writes the answers.
+fn run<'a, D: LocalDriver, W: Write>(
+    alloc: Global,
+    image: File<'a>,
+    script: File<'a>,
+    supply: Vec<D>,
+    out: &mut W,
+) -> Result<Status, PlayRefusal<'a>>
+    ensures shown { IfOk result (λ status. (status ≢ Status.Refused) × IsShown image.entry script.entry (map D.state supply.items) (gave_of status)
+        (Appends (W.contents out.old) (W.contents out.new))) }
+    ensures refused { IfErr result (λ refusal. IsCutShort image.entry script.entry (map D.state supply.items) refusal (out.new ≡ out.old)
+        (AppendsPart (W.contents out.old) (W.contents out.new))) }
+{
+    let session = play_session(alloc, image, script, supply)?;
+    match write_session(alloc, out, 0, session.outcomes.as_slice()) {
+        Ok(()) => Ok(status_of(session.given_up)),
+        Err(OutputRefusal::OutOfMemory) => Err(PlayRefusal::OutOfMemory),
+        Err(OutputRefusal::NotWritten) => Err(PlayRefusal::NotWritten),
+    }
+}
+
+/// What came of a script's calls.
+#[derive(Drop)]
+struct Session {
+    outcomes: Vec<Outcome>,
+    given_up: bool,
+}
+
+/// Reads, starts and makes the calls, in this order.
+fn play_session<'a, D: LocalDriver>(
+    alloc: Global,
+    image: File<'a>,
+    script: File<'a>,
+    supply: Vec<D>,
+) -> Result<Session, PlayRefusal<'a>>
+    ensures played { IfOk result (λ session. IsPlayed image.entry script.entry (map D.state supply.items) session.outcomes.items session.given_up) }
+    ensures unplayed { IfErr result (IsUnplayed image.entry script.entry (map D.state supply.items)) }
+{
+    let image = readable(image)?;
+    let script = read(alloc, script)?;
+    let mut server = match alone(alloc, image, supply) {
+        Ok(server) => server,
+        Err(refusal) => return Err(PlayRefusal::Start(refusal)),
+    };
+    let Ok(outcomes) = play_script(alloc, &mut server, &script) else {
+        return Err(PlayRefusal::OutOfMemory);
+    };
+    let given_up = server.is_given_up();
+    Ok(Session { outcomes, given_up })
+}
+
+/// The status of a play that was written whole.
+fn status_of(given_up: bool) -> Status
+    ensures live { result ≢ Status.Refused }
+    ensures given_up { gave_of result ≡ given_up }
+{
+    if given_up {
+        Status::GivenUp
+    } else {
+        Status::Done
+    }
+}
+
+/// The bytes of a file.
+fn readable<'a>(file: File<'a>) -> Result<&'a [u8], PlayRefusal<'a>>
+    ensures ok { IfOk result (λ bytes. file.entry.bytes ≡ Some bytes) }
+    ensures err { IfErr result (λ refusal. (file.entry.bytes ≡ None) × (refusal ≡ PlayRefusal.CannotRead file.entry.name)) }
+{
+    match file.bytes {
+        Some(bytes) => Ok(bytes),
+        None => Err(PlayRefusal::CannotRead(file.name)),
+    }
+}
+
+/// The script that a file holds.
+fn read<'a>(alloc: Global, file: File<'a>) -> Result<Script, PlayRefusal<'a>>
+    ensures ok { IfOk result (λ script. IsScript file.entry (script.uid, script.gid, script.times.items)) }
+    ensures err { IfErr result (IsNoScript file.entry) }
+{
+    let text = readable(file)?;
+    match read_script(alloc, text) {
+        Ok(script) => Ok(script),
+        Err(ScriptRefusal::BadLine(number)) => Err(PlayRefusal::BadLine(number, file.name)),
+        Err(ScriptRefusal::OutOfMemory) => Err(PlayRefusal::OutOfMemory),
+    }
+}
+
+/// Makes the calls of a script, one after the other, as session 0. Without memory for the outcomes none is made.
+fn play_script<L: Link>(
+    alloc: Global,
+    server: &mut Server<L>,
+    script: &Script,
+) -> Result<Vec<Outcome>, AllocError>
+    ensures plays { IfOk result (λ outcomes. Plays (serving server.old) (serving server.new) (guarantee_of server.old) (guarantee_of server.new)
+        (caller script.now.uid script.now.gid) script.now.times.items outcomes.items) }
+    ensures none_made { OnErr result (server.new ≡ server.old) }
+{
+    let who = Who {
+        session: 0,
+        uid: script.uid,
+        gid: script.gid,
+    };
+    let mut outcomes = Vec::with_capacity(alloc, script.times.len())?;
+    for now in &script.times {
+        outcomes.push_reserved(server.stat_root(who, *now));
+    }
+    Ok(outcomes)
+}
