@@ -28,6 +28,7 @@ recorded words views k v seat w r there =
 pub rule_says : RuleSaysSo
 rule_says words views k = record {
   recorded = recorded words views k;
+  alone = λ seat other v w here there is is'. ((k.fits seat v here).keeper is).seat ∙ sym ((k.fits other w there).keeper is').seat;
   held = λ v n r h.
       let own = (k.fits r.seat v r.knows).keeper r.keeps in
       let o = k.held n (ap (λ (ns : List ℕ). is_used n ns) (sym own.used) ∙ h) in

@@ -34,6 +34,8 @@ pub record RecordSays (words : List ℕ) (v : View) (w : View) : Type 0 where
 -- all that the rule says
 pub record RuleSays (words : List ℕ) (views : List View) : Type 0 where
   pub recorded : (v : View) (seat : ℕ) (w : View) → IsRecords views v → Knows views seat w → RecordSays words v w
+  -- the record has one seat
+  pub alone : (seat other : ℕ) (v w : View) → Knows views seat v → Knows views other w → v.keeps ≡ true → w.keeps ≡ true → seat ≡ other
   -- a number in use is that of a seat, and of one only
   pub held : (v : View) (n : ℕ) → IsRecords views v → is_used n v.used ≡ true → (seat : ℕ) × (w : View) × Knows views seat w × (w.number ≡ Some n)
   pub one : (seat other n : ℕ) (v w : View) → Knows views seat v → Knows views other w → v.number ≡ Some n → w.number ≡ Some n → seat ≡ other
