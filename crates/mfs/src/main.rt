@@ -9,20 +9,23 @@ use partition::Table;
 use std::process::ExitCode;
 use std::{env, fs, io};
 use tools::play::{File, play};
-use words::{Names, command};
+use words::{Names, command, status_for};
 
 fn main(rt: HostRuntime) -> io::Result<ExitCode> {
     let alloc = rt.alloc();
-    let Ok(words) = env::args(&rt) else {
-        eprintln!(rt; "error: a word isn't UTF-8")?;
-        return Ok(ExitCode::from(2));
+    let words: Vec<String> = match env::args(&rt) {
+        Ok(words) => words.collect(alloc)?,
+        Err(error) if error.kind() == io::ErrorKind::InvalidData => {
+            eprintln!(rt; "error: a word isn't UTF-8")?;
+            return Ok(ExitCode::from(2));
+        }
+        Err(error) => return Err(error),
     };
-    let words: Vec<String> = words.collect(alloc)?;
     let matches = match command(alloc)?.try_get_matches_from(words.as_slice()) {
         Ok(matches) => matches,
         Err(error) => {
             error.print(&rt)?;
-            return Ok(ExitCode::from(if error.use_stderr() { 2 } else { 0 }));
+            return Ok(ExitCode::from(status_for(&error)));
         }
     };
     let names = Names::of(&matches);

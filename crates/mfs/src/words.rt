@@ -1,6 +1,10 @@
 //! What the command line says.
 
-use clap::{Arg, ArgMatches, Command};
+ghost use Rattle.std.specs.Prelude.{◌≡◌, ◌⊎◌, ◌↔◌};
+ghost use Rattle.clap.specs.Values.{kind_of};
+
+use clap::error::ErrorKind;
+use clap::{Arg, ArgMatches, Command, Error};
 use std::alloc::{AllocError, Global};
 
 /// The words that `mfs` knows.
@@ -34,5 +38,48 @@ impl<'a> Names<'a> {
             image: matches.get_str("IMAGE").unwrap_or(""),
             script: matches.get_str("SCRIPT").unwrap_or(""),
         }
+    }
+}
+
+/// The status for words that aren't taken: 0 where they ask for help or the version, else 2.
+pub(crate) fn status_for(error: &Error) -> u8
+    ensures asked { (result ≡ 0) ↔ ((kind_of error.now ≡ ErrorKind.DisplayHelp) ⊎ (kind_of error.now ≡ ErrorKind.DisplayVersion)) }
+    ensures mistaken { (result ≡ 0) ⊎ (result ≡ 2) }
+{
+    if error.use_stderr() { 2 } else { 0 }
+}
+
+#[cfg(test)]
+mod rows {
+    use super::{Names, command, status_for};
+    use std::test::Fail;
+
+    #[test]
+    fn two_words_are_taken(rt: HostRuntime) -> Result<(), Fail> {
+        let matches = command(rt.alloc())?.try_get_matches_from(&["mfs", "v.img", "s.txt"])?;
+        let names = Names::of(&matches);
+        assert_eq!(rt; names.image, "v.img");
+        assert_eq!(rt; names.script, "s.txt");
+        Ok(())
+    }
+
+    #[test]
+    fn other_words_have_a_status(rt: HostRuntime) -> Result<(), Fail> {
+        let rows: [(&[&str], u8); 7] = [
+            (&["mfs"], 2),
+            (&["mfs", "v.img"], 2),
+            (&["mfs", "v.img", "s.txt", "t.txt"], 2),
+            (&["mfs", "v.img", "s.txt", "--minor"], 2),
+            (&["mfs", "--help"], 0),
+            (&["mfs", "-h"], 0),
+            (&["mfs", "v.img", "--version"], 0),
+        ];
+        for (words, status) in rows {
+            match command(rt.alloc())?.try_get_matches_from(words) {
+                Ok(_) => return Err(Fail::from("taken")),
+                Err(error) => assert_eq!(rt; status_for(&error), status),
+            }
+        }
+        Ok(())
     }
 }

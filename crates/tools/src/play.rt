@@ -21,11 +21,11 @@ use tree::{Outcome, Who};
 
 /// A file that the command line names, and its bytes if it could be read.
 #[derive(Clone, Copy)]
-pub struct File<'a> {
+pub struct File<'n, 'b> {
     /// The name as it was given.
-    pub name: &'a str,
+    pub name: &'n str,
     /// All its bytes; none where it couldn't be read.
-    pub bytes: Option<&'a [u8]>,
+    pub bytes: Option<&'b [u8]>,
 }
 
 /// How a play ended.
@@ -54,11 +54,11 @@ impl Status {
 
 /// Why a script wasn't played, or not all of its answers were written.
 #[derive(Clone, Copy)]
-pub enum PlayRefusal<'a> {
+pub enum PlayRefusal<'n> {
     /// The file of this name can't be read.
-    CannotRead(&'a str),
+    CannotRead(&'n str),
     /// The line of this number, from 1, of the script of this name can't be read.
-    BadLine(u64, &'a str),
+    BadLine(u64, &'n str),
     /// The server doesn't start on this image.
     Start(StartRefusal),
     /// No memory was found.
@@ -87,8 +87,8 @@ impl fmt::Display for PlayRefusal<'_> {
 /// where the answers can't be written, a line goes to `err`, and nothing is played after it.
 pub fn play<D: LocalDriver, W: Write, E: Write>(
     alloc: Global,
-    image: File<'_>,
-    script: File<'_>,
+    image: File<'_, '_>,
+    script: File<'_, '_>,
     supply: Vec<D>,
     out: &mut W,
     err: &mut E,
@@ -118,13 +118,13 @@ fn write_refusal<E: Write>(alloc: Global, err: &mut E, refusal: PlayRefusal<'_>)
 }
 
 /// Plays, and writes the answers.
-fn run<'a, D: LocalDriver, W: Write>(
+fn run<'n, D: LocalDriver, W: Write>(
     alloc: Global,
-    image: File<'a>,
-    script: File<'a>,
+    image: File<'n, '_>,
+    script: File<'n, '_>,
     supply: Vec<D>,
     out: &mut W,
-) -> Result<Status, PlayRefusal<'a>>
+) -> Result<Status, PlayRefusal<'n>>
     ensures shown { IfOk result (λ status. (status ≢ Status.Refused) × IsShown image.entry script.entry (map D.state supply.items) (gave_of status)
         (Appends (W.contents out.old) (W.contents out.new))) }
     ensures refused { IfErr result (λ refusal. IsCutShort image.entry script.entry (map D.state supply.items) refusal (out.new ≡ out.old)
@@ -146,12 +146,12 @@ struct Session {
 }
 
 /// Reads, starts and makes the calls, in this order.
-fn play_session<'a, D: LocalDriver>(
+fn play_session<'n, D: LocalDriver>(
     alloc: Global,
-    image: File<'a>,
-    script: File<'a>,
+    image: File<'n, '_>,
+    script: File<'n, '_>,
     supply: Vec<D>,
-) -> Result<Session, PlayRefusal<'a>>
+) -> Result<Session, PlayRefusal<'n>>
     ensures played { IfOk result (λ session. IsPlayed image.entry script.entry (map D.state supply.items) session.outcomes.items session.given_up) }
     ensures unplayed { IfErr result (IsUnplayed image.entry script.entry (map D.state supply.items)) }
 {
@@ -181,7 +181,7 @@ fn status_of(given_up: bool) -> Status
 }
 
 /// The bytes of a file.
-fn readable<'a>(file: File<'a>) -> Result<&'a [u8], PlayRefusal<'a>>
+fn readable<'n, 'b>(file: File<'n, 'b>) -> Result<&'b [u8], PlayRefusal<'n>>
     ensures ok { IfOk result (λ bytes. file.entry.bytes ≡ Some bytes) }
     ensures err { IfErr result (λ refusal. (file.entry.bytes ≡ None) × (refusal ≡ PlayRefusal.CannotRead file.entry.name)) }
 {
@@ -192,7 +192,7 @@ fn readable<'a>(file: File<'a>) -> Result<&'a [u8], PlayRefusal<'a>>
 }
 
 /// The script that a file holds.
-fn read<'a>(alloc: Global, file: File<'a>) -> Result<Script, PlayRefusal<'a>>
+fn read<'n>(alloc: Global, file: File<'n, '_>) -> Result<Script, PlayRefusal<'n>>
     ensures ok { IfOk result (λ script. IsScript file.entry (script.uid, script.gid, script.times.items)) }
     ensures err { IfErr result (IsNoScript file.entry) }
 {
