@@ -16,10 +16,10 @@ use Rattle.bdev.specs.declared.Step.TheVariants.{Working, Idle, Done, Failed}
 use Rattle.bdev.specs.declared.Run.{Run}
 use Rattle.bdev.specs.DriverState.{DriverState, Work, Ranges, plan, chunk}
 
--- 1 while a request is in work, else 0
-abbrev pub waiting : {A : Type 0} → Option A → ℕ
-waiting None = 0
-waiting (Some _) = 1
+-- how many requests are in work: 1 or none
+abbrev pub requests_in_work : Option Work → ℕ
+requests_in_work None = 0
+requests_in_work (Some w) = 1
 
 -- sector s of the media is one of those of a write in work
 abbrev pub IsOfAWrite : Ranges → Option Work → ℕ → Type 0
@@ -28,7 +28,7 @@ IsOfAWrite ranges (Some w) s = (w.request.kind ≡ Write) × IsSomeAnd (plan ran
 
 -- what holds of a driver at any time: at most one answer for each request taken, and it names a sector of a write in work
 pub record IsDriver (d : DriverState) : Type 0 where
-  pub bad_is_few : d.bad + waiting d.work ≤ d.last
+  pub bad_is_few : d.bad + requests_in_work d.work ≤ d.last
   pub names_its_own : IfSome d.in_work (IsOfAWrite d.ranges d.work)
 
 -- a request is taken: it is in work, and none of its sectors was moved
@@ -61,15 +61,6 @@ pub record MovesNothing (w : Work) (m : MediaState) (w' : Work) (m' : MediaState
   pub same_work : w' ≡ w
   pub same_media : m' ≡ m
 
--- the media refuse the next sector, and the step answers Failed
-pub record IsRefused (b : DriverState) (w : Work) (m : MediaState) (g : ℕ) (step : Step) (w' : Work) (m' : MediaState) : Type 0 where
-  pub run : Run
-  pub number : ℕ
-  pub next : IsNext b w run number
-  pub refused : accepts m g (run.first + number) ≡ false
-  pub still : MovesNothing w m w' m'
-  pub fails : step ≡ Failed
-
 -- the media accept the next sector, and it is moved
 pub record MovesSector (b : DriverState) (w : Work) (m : MediaState) (g : ℕ) (w' : Work) (m' : MediaState) : Type 0 where
   pub run : Run
@@ -80,9 +71,10 @@ pub record MovesSector (b : DriverState) (w : Work) (m : MediaState) (g : ℕ) (
   pub moved : (k : ℕ) → w'.moved k ≡ (w.moved k || (k == number))
   pub bytes : MovesBytes w.request.kind w m g (run.first + number) number w' m'
 
--- a step makes no call of the media, one that they refuse, or one that they accept
-abbrev pub MovesAtMostOne : DriverState → Work → MediaState → ℕ → Step → Work → MediaState → Type 0
-MovesAtMostOne b w m g step w' m' = MovesNothing w m w' m' ⊎ (IsRefused b w m g step w' m' ⊎ MovesSector b w m g w' m')
+-- A step moves nothing, or one sector that the media accept. A step that they refused moves nothing, as one that didn't call them: from
+-- outside the two are the same, so that the first answers Failed is asked of no driver here. The drivers over media promise it themselves.
+abbrev pub MovesAtMostOne : DriverState → Work → MediaState → ℕ → Work → MediaState → Type 0
+MovesAtMostOne b w m g w' m' = MovesNothing w m w' m' ⊎ MovesSector b w m g w' m'
 
 -- an answer to a read bears, in its first n bytes, those that the read has
 abbrev pub BearsBytes : Kind → List ℕ → List ℕ → ℕ → Type 0
@@ -133,7 +125,7 @@ SaysIdle b (Done answer) a = ⊥
 -- a step, by the request in work
 abbrev pub StepsAt : DriverState → Option Work → MediaState → ℕ → Step → DriverState → MediaState → Type 0
 StepsAt b None m g step a m' = (m' ≡ m) × SaysIdle b step a
-StepsAt b (Some w) m g step a m' = (w' : Work) × MovesAtMostOne b w m g step w' m' × Says b w' step a
+StepsAt b (Some w) m g step a m' = (w' : Work) × MovesAtMostOne b w m g w' m' × Says b w' step a
 
 -- what a step under generation g does to the driver and the media
 pub record StepKeeps (b : DriverState) (m : MediaState) (g : ℕ) (step : Step) (a : DriverState) (m' : MediaState) : Type 0 where

@@ -15,7 +15,7 @@ use Rattle.legal.proofs.LegalRows.{small}
 
 -- an inconsistency is found in what was read: where nothing was, there is none
 finds_without_reading : (finding : Finding) → IsWhyNotMounted 16 [] false (Inconsistent finding) → ⊥
-finds_without_reading finding why = let read : false ≡ true = why.1.each 0 (omega arith) in cc
+finds_without_reading finding why = let read : false ≡ true = why.1.0.each 0 (omega arith) in cc
 
 -- a driver
 abbrev driver : Endpoint

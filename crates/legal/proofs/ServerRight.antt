@@ -1,7 +1,8 @@
 -- A server that only tells of a new volume's root: what opening, a call, a cut call and unmounting promise can be met.
-use Rattle.std.specs.Prelude.{◌≡◌, List, [], ◌∷◌, Bool, true, false, None, is_some, refl}
+use Rattle.std.specs.Prelude.{◌≡◌, List, [], ◌∷◌, Bool, true, false, not, ◌&&◌, None, is_some, refl}
 use Rattle.std.proofs.Common.{inl, ap, sym, subst, ◌∙◌}
 use Rattle.errno.specs.declared.Errno.TheVariants.{EIO}
+use Rattle.message.specs.declared.Incoming.TheVariants.{End}
 use Rattle.tree.specs.declared.Call.TheVariants as call
 use Rattle.tree.specs.Sums.{sum_below, some_below, least_below}
 use Rattle.tree.specs.Tree.{Tree, OpenFile, most_open_files}
@@ -10,10 +11,10 @@ use Rattle.tree.specs.Answers.{Answer, refused}
 use Rattle.volume.specs.Holds.{HoldsVolume}
 use Rattle.marks.specs.Marks.{Mark, Took, gave_up}
 use Rattle.marks.specs.Disk.{Contents}
-use Rattle.marks.specs.Acts.{empty_outbox}
+use Rattle.marks.specs.Acts.{empty_outbox, target}
 use Rattle.legal.specs.Legal.{IsLegalTook, IsLegalCall, tree_after, tree_after_answer}
 use Rattle.legal.specs.View.{server_view}
-use Rattle.legal.specs.ServerCall.{Serving, has_open_file, Outcome, Replied, Cut, CallKeeps}
+use Rattle.legal.specs.ServerCall.{Serving, has_open_file, Outcome, Replied, Cut, CallKeeps, AbsorbKeeps}
 use Rattle.legal.specs.Mount.{OpenKeeps}
 use Rattle.legal.specs.Unmount.{UnmountKeeps, Busy, Unmounted}
 use Rattle.legal.proofs.LegalRows.{small, user_0, fresh, stat_root, root_of_size}
@@ -124,6 +125,24 @@ right_cut = record {
   once_given_up = λ image tree marks agrees given_up. inl refl;
   after_giving_up = λ image tree marks agrees given_up. refl;
   after_end = λ ended. refl;
+  serves = λ image tree marks s. s;
+}
+
+-- nothing is due where nothing is owed
+none_due : (b : Bool) → (b && not false && not true) ≡ false
+none_due true = refl
+none_due false = refl
+
+-- an End between two calls has no effect
+right_end : AbsorbKeeps (server false false) End (server false false)
+right_end = record {
+  later = [];
+  leads = record { geometry = refl; minor = refl; told = refl; ended = refl };
+  none_absorbed = refl;
+  none_taken = refl;
+  same_files = refl;
+  no_effect = λ e. refl;
+  rules = λ image tree marks agrees. record { keep = (tt, record { complaint = refl; post = none_due (is_some (target marks)) }); outbox = refl };
   serves = λ image tree marks s. s;
 }
 

@@ -9,14 +9,15 @@ use Rattle.tree.specs.declared.Who.{Who}
 use Rattle.tree.specs.declared.Call.{Call}
 use Rattle.tree.specs.Tree.{Tree}
 use Rattle.tree.specs.Answers.{Answer}
-use Rattle.marks.specs.Marks.{Started, GaveUp}
+use Rattle.volume.specs.declared.Finding.{Finding}
+use Rattle.marks.specs.Marks.{Mark, Started, GaveUp}
 use Rattle.marks.specs.Open.{IsWellFormed}
 use Rattle.marks.specs.Disk.{Contents, HasTrueReplies}
 use Rattle.marks.specs.Told.{Told, Complained, Received}
 use Rattle.marks.specs.Acts.{Act, AtLink, marks_after, empty_outbox, KeepsRules, Outbox}
 use Rattle.legal.specs.Legal.{IsLegal}
 use Rattle.legal.specs.ServerCall.{Serving, Outcome, Replied, Cut, with_outcome, CallKeeps}
-use Rattle.legal.specs.Mount.{OpenKeeps, MountKeeps, IsWhyNotMounted, Layout, Eio, LinkEnded, BadFrames}
+use Rattle.legal.specs.Mount.{OpenKeeps, MountKeeps, AreRead, IsHeadRefused, IsVolumeRefused, IsWhyNotMounted, Layout, Eio, LinkEnded, BadFrames}
 use Rattle.legal.specs.Unmount.{UnmountKeeps, Unmounted, Busy, unmounting_of}
 use Rattle.legal.specs.Unmount as unmount
 
@@ -74,7 +75,7 @@ complaining_unmount old new keeps image tree agrees nothing acts =
 
 -- a mount that is refused for its layout, or for what the check finds, though it read nothing
 unread_layout : IsWhyNotMounted 64 [] false (Layout BadMagic) → ⊥
-unread_layout h = let e : ◌≡◌ {A = Bool} false true = h.1.each 0 (omega arith) in cc
+unread_layout h = let e : ◌≡◌ {A = Bool} false true = h.1.0.each 0 (omega arith) in cc
 
 -- for want of a device that wasn't given up, for an end that wasn't taken, for a number of frames that is allowed
 early_eio : IsWhyNotMounted 64 (Started (driver 1) ∷ []) false Eio → ⊥
@@ -94,7 +95,20 @@ many_frames : IsWhyNotMounted 4097 [] false BadFrames
 many_frames = (refl, refl)
 
 device_gone : IsWhyNotMounted 64 (GaveUp ∷ Started (driver 1) ∷ []) false Eio
-device_gone = (refl, refl)
+device_gone = (refl, refl, record { head = λ refusal h. unread h.0; volume = λ finding h. unread h.0 })
+  where
+    unread : AreRead (GaveUp ∷ Started (driver 1) ∷ []) 2048 → ⊥
+    unread h = let e : ◌≡◌ {A = Bool} false true = h.each 0 (omega arith) in cc
+
+-- wrong: giving up, or an end, where the superblock that was read is refused, or the check finds something in the volume that was read
+eio_for_layout : (marks : List Mark) → IsHeadRefused marks BadMagic → IsWhyNotMounted 64 marks false Eio → ⊥
+eio_for_layout marks refused h = h.2.head BadMagic refused
+
+eio_for_finding : (marks : List Mark) (finding : Finding) → IsVolumeRefused marks finding → IsWhyNotMounted 64 marks false Eio → ⊥
+eio_for_finding marks finding refused h = h.2.volume finding refused
+
+end_for_layout : (marks : List Mark) → IsHeadRefused marks BadMagic → IsWhyNotMounted 64 marks true LinkEnded → ⊥
+end_for_layout marks refused h = h.3.head BadMagic refused
 
 -- bad frames are looked at first
 frames_first : IsWhyNotMounted 8 (GaveUp ∷ []) false Eio → ⊥

@@ -113,6 +113,10 @@ changed_user knows h = let nine : ◌≡◌ {A = ℕ} 9 0 = h.user in absurd (om
 made_for_another : (marks : List Mark) → IsMadeFor 9 0 (of_user_0 (session_5 first_part [])) marks → ⊥
 made_for_another marks h = let zero_is : ◌≡◌ {A = ℕ} 0 9 = h.user in absurd (omega arith)
 
+-- a session with a number of which every call is refused
+refused_number : (marks : List Mark) → IsMadeFor 0 0 (of_user_0 (record { number = 64; place = 0; seen = []; mine = [] })) marks → ⊥
+refused_number marks h = absurd (omega (arith, h.number))
+
 -- Two sessions meet: 7 had seen the first part alone, 5 all of it.
 abbrev pub session_7 : List Mark → Seen
 session_7 seen = record { number = 7; place = 2; seen = seen; mine = sync 7 11 ∷ [] }

@@ -101,16 +101,30 @@ pub data MountRefusal : Type 0 where
   LinkEnded : MountRefusal
   BadFrames : MountRefusal
 
--- when each refusal comes, the marks being those of mounting and ended that a take gave End; the number of frames is looked at first
-abbrev pub IsWhyNotMounted : ℕ → List Mark → Bool → MountRefusal → Type 0
-IsWhyNotMounted frames marks ended (Layout refusal) =
-    (is_frame_count frames ≡ true) × AreRead marks 2048 × (geometry_of (head_read marks) ≡ Err refusal) × (refusal ≢ DoesNotFit)
-IsWhyNotMounted frames marks ended (Inconsistent finding) =
-    (is_frame_count frames ≡ true) × AreRead marks 2048 × ((refusal : LayoutRefusal) → geometry_of (head_read marks) ≡ Err refusal → refusal ≡ DoesNotFit)
+-- the first 2048 bytes were read, and the superblock in them is refused, the volume's length apart
+abbrev pub IsHeadRefused : List Mark → LayoutRefusal → Type 0
+IsHeadRefused marks refusal = AreRead marks 2048 × (geometry_of (head_read marks) ≡ Err refusal) × (refusal ≢ DoesNotFit)
+
+-- they were read and aren't refused, the whole volume was read, and the check finds this in it
+abbrev pub IsVolumeRefused : List Mark → Finding → Type 0
+IsVolumeRefused marks finding =
+    AreRead marks 2048 × ((refusal : LayoutRefusal) → geometry_of (head_read marks) ≡ Err refusal → refusal ≡ DoesNotFit)
     × AreRead marks (volume_size marks) × (verdict_of (volume_read marks) ≡ Found finding)
+
+-- nothing that was read is refused
+pub record NothingIsRefused (marks : List Mark) : Type 0 where
+  pub head : (refusal : LayoutRefusal) → IsHeadRefused marks refusal → ⊥
+  pub volume : (finding : Finding) → IsVolumeRefused marks finding → ⊥
+
+-- When each refusal comes, the marks being those of mounting and ended that a take gave End. The number of frames is looked at first; of the
+-- others, want of memory apart, the least is answered.
+abbrev pub IsWhyNotMounted : ℕ → List Mark → Bool → MountRefusal → Type 0
+IsWhyNotMounted frames marks ended (Layout refusal) = (is_frame_count frames ≡ true) × IsHeadRefused marks refusal
+IsWhyNotMounted frames marks ended (Inconsistent finding) = (is_frame_count frames ≡ true) × IsVolumeRefused marks finding
 IsWhyNotMounted frames marks ended OutOfMemory = is_frame_count frames ≡ true
-IsWhyNotMounted frames marks ended Eio = (is_frame_count frames ≡ true) × (gave_up marks ≡ true)
-IsWhyNotMounted frames marks ended LinkEnded = (is_frame_count frames ≡ true) × (ended ≡ true) × (gave_up marks ≡ false)
+IsWhyNotMounted frames marks ended Eio = (is_frame_count frames ≡ true) × (gave_up marks ≡ true) × NothingIsRefused marks
+IsWhyNotMounted frames marks ended LinkEnded =
+    (is_frame_count frames ≡ true) × (ended ≡ true) × (gave_up marks ≡ false) × NothingIsRefused marks
 IsWhyNotMounted frames marks ended BadFrames = (is_frame_count frames ≡ false) × (marks ≡ [])
 
 -- a refused mount: what it did at its link until then, and why it stopped

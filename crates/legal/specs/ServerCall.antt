@@ -3,6 +3,7 @@ use Rattle.std.specs.Prelude.{◌≡◌, ◌↔◌, ◌⊎◌, ℕ, List, [], �
 use Rattle.errno.specs.declared.Errno.TheVariants.{EIO}
 use Rattle.layout.specs.declared.Geometry.{Geometry}
 use Rattle.message.specs.declared.Incoming.{Incoming}
+use Rattle.message.specs.declared.Incoming.TheVariants.{End}
 use Rattle.tree.specs.declared.Who.{Who}
 use Rattle.tree.specs.declared.Call.{Call}
 use Rattle.tree.specs.Sums.{some_below}
@@ -91,12 +92,15 @@ pub record CallKeeps (old : Serving) (who : Who) (now : ℕ) (call : Call) (outc
   pub serves : (image : Contents) (tree : Tree) (marks : List Mark) → Serves old image tree marks
       → Serves new image tree (with_outcome who now call outcome (marks_after acts marks))
 
--- One message between two calls: its mark, if it leaves one, stands before what the link is told then; no message is taken.
+-- One message between two calls: its mark, if it leaves one, stands before what the link is told then; no message is taken, no file is
+-- opened or closed, and an End has no effect.
 pub record AbsorbKeeps (old : Serving) (message : Incoming) (new : Serving) : Type 0 where
   pub later : List Act
   pub leads : Leads old (later ++ Absorbed message ∷ []) new
   pub none_absorbed : has_absorbed later ≡ false
   pub none_taken : took_nothing (told_of later) ≡ true
+  pub same_files : new.is_busy ≡ old.is_busy
+  pub no_effect : message ≡ End → later ≡ []
   pub rules : (image : Contents) (tree : Tree) (marks : List Mark) → old.Agrees image tree marks
       → Rules old (later ++ Absorbed message ∷ []) new marks
   pub serves : (image : Contents) (tree : Tree) (marks : List Mark) → Serves old image tree marks

@@ -1,9 +1,9 @@
 -- What a session has seen of the service's record, which marks of it are its own, and what its calls keep.
-use Rattle.std.specs.Prelude.{◌≡◌, ◌⊎◌, ℕ, ◌%◌, ◌^◌, ◌&&◌, ◌||◌, ◌==◌, List, [], ◌∷◌, Bool, true, false, length, nat_le, if◌then◌else◌}
+use Rattle.std.specs.Prelude.{◌≡◌, ◌⊎◌, ℕ, ◌<◌, ◌%◌, ◌^◌, ◌&&◌, ◌||◌, ◌==◌, List, [], ◌∷◌, Bool, true, false, length, nat_le, if◌then◌else◌}
 use Rattle.layout.specs.declared.Geometry.{Geometry}
 use Rattle.tree.specs.declared.Who.{Who}
 use Rattle.tree.specs.declared.Call.{Call}
-use Rattle.tree.specs.Tree.{Tree}
+use Rattle.tree.specs.Tree.{Tree, most_sessions}
 use Rattle.marks.specs.Marks.{Mark, Took, counted, gave_up, IsBeginning}
 use Rattle.marks.specs.Disk.{Contents, HasTrueReplies}
 use Rattle.legal.specs.Legal.{IsLegal}
@@ -67,8 +67,9 @@ AreCallsOf caller [] = Unit {0}
 AreCallsOf caller (Took who now call answer ∷ marks) = (who ≡ caller) × AreCallsOf caller marks
 AreCallsOf caller (_ ∷ marks) = ⊥
 
--- what holds of a session just made for this user and group
+-- what holds of a session just made for this user and group: its number is one of those that a server takes calls of
 pub record IsMadeFor (uid gid : ℕ) (s : SessionState) (marks : List Mark) : Type 0 where
+  pub number : s.knows.number < most_sessions
   pub user : s.uid ≡ uid
   pub group : s.gid ≡ gid
   pub new : IsNewSession s.knows marks

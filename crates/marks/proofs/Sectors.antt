@@ -2,12 +2,12 @@
 use Rattle.std.specs.Prelude.{◌≡◌, ◌⊎◌, ℕ, ◌+◌, ◌*◌, ◌%◌, ◌<◌, List, [], ◌∷◌, ◌++◌, Bool, true, false, ◌==◌, nat_lt, nat_le, Option, Some, None, is_some, if◌then◌else◌, refl, Result, Ok, Err}
 use Rattle.std.proofs.Common.{inl, inr, sym, arith, subst}
 use Rattle.std.proofs.lemmas.Bool.Decides.{nat_tests}
-use Rattle.message.specs.Good.{is_good}
+use Rattle.message.specs.Good.{is_good, moved}
 use Rattle.errno.specs.declared.Errno.{Errno}
 use Rattle.message.specs.declared.BlockRequest.{BlockRequest}
 use Rattle.message.specs.declared.BlockReply.{BlockReply}
 use Rattle.marks.specs.Marks.{Mark, Started, Answered, Flush, GaveUp, Took, Issued, Fault}
-use Rattle.marks.specs.Open.{IsWellFormed, IsNew, IsAgain, IsIn, open_requests, with_id, without_id, greatest, moved, moved_of, asked_by, moved_by, IsWhole}
+use Rattle.marks.specs.Open.{IsWellFormed, IsNew, IsAgain, IsIn, open_requests, with_id, without_id, greatest, moved_of, asked_by, moved_by, IsWhole}
 use Rattle.marks.specs.Disk.{unsure, is_unsure, covers, settles}
 
 -- each of these is for whole sectors

@@ -3,10 +3,10 @@ use Rattle.std.proofs.Common.{◌≡◌, ◌⊎◌, ℕ, ◌+◌, ◌<◌, ◌�
 use Rattle.std.proofs.lemmas.Bool.Decides.{nat_tests}
 use Rattle.std.specs.Prelude.{nat_lt, nat_le, ◌==◌, ◌&&◌, ◌||◌, not, ◌%◌}
 use Rattle.errno.specs.declared.Errno.{Errno}
-use Rattle.message.specs.Good.{is_write}
+use Rattle.message.specs.Good.{is_write, moved}
 use Rattle.message.specs.declared.BlockRequest.{BlockRequest}
 use Rattle.marks.specs.Marks.{Mark, Issued, Started, Answered, Flush, GaveUp, Took, Fault}
-use Rattle.marks.specs.Open.{greatest, open_requests, with_id, moved, moved_of, Misses, IsIn, IsWellFormed}
+use Rattle.marks.specs.Open.{greatest, open_requests, with_id, moved_of, Misses, IsIn, IsWellFormed}
 use Rattle.marks.specs.Disk.{unsure, covers, settles}
 use Rattle.marks.proofs.OpenRequests.{open_after_issue, open_answered, open_misses}
 

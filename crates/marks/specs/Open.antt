@@ -1,15 +1,9 @@
 -- Which requests are open, and when a record is well formed.
-use Rattle.std.specs.Prelude.{◌≡◌, ◌⊎◌, ℕ, ◌+◌, ◌%◌, ◌<◌, ◌≤◌, List, [], ◌∷◌, ◌++◌, length, max, Bool, true, false, not, ◌&&◌, ◌||◌, ◌==◌, nat_lt, if◌then◌else◌, Option, Some, None, Result, Ok, Err, IsTrue, is_some}
-use Rattle.errno.specs.declared.Errno.{Errno}
-use Rattle.message.specs.Good.{is_good}
+use Rattle.std.specs.Prelude.{◌≡◌, ◌⊎◌, ℕ, ◌+◌, ◌%◌, ◌<◌, ◌≤◌, List, [], ◌∷◌, ◌++◌, length, max, Bool, true, false, not, ◌&&◌, ◌||◌, ◌==◌, nat_lt, if◌then◌else◌, Option, Some, None, IsTrue, is_some}
+use Rattle.message.specs.Good.{moved}
 use Rattle.message.specs.declared.BlockRequest.{BlockRequest}
 use Rattle.message.specs.declared.BlockReply.{BlockReply}
 use Rattle.marks.specs.Marks.{Mark, Answered, Issued, last_started, gave_up, awaits_start, is_endpoint}
-
--- how many bytes an outcome moved: its number where it is good for this count
-abbrev pub moved : ℕ → Result ℕ Errno → Option ℕ
-moved count (Ok n) = if is_good count (Ok n) then Some n else None
-moved count (Err e) = None
 
 -- how many bytes a reply moved of the request that it is for: none without a request
 abbrev pub moved_of : Option BlockRequest → BlockReply → Option ℕ
@@ -55,10 +49,6 @@ moved_by a marks = moved_of (asked_by a marks) a
 abbrev pub has_none : List BlockRequest → Bool
 has_none [] = true
 has_none (_ ∷ _) = false
-
--- whether the id is one of an open request
-abbrev pub is_open : ℕ → List Mark → Bool
-is_open id marks = is_some (with_id id (open_requests marks))
 
 -- some id is open, or the last fault has no later start and no later giving up
 abbrev pub is_unfinished : List Mark → Bool

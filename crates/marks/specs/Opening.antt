@@ -3,6 +3,19 @@ use Rattle.std.specs.Prelude.{◌≡◌, ℕ, ◌*◌, ◌≤◌, List, length, 
 use Rattle.message.specs.declared.BlockRequest.{BlockRequest}
 use Rattle.marks.specs.Disk.{Contents}
 
+-- where a volume lies on the media, in sectors
+pub record Range : Type 0 where
+  pub first : ℕ
+  pub count : ℕ
+
+-- the bytes of the volume in this range of the media
+abbrev pub volume_bytes : Range → List ℕ → List ℕ
+volume_bytes range image = take (512 * range.count) (drop (512 * range.first) image)
+
+-- the same by place, 0 past the volume's end
+abbrev pub volume_in : Range → List ℕ → Contents
+volume_in range image = slice_index (volume_bytes range image)
+
 -- the media's bytes as they were handed in; the volume's minor, its first sector on the media and how many sectors it has
 pub record Opening : Type 0 where
   pub media : List ℕ
@@ -10,13 +23,13 @@ pub record Opening : Type 0 where
   pub count : ℕ
   pub minor : ℕ
 
--- the volume's bytes as they were handed in
-abbrev pub volume_of : Opening → List ℕ
-volume_of opening = take (512 * opening.count) (drop (512 * opening.first) opening.media)
+-- the range of the volume
+abbrev pub opening_range : Opening → Range
+opening_range opening = record { first = opening.first; count = opening.count }
 
--- the same by place, 0 past the volume's end
+-- the volume's bytes by place as they were handed in
 abbrev pub contents_at : Opening → Contents
-contents_at opening = slice_index (volume_of opening)
+contents_at opening = volume_in (opening_range opening) opening.media
 
 -- a request is for the server's range of the media, of a block's bytes at most, and bears a block of bytes
 pub record FitsMinor (minor : ℕ) (r : BlockRequest) : Type 0 where

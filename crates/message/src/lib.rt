@@ -1,6 +1,9 @@
 //! Messages of fixed size between the file server, its drivers and the reincarnation server.
 #![tactic(auto)]
 
+ghost use Rattle.std.specs.Prelude.{◌≡◌};
+ghost use Rattle.message.specs.Good.{moved};
+
 use endpoint::Endpoint;
 use errno::Errno;
 
@@ -63,4 +66,21 @@ pub enum Notice {
     Ping,
     /// The driver is to end.
     Stop,
+}
+
+/// How many bytes an outcome of a request for `count` bytes moved: its number, where that is a multiple of 512, above 0 and at most
+/// the count. Any other outcome moved none that count.
+pub fn moved_bytes(count: u32, outcome: &Result<u32, Errno>) -> Option<u32>
+    ensures { result ≡ moved count outcome.now }
+{
+    match outcome {
+        Ok(n) => {
+            if *n % 512 == 0 && 0 < *n && *n <= count {
+                Some(*n)
+            } else {
+                None
+            }
+        }
+        Err(_) => None,
+    }
 }

@@ -15,7 +15,7 @@ use Rattle.partition.specs.Table.{ranges_of}
 use Rattle.bdev.specs.declared.Run.{Run}
 use Rattle.bdev.specs.declared.Step.TheVariants.{Working, Done}
 use Rattle.bdev.specs.DriverState.{Work, Ranges, plan}
-use Rattle.bdev.specs.Promises.{IsDriver, IsOfAWrite, StepKeeps, MovesSector, MayAnswer, EndsBy, waiting}
+use Rattle.bdev.specs.Promises.{IsDriver, IsOfAWrite, StepKeeps, MovesSector, MayAnswer, EndsBy, requests_in_work}
 use Rattle.modeldisk.specs.declared.mover.Mover.{Mover}
 use Rattle.modeldisk.specs.Order.{order_of, order_in}
 use Rattle.modeldisk.specs.Transfer.{TransfersIf}
@@ -53,14 +53,14 @@ names_own true Write ranges w None is h = tt
 names_own true Write ranges w (Some s) is h = (is, h)
 
 -- the request in work counts as one
-few_waiting : (busy : Bool) (w : Work) (bad last : ℕ) → bad + (if busy then 1 else 0) ≤ last → bad + waiting (if busy then Some w else None) ≤ last
-few_waiting true w bad last h = h
-few_waiting false w bad last h = h
+few_in_work : (busy : Bool) (w : Work) (bad last : ℕ) → bad + (if busy then 1 else 0) ≤ last → bad + requests_in_work (if busy then Some w else None) ≤ last
+few_in_work true w bad last h = h
+few_in_work false w bad last h = h
 
 -- a mover is a driver
 pub is_driver : (d : Mover) → IsFew d → IsDriver (state_of d)
 is_driver d few = record {
-  bad_is_few = few_waiting d.busy (work_of d) d.bad d.last few;
+  bad_is_few = few_in_work d.busy (work_of d) d.bad d.last few;
   names_its_own = names_own d.busy d.request.kind (ranges_of d.table) (work_of d) (slice_get (order d) d.done) refl (next_in_run d.from (run_of d) d.done);
 }
 

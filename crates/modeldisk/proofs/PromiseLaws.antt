@@ -26,7 +26,7 @@ StepKeeps-moved b m g step a m' w w' is ranges last moves says = record {
   same_ranges = ranges;
   same_last = last;
   steps = let P : Option Work → Type 0 = λ o. StepsAt b o m g step a m' in
-      subst P (sym is) (w', inr (inr moves), says);
+      subst P (sym is) (w', inr moves, says);
 }
 
 -- what a transfer does is what the promise asks of a moved sector

@@ -1,5 +1,4 @@
 ghost use Rattle.std.specs.Prelude.{◌≡◌, ◌+◌, ◌*◌, ◌<◌, ◌≤◌, ◌^◌, get_or, slice_get, IfSome, if◌then◌else◌};
-ghost use Rattle.message.specs.Good.{is_good};
 ghost use Rattle.partition.specs.Table.{ranges_of};
 ghost use Rattle.bdev.specs.DriverState.{fresh, plan, range_while_fresh};
 ghost use Rattle.bdev.specs.Promises.{AcceptKeeps, IsDriver, StepKeeps};
@@ -13,7 +12,7 @@ use crate::fault::FaultKind;
 use bdev::{Accept, Answer, Run, Step};
 use errno::Errno;
 use media::Media;
-use message::{BlockRequest, Kind};
+use message::{BlockRequest, Kind, moved_bytes};
 use partition::Table;
 
 /// Moves the sectors of one request at a time, in the order of a sweep.
@@ -72,16 +71,6 @@ pub fn number_at(run: Run, from: u32, done: u32) -> u32
         number
     } else {
         number - run.count
-    }
-}
-
-/// Whether an outcome of a request for so many bytes is good.
-fn is_good(count: u32, outcome: &Result<u32, Errno>) -> bool
-    ensures { result ≡ is_good count outcome.now }
-{
-    match outcome {
-        Ok(moved) => *moved % 512 == 0 && 0 < *moved && *moved <= count,
-        Err(_) => false,
     }
 }
 
@@ -293,7 +282,7 @@ impl Mover {
         ensures rest { self.new ≡ ended outcome self.old }
         ensures step { result ≡ Step.Done (record { id = self.old.request.id; outcome = outcome; bytes = self.old.got }) }
     {
-        if !is_good(self.request.count, &outcome) {
+        if moved_bytes(self.request.count, &outcome).is_none() {
             self.bad += 1;
         }
         self.busy = false;

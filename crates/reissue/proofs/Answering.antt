@@ -19,9 +19,9 @@ use Rattle.reissue.proofs.Joined.{joined_like, joined_answered, joined_rest, joi
 use Rattle.reissue.proofs.Writes.{same_at, all_wrote_answered, wrote_rest, wrote_like, wrote_push, wrote_out}
 use Rattle.marks.specs.Disk.{Contents, HasTrueReplies, IsTrueOf, disk_after, unsure}
 use Rattle.marks.specs.Marks.{gave_up, last_started, Answered, Mark, is_endpoint, last_started}
-use Rattle.marks.specs.Open.{asked_by, counts, greatest, moved, moved_by, open_requests, with_id, without_id}
+use Rattle.marks.specs.Open.{asked_by, counts, greatest, moved_by, open_requests, with_id, without_id}
 use Rattle.marks.specs.Told.{received}
-use Rattle.message.specs.Good.{is_write}
+use Rattle.message.specs.Good.{is_write, moved}
 use Rattle.marks.specs.Acts.{complaint_due}
 use Rattle.marks.specs.Acts.{target}
 use Rattle.reissue.specs.Agrees.{AreNumbered, IsJoined, Agrees, AllApart, AllReadDisk, Apart, ApartFromAll, Holds, ReadsDisk, Wrote}

@@ -19,12 +19,12 @@ use Rattle.reissue.specs.Entries.{AllOfMinor, request_of, pending_of}
 use Rattle.reissue.specs.Agrees.{Agrees, unposted, never_issued}
 use Rattle.reissue.specs.Hears.{Hears, IsUnanswered}
 use Rattle.reissue.specs.Posts.{PostsInOrder, PostsAfter, accepted_of, complaints_about, due_after, is_message}
-use Rattle.reissue.specs.Rules.{outbox_of, KeepsRulesBy, at_link, all_began, began_on, arrival, acts_on}
+use Rattle.reissue.specs.Rules.{outbox_of, KeepsRulesBy, at_link, acts_on}
 use Rattle.reissue.proofs.Order.{append_cancel, drop_push}
 use Rattle.reissue.proofs.Settling.{minors_push}
 use Rattle.reissue.proofs.PostRules.{told_at_link, box, box_same}
 use Rattle.reissue.proofs.TableRules.{loose, ends_same, table_posts, PostsKeep, at_rest, needed}
-use Rattle.reissue.proofs.StepRules.{Arrives, heard, began_none}
+use Rattle.reissue.proofs.StepRules.{arrival, Arrives, heard, began_none}
 
 -- the marks of what the link was told
 marks_at_link : (told : List Told) (marks : List Mark) → marks_after (at_link told) marks ≡ grown told marks

@@ -23,7 +23,8 @@ use Rattle.reissue.specs.Agrees.{Agrees, unposted}
 use Rattle.reissue.specs.Posts.{OnlyPosts, PostsInOrder, PostsAfter, is_message}
 use Rattle.reissue.specs.Calls.{Truth, Leads, TakesIn, Absorbs, Steps, Begins, PostsNew, IsAnswerTo, goes_on}
 use Rattle.reissue.proofs.Posting.{closing_posted}
-use Rattle.reissue.specs.Rules.{at_link, all_began, began_on, arrival, acts_on}
+use Rattle.reissue.specs.Rules.{at_link, all_began, began_on, acts_on}
+use Rattle.reissue.proofs.StepRules.{arrival}
 use Rattle.reissue.proofs.CallRules.{absorb_rules, step_rules, begin_rules}
 use Rattle.reissue.proofs.Settling.{minors_push}
 use Rattle.reissue.proofs.Tickets.{pending_among}

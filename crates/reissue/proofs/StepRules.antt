@@ -11,7 +11,7 @@ use Rattle.message.specs.declared.Incoming.{Incoming}
 use Rattle.message.specs.declared.Incoming.TheVariants as incoming
 use Rattle.marks.specs.Marks.{Mark, gave_up}
 use Rattle.marks.specs.Open.{open_requests, greatest, counts, moved_by, without_id}
-use Rattle.marks.specs.Told.{Complained, received}
+use Rattle.marks.specs.Told.{Told, Complained, Received, received, took_end}
 use Rattle.marks.specs.Acts.{Act, Began, AtLink, Outbox, KeepsRules, MayAct, outbox_after, marks_after, told_of, with_act, owed_after_act, owed_after_message, complaint_due, without_answered}
 use Rattle.reissue.specs.declared.pending.Pending.{Pending}
 use Rattle.reissue.specs.declared.table.Table.{Table}
@@ -23,6 +23,11 @@ use Rattle.reissue.specs.Rules.{outbox_of, at_link, all_began, began_on}
 use Rattle.reissue.proofs.Order.{without_posted, drop_removed, drop_push}
 use Rattle.reissue.proofs.PostRules.{box, box_same}
 use Rattle.reissue.proofs.TableRules.{loose, ends_same}
+
+-- a message was taken; of Ends the first alone leaves a trace
+abbrev pub arrival : Incoming → List Told → List Act
+arrival incoming.End before = cond (took_end before) [] (AtLink (Received incoming.End) ∷ [])
+arrival m before = AtLink (Received m) ∷ []
 
 -- a message that arrives: what this act adds to the record and to what is owed
 pub record Arrives (minor : ℕ) (act : Act) (m : Incoming) (marks : List Mark) (o : Outbox) : Type 0 where

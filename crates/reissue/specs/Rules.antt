@@ -1,9 +1,7 @@
 -- What transfers do at their link, as acts, and what they owe it between two calls.
 use Rattle.std.specs.Prelude.{◌≡◌, ℕ, ◌-◌, List, [], ◌∷◌, ◌++◌, length, drop, ◌&&◌, nat_lt, is_some, None, if◌then◌else◌}
-use Rattle.message.specs.declared.Incoming.{Incoming}
-use Rattle.message.specs.declared.Incoming.TheVariants as incoming
 use Rattle.marks.specs.Marks.{Mark}
-use Rattle.marks.specs.Told.{Told, Received, took_end}
+use Rattle.marks.specs.Told.{Told}
 use Rattle.marks.specs.Acts.{Act, Began, AtLink, Outbox, KeepsRules, outbox_after, marks_after, told_of}
 use Rattle.reissue.specs.declared.pending.Pending.{Pending}
 use Rattle.reissue.specs.declared.table.Table.{Table}
@@ -31,11 +29,6 @@ all_began (p ∷ ps) = Began p.request ∷ all_began ps
 -- what became pending on a message: the last request, where it got an id
 abbrev pub began_on : Table → Table → List Act
 began_on old mid = if nat_lt old.ids mid.ids then all_began (drop (length mid.pending - 1) mid.pending) else []
-
--- a message was taken; of Ends the first alone leaves a trace
-abbrev pub arrival : Incoming → List Told → List Act
-arrival incoming.End before = if took_end before then [] else AtLink (Received incoming.End) ∷ []
-arrival m before = AtLink (Received m) ∷ []
 
 -- what is done on a message: the complaint that is due, the rest of a request, and the posts
 abbrev pub acts_on : List Told → Table → Table → List Told → List Act → List Act

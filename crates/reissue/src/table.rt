@@ -4,15 +4,13 @@ ghost use Rattle.std.specs.Prelude.{◌≡◌, ◌+◌, ◌<◌, ◌≤◌, ◌=
 ghost use Rattle.std.specs.List.{list_any};
 ghost use Rattle.message.specs.Good.{is_write};
 ghost use Rattle.marks.specs.Marks.{is_endpoint};
-ghost use Rattle.marks.specs.Open.{moved};
 ghost use Rattle.reissue.specs.Entries.{HasNumbers, prop_numbers, IsFresh, pending_of};
 
 use crate::ask::{Ask, Ticket};
 use crate::pending::Pending;
 use crate::queue::{PLACES, Queue};
 use endpoint::Endpoint;
-use errno::Errno;
-use message::{BlockReply, BlockRequest, Kind};
+use message::{BlockReply, BlockRequest, Kind, moved_bytes};
 use std::alloc::{AllocError, Global};
 
 /// What an answer did.
@@ -203,22 +201,6 @@ impl Table {
     {
         self.current = None;
         self.given_up = true;
-    }
-}
-
-/// How many bytes an answer to a request of this count moved, where it is good.
-fn moved_bytes(count: u32, outcome: &Result<u32, Errno>) -> Option<u32>
-    ensures { result ≡ moved count outcome.now }
-{
-    match outcome {
-        Ok(n) => {
-            if *n % 512 == 0 && 0 < *n && *n <= count {
-                Some(*n)
-            } else {
-                None
-            }
-        }
-        Err(_) => None,
     }
 }
 

@@ -11,7 +11,7 @@ use Rattle.marks.specs.declared.Cause.TheVariants.{Exit}
 use Rattle.marks.specs.Marks.{Started, GaveUp, Took, Fault}
 use Rattle.schedule.specs.declared.Event.TheVariants as event
 use Rattle.schedule.specs.Groups.{Group, marks_of}
-use Rattle.schedule.specs.Lives.{state_of}
+use Rattle.schedule.specs.Drivers.{state_of}
 use Rattle.schedule.specs.Faults.{FailsAtItsStep}
 use Rattle.schedule.specs.Replies.{RepliesOf}
 use Rattle.schedule.specs.Justified.{Justified}

@@ -12,7 +12,7 @@ use Rattle.schedule.specs.declared.Sent.{Sent}
 use Rattle.schedule.specs.declared.Event.{Event}
 use Rattle.schedule.specs.declared.Event.TheVariants as event
 use Rattle.schedule.specs.Groups.{Group, marks_of, event_of, schedule_of, first_groups, Each, EachGroup}
-use Rattle.schedule.specs.Lives.{exits_in, is_live}
+use Rattle.schedule.specs.Drivers.{exits_in, is_live}
 use Rattle.schedule.specs.Faults.{ExitsOfGroup, ExitsAtStep}
 use Rattle.schedule.specs.Replies.{answer_to, answers_due, is_issued_to}
 use Rattle.schedule.specs.Justified.{GroupKeeps}

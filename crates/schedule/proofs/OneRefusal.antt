@@ -3,7 +3,7 @@ use Rattle.std.specs.Prelude.{◌≡◌, Option, Some, None, refl}
 use Rattle.std.proofs.Common.{ap, sym, subst, ◌∙◌}
 use Rattle.volume.specs.declared.Finding.{Finding}
 use Rattle.volume.specs.Verdict.{Verdict, Clean, Found}
-use Rattle.schedule.specs.Headline.{Range}
+use Rattle.marks.specs.Opening.{Range}
 use Rattle.schedule.specs.Refusals.{Start, NotMedia, NoVolume, NotClean, BadSetup, NoDriver, IsGoodSetup, HasVolume}
 use Rattle.schedule.specs.Laws.{RefusedForOne, RefusedOrAccepted}
 

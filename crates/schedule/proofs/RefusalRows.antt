@@ -5,7 +5,7 @@ use Rattle.media.specs.declared.MediaRefusal.TheVariants.{NotWholeSectors}
 use Rattle.volume.specs.Verdict.{Clean, Found}
 use Rattle.policy.specs.declared.Setup.{Setup}
 use Rattle.policy.specs.Policy.{IsAllowed, default_policy}
-use Rattle.schedule.specs.Headline.{Range}
+use Rattle.marks.specs.Opening.{Range}
 use Rattle.schedule.specs.Refusals.{Start, NotMedia, NoVolume, NotClean, BadSetup, NoDriver, IsRefusedFor, IsAccepted, start_of}
 use Rattle.schedule.proofs.Small.{idle, done}
 

@@ -8,7 +8,7 @@ use Rattle.marks.specs.Marks.{Started, Answered, Fault}
 use Rattle.schedule.specs.declared.Sent.{Sent}
 use Rattle.schedule.specs.declared.Event.TheVariants as event
 use Rattle.schedule.specs.Groups.{Group, marks_of, schedule_of}
-use Rattle.schedule.specs.Lives.{state_of}
+use Rattle.schedule.specs.Drivers.{state_of}
 use Rattle.schedule.specs.Faults.{FailsAtItsStep}
 use Rattle.schedule.specs.Replies.{RepliesOf}
 use Rattle.schedule.specs.Justified.{Justified}

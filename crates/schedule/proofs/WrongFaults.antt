@@ -10,7 +10,7 @@ use Rattle.marks.specs.declared.Cause.TheVariants.{Exit, Hung, Complaint}
 use Rattle.schedule.specs.declared.Sent.{Sent}
 use Rattle.schedule.specs.declared.Event.TheVariants as event
 use Rattle.schedule.specs.Groups.{Group}
-use Rattle.schedule.specs.Lives.{exits_in}
+use Rattle.schedule.specs.Drivers.{exits_in}
 use Rattle.schedule.specs.Faults.{ExitsAtStep, FailsAtItsStep}
 use Rattle.schedule.specs.Justified.{Justified}
 use Rattle.schedule.proofs.WorkedRuns.{waits}

@@ -10,16 +10,16 @@ use Rattle.marks.specs.declared.Cause.TheVariants.{Hung, Complaint}
 use Rattle.schedule.specs.declared.Event.{Event}
 use Rattle.schedule.specs.declared.Event.TheVariants as event
 use Rattle.schedule.specs.Groups.{Group, marks_of, running}
-use Rattle.schedule.specs.Lives.{state_of, exits_in, has_exit, is_running, is_live, is_hung, missed}
+use Rattle.schedule.specs.Drivers.{state_of, exits_in, has_exit, driver_runs, is_live, is_hung, missed}
 
 -- the exit at the death of driver g: its own, where it runs
 abbrev pub exits_due : ℕ → List Group → List Endpoint
-exits_due g earlier = if is_running g earlier then driver g ∷ [] else []
+exits_due g earlier = if driver_runs g earlier then driver g ∷ [] else []
 
 -- driver g exits at a step of its own: it runs, and it has failed
 pub record ExitsAtStep (drivers : List DriverState) (g : ℕ) (group : List Mark) (earlier : List Group) : Type 0 where
   pub one : exits_in group ≡ driver g ∷ []
-  pub runs : is_running g earlier ≡ true
+  pub runs : driver_runs g earlier ≡ true
   pub failed : IsSomeAnd (state_of drivers g) (λ d. d.failed ≡ true)
 
 -- a running driver that dies has one exit; one that steps has at most one, and only if it failed; no other event has any
@@ -32,7 +32,7 @@ ExitsOfGroup drivers _ group earlier = exits_in group ≡ []
 abbrev pub may_have_failed : ℕ → List Group → Bool
 may_have_failed g [] = false
 may_have_failed g ((event.Step h, group) ∷ earlier) =
-    ((h == g) && is_live g earlier && (has_exit group || not (is_running g earlier))) || may_have_failed g earlier
+    ((h == g) && is_live g earlier && (has_exit group || not (driver_runs g earlier))) || may_have_failed g earlier
 may_have_failed g ((_, group) ∷ earlier) = may_have_failed g earlier
 
 -- a driver that has failed did so at such a step, so at no group's end it was running and had failed

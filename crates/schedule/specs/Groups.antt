@@ -39,10 +39,10 @@ EachGroup Keeps [] = Unit {0}
 EachGroup Keeps (g ∷ groups) = Keeps g.0 g.1 groups × EachGroup Keeps groups
 
 -- the number of ticks so far
-abbrev pub tick_of : List Group → ℕ
-tick_of [] = 0
-tick_of ((event.Tick, group) ∷ groups) = tick_of groups + 1
-tick_of ((_, group) ∷ groups) = tick_of groups
+abbrev pub ticks_so_far : List Group → ℕ
+ticks_so_far [] = 0
+ticks_so_far ((event.Tick, group) ∷ groups) = ticks_so_far groups + 1
+ticks_so_far ((_, group) ∷ groups) = ticks_so_far groups
 
 -- the running driver: each from its start to its next fault
 abbrev pub running : List Mark → Option Endpoint

@@ -1,5 +1,5 @@
 -- What a run of the server over a schedule promises.
-use Rattle.std.specs.Prelude.{◌≡◌, ℕ, ◌+◌, ◌*◌, ◌<◌, ◌≤◌, ◌⊎◌, List, length, take, drop, false, Ok, slice_index}
+use Rattle.std.specs.Prelude.{◌≡◌, ℕ, ◌+◌, ◌*◌, ◌<◌, ◌≤◌, ◌⊎◌, List, length, false, Ok, slice_index}
 use Rattle.layout.specs.declared.Geometry.{Geometry}
 use Rattle.layout.specs.Places.{geometry_of}
 use Rattle.tree.specs.Tree.{Tree}
@@ -8,6 +8,7 @@ use Rattle.policy.specs.declared.Policy.{Policy}
 use Rattle.marks.specs.Marks.{Mark, gave_up}
 use Rattle.marks.specs.Open.{IsWellFormed}
 use Rattle.marks.specs.Disk.{Contents, disk_after, is_unsure, HasTrueReplies}
+use Rattle.marks.specs.Opening.{Range, volume_bytes, volume_in}
 use Rattle.legal.specs.Legal.{IsAtFirst, IsLegal}
 use Rattle.legal.specs.View.{Frames, ReadsBack}
 use Rattle.schedule.specs.declared.Sent.{Sent}
@@ -23,19 +24,6 @@ pub record Transcript : Type 0 where
   pub frames : Frames
   pub unanswered : ℕ
   pub image : List ℕ
-
--- where a volume lies on the media, in sectors
-pub record Range : Type 0 where
-  pub first : ℕ
-  pub count : ℕ
-
--- the bytes of the volume in this range of the media
-abbrev pub volume_bytes : Range → List ℕ → List ℕ
-volume_bytes range image = take (512 * range.count) (drop (512 * range.first) image)
-
--- the same, by place
-abbrev pub volume_in : Range → List ℕ → Contents
-volume_in range image = slice_index (volume_bytes range image)
 
 -- Replies and read-back: the server's record is well formed, what drivers answered is true, each reply is that of the file tree
 -- after each earlier call taken once, a sync that answered ok left that tree on the disk alone, and at the end, where the device

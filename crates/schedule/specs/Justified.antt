@@ -6,7 +6,7 @@ use Rattle.marks.specs.Marks.{Mark}
 use Rattle.schedule.specs.declared.Sent.{Sent}
 use Rattle.schedule.specs.declared.Event.{Event}
 use Rattle.schedule.specs.Groups.{Group, marks_of, started_in, generation, running, Each, EachGroup}
-use Rattle.schedule.specs.Lives.{state_of}
+use Rattle.schedule.specs.Drivers.{state_of}
 use Rattle.schedule.specs.Faults.{ExitsOfGroup, hung_in, hung_due, ComplaintsFollow, FailsAtItsStep, HasNotFailed}
 use Rattle.schedule.specs.Starts.{starts_due, GivingUpOfGroup, IssuesFollow, are_issued_in_place}
 use Rattle.schedule.specs.Replies.{answers_in, answers_due, IsSentAtItsStep, are_in_order, RepliesOf}

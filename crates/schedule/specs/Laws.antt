@@ -6,10 +6,10 @@ use Rattle.marks.specs.Marks.{IsBeginning}
 use Rattle.schedule.specs.declared.Sent.{Sent}
 use Rattle.schedule.specs.declared.Event.{Event}
 use Rattle.schedule.specs.Groups.{Group, marks_of, schedule_of, Each, EachGroup}
-use Rattle.schedule.specs.Lives.{state_of}
+use Rattle.schedule.specs.Drivers.{state_of}
 use Rattle.schedule.specs.Replies.{IsSentAtItsStep}
 use Rattle.schedule.specs.Justified.{GroupKeeps}
-use Rattle.schedule.specs.Headline.{Range}
+use Rattle.marks.specs.Opening.{Range}
 use Rattle.schedule.specs.Refusals.{Start, Refusal, IsRefusedFor, IsAccepted}
 
 -- the run over these events, the first of those of these groups: its record is a beginning of theirs, and each event keeps what it must

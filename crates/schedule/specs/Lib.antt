@@ -1,6 +1,6 @@
 -- What a run over a schedule must show.
 pub mod Groups
-pub mod Lives
+pub mod Drivers
 pub mod Faults
 pub mod Starts
 pub mod Replies

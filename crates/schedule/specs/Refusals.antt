@@ -8,7 +8,7 @@ use Rattle.bdev.specs.DriverState.{DriverState, range_while_fresh}
 use Rattle.policy.specs.declared.Setup.{Setup}
 use Rattle.policy.specs.Policy.{IsAllowed}
 use Rattle.schedule.specs.Groups.{Each}
-use Rattle.schedule.specs.Headline.{Range, volume_bytes}
+use Rattle.marks.specs.Opening.{Range, volume_bytes}
 
 -- What a run is started with: why the image makes no media, if so (want of memory is no reason here); the range of the minor, where
 -- the partition table is read and has one there of MINIX's type (minor 0 is the whole media, of which no table is read); the verdict

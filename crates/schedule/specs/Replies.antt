@@ -10,7 +10,7 @@ use Rattle.schedule.specs.declared.Sent.{Sent}
 use Rattle.schedule.specs.declared.Event.{Event}
 use Rattle.schedule.specs.declared.Event.TheVariants as event
 use Rattle.schedule.specs.Groups.{Group, marks_of, schedule_of, first_groups, Each}
-use Rattle.schedule.specs.Lives.{is_live}
+use Rattle.schedule.specs.Drivers.{is_live}
 
 -- the replies that these marks answer, newest first
 abbrev pub answers_in : List Mark → List BlockReply

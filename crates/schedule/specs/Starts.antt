@@ -9,23 +9,23 @@ use Rattle.marks.specs.Marks.{Mark, Started, GaveUp, Issued, Fault, gave_up, awa
 use Rattle.marks.specs.Open.{open_requests, greatest}
 use Rattle.schedule.specs.declared.Event.{Event}
 use Rattle.schedule.specs.declared.Event.TheVariants as event
-use Rattle.schedule.specs.Groups.{Group, marks_of, tick_of, generation}
-use Rattle.schedule.specs.Lives.{is_live}
+use Rattle.schedule.specs.Groups.{Group, marks_of, ticks_so_far, generation}
+use Rattle.schedule.specs.Drivers.{is_live}
 
 -- the ticks of the faults in these marks, all at this tick, before those of earlier ones
-abbrev pub fault_ticks_in : ℕ → List Mark → List ℕ → List ℕ
-fault_ticks_in tick [] earlier = earlier
-fault_ticks_in tick (Fault e cause ∷ group) earlier = tick ∷ fault_ticks_in tick group earlier
-fault_ticks_in tick (_ ∷ group) earlier = fault_ticks_in tick group earlier
+abbrev pub ticks_of_faults_in : ℕ → List Mark → List ℕ → List ℕ
+ticks_of_faults_in tick [] earlier = earlier
+ticks_of_faults_in tick (Fault e cause ∷ group) earlier = tick ∷ ticks_of_faults_in tick group earlier
+ticks_of_faults_in tick (_ ∷ group) earlier = ticks_of_faults_in tick group earlier
 
 -- the ticks of the faults so far, newest first
-abbrev pub fault_ticks : List Group → List ℕ
-fault_ticks [] = []
-fault_ticks ((event, group) ∷ earlier) = fault_ticks_in (tick_of ((event, group) ∷ earlier)) group (fault_ticks earlier)
+abbrev pub ticks_of_faults : List Group → List ℕ
+ticks_of_faults [] = []
+ticks_of_faults ((event, group) ∷ earlier) = ticks_of_faults_in (ticks_so_far ((event, group) ∷ earlier)) group (ticks_of_faults earlier)
 
 -- the last fault so far, numbered by the policy
 abbrev pub fault_of : Policy → List Group → Option LastFault
-fault_of policy groups = last_fault policy.calm (fault_ticks groups)
+fault_of policy groups = last_fault policy.calm (ticks_of_faults groups)
 
 -- the tick of the start after the last fault has come
 abbrev pub has_come : Policy → Option LastFault → ℕ → Bool
@@ -35,7 +35,7 @@ has_come policy (Some fault) tick = nat_le (restart_tick policy fault) tick
 -- at a tick the next driver is started, where one is awaited and its tick has come; at no other event, and none after giving up
 abbrev pub starts_due : Policy → Event → List Group → List Endpoint
 starts_due policy event.Tick earlier =
-    if awaits_start (marks_of earlier) && not (gave_up (marks_of earlier)) && has_come policy (fault_of policy earlier) (tick_of earlier + 1)
+    if awaits_start (marks_of earlier) && not (gave_up (marks_of earlier)) && has_come policy (fault_of policy earlier) (ticks_so_far earlier + 1)
     then driver (generation (marks_of earlier) + 1) ∷ []
     else []
 starts_due policy _ earlier = []

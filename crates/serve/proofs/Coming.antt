@@ -1,5 +1,5 @@
 -- A start after no driver ran, or after the one that ran failed.
-use Rattle.std.proofs.Common.{◌≡◌, ℕ, ◌+◌, ◌-◌, ◌<◌, List, refl, sym, ap, subst, arith, Option, Some, None}
+use Rattle.std.proofs.Common.{◌≡◌, ℕ, ◌-◌, ◌<◌, List, refl, sym, subst, arith, Some, None}
 use Rattle.endpoint.specs.declared.Endpoint.{Endpoint}
 use Rattle.message.specs.declared.BlockRequest.{BlockRequest}
 use Rattle.message.specs.declared.Incoming.{Incoming}
@@ -9,7 +9,7 @@ use Rattle.bdev.specs.DriverState.{DriverState}
 use Rattle.serve.specs.declared.running.Ran.{Ran}
 use Rattle.serve.specs.declared.running.Ran.TheVariants as ran
 use Rattle.serve.specs.Steps.{Machine, RunsTo}
-use Rattle.serve.specs.Comes.{Running, machine_of, IsGone, NoneRan, HasFailed, StartsNext, StartsAfter, ComesTo}
+use Rattle.serve.specs.Comes.{Running, machine_of, IsGone, NoneRan, HasFailed, StartsNext, ComesTo}
 
 comes_starting : (e : Endpoint) (b a : Running) (line : List BlockRequest) (media : MediaState) (message : Incoming) → IsGone e b media a.budget
     → StartsNext line media message a.driver a.line a.media → ComesTo e b message a

@@ -1,5 +1,5 @@
 -- A run's steps, one after the other, and what is left of its budget.
-use Rattle.std.proofs.Common.{◌≡◌, ℕ, suc, ◌+◌, ◌-◌, ◌<◌, refl, sym, ap, subst, arith}
+use Rattle.std.proofs.Common.{◌≡◌, ℕ, suc, ◌+◌, ◌-◌, ◌<◌, subst, arith}
 use Rattle.bdev.specs.declared.Step.{Step}
 use Rattle.bdev.specs.declared.Step.TheVariants.{Working, Idle}
 use Rattle.serve.specs.Steps.{Machine, StepsOnce, GoesOn, Start, Worked, Idled, EndsIn}

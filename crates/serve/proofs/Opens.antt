@@ -1,18 +1,18 @@
 -- What a link that was just made has.
-use Rattle.std.proofs.Common.{◌≡◌, ℕ, List, [], ◌∷◌, ◌++◌, false, refl, sym, ◌∙◌, ap, subst, arith, Option, Some, None}
-use Rattle.std.specs.Prelude.{map, reverse, All, is_some, slice_index}
+use Rattle.std.proofs.Common.{◌≡◌, ℕ, List, [], ◌∷◌, ◌++◌, false, refl, sym, ◌∙◌, ap, subst, arith, Option, None}
+use Rattle.std.specs.Prelude.{map, reverse, All}
 use Rattle.std.proofs.lemmas.List.{map-append}
 use Rattle.std.proofs.lemmas.Grind.{reverse_onto}
 use Rattle.std.proofs.lemmas.List.Elements.{All-head, All-tail, All-push}
 use Rattle.endpoint.specs.declared.Endpoint.{Endpoint}
 use Rattle.endpoint.specs.Slots.{no_starts}
 use Rattle.message.specs.declared.BlockRequest.{BlockRequest}
-use Rattle.marks.specs.Opening.{Opening, contents_at}
+use Rattle.marks.specs.Opening.{Opening}
 use Rattle.media.specs.Contents.{MediaState}
 use Rattle.bdev.specs.DriverState.{DriverState, fresh}
 use Rattle.bdev.specs.Promises.{IsDriver}
 use Rattle.true_replies.specs.State.{state_of}
-use Rattle.true_replies.specs.Events.{IsOnMedia, IsOpening, opening_media}
+use Rattle.true_replies.specs.Events.{IsOnMedia, opening_media}
 use Rattle.true_replies.proofs.Keeps.{opening_holds}
 use Rattle.serve.specs.Running.{Kept}
 use Rattle.serve.specs.Inline.{IsReady, LinkKept}

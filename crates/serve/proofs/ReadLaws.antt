@@ -1,16 +1,15 @@
 -- A read that is begun, and the messages that are taken until it is settled, together.
-use Rattle.std.proofs.Common.{◌≡◌, ◌≢◌, ℕ, zero, suc, ◌+◌, ◌*◌, ◌^◌, ◌<◌, ◌≤◌, List, [], ◌∷◌, ◌++◌, length, Bool, true, false, cond, refl, sym, ◌∙◌, ap, subst, inl, inr, arith, append_assoc, Option, Some, None, Ok, Err}
-use Rattle.std.specs.Prelude.{slice_index, ◌||◌, not}
+use Rattle.std.proofs.Common.{◌≡◌, ◌≢◌, ℕ, ◌+◌, ◌*◌, ◌^◌, ◌≤◌, List, [], ◌∷◌, ◌++◌, length, Bool, true, false, cond, refl, sym, ◌∙◌, ap, subst, inl, inr, arith, append_assoc, Option, Some, None, Ok, Err}
 use Rattle.message.specs.declared.Kind.{Kind}
 use Rattle.message.specs.declared.Kind.TheVariants.{Read}
 use Rattle.message.specs.declared.Incoming.{Incoming}
 use Rattle.message.specs.declared.Incoming.TheVariants as incoming
 use Rattle.marks.specs.Marks.{Mark, Answered}
 use Rattle.marks.specs.Open.{counts}
-use Rattle.marks.specs.Disk.{Contents, disk_after, unsure, bytes_read, HasTrueReplies}
+use Rattle.marks.specs.Disk.{Contents, HasTrueReplies}
 use Rattle.marks.specs.Told.{Told, Posted, Complained, Received, received, grown, took_end}
 use Rattle.marks.specs.Acts.{Act, Began, Absorbed, AtLink, Outbox, told_of, has_absorbed, marks_after, outbox_after, KeepsRules}
-use Rattle.marks.specs.Opening.{Opening, contents_at}
+use Rattle.marks.specs.Opening.{contents_at}
 use Rattle.marks.proofs.ActLaws.{acts_compose}
 use Rattle.reissue.specs.declared.ask.Ask.{Ask}
 use Rattle.reissue.specs.declared.ask.Settled.{Settled}
@@ -19,15 +18,14 @@ use Rattle.reissue.specs.declared.pending.Pending.{Pending}
 use Rattle.reissue.specs.declared.table.Table.{Table}
 use Rattle.reissue.specs.Entries.{pending_of, begun_of, AllOfMinor}
 use Rattle.reissue.specs.Agrees.{Agrees}
-use Rattle.reissue.specs.Moves.{Begun, IsBusy, IsQuiet, Spares, Closes, put, state_after, begun_by, written_by}
+use Rattle.reissue.specs.Moves.{Begun, IsBusy, IsQuiet, Spares, put, state_after, begun_by, written_by}
 use Rattle.reissue.specs.Posts.{OnlyPosts, HasRoom}
 use Rattle.reissue.specs.Rules.{outbox_of}
-use Rattle.reissue.specs.Calls.{Truth, Begins, Steps, goes_on, gives_up}
+use Rattle.reissue.specs.Calls.{Truth, Begins, Steps}
 use Rattle.reissue.proofs.Maps.{put-same, put_cases}
 use Rattle.reissue.proofs.Tickets.{pending_here}
 use Rattle.serve.specs.declared.reading.Stop.TheVariants.{GaveUp, Ended}
-use Rattle.serve.specs.Reader.{IsIdle}
-use Rattle.serve.specs.Reading.{Follows, LeavesDisk, Went, AreRead, Reads}
+use Rattle.serve.specs.Reading.{LeavesDisk, Went, AreRead, Reads}
 
 -- neither has a handed message
 none_both : (later acts : List Act) → has_absorbed later ≡ false → has_absorbed acts ≡ false → has_absorbed (later ++ acts) ≡ false

@@ -1,7 +1,7 @@
 -- Where an image says that its root is marked and is a directory.
-use Rattle.std.proofs.Common.{◌≡◌, ◌≤◌, ◌<◌, ◌+◌, ◌*◌, ◌/◌, ◌%◌, ◌^◌, ℕ, List, length, slice_index, Bool, true, refl, sym, ap, ◌∙◌, subst, arith}
+use Rattle.std.proofs.Common.{◌≡◌, ◌≤◌, ◌<◌, ◌+◌, ◌*◌, ◌/◌, ◌%◌, ℕ, List, length, slice_index, Bool, true, refl, ap, ◌∙◌, arith}
 use mathlib.Core.Logic.{inl, inr}
-use Rattle.std.specs.Prelude.{◌==◌, ◌&&◌, nat_lt, Result, Ok, if◌then◌else◌}
+use Rattle.std.specs.Prelude.{◌==◌, ◌&&◌, Ok, if◌then◌else◌}
 use Rattle.std.proofs.Math.Nat.{mul-le-mul_right}
 use Rattle.std.proofs.lemmas.Bool.{le-leb, lt-ltb}
 use Rattle.std.proofs.lemmas.Nat.{div-mul-add, mod-mul-add}
@@ -9,12 +9,11 @@ use Rattle.layout.specs.declared.Geometry.{Geometry}
 use Rattle.layout.specs.Bytes.{u16_at}
 use Rattle.layout.specs.Places.{geometry_of, IsGeometry}
 use Rattle.layout.proofs.Parsed.{block_sizes, geometry_fits}
-use Rattle.volume.specs.declared.Inode.{Inode}
 use Rattle.volume.specs.Reading.{disk_of, inode_bit, inode_offset, inode_of_disk, is_inode, bit_in, u16_in}
-use Rattle.volume.specs.Pieces.{Pieces, pieces, blank}
+use Rattle.volume.specs.Pieces.{pieces, blank}
 use Rattle.volume.specs.Nodes.{is_marked, is_directory_mode}
 use Rattle.volume.specs.Entries.{is_directory_inode}
-use Rattle.inode.specs.Laws.{RootBlock, root_place}
+use Rattle.inode.specs.Laws.{root_place}
 use Rattle.inode.proofs.Root.{root_is_placed}
 
 -- bit 1 of the inode map

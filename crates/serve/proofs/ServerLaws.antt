@@ -1,5 +1,5 @@
 -- A server that reads alone: what its acts and its answers keep.
-use Rattle.std.proofs.Common.{◌≡◌, ℕ, ◌+◌, ◌*◌, ◌<◌, ◌≤◌, List, [], ◌∷◌, ◌++◌, Bool, true, false, cond, refl, sym, ◌∙◌, ap, subst, inl, inr, arith, Option, Some, None}
+use Rattle.std.proofs.Common.{◌≡◌, ℕ, ◌+◌, ◌<◌, ◌≤◌, List, [], ◌∷◌, ◌++◌, Bool, true, false, cond, refl, sym, ◌∙◌, ap, subst, inl, inr, arith, None}
 use Rattle.std.specs.Prelude.{slice_index, ◌||◌, ◌&&◌, is_some, IsTrue, codes}
 use Rattle.std.specs.Borrow.{Bor}
 use Rattle.errno.specs.declared.Errno.{Errno}
@@ -14,7 +14,7 @@ use Rattle.tree.specs.declared.Attributes.{Attributes}
 use Rattle.tree.specs.declared.Call.{Call}
 use Rattle.tree.specs.declared.Call.TheVariants.{Stat}
 use Rattle.tree.specs.Sums.{some_below}
-use Rattle.tree.specs.Tree.{Tree, OpenFile, most_open_files, most_sessions}
+use Rattle.tree.specs.Tree.{Tree, OpenFile, most_open_files}
 use Rattle.tree.specs.IsTree.{IsClosed}
 use Rattle.tree.specs.Answers.{Answer, refused, node_is}
 use Rattle.tree.specs.Effects.{reply_to, tree_after_call}
@@ -27,10 +27,10 @@ use Rattle.marks.specs.Marks.{Mark, Answered, Took, ChangesNothing, gave_up}
 use Rattle.marks.specs.Open.{counts}
 use Rattle.marks.specs.Disk.{Contents, disk_after, unsure, bytes_read, HasTrueReplies}
 use Rattle.marks.specs.Told.{Told, Posted, Complained, Received, received, took_end}
-use Rattle.marks.specs.Acts.{Act, Began, Absorbed, AtLink, told_of, has_absorbed, marks_after}
+use Rattle.marks.specs.Acts.{Act, Began, Absorbed, AtLink, told_of, marks_after}
 use Rattle.marks.specs.Opening.{Opening, contents_at}
 use Rattle.legal.specs.Legal.{IsAtFirst, IsLegal, IsLegalTook, IsLegalCall, may_lack_memory, is_no_memory, tree_after, tree_after_answer}
-use Rattle.legal.specs.ServerCall.{Serving, HasTree, Serves, Leads, Rules, has_open_file, Outcome, Replied, Cut, CallKeeps}
+use Rattle.legal.specs.ServerCall.{Serving, HasTree, Serves, Leads, Rules, has_open_file, Outcome, Replied, Cut}
 use Rattle.reissue.specs.declared.pending.Pending.{Pending}
 use Rattle.reissue.specs.declared.table.Table.{Table}
 use Rattle.reissue.specs.Agrees.{Agrees}
@@ -38,9 +38,9 @@ use Rattle.reissue.specs.Entries.{AllOfMinor}
 use Rattle.reissue.specs.Calls.{Truth}
 use Rattle.reissue.proofs.TableRules.{at_rest}
 use Rattle.reissue.proofs.Taking.{agrees_took}
-use Rattle.serve.specs.Reader.{IsUnwritten, IsReader, reader, Stands}
-use Rattle.serve.specs.Reading.{Went, LeavesDisk, AreRead}
-use Rattle.serve.specs.Server.{Calls, StatsRoot, root_read}
+use Rattle.serve.specs.Reader.{IsReader, reader, Stands}
+use Rattle.serve.specs.Reading.{Went, AreRead}
+use Rattle.serve.specs.Server.{Calls, StatsRoot}
 use Rattle.serve.proofs.ReadLaws.{true_before}
 
 -- an End in either
@@ -277,9 +277,9 @@ calls_answered g minor old new before after was is o e who now call answer w q l
     serves_took g minor new after e image tree (marks_after w.acts marks) who now call answer (right image tree marks s.agrees)
     (serves_after g minor old new before after was is o e image tree marks w s) in
     let truth : (v : Opening) (tree : Tree) (marks : List Mark) → v.minor ≡ minor → IsReader g minor old (contents_at v) tree marks → was v marks
-        → HasTrueReplies (contents_at v) marks → is v (Took who now call answer ∷ marks_after w.acts marks) × HasTrueReplies (contents_at v) (marks_after w.acts marks) =
+    → HasTrueReplies (contents_at v) marks → is v (Took who now call answer ∷ marks_after w.acts marks) × HasTrueReplies (contents_at v) (marks_after w.acts marks) =
     λ v tree marks same r k replies.
-        let t = w.truth v marks same r.table r.minors k replies in (noted v (marks_after w.acts marks) (Took who now call answer) tt t.0, t.1) in
+    let t = w.truth v marks same r.table r.minors k replies in (noted v (marks_after w.acts marks) (Took who now call answer) tt t.0, t.1) in
     record {
       keeps = record {
         acts = w.acts;
@@ -455,12 +455,12 @@ stat_read g minor old new before after was is o e who now path bytes size w q li
       calls = calls_answered g minor old new before after was is o e who now (Stat path) (node_is a) w q live
           (λ eio. absurd (refused_node EIO a (sym eio))) (λ given_up. absurd (false_is_true (sym alive ∙ given_up)))
           (λ image tree marks r. right_root g minor old new before after was is image tree marks who now path bytes size w r alive slash low enough
-              (read marks r.table r.minors))
+          (read marks r.table r.minors))
           noted;
       read = λ image tree marks b r answered.
           sym (same_node a b (same_reply (node_is a) (node_is b) answered))
           ∙ attributes_same 1 (slice_index bytes) (λ k. bytes_read (marks_after w.acts marks) (root_place g + k))
-              (λ k lt. (read marks r.table r.minors).joined k (omega (arith, lt, enough)));
+          (λ k lt. (read marks r.table r.minors).joined k (omega (arith, lt, enough)));
     }
 
 -- the same volume

@@ -1,5 +1,5 @@
 -- What a server's start needs of the image and the drivers.
-use Rattle.std.proofs.Common.{◌≡◌, ◌≤◌, ◌<◌, ◌+◌, ◌*◌, ◌/◌, ◌%◌, ℕ, List, [], ◌∷◌, length, Bool, true, false, refl, sym, ap, ◌∙◌, subst, arith, take, get_or, Option, Some, None}
+use Rattle.std.proofs.Common.{◌≡◌, ◌≤◌, ◌<◌, ◌+◌, ◌/◌, ◌%◌, ℕ, List, [], ◌∷◌, length, Bool, true, false, refl, sym, ap, ◌∙◌, subst, arith, take, get_or, Option, Some, None}
 use Rattle.std.specs.Prelude.{All, map, not, ◌&&◌, ◌==◌, nat_lt, if◌then◌else◌}
 use Rattle.std.proofs.lemmas.List.{length-map}
 use Rattle.std.specs.List.{list_all}
@@ -32,9 +32,10 @@ same_range (Some a) (Some b) h =
 pub ready_more : {D : Type 0} (test : D → Bool) (P : D → Type 0) (items : List D) (i : ℕ) (x : D) → i < length items → x ≡ get_or items i x → test x ≡ true → P x
     → (list_all test (take i items) ≡ true) × All P (take i items) → (list_all test (take (i + 1) items) ≡ true) × All P (take (i + 1) items)
 ready_more test P items i x less at one is before =
-    let tested : test (get_or items i x) ≡ true = ap test (sym at) ∙ one in
-    (list_all_more test items i x less ∙ ap (λ (b : Bool). b && test (get_or items i x)) before.0 ∙ tested,
-    All-more P items i x less before.1 (subst P at is))
+    let tested : test (get_or items i x) ≡ true = ap test (sym at) ∙ one in (
+      list_all_more test items i x less ∙ ap (λ (b : Bool). b && test (get_or items i x)) before.0 ∙ tested,
+      All-more P items i x less before.1 (subst P at is),
+    )
 
 -- a test that isn't false
 pub holds_not : (b : Bool) → not b ≡ false → b ≡ true

@@ -1,5 +1,5 @@
 -- What reading a range through a link does.
-use Rattle.std.specs.Prelude.{◌≡◌, ℕ, ◌+◌, ◌<◌, List, ◌++◌, Bool, true, false, Result, Ok, Err, slice_index}
+use Rattle.std.specs.Prelude.{◌≡◌, ℕ, ◌+◌, ◌<◌, List, ◌++◌, true, false, Result, Ok, Err, slice_index}
 use Rattle.marks.specs.Marks.{Mark}
 use Rattle.marks.specs.Disk.{Contents, HasTrueReplies, bytes_read, disk_after, unsure}
 use Rattle.marks.specs.Opening.{Opening, contents_at}

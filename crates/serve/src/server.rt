@@ -42,7 +42,8 @@ impl<L: Link> Server<L> {
     ghost use Rattle.std.specs.Borrow.{Bor};
     ghost use Rattle.serve.specs.Server.{serving, line_of, guarantee_of, is_given_up, outcome_of, StatsRoot};
 
-    /// A server that has asked nothing yet, for a volume of these sizes in a range of the media.
+    /// A server that has asked nothing yet, for a volume of these sizes in a range of the media. The link hasn't ended, and gives at most
+    /// 2^58 messages. All memory that the server needs is taken here: where there is none, the link is let go.
     pub fn open(
         alloc: Global,
         link: L,
@@ -70,8 +71,8 @@ impl<L: Link> Server<L> {
         })
     }
 
-    /// The attributes of the root. Cut once a take gave End; else EIO once the device was given up; else EINVAL where the session
-    /// isn't below 64.
+    /// The attributes of the root, by the bytes of inode 1, which are read through the link each time. Cut once a take gave End; else
+    /// EIO once the device was given up; else EINVAL where the session isn't below 64.
     pub fn stat_root(&mut self, who: Who, now: u32) -> Outcome
         ensures stats { (path : Bor (List ℕ)) → path.now ≡ codes "/"
             → StatsRoot (serving self.old) (serving self.new) (guarantee_of self.old) (guarantee_of self.new) who now (Call.Stat path) (outcome_of result) }
@@ -84,7 +85,7 @@ impl<L: Link> Server<L> {
         if self.ended {
             return Outcome::Cut;
         }
-        if self.transfers.is_given_up() {
+        if self.is_given_up() {
             return Outcome::Reply(Reply::Refused(Errno::EIO));
         }
         if who.session >= MAX_SESSIONS {

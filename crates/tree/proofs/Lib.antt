@@ -3,3 +3,4 @@ pub mod Pages
 pub mod Leaves
 pub mod Fresh
 pub mod Needs
+pub mod FlagBits

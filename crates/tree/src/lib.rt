@@ -5,7 +5,7 @@
 pub mod laws;
 mod text;
 
-ghost use Rattle.std.specs.Prelude.{⊤, [], ◌∷◌, codes};
+ghost use Rattle.std.specs.Prelude.{⊤, ◌≡◌, [], ◌∷◌, codes};
 
 use bitflags::{Flag, Flags, bitflag_items};
 use errno::Errno;
@@ -88,6 +88,58 @@ impl Flags for OpenFlags {
 
     fn from_bits_retain(bits: u8) -> OpenFlags {
         OpenFlags(bits)
+    }
+}
+
+impl OpenFlags {
+    ghost use Rattle.tree.specs.Flags.{appends, creates, is_exclusive, reads, truncates, writes};
+
+    /// Whether they open for reading.
+    #[tactic(auto, using(crate::proofs::FlagBits::has_read))]
+    pub fn reads(self) -> bool
+        ensures { result ≡ reads self.0 }
+    {
+        self.contains(OpenFlags::READ)
+    }
+
+    /// Whether they open for writing.
+    #[tactic(auto, using(crate::proofs::FlagBits::has_write))]
+    pub fn writes(self) -> bool
+        ensures { result ≡ writes self.0 }
+    {
+        self.contains(OpenFlags::WRITE)
+    }
+
+    /// Whether each write goes to the end of the file.
+    #[tactic(auto, using(crate::proofs::FlagBits::has_append))]
+    pub fn appends(self) -> bool
+        ensures { result ≡ appends self.0 }
+    {
+        self.contains(OpenFlags::APPEND)
+    }
+
+    /// Whether a missing file is made.
+    #[tactic(auto, using(crate::proofs::FlagBits::has_create))]
+    pub fn creates(self) -> bool
+        ensures { result ≡ creates self.0 }
+    {
+        self.contains(OpenFlags::CREATE)
+    }
+
+    /// Whether what is there is refused.
+    #[tactic(auto, using(crate::proofs::FlagBits::has_exclusive))]
+    pub fn is_exclusive(self) -> bool
+        ensures { result ≡ is_exclusive self.0 }
+    {
+        self.contains(OpenFlags::EXCLUSIVE)
+    }
+
+    /// Whether a file that is there is emptied.
+    #[tactic(auto, using(crate::proofs::FlagBits::has_truncate))]
+    pub fn truncates(self) -> bool
+        ensures { result ≡ truncates self.0 }
+    {
+        self.contains(OpenFlags::TRUNCATE)
     }
 }
 

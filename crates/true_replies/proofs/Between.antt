@@ -59,10 +59,9 @@ moved_generation Write w w' m m' g s j b = ap (λ (d : MediaState). d.generation
 -- a step leaves the generation of the media
 pub step_generation : (b a : DriverState) (m m' : MediaState) (g : ℕ) (step : Step) → StepKeeps b m g step a m' → m'.generation ≡ m.generation
 step_generation b a m m' g step k = at b.work k.steps where
-  by_move : (w w' : Work) → MovesAtMostOne b w m g step w' m' → m'.generation ≡ m.generation
+  by_move : (w w' : Work) → MovesAtMostOne b w m g w' m' → m'.generation ≡ m.generation
   by_move w w' (inl h) = ap (λ (d : MediaState). d.generation) h.same_media
-  by_move w w' (inr (inl h)) = ap (λ (d : MediaState). d.generation) h.still.same_media
-  by_move w w' (inr (inr h)) = moved_generation w.request.kind w w' m m' g (h.run.first + h.number) h.number h.bytes
+  by_move w w' (inr h) = moved_generation w.request.kind w w' m m' g (h.run.first + h.number) h.number h.bytes
 
   at : (o : Option Work) → StepsAt b o m g step a m' → m'.generation ≡ m.generation
   at None s = ap (λ (d : MediaState). d.generation) s.0

@@ -8,12 +8,12 @@ use Rattle.message.specs.declared.Kind.TheVariants.{Read, Write}
 use Rattle.message.specs.declared.BlockRequest.{BlockRequest}
 use Rattle.message.specs.declared.BlockReply.{BlockReply}
 use Rattle.marks.specs.Marks.{Mark, Answered, last_started, is_endpoint, gave_up}
-use Rattle.marks.specs.Open.{open_requests, with_id, moved, moved_of, counts}
+use Rattle.marks.specs.Open.{open_requests, with_id, moved_of, counts}
 use Rattle.marks.specs.Disk.{unsure, disk_after, IsTrueOf, IsTrueAnswer, Contents}
-use Rattle.message.specs.Good.{is_write}
+use Rattle.message.specs.Good.{is_write, moved}
 use Rattle.media.specs.Contents.{MediaState, sector}
 use Rattle.bdev.specs.DriverState.{Work}
-use Rattle.bdev.specs.Promises.{waiting}
+use Rattle.bdev.specs.Promises.{requests_in_work}
 use Rattle.marks.specs.Opening.{Opening, Fits}
 use Rattle.true_replies.specs.State.{State, Moved, AnyWorkHolds, ReplyHolds, MediaHold, Invariant, payload}
 use Rattle.true_replies.specs.Posted.{IsSent, driver_at, started_at}
@@ -185,7 +185,7 @@ answered_with v image given x a r inv sent c media true_answer =
           let old : ReplyHolds v x.media x.marks x.current b = inv.sent b i from in
           record { ended = old.ended; answer = λ q j same. old.answer q (open_answered x.marks a q j) same };
     } where
-      work_answered : (o : Option Work) → a.id + waiting o ≤ x.current.last → AnyWorkHolds v x.media x.marks x.current.last o
+      work_answered : (o : Option Work) → a.id + requests_in_work o ≤ x.current.last → AnyWorkHolds v x.media x.marks x.current.last o
           → AnyWorkHolds v x.media (Answered a ∷ x.marks) x.current.last o
       work_answered None e h = tt
       work_answered (Some w) e h = record {

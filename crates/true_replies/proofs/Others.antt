@@ -17,7 +17,7 @@ use Rattle.bdev.specs.declared.Accept.TheVariants.{Taken, Busy, Old}
 use Rattle.bdev.specs.declared.Step.{Step}
 use Rattle.bdev.specs.declared.Step.TheVariants.{Working, Idle, Done, Failed}
 use Rattle.bdev.specs.DriverState.{DriverState, Work, Ranges, range_of, plan, range_while_fresh}
-use Rattle.bdev.specs.Promises.{waiting, IsDriver, IsOfAWrite, StepKeeps, StepsAt, AcceptKeeps, Takes, MovesAtMostOne}
+use Rattle.bdev.specs.Promises.{requests_in_work, IsDriver, IsOfAWrite, StepKeeps, StepsAt, AcceptKeeps, Takes, MovesAtMostOne}
 use Rattle.marks.specs.Opening.{Opening, Fits}
 use Rattle.true_replies.specs.State.{State, Place, Moved, WorkHolds, AnyWorkHolds, ReplyHolds, Invariant, payload}
 use Rattle.true_replies.specs.Posted.{IsSent, driver_at, started_at, since_start}
@@ -36,10 +36,9 @@ revoked : (b a : DriverState) (o : Option Work) (disk media : MediaState) (g : �
     → StepsAt b o disk g step a media → media ≡ disk
 revoked b a None disk media g step less s = s.0
 revoked b a (Some w) disk media g step less s = at s.1 where
-  at : MovesAtMostOne b w disk g step s.0 media → media ≡ disk
+  at : MovesAtMostOne b w disk g s.0 media → media ≡ disk
   at (inl m) = m.same_media
-  at (inr (inl m)) = m.still.same_media
-  at (inr (inr m)) = absurd (not_accepted disk g (m.run.first + m.number) less m.accepted)
+  at (inr m) = absurd (not_accepted disk g (m.run.first + m.number) less m.accepted)
 
 older_sent : (g : ℕ) (step : Step) (a : BlockReply) (sent : List BlockReply) → IsSent a (sent_after g step sent) → IsSent a sent ⊎ (a.from ≡ driver_at g)
 older_sent g Working a sent i = inl i
@@ -90,9 +89,9 @@ some_work v media marks last q (Some w) h i e = record {
   moved = λ j is. absurd (let f : w.moved j ≡ false = h.1 j in let t : w.moved j ≡ true = is in cc);
 }
 
-waiting_few : (o : Option Work) → waiting o ≤ 1
-waiting_few None = omega arith
-waiting_few (Some w) = omega arith
+in_work_few : (o : Option Work) → requests_in_work o ≤ 1
+in_work_few None = omega arith
+in_work_few (Some w) = omega arith
 
 pub handed_keeps : (v : Opening) (image : Contents) (given : MediaState) (x : State) (result : Accept) (q : BlockRequest) (rest : List BlockRequest) (a : DriverState)
     → Invariant v image given x → x.line ≡ q ∷ rest → AcceptKeeps x.current q result a → IsDriver a
@@ -118,7 +117,7 @@ handed_keeps v image given x Taken q rest a inv is k driver =
       older = inv.older;
       sent = λ r i from.
           let old : ReplyHolds v x.media x.marks x.current r = inv.sent r i from in
-          record { ended = omega (arith, old.ended, less, last, waiting_few a.work); answer = old.answer };
+          record { ended = omega (arith, old.ended, less, last, in_work_few a.work); answer = old.answer };
     }
 handed_keeps v image given x Busy q rest a inv is k driver =
     let same : handed x Busy q rest a ≡ x =
@@ -210,7 +209,7 @@ torn_at v image given x g s bytes inv n =
       older = λ r i. omega (arith, inv.older r i, generation);
       sent = λ r i from.
           let old : ReplyHolds v x.media x.marks x.current r = inv.sent r i (from ∙ ap driver_at generation) in
-          let ended : r.id + 1 ≤ x.current.last = subst (λ (o : Option Work). r.id + waiting o ≤ x.current.last) n.is old.ended in
+          let ended : r.id + 1 ≤ x.current.last = subst (λ (o : Option Work). r.id + requests_in_work o ≤ x.current.last) n.is old.ended in
           record {
             ended = old.ended;
             answer = λ q j same. record {
@@ -248,7 +247,7 @@ fresh_range m minor r e = at (m.last == 0) refl (not m.failed) e where
   at true t false e = cc
   at false t c e = cc
 
-pub none_waits : (v : Opening) (media : MediaState) (marks : List Mark) (last : ℕ) (o : Option Work) → waiting o ≤ 0 → AnyWorkHolds v media marks last o
+pub none_waits : (v : Opening) (media : MediaState) (marks : List Mark) (last : ℕ) (o : Option Work) → requests_in_work o ≤ 0 → AnyWorkHolds v media marks last o
 none_waits v media marks last None h = tt
 none_waits v media marks last (Some w) h = absurd (omega arith)
 

@@ -8,9 +8,9 @@ use Rattle.message.specs.declared.Kind.{Kind}
 use Rattle.message.specs.declared.Kind.TheVariants.{Read, Write}
 use Rattle.message.specs.declared.BlockRequest.{BlockRequest}
 use Rattle.message.specs.declared.BlockReply.{BlockReply}
-use Rattle.marks.specs.Open.{open_requests, moved, IsIn}
+use Rattle.marks.specs.Open.{open_requests, IsIn}
 use Rattle.marks.specs.Disk.{Contents}
-use Rattle.message.specs.Good.{is_write}
+use Rattle.message.specs.Good.{is_write, moved}
 use Rattle.media.specs.Contents.{MediaState, sector, written, accepts}
 use Rattle.media.proofs.WrittenLaws.{accepts-true, sector-written_same, generation-written}
 use Rattle.bdev.specs.declared.Run.{Run}
@@ -18,7 +18,7 @@ use Rattle.bdev.specs.declared.Answer.{Answer}
 use Rattle.bdev.specs.declared.Step.{Step}
 use Rattle.bdev.specs.declared.Step.TheVariants.{Working, Idle, Done, Failed}
 use Rattle.bdev.specs.DriverState.{DriverState, Work, Ranges, range_of, plan, chunk}
-use Rattle.bdev.specs.Promises.{waiting, IsDriver, StepKeeps, StepsAt, Says, SaysIdle, MovesNothing, MovesSector, MovesAtMostOne, MovesBytes, MayAnswer, BearsBytes, EndsBy, GoesOn}
+use Rattle.bdev.specs.Promises.{requests_in_work, IsDriver, StepKeeps, StepsAt, Says, SaysIdle, MovesNothing, MovesSector, MovesAtMostOne, MovesBytes, MayAnswer, BearsBytes, EndsBy, GoesOn}
 use Rattle.marks.specs.Opening.{Opening}
 use Rattle.true_replies.specs.State.{State, Moved, WorkHolds, AnyWorkHolds, AnswerHolds, ReplyHolds, MediaHold, OutsideHolds, Invariant, payload}
 use Rattle.true_replies.specs.Posted.{IsSent, driver_at, started_at}
@@ -131,13 +131,12 @@ went_sector v image given x w w' media inv range h m =
     (planned v x.current.ranges w.request m.run m.number range (inv.fits w.request h.opened).minor_is m.next.plan m.next.within)
     m.same_request m.moved (accepted_inside x.media x.media.generation (m.run.first + m.number) m.accepted) m.bytes
 
-went : (v : Opening) (image : Contents) (given : MediaState) (x : State) (w w' : Work) (media : MediaState) (step : Step)
+went : (v : Opening) (image : Contents) (given : MediaState) (x : State) (w w' : Work) (media : MediaState)
     → Invariant v image given x → range_of x.current.ranges v.minor ≡ Some (v.first, v.count) → WorkHolds v x.media x.marks x.current.last w
-    → MovesAtMostOne x.current w x.media x.media.generation step w' media
+    → MovesAtMostOne x.current w x.media x.media.generation w' media
     → Went v image given x w.request.kind w w' media
-went v image given x w w' media step inv range h (inl m) = went_nothing v image given x w w' media inv h m
-went v image given x w w' media step inv range h (inr (inl m)) = went_nothing v image given x w w' media inv h m.still
-went v image given x w w' media step inv range h (inr (inr m)) = went_sector v image given x w w' media inv range h m
+went v image given x w w' media inv range h (inl m) = went_nothing v image given x w w' media inv h m
+went v image given x w w' media inv range h (inr m) = went_sector v image given x w w' media inv range h m
 
 -- the state after a step, from its parts
 pub record Parts (v : Opening) (image : Contents) (given : MediaState) (x : State) (a : DriverState) (media : MediaState) (live : Bool) (replies : List BlockReply) : Type 0 where
@@ -202,10 +201,10 @@ answers v media (Some run) w (Ok m) told all may n good j less =
 -- a reply that was sent earlier stays true
 reply_stays : (v : Opening) (image : Contents) (given : MediaState) (x : State) (w w' : Work) (media : MediaState) (a : DriverState) (r : BlockReply)
     → Invariant v image given x → x.current.work ≡ Some w → WorkHolds v x.media x.marks x.current.last w
-    → Went v image given x w.request.kind w w' media → a.last ≡ x.current.last → waiting a.work ≤ 1
+    → Went v image given x w.request.kind w w' media → a.last ≡ x.current.last → requests_in_work a.work ≤ 1
     → ReplyHolds v x.media x.marks x.current r → ReplyHolds v media x.marks a r
 reply_stays v image given x w w' media a r inv is h g last one old =
-    let ended : r.id + 1 ≤ x.current.last = subst (λ (o : Option Work). r.id + waiting o ≤ x.current.last) is old.ended in
+    let ended : r.id + 1 ≤ x.current.last = subst (λ (o : Option Work). r.id + requests_in_work o ≤ x.current.last) is old.ended in
     record {
       ended = omega (arith, ended, last, one);
       answer = λ q i same. record {
@@ -215,9 +214,9 @@ reply_stays v image given x w w' media a r inv is h g last one old =
       };
     }
 
-waiting_one : (o : Option Work) → waiting o ≤ 1
-waiting_one None = omega arith
-waiting_one (Some w) = omega arith
+in_work_one : (o : Option Work) → requests_in_work o ≤ 1
+in_work_one None = omega arith
+in_work_one (Some w) = omega arith
 
 work_after : (v : Opening) (image : Contents) (given : MediaState) (x : State) (w w' : Work) (media : MediaState)
     → WorkHolds v x.media x.marks x.current.last w → Went v image given x w.request.kind w w' media
@@ -245,7 +244,7 @@ goes_on v image given x w w' a media live failed inv range is h ranges last driv
       work = λ l. let P : Option Work → Type 0 = λ o. AnyWorkHolds v media x.marks a.last o in subst P (sym says.stays)
           (let Q : ℕ → Type 0 = λ n. WorkHolds v media x.marks n w' in subst Q (sym last) (work_after v image given x w w' media h g));
       older = inv.older;
-      sent = λ r i from. reply_stays v image given x w w' media a r inv is h g last (waiting_one a.work) (inv.sent r i from);
+      sent = λ r i from. reply_stays v image given x w w' media a r inv is h g last (in_work_one a.work) (inv.sent r i from);
     })
 
 -- the driver answers
@@ -256,7 +255,7 @@ ends : (v : Opening) (image : Contents) (given : MediaState) (x : State) (w w' :
     → Invariant v image given (stepped x (Done answer) a media)
 ends v image given x w w' a media answer inv range is h ranges last driver g says =
     let after : WorkHolds v media x.marks x.current.last w' = work_after v image given x w w' media h g in
-    let none : waiting a.work ≡ 0 = ap (λ (o : Option Work). waiting o) says.ended in
+    let none : requests_in_work a.work ≡ 0 = ap (λ (o : Option Work). requests_in_work o) says.ended in
     let own : ReplyHolds v media x.marks a (reply_of x.media.generation answer) = record {
       ended = omega (arith, says.id, after.id, last, none);
       answer = λ q i same.
@@ -278,7 +277,7 @@ ends v image given x w w' a media answer inv range is h ranges last driver g say
         | inr e ↦ let k : r.from.generation ≡ x.media.generation = ap (λ (b : BlockReply). b.from.generation) e in omega (arith, k)
       ];
       sent = λ r i from. elim (sent_push r (reply_of x.media.generation answer) x.sent i) [
-        | inl j ↦ reply_stays v image given x w w' media a r inv is h g last (waiting_one a.work) (inv.sent r j from)
+        | inl j ↦ reply_stays v image given x w w' media a r inv is h g last (in_work_one a.work) (inv.sent r j from)
         | inr e ↦ let P : BlockReply → Type 0 = λ b. ReplyHolds v media x.marks a b in subst P (sym e) own
       ];
     })
@@ -311,7 +310,7 @@ idle_keeps v image given x Failed a media inv range ranges last driver same says
       older = inv.older;
       sent = λ r i from.
           let old : ReplyHolds v x.media x.marks x.current r = inv.sent r i from in
-          record { ended = subst (λ (o : Option Work). r.id + waiting o ≤ a.last) (sym work_is) (omega (arith, old.ended, last)); answer = old.answer };
+          record { ended = subst (λ (o : Option Work). r.id + requests_in_work o ≤ a.last) (sym work_is) (omega (arith, old.ended, last)); answer = old.answer };
     }) in
     subst (λ (m : MediaState). Invariant v image given (stepped x Failed a m)) (sym same) result where
       never : false ≡ true → ⊥
@@ -326,7 +325,7 @@ steps_keep : (v : Opening) (image : Contents) (given : MediaState) (x : State) (
     → Invariant v image given (stepped x step a media)
 steps_keep v image given x None step a media inv range is h ranges last driver s = idle_keeps v image given x step a media inv range ranges last driver s.0 s.1
 steps_keep v image given x (Some w) step a media inv range is h ranges last driver s =
-    says_keeps v image given x w s.0 step a media inv range is h ranges last driver (went v image given x w s.0 media step inv range h s.1) s.2
+    says_keeps v image given x w s.0 step a media inv range is h ranges last driver (went v image given x w s.0 media inv range h s.1) s.2
 
 pub step_keeps : (v : Opening) (image : Contents) (given : MediaState) (x : State) (step : Step) (a : DriverState) (media : MediaState)
     → Invariant v image given x → x.live ≡ true

@@ -1,16 +1,17 @@
 -- The state of a run and what holds of it between events.
 use Rattle.std.specs.Prelude.{◌≡◌, ◌⊎◌, ℕ, ◌+◌, ◌*◌, ◌<◌, ◌≤◌, List, Bool, true, false, Option, Some, None, IsTrue, slice_index}
+use Rattle.message.specs.Good.{moved}
 use Rattle.message.specs.declared.Kind.{Kind}
 use Rattle.message.specs.declared.Kind.TheVariants.{Read, Write}
 use Rattle.message.specs.declared.BlockRequest.{BlockRequest}
 use Rattle.message.specs.declared.BlockReply.{BlockReply}
 use Rattle.marks.specs.Marks.{Mark, last_started}
-use Rattle.marks.specs.Open.{moved, open_requests, greatest, IsIn, IsWellFormed}
+use Rattle.marks.specs.Open.{open_requests, greatest, IsIn, IsWellFormed}
 use Rattle.marks.specs.Disk.{disk_after, unsure, HasTrueReplies, Contents}
 use Rattle.marks.specs.Opening.{Opening, Fits}
 use Rattle.media.specs.Contents.{MediaState, sector}
 use Rattle.bdev.specs.DriverState.{DriverState, Work, range_of}
-use Rattle.bdev.specs.Promises.{waiting, IsDriver}
+use Rattle.bdev.specs.Promises.{requests_in_work, IsDriver}
 use Rattle.true_replies.specs.Posted.{driver_at, started_at, since_start, IsSent}
 
 -- a run between two events: of the drivers the last one started alone, since the others can do nothing more
@@ -55,7 +56,7 @@ pub record AnswerHolds (v : Opening) (media : MediaState) (a : BlockReply) (r : 
 
 -- a reply of the current driver: of a request that it ended
 pub record ReplyHolds (v : Opening) (media : MediaState) (marks : List Mark) (d : DriverState) (a : BlockReply) : Type 0 where
-  pub ended : a.id + waiting d.work ≤ d.last
+  pub ended : a.id + requests_in_work d.work ≤ d.last
   pub answer : (r : BlockRequest) → IsIn r (open_requests marks) → r.id ≡ a.id → AnswerHolds v media a r
 
 -- the media are the disk of the record where that is sure

@@ -1,4 +1,4 @@
-use Rattle.std.proofs.Common.{refl, sym, subst}
+use Rattle.std.proofs.Common.{refl, subst}
 use Rattle.layout.proofs.Parsed.{geometry_fits}
 use Rattle.layout.specs.declared.Geometry.{Geometry}
 use Rattle.marks.specs.Opening.{contents_at}

@@ -1,8 +1,7 @@
-use Rattle.std.proofs.Common.{◌≡◌, ◌+◌, ◌*◌, ◌^◌, ◌<◌, ◌≤◌, arith, refl, sym, ◌∙◌, ap, rules, ℕ, Option, Some, None, true, false}
-use Rattle.std.specs.Prelude.{◌==◌}
+use Rattle.std.proofs.Common.{◌≡◌, arith, refl, ◌∙◌, ap, rules, ℕ, Option, Some, None}
 use Rattle.reissue.specs.Moves.{Begun, begun_by, put}
 use Rattle.reissue.specs.Entries.{pending_of}
-use Rattle.reissue.specs.Transfers.{link_of, table_of}
+use Rattle.reissue.specs.Transfers.{table_of}
 use Rattle.serve.proofs.ReadLaws.{nothing_begun, no_write, only_begun, went_begin, goes_on_reading, ends_read, ends_given_up, ends_ended}
 use Rattle.serve.proofs.reading.read_range.Goals as goal
 

@@ -15,7 +15,7 @@ invariant-loop-budget g l =
     × (deque_capacity l.line ≡ deque_capacity l.fn.line)
     × (l.budget ≤ l.fn.budget)
     × HasGone l.generation (record { driver = g.D.LocalDriver.state l.fn.driver; line = l.fn.line.items; media = l.fn.media }) l.fn.budget
-        (record { driver = g.D.LocalDriver.state l.driver; line = l.line.items; media = l.media }) l.budget
+    (record { driver = g.D.LocalDriver.state l.driver; line = l.line.items; media = l.media }) l.budget
 
 abbrev pub decreases-loop-budget : goal.decreases-loop-budget
 decreases-loop-budget g l = l.budget

@@ -1,8 +1,8 @@
 use Rattle.std.proofs.Common.{rules, ◌≡◌, ℕ, arith, sym, ◌∙◌, ap, true, Some, None, List, refl}
 use Rattle.std.specs.Prelude.{◌==◌}
 use Rattle.std.proofs.lemmas.Bool.Decides.{nat_tests}
+use Rattle.message.specs.Good.{moved}
 use Rattle.marks.specs.Marks.{Mark}
-use Rattle.marks.specs.Open.{moved}
 use Rattle.reissue.specs.declared.pending.Pending.{Pending}
 use Rattle.reissue.specs.Agrees.{Agrees}
 use Rattle.reissue.specs.Posts.{complaints_about}

@@ -1,4 +1,4 @@
-use Rattle.std.proofs.Common.{ap, sym, refl, rules}
+use Rattle.std.proofs.Common.{ap, sym, refl}
 use Rattle.std.specs.Option.{option_map}
 use Rattle.serve.proofs.LinkLaws.{answered_kept}
 use Rattle.serve.proofs.Coming.{comes_first, comes_failed}

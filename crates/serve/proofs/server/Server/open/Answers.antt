@@ -1,5 +1,4 @@
-use Rattle.std.proofs.Common.{◌≡◌, List, [], subst, sym}
-use Rattle.marks.specs.Opening.{Opening}
+use Rattle.std.proofs.Common.{[]}
 use Rattle.reissue.specs.Transfers.{link_of, table_of}
 use Rattle.serve.proofs.ServerLaws.{stands_opened}
 use Rattle.serve.proofs.server.Server.open.Goals as goal

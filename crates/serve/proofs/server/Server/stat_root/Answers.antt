@@ -1,8 +1,6 @@
-use Rattle.std.proofs.Common.{◌≡◌, ◌≤◌, ◌<◌, arith, refl, sym, ◌∙◌, ap, subst, rules, ℕ, true, false}
+use Rattle.std.proofs.Common.{◌≡◌, refl, sym, ◌∙◌, ap, subst, ℕ, true, false}
 use Rattle.std.specs.Prelude.{slice_index}
 use Rattle.errno.specs.declared.Errno.TheVariants.{EIO, EINVAL}
-use Rattle.tree.specs.declared.Attributes.{Attributes}
-use Rattle.tree.specs.Answers.{node_is}
 use Rattle.volume.specs.Reading.{inode_in}
 use Rattle.inode.specs.Bytes.{attributes_in}
 use Rattle.marks.specs.Acts.{marks_after}

@@ -30,8 +30,8 @@ abbrev pub has_started : ℕ → List Group → Bool
 has_started g groups = nat_lt 0 g && nat_le g (generation (marks_of groups))
 
 -- whether driver g runs: it was started, and had no fault since
-abbrev pub is_running : ℕ → List Group → Bool
-is_running g groups = is_endpoint (driver g) (running (marks_of groups))
+abbrev pub driver_runs : ℕ → List Group → Bool
+driver_runs g groups = is_endpoint (driver g) (running (marks_of groups))
 
 -- whether driver g died after its start, or had an exit at its step
 abbrev pub has_ended : ℕ → List Group → Bool
