@@ -1,10 +1,7 @@
 -- One call after others.
-use Rattle.std.proofs.Common.{◌≡◌, ℕ, List, [], ◌∷◌, ◌++◌, length, true, false, ◌||◌, refl, sym, ap, ◌∙◌, arith, length-append, if◌then◌else◌, rules, subst, Ok, Err, Result}
-use Rattle.layout.specs.declared.Geometry.{Geometry}
+use Rattle.std.proofs.Common.{◌≡◌, ℕ, List, [], ◌∷◌, ◌++◌, length, true, false, ◌||◌, refl, sym, ap, ◌∙◌, arith, length-append, if◌then◌else◌, subst, Ok, Err, Result}
 use Rattle.layout.specs.Places.{geometry_of}
 use Rattle.legal.specs.Legal.{IsLegal, IsAtFirst}
-use Rattle.bdev.specs.DriverState.{DriverState}
-use Rattle.serve.specs.Inline.{IsReady}
 use Rattle.std.specs.Prelude.{Bool, ◌↔◌}
 use Rattle.tree.specs.declared.Who.{Who}
 use Rattle.tree.specs.declared.Call.TheVariants.{Stat}
@@ -15,12 +12,12 @@ use Rattle.tree.specs.Answers.{Answer, answer_of}
 use Rattle.message.specs.declared.Incoming.{Incoming}
 use Rattle.message.specs.declared.Incoming.TheVariants as incoming
 use Rattle.message.specs.declared.BlockReply.{BlockReply}
-use Rattle.marks.specs.Marks.{Mark, Started, Answered, Flush, GaveUp, Took, Issued, Fault, gave_up}
+use Rattle.marks.specs.Marks.{Mark, Answered, Took, gave_up}
 use Rattle.marks.specs.Open.{counts}
 use Rattle.marks.specs.Opening.{Opening, contents_at}
-use Rattle.marks.specs.Told.{Told, Posted, Complained, Received, received, with_told, took_end}
-use Rattle.marks.specs.Acts.{Act, Began, Absorbed, AtLink, with_act, marks_after, told_of}
-use Rattle.legal.specs.ServerCall.{Serving, Outcome as Answered_or_cut, Replied, with_outcome}
+use Rattle.marks.specs.Told.{Told, Posted, Complained, Received, received, with_told}
+use Rattle.marks.specs.Acts.{Act, Began, Absorbed, AtLink, with_act, marks_after}
+use Rattle.legal.specs.ServerCall.{Serving, Replied, with_outcome}
 use Rattle.legal.specs.ServerCall.{Cut as IsCut}
 use Rattle.reissue.specs.Calls.{Truth}
 use Rattle.serve.specs.Reader.{Stands}

@@ -1,4 +1,4 @@
-use Rattle.std.proofs.Common.{rules, ◌≡◌, ◌+◌, ◌∷◌, [], ◌++◌, take, arith, get_or, refl}
+use Rattle.std.proofs.Common.{◌≡◌, ◌+◌, ◌∷◌, [], ◌++◌, take, arith, get_or, refl}
 use Rattle.tools.specs.Played.{root_path}
 use Rattle.std.proofs.lemmas.Grind.{common_steps}
 use Rattle.tools.proofs.Plays.{plays_more}

@@ -1,4 +1,4 @@
-use Rattle.std.proofs.Common.{◌≡◌, ◌∙◌, sym}
+use Rattle.std.proofs.Common.{◌∙◌, sym}
 use Rattle.tools.proofs.Plays.{is_answered, err_is}
 use Rattle.tools.proofs.play.play_session.Goals as goal
 

@@ -1,4 +1,4 @@
-use Rattle.std.proofs.Common.{rules, ◌≡◌, ◌∙◌, refl, inl, inr, codes}
+use Rattle.std.proofs.Common.{refl, inl, inr, codes}
 use Rattle.tools.proofs.Writes.{part_either, with_newline}
 use Rattle.tools.specs.Played.{refusal_text}
 use Rattle.tools.proofs.play.write_refusal.Goals as goal
