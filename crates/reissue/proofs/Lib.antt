@@ -14,5 +14,5 @@ mod PostRules
 mod TableRules
 mod StepRules
 mod CallRules
-mod Joining
+pub mod Joining
 mod Posting
