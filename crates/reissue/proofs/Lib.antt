@@ -1,4 +1,4 @@
-mod Maps
+pub mod Maps
 mod Places
 mod Finding
 mod Tickets

@@ -1,0 +1,10 @@
+mod Held
+mod Places
+mod Sizes
+mod Tied
+mod Agreeing
+mod Runs
+mod Edits
+mod Taking
+mod Beginning
+mod Placing
