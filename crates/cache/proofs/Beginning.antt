@@ -4,7 +4,7 @@ use Rattle.std.proofs.lemmas.List.{length-append}
 use mathlib.Core.Logic.{inl, inr, ◌⊎◌}
 use Rattle.std.specs.Prelude.{◌&&◌, is_some, not, slice_index, slice_get}
 use Rattle.std.proofs.lemmas.Bool.{cases_eq, cases_lt}
-use Rattle.std.proofs.Math.Nat.{mul-le-mul_right}
+use Rattle.std.proofs.Math.Nat.{mul-le-mul_right, suc-mul}
 use Rattle.message.specs.declared.Kind.{Kind}
 use Rattle.message.specs.declared.Kind.TheVariants as kind
 use Rattle.reissue.specs.declared.ask.Ask.{Ask}
@@ -67,8 +67,8 @@ free_block size block pending start count all at whole = record { each = λ t r 
     elim (apart block x.block) [
       | inl e ↦ inl (x.start ∙ ap (λ b. b * size) (sym e) ∙ sym at, x.whole ∙ sym whole)
       | inr o ↦ elim o [
-          | inl less ↦
-              let far = above block x.block less in
+          | inl lower ↦
+              let far = above block x.block lower in
               inr (inl (omega (arith, far, at, whole, x.start)))
           | inr more ↦
               let far = above x.block block more in
@@ -76,23 +76,23 @@ free_block size block pending start count all at whole = record { each = λ t r 
         ]
     ] }
   where
+    less : (c b : ℕ) → c ≤ b → c ≢ b → c < b
+    less c b le ne = elim (cases_lt c b) [
+      | inl lt ↦ lt
+      | inr more ↦ absurd (ne (omega (arith, le, more)))
+    ]
     apart : (b c : ℕ) → (b ≡ c) ⊎ ((b < c) ⊎ (c < b))
     apart b c = elim (cases_lt b c) [
       | inl lt ↦ inr (inl lt)
       | inr le ↦ elim (cases_eq b c) [
           | inl e ↦ inl e
-          | inr ne ↦ inr (inr (let other : c ≢ b = λ e. ne (sym e) in lt-of c b le other))
+          | inr ne ↦ inr (inr (let other : c ≢ b = λ e. ne (sym e) in less c b le other))
         ]
-    ]
-    lt-of : (c b : ℕ) → c ≤ b → c ≢ b → c < b
-    lt-of c b le ne = elim (cases_lt c b) [
-      | inl lt ↦ lt
-      | inr more ↦ absurd (ne (omega (arith, le, more)))
     ]
     above : (b c : ℕ) → b < c → b * size + size ≤ c * size
     above b c lt =
         let more : suc b * size ≤ c * size = mul-le-mul_right size lt in
-        let one : suc b * size ≡ size + b * size = refl in
+        let one : suc b * size ≡ b * size + size = suc-mul b size in
         omega (arith, more, one)
 
 -- one more is pending, and one more id was given

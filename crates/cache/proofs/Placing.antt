@@ -17,7 +17,9 @@ use Rattle.cache.specs.Slots.{held, is_number, ticket_of, dirtied, is_clean, is_
 use Rattle.cache.specs.Edits.{IsSetAt, IsChangedAt, IsSlotAt, IsFreeAt, IsAt, Leaves}
 use Rattle.cache.specs.Frames.{Tied, CacheAgrees, HasSure, view, frame_of, disk_block, with_bytes}
 use Rattle.cache.specs.Calls.{Caching, IsReady, Runs, Serves, Keeps, Rewrites, Blanks, unless_clean, forgotten}
-use Rattle.cache.specs.Takes.{Reads, AreDisk, BytesOf}
+use Rattle.cache.specs.declared.cache.Took.{Took}
+use Rattle.cache.specs.declared.cache.Took.TheVariants as took
+use Rattle.cache.specs.Takes.{Reads, AreDisk, BytesOf, Takes, ReadTells, ReadsStay, is_read_of, IsReadAt}
 use Rattle.cache.proofs.Held.{block_is, is_its_number, get_set_same, get_set_other, place_of, held_at, held_set, held_other, held_vacated, held_filled, some_holds}
 use Rattle.cache.proofs.Places.{none_at, some_at}
 use Rattle.cache.proofs.Tied.{tied_idle, tied_changed, no_ticket}
@@ -42,6 +44,60 @@ keeps_then a b c x y =
 -- nothing was done
 pub keeps_none : (c : Caching) → IsReady c → Keeps c c
 keeps_none c ready = runs_none c (λ w v. Serves c c w v) ready (λ w. record { agrees = λ a. a; same = λ a. refl })
+
+-- after a call, a message taken
+pub keeps_took : (r : Result Took Cut) (a b c : Caching) → Keeps a b → Runs None b c (λ w v. Takes r b c w v) → Keeps a c
+keeps_took r a b c x y =
+    runs_then None a b c (λ w v. Serves a b w v) (λ w v. Takes r b c w v) (λ w v. Serves a c w v) (λ u v w p q. serves_then a b c u v w p q.serves) x y
+
+-- a read that was cut
+pub reads_cut : (r : Result (List ℕ) Cut) (start size : ℕ) (a b : Caching) → IsErr r → Keeps a b → Runs None a b (λ w v. Reads r start size a b w v)
+reads_cut r start size a b cut x =
+    runs_as None a b (λ w v. Serves a b w v) (λ w v. Reads r start size a b w v) (λ w v p. record { serves = p; bytes = none r cut v }) x
+  where
+    none : (q : Result (List ℕ) Cut) → IsErr q → (v : DiskState) → BytesOf q start size v
+    none (Err e) h v = tt
+    none (Ok bytes) h v = cc
+
+-- a read leaves what would be read back
+pub keeps_read : (r : Result (List ℕ) Cut) (start size : ℕ) (a b : Caching) → Runs None a b (λ w v. Reads r start size a b w v) → Keeps a b
+keeps_read r start size a b x = runs_as None a b (λ w v. Reads r start size a b w v) (λ w v. Serves a b w v) (λ w v p. p.serves) x
+
+-- a read is pending still
+pub still_reading : (r : Result Took Cut) (pending pending' : ℕ → Option Begun) (ticket start size : ℕ) → ReadsStay r pending pending'
+    → is_read_of r ticket ≡ false → IsReadAt pending ticket start size → IsReadAt pending' ticket start size
+still_reading r pending pending' ticket start size stay other x = record {
+    request = x.request;
+    is = stay.stays ticket x.request x.is x.read other;
+    read = x.read;
+    start_is = x.start_is;
+    size_is = x.size_is;
+  }
+
+-- the read is settled
+pub reads_done : (r : Result Took Cut) (a b c : Caching) (settled ticket start size : ℕ) (bytes : List ℕ) → r ≡ Ok (took.Read settled bytes) → settled ≡ ticket
+    → IsReadAt (pending_of b.table.pending) ticket start size → Keeps a b → Runs None b c (λ w v. Takes r b c w v)
+    → Runs None a c (λ w v. Reads (Ok bytes) start size a c w v)
+reads_done r a b c settled ticket start size bytes e same at x y =
+    runs_then None a b c (λ w v. Serves a b w v) (λ w v. Takes r b c w v) (λ w v. Reads (Ok bytes) start size a c w v)
+      (λ u v w p q. record { serves = serves_then a b c u v w p q.serves; bytes = told w q.tells }) x y
+  where
+    told : (w : DiskState) → ReadTells r (pending_of b.table.pending) w → AreDisk start size bytes w
+    told w h =
+        let one : ReadTells (Ok (took.Read settled bytes)) (pending_of b.table.pending) w =
+          subst (λ (k : Result Took Cut). ReadTells k (pending_of b.table.pending) w) e h in
+        let all = one at.request (ap (pending_of b.table.pending) same ∙ at.is) in
+        subst (λ (n : ℕ). AreDisk n size bytes w) at.start_is (subst (λ (n : ℕ). AreDisk at.request.start n bytes w) at.size_is all)
+
+-- a read after a call
+pub reads_after : (r : Result (List ℕ) Cut) (a b c : Caching) (block its : ℕ) → its ≡ block → Keeps a b
+    → Runs None b c (λ w v. Reads r (its * b.size) b.size b c w v) → Runs None a c (λ w v. Reads r (block * a.size) a.size a c w v)
+reads_after r a b c block its same x y =
+    runs_then None a b c (λ w v. Serves a b w v) (λ w v. Reads r (its * b.size) b.size b c w v) (λ w v. Reads r (block * a.size) a.size a c w v)
+      (λ u v w p q. record {
+        serves = serves_then a b c u v w p q.serves;
+        bytes = subst (λ (n : ℕ). BytesOf r (block * n) n w) x.size (subst (λ (n : ℕ). BytesOf r (n * b.size) b.size w) same q.bytes);
+      }) x y
 
 -- a change of the slots alone, as a call
 pub runs_slots : (old new : Caching) (R : DiskState → DiskState → Type 0) → new.minor ≡ old.minor → new.size ≡ old.size → new.table ≡ old.table
@@ -164,18 +220,18 @@ filled_held items items' at b t change is_t block d free none e =
     ap held (e.all ∙ ap (λ (y : Slot). set items at y) (is_t e.slot)) ∙ held_filled items at b free.slot t d free.is free.none block none
 
 -- what was read comes into it, as a call
-pub placed : (old new : Caching) (items items' : List Slot) (at b start : ℕ) (bytes : List ℕ) (before : Caching)
+pub placed : (old new : Caching) (items items' : List Slot) (at b start size : ℕ) (bytes : List ℕ) (before : Caching)
     → IsDistinct items → IsFreeAt items at → held items b ≡ None
     → IsSetAt items items' at (λ s. record { block = Some b; bytes = bytes; state = Clean })
-    → old.held ≡ held items → new ≡ record old { held = held items' } → start ≡ b * old.size → IsReady old
-    → Runs None before old (λ w v. Reads (Ok bytes) start old.size before old w v)
+    → old.held ≡ held items → new ≡ record old { held = held items' } → start ≡ b * size → old.size ≡ size → IsReady old
+    → Runs None before old (λ w v. Reads (Ok bytes) start size before old w v)
     → Keeps before new
-placed old new items items' at b start bytes before d free none e here all at_start ready x =
-    runs_then None before old new (λ w v. Reads (Ok bytes) start old.size before old w v)
-      (λ w v. AreDisk start old.size bytes w → Serves old new w v) (λ w v. Serves before new w v)
+placed old new items items' at b start size bytes before d free none e here all at_start whole ready x =
+    runs_then None before old new (λ w v. Reads (Ok bytes) start size before old w v)
+      (λ w v. AreDisk start size bytes w → Serves old new w v) (λ w v. Serves before new w v)
       (λ u v w p q. serves_then before old new u v w p.serves (q p.bytes)) x
-      (subst (λ (c : Caching). Runs None old c (λ w v. AreDisk start old.size bytes w → Serves old c w v)) (sym all)
-        (runs_slots old after (λ w v. AreDisk start old.size bytes w → Serves old after w v) refl refl refl refl refl refl refl refl ready tied
+      (subst (λ (c : Caching). Runs None old c (λ w v. AreDisk start size bytes w → Serves old c w v)) (sym all)
+        (runs_slots old after (λ w v. AreDisk start size bytes w → Serves old after w v) refl refl refl refl refl refl refl refl ready tied
           (λ w told. record {
             agrees = λ a. subst (λ (h : ℕ → Option Slot). CacheAgrees old.size h w) (sym to)
               (agrees_put old.size old.held w b (Some t) (λ u h c o lt. subst (λ (y : Slot). HasSure w (b * old.size + o) (slice_index y.bytes o))
@@ -196,12 +252,13 @@ placed old new items items' at b start bytes before d free none e here all at_st
     tied = subst (λ (h : ℕ → Option Slot). Tied old.size h (pending_of old.table.pending)) (sym to)
       (tied_idle old.size old.held (pending_of old.table.pending) b (Some t) (λ n s h k. let z = slot in cc)
         (λ n u h k. let y : t ≡ u = cc in let z : None ≡ Some n = ap (λ (x : Slot). ticket_of x.state) y ∙ k in cc) ready.tied)
-    sure : (w : DiskState) → CacheAgrees old.size old.held w → AreDisk start old.size bytes w → (o : ℕ) → o < old.size
+    sure : (w : DiskState) → CacheAgrees old.size old.held w → AreDisk start size bytes w → (o : ℕ) → o < old.size
         → HasSure w (b * old.size + o) (slice_index bytes o)
     sure w a told o lt =
         let u = a.covered b slot o lt in
-        let place : start + o ≡ b * old.size + o = ap (λ q. q + o) at_start in
-        record { byte_is = told.each o lt (ap w.unsure place ∙ u) ∙ ap w.disk place; sure = u }
+        let place : start + o ≡ b * old.size + o = ap (λ q. q + o) (at_start ∙ ap (λ n. b * n) (sym whole)) in
+        let lt' : o < size = subst (λ (n : ℕ). o < n) whole lt in
+        record { byte_is = told.each o lt' (ap w.unsure place ∙ u) ∙ ap w.disk place; sure = u }
 
 -- where a block's frame stands then
 pub filled_at : (old new : List Slot) (at b : ℕ) (bytes : List ℕ) (x : State)
@@ -263,19 +320,19 @@ pub changed_row : (size from : ℕ) (bytes : List ℕ) (b : ℕ) (s t : Slot) (w
     → frame_or (frame_of size (Some t)) (disk_block size w b) ≡ with_bytes from bytes (frame_or (frame_of size (Some s)) (disk_block size w b))
 changed_row size from bytes b s t w within h = λ i o. at o (cases_lt o size) i
   where
-    at : (o : ℕ) → ((o < size) ⊎ (size ≤ o))
-        → frame_or (frame_of size (Some t)) (disk_block size w b) o ≡ with_bytes from bytes (frame_or (frame_of size (Some s)) (disk_block size w b)) o
-    at o (inl lt) = seen_within size w b o (Some t) lt ∙ h o
-      ∙ ap (λ (y : ℕ). cond (nat_le from o && nat_lt o (from + length bytes)) (slice_index bytes (o - from)) y) (sym (seen_within size w b o (Some s) lt))
-    at o (inr le) = seen_past size w b o (Some t) le ∙ sym (past o le ∙ seen_past size w b o (Some s) le)
+    and_false : (b : Bool) → (b && false) ≡ false
+    and_false true = refl
+    and_false false = refl
     past : (o : ℕ) → size ≤ o → with_bytes from bytes (frame_or (frame_of size (Some s)) (disk_block size w b)) o ≡ frame_or (frame_of size (Some s)) (disk_block size w b) o
     past o le =
         let no : nat_lt o (from + length bytes) ≡ false = grind (arith, nat_tests) in
         cond-false (nat_le from o && nat_lt o (from + length bytes)) (slice_index bytes (o - from)) (frame_or (frame_of size (Some s)) (disk_block size w b) o)
           (rw no (and_false (nat_le from o)))
-    and_false : (b : Bool) → (b && false) ≡ false
-    and_false true = refl
-    and_false false = refl
+    at : (o : ℕ) → ((o < size) ⊎ (size ≤ o))
+        → frame_or (frame_of size (Some t)) (disk_block size w b) o ≡ with_bytes from bytes (frame_or (frame_of size (Some s)) (disk_block size w b)) o
+    at o (inl lt) = seen_within size w b o (Some t) lt ∙ h o
+      ∙ ap (λ (y : ℕ). cond (nat_le from o && nat_lt o (from + length bytes)) (slice_index bytes (o - from)) y) (sym (seen_within size w b o (Some s) lt))
+    at o (inr le) = seen_past size w b o (Some t) le ∙ sym (past o le ∙ seen_past size w b o (Some s) le)
 
 -- the row of a block of zero bytes
 pub zero_row : (size b : ℕ) (t : Slot) (w : DiskState) → ((o : ℕ) → slice_index t.bytes o ≡ 0)
@@ -294,7 +351,7 @@ pub blanked : (old new : Caching) (items items' : List Slot) (at b : ℕ) (bytes
     → IsSetAt items items' at (λ s. record { block = Some b; bytes = bytes; state = Dirty })
     → old.held ≡ held items → new ≡ record old { held = held items' } → IsReady old → Keeps before old
     → Runs None before new (λ w v. Rewrites b (λ row o. 0) before new w v)
-blanked old new items items' at b bytes before d free none zero e here all ready x =
+blanked old new items items' at b bytes before d free none zeros e here all ready x =
     runs_then None before old new (λ w v. Serves before old w v) (λ w v. Rewrites b (λ row o. 0) old new w v) (λ w v. Rewrites b (λ row o. 0) before new w v)
       (λ u v w p q. record {
         agrees = λ a. q.agrees (p.agrees a);
@@ -307,7 +364,7 @@ blanked old new items items' at b bytes before d free none zero e here all ready
               (agrees_put old.size old.held w b (Some t) (λ u h c o lt.
                 absurd (let y : t ≡ u = cc in let z : Dirty ≡ Clean = ap (λ (k : Slot). k.state) y ∙ c in let q : ⊥ = cc in q)) (λ h o lt. cc) a);
             changed = λ a. ap (λ (h : ℕ → Option Slot). view old.size h w) to
-              ∙ view_row old.size old.held w b (Some t) (λ o. 0) (zero_row old.size b t w zero);
+              ∙ view_row old.size old.held w b (Some t) (λ o. 0) (zero_row old.size b t w zeros);
           })))
   where
     t : Slot
@@ -363,3 +420,8 @@ forgotten_other items at b s d found is unclean =
 -- and where there is none
 pub forgotten_none : (h : ℕ → Option Slot) (b : ℕ) → h b ≡ None → h ≡ forgotten b h
 forgotten_none h b none = put_id h b (unless_clean (h b)) (none ∙ sym (ap unless_clean none))
+
+-- a frame of zero bytes that was cut
+pub blanks_cut : {X : Type 0} (r : Result X Cut) (b : ℕ) (old new : Caching) → IsErr r → Keeps old new → Runs None old new (λ w v. Blanks r b old new w v)
+blanks_cut (Err cut) b old new h x = x
+blanks_cut (Ok frame) b old new h x = cc

@@ -13,7 +13,7 @@ returns-then-is_clean-clause-keeps g c =
     let items = s.slots.items.items in
     let clean = sym c.is_clean.ensures ∙ c.if-is_clean.true in
     vacated (caching h t r b s) (caching_of h t r b s.transfers s.shape c.vacate.new.self.items.items s.ended) items c.vacate.new.self.items.items c.in-Some.at
-      s.slots.distinct (record { slot = c.get.result.now; is = c.get.ensures; passes = clean_passes c.get.result.now clean }) c.vacate.ensures refl refl c.requires
+      s.slots.distinct (record { slot = c.get.result.now; is = c.get.ensures; passes = clean_passes c.get.result.now clean }) c.vacate.ensures refl refl c.requires.ready
 
 pub returns-then-is_clean-clause-held : goal.returns-then-is_clean-clause-held
 returns-then-is_clean-clause-held g c =
@@ -23,7 +23,7 @@ returns-then-is_clean-clause-held g c =
       (found_at items c.in-Some.at c.args.block (sym c.find.ensures ∙ c.in-Some.is)) c.get.ensures (sym c.is_clean.ensures ∙ c.if-is_clean.true) c.vacate.ensures
 
 pub returns-else-is_clean-clause-keeps : goal.returns-else-is_clean-clause-keeps
-returns-else-is_clean-clause-keeps g c = keeps_none _ c.requires
+returns-else-is_clean-clause-keeps g c = keeps_none _ c.requires.ready
 
 pub returns-else-is_clean-clause-held : goal.returns-else-is_clean-clause-held
 returns-else-is_clean-clause-held g c =
@@ -33,7 +33,7 @@ returns-else-is_clean-clause-held g c =
       (found_at items c.in-Some.at c.args.block (sym c.find.ensures ∙ c.in-Some.is)) c.get.ensures (sym c.is_clean.ensures ∙ c.if-is_clean.false)
 
 pub returns-in_default-clause-keeps : goal.returns-in_default-clause-keeps
-returns-in_default-clause-keeps g c = keeps_none _ c.requires
+returns-in_default-clause-keeps g c = keeps_none _ c.requires.ready
 
 pub returns-in_default-clause-held : goal.returns-in_default-clause-held
 returns-in_default-clause-held g c = forgotten_none _ c.args.block (none_held c.args.self.now.slots.items.items c.args.block (sym c.find.ensures ∙ c.in_default.is))

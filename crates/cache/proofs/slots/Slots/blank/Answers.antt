@@ -19,4 +19,4 @@ returns c =
     let ok = c.args.self.now.items.ok in
     let lt : c.args.at < length c.args.self.now.items.items = omega arith in
     let at = slice_get_read c.args.self.now.items.items _ c.args.at c.index_mut-slot.result.now refl lt c.index_mut-slot.ensures.value in
-    record { slot = c.index_mut-slot.result.now; after = _; is = at; all = refl; block = refl; state = c.dirtied.ensures; zero = c.zeros.ensures }
+    record { slot = c.index_mut-slot.result.now; after = _; is = at; all = refl; block = refl; state = c.dirtied-slot.ensures; zero = c.zeros-slot.ensures }
