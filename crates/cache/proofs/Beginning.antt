@@ -19,7 +19,7 @@ use Rattle.cache.specs.declared.slots.Slot.{Slot}
 use Rattle.cache.specs.declared.state.State.{State}
 use Rattle.cache.specs.declared.state.State.TheVariants.{Clean, Dirty, Writing, Changed}
 use Rattle.cache.specs.Slots.{held, ticket_of, is_clean, is_dirty, is_dirty_slot, is_unclean_slot, IsDistinct}
-use Rattle.cache.specs.Edits.{IsSetAt, IsSlotAt, Leaves}
+use Rattle.cache.specs.Edits.{IsSetAt, IsSlotAt, IsIssued, Leaves}
 use Rattle.cache.specs.Frames.{Tied, IsOfBlock, CacheAgrees, view}
 use Rattle.cache.specs.Calls.{Caching, IsReady, Serves, Keeps}
 use Rattle.cache.specs.Takes.{IsReadAt}
@@ -207,3 +207,18 @@ read_is_at n start size pending pending' ask opens read position count = record 
     start_is = position;
     size_is = count;
   }
+
+-- the write of the slot there is begun
+pub issued_at : (items items' : List Slot) (b n at : ℕ) (s : Slot) → IsDistinct items → slice_get items at ≡ Some s → s.block ≡ Some b → s.state ≡ Dirty
+    → IsSetAt items items' at (λ t. record t { state = Writing n }) → IsIssued items at (held items')
+issued_at items items' b n at s d is block st e =
+    let one : e.slot ≡ s = one_slot items at e.slot s e.is is in
+    record {
+      slot = s;
+      block = b;
+      ticket = n;
+      is = is;
+      block_is = block;
+      dirty = st;
+      all = ap held (e.all ∙ ap (λ (y : Slot). set items at (record y { state = Writing n })) one) ∙ held_set items at b s (record s { state = Writing n }) d is block refl;
+    }

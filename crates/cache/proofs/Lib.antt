@@ -1,10 +1,13 @@
 mod Held
 mod Places
 mod Sizes
-mod Tied
-mod Agreeing
-mod Runs
-mod Edits
+pub mod Tied
+pub mod Agreeing
+pub mod Runs
+pub mod Edits
 mod Taking
 mod Beginning
-mod Placing
+pub mod Placing
+mod Order
+mod Choosing
+pub mod ReadingBack

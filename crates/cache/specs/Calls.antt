@@ -1,5 +1,5 @@
 -- What each call of a cache does at its link, to the disk, and to what would be read back.
-use Rattle.std.specs.Prelude.{◌≡◌, ℕ, ◌+◌, ◌^◌, ◌<◌, ◌≤◌, List, [], ◌∷◌, ◌++◌, length, Bool, true, false, Option, Some, None, Result, Ok, Err, if◌then◌else◌}
+use Rattle.std.specs.Prelude.{◌≡◌, ◌⊎◌, ℕ, ◌+◌, ◌^◌, ◌<◌, ◌≤◌, List, [], ◌∷◌, ◌++◌, length, Bool, true, false, Option, Some, None, Result, Ok, Err, if◌then◌else◌}
 use Rattle.message.specs.declared.Incoming.{Incoming}
 use Rattle.marks.specs.Marks.{Mark}
 use Rattle.marks.specs.Disk.{Contents, HasTrueReplies}
@@ -10,10 +10,10 @@ use Rattle.reissue.specs.declared.table.Table.{Table}
 use Rattle.reissue.specs.Moves.{DiskState, Begun, state_after, put, IsBusy}
 use Rattle.reissue.specs.Entries.{pending_of, AllOfMinor}
 use Rattle.reissue.specs.Agrees.{Agrees}
-use Rattle.reissue.specs.Posts.{HasRoom}
+use Rattle.reissue.specs.Posts.{HasRoom, OnlyPosts}
 use Rattle.reissue.specs.Rules.{KeepsRulesBy}
 use Rattle.reissue.specs.Calls.{Truth}
-use Rattle.reissue.specs.Transfers.{table_of, link_of}
+use Rattle.reissue.specs.Transfers.{table_of, link_of, with_link}
 use Rattle.cache.specs.declared.slots.Slot.{Slot}
 use Rattle.cache.specs.declared.slots.Frame.{Frame}
 use Rattle.reissue.specs.declared.transfers.Transfers.{Transfers}
@@ -22,7 +22,7 @@ use Rattle.cache.specs.declared.cache.Cache.{Cache}
 use Rattle.cache.specs.declared.refusals.Cut.{Cut}
 use Rattle.cache.specs.declared.refusals.Cut.TheVariants.{Eio, LinkEnded}
 use Rattle.cache.specs.Slots.{held, is_clean}
-use Rattle.cache.specs.Edits.{IsAt}
+use Rattle.cache.specs.Edits.{IsAt, NoneDirty}
 use Rattle.cache.specs.Frames.{Tied, CacheAgrees, view, with_bytes}
 
 -- What is said of a cache.
@@ -146,3 +146,30 @@ unless_clean (Some s) = if is_clean s.state then None else Some s
 -- the slots after a block was forgotten
 abbrev pub forgotten : ℕ → (ℕ → Option Slot) → ℕ → Option Slot
 forgotten block held = put held block (unless_clean (held block))
+
+-- a cache just made over transfers: no frame is in use, and the link hasn't ended
+pub record IsMade (minor size : ℕ) (table : Table) (told : List Told) (c : Caching) : Type 0 where
+  pub minor_is : c.minor ≡ minor
+  pub size_is : c.size ≡ size
+  pub none : (b : ℕ) → c.held b ≡ None
+  pub table_is : c.table ≡ table
+  pub told_is : c.told ≡ told
+  pub not_ended : c.ended ≡ false
+
+-- the link was told nothing but posts: no message was taken
+pub record PostsAlone (old new : Caching) : Type 0 where
+  pub posts : List Told
+  pub history : new.told ≡ posts ++ old.told
+  pub only_posts : OnlyPosts posts
+
+-- no further write can be begun before a message is taken: no frame is dirty, or a request is pending
+pub record IsStuck (c : Caching) : Type 0 where
+  pub why : NoneDirty c.held ⊎ IsBusy (pending_of c.table.pending)
+
+-- a cache over another link
+abbrev pub with_cache_link : {L : Type 0} → Cache L → L → Cache L
+with_cache_link cache link = record cache { transfers = with_link cache.transfers link }
+
+-- a cache for which no flush is wanted
+abbrev pub without_flush : {L : Type 0} → Cache L → Cache L
+without_flush cache = record cache { flush = false }

@@ -1,8 +1,9 @@
 -- One slot changed, and what such changes leave.
-use Rattle.std.specs.Prelude.{◌≡◌, ℕ, ◌+◌, ◌-◌, List, Option, Some, None, Bool, true, ◌&&◌, slice_get, slice_set, slice_index, if◌then◌else◌, nat_le, nat_lt, length}
+use Rattle.std.specs.Prelude.{◌≡◌, ℕ, ◌+◌, ◌-◌, List, Option, Some, None, Bool, true, false, ◌≤◌, ◌&&◌, slice_get, slice_set, slice_index, if◌then◌else◌, nat_le, nat_lt, length}
 use Rattle.reissue.specs.Moves.{put}
 use Rattle.cache.specs.declared.slots.Slot.{Slot}
-use Rattle.cache.specs.Slots.{ticket_of, held, dirtied, written}
+use Rattle.cache.specs.declared.state.State.TheVariants.{Clean, Dirty, Writing}
+use Rattle.cache.specs.Slots.{ticket_of, held, dirtied, written, is_clean, is_dirty}
 
 -- the slot there is changed so, and no other
 pub record IsSetAt (old new : List Slot) (i : ℕ) (change : Slot → Slot) : Type 0 where
@@ -71,3 +72,38 @@ pub record IsWrittenSlot (ticket : ℕ) (old new : List Slot) : Type 0 where
 pub record IsWritten (ticket : ℕ) (old new : List Slot) : Type 0 where
   pub slot : (b : ℕ) (s : Slot) → held old b ≡ Some s → ticket_of s.state ≡ Some ticket → IsWrittenSlot ticket old new
   pub leaves : Leaves old new
+
+-- the bytes of each slot with a block are the disk's
+abbrev pub AllClean : (ℕ → Option Slot) → Type 0
+AllClean held = (b : ℕ) (s : Slot) → held b ≡ Some s → s.state ≡ Clean
+
+-- those of some slot may not be
+pub record SomeUnclean (held : ℕ → Option Slot) : Type 0 where
+  pub block : ℕ
+  pub slot : Slot
+  pub is : held block ≡ Some slot
+  pub unclean : is_clean slot.state ≡ false
+
+-- no slot with a block is dirty
+abbrev pub NoneDirty : (ℕ → Option Slot) → Type 0
+NoneDirty held = (b : ℕ) (s : Slot) → held b ≡ Some s → is_dirty s.state ≡ false
+
+-- the write of the dirty slot there is begun, and the slots of other blocks stay
+pub record IsIssued (items : List Slot) (at : ℕ) (held' : ℕ → Option Slot) : Type 0 where
+  pub slot : Slot
+  pub block : ℕ
+  pub ticket : ℕ
+  pub is : slice_get items at ≡ Some slot
+  pub block_is : slot.block ≡ Some block
+  pub dirty : slot.state ≡ Dirty
+  pub all : held' ≡ put (held items) block (Some (record slot { state = Writing ticket }))
+
+-- the write of the dirty slot with the lowest block is begun, and the slots of other blocks stay
+pub record IssuesLowest (old new : ℕ → Option Slot) : Type 0 where
+  pub slot : Slot
+  pub block : ℕ
+  pub ticket : ℕ
+  pub is : old block ≡ Some slot
+  pub dirty : slot.state ≡ Dirty
+  pub lowest : (b : ℕ) (s : Slot) → old b ≡ Some s → s.state ≡ Dirty → block ≤ b
+  pub all : new ≡ put old block (Some (record slot { state = Writing ticket }))

@@ -2,6 +2,9 @@
 pub mod Refusals
 pub mod Slots
 pub mod Edits
+pub mod Uses
+pub mod Order
 pub mod Frames
 pub mod Calls
 pub mod Takes
+pub mod Laws

@@ -1,7 +1,11 @@
 //! Frames of a volume's blocks, over transfers.
 
 ghost use Rattle.std.specs.Prelude.{◌≡◌, ◌<◌, ◌≤◌, ◌+◌, ◌*◌, ◌-◌, ◌^◌, ℕ, List, [], Option, Some, None, Result, Ok, Err, Bool, true, false, IsTrue, IsErrOf, ◌↔◌, length, take, slice_get, slice_index, IfOk, IfErr, OnOk, OnErr, IfSome, not};
+ghost use Rattle.std.specs.Prelude.{MatchBool};
+ghost use Rattle.std.specs.Bool.{OnTrue, OnFalse};
+ghost use Rattle.std.specs.Borrow.{Lends, sem};
 ghost use Rattle.layout.specs.Places.{is_block_size};
+ghost use Rattle.reissue.specs.Transfers.{table_of, link_of};
 ghost use Rattle.legal.specs.Mount.{is_frame_count};
 ghost use Rattle.reissue.specs.Room.{room_needed};
 ghost use Rattle.reissue.specs.Posts.{is_message, HasRoom};
@@ -11,7 +15,7 @@ ghost use Rattle.cache.specs.Takes.{is_ended_by};
 
 use crate::refusals::{CacheRefusal, Cut};
 use crate::shape::Shape;
-use crate::slots::{Frame, Slots, zeros};
+use crate::slots::{Among, Frame, Slots, zeros};
 use crate::state::State;
 use layout::Geometry;
 use message::Incoming;
@@ -52,11 +56,73 @@ pub struct Cache<L> {
 
 impl<L: Link> Cache<L> {
     ghost use Rattle.cache.specs.Slots.{held, is_dirty_slot, is_unclean_slot};
-    ghost use Rattle.cache.specs.Edits.{IsWritten, IsSlotAt, IsFreeAt, IsAt, Leaves};
+    ghost use Rattle.cache.specs.Edits.{AllClean, SomeUnclean, IsIssued, IssuesLowest, IsWritten, IsSlotAt, IsFreeAt, IsAt, Leaves};
     ghost use Rattle.cache.specs.Frames.{frames_of, view, with_bytes};
-    ghost use Rattle.cache.specs.Calls.{caching, IsReady, IsLive, IsWhyCut, IsFrame, Runs, Keeps, Serves, Blanks, Rewrites, forgotten};
+    ghost use Rattle.cache.specs.Calls.{caching, IsReady, IsLive, IsWhyCut, IsFrame, IsMade, IsStuck, PostsAlone, Runs, Keeps, Serves, Blanks, Rewrites, forgotten, with_cache_link, without_flush};
+    ghost use Rattle.cache.specs.contracts.cache.Cache.{the_row};
     ghost use Rattle.cache.specs.declared.slots.Frame.{Frame as FrameValue};
     ghost use Rattle.cache.specs.Takes.{Settles, took_of, Takes, ReadsStay, IsReadAt, Reads, messages_left};
+
+    /// A cache with so many frames, none of them in use, over transfers with nothing pending: 1 BadFrames unless they are 16 to
+    /// 4096, looked at first; 2 OutOfMemory.
+    pub fn new(alloc: Global, transfers: Transfers<L>, minor: u8, geometry: &Geometry, frames: u32) -> Result<Cache<L>, CacheRefusal>
+    where
+        L: Drop,
+        requires block_size { IsTrue (is_block_size geometry.now.block_size) }
+        requires idle { (table_of transfers).pending ≡ [] }
+        requires room { HasRoom (table_of transfers) (L.room (link_of transfers)) }
+        requires ids { (table_of transfers).ids + L.budget_left (link_of transfers) + 16 < 2 ^ 60 }
+        ensures bad_frames { IsErrOf result CacheRefusal.BadFrames ↔ (is_frame_count frames ≡ false) }
+        ensures ready { IfOk result (λ c. IsReady (caching L.history L.truth L.room L.budget_left c)) }
+        ensures made { IfOk result (λ c. IsMade minor geometry.now.block_size (table_of transfers) (L.history (link_of transfers)) (caching L.history L.truth L.room L.budget_left c)) }
+    {
+        if frames < 16 || 4096 < frames {
+            return Err(CacheRefusal::BadFrames);
+        }
+        let slots = match Slots::new(alloc, frames as usize) {
+            Ok(slots) => slots,
+            Err(_) => return Err(CacheRefusal::OutOfMemory),
+        };
+        Ok(Cache {
+            transfers,
+            slots,
+            shape: Shape::new(minor, geometry.block_size),
+            ended: false,
+            flush: false,
+        })
+    }
+
+    /// How many ids were given to requests.
+    pub fn ids(&self) -> u64
+        ensures { result ≡ (caching L.history L.truth L.room L.budget_left self.now).table.ids }
+    {
+        self.transfers.ids()
+    }
+
+    /// The link.
+    pub fn link(&self) -> &L
+        ensures { result.now ≡ link_of self.now.transfers }
+    {
+        self.transfers.link()
+    }
+
+    /// The link, to be changed: all else stays as it is.
+    pub fn link_mut(&mut self) -> &mut L
+        ensures* lends { sem 𝓛 (Lends (the_row L.row) L.row self.entry result (with_cache_link self.entry.now)) }
+        ensures value { result.now ≡ link_of self.old.transfers }
+    {
+        self.transfers.link_mut()
+    }
+
+    /// Whether a Flush was taken that isn't done; from now on it counts as done.
+    pub fn take_flush(&mut self) -> bool
+        ensures wanted { result ≡ self.old.flush }
+        ensures done { self.new ≡ without_flush self.old }
+    {
+        let wanted = self.flush;
+        self.flush = false;
+        wanted
+    }
 
     /// Whether a message may come, or why not.
     fn live(&self) -> Result<(), Cut>
@@ -136,6 +202,8 @@ impl<L: Link> Cache<L> {
         ensures busy { IsBusy (pending_of (caching L.history L.truth L.room L.budget_left self.new).table.pending) }
         ensures left { messages_left (caching L.history L.truth L.room L.budget_left self.new) ≤ messages_left (caching L.history L.truth L.room L.budget_left self.old) }
         ensures leaves { Leaves self.old.slots.items.items self.new.slots.items.items }
+        ensures issued { MatchBool result (IsIssued self.old.slots.items.items at (caching L.history L.truth L.room L.budget_left self.new).held) ((caching L.history L.truth L.room L.budget_left self.new).held ≡ (caching L.history L.truth L.room L.budget_left self.old).held) }
+        ensures posts { PostsAlone (caching L.history L.truth L.room L.budget_left self.old) (caching L.history L.truth L.room L.budget_left self.new) }
     {
         let slot = self.slots.get(at);
         let block = match slot.block {
@@ -274,6 +342,7 @@ impl<L: Link> Cache<L> {
         ensures cut { IfErr result (λ cut. IsWhyCut (caching L.history L.truth L.room L.budget_left self.new) cut) }
     {
         if let Some(at) = self.slots.find(block) {
+            self.slots.touch(at);
             return Ok(Frame { block, at });
         }
         let at = self.make_room()?;
@@ -327,6 +396,38 @@ impl<L: Link> Cache<L> {
             if self.slots.get(at).state.is_clean() {
                 self.slots.vacate(at);
             }
+        }
+    }
+
+    /// Begins the write of the dirty frame with the lowest block. No message is taken. False where there is none, or the write was
+    /// refused since too many are under way, or where no message comes any more.
+    pub fn write_lowest(&mut self) -> bool
+        requires ready { IsReady (caching L.history L.truth L.room L.budget_left self.old) }
+        ensures keeps { Keeps (caching L.history L.truth L.room L.budget_left self.old) (caching L.history L.truth L.room L.budget_left self.new) }
+        ensures posts { PostsAlone (caching L.history L.truth L.room L.budget_left self.old) (caching L.history L.truth L.room L.budget_left self.new) }
+        ensures left { messages_left (caching L.history L.truth L.room L.budget_left self.new) ≤ messages_left (caching L.history L.truth L.room L.budget_left self.old) }
+        ensures issued { MatchBool result (IssuesLowest (caching L.history L.truth L.room L.budget_left self.old).held (caching L.history L.truth L.room L.budget_left self.new).held) ((caching L.history L.truth L.room L.budget_left self.new).held ≡ (caching L.history L.truth L.room L.budget_left self.old).held) }
+        ensures busy { OnTrue result (IsBusy (pending_of (caching L.history L.truth L.room L.budget_left self.new).table.pending)) }
+        ensures stuck { OnFalse result (IsLive (caching L.history L.truth L.room L.budget_left self.new) → IsStuck (caching L.history L.truth L.room L.budget_left self.new)) }
+        ensures frames { (f : FrameValue) → IsFrame self.old f → IsFrame self.new f }
+    {
+        if self.live().is_err() {
+            return false;
+        }
+        match self.slots.first(Among::Dirty) {
+            Some(at) => self.issue(at),
+            None => false,
+        }
+    }
+
+    /// Whether the bytes of each frame are the disk's.
+    pub fn is_clean(&self) -> bool
+        ensures clean { OnTrue result (AllClean (caching L.history L.truth L.room L.budget_left self.now).held) }
+        ensures unclean { OnFalse result (SomeUnclean (caching L.history L.truth L.room L.budget_left self.now).held) }
+    {
+        match self.slots.find_unclean() {
+            Some(_) => false,
+            None => true,
         }
     }
 

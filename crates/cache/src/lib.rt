@@ -2,10 +2,12 @@
 #![tactic(auto)]
 
 pub mod cache;
+pub mod laws;
 pub mod refusals;
 pub mod shape;
 pub mod slots;
 pub mod state;
+pub mod uses;
 
 pub use cache::{Cache, Took};
 pub use refusals::{CacheRefusal, Cut};

@@ -1,9 +1,10 @@
 //! All slots of a cache.
 
-ghost use Rattle.std.specs.Prelude.{◌≡◌, ◌<◌, ◌≤◌, ◌+◌, ◌-◌, ◌&&◌, ℕ, IfOk, Option, Some, None, is_some, not, slice_get, slice_index, position, length, take, nat_le, nat_lt, if◌then◌else◌, replicate, set};
+ghost use Rattle.std.specs.Prelude.{◌≡◌, ◌<◌, ◌≤◌, ◌+◌, ◌-◌, ◌&&◌, ℕ, IfOk, IfSome, Option, Some, None, is_some, not, slice_get, slice_index, position, length, take, nat_le, nat_lt, if◌then◌else◌, replicate, set};
 ghost use Rattle.cache.specs.Slots.{is_number, ticket_of, dirtied, held, is_under, is_clean, is_dirty, is_dirty_slot, is_unclean_slot, IsDistinct};
 
 use crate::state::State;
+use crate::uses::Uses;
 use reissue::Ticket;
 use std::alloc::{AllocError, Global};
 
@@ -86,16 +87,32 @@ impl Slot {
     }
 }
 
+/// Which slots are looked among, and in which order.
+#[derive(Clone, Copy)]
+pub enum Among {
+    /// Those that aren't unclean, the one used longest ago first.
+    Clean,
+    /// All, the one used longest ago first.
+    All,
+    /// The dirty ones, the lowest block first.
+    Dirty,
+}
+
 /// All slots; no block has two. Their memory is taken when they are made.
 #[derive(Drop)]
 pub struct Slots {
     /// The slots.
     pub items: Vec<Slot>,
+    /// When each was used last.
+    pub uses: Uses,
     pub ghost distinct: { IsDistinct items.items },
     pub ghost some: { 0 < length items.items },
+    pub ghost paired: { length uses.numbers.items ≡ length items.items },
 }
 
 impl Slots {
+    ghost use Rattle.cache.specs.Uses.{IsUsedLast};
+    ghost use Rattle.cache.specs.Order.{key_of, key_at, is_before, IsFirst, IsVictim};
     ghost use Rattle.cache.specs.Edits.{IsSetAt, IsBlankedAt, IsChangedAt};
 
     /// So many slots, all free.
@@ -111,6 +128,7 @@ impl Slots {
         };
         Ok(Slots {
             items: vec![in alloc; free; count]?,
+            uses: Uses::new(alloc, count)?,
         })
     }
 
@@ -135,14 +153,88 @@ impl Slots {
         self.items.iter().position(|s| s.is_unclean())
     }
 
-    /// The slot that goes next.
-    pub fn victim(&self) -> usize
-        ensures { result < length self.now.items.items }
+    /// A slot's number in this order, if it is among them.
+    fn key(&self, among: Among, at: usize) -> Option<u64>
+        requires { at < length self.now.items.items }
+        ensures { result ≡ key_of among self.now.items.items self.now.uses.numbers.items at }
     {
-        match self.items.iter().position(|s| !s.is_unclean()) {
-            Some(at) => at,
-            None => 0,
+        let slot = &self.items[at];
+        let used = self.uses.numbers[at];
+        match among {
+            Among::Clean => {
+                if slot.is_unclean() {
+                    None
+                } else {
+                    Some(used)
+                }
+            }
+            Among::All => Some(used),
+            Among::Dirty => match slot.block {
+                Some(block) => {
+                    if slot.state.is_dirty() {
+                        Some(block as u64)
+                    } else {
+                        None
+                    }
+                }
+                None => None,
+            },
         }
+    }
+
+    /// Whether a slot is among them, and stands before the first one so far.
+    fn stands_before(&self, among: Among, at: usize, first: Option<usize>) -> bool
+        requires at { at < length self.now.items.items }
+        requires first { IfSome first (λ i. i < length self.now.items.items) }
+        ensures { result ≡ is_before (key_of among self.now.items.items self.now.uses.numbers.items at)
+            (key_at (key_of among self.now.items.items self.now.uses.numbers.items) first) }
+    {
+        let Some(key) = self.key(among, at) else {
+            return false;
+        };
+        match first {
+            Some(first) => match self.key(among, first) {
+                Some(lowest) => key < lowest,
+                None => true,
+            },
+            None => true,
+        }
+    }
+
+    /// The first of these slots in their order.
+    pub fn first(&self, among: Among) -> Option<usize>
+        ensures { IsFirst (key_of among self.now.items.items self.now.uses.numbers.items) (length self.now.items.items) result }
+    {
+        let mut first = None;
+        for at in 0..self.items.len() {
+            if self.stands_before(among, at, first) {
+                first = Some(at);
+            }
+        }
+        first
+    }
+
+    /// The slot that goes next: of those that aren't unclean the one used longest ago, and where there is none, of all.
+    pub fn victim(&self) -> usize
+        ensures in_range { result < length self.now.items.items }
+        ensures chosen { IsVictim self.now.items.items self.now.uses.numbers.items result }
+    {
+        match self.first(Among::Clean) {
+            Some(at) => at,
+            None => match self.first(Among::All) {
+                Some(at) => at,
+                None => unreachable!(),
+            },
+        }
+    }
+
+    /// A slot is used now.
+    pub fn touch(&mut self, at: usize)
+        requires { at < length self.old.items.items }
+        ensures items { self.new.items.items ≡ self.old.items.items }
+        ensures used { IsUsedLast self.old.uses.numbers.items self.new.uses.numbers.items at }
+    {
+        self.uses.touch(at);
     }
 
     /// The slot at this place.
@@ -182,6 +274,7 @@ impl Slots {
         slot.block = Some(block);
         slot.bytes = *bytes;
         slot.state = state;
+        self.uses.touch(at);
     }
 
     /// Gives a slot zero bytes.
@@ -192,6 +285,7 @@ impl Slots {
         let slot = &mut self.items[at];
         slot.state = slot.state.dirtied();
         slot.bytes = zeros();
+        self.uses.touch(at);
     }
 
     /// Changes some bytes of a slot.

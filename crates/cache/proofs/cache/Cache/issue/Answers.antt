@@ -1,7 +1,7 @@
 use Rattle.std.proofs.Common.{◌≡◌, refl, sym, ap, subst, ◌∙◌}
 use Rattle.cache.specs.Calls.{Caching, caching, caching_of, Keeps}
 use Rattle.cache.specs.declared.slots.Slot.{Slot}
-use Rattle.cache.proofs.Beginning.{free_block, write_one, write_leaves, busy_begun, dirty_parts}
+use Rattle.cache.proofs.Beginning.{issued_at, free_block, write_one, write_leaves, busy_begun, dirty_parts}
 use Rattle.cache.proofs.Edits.{one_slot}
 use Rattle.cache.proofs.Held.{in_range}
 use Rattle.cache.proofs.Placing.{keeps_none}
@@ -51,3 +51,22 @@ returns-in-Err-clause-keeps g c =
     let same : caching_of h t r b c.begin.new.self s.shape s.slots.items.items s.ended ≡ old =
       λ i. caching_of h t r b (c.in-Err.ensures.refused i) s.shape s.slots.items.items s.ended in
     subst (λ (n : Caching). Keeps old n) (sym same) (keeps_none old c.requires.ready)
+
+pub returns-in-Ok-clause-issued : goal.returns-in-Ok-clause-issued
+returns-in-Ok-clause-issued g c =
+    let s = c.args.self.now in
+    let items = s.slots.items.items in
+    let d = c.requires.dirty in
+    let same : d.slot ≡ c.get-slot.result.now = one_slot items c.args.at d.slot c.get-slot.result.now d.is c.get-slot.ensures in
+    issued_at items c.set_state.new.self.items.items c.in-Some.block c.in-Ok.ticket c.args.at c.get-slot.result.now s.slots.distinct c.get-slot.ensures c.in-Some.is
+      (ap (λ (y : Slot). y.state) (sym same) ∙ (dirty_parts d.slot d.passes).2) c.set_state.ensures
+
+pub returns-in-Ok-clause-posts : goal.returns-in-Ok-clause-posts
+returns-in-Ok-clause-posts g c =
+    let x = c.in-Ok.ensures.begins in
+    record { posts = x.posts; history = x.history; only_posts = x.only_posts }
+
+pub returns-in-Err-clause-posts : goal.returns-in-Err-clause-posts
+returns-in-Err-clause-posts g c =
+    let x = c.in-Err.ensures.begins in
+    record { posts = x.posts; history = x.history; only_posts = x.only_posts }

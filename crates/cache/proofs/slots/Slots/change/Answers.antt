@@ -1,6 +1,7 @@
-use Rattle.std.proofs.Common.{◌≡◌, ◌<◌, ℕ, length, refl, arith, Some, None, slice_get}
+use Rattle.std.proofs.Common.{◌≡◌, ◌<◌, ℕ, length, refl, sym, ◌∙◌, arith, Some, None, slice_get}
 use Rattle.std.proofs.lemmas.Option.{slice_get_read}
 use Rattle.std.proofs.Math.Seq.{lt-length-set}
+use Rattle.std.proofs.lemmas.List.{length-set}
 use Rattle.cache.proofs.Held.{distinct_kept}
 use Rattle.cache.proofs.slots.Slots.change.Goals as goal
 
@@ -11,6 +12,7 @@ invariant_of-self c =
     let at = slice_get_read c.args.self.now.items.items _ c.args.at c.index_mut-slot.result.now refl lt c.index_mut-slot.ensures.value in
     record {
       distinct = distinct_kept c.args.self.now.items.items c.args.at c.index_mut-slot.result.now _ c.args.self.now.distinct at c.change.ensures.block;
+      paired = c.args.self.now.paired ∙ sym (length-set c.args.self.now.items.items c.args.at _);
       some = lt-length-set c.args.self.now.items.items c.args.at _ c.args.self.now.some;
     }
 
