@@ -10,6 +10,9 @@ ghost use Rattle.flusher.specs.Flushing.{WritesLowest, IsIdle, Syncs};
 use cache::{Cache, Cut};
 use reissue::Link;
 
+/// How many writes a flush begins at most.
+const AT_ONCE: usize = 16;
+
 /// Begins the writes of dirty frames, sixteen at most, the lowest block first. It waits for none: no message is taken. It stops
 /// early where none is dirty, or the next write was refused since too many requests are pending.
 pub fn flush_some<L: Link>(cache: &mut Cache<L>)
@@ -21,7 +24,7 @@ pub fn flush_some<L: Link>(cache: &mut Cache<L>)
     ensures stuck { IsLive (caching L.history L.truth L.room L.budget_left cache.new) → IsStuck (caching L.history L.truth L.room L.budget_left cache.new) }
     ensures frames { (f : Frame) → IsFrame cache.old f → IsFrame cache.new f }
 {
-    'writes: for _ in 0..16 {
+    'writes: for _ in 0..AT_ONCE {
         if !cache.write_lowest() {
             return;
         }

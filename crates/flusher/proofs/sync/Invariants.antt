@@ -6,8 +6,8 @@ use Rattle.flusher.proofs.sync.Given as goal
 
 abbrev pub invariant-messages : goal.invariant-messages
 invariant-messages g l = record {
-  keeps : Keeps (caching g.L.Link.history g.L.Link.truth g.L.Link.room g.L.Link.budget_left l.fn.cache) (caching g.L.Link.history g.L.Link.truth g.L.Link.room g.L.Link.budget_left l.cache);
-  frames : (f : Frame) → IsFrame l.fn.cache f → IsFrame l.cache f;
+  keeps : Keeps (caching g.L.Link.history g.L.Link.truth g.L.Link.room g.L.Link.budget_left l.initial.cache) (caching g.L.Link.history g.L.Link.truth g.L.Link.room g.L.Link.budget_left l.cache);
+  frames : (f : Frame) → IsFrame l.initial.cache f → IsFrame l.cache f;
 }
 
 abbrev pub decreases-messages : goal.decreases-messages
