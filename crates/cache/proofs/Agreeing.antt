@@ -1,15 +1,15 @@
 -- Slots and the disk go on agreeing, and what would be read back stays.
-use Rattle.std.proofs.Common.{◌≡◌, ◌≢◌, ℕ, zero, suc, ◌<◌, ◌≤◌, ◌+◌, ◌-◌, ◌*◌, List, [], ◌∷◌, get_or, take, get_or-take, refl, sym, ap, subst, ◌∙◌, arith, Bool, true, false, Option, Some, None}
+use Rattle.std.proofs.Common.{◌≡◌, ℕ, zero, suc, ◌<◌, ◌≤◌, ◌+◌, ◌*◌, List, [], ◌∷◌, get_or, take, get_or-take, refl, sym, ap, subst, ◌∙◌, arith, false, Option, Some, None}
 use mathlib.Core.Logic.{inl, inr, ◌⊎◌}
-use Rattle.std.specs.Prelude.{cond, slice_index, nat_lt}
-use Rattle.std.proofs.lemmas.Bool.{cond-true, cond-false, cases_lt, lt-ltb}
+use Rattle.std.specs.Prelude.{slice_index, nat_lt}
+use Rattle.std.proofs.lemmas.Bool.{cond-true, cases_lt, lt-ltb}
 use Rattle.std.proofs.lemmas.Bool.Decides.{nat_tests}
 use Rattle.legal.specs.View.{frame_or}
 use Rattle.reissue.specs.Moves.{DiskState, Begun, put, Spares}
 use Rattle.reissue.proofs.Maps.{put-same, put-other, put_cases}
 use Rattle.cache.specs.Slots.{ticket_of, dirtied, written}
 use Rattle.cache.specs.Frames.{HasSure, Tied, CacheAgrees, frame_of, disk_block, view}
-use Rattle.cache.proofs.Tied.{same_slot, same_begun, same_start, quiet, no_ticket, its_start}
+use Rattle.cache.proofs.Tied.{same_slot, same_start, quiet, no_ticket, its_start}
 use Rattle.cache.specs.declared.slots.Slot.{Slot}
 use Rattle.cache.specs.declared.state.State.{State}
 use Rattle.cache.specs.declared.state.State.TheVariants.{Clean, Dirty, Writing, Changed}
@@ -56,14 +56,14 @@ same_view size held held' w v h = λ i b o. at b o (cases_lt o size) i
 pub agrees_moved : (size : ℕ) (held : ℕ → Option Slot) (pending : ℕ → Option Begun) (w v : DiskState)
     → Spares pending w v → Tied size held pending → CacheAgrees size held w → CacheAgrees size held v
 agrees_moved size held pending w v sp t k = record {
-    clean = λ b s h e o lt.
+  clean = λ b s h e o lt.
       let was = k.clean b s h e o lt in
       let q = quiet size held pending b o t lt (λ n u hu tu. no_ticket u.state n (ap (λ (x : Slot). x.state) (same_slot (held b) u s hu h) ∙ e) tu) in
       record { byte_is = was.byte_is ∙ sym (sp.disk (b * size + o) q); sure = sp.sure (b * size + o) q was.sure };
-    covered = λ b h o lt.
+  covered = λ b h o lt.
       let q = quiet size held pending b o t lt (λ n u hu tu. cc) in
       sp.sure (b * size + o) q (k.covered b h o lt);
-  }
+}
 
 -- what would be read back stays
 pub view_moved : (size : ℕ) (held : ℕ → Option Slot) (pending : ℕ → Option Begun) (w v : DiskState)
@@ -83,15 +83,15 @@ pub agrees_put : (size : ℕ) (held : ℕ → Option Slot) (w : DiskState) (b : 
     → (x ≡ None → (o : ℕ) → o < size → w.unsure (b * size + o) ≡ false)
     → CacheAgrees size held w → CacheAgrees size (put held b x) w
 agrees_put size held w b x clean none k = record {
-    clean = λ c u h e o lt. elim (put_cases held b x c) [
-      | inl p ↦ subst (λ (d : ℕ). HasSure w (d * size + o) (slice_index u.bytes o)) (sym p.0) (clean u (sym p.1 ∙ h) e o lt)
-      | inr p ↦ k.clean c u (sym p.1 ∙ h) e o lt
-    ];
-    covered = λ c h o lt. elim (put_cases held b x c) [
-      | inl p ↦ subst (λ (d : ℕ). w.unsure (d * size + o) ≡ false) (sym p.0) (none (sym p.1 ∙ h) o lt)
-      | inr p ↦ k.covered c (sym p.1 ∙ h) o lt
-    ];
-  }
+  clean = λ c u h e o lt. elim (put_cases held b x c) [
+    | inl p ↦ subst (λ (d : ℕ). HasSure w (d * size + o) (slice_index u.bytes o)) (sym p.0) (clean u (sym p.1 ∙ h) e o lt)
+    | inr p ↦ k.clean c u (sym p.1 ∙ h) e o lt
+  ];
+  covered = λ c h o lt. elim (put_cases held b x c) [
+    | inl p ↦ subst (λ (d : ℕ). w.unsure (d * size + o) ≡ false) (sym p.0) (none (sym p.1 ∙ h) o lt)
+    | inr p ↦ k.covered c (sym p.1 ∙ h) o lt
+  ];
+}
 
 -- what would be read back stays, if that block's bytes do
 pub view_put : (size : ℕ) (held : ℕ → Option Slot) (w : DiskState) (b : ℕ) (x : Option Slot)
@@ -147,16 +147,17 @@ pub agrees_written : (size : ℕ) (held : ℕ → Option Slot) (pending : ℕ �
     → Tied size held pending → CacheAgrees size held v → CacheAgrees size (put held b (Some t)) v
 agrees_written size held pending v b n s t r bytes some is ticket st same_bytes there wr tells k agrees =
     agrees_put size held v b (Some t) (λ u h e o lt.
-      let same : t ≡ u = same_slot (Some t) t u refl h in
-      let clean_t : written s.state ≡ Clean = sym st ∙ ap (λ (x : Slot). x.state) same ∙ e in
-      subst (λ (x : Slot). HasSure v (b * size + o) (slice_index x.bytes o)) same (now_clean (was_writing s.state n ticket clean_t) o lt))
-      (λ e o lt. cc) agrees
+    let same : t ≡ u = same_slot (Some t) t u refl h in
+    let clean_t : written s.state ≡ Clean = sym st ∙ ap (λ (x : Slot). x.state) same ∙ e in
+    subst (λ (x : Slot). HasSure v (b * size + o) (slice_index x.bytes o)) same (now_clean (was_writing s.state n ticket clean_t) o lt))
+    (λ e o lt. cc) agrees
   where
     was_writing : (x : State) (m : ℕ) → ticket_of x ≡ Some m → written x ≡ Clean → x ≡ Writing m
     was_writing Clean m h e = cc
     was_writing Dirty m h e = cc
     was_writing (Writing y) m h e = cc
     was_writing (Changed y) m h e = cc
+
     now_clean : s.state ≡ Writing n → (o : ℕ) → o < size → HasSure v (b * size + o) (slice_index t.bytes o)
     now_clean writing o lt =
         let x = k.writes n r bytes there wr in
@@ -168,8 +169,9 @@ agrees_written size held pending v b n s t r bytes some is ticket st same_bytes 
         let told = tells o lt' in
         let place : r.start + o ≡ b * size + o = ap (λ q. q + o) start in
         elim x.way.state [
-        | inl e ↦ absurd (let z : Writing n ≡ Changed n = sym writing ∙ ap (λ (y : Slot). y.state) (sym same) ∙ e in cc)
-        | inr p ↦ record {
+          | inl e ↦ absurd (let z : Writing n ≡ Changed n = sym writing ∙ ap (λ (y : Slot). y.state) (sym same) ∙ e in cc)
+          | inr p ↦ record {
             byte_is = ap (λ (y : List ℕ). slice_index y o) (same_bytes ∙ ap (λ (y : Slot). y.bytes) (sym same)) ∙ p.1 o lt ∙ sym told.0 ∙ ap v.disk place;
-            sure = ap v.unsure (sym place) ∙ told.1 }
+            sure = ap v.unsure (sym place) ∙ told.1;
+          }
         ]

@@ -1,12 +1,10 @@
 -- Which slot comes first.
-use Rattle.std.proofs.Common.{◌≡◌, ℕ, zero, suc, ◌+◌, ◌<◌, ◌≤◌, List, [], ◌∷◌, length, refl, sym, ap, ◌∙◌, arith, Bool, true, false, cond, Option, Some, None}
+use Rattle.std.proofs.Common.{◌≡◌, ℕ, ◌+◌, ◌<◌, ◌≤◌, List, [], ◌∷◌, length, refl, sym, ap, ◌∙◌, arith, Bool, true, false, cond, Option, Some, None}
 use mathlib.Core.Logic.{inl, inr, ◌⊎◌}
 use Rattle.std.specs.Prelude.{slice_get, slice_index, nat_lt, IfSome, MatchBool, ◌&&◌, is_some, not, position}
-use Rattle.std.proofs.lemmas.Bool.{cases_lt, cond-true, lt-ltb, ltb-true}
+use Rattle.std.proofs.lemmas.Bool.{cases_lt, ltb-true}
 use Rattle.std.proofs.lemmas.Bool.Decides.{nat_tests}
-use Rattle.reissue.specs.Moves.{put}
 use Rattle.cache.specs.declared.slots.Slot.{Slot}
-use Rattle.cache.specs.declared.slots.Among.{Among}
 use Rattle.cache.specs.declared.slots.Among.TheVariants as among
 use Rattle.cache.specs.declared.state.State.{State}
 use Rattle.cache.specs.declared.state.State.TheVariants.{Clean, Dirty, Writing, Changed}
@@ -50,14 +48,14 @@ first_taken keys n f h before = by (keys n) refl f h before
     by : (x : Option ℕ) → keys n ≡ x → (f : Option ℕ) → IsFirst keys n f → is_before x (key_at keys f) ≡ true → IsLeast keys (n + 1) n
     by None e f h b = cc
     by (Some key) e None h b = record {
-        key = key;
-        in_range = omega arith;
-        is = e;
-        least = λ i other lt is. elim (last_or_less n i lt) [
-          | inl less ↦ let z = h i less in absurd (let q : ⊥ = cc in q)
-          | inr same ↦ let z : Some key ≡ Some other = sym e ∙ ap keys (sym same) ∙ is in let k : key ≡ other = cc in omega (arith, k)
-        ];
-      }
+      key = key;
+      in_range = omega arith;
+      is = e;
+      least = λ i other lt is. elim (last_or_less n i lt) [
+        | inl less ↦ let z = h i less in absurd (let q : ⊥ = cc in q)
+        | inr same ↦ let z : Some key ≡ Some other = sym e ∙ ap keys (sym same) ∙ is in let k : key ≡ other = cc in omega (arith, k)
+      ];
+    }
     by (Some key) e (Some at) h b =
         let lower : key < h.key = ltb-true key h.key (ap (λ (o : Option ℕ). is_before (Some key) o) (sym h.is) ∙ b) in
         record {
@@ -81,14 +79,14 @@ first_kept keys n None h before = λ i lt. elim (last_or_less n i lt) [
     by None b = refl
     by (Some key) b = cc
 first_kept keys n (Some at) h before = record {
-    key = h.key;
-    in_range = omega (arith, h.in_range);
-    is = h.is;
-    least = λ i other lt is. elim (last_or_less n i lt) [
-      | inl less ↦ h.least i other less is
-      | inr same ↦ not_before other (sym (ap keys same) ∙ is)
-    ];
-  }
+  key = h.key;
+  in_range = omega (arith, h.in_range);
+  is = h.is;
+  least = λ i other lt is. elim (last_or_less n i lt) [
+    | inl less ↦ h.least i other less is
+    | inr same ↦ not_before other (sym (ap keys same) ∙ is)
+  ];
+}
   where
     not_before : (other : ℕ) → keys n ≡ Some other → h.key ≤ other
     not_before other e =
@@ -135,9 +133,9 @@ issued_lowest items numbers at held' d h x =
       is = held_at items at x.block x.slot d x.is x.block_is;
       dirty = x.dirty;
       lowest = λ b s is st.
-        let p = place_of items b s is in
-        let z = h.least p.index b (in_range items p.index s p.is) (key_dirty items numbers p.index b s p.is st p.block) in
-        omega (arith, z, its);
+          let p = place_of items b s is in
+          let z = h.least p.index b (in_range items p.index s p.is) (key_dirty items numbers p.index b s p.is st p.block) in
+          omega (arith, z, its);
       all = x.all;
     }
 

@@ -1,15 +1,15 @@
 -- What one changed slot leaves.
-use Rattle.std.proofs.Common.{◌≡◌, ◌≢◌, ℕ, List, length, set, refl, sym, ap, subst, ◌∙◌, Bool, true, false, Option, Some, None}
+use Rattle.std.proofs.Common.{◌≡◌, ℕ, List, set, refl, sym, ap, subst, ◌∙◌, true, false, Option, Some, None}
 use Rattle.std.proofs.lemmas.List.{length-set}
-use mathlib.Core.Logic.{inl, inr, ◌⊎◌}
-use Rattle.std.specs.Prelude.{◌&&◌, is_some, slice_get, slice_set, position}
+use mathlib.Core.Logic.{inl, inr}
+use Rattle.std.specs.Prelude.{◌&&◌, is_some, slice_get, position}
 use Rattle.std.proofs.lemmas.Bool.{cases_eq}
 use Rattle.reissue.specs.Moves.{put}
 use Rattle.reissue.proofs.Maps.{put_cases}
 use Rattle.cache.specs.declared.slots.Slot.{Slot}
 use Rattle.cache.specs.declared.state.State.{State}
 use Rattle.cache.specs.Slots.{held, is_number, ticket_of, written, is_under, IsDistinct}
-use Rattle.cache.specs.Edits.{IsSetAt, IsAt, IsFreeAt, Leaves, IsWritten}
+use Rattle.cache.specs.Edits.{IsSetAt, Leaves, IsWritten}
 use Rattle.cache.proofs.Held.{block_is, is_its_number, get_set_same, get_set_other, place_of, held_at, held_set}
 use Rattle.cache.proofs.Places.{none_at, some_at}
 
@@ -32,33 +32,36 @@ leaves_none items = record { count = refl; at = λ i b h. h; free = λ i h. h; n
 -- one after the other
 pub leaves_then : (a b c : List Slot) → Leaves a b → Leaves b c → Leaves a c
 leaves_then a b c x y = record {
-    count = y.count ∙ x.count;
-    at = λ i n h. y.at i n (x.at i n h);
-    free = λ i h. y.free i (x.free i h);
-    none = λ n h. y.none n (x.none n h);
-  }
+  count = y.count ∙ x.count;
+  at = λ i n h. y.at i n (x.at i n h);
+  free = λ i h. y.free i (x.free i h);
+  none = λ n h. y.none n (x.none n h);
+}
 
 -- a slot that holds a block goes on holding it
 pub leaves_set : (old new : List Slot) (i b : ℕ) (s t : Slot) → IsDistinct old → slice_get old i ≡ Some s → s.block ≡ Some b → t.block ≡ s.block
     → new ≡ set old i t → Leaves old new
 leaves_set old new i b s t d is block same all = subst (λ (l : List Slot). Leaves old l) (sym all) (record {
-    count = length-set old i t;
-    at = λ j c h. elim (cases_eq j i) [
-      | inl e ↦
-          let one : h.slot ≡ s = one_slot old i h.slot s (sym (ap (slice_get old) e) ∙ h.is) is in
-          record { slot = t; is = ap (slice_get (set old i t)) e ∙ get_set_same old i s t is;
-            block_is = same ∙ ap (λ (x : Slot). x.block) (sym one) ∙ h.block_is }
-      | inr ne ↦ record { slot = h.slot; is = get_set_other old i j t ne ∙ h.is; block_is = h.block_is }
-    ];
-    free = λ j h. elim (cases_eq j i) [
-      | inl e ↦
-          let one : h.slot ≡ s = one_slot old i h.slot s (sym (ap (slice_get old) e) ∙ h.is) is in
-          let z : None ≡ Some b = sym h.none ∙ ap (λ (x : Slot). x.block) one ∙ block in
-          absurd (let y : ⊥ = cc in y)
-      | inr ne ↦ record { slot = h.slot; is = get_set_other old i j t ne ∙ h.is; none = h.none }
-    ];
-    none = none_stays old (set old i t) b s t (held_at old i b s d is block) (held_set old i b s t d is block same);
-  })
+  count = length-set old i t;
+  at = λ j c h. elim (cases_eq j i) [
+    | inl e ↦
+        let one : h.slot ≡ s = one_slot old i h.slot s (sym (ap (slice_get old) e) ∙ h.is) is in
+        record {
+          slot = t;
+          is = ap (slice_get (set old i t)) e ∙ get_set_same old i s t is;
+          block_is = same ∙ ap (λ (x : Slot). x.block) (sym one) ∙ h.block_is;
+        }
+    | inr ne ↦ record { slot = h.slot; is = get_set_other old i j t ne ∙ h.is; block_is = h.block_is }
+  ];
+  free = λ j h. elim (cases_eq j i) [
+    | inl e ↦
+        let one : h.slot ≡ s = one_slot old i h.slot s (sym (ap (slice_get old) e) ∙ h.is) is in
+        let z : None ≡ Some b = sym h.none ∙ ap (λ (x : Slot). x.block) one ∙ block in
+        absurd (let y : ⊥ = cc in y)
+    | inr ne ↦ record { slot = h.slot; is = get_set_other old i j t ne ∙ h.is; none = h.none }
+  ];
+  none = none_stays old (set old i t) b s t (held_at old i b s d is block) (held_set old i b s t d is block same);
+})
 
 -- the parts of the test for a write under a ticket
 under_parts : (o : Option ℕ) (x : Option ℕ) (n : ℕ) → (is_some o && is_number x n) ≡ true → (b : ℕ) × (o ≡ Some b) × (x ≡ Some n)
@@ -90,10 +93,10 @@ written_some old new at n x s distinct found is st e =
 -- no slot is under the ticket
 pub written_none : (items : List Slot) (n : ℕ) → position (is_under n) items ≡ None → IsWritten n items items
 written_none items n h = record {
-    slot = λ b s is ticket.
+  slot = λ b s is ticket.
       let p = place_of items b s is in
       let z = none_at (is_under n) items h p.index s p.is in
       let y = is_under_it s b n p.block ticket in
       absurd (let q : true ≡ false = sym y ∙ z in cc);
-    leaves = leaves_none items;
-  }
+  leaves = leaves_none items;
+}

@@ -1,8 +1,7 @@
 -- Slots by their blocks, after one slot is changed.
 use Rattle.std.proofs.Common.{◌≡◌, ◌≢◌, ℕ, zero, suc, ◌<◌, List, [], ◌∷◌, length, set, replicate, refl, sym, ap, ◌∙◌, arith, Bool, true, false, Option, Some, None}
 use mathlib.Core.Logic.{inl, inr, ◌⊎◌}
-use Rattle.std.specs.Prelude.{◌==◌, cond, slice_get}
-use Rattle.std.specs.List.{find}
+use Rattle.std.specs.Prelude.{cond, slice_get}
 use Rattle.std.proofs.lemmas.Bool.{cond-true, cond-false, eq-eqb, ne_eqb, cases_eq}
 use Rattle.reissue.specs.Moves.{put}
 use Rattle.reissue.proofs.Maps.{is_put}
@@ -75,7 +74,7 @@ held_at items i b s d h k = elim (option_cases (held items b)) [
       let same : place.index ≡ i = d.same place.index i b p.0 s place.is h place.block k in
       let at : slice_get items i ≡ Some p.0 = rw (← same) place.is in
       cc
-  ]
+]
 
 pub held_other : (items : List Slot) (i b : ℕ) (s t : Slot) → slice_get items i ≡ Some s → is_number s.block b ≡ false
     → is_number t.block b ≡ false → held (set items i t) b ≡ held items b
@@ -90,35 +89,39 @@ held_other (x ∷ xs) (suc i) b s t h k l = ap (λ (o : Option Slot). cond (is_n
 
 pub distinct_kept : (items : List Slot) (i : ℕ) (s t : Slot) → IsDistinct items → slice_get items i ≡ Some s
     → t.block ≡ s.block → IsDistinct (set items i t)
-distinct_kept items i s t d h e = record { same = λ j k b u v hu hv bu bv.
-    elim (cases_eq j i) [
-      | inl ji ↦ elim (cases_eq k i) [
+distinct_kept items i s t d h e = record {
+  same = λ j k b u v hu hv bu bv.
+      elim (cases_eq j i) [
+        | inl ji ↦ elim (cases_eq k i) [
           | inl ki ↦ ji ∙ sym ki
           | inr ki ↦
               let same : u ≡ t = at u j hu ji in
               d.same j k b s v (ap (slice_get items) ji ∙ h) (sym (get_set_other items i k t ki) ∙ hv) (sym e ∙ ap (λ (x : Slot). x.block) (sym same) ∙ bu) bv
-          ]
-      | inr ji ↦ elim (cases_eq k i) [
+        ]
+        | inr ji ↦ elim (cases_eq k i) [
           | inl ki ↦
               let same : v ≡ t = at v k hv ki in
               d.same j k b u s (sym (get_set_other items i j t ji) ∙ hu) (ap (slice_get items) ki ∙ h) bu (sym e ∙ ap (λ (x : Slot). x.block) (sym same) ∙ bv)
           | inr ki ↦ d.same j k b u v (sym (get_set_other items i j t ji) ∙ hu) (sym (get_set_other items i k t ki) ∙ hv) bu bv
-          ]
-      ] }
+        ]
+      ];
+}
   where
     at : (u : Slot) (j : ℕ) → slice_get (set items i t) j ≡ Some u → j ≡ i → u ≡ t
     at u j hu ji = let a = get_set_same items i s t h in let b = sym (ap (slice_get (set items i t)) ji) ∙ hu in cc
 
 pub distinct_vacated : (items : List Slot) (i : ℕ) (s t : Slot) → IsDistinct items → slice_get items i ≡ Some s
     → t.block ≡ None → IsDistinct (set items i t)
-distinct_vacated items i s t d h e = record { same = λ j k b u v hu hv bu bv.
-    elim (cases_eq j i) [
-      | inl ji ↦ absurd (none u j b hu ji bu)
-      | inr ji ↦ elim (cases_eq k i) [
+distinct_vacated items i s t d h e = record {
+  same = λ j k b u v hu hv bu bv.
+      elim (cases_eq j i) [
+        | inl ji ↦ absurd (none u j b hu ji bu)
+        | inr ji ↦ elim (cases_eq k i) [
           | inl ki ↦ absurd (none v k b hv ki bv)
           | inr ki ↦ d.same j k b u v (sym (get_set_other items i j t ji) ∙ hu) (sym (get_set_other items i k t ki) ∙ hv) bu bv
-          ]
-      ] }
+        ]
+      ];
+}
   where
     none : (u : Slot) (j b : ℕ) → slice_get (set items i t) j ≡ Some u → j ≡ i → u.block ≡ Some b → ⊥
     none u j b hu ji bu =
@@ -130,17 +133,19 @@ distinct_vacated items i s t d h e = record { same = λ j k b u v hu hv bu bv.
 
 pub distinct_filled : (items : List Slot) (i n : ℕ) (s t : Slot) → IsDistinct items → slice_get items i ≡ Some s
     → t.block ≡ Some n → held items n ≡ None → IsDistinct (set items i t)
-distinct_filled items i n s t d h e free = record { same = λ j k b u v hu hv bu bv.
-    elim (cases_eq j i) [
-      | inl ji ↦ elim (cases_eq k i) [
+distinct_filled items i n s t d h e free = record {
+  same = λ j k b u v hu hv bu bv.
+      elim (cases_eq j i) [
+        | inl ji ↦ elim (cases_eq k i) [
           | inl ki ↦ ji ∙ sym ki
           | inr ki ↦ absurd (some_holds items k n v (sym (get_set_other items i k t ki) ∙ hv) (bv ∙ ap Some (is_n u j b hu ji bu)) free)
-          ]
-      | inr ji ↦ elim (cases_eq k i) [
+        ]
+        | inr ji ↦ elim (cases_eq k i) [
           | inl ki ↦ absurd (some_holds items j n u (sym (get_set_other items i j t ji) ∙ hu) (bu ∙ ap Some (is_n v k b hv ki bv)) free)
           | inr ki ↦ d.same j k b u v (sym (get_set_other items i j t ji) ∙ hu) (sym (get_set_other items i k t ki) ∙ hv) bu bv
-          ]
-      ] }
+        ]
+      ];
+}
   where
     is_n : (u : Slot) (j b : ℕ) → slice_get (set items i t) j ≡ Some u → j ≡ i → u.block ≡ Some b → b ≡ n
     is_n u j b hu ji bu =
@@ -159,35 +164,35 @@ pub held_set : (items : List Slot) (i b : ℕ) (s t : Slot) → IsDistinct items
     → s.block ≡ Some b → t.block ≡ s.block → held (set items i t) ≡ put (held items) b (Some t)
 held_set items i b s t d h k e =
     is_put (held items) (held (set items i t)) b (Some t)
-      (held_at (set items i t) i b t (distinct_kept items i s t d h e) (get_set_same items i s t h) (e ∙ k))
-      (λ m n. held_other items i m s t h (ne_block s.block b m k n) (ne_block t.block b m (e ∙ k) n))
+    (held_at (set items i t) i b t (distinct_kept items i s t d h e) (get_set_same items i s t h) (e ∙ k))
+    (λ m n. held_other items i m s t h (ne_block s.block b m k n) (ne_block t.block b m (e ∙ k) n))
 
 pub held_vacated : (items : List Slot) (i b : ℕ) (s t : Slot) → IsDistinct items → slice_get items i ≡ Some s
     → s.block ≡ Some b → t.block ≡ None → held (set items i t) ≡ put (held items) b None
 held_vacated items i b s t d h k e =
     is_put (held items) (held (set items i t)) b None
-      (elim (option_cases (held (set items i t) b)) [
-        | inl n ↦ n
-        | inr p ↦
-            let place = place_of (set items i t) b p.0 p.1 in
-            absurd (elim (cases_eq place.index i) [
-              | inl ji ↦
-                  let a = get_set_same items i s t h in
-                  let c = sym (ap (slice_get (set items i t)) ji) ∙ place.is in
-                  let same : p.0 ≡ t = cc in
-                  let f : t.block ≡ Some b = rw (← same) place.block in
-                  cc
-              | inr ji ↦ ji (d.same place.index i b p.0 s (sym (get_set_other items i place.index t ji) ∙ place.is) h place.block k)
-              ])
-        ])
-      (λ m n. held_other items i m s t h (ne_block s.block b m k n) (rw e refl))
+    (elim (option_cases (held (set items i t) b)) [
+      | inl n ↦ n
+      | inr p ↦
+          let place = place_of (set items i t) b p.0 p.1 in
+          absurd (elim (cases_eq place.index i) [
+            | inl ji ↦
+                let a = get_set_same items i s t h in
+                let c = sym (ap (slice_get (set items i t)) ji) ∙ place.is in
+                let same : p.0 ≡ t = cc in
+                let f : t.block ≡ Some b = rw (← same) place.block in
+                cc
+            | inr ji ↦ ji (d.same place.index i b p.0 s (sym (get_set_other items i place.index t ji) ∙ place.is) h place.block k)
+          ])
+    ])
+    (λ m n. held_other items i m s t h (ne_block s.block b m k n) (rw e refl))
 
 pub held_filled : (items : List Slot) (i b : ℕ) (s t : Slot) → IsDistinct items → slice_get items i ≡ Some s
     → s.block ≡ None → t.block ≡ Some b → held items b ≡ None → held (set items i t) ≡ put (held items) b (Some t)
 held_filled items i b s t d h k e free =
     is_put (held items) (held (set items i t)) b (Some t)
-      (held_at (set items i t) i b t (distinct_filled items i b s t d h e free) (get_set_same items i s t h) e)
-      (λ m n. held_other items i m s t h (rw k refl) (ne_block t.block b m e n))
+    (held_at (set items i t) i b t (distinct_filled items i b s t d h e free) (get_set_same items i s t h) e)
+    (λ m n. held_other items i m s t h (rw k refl) (ne_block t.block b m e n))
 
 -- where all slots are free no block is held
 pub none_free : (n : ℕ) (s : Slot) (b : ℕ) → s.block ≡ None → held (replicate n s) b ≡ None

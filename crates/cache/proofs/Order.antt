@@ -1,9 +1,9 @@
 -- The order in which places were used last.
-use Rattle.std.proofs.Common.{◌≡◌, ◌≢◌, ℕ, zero, suc, ◌+◌, ◌<◌, ◌≤◌, List, [], ◌∷◌, length, set, get_or, length-set, Bool, true, false, cond, refl, sym, ap, subst, ◌∙◌, arith, Option, Some, None}
-use mathlib.Core.Logic.{inl, inr, ◌⊎◌}
+use Rattle.std.proofs.Common.{◌≡◌, ℕ, zero, suc, ◌+◌, ◌<◌, ◌≤◌, List, [], ◌∷◌, length, set, get_or, length-set, Bool, true, false, cond, refl, sym, ap, subst, ◌∙◌, arith}
+use mathlib.Core.Logic.{inl, inr}
 use Rattle.std.specs.Prelude.{slice_index, nat_lt}
 use Rattle.std.specs.List.{filter}
-use Rattle.std.proofs.lemmas.Bool.{cases_eq, cases_lt, cond-true, cond-false, lt-ltb}
+use Rattle.std.proofs.lemmas.Bool.{cases_eq, cases_lt, lt-ltb}
 use Rattle.std.proofs.lemmas.Bool.Decides.{nat_tests}
 use Rattle.cache.specs.Uses.{AllBelow, rank, KeepsOrder, IsUsedLast}
 
@@ -93,14 +93,14 @@ set_other (y ∷ xs) (suc i) (suc j) x ne = set_other xs i j x (λ e. ne (ap suc
 -- a place that gets a number above all others was used last
 pub used_last : (old mid : List ℕ) (at next : ℕ) → KeepsOrder old mid → AllBelow mid next → at < length old → IsUsedLast old (set mid at next) at
 used_last old mid at next keeps below lt = record {
-    count = length-set mid at next ∙ keeps.count;
-    last = λ i ini ne.
+  count = length-set mid at next ∙ keeps.count;
+  last = λ i ini ne.
       let less = below.each i (omega (arith, ini, keeps.count)) in
       let there = set_other mid at i next ne in
       let here = set_same mid at next (omega (arith, lt, keeps.count)) in
       omega (arith, less, there, here);
-    order = λ i j ini inj ni nj. rw (set_other mid at i next ni, set_other mid at j next nj) (keeps.order i j ini inj);
-  }
+  order = λ i j ini inj ni nj. rw (set_other mid at i next ni, set_other mid at j next nj) (keeps.order i j ini inj);
+}
 
 -- nothing is numbered anew
 pub keeps_same : (xs : List ℕ) → KeepsOrder xs xs
@@ -108,16 +108,18 @@ keeps_same xs = record { count = refl; order = λ i j ini inj. refl }
 
 -- a number below the next one stays so
 pub below_set : (mid : List ℕ) (at next : ℕ) → AllBelow mid next → AllBelow (set mid at next) (next + 1)
-below_set mid at next below = record { each = λ i ini.
-    elim (cases_eq i at) [
-      | inl e ↦
-          let here = ap (λ k. get_or (set mid at next) k 0) e ∙ set_same mid at next (omega (arith, ini, e, length-set mid at next)) in
-          omega (arith, here)
-      | inr ne ↦
-          let less = below.each i (omega (arith, ini, length-set mid at next)) in
-          let there = set_other mid at i next ne in
-          omega (arith, less, there)
-    ] }
+below_set mid at next below = record {
+  each = λ i ini.
+      elim (cases_eq i at) [
+        | inl e ↦
+            let here = ap (λ k. get_or (set mid at next) k 0) e ∙ set_same mid at next (omega (arith, ini, e, length-set mid at next)) in
+            omega (arith, here)
+        | inr ne ↦
+            let less = below.each i (omega (arith, ini, length-set mid at next)) in
+            let there = set_other mid at i next ne in
+            omega (arith, less, there)
+      ];
+}
 
 -- places that were numbered anew
 pub record Numbered (old new : List ℕ) (n : ℕ) : Type 0 where
@@ -127,14 +129,14 @@ pub record Numbered (old new : List ℕ) (n : ℕ) : Type 0 where
 -- one more
 pub numbered_more : (old new : List ℕ) (at : ℕ) → at < length old → Numbered old new at → Numbered old (set new at (rank (slice_index old at) old + 1)) (at + 1)
 numbered_more old new at lt h = record {
-    count = length-set new at (rank (slice_index old at) old + 1) ∙ h.count;
-    each = λ i ini. elim (cases_eq i at) [
-      | inl e ↦
-          ap (λ k. get_or (set new at (rank (slice_index old at) old + 1)) k 0) e
-          ∙ set_same new at (rank (slice_index old at) old + 1) (omega (arith, lt, h.count)) ∙ ap (λ k. rank (slice_index old k) old + 1) (sym e)
-      | inr ne ↦ set_other new at i (rank (slice_index old at) old + 1) ne ∙ h.each i (less i ini ne)
-    ];
-  }
+  count = length-set new at (rank (slice_index old at) old + 1) ∙ h.count;
+  each = λ i ini. elim (cases_eq i at) [
+    | inl e ↦
+        ap (λ k. get_or (set new at (rank (slice_index old at) old + 1)) k 0) e
+        ∙ set_same new at (rank (slice_index old at) old + 1) (omega (arith, lt, h.count)) ∙ ap (λ k. rank (slice_index old k) old + 1) (sym e)
+    | inr ne ↦ set_other new at i (rank (slice_index old at) old + 1) ne ∙ h.each i (less i ini ne)
+  ];
+}
   where
     less : (i : ℕ) → i < at + 1 → (i ≡ at → ⊥) → i < at
     less i ini ne = elim (cases_lt i at) [
@@ -149,20 +151,22 @@ numbered_all old new n le ge h = let all : n ≡ length old = omega (arith, le, 
 -- all of them stand in their order
 pub numbered_order : (old new : List ℕ) → Numbered old new (length old) → KeepsOrder old new
 numbered_order old new h = record {
-    count = h.count;
-    order = λ i j ini inj. rw (h.each i ini, h.each j inj) (both (rank (get_or old i 0) old) (rank (get_or old j 0) old) ∙ same_order old i j ini inj);
-  }
+  count = h.count;
+  order = λ i j ini inj. rw (h.each i ini, h.each j inj) (both (rank (get_or old i 0) old) (rank (get_or old j 0) old) ∙ same_order old i j ini inj);
+}
   where
     both : (a b : ℕ) → nat_lt (a + 1) (b + 1) ≡ nat_lt a b
     both a b = grind (arith, nat_tests)
 
 -- and below what comes next
 pub numbered_below : (old new : List ℕ) → Numbered old new (length old) → AllBelow new (length old + 1)
-numbered_below old new h = record { each = λ i ini.
-    let lt : i < length old = omega (arith, ini, h.count) in
-    let is = h.each i lt in
-    let lower = rank_lt' old i lt in
-    omega (arith, is, lower) }
+numbered_below old new h = record {
+  each = λ i ini.
+      let lt : i < length old = omega (arith, ini, h.count) in
+      let is = h.each i lt in
+      let lower = rank_lt' old i lt in
+      omega (arith, is, lower);
+}
   where
     -- its own number isn't among the lower ones
     rank_lt' : (xs : List ℕ) (i : ℕ) → i < length xs → rank (get_or xs i 0) xs < length xs

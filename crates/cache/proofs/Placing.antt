@@ -1,30 +1,29 @@
 -- A block comes into a slot or out of one, or has other bytes there.
-use Rattle.std.proofs.Common.{◌≡◌, ◌≢◌, ℕ, zero, suc, ◌+◌, ◌-◌, ◌*◌, ◌<◌, ◌≤◌, List, [], ◌∷◌, length, set, take, replicate, get_or, refl, sym, ap, subst, ◌∙◌, arith, Bool, true, false, cond, Option, Some, None, Result, Ok, Err, IsErr}
+use Rattle.std.proofs.Common.{◌≡◌, ℕ, ◌+◌, ◌-◌, ◌*◌, ◌<◌, ◌≤◌, List, [], length, set, refl, sym, ap, subst, ◌∙◌, arith, Bool, true, false, cond, Option, Some, None, Result, Ok, Err, IsErr}
 use mathlib.Core.Logic.{inl, inr, ◌⊎◌}
 use Rattle.std.specs.Prelude.{◌&&◌, is_some, not, slice_index, slice_get, nat_le, nat_lt, position}
-use Rattle.std.proofs.lemmas.Bool.{cases_eq, cases_lt, cond-true, cond-false}
+use Rattle.std.proofs.lemmas.Bool.{cases_lt, cond-true, cond-false}
 use Rattle.std.proofs.lemmas.Bool.Decides.{nat_tests}
 use Rattle.legal.specs.View.{frame_or}
 use Rattle.reissue.specs.Moves.{DiskState, Begun, put}
 use Rattle.reissue.specs.Entries.{pending_of}
-use Rattle.reissue.proofs.Maps.{put-same, put_cases, is_put}
+use Rattle.reissue.proofs.Maps.{put_cases, is_put}
 use Rattle.cache.specs.declared.slots.Slot.{Slot}
-use Rattle.cache.specs.declared.slots.Frame.{Frame}
 use Rattle.cache.specs.declared.state.State.{State}
 use Rattle.cache.specs.declared.state.State.TheVariants.{Clean, Dirty, Writing, Changed}
 use Rattle.cache.specs.declared.refusals.Cut.{Cut}
 use Rattle.cache.specs.Slots.{held, is_number, ticket_of, dirtied, is_clean, is_unclean_slot, IsDistinct}
-use Rattle.cache.specs.Edits.{IsSetAt, IsChangedAt, IsSlotAt, IsFreeAt, IsAt, Leaves}
+use Rattle.cache.specs.Edits.{IsSetAt, IsSlotAt, IsFreeAt, IsAt}
 use Rattle.cache.specs.Frames.{Tied, CacheAgrees, HasSure, view, frame_of, disk_block, with_bytes}
 use Rattle.cache.specs.Calls.{Caching, IsReady, Runs, Serves, Keeps, Rewrites, Blanks, unless_clean, forgotten}
 use Rattle.cache.specs.declared.cache.Took.{Took}
 use Rattle.cache.specs.declared.cache.Took.TheVariants as took
 use Rattle.cache.specs.Takes.{Reads, AreDisk, BytesOf, Takes, ReadTells, ReadsStay, is_read_of, IsReadAt}
-use Rattle.cache.proofs.Held.{block_is, is_its_number, get_set_same, get_set_other, place_of, held_at, held_set, held_other, held_vacated, held_filled, some_holds}
+use Rattle.cache.proofs.Held.{block_is, is_its_number, get_set_same, place_of, held_at, held_set, held_other, held_vacated, held_filled}
 use Rattle.cache.proofs.Places.{none_at, some_at}
 use Rattle.cache.proofs.Tied.{tied_idle, tied_changed, no_ticket}
-use Rattle.cache.proofs.Agreeing.{agrees_put, agrees_given_up, view_given_up, view_put, view_row, not_clean, seen_within, seen_past, byte_or}
-use Rattle.cache.proofs.Edits.{one_slot, leaves_set}
+use Rattle.cache.proofs.Agreeing.{agrees_put, agrees_given_up, view_given_up, view_put, view_row, not_clean, seen_within, seen_past}
+use Rattle.cache.proofs.Edits.{one_slot}
 use Rattle.cache.proofs.Runs.{runs_none, runs_as, runs_then}
 
 -- ---- calls at the link between changes of frames
@@ -32,9 +31,9 @@ use Rattle.cache.proofs.Runs.{runs_none, runs_as, runs_then}
 -- two calls that leave what would be read back
 pub serves_then : (a b c : Caching) (u v w : DiskState) → Serves a b u v → Serves b c v w → Serves a c u w
 serves_then a b c u v w x y = record {
-    agrees = λ k. y.agrees (x.agrees k);
-    same = λ k. y.same (x.agrees k) ∙ x.same k;
-  }
+  agrees = λ k. y.agrees (x.agrees k);
+  same = λ k. y.same (x.agrees k) ∙ x.same k;
+}
 
 -- one after the other
 pub keeps_then : (a b c : Caching) → Keeps a b → Keeps b c → Keeps a c
@@ -67,12 +66,12 @@ keeps_read r start size a b x = runs_as None a b (λ w v. Reads r start size a b
 pub still_reading : (r : Result Took Cut) (pending pending' : ℕ → Option Begun) (ticket start size : ℕ) → ReadsStay r pending pending'
     → is_read_of r ticket ≡ false → IsReadAt pending ticket start size → IsReadAt pending' ticket start size
 still_reading r pending pending' ticket start size stay other x = record {
-    request = x.request;
-    is = stay.stays ticket x.request x.is x.read other;
-    read = x.read;
-    start_is = x.start_is;
-    size_is = x.size_is;
-  }
+  request = x.request;
+  is = stay.stays ticket x.request x.is x.read other;
+  read = x.read;
+  start_is = x.start_is;
+  size_is = x.size_is;
+}
 
 -- the read is settled
 pub reads_done : (r : Result Took Cut) (a b c : Caching) (settled ticket start size : ℕ) (bytes : List ℕ) → r ≡ Ok (took.Read settled bytes) → settled ≡ ticket
@@ -80,12 +79,12 @@ pub reads_done : (r : Result Took Cut) (a b c : Caching) (settled ticket start s
     → Runs None a c (λ w v. Reads (Ok bytes) start size a c w v)
 reads_done r a b c settled ticket start size bytes e same at x y =
     runs_then None a b c (λ w v. Serves a b w v) (λ w v. Takes r b c w v) (λ w v. Reads (Ok bytes) start size a c w v)
-      (λ u v w p q. record { serves = serves_then a b c u v w p q.serves; bytes = told w q.tells }) x y
+    (λ u v w p q. record { serves = serves_then a b c u v w p q.serves; bytes = told w q.tells }) x y
   where
     told : (w : DiskState) → ReadTells r (pending_of b.table.pending) w → AreDisk start size bytes w
     told w h =
         let one : ReadTells (Ok (took.Read settled bytes)) (pending_of b.table.pending) w =
-          subst (λ (k : Result Took Cut). ReadTells k (pending_of b.table.pending) w) e h in
+        subst (λ (k : Result Took Cut). ReadTells k (pending_of b.table.pending) w) e h in
         let all = one at.request (ap (pending_of b.table.pending) same ∙ at.is) in
         subst (λ (n : ℕ). AreDisk n size bytes w) at.start_is (subst (λ (n : ℕ). AreDisk at.request.start n bytes w) at.size_is all)
 
@@ -94,10 +93,10 @@ pub reads_after : (r : Result (List ℕ) Cut) (a b c : Caching) (block its : ℕ
     → Runs None b c (λ w v. Reads r (its * b.size) b.size b c w v) → Runs None a c (λ w v. Reads r (block * a.size) a.size a c w v)
 reads_after r a b c block its same x y =
     runs_then None a b c (λ w v. Serves a b w v) (λ w v. Reads r (its * b.size) b.size b c w v) (λ w v. Reads r (block * a.size) a.size a c w v)
-      (λ u v w p q. record {
-        serves = serves_then a b c u v w p q.serves;
-        bytes = subst (λ (n : ℕ). BytesOf r (block * n) n w) x.size (subst (λ (n : ℕ). BytesOf r (n * b.size) b.size w) same q.bytes);
-      }) x y
+    (λ u v w p q. record {
+      serves = serves_then a b c u v w p q.serves;
+      bytes = subst (λ (n : ℕ). BytesOf r (block * n) n w) x.size (subst (λ (n : ℕ). BytesOf r (n * b.size) b.size w) same q.bytes);
+    }) x y
 
 -- a change of the slots alone, as a call
 pub runs_slots : (old new : Caching) (R : DiskState → DiskState → Type 0) → new.minor ≡ old.minor → new.size ≡ old.size → new.table ≡ old.table
@@ -108,11 +107,20 @@ runs_slots old new R minor size table told truth room budget ended ready tied h 
   where
     made : Caching → (ℕ → Option Slot) → Caching
     made c h = record c { held = h }
+
     same : made old new.held ≡ new
     same = λ i. record {
-      minor = sym minor i; size = sym size i; held = new.held; table = sym table i; told = sym told i; truth = sym truth i;
-      room = sym room i; budget = sym budget i; ended = sym ended i;
+      minor = sym minor i;
+      size = sym size i;
+      held = new.held;
+      table = sym table i;
+      told = sym told i;
+      truth = sym truth i;
+      room = sym room i;
+      budget = sym budget i;
+      ended = sym ended i;
     }
+
     moved : (c : Caching) → c ≡ made old new.held → Runs None old c R
     moved c e = subst (λ (d : Caching). Runs None old d R) (sym e) (record {
       ready = record { minors = ready.minors; tied = tied; room = ready.room; ids = ready.ids };
@@ -150,10 +158,13 @@ vacated_held old new at s d is e = by s.block refl
   where
     one : e.slot ≡ s
     one = one_slot old at e.slot s e.is is
+
     t : Slot
     t = record s { block = None }
+
     set_is : new ≡ set old at t
     set_is = e.all ∙ ap (λ (y : Slot). set old at (record y { block = None })) one
+
     by : (x : Option ℕ) → s.block ≡ x
         → ((s.block ≡ None) × (held new ≡ held old)) ⊎ ((b : ℕ) × (held old b ≡ Some s) × (held new ≡ put (held old) b None))
     by None k = inl (k, λ i b. (ap (λ (l : List Slot). held l b) set_is ∙ held_other old at b s t is (rw k refl) refl) i)
@@ -169,9 +180,9 @@ vacated old new items items' at d f e here all ready = subst (λ (c : Caching). 
           let same : record old { held = held items' } ≡ old = ap (λ (h : ℕ → Option Slot). record old { held = h }) (p.1 ∙ sym here) in
           subst (λ (c : Caching). Keeps old c) (sym same) (keeps_none old ready)
       | inr p ↦ elim (not_unclean f.slot f.passes) [
-          | inl none ↦ absurd (never p.0 none p.1)
-          | inr clean ↦ given_up p.0 f.slot (ap (λ (h : ℕ → Option Slot). h p.0) here ∙ p.1) clean (p.2 ∙ ap (λ (h : ℕ → Option Slot). put h p.0 None) (sym here))
-        ]
+        | inl none ↦ absurd (never p.0 none p.1)
+        | inr clean ↦ given_up p.0 f.slot (ap (λ (h : ℕ → Option Slot). h p.0) here ∙ p.1) clean (p.2 ∙ ap (λ (h : ℕ → Option Slot). put h p.0 None) (sym here))
+      ]
     ])
   where
     never : (b : ℕ) → f.slot.block ≡ None → held items b ≡ Some f.slot → ⊥
@@ -179,25 +190,26 @@ vacated old new items items' at d f e here all ready = subst (λ (c : Caching). 
         let p = place_of items b f.slot h in
         let z : None ≡ Some b = sym none ∙ p.block in
         cc
+
     given_up : (b : ℕ) (s : Slot) → old.held b ≡ Some s → s.state ≡ Clean → held items' ≡ put old.held b None
         → Keeps old (record old { held = held items' })
     given_up b s is clean to =
         runs_slots old (record old { held = held items' }) (λ w v. Serves old (record old { held = held items' }) w v) refl refl refl refl refl refl refl refl ready
-          (subst (λ (h : ℕ → Option Slot). Tied old.size h (pending_of old.table.pending)) (sym to)
-            (tied_idle old.size old.held (pending_of old.table.pending) b None
-              (λ n u hu tu. no_ticket u.state n (ap (λ (x : Slot). x.state) (let k : u ≡ s = cc in k) ∙ clean) tu) (λ n u hu tu. cc) ready.tied))
-          (λ w. record {
-            agrees = λ a. subst (λ (h : ℕ → Option Slot). CacheAgrees old.size h w) (sym to) (agrees_given_up old.size old.held w b s is clean a);
-            same = λ a. ap (λ (h : ℕ → Option Slot). view old.size h w) to ∙ view_given_up old.size old.held w b s is clean a;
-          })
+        (subst (λ (h : ℕ → Option Slot). Tied old.size h (pending_of old.table.pending)) (sym to)
+        (tied_idle old.size old.held (pending_of old.table.pending) b None
+        (λ n u hu tu. no_ticket u.state n (ap (λ (x : Slot). x.state) (let k : u ≡ s = cc in k) ∙ clean) tu) (λ n u hu tu. cc) ready.tied))
+        (λ w. record {
+          agrees = λ a. subst (λ (h : ℕ → Option Slot). CacheAgrees old.size h w) (sym to) (agrees_given_up old.size old.held w b s is clean a);
+          same = λ a. ap (λ (h : ℕ → Option Slot). view old.size h w) to ∙ view_given_up old.size old.held w b s is clean a;
+        })
 
 -- it is free then
 pub free_at : (old new : List Slot) (at : ℕ) → IsSetAt old new at (λ t. record t { block = None }) → IsFreeAt new at
 free_at old new at e = record {
-    slot = record e.slot { block = None };
-    is = ap (λ (l : List Slot). slice_get l at) e.all ∙ get_set_same old at e.slot (record e.slot { block = None }) e.is;
-    none = refl;
-  }
+  slot = record e.slot { block = None };
+  is = ap (λ (l : List Slot). slice_get l at) e.all ∙ get_set_same old at e.slot (record e.slot { block = None }) e.is;
+  none = refl;
+}
 
 -- and no block gets a slot
 pub vacated_none : (old new : List Slot) (at : ℕ) (s : Slot) → IsDistinct old → slice_get old at ≡ Some s
@@ -205,9 +217,9 @@ pub vacated_none : (old new : List Slot) (at : ℕ) (s : Slot) → IsDistinct ol
 vacated_none old new at s d is e c h = elim (vacated_held old new at s d is e) [
   | inl p ↦ ap (λ (f : ℕ → Option Slot). f c) p.1 ∙ h
   | inr p ↦ elim (put_cases (held old) p.0 None c) [
-      | inl q ↦ ap (λ (f : ℕ → Option Slot). f c) p.2 ∙ q.1
-      | inr q ↦ ap (λ (f : ℕ → Option Slot). f c) p.2 ∙ q.1 ∙ h
-    ]
+    | inl q ↦ ap (λ (f : ℕ → Option Slot). f c) p.2 ∙ q.1
+    | inr q ↦ ap (λ (f : ℕ → Option Slot). f c) p.2 ∙ q.1 ∙ h
+  ]
 ]
 
 -- ---- a block comes into a free slot
@@ -228,30 +240,35 @@ pub placed : (old new : Caching) (items items' : List Slot) (at b start size : �
     → Keeps before new
 placed old new items items' at b start size bytes before d free none e here all at_start whole ready x =
     runs_then None before old new (λ w v. Reads (Ok bytes) start size before old w v)
-      (λ w v. AreDisk start size bytes w → Serves old new w v) (λ w v. Serves before new w v)
-      (λ u v w p q. serves_then before old new u v w p.serves (q p.bytes)) x
-      (subst (λ (c : Caching). Runs None old c (λ w v. AreDisk start size bytes w → Serves old c w v)) (sym all)
-        (runs_slots old after (λ w v. AreDisk start size bytes w → Serves old after w v) refl refl refl refl refl refl refl refl ready tied
-          (λ w told. record {
-            agrees = λ a. subst (λ (h : ℕ → Option Slot). CacheAgrees old.size h w) (sym to)
-              (agrees_put old.size old.held w b (Some t) (λ u h c o lt. subst (λ (y : Slot). HasSure w (b * old.size + o) (slice_index y.bytes o))
-                (let k : t ≡ u = cc in k) (sure w a told o lt)) (λ h o lt. cc) a);
-            same = λ a. ap (λ (h : ℕ → Option Slot). view old.size h w) to
-              ∙ view_put old.size old.held w b (Some t) (λ o lt. rw slot (sure w a told o lt).byte_is);
-          })))
+    (λ w v. AreDisk start size bytes w → Serves old new w v) (λ w v. Serves before new w v)
+    (λ u v w p q. serves_then before old new u v w p.serves (q p.bytes)) x
+    (subst (λ (c : Caching). Runs None old c (λ w v. AreDisk start size bytes w → Serves old c w v)) (sym all)
+    (runs_slots old after (λ w v. AreDisk start size bytes w → Serves old after w v) refl refl refl refl refl refl refl refl ready tied
+    (λ w told. record {
+      agrees = λ a. subst (λ (h : ℕ → Option Slot). CacheAgrees old.size h w) (sym to)
+          (agrees_put old.size old.held w b (Some t) (λ u h c o lt. subst (λ (y : Slot). HasSure w (b * old.size + o) (slice_index y.bytes o))
+          (let k : t ≡ u = cc in k) (sure w a told o lt)) (λ h o lt. cc) a);
+      same = λ a. ap (λ (h : ℕ → Option Slot). view old.size h w) to
+          ∙ view_put old.size old.held w b (Some t) (λ o lt. rw slot (sure w a told o lt).byte_is);
+    })))
   where
     t : Slot
     t = record { block = Some b; bytes = bytes; state = Clean }
+
     after : Caching
     after = record old { held = held items' }
+
     slot : old.held b ≡ None
     slot = ap (λ (h : ℕ → Option Slot). h b) here ∙ none
+
     to : held items' ≡ put old.held b (Some t)
     to = filled_held items items' at b t (λ s. t) (λ s. refl) refl d free none e ∙ ap (λ (h : ℕ → Option Slot). put h b (Some t)) (sym here)
+
     tied : Tied old.size (held items') (pending_of old.table.pending)
     tied = subst (λ (h : ℕ → Option Slot). Tied old.size h (pending_of old.table.pending)) (sym to)
-      (tied_idle old.size old.held (pending_of old.table.pending) b (Some t) (λ n s h k. let z = slot in cc)
+        (tied_idle old.size old.held (pending_of old.table.pending) b (Some t) (λ n s h k. let z = slot in cc)
         (λ n u h k. let y : t ≡ u = cc in let z : None ≡ Some n = ap (λ (x : Slot). ticket_of x.state) y ∙ k in cc) ready.tied)
+
     sure : (w : DiskState) → CacheAgrees old.size old.held w → AreDisk start size bytes w → (o : ℕ) → o < old.size
         → HasSure w (b * old.size + o) (slice_index bytes o)
     sure w a told o lt =
@@ -295,22 +312,24 @@ pub rewritten : (old new : Caching) (items items' : List Slot) (at b : ℕ) (s t
     → Runs None old new (λ w v. Rewrites b row old new w v)
 rewritten old new items items' at b s t row d is block same st set_is h here all ready =
     subst (λ (c : Caching). Runs None old c (λ w v. Rewrites b row old c w v)) (sym all)
-      (runs_slots old after (λ w v. Rewrites b row old after w v) refl refl refl refl refl refl refl refl ready
-        (subst (λ (f : ℕ → Option Slot). Tied old.size f (pending_of old.table.pending)) (sym to)
-          (tied_changed old.size old.held (pending_of old.table.pending) b s t slot st ready.tied))
-        (λ w. record {
-          agrees = λ a. subst (λ (f : ℕ → Option Slot). CacheAgrees old.size f w) (sym to)
-            (agrees_put old.size old.held w b (Some t) (λ u k c o lt. absurd (not_clean s.state (sym st ∙ ap (λ (x : Slot). x.state) (let y : t ≡ u = cc in y) ∙ c)))
-              (λ k o lt. cc) a);
-          changed = λ a. ap (λ (f : ℕ → Option Slot). view old.size f w) to
-            ∙ view_row old.size old.held w b (Some t) (row (view old.size old.held w b))
-              (h w ∙ ap (λ (x : Option Slot). row (frame_or (frame_of old.size x) (disk_block old.size w b))) (sym slot));
-        }))
+    (runs_slots old after (λ w v. Rewrites b row old after w v) refl refl refl refl refl refl refl refl ready
+    (subst (λ (f : ℕ → Option Slot). Tied old.size f (pending_of old.table.pending)) (sym to)
+    (tied_changed old.size old.held (pending_of old.table.pending) b s t slot st ready.tied))
+    (λ w. record {
+      agrees = λ a. subst (λ (f : ℕ → Option Slot). CacheAgrees old.size f w) (sym to)
+          (agrees_put old.size old.held w b (Some t) (λ u k c o lt. absurd (not_clean s.state (sym st ∙ ap (λ (x : Slot). x.state) (let y : t ≡ u = cc in y) ∙ c)))
+          (λ k o lt. cc) a);
+      changed = λ a. ap (λ (f : ℕ → Option Slot). view old.size f w) to
+          ∙ view_row old.size old.held w b (Some t) (row (view old.size old.held w b))
+          (h w ∙ ap (λ (x : Option Slot). row (frame_or (frame_of old.size x) (disk_block old.size w b))) (sym slot));
+    }))
   where
     after : Caching
     after = record old { held = held items' }
+
     slot : old.held b ≡ Some s
     slot = ap (λ (f : ℕ → Option Slot). f b) here ∙ held_at items at b s d is block
+
     to : held items' ≡ put old.held b (Some t)
     to = ap held set_is ∙ held_set items at b s t d is block same ∙ ap (λ (f : ℕ → Option Slot). put f b (Some t)) (sym here)
 
@@ -323,15 +342,17 @@ changed_row size from bytes b s t w within h = λ i o. at o (cases_lt o size) i
     and_false : (b : Bool) → (b && false) ≡ false
     and_false true = refl
     and_false false = refl
+
     past : (o : ℕ) → size ≤ o → with_bytes from bytes (frame_or (frame_of size (Some s)) (disk_block size w b)) o ≡ frame_or (frame_of size (Some s)) (disk_block size w b) o
     past o le =
         let no : nat_lt o (from + length bytes) ≡ false = grind (arith, nat_tests) in
         cond-false (nat_le from o && nat_lt o (from + length bytes)) (slice_index bytes (o - from)) (frame_or (frame_of size (Some s)) (disk_block size w b) o)
-          (rw no (and_false (nat_le from o)))
+        (rw no (and_false (nat_le from o)))
+
     at : (o : ℕ) → ((o < size) ⊎ (size ≤ o))
         → frame_or (frame_of size (Some t)) (disk_block size w b) o ≡ with_bytes from bytes (frame_or (frame_of size (Some s)) (disk_block size w b)) o
     at o (inl lt) = seen_within size w b o (Some t) lt ∙ h o
-      ∙ ap (λ (y : ℕ). cond (nat_le from o && nat_lt o (from + length bytes)) (slice_index bytes (o - from)) y) (sym (seen_within size w b o (Some s) lt))
+        ∙ ap (λ (y : ℕ). cond (nat_le from o && nat_lt o (from + length bytes)) (slice_index bytes (o - from)) y) (sym (seen_within size w b o (Some s) lt))
     at o (inr le) = seen_past size w b o (Some t) le ∙ sym (past o le ∙ seen_past size w b o (Some s) le)
 
 -- the row of a block of zero bytes
@@ -353,31 +374,35 @@ pub blanked : (old new : Caching) (items items' : List Slot) (at b : ℕ) (bytes
     → Runs None before new (λ w v. Rewrites b (λ row o. 0) before new w v)
 blanked old new items items' at b bytes before d free none zeros e here all ready x =
     runs_then None before old new (λ w v. Serves before old w v) (λ w v. Rewrites b (λ row o. 0) old new w v) (λ w v. Rewrites b (λ row o. 0) before new w v)
-      (λ u v w p q. record {
-        agrees = λ a. q.agrees (p.agrees a);
-        changed = λ a. q.changed (p.agrees a) ∙ ap (λ (y : ℕ → ℕ → ℕ). put y b (λ o. 0)) (p.same a);
-      }) x
-      (subst (λ (c : Caching). Runs None old c (λ w v. Rewrites b (λ row o. 0) old c w v)) (sym all)
-        (runs_slots old after (λ w v. Rewrites b (λ row o. 0) old after w v) refl refl refl refl refl refl refl refl ready tied
-          (λ w. record {
-            agrees = λ a. subst (λ (h : ℕ → Option Slot). CacheAgrees old.size h w) (sym to)
-              (agrees_put old.size old.held w b (Some t) (λ u h c o lt.
-                absurd (let y : t ≡ u = cc in let z : Dirty ≡ Clean = ap (λ (k : Slot). k.state) y ∙ c in let q : ⊥ = cc in q)) (λ h o lt. cc) a);
-            changed = λ a. ap (λ (h : ℕ → Option Slot). view old.size h w) to
-              ∙ view_row old.size old.held w b (Some t) (λ o. 0) (zero_row old.size b t w zeros);
-          })))
+    (λ u v w p q. record {
+      agrees = λ a. q.agrees (p.agrees a);
+      changed = λ a. q.changed (p.agrees a) ∙ ap (λ (y : ℕ → ℕ → ℕ). put y b (λ o. 0)) (p.same a);
+    }) x
+    (subst (λ (c : Caching). Runs None old c (λ w v. Rewrites b (λ row o. 0) old c w v)) (sym all)
+    (runs_slots old after (λ w v. Rewrites b (λ row o. 0) old after w v) refl refl refl refl refl refl refl refl ready tied
+    (λ w. record {
+      agrees = λ a. subst (λ (h : ℕ → Option Slot). CacheAgrees old.size h w) (sym to)
+          (agrees_put old.size old.held w b (Some t) (λ u h c o lt.
+          absurd (let y : t ≡ u = cc in let z : Dirty ≡ Clean = ap (λ (k : Slot). k.state) y ∙ c in let q : ⊥ = cc in q)) (λ h o lt. cc) a);
+      changed = λ a. ap (λ (h : ℕ → Option Slot). view old.size h w) to
+          ∙ view_row old.size old.held w b (Some t) (λ o. 0) (zero_row old.size b t w zeros);
+    })))
   where
     t : Slot
     t = record { block = Some b; bytes = bytes; state = Dirty }
+
     after : Caching
     after = record old { held = held items' }
+
     slot : old.held b ≡ None
     slot = ap (λ (h : ℕ → Option Slot). h b) here ∙ none
+
     to : held items' ≡ put old.held b (Some t)
     to = filled_held items items' at b t (λ s. t) (λ s. refl) refl d free none e ∙ ap (λ (h : ℕ → Option Slot). put h b (Some t)) (sym here)
+
     tied : Tied old.size (held items') (pending_of old.table.pending)
     tied = subst (λ (h : ℕ → Option Slot). Tied old.size h (pending_of old.table.pending)) (sym to)
-      (tied_idle old.size old.held (pending_of old.table.pending) b (Some t) (λ n s h k. let z = slot in cc)
+        (tied_idle old.size old.held (pending_of old.table.pending) b (Some t) (λ n s h k. let z = slot in cc)
         (λ n u h k. let y : t ≡ u = cc in let z : None ≡ Some n = ap (λ (x : Slot). ticket_of x.state) y ∙ k in cc) ready.tied)
 
 -- ---- a block is forgotten
@@ -407,7 +432,7 @@ forgotten_clean items items' at b s d found is clean e =
     let here : held items b ≡ Some s = held_at items at b s d is block in
     let none : unless_clean (held items b) ≡ None = ap unless_clean here ∙ cond-true (is_clean s.state) None (Some s) clean in
     ap held (e.all ∙ ap (λ (y : Slot). set items at (record y { block = None })) one) ∙ held_vacated items at b s (record s { block = None }) d is block refl
-      ∙ ap (λ (x : Option Slot). put (held items) b x) (sym none)
+    ∙ ap (λ (x : Option Slot). put (held items) b x) (sym none)
 
 -- where another one stays
 pub forgotten_other : (items : List Slot) (at b : ℕ) (s : Slot) → IsDistinct items → IsAt items at b → slice_get items at ≡ Some s

@@ -18,9 +18,11 @@ covered g held image marks some k = record { each = λ place unsure_there. by pl
   where
     whole : (place : ℕ) → place ≡ place / g.block_size * g.block_size + place % g.block_size
     whole place = sym (ap (λ n. n + place % g.block_size) (mul_comm (place / g.block_size) g.block_size) ∙ div-add-mod place g.block_size)
+
     never : (b : Bool) → IsTrue b → b ≡ false → ⊥
     never true t e = cc
     never false t e = cc
+
     by : (place : ℕ) → IsTrue (unsure marks place) → (x : Option Slot) → held (place / g.block_size) ≡ x → IsSome (frame_of g.block_size (held (place / g.block_size)))
     by place t None e =
         let sure = ap (unsure marks) (whole place) ∙ k.covered (place / g.block_size) e (place % g.block_size) (mod-lt place some) in

@@ -1,5 +1,5 @@
 -- Calls one after the other, and what a request begun or a message taken is as a call.
-use Rattle.std.proofs.Common.{◌≡◌, ℕ, ◌+◌, ◌^◌, ◌<◌, ◌≤◌, List, [], ◌∷◌, ◌++◌, length, Bool, true, false, cond, refl, sym, ◌∙◌, ap, subst, arith, append_assoc, Option, Some, None}
+use Rattle.std.proofs.Common.{◌≡◌, ℕ, ◌+◌, ◌<◌, ◌≤◌, List, [], ◌∷◌, ◌++◌, length, Bool, true, false, cond, refl, sym, ◌∙◌, ap, subst, arith, append_assoc, Option, Some, None}
 use Rattle.message.specs.declared.Incoming.{Incoming}
 use Rattle.message.specs.declared.Incoming.TheVariants as incoming
 use Rattle.marks.specs.Marks.{Mark, Answered}
@@ -7,7 +7,7 @@ use Rattle.marks.specs.Open.{counts}
 use Rattle.marks.specs.Disk.{Contents, HasTrueReplies}
 use Rattle.marks.specs.Told.{Told, Posted, Complained, Received, grown, received, heard, took_end}
 use Rattle.marks.specs.Acts.{Act, Outbox, KeepsRules, told_of, marks_after, outbox_after}
-use Rattle.marks.specs.Opening.{Opening, contents_at}
+use Rattle.marks.specs.Opening.{contents_at}
 use Rattle.marks.proofs.ActLaws.{acts_compose}
 use Rattle.reissue.specs.declared.ask.Ask.{Ask}
 use Rattle.reissue.specs.declared.ask.Settled.{Settled}
@@ -19,9 +19,9 @@ use Rattle.reissue.specs.Agrees.{Agrees}
 use Rattle.reissue.specs.Posts.{OnlyPosts, complaints_about, due_after}
 use Rattle.reissue.specs.Rules.{KeepsRulesBy, outbox_of}
 use Rattle.endpoint.specs.declared.Endpoint.{Endpoint}
-use Rattle.reissue.specs.Calls.{Truth, Begins, Steps, Absorbs, IsAnswerTo, IsOfReply}
+use Rattle.reissue.specs.Calls.{Begins, Steps, Absorbs, IsAnswerTo, IsOfReply}
 use Rattle.reissue.proofs.Joining.{grown_append, true_after}
-use Rattle.cache.specs.Calls.{Caching, IsReady, Runs, after_message, message_count}
+use Rattle.cache.specs.Calls.{Caching, IsReady, Runs, after_message}
 use Rattle.cache.specs.Takes.{is_ended_by}
 
 -- ---- true replies
@@ -58,8 +58,8 @@ rules_then : (minor : ℕ) (a b c : Table) (before between after : List Told) (m
 rules_then minor a b c before between after marks more most first then x y =
     let both = acts_compose minor then first marks (outbox_of a) in
     let second : KeepsRules minor then (marks_after first marks) (outbox_after first marks (outbox_of a)) =
-      subst (λ (ms : List Mark). KeepsRules minor then ms (outbox_after first marks (outbox_of a))) (sym x.grows)
-        (subst (λ (o : Outbox). KeepsRules minor then more o) (sym x.owes) y.keeps) in
+    subst (λ (ms : List Mark). KeepsRules minor then ms (outbox_after first marks (outbox_of a))) (sym x.grows)
+    (subst (λ (o : Outbox). KeepsRules minor then more o) (sym x.owes) y.keeps) in
     record {
       told = y.told ∙ ap (λ (l : List Told). told_of then ++ l) x.told ∙ sym (append_assoc (told_of then) (told_of first) before)
           ∙ ap (λ (l : List Told). l ++ before) (sym both.told);
@@ -74,37 +74,37 @@ rules_then minor a b c before between after marks more most first then x y =
 -- nothing happened
 pub runs_none : (c : Caching) (R : DiskState → DiskState → Type 0) → IsReady c → ((w : DiskState) → R w w) → Runs None c c R
 runs_none c R ready h = record {
-    ready = ready;
-    told = [];
-    history = refl;
-    minor = refl;
-    size = refl;
-    ended = λ e. e;
-    ids = λ e. omega arith;
-    agrees = λ marks k. k;
-    ends = λ marks k e. e;
-    related = λ image marks k tr. h (state_after image marks);
-    truth = λ opening marks k e was tr. (was, tr);
-    rules = λ marks k. ([], record { told = refl; grows = refl; keeps = tt; owes = refl });
-  }
+  ready = ready;
+  told = [];
+  history = refl;
+  minor = refl;
+  size = refl;
+  ended = λ e. e;
+  ids = λ e. omega arith;
+  agrees = λ marks k. k;
+  ends = λ marks k e. e;
+  related = λ image marks k tr. h (state_after image marks);
+  truth = λ opening marks k e was tr. (was, tr);
+  rules = λ marks k. ([], record { told = refl; grows = refl; keeps = tt; owes = refl });
+}
 
 -- another relation that follows
 pub runs_as : (m : Option Incoming) (a b : Caching) (R S : DiskState → DiskState → Type 0)
     → ((w v : DiskState) → R w v → S w v) → Runs m a b R → Runs m a b S
 runs_as m a b R S h x = record {
-    ready = x.ready;
-    told = x.told;
-    history = x.history;
-    minor = x.minor;
-    size = x.size;
-    ended = x.ended;
-    ids = x.ids;
-    agrees = x.agrees;
-    ends = x.ends;
-    related = λ image marks k tr. h (state_after image marks) (state_after image (grown x.told (after_message m marks))) (x.related image marks k tr);
-    truth = x.truth;
-    rules = x.rules;
-  }
+  ready = x.ready;
+  told = x.told;
+  history = x.history;
+  minor = x.minor;
+  size = x.size;
+  ended = x.ended;
+  ids = x.ids;
+  agrees = x.agrees;
+  ends = x.ends;
+  related = λ image marks k tr. h (state_after image marks) (state_after image (grown x.told (after_message m marks))) (x.related image marks k tr);
+  truth = x.truth;
+  rules = x.rules;
+}
 
 -- a call whose link has ended had ended before
 open_before : (b c : Bool) → (b ≡ true → c ≡ true) → c ≡ false → b ≡ false
@@ -115,36 +115,38 @@ open_before true c h e = let k = h refl in cc
 pub runs_then : (m : Option Incoming) (a b c : Caching) (R S T : DiskState → DiskState → Type 0)
     → ((u v w : DiskState) → R u v → S v w → T u w) → Runs m a b R → Runs None b c S → Runs m a c T
 runs_then m a b c R S T h x y = record {
-    ready = y.ready;
-    told = y.told ++ x.told;
-    history = y.history ∙ ap (λ (l : List Told). y.told ++ l) x.history ∙ sym (append_assoc y.told x.told a.told);
-    minor = y.minor ∙ x.minor;
-    size = y.size ∙ x.size;
-    ended = λ e. y.ended (x.ended e);
-    ids = λ e. let first = x.ids (open_before b.ended c.ended y.ended e) in let second = y.ids e in omega (arith, first, second);
-    agrees = λ marks k. subst (λ (ms : List Mark). Agrees c.table ms) (sym (all marks)) (y.agrees (mid marks) (x.agrees marks k));
-    ends = λ marks k e. y.ends (mid marks) (x.agrees marks k) (x.ends marks k e);
-    related = λ image marks k tr.
+  ready = y.ready;
+  told = y.told ++ x.told;
+  history = y.history ∙ ap (λ (l : List Told). y.told ++ l) x.history ∙ sym (append_assoc y.told x.told a.told);
+  minor = y.minor ∙ x.minor;
+  size = y.size ∙ x.size;
+  ended = λ e. y.ended (x.ended e);
+  ids = λ e. let first = x.ids (open_before b.ended c.ended y.ended e) in let second = y.ids e in omega (arith, first, second);
+  agrees = λ marks k. subst (λ (ms : List Mark). Agrees c.table ms) (sym (all marks)) (y.agrees (mid marks) (x.agrees marks k));
+  ends = λ marks k e. y.ends (mid marks) (x.agrees marks k) (x.ends marks k e);
+  related = λ image marks k tr.
       let tr' : HasTrueReplies image (grown y.told (mid marks)) = subst (λ (ms : List Mark). HasTrueReplies image ms) (all marks) tr in
       let first = x.related image marks k (true_before y.told image (mid marks) tr') in
       let second = y.related image (mid marks) (x.agrees marks k) tr' in
       subst (λ (ms : List Mark). T (state_after image marks) (state_after image ms)) (sym (all marks))
-        (h (state_after image marks) (state_after image (mid marks)) (state_after image (grown y.told (mid marks))) first second);
-    truth = λ opening marks k e was tr.
+      (h (state_after image marks) (state_after image (mid marks)) (state_after image (grown y.told (mid marks))) first second);
+  truth = λ opening marks k e was tr.
       let first = x.truth opening marks k e was tr in
       subst (λ (ms : List Mark). c.truth opening ms × HasTrueReplies (contents_at opening) ms) (sym (all marks))
-        (y.truth opening (mid marks) (x.agrees marks k) (e ∙ sym x.minor) first.0 first.1);
-    rules = λ marks k.
+      (y.truth opening (mid marks) (x.agrees marks k) (e ∙ sym x.minor) first.0 first.1);
+  rules = λ marks k.
       let first = x.rules marks k in
       let second = y.rules (mid marks) (x.agrees marks k) in (
         second.0 ++ first.0,
         subst (λ (ms : List Mark). KeepsRulesBy (second.0 ++ first.0) a.minor a.table c.table a.told c.told marks ms) (sym (all marks))
-          (rules_then a.minor a.table b.table c.table a.told b.told c.told marks (mid marks) (grown y.told (mid marks)) first.0 second.0 first.1
-            (subst (λ (n : ℕ). KeepsRulesBy second.0 n b.table c.table b.told c.told (mid marks) (grown y.told (mid marks))) x.minor second.1)));
-  }
+            (rules_then a.minor a.table b.table c.table a.told b.told c.told marks (mid marks) (grown y.told (mid marks)) first.0 second.0 first.1
+            (subst (λ (n : ℕ). KeepsRulesBy second.0 n b.table c.table b.told c.told (mid marks) (grown y.told (mid marks))) x.minor second.1)),
+      );
+}
   where
     mid : List Mark → List Mark
     mid marks = grown x.told (after_message m marks)
+
     all : (marks : List Mark) → grown (y.told ++ x.told) (after_message m marks) ≡ grown y.told (mid marks)
     all marks = grown_append y.told x.told (after_message m marks)
 
@@ -198,21 +200,22 @@ pub begin_runs : (ask : Ask) (old new : Caching) (R : DiskState → DiskState �
     → new.table.ids + length old.table.pending ≡ old.table.ids + length new.table.pending
     → ((w v : DiskState) → Spares (pending_of new.table.pending) w v → R w v) → Runs None old new R
 begin_runs ask old new R x ready minors minor same_minor same_size ended budget ids h = record {
-    ready = ready;
-    told = x.posts;
-    history = x.history;
-    minor = same_minor;
-    size = same_size;
-    ended = λ e. ended ∙ e;
-    ids = λ e. omega (arith, budget, ids);
-    agrees = x.agrees;
-    ends = λ marks k e. ended ∙ e ∙ sym (ap took_end x.history ∙ posts_quiet x.posts old.told x.only_posts);
-    related = λ image marks k tr. h (state_after image marks) (state_after image (grown x.posts marks)) (x.spares image marks k);
-    truth = λ opening marks k e was tr. (
-      x.truth opening marks k (minor ∙ sym e) (subst (λ (n : ℕ). AllOfMinor n old.table.pending) (sym e) minors) was,
-      true_after x.posts (contents_at opening) marks x.only_posts tr);
-    rules = λ marks k. x.rules old.minor marks k minors minor;
-  }
+  ready = ready;
+  told = x.posts;
+  history = x.history;
+  minor = same_minor;
+  size = same_size;
+  ended = λ e. ended ∙ e;
+  ids = λ e. omega (arith, budget, ids);
+  agrees = x.agrees;
+  ends = λ marks k e. ended ∙ e ∙ sym (ap took_end x.history ∙ posts_quiet x.posts old.told x.only_posts);
+  related = λ image marks k tr. h (state_after image marks) (state_after image (grown x.posts marks)) (x.spares image marks k);
+  truth = λ opening marks k e was tr. (
+    x.truth opening marks k (minor ∙ sym e) (subst (λ (n : ℕ). AllOfMinor n old.table.pending) (sym e) minors) was,
+    true_after x.posts (contents_at opening) marks x.only_posts tr,
+  );
+  rules = λ marks k. x.rules old.minor marks k minors minor;
+}
 
 -- ---- a message is taken, as a call
 
@@ -242,35 +245,38 @@ pub step_runs : (res : Settled) (old new : Caching) (R : DiskState → DiskState
     → new.table.ids + length old.table.pending ≤ old.table.ids + length new.table.pending + 1
     → ((w v : DiskState) → Moves res (pending_of old.table.pending) w v → R w v) → Runs None old new R
 step_runs res old new R x ready minors busy going same_minor same_size alive ended budget ids h = record {
-    ready = ready;
-    told = told;
-    history = history;
-    minor = same_minor;
-    size = same_size;
-    ended = λ e. absurd (let k = alive in cc);
-    ids = λ e. let less = budget (sym ended ∙ e) in omega (arith, less, ids);
-    agrees = λ marks k. subst (λ (ms : List Mark). Agrees new.table ms) (sym (all marks k)) (x.agrees marks k);
-    ends = λ marks k e. ended ∙ by_end (is_ended_by res) refl marks k e;
-    related = λ image marks k tr.
+  ready = ready;
+  told = told;
+  history = history;
+  minor = same_minor;
+  size = same_size;
+  ended = λ e. absurd (let k = alive in cc);
+  ids = λ e. let less = budget (sym ended ∙ e) in omega (arith, less, ids);
+  agrees = λ marks k. subst (λ (ms : List Mark). Agrees new.table ms) (sym (all marks k)) (x.agrees marks k);
+  ends = λ marks k e. ended ∙ by_end (is_ended_by res) refl marks k e;
+  related = λ image marks k tr.
       subst (λ (ms : List Mark). R (state_after image marks) (state_after image ms)) (sym (all marks k))
-        (h (state_after image marks) (state_after image (grown x.posts (received x.message marks)))
-          ((x.closing marks k).moves image (subst (λ (ms : List Mark). HasTrueReplies image ms) (all marks k) tr)));
-    truth = λ opening marks k e was tr.
+      (h (state_after image marks) (state_after image (grown x.posts (received x.message marks)))
+      ((x.closing marks k).moves image (subst (λ (ms : List Mark). HasTrueReplies image ms) (all marks k) tr)));
+  truth = λ opening marks k e was tr.
       subst (λ (ms : List Mark). new.truth opening ms × HasTrueReplies (contents_at opening) ms) (sym (all marks k))
-        (x.truth opening marks k (subst (λ (n : ℕ). AllOfMinor n old.table.pending) (sym e) minors) was);
-    rules = λ marks k.
+      (x.truth opening marks k (subst (λ (n : ℕ). AllOfMinor n old.table.pending) (sym e) minors) was);
+  rules = λ marks k.
       subst (λ (ms : List Mark). (acts : List Act) × KeepsRulesBy acts old.minor old.table new.table old.told new.told marks ms) (sym (all marks k))
-        (x.rules old.minor marks k minors busy going);
-  }
+      (x.rules old.minor marks k minors busy going);
+}
   where
     more : (b : Bool) × (heard x.message old.told ≡ news b x.message ++ old.told) × ((marks : List Mark) → grown (news b x.message) marks ≡ received x.message marks)
     more = heard_news x.message old.told
+
     told : List Told
     told = x.posts ++ (x.complaints ++ news more.0 x.message)
+
     history : new.told ≡ told ++ old.told
     history = x.history ∙ ap (λ (l : List Told). x.posts ++ (x.complaints ++ l)) more.1
-      ∙ ap (λ (l : List Told). x.posts ++ l) (sym (append_assoc x.complaints (news more.0 x.message) old.told))
-      ∙ sym (append_assoc x.posts (x.complaints ++ news more.0 x.message) old.told)
+        ∙ ap (λ (l : List Told). x.posts ++ l) (sym (append_assoc x.complaints (news more.0 x.message) old.told))
+        ∙ sym (append_assoc x.posts (x.complaints ++ news more.0 x.message) old.told)
+
     -- complaints leave no mark
     silent : (marks ms : List Mark) → Agrees old.table marks → grown x.complaints ms ≡ ms
     silent marks ms k = rw (x.due marks k) (by (due_after x.message marks))
@@ -278,13 +284,16 @@ step_runs res old new R x ready minors busy going same_minor same_size alive end
         by : (o : Option Endpoint) → grown (complaints_about o) ms ≡ ms
         by None = refl
         by (Some about) = refl
+
     all : (marks : List Mark) → Agrees old.table marks → grown told marks ≡ grown x.posts (received x.message marks)
     all marks k = grown_append x.posts (x.complaints ++ news more.0 x.message) marks
-      ∙ ap (λ (l : List Mark). grown x.posts l) (grown_append x.complaints (news more.0 x.message) marks
+        ∙ ap (λ (l : List Mark). grown x.posts l) (grown_append x.complaints (news more.0 x.message) marks
         ∙ silent marks (grown (news more.0 x.message) marks) k ∙ more.2 marks)
+
     quiet : (marks : List Mark) → Agrees old.table marks → took_end new.told ≡ cond (is_ended_by res) true (took_end old.told)
     quiet marks k = ap took_end x.history ∙ posts_quiet x.posts (x.complaints ++ heard x.message old.told) x.only_posts
-      ∙ complaint_quiet x.message marks x.complaints (heard x.message old.told) (x.due marks k) ∙ heard_ends x.message res old.told x.answer
+        ∙ complaint_quiet x.message marks x.complaints (heard x.message old.told) (x.due marks k) ∙ heard_ends x.message res old.told x.answer
+
     by_end : (b : Bool) → is_ended_by res ≡ b → (marks : List Mark) → Agrees old.table marks → old.ended ≡ took_end old.told
         → is_ended_by res ≡ took_end new.told
     by_end true e marks k was = e ∙ sym (quiet marks k ∙ rw e refl)
@@ -300,30 +309,32 @@ pub absorb_runs : (m : Incoming) (res : Settled) (old new : Caching) (R : DiskSt
     → new.table.ids + length old.table.pending ≤ old.table.ids + length new.table.pending + 1
     → ((w v : DiskState) → Moves res (pending_of old.table.pending) w v → R w v) → Runs (Some m) old new R
 absorb_runs m res old new R x ready minors same_minor same_size ended budget ids h = record {
-    ready = ready;
-    told = told;
-    history = x.history ∙ sym (append_assoc x.posts x.complaints old.told);
-    minor = same_minor;
-    size = same_size;
-    ended = λ e. ended ∙ e;
-    ids = λ e. omega (arith, budget, ids);
-    agrees = λ marks k. subst (λ (ms : List Mark). Agrees new.table ms) (sym (all marks)) (x.agrees marks k);
-    ends = λ marks k e. ended ∙ e ∙ sym (ap took_end x.history ∙ posts_quiet x.posts (x.complaints ++ old.told) x.only_posts
+  ready = ready;
+  told = told;
+  history = x.history ∙ sym (append_assoc x.posts x.complaints old.told);
+  minor = same_minor;
+  size = same_size;
+  ended = λ e. ended ∙ e;
+  ids = λ e. omega (arith, budget, ids);
+  agrees = λ marks k. subst (λ (ms : List Mark). Agrees new.table ms) (sym (all marks)) (x.agrees marks k);
+  ends = λ marks k e. ended ∙ e ∙ sym (ap took_end x.history ∙ posts_quiet x.posts (x.complaints ++ old.told) x.only_posts
       ∙ complaint_quiet m marks x.complaints old.told (x.due marks k));
-    related = λ image marks k tr.
+  related = λ image marks k tr.
       subst (λ (ms : List Mark). R (state_after image marks) (state_after image ms)) (sym (all marks))
-        (h (state_after image marks) (state_after image (grown x.posts (received m marks)))
-          ((x.closing marks k).moves image (subst (λ (ms : List Mark). HasTrueReplies image ms) (all marks) tr)));
-    truth = λ opening marks k e was tr.
+      (h (state_after image marks) (state_after image (grown x.posts (received m marks)))
+      ((x.closing marks k).moves image (subst (λ (ms : List Mark). HasTrueReplies image ms) (all marks) tr)));
+  truth = λ opening marks k e was tr.
       subst (λ (ms : List Mark). new.truth opening ms × HasTrueReplies (contents_at opening) ms) (sym (all marks)) (
         x.truth opening marks k (subst (λ (n : ℕ). AllOfMinor n old.table.pending) (sym e) minors) was,
-        true_after x.posts (contents_at opening) (received m marks) x.only_posts tr);
-    rules = λ marks k.
+        true_after x.posts (contents_at opening) (received m marks) x.only_posts tr,
+      );
+  rules = λ marks k.
       subst (λ (ms : List Mark). (acts : List Act) × KeepsRulesBy acts old.minor old.table new.table old.told new.told marks ms) (sym (all marks))
-        (x.rules old.minor marks k minors);
-  }
+      (x.rules old.minor marks k minors);
+}
   where
     told : List Told
     told = x.posts ++ x.complaints
+
     all : (marks : List Mark) → grown told (received m marks) ≡ grown x.posts (received m marks)
     all marks = grown_append x.posts x.complaints (received m marks) ∙ ap (λ (l : List Mark). grown x.posts l) (x.silent (received m marks))

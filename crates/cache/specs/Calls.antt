@@ -1,5 +1,5 @@
 -- What each call of a cache does at its link, to the disk, and to what would be read back.
-use Rattle.std.specs.Prelude.{◌≡◌, ◌⊎◌, ℕ, ◌+◌, ◌^◌, ◌<◌, ◌≤◌, List, [], ◌∷◌, ◌++◌, length, Bool, true, false, Option, Some, None, Result, Ok, Err, if◌then◌else◌}
+use Rattle.std.specs.Prelude.{◌≡◌, ◌⊎◌, ℕ, ◌+◌, ◌^◌, ◌<◌, ◌≤◌, List, ◌++◌, length, Bool, true, false, Option, Some, None, Result, Ok, Err, if◌then◌else◌}
 use Rattle.message.specs.declared.Incoming.{Incoming}
 use Rattle.marks.specs.Marks.{Mark}
 use Rattle.marks.specs.Disk.{Contents, HasTrueReplies}
@@ -7,7 +7,7 @@ use Rattle.marks.specs.Told.{Told, grown, received, took_end}
 use Rattle.marks.specs.Acts.{Act}
 use Rattle.marks.specs.Opening.{Opening, contents_at}
 use Rattle.reissue.specs.declared.table.Table.{Table}
-use Rattle.reissue.specs.Moves.{DiskState, Begun, state_after, put, IsBusy}
+use Rattle.reissue.specs.Moves.{DiskState, state_after, put, IsBusy}
 use Rattle.reissue.specs.Entries.{pending_of, AllOfMinor}
 use Rattle.reissue.specs.Agrees.{Agrees}
 use Rattle.reissue.specs.Posts.{HasRoom, OnlyPosts}
@@ -23,7 +23,7 @@ use Rattle.cache.specs.declared.refusals.Cut.{Cut}
 use Rattle.cache.specs.declared.refusals.Cut.TheVariants.{Eio, LinkEnded}
 use Rattle.cache.specs.Slots.{held, is_clean}
 use Rattle.cache.specs.Edits.{IsAt, NoneDirty}
-use Rattle.cache.specs.Frames.{Tied, CacheAgrees, view, with_bytes}
+use Rattle.cache.specs.Frames.{Tied, CacheAgrees, view}
 
 -- What is said of a cache.
 pub record Caching : Type 1 where

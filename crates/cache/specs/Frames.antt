@@ -1,9 +1,8 @@
 -- What a cache keeps true of its slots, of the pending requests and of the disk, and what would be read back.
-use Rattle.std.specs.Prelude.{◌≡◌, ◌⊎◌, ℕ, ◌+◌, ◌*◌, ◌<◌, ◌-◌, ◌&&◌, nat_lt, nat_le, List, length, take, Option, Some, None, Bool, true, false, if◌then◌else◌, slice_index}
+use Rattle.std.specs.Prelude.{◌≡◌, ◌⊎◌, ℕ, ◌+◌, ◌*◌, ◌<◌, ◌-◌, ◌&&◌, nat_lt, nat_le, List, length, take, Option, Some, None, false, if◌then◌else◌, slice_index}
 use Rattle.volume.specs.Reading.{Disk}
 use Rattle.legal.specs.View.{Frames, frame_or}
-use Rattle.reissue.specs.Moves.{DiskState, Begun, put}
-use Rattle.cache.specs.declared.state.State.{State}
+use Rattle.reissue.specs.Moves.{DiskState, Begun}
 use Rattle.cache.specs.declared.state.State.TheVariants.{Clean, Writing, Changed}
 use Rattle.cache.specs.declared.slots.Slot.{Slot}
 use Rattle.cache.specs.Slots.{ticket_of}

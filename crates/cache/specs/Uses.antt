@@ -1,5 +1,5 @@
 -- The order in which places were used last, by numbers: a lower one was used longer ago.
-use Rattle.std.specs.Prelude.{◌≡◌, ℕ, ◌+◌, ◌<◌, List, length, slice_index, nat_lt}
+use Rattle.std.specs.Prelude.{◌≡◌, ℕ, ◌<◌, List, length, slice_index, nat_lt}
 use Rattle.std.specs.List.{filter}
 
 -- each number is below this one

@@ -65,7 +65,13 @@ impl<L: Link> Cache<L> {
 
     /// A cache with so many frames, none of them in use, over transfers with nothing pending: 1 BadFrames unless they are 16 to
     /// 4096, looked at first; 2 OutOfMemory.
-    pub fn new(alloc: Global, transfers: Transfers<L>, minor: u8, geometry: &Geometry, frames: u32) -> Result<Cache<L>, CacheRefusal>
+    pub fn new(
+        alloc: Global,
+        transfers: Transfers<L>,
+        minor: u8,
+        geometry: &Geometry,
+        frames: u32,
+    ) -> Result<Cache<L>, CacheRefusal>
     where
         L: Drop,
         requires block_size { IsTrue (is_block_size geometry.now.block_size) }
@@ -443,8 +449,6 @@ impl<L: Link> Cache<L> {
         self.settle(settled);
     }
 }
-
-
 
 /// Whether the link gives no message any more.
 fn is_end(settled: &Settled) -> bool

@@ -161,13 +161,7 @@ impl Slots {
         let slot = &self.items[at];
         let used = self.uses.numbers[at];
         match among {
-            Among::Clean => {
-                if slot.is_unclean() {
-                    None
-                } else {
-                    Some(used)
-                }
-            }
+            Among::Clean => { if slot.is_unclean() { None } else { Some(used) } }
             Among::All => Some(used),
             Among::Dirty => match slot.block {
                 Some(block) => {

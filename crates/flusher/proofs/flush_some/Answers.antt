@@ -9,14 +9,14 @@ use Rattle.flusher.proofs.flush_some.Goals as goal
 
 pub writes-init : goal.writes-init
 writes-init g c = record {
-    keeps = keeps_none _ c.requires.ready;
-    posts = posts_none _;
-    issued = refl;
-    left = omega arith;
-    busy = λ lt. absurd (omega (arith, lt));
-    frames = λ f is. is;
-    within = omega arith;
-  }
+  keeps = keeps_none _ c.requires.ready;
+  posts = posts_none _;
+  issued = refl;
+  left = omega arith;
+  busy = λ lt. absurd (omega (arith, lt));
+  frames = λ f is. is;
+  within = omega arith;
+}
 
 pub write_lowest-requires : goal.write_lowest-requires
 write_lowest-requires g c = record { ready = c.writes.invariant.keeps.ready }
@@ -32,7 +32,7 @@ returns-then-not-write_lowest-clause-issued g c =
     let i = c.writes.invariant in
     let old = (caching g.L.Link.history g.L.Link.truth g.L.Link.room g.L.Link.budget_left c.args.cache.now).held in
     at_most c.writes.counter 16 old _ i.within
-      (subst (λ (h : ℕ → Option Slot). WritesLowest c.writes.counter old h) (sym c.if-not-write_lowest.ensures.issued) i.issued)
+    (subst (λ (h : ℕ → Option Slot). WritesLowest c.writes.counter old h) (sym c.if-not-write_lowest.ensures.issued) i.issued)
 
 pub returns-then-not-write_lowest-clause-left : goal.returns-then-not-write_lowest-clause-left
 returns-then-not-write_lowest-clause-left g c = omega (arith, c.writes.invariant.left, c.write_lowest.ensures.left)

@@ -1,4 +1,4 @@
-use Rattle.std.proofs.Common.{◌≡◌, ◌<◌, ◌≤◌}
+use Rattle.std.proofs.Common.{◌<◌, ◌≤◌}
 use Rattle.reissue.specs.Moves.{IsBusy}
 use Rattle.reissue.specs.Entries.{pending_of}
 use Rattle.cache.specs.declared.slots.Frame.{Frame}

@@ -10,7 +10,7 @@ messages-init g c = record { keeps = keeps_none _ c.requires.ready; frames = λ 
 pub returns-then-is_clean-clause-runs : goal.returns-then-is_clean-clause-runs
 returns-then-is_clean-clause-runs g c =
     syncs_ok _ _ (omega (arith, c.flush_some.new.cache.shape.least)) c.if-is_clean.ensures.clean
-      (keeps_then _ _ _ c.messages.invariant.keeps c.flush_some.ensures.keeps)
+    (keeps_then _ _ _ c.messages.invariant.keeps c.flush_some.ensures.keeps)
 
 pub returns-then-is_clean-clause-idle : goal.returns-then-is_clean-clause-idle
 returns-then-is_clean-clause-idle g c = idle _ c.flush_some.ensures.keeps.ready c.if-is_clean.ensures.clean
@@ -21,11 +21,11 @@ take-requires-clause-busy g c = λ live.
 
 pub messages-preserved : goal.messages-preserved
 messages-preserved g c = record {
-    keeps = keeps_took _ _ _ _ (keeps_then _ _ _ c.messages.invariant.keeps c.flush_some.ensures.keeps) c.take.ensures.runs;
-    frames = λ f is. c.take.ensures.leaves.at f.at f.block (c.flush_some.ensures.frames f (c.messages.invariant.frames f is));
-  }
+  keeps = keeps_took _ _ _ _ (keeps_then _ _ _ c.messages.invariant.keeps c.flush_some.ensures.keeps) c.take.ensures.runs;
+  frames = λ f is. c.take.ensures.leaves.at f.at f.block (c.flush_some.ensures.frames f (c.messages.invariant.frames f is));
+}
 
 pub returns-in_err-take-clause-runs : goal.returns-in_err-take-clause-runs
 returns-in_err-take-clause-runs g c =
     syncs_cut c.from_residual.result _ _ c.from_residual.ensures.0
-      (keeps_took _ _ _ _ (keeps_then _ _ _ c.messages.invariant.keeps c.flush_some.ensures.keeps) c.take.ensures.runs)
+    (keeps_took _ _ _ _ (keeps_then _ _ _ c.messages.invariant.keeps c.flush_some.ensures.keeps) c.take.ensures.runs)

@@ -1,4 +1,3 @@
-use Rattle.std.proofs.Common.{◌≡◌}
 use Rattle.cache.specs.declared.slots.Frame.{Frame}
 use Rattle.cache.specs.Calls.{caching, Keeps, IsFrame}
 use Rattle.cache.specs.Takes.{messages_left}

@@ -13,10 +13,10 @@ returns-in-Some-clause-keeps g c = keeps_then _ _ _ c.tries.invariant.keeps c.tr
 
 pub tries-preserved : goal.tries-preserved
 tries-preserved g c = record {
-    keeps = keeps_took _ _ _ _ (keeps_then _ _ _ c.tries.invariant.keeps c.try_read.ensures.keeps) c.take.ensures.runs;
-    leaves = leaves_then _ _ _ c.tries.invariant.leaves
+  keeps = keeps_took _ _ _ _ (keeps_then _ _ _ c.tries.invariant.keeps c.try_read.ensures.keeps) c.take.ensures.runs;
+  leaves = leaves_then _ _ _ c.tries.invariant.leaves
       (subst (λ (s : Slots). Leaves s.items.items c.take.new.self.slots.items.items) c.try_read.ensures.slots c.take.ensures.leaves);
-  }
+}
 
 pub returns-in_err-take-clause-keeps : goal.returns-in_err-take-clause-keeps
 returns-in_err-take-clause-keeps g c = keeps_took _ _ _ _ (keeps_then _ _ _ c.tries.invariant.keeps c.try_read.ensures.keeps) c.take.ensures.runs

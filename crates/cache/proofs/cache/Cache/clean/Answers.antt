@@ -7,9 +7,9 @@ tries-init g c = record { keeps = keeps_none _ c.requires.ready; leaves = leaves
 
 pub tries-preserved : goal.tries-preserved
 tries-preserved g c = record {
-    keeps = keeps_took _ _ _ _ (keeps_then _ _ _ c.tries.invariant.keeps c.write_out.ensures.keeps) c.take.ensures.runs;
-    leaves = leaves_then _ _ _ (leaves_then _ _ _ c.tries.invariant.leaves c.write_out.ensures.leaves) c.take.ensures.leaves;
-  }
+  keeps = keeps_took _ _ _ _ (keeps_then _ _ _ c.tries.invariant.keeps c.write_out.ensures.keeps) c.take.ensures.runs;
+  leaves = leaves_then _ _ _ (leaves_then _ _ _ c.tries.invariant.leaves c.write_out.ensures.leaves) c.take.ensures.leaves;
+}
 
 pub returns-in_err-take-clause-keeps : goal.returns-in_err-take-clause-keeps
 returns-in_err-take-clause-keeps g c = keeps_took _ _ _ _ (keeps_then _ _ _ c.tries.invariant.keeps c.write_out.ensures.keeps) c.take.ensures.runs

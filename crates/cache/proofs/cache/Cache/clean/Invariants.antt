@@ -1,4 +1,3 @@
-use Rattle.std.proofs.Common.{◌≡◌}
 use Rattle.cache.specs.Calls.{caching, Keeps}
 use Rattle.cache.specs.Edits.{Leaves}
 use Rattle.cache.specs.Takes.{messages_left}

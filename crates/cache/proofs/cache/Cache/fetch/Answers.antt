@@ -15,14 +15,15 @@ returns-in-Some-clause-keeps g c =
     let b = g.L.Link.budget_left in
     let s = c.args.self.now in
     let same : caching_of h t r b s.transfers s.shape c.touch.new.self.items.items s.ended ≡ caching h t r b s =
-      λ i. caching_of h t r b s.transfers s.shape (c.touch.ensures.items i) s.ended in
+    λ i. caching_of h t r b s.transfers s.shape (c.touch.ensures.items i) s.ended in
     subst (λ (n : Caching). Keeps (caching h t r b s) n) (sym same) (keeps_none _ c.requires.ready)
 
 pub returns-in-Some-clause-frame : goal.returns-in-Some-clause-frame
 returns-in-Some-clause-frame g c = (
-    refl,
-    subst (λ (l : List Slot). IsAt l c.in-Some.at c.args.block) (sym c.touch.ensures.items)
-      (found_at c.args.self.now.slots.items.items c.in-Some.at c.args.block (sym c.find.ensures ∙ c.in-Some.is)))
+  refl,
+  subst (λ (l : List Slot). IsAt l c.in-Some.at c.args.block) (sym c.touch.ensures.items)
+      (found_at c.args.self.now.slots.items.items c.in-Some.at c.args.block (sym c.find.ensures ∙ c.in-Some.is)),
+)
 
 pub touch-requires : goal.touch-requires
 touch-requires g c =
@@ -40,7 +41,7 @@ fill-requires-clause-at g c =
 pub fill-requires-clause-free : goal.fill-requires-clause-free
 fill-requires-clause-free g c =
     c.read.ensures.leaves.none c.args.block (c.make_room.ensures.none c.args.block
-      (none_held c.args.self.now.slots.items.items c.args.block (sym c.find.ensures ∙ c.in_default.is)))
+    (none_held c.args.self.now.slots.items.items c.args.block (sym c.find.ensures ∙ c.in_default.is)))
 
 pub returns-clause-keeps : goal.returns-clause-keeps
 returns-clause-keeps g c =
@@ -51,11 +52,11 @@ returns-clause-keeps g c =
     let m = c.read.new.self in
     let s = c.args.self.now in
     let none = c.read.ensures.leaves.none c.args.block (c.make_room.ensures.none c.args.block
-      (none_held s.slots.items.items c.args.block (sym c.find.ensures ∙ c.in_default.is))) in
+    (none_held s.slots.items.items c.args.block (sym c.find.ensures ∙ c.in_default.is))) in
     let x = reads_after _ _ _ _ c.args.block c.args.block refl c.make_room.ensures.keeps c.in_ok-bytes.ensures.runs in
     placed (caching h t r b m) (caching_of h t r b m.transfers m.shape c.fill.new.self.items.items m.ended) m.slots.items.items c.fill.new.self.items.items
-      c.in_ok-at.at c.args.block _ _ c.in_ok-bytes.bytes (caching h t r b s) m.slots.distinct (c.read.ensures.leaves.free c.in_ok-at.at c.in_ok-at.ensures.free) none
-      c.fill.ensures refl refl refl x.size x.ready x
+    c.in_ok-at.at c.args.block _ _ c.in_ok-bytes.bytes (caching h t r b s) m.slots.distinct (c.read.ensures.leaves.free c.in_ok-at.at c.in_ok-at.ensures.free) none
+    c.fill.ensures refl refl refl x.size x.ready x
 
 pub returns-clause-frame : goal.returns-clause-frame
 returns-clause-frame g c =

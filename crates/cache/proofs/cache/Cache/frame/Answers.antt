@@ -1,4 +1,4 @@
-use Rattle.std.proofs.Common.{◌≡◌, sym, ap, ◌∙◌, Option}
+use Rattle.std.proofs.Common.{sym, ap, ◌∙◌, Option}
 use Rattle.cache.specs.Frames.{frame_of}
 use Rattle.cache.specs.declared.slots.Slot.{Slot}
 use Rattle.cache.proofs.Edits.{one_slot}
@@ -12,4 +12,4 @@ returns g c =
     let f = c.requires in
     let same = one_slot items c.args.frame.at f.slot c.get.result.now f.is c.get.ensures in
     ap (λ (o : Option Slot). frame_of s.shape.block_size o)
-      (held_at items c.args.frame.at c.args.frame.block c.get.result.now s.slots.distinct c.get.ensures (ap (λ (y : Slot). y.block) (sym same) ∙ f.block_is))
+    (held_at items c.args.frame.at c.args.frame.block c.get.result.now s.slots.distinct c.get.ensures (ap (λ (y : Slot). y.block) (sym same) ∙ f.block_is))

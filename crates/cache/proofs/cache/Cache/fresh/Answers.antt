@@ -19,8 +19,8 @@ returns-in-Some-clause-runs g c =
     let f = found_at items c.in-Some.at c.args.block (sym c.find.ensures ∙ c.in-Some.is) in
     let same = one_slot items c.in-Some.at f.slot e.slot f.is e.is in
     rewritten (caching h t r b s) (caching_of h t r b s.transfers s.shape c.blank.new.self.items.items s.ended) items c.blank.new.self.items.items
-      c.in-Some.at c.args.block e.slot e.after (λ row o. 0) s.slots.distinct e.is (ap (λ (y : Slot). y.block) (sym same) ∙ f.block_is) e.block e.state e.all
-      (λ w. zero_row s.shape.block_size c.args.block e.after w e.zero) refl refl c.requires.ready
+    c.in-Some.at c.args.block e.slot e.after (λ row o. 0) s.slots.distinct e.is (ap (λ (y : Slot). y.block) (sym same) ∙ f.block_is) e.block e.state e.all
+    (λ w. zero_row s.shape.block_size c.args.block e.after w e.zero) refl refl c.requires.ready
 
 pub returns-in-Some-clause-frame : goal.returns-in-Some-clause-frame
 returns-in-Some-clause-frame g c =
@@ -28,9 +28,11 @@ returns-in-Some-clause-frame g c =
     let items = s.slots.items.items in
     let e = c.blank.ensures in
     let f = found_at items c.in-Some.at c.args.block (sym c.find.ensures ∙ c.in-Some.is) in
-    let same = one_slot items c.in-Some.at f.slot e.slot f.is e.is in
-    (refl, (leaves_set items c.blank.new.self.items.items c.in-Some.at c.args.block e.slot e.after s.slots.distinct e.is
-      (ap (λ (y : Slot). y.block) (sym same) ∙ f.block_is) e.block e.all).at c.in-Some.at c.args.block f)
+    let same = one_slot items c.in-Some.at f.slot e.slot f.is e.is in (
+      refl,
+      (leaves_set items c.blank.new.self.items.items c.in-Some.at c.args.block e.slot e.after s.slots.distinct e.is
+          (ap (λ (y : Slot). y.block) (sym same) ∙ f.block_is) e.block e.all).at c.in-Some.at c.args.block f,
+    )
 
 pub returns-in_err-at-clause-runs : goal.returns-in_err-at-clause-runs
 returns-in_err-at-clause-runs g c = blanks_cut c.from_residual.result _ _ _ c.from_residual.ensures.0 c.make_room.ensures.keeps
@@ -55,7 +57,7 @@ returns-clause-runs g c =
     let k = c.make_room.ensures.keeps in
     let none = c.make_room.ensures.none c.args.block (none_held s.slots.items.items c.args.block (sym c.find.ensures ∙ c.in_default.is)) in
     blanked (caching h t r b m) (caching_of h t r b m.transfers m.shape c.fill.new.self.items.items m.ended) m.slots.items.items c.fill.new.self.items.items
-      c.in_ok-at.at c.args.block _ (caching h t r b s) m.slots.distinct c.in_ok-at.ensures.free none c.zeros.ensures c.fill.ensures refl refl k.ready k
+    c.in_ok-at.at c.args.block _ (caching h t r b s) m.slots.distinct c.in_ok-at.ensures.free none c.zeros.ensures c.fill.ensures refl refl k.ready k
 
 pub returns-clause-frame : goal.returns-clause-frame
 returns-clause-frame g c =

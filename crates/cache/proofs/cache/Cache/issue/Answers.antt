@@ -28,9 +28,9 @@ returns-in-Ok-clause-keeps g c =
     let same : d.slot ≡ c.get-slot.result.now = one_slot items c.args.at d.slot c.get-slot.result.now d.is c.get-slot.ensures in
     let state = ap (λ (y : Slot). y.state) (sym same) ∙ (dirty_parts d.slot d.passes).2 in
     write_one c.write-ask.result (caching h t r b s) (caching_of h t r b c.begin.new.self s.shape c.set_state.new.self.items.items s.ended)
-      items c.set_state.new.self.items.items c.in-Some.block c.in-Ok.ticket c.args.at c.get-slot.result.now
-      s.slots.distinct c.get-slot.ensures c.in-Some.is state c.set_state.ensures refl refl
-      x.begins x.adds x.opens a.kind a.minor a.position a.count a.bytes c.requires.ready refl refl refl x.budget x.room
+    items c.set_state.new.self.items.items c.in-Some.block c.in-Ok.ticket c.args.at c.get-slot.result.now
+    s.slots.distinct c.get-slot.ensures c.in-Some.is state c.set_state.ensures refl refl
+    x.begins x.adds x.opens a.kind a.minor a.position a.count a.bytes c.requires.ready refl refl refl x.budget x.room
 
 pub returns-in-Ok-clause-busy : goal.returns-in-Ok-clause-busy
 returns-in-Ok-clause-busy g c = busy_begun c.in-Ok.ticket _ _ _ c.in-Ok.ensures.opens.1
@@ -38,7 +38,7 @@ returns-in-Ok-clause-busy g c = busy_begun c.in-Ok.ticket _ _ _ c.in-Ok.ensures.
 pub returns-in-Ok-clause-leaves : goal.returns-in-Ok-clause-leaves
 returns-in-Ok-clause-leaves g c =
     write_leaves c.args.self.now.slots.items.items c.set_state.new.self.items.items c.in-Some.block c.args.at c.get-slot.result.now _
-      c.args.self.now.slots.distinct c.get-slot.ensures c.in-Some.is c.set_state.ensures
+    c.args.self.now.slots.distinct c.get-slot.ensures c.in-Some.is c.set_state.ensures
 
 pub returns-in-Err-clause-keeps : goal.returns-in-Err-clause-keeps
 returns-in-Err-clause-keeps g c =
@@ -49,7 +49,7 @@ returns-in-Err-clause-keeps g c =
     let s = c.args.self.now in
     let old = caching h t r b s in
     let same : caching_of h t r b c.begin.new.self s.shape s.slots.items.items s.ended ≡ old =
-      λ i. caching_of h t r b (c.in-Err.ensures.refused i) s.shape s.slots.items.items s.ended in
+    λ i. caching_of h t r b (c.in-Err.ensures.refused i) s.shape s.slots.items.items s.ended in
     subst (λ (n : Caching). Keeps old n) (sym same) (keeps_none old c.requires.ready)
 
 pub returns-in-Ok-clause-issued : goal.returns-in-Ok-clause-issued
@@ -59,7 +59,7 @@ returns-in-Ok-clause-issued g c =
     let d = c.requires.dirty in
     let same : d.slot ≡ c.get-slot.result.now = one_slot items c.args.at d.slot c.get-slot.result.now d.is c.get-slot.ensures in
     issued_at items c.set_state.new.self.items.items c.in-Some.block c.in-Ok.ticket c.args.at c.get-slot.result.now s.slots.distinct c.get-slot.ensures c.in-Some.is
-      (ap (λ (y : Slot). y.state) (sym same) ∙ (dirty_parts d.slot d.passes).2) c.set_state.ensures
+    (ap (λ (y : Slot). y.state) (sym same) ∙ (dirty_parts d.slot d.passes).2) c.set_state.ensures
 
 pub returns-in-Ok-clause-posts : goal.returns-in-Ok-clause-posts
 returns-in-Ok-clause-posts g c =

@@ -12,8 +12,8 @@ returns-clause-keeps g c =
     let m = c.clean.new.self in
     let k = c.clean.ensures.keeps in
     keeps_then _ _ _ k
-      (vacated (caching h t r b m) (caching_of h t r b m.transfers m.shape c.vacate.new.self.items.items m.ended) m.slots.items.items c.vacate.new.self.items.items
-        c.victim-at.result m.slots.distinct c.in_ok-clean.ensures.clean c.vacate.ensures refl refl k.ready)
+    (vacated (caching h t r b m) (caching_of h t r b m.transfers m.shape c.vacate.new.self.items.items m.ended) m.slots.items.items c.vacate.new.self.items.items
+    c.victim-at.result m.slots.distinct c.in_ok-clean.ensures.clean c.vacate.ensures refl refl k.ready)
 
 pub returns-clause-free : goal.returns-clause-free
 returns-clause-free g c = free_at c.clean.new.self.slots.items.items c.vacate.new.self.items.items c.victim-at.result c.vacate.ensures

@@ -1,4 +1,4 @@
-use Rattle.std.proofs.Common.{◌≡◌, refl, sym, ap, subst, ◌∙◌, arith, None, Ok}
+use Rattle.std.proofs.Common.{◌≡◌, refl, sym, subst, ◌∙◌, arith, None, Ok}
 use Rattle.cache.specs.Calls.{Caching, caching, caching_of, Runs}
 use Rattle.cache.specs.Takes.{Takes, took_of, is_ended_by}
 use Rattle.cache.proofs.Runs.{runs_none}
@@ -21,10 +21,10 @@ returns-clause-runs g c =
     let items = c.settle.new.self.slots.items.items in
     let mid = caching_of h t r b c.step-settled.new.self c.args.self.now.shape items (is_ended_by c.step-settled.result) in
     let same : caching h t r b c.settle.new.self ≡ mid =
-      λ i. caching_of h t r b (e.transfers i) (e.shape i) items ((e.ended ∙ c.is_end-self.ensures) i) in
+    λ i. caching_of h t r b (e.transfers i) (e.shape i) items ((e.ended ∙ c.is_end-self.ensures) i) in
     let one : Runs None old mid (λ w v. Takes (Ok (took_of c.step-settled.result)) old mid w v) =
-      takes_one c.step-settled.result old mid c.args.self.now.slots.items.items items s.steps e.slots refl refl c.requires.ready
-        (c.requires.busy l) l.not_ended l.not_given_up (omega (arith, c.args.self.now.shape.least)) refl refl refl s.falls s.room s.closed in
+    takes_one c.step-settled.result old mid c.args.self.now.slots.items.items items s.steps e.slots refl refl c.requires.ready
+    (c.requires.busy l) l.not_ended l.not_given_up (omega (arith, c.args.self.now.shape.least)) refl refl refl s.falls s.room s.closed in
     let both : Runs None old (caching h t r b c.settle.new.self) (λ w v. Takes (Ok (took_of c.step-settled.result)) old (caching h t r b c.settle.new.self) w v) =
-      subst (λ (n : Caching). Runs None old n (λ w v. Takes (Ok (took_of c.step-settled.result)) old n w v)) (sym same) one in
+    subst (λ (n : Caching). Runs None old n (λ w v. Takes (Ok (took_of c.step-settled.result)) old n w v)) (sym same) one in
     rw e.took both

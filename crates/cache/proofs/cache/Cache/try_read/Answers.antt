@@ -18,7 +18,7 @@ returns-in-Ok-clause-keeps g c =
     let x = c.in-Ok.ensures in
     let a = c.read-ask.ensures in
     read_one c.read-ask.result (caching h t r b s) (caching_of h t r b c.begin.new.self s.shape s.slots.items.items s.ended) c.args.block c.in-Ok.ticket
-      refl x.begins x.adds x.opens a.kind a.minor a.position a.count c.requires.ready refl refl refl x.budget x.room
+    refl x.begins x.adds x.opens a.kind a.minor a.position a.count c.requires.ready refl refl refl x.budget x.room
 
 pub returns-in-Ok-clause-busy : goal.returns-in-Ok-clause-busy
 returns-in-Ok-clause-busy g c = busy_begun c.in-Ok.ticket _ _ _ c.in-Ok.ensures.opens.1
@@ -37,5 +37,5 @@ returns-in-Err-clause-keeps g c =
     let s = c.args.self.now in
     let old = caching h t r b s in
     let same : caching_of h t r b c.begin.new.self s.shape s.slots.items.items s.ended ≡ old =
-      λ i. caching_of h t r b (c.in-Err.ensures.refused i) s.shape s.slots.items.items s.ended in
+    λ i. caching_of h t r b (c.in-Err.ensures.refused i) s.shape s.slots.items.items s.ended in
     subst (λ (n : Caching). Keeps old n) (sym same) (keeps_none old c.requires.ready)

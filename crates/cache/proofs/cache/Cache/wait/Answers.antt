@@ -1,4 +1,4 @@
-use Rattle.std.proofs.Common.{refl, sym, ap, ◌∙◌, false, Ok, Result}
+use Rattle.std.proofs.Common.{sym, ap, ◌∙◌, Ok, Result}
 use Rattle.std.proofs.lemmas.Bool.{eqb-true}
 use Rattle.cache.specs.declared.cache.Took.{Took}
 use Rattle.cache.specs.declared.refusals.Cut.{Cut}
@@ -16,22 +16,22 @@ returns-in_err-take-clause-runs g c =
 
 pub messages-preserved-in-Nothing : goal.messages-preserved-in-Nothing
 messages-preserved-in-Nothing g c = record {
-    keeps = keeps_took _ _ _ _ c.messages.invariant.keeps c.take.ensures.runs;
-    leaves = leaves_then _ _ _ c.messages.invariant.leaves c.take.ensures.leaves;
-    pending = still_reading c.take.result _ _ c.args.reading.ticket _ _ c.take.ensures.reads
+  keeps = keeps_took _ _ _ _ c.messages.invariant.keeps c.take.ensures.runs;
+  leaves = leaves_then _ _ _ c.messages.invariant.leaves c.take.ensures.leaves;
+  pending = still_reading c.take.result _ _ c.args.reading.ticket _ _ c.take.ensures.reads
       (ap (λ (r : Result Took Cut). is_read_of r c.args.reading.ticket) (c.in_ok-take.was ∙ ap Ok c.in-Nothing.is)) c.messages.invariant.pending;
-  }
+}
 
 pub returns-then-eq-clause-runs : goal.returns-then-eq-clause-runs
 returns-then-eq-clause-runs g c =
     let same = eqb-true c.in-Read.settled c.args.reading.ticket (sym c.eq.ensures ∙ c.if-eq.true) in
     reads_done c.take.result _ _ _ c.in-Read.settled c.args.reading.ticket _ _ c.in-Read.bytes (c.in_ok-take.was ∙ ap Ok c.in-Read.is) same
-      c.messages.invariant.pending c.messages.invariant.keeps c.take.ensures.runs
+    c.messages.invariant.pending c.messages.invariant.keeps c.take.ensures.runs
 
 pub messages-preserved : goal.messages-preserved
 messages-preserved g c = record {
-    keeps = keeps_took _ _ _ _ c.messages.invariant.keeps c.take.ensures.runs;
-    leaves = leaves_then _ _ _ c.messages.invariant.leaves c.take.ensures.leaves;
-    pending = still_reading c.take.result _ _ c.args.reading.ticket _ _ c.take.ensures.reads
+  keeps = keeps_took _ _ _ _ c.messages.invariant.keeps c.take.ensures.runs;
+  leaves = leaves_then _ _ _ c.messages.invariant.leaves c.take.ensures.leaves;
+  pending = still_reading c.take.result _ _ c.args.reading.ticket _ _ c.take.ensures.reads
       (ap (λ (r : Result Took Cut). is_read_of r c.args.reading.ticket) (c.in_ok-take.was ∙ ap Ok c.in-Read.is) ∙ (sym c.eq.ensures ∙ c.if-eq.false)) c.messages.invariant.pending;
-  }
+}

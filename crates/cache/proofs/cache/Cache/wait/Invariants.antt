@@ -1,4 +1,4 @@
-use Rattle.std.proofs.Common.{◌≡◌, ◌*◌}
+use Rattle.std.proofs.Common.{◌*◌}
 use Rattle.reissue.specs.Entries.{pending_of}
 use Rattle.cache.specs.Calls.{caching, Keeps}
 use Rattle.cache.specs.Edits.{Leaves}

@@ -1,8 +1,7 @@
-use Rattle.std.proofs.Common.{◌≡◌, refl, sym, ap, subst, ◌∙◌}
-use Rattle.cache.specs.Calls.{caching}
+use Rattle.std.proofs.Common.{sym, ap, ◌∙◌}
 use Rattle.cache.specs.Slots.{is_dirty_slot}
 use Rattle.cache.proofs.Beginning.{under_way, busy_under}
-use Rattle.cache.proofs.Edits.{one_slot, leaves_none}
+use Rattle.cache.proofs.Edits.{one_slot}
 use Rattle.cache.proofs.Placing.{keeps_none}
 use Rattle.cache.proofs.cache.Cache.write_out.Goals as goal
 

@@ -1,4 +1,4 @@
-use Rattle.std.proofs.Common.{◌≡◌, ◌<◌, ℕ, length, refl, sym, ◌∙◌, arith, Some, None, slice_get}
+use Rattle.std.proofs.Common.{◌<◌, length, refl, sym, ◌∙◌, arith}
 use Rattle.std.proofs.lemmas.Option.{slice_get_read}
 use Rattle.std.proofs.Math.Seq.{lt-length-set}
 use Rattle.std.proofs.lemmas.List.{length-set}
@@ -21,5 +21,12 @@ returns c =
     let ok = c.args.self.now.items.ok in
     let lt : c.args.at < length c.args.self.now.items.items = omega arith in
     let at = slice_get_read c.args.self.now.items.items _ c.args.at c.index_mut-slot.result.now refl lt c.index_mut-slot.ensures.value in
-    record { slot = c.index_mut-slot.result.now; after = c.change.new.self; is = at; all = refl;
-      block = c.change.ensures.block; state = c.change.ensures.state; bytes_are = c.change.ensures.bytes }
+    record {
+      slot = c.index_mut-slot.result.now;
+      after = c.change.new.self;
+      is = at;
+      all = refl;
+      block = c.change.ensures.block;
+      state = c.change.ensures.state;
+      bytes_are = c.change.ensures.bytes;
+    }

@@ -1,8 +1,8 @@
-use Rattle.std.proofs.Common.{◌≡◌, ◌<◌, ℕ, length, refl, sym, ◌∙◌, arith, Some, None, slice_get}
+use Rattle.std.proofs.Common.{◌<◌, length, refl, sym, ◌∙◌, arith}
 use Rattle.std.proofs.lemmas.Option.{slice_get_read}
 use Rattle.std.proofs.Math.Seq.{lt-length-set}
 use Rattle.std.proofs.lemmas.List.{length-set}
-use Rattle.cache.proofs.Held.{distinct_kept, distinct_vacated}
+use Rattle.cache.proofs.Held.{distinct_kept}
 use Rattle.cache.proofs.slots.Slots.set_state.Goals as goal
 
 pub invariant_of-self : goal.invariant_of-self

@@ -1,4 +1,4 @@
-use Rattle.std.proofs.Common.{◌≡◌, ℕ, ◌+◌, List, Vec, length, sym, ap, subst, ◌∙◌, arith}
+use Rattle.std.proofs.Common.{◌≡◌, ℕ, ◌+◌, List, length, sym, ap, subst, ◌∙◌, arith}
 use Rattle.cache.specs.Uses.{AllBelow, KeepsOrder}
 use Rattle.cache.proofs.Order.{Numbered, numbered_all, rank_most, numbered_below, numbered_order}
 use Rattle.cache.proofs.uses.Uses.renumber.Goals as goal
@@ -10,14 +10,14 @@ invariant_of-self-2 c =
     let i = c.loop-at.invariant in
     let same : c.loop-at.self.numbers.items ≡ old = ap (λ v. v.items) i.numbers in
     let h : Numbered old new (length old) =
-      numbered_all old new c.loop-at.at i.within (omega (arith, c.loop-at-test.false, c.len-at-end.ensures)) i.numbered in
+    numbered_all old new c.loop-at.at i.within (omega (arith, c.loop-at-test.false, c.len-at-end.ensures)) i.numbered in
     let x : c.swap.new.x.items ≡ new = ap (λ v. v.items) c.swap.ensures.x_after in
     let y : c.swap.new.y.items ≡ old = ap (λ v. v.items) c.swap.ensures.y_after ∙ same in
     let count : length c.swap.new.x.items ≡ length old = ap (λ (l : List ℕ). length l) x ∙ h.count in
     let is : c.len.result ≡ length old = omega (arith, c.len.ensures, c.swap.new.x.ok, count) in
     record {
       below = subst (λ (n : ℕ). AllBelow c.swap.new.x.items (n + 1)) (sym is)
-        (subst (λ (l : List ℕ). AllBelow l (length old + 1)) (sym x) (numbered_below old new h));
+          (subst (λ (l : List ℕ). AllBelow l (length old + 1)) (sym x) (numbered_below old new h));
       paired = ap (λ (l : List ℕ). length l) y ∙ sym count;
     }
 
@@ -27,7 +27,7 @@ returns-clause-order c =
     let new = c.loop-at.self.spare.items in
     let i = c.loop-at.invariant in
     let h : Numbered old new (length old) =
-      numbered_all old new c.loop-at.at i.within (omega (arith, c.loop-at-test.false, c.len-at-end.ensures)) i.numbered in
+    numbered_all old new c.loop-at.at i.within (omega (arith, c.loop-at-test.false, c.len-at-end.ensures)) i.numbered in
     let x : c.swap.new.x.items ≡ new = ap (λ v. v.items) c.swap.ensures.x_after in
     subst (λ (l : List ℕ). KeepsOrder old l) (sym x) (numbered_order old new h)
 
