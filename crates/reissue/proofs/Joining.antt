@@ -47,7 +47,7 @@ true_before (Complained e ∷ es) image marks o h = absurd o
 true_before (Received m ∷ es) image marks o h = absurd o
 
 -- and after them
-true_after : (es : List Told) (image : Contents) (marks : List Mark) → OnlyPosts es
+pub true_after : (es : List Told) (image : Contents) (marks : List Mark) → OnlyPosts es
     → HasTrueReplies image marks → HasTrueReplies image (grown es marks)
 true_after [] image marks o h = h
 true_after (Posted to r true ∷ es) image marks o h = true_after es image marks o h

@@ -15,5 +15,5 @@ mod PostRules
 pub mod TableRules
 mod StepRules
 mod CallRules
-mod Joining
+pub mod Joining
 mod Posting

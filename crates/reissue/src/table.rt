@@ -242,6 +242,7 @@ impl Table {
             → Closing (settled_of result) self.old.pending self.new.pending marks (Answered reply.now ∷ marks) }
         ensures minors { (minor : ℕ) → AllOfMinor minor self.old.pending → AllOfMinor minor self.new.pending }
         ensures ids { self.new.ids ≤ self.old.ids + 1 }
+        ensures closed { self.new.ids + length self.old.pending ≤ self.old.ids + length self.new.pending + 1 }
         ensures current { self.new.current ≡ self.old.current }
         ensures given_up { self.new.given_up ≡ self.old.given_up }
     {
@@ -277,6 +278,7 @@ impl Table {
             → Closing (settled_of result) self.old.pending self.new.pending marks (received (incoming.Reply reply.now) marks) }
         ensures minors { (minor : ℕ) → AllOfMinor minor self.old.pending → AllOfMinor minor self.new.pending }
         ensures ids { self.new.ids ≤ self.old.ids + 1 }
+        ensures closed { self.new.ids + length self.old.pending ≤ self.old.ids + length self.new.pending + 1 }
         ensures current { self.new.current ≡ self.old.current }
         ensures given_up { self.new.given_up ≡ self.old.given_up }
     {

@@ -78,6 +78,13 @@ impl<L: Link> Transfers<L> {
         self.table.ids
     }
 
+    /// Whether the device was given up.
+    pub fn is_given_up(&self) -> bool
+        ensures { result ≡ (table_of self.now).given_up }
+    {
+        self.table.given_up
+    }
+
     /// The link.
     pub fn link(&self) -> &L
         ensures { result.now ≡ link_of self.now }
@@ -152,6 +159,7 @@ impl<L: Link> Transfers<L> {
         ensures budget { L.budget_left (link_of self.new) ≤ L.budget_left (link_of self.old) }
         ensures room { L.room (link_of self.old) ≤ L.room (link_of self.new) + 1 }
         ensures ids { (table_of self.new).ids ≤ (table_of self.old).ids + 1 }
+        ensures closed { (table_of self.new).ids + length (table_of self.old).pending ≤ (table_of self.old).ids + length (table_of self.new).pending + 1 }
     {
         match message {
             Incoming::Reply(reply) => match self.table.answer(reply) {
@@ -189,6 +197,7 @@ impl<L: Link> Transfers<L> {
         ensures room { is_message message ≡ true → HasRoom (table_of self.new) (L.room (link_of self.new)) }
         ensures tried { IsTried (table_of self.old) (L.history (link_of self.old)) → IsTried (table_of self.new) (L.history (link_of self.new)) }
         ensures ids { (table_of self.new).ids ≤ (table_of self.old).ids + 1 }
+        ensures closed { (table_of self.new).ids + length (table_of self.old).pending ≤ (table_of self.old).ids + length (table_of self.new).pending + 1 }
     {
         let due = posts_after(&message);
         let settled = self.take_in(&message);
@@ -207,6 +216,7 @@ impl<L: Link> Transfers<L> {
         ensures room { goes_on result ≡ true → HasRoom (table_of self.new) (L.room (link_of self.new)) }
         ensures tried { IsTried (table_of self.old) (L.history (link_of self.old)) → IsTried (table_of self.new) (L.history (link_of self.new)) }
         ensures ids { (table_of self.new).ids ≤ (table_of self.old).ids + 1 }
+        ensures closed { (table_of self.new).ids + length (table_of self.old).pending ≤ (table_of self.old).ids + length (table_of self.new).pending + 1 }
     {
         let message = self.link.take();
         self.absorb(message)

@@ -1,0 +1,13 @@
+mod Held
+mod Places
+mod Sizes
+pub mod Tied
+pub mod Agreeing
+pub mod Runs
+pub mod Edits
+mod Taking
+mod Beginning
+pub mod Placing
+mod Order
+mod Choosing
+pub mod ReadingBack

@@ -1,0 +1,340 @@
+-- Calls one after the other, and what a request begun or a message taken is as a call.
+use Rattle.std.proofs.Common.{◌≡◌, ℕ, ◌+◌, ◌<◌, ◌≤◌, List, [], ◌∷◌, ◌++◌, length, Bool, true, false, cond, refl, sym, ◌∙◌, ap, subst, arith, append_assoc, Option, Some, None}
+use Rattle.message.specs.declared.Incoming.{Incoming}
+use Rattle.message.specs.declared.Incoming.TheVariants as incoming
+use Rattle.marks.specs.Marks.{Mark, Answered}
+use Rattle.marks.specs.Open.{counts}
+use Rattle.marks.specs.Disk.{Contents, HasTrueReplies}
+use Rattle.marks.specs.Told.{Told, Posted, Complained, Received, grown, received, heard, took_end}
+use Rattle.marks.specs.Acts.{Act, Outbox, KeepsRules, told_of, marks_after, outbox_after}
+use Rattle.marks.specs.Opening.{contents_at}
+use Rattle.marks.proofs.ActLaws.{acts_compose}
+use Rattle.reissue.specs.declared.ask.Ask.{Ask}
+use Rattle.reissue.specs.declared.ask.Settled.{Settled}
+use Rattle.reissue.specs.declared.ask.Settled.TheVariants as settled
+use Rattle.reissue.specs.declared.table.Table.{Table}
+use Rattle.reissue.specs.Moves.{DiskState, Spares, Moves, state_after, IsBusy}
+use Rattle.reissue.specs.Entries.{pending_of, AllOfMinor}
+use Rattle.reissue.specs.Agrees.{Agrees}
+use Rattle.reissue.specs.Posts.{OnlyPosts, complaints_about, due_after}
+use Rattle.reissue.specs.Rules.{KeepsRulesBy, outbox_of}
+use Rattle.endpoint.specs.declared.Endpoint.{Endpoint}
+use Rattle.reissue.specs.Calls.{Begins, Steps, Absorbs, IsAnswerTo, IsOfReply}
+use Rattle.reissue.proofs.Joining.{grown_append, true_after}
+use Rattle.cache.specs.Calls.{Caching, IsReady, Runs, after_message}
+use Rattle.cache.specs.Takes.{is_ended_by}
+
+-- ---- true replies
+
+-- replies that are true with one more mark or not
+true_by : (b : Bool) (image : Contents) (m : Mark) (marks : List Mark) → (HasTrueReplies image (m ∷ marks) → HasTrueReplies image marks)
+    → HasTrueReplies image (cond b (m ∷ marks) marks) → HasTrueReplies image marks
+true_by true image m marks f h = f h
+true_by false image m marks f h = h
+
+-- replies that are true after a message were so before
+true_received : (m : Incoming) (image : Contents) (marks : List Mark) → HasTrueReplies image (received m marks) → HasTrueReplies image marks
+true_received (incoming.Reply a) image marks h = true_by (counts marks a) image (Answered a) marks (λ k. k.0) h
+true_received (incoming.Started e) image marks h = h
+true_received incoming.GaveUp image marks h = h
+true_received incoming.Flush image marks h = h
+true_received incoming.End image marks h = h
+
+-- and so for all that was told
+pub true_before : (es : List Told) (image : Contents) (marks : List Mark)
+    → HasTrueReplies image (grown es marks) → HasTrueReplies image marks
+true_before [] image marks h = h
+true_before (Posted to r true ∷ es) image marks h = true_before es image marks h
+true_before (Posted to r false ∷ es) image marks h = true_before es image marks h
+true_before (Complained e ∷ es) image marks h = true_before es image marks h
+true_before (Received m ∷ es) image marks h = true_before es image marks (true_received m image (grown es marks) h)
+
+-- ---- acts one after the other
+
+-- acts that keep the rules, and then others
+rules_then : (minor : ℕ) (a b c : Table) (before between after : List Told) (marks more most : List Mark) (first then : List Act)
+    → KeepsRulesBy first minor a b before between marks more → KeepsRulesBy then minor b c between after more most
+    → KeepsRulesBy (then ++ first) minor a c before after marks most
+rules_then minor a b c before between after marks more most first then x y =
+    let both = acts_compose minor then first marks (outbox_of a) in
+    let second : KeepsRules minor then (marks_after first marks) (outbox_after first marks (outbox_of a)) =
+    subst (λ (ms : List Mark). KeepsRules minor then ms (outbox_after first marks (outbox_of a))) (sym x.grows)
+    (subst (λ (o : Outbox). KeepsRules minor then more o) (sym x.owes) y.keeps) in
+    record {
+      told = y.told ∙ ap (λ (l : List Told). told_of then ++ l) x.told ∙ sym (append_assoc (told_of then) (told_of first) before)
+          ∙ ap (λ (l : List Told). l ++ before) (sym both.told);
+      grows = both.record_after ∙ ap (marks_after then) x.grows ∙ y.grows;
+      keeps = both.keep x.keeps second;
+      owes = both.owed ∙ ap (λ (ms : List Mark). outbox_after then ms (outbox_after first marks (outbox_of a))) x.grows
+          ∙ ap (outbox_after then more) x.owes ∙ y.owes;
+    }
+
+-- ---- calls one after the other
+
+-- nothing happened
+pub runs_none : (c : Caching) (R : DiskState → DiskState → Type 0) → IsReady c → ((w : DiskState) → R w w) → Runs None c c R
+runs_none c R ready h = record {
+  ready = ready;
+  told = [];
+  history = refl;
+  minor = refl;
+  size = refl;
+  ended = λ e. e;
+  ids = λ e. omega arith;
+  agrees = λ marks k. k;
+  ends = λ marks k e. e;
+  related = λ image marks k tr. h (state_after image marks);
+  truth = λ opening marks k e was tr. (was, tr);
+  rules = λ marks k. ([], record { told = refl; grows = refl; keeps = tt; owes = refl });
+}
+
+-- another relation that follows
+pub runs_as : (m : Option Incoming) (a b : Caching) (R S : DiskState → DiskState → Type 0)
+    → ((w v : DiskState) → R w v → S w v) → Runs m a b R → Runs m a b S
+runs_as m a b R S h x = record {
+  ready = x.ready;
+  told = x.told;
+  history = x.history;
+  minor = x.minor;
+  size = x.size;
+  ended = x.ended;
+  ids = x.ids;
+  agrees = x.agrees;
+  ends = x.ends;
+  related = λ image marks k tr. h (state_after image marks) (state_after image (grown x.told (after_message m marks))) (x.related image marks k tr);
+  truth = x.truth;
+  rules = x.rules;
+}
+
+-- a call whose link has ended had ended before
+open_before : (b c : Bool) → (b ≡ true → c ≡ true) → c ≡ false → b ≡ false
+open_before false c h e = refl
+open_before true c h e = let k = h refl in cc
+
+-- one call after the other
+pub runs_then : (m : Option Incoming) (a b c : Caching) (R S T : DiskState → DiskState → Type 0)
+    → ((u v w : DiskState) → R u v → S v w → T u w) → Runs m a b R → Runs None b c S → Runs m a c T
+runs_then m a b c R S T h x y = record {
+  ready = y.ready;
+  told = y.told ++ x.told;
+  history = y.history ∙ ap (λ (l : List Told). y.told ++ l) x.history ∙ sym (append_assoc y.told x.told a.told);
+  minor = y.minor ∙ x.minor;
+  size = y.size ∙ x.size;
+  ended = λ e. y.ended (x.ended e);
+  ids = λ e. let first = x.ids (open_before b.ended c.ended y.ended e) in let second = y.ids e in omega (arith, first, second);
+  agrees = λ marks k. subst (λ (ms : List Mark). Agrees c.table ms) (sym (all marks)) (y.agrees (mid marks) (x.agrees marks k));
+  ends = λ marks k e. y.ends (mid marks) (x.agrees marks k) (x.ends marks k e);
+  related = λ image marks k tr.
+      let tr' : HasTrueReplies image (grown y.told (mid marks)) = subst (λ (ms : List Mark). HasTrueReplies image ms) (all marks) tr in
+      let first = x.related image marks k (true_before y.told image (mid marks) tr') in
+      let second = y.related image (mid marks) (x.agrees marks k) tr' in
+      subst (λ (ms : List Mark). T (state_after image marks) (state_after image ms)) (sym (all marks))
+      (h (state_after image marks) (state_after image (mid marks)) (state_after image (grown y.told (mid marks))) first second);
+  truth = λ opening marks k e was tr.
+      let first = x.truth opening marks k e was tr in
+      subst (λ (ms : List Mark). c.truth opening ms × HasTrueReplies (contents_at opening) ms) (sym (all marks))
+      (y.truth opening (mid marks) (x.agrees marks k) (e ∙ sym x.minor) first.0 first.1);
+  rules = λ marks k.
+      let first = x.rules marks k in
+      let second = y.rules (mid marks) (x.agrees marks k) in (
+        second.0 ++ first.0,
+        subst (λ (ms : List Mark). KeepsRulesBy (second.0 ++ first.0) a.minor a.table c.table a.told c.told marks ms) (sym (all marks))
+            (rules_then a.minor a.table b.table c.table a.told b.told c.told marks (mid marks) (grown y.told (mid marks)) first.0 second.0 first.1
+            (subst (λ (n : ℕ). KeepsRulesBy second.0 n b.table c.table b.told c.told (mid marks) (grown y.told (mid marks))) x.minor second.1)),
+      );
+}
+  where
+    mid : List Mark → List Mark
+    mid marks = grown x.told (after_message m marks)
+
+    all : (marks : List Mark) → grown (y.told ++ x.told) (after_message m marks) ≡ grown y.told (mid marks)
+    all marks = grown_append y.told x.told (after_message m marks)
+
+-- ---- the end of the link
+
+-- posts and complaints don't end it
+posts_quiet : (posts before : List Told) → OnlyPosts posts → took_end (posts ++ before) ≡ took_end before
+posts_quiet [] before h = refl
+posts_quiet (Posted to r accepted ∷ posts) before h = posts_quiet posts before h
+posts_quiet (Complained about ∷ posts) before h = absurd h
+posts_quiet (Received message ∷ posts) before h = absurd h
+
+-- nor does the complaint that is due
+complaint_quiet : (m : Incoming) (marks : List Mark) (complaints before : List Told) → complaints ≡ complaints_about (due_after m marks)
+    → took_end (complaints ++ before) ≡ took_end before
+complaint_quiet m marks complaints before e = rw e (by (due_after m marks))
+  where
+    by : (o : Option Endpoint) → took_end (complaints_about o ++ before) ≡ took_end before
+    by None = refl
+    by (Some about) = refl
+
+-- after an end was heard it has ended
+ended_heard : (b : Bool) (before : List Told) → took_end before ≡ b → took_end (cond b before (Received incoming.End ∷ before)) ≡ true
+ended_heard true before e = e
+ended_heard false before e = refl
+
+-- a message ends it where it settles so
+heard_ends : (m : Incoming) (res : Settled) (before : List Told) → IsAnswerTo m res
+    → took_end (heard m before) ≡ cond (is_ended_by res) true (took_end before)
+heard_ends (incoming.Reply a) res before h = by res h
+  where
+    by : (r : Settled) → IsOfReply r → took_end before ≡ cond (is_ended_by r) true (took_end before)
+    by settled.Nothing k = refl
+    by (settled.Read t bytes) k = refl
+    by (settled.Written t) k = refl
+    by settled.Flush k = absurd k
+    by settled.GaveUp k = absurd k
+    by settled.End k = absurd k
+heard_ends (incoming.Started e) res before h = rw h refl
+heard_ends incoming.GaveUp res before h = rw h refl
+heard_ends incoming.Flush res before h = rw h refl
+heard_ends incoming.End res before h = rw h (ended_heard (took_end before) before refl)
+
+-- ---- a request is begun, as a call
+
+-- what beginning did, where the frames may have changed too
+pub begin_runs : (ask : Ask) (old new : Caching) (R : DiskState → DiskState → Type 0)
+    → Begins ask old.table new.table old.told new.told old.truth new.truth
+    → IsReady new → AllOfMinor old.minor old.table.pending → ask.minor ≡ old.minor → new.minor ≡ old.minor → new.size ≡ old.size
+    → new.ended ≡ old.ended → new.budget ≤ old.budget
+    → new.table.ids + length old.table.pending ≡ old.table.ids + length new.table.pending
+    → ((w v : DiskState) → Spares (pending_of new.table.pending) w v → R w v) → Runs None old new R
+begin_runs ask old new R x ready minors minor same_minor same_size ended budget ids h = record {
+  ready = ready;
+  told = x.posts;
+  history = x.history;
+  minor = same_minor;
+  size = same_size;
+  ended = λ e. ended ∙ e;
+  ids = λ e. omega (arith, budget, ids);
+  agrees = x.agrees;
+  ends = λ marks k e. ended ∙ e ∙ sym (ap took_end x.history ∙ posts_quiet x.posts old.told x.only_posts);
+  related = λ image marks k tr. h (state_after image marks) (state_after image (grown x.posts marks)) (x.spares image marks k);
+  truth = λ opening marks k e was tr. (
+    x.truth opening marks k (minor ∙ sym e) (subst (λ (n : ℕ). AllOfMinor n old.table.pending) (sym e) minors) was,
+    true_after x.posts (contents_at opening) marks x.only_posts tr,
+  );
+  rules = λ marks k. x.rules old.minor marks k minors minor;
+}
+
+-- ---- a message is taken, as a call
+
+-- what was told with the message
+abbrev news : Bool → Incoming → List Told
+news b m = cond b [] (Received m ∷ [])
+
+-- an end that was heard before adds nothing
+heard_news : (m : Incoming) (before : List Told) → (b : Bool) × (heard m before ≡ news b m ++ before) × ((marks : List Mark) → grown (news b m) marks ≡ received m marks)
+heard_news (incoming.Reply a) before = (false, refl, λ marks. refl)
+heard_news (incoming.Started e) before = (false, refl, λ marks. refl)
+heard_news incoming.GaveUp before = (false, refl, λ marks. refl)
+heard_news incoming.Flush before = (false, refl, λ marks. refl)
+heard_news incoming.End before = by (took_end before) refl
+  where
+    by : (b : Bool) → took_end before ≡ b
+        → (c : Bool) × (heard incoming.End before ≡ news c incoming.End ++ before) × ((marks : List Mark) → grown (news c incoming.End) marks ≡ received incoming.End marks)
+    by true e = (true, rw e refl, λ marks. refl)
+    by false e = (false, rw e refl, λ marks. refl)
+
+-- what taking a message did, where the frames may have changed too
+pub step_runs : (res : Settled) (old new : Caching) (R : DiskState → DiskState → Type 0)
+    → Steps res old.table new.table old.told new.told old.truth new.truth
+    → IsReady new → AllOfMinor old.minor old.table.pending → IsBusy (pending_of old.table.pending) → old.table.given_up ≡ false
+    → new.minor ≡ old.minor → new.size ≡ old.size → old.ended ≡ false → new.ended ≡ is_ended_by res
+    → (is_ended_by res ≡ false → new.budget < old.budget)
+    → new.table.ids + length old.table.pending ≤ old.table.ids + length new.table.pending + 1
+    → ((w v : DiskState) → Moves res (pending_of old.table.pending) w v → R w v) → Runs None old new R
+step_runs res old new R x ready minors busy going same_minor same_size alive ended budget ids h = record {
+  ready = ready;
+  told = told;
+  history = history;
+  minor = same_minor;
+  size = same_size;
+  ended = λ e. absurd (let k = alive in cc);
+  ids = λ e. let less = budget (sym ended ∙ e) in omega (arith, less, ids);
+  agrees = λ marks k. subst (λ (ms : List Mark). Agrees new.table ms) (sym (all marks k)) (x.agrees marks k);
+  ends = λ marks k e. ended ∙ by_end (is_ended_by res) refl marks k e;
+  related = λ image marks k tr.
+      subst (λ (ms : List Mark). R (state_after image marks) (state_after image ms)) (sym (all marks k))
+      (h (state_after image marks) (state_after image (grown x.posts (received x.message marks)))
+      ((x.closing marks k).moves image (subst (λ (ms : List Mark). HasTrueReplies image ms) (all marks k) tr)));
+  truth = λ opening marks k e was tr.
+      subst (λ (ms : List Mark). new.truth opening ms × HasTrueReplies (contents_at opening) ms) (sym (all marks k))
+      (x.truth opening marks k (subst (λ (n : ℕ). AllOfMinor n old.table.pending) (sym e) minors) was);
+  rules = λ marks k.
+      subst (λ (ms : List Mark). (acts : List Act) × KeepsRulesBy acts old.minor old.table new.table old.told new.told marks ms) (sym (all marks k))
+      (x.rules old.minor marks k minors busy going);
+}
+  where
+    more : (b : Bool) × (heard x.message old.told ≡ news b x.message ++ old.told) × ((marks : List Mark) → grown (news b x.message) marks ≡ received x.message marks)
+    more = heard_news x.message old.told
+
+    told : List Told
+    told = x.posts ++ (x.complaints ++ news more.0 x.message)
+
+    history : new.told ≡ told ++ old.told
+    history = x.history ∙ ap (λ (l : List Told). x.posts ++ (x.complaints ++ l)) more.1
+        ∙ ap (λ (l : List Told). x.posts ++ l) (sym (append_assoc x.complaints (news more.0 x.message) old.told))
+        ∙ sym (append_assoc x.posts (x.complaints ++ news more.0 x.message) old.told)
+
+    -- complaints leave no mark
+    silent : (marks ms : List Mark) → Agrees old.table marks → grown x.complaints ms ≡ ms
+    silent marks ms k = rw (x.due marks k) (by (due_after x.message marks))
+      where
+        by : (o : Option Endpoint) → grown (complaints_about o) ms ≡ ms
+        by None = refl
+        by (Some about) = refl
+
+    all : (marks : List Mark) → Agrees old.table marks → grown told marks ≡ grown x.posts (received x.message marks)
+    all marks k = grown_append x.posts (x.complaints ++ news more.0 x.message) marks
+        ∙ ap (λ (l : List Mark). grown x.posts l) (grown_append x.complaints (news more.0 x.message) marks
+        ∙ silent marks (grown (news more.0 x.message) marks) k ∙ more.2 marks)
+
+    quiet : (marks : List Mark) → Agrees old.table marks → took_end new.told ≡ cond (is_ended_by res) true (took_end old.told)
+    quiet marks k = ap took_end x.history ∙ posts_quiet x.posts (x.complaints ++ heard x.message old.told) x.only_posts
+        ∙ complaint_quiet x.message marks x.complaints (heard x.message old.told) (x.due marks k) ∙ heard_ends x.message res old.told x.answer
+
+    by_end : (b : Bool) → is_ended_by res ≡ b → (marks : List Mark) → Agrees old.table marks → old.ended ≡ took_end old.told
+        → is_ended_by res ≡ took_end new.told
+    by_end true e marks k was = e ∙ sym (quiet marks k ∙ rw e refl)
+    by_end false e marks k was = e ∙ sym alive ∙ was ∙ sym (quiet marks k ∙ rw e refl)
+
+-- ---- a message is handed over, as a call
+
+-- what absorbing a message did, where the frames may have changed too
+pub absorb_runs : (m : Incoming) (res : Settled) (old new : Caching) (R : DiskState → DiskState → Type 0)
+    → Absorbs m res old.table new.table old.told new.told old.truth new.truth
+    → IsReady new → AllOfMinor old.minor old.table.pending
+    → new.minor ≡ old.minor → new.size ≡ old.size → new.ended ≡ old.ended → new.budget ≤ old.budget
+    → new.table.ids + length old.table.pending ≤ old.table.ids + length new.table.pending + 1
+    → ((w v : DiskState) → Moves res (pending_of old.table.pending) w v → R w v) → Runs (Some m) old new R
+absorb_runs m res old new R x ready minors same_minor same_size ended budget ids h = record {
+  ready = ready;
+  told = told;
+  history = x.history ∙ sym (append_assoc x.posts x.complaints old.told);
+  minor = same_minor;
+  size = same_size;
+  ended = λ e. ended ∙ e;
+  ids = λ e. omega (arith, budget, ids);
+  agrees = λ marks k. subst (λ (ms : List Mark). Agrees new.table ms) (sym (all marks)) (x.agrees marks k);
+  ends = λ marks k e. ended ∙ e ∙ sym (ap took_end x.history ∙ posts_quiet x.posts (x.complaints ++ old.told) x.only_posts
+      ∙ complaint_quiet m marks x.complaints old.told (x.due marks k));
+  related = λ image marks k tr.
+      subst (λ (ms : List Mark). R (state_after image marks) (state_after image ms)) (sym (all marks))
+      (h (state_after image marks) (state_after image (grown x.posts (received m marks)))
+      ((x.closing marks k).moves image (subst (λ (ms : List Mark). HasTrueReplies image ms) (all marks) tr)));
+  truth = λ opening marks k e was tr.
+      subst (λ (ms : List Mark). new.truth opening ms × HasTrueReplies (contents_at opening) ms) (sym (all marks)) (
+        x.truth opening marks k (subst (λ (n : ℕ). AllOfMinor n old.table.pending) (sym e) minors) was,
+        true_after x.posts (contents_at opening) (received m marks) x.only_posts tr,
+      );
+  rules = λ marks k.
+      subst (λ (ms : List Mark). (acts : List Act) × KeepsRulesBy acts old.minor old.table new.table old.told new.told marks ms) (sym (all marks))
+      (x.rules old.minor marks k minors);
+}
+  where
+    told : List Told
+    told = x.posts ++ x.complaints
+
+    all : (marks : List Mark) → grown told (received m marks) ≡ grown x.posts (received m marks)
+    all marks = grown_append x.posts x.complaints (received m marks) ∙ ap (λ (l : List Mark). grown x.posts l) (x.silent (received m marks))

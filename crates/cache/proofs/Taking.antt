@@ -1,0 +1,216 @@
+-- What a message taken does to the frames.
+use Rattle.std.proofs.Common.{◌≡◌, ◌≢◌, ℕ, ◌+◌, ◌^◌, ◌<◌, ◌≤◌, List, length, refl, sym, ap, subst, ◌∙◌, arith, true, false, Option, Some, None, Result, Ok, Err, IsErr}
+use Rattle.std.specs.Prelude.{slice_index}
+use Rattle.std.proofs.lemmas.Bool.{eq-eqb}
+use Rattle.reissue.specs.declared.ask.Settled.{Settled}
+use Rattle.reissue.specs.declared.ask.Settled.TheVariants as settled
+use Rattle.reissue.specs.Moves.{DiskState, Begun, put, Closes, Moves, Tells, IsBusy}
+use Rattle.reissue.specs.Entries.{pending_of, AllOfMinor}
+use Rattle.message.specs.declared.Incoming.{Incoming}
+use Rattle.message.specs.declared.Incoming.TheVariants as incoming
+use Rattle.reissue.specs.Posts.{HasRoom, is_message}
+use Rattle.reissue.specs.Calls.{Steps, Absorbs, goes_on}
+use Rattle.reissue.proofs.Maps.{put-other}
+use Rattle.cache.specs.declared.slots.Slot.{Slot}
+use Rattle.cache.specs.declared.cache.Took.{Took}
+use Rattle.cache.specs.declared.refusals.Cut.{Cut}
+use Rattle.cache.specs.Slots.{held}
+use Rattle.cache.specs.Edits.{IsWritten, IsWrittenSlot, Leaves}
+use Rattle.cache.specs.Frames.{Tied, CacheAgrees, view}
+use Rattle.cache.specs.Calls.{Caching, IsReady, Serves, Runs}
+use Rattle.cache.specs.Takes.{Settles, took_of, is_ended_by, Takes, ReadTells, ReadsStay, is_read_of}
+use Rattle.cache.proofs.Tied.{way_ticket, tied_read_settled, tied_written, same_begun}
+use Rattle.cache.proofs.Agreeing.{agrees_moved, view_moved, agrees_written, view_put}
+use Rattle.cache.proofs.Edits.{leaves_none}
+use Rattle.cache.proofs.Runs.{step_runs, absorb_runs}
+
+-- the slot of a settled write
+settled_slot : (size n : ℕ) (old new : List Slot) (pending : ℕ → Option Begun) (r : Begun) (bytes : List ℕ)
+    → pending n ≡ Some r → r.written ≡ Some bytes → IsWritten n old new → Tied size (held old) pending → IsWrittenSlot n old new
+settled_slot size n old new pending r bytes is wr ack k =
+    let x = k.writes n r bytes is wr in
+    ack.slot x.block x.slot x.holds (way_ticket size x.slot n bytes x.way)
+
+-- where nothing is settled
+tied_same : (size : ℕ) (old new : List Slot) (pending pending' : ℕ → Option Begun) → pending' ≡ pending → new ≡ old
+    → Tied size (held old) pending → Tied size (held new) pending'
+tied_same size old new pending pending' e same k =
+    subst (λ (l : List Slot). Tied size (held l) pending') (sym same) (subst (λ (o : ℕ → Option Begun). Tied size (held old) o) (sym e) k)
+
+-- slots and pending requests stay tied
+pub tied_settled : (size : ℕ) (res : Settled) (old new : List Slot) (pending pending' : ℕ → Option Begun) → 0 < size
+    → Closes res pending pending' → Settles res old new → Tied size (held old) pending → Tied size (held new) pending'
+tied_settled size (settled.Read n bytes) old new pending pending' some closes same k =
+    subst (λ (l : List Slot). Tied size (held l) pending') (sym same)
+    (subst (λ (o : ℕ → Option Begun). Tied size (held old) o) (sym closes.3) (tied_read_settled size (held old) pending n closes.0 closes.1 closes.2 k))
+tied_settled size (settled.Written n) old new pending pending' some closes ack k =
+    let a = settled_slot size n old new pending closes.0 closes.1 closes.2 closes.3 ack k in
+    subst (λ (h : ℕ → Option Slot). Tied size h pending') (sym a.all)
+    (subst (λ (o : ℕ → Option Begun). Tied size (put (held old) a.block (Some a.after)) o) (sym closes.4)
+    (tied_written size (held old) pending a.block n a.slot a.after closes.0 some a.is a.ticket_is a.state closes.2 k))
+tied_settled size settled.Nothing old new pending pending' some closes same k = tied_same size old new pending pending' closes same k
+tied_settled size settled.Flush old new pending pending' some closes same k = tied_same size old new pending pending' closes same k
+tied_settled size settled.GaveUp old new pending pending' some closes same k = tied_same size old new pending pending' closes same k
+tied_settled size settled.End old new pending pending' some closes same k = tied_same size old new pending pending' closes same k
+
+-- as said of a cache
+tied_after : (res : Settled) (old new : Caching) (items items' : List Slot) → 0 < old.size
+    → Closes res (pending_of old.table.pending) (pending_of new.table.pending) → Settles res items items'
+    → old.held ≡ held items → new.held ≡ held items' → new.size ≡ old.size
+    → Tied old.size old.held (pending_of old.table.pending) → Tied new.size new.held (pending_of new.table.pending)
+tied_after res old new items items' some closes settles here there size k =
+    subst (λ (n : ℕ). Tied n new.held (pending_of new.table.pending)) (sym size)
+    (subst (λ (h : ℕ → Option Slot). Tied old.size h (pending_of new.table.pending)) (sym there)
+    (tied_settled old.size res items items' (pending_of old.table.pending) (pending_of new.table.pending) some closes settles
+    (subst (λ (h : ℕ → Option Slot). Tied old.size h (pending_of old.table.pending)) here k)))
+
+-- what holds of slots and the disk after a message
+record Moved (size : ℕ) (old new : ℕ → Option Slot) (w v : DiskState) : Type 0 where
+  agrees : CacheAgrees size old w → CacheAgrees size new v
+  same : CacheAgrees size old w → view size new v ≡ view size old w
+
+-- where the slots stay
+moved_same : (size : ℕ) (old new : List Slot) (pending : ℕ → Option Begun) (res : Settled) (w v : DiskState)
+    → Moves res pending w v → new ≡ old → Tied size (held old) pending → Moved size (held old) (held new) w v
+moved_same size old new pending res w v m same k = subst (λ (l : List Slot). Moved size (held old) (held l) w v) (sym same) (record {
+  agrees = λ a. agrees_moved size (held old) pending w v m.spares k a;
+  same = λ a. view_moved size (held old) pending w v m.spares k;
+})
+
+-- and in each case
+moved_settled : (size : ℕ) (res : Settled) (old new : List Slot) (pending pending' : ℕ → Option Begun) (w v : DiskState) → 0 < size
+    → Closes res pending pending' → Settles res old new → Tied size (held old) pending → Moves res pending w v
+    → Moved size (held old) (held new) w v
+moved_settled size (settled.Written n) old new pending pending' w v some closes ack k m =
+    let a = settled_slot size n old new pending closes.0 closes.1 closes.2 closes.3 ack k in
+    subst (λ (h : ℕ → Option Slot). Moved size (held old) h w v) (sym a.all) (record {
+      agrees = λ agrees. agrees_written size (held old) pending v a.block n a.slot a.after closes.0 closes.1 some a.is a.ticket_is a.state a.bytes_are
+          closes.2 closes.3 (m.tells closes.0 closes.1 closes.2 closes.3) k (agrees_moved size (held old) pending w v m.spares k agrees);
+      same = λ agrees. view_put size (held old) v a.block (Some a.after) (λ o lt. rw a.is (ap (λ (y : List ℕ). slice_index y o) a.bytes_are))
+          ∙ view_moved size (held old) pending w v m.spares k;
+    })
+moved_settled size (settled.Read n bytes) old new pending pending' w v some closes same k m = moved_same size old new pending (settled.Read n bytes) w v m same k
+moved_settled size settled.Nothing old new pending pending' w v some closes same k m = moved_same size old new pending settled.Nothing w v m same k
+moved_settled size settled.Flush old new pending pending' w v some closes same k m = moved_same size old new pending settled.Flush w v m same k
+moved_settled size settled.GaveUp old new pending pending' w v some closes same k m = moved_same size old new pending settled.GaveUp w v m same k
+moved_settled size settled.End old new pending pending' w v some closes same k m = moved_same size old new pending settled.End w v m same k
+
+-- as said of a cache
+pub serves_settled : (res : Settled) (old new : Caching) (items items' : List Slot) (w v : DiskState) → 0 < old.size
+    → Closes res (pending_of old.table.pending) (pending_of new.table.pending) → Settles res items items'
+    → old.held ≡ held items → new.held ≡ held items' → new.size ≡ old.size
+    → Tied old.size old.held (pending_of old.table.pending) → Moves res (pending_of old.table.pending) w v → Serves old new w v
+serves_settled res old new items items' w v some closes settles here there size k m =
+    let x = moved_settled old.size res items items' (pending_of old.table.pending) (pending_of new.table.pending) w v some closes settles
+    (subst (λ (h : ℕ → Option Slot). Tied old.size h (pending_of old.table.pending)) here k) m in
+    let y : Moved old.size old.held new.held w v = subst (λ (h : ℕ → Option Slot). Moved old.size h new.held w v) (sym here)
+    (subst (λ (h : ℕ → Option Slot). Moved old.size (held items) h w v) (sym there) x) in
+    record {
+      agrees = λ a. subst (λ (n : ℕ). CacheAgrees n new.held v) (sym size) (y.agrees a);
+      same = λ a. ap (λ (n : ℕ). view n new.held v) size ∙ y.same a;
+    }
+
+-- a settled read tells the disk's bytes
+read_tells : (res : Settled) (pending : ℕ → Option Begun) (v : DiskState) → Tells res pending v → ReadTells (Ok (took_of res)) pending v
+read_tells (settled.Read t bytes) pending v h = λ r is. record { each = h r is }
+read_tells (settled.Written t) pending v h = tt
+read_tells settled.Nothing pending v h = tt
+read_tells settled.Flush pending v h = tt
+read_tells settled.GaveUp pending v h = tt
+read_tells settled.End pending v h = tt
+
+-- reads stay pending until they are handed out
+pub reads_stay : (res : Settled) (pending pending' : ℕ → Option Begun) → Closes res pending pending' → ReadsStay (Ok (took_of res)) pending pending'
+reads_stay res pending pending' closes = record { stays = by res closes }
+  where
+    by : (x : Settled) → Closes x pending pending' → (t : ℕ) (r : Begun) → pending t ≡ Some r → r.written ≡ None
+        → is_read_of (Ok (took_of x)) t ≡ false → pending' t ≡ Some r
+    by (settled.Read u bytes) closes t r is read other =
+        let ne : t ≢ u = λ e. (let z : true ≡ false = sym (eq-eqb u t (sym e)) ∙ other in cc) in
+        ap (λ (f : ℕ → Option Begun). f t) closes.3 ∙ put-other pending u None t ne ∙ is
+    by (settled.Written u) closes t r is read other =
+        let ne : t ≢ u = λ e.
+        let same : closes.0 ≡ r = same_begun (pending u) closes.0 r closes.2 (sym (ap pending e) ∙ is) in
+        let z : Some closes.1 ≡ None = sym closes.3 ∙ ap (λ (x : Begun). x.written) same ∙ read in
+        cc in
+        ap (λ (f : ℕ → Option Begun). f t) closes.4 ∙ put-other pending u None t ne ∙ is
+    by settled.Nothing closes t r is read other = ap (λ (f : ℕ → Option Begun). f t) closes ∙ is
+    by settled.Flush closes t r is read other = ap (λ (f : ℕ → Option Begun). f t) closes ∙ is
+    by settled.GaveUp closes t r is read other = ap (λ (f : ℕ → Option Begun). f t) closes ∙ is
+    by settled.End closes t r is read other = ap (λ (f : ℕ → Option Begun). f t) closes ∙ is
+
+-- what the slots leave
+pub leaves_settled : (res : Settled) (old new : List Slot) → Settles res old new → Leaves old new
+leaves_settled (settled.Written t) old new h = h.leaves
+leaves_settled (settled.Read t bytes) old new h = subst (λ (l : List Slot). Leaves old l) (sym h) (leaves_none old)
+leaves_settled settled.Nothing old new h = subst (λ (l : List Slot). Leaves old l) (sym h) (leaves_none old)
+leaves_settled settled.Flush old new h = subst (λ (l : List Slot). Leaves old l) (sym h) (leaves_none old)
+leaves_settled settled.GaveUp old new h = subst (λ (l : List Slot). Leaves old l) (sym h) (leaves_none old)
+leaves_settled settled.End old new h = subst (λ (l : List Slot). Leaves old l) (sym h) (leaves_none old)
+
+-- unless it ended, more may come
+pub goes : (res : Settled) → is_ended_by res ≡ false → goes_on res ≡ true
+goes (settled.Written t) h = refl
+goes (settled.Read t bytes) h = refl
+goes settled.Nothing h = refl
+goes settled.Flush h = refl
+goes settled.GaveUp h = refl
+goes settled.End h = cc
+
+-- a message taken, as a call
+pub takes_one : (res : Settled) (old new : Caching) (items items' : List Slot)
+    → Steps res old.table new.table old.told new.told old.truth new.truth
+    → Settles res items items' → old.held ≡ held items → new.held ≡ held items'
+    → IsReady old → IsBusy (pending_of old.table.pending) → old.ended ≡ false → old.table.given_up ≡ false → 0 < old.size
+    → new.minor ≡ old.minor → new.size ≡ old.size → new.ended ≡ is_ended_by res
+    → (goes_on res ≡ true → new.budget < old.budget) → (goes_on res ≡ true → HasRoom new.table new.room)
+    → new.table.ids + length old.table.pending ≤ old.table.ids + length new.table.pending + 1
+    → Runs None old new (λ w v. Takes (Ok (took_of res)) old new w v)
+takes_one res old new items items' x settles here there ready busy alive going some minor size ended budget room ids =
+    step_runs res old new (λ w v. Takes (Ok (took_of res)) old new w v) x now ready.minors busy going minor size alive ended
+    (λ e. budget (goes res e)) ids (λ w v m. record {
+      serves = serves_settled res old new items items' w v some x.closes settles here there size ready.tied m;
+      tells = read_tells res (pending_of old.table.pending) v m.tells;
+    })
+  where
+    now : IsReady new
+    now = record {
+      minors = subst (λ (n : ℕ). AllOfMinor n new.table.pending) (sym minor) (x.minors old.minor ready.minors);
+      tied = tied_after res old new items items' some x.closes settles here there size ready.tied;
+      room = λ e. room (goes res (sym ended ∙ e));
+      ids = λ e. let less = budget (goes res (sym ended ∙ e)) in let was = ready.ids alive in omega (arith, less, was, ids);
+    }
+
+-- a call that was cut before it took anything
+pub takes_none : (r : Result Took Cut) (c : Caching) (w : DiskState) → IsErr r → Takes r c c w w
+takes_none (Err cut) c w h = record { serves = record { agrees = λ a. a; same = λ a. refl }; tells = tt }
+takes_none (Ok t) c w h = cc
+
+-- a message that is handed over, as a call
+pub absorbs_one : (m : Incoming) (res : Settled) (old new : Caching) (items items' : List Slot)
+    → Absorbs m res old.table new.table old.told new.told old.truth new.truth
+    → Settles res items items' → old.held ≡ held items → new.held ≡ held items'
+    → IsReady old → (old.ended ≡ false → old.table.ids + old.budget + 17 < 2 ^ 60 + length old.table.pending) → 0 < old.size
+    → new.minor ≡ old.minor → new.size ≡ old.size → new.ended ≡ old.ended → new.budget ≤ old.budget
+    → (new.ended ≡ false → HasRoom new.table new.room)
+    → new.table.ids + length old.table.pending ≤ old.table.ids + length new.table.pending + 1
+    → Runs (Some m) old new (λ w v. Serves old new w v)
+absorbs_one m res old new items items' x settles here there ready spare some minor size ended budget room ids =
+    absorb_runs m res old new (λ w v. Serves old new w v) x now ready.minors minor size ended budget ids
+    (λ w v m. serves_settled res old new items items' w v some x.closes settles here there size ready.tied m)
+  where
+    now : IsReady new
+    now = record {
+      minors = subst (λ (n : ℕ). AllOfMinor n new.table.pending) (sym minor) (x.minors old.minor ready.minors);
+      tied = tied_after res old new items items' some x.closes settles here there size ready.tied;
+      room = room;
+      ids = λ e. let was = spare (sym ended ∙ e) in omega (arith, was, ids, budget);
+    }
+
+-- after each message but End there is room for more; End changes nothing
+pub room_after : (m : Incoming) (P : Type 0) → (is_message m ≡ true → P) → (m ≡ incoming.End → P) → P
+room_after (incoming.Reply a) P f g = f refl
+room_after (incoming.Started e) P f g = f refl
+room_after incoming.GaveUp P f g = f refl
+room_after incoming.Flush P f g = f refl
+room_after incoming.End P f g = g refl

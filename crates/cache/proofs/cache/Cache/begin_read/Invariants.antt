@@ -1,0 +1,14 @@
+use Rattle.cache.specs.Calls.{caching, Keeps}
+use Rattle.cache.specs.Edits.{Leaves}
+use Rattle.cache.specs.Takes.{messages_left}
+use Rattle.cache.proofs.cache.Cache.begin_read.Given as goal
+
+abbrev pub invariant-tries : goal.invariant-tries
+invariant-tries g l = record {
+  keeps : Keeps (caching g.L.Link.history g.L.Link.truth g.L.Link.room g.L.Link.budget_left l.fn.self)
+      (caching g.L.Link.history g.L.Link.truth g.L.Link.room g.L.Link.budget_left l.self);
+  leaves : Leaves l.fn.self.slots.items.items l.self.slots.items.items;
+}
+
+abbrev pub decreases-tries : goal.decreases-tries
+decreases-tries g l = messages_left (caching g.L.Link.history g.L.Link.truth g.L.Link.room g.L.Link.budget_left l.self)

@@ -1,0 +1,63 @@
+use Rattle.std.proofs.Common.{◌≡◌, refl, sym, subst, ◌∙◌, List}
+use Rattle.cache.specs.declared.slots.Slot.{Slot}
+use Rattle.cache.specs.Edits.{IsAt}
+use Rattle.cache.specs.Calls.{Caching, caching, caching_of, Keeps}
+use Rattle.cache.specs.declared.state.State.TheVariants.{Clean}
+use Rattle.cache.proofs.Held.{in_range}
+use Rattle.cache.proofs.Placing.{keeps_none, keeps_then, keeps_read, reads_after, placed, filled_at, none_held, found_at}
+use Rattle.cache.proofs.cache.Cache.fetch.Goals as goal
+
+pub returns-in-Some-clause-keeps : goal.returns-in-Some-clause-keeps
+returns-in-Some-clause-keeps g c =
+    let h = g.L.Link.history in
+    let t = g.L.Link.truth in
+    let r = g.L.Link.room in
+    let b = g.L.Link.budget_left in
+    let s = c.args.self.now in
+    let same : caching_of h t r b s.transfers s.shape c.touch.new.self.items.items s.ended ≡ caching h t r b s =
+    λ i. caching_of h t r b s.transfers s.shape (c.touch.ensures.items i) s.ended in
+    subst (λ (n : Caching). Keeps (caching h t r b s) n) (sym same) (keeps_none _ c.requires.ready)
+
+pub returns-in-Some-clause-frame : goal.returns-in-Some-clause-frame
+returns-in-Some-clause-frame g c = (
+  refl,
+  subst (λ (l : List Slot). IsAt l c.in-Some.at c.args.block) (sym c.touch.ensures.items)
+      (found_at c.args.self.now.slots.items.items c.in-Some.at c.args.block (sym c.find.ensures ∙ c.in-Some.is)),
+)
+
+pub touch-requires : goal.touch-requires
+touch-requires g c =
+    let f = found_at c.args.self.now.slots.items.items c.in-Some.at c.args.block (sym c.find.ensures ∙ c.in-Some.is) in
+    in_range c.args.self.now.slots.items.items c.in-Some.at f.slot f.is
+
+pub returns-in_err-bytes-clause-keeps : goal.returns-in_err-bytes-clause-keeps
+returns-in_err-bytes-clause-keeps g c = keeps_then _ _ _ c.make_room.ensures.keeps (keeps_read _ _ _ _ _ c.read.ensures.runs)
+
+pub fill-requires-clause-at : goal.fill-requires-clause-at
+fill-requires-clause-at g c =
+    let f = c.read.ensures.leaves.free c.in_ok-at.at c.in_ok-at.ensures.free in
+    in_range c.read.new.self.slots.items.items c.in_ok-at.at f.slot f.is
+
+pub fill-requires-clause-free : goal.fill-requires-clause-free
+fill-requires-clause-free g c =
+    c.read.ensures.leaves.none c.args.block (c.make_room.ensures.none c.args.block
+    (none_held c.args.self.now.slots.items.items c.args.block (sym c.find.ensures ∙ c.in_default.is)))
+
+pub returns-clause-keeps : goal.returns-clause-keeps
+returns-clause-keeps g c =
+    let h = g.L.Link.history in
+    let t = g.L.Link.truth in
+    let r = g.L.Link.room in
+    let b = g.L.Link.budget_left in
+    let m = c.read.new.self in
+    let s = c.args.self.now in
+    let none = c.read.ensures.leaves.none c.args.block (c.make_room.ensures.none c.args.block
+    (none_held s.slots.items.items c.args.block (sym c.find.ensures ∙ c.in_default.is))) in
+    let x = reads_after _ _ _ _ c.args.block c.args.block refl c.make_room.ensures.keeps c.in_ok-bytes.ensures.runs in
+    placed (caching h t r b m) (caching_of h t r b m.transfers m.shape c.fill.new.self.items.items m.ended) m.slots.items.items c.fill.new.self.items.items
+    c.in_ok-at.at c.args.block _ _ c.in_ok-bytes.bytes (caching h t r b s) m.slots.distinct (c.read.ensures.leaves.free c.in_ok-at.at c.in_ok-at.ensures.free) none
+    c.fill.ensures refl refl refl x.size x.ready x
+
+pub returns-clause-frame : goal.returns-clause-frame
+returns-clause-frame g c =
+    (refl, filled_at c.read.new.self.slots.items.items c.fill.new.self.items.items c.in_ok-at.at c.args.block c.in_ok-bytes.bytes Clean c.fill.ensures)

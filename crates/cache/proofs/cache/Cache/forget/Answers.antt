@@ -1,0 +1,39 @@
+use Rattle.std.proofs.Common.{refl, sym, ◌∙◌}
+use Rattle.cache.specs.Calls.{caching, caching_of}
+use Rattle.cache.proofs.Placing.{keeps_none, vacated, clean_passes, found_at, none_held, forgotten_clean, forgotten_other, forgotten_none}
+use Rattle.cache.proofs.cache.Cache.forget.Goals as goal
+
+pub returns-then-is_clean-clause-keeps : goal.returns-then-is_clean-clause-keeps
+returns-then-is_clean-clause-keeps g c =
+    let h = g.L.Link.history in
+    let t = g.L.Link.truth in
+    let r = g.L.Link.room in
+    let b = g.L.Link.budget_left in
+    let s = c.args.self.now in
+    let items = s.slots.items.items in
+    let clean = sym c.is_clean.ensures ∙ c.if-is_clean.true in
+    vacated (caching h t r b s) (caching_of h t r b s.transfers s.shape c.vacate.new.self.items.items s.ended) items c.vacate.new.self.items.items c.in-Some.at
+    s.slots.distinct (record { slot = c.get.result.now; is = c.get.ensures; passes = clean_passes c.get.result.now clean }) c.vacate.ensures refl refl c.requires.ready
+
+pub returns-then-is_clean-clause-held : goal.returns-then-is_clean-clause-held
+returns-then-is_clean-clause-held g c =
+    let s = c.args.self.now in
+    let items = s.slots.items.items in
+    forgotten_clean items c.vacate.new.self.items.items c.in-Some.at c.args.block c.get.result.now s.slots.distinct
+    (found_at items c.in-Some.at c.args.block (sym c.find.ensures ∙ c.in-Some.is)) c.get.ensures (sym c.is_clean.ensures ∙ c.if-is_clean.true) c.vacate.ensures
+
+pub returns-else-is_clean-clause-keeps : goal.returns-else-is_clean-clause-keeps
+returns-else-is_clean-clause-keeps g c = keeps_none _ c.requires.ready
+
+pub returns-else-is_clean-clause-held : goal.returns-else-is_clean-clause-held
+returns-else-is_clean-clause-held g c =
+    let s = c.args.self.now in
+    let items = s.slots.items.items in
+    forgotten_other items c.in-Some.at c.args.block c.get.result.now s.slots.distinct
+    (found_at items c.in-Some.at c.args.block (sym c.find.ensures ∙ c.in-Some.is)) c.get.ensures (sym c.is_clean.ensures ∙ c.if-is_clean.false)
+
+pub returns-in_default-clause-keeps : goal.returns-in_default-clause-keeps
+returns-in_default-clause-keeps g c = keeps_none _ c.requires.ready
+
+pub returns-in_default-clause-held : goal.returns-in_default-clause-held
+returns-in_default-clause-held g c = forgotten_none _ c.args.block (none_held c.args.self.now.slots.items.items c.args.block (sym c.find.ensures ∙ c.in_default.is))

@@ -1,0 +1,64 @@
+use Rattle.std.proofs.Common.{refl, sym, ap, ◌∙◌}
+use Rattle.cache.specs.Calls.{caching, caching_of}
+use Rattle.cache.specs.declared.slots.Slot.{Slot}
+use Rattle.cache.specs.declared.state.State.TheVariants.{Dirty}
+use Rattle.cache.proofs.Edits.{one_slot, leaves_set}
+use Rattle.cache.proofs.Held.{in_range}
+use Rattle.cache.proofs.Placing.{rewritten, zero_row, blanked, blanks_cut, filled_at, none_held, found_at}
+use Rattle.cache.proofs.cache.Cache.fresh.Goals as goal
+
+pub returns-in-Some-clause-runs : goal.returns-in-Some-clause-runs
+returns-in-Some-clause-runs g c =
+    let h = g.L.Link.history in
+    let t = g.L.Link.truth in
+    let r = g.L.Link.room in
+    let b = g.L.Link.budget_left in
+    let s = c.args.self.now in
+    let items = s.slots.items.items in
+    let e = c.blank.ensures in
+    let f = found_at items c.in-Some.at c.args.block (sym c.find.ensures ∙ c.in-Some.is) in
+    let same = one_slot items c.in-Some.at f.slot e.slot f.is e.is in
+    rewritten (caching h t r b s) (caching_of h t r b s.transfers s.shape c.blank.new.self.items.items s.ended) items c.blank.new.self.items.items
+    c.in-Some.at c.args.block e.slot e.after (λ row o. 0) s.slots.distinct e.is (ap (λ (y : Slot). y.block) (sym same) ∙ f.block_is) e.block e.state e.all
+    (λ w. zero_row s.shape.block_size c.args.block e.after w e.zero) refl refl c.requires.ready
+
+pub returns-in-Some-clause-frame : goal.returns-in-Some-clause-frame
+returns-in-Some-clause-frame g c =
+    let s = c.args.self.now in
+    let items = s.slots.items.items in
+    let e = c.blank.ensures in
+    let f = found_at items c.in-Some.at c.args.block (sym c.find.ensures ∙ c.in-Some.is) in
+    let same = one_slot items c.in-Some.at f.slot e.slot f.is e.is in (
+      refl,
+      (leaves_set items c.blank.new.self.items.items c.in-Some.at c.args.block e.slot e.after s.slots.distinct e.is
+          (ap (λ (y : Slot). y.block) (sym same) ∙ f.block_is) e.block e.all).at c.in-Some.at c.args.block f,
+    )
+
+pub returns-in_err-at-clause-runs : goal.returns-in_err-at-clause-runs
+returns-in_err-at-clause-runs g c = blanks_cut c.from_residual.result _ _ _ c.from_residual.ensures.0 c.make_room.ensures.keeps
+
+pub fill-requires-clause-at : goal.fill-requires-clause-at
+fill-requires-clause-at g c =
+    let f = c.in_ok-at.ensures.free in
+    in_range c.make_room.new.self.slots.items.items c.in_ok-at.at f.slot f.is
+
+pub fill-requires-clause-free : goal.fill-requires-clause-free
+fill-requires-clause-free g c =
+    c.make_room.ensures.none c.args.block (none_held c.args.self.now.slots.items.items c.args.block (sym c.find.ensures ∙ c.in_default.is))
+
+pub returns-clause-runs : goal.returns-clause-runs
+returns-clause-runs g c =
+    let h = g.L.Link.history in
+    let t = g.L.Link.truth in
+    let r = g.L.Link.room in
+    let b = g.L.Link.budget_left in
+    let m = c.make_room.new.self in
+    let s = c.args.self.now in
+    let k = c.make_room.ensures.keeps in
+    let none = c.make_room.ensures.none c.args.block (none_held s.slots.items.items c.args.block (sym c.find.ensures ∙ c.in_default.is)) in
+    blanked (caching h t r b m) (caching_of h t r b m.transfers m.shape c.fill.new.self.items.items m.ended) m.slots.items.items c.fill.new.self.items.items
+    c.in_ok-at.at c.args.block _ (caching h t r b s) m.slots.distinct c.in_ok-at.ensures.free none c.zeros.ensures c.fill.ensures refl refl k.ready k
+
+pub returns-clause-frame : goal.returns-clause-frame
+returns-clause-frame g c =
+    (refl, filled_at c.make_room.new.self.slots.items.items c.fill.new.self.items.items c.in_ok-at.at c.args.block _ Dirty c.fill.ensures)

@@ -1,0 +1,72 @@
+use Rattle.std.proofs.Common.{◌≡◌, refl, sym, ap, subst, ◌∙◌}
+use Rattle.cache.specs.Calls.{Caching, caching, caching_of, Keeps}
+use Rattle.cache.specs.declared.slots.Slot.{Slot}
+use Rattle.cache.proofs.Beginning.{issued_at, free_block, write_one, write_leaves, busy_begun, dirty_parts}
+use Rattle.cache.proofs.Edits.{one_slot}
+use Rattle.cache.proofs.Held.{in_range}
+use Rattle.cache.proofs.Placing.{keeps_none}
+use Rattle.cache.proofs.cache.Cache.issue.Goals as goal
+
+pub begin-requires-clause-free : goal.begin-requires-clause-free
+begin-requires-clause-free g c =
+    free_block c.args.self.now.shape.block_size c.in-Some.block _ _ _ c.requires.ready.tied.blocks c.write-ask.ensures.position c.write-ask.ensures.count
+
+pub set_state-requires : goal.set_state-requires
+set_state-requires g c = in_range c.args.self.now.slots.items.items c.args.at c.get-slot.result.now c.get-slot.ensures
+
+pub returns-in-Ok-clause-keeps : goal.returns-in-Ok-clause-keeps
+returns-in-Ok-clause-keeps g c =
+    let h = g.L.Link.history in
+    let t = g.L.Link.truth in
+    let r = g.L.Link.room in
+    let b = g.L.Link.budget_left in
+    let s = c.args.self.now in
+    let items = s.slots.items.items in
+    let x = c.in-Ok.ensures in
+    let a = c.write-ask.ensures in
+    let d = c.requires.dirty in
+    let same : d.slot ≡ c.get-slot.result.now = one_slot items c.args.at d.slot c.get-slot.result.now d.is c.get-slot.ensures in
+    let state = ap (λ (y : Slot). y.state) (sym same) ∙ (dirty_parts d.slot d.passes).2 in
+    write_one c.write-ask.result (caching h t r b s) (caching_of h t r b c.begin.new.self s.shape c.set_state.new.self.items.items s.ended)
+    items c.set_state.new.self.items.items c.in-Some.block c.in-Ok.ticket c.args.at c.get-slot.result.now
+    s.slots.distinct c.get-slot.ensures c.in-Some.is state c.set_state.ensures refl refl
+    x.begins x.adds x.opens a.kind a.minor a.position a.count a.bytes c.requires.ready refl refl refl x.budget x.room
+
+pub returns-in-Ok-clause-busy : goal.returns-in-Ok-clause-busy
+returns-in-Ok-clause-busy g c = busy_begun c.in-Ok.ticket _ _ _ c.in-Ok.ensures.opens.1
+
+pub returns-in-Ok-clause-leaves : goal.returns-in-Ok-clause-leaves
+returns-in-Ok-clause-leaves g c =
+    write_leaves c.args.self.now.slots.items.items c.set_state.new.self.items.items c.in-Some.block c.args.at c.get-slot.result.now _
+    c.args.self.now.slots.distinct c.get-slot.ensures c.in-Some.is c.set_state.ensures
+
+pub returns-in-Err-clause-keeps : goal.returns-in-Err-clause-keeps
+returns-in-Err-clause-keeps g c =
+    let h = g.L.Link.history in
+    let t = g.L.Link.truth in
+    let r = g.L.Link.room in
+    let b = g.L.Link.budget_left in
+    let s = c.args.self.now in
+    let old = caching h t r b s in
+    let same : caching_of h t r b c.begin.new.self s.shape s.slots.items.items s.ended ≡ old =
+    λ i. caching_of h t r b (c.in-Err.ensures.refused i) s.shape s.slots.items.items s.ended in
+    subst (λ (n : Caching). Keeps old n) (sym same) (keeps_none old c.requires.ready)
+
+pub returns-in-Ok-clause-issued : goal.returns-in-Ok-clause-issued
+returns-in-Ok-clause-issued g c =
+    let s = c.args.self.now in
+    let items = s.slots.items.items in
+    let d = c.requires.dirty in
+    let same : d.slot ≡ c.get-slot.result.now = one_slot items c.args.at d.slot c.get-slot.result.now d.is c.get-slot.ensures in
+    issued_at items c.set_state.new.self.items.items c.in-Some.block c.in-Ok.ticket c.args.at c.get-slot.result.now s.slots.distinct c.get-slot.ensures c.in-Some.is
+    (ap (λ (y : Slot). y.state) (sym same) ∙ (dirty_parts d.slot d.passes).2) c.set_state.ensures
+
+pub returns-in-Ok-clause-posts : goal.returns-in-Ok-clause-posts
+returns-in-Ok-clause-posts g c =
+    let x = c.in-Ok.ensures.begins in
+    record { posts = x.posts; history = x.history; only_posts = x.only_posts }
+
+pub returns-in-Err-clause-posts : goal.returns-in-Err-clause-posts
+returns-in-Err-clause-posts g c =
+    let x = c.in-Err.ensures.begins in
+    record { posts = x.posts; history = x.history; only_posts = x.only_posts }

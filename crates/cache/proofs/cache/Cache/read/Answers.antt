@@ -1,0 +1,9 @@
+use Rattle.cache.proofs.Placing.{reads_cut, reads_after}
+use Rattle.cache.proofs.cache.Cache.read.Goals as goal
+
+pub returns-in_err-reading-clause-runs : goal.returns-in_err-reading-clause-runs
+returns-in_err-reading-clause-runs g c = reads_cut c.from_residual.result _ _ _ _ c.from_residual.ensures.0 c.begin_read.ensures.keeps
+
+pub returns-clause-runs : goal.returns-clause-runs
+returns-clause-runs g c =
+    reads_after c.wait.result _ _ _ c.args.block c.in_ok-reading.reading.block c.in_ok-reading.ensures.reading.0 c.begin_read.ensures.keeps c.wait.ensures.runs

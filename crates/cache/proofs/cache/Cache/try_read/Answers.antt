@@ -1,0 +1,41 @@
+use Rattle.std.proofs.Common.{◌≡◌, refl, sym, subst}
+use Rattle.cache.specs.Calls.{Caching, caching, caching_of, Keeps}
+use Rattle.cache.proofs.Beginning.{free_block, read_one, read_is_at, busy_begun}
+use Rattle.cache.proofs.Placing.{keeps_none}
+use Rattle.cache.proofs.cache.Cache.try_read.Goals as goal
+
+pub begin-requires-clause-free : goal.begin-requires-clause-free
+begin-requires-clause-free g c =
+    free_block c.args.self.now.shape.block_size c.args.block _ _ _ c.requires.ready.tied.blocks c.read-ask.ensures.position c.read-ask.ensures.count
+
+pub returns-in-Ok-clause-keeps : goal.returns-in-Ok-clause-keeps
+returns-in-Ok-clause-keeps g c =
+    let h = g.L.Link.history in
+    let t = g.L.Link.truth in
+    let r = g.L.Link.room in
+    let b = g.L.Link.budget_left in
+    let s = c.args.self.now in
+    let x = c.in-Ok.ensures in
+    let a = c.read-ask.ensures in
+    read_one c.read-ask.result (caching h t r b s) (caching_of h t r b c.begin.new.self s.shape s.slots.items.items s.ended) c.args.block c.in-Ok.ticket
+    refl x.begins x.adds x.opens a.kind a.minor a.position a.count c.requires.ready refl refl refl x.budget x.room
+
+pub returns-in-Ok-clause-busy : goal.returns-in-Ok-clause-busy
+returns-in-Ok-clause-busy g c = busy_begun c.in-Ok.ticket _ _ _ c.in-Ok.ensures.opens.1
+
+pub returns-in-Ok-clause-reading : goal.returns-in-Ok-clause-reading
+returns-in-Ok-clause-reading g c =
+    let a = c.read-ask.ensures in
+    (refl, read_is_at c.in-Ok.ticket _ _ _ _ c.read-ask.result c.in-Ok.ensures.opens a.kind a.position a.count)
+
+pub returns-in-Err-clause-keeps : goal.returns-in-Err-clause-keeps
+returns-in-Err-clause-keeps g c =
+    let h = g.L.Link.history in
+    let t = g.L.Link.truth in
+    let r = g.L.Link.room in
+    let b = g.L.Link.budget_left in
+    let s = c.args.self.now in
+    let old = caching h t r b s in
+    let same : caching_of h t r b c.begin.new.self s.shape s.slots.items.items s.ended ≡ old =
+    λ i. caching_of h t r b (c.in-Err.ensures.refused i) s.shape s.slots.items.items s.ended in
+    subst (λ (n : Caching). Keeps old n) (sym same) (keeps_none old c.requires.ready)

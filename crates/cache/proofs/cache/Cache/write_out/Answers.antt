@@ -1,0 +1,18 @@
+use Rattle.std.proofs.Common.{sym, ap, ◌∙◌}
+use Rattle.cache.specs.Slots.{is_dirty_slot}
+use Rattle.cache.proofs.Beginning.{under_way, busy_under}
+use Rattle.cache.proofs.Edits.{one_slot}
+use Rattle.cache.proofs.Placing.{keeps_none}
+use Rattle.cache.proofs.cache.Cache.write_out.Goals as goal
+
+pub returns-else-is_dirty-clause-keeps : goal.returns-else-is_dirty-clause-keeps
+returns-else-is_dirty-clause-keeps g c = keeps_none _ c.requires.ready
+
+pub returns-else-is_dirty-clause-busy : goal.returns-else-is_dirty-clause-busy
+returns-else-is_dirty-clause-busy g c =
+    let s = c.args.self.now in
+    let items = s.slots.items.items in
+    let u = c.requires.unclean in
+    let same = one_slot items c.args.at u.slot c.get.result.now u.is c.get.ensures in
+    let p = under_way u.slot u.passes (ap is_dirty_slot same ∙ sym c.is_dirty.ensures ∙ c.if-is_dirty.false) in
+    busy_under s.shape.block_size items _ c.args.at p.0 p.1 u.slot s.slots.distinct u.is p.2 p.3 c.requires.ready.tied

@@ -1,0 +1,175 @@
+-- What each call of a cache does at its link, to the disk, and to what would be read back.
+use Rattle.std.specs.Prelude.{◌≡◌, ◌⊎◌, ℕ, ◌+◌, ◌^◌, ◌<◌, ◌≤◌, List, ◌++◌, length, Bool, true, false, Option, Some, None, Result, Ok, Err, if◌then◌else◌}
+use Rattle.message.specs.declared.Incoming.{Incoming}
+use Rattle.marks.specs.Marks.{Mark}
+use Rattle.marks.specs.Disk.{Contents, HasTrueReplies}
+use Rattle.marks.specs.Told.{Told, grown, received, took_end}
+use Rattle.marks.specs.Acts.{Act}
+use Rattle.marks.specs.Opening.{Opening, contents_at}
+use Rattle.reissue.specs.declared.table.Table.{Table}
+use Rattle.reissue.specs.Moves.{DiskState, state_after, put, IsBusy}
+use Rattle.reissue.specs.Entries.{pending_of, AllOfMinor}
+use Rattle.reissue.specs.Agrees.{Agrees}
+use Rattle.reissue.specs.Posts.{HasRoom, OnlyPosts}
+use Rattle.reissue.specs.Rules.{KeepsRulesBy}
+use Rattle.reissue.specs.Calls.{Truth}
+use Rattle.reissue.specs.Transfers.{table_of, link_of, with_link}
+use Rattle.cache.specs.declared.slots.Slot.{Slot}
+use Rattle.cache.specs.declared.slots.Frame.{Frame}
+use Rattle.reissue.specs.declared.transfers.Transfers.{Transfers}
+use Rattle.cache.specs.declared.shape.Shape.{Shape}
+use Rattle.cache.specs.declared.cache.Cache.{Cache}
+use Rattle.cache.specs.declared.refusals.Cut.{Cut}
+use Rattle.cache.specs.declared.refusals.Cut.TheVariants.{Eio, LinkEnded}
+use Rattle.cache.specs.Slots.{held, is_clean}
+use Rattle.cache.specs.Edits.{IsAt, NoneDirty}
+use Rattle.cache.specs.Frames.{Tied, CacheAgrees, view}
+
+-- What is said of a cache.
+pub record Caching : Type 1 where
+  -- the range of the media that its requests name, and the bytes of a block
+  pub minor : ℕ
+  pub size : ℕ
+  -- the slot of each block that has one
+  pub held : ℕ → Option Slot
+  -- its pending requests
+  pub table : Table
+  -- what its link was told and gave, what it guarantees, and how many posts and complaints it can note and messages it can give
+  pub told : List Told
+  pub truth : Truth
+  pub room : ℕ
+  pub budget : ℕ
+  -- a take gave End
+  pub ended : Bool
+
+-- a cache with these parts, over a link of which these are said
+abbrev pub caching_of : {L : Type 0} → (L → List Told) → (L → Truth) → (L → ℕ) → (L → ℕ) → Transfers L → Shape → List Slot → Bool → Caching
+caching_of history truth room budget transfers shape items ended =
+    let link = link_of transfers in
+    record {
+      minor = shape.minor;
+      size = shape.block_size;
+      held = held items;
+      table = table_of transfers;
+      told = history link;
+      truth = truth link;
+      room = room link;
+      budget = budget link;
+      ended = ended;
+    }
+
+-- a cache, over a link of which these are said
+abbrev pub caching : {L : Type 0} → (L → List Told) → (L → Truth) → (L → ℕ) → (L → ℕ) → Cache L → Caching
+caching history truth room budget cache =
+    caching_of history truth room budget cache.transfers cache.shape cache.slots.items.items cache.ended
+
+-- its requests are for its range and one block each, its slots are tied to them, and while the link hasn't ended it has room and ids are left
+pub record IsReady (c : Caching) : Type 0 where
+  pub minors : AllOfMinor c.minor c.table.pending
+  pub tied : Tied c.size c.held (pending_of c.table.pending)
+  pub room : c.ended ≡ false → HasRoom c.table c.room
+  pub ids : c.ended ≡ false → c.table.ids + c.budget + 16 < 2 ^ 60 + length c.table.pending
+
+-- the record after a message that is handed over first, if there is one
+abbrev pub after_message : Option Incoming → List Mark → List Mark
+after_message None marks = marks
+after_message (Some message) marks = received message marks
+
+-- how many messages were handed over
+abbrev pub message_count : Option Incoming → ℕ
+message_count None = 0
+message_count (Some message) = 1
+
+-- A call that leads from one state of a cache to the next, and what it was told at its link. From each record that agrees with the pending
+-- requests it leads to one that agrees, by acts that keep the rules; over true replies the disk before and after are related so.
+pub record Runs (message : Option Incoming) (old new : Caching) (Related : DiskState → DiskState → Type 0) : Type 0 where
+  pub ready : IsReady new
+  pub told : List Told
+  pub history : new.told ≡ told ++ old.told
+  pub minor : new.minor ≡ old.minor
+  pub size : new.size ≡ old.size
+  pub ended : old.ended ≡ true → new.ended ≡ true
+  -- a message spends an id at most
+  pub ids : new.ended ≡ false → new.table.ids + new.budget + length old.table.pending
+      ≤ old.table.ids + old.budget + length new.table.pending + message_count message
+  pub agrees : (marks : List Mark) → Agrees old.table marks → Agrees new.table (grown told (after_message message marks))
+  pub ends : (marks : List Mark) → Agrees old.table marks → old.ended ≡ took_end old.told → new.ended ≡ took_end new.told
+  pub related : (image : Contents) (marks : List Mark) → Agrees old.table marks
+      → HasTrueReplies image (grown told (after_message message marks))
+      → Related (state_after image marks) (state_after image (grown told (after_message message marks)))
+  pub truth : (opening : Opening) (marks : List Mark) → Agrees old.table marks → opening.minor ≡ old.minor
+      → old.truth opening (after_message message marks) → HasTrueReplies (contents_at opening) (after_message message marks)
+      → new.truth opening (grown told (after_message message marks))
+      × HasTrueReplies (contents_at opening) (grown told (after_message message marks))
+  pub rules : (marks : List Mark) → Agrees old.table marks
+      → (acts : List Act) × KeepsRulesBy acts old.minor old.table new.table old.told new.told marks (grown told (after_message message marks))
+
+-- slots and the disk go on agreeing, and what would be read back stays
+pub record Serves (old new : Caching) (w v : DiskState) : Type 0 where
+  pub agrees : CacheAgrees old.size old.held w → CacheAgrees new.size new.held v
+  pub same : CacheAgrees old.size old.held w → view new.size new.held v ≡ view old.size old.held w
+
+-- a call that leaves what would be read back
+abbrev pub Keeps : Caching → Caching → Type 0
+Keeps old new = Runs None old new (λ w v. Serves old new w v)
+
+-- slots and the disk go on agreeing, and of what would be read back the bytes of one block alone change, in this way
+pub record Rewrites (block : ℕ) (change : (ℕ → ℕ) → ℕ → ℕ) (old new : Caching) (w v : DiskState) : Type 0 where
+  pub agrees : CacheAgrees old.size old.held w → CacheAgrees new.size new.held v
+  pub changed : CacheAgrees old.size old.held w
+      → view new.size new.held v ≡ put (view old.size old.held w) block (change (view old.size old.held w block))
+
+-- a call that needed messages: where it was cut what would be read back stays
+abbrev pub Blanks : {X : Type 0} → Result X Cut → ℕ → Caching → Caching → DiskState → DiskState → Type 0
+Blanks (Ok frame) block old new w v = Rewrites block (λ row o. 0) old new w v
+Blanks (Err cut) block old new w v = Serves old new w v
+
+-- a call is cut for want of messages only where a take gave End, else only where the device was given up
+abbrev pub IsWhyCut : Caching → Cut → Type 0
+IsWhyCut c LinkEnded = c.ended ≡ true
+IsWhyCut c Eio = c.table.given_up ≡ true
+
+-- messages may come: no take gave End, and the device isn't given up
+pub record IsLive (c : Caching) : Type 0 where
+  pub not_ended : c.ended ≡ false
+  pub not_given_up : c.table.given_up ≡ false
+
+-- a frame of a cache: its block stands there
+abbrev pub IsFrame : {L : Type 0} → Cache L → Frame → Type 0
+IsFrame cache frame = IsAt cache.slots.items.items frame.at frame.block
+
+-- a clean slot is given up, another one stays
+abbrev pub unless_clean : Option Slot → Option Slot
+unless_clean None = None
+unless_clean (Some s) = if is_clean s.state then None else Some s
+
+-- the slots after a block was forgotten
+abbrev pub forgotten : ℕ → (ℕ → Option Slot) → ℕ → Option Slot
+forgotten block held = put held block (unless_clean (held block))
+
+-- a cache just made over transfers: no frame is in use, and the link hasn't ended
+pub record IsMade (minor size : ℕ) (table : Table) (told : List Told) (c : Caching) : Type 0 where
+  pub minor_is : c.minor ≡ minor
+  pub size_is : c.size ≡ size
+  pub none : (b : ℕ) → c.held b ≡ None
+  pub table_is : c.table ≡ table
+  pub told_is : c.told ≡ told
+  pub not_ended : c.ended ≡ false
+
+-- the link was told nothing but posts: no message was taken
+pub record PostsAlone (old new : Caching) : Type 0 where
+  pub posts : List Told
+  pub history : new.told ≡ posts ++ old.told
+  pub only_posts : OnlyPosts posts
+
+-- no further write can be begun before a message is taken: no frame is dirty, or a request is pending
+pub record IsStuck (c : Caching) : Type 0 where
+  pub why : NoneDirty c.held ⊎ IsBusy (pending_of c.table.pending)
+
+-- a cache over another link
+abbrev pub with_cache_link : {L : Type 0} → Cache L → L → Cache L
+with_cache_link cache link = record cache { transfers = with_link cache.transfers link }
+
+-- a cache for which no flush is wanted
+abbrev pub without_flush : {L : Type 0} → Cache L → Cache L
+without_flush cache = record cache { flush = false }

@@ -1,0 +1,74 @@
+-- What a cache keeps true of its slots, of the pending requests and of the disk, and what would be read back.
+use Rattle.std.specs.Prelude.{◌≡◌, ◌⊎◌, ℕ, ◌+◌, ◌*◌, ◌<◌, ◌-◌, ◌&&◌, nat_lt, nat_le, List, length, take, Option, Some, None, false, if◌then◌else◌, slice_index}
+use Rattle.volume.specs.Reading.{Disk}
+use Rattle.legal.specs.View.{Frames, frame_or}
+use Rattle.reissue.specs.Moves.{DiskState, Begun}
+use Rattle.cache.specs.declared.state.State.TheVariants.{Clean, Writing, Changed}
+use Rattle.cache.specs.declared.slots.Slot.{Slot}
+use Rattle.cache.specs.Slots.{ticket_of}
+
+-- the bytes of the write that is under way are the slot's, unless they were changed since it was issued
+pub record IsUnderWay (size : ℕ) (slot : Slot) (ticket : ℕ) (bytes : List ℕ) : Type 0 where
+  pub state : (slot.state ≡ Changed ticket)
+      ⊎ ((slot.state ≡ Writing ticket) × ((o : ℕ) → o < size → slice_index slot.bytes o ≡ slice_index bytes o))
+
+-- a pending write is of a block that has a slot
+pub record HasSlot (size : ℕ) (held : ℕ → Option Slot) (ticket : ℕ) (r : Begun) (bytes : List ℕ) : Type 0 where
+  pub block : ℕ
+  pub slot : Slot
+  pub holds : held block ≡ Some slot
+  pub start : r.start ≡ block * size
+  pub whole : r.size ≡ size
+  pub way : IsUnderWay size slot ticket bytes
+
+-- a slot whose write is under way has a pending write
+pub record HasWrite (size : ℕ) (pending : ℕ → Option Begun) (block ticket : ℕ) : Type 0 where
+  pub request : Begun
+  pub bytes : List ℕ
+  pub is : pending ticket ≡ Some request
+  pub write : request.written ≡ Some bytes
+  pub start : request.start ≡ block * size
+
+-- the request is for one block
+pub record IsOfBlock (size : ℕ) (r : Begun) : Type 0 where
+  pub block : ℕ
+  pub start : r.start ≡ block * size
+  pub whole : r.size ≡ size
+
+-- slots and pending requests agree: each request is for one block; each write's block has a slot, and each write under way is pending
+pub record Tied (size : ℕ) (held : ℕ → Option Slot) (pending : ℕ → Option Begun) : Type 0 where
+  pub blocks : (t : ℕ) (r : Begun) → pending t ≡ Some r → IsOfBlock size r
+  pub writes : (t : ℕ) (r : Begun) (bytes : List ℕ) → pending t ≡ Some r → r.written ≡ Some bytes → HasSlot size held t r bytes
+  pub issued : (b t : ℕ) (s : Slot) → held b ≡ Some s → ticket_of s.state ≡ Some t → HasWrite size pending b t
+
+-- the disk has this byte there, and is sure of it
+pub record HasSure (w : DiskState) (place byte : ℕ) : Type 0 where
+  pub byte_is : byte ≡ w.disk place
+  pub sure : w.unsure place ≡ false
+
+-- slots and the disk agree: the bytes of a clean slot are the disk's, which is sure of them, and each unsure place lies in a block with a slot
+pub record CacheAgrees (size : ℕ) (held : ℕ → Option Slot) (w : DiskState) : Type 0 where
+  pub clean : (b : ℕ) (s : Slot) → held b ≡ Some s → s.state ≡ Clean → (o : ℕ) → o < size
+      → HasSure w (b * size + o) (slice_index s.bytes o)
+  pub covered : (b : ℕ) → held b ≡ None → (o : ℕ) → o < size → w.unsure (b * size + o) ≡ false
+
+-- the bytes of a slot, a block's length of them
+abbrev pub frame_of : ℕ → Option Slot → Option (List ℕ)
+frame_of size None = None
+frame_of size (Some s) = Some (take size s.bytes)
+
+-- the frames of a cache by their blocks
+abbrev pub frames_of : ℕ → (ℕ → Option Slot) → Frames
+frames_of size held = λ b. frame_of size (held b)
+
+-- a block's bytes on the disk, and 0 past its end
+abbrev pub disk_block : ℕ → DiskState → ℕ → ℕ → ℕ
+disk_block size w b = λ o. if nat_lt o size then w.disk (b * size + o) else 0
+
+-- what would be read back: for each block the bytes of its frame if it has one, else the disk's
+abbrev pub view : ℕ → (ℕ → Option Slot) → DiskState → Disk
+view size held w = λ b. frame_or (frames_of size held b) (disk_block size w b)
+
+-- these bytes from a place on, in a row of bytes
+abbrev pub with_bytes : ℕ → List ℕ → (ℕ → ℕ) → ℕ → ℕ
+with_bytes from bytes row o = if nat_le from o && nat_lt o (from + length bytes) then slice_index bytes (o - from) else row o

@@ -1,0 +1,86 @@
+-- What a message taken does to the frames, and what a block that was read reads as.
+use Rattle.std.specs.Prelude.{◌≡◌, ℕ, ◌+◌, ◌<◌, List, Bool, true, false, Option, Some, None, Result, Ok, Err, slice_index, if◌then◌else◌, ◌==◌}
+use Rattle.reissue.specs.declared.ask.Settled.{Settled}
+use Rattle.reissue.specs.declared.ask.Settled.TheVariants as settled
+use Rattle.reissue.specs.Moves.{DiskState, Begun}
+use Rattle.reissue.specs.Entries.{pending_of}
+use Rattle.cache.specs.declared.slots.Slot.{Slot}
+use Rattle.cache.specs.declared.cache.Took.{Took}
+use Rattle.cache.specs.declared.cache.Took.TheVariants as took
+use Rattle.cache.specs.declared.refusals.Cut.{Cut}
+use Rattle.cache.specs.Edits.{IsWritten}
+use Rattle.cache.specs.Calls.{Caching, Serves}
+
+-- what each message does to the slots
+abbrev pub Settles : Settled → List Slot → List Slot → Type 0
+Settles (settled.Written t) old new = IsWritten t old new
+Settles (settled.Read t bytes) old new = new ≡ old
+Settles settled.Nothing old new = new ≡ old
+Settles settled.Flush old new = new ≡ old
+Settles settled.GaveUp old new = new ≡ old
+Settles settled.End old new = new ≡ old
+
+-- what comes of it
+abbrev pub took_of : Settled → Took
+took_of (settled.Read t bytes) = took.Read t bytes
+took_of (settled.Written t) = took.Nothing
+took_of settled.Nothing = took.Nothing
+took_of settled.Flush = took.Nothing
+took_of settled.GaveUp = took.Nothing
+took_of settled.End = took.Nothing
+
+-- the link gives no message any more
+abbrev pub is_ended_by : Settled → Bool
+is_ended_by settled.End = true
+is_ended_by (settled.Read t bytes) = false
+is_ended_by (settled.Written t) = false
+is_ended_by settled.Nothing = false
+is_ended_by settled.Flush = false
+is_ended_by settled.GaveUp = false
+
+-- how many messages may still come: one more is asked for than the link gives, since it may say that it ended
+abbrev pub messages_left : Caching → ℕ
+messages_left c = if c.ended then 0 else c.budget + 1
+
+-- these bytes are the disk's from the place on, where it is sure
+pub record AreDisk (start size : ℕ) (bytes : List ℕ) (v : DiskState) : Type 0 where
+  pub each : (k : ℕ) → k < size → v.unsure (start + k) ≡ false → slice_index bytes k ≡ v.disk (start + k)
+
+-- the bytes of a settled read are the disk's where it is sure
+abbrev pub ReadTells : Result Took Cut → (ℕ → Option Begun) → DiskState → Type 0
+ReadTells (Ok (took.Read t bytes)) pending v = (r : Begun) → pending t ≡ Some r → AreDisk r.start r.size bytes v
+ReadTells (Ok took.Nothing) pending v = Unit {0}
+ReadTells (Err cut) pending v = Unit {0}
+
+-- what a message taken does
+pub record Takes (result : Result Took Cut) (old new : Caching) (w v : DiskState) : Type 0 where
+  pub serves : Serves old new w v
+  pub tells : ReadTells result (pending_of old.table.pending) v
+
+-- this read was handed out
+abbrev pub is_read_of : Result Took Cut → ℕ → Bool
+is_read_of (Ok (took.Read u bytes)) t = u == t
+is_read_of (Ok took.Nothing) t = false
+is_read_of (Err cut) t = false
+
+-- a pending read stays pending until it is handed out
+pub record ReadsStay (result : Result Took Cut) (pending pending' : ℕ → Option Begun) : Type 0 where
+  pub stays : (t : ℕ) (r : Begun) → pending t ≡ Some r → r.written ≡ None → is_read_of result t ≡ false → pending' t ≡ Some r
+
+-- a read of this range is pending under this ticket
+pub record IsReadAt (pending : ℕ → Option Begun) (ticket start size : ℕ) : Type 0 where
+  pub request : Begun
+  pub is : pending ticket ≡ Some request
+  pub read : request.written ≡ None
+  pub start_is : request.start ≡ start
+  pub size_is : request.size ≡ size
+
+-- the bytes of a range that was read
+abbrev pub BytesOf : Result (List ℕ) Cut → ℕ → ℕ → DiskState → Type 0
+BytesOf (Ok bytes) start size v = AreDisk start size bytes v
+BytesOf (Err cut) start size v = Unit {0}
+
+-- what a read of a range does
+pub record Reads (result : Result (List ℕ) Cut) (start size : ℕ) (old new : Caching) (w v : DiskState) : Type 0 where
+  pub serves : Serves old new w v
+  pub bytes : BytesOf result start size v

@@ -1,0 +1,465 @@
+//! Frames of a volume's blocks, over transfers.
+
+ghost use Rattle.std.specs.Prelude.{◌≡◌, ◌<◌, ◌≤◌, ◌+◌, ◌*◌, ◌-◌, ◌^◌, ℕ, List, [], Option, Some, None, Result, Ok, Err, Bool, true, false, IsTrue, IsErrOf, ◌↔◌, length, take, slice_get, slice_index, IfOk, IfErr, OnOk, OnErr, IfSome, not};
+ghost use Rattle.std.specs.Prelude.{MatchBool};
+ghost use Rattle.std.specs.Bool.{OnTrue, OnFalse};
+ghost use Rattle.std.specs.Borrow.{Lends, sem};
+ghost use Rattle.layout.specs.Places.{is_block_size};
+ghost use Rattle.reissue.specs.Transfers.{table_of, link_of};
+ghost use Rattle.legal.specs.Mount.{is_frame_count};
+ghost use Rattle.reissue.specs.Room.{room_needed};
+ghost use Rattle.reissue.specs.Posts.{is_message, HasRoom};
+ghost use Rattle.reissue.specs.Moves.{IsBusy};
+ghost use Rattle.reissue.specs.Entries.{pending_of};
+ghost use Rattle.cache.specs.Takes.{is_ended_by};
+
+use crate::refusals::{CacheRefusal, Cut};
+use crate::shape::Shape;
+use crate::slots::{Among, Frame, Slots, zeros};
+use crate::state::State;
+use layout::Geometry;
+use message::Incoming;
+use reissue::{Link, Settled, Ticket, Transfers};
+use std::alloc::Global;
+
+/// What came of a message.
+#[derive(Clone, Copy)]
+pub enum Took {
+    /// No read was settled by it.
+    Nothing,
+    /// This read was settled: its bytes.
+    Read(Ticket, [u8; 4096]),
+}
+
+/// A read of a block that isn't settled.
+#[derive(Clone, Copy)]
+struct Reading {
+    block: u32,
+    ticket: Ticket,
+}
+
+/// Frames of a volume's blocks in memory.
+///
+/// A frame reads as its last change, or as the disk where it wasn't changed. A block without a frame is read when it is
+/// fetched. Where no slot is free, the frame used longest ago of those that are the disk's goes; where none is, the one
+/// used longest ago is written and awaited, and then goes. No memory is taken after making.
+#[derive(Drop)]
+pub struct Cache<L> {
+    transfers: Transfers<L>,
+    slots: Slots,
+    shape: Shape,
+    // A take gave End.
+    ended: bool,
+    // A Flush was taken and isn't done.
+    flush: bool,
+}
+
+impl<L: Link> Cache<L> {
+    ghost use Rattle.cache.specs.Slots.{held, is_dirty_slot, is_unclean_slot};
+    ghost use Rattle.cache.specs.Edits.{AllClean, SomeUnclean, IsIssued, IssuesLowest, IsWritten, IsSlotAt, IsFreeAt, IsAt, Leaves};
+    ghost use Rattle.cache.specs.Frames.{frames_of, view, with_bytes};
+    ghost use Rattle.cache.specs.Calls.{caching, IsReady, IsLive, IsWhyCut, IsFrame, IsMade, IsStuck, PostsAlone, Runs, Keeps, Serves, Blanks, Rewrites, forgotten, with_cache_link, without_flush};
+    ghost use Rattle.cache.specs.contracts.cache.Cache.{the_row};
+    ghost use Rattle.cache.specs.declared.slots.Frame.{Frame as FrameValue};
+    ghost use Rattle.cache.specs.Takes.{Settles, took_of, Takes, ReadsStay, IsReadAt, Reads, messages_left};
+
+    /// A cache with so many frames, none of them in use, over transfers with nothing pending: 1 BadFrames unless they are 16 to
+    /// 4096, looked at first; 2 OutOfMemory.
+    pub fn new(
+        alloc: Global,
+        transfers: Transfers<L>,
+        minor: u8,
+        geometry: &Geometry,
+        frames: u32,
+    ) -> Result<Cache<L>, CacheRefusal>
+    where
+        L: Drop,
+        requires block_size { IsTrue (is_block_size geometry.now.block_size) }
+        requires idle { (table_of transfers).pending ≡ [] }
+        requires room { HasRoom (table_of transfers) (L.room (link_of transfers)) }
+        requires ids { (table_of transfers).ids + L.budget_left (link_of transfers) + 16 < 2 ^ 60 }
+        ensures bad_frames { IsErrOf result CacheRefusal.BadFrames ↔ (is_frame_count frames ≡ false) }
+        ensures ready { IfOk result (λ c. IsReady (caching L.history L.truth L.room L.budget_left c)) }
+        ensures made { IfOk result (λ c. IsMade minor geometry.now.block_size (table_of transfers) (L.history (link_of transfers)) (caching L.history L.truth L.room L.budget_left c)) }
+    {
+        if frames < 16 || 4096 < frames {
+            return Err(CacheRefusal::BadFrames);
+        }
+        let slots = match Slots::new(alloc, frames as usize) {
+            Ok(slots) => slots,
+            Err(_) => return Err(CacheRefusal::OutOfMemory),
+        };
+        Ok(Cache {
+            transfers,
+            slots,
+            shape: Shape::new(minor, geometry.block_size),
+            ended: false,
+            flush: false,
+        })
+    }
+
+    /// How many ids were given to requests.
+    pub fn ids(&self) -> u64
+        ensures { result ≡ (caching L.history L.truth L.room L.budget_left self.now).table.ids }
+    {
+        self.transfers.ids()
+    }
+
+    /// The link.
+    pub fn link(&self) -> &L
+        ensures { result.now ≡ link_of self.now.transfers }
+    {
+        self.transfers.link()
+    }
+
+    /// The link, to be changed: all else stays as it is.
+    pub fn link_mut(&mut self) -> &mut L
+        ensures* lends { sem 𝓛 (Lends (the_row L.row) L.row self.entry result (with_cache_link self.entry.now)) }
+        ensures value { result.now ≡ link_of self.old.transfers }
+    {
+        self.transfers.link_mut()
+    }
+
+    /// Whether a Flush was taken that isn't done; from now on it counts as done.
+    pub fn take_flush(&mut self) -> bool
+        ensures wanted { result ≡ self.old.flush }
+        ensures done { self.new ≡ without_flush self.old }
+    {
+        let wanted = self.flush;
+        self.flush = false;
+        wanted
+    }
+
+    /// Whether a message may come, or why not.
+    fn live(&self) -> Result<(), Cut>
+        ensures live { OnOk result (IsLive (caching L.history L.truth L.room L.budget_left self.now)) }
+        ensures cut { IfErr result (λ cut. IsWhyCut (caching L.history L.truth L.room L.budget_left self.now) cut) }
+    {
+        if self.ended {
+            return Err(Cut::LinkEnded);
+        }
+        if self.transfers.is_given_up() {
+            return Err(Cut::Eio);
+        }
+        Ok(())
+    }
+
+    /// The write with this ticket was settled.
+    fn write_settled(&mut self, ticket: Ticket)
+        ensures slots { IsWritten ticket self.old.slots.items.items self.new.slots.items.items }
+        ensures transfers { self.new.transfers ≡ self.old.transfers }
+        ensures shape { self.new.shape ≡ self.old.shape }
+        ensures ended { self.new.ended ≡ self.old.ended }
+    {
+        if let Some(at) = self.slots.find_ticket(ticket) {
+            let state = self.slots.get(at).state;
+            self.slots.set_state(at, state.written());
+        }
+    }
+
+    /// Does with the frames what a message came to.
+    fn settle(&mut self, settled: Settled) -> Took
+        ensures slots { Settles settled self.old.slots.items.items self.new.slots.items.items }
+        ensures took { result ≡ took_of settled }
+        ensures transfers { self.new.transfers ≡ self.old.transfers }
+        ensures shape { self.new.shape ≡ self.old.shape }
+        ensures ended { self.new.ended ≡ self.old.ended }
+    {
+        match settled {
+            Settled::Nothing => Took::Nothing,
+            Settled::Read(ticket, bytes) => Took::Read(ticket, bytes),
+            Settled::Written(ticket) => {
+                self.write_settled(ticket);
+                Took::Nothing
+            }
+            Settled::Flush => {
+                self.flush = true;
+                Took::Nothing
+            }
+            Settled::GaveUp => Took::Nothing,
+            Settled::End => Took::Nothing,
+        }
+    }
+
+    /// Takes a message and does what it asks for; a settled read is handed out.
+    pub fn take(&mut self) -> Result<Took, Cut>
+        requires ready { IsReady (caching L.history L.truth L.room L.budget_left self.old) }
+        requires busy { IsLive (caching L.history L.truth L.room L.budget_left self.old) → IsBusy (pending_of (caching L.history L.truth L.room L.budget_left self.old).table.pending) }
+        ensures runs { Runs None (caching L.history L.truth L.room L.budget_left self.old) (caching L.history L.truth L.room L.budget_left self.new)
+            (λ w v. Takes result (caching L.history L.truth L.room L.budget_left self.old) (caching L.history L.truth L.room L.budget_left self.new) w v) }
+        ensures left { OnOk result (messages_left (caching L.history L.truth L.room L.budget_left self.new) < messages_left (caching L.history L.truth L.room L.budget_left self.old)) }
+        ensures reads { ReadsStay result (pending_of (caching L.history L.truth L.room L.budget_left self.old).table.pending) (pending_of (caching L.history L.truth L.room L.budget_left self.new).table.pending) }
+        ensures leaves { Leaves self.old.slots.items.items self.new.slots.items.items }
+        ensures cut { IfErr result (λ cut. IsWhyCut (caching L.history L.truth L.room L.budget_left self.new) cut) }
+        ensures refused { OnErr result (self.new ≡ self.old) }
+    {
+        self.live()?;
+        let settled = self.transfers.step();
+        self.ended = is_end(&settled);
+        Ok(self.settle(settled))
+    }
+
+    /// Begins the write of a dirty slot; false where it was refused.
+    fn issue(&mut self, at: usize) -> bool
+        requires ready { IsReady (caching L.history L.truth L.room L.budget_left self.old) }
+        requires open { self.old.ended ≡ false }
+        requires dirty { IsSlotAt self.old.slots.items.items at is_dirty_slot }
+        ensures keeps { Keeps (caching L.history L.truth L.room L.budget_left self.old) (caching L.history L.truth L.room L.budget_left self.new) }
+        ensures busy { IsBusy (pending_of (caching L.history L.truth L.room L.budget_left self.new).table.pending) }
+        ensures left { messages_left (caching L.history L.truth L.room L.budget_left self.new) ≤ messages_left (caching L.history L.truth L.room L.budget_left self.old) }
+        ensures leaves { Leaves self.old.slots.items.items self.new.slots.items.items }
+        ensures issued { MatchBool result (IsIssued self.old.slots.items.items at (caching L.history L.truth L.room L.budget_left self.new).held) ((caching L.history L.truth L.room L.budget_left self.new).held ≡ (caching L.history L.truth L.room L.budget_left self.old).held) }
+        ensures posts { PostsAlone (caching L.history L.truth L.room L.budget_left self.old) (caching L.history L.truth L.room L.budget_left self.new) }
+    {
+        let slot = self.slots.get(at);
+        let block = match slot.block {
+            Some(block) => block,
+            None => unreachable!(),
+        };
+        let ask = self.shape.write(block, &slot.bytes);
+        match self.transfers.begin(&ask) {
+            Ok(ticket) => {
+                self.slots.set_state(at, State::Writing(ticket));
+                true
+            }
+            Err(_) => false,
+        }
+    }
+
+    /// Sees to it that a write of a slot is under way, whose bytes may not be the disk's, or that another request is pending.
+    fn write_out(&mut self, at: usize)
+        requires ready { IsReady (caching L.history L.truth L.room L.budget_left self.old) }
+        requires open { self.old.ended ≡ false }
+        requires unclean { IsSlotAt self.old.slots.items.items at is_unclean_slot }
+        ensures keeps { Keeps (caching L.history L.truth L.room L.budget_left self.old) (caching L.history L.truth L.room L.budget_left self.new) }
+        ensures busy { IsBusy (pending_of (caching L.history L.truth L.room L.budget_left self.new).table.pending) }
+        ensures left { messages_left (caching L.history L.truth L.room L.budget_left self.new) ≤ messages_left (caching L.history L.truth L.room L.budget_left self.old) }
+        ensures leaves { Leaves self.old.slots.items.items self.new.slots.items.items }
+    {
+        if self.slots.get(at).is_dirty() {
+            self.issue(at);
+        }
+    }
+
+    /// Waits until the bytes of a slot are the disk's, and has them written if need be.
+    fn clean(&mut self, at: usize) -> Result<(), Cut>
+        requires ready { IsReady (caching L.history L.truth L.room L.budget_left self.old) }
+        requires at { at < length self.old.slots.items.items }
+        ensures keeps { Keeps (caching L.history L.truth L.room L.budget_left self.old) (caching L.history L.truth L.room L.budget_left self.new) }
+        ensures leaves { Leaves self.old.slots.items.items self.new.slots.items.items }
+        ensures clean { OnOk result (IsSlotAt self.new.slots.items.items at (λ s. not (is_unclean_slot s))) }
+        ensures cut { IfErr result (λ cut. IsWhyCut (caching L.history L.truth L.room L.budget_left self.new) cut) }
+    {
+        'tries: loop {
+            if !self.slots.get(at).is_unclean() {
+                return Ok(());
+            }
+            self.live()?;
+            self.write_out(at);
+            self.take()?;
+        }
+    }
+
+    /// Makes a slot free.
+    fn make_room(&mut self) -> Result<usize, Cut>
+        requires ready { IsReady (caching L.history L.truth L.room L.budget_left self.old) }
+        ensures keeps { Keeps (caching L.history L.truth L.room L.budget_left self.old) (caching L.history L.truth L.room L.budget_left self.new) }
+        ensures free { IfOk result (λ at. IsFreeAt self.new.slots.items.items at) }
+        ensures none { (b : ℕ) → held self.old.slots.items.items b ≡ None → held self.new.slots.items.items b ≡ None }
+        ensures cut { IfErr result (λ cut. IsWhyCut (caching L.history L.truth L.room L.budget_left self.new) cut) }
+    {
+        let at = self.slots.victim();
+        self.clean(at)?;
+        self.slots.vacate(at);
+        Ok(at)
+    }
+
+    /// Begins the read of a block; none where it was refused.
+    fn try_read(&mut self, block: u32) -> Option<Reading>
+        requires ready { IsReady (caching L.history L.truth L.room L.budget_left self.old) }
+        requires open { self.old.ended ≡ false }
+        ensures keeps { Keeps (caching L.history L.truth L.room L.budget_left self.old) (caching L.history L.truth L.room L.budget_left self.new) }
+        ensures busy { IsBusy (pending_of (caching L.history L.truth L.room L.budget_left self.new).table.pending) }
+        ensures left { messages_left (caching L.history L.truth L.room L.budget_left self.new) ≤ messages_left (caching L.history L.truth L.room L.budget_left self.old) }
+        ensures slots { self.new.slots ≡ self.old.slots }
+        ensures reading { IfSome result (λ r. (r.block ≡ block) × IsReadAt (pending_of (caching L.history L.truth L.room L.budget_left self.new).table.pending) r.ticket (block * (caching L.history L.truth L.room L.budget_left self.old).size) (caching L.history L.truth L.room L.budget_left self.old).size) }
+    {
+        let ask = self.shape.read(block);
+        match self.transfers.begin(&ask) {
+            Ok(ticket) => Some(Reading { block, ticket }),
+            Err(_) => None,
+        }
+    }
+
+    /// Begins the read of a block, as soon as there is a place for it.
+    fn begin_read(&mut self, block: u32) -> Result<Reading, Cut>
+        requires ready { IsReady (caching L.history L.truth L.room L.budget_left self.old) }
+        ensures keeps { Keeps (caching L.history L.truth L.room L.budget_left self.old) (caching L.history L.truth L.room L.budget_left self.new) }
+        ensures leaves { Leaves self.old.slots.items.items self.new.slots.items.items }
+        ensures reading { IfOk result (λ r. (r.block ≡ block) × IsReadAt (pending_of (caching L.history L.truth L.room L.budget_left self.new).table.pending) r.ticket (block * (caching L.history L.truth L.room L.budget_left self.new).size) (caching L.history L.truth L.room L.budget_left self.new).size) }
+        ensures cut { IfErr result (λ cut. IsWhyCut (caching L.history L.truth L.room L.budget_left self.new) cut) }
+    {
+        'tries: loop {
+            self.live()?;
+            if let Some(reading) = self.try_read(block) {
+                return Ok(reading);
+            }
+            self.take()?;
+        }
+    }
+
+    /// Takes messages until a read is settled.
+    fn wait(&mut self, reading: Reading) -> Result<[u8; 4096], Cut>
+        requires ready { IsReady (caching L.history L.truth L.room L.budget_left self.old) }
+        requires reading { IsReadAt (pending_of (caching L.history L.truth L.room L.budget_left self.old).table.pending) reading.ticket (reading.block * (caching L.history L.truth L.room L.budget_left self.old).size) (caching L.history L.truth L.room L.budget_left self.old).size }
+        ensures runs { Runs None (caching L.history L.truth L.room L.budget_left self.old) (caching L.history L.truth L.room L.budget_left self.new)
+            (λ w v. Reads result (reading.block * (caching L.history L.truth L.room L.budget_left self.old).size) (caching L.history L.truth L.room L.budget_left self.old).size (caching L.history L.truth L.room L.budget_left self.old) (caching L.history L.truth L.room L.budget_left self.new) w v) }
+        ensures leaves { Leaves self.old.slots.items.items self.new.slots.items.items }
+        ensures cut { IfErr result (λ cut. IsWhyCut (caching L.history L.truth L.room L.budget_left self.new) cut) }
+    {
+        'messages: loop {
+            match self.take()? {
+                Took::Nothing => {}
+                Took::Read(settled, bytes) => {
+                    if settled == reading.ticket {
+                        return Ok(bytes);
+                    }
+                }
+            }
+        }
+    }
+
+    /// The bytes of a block without a frame, as they are read.
+    fn read(&mut self, block: u32) -> Result<[u8; 4096], Cut>
+        requires ready { IsReady (caching L.history L.truth L.room L.budget_left self.old) }
+        ensures runs { Runs None (caching L.history L.truth L.room L.budget_left self.old) (caching L.history L.truth L.room L.budget_left self.new) (λ w v. Reads result (block * (caching L.history L.truth L.room L.budget_left self.old).size) (caching L.history L.truth L.room L.budget_left self.old).size (caching L.history L.truth L.room L.budget_left self.old) (caching L.history L.truth L.room L.budget_left self.new) w v) }
+        ensures leaves { Leaves self.old.slots.items.items self.new.slots.items.items }
+        ensures cut { IfErr result (λ cut. IsWhyCut (caching L.history L.truth L.room L.budget_left self.new) cut) }
+    {
+        let reading = self.begin_read(block)?;
+        self.wait(reading)
+    }
+
+    /// The frame of a block, which is read if it has none: what would be read back stays as it is. A cut leaves no frame.
+    pub fn fetch(&mut self, block: u32) -> Result<Frame, Cut>
+        requires ready { IsReady (caching L.history L.truth L.room L.budget_left self.old) }
+        ensures keeps { Keeps (caching L.history L.truth L.room L.budget_left self.old) (caching L.history L.truth L.room L.budget_left self.new) }
+        ensures frame { IfOk result (λ f. (f.block ≡ block) × IsFrame self.new f) }
+        ensures cut { IfErr result (λ cut. IsWhyCut (caching L.history L.truth L.room L.budget_left self.new) cut) }
+    {
+        if let Some(at) = self.slots.find(block) {
+            self.slots.touch(at);
+            return Ok(Frame { block, at });
+        }
+        let at = self.make_room()?;
+        let bytes = self.read(block)?;
+        self.slots.fill(at, block, &bytes, State::Clean);
+        Ok(Frame { block, at })
+    }
+
+    /// The frame of a block with zero bytes in place of its own, which aren't read.
+    pub fn fresh(&mut self, block: u32) -> Result<Frame, Cut>
+        requires ready { IsReady (caching L.history L.truth L.room L.budget_left self.old) }
+        ensures runs { Runs None (caching L.history L.truth L.room L.budget_left self.old) (caching L.history L.truth L.room L.budget_left self.new) (λ w v. Blanks result block (caching L.history L.truth L.room L.budget_left self.old) (caching L.history L.truth L.room L.budget_left self.new) w v) }
+        ensures frame { IfOk result (λ f. (f.block ≡ block) × IsFrame self.new f) }
+        ensures cut { IfErr result (λ cut. IsWhyCut (caching L.history L.truth L.room L.budget_left self.new) cut) }
+    {
+        if let Some(at) = self.slots.find(block) {
+            self.slots.blank(at);
+            return Ok(Frame { block, at });
+        }
+        let at = self.make_room()?;
+        self.slots.fill(at, block, &zeros(), State::Dirty);
+        Ok(Frame { block, at })
+    }
+
+    /// The bytes of a frame, a block's length of them.
+    pub fn frame(&self, frame: Frame) -> &[u8]
+        requires { IsFrame self.now frame }
+        ensures { frames_of (caching L.history L.truth L.room L.budget_left self.now).size (caching L.history L.truth L.room L.budget_left self.now).held frame.block ≡ Some result.now }
+    {
+        &self.slots.get(frame.at).bytes[..self.shape.block_size as usize]
+    }
+
+    /// Changes these bytes of a frame, from this place on, and no others.
+    pub fn change(&mut self, frame: Frame, from: usize, bytes: &[u8])
+        requires ready { IsReady (caching L.history L.truth L.room L.budget_left self.old) }
+        requires frame { IsFrame self.old frame }
+        requires within { from + length bytes.now ≤ (caching L.history L.truth L.room L.budget_left self.old).size }
+        ensures runs { Runs None (caching L.history L.truth L.room L.budget_left self.old) (caching L.history L.truth L.room L.budget_left self.new) (λ w v. Rewrites frame.block (with_bytes from bytes.now) (caching L.history L.truth L.room L.budget_left self.old) (caching L.history L.truth L.room L.budget_left self.new) w v) }
+        ensures frames { (f : FrameValue) → IsFrame self.old f → IsFrame self.new f }
+    {
+        self.slots.change(frame.at, from, bytes);
+    }
+
+    /// Gives up the frame of a block, if its bytes are the disk's.
+    pub fn forget(&mut self, block: u32)
+        requires ready { IsReady (caching L.history L.truth L.room L.budget_left self.old) }
+        ensures keeps { Keeps (caching L.history L.truth L.room L.budget_left self.old) (caching L.history L.truth L.room L.budget_left self.new) }
+        ensures held { (caching L.history L.truth L.room L.budget_left self.new).held ≡ forgotten block (caching L.history L.truth L.room L.budget_left self.old).held }
+    {
+        if let Some(at) = self.slots.find(block) {
+            if self.slots.get(at).state.is_clean() {
+                self.slots.vacate(at);
+            }
+        }
+    }
+
+    /// Begins the write of the dirty frame with the lowest block. No message is taken. False where there is none, or the write was
+    /// refused since too many are under way, or where no message comes any more.
+    pub fn write_lowest(&mut self) -> bool
+        requires ready { IsReady (caching L.history L.truth L.room L.budget_left self.old) }
+        ensures keeps { Keeps (caching L.history L.truth L.room L.budget_left self.old) (caching L.history L.truth L.room L.budget_left self.new) }
+        ensures posts { PostsAlone (caching L.history L.truth L.room L.budget_left self.old) (caching L.history L.truth L.room L.budget_left self.new) }
+        ensures left { messages_left (caching L.history L.truth L.room L.budget_left self.new) ≤ messages_left (caching L.history L.truth L.room L.budget_left self.old) }
+        ensures issued { MatchBool result (IssuesLowest (caching L.history L.truth L.room L.budget_left self.old).held (caching L.history L.truth L.room L.budget_left self.new).held) ((caching L.history L.truth L.room L.budget_left self.new).held ≡ (caching L.history L.truth L.room L.budget_left self.old).held) }
+        ensures busy { OnTrue result (IsBusy (pending_of (caching L.history L.truth L.room L.budget_left self.new).table.pending)) }
+        ensures stuck { OnFalse result (IsLive (caching L.history L.truth L.room L.budget_left self.new) → IsStuck (caching L.history L.truth L.room L.budget_left self.new)) }
+        ensures frames { (f : FrameValue) → IsFrame self.old f → IsFrame self.new f }
+    {
+        if self.live().is_err() {
+            return false;
+        }
+        match self.slots.first(Among::Dirty) {
+            Some(at) => self.issue(at),
+            None => false,
+        }
+    }
+
+    /// Whether the bytes of each frame are the disk's.
+    pub fn is_clean(&self) -> bool
+        ensures clean { OnTrue result (AllClean (caching L.history L.truth L.room L.budget_left self.now).held) }
+        ensures unclean { OnFalse result (SomeUnclean (caching L.history L.truth L.room L.budget_left self.now).held) }
+    {
+        match self.slots.find_unclean() {
+            Some(_) => false,
+            None => true,
+        }
+    }
+
+    /// Does what a message asks for that was handed over between two calls. End changes nothing.
+    pub fn absorb(&mut self, message: Incoming)
+        requires ready { IsReady (caching L.history L.truth L.room L.budget_left self.old) }
+        requires ids { (caching L.history L.truth L.room L.budget_left self.old).table.ids < 2 ^ 60 }
+        requires spare { self.old.ended ≡ false → (caching L.history L.truth L.room L.budget_left self.old).table.ids + (caching L.history L.truth L.room L.budget_left self.old).budget + 17 < 2 ^ 60 + length (caching L.history L.truth L.room L.budget_left self.old).table.pending }
+        requires room { room_needed message ≤ (caching L.history L.truth L.room L.budget_left self.old).room }
+        ensures runs { Runs (Some message) (caching L.history L.truth L.room L.budget_left self.old) (caching L.history L.truth L.room L.budget_left self.new) (λ w v. Serves (caching L.history L.truth L.room L.budget_left self.old) (caching L.history L.truth L.room L.budget_left self.new) w v) }
+    {
+        let settled = self.transfers.absorb(message);
+        self.settle(settled);
+    }
+}
+
+/// Whether the link gives no message any more.
+fn is_end(settled: &Settled) -> bool
+    ensures { result ≡ is_ended_by settled.now }
+{
+    match settled {
+        Settled::End => true,
+        Settled::Nothing => false,
+        Settled::Read(_, _) => false,
+        Settled::Written(_) => false,
+        Settled::Flush => false,
+        Settled::GaveUp => false,
+    }
+}

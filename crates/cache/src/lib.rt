@@ -1,0 +1,14 @@
+//! Frames of a volume's blocks in memory, over transfers.
+#![tactic(auto)]
+
+pub mod cache;
+pub mod laws;
+pub mod refusals;
+pub mod shape;
+pub mod slots;
+pub mod state;
+pub mod uses;
+
+pub use cache::{Cache, Took};
+pub use refusals::{CacheRefusal, Cut};
+pub use slots::Frame;

@@ -1,0 +1,13 @@
+use Rattle.cache.specs.declared.slots.Frame.{Frame}
+use Rattle.cache.specs.Calls.{caching, Keeps, IsFrame}
+use Rattle.cache.specs.Takes.{messages_left}
+use Rattle.flusher.proofs.sync.Given as goal
+
+abbrev pub invariant-messages : goal.invariant-messages
+invariant-messages g l = record {
+  keeps : Keeps (caching g.L.Link.history g.L.Link.truth g.L.Link.room g.L.Link.budget_left l.initial.cache) (caching g.L.Link.history g.L.Link.truth g.L.Link.room g.L.Link.budget_left l.cache);
+  frames : (f : Frame) → IsFrame l.initial.cache f → IsFrame l.cache f;
+}
+
+abbrev pub decreases-messages : goal.decreases-messages
+decreases-messages g l = messages_left (caching g.L.Link.history g.L.Link.truth g.L.Link.room g.L.Link.budget_left l.cache)

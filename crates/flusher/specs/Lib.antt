@@ -1,0 +1,2 @@
+-- Writing back what was changed.
+pub mod Flushing
