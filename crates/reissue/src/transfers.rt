@@ -92,13 +92,6 @@ impl<L: Link> Transfers<L> {
         &self.link
     }
 
-    /// Whether the device was given up.
-    pub fn is_given_up(&self) -> bool
-        ensures { result ≡ (table_of self.now).given_up }
-    {
-        self.table.given_up
-    }
-
     /// The link, to be changed: what is pending stays as it is.
     pub fn link_mut(&mut self) -> &mut L
         ensures* lends { sem 𝓛 (Lends (the_row L.row) L.row self.entry result (with_link self.entry.now)) }
