@@ -1,6 +1,6 @@
 //! A file server over the image of a volume, whose drivers it runs itself.
 
-ghost use Rattle.std.specs.Prelude.{◌≡◌, ◌≢◌, ◌/◌, IfErr, None, [], true, false, All, OnOk, Some, Ok, Err, IfOk, length, map, ℕ};
+ghost use Rattle.std.specs.Prelude.{◌≡◌, ◌≢◌, ◌/◌, IfErr, None, [], true, false, All, OnOk, Some, Ok, Err, IfOk, length, map, reverse as reversed, ℕ};
 ghost use Rattle.std.specs.Bool.{OnTrue};
 ghost use Rattle.std.specs.List.{list_all};
 ghost use Rattle.layout.specs.Places.{geometry_of};
@@ -11,7 +11,7 @@ ghost use Rattle.media.specs.Contents.{sectors_of};
 ghost use Rattle.bdev.specs.Promises.{IsDriver};
 ghost use Rattle.serve.specs.Refusals.{is_ready_for, refusal_in, whole_image, why_no_media, why_not_supplied, why_not_mounted, why_not_started};
 ghost use Rattle.serve.specs.Reader.{Stands};
-ghost use Rattle.serve.specs.Server.{serving, guarantee_of, is_given_up};
+ghost use Rattle.serve.specs.Server.{serving, guarantee_of, is_given_up, line_of};
 ghost use Rattle.marks.specs.Opening.{contents_at};
 ghost use Rattle.legal.specs.Legal.{IsAtFirst};
 ghost use Rattle.tree.specs.Tree.{Tree};
@@ -122,6 +122,9 @@ fn prepare<D: LocalDriver>(
     ensures history { IfOk result (λ r. ⟦<Inline<D> as Link>⟧.history r.0 ≡ []) }
     ensures budget { IfOk result (λ r. ⟦<Inline<D> as Link>⟧.budget_left r.0 ≡ 1099511627776) }
     ensures truth { IfOk result (λ r. ⟦<Inline<D> as Link>⟧.truth r.0 (whole_image image.now) []) }
+    ensures supply { IfOk result (λ r. r.0.drivers.supply.items ≡ reversed supply.items) }
+    ensures none_runs { IfOk result (λ r. r.0.drivers.running ≡ None) }
+    ensures media { IfOk result (λ r. r.0.drivers.media ≡ record { sectors = sectors_of image.now; generation = 0 }) }
 {
     let media = media_of(alloc, image)?;
     check_supply(&supply, media.sectors())?;
@@ -149,6 +152,11 @@ pub fn alone<D: LocalDriver>(
     ensures stands { IfOk result (λ s. (tree : Tree) → IsAtFirst s.geometry (contents_at (whole_image image.now)) tree
         → Stands (serving s) (guarantee_of s) (whole_image image.now) tree []) }
     ensures new { IfOk result (λ s. (s.ended ≡ false) × (is_given_up s ≡ false)) }
+    ensures history { IfOk result (λ s. ⟦<Inline<D> as Link>⟧.history (line_of s) ≡ []) }
+    ensures budget { IfOk result (λ s. ⟦<Inline<D> as Link>⟧.budget_left (line_of s) ≡ 1099511627776) }
+    ensures supply { IfOk result (λ s. (line_of s).drivers.supply.items ≡ reversed supply.items) }
+    ensures none_runs { IfOk result (λ s. (line_of s).drivers.running ≡ None) }
+    ensures media { IfOk result (λ s. (line_of s).drivers.media ≡ record { sectors = sectors_of image.now; generation = 0 }) }
 {
     let (link, geometry) = prepare(alloc, image, supply)?;
     Ok(Server::open(alloc, link, MINOR, geometry)?)

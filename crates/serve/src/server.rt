@@ -1,6 +1,6 @@
 //! A file server for one volume.
 
-ghost use Rattle.std.specs.Prelude.{◌≡◌, ◌≤◌, ◌^◌, ◌↔◌, ◌⊎◌, ℕ, List, [], IfOk, false, true, codes};
+ghost use Rattle.std.specs.Prelude.{◌≡◌, ◌≤◌, ◌<◌, ◌^◌, ◌↔◌, ◌⊎◌, ℕ, List, [], IfOk, false, true, codes};
 ghost use Rattle.layout.specs.Places.{IsGeometry};
 ghost use Rattle.marks.specs.Told.{took_end};
 ghost use Rattle.reissue.specs.Transfers.{link_of, table_of};
@@ -35,6 +35,7 @@ pub struct Server<L: Link> {
 impl<L: Link> Server<L> {
     ghost use Rattle.marks.specs.Opening.{Opening, contents_at};
     ghost use Rattle.tree.specs.Tree.{Tree};
+    ghost use Rattle.tree.specs.declared.Attributes.{Attributes};
     ghost use Rattle.legal.specs.Legal.{IsAtFirst};
     ghost use Rattle.serve.specs.Reader.{Stands};
     ghost use Rattle.inode.specs.Laws.{root_place};
@@ -80,6 +81,7 @@ impl<L: Link> Server<L> {
         ensures eio { (result ≡ Outcome.Reply (Reply.Refused Errno.EIO)) ↔ ((self.new.ended ≡ false) × (is_given_up self.new ≡ true)) }
         ensures einval { (result ≡ Outcome.Reply (Reply.Refused Errno.EINVAL))
             ↔ ((self.old.ended ≡ false) × (is_given_up self.old ≡ false) × (64 ≤ who.session)) }
+        ensures inode { (self.new.ended ≡ false) × (is_given_up self.new ≡ false) × (who.session < 64) → (a : Attributes) × (result ≡ Outcome.Reply (Reply.Inode a)) }
         ensures nothing { ((self.old.ended ≡ true) ⊎ ((is_given_up self.old ≡ true) ⊎ (64 ≤ who.session))) → self.new ≡ self.old }
     {
         if self.ended {
