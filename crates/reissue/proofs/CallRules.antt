@@ -19,7 +19,7 @@ use Rattle.reissue.specs.Entries.{AllOfMinor, request_of, pending_of}
 use Rattle.reissue.specs.Agrees.{Agrees, unposted, never_issued}
 use Rattle.reissue.specs.Hears.{Hears, IsUnanswered}
 use Rattle.reissue.specs.Posts.{PostsInOrder, PostsAfter, accepted_of, complaints_about, due_after, is_message}
-use Rattle.reissue.specs.Rules.{outbox_of, KeepsRulesBy, at_link, all_began, began_on, acts_on}
+use Rattle.reissue.specs.Rules.{outbox_of, KeepsRulesBy, at_link, acts_on}
 use Rattle.reissue.proofs.Order.{append_cancel, drop_push}
 use Rattle.reissue.proofs.Settling.{minors_push}
 use Rattle.reissue.proofs.PostRules.{told_at_link, box, box_same}

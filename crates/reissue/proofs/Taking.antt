@@ -1,5 +1,5 @@
 -- What a client call's mark leaves of agreement with the record.
-use Rattle.std.proofs.Common.{ℕ, List, [], ◌∷◌, ◌++◌, refl}
+use Rattle.std.proofs.Common.{ℕ, List, ◌∷◌, ◌++◌, refl}
 use Rattle.tree.specs.declared.Who.{Who}
 use Rattle.tree.specs.declared.Call.{Call}
 use Rattle.tree.specs.Answers.{Answer}

@@ -25,7 +25,11 @@ pub(crate) fn new_volume(alloc: Global, block: usize) -> Result<Vec<u8>, AllocEr
     let limits = [0xff, 0xff, 0xff, 0x7f, 64, 0, 0, 0, 0x5a, 0x4d, 0, 0, 0];
     put(image.as_mut_slice(), 1024, &sizes);
     put(image.as_mut_slice(), 1040, &limits);
-    put(image.as_mut_slice(), 1053, &[(block / 256) as u8]);
+    put(
+        image.as_mut_slice(),
+        1053,
+        &[u8::try_from(block / 256).unwrap_or(0)],
+    );
     let filled = vec![in alloc; 0xff; block]?;
     for (map, bits) in [
         (2, [3, 0, 0, 0, 0xfe, 0xff, 0xff, 0xff]),

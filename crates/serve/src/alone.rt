@@ -43,6 +43,7 @@ const NO_ROOT: Finding = Finding {
 #[tactic(auto, using(crate::proofs::Starts::many_sectors))]
 fn media_of(alloc: Global, image: &[u8]) -> Result<Media, StartRefusal>
     ensures refusal { IfErr result (λ e. e ≢ StartRefusal.OutOfMemory → why_no_media image.now ≡ Some e) }
+    ensures exact { (e : StartRefusal) → why_no_media image.now ≡ Some e → result ≡ Err e }
     ensures ok { IfOk result (λ m. (why_no_media image.now ≡ None) × (m ≡ record { sectors = sectors_of image.now; generation = 0 })) }
     ensures sectors { IfOk result (λ m. length m.sectors ≡ length image.now / 512) }
 {
@@ -118,13 +119,14 @@ fn prepare<D: LocalDriver>(
     supply: Vec<D>,
 ) -> Result<(Inline<D>, Geometry), StartRefusal>
     ensures refusal { result ≢ Err StartRefusal.OutOfMemory → refusal_in result ≡ why_not_started image.now (map D.state supply.items) }
+    ensures media { (e : StartRefusal) → why_no_media image.now ≡ Some e → result ≡ Err e }
     ensures geometry { IfOk result (λ r. geometry_of image.now ≡ Ok r.1) }
     ensures history { IfOk result (λ r. ⟦<Inline<D> as Link>⟧.history r.0 ≡ []) }
     ensures budget { IfOk result (λ r. ⟦<Inline<D> as Link>⟧.budget_left r.0 ≡ 1099511627776) }
     ensures truth { IfOk result (λ r. ⟦<Inline<D> as Link>⟧.truth r.0 (whole_image image.now) []) }
     ensures supply { IfOk result (λ r. r.0.drivers.supply.items ≡ reversed supply.items) }
     ensures none_runs { IfOk result (λ r. r.0.drivers.running ≡ None) }
-    ensures media { IfOk result (λ r. r.0.drivers.media ≡ record { sectors = sectors_of image.now; generation = 0 }) }
+    ensures on_media { IfOk result (λ r. r.0.drivers.media ≡ record { sectors = sectors_of image.now; generation = 0 }) }
 {
     let media = media_of(alloc, image)?;
     check_supply(&supply, media.sectors())?;
@@ -133,30 +135,32 @@ fn prepare<D: LocalDriver>(
     Ok((link, geometry))
 }
 
-/// A file server over the volume that fills an image, on minor 0 and from its first sector on: no partition table is read. The
-/// drivers are run by the server itself, in their order, each from the start that a message tells of.
+/// A file server over the volume with which an image begins, on minor 0: no partition table is read. It runs the drivers itself,
+/// one at a time, the first one first. Nothing is started yet: that comes with the first message that a call takes.
 ///
 /// It is refused where the image makes no media, where a driver isn't ready for all its sectors, where there is no driver, where
 /// the superblock is refused, and where inode 1 isn't marked or no directory, which is finding 4 at inode 1: the first of these
-/// that holds is answered. It may also be refused for want of memory, whatever else holds. `Partition` doesn't come.
+/// that holds is answered. Where the image makes media, it may also be refused for want of memory, whatever else holds. `Partition`
+/// doesn't come.
 ///
-/// That the rest of the image is a volume isn't looked at. Where it is one, the server stands on the tree that it holds.
+/// Nothing else of the image is looked at. Where it holds a tree, the server stands on that tree.
 pub fn alone<D: LocalDriver>(
     alloc: Global,
     image: &[u8],
     supply: Vec<D>,
 ) -> Result<Server<Inline<D>>, StartRefusal>
     ensures refusal { result ≢ Err StartRefusal.OutOfMemory → refusal_in result ≡ why_not_started image.now (map D.state supply.items) }
+    ensures media { (e : StartRefusal) → why_no_media image.now ≡ Some e → result ≡ Err e }
     ensures geometry { IfOk result (λ s. geometry_of image.now ≡ Ok s.geometry) }
     ensures minor { IfOk result (λ s. s.minor ≡ 0) }
     ensures stands { IfOk result (λ s. (tree : Tree) → IsAtFirst s.geometry (contents_at (whole_image image.now)) tree
         → Stands (serving s) (guarantee_of s) (whole_image image.now) tree []) }
-    ensures new { IfOk result (λ s. (s.ended ≡ false) × (is_given_up s ≡ false)) }
-    ensures history { IfOk result (λ s. ⟦<Inline<D> as Link>⟧.history (line_of s) ≡ []) }
+    ensures told { IfOk result (λ s. ⟦<Inline<D> as Link>⟧.history (line_of s) ≡ []) }
     ensures budget { IfOk result (λ s. ⟦<Inline<D> as Link>⟧.budget_left (line_of s) ≡ 1099511627776) }
     ensures supply { IfOk result (λ s. (line_of s).drivers.supply.items ≡ reversed supply.items) }
     ensures none_runs { IfOk result (λ s. (line_of s).drivers.running ≡ None) }
-    ensures media { IfOk result (λ s. (line_of s).drivers.media ≡ record { sectors = sectors_of image.now; generation = 0 }) }
+    ensures on_media { IfOk result (λ s. (line_of s).drivers.media ≡ record { sectors = sectors_of image.now; generation = 0 }) }
+    ensures new { IfOk result (λ s. (s.ended ≡ false) × (is_given_up s ≡ false)) }
 {
     let (link, geometry) = prepare(alloc, image, supply)?;
     Ok(Server::open(alloc, link, MINOR, geometry)?)

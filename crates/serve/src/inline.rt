@@ -1,6 +1,6 @@
 //! A link that runs the drivers itself, and stores all that it was told and gave.
 
-ghost use Rattle.std.specs.Prelude.{◌≡◌, ◌≢◌, ◌⊎◌, ◌↔◌, ◌≤◌, ◌<◌, ◌+◌, ◌++◌, ◌∷◌, true, false, List, [], length, All, None, Err, slice_index, IfOk, OnOk, OnErr, is_ok, map, reverse as reversed, vec_len, vec_capacity};
+ghost use Rattle.std.specs.Prelude.{◌≡◌, ◌≢◌, ◌⊎◌, ◌↔◌, ◌≤◌, ◌<◌, ◌+◌, ◌++◌, ◌∷◌, true, false, List, [], length, All, None, Err, IfOk, OnOk, OnErr, is_ok, map, reverse as reversed, slice_index, vec_len, vec_capacity};
 ghost use Rattle.std.specs.Option.{option_map, option_to_list};
 ghost use Rattle.endpoint.specs.declared.Endpoint.{Endpoint};
 ghost use Rattle.marks.specs.Marks.{Mark, Issued};
@@ -141,8 +141,9 @@ impl<D: LocalDriver> Link for Inline<D> {
             (IsOver self.old.notes.ended self.old.drivers.given_up self.old.drivers.budget (vec_capacity self.old.notes.items) (vec_len self.old.notes.items)) result
             (record { driver = option_map D.state self.new.drivers.running; line = self.new.drivers.line.items; media = self.new.drivers.media; budget = self.new.drivers.budget }) }
         ensures over { (self.old.notes.ended ≡ true) ⊎ (self.old.drivers.given_up ≡ true) → result ≡ Incoming.End }
-        ensures gave_up { result ≡ Incoming.GaveUp → self.new.drivers.given_up ≡ true }
-        ensures none_left { result ≡ Incoming.GaveUp → (self.old.drivers.supply.items ≡ []) ⊎ (slice_index self.old.drivers.slots 1 ≡ 4294967295) }
+        ensures gave_up { result ≡ Incoming.GaveUp → (self.new.drivers.given_up ≡ true)
+            × ((self.old.drivers.supply.items ≡ []) ⊎ (slice_index self.old.drivers.slots 1 ≡ 4294967295)) }
+        ensures started { (e : Endpoint) → result ≡ Incoming.Started e → self.new.drivers.endpoint ≡ e }
         ensures next { (e : Endpoint) → result ≡ Incoming.Started e
             → self.old.drivers.supply.items ≡ self.new.drivers.supply.items ++ option_to_list self.new.drivers.running }
     {
