@@ -1,8 +1,9 @@
 //! Drivers that die, hang or answer wrongly in the middle of a read.
-use crate::volumes::{ROOT, new_volume, play_with};
+use crate::volumes::{ROOT, new_volume, play_over, play_with};
 use endpoint::{SlotRefusal, Slots};
 use errno::Errno;
-use modeldisk::FaultKind;
+use modeldisk::{Fault, FaultKind, Inner, RamDriver, ScriptedDriver};
+use partition::Table;
 use std::test::Fail;
 
 const TWICE: &[u8] = b"user 0 0\n100 stat /\n101 stat /\n";
@@ -32,6 +33,28 @@ fn replies_outlive_drivers(rt: HostRuntime) -> Result<(), Fail> {
         assert_eq!(rt; played.status, if answers { 0 } else { 3 });
         assert_eq!(rt; played.err.as_str(), "");
     }
+    Ok(())
+}
+
+/// A call makes one request, and each call reads anew: a driver that dies in its second request serves one call.
+#[test]
+fn each_call_asks_once(rt: HostRuntime) -> Result<(), Fail> {
+    let alloc = rt.alloc();
+    let image = new_volume(alloc, 1024)?;
+    let dies = Fault {
+        request: 2,
+        after: 0,
+        kind: FaultKind::Die,
+    };
+    let mut script = Vec::new(alloc);
+    script.push(dies)?;
+    let mut supply = Vec::new(alloc);
+    let inner = Inner::Ram(RamDriver::new(Table::whole(128)));
+    supply.push(ScriptedDriver::new(inner, script))?;
+    let played = play_over(alloc, image.as_slice(), TWICE, supply)?;
+    let text = format!(in alloc; "session 0\n{ROOT}EIO\n")?;
+    assert_eq!(rt; played.out.as_str(), text.as_str());
+    assert_eq!(rt; played.status, 3);
     Ok(())
 }
 

@@ -163,3 +163,25 @@ fn a_writer_fails(rt: HostRuntime) -> Result<(), Fail> {
     }
     Ok(())
 }
+
+#[test]
+fn a_refusal_is_cut_off(rt: HostRuntime) -> Result<(), Fail> {
+    let alloc = rt.alloc();
+    let mut space = [0u8; 3];
+    let mut err: &mut [u8] = &mut space;
+    let mut out = Vec::new(alloc);
+    let image = File {
+        name: "v.img",
+        bytes: None,
+    };
+    let script = File {
+        name: "s.txt",
+        bytes: Some(STAT),
+    };
+    let supply = supply_of(alloc, 128, &[None])?;
+    let status = play(alloc, image, script, supply, &mut out, &mut err);
+    assert_eq!(rt; status.number(), 1);
+    assert_eq!(rt; out.as_slice(), b"".as_slice());
+    assert_eq!(rt; space, *b"can");
+    Ok(())
+}

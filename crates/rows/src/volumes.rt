@@ -97,7 +97,7 @@ pub(crate) fn supply_of(
     Ok(supply)
 }
 
-/// Plays a script on an image with these drivers.
+/// Plays a script on an image with drivers that have these faults.
 pub(crate) fn play_with(
     alloc: Global,
     image: &[u8],
@@ -105,6 +105,16 @@ pub(crate) fn play_with(
     faults: &[Option<(u32, FaultKind)>],
 ) -> Result<Played, Fail> {
     let supply = supply_of(alloc, image.len() / 512, faults)?;
+    play_over(alloc, image, script, supply)
+}
+
+/// Plays a script on an image with these drivers.
+pub(crate) fn play_over(
+    alloc: Global,
+    image: &[u8],
+    script: &[u8],
+    supply: Vec<ScriptedDriver>,
+) -> Result<Played, Fail> {
     let (mut out, mut err) = (Vec::new(alloc), Vec::new(alloc));
     let image = File {
         name: "v.img",

@@ -8,3 +8,4 @@ pub mod NotesLaws
 pub mod LinkLaws
 pub mod ReadLaws
 pub mod ServerLaws
+pub mod MediaLaws

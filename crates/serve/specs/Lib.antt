@@ -8,3 +8,4 @@ pub mod Refusals
 pub mod Reader
 pub mod Reading
 pub mod Server
+pub mod Laws

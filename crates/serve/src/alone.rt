@@ -125,6 +125,8 @@ fn prepare<D: LocalDriver>(
     ensures budget { IfOk result (λ r. ⟦<Inline<D> as Link>⟧.budget_left r.0 ≡ 1099511627776) }
     ensures truth { IfOk result (λ r. ⟦<Inline<D> as Link>⟧.truth r.0 (whole_image image.now) []) }
     ensures supply { IfOk result (λ r. r.0.drivers.supply.items ≡ reversed supply.items) }
+    ensures none_runs { IfOk result (λ r. r.0.drivers.running ≡ None) }
+    ensures on_media { IfOk result (λ r. r.0.drivers.media ≡ record { sectors = sectors_of image.now; generation = 0 }) }
 {
     let media = media_of(alloc, image)?;
     check_supply(&supply, media.sectors())?;
@@ -156,6 +158,8 @@ pub fn alone<D: LocalDriver>(
     ensures told { IfOk result (λ s. ⟦<Inline<D> as Link>⟧.history (line_of s) ≡ []) }
     ensures budget { IfOk result (λ s. ⟦<Inline<D> as Link>⟧.budget_left (line_of s) ≡ 1099511627776) }
     ensures supply { IfOk result (λ s. (line_of s).drivers.supply.items ≡ reversed supply.items) }
+    ensures none_runs { IfOk result (λ s. (line_of s).drivers.running ≡ None) }
+    ensures on_media { IfOk result (λ s. (line_of s).drivers.media ≡ record { sectors = sectors_of image.now; generation = 0 }) }
     ensures new { IfOk result (λ s. (s.ended ≡ false) × (is_given_up s ≡ false)) }
 {
     let (link, geometry) = prepare(alloc, image, supply)?;

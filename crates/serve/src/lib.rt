@@ -4,6 +4,7 @@
 pub mod alone;
 mod drivers;
 pub mod inline;
+pub mod laws;
 pub mod local;
 mod note;
 mod reading;
