@@ -6,7 +6,7 @@ use Rattle.marks.specs.Marks.{Mark, Answered}
 use Rattle.marks.specs.Open.{counts}
 use Rattle.marks.specs.Disk.{Contents, HasTrueReplies}
 use Rattle.marks.specs.Told.{Told, Posted, Complained, Received, grown, received, heard, took_end}
-use Rattle.marks.specs.Acts.{Act, Outbox, KeepsRules, told_of, marks_after, outbox_after}
+use Rattle.marks.specs.Acts.{Act, Absorbed, Outbox, KeepsRules, told_of, marks_after, outbox_after}
 use Rattle.marks.specs.Opening.{contents_at}
 use Rattle.marks.proofs.ActLaws.{acts_compose}
 use Rattle.reissue.specs.declared.ask.Ask.{Ask}
@@ -17,7 +17,7 @@ use Rattle.reissue.specs.Moves.{DiskState, Spares, Moves, state_after, IsBusy}
 use Rattle.reissue.specs.Entries.{pending_of, AllOfMinor}
 use Rattle.reissue.specs.Agrees.{Agrees}
 use Rattle.reissue.specs.Posts.{OnlyPosts, complaints_about, due_after}
-use Rattle.reissue.specs.Rules.{KeepsRulesBy, outbox_of}
+use Rattle.reissue.specs.Rules.{KeepsRulesBy, acts_on, outbox_of}
 use Rattle.endpoint.specs.declared.Endpoint.{Endpoint}
 use Rattle.reissue.specs.Calls.{Begins, Steps, Absorbs, IsAnswerTo, IsOfReply}
 use Rattle.reissue.proofs.Joining.{grown_append, true_after}
@@ -214,7 +214,7 @@ begin_runs ask old new R x ready minors minor same_minor same_size ended budget 
     x.truth opening marks k (minor ∙ sym e) (subst (λ (n : ℕ). AllOfMinor n old.table.pending) (sym e) minors) was,
     true_after x.posts (contents_at opening) marks x.only_posts tr,
   );
-  rules = λ marks k. x.rules old.minor marks k minors minor;
+  rules = λ marks k. (x.acts, x.rules old.minor marks k minors minor);
 }
 
 -- ---- a message is taken, as a call
@@ -263,7 +263,7 @@ step_runs res old new R x ready minors busy going same_minor same_size alive end
       (x.truth opening marks k (subst (λ (n : ℕ). AllOfMinor n old.table.pending) (sym e) minors) was);
   rules = λ marks k.
       subst (λ (ms : List Mark). (acts : List Act) × KeepsRulesBy acts old.minor old.table new.table old.told new.told marks ms) (sym (all marks k))
-      (x.rules old.minor marks k minors busy going);
+      (x.acts, x.rules old.minor marks k minors busy going);
 }
   where
     more : (b : Bool) × (heard x.message old.told ≡ news b x.message ++ old.told) × ((marks : List Mark) → grown (news b x.message) marks ≡ received x.message marks)
@@ -330,7 +330,7 @@ absorb_runs m res old new R x ready minors same_minor same_size ended budget ids
       );
   rules = λ marks k.
       subst (λ (ms : List Mark). (acts : List Act) × KeepsRulesBy acts old.minor old.table new.table old.told new.told marks ms) (sym (all marks))
-      (x.rules old.minor marks k minors);
+      (acts_on x.posts old.table x.mid x.complaints (Absorbed m ∷ []), x.rules old.minor marks k minors);
 }
   where
     told : List Told
