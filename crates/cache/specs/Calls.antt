@@ -147,13 +147,11 @@ unless_clean (Some s) = if is_clean s.state then None else Some s
 abbrev pub forgotten : ℕ → (ℕ → Option Slot) → ℕ → Option Slot
 forgotten block held = put held block (unless_clean (held block))
 
--- a cache just made over transfers: no frame is in use, and the link hasn't ended
-pub record IsMade (minor size : ℕ) (table : Table) (told : List Told) (c : Caching) : Type 0 where
+-- a cache just made: no frame is in use, and the link hasn't ended
+pub record IsMade (minor size : ℕ) (c : Caching) : Type 0 where
   pub minor_is : c.minor ≡ minor
   pub size_is : c.size ≡ size
   pub none : (b : ℕ) → c.held b ≡ None
-  pub table_is : c.table ≡ table
-  pub told_is : c.told ≡ told
   pub not_ended : c.ended ≡ false
 
 -- the link was told nothing but posts: no message was taken

@@ -79,8 +79,9 @@ impl<L: Link> Cache<L> {
         requires room { HasRoom (table_of transfers) (L.room (link_of transfers)) }
         requires ids { (table_of transfers).ids + L.budget_left (link_of transfers) + 16 < 2 ^ 60 }
         ensures bad_frames { IsErrOf result CacheRefusal.BadFrames ↔ (is_frame_count frames ≡ false) }
+        ensures over { IfOk result (λ c. c.transfers ≡ transfers) }
         ensures ready { IfOk result (λ c. IsReady (caching L.history L.truth L.room L.budget_left c)) }
-        ensures made { IfOk result (λ c. IsMade minor geometry.now.block_size (table_of transfers) (L.history (link_of transfers)) (caching L.history L.truth L.room L.budget_left c)) }
+        ensures made { IfOk result (λ c. IsMade minor geometry.now.block_size (caching L.history L.truth L.room L.budget_left c)) }
     {
         if frames < 16 || 4096 < frames {
             return Err(CacheRefusal::BadFrames);

@@ -74,6 +74,16 @@ impl Slot {
         self.block.is_some() && !self.state.is_clean()
     }
 
+    /// Its block, if its bytes were changed and no write of it is under way.
+    pub fn dirty_block(&self) -> Option<u64>
+        ensures { result ≡ (if is_dirty self.now.state then self.now.block else None) }
+    {
+        match self.block {
+            Some(block) if self.state.is_dirty() => Some(block as u64),
+            _ => None,
+        }
+    }
+
     /// Changes these bytes from this place on.
     pub fn change(&mut self, from: usize, bytes: &[u8])
         requires { from + length bytes.now ≤ 4096 }
@@ -108,6 +118,13 @@ pub struct Slots {
     pub ghost distinct: { IsDistinct items.items },
     pub ghost some: { 0 < length items.items },
     pub ghost paired: { length uses.numbers.items ≡ length items.items },
+}
+
+/// The number of a slot's last use, unless the slot is left out.
+fn used_unless(left_out: bool, used: u64) -> Option<u64>
+    ensures { result ≡ (if left_out then None else Some used) }
+{
+    if left_out { None } else { Some(used) }
 }
 
 impl Slots {
@@ -161,18 +178,9 @@ impl Slots {
         let slot = &self.items[at];
         let used = self.uses.numbers[at];
         match among {
-            Among::Clean => { if slot.is_unclean() { None } else { Some(used) } }
+            Among::Clean => used_unless(slot.is_unclean(), used),
             Among::All => Some(used),
-            Among::Dirty => match slot.block {
-                Some(block) => {
-                    if slot.state.is_dirty() {
-                        Some(block as u64)
-                    } else {
-                        None
-                    }
-                }
-                None => None,
-            },
+            Among::Dirty => slot.dirty_block(),
         }
     }
 
