@@ -16,8 +16,8 @@ ghost use Rattle.marks.specs.Opening.{contents_at};
 ghost use Rattle.legal.specs.Legal.{IsAtFirst};
 ghost use Rattle.tree.specs.Tree.{Tree};
 
-use crate::inline::Inline;
-use crate::local::LocalDriver;
+use inline::Inline;
+use inline::local::LocalDriver;
 use crate::refusal::{MountRefusal, StartRefusal};
 use crate::server::Server;
 use layout::{Geometry, u16_at};
