@@ -1,7 +1,7 @@
 //! Why a file server isn't started.
 
 ghost use Rattle.std.specs.Prelude.{◌≡◌};
-ghost use Rattle.serve.specs.Refusals.{mount_refusal_number, start_refusal_number};
+ghost use Rattle.startup.specs.Refusals.{mount_refusal_number, start_refusal_number};
 
 use layout::LayoutRefusal;
 use media::MediaRefusal;
@@ -42,10 +42,13 @@ pub enum StartRefusal {
     /// The media's partition table is refused.
     #[error("Partition {0}")]
     Partition(PartitionRefusal),
+    /// The media have no partition of this minor, or it isn't of MINIX's type.
+    #[error("Partition")]
+    NoPartition,
     /// The volume is refused.
     #[error("Mount {0}")]
     Mount(MountRefusal),
-    /// Some driver isn't ready for the range of the media that the volume lies in.
+    /// A number of the setup isn't in its range, or some driver isn't ready for the range of the media that the volume lies in.
     #[error("BadSetup")]
     BadSetup,
     /// There is no driver.
@@ -64,6 +67,7 @@ impl StartRefusal {
         match self {
             StartRefusal::Media(_) => 1,
             StartRefusal::Partition(_) => 2,
+            StartRefusal::NoPartition => 2,
             StartRefusal::Mount(_) => 3,
             StartRefusal::BadSetup => 4,
             StartRefusal::NoDriver => 5,
@@ -73,11 +77,31 @@ impl StartRefusal {
 }
 
 impl From<AllocError> for StartRefusal {
-    ghost use Rattle.serve.specs.declared.refusal.StartRefusal.TheVariants.{OutOfMemory};
+    ghost use Rattle.startup.specs.declared.refusal.StartRefusal.TheVariants.{OutOfMemory};
 
     ghost from_gives = { λ _ e. e ≡ OutOfMemory };
 
     fn from(_error: AllocError) -> StartRefusal {
         StartRefusal::OutOfMemory
+    }
+}
+
+impl From<MountRefusal> for StartRefusal {
+    ghost use Rattle.startup.specs.declared.refusal.StartRefusal.TheVariants.{Mount};
+
+    ghost from_gives = { λ refusal e. e ≡ Mount refusal };
+
+    fn from(refusal: MountRefusal) -> StartRefusal {
+        StartRefusal::Mount(refusal)
+    }
+}
+
+impl From<PartitionRefusal> for StartRefusal {
+    ghost use Rattle.startup.specs.declared.refusal.StartRefusal.TheVariants.{Partition};
+
+    ghost from_gives = { λ refusal e. e ≡ Partition refusal };
+
+    fn from(refusal: PartitionRefusal) -> StartRefusal {
+        StartRefusal::Partition(refusal)
     }
 }

@@ -1,0 +1,2 @@
+pub mod RootLaws
+pub mod Starts

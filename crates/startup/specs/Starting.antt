@@ -1,0 +1,111 @@
+-- When a server starts on an image with some drivers, and when it is refused.
+use Rattle.std.specs.Prelude.{◌≡◌, ◌≢◌, ◌≤◌, ℕ, zero, suc, ◌%◌, Bool, not, ◌==◌, ◌&&◌, nat_lt, true, List, [], ◌∷◌, length, Option, Some, None, ok_or, Result, Ok, Err, if◌then◌else◌}
+use Rattle.std.specs.List.{list_all}
+use Rattle.std.specs.Option.{option_eq}
+use Rattle.layout.specs.declared.Geometry.{Geometry}
+use Rattle.layout.specs.Places.{geometry_of}
+use Rattle.volume.specs.Reading.{disk_of}
+use Rattle.volume.specs.Pieces.{pieces}
+use Rattle.volume.specs.Findings.{lacks_root}
+use Rattle.marks.specs.Opening.{Opening, volume_bytes}
+use Rattle.media.specs.Contents.{MediaState, sectors_of}
+use Rattle.media.specs.declared.MediaRefusal.TheVariants.{NotWholeSectors, TooLarge}
+use Rattle.bdev.specs.DriverState.{DriverState, range_while_fresh}
+use Rattle.partition.specs.declared.PartitionRefusal.{PartitionRefusal}
+use Rattle.partition.specs.declared.PartitionRefusal.TheVariants.{NoSignature}
+use Rattle.partition.specs.Table.{TableState, kind_at, range_at}
+use Rattle.partition.specs.Refusals.{table_of}
+use Rattle.policy.specs.declared.Setup.{Setup}
+use Rattle.policy.specs.Policy.{IsAllowed}
+use Rattle.inline.specs.Inline.{IsReady}
+use Rattle.startup.specs.declared.refusal.MountRefusal.{MountRefusal}
+use Rattle.startup.specs.declared.refusal.MountRefusal.TheVariants.{Layout, Inconsistent}
+use Rattle.startup.specs.declared.refusal.StartRefusal.{StartRefusal}
+use Rattle.startup.specs.declared.refusal.StartRefusal.TheVariants.{Media, Partition, NoPartition, Mount, BadSetup, NoDriver, OutOfMemory}
+
+-- the volume lies in these sectors of the media that hold the image, as this minor
+abbrev pub opening_of : List ℕ → ℕ → ℕ × ℕ → Opening
+opening_of image minor range = record { media = image; first = range.0; count = range.1; minor = minor }
+
+-- the bytes of the volume in these sectors of the image
+abbrev pub bytes_of : List ℕ → ℕ × ℕ → List ℕ
+bytes_of image range = volume_bytes (record { first = range.0; count = range.1 }) image
+
+-- the range of a partition of MINIX's type, 0x81
+abbrev pub partition_at : TableState → ℕ → Result (ℕ × ℕ) StartRefusal
+partition_at t minor = if option_eq (λ a b. a == b) (kind_at t minor) (Some 129) then ok_or (range_at t minor) NoPartition else Err NoPartition
+
+-- the same, where the table isn't refused
+abbrev pub partition_or : Result TableState PartitionRefusal → ℕ → Result (ℕ × ℕ) StartRefusal
+partition_or (Err refusal) minor = Err (Partition refusal)
+partition_or (Ok t) minor = partition_at t minor
+
+-- the same, by the table in the first of so many sectors
+abbrev pub partition_in : List ℕ → ℕ → ℕ → Result (ℕ × ℕ) StartRefusal
+partition_in first sectors minor = partition_or (table_of first sectors) minor
+
+-- where a volume lies: minor 0 is all of the media, and another one a partition
+abbrev pub place_in : List (List ℕ) → ℕ → Result (ℕ × ℕ) StartRefusal
+place_in sectors zero = Ok (0, length sectors)
+place_in [] (suc m) = Err (Partition NoSignature)
+place_in (first ∷ rest) (suc m) = partition_in first (length (first ∷ rest)) (suc m)
+
+-- whether these sectors are those
+abbrev pub is_same_range : Option (ℕ × ℕ) → Option (ℕ × ℕ) → Bool
+is_same_range a b = option_eq (λ x y. (x.0 == y.0) && (x.1 == y.1)) a b
+
+-- a driver that took nothing and didn't fail serves this range as this minor
+abbrev pub is_ready_for : ℕ → ℕ × ℕ → DriverState → Bool
+is_ready_for minor range d = is_same_range (range_while_fresh d minor) (Some range)
+
+-- why an image makes no media
+abbrev pub why_no_media : List ℕ → Option StartRefusal
+why_no_media image =
+    if not (length image % 512 == 0) then Some (Media NotWholeSectors) else
+    if nat_lt 67108864 (length image) then Some (Media TooLarge) else None
+
+-- a cache holds 16 to 4096 blocks, and the policy is an allowed one
+abbrev pub IsInRanges : Setup → Type 0
+IsInRanges setup = (16 ≤ setup.frames) × (setup.frames ≤ 4096) × IsAllowed setup.policy
+
+-- the setup's numbers are in their ranges, and each driver serves the volume's range
+abbrev pub IsWellSetUp : Setup → ℕ × ℕ → List DriverState → Type 0
+IsWellSetUp setup range supply = IsInRanges setup × (list_all (is_ready_for setup.minor range) supply ≡ true)
+
+-- why that isn't so, or no driver is there
+abbrev pub IsNotSetUp : Setup → ℕ × ℕ → List DriverState → StartRefusal → Type 0
+IsNotSetUp setup range supply BadSetup = ¬ (IsWellSetUp setup range supply)
+IsNotSetUp setup range supply NoDriver = IsWellSetUp setup range supply × (supply ≡ [])
+IsNotSetUp setup range supply _ = ⊥
+
+-- why a volume isn't served: its layout, or finding 4 at inode 1, that there is no root
+abbrev pub why_not_mounted : List ℕ → Option MountRefusal
+why_not_mounted image = elim (geometry_of image) [
+  | Err refusal ↦ Some (Layout refusal)
+  | Ok g ↦ if lacks_root g (pieces g (disk_of g image)) 1 then Some (Inconsistent (record { number = 4; place = 1 })) else None
+]
+
+-- the image makes media, and the volume lies in these sectors of them
+abbrev pub HasPlace : List ℕ → ℕ → ℕ × ℕ → Type 0
+HasPlace image minor range = (why_no_media image ≡ None) × (place_in (sectors_of image) minor ≡ Ok range)
+
+-- why a server isn't started, the first reason that holds; for want of memory it may be refused wherever the image makes media
+abbrev pub IsRefused : List ℕ → Setup → List DriverState → StartRefusal → Type 0
+IsRefused image setup supply (Media refusal) = why_no_media image ≡ Some (Media refusal)
+IsRefused image setup supply (Partition refusal) = (why_no_media image ≡ None) × (place_in (sectors_of image) setup.minor ≡ Err (Partition refusal))
+IsRefused image setup supply NoPartition = (why_no_media image ≡ None) × (place_in (sectors_of image) setup.minor ≡ Err NoPartition)
+IsRefused image setup supply BadSetup = (range : ℕ × ℕ) × HasPlace image setup.minor range × IsNotSetUp setup range supply BadSetup
+IsRefused image setup supply NoDriver = (range : ℕ × ℕ) × HasPlace image setup.minor range × IsNotSetUp setup range supply NoDriver
+IsRefused image setup supply (Mount refusal) =
+    (range : ℕ × ℕ) × HasPlace image setup.minor range × IsWellSetUp setup range supply × (supply ≢ [])
+    × (why_not_mounted (bytes_of image range) ≡ Some refusal)
+IsRefused image setup supply OutOfMemory = why_no_media image ≡ None
+
+-- what a server starts on: its media, and where the volume of these sizes lies, for which there are drivers, all ready
+pub record IsPreparedFor (image : List ℕ) (setup : Setup) (supply : List DriverState) (media : MediaState) (g : Geometry) (range : ℕ × ℕ) : Type 0 where
+  pub place : HasPlace image setup.minor range
+  pub media_is : media ≡ record { sectors = sectors_of image; generation = 0 }
+  pub set_up : IsWellSetUp setup range supply
+  pub some : supply ≢ []
+  pub geometry : geometry_of (bytes_of image range) ≡ Ok g
+  pub mounted : why_not_mounted (bytes_of image range) ≡ None

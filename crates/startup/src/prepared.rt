@@ -1,0 +1,197 @@
+//! The volume in an image, and drivers that are ready for it.
+
+ghost use Rattle.std.specs.Prelude.{◌≡◌, ◌≢◌, ◌↔◌, ◌/◌, ◌+◌, ◌≤◌, [], IfErr, IfOk, OnOk, IsTrue, None, Some, Ok, Err, All, length, map};
+ghost use Rattle.std.specs.Bool.{OnTrue};
+ghost use Rattle.std.specs.List.{list_all};
+ghost use Rattle.layout.specs.Places.{geometry_of, IsGeometry};
+ghost use Rattle.volume.specs.Entries.{is_directory_inode};
+ghost use Rattle.volume.specs.Pieces.{pieces};
+ghost use Rattle.volume.specs.Reading.{disk_of};
+ghost use Rattle.media.specs.Contents.{sectors_of};
+ghost use Rattle.bdev.specs.Promises.{IsDriver};
+ghost use Rattle.inline.specs.Inline.{IsReady};
+ghost use Rattle.true_replies.specs.Events.{IsOnMedia};
+ghost use Rattle.startup.specs.Starting.{bytes_of, opening_of, partition_in, place_in as place_by, is_ready_for, IsInRanges, why_no_media, why_not_mounted, IsNotSetUp, IsWellSetUp, IsRefused, IsPreparedFor};
+
+use crate::refusal::{MountRefusal, StartRefusal};
+use inline::local::LocalDriver;
+use layout::{Geometry, u16_at};
+use media::{Media, MediaRefusal, SECTOR};
+use partition::{PartitionRefusal, parse};
+use policy::Setup;
+use std::alloc::Global;
+use volume::Finding;
+
+/// The type of MINIX's partitions.
+const MINIX: u8 = 0x81;
+
+/// The type of directories, in the four highest bits of a mode.
+const DIRECTORY: u16 = 4;
+
+/// No inode is marked as the root, or it is no directory.
+const NO_ROOT: Finding = Finding {
+    number: 4,
+    place: 1,
+};
+
+/// What a server starts on: media on which no driver was started, and the volume that lies on them.
+#[derive(Drop)]
+pub struct Prepared {
+    /// All the image's sectors.
+    pub media: Media,
+    /// The volume's sizes, by its superblock.
+    pub geometry: Geometry,
+    /// The volume's first sector, and how many sectors its range has.
+    pub range: (u32, u32),
+}
+
+/// The media that hold an image.
+#[tactic(auto, using(crate::proofs::Starts::many_sectors))]
+fn media_of(alloc: Global, image: &[u8]) -> Result<Media, StartRefusal>
+    ensures refusal { IfErr result (λ e. e ≢ StartRefusal.OutOfMemory → why_no_media image.now ≡ Some e) }
+    ensures exact { (e : StartRefusal) → why_no_media image.now ≡ Some e → result ≡ Err e }
+    ensures ok { IfOk result (λ m. (why_no_media image.now ≡ None) × (m ≡ record { sectors = sectors_of image.now; generation = 0 })) }
+    ensures sectors { IfOk result (λ m. length m.sectors ≡ length image.now / 512) }
+{
+    match Media::from_bytes(alloc, image) {
+        Ok(media) => Ok(media),
+        Err(MediaRefusal::OutOfMemory) => Err(StartRefusal::OutOfMemory),
+        Err(refusal) => Err(StartRefusal::Media(refusal)),
+    }
+}
+
+/// The range of a partition of MINIX's type, by the table in the first of so many sectors.
+fn partition_by(first: &[u8; 512], sectors: u32, minor: u8) -> Result<(u32, u32), StartRefusal>
+    ensures place { result ≡ partition_in first.now sectors minor }
+    ensures inside { IfOk result (λ r. r.0 + r.1 ≤ sectors) }
+{
+    let table = parse(first, sectors)?;
+    if table.kind(minor) == Some(MINIX) {
+        table.range(minor).ok_or(StartRefusal::NoPartition)
+    } else {
+        Err(StartRefusal::NoPartition)
+    }
+}
+
+/// Where the volume of this minor lies.
+fn place_in(sectors: &[[u8; 512]], minor: u8) -> Result<(u32, u32), StartRefusal>
+    requires { length sectors.now ≤ 131072 }
+    ensures place { result ≡ place_by sectors.now minor }
+    ensures inside { IfOk result (λ r. r.0 + r.1 ≤ length sectors.now) }
+{
+    let count = sectors.len() as u32;
+    if minor == 0 {
+        return Ok((0, count));
+    }
+    match sectors.first() {
+        Some(first) => partition_by(first, count, minor),
+        None => Err(StartRefusal::Partition(PartitionRefusal::NoSignature)),
+    }
+}
+
+/// Whether each driver serves these sectors as this minor, and took nothing and didn't fail.
+fn are_ready<D: LocalDriver>(supply: &[D], minor: u8, range: (u32, u32)) -> bool
+    ensures value { result ≡ list_all (λ d. is_ready_for minor range (D.state d)) supply.now }
+    ensures drivers { OnTrue result (All (λ d. IsDriver (D.state d)) supply.now) }
+{
+    for driver in supply {
+        if driver.ready_here(minor) != Some(range) {
+            return false;
+        }
+    }
+    true
+}
+
+/// Whether the setup's numbers are in their ranges.
+fn has_ranges(setup: &Setup) -> bool
+    ensures { IsTrue result ↔ IsInRanges setup.now }
+{
+    let fits = 16 <= setup.frames && setup.frames <= 4096;
+    fits && setup.policy.is_allowed()
+}
+
+/// Whether the setup fits and there are drivers, all of them ready.
+fn check_setup<D: LocalDriver>(
+    setup: &Setup,
+    range: (u32, u32),
+    supply: &[D],
+) -> Result<(), StartRefusal>
+    ensures refusal { IfErr result (IsNotSetUp setup.now range (map D.state supply.now)) }
+    ensures fits { OnOk result (IsWellSetUp setup.now range (map D.state supply.now)) }
+    ensures some { OnOk result (map D.state supply.now ≢ []) }
+    ensures drivers { OnOk result (All (λ d. IsDriver (D.state d)) supply.now) }
+{
+    if !has_ranges(setup) {
+        return Err(StartRefusal::BadSetup);
+    }
+    if !are_ready(supply, setup.minor, range) {
+        return Err(StartRefusal::BadSetup);
+    }
+    if supply.is_empty() {
+        return Err(StartRefusal::NoDriver);
+    }
+    Ok(())
+}
+
+/// Whether inode 1 is marked and is a directory.
+#[tactic(auto, using(crate::proofs::RootLaws::root_is, crate::proofs::RootLaws::root_within))]
+fn has_root(geometry: &Geometry, volume: &[u8]) -> bool
+    requires { geometry_of volume.now ≡ Ok geometry.now }
+    ensures { result ≡ is_directory_inode geometry.now (pieces geometry.now (disk_of geometry.now volume.now)) 1 }
+{
+    let block = geometry.block_size as usize;
+    let table = (2 + geometry.inode_map_blocks + geometry.zone_map_blocks) as usize;
+    let is_marked = volume[2 * block] / 2 % 2 == 1;
+    is_marked && u16_at(volume, table * block) >> 12 == DIRECTORY
+}
+
+/// The sizes of the volume in these bytes, or why it isn't served.
+fn volume_in(volume: &[u8]) -> Result<Geometry, MountRefusal>
+    ensures refusal { IfErr result (λ e. why_not_mounted volume.now ≡ Some e) }
+    ensures ok { IfOk result (λ g. (geometry_of volume.now ≡ Ok g) × (why_not_mounted volume.now ≡ None)) }
+{
+    match Geometry::parse(volume) {
+        Ok(geometry) => {
+            if has_root(&geometry, volume) {
+                Ok(geometry)
+            } else {
+                Err(MountRefusal::Inconsistent(NO_ROOT))
+            }
+        }
+        Err(refusal) => Err(MountRefusal::Layout(refusal)),
+    }
+}
+
+/// What a server needs to start on an image with drivers that stand ready: the media, and where the volume of the setup's minor
+/// lies on them.
+///
+/// It is refused where the image makes no media; where there is no such partition; where a number of the setup isn't in its
+/// range, or a driver isn't ready for the volume's sectors; where there is no driver; where the superblock is refused; and where
+/// inode 1 isn't marked or no directory, which is finding 4 at inode 1. The first of these that holds is answered. Where the
+/// image makes media, it may also be refused for want of memory, whatever else holds. Nothing else of the image is looked at.
+pub fn prepare<D: LocalDriver>(
+    alloc: Global,
+    image: &[u8],
+    setup: &Setup,
+    supply: &[D],
+) -> Result<Prepared, StartRefusal>
+    ensures refusal { IfErr result (IsRefused image.now setup.now (map D.state supply.now)) }
+    ensures media { (e : StartRefusal) → why_no_media image.now ≡ Some e → result ≡ Err e }
+    ensures ok { IfOk result (λ p. IsPreparedFor image.now setup.now (map D.state supply.now) p.media p.geometry p.range) }
+    ensures sizes { IfOk result (λ p. IsGeometry p.geometry) }
+    ensures ready { IfOk result (λ p. All (IsReady (opening_of image.now setup.now.minor p.range)) (map D.state supply.now)) }
+    ensures on_media { IfOk result (λ p. IsOnMedia (opening_of image.now setup.now.minor p.range)) }
+{
+    let media = media_of(alloc, image)?;
+    let (sectors, _) = image.as_chunks::<SECTOR>();
+    let range = place_in(sectors, setup.minor)?;
+    check_setup(setup, range, supply)?;
+    let first = SECTOR * range.0 as usize;
+    let volume = &image[first..first + SECTOR * range.1 as usize];
+    let geometry = volume_in(volume)?;
+    Ok(Prepared {
+        media,
+        geometry,
+        range,
+    })
+}
