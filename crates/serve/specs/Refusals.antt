@@ -11,6 +11,9 @@ use Rattle.media.specs.declared.MediaRefusal.TheVariants.{NotWholeSectors, TooLa
 use Rattle.bdev.specs.DriverState.{DriverState, range_while_fresh}
 use Rattle.serve.specs.declared.refusal.MountRefusal.{MountRefusal}
 use Rattle.serve.specs.declared.refusal.MountRefusal.TheVariants.{Layout, Inconsistent}
+use Rattle.serve.specs.declared.refusal.SessionRefusal.{SessionRefusal}
+use Rattle.serve.specs.declared.refusal.SessionRefusal.TheVariants.{TooMany, Stopped}
+use Rattle.serve.specs.declared.refusal.SessionRefusal.TheVariants as session
 use Rattle.serve.specs.declared.refusal.StartRefusal.{StartRefusal}
 use Rattle.serve.specs.declared.refusal.StartRefusal.TheVariants.{Media, Partition, Mount, BadSetup, NoDriver, OutOfMemory}
 
@@ -27,6 +30,12 @@ start_refusal_number (Mount refusal) = 3
 start_refusal_number BadSetup = 4
 start_refusal_number NoDriver = 5
 start_refusal_number OutOfMemory = 6
+
+-- the numbers of the refusals to make a session
+abbrev pub session_refusal_number : SessionRefusal → ℕ
+session_refusal_number TooMany = 1
+session_refusal_number Stopped = 2
+session_refusal_number session.OutOfMemory = 3
 
 -- the image is the volume: minor 0, all its sectors
 abbrev pub whole_image : List ℕ → Opening

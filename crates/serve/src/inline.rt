@@ -17,6 +17,7 @@ ghost use Rattle.serve.specs.Notes.{history_of, room_of};
 use crate::drivers::Drivers;
 use crate::local::LocalDriver;
 use crate::note::{Note, Notes};
+use crate::steady::Steady;
 use endpoint::Endpoint;
 use media::Media;
 use message::{BlockRequest, Incoming};
@@ -65,8 +66,6 @@ impl<D: LocalDriver> Inline<D> {
 }
 
 impl<D: LocalDriver> Link for Inline<D> {
-    ghost use Rattle.serve.specs.InlineLaws.{noted_kept};
-
     ghost history = { λ l. history_of l.notes.ended l.notes.items.items };
 
     ghost budget_left = { λ l. l.drivers.budget };
@@ -75,9 +74,6 @@ impl<D: LocalDriver> Link for Inline<D> {
 
     ghost truth = { λ l v marks. LinkKept v l.drivers.media l.drivers.slots l.drivers.endpoint (option_map D.state l.drivers.running)
         (map D.state l.drivers.supply.items) l.drivers.line.items marks };
-
-    ghost noted = { λ l v marks m nothing kept. noted_kept v l.drivers.media l.drivers.slots l.drivers.endpoint (option_map D.state l.drivers.running)
-        (map D.state l.drivers.supply.items) l.drivers.line.items marks m nothing kept };
 
     fn post(&mut self, to: Endpoint, request: &BlockRequest) -> Result<(), LinkRefusal>
         requires { 0 < room_of self.old.notes.ended (vec_capacity self.old.notes.items) (vec_len self.old.notes.items) }
@@ -160,4 +156,12 @@ impl<D: LocalDriver> Link for Inline<D> {
     fn budget(&self) -> u64 {
         self.drivers.budget
     }
+}
+
+impl<D: LocalDriver> Steady for Inline<D> {
+    ghost use Rattle.marks.specs.Marks.{Took};
+    ghost use Rattle.serve.specs.InlineLaws.{noted_kept};
+
+    ghost rests = { λ l v marks who now call answer kept. noted_kept v l.drivers.media l.drivers.slots l.drivers.endpoint (option_map D.state l.drivers.running)
+        (map D.state l.drivers.supply.items) l.drivers.line.items marks (Took who now call answer) tt kept };
 }

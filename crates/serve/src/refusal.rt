@@ -1,7 +1,7 @@
-//! Why a file server isn't started.
+//! Why a file server isn't started, or a session of it isn't made.
 
 ghost use Rattle.std.specs.Prelude.{◌≡◌};
-ghost use Rattle.serve.specs.Refusals.{mount_refusal_number, start_refusal_number};
+ghost use Rattle.serve.specs.Refusals.{mount_refusal_number, start_refusal_number, session_refusal_number};
 
 use layout::LayoutRefusal;
 use media::MediaRefusal;
@@ -79,5 +79,42 @@ impl From<AllocError> for StartRefusal {
 
     fn from(_error: AllocError) -> StartRefusal {
         StartRefusal::OutOfMemory
+    }
+}
+
+/// Why no session is made. All is as it was.
+#[derive(Clone, Copy, Debug, PartialEq, Eq, Error)]
+pub enum SessionRefusal {
+    /// There are 64 sessions.
+    #[error("TooMany")]
+    TooMany,
+    /// The link to the drivers has ended: each call would be cut.
+    #[error("Stopped")]
+    Stopped,
+    /// No memory was found.
+    #[error("OutOfMemory")]
+    OutOfMemory,
+}
+
+impl SessionRefusal {
+    /// Its number: 1 to 3.
+    pub fn number(self) -> u32
+        ensures { result ≡ session_refusal_number self }
+    {
+        match self {
+            SessionRefusal::TooMany => 1,
+            SessionRefusal::Stopped => 2,
+            SessionRefusal::OutOfMemory => 3,
+        }
+    }
+}
+
+impl From<AllocError> for SessionRefusal {
+    ghost use Rattle.serve.specs.declared.refusal.SessionRefusal.TheVariants.{OutOfMemory as NoMemory};
+
+    ghost from_gives = { λ _ e. e ≡ NoMemory };
+
+    fn from(_error: AllocError) -> SessionRefusal {
+        SessionRefusal::OutOfMemory
     }
 }

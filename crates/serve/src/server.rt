@@ -20,12 +20,12 @@ use tree::{Call, MAX_SESSIONS, Outcome, Reply, Who};
 /// Once a take gave End each call is cut, and once the device was given up each is answered EIO; neither does anything at the link.
 #[derive(Drop)]
 pub struct Server<L: Link> {
-    transfers: Transfers<L>,
+    pub(crate) transfers: Transfers<L>,
     geometry: Geometry,
     // The range of the media that requests name.
     minor: u8,
     // A take gave End.
-    ended: bool,
+    pub(crate) ended: bool,
     ghost sizes: { IsGeometry geometry },
     ghost told_end: { ended ≡ took_end (L.history (link_of transfers)) },
     ghost idle: { ended ≡ false → (table_of transfers).given_up ≡ false

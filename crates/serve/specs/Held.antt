@@ -1,0 +1,26 @@
+-- What lies under the lock of a service, as contracts see it.
+use Rattle.std.specs.Prelude.{◌≡◌, ℕ, List, Bool, codes}
+use Rattle.std.specs.Borrow.{Bor}
+use Rattle.layout.specs.declared.Geometry.{Geometry}
+use Rattle.tree.specs.Tree.{Tree}
+use Rattle.marks.specs.Marks.{Mark}
+use Rattle.marks.specs.Opening.{Opening, contents_at}
+use Rattle.legal.specs.Legal.{IsAtFirst}
+use Rattle.legal.specs.ServerCall.{Serving}
+use Rattle.reissue.specs.Calls.{Truth}
+use Rattle.serve.specs.Reader.{Stands}
+
+-- the path of the root; where its byte lies says nothing
+abbrev pub root_path : Bor (List ℕ)
+root_path = record { ref_ptr = (0, 0); now = codes "/" }
+
+-- the record, the numbers that sessions have, and whether a take gave End
+pub record Held : Type 0 where
+  pub marks : List Mark
+  pub used : List ℕ
+  pub ended : Bool
+
+-- The server is for a volume of these sizes; whichever tree the volume held as it was handed in, the server stands on it with the record.
+pub record IsHeld (g : Geometry) (v : Opening) (s : Serving) (guarantee : Truth) (marks : List Mark) : Type 0 where
+  pub geometry : s.geometry ≡ g
+  pub stands : (tree : Tree) → IsAtFirst g (contents_at v) tree → Stands s guarantee v tree marks
