@@ -29,7 +29,7 @@ pub struct Session<N: Room, S> {
 }
 
 impl<N: Room, S> Model for Session<N, S> {
-    ghost use Rattle.std.specs.Prelude.{◌≡◌ as ◌is◌, ◌<◌, Some};
+    ghost use Rattle.std.specs.Prelude.{◌≡◌, ◌<◌, Some};
     ghost use Rattle.std.specs.Arc.{arc_value};
     ghost use Rattle.legal.specs.Session.{SessionState};
     ghost use Rattle.board.specs.View.{session_for};

@@ -10,7 +10,7 @@ ghost use Rattle.tools.specs.Status.{status_number, gave_of};
 use crate::output::{OutputRefusal, write_session, write_text};
 use crate::script::{Script, ScriptRefusal, read_script};
 use serve::alone::alone;
-use serve::local::LocalDriver;
+use inline::local::LocalDriver;
 use serve::refusal::StartRefusal;
 use serve::server::Server;
 use serve::steady::Steady;
