@@ -66,3 +66,11 @@ pub record StatsRoot (old new : Serving) (was is : Truth) (who : Who) (now : ℕ
   pub calls : Calls old new was is who now call outcome
   pub read : (image : Contents) (tree : Tree) (marks : List Mark) (a : Attributes) → old.Agrees image tree marks
       → outcome ≡ Replied (node_is a) → a ≡ root_read old.geometry (marks_after calls.keeps.acts marks)
+
+-- but for its link the server is as it was, and the link was told nothing and gave nothing
+pub record SameServer {L : Type 0} {g : Ghosts L} (old new : Server L g) : Type 0 where
+  pub geometry : new.geometry ≡ old.geometry
+  pub minor : new.minor ≡ old.minor
+  pub ended : new.ended ≡ old.ended
+  pub table : table_of new.transfers ≡ table_of old.transfers
+  pub history : g.history (line_of new) ≡ g.history (line_of old)

@@ -1,6 +1,6 @@
 //! The record of a service, and the numbers of its sessions.
 
-ghost use Rattle.std.specs.Prelude.{◌≡◌, ◌<◌, ℕ, true, slice_index};
+ghost use Rattle.std.specs.Prelude.{◌≡◌, ◌<◌, ℕ, true, false, slice_index_or};
 ghost use Rattle.std.specs.Arc.{arc_value};
 ghost use Rattle.marks.specs.Marks.{gave_up};
 ghost use Rattle.board.specs.View.{IsKeeper, is_used};
@@ -23,7 +23,7 @@ pub(crate) struct Keeper<N: Room> {
     ghost named: { arc_value board ≡ N.table },
     ghost keeps: { IsKeeper N.table seat },
     ghost told: { gave_up seat.view.seen ≡ true → seat.view.given_up ≡ true },
-    ghost numbers: { (n : ℕ) → n < 64 → slice_index used n ≡ is_used n seat.view.used },
+    ghost numbers: { (n : ℕ) → n < 64 → slice_index_or used n false ≡ is_used n seat.view.used },
 }
 
 impl<N: Room> Keeper<N> {

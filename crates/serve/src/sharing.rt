@@ -9,7 +9,7 @@ ghost use Rattle.board.specs.View.{is_used, without};
 ghost use Rattle.board.specs.Steps.{SessionLearns, SessionIsNew};
 ghost use Rattle.serve.specs.Held.{root_path};
 ghost use Rattle.serve.specs.Keeper.{IsLowestFree};
-ghost use Rattle.serve.specs.Server.{serving, line_of, guarantee_of};
+ghost use Rattle.serve.specs.Server.{line_of, guarantee_of, SameServer};
 
 use crate::recorder::Recorder;
 use crate::refusal::SessionRefusal;
@@ -27,7 +27,7 @@ pub(crate) fn count_root_stat<N: Room, L: Recorder<N>>(
     reply: &Reply,
 )
     requires { (caller.old.table ≡ N.table) × (caller.old.view.number ≡ Some who.session) }
-    ensures same { serving server.new ≡ serving server.old }
+    ensures same { SameServer server.old server.new }
     ensures truth { (v : Opening) (older : List Mark) → guarantee_of server.old v older
         → guarantee_of server.new v (Took who now (Stat root_path) (answer_of reply.now) ∷ older) }
     ensures marks { L.marks (line_of server.new) ≡ Took who now (Stat root_path) (answer_of reply.now) ∷ L.marks (line_of server.old) }
@@ -45,7 +45,7 @@ pub(crate) fn count_root_stat<N: Room, L: Recorder<N>>(
 /// The caller has then seen the whole record.
 pub(crate) fn show<N: Room, L: Recorder<N>>(server: &mut Server<L>, caller: &mut Seat)
     requires { caller.old.table ≡ N.table }
-    ensures same { serving server.new ≡ serving server.old }
+    ensures same { SameServer server.old server.new }
     ensures truth { (v : Opening) (older : List Mark) → guarantee_of server.old v older → guarantee_of server.new v older }
     ensures marks { L.marks (line_of server.new) ≡ L.marks (line_of server.old) }
     ensures caller { (caller.new.table ≡ N.table) × (caller.new.view.number ≡ caller.old.view.number) }
@@ -61,7 +61,7 @@ pub(crate) fn show<N: Room, L: Recorder<N>>(server: &mut Server<L>, caller: &mut
 pub(crate) fn admit<N: Room, L: Recorder<N>>(
     server: &mut Server<L>,
 ) -> Result<(u8, Seat), SessionRefusal>
-    ensures same { serving server.new ≡ serving server.old }
+    ensures same { SameServer server.old server.new }
     ensures truth { (v : Opening) (older : List Mark) → guarantee_of server.old v older → guarantee_of server.new v older }
     ensures marks { L.marks (line_of server.new) ≡ L.marks (line_of server.old) }
     ensures too_many { IsErrOf result SessionRefusal.TooMany ↔ ((n : ℕ) → n < 64 → is_used n (L.numbers (line_of server.old)) ≡ true) }
@@ -88,7 +88,7 @@ pub(crate) fn admit<N: Room, L: Recorder<N>>(
 /// A session ends: its number is free again.
 pub(crate) fn release<N: Room, L: Recorder<N>>(server: &mut Server<L>, number: u8, caller: Seat)
     requires { (caller.table ≡ N.table) × (caller.view.number ≡ Some number) × (number < 64) }
-    ensures same { serving server.new ≡ serving server.old }
+    ensures same { SameServer server.old server.new }
     ensures truth { (v : Opening) (older : List Mark) → guarantee_of server.old v older → guarantee_of server.new v older }
     ensures marks { L.marks (line_of server.new) ≡ L.marks (line_of server.old) }
     ensures numbers { L.numbers (line_of server.new) ≡ without (Some number) (L.numbers (line_of server.old)) }
