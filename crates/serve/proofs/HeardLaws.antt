@@ -1,14 +1,14 @@
 -- What was heard, and what the record says then.
 use Rattle.std.proofs.Common.{◌≡◌, ◌⊎◌, ℕ, suc, zero, ◌+◌, ◌<◌, ◌≤◌, List, [], ◌∷◌, ◌++◌, length, get_or, Bool, true, false, cond, refl, sym, ◌∙◌, ap, subst, inl, inr, arith, max, Option, Some, None}
-use Rattle.std.specs.Prelude.{map, nat_lt, is_some, ◌==◌, ◌&&◌, not, position, remove}
+use Rattle.std.specs.Prelude.{map, is_some, ◌==◌, ◌&&◌, not, position, remove}
 use Rattle.std.specs.List.{position_from}
 use Rattle.std.proofs.lemmas.Iterator.Adapters.{position_from-zero}
-use Rattle.std.proofs.lemmas.List.{map-append, length-map}
+use Rattle.std.proofs.lemmas.List.{length-map}
 use Rattle.endpoint.specs.declared.Endpoint.{Endpoint}
 use Rattle.message.specs.declared.BlockRequest.{BlockRequest}
 use Rattle.message.specs.declared.BlockReply.{BlockReply}
 use Rattle.marks.specs.Marks.{Mark, Issued, Answered, last_started, gave_up, is_endpoint}
-use Rattle.marks.specs.Open.{greatest, open_requests, with_id, without_id, moved_of, counts, IsNew, IsAgain, MayFollow}
+use Rattle.marks.specs.Open.{greatest, open_requests, with_id, without_id, moved_of, asked_by, counts, MayFollow}
 use Rattle.marks.proofs.OpenRequests.{below_open, below_in}
 use Rattle.serve.specs.declared.heard.Asked.{Asked}
 use Rattle.serve.specs.declared.heard.Heard.{Heard}
@@ -81,10 +81,13 @@ pub is_there : (h : Heard) (marks : List Mark) (id : ℕ) (o : Option ℕ) → I
 is_there h marks id None is e = ap is_some (sym (heard_none h marks id is (sym e)))
 is_there h marks id (Some at) is e = ap is_some (sym (heard_found h marks id at is (sym e)).there)
 
--- whether a reply counts
-pub heard_counts : (h : Heard) (marks : List Mark) (a : BlockReply) (current there : Bool) → IsHeard h marks → current ≡ is_endpoint a.from h.current
-    → there ≡ is_some (with_id a.id (open_requests marks)) → (not h.given_up && current && there) ≡ counts marks a
-heard_counts h marks a current there is from open = rw (from, open, is.given_up, is.current) refl
+-- a reply counts if its request is open, where the device wasn't given up and it is from the driver of the last start
+pub heard_counts : (h : Heard) (marks : List Mark) (a : BlockReply) (o : Option ℕ) → IsHeard h marks → h.given_up ≡ false
+    → is_endpoint a.from h.current ≡ true → o ≡ position (has_id a.id) h.asked.items → is_some o ≡ counts marks a
+heard_counts h marks a o is live current search_is =
+    is_there h marks a.id o is search_is
+    ∙ sym (ap (λ (b : Bool). not b && is_endpoint a.from (last_started marks) && is_some (asked_by a marks)) (sym is.given_up ∙ live)
+    ∙ ap (λ (b : Bool). b && is_some (asked_by a marks)) (ap (is_endpoint a.from) (sym is.current) ∙ current))
 
 -- a reply whose request isn't open, or that isn't good, closes nothing
 pub closes_none : (h new : Heard) (marks : List Mark) (a : BlockReply) → IsHeard h marks → new ≡ h
@@ -106,14 +109,6 @@ closes_one h new marks a at is e current given_up greatest asked good =
       asked = rw good (asked ∙ ap (λ (l : List Asked). remove l at) is.asked ∙ f.gone);
     }
 
--- a request that was issued before
-pub issued_again : (h new : Heard) (marks : List Mark) (r : BlockRequest) (to : Endpoint) → IsHeard h marks → new ≡ h → r.id ≤ h.greatest
-    → IsHeard new (Issued r to ∷ marks)
-issued_again h new marks r to is same le =
-    let low : nat_lt (greatest marks) r.id ≡ false = grind (arith, is.greatest, le) in
-    subst (λ (x : Heard). IsHeard x (Issued r to ∷ marks)) (sym same)
-    (record { current = is.current; given_up = is.given_up; greatest = is.greatest ∙ omega (arith, is.greatest, le); asked = rw low is.asked })
-
 -- a request that may be issued under an id above the greatest is new: there is a place for it
 pub has_place : (h : Heard) (marks : List Mark) (r : BlockRequest) (to : Endpoint) → IsHeard h marks → MayFollow (Issued r to) marks
     → h.greatest < r.id → length h.asked.items < 16
@@ -123,16 +118,3 @@ has_place h marks r to is may above = elim may.1 [
       let le : r.id ≤ greatest marks = below_in (greatest marks) (open_requests marks) r (below_open marks) again.same in
       absurd (omega (arith, le, above, is.greatest))
 ]
-
--- a request that is issued for the first time
-pub issued_first : (h new : Heard) (marks : List Mark) (r : BlockRequest) (to : Endpoint) → IsHeard h marks → h.greatest < r.id
-    → new.current ≡ h.current → new.given_up ≡ h.given_up → new.greatest ≡ r.id → new.asked.items ≡ h.asked.items ++ asked_for r ∷ []
-    → IsHeard new (Issued r to ∷ marks)
-issued_first h new marks r to is above current given_up greatest_is asked =
-    let high : nat_lt (greatest marks) r.id ≡ true = grind (arith, is.greatest, above) in
-    record {
-      current = current ∙ is.current;
-      given_up = given_up ∙ is.given_up;
-      greatest = greatest_is ∙ omega (arith, is.greatest, above);
-      asked = rw high (asked ∙ ap (λ (l : List Asked). l ++ asked_for r ∷ []) is.asked ∙ sym (map-append asked_for (open_requests marks) (r ∷ [])));
-    }
