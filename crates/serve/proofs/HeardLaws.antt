@@ -1,15 +1,16 @@
 -- What was heard, and what the record says then.
 use Rattle.std.proofs.Common.{◌≡◌, ◌⊎◌, ℕ, suc, zero, ◌+◌, ◌<◌, ◌≤◌, List, [], ◌∷◌, ◌++◌, length, get_or, Bool, true, false, cond, refl, sym, ◌∙◌, ap, subst, inl, inr, arith, max, Option, Some, None}
-use Rattle.std.specs.Prelude.{map, is_some, ◌==◌, ◌&&◌, not, position, remove}
+use Rattle.std.specs.Prelude.{map, is_some, ◌==◌, ◌&&◌, not, position, remove, Result, Ok, Err, OnOk}
 use Rattle.std.specs.List.{position_from}
 use Rattle.std.proofs.lemmas.Iterator.Adapters.{position_from-zero}
 use Rattle.std.proofs.lemmas.List.{length-map}
 use Rattle.endpoint.specs.declared.Endpoint.{Endpoint}
 use Rattle.message.specs.declared.BlockRequest.{BlockRequest}
 use Rattle.message.specs.declared.BlockReply.{BlockReply}
+use Rattle.message.specs.Good.{moved}
 use Rattle.marks.specs.Marks.{Mark, Issued, Answered, last_started, gave_up, is_endpoint}
-use Rattle.marks.specs.Open.{greatest, open_requests, with_id, without_id, moved_of, asked_by, counts, MayFollow}
-use Rattle.marks.proofs.OpenRequests.{below_open, below_in}
+use Rattle.marks.specs.Open.{greatest, open_requests, with_id, without_id, moved_of, asked_by, counts, IsIn, MayFollow}
+use Rattle.marks.proofs.OpenRequests.{Below, below_open}
 use Rattle.serve.specs.declared.heard.Asked.{Asked}
 use Rattle.serve.specs.declared.heard.Heard.{Heard}
 use Rattle.serve.specs.Heard.{asked_for, IsHeard}
@@ -109,12 +110,32 @@ closes_one h new marks a at is e current given_up greatest asked good =
       asked = rw good (asked ∙ ap (λ (l : List Asked). remove l at) is.asked ∙ f.gone);
     }
 
+-- what a reply moved, by the request at its place
+pub moved_at : (h : Heard) (marks : List Mark) (a : BlockReply) (at : ℕ) (x : Asked) (o : Option ℕ) → IsHeard h marks
+    → position (has_id a.id) h.asked.items ≡ Some at → x ≡ get_or h.asked.items at x → o ≡ moved x.count a.outcome
+    → moved_of (with_id a.id (open_requests marks)) a ≡ o
+moved_at h marks a at x o is e here moves =
+    let f = heard_found h marks a.id at is e in
+    let same : x ≡ asked_for f.request = here ∙ ap (λ (l : List Asked). get_or l at x) is.asked ∙ f.here x in
+    ap (λ (r : Option BlockRequest). moved_of r a) f.there ∙ sym (moves ∙ ap (λ (y : Asked). moved y.count a.outcome) same)
+
+-- an open request has an id up to the greatest
+in_below : (g : ℕ) (rs : List BlockRequest) (r : BlockRequest) → Below g rs → IsIn r rs → r.id ≤ g
+in_below g [] r b i = absurd i
+in_below g (s ∷ rs) r b (inl e) = let h : r.id ≡ s.id = ap (λ (x : BlockRequest). x.id) e in omega (arith, b.0)
+in_below g (s ∷ rs) r b (inr i) = in_below g rs r b.1 i
+
 -- a request that may be issued under an id above the greatest is new: there is a place for it
 pub has_place : (h : Heard) (marks : List Mark) (r : BlockRequest) (to : Endpoint) → IsHeard h marks → MayFollow (Issued r to) marks
     → h.greatest < r.id → length h.asked.items < 16
 has_place h marks r to is may above = elim may.1 [
   | inl new ↦ omega (arith, ap length is.asked, length-map (open_requests marks) asked_for, new.room)
   | inr again ↦
-      let le : r.id ≤ greatest marks = below_in (greatest marks) (open_requests marks) r (below_open marks) again.same in
+      let le : r.id ≤ greatest marks = in_below (greatest marks) (open_requests marks) r (below_open marks) again.same in
       absurd (omega (arith, le, above, is.greatest))
 ]
+
+-- what follows where it is ok
+pub where_ok : {T E : Type 0} {X Y : Type 0} (r : Result T E) → (X → Y) → OnOk r X → OnOk r Y
+where_ok (Ok x) f h = f h
+where_ok (Err e) f h = h
