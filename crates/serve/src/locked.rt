@@ -2,10 +2,12 @@
 
 ghost use Rattle.std.specs.Prelude.{◌≡◌, ◌↔◌, ◌∷◌, ℕ, ◌<◌, true, false, Some, IsErrOf, IfOk, OnErr};
 ghost use Rattle.marks.specs.Opening.{contents_at};
+ghost use Rattle.tree.specs.Tree.{Tree};
+ghost use Rattle.legal.specs.Legal.{IsAtFirst};
 ghost use Rattle.legal.specs.Session.{SessionCallKeeps};
 ghost use Rattle.board.specs.View.{is_used, session_for, without};
 ghost use Rattle.board.specs.Steps.{SessionIsNew};
-ghost use Rattle.serve.specs.Held.{root_path, IsHeld};
+ghost use Rattle.serve.specs.Held.{root_path, IsHeld, IsSound};
 ghost use Rattle.serve.specs.Keeper.{IsLowestFree};
 ghost use Rattle.serve.specs.Server.{serving, guarantee_of, line_of, outcome_of};
 
@@ -55,6 +57,7 @@ impl<N: Room, L: Recorder<N>> Locked<N, L> {
         ensures call { SessionCallKeeps N.geometry (contents_at N.opening) (session_for who.uid who.gid who.session seat.old.view) who now
             (Call.Stat root_path) (outcome_of result) (session_for who.uid who.gid who.session seat.new.view) }
         ensures seen { seat.new.view.seen ≡ self.new.marks }
+        ensures sound { (tree : Tree) → IsAtFirst N.geometry (contents_at N.opening) tree → IsSound N.opening seat.new.view.seen }
         ensures cut { (result ≡ Outcome.Cut) ↔ (self.new.ended ≡ true) }
     {
         let outcome = self.server.stat_root(who, now);

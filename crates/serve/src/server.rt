@@ -78,6 +78,7 @@ impl<L: Link> Server<L> {
         ensures stats { (path : Bor (List ℕ)) → path.now ≡ codes "/"
             → StatsRoot (serving self.old) (serving self.new) (guarantee_of self.old) (guarantee_of self.new) who now (Call.Stat path) (outcome_of result) }
         ensures cut { (result ≡ Outcome.Cut) ↔ (self.new.ended ≡ true) }
+        ensures cut_leaves { result ≡ Outcome.Cut → is_given_up self.new ≡ is_given_up self.old }
         ensures eio { (result ≡ Outcome.Reply (Reply.Refused Errno.EIO)) ↔ ((self.new.ended ≡ false) × (is_given_up self.new ≡ true)) }
         ensures einval { (result ≡ Outcome.Reply (Reply.Refused Errno.EINVAL))
             ↔ ((self.old.ended ≡ false) × (is_given_up self.old ≡ false) × (64 ≤ who.session)) }

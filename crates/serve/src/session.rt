@@ -1,10 +1,12 @@
 //! Sessions of a service.
 
 ghost use Rattle.std.specs.Prelude.{◌≡◌};
+ghost use Rattle.tree.specs.Tree.{Tree};
 ghost use Rattle.marks.specs.Opening.{contents_at};
+ghost use Rattle.legal.specs.Legal.{IsAtFirst};
 ghost use Rattle.legal.specs.Session.{caller_of, tally_of, SessionCallKeeps, SessionGoesOn, DeviceKeeps, MeetKeeps};
 ghost use Rattle.board.specs.Words.{is_given_up};
-ghost use Rattle.serve.specs.Held.{root_path};
+ghost use Rattle.serve.specs.Held.{root_path, IsSound};
 ghost use Rattle.serve.specs.Server.{outcome_of};
 
 use crate::recorder::Recorder;
@@ -72,7 +74,8 @@ impl<N: Room, R: Wait + Copy, L: Recorder<N> + Drop> Session<N, Shared<N, R, L>>
     /// The attributes of the root. It may wait for the calls of other sessions. The session has then seen the record up to this
     /// call: an answer is its last mark; a cut, which comes once the link to the drivers has ended, leaves none.
     pub fn stat_root(&mut self, now: u32) -> Outcome
-        ensures { SessionCallKeeps N.geometry (contents_at N.opening) self.old (caller_of self.old) now (Call.Stat root_path) (outcome_of result) self.new }
+        ensures keeps { SessionCallKeeps N.geometry (contents_at N.opening) self.old (caller_of self.old) now (Call.Stat root_path) (outcome_of result) self.new }
+        ensures sound { (tree : Tree) → IsAtFirst N.geometry (contents_at N.opening) tree → IsSound N.opening self.new.knows.seen }
     {
         let shared = &*self.shared;
         shared

@@ -1,14 +1,14 @@
 use Rattle.std.proofs.Common.{sym}
-use Rattle.serve.specs.Server.{serving, guarantee_of, line_of}
-use Rattle.serve.proofs.HeldLaws.{same_serving, held_same}
+use Rattle.serve.specs.Server.{line_of}
+use Rattle.serve.proofs.HeldLaws.{held_same}
 use Rattle.serve.proofs.locked.Locked.admit.Goals as goal
 
 pub invariant_of-self : goal.invariant_of-self
 invariant_of-self g c =
     let s = c.self.inside.server in
     let n = c.admit.new.server in
-    held_same g.N.Room.geometry g.N.Room.opening (serving s) (serving n) (guarantee_of s) (guarantee_of n) (g.L.Recorder.marks (line_of s))
-    (g.L.Recorder.marks (line_of n)) (same_serving s n c.admit.ensures.same) (λ older truth. c.admit.ensures.truth g.N.Room.opening older truth)
+    held_same g.N.Room.geometry g.N.Room.opening s n (g.L.Recorder.marks (line_of s))
+    (g.L.Recorder.marks (line_of n)) c.admit.ensures.same (λ older truth. c.admit.ensures.truth g.N.Room.opening older truth)
     c.admit.ensures.marks c.self.invariant
 
 pub returns-clause-too_many : goal.returns-clause-too_many

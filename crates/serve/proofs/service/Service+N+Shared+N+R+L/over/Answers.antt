@@ -1,6 +1,6 @@
-use Rattle.std.proofs.Common.{◌∙◌, sym, ap, subst, List}
+use Rattle.std.proofs.Common.{◌≡◌, true, false, ◌∙◌, sym, ap, subst, List}
 use Rattle.layout.specs.declared.Geometry.{Geometry}
-use Rattle.marks.specs.Marks.{Mark}
+use Rattle.marks.specs.Marks.{Mark, gave_up}
 use Rattle.marks.specs.Opening.{contents_at}
 use Rattle.legal.specs.Legal.{IsAtFirst}
 use Rattle.serve.specs.Reader.{Stands}
@@ -18,4 +18,6 @@ new-requires g c =
           subst (λ (ms : List Mark). Stands (serving s) (guarantee_of s) v tree ms) (sym (ap g.L.Recorder.marks e.link ∙ c.requires.marks))
           (e.stands v tree (sym c.requires.minor)
           (subst (λ (h : Geometry). IsAtFirst h (contents_at v) tree) (sym c.requires.geometry.1) first) c.requires.truth);
+      answered = λ tree first gone.
+          let gave : false ≡ true = sym (ap gave_up (ap g.L.Recorder.marks e.link ∙ c.requires.marks)) ∙ gone in cc;
     }
