@@ -1,6 +1,7 @@
 //! The board.
 
 ghost use Rattle.std.specs.Prelude.{◌≡◌, ◌≢◌, ℕ, ◌+◌, ◌*◌, ◌^◌, ◌≤◌, max, true, false, None, Some, IfOk, IsOk, IfSome, MatchOption};
+ghost use Rattle.tree.specs.declared.Call.{Call};
 ghost use Rattle.tree.specs.Answers.{answer_of};
 ghost use Rattle.marks.specs.Marks.{Took, Issued, gave_up, IsBeginning};
 ghost use Rattle.legal.specs.Session.{tally_of, went_on, IsLonger};
@@ -8,7 +9,7 @@ ghost use Rattle.board.specs.View.{opener, is_used, other_of, new_caller, with_u
 ghost use Rattle.board.specs.Steps.{SessionLearns, SeesMore, IsCallOf, OwnsCalls, LearnsTold, Meets, SessionsMeet, SessionAsks, SessionIsNew};
 ghost use Rattle.board.specs.Words.{pulse_word, is_given_up, mark_of};
 
-use crate::mark::{NewMark, NewNumber};
+use crate::mark::{NewCall, NewMark, NewNumber};
 use crate::rule::{
     Ask, Beat, Copy, Feel, Find, Give, GiveUp, Host, Law, Learn, Look, Note, Part, Spend, Start,
     Take, Tell,
@@ -227,6 +228,27 @@ impl Board {
         self.count_as::<Brand>(keeper, caller, who, now, call, reply);
     }
 
+    /// As `count`, of a call of which no value is at hand: the caller picks which it is.
+    pub fn count_said<C: NewCall>(
+        &self,
+        keeper: &mut Seat,
+        caller: &mut Seat,
+        who: Who,
+        now: u32,
+        reply: &Reply,
+    )
+        requires keeper { IsKeeper self.now keeper.old }
+        requires caller { (caller.old.table ≡ self.now) × (caller.old.view.number ≡ Some who.session) }
+        requires told { gave_up keeper.old.view.seen ≡ true → keeper.old.view.given_up ≡ true }
+        ensures keeper { IsKeeper self.now keeper.new }
+        ensures seen { keeper.new.view ≡ keeper_after (Took who now C.call (answer_of reply.now)) keeper.old.view caller.old.view }
+        ensures caller { (caller.new.table ≡ self.now) × (caller.new.view ≡ caller_after (Took who now C.call (answer_of reply.now)) keeper.old.view caller.old.view) }
+        ensures beginning { IsBeginning caller.old.view.seen keeper.old.view.seen }
+        ensures session { SessionLearns caller.old.view caller.new.view }
+    {
+        self.count_mark::<Brand>(keeper, caller, who, now, reply);
+    }
+
     /// Both have then seen the longer of what the two had seen, which begins with the other.
     pub fn meet(&self, seat: &mut Seat, other: &mut Seat)
         requires { (seat.old.table ≡ self.now) × (other.old.table ≡ self.now) }
@@ -305,6 +327,26 @@ impl Board {
         reply: &Reply,
     )
         requires is { C.mark ≡ Took who now call.now (answer_of reply.now) }
+        requires keeper { IsKeeper self.now keeper.old }
+        requires caller { (caller.old.table ≡ self.now) × (caller.old.view.number ≡ Some who.session) }
+        requires told { gave_up keeper.old.view.seen ≡ true → keeper.old.view.given_up ≡ true }
+        ensures keeper { (keeper.new.table ≡ self.now) × (keeper.new.view ≡ keeper_after C.mark keeper.old.view caller.old.view) }
+        ensures caller { (caller.new.table ≡ self.now) × (caller.new.view ≡ caller_after C.mark keeper.old.view caller.old.view) }
+        ensures beginning { IsBeginning caller.old.view.seen keeper.old.view.seen }
+        ensures session { SessionLearns caller.old.view caller.new.view }
+    {
+        self.count_mark::<C>(keeper, caller, who, now, reply);
+    }
+
+    fn count_mark<C: NewMark>(
+        &self,
+        keeper: &mut Seat,
+        caller: &mut Seat,
+        who: Who,
+        now: u32,
+        reply: &Reply,
+    )
+        requires is { (call : Call) × (C.mark ≡ Took who now call (answer_of reply.now)) }
         requires keeper { IsKeeper self.now keeper.old }
         requires caller { (caller.old.table ≡ self.now) × (caller.old.view.number ≡ Some who.session) }
         requires told { gave_up keeper.old.view.seen ≡ true → keeper.old.view.given_up ≡ true }

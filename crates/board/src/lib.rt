@@ -12,4 +12,5 @@ mod rule;
 mod seat;
 
 pub use board::{Board, Device};
+pub use mark::NewCall;
 pub use seat::Seat;

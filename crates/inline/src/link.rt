@@ -65,8 +65,6 @@ impl<D: LocalDriver> Inline<D> {
 }
 
 impl<D: LocalDriver> Link for Inline<D> {
-    ghost use Rattle.inline.specs.InlineLaws.{noted_kept};
-
     ghost history = { λ l. history_of l.notes.ended l.notes.items.items };
 
     ghost budget_left = { λ l. l.drivers.budget };
@@ -75,9 +73,6 @@ impl<D: LocalDriver> Link for Inline<D> {
 
     ghost truth = { λ l v marks. LinkKept v l.drivers.media l.drivers.slots l.drivers.endpoint (option_map D.state l.drivers.running)
         (map D.state l.drivers.supply.items) l.drivers.line.items marks };
-
-    ghost noted = { λ l v marks m nothing kept. noted_kept v l.drivers.media l.drivers.slots l.drivers.endpoint (option_map D.state l.drivers.running)
-        (map D.state l.drivers.supply.items) l.drivers.line.items marks m nothing kept };
 
     fn post(&mut self, to: Endpoint, request: &BlockRequest) -> Result<(), LinkRefusal>
         requires { 0 < room_of self.old.notes.ended (vec_capacity self.old.notes.items) (vec_len self.old.notes.items) }

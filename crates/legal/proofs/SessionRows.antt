@@ -4,7 +4,6 @@ use Rattle.std.proofs.Common.{inr, arith, ap}
 use Rattle.layout.specs.declared.Geometry.{Geometry}
 use Rattle.tree.specs.declared.Who.{Who}
 use Rattle.tree.specs.declared.Call.TheVariants as call
-use Rattle.tree.specs.Tree.{Tree}
 use Rattle.tree.specs.Answers.{done}
 use Rattle.marks.specs.Marks.{Mark, Started, Flush, GaveUp, Took}
 use Rattle.marks.specs.Disk.{Contents}
@@ -101,9 +100,9 @@ of_user_0 knows = record { uid = 0; gid = 0; knows = knows }
 abbrev pub other_user : Who
 other_user = record { session = 5; uid = 9; gid = 0 }
 
-call_of_another : (g : Geometry) (image : Contents) (tree : Tree) (new : SessionState)
-    → SessionCallKeeps g image tree (of_user_0 (session_5 first_part [])) other_user 12 call.Sync (Replied done) new → ⊥
-call_of_another g image tree new h = let nine : ◌≡◌ {A = ℕ} 9 0 = ap (λ (who : Who). who.uid) h.caller in absurd (omega arith)
+call_of_another : (g : Geometry) (image : Contents) (new : SessionState)
+    → SessionCallKeeps g image (of_user_0 (session_5 first_part [])) other_user 12 call.Sync (Replied done) new → ⊥
+call_of_another g image new h = let nine : ◌≡◌ {A = ℕ} 9 0 = ap (λ (who : Who). who.uid) h.caller in absurd (omega arith)
 
 -- a session whose user is another one afterwards
 changed_user : (knows : Seen) → SessionGoesOn (of_user_0 (session_5 first_part [])) (record { uid = 9; gid = 0; knows = knows }) → ⊥

@@ -6,7 +6,6 @@ use Rattle.marks.specs.Marks.{Mark, Started, Answered, Flush, GaveUp, Took, Issu
 use Rattle.marks.specs.Disk.{Contents, unsure}
 use Rattle.tree.specs.declared.Who.{Who}
 use Rattle.tree.specs.declared.Call.{Call}
-use Rattle.tree.specs.Tree.{Tree}
 use Rattle.legal.specs.ServerCall.{Outcome, Replied, Cut}
 use Rattle.legal.specs.Session.{calls_of, Seen, IsSession, IsNewSession, SessionState, caller_of, AreCallsOf, SessionGoesOn, SessionCallKeeps}
 use Rattle.legal.specs.Laws.{WithoutFrames, OwnCallsAreByItsUser}
@@ -54,20 +53,20 @@ same_calls : (mine grown : List Mark) (before after : Who) → grown ≡ mine �
 same_calls mine grown before after same caller are = rw (same, caller) are
 
 -- a call adds its own
-by_its_user : (g : Geometry) (image : Contents) (tree : Tree) (old new : SessionState) (who : Who) (now : ℕ) (call : Call) (outcome : Outcome)
-    → SessionCallKeeps g image tree old who now call outcome new → AreCallsOf (caller_of old) old.knows.mine
+by_its_user : (g : Geometry) (image : Contents) (old new : SessionState) (who : Who) (now : ℕ) (call : Call) (outcome : Outcome)
+    → SessionCallKeeps g image old who now call outcome new → AreCallsOf (caller_of old) old.knows.mine
     → AreCallsOf (caller_of new) new.knows.mine
-by_its_user g image tree old new who now call (Replied answer) keeps are =
+by_its_user g image old new who now call (Replied answer) keeps are =
     same_calls (Took who now call answer ∷ old.knows.mine) new.knows.mine (caller_of old) (caller_of new) keeps.ends.2
     (same_caller old new keeps.goes_on) (keeps.caller, are)
-by_its_user g image tree old new who now call Cut keeps are =
+by_its_user g image old new who now call Cut keeps are =
     same_calls old.knows.mine new.knows.mine (caller_of old) (caller_of new) keeps.ends (same_caller old new keeps.goes_on) are
 
 -- a session's own calls are by its user and group
-pub own_calls_are_by_its_user : (g : Geometry) (image : Contents) (tree : Tree) → OwnCallsAreByItsUser g image tree
-own_calls_are_by_its_user g image tree = record {
+pub own_calls_are_by_its_user : (g : Geometry) (image : Contents) → OwnCallsAreByItsUser g image
+own_calls_are_by_its_user g image = record {
   at_first = λ uid gid s marks made. same_calls [] s.knows.mine (caller_of s) (caller_of s) made.new.none refl tt;
-  after_call = by_its_user g image tree;
+  after_call = by_its_user g image;
 }
 
 -- a place without a frame isn't unsure

@@ -65,8 +65,8 @@ abbrev pub NewSessionIsSession : Type 0
 NewSessionIsSession = (s : Seen) (marks : List Mark) → IsNewSession s marks → IsSession s marks
 
 -- a session's own calls are all made by its user and group: it has none at first, and each call keeps it
-pub record OwnCallsAreByItsUser (g : Geometry) (image : Contents) (tree : Tree) : Type 0 where
+pub record OwnCallsAreByItsUser (g : Geometry) (image : Contents) : Type 0 where
   pub at_first : (uid gid : ℕ) (s : SessionState) (marks : List Mark) → IsMadeFor uid gid s marks → AreCallsOf (caller_of s) s.knows.mine
   pub after_call : (old new : SessionState) (who : Who) (now : ℕ) (call : Call) (outcome : Outcome)
-      → SessionCallKeeps g image tree old who now call outcome new → AreCallsOf (caller_of old) old.knows.mine
+      → SessionCallKeeps g image old who now call outcome new → AreCallsOf (caller_of old) old.knows.mine
       → AreCallsOf (caller_of new) new.knows.mine

@@ -6,7 +6,7 @@ use Rattle.tree.specs.declared.Call.{Call}
 use Rattle.tree.specs.Tree.{Tree, most_sessions}
 use Rattle.marks.specs.Marks.{Mark, Took, counted, gave_up, IsBeginning}
 use Rattle.marks.specs.Disk.{Contents, HasTrueReplies}
-use Rattle.legal.specs.Legal.{IsLegal}
+use Rattle.legal.specs.Legal.{IsAtFirst, IsLegal}
 use Rattle.legal.specs.ServerCall.{Outcome, Replied, Cut}
 
 -- the calls taken of the session with this number, past this place (as many marks as stood there when it was made)
@@ -86,12 +86,12 @@ EndsWith (Replied answer) who now call old new =
     (before : List Mark) × (new.seen ≡ Took who now call answer ∷ before) × (new.mine ≡ Took who now call answer ∷ old.mine)
 EndsWith Cut who now call old new = new.mine ≡ old.mine
 
--- one call of a session, made by its user and group
-pub record SessionCallKeeps (g : Geometry) (image : Contents) (tree : Tree) (old : SessionState) (who : Who) (now : ℕ) (call : Call) (outcome : Outcome) (new : SessionState) : Type 0 where
+-- one call of a session, made by its user and group; whichever tree the image held at first, over true replies what was seen is legal
+pub record SessionCallKeeps (g : Geometry) (image : Contents) (old : SessionState) (who : Who) (now : ℕ) (call : Call) (outcome : Outcome) (new : SessionState) : Type 0 where
   pub goes_on : SessionGoesOn old new
   pub caller : who ≡ caller_of old
   pub ends : EndsWith outcome who now call old.knows new.knows
-  pub legal : HasTrueReplies image new.knows.seen → IsLegal g image tree new.knows.seen
+  pub legal : (tree : Tree) → IsAtFirst g image tree → HasTrueReplies image new.knows.seen → IsLegal g image tree new.knows.seen
 
 -- the longer of two records, which begins with the other
 abbrev pub IsLonger : List Mark → List Mark → List Mark → Type 0

@@ -2,7 +2,6 @@
 
 ghost use Rattle.std.specs.Prelude.{List};
 ghost use Rattle.layout.specs.declared.Geometry.{Geometry};
-ghost use Rattle.tree.specs.Tree.{Tree};
 ghost use Rattle.marks.specs.Marks.{Mark};
 ghost use Rattle.marks.specs.Disk.{Contents};
 ghost use Rattle.legal.specs.Lives.{StillServes};
@@ -52,7 +51,7 @@ pub fn own_calls_grow()
 
 /// A session's own calls are all made by the user and group that it was made for.
 pub fn own_calls_are_by_its_user()
-    ensures { (g : Geometry) (image : Contents) (tree : Tree) → OwnCallsAreByItsUser g image tree }
+    ensures { (g : Geometry) (image : Contents) → OwnCallsAreByItsUser g image }
 {}
 
 /// What always holds of a session holds when it is made.

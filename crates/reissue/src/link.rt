@@ -1,7 +1,7 @@
 //! What a file server sees of its drivers: a line to post to, to complain on, and to take messages from.
 
 ghost use Rattle.std.specs.Prelude.{◌≡◌, ◌<◌, ◌≤◌, ◌+◌, ◌∷◌, List, ℕ, is_ok, OnOk, OnErr};
-ghost use Rattle.marks.specs.Marks.{Mark, Issued, ChangesNothing};
+ghost use Rattle.marks.specs.Marks.{Mark, Issued};
 ghost use Rattle.marks.specs.Open.{MayFollow};
 ghost use Rattle.marks.specs.Disk.{HasTrueReplies};
 ghost use Rattle.marks.specs.Told.{Told, Posted, Complained, received, heard};
@@ -88,8 +88,4 @@ pub trait Link {
     /// How many messages it still gives, at most.
     fn budget(&self) -> u64
         ensures { result ≡ budget_left self.now };
-
-    // What a link guarantees of a record doesn't rest on marks that change no request, byte or driver.
-    ghost noted: { (link : Self) (opening : Opening) (marks : List Mark) (mark : Mark) → ChangesNothing mark
-        → truth link opening marks → truth link opening (mark ∷ marks) };
 }

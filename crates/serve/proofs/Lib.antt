@@ -3,3 +3,6 @@ pub mod Starts
 pub mod ReadLaws
 pub mod ServerLaws
 pub mod MediaLaws
+pub mod HeardLaws
+pub mod HeldLaws
+pub mod KeeperLaws

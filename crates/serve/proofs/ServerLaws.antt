@@ -23,7 +23,7 @@ use Rattle.volume.specs.Holds.{HoldsVolume}
 use Rattle.inode.specs.Bytes.{attributes_in}
 use Rattle.inode.specs.Laws.{root_place, StatOfRoot}
 use Rattle.inode.proofs.Stat.{root_reply}
-use Rattle.marks.specs.Marks.{Mark, Answered, Took, ChangesNothing, gave_up}
+use Rattle.marks.specs.Marks.{Mark, Answered, Took, gave_up}
 use Rattle.marks.specs.Open.{counts}
 use Rattle.marks.specs.Disk.{Contents, disk_after, unsure, bytes_read, HasTrueReplies}
 use Rattle.marks.specs.Told.{Told, Posted, Complained, Received, received, took_end}
@@ -38,7 +38,7 @@ use Rattle.reissue.specs.Entries.{AllOfMinor}
 use Rattle.reissue.specs.Calls.{Truth}
 use Rattle.reissue.proofs.TableRules.{at_rest}
 use Rattle.reissue.proofs.Taking.{agrees_took}
-use Rattle.serve.specs.Reader.{IsReader, reader, Stands}
+use Rattle.serve.specs.Reader.{IsReader, reader, Stands, RestsNotOnCalls}
 use Rattle.serve.specs.Reading.{Went, AreRead}
 use Rattle.serve.specs.Server.{Calls, StatsRoot}
 use Rattle.serve.proofs.ReadLaws.{true_before}
@@ -258,8 +258,9 @@ calls_cut g minor old new before after was is o e who now call w q ended =
         after_end = q.ended;
         serves = serves;
       };
-      truth = λ v tree marks same r k replies. w.truth v marks same r.table r.minors k replies;
-      stands = λ v tree marks s.
+      heard = λ v tree marks same r k replies. w.truth v marks same r.table r.minors k replies;
+      truth = λ rests v tree marks same r k replies. w.truth v marks same r.table r.minors k replies;
+      stands = λ rests v tree marks s.
           let k = w.truth v marks s.minor s.serves.agrees.table s.serves.agrees.minors s.truth s.true_replies in
           record { minor = s.minor; serves = serves (contents_at v) tree marks s.serves; truth = k.0; true_replies = k.1 };
     }
@@ -270,16 +271,16 @@ pub calls_answered : (g : Geometry) (minor : ℕ) (old new : Table) (before afte
     → (answer ≡ refused EIO → new.given_up ≡ true) → (new.given_up ≡ true → answer ≡ refused EIO)
     → ((image : Contents) (tree : Tree) (marks : List Mark) → IsReader g minor old image tree marks
     → RightAnswer g new.given_up image tree (marks_after w.acts marks) who now call answer)
-    → ((v : Opening) (marks : List Mark) (m : Mark) → ChangesNothing m → is v marks → is v (m ∷ marks))
     → Calls (reader g minor old before o) (reader g minor new after e) was is who now call (Replied answer)
-calls_answered g minor old new before after was is o e who now call answer w q live only once right noted =
+calls_answered g minor old new before after was is o e who now call answer w q live only once right =
     let serves = λ (image : Contents) (tree : Tree) (marks : List Mark) (s : Serves (reader g minor old before o) image tree marks).
     serves_took g minor new after e image tree (marks_after w.acts marks) who now call answer (right image tree marks s.agrees)
     (serves_after g minor old new before after was is o e image tree marks w s) in
-    let truth : (v : Opening) (tree : Tree) (marks : List Mark) → v.minor ≡ minor → IsReader g minor old (contents_at v) tree marks → was v marks
-    → HasTrueReplies (contents_at v) marks → is v (Took who now call answer ∷ marks_after w.acts marks) × HasTrueReplies (contents_at v) (marks_after w.acts marks) =
-    λ v tree marks same r k replies.
-    let t = w.truth v marks same r.table r.minors k replies in (noted v (marks_after w.acts marks) (Took who now call answer) tt t.0, t.1) in
+    let truth : RestsNotOnCalls is → (v : Opening) (tree : Tree) (marks : List Mark) → v.minor ≡ minor → IsReader g minor old (contents_at v) tree marks
+    → was v marks → HasTrueReplies (contents_at v) marks
+    → is v (Took who now call answer ∷ marks_after w.acts marks) × HasTrueReplies (contents_at v) (marks_after w.acts marks) =
+    λ rests v tree marks same r k replies.
+    let t = w.truth v marks same r.table r.minors k replies in (rests v (marks_after w.acts marks) who now call answer t.0, t.1) in
     record {
       keeps = record {
         acts = w.acts;
@@ -297,9 +298,10 @@ calls_answered g minor old new before after was is o e who now call answer w q l
         after_end = q.ended;
         serves = serves;
       };
+      heard = λ v tree marks same r k replies. w.truth v marks same r.table r.minors k replies;
       truth = truth;
-      stands = λ v tree marks s.
-          let k = truth v tree marks s.minor s.serves.agrees s.truth s.true_replies in
+      stands = λ rests v tree marks s.
+          let k = truth rests v tree marks s.minor s.serves.agrees s.truth s.true_replies in
           record { minor = s.minor; serves = serves (contents_at v) tree marks s.serves; truth = k.0; true_replies = k.1 };
     }
 
@@ -433,10 +435,9 @@ pub stat_refused : (g : Geometry) (minor : ℕ) (old new : Table) (before after 
     → (refused error ≡ refused EIO → new.given_up ≡ true) → (new.given_up ≡ true → refused error ≡ refused EIO)
     → ((image : Contents) (tree : Tree) (marks : List Mark) → IsReader g minor old image tree marks
     → RightAnswer g new.given_up image tree (marks_after w.acts marks) who now (Stat path) (refused error))
-    → ((v : Opening) (marks : List Mark) (m : Mark) → ChangesNothing m → is v marks → is v (m ∷ marks))
     → StatsRoot (reader g minor old before o) (reader g minor new after e) was is who now (Stat path) (Replied (refused error))
-stat_refused g minor old new before after was is o e who now path error w q live only once right noted = record {
-  calls = calls_answered g minor old new before after was is o e who now (Stat path) (refused error) w q live only once right noted;
+stat_refused g minor old new before after was is o e who now path error w q live only once right = record {
+  calls = calls_answered g minor old new before after was is o e who now (Stat path) (refused error) w q live only once right;
   read = λ image tree marks a r answered. absurd (refused_node error a (same_reply (refused error) (node_is a) answered));
 }
 
@@ -445,18 +446,16 @@ pub stat_read : (g : Geometry) (minor : ℕ) (old new : Table) (before after : L
     (bytes : List ℕ) (size : ℕ) (w : Went minor old new before after was is) → Quiet w.acts old before after o e → e ≡ false
     → new.given_up ≡ false → path.now ≡ codes "/" → who.session < 64 → 64 ≤ size
     → ((marks : List Mark) → Agrees old marks → AllOfMinor minor old.pending → AreRead (root_place g) size bytes (marks_after w.acts marks))
-    → ((v : Opening) (marks : List Mark) (m : Mark) → ChangesNothing m → is v marks → is v (m ∷ marks))
     → StatsRoot (reader g minor old before o) (reader g minor new after e) was is who now (Stat path)
     (Replied (node_is (attributes_in 1 (inode_in (slice_index bytes) 0))))
 unfolding calls_answered
-stat_read g minor old new before after was is o e who now path bytes size w q live alive slash low enough read noted =
+stat_read g minor old new before after was is o e who now path bytes size w q live alive slash low enough read =
     let a = attributes_in 1 (inode_in (slice_index bytes) 0) in
     record {
       calls = calls_answered g minor old new before after was is o e who now (Stat path) (node_is a) w q live
           (λ eio. absurd (refused_node EIO a (sym eio))) (λ given_up. absurd (false_is_true (sym alive ∙ given_up)))
           (λ image tree marks r. right_root g minor old new before after was is image tree marks who now path bytes size w r alive slash low enough
-          (read marks r.table r.minors))
-          noted;
+          (read marks r.table r.minors));
       read = λ image tree marks b r answered.
           sym (same_node a b (same_reply (node_is a) (node_is b) answered))
           ∙ attributes_same 1 (slice_index bytes) (λ k. bytes_read (marks_after w.acts marks) (root_place g + k))

@@ -2,4 +2,9 @@ pub mod Refusals
 pub mod Reader
 pub mod Reading
 pub mod Server
+pub mod Rooms
+pub mod Heard
+pub mod Keeper
+pub mod Held
+pub mod Recorder
 pub mod Laws

@@ -1,8 +1,11 @@
 -- What holds of a server that reads alone: of its table, its image and its record.
-use Rattle.std.specs.Prelude.{◌≡◌, ℕ, ◌+◌, ◌*◌, ◌^◌, ◌≤◌, List, length, Bool, false, None}
+use Rattle.std.specs.Prelude.{◌≡◌, ℕ, ◌+◌, ◌*◌, ◌^◌, ◌≤◌, List, ◌∷◌, length, Bool, false, None}
 use Rattle.layout.specs.declared.Geometry.{Geometry}
+use Rattle.tree.specs.declared.Who.{Who}
+use Rattle.tree.specs.declared.Call.{Call}
 use Rattle.tree.specs.Tree.{Tree}
-use Rattle.marks.specs.Marks.{Mark}
+use Rattle.tree.specs.Answers.{Answer}
+use Rattle.marks.specs.Marks.{Mark, Took}
 use Rattle.marks.specs.Disk.{Contents, disk_after, unsure, HasTrueReplies}
 use Rattle.marks.specs.Opening.{Opening, contents_at}
 use Rattle.marks.specs.Told.{Told}
@@ -49,6 +52,12 @@ pub record Stands (s : Serving) (guarantee : Truth) (v : Opening) (tree : Tree) 
   pub serves : Serves s (contents_at v) tree marks
   pub truth : guarantee v marks
   pub true_replies : HasTrueReplies (contents_at v) marks
+
+-- the guarantee doesn't rest on calls: what holds of a record holds of it and a call
+abbrev pub RestsNotOnCalls : Truth → Type 0
+RestsNotOnCalls guarantee =
+    (v : Opening) (marks : List Mark) (who : Who) (now : ℕ) (call : Call) (answer : Answer) → guarantee v marks
+    → guarantee v (Took who now call answer ∷ marks)
 
 -- nothing is pending, the link has room for a request, and there are ids for all messages that it still gives
 pub record IsIdle (t : Table) (left budget : ℕ) : Type 0 where

@@ -20,7 +20,7 @@ use Rattle.reissue.specs.declared.link.Link.{Ghosts}
 use Rattle.reissue.specs.Transfers.{table_of, link_of}
 use Rattle.reissue.specs.Calls.{Truth}
 use Rattle.serve.specs.declared.server.Server.{Server}
-use Rattle.serve.specs.Reader.{reader, Stands}
+use Rattle.serve.specs.Reader.{reader, Stands, RestsNotOnCalls}
 
 -- the link that it is over
 abbrev pub line_of : {L : Type 0} {g : Ghosts L} → Server L g → L
@@ -43,15 +43,18 @@ abbrev pub outcome_of : TreeOutcome → Outcome
 outcome_of (tree.Reply r) = Replied (answer_of r)
 outcome_of tree.Cut = Cut
 
--- One call: it keeps what servers keep; its link's guarantee and true replies stay; where the server stood it stands, with the record
--- after the call.
+-- One call: it keeps what servers keep; its link's guarantee and true replies stay, up to the call's own mark; past it, and where the server
+-- stood it stands with the record after the call, if the guarantee doesn't rest on calls.
 pub record Calls (old new : Serving) (was is : Truth) (who : Who) (now : ℕ) (call : Call) (outcome : Outcome) : Type 0 where
   pub keeps : CallKeeps old who now call outcome new
-  pub truth : (v : Opening) (tree : Tree) (marks : List Mark) → v.minor ≡ old.minor → old.Agrees (contents_at v) tree marks
+  pub heard : (v : Opening) (tree : Tree) (marks : List Mark) → v.minor ≡ old.minor → old.Agrees (contents_at v) tree marks
       → was v marks → HasTrueReplies (contents_at v) marks
+      → is v (marks_after keeps.acts marks) × HasTrueReplies (contents_at v) (marks_after keeps.acts marks)
+  pub truth : RestsNotOnCalls is → (v : Opening) (tree : Tree) (marks : List Mark) → v.minor ≡ old.minor
+      → old.Agrees (contents_at v) tree marks → was v marks → HasTrueReplies (contents_at v) marks
       → is v (with_outcome who now call outcome (marks_after keeps.acts marks))
       × HasTrueReplies (contents_at v) (with_outcome who now call outcome (marks_after keeps.acts marks))
-  pub stands : (v : Opening) (tree : Tree) (marks : List Mark) → Stands old was v tree marks
+  pub stands : RestsNotOnCalls is → (v : Opening) (tree : Tree) (marks : List Mark) → Stands old was v tree marks
       → Stands new is v tree (with_outcome who now call outcome (marks_after keeps.acts marks))
 
 -- what stat tells of the root, by the bytes that were read
@@ -63,3 +66,11 @@ pub record StatsRoot (old new : Serving) (was is : Truth) (who : Who) (now : ℕ
   pub calls : Calls old new was is who now call outcome
   pub read : (image : Contents) (tree : Tree) (marks : List Mark) (a : Attributes) → old.Agrees image tree marks
       → outcome ≡ Replied (node_is a) → a ≡ root_read old.geometry (marks_after calls.keeps.acts marks)
+
+-- but for its link the server is as it was, and the link was told nothing and gave nothing
+pub record SameServer {L : Type 0} {g : Ghosts L} (old new : Server L g) : Type 0 where
+  pub geometry : new.geometry ≡ old.geometry
+  pub minor : new.minor ≡ old.minor
+  pub ended : new.ended ≡ old.ended
+  pub table : table_of new.transfers ≡ table_of old.transfers
+  pub history : g.history (line_of new) ≡ g.history (line_of old)

@@ -2,9 +2,19 @@
 #![tactic(auto)]
 
 pub mod alone;
+mod heard;
+mod keeper;
 pub mod laws;
+mod locked;
+pub mod noting;
 mod reading;
+pub mod recorder;
 pub mod refusal;
+pub mod room;
 pub mod server;
+pub mod service;
+pub mod session;
+mod sharing;
+pub mod steady;
 
 pub use server::Server;

@@ -20,12 +20,12 @@ use tree::{Call, MAX_SESSIONS, Outcome, Reply, Who};
 /// Once a take gave End each call is cut, and once the device was given up each is answered EIO; neither does anything at the link.
 #[derive(Drop)]
 pub struct Server<L: Link> {
-    transfers: Transfers<L>,
+    pub(crate) transfers: Transfers<L>,
     geometry: Geometry,
     // The range of the media that requests name.
     minor: u8,
     // A take gave End.
-    ended: bool,
+    pub(crate) ended: bool,
     ghost sizes: { IsGeometry geometry },
     ghost told_end: { ended ≡ took_end (L.history (link_of transfers)) },
     ghost idle: { ended ≡ false → (table_of transfers).given_up ≡ false
@@ -78,6 +78,7 @@ impl<L: Link> Server<L> {
         ensures stats { (path : Bor (List ℕ)) → path.now ≡ codes "/"
             → StatsRoot (serving self.old) (serving self.new) (guarantee_of self.old) (guarantee_of self.new) who now (Call.Stat path) (outcome_of result) }
         ensures cut { (result ≡ Outcome.Cut) ↔ (self.new.ended ≡ true) }
+        ensures cut_leaves { result ≡ Outcome.Cut → is_given_up self.new ≡ is_given_up self.old }
         ensures eio { (result ≡ Outcome.Reply (Reply.Refused Errno.EIO)) ↔ ((self.new.ended ≡ false) × (is_given_up self.new ≡ true)) }
         ensures einval { (result ≡ Outcome.Reply (Reply.Refused Errno.EINVAL))
             ↔ ((self.old.ended ≡ false) × (is_given_up self.old ≡ false) × (64 ≤ who.session)) }

@@ -20,7 +20,7 @@ use Rattle.marks.specs.Acts.{Act, Began, Absorbed, AtLink, with_act, marks_after
 use Rattle.legal.specs.ServerCall.{Serving, Replied, with_outcome}
 use Rattle.legal.specs.ServerCall.{Cut as IsCut}
 use Rattle.reissue.specs.Calls.{Truth}
-use Rattle.serve.specs.Reader.{Stands}
+use Rattle.serve.specs.Reader.{Stands, RestsNotOnCalls}
 use Rattle.serve.specs.Refusals.{whole_image}
 use Rattle.serve.specs.Server.{outcome_of, Calls}
 use Rattle.tools.specs.Played.{root_path, calls_in, calls_made, some_cut, all_cut, cuts_last, caller, Plays, IsAnswered}
@@ -133,28 +133,28 @@ ended-more outcomes (Reply r) before between after heard last was is cut =
 -- what stood before the calls stands after one more
 stands-more : (old between new : Serving) (was mid is : Truth) (who : Who) (times : List ℕ) (outcomes : List Outcome) (now : ℕ) (outcome : Outcome)
     (plays : Plays old between was mid who times outcomes) → Calls between new mid is who now (Stat root_path) (outcome_of outcome)
-    → (v : Opening) (tree : Tree) (marks : List Mark) → Stands old was v tree marks
+    → RestsNotOnCalls is → (v : Opening) (tree : Tree) (marks : List Mark) → Stands old was v tree marks
     → (later : List Mark) × Stands new is v tree later × (calls_in later ≡ calls_made who (times ++ now ∷ []) (outcomes ++ outcome ∷ []) (calls_in marks))
-stands-more old between new was mid is who times outcomes now outcome plays call v tree marks stood =
+stands-more old between new was mid is who times outcomes now outcome plays call rests v tree marks stood =
     let (before, stands, calls) = plays.stands v tree marks stood in
     let after = marks_after call.keeps.acts before in (
       with_outcome who now (Stat root_path) (outcome_of outcome) after,
-      call.stands v tree before stands,
+      call.stands rests v tree before stands,
       calls_made-more who times outcomes now outcome (calls_in marks) after plays.each (calls_in-after call.keeps.acts before ∙ calls),
     )
 
 -- one call more was made
 pub plays_more : (old between new : Serving) (was mid is : Truth) (who : Who) (times : List ℕ) (outcomes : List Outcome) (now : ℕ) (outcome : Outcome)
     → Plays old between was mid who times outcomes → Calls between new mid is who now (Stat root_path) (outcome_of outcome)
-    → Plays old new was is who (times ++ now ∷ []) (outcomes ++ outcome ∷ [])
-plays_more old between new was mid is who times outcomes now outcome plays call =
+    → RestsNotOnCalls is → Plays old new was is who (times ++ now ∷ []) (outcomes ++ outcome ∷ [])
+plays_more old between new was mid is who times outcomes now outcome plays call rests =
     let ends = ended-more outcomes outcome old.ended between.ended new.ended _ plays.cuts_last plays.ended call.keeps.leads.ended call.keeps.cut in
     record {
       geometry = call.keeps.leads.geometry ∙ plays.geometry;
       each = omega (arith, length-append outcomes (outcome ∷ []), length-append times (now ∷ []), plays.each);
       cuts_last = ends.cuts;
       ended = ends.ended;
-      stands = stands-more old between new was mid is who times outcomes now outcome plays call;
+      stands = stands-more old between new was mid is who times outcomes now outcome plays call rests;
     }
 
 ok_is : {E A : Type 0} (a b : A) → let one : Result A E = Ok a in let other : Result A E = Ok b in one ≡ other → a ≡ b

@@ -9,11 +9,11 @@ ghost use Rattle.tools.specs.Status.{status_number, gave_of};
 
 use crate::output::{OutputRefusal, write_session, write_text};
 use crate::script::{Script, ScriptRefusal, read_script};
-use reissue::link::Link;
 use serve::alone::alone;
 use inline::local::LocalDriver;
 use serve::refusal::StartRefusal;
 use serve::server::Server;
+use serve::steady::Steady;
 use std::alloc::{AllocError, Global};
 use std::fmt;
 use std::io::Write;
@@ -205,7 +205,7 @@ fn read<'n>(alloc: Global, file: File<'n, '_>) -> Result<Script, PlayRefusal<'n>
 }
 
 /// Makes the calls of a script, one after the other, as session 0. Without memory for the outcomes none is made.
-fn play_script<L: Link>(
+fn play_script<L: Steady>(
     alloc: Global,
     server: &mut Server<L>,
     script: &Script,

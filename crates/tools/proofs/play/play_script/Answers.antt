@@ -10,4 +10,4 @@ loop-now-preserved g c =
     let at = c.loop-now.now-index in
     let next : take (at + 1) items ≡ take at items ++ get_or items at 0 ∷ [] = grind (arith, common_steps) in
     rw (next, c.push_reserved.ensures.items)
-    (plays_more _ _ _ _ _ _ _ _ _ _ _ c.loop-now.invariant (c.stat_root.ensures.stats root_path refl).calls)
+    (plays_more _ _ _ _ _ _ _ _ _ _ _ c.loop-now.invariant (c.stat_root.ensures.stats root_path refl).calls (g.met.L.Steady.rests _))

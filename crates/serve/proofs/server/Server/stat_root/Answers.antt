@@ -27,7 +27,6 @@ returns-then-is_given_up-clause-stats g c = λ path slash.
     (went_none s.minor (table_of s.transfers) l t) (quiet_none (table_of s.transfers) l s.ended s.told_end) c.if-self.false
     (λ eio. given_up) (λ e. refl)
     (λ image tree marks r. right_eio s.geometry (table_of s.transfers).given_up image tree marks c.args.who c.args.now _ given_up)
-    (g.met.L.Link.noted (link_of s.transfers))
 
 pub returns-then-who-ge-MAX_SESSIONS-clause-stats : goal.returns-then-who-ge-MAX_SESSIONS-clause-stats
 returns-then-who-ge-MAX_SESSIONS-clause-stats g c = λ path slash.
@@ -39,7 +38,6 @@ returns-then-who-ge-MAX_SESSIONS-clause-stats g c = λ path slash.
     (went_none s.minor (table_of s.transfers) l t) (quiet_none (table_of s.transfers) l s.ended s.told_end) c.if-self.false
     (λ eio. absurd (einval_eio eio)) (λ given_up. absurd (false_is_true (sym live ∙ given_up)))
     (λ image tree marks r. right_einval s.geometry s.minor (table_of s.transfers) image tree marks c.args.who c.args.now path r live c.if-who-ge-MAX_SESSIONS.true)
-    (g.met.L.Link.noted (link_of s.transfers))
 
 pub returns-in-Ok-clause-stats : goal.returns-in-Ok-clause-stats
 returns-in-Ok-clause-stats g c = λ path slash.
@@ -54,8 +52,7 @@ returns-in-Ok-clause-stats g c = λ path slash.
     (g.L.Link.truth (link_of s.transfers)) (g.L.Link.truth (link_of n.transfers)) s.ended n.ended c.args.who c.args.now path c.in-Ok.block s.geometry.block_size x.reads.went
     (quiet_live x.reads.went.acts (table_of s.transfers) _ _ s.ended n.ended s.told_end n.told_end live c.if-self.false)
     (n.told_end ∙ x.reads.end.0) x.reads.end.1 slash c.if-who-ge-MAX_SESSIONS.false (holds_inode s.geometry s.sizes)
-    (λ marks h m. subst (λ (p : ℕ). AreRead p s.geometry.block_size c.in-Ok.block (marks_after x.reads.went.acts marks)) c.root_place.ensures (x.reads.end.3 marks h m))
-    (g.met.L.Link.noted (link_of n.transfers))))
+    (λ marks h m. subst (λ (p : ℕ). AreRead p s.geometry.block_size c.in-Ok.block (marks_after x.reads.went.acts marks)) c.root_place.ensures (x.reads.end.3 marks h m))))
 
 pub returns-in-Err-GaveUp-clause-stats : goal.returns-in-Err-GaveUp-clause-stats
 returns-in-Err-GaveUp-clause-stats g c = λ path slash.
@@ -69,8 +66,7 @@ returns-in-Err-GaveUp-clause-stats g c = λ path slash.
     (g.L.Link.truth (link_of s.transfers)) (g.L.Link.truth (link_of n.transfers)) s.ended n.ended c.args.who c.args.now path EIO x.reads.went
     (quiet_live x.reads.went.acts (table_of s.transfers) _ _ s.ended n.ended s.told_end n.told_end live c.if-self.false)
     (n.told_end ∙ x.reads.end.0) (λ eio. x.reads.end.1) (λ given_up. refl)
-    (λ image tree marks r. right_eio s.geometry (table_of n.transfers).given_up image tree (marks_after x.reads.went.acts marks) c.args.who c.args.now _ x.reads.end.1)
-    (g.met.L.Link.noted (link_of n.transfers)))
+    (λ image tree marks r. right_eio s.geometry (table_of n.transfers).given_up image tree (marks_after x.reads.went.acts marks) c.args.who c.args.now _ x.reads.end.1))
 
 pub returns-in-Err-Ended-clause-stats : goal.returns-in-Err-Ended-clause-stats
 returns-in-Err-Ended-clause-stats g c = λ path slash.

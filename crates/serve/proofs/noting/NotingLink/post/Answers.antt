@@ -1,0 +1,14 @@
+use Rattle.std.proofs.Common.{List, ◌∷◌, ◌∙◌, ap}
+use Rattle.marks.specs.Marks.{Mark, Issued}
+use Rattle.serve.proofs.HeardLaws.{where_ok}
+use Rattle.serve.proofs.noting.NotingLink.post.Goals as goal
+
+pub returns-then-is_ok-clause-accepted : goal.returns-then-is_ok-clause-accepted
+returns-then-is_ok-clause-accepted g c = λ v marks truth.
+    where_ok c.post-posted.result
+    (λ posts may fits. (
+      posts may fits,
+      c.issue.ensures.record_is ∙ ap (λ (ms : List Mark). Issued c.args.request.now c.args.to ∷ ms) truth.1,
+      c.issued.ensures marks c.args.to may truth.2,
+    ))
+    (c.post-posted.ensures.accepted v marks truth.0)

@@ -1,0 +1,128 @@
+//! A link that counts on the board what goes over another link.
+
+ghost use Rattle.std.specs.Prelude.{◌≡◌, ◌∷◌, [], List, Some, IfOk};
+ghost use Rattle.std.specs.Arc.{arc_value};
+ghost use Rattle.marks.specs.Marks.{Mark, Took};
+ghost use Rattle.marks.specs.Opening.{Opening};
+ghost use Rattle.tree.specs.Answers.{answer_of};
+ghost use Rattle.board.specs.View.{IsKeeper, opener};
+ghost use Rattle.board.specs.Steps.{SessionLearns};
+ghost use Rattle.serve.specs.Heard.{IsHeard};
+ghost use Rattle.serve.specs.Keeper.{record_of, numbers_of};
+
+use crate::heard::Heard;
+use crate::keeper::Keeper;
+use crate::recorder::Recorder;
+use crate::room::Room;
+use crate::steady::Steady;
+use board::{Board, Seat};
+use endpoint::Endpoint;
+use message::{BlockRequest, Incoming};
+use reissue::link::{Link, LinkRefusal};
+use std::alloc::{AllocError, Global};
+use std::marker::Brand;
+use std::sync::Arc;
+use tree::{Reply, Who};
+
+/// A link that has the record's seat of the service's board. Over it goes what goes over the link in it; each request that is issued, and each
+/// message that leaves a mark, it counts on the board. It takes no memory but when it is made.
+///
+/// What it guarantees of a record is what the link in it does, and that the record is what the seat has seen.
+#[derive(Drop)]
+pub struct Noting<N: Room, L: Link> {
+    pub(crate) link: L,
+    pub(crate) keeper: Keeper<N>,
+    pub(crate) heard: Heard,
+}
+
+impl<N: Room, L: Link> Noting<N, L> {
+    /// A link over this one that counts on the service's board, with the record's seat of that board, which is new. Where no memory was
+    /// found, the link and the seat are let go.
+    pub fn new(
+        alloc: Global,
+        link: L,
+        board: Arc<Board>,
+        seat: Seat,
+    ) -> Result<Noting<N, L>, AllocError>
+    where
+        L: Drop,
+        requires board { arc_value board ≡ N.table }
+        requires seat { IsKeeper N.table seat × (seat.view ≡ opener) }
+        ensures history { IfOk result (λ n. ⟦<Noting<N, L> as Link>⟧.history n ≡ L.history link) }
+        ensures budget { IfOk result (λ n. ⟦<Noting<N, L> as Link>⟧.budget_left n ≡ L.budget_left link) }
+        ensures room { IfOk result (λ n. ⟦<Noting<N, L> as Link>⟧.room n ≡ L.room link) }
+        ensures truth { IfOk result (λ n. (v : Opening) → L.truth link v [] → ⟦<Noting<N, L> as Link>⟧.truth n v []) }
+        ensures record_is { IfOk result (λ n. record_of n.keeper ≡ []) }
+        ensures numbers { IfOk result (λ n. numbers_of n.keeper ≡ []) }
+    {
+        Ok(Noting {
+            link,
+            keeper: Keeper::new(board, seat),
+            heard: Heard::new(alloc)?,
+        })
+    }
+}
+
+impl<N: Room, L: Link> Link for Noting<N, L> {
+    ghost history = { λ l. L.history l.link };
+
+    ghost budget_left = { λ l. L.budget_left l.link };
+
+    ghost room = { λ l. L.room l.link };
+
+    ghost truth = { λ l v marks. L.truth l.link v marks × (record_of l.keeper ≡ marks) × IsHeard l.heard marks };
+
+    fn post(&mut self, to: Endpoint, request: &BlockRequest) -> Result<(), LinkRefusal> {
+        let posted = self.link.post(to, request);
+        if posted.is_ok() {
+            self.keeper.issue(request, to);
+            self.heard.issued(request);
+        }
+        posted
+    }
+
+    fn complain(&mut self, about: Endpoint) {
+        self.link.complain(about);
+    }
+
+    fn take(&mut self) -> Incoming {
+        let message = self.link.take();
+        if self.heard.leaves_mark(&message) {
+            self.keeper.note(&message);
+            self.heard.takes(&message);
+        }
+        message
+    }
+
+    fn budget(&self) -> u64 {
+        self.link.budget()
+    }
+}
+
+impl<N: Room, L: Steady> Recorder<N> for Noting<N, L> {
+    ghost marks = { λ l. record_of l.keeper };
+
+    ghost numbers = { λ l. numbers_of l.keeper };
+
+    fn count_root_stat(&mut self, caller: &mut Seat, who: Who, now: u32, reply: &Reply) {
+        self.keeper.count::<Brand>(caller, who, now, reply);
+    }
+
+    fn show(&mut self, caller: &mut Seat) {
+        self.keeper.show(caller);
+    }
+
+    fn is_full(&self) -> bool {
+        self.keeper.is_full()
+    }
+
+    fn admit(&mut self) -> Option<(u8, Seat)> {
+        self.keeper.admit()
+    }
+
+    fn release(&mut self, number: u8, caller: Seat) {
+        self.keeper.release(number, caller);
+    }
+
+    ghost is_record = { λ link v older truth. truth.1 };
+}

@@ -1,0 +1,98 @@
+//! Sessions of a service.
+
+ghost use Rattle.std.specs.Prelude.{◌≡◌};
+ghost use Rattle.tree.specs.Tree.{Tree};
+ghost use Rattle.marks.specs.Opening.{contents_at};
+ghost use Rattle.legal.specs.Legal.{IsAtFirst};
+ghost use Rattle.legal.specs.Session.{caller_of, tally_of, SessionCallKeeps, SessionGoesOn, DeviceKeeps, MeetKeeps};
+ghost use Rattle.board.specs.Words.{is_given_up};
+ghost use Rattle.serve.specs.Held.{root_path, IsSound};
+ghost use Rattle.serve.specs.Server.{outcome_of};
+
+use crate::recorder::Recorder;
+use crate::room::Room;
+use crate::service::Shared;
+use board::{Board, Device, Seat};
+use std::marker::{Model, PhantomData};
+use std::sync::{Arc, Wait};
+use tree::{Call, Outcome, Who};
+
+/// One client of a service: a user and a group, and what it has seen of the service's record. A session may move to another thread.
+///
+/// What the sessions of a service share is a type parameter, so that what waits for nobody needs no handle that may wait. A session that is let
+/// go without `end` keeps its number.
+#[derive(Drop)]
+pub struct Session<N: Room, S> {
+    pub(crate) board: Arc<Board>,
+    pub(crate) seat: Seat,
+    pub(crate) who: Who,
+    pub(crate) shared: Arc<S>,
+    pub(crate) of: PhantomData<N>,
+}
+
+impl<N: Room, S> Model for Session<N, S> {
+    ghost use Rattle.std.specs.Prelude.{◌≡◌, ◌<◌, Some};
+    ghost use Rattle.std.specs.Arc.{arc_value};
+    ghost use Rattle.legal.specs.Session.{SessionState};
+    ghost use Rattle.board.specs.View.{session_for};
+
+    ghost Value = { SessionState };
+
+    ghost view = { λ s. session_for s.who.uid s.who.gid s.who.session s.seat.view };
+
+    ghost invariant = { λ s. (arc_value s.board ≡ N.table) × (s.seat.table ≡ N.table) × (s.seat.view.number ≡ Some s.who.session) × (s.who.session < 64) };
+}
+
+impl<N: Room, S> Session<N, S> {
+    /// How many counted marks the record has, modulo 2^64: the starts, the answers, the flushes, the giving up and the calls. The session
+    /// has then seen them.
+    pub fn seen(&mut self) -> u64
+        ensures tally { result ≡ tally_of self.new.knows.seen }
+        ensures goes_on { SessionGoesOn self.old self.new }
+        ensures own { self.new.knows.mine ≡ self.old.knows.mine }
+    {
+        self.board.tally(&mut self.seat)
+    }
+
+    /// Whether the device was given up. `GivenUp` comes only where the session has then seen so, and comes where it had seen a call
+    /// taken after it.
+    pub fn device(&mut self) -> Device
+        ensures { DeviceKeeps self.old (is_given_up result) self.new }
+    {
+        self.board.device(&mut self.seat)
+    }
+
+    /// Two sessions meet: both have then seen what either had seen.
+    pub fn meet(&mut self, other: &mut Session<N, S>)
+        ensures { MeetKeeps self.old other.old self.new other.new }
+    {
+        self.board.meet(&mut self.seat, &mut other.seat);
+    }
+}
+
+impl<N: Room, R: Wait + Copy, L: Recorder<N> + Drop> Session<N, Shared<N, R, L>> {
+    /// The attributes of the root. It may wait for the calls of other sessions. The session has then seen the record up to this
+    /// call: an answer is its last mark; a cut, which comes once the link to the drivers has ended, leaves none.
+    pub fn stat_root(&mut self, now: u32) -> Outcome
+        ensures keeps { SessionCallKeeps N.geometry (contents_at N.opening) self.old (caller_of self.old) now (Call.Stat root_path) (outcome_of result) self.new }
+        ensures sound { (tree : Tree) → IsAtFirst N.geometry (contents_at N.opening) tree → IsSound N.opening self.new.knows.seen }
+    {
+        let shared = &*self.shared;
+        shared
+            .server
+            .lock(&shared.rt)
+            .stat_root(&mut self.seat, self.who, now)
+    }
+
+    /// Ends the session: its number is free again. It may wait for the calls of other sessions.
+    pub fn end(self) {
+        let Session {
+            board: _,
+            seat,
+            who,
+            shared,
+            of: _,
+        } = self;
+        shared.server.lock(&shared.rt).release(who.session, seat);
+    }
+}
