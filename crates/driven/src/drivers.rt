@@ -146,6 +146,7 @@ impl<D: LocalDriver> Drivers<D> {
     }
 
     /// Lets ticks pass until a driver is started or none is left.
+    #[tactic(auto, using(crate::proofs::Ticking::waited_none, crate::proofs::Ticking::waited_more, crate::proofs::Ticking::waited_start, crate::proofs::Ticking::waited_all, crate::proofs::Ticking::none_runs_while, crate::proofs::Ticking::goes_on_while))]
     fn wait(&mut self) -> Incoming
         requires none_runs { self.old.running ≡ None }
         requires awaited { self.old.given_up ≡ false }
