@@ -1,7 +1,9 @@
 -- What posts, faults, ticks and starts leave of what a link has of its drivers.
 use Rattle.std.proofs.Common.{◌≡◌, ℕ, ◌+◌, List, [], ◌∷◌, ◌++◌, Bool, true, false, refl, sym, ◌∙◌, ap, subst, Option, Some, None}
 use Rattle.std.specs.Prelude.{map, reverse as reversed, All, IfSome, is_some, length, slice_index}
+use Rattle.std.specs.Prelude.{Result, Ok, Err, OnOk}
 use Rattle.std.specs.Option.{option_map}
+use Rattle.reissue.specs.declared.link.LinkRefusal.{LinkRefusal}
 use Rattle.std.proofs.lemmas.List.{map-append}
 use Rattle.std.proofs.lemmas.Grind.{reverse_onto}
 use Rattle.endpoint.specs.declared.Endpoint.{Endpoint}
@@ -20,6 +22,10 @@ use Rattle.policy.specs.declared.Event.TheVariants.{Exit, Complaint}
 use Rattle.policy.specs.Watch.{Watch, new_watch}
 use Rattle.reincarnate.specs.Supply.{ReincarnationState}
 use Rattle.true_replies.specs.Events.{IsOnMedia, opening_media}
+use Rattle.true_replies.specs.Posted.{driver_at}
+use Rattle.inline.specs.declared.running.Ran.{Ran}
+use Rattle.inline.specs.declared.running.Ran.TheVariants as ran
+use Rattle.inline.specs.Running.{Kept, RunLeaves}
 use Rattle.inline.specs.Inline.{IsReady, LinkKept}
 use Rattle.inline.proofs.LinkLaws.{started_kept, posted_kept, dropped_kept}
 use Rattle.inline.proofs.Opens.{new_kept}
@@ -29,11 +35,18 @@ use Rattle.driven.specs.KeptLaws.{noted_drivers_kept}
 use Rattle.driven.proofs.Decided.{HasSame, HasNext, same_after_exit, same_after_complaint, next_after_tick}
 
 -- a request is put on the line
-pub drivers_kept-posted : {D : Type 0} (state : D → DriverState) (v : Opening) (b a : Guarded D) (marks : List Mark) (r : BlockRequest) (to : Endpoint)
+drivers_kept-posted : {D : Type 0} (state : D → DriverState) (v : Opening) (b a : Guarded D) (marks : List Mark) (r : BlockRequest) (to : Endpoint)
     → a ≡ record b { line = b.line ++ r ∷ [] } → DriversKept state v b marks → MayFollow (Issued r to) marks → Fits v r → DriversKept state v a (Issued r to ∷ marks)
 drivers_kept-posted state v b a marks r to is kept may fits =
     subst (λ (g : Guarded _). DriversKept state v g (Issued r to ∷ marks)) (sym is)
     (posted_kept v b.media (0 ∷ b.server.watch.generation ∷ []) b.endpoint (option_map state b.running) (map state (reversed b.server.supply)) b.line (b.line ++ r ∷ []) marks r to refl kept may fits)
+
+-- a request is put on the line, or refused
+pub drivers_kept-post : {D : Type 0} (state : D → DriverState) (v : Opening) (b a : Guarded D) (marks : List Mark) (r : BlockRequest) (to : Endpoint) (result : Result Unit LinkRefusal)
+    → OnOk result (a ≡ record b { line = b.line ++ r ∷ [] }) → DriversKept state v b marks
+    → OnOk result (MayFollow (Issued r to) marks → Fits v r → DriversKept state v a (Issued r to ∷ marks))
+drivers_kept-post state v b a marks r to (Ok u) is kept = λ may fits. drivers_kept-posted state v b a marks r to is kept may fits
+drivers_kept-post state v b a marks r to (Err e) is kept = tt
 
 -- what is left when no driver runs any more and nothing is started
 drivers_kept-dropped : {D : Type 0} (state : D → DriverState) (v : Opening) (b : Guarded D) (server : ReincarnationState D) (marks : List Mark) → HasSame b.server server
@@ -57,6 +70,28 @@ pub drivers_kept-exit : {D : Type 0} (state : D → DriverState) (v : Opening) (
     → IsTold b (Exit e tick) a → DriversKept state v b marks → DriversKept state v a marks
 drivers_kept-exit state v b a e tick marks told kept =
     drivers_kept-told state v b a a.server marks (same_after_exit b.server a.server e tick told.answer told.decides) told.now kept
+
+-- the driver that ran failed
+pub drivers_kept-failed : {D : Type 0} (state : D → DriverState) (v : Opening) (b : Guarded D) (d : D) (after : DriverState) (media : MediaState) (line : List BlockRequest) (budget : ℕ)
+    (result : Ran) (marks : List Mark) → b.running ≡ Some d
+    → ((v : Opening) (marks : List Mark) → b.endpoint.generation ≡ b.media.generation → Kept v b.media (state d) true b.line marks → RunLeaves v b.endpoint.generation result media after line marks)
+    → media.generation ≡ b.media.generation → result ≡ ran.Failed
+    → DriversKept state v b marks → DriversKept state v (record b { running = None; line = line; media = media; budget = budget }) marks
+drivers_kept-failed state v b d after media line budget result marks runs leaves same failed kept =
+    let is : option_map state b.running ≡ Some (state d) = ap (option_map state) runs in
+    let here : b.endpoint ≡ driver_at b.media.generation = subst (λ (o : Option DriverState). IfSome o (λ x. b.endpoint ≡ driver_at b.media.generation)) is kept.endpoint_is in
+    let own : kept.driver ≡ state d = subst (λ (o : Option DriverState). IfSome o (λ x. kept.driver ≡ x)) is kept.current in
+    let live : is_some (option_map state b.running) ≡ true = ap is_some is in
+    let before : Kept v b.media (state d) true b.line marks =
+    subst (λ (l : Bool). Kept v b.media (state d) l b.line marks) live (subst (λ (x : DriverState). Kept v b.media x (is_some (option_map state b.running)) b.line marks) own kept.kept) in
+    record {
+      driver = after;
+      kept = subst (λ (r : Ran). RunLeaves v b.endpoint.generation r media after line marks) failed (leaves v marks (ap (λ (e : Endpoint). e.generation) here) before);
+      current = tt;
+      endpoint_is = tt;
+      slots_are = kept.slots_are ∙ sym same;
+      supply_is = kept.supply_is;
+    }
 
 -- the first of a list stands last in the other order
 last_reversed : {D : Type 0} (state : D → DriverState) (d : D) (rest all : List D) → all ≡ d ∷ rest → map state (reversed all) ≡ map state (reversed rest) ++ state d ∷ []

@@ -236,6 +236,7 @@ impl<D: LocalDriver> Drivers<D> {
 
     /// Lets the driver of this endpoint go, if it runs, and tells the reincarnation server of the complaint.
     pub(crate) fn let_go(&mut self, about: Endpoint)
+        ensures kept { (v : Opening) (marks : List Mark) → DriversKept D.state v (guarded_of self.old) marks → DriversKept D.state v (guarded_of self.new) marks }
         ensures told { self.old.running ≢ None → about ≡ self.old.endpoint
             → IsTold (guarded_of self.old) (Complaint about (last_tick self.old.ticks)) (guarded_of self.new) }
         ensures leaves { (self.old.running ≡ None) ⊎ (about ≢ self.old.endpoint) → self.new ≡ self.old }
