@@ -1,9 +1,7 @@
 -- What comes after no driver ran, or after the one that ran failed.
-use Rattle.std.proofs.Common.{◌≡◌, ℕ, refl, ap, subst, List, Option, Some, None, inr}
-use Rattle.message.specs.declared.BlockRequest.{BlockRequest}
+use Rattle.std.proofs.Common.{◌≡◌, ℕ, refl, ap, subst, Option, Some, None, inr}
 use Rattle.message.specs.declared.Incoming.{Incoming}
 use Rattle.message.specs.declared.Incoming.TheVariants as incoming
-use Rattle.media.specs.Contents.{MediaState}
 use Rattle.bdev.specs.DriverState.{DriverState}
 use Rattle.policy.specs.declared.Event.TheVariants.{Exit}
 use Rattle.reincarnate.specs.declared.Action.{Action}

@@ -1,7 +1,6 @@
 -- What the reincarnation server leaves when it is told of an exit or a complaint, and when it starts a driver.
-use Rattle.std.proofs.Common.{◌≡◌, ◌≢◌, ℕ, ◌+◌, ◌≤◌, List, [], ◌∷◌, ◌++◌, Bool, true, false, refl, sym, ◌∙◌, ap, subst, max, arith}
-use Rattle.std.specs.Prelude.{nat_le, if◌then◌else◌, Option, Some}
-use Rattle.std.proofs.lemmas.Bool.{le-leb}
+use Rattle.std.proofs.Common.{◌≡◌, ◌≢◌, ℕ, ◌+◌, List, ◌∷◌, ◌++◌, Bool, true, false, refl, sym, ◌∙◌, ap, subst}
+use Rattle.std.specs.Prelude.{nat_le, if◌then◌else◌, Some}
 use Rattle.endpoint.specs.declared.Endpoint.{Endpoint}
 use Rattle.policy.specs.declared.Policy.{Policy}
 use Rattle.policy.specs.declared.Event.{Event}

@@ -1,5 +1,5 @@
 -- What posts, faults, ticks and starts leave of what a link has of its drivers.
-use Rattle.std.proofs.Common.{◌≡◌, ℕ, ◌+◌, List, [], ◌∷◌, ◌++◌, Bool, true, false, refl, sym, ◌∙◌, ap, subst, Option, Some, None}
+use Rattle.std.proofs.Common.{◌≡◌, ℕ, List, [], ◌∷◌, ◌++◌, Bool, true, refl, sym, ◌∙◌, ap, subst, Option, Some, None}
 use Rattle.std.specs.Prelude.{map, reverse as reversed, All, IfSome, is_some, length, slice_index}
 use Rattle.std.specs.Prelude.{Result, Ok, Err, OnOk}
 use Rattle.std.specs.Option.{option_map}
@@ -9,7 +9,6 @@ use Rattle.std.proofs.lemmas.Grind.{reverse_onto}
 use Rattle.endpoint.specs.declared.Endpoint.{Endpoint}
 use Rattle.endpoint.specs.Slots.{no_starts}
 use Rattle.message.specs.declared.BlockRequest.{BlockRequest}
-use Rattle.message.specs.declared.BlockReply.{BlockReply}
 use Rattle.message.specs.declared.Incoming.{Incoming}
 use Rattle.message.specs.declared.Incoming.TheVariants as incoming
 use Rattle.marks.specs.Marks.{Mark, Started, GaveUp, Issued}
@@ -29,7 +28,7 @@ use Rattle.inline.specs.Running.{Kept, RunLeaves}
 use Rattle.inline.specs.Inline.{IsReady, LinkKept}
 use Rattle.inline.proofs.LinkLaws.{started_kept, posted_kept, dropped_kept}
 use Rattle.inline.proofs.Opens.{new_kept}
-use Rattle.driven.specs.Waits.{Guarded, DriversKept, unstarted, Waits, Starts, IsTold, last_tick}
+use Rattle.driven.specs.Waits.{Guarded, DriversKept, unstarted, Starts, IsTold}
 use Rattle.driven.specs.Comes.{WaitsFor}
 use Rattle.driven.specs.KeptLaws.{noted_drivers_kept}
 use Rattle.driven.proofs.Decided.{HasSame, HasNext, same_after_exit, same_after_complaint, next_after_tick}
@@ -105,8 +104,8 @@ drivers_kept-started state v b a to marks starts kept =
     let next : HasNext b.server to starts.driver a.server = next_after_tick b.server a.server starts.until _ _ to starts.driver starts.awaited starts.decides in
     let k : LinkKept v (adopted b.media to.generation) (0 ∷ a.server.watch.generation ∷ []) to (Some (state starts.driver)) (map state (reversed a.server.supply)) [] (Started to ∷ marks) =
     started_kept v b.media (0 ∷ b.server.watch.generation ∷ []) (0 ∷ a.server.watch.generation ∷ []) b.endpoint to (option_map state b.running)
-        (map state (reversed b.server.supply)) (map state (reversed a.server.supply)) (state starts.driver) b.line marks
-        (last_reversed state starts.driver a.server.supply b.server.supply next.supply) next.endpoint next.generation kept in
+    (map state (reversed b.server.supply)) (map state (reversed a.server.supply)) (state starts.driver) b.line marks
+    (last_reversed state starts.driver a.server.supply b.server.supply next.supply) next.endpoint next.generation kept in
     rw (starts.media, starts.endpoint, starts.running, starts.line) k
 
 -- what each message leaves, where no driver runs

@@ -1,5 +1,5 @@
 -- Ticks that pass one after the other.
-use Rattle.std.proofs.Common.{◌≡◌, ℕ, ◌+◌, ◌-◌, ◌<◌, ◌≤◌, max, Bool, true, false, refl, sym, ◌∙◌, ap, subst, arith, Option, Some, None}
+use Rattle.std.proofs.Common.{◌≡◌, ℕ, ◌+◌, ◌-◌, ◌≤◌, max, false, refl, sym, ◌∙◌, ap, subst, arith, None}
 use Rattle.endpoint.specs.declared.Endpoint.{Endpoint}
 use Rattle.policy.specs.Watch.{Phase, Running, Waiting, GivenUp}
 use Rattle.policy.specs.Laws.{is_running}

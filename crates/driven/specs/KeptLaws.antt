@@ -1,5 +1,5 @@
 -- What a link has of its drivers, it has of a record with a mark more that changes nothing.
-use Rattle.std.specs.Prelude.{ℕ, List, [], ◌∷◌, map, reverse as reversed}
+use Rattle.std.specs.Prelude.{List, [], ◌∷◌, map, reverse as reversed}
 use Rattle.std.specs.Option.{option_map}
 use Rattle.marks.specs.Marks.{Mark, ChangesNothing}
 use Rattle.marks.specs.Opening.{Opening}

@@ -1,5 +1,5 @@
 -- Drivers under a reincarnation server, and the ticks that pass while a start is awaited.
-use Rattle.std.specs.Prelude.{◌≡◌, ◌≢◌, ℕ, ◌+◌, ◌-◌, ◌≤◌, max, List, [], ◌∷◌, map, reverse as reversed, Option, Some, None}
+use Rattle.std.specs.Prelude.{◌≡◌, ℕ, ◌+◌, ◌-◌, ◌≤◌, max, List, [], ◌∷◌, map, reverse as reversed, Option, Some, None}
 use Rattle.std.specs.Option.{option_map}
 use Rattle.endpoint.specs.declared.Endpoint.{Endpoint}
 use Rattle.message.specs.declared.BlockRequest.{BlockRequest}
@@ -8,7 +8,7 @@ use Rattle.marks.specs.Opening.{Opening}
 use Rattle.media.specs.Contents.{MediaState, adopted}
 use Rattle.bdev.specs.DriverState.{DriverState}
 use Rattle.policy.specs.declared.Event.{Event}
-use Rattle.policy.specs.declared.Event.TheVariants.{Exit, Tick, Complaint}
+use Rattle.policy.specs.declared.Event.TheVariants.{Tick}
 use Rattle.policy.specs.Watch.{Waiting, driver}
 use Rattle.reincarnate.specs.declared.Action.{Action}
 use Rattle.reincarnate.specs.declared.Action.TheVariants.{Start}

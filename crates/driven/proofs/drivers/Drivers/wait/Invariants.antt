@@ -1,4 +1,4 @@
-use Rattle.std.specs.Prelude.{◌≡◌, ◌-◌, ℕ}
+use Rattle.std.specs.Prelude.{◌≡◌}
 use Rattle.driven.specs.View.{guarded_of}
 use Rattle.driven.proofs.Ticking.{HasWaited}
 use Rattle.driven.proofs.drivers.Drivers.wait.Given as goal
