@@ -23,7 +23,7 @@ use std::alloc::{AllocError, Global};
 use std::collections::VecDeque;
 
 /// How many steps a link makes at most (own).
-const BUDGET: u64 = 1099511627776;
+pub const BUDGET: u64 = 1099511627776;
 
 /// How many requests the line of a driver holds at most (own); one more is refused as `Full`.
 pub const LINE: usize = 32;
@@ -45,7 +45,7 @@ pub(crate) struct Drivers<D: LocalDriver> {
 }
 
 /// A driver's answer, under the driver's endpoint.
-fn stamped(from: Endpoint, answer: &Answer) -> BlockReply
+pub fn stamped(from: Endpoint, answer: &Answer) -> BlockReply
     ensures { result ≡ stamp from answer.now }
 {
     let bytes = answer.bytes;

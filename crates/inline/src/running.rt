@@ -16,7 +16,7 @@ use std::collections::VecDeque;
 
 /// How a run of a driver ended.
 #[derive(Clone, Copy)]
-pub(crate) enum Ran {
+pub enum Ran {
     /// The driver answered the request in work.
     Answered(Answer),
     /// A step answered Failed.
@@ -71,7 +71,7 @@ fn step_once<D: LocalDriver>(
 
 /// Steps the driver until it answers or fails, each step for one of the budget.
 #[tactic(auto, using(crate::proofs::Going::gone_nowhere, crate::proofs::Going::gone_working, crate::proofs::Going::gone_idle, crate::proofs::Going::gone_to_end, crate::proofs::Going::gone_all))]
-pub(crate) fn run<D: LocalDriver>(
+pub fn run<D: LocalDriver>(
     driver: &mut D,
     line: &mut VecDeque<BlockRequest>,
     media: &mut Media,

@@ -1,0 +1,4 @@
+pub mod Decided
+pub mod Ticking
+pub mod Keeping
+pub mod Coming
