@@ -75,8 +75,6 @@ impl<D: LocalDriver> Driven<D> {
 }
 
 impl<D: LocalDriver> Link for Driven<D> {
-    ghost use Rattle.driven.specs.KeptLaws.{noted_drivers_kept};
-
     ghost history = { λ l. history_of l.notes.ended l.notes.items.items };
 
     ghost budget_left = { λ l. l.drivers.budget };
@@ -84,8 +82,6 @@ impl<D: LocalDriver> Link for Driven<D> {
     ghost room = { λ l. room_of l.notes.ended (vec_capacity l.notes.items) (vec_len l.notes.items) };
 
     ghost truth = { λ l v marks. DriversKept D.state v (guarded_of l.drivers) marks };
-
-    ghost noted = { λ l v marks m nothing kept. noted_drivers_kept D.state v (guarded_of l.drivers) marks m nothing kept };
 
     fn post(&mut self, to: Endpoint, request: &BlockRequest) -> Result<(), LinkRefusal>
         requires { 0 < room_of self.old.notes.ended (vec_capacity self.old.notes.items) (vec_len self.old.notes.items) }

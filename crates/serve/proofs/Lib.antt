@@ -1,5 +1,3 @@
-pub mod RootLaws
-pub mod Starts
 pub mod ReadLaws
 pub mod ServerLaws
 pub mod MediaLaws

@@ -1,7 +1,6 @@
-//! A file server that reads over any link, and one over the image of a volume, whose drivers it runs itself.
+//! A file server that reads over any link, and a service of it under a lock, whose clients are sessions.
 #![tactic(auto)]
 
-pub mod alone;
 mod heard;
 mod keeper;
 pub mod laws;
@@ -15,6 +14,7 @@ pub mod server;
 pub mod service;
 pub mod session;
 mod sharing;
+pub mod start;
 pub mod steady;
 
 pub use server::Server;

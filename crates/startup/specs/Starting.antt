@@ -8,7 +8,7 @@ use Rattle.volume.specs.Reading.{disk_of}
 use Rattle.volume.specs.Pieces.{pieces}
 use Rattle.volume.specs.Findings.{lacks_root}
 use Rattle.marks.specs.Opening.{Opening, volume_bytes}
-use Rattle.media.specs.Contents.{MediaState, sectors_of}
+use Rattle.media.specs.Contents.{sectors_of}
 use Rattle.media.specs.declared.MediaRefusal.TheVariants.{NotWholeSectors, TooLarge}
 use Rattle.bdev.specs.DriverState.{DriverState, range_while_fresh}
 use Rattle.partition.specs.declared.PartitionRefusal.{PartitionRefusal}
@@ -17,7 +17,6 @@ use Rattle.partition.specs.Table.{TableState, kind_at, range_at}
 use Rattle.partition.specs.Refusals.{table_of}
 use Rattle.policy.specs.declared.Setup.{Setup}
 use Rattle.policy.specs.Policy.{IsAllowed}
-use Rattle.inline.specs.Inline.{IsReady}
 use Rattle.startup.specs.declared.refusal.MountRefusal.{MountRefusal}
 use Rattle.startup.specs.declared.refusal.MountRefusal.TheVariants.{Layout, Inconsistent}
 use Rattle.startup.specs.declared.refusal.StartRefusal.{StartRefusal}
@@ -101,10 +100,9 @@ IsRefused image setup supply (Mount refusal) =
     × (why_not_mounted (bytes_of image range) ≡ Some refusal)
 IsRefused image setup supply OutOfMemory = why_no_media image ≡ None
 
--- what a server starts on: its media, and where the volume of these sizes lies, for which there are drivers, all ready
-pub record IsPreparedFor (image : List ℕ) (setup : Setup) (supply : List DriverState) (media : MediaState) (g : Geometry) (range : ℕ × ℕ) : Type 0 where
+-- a server starts on the image: the volume of these sizes lies there, and there are drivers, all ready
+pub record IsStartable (image : List ℕ) (setup : Setup) (supply : List DriverState) (g : Geometry) (range : ℕ × ℕ) : Type 0 where
   pub place : HasPlace image setup.minor range
-  pub media_is : media ≡ record { sectors = sectors_of image; generation = 0 }
   pub set_up : IsWellSetUp setup range supply
   pub some : supply ≢ []
   pub geometry : geometry_of (bytes_of image range) ≡ Ok g

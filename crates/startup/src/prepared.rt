@@ -10,8 +10,8 @@ ghost use Rattle.volume.specs.Reading.{disk_of};
 ghost use Rattle.media.specs.Contents.{sectors_of};
 ghost use Rattle.bdev.specs.Promises.{IsDriver};
 ghost use Rattle.inline.specs.Inline.{IsReady};
-ghost use Rattle.true_replies.specs.Events.{IsOnMedia};
-ghost use Rattle.startup.specs.Starting.{bytes_of, opening_of, partition_in, place_in as place_by, is_ready_for, IsInRanges, why_no_media, why_not_mounted, IsNotSetUp, IsWellSetUp, IsRefused, IsPreparedFor};
+ghost use Rattle.true_replies.specs.Events.{IsOnMedia, opening_media};
+ghost use Rattle.startup.specs.Starting.{bytes_of, opening_of, partition_in, place_in as place_by, is_ready_for, IsInRanges, why_no_media, why_not_mounted, IsNotSetUp, IsWellSetUp, IsRefused, IsStartable};
 
 use crate::refusal::{MountRefusal, StartRefusal};
 use inline::local::LocalDriver;
@@ -177,7 +177,8 @@ pub fn prepare<D: LocalDriver>(
 ) -> Result<Prepared, StartRefusal>
     ensures refusal { IfErr result (IsRefused image.now setup.now (map D.state supply.now)) }
     ensures media { (e : StartRefusal) → why_no_media image.now ≡ Some e → result ≡ Err e }
-    ensures ok { IfOk result (λ p. IsPreparedFor image.now setup.now (map D.state supply.now) p.media p.geometry p.range) }
+    ensures ok { IfOk result (λ p. IsStartable image.now setup.now (map D.state supply.now) p.geometry p.range) }
+    ensures contents { IfOk result (λ p. p.media ≡ opening_media (opening_of image.now setup.now.minor p.range)) }
     ensures sizes { IfOk result (λ p. IsGeometry p.geometry) }
     ensures ready { IfOk result (λ p. All (IsReady (opening_of image.now setup.now.minor p.range)) (map D.state supply.now)) }
     ensures on_media { IfOk result (λ p. IsOnMedia (opening_of image.now setup.now.minor p.range)) }

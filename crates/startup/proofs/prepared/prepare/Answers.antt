@@ -33,7 +33,6 @@ returns-clause-ok g c =
     let at = ap (λ s. place_in s c.args.setup.now.minor) (sym c.as_chunks.ensures.front) ∙ sym c.place_in.ensures.place ∙ c.in_ok-range.was in
     record {
       place = (c.in_ok-media.ensures.ok.0, at);
-      media_is = c.in_ok-media.ensures.ok.1;
       set_up = c.in_ok-check_setup.ensures.fits;
       some = c.in_ok-check_setup.ensures.some;
       geometry = ap geometry_of (sym same) ∙ c.in_ok-geometry.ensures.ok.0;

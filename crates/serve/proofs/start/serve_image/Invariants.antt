@@ -1,0 +1,10 @@
+use Rattle.startup.specs.Starting.{opening_of}
+use Rattle.serve.proofs.start.serve_image.Given as goal
+
+-- the service's board, its volume and its sizes, from what is handed over
+abbrev pub ghosts-start_and_run : goal.ghosts-start_and_run
+ghosts-start_and_run g a = record {
+  table = a.board;
+  opening = opening_of a.image.now a.setup.now.minor a.prepared.range;
+  geometry = a.prepared.geometry;
+}
