@@ -28,7 +28,7 @@ use std::alloc::Global;
 use volume::Finding;
 
 /// The volume is the whole image: no partition table is read.
-const MINOR: u8 = 0;
+pub(crate) const MINOR: u8 = 0;
 
 /// The type of directories, in the four highest bits of a mode.
 const DIRECTORY: u16 = 4;
@@ -113,7 +113,7 @@ fn volume_in(image: &[u8]) -> Result<Geometry, MountRefusal>
 }
 
 /// The link of a server over an image, and the volume's sizes.
-fn prepare<D: LocalDriver>(
+pub(crate) fn prepare<D: LocalDriver>(
     alloc: Global,
     image: &[u8],
     supply: Vec<D>,

@@ -15,6 +15,7 @@ pub mod server;
 pub mod service;
 pub mod session;
 mod sharing;
+pub mod start;
 pub mod steady;
 
 pub use server::Server;
