@@ -20,6 +20,8 @@ mod restarts;
 #[cfg(test)]
 mod scripts;
 #[cfg(test)]
+mod sessions;
+#[cfg(test)]
 mod status_words;
 #[cfg(test)]
 mod volumes;

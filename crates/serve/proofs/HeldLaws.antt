@@ -1,9 +1,11 @@
 -- What holds under the lock of a service after each call, and what a session has of it.
-use Rattle.std.proofs.Common.{◌≡◌, ℕ, List, ◌∷◌, Bool, true, refl, sym, ◌∙◌, ap, subst, Some}
-use Rattle.std.specs.Prelude.{◌||◌}
+use Rattle.std.proofs.Common.{◌≡◌, ◌≢◌, ℕ, List, ◌∷◌, Bool, true, false, refl, sym, ◌∙◌, ap, subst, Some}
+use Rattle.std.specs.Prelude.{◌||◌, ◌↔◌}
 use Rattle.layout.specs.declared.Geometry.{Geometry}
 use Rattle.tree.specs.declared.Who.{Who}
 use Rattle.tree.specs.declared.Call.{Call}
+use Rattle.errno.specs.declared.Errno.TheVariants.{EIO}
+use Rattle.tree.specs.declared.Reply.TheVariants.{Refused}
 use Rattle.tree.specs.declared.Outcome.{Outcome as TreeOutcome}
 use Rattle.tree.specs.declared.Outcome.TheVariants as tree
 use Rattle.tree.specs.Tree.{Tree}
@@ -16,6 +18,7 @@ use Rattle.legal.specs.Legal.{IsAtFirst, IsLegal}
 use Rattle.legal.specs.ServerCall.{Serving, Serves, Outcome, Replied, Cut, with_outcome}
 use Rattle.legal.specs.Session.{SessionCallKeeps, went_on}
 use Rattle.reissue.specs.declared.link.Link.{Ghosts}
+use Rattle.reissue.specs.declared.table.Table.{Table}
 use Rattle.reissue.specs.Calls.{Truth}
 use Rattle.board.specs.View.{View, session_of, session_for}
 use Rattle.board.specs.Steps.{SessionLearns}
@@ -157,3 +160,26 @@ session_cut g v s guarantee marks who now call old new held number learns seen m
 pub is_cut : (outcome : TreeOutcome) → outcome_of outcome ≡ Cut → outcome ≡ tree.Cut
 is_cut (tree.Reply r) e = cc
 is_cut tree.Cut e = refl
+
+-- what isn't true is false
+not_true : (b : Bool) → (b ≡ true → ⊥) → b ≡ false
+not_true true h = absurd (h refl)
+not_true false h = refl
+
+-- whether the server knows that the device was given up is what is held
+held_given_up : {L : Type 0} {gh : Ghosts L} (g : Geometry) (v : Opening) (mid new : Server L gh) (marks seen : List Mark) → SameServer mid new
+    → seen ≡ marks → IsHeld g v (serving new) (guarantee_of new) marks → (tree : Tree) → IsAtFirst g (contents_at v) tree
+    → is_given_up mid ≡ gave_up seen
+held_given_up g v mid new marks seen is_same same held tree first =
+    ap (λ (t : Table). t.given_up) (sym is_same.table) ∙ (held.stands tree first).serves.agrees.table.holds.given_up ∙ ap gave_up (sym same)
+
+-- EIO is answered exactly once the device was given up, unless the call is cut
+pub eio_exactly : {L : Type 0} {gh : Ghosts L} (g : Geometry) (v : Opening) (mid new : Server L gh) (marks seen : List Mark) (result : TreeOutcome)
+    → SameServer mid new → seen ≡ marks → IsHeld g v (serving new) (guarantee_of new) marks → (result ≡ tree.Cut) ↔ (mid.ended ≡ true)
+    → (result ≡ tree.Reply (Refused EIO)) ↔ ((mid.ended ≡ false) × (is_given_up mid ≡ true))
+    → (t : Tree) → IsAtFirst g (contents_at v) t → (result ≡ tree.Reply (Refused EIO)) ↔ ((result ≢ tree.Cut) × (gave_up seen ≡ true))
+eio_exactly g v mid new marks seen result is_same same held cut eio t first =
+    let known = held_given_up g v mid new marks seen is_same same held t first in (
+      (λ e. let b = eio.0 e in ((λ is. let ended = cut.0 is in let live = b.0 in cc), sym known ∙ b.1)),
+      (λ b. eio.1 (not_true mid.ended (λ ended. b.0 (cut.1 ended)), known ∙ b.1)),
+    )

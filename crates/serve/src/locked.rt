@@ -1,6 +1,7 @@
 //! What lies under the lock of a service.
 
-ghost use Rattle.std.specs.Prelude.{◌≡◌, ◌↔◌, ◌∷◌, ℕ, ◌<◌, true, false, Some, IsErrOf, IfOk, OnErr};
+ghost use Rattle.std.specs.Prelude.{◌≡◌, ◌≢◌, ◌↔◌, ◌∷◌, ℕ, ◌<◌, true, false, Some, IsErrOf, IfOk, OnErr};
+ghost use Rattle.marks.specs.Marks.{gave_up};
 ghost use Rattle.marks.specs.Opening.{contents_at};
 ghost use Rattle.tree.specs.Tree.{Tree};
 ghost use Rattle.legal.specs.Legal.{IsAtFirst};
@@ -17,8 +18,9 @@ use crate::room::Room;
 use crate::server::Server;
 use crate::sharing::{admit, count_root_stat, release, show};
 use board::Seat;
+use errno::Errno;
 use std::marker::{Model, PhantomData};
-use tree::{Call, Outcome, Who};
+use tree::{Call, Outcome, Reply, Who};
 
 /// What lies under the lock of a service: its server, whose link keeps the record.
 #[derive(Drop)]
@@ -59,6 +61,8 @@ impl<N: Room, L: Recorder<N>> Locked<N, L> {
         ensures seen { seat.new.view.seen ≡ self.new.marks }
         ensures sound { (tree : Tree) → IsAtFirst N.geometry (contents_at N.opening) tree → IsSound N.opening seat.new.view.seen }
         ensures cut { (result ≡ Outcome.Cut) ↔ (self.new.ended ≡ true) }
+        ensures eio { (tree : Tree) → IsAtFirst N.geometry (contents_at N.opening) tree
+            → (result ≡ Outcome.Reply (Reply.Refused Errno.EIO)) ↔ ((result ≢ Outcome.Cut) × (gave_up seat.new.view.seen ≡ true)) }
     {
         let outcome = self.server.stat_root(who, now);
         match &outcome {

@@ -1,7 +1,8 @@
 //! Sessions of a service.
 
-ghost use Rattle.std.specs.Prelude.{◌≡◌};
+ghost use Rattle.std.specs.Prelude.{◌≡◌, ◌≢◌, ◌↔◌, true};
 ghost use Rattle.tree.specs.Tree.{Tree};
+ghost use Rattle.marks.specs.Marks.{gave_up};
 ghost use Rattle.marks.specs.Opening.{contents_at};
 ghost use Rattle.legal.specs.Legal.{IsAtFirst};
 ghost use Rattle.legal.specs.Session.{caller_of, tally_of, SessionCallKeeps, SessionGoesOn, DeviceKeeps, MeetKeeps};
@@ -13,9 +14,10 @@ use crate::recorder::Recorder;
 use crate::room::Room;
 use crate::service::Shared;
 use board::{Board, Device, Seat};
+use errno::Errno;
 use std::marker::{Model, PhantomData};
 use std::sync::{Arc, Wait};
-use tree::{Call, Outcome, Who};
+use tree::{Call, Outcome, Reply, Who};
 
 /// One client of a service: a user and a group, and what it has seen of the service's record. A session may move to another thread.
 ///
@@ -76,6 +78,8 @@ impl<N: Room, R: Wait + Copy, L: Recorder<N> + Drop> Session<N, Shared<N, R, L>>
     pub fn stat_root(&mut self, now: u32) -> Outcome
         ensures keeps { SessionCallKeeps N.geometry (contents_at N.opening) self.old (caller_of self.old) now (Call.Stat root_path) (outcome_of result) self.new }
         ensures sound { (tree : Tree) → IsAtFirst N.geometry (contents_at N.opening) tree → IsSound N.opening self.new.knows.seen }
+        ensures eio { (tree : Tree) → IsAtFirst N.geometry (contents_at N.opening) tree
+            → (result ≡ Outcome.Reply (Reply.Refused Errno.EIO)) ↔ ((result ≢ Outcome.Cut) × (gave_up self.new.knows.seen ≡ true)) }
     {
         let shared = &*self.shared;
         shared

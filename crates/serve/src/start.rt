@@ -27,16 +27,21 @@ use std::alloc::{AllocError, Global};
 use std::marker::Brand;
 use std::sync::{Arc, Wait};
 
-/// What is done with a service. It may not name what the service's parts agree on, so it runs over whatever they agree on.
+/// What is done with a service, whichever it is.
+///
+/// Contracts see one thing of it: `gives` is what it gives back, by the sizes of the service's volume and the volume as it was handed in.
 pub trait Program<R: Wait + Copy>: Drop {
-    /// What comes of it.
+    /// What it gives back.
     type Output: Drop;
 
-    ghost does: { Self → Opening → Geometry → Self.Output → Type 0 };
+    ghost gives: { Self → Geometry → Opening → Self.Output → Type 0 };
 
-    /// Runs over a service for this volume, whose sizes are these.
-    fn run<N: Room, L: Recorder<N> + Drop>(self, service: &Service<N, Shared<N, R, L>>) -> Self::Output
-        ensures { does self N.opening N.geometry result };
+    /// Does it. It may make sessions, and move them to other threads.
+    fn run<N: Room + Send + Sync + 'static, L: Recorder<N> + Drop + Send + 'static>(
+        self,
+        service: &Service<N, Shared<N, R, L>>,
+    ) -> Self::Output
+        ensures { gives self N.geometry N.opening result };
 }
 
 /// The drivers of an allowed policy over these media, with none started yet.
@@ -64,7 +69,7 @@ fn drivers_on<D: LocalDriver>(
 /// No driver is started yet: that comes with the first message that a call takes. Where no memory was found, all of it is let go.
 ///
 /// What the parts of the service agree on is `N`, which the caller picks: the board, the volume as it was handed in, and its sizes.
-/// `serve_image` picks it for a program.
+/// `serve` picks it for a program.
 pub fn start<N: Room, R: Wait + Copy, D: LocalDriver>(
     alloc: Global,
     rt: R,
@@ -94,7 +99,12 @@ pub fn start<N: Room, R: Wait + Copy, D: LocalDriver>(
 }
 
 // The caller picks `N` from what it hands over.
-fn start_and_run<N: Room, R: Wait + Copy, D: LocalDriver, P: Program<R>>(
+fn start_and_run<
+    N: Room + Send + Sync + 'static,
+    R: Wait + Copy + Send + Sync + 'static,
+    D: LocalDriver + Send + 'static,
+    P: Program<R>,
+>(
     alloc: Global,
     rt: R,
     board: Board,
@@ -114,7 +124,7 @@ fn start_and_run<N: Room, R: Wait + Copy, D: LocalDriver, P: Program<R>>(
     requires on_media { IsOnMedia (opening_of image.now setup.now.minor prepared.range) }
     requires geometry { IsGeometry prepared.geometry }
     requires ready { All (IsReady (opening_of image.now setup.now.minor prepared.range)) (map D.state supply.items) }
-    ensures { IfOk result (λ o. P.does program (opening_of image.now setup.now.minor prepared.range) prepared.geometry o) }
+    ensures { IfOk result (λ o. P.gives program prepared.geometry (opening_of image.now setup.now.minor prepared.range) o) }
 {
     let service = start::<N, R, D>(alloc, rt, board, seat, prepared, setup, supply)?;
     Ok(program.run(&service))
@@ -123,7 +133,11 @@ fn start_and_run<N: Room, R: Wait + Copy, D: LocalDriver, P: Program<R>>(
 /// Starts a service on the volume in an image and runs a program over it. When the program ends, the service does.
 ///
 /// It is refused as `prepare` is, and then nothing runs.
-pub fn serve_image<R: Wait + Copy, D: LocalDriver, P: Program<R>>(
+pub fn serve<
+    R: Wait + Copy + Send + Sync + 'static,
+    D: LocalDriver + Send + 'static,
+    P: Program<R>,
+>(
     alloc: Global,
     rt: R,
     image: &[u8],
@@ -133,7 +147,7 @@ pub fn serve_image<R: Wait + Copy, D: LocalDriver, P: Program<R>>(
 ) -> Result<P::Output, StartRefusal>
     ensures refusal { IfErr result (IsRefused image.now setup.now (map D.state supply.items)) }
     ensures ran { IfOk result (λ o. (g : Geometry) × (range : ℕ × ℕ)
-        × IsStartable image.now setup.now (map D.state supply.items) g range × P.does program (opening_of image.now setup.now.minor range) g o) }
+        × IsStartable image.now setup.now (map D.state supply.items) g range × P.gives program g (opening_of image.now setup.now.minor range) o) }
 {
     let prepared = prepare(alloc, image, setup, &supply)?;
     let (board, seat) = Board::new(alloc)?;

@@ -4,7 +4,7 @@ use Rattle.tree.specs.Answers.{answer_of}
 use Rattle.reissue.specs.Calls.{Truth}
 use Rattle.serve.specs.Held.{root_path}
 use Rattle.serve.specs.Server.{serving, guarantee_of, line_of, outcome_of}
-use Rattle.serve.proofs.HeldLaws.{is_cut, held_after, held_sound, session_answered, session_cut}
+use Rattle.serve.proofs.HeldLaws.{is_cut, eio_exactly, held_after, held_sound, session_answered, session_cut}
 use Rattle.serve.proofs.locked.Locked.stat_root.Goals as goal
 
 pub invariant_of-self : goal.invariant_of-self
@@ -63,3 +63,17 @@ returns-in-Cut-clause-sound g c =
     let n = c.show.new.server in
     held_sound g.N.Room.geometry g.N.Room.opening (serving n) (guarantee_of n) (g.L.Recorder.marks (line_of n)) c.show.new.caller.view.seen
     c.show.ensures.seen (invariant_of-self-in-Cut g c)
+
+pub returns-in-Reply-clause-eio : goal.returns-in-Reply-clause-eio
+returns-in-Reply-clause-eio g c =
+    let e = c.stat_root-outcome.ensures in
+    eio_exactly g.N.Room.geometry g.N.Room.opening c.stat_root-outcome.new.self c.count_root_stat.new.server (g.L.Recorder.marks (line_of c.count_root_stat.new.server))
+    c.count_root_stat.new.caller.view.seen c.stat_root-outcome.result c.count_root_stat.ensures.same c.count_root_stat.ensures.seen
+    (invariant_of-self g c) e.cut e.eio
+
+pub returns-in-Cut-clause-eio : goal.returns-in-Cut-clause-eio
+returns-in-Cut-clause-eio g c =
+    let e = c.stat_root-outcome.ensures in
+    eio_exactly g.N.Room.geometry g.N.Room.opening c.stat_root-outcome.new.self c.show.new.server (g.L.Recorder.marks (line_of c.show.new.server))
+    c.show.new.caller.view.seen c.stat_root-outcome.result c.show.ensures.same c.show.ensures.seen
+    (invariant_of-self-in-Cut g c) e.cut e.eio

@@ -1,5 +1,5 @@
 use Rattle.startup.specs.Starting.{opening_of}
-use Rattle.serve.proofs.start.serve_image.Given as goal
+use Rattle.serve.proofs.start.serve.Given as goal
 
 -- the service's board, its volume and its sizes, from what is handed over
 abbrev pub ghosts-start_and_run : goal.ghosts-start_and_run

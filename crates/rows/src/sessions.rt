@@ -1,0 +1,194 @@
+//! Sessions of one service: their replies, their numbers, and what they have seen.
+use crate::volumes::{ROOT, new_volume, supply_of};
+use board::Device;
+use modeldisk::FaultKind;
+use serve::recorder::Recorder;
+use serve::refusal::SessionRefusal;
+use serve::room::Room;
+use serve::service::{Service, Shared};
+use serve::session::Session;
+use serve::start::{Program, serve};
+use std::alloc::Global;
+use std::sync::Wait;
+use std::test::Fail;
+use std::thread;
+use std::thread::Threads;
+use tree::Outcome;
+
+/// What two sessions got.
+#[derive(Drop)]
+struct Got {
+    outcomes: Vec<Outcome>,
+    devices: (Device, Device),
+    seen: (u64, u64),
+}
+
+/// Two sessions make three calls each in turn, meet, and ask for the device.
+#[derive(Drop)]
+struct InTurn {
+    alloc: Global,
+}
+
+impl<R: Wait + Copy> Program<R> for InTurn {
+    type Output = Option<Got>;
+
+    ghost gives = { λ program geometry opening output. Unit {0} };
+
+    fn run<N: Room + Send + Sync + 'static, L: Recorder<N> + Drop + Send + 'static>(
+        self,
+        service: &Service<N, Shared<N, R, L>>,
+    ) -> Option<Got> {
+        let mut outcomes = Vec::new(self.alloc);
+        let mut one = service.session(0, 0).ok()?;
+        let mut two = service.session(7, 8).ok()?;
+        for now in [100, 101, 102] {
+            outcomes.push(one.stat_root(now)).ok()?;
+            outcomes.push(two.stat_root(now)).ok()?;
+        }
+        one.meet(&mut two);
+        let devices = (one.device(), two.device());
+        let seen = (one.seen(), two.seen());
+        one.end();
+        two.end();
+        Some(Got {
+            outcomes,
+            devices,
+            seen,
+        })
+    }
+}
+
+/// Each of the outcomes is told so.
+fn all_told(alloc: Global, outcomes: &[Outcome], line: &str) -> Result<bool, Fail> {
+    for outcome in outcomes {
+        if format!(in alloc; "{outcome}\n")?.as_str() != line {
+            return Ok(false);
+        }
+    }
+    Ok(true)
+}
+
+/// A start, and an answer and a call's mark for each of six calls.
+#[test]
+fn two_sessions_call_in_turn(rt: HostRuntime) -> Result<(), Fail> {
+    let alloc = rt.alloc();
+    let image = new_volume(alloc, 1024)?;
+    let supply = supply_of(alloc, 128, &[None])?;
+    let Ok(Some(got)) = serve(alloc, rt, image.as_slice(), supply, InTurn { alloc }) else {
+        panic!(rt; "not served");
+    };
+    assert_eq!(rt; got.outcomes.len(), 6);
+    assert!(rt; all_told(alloc, got.outcomes.as_slice(), ROOT)?);
+    assert_eq!(rt; got.devices, (Device::Live, Device::Live));
+    assert_eq!(rt; got.seen, (13, 13));
+    Ok(())
+}
+
+/// A start, the giving up, and six calls' marks.
+#[test]
+fn both_are_told_of_the_giving_up(rt: HostRuntime) -> Result<(), Fail> {
+    let alloc = rt.alloc();
+    let image = new_volume(alloc, 1024)?;
+    let supply = supply_of(alloc, 128, &[Some((0, FaultKind::Die))])?;
+    let Ok(Some(got)) = serve(alloc, rt, image.as_slice(), supply, InTurn { alloc }) else {
+        panic!(rt; "not served");
+    };
+    assert_eq!(rt; got.outcomes.len(), 6);
+    assert!(rt; all_told(alloc, got.outcomes.as_slice(), "EIO\n")?);
+    assert_eq!(rt; got.devices, (Device::GivenUp, Device::GivenUp));
+    assert_eq!(rt; got.seen, (8, 8));
+    Ok(())
+}
+
+/// As many sessions as there are numbers, and one more before and after one of them ends.
+#[derive(Drop)]
+struct Many {
+    alloc: Global,
+}
+
+impl<R: Wait + Copy> Program<R> for Many {
+    type Output = Option<(usize, Option<SessionRefusal>, Option<SessionRefusal>)>;
+
+    ghost gives = { λ program geometry opening output. Unit {0} };
+
+    fn run<N: Room + Send + Sync + 'static, L: Recorder<N> + Drop + Send + 'static>(
+        self,
+        service: &Service<N, Shared<N, R, L>>,
+    ) -> Option<(usize, Option<SessionRefusal>, Option<SessionRefusal>)> {
+        let mut sessions: Vec<Session<N, Shared<N, R, L>>> = Vec::new(self.alloc);
+        for _ in 0..64 {
+            sessions.push(service.session(0, 0).ok()?).ok()?;
+        }
+        let before = service.session(0, 0).err();
+        sessions.pop()?.end();
+        let after = service.session(0, 0).err();
+        Some((sessions.len(), before, after))
+    }
+}
+
+#[test]
+fn a_number_is_free_again(rt: HostRuntime) -> Result<(), Fail> {
+    let alloc = rt.alloc();
+    let image = new_volume(alloc, 1024)?;
+    let supply = supply_of(alloc, 128, &[None])?;
+    let Ok(Some((left, before, after))) = serve(alloc, rt, image.as_slice(), supply, Many { alloc }) else {
+        panic!(rt; "not served");
+    };
+    assert_eq!(rt; left, 63);
+    assert_eq!(rt; before, Some(SessionRefusal::TooMany));
+    assert_eq!(rt; after, None);
+    Ok(())
+}
+
+/// Two sessions make three calls each, in threads of their own.
+#[derive(Drop)]
+struct OnThreads<R> {
+    rt: R,
+    alloc: Global,
+}
+
+/// Three calls, one after the other.
+fn three_calls<N: Room, R: Wait + Copy, L: Recorder<N> + Drop>(
+    alloc: Global,
+    mut session: Session<N, Shared<N, R, L>>,
+) -> Option<Vec<Outcome>> {
+    let mut outcomes = Vec::new(alloc);
+    for now in [100, 101, 102] {
+        outcomes.push(session.stat_root(now)).ok()?;
+    }
+    session.end();
+    Some(outcomes)
+}
+
+impl<R: Threads + Wait + Copy + Drop + Send + Sync + 'static> Program<R> for OnThreads<R> {
+    type Output = Option<(Vec<Outcome>, Vec<Outcome>)>;
+
+    ghost gives = { λ program geometry opening output. Unit {0} };
+
+    fn run<N: Room + Send + Sync + 'static, L: Recorder<N> + Drop + Send + 'static>(
+        self,
+        service: &Service<N, Shared<N, R, L>>,
+    ) -> Option<(Vec<Outcome>, Vec<Outcome>)> {
+        let alloc = self.alloc;
+        let one = service.session(0, 0).ok()?;
+        let two = service.session(7, 8).ok()?;
+        let first = thread::spawn(&self.rt, move || three_calls(alloc, one)).ok()?;
+        let second = thread::spawn(&self.rt, move || three_calls(alloc, two)).ok()?;
+        Some((first.join(&self.rt)?, second.join(&self.rt)?))
+    }
+}
+
+#[test]
+fn two_threads_call(rt: HostRuntime) -> Result<(), Fail> {
+    let alloc = rt.alloc();
+    let image = new_volume(alloc, 1024)?;
+    let supply = supply_of(alloc, 128, &[None])?;
+    let Ok(Some((one, two))) = serve(alloc, rt, image.as_slice(), supply, OnThreads { rt, alloc }) else {
+        panic!(rt; "not served");
+    };
+    for outcomes in [one.as_slice(), two.as_slice()] {
+        assert_eq!(rt; outcomes.len(), 3);
+        assert!(rt; all_told(alloc, outcomes, ROOT)?);
+    }
+    Ok(())
+}
