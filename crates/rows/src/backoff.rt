@@ -43,11 +43,7 @@ fn read(id: u64) -> BlockRequest {
 }
 
 /// A driver for each of these places, which fails in its first step or never, under the policy.
-fn link_to(
-    alloc: Global,
-    policy: Policy,
-    fails: &[bool],
-) -> Result<Driven<ScriptedDriver>, Fail> {
+fn link_to(alloc: Global, policy: Policy, fails: &[bool]) -> Result<Driven<ScriptedDriver>, Fail> {
     let mut faults = Vec::new(alloc);
     for fails in fails {
         faults.push(if *fails {
