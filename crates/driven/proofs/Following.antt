@@ -1,17 +1,17 @@
 -- Over every run of the link's drivers the reincarnation server follows the restart policy.
-use Rattle.std.proofs.Common.{◌≡◌, ℕ, List, [], ◌∷◌, ◌++◌, sym, ap, subst, max, inl, inr}
+use Rattle.std.proofs.Common.{◌≡◌, List, [], ◌++◌, sym, ap, subst, max, inl, inr}
 use Rattle.std.proofs.Common.{append_assoc}
 use Rattle.message.specs.declared.Incoming.{Incoming}
 use Rattle.message.specs.declared.Incoming.TheVariants as incoming
 use Rattle.bdev.specs.DriverState.{DriverState}
 use Rattle.policy.specs.declared.Event.TheVariants.{Exit, Tick, Complaint}
 use Rattle.reincarnate.specs.declared.Action.TheVariants.{Start}
-use Rattle.reincarnate.specs.Runs.{Turn, Met}
-use Rattle.reincarnate.specs.Supply.{ReincarnationState, Decides}
+use Rattle.reincarnate.specs.Runs.{Turn}
+use Rattle.reincarnate.specs.Supply.{ReincarnationState}
 use Rattle.reincarnate.specs.Follows.{Follows}
 use Rattle.reincarnate.proofs.FollowLaws.{follows_on}
-use Rattle.driven.specs.Waits.{Guarded, no_pulse, last_tick, Starts, IsTold}
-use Rattle.driven.specs.Comes.{Fails, IsGone, NoneRan, HasFailed, WaitsFor, ComesTo}
+use Rattle.driven.specs.Waits.{Guarded, no_pulse, last_tick}
+use Rattle.driven.specs.Comes.{IsGone, NoneRan, HasFailed, WaitsFor, ComesTo}
 use Rattle.driven.specs.Runs.{exits, starts, turns_until, Run, Begins, Comes, Complained, Posted, Ended, EveryRunFollows}
 
 follows_as : {D : Type 0} (drivers : List D) (turns : List (Turn D)) (a b : Guarded D) → a.server ≡ b.server → Follows drivers turns b.server → Follows drivers turns a.server
