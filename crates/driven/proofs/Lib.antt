@@ -2,3 +2,4 @@ pub mod Decided
 pub mod Ticking
 pub mod Keeping
 pub mod Coming
+pub mod Following

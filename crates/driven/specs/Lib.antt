@@ -4,3 +4,4 @@ pub mod Waits
 pub mod Comes
 pub mod View
 pub mod KeptLaws
+pub mod Runs

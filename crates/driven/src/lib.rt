@@ -2,6 +2,7 @@
 #![tactic(auto)]
 
 mod drivers;
+pub mod laws;
 pub mod link;
 
 pub use link::Driven;

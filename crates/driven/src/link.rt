@@ -32,8 +32,8 @@ use std::alloc::{AllocError, Global};
 ///
 /// - `post` refuses with `DeadEndpoint` where no driver runs or the endpoint isn't that of the last start, else with
 ///   `Full` where 32 requests wait on the line; a refused request is noted, and no driver sees it.
-/// - `complain` lets the driver go if it is the one that runs, and tells the reincarnation server, which awaits the next
-///   start then or gives the device up. So does a driver that fails, which counts as an exit.
+/// - `complain` lets the driver go if it is the one that runs, and tells the reincarnation server, which then awaits the
+///   next start or gives the device up. A driver that fails is let go too, and its exit is told.
 /// - `take` steps the running driver until it answers, fails or no step is left. Where none runs, ticks pass until the
 ///   reincarnation server starts the next one; the first tick is 0, and while a driver runs none passes. Where the device
 ///   was given up, it says so.

@@ -20,7 +20,7 @@ enum Seen {
     End,
 }
 
-fn seen(message: &Incoming) -> Seen {
+fn summary(message: &Incoming) -> Seen {
     match message {
         Incoming::Reply(reply) => Seen::Reply(reply.from.generation),
         Incoming::Started(to) => Seen::Started(to.generation),
@@ -43,11 +43,7 @@ fn read(id: u64) -> BlockRequest {
 }
 
 /// A driver for each of these places, which fails in its first step or never, under the policy.
-fn link_to(
-    alloc: Global,
-    policy: Policy,
-    fails: &[bool],
-) -> Result<Driven<ScriptedDriver>, Fail> {
+fn link_to(alloc: Global, policy: Policy, fails: &[bool]) -> Result<Driven<ScriptedDriver>, Fail> {
     let mut faults = Vec::new(alloc);
     for fails in fails {
         faults.push(if *fails {
@@ -76,7 +72,7 @@ fn story(
     let mut story = Vec::new(alloc);
     for id in 1..=messages {
         let message = link.take();
-        story.push((seen(&message), gone(link)))?;
+        story.push((summary(&message), gone(link)))?;
         if let Incoming::Started(to) = message {
             let _ = link.post(to, &read(id));
         }
@@ -151,14 +147,14 @@ fn a_complaint_is_a_fault(rt: HostRuntime) -> Result<(), Fail> {
     };
     let mut link = link_to(alloc, Policy::default(), &[false; 3])?;
     let start = link.take();
-    assert_eq!(rt; seen(&start), Seen::Started(1));
+    assert_eq!(rt; summary(&start), Seen::Started(1));
     if let Incoming::Started(to) = start {
         link.complain(to);
         assert_eq!(rt; link.post(to, &read(1)), Err(LinkRefusal::DeadEndpoint));
         link.complain(first);
     }
     let start = link.take();
-    assert_eq!(rt; seen(&start), Seen::Started(2));
+    assert_eq!(rt; summary(&start), Seen::Started(2));
     assert_eq!(rt; gone(&link), 2);
     if let Incoming::Started(to) = start {
         link.complain(first);
@@ -166,7 +162,7 @@ fn a_complaint_is_a_fault(rt: HostRuntime) -> Result<(), Fail> {
         assert_eq!(rt; link.post(to, &read(1)), Ok(()));
     }
     let reply = link.take();
-    assert_eq!(rt; seen(&reply), Seen::Reply(2));
+    assert_eq!(rt; summary(&reply), Seen::Reply(2));
     assert_eq!(rt; gone(&link), 3);
     Ok(())
 }
