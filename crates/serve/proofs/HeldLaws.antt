@@ -1,6 +1,7 @@
 -- What holds under the lock of a service after each call, and what a session has of it.
 use Rattle.std.proofs.Common.{◌≡◌, ◌≢◌, ℕ, List, ◌∷◌, Bool, true, false, refl, sym, ◌∙◌, ap, subst, Some}
-use Rattle.std.specs.Prelude.{◌||◌, ◌↔◌}
+use Rattle.std.specs.Prelude.{◌||◌, ◌↔◌, Result, Ok, Err, IfOk}
+use Rattle.atomic_table.specs.Seated.{TableId}
 use Rattle.layout.specs.declared.Geometry.{Geometry}
 use Rattle.tree.specs.declared.Who.{Who}
 use Rattle.tree.specs.declared.Call.{Call}
@@ -20,12 +21,12 @@ use Rattle.legal.specs.Session.{SessionCallKeeps, went_on}
 use Rattle.reissue.specs.declared.link.Link.{Ghosts}
 use Rattle.reissue.specs.declared.table.Table.{Table}
 use Rattle.reissue.specs.Calls.{Truth}
-use Rattle.board.specs.View.{View, session_of, session_for}
-use Rattle.board.specs.Steps.{SessionLearns}
+use Rattle.board.specs.View.{View, SeatState, session_of, session_for}
+use Rattle.board.specs.Steps.{SessionLearns, SessionIsNew}
 use Rattle.serve.specs.declared.server.Server.{Server}
 use Rattle.serve.specs.Reader.{Stands, reader}
 use Rattle.serve.specs.Server.{Calls, SameServer, serving, guarantee_of, is_given_up, outcome_of}
-use Rattle.serve.specs.Held.{IsHeld, IsSound}
+use Rattle.serve.specs.Held.{IsHeld, IsGood, IsSound}
 
 -- a server that is as it was but for its link is seen as it was
 pub same_serving : {L : Type 0} {g : Ghosts L} (old new : Server L g) → SameServer old new → serving new ≡ serving old
@@ -131,6 +132,16 @@ held_legal g v s guarantee marks seen same held tree first replies =
     subst (λ (ms : List Mark). IsLegal g (contents_at v) tree ms) (sym same)
     (subst (λ (h : Geometry). IsLegal h (contents_at v) tree marks) held.geometry
     ((held.stands tree first).serves.legal (subst (λ (ms : List Mark). HasTrueReplies (contents_at v) ms) same replies)))
+
+-- a new session has seen what is held
+pub admitted_good : {E : Type 0} (g : Geometry) (v : Opening) (s : Serving) (guarantee : Truth) (marks : List Mark) (table : TableId)
+    (result : Result (ℕ × SeatState) E) → IfOk result (λ r. (r.1.table ≡ table) × SessionIsNew r.0 r.1.view marks) → IsHeld g v s guarantee marks
+    → (tree : Tree) → IsAtFirst g (contents_at v) tree → IfOk result (λ r. IsGood g v tree r.1.view.seen)
+admitted_good g v s guarantee marks table (Ok r) new held tree first =
+    let same = new.1.1 in
+    let sound = held_sound g v s guarantee marks r.1.view.seen same held tree first in
+    (sound, held_legal g v s guarantee marks r.1.view.seen same held tree first sound.true_replies)
+admitted_good g v s guarantee marks table (Err e) new held tree first = tt
 
 -- a session whose call was answered
 pub session_answered : (g : Geometry) (v : Opening) (s : Serving) (guarantee : Truth) (older marks : List Mark) (who : Who) (now : ℕ) (call : Call)

@@ -7,7 +7,7 @@ use Rattle.marks.specs.Marks.{Mark, gave_up}
 use Rattle.marks.specs.Open.{IsWellFormed}
 use Rattle.marks.specs.Disk.{HasTrueReplies}
 use Rattle.marks.specs.Opening.{Opening, contents_at}
-use Rattle.legal.specs.Legal.{IsAtFirst}
+use Rattle.legal.specs.Legal.{IsAtFirst, IsLegal}
 use Rattle.legal.specs.ServerCall.{Serving}
 use Rattle.legal.specs.Session.{went_on}
 use Rattle.reissue.specs.Calls.{Truth}
@@ -35,3 +35,7 @@ pub record IsSound (v : Opening) (marks : List Mark) : Type 0 where
   pub well_formed : IsWellFormed marks
   pub true_replies : HasTrueReplies (contents_at v) marks
   pub answered : gave_up marks ≡ true → went_on marks ≡ true
+
+-- a sound record of the volume is legal from this tree on
+abbrev pub IsGood : Geometry → Opening → Tree → List Mark → Type 0
+IsGood g v tree marks = IsSound v marks × IsLegal g (contents_at v) tree marks

@@ -8,7 +8,7 @@ ghost use Rattle.legal.specs.Legal.{IsAtFirst};
 ghost use Rattle.legal.specs.Session.{SessionCallKeeps};
 ghost use Rattle.board.specs.View.{is_used, session_for, without};
 ghost use Rattle.board.specs.Steps.{SessionIsNew};
-ghost use Rattle.serve.specs.Held.{root_path, IsHeld, IsSound};
+ghost use Rattle.serve.specs.Held.{root_path, IsHeld, IsGood, IsSound};
 ghost use Rattle.serve.specs.Keeper.{IsLowestFree};
 ghost use Rattle.serve.specs.Server.{serving, guarantee_of, line_of, outcome_of};
 
@@ -80,6 +80,8 @@ impl<N: Room, L: Recorder<N>> Locked<N, L> {
             ↔ ((self.old.ended ≡ true) × ((n : ℕ) × (n < 64) × (is_used n self.old.used ≡ false))) }
         ensures number { IfOk result (λ r. IsLowestFree r.0 self.old.used × (self.new.used ≡ r.0 ∷ self.old.used)) }
         ensures seat { IfOk result (λ r. (r.1.table ≡ N.table) × SessionIsNew r.0 r.1.view self.old.marks) }
+        ensures sound { (tree : Tree) → IsAtFirst N.geometry (contents_at N.opening) tree
+            → IfOk result (λ r. IsGood N.geometry N.opening tree r.1.view.seen) }
         ensures rest { (self.new.marks ≡ self.old.marks) × (self.new.ended ≡ self.old.ended) }
         ensures refused { OnErr result (self.new ≡ self.old) }
     {

@@ -4,7 +4,11 @@ ghost use Rattle.std.specs.Prelude.{◌≡◌, ◌≤◌, ◌^◌, [], false, If
 ghost use Rattle.std.specs.Arc.{arc_value};
 ghost use Rattle.layout.specs.Places.{IsGeometry};
 ghost use Rattle.marks.specs.Told.{took_end};
+ghost use Rattle.marks.specs.Opening.{contents_at};
+ghost use Rattle.tree.specs.Tree.{Tree};
+ghost use Rattle.legal.specs.Legal.{IsAtFirst};
 ghost use Rattle.legal.specs.Session.{IsMadeFor};
+ghost use Rattle.serve.specs.Held.{IsGood};
 
 use crate::locked::Locked;
 use crate::recorder::Recorder;
@@ -79,7 +83,9 @@ impl<N: Room, R: Wait + Copy, L: Recorder<N> + Drop> Service<N, Shared<N, R, L>>
         uid: u16,
         gid: u16,
     ) -> Result<Session<N, Shared<N, R, L>>, SessionRefusal>
-        ensures { IfOk result (λ s. IsMadeFor uid gid s s.knows.seen) }
+        ensures made { IfOk result (λ s. IsMadeFor uid gid s s.knows.seen) }
+        ensures sound { (tree : Tree) → IsAtFirst N.geometry (contents_at N.opening) tree
+            → IfOk result (λ s. IsGood N.geometry N.opening tree s.knows.seen) }
     {
         let board = Arc::try_clone(&self.board)?;
         let shared = Arc::try_clone(&self.shared)?;
