@@ -1,23 +1,23 @@
 //! Playing a script against a server of its own, from the bytes of its files to the lines of its answers.
 
-ghost use Rattle.std.specs.Prelude.{◌≡◌, ◌≢◌, IfOk, IfErr, OnErr, map, Some, None};
-ghost use Rattle.tools.specs.Played.{Plays, caller, IsPlayed, IsUnplayed, IsShown, IsCutShort, IsScript, IsNoScript, Tells, refusal_text};
+ghost use Rattle.std.specs.Prelude.{◌≡◌, ◌≢◌, IfOk, IfErr, map, Some, None};
 ghost use Rattle.std.specs.Io.KnownBytes.{Appends};
+ghost use Rattle.tools.specs.Played.{IsPlayed, IsUnplayed, IsShown, IsCutShort, IsScript, IsNoScript, Tells, refusal_text};
 ghost use Rattle.tools.specs.Output.{AppendsPart};
-ghost use Rattle.serve.specs.Server.{serving, guarantee_of};
 ghost use Rattle.tools.specs.Status.{status_number, gave_of};
 
+use crate::calls::{Played, Player};
 use crate::output::{OutputRefusal, write_session, write_text};
 use crate::script::{Script, ScriptRefusal, read_script};
-use serve::alone::alone;
 use inline::local::LocalDriver;
-use serve::refusal::StartRefusal;
-use serve::server::Server;
-use serve::steady::Steady;
-use std::alloc::{AllocError, Global};
+use policy::Setup;
+use serve::refusal::SessionRefusal;
+use serve::start::serve;
+use startup::StartRefusal;
+use std::alloc::Global;
 use std::fmt;
 use std::io::Write;
-use tree::{Outcome, Who};
+use std::sync::Wait;
 
 /// A file that the command line names, and its bytes if it could be read.
 #[derive(Clone, Copy)]
@@ -59,8 +59,10 @@ pub enum PlayRefusal<'n> {
     CannotRead(&'n str),
     /// The line of this number, from 1, of the script of this name can't be read.
     BadLine(u64, &'n str),
-    /// The server doesn't start on this image.
+    /// No service starts on this image.
     Start(StartRefusal),
+    /// The service makes no session.
+    NoSession(SessionRefusal),
     /// No memory was found.
     OutOfMemory,
     /// Standard output refused bytes; those before them went out.
@@ -75,30 +77,39 @@ impl fmt::Display for PlayRefusal<'_> {
             PlayRefusal::CannotRead(name) => write!(f, "cannot read {name}"),
             PlayRefusal::BadLine(number, name) => write!(f, "bad line {number} of {name}"),
             PlayRefusal::Start(refusal) => write!(f, "{refusal}"),
+            PlayRefusal::NoSession(refusal) => write!(f, "{refusal}"),
             PlayRefusal::OutOfMemory => f.write_str("OutOfMemory"),
             PlayRefusal::NotWritten => f.write_str("cannot write standard output"),
         }
     }
 }
 
-/// Plays a script against a server over an image, and writes the answers on `out`: a line `session 0`, and then a line for each call.
+/// Plays a script in a session of a service on the volume in an image, and writes the answers on `out`: a line `session 0`, and then a line
+/// for each call.
 ///
-/// Faults are looked for in this order: reading the image, reading the script, its lines, the start of the server. For the first of them, or
-/// where the answers can't be written, a line goes to `err`, and nothing is played after it.
-pub fn play<D: LocalDriver, W: Write, E: Write>(
+/// Faults are looked for in this order: reading the image, reading the script, its lines, the start of the service, its session. For the
+/// first of them, or where the answers can't be written, a line goes to `err`, and nothing is played after it.
+pub fn play<
+    R: Wait + Copy + Send + Sync + 'static,
+    D: LocalDriver + Send + 'static,
+    W: Write,
+    E: Write,
+>(
     alloc: Global,
+    rt: R,
     image: File<'_, '_>,
     script: File<'_, '_>,
+    setup: &Setup,
     supply: Vec<D>,
     out: &mut W,
     err: &mut E,
 ) -> Status
-    ensures whole { result ≢ Status.Refused → IsShown image.entry script.entry (map D.state supply.items) (gave_of result)
+    ensures whole { result ≢ Status.Refused → IsShown image.entry script.entry setup.now (map D.state supply.items) (gave_of result)
         (Appends (W.contents out.old) (W.contents out.new)) × (err.new ≡ err.old) }
     ensures refused { result ≡ Status.Refused → (refusal : PlayRefusal) × Tells refusal (E.contents err.old) (E.contents err.new)
-        × IsCutShort image.entry script.entry (map D.state supply.items) refusal (out.new ≡ out.old) (AppendsPart (W.contents out.old) (W.contents out.new)) }
+        × IsCutShort image.entry script.entry setup.now (map D.state supply.items) refusal (out.new ≡ out.old) (AppendsPart (W.contents out.old) (W.contents out.new)) }
 {
-    match run(alloc, image, script, supply, out) {
+    match run(alloc, rt, image, script, setup, supply, out) {
         Ok(status) => status,
         Err(refusal) => {
             write_refusal(alloc, err, refusal);
@@ -118,54 +129,56 @@ fn write_refusal<E: Write>(alloc: Global, err: &mut E, refusal: PlayRefusal<'_>)
 }
 
 /// Plays, and writes the answers.
-fn run<'n, D: LocalDriver, W: Write>(
+fn run<
+    'n,
+    R: Wait + Copy + Send + Sync + 'static,
+    D: LocalDriver + Send + 'static,
+    W: Write,
+>(
     alloc: Global,
+    rt: R,
     image: File<'n, '_>,
     script: File<'n, '_>,
+    setup: &Setup,
     supply: Vec<D>,
     out: &mut W,
 ) -> Result<Status, PlayRefusal<'n>>
-    ensures shown { IfOk result (λ status. (status ≢ Status.Refused) × IsShown image.entry script.entry (map D.state supply.items) (gave_of status)
+    ensures shown { IfOk result (λ status. (status ≢ Status.Refused) × IsShown image.entry script.entry setup.now (map D.state supply.items) (gave_of status)
         (Appends (W.contents out.old) (W.contents out.new))) }
-    ensures refused { IfErr result (λ refusal. IsCutShort image.entry script.entry (map D.state supply.items) refusal (out.new ≡ out.old)
+    ensures refused { IfErr result (λ refusal. IsCutShort image.entry script.entry setup.now (map D.state supply.items) refusal (out.new ≡ out.old)
         (AppendsPart (W.contents out.old) (W.contents out.new))) }
 {
-    let session = play_session(alloc, image, script, supply)?;
-    match write_session(alloc, out, 0, session.outcomes.as_slice()) {
-        Ok(()) => Ok(status_of(session.given_up)),
+    let played = play_session(alloc, rt, image, script, setup, supply)?;
+    match write_session(alloc, out, 0, played.outcomes.as_slice()) {
+        Ok(()) => Ok(status_of(played.given_up)),
         Err(OutputRefusal::OutOfMemory) => Err(PlayRefusal::OutOfMemory),
         Err(OutputRefusal::NotWritten) => Err(PlayRefusal::NotWritten),
     }
 }
 
-/// What came of a script's calls.
-#[derive(Drop)]
-struct Session {
-    outcomes: Vec<Outcome>,
-    given_up: bool,
-}
-
 /// Reads, starts and makes the calls, in this order.
-fn play_session<'n, D: LocalDriver>(
+fn play_session<
+    'n,
+    R: Wait + Copy + Send + Sync + 'static,
+    D: LocalDriver + Send + 'static,
+>(
     alloc: Global,
+    rt: R,
     image: File<'n, '_>,
     script: File<'n, '_>,
+    setup: &Setup,
     supply: Vec<D>,
-) -> Result<Session, PlayRefusal<'n>>
-    ensures played { IfOk result (λ session. IsPlayed image.entry script.entry (map D.state supply.items) session.outcomes.items session.given_up) }
-    ensures unplayed { IfErr result (IsUnplayed image.entry script.entry (map D.state supply.items)) }
+) -> Result<Played, PlayRefusal<'n>>
+    ensures played { IfOk result (λ played. IsPlayed image.entry script.entry setup.now (map D.state supply.items) played.outcomes.items played.given_up) }
+    ensures unplayed { IfErr result (IsUnplayed image.entry script.entry setup.now (map D.state supply.items)) }
 {
     let image = readable(image)?;
     let script = read(alloc, script)?;
-    let mut server = match alone(alloc, image, supply) {
-        Ok(server) => server,
-        Err(refusal) => return Err(PlayRefusal::Start(refusal)),
-    };
-    let Ok(outcomes) = play_script(alloc, &mut server, &script) else {
-        return Err(PlayRefusal::OutOfMemory);
-    };
-    let given_up = server.is_given_up();
-    Ok(Session { outcomes, given_up })
+    match serve(alloc, rt, image, setup, supply, Player { alloc, script }) {
+        Ok(Ok(played)) => Ok(played),
+        Ok(Err(refusal)) => Err(PlayRefusal::NoSession(refusal)),
+        Err(refusal) => Err(PlayRefusal::Start(refusal)),
+    }
 }
 
 /// The status of a play that was written whole.
@@ -202,26 +215,4 @@ fn read<'n>(alloc: Global, file: File<'n, '_>) -> Result<Script, PlayRefusal<'n>
         Err(ScriptRefusal::BadLine(number)) => Err(PlayRefusal::BadLine(number, file.name)),
         Err(ScriptRefusal::OutOfMemory) => Err(PlayRefusal::OutOfMemory),
     }
-}
-
-/// Makes the calls of a script, one after the other, as session 0. Without memory for the outcomes none is made.
-fn play_script<L: Steady>(
-    alloc: Global,
-    server: &mut Server<L>,
-    script: &Script,
-) -> Result<Vec<Outcome>, AllocError>
-    ensures plays { IfOk result (λ outcomes. Plays (serving server.old) (serving server.new) (guarantee_of server.old) (guarantee_of server.new)
-        (caller script.now.uid script.now.gid) script.now.times.items outcomes.items) }
-    ensures none_made { OnErr result (server.new ≡ server.old) }
-{
-    let who = Who {
-        session: 0,
-        uid: script.uid,
-        gid: script.gid,
-    };
-    let mut outcomes = Vec::with_capacity(alloc, script.times.len())?;
-    for now in &script.times {
-        outcomes.push_reserved(server.stat_root(who, *now));
-    }
-    Ok(outcomes)
 }

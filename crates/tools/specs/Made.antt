@@ -1,0 +1,85 @@
+-- The calls of a script in one session, and the record of them.
+use Rattle.std.specs.Prelude.{◌≡◌, ℕ, List, [], ◌∷◌, Bool, true, false, length}
+use Rattle.layout.specs.declared.Geometry.{Geometry}
+use Rattle.tree.specs.declared.Who.{Who}
+use Rattle.tree.specs.declared.Call.TheVariants.{Stat}
+use Rattle.tree.specs.declared.Outcome.{Outcome}
+use Rattle.tree.specs.declared.Outcome.TheVariants.{Reply, Cut}
+use Rattle.tree.specs.Tree.{Tree}
+use Rattle.tree.specs.Answers.{answer_of}
+use Rattle.marks.specs.Marks.{Mark, Took, gave_up, IsBeginning}
+use Rattle.marks.specs.Opening.{Opening, contents_at}
+use Rattle.legal.specs.Legal.{IsAtFirst}
+use Rattle.legal.specs.Session.{SessionState, SessionCallKeeps, caller_of, calls_of}
+use Rattle.serve.specs.Held.{root_path, IsGood, IsSound}
+use Rattle.serve.specs.Server.{outcome_of}
+
+-- the marks of a `stat /` at each of these times, onto older ones, the newest first; a call that was cut has none
+abbrev pub calls_made : Who → List ℕ → List Outcome → List Mark → List Mark
+calls_made who (now ∷ times) (Reply reply ∷ outcomes) older =
+    calls_made who times outcomes (Took who now (Stat root_path) (answer_of reply) ∷ older)
+calls_made who (now ∷ times) (Cut ∷ outcomes) older = calls_made who times outcomes older
+calls_made who _ _ older = older
+
+-- whether some call was cut
+abbrev pub some_cut : List Outcome → Bool
+some_cut [] = false
+some_cut (Cut ∷ outcomes) = true
+some_cut (Reply reply ∷ outcomes) = some_cut outcomes
+
+-- whether each call was cut
+abbrev pub all_cut : List Outcome → Bool
+all_cut [] = true
+all_cut (Cut ∷ outcomes) = all_cut outcomes
+all_cut (Reply reply ∷ outcomes) = false
+
+-- whether no call was answered after one that was cut
+abbrev pub cuts_last : List Outcome → Bool
+cuts_last [] = true
+cuts_last (Cut ∷ outcomes) = all_cut outcomes
+cuts_last (Reply reply ∷ outcomes) = cuts_last outcomes
+
+-- the session's own calls are those of its number since it was made, in what it has seen
+abbrev pub IsOwn : SessionState → Type 0
+IsOwn s = s.knows.mine ≡ calls_of s.knows.number s.knows.place s.knows.seen
+
+-- the same session, whatever it knows
+pub record IsSame (old new : SessionState) : Type 0 where
+  pub caller : caller_of new ≡ caller_of old
+  pub place : new.knows.place ≡ old.knows.place
+
+-- Calls of a session were made, each in its turn and with its outcome; from the first that is cut on all are. Its own calls grew by
+-- those that were answered. What it has seen stays good.
+pub record Plays (g : Geometry) (v : Opening) (old : SessionState) (times : List ℕ) (outcomes : List Outcome) (new : SessionState) : Type 0 where
+  pub same : IsSame old new
+  pub each : length outcomes ≡ length times
+  pub cuts_last : cuts_last outcomes ≡ true
+  pub mine : new.knows.mine ≡ calls_made (caller_of old) times outcomes old.knows.mine
+  pub own : IsOwn old → IsOwn new
+  pub good : (tree : Tree) → IsAtFirst g (contents_at v) tree → IsGood g v tree old.knows.seen → IsGood g v tree new.knows.seen
+
+-- One call, unless an earlier one was cut.
+pub record Calls (g : Geometry) (v : Opening) (old : SessionState) (cut : Bool) (now : ℕ) (outcome : Outcome) (new : SessionState) : Type 0 where
+  pub after_cut : cut ≡ true → (outcome ≡ Cut) × (new ≡ old)
+  pub call : cut ≡ false → SessionCallKeeps g (contents_at v) old (caller_of old) now (Stat root_path) (outcome_of outcome) new
+  pub sound : cut ≡ false → (tree : Tree) → IsAtFirst g (contents_at v) tree → IsSound v new.knows.seen
+
+-- A session of this user and group, whose calls are these. What it has seen is sound and legal, and the device was given up, or not, in
+-- what it has seen since.
+pub record Records (g : Geometry) (v : Opening) (tree : Tree) (uid gid : ℕ) (times : List ℕ) (outcomes : List Outcome) (gave : Bool) : Type 0 where
+  pub session : SessionState
+  pub user : session.uid ≡ uid
+  pub group : session.gid ≡ gid
+  pub good : IsGood g v tree session.knows.seen
+  pub calls : calls_of session.knows.number session.knows.place session.knows.seen ≡ calls_made (caller_of session) times outcomes []
+  pub later : List Mark
+  pub beginning : IsBeginning session.knows.seen later
+  pub given_up : gave ≡ true → gave_up later ≡ true
+  pub only : gave_up session.knows.seen ≡ true → gave ≡ true
+
+-- The calls of a script (its user, group and times) got these outcomes from a service for the volume; afterwards the device was given up
+-- or not. Whichever tree the volume held as it was handed in, there is a record of these calls.
+pub record IsAnswered (g : Geometry) (v : Opening) (script : ℕ × ℕ × List ℕ) (outcomes : List Outcome) (gave : Bool) : Type 0 where
+  pub each : length outcomes ≡ length script.2
+  pub cuts : cuts_last outcomes ≡ true
+  pub recorded : (tree : Tree) → IsAtFirst g (contents_at v) tree → Records g v tree script.0 script.1 script.2 outcomes gave

@@ -1,0 +1,84 @@
+//! The calls of a script, made in a session of a service.
+
+ghost use Rattle.std.specs.Prelude.{◌≡◌, IfOk};
+ghost use Rattle.tools.specs.Made.{Calls, Plays, IsAnswered};
+
+use crate::script::Script;
+use board::Device;
+use serve::recorder::Recorder;
+use serve::refusal::SessionRefusal;
+use serve::room::Room;
+use serve::service::{Service, Shared};
+use serve::session::Session;
+use serve::start::Program;
+use std::alloc::{AllocError, Global};
+use std::sync::Wait;
+use tree::Outcome;
+
+/// What came of a script's calls.
+#[derive(Drop)]
+pub(crate) struct Played {
+    pub(crate) outcomes: Vec<Outcome>,
+    pub(crate) given_up: bool,
+}
+
+/// A script, to be played in one session.
+#[derive(Drop)]
+pub(crate) struct Player {
+    pub(crate) alloc: Global,
+    pub(crate) script: Script,
+}
+
+impl<R: Wait + Copy> Program<R> for Player {
+    type Output = Result<Played, SessionRefusal>;
+
+    ghost gives = { λ player g v result. IfOk result (λ played.
+        IsAnswered g v (player.script.uid, player.script.gid, player.script.times.items) played.outcomes.items played.given_up) };
+
+    fn run<N: Room + Send + Sync + 'static, L: Recorder<N> + Drop + Send + 'static>(
+        self,
+        service: &Service<N, Shared<N, R, L>>,
+    ) -> Result<Played, SessionRefusal>
+        ensures { IfOk result (λ played.
+            IsAnswered N.geometry N.opening (self.script.uid, self.script.gid, self.script.times.items) played.outcomes.items played.given_up) }
+    {
+        let mut session = service.session(self.script.uid, self.script.gid)?;
+        let outcomes = make_calls(self.alloc, &mut session, self.script.times.as_slice())?;
+        let given_up = session.device() == Device::GivenUp;
+        session.end();
+        Ok(Played { outcomes, given_up })
+    }
+}
+
+/// Makes calls in a session, one after the other; from the first that is cut on all are. Without memory for the outcomes none is made.
+fn make_calls<N: Room, R: Wait + Copy, L: Recorder<N> + Drop>(
+    alloc: Global,
+    session: &mut Session<N, Shared<N, R, L>>,
+    times: &[u32],
+) -> Result<Vec<Outcome>, AllocError>
+    ensures { IfOk result (λ outcomes. Plays N.geometry N.opening session.old times.now outcomes.items session.new) }
+{
+    let mut outcomes = Vec::with_capacity(alloc, times.len())?;
+    let mut cut = false;
+    for now in times {
+        let outcome = call_unless(cut, session, *now);
+        cut = matches!(outcome, Outcome::Cut);
+        outcomes.push_reserved(outcome);
+    }
+    Ok(outcomes)
+}
+
+/// A call, unless an earlier one was cut.
+fn call_unless<N: Room, R: Wait + Copy, L: Recorder<N> + Drop>(
+    cut: bool,
+    session: &mut Session<N, Shared<N, R, L>>,
+    now: u32,
+) -> Outcome
+    ensures { Calls N.geometry N.opening session.old cut now result session.new }
+{
+    if cut {
+        Outcome::Cut
+    } else {
+        session.stat_root(now)
+    }
+}
