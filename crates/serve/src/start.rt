@@ -43,13 +43,7 @@ pub fn serve<
     R: Wait + Copy + Send + Sync + 'static,
     D: LocalDriver + Send + 'static,
     P: Program<R>,
->(
-    alloc: Global,
-    rt: R,
-    image: &[u8],
-    supply: Vec<D>,
-    program: P,
-) -> Result<P::Output, StartRefusal>
+>(alloc: Global, rt: R, image: &[u8], supply: Vec<D>, program: P) -> Result<P::Output, StartRefusal>
     ensures refusal { result ≢ Err StartRefusal.OutOfMemory → refusal_in result ≡ why_not_started image.now (map D.state supply.items) }
     ensures gives { IfOk result (λ output. (g : Geometry) → geometry_of image.now ≡ Ok g → P.gives program g (whole_image image.now) output) }
 {

@@ -1,4 +1,3 @@
-use Rattle.std.proofs.Common.{sym}
 use Rattle.serve.specs.Server.{line_of}
 use Rattle.serve.proofs.HeldLaws.{held_same}
 use Rattle.serve.proofs.locked.Locked.admit.Goals as goal
