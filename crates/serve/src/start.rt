@@ -29,21 +29,20 @@ pub trait Program<R: Wait + Copy>: Drop {
 
     ghost gives: { Self → Geometry → Opening → Self.Output → Type 0 };
 
-    /// Does it. It may make sessions, and move them to other threads.
-    fn run<N: Room + Send + Sync + 'static, L: Recorder<N> + Drop + Send + 'static>(
-        self,
-        service: &Service<N, Shared<N, R, L>>,
-    ) -> Self::Output
+    /// Does it.
+    fn run<N: Room, L: Recorder<N>>(self, service: &Service<N, Shared<N, R, L>>) -> Self::Output
         ensures { gives self N.geometry N.opening result };
 }
 
 /// Starts a service over the volume with which an image begins, as `alone` starts a server, runs the program with it, and lets it go. It is refused
 /// as `alone` is, and for want of memory whatever else holds.
-pub fn serve<
-    R: Wait + Copy + Send + Sync + 'static,
-    D: LocalDriver + Send + 'static,
-    P: Program<R>,
->(alloc: Global, rt: R, image: &[u8], supply: Vec<D>, program: P) -> Result<P::Output, StartRefusal>
+pub fn serve<R: Wait + Copy, D: LocalDriver, P: Program<R>>(
+    alloc: Global,
+    rt: R,
+    image: &[u8],
+    supply: Vec<D>,
+    program: P,
+) -> Result<P::Output, StartRefusal>
     ensures refusal { result ≢ Err StartRefusal.OutOfMemory → refusal_in result ≡ why_not_started image.now (map D.state supply.items) }
     ensures gives { IfOk result (λ output. (g : Geometry) → geometry_of image.now ≡ Ok g → P.gives program g (whole_image image.now) output) }
 {
@@ -52,12 +51,7 @@ pub fn serve<
 }
 
 /// The same for the service that the type names.
-fn serve_on<
-    N: Room + Send + Sync + 'static,
-    R: Wait + Copy + Send + Sync + 'static,
-    D: LocalDriver + Send + 'static,
-    P: Program<R>,
->(
+fn serve_on<N: Room, R: Wait + Copy, D: LocalDriver, P: Program<R>>(
     alloc: Global,
     rt: R,
     image: &[u8],
