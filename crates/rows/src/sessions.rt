@@ -1,18 +1,25 @@
 //! Sessions of one service: their replies, their numbers, and what they have seen.
+ghost use Rattle.std.specs.Prelude.{◌≡◌};
+ghost use Rattle.board.specs.View.{IsKeeper, opener};
+ghost use Rattle.serve.specs.Refusals.{whole_image};
+ghost use Rattle.serve.specs.Rooms.{geometry_in};
+
 use crate::volumes::{ROOT, new_volume, supply_of};
-use board::Device;
-use modeldisk::FaultKind;
+use board::{Board, Device, Seat};
+use inline::Inline;
+use modeldisk::{FaultKind, ScriptedDriver};
+use serve::noting::Noting;
 use serve::recorder::Recorder;
 use serve::refusal::SessionRefusal;
 use serve::room::Room;
 use serve::service::{Service, Shared};
 use serve::session::Session;
-use serve::start::{Program, serve};
+use serve::start::{Program, serve, start};
 use std::alloc::Global;
+use std::marker::Brand;
 use std::sync::Wait;
 use std::test::Fail;
-use std::thread;
-use std::thread::Threads;
+use std::thread::join;
 use tree::Outcome;
 
 /// What two sessions got.
@@ -34,10 +41,9 @@ impl<R: Wait + Copy> Program<R> for InTurn {
 
     ghost gives = { λ program geometry opening output. Unit {0} };
 
-    fn run<N: Room + Send + Sync + 'static, L: Recorder<N> + Drop + Send + 'static>(
-        self,
-        service: &Service<N, Shared<N, R, L>>,
-    ) -> Option<Got> {
+    fn run<N: Room, L: Recorder<N>>(self, service: &Service<N, Shared<N, R, L>>) -> Option<Got>
+        ensures { Unit {0} }
+    {
         let mut outcomes = Vec::new(self.alloc);
         let mut one = service.session(0, 0).ok()?;
         let mut two = service.session(7, 8).ok()?;
@@ -111,10 +117,12 @@ impl<R: Wait + Copy> Program<R> for Many {
 
     ghost gives = { λ program geometry opening output. Unit {0} };
 
-    fn run<N: Room + Send + Sync + 'static, L: Recorder<N> + Drop + Send + 'static>(
+    fn run<N: Room, L: Recorder<N>>(
         self,
         service: &Service<N, Shared<N, R, L>>,
-    ) -> Option<(usize, Option<SessionRefusal>, Option<SessionRefusal>)> {
+    ) -> Option<(usize, Option<SessionRefusal>, Option<SessionRefusal>)>
+        ensures { Unit {0} }
+    {
         let mut sessions: Vec<Session<N, Shared<N, R, L>>> = Vec::new(self.alloc);
         for _ in 0..64 {
             sessions.push(service.session(0, 0).ok()?).ok()?;
@@ -131,7 +139,8 @@ fn a_number_is_free_again(rt: HostRuntime) -> Result<(), Fail> {
     let alloc = rt.alloc();
     let image = new_volume(alloc, 1024)?;
     let supply = supply_of(alloc, 128, &[None])?;
-    let Ok(Some((left, before, after))) = serve(alloc, rt, image.as_slice(), supply, Many { alloc }) else {
+    let Ok(Some((left, before, after))) = serve(alloc, rt, image.as_slice(), supply, Many { alloc })
+    else {
         panic!(rt; "not served");
     };
     assert_eq!(rt; left, 63);
@@ -140,17 +149,10 @@ fn a_number_is_free_again(rt: HostRuntime) -> Result<(), Fail> {
     Ok(())
 }
 
-/// Two sessions make three calls each, in threads of their own.
-#[derive(Drop)]
-struct OnThreads<R> {
-    rt: R,
-    alloc: Global,
-}
-
 /// Three calls, one after the other.
-fn three_calls<N: Room, R: Wait + Copy, L: Recorder<N> + Drop>(
+fn three_calls<N: Room>(
     alloc: Global,
-    mut session: Session<N, Shared<N, R, L>>,
+    mut session: Session<N, Shared<N, HostRuntime, Line<N>>>,
 ) -> Option<Vec<Outcome>> {
     let mut outcomes = Vec::new(alloc);
     for now in [100, 101, 102] {
@@ -160,22 +162,34 @@ fn three_calls<N: Room, R: Wait + Copy, L: Recorder<N> + Drop>(
     Some(outcomes)
 }
 
-impl<R: Threads + Wait + Copy + Drop + Send + Sync + 'static> Program<R> for OnThreads<R> {
-    type Output = Option<(Vec<Outcome>, Vec<Outcome>)>;
+/// The link of a service over drivers with faults.
+type Line<N> = Noting<N, Inline<ScriptedDriver>>;
 
-    ghost gives = { λ program geometry opening output. Unit {0} };
-
-    fn run<N: Room + Send + Sync + 'static, L: Recorder<N> + Drop + Send + 'static>(
-        self,
-        service: &Service<N, Shared<N, R, L>>,
-    ) -> Option<(Vec<Outcome>, Vec<Outcome>)> {
-        let alloc = self.alloc;
-        let one = service.session(0, 0).ok()?;
-        let two = service.session(7, 8).ok()?;
-        let first = thread::spawn(&self.rt, move || three_calls(alloc, one)).ok()?;
-        let second = thread::spawn(&self.rt, move || three_calls(alloc, two)).ok()?;
-        Some((first.join(&self.rt)?, second.join(&self.rt)?))
-    }
+/// Two sessions make three calls each, in threads of their own.
+fn on_threads<N: Room + Send + Sync>(
+    alloc: Global,
+    rt: HostRuntime,
+    image: &[u8],
+    supply: Vec<ScriptedDriver>,
+    board: Board,
+    seat: Seat,
+) -> Option<(Vec<Outcome>, Vec<Outcome>)>
+    requires board { board ≡ N.table }
+    requires seat { IsKeeper N.table seat × (seat.view ≡ opener) }
+    requires opening { N.opening ≡ whole_image image.now }
+    requires geometry { N.geometry ≡ geometry_in image.now }
+{
+    let service = start::<N, HostRuntime, ScriptedDriver>(
+        alloc, rt, image, supply, board, seat,
+    ).ok()?;
+    let one = service.session(0, 0).ok()?;
+    let two = service.session(7, 8).ok()?;
+    let (first, second) = join(
+        &rt,
+        move || three_calls(alloc, one),
+        move || three_calls(alloc, two),
+    );
+    Some((first?, second?))
 }
 
 #[test]
@@ -183,7 +197,9 @@ fn two_threads_call(rt: HostRuntime) -> Result<(), Fail> {
     let alloc = rt.alloc();
     let image = new_volume(alloc, 1024)?;
     let supply = supply_of(alloc, 128, &[None])?;
-    let Ok(Some((one, two))) = serve(alloc, rt, image.as_slice(), supply, OnThreads { rt, alloc }) else {
+    let (board, seat) = Board::new(alloc)?;
+    let got = on_threads::<Brand>(alloc, rt, image.as_slice(), supply, board, seat);
+    let Some((one, two)) = got else {
         panic!(rt; "not served");
     };
     for outcomes in [one.as_slice(), two.as_slice()] {

@@ -1,5 +1,5 @@
 -- What was heard, and what the record says then.
-use Rattle.std.proofs.Common.{◌≡◌, ◌⊎◌, ℕ, suc, zero, ◌+◌, ◌<◌, ◌≤◌, List, [], ◌∷◌, ◌++◌, length, get_or, Bool, true, false, cond, refl, sym, ◌∙◌, ap, subst, inl, inr, arith, max, Option, Some, None}
+use Rattle.std.proofs.Common.{◌≡◌, ℕ, suc, ◌+◌, ◌<◌, ◌≤◌, List, [], ◌∷◌, length, get_or, Bool, true, false, cond, refl, sym, ◌∙◌, ap, subst, inl, inr, arith, Option, Some, None}
 use Rattle.std.specs.Prelude.{map, is_some, ◌==◌, ◌&&◌, not, position, remove, Result, Ok, Err, OnOk}
 use Rattle.std.specs.List.{position_from}
 use Rattle.std.proofs.lemmas.Iterator.Adapters.{position_from-zero}
@@ -8,7 +8,7 @@ use Rattle.endpoint.specs.declared.Endpoint.{Endpoint}
 use Rattle.message.specs.declared.BlockRequest.{BlockRequest}
 use Rattle.message.specs.declared.BlockReply.{BlockReply}
 use Rattle.message.specs.Good.{moved}
-use Rattle.marks.specs.Marks.{Mark, Issued, Answered, last_started, gave_up, is_endpoint}
+use Rattle.marks.specs.Marks.{Mark, Issued, Answered, last_started, is_endpoint}
 use Rattle.marks.specs.Open.{greatest, open_requests, with_id, without_id, moved_of, asked_by, counts, IsIn, MayFollow}
 use Rattle.marks.proofs.OpenRequests.{Below, below_open}
 use Rattle.serve.specs.declared.heard.Asked.{Asked}

@@ -71,13 +71,7 @@ impl<N: Room> Keeper<N> {
     }
 
     /// A call of the caller's session was answered. The caller has then seen the whole record, its call last.
-    pub(crate) fn count<C: NewCall>(
-        &mut self,
-        caller: &mut Seat,
-        who: Who,
-        now: u32,
-        reply: &Reply,
-    )
+    pub(crate) fn count<C: NewCall>(&mut self, caller: &mut Seat, who: Who, now: u32, reply: &Reply)
         requires { (caller.old.table ≡ N.table) × (caller.old.view.number ≡ Some who.session) }
         ensures record_is { record_of self.new ≡ Took who now C.call (answer_of reply.now) ∷ record_of self.old }
         ensures numbers { numbers_of self.new ≡ numbers_of self.old }

@@ -99,7 +99,7 @@ impl<N: Room, L: Link> Link for Noting<N, L> {
     }
 }
 
-impl<N: Room, L: Steady> Recorder<N> for Noting<N, L> {
+impl<N: Room, L: Steady + Drop> Recorder<N> for Noting<N, L> {
     ghost marks = { λ l. record_of l.keeper };
 
     ghost numbers = { λ l. numbers_of l.keeper };

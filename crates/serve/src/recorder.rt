@@ -19,7 +19,7 @@ use tree::{Reply, Who};
 /// A link that keeps the record of a service on the service's board, and gives its sessions their numbers.
 ///
 /// Contracts see two things more of it: `marks` is the record, and `numbers` are the numbers that sessions have.
-pub trait Recorder<N: Room>: Link {
+pub trait Recorder<N: Room>: Link + Drop {
     ghost marks: { Self → List Mark };
 
     ghost numbers: { Self → List ℕ };

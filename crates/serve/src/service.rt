@@ -39,7 +39,7 @@ pub struct Service<N: Room, S> {
     ghost named: { arc_value board ≡ N.table },
 }
 
-impl<N: Room, R: Wait + Copy, L: Recorder<N> + Drop> Service<N, Shared<N, R, L>> {
+impl<N: Room, R: Wait + Copy, L: Recorder<N>> Service<N, Shared<N, R, L>> {
     /// A service for its volume in a range of the media, over a link that has told nothing yet and keeps an empty record on the service's
     /// board. The link gives at most 2^58 messages. Where no memory was found, the link is let go.
     pub fn over(

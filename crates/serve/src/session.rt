@@ -72,7 +72,7 @@ impl<N: Room, S> Session<N, S> {
     }
 }
 
-impl<N: Room, R: Wait + Copy, L: Recorder<N> + Drop> Session<N, Shared<N, R, L>> {
+impl<N: Room, R: Wait + Copy, L: Recorder<N>> Session<N, Shared<N, R, L>> {
     /// The attributes of the root. It may wait for the calls of other sessions. The session has then seen the record up to this
     /// call: an answer is its last mark; a cut, which comes once the link to the drivers has ended, leaves none.
     pub fn stat_root(&mut self, now: u32) -> Outcome

@@ -36,11 +36,8 @@ pub trait Program<R: Wait + Copy>: Drop {
 
     ghost gives: { Self → Geometry → Opening → Self.Output → Type 0 };
 
-    /// Does it. It may make sessions, and move them to other threads.
-    fn run<N: Room + Send + Sync + 'static, L: Recorder<N> + Drop + Send + 'static>(
-        self,
-        service: &Service<N, Shared<N, R, L>>,
-    ) -> Self::Output
+    /// Does it.
+    fn run<N: Room, L: Recorder<N>>(self, service: &Service<N, Shared<N, R, L>>) -> Self::Output
         ensures { gives self N.geometry N.opening result };
 }
 
@@ -99,12 +96,7 @@ pub fn start<N: Room, R: Wait + Copy, D: LocalDriver>(
 }
 
 // The caller picks `N` from what it hands over.
-fn start_and_run<
-    N: Room + Send + Sync + 'static,
-    R: Wait + Copy + Send + Sync + 'static,
-    D: LocalDriver + Send + 'static,
-    P: Program<R>,
->(
+fn start_and_run<N: Room, R: Wait + Copy, D: LocalDriver, P: Program<R>>(
     alloc: Global,
     rt: R,
     board: Board,
@@ -133,11 +125,7 @@ fn start_and_run<
 /// Starts a service on the volume in an image and runs a program over it. When the program ends, the service does.
 ///
 /// It is refused as `prepare` is, and then nothing runs.
-pub fn serve<
-    R: Wait + Copy + Send + Sync + 'static,
-    D: LocalDriver + Send + 'static,
-    P: Program<R>,
->(
+pub fn serve<R: Wait + Copy, D: LocalDriver, P: Program<R>>(
     alloc: Global,
     rt: R,
     image: &[u8],

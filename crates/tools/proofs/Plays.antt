@@ -98,7 +98,7 @@ module _ (g : Geometry) (v : Opening) (old : SessionState) where
         → Plays g v old (times ++ now ∷ []) (outcomes ++ outcome ∷ []) new
     plays_called (Reply r) none c =
         let k = c.call refl in
-        call_more (Reply r) k (cuts_last-reply outcomes r none) k.ends.1.1 c
+        call_more (Reply r) k (cuts_last-reply outcomes r none) k.ends.2 c
     plays_called Cut none c =
         let k = c.call refl in
         call_more Cut k (cuts_last-cut outcomes plays.cuts_last) k.ends c

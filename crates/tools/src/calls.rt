@@ -35,7 +35,7 @@ impl<R: Wait + Copy> Program<R> for Player {
     ghost gives = { λ player g v result. IfOk result (λ played.
         IsAnswered g v (player.script.uid, player.script.gid, player.script.times.items) played.outcomes.items played.given_up) };
 
-    fn run<N: Room + Send + Sync + 'static, L: Recorder<N> + Drop + Send + 'static>(
+    fn run<N: Room, L: Recorder<N>>(
         self,
         service: &Service<N, Shared<N, R, L>>,
     ) -> Result<Played, SessionRefusal>
@@ -51,7 +51,7 @@ impl<R: Wait + Copy> Program<R> for Player {
 }
 
 /// Makes calls in a session, one after the other; from the first that is cut on all are. Without memory for the outcomes none is made.
-fn make_calls<N: Room, R: Wait + Copy, L: Recorder<N> + Drop>(
+fn make_calls<N: Room, R: Wait + Copy, L: Recorder<N>>(
     alloc: Global,
     session: &mut Session<N, Shared<N, R, L>>,
     times: &[u32],
@@ -69,7 +69,7 @@ fn make_calls<N: Room, R: Wait + Copy, L: Recorder<N> + Drop>(
 }
 
 /// A call, unless an earlier one was cut.
-fn call_unless<N: Room, R: Wait + Copy, L: Recorder<N> + Drop>(
+fn call_unless<N: Room, R: Wait + Copy, L: Recorder<N>>(
     cut: bool,
     session: &mut Session<N, Shared<N, R, L>>,
     now: u32,

@@ -1,4 +1,4 @@
-use Rattle.std.proofs.Common.{◌≡◌, true, refl, sym, ◌∙◌, ap, Option}
+use Rattle.std.proofs.Common.{refl, sym, ◌∙◌, ap, Option}
 use Rattle.std.specs.Prelude.{is_some}
 use Rattle.message.specs.declared.BlockRequest.{BlockRequest}
 use Rattle.marks.specs.Open.{moved_of}

@@ -1,4 +1,4 @@
-use Rattle.std.proofs.Common.{◌≡◌, sym, ◌∙◌, ap, true, false}
+use Rattle.std.proofs.Common.{sym, ◌∙◌}
 use Rattle.serve.proofs.HeardLaws.{heard_counts}
 use Rattle.serve.proofs.heard.Heard.counts.Goals as goal
 use Rattle.serve.proofs.heard.Heard.counts.Goals.{then-not-self, else-not-self}

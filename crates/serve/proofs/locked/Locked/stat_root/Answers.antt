@@ -1,7 +1,6 @@
-use Rattle.std.proofs.Common.{refl, ◌∷◌}
+use Rattle.std.proofs.Common.{refl}
 use Rattle.tree.specs.declared.Call.TheVariants.{Stat}
 use Rattle.tree.specs.Answers.{answer_of}
-use Rattle.reissue.specs.Calls.{Truth}
 use Rattle.serve.specs.Held.{root_path}
 use Rattle.serve.specs.Server.{serving, guarantee_of, line_of, outcome_of}
 use Rattle.serve.proofs.HeldLaws.{is_cut, eio_exactly, held_after, held_sound, session_answered, session_cut}

@@ -4,7 +4,7 @@ use Rattle.marks.specs.Marks.{Mark, gave_up}
 use Rattle.marks.specs.Opening.{contents_at}
 use Rattle.legal.specs.Legal.{IsAtFirst}
 use Rattle.serve.specs.Reader.{Stands}
-use Rattle.serve.specs.Server.{serving, guarantee_of, line_of}
+use Rattle.serve.specs.Server.{serving, guarantee_of}
 use Rattle.serve.proofs.service.Service+N+Shared+N+R+L.over.Goals as goal
 
 pub new-requires : goal.new-requires
