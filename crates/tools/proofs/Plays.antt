@@ -13,7 +13,7 @@ use Rattle.legal.specs.Legal.{IsAtFirst}
 use Rattle.legal.specs.Session.{SessionState, SessionCallKeeps, IsMadeFor, DeviceKeeps, caller_of, EndsWith}
 use Rattle.serve.specs.Held.{root_path, IsGood}
 use Rattle.serve.specs.Server.{outcome_of}
-use Rattle.tools.specs.Made.{calls_made, some_cut, all_cut, cuts_last, IsOwn, IsSame, Plays, Calls, IsAnswered}
+use Rattle.tools.specs.Made.{calls_made, cuts, some_cut, all_cut, cuts_last, IsOwn, IsSame, Plays, Calls, IsAnswered}
 
 -- one call more
 calls_made-more : (who : Who) (times : List ℕ) (outcomes : List Outcome) (now : ℕ) (outcome : Outcome) (older : List Mark)
@@ -122,14 +122,9 @@ module _ (g : Geometry) (v : Opening) (old : SessionState) where
     plays_more true outcome is c = plays_cut outcome c
     plays_more false outcome is c = plays_called outcome (sym is) c
 
--- whether an outcome is a cut
-abbrev pub is_cut : Outcome → Bool
-is_cut Cut = true
-is_cut (Reply r) = false
-
 -- from the first that is cut on all are, so the last tells whether one was
 pub cut_more : (g : Geometry) (v : Opening) (mid new : SessionState) (outcomes : List Outcome) (now : ℕ) (cut : Bool) (outcome : Outcome)
-    → cut ≡ some_cut outcomes → Calls g v mid cut now outcome new → is_cut outcome ≡ some_cut (outcomes ++ outcome ∷ [])
+    → cut ≡ some_cut outcomes → Calls g v mid cut now outcome new → cuts outcome ≡ some_cut (outcomes ++ outcome ∷ [])
 cut_more g v mid new outcomes now cut Cut is c = sym (some_cut-cut outcomes)
 cut_more g v mid new outcomes now true (Reply r) is c = let no = (c.after_cut refl).0 in cc
 cut_more g v mid new outcomes now false (Reply r) is c = is ∙ sym (some_cut-reply outcomes r)

@@ -21,6 +21,11 @@ calls_made who (now ∷ times) (Reply reply ∷ outcomes) older =
 calls_made who (now ∷ times) (Cut ∷ outcomes) older = calls_made who times outcomes older
 calls_made who _ _ older = older
 
+-- whether a call was cut
+abbrev pub cuts : Outcome → Bool
+cuts Cut = true
+cuts (Reply reply) = false
+
 -- whether some call was cut
 abbrev pub some_cut : List Outcome → Bool
 some_cut [] = false

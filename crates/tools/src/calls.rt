@@ -1,7 +1,8 @@
 //! The calls of a script, made in a session of a service.
 
 ghost use Rattle.std.specs.Prelude.{◌≡◌, IfOk};
-ghost use Rattle.tools.specs.Made.{Calls, Plays, IsAnswered};
+ghost use Rattle.board.specs.Words.{is_given_up as says_given_up};
+ghost use Rattle.tools.specs.Made.{cuts, Calls, Plays, IsAnswered};
 
 use crate::script::Script;
 use board::Device;
@@ -44,7 +45,7 @@ impl<R: Wait + Copy> Program<R> for Player {
     {
         let mut session = service.session(self.script.uid, self.script.gid)?;
         let outcomes = make_calls(self.alloc, &mut session, self.script.times.as_slice())?;
-        let given_up = session.device() == Device::GivenUp;
+        let given_up = is_given_up(session.device());
         session.end();
         Ok(Played { outcomes, given_up })
     }
@@ -62,7 +63,7 @@ fn make_calls<N: Room, R: Wait + Copy, L: Recorder<N>>(
     let mut cut = false;
     for now in times {
         let outcome = call_unless(cut, session, *now);
-        cut = matches!(outcome, Outcome::Cut);
+        cut = is_cut(&outcome);
         outcomes.push_reserved(outcome);
     }
     Ok(outcomes)
@@ -81,4 +82,18 @@ fn call_unless<N: Room, R: Wait + Copy, L: Recorder<N>>(
     } else {
         session.stat_root(now)
     }
+}
+
+/// Whether a call was cut.
+fn is_cut(outcome: &Outcome) -> bool
+    ensures { result ≡ cuts outcome.now }
+{
+    matches!(outcome, Outcome::Cut)
+}
+
+/// Whether an answer says that the device was given up.
+fn is_given_up(device: Device) -> bool
+    ensures { result ≡ says_given_up device }
+{
+    matches!(device, Device::GivenUp)
 }
