@@ -5,9 +5,11 @@ pub mod Tied
 pub mod Agreeing
 pub mod Runs
 pub mod Edits
+mod Staying
 mod Taking
 mod Beginning
 pub mod Placing
+mod Fetching
 mod Order
 mod Choosing
 pub mod ReadingBack

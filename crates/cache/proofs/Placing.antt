@@ -225,7 +225,7 @@ vacated_none old new at s d is e c h = elim (vacated_held old new at s d is e) [
 -- ---- a block comes into a free slot
 
 -- which block has which slot then
-filled_held : (items items' : List Slot) (at b : ℕ) (t : Slot) (change : Slot → Slot) → ((s : Slot) → change s ≡ t) → t.block ≡ Some b
+pub filled_held : (items items' : List Slot) (at b : ℕ) (t : Slot) (change : Slot → Slot) → ((s : Slot) → change s ≡ t) → t.block ≡ Some b
     → IsDistinct items → IsFreeAt items at → held items b ≡ None → IsSetAt items items' at change → held items' ≡ put (held items) b (Some t)
 filled_held items items' at b t change is_t block d free none e =
     let one : e.slot ≡ free.slot = one_slot items at e.slot free.slot e.is free.is in

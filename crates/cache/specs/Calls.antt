@@ -124,10 +124,10 @@ abbrev pub Blanks : {X : Type 0} → Result X Cut → ℕ → Caching → Cachin
 Blanks (Ok frame) block old new w v = Rewrites block (λ row o. 0) old new w v
 Blanks (Err cut) block old new w v = Serves old new w v
 
--- a call is cut for want of messages only where a take gave End, else only where the device was given up
+-- a call is cut for want of messages only where a take gave End, and else only where the device was given up
 abbrev pub IsWhyCut : Caching → Cut → Type 0
 IsWhyCut c LinkEnded = c.ended ≡ true
-IsWhyCut c Eio = c.table.given_up ≡ true
+IsWhyCut c Eio = (c.ended ≡ false) × (c.table.given_up ≡ true)
 
 -- messages may come: no take gave End, and the device isn't given up
 pub record IsLive (c : Caching) : Type 0 where
