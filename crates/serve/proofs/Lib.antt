@@ -1,11 +1,5 @@
-pub mod Runs
-pub mod Going
-pub mod Coming
-pub mod Opens
 pub mod RootLaws
 pub mod Starts
-pub mod NotesLaws
-pub mod LinkLaws
 pub mod ReadLaws
 pub mod ServerLaws
 pub mod MediaLaws

@@ -12,7 +12,7 @@ use Rattle.media.proofs.SectorLaws.{length-first_chunks}
 use Rattle.bdev.specs.DriverState.{DriverState, range_while_fresh}
 use Rattle.bdev.specs.Promises.{IsDriver}
 use Rattle.true_replies.specs.Events.{IsOnMedia}
-use Rattle.serve.specs.Inline.{IsReady}
+use Rattle.inline.specs.Inline.{IsReady}
 use Rattle.media.specs.declared.MediaRefusal.TheVariants.{NotWholeSectors, TooLarge}
 use Rattle.serve.specs.declared.refusal.StartRefusal.TheVariants.{Media, BadSetup, NoDriver}
 use Rattle.serve.specs.Refusals.{is_same_range, is_ready_for, why_no_media, why_not_supplied, whole_image}

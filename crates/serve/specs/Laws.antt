@@ -10,7 +10,7 @@ use Rattle.marks.specs.Told.{Told}
 use Rattle.media.specs.Contents.{MediaState, sector}
 use Rattle.bdev.specs.DriverState.{DriverState}
 use Rattle.reissue.specs.declared.table.Table.{Table}
-use Rattle.serve.specs.Inline.{LinkKept}
+use Rattle.inline.specs.Inline.{LinkKept}
 use Rattle.serve.specs.Reader.{Stands, reader}
 
 -- where a server that reads alone stands over such a link, each sector of the volume holds the bytes that were handed in

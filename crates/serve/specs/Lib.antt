@@ -1,9 +1,3 @@
-pub mod Running
-pub mod Steps
-pub mod Comes
-pub mod Notes
-pub mod Inline
-pub mod InlineLaws
 pub mod Refusals
 pub mod Reader
 pub mod Reading

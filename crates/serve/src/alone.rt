@@ -16,10 +16,10 @@ ghost use Rattle.marks.specs.Opening.{contents_at};
 ghost use Rattle.legal.specs.Legal.{IsAtFirst};
 ghost use Rattle.tree.specs.Tree.{Tree};
 
-use crate::inline::Inline;
-use crate::local::LocalDriver;
 use crate::refusal::{MountRefusal, StartRefusal};
 use crate::server::Server;
+use inline::Inline;
+use inline::local::LocalDriver;
 use layout::{Geometry, u16_at};
 use media::{Media, MediaRefusal};
 use partition::Table;

@@ -1,15 +1,10 @@
-//! The link of a file server to drivers that it runs itself, and a server that reads over any link.
+//! A file server that reads over any link, and one over the image of a volume, whose drivers it runs itself.
 #![tactic(auto)]
 
 pub mod alone;
-mod drivers;
-pub mod inline;
 pub mod laws;
-pub mod local;
-mod note;
 mod reading;
 pub mod refusal;
-pub mod running;
 pub mod server;
 
 pub use server::Server;

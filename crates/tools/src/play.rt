@@ -11,7 +11,7 @@ use crate::output::{OutputRefusal, write_session, write_text};
 use crate::script::{Script, ScriptRefusal, read_script};
 use reissue::link::Link;
 use serve::alone::alone;
-use serve::local::LocalDriver;
+use inline::local::LocalDriver;
 use serve::refusal::StartRefusal;
 use serve::server::Server;
 use std::alloc::{AllocError, Global};

@@ -1,0 +1,6 @@
+pub mod Runs
+pub mod Going
+pub mod Coming
+pub mod Opens
+pub mod NotesLaws
+pub mod LinkLaws

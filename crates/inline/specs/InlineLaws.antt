@@ -1,0 +1,26 @@
+-- What the inline link's drivers and media have of a record, they have of it with a mark more that changes nothing.
+use Rattle.std.specs.Prelude.{ℕ, List, ◌∷◌, Option}
+use Rattle.endpoint.specs.declared.Endpoint.{Endpoint}
+use Rattle.message.specs.declared.BlockRequest.{BlockRequest}
+use Rattle.marks.specs.Marks.{Mark, ChangesNothing}
+use Rattle.marks.specs.Opening.{Opening, contents_at}
+use Rattle.media.specs.Contents.{MediaState}
+use Rattle.bdev.specs.DriverState.{DriverState}
+use Rattle.true_replies.specs.State.{state_of}
+use Rattle.true_replies.specs.Events.{opening_media, Noted}
+use Rattle.true_replies.proofs.Keeps.{next_keeps}
+use Rattle.std.specs.Prelude.{[], is_some}
+use Rattle.inline.specs.Inline.{LinkKept}
+
+pub noted_kept : (v : Opening) (media : MediaState) (slots : List ℕ) (endpoint : Endpoint) (running : Option DriverState)
+    (supply : List DriverState) (line : List BlockRequest) (marks : List Mark) (m : Mark) → ChangesNothing m
+    → LinkKept v media slots endpoint running supply line marks → LinkKept v media slots endpoint running supply line (m ∷ marks)
+noted_kept v media slots endpoint running supply line marks m nothing kept = record {
+  driver = kept.driver;
+  kept = next_keeps v (contents_at v) (opening_media v) (state_of media kept.driver (is_some running) line [] marks)
+      (state_of media kept.driver (is_some running) line [] (m ∷ marks)) kept.kept (Noted m nothing);
+  current = kept.current;
+  endpoint_is = kept.endpoint_is;
+  slots_are = kept.slots_are;
+  supply_is = kept.supply_is;
+}

@@ -1,0 +1,10 @@
+//! The link of a file server to drivers that it runs itself.
+#![tactic(auto)]
+
+mod drivers;
+pub mod link;
+pub mod local;
+mod note;
+pub mod running;
+
+pub use link::Inline;
