@@ -4,7 +4,7 @@
 mod drivers;
 pub mod link;
 pub mod local;
-mod note;
+pub mod note;
 pub mod running;
 
 pub use link::Inline;

@@ -14,7 +14,7 @@ const ROOM: usize = 34;
 
 /// One thing that a link was told or gave.
 #[derive(Clone, Copy)]
-pub(crate) enum Note {
+pub enum Note {
     /// A request was posted to an endpoint; it was accepted, or refused.
     Posted(Endpoint, BlockRequest, bool),
     /// A complaint about an endpoint.
@@ -25,15 +25,15 @@ pub(crate) enum Note {
 
 /// All that a link was told and gave, the oldest first, and whether it has ended.
 #[derive(Drop)]
-pub(crate) struct Notes {
-    pub(crate) items: Vec<Note>,
-    pub(crate) ended: bool,
+pub struct Notes {
+    pub items: Vec<Note>,
+    pub ended: bool,
     ghost unended: { took_end (told_of items.items) ≡ false },
 }
 
 impl Notes {
     /// Nothing was told or given, and there is room for what is told before the first message, and for it.
-    pub(crate) fn new(alloc: Global) -> Result<Notes, AllocError>
+    pub fn new(alloc: Global) -> Result<Notes, AllocError>
         ensures items { IfOk result (λ n. n.items.items ≡ []) }
         ensures ended { IfOk result (λ n. n.ended ≡ false) }
         ensures room { IfOk result (λ n. 34 ≤ vec_capacity n.items) }
@@ -45,7 +45,7 @@ impl Notes {
     }
 
     /// Notes a post or a complaint.
-    pub(crate) fn told(&mut self, note: Note)
+    pub fn told(&mut self, note: Note)
         requires room { 0 < room_of self.old.ended (vec_capacity self.old.items) (vec_len self.old.items) }
         requires kind { took_end (note_told note ∷ []) ≡ false }
         ensures history { history_of self.new.ended self.new.items.items ≡ note_told note ∷ history_of self.old.ended self.old.items.items }
@@ -56,7 +56,7 @@ impl Notes {
     }
 
     /// Makes room for a message and for what is told before the next one; false where no memory was found.
-    pub(crate) fn make_room(&mut self) -> bool
+    pub fn make_room(&mut self) -> bool
         ensures history { history_of self.new.ended self.new.items.items ≡ history_of self.old.ended self.old.items.items }
         ensures ended { self.new.ended ≡ self.old.ended }
         ensures room { OnTrue result (34 + vec_len self.new.items ≤ vec_capacity self.new.items) }
@@ -66,7 +66,7 @@ impl Notes {
     }
 
     /// Notes a message, for which room was made.
-    pub(crate) fn heard(&mut self, message: Incoming)
+    pub fn heard(&mut self, message: Incoming)
         requires live { self.old.ended ≡ false }
         requires room { 34 + vec_len self.old.items ≤ vec_capacity self.old.items }
         ensures history { history_of self.new.ended self.new.items.items ≡ heard message (history_of self.old.ended self.old.items.items) }
@@ -82,7 +82,7 @@ impl Notes {
     }
 
     /// Notes that the link has ended, once.
-    pub(crate) fn end(&mut self)
+    pub fn end(&mut self)
         ensures history { history_of self.new.ended self.new.items.items ≡ heard Incoming.End (history_of self.old.ended self.old.items.items) }
     {
         self.ended = true;
