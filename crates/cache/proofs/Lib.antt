@@ -7,7 +7,7 @@ pub mod Runs
 pub mod Edits
 mod Staying
 mod Taking
-mod Beginning
+pub mod Beginning
 pub mod Placing
 mod Fetching
 mod Order

@@ -1,5 +1,5 @@
 //! Which blocks are read and written, and when.
-ghost use Rattle.std.specs.Prelude.{◌≡◌, IfOk};
+ghost use Rattle.std.specs.Prelude.{◌≡◌, ◌≤◌, IfOk};
 ghost use Rattle.cache.specs.Calls.{caching, IsReady};
 
 use crate::lists::{answers, moved, started, told};
@@ -13,7 +13,7 @@ use std::alloc::{AllocError, Global};
 use std::test::Fail;
 
 /// A volume with blocks of 4096 bytes.
-const VOLUME: Geometry = Geometry {
+pub(crate) const VOLUME: Geometry = Geometry {
     block_size: 4096,
     inodes: 32,
     zones: 128,
@@ -30,6 +30,9 @@ fn cache_over(
 ) -> Result<Result<Cache<ListLink>, CacheRefusal>, AllocError>
     ensures ready { IfOk result (λ r. IfOk r (λ c. IsReady (caching ⟦<ListLink as Link>⟧.history ⟦<ListLink as Link>⟧.truth ⟦<ListLink as Link>⟧.room ⟦<ListLink as Link>⟧.budget_left c))) }
     ensures size { IfOk result (λ r. IfOk r (λ c. (caching ⟦<ListLink as Link>⟧.history ⟦<ListLink as Link>⟧.truth ⟦<ListLink as Link>⟧.room ⟦<ListLink as Link>⟧.budget_left c).size ≡ 4096)) }
+    ensures unused { IfOk result (λ r. IfOk r (λ c. (caching ⟦<ListLink as Link>⟧.history ⟦<ListLink as Link>⟧.truth ⟦<ListLink as Link>⟧.room ⟦<ListLink as Link>⟧.budget_left c).table.ids ≡ 0)) }
+    ensures budget { IfOk result (λ r. IfOk r (λ c. (caching ⟦<ListLink as Link>⟧.history ⟦<ListLink as Link>⟧.truth ⟦<ListLink as Link>⟧.room ⟦<ListLink as Link>⟧.budget_left c).budget ≡ 1099511627776)) }
+    ensures room { IfOk result (λ r. IfOk r (λ c. 34 ≤ (caching ⟦<ListLink as Link>⟧.history ⟦<ListLink as Link>⟧.truth ⟦<ListLink as Link>⟧.room ⟦<ListLink as Link>⟧.budget_left c).room)) }
 {
     let transfers = Transfers::new(alloc, ListLink::new(alloc, messages)?)?;
     Ok(Cache::new(alloc, transfers, 0, &VOLUME, frames))
@@ -50,6 +53,21 @@ pub(crate) fn fetch_each<L: Link>(cache: &mut Cache<L>, blocks: &[u32]) -> u32
     given
 }
 
+/// Fetches so many blocks from the first on; how many were given.
+pub(crate) fn fetch_run<L: Link>(cache: &mut Cache<L>, first: u32, count: u32) -> u32
+    requires { IsReady (caching L.history L.truth L.room L.budget_left cache.old) }
+    ensures ready { IsReady (caching L.history L.truth L.room L.budget_left cache.new) }
+    ensures size { (caching L.history L.truth L.room L.budget_left cache.new).size ≡ (caching L.history L.truth L.room L.budget_left cache.old).size }
+{
+    let mut given = 0u32;
+    for block in 0..count {
+        if cache.fetch(first.saturating_add(block)).is_ok() {
+            given = given.saturating_add(1);
+        }
+    }
+    given
+}
+
 /// Fills a block with this byte; false where it wasn't given.
 pub(crate) fn fill<L: Link>(cache: &mut Cache<L>, block: u32, byte: u8) -> bool
     requires ready { IsReady (caching L.history L.truth L.room L.budget_left cache.old) }
@@ -62,6 +80,33 @@ pub(crate) fn fill<L: Link>(cache: &mut Cache<L>, block: u32, byte: u8) -> bool
             cache.change(frame, 0, &[byte; 4096]);
             true
         }
+        Err(_) => false,
+    }
+}
+
+/// Fills a block with this byte without reading it; false where it wasn't given.
+pub(crate) fn fill_fresh<L: Link>(cache: &mut Cache<L>, block: u32, byte: u8) -> bool
+    requires ready { IsReady (caching L.history L.truth L.room L.budget_left cache.old) }
+    requires size { (caching L.history L.truth L.room L.budget_left cache.old).size ≡ 4096 }
+    ensures ready { IsReady (caching L.history L.truth L.room L.budget_left cache.new) }
+    ensures size { (caching L.history L.truth L.room L.budget_left cache.new).size ≡ 4096 }
+{
+    match cache.fresh(block) {
+        Ok(frame) => {
+            cache.change(frame, 0, &[byte; 4096]);
+            true
+        }
+        Err(_) => false,
+    }
+}
+
+/// Whether a block is given, with this byte at each place.
+pub(crate) fn is_filled<L: Link>(cache: &mut Cache<L>, block: u32, byte: u8) -> bool
+    requires ready { IsReady (caching L.history L.truth L.room L.budget_left cache.old) }
+    ensures ready { IsReady (caching L.history L.truth L.room L.budget_left cache.new) }
+{
+    match cache.fetch(block) {
+        Ok(frame) => cache.frame(frame).iter().all(|b| *b == byte),
         Err(_) => false,
     }
 }

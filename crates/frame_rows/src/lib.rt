@@ -3,6 +3,8 @@
 #![tactic(auto)]
 
 #[cfg(test)]
+mod drivers;
+#[cfg(test)]
 mod frames;
 #[cfg(test)]
 mod lists;

@@ -1,12 +1,14 @@
 //! Requests that are begun, answered in parts, and issued again.
-ghost use Rattle.std.specs.Prelude.{◌≡◌, ◌<◌, ◌+◌, ◌^◌, IfOk, [], Option};
-ghost use Rattle.reissue.specs.Transfers.{table_of, link_of};
+ghost use Rattle.std.specs.Prelude.{◌≡◌, ◌<◌, ◌≤◌, ◌+◌, ◌^◌, ℕ, IfOk, [], Some};
+ghost use Rattle.reissue.specs.Transfers.{table_of, link_of, begun_in};
 ghost use Rattle.reissue.specs.Posts.{HasRoom};
+ghost use Rattle.reissue.specs.Moves.{Begun};
+ghost use Rattle.cache.specs.Frames.{IsOfBlock};
 
 use crate::lists::{driver, moved, started, told};
 use list_link::ListLink;
 use message::Incoming;
-use reissue::{Ask, Link, Settled, Transfers};
+use reissue::{Ask, BeginRefusal, Link, Settled, Transfers};
 use std::alloc::{AllocError, Global};
 use std::test::Fail;
 
@@ -33,6 +35,52 @@ fn take<L: Link>(transfers: &mut Transfers<L>, count: u8) -> Settled
         settled = transfers.step();
     }
     settled
+}
+
+/// Begins the read of a block of 4096 bytes, where all that is pending is for such blocks; why not, where it is refused.
+fn begin<L: Link>(transfers: &mut Transfers<L>, block: u32) -> Option<BeginRefusal>
+    requires ids { (table_of transfers.old).ids < 2 ^ 50 }
+    requires room { HasRoom (table_of transfers.old) (L.room (link_of transfers.old)) }
+    requires blocks { (t : ℕ) (r : Begun) → begun_in transfers.old t ≡ Some r → IsOfBlock 4096 r }
+    ensures ids { (table_of transfers.new).ids ≤ (table_of transfers.old).ids + 1 }
+    ensures room { HasRoom (table_of transfers.new) (L.room (link_of transfers.new)) }
+    ensures blocks { (t : ℕ) (r : Begun) → begun_in transfers.new t ≡ Some r → IsOfBlock 4096 r }
+{
+    match transfers.begin(&Ask::read(0, u64::from(block) * 4096, 4096)) {
+        Ok(_) => None,
+        Err(refusal) => Some(refusal),
+    }
+}
+
+/// Begins the reads of so many blocks from the first one on; how many were begun.
+fn begin_first<L: Link>(transfers: &mut Transfers<L>, count: u8) -> u32
+    requires ids { (table_of transfers.old).ids < 2 ^ 40 }
+    requires room { HasRoom (table_of transfers.old) (L.room (link_of transfers.old)) }
+    requires blocks { (t : ℕ) (r : Begun) → begun_in transfers.old t ≡ Some r → IsOfBlock 4096 r }
+    ensures ids { (table_of transfers.new).ids < 2 ^ 41 }
+    ensures room { HasRoom (table_of transfers.new) (L.room (link_of transfers.new)) }
+    ensures blocks { (t : ℕ) (r : Begun) → begun_in transfers.new t ≡ Some r → IsOfBlock 4096 r }
+{
+    let mut begun = 0u32;
+    'blocks: for block in 0..count {
+        if begin(transfers, u32::from(block)).is_none() {
+            begun = begun.saturating_add(1);
+        }
+    }
+    begun
+}
+
+#[test]
+fn sixteen_are_pending(rt: HostRuntime) -> Result<(), Fail> {
+    let alloc = rt.alloc();
+    let mut one = over(alloc, &[])?;
+    assert_eq!(rt; begin_first(&mut one, 1), 1);
+    assert!(rt; begin(&mut one, 0) == Some(BeginRefusal::BlockPending));
+    let mut all = over(alloc, &[])?;
+    assert_eq!(rt; begin_first(&mut all, 16), 16);
+    assert!(rt; begin(&mut all, 16) == Some(BeginRefusal::TableFull));
+    assert!(rt; begin(&mut all, 0) == Some(BeginRefusal::TableFull));
+    Ok(())
 }
 
 #[test]

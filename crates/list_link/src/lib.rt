@@ -1,7 +1,7 @@
 //! A link for tests, which answers from a list.
 #![tactic(auto)]
 
-ghost use Rattle.std.specs.Prelude.{◌≡◌, ℕ, [], IfOk, List, vec_len, vec_capacity};
+ghost use Rattle.std.specs.Prelude.{◌≡◌, ◌≤◌, [], IfOk, List, vec_len, vec_capacity};
 ghost use Rattle.marks.specs.Marks.{Mark};
 ghost use Rattle.marks.specs.Opening.{Opening};
 ghost use Rattle.inline.specs.Notes.{history_of, room_of};
@@ -27,6 +27,7 @@ impl ListLink {
     pub fn new(alloc: Global, messages: Vec<Incoming>) -> Result<ListLink, AllocError>
         ensures history { IfOk result (λ link. ⟦<ListLink as Link>⟧.history link ≡ []) }
         ensures budget { IfOk result (λ link. ⟦<ListLink as Link>⟧.budget_left link ≡ 1099511627776) }
+        ensures room { IfOk result (λ link. 34 ≤ ⟦<ListLink as Link>⟧.room link) }
     {
         let mut messages = messages;
         messages.reverse();
