@@ -62,7 +62,7 @@ fn begin_first<L: Link>(transfers: &mut Transfers<L>, count: u8) -> u32
     ensures blocks { (t : ℕ) (r : Begun) → begun_in transfers.new t ≡ Some r → IsOfBlock 4096 r }
 {
     let mut begun = 0u32;
-    'blocks: for block in 0..count {
+    'reads: for block in 0..count {
         if begin(transfers, u32::from(block)).is_none() {
             begun = begun.saturating_add(1);
         }

@@ -20,10 +20,15 @@ on_blocks (Ok ticket) one old new block at whole opens all t r is = elim (put_ca
 on_blocks (Err e) one old new block at whole opens all t r is = all t r (ap (λ (f : ℕ → Option Begun). f t) (sym opens.0) ∙ is)
 
 pub begin-requires-clause-free : goal.begin-requires-clause-free
-begin-requires-clause-free g c = free_block 4096 c.args.block _ _ _ c.requires.blocks ? ?
+begin-requires-clause-free g c =
+    free_block 4096 c.args.block _ _ _ c.requires.blocks (c.read.ensures.position ∙ ap (λ (n : ℕ). n * 4096) c.from.ensures) c.read.ensures.count
 
 pub returns-in-Ok-clause-blocks : goal.returns-in-Ok-clause-blocks
-returns-in-Ok-clause-blocks g c = ?
+returns-in-Ok-clause-blocks g c =
+    on_blocks c.begin.result _ _ _ c.args.block (c.read.ensures.position ∙ ap (λ (n : ℕ). n * 4096) c.from.ensures) c.read.ensures.count
+    c.begin.ensures.opens c.requires.blocks
 
 pub returns-in-Err-clause-blocks : goal.returns-in-Err-clause-blocks
-returns-in-Err-clause-blocks g c = ?
+returns-in-Err-clause-blocks g c =
+    on_blocks c.begin.result _ _ _ c.args.block (c.read.ensures.position ∙ ap (λ (n : ℕ). n * 4096) c.from.ensures) c.read.ensures.count
+    c.begin.ensures.opens c.requires.blocks

@@ -5,10 +5,10 @@ use Rattle.reissue.specs.Moves.{Begun}
 use Rattle.cache.specs.Frames.{IsOfBlock}
 use Rattle.frame_rows.proofs.transfers.begin_first.Given as goal
 
-abbrev pub invariant-blocks : goal.invariant-blocks
-invariant-blocks g l = record {
-  few : (table_of l.transfers).ids ≤ (table_of l.initial.transfers).ids + l.counter;
-  within : l.counter ≤ 255;
+abbrev pub invariant-reads : goal.invariant-reads
+invariant-reads g l = record {
+  few : (table_of l.transfers).ids ≤ (table_of l.initial.transfers).ids + l.block;
+  within : l.block ≤ 255;
   room : HasRoom (table_of l.transfers) (g.L.Link.room (link_of l.transfers));
   blocks : (t : ℕ) (r : Begun) → begun_in l.transfers t ≡ Some r → IsOfBlock 4096 r;
 }
