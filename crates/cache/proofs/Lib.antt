@@ -3,6 +3,7 @@ mod Places
 mod Sizes
 pub mod Tied
 pub mod Agreeing
+pub mod Handing
 pub mod Runs
 pub mod Edits
 mod Staying

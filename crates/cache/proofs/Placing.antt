@@ -126,15 +126,18 @@ runs_slots old new R minor size table told truth room budget ended ready tied h 
       ready = record { minors = ready.minors; tied = tied; room = ready.room; ids = ready.ids };
       told = [];
       history = refl;
+      acts = [];
+      done = refl;
+      none_absorbed = refl;
       minor = refl;
       size = refl;
       ended = λ f. f;
       ids = λ f. omega arith;
       agrees = λ marks k. k;
-      ends = λ marks k f. f;
+      ends = λ f. f;
       related = λ image marks k tr. h _;
       truth = λ opening marks k f was tr. (was, tr);
-      rules = λ marks k. ([], record { told = refl; grows = refl; keeps = tt; owes = refl });
+      rules = λ marks k. record { told = refl; grows = refl; keeps = tt; owes = refl };
     })
 
 -- ---- a slot is made free

@@ -58,7 +58,7 @@ impl<L: Link> Cache<L> {
     ghost use Rattle.cache.specs.Slots.{held, is_dirty_slot, is_unclean_slot};
     ghost use Rattle.cache.specs.Edits.{AllClean, SomeUnclean, IsIssued, IssuesLowest, IsWritten, IsSlotAt, IsFreeAt, IsAt, Leaves, AllStay, StayBut, IsChangedAt};
     ghost use Rattle.cache.specs.Frames.{frames_of, view, with_bytes};
-    ghost use Rattle.cache.specs.Calls.{caching, IsReady, IsLive, IsWhyCut, IsFrame, IsMade, IsStuck, PostsAlone, Runs, Keeps, Serves, Blanks, Rewrites, forgotten, with_cache_link, without_flush};
+    ghost use Rattle.cache.specs.Calls.{caching, IsReady, IsLive, IsWhyCut, IsFrame, IsMade, IsStuck, PostsAlone, Runs, Keeps, HandsOver, Blanks, Rewrites, forgotten, with_cache_link, without_flush};
     ghost use Rattle.cache.specs.contracts.cache.Cache.{the_row};
     ghost use Rattle.cache.specs.declared.slots.Frame.{Frame as FrameValue};
     ghost use Rattle.cache.specs.declared.slots.Slot.{Slot};
@@ -461,7 +461,7 @@ impl<L: Link> Cache<L> {
         requires ids { (caching L.history L.truth L.room L.budget_left self.old).table.ids < 2 ^ 60 }
         requires spare { self.old.ended ≡ false → (caching L.history L.truth L.room L.budget_left self.old).table.ids + (caching L.history L.truth L.room L.budget_left self.old).budget + 17 < 2 ^ 60 + length (caching L.history L.truth L.room L.budget_left self.old).table.pending }
         requires room { room_needed message ≤ (caching L.history L.truth L.room L.budget_left self.old).room }
-        ensures runs { Runs (Some message) (caching L.history L.truth L.room L.budget_left self.old) (caching L.history L.truth L.room L.budget_left self.new) (λ w v. Serves (caching L.history L.truth L.room L.budget_left self.old) (caching L.history L.truth L.room L.budget_left self.new) w v) }
+        ensures hands_over { HandsOver message (caching L.history L.truth L.room L.budget_left self.old) (caching L.history L.truth L.room L.budget_left self.new) }
     {
         let settled = self.transfers.absorb(message);
         self.settle(settled);
