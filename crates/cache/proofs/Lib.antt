@@ -14,3 +14,4 @@ mod Fetching
 mod Order
 mod Choosing
 pub mod ReadingBack
+mod Leading
