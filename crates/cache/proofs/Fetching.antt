@@ -9,14 +9,14 @@ use Rattle.cache.specs.declared.slots.Frame.{Frame}
 use Rattle.cache.specs.declared.state.State.{State}
 use Rattle.cache.specs.declared.cache.Cache.{Cache}
 use Rattle.cache.specs.declared.refusals.Cut.{Cut}
-use Rattle.cache.specs.Slots.{held, IsDistinct}
+use Rattle.cache.specs.Slots.{held}
 use Rattle.cache.specs.Uses.{IsUsedLast}
 use Rattle.cache.specs.Order.{IsVictim}
-use Rattle.cache.specs.Edits.{IsSetAt, IsAt, IsFreeAt, AllStay, StayBut, OthersStay}
-use Rattle.cache.specs.Fetches.{Hits, Misses, BlanksFrame, MakesRoom, StandsAt, IsNotFor}
+use Rattle.cache.specs.Edits.{IsSetAt, IsAt, IsFreeAt, StayBut}
+use Rattle.cache.specs.Fetches.{Misses}
 use Rattle.cache.proofs.Held.{some_holds}
 use Rattle.cache.proofs.Placing.{filled_held}
-use Rattle.cache.proofs.Staying.{but_then, all_but, set_others, others_then}
+use Rattle.cache.proofs.Staying.{set_others, others_then}
 
 -- a block that has a frame isn't one that has none
 pub has_one : {X : Type 0} (items : List Slot) (at b : ℕ) → IsAt items at b → held items b ≡ None → X

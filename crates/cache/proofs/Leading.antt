@@ -1,14 +1,11 @@
 -- A call of a cache, as its server's.
 use Rattle.std.specs.Prelude.{◌||◌}
-use Rattle.std.proofs.Common.{◌≡◌, List, [], ◌∷◌, ◌++◌, Bool, true, false, refl, sym, ◌∙◌, ap, subst, Option, Some, None}
+use Rattle.std.proofs.Common.{◌≡◌, List, [], ◌∷◌, ◌++◌, Bool, refl, sym, ◌∙◌, ap, subst, Option, Some, None}
 use Rattle.message.specs.declared.Incoming.{Incoming}
 use Rattle.message.specs.declared.Incoming.TheVariants as incoming
-use Rattle.marks.specs.Marks.{Mark}
 use Rattle.marks.specs.Told.{Told, Posted, Complained, Received, took_end}
 use Rattle.marks.specs.Acts.{Act, Absorbed, told_of, Outbox, KeepsRules, outbox_after}
-use Rattle.legal.specs.ServerCall.{Serving, Leads, Rules}
-use Rattle.reissue.specs.Agrees.{Agrees}
-use Rattle.reissue.specs.Moves.{DiskState}
+use Rattle.legal.specs.ServerCall.{Serving}
 use Rattle.cache.specs.Calls.{Caching, Runs, with_handed}
 use Rattle.cache.specs.Laws.{IsOver, LeadsBy}
 use Rattle.cache.proofs.Handing.{told_both}

@@ -7,7 +7,7 @@ use Rattle.marks.specs.Marks.{Mark, Answered}
 use Rattle.marks.specs.Open.{counts}
 use Rattle.marks.specs.Disk.{Contents, HasTrueReplies}
 use Rattle.marks.specs.Told.{Told, Posted, Complained, Received, grown, received, heard, took_end}
-use Rattle.marks.specs.Acts.{Act, Absorbed, Outbox, KeepsRules, has_absorbed, told_of, marks_after, outbox_after}
+use Rattle.marks.specs.Acts.{Act, Absorbed, Outbox, KeepsRules, told_of, marks_after, outbox_after}
 use Rattle.marks.specs.Opening.{contents_at}
 use Rattle.marks.proofs.ActLaws.{acts_compose}
 use Rattle.reissue.specs.declared.ask.Ask.{Ask}
@@ -17,8 +17,8 @@ use Rattle.reissue.specs.declared.table.Table.{Table}
 use Rattle.reissue.specs.Moves.{DiskState, Spares, Moves, state_after, IsBusy}
 use Rattle.reissue.specs.Entries.{pending_of, AllOfMinor}
 use Rattle.reissue.specs.Agrees.{Agrees}
-use Rattle.reissue.specs.Posts.{OnlyPosts, complaints_about, due_after}
-use Rattle.reissue.specs.Rules.{KeepsRulesBy, acts_on, outbox_of}
+use Rattle.reissue.specs.Posts.{complaints_about, due_after}
+use Rattle.reissue.specs.Rules.{KeepsRulesBy, outbox_of}
 use Rattle.endpoint.specs.declared.Endpoint.{Endpoint}
 use Rattle.reissue.specs.Calls.{Begins, Steps, Absorbs, goes_on}
 use Rattle.reissue.proofs.Joining.{grown_append, true_after}

@@ -1,5 +1,5 @@
 -- Which slots stay.
-use Rattle.std.proofs.Common.{◌≡◌, ℕ, List, refl, sym, ap, ◌∙◌, Option, Some}
+use Rattle.std.proofs.Common.{◌≡◌, ℕ, List, refl, sym, ap, ◌∙◌, Some}
 use mathlib.Core.Logic.{inl, inr}
 use Rattle.std.specs.Prelude.{slice_get, slice_set}
 use Rattle.std.proofs.lemmas.Bool.{cases_eq}
@@ -8,7 +8,7 @@ use Rattle.cache.specs.declared.slots.Slots.{Slots}
 use Rattle.cache.specs.declared.state.State.{State}
 use Rattle.cache.specs.declared.state.State.TheVariants.{Clean, Dirty, Writing, Changed}
 use Rattle.cache.specs.Slots.{written}
-use Rattle.cache.specs.Edits.{IsSetAt, IsKept, IsKeptAt, AllStay, OthersStay, StayBut}
+use Rattle.cache.specs.Edits.{IsSetAt, IsKept, AllStay, OthersStay, StayBut}
 use Rattle.cache.proofs.Held.{get_set_same, get_set_other}
 use Rattle.cache.proofs.Edits.{one_slot}
 

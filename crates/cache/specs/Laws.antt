@@ -1,17 +1,17 @@
 -- What a cache keeps, as said of a server.
-use Rattle.std.specs.Prelude.{◌≡◌, ℕ, ◌<◌, List, [], ◌∷◌, ◌++◌, Option, None, Some}
+use Rattle.std.specs.Prelude.{◌≡◌, ℕ, ◌<◌, List, Option}
 use Rattle.layout.specs.declared.Geometry.{Geometry}
 use Rattle.marks.specs.Marks.{Mark}
 use Rattle.marks.specs.Disk.{Contents}
 use Rattle.message.specs.declared.Incoming.{Incoming}
 use Rattle.marks.specs.Told.{took_end}
-use Rattle.marks.specs.Acts.{Act, Absorbed}
+use Rattle.marks.specs.Acts.{Act}
 use Rattle.legal.specs.View.{server_view, IsCovered}
 use Rattle.legal.specs.ServerCall.{Serving, Leads, Rules}
 use Rattle.reissue.specs.Agrees.{Agrees}
-use Rattle.reissue.specs.Moves.{DiskState, state_after}
+use Rattle.reissue.specs.Moves.{state_after}
 use Rattle.reissue.specs.Rules.{outbox_of}
-use Rattle.cache.specs.Calls.{Caching, Runs, HandsOver, with_handed}
+use Rattle.cache.specs.Calls.{Caching, Runs, with_handed}
 use Rattle.cache.specs.declared.slots.Slot.{Slot}
 use Rattle.cache.specs.Frames.{CacheAgrees, frames_of, view}
 
