@@ -295,32 +295,35 @@ pub absorb_runs : (m : Incoming) (res : Settled) (old new : Caching) (R : DiskSt
     → new.table.ids + length old.table.pending ≤ old.table.ids + length new.table.pending + 1
     → (d : Done m old.table new.table old.told new.told x.posts)
     → ((w v : DiskState) → Moves res (pending_of old.table.pending) w v → R w v) → (r : Runs (Some m) old new R) × (r.acts ≡ d.acts)
-absorb_runs m res old new R x ready minors same_minor same_size ended budget ids d h = (record {
-  acts = d.acts;
-  done = d.done;
-  none_absorbed = d.none_absorbed;
-  ready = ready;
-  told = told;
-  history = x.history ∙ sym (append_assoc x.posts x.complaints old.told);
-  minor = same_minor;
-  size = same_size;
-  ended = λ e. ended ∙ e;
-  ids = λ e. omega (arith, budget, ids);
-  agrees = λ marks k. subst (λ (ms : List Mark). Agrees new.table ms) (sym (all marks)) (x.agrees marks k);
-  ends = λ e. ended ∙ e ∙ sym x.ended;
-  related = λ image marks k tr.
-      subst (λ (ms : List Mark). R (state_after image marks) (state_after image ms)) (sym (all marks))
-      (h (state_after image marks) (state_after image (grown x.posts (received m marks)))
-      ((x.closing marks k).moves image (subst (λ (ms : List Mark). HasTrueReplies image ms) (all marks) tr)));
-  truth = λ opening marks k e was tr.
-      subst (λ (ms : List Mark). new.truth opening ms × HasTrueReplies (contents_at opening) ms) (sym (all marks)) (
-        x.truth opening marks k (subst (λ (n : ℕ). AllOfMinor n old.table.pending) (sym e) minors) was,
-        true_after x.posts (contents_at opening) (received m marks) x.only_posts tr,
-      );
-  rules = λ marks k.
-      subst (λ (ms : List Mark). KeepsRulesBy (d.acts ++ Absorbed m ∷ []) old.minor old.table new.table old.told new.told marks ms) (sym (all marks))
-      (d.rules old.minor marks k minors);
-}, refl)
+absorb_runs m res old new R x ready minors same_minor same_size ended budget ids d h = (
+  record {
+    acts = d.acts;
+    done = d.done;
+    none_absorbed = d.none_absorbed;
+    ready = ready;
+    told = told;
+    history = x.history ∙ sym (append_assoc x.posts x.complaints old.told);
+    minor = same_minor;
+    size = same_size;
+    ended = λ e. ended ∙ e;
+    ids = λ e. omega (arith, budget, ids);
+    agrees = λ marks k. subst (λ (ms : List Mark). Agrees new.table ms) (sym (all marks)) (x.agrees marks k);
+    ends = λ e. ended ∙ e ∙ sym x.ended;
+    related = λ image marks k tr.
+        subst (λ (ms : List Mark). R (state_after image marks) (state_after image ms)) (sym (all marks))
+        (h (state_after image marks) (state_after image (grown x.posts (received m marks)))
+        ((x.closing marks k).moves image (subst (λ (ms : List Mark). HasTrueReplies image ms) (all marks) tr)));
+    truth = λ opening marks k e was tr.
+        subst (λ (ms : List Mark). new.truth opening ms × HasTrueReplies (contents_at opening) ms) (sym (all marks)) (
+          x.truth opening marks k (subst (λ (n : ℕ). AllOfMinor n old.table.pending) (sym e) minors) was,
+          true_after x.posts (contents_at opening) (received m marks) x.only_posts tr,
+        );
+    rules = λ marks k.
+        subst (λ (ms : List Mark). KeepsRulesBy (d.acts ++ Absorbed m ∷ []) old.minor old.table new.table old.told new.told marks ms) (sym (all marks))
+        (d.rules old.minor marks k minors);
+  },
+  refl,
+)
   where
     told : List Told
     told = x.posts ++ x.complaints
