@@ -19,10 +19,7 @@ fn driver(faults: Vec<Fault>) -> ScriptedDriver {
 }
 
 /// A cache of 16 frames over two drivers of zero bytes, the first of which dies in its first request after so many sectors, or not.
-fn cache_over(
-    alloc: Global,
-    dies: Option<u32>,
-) -> Result<Cache<Inline<ScriptedDriver>>, Fail>
+fn cache_over(alloc: Global, dies: Option<u32>) -> Result<Cache<Inline<ScriptedDriver>>, Fail>
     ensures ready { IfOk result (λ c. IsReady (caching ⟦<Inline<ScriptedDriver> as Link>⟧.history ⟦<Inline<ScriptedDriver> as Link>⟧.truth ⟦<Inline<ScriptedDriver> as Link>⟧.room ⟦<Inline<ScriptedDriver> as Link>⟧.budget_left c)) }
     ensures size { IfOk result (λ c. (caching ⟦<Inline<ScriptedDriver> as Link>⟧.history ⟦<Inline<ScriptedDriver> as Link>⟧.truth ⟦<Inline<ScriptedDriver> as Link>⟧.room ⟦<Inline<ScriptedDriver> as Link>⟧.budget_left c).size ≡ 4096) }
 {
@@ -30,7 +27,11 @@ fn cache_over(
     let media = Media::from_bytes(alloc, &zeros)?;
     let mut faults = Vec::new(alloc);
     if let Some(after) = dies {
-        faults.push(Fault { request: 1, after, kind: FaultKind::Die })?;
+        faults.push(Fault {
+            request: 1,
+            after,
+            kind: FaultKind::Die,
+        })?;
     }
     let mut supply = Vec::new(alloc);
     supply.push(driver(faults))?;

@@ -204,7 +204,12 @@ fn sixteen_are_written(rt: HostRuntime) -> Result<(), Fail> {
 #[test]
 fn what_was_changed_is_written_again(rt: HostRuntime) -> Result<(), Fail> {
     let alloc = rt.alloc();
-    let list = [started(1), moved(1, 1, 4096, 0), moved(1, 2, 4096, 0), moved(1, 3, 4096, 0)];
+    let list = [
+        started(1),
+        moved(1, 1, 4096, 0),
+        moved(1, 2, 4096, 0),
+        moved(1, 3, 4096, 0),
+    ];
     let mut messages = Vec::new(alloc);
     for message in list {
         messages.push(message)?;

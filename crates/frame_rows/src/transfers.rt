@@ -108,7 +108,16 @@ fn a_rest_goes_on_under_a_new_id(rt: HostRuntime) -> Result<(), Fail> {
         _ => (None, [0; 4096]),
     };
     assert!(rt; ticket.ok() == read);
-    for (at, byte) in [(0, 1), (511, 1), (512, 2), (1023, 2), (1024, 3), (2047, 3), (2048, 4), (4095, 4)] {
+    for (at, byte) in [
+        (0, 1),
+        (511, 1),
+        (512, 2),
+        (1023, 2),
+        (1024, 3),
+        (2047, 3),
+        (2048, 4),
+        (4095, 4),
+    ] {
         assert_eq!(rt; bytes[at], byte);
     }
     Ok(())
@@ -122,7 +131,10 @@ fn a_whole_write_again(rt: HostRuntime) -> Result<(), Fail> {
     let ticket = transfers.begin(&Ask::write(0, 40960, 4096, &[49; 4096]));
     let settled = take(&mut transfers, 3);
     let told = told(alloc, transfers.link())?;
-    assert_eq!(rt; told.as_str(), "write 1 40960 4096 49\nwrite 1 40960 4096 49\n");
+    assert_eq!(rt;
+        told.as_str(),
+        "write 1 40960 4096 49\nwrite 1 40960 4096 49\n"
+    );
     let written = match settled {
         Settled::Written(written) => Some(written),
         _ => None,
