@@ -3,11 +3,15 @@ mod Places
 mod Sizes
 pub mod Tied
 pub mod Agreeing
+pub mod Handing
 pub mod Runs
 pub mod Edits
+mod Staying
 mod Taking
-mod Beginning
+pub mod Beginning
 pub mod Placing
+mod Fetching
 mod Order
 mod Choosing
 pub mod ReadingBack
+mod Leading

@@ -126,15 +126,18 @@ runs_slots old new R minor size table told truth room budget ended ready tied h 
       ready = record { minors = ready.minors; tied = tied; room = ready.room; ids = ready.ids };
       told = [];
       history = refl;
+      acts = [];
+      done = refl;
+      none_absorbed = refl;
       minor = refl;
       size = refl;
       ended = λ f. f;
       ids = λ f. omega arith;
       agrees = λ marks k. k;
-      ends = λ marks k f. f;
+      ends = λ f. f;
       related = λ image marks k tr. h _;
       truth = λ opening marks k f was tr. (was, tr);
-      rules = λ marks k. ([], record { told = refl; grows = refl; keeps = tt; owes = refl });
+      rules = λ marks k. record { told = refl; grows = refl; keeps = tt; owes = refl };
     })
 
 -- ---- a slot is made free
@@ -225,7 +228,7 @@ vacated_none old new at s d is e c h = elim (vacated_held old new at s d is e) [
 -- ---- a block comes into a free slot
 
 -- which block has which slot then
-filled_held : (items items' : List Slot) (at b : ℕ) (t : Slot) (change : Slot → Slot) → ((s : Slot) → change s ≡ t) → t.block ≡ Some b
+pub filled_held : (items items' : List Slot) (at b : ℕ) (t : Slot) (change : Slot → Slot) → ((s : Slot) → change s ≡ t) → t.block ≡ Some b
     → IsDistinct items → IsFreeAt items at → held items b ≡ None → IsSetAt items items' at change → held items' ≡ put (held items) b (Some t)
 filled_held items items' at b t change is_t block d free none e =
     let one : e.slot ≡ free.slot = one_slot items at e.slot free.slot e.is free.is in

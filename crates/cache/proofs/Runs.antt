@@ -1,4 +1,5 @@
 -- Calls one after the other, and what a request begun or a message taken is as a call.
+use Rattle.std.specs.Prelude.{not, ◌||◌}
 use Rattle.std.proofs.Common.{◌≡◌, ℕ, ◌+◌, ◌<◌, ◌≤◌, List, [], ◌∷◌, ◌++◌, length, Bool, true, false, cond, refl, sym, ◌∙◌, ap, subst, arith, append_assoc, Option, Some, None}
 use Rattle.message.specs.declared.Incoming.{Incoming}
 use Rattle.message.specs.declared.Incoming.TheVariants as incoming
@@ -16,12 +17,13 @@ use Rattle.reissue.specs.declared.table.Table.{Table}
 use Rattle.reissue.specs.Moves.{DiskState, Spares, Moves, state_after, IsBusy}
 use Rattle.reissue.specs.Entries.{pending_of, AllOfMinor}
 use Rattle.reissue.specs.Agrees.{Agrees}
-use Rattle.reissue.specs.Posts.{OnlyPosts, complaints_about, due_after}
-use Rattle.reissue.specs.Rules.{KeepsRulesBy, acts_on, outbox_of}
+use Rattle.reissue.specs.Posts.{complaints_about, due_after}
+use Rattle.reissue.specs.Rules.{KeepsRulesBy, outbox_of}
 use Rattle.endpoint.specs.declared.Endpoint.{Endpoint}
-use Rattle.reissue.specs.Calls.{Begins, Steps, Absorbs, IsAnswerTo, IsOfReply}
+use Rattle.reissue.specs.Calls.{Begins, Steps, Absorbs, goes_on}
 use Rattle.reissue.proofs.Joining.{grown_append, true_after}
-use Rattle.cache.specs.Calls.{Caching, IsReady, Runs, after_message}
+use Rattle.cache.proofs.Handing.{Done, told_both, none_of_both}
+use Rattle.cache.specs.Calls.{Caching, IsReady, Runs, after_message, with_handed}
 use Rattle.cache.specs.Takes.{is_ended_by}
 
 -- ---- true replies
@@ -69,6 +71,11 @@ rules_then minor a b c before between after marks more most first then x y =
           ∙ ap (outbox_after then more) x.owes ∙ y.owes;
     }
 
+-- the message that is handed over comes first of all
+handed_first : (m : Option Incoming) (xs ys : List Act) → xs ++ with_handed m ys ≡ with_handed m (xs ++ ys)
+handed_first None xs ys = refl
+handed_first (Some message) xs ys = sym (append_assoc xs ys (Absorbed message ∷ []))
+
 -- ---- calls one after the other
 
 -- nothing happened
@@ -77,15 +84,18 @@ runs_none c R ready h = record {
   ready = ready;
   told = [];
   history = refl;
+  acts = [];
+  done = refl;
+  none_absorbed = refl;
   minor = refl;
   size = refl;
   ended = λ e. e;
   ids = λ e. omega arith;
   agrees = λ marks k. k;
-  ends = λ marks k e. e;
+  ends = λ e. e;
   related = λ image marks k tr. h (state_after image marks);
   truth = λ opening marks k e was tr. (was, tr);
-  rules = λ marks k. ([], record { told = refl; grows = refl; keeps = tt; owes = refl });
+  rules = λ marks k. record { told = refl; grows = refl; keeps = tt; owes = refl };
 }
 
 -- another relation that follows
@@ -95,6 +105,9 @@ runs_as m a b R S h x = record {
   ready = x.ready;
   told = x.told;
   history = x.history;
+  acts = x.acts;
+  done = x.done;
+  none_absorbed = x.none_absorbed;
   minor = x.minor;
   size = x.size;
   ended = x.ended;
@@ -118,12 +131,16 @@ runs_then m a b c R S T h x y = record {
   ready = y.ready;
   told = y.told ++ x.told;
   history = y.history ∙ ap (λ (l : List Told). y.told ++ l) x.history ∙ sym (append_assoc y.told x.told a.told);
+  acts = y.acts ++ x.acts;
+  done = y.done ∙ ap (λ (l : List Told). told_of y.acts ++ l) x.done ∙ sym (append_assoc (told_of y.acts) (told_of x.acts) a.told)
+      ∙ ap (λ (l : List Told). l ++ a.told) (sym (told_both y.acts x.acts));
+  none_absorbed = none_of_both y.acts x.acts y.none_absorbed x.none_absorbed;
   minor = y.minor ∙ x.minor;
   size = y.size ∙ x.size;
   ended = λ e. y.ended (x.ended e);
   ids = λ e. let first = x.ids (open_before b.ended c.ended y.ended e) in let second = y.ids e in omega (arith, first, second);
   agrees = λ marks k. subst (λ (ms : List Mark). Agrees c.table ms) (sym (all marks)) (y.agrees (mid marks) (x.agrees marks k));
-  ends = λ marks k e. y.ends (mid marks) (x.agrees marks k) (x.ends marks k e);
+  ends = λ e. y.ends (x.ends e);
   related = λ image marks k tr.
       let tr' : HasTrueReplies image (grown y.told (mid marks)) = subst (λ (ms : List Mark). HasTrueReplies image ms) (all marks) tr in
       let first = x.related image marks k (true_before y.told image (mid marks) tr') in
@@ -136,12 +153,12 @@ runs_then m a b c R S T h x y = record {
       (y.truth opening (mid marks) (x.agrees marks k) (e ∙ sym x.minor) first.0 first.1);
   rules = λ marks k.
       let first = x.rules marks k in
-      let second = y.rules (mid marks) (x.agrees marks k) in (
-        second.0 ++ first.0,
-        subst (λ (ms : List Mark). KeepsRulesBy (second.0 ++ first.0) a.minor a.table c.table a.told c.told marks ms) (sym (all marks))
-            (rules_then a.minor a.table b.table c.table a.told b.told c.told marks (mid marks) (grown y.told (mid marks)) first.0 second.0 first.1
-            (subst (λ (n : ℕ). KeepsRulesBy second.0 n b.table c.table b.told c.told (mid marks) (grown y.told (mid marks))) x.minor second.1)),
-      );
+      let second = y.rules (mid marks) (x.agrees marks k) in
+      subst (λ (l : List Act). KeepsRulesBy l a.minor a.table c.table a.told c.told marks (grown (y.told ++ x.told) (after_message m marks)))
+      (handed_first m y.acts x.acts)
+      (subst (λ (ms : List Mark). KeepsRulesBy (y.acts ++ with_handed m x.acts) a.minor a.table c.table a.told c.told marks ms) (sym (all marks))
+      (rules_then a.minor a.table b.table c.table a.told b.told c.told marks (mid marks) (grown y.told (mid marks)) (with_handed m x.acts) y.acts first
+      (subst (λ (n : ℕ). KeepsRulesBy y.acts n b.table c.table b.told c.told (mid marks) (grown y.told (mid marks))) x.minor second)));
 }
   where
     mid : List Mark → List Mark
@@ -149,46 +166,6 @@ runs_then m a b c R S T h x y = record {
 
     all : (marks : List Mark) → grown (y.told ++ x.told) (after_message m marks) ≡ grown y.told (mid marks)
     all marks = grown_append y.told x.told (after_message m marks)
-
--- ---- the end of the link
-
--- posts and complaints don't end it
-posts_quiet : (posts before : List Told) → OnlyPosts posts → took_end (posts ++ before) ≡ took_end before
-posts_quiet [] before h = refl
-posts_quiet (Posted to r accepted ∷ posts) before h = posts_quiet posts before h
-posts_quiet (Complained about ∷ posts) before h = absurd h
-posts_quiet (Received message ∷ posts) before h = absurd h
-
--- nor does the complaint that is due
-complaint_quiet : (m : Incoming) (marks : List Mark) (complaints before : List Told) → complaints ≡ complaints_about (due_after m marks)
-    → took_end (complaints ++ before) ≡ took_end before
-complaint_quiet m marks complaints before e = rw e (by (due_after m marks))
-  where
-    by : (o : Option Endpoint) → took_end (complaints_about o ++ before) ≡ took_end before
-    by None = refl
-    by (Some about) = refl
-
--- after an end was heard it has ended
-ended_heard : (b : Bool) (before : List Told) → took_end before ≡ b → took_end (cond b before (Received incoming.End ∷ before)) ≡ true
-ended_heard true before e = e
-ended_heard false before e = refl
-
--- a message ends it where it settles so
-heard_ends : (m : Incoming) (res : Settled) (before : List Told) → IsAnswerTo m res
-    → took_end (heard m before) ≡ cond (is_ended_by res) true (took_end before)
-heard_ends (incoming.Reply a) res before h = by res h
-  where
-    by : (r : Settled) → IsOfReply r → took_end before ≡ cond (is_ended_by r) true (took_end before)
-    by settled.Nothing k = refl
-    by (settled.Read t bytes) k = refl
-    by (settled.Written t) k = refl
-    by settled.Flush k = absurd k
-    by settled.GaveUp k = absurd k
-    by settled.End k = absurd k
-heard_ends (incoming.Started e) res before h = rw h refl
-heard_ends incoming.GaveUp res before h = rw h refl
-heard_ends incoming.Flush res before h = rw h refl
-heard_ends incoming.End res before h = rw h (ended_heard (took_end before) before refl)
 
 -- ---- a request is begun, as a call
 
@@ -203,18 +180,21 @@ begin_runs ask old new R x ready minors minor same_minor same_size ended budget 
   ready = ready;
   told = x.posts;
   history = x.history;
+  acts = x.acts;
+  done = x.told;
+  none_absorbed = x.none_absorbed;
   minor = same_minor;
   size = same_size;
   ended = λ e. ended ∙ e;
   ids = λ e. omega (arith, budget, ids);
   agrees = x.agrees;
-  ends = λ marks k e. ended ∙ e ∙ sym (ap took_end x.history ∙ posts_quiet x.posts old.told x.only_posts);
+  ends = λ e. ended ∙ e ∙ sym x.ended;
   related = λ image marks k tr. h (state_after image marks) (state_after image (grown x.posts marks)) (x.spares image marks k);
   truth = λ opening marks k e was tr. (
     x.truth opening marks k (minor ∙ sym e) (subst (λ (n : ℕ). AllOfMinor n old.table.pending) (sym e) minors) was,
     true_after x.posts (contents_at opening) marks x.only_posts tr,
   );
-  rules = λ marks k. (x.acts, x.rules old.minor marks k minors minor);
+  rules = λ marks k. x.rules old.minor marks k minors minor;
 }
 
 -- ---- a message is taken, as a call
@@ -248,12 +228,15 @@ step_runs res old new R x ready minors busy going same_minor same_size alive end
   ready = ready;
   told = told;
   history = history;
+  acts = x.acts;
+  done = x.told;
+  none_absorbed = x.none_absorbed;
   minor = same_minor;
   size = same_size;
   ended = λ e. absurd (let k = alive in cc);
   ids = λ e. let less = budget (sym ended ∙ e) in omega (arith, less, ids);
   agrees = λ marks k. subst (λ (ms : List Mark). Agrees new.table ms) (sym (all marks k)) (x.agrees marks k);
-  ends = λ marks k e. ended ∙ by_end (is_ended_by res) refl marks k e;
+  ends = λ e. ended ∙ by_end res e ∙ sym x.ended;
   related = λ image marks k tr.
       subst (λ (ms : List Mark). R (state_after image marks) (state_after image ms)) (sym (all marks k))
       (h (state_after image marks) (state_after image (grown x.posts (received x.message marks)))
@@ -262,8 +245,8 @@ step_runs res old new R x ready minors busy going same_minor same_size alive end
       subst (λ (ms : List Mark). new.truth opening ms × HasTrueReplies (contents_at opening) ms) (sym (all marks k))
       (x.truth opening marks k (subst (λ (n : ℕ). AllOfMinor n old.table.pending) (sym e) minors) was);
   rules = λ marks k.
-      subst (λ (ms : List Mark). (acts : List Act) × KeepsRulesBy acts old.minor old.table new.table old.told new.told marks ms) (sym (all marks k))
-      (x.acts, x.rules old.minor marks k minors busy going);
+      subst (λ (ms : List Mark). KeepsRulesBy x.acts old.minor old.table new.table old.told new.told marks ms) (sym (all marks k))
+      (x.rules old.minor marks k minors busy going);
 }
   where
     more : (b : Bool) × (heard x.message old.told ≡ news b x.message ++ old.told) × ((marks : List Mark) → grown (news b x.message) marks ≡ received x.message marks)
@@ -290,48 +273,57 @@ step_runs res old new R x ready minors busy going same_minor same_size alive end
         ∙ ap (λ (l : List Mark). grown x.posts l) (grown_append x.complaints (news more.0 x.message) marks
         ∙ silent marks (grown (news more.0 x.message) marks) k ∙ more.2 marks)
 
-    quiet : (marks : List Mark) → Agrees old.table marks → took_end new.told ≡ cond (is_ended_by res) true (took_end old.told)
-    quiet marks k = ap took_end x.history ∙ posts_quiet x.posts (x.complaints ++ heard x.message old.told) x.only_posts
-        ∙ complaint_quiet x.message marks x.complaints (heard x.message old.told) (x.due marks k) ∙ heard_ends x.message res old.told x.answer
+    -- it had not ended before
+    open_told : old.ended ≡ took_end old.told → took_end old.told ≡ false
+    open_told e = sym e ∙ alive
 
-    by_end : (b : Bool) → is_ended_by res ≡ b → (marks : List Mark) → Agrees old.table marks → old.ended ≡ took_end old.told
-        → is_ended_by res ≡ took_end new.told
-    by_end true e marks k was = e ∙ sym (quiet marks k ∙ rw e refl)
-    by_end false e marks k was = e ∙ sym alive ∙ was ∙ sym (quiet marks k ∙ rw e refl)
+    by_end : (r : Settled) → old.ended ≡ took_end old.told → is_ended_by r ≡ (not (goes_on r) || took_end old.told)
+    by_end settled.End e = refl
+    by_end settled.Nothing e = sym (open_told e)
+    by_end settled.Flush e = sym (open_told e)
+    by_end settled.GaveUp e = sym (open_told e)
+    by_end (settled.Read t bytes) e = sym (open_told e)
+    by_end (settled.Written t) e = sym (open_told e)
 
 -- ---- a message is handed over, as a call
 
 -- what absorbing a message did, where the frames may have changed too
 pub absorb_runs : (m : Incoming) (res : Settled) (old new : Caching) (R : DiskState → DiskState → Type 0)
-    → Absorbs m res old.table new.table old.told new.told old.truth new.truth
+    → (x : Absorbs m res old.table new.table old.told new.told old.truth new.truth)
     → IsReady new → AllOfMinor old.minor old.table.pending
     → new.minor ≡ old.minor → new.size ≡ old.size → new.ended ≡ old.ended → new.budget ≤ old.budget
     → new.table.ids + length old.table.pending ≤ old.table.ids + length new.table.pending + 1
-    → ((w v : DiskState) → Moves res (pending_of old.table.pending) w v → R w v) → Runs (Some m) old new R
-absorb_runs m res old new R x ready minors same_minor same_size ended budget ids h = record {
-  ready = ready;
-  told = told;
-  history = x.history ∙ sym (append_assoc x.posts x.complaints old.told);
-  minor = same_minor;
-  size = same_size;
-  ended = λ e. ended ∙ e;
-  ids = λ e. omega (arith, budget, ids);
-  agrees = λ marks k. subst (λ (ms : List Mark). Agrees new.table ms) (sym (all marks)) (x.agrees marks k);
-  ends = λ marks k e. ended ∙ e ∙ sym (ap took_end x.history ∙ posts_quiet x.posts (x.complaints ++ old.told) x.only_posts
-      ∙ complaint_quiet m marks x.complaints old.told (x.due marks k));
-  related = λ image marks k tr.
-      subst (λ (ms : List Mark). R (state_after image marks) (state_after image ms)) (sym (all marks))
-      (h (state_after image marks) (state_after image (grown x.posts (received m marks)))
-      ((x.closing marks k).moves image (subst (λ (ms : List Mark). HasTrueReplies image ms) (all marks) tr)));
-  truth = λ opening marks k e was tr.
-      subst (λ (ms : List Mark). new.truth opening ms × HasTrueReplies (contents_at opening) ms) (sym (all marks)) (
-        x.truth opening marks k (subst (λ (n : ℕ). AllOfMinor n old.table.pending) (sym e) minors) was,
-        true_after x.posts (contents_at opening) (received m marks) x.only_posts tr,
-      );
-  rules = λ marks k.
-      subst (λ (ms : List Mark). (acts : List Act) × KeepsRulesBy acts old.minor old.table new.table old.told new.told marks ms) (sym (all marks))
-      (acts_on x.posts old.table x.mid x.complaints (Absorbed m ∷ []), x.rules old.minor marks k minors);
-}
+    → (d : Done m old.table new.table old.told new.told x.posts)
+    → ((w v : DiskState) → Moves res (pending_of old.table.pending) w v → R w v) → (r : Runs (Some m) old new R) × (r.acts ≡ d.acts)
+absorb_runs m res old new R x ready minors same_minor same_size ended budget ids d h = (
+  record {
+    acts = d.acts;
+    done = d.done;
+    none_absorbed = d.none_absorbed;
+    ready = ready;
+    told = told;
+    history = x.history ∙ sym (append_assoc x.posts x.complaints old.told);
+    minor = same_minor;
+    size = same_size;
+    ended = λ e. ended ∙ e;
+    ids = λ e. omega (arith, budget, ids);
+    agrees = λ marks k. subst (λ (ms : List Mark). Agrees new.table ms) (sym (all marks)) (x.agrees marks k);
+    ends = λ e. ended ∙ e ∙ sym x.ended;
+    related = λ image marks k tr.
+        subst (λ (ms : List Mark). R (state_after image marks) (state_after image ms)) (sym (all marks))
+        (h (state_after image marks) (state_after image (grown x.posts (received m marks)))
+        ((x.closing marks k).moves image (subst (λ (ms : List Mark). HasTrueReplies image ms) (all marks) tr)));
+    truth = λ opening marks k e was tr.
+        subst (λ (ms : List Mark). new.truth opening ms × HasTrueReplies (contents_at opening) ms) (sym (all marks)) (
+          x.truth opening marks k (subst (λ (n : ℕ). AllOfMinor n old.table.pending) (sym e) minors) was,
+          true_after x.posts (contents_at opening) (received m marks) x.only_posts tr,
+        );
+    rules = λ marks k.
+        subst (λ (ms : List Mark). KeepsRulesBy (d.acts ++ Absorbed m ∷ []) old.minor old.table new.table old.told new.told marks ms) (sym (all marks))
+        (d.rules old.minor marks k minors);
+  },
+  refl,
+)
   where
     told : List Told
     told = x.posts ++ x.complaints

@@ -17,7 +17,10 @@ use Rattle.cache.specs.declared.refusals.Cut.{Cut}
 use Rattle.cache.specs.Slots.{held}
 use Rattle.cache.specs.Edits.{IsWritten, IsWrittenSlot, Leaves}
 use Rattle.cache.specs.Frames.{Tied, CacheAgrees, view}
-use Rattle.cache.specs.Calls.{Caching, IsReady, Serves, Runs}
+use Rattle.cache.specs.Calls.{Caching, IsReady, Serves, Runs, HandsOver}
+use Rattle.marks.specs.Told.{took_nothing}
+use Rattle.marks.specs.Acts.{Act, told_of}
+use Rattle.cache.proofs.Handing.{Done, done_on}
 use Rattle.cache.specs.Takes.{Settles, took_of, is_ended_by, Takes, ReadTells, ReadsStay, is_read_of}
 use Rattle.cache.proofs.Tied.{way_ticket, tied_read_settled, tied_written, same_begun}
 use Rattle.cache.proofs.Agreeing.{agrees_moved, view_moved, agrees_written, view_put}
@@ -194,11 +197,16 @@ pub absorbs_one : (m : Incoming) (res : Settled) (old new : Caching) (items item
     → new.minor ≡ old.minor → new.size ≡ old.size → new.ended ≡ old.ended → new.budget ≤ old.budget
     → (new.ended ≡ false → HasRoom new.table new.room)
     → new.table.ids + length old.table.pending ≤ old.table.ids + length new.table.pending + 1
-    → Runs (Some m) old new (λ w v. Serves old new w v)
-absorbs_one m res old new items items' x settles here there ready spare some minor size ended budget room ids =
-    absorb_runs m res old new (λ w v. Serves old new w v) x now ready.minors minor size ended budget ids
-    (λ w v m. serves_settled res old new items items' w v some x.closes settles here there size ready.tied m)
+    → (m ≡ incoming.End → new.told ≡ old.told) → HandsOver m old new
+absorbs_one m res old new items items' x settles here there ready spare some minor size ended budget room ids stays = record {
+  runs = both.0;
+  none_taken = ap (λ (l : List Act). took_nothing (told_of l)) both.1 ∙ d.none_taken;
+  no_effect = λ e. both.1 ∙ d.no_effect e;
+}
   where
+    d : Done m old.table new.table old.told new.told x.posts
+    d = done_on m res old.table new.table old.told new.told old.truth new.truth stays x
+
     now : IsReady new
     now = record {
       minors = subst (λ (n : ℕ). AllOfMinor n new.table.pending) (sym minor) (x.minors old.minor ready.minors);
@@ -206,6 +214,10 @@ absorbs_one m res old new items items' x settles here there ready spare some min
       room = room;
       ids = λ e. let was = spare (sym ended ∙ e) in omega (arith, was, ids, budget);
     }
+
+    both : (r : Runs (Some m) old new (λ w v. Serves old new w v)) × (r.acts ≡ d.acts)
+    both = absorb_runs m res old new (λ w v. Serves old new w v) x now ready.minors minor size ended budget ids d
+        (λ w v m. serves_settled res old new items items' w v some x.closes settles here there size ready.tied m)
 
 -- after each message but End there is room for more; End changes nothing
 pub room_after : (m : Incoming) (P : Type 0) → (is_message m ≡ true → P) → (m ≡ incoming.End → P) → P

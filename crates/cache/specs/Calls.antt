@@ -1,10 +1,11 @@
 -- What each call of a cache does at its link, to the disk, and to what would be read back.
-use Rattle.std.specs.Prelude.{◌≡◌, ◌⊎◌, ℕ, ◌+◌, ◌^◌, ◌<◌, ◌≤◌, List, ◌++◌, length, Bool, true, false, Option, Some, None, Result, Ok, Err, if◌then◌else◌}
+use Rattle.std.specs.Prelude.{◌≡◌, ◌⊎◌, ℕ, ◌+◌, ◌^◌, ◌<◌, ◌≤◌, List, [], ◌∷◌, ◌++◌, length, Bool, true, false, Option, Some, None, Result, Ok, Err, if◌then◌else◌}
 use Rattle.message.specs.declared.Incoming.{Incoming}
+use Rattle.message.specs.declared.Incoming.TheVariants.{End}
 use Rattle.marks.specs.Marks.{Mark}
 use Rattle.marks.specs.Disk.{Contents, HasTrueReplies}
-use Rattle.marks.specs.Told.{Told, grown, received, took_end}
-use Rattle.marks.specs.Acts.{Act}
+use Rattle.marks.specs.Told.{Told, grown, received, took_end, took_nothing}
+use Rattle.marks.specs.Acts.{Act, Absorbed, told_of, has_absorbed}
 use Rattle.marks.specs.Opening.{Opening, contents_at}
 use Rattle.reissue.specs.declared.table.Table.{Table}
 use Rattle.reissue.specs.Moves.{DiskState, state_after, put, IsBusy}
@@ -80,12 +81,21 @@ abbrev pub message_count : Option Incoming → ℕ
 message_count None = 0
 message_count (Some message) = 1
 
+-- the acts of a call, with the message that is handed over first, if there is one
+abbrev pub with_handed : Option Incoming → List Act → List Act
+with_handed None acts = acts
+with_handed (Some message) acts = acts ++ Absorbed message ∷ []
+
 -- A call that leads from one state of a cache to the next, and what it was told at its link. From each record that agrees with the pending
 -- requests it leads to one that agrees, by acts that keep the rules; over true replies the disk before and after are related so.
 pub record Runs (message : Option Incoming) (old new : Caching) (Related : DiskState → DiskState → Type 0) : Type 0 where
   pub ready : IsReady new
   pub told : List Told
   pub history : new.told ≡ told ++ old.told
+  -- what was done, whatever the record: no further message is handed over
+  pub acts : List Act
+  pub done : new.told ≡ told_of acts ++ old.told
+  pub none_absorbed : has_absorbed acts ≡ false
   pub minor : new.minor ≡ old.minor
   pub size : new.size ≡ old.size
   pub ended : old.ended ≡ true → new.ended ≡ true
@@ -93,7 +103,7 @@ pub record Runs (message : Option Incoming) (old new : Caching) (Related : DiskS
   pub ids : new.ended ≡ false → new.table.ids + new.budget + length old.table.pending
       ≤ old.table.ids + old.budget + length new.table.pending + message_count message
   pub agrees : (marks : List Mark) → Agrees old.table marks → Agrees new.table (grown told (after_message message marks))
-  pub ends : (marks : List Mark) → Agrees old.table marks → old.ended ≡ took_end old.told → new.ended ≡ took_end new.told
+  pub ends : old.ended ≡ took_end old.told → new.ended ≡ took_end new.told
   pub related : (image : Contents) (marks : List Mark) → Agrees old.table marks
       → HasTrueReplies image (grown told (after_message message marks))
       → Related (state_after image marks) (state_after image (grown told (after_message message marks)))
@@ -102,7 +112,7 @@ pub record Runs (message : Option Incoming) (old new : Caching) (Related : DiskS
       → new.truth opening (grown told (after_message message marks))
       × HasTrueReplies (contents_at opening) (grown told (after_message message marks))
   pub rules : (marks : List Mark) → Agrees old.table marks
-      → (acts : List Act) × KeepsRulesBy acts old.minor old.table new.table old.told new.told marks (grown told (after_message message marks))
+      → KeepsRulesBy (with_handed message acts) old.minor old.table new.table old.told new.told marks (grown told (after_message message marks))
 
 -- slots and the disk go on agreeing, and what would be read back stays
 pub record Serves (old new : Caching) (w v : DiskState) : Type 0 where
@@ -112,6 +122,12 @@ pub record Serves (old new : Caching) (w v : DiskState) : Type 0 where
 -- a call that leaves what would be read back
 abbrev pub Keeps : Caching → Caching → Type 0
 Keeps old new = Runs None old new (λ w v. Serves old new w v)
+
+-- A message that is handed over between two calls: no message is taken, and an End has no effect.
+pub record HandsOver (message : Incoming) (old new : Caching) : Type 0 where
+  pub runs : Runs (Some message) old new (λ w v. Serves old new w v)
+  pub none_taken : took_nothing (told_of runs.acts) ≡ true
+  pub no_effect : message ≡ End → runs.acts ≡ []
 
 -- slots and the disk go on agreeing, and of what would be read back the bytes of one block alone change, in this way
 pub record Rewrites (block : ℕ) (change : (ℕ → ℕ) → ℕ → ℕ) (old new : Caching) (w v : DiskState) : Type 0 where
@@ -124,10 +140,10 @@ abbrev pub Blanks : {X : Type 0} → Result X Cut → ℕ → Caching → Cachin
 Blanks (Ok frame) block old new w v = Rewrites block (λ row o. 0) old new w v
 Blanks (Err cut) block old new w v = Serves old new w v
 
--- a call is cut for want of messages only where a take gave End, else only where the device was given up
+-- a call is cut for want of messages only where a take gave End, and else only where the device was given up
 abbrev pub IsWhyCut : Caching → Cut → Type 0
 IsWhyCut c LinkEnded = c.ended ≡ true
-IsWhyCut c Eio = c.table.given_up ≡ true
+IsWhyCut c Eio = (c.ended ≡ false) × (c.table.given_up ≡ true)
 
 -- messages may come: no take gave End, and the device isn't given up
 pub record IsLive (c : Caching) : Type 0 where

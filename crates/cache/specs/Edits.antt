@@ -1,7 +1,8 @@
 -- One slot changed, and what such changes leave.
-use Rattle.std.specs.Prelude.{◌≡◌, ℕ, ◌+◌, ◌-◌, List, Option, Some, None, Bool, true, false, ◌≤◌, ◌&&◌, slice_get, slice_set, slice_index, if◌then◌else◌, nat_le, nat_lt, length}
+use Rattle.std.specs.Prelude.{◌≡◌, ◌⊎◌, ℕ, ◌+◌, ◌-◌, List, Option, Some, None, Bool, true, false, ◌≤◌, ◌&&◌, slice_get, slice_set, slice_index, if◌then◌else◌, nat_le, nat_lt, length}
 use Rattle.reissue.specs.Moves.{put}
 use Rattle.cache.specs.declared.slots.Slot.{Slot}
+use Rattle.cache.specs.declared.slots.Slots.{Slots}
 use Rattle.cache.specs.declared.state.State.TheVariants.{Clean, Dirty, Writing}
 use Rattle.cache.specs.Slots.{ticket_of, held, dirtied, written, is_clean, is_dirty}
 
@@ -56,6 +57,32 @@ pub record Leaves (old new : List Slot) : Type 0 where
   pub at : (i b : ℕ) → IsAt old i b → IsAt new i b
   pub free : (i : ℕ) → IsFreeAt old i → IsFreeAt new i
   pub none : (b : ℕ) → held old b ≡ None → held new b ≡ None
+
+-- a slot stays, but that its write may have been answered good since
+pub record IsKept (old new : Slot) : Type 0 where
+  pub block : new.block ≡ old.block
+  pub bytes : new.bytes ≡ old.bytes
+  pub state : (new.state ≡ old.state) ⊎ (new.state ≡ written old.state)
+
+-- so does the slot there
+pub record IsKeptAt (old : Slot) (new : List Slot) (i : ℕ) : Type 0 where
+  pub slot : Slot
+  pub is : slice_get new i ≡ Some slot
+  pub kept : IsKept old slot
+
+-- each slot stays so, and none is used
+pub record AllStay (old new : Slots) : Type 0 where
+  pub uses : new.uses ≡ old.uses
+  pub each : (i : ℕ) (s : Slot) → slice_get old.items.items i ≡ Some s → IsKeptAt s new.items.items i
+
+-- each slot but one stays so
+abbrev pub OthersStay : ℕ → List Slot → List Slot → Type 0
+OthersStay at old new = (i : ℕ) (s : Slot) → (i ≡ at → ⊥) → slice_get old i ≡ Some s → IsKeptAt s new i
+
+-- each but one stays so, and none is used
+pub record StayBut (at : ℕ) (old new : Slots) : Type 0 where
+  pub uses : new.uses ≡ old.uses
+  pub each : OthersStay at old.items.items new.items.items
 
 -- a slot whose write has this ticket has the state after it
 pub record IsWrittenSlot (ticket : ℕ) (old new : List Slot) : Type 0 where

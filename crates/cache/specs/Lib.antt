@@ -7,4 +7,5 @@ pub mod Order
 pub mod Frames
 pub mod Calls
 pub mod Takes
+pub mod Fetches
 pub mod Laws

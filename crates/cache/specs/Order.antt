@@ -1,5 +1,5 @@
 -- Which slot comes first, in the order of their last use or of their blocks.
-use Rattle.std.specs.Prelude.{◌≡◌, ◌⊎◌, ℕ, ◌<◌, ◌≤◌, List, length, Option, Some, None, Bool, true, false, if◌then◌else◌, nat_lt, slice_get, slice_index}
+use Rattle.std.specs.Prelude.{◌≡◌, ◌⊎◌, ℕ, ◌<◌, ◌≤◌, List, length, Option, Some, None, is_some, Bool, true, false, if◌then◌else◌, nat_lt, slice_get, slice_index}
 use Rattle.cache.specs.declared.slots.Slot.{Slot}
 use Rattle.cache.specs.declared.slots.Among.{Among}
 use Rattle.cache.specs.declared.slots.Among.TheVariants as among
@@ -8,6 +8,7 @@ use Rattle.cache.specs.Slots.{is_unclean_slot, is_dirty}
 -- a slot's number in an order, if it is among those that are looked at; the number of its last use is given
 abbrev pub slot_key : Among → Option Slot → ℕ → Option ℕ
 slot_key a None used = None
+slot_key among.Free (Some s) used = if is_some s.block then None else Some used
 slot_key among.Clean (Some s) used = if is_unclean_slot s then None else Some used
 slot_key among.All (Some s) used = Some used
 slot_key among.Dirty (Some s) used = if is_dirty s.state then s.block else None
@@ -39,7 +40,16 @@ abbrev pub IsFirst : (ℕ → Option ℕ) → ℕ → Option ℕ → Type 0
 IsFirst keys n None = (i : ℕ) → i < n → keys i ≡ None
 IsFirst keys n (Some at) = IsLeast keys n at
 
--- of the slots that aren't unclean the one used longest ago, and where there is none, of all
+-- no slot is among these
+abbrev pub IsNone : Among → List Slot → List ℕ → Type 0
+IsNone a items numbers = IsFirst (key_of a items numbers) (length items) None
+
+-- the slot there is the first among these
+abbrev pub IsFirstOf : Among → List Slot → List ℕ → ℕ → Type 0
+IsFirstOf a items numbers at = IsFirst (key_of a items numbers) (length items) (Some at)
+
+-- the slot that goes next: a free one; where none is free, of the clean ones the one used longest ago; where none is clean, of all
 pub record IsVictim (items : List Slot) (numbers : List ℕ) (at : ℕ) : Type 0 where
-  pub chosen : IsFirst (key_of among.Clean items numbers) (length items) (Some at)
-      ⊎ (IsFirst (key_of among.Clean items numbers) (length items) None × IsFirst (key_of among.All items numbers) (length items) (Some at))
+  pub chosen : IsFirstOf among.Free items numbers at
+      ⊎ (IsNone among.Free items numbers × (IsFirstOf among.Clean items numbers at
+      ⊎ (IsNone among.Clean items numbers × IsFirstOf among.All items numbers at)))

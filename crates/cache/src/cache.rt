@@ -56,11 +56,13 @@ pub struct Cache<L> {
 
 impl<L: Link> Cache<L> {
     ghost use Rattle.cache.specs.Slots.{held, is_dirty_slot, is_unclean_slot};
-    ghost use Rattle.cache.specs.Edits.{AllClean, SomeUnclean, IsIssued, IssuesLowest, IsWritten, IsSlotAt, IsFreeAt, IsAt, Leaves};
+    ghost use Rattle.cache.specs.Edits.{AllClean, SomeUnclean, IsIssued, IssuesLowest, IsWritten, IsSlotAt, IsFreeAt, IsAt, Leaves, AllStay, StayBut, IsChangedAt};
     ghost use Rattle.cache.specs.Frames.{frames_of, view, with_bytes};
-    ghost use Rattle.cache.specs.Calls.{caching, IsReady, IsLive, IsWhyCut, IsFrame, IsMade, IsStuck, PostsAlone, Runs, Keeps, Serves, Blanks, Rewrites, forgotten, with_cache_link, without_flush};
+    ghost use Rattle.cache.specs.Calls.{caching, IsReady, IsLive, IsWhyCut, IsFrame, IsMade, IsStuck, PostsAlone, Runs, Keeps, HandsOver, Blanks, Rewrites, forgotten, with_cache_link, without_flush};
     ghost use Rattle.cache.specs.contracts.cache.Cache.{the_row};
     ghost use Rattle.cache.specs.declared.slots.Frame.{Frame as FrameValue};
+    ghost use Rattle.cache.specs.declared.slots.Slot.{Slot};
+    ghost use Rattle.cache.specs.Fetches.{Hits, Misses, BlanksFrame, MakesRoom};
     ghost use Rattle.cache.specs.Takes.{Settles, took_of, Takes, ReadsStay, IsReadAt, Reads, messages_left};
 
     /// A cache with so many frames, none of them in use, over transfers with nothing pending: 1 BadFrames unless they are 16 to
@@ -131,8 +133,8 @@ impl<L: Link> Cache<L> {
         wanted
     }
 
-    /// Whether a message may come, or why not.
-    fn live(&self) -> Result<(), Cut>
+    /// Whether a message may come, or why not: LinkEnded once a take gave End, else Eio once the device was given up.
+    pub fn live(&self) -> Result<(), Cut>
         ensures live { OnOk result (IsLive (caching L.history L.truth L.room L.budget_left self.now)) }
         ensures cut { IfErr result (λ cut. IsWhyCut (caching L.history L.truth L.room L.budget_left self.now) cut) }
     {
@@ -151,6 +153,7 @@ impl<L: Link> Cache<L> {
         ensures transfers { self.new.transfers ≡ self.old.transfers }
         ensures shape { self.new.shape ≡ self.old.shape }
         ensures ended { self.new.ended ≡ self.old.ended }
+        ensures stay { AllStay self.old.slots self.new.slots }
     {
         if let Some(at) = self.slots.find_ticket(ticket) {
             let state = self.slots.get(at).state;
@@ -165,6 +168,7 @@ impl<L: Link> Cache<L> {
         ensures transfers { self.new.transfers ≡ self.old.transfers }
         ensures shape { self.new.shape ≡ self.old.shape }
         ensures ended { self.new.ended ≡ self.old.ended }
+        ensures stay { AllStay self.old.slots self.new.slots }
     {
         match settled {
             Settled::Nothing => Took::Nothing,
@@ -191,6 +195,7 @@ impl<L: Link> Cache<L> {
         ensures left { OnOk result (messages_left (caching L.history L.truth L.room L.budget_left self.new) < messages_left (caching L.history L.truth L.room L.budget_left self.old)) }
         ensures reads { ReadsStay result (pending_of (caching L.history L.truth L.room L.budget_left self.old).table.pending) (pending_of (caching L.history L.truth L.room L.budget_left self.new).table.pending) }
         ensures leaves { Leaves self.old.slots.items.items self.new.slots.items.items }
+        ensures stay { AllStay self.old.slots self.new.slots }
         ensures cut { IfErr result (λ cut. IsWhyCut (caching L.history L.truth L.room L.budget_left self.new) cut) }
         ensures refused { OnErr result (self.new ≡ self.old) }
     {
@@ -209,6 +214,7 @@ impl<L: Link> Cache<L> {
         ensures busy { IsBusy (pending_of (caching L.history L.truth L.room L.budget_left self.new).table.pending) }
         ensures left { messages_left (caching L.history L.truth L.room L.budget_left self.new) ≤ messages_left (caching L.history L.truth L.room L.budget_left self.old) }
         ensures leaves { Leaves self.old.slots.items.items self.new.slots.items.items }
+        ensures others { StayBut at self.old.slots self.new.slots }
         ensures issued { MatchBool result (IsIssued self.old.slots.items.items at (caching L.history L.truth L.room L.budget_left self.new).held) ((caching L.history L.truth L.room L.budget_left self.new).held ≡ (caching L.history L.truth L.room L.budget_left self.old).held) }
         ensures posts { PostsAlone (caching L.history L.truth L.room L.budget_left self.old) (caching L.history L.truth L.room L.budget_left self.new) }
     {
@@ -236,6 +242,7 @@ impl<L: Link> Cache<L> {
         ensures busy { IsBusy (pending_of (caching L.history L.truth L.room L.budget_left self.new).table.pending) }
         ensures left { messages_left (caching L.history L.truth L.room L.budget_left self.new) ≤ messages_left (caching L.history L.truth L.room L.budget_left self.old) }
         ensures leaves { Leaves self.old.slots.items.items self.new.slots.items.items }
+        ensures others { StayBut at self.old.slots self.new.slots }
     {
         if self.slots.get(at).is_dirty() {
             self.issue(at);
@@ -248,6 +255,7 @@ impl<L: Link> Cache<L> {
         requires at { at < length self.old.slots.items.items }
         ensures keeps { Keeps (caching L.history L.truth L.room L.budget_left self.old) (caching L.history L.truth L.room L.budget_left self.new) }
         ensures leaves { Leaves self.old.slots.items.items self.new.slots.items.items }
+        ensures others { StayBut at self.old.slots self.new.slots }
         ensures clean { OnOk result (IsSlotAt self.new.slots.items.items at (λ s. not (is_unclean_slot s))) }
         ensures cut { IfErr result (λ cut. IsWhyCut (caching L.history L.truth L.room L.budget_left self.new) cut) }
     {
@@ -266,6 +274,7 @@ impl<L: Link> Cache<L> {
         requires ready { IsReady (caching L.history L.truth L.room L.budget_left self.old) }
         ensures keeps { Keeps (caching L.history L.truth L.room L.budget_left self.old) (caching L.history L.truth L.room L.budget_left self.new) }
         ensures free { IfOk result (λ at. IsFreeAt self.new.slots.items.items at) }
+        ensures made { MakesRoom result self.old.slots self.new.slots }
         ensures none { (b : ℕ) → held self.old.slots.items.items b ≡ None → held self.new.slots.items.items b ≡ None }
         ensures cut { IfErr result (λ cut. IsWhyCut (caching L.history L.truth L.room L.budget_left self.new) cut) }
     {
@@ -297,6 +306,7 @@ impl<L: Link> Cache<L> {
         requires ready { IsReady (caching L.history L.truth L.room L.budget_left self.old) }
         ensures keeps { Keeps (caching L.history L.truth L.room L.budget_left self.old) (caching L.history L.truth L.room L.budget_left self.new) }
         ensures leaves { Leaves self.old.slots.items.items self.new.slots.items.items }
+        ensures stay { AllStay self.old.slots self.new.slots }
         ensures reading { IfOk result (λ r. (r.block ≡ block) × IsReadAt (pending_of (caching L.history L.truth L.room L.budget_left self.new).table.pending) r.ticket (block * (caching L.history L.truth L.room L.budget_left self.new).size) (caching L.history L.truth L.room L.budget_left self.new).size) }
         ensures cut { IfErr result (λ cut. IsWhyCut (caching L.history L.truth L.room L.budget_left self.new) cut) }
     {
@@ -316,16 +326,15 @@ impl<L: Link> Cache<L> {
         ensures runs { Runs None (caching L.history L.truth L.room L.budget_left self.old) (caching L.history L.truth L.room L.budget_left self.new)
             (λ w v. Reads result (reading.block * (caching L.history L.truth L.room L.budget_left self.old).size) (caching L.history L.truth L.room L.budget_left self.old).size (caching L.history L.truth L.room L.budget_left self.old) (caching L.history L.truth L.room L.budget_left self.new) w v) }
         ensures leaves { Leaves self.old.slots.items.items self.new.slots.items.items }
+        ensures stay { AllStay self.old.slots self.new.slots }
         ensures cut { IfErr result (λ cut. IsWhyCut (caching L.history L.truth L.room L.budget_left self.new) cut) }
     {
         'messages: loop {
-            match self.take()? {
-                Took::Nothing => {}
-                Took::Read(settled, bytes) => {
-                    if settled == reading.ticket {
-                        return Ok(bytes);
-                    }
-                }
+            let Took::Read(settled, bytes) = self.take()? else {
+                continue;
+            };
+            if settled == reading.ticket {
+                return Ok(bytes);
             }
         }
     }
@@ -335,6 +344,7 @@ impl<L: Link> Cache<L> {
         requires ready { IsReady (caching L.history L.truth L.room L.budget_left self.old) }
         ensures runs { Runs None (caching L.history L.truth L.room L.budget_left self.old) (caching L.history L.truth L.room L.budget_left self.new) (λ w v. Reads result (block * (caching L.history L.truth L.room L.budget_left self.old).size) (caching L.history L.truth L.room L.budget_left self.old).size (caching L.history L.truth L.room L.budget_left self.old) (caching L.history L.truth L.room L.budget_left self.new) w v) }
         ensures leaves { Leaves self.old.slots.items.items self.new.slots.items.items }
+        ensures stay { AllStay self.old.slots self.new.slots }
         ensures cut { IfErr result (λ cut. IsWhyCut (caching L.history L.truth L.room L.budget_left self.new) cut) }
     {
         let reading = self.begin_read(block)?;
@@ -346,6 +356,8 @@ impl<L: Link> Cache<L> {
         requires ready { IsReady (caching L.history L.truth L.room L.budget_left self.old) }
         ensures keeps { Keeps (caching L.history L.truth L.room L.budget_left self.old) (caching L.history L.truth L.room L.budget_left self.new) }
         ensures frame { IfOk result (λ f. (f.block ≡ block) × IsFrame self.new f) }
+        ensures hit { (s : Slot) → held self.old.slots.items.items block ≡ Some s → Hits result self.old self.new }
+        ensures miss { held self.old.slots.items.items block ≡ None → Misses result self.old self.new }
         ensures cut { IfErr result (λ cut. IsWhyCut (caching L.history L.truth L.room L.budget_left self.new) cut) }
     {
         if let Some(at) = self.slots.find(block) {
@@ -363,6 +375,8 @@ impl<L: Link> Cache<L> {
         requires ready { IsReady (caching L.history L.truth L.room L.budget_left self.old) }
         ensures runs { Runs None (caching L.history L.truth L.room L.budget_left self.old) (caching L.history L.truth L.room L.budget_left self.new) (λ w v. Blanks result block (caching L.history L.truth L.room L.budget_left self.old) (caching L.history L.truth L.room L.budget_left self.new) w v) }
         ensures frame { IfOk result (λ f. (f.block ≡ block) × IsFrame self.new f) }
+        ensures hit { (s : Slot) → held self.old.slots.items.items block ≡ Some s → BlanksFrame result self.old self.new }
+        ensures miss { held self.old.slots.items.items block ≡ None → Misses result self.old self.new }
         ensures cut { IfErr result (λ cut. IsWhyCut (caching L.history L.truth L.room L.budget_left self.new) cut) }
     {
         if let Some(at) = self.slots.find(block) {
@@ -389,6 +403,9 @@ impl<L: Link> Cache<L> {
         requires within { from + length bytes.now ≤ (caching L.history L.truth L.room L.budget_left self.old).size }
         ensures runs { Runs None (caching L.history L.truth L.room L.budget_left self.old) (caching L.history L.truth L.room L.budget_left self.new) (λ w v. Rewrites frame.block (with_bytes from bytes.now) (caching L.history L.truth L.room L.budget_left self.old) (caching L.history L.truth L.room L.budget_left self.new) w v) }
         ensures frames { (f : FrameValue) → IsFrame self.old f → IsFrame self.new f }
+        ensures changed { IsChangedAt self.old.slots.items.items self.new.slots.items.items frame.at from bytes.now }
+        ensures rest { self.new ≡ record self.old { slots = self.new.slots } }
+        ensures uses { self.new.slots.uses ≡ self.old.slots.uses }
     {
         self.slots.change(frame.at, from, bytes);
     }
@@ -444,7 +461,7 @@ impl<L: Link> Cache<L> {
         requires ids { (caching L.history L.truth L.room L.budget_left self.old).table.ids < 2 ^ 60 }
         requires spare { self.old.ended ≡ false → (caching L.history L.truth L.room L.budget_left self.old).table.ids + (caching L.history L.truth L.room L.budget_left self.old).budget + 17 < 2 ^ 60 + length (caching L.history L.truth L.room L.budget_left self.old).table.pending }
         requires room { room_needed message ≤ (caching L.history L.truth L.room L.budget_left self.old).room }
-        ensures runs { Runs (Some message) (caching L.history L.truth L.room L.budget_left self.old) (caching L.history L.truth L.room L.budget_left self.new) (λ w v. Serves (caching L.history L.truth L.room L.budget_left self.old) (caching L.history L.truth L.room L.budget_left self.new) w v) }
+        ensures hands_over { HandsOver message (caching L.history L.truth L.room L.budget_left self.old) (caching L.history L.truth L.room L.budget_left self.new) }
     {
         let settled = self.transfers.absorb(message);
         self.settle(settled);

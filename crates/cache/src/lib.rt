@@ -4,10 +4,10 @@
 pub mod cache;
 pub mod laws;
 pub mod refusals;
-pub mod shape;
-pub mod slots;
-pub mod state;
-pub mod uses;
+mod shape;
+mod slots;
+mod state;
+mod uses;
 
 pub use cache::{Cache, Took};
 pub use refusals::{CacheRefusal, Cut};

@@ -18,7 +18,7 @@ pub struct Frame {
 }
 
 /// A block of zero bytes.
-pub fn zeros() -> [u8; 4096]
+pub(crate) fn zeros() -> [u8; 4096]
     ensures { (o : ℕ) → slice_index result o ≡ 0 }
 {
     [0; 4096]
@@ -26,7 +26,7 @@ pub fn zeros() -> [u8; 4096]
 
 /// Room for a block.
 #[derive(Clone, Copy)]
-pub struct Slot {
+pub(crate) struct Slot {
     /// The block that it holds, if it holds one.
     pub block: Option<u32>,
     /// Its bytes; those past the block's end have no meaning.
@@ -37,7 +37,7 @@ pub struct Slot {
 
 impl Slot {
     /// Whether it holds this block.
-    pub fn holds(&self, block: u32) -> bool
+    pub(crate) fn holds(&self, block: u32) -> bool
         ensures { result ≡ is_number self.now.block block }
     {
         match self.block {
@@ -47,7 +47,7 @@ impl Slot {
     }
 
     /// Whether it holds a block whose write has this ticket.
-    pub fn is_under(&self, ticket: Ticket) -> bool
+    pub(crate) fn is_under(&self, ticket: Ticket) -> bool
         ensures { result ≡ is_under ticket self.now }
     {
         let known = self.state.ticket();
@@ -61,21 +61,21 @@ impl Slot {
     }
 
     /// Whether it holds a block whose bytes were changed, and no write of it is under way.
-    pub fn is_dirty(&self) -> bool
+    pub(crate) fn is_dirty(&self) -> bool
         ensures { result ≡ is_dirty_slot self.now }
     {
         self.block.is_some() && self.state.is_dirty()
     }
 
     /// Whether it holds a block whose bytes may not be the disk's.
-    pub fn is_unclean(&self) -> bool
+    pub(crate) fn is_unclean(&self) -> bool
         ensures { result ≡ is_unclean_slot self.now }
     {
         self.block.is_some() && !self.state.is_clean()
     }
 
     /// Its block, if its bytes were changed and no write of it is under way.
-    pub fn dirty_block(&self) -> Option<u64>
+    pub(crate) fn dirty_block(&self) -> Option<u64>
         ensures { result ≡ (if is_dirty self.now.state then self.now.block else None) }
     {
         match self.block {
@@ -85,7 +85,7 @@ impl Slot {
     }
 
     /// Changes these bytes from this place on.
-    pub fn change(&mut self, from: usize, bytes: &[u8])
+    pub(crate) fn change(&mut self, from: usize, bytes: &[u8])
         requires { from + length bytes.now ≤ 4096 }
         ensures block { self.new.block ≡ self.old.block }
         ensures state { self.new.state ≡ dirtied self.old.state }
@@ -99,7 +99,9 @@ impl Slot {
 
 /// Which slots are looked among, and in which order.
 #[derive(Clone, Copy)]
-pub enum Among {
+pub(crate) enum Among {
+    /// The free ones, the one used longest ago first.
+    Free,
     /// Those that aren't unclean, the one used longest ago first.
     Clean,
     /// All, the one used longest ago first.
@@ -110,7 +112,7 @@ pub enum Among {
 
 /// All slots; no block has two. Their memory is taken when they are made.
 #[derive(Drop)]
-pub struct Slots {
+pub(crate) struct Slots {
     /// The slots.
     pub items: Vec<Slot>,
     /// When each was used last.
@@ -133,7 +135,7 @@ impl Slots {
     ghost use Rattle.cache.specs.Edits.{IsSetAt, IsBlankedAt, IsChangedAt};
 
     /// So many slots, all free.
-    pub fn new(alloc: Global, count: usize) -> Result<Slots, AllocError>
+    pub(crate) fn new(alloc: Global, count: usize) -> Result<Slots, AllocError>
         requires { 0 < count }
         ensures free { IfOk result (λ s. (b : ℕ) → held s.items.items b ≡ None) }
         ensures count { IfOk result (λ s. length s.items.items ≡ count) }
@@ -150,21 +152,21 @@ impl Slots {
     }
 
     /// Where this block stands.
-    pub fn find(&self, block: u32) -> Option<usize>
+    pub(crate) fn find(&self, block: u32) -> Option<usize>
         ensures { result ≡ position (λ s. is_number s.block block) self.now.items.items }
     {
         self.items.iter().position(|s| s.holds(block))
     }
 
     /// Where the slot stands whose write has this ticket.
-    pub fn find_ticket(&self, ticket: Ticket) -> Option<usize>
+    pub(crate) fn find_ticket(&self, ticket: Ticket) -> Option<usize>
         ensures { result ≡ position (is_under ticket) self.now.items.items }
     {
         self.items.iter().position(|s| s.is_under(ticket))
     }
 
     /// The first slot whose bytes may not be the disk's.
-    pub fn find_unclean(&self) -> Option<usize>
+    pub(crate) fn find_unclean(&self) -> Option<usize>
         ensures { result ≡ position is_unclean_slot self.now.items.items }
     {
         self.items.iter().position(|s| s.is_unclean())
@@ -178,6 +180,7 @@ impl Slots {
         let slot = &self.items[at];
         let used = self.uses.numbers[at];
         match among {
+            Among::Free => used_unless(slot.block.is_some(), used),
             Among::Clean => used_unless(slot.is_unclean(), used),
             Among::All => Some(used),
             Among::Dirty => slot.dirty_block(),
@@ -204,7 +207,7 @@ impl Slots {
     }
 
     /// The first of these slots in their order.
-    pub fn first(&self, among: Among) -> Option<usize>
+    pub(crate) fn first(&self, among: Among) -> Option<usize>
         ensures { IsFirst (key_of among self.now.items.items self.now.uses.numbers.items) (length self.now.items.items) result }
     {
         let mut first = None;
@@ -216,22 +219,25 @@ impl Slots {
         first
     }
 
-    /// The slot that goes next: of those that aren't unclean the one used longest ago, and where there is none, of all.
-    pub fn victim(&self) -> usize
+    /// The slot that goes next: a free one; where none is free, of the clean ones the one used longest ago; where none is clean, of all.
+    pub(crate) fn victim(&self) -> usize
         ensures in_range { result < length self.now.items.items }
         ensures chosen { IsVictim self.now.items.items self.now.uses.numbers.items result }
     {
-        match self.first(Among::Clean) {
+        if let Some(at) = self.first(Among::Free) {
+            return at;
+        }
+        if let Some(at) = self.first(Among::Clean) {
+            return at;
+        }
+        match self.first(Among::All) {
             Some(at) => at,
-            None => match self.first(Among::All) {
-                Some(at) => at,
-                None => unreachable!(),
-            },
+            None => unreachable!(),
         }
     }
 
     /// A slot is used now.
-    pub fn touch(&mut self, at: usize)
+    pub(crate) fn touch(&mut self, at: usize)
         requires { at < length self.old.items.items }
         ensures items { self.new.items.items ≡ self.old.items.items }
         ensures used { IsUsedLast self.old.uses.numbers.items self.new.uses.numbers.items at }
@@ -240,7 +246,7 @@ impl Slots {
     }
 
     /// The slot at this place.
-    pub fn get(&self, at: usize) -> &Slot
+    pub(crate) fn get(&self, at: usize) -> &Slot
         requires { at < length self.now.items.items }
         ensures { slice_get self.now.items.items at ≡ Some result.now }
     {
@@ -248,29 +254,32 @@ impl Slots {
     }
 
     /// Gives the bytes there another state.
-    pub fn set_state(&mut self, at: usize, state: State)
+    pub(crate) fn set_state(&mut self, at: usize, state: State)
         requires { at < length self.old.items.items }
-        ensures { IsSetAt self.old.items.items self.new.items.items at (λ s. record s { state = state }) }
+        ensures set { IsSetAt self.old.items.items self.new.items.items at (λ s. record s { state = state }) }
+        ensures uses { self.new.uses ≡ self.old.uses }
     {
         let slot = &mut self.items[at];
         slot.state = state;
     }
 
     /// Takes the block out of a slot.
-    pub fn vacate(&mut self, at: usize)
+    pub(crate) fn vacate(&mut self, at: usize)
         requires { at < length self.old.items.items }
-        ensures { IsSetAt self.old.items.items self.new.items.items at (λ s. record s { block = None }) }
+        ensures set { IsSetAt self.old.items.items self.new.items.items at (λ s. record s { block = None }) }
+        ensures uses { self.new.uses ≡ self.old.uses }
     {
         let slot = &mut self.items[at];
         slot.block = None;
     }
 
     /// Gives a slot to a block that has none.
-    pub fn fill(&mut self, at: usize, block: u32, bytes: &[u8; 4096], state: State)
+    pub(crate) fn fill(&mut self, at: usize, block: u32, bytes: &[u8; 4096], state: State)
         requires at { at < length self.old.items.items }
         requires free { held self.old.items.items block ≡ None }
-        ensures { IsSetAt self.old.items.items self.new.items.items at
+        ensures set { IsSetAt self.old.items.items self.new.items.items at
             (λ s. record { block = Some block; bytes = bytes.now; state = state }) }
+        ensures used { IsUsedLast self.old.uses.numbers.items self.new.uses.numbers.items at }
     {
         let slot = &mut self.items[at];
         slot.block = Some(block);
@@ -280,9 +289,10 @@ impl Slots {
     }
 
     /// Gives a slot zero bytes.
-    pub fn blank(&mut self, at: usize)
+    pub(crate) fn blank(&mut self, at: usize)
         requires { at < length self.old.items.items }
-        ensures { IsBlankedAt self.old.items.items self.new.items.items at }
+        ensures blanked { IsBlankedAt self.old.items.items self.new.items.items at }
+        ensures used { IsUsedLast self.old.uses.numbers.items self.new.uses.numbers.items at }
     {
         let slot = &mut self.items[at];
         slot.state = slot.state.dirtied();
@@ -291,10 +301,11 @@ impl Slots {
     }
 
     /// Changes some bytes of a slot.
-    pub fn change(&mut self, at: usize, from: usize, bytes: &[u8])
+    pub(crate) fn change(&mut self, at: usize, from: usize, bytes: &[u8])
         requires at { at < length self.old.items.items }
         requires within { from + length bytes.now ≤ 4096 }
-        ensures { IsChangedAt self.old.items.items self.new.items.items at from bytes.now }
+        ensures changed { IsChangedAt self.old.items.items self.new.items.items at from bytes.now }
+        ensures uses { self.new.uses ≡ self.old.uses }
     {
         let slot = &mut self.items[at];
         slot.change(from, bytes);

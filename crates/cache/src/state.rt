@@ -7,7 +7,7 @@ use reissue::Ticket;
 
 /// What is known of a block's bytes in memory, and of a write of them.
 #[derive(Clone, Copy, PartialEq, Eq)]
-pub enum State {
+pub(crate) enum State {
     /// They are the disk's.
     Clean,
     /// They were changed, and no write is under way.
@@ -20,7 +20,7 @@ pub enum State {
 
 impl State {
     /// The ticket of the write that is under way.
-    pub fn ticket(self) -> Option<Ticket>
+    pub(crate) fn ticket(self) -> Option<Ticket>
         ensures { result ≡ ticket_of self }
     {
         match self {
@@ -32,7 +32,7 @@ impl State {
     }
 
     /// Whether the bytes are the disk's.
-    pub fn is_clean(self) -> bool
+    pub(crate) fn is_clean(self) -> bool
         ensures { result ≡ is_clean self }
     {
         match self {
@@ -44,7 +44,7 @@ impl State {
     }
 
     /// Whether the bytes were changed and no write is under way.
-    pub fn is_dirty(self) -> bool
+    pub(crate) fn is_dirty(self) -> bool
         ensures { result ≡ is_dirty self }
     {
         match self {
@@ -56,7 +56,7 @@ impl State {
     }
 
     /// The state after a change of the bytes.
-    pub fn dirtied(self) -> State
+    pub(crate) fn dirtied(self) -> State
         ensures { result ≡ dirtied self }
     {
         match self {
@@ -68,7 +68,7 @@ impl State {
     }
 
     /// The state after the write was answered good: clean, unless the bytes were changed since it was issued.
-    pub fn written(self) -> State
+    pub(crate) fn written(self) -> State
         ensures { result ≡ written self }
     {
         match self {

@@ -9,7 +9,7 @@ use std::mem;
 /// Places that each have the number of their last use, 0 before the first: a lower one was used longer ago. Its memory is taken when
 /// it is made.
 #[derive(Drop)]
-pub struct Uses {
+pub(crate) struct Uses {
     /// The number of each place's last use.
     pub numbers: Vec<u64>,
     // Where the numbers are made anew.
@@ -29,7 +29,7 @@ fn rank(numbers: &[u64], number: u64) -> u64
 
 impl Uses {
     /// So many places, none of them used.
-    pub fn new(alloc: Global, count: usize) -> Result<Uses, AllocError>
+    pub(crate) fn new(alloc: Global, count: usize) -> Result<Uses, AllocError>
         ensures { IfOk result (λ u. length u.numbers.items ≡ count) }
     {
         Ok(Uses {
@@ -40,7 +40,7 @@ impl Uses {
     }
 
     /// This place is used now.
-    pub fn touch(&mut self, at: usize)
+    pub(crate) fn touch(&mut self, at: usize)
         requires { at < length self.old.numbers.items }
         ensures { IsUsedLast self.old.numbers.items self.new.numbers.items at }
     {

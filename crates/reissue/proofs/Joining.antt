@@ -180,6 +180,7 @@ absorbs_then m res s t u before between after was mid is x l posts current =
       complaints = x.complaints;
       history = history;
       only_posts = l.only_posts;
+      quiet = x.quiet;
       silent = x.silent;
       due = x.due;
       hears = x.hears;

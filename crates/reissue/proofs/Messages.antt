@@ -7,7 +7,7 @@ use Rattle.message.specs.declared.Incoming.{Incoming}
 use Rattle.message.specs.declared.Incoming.TheVariants as incoming
 use Rattle.marks.specs.Marks.{Mark, Started, Flush, GaveUp, gave_up}
 use Rattle.marks.specs.Disk.{Contents, unsure, disk_after}
-use Rattle.marks.specs.Told.{Told, Complained, received, grown, took_end}
+use Rattle.marks.specs.Told.{Told, Complained, received, grown, took_end, took_nothing}
 use Rattle.reissue.specs.declared.pending.Pending.{Pending}
 use Rattle.reissue.specs.declared.table.Table.{Table}
 use Rattle.reissue.specs.declared.table.Answer.{Answer}
@@ -120,6 +120,11 @@ complaint_silent : (b : Bool) (e : Endpoint) (marks : List Mark) → grown (cond
 complaint_silent true e marks = refl
 complaint_silent false e marks = refl
 
+-- it takes no message
+complaint_quiet : (b : Bool) (e : Endpoint) → took_nothing (cond b (Complained e ∷ []) []) ≡ true
+complaint_quiet true e = refl
+complaint_quiet false e = refl
+
 -- nor does it end anything
 complaint_ends_none : (b : Bool) (e : Endpoint) (before : List Told) → took_end (cond b (Complained e ∷ []) [] ++ before) ≡ took_end before
 complaint_ends_none true e before = refl
@@ -152,6 +157,7 @@ takes_reply message a r t u before after was is same agrees hears due closes clo
       ended = ap took_end told ∙ complaint_ends_none (is_bad r) a.from before;
       complaints = complained r a;
       history = told;
+      quiet = complaint_quiet (is_bad r) a.from;
       silent = λ marks. complaint_silent (is_bad r) a.from marks;
       due = due;
       hears = λ marks h. (hears marks h, current);
@@ -194,6 +200,7 @@ takes_started message e t u history was is items posted issued ids current given
       ended = refl;
       complaints = [];
       history = refl;
+      quiet = refl;
       silent = λ _. refl;
       due = λ _ _. refl;
       hears = λ marks h. started_hears t u e t.given_up items ids posted issued current (nowhere t marks h);
@@ -213,6 +220,7 @@ takes_flush message t history was is =
       ended = refl;
       complaints = [];
       history = refl;
+      quiet = refl;
       silent = λ _. refl;
       due = λ _ _. refl;
       hears = λ marks h. (record { pending = refl; ids = refl; posted = refl; issued = refl }, refl);
@@ -233,6 +241,7 @@ takes_gave_up message t u history was is items posted issued ids current given_u
       ended = refl;
       complaints = [];
       history = refl;
+      quiet = refl;
       silent = λ _. refl;
       due = λ _ _. refl;
       hears = λ marks h. (record { pending = items; ids = ids; posted = posted; issued = issued }, current);
@@ -252,6 +261,7 @@ takes_end message t history was is =
       ended = refl;
       complaints = [];
       history = refl;
+      quiet = refl;
       silent = λ _. refl;
       due = λ _ _. refl;
       hears = λ marks h. (record { pending = refl; ids = refl; posted = refl; issued = refl }, refl);

@@ -5,7 +5,7 @@ use Rattle.message.specs.declared.Incoming.{Incoming}
 use Rattle.message.specs.declared.Incoming.TheVariants as incoming
 use Rattle.marks.specs.Marks.{Mark}
 use Rattle.marks.specs.Disk.{Contents, HasTrueReplies}
-use Rattle.marks.specs.Told.{Told, Received, grown, received, heard, took_end}
+use Rattle.marks.specs.Told.{Told, Received, grown, received, heard, took_end, took_nothing}
 use Rattle.reissue.specs.declared.ask.Ask.{Ask}
 use Rattle.reissue.specs.declared.ask.Settled.{Settled}
 use Rattle.reissue.specs.declared.ask.Settled.TheVariants as settled
@@ -68,6 +68,7 @@ pub record Closing (result : Settled) (old new : List Pending) (marks more : Lis
 pub record TakesIn (message : Incoming) (result : Settled) (old mid : Table) (before after : List Told) (was is : Truth) : Type 0 where
   pub complaints : List Told
   pub history : after ≡ complaints ++ before
+  pub quiet : took_nothing complaints ≡ true
   pub silent : (marks : List Mark) → grown complaints marks ≡ marks
   pub due : (marks : List Mark) → Agrees old marks → complaints ≡ complaints_about (due_after message marks)
   pub hears : (marks : List Mark) → Agrees old marks → Hears message old mid marks
@@ -86,6 +87,7 @@ pub record Absorbs (message : Incoming) (result : Settled) (old new : Table) (be
   pub complaints : List Told
   pub history : after ≡ posts ++ (complaints ++ before)
   pub only_posts : OnlyPosts posts
+  pub quiet : took_nothing complaints ≡ true
   pub silent : (marks : List Mark) → grown complaints marks ≡ marks
   pub due : (marks : List Mark) → Agrees old marks → complaints ≡ complaints_about (due_after message marks)
   pub hears : (marks : List Mark) → Agrees old marks → Hears message old mid marks

@@ -1,8 +1,8 @@
-use Rattle.std.proofs.Common.{◌≡◌, refl, sym, subst, arith, Some}
+use Rattle.std.proofs.Common.{◌≡◌, refl, sym, subst, ap, arith}
 use Rattle.reissue.specs.declared.transfers.Transfers.{Transfers}
 use Rattle.reissue.specs.Transfers.{table_of, link_of}
 use Rattle.reissue.specs.Posts.{HasRoom}
-use Rattle.cache.specs.Calls.{Caching, caching, caching_of, Runs, Serves}
+use Rattle.cache.specs.Calls.{Caching, caching, caching_of, HandsOver}
 use Rattle.cache.proofs.Taking.{absorbs_one, room_after}
 use Rattle.cache.proofs.cache.Cache.absorb.Goals as goal
 
@@ -20,9 +20,10 @@ returns g c =
     let mid = caching_of h t r b c.absorb-settled.new.self s.shape items s.ended in
     let same : caching h t r b c.settle.new.self ≡ mid = λ i. caching_of h t r b (e.transfers i) (e.shape i) items (e.ended i) in
     record {
-      runs = subst (λ (n : Caching). Runs (Some c.args.message) old n (λ w v. Serves old n w v)) (sym same)
+      hands_over = subst (λ (n : Caching). HandsOver c.args.message old n) (sym same)
           (absorbs_one c.args.message c.absorb-settled.result old mid s.slots.items.items items x.absorbs e.slots refl refl c.requires.ready c.requires.spare
           (omega (arith, s.shape.least)) refl refl refl x.budget
           (λ alive. room_after c.args.message (HasRoom (table_of c.absorb-settled.new.self) (r (link_of c.absorb-settled.new.self))) x.room
-          (λ end. subst (λ (u : Transfers _). HasRoom (table_of u) (r (link_of u))) (sym (x.ended end)) (c.requires.ready.room alive))) x.closed);
+          (λ end. subst (λ (u : Transfers _). HasRoom (table_of u) (r (link_of u))) (sym (x.ended end)) (c.requires.ready.room alive))) x.closed
+          (λ end. ap (λ (u : Transfers _). h (link_of u)) (x.ended end)));
     }

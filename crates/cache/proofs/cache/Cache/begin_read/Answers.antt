@@ -1,12 +1,13 @@
-use Rattle.std.proofs.Common.{subst}
+use Rattle.std.proofs.Common.{sym, subst}
 use Rattle.cache.specs.declared.slots.Slots.{Slots}
-use Rattle.cache.specs.Edits.{Leaves}
+use Rattle.cache.specs.Edits.{Leaves, AllStay}
 use Rattle.cache.proofs.Edits.{leaves_none, leaves_then}
 use Rattle.cache.proofs.Placing.{keeps_none, keeps_then, keeps_took}
+use Rattle.cache.proofs.Staying.{all_none, all_then}
 use Rattle.cache.proofs.cache.Cache.begin_read.Goals as goal
 
 pub tries-init : goal.tries-init
-tries-init g c = record { keeps = keeps_none _ c.requires.ready; leaves = leaves_none _ }
+tries-init g c = record { keeps = keeps_none _ c.requires.ready; leaves = leaves_none _; stay = all_none _ }
 
 pub returns-in-Some-clause-keeps : goal.returns-in-Some-clause-keeps
 returns-in-Some-clause-keeps g c = keeps_then _ _ _ c.tries.invariant.keeps c.try_read.ensures.keeps
@@ -16,7 +17,15 @@ tries-preserved g c = record {
   keeps = keeps_took _ _ _ _ (keeps_then _ _ _ c.tries.invariant.keeps c.try_read.ensures.keeps) c.take.ensures.runs;
   leaves = leaves_then _ _ _ c.tries.invariant.leaves
       (subst (λ (s : Slots). Leaves s.items.items c.take.new.self.slots.items.items) c.try_read.ensures.slots c.take.ensures.leaves);
+  stay = all_then _ _ _ c.tries.invariant.stay (subst (λ (s : Slots). AllStay s c.take.new.self.slots) c.try_read.ensures.slots c.take.ensures.stay);
 }
 
 pub returns-in_err-take-clause-keeps : goal.returns-in_err-take-clause-keeps
 returns-in_err-take-clause-keeps g c = keeps_took _ _ _ _ (keeps_then _ _ _ c.tries.invariant.keeps c.try_read.ensures.keeps) c.take.ensures.runs
+
+pub returns-in-Some-clause-stay : goal.returns-in-Some-clause-stay
+returns-in-Some-clause-stay g c = subst (λ (s : Slots). AllStay c.args.self.now.slots s) (sym c.try_read.ensures.slots) c.tries.invariant.stay
+
+pub returns-in_err-take-clause-stay : goal.returns-in_err-take-clause-stay
+returns-in_err-take-clause-stay g c =
+    all_then _ _ _ c.tries.invariant.stay (subst (λ (s : Slots). AllStay s c.take.new.self.slots) c.try_read.ensures.slots c.take.ensures.stay)

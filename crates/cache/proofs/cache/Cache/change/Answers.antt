@@ -14,7 +14,7 @@ returns-clause-runs g c =
     let b = g.L.Link.budget_left in
     let s = c.args.self.now in
     let items = s.slots.items.items in
-    let e = c.change.ensures in
+    let e = c.change.ensures.changed in
     let f = c.requires.frame in
     let same = one_slot items c.args.frame.at f.slot e.slot f.is e.is in
     rewritten (caching h t r b s) (caching_of h t r b s.transfers s.shape c.change.new.self.items.items s.ended) items c.change.new.self.items.items
@@ -26,7 +26,7 @@ pub returns-clause-frames : goal.returns-clause-frames
 returns-clause-frames g c = λ f is.
     let s = c.args.self.now in
     let items = s.slots.items.items in
-    let e = c.change.ensures in
+    let e = c.change.ensures.changed in
     let k = c.requires.frame in
     let same = one_slot items c.args.frame.at k.slot e.slot k.is e.is in
     (leaves_set items c.change.new.self.items.items c.args.frame.at c.args.frame.block e.slot e.after s.slots.distinct e.is

@@ -13,14 +13,14 @@ returns-then-is_clean-clause-keeps g c =
     let items = s.slots.items.items in
     let clean = sym c.is_clean.ensures ∙ c.if-is_clean.true in
     vacated (caching h t r b s) (caching_of h t r b s.transfers s.shape c.vacate.new.self.items.items s.ended) items c.vacate.new.self.items.items c.in-Some.at
-    s.slots.distinct (record { slot = c.get.result.now; is = c.get.ensures; passes = clean_passes c.get.result.now clean }) c.vacate.ensures refl refl c.requires.ready
+    s.slots.distinct (record { slot = c.get.result.now; is = c.get.ensures; passes = clean_passes c.get.result.now clean }) c.vacate.ensures.set refl refl c.requires.ready
 
 pub returns-then-is_clean-clause-held : goal.returns-then-is_clean-clause-held
 returns-then-is_clean-clause-held g c =
     let s = c.args.self.now in
     let items = s.slots.items.items in
     forgotten_clean items c.vacate.new.self.items.items c.in-Some.at c.args.block c.get.result.now s.slots.distinct
-    (found_at items c.in-Some.at c.args.block (sym c.find.ensures ∙ c.in-Some.is)) c.get.ensures (sym c.is_clean.ensures ∙ c.if-is_clean.true) c.vacate.ensures
+    (found_at items c.in-Some.at c.args.block (sym c.find.ensures ∙ c.in-Some.is)) c.get.ensures (sym c.is_clean.ensures ∙ c.if-is_clean.true) c.vacate.ensures.set
 
 pub returns-else-is_clean-clause-keeps : goal.returns-else-is_clean-clause-keeps
 returns-else-is_clean-clause-keeps g c = keeps_none _ c.requires.ready

@@ -5,6 +5,7 @@ use Rattle.cache.proofs.Beginning.{issued_at, free_block, write_one, write_leave
 use Rattle.cache.proofs.Edits.{one_slot}
 use Rattle.cache.proofs.Held.{in_range}
 use Rattle.cache.proofs.Placing.{keeps_none}
+use Rattle.cache.proofs.Staying.{but_none, set_others}
 use Rattle.cache.proofs.cache.Cache.issue.Goals as goal
 
 pub begin-requires-clause-free : goal.begin-requires-clause-free
@@ -29,7 +30,7 @@ returns-in-Ok-clause-keeps g c =
     let state = ap (λ (y : Slot). y.state) (sym same) ∙ (dirty_parts d.slot d.passes).2 in
     write_one c.write-ask.result (caching h t r b s) (caching_of h t r b c.begin.new.self s.shape c.set_state.new.self.items.items s.ended)
     items c.set_state.new.self.items.items c.in-Some.block c.in-Ok.ticket c.args.at c.get-slot.result.now
-    s.slots.distinct c.get-slot.ensures c.in-Some.is state c.set_state.ensures refl refl
+    s.slots.distinct c.get-slot.ensures c.in-Some.is state c.set_state.ensures.set refl refl
     x.begins x.adds x.opens a.kind a.minor a.position a.count a.bytes c.requires.ready refl refl refl x.budget x.room
 
 pub returns-in-Ok-clause-busy : goal.returns-in-Ok-clause-busy
@@ -38,7 +39,7 @@ returns-in-Ok-clause-busy g c = busy_begun c.in-Ok.ticket _ _ _ c.in-Ok.ensures.
 pub returns-in-Ok-clause-leaves : goal.returns-in-Ok-clause-leaves
 returns-in-Ok-clause-leaves g c =
     write_leaves c.args.self.now.slots.items.items c.set_state.new.self.items.items c.in-Some.block c.args.at c.get-slot.result.now _
-    c.args.self.now.slots.distinct c.get-slot.ensures c.in-Some.is c.set_state.ensures
+    c.args.self.now.slots.distinct c.get-slot.ensures c.in-Some.is c.set_state.ensures.set
 
 pub returns-in-Err-clause-keeps : goal.returns-in-Err-clause-keeps
 returns-in-Err-clause-keeps g c =
@@ -59,7 +60,7 @@ returns-in-Ok-clause-issued g c =
     let d = c.requires.dirty in
     let same : d.slot ≡ c.get-slot.result.now = one_slot items c.args.at d.slot c.get-slot.result.now d.is c.get-slot.ensures in
     issued_at items c.set_state.new.self.items.items c.in-Some.block c.in-Ok.ticket c.args.at c.get-slot.result.now s.slots.distinct c.get-slot.ensures c.in-Some.is
-    (ap (λ (y : Slot). y.state) (sym same) ∙ (dirty_parts d.slot d.passes).2) c.set_state.ensures
+    (ap (λ (y : Slot). y.state) (sym same) ∙ (dirty_parts d.slot d.passes).2) c.set_state.ensures.set
 
 pub returns-in-Ok-clause-posts : goal.returns-in-Ok-clause-posts
 returns-in-Ok-clause-posts g c =
@@ -70,3 +71,9 @@ pub returns-in-Err-clause-posts : goal.returns-in-Err-clause-posts
 returns-in-Err-clause-posts g c =
     let x = c.in-Err.ensures.begins in
     record { posts = x.posts; history = x.history; only_posts = x.only_posts }
+
+pub returns-in-Ok-clause-others : goal.returns-in-Ok-clause-others
+returns-in-Ok-clause-others g c = record { uses = c.set_state.ensures.uses; each = set_others _ _ c.args.at _ c.set_state.ensures.set }
+
+pub returns-in-Err-clause-others : goal.returns-in-Err-clause-others
+returns-in-Err-clause-others g c = but_none c.args.at _

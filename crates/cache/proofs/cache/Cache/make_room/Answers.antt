@@ -1,6 +1,8 @@
 use Rattle.std.proofs.Common.{refl}
 use Rattle.cache.specs.Calls.{caching, caching_of}
 use Rattle.cache.proofs.Placing.{keeps_then, vacated, free_at, vacated_none}
+use Rattle.cache.proofs.Staying.{but_then, set_others}
+use Rattle.cache.proofs.Fetching.{no_place}
 use Rattle.cache.proofs.cache.Cache.make_room.Goals as goal
 
 pub returns-clause-keeps : goal.returns-clause-keeps
@@ -13,13 +15,30 @@ returns-clause-keeps g c =
     let k = c.clean.ensures.keeps in
     keeps_then _ _ _ k
     (vacated (caching h t r b m) (caching_of h t r b m.transfers m.shape c.vacate.new.self.items.items m.ended) m.slots.items.items c.vacate.new.self.items.items
-    c.victim-at.result m.slots.distinct c.in_ok-clean.ensures.clean c.vacate.ensures refl refl k.ready)
+    c.victim-at.result m.slots.distinct c.in_ok-clean.ensures.clean c.vacate.ensures.set refl refl k.ready)
 
 pub returns-clause-free : goal.returns-clause-free
-returns-clause-free g c = free_at c.clean.new.self.slots.items.items c.vacate.new.self.items.items c.victim-at.result c.vacate.ensures
+returns-clause-free g c = free_at c.clean.new.self.slots.items.items c.vacate.new.self.items.items c.victim-at.result c.vacate.ensures.set
 
 pub returns-clause-none : goal.returns-clause-none
 returns-clause-none g c = λ n e.
     let m = c.clean.new.self in
     let f = c.in_ok-clean.ensures.clean in
-    vacated_none m.slots.items.items c.vacate.new.self.items.items c.victim-at.result f.slot m.slots.distinct f.is c.vacate.ensures n (c.clean.ensures.leaves.none n e)
+    vacated_none m.slots.items.items c.vacate.new.self.items.items c.victim-at.result f.slot m.slots.distinct f.is c.vacate.ensures.set n (c.clean.ensures.leaves.none n e)
+
+pub returns-in_err-clean-clause-made : goal.returns-in_err-clean-clause-made
+returns-in_err-clean-clause-made g c = record {
+  at = c.victim-at.result;
+  goes = c.victim-at.ensures.chosen;
+  is = no_place c.from_residual.result _ c.from_residual.ensures.0;
+  stay = c.clean.ensures.others;
+}
+
+pub returns-clause-made : goal.returns-clause-made
+returns-clause-made g c = record {
+  at = c.victim-at.result;
+  goes = c.victim-at.ensures.chosen;
+  is = refl;
+  stay = but_then c.victim-at.result _ _ _ c.clean.ensures.others
+      (record { uses = c.vacate.ensures.uses; each = set_others _ _ c.victim-at.result _ c.vacate.ensures.set });
+}

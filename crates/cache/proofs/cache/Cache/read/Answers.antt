@@ -1,4 +1,5 @@
 use Rattle.cache.proofs.Placing.{reads_cut, reads_after}
+use Rattle.cache.proofs.Staying.{all_then}
 use Rattle.cache.proofs.cache.Cache.read.Goals as goal
 
 pub returns-in_err-reading-clause-runs : goal.returns-in_err-reading-clause-runs
@@ -7,3 +8,6 @@ returns-in_err-reading-clause-runs g c = reads_cut c.from_residual.result _ _ _ 
 pub returns-clause-runs : goal.returns-clause-runs
 returns-clause-runs g c =
     reads_after c.wait.result _ _ _ c.args.block c.in_ok-reading.reading.block c.in_ok-reading.ensures.reading.0 c.begin_read.ensures.keeps c.wait.ensures.runs
+
+pub returns-clause-stay : goal.returns-clause-stay
+returns-clause-stay g c = all_then _ _ _ c.begin_read.ensures.stay c.wait.ensures.stay

@@ -2,6 +2,7 @@ use Rattle.std.proofs.Common.{◌≡◌, refl, sym, subst, ◌∙◌, arith, Non
 use Rattle.cache.specs.Calls.{Caching, caching, caching_of, Runs}
 use Rattle.cache.specs.Takes.{Takes, took_of, is_ended_by}
 use Rattle.cache.proofs.Runs.{runs_none}
+use Rattle.cache.proofs.Staying.{all_none}
 use Rattle.cache.proofs.Taking.{takes_none, takes_one}
 use Rattle.cache.proofs.cache.Cache.take.Goals as goal
 
@@ -28,3 +29,6 @@ returns-clause-runs g c =
     let both : Runs None old (caching h t r b c.settle.new.self) (λ w v. Takes (Ok (took_of c.step-settled.result)) old (caching h t r b c.settle.new.self) w v) =
     subst (λ (n : Caching). Runs None old n (λ w v. Takes (Ok (took_of c.step-settled.result)) old n w v)) (sym same) one in
     rw e.took both
+
+pub returns-in_err-live-clause-stay : goal.returns-in_err-live-clause-stay
+returns-in_err-live-clause-stay g c = all_none _

@@ -5,33 +5,39 @@ use Rattle.cache.specs.declared.refusals.Cut.{Cut}
 use Rattle.cache.specs.Takes.{is_read_of}
 use Rattle.cache.proofs.Edits.{leaves_none, leaves_then}
 use Rattle.cache.proofs.Placing.{keeps_none, keeps_took, reads_cut, still_reading, reads_done}
+use Rattle.cache.proofs.Staying.{all_none, all_then}
 use Rattle.cache.proofs.cache.Cache.wait.Goals as goal
 
 pub messages-init : goal.messages-init
-messages-init g c = record { keeps = keeps_none _ c.requires.ready; leaves = leaves_none _; pending = c.requires.reading }
+messages-init g c = record { keeps = keeps_none _ c.requires.ready; leaves = leaves_none _; stay = all_none _; pending = c.requires.reading }
 
-pub returns-in_err-take-clause-runs : goal.returns-in_err-take-clause-runs
-returns-in_err-take-clause-runs g c =
+pub returns-in_err-settled-clause-runs : goal.returns-in_err-settled-clause-runs
+returns-in_err-settled-clause-runs g c =
     reads_cut c.from_residual.result _ _ _ _ c.from_residual.ensures.0 (keeps_took _ _ _ _ c.messages.invariant.keeps c.take.ensures.runs)
 
-pub messages-preserved-in-Nothing : goal.messages-preserved-in-Nothing
-messages-preserved-in-Nothing g c = record {
+pub messages-preserved-in_default : goal.messages-preserved-in_default
+messages-preserved-in_default g c = record {
   keeps = keeps_took _ _ _ _ c.messages.invariant.keeps c.take.ensures.runs;
   leaves = leaves_then _ _ _ c.messages.invariant.leaves c.take.ensures.leaves;
+  stay = all_then _ _ _ c.messages.invariant.stay c.take.ensures.stay;
   pending = still_reading c.take.result _ _ c.args.reading.ticket _ _ c.take.ensures.reads
-      (ap (λ (r : Result Took Cut). is_read_of r c.args.reading.ticket) (c.in_ok-take.was ∙ ap Ok c.in-Nothing.is)) c.messages.invariant.pending;
+      (ap (λ (r : Result Took Cut). is_read_of r c.args.reading.ticket) (c.in_ok-settled.was ∙ ap Ok c.in_default.is)) c.messages.invariant.pending;
 }
 
 pub returns-then-eq-clause-runs : goal.returns-then-eq-clause-runs
 returns-then-eq-clause-runs g c =
     let same = eqb-true c.in-Read.settled c.args.reading.ticket (sym c.eq.ensures ∙ c.if-eq.true) in
-    reads_done c.take.result _ _ _ c.in-Read.settled c.args.reading.ticket _ _ c.in-Read.bytes (c.in_ok-take.was ∙ ap Ok c.in-Read.is) same
+    reads_done c.take.result _ _ _ c.in-Read.settled c.args.reading.ticket _ _ c.in-Read.bytes (c.in_ok-settled.was ∙ ap Ok c.in-Read.is) same
     c.messages.invariant.pending c.messages.invariant.keeps c.take.ensures.runs
+
+pub returns-then-eq-clause-stay : goal.returns-then-eq-clause-stay
+returns-then-eq-clause-stay g c = all_then _ _ _ c.messages.invariant.stay c.take.ensures.stay
 
 pub messages-preserved : goal.messages-preserved
 messages-preserved g c = record {
   keeps = keeps_took _ _ _ _ c.messages.invariant.keeps c.take.ensures.runs;
   leaves = leaves_then _ _ _ c.messages.invariant.leaves c.take.ensures.leaves;
+  stay = all_then _ _ _ c.messages.invariant.stay c.take.ensures.stay;
   pending = still_reading c.take.result _ _ c.args.reading.ticket _ _ c.take.ensures.reads
-      (ap (λ (r : Result Took Cut). is_read_of r c.args.reading.ticket) (c.in_ok-take.was ∙ ap Ok c.in-Read.is) ∙ (sym c.eq.ensures ∙ c.if-eq.false)) c.messages.invariant.pending;
+      (ap (λ (r : Result Took Cut). is_read_of r c.args.reading.ticket) (c.in_ok-settled.was ∙ ap Ok c.in-Read.is) ∙ (sym c.eq.ensures ∙ c.if-eq.false)) c.messages.invariant.pending;
 }

@@ -3,6 +3,7 @@ use Rattle.cache.specs.Slots.{is_dirty_slot}
 use Rattle.cache.proofs.Beginning.{under_way, busy_under}
 use Rattle.cache.proofs.Edits.{one_slot}
 use Rattle.cache.proofs.Placing.{keeps_none}
+use Rattle.cache.proofs.Staying.{but_none}
 use Rattle.cache.proofs.cache.Cache.write_out.Goals as goal
 
 pub returns-else-is_dirty-clause-keeps : goal.returns-else-is_dirty-clause-keeps
@@ -16,3 +17,6 @@ returns-else-is_dirty-clause-busy g c =
     let same = one_slot items c.args.at u.slot c.get.result.now u.is c.get.ensures in
     let p = under_way u.slot u.passes (ap is_dirty_slot same ∙ sym c.is_dirty.ensures ∙ c.if-is_dirty.false) in
     busy_under s.shape.block_size items _ c.args.at p.0 p.1 u.slot s.slots.distinct u.is p.2 p.3 c.requires.ready.tied
+
+pub returns-else-is_dirty-clause-others : goal.returns-else-is_dirty-clause-others
+returns-else-is_dirty-clause-others g c = but_none c.args.at _

@@ -16,8 +16,8 @@ invariant_of-self c =
       some = lt-length-set c.args.self.now.items.items c.args.at _ c.args.self.now.some;
     }
 
-pub returns : goal.returns
-returns c =
+pub returns-clause-blanked : goal.returns-clause-blanked
+returns-clause-blanked c =
     let ok = c.args.self.now.items.ok in
     let lt : c.args.at < length c.args.self.now.items.items = omega arith in
     let at = slice_get_read c.args.self.now.items.items _ c.args.at c.index_mut-slot.result.now refl lt c.index_mut-slot.ensures.value in
