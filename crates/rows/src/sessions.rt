@@ -19,7 +19,7 @@ use std::alloc::Global;
 use std::marker::Brand;
 use std::sync::Wait;
 use std::test::Fail;
-use std::thread::join;
+use std::thread::{Threads, join};
 use tree::Outcome;
 
 /// What two sessions got.
@@ -150,9 +150,9 @@ fn a_number_is_free_again(rt: HostRuntime) -> Result<(), Fail> {
 }
 
 /// Three calls, one after the other.
-fn three_calls<N: Room>(
+fn three_calls<N: Room, R: Wait + Copy>(
     alloc: Global,
-    mut session: Session<N, Shared<N, HostRuntime, Line<N>>>,
+    mut session: Session<N, Shared<N, R, Line<N>>>,
 ) -> Option<Vec<Outcome>> {
     let mut outcomes = Vec::new(alloc);
     for now in [100, 101, 102] {
@@ -166,9 +166,9 @@ fn three_calls<N: Room>(
 type Line<N> = Noting<N, Inline<ScriptedDriver>>;
 
 /// Two sessions make three calls each, in threads of their own.
-fn on_threads<N: Room + Send + Sync>(
+fn on_threads<N: Room + Send + Sync, R: Threads + Wait + Copy + Send + Sync>(
     alloc: Global,
-    rt: HostRuntime,
+    rt: R,
     image: &[u8],
     supply: Vec<ScriptedDriver>,
     board: Board,
@@ -179,9 +179,7 @@ fn on_threads<N: Room + Send + Sync>(
     requires opening { N.opening ≡ whole_image image.now }
     requires geometry { N.geometry ≡ geometry_in image.now }
 {
-    let service = start::<N, HostRuntime, ScriptedDriver>(
-        alloc, rt, image, supply, board, seat,
-    ).ok()?;
+    let service = start::<N, R, ScriptedDriver>(alloc, rt, image, supply, board, seat).ok()?;
     let one = service.session(0, 0).ok()?;
     let two = service.session(7, 8).ok()?;
     let (first, second) = join(
@@ -198,7 +196,7 @@ fn two_threads_call(rt: HostRuntime) -> Result<(), Fail> {
     let image = new_volume(alloc, 1024)?;
     let supply = supply_of(alloc, 128, &[None])?;
     let (board, seat) = Board::new(alloc)?;
-    let got = on_threads::<Brand>(alloc, rt, image.as_slice(), supply, board, seat);
+    let got = on_threads::<Brand, HostRuntime>(alloc, rt, image.as_slice(), supply, board, seat);
     let Some((one, two)) = got else {
         panic!(rt; "not served");
     };
