@@ -5,8 +5,9 @@ ghost use Rattle.layout.specs.declared.Geometry.{Geometry};
 ghost use Rattle.layout.specs.Places.{IsGeometry};
 ghost use Rattle.marks.specs.Opening.{Opening};
 ghost use Rattle.policy.specs.Policy.{IsAllowed};
-ghost use Rattle.policy.specs.Watch.{new_watch};
 ghost use Rattle.inline.specs.Inline.{IsReady};
+ghost use Rattle.driven.specs.View.{guarded_of};
+ghost use Rattle.reincarnate.specs.Supply.{new_state};
 ghost use Rattle.true_replies.specs.Events.{IsOnMedia, opening_media};
 ghost use Rattle.board.specs.View.{IsKeeper, opener};
 ghost use Rattle.startup.specs.Starting.{opening_of, IsRefused, IsStartable};
@@ -54,6 +55,7 @@ fn drivers_on<D: LocalDriver>(
     ensures budget { IfOk result (λ link. ⟦<Driven<D> as Link>⟧.budget_left link ≡ 1099511627776) }
     ensures truth { IfOk result (λ link. (v : Opening) → IsOnMedia v → media ≡ opening_media v
         → All (IsReady v) (map D.state supply.items) → ⟦<Driven<D> as Link>⟧.truth link v []) }
+    ensures server { IfOk result (λ link. (guarded_of link.drivers).server ≡ new_state policy supply.items) }
 {
     match Reincarnation::new(alloc, policy, supply) {
         Ok(reincarnation) => Driven::new(alloc, media, reincarnation),
