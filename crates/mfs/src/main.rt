@@ -4,48 +4,88 @@
 mod words;
 
 use bdev::Driver;
-use modeldisk::RamDriver;
+use modeldisk::{ModelDriver, RamDriver};
 use partition::Table;
+use policy::{Policy, Setup};
+use std::alloc::{AllocError, Global};
 use std::process::ExitCode;
 use std::{env, fs, io};
 use tools::play::{File, play};
-use words::{Names, command, status_for};
+use words::{Words, command, status_for};
+
+/// How many blocks the server's cache may hold (own). The server of `stat /` has none.
+const FRAMES: usize = 64;
+
+/// The partition table that the drivers go by: for minor 0 the whole image, and so where the first sector has no table.
+fn table_in(image: &[u8], minor: u8) -> Table {
+    let (sectors, _) = image.as_chunks::<512>();
+    let count = u32::try_from(sectors.len()).unwrap_or(u32::MAX);
+    let whole = Table::whole(count);
+    match sectors.first() {
+        Some(first) => {
+            if minor == 0 {
+                whole
+            } else {
+                partition::parse(first, count).unwrap_or(whole)
+            }
+        }
+        None => whole,
+    }
+}
+
+/// A driver over the ranges of this table, and those that stand by.
+fn drivers(alloc: Global, table: Table, words: &Words<'_>) -> Result<Vec<Driver>, AllocError> {
+    let mut supply = Vec::new(alloc);
+    for _ in 0..=words.spares {
+        let driver: Driver = if words.model {
+            Box::new(alloc, ModelDriver::new(table, 0))?
+        } else {
+            Box::new(alloc, RamDriver::new(table))?
+        };
+        supply.push(driver)?;
+    }
+    Ok(supply)
+}
 
 fn main(rt: HostRuntime) -> io::Result<ExitCode> {
     let alloc = rt.alloc();
-    let words: Vec<String> = match env::args(&rt) {
-        Ok(words) => words.collect(alloc)?,
+    let line: Vec<String> = match env::args(&rt) {
+        Ok(line) => line.collect(alloc)?,
         Err(error) if error.kind() == io::ErrorKind::InvalidData => {
             eprintln!(rt; "error: a word isn't UTF-8")?;
             return Ok(ExitCode::from(2));
         }
         Err(error) => return Err(error),
     };
-    let matches = match command(alloc)?.try_get_matches_from(words.as_slice()) {
+    let matches = match command(alloc)?.try_get_matches_from(line.as_slice()) {
         Ok(matches) => matches,
         Err(error) => {
             error.print(&rt)?;
             return Ok(ExitCode::from(status_for(&error)));
         }
     };
-    let names = Names::of(&matches);
-    let image = fs::read(&rt, names.image).ok();
-    let script = fs::read(&rt, names.script).ok();
-    let sectors = image.as_ref().map_or(0, |image| image.len() / 512);
-    let table = Table::whole(u32::try_from(sectors).unwrap_or(u32::MAX));
-    let driver: Driver = Box::new(alloc, RamDriver::new(table))?;
-    let mut supply = Vec::new(alloc);
-    supply.push(driver)?;
+    let words = Words::of(&matches);
+    let image = fs::read(&rt, words.image).ok();
+    let script = fs::read(&rt, words.script).ok();
+    let table = table_in(image.as_deref().unwrap_or(&[]), words.minor);
+    let supply = drivers(alloc, table, &words)?;
+    let setup = Setup {
+        minor: words.minor,
+        frames: FRAMES,
+        policy: Policy::default(),
+    };
     let status = play(
         alloc,
+        rt,
         File {
-            name: names.image,
+            name: words.image,
             bytes: image.as_deref(),
         },
         File {
-            name: names.script,
+            name: words.script,
             bytes: script.as_deref(),
         },
+        &setup,
         supply,
         &mut io::writer(&rt),
         &mut rt.stderr(),

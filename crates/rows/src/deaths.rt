@@ -26,7 +26,7 @@ fn replies_outlive_drivers(rt: HostRuntime) -> Result<(), Fail> {
         (&[short(0)], false),
     ];
     for (faults, answers) in rows {
-        let played = play_with(alloc, image.as_slice(), TWICE, faults)?;
+        let played = play_with(alloc, rt, image.as_slice(), TWICE, faults)?;
         let reply = if answers { ROOT } else { "EIO\n" };
         let text = format!(in alloc; "session 0\n{reply}{reply}")?;
         assert_eq!(rt; played.out.as_str(), text.as_str());
@@ -51,7 +51,7 @@ fn each_call_asks_once(rt: HostRuntime) -> Result<(), Fail> {
     let mut supply = Vec::new(alloc);
     let inner = Inner::Ram(RamDriver::new(Table::whole(128)));
     supply.push(ScriptedDriver::new(inner, script))?;
-    let played = play_over(alloc, image.as_slice(), TWICE, supply)?;
+    let played = play_over(alloc, rt, image.as_slice(), TWICE, supply)?;
     let text = format!(in alloc; "session 0\n{ROOT}EIO\n")?;
     assert_eq!(rt; played.out.as_str(), text.as_str());
     assert_eq!(rt; played.status, 3);

@@ -1,5 +1,5 @@
 //! Scripts played on volumes: the replies, and what is refused.
-use crate::volumes::{Played, ROOT, changed, new_volume, play_with, supply_of};
+use crate::volumes::{Played, ROOT, changed, new_volume, play_with, supply_of, whole};
 use bdev::Driver;
 use modeldisk::RamDriver;
 use partition::Table;
@@ -21,7 +21,7 @@ fn the_root_is_told(rt: HostRuntime) -> Result<(), Fail> {
     let alloc = rt.alloc();
     for block in [1024, 2048, 4096] {
         let image = new_volume(alloc, block)?;
-        let played = play_with(alloc, image.as_slice(), STAT, &[None])?;
+        let played = play_with(alloc, rt, image.as_slice(), STAT, &[None])?;
         assert_eq!(rt; played.status, 0);
         assert_eq!(rt;
             played.out.as_str(),
@@ -47,7 +47,7 @@ fn bad_lines_are_named(rt: HostRuntime) -> Result<(), Fail> {
         (b"user 0 0\n100 stat /\r\n", 2),
     ];
     for (script, number) in rows {
-        let played = play_with(alloc, image.as_slice(), script, &[None])?;
+        let played = play_with(alloc, rt, image.as_slice(), script, &[None])?;
         is_refused(
             &rt,
             &played,
@@ -74,7 +74,7 @@ fn images_are_refused_by_name(rt: HostRuntime) -> Result<(), Fail> {
         let image = changed(alloc, at, byte)?;
         is_refused(
             &rt,
-            &play_with(alloc, image.as_slice(), STAT, &[None])?,
+            &play_with(alloc, rt, image.as_slice(), STAT, &[None])?,
             line,
         );
     }
@@ -86,11 +86,11 @@ fn images_are_refused_by_name(rt: HostRuntime) -> Result<(), Fail> {
     ];
     for (length, line) in cut {
         let image = image.get(..length).unwrap_or(&[]);
-        is_refused(&rt, &play_with(alloc, image, STAT, &[None])?, line);
+        is_refused(&rt, &play_with(alloc, rt, image, STAT, &[None])?, line);
     }
     is_refused(
         &rt,
-        &play_with(alloc, image.as_slice(), STAT, &[])?,
+        &play_with(alloc, rt, image.as_slice(), STAT, &[])?,
         "NoDriver\n",
     );
     Ok(())
@@ -120,7 +120,16 @@ fn the_first_fault_is_told(rt: HostRuntime) -> Result<(), Fail> {
         };
         // Drivers of other media than the image's.
         let supply = supply_of(alloc, 127, &[None])?;
-        let status = play(alloc, image, script, supply, &mut out, &mut err);
+        let status = play(
+            alloc,
+            rt,
+            image,
+            script,
+            &whole(),
+            supply,
+            &mut out,
+            &mut err,
+        );
         let played = Played {
             status: status.number(),
             out: String::from_utf8(out)?,
@@ -150,7 +159,16 @@ fn a_writer_fails(rt: HostRuntime) -> Result<(), Fail> {
             name: "s.txt",
             bytes: Some(STAT),
         };
-        let status = play(alloc, image, script, supply, &mut out, &mut err);
+        let status = play(
+            alloc,
+            rt,
+            image,
+            script,
+            &whole(),
+            supply,
+            &mut out,
+            &mut err,
+        );
         assert_eq!(rt; status.number(), 1);
         assert_eq!(rt;
             err.as_slice(),
@@ -179,7 +197,16 @@ fn a_refusal_is_cut_off(rt: HostRuntime) -> Result<(), Fail> {
         bytes: Some(STAT),
     };
     let supply = supply_of(alloc, 128, &[None])?;
-    let status = play(alloc, image, script, supply, &mut out, &mut err);
+    let status = play(
+        alloc,
+        rt,
+        image,
+        script,
+        &whole(),
+        supply,
+        &mut out,
+        &mut err,
+    );
     assert_eq!(rt; status.number(), 1);
     assert_eq!(rt; out.as_slice(), b"".as_slice());
     assert_eq!(rt; space, *b"can");

@@ -1,13 +1,17 @@
 //! Sessions of one service: their replies, their numbers, and what they have seen.
-ghost use Rattle.std.specs.Prelude.{◌≡◌};
+ghost use Rattle.std.specs.Prelude.{◌≡◌, All, map};
+ghost use Rattle.layout.specs.Places.{IsGeometry};
+ghost use Rattle.true_replies.specs.Events.{IsOnMedia, opening_media};
+ghost use Rattle.inline.specs.Inline.{IsReady};
 ghost use Rattle.board.specs.View.{IsKeeper, opener};
-ghost use Rattle.serve.specs.Refusals.{whole_image};
-ghost use Rattle.serve.specs.Rooms.{geometry_in};
+ghost use Rattle.startup.specs.Starting.{opening_of, IsStartable};
 
-use crate::volumes::{ROOT, new_volume, supply_of};
+use crate::volumes::{ROOT, new_volume, supply_of, whole};
 use board::{Board, Device, Seat};
-use inline::Inline;
+use driven::Driven;
+use inline::local::LocalDriver;
 use modeldisk::{FaultKind, ScriptedDriver};
+use policy::Setup;
 use serve::noting::Noting;
 use serve::recorder::Recorder;
 use serve::refusal::SessionRefusal;
@@ -15,6 +19,7 @@ use serve::room::Room;
 use serve::service::{Service, Shared};
 use serve::session::Session;
 use serve::start::{Program, serve, start};
+use startup::{Prepared, prepare};
 use std::alloc::Global;
 use std::marker::Brand;
 use std::sync::Wait;
@@ -80,7 +85,14 @@ fn two_sessions_call_in_turn(rt: HostRuntime) -> Result<(), Fail> {
     let alloc = rt.alloc();
     let image = new_volume(alloc, 1024)?;
     let supply = supply_of(alloc, 128, &[None])?;
-    let Ok(Some(got)) = serve(alloc, rt, image.as_slice(), supply, InTurn { alloc }) else {
+    let Ok(Some(got)) = serve(
+        alloc,
+        rt,
+        image.as_slice(),
+        &whole(),
+        supply,
+        InTurn { alloc },
+    ) else {
         panic!(rt; "not served");
     };
     assert_eq!(rt; got.outcomes.len(), 6);
@@ -96,7 +108,14 @@ fn both_are_told_of_the_giving_up(rt: HostRuntime) -> Result<(), Fail> {
     let alloc = rt.alloc();
     let image = new_volume(alloc, 1024)?;
     let supply = supply_of(alloc, 128, &[Some((0, FaultKind::Die))])?;
-    let Ok(Some(got)) = serve(alloc, rt, image.as_slice(), supply, InTurn { alloc }) else {
+    let Ok(Some(got)) = serve(
+        alloc,
+        rt,
+        image.as_slice(),
+        &whole(),
+        supply,
+        InTurn { alloc },
+    ) else {
         panic!(rt; "not served");
     };
     assert_eq!(rt; got.outcomes.len(), 6);
@@ -139,8 +158,15 @@ fn a_number_is_free_again(rt: HostRuntime) -> Result<(), Fail> {
     let alloc = rt.alloc();
     let image = new_volume(alloc, 1024)?;
     let supply = supply_of(alloc, 128, &[None])?;
-    let Ok(Some((left, before, after))) = serve(alloc, rt, image.as_slice(), supply, Many { alloc })
-    else {
+    let served = serve(
+        alloc,
+        rt,
+        image.as_slice(),
+        &whole(),
+        supply,
+        Many { alloc },
+    );
+    let Ok(Some((left, before, after))) = served else {
         panic!(rt; "not served");
     };
     assert_eq!(rt; left, 63);
@@ -150,9 +176,9 @@ fn a_number_is_free_again(rt: HostRuntime) -> Result<(), Fail> {
 }
 
 /// Three calls, one after the other.
-fn three_calls<N: Room, R: Wait + Copy>(
+fn three_calls<N: Room, R: Wait + Copy, D: LocalDriver>(
     alloc: Global,
-    mut session: Session<N, Shared<N, R, Line<N>>>,
+    mut session: Session<N, Shared<N, R, Line<N, D>>>,
 ) -> Option<Vec<Outcome>> {
     let mut outcomes = Vec::new(alloc);
     for now in [100, 101, 102] {
@@ -162,24 +188,31 @@ fn three_calls<N: Room, R: Wait + Copy>(
     Some(outcomes)
 }
 
-/// The link of a service over drivers with faults.
-type Line<N> = Noting<N, Inline<ScriptedDriver>>;
+/// The link of a service over drivers.
+type Line<N, D> = Noting<N, Driven<D>>;
 
 /// Two sessions make three calls each, in threads of their own.
-fn on_threads<N: Room + Send + Sync, R: Threads + Wait + Copy + Send + Sync>(
+fn on_threads<N: Room + Send + Sync, R: Threads + Wait + Copy + Send + Sync, D: LocalDriver + Send>(
     alloc: Global,
     rt: R,
-    image: &[u8],
-    supply: Vec<ScriptedDriver>,
     board: Board,
     seat: Seat,
+    prepared: Prepared,
+    image: &[u8],
+    setup: &Setup,
+    supply: Vec<D>,
 ) -> Option<(Vec<Outcome>, Vec<Outcome>)>
     requires board { board ≡ N.table }
     requires seat { IsKeeper N.table seat × (seat.view ≡ opener) }
-    requires opening { N.opening ≡ whole_image image.now }
-    requires geometry { N.geometry ≡ geometry_in image.now }
+    requires opening { N.opening ≡ opening_of image.now setup.now.minor prepared.range }
+    requires sizes { N.geometry ≡ prepared.geometry }
+    requires startable { IsStartable image.now setup.now (map D.state supply.items) prepared.geometry prepared.range }
+    requires contents { prepared.media ≡ opening_media (opening_of image.now setup.now.minor prepared.range) }
+    requires on_media { IsOnMedia (opening_of image.now setup.now.minor prepared.range) }
+    requires geometry { IsGeometry prepared.geometry }
+    requires ready { All (IsReady (opening_of image.now setup.now.minor prepared.range)) (map D.state supply.items) }
 {
-    let service = start::<N, R, ScriptedDriver>(alloc, rt, image, supply, board, seat).ok()?;
+    let service = start::<N, R, D>(alloc, rt, board, seat, prepared, setup, supply).ok()?;
     let one = service.session(0, 0).ok()?;
     let two = service.session(7, 8).ok()?;
     let (first, second) = join(
@@ -195,8 +228,14 @@ fn two_threads_call(rt: HostRuntime) -> Result<(), Fail> {
     let alloc = rt.alloc();
     let image = new_volume(alloc, 1024)?;
     let supply = supply_of(alloc, 128, &[None])?;
+    let (image, setup) = (image.as_slice(), whole());
+    let Ok(prepared) = prepare(alloc, image, &setup, supply.as_slice()) else {
+        panic!(rt; "not prepared");
+    };
     let (board, seat) = Board::new(alloc)?;
-    let got = on_threads::<Brand, HostRuntime>(alloc, rt, image.as_slice(), supply, board, seat);
+    let got = on_threads::<Brand, HostRuntime, ScriptedDriver>(
+        alloc, rt, board, seat, prepared, image, &setup, supply,
+    );
     let Some((one, two)) = got else {
         panic!(rt; "not served");
     };

@@ -2,7 +2,9 @@
 use bdev::Driver;
 use modeldisk::{Fault, FaultKind, Inner, RamDriver, ScriptedDriver};
 use partition::Table;
+use policy::{Policy, Setup};
 use std::alloc::{AllocError, Global};
+use std::sync::Wait;
 use std::test::Fail;
 use tools::play::{File, play};
 
@@ -97,20 +99,31 @@ pub(crate) fn supply_of(
     Ok(supply)
 }
 
+/// The whole image is the volume, under the default policy.
+pub(crate) fn whole() -> Setup {
+    Setup {
+        minor: 0,
+        frames: 64,
+        policy: Policy::default(),
+    }
+}
+
 /// Plays a script on an image with drivers that have these faults.
-pub(crate) fn play_with(
+pub(crate) fn play_with<R: Wait + Copy>(
     alloc: Global,
+    rt: R,
     image: &[u8],
     script: &[u8],
     faults: &[Option<(u32, FaultKind)>],
 ) -> Result<Played, Fail> {
     let supply = supply_of(alloc, image.len() / 512, faults)?;
-    play_over(alloc, image, script, supply)
+    play_over(alloc, rt, image, script, supply)
 }
 
 /// Plays a script on an image with these drivers.
-pub(crate) fn play_over(
+pub(crate) fn play_over<R: Wait + Copy>(
     alloc: Global,
+    rt: R,
     image: &[u8],
     script: &[u8],
     supply: Vec<ScriptedDriver>,
@@ -124,7 +137,17 @@ pub(crate) fn play_over(
         name: "s.txt",
         bytes: Some(script),
     };
-    let status = play(alloc, image, script, supply, &mut out, &mut err).number();
+    let status = play(
+        alloc,
+        rt,
+        image,
+        script,
+        &whole(),
+        supply,
+        &mut out,
+        &mut err,
+    )
+    .number();
     Ok(Played {
         status,
         out: String::from_utf8(out)?,

@@ -78,11 +78,7 @@ impl<N: Room, R: Wait + Copy, L: Recorder<N>> Service<N, Shared<N, R, L>> {
     ///
     /// It is refused: 1 TooMany where there are 64 sessions, 2 Stopped where the link to the drivers has ended, 3 OutOfMemory, which
     /// may come whatever else holds.
-    pub fn session(
-        &self,
-        uid: u16,
-        gid: u16,
-    ) -> Result<Session<N, Shared<N, R, L>>, SessionRefusal>
+    pub fn session(&self, uid: u16, gid: u16) -> Result<Session<N, Shared<N, R, L>>, SessionRefusal>
         ensures made { IfOk result (λ s. IsMadeFor uid gid s s.knows.seen) }
         ensures sound { (tree : Tree) → IsAtFirst N.geometry (contents_at N.opening) tree
             → IfOk result (λ s. IsGood N.geometry N.opening tree s.knows.seen) }

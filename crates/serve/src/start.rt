@@ -89,7 +89,9 @@ pub fn start<N: Room, R: Wait + Copy, D: LocalDriver>(
     requires ready { All (IsReady N.opening) (map D.state supply.items) }
 {
     let Prepared {
-        media, geometry, ..
+        media,
+        geometry,
+        ..
     } = prepared;
     let link = drivers_on(alloc, media, setup.policy, supply)?;
     let board = Arc::new(alloc, board)?;

@@ -89,12 +89,7 @@ impl fmt::Display for PlayRefusal<'_> {
 ///
 /// Faults are looked for in this order: reading the image, reading the script, its lines, the start of the service, its session. For the
 /// first of them, or where the answers can't be written, a line goes to `err`, and nothing is played after it.
-pub fn play<
-    R: Wait + Copy,
-    D: LocalDriver,
-    W: Write,
-    E: Write,
->(
+pub fn play<R: Wait + Copy, D: LocalDriver, W: Write, E: Write>(
     alloc: Global,
     rt: R,
     image: File<'_, '_>,
@@ -129,12 +124,7 @@ fn write_refusal<E: Write>(alloc: Global, err: &mut E, refusal: PlayRefusal<'_>)
 }
 
 /// Plays, and writes the answers.
-fn run<
-    'n,
-    R: Wait + Copy,
-    D: LocalDriver,
-    W: Write,
->(
+fn run<'n, R: Wait + Copy, D: LocalDriver, W: Write>(
     alloc: Global,
     rt: R,
     image: File<'n, '_>,
@@ -157,11 +147,7 @@ fn run<
 }
 
 /// Reads, starts and makes the calls, in this order.
-fn play_session<
-    'n,
-    R: Wait + Copy,
-    D: LocalDriver,
->(
+fn play_session<'n, R: Wait + Copy, D: LocalDriver>(
     alloc: Global,
     rt: R,
     image: File<'n, '_>,
