@@ -223,19 +223,27 @@ fn on_threads<N: Room + Send + Sync, R: Threads + Wait + Copy + Send + Sync, D: 
     Some((first?, second?))
 }
 
+/// The same, over a service on the volume in an image.
+fn called_on_threads<R: Threads + Wait + Copy + Send + Sync, D: LocalDriver + Send>(
+    alloc: Global,
+    rt: R,
+    image: &[u8],
+    setup: &Setup,
+    supply: Vec<D>,
+) -> Option<(Vec<Outcome>, Vec<Outcome>)> {
+    let Ok(prepared) = prepare(alloc, image, setup, &supply) else {
+        return None;
+    };
+    let (board, seat) = Board::new(alloc).ok()?;
+    on_threads::<Brand, R, D>(alloc, rt, board, seat, prepared, image, setup, supply)
+}
+
 #[test]
 fn two_threads_call(rt: HostRuntime) -> Result<(), Fail> {
     let alloc = rt.alloc();
     let image = new_volume(alloc, 1024)?;
     let supply = supply_of(alloc, 128, &[None])?;
-    let (image, setup) = (image.as_slice(), whole());
-    let Ok(prepared) = prepare(alloc, image, &setup, supply.as_slice()) else {
-        panic!(rt; "not prepared");
-    };
-    let (board, seat) = Board::new(alloc)?;
-    let got = on_threads::<Brand, HostRuntime, ScriptedDriver>(
-        alloc, rt, board, seat, prepared, image, &setup, supply,
-    );
+    let got = called_on_threads(alloc, rt, image.as_slice(), &whole(), supply);
     let Some((one, two)) = got else {
         panic!(rt; "not served");
     };

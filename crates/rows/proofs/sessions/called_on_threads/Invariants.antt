@@ -1,5 +1,5 @@
 use Rattle.startup.specs.Starting.{opening_of}
-use Rattle.rows.proofs.sessions.two_threads_call.Given as goal
+use Rattle.rows.proofs.sessions.called_on_threads.Given as goal
 
 abbrev pub ghosts-on_threads : goal.ghosts-on_threads
 ghosts-on_threads g a = record {
