@@ -55,7 +55,6 @@ impl Link for ListLink {
 
     ghost truth = { λ l opening marks. ⊥ };
 
-
     fn post(&mut self, to: Endpoint, request: &BlockRequest) -> Result<(), LinkRefusal> {
         self.notes.told(Note::Posted(to, *request, true));
         Ok(())
