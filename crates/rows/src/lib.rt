@@ -12,6 +12,8 @@ mod errors;
 #[cfg(test)]
 mod inodes;
 #[cfg(test)]
+mod partitions;
+#[cfg(test)]
 mod plays;
 #[cfg(test)]
 mod replies;

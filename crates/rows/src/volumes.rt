@@ -128,6 +128,18 @@ pub(crate) fn play_over<R: Wait + Copy>(
     script: &[u8],
     supply: Vec<ScriptedDriver>,
 ) -> Result<Played, Fail> {
+    play_as(alloc, rt, image, script, &whole(), supply)
+}
+
+/// The same under a setup.
+pub(crate) fn play_as<R: Wait + Copy>(
+    alloc: Global,
+    rt: R,
+    image: &[u8],
+    script: &[u8],
+    setup: &Setup,
+    supply: Vec<ScriptedDriver>,
+) -> Result<Played, Fail> {
     let (mut out, mut err) = (Vec::new(alloc), Vec::new(alloc));
     let image = File {
         name: "v.img",
@@ -142,7 +154,7 @@ pub(crate) fn play_over<R: Wait + Copy>(
         rt,
         image,
         script,
-        &whole(),
+        setup,
         supply,
         &mut out,
         &mut err,

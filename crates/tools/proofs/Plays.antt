@@ -1,5 +1,6 @@
 -- One call after others, in a session.
 use Rattle.std.proofs.Common.{◌≡◌, ℕ, List, [], ◌∷◌, ◌++◌, length, Bool, true, false, refl, sym, ap, ◌∙◌, arith, length-append, subst}
+use Rattle.std.specs.List.{list_any}
 use Rattle.layout.specs.declared.Geometry.{Geometry}
 use Rattle.tree.specs.declared.Who.{Who}
 use Rattle.tree.specs.declared.Call.TheVariants.{Stat}
@@ -10,10 +11,10 @@ use Rattle.tree.specs.Answers.{answer_of}
 use Rattle.marks.specs.Marks.{Mark, Took}
 use Rattle.marks.specs.Opening.{Opening, contents_at}
 use Rattle.legal.specs.Legal.{IsAtFirst}
-use Rattle.legal.specs.Session.{SessionState, SessionCallKeeps, IsMadeFor, DeviceKeeps, caller_of, EndsWith}
+use Rattle.legal.specs.Session.{SessionState, SessionCallKeeps, IsMadeFor, caller_of, EndsWith}
 use Rattle.serve.specs.Held.{root_path, IsGood}
 use Rattle.serve.specs.Server.{outcome_of}
-use Rattle.tools.specs.Made.{calls_made, cuts, some_cut, all_cut, cuts_last, IsOwn, IsSame, Plays, Calls, IsAnswered}
+use Rattle.tools.specs.Made.{is_eio, calls_made, cuts, some_cut, all_cut, cuts_last, IsOwn, IsSame, Plays, Calls, IsAnswered}
 
 -- one call more
 calls_made-more : (who : Who) (times : List ℕ) (outcomes : List Outcome) (now : ℕ) (outcome : Outcome) (older : List Mark)
@@ -129,28 +130,23 @@ cut_more g v mid new outcomes now cut Cut is c = sym (some_cut-cut outcomes)
 cut_more g v mid new outcomes now true (Reply r) is c = let no = (c.after_cut refl).0 in cc
 cut_more g v mid new outcomes now false (Reply r) is c = is ∙ sym (some_cut-reply outcomes r)
 
--- what a session's calls came to, once it was asked for the device
-pub is_answered : (g : Geometry) (v : Opening) (uid gid : ℕ) (first last asked : SessionState) (times : List ℕ) (outcomes : List Outcome) (gave : Bool)
+-- what a session's calls came to
+pub is_answered : (g : Geometry) (v : Opening) (uid gid : ℕ) (first last : SessionState) (times : List ℕ) (outcomes : List Outcome) (gave : Bool)
     → IsMadeFor uid gid first first.knows.seen
     → ((tree : Tree) → IsAtFirst g (contents_at v) tree → IsGood g v tree first.knows.seen)
-    → Plays g v first times outcomes last → DeviceKeeps last gave asked → IsAnswered g v (uid, gid, times) outcomes gave
-is_answered g v uid gid first last asked times outcomes gave made good plays device = record {
+    → Plays g v first times outcomes last → gave ≡ list_any is_eio outcomes → IsAnswered g v (uid, gid, times) outcomes gave
+is_answered g v uid gid first last times outcomes gave made good plays eio = record {
   each = plays.each;
   cuts = plays.cuts_last;
-  recorded = λ tree at.
-      let answered = plays.good tree at (good tree at) in
-      record {
-        session = last;
-        user = ap (λ (w : Who). w.uid) plays.same.caller ∙ made.user;
-        group = ap (λ (w : Who). w.gid) plays.same.caller ∙ made.group;
-        good = answered;
-        calls =
-            sym (plays.own (made.new.none ∙ sym made.new.saw_all)) ∙ plays.mine
-            ∙ ap (λ (older : List Mark). calls_made (caller_of first) times outcomes older) made.new.none
-            ∙ ap (λ (w : Who). calls_made w times outcomes []) (sym plays.same.caller);
-        later = asked.knows.seen;
-        beginning = device.goes_on.learns.beginning;
-        given_up = device.only;
-        only = λ gone. device.always (answered.0.answered gone);
-      };
+  given_up = eio;
+  recorded = λ tree at. record {
+    session = last;
+    user = ap (λ (w : Who). w.uid) plays.same.caller ∙ made.user;
+    group = ap (λ (w : Who). w.gid) plays.same.caller ∙ made.group;
+    good = plays.good tree at (good tree at);
+    calls =
+        sym (plays.own (made.new.none ∙ sym made.new.saw_all)) ∙ plays.mine
+        ∙ ap (λ (older : List Mark). calls_made (caller_of first) times outcomes older) made.new.none
+        ∙ ap (λ (w : Who). calls_made w times outcomes []) (sym plays.same.caller);
+  };
 }

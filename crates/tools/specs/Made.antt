@@ -1,13 +1,16 @@
 -- The calls of a script in one session, and the record of them.
 use Rattle.std.specs.Prelude.{◌≡◌, ℕ, List, [], ◌∷◌, Bool, true, false, length}
+use Rattle.std.specs.List.{list_any}
 use Rattle.layout.specs.declared.Geometry.{Geometry}
 use Rattle.tree.specs.declared.Who.{Who}
 use Rattle.tree.specs.declared.Call.TheVariants.{Stat}
 use Rattle.tree.specs.declared.Outcome.{Outcome}
 use Rattle.tree.specs.declared.Outcome.TheVariants.{Reply, Cut}
+use Rattle.tree.specs.declared.Reply.TheVariants.{Refused}
+use Rattle.errno.specs.declared.Errno.TheVariants.{EIO}
 use Rattle.tree.specs.Tree.{Tree}
 use Rattle.tree.specs.Answers.{answer_of}
-use Rattle.marks.specs.Marks.{Mark, Took, gave_up, IsBeginning}
+use Rattle.marks.specs.Marks.{Mark, Took}
 use Rattle.marks.specs.Opening.{Opening, contents_at}
 use Rattle.legal.specs.Legal.{IsAtFirst}
 use Rattle.legal.specs.Session.{SessionState, SessionCallKeeps, caller_of, calls_of}
@@ -25,6 +28,11 @@ calls_made who _ _ older = older
 abbrev pub cuts : Outcome → Bool
 cuts Cut = true
 cuts (Reply reply) = false
+
+-- whether a call was answered EIO, as it is once the device was given up
+abbrev pub is_eio : Outcome → Bool
+is_eio (Reply (Refused EIO)) = true
+is_eio _ = false
 
 -- whether some call was cut
 abbrev pub some_cut : List Outcome → Bool
@@ -69,22 +77,17 @@ pub record Calls (g : Geometry) (v : Opening) (old : SessionState) (cut : Bool) 
   pub call : cut ≡ false → SessionCallKeeps g (contents_at v) old (caller_of old) now (Stat root_path) (outcome_of outcome) new
   pub sound : cut ≡ false → (tree : Tree) → IsAtFirst g (contents_at v) tree → IsSound v new.knows.seen
 
--- A session of this user and group, whose calls are these. What it has seen is sound and legal, and the device was given up, or not, in
--- what it has seen since.
-pub record Records (g : Geometry) (v : Opening) (tree : Tree) (uid gid : ℕ) (times : List ℕ) (outcomes : List Outcome) (gave : Bool) : Type 0 where
+-- A session of this user and group, whose calls are these. What it has seen is sound and legal.
+pub record Records (g : Geometry) (v : Opening) (tree : Tree) (uid gid : ℕ) (times : List ℕ) (outcomes : List Outcome) : Type 0 where
   pub session : SessionState
   pub user : session.uid ≡ uid
   pub group : session.gid ≡ gid
   pub good : IsGood g v tree session.knows.seen
   pub calls : calls_of session.knows.number session.knows.place session.knows.seen ≡ calls_made (caller_of session) times outcomes []
-  pub later : List Mark
-  pub beginning : IsBeginning session.knows.seen later
-  pub given_up : gave ≡ true → gave_up later ≡ true
-  pub only : gave_up session.knows.seen ≡ true → gave ≡ true
 
--- The calls of a script (its user, group and times) got these outcomes from a service for the volume; afterwards the device was given up
--- or not. Whichever tree the volume held as it was handed in, there is a record of these calls.
+-- The calls of a script (its user, group and times) got these outcomes from a service for the volume, some of them EIO or none. Whichever tree the volume held as it was handed in, there is a record of these calls.
 pub record IsAnswered (g : Geometry) (v : Opening) (script : ℕ × ℕ × List ℕ) (outcomes : List Outcome) (gave : Bool) : Type 0 where
   pub each : length outcomes ≡ length script.2
   pub cuts : cuts_last outcomes ≡ true
-  pub recorded : (tree : Tree) → IsAtFirst g (contents_at v) tree → Records g v tree script.0 script.1 script.2 outcomes gave
+  pub given_up : gave ≡ list_any is_eio outcomes
+  pub recorded : (tree : Tree) → IsAtFirst g (contents_at v) tree → Records g v tree script.0 script.1 script.2 outcomes

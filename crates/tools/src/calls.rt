@@ -1,11 +1,11 @@
 //! The calls of a script, made in a session of a service.
 
 ghost use Rattle.std.specs.Prelude.{◌≡◌, IfOk};
-ghost use Rattle.board.specs.Words.{is_given_up as says_given_up};
-ghost use Rattle.tools.specs.Made.{cuts, Calls, Plays, IsAnswered};
+ghost use Rattle.std.specs.List.{list_any};
+ghost use Rattle.tools.specs.Made.{is_eio, cuts, Calls, Plays, IsAnswered};
 
 use crate::script::Script;
-use board::Device;
+use errno::Errno;
 use serve::recorder::Recorder;
 use serve::refusal::SessionRefusal;
 use serve::room::Room;
@@ -14,7 +14,7 @@ use serve::session::Session;
 use serve::start::Program;
 use std::alloc::{AllocError, Global};
 use std::sync::Wait;
-use tree::Outcome;
+use tree::{Outcome, Reply};
 
 /// What came of a script's calls.
 #[derive(Drop)]
@@ -45,8 +45,8 @@ impl<R: Wait + Copy> Program<R> for Player {
     {
         let mut session = service.session(self.script.uid, self.script.gid)?;
         let outcomes = make_calls(self.alloc, &mut session, self.script.times.as_slice())?;
-        let given_up = is_given_up(session.device());
         session.end();
+        let given_up = has_eio(outcomes.as_slice());
         Ok(Played { outcomes, given_up })
     }
 }
@@ -91,9 +91,16 @@ fn is_cut(outcome: &Outcome) -> bool
     matches!(outcome, Outcome::Cut)
 }
 
-/// Whether an answer says that the device was given up.
-fn is_given_up(device: Device) -> bool
-    ensures { result ≡ says_given_up device }
+/// Whether some call was answered EIO, as each is once the device was given up.
+fn has_eio(outcomes: &[Outcome]) -> bool
+    ensures { result ≡ list_any is_eio outcomes.now }
 {
-    matches!(device, Device::GivenUp)
+    outcomes.iter().any(|outcome| answers_eio(outcome))
+}
+
+/// Whether a call was answered EIO.
+fn answers_eio(outcome: &Outcome) -> bool
+    ensures { result ≡ is_eio outcome.now }
+{
+    matches!(outcome, Outcome::Reply(Reply::Refused(Errno::EIO)))
 }
