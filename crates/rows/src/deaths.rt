@@ -1,5 +1,5 @@
 //! Drivers that die, hang or answer wrongly in the middle of a read.
-use crate::volumes::{ROOT, new_volume, play_over, play_with};
+use crate::volumes::{ROOT, new_volume, play_as, play_over, play_with, supply_of, whole};
 use endpoint::{SlotRefusal, Slots};
 use errno::Errno;
 use modeldisk::{Fault, FaultKind, Inner, RamDriver, ScriptedDriver};
@@ -32,6 +32,28 @@ fn replies_outlive_drivers(rt: HostRuntime) -> Result<(), Fail> {
         assert_eq!(rt; played.out.as_str(), text.as_str());
         assert_eq!(rt; played.status, if answers { 0 } else { 3 });
         assert_eq!(rt; played.err.as_str(), "");
+    }
+    Ok(())
+}
+
+/// The policy and the order of the drivers are those that were handed in: with no fault allowed, the first one's death is the last.
+#[test]
+fn no_fault_is_allowed(rt: HostRuntime) -> Result<(), Fail> {
+    let alloc = rt.alloc();
+    let image = new_volume(alloc, 1024)?;
+    let mut setup = whole();
+    setup.policy.max_faults = 0;
+    let dies = Some((0, FaultKind::Die));
+    let rows: [(&[Option<(u32, FaultKind)>], &str, u8); 2] = [
+        (&[dies, None], "EIO\n", 3),
+        (&[None, dies], ROOT, 0),
+    ];
+    for (faults, reply, status) in rows {
+        let supply = supply_of(alloc, 128, faults)?;
+        let played = play_as(alloc, rt, image.as_slice(), TWICE, &setup, supply)?;
+        let text = format!(in alloc; "session 0\n{reply}{reply}")?;
+        assert_eq!(rt; played.out.as_str(), text.as_str());
+        assert_eq!(rt; played.status, status);
     }
     Ok(())
 }

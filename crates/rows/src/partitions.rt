@@ -31,12 +31,7 @@ fn disk(alloc: Global, kind: u8, count: u8, last: u8) -> Result<Vec<u8>, AllocEr
 }
 
 /// Plays `stat /` on the volume of this minor, over a driver of its ranges.
-fn played<R: Wait + Copy>(
-    alloc: Global,
-    rt: R,
-    image: &[u8],
-    minor: u8,
-) -> Result<Played, Fail> {
+fn played<R: Wait + Copy>(alloc: Global, rt: R, image: &[u8], minor: u8) -> Result<Played, Fail> {
     let (sectors, _) = image.as_chunks::<512>();
     let whole_disk = Table::whole(129);
     let table = match sectors.first() {

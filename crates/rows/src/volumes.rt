@@ -149,17 +149,7 @@ pub(crate) fn play_as<R: Wait + Copy>(
         name: "s.txt",
         bytes: Some(script),
     };
-    let status = play(
-        alloc,
-        rt,
-        image,
-        script,
-        setup,
-        supply,
-        &mut out,
-        &mut err,
-    )
-    .number();
+    let status = play(alloc, rt, image, script, setup, supply, &mut out, &mut err).number();
     Ok(Played {
         status,
         out: String::from_utf8(out)?,

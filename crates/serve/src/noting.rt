@@ -24,8 +24,8 @@ use std::marker::Brand;
 use std::sync::Arc;
 use tree::{Reply, Who};
 
-/// A link that has the record's seat of the service's board. Over it goes what goes over the link in it; each request that is issued, and each
-/// message that leaves a mark, it counts on the board. It takes no memory but when it is made.
+/// A link that has the record's seat of the service's board. Over it goes what goes over the link in it. Each request that is issued it adds to
+/// the board's record, and each message that leaves a mark, which is counted. It takes no memory but when it is made.
 ///
 /// What it guarantees of a record is what the link in it does, and that the record is what the seat has seen.
 #[derive(Drop)]
