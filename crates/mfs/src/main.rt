@@ -7,7 +7,6 @@ use bdev::Driver;
 use modeldisk::{ModelDriver, RamDriver};
 use partition::Table;
 use policy::{Policy, Setup};
-use std::alloc::{AllocError, Global};
 use std::process::ExitCode;
 use std::{env, fs, io};
 use tools::play::{File, play};
@@ -33,20 +32,6 @@ fn table_in(image: &[u8], minor: u8) -> Table {
     }
 }
 
-/// A driver over the ranges of this table, and those that stand by.
-fn drivers(alloc: Global, table: Table, words: &Words<'_>) -> Result<Vec<Driver>, AllocError> {
-    let mut supply = Vec::new(alloc);
-    for _ in 0..=words.spares {
-        let driver: Driver = if words.model {
-            Box::new(alloc, ModelDriver::new(table, 0))?
-        } else {
-            Box::new(alloc, RamDriver::new(table))?
-        };
-        supply.push(driver)?;
-    }
-    Ok(supply)
-}
-
 fn main(rt: HostRuntime) -> io::Result<ExitCode> {
     let alloc = rt.alloc();
     let line: Vec<String> = match env::args(&rt) {
@@ -68,7 +53,15 @@ fn main(rt: HostRuntime) -> io::Result<ExitCode> {
     let image = fs::read(&rt, words.image).ok();
     let script = fs::read(&rt, words.script).ok();
     let table = table_in(image.as_deref().unwrap_or(&[]), words.minor);
-    let supply = drivers(alloc, table, &words)?;
+    let mut supply: Vec<Driver> = Vec::new(alloc);
+    for _ in 0..=words.spares {
+        let driver: Driver = if words.model {
+            Box::new(alloc, ModelDriver::new(table, 0))?
+        } else {
+            Box::new(alloc, RamDriver::new(table))?
+        };
+        supply.push(driver)?;
+    }
     let setup = Setup {
         minor: words.minor,
         frames: FRAMES,
