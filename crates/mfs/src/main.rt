@@ -32,15 +32,30 @@ fn table_in(image: &[u8], minor: u8) -> Table {
     }
 }
 
+/// The words of the command line; none where one isn't UTF-8, and then a line says so.
+fn line_of(rt: &HostRuntime) -> io::Result<Option<Vec<String>>> {
+    match env::args(rt) {
+        Ok(line) => Ok(Some(line.collect(rt.alloc())?)),
+        Err(error) if error.kind() == io::ErrorKind::InvalidData => {
+            eprintln!(*rt; "error: a word isn't UTF-8")?;
+            Ok(None)
+        }
+        Err(error) => Err(error),
+    }
+}
+
+/// A file of this name, with its bytes if it could be read.
+fn file<'n, 'b>(name: &'n str, bytes: &'b Option<Vec<u8>>) -> File<'n, 'b> {
+    File {
+        name,
+        bytes: bytes.as_deref(),
+    }
+}
+
 fn main(rt: HostRuntime) -> io::Result<ExitCode> {
     let alloc = rt.alloc();
-    let line: Vec<String> = match env::args(&rt) {
-        Ok(line) => line.collect(alloc)?,
-        Err(error) if error.kind() == io::ErrorKind::InvalidData => {
-            eprintln!(rt; "error: a word isn't UTF-8")?;
-            return Ok(ExitCode::from(2));
-        }
-        Err(error) => return Err(error),
+    let Some(line) = line_of(&rt)? else {
+        return Ok(ExitCode::from(2));
     };
     let matches = match command(alloc)?.try_get_matches_from(line.as_slice()) {
         Ok(matches) => matches,
@@ -67,21 +82,10 @@ fn main(rt: HostRuntime) -> io::Result<ExitCode> {
         frames: FRAMES,
         policy: Policy::default(),
     };
+    let (image, script) = (file(words.image, &image), file(words.script, &script));
+    let (mut out, mut err) = (io::writer(&rt), rt.stderr());
     let status = play(
-        alloc,
-        rt,
-        File {
-            name: words.image,
-            bytes: image.as_deref(),
-        },
-        File {
-            name: words.script,
-            bytes: script.as_deref(),
-        },
-        &setup,
-        supply,
-        &mut io::writer(&rt),
-        &mut rt.stderr(),
+        alloc, rt, image, script, &setup, supply, &mut out, &mut err,
     );
     Ok(ExitCode::from(status.number()))
 }

@@ -12,6 +12,7 @@ use driven::Driven;
 use inline::local::LocalDriver;
 use modeldisk::{FaultKind, ScriptedDriver};
 use policy::Setup;
+use serve::gate::Open;
 use serve::noting::Noting;
 use serve::recorder::Recorder;
 use serve::refusal::SessionRefusal;
@@ -22,10 +23,10 @@ use serve::start::{Program, serve, start};
 use startup::{Prepared, prepare};
 use std::alloc::Global;
 use std::marker::Brand;
-use std::sync::Wait;
+use std::sync::{Arc, Wait};
 use std::test::Fail;
 use std::thread::{Threads, join};
-use tree::Outcome;
+use tree::{Call, Outcome};
 
 /// What two sessions got.
 #[derive(Drop)]
@@ -53,8 +54,8 @@ impl<R: Wait + Copy> Program<R> for InTurn {
         let mut one = service.session(0, 0).ok()?;
         let mut two = service.session(7, 8).ok()?;
         for now in [100, 101, 102] {
-            outcomes.push(one.stat_root(now)).ok()?;
-            outcomes.push(two.stat_root(now)).ok()?;
+            outcomes.push(one.call(now, &Call::Stat { path: b"/" })).ok()?;
+            outcomes.push(two.call(now, &Call::Stat { path: b"/" })).ok()?;
         }
         one.meet(&mut two);
         let devices = (one.device(), two.device());
@@ -91,6 +92,7 @@ fn two_sessions_call_in_turn(rt: HostRuntime) -> Result<(), Fail> {
         image.as_slice(),
         &whole(),
         supply,
+        Open,
         InTurn { alloc },
     ) else {
         panic!(rt; "not served");
@@ -114,6 +116,7 @@ fn both_are_told_of_the_giving_up(rt: HostRuntime) -> Result<(), Fail> {
         image.as_slice(),
         &whole(),
         supply,
+        Open,
         InTurn { alloc },
     ) else {
         panic!(rt; "not served");
@@ -164,6 +167,7 @@ fn a_number_is_free_again(rt: HostRuntime) -> Result<(), Fail> {
         image.as_slice(),
         &whole(),
         supply,
+        Open,
         Many { alloc },
     );
     let Ok(Some((left, before, after))) = served else {
@@ -182,7 +186,7 @@ fn three_calls<N: Room, R: Wait + Copy, D: LocalDriver>(
 ) -> Option<Vec<Outcome>> {
     let mut outcomes = Vec::new(alloc);
     for now in [100, 101, 102] {
-        outcomes.push(session.stat_root(now)).ok()?;
+        outcomes.push(session.call(now, &Call::Stat { path: b"/" })).ok()?;
     }
     session.end();
     Some(outcomes)
@@ -212,7 +216,9 @@ fn on_threads<N: Room + Send + Sync, R: Threads + Wait + Copy + Send + Sync, D: 
     requires geometry { IsGeometry prepared.geometry }
     requires ready { All (IsReady (opening_of image.now setup.now.minor prepared.range)) (map D.state supply.items) }
 {
-    let service = start::<N, R, D>(alloc, rt, board, seat, prepared, setup, supply).ok()?;
+    let gate = Arc::new(alloc, Open).ok()?;
+    let service =
+        start::<N, R, D, Open>(alloc, rt, board, seat, prepared, setup, supply, gate).ok()?;
     let one = service.session(0, 0).ok()?;
     let two = service.session(7, 8).ok()?;
     let (first, second) = join(

@@ -21,7 +21,7 @@ use Rattle.legal.specs.Session.{SessionCallKeeps, went_on}
 use Rattle.reissue.specs.declared.link.Link.{Ghosts}
 use Rattle.reissue.specs.declared.table.Table.{Table}
 use Rattle.reissue.specs.Calls.{Truth}
-use Rattle.board.specs.View.{View, SeatState, session_of, session_for}
+use Rattle.board.specs.View.{View, SeatState, session_for}
 use Rattle.board.specs.Steps.{SessionLearns, SessionIsNew}
 use Rattle.serve.specs.declared.server.Server.{Server}
 use Rattle.serve.specs.Reader.{Stands, reader}

@@ -2,6 +2,8 @@
 use Rattle.std.specs.Prelude.{◌≡◌, ℕ, List, Bool, true, codes}
 use Rattle.std.specs.Borrow.{Bor}
 use Rattle.layout.specs.declared.Geometry.{Geometry}
+use Rattle.tree.specs.declared.Call.{Call}
+use Rattle.tree.specs.declared.Call.TheVariants.{Stat}
 use Rattle.tree.specs.Tree.{Tree}
 use Rattle.marks.specs.Marks.{Mark, gave_up}
 use Rattle.marks.specs.Open.{IsWellFormed}
@@ -16,6 +18,10 @@ use Rattle.serve.specs.Reader.{Stands}
 -- the path of the root; where its byte lies says nothing
 abbrev pub root_path : Bor (List ℕ)
 root_path = record { ref_ptr = (0, 0); now = codes "/" }
+
+-- it is a `stat /`
+abbrev pub IsRootStat : Call → Type 0
+IsRootStat call = (path : Bor (List ℕ)) × (call ≡ Stat path) × (path.now ≡ codes "/")
 
 -- the record, the numbers that sessions have, and whether a take gave End
 pub record Held : Type 0 where

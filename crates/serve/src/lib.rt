@@ -1,6 +1,7 @@
 //! A file server that reads over any link, and a service of it under a lock, whose clients are sessions.
 #![tactic(auto)]
 
+pub mod gate;
 mod heard;
 mod keeper;
 pub mod laws;

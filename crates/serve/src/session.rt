@@ -7,7 +7,7 @@ ghost use Rattle.marks.specs.Opening.{contents_at};
 ghost use Rattle.legal.specs.Legal.{IsAtFirst};
 ghost use Rattle.legal.specs.Session.{caller_of, tally_of, SessionCallKeeps, SessionGoesOn, DeviceKeeps, MeetKeeps};
 ghost use Rattle.board.specs.Words.{is_given_up};
-ghost use Rattle.serve.specs.Held.{root_path, IsSound};
+ghost use Rattle.serve.specs.Held.{root_path, IsRootStat, IsSound};
 ghost use Rattle.serve.specs.Server.{outcome_of};
 
 use crate::recorder::Recorder;
@@ -73,14 +73,19 @@ impl<N: Room, S> Session<N, S> {
 }
 
 impl<N: Room, R: Wait + Copy, L: Recorder<N>> Session<N, Shared<N, R, L>> {
-    /// The attributes of the root. It may wait for the calls of other sessions. The session has then seen the record up to this
-    /// call: an answer is its last mark; a cut, which comes once the link to the drivers has ended, leaves none.
-    pub fn stat_root(&mut self, now: u32) -> Outcome
+    /// Makes a call of the session's user and group: a `stat /`, the one call that there is so far. It may wait for the calls of other
+    /// sessions. The session has then seen the record up to this call: an answer is its last mark; a cut, which comes once the link to
+    /// the drivers has ended, leaves none.
+    pub fn call(&mut self, now: u32, call: &Call<'_>) -> Outcome
+        requires root { IsRootStat call.now }
         ensures keeps { SessionCallKeeps N.geometry (contents_at N.opening) self.old (caller_of self.old) now (Call.Stat root_path) (outcome_of result) self.new }
         ensures sound { (tree : Tree) → IsAtFirst N.geometry (contents_at N.opening) tree → IsSound N.opening self.new.knows.seen }
         ensures eio { (tree : Tree) → IsAtFirst N.geometry (contents_at N.opening) tree
             → (result ≡ Outcome.Reply (Reply.Refused Errno.EIO)) ↔ ((result ≢ Outcome.Cut) × (gave_up self.new.knows.seen ≡ true)) }
     {
+        let Call::Stat { .. } = call else {
+            unreachable!()
+        };
         let shared = &*self.shared;
         shared
             .server

@@ -12,6 +12,7 @@ ghost use Rattle.true_replies.specs.Events.{IsOnMedia, opening_media};
 ghost use Rattle.board.specs.View.{IsKeeper, opener};
 ghost use Rattle.startup.specs.Starting.{opening_of, IsRefused, IsStartable};
 
+use crate::gate::Gate;
 use crate::noting::Noting;
 use crate::recorder::Recorder;
 use crate::room::Room;
@@ -68,8 +69,8 @@ fn drivers_on<D: LocalDriver>(
 /// No driver is started yet: that comes with the first message that a call takes. Where no memory was found, all of it is let go.
 ///
 /// What the parts of the service agree on is `N`, which the caller picks: the board, the volume as it was handed in, and its sizes.
-/// `serve` picks it for a program.
-pub fn start<N: Room, R: Wait + Copy, D: LocalDriver>(
+/// `serve` picks it for a program. The gate is for the threads that a service will have: it is never asked yet.
+pub fn start<N: Room, R: Wait + Copy, D: LocalDriver, G: Gate>(
     alloc: Global,
     rt: R,
     board: Board,
@@ -77,6 +78,7 @@ pub fn start<N: Room, R: Wait + Copy, D: LocalDriver>(
     prepared: Prepared,
     setup: &Setup,
     supply: Vec<D>,
+    _gate: Arc<G>,
 ) -> Result<Service<N, Shared<N, R, Noting<N, Driven<D>>>>, AllocError>
     requires board { board ≡ N.table }
     requires seat { IsKeeper N.table seat × (seat.view ≡ opener) }
@@ -100,7 +102,7 @@ pub fn start<N: Room, R: Wait + Copy, D: LocalDriver>(
 }
 
 // The caller picks `N` from what it hands over.
-fn start_and_run<N: Room, R: Wait + Copy, D: LocalDriver, P: Program<R>>(
+fn start_and_run<N: Room, R: Wait + Copy, D: LocalDriver, G: Gate, P: Program<R>>(
     alloc: Global,
     rt: R,
     board: Board,
@@ -109,6 +111,7 @@ fn start_and_run<N: Room, R: Wait + Copy, D: LocalDriver, P: Program<R>>(
     image: &[u8],
     setup: &Setup,
     supply: Vec<D>,
+    gate: G,
     program: P,
 ) -> Result<P::Output, AllocError>
     requires board { board ≡ N.table }
@@ -122,19 +125,21 @@ fn start_and_run<N: Room, R: Wait + Copy, D: LocalDriver, P: Program<R>>(
     requires ready { All (IsReady (opening_of image.now setup.now.minor prepared.range)) (map D.state supply.items) }
     ensures { IfOk result (λ o. P.gives program prepared.geometry (opening_of image.now setup.now.minor prepared.range) o) }
 {
-    let service = start::<N, R, D>(alloc, rt, board, seat, prepared, setup, supply)?;
+    let gate = Arc::new(alloc, gate)?;
+    let service = start::<N, R, D, G>(alloc, rt, board, seat, prepared, setup, supply, gate)?;
     Ok(program.run(&service))
 }
 
 /// Starts a service on the volume in an image and runs a program over it. When the program ends, the service does.
 ///
 /// It is refused as `prepare` is, and then nothing runs.
-pub fn serve<R: Wait + Copy, D: LocalDriver, P: Program<R>>(
+pub fn serve<R: Wait + Copy, D: LocalDriver, G: Gate, P: Program<R>>(
     alloc: Global,
     rt: R,
     image: &[u8],
     setup: &Setup,
     supply: Vec<D>,
+    gate: G,
     program: P,
 ) -> Result<P::Output, StartRefusal>
     ensures refusal { IfErr result (IsRefused image.now setup.now (map D.state supply.items)) }
@@ -143,7 +148,7 @@ pub fn serve<R: Wait + Copy, D: LocalDriver, P: Program<R>>(
 {
     let prepared = prepare(alloc, image, setup, &supply)?;
     let (board, seat) = Board::new(alloc)?;
-    Ok(start_and_run::<Brand, R, D, P>(
-        alloc, rt, board, seat, prepared, image, setup, supply, program,
+    Ok(start_and_run::<Brand, R, D, G, P>(
+        alloc, rt, board, seat, prepared, image, setup, supply, gate, program,
     )?)
 }

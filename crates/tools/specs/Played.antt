@@ -1,12 +1,12 @@
 -- What playing a script comes to.
-use Rattle.std.specs.Prelude.{◌≡◌, ◌⊎◌, ℕ, List, ◌++◌, Bool, true, false, codes, decimal, Option, Some, None, Ok, Err, IsSome, IfSome}
+use Rattle.std.specs.Prelude.{◌≡◌, ◌⊎◌, ℕ, List, ◌++◌, Bool, true, false, codes, decimal, Option, Some, None, Ok, Err, IsSome, IfSome, IsTrue}
 use Rattle.std.specs.Borrow.{Bor}
 use Rattle.layout.specs.declared.Geometry.{Geometry}
 use Rattle.tree.specs.declared.Outcome.{Outcome}
 use Rattle.bdev.specs.DriverState.{DriverState}
 use Rattle.policy.specs.declared.Setup.{Setup}
 use Rattle.startup.specs.Starting.{opening_of, IsStartable, IsRefused}
-use Rattle.tools.specs.Script.{script_of}
+use Rattle.tools.specs.Script.{script_of, has_call}
 use Rattle.tools.specs.Output.{session_text, AppendsPart}
 use Rattle.tools.specs.Made.{IsAnswered}
 use Rattle.tools.specs.declared.play.File.{File}
@@ -25,13 +25,17 @@ HasBadLine file number = (text : Bor (List ℕ)) × (file.bytes ≡ Some text) �
 abbrev pub IsUnread : File → Bor (List ℕ) → Type 0
 IsUnread file name = (file.bytes ≡ None) × (name ≡ file.name)
 
--- why a file gives no script: it can't be read, or its first bad line, or no memory was found
+-- the file could be read, and the lines of the user and of a first call in it, for whose time memory is sought
+abbrev pub HasCall : File → Type 0
+HasCall file = (text : Bor (List ℕ)) × (file.bytes ≡ Some text) × IsTrue (has_call (script_of text.now))
+
+-- why a file gives no script: it can't be read, or its first bad line, or no memory was found for the time of a call
 abbrev pub IsNoScript : File → PlayRefusal → Type 0
 IsNoScript file (CannotRead name) = IsUnread file name
 IsNoScript file (BadLine number name) = HasBadLine file number × (name ≡ file.name)
 IsNoScript file (Start refusal) = ⊥
 IsNoScript file (NoSession refusal) = ⊥
-IsNoScript file OutOfMemory = IsSome file.bytes
+IsNoScript file OutOfMemory = HasCall file
 IsNoScript file NotWritten = ⊥
 
 -- a service starts on the volume of these sizes, which lies in this range of the image
@@ -59,7 +63,7 @@ IsUnplayed image script setup supply (Start refusal) =
 IsUnplayed image script setup supply (NoSession refusal) =
     ((bytes : Bor (List ℕ)) × (g : Geometry) × (range : ℕ × ℕ) × IsStarted image setup supply bytes g range)
     × ((calls : ℕ × ℕ × List ℕ) × IsScript script calls)
-IsUnplayed image script setup supply OutOfMemory = IsSome image.bytes × IsSome script.bytes
+IsUnplayed image script setup supply OutOfMemory = IsSome image.bytes × HasCall script
 IsUnplayed image script setup supply NotWritten = ⊥
 
 -- the script was played, and of the session's text this went out

@@ -14,7 +14,7 @@ use serve::session::Session;
 use serve::start::Program;
 use std::alloc::{AllocError, Global};
 use std::sync::Wait;
-use tree::{Outcome, Reply};
+use tree::{Call, Outcome, Reply};
 
 /// What came of a script's calls.
 #[derive(Drop)]
@@ -80,7 +80,7 @@ fn call_unless<N: Room, R: Wait + Copy, L: Recorder<N>>(
     if cut {
         Outcome::Cut
     } else {
-        session.stat_root(now)
+        session.call(now, &Call::Stat { path: b"/" })
     }
 }
 

@@ -11,6 +11,7 @@ use crate::output::{OutputRefusal, write_session, write_text};
 use crate::script::{Script, ScriptRefusal, read_script};
 use inline::local::LocalDriver;
 use policy::Setup;
+use serve::gate::Open;
 use serve::refusal::SessionRefusal;
 use serve::start::serve;
 use startup::StartRefusal;
@@ -61,9 +62,9 @@ pub enum PlayRefusal<'n> {
     BadLine(u64, &'n str),
     /// No service starts on this image.
     Start(StartRefusal),
-    /// The service makes no session.
+    /// The service makes no session, or no memory was found for its answers.
     NoSession(SessionRefusal),
-    /// No memory was found.
+    /// No memory was found for the script or for the text of an answer.
     OutOfMemory,
     /// Standard output refused bytes; those before them went out.
     NotWritten,
@@ -160,7 +161,15 @@ fn play_session<'n, R: Wait + Copy, D: LocalDriver>(
 {
     let image = readable(image)?;
     let script = read(alloc, script)?;
-    match serve(alloc, rt, image, setup, supply, Player { alloc, script }) {
+    match serve(
+        alloc,
+        rt,
+        image,
+        setup,
+        supply,
+        Open,
+        Player { alloc, script },
+    ) {
         Ok(Ok(played)) => Ok(played),
         Ok(Err(refusal)) => Err(PlayRefusal::NoSession(refusal)),
         Err(refusal) => Err(PlayRefusal::Start(refusal)),

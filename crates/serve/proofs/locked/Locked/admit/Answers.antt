@@ -1,4 +1,3 @@
-use Rattle.std.proofs.Common.{sym}
 use Rattle.serve.specs.Server.{line_of, serving, guarantee_of}
 use Rattle.serve.proofs.HeldLaws.{held_same, admitted_good}
 use Rattle.serve.proofs.locked.Locked.admit.Goals as goal
