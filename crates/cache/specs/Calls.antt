@@ -184,6 +184,14 @@ pub record IsStuck (c : Caching) : Type 0 where
 abbrev pub with_cache_link : {L : Type 0} → Cache L → L → Cache L
 with_cache_link cache link = record cache { transfers = with_link cache.transfers link }
 
+-- a flush that is wanted stays so
+abbrev pub StaysWanted : Bool → Bool → Type 0
+StaysWanted old new = old ≡ true → new ≡ true
+
+-- a flush is wanted if this is so, and else as before
+abbrev pub IsWantedFor : Type 0 → Bool → Bool → Type 0
+IsWantedFor IsSo old new = (IsSo → new ≡ true) × ((IsSo → ⊥) → new ≡ old)
+
 -- a cache for which no flush is wanted
 abbrev pub without_flush : {L : Type 0} → Cache L → Cache L
 without_flush cache = record cache { flush = false }

@@ -58,7 +58,7 @@ impl<L: Link> Cache<L> {
     ghost use Rattle.cache.specs.Slots.{held, is_dirty_slot, is_unclean_slot};
     ghost use Rattle.cache.specs.Edits.{AllClean, SomeUnclean, IsIssued, IssuesLowest, IsWritten, IsSlotAt, IsFreeAt, IsAt, Leaves, AllStay, StayBut, IsChangedAt};
     ghost use Rattle.cache.specs.Frames.{frames_of, view, with_bytes};
-    ghost use Rattle.cache.specs.Calls.{caching, IsReady, IsLive, IsWhyCut, IsFrame, IsMade, IsStuck, PostsAlone, Runs, Keeps, HandsOver, Blanks, Rewrites, forgotten, with_cache_link, without_flush};
+    ghost use Rattle.cache.specs.Calls.{caching, IsReady, IsLive, IsWhyCut, IsFrame, IsMade, IsStuck, PostsAlone, Runs, Keeps, HandsOver, Blanks, Rewrites, forgotten, with_cache_link, without_flush, StaysWanted, IsWantedFor};
     ghost use Rattle.cache.specs.contracts.cache.Cache.{the_row};
     ghost use Rattle.cache.specs.declared.slots.Frame.{Frame as FrameValue};
     ghost use Rattle.cache.specs.declared.slots.Slot.{Slot};
@@ -154,6 +154,7 @@ impl<L: Link> Cache<L> {
         ensures shape { self.new.shape ≡ self.old.shape }
         ensures ended { self.new.ended ≡ self.old.ended }
         ensures stay { AllStay self.old.slots self.new.slots }
+        ensures flush { self.new.flush ≡ self.old.flush }
     {
         if let Some(at) = self.slots.find_ticket(ticket) {
             let state = self.slots.get(at).state;
@@ -169,6 +170,8 @@ impl<L: Link> Cache<L> {
         ensures shape { self.new.shape ≡ self.old.shape }
         ensures ended { self.new.ended ≡ self.old.ended }
         ensures stay { AllStay self.old.slots self.new.slots }
+        ensures wanted { IsWantedFor (settled ≡ Settled.Flush) self.old.flush self.new.flush }
+        ensures flush { StaysWanted self.old.flush self.new.flush }
     {
         match settled {
             Settled::Nothing => Took::Nothing,
@@ -198,6 +201,7 @@ impl<L: Link> Cache<L> {
         ensures stay { AllStay self.old.slots self.new.slots }
         ensures cut { IfErr result (λ cut. IsWhyCut (caching L.history L.truth L.room L.budget_left self.new) cut) }
         ensures refused { OnErr result (self.new ≡ self.old) }
+        ensures flush { StaysWanted self.old.flush self.new.flush }
     {
         self.live()?;
         let settled = self.transfers.step();
@@ -217,6 +221,7 @@ impl<L: Link> Cache<L> {
         ensures others { StayBut at self.old.slots self.new.slots }
         ensures issued { MatchBool result (IsIssued self.old.slots.items.items at (caching L.history L.truth L.room L.budget_left self.new).held) ((caching L.history L.truth L.room L.budget_left self.new).held ≡ (caching L.history L.truth L.room L.budget_left self.old).held) }
         ensures posts { PostsAlone (caching L.history L.truth L.room L.budget_left self.old) (caching L.history L.truth L.room L.budget_left self.new) }
+        ensures flush { self.new.flush ≡ self.old.flush }
     {
         let slot = self.slots.get(at);
         let block = match slot.block {
@@ -243,6 +248,7 @@ impl<L: Link> Cache<L> {
         ensures left { messages_left (caching L.history L.truth L.room L.budget_left self.new) ≤ messages_left (caching L.history L.truth L.room L.budget_left self.old) }
         ensures leaves { Leaves self.old.slots.items.items self.new.slots.items.items }
         ensures others { StayBut at self.old.slots self.new.slots }
+        ensures flush { self.new.flush ≡ self.old.flush }
     {
         if self.slots.get(at).is_dirty() {
             self.issue(at);
@@ -258,6 +264,7 @@ impl<L: Link> Cache<L> {
         ensures others { StayBut at self.old.slots self.new.slots }
         ensures clean { OnOk result (IsSlotAt self.new.slots.items.items at (λ s. not (is_unclean_slot s))) }
         ensures cut { IfErr result (λ cut. IsWhyCut (caching L.history L.truth L.room L.budget_left self.new) cut) }
+        ensures flush { StaysWanted self.old.flush self.new.flush }
     {
         'tries: loop {
             if !self.slots.get(at).is_unclean() {
@@ -277,6 +284,7 @@ impl<L: Link> Cache<L> {
         ensures made { MakesRoom result self.old.slots self.new.slots }
         ensures none { (b : ℕ) → held self.old.slots.items.items b ≡ None → held self.new.slots.items.items b ≡ None }
         ensures cut { IfErr result (λ cut. IsWhyCut (caching L.history L.truth L.room L.budget_left self.new) cut) }
+        ensures flush { StaysWanted self.old.flush self.new.flush }
     {
         let at = self.slots.victim();
         self.clean(at)?;
@@ -293,6 +301,7 @@ impl<L: Link> Cache<L> {
         ensures left { messages_left (caching L.history L.truth L.room L.budget_left self.new) ≤ messages_left (caching L.history L.truth L.room L.budget_left self.old) }
         ensures slots { self.new.slots ≡ self.old.slots }
         ensures reading { IfSome result (λ r. (r.block ≡ block) × IsReadAt (pending_of (caching L.history L.truth L.room L.budget_left self.new).table.pending) r.ticket (block * (caching L.history L.truth L.room L.budget_left self.old).size) (caching L.history L.truth L.room L.budget_left self.old).size) }
+        ensures flush { self.new.flush ≡ self.old.flush }
     {
         let ask = self.shape.read(block);
         match self.transfers.begin(&ask) {
@@ -309,6 +318,7 @@ impl<L: Link> Cache<L> {
         ensures stay { AllStay self.old.slots self.new.slots }
         ensures reading { IfOk result (λ r. (r.block ≡ block) × IsReadAt (pending_of (caching L.history L.truth L.room L.budget_left self.new).table.pending) r.ticket (block * (caching L.history L.truth L.room L.budget_left self.new).size) (caching L.history L.truth L.room L.budget_left self.new).size) }
         ensures cut { IfErr result (λ cut. IsWhyCut (caching L.history L.truth L.room L.budget_left self.new) cut) }
+        ensures flush { StaysWanted self.old.flush self.new.flush }
     {
         'tries: loop {
             self.live()?;
@@ -328,6 +338,7 @@ impl<L: Link> Cache<L> {
         ensures leaves { Leaves self.old.slots.items.items self.new.slots.items.items }
         ensures stay { AllStay self.old.slots self.new.slots }
         ensures cut { IfErr result (λ cut. IsWhyCut (caching L.history L.truth L.room L.budget_left self.new) cut) }
+        ensures flush { StaysWanted self.old.flush self.new.flush }
     {
         'messages: loop {
             let Took::Read(settled, bytes) = self.take()? else {
@@ -346,6 +357,7 @@ impl<L: Link> Cache<L> {
         ensures leaves { Leaves self.old.slots.items.items self.new.slots.items.items }
         ensures stay { AllStay self.old.slots self.new.slots }
         ensures cut { IfErr result (λ cut. IsWhyCut (caching L.history L.truth L.room L.budget_left self.new) cut) }
+        ensures flush { StaysWanted self.old.flush self.new.flush }
     {
         let reading = self.begin_read(block)?;
         self.wait(reading)
@@ -359,6 +371,7 @@ impl<L: Link> Cache<L> {
         ensures hit { (s : Slot) → held self.old.slots.items.items block ≡ Some s → Hits result self.old self.new }
         ensures miss { held self.old.slots.items.items block ≡ None → Misses result self.old self.new }
         ensures cut { IfErr result (λ cut. IsWhyCut (caching L.history L.truth L.room L.budget_left self.new) cut) }
+        ensures flush { StaysWanted self.old.flush self.new.flush }
     {
         if let Some(at) = self.slots.find(block) {
             self.slots.touch(at);
@@ -378,6 +391,7 @@ impl<L: Link> Cache<L> {
         ensures hit { (s : Slot) → held self.old.slots.items.items block ≡ Some s → BlanksFrame result self.old self.new }
         ensures miss { held self.old.slots.items.items block ≡ None → Misses result self.old self.new }
         ensures cut { IfErr result (λ cut. IsWhyCut (caching L.history L.truth L.room L.budget_left self.new) cut) }
+        ensures flush { StaysWanted self.old.flush self.new.flush }
     {
         if let Some(at) = self.slots.find(block) {
             self.slots.blank(at);
@@ -415,6 +429,7 @@ impl<L: Link> Cache<L> {
         requires ready { IsReady (caching L.history L.truth L.room L.budget_left self.old) }
         ensures keeps { Keeps (caching L.history L.truth L.room L.budget_left self.old) (caching L.history L.truth L.room L.budget_left self.new) }
         ensures held { (caching L.history L.truth L.room L.budget_left self.new).held ≡ forgotten block (caching L.history L.truth L.room L.budget_left self.old).held }
+        ensures rest { self.new ≡ record self.old { slots = self.new.slots } }
     {
         if let Some(at) = self.slots.find(block) {
             if self.slots.get(at).state.is_clean() {
@@ -434,6 +449,7 @@ impl<L: Link> Cache<L> {
         ensures busy { OnTrue result (IsBusy (pending_of (caching L.history L.truth L.room L.budget_left self.new).table.pending)) }
         ensures stuck { OnFalse result (IsLive (caching L.history L.truth L.room L.budget_left self.new) → IsStuck (caching L.history L.truth L.room L.budget_left self.new)) }
         ensures frames { (f : FrameValue) → IsFrame self.old f → IsFrame self.new f }
+        ensures flush { self.new.flush ≡ self.old.flush }
     {
         if self.live().is_err() {
             return false;
@@ -462,6 +478,7 @@ impl<L: Link> Cache<L> {
         requires spare { self.old.ended ≡ false → (caching L.history L.truth L.room L.budget_left self.old).table.ids + (caching L.history L.truth L.room L.budget_left self.old).budget + 17 < 2 ^ 60 + length (caching L.history L.truth L.room L.budget_left self.old).table.pending }
         requires room { room_needed message ≤ (caching L.history L.truth L.room L.budget_left self.old).room }
         ensures hands_over { HandsOver message (caching L.history L.truth L.room L.budget_left self.old) (caching L.history L.truth L.room L.budget_left self.new) }
+        ensures wanted { IsWantedFor (message ≡ Incoming.Flush) self.old.flush self.new.flush }
     {
         let settled = self.transfers.absorb(message);
         self.settle(settled);

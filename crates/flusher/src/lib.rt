@@ -2,7 +2,7 @@
 #![tactic(auto)]
 
 ghost use Rattle.std.specs.Prelude.{◌≡◌, ◌≤◌, None, IfErr, OnOk};
-ghost use Rattle.cache.specs.Calls.{caching, IsReady, IsLive, IsStuck, IsWhyCut, IsFrame, PostsAlone, Runs, Keeps};
+ghost use Rattle.cache.specs.Calls.{caching, IsReady, IsLive, IsStuck, IsWhyCut, IsFrame, PostsAlone, Runs, Keeps, StaysWanted};
 ghost use Rattle.cache.specs.Takes.{messages_left};
 ghost use Rattle.cache.specs.declared.slots.Frame.{Frame};
 ghost use Rattle.flusher.specs.Flushing.{WritesLowest, IsIdle, Syncs};
@@ -14,7 +14,7 @@ use reissue::Link;
 const AT_ONCE: usize = 16;
 
 /// Begins the writes of dirty frames, sixteen at most, the lowest block first. It waits for none: no message is taken. It stops
-/// early where none is dirty, or the next write was refused since too many requests are pending.
+/// early where none is dirty, or the next write was refused since too many requests are pending. Whether a Flush is wanted stays as it is.
 pub fn flush_some<L: Link>(cache: &mut Cache<L>)
     requires ready { IsReady (caching L.history L.truth L.room L.budget_left cache.old) }
     ensures keeps { Keeps (caching L.history L.truth L.room L.budget_left cache.old) (caching L.history L.truth L.room L.budget_left cache.new) }
@@ -23,6 +23,7 @@ pub fn flush_some<L: Link>(cache: &mut Cache<L>)
     ensures left { messages_left (caching L.history L.truth L.room L.budget_left cache.new) ≤ messages_left (caching L.history L.truth L.room L.budget_left cache.old) }
     ensures stuck { IsLive (caching L.history L.truth L.room L.budget_left cache.new) → IsStuck (caching L.history L.truth L.room L.budget_left cache.new) }
     ensures frames { (f : Frame) → IsFrame cache.old f → IsFrame cache.new f }
+    ensures flush { cache.new.flush ≡ cache.old.flush }
 {
     'writes: for _ in 0..AT_ONCE {
         if !cache.write_lowest() {
@@ -32,13 +33,14 @@ pub fn flush_some<L: Link>(cache: &mut Cache<L>)
 }
 
 /// Writes all dirty frames, the lowest block first, until no frame is dirty and no write is open. Then no place of the disk is unsure,
-/// and the disk is what would be read back.
+/// and the disk is what would be read back. A Flush that is wanted stays so: `take_flush` counts it as done.
 pub fn sync<L: Link>(cache: &mut Cache<L>) -> Result<(), Cut>
     requires ready { IsReady (caching L.history L.truth L.room L.budget_left cache.old) }
     ensures runs { Runs None (caching L.history L.truth L.room L.budget_left cache.old) (caching L.history L.truth L.room L.budget_left cache.new) (λ w v. Syncs result (caching L.history L.truth L.room L.budget_left cache.old) (caching L.history L.truth L.room L.budget_left cache.new) w v) }
     ensures idle { OnOk result (IsIdle (caching L.history L.truth L.room L.budget_left cache.new)) }
     ensures cut { IfErr result (λ cut. IsWhyCut (caching L.history L.truth L.room L.budget_left cache.new) cut) }
     ensures frames { (f : Frame) → IsFrame cache.old f → IsFrame cache.new f }
+    ensures flush { StaysWanted cache.old.flush cache.new.flush }
 {
     'messages: loop {
         flush_some(cache);

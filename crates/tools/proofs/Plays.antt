@@ -7,14 +7,13 @@ use Rattle.tree.specs.declared.Call.TheVariants.{Stat}
 use Rattle.tree.specs.declared.Outcome.{Outcome}
 use Rattle.tree.specs.declared.Outcome.TheVariants.{Reply, Cut}
 use Rattle.tree.specs.Tree.{Tree}
-use Rattle.tree.specs.Answers.{answer_of}
-use Rattle.marks.specs.Marks.{Mark, Took}
+use Rattle.marks.specs.Marks.{Mark}
 use Rattle.marks.specs.Opening.{Opening, contents_at}
 use Rattle.legal.specs.Legal.{IsAtFirst}
-use Rattle.legal.specs.Session.{SessionState, SessionCallKeeps, IsMadeFor, caller_of, EndsWith}
+use Rattle.legal.specs.Session.{SessionState, SessionCallKeeps, IsMadeFor, caller_of}
 use Rattle.serve.specs.Held.{root_path, IsGood}
 use Rattle.serve.specs.Server.{outcome_of}
-use Rattle.tools.specs.Made.{is_eio, calls_made, cuts, some_cut, all_cut, cuts_last, IsOwn, IsSame, Plays, Calls, IsAnswered}
+use Rattle.tools.specs.Made.{is_eio, calls_made, cuts, some_cut, all_cut, cuts_last, IsSame, Plays, Calls, IsAnswered}
 
 -- one call more
 calls_made-more : (who : Who) (times : List ℕ) (outcomes : List Outcome) (now : ℕ) (outcome : Outcome) (older : List Mark)

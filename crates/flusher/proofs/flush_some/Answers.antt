@@ -1,4 +1,4 @@
-use Rattle.std.proofs.Common.{◌≡◌, ℕ, suc, ◌+◌, refl, sym, subst, arith, Option}
+use Rattle.std.proofs.Common.{◌≡◌, ℕ, suc, ◌+◌, refl, sym, subst, ◌∙◌, arith, Option}
 use mathlib.Core.Logic.{inr}
 use Rattle.cache.specs.declared.slots.Slot.{Slot}
 use Rattle.cache.specs.Calls.{caching}
@@ -16,6 +16,7 @@ writes-init g c = record {
   busy = λ lt. absurd (omega (arith, lt));
   frames = λ f is. is;
   within = omega arith;
+  flush = refl;
 }
 
 pub write_lowest-requires : goal.write_lowest-requires
@@ -56,6 +57,7 @@ writes-preserved g c =
       busy = λ lt. e.busy;
       frames = λ f is. e.frames f (i.frames f is);
       within = omega (arith, c.writes-test.true);
+      flush = e.flush ∙ i.flush;
     }
 
 pub returns-clause-keeps : goal.returns-clause-keeps

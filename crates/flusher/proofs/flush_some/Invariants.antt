@@ -1,4 +1,4 @@
-use Rattle.std.proofs.Common.{◌<◌, ◌≤◌}
+use Rattle.std.proofs.Common.{◌≡◌, ◌<◌, ◌≤◌}
 use Rattle.reissue.specs.Moves.{IsBusy}
 use Rattle.reissue.specs.Entries.{pending_of}
 use Rattle.cache.specs.declared.slots.Frame.{Frame}
@@ -16,4 +16,5 @@ invariant-writes g l = record {
   busy : 0 < l.counter → IsBusy (pending_of (caching g.L.Link.history g.L.Link.truth g.L.Link.room g.L.Link.budget_left l.cache).table.pending);
   frames : (f : Frame) → IsFrame l.initial.cache f → IsFrame l.cache f;
   within : l.counter ≤ 16;
+  flush : l.cache.flush ≡ l.initial.cache.flush;
 }

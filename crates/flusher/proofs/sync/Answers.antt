@@ -1,11 +1,11 @@
-use Rattle.std.proofs.Common.{arith}
+use Rattle.std.proofs.Common.{◌∙◌, arith}
 use Rattle.cache.specs.Calls.{caching}
 use Rattle.cache.proofs.Placing.{keeps_none, keeps_then, keeps_took}
 use Rattle.flusher.proofs.Flushing.{busy_unclean, idle, syncs_ok, syncs_cut}
 use Rattle.flusher.proofs.sync.Goals as goal
 
 pub messages-init : goal.messages-init
-messages-init g c = record { keeps = keeps_none _ c.requires.ready; frames = λ f is. is }
+messages-init g c = record { keeps = keeps_none _ c.requires.ready; frames = λ f is. is; flush = λ w. w }
 
 pub returns-then-is_clean-clause-runs : goal.returns-then-is_clean-clause-runs
 returns-then-is_clean-clause-runs g c =
@@ -23,6 +23,7 @@ pub messages-preserved : goal.messages-preserved
 messages-preserved g c = record {
   keeps = keeps_took _ _ _ _ (keeps_then _ _ _ c.messages.invariant.keeps c.flush_some.ensures.keeps) c.take.ensures.runs;
   frames = λ f is. c.take.ensures.leaves.at f.at f.block (c.flush_some.ensures.frames f (c.messages.invariant.frames f is));
+  flush = λ w. c.take.ensures.flush (c.flush_some.ensures.flush ∙ c.messages.invariant.flush w);
 }
 
 pub returns-in_err-take-clause-runs : goal.returns-in_err-take-clause-runs

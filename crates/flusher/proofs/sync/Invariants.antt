@@ -1,5 +1,5 @@
 use Rattle.cache.specs.declared.slots.Frame.{Frame}
-use Rattle.cache.specs.Calls.{caching, Keeps, IsFrame}
+use Rattle.cache.specs.Calls.{caching, Keeps, IsFrame, StaysWanted}
 use Rattle.cache.specs.Takes.{messages_left}
 use Rattle.flusher.proofs.sync.Given as goal
 
@@ -7,6 +7,7 @@ abbrev pub invariant-messages : goal.invariant-messages
 invariant-messages g l = record {
   keeps : Keeps (caching g.L.Link.history g.L.Link.truth g.L.Link.room g.L.Link.budget_left l.initial.cache) (caching g.L.Link.history g.L.Link.truth g.L.Link.room g.L.Link.budget_left l.cache);
   frames : (f : Frame) → IsFrame l.initial.cache f → IsFrame l.cache f;
+  flush : StaysWanted l.initial.cache.flush l.cache.flush;
 }
 
 abbrev pub decreases-messages : goal.decreases-messages

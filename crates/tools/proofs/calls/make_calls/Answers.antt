@@ -1,6 +1,6 @@
-use Rattle.std.proofs.Common.{◌≡◌, ◌+◌, ◌∷◌, [], ◌++◌, ◌∙◌, take, arith, get_or, refl}
+use Rattle.std.proofs.Common.{◌≡◌, ◌+◌, ◌∷◌, [], ◌++◌, ◌∙◌, take, arith, get_or}
 use Rattle.std.proofs.lemmas.Grind.{common_steps}
-use Rattle.tools.proofs.Plays.{plays_none, plays_more, cut_more}
+use Rattle.tools.proofs.Plays.{plays_more, cut_more}
 use Rattle.tools.proofs.calls.make_calls.Goals as goal
 
 pub loop-now-preserved : goal.loop-now-preserved

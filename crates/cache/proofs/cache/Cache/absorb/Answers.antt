@@ -3,7 +3,7 @@ use Rattle.reissue.specs.declared.transfers.Transfers.{Transfers}
 use Rattle.reissue.specs.Transfers.{table_of, link_of}
 use Rattle.reissue.specs.Posts.{HasRoom}
 use Rattle.cache.specs.Calls.{Caching, caching, caching_of, HandsOver}
-use Rattle.cache.proofs.Taking.{absorbs_one, room_after}
+use Rattle.cache.proofs.Taking.{absorbs_one, room_after, wanted_for}
 use Rattle.cache.proofs.cache.Cache.absorb.Goals as goal
 
 pub returns : goal.returns
@@ -26,4 +26,5 @@ returns g c =
           (λ alive. room_after c.args.message (HasRoom (table_of c.absorb-settled.new.self) (r (link_of c.absorb-settled.new.self))) x.room
           (λ end. subst (λ (u : Transfers _). HasRoom (table_of u) (r (link_of u))) (sym (x.ended end)) (c.requires.ready.room alive))) x.closed
           (λ end. ap (λ (u : Transfers _). h (link_of u)) (x.ended end)));
+      wanted = wanted_for c.args.message c.absorb-settled.result _ _ x.answer e.wanted;
     }

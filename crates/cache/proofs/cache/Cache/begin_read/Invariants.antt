@@ -1,4 +1,4 @@
-use Rattle.cache.specs.Calls.{caching, Keeps}
+use Rattle.cache.specs.Calls.{caching, Keeps, StaysWanted}
 use Rattle.cache.specs.Edits.{Leaves, AllStay}
 use Rattle.cache.specs.Takes.{messages_left}
 use Rattle.cache.proofs.cache.Cache.begin_read.Given as goal
@@ -9,6 +9,7 @@ invariant-tries g l = record {
       (caching g.L.Link.history g.L.Link.truth g.L.Link.room g.L.Link.budget_left l.self);
   leaves : Leaves l.fn.self.slots.items.items l.self.slots.items.items;
   stay : AllStay l.fn.self.slots l.self.slots;
+  flush : StaysWanted l.fn.self.flush l.self.flush;
 }
 
 abbrev pub decreases-tries : goal.decreases-tries
