@@ -11,6 +11,7 @@ mod Taking
 pub mod Beginning
 pub mod Placing
 mod Fetching
+pub mod Flushes
 mod Order
 mod Choosing
 pub mod ReadingBack

@@ -1,5 +1,5 @@
 -- What a message taken does to the frames.
-use Rattle.std.proofs.Common.{◌≡◌, ◌≢◌, ℕ, ◌+◌, ◌^◌, ◌<◌, ◌≤◌, List, length, refl, sym, ap, subst, ◌∙◌, arith, Bool, true, false, Option, Some, None, Result, Ok, Err, IsErr}
+use Rattle.std.proofs.Common.{◌≡◌, ◌≢◌, ℕ, ◌+◌, ◌^◌, ◌<◌, ◌≤◌, List, length, refl, sym, ap, subst, ◌∙◌, arith, true, false, Option, Some, None, Result, Ok, Err, IsErr}
 use Rattle.std.specs.Prelude.{slice_index}
 use Rattle.std.proofs.lemmas.Bool.{eq-eqb}
 use Rattle.reissue.specs.declared.ask.Settled.{Settled}
@@ -9,7 +9,7 @@ use Rattle.reissue.specs.Entries.{pending_of, AllOfMinor}
 use Rattle.message.specs.declared.Incoming.{Incoming}
 use Rattle.message.specs.declared.Incoming.TheVariants as incoming
 use Rattle.reissue.specs.Posts.{HasRoom, is_message}
-use Rattle.reissue.specs.Calls.{Steps, Absorbs, goes_on, IsAnswerTo, IsOfReply}
+use Rattle.reissue.specs.Calls.{Steps, Absorbs, goes_on}
 use Rattle.reissue.proofs.Maps.{put-other}
 use Rattle.cache.specs.declared.slots.Slot.{Slot}
 use Rattle.cache.specs.declared.cache.Took.{Took}
@@ -17,7 +17,7 @@ use Rattle.cache.specs.declared.refusals.Cut.{Cut}
 use Rattle.cache.specs.Slots.{held}
 use Rattle.cache.specs.Edits.{IsWritten, IsWrittenSlot, Leaves}
 use Rattle.cache.specs.Frames.{Tied, CacheAgrees, view}
-use Rattle.cache.specs.Calls.{Caching, IsReady, Serves, Runs, HandsOver, IsWantedFor}
+use Rattle.cache.specs.Calls.{Caching, IsReady, Serves, Runs, HandsOver}
 use Rattle.marks.specs.Told.{took_nothing}
 use Rattle.marks.specs.Acts.{Act, told_of}
 use Rattle.cache.proofs.Handing.{Done, done_on}
@@ -226,16 +226,3 @@ room_after (incoming.Started e) P f g = f refl
 room_after incoming.GaveUp P f g = f refl
 room_after incoming.Flush P f g = f refl
 room_after incoming.End P f g = g refl
-
--- a flush is wanted for a message as for what it came to
-pub wanted_for : (m : Incoming) (r : Settled) (old new : Bool) → IsAnswerTo m r → IsWantedFor (r ≡ settled.Flush) old new
-    → IsWantedFor (m ≡ incoming.Flush) old new
-wanted_for (incoming.Reply a) r old new answer w =
-    ((λ e. absurd (let k = e in cc)), (λ _. w.1 (λ e. subst (λ (x : Settled). IsOfReply x) e answer)))
-wanted_for (incoming.Started e) r old new answer w =
-    ((λ k. absurd (let z = k in cc)), (λ _. w.1 (λ k. absurd (let z : settled.Nothing ≡ settled.Flush = sym answer ∙ k in cc))))
-wanted_for incoming.GaveUp r old new answer w =
-    ((λ k. absurd (let z = k in cc)), (λ _. w.1 (λ k. absurd (let z : settled.GaveUp ≡ settled.Flush = sym answer ∙ k in cc))))
-wanted_for incoming.Flush r old new answer w = ((λ _. w.0 answer), (λ no. absurd (no refl)))
-wanted_for incoming.End r old new answer w =
-    ((λ k. absurd (let z = k in cc)), (λ _. w.1 (λ k. absurd (let z : settled.End ≡ settled.Flush = sym answer ∙ k in cc))))

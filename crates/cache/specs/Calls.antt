@@ -1,10 +1,11 @@
 -- What each call of a cache does at its link, to the disk, and to what would be read back.
-use Rattle.std.specs.Prelude.{◌≡◌, ◌⊎◌, ℕ, ◌+◌, ◌^◌, ◌<◌, ◌≤◌, List, [], ◌∷◌, ◌++◌, length, Bool, true, false, Option, Some, None, Result, Ok, Err, if◌then◌else◌}
+use Rattle.std.specs.Prelude.{◌≡◌, ◌⊎◌, ℕ, ◌+◌, ◌^◌, ◌<◌, ◌≤◌, List, [], ◌∷◌, ◌++◌, length, Bool, true, false, ◌||◌, zero, suc, Option, Some, None, Result, Ok, Err, if◌then◌else◌}
 use Rattle.message.specs.declared.Incoming.{Incoming}
 use Rattle.message.specs.declared.Incoming.TheVariants.{End}
+use Rattle.message.specs.declared.Incoming.TheVariants as incoming
 use Rattle.marks.specs.Marks.{Mark}
 use Rattle.marks.specs.Disk.{Contents, HasTrueReplies}
-use Rattle.marks.specs.Told.{Told, grown, received, took_end, took_nothing}
+use Rattle.marks.specs.Told.{Told, Received, grown, received, took_end, took_nothing}
 use Rattle.marks.specs.Acts.{Act, Absorbed, told_of, has_absorbed}
 use Rattle.marks.specs.Opening.{Opening, contents_at}
 use Rattle.reissue.specs.declared.table.Table.{Table}
@@ -184,9 +185,22 @@ pub record IsStuck (c : Caching) : Type 0 where
 abbrev pub with_cache_link : {L : Type 0} → Cache L → L → Cache L
 with_cache_link cache link = record cache { transfers = with_link cache.transfers link }
 
--- a flush that is wanted stays so
-abbrev pub StaysWanted : Bool → Bool → Type 0
-StaysWanted old new = old ≡ true → new ≡ true
+-- how many flushes came
+abbrev pub flushes_in : List Told → ℕ
+flushes_in [] = 0
+flushes_in (Received incoming.Flush ∷ told) = flushes_in told + 1
+flushes_in (_ ∷ told) = flushes_in told
+
+-- whether these are some
+abbrev pub some_of : ℕ → Bool
+some_of zero = false
+some_of (suc n) = true
+
+-- A flush is wanted where one was wanted before, or has come since.
+pub record FlushFollows (was : Bool) (before : List Told) (is : Bool) (after : List Told) : Type 0 where
+  pub since : ℕ
+  pub counted : flushes_in after ≡ since + flushes_in before
+  pub wanted : is ≡ (was || some_of since)
 
 -- a flush is wanted if this is so, and else as before
 abbrev pub IsWantedFor : Type 0 → Bool → Bool → Type 0

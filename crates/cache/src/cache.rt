@@ -58,7 +58,7 @@ impl<L: Link> Cache<L> {
     ghost use Rattle.cache.specs.Slots.{held, is_dirty_slot, is_unclean_slot};
     ghost use Rattle.cache.specs.Edits.{AllClean, SomeUnclean, IsIssued, IssuesLowest, IsWritten, IsSlotAt, IsFreeAt, IsAt, Leaves, AllStay, StayBut, IsChangedAt};
     ghost use Rattle.cache.specs.Frames.{frames_of, view, with_bytes};
-    ghost use Rattle.cache.specs.Calls.{caching, IsReady, IsLive, IsWhyCut, IsFrame, IsMade, IsStuck, PostsAlone, Runs, Keeps, HandsOver, Blanks, Rewrites, forgotten, with_cache_link, without_flush, StaysWanted, IsWantedFor};
+    ghost use Rattle.cache.specs.Calls.{caching, IsReady, IsLive, IsWhyCut, IsFrame, IsMade, IsStuck, PostsAlone, Runs, Keeps, HandsOver, Blanks, Rewrites, forgotten, with_cache_link, without_flush, FlushFollows, IsWantedFor};
     ghost use Rattle.cache.specs.contracts.cache.Cache.{the_row};
     ghost use Rattle.cache.specs.declared.slots.Frame.{Frame as FrameValue};
     ghost use Rattle.cache.specs.declared.slots.Slot.{Slot};
@@ -171,7 +171,6 @@ impl<L: Link> Cache<L> {
         ensures ended { self.new.ended ≡ self.old.ended }
         ensures stay { AllStay self.old.slots self.new.slots }
         ensures wanted { IsWantedFor (settled ≡ Settled.Flush) self.old.flush self.new.flush }
-        ensures flush { StaysWanted self.old.flush self.new.flush }
     {
         match settled {
             Settled::Nothing => Took::Nothing,
@@ -201,7 +200,7 @@ impl<L: Link> Cache<L> {
         ensures stay { AllStay self.old.slots self.new.slots }
         ensures cut { IfErr result (λ cut. IsWhyCut (caching L.history L.truth L.room L.budget_left self.new) cut) }
         ensures refused { OnErr result (self.new ≡ self.old) }
-        ensures flush { StaysWanted self.old.flush self.new.flush }
+        ensures flush { FlushFollows self.old.flush (caching L.history L.truth L.room L.budget_left self.old).told self.new.flush (caching L.history L.truth L.room L.budget_left self.new).told }
     {
         self.live()?;
         let settled = self.transfers.step();
@@ -248,7 +247,7 @@ impl<L: Link> Cache<L> {
         ensures left { messages_left (caching L.history L.truth L.room L.budget_left self.new) ≤ messages_left (caching L.history L.truth L.room L.budget_left self.old) }
         ensures leaves { Leaves self.old.slots.items.items self.new.slots.items.items }
         ensures others { StayBut at self.old.slots self.new.slots }
-        ensures flush { self.new.flush ≡ self.old.flush }
+        ensures flush { FlushFollows self.old.flush (caching L.history L.truth L.room L.budget_left self.old).told self.new.flush (caching L.history L.truth L.room L.budget_left self.new).told }
     {
         if self.slots.get(at).is_dirty() {
             self.issue(at);
@@ -264,7 +263,7 @@ impl<L: Link> Cache<L> {
         ensures others { StayBut at self.old.slots self.new.slots }
         ensures clean { OnOk result (IsSlotAt self.new.slots.items.items at (λ s. not (is_unclean_slot s))) }
         ensures cut { IfErr result (λ cut. IsWhyCut (caching L.history L.truth L.room L.budget_left self.new) cut) }
-        ensures flush { StaysWanted self.old.flush self.new.flush }
+        ensures flush { FlushFollows self.old.flush (caching L.history L.truth L.room L.budget_left self.old).told self.new.flush (caching L.history L.truth L.room L.budget_left self.new).told }
     {
         'tries: loop {
             if !self.slots.get(at).is_unclean() {
@@ -284,7 +283,7 @@ impl<L: Link> Cache<L> {
         ensures made { MakesRoom result self.old.slots self.new.slots }
         ensures none { (b : ℕ) → held self.old.slots.items.items b ≡ None → held self.new.slots.items.items b ≡ None }
         ensures cut { IfErr result (λ cut. IsWhyCut (caching L.history L.truth L.room L.budget_left self.new) cut) }
-        ensures flush { StaysWanted self.old.flush self.new.flush }
+        ensures flush { FlushFollows self.old.flush (caching L.history L.truth L.room L.budget_left self.old).told self.new.flush (caching L.history L.truth L.room L.budget_left self.new).told }
     {
         let at = self.slots.victim();
         self.clean(at)?;
@@ -301,7 +300,7 @@ impl<L: Link> Cache<L> {
         ensures left { messages_left (caching L.history L.truth L.room L.budget_left self.new) ≤ messages_left (caching L.history L.truth L.room L.budget_left self.old) }
         ensures slots { self.new.slots ≡ self.old.slots }
         ensures reading { IfSome result (λ r. (r.block ≡ block) × IsReadAt (pending_of (caching L.history L.truth L.room L.budget_left self.new).table.pending) r.ticket (block * (caching L.history L.truth L.room L.budget_left self.old).size) (caching L.history L.truth L.room L.budget_left self.old).size) }
-        ensures flush { self.new.flush ≡ self.old.flush }
+        ensures flush { FlushFollows self.old.flush (caching L.history L.truth L.room L.budget_left self.old).told self.new.flush (caching L.history L.truth L.room L.budget_left self.new).told }
     {
         let ask = self.shape.read(block);
         match self.transfers.begin(&ask) {
@@ -318,7 +317,7 @@ impl<L: Link> Cache<L> {
         ensures stay { AllStay self.old.slots self.new.slots }
         ensures reading { IfOk result (λ r. (r.block ≡ block) × IsReadAt (pending_of (caching L.history L.truth L.room L.budget_left self.new).table.pending) r.ticket (block * (caching L.history L.truth L.room L.budget_left self.new).size) (caching L.history L.truth L.room L.budget_left self.new).size) }
         ensures cut { IfErr result (λ cut. IsWhyCut (caching L.history L.truth L.room L.budget_left self.new) cut) }
-        ensures flush { StaysWanted self.old.flush self.new.flush }
+        ensures flush { FlushFollows self.old.flush (caching L.history L.truth L.room L.budget_left self.old).told self.new.flush (caching L.history L.truth L.room L.budget_left self.new).told }
     {
         'tries: loop {
             self.live()?;
@@ -338,7 +337,7 @@ impl<L: Link> Cache<L> {
         ensures leaves { Leaves self.old.slots.items.items self.new.slots.items.items }
         ensures stay { AllStay self.old.slots self.new.slots }
         ensures cut { IfErr result (λ cut. IsWhyCut (caching L.history L.truth L.room L.budget_left self.new) cut) }
-        ensures flush { StaysWanted self.old.flush self.new.flush }
+        ensures flush { FlushFollows self.old.flush (caching L.history L.truth L.room L.budget_left self.old).told self.new.flush (caching L.history L.truth L.room L.budget_left self.new).told }
     {
         'messages: loop {
             let Took::Read(settled, bytes) = self.take()? else {
@@ -357,7 +356,7 @@ impl<L: Link> Cache<L> {
         ensures leaves { Leaves self.old.slots.items.items self.new.slots.items.items }
         ensures stay { AllStay self.old.slots self.new.slots }
         ensures cut { IfErr result (λ cut. IsWhyCut (caching L.history L.truth L.room L.budget_left self.new) cut) }
-        ensures flush { StaysWanted self.old.flush self.new.flush }
+        ensures flush { FlushFollows self.old.flush (caching L.history L.truth L.room L.budget_left self.old).told self.new.flush (caching L.history L.truth L.room L.budget_left self.new).told }
     {
         let reading = self.begin_read(block)?;
         self.wait(reading)
@@ -371,7 +370,7 @@ impl<L: Link> Cache<L> {
         ensures hit { (s : Slot) → held self.old.slots.items.items block ≡ Some s → Hits result self.old self.new }
         ensures miss { held self.old.slots.items.items block ≡ None → Misses result self.old self.new }
         ensures cut { IfErr result (λ cut. IsWhyCut (caching L.history L.truth L.room L.budget_left self.new) cut) }
-        ensures flush { StaysWanted self.old.flush self.new.flush }
+        ensures flush { FlushFollows self.old.flush (caching L.history L.truth L.room L.budget_left self.old).told self.new.flush (caching L.history L.truth L.room L.budget_left self.new).told }
     {
         if let Some(at) = self.slots.find(block) {
             self.slots.touch(at);
@@ -391,7 +390,7 @@ impl<L: Link> Cache<L> {
         ensures hit { (s : Slot) → held self.old.slots.items.items block ≡ Some s → BlanksFrame result self.old self.new }
         ensures miss { held self.old.slots.items.items block ≡ None → Misses result self.old self.new }
         ensures cut { IfErr result (λ cut. IsWhyCut (caching L.history L.truth L.room L.budget_left self.new) cut) }
-        ensures flush { StaysWanted self.old.flush self.new.flush }
+        ensures flush { FlushFollows self.old.flush (caching L.history L.truth L.room L.budget_left self.old).told self.new.flush (caching L.history L.truth L.room L.budget_left self.new).told }
     {
         if let Some(at) = self.slots.find(block) {
             self.slots.blank(at);

@@ -2,7 +2,7 @@
 #![tactic(auto)]
 
 ghost use Rattle.std.specs.Prelude.{◌≡◌, ◌≤◌, None, IfErr, OnOk};
-ghost use Rattle.cache.specs.Calls.{caching, IsReady, IsLive, IsStuck, IsWhyCut, IsFrame, PostsAlone, Runs, Keeps, StaysWanted};
+ghost use Rattle.cache.specs.Calls.{caching, IsReady, IsLive, IsStuck, IsWhyCut, IsFrame, PostsAlone, Runs, Keeps, FlushFollows};
 ghost use Rattle.cache.specs.Takes.{messages_left};
 ghost use Rattle.cache.specs.declared.slots.Frame.{Frame};
 ghost use Rattle.flusher.specs.Flushing.{WritesLowest, IsIdle, Syncs};
@@ -33,14 +33,15 @@ pub fn flush_some<L: Link>(cache: &mut Cache<L>)
 }
 
 /// Writes all dirty frames, the lowest block first, until no frame is dirty and no write is open. Then no place of the disk is unsure,
-/// and the disk is what would be read back. A Flush that is wanted stays so: `take_flush` counts it as done.
+/// and the disk is what would be read back. A Flush is wanted then where one was or has come: `take_flush` counts
+/// it as done.
 pub fn sync<L: Link>(cache: &mut Cache<L>) -> Result<(), Cut>
     requires ready { IsReady (caching L.history L.truth L.room L.budget_left cache.old) }
     ensures runs { Runs None (caching L.history L.truth L.room L.budget_left cache.old) (caching L.history L.truth L.room L.budget_left cache.new) (λ w v. Syncs result (caching L.history L.truth L.room L.budget_left cache.old) (caching L.history L.truth L.room L.budget_left cache.new) w v) }
     ensures idle { OnOk result (IsIdle (caching L.history L.truth L.room L.budget_left cache.new)) }
     ensures cut { IfErr result (λ cut. IsWhyCut (caching L.history L.truth L.room L.budget_left cache.new) cut) }
     ensures frames { (f : Frame) → IsFrame cache.old f → IsFrame cache.new f }
-    ensures flush { StaysWanted cache.old.flush cache.new.flush }
+    ensures flush { FlushFollows cache.old.flush (caching L.history L.truth L.room L.budget_left cache.old).told cache.new.flush (caching L.history L.truth L.room L.budget_left cache.new).told }
 {
     'messages: loop {
         flush_some(cache);

@@ -1,11 +1,12 @@
-use Rattle.std.proofs.Common.{◌∙◌, arith}
+use Rattle.std.proofs.Common.{arith}
 use Rattle.cache.specs.Calls.{caching}
 use Rattle.cache.proofs.Placing.{keeps_none, keeps_then, keeps_took}
 use Rattle.flusher.proofs.Flushing.{busy_unclean, idle, syncs_ok, syncs_cut}
+use Rattle.cache.proofs.Flushes.{follows_none, follows_posts, follows_then}
 use Rattle.flusher.proofs.sync.Goals as goal
 
 pub messages-init : goal.messages-init
-messages-init g c = record { keeps = keeps_none _ c.requires.ready; frames = λ f is. is; flush = λ w. w }
+messages-init g c = record { keeps = keeps_none _ c.requires.ready; frames = λ f is. is; flush = follows_none _ _ }
 
 pub returns-then-is_clean-clause-runs : goal.returns-then-is_clean-clause-runs
 returns-then-is_clean-clause-runs g c =
@@ -23,10 +24,22 @@ pub messages-preserved : goal.messages-preserved
 messages-preserved g c = record {
   keeps = keeps_took _ _ _ _ (keeps_then _ _ _ c.messages.invariant.keeps c.flush_some.ensures.keeps) c.take.ensures.runs;
   frames = λ f is. c.take.ensures.leaves.at f.at f.block (c.flush_some.ensures.frames f (c.messages.invariant.frames f is));
-  flush = λ w. c.take.ensures.flush (c.flush_some.ensures.flush ∙ c.messages.invariant.flush w);
+  flush =
+      let x = c.flush_some.ensures.posts in
+      follows_then _ _ _ _ _ _ (follows_then _ _ _ _ _ _ c.messages.invariant.flush (follows_posts _ _ x.posts _ _ c.flush_some.ensures.flush x.history x.only_posts)) c.take.ensures.flush;
 }
 
 pub returns-in_err-take-clause-runs : goal.returns-in_err-take-clause-runs
 returns-in_err-take-clause-runs g c =
     syncs_cut c.from_residual.result _ _ c.from_residual.ensures.0
     (keeps_took _ _ _ _ (keeps_then _ _ _ c.messages.invariant.keeps c.flush_some.ensures.keeps) c.take.ensures.runs)
+
+pub returns-then-is_clean-clause-flush : goal.returns-then-is_clean-clause-flush
+returns-then-is_clean-clause-flush g c =
+    let x = c.flush_some.ensures.posts in
+    follows_then _ _ _ _ _ _ c.messages.invariant.flush (follows_posts _ _ x.posts _ _ c.flush_some.ensures.flush x.history x.only_posts)
+
+pub returns-in_err-take-clause-flush : goal.returns-in_err-take-clause-flush
+returns-in_err-take-clause-flush g c =
+    let x = c.flush_some.ensures.posts in
+    follows_then _ _ _ _ _ _ (follows_then _ _ _ _ _ _ c.messages.invariant.flush (follows_posts _ _ x.posts _ _ c.flush_some.ensures.flush x.history x.only_posts)) c.take.ensures.flush

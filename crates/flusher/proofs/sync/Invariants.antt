@@ -1,5 +1,6 @@
+use Rattle.reissue.specs.Transfers.{link_of}
 use Rattle.cache.specs.declared.slots.Frame.{Frame}
-use Rattle.cache.specs.Calls.{caching, Keeps, IsFrame, StaysWanted}
+use Rattle.cache.specs.Calls.{caching, Keeps, IsFrame, FlushFollows}
 use Rattle.cache.specs.Takes.{messages_left}
 use Rattle.flusher.proofs.sync.Given as goal
 
@@ -7,7 +8,7 @@ abbrev pub invariant-messages : goal.invariant-messages
 invariant-messages g l = record {
   keeps : Keeps (caching g.L.Link.history g.L.Link.truth g.L.Link.room g.L.Link.budget_left l.initial.cache) (caching g.L.Link.history g.L.Link.truth g.L.Link.room g.L.Link.budget_left l.cache);
   frames : (f : Frame) → IsFrame l.initial.cache f → IsFrame l.cache f;
-  flush : StaysWanted l.initial.cache.flush l.cache.flush;
+  flush : FlushFollows l.initial.cache.flush (g.L.Link.history (link_of l.initial.cache.transfers)) l.cache.flush (g.L.Link.history (link_of l.cache.transfers));
 }
 
 abbrev pub decreases-messages : goal.decreases-messages

@@ -3,7 +3,8 @@ use Rattle.reissue.specs.declared.transfers.Transfers.{Transfers}
 use Rattle.reissue.specs.Transfers.{table_of, link_of}
 use Rattle.reissue.specs.Posts.{HasRoom}
 use Rattle.cache.specs.Calls.{Caching, caching, caching_of, HandsOver}
-use Rattle.cache.proofs.Taking.{absorbs_one, room_after, wanted_for}
+use Rattle.cache.proofs.Flushes.{wanted_for}
+use Rattle.cache.proofs.Taking.{absorbs_one, room_after}
 use Rattle.cache.proofs.cache.Cache.absorb.Goals as goal
 
 pub returns : goal.returns

@@ -1,13 +1,14 @@
-use Rattle.std.proofs.Common.{sym, subst, ◌∙◌}
+use Rattle.std.proofs.Common.{sym, subst}
 use Rattle.cache.specs.declared.slots.Slots.{Slots}
 use Rattle.cache.specs.Edits.{Leaves, AllStay}
 use Rattle.cache.proofs.Edits.{leaves_none, leaves_then}
 use Rattle.cache.proofs.Placing.{keeps_none, keeps_then, keeps_took}
 use Rattle.cache.proofs.Staying.{all_none, all_then}
+use Rattle.cache.proofs.Flushes.{follows_none, follows_then}
 use Rattle.cache.proofs.cache.Cache.begin_read.Goals as goal
 
 pub tries-init : goal.tries-init
-tries-init g c = record { keeps = keeps_none _ c.requires.ready; leaves = leaves_none _; stay = all_none _; flush = λ w. w }
+tries-init g c = record { keeps = keeps_none _ c.requires.ready; leaves = leaves_none _; stay = all_none _; flush = follows_none _ _ }
 
 pub returns-in-Some-clause-keeps : goal.returns-in-Some-clause-keeps
 returns-in-Some-clause-keeps g c = keeps_then _ _ _ c.tries.invariant.keeps c.try_read.ensures.keeps
@@ -18,7 +19,7 @@ tries-preserved g c = record {
   leaves = leaves_then _ _ _ c.tries.invariant.leaves
       (subst (λ (s : Slots). Leaves s.items.items c.take.new.self.slots.items.items) c.try_read.ensures.slots c.take.ensures.leaves);
   stay = all_then _ _ _ c.tries.invariant.stay (subst (λ (s : Slots). AllStay s c.take.new.self.slots) c.try_read.ensures.slots c.take.ensures.stay);
-  flush = λ w. c.take.ensures.flush (c.try_read.ensures.flush ∙ c.tries.invariant.flush w);
+  flush = follows_then _ _ _ _ _ _ (follows_then _ _ _ _ _ _ c.tries.invariant.flush c.try_read.ensures.flush) c.take.ensures.flush;
 }
 
 pub returns-in_err-take-clause-keeps : goal.returns-in_err-take-clause-keeps
@@ -30,3 +31,10 @@ returns-in-Some-clause-stay g c = subst (λ (s : Slots). AllStay c.args.self.now
 pub returns-in_err-take-clause-stay : goal.returns-in_err-take-clause-stay
 returns-in_err-take-clause-stay g c =
     all_then _ _ _ c.tries.invariant.stay (subst (λ (s : Slots). AllStay s c.take.new.self.slots) c.try_read.ensures.slots c.take.ensures.stay)
+
+pub returns-in-Some-clause-flush : goal.returns-in-Some-clause-flush
+returns-in-Some-clause-flush g c = follows_then _ _ _ _ _ _ c.tries.invariant.flush c.try_read.ensures.flush
+
+pub returns-in_err-take-clause-flush : goal.returns-in_err-take-clause-flush
+returns-in_err-take-clause-flush g c =
+    follows_then _ _ _ _ _ _ (follows_then _ _ _ _ _ _ c.tries.invariant.flush c.try_read.ensures.flush) c.take.ensures.flush

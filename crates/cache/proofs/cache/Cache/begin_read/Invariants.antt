@@ -1,4 +1,5 @@
-use Rattle.cache.specs.Calls.{caching, Keeps, StaysWanted}
+use Rattle.reissue.specs.Transfers.{link_of}
+use Rattle.cache.specs.Calls.{caching, Keeps, FlushFollows}
 use Rattle.cache.specs.Edits.{Leaves, AllStay}
 use Rattle.cache.specs.Takes.{messages_left}
 use Rattle.cache.proofs.cache.Cache.begin_read.Given as goal
@@ -9,7 +10,7 @@ invariant-tries g l = record {
       (caching g.L.Link.history g.L.Link.truth g.L.Link.room g.L.Link.budget_left l.self);
   leaves : Leaves l.fn.self.slots.items.items l.self.slots.items.items;
   stay : AllStay l.fn.self.slots l.self.slots;
-  flush : StaysWanted l.fn.self.flush l.self.flush;
+  flush : FlushFollows l.fn.self.flush (g.L.Link.history (link_of l.fn.self.transfers)) l.self.flush (g.L.Link.history (link_of l.self.transfers));
 }
 
 abbrev pub decreases-tries : goal.decreases-tries

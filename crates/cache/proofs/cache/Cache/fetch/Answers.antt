@@ -8,6 +8,7 @@ use Rattle.cache.proofs.Held.{in_range}
 use Rattle.cache.proofs.Placing.{keeps_none, keeps_then, keeps_read, reads_after, placed, filled_at, none_held, found_at}
 use Rattle.cache.proofs.Staying.{but_then, all_but}
 use Rattle.cache.proofs.Fetching.{has_one, has_none, misses_cut, misses_filled}
+use Rattle.cache.proofs.Flushes.{follows_none, follows_then}
 use Rattle.cache.proofs.cache.Cache.fetch.Goals as goal
 
 pub returns-in-Some-clause-keeps : goal.returns-in-Some-clause-keeps
@@ -110,3 +111,12 @@ returns-clause-miss g c = λ none.
     (c.read.ensures.leaves.free c.in_ok-at.at c.in_ok-at.ensures.free)
     (c.read.ensures.leaves.none c.args.block (c.make_room.ensures.none c.args.block none))
     c.fill.ensures.set c.fill.ensures.used
+
+pub returns-in-Some-clause-flush : goal.returns-in-Some-clause-flush
+returns-in-Some-clause-flush g c = follows_none _ _
+
+pub returns-in_err-bytes-clause-flush : goal.returns-in_err-bytes-clause-flush
+returns-in_err-bytes-clause-flush g c = follows_then _ _ _ _ _ _ c.make_room.ensures.flush c.read.ensures.flush
+
+pub returns-clause-flush : goal.returns-clause-flush
+returns-clause-flush g c = follows_then _ _ _ _ _ _ c.make_room.ensures.flush c.read.ensures.flush

@@ -8,6 +8,7 @@ use Rattle.cache.proofs.Edits.{one_slot, leaves_set}
 use Rattle.cache.proofs.Held.{in_range}
 use Rattle.cache.proofs.Placing.{rewritten, zero_row, blanked, blanks_cut, filled_at, none_held, found_at}
 use Rattle.cache.proofs.Fetching.{has_one, has_none, misses_cut, misses_filled}
+use Rattle.cache.proofs.Flushes.{follows_none}
 use Rattle.cache.proofs.cache.Cache.fresh.Goals as goal
 
 pub returns-in-Some-clause-runs : goal.returns-in-Some-clause-runs
@@ -97,3 +98,6 @@ returns-clause-miss g c = λ none.
     (subst (λ (n : ℕ). StayBut n c.args.self.now.slots c.make_room.new.self.slots) (sym m.is) m.stay)
     c.make_room.ensures.none c.in_ok-at.ensures.free (c.make_room.ensures.none c.args.block none)
     c.fill.ensures.set c.fill.ensures.used
+
+pub returns-in-Some-clause-flush : goal.returns-in-Some-clause-flush
+returns-in-Some-clause-flush g c = follows_none _ _

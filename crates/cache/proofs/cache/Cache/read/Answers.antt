@@ -1,5 +1,6 @@
 use Rattle.cache.proofs.Placing.{reads_cut, reads_after}
 use Rattle.cache.proofs.Staying.{all_then}
+use Rattle.cache.proofs.Flushes.{follows_then}
 use Rattle.cache.proofs.cache.Cache.read.Goals as goal
 
 pub returns-in_err-reading-clause-runs : goal.returns-in_err-reading-clause-runs
@@ -11,3 +12,6 @@ returns-clause-runs g c =
 
 pub returns-clause-stay : goal.returns-clause-stay
 returns-clause-stay g c = all_then _ _ _ c.begin_read.ensures.stay c.wait.ensures.stay
+
+pub returns-clause-flush : goal.returns-clause-flush
+returns-clause-flush g c = follows_then _ _ _ _ _ _ c.begin_read.ensures.flush c.wait.ensures.flush

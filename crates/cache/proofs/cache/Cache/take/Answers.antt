@@ -1,9 +1,12 @@
 use Rattle.std.proofs.Common.{◌≡◌, refl, sym, subst, ◌∙◌, arith, None, Ok}
-use Rattle.cache.specs.Calls.{Caching, caching, caching_of, Runs}
+use Rattle.cache.specs.Calls.{Caching, caching, caching_of, Runs, FlushFollows}
 use Rattle.cache.specs.Takes.{Takes, took_of, is_ended_by}
 use Rattle.cache.proofs.Runs.{runs_none}
 use Rattle.cache.proofs.Staying.{all_none}
 use Rattle.cache.proofs.Taking.{takes_none, takes_one}
+use Rattle.cache.proofs.Flushes.{follows_none, follows_take, wanted_for}
+use Rattle.reissue.specs.declared.transfers.Transfers.{Transfers}
+use Rattle.reissue.specs.Transfers.{link_of}
 use Rattle.cache.proofs.cache.Cache.take.Goals as goal
 
 pub returns-in_err-live-clause-runs : goal.returns-in_err-live-clause-runs
@@ -32,3 +35,15 @@ returns-clause-runs g c =
 
 pub returns-in_err-live-clause-stay : goal.returns-in_err-live-clause-stay
 returns-in_err-live-clause-stay g c = all_none _
+
+pub returns-clause-flush : goal.returns-clause-flush
+returns-clause-flush g c =
+    let s = c.step-settled.ensures.steps in
+    let e = c.settle.ensures in
+    let was = c.args.self.now.flush in
+    let before = g.L.Link.history (link_of c.args.self.now.transfers) in
+    subst (λ (t : Transfers _). FlushFollows was before c.settle.new.self.flush (g.L.Link.history (link_of t))) (sym e.transfers)
+    (follows_take s.message s.posts s.complaints _ _ _ _ s.history s.only_posts s.grows (wanted_for s.message c.step-settled.result _ _ s.answer e.wanted))
+
+pub returns-in_err-live-clause-flush : goal.returns-in_err-live-clause-flush
+returns-in_err-live-clause-flush g c = follows_none _ _

@@ -2,6 +2,7 @@ use Rattle.std.proofs.Common.{◌≡◌, refl, sym, subst}
 use Rattle.cache.specs.Calls.{Caching, caching, caching_of, Keeps}
 use Rattle.cache.proofs.Beginning.{free_block, read_one, read_is_at, busy_begun}
 use Rattle.cache.proofs.Placing.{keeps_none}
+use Rattle.cache.proofs.Flushes.{follows_posts}
 use Rattle.cache.proofs.cache.Cache.try_read.Goals as goal
 
 pub begin-requires-clause-free : goal.begin-requires-clause-free
@@ -39,3 +40,13 @@ returns-in-Err-clause-keeps g c =
     let same : caching_of h t r b c.begin.new.self s.shape s.slots.items.items s.ended ≡ old =
     λ i. caching_of h t r b (c.in-Err.ensures.refused i) s.shape s.slots.items.items s.ended in
     subst (λ (n : Caching). Keeps old n) (sym same) (keeps_none old c.requires.ready)
+
+pub returns-in-Ok-clause-flush : goal.returns-in-Ok-clause-flush
+returns-in-Ok-clause-flush g c =
+    let x = c.in-Ok.ensures.begins in
+    follows_posts _ _ x.posts _ _ refl x.history x.only_posts
+
+pub returns-in-Err-clause-flush : goal.returns-in-Err-clause-flush
+returns-in-Err-clause-flush g c =
+    let x = c.in-Err.ensures.begins in
+    follows_posts _ _ x.posts _ _ refl x.history x.only_posts

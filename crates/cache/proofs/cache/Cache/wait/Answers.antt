@@ -6,10 +6,11 @@ use Rattle.cache.specs.Takes.{is_read_of}
 use Rattle.cache.proofs.Edits.{leaves_none, leaves_then}
 use Rattle.cache.proofs.Placing.{keeps_none, keeps_took, reads_cut, still_reading, reads_done}
 use Rattle.cache.proofs.Staying.{all_none, all_then}
+use Rattle.cache.proofs.Flushes.{follows_none, follows_then}
 use Rattle.cache.proofs.cache.Cache.wait.Goals as goal
 
 pub messages-init : goal.messages-init
-messages-init g c = record { keeps = keeps_none _ c.requires.ready; leaves = leaves_none _; stay = all_none _; pending = c.requires.reading; flush = λ w. w }
+messages-init g c = record { keeps = keeps_none _ c.requires.ready; leaves = leaves_none _; stay = all_none _; pending = c.requires.reading; flush = follows_none _ _ }
 
 pub returns-in_err-settled-clause-runs : goal.returns-in_err-settled-clause-runs
 returns-in_err-settled-clause-runs g c =
@@ -22,7 +23,7 @@ messages-preserved-in_default g c = record {
   stay = all_then _ _ _ c.messages.invariant.stay c.take.ensures.stay;
   pending = still_reading c.take.result _ _ c.args.reading.ticket _ _ c.take.ensures.reads
       (ap (λ (r : Result Took Cut). is_read_of r c.args.reading.ticket) (c.in_ok-settled.was ∙ ap Ok c.in_default.is)) c.messages.invariant.pending;
-  flush = λ w. c.take.ensures.flush (c.messages.invariant.flush w);
+  flush = follows_then _ _ _ _ _ _ c.messages.invariant.flush c.take.ensures.flush;
 }
 
 pub returns-then-eq-clause-runs : goal.returns-then-eq-clause-runs
@@ -41,5 +42,11 @@ messages-preserved g c = record {
   stay = all_then _ _ _ c.messages.invariant.stay c.take.ensures.stay;
   pending = still_reading c.take.result _ _ c.args.reading.ticket _ _ c.take.ensures.reads
       (ap (λ (r : Result Took Cut). is_read_of r c.args.reading.ticket) (c.in_ok-settled.was ∙ ap Ok c.in-Read.is) ∙ (sym c.eq.ensures ∙ c.if-eq.false)) c.messages.invariant.pending;
-  flush = λ w. c.take.ensures.flush (c.messages.invariant.flush w);
+  flush = follows_then _ _ _ _ _ _ c.messages.invariant.flush c.take.ensures.flush;
 }
+
+pub returns-in_err-settled-clause-flush : goal.returns-in_err-settled-clause-flush
+returns-in_err-settled-clause-flush g c = follows_then _ _ _ _ _ _ c.messages.invariant.flush c.take.ensures.flush
+
+pub returns-then-eq-clause-flush : goal.returns-then-eq-clause-flush
+returns-then-eq-clause-flush g c = follows_then _ _ _ _ _ _ c.messages.invariant.flush c.take.ensures.flush

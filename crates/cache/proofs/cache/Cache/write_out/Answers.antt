@@ -4,6 +4,7 @@ use Rattle.cache.proofs.Beginning.{under_way, busy_under}
 use Rattle.cache.proofs.Edits.{one_slot}
 use Rattle.cache.proofs.Placing.{keeps_none}
 use Rattle.cache.proofs.Staying.{but_none}
+use Rattle.cache.proofs.Flushes.{follows_none, follows_posts}
 use Rattle.cache.proofs.cache.Cache.write_out.Goals as goal
 
 pub returns-else-is_dirty-clause-keeps : goal.returns-else-is_dirty-clause-keeps
@@ -20,3 +21,11 @@ returns-else-is_dirty-clause-busy g c =
 
 pub returns-else-is_dirty-clause-others : goal.returns-else-is_dirty-clause-others
 returns-else-is_dirty-clause-others g c = but_none c.args.at _
+
+pub returns-then-is_dirty-clause-flush : goal.returns-then-is_dirty-clause-flush
+returns-then-is_dirty-clause-flush g c =
+    let x = c.issue.ensures.posts in
+    follows_posts _ _ x.posts _ _ c.issue.ensures.flush x.history x.only_posts
+
+pub returns-else-is_dirty-clause-flush : goal.returns-else-is_dirty-clause-flush
+returns-else-is_dirty-clause-flush g c = follows_none _ _
