@@ -1,4 +1,5 @@
-//! The work that is measured. Each piece tells how many blocks it went over, which are fewer where one was refused.
+//! The work that is measured. Each piece tells how many blocks it went over: fewer where a request wasn't taken or a call was cut. What a
+//! driver answers isn't looked at.
 ghost use Rattle.std.specs.Prelude.{◌≡◌, IfSome};
 ghost use Rattle.cache.specs.Calls.{caching, IsReady};
 

@@ -1,13 +1,17 @@
 -- What a request that is begun does, as a call.
-use Rattle.std.proofs.Common.{◌≡◌, ◌≢◌, ℕ, suc, ◌+◌, ◌*◌, ◌<◌, ◌≤◌, List, [], ◌∷◌, length, set, refl, sym, ap, subst, ◌∙◌, arith, true, false, Option, Some, None, Ok}
+use Rattle.std.proofs.Common.{◌≡◌, ◌≢◌, ℕ, suc, ◌+◌, ◌*◌, ◌<◌, ◌≤◌, List, [], ◌∷◌, length, set, refl, sym, ap, subst, ◌∙◌, arith, true, false, Option, Some, None, Result, Ok, Err, IsErr, Bool}
 use Rattle.std.proofs.lemmas.List.{length-append}
 use mathlib.Core.Logic.{inl, inr, ◌⊎◌}
-use Rattle.std.specs.Prelude.{◌&&◌, is_some, not, slice_get}
+use Rattle.std.specs.Prelude.{◌&&◌, ◌==◌, ◌↔◌, IsTrue, IsErrOf, is_some, not, slice_get}
+use Rattle.std.specs.Bool.{OnFalse}
+use Rattle.std.specs.List.{list_any}
 use Rattle.std.proofs.lemmas.Bool.{cases_eq, cases_lt}
 use Rattle.std.proofs.Math.Nat.{mul-le-mul_right, suc-mul}
 use Rattle.message.specs.declared.Kind.{Kind}
 use Rattle.message.specs.declared.Kind.TheVariants as kind
 use Rattle.reissue.specs.declared.ask.Ask.{Ask}
+use Rattle.reissue.specs.declared.ask.BeginRefusal.{BeginRefusal}
+use Rattle.reissue.specs.declared.ask.BeginRefusal.TheVariants.{TableFull, BlockPending}
 use Rattle.reissue.specs.declared.pending.Pending.{Pending}
 use Rattle.reissue.specs.Moves.{Begun, put, Opens, IsBusy, IsFree, begun_by, written_by}
 use Rattle.reissue.specs.Entries.{pending_of, AllOfMinor}
@@ -20,7 +24,7 @@ use Rattle.cache.specs.declared.state.State.TheVariants.{Clean, Dirty, Writing, 
 use Rattle.cache.specs.Slots.{held, ticket_of, is_clean, is_dirty, is_dirty_slot, is_unclean_slot, IsDistinct}
 use Rattle.cache.specs.Edits.{IsSetAt, IsIssued, Leaves}
 use Rattle.cache.specs.Frames.{Tied, IsOfBlock, CacheAgrees, view}
-use Rattle.cache.specs.Calls.{Caching, IsReady, Serves, Keeps}
+use Rattle.cache.specs.Calls.{Caching, IsReady, IsLive, IsStuck, IsRefusing, Serves, Keeps}
 use Rattle.cache.specs.Takes.{IsReadAt}
 use Rattle.cache.proofs.Held.{held_at, held_set}
 use Rattle.cache.proofs.Tied.{tied_write, tied_read}
@@ -98,13 +102,32 @@ free_block size block pending start count all at whole = record {
         let one : suc b * size ≡ b * size + size = suc-mul b size in
         omega (arith, more, one)
 
--- one more is pending, and one more id was given
+-- one more is pending
+pub longer : (ask : Ask) (old new : Caching) → Adds ask old.table new.table old.told new.told → length new.table.pending ≡ length old.table.pending + 1
+longer ask old new x = ap (λ (l : List Pending). length l) x.pending ∙ length-append old.table.pending (x.entry ∷ [])
+
+-- and one more id was given
 pub ids_added : (ask : Ask) (old new : Caching) → Adds ask old.table new.table old.told new.told
     → new.table.ids + length old.table.pending ≡ old.table.ids + length new.table.pending
-ids_added ask old new x =
-    let longer : length new.table.pending ≡ length old.table.pending + 1 =
-    ap (λ (l : List Pending). length l) x.pending ∙ length-append old.table.pending (x.entry ∷ []) in
-    omega (arith, longer, x.ids)
+ids_added ask old new x = let l = longer ask old new x in omega (arith, l, x.ids)
+
+-- where a dirty block's write is refused
+pub refusing : (c : Caching) (r : Result ℕ BeginRefusal) (position count b : ℕ) (s : Slot)
+    → IsErr r → (IsErrOf r TableFull ↔ (length c.table.pending ≡ 16))
+    → (IsErrOf r BlockPending
+    ↔ ((length c.table.pending < 16) × IsTrue (list_any (λ p. (p.start == position) && (p.size == count)) c.table.pending)))
+    → position ≡ b * c.size → count ≡ c.size → c.held b ≡ Some s → s.state ≡ Dirty → IsRefusing c
+refusing c (Ok t) position count b s h full same at whole is dirty = cc
+refusing c (Err TableFull) position count b s h full same at whole is dirty = inl (full.0 refl)
+refusing c (Err BlockPending) position count b s h full same at whole is dirty =
+    let of : ℕ → ℕ → Type 0 = λ p n. IsTrue (list_any (λ (e : Pending). (e.start == p) && (e.size == n)) c.table.pending) in
+    inr (b, s, is, dirty, subst (λ (n : ℕ). of (b * c.size) n) whole (subst (λ (p : ℕ). of p count) at (same.0 refl).1))
+
+-- and no message comes in between
+pub stuck_for : {X : Type 0} (F : X → Caching) (r : Bool) (old new : X) → OnFalse r (new ≡ old) → OnFalse r (IsRefusing (F old))
+    → IsBusy (pending_of (F new).table.pending) → OnFalse r (IsLive (F new) → IsStuck (F new))
+stuck_for F true old new same h busy = tt
+stuck_for F false old new same h busy = λ live. record { why = inr (busy, subst (λ (x : _). IsRefusing (F x)) (sym same) h) }
 
 -- a cache over whose requests one more was begun is ready
 ready_begun : (ask : Ask) (old new : Caching) → Begins ask old.table new.table old.told new.told old.truth new.truth

@@ -1,5 +1,5 @@
 -- Which frame goes for a block that is fetched.
-use Rattle.std.proofs.Common.{◌≡◌, ℕ, List, refl, sym, ap, subst, ◌∙◌, Option, Some, None, Result, Ok, Err, IsErr, IfOk}
+use Rattle.std.proofs.Common.{◌≡◌, ℕ, List, refl, sym, ap, subst, ◌∙◌, Option, Some, None, Result, Ok, Err, IsErr, IfOk, slice_get}
 use mathlib.Core.Logic.{inl, inr}
 use Rattle.reissue.proofs.Maps.{put_cases}
 use Rattle.reissue.specs.Moves.{put}
@@ -14,7 +14,7 @@ use Rattle.cache.specs.Uses.{IsUsedLast}
 use Rattle.cache.specs.Order.{IsVictim}
 use Rattle.cache.specs.Edits.{IsSetAt, IsAt, IsFreeAt, StayBut}
 use Rattle.cache.specs.Fetches.{Misses}
-use Rattle.cache.proofs.Held.{some_holds}
+use Rattle.cache.proofs.Held.{some_holds, get_set_same}
 use Rattle.cache.proofs.Placing.{filled_held}
 use Rattle.cache.proofs.Staying.{set_others, others_then}
 
@@ -31,12 +31,12 @@ no_place (Err cut) P h = tt
 no_place (Ok x) P h = cc
 
 -- a call that was cut
-pub misses_cut : {L : Type 0} (r : Result Frame Cut) (old new : Cache L) (at : ℕ) → IsErr r
+pub misses_cut : {L : Type 0} (x : State) (r : Result Frame Cut) (old new : Cache L) (at : ℕ) → IsErr r
     → IsVictim old.slots.items.items old.slots.uses.numbers.items at → StayBut at old.slots new.slots
-    → ((b : ℕ) → held old.slots.items.items b ≡ None → held new.slots.items.items b ≡ None) → Misses r old new
-misses_cut (Err cut) old new at h goes stay none =
+    → ((b : ℕ) → held old.slots.items.items b ≡ None → held new.slots.items.items b ≡ None) → Misses x r old new
+misses_cut x (Err cut) old new at h goes stay none =
     record { at = at; goes = goes; stands = ap (λ u. u.numbers.items) stay.uses; others = stay.each; none = λ b not n. none b n }
-misses_cut (Ok frame) old new at h goes stay none = cc
+misses_cut x (Ok frame) old new at h goes stay none = cc
 
 -- a block that came into the slot that was made free
 pub misses_filled : {L : Type 0} (old new : Cache L) (mid : Slots) (frame : Frame) (at b : ℕ) (bytes : List ℕ) (x : State)
@@ -46,11 +46,15 @@ pub misses_filled : {L : Type 0} (old new : Cache L) (mid : Slots) (frame : Fram
     → IsFreeAt mid.items.items at → held mid.items.items b ≡ None
     → IsSetAt mid.items.items new.slots.items.items at (λ s. record { block = Some b; bytes = bytes; state = x })
     → IsUsedLast mid.uses.numbers.items new.slots.uses.numbers.items at
-    → Misses (Ok frame) old new
+    → Misses x (Ok frame) old new
 misses_filled old new mid frame at b bytes x its block goes stay none free here e used = record {
   at = at;
   goes = goes;
-  stands = (its, subst (λ (u : List ℕ). IsUsedLast u new.slots.uses.numbers.items at) (ap (λ u. u.numbers.items) stay.uses) used);
+  stands = (
+    its,
+    (λ s h. ap state_of (sym h ∙ (ap (λ (l : List Slot). slice_get l at) e.all ∙ get_set_same mid.items.items at e.slot t e.is))),
+    subst (λ (u : List ℕ). IsUsedLast u new.slots.uses.numbers.items at) (ap (λ u. u.numbers.items) stay.uses) used,
+  );
   others = others_then at old.slots.items.items mid.items.items new.slots.items.items stay.each
       (set_others mid.items.items new.slots.items.items at (λ s. t) e);
   none = λ c not n. ap (λ (f : ℕ → Option Slot). f c) to ∙ elim (put_cases (held mid.items.items) b (Some t) c) [
@@ -59,6 +63,10 @@ misses_filled old new mid frame at b bytes x its block goes stay none free here 
   ];
 }
   where
+    state_of : Option Slot → State
+    state_of None = x
+    state_of (Some s) = s.state
+
     t : Slot
     t = record { block = Some b; bytes = bytes; state = x }
 

@@ -1,5 +1,5 @@
 -- Which slots stay.
-use Rattle.std.proofs.Common.{◌≡◌, ℕ, List, refl, sym, ap, ◌∙◌, Some}
+use Rattle.std.proofs.Common.{◌≡◌, ◌≢◌, ℕ, List, refl, sym, ap, subst, ◌∙◌, Some}
 use mathlib.Core.Logic.{inl, inr}
 use Rattle.std.specs.Prelude.{slice_get, slice_set}
 use Rattle.std.proofs.lemmas.Bool.{cases_eq}
@@ -8,7 +8,7 @@ use Rattle.cache.specs.declared.slots.Slots.{Slots}
 use Rattle.cache.specs.declared.state.State.{State}
 use Rattle.cache.specs.declared.state.State.TheVariants.{Clean, Dirty, Writing, Changed}
 use Rattle.cache.specs.Slots.{written}
-use Rattle.cache.specs.Edits.{IsSetAt, IsKept, AllStay, OthersStay, StayBut}
+use Rattle.cache.specs.Edits.{IsSetAt, IsAt, IsKept, AllStay, OthersStay, StayBut}
 use Rattle.cache.proofs.Held.{get_set_same, get_set_other}
 use Rattle.cache.proofs.Edits.{one_slot}
 
@@ -102,3 +102,13 @@ written_stays old new at x s is st e uses = record {
     | inr ne ↦ set_others old.items.items new.items.items at (λ y. record y { state = x }) e i t ne h
   ];
 }
+
+-- the frame of another block stays where one slot is changed
+pub frame_stays : (old new : List Slot) (at b i c : ℕ) (change : Slot → Slot) → IsAt old at b → c ≢ b → IsSetAt old new at change → IsAt old i c → IsAt new i c
+frame_stays old new at b i c change here ne e x =
+    let no : i ≢ at = λ same.
+    let two : x.slot ≡ here.slot = one_slot old at x.slot here.slot (subst (λ (k : ℕ). slice_get old k ≡ Some x.slot) same x.is) here.is in
+    let z : Some c ≡ Some b = sym x.block_is ∙ ap (λ (s : Slot). s.block) two ∙ here.block_is in
+    ne cc in
+    let k = set_others old new at change e i x.slot no x.is in
+    record { slot = k.slot; is = k.is; block_is = k.kept.block ∙ x.block_is }

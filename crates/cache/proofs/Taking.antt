@@ -1,5 +1,6 @@
 -- What a message taken does to the frames.
 use Rattle.std.proofs.Common.{◌≡◌, ◌≢◌, ℕ, ◌+◌, ◌^◌, ◌<◌, ◌≤◌, List, length, refl, sym, ap, subst, ◌∙◌, arith, true, false, Option, Some, None, Result, Ok, Err, IsErr}
+use mathlib.Core.Logic.{inl, inr}
 use Rattle.std.specs.Prelude.{slice_index}
 use Rattle.std.proofs.lemmas.Bool.{eq-eqb}
 use Rattle.reissue.specs.declared.ask.Settled.{Settled}
@@ -10,7 +11,7 @@ use Rattle.message.specs.declared.Incoming.{Incoming}
 use Rattle.message.specs.declared.Incoming.TheVariants as incoming
 use Rattle.reissue.specs.Posts.{HasRoom, is_message}
 use Rattle.reissue.specs.Calls.{Steps, Absorbs, goes_on}
-use Rattle.reissue.proofs.Maps.{put-other}
+use Rattle.reissue.proofs.Maps.{put-other, put_cases}
 use Rattle.cache.specs.declared.slots.Slot.{Slot}
 use Rattle.cache.specs.declared.cache.Took.{Took}
 use Rattle.cache.specs.declared.refusals.Cut.{Cut}
@@ -21,7 +22,7 @@ use Rattle.cache.specs.Calls.{Caching, IsReady, Serves, Runs, HandsOver}
 use Rattle.marks.specs.Told.{took_nothing}
 use Rattle.marks.specs.Acts.{Act, told_of}
 use Rattle.cache.proofs.Handing.{Done, done_on}
-use Rattle.cache.specs.Takes.{Settles, took_of, is_ended_by, Takes, ReadTells, ReadsStay, is_read_of}
+use Rattle.cache.specs.Takes.{Settles, took_of, is_ended_by, Takes, ReadTells, ReadsStay, NoReadBegun, IsHandedOut, is_read_of}
 use Rattle.cache.proofs.Tied.{way_ticket, tied_read_settled, tied_written, same_begun}
 use Rattle.cache.proofs.Agreeing.{agrees_moved, view_moved, agrees_written, view_put}
 use Rattle.cache.proofs.Edits.{leaves_none}
@@ -122,10 +123,37 @@ read_tells settled.Flush pending v h = tt
 read_tells settled.GaveUp pending v h = tt
 read_tells settled.End pending v h = tt
 
+-- what is pending where one was taken out
+unless : (pending pending' : ℕ → Option Begun) (u t : ℕ) (r : Begun) → pending' ≡ put pending u None → pending' t ≡ Some r → pending t ≡ Some r
+unless pending pending' u t r e is =
+    let here : put pending u None t ≡ Some r = ap (λ (f : ℕ → Option Begun). f t) (sym e) ∙ is in
+    elim (put_cases pending u None t) [
+      | inl p ↦ absurd (let z : None ≡ Some r = sym p.1 ∙ here in cc)
+      | inr p ↦ sym p.1 ∙ here
+    ]
+
+-- a message begins nothing
+pub none_begun : (res : Settled) (pending pending' : ℕ → Option Begun) → Closes res pending pending' → NoReadBegun pending pending'
+none_begun (settled.Read u bytes) pending pending' closes t r is read = unless pending pending' u t r closes.3 is
+none_begun (settled.Written u) pending pending' closes t r is read = unless pending pending' u t r closes.4 is
+none_begun settled.Nothing pending pending' closes t r is read = ap (λ (f : ℕ → Option Begun). f t) (sym closes) ∙ is
+none_begun settled.Flush pending pending' closes t r is read = ap (λ (f : ℕ → Option Begun). f t) (sym closes) ∙ is
+none_begun settled.GaveUp pending pending' closes t r is read = ap (λ (f : ℕ → Option Begun). f t) (sym closes) ∙ is
+none_begun settled.End pending pending' closes t r is read = ap (λ (f : ℕ → Option Begun). f t) (sym closes) ∙ is
+
 -- reads stay pending until they are handed out
 pub reads_stay : (res : Settled) (pending pending' : ℕ → Option Begun) → Closes res pending pending' → ReadsStay (Ok (took_of res)) pending pending'
-reads_stay res pending pending' closes = record { stays = by res closes }
+reads_stay res pending pending' closes =
+    record { stays = by res closes; none_begun = none_begun res pending pending' closes; handed_out = handed res closes }
   where
+    handed : (x : Settled) → Closes x pending pending' → IsHandedOut (Ok (took_of x)) pending
+    handed (settled.Read u bytes) closes = (closes.0, closes.1, closes.2)
+    handed (settled.Written u) closes = tt
+    handed settled.Nothing closes = tt
+    handed settled.Flush closes = tt
+    handed settled.GaveUp closes = tt
+    handed settled.End closes = tt
+
     by : (x : Settled) → Closes x pending pending' → (t : ℕ) (r : Begun) → pending t ≡ Some r → r.written ≡ None
         → is_read_of (Ok (took_of x)) t ≡ false → pending' t ≡ Some r
     by (settled.Read u bytes) closes t r is read other =

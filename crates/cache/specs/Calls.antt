@@ -1,5 +1,6 @@
 -- What each call of a cache does at its link, to the disk, and to what would be read back.
-use Rattle.std.specs.Prelude.{◌≡◌, ◌⊎◌, ℕ, ◌+◌, ◌^◌, ◌<◌, ◌≤◌, List, [], ◌∷◌, ◌++◌, length, Bool, true, false, ◌||◌, zero, suc, Option, Some, None, Result, Ok, Err, if◌then◌else◌}
+use Rattle.std.specs.Prelude.{◌≡◌, ◌⊎◌, ◌==◌, ◌&&◌, IsTrue, ℕ, ◌*◌, ◌+◌, ◌^◌, ◌<◌, ◌≤◌, List, [], ◌∷◌, ◌++◌, length, Bool, true, false, ◌||◌, zero, suc, Option, Some, None, Result, Ok, Err, if◌then◌else◌}
+use Rattle.std.specs.List.{list_any}
 use Rattle.message.specs.declared.Incoming.{Incoming}
 use Rattle.message.specs.declared.Incoming.TheVariants.{End}
 use Rattle.message.specs.declared.Incoming.TheVariants as incoming
@@ -17,6 +18,7 @@ use Rattle.reissue.specs.Rules.{KeepsRulesBy}
 use Rattle.reissue.specs.Calls.{Truth}
 use Rattle.reissue.specs.Transfers.{table_of, link_of, with_link}
 use Rattle.cache.specs.declared.slots.Slot.{Slot}
+use Rattle.cache.specs.declared.state.State.TheVariants.{Dirty}
 use Rattle.cache.specs.declared.slots.Frame.{Frame}
 use Rattle.reissue.specs.declared.transfers.Transfers.{Transfers}
 use Rattle.cache.specs.declared.shape.Shape.{Shape}
@@ -177,9 +179,15 @@ pub record PostsAlone (old new : Caching) : Type 0 where
   pub history : new.told ≡ posts ++ old.told
   pub only_posts : OnlyPosts posts
 
--- no further write can be begun before a message is taken: no frame is dirty, or a request is pending
+-- a dirty block's write is refused: sixteen requests are pending, or one of its range
+abbrev pub IsRefusing : Caching → Type 0
+IsRefusing c = (length c.table.pending ≡ 16)
+    ⊎ ((b : ℕ) × (s : Slot) × (c.held b ≡ Some s) × (s.state ≡ Dirty)
+    × IsTrue (list_any (λ p. (p.start == b * c.size) && (p.size == c.size)) c.table.pending))
+
+-- no further write can be begun before a message is taken: no frame is dirty, or the write is refused
 pub record IsStuck (c : Caching) : Type 0 where
-  pub why : NoneDirty c.held ⊎ IsBusy (pending_of c.table.pending)
+  pub why : NoneDirty c.held ⊎ (IsBusy (pending_of c.table.pending) × IsRefusing c)
 
 -- a cache over another link
 abbrev pub with_cache_link : {L : Type 0} → Cache L → L → Cache L

@@ -1,13 +1,15 @@
 -- Where the frame of a block stands that was fetched, and which frame goes for it.
-use Rattle.std.specs.Prelude.{◌≡◌, ℕ, List, Result, Ok, Err, IfOk, None}
+use Rattle.std.specs.Prelude.{◌≡◌, ℕ, List, Result, Ok, Err, IsOk, IfOk, Some, None, not, slice_get}
 use Rattle.cache.specs.declared.slots.Frame.{Frame}
+use Rattle.cache.specs.declared.slots.Slot.{Slot}
 use Rattle.cache.specs.declared.slots.Slots.{Slots}
+use Rattle.cache.specs.declared.state.State.{State}
 use Rattle.cache.specs.declared.cache.Cache.{Cache}
 use Rattle.cache.specs.declared.refusals.Cut.{Cut}
-use Rattle.cache.specs.Slots.{held}
+use Rattle.cache.specs.Slots.{held, is_unclean_slot}
 use Rattle.cache.specs.Uses.{IsUsedLast}
 use Rattle.cache.specs.Order.{IsVictim}
-use Rattle.cache.specs.Edits.{IsBlankedAt, OthersStay, StayBut}
+use Rattle.cache.specs.Edits.{IsBlankedAt, IsSlotAt, OthersStay, StayBut}
 
 -- a slot is used now, and nothing else is changed: the link was told nothing, and no message was taken
 pub record IsUsed {L : Type 0} (old new : Cache L) (at : ℕ) : Type 0 where
@@ -38,21 +40,32 @@ pub record MakesRoom (result : Result ℕ Cut) (old new : Slots) : Type 0 where
   pub is : IfOk result (λ made. made ≡ at)
   pub stay : StayBut at old new
 
--- the frame stands there and is used now; where the call was cut, none is used
-abbrev pub StandsAt : Result Frame Cut → ℕ → List ℕ → List ℕ → Type 0
-StandsAt (Ok frame) at old new = (frame.at ≡ at) × IsUsedLast old new at
-StandsAt (Err cut) at old new = new ≡ old
+-- the slot there, if there is one, has this state
+abbrev pub IsOfState : List Slot → ℕ → State → Type 0
+IsOfState items at state = (s : Slot) → slice_get items at ≡ Some s → s.state ≡ state
+
+-- the frame stands there, has this state and is used now; where the call was cut, none is used
+abbrev pub StandsAt : State → Result Frame Cut → ℕ → Slots → Slots → Type 0
+StandsAt state (Ok frame) at old new =
+    (frame.at ≡ at) × IsOfState new.items.items at state × IsUsedLast old.uses.numbers.items new.uses.numbers.items at
+StandsAt state (Err cut) at old new = new.uses.numbers.items ≡ old.uses.numbers.items
 
 -- no frame was given to this block
 abbrev pub IsNotFor : Result Frame Cut → ℕ → Type 0
 IsNotFor (Ok frame) block = frame.block ≡ block → ⊥
 IsNotFor (Err cut) block = Unit {0}
 
--- A block that has no frame is given the slot that goes. The other slots stay, but for writes that were answered good since,
+-- A block that has no frame is given the slot that goes, in this state. The other slots stay, but for writes that were answered good since,
 -- and no other block gets a frame.
-pub record Misses {L : Type 0} (result : Result Frame Cut) (old new : Cache L) : Type 0 where
+pub record Misses {L : Type 0} (state : State) (result : Result Frame Cut) (old new : Cache L) : Type 0 where
   pub at : ℕ
   pub goes : IsVictim old.slots.items.items old.slots.uses.numbers.items at
-  pub stands : StandsAt result at old.slots.uses.numbers.items new.slots.uses.numbers.items
+  pub stands : StandsAt state result at old.slots new.slots
   pub others : OthersStay at old.slots.items.items new.slots.items.items
   pub none : (b : ℕ) → IsNotFor result b → held old.slots.items.items b ≡ None → held new.slots.items.items b ≡ None
+
+-- Where the slot that goes needs no writing, the call isn't cut and changes slots alone: the link is told nothing, and no message is taken.
+pub record IsAtOnce {L X : Type 0} (result : Result X Cut) (old new : Cache L) : Type 0 where
+  pub at : ℕ
+  pub goes : IsVictim old.slots.items.items old.slots.uses.numbers.items at
+  pub at_once : IsSlotAt old.slots.items.items at (λ s. not (is_unclean_slot s)) → IsOk result × (new ≡ record old { slots = new.slots })

@@ -63,9 +63,21 @@ is_read_of (Ok (took.Read u bytes)) t = u == t
 is_read_of (Ok took.Nothing) t = false
 is_read_of (Err cut) t = false
 
--- a pending read stays pending until it is handed out
+-- no read is pending that wasn't before
+abbrev pub NoReadBegun : (ℕ → Option Begun) → (ℕ → Option Begun) → Type 0
+NoReadBegun pending pending' = (t : ℕ) (r : Begun) → pending' t ≡ Some r → r.written ≡ None → pending t ≡ Some r
+
+-- what is handed out is a read that was pending
+abbrev pub IsHandedOut : Result Took Cut → (ℕ → Option Begun) → Type 0
+IsHandedOut (Ok (took.Read t bytes)) pending = (r : Begun) × (pending t ≡ Some r) × (r.written ≡ None)
+IsHandedOut (Ok took.Nothing) pending = Unit {0}
+IsHandedOut (Err cut) pending = Unit {0}
+
+-- a pending read stays pending until it is handed out, and none is begun
 pub record ReadsStay (result : Result Took Cut) (pending pending' : ℕ → Option Begun) : Type 0 where
   pub stays : (t : ℕ) (r : Begun) → pending t ≡ Some r → r.written ≡ None → is_read_of result t ≡ false → pending' t ≡ Some r
+  pub none_begun : NoReadBegun pending pending'
+  pub handed_out : IsHandedOut result pending
 
 -- a read of this range is pending under this ticket
 pub record IsReadAt (pending : ℕ → Option Begun) (ticket start size : ℕ) : Type 0 where

@@ -1,6 +1,6 @@
 //! Frames of a volume's blocks, over transfers.
 
-ghost use Rattle.std.specs.Prelude.{◌≡◌, ◌<◌, ◌≤◌, ◌+◌, ◌*◌, ◌-◌, ◌^◌, ℕ, List, [], Option, Some, None, Result, Ok, Err, Bool, true, false, IsTrue, IsErrOf, ◌↔◌, length, take, slice_get, slice_index, IfOk, IfErr, OnOk, OnErr, IfSome, not};
+ghost use Rattle.std.specs.Prelude.{◌≡◌, ◌<◌, ◌≤◌, ◌+◌, ◌*◌, ◌-◌, ◌^◌, ℕ, List, [], Option, Some, None, Result, Ok, Err, Bool, true, false, IsTrue, IsErrOf, ◌↔◌, length, take, slice_get, slice_index, IfOk, IfErr, OnOk, OnErr, IfSome, not, ◌≢◌};
 ghost use Rattle.std.specs.Prelude.{MatchBool};
 ghost use Rattle.std.specs.Bool.{OnTrue, OnFalse};
 ghost use Rattle.std.specs.Borrow.{Lends, sem};
@@ -58,12 +58,12 @@ impl<L: Link> Cache<L> {
     ghost use Rattle.cache.specs.Slots.{held, is_dirty_slot, is_unclean_slot};
     ghost use Rattle.cache.specs.Edits.{AllClean, SomeUnclean, IsIssued, IssuesLowest, IsWritten, IsSlotAt, IsFreeAt, IsAt, Leaves, AllStay, StayBut, IsChangedAt};
     ghost use Rattle.cache.specs.Frames.{frames_of, view, with_bytes};
-    ghost use Rattle.cache.specs.Calls.{caching, IsReady, IsLive, IsWhyCut, IsFrame, IsMade, IsStuck, PostsAlone, Runs, Keeps, HandsOver, Blanks, Rewrites, forgotten, with_cache_link, without_flush, FlushFollows, IsWantedFor};
+    ghost use Rattle.cache.specs.Calls.{caching, IsReady, IsLive, IsWhyCut, IsFrame, IsMade, IsStuck, IsRefusing, PostsAlone, Runs, Keeps, HandsOver, Blanks, Rewrites, forgotten, with_cache_link, without_flush, FlushFollows, IsWantedFor};
     ghost use Rattle.cache.specs.contracts.cache.Cache.{the_row};
     ghost use Rattle.cache.specs.declared.slots.Frame.{Frame as FrameValue};
     ghost use Rattle.cache.specs.declared.slots.Slot.{Slot};
-    ghost use Rattle.cache.specs.Fetches.{Hits, Misses, BlanksFrame, MakesRoom};
-    ghost use Rattle.cache.specs.Takes.{Settles, took_of, Takes, ReadsStay, IsReadAt, Reads, messages_left};
+    ghost use Rattle.cache.specs.Fetches.{Hits, Misses, BlanksFrame, MakesRoom, IsAtOnce};
+    ghost use Rattle.cache.specs.Takes.{Settles, took_of, Takes, ReadsStay, NoReadBegun, IsReadAt, Reads, messages_left};
 
     /// A cache with so many frames, none of them in use, over transfers with nothing pending: 1 BadFrames unless they are 16 to
     /// 4096, looked at first; 2 OutOfMemory.
@@ -84,6 +84,8 @@ impl<L: Link> Cache<L> {
         ensures over { IfOk result (λ c. c.transfers ≡ transfers) }
         ensures ready { IfOk result (λ c. IsReady (caching L.history L.truth L.room L.budget_left c)) }
         ensures made { IfOk result (λ c. IsMade minor geometry.now.block_size (caching L.history L.truth L.room L.budget_left c)) }
+        ensures frames { IfOk result (λ c. length c.slots.items.items ≡ frames) }
+        ensures flush { IfOk result (λ c. c.flush ≡ false) }
     {
         if frames < 16 || 4096 < frames {
             return Err(CacheRefusal::BadFrames);
@@ -171,6 +173,7 @@ impl<L: Link> Cache<L> {
         ensures ended { self.new.ended ≡ self.old.ended }
         ensures stay { AllStay self.old.slots self.new.slots }
         ensures wanted { IsWantedFor (settled ≡ Settled.Flush) self.old.flush self.new.flush }
+        ensures end { settled ≡ Settled.End → self.new ≡ self.old }
     {
         match settled {
             Settled::Nothing => Took::Nothing,
@@ -221,6 +224,10 @@ impl<L: Link> Cache<L> {
         ensures issued { MatchBool result (IsIssued self.old.slots.items.items at (caching L.history L.truth L.room L.budget_left self.new).held) ((caching L.history L.truth L.room L.budget_left self.new).held ≡ (caching L.history L.truth L.room L.budget_left self.old).held) }
         ensures posts { PostsAlone (caching L.history L.truth L.room L.budget_left self.old) (caching L.history L.truth L.room L.budget_left self.new) }
         ensures flush { self.new.flush ≡ self.old.flush }
+        ensures refused { OnFalse result (self.new ≡ self.old) }
+        ensures adds { OnTrue result (length (caching L.history L.truth L.room L.budget_left self.new).table.pending ≡ length (caching L.history L.truth L.room L.budget_left self.old).table.pending + 1) }
+        ensures refusing { OnFalse result (IsRefusing (caching L.history L.truth L.room L.budget_left self.old)) }
+        ensures reads { NoReadBegun (pending_of (caching L.history L.truth L.room L.budget_left self.old).table.pending) (pending_of (caching L.history L.truth L.room L.budget_left self.new).table.pending) }
     {
         let slot = self.slots.get(at);
         let block = match slot.block {
@@ -254,8 +261,8 @@ impl<L: Link> Cache<L> {
         }
     }
 
-    /// Waits until the bytes of a slot are the disk's, and has them written if need be.
-    fn clean(&mut self, at: usize) -> Result<(), Cut>
+    /// Waits until the bytes of a slot are the disk's.
+    fn wait_for(&mut self, at: usize) -> Result<(), Cut>
         requires ready { IsReady (caching L.history L.truth L.room L.budget_left self.old) }
         requires at { at < length self.old.slots.items.items }
         ensures keeps { Keeps (caching L.history L.truth L.room L.budget_left self.old) (caching L.history L.truth L.room L.budget_left self.new) }
@@ -275,6 +282,24 @@ impl<L: Link> Cache<L> {
         }
     }
 
+    /// Waits until the bytes of a slot are the disk's, and has them written if need be.
+    fn clean(&mut self, at: usize) -> Result<(), Cut>
+        requires ready { IsReady (caching L.history L.truth L.room L.budget_left self.old) }
+        requires at { at < length self.old.slots.items.items }
+        ensures keeps { Keeps (caching L.history L.truth L.room L.budget_left self.old) (caching L.history L.truth L.room L.budget_left self.new) }
+        ensures leaves { Leaves self.old.slots.items.items self.new.slots.items.items }
+        ensures others { StayBut at self.old.slots self.new.slots }
+        ensures clean { OnOk result (IsSlotAt self.new.slots.items.items at (λ s. not (is_unclean_slot s))) }
+        ensures cut { IfErr result (λ cut. IsWhyCut (caching L.history L.truth L.room L.budget_left self.new) cut) }
+        ensures flush { FlushFollows self.old.flush (caching L.history L.truth L.room L.budget_left self.old).told self.new.flush (caching L.history L.truth L.room L.budget_left self.new).told }
+        ensures at_once { IsSlotAt self.old.slots.items.items at (λ s. not (is_unclean_slot s)) → (self.new ≡ self.old) × (result ≡ Ok tt) }
+    {
+        if !self.slots.get(at).is_unclean() {
+            return Ok(());
+        }
+        self.wait_for(at)
+    }
+
     /// Makes a slot free.
     fn make_room(&mut self) -> Result<usize, Cut>
         requires ready { IsReady (caching L.history L.truth L.room L.budget_left self.old) }
@@ -284,6 +309,7 @@ impl<L: Link> Cache<L> {
         ensures none { (b : ℕ) → held self.old.slots.items.items b ≡ None → held self.new.slots.items.items b ≡ None }
         ensures cut { IfErr result (λ cut. IsWhyCut (caching L.history L.truth L.room L.budget_left self.new) cut) }
         ensures flush { FlushFollows self.old.flush (caching L.history L.truth L.room L.budget_left self.old).told self.new.flush (caching L.history L.truth L.room L.budget_left self.new).told }
+        ensures at_once { IsAtOnce result self.old self.new }
     {
         let at = self.slots.victim();
         self.clean(at)?;
@@ -362,13 +388,14 @@ impl<L: Link> Cache<L> {
         self.wait(reading)
     }
 
-    /// The frame of a block, which is read if it has none: what would be read back stays as it is. A cut leaves no frame.
+    /// The frame of a block, which is read if it has none: what would be read back stays as it is. Where the call is
+    /// cut the block gets none; the frame that was to go may be gone.
     pub fn fetch(&mut self, block: u32) -> Result<Frame, Cut>
         requires ready { IsReady (caching L.history L.truth L.room L.budget_left self.old) }
         ensures keeps { Keeps (caching L.history L.truth L.room L.budget_left self.old) (caching L.history L.truth L.room L.budget_left self.new) }
         ensures frame { IfOk result (λ f. (f.block ≡ block) × IsFrame self.new f) }
         ensures hit { (s : Slot) → held self.old.slots.items.items block ≡ Some s → Hits result self.old self.new }
-        ensures miss { held self.old.slots.items.items block ≡ None → Misses result self.old self.new }
+        ensures miss { held self.old.slots.items.items block ≡ None → Misses State.Clean result self.old self.new }
         ensures cut { IfErr result (λ cut. IsWhyCut (caching L.history L.truth L.room L.budget_left self.new) cut) }
         ensures flush { FlushFollows self.old.flush (caching L.history L.truth L.room L.budget_left self.old).told self.new.flush (caching L.history L.truth L.room L.budget_left self.new).told }
     {
@@ -388,9 +415,10 @@ impl<L: Link> Cache<L> {
         ensures runs { Runs None (caching L.history L.truth L.room L.budget_left self.old) (caching L.history L.truth L.room L.budget_left self.new) (λ w v. Blanks result block (caching L.history L.truth L.room L.budget_left self.old) (caching L.history L.truth L.room L.budget_left self.new) w v) }
         ensures frame { IfOk result (λ f. (f.block ≡ block) × IsFrame self.new f) }
         ensures hit { (s : Slot) → held self.old.slots.items.items block ≡ Some s → BlanksFrame result self.old self.new }
-        ensures miss { held self.old.slots.items.items block ≡ None → Misses result self.old self.new }
+        ensures miss { held self.old.slots.items.items block ≡ None → Misses State.Dirty result self.old self.new }
         ensures cut { IfErr result (λ cut. IsWhyCut (caching L.history L.truth L.room L.budget_left self.new) cut) }
         ensures flush { FlushFollows self.old.flush (caching L.history L.truth L.room L.budget_left self.old).told self.new.flush (caching L.history L.truth L.room L.budget_left self.new).told }
+        ensures at_once { held self.old.slots.items.items block ≡ None → IsAtOnce result self.old self.new }
     {
         if let Some(at) = self.slots.find(block) {
             self.slots.blank(at);
@@ -429,6 +457,8 @@ impl<L: Link> Cache<L> {
         ensures keeps { Keeps (caching L.history L.truth L.room L.budget_left self.old) (caching L.history L.truth L.room L.budget_left self.new) }
         ensures held { (caching L.history L.truth L.room L.budget_left self.new).held ≡ forgotten block (caching L.history L.truth L.room L.budget_left self.old).held }
         ensures rest { self.new ≡ record self.old { slots = self.new.slots } }
+        ensures uses { self.new.slots.uses ≡ self.old.slots.uses }
+        ensures frames { (f : FrameValue) → f.block ≢ block → IsFrame self.old f → IsFrame self.new f }
     {
         if let Some(at) = self.slots.find(block) {
             if self.slots.get(at).state.is_clean() {
@@ -438,7 +468,7 @@ impl<L: Link> Cache<L> {
     }
 
     /// Begins the write of the dirty frame with the lowest block. No message is taken. False where there is none, or the write was
-    /// refused since too many are under way, or where no message comes any more.
+    /// refused since sixteen requests are pending or one of its block, or where no message comes any more; then nothing is changed.
     pub fn write_lowest(&mut self) -> bool
         requires ready { IsReady (caching L.history L.truth L.room L.budget_left self.old) }
         ensures keeps { Keeps (caching L.history L.truth L.room L.budget_left self.old) (caching L.history L.truth L.room L.budget_left self.new) }
@@ -449,6 +479,11 @@ impl<L: Link> Cache<L> {
         ensures stuck { OnFalse result (IsLive (caching L.history L.truth L.room L.budget_left self.new) → IsStuck (caching L.history L.truth L.room L.budget_left self.new)) }
         ensures frames { (f : FrameValue) → IsFrame self.old f → IsFrame self.new f }
         ensures flush { self.new.flush ≡ self.old.flush }
+        ensures refused { OnFalse result (self.new ≡ self.old) }
+        ensures live { OnTrue result (IsLive (caching L.history L.truth L.room L.budget_left self.old)) }
+        ensures uses { self.new.slots.uses ≡ self.old.slots.uses }
+        ensures adds { OnTrue result (length (caching L.history L.truth L.room L.budget_left self.new).table.pending ≡ length (caching L.history L.truth L.room L.budget_left self.old).table.pending + 1) }
+        ensures reads { NoReadBegun (pending_of (caching L.history L.truth L.room L.budget_left self.old).table.pending) (pending_of (caching L.history L.truth L.room L.budget_left self.new).table.pending) }
     {
         if self.live().is_err() {
             return false;
@@ -478,6 +513,10 @@ impl<L: Link> Cache<L> {
         requires room { room_needed message ≤ (caching L.history L.truth L.room L.budget_left self.old).room }
         ensures hands_over { HandsOver message (caching L.history L.truth L.room L.budget_left self.old) (caching L.history L.truth L.room L.budget_left self.new) }
         ensures wanted { IsWantedFor (message ≡ Incoming.Flush) self.old.flush self.new.flush }
+        ensures stay { AllStay self.old.slots self.new.slots }
+        ensures leaves { Leaves self.old.slots.items.items self.new.slots.items.items }
+        ensures end { message ≡ Incoming.End → self.new ≡ self.old }
+        ensures reads { NoReadBegun (pending_of (caching L.history L.truth L.room L.budget_left self.old).table.pending) (pending_of (caching L.history L.truth L.room L.budget_left self.new).table.pending) }
     {
         let settled = self.transfers.absorb(message);
         self.settle(settled);

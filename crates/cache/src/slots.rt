@@ -8,7 +8,8 @@ use crate::uses::Uses;
 use reissue::Ticket;
 use std::alloc::{AllocError, Global};
 
-/// A block in memory: it holds until the next call that fetches one.
+/// A block's place in memory. It may end at the next `fetch` or `fresh` of a block without a frame, and where `forget` gives its
+/// block up.
 #[derive(Clone, Copy)]
 pub struct Frame {
     /// The block.

@@ -37,7 +37,7 @@ one_more (suc k) old mid new (inr y) x = inr (y.0, y.1, one_more k y.0 mid new y
 pub busy_unclean : (c : Caching) → IsReady c → IsStuck c → SomeUnclean c.held → IsBusy (pending_of c.table.pending)
 busy_unclean c ready stuck some = elim stuck.why [
   | inl none ↦ by some.slot.state refl (none some.block some.slot some.is)
-  | inr busy ↦ busy
+  | inr busy ↦ busy.0
 ]
   where
     under : (t : ℕ) → ticket_of some.slot.state ≡ Some t → IsBusy (pending_of c.table.pending)

@@ -84,8 +84,6 @@ fn main(rt: HostRuntime) -> io::Result<ExitCode> {
     };
     let (image, script) = (file(words.image, &image), file(words.script, &script));
     let (mut out, mut err) = (io::writer(&rt), rt.stderr());
-    let status = play(
-        alloc, rt, image, script, &setup, supply, &mut out, &mut err,
-    );
+    let status = play(alloc, rt, image, script, &setup, supply, &mut out, &mut err);
     Ok(ExitCode::from(status.number()))
 }

@@ -178,7 +178,7 @@ impl<L: Link> Transfers<L> {
         }
     }
 
-    /// Does what a message asks for: a complaint where an answer isn't good, then the posts that are due. End changes nothing.
+    /// Does what a message asks for: a complaint where an answer counts and isn't good, then the posts that are due. End changes nothing.
     pub fn absorb(&mut self, message: Incoming) -> Settled
         requires ids { (table_of self.old).ids < 2 ^ 60 }
         requires room { room_needed message ≤ L.room (link_of self.old) }
@@ -215,8 +215,8 @@ impl<L: Link> Transfers<L> {
         self.absorb(message)
     }
 
-    /// Takes a request up: 1 TableFull where sixteen are pending, 2 BlockPending where one of this very range is. It is posted at
-    /// once where each earlier one was. Its range is that of a pending one, or has no byte in common with any.
+    /// Takes a request up: 1 TableFull where sixteen are pending, 2 BlockPending where one of this very range is. Where there is
+    /// a driver to post to, and each earlier one was posted to it, it is posted at once; the link may refuse it. Its range is that of a pending one, or has no byte in common with any.
     pub fn begin(&mut self, ask: &Ask) -> Result<Ticket, BeginRefusal>
         requires ids { (table_of self.old).ids < 2 ^ 60 }
         requires room { HasRoom (table_of self.old) (L.room (link_of self.old)) }

@@ -54,8 +54,12 @@ impl<R: Wait + Copy> Program<R> for InTurn {
         let mut one = service.session(0, 0).ok()?;
         let mut two = service.session(7, 8).ok()?;
         for now in [100, 101, 102] {
-            outcomes.push(one.call(now, &Call::Stat { path: b"/" })).ok()?;
-            outcomes.push(two.call(now, &Call::Stat { path: b"/" })).ok()?;
+            outcomes
+                .push(one.call(now, &Call::Stat { path: b"/" }))
+                .ok()?;
+            outcomes
+                .push(two.call(now, &Call::Stat { path: b"/" }))
+                .ok()?;
         }
         one.meet(&mut two);
         let devices = (one.device(), two.device());
@@ -186,7 +190,9 @@ fn three_calls<N: Room, R: Wait + Copy, D: LocalDriver>(
 ) -> Option<Vec<Outcome>> {
     let mut outcomes = Vec::new(alloc);
     for now in [100, 101, 102] {
-        outcomes.push(session.call(now, &Call::Stat { path: b"/" })).ok()?;
+        outcomes
+            .push(session.call(now, &Call::Stat { path: b"/" }))
+            .ok()?;
     }
     session.end();
     Some(outcomes)
@@ -217,8 +223,9 @@ fn on_threads<N: Room + Send + Sync, R: Threads + Wait + Copy + Send + Sync, D: 
     requires ready { All (IsReady (opening_of image.now setup.now.minor prepared.range)) (map D.state supply.items) }
 {
     let gate = Arc::new(alloc, Open).ok()?;
-    let service =
-        start::<N, R, D, Open>(alloc, rt, board, seat, prepared, setup, supply, gate).ok()?;
+    let service = start::<N, R, D, Open>(
+        alloc, rt, board, seat, prepared, setup, supply, gate,
+    ).ok()?;
     let one = service.session(0, 0).ok()?;
     let two = service.session(7, 8).ok()?;
     let (first, second) = join(

@@ -1,5 +1,5 @@
 use Rattle.std.proofs.Common.{◌≡◌, ℕ, suc, ◌+◌, refl, sym, subst, ◌∙◌, arith, Option}
-use mathlib.Core.Logic.{inr}
+use mathlib.Core.Logic.{inl, inr}
 use Rattle.cache.specs.declared.slots.Slot.{Slot}
 use Rattle.cache.specs.Calls.{caching}
 use Rattle.cache.proofs.Placing.{keeps_none, keeps_then}
@@ -16,7 +16,11 @@ writes-init g c = record {
   busy = λ lt. absurd (omega (arith, lt));
   frames = λ f is. is;
   within = omega arith;
+  grown = omega arith;
+  reads = λ t r is w. is;
+  few = c.args.cache.now.transfers.table.few;
   flush = refl;
+  uses = refl;
 }
 
 pub write_lowest-requires : goal.write_lowest-requires
@@ -57,7 +61,11 @@ writes-preserved g c =
       busy = λ lt. e.busy;
       frames = λ f is. e.frames f (i.frames f is);
       within = omega (arith, c.writes-test.true);
+      grown = let p = i.grown in let q = e.adds in omega (arith, p, q);
+      reads = λ t r is w. i.reads t r (e.reads t r is w) w;
+      few = c.write_lowest.new.self.transfers.table.few;
       flush = e.flush ∙ i.flush;
+      uses = e.uses ∙ i.uses;
     }
 
 pub returns-clause-keeps : goal.returns-clause-keeps
@@ -73,7 +81,11 @@ pub returns-clause-left : goal.returns-clause-left
 returns-clause-left g c = c.writes.invariant.left
 
 pub returns-clause-stuck : goal.returns-clause-stuck
-returns-clause-stuck g c = λ live. record { why = inr (c.writes.invariant.busy (omega (arith, c.writes-test.false))) }
+returns-clause-stuck g c = λ live.
+    let i = c.writes.invariant in
+    let p = i.grown in
+    let q = i.few in
+    record { why = inr (i.busy (omega (arith, c.writes-test.false)), inl (omega (arith, c.writes-test.false, p, q))) }
 
 pub returns-clause-frames : goal.returns-clause-frames
 returns-clause-frames g c = c.writes.invariant.frames

@@ -1,9 +1,9 @@
-use Rattle.std.proofs.Common.{◌≡◌, ◌<◌, ◌≤◌}
+use Rattle.std.proofs.Common.{◌≡◌, ◌<◌, ◌≤◌, ◌+◌, length}
 use Rattle.reissue.specs.Moves.{IsBusy}
 use Rattle.reissue.specs.Entries.{pending_of}
 use Rattle.cache.specs.declared.slots.Frame.{Frame}
 use Rattle.cache.specs.Calls.{caching, Keeps, PostsAlone, IsFrame}
-use Rattle.cache.specs.Takes.{messages_left}
+use Rattle.cache.specs.Takes.{messages_left, NoReadBegun}
 use Rattle.flusher.specs.Flushing.{WritesLowest}
 use Rattle.flusher.proofs.flush_some.Given as goal
 
@@ -16,5 +16,9 @@ invariant-writes g l = record {
   busy : 0 < l.counter → IsBusy (pending_of (caching g.L.Link.history g.L.Link.truth g.L.Link.room g.L.Link.budget_left l.cache).table.pending);
   frames : (f : Frame) → IsFrame l.initial.cache f → IsFrame l.cache f;
   within : l.counter ≤ 16;
+  grown : length l.cache.transfers.table.pending ≡ length l.initial.cache.transfers.table.pending + l.counter;
+  reads : NoReadBegun (pending_of l.initial.cache.transfers.table.pending) (pending_of l.cache.transfers.table.pending);
+  few : length l.cache.transfers.table.pending ≤ 16;
   flush : l.cache.flush ≡ l.initial.cache.flush;
+  uses : l.cache.slots.uses ≡ l.initial.cache.slots.uses;
 }

@@ -1,10 +1,15 @@
-use Rattle.std.proofs.Common.{◌≡◌, refl, sym, subst, ap, arith}
+use Rattle.std.proofs.Common.{◌≡◌, refl, sym, subst, ap, ◌∙◌, arith}
 use Rattle.reissue.specs.declared.transfers.Transfers.{Transfers}
 use Rattle.reissue.specs.Transfers.{table_of, link_of}
 use Rattle.reissue.specs.Posts.{HasRoom}
 use Rattle.cache.specs.Calls.{Caching, caching, caching_of, HandsOver}
 use Rattle.cache.proofs.Flushes.{wanted_for}
-use Rattle.cache.proofs.Taking.{absorbs_one, room_after}
+use Rattle.cache.proofs.Taking.{absorbs_one, room_after, leaves_settled, none_begun}
+use Rattle.message.specs.declared.Incoming.{Incoming}
+use Rattle.reissue.specs.Calls.{IsAnswerTo}
+use Rattle.reissue.specs.declared.ask.Settled.TheVariants as settled
+use Rattle.reissue.specs.Entries.{pending_of}
+use Rattle.cache.specs.Takes.{NoReadBegun}
 use Rattle.cache.proofs.cache.Cache.absorb.Goals as goal
 
 pub returns : goal.returns
@@ -27,5 +32,12 @@ returns g c =
           (λ alive. room_after c.args.message (HasRoom (table_of c.absorb-settled.new.self) (r (link_of c.absorb-settled.new.self))) x.room
           (λ end. subst (λ (u : Transfers _). HasRoom (table_of u) (r (link_of u))) (sym (x.ended end)) (c.requires.ready.room alive))) x.closed
           (λ end. ap (λ (u : Transfers _). h (link_of u)) (x.ended end)));
+      stay = e.stay;
+      reads = subst (λ (u : Transfers _). NoReadBegun (pending_of (table_of s.transfers).pending) (pending_of (table_of u).pending)) (sym e.transfers)
+          (none_begun c.absorb-settled.result _ _ x.absorbs.closes);
+      leaves = leaves_settled c.absorb-settled.result _ _ e.slots;
+      end = λ is.
+          let ends : c.absorb-settled.result ≡ settled.End = subst (λ (m : Incoming). IsAnswerTo m c.absorb-settled.result) is x.answer in
+          e.end ends ∙ (λ i. record s { transfers = x.ended is i });
       wanted = wanted_for c.args.message c.absorb-settled.result _ _ x.answer e.wanted;
     }

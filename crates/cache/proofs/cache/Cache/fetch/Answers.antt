@@ -82,7 +82,7 @@ returns-in_err-at-clause-hit g c = λ s some.
 pub returns-in_err-at-clause-miss : goal.returns-in_err-at-clause-miss
 returns-in_err-at-clause-miss g c = λ none.
     let m = c.make_room.ensures.made in
-    misses_cut c.from_residual.result _ _ m.at c.from_residual.ensures.0 m.goes m.stay c.make_room.ensures.none
+    misses_cut Clean c.from_residual.result _ _ m.at c.from_residual.ensures.0 m.goes m.stay c.make_room.ensures.none
 
 pub returns-in_err-bytes-clause-hit : goal.returns-in_err-bytes-clause-hit
 returns-in_err-bytes-clause-hit g c = λ s some.
@@ -92,7 +92,7 @@ returns-in_err-bytes-clause-hit g c = λ s some.
 pub returns-in_err-bytes-clause-miss : goal.returns-in_err-bytes-clause-miss
 returns-in_err-bytes-clause-miss g c = λ none.
     let m = c.in_ok-at.ensures.made in
-    misses_cut c.from_residual-in_err-bytes.result _ _ m.at c.from_residual-in_err-bytes.ensures.0 m.goes
+    misses_cut Clean c.from_residual-in_err-bytes.result _ _ m.at c.from_residual-in_err-bytes.ensures.0 m.goes
     (but_then m.at _ _ _ m.stay (all_but m.at _ _ c.read.ensures.stay)) (λ b h. c.read.ensures.leaves.none b (c.make_room.ensures.none b h))
 
 pub returns-clause-hit : goal.returns-clause-hit

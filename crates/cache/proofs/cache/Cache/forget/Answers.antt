@@ -1,6 +1,7 @@
 use Rattle.std.proofs.Common.{refl, sym, ◌∙◌}
 use Rattle.cache.specs.Calls.{caching, caching_of}
 use Rattle.cache.proofs.Placing.{keeps_none, vacated, clean_passes, found_at, none_held, forgotten_clean, forgotten_other, forgotten_none}
+use Rattle.cache.proofs.Staying.{frame_stays}
 use Rattle.cache.proofs.cache.Cache.forget.Goals as goal
 
 pub returns-then-is_clean-clause-keeps : goal.returns-then-is_clean-clause-keeps
@@ -37,3 +38,9 @@ returns-in_default-clause-keeps g c = keeps_none _ c.requires.ready
 
 pub returns-in_default-clause-held : goal.returns-in_default-clause-held
 returns-in_default-clause-held g c = forgotten_none _ c.args.block (none_held c.args.self.now.slots.items.items c.args.block (sym c.find.ensures ∙ c.in_default.is))
+
+pub returns-then-is_clean-clause-frames : goal.returns-then-is_clean-clause-frames
+returns-then-is_clean-clause-frames g c = λ f ne is.
+    let items = c.args.self.now.slots.items.items in
+    frame_stays items c.vacate.new.self.items.items c.in-Some.at c.args.block f.at f.block _
+    (found_at items c.in-Some.at c.args.block (sym c.find.ensures ∙ c.in-Some.is)) ne c.vacate.ensures.set is

@@ -3,6 +3,7 @@ use Rattle.cache.specs.Calls.{caching, caching_of}
 use Rattle.cache.specs.Edits.{StayBut}
 use Rattle.cache.specs.Order.{IsVictim}
 use Rattle.cache.specs.declared.slots.Slot.{Slot}
+use Rattle.cache.specs.declared.cache.Cache.{Cache}
 use Rattle.cache.specs.declared.state.State.TheVariants.{Dirty}
 use Rattle.cache.proofs.Edits.{one_slot, leaves_set}
 use Rattle.cache.proofs.Held.{in_range}
@@ -83,7 +84,7 @@ returns-in_err-at-clause-hit g c = λ s some.
 pub returns-in_err-at-clause-miss : goal.returns-in_err-at-clause-miss
 returns-in_err-at-clause-miss g c = λ none.
     let m = c.make_room.ensures.made in
-    misses_cut c.from_residual.result _ _ m.at c.from_residual.ensures.0 m.goes m.stay c.make_room.ensures.none
+    misses_cut Dirty c.from_residual.result _ _ m.at c.from_residual.ensures.0 m.goes m.stay c.make_room.ensures.none
 
 pub returns-clause-hit : goal.returns-clause-hit
 returns-clause-hit g c = λ s some.
@@ -101,3 +102,18 @@ returns-clause-miss g c = λ none.
 
 pub returns-in-Some-clause-flush : goal.returns-in-Some-clause-flush
 returns-in-Some-clause-flush g c = follows_none _ _
+
+pub returns-in-Some-clause-at_once : goal.returns-in-Some-clause-at_once
+returns-in-Some-clause-at_once g c = λ none.
+    has_one c.args.self.now.slots.items.items c.in-Some.at c.args.block
+    (found_at c.args.self.now.slots.items.items c.in-Some.at c.args.block (sym c.find.ensures ∙ c.in-Some.is)) none
+
+pub returns-in_err-at-clause-at_once : goal.returns-in_err-at-clause-at_once
+returns-in_err-at-clause-at_once g c = λ none.
+    let x = c.in_err-at.ensures.at_once in
+    record { at = x.at; goes = x.goes; at_once = λ f. absurd (let z = (x.at_once f).0 in cc) }
+
+pub returns-clause-at_once : goal.returns-clause-at_once
+returns-clause-at_once g c = λ none.
+    let x = c.in_ok-at.ensures.at_once in
+    record { at = x.at; goes = x.goes; at_once = λ f. (refl, ap (λ (k : Cache _). record k { slots = c.fill.new.self }) (x.at_once f).1) }

@@ -1,9 +1,9 @@
-use Rattle.std.proofs.Common.{◌≡◌, refl, sym, ap, subst, ◌∙◌}
+use Rattle.std.proofs.Common.{◌≡◌, refl, sym, ap, subst, ◌∙◌, Err}
 use Rattle.cache.specs.Calls.{Caching, caching, caching_of, Keeps}
 use Rattle.cache.specs.declared.slots.Slot.{Slot}
-use Rattle.cache.proofs.Beginning.{issued_at, free_block, write_one, write_leaves, busy_begun, dirty_parts}
+use Rattle.cache.proofs.Beginning.{longer, refusing, issued_at, free_block, write_one, write_leaves, busy_begun, dirty_parts}
 use Rattle.cache.proofs.Edits.{one_slot}
-use Rattle.cache.proofs.Held.{in_range}
+use Rattle.cache.proofs.Held.{in_range, held_at}
 use Rattle.cache.proofs.Placing.{keeps_none}
 use Rattle.cache.proofs.Staying.{but_none, set_others}
 use Rattle.cache.proofs.cache.Cache.issue.Goals as goal
@@ -77,3 +77,24 @@ returns-in-Ok-clause-others g c = record { uses = c.set_state.ensures.uses; each
 
 pub returns-in-Err-clause-others : goal.returns-in-Err-clause-others
 returns-in-Err-clause-others g c = but_none c.args.at _
+
+pub returns-in-Ok-clause-adds : goal.returns-in-Ok-clause-adds
+returns-in-Ok-clause-adds g c =
+    let h = g.L.Link.history in
+    let t = g.L.Link.truth in
+    let r = g.L.Link.room in
+    let b = g.L.Link.budget_left in
+    let s = c.args.self.now in
+    longer c.write-ask.result (caching h t r b s) (caching_of h t r b c.begin.new.self s.shape c.set_state.new.self.items.items s.ended) c.in-Ok.ensures.adds
+
+pub returns-in-Err-clause-refusing : goal.returns-in-Err-clause-refusing
+returns-in-Err-clause-refusing g c =
+    let s = c.args.self.now in
+    let items = s.slots.items.items in
+    let a = c.write-ask.ensures in
+    let d = c.requires.dirty in
+    let x = c.in-Err.ensures in
+    let same : d.slot ≡ c.get-slot.result.now = one_slot items c.args.at d.slot c.get-slot.result.now d.is c.get-slot.ensures in
+    refusing (caching g.L.Link.history g.L.Link.truth g.L.Link.room g.L.Link.budget_left s) (Err c.in-Err.field-0) _ _ c.in-Some.block c.get-slot.result.now refl x.full x.pending
+    a.position a.count (held_at items c.args.at c.in-Some.block c.get-slot.result.now s.slots.distinct c.get-slot.ensures c.in-Some.is)
+    (ap (λ (y : Slot). y.state) (sym same) ∙ (dirty_parts d.slot d.passes).2)

@@ -1,4 +1,6 @@
 use mathlib.Core.Logic.{inl}
+use Rattle.cache.specs.Calls.{caching}
+use Rattle.cache.proofs.Beginning.{stuck_for}
 use Rattle.cache.proofs.Choosing.{match_bool, issued_lowest, none_dirty}
 use Rattle.cache.proofs.Placing.{keeps_none}
 use Rattle.cache.proofs.cache.Cache.write_lowest.Goals as goal
@@ -16,3 +18,8 @@ returns-in-None-clause-keeps g c = keeps_none _ c.requires.ready
 
 pub returns-in-None-clause-stuck : goal.returns-in-None-clause-stuck
 returns-in-None-clause-stuck g c = λ live. record { why = inl (none_dirty c.args.self.now.slots.items.items c.args.self.now.slots.uses.numbers.items c.in-None.ensures) }
+
+pub returns-in-Some-clause-stuck : goal.returns-in-Some-clause-stuck
+returns-in-Some-clause-stuck g c =
+    stuck_for (λ k. caching g.L.Link.history g.L.Link.truth g.L.Link.room g.L.Link.budget_left k) c.issue.result c.args.self.now c.issue.new.self
+    c.issue.ensures.refused c.issue.ensures.refusing c.issue.ensures.busy

@@ -1,13 +1,17 @@
+use Rattle.std.proofs.Common.{◌≡◌}
 use Rattle.reissue.specs.Transfers.{link_of}
+use Rattle.reissue.specs.Entries.{pending_of}
 use Rattle.cache.specs.declared.slots.Frame.{Frame}
 use Rattle.cache.specs.Calls.{caching, Keeps, IsFrame, FlushFollows}
-use Rattle.cache.specs.Takes.{messages_left}
-use Rattle.flusher.proofs.sync.Given as goal
+use Rattle.cache.specs.Takes.{messages_left, NoReadBegun}
+use Rattle.flusher.proofs.write_all.Given as goal
 
 abbrev pub invariant-messages : goal.invariant-messages
 invariant-messages g l = record {
   keeps : Keeps (caching g.L.Link.history g.L.Link.truth g.L.Link.room g.L.Link.budget_left l.initial.cache) (caching g.L.Link.history g.L.Link.truth g.L.Link.room g.L.Link.budget_left l.cache);
   frames : (f : Frame) → IsFrame l.initial.cache f → IsFrame l.cache f;
+  reads : NoReadBegun (pending_of l.initial.cache.transfers.table.pending) (pending_of l.cache.transfers.table.pending);
+  uses : l.cache.slots.uses ≡ l.initial.cache.slots.uses;
   flush : FlushFollows l.initial.cache.flush (g.L.Link.history (link_of l.initial.cache.transfers)) l.cache.flush (g.L.Link.history (link_of l.cache.transfers));
 }
 

@@ -2,7 +2,7 @@ use Rattle.reissue.specs.Transfers.{link_of}
 use Rattle.cache.specs.Calls.{caching, Keeps, FlushFollows}
 use Rattle.cache.specs.Edits.{Leaves, StayBut}
 use Rattle.cache.specs.Takes.{messages_left}
-use Rattle.cache.proofs.cache.Cache.clean.Given as goal
+use Rattle.cache.proofs.cache.Cache.wait_for.Given as goal
 
 abbrev pub invariant-tries : goal.invariant-tries
 invariant-tries g l = record {
