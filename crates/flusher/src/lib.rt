@@ -58,8 +58,8 @@ fn write_all<L: Link>(cache: &mut Cache<L>) -> Result<(), Cut>
 }
 
 /// Writes all dirty frames, the lowest block first, until no frame is dirty and no write is open. Then no place of the disk is unsure,
-/// and the disk is what would be read back. Where each frame is clean it changes nothing, whatever became of the link. A Flush is wanted then where one was or has come: `take_flush` counts
-/// it as done.
+/// and the disk is what would be read back. Where each frame is clean it changes nothing, whatever became of the link. A Flush is wanted
+/// then where one was or has come: `take_flush` counts it as done.
 pub fn sync<L: Link>(cache: &mut Cache<L>) -> Result<(), Cut>
     requires ready { IsReady (caching L.history L.truth L.room L.budget_left cache.old) }
     ensures runs { Runs None (caching L.history L.truth L.room L.budget_left cache.old) (caching L.history L.truth L.room L.budget_left cache.new) (λ w v. Syncs result (caching L.history L.truth L.room L.budget_left cache.old) (caching L.history L.truth L.room L.budget_left cache.new) w v) }

@@ -216,7 +216,8 @@ impl<L: Link> Transfers<L> {
     }
 
     /// Takes a request up: 1 TableFull where sixteen are pending, 2 BlockPending where one of this very range is. Where there is
-    /// a driver to post to, and each earlier one was posted to it, it is posted at once; the link may refuse it. Its range is that of a pending one, or has no byte in common with any.
+    /// a driver to post to, and each earlier one was posted to it, it is posted at once; the link may refuse it. Its range is that of a
+    /// pending one, or has no byte in common with any.
     pub fn begin(&mut self, ask: &Ask) -> Result<Ticket, BeginRefusal>
         requires ids { (table_of self.old).ids < 2 ^ 60 }
         requires room { HasRoom (table_of self.old) (L.room (link_of self.old)) }
