@@ -15,7 +15,7 @@ use Rattle.reissue.specs.declared.ask.Settled.{Settled}
 use Rattle.reissue.specs.declared.ask.Settled.TheVariants as settled
 use Rattle.reissue.specs.declared.pending.Pending.{Pending}
 use Rattle.reissue.specs.declared.table.Table.{Table}
-use Rattle.marks.specs.Opening.{Opening, contents_at}
+use Rattle.marks.specs.Opening.{Opening}
 use Rattle.reissue.specs.Room.{room_needed}
 use Rattle.reissue.specs.Moves.{Closes, IsFree, Spares, state_after}
 use Rattle.reissue.specs.Entries.{pending_of, begun_of, request_of, AllOfMinor, MissesOrSame, AreDistinct, IsAmong}
@@ -37,7 +37,7 @@ grown_append (Posted to r false ∷ es) fs marks = grown_append es fs marks
 grown_append (Complained e ∷ es) fs marks = grown_append es fs marks
 grown_append (Received m ∷ es) fs marks = ap (λ (l : List Mark). received m l) (grown_append es fs marks)
 
--- posts answer nothing: replies are true after them exactly where they were before
+-- posts answer nothing: where replies are true after them they were so before
 true_before : (es : List Told) (image : Contents) (marks : List Mark) → OnlyPosts es
     → HasTrueReplies image (grown es marks) → HasTrueReplies image marks
 true_before [] image marks o h = h
@@ -45,15 +45,6 @@ true_before (Posted to r true ∷ es) image marks o h = true_before es image mar
 true_before (Posted to r false ∷ es) image marks o h = true_before es image marks o h
 true_before (Complained e ∷ es) image marks o h = absurd o
 true_before (Received m ∷ es) image marks o h = absurd o
-
--- and after them
-pub true_after : (es : List Told) (image : Contents) (marks : List Mark) → OnlyPosts es
-    → HasTrueReplies image marks → HasTrueReplies image (grown es marks)
-true_after [] image marks o h = h
-true_after (Posted to r true ∷ es) image marks o h = true_after es image marks o h
-true_after (Posted to r false ∷ es) image marks o h = true_after es image marks o h
-true_after (Complained e ∷ es) image marks o h = absurd o
-true_after (Received m ∷ es) image marks o h = absurd o
 
 -- posts end nothing
 ended_posts : (es before : List Told) → OnlyPosts es → took_end (es ++ before) ≡ took_end before
@@ -202,8 +193,7 @@ absorbs_then m res s t u before between after was mid is x l posts current =
 -- a message taken, and what was done on it
 pub steps_one : (m : Incoming) (res : Settled) (t u : Table) (before taken after : List Told) (was mid is : Truth)
     → taken ≡ heard m before
-    → ((opening : Opening) (marks : List Mark) → was opening marks
-    → mid opening (received m marks) × HasTrueReplies (contents_at opening) (received m marks))
+    → ((opening : Opening) (marks : List Mark) → was opening marks → mid opening (received m marks))
     → Absorbs m res t u taken after mid is → IsAnswerTo m res → Steps res t u before after was is
 steps_one m res t u before taken after was mid is told truth x answer =
     let in_order = subst (λ (h : List Told). PostsAfter m x.mid (x.complaints ++ h) after) told x.in_order in
@@ -238,9 +228,7 @@ steps_one m res t u before taken after was mid is told truth x answer =
           (grown_append x.complaints (Received m ∷ []) marks ∙ x.silent (received m marks));
       agrees = x.agrees;
       closing = x.closing;
-      truth = λ opening marks h minors k.
-          let taken' = truth opening marks k in
-          (x.truth opening marks h minors taken'.0, true_after x.posts (contents_at opening) (received m marks) x.only_posts taken'.1);
+      truth = λ opening marks h minors k. x.truth opening marks h minors (truth opening marks k);
     }
 
 -- a request is added, and posted or not

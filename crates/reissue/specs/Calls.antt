@@ -11,7 +11,7 @@ use Rattle.reissue.specs.declared.ask.Settled.{Settled}
 use Rattle.reissue.specs.declared.ask.Settled.TheVariants as settled
 use Rattle.reissue.specs.declared.pending.Pending.{Pending}
 use Rattle.reissue.specs.declared.table.Table.{Table}
-use Rattle.marks.specs.Opening.{Opening, contents_at}
+use Rattle.marks.specs.Opening.{Opening}
 use Rattle.reissue.specs.Moves.{Begun, Touches, IsQuiet, IsBusy, Spares, Moves, Closes, Joins, state_after, request_for, begun_by}
 use Rattle.reissue.specs.Entries.{pending_of, begun_of, AllOfMinor}
 use Rattle.reissue.specs.Agrees.{Agrees}
@@ -162,7 +162,7 @@ pub record Steps (result : Settled) (old new : Table) (before after : List Told)
       → Closing result old.pending new.pending marks (grown posts (received message marks))
   pub minors : (minor : ℕ) → AllOfMinor minor old.pending → AllOfMinor minor new.pending
   pub truth : (opening : Opening) (marks : List Mark) → Agrees old marks → AllOfMinor opening.minor old.pending → was opening marks
-      → is opening (grown posts (received message marks)) × HasTrueReplies (contents_at opening) (grown posts (received message marks))
+      → is opening (grown posts (received message marks))
   pub rules : (minor : ℕ) (marks : List Mark) → Agrees old marks → AllOfMinor minor old.pending → IsBusy (pending_of old.pending)
       → old.given_up ≡ false
       → KeepsRulesBy acts minor old new before after marks (grown posts (received message marks))

@@ -106,6 +106,7 @@ impl<L: Link> Transfers<L> {
         ensures leads { Leads (table_of self.old) (table_of self.new) (L.history (link_of self.old)) (L.history (link_of self.new))
             (L.truth (link_of self.old)) (L.truth (link_of self.new)) }
         ensures budget { L.budget_left (link_of self.new) ≤ L.budget_left (link_of self.old) }
+        ensures goes { L.goes_on (link_of self.old) (link_of self.new) }
         ensures posts { PostsInOrder (table_of self.old).current (unposted (table_of self.old)) (L.history (link_of self.old)) (L.history (link_of self.new)) }
         ensures ids { (table_of self.new).ids ≡ (table_of self.old).ids }
         ensures current { (table_of self.new).current ≡ (table_of self.old).current }
@@ -127,6 +128,7 @@ impl<L: Link> Transfers<L> {
         ensures leads { Leads (table_of self.old) (table_of self.new) (L.history (link_of self.old)) (L.history (link_of self.new))
             (L.truth (link_of self.old)) (L.truth (link_of self.new)) }
         ensures budget { L.budget_left (link_of self.new) ≤ L.budget_left (link_of self.old) }
+        ensures goes { L.goes_on (link_of self.old) (link_of self.new) }
         ensures posts { MatchBool due
             (PostsInOrder (table_of self.old).current (unposted (table_of self.old)) (L.history (link_of self.old)) (L.history (link_of self.new)))
             (L.history (link_of self.new) ≡ L.history (link_of self.old)) }
@@ -150,6 +152,7 @@ impl<L: Link> Transfers<L> {
         ensures answer { IsAnswerTo message.now result }
         ensures ended { message.now ≡ Incoming.End → self.new ≡ self.old }
         ensures budget { L.budget_left (link_of self.new) ≤ L.budget_left (link_of self.old) }
+        ensures goes { L.goes_on (link_of self.old) (link_of self.new) }
         ensures room { L.room (link_of self.old) ≤ L.room (link_of self.new) + 1 }
         ensures ids { (table_of self.new).ids ≤ (table_of self.old).ids + 1 }
         ensures closed { (table_of self.new).ids + length (table_of self.old).pending ≤ (table_of self.old).ids + length (table_of self.new).pending + 1 }
@@ -187,6 +190,7 @@ impl<L: Link> Transfers<L> {
         ensures answer { IsAnswerTo message result }
         ensures ended { message ≡ Incoming.End → self.new ≡ self.old }
         ensures budget { L.budget_left (link_of self.new) ≤ L.budget_left (link_of self.old) }
+        ensures goes { L.goes_on (link_of self.old) (link_of self.new) }
         ensures room { is_message message ≡ true → HasRoom (table_of self.new) (L.room (link_of self.new)) }
         ensures tried { IsTried (table_of self.old) (L.history (link_of self.old)) → IsTried (table_of self.new) (L.history (link_of self.new)) }
         ensures ids { (table_of self.new).ids ≤ (table_of self.old).ids + 1 }
@@ -205,6 +209,7 @@ impl<L: Link> Transfers<L> {
             (L.truth (link_of self.old)) (L.truth (link_of self.new)) }
         ensures budget { 0 < L.budget_left (link_of self.old) → L.budget_left (link_of self.new) < L.budget_left (link_of self.old) }
         ensures spent { L.budget_left (link_of self.old) ≡ 0 → result ≡ Settled.End }
+        ensures goes { L.goes_on (link_of self.old) (link_of self.new) }
         ensures falls { goes_on result ≡ true → L.budget_left (link_of self.new) < L.budget_left (link_of self.old) }
         ensures room { goes_on result ≡ true → HasRoom (table_of self.new) (L.room (link_of self.new)) }
         ensures tried { IsTried (table_of self.old) (L.history (link_of self.old)) → IsTried (table_of self.new) (L.history (link_of self.new)) }
@@ -233,6 +238,7 @@ impl<L: Link> Transfers<L> {
         ensures begins { Begins ask.now (table_of self.old) (table_of self.new) (L.history (link_of self.old)) (L.history (link_of self.new))
             (L.truth (link_of self.old)) (L.truth (link_of self.new)) }
         ensures budget { L.budget_left (link_of self.new) ≤ L.budget_left (link_of self.old) }
+        ensures goes { L.goes_on (link_of self.old) (link_of self.new) }
         ensures room { HasRoom (table_of self.new) (L.room (link_of self.new)) }
         ensures tried { IsTried (table_of self.old) (L.history (link_of self.old)) → IsTried (table_of self.new) (L.history (link_of self.new)) }
     {

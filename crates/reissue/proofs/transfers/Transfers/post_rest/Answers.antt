@@ -7,6 +7,9 @@ pub returns-in-Err-clause-leads : goal.returns-in-Err-clause-leads
 returns-in-Err-clause-leads g c =
     leads_refused _ _ _ _ _ _ _ _ _ _ c.loop-request.invariant.leads c.in-Err.ensures.told c.in-Err.ensures.refused
 
+pub returns-in-Err-clause-goes : goal.returns-in-Err-clause-goes
+returns-in-Err-clause-goes g c = g.met.L.Link.joins _ _ _ c.loop-request.invariant.goes c.in-Err.ensures.goes
+
 pub loop-request-preserved : goal.loop-request-preserved
 loop-request-preserved g c =
     let i = c.loop-request.invariant in
@@ -19,6 +22,7 @@ loop-request-preserved g c =
       current = e.current ∙ i.current;
       same = e.current ∙ i.same;
       budget = omega (arith, k.budget, i.budget);
+      goes = g.met.L.Link.joins _ _ _ i.goes k.goes;
       ids = e.ids ∙ i.ids;
       enough = omega (arith, k.room, i.enough, e.posted, ap length e.items);
       taken = omega (arith, k.room, i.taken, e.posted);

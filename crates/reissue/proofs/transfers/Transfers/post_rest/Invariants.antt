@@ -12,6 +12,7 @@ invariant-loop-request g l = record {
   current : l.self.table.current ≡ Some l.to;
   same : l.self.table.current ≡ l.fn.self.table.current;
   budget : g.L.Link.budget_left l.self.link ≤ g.L.Link.budget_left l.fn.self.link;
+  goes : g.L.Link.goes_on l.fn.self.link l.self.link;
   ids : l.self.table.ids ≡ l.fn.self.table.ids;
   enough : length l.self.table.pending ≤ g.L.Link.room l.self.link + l.self.table.posted;
   taken : g.L.Link.room l.fn.self.link + l.fn.self.table.posted ≤ g.L.Link.room l.self.link + l.self.table.posted;

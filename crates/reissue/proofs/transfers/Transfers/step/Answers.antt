@@ -10,3 +10,6 @@ pub returns-clause-falls : goal.returns-clause-falls
 returns-clause-falls g c = λ on.
     let less = falls_to _ _ _ _ c.absorb.ensures.answer on c.take-message.ensures.budget c.take-message.ensures.spent in
     omega (arith, less, c.absorb.ensures.budget)
+
+pub returns-clause-goes : goal.returns-clause-goes
+returns-clause-goes g c = g.met.L.Link.joins _ _ _ c.take-message.ensures.goes c.absorb.ensures.goes
