@@ -1,6 +1,8 @@
 //! The table of pending requests.
 
-ghost use Rattle.std.specs.Prelude.{◌≡◌, ◌+◌, ◌<◌, ◌≤◌, ◌==◌, ◌∷◌, [], ◌++◌, take, length, position, max, slice_index_or, IsSome, IfSome, IfOk, ◌↔◌, ◌^◌, ◌-◌, ◌%◌, ℕ, remove, slice_index, IsTrue, Bool, true, false, Option, Some, if◌then◌else◌, nat_lt, ◌&&◌};
+ghost use Rattle.std.specs.Prelude.{◌≡◌, ◌+◌, ◌<◌, ◌≤◌, ◌==◌, ◌∷◌, [], ◌++◌, take, length, position, max, slice_index_or, IsSome, IfSome};
+ghost use Rattle.std.specs.Prelude.{IfOk, ◌↔◌, ◌^◌, ◌-◌, ◌%◌, ℕ, remove, slice_index, IsTrue, Bool, true, false, Option, Some};
+ghost use Rattle.std.specs.Prelude.{if◌then◌else◌, nat_lt, ◌&&◌};
 ghost use Rattle.std.specs.List.{list_any};
 ghost use Rattle.message.specs.Good.{is_write};
 ghost use Rattle.marks.specs.Marks.{is_endpoint};
@@ -103,7 +105,8 @@ impl Table {
     /// The first pending request that wasn't posted to the present endpoint.
     pub fn next_to_post(&self) -> Option<&BlockRequest>
         ensures some { IsSome result ↔ (self.now.posted < length self.now.pending) }
-        ensures request { IfSome result (λ r. (p : Pending) × (p ≡ slice_index_or self.now.pending self.now.posted p) × (r.now ≡ p.request)) }
+        ensures request { IfSome result (λ r.
+            (p : Pending) × (p ≡ slice_index_or self.now.pending self.now.posted p) × (r.now ≡ p.request)) }
     {
         if self.posted < self.pending.len() {
             Some(&self.pending.get(self.posted).request)
@@ -270,7 +273,8 @@ impl Table {
     pub fn answer(&mut self, reply: &BlockReply) -> Answer
         requires { self.old.ids < 2 ^ 60 }
         ensures agrees { (marks : List Mark) → Agrees self.old marks → Agrees self.new (received (incoming.Reply reply.now) marks) }
-        ensures hears { (marks : List Mark) → Agrees self.old marks → HearsAnswer self.old self.new reply.now.id (counted_move marks reply.now) }
+        ensures hears { (marks : List Mark) → Agrees self.old marks
+            → HearsAnswer self.old self.new reply.now.id (counted_move marks reply.now) }
         ensures due { (marks : List Mark) → Agrees self.old marks
             → complained result reply.now ≡ complaints_about (complaint_due reply.now marks) }
         ensures closes { Closes (settled_of result) (pending_of self.old.pending) (pending_of self.new.pending) }

@@ -1,6 +1,7 @@
 //! Requests over a link, each pending until it is answered good over its whole range.
 
-ghost use Rattle.std.specs.Prelude.{◌≡◌, ◌+◌, ◌<◌, ◌≤◌, ◌^◌, ◌==◌, ◌&&◌, ◌↔◌, ◌∷◌, [], List, ℕ, length, IsOk, IsTrue, IfOk, OnOk, OnErr, IsErrOf, IsSome, true, false, Option, MatchBool};
+ghost use Rattle.std.specs.Prelude.{◌≡◌, ◌+◌, ◌<◌, ◌≤◌, ◌^◌, ◌==◌, ◌&&◌, ◌↔◌, ◌∷◌, [], List, ℕ, length, IsOk, IsTrue, IfOk, OnOk, OnErr};
+ghost use Rattle.std.specs.Prelude.{IsErrOf, IsSome, true, false, Option, MatchBool};
 ghost use Rattle.std.specs.Borrow.{Lends, sem};
 ghost use Rattle.std.specs.List.{list_any};
 ghost use Rattle.reissue.specs.Room.{room_needed};
@@ -48,7 +49,7 @@ impl<L: Link> Transfers<L> {
     ghost use Rattle.reissue.specs.Agrees.{Agrees, unposted};
     ghost use Rattle.reissue.specs.Posts.{PostsInOrder, IsTried, HasRoom, CanPost, TakesRoom};
     ghost use Rattle.reissue.specs.Calls.{Leads, TakesIn, Absorbs, Steps, Begins, Adds, IsAnswerTo, goes_on};
-    ghost use Rattle.reissue.specs.Transfers.{link_of, table_of, begun_in, with_link};
+    ghost use Rattle.reissue.specs.Transfers.{link_of, table_of, begun_in, with_link, Between};
     ghost use Rattle.reissue.specs.contracts.transfers.Transfers.{the_row};
 
     /// Nothing pending, over this link. It takes memory for sixteen requests, and nothing here takes any later.
@@ -103,11 +104,11 @@ impl<L: Link> Transfers<L> {
     /// Posts what isn't posted yet, in order, up to the first that is refused.
     fn post_rest(&mut self)
         requires { CanPost (table_of self.old) (L.room (link_of self.old)) }
-        ensures leads { Leads (table_of self.old) (table_of self.new) (L.history (link_of self.old)) (L.history (link_of self.new))
-            (L.truth (link_of self.old)) (L.truth (link_of self.new)) }
+        ensures leads { Between L.Link Leads self.old self.new }
         ensures budget { L.budget_left (link_of self.new) ≤ L.budget_left (link_of self.old) }
         ensures goes { L.goes_on (link_of self.old) (link_of self.new) }
-        ensures posts { PostsInOrder (table_of self.old).current (unposted (table_of self.old)) (L.history (link_of self.old)) (L.history (link_of self.new)) }
+        ensures posts { PostsInOrder (table_of self.old).current (unposted (table_of self.old))
+            (L.history (link_of self.old)) (L.history (link_of self.new)) }
         ensures ids { (table_of self.new).ids ≡ (table_of self.old).ids }
         ensures current { (table_of self.new).current ≡ (table_of self.old).current }
         ensures room { TakesRoom (table_of self.old) (table_of self.new) (L.room (link_of self.old)) (L.room (link_of self.new)) }
@@ -125,16 +126,17 @@ impl<L: Link> Transfers<L> {
     /// Posts what isn't posted yet, if that is due.
     fn post_if(&mut self, due: bool)
         requires { due ≡ true → CanPost (table_of self.old) (L.room (link_of self.old)) }
-        ensures leads { Leads (table_of self.old) (table_of self.new) (L.history (link_of self.old)) (L.history (link_of self.new))
-            (L.truth (link_of self.old)) (L.truth (link_of self.new)) }
+        ensures leads { Between L.Link Leads self.old self.new }
         ensures budget { L.budget_left (link_of self.new) ≤ L.budget_left (link_of self.old) }
         ensures goes { L.goes_on (link_of self.old) (link_of self.new) }
         ensures posts { MatchBool due
-            (PostsInOrder (table_of self.old).current (unposted (table_of self.old)) (L.history (link_of self.old)) (L.history (link_of self.new)))
+            (PostsInOrder (table_of self.old).current (unposted (table_of self.old))
+            (L.history (link_of self.old)) (L.history (link_of self.new)))
             (L.history (link_of self.new) ≡ L.history (link_of self.old)) }
         ensures ids { (table_of self.new).ids ≡ (table_of self.old).ids }
         ensures current { (table_of self.new).current ≡ (table_of self.old).current }
-        ensures room { due ≡ true → TakesRoom (table_of self.old) (table_of self.new) (L.room (link_of self.old)) (L.room (link_of self.new)) }
+        ensures room { due ≡ true → TakesRoom (table_of self.old) (table_of self.new)
+            (L.room (link_of self.old)) (L.room (link_of self.new)) }
         ensures tried { due ≡ true → IsTried (table_of self.new) (L.history (link_of self.new)) }
         ensures kept { due ≡ false → self.new ≡ self.old }
     {
@@ -147,15 +149,15 @@ impl<L: Link> Transfers<L> {
     fn take_in(&mut self, message: &Incoming) -> Settled
         requires ids { (table_of self.old).ids < 2 ^ 60 }
         requires room { room_needed message.now ≤ L.room (link_of self.old) }
-        ensures takes { TakesIn message.now result (table_of self.old) (table_of self.new) (L.history (link_of self.old)) (L.history (link_of self.new))
-            (L.truth (link_of self.old)) (L.truth (link_of self.new)) }
+        ensures takes { Between L.Link (TakesIn message.now result) self.old self.new }
         ensures answer { IsAnswerTo message.now result }
         ensures ended { message.now ≡ Incoming.End → self.new ≡ self.old }
         ensures budget { L.budget_left (link_of self.new) ≤ L.budget_left (link_of self.old) }
         ensures goes { L.goes_on (link_of self.old) (link_of self.new) }
         ensures room { L.room (link_of self.old) ≤ L.room (link_of self.new) + 1 }
         ensures ids { (table_of self.new).ids ≤ (table_of self.old).ids + 1 }
-        ensures closed { (table_of self.new).ids + length (table_of self.old).pending ≤ (table_of self.old).ids + length (table_of self.new).pending + 1 }
+        ensures closed { (table_of self.new).ids + length (table_of self.old).pending
+            ≤ (table_of self.old).ids + length (table_of self.new).pending + 1 }
     {
         match message {
             Incoming::Reply(reply) => match self.table.answer(reply) {
@@ -185,16 +187,17 @@ impl<L: Link> Transfers<L> {
     pub fn absorb(&mut self, message: Incoming) -> Settled
         requires ids { (table_of self.old).ids < 2 ^ 60 }
         requires room { room_needed message ≤ L.room (link_of self.old) }
-        ensures absorbs { Absorbs message result (table_of self.old) (table_of self.new) (L.history (link_of self.old)) (L.history (link_of self.new))
-            (L.truth (link_of self.old)) (L.truth (link_of self.new)) }
+        ensures absorbs { Between L.Link (Absorbs message result) self.old self.new }
         ensures answer { IsAnswerTo message result }
         ensures ended { message ≡ Incoming.End → self.new ≡ self.old }
         ensures budget { L.budget_left (link_of self.new) ≤ L.budget_left (link_of self.old) }
         ensures goes { L.goes_on (link_of self.old) (link_of self.new) }
         ensures room { is_message message ≡ true → HasRoom (table_of self.new) (L.room (link_of self.new)) }
-        ensures tried { IsTried (table_of self.old) (L.history (link_of self.old)) → IsTried (table_of self.new) (L.history (link_of self.new)) }
+        ensures tried { IsTried (table_of self.old) (L.history (link_of self.old))
+            → IsTried (table_of self.new) (L.history (link_of self.new)) }
         ensures ids { (table_of self.new).ids ≤ (table_of self.old).ids + 1 }
-        ensures closed { (table_of self.new).ids + length (table_of self.old).pending ≤ (table_of self.old).ids + length (table_of self.new).pending + 1 }
+        ensures closed { (table_of self.new).ids + length (table_of self.old).pending
+            ≤ (table_of self.old).ids + length (table_of self.new).pending + 1 }
     {
         let due = posts_after(&message);
         let settled = self.take_in(&message);
@@ -205,16 +208,17 @@ impl<L: Link> Transfers<L> {
     /// Takes a message and absorbs it.
     pub fn step(&mut self) -> Settled
         requires { (table_of self.old).ids < 2 ^ 60 }
-        ensures steps { Steps result (table_of self.old) (table_of self.new) (L.history (link_of self.old)) (L.history (link_of self.new))
-            (L.truth (link_of self.old)) (L.truth (link_of self.new)) }
+        ensures steps { Between L.Link (Steps result) self.old self.new }
         ensures budget { 0 < L.budget_left (link_of self.old) → L.budget_left (link_of self.new) < L.budget_left (link_of self.old) }
         ensures spent { L.budget_left (link_of self.old) ≡ 0 → result ≡ Settled.End }
         ensures goes { L.goes_on (link_of self.old) (link_of self.new) }
         ensures falls { goes_on result ≡ true → L.budget_left (link_of self.new) < L.budget_left (link_of self.old) }
         ensures room { goes_on result ≡ true → HasRoom (table_of self.new) (L.room (link_of self.new)) }
-        ensures tried { IsTried (table_of self.old) (L.history (link_of self.old)) → IsTried (table_of self.new) (L.history (link_of self.new)) }
+        ensures tried { IsTried (table_of self.old) (L.history (link_of self.old))
+            → IsTried (table_of self.new) (L.history (link_of self.new)) }
         ensures ids { (table_of self.new).ids ≤ (table_of self.old).ids + 1 }
-        ensures closed { (table_of self.new).ids + length (table_of self.old).pending ≤ (table_of self.old).ids + length (table_of self.new).pending + 1 }
+        ensures closed { (table_of self.new).ids + length (table_of self.old).pending
+            ≤ (table_of self.old).ids + length (table_of self.new).pending + 1 }
     {
         let message = self.link.take();
         self.absorb(message)
@@ -232,15 +236,16 @@ impl<L: Link> Transfers<L> {
             ↔ ((length (table_of self.old).pending < 16)
             × IsTrue (list_any (λ p. (p.start == ask.now.position) && (p.size == ask.now.count)) (table_of self.old).pending)) }
         ensures refused { OnErr result (self.new ≡ self.old) }
-        ensures adds { OnOk result (Adds ask.now (table_of self.old) (table_of self.new) (L.history (link_of self.old)) (L.history (link_of self.new))) }
+        ensures adds { OnOk result (Adds ask.now (table_of self.old) (table_of self.new)
+            (L.history (link_of self.old)) (L.history (link_of self.new))) }
         ensures ticket { IfOk result (λ t. t ≡ (table_of self.old).ids + 1) }
         ensures opens { Opens result (begun_by ask.now) (begun_in self.old) (begun_in self.new) }
-        ensures begins { Begins ask.now (table_of self.old) (table_of self.new) (L.history (link_of self.old)) (L.history (link_of self.new))
-            (L.truth (link_of self.old)) (L.truth (link_of self.new)) }
+        ensures begins { Between L.Link (Begins ask.now) self.old self.new }
         ensures budget { L.budget_left (link_of self.new) ≤ L.budget_left (link_of self.old) }
         ensures goes { L.goes_on (link_of self.old) (link_of self.new) }
         ensures room { HasRoom (table_of self.new) (L.room (link_of self.new)) }
-        ensures tried { IsTried (table_of self.old) (L.history (link_of self.old)) → IsTried (table_of self.new) (L.history (link_of self.new)) }
+        ensures tried { IsTried (table_of self.old) (L.history (link_of self.old))
+            → IsTried (table_of self.new) (L.history (link_of self.new)) }
     {
         if self.table.is_full() {
             return Err(BeginRefusal::TableFull);
