@@ -136,7 +136,7 @@ runs_slots old new R minor size table told truth room budget ended ready tied h 
       agrees = λ marks k. k;
       ends = λ f. f;
       related = λ image marks k tr. h _;
-      truth = λ opening marks k f was tr. (was, tr);
+      truth = λ opening marks k f was. was;
       rules = λ marks k. record { told = refl; grows = refl; keeps = tt; owes = refl };
     })
 

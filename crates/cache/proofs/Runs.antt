@@ -8,7 +8,6 @@ use Rattle.marks.specs.Open.{counts}
 use Rattle.marks.specs.Disk.{Contents, HasTrueReplies}
 use Rattle.marks.specs.Told.{Told, Posted, Complained, Received, grown, received, heard, took_end}
 use Rattle.marks.specs.Acts.{Act, Absorbed, Outbox, KeepsRules, told_of, marks_after, outbox_after}
-use Rattle.marks.specs.Opening.{contents_at}
 use Rattle.marks.proofs.ActLaws.{acts_compose}
 use Rattle.reissue.specs.declared.ask.Ask.{Ask}
 use Rattle.reissue.specs.declared.ask.Settled.{Settled}
@@ -20,8 +19,8 @@ use Rattle.reissue.specs.Agrees.{Agrees}
 use Rattle.reissue.specs.Posts.{complaints_about, due_after}
 use Rattle.reissue.specs.Rules.{KeepsRulesBy, outbox_of}
 use Rattle.endpoint.specs.declared.Endpoint.{Endpoint}
-use Rattle.reissue.specs.Calls.{Begins, Steps, Absorbs, goes_on}
-use Rattle.reissue.proofs.Joining.{grown_append, true_after}
+use Rattle.reissue.specs.Calls.{Begins, Steps, Absorbs, more_may_come}
+use Rattle.reissue.proofs.Joining.{grown_append}
 use Rattle.cache.proofs.Handing.{Done, told_both, none_of_both}
 use Rattle.cache.specs.Calls.{Caching, IsReady, Runs, after_message, with_handed}
 use Rattle.cache.specs.Takes.{is_ended_by}
@@ -94,7 +93,7 @@ runs_none c R ready h = record {
   agrees = λ marks k. k;
   ends = λ e. e;
   related = λ image marks k tr. h (state_after image marks);
-  truth = λ opening marks k e was tr. (was, tr);
+  truth = λ opening marks k e was. was;
   rules = λ marks k. record { told = refl; grows = refl; keeps = tt; owes = refl };
 }
 
@@ -147,10 +146,9 @@ runs_then m a b c R S T h x y = record {
       let second = y.related image (mid marks) (x.agrees marks k) tr' in
       subst (λ (ms : List Mark). T (state_after image marks) (state_after image ms)) (sym (all marks))
       (h (state_after image marks) (state_after image (mid marks)) (state_after image (grown y.told (mid marks))) first second);
-  truth = λ opening marks k e was tr.
-      let first = x.truth opening marks k e was tr in
-      subst (λ (ms : List Mark). c.truth opening ms × HasTrueReplies (contents_at opening) ms) (sym (all marks))
-      (y.truth opening (mid marks) (x.agrees marks k) (e ∙ sym x.minor) first.0 first.1);
+  truth = λ opening marks k e was.
+      subst (λ (ms : List Mark). c.truth opening ms) (sym (all marks))
+      (y.truth opening (mid marks) (x.agrees marks k) (e ∙ sym x.minor) (x.truth opening marks k e was));
   rules = λ marks k.
       let first = x.rules marks k in
       let second = y.rules (mid marks) (x.agrees marks k) in
@@ -190,10 +188,8 @@ begin_runs ask old new R x ready minors minor same_minor same_size ended budget 
   agrees = x.agrees;
   ends = λ e. ended ∙ e ∙ sym x.ended;
   related = λ image marks k tr. h (state_after image marks) (state_after image (grown x.posts marks)) (x.spares image marks k);
-  truth = λ opening marks k e was tr. (
-    x.truth opening marks k (minor ∙ sym e) (subst (λ (n : ℕ). AllOfMinor n old.table.pending) (sym e) minors) was,
-    true_after x.posts (contents_at opening) marks x.only_posts tr,
-  );
+  truth = λ opening marks k e was.
+      x.truth opening marks k (minor ∙ sym e) (subst (λ (n : ℕ). AllOfMinor n old.table.pending) (sym e) minors) was;
   rules = λ marks k. x.rules old.minor marks k minors minor;
 }
 
@@ -241,8 +237,8 @@ step_runs res old new R x ready minors busy going same_minor same_size alive end
       subst (λ (ms : List Mark). R (state_after image marks) (state_after image ms)) (sym (all marks k))
       (h (state_after image marks) (state_after image (grown x.posts (received x.message marks)))
       ((x.closing marks k).moves image (subst (λ (ms : List Mark). HasTrueReplies image ms) (all marks k) tr)));
-  truth = λ opening marks k e was tr.
-      subst (λ (ms : List Mark). new.truth opening ms × HasTrueReplies (contents_at opening) ms) (sym (all marks k))
+  truth = λ opening marks k e was.
+      subst (λ (ms : List Mark). new.truth opening ms) (sym (all marks k))
       (x.truth opening marks k (subst (λ (n : ℕ). AllOfMinor n old.table.pending) (sym e) minors) was);
   rules = λ marks k.
       subst (λ (ms : List Mark). KeepsRulesBy x.acts old.minor old.table new.table old.told new.told marks ms) (sym (all marks k))
@@ -277,7 +273,7 @@ step_runs res old new R x ready minors busy going same_minor same_size alive end
     open_told : old.ended ≡ took_end old.told → took_end old.told ≡ false
     open_told e = sym e ∙ alive
 
-    by_end : (r : Settled) → old.ended ≡ took_end old.told → is_ended_by r ≡ (not (goes_on r) || took_end old.told)
+    by_end : (r : Settled) → old.ended ≡ took_end old.told → is_ended_by r ≡ (not (more_may_come r) || took_end old.told)
     by_end settled.End e = refl
     by_end settled.Nothing e = sym (open_told e)
     by_end settled.Flush e = sym (open_told e)
@@ -313,11 +309,9 @@ absorb_runs m res old new R x ready minors same_minor same_size ended budget ids
         subst (λ (ms : List Mark). R (state_after image marks) (state_after image ms)) (sym (all marks))
         (h (state_after image marks) (state_after image (grown x.posts (received m marks)))
         ((x.closing marks k).moves image (subst (λ (ms : List Mark). HasTrueReplies image ms) (all marks) tr)));
-    truth = λ opening marks k e was tr.
-        subst (λ (ms : List Mark). new.truth opening ms × HasTrueReplies (contents_at opening) ms) (sym (all marks)) (
-          x.truth opening marks k (subst (λ (n : ℕ). AllOfMinor n old.table.pending) (sym e) minors) was,
-          true_after x.posts (contents_at opening) (received m marks) x.only_posts tr,
-        );
+    truth = λ opening marks k e was.
+        subst (λ (ms : List Mark). new.truth opening ms) (sym (all marks))
+        (x.truth opening marks k (subst (λ (n : ℕ). AllOfMinor n old.table.pending) (sym e) minors) was);
     rules = λ marks k.
         subst (λ (ms : List Mark). KeepsRulesBy (d.acts ++ Absorbed m ∷ []) old.minor old.table new.table old.told new.told marks ms) (sym (all marks))
         (d.rules old.minor marks k minors);

@@ -10,7 +10,7 @@ use Rattle.reissue.specs.Entries.{pending_of, AllOfMinor}
 use Rattle.message.specs.declared.Incoming.{Incoming}
 use Rattle.message.specs.declared.Incoming.TheVariants as incoming
 use Rattle.reissue.specs.Posts.{HasRoom, is_message}
-use Rattle.reissue.specs.Calls.{Steps, Absorbs, goes_on}
+use Rattle.reissue.specs.Calls.{Steps, Absorbs, more_may_come}
 use Rattle.reissue.proofs.Maps.{put-other, put_cases}
 use Rattle.cache.specs.declared.slots.Slot.{Slot}
 use Rattle.cache.specs.declared.cache.Took.{Took}
@@ -180,7 +180,7 @@ leaves_settled settled.GaveUp old new h = subst (λ (l : List Slot). Leaves old 
 leaves_settled settled.End old new h = subst (λ (l : List Slot). Leaves old l) (sym h) (leaves_none old)
 
 -- unless it ended, more may come
-pub goes : (res : Settled) → is_ended_by res ≡ false → goes_on res ≡ true
+pub goes : (res : Settled) → is_ended_by res ≡ false → more_may_come res ≡ true
 goes (settled.Written t) h = refl
 goes (settled.Read t bytes) h = refl
 goes settled.Nothing h = refl
@@ -194,7 +194,7 @@ pub takes_one : (res : Settled) (old new : Caching) (items items' : List Slot)
     → Settles res items items' → old.held ≡ held items → new.held ≡ held items'
     → IsReady old → IsBusy (pending_of old.table.pending) → old.ended ≡ false → old.table.given_up ≡ false → 0 < old.size
     → new.minor ≡ old.minor → new.size ≡ old.size → new.ended ≡ is_ended_by res
-    → (goes_on res ≡ true → new.budget < old.budget) → (goes_on res ≡ true → HasRoom new.table new.room)
+    → (more_may_come res ≡ true → new.budget < old.budget) → (more_may_come res ≡ true → HasRoom new.table new.room)
     → new.table.ids + length old.table.pending ≤ old.table.ids + length new.table.pending + 1
     → Runs None old new (λ w v. Takes (Ok (took_of res)) old new w v)
 takes_one res old new items items' x settles here there ready busy alive going some minor size ended budget room ids =

@@ -8,7 +8,8 @@ use Rattle.marks.specs.Marks.{Mark}
 use Rattle.marks.specs.Disk.{Contents, HasTrueReplies}
 use Rattle.marks.specs.Told.{Told, Received, grown, received, took_end, took_nothing}
 use Rattle.marks.specs.Acts.{Act, Absorbed, told_of, has_absorbed}
-use Rattle.marks.specs.Opening.{Opening, contents_at}
+use Rattle.marks.specs.Opening.{Opening}
+use Rattle.reissue.specs.declared.link.Link.{Ghosts as LinkWords}
 use Rattle.reissue.specs.declared.table.Table.{Table}
 use Rattle.reissue.specs.Moves.{DiskState, state_after, put, IsBusy}
 use Rattle.reissue.specs.Entries.{pending_of, AllOfMinor}
@@ -46,26 +47,33 @@ pub record Caching : Type 1 where
   -- a take gave End
   pub ended : Bool
 
--- a cache with these parts, over a link of which these are said
-abbrev pub caching_of : {L : Type 0} → (L → List Told) → (L → Truth) → (L → ℕ) → (L → ℕ) → Transfers L → Shape → List Slot → Bool → Caching
-caching_of history truth room budget transfers shape items ended =
+-- a cache with these parts
+abbrev pub caching_of : {L : Type 0} → LinkWords L → Transfers L → Shape → List Slot → Bool → Caching
+caching_of words transfers shape items ended =
     let link = link_of transfers in
     record {
       minor = shape.minor;
       size = shape.block_size;
       held = held items;
       table = table_of transfers;
-      told = history link;
-      truth = truth link;
-      room = room link;
-      budget = budget link;
+      told = words.history link;
+      truth = words.truth link;
+      room = words.room link;
+      budget = words.budget_left link;
       ended = ended;
     }
 
--- a cache, over a link of which these are said
-abbrev pub caching : {L : Type 0} → (L → List Told) → (L → Truth) → (L → ℕ) → (L → ℕ) → Cache L → Caching
-caching history truth room budget cache =
-    caching_of history truth room budget cache.transfers cache.shape cache.slots.items.items cache.ended
+-- a cache, by what its link's words say of its link
+abbrev pub caching : {L : Type 0} → LinkWords L → Cache L → Caching
+caching words cache = caching_of words cache.transfers cache.shape cache.slots.items.items cache.ended
+
+-- the slot of each block that has one
+abbrev pub held_by : {L : Type 0} → Cache L → ℕ → Option Slot
+held_by cache = held cache.slots.items.items
+
+-- its link went on
+abbrev pub LinkGoesOn : {L : Type 0} → LinkWords L → Cache L → Cache L → Type 0
+LinkGoesOn words old new = words.goes_on (link_of old.transfers) (link_of new.transfers)
 
 -- its requests are for its range and one block each, its slots are tied to them, and while the link hasn't ended it has room and ids are left
 pub record IsReady (c : Caching) : Type 0 where
@@ -111,11 +119,13 @@ pub record Runs (message : Option Incoming) (old new : Caching) (Related : DiskS
       → HasTrueReplies image (grown told (after_message message marks))
       → Related (state_after image marks) (state_after image (grown told (after_message message marks)))
   pub truth : (opening : Opening) (marks : List Mark) → Agrees old.table marks → opening.minor ≡ old.minor
-      → old.truth opening (after_message message marks) → HasTrueReplies (contents_at opening) (after_message message marks)
-      → new.truth opening (grown told (after_message message marks))
-      × HasTrueReplies (contents_at opening) (grown told (after_message message marks))
+      → old.truth opening (after_message message marks) → new.truth opening (grown told (after_message message marks))
   pub rules : (marks : List Mark) → Agrees old.table marks
       → KeepsRulesBy (with_handed message acts) old.minor old.table new.table old.told new.told marks (grown told (after_message message marks))
+
+-- a call on a cache, which relates the disk before and after so
+abbrev pub Does : {L : Type 0} → LinkWords L → Cache L → Cache L → (Caching → Caching → DiskState → DiskState → Type 0) → Type 0
+Does words old new Related = Runs None (caching words old) (caching words new) (Related (caching words old) (caching words new))
 
 -- slots and the disk go on agreeing, and what would be read back stays
 pub record Serves (old new : Caching) (w v : DiskState) : Type 0 where
@@ -209,6 +219,11 @@ pub record FlushFollows (was : Bool) (before : List Told) (is : Bool) (after : L
   pub since : ℕ
   pub counted : flushes_in after ≡ since + flushes_in before
   pub wanted : is ≡ (was || some_of since)
+
+-- of a cache
+abbrev pub WantsFlush : {L : Type 0} → LinkWords L → Cache L → Cache L → Type 0
+WantsFlush words old new =
+    FlushFollows old.flush (words.history (link_of old.transfers)) new.flush (words.history (link_of new.transfers))
 
 -- a flush is wanted if this is so, and else as before
 abbrev pub IsWantedFor : Type 0 → Bool → Bool → Type 0

@@ -1,5 +1,5 @@
 -- What a message taken does to the frames, and what a block that was read reads as.
-use Rattle.std.specs.Prelude.{◌≡◌, ℕ, ◌+◌, ◌<◌, List, Bool, true, false, Option, Some, None, Result, Ok, Err, slice_index, if◌then◌else◌, ◌==◌}
+use Rattle.std.specs.Prelude.{◌≡◌, ℕ, ◌+◌, ◌*◌, ◌<◌, List, Bool, true, false, Option, Some, None, Result, Ok, Err, slice_index, if◌then◌else◌, ◌==◌}
 use Rattle.reissue.specs.declared.ask.Settled.{Settled}
 use Rattle.reissue.specs.declared.ask.Settled.TheVariants as settled
 use Rattle.reissue.specs.Moves.{DiskState, Begun}
@@ -86,6 +86,10 @@ pub record IsReadAt (pending : ℕ → Option Begun) (ticket start size : ℕ) :
   pub read : request.written ≡ None
   pub start_is : request.start ≡ start
   pub size_is : request.size ≡ size
+
+-- the read of this block is
+abbrev pub IsBlockRead : (ℕ → Option Begun) → ℕ → ℕ → ℕ → Type 0
+IsBlockRead pending ticket block size = IsReadAt pending ticket (block * size) size
 
 -- the bytes of a range that was read
 abbrev pub BytesOf : Result (List ℕ) Cut → ℕ → ℕ → DiskState → Type 0

@@ -1,16 +1,16 @@
 //! Frames of a volume's blocks, over transfers.
 
-ghost use Rattle.std.specs.Prelude.{◌≡◌, ◌<◌, ◌≤◌, ◌+◌, ◌*◌, ◌-◌, ◌^◌, ℕ, List, [], Option, Some, None, Result, Ok, Err, Bool, true, false, IsTrue, IsErrOf, ◌↔◌, length, take, slice_get, slice_index, IfOk, IfErr, OnOk, OnErr, IfSome, not, ◌≢◌};
+ghost use Rattle.std.specs.Prelude.{◌≡◌, ◌<◌, ◌≤◌, ◌+◌, ◌*◌, ◌-◌, ◌^◌, ℕ, List, [], Option, Some, None, Result, Ok, Err, Bool, true, false};
+ghost use Rattle.std.specs.Prelude.{IsTrue, IsErrOf, ◌↔◌, length, take, slice_get, slice_index, IfOk, IfErr, OnOk, OnErr, IfSome, not, ◌≢◌};
 ghost use Rattle.std.specs.Prelude.{MatchBool};
 ghost use Rattle.std.specs.Bool.{OnTrue, OnFalse};
 ghost use Rattle.std.specs.Borrow.{Lends, sem};
 ghost use Rattle.layout.specs.Places.{is_block_size};
-ghost use Rattle.reissue.specs.Transfers.{table_of, link_of};
+ghost use Rattle.reissue.specs.Transfers.{table_of, link_of, begun_in};
 ghost use Rattle.legal.specs.Mount.{is_frame_count};
 ghost use Rattle.reissue.specs.Room.{room_needed};
 ghost use Rattle.reissue.specs.Posts.{is_message, HasRoom};
 ghost use Rattle.reissue.specs.Moves.{IsBusy};
-ghost use Rattle.reissue.specs.Entries.{pending_of};
 ghost use Rattle.cache.specs.Takes.{is_ended_by};
 
 use crate::refusals::{CacheRefusal, Cut};
@@ -56,14 +56,17 @@ pub struct Cache<L> {
 
 impl<L: Link> Cache<L> {
     ghost use Rattle.cache.specs.Slots.{held, is_dirty_slot, is_unclean_slot};
-    ghost use Rattle.cache.specs.Edits.{AllClean, SomeUnclean, IsIssued, IssuesLowest, IsWritten, IsSlotAt, IsFreeAt, IsAt, Leaves, AllStay, StayBut, IsChangedAt};
+    ghost use Rattle.cache.specs.Edits.{AllClean, SomeUnclean, IsIssued, IssuesLowest, IsWritten, IsSlotAt, IsFreeAt, IsAt, Leaves};
+    ghost use Rattle.cache.specs.Edits.{AllStay, StayBut, IsChangedAt};
     ghost use Rattle.cache.specs.Frames.{frames_of, view, with_bytes};
-    ghost use Rattle.cache.specs.Calls.{caching, IsReady, IsLive, IsWhyCut, IsFrame, IsMade, IsStuck, IsRefusing, PostsAlone, Runs, Keeps, HandsOver, Blanks, Rewrites, forgotten, with_cache_link, without_flush, FlushFollows, IsWantedFor};
+    ghost use Rattle.cache.specs.Calls.{caching, held_by, IsReady, IsLive, IsWhyCut, IsFrame, IsMade, IsStuck, IsRefusing, PostsAlone};
+    ghost use Rattle.cache.specs.Calls.{Does, Keeps, HandsOver, Blanks, Rewrites, LinkGoesOn, WantsFlush, IsWantedFor};
+    ghost use Rattle.cache.specs.Calls.{forgotten, with_cache_link, without_flush};
     ghost use Rattle.cache.specs.contracts.cache.Cache.{the_row};
     ghost use Rattle.cache.specs.declared.slots.Frame.{Frame as FrameValue};
     ghost use Rattle.cache.specs.declared.slots.Slot.{Slot};
     ghost use Rattle.cache.specs.Fetches.{Hits, Misses, BlanksFrame, MakesRoom, IsAtOnce};
-    ghost use Rattle.cache.specs.Takes.{Settles, took_of, Takes, ReadsStay, NoReadBegun, IsReadAt, Reads, messages_left};
+    ghost use Rattle.cache.specs.Takes.{Settles, took_of, Takes, ReadsStay, NoReadBegun, IsBlockRead, Reads, messages_left};
 
     /// A cache with so many frames, none of them in use, over transfers with nothing pending: 1 BadFrames unless they are 16 to
     /// 4096, looked at first; 2 OutOfMemory.
@@ -82,8 +85,8 @@ impl<L: Link> Cache<L> {
         requires ids { (table_of transfers).ids + L.budget_left (link_of transfers) + 16 < 2 ^ 60 }
         ensures bad_frames { IsErrOf result CacheRefusal.BadFrames ↔ (is_frame_count frames ≡ false) }
         ensures over { IfOk result (λ c. c.transfers ≡ transfers) }
-        ensures ready { IfOk result (λ c. IsReady (caching L.history L.truth L.room L.budget_left c)) }
-        ensures made { IfOk result (λ c. IsMade minor geometry.now.block_size (caching L.history L.truth L.room L.budget_left c)) }
+        ensures ready { IfOk result (λ c. IsReady (caching L.Link c)) }
+        ensures made { IfOk result (λ c. IsMade minor geometry.now.block_size (caching L.Link c)) }
         ensures frames { IfOk result (λ c. length c.slots.items.items ≡ frames) }
         ensures flush { IfOk result (λ c. c.flush ≡ false) }
     {
@@ -105,7 +108,7 @@ impl<L: Link> Cache<L> {
 
     /// How many ids were given to requests.
     pub fn ids(&self) -> u64
-        ensures { result ≡ (caching L.history L.truth L.room L.budget_left self.now).table.ids }
+        ensures { result ≡ (table_of self.now.transfers).ids }
     {
         self.transfers.ids()
     }
@@ -137,8 +140,8 @@ impl<L: Link> Cache<L> {
 
     /// Whether a message may come, or why not: LinkEnded once a take gave End, else Eio once the device was given up.
     pub fn live(&self) -> Result<(), Cut>
-        ensures live { OnOk result (IsLive (caching L.history L.truth L.room L.budget_left self.now)) }
-        ensures cut { IfErr result (λ cut. IsWhyCut (caching L.history L.truth L.room L.budget_left self.now) cut) }
+        ensures live { OnOk result (IsLive (caching L.Link self.now)) }
+        ensures cut { IfErr result (λ cut. IsWhyCut (caching L.Link self.now) cut) }
     {
         if self.ended {
             return Err(Cut::LinkEnded);
@@ -193,17 +196,17 @@ impl<L: Link> Cache<L> {
 
     /// Takes a message and does what it asks for; a settled read is handed out.
     pub fn take(&mut self) -> Result<Took, Cut>
-        requires ready { IsReady (caching L.history L.truth L.room L.budget_left self.old) }
-        requires busy { IsLive (caching L.history L.truth L.room L.budget_left self.old) → IsBusy (pending_of (caching L.history L.truth L.room L.budget_left self.old).table.pending) }
-        ensures runs { Runs None (caching L.history L.truth L.room L.budget_left self.old) (caching L.history L.truth L.room L.budget_left self.new)
-            (λ w v. Takes result (caching L.history L.truth L.room L.budget_left self.old) (caching L.history L.truth L.room L.budget_left self.new) w v) }
-        ensures left { OnOk result (messages_left (caching L.history L.truth L.room L.budget_left self.new) < messages_left (caching L.history L.truth L.room L.budget_left self.old)) }
-        ensures reads { ReadsStay result (pending_of (caching L.history L.truth L.room L.budget_left self.old).table.pending) (pending_of (caching L.history L.truth L.room L.budget_left self.new).table.pending) }
+        requires ready { IsReady (caching L.Link self.old) }
+        requires busy { IsLive (caching L.Link self.old) → IsBusy (begun_in self.old.transfers) }
+        ensures runs { Does L.Link self.old self.new (Takes result) }
+        ensures goes { LinkGoesOn L.Link self.old self.new }
+        ensures left { OnOk result (messages_left (caching L.Link self.new) < messages_left (caching L.Link self.old)) }
+        ensures reads { ReadsStay result (begun_in self.old.transfers) (begun_in self.new.transfers) }
         ensures leaves { Leaves self.old.slots.items.items self.new.slots.items.items }
         ensures stay { AllStay self.old.slots self.new.slots }
-        ensures cut { IfErr result (λ cut. IsWhyCut (caching L.history L.truth L.room L.budget_left self.new) cut) }
+        ensures cut { IfErr result (λ cut. IsWhyCut (caching L.Link self.new) cut) }
         ensures refused { OnErr result (self.new ≡ self.old) }
-        ensures flush { FlushFollows self.old.flush (caching L.history L.truth L.room L.budget_left self.old).told self.new.flush (caching L.history L.truth L.room L.budget_left self.new).told }
+        ensures flush { WantsFlush L.Link self.old self.new }
     {
         self.live()?;
         let settled = self.transfers.step();
@@ -213,21 +216,23 @@ impl<L: Link> Cache<L> {
 
     /// Begins the write of a dirty slot; false where it was refused.
     fn issue(&mut self, at: usize) -> bool
-        requires ready { IsReady (caching L.history L.truth L.room L.budget_left self.old) }
+        requires ready { IsReady (caching L.Link self.old) }
         requires open { self.old.ended ≡ false }
         requires dirty { IsSlotAt self.old.slots.items.items at is_dirty_slot }
-        ensures keeps { Keeps (caching L.history L.truth L.room L.budget_left self.old) (caching L.history L.truth L.room L.budget_left self.new) }
-        ensures busy { IsBusy (pending_of (caching L.history L.truth L.room L.budget_left self.new).table.pending) }
-        ensures left { messages_left (caching L.history L.truth L.room L.budget_left self.new) ≤ messages_left (caching L.history L.truth L.room L.budget_left self.old) }
+        ensures keeps { Keeps (caching L.Link self.old) (caching L.Link self.new) }
+        ensures goes { LinkGoesOn L.Link self.old self.new }
+        ensures busy { IsBusy (begun_in self.new.transfers) }
+        ensures left { messages_left (caching L.Link self.new) ≤ messages_left (caching L.Link self.old) }
         ensures leaves { Leaves self.old.slots.items.items self.new.slots.items.items }
         ensures others { StayBut at self.old.slots self.new.slots }
-        ensures issued { MatchBool result (IsIssued self.old.slots.items.items at (caching L.history L.truth L.room L.budget_left self.new).held) ((caching L.history L.truth L.room L.budget_left self.new).held ≡ (caching L.history L.truth L.room L.budget_left self.old).held) }
-        ensures posts { PostsAlone (caching L.history L.truth L.room L.budget_left self.old) (caching L.history L.truth L.room L.budget_left self.new) }
+        ensures issued { MatchBool result (IsIssued self.old.slots.items.items at (held_by self.new))
+            (held_by self.new ≡ held_by self.old) }
+        ensures posts { PostsAlone (caching L.Link self.old) (caching L.Link self.new) }
         ensures flush { self.new.flush ≡ self.old.flush }
         ensures refused { OnFalse result (self.new ≡ self.old) }
-        ensures adds { OnTrue result (length (caching L.history L.truth L.room L.budget_left self.new).table.pending ≡ length (caching L.history L.truth L.room L.budget_left self.old).table.pending + 1) }
-        ensures refusing { OnFalse result (IsRefusing (caching L.history L.truth L.room L.budget_left self.old)) }
-        ensures reads { NoReadBegun (pending_of (caching L.history L.truth L.room L.budget_left self.old).table.pending) (pending_of (caching L.history L.truth L.room L.budget_left self.new).table.pending) }
+        ensures adds { OnTrue result (length (table_of self.new.transfers).pending ≡ length (table_of self.old.transfers).pending + 1) }
+        ensures refusing { OnFalse result (IsRefusing (caching L.Link self.old)) }
+        ensures reads { NoReadBegun (begun_in self.old.transfers) (begun_in self.new.transfers) }
     {
         let slot = self.slots.get(at);
         let block = match slot.block {
@@ -246,15 +251,16 @@ impl<L: Link> Cache<L> {
 
     /// Sees to it that a write of a slot is under way, whose bytes may not be the disk's, or that another request is pending.
     fn write_out(&mut self, at: usize)
-        requires ready { IsReady (caching L.history L.truth L.room L.budget_left self.old) }
+        requires ready { IsReady (caching L.Link self.old) }
         requires open { self.old.ended ≡ false }
         requires unclean { IsSlotAt self.old.slots.items.items at is_unclean_slot }
-        ensures keeps { Keeps (caching L.history L.truth L.room L.budget_left self.old) (caching L.history L.truth L.room L.budget_left self.new) }
-        ensures busy { IsBusy (pending_of (caching L.history L.truth L.room L.budget_left self.new).table.pending) }
-        ensures left { messages_left (caching L.history L.truth L.room L.budget_left self.new) ≤ messages_left (caching L.history L.truth L.room L.budget_left self.old) }
+        ensures keeps { Keeps (caching L.Link self.old) (caching L.Link self.new) }
+        ensures goes { LinkGoesOn L.Link self.old self.new }
+        ensures busy { IsBusy (begun_in self.new.transfers) }
+        ensures left { messages_left (caching L.Link self.new) ≤ messages_left (caching L.Link self.old) }
         ensures leaves { Leaves self.old.slots.items.items self.new.slots.items.items }
         ensures others { StayBut at self.old.slots self.new.slots }
-        ensures flush { FlushFollows self.old.flush (caching L.history L.truth L.room L.budget_left self.old).told self.new.flush (caching L.history L.truth L.room L.budget_left self.new).told }
+        ensures flush { WantsFlush L.Link self.old self.new }
     {
         if self.slots.get(at).is_dirty() {
             self.issue(at);
@@ -263,14 +269,15 @@ impl<L: Link> Cache<L> {
 
     /// Waits until the bytes of a slot are the disk's.
     fn wait_for(&mut self, at: usize) -> Result<(), Cut>
-        requires ready { IsReady (caching L.history L.truth L.room L.budget_left self.old) }
+        requires ready { IsReady (caching L.Link self.old) }
         requires at { at < length self.old.slots.items.items }
-        ensures keeps { Keeps (caching L.history L.truth L.room L.budget_left self.old) (caching L.history L.truth L.room L.budget_left self.new) }
+        ensures keeps { Keeps (caching L.Link self.old) (caching L.Link self.new) }
+        ensures goes { LinkGoesOn L.Link self.old self.new }
         ensures leaves { Leaves self.old.slots.items.items self.new.slots.items.items }
         ensures others { StayBut at self.old.slots self.new.slots }
         ensures clean { OnOk result (IsSlotAt self.new.slots.items.items at (λ s. not (is_unclean_slot s))) }
-        ensures cut { IfErr result (λ cut. IsWhyCut (caching L.history L.truth L.room L.budget_left self.new) cut) }
-        ensures flush { FlushFollows self.old.flush (caching L.history L.truth L.room L.budget_left self.old).told self.new.flush (caching L.history L.truth L.room L.budget_left self.new).told }
+        ensures cut { IfErr result (λ cut. IsWhyCut (caching L.Link self.new) cut) }
+        ensures flush { WantsFlush L.Link self.old self.new }
     {
         'tries: loop {
             if !self.slots.get(at).is_unclean() {
@@ -284,14 +291,15 @@ impl<L: Link> Cache<L> {
 
     /// Waits until the bytes of a slot are the disk's, and has them written if need be.
     fn clean(&mut self, at: usize) -> Result<(), Cut>
-        requires ready { IsReady (caching L.history L.truth L.room L.budget_left self.old) }
+        requires ready { IsReady (caching L.Link self.old) }
         requires at { at < length self.old.slots.items.items }
-        ensures keeps { Keeps (caching L.history L.truth L.room L.budget_left self.old) (caching L.history L.truth L.room L.budget_left self.new) }
+        ensures keeps { Keeps (caching L.Link self.old) (caching L.Link self.new) }
+        ensures goes { LinkGoesOn L.Link self.old self.new }
         ensures leaves { Leaves self.old.slots.items.items self.new.slots.items.items }
         ensures others { StayBut at self.old.slots self.new.slots }
         ensures clean { OnOk result (IsSlotAt self.new.slots.items.items at (λ s. not (is_unclean_slot s))) }
-        ensures cut { IfErr result (λ cut. IsWhyCut (caching L.history L.truth L.room L.budget_left self.new) cut) }
-        ensures flush { FlushFollows self.old.flush (caching L.history L.truth L.room L.budget_left self.old).told self.new.flush (caching L.history L.truth L.room L.budget_left self.new).told }
+        ensures cut { IfErr result (λ cut. IsWhyCut (caching L.Link self.new) cut) }
+        ensures flush { WantsFlush L.Link self.old self.new }
         ensures at_once { IsSlotAt self.old.slots.items.items at (λ s. not (is_unclean_slot s)) → (self.new ≡ self.old) × (result ≡ Ok tt) }
     {
         if !self.slots.get(at).is_unclean() {
@@ -302,13 +310,14 @@ impl<L: Link> Cache<L> {
 
     /// Makes a slot free.
     fn make_room(&mut self) -> Result<usize, Cut>
-        requires ready { IsReady (caching L.history L.truth L.room L.budget_left self.old) }
-        ensures keeps { Keeps (caching L.history L.truth L.room L.budget_left self.old) (caching L.history L.truth L.room L.budget_left self.new) }
+        requires ready { IsReady (caching L.Link self.old) }
+        ensures keeps { Keeps (caching L.Link self.old) (caching L.Link self.new) }
+        ensures goes { LinkGoesOn L.Link self.old self.new }
         ensures free { IfOk result (λ at. IsFreeAt self.new.slots.items.items at) }
         ensures made { MakesRoom result self.old.slots self.new.slots }
         ensures none { (b : ℕ) → held self.old.slots.items.items b ≡ None → held self.new.slots.items.items b ≡ None }
-        ensures cut { IfErr result (λ cut. IsWhyCut (caching L.history L.truth L.room L.budget_left self.new) cut) }
-        ensures flush { FlushFollows self.old.flush (caching L.history L.truth L.room L.budget_left self.old).told self.new.flush (caching L.history L.truth L.room L.budget_left self.new).told }
+        ensures cut { IfErr result (λ cut. IsWhyCut (caching L.Link self.new) cut) }
+        ensures flush { WantsFlush L.Link self.old self.new }
         ensures at_once { IsAtOnce result self.old self.new }
     {
         let at = self.slots.victim();
@@ -319,14 +328,16 @@ impl<L: Link> Cache<L> {
 
     /// Begins the read of a block; none where it was refused.
     fn try_read(&mut self, block: u32) -> Option<Reading>
-        requires ready { IsReady (caching L.history L.truth L.room L.budget_left self.old) }
+        requires ready { IsReady (caching L.Link self.old) }
         requires open { self.old.ended ≡ false }
-        ensures keeps { Keeps (caching L.history L.truth L.room L.budget_left self.old) (caching L.history L.truth L.room L.budget_left self.new) }
-        ensures busy { IsBusy (pending_of (caching L.history L.truth L.room L.budget_left self.new).table.pending) }
-        ensures left { messages_left (caching L.history L.truth L.room L.budget_left self.new) ≤ messages_left (caching L.history L.truth L.room L.budget_left self.old) }
+        ensures keeps { Keeps (caching L.Link self.old) (caching L.Link self.new) }
+        ensures goes { LinkGoesOn L.Link self.old self.new }
+        ensures busy { IsBusy (begun_in self.new.transfers) }
+        ensures left { messages_left (caching L.Link self.new) ≤ messages_left (caching L.Link self.old) }
         ensures slots { self.new.slots ≡ self.old.slots }
-        ensures reading { IfSome result (λ r. (r.block ≡ block) × IsReadAt (pending_of (caching L.history L.truth L.room L.budget_left self.new).table.pending) r.ticket (block * (caching L.history L.truth L.room L.budget_left self.old).size) (caching L.history L.truth L.room L.budget_left self.old).size) }
-        ensures flush { FlushFollows self.old.flush (caching L.history L.truth L.room L.budget_left self.old).told self.new.flush (caching L.history L.truth L.room L.budget_left self.new).told }
+        ensures reading { IfSome result (λ r.
+            (r.block ≡ block) × IsBlockRead (begun_in self.new.transfers) r.ticket block self.old.shape.block_size) }
+        ensures flush { WantsFlush L.Link self.old self.new }
     {
         let ask = self.shape.read(block);
         match self.transfers.begin(&ask) {
@@ -337,13 +348,15 @@ impl<L: Link> Cache<L> {
 
     /// Begins the read of a block, as soon as there is a place for it.
     fn begin_read(&mut self, block: u32) -> Result<Reading, Cut>
-        requires ready { IsReady (caching L.history L.truth L.room L.budget_left self.old) }
-        ensures keeps { Keeps (caching L.history L.truth L.room L.budget_left self.old) (caching L.history L.truth L.room L.budget_left self.new) }
+        requires ready { IsReady (caching L.Link self.old) }
+        ensures keeps { Keeps (caching L.Link self.old) (caching L.Link self.new) }
+        ensures goes { LinkGoesOn L.Link self.old self.new }
         ensures leaves { Leaves self.old.slots.items.items self.new.slots.items.items }
         ensures stay { AllStay self.old.slots self.new.slots }
-        ensures reading { IfOk result (λ r. (r.block ≡ block) × IsReadAt (pending_of (caching L.history L.truth L.room L.budget_left self.new).table.pending) r.ticket (block * (caching L.history L.truth L.room L.budget_left self.new).size) (caching L.history L.truth L.room L.budget_left self.new).size) }
-        ensures cut { IfErr result (λ cut. IsWhyCut (caching L.history L.truth L.room L.budget_left self.new) cut) }
-        ensures flush { FlushFollows self.old.flush (caching L.history L.truth L.room L.budget_left self.old).told self.new.flush (caching L.history L.truth L.room L.budget_left self.new).told }
+        ensures reading { IfOk result (λ r.
+            (r.block ≡ block) × IsBlockRead (begun_in self.new.transfers) r.ticket block self.new.shape.block_size) }
+        ensures cut { IfErr result (λ cut. IsWhyCut (caching L.Link self.new) cut) }
+        ensures flush { WantsFlush L.Link self.old self.new }
     {
         'tries: loop {
             self.live()?;
@@ -356,14 +369,14 @@ impl<L: Link> Cache<L> {
 
     /// Takes messages until a read is settled.
     fn wait(&mut self, reading: Reading) -> Result<[u8; 4096], Cut>
-        requires ready { IsReady (caching L.history L.truth L.room L.budget_left self.old) }
-        requires reading { IsReadAt (pending_of (caching L.history L.truth L.room L.budget_left self.old).table.pending) reading.ticket (reading.block * (caching L.history L.truth L.room L.budget_left self.old).size) (caching L.history L.truth L.room L.budget_left self.old).size }
-        ensures runs { Runs None (caching L.history L.truth L.room L.budget_left self.old) (caching L.history L.truth L.room L.budget_left self.new)
-            (λ w v. Reads result (reading.block * (caching L.history L.truth L.room L.budget_left self.old).size) (caching L.history L.truth L.room L.budget_left self.old).size (caching L.history L.truth L.room L.budget_left self.old) (caching L.history L.truth L.room L.budget_left self.new) w v) }
+        requires ready { IsReady (caching L.Link self.old) }
+        requires reading { IsBlockRead (begun_in self.old.transfers) reading.ticket reading.block self.old.shape.block_size }
+        ensures runs { Does L.Link self.old self.new (Reads result (reading.block * self.old.shape.block_size) self.old.shape.block_size) }
+        ensures goes { LinkGoesOn L.Link self.old self.new }
         ensures leaves { Leaves self.old.slots.items.items self.new.slots.items.items }
         ensures stay { AllStay self.old.slots self.new.slots }
-        ensures cut { IfErr result (λ cut. IsWhyCut (caching L.history L.truth L.room L.budget_left self.new) cut) }
-        ensures flush { FlushFollows self.old.flush (caching L.history L.truth L.room L.budget_left self.old).told self.new.flush (caching L.history L.truth L.room L.budget_left self.new).told }
+        ensures cut { IfErr result (λ cut. IsWhyCut (caching L.Link self.new) cut) }
+        ensures flush { WantsFlush L.Link self.old self.new }
     {
         'messages: loop {
             let Took::Read(settled, bytes) = self.take()? else {
@@ -377,12 +390,13 @@ impl<L: Link> Cache<L> {
 
     /// The bytes of a block without a frame, as they are read.
     fn read(&mut self, block: u32) -> Result<[u8; 4096], Cut>
-        requires ready { IsReady (caching L.history L.truth L.room L.budget_left self.old) }
-        ensures runs { Runs None (caching L.history L.truth L.room L.budget_left self.old) (caching L.history L.truth L.room L.budget_left self.new) (λ w v. Reads result (block * (caching L.history L.truth L.room L.budget_left self.old).size) (caching L.history L.truth L.room L.budget_left self.old).size (caching L.history L.truth L.room L.budget_left self.old) (caching L.history L.truth L.room L.budget_left self.new) w v) }
+        requires ready { IsReady (caching L.Link self.old) }
+        ensures runs { Does L.Link self.old self.new (Reads result (block * self.old.shape.block_size) self.old.shape.block_size) }
+        ensures goes { LinkGoesOn L.Link self.old self.new }
         ensures leaves { Leaves self.old.slots.items.items self.new.slots.items.items }
         ensures stay { AllStay self.old.slots self.new.slots }
-        ensures cut { IfErr result (λ cut. IsWhyCut (caching L.history L.truth L.room L.budget_left self.new) cut) }
-        ensures flush { FlushFollows self.old.flush (caching L.history L.truth L.room L.budget_left self.old).told self.new.flush (caching L.history L.truth L.room L.budget_left self.new).told }
+        ensures cut { IfErr result (λ cut. IsWhyCut (caching L.Link self.new) cut) }
+        ensures flush { WantsFlush L.Link self.old self.new }
     {
         let reading = self.begin_read(block)?;
         self.wait(reading)
@@ -391,13 +405,14 @@ impl<L: Link> Cache<L> {
     /// The frame of a block, which is read if it has none: what would be read back stays as it is. Where the call is
     /// cut the block gets none; the frame that was to go may be gone.
     pub fn fetch(&mut self, block: u32) -> Result<Frame, Cut>
-        requires ready { IsReady (caching L.history L.truth L.room L.budget_left self.old) }
-        ensures keeps { Keeps (caching L.history L.truth L.room L.budget_left self.old) (caching L.history L.truth L.room L.budget_left self.new) }
+        requires ready { IsReady (caching L.Link self.old) }
+        ensures keeps { Keeps (caching L.Link self.old) (caching L.Link self.new) }
+        ensures goes { LinkGoesOn L.Link self.old self.new }
         ensures frame { IfOk result (λ f. (f.block ≡ block) × IsFrame self.new f) }
         ensures hit { (s : Slot) → held self.old.slots.items.items block ≡ Some s → Hits result self.old self.new }
         ensures miss { held self.old.slots.items.items block ≡ None → Misses State.Clean result self.old self.new }
-        ensures cut { IfErr result (λ cut. IsWhyCut (caching L.history L.truth L.room L.budget_left self.new) cut) }
-        ensures flush { FlushFollows self.old.flush (caching L.history L.truth L.room L.budget_left self.old).told self.new.flush (caching L.history L.truth L.room L.budget_left self.new).told }
+        ensures cut { IfErr result (λ cut. IsWhyCut (caching L.Link self.new) cut) }
+        ensures flush { WantsFlush L.Link self.old self.new }
     {
         if let Some(at) = self.slots.find(block) {
             self.slots.touch(at);
@@ -411,13 +426,14 @@ impl<L: Link> Cache<L> {
 
     /// The frame of a block with zero bytes in place of its own, which aren't read.
     pub fn fresh(&mut self, block: u32) -> Result<Frame, Cut>
-        requires ready { IsReady (caching L.history L.truth L.room L.budget_left self.old) }
-        ensures runs { Runs None (caching L.history L.truth L.room L.budget_left self.old) (caching L.history L.truth L.room L.budget_left self.new) (λ w v. Blanks result block (caching L.history L.truth L.room L.budget_left self.old) (caching L.history L.truth L.room L.budget_left self.new) w v) }
+        requires ready { IsReady (caching L.Link self.old) }
+        ensures runs { Does L.Link self.old self.new (Blanks result block) }
+        ensures goes { LinkGoesOn L.Link self.old self.new }
         ensures frame { IfOk result (λ f. (f.block ≡ block) × IsFrame self.new f) }
         ensures hit { (s : Slot) → held self.old.slots.items.items block ≡ Some s → BlanksFrame result self.old self.new }
         ensures miss { held self.old.slots.items.items block ≡ None → Misses State.Dirty result self.old self.new }
-        ensures cut { IfErr result (λ cut. IsWhyCut (caching L.history L.truth L.room L.budget_left self.new) cut) }
-        ensures flush { FlushFollows self.old.flush (caching L.history L.truth L.room L.budget_left self.old).told self.new.flush (caching L.history L.truth L.room L.budget_left self.new).told }
+        ensures cut { IfErr result (λ cut. IsWhyCut (caching L.Link self.new) cut) }
+        ensures flush { WantsFlush L.Link self.old self.new }
         ensures at_once { held self.old.slots.items.items block ≡ None → IsAtOnce result self.old self.new }
     {
         if let Some(at) = self.slots.find(block) {
@@ -432,17 +448,18 @@ impl<L: Link> Cache<L> {
     /// The bytes of a frame, a block's length of them.
     pub fn frame(&self, frame: Frame) -> &[u8]
         requires { IsFrame self.now frame }
-        ensures { frames_of (caching L.history L.truth L.room L.budget_left self.now).size (caching L.history L.truth L.room L.budget_left self.now).held frame.block ≡ Some result.now }
+        ensures { frames_of self.now.shape.block_size (held_by self.now) frame.block ≡ Some result.now }
     {
         &self.slots.get(frame.at).bytes[..self.shape.block_size as usize]
     }
 
     /// Changes these bytes of a frame, from this place on, and no others.
     pub fn change(&mut self, frame: Frame, from: usize, bytes: &[u8])
-        requires ready { IsReady (caching L.history L.truth L.room L.budget_left self.old) }
+        requires ready { IsReady (caching L.Link self.old) }
         requires frame { IsFrame self.old frame }
-        requires within { from + length bytes.now ≤ (caching L.history L.truth L.room L.budget_left self.old).size }
-        ensures runs { Runs None (caching L.history L.truth L.room L.budget_left self.old) (caching L.history L.truth L.room L.budget_left self.new) (λ w v. Rewrites frame.block (with_bytes from bytes.now) (caching L.history L.truth L.room L.budget_left self.old) (caching L.history L.truth L.room L.budget_left self.new) w v) }
+        requires within { from + length bytes.now ≤ self.old.shape.block_size }
+        ensures runs { Does L.Link self.old self.new (Rewrites frame.block (with_bytes from bytes.now)) }
+        ensures goes { LinkGoesOn L.Link self.old self.new }
         ensures frames { (f : FrameValue) → IsFrame self.old f → IsFrame self.new f }
         ensures changed { IsChangedAt self.old.slots.items.items self.new.slots.items.items frame.at from bytes.now }
         ensures rest { self.new ≡ record self.old { slots = self.new.slots } }
@@ -453,9 +470,10 @@ impl<L: Link> Cache<L> {
 
     /// Gives up the frame of a block, if its bytes are the disk's.
     pub fn forget(&mut self, block: u32)
-        requires ready { IsReady (caching L.history L.truth L.room L.budget_left self.old) }
-        ensures keeps { Keeps (caching L.history L.truth L.room L.budget_left self.old) (caching L.history L.truth L.room L.budget_left self.new) }
-        ensures held { (caching L.history L.truth L.room L.budget_left self.new).held ≡ forgotten block (caching L.history L.truth L.room L.budget_left self.old).held }
+        requires ready { IsReady (caching L.Link self.old) }
+        ensures keeps { Keeps (caching L.Link self.old) (caching L.Link self.new) }
+        ensures goes { LinkGoesOn L.Link self.old self.new }
+        ensures held { held_by self.new ≡ forgotten block (held_by self.old) }
         ensures rest { self.new ≡ record self.old { slots = self.new.slots } }
         ensures uses { self.new.slots.uses ≡ self.old.slots.uses }
         ensures frames { (f : FrameValue) → f.block ≢ block → IsFrame self.old f → IsFrame self.new f }
@@ -470,20 +488,21 @@ impl<L: Link> Cache<L> {
     /// Begins the write of the dirty frame with the lowest block. No message is taken. False where there is none, or the write was
     /// refused since sixteen requests are pending or one of its block, or where no message comes any more; then nothing is changed.
     pub fn write_lowest(&mut self) -> bool
-        requires ready { IsReady (caching L.history L.truth L.room L.budget_left self.old) }
-        ensures keeps { Keeps (caching L.history L.truth L.room L.budget_left self.old) (caching L.history L.truth L.room L.budget_left self.new) }
-        ensures posts { PostsAlone (caching L.history L.truth L.room L.budget_left self.old) (caching L.history L.truth L.room L.budget_left self.new) }
-        ensures left { messages_left (caching L.history L.truth L.room L.budget_left self.new) ≤ messages_left (caching L.history L.truth L.room L.budget_left self.old) }
-        ensures issued { MatchBool result (IssuesLowest (caching L.history L.truth L.room L.budget_left self.old).held (caching L.history L.truth L.room L.budget_left self.new).held) ((caching L.history L.truth L.room L.budget_left self.new).held ≡ (caching L.history L.truth L.room L.budget_left self.old).held) }
-        ensures busy { OnTrue result (IsBusy (pending_of (caching L.history L.truth L.room L.budget_left self.new).table.pending)) }
-        ensures stuck { OnFalse result (IsLive (caching L.history L.truth L.room L.budget_left self.new) → IsStuck (caching L.history L.truth L.room L.budget_left self.new)) }
+        requires ready { IsReady (caching L.Link self.old) }
+        ensures keeps { Keeps (caching L.Link self.old) (caching L.Link self.new) }
+        ensures goes { LinkGoesOn L.Link self.old self.new }
+        ensures posts { PostsAlone (caching L.Link self.old) (caching L.Link self.new) }
+        ensures left { messages_left (caching L.Link self.new) ≤ messages_left (caching L.Link self.old) }
+        ensures issued { MatchBool result (IssuesLowest (held_by self.old) (held_by self.new)) (held_by self.new ≡ held_by self.old) }
+        ensures busy { OnTrue result (IsBusy (begun_in self.new.transfers)) }
+        ensures stuck { OnFalse result (IsLive (caching L.Link self.new) → IsStuck (caching L.Link self.new)) }
         ensures frames { (f : FrameValue) → IsFrame self.old f → IsFrame self.new f }
         ensures flush { self.new.flush ≡ self.old.flush }
         ensures refused { OnFalse result (self.new ≡ self.old) }
-        ensures live { OnTrue result (IsLive (caching L.history L.truth L.room L.budget_left self.old)) }
+        ensures live { OnTrue result (IsLive (caching L.Link self.old)) }
         ensures uses { self.new.slots.uses ≡ self.old.slots.uses }
-        ensures adds { OnTrue result (length (caching L.history L.truth L.room L.budget_left self.new).table.pending ≡ length (caching L.history L.truth L.room L.budget_left self.old).table.pending + 1) }
-        ensures reads { NoReadBegun (pending_of (caching L.history L.truth L.room L.budget_left self.old).table.pending) (pending_of (caching L.history L.truth L.room L.budget_left self.new).table.pending) }
+        ensures adds { OnTrue result (length (table_of self.new.transfers).pending ≡ length (table_of self.old.transfers).pending + 1) }
+        ensures reads { NoReadBegun (begun_in self.old.transfers) (begun_in self.new.transfers) }
     {
         if self.live().is_err() {
             return false;
@@ -496,8 +515,8 @@ impl<L: Link> Cache<L> {
 
     /// Whether the bytes of each frame are the disk's.
     pub fn is_clean(&self) -> bool
-        ensures clean { OnTrue result (AllClean (caching L.history L.truth L.room L.budget_left self.now).held) }
-        ensures unclean { OnFalse result (SomeUnclean (caching L.history L.truth L.room L.budget_left self.now).held) }
+        ensures clean { OnTrue result (AllClean (held_by self.now)) }
+        ensures unclean { OnFalse result (SomeUnclean (held_by self.now)) }
     {
         match self.slots.find_unclean() {
             Some(_) => false,
@@ -507,16 +526,18 @@ impl<L: Link> Cache<L> {
 
     /// Does what a message asks for that was handed over between two calls. End changes nothing.
     pub fn absorb(&mut self, message: Incoming)
-        requires ready { IsReady (caching L.history L.truth L.room L.budget_left self.old) }
-        requires ids { (caching L.history L.truth L.room L.budget_left self.old).table.ids < 2 ^ 60 }
-        requires spare { self.old.ended ≡ false → (caching L.history L.truth L.room L.budget_left self.old).table.ids + (caching L.history L.truth L.room L.budget_left self.old).budget + 17 < 2 ^ 60 + length (caching L.history L.truth L.room L.budget_left self.old).table.pending }
-        requires room { room_needed message ≤ (caching L.history L.truth L.room L.budget_left self.old).room }
-        ensures hands_over { HandsOver message (caching L.history L.truth L.room L.budget_left self.old) (caching L.history L.truth L.room L.budget_left self.new) }
+        requires ready { IsReady (caching L.Link self.old) }
+        requires ids { (table_of self.old.transfers).ids < 2 ^ 60 }
+        requires spare { self.old.ended ≡ false → (table_of self.old.transfers).ids + L.budget_left (link_of self.old.transfers) + 17
+            < 2 ^ 60 + length (table_of self.old.transfers).pending }
+        requires room { room_needed message ≤ L.room (link_of self.old.transfers) }
+        ensures hands_over { HandsOver message (caching L.Link self.old) (caching L.Link self.new) }
+        ensures goes { LinkGoesOn L.Link self.old self.new }
         ensures wanted { IsWantedFor (message ≡ Incoming.Flush) self.old.flush self.new.flush }
         ensures stay { AllStay self.old.slots self.new.slots }
         ensures leaves { Leaves self.old.slots.items.items self.new.slots.items.items }
         ensures end { message ≡ Incoming.End → self.new ≡ self.old }
-        ensures reads { NoReadBegun (pending_of (caching L.history L.truth L.room L.budget_left self.old).table.pending) (pending_of (caching L.history L.truth L.room L.budget_left self.new).table.pending) }
+        ensures reads { NoReadBegun (begun_in self.old.transfers) (begun_in self.new.transfers) }
     {
         let settled = self.transfers.absorb(message);
         self.settle(settled);

@@ -15,5 +15,5 @@ pub fn frames_read_back()
 /// What a call of a cache does at its link is what its server does there: the same acts, all that was told, and the rules on posts,
 /// complaints and takes.
 pub fn calls_lead<S: Serve, L: Link>()
-    ensures { CallsLead S S.serving (Cache L) (caching L.history L.truth L.room L.budget_left) }
+    ensures { CallsLead S S.serving (Cache L) (caching L.Link) }
 {}

@@ -1,7 +1,9 @@
 //! All slots of a cache.
 
-ghost use Rattle.std.specs.Prelude.{◌≡◌, ◌<◌, ◌≤◌, ◌+◌, ◌-◌, ◌&&◌, ℕ, IfOk, IfSome, Option, Some, None, is_some, not, slice_get, slice_index, position, length, take, nat_le, nat_lt, if◌then◌else◌, replicate, set};
-ghost use Rattle.cache.specs.Slots.{is_number, ticket_of, dirtied, held, is_under, is_clean, is_dirty, is_dirty_slot, is_unclean_slot, IsDistinct};
+ghost use Rattle.std.specs.Prelude.{◌≡◌, ◌<◌, ◌≤◌, ◌+◌, ◌-◌, ◌&&◌, ℕ, IfOk, IfSome, Option, Some, None, is_some, not, slice_get};
+ghost use Rattle.std.specs.Prelude.{slice_index, position, length, take, nat_le, nat_lt, if◌then◌else◌, replicate, set};
+ghost use Rattle.cache.specs.Slots.{is_number, ticket_of, dirtied, held, is_under, is_clean, is_dirty, is_dirty_slot, is_unclean_slot};
+ghost use Rattle.cache.specs.Slots.{IsDistinct};
 
 use crate::state::State;
 use crate::uses::Uses;
@@ -91,7 +93,8 @@ impl Slot {
         ensures block { self.new.block ≡ self.old.block }
         ensures state { self.new.state ≡ dirtied self.old.state }
         ensures bytes { (o : ℕ) → slice_index self.new.bytes o
-            ≡ (if nat_le from o && nat_lt o (from + length bytes.now) then slice_index bytes.now (o - from) else slice_index self.old.bytes o) }
+            ≡ (if nat_le from o && nat_lt o (from + length bytes.now) then slice_index bytes.now (o - from)
+            else slice_index self.old.bytes o) }
     {
         self.state = self.state.dirtied();
         self.bytes[from..from + bytes.len()].copy_from_slice(bytes);

@@ -21,7 +21,7 @@ use Rattle.reissue.specs.Moves.{Closes, IsFree, Spares, state_after}
 use Rattle.reissue.specs.Entries.{pending_of, begun_of, request_of, AllOfMinor, MissesOrSame, AreDistinct, IsAmong}
 use Rattle.reissue.specs.Agrees.{Agrees, unposted}
 use Rattle.reissue.specs.Posts.{OnlyPosts, PostsInOrder, PostsAfter, is_message}
-use Rattle.reissue.specs.Calls.{Truth, Leads, TakesIn, Absorbs, Steps, Begins, PostsNew, IsAnswerTo, goes_on}
+use Rattle.reissue.specs.Calls.{Truth, Leads, TakesIn, Absorbs, Steps, Begins, PostsNew, IsAnswerTo, more_may_come}
 use Rattle.reissue.proofs.Posting.{closing_posted}
 use Rattle.reissue.specs.Rules.{at_link, all_began, began_on, acts_on}
 use Rattle.reissue.proofs.StepRules.{arrival}
@@ -59,7 +59,7 @@ ended_after es before after o history = ap took_end history ∙ ended_posts es b
 
 -- an answer of End is that to an End
 ended_heard : (m : Incoming) (res : Settled) (before : List Told) → IsAnswerTo m res
-    → took_end (heard m before) ≡ (not (goes_on res) || took_end before)
+    → took_end (heard m before) ≡ (not (more_may_come res) || took_end before)
 ended_heard incoming.End res before a = rw a (by (took_end before) refl) where
   by : (b : Bool) → took_end before ≡ b → took_end (cond b before (Received incoming.End ∷ before)) ≡ true
   by true e = e
@@ -346,8 +346,8 @@ only_end incoming.GaveUp e = cc
 only_end incoming.Flush e = cc
 
 -- where another message may come, this was one
-pub went_on : (m : Incoming) (res : Settled) → IsAnswerTo m res → goes_on res ≡ true → is_message m ≡ true
-went_on incoming.End res a g = absurd (ended (ap goes_on (sym a) ∙ g)) where
+pub went_on : (m : Incoming) (res : Settled) → IsAnswerTo m res → more_may_come res ≡ true → is_message m ≡ true
+went_on incoming.End res a g = absurd (ended (ap more_may_come (sym a) ∙ g)) where
   ended : false ≡ true → ⊥
   ended e = cc
 went_on (incoming.Reply x) res a g = refl
@@ -356,7 +356,7 @@ went_on incoming.GaveUp res a g = refl
 went_on incoming.Flush res a g = refl
 
 -- a message came, so the budget wasn't spent, and fell
-pub falls_to : (m : Incoming) (res : Settled) (a b : ℕ) → IsAnswerTo m res → goes_on res ≡ true → (0 < a → b < a) → (a ≡ 0 → m ≡ incoming.End) → b < a
+pub falls_to : (m : Incoming) (res : Settled) (a b : ℕ) → IsAnswerTo m res → more_may_come res ≡ true → (0 < a → b < a) → (a ≡ 0 → m ≡ incoming.End) → b < a
 falls_to m res zero b answer on less spent = absurd (nothing (ap is_message (sym (spent refl)) ∙ went_on m res answer on)) where
   nothing : is_message incoming.End ≡ true → ⊥
   nothing e = cc

@@ -127,13 +127,13 @@ IsAnswerTo incoming.Flush result = result ≡ settled.Flush
 IsAnswerTo incoming.End result = result ≡ settled.End
 
 -- another message may come
-abbrev pub goes_on : Settled → Bool
-goes_on settled.End = false
-goes_on settled.Nothing = true
-goes_on (settled.Read t bytes) = true
-goes_on (settled.Written t) = true
-goes_on settled.Flush = true
-goes_on settled.GaveUp = true
+abbrev pub more_may_come : Settled → Bool
+more_may_come settled.End = false
+more_may_come settled.Nothing = true
+more_may_come (settled.Read t bytes) = true
+more_may_come (settled.Written t) = true
+more_may_come settled.Flush = true
+more_may_come settled.GaveUp = true
 
 -- a message was taken and absorbed; what was told after it
 pub record Steps (result : Settled) (old new : Table) (before after : List Told) (was is : Truth) : Type 0 where
@@ -152,7 +152,7 @@ pub record Steps (result : Settled) (old new : Table) (before after : List Told)
   pub in_order : PostsAfter message mid (complaints ++ heard message before) after
   pub same : new.pending ≡ mid.pending
   pub given_up : new.given_up ≡ (gives_up result || old.given_up)
-  pub ended : took_end after ≡ (not (goes_on result) || took_end before)
+  pub ended : took_end after ≡ (not (more_may_come result) || took_end before)
   pub posted : new.posted ≡ mid.posted + accepted_of posts
   pub issued : new.issued ≡ max mid.issued new.posted
   pub grows : (marks : List Mark) → grown (posts ++ (complaints ++ (Received message ∷ []))) marks ≡ grown posts (received message marks)

@@ -48,7 +48,7 @@ impl<L: Link> Transfers<L> {
     ghost use Rattle.reissue.specs.Rules.{outbox_of};
     ghost use Rattle.reissue.specs.Agrees.{Agrees, unposted};
     ghost use Rattle.reissue.specs.Posts.{PostsInOrder, IsTried, HasRoom, CanPost, TakesRoom};
-    ghost use Rattle.reissue.specs.Calls.{Leads, TakesIn, Absorbs, Steps, Begins, Adds, IsAnswerTo, goes_on};
+    ghost use Rattle.reissue.specs.Calls.{Leads, TakesIn, Absorbs, Steps, Begins, Adds, IsAnswerTo, more_may_come};
     ghost use Rattle.reissue.specs.Transfers.{link_of, table_of, begun_in, with_link, Between};
     ghost use Rattle.reissue.specs.contracts.transfers.Transfers.{the_row};
 
@@ -212,8 +212,8 @@ impl<L: Link> Transfers<L> {
         ensures budget { 0 < L.budget_left (link_of self.old) → L.budget_left (link_of self.new) < L.budget_left (link_of self.old) }
         ensures spent { L.budget_left (link_of self.old) ≡ 0 → result ≡ Settled.End }
         ensures goes { L.goes_on (link_of self.old) (link_of self.new) }
-        ensures falls { goes_on result ≡ true → L.budget_left (link_of self.new) < L.budget_left (link_of self.old) }
-        ensures room { goes_on result ≡ true → HasRoom (table_of self.new) (L.room (link_of self.new)) }
+        ensures falls { more_may_come result ≡ true → L.budget_left (link_of self.new) < L.budget_left (link_of self.old) }
+        ensures room { more_may_come result ≡ true → HasRoom (table_of self.new) (L.room (link_of self.new)) }
         ensures tried { IsTried (table_of self.old) (L.history (link_of self.old))
             → IsTried (table_of self.new) (L.history (link_of self.new)) }
         ensures ids { (table_of self.new).ids ≤ (table_of self.old).ids + 1 }

@@ -19,6 +19,7 @@ writes-init g c = record {
   grown = omega arith;
   reads = λ t r is w. is;
   few = c.args.cache.now.transfers.table.few;
+  goes = g.met.L.Link.stays _;
   flush = refl;
   uses = refl;
 }
@@ -35,7 +36,7 @@ returns-then-not-write_lowest-clause-posts g c = posts_then _ _ _ c.writes.invar
 pub returns-then-not-write_lowest-clause-issued : goal.returns-then-not-write_lowest-clause-issued
 returns-then-not-write_lowest-clause-issued g c =
     let i = c.writes.invariant in
-    let old = (caching g.L.Link.history g.L.Link.truth g.L.Link.room g.L.Link.budget_left c.args.cache.now).held in
+    let old = (caching g.L.Link c.args.cache.now).held in
     at_most c.writes.counter 16 old _ i.within
     (subst (λ (h : ℕ → Option Slot). WritesLowest c.writes.counter old h) (sym c.if-not-write_lowest.ensures.issued) i.issued)
 
@@ -50,8 +51,8 @@ writes-preserved g c =
     let i = c.writes.invariant in
     let e = c.if-not-write_lowest.ensures in
     let n = c.writes.counter in
-    let old = (caching g.L.Link.history g.L.Link.truth g.L.Link.room g.L.Link.budget_left c.args.cache.now).held in
-    let new = (caching g.L.Link.history g.L.Link.truth g.L.Link.room g.L.Link.budget_left c.write_lowest.new.self).held in
+    let old = (caching g.L.Link c.args.cache.now).held in
+    let new = (caching g.L.Link c.write_lowest.new.self).held in
     let next : suc n ≡ n + 1 = omega arith in
     record {
       keeps = keeps_then _ _ _ i.keeps e.keeps;
@@ -64,6 +65,7 @@ writes-preserved g c =
       grown = let p = i.grown in let q = e.adds in omega (arith, p, q);
       reads = λ t r is w. i.reads t r (e.reads t r is w) w;
       few = c.write_lowest.new.self.transfers.table.few;
+      goes = g.met.L.Link.joins _ _ _ i.goes e.goes;
       flush = e.flush ∙ i.flush;
       uses = e.uses ∙ i.uses;
     }
@@ -75,7 +77,7 @@ pub returns-clause-posts : goal.returns-clause-posts
 returns-clause-posts g c = c.writes.invariant.posts
 
 pub returns-clause-issued : goal.returns-clause-issued
-returns-clause-issued g c = at_most c.writes.counter 16 (caching g.L.Link.history g.L.Link.truth g.L.Link.room g.L.Link.budget_left c.args.cache.now).held _ c.writes.invariant.within c.writes.invariant.issued
+returns-clause-issued g c = at_most c.writes.counter 16 (caching g.L.Link c.args.cache.now).held _ c.writes.invariant.within c.writes.invariant.issued
 
 pub returns-clause-left : goal.returns-clause-left
 returns-clause-left g c = c.writes.invariant.left

@@ -2,23 +2,24 @@ use Rattle.std.proofs.Common.{◌≡◌, ◌<◌, ◌≤◌, ◌+◌, length}
 use Rattle.reissue.specs.Moves.{IsBusy}
 use Rattle.reissue.specs.Entries.{pending_of}
 use Rattle.cache.specs.declared.slots.Frame.{Frame}
-use Rattle.cache.specs.Calls.{caching, Keeps, PostsAlone, IsFrame}
+use Rattle.cache.specs.Calls.{caching, Keeps, PostsAlone, IsFrame, LinkGoesOn}
 use Rattle.cache.specs.Takes.{messages_left, NoReadBegun}
 use Rattle.flusher.specs.Flushing.{WritesLowest}
 use Rattle.flusher.proofs.flush_some.Given as goal
 
 abbrev pub invariant-writes : goal.invariant-writes
 invariant-writes g l = record {
-  keeps : Keeps (caching g.L.Link.history g.L.Link.truth g.L.Link.room g.L.Link.budget_left l.initial.cache) (caching g.L.Link.history g.L.Link.truth g.L.Link.room g.L.Link.budget_left l.cache);
-  posts : PostsAlone (caching g.L.Link.history g.L.Link.truth g.L.Link.room g.L.Link.budget_left l.initial.cache) (caching g.L.Link.history g.L.Link.truth g.L.Link.room g.L.Link.budget_left l.cache);
-  issued : WritesLowest l.counter (caching g.L.Link.history g.L.Link.truth g.L.Link.room g.L.Link.budget_left l.initial.cache).held (caching g.L.Link.history g.L.Link.truth g.L.Link.room g.L.Link.budget_left l.cache).held;
-  left : messages_left (caching g.L.Link.history g.L.Link.truth g.L.Link.room g.L.Link.budget_left l.cache) ≤ messages_left (caching g.L.Link.history g.L.Link.truth g.L.Link.room g.L.Link.budget_left l.initial.cache);
-  busy : 0 < l.counter → IsBusy (pending_of (caching g.L.Link.history g.L.Link.truth g.L.Link.room g.L.Link.budget_left l.cache).table.pending);
+  keeps : Keeps (caching g.L.Link l.initial.cache) (caching g.L.Link l.cache);
+  posts : PostsAlone (caching g.L.Link l.initial.cache) (caching g.L.Link l.cache);
+  issued : WritesLowest l.counter (caching g.L.Link l.initial.cache).held (caching g.L.Link l.cache).held;
+  left : messages_left (caching g.L.Link l.cache) ≤ messages_left (caching g.L.Link l.initial.cache);
+  busy : 0 < l.counter → IsBusy (pending_of (caching g.L.Link l.cache).table.pending);
   frames : (f : Frame) → IsFrame l.initial.cache f → IsFrame l.cache f;
   within : l.counter ≤ 16;
   grown : length l.cache.transfers.table.pending ≡ length l.initial.cache.transfers.table.pending + l.counter;
   reads : NoReadBegun (pending_of l.initial.cache.transfers.table.pending) (pending_of l.cache.transfers.table.pending);
   few : length l.cache.transfers.table.pending ≤ 16;
+  goes : LinkGoesOn g.L.Link l.initial.cache l.cache;
   flush : l.cache.flush ≡ l.initial.cache.flush;
   uses : l.cache.slots.uses ≡ l.initial.cache.slots.uses;
 }

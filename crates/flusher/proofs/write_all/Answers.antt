@@ -18,7 +18,7 @@ returns-then-is_clean-clause-idle g c = idle _ c.flush_some.ensures.keeps.ready 
 
 pub take-requires-clause-busy : goal.take-requires-clause-busy
 take-requires-clause-busy g c = λ live.
-    busy_unclean (caching g.L.Link.history g.L.Link.truth g.L.Link.room g.L.Link.budget_left c.flush_some.new.cache) c.flush_some.ensures.keeps.ready (c.flush_some.ensures.stuck live) c.if-is_clean.ensures.unclean
+    busy_unclean (caching g.L.Link c.flush_some.new.cache) c.flush_some.ensures.keeps.ready (c.flush_some.ensures.stuck live) c.if-is_clean.ensures.unclean
 
 pub messages-preserved : goal.messages-preserved
 messages-preserved g c = record {

@@ -8,7 +8,7 @@ use Rattle.flusher.proofs.write_all.Given as goal
 
 abbrev pub invariant-messages : goal.invariant-messages
 invariant-messages g l = record {
-  keeps : Keeps (caching g.L.Link.history g.L.Link.truth g.L.Link.room g.L.Link.budget_left l.initial.cache) (caching g.L.Link.history g.L.Link.truth g.L.Link.room g.L.Link.budget_left l.cache);
+  keeps : Keeps (caching g.L.Link l.initial.cache) (caching g.L.Link l.cache);
   frames : (f : Frame) → IsFrame l.initial.cache f → IsFrame l.cache f;
   reads : NoReadBegun (pending_of l.initial.cache.transfers.table.pending) (pending_of l.cache.transfers.table.pending);
   uses : l.cache.slots.uses ≡ l.initial.cache.slots.uses;
@@ -16,4 +16,4 @@ invariant-messages g l = record {
 }
 
 abbrev pub decreases-messages : goal.decreases-messages
-decreases-messages g l = messages_left (caching g.L.Link.history g.L.Link.truth g.L.Link.room g.L.Link.budget_left l.cache)
+decreases-messages g l = messages_left (caching g.L.Link l.cache)

@@ -4,6 +4,6 @@ use Rattle.frame_rows.proofs.frames.fetch_each.Given as goal
 
 abbrev pub invariant-loop-block : goal.invariant-loop-block
 invariant-loop-block g l = record {
-  ready : IsReady (caching g.L.Link.history g.L.Link.truth g.L.Link.room g.L.Link.budget_left l.cache);
+  ready : IsReady (caching g.L.Link l.cache);
   size : l.cache.shape.block_size ≡ l.initial.cache.shape.block_size;
 }

@@ -15,16 +15,14 @@ use Rattle.cache.proofs.cache.Cache.absorb.Goals as goal
 pub returns : goal.returns
 returns g c =
     let h = g.L.Link.history in
-    let t = g.L.Link.truth in
     let r = g.L.Link.room in
-    let b = g.L.Link.budget_left in
     let s = c.args.self.now in
     let e = c.settle.ensures in
     let x = c.absorb-settled.ensures in
-    let old = caching h t r b s in
+    let old = caching g.L.Link s in
     let items = c.settle.new.self.slots.items.items in
-    let mid = caching_of h t r b c.absorb-settled.new.self s.shape items s.ended in
-    let same : caching h t r b c.settle.new.self ≡ mid = λ i. caching_of h t r b (e.transfers i) (e.shape i) items (e.ended i) in
+    let mid = caching_of g.L.Link c.absorb-settled.new.self s.shape items s.ended in
+    let same : caching g.L.Link c.settle.new.self ≡ mid = λ i. caching_of g.L.Link (e.transfers i) (e.shape i) items (e.ended i) in
     record {
       hands_over = subst (λ (n : Caching). HandsOver c.args.message old n) (sym same)
           (absorbs_one c.args.message c.absorb-settled.result old mid s.slots.items.items items x.absorbs e.slots refl refl c.requires.ready c.requires.spare
@@ -32,6 +30,7 @@ returns g c =
           (λ alive. room_after c.args.message (HasRoom (table_of c.absorb-settled.new.self) (r (link_of c.absorb-settled.new.self))) x.room
           (λ end. subst (λ (u : Transfers _). HasRoom (table_of u) (r (link_of u))) (sym (x.ended end)) (c.requires.ready.room alive))) x.closed
           (λ end. ap (λ (u : Transfers _). h (link_of u)) (x.ended end)));
+      goes = subst (λ (u : Transfers _). g.L.Link.goes_on (link_of s.transfers) (link_of u)) (sym e.transfers) x.goes;
       stay = e.stay;
       reads = subst (λ (u : Transfers _). NoReadBegun (pending_of (table_of s.transfers).pending) (pending_of (table_of u).pending)) (sym e.transfers)
           (none_begun c.absorb-settled.result _ _ x.absorbs.closes);

@@ -8,7 +8,7 @@ use Rattle.cache.proofs.Flushes.{follows_none, follows_then}
 use Rattle.cache.proofs.cache.Cache.begin_read.Goals as goal
 
 pub tries-init : goal.tries-init
-tries-init g c = record { keeps = keeps_none _ c.requires.ready; leaves = leaves_none _; stay = all_none _; flush = follows_none _ _ }
+tries-init g c = record { keeps = keeps_none _ c.requires.ready; leaves = leaves_none _; stay = all_none _; flush = follows_none _ _; goes = g.met.L.Link.stays _ }
 
 pub returns-in-Some-clause-keeps : goal.returns-in-Some-clause-keeps
 returns-in-Some-clause-keeps g c = keeps_then _ _ _ c.tries.invariant.keeps c.try_read.ensures.keeps
@@ -20,6 +20,7 @@ tries-preserved g c = record {
       (subst (λ (s : Slots). Leaves s.items.items c.take.new.self.slots.items.items) c.try_read.ensures.slots c.take.ensures.leaves);
   stay = all_then _ _ _ c.tries.invariant.stay (subst (λ (s : Slots). AllStay s c.take.new.self.slots) c.try_read.ensures.slots c.take.ensures.stay);
   flush = follows_then _ _ _ _ _ _ (follows_then _ _ _ _ _ _ c.tries.invariant.flush c.try_read.ensures.flush) c.take.ensures.flush;
+  goes = g.met.L.Link.joins _ _ _ (g.met.L.Link.joins _ _ _ c.tries.invariant.goes c.try_read.ensures.goes) c.take.ensures.goes;
 }
 
 pub returns-in_err-take-clause-keeps : goal.returns-in_err-take-clause-keeps

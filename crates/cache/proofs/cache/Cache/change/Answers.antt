@@ -8,16 +8,12 @@ use Rattle.cache.proofs.cache.Cache.change.Goals as goal
 
 pub returns-clause-runs : goal.returns-clause-runs
 returns-clause-runs g c =
-    let h = g.L.Link.history in
-    let t = g.L.Link.truth in
-    let r = g.L.Link.room in
-    let b = g.L.Link.budget_left in
     let s = c.args.self.now in
     let items = s.slots.items.items in
     let e = c.change.ensures.changed in
     let f = c.requires.frame in
     let same = one_slot items c.args.frame.at f.slot e.slot f.is e.is in
-    rewritten (caching h t r b s) (caching_of h t r b s.transfers s.shape c.change.new.self.items.items s.ended) items c.change.new.self.items.items
+    rewritten (caching g.L.Link s) (caching_of g.L.Link s.transfers s.shape c.change.new.self.items.items s.ended) items c.change.new.self.items.items
     c.args.frame.at c.args.frame.block e.slot e.after (with_bytes c.args.from c.args.bytes.now) s.slots.distinct e.is
     (ap (λ (y : Slot). y.block) (sym same) ∙ f.block_is) e.block e.state e.all
     (λ w. changed_row s.shape.block_size c.args.from c.args.bytes.now c.args.frame.block e.slot e.after w c.requires.within e.bytes_are) refl refl c.requires.ready

@@ -13,14 +13,10 @@ use Rattle.cache.proofs.cache.Cache.fetch.Goals as goal
 
 pub returns-in-Some-clause-keeps : goal.returns-in-Some-clause-keeps
 returns-in-Some-clause-keeps g c =
-    let h = g.L.Link.history in
-    let t = g.L.Link.truth in
-    let r = g.L.Link.room in
-    let b = g.L.Link.budget_left in
     let s = c.args.self.now in
-    let same : caching_of h t r b s.transfers s.shape c.touch.new.self.items.items s.ended ≡ caching h t r b s =
-    λ i. caching_of h t r b s.transfers s.shape (c.touch.ensures.items i) s.ended in
-    subst (λ (n : Caching). Keeps (caching h t r b s) n) (sym same) (keeps_none _ c.requires.ready)
+    let same : caching_of g.L.Link s.transfers s.shape c.touch.new.self.items.items s.ended ≡ caching g.L.Link s =
+    λ i. caching_of g.L.Link s.transfers s.shape (c.touch.ensures.items i) s.ended in
+    subst (λ (n : Caching). Keeps (caching g.L.Link s) n) (sym same) (keeps_none _ c.requires.ready)
 
 pub returns-in-Some-clause-frame : goal.returns-in-Some-clause-frame
 returns-in-Some-clause-frame g c = (
@@ -49,17 +45,13 @@ fill-requires-clause-free g c =
 
 pub returns-clause-keeps : goal.returns-clause-keeps
 returns-clause-keeps g c =
-    let h = g.L.Link.history in
-    let t = g.L.Link.truth in
-    let r = g.L.Link.room in
-    let b = g.L.Link.budget_left in
     let m = c.read.new.self in
     let s = c.args.self.now in
     let none = c.read.ensures.leaves.none c.args.block (c.make_room.ensures.none c.args.block
     (none_held s.slots.items.items c.args.block (sym c.find.ensures ∙ c.in_default.is))) in
     let x = reads_after _ _ _ _ c.args.block c.args.block refl c.make_room.ensures.keeps c.in_ok-bytes.ensures.runs in
-    placed (caching h t r b m) (caching_of h t r b m.transfers m.shape c.fill.new.self.items.items m.ended) m.slots.items.items c.fill.new.self.items.items
-    c.in_ok-at.at c.args.block _ _ c.in_ok-bytes.bytes (caching h t r b s) m.slots.distinct (c.read.ensures.leaves.free c.in_ok-at.at c.in_ok-at.ensures.free) none
+    placed (caching g.L.Link m) (caching_of g.L.Link m.transfers m.shape c.fill.new.self.items.items m.ended) m.slots.items.items c.fill.new.self.items.items
+    c.in_ok-at.at c.args.block _ _ c.in_ok-bytes.bytes (caching g.L.Link s) m.slots.distinct (c.read.ensures.leaves.free c.in_ok-at.at c.in_ok-at.ensures.free) none
     c.fill.ensures.set refl refl refl x.size x.ready x
 
 pub returns-clause-frame : goal.returns-clause-frame

@@ -6,14 +6,10 @@ use Rattle.cache.proofs.cache.Cache.forget.Goals as goal
 
 pub returns-then-is_clean-clause-keeps : goal.returns-then-is_clean-clause-keeps
 returns-then-is_clean-clause-keeps g c =
-    let h = g.L.Link.history in
-    let t = g.L.Link.truth in
-    let r = g.L.Link.room in
-    let b = g.L.Link.budget_left in
     let s = c.args.self.now in
     let items = s.slots.items.items in
     let clean = sym c.is_clean.ensures ∙ c.if-is_clean.true in
-    vacated (caching h t r b s) (caching_of h t r b s.transfers s.shape c.vacate.new.self.items.items s.ended) items c.vacate.new.self.items.items c.in-Some.at
+    vacated (caching g.L.Link s) (caching_of g.L.Link s.transfers s.shape c.vacate.new.self.items.items s.ended) items c.vacate.new.self.items.items c.in-Some.at
     s.slots.distinct (record { slot = c.get.result.now; is = c.get.ensures; passes = clean_passes c.get.result.now clean }) c.vacate.ensures.set refl refl c.requires.ready
 
 pub returns-then-is_clean-clause-held : goal.returns-then-is_clean-clause-held

@@ -14,16 +14,12 @@ use Rattle.cache.proofs.cache.Cache.fresh.Goals as goal
 
 pub returns-in-Some-clause-runs : goal.returns-in-Some-clause-runs
 returns-in-Some-clause-runs g c =
-    let h = g.L.Link.history in
-    let t = g.L.Link.truth in
-    let r = g.L.Link.room in
-    let b = g.L.Link.budget_left in
     let s = c.args.self.now in
     let items = s.slots.items.items in
     let e = c.blank.ensures.blanked in
     let f = found_at items c.in-Some.at c.args.block (sym c.find.ensures ∙ c.in-Some.is) in
     let same = one_slot items c.in-Some.at f.slot e.slot f.is e.is in
-    rewritten (caching h t r b s) (caching_of h t r b s.transfers s.shape c.blank.new.self.items.items s.ended) items c.blank.new.self.items.items
+    rewritten (caching g.L.Link s) (caching_of g.L.Link s.transfers s.shape c.blank.new.self.items.items s.ended) items c.blank.new.self.items.items
     c.in-Some.at c.args.block e.slot e.after (λ row o. 0) s.slots.distinct e.is (ap (λ (y : Slot). y.block) (sym same) ∙ f.block_is) e.block e.state e.all
     (λ w. zero_row s.shape.block_size c.args.block e.after w e.zero) refl refl c.requires.ready
 
@@ -53,16 +49,12 @@ fill-requires-clause-free g c =
 
 pub returns-clause-runs : goal.returns-clause-runs
 returns-clause-runs g c =
-    let h = g.L.Link.history in
-    let t = g.L.Link.truth in
-    let r = g.L.Link.room in
-    let b = g.L.Link.budget_left in
     let m = c.make_room.new.self in
     let s = c.args.self.now in
     let k = c.make_room.ensures.keeps in
     let none = c.make_room.ensures.none c.args.block (none_held s.slots.items.items c.args.block (sym c.find.ensures ∙ c.in_default.is)) in
-    blanked (caching h t r b m) (caching_of h t r b m.transfers m.shape c.fill.new.self.items.items m.ended) m.slots.items.items c.fill.new.self.items.items
-    c.in_ok-at.at c.args.block _ (caching h t r b s) m.slots.distinct c.in_ok-at.ensures.free none c.zeros.ensures c.fill.ensures.set refl refl k.ready k
+    blanked (caching g.L.Link m) (caching_of g.L.Link m.transfers m.shape c.fill.new.self.items.items m.ended) m.slots.items.items c.fill.new.self.items.items
+    c.in_ok-at.at c.args.block _ (caching g.L.Link s) m.slots.distinct c.in_ok-at.ensures.free none c.zeros.ensures c.fill.ensures.set refl refl k.ready k
 
 pub returns-clause-frame : goal.returns-clause-frame
 returns-clause-frame g c =

@@ -17,10 +17,6 @@ set_state-requires g c = in_range c.args.self.now.slots.items.items c.args.at c.
 
 pub returns-in-Ok-clause-keeps : goal.returns-in-Ok-clause-keeps
 returns-in-Ok-clause-keeps g c =
-    let h = g.L.Link.history in
-    let t = g.L.Link.truth in
-    let r = g.L.Link.room in
-    let b = g.L.Link.budget_left in
     let s = c.args.self.now in
     let items = s.slots.items.items in
     let x = c.in-Ok.ensures in
@@ -28,7 +24,7 @@ returns-in-Ok-clause-keeps g c =
     let d = c.requires.dirty in
     let same : d.slot ≡ c.get-slot.result.now = one_slot items c.args.at d.slot c.get-slot.result.now d.is c.get-slot.ensures in
     let state = ap (λ (y : Slot). y.state) (sym same) ∙ (dirty_parts d.slot d.passes).2 in
-    write_one c.write-ask.result (caching h t r b s) (caching_of h t r b c.begin.new.self s.shape c.set_state.new.self.items.items s.ended)
+    write_one c.write-ask.result (caching g.L.Link s) (caching_of g.L.Link c.begin.new.self s.shape c.set_state.new.self.items.items s.ended)
     items c.set_state.new.self.items.items c.in-Some.block c.in-Ok.ticket c.args.at c.get-slot.result.now
     s.slots.distinct c.get-slot.ensures c.in-Some.is state c.set_state.ensures.set refl refl
     x.begins x.adds x.opens a.kind a.minor a.position a.count a.bytes c.requires.ready refl refl refl x.budget x.room
@@ -43,14 +39,10 @@ returns-in-Ok-clause-leaves g c =
 
 pub returns-in-Err-clause-keeps : goal.returns-in-Err-clause-keeps
 returns-in-Err-clause-keeps g c =
-    let h = g.L.Link.history in
-    let t = g.L.Link.truth in
-    let r = g.L.Link.room in
-    let b = g.L.Link.budget_left in
     let s = c.args.self.now in
-    let old = caching h t r b s in
-    let same : caching_of h t r b c.begin.new.self s.shape s.slots.items.items s.ended ≡ old =
-    λ i. caching_of h t r b (c.in-Err.ensures.refused i) s.shape s.slots.items.items s.ended in
+    let old = caching g.L.Link s in
+    let same : caching_of g.L.Link c.begin.new.self s.shape s.slots.items.items s.ended ≡ old =
+    λ i. caching_of g.L.Link (c.in-Err.ensures.refused i) s.shape s.slots.items.items s.ended in
     subst (λ (n : Caching). Keeps old n) (sym same) (keeps_none old c.requires.ready)
 
 pub returns-in-Ok-clause-issued : goal.returns-in-Ok-clause-issued
@@ -80,12 +72,8 @@ returns-in-Err-clause-others g c = but_none c.args.at _
 
 pub returns-in-Ok-clause-adds : goal.returns-in-Ok-clause-adds
 returns-in-Ok-clause-adds g c =
-    let h = g.L.Link.history in
-    let t = g.L.Link.truth in
-    let r = g.L.Link.room in
-    let b = g.L.Link.budget_left in
     let s = c.args.self.now in
-    longer c.write-ask.result (caching h t r b s) (caching_of h t r b c.begin.new.self s.shape c.set_state.new.self.items.items s.ended) c.in-Ok.ensures.adds
+    longer c.write-ask.result (caching g.L.Link s) (caching_of g.L.Link c.begin.new.self s.shape c.set_state.new.self.items.items s.ended) c.in-Ok.ensures.adds
 
 pub returns-in-Err-clause-refusing : goal.returns-in-Err-clause-refusing
 returns-in-Err-clause-refusing g c =
@@ -95,6 +83,6 @@ returns-in-Err-clause-refusing g c =
     let d = c.requires.dirty in
     let x = c.in-Err.ensures in
     let same : d.slot ≡ c.get-slot.result.now = one_slot items c.args.at d.slot c.get-slot.result.now d.is c.get-slot.ensures in
-    refusing (caching g.L.Link.history g.L.Link.truth g.L.Link.room g.L.Link.budget_left s) (Err c.in-Err.field-0) _ _ c.in-Some.block c.get-slot.result.now refl x.full x.pending
+    refusing (caching g.L.Link s) (Err c.in-Err.field-0) _ _ c.in-Some.block c.get-slot.result.now refl x.full x.pending
     a.position a.count (held_at items c.args.at c.in-Some.block c.get-slot.result.now s.slots.distinct c.get-slot.ensures c.in-Some.is)
     (ap (λ (y : Slot). y.state) (sym same) ∙ (dirty_parts d.slot d.passes).2)

@@ -7,14 +7,10 @@ use Rattle.cache.proofs.cache.Cache.make_room.Goals as goal
 
 pub returns-clause-keeps : goal.returns-clause-keeps
 returns-clause-keeps g c =
-    let h = g.L.Link.history in
-    let t = g.L.Link.truth in
-    let r = g.L.Link.room in
-    let b = g.L.Link.budget_left in
     let m = c.clean.new.self in
     let k = c.clean.ensures.keeps in
     keeps_then _ _ _ k
-    (vacated (caching h t r b m) (caching_of h t r b m.transfers m.shape c.vacate.new.self.items.items m.ended) m.slots.items.items c.vacate.new.self.items.items
+    (vacated (caching g.L.Link m) (caching_of g.L.Link m.transfers m.shape c.vacate.new.self.items.items m.ended) m.slots.items.items c.vacate.new.self.items.items
     c.victim-at.result m.slots.distinct c.in_ok-clean.ensures.clean c.vacate.ensures.set refl refl k.ready)
 
 pub returns-clause-free : goal.returns-clause-free

@@ -14,22 +14,18 @@ returns-in_err-live-clause-runs g c = runs_none _ _ c.requires.ready (λ w. take
 
 pub returns-clause-runs : goal.returns-clause-runs
 returns-clause-runs g c =
-    let h = g.L.Link.history in
-    let t = g.L.Link.truth in
-    let r = g.L.Link.room in
-    let b = g.L.Link.budget_left in
     let e = c.settle.ensures in
     let s = c.step-settled.ensures in
     let l = c.in_ok-live.ensures.live in
-    let old = caching h t r b c.args.self.now in
+    let old = caching g.L.Link c.args.self.now in
     let items = c.settle.new.self.slots.items.items in
-    let mid = caching_of h t r b c.step-settled.new.self c.args.self.now.shape items (is_ended_by c.step-settled.result) in
-    let same : caching h t r b c.settle.new.self ≡ mid =
-    λ i. caching_of h t r b (e.transfers i) (e.shape i) items ((e.ended ∙ c.is_end-self.ensures) i) in
+    let mid = caching_of g.L.Link c.step-settled.new.self c.args.self.now.shape items (is_ended_by c.step-settled.result) in
+    let same : caching g.L.Link c.settle.new.self ≡ mid =
+    λ i. caching_of g.L.Link (e.transfers i) (e.shape i) items ((e.ended ∙ c.is_end-self.ensures) i) in
     let one : Runs None old mid (λ w v. Takes (Ok (took_of c.step-settled.result)) old mid w v) =
     takes_one c.step-settled.result old mid c.args.self.now.slots.items.items items s.steps e.slots refl refl c.requires.ready
     (c.requires.busy l) l.not_ended l.not_given_up (omega (arith, c.args.self.now.shape.least)) refl refl refl s.falls s.room s.closed in
-    let both : Runs None old (caching h t r b c.settle.new.self) (λ w v. Takes (Ok (took_of c.step-settled.result)) old (caching h t r b c.settle.new.self) w v) =
+    let both : Runs None old (caching g.L.Link c.settle.new.self) (λ w v. Takes (Ok (took_of c.step-settled.result)) old (caching g.L.Link c.settle.new.self) w v) =
     subst (λ (n : Caching). Runs None old n (λ w v. Takes (Ok (took_of c.step-settled.result)) old n w v)) (sym same) one in
     rw e.took both
 

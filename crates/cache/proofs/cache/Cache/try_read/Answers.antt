@@ -11,14 +11,10 @@ begin-requires-clause-free g c =
 
 pub returns-in-Ok-clause-keeps : goal.returns-in-Ok-clause-keeps
 returns-in-Ok-clause-keeps g c =
-    let h = g.L.Link.history in
-    let t = g.L.Link.truth in
-    let r = g.L.Link.room in
-    let b = g.L.Link.budget_left in
     let s = c.args.self.now in
     let x = c.in-Ok.ensures in
     let a = c.read-ask.ensures in
-    read_one c.read-ask.result (caching h t r b s) (caching_of h t r b c.begin.new.self s.shape s.slots.items.items s.ended) c.args.block c.in-Ok.ticket
+    read_one c.read-ask.result (caching g.L.Link s) (caching_of g.L.Link c.begin.new.self s.shape s.slots.items.items s.ended) c.args.block c.in-Ok.ticket
     refl x.begins x.adds x.opens a.kind a.minor a.position a.count c.requires.ready refl refl refl x.budget x.room
 
 pub returns-in-Ok-clause-busy : goal.returns-in-Ok-clause-busy
@@ -31,14 +27,10 @@ returns-in-Ok-clause-reading g c =
 
 pub returns-in-Err-clause-keeps : goal.returns-in-Err-clause-keeps
 returns-in-Err-clause-keeps g c =
-    let h = g.L.Link.history in
-    let t = g.L.Link.truth in
-    let r = g.L.Link.room in
-    let b = g.L.Link.budget_left in
     let s = c.args.self.now in
-    let old = caching h t r b s in
-    let same : caching_of h t r b c.begin.new.self s.shape s.slots.items.items s.ended ≡ old =
-    λ i. caching_of h t r b (c.in-Err.ensures.refused i) s.shape s.slots.items.items s.ended in
+    let old = caching g.L.Link s in
+    let same : caching_of g.L.Link c.begin.new.self s.shape s.slots.items.items s.ended ≡ old =
+    λ i. caching_of g.L.Link (c.in-Err.ensures.refused i) s.shape s.slots.items.items s.ended in
     subst (λ (n : Caching). Keeps old n) (sym same) (keeps_none old c.requires.ready)
 
 pub returns-in-Ok-clause-flush : goal.returns-in-Ok-clause-flush

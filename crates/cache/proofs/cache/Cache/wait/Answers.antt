@@ -10,7 +10,14 @@ use Rattle.cache.proofs.Flushes.{follows_none, follows_then}
 use Rattle.cache.proofs.cache.Cache.wait.Goals as goal
 
 pub messages-init : goal.messages-init
-messages-init g c = record { keeps = keeps_none _ c.requires.ready; leaves = leaves_none _; stay = all_none _; pending = c.requires.reading; flush = follows_none _ _ }
+messages-init g c = record {
+  keeps = keeps_none _ c.requires.ready;
+  leaves = leaves_none _;
+  stay = all_none _;
+  pending = c.requires.reading;
+  flush = follows_none _ _;
+  goes = g.met.L.Link.stays _;
+}
 
 pub returns-in_err-settled-clause-runs : goal.returns-in_err-settled-clause-runs
 returns-in_err-settled-clause-runs g c =
@@ -24,6 +31,7 @@ messages-preserved-in_default g c = record {
   pending = still_reading c.take.result _ _ c.args.reading.ticket _ _ c.take.ensures.reads
       (ap (λ (r : Result Took Cut). is_read_of r c.args.reading.ticket) (c.in_ok-settled.was ∙ ap Ok c.in_default.is)) c.messages.invariant.pending;
   flush = follows_then _ _ _ _ _ _ c.messages.invariant.flush c.take.ensures.flush;
+  goes = g.met.L.Link.joins _ _ _ c.messages.invariant.goes c.take.ensures.goes;
 }
 
 pub returns-then-eq-clause-runs : goal.returns-then-eq-clause-runs
@@ -43,6 +51,7 @@ messages-preserved g c = record {
   pending = still_reading c.take.result _ _ c.args.reading.ticket _ _ c.take.ensures.reads
       (ap (λ (r : Result Took Cut). is_read_of r c.args.reading.ticket) (c.in_ok-settled.was ∙ ap Ok c.in-Read.is) ∙ (sym c.eq.ensures ∙ c.if-eq.false)) c.messages.invariant.pending;
   flush = follows_then _ _ _ _ _ _ c.messages.invariant.flush c.take.ensures.flush;
+  goes = g.met.L.Link.joins _ _ _ c.messages.invariant.goes c.take.ensures.goes;
 }
 
 pub returns-in_err-settled-clause-flush : goal.returns-in_err-settled-clause-flush

@@ -5,7 +5,7 @@ use Rattle.cache.proofs.Flushes.{follows_none, follows_then}
 use Rattle.cache.proofs.cache.Cache.wait_for.Goals as goal
 
 pub tries-init : goal.tries-init
-tries-init g c = record { keeps = keeps_none _ c.requires.ready; leaves = leaves_none _; others = but_none c.args.at _; flush = follows_none _ _ }
+tries-init g c = record { keeps = keeps_none _ c.requires.ready; leaves = leaves_none _; others = but_none c.args.at _; flush = follows_none _ _; goes = g.met.L.Link.stays _ }
 
 pub tries-preserved : goal.tries-preserved
 tries-preserved g c = record {
@@ -13,6 +13,7 @@ tries-preserved g c = record {
   leaves = leaves_then _ _ _ (leaves_then _ _ _ c.tries.invariant.leaves c.write_out.ensures.leaves) c.take.ensures.leaves;
   others = but_then c.args.at _ _ _ (but_then c.args.at _ _ _ c.tries.invariant.others c.write_out.ensures.others) (all_but c.args.at _ _ c.take.ensures.stay);
   flush = follows_then _ _ _ _ _ _ (follows_then _ _ _ _ _ _ c.tries.invariant.flush c.write_out.ensures.flush) c.take.ensures.flush;
+  goes = g.met.L.Link.joins _ _ _ (g.met.L.Link.joins _ _ _ c.tries.invariant.goes c.write_out.ensures.goes) c.take.ensures.goes;
 }
 
 pub returns-in_err-take-clause-keeps : goal.returns-in_err-take-clause-keeps

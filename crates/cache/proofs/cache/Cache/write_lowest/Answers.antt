@@ -21,5 +21,5 @@ returns-in-None-clause-stuck g c = λ live. record { why = inl (none_dirty c.arg
 
 pub returns-in-Some-clause-stuck : goal.returns-in-Some-clause-stuck
 returns-in-Some-clause-stuck g c =
-    stuck_for (λ k. caching g.L.Link.history g.L.Link.truth g.L.Link.room g.L.Link.budget_left k) c.issue.result c.args.self.now c.issue.new.self
+    stuck_for (λ k. caching g.L.Link k) c.issue.result c.args.self.now c.issue.new.self
     c.issue.ensures.refused c.issue.ensures.refusing c.issue.ensures.busy
