@@ -30,12 +30,13 @@ same_told : (m : Option Incoming) (acts : List Act) → told_of (with_handed m a
 same_told None acts = refl
 same_told (Some message) acts = told_both acts (Absorbed message ∷ []) ∙ no_more (told_of acts)
 
-pub leads_by : (m : Option Incoming) (old new : Caching) (s t : Serving) → IsOver s old → IsOver t new → t.geometry ≡ s.geometry
+pub leads_by : (m : Option Incoming) (old new : Caching) (s t : Serving) → IsOver s old → IsOver t new → t.geometry ≡ s.geometry → t.frame_count ≡ s.frame_count
     → old.ended ≡ took_end old.told → (x : Runs m old new (λ w v. Unit {0})) → LeadsBy (with_handed m x.acts) s old t
-leads_by m old new s t was is same alive x = record {
+leads_by m old new s t was is same count alive x = record {
   leads = record {
     geometry = same;
     minor = is.minor ∙ x.minor ∙ sym was.minor;
+    frame_count = count;
     told = is.told ∙ x.done ∙ ap (λ (l : List Told). l ++ old.told) (sym (same_told m x.acts))
         ∙ ap (λ (l : List Told). told_of (with_handed m x.acts) ++ l) (sym was.told);
     ended = is.ended ∙ x.ends alive ∙ ap took_end x.done ∙ end_both (told_of x.acts) old.told

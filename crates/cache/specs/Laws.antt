@@ -38,5 +38,5 @@ pub record LeadsBy (acts : List Act) (old : Serving) (c : Caching) (new : Servin
 abbrev pub CallsLead : (Server : Type 0) → (Server → Serving) → (Held : Type 0) → (Held → Caching) → Type 0
 CallsLead Server serving Held caching =
     (message : Option Incoming) (old new : Held) (s t : Server) → IsOver (serving s) (caching old) → IsOver (serving t) (caching new)
-    → (serving t).geometry ≡ (serving s).geometry → (caching old).ended ≡ took_end (caching old).told
+    → (serving t).geometry ≡ (serving s).geometry → (serving t).frame_count ≡ (serving s).frame_count → (caching old).ended ≡ took_end (caching old).told
     → (x : Runs message (caching old) (caching new) (λ w v. Unit {0})) → LeadsBy (with_handed message x.acts) (serving s) (caching old) (serving t)

@@ -1,16 +1,20 @@
 -- Mounts and an unmount that are refused for no reason, or do what they may not.
-use Rattle.std.specs.Prelude.{◌≡◌, List, [], ◌∷◌, ◌++◌, replicate, Bool, true, false, None}
-use Rattle.std.proofs.Common.{arith, refl, subst}
+use Rattle.std.specs.Prelude.{◌≡◌, ◌<◌, ℕ, List, [], ◌∷◌, ◌++◌, replicate, Bool, true, false, Option, Some, None}
+use Rattle.std.proofs.Common.{arith, refl, sym, ◌∙◌, subst}
 use Rattle.endpoint.specs.declared.Endpoint.{Endpoint}
-use Rattle.message.specs.declared.Kind.TheVariants.{Write}
+use Rattle.message.specs.declared.Kind.TheVariants.{Read, Write}
 use Rattle.message.specs.declared.BlockRequest.{BlockRequest}
 use Rattle.message.specs.declared.Incoming.TheVariants as incoming
+use Rattle.layout.specs.declared.Geometry.{Geometry}
 use Rattle.volume.specs.declared.Finding.{Finding}
 use Rattle.marks.specs.Told.{Told, Posted, Received}
-use Rattle.marks.specs.Acts.{Act, Began, AtLink, empty_outbox, told_of}
+use Rattle.marks.specs.Marks.{GaveUp}
+use Rattle.marks.specs.Disk.{is_read}
+use Rattle.marks.specs.Acts.{Act, Began, AtLink, empty_outbox, outbox_after, marks_after, told_of}
 use Rattle.legal.specs.ServerCall.{Serving}
-use Rattle.legal.specs.Mount.{IsWhyNotMounted, Mounting, Inconsistent}
-use Rattle.legal.specs.Unmount.{UnmountKeeps, LinkEnded}
+use Rattle.legal.specs.Mount.{IsWhyNotMounted, Mounting, MountKeeps, MountRefused, MountRefusal, Inconsistent, Eio, LinkEnded, BadFrames, OutOfMemory, AreRead, OpenKeeps, OpenRefused, IsWhyNotOpened, volume_size}
+use Rattle.legal.specs.Unmount.{UnmountKeeps}
+use Rattle.legal.specs.Unmount as unmount
 use Rattle.legal.proofs.LegalRows.{small}
 
 -- an inconsistency is found in what was read: where nothing was, there is none
@@ -37,6 +41,7 @@ busy told ended = record {
   minor = 0;
   Agrees = λ image tree marks. marks ≡ [];
   frames = λ block. None;
+  frame_count = 64;
   outbox = empty_outbox;
   is_busy = true;
   told = told;
@@ -44,8 +49,64 @@ busy told ended = record {
 }
 
 -- where a file is open, unmounting does nothing, and so takes no End
-takes_while_busy : UnmountKeeps (busy [] false) LinkEnded (busy (Received incoming.End ∷ []) true) → ⊥
+takes_while_busy : UnmountKeeps (busy [] false) unmount.LinkEnded (busy (Received incoming.End ∷ []) true) → ⊥
 takes_while_busy keeps =
     let nothing : keeps.acts ≡ [] = keeps.busy refl in
     let told : ◌≡◌ {A = List Told} (Received incoming.End ∷ []) [] =
     subst (λ (acts : List Act). Received incoming.End ∷ [] ≡ told_of acts ++ []) nothing keeps.leads.told in cc
+
+-- a mounted volume is read to its end: none of its bytes is left out
+left_out : (minor frames place : ℕ) (before : List Told) (new : Serving) (keeps : MountKeeps minor frames before new)
+    → place < volume_size (marks_after keeps.acts []) → is_read (marks_after keeps.acts []) place ≡ false → ⊥
+left_out minor frames place before new keeps within unread =
+    let h : ◌≡◌ {A = Bool} true false = sym (keeps.whole.each place within) ∙ unread in cc
+
+-- it has as many frames as were asked for
+other_count : (g : Geometry) (before : List Told) (new : Serving) → OpenKeeps g 0 32 before new → new.frame_count ≡ 16 → ⊥
+other_count g before new keeps few = let h : 16 ≡ 32 = sym few ∙ keeps.is_new.as_many in absurd (omega (arith, h))
+
+-- the first block is to be read, and the device is given up: right, nothing is left due
+abbrev given_up : List Act
+given_up = AtLink (Received incoming.GaveUp) ∷ Began (record zeros { kind = Read }) ∷ []
+
+given_up_refused : MountRefused 0 64 [] Eio (Received incoming.GaveUp ∷ [])
+given_up_refused = record {
+  acts = given_up;
+  mounting = record {
+    told = refl;
+    none_absorbed = refl;
+    only_reads = (refl, tt);
+    keep = ((tt, record { next = refl; room = omega arith }), record { at_rest = record { complaint = refl; post = refl }; live = refl; needed = refl });
+  };
+  at_rest = record { complaint = refl; post = refl };
+  bad_frames = λ e. cc;
+  why = (refl, refl, record { head = λ refusal h. unread h.0; volume = λ finding h. unread h.0 });
+}
+  where
+    unread : AreRead (GaveUp ∷ []) 2048 → ⊥
+    unread h = let e : ◌≡◌ {A = Bool} false true = h.each 0 (omega arith) in cc
+
+-- a mount isn't refused while a complaint is due
+complaint_due : (frames : ℕ) (before after : List Told) (refusal : MountRefusal) (r : MountRefused 0 frames before refusal after) (e : Endpoint)
+    → (outbox_after r.acts [] empty_outbox).complaint ≡ Some e → ⊥
+complaint_due frames before after refusal r e due = let h : ◌≡◌ {A = Option Endpoint} None (Some e) = sym r.at_rest.complaint ∙ due in cc
+
+-- 15 frames: nothing is begun, and the link is told nothing
+begins_for_frames : (before after : List Told) (r : MountRefused 0 15 before BadFrames after) → r.acts ≡ Began zeros ∷ [] → ⊥
+begins_for_frames before after r begun = let h : ◌≡◌ {A = List Act} [] (Began zeros ∷ []) = sym (r.bad_frames refl).0 ∙ begun in cc
+
+-- an open is refused for 15 frames and for want of memory, and for nothing else: it doesn't look at the device
+few_frames : OpenRefused 15 [] BadFrames []
+few_frames = record { why = refl; nothing_told = refl }
+
+no_memory : OpenRefused 16 [] OutOfMemory []
+no_memory = record { why = refl; nothing_told = refl }
+
+memory_for_frames : IsWhyNotOpened 15 OutOfMemory → ⊥
+memory_for_frames h = let e : ◌≡◌ {A = Bool} false true = h in cc
+
+open_ended : IsWhyNotOpened 16 LinkEnded → ⊥
+open_ended h = h
+
+open_given_up : IsWhyNotOpened 16 Eio → ⊥
+open_given_up h = h

@@ -26,6 +26,7 @@ server is_busy ended = record {
   minor = 0;
   Agrees = λ image tree marks. (tree_after small tree marks ≡ fresh) × (gave_up marks ≡ false);
   frames = λ block. None;
+  frame_count = 64;
   outbox = empty_outbox;
   is_busy = is_busy;
   told = [];
@@ -84,7 +85,7 @@ replied_cut a e = cc
 right_call : CallKeeps (server false false) user_0 100 stat_root (Replied (root_of_size 128)) (server false false)
 right_call = record {
   acts = [];
-  leads = record { geometry = refl; minor = refl; told = refl; ended = refl };
+  leads = record { geometry = refl; minor = refl; frame_count = refl; told = refl; ended = refl };
   none_absorbed = refl;
   cut = (λ e. absurd (replied_cut (root_of_size 128) e), λ e. absurd (false_is_true e));
   rules = λ image tree marks agrees. record { keep = tt; outbox = refl };
@@ -117,7 +118,7 @@ right_call = record {
 right_cut : CallKeeps (server false true) user_0 100 call.Sync Cut (server false true)
 right_cut = record {
   acts = [];
-  leads = record { geometry = refl; minor = refl; told = refl; ended = refl };
+  leads = record { geometry = refl; minor = refl; frame_count = refl; told = refl; ended = refl };
   none_absorbed = refl;
   cut = (λ e. refl, λ e. refl);
   rules = λ image tree marks agrees. record { keep = tt; outbox = refl };
@@ -137,7 +138,7 @@ none_due false = refl
 right_end : AbsorbKeeps (server false false) End (server false false)
 right_end = record {
   later = [];
-  leads = record { geometry = refl; minor = refl; told = refl; ended = refl };
+  leads = record { geometry = refl; minor = refl; frame_count = refl; told = refl; ended = refl };
   none_absorbed = refl;
   none_taken = refl;
   same_files = refl;
@@ -154,7 +155,7 @@ busy_unmounted e = cc
 right_busy : UnmountKeeps (server true false) Busy (server true false)
 right_busy = record {
   acts = [];
-  leads = record { geometry = refl; minor = refl; told = refl; ended = refl };
+  leads = record { geometry = refl; minor = refl; frame_count = refl; told = refl; ended = refl };
   none_absorbed = refl;
   same_files = refl;
   busy = λ e. refl;
@@ -173,11 +174,10 @@ new_server = record (server false false) { Agrees = λ image tree marks. marks �
 -- the view of what was just opened is the disk, and nothing is unsure in it
 right_open : OpenKeeps small 0 64 [] new_server
 right_open = record {
-  frame_count = refl;
   geometry = refl;
   minor_is = refl;
   told = refl;
-  is_new = record { frames = λ block. refl; not_busy = refl; not_ended = refl };
+  is_new = record { frame_count = refl; as_many = refl; frames = λ block. refl; not_busy = refl; not_ended = refl };
   outbox = refl;
   serves = λ image tree first. record {
     agrees = refl;

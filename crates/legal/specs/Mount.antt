@@ -11,7 +11,7 @@ use Rattle.volume.specs.Verdict.{Clean, Found, verdict_of, HoldsClosed}
 use Rattle.marks.specs.Marks.{Mark, gave_up}
 use Rattle.marks.specs.Disk.{Contents, HasTrueReplies, bytes_read, is_read}
 use Rattle.marks.specs.Told.{Told, took_end}
-use Rattle.marks.specs.Acts.{Act, Began, Absorbed, AtLink, told_of, has_absorbed, marks_after, empty_outbox, outbox_after, KeepsRules}
+use Rattle.marks.specs.Acts.{Act, Began, Absorbed, AtLink, told_of, has_absorbed, marks_after, empty_outbox, outbox_after, IsAtRest, KeepsRules}
 use Rattle.legal.specs.Legal.{IsAtFirst}
 use Rattle.legal.specs.ServerCall.{Serving, Serves}
 
@@ -44,19 +44,20 @@ volume_read marks = first_bytes (bytes_read marks) (volume_size marks)
 pub record AreRead (marks : List Mark) (n : ℕ) : Type 0 where
   pub each : (place : ℕ) → place < n → is_read marks place ≡ true
 
--- a server just made: its cache is empty, no file is open and its link hasn't ended
-pub record IsJustMade (new : Serving) : Type 0 where
+-- a server just made with so many frames, a number that is allowed: none of them is in use, no file is open and its link hasn't ended
+pub record IsJustMade (asked : ℕ) (new : Serving) : Type 0 where
+  pub frame_count : is_frame_count asked ≡ true
+  pub as_many : new.frame_count ≡ asked
   pub frames : (block : ℕ) → new.frames block ≡ None
   pub not_busy : new.is_busy ≡ false
   pub not_ended : new.ended ≡ false
 
 -- A server that was opened: it told its link nothing and took nothing. Whatever tree the link's disk holds, it serves that.
 pub record OpenKeeps (g : Geometry) (minor frames : ℕ) (before : List Told) (new : Serving) : Type 0 where
-  pub frame_count : is_frame_count frames ≡ true
   pub geometry : new.geometry ≡ g
   pub minor_is : new.minor ≡ minor
   pub told : new.told ≡ before
-  pub is_new : IsJustMade new
+  pub is_new : IsJustMade frames new
   pub outbox : new.outbox ≡ empty_outbox
   pub serves : (image : Contents) (tree : Tree) → IsAtFirst g image tree → Serves new image tree []
 
@@ -74,18 +75,18 @@ pub record Mounting (minor : ℕ) (before : List Told) (acts : List Act) (after 
   pub only_reads : OnlyReads acts
   pub keep : KeepsRules minor acts [] empty_outbox
 
--- A server that was mounted. What was read is clean, and holds the tree that is served, over any link; over true replies the
--- image holds it.
+-- A server that was mounted. The whole volume was read; what was read is clean, and holds the tree that is served, over any link; over
+-- true replies the image holds it.
 pub record MountKeeps (minor frames : ℕ) (before : List Told) (new : Serving) : Type 0 where
   pub acts : List Act
-  pub frame_count : is_frame_count frames ≡ true
   pub mounting : Mounting minor before acts new.told
   pub minor_is : new.minor ≡ minor
   pub geometry : new.geometry ≡ geometry_read (marks_after acts [])
-  pub is_new : IsJustMade new
+  pub is_new : IsJustMade frames new
   pub none_ended : took_end (told_of acts) ≡ false
   pub not_given_up : gave_up (marks_after acts []) ≡ false
   pub outbox : new.outbox ≡ outbox_after acts [] empty_outbox
+  pub whole : AreRead (marks_after acts []) (volume_size (marks_after acts []))
   pub clean : verdict_of (volume_read (marks_after acts [])) ≡ Clean
   pub tree : Tree
   pub held : HoldsClosed (volume_read (marks_after acts [])) tree
@@ -100,6 +101,17 @@ pub data MountRefusal : Type 0 where
   Eio : MountRefusal
   LinkEnded : MountRefusal
   BadFrames : MountRefusal
+
+-- When each refusal of an open comes, which takes a number of frames and memory alone: the number is looked at first.
+abbrev pub IsWhyNotOpened : ℕ → MountRefusal → Type 0
+IsWhyNotOpened frames BadFrames = is_frame_count frames ≡ false
+IsWhyNotOpened frames OutOfMemory = is_frame_count frames ≡ true
+IsWhyNotOpened frames _ = ⊥
+
+-- a refused open, which did nothing at its link
+pub record OpenRefused (frames : ℕ) (before : List Told) (refusal : MountRefusal) (after : List Told) : Type 0 where
+  pub why : IsWhyNotOpened frames refusal
+  pub nothing_told : after ≡ before
 
 -- the first 2048 bytes were read, and the superblock in them is refused, the volume's length apart
 abbrev pub IsHeadRefused : List Mark → LayoutRefusal → Type 0
@@ -127,8 +139,11 @@ IsWhyNotMounted frames marks ended LinkEnded =
     (is_frame_count frames ≡ true) × (ended ≡ true) × (gave_up marks ≡ false) × NothingIsRefused marks
 IsWhyNotMounted frames marks ended BadFrames = (is_frame_count frames ≡ false) × (marks ≡ [])
 
--- a refused mount: what it did at its link until then, and why it stopped
+-- A refused mount: what it did at its link until then, and why it stopped. No complaint and no post is left due, and where the number of
+-- frames is refused nothing was done.
 pub record MountRefused (minor frames : ℕ) (before : List Told) (refusal : MountRefusal) (after : List Told) : Type 0 where
   pub acts : List Act
   pub mounting : Mounting minor before acts after
+  pub at_rest : IsAtRest (marks_after acts []) (outbox_after acts [] empty_outbox)
+  pub bad_frames : refusal ≡ BadFrames → (acts ≡ []) × (after ≡ before)
   pub why : IsWhyNotMounted frames (marks_after acts []) (took_end (told_of acts)) refusal

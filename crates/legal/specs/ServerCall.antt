@@ -25,6 +25,8 @@ pub record Serving : Type 1 where
   -- what its fields say of an image, of the tree at first and of a record
   pub Agrees : Contents → Tree → List Mark → Type 0
   pub frames : Frames
+  -- how many blocks may have a frame at a time
+  pub frame_count : ℕ
   -- what it owes its link
   pub outbox : Outbox
   -- some file is open
@@ -56,6 +58,7 @@ pub record Serves (s : Serving) (image : Contents) (tree : Tree) (marks : List M
 pub record Leads (old : Serving) (acts : List Act) (new : Serving) : Type 0 where
   pub geometry : new.geometry ≡ old.geometry
   pub minor : new.minor ≡ old.minor
+  pub frame_count : new.frame_count ≡ old.frame_count
   pub told : new.told ≡ told_of acts ++ old.told
   pub ended : new.ended ≡ (took_end (told_of acts) || old.ended)
 

@@ -5,7 +5,7 @@ use Rattle.endpoint.specs.declared.Endpoint.{Endpoint}
 use Rattle.message.specs.declared.Kind.TheVariants.{Read}
 use Rattle.message.specs.declared.BlockRequest.{BlockRequest}
 use Rattle.message.specs.declared.Incoming.TheVariants as incoming
-use Rattle.marks.specs.Marks.{Mark, last_started}
+use Rattle.marks.specs.Marks.{Mark, last_started, gave_up}
 use Rattle.marks.specs.Open.{greatest, open_requests}
 use Rattle.marks.specs.Told.{Posted, Complained, Received}
 use Rattle.marks.specs.Acts.{Act, Began, Absorbed, AtLink, marks_after, outbox_after, empty_outbox, is_post_due, needs_message, first_of, KeepsRules, IsAtRest, MayBegin, MayPost, MayTake, Outbox, target}
@@ -100,18 +100,18 @@ begins : (acts : List Act) (id position count : ℕ)
 begins acts id position count next room = record { next = next; room = room }
 
 -- a take that the rules allow
-takes : (acts : List Act) → Rests acts → IsTrue (needs_message (marks_after acts []) (outbox_after acts [] empty_outbox))
+takes : (acts : List Act) → Rests acts → gave_up (marks_after acts []) ≡ false → IsTrue (needs_message (marks_after acts []) (outbox_after acts [] empty_outbox))
     → MayTake (marks_after acts []) (outbox_after acts [] empty_outbox)
-takes acts rest needed = record { at_rest = rest; needed = needed }
+takes acts rest live needed = record { at_rest = rest; live = live; needed = needed }
 
 one_begun_keeps : Keeps one_begun
 one_begun_keeps = (tt, begins [] 1 16384 4096 refl (omega arith))
 
 one_posted_keeps : Keeps one_posted
-one_posted_keeps = ((one_begun_keeps, takes one_begun (rests refl refl) refl), posts (started 1 ∷ one_begun) 1 1 16384 4096 (omega arith) refl refl refl refl)
+one_posted_keeps = ((one_begun_keeps, takes one_begun (rests refl refl) refl refl), posts (started 1 ∷ one_begun) 1 1 16384 4096 (omega arith) refl refl refl refl)
 
 one_answered_keeps : Keeps one_answered
-one_answered_keeps = (one_posted_keeps, takes one_posted (rests refl refl) refl)
+one_answered_keeps = (one_posted_keeps, takes one_posted (rests refl refl) refl refl)
 
 one_answered_rests : Rests one_answered
 one_answered_rests = rests refl refl
@@ -141,28 +141,28 @@ next_posted = posted 2 4 18432 2048 ∷ next_started
 
 rest_2_keeps : Keeps rest_2
 rest_2_keeps = (
-  ((one_posted_keeps, takes one_posted (rests refl refl) refl), begins (answered 1 512 ∷ one_posted) 2 16896 3584 refl (omega arith)),
+  ((one_posted_keeps, takes one_posted (rests refl refl) refl refl), begins (answered 1 512 ∷ one_posted) 2 16896 3584 refl (omega arith)),
   posts (began 2 16896 3584 ∷ answered 1 512 ∷ one_posted) 1 2 16896 3584 (omega arith) refl refl refl refl,
 )
 
 rest_3_keeps : Keeps rest_3
 rest_3_keeps = (
-  ((rest_2_keeps, takes rest_2 (rests refl refl) refl), begins (answered 2 512 ∷ rest_2) 3 17408 3072 refl (omega arith)),
+  ((rest_2_keeps, takes rest_2 (rests refl refl) refl refl), begins (answered 2 512 ∷ rest_2) 3 17408 3072 refl (omega arith)),
   posts (began 3 17408 3072 ∷ answered 2 512 ∷ rest_2) 1 3 17408 3072 (omega arith) refl refl refl refl,
 )
 
 rest_4_keeps : Keeps rest_4
 rest_4_keeps = (
-  ((rest_3_keeps, takes rest_3 (rests refl refl) refl), begins (answered 3 1024 ∷ rest_3) 4 18432 2048 refl (omega arith)),
+  ((rest_3_keeps, takes rest_3 (rests refl refl) refl refl), begins (answered 3 1024 ∷ rest_3) 4 18432 2048 refl (omega arith)),
   posts (began 4 18432 2048 ∷ answered 3 1024 ∷ rest_3) 1 4 18432 2048 (omega arith) refl refl refl refl,
 )
 
 after_complaint_keeps : Keeps after_complaint
-after_complaint_keeps = ((rest_4_keeps, takes rest_4 (rests refl refl) refl), refl)
+after_complaint_keeps = ((rest_4_keeps, takes rest_4 (rests refl refl) refl refl), refl)
 
 next_posted_keeps : Keeps next_posted
 next_posted_keeps =
-    ((after_complaint_keeps, takes after_complaint (rests refl refl) refl), posts next_started 2 4 18432 2048 (omega arith) refl refl refl refl)
+    ((after_complaint_keeps, takes after_complaint (rests refl refl) refl refl), posts next_started 2 4 18432 2048 (omega arith) refl refl refl refl)
 
 next_posted_rests : Rests next_posted
 next_posted_rests = rests refl refl
@@ -261,7 +261,7 @@ abbrev pub both_posted : List Act
 both_posted = posted 1 2 8192 512 ∷ posted 1 1 16384 4096 ∷ message_taken
 
 two_begun_keeps : Keeps two_begun
-two_begun_keeps = ((one_begun_keeps, begins one_begun 2 8192 512 refl (omega arith)), takes (began 2 8192 512 ∷ one_begun) (rests refl refl) refl)
+two_begun_keeps = ((one_begun_keeps, begins one_begun 2 8192 512 refl (omega arith)), takes (began 2 8192 512 ∷ one_begun) (rests refl refl) refl refl)
 
 first_refused_keeps : Keeps first_refused
 first_refused_keeps = (two_begun_keeps, posts two_begun 1 1 16384 4096 (omega arith) refl refl refl refl)
@@ -269,7 +269,7 @@ first_refused_keeps = (two_begun_keeps, posts two_begun 1 1 16384 4096 (omega ar
 -- a take is allowed then, though nothing is open, and after its message both are posted in order
 both_posted_keeps : Keeps both_posted
 both_posted_keeps = (
-  ((first_refused_keeps, takes first_refused (rests refl refl) refl), posts message_taken 1 1 16384 4096 (omega arith) refl refl refl refl),
+  ((first_refused_keeps, takes first_refused (rests refl refl) refl refl), posts message_taken 1 1 16384 4096 (omega arith) refl refl refl refl),
   posts (posted 1 1 16384 4096 ∷ message_taken) 1 2 8192 512 (omega arith) refl refl refl refl,
 )
 
@@ -319,3 +319,10 @@ given_up_rests = rests refl refl
 
 not_posted_after_giving_up : MayPost 0 (marks_after given_up []) (outbox_after given_up [] empty_outbox) (driver 2) (ask 1 16384 4096) → ⊥
 not_posted_after_giving_up may = let h : ◌≡◌ {A = Option Endpoint} None (Some (driver 2)) = may.endpoint in cc
+
+-- and no message is taken, though a request is open
+needs_after_giving_up : needs_message (marks_after given_up []) (outbox_after given_up [] empty_outbox) ≡ true
+needs_after_giving_up = refl
+
+take_after_giving_up : Keeps (AtLink (Received incoming.Flush) ∷ given_up) → ⊥
+take_after_giving_up h = is_true_false h.1.live

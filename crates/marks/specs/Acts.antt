@@ -132,9 +132,10 @@ pub record MayPost (minor : ℕ) (marks : List Mark) (o : Outbox) (to : Endpoint
   pub first : first_of o.unposted ≡ Some r
   pub fits : FitsMinor minor r
 
--- a take is made when nothing is due, and one is needed
+-- a take is made when nothing is due, one is needed, and the device isn't given up
 pub record MayTake (marks : List Mark) (o : Outbox) : Type 0 where
   pub at_rest : IsAtRest marks o
+  pub live : gave_up marks ≡ false
   pub needed : IsTrue (needs_message marks o)
 
 -- an act that the rules allow, the marks and what is owed being those before it

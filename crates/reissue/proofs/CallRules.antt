@@ -155,7 +155,7 @@ pub step_rules : (minor : ℕ) (m : Incoming) (old mid new : Table) (marks : Lis
 step_rules minor m old mid new marks before after posts complaints h k hears minors due order history pending posted issued current busy going =
     by m refl where
       arrives : Arrives minor (AtLink (Received m)) m marks (outbox_of old)
-      arrives = record { grows = refl; owed = refl; may = record { at_rest = at_rest old marks h; needed = needed old marks h (sym h.holds.given_up ∙ going) busy } }
+      arrives = record { grows = refl; owed = refl; may = record { at_rest = at_rest old marks h; live = sym h.holds.given_up ∙ going; needed = needed old marks h (sym h.holds.given_up ∙ going) busy } }
 
       first : taken m before ≡ Received m ∷ before → arrival m before ≡ AtLink (Received m) ∷ [] → KeepsRulesBy (acts_on posts old mid complaints (arrival m before)) minor old new before after marks (grown posts (received m marks))
       first e one =
