@@ -59,7 +59,7 @@ impl<L: Link> Cache<L> {
     ghost use Rattle.cache.specs.Edits.{AllClean, SomeUnclean, IsIssued, IssuesLowest, IsWritten, IsSlotAt, IsFreeAt, IsAt, Leaves};
     ghost use Rattle.cache.specs.Edits.{AllStay, StayBut, IsChangedAt};
     ghost use Rattle.cache.specs.Frames.{frames_of, view, with_bytes};
-    ghost use Rattle.cache.specs.Calls.{caching, held_by, IsReady, IsLive, IsWhyCut, IsFrame, IsMade, IsStuck, IsRefusing, PostsAlone};
+    ghost use Rattle.cache.specs.Calls.{caching, held_by, frame_count, IsReady, IsLive, IsWhyCut, IsFrame, IsMade, IsStuck, IsRefusing, PostsAlone};
     ghost use Rattle.cache.specs.Calls.{Does, Keeps, HandsOver, Blanks, Rewrites, LinkGoesOn, WantsFlush, IsWantedFor};
     ghost use Rattle.cache.specs.Calls.{forgotten, with_cache_link, without_flush};
     ghost use Rattle.cache.specs.contracts.cache.Cache.{the_row};
@@ -87,7 +87,7 @@ impl<L: Link> Cache<L> {
         ensures over { IfOk result (λ c. c.transfers ≡ transfers) }
         ensures ready { IfOk result (λ c. IsReady (caching L.Link c)) }
         ensures made { IfOk result (λ c. IsMade minor geometry.now.block_size (caching L.Link c)) }
-        ensures frames { IfOk result (λ c. length c.slots.items.items ≡ frames) }
+        ensures frames { IfOk result (λ c. frame_count c ≡ frames) }
         ensures flush { IfOk result (λ c. c.flush ≡ false) }
     {
         if frames < 16 || 4096 < frames {
@@ -313,6 +313,7 @@ impl<L: Link> Cache<L> {
         requires ready { IsReady (caching L.Link self.old) }
         ensures keeps { Keeps (caching L.Link self.old) (caching L.Link self.new) }
         ensures goes { LinkGoesOn L.Link self.old self.new }
+        ensures count { frame_count self.new ≡ frame_count self.old }
         ensures free { IfOk result (λ at. IsFreeAt self.new.slots.items.items at) }
         ensures made { MakesRoom result self.old.slots self.new.slots }
         ensures none { (b : ℕ) → held self.old.slots.items.items b ≡ None → held self.new.slots.items.items b ≡ None }
@@ -408,6 +409,7 @@ impl<L: Link> Cache<L> {
         requires ready { IsReady (caching L.Link self.old) }
         ensures keeps { Keeps (caching L.Link self.old) (caching L.Link self.new) }
         ensures goes { LinkGoesOn L.Link self.old self.new }
+        ensures count { frame_count self.new ≡ frame_count self.old }
         ensures frame { IfOk result (λ f. (f.block ≡ block) × IsFrame self.new f) }
         ensures hit { (s : Slot) → held self.old.slots.items.items block ≡ Some s → Hits result self.old self.new }
         ensures miss { held self.old.slots.items.items block ≡ None → Misses State.Clean result self.old self.new }
@@ -429,6 +431,7 @@ impl<L: Link> Cache<L> {
         requires ready { IsReady (caching L.Link self.old) }
         ensures runs { Does L.Link self.old self.new (Blanks result block) }
         ensures goes { LinkGoesOn L.Link self.old self.new }
+        ensures count { frame_count self.new ≡ frame_count self.old }
         ensures frame { IfOk result (λ f. (f.block ≡ block) × IsFrame self.new f) }
         ensures hit { (s : Slot) → held self.old.slots.items.items block ≡ Some s → BlanksFrame result self.old self.new }
         ensures miss { held self.old.slots.items.items block ≡ None → Misses State.Dirty result self.old self.new }
@@ -460,6 +463,7 @@ impl<L: Link> Cache<L> {
         requires within { from + length bytes.now ≤ self.old.shape.block_size }
         ensures runs { Does L.Link self.old self.new (Rewrites frame.block (with_bytes from bytes.now)) }
         ensures goes { LinkGoesOn L.Link self.old self.new }
+        ensures count { frame_count self.new ≡ frame_count self.old }
         ensures frames { (f : FrameValue) → IsFrame self.old f → IsFrame self.new f }
         ensures changed { IsChangedAt self.old.slots.items.items self.new.slots.items.items frame.at from bytes.now }
         ensures rest { self.new ≡ record self.old { slots = self.new.slots } }
@@ -473,6 +477,7 @@ impl<L: Link> Cache<L> {
         requires ready { IsReady (caching L.Link self.old) }
         ensures keeps { Keeps (caching L.Link self.old) (caching L.Link self.new) }
         ensures goes { LinkGoesOn L.Link self.old self.new }
+        ensures count { frame_count self.new ≡ frame_count self.old }
         ensures held { held_by self.new ≡ forgotten block (held_by self.old) }
         ensures rest { self.new ≡ record self.old { slots = self.new.slots } }
         ensures uses { self.new.slots.uses ≡ self.old.slots.uses }
@@ -491,6 +496,7 @@ impl<L: Link> Cache<L> {
         requires ready { IsReady (caching L.Link self.old) }
         ensures keeps { Keeps (caching L.Link self.old) (caching L.Link self.new) }
         ensures goes { LinkGoesOn L.Link self.old self.new }
+        ensures count { frame_count self.new ≡ frame_count self.old }
         ensures posts { PostsAlone (caching L.Link self.old) (caching L.Link self.new) }
         ensures left { messages_left (caching L.Link self.new) ≤ messages_left (caching L.Link self.old) }
         ensures issued { MatchBool result (IssuesLowest (held_by self.old) (held_by self.new)) (held_by self.new ≡ held_by self.old) }

@@ -272,6 +272,7 @@ impl Slots {
         requires { at < length self.old.items.items }
         ensures set { IsSetAt self.old.items.items self.new.items.items at (λ s. record s { block = None }) }
         ensures uses { self.new.uses ≡ self.old.uses }
+        ensures count { length self.new.items.items ≡ length self.old.items.items }
     {
         let slot = &mut self.items[at];
         slot.block = None;
@@ -284,6 +285,7 @@ impl Slots {
         ensures set { IsSetAt self.old.items.items self.new.items.items at
             (λ s. record { block = Some block; bytes = bytes.now; state = state }) }
         ensures used { IsUsedLast self.old.uses.numbers.items self.new.uses.numbers.items at }
+        ensures count { length self.new.items.items ≡ length self.old.items.items }
     {
         let slot = &mut self.items[at];
         slot.block = Some(block);
@@ -297,6 +299,7 @@ impl Slots {
         requires { at < length self.old.items.items }
         ensures blanked { IsBlankedAt self.old.items.items self.new.items.items at }
         ensures used { IsUsedLast self.old.uses.numbers.items self.new.uses.numbers.items at }
+        ensures count { length self.new.items.items ≡ length self.old.items.items }
     {
         let slot = &mut self.items[at];
         slot.state = slot.state.dirtied();
@@ -310,6 +313,7 @@ impl Slots {
         requires within { from + length bytes.now ≤ 4096 }
         ensures changed { IsChangedAt self.old.items.items self.new.items.items at from bytes.now }
         ensures uses { self.new.uses ≡ self.old.uses }
+        ensures count { length self.new.items.items ≡ length self.old.items.items }
     {
         let slot = &mut self.items[at];
         slot.change(from, bytes);

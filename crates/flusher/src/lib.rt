@@ -2,7 +2,7 @@
 #![tactic(auto)]
 
 ghost use Rattle.std.specs.Prelude.{◌≡◌, ◌≤◌, Ok, IfErr, OnOk};
-ghost use Rattle.cache.specs.Calls.{caching, held_by, IsReady, IsLive, IsStuck, IsWhyCut, IsFrame, PostsAlone, Does, Keeps};
+ghost use Rattle.cache.specs.Calls.{caching, held_by, frame_count, IsReady, IsLive, IsStuck, IsWhyCut, IsFrame, PostsAlone, Does, Keeps};
 ghost use Rattle.cache.specs.Calls.{LinkGoesOn, WantsFlush};
 ghost use Rattle.reissue.specs.Transfers.{begun_in};
 ghost use Rattle.cache.specs.Takes.{messages_left, NoReadBegun};
@@ -23,6 +23,7 @@ pub fn flush_some<L: Link>(cache: &mut Cache<L>)
     requires ready { IsReady (caching L.Link cache.old) }
     ensures keeps { Keeps (caching L.Link cache.old) (caching L.Link cache.new) }
     ensures goes { LinkGoesOn L.Link cache.old cache.new }
+    ensures count { frame_count cache.new ≡ frame_count cache.old }
     ensures posts { PostsAlone (caching L.Link cache.old) (caching L.Link cache.new) }
     ensures issued { WritesLowest 16 (held_by cache.old) (held_by cache.new) }
     ensures left { messages_left (caching L.Link cache.new) ≤ messages_left (caching L.Link cache.old) }
@@ -44,6 +45,7 @@ fn write_all<L: Link>(cache: &mut Cache<L>) -> Result<(), Cut>
     requires ready { IsReady (caching L.Link cache.old) }
     ensures runs { Does L.Link cache.old cache.new (Syncs result) }
     ensures goes { LinkGoesOn L.Link cache.old cache.new }
+    ensures count { frame_count cache.new ≡ frame_count cache.old }
     ensures idle { OnOk result (IsIdle (caching L.Link cache.new)) }
     ensures cut { IfErr result (λ cut. IsWhyCut (caching L.Link cache.new) cut) }
     ensures frames { (f : Frame) → IsFrame cache.old f → IsFrame cache.new f }
@@ -67,6 +69,7 @@ pub fn sync<L: Link>(cache: &mut Cache<L>) -> Result<(), Cut>
     requires ready { IsReady (caching L.Link cache.old) }
     ensures runs { Does L.Link cache.old cache.new (Syncs result) }
     ensures goes { LinkGoesOn L.Link cache.old cache.new }
+    ensures count { frame_count cache.new ≡ frame_count cache.old }
     ensures idle { OnOk result (IsIdle (caching L.Link cache.new)) }
     ensures cut { IfErr result (λ cut. IsWhyCut (caching L.Link cache.new) cut) }
     ensures frames { (f : Frame) → IsFrame cache.old f → IsFrame cache.new f }

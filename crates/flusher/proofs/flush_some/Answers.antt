@@ -19,6 +19,7 @@ writes-init g c = record {
   grown = omega arith;
   reads = λ t r is w. is;
   few = c.args.cache.now.transfers.table.few;
+  count = refl;
   goes = g.met.L.Link.stays _;
   flush = refl;
   uses = refl;
@@ -65,6 +66,7 @@ writes-preserved g c =
       grown = let p = i.grown in let q = e.adds in omega (arith, p, q);
       reads = λ t r is w. i.reads t r (e.reads t r is w) w;
       few = c.write_lowest.new.self.transfers.table.few;
+      count = e.count ∙ i.count;
       goes = g.met.L.Link.joins _ _ _ i.goes e.goes;
       flush = e.flush ∙ i.flush;
       uses = e.uses ∙ i.uses;

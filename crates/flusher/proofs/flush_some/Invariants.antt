@@ -2,7 +2,7 @@ use Rattle.std.proofs.Common.{◌≡◌, ◌<◌, ◌≤◌, ◌+◌, length}
 use Rattle.reissue.specs.Moves.{IsBusy}
 use Rattle.reissue.specs.Entries.{pending_of}
 use Rattle.cache.specs.declared.slots.Frame.{Frame}
-use Rattle.cache.specs.Calls.{caching, Keeps, PostsAlone, IsFrame, LinkGoesOn}
+use Rattle.cache.specs.Calls.{caching, frame_count, Keeps, PostsAlone, IsFrame, LinkGoesOn}
 use Rattle.cache.specs.Takes.{messages_left, NoReadBegun}
 use Rattle.flusher.specs.Flushing.{WritesLowest}
 use Rattle.flusher.proofs.flush_some.Given as goal
@@ -19,6 +19,7 @@ invariant-writes g l = record {
   grown : length l.cache.transfers.table.pending ≡ length l.initial.cache.transfers.table.pending + l.counter;
   reads : NoReadBegun (pending_of l.initial.cache.transfers.table.pending) (pending_of l.cache.transfers.table.pending);
   few : length l.cache.transfers.table.pending ≤ 16;
+  count : frame_count l.cache ≡ frame_count l.initial.cache;
   goes : LinkGoesOn g.L.Link l.initial.cache l.cache;
   flush : l.cache.flush ≡ l.initial.cache.flush;
   uses : l.cache.slots.uses ≡ l.initial.cache.slots.uses;

@@ -6,7 +6,15 @@ use Rattle.cache.proofs.Flushes.{follows_none, follows_posts, follows_then}
 use Rattle.flusher.proofs.write_all.Goals as goal
 
 pub messages-init : goal.messages-init
-messages-init g c = record { keeps = keeps_none _ c.requires.ready; frames = λ f is. is; uses = refl; reads = λ t r is w. is; flush = follows_none _ _ }
+messages-init g c = record {
+  keeps = keeps_none _ c.requires.ready;
+  count = refl;
+  goes = g.met.L.Link.stays _;
+  frames = λ f is. is;
+  uses = refl;
+  reads = λ t r is w. is;
+  flush = follows_none _ _;
+}
 
 pub returns-then-is_clean-clause-runs : goal.returns-then-is_clean-clause-runs
 returns-then-is_clean-clause-runs g c =
@@ -25,6 +33,8 @@ messages-preserved g c = record {
   keeps = keeps_took _ _ _ _ (keeps_then _ _ _ c.messages.invariant.keeps c.flush_some.ensures.keeps) c.take.ensures.runs;
   frames = λ f is. c.take.ensures.leaves.at f.at f.block (c.flush_some.ensures.frames f (c.messages.invariant.frames f is));
   reads = λ t r is w. c.messages.invariant.reads t r (c.flush_some.ensures.reads t r (c.take.ensures.reads.none_begun t r is w) w) w;
+  count = c.take.ensures.leaves.count ∙ (c.flush_some.ensures.count ∙ c.messages.invariant.count);
+  goes = g.met.L.Link.joins _ _ _ (g.met.L.Link.joins _ _ _ c.messages.invariant.goes c.flush_some.ensures.goes) c.take.ensures.goes;
   uses = c.take.ensures.stay.uses ∙ (c.flush_some.ensures.uses ∙ c.messages.invariant.uses);
   flush =
       let x = c.flush_some.ensures.posts in

@@ -1,8 +1,7 @@
 use Rattle.std.proofs.Common.{◌≡◌}
-use Rattle.reissue.specs.Transfers.{link_of}
 use Rattle.reissue.specs.Entries.{pending_of}
 use Rattle.cache.specs.declared.slots.Frame.{Frame}
-use Rattle.cache.specs.Calls.{caching, Keeps, IsFrame, FlushFollows}
+use Rattle.cache.specs.Calls.{caching, frame_count, Keeps, IsFrame, LinkGoesOn, WantsFlush}
 use Rattle.cache.specs.Takes.{messages_left, NoReadBegun}
 use Rattle.flusher.proofs.write_all.Given as goal
 
@@ -12,7 +11,9 @@ invariant-messages g l = record {
   frames : (f : Frame) → IsFrame l.initial.cache f → IsFrame l.cache f;
   reads : NoReadBegun (pending_of l.initial.cache.transfers.table.pending) (pending_of l.cache.transfers.table.pending);
   uses : l.cache.slots.uses ≡ l.initial.cache.slots.uses;
-  flush : FlushFollows l.initial.cache.flush (g.L.Link.history (link_of l.initial.cache.transfers)) l.cache.flush (g.L.Link.history (link_of l.cache.transfers));
+  flush : WantsFlush g.L.Link l.initial.cache l.cache;
+  count : frame_count l.cache ≡ frame_count l.initial.cache;
+  goes : LinkGoesOn g.L.Link l.initial.cache l.cache;
 }
 
 abbrev pub decreases-messages : goal.decreases-messages
