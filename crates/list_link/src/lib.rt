@@ -5,6 +5,7 @@ ghost use Rattle.std.specs.Prelude.{◌≡◌, ◌≤◌, [], IfOk, List, vec_le
 ghost use Rattle.marks.specs.Marks.{Mark};
 ghost use Rattle.marks.specs.Opening.{Opening};
 ghost use Rattle.inline.specs.Notes.{history_of, room_of};
+ghost use Rattle.list_link.specs.Grows.{Grows, grows_not, grows_then};
 
 use endpoint::Endpoint;
 use inline::note::{Note, Notes};
@@ -55,6 +56,9 @@ impl Link for ListLink {
 
     ghost truth = { λ l opening marks. ⊥ };
 
+    // all that it was told and gave stays, and more comes after it
+    ghost goes_on = { λ l m. Grows (history_of l.notes.ended l.notes.items.items) (history_of m.notes.ended m.notes.items.items) };
+
     fn post(&mut self, to: Endpoint, request: &BlockRequest) -> Result<(), LinkRefusal> {
         self.notes.told(Note::Posted(to, *request, true));
         Ok(())
@@ -79,4 +83,8 @@ impl Link for ListLink {
     fn budget(&self) -> u64 {
         self.budget
     }
+
+    ghost stays = { λ l. grows_not _ };
+
+    ghost joins = { λ a b c first next. grows_then _ _ _ first next };
 }

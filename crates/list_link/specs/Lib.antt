@@ -1,0 +1,2 @@
+-- What goes on in a link that answers from a list.
+pub mod Grows
