@@ -5,13 +5,15 @@ ghost use Rattle.cache.specs.Calls.{caching, IsReady};
 
 use bdev::{Accept, BlockDriver};
 use cache::Cache;
+use driven::Driven;
 use flusher::{flush_some, sync};
-use inline::Inline;
 use layout::Geometry;
 use media::Media;
 use message::{BlockRequest, Kind};
 use modeldisk::RamDriver;
 use partition::Table;
+use policy::Policy;
+use reincarnate::Reincarnation;
 use reissue::{Link, Transfers};
 use std::alloc::Global;
 
@@ -40,20 +42,21 @@ pub(crate) fn driver() -> RamDriver {
 }
 
 /// A cache of so many frames over a driver.
-pub(crate) fn cache_over(alloc: Global, frames: u32) -> Option<Cache<Inline<RamDriver>>>
-    ensures { IfSome result (λ c. IsReady (caching ⟦<Inline<RamDriver> as Link>⟧.history ⟦<Inline<RamDriver> as Link>⟧.truth ⟦<Inline<RamDriver> as Link>⟧.room ⟦<Inline<RamDriver> as Link>⟧.budget_left c)) }
+pub(crate) fn cache_over(alloc: Global, frames: u32) -> Option<Cache<Driven<RamDriver>>>
+    ensures { IfSome result (λ c. IsReady (caching ⟦<Driven<RamDriver> as Link>⟧ c)) }
 {
     let mut supply = Vec::new(alloc);
     supply.push(driver()).ok()?;
-    let link = Inline::new(alloc, zeros(alloc)?, supply).ok()?;
+    let reincarnation = Reincarnation::new(alloc, Policy::default(), supply).ok()?;
+    let link = Driven::new(alloc, zeros(alloc)?, reincarnation).ok()?;
     let transfers = Transfers::new(alloc, link).ok()?;
     Cache::new(alloc, transfers, 0, &VOLUME, frames).ok()
 }
 
 /// Fetches each of so many blocks once, from the first on.
 pub(crate) fn fetch_run<L: Link>(cache: &mut Cache<L>, first: u32, count: u32) -> u32
-    requires { IsReady (caching L.history L.truth L.room L.budget_left cache.old) }
-    ensures { IsReady (caching L.history L.truth L.room L.budget_left cache.new) }
+    requires { IsReady (caching L.Link cache.old) }
+    ensures { IsReady (caching L.Link cache.new) }
 {
     let mut given = 0u32;
     for block in 0..count {
@@ -66,8 +69,8 @@ pub(crate) fn fetch_run<L: Link>(cache: &mut Cache<L>, first: u32, count: u32) -
 
 /// Fetches so often, each time one of the first 16 blocks.
 pub(crate) fn fetch_again<L: Link>(cache: &mut Cache<L>, count: u32) -> u32
-    requires { IsReady (caching L.history L.truth L.room L.budget_left cache.old) }
-    ensures { IsReady (caching L.history L.truth L.room L.budget_left cache.new) }
+    requires { IsReady (caching L.Link cache.old) }
+    ensures { IsReady (caching L.Link cache.new) }
 {
     let mut given = 0u32;
     for turn in 0..count {
@@ -80,8 +83,8 @@ pub(crate) fn fetch_again<L: Link>(cache: &mut Cache<L>, count: u32) -> u32
 
 /// Makes 16 blocks anew, and writes them back.
 fn write_16<L: Link>(cache: &mut Cache<L>, first: u32) -> u32
-    requires { IsReady (caching L.history L.truth L.room L.budget_left cache.old) }
-    ensures { IsReady (caching L.history L.truth L.room L.budget_left cache.new) }
+    requires { IsReady (caching L.Link cache.old) }
+    ensures { IsReady (caching L.Link cache.new) }
 {
     for block in 0..16 {
         if cache.fresh(first.saturating_add(block)).is_err() {
@@ -97,8 +100,8 @@ fn write_16<L: Link>(cache: &mut Cache<L>, first: u32) -> u32
 
 /// Makes so many times 16 blocks anew, and writes each 16 of them back.
 pub(crate) fn write_run<L: Link>(cache: &mut Cache<L>, times: u32) -> u32
-    requires { IsReady (caching L.history L.truth L.room L.budget_left cache.old) }
-    ensures { IsReady (caching L.history L.truth L.room L.budget_left cache.new) }
+    requires { IsReady (caching L.Link cache.old) }
+    ensures { IsReady (caching L.Link cache.new) }
 {
     let mut written = 0u32;
     for turn in 0..times {

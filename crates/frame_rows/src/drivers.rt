@@ -4,11 +4,13 @@ ghost use Rattle.cache.specs.Calls.{caching, IsReady};
 
 use crate::frames::{VOLUME, fetch_run, fill, fill_fresh, is_filled};
 use cache::Cache;
+use driven::Driven;
 use flusher::{flush_some, sync};
-use inline::Inline;
 use media::Media;
 use modeldisk::{Fault, FaultKind, Inner, RamDriver, ScriptedDriver};
 use partition::Table;
+use policy::Policy;
+use reincarnate::Reincarnation;
 use reissue::{Link, Transfers};
 use std::alloc::Global;
 use std::test::Fail;
@@ -19,9 +21,9 @@ fn driver(faults: Vec<Fault>) -> ScriptedDriver {
 }
 
 /// A cache of 16 frames over two drivers of zero bytes, the first of which dies in its first request after so many sectors, or not.
-fn cache_over(alloc: Global, dies: Option<u32>) -> Result<Cache<Inline<ScriptedDriver>>, Fail>
-    ensures ready { IfOk result (λ c. IsReady (caching ⟦<Inline<ScriptedDriver> as Link>⟧.history ⟦<Inline<ScriptedDriver> as Link>⟧.truth ⟦<Inline<ScriptedDriver> as Link>⟧.room ⟦<Inline<ScriptedDriver> as Link>⟧.budget_left c)) }
-    ensures size { IfOk result (λ c. (caching ⟦<Inline<ScriptedDriver> as Link>⟧.history ⟦<Inline<ScriptedDriver> as Link>⟧.truth ⟦<Inline<ScriptedDriver> as Link>⟧.room ⟦<Inline<ScriptedDriver> as Link>⟧.budget_left c).size ≡ 4096) }
+fn cache_over(alloc: Global, dies: Option<u32>) -> Result<Cache<Driven<ScriptedDriver>>, Fail>
+    ensures ready { IfOk result (λ c. IsReady (caching ⟦<Driven<ScriptedDriver> as Link>⟧ c)) }
+    ensures size { IfOk result (λ c. c.shape.block_size ≡ 4096) }
 {
     let zeros = vec![in alloc; 0; 524288]?;
     let media = Media::from_bytes(alloc, &zeros)?;
@@ -36,7 +38,8 @@ fn cache_over(alloc: Global, dies: Option<u32>) -> Result<Cache<Inline<ScriptedD
     let mut supply = Vec::new(alloc);
     supply.push(driver(faults))?;
     supply.push(driver(Vec::new(alloc)))?;
-    let transfers = Transfers::new(alloc, Inline::new(alloc, media, supply)?)?;
+    let reincarnation = Reincarnation::new(alloc, Policy::default(), supply)?;
+    let transfers = Transfers::new(alloc, Driven::new(alloc, media, reincarnation)?)?;
     Ok(Cache::new(alloc, transfers, 0, &VOLUME, 16)?)
 }
 

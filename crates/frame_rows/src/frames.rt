@@ -1,8 +1,9 @@
 //! Which blocks are read and written, and when.
 ghost use Rattle.std.specs.Prelude.{◌≡◌, ◌≤◌, IfOk};
 ghost use Rattle.cache.specs.Calls.{caching, IsReady};
+ghost use Rattle.reissue.specs.Transfers.{link_of, table_of};
 
-use crate::lists::{answers, moved, started, told};
+use crate::lists::{answers, moved, posts_at_first, started, told};
 use cache::{Cache, CacheRefusal};
 use flusher::{flush_some, sync};
 use layout::Geometry;
@@ -28,11 +29,11 @@ fn cache_over(
     messages: Vec<Incoming>,
     frames: u32,
 ) -> Result<Result<Cache<ListLink>, CacheRefusal>, AllocError>
-    ensures ready { IfOk result (λ r. IfOk r (λ c. IsReady (caching ⟦<ListLink as Link>⟧.history ⟦<ListLink as Link>⟧.truth ⟦<ListLink as Link>⟧.room ⟦<ListLink as Link>⟧.budget_left c))) }
-    ensures size { IfOk result (λ r. IfOk r (λ c. (caching ⟦<ListLink as Link>⟧.history ⟦<ListLink as Link>⟧.truth ⟦<ListLink as Link>⟧.room ⟦<ListLink as Link>⟧.budget_left c).size ≡ 4096)) }
-    ensures unused { IfOk result (λ r. IfOk r (λ c. (caching ⟦<ListLink as Link>⟧.history ⟦<ListLink as Link>⟧.truth ⟦<ListLink as Link>⟧.room ⟦<ListLink as Link>⟧.budget_left c).table.ids ≡ 0)) }
-    ensures budget { IfOk result (λ r. IfOk r (λ c. (caching ⟦<ListLink as Link>⟧.history ⟦<ListLink as Link>⟧.truth ⟦<ListLink as Link>⟧.room ⟦<ListLink as Link>⟧.budget_left c).budget ≡ 1099511627776)) }
-    ensures room { IfOk result (λ r. IfOk r (λ c. 34 ≤ (caching ⟦<ListLink as Link>⟧.history ⟦<ListLink as Link>⟧.truth ⟦<ListLink as Link>⟧.room ⟦<ListLink as Link>⟧.budget_left c).room)) }
+    ensures ready { IfOk result (λ r. IfOk r (λ c. IsReady (caching ⟦<ListLink as Link>⟧ c))) }
+    ensures size { IfOk result (λ r. IfOk r (λ c. c.shape.block_size ≡ 4096)) }
+    ensures unused { IfOk result (λ r. IfOk r (λ c. (table_of c.transfers).ids ≡ 0)) }
+    ensures budget { IfOk result (λ r. IfOk r (λ c. ⟦<ListLink as Link>⟧.budget_left (link_of c.transfers) ≡ 1099511627776)) }
+    ensures room { IfOk result (λ r. IfOk r (λ c. 34 ≤ ⟦<ListLink as Link>⟧.room (link_of c.transfers))) }
 {
     let transfers = Transfers::new(alloc, ListLink::new(alloc, messages)?)?;
     Ok(Cache::new(alloc, transfers, 0, &VOLUME, frames))
@@ -40,9 +41,9 @@ fn cache_over(
 
 /// Fetches these blocks in their order; how many were given.
 pub(crate) fn fetch_each<L: Link>(cache: &mut Cache<L>, blocks: &[u32]) -> u32
-    requires { IsReady (caching L.history L.truth L.room L.budget_left cache.old) }
-    ensures ready { IsReady (caching L.history L.truth L.room L.budget_left cache.new) }
-    ensures size { (caching L.history L.truth L.room L.budget_left cache.new).size ≡ (caching L.history L.truth L.room L.budget_left cache.old).size }
+    requires { IsReady (caching L.Link cache.old) }
+    ensures ready { IsReady (caching L.Link cache.new) }
+    ensures size { cache.new.shape.block_size ≡ cache.old.shape.block_size }
 {
     let mut given = 0u32;
     for block in blocks {
@@ -55,9 +56,9 @@ pub(crate) fn fetch_each<L: Link>(cache: &mut Cache<L>, blocks: &[u32]) -> u32
 
 /// Fetches so many blocks from the first on; how many were given.
 pub(crate) fn fetch_run<L: Link>(cache: &mut Cache<L>, first: u32, count: u32) -> u32
-    requires { IsReady (caching L.history L.truth L.room L.budget_left cache.old) }
-    ensures ready { IsReady (caching L.history L.truth L.room L.budget_left cache.new) }
-    ensures size { (caching L.history L.truth L.room L.budget_left cache.new).size ≡ (caching L.history L.truth L.room L.budget_left cache.old).size }
+    requires { IsReady (caching L.Link cache.old) }
+    ensures ready { IsReady (caching L.Link cache.new) }
+    ensures size { cache.new.shape.block_size ≡ cache.old.shape.block_size }
 {
     let mut given = 0u32;
     for block in 0..count {
@@ -70,10 +71,10 @@ pub(crate) fn fetch_run<L: Link>(cache: &mut Cache<L>, first: u32, count: u32) -
 
 /// Fills a block with this byte; false where it wasn't given.
 pub(crate) fn fill<L: Link>(cache: &mut Cache<L>, block: u32, byte: u8) -> bool
-    requires ready { IsReady (caching L.history L.truth L.room L.budget_left cache.old) }
-    requires size { (caching L.history L.truth L.room L.budget_left cache.old).size ≡ 4096 }
-    ensures ready { IsReady (caching L.history L.truth L.room L.budget_left cache.new) }
-    ensures size { (caching L.history L.truth L.room L.budget_left cache.new).size ≡ 4096 }
+    requires ready { IsReady (caching L.Link cache.old) }
+    requires size { cache.old.shape.block_size ≡ 4096 }
+    ensures ready { IsReady (caching L.Link cache.new) }
+    ensures size { cache.new.shape.block_size ≡ 4096 }
 {
     match cache.fetch(block) {
         Ok(frame) => {
@@ -86,10 +87,10 @@ pub(crate) fn fill<L: Link>(cache: &mut Cache<L>, block: u32, byte: u8) -> bool
 
 /// Fills a block with this byte without reading it; false where it wasn't given.
 pub(crate) fn fill_fresh<L: Link>(cache: &mut Cache<L>, block: u32, byte: u8) -> bool
-    requires ready { IsReady (caching L.history L.truth L.room L.budget_left cache.old) }
-    requires size { (caching L.history L.truth L.room L.budget_left cache.old).size ≡ 4096 }
-    ensures ready { IsReady (caching L.history L.truth L.room L.budget_left cache.new) }
-    ensures size { (caching L.history L.truth L.room L.budget_left cache.new).size ≡ 4096 }
+    requires ready { IsReady (caching L.Link cache.old) }
+    requires size { cache.old.shape.block_size ≡ 4096 }
+    ensures ready { IsReady (caching L.Link cache.new) }
+    ensures size { cache.new.shape.block_size ≡ 4096 }
 {
     match cache.fresh(block) {
         Ok(frame) => {
@@ -102,8 +103,8 @@ pub(crate) fn fill_fresh<L: Link>(cache: &mut Cache<L>, block: u32, byte: u8) ->
 
 /// Whether a block is given, with this byte at each place.
 pub(crate) fn is_filled<L: Link>(cache: &mut Cache<L>, block: u32, byte: u8) -> bool
-    requires ready { IsReady (caching L.history L.truth L.room L.budget_left cache.old) }
-    ensures ready { IsReady (caching L.history L.truth L.room L.budget_left cache.new) }
+    requires ready { IsReady (caching L.Link cache.old) }
+    ensures ready { IsReady (caching L.Link cache.new) }
 {
     match cache.fetch(block) {
         Ok(frame) => cache.frame(frame).iter().all(|b| *b == byte),
@@ -113,9 +114,9 @@ pub(crate) fn is_filled<L: Link>(cache: &mut Cache<L>, block: u32, byte: u8) -> 
 
 /// Gives these blocks frames of zero bytes; how many were given.
 pub(crate) fn fresh_each<L: Link>(cache: &mut Cache<L>, first: u32, end: u32) -> u32
-    requires { IsReady (caching L.history L.truth L.room L.budget_left cache.old) }
-    ensures ready { IsReady (caching L.history L.truth L.room L.budget_left cache.new) }
-    ensures size { (caching L.history L.truth L.room L.budget_left cache.new).size ≡ (caching L.history L.truth L.room L.budget_left cache.old).size }
+    requires { IsReady (caching L.Link cache.old) }
+    ensures ready { IsReady (caching L.Link cache.new) }
+    ensures size { cache.new.shape.block_size ≡ cache.old.shape.block_size }
 {
     let mut given = 0u32;
     for block in first..end {
@@ -198,6 +199,21 @@ fn sixteen_are_written(rt: HostRuntime) -> Result<(), Fail> {
     flush_some(&mut cache);
     flush_some(&mut cache);
     assert_eq!(rt; told(alloc, cache.link())?.as_str(), WRITES);
+    Ok(())
+}
+
+#[test]
+fn sixteen_are_begun_before_the_first_take(rt: HostRuntime) -> Result<(), Fail> {
+    let alloc = rt.alloc();
+    let mut messages = Vec::new(alloc);
+    for id in 1..=20 {
+        messages.push(moved(1, id, 4096, 0))?;
+    }
+    let mut cache = cache_over(alloc, messages, 32)??;
+    cache.absorb(started(1));
+    assert_eq!(rt; fresh_each(&mut cache, 10, 30), 20);
+    assert!(rt; sync(&mut cache).is_ok());
+    assert_eq!(rt; posts_at_first(cache.link()), 16);
     Ok(())
 }
 

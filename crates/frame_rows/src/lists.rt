@@ -58,3 +58,11 @@ pub(crate) fn told(alloc: Global, link: &ListLink) -> Result<String, AllocError>
     }
     Ok(text)
 }
+
+/// How many requests a link was posted before the first message was taken.
+pub(crate) fn posts_at_first(link: &ListLink) -> usize {
+    link.notes()
+        .iter()
+        .take_while(|note| matches!(note, Note::Posted(_, _, _)))
+        .count()
+}
