@@ -11,12 +11,12 @@ use Rattle.marks.specs.declared.Cause.TheVariants.{Exit}
 use Rattle.marks.specs.Marks.{Started, GaveUp, Took, Fault}
 use Rattle.schedule.specs.declared.Event.TheVariants as event
 use Rattle.schedule.specs.Groups.{Group, marks_of}
-use Rattle.schedule.specs.Drivers.{state_of}
+use Rattle.schedule.specs.Drivers.{state_of, TookItsOwn}
 use Rattle.schedule.specs.Faults.{FailsAtItsStep}
 use Rattle.schedule.specs.Replies.{RepliesOf}
 use Rattle.schedule.specs.Justified.{Justified}
 use Rattle.schedule.proofs.Making.{◌▸◌, all_taken, still_wait, shown, quiet}
-use Rattle.schedule.proofs.Small.{client, stat_root, first_call, issued_to, idle}
+use Rattle.schedule.proofs.Small.{client, stat_root, first_call, issued_to, idle, supply}
 
 -- `seek 0 set 0`
 abbrev pub seek : Call
@@ -77,19 +77,30 @@ given_up_failures (suc (suc (suc (suc (suc zero))))) = record { seen = λ f. cc 
 given_up_failures (suc (suc (suc (suc (suc (suc zero)))))) = record { seen = λ f. cc }
 given_up_failures (suc (suc (suc (suc (suc (suc (suc g))))))) = tt
 
+-- each driver took what was issued to it
+given_up_took : (g : ℕ) → IfSome (state_of (idle ∷ idle ∷ idle ∷ idle ∷ idle ∷ idle ∷ []) g) (TookItsOwn (marks_of given_up) g)
+given_up_took zero = tt
+given_up_took (suc zero) = record { last = refl; work = tt }
+given_up_took (suc (suc zero)) = record { last = refl; work = tt }
+given_up_took (suc (suc (suc zero))) = record { last = refl; work = tt }
+given_up_took (suc (suc (suc (suc zero)))) = record { last = refl; work = tt }
+given_up_took (suc (suc (suc (suc (suc zero))))) = record { last = refl; work = tt }
+given_up_took (suc (suc (suc (suc (suc (suc zero)))))) = record { last = refl; work = tt }
+given_up_took (suc (suc (suc (suc (suc (suc (suc g))))))) = tt
+
 -- the replies are those of the drivers
 given_up_replies : (g : ℕ) → IfSome (state_of (idle ∷ idle ∷ idle ∷ idle ∷ idle ∷ idle ∷ []) g) (RepliesOf (marks_of given_up) [] g)
 given_up_replies zero = tt
-given_up_replies (suc zero) = record { bad = refl; one = (tt, (tt, (tt, (tt, ((λ e d. cc), (tt, (tt, ((λ e d. cc), (tt, (tt, ((λ e d. cc), (tt, (tt, ((λ e d. cc), (tt, (tt, ((λ e d. cc), (tt, (tt, ((λ e d. cc), (tt, tt))))))))))))))))))))); own = tt }
-given_up_replies (suc (suc zero)) = record { bad = refl; one = (tt, (tt, (tt, (tt, ((λ e d. cc), (tt, (tt, ((λ e d. cc), (tt, (tt, ((λ e d. cc), (tt, (tt, ((λ e d. cc), (tt, (tt, ((λ e d. cc), (tt, (tt, ((λ e d. cc), (tt, tt))))))))))))))))))))); own = tt }
-given_up_replies (suc (suc (suc zero))) = record { bad = refl; one = (tt, (tt, (tt, (tt, ((λ e d. cc), (tt, (tt, ((λ e d. cc), (tt, (tt, ((λ e d. cc), (tt, (tt, ((λ e d. cc), (tt, (tt, ((λ e d. cc), (tt, (tt, ((λ e d. cc), (tt, tt))))))))))))))))))))); own = tt }
-given_up_replies (suc (suc (suc (suc zero)))) = record { bad = refl; one = (tt, (tt, (tt, (tt, ((λ e d. cc), (tt, (tt, ((λ e d. cc), (tt, (tt, ((λ e d. cc), (tt, (tt, ((λ e d. cc), (tt, (tt, ((λ e d. cc), (tt, (tt, ((λ e d. cc), (tt, tt))))))))))))))))))))); own = tt }
-given_up_replies (suc (suc (suc (suc (suc zero))))) = record { bad = refl; one = (tt, (tt, (tt, (tt, ((λ e d. cc), (tt, (tt, ((λ e d. cc), (tt, (tt, ((λ e d. cc), (tt, (tt, ((λ e d. cc), (tt, (tt, ((λ e d. cc), (tt, (tt, ((λ e d. cc), (tt, tt))))))))))))))))))))); own = tt }
-given_up_replies (suc (suc (suc (suc (suc (suc zero)))))) = record { bad = refl; one = (tt, (tt, (tt, (tt, ((λ e d. cc), (tt, (tt, ((λ e d. cc), (tt, (tt, ((λ e d. cc), (tt, (tt, ((λ e d. cc), (tt, (tt, ((λ e d. cc), (tt, (tt, ((λ e d. cc), (tt, tt))))))))))))))))))))); own = tt }
+given_up_replies (suc zero) = record { bad = refl; rising = refl; one = (tt, (tt, (tt, (tt, ((λ e d. cc), (tt, (tt, ((λ e d. cc), (tt, (tt, ((λ e d. cc), (tt, (tt, ((λ e d. cc), (tt, (tt, ((λ e d. cc), (tt, (tt, ((λ e d. cc), (tt, tt))))))))))))))))))))); own = tt }
+given_up_replies (suc (suc zero)) = record { bad = refl; rising = refl; one = (tt, (tt, (tt, (tt, ((λ e d. cc), (tt, (tt, ((λ e d. cc), (tt, (tt, ((λ e d. cc), (tt, (tt, ((λ e d. cc), (tt, (tt, ((λ e d. cc), (tt, (tt, ((λ e d. cc), (tt, tt))))))))))))))))))))); own = tt }
+given_up_replies (suc (suc (suc zero))) = record { bad = refl; rising = refl; one = (tt, (tt, (tt, (tt, ((λ e d. cc), (tt, (tt, ((λ e d. cc), (tt, (tt, ((λ e d. cc), (tt, (tt, ((λ e d. cc), (tt, (tt, ((λ e d. cc), (tt, (tt, ((λ e d. cc), (tt, tt))))))))))))))))))))); own = tt }
+given_up_replies (suc (suc (suc (suc zero)))) = record { bad = refl; rising = refl; one = (tt, (tt, (tt, (tt, ((λ e d. cc), (tt, (tt, ((λ e d. cc), (tt, (tt, ((λ e d. cc), (tt, (tt, ((λ e d. cc), (tt, (tt, ((λ e d. cc), (tt, (tt, ((λ e d. cc), (tt, tt))))))))))))))))))))); own = tt }
+given_up_replies (suc (suc (suc (suc (suc zero))))) = record { bad = refl; rising = refl; one = (tt, (tt, (tt, (tt, ((λ e d. cc), (tt, (tt, ((λ e d. cc), (tt, (tt, ((λ e d. cc), (tt, (tt, ((λ e d. cc), (tt, (tt, ((λ e d. cc), (tt, (tt, ((λ e d. cc), (tt, tt))))))))))))))))))))); own = tt }
+given_up_replies (suc (suc (suc (suc (suc (suc zero)))))) = record { bad = refl; rising = refl; one = (tt, (tt, (tt, (tt, ((λ e d. cc), (tt, (tt, ((λ e d. cc), (tt, (tt, ((λ e d. cc), (tt, (tt, ((λ e d. cc), (tt, (tt, ((λ e d. cc), (tt, (tt, ((λ e d. cc), (tt, tt))))))))))))))))))))); own = tt }
 given_up_replies (suc (suc (suc (suc (suc (suc (suc g))))))) = tt
 
 -- the run is justified
-given_up_justified : Justified default_policy 7 given_up [] (idle ∷ idle ∷ idle ∷ idle ∷ idle ∷ idle ∷ []) 0
+given_up_justified : Justified default_policy (supply 7) given_up [] (idle ∷ idle ∷ idle ∷ idle ∷ idle ∷ idle ∷ []) 0
 given_up_justified = record {
   events =
       shown refl refl (refl, refl) refl refl refl (tt, tt) refl refl (all_taken refl)
@@ -132,7 +143,7 @@ given_up_justified = record {
       ▸ shown refl refl (refl, refl) refl refl refl (tt, tt) refl refl (still_wait first_call refl refl refl)
       ▸ shown refl refl (refl, refl) refl refl refl (tt, tt) refl refl (still_wait first_call refl refl refl)
       ▸ tt;
-  drivers_stand = record { all = refl; sound = tt; failures = given_up_failures };
+  drivers_stand = record { all = refl; sound = tt; failures = given_up_failures; handed_in = refl; took = given_up_took };
   replies_stand = record { order = refl; steps = tt; own = given_up_replies };
   calls_left = record { left = []; order = refl; number = refl };
 }

@@ -14,6 +14,7 @@ use Rattle.schedule.specs.Faults.{ExitsOfGroup, hung_in, hung_due, ComplaintsFol
 use Rattle.schedule.specs.Starts.{starts_due, times_gave_up, times_due, is_given_up_after_fault, are_issued_in_place, IssuesFollow}
 use Rattle.schedule.specs.Replies.{answers_in, answers_due}
 use Rattle.schedule.specs.Calls.{Arrival, arrived, taken, CallsSoFar, flushes_in, flushes_due}
+use Rattle.schedule.specs.Handed.{is_handed, acts_when_handed}
 use Rattle.schedule.specs.Justified.{GroupKeeps}
 
 infixr 3 ◌▸◌
@@ -39,21 +40,27 @@ each_true false b e = cc
 pub shown : {policy : Policy} {supply : ℕ} {sent : List Sent} {drivers : List DriverState} {event : Event} {group : List Mark} {earlier : List Group}
     → ExitsOfGroup drivers event group earlier → hung_in group ≡ hung_due policy event earlier → ComplaintsFollow None group (marks_of earlier)
     → started_in group ≡ starts_due policy event earlier → times_gave_up group ≡ times_due policy supply ((event, group) ∷ earlier)
-    → (is_given_up_after_fault event group (marks_of earlier) && are_issued_in_place ((event, group) ∷ earlier) group (marks_of earlier)) ≡ true → IssuesFollow [] group (marks_of earlier) → answers_in group ≡ answers_due sent event earlier
+    → (is_given_up_after_fault event group (marks_of earlier)
+    && (are_issued_in_place ((event, group) ∷ earlier) group (marks_of earlier) && acts_when_handed (is_handed sent event earlier) group)) ≡ true → IssuesFollow [] group (marks_of earlier) → answers_in group ≡ answers_due sent event earlier
     → flushes_in group ≡ flushes_due event → CallsSoFar ((event, group) ∷ earlier) → GroupKeeps policy supply sent drivers event group earlier
-shown {event = event} {group = group} {earlier = earlier} exits hung complaints starts times both issues answers flushes calls = record {
-  faults = record {
-    exits = exits;
-    hung = hung;
-    complaints = complaints;
-    starts = starts;
-    giving_up = record { times = times; after_fault = (each_true (is_given_up_after_fault event group (marks_of earlier)) (are_issued_in_place ((event, group) ∷ earlier) group (marks_of earlier)) both).0 };
-    issues = issues;
-    in_place = (each_true (is_given_up_after_fault event group (marks_of earlier)) (are_issued_in_place ((event, group) ∷ earlier) group (marks_of earlier)) both).1;
-  };
-  answers = record { answered = answers; flushed = flushes };
-  calls = calls;
-}
+shown {sent = sent} {event = event} {group = group} {earlier = earlier} exits hung complaints starts times tests issues answers flushes calls =
+    let told = each_true (is_given_up_after_fault event group (marks_of earlier))
+        (are_issued_in_place ((event, group) ∷ earlier) group (marks_of earlier) && acts_when_handed (is_handed sent event earlier) group) tests in
+    let placed = each_true (are_issued_in_place ((event, group) ∷ earlier) group (marks_of earlier)) (acts_when_handed (is_handed sent event earlier) group) told.1 in
+    record {
+      faults = record {
+        exits = exits;
+        hung = hung;
+        complaints = complaints;
+        starts = starts;
+        giving_up = record { times = times; after_fault = told.0 };
+        issues = issues;
+        in_place = placed.0;
+      };
+      answers = record { answered = answers; flushed = flushes };
+      calls = calls;
+      acts = placed.1;
+    }
 
 -- an event without marks keeps what it must
 pub quiet : {policy : Policy} {supply : ℕ} {sent : List Sent} {drivers : List DriverState} {event : Event} {earlier : List Group}

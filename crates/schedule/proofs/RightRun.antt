@@ -1,7 +1,7 @@
 -- A run with most of what can happen: queued calls, a flush in a call, a death twice, a bad answer of a dead driver, events that
 -- name nothing, a hang, and giving up for want of a spare.
 use Rattle.std.specs.Prelude.{zero, suc, ℕ, List, [], ◌∷◌, None, IfSome, refl, Err}
-use Rattle.std.proofs.Common.{inl}
+use Rattle.std.proofs.Common.{inl, lit≤}
 use Rattle.errno.specs.declared.Errno.TheVariants.{EIO}
 use Rattle.message.specs.declared.BlockReply.{BlockReply}
 use Rattle.tree.specs.Answers.{refused}
@@ -13,12 +13,12 @@ use Rattle.marks.specs.Marks.{Started, Answered, Flush, GaveUp, Took, Fault}
 use Rattle.schedule.specs.declared.Sent.{Sent}
 use Rattle.schedule.specs.declared.Event.TheVariants as event
 use Rattle.schedule.specs.Groups.{Group, marks_of}
-use Rattle.schedule.specs.Drivers.{state_of}
+use Rattle.schedule.specs.Drivers.{state_of, TookItsOwn}
 use Rattle.schedule.specs.Faults.{FailsAtItsStep}
 use Rattle.schedule.specs.Replies.{RepliesOf}
 use Rattle.schedule.specs.Justified.{Justified}
 use Rattle.schedule.proofs.Making.{◌▸◌, all_taken, still_wait, shown, quiet, one_is_not_two, second_is_not_first}
-use Rattle.schedule.proofs.Small.{client, stat_root, issued_to, idle, done}
+use Rattle.schedule.proofs.Small.{client, stat_root, issued_to, idle, done, supply}
 
 -- driver 1 answers an error
 abbrev pub bad_reply : BlockReply
@@ -67,15 +67,22 @@ right_failures (suc zero) = record { seen = λ f. cc }
 right_failures (suc (suc zero)) = record { seen = λ f. cc }
 right_failures (suc (suc (suc g))) = tt
 
+-- each driver took what was issued to it
+right_took : (g : ℕ) → IfSome (state_of (bad_done ∷ idle ∷ []) g) (TookItsOwn (marks_of right) g)
+right_took zero = tt
+right_took (suc zero) = record { last = refl; work = tt }
+right_took (suc (suc zero)) = record { last = refl; work = tt }
+right_took (suc (suc (suc g))) = tt
+
 -- the replies are those of the drivers
 right_replies : (g : ℕ) → IfSome (state_of (bad_done ∷ idle ∷ []) g) (RepliesOf (marks_of right) right_sent g)
 right_replies zero = tt
-right_replies (suc zero) = record { bad = refl; one = (tt, (tt, (tt, (tt, (tt, (tt, ((λ e d. absurd (second_is_not_first e)), (tt, (tt, (tt, (tt, ((λ e d. refl), (tt, tt))))))))))))); own = (record { done = λ e. refl }, tt) }
-right_replies (suc (suc zero)) = record { bad = refl; one = (tt, (tt, (tt, (tt, (tt, (tt, ((λ e d. cc), (tt, (tt, (tt, (tt, ((λ e d. cc), (tt, tt))))))))))))); own = (record { done = λ e. absurd (one_is_not_two e) }, tt) }
+right_replies (suc zero) = record { bad = refl; rising = refl; one = (tt, (tt, (tt, (tt, (tt, (tt, ((λ e d. absurd (second_is_not_first e)), (tt, (tt, (tt, (tt, ((λ e d. refl), (tt, tt))))))))))))); own = (record { done = λ e. refl }, tt) }
+right_replies (suc (suc zero)) = record { bad = refl; rising = refl; one = (tt, (tt, (tt, (tt, (tt, (tt, ((λ e d. cc), (tt, (tt, (tt, (tt, ((λ e d. cc), (tt, tt))))))))))))); own = (record { done = λ e. absurd (one_is_not_two e) }, tt) }
 right_replies (suc (suc (suc g))) = tt
 
 -- the run is justified
-right_justified : Justified default_policy 2 right right_sent (bad_done ∷ idle ∷ []) 0
+right_justified : Justified default_policy (supply 2) right right_sent (bad_done ∷ idle ∷ []) 0
 right_justified = record {
   events =
       quiet refl refl refl refl refl (all_taken refl)
@@ -102,7 +109,7 @@ right_justified = record {
       ▸ quiet refl refl refl refl refl (still_wait ((client 0, 2, stat_root) ∷ (client 0, 1, stat_root) ∷ []) refl refl refl)
       ▸ shown refl refl (refl, refl) refl refl refl (tt, tt) refl refl (still_wait ((client 0, 1, stat_root) ∷ []) refl refl refl)
       ▸ tt;
-  drivers_stand = record { all = refl; sound = tt; failures = right_failures };
-  replies_stand = record { order = refl; steps = (record { from = refl; step = refl; live = refl; asked = refl }, tt); own = right_replies };
+  drivers_stand = record { all = refl; sound = tt; failures = right_failures; handed_in = refl; took = right_took };
+  replies_stand = record { order = refl; steps = (record { from = refl; step = refl; live = refl; asked = refl; moved = lit≤ tt }, tt); own = right_replies };
   calls_left = record { left = []; order = refl; number = refl };
 }

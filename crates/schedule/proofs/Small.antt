@@ -1,5 +1,5 @@
 -- A small volume with a root alone, and a call on it: what the worked runs are made of.
-use Rattle.std.specs.Prelude.{List, ◌≡◌, ℕ, [], ◌∷◌, true, false, codes, Some, None, Ok, refl}
+use Rattle.std.specs.Prelude.{List, ◌≡◌, ℕ, [], ◌∷◌, true, false, codes, Some, None, Ok, refl, replicate}
 use Rattle.layout.specs.declared.Geometry.{Geometry}
 use Rattle.message.specs.declared.BlockReply.{BlockReply}
 use Rattle.message.specs.declared.BlockRequest.{BlockRequest}
@@ -58,6 +58,10 @@ replied session = Took (client session) 100 stat_root root_is
 -- a driver that took nothing
 abbrev pub idle : DriverState
 idle = record { ranges = Some (0, 128) ∷ []; last = 0; work = None; in_work = None; bad = 0; failed = false }
+
+-- so many of them are handed in
+abbrev pub supply : ℕ → List DriverState
+supply n = replicate n idle
 
 -- one that has done with id 1
 abbrev pub done : DriverState

@@ -1,9 +1,11 @@
 -- Which drivers were started, died, hang, and run.
-use Rattle.std.specs.Prelude.{zero, suc, ℕ, ◌+◌, List, [], ◌∷◌, Bool, true, false, not, ◌&&◌, ◌||◌, ◌==◌, nat_lt, nat_le, Option, None, if◌then◌else◌, slice_get}
+use Rattle.std.specs.Prelude.{◌≡◌, zero, suc, ℕ, ◌+◌, List, [], ◌∷◌, Bool, true, false, not, ◌&&◌, ◌||◌, ◌==◌, nat_lt, nat_le, Option, None, IfSome, if◌then◌else◌, slice_get}
 use Rattle.endpoint.specs.declared.Endpoint.{Endpoint}
+use Rattle.message.specs.declared.BlockRequest.{BlockRequest}
 use Rattle.bdev.specs.DriverState.{DriverState}
 use Rattle.policy.specs.Watch.{driver}
-use Rattle.marks.specs.Marks.{Mark, Fault, is_endpoint}
+use Rattle.marks.specs.Marks.{Mark, Issued, Fault, is_endpoint}
+use Rattle.marks.specs.Open.{IsIn}
 use Rattle.marks.specs.declared.Cause.TheVariants.{Exit}
 use Rattle.schedule.specs.declared.Event.TheVariants as event
 use Rattle.schedule.specs.Groups.{Group, marks_of, running, generation}
@@ -55,3 +57,21 @@ abbrev pub missed : ℕ → List Group → ℕ
 missed g [] = 0
 missed g ((event.Tick, group) ∷ earlier) = if is_hung g earlier then missed g earlier + 1 else 0
 missed g ((_, group) ∷ earlier) = missed g earlier
+
+-- whether a request with this id was issued to driver g
+abbrev pub is_issued_to : ℕ → ℕ → List Mark → Bool
+is_issued_to g id [] = false
+is_issued_to g id (Issued r e ∷ marks) = ((e.slot == 1) && (e.generation == g) && (r.id == id)) || is_issued_to g id marks
+is_issued_to g id (_ ∷ marks) = is_issued_to g id marks
+
+-- the requests that were issued to driver g, newest first
+abbrev pub requests_issued_to : ℕ → List Mark → List BlockRequest
+requests_issued_to g [] = []
+requests_issued_to g (Issued r e ∷ marks) =
+    if (e.slot == 1) && (e.generation == g) then r ∷ requests_issued_to g marks else requests_issued_to g marks
+requests_issued_to g (_ ∷ marks) = requests_issued_to g marks
+
+-- driver g took nothing, or last a request that was issued to it; the one in work is that one
+pub record TookItsOwn (marks : List Mark) (g : ℕ) (d : DriverState) : Type 0 where
+  pub last : ((d.last == 0) || is_issued_to g d.last marks) ≡ true
+  pub work : IfSome d.work (λ w. (w.request.id ≡ d.last) × IsIn w.request (requests_issued_to g marks))

@@ -48,14 +48,15 @@ pub record MediaHold (range : Range) (image : List ℕ) (t : Transcript) : Type 
       → slice_index t.image (512 * sector + k) ≡ slice_index image (512 * sector + k)
 
 -- Justified: the record can be cut into groups, one for each event of the schedule, that justify the run.
-pub record IsJustified (policy : Policy) (supply : ℕ) (events : List Event) (t : Transcript) : Type 0 where
+pub record IsJustified (policy : Policy) (supply : List DriverState) (events : List Event) (t : Transcript) : Type 0 where
   pub groups : List Group
   pub schedule : schedule_of groups ≡ events
   pub record_is : marks_of groups ≡ t.marks
   pub justified : Justified policy supply groups t.sent t.drivers t.unanswered
 
--- The headline: the volume in this range held a file tree at first, without an open file, of which the three parts hold.
-pub record Headline (policy : Policy) (supply : ℕ) (range : Range) (image : List ℕ) (events : List Event) (t : Transcript) : Type 0 where
+-- The headline: the volume in this range held a file tree at first, without an open file, of which the three parts hold. The supply is the
+-- drivers as they were handed in.
+pub record Headline (policy : Policy) (supply : List DriverState) (range : Range) (image : List ℕ) (events : List Event) (t : Transcript) : Type 0 where
   pub geometry : Geometry
   pub parsed : geometry_of (volume_bytes range image) ≡ Ok geometry
   pub tree : Tree

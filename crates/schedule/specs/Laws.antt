@@ -46,9 +46,11 @@ GroupsStay =
     (groups : List Group) → WentOn (length groups) sent drivers sent' drivers'
     → EachGroup (GroupKeeps policy supply sent drivers) groups → EachGroup (GroupKeeps policy supply sent' drivers') groups
 
--- a reply stands at its step whatever event comes after it
+-- a reply stands at its step whatever event comes after it, and whatever replies are sent there and later
 abbrev pub RepliesStay : Type 0
-RepliesStay = (g : Group) (groups : List Group) (s : Sent) → IsSentAtItsStep groups s → IsSentAtItsStep (g ∷ groups) s
+RepliesStay =
+    (g : Group) (groups : List Group) (sent more : List Sent) (s : Sent) → Each (λ m. length groups ≤ m.place) more
+    → IsSentAtItsStep groups sent s → IsSentAtItsStep (g ∷ groups) (sent ++ more) s
 
 -- a run is refused for one reason alone
 abbrev pub RefusedForOne : Type 0

@@ -5,6 +5,7 @@ pub mod Faults
 pub mod Starts
 pub mod Replies
 pub mod Calls
+pub mod Handed
 pub mod Justified
 pub mod Headline
 pub mod Refusals

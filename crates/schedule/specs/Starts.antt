@@ -5,7 +5,7 @@ use Rattle.message.specs.declared.BlockRequest.{BlockRequest}
 use Rattle.policy.specs.declared.Policy.{Policy}
 use Rattle.policy.specs.Faults.{LastFault, last_fault, gives_up, restart_tick}
 use Rattle.policy.specs.Watch.{driver}
-use Rattle.marks.specs.Marks.{Mark, Started, GaveUp, Issued, Fault, gave_up, awaits_start}
+use Rattle.marks.specs.Marks.{Mark, Started, GaveUp, Took, Issued, Fault, gave_up, awaits_start}
 use Rattle.marks.specs.Open.{open_requests, greatest}
 use Rattle.schedule.specs.declared.Event.{Event}
 use Rattle.schedule.specs.declared.Event.TheVariants as event
@@ -69,12 +69,20 @@ abbrev pub ends_in_fault : List Mark → Bool
 ends_in_fault (Fault e cause ∷ marks) = true
 ends_in_fault _ = false
 
--- when the server learns that the device is given up: right after an exit or a missed heartbeat; after a complaint while a start is awaited
+-- how many calls were finished since the last fault
+abbrev pub calls_since_fault : List Mark → ℕ
+calls_since_fault [] = 0
+calls_since_fault (Fault e cause ∷ marks) = 0
+calls_since_fault (Took who now call answer ∷ marks) = calls_since_fault marks + 1
+calls_since_fault (_ ∷ marks) = calls_since_fault marks
+
+-- when the server learns that the device is given up: right after an exit or a missed heartbeat; after a complaint while a start is awaited,
+-- and at most the call of the complaint, if it took no message more, was finished
 abbrev pub may_give_up : Event → List Mark → Bool
 may_give_up (event.Die g bytes) marks = ends_in_fault marks
 may_give_up (event.Step g) marks = ends_in_fault marks
 may_give_up event.Tick marks = ends_in_fault marks
-may_give_up _ marks = awaits_start marks
+may_give_up _ marks = awaits_start marks && nat_le (calls_since_fault marks) 1
 
 -- the device is given up only after its fault
 abbrev pub is_given_up_after_fault : Event → List Mark → List Mark → Bool
