@@ -12,4 +12,7 @@ mod WrongIssues
 mod WrongStarts
 mod WrongReplies
 mod WrongCalls
+mod RightTransfers
+mod WrongDrivers
+mod WrongActs
 mod RefusalRows
