@@ -186,7 +186,7 @@ steps_for-append g id sent more [] later = refl
 steps_for-append g id sent more ((event, group) ∷ earlier) later =
     let sooner : AreLater (length earlier) more = AreLater-below (length earlier) (length ((event, group) ∷ earlier)) more (omega arith) later in
     let here : has_sent_at g (length earlier) (sent ++ more) ≡ has_sent_at g (length earlier) sent =
-        has_sent_at-append g (length earlier) (length ((event, group) ∷ earlier)) sent more (omega arith) later in
+    has_sent_at-append g (length earlier) (length ((event, group) ∷ earlier)) sent more (omega arith) later in
     ap (λ sends. if is_issued_to g id group || sends then 0 else (if is_step_of g event then steps_for g id (sent ++ more) earlier + 1 else steps_for g id (sent ++ more) earlier)) here
     ∙ ap (λ n. if is_issued_to g id group || has_sent_at g (length earlier) sent then 0 else (if is_step_of g event then n + 1 else n))
     (steps_for-append g id sent more earlier sooner)

@@ -45,7 +45,7 @@ pub shown : {policy : Policy} {supply : ℕ} {sent : List Sent} {drivers : List 
     → flushes_in group ≡ flushes_due event → CallsSoFar ((event, group) ∷ earlier) → GroupKeeps policy supply sent drivers event group earlier
 shown {sent = sent} {event = event} {group = group} {earlier = earlier} exits hung complaints starts times tests issues answers flushes calls =
     let told = each_true (is_given_up_after_fault event group (marks_of earlier))
-        (are_issued_in_place ((event, group) ∷ earlier) group (marks_of earlier) && acts_when_handed (is_handed sent event earlier) group) tests in
+    (are_issued_in_place ((event, group) ∷ earlier) group (marks_of earlier) && acts_when_handed (is_handed sent event earlier) group) tests in
     let placed = each_true (are_issued_in_place ((event, group) ∷ earlier) group (marks_of earlier)) (acts_when_handed (is_handed sent event earlier) group) told.1 in
     record {
       faults = record {

@@ -1,12 +1,14 @@
 -- Worked rows of the refusals of a run.
-use Rattle.std.specs.Prelude.{◌≡◌, ℕ, [], ◌∷◌, Option, Some, None, refl}
+use Rattle.std.specs.Prelude.{◌≡◌, ℕ, [], ◌∷◌, Option, Some, None, Ok, Err, refl}
 use Rattle.std.proofs.Common.{arith, ap}
 use Rattle.media.specs.declared.MediaRefusal.TheVariants.{NotWholeSectors}
+use Rattle.partition.specs.declared.PartitionRefusal.TheVariants.{PastMedia}
 use Rattle.volume.specs.Verdict.{Clean, Found}
 use Rattle.policy.specs.declared.Setup.{Setup}
 use Rattle.policy.specs.Policy.{IsAllowed, default_policy}
 use Rattle.marks.specs.Opening.{Range}
-use Rattle.schedule.specs.Refusals.{Start, NotMedia, NoVolume, NotClean, BadSetup, NoDriver, IsRefusedFor, IsAccepted, start_of}
+use Rattle.schedule.specs.Refusals.{Start, NoPlace, BadTable, NoPartition, NotMedia, Partition, NotClean, BadSetup, NoDriver, IsRefusedFor, IsAccepted, start_of}
+use Rattle.schedule.proofs.OneRefusal.{same_err}
 use Rattle.schedule.proofs.Small.{idle, done}
 
 -- the whole media of 128 sectors
@@ -19,7 +21,7 @@ usual = record { minor = 0; frames = 64; policy = default_policy }
 
 -- one driver that took nothing, over a volume without a finding
 abbrev good : Start
-good = record { media = None; range = Some whole; verdict = Clean; setup = usual; drivers = idle ∷ [] }
+good = record { media = None; place = Ok whole; verdict = Clean; setup = usual; drivers = idle ∷ [] }
 
 -- the default policy is allowed
 default_is_allowed : IsAllowed default_policy
@@ -70,7 +72,7 @@ differ : ◌≡◌ {A = ℕ} 128 127 → ⊥
 differ e = omega arith
 
 -- a driver of another range is refusal 4
-row_other_range : IsRefusedFor (record good { range = Some (record { first = 1; count = 127 }) }) BadSetup
+row_other_range : IsRefusedFor (record good { place = Ok (record { first = 1; count = 127 }) }) BadSetup
 row_other_range =
     (record { first = 1; count = 127 }, record { media = refl; range_is = refl }, refl, λ setup. differ (ap count_of setup.ready.0))
 
@@ -82,18 +84,26 @@ row_least = (whole, record { media = refl; range_is = refl }, refl, λ setup. om
 row_finding : IsRefusedFor (record good { verdict = Found (record { number = 9; place = 7 }); setup = record usual { frames = 15 } }) (NotClean (record { number = 9; place = 7 }))
 row_finding = (whole, record { media = refl; range_is = refl }, refl)
 
--- no volume there is refusal 2
-row_no_volume : IsRefusedFor (record good { range = None; drivers = [] }) NoVolume
-row_no_volume = (refl, refl)
+-- no partition there is refusal 2
+row_no_partition : IsRefusedFor (record good { place = Err NoPartition; drivers = [] }) (Partition NoPartition)
+row_no_partition = (refl, refl)
+
+-- a refused table is refusal 2, by its own reason
+row_bad_table : IsRefusedFor (record good { place = Err (BadTable PastMedia) }) (Partition (BadTable PastMedia))
+row_bad_table = (refl, refl)
+
+-- and by no other
+row_no_other_table : IsRefusedFor (record good { place = Err (BadTable PastMedia) }) (Partition NoPartition) → ⊥
+row_no_other_table refused = let h : ◌≡◌ {A = NoPlace} (BadTable PastMedia) NoPartition = same_err refused.1 in cc
 
 -- an image of no whole sectors is refusal 1
-row_no_media : IsRefusedFor (record good { media = Some NotWholeSectors; range = None }) (NotMedia NotWholeSectors)
+row_no_media : IsRefusedFor (record good { media = Some NotWholeSectors; place = Err NoPartition }) (NotMedia NotWholeSectors)
 row_no_media = refl
 
 -- a byte alone makes no media
-row_one_byte : IsRefusedFor (start_of (0 ∷ []) None usual []) (NotMedia NotWholeSectors)
+row_one_byte : IsRefusedFor (start_of (0 ∷ []) (Err NoPartition) usual []) (NotMedia NotWholeSectors)
 row_one_byte = refl
 
 -- no bytes make a media without a volume: finding 1 at 1
-row_no_bytes : IsRefusedFor (start_of [] (Some (record { first = 0; count = 0 })) usual []) (NotClean (record { number = 1; place = 1 }))
+row_no_bytes : IsRefusedFor (start_of [] (Ok (record { first = 0; count = 0 })) usual []) (NotClean (record { number = 1; place = 1 }))
 row_no_bytes = (record { first = 0; count = 0 }, record { media = refl; range_is = refl }, refl)

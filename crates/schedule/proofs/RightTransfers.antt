@@ -1,5 +1,5 @@
 -- Runs at the borders of what drivers can do and of when the server is told: each is justified.
-use Rattle.std.specs.Prelude.{zero, suc, ℕ, List, [], ◌∷◌, false, IfSome, Some, Ok, refl}
+use Rattle.std.specs.Prelude.{zero, suc, ℕ, List, [], ◌∷◌, IfSome, Ok, refl}
 use Rattle.std.proofs.Common.{inl, lit≤}
 use Rattle.errno.specs.declared.Errno.TheVariants.{EIO}
 use Rattle.message.specs.declared.BlockReply.{BlockReply}
@@ -105,8 +105,8 @@ transfers_justified = record {
       record { from = refl; step = refl; live = refl; asked = refl; moved = lit≤ tt },
       (
         record { from = refl; step = refl; live = refl; asked = refl; moved = lit≤ tt },
-        (record { from = refl; step = refl; live = refl; asked = refl; moved = lit≤ tt }, tt)
-      )
+        (record { from = refl; step = refl; live = refl; asked = refl; moved = lit≤ tt }, tt),
+      ),
     );
     own = transfers_replies;
   };

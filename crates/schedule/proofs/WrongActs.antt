@@ -4,10 +4,9 @@ use Rattle.bdev.specs.DriverState.{DriverState}
 use Rattle.policy.specs.declared.Policy.{Policy}
 use Rattle.policy.specs.Policy.{default_policy}
 use Rattle.policy.specs.Watch.{driver}
-use Rattle.message.specs.declared.BlockRequest.{BlockRequest}
 use Rattle.message.specs.declared.Kind.TheVariants.{Write}
 use Rattle.marks.specs.declared.Cause.TheVariants.{Exit, Complaint}
-use Rattle.marks.specs.Marks.{Mark, Started, Answered, Issued, Flush, GaveUp, Fault}
+use Rattle.marks.specs.Marks.{Mark, Started, Answered, Issued, GaveUp, Fault}
 use Rattle.schedule.specs.declared.Sent.{Sent}
 use Rattle.schedule.specs.declared.Event.{Event}
 use Rattle.schedule.specs.declared.Event.TheVariants as event
@@ -15,7 +14,7 @@ use Rattle.schedule.specs.Groups.{Group}
 use Rattle.schedule.specs.Justified.{Justified}
 use Rattle.schedule.proofs.WorkedRuns.{waits}
 use Rattle.schedule.proofs.RightRun.{bad_reply}
-use Rattle.schedule.proofs.Small.{client, stat_root, issued_to, answer_of, replied, supply}
+use Rattle.schedule.proofs.Small.{client, stat_root, issued_to, replied, supply}
 
 -- a further request
 abbrev further : Mark

@@ -1,5 +1,5 @@
 -- Runs that no drivers can make: each is refused by the clause that its proof names.
-use Rattle.std.specs.Prelude.{◌≡◌, ◌⊎◌, ◌≤◌, ◌*◌, ℕ, List, [], ◌∷◌, true, false, Some, None, Ok, refl}
+use Rattle.std.specs.Prelude.{◌≡◌, ◌≤◌, ◌*◌, ℕ, List, [], ◌∷◌, true, false, Some, Ok}
 use Rattle.std.proofs.Common.{ap, arith, inl, inr}
 use Rattle.message.specs.declared.BlockReply.{BlockReply}
 use Rattle.message.specs.declared.BlockRequest.{BlockRequest}
@@ -17,7 +17,7 @@ use Rattle.schedule.specs.Drivers.{TookItsOwn}
 use Rattle.schedule.specs.Replies.{RepliesOf}
 use Rattle.schedule.specs.Justified.{Justified}
 use Rattle.schedule.proofs.WorkedRuns.{waits}
-use Rattle.schedule.proofs.Small.{client, stat_root, inode_block, issued_to, answer_of, replied, idle, done, working, supply}
+use Rattle.schedule.proofs.Small.{client, stat_root, inode_block, issued_to, answer_of, replied, idle, working, supply}
 
 -- a write of so many bytes
 abbrev write_of : ℕ → ℕ → BlockRequest
@@ -41,7 +41,7 @@ backwards : (left : ℕ)
     (record { reply = written_of 2 512; place = 1 } ∷ record { reply = written_of 1 512; place = 2 } ∷ []) (done_two ∷ []) left → ⊥
 backwards left run =
     let replies : RepliesOf (marks_of ((event.Step 1, []) ∷ (event.Step 1, []) ∷ two_issued 512))
-        (record { reply = written_of 2 512; place = 1 } ∷ record { reply = written_of 1 512; place = 2 } ∷ []) 1 done_two = run.replies_stand.own 1 in
+    (record { reply = written_of 2 512; place = 1 } ∷ record { reply = written_of 1 512; place = 2 } ∷ []) 1 done_two = run.replies_stand.own 1 in
     let h : false ≡ true = replies.rising in cc
 
 -- A read of two sectors is answered whole after one step of its driver.
@@ -85,7 +85,7 @@ at_work_on_another : (sent : List Sent) (left : ℕ)
     (record working { work = Some (record { request = write_of 1 1024; moved = λ k. false; got = [] }) } ∷ []) left → ⊥
 at_work_on_another sent left run =
     let own : TookItsOwn (marks_of ((event.Step 1, []) ∷ waits)) 1
-        (record working { work = Some (record { request = write_of 1 1024; moved = λ k. false; got = [] }) }) = run.drivers_stand.took 1 in
+    (record working { work = Some (record { request = write_of 1 1024; moved = λ k. false; got = [] }) }) = run.drivers_stand.took 1 in
     other_request own.work.1
 
 -- Driver 1 took id 2 and is at work on id 1.
@@ -94,7 +94,7 @@ at_work_on_an_older : (sent : List Sent) (left : ℕ)
     (record done_two { work = Some (record { request = write_of 1 512; moved = λ k. false; got = [] }) } ∷ []) left → ⊥
 at_work_on_an_older sent left run =
     let own : TookItsOwn (marks_of ((event.Step 1, []) ∷ two_issued 512)) 1
-        (record done_two { work = Some (record { request = write_of 1 512; moved = λ k. false; got = [] }) }) = run.drivers_stand.took 1 in
+    (record done_two { work = Some (record { request = write_of 1 512; moved = λ k. false; got = [] }) }) = run.drivers_stand.took 1 in
     let h : ◌≡◌ {A = ℕ} 1 2 = own.work.0 in omega arith
 
 -- how many ranges the first of these drivers has

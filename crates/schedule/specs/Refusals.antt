@@ -1,7 +1,8 @@
 -- When a run is refused before its first event, and why.
-use Rattle.std.specs.Prelude.{◌≡◌, ◌≢◌, ◌≤◌, ◌%◌, ℕ, List, [], length, nat_lt, if◌then◌else◌, Option, Some, None}
+use Rattle.std.specs.Prelude.{◌≡◌, ◌≢◌, ◌≤◌, ◌%◌, ℕ, List, [], length, nat_lt, if◌then◌else◌, Option, Some, None, Result, Ok, Err}
 use Rattle.media.specs.declared.MediaRefusal.{MediaRefusal}
 use Rattle.media.specs.declared.MediaRefusal.TheVariants.{NotWholeSectors, TooLarge}
+use Rattle.partition.specs.declared.PartitionRefusal.{PartitionRefusal}
 use Rattle.volume.specs.declared.Finding.{Finding}
 use Rattle.volume.specs.Verdict.{Verdict, Clean, Found, verdict_of}
 use Rattle.bdev.specs.DriverState.{DriverState, range_while_fresh}
@@ -10,12 +11,17 @@ use Rattle.policy.specs.Policy.{IsAllowed}
 use Rattle.schedule.specs.Groups.{Each}
 use Rattle.marks.specs.Opening.{Range, volume_bytes}
 
--- What a run is started with: why the image makes no media, if so (want of memory is no reason here); the range of the minor, where
--- the partition table is read and has one there of MINIX's type (minor 0 is the whole media, of which no table is read); the verdict
--- of the check on the volume in that range; the setup; the drivers handed in.
+-- why a minor has no volume: the partition table is refused, or it has no partition of MINIX's type there
+pub data NoPlace : Type 0 where
+  BadTable : (refusal : PartitionRefusal) → NoPlace
+  NoPartition : NoPlace
+
+-- What a run is started with: why the image makes no media, if so (want of memory is no reason here); the range of the minor, or why
+-- it has none (minor 0 is the whole media, of which no table is read); the verdict of the check on the volume in that range; the
+-- setup; the drivers handed in.
 pub record Start : Type 0 where
   pub media : Option MediaRefusal
-  pub range : Option Range
+  pub place : Result Range NoPlace
   pub verdict : Verdict
   pub setup : Setup
   pub drivers : List DriverState
@@ -26,19 +32,19 @@ media_refusal_of image =
     if nat_lt 0 (length image % 512) then Some NotWholeSectors else if nat_lt 67108864 (length image) then Some TooLarge else None
 
 -- the verdict on the volume in a range of the image; where there is no range, no volume is looked at
-abbrev pub verdict_in : List ℕ → Option Range → Verdict
-verdict_in image None = Clean
-verdict_in image (Some range) = verdict_of (volume_bytes range image)
+abbrev pub verdict_in : List ℕ → Result Range NoPlace → Verdict
+verdict_in image (Err why) = Clean
+verdict_in image (Ok range) = verdict_of (volume_bytes range image)
 
--- the start of a run over this image, the range of the minor being given
-abbrev pub start_of : List ℕ → Option Range → Setup → List DriverState → Start
-start_of image range setup drivers =
-    record { media = media_refusal_of image; range = range; verdict = verdict_in image range; setup = setup; drivers = drivers }
+-- the start of a run over this image, the place of the minor's volume being given
+abbrev pub start_of : List ℕ → Result Range NoPlace → Setup → List DriverState → Start
+start_of image place setup drivers =
+    record { media = media_refusal_of image; place = place; verdict = verdict_in image place; setup = setup; drivers = drivers }
 
 -- why a run is refused
 pub data Refusal : Type 0 where
   NotMedia : (refusal : MediaRefusal) → Refusal
-  NoVolume : Refusal
+  Partition : (why : NoPlace) → Refusal
   NotClean : (finding : Finding) → Refusal
   BadSetup : Refusal
   NoDriver : Refusal
@@ -46,7 +52,7 @@ pub data Refusal : Type 0 where
 -- the numbers of the refusals
 abbrev pub run_refusal_number : Refusal → ℕ
 run_refusal_number (NotMedia refusal) = 1
-run_refusal_number NoVolume = 2
+run_refusal_number (Partition why) = 2
 run_refusal_number (NotClean finding) = 3
 run_refusal_number BadSetup = 4
 run_refusal_number NoDriver = 5
@@ -61,12 +67,12 @@ pub record IsGoodSetup (setup : Setup) (range : Range) (drivers : List DriverSta
 -- the image makes a media, on which the minor's volume lies in this range
 pub record HasVolume (start : Start) (range : Range) : Type 0 where
   pub media : start.media ≡ None
-  pub range_is : start.range ≡ Some range
+  pub range_is : start.place ≡ Ok range
 
 -- a run is refused for the first of these that holds, in the order of their numbers
 abbrev pub IsRefusedFor : Start → Refusal → Type 0
 IsRefusedFor start (NotMedia refusal) = start.media ≡ Some refusal
-IsRefusedFor start NoVolume = (start.media ≡ None) × (start.range ≡ None)
+IsRefusedFor start (Partition why) = (start.media ≡ None) × (start.place ≡ Err why)
 IsRefusedFor start (NotClean finding) =
     (range : Range) × HasVolume start range × (start.verdict ≡ Found finding)
 IsRefusedFor start BadSetup =
