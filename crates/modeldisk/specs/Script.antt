@@ -1,5 +1,5 @@
 -- The script of a driver's faults.
-use Rattle.std.specs.Prelude.{ℕ, ◌+◌, Bool, true, false, if◌then◌else◌, ◌&&◌, ◌==◌, List, find, option_map, Option}
+use Rattle.std.specs.Prelude.{ℕ, ◌+◌, Bool, true, false, if◌then◌else◌, ◌&&◌, ◌==◌, List, find, option_map, Option, Some, None}
 use Rattle.media.specs.Contents.{MediaState}
 use Rattle.bdev.specs.declared.Accept.{Accept}
 use Rattle.bdev.specs.declared.Accept.TheVariants.{Taken, Busy, Old}
@@ -11,7 +11,8 @@ use Rattle.modeldisk.specs.declared.fault.FaultKind.{FaultKind}
 use Rattle.modeldisk.specs.declared.scripted.Inner.{Inner}
 use Rattle.modeldisk.specs.declared.scripted.Inner.TheVariants.{Ram, Model}
 use Rattle.modeldisk.specs.declared.scripted.ScriptedDriver.{ScriptedDriver}
-use Rattle.modeldisk.specs.Mover.{state_of}
+use Rattle.modeldisk.specs.Mover.{left_of, state_of}
+use Rattle.modeldisk.specs.Order.{arm_after}
 use Rattle.modeldisk.specs.Faults.{StepsBy}
 
 -- the state of the inner driver
@@ -31,6 +32,15 @@ scripted_state d = state_of d.mover
 abbrev pub has_arm : Inner → Bool
 has_arm (Ram d) = false
 has_arm (Model d) = true
+
+-- where the arm of the inner driver stands
+abbrev pub inner_arm : Inner → ℕ
+inner_arm (Ram d) = d.mover.arm
+inner_arm (Model d) = d.mover.arm
+
+-- where the arm stands
+abbrev pub scripted_arm : ScriptedDriver → ℕ
+scripted_arm d = d.mover.arm
 
 -- where the sweep over a request that is taken begins
 abbrev pub sweep_start : ScriptedDriver → ℕ
@@ -56,9 +66,18 @@ counted Old s = s
 abbrev pub due_in : List Fault → ℕ → ℕ → Option FaultKind
 due_in faults request done = option_map (λ (f : Fault). f.kind) (find (λ (f : Fault). (f.request == request) && (f.after == done)) faults)
 
+-- the fault of the script for the request taken last, once so many of its sectors were moved
+abbrev pub due_at : Script → ℕ → Option FaultKind
+due_at s done = due_in s.faults s.taken done
+
 -- the fault that is due at the next step, where a request is in work
 abbrev pub due_of : ScriptedDriver → Option FaultKind
-due_of d = due_in d.faults.items d.taken d.mover.done
+due_of d = due_at (script_of d) d.mover.done
+
+-- the arm after a step with this fault due, or none: a fault moves no sector
+abbrev pub arm_with : Option FaultKind → Mover → MediaState → ℕ → ℕ
+arm_with None d m g = arm_after (left_of d) m g d.arm
+arm_with (Some kind) d m g = d.arm
 
 -- a step of a driver with this fault due, or none; nothing is due while no request is in work
 abbrev pub FollowsScript : Option FaultKind → Mover → MediaState → ℕ → Step → Mover → Type 0

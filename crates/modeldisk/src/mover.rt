@@ -107,6 +107,7 @@ impl Mover {
         requires { IsFew self.old }
         ensures keeps { AcceptKeeps (state_of self.old) request result (state_of self.new) }
         ensures order { result ≡ Accept.Taken → left_of self.new ≡ order_in from (plan (ranges_of self.old.table) request) }
+        ensures done { result ≡ Accept.Taken → self.new.done ≡ 0 }
         ensures arm { self.new.arm ≡ self.old.arm }
         ensures few { IsFew self.new }
     {
@@ -199,6 +200,7 @@ impl Mover {
         requires { IsFew self.old }
         ensures keeps { StepKeeps (state_of self.old) media.old generation result (state_of self.new) media.new }
         ensures fault { StepsBy self.old.busy (Some kind) self.old media.old generation result self.new }
+        ensures arm { self.new.arm ≡ self.old.arm }
         ensures last { self.new.last ≡ self.old.last }
         ensures few { IsFew self.new }
     {

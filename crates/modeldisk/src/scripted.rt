@@ -34,12 +34,13 @@ pub struct ScriptedDriver {
 }
 
 impl ScriptedDriver {
-    ghost use Rattle.modeldisk.specs.Script.{due_of, has_arm, inner_state, script_of, scripted_state};
+    ghost use Rattle.modeldisk.specs.Script.{due_of, has_arm, inner_arm, inner_state, script_of, scripted_arm, scripted_state};
 
     /// The inner driver with a script of faults.
     pub fn new(inner: Inner, faults: Vec<Fault>) -> ScriptedDriver
         ensures state { scripted_state result ≡ inner_state inner }
         ensures script { script_of result ≡ record { faults = faults.items; taken = 0; sweeps = has_arm inner } }
+        ensures arm { scripted_arm result ≡ inner_arm inner }
     {
         let (mover, sweeps) = match inner {
             Inner::Ram(driver) => (driver.mover, false),
@@ -64,16 +65,18 @@ impl ScriptedDriver {
 }
 
 impl BlockDriver for ScriptedDriver {
-    ghost use Rattle.modeldisk.specs.Script.{counted, due_of, mover_of, script_of, scripted_state, sweep_start, FollowsScript};
+    ghost use Rattle.modeldisk.specs.Script.{arm_with, counted, due_at, due_of, mover_of, script_of, scripted_arm, scripted_state, sweep_start, FollowsScript};
 
     ghost state = { scripted_state };
 
-    /// A request that is taken has its sectors moved as the inner driver would.
+    /// A request that is taken has its sectors moved as the inner driver would, none of them yet.
     fn accept(&mut self, request: BlockRequest) -> Accept
         ensures keeps { AcceptKeeps (scripted_state self.old) request result (scripted_state self.new) }
         ensures driver { IsDriver (scripted_state self.new) }
         ensures order { result ≡ Accept.Taken → left_of (mover_of self.new) ≡ order_in (sweep_start self.old) (plan (ranges_of (mover_of self.old).table) request) }
         ensures script { script_of self.new ≡ counted result (script_of self.old) }
+        ensures due { result ≡ Accept.Taken → due_of self.new ≡ due_at (script_of self.new) 0 }
+        ensures arm { scripted_arm self.new ≡ scripted_arm self.old }
     {
         let from = if self.sweeps { self.mover.arm } else { 0 };
         let accept = self.mover.accept(request, from);
@@ -95,12 +98,13 @@ impl BlockDriver for ScriptedDriver {
         self.mover.bad()
     }
 
-    /// Plays the fault that is due, or moves the next sector.
+    /// Plays the fault that is due, or moves the next sector; the arm stands after a sector that was moved.
     fn step(&mut self, media: &mut Media, generation: u32) -> Step
         ensures keeps { StepKeeps (scripted_state self.old) media.old generation result (scripted_state self.new) media.new }
         ensures driver { IsDriver (scripted_state self.new) }
         ensures fault { FollowsScript (due_of self.old) (mover_of self.old) media.old generation result (mover_of self.new) }
         ensures script { script_of self.new ≡ script_of self.old }
+        ensures arm { scripted_arm self.new ≡ arm_with (due_of self.old) (mover_of self.old) media.old generation }
     {
         match self.due() {
             None => self.mover.step(media, generation),

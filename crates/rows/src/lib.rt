@@ -6,8 +6,6 @@ mod backoff;
 #[cfg(test)]
 mod deaths;
 #[cfg(test)]
-mod drivers;
-#[cfg(test)]
 mod partitions;
 #[cfg(test)]
 mod plays;

@@ -25,6 +25,8 @@ pub mod Spaced
 pub mod NeedGrows
 pub mod CallsKeep
 pub mod SpacedCalls
+pub mod OneMore
+pub mod OneMoreCalls
 pub mod OtherSessions
 pub mod SameName
 pub mod Listing

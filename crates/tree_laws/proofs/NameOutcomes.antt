@@ -15,6 +15,11 @@ use Rattle.tree.specs.NameCalls.{with_entry, without_entry, is_empty, link, mkdi
 use Rattle.tree_laws.proofs.Steps.{passed, was_there}
 use Rattle.tree_laws.proofs.Outcomes.{Effects, IsClosed, with_zones, IsFree, NoInodeFree, at_free_inode, plain_refuse, plain_or, plain_node, plain_read, plain_walk_parts, plain_parent_walk}
 
+-- the tree with a new directory
+abbrev pub with_new_directory : Tree → User → ℕ → ℕ → Place → ℕ → Tree
+with_new_directory t user now mode place n =
+    on_node (with_entry (with_node t n (Some (new_node now user mode 2 (empty_directory place.directory)))) now place n) place.directory (more_links 1)
+
 module _ (g : Geometry) (t : Tree) (user : User) (now : ℕ) (P : Effects → Type 0) (steps : IsClosed P) where
   -- A link that is made.
   pub record IsLinkMade (new : List ℕ) (n : ℕ) (node : Node) (place : Place) : Type 0 where
@@ -80,6 +85,16 @@ module _ (g : Geometry) (t : Tree) (user : User) (now : ℕ) (P : Effects → Ty
           free = passed _ _ u free;
         })))))))))))
 
+  -- What mkdir has asked before it takes an inode.
+  pub record IsDirectoryAsked (path : List ℕ) (mode : ℕ) (place : Place) (above : Node) : Type 0 where
+    pub fits : mode ≤ most_permissions
+    pub parts : List Name
+    pub read : read_path path ≡ Ok parts
+    pub walked : parent_walk t user parts ≡ Ok place
+    pub free : is_taken place parts ≡ false
+    pub parent : t.nodes place.directory ≡ Some above
+    pub few : above.links < most_links
+
   -- A directory that is made.
   pub record IsDirectoryMade (path : List ℕ) (mode n : ℕ) (place : Place) (above : Node) : Type 0 where
     pub fits : mode ≤ most_permissions
@@ -91,17 +106,11 @@ module _ (g : Geometry) (t : Tree) (user : User) (now : ℕ) (P : Effects → Ty
     pub few : above.links < most_links
     pub inode : IsFree g t n
 
-  module _ (path : List ℕ) (mode : ℕ) (full : NoInodeFree g t → P (λ z. Err ENOSPC)) (made : (n : ℕ) (place : Place) (parent : Node) → IsDirectoryMade path mode n place parent
-      → P (λ z. if_it_fits (with_zones z g) done (on_node
-      (with_entry (with_node t n (Some (new_node now user mode 2 (empty_directory place.directory)))) now place n)
-      place.directory (more_links 1)))) where
-    abbrev put_directory : Place → ℕ → Effects
-    put_directory place n z = if_it_fits (with_zones z g) done (on_node
-        (with_entry (with_node t n (Some (new_node now user mode 2 (empty_directory place.directory)))) now place n)
-        place.directory (more_links 1))
-
+  -- Up to the inode, over any volumes: what holds of a directory that asks for an inode holds of the call.
+  module _ (volumes : ℕ → Geometry) (path : List ℕ) (mode : ℕ) (asks : (place : Place) (parent : Node) → IsDirectoryAsked path mode place parent
+      → P (λ z. free_inode (volumes z) t >>= λ n. if_it_fits (volumes z) done (with_new_directory t user now mode place n))) where
     abbrev below_few : Place → Effects
-    below_few place z = free_inode g t >>= λ n. put_directory place n z
+    below_few place z = free_inode (volumes z) t >>= λ n. if_it_fits (volumes z) done (with_new_directory t user now mode place n)
 
     abbrev below_writable : Place → Node → Effects
     below_writable place parent z = refuse_if (nat_le most_links parent.links) EMLINK >>= λ _. below_few place z
@@ -121,8 +130,8 @@ module _ (g : Geometry) (t : Tree) (user : User) (now : ℕ) (P : Effects → Ty
     abbrev below_mode : Effects
     below_mode z = read_path path >>= λ parts. below_parts parts z
 
-    pub mkdir_each : P (λ z. mkdir (with_zones z g) t user now path mode)
-    mkdir_each =
+    pub mkdir_up_to_inode : P (λ z. mkdir (volumes z) t user now path mode)
+    mkdir_up_to_inode =
         steps _ (refuse_if (nat_lt most_permissions mode) EINVAL) (λ _. below_mode) (plain_refuse _ _ refl) (λ x fits.
         steps _ (read_path path) below_parts (plain_read path) (λ parts read.
         steps _ (parent_walk t user parts) (below_place parts) (plain_parent_walk t user parts) (λ place walked.
@@ -130,8 +139,7 @@ module _ (g : Geometry) (t : Tree) (user : User) (now : ℕ) (P : Effects → Ty
         steps _ (node_at t place.directory) (below_parent place) (plain_node t place.directory) (λ parent at_parent.
         steps _ (refuse_if (not (may_access user parent to_write)) EACCES) (λ _. below_writable place parent) (plain_refuse _ _ refl) (λ _ _.
         steps _ (refuse_if (nat_le most_links parent.links) EMLINK) (λ _. below_few place) (plain_refuse _ _ refl) (λ u few.
-        at_free_inode g t P (put_directory place) full (λ n inode.
-        made n place parent (record {
+        asks place parent (record {
           fits = ltb-false most_permissions mode (passed _ _ x fits);
           parts = parts;
           read = read;
@@ -139,8 +147,24 @@ module _ (g : Geometry) (t : Tree) (user : User) (now : ℕ) (P : Effects → Ty
           free = passed _ _ y free;
           parent = was_there _ _ _ at_parent;
           few = leb-false most_links parent.links (passed _ _ u few);
-          inode = inode;
-        })))))))))
+        }))))))))
+
+  pub mkdir_each : (path : List ℕ) (mode : ℕ) → (NoInodeFree g t → P (λ z. Err ENOSPC))
+      → ((n : ℕ) (place : Place) (parent : Node) → IsDirectoryMade path mode n place parent → P (λ z. if_it_fits (with_zones z g) done (with_new_directory t user now mode place n)))
+      → P (λ z. mkdir (with_zones z g) t user now path mode)
+  mkdir_each path mode full made =
+      mkdir_up_to_inode (λ z. with_zones z g) path mode (λ place parent asked.
+      at_free_inode g t P (λ n z. if_it_fits (with_zones z g) done (with_new_directory t user now mode place n)) full (λ n inode.
+      made n place parent (record {
+        fits = asked.fits;
+        parts = asked.parts;
+        read = asked.read;
+        walked = asked.walked;
+        free = asked.free;
+        parent = asked.parent;
+        few = asked.few;
+        inode = inode;
+      })))
 
   -- A directory that goes.
   pub record IsDirectoryGone (n : ℕ) (node : Node) (place : Place) : Type 0 where

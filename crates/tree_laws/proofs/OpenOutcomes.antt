@@ -18,6 +18,11 @@ use Rattle.tree_laws.proofs.Search.{free_place_is}
 use Rattle.tree_laws.proofs.Steps.{passed, was_there}
 use Rattle.tree_laws.proofs.Outcomes.{Effects, IsClosed, with_zones, IsFree, NoInodeFree, at_free_inode, plain_refuse, plain_free_place, plain_node, plain_read, plain_look_up}
 
+-- the tree with a new file, open
+abbrev pub with_new_file : Tree → User → ℕ → ℕ → ℕ → Slot → Place → ℕ → Tree
+with_new_file t user now flags mode slot place n =
+    with_open (with_entry (with_node t n (Some (new_node now user mode 1 empty_file))) now place n) slot n flags
+
 module _ (g : Geometry) (t : Tree) (user : User) (now session : ℕ) (path : List ℕ) (flags mode : ℕ) (P : Effects → Type 0) (steps : IsClosed P) where
   -- What open has asked before it looks at what it found.
   pub record IsAsked (slot : Slot) (parts : List Name) (found : Found) : Type 0 where
@@ -36,18 +41,19 @@ module _ (g : Geometry) (t : Tree) (user : User) (now session : ℕ) (path : Lis
     pub at_inode : t.nodes n ≡ Some node
     pub not_a_directory : (is_dir node && writes flags) ≡ false
 
-  -- A name that is missing.
+  -- A name that is missing, and an inode for it.
   pub record IsMissing (slot : Slot) (place : Place) (n : ℕ) : Type 0 where
     pub parts : List Name
     pub asked : IsAsked slot parts (is_missing place)
     pub inode : IsFree g t n
 
-  module _ (full : NoInodeFree g t → P (λ z. Err ENOSPC))
-      (there : (slot : Slot) (n : ℕ) (node : Node) → IsThere slot n node → P (λ z. Ok (descriptor slot.fd, with_open (after_truncate_flag g t now flags n node) slot n flags)))
-      (missing : (slot : Slot) (place : Place) (n : ℕ) → IsMissing slot place n
-      → P (λ z. if_it_fits (with_zones z g) (descriptor slot.fd) (with_open (with_entry (with_node t n (Some (new_node now user mode 1 empty_file))) now place n) slot n flags))) where
+  -- Up to the inode, over any volumes: what holds of a node that is there, and of a missing name that asks for an inode, holds of the call.
+  module _ (volumes : ℕ → Geometry)
+      (there : (slot : Slot) (n : ℕ) (node : Node) → IsThere slot n node → P (λ z. Ok (descriptor slot.fd, with_open (after_truncate_flag (volumes z) t now flags n node) slot n flags)))
+      (asks : (slot : Slot) (place : Place) (parts : List Name) → IsAsked slot parts (is_missing place)
+      → P (λ z. free_inode (volumes z) t >>= λ n. if_it_fits (volumes z) (descriptor slot.fd) (with_new_file t user now flags mode slot place n))) where
     abbrev open_node : Slot → ℕ → Node → Effects
-    open_node slot n node z = Ok (descriptor slot.fd, with_open (after_truncate_flag g t now flags n node) slot n flags)
+    open_node slot n node z = Ok (descriptor slot.fd, with_open (after_truncate_flag (volumes z) t now flags n node) slot n flags)
 
     abbrev may_open : Slot → ℕ → Node → Effects
     may_open slot n node z = refuse_if ((reads flags && not (may_access user node to_read)) || (writes flags && not (may_access user node to_write))) EACCES >>= λ _. open_node slot n node z
@@ -58,11 +64,8 @@ module _ (g : Geometry) (t : Tree) (user : User) (now session : ℕ) (path : Lis
     abbrev from_node : Slot → ℕ → Effects
     from_node slot n z = node_at t n >>= λ node. at_node slot n node z
 
-    abbrev make : Slot → Place → ℕ → Effects
-    make slot place n z = if_it_fits (with_zones z g) (descriptor slot.fd) (with_open (with_entry (with_node t n (Some (new_node now user mode 1 empty_file))) now place n) slot n flags)
-
     abbrev take_inode : Slot → Place → Effects
-    take_inode slot place z = free_inode g t >>= λ n. make slot place n z
+    take_inode slot place z = free_inode (volumes z) t >>= λ n. if_it_fits (volumes z) (descriptor slot.fd) (with_new_file t user now flags mode slot place n)
 
     abbrev at_parent : Slot → Place → Node → Effects
     at_parent slot place parent z = refuse_if (not (may_access user parent to_write)) EACCES >>= λ _. take_inode slot place z
@@ -70,7 +73,7 @@ module _ (g : Geometry) (t : Tree) (user : User) (now session : ℕ) (path : Lis
     abbrev from_place : Slot → Place → Effects
     from_place slot place z = node_at t place.directory >>= λ parent. at_parent slot place parent z
 
-    found_each : (slot : Slot) (parts : List Name) (found : Found) → IsAsked slot parts found → P (λ z. open_found (with_zones z g) t user now slot flags mode found)
+    found_each : (slot : Slot) (parts : List Name) (found : Found) → IsAsked slot parts found → P (λ z. open_found (volumes z) t user now slot flags mode found)
     found_each slot parts (is_there n) asked =
         steps _ (refuse_if (creates flags && is_exclusive flags) EEXIST) (λ _. from_node slot n) (plain_refuse _ _ refl) (λ _ _.
         steps _ (node_at t n) (at_node slot n) (plain_node t n) (λ node node_is.
@@ -81,13 +84,13 @@ module _ (g : Geometry) (t : Tree) (user : User) (now session : ℕ) (path : Lis
         steps _ (refuse_if (not (creates flags)) ENOENT) (λ _. from_place slot place) (plain_refuse _ _ refl) (λ _ _.
         steps _ (node_at t place.directory) (at_parent slot place) (plain_node t place.directory) (λ parent _.
         steps _ (refuse_if (not (may_access user parent to_write)) EACCES) (λ _. take_inode slot place) (plain_refuse _ _ refl) (λ _ _.
-        at_free_inode g t P (make slot place) full (λ n inode. missing slot place n (record { parts = parts; asked = asked; inode = inode })))))
+        asks slot place parts asked)))
 
     abbrev slot_at : ℕ → ℕ → Slot
     slot_at fd k = record { session = session; fd = fd; number = k }
 
     abbrev at_found : ℕ → ℕ → Found → Effects
-    at_found fd k found z = open_found (with_zones z g) t user now (slot_at fd k) flags mode found
+    at_found fd k found z = open_found (volumes z) t user now (slot_at fd k) flags mode found
 
     abbrev at_parts : ℕ → ℕ → List Name → Effects
     at_parts fd k parts z = look_up t user parts >>= λ found. at_found fd k found z
@@ -101,8 +104,8 @@ module _ (g : Geometry) (t : Tree) (user : User) (now session : ℕ) (path : Lis
     abbrev at_flags : Effects
     at_flags z = free_place (t.descriptors session) most_descriptors EMFILE >>= λ fd. at_descriptor fd z
 
-    pub open_each : P (λ z. open_path (with_zones z g) t user now session path flags mode)
-    open_each =
+    pub open_up_to_inode : P (λ z. open_path (volumes z) t user now session path flags mode)
+    open_up_to_inode =
         steps _ (refuse_if (bad_flags flags || nat_lt most_permissions mode) EINVAL) (λ _. at_flags) (plain_refuse _ _ refl) (λ x good.
         steps _ (free_place (t.descriptors session) most_descriptors EMFILE) at_descriptor (plain_free_place _ _ _ refl) (λ fd free_fd.
         steps _ (free_place t.open_files most_open_files ENFILE) (at_slot fd) (plain_free_place _ _ _ refl) (λ k free_k.
@@ -118,3 +121,12 @@ module _ (g : Geometry) (t : Tree) (user : User) (now session : ℕ) (path : Lis
           read = read;
           looked = looked;
         }))))))
+
+  pub open_each : (NoInodeFree g t → P (λ z. Err ENOSPC))
+      → ((slot : Slot) (n : ℕ) (node : Node) → IsThere slot n node → P (λ z. Ok (descriptor slot.fd, with_open (after_truncate_flag g t now flags n node) slot n flags)))
+      → ((slot : Slot) (place : Place) (n : ℕ) → IsMissing slot place n → P (λ z. if_it_fits (with_zones z g) (descriptor slot.fd) (with_new_file t user now flags mode slot place n)))
+      → P (λ z. open_path (with_zones z g) t user now session path flags mode)
+  open_each full there missing =
+      open_up_to_inode (λ z. with_zones z g) there (λ slot place parts asked.
+      at_free_inode g t P (λ n z. if_it_fits (with_zones z g) (descriptor slot.fd) (with_new_file t user now flags mode slot place n)) full
+      (λ n inode. missing slot place n (record { parts = parts; asked = asked; inode = inode })))

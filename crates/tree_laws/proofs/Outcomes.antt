@@ -145,7 +145,7 @@ all_taken g t h n from to = some_or_none (t.nodes n) (elim (cases_Bool (is_none 
 ])
 
 -- an inode is free, or none is
-free_inode_is : (g : Geometry) (t : Tree) → ((free_inode g t ≡ Err ENOSPC) × NoInodeFree g t) ⊎ ((n : ℕ) × (free_inode g t ≡ Ok n) × IsFree g t n)
+pub free_inode_is : (g : Geometry) (t : Tree) → ((free_inode g t ≡ Err ENOSPC) × NoInodeFree g t) ⊎ ((n : ℕ) × (free_inode g t ≡ Ok n) × IsFree g t n)
 free_inode_is g t = let p = λ (j : ℕ). is_none (t.nodes (1 + j)) in elim (cases_Bool (some_below p g.inodes)) [
   | inl s ↦
       let k = least_below p g.inodes in

@@ -32,14 +32,14 @@ pub record IsSpaced (g : Geometry) (t : Tree) (takes makes : Bool) (F : Effects)
   pub fits : (made : Answer × Tree) → F g.zones ≡ Ok made → zones_used g t ≤ data_zones g → zones_used g made.1 ≤ data_zones g
   pub refused : (z : ℕ) (made : Answer × Tree) → F z ≡ Ok made → data_zones g < zones_used g made.1 → zones_used g t ≤ data_zones g → F g.zones ≡ Err ENOSPC
   pub why : F g.zones ≡ Err ENOSPC → (takes ≡ true) × (IsTooBigIn g F ⊎ ((makes ≡ true) × NoInodeFree g t))
-  pub none_made : NoInodeFree g t → (z : ℕ) (made : Answer × Tree) → F z ≡ Ok made → IsNoMore made.1 t
+  pub none_made : (makes ≡ true → NoInodeFree g t) → (z : ℕ) (made : Answer × Tree) → F z ≡ Ok made → IsNoMore made.1 t
 
 -- an effect that refuses
 abbrev refusal : Errno → Effect
 refusal e = Err e
 
 -- a step that isn't refused for want of room doesn't answer ENOSPC
-plain_never : (e : Errno) → not (is_enospc e) ≡ true → refusal e ≡ refusal ENOSPC → ⊥
+pub plain_never : (e : Errno) → not (is_enospc e) ≡ true → refusal e ≡ refusal ENOSPC → ⊥
 plain_never e plain h = not_true (sym (not-true _ plain) ∙ ap lacks_room h)
   where
     lacks_room : Effect → Bool
@@ -57,7 +57,7 @@ spaced_closed g t takes makes A (Err e) f plain h = record {
 }
 
 -- a success is no refusal
-ok_never : {A : Type 0} (x : A) (e : Errno) → Ok x ≡ Err e → ⊥
+pub ok_never : {A : Type 0} (x : A) (e : Errno) → Ok x ≡ Err e → ⊥
 ok_never x e h = not_refused e x (sym h)
 
 -- an effect that takes nothing
@@ -71,7 +71,7 @@ spaced_ok g t takes makes answer after less fewer = record {
 }
 
 -- one that is refused where its tree doesn't fit
-module _ (g : Geometry) (t : Tree) (makes : Bool) (answer : Answer) (after : Tree) (none : NoInodeFree g t → IsNoMore after t) where
+module _ (g : Geometry) (t : Tree) (makes : Bool) (answer : Answer) (after : Tree) (none : (makes ≡ true → NoInodeFree g t) → IsNoMore after t) where
   abbrev F : Effects
   F z = if_it_fits (with_zones z g) answer after
 

@@ -1,6 +1,5 @@
 -- What each client call does to the room on a volume.
 use Rattle.std.proofs.Common.{◌≡◌, ◌≤◌, ◌<◌, ℕ, Bool, true, false, refl, sym, ap, subst, ◌∙◌, arith, length}
-use mathlib.Core.Logic.{inl, inr}
 use Rattle.std.specs.Prelude.{Option, None, Some, is_some, IsTrue, Ok, Err, nat_le}
 use Rattle.std.proofs.lemmas.Bool.{cond_both}
 use Rattle.layout.specs.declared.Geometry.{Geometry}
@@ -19,7 +18,7 @@ use Rattle.tree.specs.FileCalls.{bytes_read, with_open, after_truncate_flag}
 use Rattle.tree.specs.Answers.{Answer, Effect, done, descriptor, some_bytes, wrote, position, node_is, names_are, room_is}
 use Rattle.tree.specs.Effects.{user_of, effect_in_session, effect_of, tree_after_call}
 use Rattle.tree.proofs.Maps.{not_true}
-use Rattle.tree_laws.specs.Room.{with_zones, NoInodeFree, may_take, may_make, EveryCallFits, TooBigIsRefused, EnospcMeans, FullMakesNone, OthersHaveRoom}
+use Rattle.tree_laws.specs.Room.{with_zones, NoInodeFree, may_take, may_make, EveryCallFits, TooBigIsRefused, FullMakesNone, OthersHaveRoom}
 use Rattle.tree_laws.proofs.Outcomes.{IsFree, plain_refuse}
 use Rattle.tree_laws.proofs.NodeOutcomes.{stat_each, chmod_each, chown_each, utime_each, truncate_each, unlink_each}
 use Rattle.tree_laws.proofs.FileOutcomes.{close_each, dup_each, fstat_each, readdir_each, seek_each, read_each, write_each, after_write}
@@ -108,7 +107,7 @@ module _ (g : Geometry) (sized : 0 < g.block_size) (t : Tree) (who : Who) (now :
       (λ slot n node is. let cut = cut_less flags.0 n node is.at_inode in
       spaced_ok g t true true (λ _. descriptor slot.fd) (with_open (after_truncate_flag g t now flags.0 n node) slot n flags.0) cut.0 cut.1)
       (λ slot place n is. spaced_fit g t true (descriptor slot.fd)
-      (with_open (with_entry (with_node t n (Some (new_node now (user_of who) mode 1 empty_file))) now place n) slot n flags.0) (λ full. never_free n is.inode full))
+      (with_open (with_entry (with_node t n (Some (new_node now (user_of who) mode 1 empty_file))) now place n) slot n flags.0) (λ full. never_free n is.inode (full refl)))
   call_spaced (Close fd) =
       close_each t who.session (IsSpaced g t false false) (spaced_closed g t false false) fd (λ found _.
       spaced_ok g t false false (λ _. done) (without_nameless (without_unused (less fd) found.0) found.1.inode) (closed_less fd found.0 found.1.inode)
@@ -142,7 +141,7 @@ module _ (g : Geometry) (sized : 0 < g.block_size) (t : Tree) (who : Who) (now :
       mkdir_each g t (user_of who) now (IsSpaced g t true true) (spaced_closed g t true true) path.now mode (spaced_full g t) (λ n place parent made.
       spaced_fit g t true done
       (on_node (with_entry (with_node t n (Some (new_node now (user_of who) mode 2 (empty_directory place.directory)))) now place n) place.directory (more_links 1))
-      (λ full. never_free n made.inode full))
+      (λ full. never_free n made.inode (full refl)))
   call_spaced (Rmdir path) =
       rmdir_each g t (user_of who) now (IsSpaced g t false false) (spaced_closed g t false false) path.now (λ n node place _.
       spaced_ok g t false false (λ _. done) (with_node (on_node (without_entry t now place) place.directory (fewer_links 1)) n None) (gone_less place n)
@@ -194,14 +193,7 @@ too_big_is_refused g t who now call is bound big = (effect_spaced g is.sized t w
 
 -- without an inode no node is made
 pub full_makes_none : FullMakesNone
-full_makes_none g t who now zones call made geometry full is = (effect_spaced g geometry.sized t who now call).none_made full zones made is
-
--- what ENOSPC means
-pub enospc_means : EnospcMeans
-enospc_means g t who now call geometry is = elim ((effect_spaced g geometry.sized t who now call).why is).1 [
-  | inl big ↦ inl (record { zones = big.zones; made = big.made; is_made = big.is_made; too_big = big.too_big })
-  | inr full ↦ inr full
-]
+full_makes_none g t who now zones call made geometry full is = (effect_spaced g geometry.sized t who now call).none_made (λ _. full) zones made is
 
 -- the calls that take none
 pub others_have_room : OthersHaveRoom

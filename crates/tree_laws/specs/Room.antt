@@ -1,5 +1,5 @@
 -- What the calls do to the room on a volume, and when they are refused for want of it.
-use Rattle.std.specs.Prelude.{◌≡◌, ◌≤◌, ◌<◌, ℕ, Bool, true, false, Ok, Err, IsTrue, is_some, ◌⊎◌}
+use Rattle.std.specs.Prelude.{◌≡◌, ◌≤◌, ◌<◌, ◌+◌, ℕ, Bool, true, false, None, Ok, Err, IsTrue, is_some, ◌⊎◌}
 use Rattle.layout.specs.declared.Geometry.{Geometry}
 use Rattle.layout.specs.Places.{IsGeometry}
 use Rattle.errno.specs.declared.Errno.TheVariants.{ENOSPC}
@@ -44,11 +44,36 @@ may_make (Open path flags mode) = true
 may_make (Mkdir path mode) = true
 may_make _ = false
 
--- A call is refused with ENOSPC for no other reason, but that it would make a node and no inode is free.
+-- a volume with one inode more, and with that many zones
+abbrev pub with_one_inode_more : ℕ → Geometry → Geometry
+with_one_inode_more z g = record g { zones = z; inodes = g.inodes + 1 }
+
+-- on a volume with one inode more, and some number of zones, the call makes a node
+pub record MakesWithOneMore (g : Geometry) (t : Tree) (who : Who) (now : ℕ) (call : Call) : Type 0 where
+  pub zones : ℕ
+  pub made : Answer × Tree
+  pub is_made : effect_of (with_one_inode_more zones g) t who now call ≡ Ok made
+  pub node : ℕ
+  pub is_there : IsTrue (is_some (made.1.nodes node))
+  pub is_new : t.nodes node ≡ None
+
+-- A call that would make a node with one inode more is refused with ENOSPC where none is free.
+abbrev pub FullIsRefused : Type 0
+FullIsRefused =
+    (g : Geometry) (t : Tree) (who : Who) (now : ℕ) (call : Call) → IsGeometry g → NoInodeFree g t
+    → MakesWithOneMore g t who now call → effect_of g t who now call ≡ Err ENOSPC
+
+-- no inode is free, and with one more, which no node has, the call would make a node
+pub record LacksInode (g : Geometry) (t : Tree) (who : Who) (now : ℕ) (call : Call) : Type 0 where
+  pub kind : may_make call ≡ true
+  pub full : NoInodeFree g t
+  pub makes : t.nodes (g.inodes + 1) ≡ None → MakesWithOneMore g t who now call
+
+-- A call is refused with ENOSPC for no other reason than that the tree would be too big or an inode is wanting.
 abbrev pub EnospcMeans : Type 0
 EnospcMeans =
     (g : Geometry) (t : Tree) (who : Who) (now : ℕ) (call : Call) → IsGeometry g → effect_of g t who now call ≡ Err ENOSPC
-    → IsTooBig g t who now call ⊎ ((may_make call ≡ true) × NoInodeFree g t)
+    → IsTooBig g t who now call ⊎ LacksInode g t who now call
 
 -- A call that succeeds where no inode is free makes no node, whatever zones there are.
 abbrev pub FullMakesNone : Type 0

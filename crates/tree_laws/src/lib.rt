@@ -3,7 +3,7 @@
 #![tactic(auto)]
 
 ghost use Rattle.tree_laws.specs.Keeps.{ChmodKeeps, ChownKeeps, UtimeKeeps, SeekKeeps, ReadKeeps, DupKeeps, CloseKeeps, WriteKeeps, TruncateKeeps, UnlinkKeeps, LinkKeeps, MkdirKeeps, RmdirKeeps, OpenKeeps, RenameKeeps, EveryCallKeeps};
-ghost use Rattle.tree_laws.specs.Room.{EveryCallFits, TooBigIsRefused, EnospcMeans, FullMakesNone, OthersHaveRoom};
+ghost use Rattle.tree_laws.specs.Room.{EveryCallFits, TooBigIsRefused, FullIsRefused, EnospcMeans, FullMakesNone, OthersHaveRoom};
 ghost use Rattle.tree_laws.specs.Sessions.{OtherSessionsStay, RenameOfSameStays, ReaddirLists, ReadGivesWritten};
 ghost use Rattle.tree_laws.specs.Order.{LinkOrder, OpenOrder, FoundOrder, RenameOrder};
 ghost use Rattle.tree_laws.specs.Zones.{NeedIsMonotone, NeedGrows, OnePageMore, PagesLetGo};
@@ -69,10 +69,11 @@ pub fn every_call_fits()
     ensures { EveryCallFits }
 {}
 
-/// ENOSPC is answered exactly where the tree would be too big for the volume, or a node is to be made and no inode is free. The
-/// calls that take no room never answer it.
+/// ENOSPC is answered exactly where the tree would be too big for the volume, or where no inode is free and with one more the call
+/// would make a node. The calls that take no room never answer it.
 pub fn enospc_is_exact()
     ensures too_big { TooBigIsRefused }
+    ensures no_inode { FullIsRefused }
     ensures means { EnospcMeans }
     ensures full { FullMakesNone }
     ensures others { OthersHaveRoom }

@@ -1,8 +1,12 @@
-use Rattle.tree_laws.proofs.SpacedCalls.{too_big_is_refused, enospc_means, full_makes_none, others_have_room}
+use Rattle.tree_laws.proofs.SpacedCalls.{too_big_is_refused, full_makes_none, others_have_room}
+use Rattle.tree_laws.proofs.OneMoreCalls.{full_is_refused, enospc_means}
 use Rattle.tree_laws.proofs.enospc_is_exact.Goals as goal
 
 pub returns-clause-too_big : goal.returns-clause-too_big
 returns-clause-too_big c = too_big_is_refused
+
+pub returns-clause-no_inode : goal.returns-clause-no_inode
+returns-clause-no_inode c = full_is_refused
 
 pub returns-clause-means : goal.returns-clause-means
 returns-clause-means c = enospc_means

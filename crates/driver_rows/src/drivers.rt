@@ -9,7 +9,7 @@ use std::process::Abort;
 use std::test::Fail;
 
 /// Media whose k-th sector holds 512 times the byte k.
-fn numbered(alloc: Global, sectors: u8) -> Result<Media, MediaRefusal> {
+pub fn numbered(alloc: Global, sectors: u8) -> Result<Media, MediaRefusal> {
     let mut bytes = Vec::new(alloc);
     for sector in 0..sectors {
         bytes.extend_from_slice(&[sector; 512])?;
@@ -23,7 +23,7 @@ fn zeros(alloc: Global, count: usize) -> Result<Vec<u8>, AllocError> {
 }
 
 /// A request; a write's bytes are all 200.
-fn request(id: u64, kind: Kind, minor: u8, position: u64, count: u32) -> BlockRequest {
+pub fn request(id: u64, kind: Kind, minor: u8, position: u64, count: u32) -> BlockRequest {
     BlockRequest {
         id,
         kind,
@@ -35,7 +35,7 @@ fn request(id: u64, kind: Kind, minor: u8, position: u64, count: u32) -> BlockRe
 }
 
 /// The outcome of a step that answered.
-fn outcome(step: &Step) -> Option<Result<u32, Errno>> {
+pub fn outcome(step: &Step) -> Option<Result<u32, Errno>> {
     match step {
         Step::Done(answer) => Some(answer.outcome),
         _ => None,
@@ -43,7 +43,7 @@ fn outcome(step: &Step) -> Option<Result<u32, Errno>> {
 }
 
 /// Steps until an answer comes, at most 20 times.
-fn run<D: BlockDriver>(
+pub fn run<D: BlockDriver>(
     driver: &mut D,
     media: &mut Media,
     generation: u32,
@@ -58,7 +58,7 @@ fn run<D: BlockDriver>(
 }
 
 /// The first byte of a sector under generation 0.
-fn first_byte(media: &Media, sector: u32) -> Option<u8> {
+pub fn first_byte(media: &Media, sector: u32) -> Option<u8> {
     match media.read_sector(0, sector) {
         Ok(bytes) => Some(bytes[0]),
         Err(_) => None,
