@@ -1,0 +1,44 @@
+//! Blocks in frames, as the layers of a file server see them: a trait, and the numbers and bytes in a block.
+#![tactic(auto)]
+
+pub mod blocks;
+pub mod laws;
+pub mod words;
+
+ghost use Rattle.std.specs.Prelude.{◌≡◌};
+
+pub use blocks::Blocks;
+use thiserror::Error;
+
+/// Why a call was cut. What would be read back after it isn't known.
+#[derive(Clone, Copy, Debug, PartialEq, Eq, Error)]
+pub enum Cut {
+    /// The device was given up.
+    #[error("Eio")]
+    Eio,
+    /// The link gives no message any more.
+    #[error("LinkEnded")]
+    LinkEnded,
+}
+
+/// Why a call on a volume ended early.
+#[derive(Clone, Copy, Debug, PartialEq, Eq, Error)]
+pub enum Halt {
+    /// It was cut.
+    #[error("{0}")]
+    Cut(Cut),
+    /// The volume isn't sound: a number that is no data zone's, an inode out of range, or a map without a free bit where one
+    /// is due.
+    #[error("Unsound")]
+    Unsound,
+}
+
+impl From<Cut> for Halt {
+    ghost use Rattle.store.specs.Halts.{cut_off};
+
+    ghost from_gives = { λ cut halt. halt ≡ cut_off cut };
+
+    fn from(cut: Cut) -> Halt {
+        Halt::Cut(cut)
+    }
+}
