@@ -1,0 +1,3 @@
+-- Blocks in memory.
+pub mod Memory
+pub mod Lawful
