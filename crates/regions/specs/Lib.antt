@@ -1,0 +1,2 @@
+-- What a write to one block of a volume changes.
+pub mod Regions
