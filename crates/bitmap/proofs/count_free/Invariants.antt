@@ -1,0 +1,13 @@
+use Rattle.std.proofs.Common.{◌≡◌, ◌+◌, ◌≤◌}
+use Rattle.volume.specs.Pieces.{pieces}
+use Rattle.store.specs.World.{Reads}
+use Rattle.bitmap.specs.Numbers.{count_free_in}
+use Rattle.bitmap.specs.Maps.{numbers_in, reach}
+use Rattle.bitmap.proofs.count_free.Given as goal
+
+abbrev pub invariant-loop-k : goal.invariant-loop-k
+invariant-loop-k g l = record {
+  reads : Reads g.B.Blocks.world l.fn.blocks l.blocks
+      (λ d. l.free ≡ count_free_in (numbers_in l.map (pieces l.geometry d)) 1 (reach l.map l.geometry l.k));
+  most : l.free + 1 ≤ reach l.map l.geometry l.k;
+}
