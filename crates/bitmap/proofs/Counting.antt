@@ -1,5 +1,5 @@
 -- Free numbers, one range after the other.
-use Rattle.std.proofs.Common.{◌≡◌, ◌≤◌, ◌<◌, ◌+◌, ◌-◌, ℕ, zero, suc, Bool, true, false, refl, sym, ap, subst, ◌∙◌, arith}
+use Rattle.std.proofs.Common.{◌≡◌, ◌≤◌, ◌<◌, ◌+◌, ◌-◌, ℕ, zero, suc, Bool, true, false, refl, ap, ◌∙◌, arith}
 use mathlib.Core.Logic.{inl, inr}
 use Rattle.std.specs.Prelude.{not, Option, Some, None, IsSome}
 use Rattle.std.proofs.lemmas.Bool.{cases_lt}
@@ -22,10 +22,6 @@ free_found set None last all some =
     let none : count_below (λ j. not (set (j + 1))) (last + 1 - 1) ≡ 0 = ap (count_below (λ j. not (set (j + 1)))) same
     ∙ none_free set last (λ j high. all (j + 1) (omega arith) (omega arith)) in
     absurd (omega (arith, some, none))
-
-pub one_at_most : (b : Bool) → one_if b ≤ 1
-one_at_most true = omega arith
-one_at_most false = omega arith
 
 either : (b : Bool) → one_if (not b) + one_if b ≡ 1
 either true = refl

@@ -1,7 +1,7 @@
 -- The bytes of a map.
-use Rattle.std.proofs.Common.{◌≡◌, ◌≢◌, ◌<◌, ◌≤◌, ◌+◌, ◌-◌, ◌*◌, ◌/◌, ◌%◌, ◌^◌, ℕ, List, [], ◌∷◌, length, Bool, true, false, refl, sym, ap, subst, ◌∙◌, arith}
+use Rattle.std.proofs.Common.{◌≡◌, ◌≢◌, ◌<◌, ◌≤◌, ◌+◌, ◌-◌, ◌*◌, ◌/◌, ◌%◌, ◌^◌, ℕ, [], ◌∷◌, Bool, sym, ap, subst, ◌∙◌, arith}
 use mathlib.Core.Logic.{inl, inr}
-use Rattle.std.specs.Prelude.{◌⊎◌, ◌&&◌, ◌==◌, nat_le, slice_index}
+use Rattle.std.specs.Prelude.{◌⊎◌, ◌&&◌, ◌==◌, nat_le}
 use Rattle.std.proofs.Math.Nat.{mul_comm, mod-lt}
 use Rattle.std.proofs.lemmas.Nat.{div_below, div-add-mod'}
 use Rattle.std.proofs.lemmas.Bool.{cases_eq, cases_lt, le-leb}
@@ -10,11 +10,11 @@ use Rattle.layout.specs.Places.{IsGeometry}
 use Rattle.tree.specs.Sums.{put}
 use Rattle.tree.proofs.Maps.{put-same, put-other, is_put}
 use Rattle.volume.specs.Reading.{Disk, bit_in, map_bit}
-use Rattle.volume.specs.Pieces.{Pieces, pieces}
+use Rattle.volume.specs.Pieces.{pieces}
 use Rattle.store.specs.Rows.{with_bytes, written}
 use Rattle.store.specs.Volume.{Alters}
 use Rattle.store.proofs.Rows.{row_new, row_old}
-use Rattle.regions.specs.Regions.{zone_map_start, with_inode_map, with_zone_map}
+use Rattle.regions.specs.Regions.{zone_map_start}
 use Rattle.regions.proofs.Regions.{in_inode_map, in_zone_map}
 use Rattle.bitmap.specs.declared.Map.{Map}
 use Rattle.bitmap.specs.declared.Map.TheVariants as map

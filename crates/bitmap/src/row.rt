@@ -48,7 +48,9 @@ pub(crate) fn count_clear(bytes: &[u8], from: u32, end: u32) -> u32
 {
     let mut clear = 0;
     for bit in from..end {
-        clear += u32::from(!is_set(bytes, bit));
+        if !is_set(bytes, bit) {
+            clear += 1;
+        }
     }
     clear
 }

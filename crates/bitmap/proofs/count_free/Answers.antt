@@ -1,4 +1,4 @@
-use Rattle.std.proofs.Common.{◌≡◌, ◌≤◌, ◌<◌, ◌+◌, ◌*◌, ap, sym, ◌∙◌, arith}
+use Rattle.std.proofs.Common.{◌≡◌, ◌+◌, ap, sym, ◌∙◌, arith}
 use Rattle.volume.specs.Pieces.{pieces}
 use Rattle.store.proofs.Turns.{reads_none, reads_then, if_cut}
 use Rattle.bitmap.specs.Numbers.{count_free_in}
