@@ -1,0 +1,2 @@
+-- The inode table of a volume.
+pub mod Table
