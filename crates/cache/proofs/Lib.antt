@@ -15,4 +15,4 @@ pub mod Flushes
 mod Order
 mod Choosing
 pub mod ReadingBack
-mod Leading
+pub mod Leading

@@ -448,10 +448,19 @@ impl<L: Link> Cache<L> {
         Ok(Frame { block, at })
     }
 
+    /// How many bytes a block has: 1024, 2048 or 4096.
+    pub fn block_size(&self) -> u32
+        ensures size { result ≡ self.now.shape.block_size }
+        ensures most { result ≤ 4096 }
+    {
+        self.shape.block_size
+    }
+
     /// The bytes of a frame, a block's length of them.
     pub fn frame(&self, frame: Frame) -> &[u8]
         requires { IsFrame self.now frame }
-        ensures { frames_of self.now.shape.block_size (held_by self.now) frame.block ≡ Some result.now }
+        ensures whole { length result.now ≡ self.now.shape.block_size }
+        ensures bytes { frames_of self.now.shape.block_size (held_by self.now) frame.block ≡ Some result.now }
     {
         &self.slots.get(frame.at).bytes[..self.shape.block_size as usize]
     }

@@ -59,7 +59,7 @@ idle c ready clean = record {
 }
 
 -- and the disk is what would be read back
-synced : (c : Caching) (v : DiskState) → 0 < c.size → AllClean c.held → CacheAgrees c.size c.held v → IsSynced c v
+pub synced : (c : Caching) (v : DiskState) → 0 < c.size → AllClean c.held → CacheAgrees c.size c.held v → IsSynced c v
 synced c v some clean k = record {
   sure = λ place.
       let b = place / c.size in

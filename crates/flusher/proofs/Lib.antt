@@ -1,1 +1,1 @@
-mod Flushing
+pub mod Flushing

@@ -5,8 +5,8 @@ use Rattle.cache.proofs.Edits.{one_slot}
 use Rattle.cache.proofs.Held.{held_at}
 use Rattle.cache.proofs.cache.Cache.frame.Goals as goal
 
-pub returns : goal.returns
-returns g c =
+pub returns-clause-bytes : goal.returns-clause-bytes
+returns-clause-bytes g c =
     let s = c.args.self.now in
     let items = s.slots.items.items in
     let f = c.requires in

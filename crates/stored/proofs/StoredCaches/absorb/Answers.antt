@@ -1,0 +1,14 @@
+use Rattle.stored.specs.World.{goes_joins}
+use Rattle.stored.proofs.Flushes.{hands_then}
+use Rattle.stored.proofs.StoredCaches.absorb.Goals as goal
+
+pub returns-then-not-last-clause-hands_over : goal.returns-then-not-last-clause-hands_over
+returns-then-not-last-clause-hands_over g c =
+    hands_then c.args.message _ _ _ c.if-not-last.ensures.other c.absorb.ensures.hands_over c.flush_wanted.ensures.keeps c.flush_wanted.ensures.posts
+
+pub returns-then-not-last-clause-goes : goal.returns-then-not-last-clause-goes
+returns-then-not-last-clause-goes g c =
+    goes_joins g.L.Link g.met.L.Link.joins _ _ _ (record { link = c.absorb.ensures.goes; frames = c.absorb.ensures.leaves.count }) c.flush_wanted.ensures.goes
+
+pub returns-else-last-clause-goes : goal.returns-else-last-clause-goes
+returns-else-last-clause-goes g c = record { link = c.absorb.ensures.goes; frames = c.absorb.ensures.leaves.count }
