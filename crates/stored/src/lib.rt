@@ -152,11 +152,11 @@ impl<L: Link> Caches for Stored<L> {
         }
     }
 
-    ghost is_cached = { stored_is_cached (stored_caching L.Link) (GoesOn L.Link) };
+    ghost is_cached = { stored_is_cached (stored_caching L.Link.own) (GoesOn L.Link.own) };
 
     ghost stays = { λ s. record { link = L.stays _; frames = refl } };
 
-    ghost joins = { λ a b c x y. goes_joins L.Link L.joins a b c x y };
+    ghost joins = { λ a b c x y. goes_joins L.Link.own L.joins a b c x y };
 
     ghost counts = { λ a b x. x.frames };
 }
@@ -217,6 +217,6 @@ impl<L: Link> Blocks for Stored<L> {
         }
     }
 
-    ghost lawful = { is_world (stored_caching L.Link) (GoesOn L.Link)
-        (λ s. record { link = L.stays _; frames = refl }) (λ a b c x y. goes_joins L.Link L.joins a b c x y) };
+    ghost lawful = { is_world (stored_caching L.Link.own) (GoesOn L.Link.own)
+        (λ s. record { link = L.stays _; frames = refl }) (λ a b c x y. goes_joins L.Link.own L.joins a b c x y) };
 }

@@ -10,5 +10,5 @@ pub returns-then-not-last-clause-goes : goal.returns-then-not-last-clause-goes
 returns-then-not-last-clause-goes g c =
     goes_joins g.L.Link g.met.L.Link.joins _ _ _ (record { link = c.absorb.ensures.goes; frames = c.absorb.ensures.leaves.count }) c.flush_wanted.ensures.goes
 
-pub returns-else-last-clause-goes : goal.returns-else-last-clause-goes
-returns-else-last-clause-goes g c = record { link = c.absorb.ensures.goes; frames = c.absorb.ensures.leaves.count }
+pub returns-else-not-last-clause-goes : goal.returns-else-not-last-clause-goes
+returns-else-not-last-clause-goes g c = record { link = c.absorb.ensures.goes; frames = c.absorb.ensures.leaves.count }
