@@ -1,18 +1,17 @@
 -- Calls of a cache, as blocks have them.
-use Rattle.std.proofs.Common.{◌≡◌, ℕ, ◌<◌, ◌≤◌, List, [], ◌++◌, refl, sym, ap, subst, ◌∙◌, Option, Some, None, Bool, true, false}
-use Rattle.std.specs.Prelude.{Result, Ok, Err, OnOk}
+use Rattle.std.proofs.Common.{◌≡◌, ℕ, List, sym, ap, subst, ◌∙◌, None}
+use Rattle.std.specs.Prelude.{Result, Ok, Err}
 use Rattle.volume.specs.Reading.{Disk}
-use Rattle.marks.specs.Marks.{Mark}
 use Rattle.marks.specs.Told.{Told, grown}
-use Rattle.marks.specs.Disk.{Contents, HasTrueReplies}
+use Rattle.marks.specs.Disk.{HasTrueReplies}
 use Rattle.reissue.specs.Moves.{DiskState, state_after}
-use Rattle.cache.specs.Calls.{Caching, Runs, Keeps, Serves, Blanks, Rewrites, IsReady}
+use Rattle.cache.specs.Calls.{Caching, Runs, Keeps, Serves, Blanks, Rewrites}
 use Rattle.cache.specs.Frames.{view, with_bytes}
 use Rattle.cache.proofs.Runs.{runs_as}
 use Rattle.cache.specs.declared.refusals.Cut.{Cut}
-use Rattle.store.specs.World.{World, Turns}
+use Rattle.store.specs.World.{Turns}
 use Rattle.store.specs.Rows.{written, cleared}
-use Rattle.stored.specs.World.{Leads, LeadsOn, Sees, world_by}
+use Rattle.stored.specs.World.{world_by}
 use Rattle.stored.specs.Lawful.{Fits, one_told}
 
 -- A call of a cache, as blocks have it.

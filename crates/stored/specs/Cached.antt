@@ -1,5 +1,5 @@
 -- Blocks in the frames of a cache.
-use Rattle.std.specs.Prelude.{◌≡◌, ℕ, ◌+◌, ◌<◌, ◌≤◌, ◌^◌, length, false}
+use Rattle.std.specs.Prelude.{◌≡◌, ◌+◌, ◌<◌, ◌≤◌, ◌^◌, length, false}
 use Rattle.std.proofs.Common.{refl}
 use Rattle.message.specs.declared.Incoming.{Incoming}
 use Rattle.volume.specs.Reading.{Disk}
@@ -9,7 +9,7 @@ use Rattle.cache.specs.Calls.{Caching, IsReady, IsLive, IsWhyCut, IsStuck}
 use Rattle.flusher.specs.Flushing.{WritesLowest}
 use Rattle.store.specs.declared.Cut.{Cut}
 use Rattle.store.specs.World.{World}
-use Rattle.stored.specs.World.{Leads, LeadsOn, Sees, reason, world_by}
+use Rattle.stored.specs.World.{Leads, Sees, reason, world_by}
 
 -- what is said of blocks is said of a cache, and this goes on through their calls
 pub record IsCached {B : Type 0} (w : World B) (f : B → Caching) (goes : B → B → Type 0) : Type 0 where

@@ -1,6 +1,6 @@
 -- The laws of blocks, of caches.
-use Rattle.std.proofs.Common.{◌≡◌, ℕ, ◌<◌, ◌≤◌, List, [], ◌++◌, length, min, refl, sym, ap, subst, ◌∙◌, append_assoc, Option, Some, None, Bool, true, false}
-use Rattle.std.specs.Prelude.{◌+◌, ◌*◌, slice_index, take, nat_lt, if◌then◌else◌}
+use Rattle.std.proofs.Common.{◌≡◌, ℕ, ◌≤◌, List, [], ◌++◌, length, refl, sym, ap, subst, ◌∙◌, append_assoc, Option, Some, None, Bool}
+use Rattle.std.specs.Prelude.{◌+◌, ◌*◌, take, if◌then◌else◌}
 use Rattle.std.proofs.lemmas.List.{append_cancel_right, get_or_past, length-take}
 use Rattle.std.proofs.lemmas.Bool.{le-ltb}
 use Rattle.std.proofs.Math.Nat.{le_trans, min-le_left}
@@ -8,16 +8,15 @@ use Rattle.volume.specs.Reading.{Disk}
 use Rattle.marks.specs.Marks.{Mark}
 use Rattle.marks.specs.Told.{Told, grown}
 use Rattle.marks.specs.Disk.{Contents, HasTrueReplies}
-use Rattle.reissue.specs.Agrees.{Agrees}
 use Rattle.reissue.specs.Moves.{DiskState, state_after}
 use Rattle.reissue.proofs.Joining.{grown_append}
 use Rattle.cache.specs.declared.slots.Slot.{Slot}
 use Rattle.legal.specs.View.{frame_or}
-use Rattle.cache.specs.Calls.{Caching, Runs, IsReady}
+use Rattle.cache.specs.Calls.{Caching, IsReady}
 use Rattle.cache.specs.Frames.{CacheAgrees, frames_of, frame_of, view, disk_block}
-use Rattle.cache.proofs.Runs.{runs_none, runs_as, runs_then, true_before}
-use Rattle.store.specs.World.{World, IsWorld, Between, Turns, IsBlocks, IsShown}
-use Rattle.stored.specs.World.{Leads, LeadsOn, Sees, world_by}
+use Rattle.cache.proofs.Runs.{runs_none, runs_then, true_before}
+use Rattle.store.specs.World.{IsWorld, IsBlocks, IsShown}
+use Rattle.stored.specs.World.{Leads, Sees, world_by}
 
 -- the slots agree with the disk
 abbrev pub Fits : Caching → DiskState → Type 0
@@ -47,8 +46,7 @@ between a b c d f x y s =
     let all : s.told ≡ y.told ++ x.told = one_told a c s.told (y.told ++ x.told) s.history (y.history ∙ ap (λ (l : List Told). y.told ++ l) x.history ∙ sym (append_assoc y.told x.told a.told)) in
     let grows : grown s.told s.marks ≡ grown y.told (grown x.told s.marks) = ap (λ (l : List Told). grown l s.marks) all ∙ grown_append y.told x.told s.marks in
     let late : HasTrueReplies s.image (grown y.told (grown x.told s.marks)) = subst_marks s.image _ _ grows s.true_replies in
-    let early : HasTrueReplies s.image (grown x.told s.marks) = true_before y.told s.image (grown x.told s.marks) late in
-    (
+    let early : HasTrueReplies s.image (grown x.told s.marks) = true_before y.told s.image (grown x.told s.marks) late in (
       view b.size b.held (state_after s.image (grown x.told s.marks)),
       record { image = s.image; marks = s.marks; told = x.told; history = x.history; agrees = s.agrees; true_replies = early; covered = s.covered; before = s.before; after = refl },
       record {
@@ -101,4 +99,3 @@ is_world f goes stays joins = record {
   where
     subst_disk : (size : ℕ) (d e : Disk) → d ≡ e → IsBlocks size d → IsBlocks size e
     subst_disk size d e h k = subst (λ (x : Disk). IsBlocks size x) h k
-

@@ -1,5 +1,5 @@
 -- What is said of the frames of a cache as blocks.
-use Rattle.std.specs.Prelude.{◌≡◌, ℕ, ◌++◌, List, None}
+use Rattle.std.specs.Prelude.{◌≡◌, ◌++◌, List, None}
 use Rattle.std.proofs.Common.{◌∙◌}
 use Rattle.volume.specs.Reading.{Disk}
 use Rattle.marks.specs.Marks.{Mark}
