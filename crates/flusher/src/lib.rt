@@ -1,12 +1,12 @@
 //! Writing back what was changed.
 #![tactic(auto)]
 
-ghost use Rattle.std.specs.Prelude.{◌≡◌, ◌≤◌, Ok, IfErr, OnOk};
+ghost use Rattle.std.specs.Prelude.{◌≡◌, ◌<◌, ◌≤◌, Ok, IfErr, OnOk};
 ghost use Rattle.cache.specs.Calls.{caching, held_by, frame_count, IsReady, IsLive, IsStuck, IsWhyCut, IsFrame, PostsAlone, Does, Keeps};
 ghost use Rattle.cache.specs.Calls.{LinkGoesOn, WantsFlush};
 ghost use Rattle.reissue.specs.Transfers.{begun_in};
 ghost use Rattle.cache.specs.Takes.{messages_left, NoReadBegun};
-ghost use Rattle.cache.specs.Edits.{AllClean};
+ghost use Rattle.cache.specs.Edits.{AllClean, SomeUnclean};
 ghost use Rattle.cache.specs.declared.slots.Frame.{Frame};
 ghost use Rattle.flusher.specs.Flushing.{WritesLowest, IsIdle, Syncs};
 
@@ -40,6 +40,25 @@ pub fn flush_some<L: Link>(cache: &mut Cache<L>)
     }
 }
 
+/// Takes a message of a sync: only where no further write can be begun before it, and some frame isn't the disk's yet.
+fn take_next<L: Link>(cache: &mut Cache<L>) -> Result<(), Cut>
+    requires ready { IsReady (caching L.Link cache.old) }
+    requires stuck { IsLive (caching L.Link cache.old) → IsStuck (caching L.Link cache.old) }
+    requires unclean { SomeUnclean (held_by cache.old) }
+    ensures keeps { Keeps (caching L.Link cache.old) (caching L.Link cache.new) }
+    ensures goes { LinkGoesOn L.Link cache.old cache.new }
+    ensures count { frame_count cache.new ≡ frame_count cache.old }
+    ensures left { OnOk result (messages_left (caching L.Link cache.new) < messages_left (caching L.Link cache.old)) }
+    ensures cut { IfErr result (λ cut. IsWhyCut (caching L.Link cache.new) cut) }
+    ensures frames { (f : Frame) → IsFrame cache.old f → IsFrame cache.new f }
+    ensures flush { WantsFlush L.Link cache.old cache.new }
+    ensures uses { cache.new.slots.uses ≡ cache.old.slots.uses }
+    ensures reads { NoReadBegun (begun_in cache.old.transfers) (begun_in cache.new.transfers) }
+{
+    cache.take()?;
+    Ok(())
+}
+
 /// Writes all dirty frames, until no frame is dirty and no write is open.
 fn write_all<L: Link>(cache: &mut Cache<L>) -> Result<(), Cut>
     requires ready { IsReady (caching L.Link cache.old) }
@@ -58,7 +77,7 @@ fn write_all<L: Link>(cache: &mut Cache<L>) -> Result<(), Cut>
         if cache.is_clean() {
             return Ok(());
         }
-        cache.take()?;
+        take_next(cache)?;
     }
 }
 

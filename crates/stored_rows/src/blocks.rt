@@ -70,7 +70,10 @@ fn blocks_are_read_changed_cleared_and_written(rt: HostRuntime) -> Result<(), Fa
     assert_eq!(rt; byte_at(&mut blocks, 6, 0).ok(), Some(0));
     assert!(rt; sync(&mut blocks).is_ok());
     assert!(rt; blocks.live().is_ok());
-    assert_eq!(rt; byte_at(&mut blocks, 7, 0).err() == Some(Cut::LinkEnded), true);
+    assert_eq!(rt;
+        byte_at(&mut blocks, 7, 0).err() == Some(Cut::LinkEnded),
+        true
+    );
     assert_eq!(rt; byte_at(&mut blocks, 5, 10).ok(), Some(b'a'));
     assert_eq!(rt;
         posted(alloc, blocks.link())?.as_str(),

@@ -1,7 +1,6 @@
 use Rattle.std.proofs.Common.{refl, ◌∙◌, arith}
-use Rattle.cache.specs.Calls.{caching}
-use Rattle.cache.proofs.Placing.{keeps_none, keeps_then, keeps_took}
-use Rattle.flusher.proofs.Flushing.{busy_unclean, idle, syncs_ok, syncs_cut}
+use Rattle.cache.proofs.Placing.{keeps_none, keeps_then}
+use Rattle.flusher.proofs.Flushing.{idle, syncs_ok, syncs_cut}
 use Rattle.cache.proofs.Flushes.{follows_none, follows_posts, follows_then}
 use Rattle.flusher.proofs.write_all.Goals as goal
 
@@ -24,34 +23,30 @@ returns-then-is_clean-clause-runs g c =
 pub returns-then-is_clean-clause-idle : goal.returns-then-is_clean-clause-idle
 returns-then-is_clean-clause-idle g c = idle _ c.flush_some.ensures.keeps.ready c.if-is_clean.ensures.clean
 
-pub take-requires-clause-busy : goal.take-requires-clause-busy
-take-requires-clause-busy g c = λ live.
-    busy_unclean (caching g.L.Link c.flush_some.new.cache) c.flush_some.ensures.keeps.ready (c.flush_some.ensures.stuck live) c.if-is_clean.ensures.unclean
-
 pub messages-preserved : goal.messages-preserved
 messages-preserved g c = record {
-  keeps = keeps_took _ _ _ _ (keeps_then _ _ _ c.messages.invariant.keeps c.flush_some.ensures.keeps) c.take.ensures.runs;
-  frames = λ f is. c.take.ensures.leaves.at f.at f.block (c.flush_some.ensures.frames f (c.messages.invariant.frames f is));
-  reads = λ t r is w. c.messages.invariant.reads t r (c.flush_some.ensures.reads t r (c.take.ensures.reads.none_begun t r is w) w) w;
-  count = c.take.ensures.leaves.count ∙ (c.flush_some.ensures.count ∙ c.messages.invariant.count);
-  goes = g.met.L.Link.joins _ _ _ (g.met.L.Link.joins _ _ _ c.messages.invariant.goes c.flush_some.ensures.goes) c.take.ensures.goes;
-  uses = c.take.ensures.stay.uses ∙ (c.flush_some.ensures.uses ∙ c.messages.invariant.uses);
+  keeps = keeps_then _ _ _ (keeps_then _ _ _ c.messages.invariant.keeps c.flush_some.ensures.keeps) c.take_next.ensures.keeps;
+  frames = λ f is. c.take_next.ensures.frames f (c.flush_some.ensures.frames f (c.messages.invariant.frames f is));
+  reads = λ t r is w. c.messages.invariant.reads t r (c.flush_some.ensures.reads t r (c.take_next.ensures.reads t r is w) w) w;
+  count = c.take_next.ensures.count ∙ (c.flush_some.ensures.count ∙ c.messages.invariant.count);
+  goes = g.met.L.Link.joins _ _ _ (g.met.L.Link.joins _ _ _ c.messages.invariant.goes c.flush_some.ensures.goes) c.take_next.ensures.goes;
+  uses = c.take_next.ensures.uses ∙ (c.flush_some.ensures.uses ∙ c.messages.invariant.uses);
   flush =
       let x = c.flush_some.ensures.posts in
-      follows_then _ _ _ _ _ _ (follows_then _ _ _ _ _ _ c.messages.invariant.flush (follows_posts _ _ x.posts _ _ c.flush_some.ensures.flush x.history x.only_posts)) c.take.ensures.flush;
+      follows_then _ _ _ _ _ _ (follows_then _ _ _ _ _ _ c.messages.invariant.flush (follows_posts _ _ x.posts _ _ c.flush_some.ensures.flush x.history x.only_posts)) c.take_next.ensures.flush;
 }
 
-pub returns-in_err-take-clause-runs : goal.returns-in_err-take-clause-runs
-returns-in_err-take-clause-runs g c =
+pub returns-in_err-take_next-clause-runs : goal.returns-in_err-take_next-clause-runs
+returns-in_err-take_next-clause-runs g c =
     syncs_cut c.from_residual.result _ _ c.from_residual.ensures.0
-    (keeps_took _ _ _ _ (keeps_then _ _ _ c.messages.invariant.keeps c.flush_some.ensures.keeps) c.take.ensures.runs)
+    (keeps_then _ _ _ (keeps_then _ _ _ c.messages.invariant.keeps c.flush_some.ensures.keeps) c.take_next.ensures.keeps)
 
 pub returns-then-is_clean-clause-flush : goal.returns-then-is_clean-clause-flush
 returns-then-is_clean-clause-flush g c =
     let x = c.flush_some.ensures.posts in
     follows_then _ _ _ _ _ _ c.messages.invariant.flush (follows_posts _ _ x.posts _ _ c.flush_some.ensures.flush x.history x.only_posts)
 
-pub returns-in_err-take-clause-flush : goal.returns-in_err-take-clause-flush
-returns-in_err-take-clause-flush g c =
+pub returns-in_err-take_next-clause-flush : goal.returns-in_err-take_next-clause-flush
+returns-in_err-take_next-clause-flush g c =
     let x = c.flush_some.ensures.posts in
-    follows_then _ _ _ _ _ _ (follows_then _ _ _ _ _ _ c.messages.invariant.flush (follows_posts _ _ x.posts _ _ c.flush_some.ensures.flush x.history x.only_posts)) c.take.ensures.flush
+    follows_then _ _ _ _ _ _ (follows_then _ _ _ _ _ _ c.messages.invariant.flush (follows_posts _ _ x.posts _ _ c.flush_some.ensures.flush x.history x.only_posts)) c.take_next.ensures.flush
