@@ -59,7 +59,8 @@ impl<L: Link> Cache<L> {
     ghost use Rattle.cache.specs.Edits.{AllClean, SomeUnclean, IsIssued, IssuesLowest, IsWritten, IsSlotAt, IsFreeAt, IsAt, Leaves};
     ghost use Rattle.cache.specs.Edits.{AllStay, StayBut, IsChangedAt};
     ghost use Rattle.cache.specs.Frames.{frames_of, view, with_bytes};
-    ghost use Rattle.cache.specs.Calls.{caching, held_by, frame_count, IsReady, IsLive, IsWhyCut, IsFrame, IsMade, IsStuck, IsRefusing, PostsAlone};
+    ghost use Rattle.cache.specs.Calls.{caching, held_by, frame_count, IsReady, IsLive, IsWhyCut, IsFrame, IsMade, IsStuck, IsRefusing};
+    ghost use Rattle.cache.specs.Calls.{PostsAlone};
     ghost use Rattle.cache.specs.Calls.{Does, Keeps, HandsOver, Blanks, Rewrites, LinkGoesOn, WantsFlush, IsWantedFor};
     ghost use Rattle.cache.specs.Calls.{forgotten, with_cache_link, without_flush};
     ghost use Rattle.cache.specs.contracts.cache.Cache.{the_row};

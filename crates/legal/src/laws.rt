@@ -5,7 +5,8 @@ ghost use Rattle.layout.specs.declared.Geometry.{Geometry};
 ghost use Rattle.marks.specs.Marks.{Mark};
 ghost use Rattle.marks.specs.Disk.{Contents};
 ghost use Rattle.legal.specs.Lives.{StillServes};
-ghost use Rattle.legal.specs.Laws.{BeginningsAreLegal, OnlyCallsMoveTree, GivenUpStays, NoMemoryLeaves, SyncedIsHeld, WithoutFrames, OwnCallsGrow, OwnCallsAreByItsUser, NewSessionIsSession};
+ghost use Rattle.legal.specs.Laws.{BeginningsAreLegal, OnlyCallsMoveTree, GivenUpStays, NoMemoryLeaves, SyncedIsHeld, WithoutFrames};
+ghost use Rattle.legal.specs.Laws.{OwnCallsGrow, OwnCallsAreByItsUser, NewSessionIsSession};
 
 use crate::Serve;
 

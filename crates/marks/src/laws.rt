@@ -3,7 +3,10 @@
 ghost use Rattle.std.specs.Prelude.{ℕ, List};
 ghost use Rattle.marks.specs.Marks.{Mark};
 ghost use Rattle.marks.specs.Acts.{Act, Outbox};
-ghost use Rattle.marks.specs.Laws.{BeginningsAreWellFormed, ReceivedIsWellFormed, EachCountedOnce, OpenedByFirstIssue, OpenAreWhole, OpenAreNumbered, OpenAreRising, OneOpenForEachId, OpenAreApart, OpenWritesAreUnsure, SectorsAreUnsureTogether, NothingIsUnsureAtFirst, MarksChangeDisk, UnwrittenIsImage, ActsCompose, MarksAreTold};
+ghost use Rattle.marks.specs.Laws.{BeginningsAreWellFormed, ReceivedIsWellFormed, EachCountedOnce, OpenedByFirstIssue, OpenAreWhole};
+ghost use Rattle.marks.specs.Laws.{OpenAreNumbered, OpenAreRising, OneOpenForEachId, OpenAreApart, OpenWritesAreUnsure};
+ghost use Rattle.marks.specs.Laws.{SectorsAreUnsureTogether, NothingIsUnsureAtFirst, MarksChangeDisk, UnwrittenIsImage, ActsCompose};
+ghost use Rattle.marks.specs.Laws.{MarksAreTold};
 
 /// A well-formed record has well-formed beginnings.
 #[tactic(auto, using(crate::proofs::Growing::well_formed_beginning))]
