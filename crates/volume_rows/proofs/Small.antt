@@ -1,5 +1,5 @@
 -- Small volumes written out in bytes: a root alone, and a tree with files in all ranges. A block holds one inode, one entry or 16 numbers.
-use Rattle.std.proofs.Common.{◌≡◌, ℕ, List, [], ◌∷◌, ◌/◌, ◌%◌, ◌++◌, map, drop}
+use Rattle.std.proofs.Common.{◌≡◌, ℕ, List, [], ◌∷◌, ◌/◌, ◌%◌, ◌-◌, ◌++◌, map, drop}
 use Rattle.std.specs.Prelude.{slice_index, flat_map}
 use Rattle.layout.specs.declared.Geometry.{Geometry}
 use Rattle.tree.specs.Sums.{put}
@@ -99,6 +99,15 @@ wide_pieces d = pieces wide d
 abbrev pub wide_verdict : Disk → Verdict
 wide_verdict d = verdict_of_pieces wide (wide_pieces d)
 
--- The verdict where findings 1 to 10 are false, which are the costly ones to compute: that of the tests from 11 on.
+-- The verdict where the findings below number k, which is 2 or more, are false: that of the tests from it on. That a lesser finding goes
+-- first, and of one its least place, is a law of `volume`, so rows needn't compute it; findings 7 to 10 are the costly ones.
+abbrev pub verdict_from : ℕ → Disk → Verdict
+verdict_from k d = first_found (place_limit wide) k (drop (k - 2) (tests wide (wide_pieces d)))
+
+-- that from finding 11 on
 abbrev pub later_verdict : Disk → Verdict
-later_verdict d = first_found (place_limit wide) 11 (drop 9 (tests wide (wide_pieces d)))
+later_verdict d = verdict_from 11 d
+
+-- the same on a small disk
+abbrev pub small_verdict_from : ℕ → Disk → Verdict
+small_verdict_from k d = first_found (place_limit small) k (drop (k - 2) (tests small (small_pieces d)))

