@@ -8,13 +8,16 @@ use Rattle.volume.specs.Nodes.{names_in}
 use Rattle.volume.specs.Verdict.{Verdict, Clean, found, verdict_of_pieces}
 use Rattle.volume_rows.proofs.Small.{Rows, Gives, inode, entry, with_block, with_byte, tree, wide_verdict, verdict_from, later_verdict}
 
--- The tree. Bytes that are unseen: of both first blocks, of an inode that isn't marked, of a zone without a use, and of the last page past the
--- end. Then a file without permissions, a name of a high byte, one of 60 bytes, and a hole of the greatest size.
+-- The tree; and the tree with bytes that are unseen (of both first blocks, of an inode that isn't marked, of a zone without a use, and of
+-- the last page past the end), a file without permissions, a name of a high byte, one of 60 bytes, and a hole of the greatest size.
 abbrev clean : Rows Disk Verdict
 clean =
     (tree, Clean)
-    ∷ (with_byte 0 5 9 (with_byte 1 63 9 (with_block 9 (replicate 64 255) (with_block 35 (replicate 64 255) (with_block 32 (replicate 64 255) tree)))), Clean)
-    ∷ (with_byte 7 0 0 (with_byte 15 4 255 (with_block 16 (entry 5 (replicate 60 120)) (with_block 8 (inode 33188 1 2147483647 []) tree))), Clean)
+    ∷ (
+      with_byte 7 0 0 (with_byte 15 4 255 (with_block 16 (entry 5 (replicate 60 120)) (with_block 8 (inode 33188 1 2147483647 [])
+          (with_byte 0 5 9 (with_byte 1 63 9 (with_block 9 (replicate 64 255) (with_block 35 (replicate 64 255) (with_block 32 (replicate 64 255) tree)))))))),
+      Clean,
+    )
     ∷ []
 
 clean_rows : Gives wide_verdict clean
