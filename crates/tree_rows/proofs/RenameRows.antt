@@ -3,13 +3,13 @@ use Rattle.std.proofs.Common.{◌++◌, List, [], ◌∷◌, refl}
 use Rattle.std.specs.Borrow.{Bor}
 use Rattle.std.proofs.Common.{ℕ}
 use Rattle.errno.specs.declared.Errno.TheVariants.{ENOENT, EACCES, EBUSY, ENOTDIR, EISDIR, EINVAL, ENAMETOOLONG, ENOTEMPTY, EMLINK, ENOSPC}
-use Rattle.tree.specs.declared.Call.TheVariants.{Open, Stat, Fstat, Link, Mkdir, Rename, Chmod, Statfs}
+use Rattle.tree.specs.declared.Call.TheVariants.{Open, Stat, Fstat, Link, Rename, Chmod, Statfs}
 use Rattle.tree.specs.Sums.{sum_below, some_below, least_below}
 use Rattle.tree.specs.Tree.{Tree, on_node}
 use Rattle.tree.specs.Changes.{more_links}
 use Rattle.tree.specs.Answers.{refused, done, node_is, room_is}
 use Rattle.tree.specs.Effects.{tree_after_call}
-use Rattle.tree_rows.proofs.Small.{small, user0, other, path, flags, after, house, rooms, Row, Rows, empty_path, long_path, zero_path, wide_path}
+use Rattle.tree_rows.proofs.Small.{small, user0, other, path, flags, after, rooms, Row, Rows, empty_path, long_path, zero_path, wide_path}
 
 renames : Rows small rooms (
     (user0, Rename (path "/f") (path "/y"), done)
