@@ -1,6 +1,8 @@
 //! The frames of a cache, as blocks.
 #![tactic(auto)]
 
+pub mod laws;
+
 ghost use Rattle.std.specs.Prelude.{◌≡◌, ◌≢◌, OnOk, IfErr};
 ghost use Rattle.std.specs.Bool.{OnTrue, OnFalse};
 ghost use Rattle.std.specs.Borrow.{Lends, sem};
