@@ -4,7 +4,8 @@
 //! waits. A driver is live from its start until it dies or fails; a post to one that isn't is refused, and so is one to a line
 //! that holds 32. A start is taken by the server at once, and so is giving up, but for one that a complaint caused: that is
 //! taken by the call's next take or right after the call, always before the next event. After the last event nothing comes any
-//! more. An event that names nothing has no effect.
+//! more. An event that names nothing has no effect. The server finishes a call or issues a request only where it was handed
+//! something: a call, a flush, a reply, a start, or giving up.
 #![tactic(auto)]
 
 ghost use Rattle.schedule.specs.Laws.{BeginningKeeps, GroupsStay, RefusedForOne, RefusedOrAccepted, RepliesStay};
