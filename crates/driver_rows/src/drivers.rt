@@ -195,6 +195,13 @@ fn generations_fence(rt: HostRuntime) -> Result<(), Fail> {
     let image = media.image(rt.alloc())?;
     assert_eq!(rt; image.len(), 1536);
     assert!(rt; image[511] == 9 && image[512] == 1 && image[1024] == 8);
+    Ok(())
+}
+
+#[test]
+fn a_revoked_step_fails(rt: HostRuntime) -> Result<(), Fail> {
+    let mut media = numbered(rt.alloc(), 3)?;
+    media.adopt(2);
     let mut driver = RamDriver::new(Table::whole(3));
     driver.accept(request(1, Kind::Write, 0, 0, 512));
     assert!(rt; matches!(&driver.step(&mut media, 1), Step::Failed));
