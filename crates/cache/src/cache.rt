@@ -42,7 +42,8 @@ struct Reading {
 ///
 /// A frame reads as its last change, or as the disk where it wasn't changed. A block without a frame is read when it is
 /// fetched. Where no slot is free, the frame used longest ago of those that are the disk's goes; where none is, the one
-/// used longest ago is written and awaited, and then goes. No memory is taken after making.
+/// used longest ago is written and awaited, and then goes. No memory is taken after making. What goes on in the link goes on through each
+/// call, and the number of frames stays.
 #[derive(Drop)]
 pub struct Cache<L> {
     transfers: Transfers<L>,

@@ -22,7 +22,7 @@ use std::alloc::{AllocError, Global};
 /// Each new driver is posted all that is pending, in rising order, up to the first that the link refuses; the rest is tried
 /// again after the next message. After a good answer that moved less than was asked for, what is left goes on under a new id.
 /// Of an answer that counts and isn't good the link is told by a complaint, and the request stays pending. Once the device was given up,
-/// nothing is posted any more and no reply counts.
+/// nothing is posted any more and no reply counts. What goes on in the link goes on through each call.
 #[derive(Drop)]
 pub struct Transfers<L> {
     link: L,
