@@ -1,13 +1,10 @@
 -- What posts, faults, ticks and starts leave of what a link has of its drivers.
 use Rattle.std.proofs.Common.{◌≡◌, ℕ, List, [], ◌∷◌, ◌++◌, Bool, true, refl, sym, ◌∙◌, ap, subst, Option, Some, None}
-use Rattle.std.specs.Prelude.{map, reverse as reversed, All, IfSome, is_some, length, slice_index}
+use Rattle.std.specs.Prelude.{map, All, IfSome, is_some, length}
 use Rattle.std.specs.Prelude.{Result, Ok, Err, OnOk}
 use Rattle.std.specs.Option.{option_map}
 use Rattle.reissue.specs.declared.link.LinkRefusal.{LinkRefusal}
-use Rattle.std.proofs.lemmas.List.{map-append}
-use Rattle.std.proofs.lemmas.Grind.{reverse_onto}
 use Rattle.endpoint.specs.declared.Endpoint.{Endpoint}
-use Rattle.endpoint.specs.Slots.{no_starts}
 use Rattle.message.specs.declared.BlockRequest.{BlockRequest}
 use Rattle.message.specs.declared.Incoming.{Incoming}
 use Rattle.message.specs.declared.Incoming.TheVariants as incoming
@@ -38,7 +35,7 @@ drivers_kept-posted : {D : Type 0} (state : D → DriverState) (v : Opening) (b 
     → a ≡ record b { line = b.line ++ r ∷ [] } → DriversKept state v b marks → MayFollow (Issued r to) marks → Fits v r → DriversKept state v a (Issued r to ∷ marks)
 drivers_kept-posted state v b a marks r to is kept may fits =
     subst (λ (g : Guarded _). DriversKept state v g (Issued r to ∷ marks)) (sym is)
-    (posted_kept v b.media (0 ∷ b.server.watch.generation ∷ []) b.endpoint (option_map state b.running) (map state (reversed b.server.supply)) b.line (b.line ++ r ∷ []) marks r to refl kept may fits)
+    (posted_kept v b.media b.server.watch.generation b.endpoint (option_map state b.running) (map state b.server.supply) b.line (b.line ++ r ∷ []) marks r to refl kept may fits)
 
 -- a request is put on the line, or refused
 pub drivers_kept-post : {D : Type 0} (state : D → DriverState) (v : Opening) (b a : Guarded D) (marks : List Mark) (r : BlockRequest) (to : Endpoint) (result : Result Unit LinkRefusal)
@@ -51,9 +48,9 @@ drivers_kept-post state v b a marks r to (Err e) is kept = tt
 drivers_kept-dropped : {D : Type 0} (state : D → DriverState) (v : Opening) (b : Guarded D) (server : ReincarnationState D) (marks : List Mark) → HasSame b.server server
     → DriversKept state v b marks → DriversKept state v (record b { running = None; server = server }) marks
 drivers_kept-dropped state v b server marks same kept =
-    subst (λ (n : ℕ). LinkKept v b.media (0 ∷ n ∷ []) b.endpoint None (map state (reversed server.supply)) b.line marks) (sym same.generation)
-    (subst (λ (l : List _). LinkKept v b.media (0 ∷ b.server.watch.generation ∷ []) b.endpoint None (map state (reversed l)) b.line marks) (sym same.supply)
-    (dropped_kept v b.media (0 ∷ b.server.watch.generation ∷ []) b.endpoint (option_map state b.running) (map state (reversed b.server.supply)) b.line marks kept))
+    subst (λ (n : ℕ). LinkKept v b.media n b.endpoint None (map state server.supply) b.line marks) (sym same.generation)
+    (subst (λ (l : List _). LinkKept v b.media b.server.watch.generation b.endpoint None (map state l) b.line marks) (sym same.supply)
+    (dropped_kept v b.media b.server.watch.generation b.endpoint (option_map state b.running) (map state b.server.supply) b.line marks kept))
 
 drivers_kept-told : {D : Type 0} (state : D → DriverState) (v : Opening) (b a : Guarded D) (server : ReincarnationState D) (marks : List Mark) → HasSame b.server server
     → a ≡ record b { running = None; server = server } → DriversKept state v b marks → DriversKept state v a marks
@@ -88,24 +85,19 @@ drivers_kept-failed state v b d after media line budget result marks runs leaves
       kept = subst (λ (r : Ran). RunLeaves v b.endpoint.generation r media after line marks) failed (leaves v marks (ap (λ (e : Endpoint). e.generation) here) before);
       current = tt;
       endpoint_is = tt;
-      slots_are = kept.slots_are ∙ sym same;
+      generation_is = kept.generation_is ∙ sym same;
       supply_is = kept.supply_is;
     }
-
--- the first of a list stands last in the other order
-last_reversed : {D : Type 0} (state : D → DriverState) (d : D) (rest all : List D) → all ≡ d ∷ rest → map state (reversed all) ≡ map state (reversed rest) ++ state d ∷ []
-last_reversed state d rest all is =
-    ap (λ (l : List _). map state (reversed l)) is ∙ ap (map state) (reverse_onto rest d []) ∙ map-append state (reversed rest) (d ∷ [])
 
 -- the next driver is started
 drivers_kept-started : {D : Type 0} (state : D → DriverState) (v : Opening) (b a : Guarded D) (to : Endpoint) (marks : List Mark)
     → Starts b to a → DriversKept state v b marks → DriversKept state v a (Started to ∷ marks)
 drivers_kept-started state v b a to marks starts kept =
     let next : HasNext b.server to starts.driver a.server = next_after_tick b.server a.server starts.until _ _ to starts.driver starts.awaited starts.decides in
-    let k : LinkKept v (adopted b.media to.generation) (0 ∷ a.server.watch.generation ∷ []) to (Some (state starts.driver)) (map state (reversed a.server.supply)) [] (Started to ∷ marks) =
-    started_kept v b.media (0 ∷ b.server.watch.generation ∷ []) (0 ∷ a.server.watch.generation ∷ []) b.endpoint to (option_map state b.running)
-    (map state (reversed b.server.supply)) (map state (reversed a.server.supply)) (state starts.driver) b.line marks
-    (last_reversed state starts.driver a.server.supply b.server.supply next.supply) next.endpoint next.generation kept in
+    let k : LinkKept v (adopted b.media to.generation) a.server.watch.generation to (Some (state starts.driver)) (map state a.server.supply) [] (Started to ∷ marks) =
+    started_kept v b.media b.server.watch.generation a.server.watch.generation b.endpoint to (option_map state b.running)
+    (map state b.server.supply) (map state a.server.supply) (state starts.driver) b.line marks
+    (ap (map state) next.supply) next.endpoint next.generation kept in
     rw (starts.media, starts.endpoint, starts.running, starts.line) k
 
 -- what each message leaves, where no driver runs
@@ -118,23 +110,9 @@ drivers_kept-waits state v b incoming.GaveUp a marks waits kept =
 drivers_kept-waits state v b incoming.Flush a marks waits kept = absurd waits
 drivers_kept-waits state v b incoming.End a marks waits kept = subst (λ (g : Guarded _). DriversKept state v g marks) (sym waits.now) kept
 
--- of slots only the disk driver's counts
-with_slots : (v : Opening) (media : MediaState) (slots new : List ℕ) (endpoint : Endpoint) (running : Option DriverState) (supply : List DriverState) (line : List BlockRequest) (marks : List Mark)
-    → slice_index new 1 ≡ slice_index slots 1 → LinkKept v media slots endpoint running supply line marks → LinkKept v media new endpoint running supply line marks
-with_slots v media slots new endpoint running supply line marks same kept = record {
-  driver = kept.driver;
-  kept = kept.kept;
-  current = kept.current;
-  endpoint_is = kept.endpoint_is;
-  slots_are = same ∙ kept.slots_are;
-  supply_is = kept.supply_is;
-}
-
 -- nothing was started
 pub drivers_kept-unstarted : {D : Type 0} (state : D → DriverState) (v : Opening) (media : MediaState) (server : ReincarnationState D) (a : Guarded D) → a ≡ unstarted media server
     → server.watch ≡ new_watch (length server.supply) → IsOnMedia v → media ≡ opening_media v → All (IsReady v) (map state server.supply) → DriversKept state v a []
 drivers_kept-unstarted state v media server a is new on at ready =
-    let first = new_kept state v media no_starts (unstarted media server).endpoint None server.supply (reversed server.supply) [] on at ready refl refl refl refl in
-    let none : server.watch.generation ≡ 0 = ap (λ (w : Watch). w.generation) new in
     subst (λ (g : Guarded _). DriversKept state v g []) (sym is)
-    (with_slots v media no_starts (0 ∷ server.watch.generation ∷ []) (unstarted media server).endpoint None (map state (reversed server.supply)) [] [] none first)
+    (new_kept v media server.watch.generation (unstarted media server).endpoint (map state server.supply) on at ready (ap (λ (w : Watch). w.generation) new))

@@ -3,3 +3,4 @@ pub mod Ticking
 pub mod Keeping
 pub mod Coming
 pub mod Following
+pub mod Going

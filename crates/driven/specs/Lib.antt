@@ -5,3 +5,4 @@ pub mod Comes
 pub mod View
 pub mod KeptLaws
 pub mod Runs
+pub mod Goes

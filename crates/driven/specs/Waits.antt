@@ -1,5 +1,5 @@
 -- Drivers under a reincarnation server, and the ticks that pass while a start is awaited.
-use Rattle.std.specs.Prelude.{◌≡◌, ℕ, ◌+◌, ◌-◌, ◌≤◌, max, List, [], ◌∷◌, map, reverse as reversed, Option, Some, None}
+use Rattle.std.specs.Prelude.{◌≡◌, ℕ, ◌+◌, ◌-◌, ◌≤◌, max, List, [], map, Option, Some, None}
 use Rattle.std.specs.Option.{option_map}
 use Rattle.endpoint.specs.declared.Endpoint.{Endpoint}
 use Rattle.message.specs.declared.BlockRequest.{BlockRequest}
@@ -31,10 +31,10 @@ pub record Guarded (D : Type 0) : Type 0 where
 abbrev pub what_runs : {D : Type 0} → (D → DriverState) → Guarded D → Running
 what_runs state b = record { driver = option_map state b.running; line = b.line; media = b.media; budget = b.budget }
 
--- what the inline link has of its drivers these have too: there the slots tell the generation of the last start, and the next driver stands last
+-- the drivers, the media and the line fit the record, and each driver that wasn't started is ready
 abbrev pub DriversKept : {D : Type 0} → (D → DriverState) → Opening → Guarded D → List Mark → Type 0
 DriversKept state v b marks =
-    LinkKept v b.media (0 ∷ b.server.watch.generation ∷ []) b.endpoint (option_map state b.running) (map state (reversed b.server.supply)) b.line marks
+    LinkKept v b.media b.server.watch.generation b.endpoint (option_map state b.running) (map state b.server.supply) b.line marks
 
 -- nothing was started, no tick has passed, and nothing was paid
 abbrev pub unstarted : {D : Type 0} → MediaState → ReincarnationState D → Guarded D

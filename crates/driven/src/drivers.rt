@@ -13,11 +13,11 @@ ghost use Rattle.reincarnate.specs.Supply.{Decides};
 ghost use Rattle.driven.specs.Step.{is_given_up};
 ghost use Rattle.driven.specs.Waits.{DriversKept, IsTold, Ticks, last_tick, unstarted};
 ghost use Rattle.driven.specs.Comes.{ComesTo, WaitsFor};
+ghost use Rattle.driven.specs.Goes.{Leads};
 
 use endpoint::{DISK_DRIVER, Endpoint};
-use inline::drivers::{BUDGET, LINE, stamped};
 use inline::local::LocalDriver;
-use inline::running::{Ran, run};
+use inline::running::{Ran, run, stamped};
 use media::Media;
 use message::{BlockRequest, Incoming};
 use policy::Event;
@@ -25,6 +25,12 @@ use reincarnate::{Action, Reincarnation};
 use reissue::link::LinkRefusal;
 use std::alloc::{AllocError, Global};
 use std::collections::VecDeque;
+
+/// How many steps and ticks a link makes at most (own).
+const BUDGET: u64 = 1099511627776;
+
+/// How many requests the line of a driver holds at most (own); one more is refused as `Full`.
+const LINE: usize = 32;
 
 /// The pulse of each tick: the drivers send no heartbeats.
 const NO_PULSE: (u32, u32) = (0, 0);
@@ -240,6 +246,7 @@ impl<D: LocalDriver> Drivers<D> {
         ensures told { self.old.running ≢ None → about ≡ self.old.endpoint
             → IsTold (guarded_of self.old) (Complaint about (last_tick self.old.ticks)) (guarded_of self.new) }
         ensures leaves { (self.old.running ≡ None) ⊎ (about ≢ self.old.endpoint) → self.new ≡ self.old }
+        ensures leads { Leads D.state (guarded_of self.old) (guarded_of self.new) }
         ensures over { self.new.over ≡ self.old.over }
     {
         if self.running.is_none() || about != self.endpoint {

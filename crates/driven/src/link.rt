@@ -3,8 +3,7 @@
 ghost use Rattle.std.specs.Prelude.{◌≡◌, ◌≢◌, ◌⊎◌, ◌↔◌, ◌≤◌, ◌<◌, ◌+◌, ◌++◌, ◌∷◌, true, false, List, [], length, All, None, Err, IfOk, OnOk, OnErr, is_ok, map, vec_len, vec_capacity};
 ghost use Rattle.marks.specs.Marks.{Mark, Issued};
 ghost use Rattle.marks.specs.Open.{MayFollow};
-ghost use Rattle.marks.specs.Disk.{HasTrueReplies};
-ghost use Rattle.marks.specs.Opening.{Opening, Fits, contents_at};
+ghost use Rattle.marks.specs.Opening.{Opening, Fits};
 ghost use Rattle.marks.specs.Told.{Posted, Complained, heard, received};
 ghost use Rattle.policy.specs.declared.Event.TheVariants.{Complaint};
 ghost use Rattle.policy.specs.Watch.{new_watch};
@@ -16,6 +15,7 @@ ghost use Rattle.inline.specs.Notes.{history_of, room_of};
 ghost use Rattle.driven.specs.Waits.{DriversKept, IsTold, last_tick, unstarted};
 ghost use Rattle.driven.specs.Comes.{Takes};
 ghost use Rattle.driven.specs.View.{guarded_of};
+ghost use Rattle.driven.specs.Goes.{GoesOn, goes_nowhere, goes_then};
 
 use crate::drivers::Drivers;
 use endpoint::Endpoint;
@@ -24,7 +24,7 @@ use inline::note::{Note, Notes};
 use media::Media;
 use message::{BlockRequest, Incoming};
 use reincarnate::Reincarnation;
-use reissue::link::{Link, LinkRefusal};
+use reissue::link::{Link, LinkRefusal, TrueLink};
 use std::alloc::{AllocError, Global};
 
 /// The link of a server to drivers that it runs itself (own), on media in memory. A reincarnation server says when each is
@@ -83,12 +83,18 @@ impl<D: LocalDriver> Link for Driven<D> {
 
     ghost truth = { λ l v marks. DriversKept D.state v (guarded_of l.drivers) marks };
 
+    // A run of the drivers leads from the one to the other, and the history grew.
+    ghost goes_on = { λ l m. GoesOn D.state (guarded_of l.drivers) (guarded_of m.drivers)
+        (history_of l.notes.ended l.notes.items.items) (history_of m.notes.ended m.notes.items.items) };
+
     fn post(&mut self, to: Endpoint, request: &BlockRequest) -> Result<(), LinkRefusal>
         requires { 0 < room_of self.old.notes.ended (vec_capacity self.old.notes.items) (vec_len self.old.notes.items) }
         ensures told { history_of self.new.notes.ended self.new.notes.items.items
             ≡ Posted to request.now (is_ok result) ∷ history_of self.old.notes.ended self.old.notes.items.items }
         ensures room { room_of self.old.notes.ended (vec_capacity self.old.notes.items) (vec_len self.old.notes.items)
             ≤ room_of self.new.notes.ended (vec_capacity self.new.notes.items) (vec_len self.new.notes.items) + 1 }
+        ensures goes { GoesOn D.state (guarded_of self.old.drivers) (guarded_of self.new.drivers)
+            (history_of self.old.notes.ended self.old.notes.items.items) (history_of self.new.notes.ended self.new.notes.items.items) }
         ensures accepted { (opening : Opening) (marks : List Mark) → DriversKept D.state opening (guarded_of self.old.drivers) marks
             → OnOk result (MayFollow (Issued request.now to) marks → Fits opening request.now
             → DriversKept D.state opening (guarded_of self.new.drivers) (Issued request.now to ∷ marks)) }
@@ -111,6 +117,8 @@ impl<D: LocalDriver> Link for Driven<D> {
             ≡ Complained about ∷ history_of self.old.notes.ended self.old.notes.items.items }
         ensures room { room_of self.old.notes.ended (vec_capacity self.old.notes.items) (vec_len self.old.notes.items)
             ≤ room_of self.new.notes.ended (vec_capacity self.new.notes.items) (vec_len self.new.notes.items) + 1 }
+        ensures goes { GoesOn D.state (guarded_of self.old.drivers) (guarded_of self.new.drivers)
+            (history_of self.old.notes.ended self.old.notes.items.items) (history_of self.new.notes.ended self.new.notes.items.items) }
         ensures truth { (opening : Opening) (marks : List Mark) → DriversKept D.state opening (guarded_of self.old.drivers) marks
             → DriversKept D.state opening (guarded_of self.new.drivers) marks }
         ensures lets_go { self.old.drivers.running ≢ None → about ≡ self.old.drivers.endpoint
@@ -127,9 +135,10 @@ impl<D: LocalDriver> Link for Driven<D> {
         ensures budget { 0 < self.old.drivers.budget → self.new.drivers.budget < self.old.drivers.budget }
         ensures spent { self.old.drivers.budget ≡ 0 → result ≡ Incoming.End }
         ensures room { room_needed result ≤ room_of self.new.notes.ended (vec_capacity self.new.notes.items) (vec_len self.new.notes.items) }
+        ensures goes { GoesOn D.state (guarded_of self.old.drivers) (guarded_of self.new.drivers)
+            (history_of self.old.notes.ended self.old.notes.items.items) (history_of self.new.notes.ended self.new.notes.items.items) }
         ensures truth { (opening : Opening) (marks : List Mark) → DriversKept D.state opening (guarded_of self.old.drivers) marks
-            → DriversKept D.state opening (guarded_of self.new.drivers) (received result marks)
-            × HasTrueReplies (contents_at opening) (received result marks) }
+            → DriversKept D.state opening (guarded_of self.new.drivers) (received result marks) }
         ensures takes { Takes D.state (guarded_of self.old.drivers)
             (IsOver self.old.notes.ended self.old.drivers.over self.old.drivers.budget (vec_capacity self.old.notes.items) (vec_len self.old.notes.items))
             result (guarded_of self.new.drivers) }
@@ -149,4 +158,14 @@ impl<D: LocalDriver> Link for Driven<D> {
     fn budget(&self) -> u64 {
         self.drivers.budget
     }
+
+    ghost stays = { λ l. goes_nowhere D.state (guarded_of l.drivers) (history_of l.notes.ended l.notes.items.items) };
+
+    ghost joins = { λ l m n first next. goes_then D.state (guarded_of l.drivers) (guarded_of m.drivers) (guarded_of n.drivers)
+        (history_of l.notes.ended l.notes.items.items) (history_of m.notes.ended m.notes.items.items)
+        (history_of n.notes.ended n.notes.items.items) first next };
+}
+
+impl<D: LocalDriver> TrueLink for Driven<D> {
+    ghost replies_are_true = { λ l v marks kept. kept.kept.true_replies };
 }

@@ -1,6 +1,5 @@
 pub mod Runs
 pub mod Going
-pub mod Coming
 pub mod Opens
 pub mod NotesLaws
 pub mod LinkLaws

@@ -1,5 +1,5 @@
--- What the inline link has of its drivers.
-use Rattle.std.specs.Prelude.{◌≡◌, ℕ, List, All, Option, Some, is_some, IfSome, slice_index}
+-- What a link that runs its drivers has of them.
+use Rattle.std.specs.Prelude.{◌≡◌, ℕ, List, All, Option, Some, is_some, IfSome}
 use Rattle.endpoint.specs.declared.Endpoint.{Endpoint}
 use Rattle.message.specs.declared.BlockRequest.{BlockRequest}
 use Rattle.marks.specs.Marks.{Mark}
@@ -15,12 +15,13 @@ pub record IsReady (v : Opening) (d : DriverState) : Type 0 where
   pub driver : IsDriver d
   pub ready : range_while_fresh d v.minor ≡ Some (v.first, v.count)
 
--- the media, the slots, the running driver and its endpoint, the drivers that weren't started and the line fit the record
-pub record LinkKept (v : Opening) (media : MediaState) (slots : List ℕ) (endpoint : Endpoint) (running : Option DriverState)
+-- the media, the generation of the last start, the running driver and its endpoint, the drivers that weren't started and the line fit
+-- the record
+pub record LinkKept (v : Opening) (media : MediaState) (generation : ℕ) (endpoint : Endpoint) (running : Option DriverState)
     (supply : List DriverState) (line : List BlockRequest) (marks : List Mark) : Type 0 where
   pub driver : DriverState
   pub kept : Kept v media driver (is_some running) line marks
   pub current : IfSome running (λ d. driver ≡ d)
   pub endpoint_is : IfSome running (λ d. endpoint ≡ driver_at media.generation)
-  pub slots_are : slice_index slots 1 ≡ media.generation
+  pub generation_is : generation ≡ media.generation
   pub supply_is : All (IsReady v) supply

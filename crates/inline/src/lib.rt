@@ -1,10 +1,6 @@
-//! The link of a file server to drivers that it runs itself.
+//! What a link needs that runs its drivers itself: running one of them, and noting what the link was told and gave.
 #![tactic(auto)]
 
-pub mod drivers;
-pub mod link;
 pub mod local;
 pub mod note;
 pub mod running;
-
-pub use link::Inline;

@@ -7,11 +7,13 @@ ghost use Rattle.marks.specs.Opening.{Opening};
 ghost use Rattle.media.specs.Contents.{MediaState};
 ghost use Rattle.inline.specs.Running.{Kept, StepLeaves, RunLeaves};
 ghost use Rattle.inline.specs.Steps.{Machine, HandsOver, StepsOnce, RunsTo};
+ghost use Rattle.inline.specs.Comes.{stamp};
 
 use crate::local::LocalDriver;
 use bdev::{Accept, Answer, Step};
+use endpoint::Endpoint;
 use media::Media;
-use message::BlockRequest;
+use message::{BlockReply, BlockRequest};
 use std::collections::VecDeque;
 
 /// How a run of a driver ended.
@@ -23,6 +25,19 @@ pub enum Ran {
     Failed,
     /// No step is left.
     Spent,
+}
+
+/// A driver's answer, under the driver's endpoint.
+pub fn stamped(from: Endpoint, answer: &Answer) -> BlockReply
+    ensures { result ≡ stamp from answer.now }
+{
+    let bytes = answer.bytes;
+    BlockReply {
+        from,
+        id: answer.id,
+        outcome: answer.outcome,
+        bytes,
+    }
 }
 
 /// Hands the front of the line to the driver; a busy driver leaves it there.

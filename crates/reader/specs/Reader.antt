@@ -46,12 +46,11 @@ reader g minor table told ended = record {
 }
 
 -- A server stands over its link, for a volume as it was handed in and its tree: it serves with this record, of which the link gives
--- its guarantee, and whose replies are true.
+-- its guarantee. Whether its replies are true isn't said.
 pub record Stands (s : Serving) (guarantee : Truth) (v : Opening) (tree : Tree) (marks : List Mark) : Type 0 where
   pub minor : v.minor ≡ s.minor
   pub serves : Serves s (contents_at v) tree marks
   pub truth : guarantee v marks
-  pub true_replies : HasTrueReplies (contents_at v) marks
 
 -- the guarantee doesn't rest on calls: what holds of a record holds of it and a call
 abbrev pub RestsNotOnCalls : Truth → Type 0

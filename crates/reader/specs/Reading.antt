@@ -2,7 +2,7 @@
 use Rattle.std.specs.Prelude.{◌≡◌, ℕ, ◌+◌, ◌<◌, List, ◌++◌, true, false, Result, Ok, Err, slice_index}
 use Rattle.marks.specs.Marks.{Mark}
 use Rattle.marks.specs.Disk.{Contents, HasTrueReplies, bytes_read, disk_after, unsure}
-use Rattle.marks.specs.Opening.{Opening, contents_at}
+use Rattle.marks.specs.Opening.{Opening}
 use Rattle.marks.specs.Told.{Told, took_end}
 use Rattle.marks.specs.Acts.{Act, told_of, has_absorbed, marks_after, outbox_after, KeepsRules}
 use Rattle.reissue.specs.declared.table.Table.{Table}
@@ -10,9 +10,9 @@ use Rattle.reissue.specs.Agrees.{Agrees}
 use Rattle.reissue.specs.Entries.{AllOfMinor}
 use Rattle.reissue.specs.Rules.{outbox_of}
 use Rattle.reissue.specs.Calls.{Truth}
-use Rattle.serve.specs.declared.reading.Stop.{Stop}
-use Rattle.serve.specs.declared.reading.Stop.TheVariants.{GaveUp, Ended}
-use Rattle.serve.specs.Reader.{IsIdle}
+use Rattle.reader.specs.declared.reading.Stop.{Stop}
+use Rattle.reader.specs.declared.reading.Stop.TheVariants.{GaveUp, Ended}
+use Rattle.reader.specs.Reader.{IsIdle}
 
 -- from a record that the one table agrees with, the acts keep the rules, and lead to one that the other agrees with and to what it owes
 pub record Follows (minor : ℕ) (acts : List Act) (old new : Table) (marks : List Mark) : Type 0 where
@@ -36,8 +36,7 @@ pub record Went (minor : ℕ) (old new : Table) (before after : List Told) (was 
   pub leaves : (image : Contents) (marks : List Mark) → Agrees old marks → AllOfMinor minor old.pending
       → HasTrueReplies image (marks_after acts marks) → LeavesDisk image marks (marks_after acts marks)
   pub truth : (v : Opening) (marks : List Mark) → v.minor ≡ minor → Agrees old marks → AllOfMinor minor old.pending
-      → was v marks → HasTrueReplies (contents_at v) marks
-      → is v (marks_after acts marks) × HasTrueReplies (contents_at v) (marks_after acts marks)
+      → was v marks → is v (marks_after acts marks)
 
 -- the first bytes are those of the good answers, joined, and over true replies the disk's where it is sure
 pub record AreRead (start size : ℕ) (bytes : List ℕ) (marks : List Mark) : Type 0 where

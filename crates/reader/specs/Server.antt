@@ -1,6 +1,7 @@
 -- A server that reads alone, as contracts see it, and what its calls keep.
-use Rattle.std.specs.Prelude.{◌≡◌, ℕ, ◌+◌, List, Bool}
+use Rattle.std.specs.Prelude.{◌≡◌, ℕ, ◌+◌, List, Bool, false}
 use Rattle.layout.specs.declared.Geometry.{Geometry}
+use Rattle.layout.specs.Places.{IsGeometry}
 use Rattle.tree.specs.declared.Who.{Who}
 use Rattle.tree.specs.declared.Attributes.{Attributes}
 use Rattle.tree.specs.declared.Call.{Call}
@@ -12,48 +13,50 @@ use Rattle.volume.specs.Reading.{inode_in}
 use Rattle.inode.specs.Bytes.{attributes_in}
 use Rattle.inode.specs.Laws.{root_place}
 use Rattle.marks.specs.Marks.{Mark}
-use Rattle.marks.specs.Disk.{Contents, HasTrueReplies, bytes_read}
+use Rattle.marks.specs.Disk.{Contents, bytes_read}
 use Rattle.marks.specs.Opening.{Opening, contents_at}
+use Rattle.marks.specs.Told.{Told, took_end}
 use Rattle.marks.specs.Acts.{marks_after}
 use Rattle.legal.specs.ServerCall.{Serving, Outcome, Replied, Cut, with_outcome, CallKeeps}
-use Rattle.reissue.specs.declared.link.Link.{Ghosts}
-use Rattle.reissue.specs.Transfers.{table_of, link_of}
+use Rattle.reissue.specs.Transfers.{table_of, link_of, with_link}
 use Rattle.reissue.specs.Calls.{Truth}
-use Rattle.serve.specs.declared.server.Server.{Server}
-use Rattle.serve.specs.Reader.{reader, Stands, RestsNotOnCalls}
+use Rattle.reader.specs.declared.server.Server.{Server}
+use Rattle.reader.specs.Reader.{reader, Stands, RestsNotOnCalls, IsIdle}
 
 -- the link that it is over
-abbrev pub line_of : {L : Type 0} {g : Ghosts L} → Server L g → L
+abbrev pub line_of : {L : Type 0} → Server L → L
 line_of s = link_of s.transfers
 
--- a server as contracts see it
-abbrev pub serving : {L : Type 0} {g : Ghosts L} → Server L g → Serving
-serving {L} {g} s = reader s.geometry s.minor (table_of s.transfers) (g.history (link_of s.transfers)) s.ended
+-- the server with another link in its place
+abbrev pub with_line : {L : Type 0} → Server L → L → Server L
+with_line s line = record s { transfers = with_link s.transfers line }
 
--- what its link guarantees of a record
-abbrev pub guarantee_of : {L : Type 0} {g : Ghosts L} → Server L g → Truth
-guarantee_of {L} {g} s = g.truth (link_of s.transfers)
+-- a server as contracts see it, by what its link was told and gave
+abbrev pub serving : {L : Type 0} → (L → List Told) → Server L → Serving
+serving history s = reader s.geometry s.minor (table_of s.transfers) (history (line_of s)) s.ended
 
 -- whether the device was given up, as its link has told
-abbrev pub is_given_up : {L : Type 0} {g : Ghosts L} → Server L g → Bool
+abbrev pub is_given_up : {L : Type 0} → Server L → Bool
 is_given_up s = (table_of s.transfers).given_up
+
+-- It may be called: its sizes are a volume's, it knows whether its link has ended, and until then, or until the device is given up, nothing
+-- is pending, and there is room and ids are left.
+pub record IsReady {L : Type 0} (history : L → List Told) (room budget_left : L → ℕ) (s : Server L) : Type 0 where
+  pub sizes : IsGeometry s.geometry
+  pub told_end : s.ended ≡ took_end (history (line_of s))
+  pub idle : s.ended ≡ false → is_given_up s ≡ false → IsIdle (table_of s.transfers) (room (line_of s)) (budget_left (line_of s))
 
 -- what a call gave back
 abbrev pub outcome_of : TreeOutcome → Outcome
 outcome_of (tree.Reply r) = Replied (answer_of r)
 outcome_of tree.Cut = Cut
 
--- One call: it keeps what servers keep; its link's guarantee and true replies stay, up to the call's own mark; past it, and where the server
--- stood it stands with the record after the call, if the guarantee doesn't rest on calls.
+-- One call: it keeps what servers keep; its link's guarantee stays, up to the call's own mark; past it, and where the server stood it stands
+-- with the record after the call, if the guarantee doesn't rest on calls.
 pub record Calls (old new : Serving) (was is : Truth) (who : Who) (now : ℕ) (call : Call) (outcome : Outcome) : Type 0 where
   pub keeps : CallKeeps old who now call outcome new
   pub heard : (v : Opening) (tree : Tree) (marks : List Mark) → v.minor ≡ old.minor → old.Agrees (contents_at v) tree marks
-      → was v marks → HasTrueReplies (contents_at v) marks
-      → is v (marks_after keeps.acts marks) × HasTrueReplies (contents_at v) (marks_after keeps.acts marks)
-  pub truth : RestsNotOnCalls is → (v : Opening) (tree : Tree) (marks : List Mark) → v.minor ≡ old.minor
-      → old.Agrees (contents_at v) tree marks → was v marks → HasTrueReplies (contents_at v) marks
-      → is v (with_outcome who now call outcome (marks_after keeps.acts marks))
-      × HasTrueReplies (contents_at v) (with_outcome who now call outcome (marks_after keeps.acts marks))
+      → was v marks → is v (marks_after keeps.acts marks)
   pub stands : RestsNotOnCalls is → (v : Opening) (tree : Tree) (marks : List Mark) → Stands old was v tree marks
       → Stands new is v tree (with_outcome who now call outcome (marks_after keeps.acts marks))
 
@@ -66,11 +69,3 @@ pub record StatsRoot (old new : Serving) (was is : Truth) (who : Who) (now : ℕ
   pub calls : Calls old new was is who now call outcome
   pub read : (image : Contents) (tree : Tree) (marks : List Mark) (a : Attributes) → old.Agrees image tree marks
       → outcome ≡ Replied (node_is a) → a ≡ root_read old.geometry (marks_after calls.keeps.acts marks)
-
--- but for its link the server is as it was, and the link was told nothing and gave nothing
-pub record SameServer {L : Type 0} {g : Ghosts L} (old new : Server L g) : Type 0 where
-  pub geometry : new.geometry ≡ old.geometry
-  pub minor : new.minor ≡ old.minor
-  pub ended : new.ended ≡ old.ended
-  pub table : table_of new.transfers ≡ table_of old.transfers
-  pub history : g.history (line_of new) ≡ g.history (line_of old)

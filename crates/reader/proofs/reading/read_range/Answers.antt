@@ -2,8 +2,8 @@ use Rattle.std.proofs.Common.{◌≡◌, arith, refl, ◌∙◌, ap, rules, ℕ,
 use Rattle.reissue.specs.Moves.{Begun, begun_by, put}
 use Rattle.reissue.specs.Entries.{pending_of}
 use Rattle.reissue.specs.Transfers.{table_of}
-use Rattle.serve.proofs.ReadLaws.{nothing_begun, no_write, only_begun, went_begin, goes_on_reading, ends_read, ends_given_up, ends_ended}
-use Rattle.serve.proofs.reading.read_range.Goals as goal
+use Rattle.reader.proofs.ReadLaws.{nothing_begun, no_write, only_begun, went_begin, goes_on_reading, ends_read, ends_given_up, ends_ended}
+use Rattle.reader.proofs.reading.read_range.Goals as goal
 
 pub loop-settled-init : goal.loop-settled-init
 loop-settled-init g c =
@@ -12,6 +12,7 @@ loop-settled-init g c =
     b.opens.1 ∙ ap (λ (f : ℕ → Option Begun). put f c.in-Ok.ticket (Some (begun_by c.args.ask.now))) (nothing_begun _ c.requires.idle.pending) in
     record {
       went = went_begin c.args.ask.now _ _ c.in-Ok.ticket _ _ _ _ c.requires.kind pending b.begins;
+      goes = b.goes;
       pending = pending;
       live = b.begins.given_up ∙ c.requires.live;
       unended = b.begins.ended ∙ c.requires.unended;
@@ -23,6 +24,7 @@ returns-then-eq g c =
     let i = c.loop-settled.invariant in
     let x = c.in-Read.ensures in
     record {
+      goes = g.met.L.Link.joins _ _ _ i.goes x.goes;
       reads = ends_read c.args.ask.now c.in-Ok.ticket c.in-Read.settled c.in-Read.bytes _ _ _ _ _ _ _ _ _ _ _ c.requires.kind i.pending i.live i.unended i.went x.steps
           (x.room refl) (omega (arith, x.ids, x.falls refl, i.numbers));
     }
@@ -38,12 +40,20 @@ loop-settled-preserved-else-eq g c =
 pub returns-in-GaveUp : goal.returns-in-GaveUp
 returns-in-GaveUp g c =
     let i = c.loop-settled.invariant in
-    record { reads = ends_given_up c.args.ask.now c.in-Ok.ticket _ _ _ _ _ _ _ _ _ _ _ c.requires.kind i.pending i.live i.unended i.went c.in-GaveUp.ensures.steps }
+    let x = c.in-GaveUp.ensures in
+    record {
+      goes = g.met.L.Link.joins _ _ _ i.goes x.goes;
+      reads = ends_given_up c.args.ask.now c.in-Ok.ticket _ _ _ _ _ _ _ _ _ _ _ c.requires.kind i.pending i.live i.unended i.went x.steps;
+    }
 
 pub returns-in-End : goal.returns-in-End
 returns-in-End g c =
     let i = c.loop-settled.invariant in
-    record { reads = ends_ended c.args.ask.now c.in-Ok.ticket _ _ _ _ _ _ _ _ _ _ _ c.requires.kind i.pending i.live i.went c.in-End.ensures.steps }
+    let x = c.in-End.ensures in
+    record {
+      goes = g.met.L.Link.joins _ _ _ i.goes x.goes;
+      reads = ends_ended c.args.ask.now c.in-Ok.ticket _ _ _ _ _ _ _ _ _ _ _ c.requires.kind i.pending i.live i.went x.steps;
+    }
 
 pub loop-settled-preserved-in-Written : goal.loop-settled-preserved-in-Written
 loop-settled-preserved-in-Written g c =
@@ -57,6 +67,7 @@ loop-settled-preserved-in-Nothing g c =
     let x = c.in-Nothing.ensures in
     record {
       went = goes_on_reading c.args.ask.now c.in-Ok.ticket _ _ _ _ _ _ _ _ _ _ c.requires.kind i.pending i.live i.went x.steps;
+      goes = g.met.L.Link.joins _ _ _ i.goes x.goes;
       pending = x.steps.closes ∙ i.pending;
       live = x.steps.given_up ∙ i.live;
       unended = x.steps.ended ∙ i.unended;
@@ -69,6 +80,7 @@ loop-settled-preserved g c =
     let x = c.in-Flush.ensures in
     record {
       went = goes_on_reading c.args.ask.now c.in-Ok.ticket _ _ _ _ _ _ _ _ _ _ c.requires.kind i.pending i.live i.went x.steps;
+      goes = g.met.L.Link.joins _ _ _ i.goes x.goes;
       pending = x.steps.closes ∙ i.pending;
       live = x.steps.given_up ∙ i.live;
       unended = x.steps.ended ∙ i.unended;

@@ -9,7 +9,6 @@ use Rattle.marks.specs.Open.{counts}
 use Rattle.marks.specs.Disk.{Contents, HasTrueReplies}
 use Rattle.marks.specs.Told.{Told, Posted, Complained, Received, received, grown, took_end}
 use Rattle.marks.specs.Acts.{Act, Began, Absorbed, AtLink, Outbox, told_of, has_absorbed, marks_after, outbox_after, KeepsRules}
-use Rattle.marks.specs.Opening.{contents_at}
 use Rattle.marks.proofs.ActLaws.{acts_compose}
 use Rattle.reissue.specs.declared.ask.Ask.{Ask}
 use Rattle.reissue.specs.declared.ask.Settled.{Settled}
@@ -19,13 +18,13 @@ use Rattle.reissue.specs.declared.table.Table.{Table}
 use Rattle.reissue.specs.Entries.{pending_of, begun_of, AllOfMinor}
 use Rattle.reissue.specs.Agrees.{Agrees}
 use Rattle.reissue.specs.Moves.{Begun, IsBusy, IsQuiet, Spares, put, state_after, begun_by, written_by}
-use Rattle.reissue.specs.Posts.{OnlyPosts, HasRoom}
+use Rattle.reissue.specs.Posts.{HasRoom}
 use Rattle.reissue.specs.Rules.{outbox_of}
 use Rattle.reissue.specs.Calls.{Truth, Begins, Steps}
 use Rattle.reissue.proofs.Maps.{put-same, put_cases}
 use Rattle.reissue.proofs.Tickets.{pending_here}
-use Rattle.serve.specs.declared.reading.Stop.TheVariants.{GaveUp, Ended}
-use Rattle.serve.specs.Reading.{LeavesDisk, Went, AreRead, Reads}
+use Rattle.reader.specs.declared.reading.Stop.TheVariants.{GaveUp, Ended}
+use Rattle.reader.specs.Reading.{LeavesDisk, Went, AreRead, Reads}
 
 -- neither has a handed message
 none_both : (later acts : List Act) → has_absorbed later ≡ false → has_absorbed acts ≡ false → has_absorbed (later ++ acts) ≡ false
@@ -54,14 +53,6 @@ true_before (AtLink (Posted to r true) ∷ acts) image marks h = true_before act
 true_before (AtLink (Posted to r false) ∷ acts) image marks h = true_before acts image marks h
 true_before (AtLink (Complained e) ∷ acts) image marks h = true_before acts image marks h
 true_before (AtLink (Received m) ∷ acts) image marks h = true_before acts image marks (true_received m image (marks_after acts marks) h)
-
--- posts answer nothing
-true_posted : (es : List Told) (image : Contents) (marks : List Mark) → OnlyPosts es → HasTrueReplies image marks → HasTrueReplies image (grown es marks)
-true_posted [] image marks o h = h
-true_posted (Posted to r true ∷ es) image marks o h = true_posted es image marks o h
-true_posted (Posted to r false ∷ es) image marks o h = true_posted es image marks o h
-true_posted (Complained e ∷ es) image marks o h = absurd o
-true_posted (Received m ∷ es) image marks o h = absurd o
 
 -- where no write is pending the disk stays
 leaves_quiet : (image : Contents) (marks more : List Mark) (pending : ℕ → Option Begun) → ((place : ℕ) → IsQuiet pending place)
@@ -162,11 +153,10 @@ went_begin ask s t ticket before after was is read pending b = record {
       let k = b.rules ask.minor marks h m refl in
       subst (λ (ms : List Mark). LeavesDisk image marks ms) (sym k.grows)
       (leaves_quiet image marks (grown b.posts marks) (pending_of t.pending) (quiet_read ask ticket (pending_of t.pending) read pending) (b.spares image marks h));
-  truth = λ v marks same h m k tr.
+  truth = λ v marks same h m k.
       let rules = b.rules ask.minor marks h m refl in
       let m' : AllOfMinor v.minor s.pending = subst (λ (n : ℕ). AllOfMinor n s.pending) (sym same) m in
-      subst (λ (ms : List Mark). is v ms × HasTrueReplies (contents_at v) ms) (sym rules.grows)
-      (b.truth v marks h (sym same) m' k, true_posted b.posts (contents_at v) marks b.only_posts tr);
+      subst (λ (ms : List Mark). is v ms) (sym rules.grows) (b.truth v marks h (sym same) m' k);
 }
 
 -- where a step leads, from what was done before it
@@ -222,11 +212,10 @@ went_step minor res s t u before between after was mid is r x busy quiet live =
           subst (λ (ms : List Mark). LeavesDisk image marks ms) (sym n.grows)
           (leaves_both image marks between' more (r.leaves image marks h m first)
           (leaves_quiet image between' more (pending_of t.pending) quiet ((x.closing between' n.agrees).moves image last).spares));
-      truth = λ v marks same h m k tr.
+      truth = λ v marks same h m k.
           let n = then marks h m in
           let m' : AllOfMinor v.minor t.pending = subst (λ (n : ℕ). AllOfMinor n t.pending) (sym same) (r.minors m) in
-          subst (λ (ms : List Mark). is v ms × HasTrueReplies (contents_at v) ms) (sym n.grows)
-          (x.truth v (marks_after r.acts marks) n.agrees m' (r.truth v marks same h m k tr).0);
+          subst (λ (ms : List Mark). is v ms) (sym n.grows) (x.truth v (marks_after r.acts marks) n.agrees m' (r.truth v marks same h m k));
     }
 
 -- the read is settled

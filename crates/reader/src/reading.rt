@@ -3,8 +3,8 @@
 ghost use Rattle.std.specs.Prelude.{◌≡◌, false};
 ghost use Rattle.marks.specs.Told.{took_end};
 ghost use Rattle.reissue.specs.Transfers.{link_of, table_of};
-ghost use Rattle.serve.specs.Reader.{IsIdle};
-ghost use Rattle.serve.specs.Reading.{Reads};
+ghost use Rattle.reader.specs.Reader.{IsIdle};
+ghost use Rattle.reader.specs.Reading.{Reads};
 
 use message::Kind;
 use reissue::{Ask, Link, Settled, Transfers};
@@ -27,6 +27,7 @@ pub(crate) fn read_range<L: Link>(
     requires live { (table_of transfers.old).given_up ≡ false }
     requires unended { took_end (L.history (link_of transfers.old)) ≡ false }
     requires idle { IsIdle (table_of transfers.old) (L.room (link_of transfers.old)) (L.budget_left (link_of transfers.old)) }
+    ensures goes { L.goes_on (link_of transfers.old) (link_of transfers.new) }
     ensures reads { Reads result ask.now.minor ask.now.position ask.now.count (table_of transfers.old) (table_of transfers.new)
         (L.history (link_of transfers.old)) (L.history (link_of transfers.new)) (L.truth (link_of transfers.old)) (L.truth (link_of transfers.new))
         (L.room (link_of transfers.new)) (L.budget_left (link_of transfers.new)) }

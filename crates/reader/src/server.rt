@@ -1,10 +1,17 @@
 //! A file server for one volume.
 
 ghost use Rattle.std.specs.Prelude.{◌≡◌, ◌≤◌, ◌<◌, ◌^◌, ◌↔◌, ◌⊎◌, ℕ, List, [], IfOk, false, true, codes};
+ghost use Rattle.std.specs.Borrow.{Bor, Lends, sem};
 ghost use Rattle.layout.specs.Places.{IsGeometry};
 ghost use Rattle.marks.specs.Told.{took_end};
-ghost use Rattle.reissue.specs.Transfers.{link_of, table_of};
-ghost use Rattle.serve.specs.Reader.{IsIdle};
+ghost use Rattle.marks.specs.Opening.{Opening, contents_at};
+ghost use Rattle.tree.specs.Tree.{Tree};
+ghost use Rattle.tree.specs.declared.Attributes.{Attributes};
+ghost use Rattle.legal.specs.Legal.{IsAtFirst};
+ghost use Rattle.inode.specs.Laws.{root_place};
+ghost use Rattle.reissue.specs.Transfers.{table_of};
+ghost use Rattle.reader.specs.Reader.{Stands};
+ghost use Rattle.reader.specs.Reading.{Reads};
 
 use crate::reading::{Stop, read_range};
 use errno::Errno;
@@ -25,23 +32,12 @@ pub struct Server<L: Link> {
     // The range of the media that requests name.
     minor: u8,
     // A take gave End.
-    pub(crate) ended: bool,
-    ghost sizes: { IsGeometry geometry },
-    ghost told_end: { ended ≡ took_end (L.history (link_of transfers)) },
-    ghost idle: { ended ≡ false → (table_of transfers).given_up ≡ false
-        → IsIdle (table_of transfers) (L.room (link_of transfers)) (L.budget_left (link_of transfers)) },
+    ended: bool,
 }
 
 impl<L: Link> Server<L> {
-    ghost use Rattle.marks.specs.Opening.{Opening, contents_at};
-    ghost use Rattle.tree.specs.Tree.{Tree};
-    ghost use Rattle.tree.specs.declared.Attributes.{Attributes};
-    ghost use Rattle.legal.specs.Legal.{IsAtFirst};
-    ghost use Rattle.serve.specs.Reader.{Stands};
-    ghost use Rattle.inode.specs.Laws.{root_place};
-    ghost use Rattle.serve.specs.Reading.{Reads};
-    ghost use Rattle.std.specs.Borrow.{Bor};
-    ghost use Rattle.serve.specs.Server.{serving, line_of, guarantee_of, is_given_up, outcome_of, StatsRoot};
+    ghost use Rattle.reader.specs.Server.{serving, line_of, with_line, is_given_up, outcome_of, IsReady, StatsRoot};
+    ghost use Rattle.reader.specs.contracts.server.Server.{the_row};
 
     /// A server that has asked nothing yet, for a volume of these sizes in a range of the media. The link hasn't ended, and gives at most
     /// 2^58 messages. All memory that the server needs is taken here: where there is none, the link is let go.
@@ -61,8 +57,9 @@ impl<L: Link> Server<L> {
         ensures minor { IfOk result (λ s. s.minor ≡ minor) }
         ensures ended { IfOk result (λ s. s.ended ≡ false) }
         ensures given_up { IfOk result (λ s. is_given_up s ≡ false) }
+        ensures ready { IfOk result (λ s. IsReady L.history L.room L.budget_left s) }
         ensures stands { IfOk result (λ s. (v : Opening) (tree : Tree) → v.minor ≡ minor → IsAtFirst geometry (contents_at v) tree
-            → L.truth link v [] → Stands (serving s) (guarantee_of s) v tree []) }
+            → L.truth link v [] → Stands (serving L.history s) (L.truth link) v tree []) }
     {
         Ok(Server {
             transfers: Transfers::new(alloc, link)?,
@@ -75,8 +72,12 @@ impl<L: Link> Server<L> {
     /// The attributes of the root, by the bytes of inode 1, which are read through the link each time. Cut once a take gave End; else
     /// EIO once the device was given up; else EINVAL where the session isn't below 64.
     pub fn stat_root(&mut self, who: Who, now: u32) -> Outcome
+        requires ready { IsReady L.history L.room L.budget_left self.old }
+        ensures ready { IsReady L.history L.room L.budget_left self.new }
+        ensures goes { L.goes_on (line_of self.old) (line_of self.new) }
         ensures stats { (path : Bor (List ℕ)) → path.now ≡ codes "/"
-            → StatsRoot (serving self.old) (serving self.new) (guarantee_of self.old) (guarantee_of self.new) who now (Call.Stat path) (outcome_of result) }
+            → StatsRoot (serving L.history self.old) (serving L.history self.new) (L.truth (line_of self.old)) (L.truth (line_of self.new)) who now
+            (Call.Stat path) (outcome_of result) }
         ensures cut { (result ≡ Outcome.Cut) ↔ (self.new.ended ≡ true) }
         ensures cut_leaves { result ≡ Outcome.Cut → is_given_up self.new ≡ is_given_up self.old }
         ensures eio { (result ≡ Outcome.Reply (Reply.Refused Errno.EIO)) ↔ ((self.new.ended ≡ false) × (is_given_up self.new ≡ true)) }
@@ -112,11 +113,14 @@ impl<L: Link> Server<L> {
 
     /// Reads the block that begins there.
     fn read_block(&mut self, position: u64) -> Result<[u8; 4096], Stop>
-        requires live { (table_of self.old.transfers).given_up ≡ false }
+        requires ready { IsReady L.history L.room L.budget_left self.old }
+        requires live { is_given_up self.old ≡ false }
         requires unended { self.old.ended ≡ false }
         requires place { position ≡ root_place self.old.geometry }
+        ensures ready { IsReady L.history L.room L.budget_left self.new }
+        ensures goes { L.goes_on (line_of self.old) (line_of self.new) }
         ensures reads { Reads result self.old.minor position self.old.geometry.block_size (table_of self.old.transfers) (table_of self.new.transfers)
-            (L.history (line_of self.old)) (L.history (line_of self.new)) (guarantee_of self.old) (guarantee_of self.new)
+            (L.history (line_of self.old)) (L.history (line_of self.new)) (L.truth (line_of self.old)) (L.truth (line_of self.new))
             (L.room (line_of self.new)) (L.budget_left (line_of self.new)) }
         ensures geometry { self.new.geometry ≡ self.old.geometry }
         ensures minor { self.new.minor ≡ self.old.minor }
@@ -134,16 +138,31 @@ impl<L: Link> Server<L> {
         self.transfers.is_given_up()
     }
 
+    /// Whether a take gave End: each call is cut from then on.
+    pub fn has_ended(&self) -> bool
+        ensures { result ≡ self.now.ended }
+    {
+        self.ended
+    }
+
     /// The link.
     pub fn link(&self) -> &L
         ensures { result.now ≡ line_of self.now }
     {
         self.transfers.link()
     }
+
+    /// The link, to be changed: all else stays as it is.
+    pub fn link_mut(&mut self) -> &mut L
+        ensures* lends { sem 𝓛 (Lends (the_row L.row) L.row self.entry result (with_line self.entry.now)) }
+        ensures value { result.now ≡ line_of self.old }
+    {
+        self.transfers.link_mut()
+    }
 }
 
 impl<L: Link> Serve for Server<L> {
-    ghost use Rattle.serve.specs.Server.{serving as as_seen};
+    ghost use Rattle.reader.specs.Server.{serving as as_seen};
 
-    ghost serving = { as_seen };
+    ghost serving = { as_seen L.history };
 }

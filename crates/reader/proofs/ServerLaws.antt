@@ -38,10 +38,10 @@ use Rattle.reissue.specs.Entries.{AllOfMinor}
 use Rattle.reissue.specs.Calls.{Truth}
 use Rattle.reissue.proofs.TableRules.{at_rest}
 use Rattle.reissue.proofs.Taking.{agrees_took}
-use Rattle.serve.specs.Reader.{IsReader, reader, Stands, RestsNotOnCalls}
-use Rattle.serve.specs.Reading.{Went, AreRead}
-use Rattle.serve.specs.Server.{Calls, StatsRoot}
-use Rattle.serve.proofs.ReadLaws.{true_before}
+use Rattle.reader.specs.Reader.{IsReader, reader, Stands, RestsNotOnCalls}
+use Rattle.reader.specs.Reading.{Went, AreRead}
+use Rattle.reader.specs.Server.{Calls, StatsRoot}
+use Rattle.reader.proofs.ReadLaws.{true_before}
 
 -- an End in either
 took_end_both : (later told : List Told) → took_end (later ++ told) ≡ (took_end later || took_end told)
@@ -258,11 +258,9 @@ calls_cut g minor old new before after was is o e who now call w q ended =
         after_end = q.ended;
         serves = serves;
       };
-      heard = λ v tree marks same r k replies. w.truth v marks same r.table r.minors k replies;
-      truth = λ rests v tree marks same r k replies. w.truth v marks same r.table r.minors k replies;
+      heard = λ v tree marks same r k. w.truth v marks same r.table r.minors k;
       stands = λ rests v tree marks s.
-          let k = w.truth v marks s.minor s.serves.agrees.table s.serves.agrees.minors s.truth s.true_replies in
-          record { minor = s.minor; serves = serves (contents_at v) tree marks s.serves; truth = k.0; true_replies = k.1 };
+          record { minor = s.minor; serves = serves (contents_at v) tree marks s.serves; truth = w.truth v marks s.minor s.serves.agrees.table s.serves.agrees.minors s.truth };
     }
 
 -- a call that is answered
@@ -276,11 +274,6 @@ calls_answered g minor old new before after was is o e who now call answer w q l
     let serves = λ (image : Contents) (tree : Tree) (marks : List Mark) (s : Serves (reader g minor old before o) image tree marks).
     serves_took g minor new after e image tree (marks_after w.acts marks) who now call answer (right image tree marks s.agrees)
     (serves_after g minor old new before after was is o e image tree marks w s) in
-    let truth : RestsNotOnCalls is → (v : Opening) (tree : Tree) (marks : List Mark) → v.minor ≡ minor → IsReader g minor old (contents_at v) tree marks
-    → was v marks → HasTrueReplies (contents_at v) marks
-    → is v (Took who now call answer ∷ marks_after w.acts marks) × HasTrueReplies (contents_at v) (marks_after w.acts marks) =
-    λ rests v tree marks same r k replies.
-    let t = w.truth v marks same r.table r.minors k replies in (rests v (marks_after w.acts marks) who now call answer t.0, t.1) in
     record {
       keeps = record {
         acts = w.acts;
@@ -298,11 +291,13 @@ calls_answered g minor old new before after was is o e who now call answer w q l
         after_end = q.ended;
         serves = serves;
       };
-      heard = λ v tree marks same r k replies. w.truth v marks same r.table r.minors k replies;
-      truth = truth;
+      heard = λ v tree marks same r k. w.truth v marks same r.table r.minors k;
       stands = λ rests v tree marks s.
-          let k = truth rests v tree marks s.minor s.serves.agrees s.truth s.true_replies in
-          record { minor = s.minor; serves = serves (contents_at v) tree marks s.serves; truth = k.0; true_replies = k.1 };
+          record {
+            minor = s.minor;
+            serves = serves (contents_at v) tree marks s.serves;
+            truth = rests v (marks_after w.acts marks) who now call answer (w.truth v marks s.minor s.serves.agrees.table s.serves.agrees.minors s.truth);
+          };
     }
 
 -- nothing was done
@@ -314,7 +309,7 @@ went_none minor t told was = record {
   minors = λ m. m;
   follows = λ marks h m. record { keep = tt; owes = refl; agrees = h };
   leaves = λ image marks h m replies. record { disk = λ place. refl; sure = λ place sure. sure };
-  truth = λ v marks same h m k replies. (k, replies);
+  truth = λ v marks same h m k. k;
 }
 
 -- nothing is done where none was
@@ -497,7 +492,6 @@ stands_opened g minor t told guarantee h none v tree same first truth =
         has_tree = λ replies live not_given_up. reader_has_tree g minor t told false (contents_at v) tree [] r replies;
       };
       truth = truth;
-      true_replies = tt;
     }
 
 -- a block holds an inode

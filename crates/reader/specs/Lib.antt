@@ -1,0 +1,3 @@
+pub mod Reader
+pub mod Reading
+pub mod Server
