@@ -1,5 +1,5 @@
 -- What each call leads to.
-use Rattle.std.proofs.Common.{◌≡◌, List, [], ◌∷◌, ◌++◌, Bool, true, false, refl, sym, ◌∙◌, subst}
+use Rattle.std.proofs.Common.{◌≡◌, List, [], ◌∷◌, ◌++◌, Bool, true, false, refl, sym, ◌∙◌, ap, subst}
 use Rattle.std.specs.Prelude.{Result, Ok, Err, OnOk, OnErr, if◌then◌else◌}
 use Rattle.reissue.specs.declared.link.LinkRefusal.{LinkRefusal}
 use Rattle.endpoint.specs.declared.Endpoint.{Endpoint}
@@ -31,6 +31,11 @@ leads_post : {D : Type 0} (state : D → DriverState) (b a : Guarded D) (r : Blo
     → OnOk result (a ≡ record b { line = b.line ++ r ∷ [] }) → OnErr result (a ≡ b) → Leads state b a
 leads_post state b a r (Ok u) is same = record { turns = []; run = Posted [] b a r Begins is }
 leads_post state b a r (Err e) is same = leads_nowhere state b a same
+
+-- where a refusal leaves all, it leaves what is seen of it
+pub refused_leaves : {A B : Type 0} (b a : A) (result : Result Unit LinkRefusal) (f : A → B) → OnErr result (a ≡ b) → OnErr result (f a ≡ f b)
+refused_leaves b a (Ok u) f same = tt
+refused_leaves b a (Err e) f same = ap f same
 
 -- what was told last stands at the front
 pub goes_told : {D : Type 0} (state : D → DriverState) (b a : Guarded D) (before after : List Told) (t : Told) → Leads state b a

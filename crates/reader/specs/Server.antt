@@ -1,5 +1,5 @@
 -- A server that reads alone, as contracts see it, and what its calls keep.
-use Rattle.std.specs.Prelude.{◌≡◌, ℕ, ◌+◌, List, Bool, false}
+use Rattle.std.specs.Prelude.{◌≡◌, ◌+◌, Bool, ℕ, false}
 use Rattle.layout.specs.declared.Geometry.{Geometry}
 use Rattle.layout.specs.Places.{IsGeometry}
 use Rattle.tree.specs.declared.Who.{Who}
@@ -15,9 +15,10 @@ use Rattle.inode.specs.Laws.{root_place}
 use Rattle.marks.specs.Marks.{Mark}
 use Rattle.marks.specs.Disk.{Contents, bytes_read}
 use Rattle.marks.specs.Opening.{Opening, contents_at}
-use Rattle.marks.specs.Told.{Told, took_end}
+use Rattle.marks.specs.Told.{took_end}
 use Rattle.marks.specs.Acts.{marks_after}
 use Rattle.legal.specs.ServerCall.{Serving, Outcome, Replied, Cut, with_outcome, CallKeeps}
+use Rattle.reissue.specs.declared.link.Link.{Ghosts as LinkWords}
 use Rattle.reissue.specs.Transfers.{table_of, link_of, with_link}
 use Rattle.reissue.specs.Calls.{Truth}
 use Rattle.reader.specs.declared.server.Server.{Server}
@@ -31,9 +32,9 @@ line_of s = link_of s.transfers
 abbrev pub with_line : {L : Type 0} → Server L → L → Server L
 with_line s line = record s { transfers = with_link s.transfers line }
 
--- a server as contracts see it, by what its link was told and gave
-abbrev pub serving : {L : Type 0} → (L → List Told) → Server L → Serving
-serving history s = reader s.geometry s.minor (table_of s.transfers) (history (line_of s)) s.ended
+-- a server as contracts see it
+abbrev pub serving : {L : Type 0} → LinkWords L → Server L → Serving
+serving link s = reader s.geometry s.minor (table_of s.transfers) (link.history (line_of s)) s.ended
 
 -- whether the device was given up, as its link has told
 abbrev pub is_given_up : {L : Type 0} → Server L → Bool
@@ -41,10 +42,10 @@ is_given_up s = (table_of s.transfers).given_up
 
 -- It may be called: its sizes are a volume's, it knows whether its link has ended, and until then, or until the device is given up, nothing
 -- is pending, and there is room and ids are left.
-pub record IsReady {L : Type 0} (history : L → List Told) (room budget_left : L → ℕ) (s : Server L) : Type 0 where
+pub record IsReady {L : Type 0} (link : LinkWords L) (s : Server L) : Type 0 where
   pub sizes : IsGeometry s.geometry
-  pub told_end : s.ended ≡ took_end (history (line_of s))
-  pub idle : s.ended ≡ false → is_given_up s ≡ false → IsIdle (table_of s.transfers) (room (line_of s)) (budget_left (line_of s))
+  pub told_end : s.ended ≡ took_end (link.history (line_of s))
+  pub idle : s.ended ≡ false → is_given_up s ≡ false → IsIdle (table_of s.transfers) (link.room (line_of s)) (link.budget_left (line_of s))
 
 -- what a call gave back
 abbrev pub outcome_of : TreeOutcome → Outcome

@@ -57,9 +57,9 @@ impl<L: Link> Server<L> {
         ensures minor { IfOk result (λ s. s.minor ≡ minor) }
         ensures ended { IfOk result (λ s. s.ended ≡ false) }
         ensures given_up { IfOk result (λ s. is_given_up s ≡ false) }
-        ensures ready { IfOk result (λ s. IsReady L.history L.room L.budget_left s) }
+        ensures ready { IfOk result (λ s. IsReady L.Link s) }
         ensures stands { IfOk result (λ s. (v : Opening) (tree : Tree) → v.minor ≡ minor → IsAtFirst geometry (contents_at v) tree
-            → L.truth link v [] → Stands (serving L.history s) (L.truth link) v tree []) }
+            → L.truth link v [] → Stands (serving L.Link s) (L.truth link) v tree []) }
     {
         Ok(Server {
             transfers: Transfers::new(alloc, link)?,
@@ -72,11 +72,11 @@ impl<L: Link> Server<L> {
     /// The attributes of the root, by the bytes of inode 1, which are read through the link each time. Cut once a take gave End; else
     /// EIO once the device was given up; else EINVAL where the session isn't below 64.
     pub fn stat_root(&mut self, who: Who, now: u32) -> Outcome
-        requires ready { IsReady L.history L.room L.budget_left self.old }
-        ensures ready { IsReady L.history L.room L.budget_left self.new }
+        requires ready { IsReady L.Link self.old }
+        ensures ready { IsReady L.Link self.new }
         ensures goes { L.goes_on (line_of self.old) (line_of self.new) }
         ensures stats { (path : Bor (List ℕ)) → path.now ≡ codes "/"
-            → StatsRoot (serving L.history self.old) (serving L.history self.new) (L.truth (line_of self.old)) (L.truth (line_of self.new)) who now
+            → StatsRoot (serving L.Link self.old) (serving L.Link self.new) (L.truth (line_of self.old)) (L.truth (line_of self.new)) who now
             (Call.Stat path) (outcome_of result) }
         ensures cut { (result ≡ Outcome.Cut) ↔ (self.new.ended ≡ true) }
         ensures cut_leaves { result ≡ Outcome.Cut → is_given_up self.new ≡ is_given_up self.old }
@@ -113,11 +113,11 @@ impl<L: Link> Server<L> {
 
     /// Reads the block that begins there.
     fn read_block(&mut self, position: u64) -> Result<[u8; 4096], Stop>
-        requires ready { IsReady L.history L.room L.budget_left self.old }
+        requires ready { IsReady L.Link self.old }
         requires live { is_given_up self.old ≡ false }
         requires unended { self.old.ended ≡ false }
         requires place { position ≡ root_place self.old.geometry }
-        ensures ready { IsReady L.history L.room L.budget_left self.new }
+        ensures ready { IsReady L.Link self.new }
         ensures goes { L.goes_on (line_of self.old) (line_of self.new) }
         ensures reads { Reads result self.old.minor position self.old.geometry.block_size (table_of self.old.transfers) (table_of self.new.transfers)
             (L.history (line_of self.old)) (L.history (line_of self.new)) (L.truth (line_of self.old)) (L.truth (line_of self.new))
@@ -164,5 +164,5 @@ impl<L: Link> Server<L> {
 impl<L: Link> Serve for Server<L> {
     ghost use Rattle.reader.specs.Server.{serving as as_seen};
 
-    ghost serving = { as_seen L.history };
+    ghost serving = { as_seen L.Link };
 }
