@@ -1,5 +1,5 @@
 -- Over every run of the link's drivers the reincarnation server follows the restart policy.
-use Rattle.std.proofs.Common.{◌≡◌, List, [], ◌++◌, sym, ap, subst, max, inl, inr}
+use Rattle.std.proofs.Common.{◌≡◌, List, [], ◌++◌, refl, sym, ◌∙◌, ap, subst, max, inl, inr}
 use Rattle.std.proofs.Common.{append_assoc}
 use Rattle.message.specs.declared.Incoming.{Incoming}
 use Rattle.message.specs.declared.Incoming.TheVariants as incoming
@@ -63,3 +63,33 @@ follows_run state b drivers earlier follows c turns (Ended before x a run same) 
 
 pub every_run_follows : {D : Type 0} → EveryRunFollows D
 every_run_follows state b a drivers earlier turns follows run = follows_run state b drivers earlier follows a turns run
+
+-- nor does its policy change
+policy_gone : {D : Type 0} (state : D → DriverState) (b a : Guarded D) → IsGone state b a → a.server.policy ≡ b.server.policy
+policy_gone state b a (NoneRan none same) = ap (λ (g : Guarded _). g.server.policy) same
+policy_gone state b a (HasFailed failed fails told) = told.decides.policy ∙ ap (λ (g : Guarded _). g.server.policy) fails.now
+
+policy_waits : {D : Type 0} (b : Guarded D) (message : Incoming) (a : Guarded D) → WaitsFor b message a → a.server.policy ≡ b.server.policy
+policy_waits b (incoming.Reply reply) a waits = absurd waits
+policy_waits b (incoming.Started to) a waits = waits.decides.policy
+policy_waits b incoming.GaveUp a waits = ap (λ (g : Guarded _). g.server.policy) waits.1
+policy_waits b incoming.Flush a waits = absurd waits
+policy_waits b incoming.End a waits = ap (λ (g : Guarded _). g.server.policy) waits.now
+
+policy_comes : {D : Type 0} (state : D → DriverState) (b : Guarded D) (message : Incoming) (a : Guarded D) → ComesTo state b message a
+    → a.server.policy ≡ b.server.policy
+policy_comes state b (incoming.Reply reply) a comes = ap (λ (s : ReincarnationState _). s.policy) comes.1.server
+policy_comes state b (incoming.Started to) a comes =
+    policy_waits comes.between (incoming.Started to) a comes.waits ∙ policy_gone state b comes.between comes.gone
+policy_comes state b incoming.GaveUp a comes = policy_waits comes.between incoming.GaveUp a comes.waits ∙ policy_gone state b comes.between comes.gone
+policy_comes state b incoming.Flush a comes = absurd comes
+policy_comes state b incoming.End a (inl spent) = ap (λ (s : ReincarnationState _). s.policy) spent.rest.server
+policy_comes state b incoming.End a (inr comes) = policy_waits comes.between incoming.End a comes.waits ∙ policy_gone state b comes.between comes.gone
+
+pub same_policy : {D : Type 0} (state : D → DriverState) (b : Guarded D) (turns : List (Turn D)) (a : Guarded D) → Run state b turns a
+    → a.server.policy ≡ b.server.policy
+same_policy state b [] x Begins = refl
+same_policy state b turns c (Comes before x a message run comes) = policy_comes state x message a comes ∙ same_policy state b before x run
+same_policy state b turns c (Complained before x a run told) = told.decides.policy ∙ same_policy state b before x run
+same_policy state b turns c (Posted before x a request run same) = ap (λ (g : Guarded _). g.server.policy) same ∙ same_policy state b before x run
+same_policy state b turns c (Ended before x a run same) = ap (λ (g : Guarded _). g.server.policy) same ∙ same_policy state b before x run

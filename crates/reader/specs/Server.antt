@@ -1,5 +1,5 @@
 -- A server that reads alone, as contracts see it, and what its calls keep.
-use Rattle.std.specs.Prelude.{◌≡◌, ◌+◌, Bool, ℕ, false}
+use Rattle.std.specs.Prelude.{◌≡◌, ℕ, ◌+◌, List, Bool, false}
 use Rattle.layout.specs.declared.Geometry.{Geometry}
 use Rattle.layout.specs.Places.{IsGeometry}
 use Rattle.tree.specs.declared.Who.{Who}

@@ -104,6 +104,7 @@ impl<L: Link> Server<L> {
 
     /// The byte at which the root's inode begins.
     fn root_place(&self) -> u64
+        requires { IsGeometry self.now.geometry }
         ensures { result ≡ root_place self.now.geometry }
     {
         let g = &self.geometry;

@@ -1,5 +1,5 @@
 -- What lies under the lock of a service, as contracts see it.
-use Rattle.std.specs.Prelude.{◌≡◌, ℕ, List, Bool, true, codes}
+use Rattle.std.specs.Prelude.{◌≡◌, ℕ, ◌<◌, List, true, false, codes}
 use Rattle.std.specs.Borrow.{Bor}
 use Rattle.layout.specs.declared.Geometry.{Geometry}
 use Rattle.tree.specs.declared.Call.{Call}
@@ -9,11 +9,21 @@ use Rattle.marks.specs.Marks.{Mark, gave_up}
 use Rattle.marks.specs.Open.{IsWellFormed}
 use Rattle.marks.specs.Disk.{HasTrueReplies}
 use Rattle.marks.specs.Opening.{Opening, contents_at}
+use Rattle.marks.specs.Told.{took_end}
+use Rattle.bdev.specs.DriverState.{DriverState}
+use Rattle.policy.specs.declared.Policy.{Policy}
 use Rattle.legal.specs.Legal.{IsAtFirst, IsLegal}
-use Rattle.legal.specs.ServerCall.{Serving}
-use Rattle.legal.specs.Session.{went_on}
+use Rattle.legal.specs.Session.{SessionState, IsMadeFor, went_on}
+use Rattle.reissue.specs.declared.link.Link.{Ghosts as LinkWords}
 use Rattle.reissue.specs.Calls.{Truth}
-use Rattle.serve.specs.Reader.{Stands}
+use Rattle.board.specs.View.{is_used}
+use Rattle.reader.specs.declared.server.Server.{Server}
+use Rattle.reader.specs.Reader.{Stands}
+use Rattle.reader.specs.Server.{line_of, serving, IsReady}
+use Rattle.serve.specs.declared.room.Room.{Ghosts as RoomWords}
+use Rattle.serve.specs.declared.refusal.SessionRefusal.{SessionRefusal}
+use Rattle.serve.specs.declared.refusal.SessionRefusal.TheVariants.{TooMany, Stopped, OutOfMemory}
+use Rattle.serve.specs.Keeper.{IsLowestFree}
 
 -- the path of the root; where its byte lies says nothing
 abbrev pub root_path : Bor (List ℕ)
@@ -23,25 +33,45 @@ root_path = record { ref_ptr = (0, 0); now = codes "/" }
 abbrev pub IsRootStat : Call → Type 0
 IsRootStat call = (path : Bor (List ℕ)) × (call ≡ Stat path) × (path.now ≡ codes "/")
 
--- the record, the numbers that sessions have, and whether a take gave End
-pub record Held : Type 0 where
-  pub marks : List Mark
-  pub used : List ℕ
-  pub ended : Bool
+-- The server may be called, and is for the service's volume; its link runs on the service's drivers under the service's policy. Whichever tree
+-- the volume held as it was handed in, the server stands on it with the record that the link keeps, which is legal where its replies
+-- were true; and in that record a call was answered since the device was given up, if it was.
+pub record IsHeld {N L : Type 0} (room : RoomWords N) (link : LinkWords L) (runs_on : L → Policy → List DriverState → Type 0) (marks : L → List Mark)
+    (s : Server L) : Type 0 where
+  pub ready : IsReady link s
+  pub geometry : s.geometry ≡ room.geometry
+  pub drivers : runs_on (line_of s) room.policy room.supply
+  pub stands : (tree : Tree) → IsAtFirst room.geometry (contents_at room.opening) tree
+      → Stands (serving link s) (link.truth (line_of s)) room.opening tree (marks (line_of s))
+  pub answered : (tree : Tree) → IsAtFirst room.geometry (contents_at room.opening) tree → gave_up (marks (line_of s)) ≡ true
+      → went_on (marks (line_of s)) ≡ true
 
--- The server is for a volume of these sizes; whichever tree the volume held as it was handed in, the server stands on it with the record, in
--- which a call was answered since the device was given up, if it was.
-pub record IsHeld (g : Geometry) (v : Opening) (s : Serving) (guarantee : Truth) (marks : List Mark) : Type 0 where
-  pub geometry : s.geometry ≡ g
-  pub stands : (tree : Tree) → IsAtFirst g (contents_at v) tree → Stands s guarantee v tree marks
-  pub answered : (tree : Tree) → IsAtFirst g (contents_at v) tree → gave_up marks ≡ true → went_on marks ≡ true
-
--- a record is well formed, with true replies, and a call was answered since the device was given up, if it was
-pub record IsSound (v : Opening) (marks : List Mark) : Type 0 where
+-- a record is well formed, and a call was answered since the device was given up, if it was
+pub record IsSound (marks : List Mark) : Type 0 where
   pub well_formed : IsWellFormed marks
-  pub true_replies : HasTrueReplies (contents_at v) marks
   pub answered : gave_up marks ≡ true → went_on marks ≡ true
 
--- a sound record of the volume is legal from this tree on
+-- a sound record of the volume is legal from this tree on, where its replies were true
 abbrev pub IsGood : Geometry → Opening → Tree → List Mark → Type 0
-IsGood g v tree marks = IsSound v marks × IsLegal g (contents_at v) tree marks
+IsGood g v tree marks = IsSound marks × (HasTrueReplies (contents_at v) marks → IsLegal g (contents_at v) tree marks)
+
+-- the service's link, as it was then, guaranteed this record. In a function over every link such a link is one that it had at hand
+abbrev pub IsGuaranteed : {L : Type 0} → (L → Truth) → Opening → List Mark → Type 0
+IsGuaranteed {L} truth v marks = (line : L) × truth line v marks
+
+-- A new session of this user and group was made at the service's link, as it was then: it has the lowest number that was free, has seen the
+-- whole record, and made no call; the link runs on these drivers under this policy.
+pub record IsAdmitted {L : Type 0} (runs_on : L → Policy → List DriverState → Type 0) (marks : L → List Mark) (numbers : L → List ℕ)
+    (policy : Policy) (supply : List DriverState) (uid gid : ℕ) (s : SessionState) : Type 0 where
+  pub line : L
+  pub drivers : runs_on line policy supply
+  pub number : IsLowestFree s.knows.number (numbers line)
+  pub made : IsMadeFor uid gid s (marks line)
+  pub whole : s.knows.seen ≡ marks line
+
+-- why none was made, by the service's link as it was then
+abbrev pub IsNotAdmitted : {L : Type 0} → LinkWords L → (L → List ℕ) → SessionRefusal → Type 0
+IsNotAdmitted {L} link numbers TooMany = (line : L) × ((n : ℕ) → n < 64 → is_used n (numbers line) ≡ true)
+IsNotAdmitted {L} link numbers Stopped =
+    (line : L) × (took_end (link.history line) ≡ true) × ((n : ℕ) × (n < 64) × (is_used n (numbers line) ≡ false))
+IsNotAdmitted {L} link numbers OutOfMemory = Unit {0}

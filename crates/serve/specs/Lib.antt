@@ -1,10 +1,10 @@
 pub mod Refusals
-pub mod Reader
-pub mod Reading
-pub mod Server
 pub mod Rooms
+pub mod Supplied
 pub mod Heard
 pub mod Keeper
+pub mod Counts
+pub mod Under
 pub mod Held
 pub mod Recorder
 pub mod Laws

@@ -30,6 +30,7 @@ impl<N: Room> Keeper<N> {
     ghost use Rattle.std.specs.Prelude.{◌≢◌, ◌↔◌, ◌∷◌, [], List, Some, IfSome, IfNone};
     ghost use Rattle.tree.specs.Answers.{answer_of};
     ghost use Rattle.marks.specs.Marks.{Mark, Took, Issued, IsBeginning};
+    ghost use Rattle.legal.specs.Session.{tally_of};
     ghost use Rattle.board.specs.View.{opener, new_caller, caller_after, without};
     ghost use Rattle.board.specs.Words.{mark_of};
     ghost use Rattle.board.specs.Steps.{SessionLearns, SessionIsNew};
@@ -70,31 +71,42 @@ impl<N: Room> Keeper<N> {
         }
     }
 
-    /// A call of the caller's session was answered. The caller has then seen the whole record, its call last.
-    pub(crate) fn count<C: NewCall>(&mut self, caller: &mut Seat, who: Who, now: u32, reply: &Reply)
+    /// A call of the caller's session was answered. The caller has then seen the whole record, its call last. Gives how many counted
+    /// marks it has, modulo 2^64.
+    pub(crate) fn count<C: NewCall>(
+        &mut self,
+        caller: &mut Seat,
+        who: Who,
+        now: u32,
+        reply: &Reply,
+    ) -> u64
         requires { (caller.old.table ≡ N.table) × (caller.old.view.number ≡ Some who.session) }
         ensures record_is { record_of self.new ≡ Took who now C.call (answer_of reply.now) ∷ record_of self.old }
         ensures numbers { numbers_of self.new ≡ numbers_of self.old }
         ensures caller { (caller.new.table ≡ N.table) × (caller.new.view.number ≡ Some who.session) }
         ensures seen { caller.new.view.seen ≡ record_of self.new }
+        ensures tally { result ≡ tally_of (record_of self.new) }
         ensures mine { caller.new.view.mine ≡ Took who now C.call (answer_of reply.now) ∷ caller.old.view.mine }
         ensures session { SessionLearns caller.old.view caller.new.view }
     {
         self.board
             .count_said::<C>(&mut self.seat, caller, who, now, reply);
+        self.board.tally(&mut self.seat)
     }
 
-    /// The caller has then seen the whole record.
-    pub(crate) fn show(&mut self, caller: &mut Seat)
+    /// The caller has then seen the whole record. Gives how many counted marks it has, modulo 2^64.
+    pub(crate) fn show(&mut self, caller: &mut Seat) -> u64
         requires { caller.old.table ≡ N.table }
         ensures record_is { record_of self.new ≡ record_of self.old }
         ensures numbers { numbers_of self.new ≡ numbers_of self.old }
         ensures caller { (caller.new.table ≡ N.table) × (caller.new.view.number ≡ caller.old.view.number) }
         ensures seen { caller.new.view.seen ≡ record_of self.new }
+        ensures tally { result ≡ tally_of (record_of self.new) }
         ensures mine { caller.new.view.mine ≡ caller.old.view.mine }
         ensures session { SessionLearns caller.old.view caller.new.view }
     {
         self.board.meet(&mut self.seat, caller);
+        self.board.tally(&mut self.seat)
     }
 
     /// Whether each of the 64 numbers is that of a session.
@@ -104,20 +116,23 @@ impl<N: Room> Keeper<N> {
         self.used.iter().all(|used| *used)
     }
 
-    /// A seat with the lowest number that no session has, if there is one: its session has seen the whole record.
-    pub(crate) fn admit(&mut self) -> Option<(u8, Seat)>
+    /// A seat with the lowest number that no session has, if there is one: its session has seen the whole record. With it comes how many
+    /// counted marks that has, modulo 2^64.
+    pub(crate) fn admit(&mut self) -> Option<(u8, Seat, u64)>
         ensures record_is { record_of self.new ≡ record_of self.old }
         ensures full { IfNone result ((numbers_of self.new ≡ numbers_of self.old) × ((n : ℕ) → n < 64 → is_used n (numbers_of self.old) ≡ true)) }
         ensures number { IfSome result (λ r. IsLowestFree r.0 (numbers_of self.old)) }
         ensures numbers { IfSome result (λ r. numbers_of self.new ≡ r.0 ∷ numbers_of self.old) }
         ensures seat { IfSome result (λ r. (r.1.table ≡ N.table) × SessionIsNew r.0 r.1.view (record_of self.old)) }
+        ensures tally { IfSome result (λ r. r.2 ≡ tally_of (record_of self.old)) }
     {
         let number = self.used.iter().position(|used| !*used)?;
         let Ok(seat) = self.board.split(&mut self.seat, Some(number as u8)) else {
             unreachable!()
         };
         self.used[number] = true;
-        Some((number as u8, seat))
+        let count = self.board.tally(&mut self.seat);
+        Some((number as u8, seat, count))
     }
 
     /// A session ends: its number is free again.

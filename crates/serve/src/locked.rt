@@ -1,28 +1,28 @@
 //! What lies under the lock of a service.
 
-ghost use Rattle.std.specs.Prelude.{◌≡◌, ◌≢◌, ◌↔◌, ◌∷◌, ℕ, ◌<◌, true, false, Some, IsErrOf, IfOk, OnErr};
+ghost use Rattle.std.specs.Prelude.{◌≡◌, ◌≢◌, ◌↔◌, ◌∷◌, ℕ, ◌<◌, true, false, Some, IsErrOf, IfErr, IfOk, OnErr};
 ghost use Rattle.marks.specs.Marks.{gave_up};
 ghost use Rattle.marks.specs.Opening.{contents_at};
 ghost use Rattle.tree.specs.Tree.{Tree};
 ghost use Rattle.legal.specs.Legal.{IsAtFirst};
-ghost use Rattle.legal.specs.Session.{SessionCallKeeps};
+ghost use Rattle.legal.specs.Session.{SessionCallKeeps, tally_of};
 ghost use Rattle.board.specs.View.{is_used, session_for, without};
 ghost use Rattle.board.specs.Steps.{SessionIsNew};
-ghost use Rattle.serve.specs.Held.{root_path, IsHeld, IsGood, IsSound};
+ghost use Rattle.reader.specs.Server.{line_of, outcome_of};
+ghost use Rattle.serve.specs.Held.{root_path, IsHeld, IsGood, IsGuaranteed, IsNotAdmitted, IsSound};
 ghost use Rattle.serve.specs.Keeper.{IsLowestFree};
-ghost use Rattle.serve.specs.Server.{serving, guarantee_of, line_of, outcome_of};
 
 use crate::recorder::Recorder;
 use crate::refusal::SessionRefusal;
 use crate::room::Room;
-use crate::server::Server;
 use crate::sharing::{admit, count_root_stat, release, show};
 use board::Seat;
 use errno::Errno;
+use reader::Server;
 use std::marker::{Model, PhantomData};
 use tree::{Call, Outcome, Reply, Who};
 
-/// What lies under the lock of a service: its server, whose link keeps the record.
+/// What lies under the lock of a service: its server, whose link keeps the record. Contracts see the link, and whether a take gave End.
 #[derive(Drop)]
 pub struct Locked<N: Room, L: Recorder<N>> {
     server: Server<L>,
@@ -30,21 +30,22 @@ pub struct Locked<N: Room, L: Recorder<N>> {
 }
 
 impl<N: Room, L: Recorder<N>> Model for Locked<N, L> {
-    ghost use Rattle.serve.specs.Held.{Held, IsHeld as IsHeldFor};
-    ghost use Rattle.serve.specs.Server.{serving as seen_of, guarantee_of as truth_of, line_of as link_in};
+    ghost use Rattle.reader.specs.Server.{line_of as link_in};
+    ghost use Rattle.serve.specs.Held.{IsHeld as IsHeldFor};
+    ghost use Rattle.serve.specs.Under.{Under};
 
-    ghost Value = { Held };
+    ghost Value = { Under L };
 
-    ghost view = { λ d. record { marks = L.marks (link_in d.server); used = L.numbers (link_in d.server); ended = d.server.ended } };
+    ghost view = { λ d. record { line = link_in d.server; ended = d.server.ended } };
 
-    ghost invariant = { λ d. IsHeldFor N.geometry N.opening (seen_of d.server) (truth_of d.server) (L.marks (link_in d.server)) };
+    ghost invariant = { λ d. IsHeldFor N.Room L.Link L.runs_on L.marks d.server };
 }
 
 impl<N: Room, L: Recorder<N>> Locked<N, L> {
     /// A server over the service's volume, which stands with its record.
     pub(crate) fn new(server: Server<L>) -> Locked<N, L>
-        requires { IsHeld N.geometry N.opening (serving server) (guarantee_of server) (L.marks (line_of server)) }
-        ensures { result ≡ record { marks = L.marks (line_of server); used = L.numbers (line_of server); ended = server.ended } }
+        requires { IsHeld N.Room L.Link L.runs_on L.marks server }
+        ensures { result ≡ record { line = line_of server; ended = server.ended } }
     {
         Locked {
             server,
@@ -52,38 +53,49 @@ impl<N: Room, L: Recorder<N>> Locked<N, L> {
         }
     }
 
-    /// A `stat /` of a session, which has then seen the whole record. An answer is a mark of it, the last; a cut isn't.
-    pub(crate) fn stat_root(&mut self, seat: &mut Seat, who: Who, now: u32) -> Outcome
+    /// A `stat /` of a session, which has then seen the whole record. An answer is a mark of it, the last; a cut isn't. With the outcome comes
+    /// how many counted marks the record has, modulo 2^64.
+    pub(crate) fn stat_root(&mut self, seat: &mut Seat, who: Who, now: u32) -> (Outcome, u64)
         requires { (seat.old.table ≡ N.table) × (seat.old.view.number ≡ Some who.session) }
         ensures seat { (seat.new.table ≡ N.table) × (seat.new.view.number ≡ Some who.session) }
         ensures call { SessionCallKeeps N.geometry (contents_at N.opening) (session_for who.uid who.gid who.session seat.old.view) who now
-            (Call.Stat root_path) (outcome_of result) (session_for who.uid who.gid who.session seat.new.view) }
-        ensures seen { seat.new.view.seen ≡ self.new.marks }
-        ensures sound { (tree : Tree) → IsAtFirst N.geometry (contents_at N.opening) tree → IsSound N.opening seat.new.view.seen }
-        ensures cut { (result ≡ Outcome.Cut) ↔ (self.new.ended ≡ true) }
+            (Call.Stat root_path) (outcome_of result.0) (session_for who.uid who.gid who.session seat.new.view) }
+        ensures seen { seat.new.view.seen ≡ L.marks self.new.line }
+        ensures tally { result.1 ≡ tally_of seat.new.view.seen }
+        ensures sound { (tree : Tree) → IsAtFirst N.geometry (contents_at N.opening) tree → IsSound seat.new.view.seen }
+        ensures guaranteed { (tree : Tree) → IsAtFirst N.geometry (contents_at N.opening) tree → IsGuaranteed L.truth N.opening seat.new.view.seen }
+        ensures cut { (result.0 ≡ Outcome.Cut) ↔ (self.new.ended ≡ true) }
         ensures eio { (tree : Tree) → IsAtFirst N.geometry (contents_at N.opening) tree
-            → (result ≡ Outcome.Reply (Reply.Refused Errno.EIO)) ↔ ((result ≢ Outcome.Cut) × (gave_up seat.new.view.seen ≡ true)) }
+            → (result.0 ≡ Outcome.Reply (Reply.Refused Errno.EIO)) ↔ ((result.0 ≢ Outcome.Cut) × (gave_up seat.new.view.seen ≡ true)) }
     {
         let outcome = self.server.stat_root(who, now);
-        match &outcome {
-            Outcome::Reply(reply) => count_root_stat(&mut self.server, seat, who, now, reply),
-            Outcome::Cut => show(&mut self.server, seat),
+        match outcome {
+            Outcome::Reply(reply) => {
+                let count = count_root_stat(&mut self.server, seat, who, now, &reply);
+                (Outcome::Reply(reply), count)
+            }
+            Outcome::Cut => (Outcome::Cut, show(&mut self.server, seat)),
         }
-        outcome
     }
 
     /// A seat for a new session, with the lowest number that is free: 1 TooMany where 64 are in use, 2 Stopped where a take gave End.
-    /// A refusal changes nothing.
-    pub(crate) fn admit(&mut self) -> Result<(u8, Seat), SessionRefusal>
-        ensures too_many { IsErrOf result SessionRefusal.TooMany ↔ ((n : ℕ) → n < 64 → is_used n self.old.used ≡ true) }
+    /// A refusal changes nothing. With the seat comes how many counted marks the record has, modulo 2^64.
+    pub(crate) fn admit(&mut self) -> Result<(u8, Seat, u64), SessionRefusal>
+        ensures too_many { IsErrOf result SessionRefusal.TooMany ↔ ((n : ℕ) → n < 64 → is_used n (L.numbers self.old.line) ≡ true) }
         ensures stopped { IsErrOf result SessionRefusal.Stopped
-            ↔ ((self.old.ended ≡ true) × ((n : ℕ) × (n < 64) × (is_used n self.old.used ≡ false))) }
-        ensures number { IfOk result (λ r. IsLowestFree r.0 self.old.used × (self.new.used ≡ r.0 ∷ self.old.used)) }
-        ensures seat { IfOk result (λ r. (r.1.table ≡ N.table) × SessionIsNew r.0 r.1.view self.old.marks) }
+            ↔ ((self.old.ended ≡ true) × ((n : ℕ) × (n < 64) × (is_used n (L.numbers self.old.line) ≡ false))) }
+        ensures number { IfOk result (λ r. IsLowestFree r.0 (L.numbers self.old.line)
+            × (L.numbers self.new.line ≡ r.0 ∷ L.numbers self.old.line)) }
+        ensures seat { IfOk result (λ r. (r.1.table ≡ N.table) × SessionIsNew r.0 r.1.view (L.marks self.old.line)) }
+        ensures tally { IfOk result (λ r. r.2 ≡ tally_of (L.marks self.old.line)) }
+        ensures refusal { IfErr result (IsNotAdmitted L.Link L.numbers) }
+        ensures drivers { L.runs_on self.old.line N.policy N.supply }
+        ensures guaranteed { (tree : Tree) → IsAtFirst N.geometry (contents_at N.opening) tree
+            → IfOk result (λ r. IsGuaranteed L.truth N.opening r.1.view.seen) }
         ensures sound { (tree : Tree) → IsAtFirst N.geometry (contents_at N.opening) tree
             → IfOk result (λ r. IsGood N.geometry N.opening tree r.1.view.seen) }
-        ensures rest { (self.new.marks ≡ self.old.marks) × (self.new.ended ≡ self.old.ended) }
-        ensures refused { OnErr result (self.new ≡ self.old) }
+        ensures rest { (L.marks self.new.line ≡ L.marks self.old.line) × (self.new.ended ≡ self.old.ended) }
+        ensures refused { OnErr result (L.numbers self.new.line ≡ L.numbers self.old.line) }
     {
         admit(&mut self.server)
     }
@@ -91,8 +103,8 @@ impl<N: Room, L: Recorder<N>> Locked<N, L> {
     /// A session ends: its number is free again.
     pub(crate) fn release(&mut self, number: u8, seat: Seat)
         requires { (seat.table ≡ N.table) × (seat.view.number ≡ Some number) × (number < 64) }
-        ensures used { self.new.used ≡ without (Some number) self.old.used }
-        ensures rest { (self.new.marks ≡ self.old.marks) × (self.new.ended ≡ self.old.ended) }
+        ensures used { L.numbers self.new.line ≡ without (Some number) (L.numbers self.old.line) }
+        ensures rest { (L.marks self.new.line ≡ L.marks self.old.line) × (self.new.ended ≡ self.old.ended) }
     {
         release(&mut self.server, number, seat);
     }

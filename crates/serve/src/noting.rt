@@ -2,23 +2,23 @@
 
 ghost use Rattle.std.specs.Prelude.{◌≡◌, ◌∷◌, [], List, Some, IfOk};
 ghost use Rattle.std.specs.Arc.{arc_value};
-ghost use Rattle.marks.specs.Marks.{Mark, Took};
+ghost use Rattle.marks.specs.Marks.{Mark, Took, IsBeginning};
 ghost use Rattle.marks.specs.Opening.{Opening};
 ghost use Rattle.tree.specs.Answers.{answer_of};
 ghost use Rattle.board.specs.View.{IsKeeper, opener};
 ghost use Rattle.board.specs.Steps.{SessionLearns};
 ghost use Rattle.serve.specs.Heard.{IsHeard};
-ghost use Rattle.serve.specs.Keeper.{record_of, numbers_of};
+ghost use Rattle.serve.specs.Keeper.{record_of, numbers_of, begins_itself, begins_further};
 
 use crate::heard::Heard;
 use crate::keeper::Keeper;
 use crate::recorder::Recorder;
 use crate::room::Room;
-use crate::steady::Steady;
+use crate::steady::{Steady, Supplied};
 use board::{Board, Seat};
 use endpoint::Endpoint;
 use message::{BlockRequest, Incoming};
-use reissue::link::{Link, LinkRefusal};
+use reissue::link::{Link, LinkRefusal, TrueLink};
 use std::alloc::{AllocError, Global};
 use std::marker::Brand;
 use std::sync::Arc;
@@ -52,6 +52,7 @@ impl<N: Room, L: Link> Noting<N, L> {
         ensures budget { IfOk result (λ n. ⟦<Noting<N, L> as Link>⟧.budget_left n ≡ L.budget_left link) }
         ensures room { IfOk result (λ n. ⟦<Noting<N, L> as Link>⟧.room n ≡ L.room link) }
         ensures truth { IfOk result (λ n. (v : Opening) → L.truth link v [] → ⟦<Noting<N, L> as Link>⟧.truth n v []) }
+        ensures link { IfOk result (λ n. n.link ≡ link) }
         ensures record_is { IfOk result (λ n. record_of n.keeper ≡ []) }
         ensures numbers { IfOk result (λ n. numbers_of n.keeper ≡ []) }
     {
@@ -71,6 +72,9 @@ impl<N: Room, L: Link> Link for Noting<N, L> {
     ghost room = { λ l. L.room l.link };
 
     ghost truth = { λ l v marks. L.truth l.link v marks × (record_of l.keeper ≡ marks) × IsHeard l.heard marks };
+
+    // The link in it goes on, and the record grows.
+    ghost goes_on = { λ l m. L.goes_on l.link m.link × IsBeginning (record_of l.keeper) (record_of m.keeper) };
 
     fn post(&mut self, to: Endpoint, request: &BlockRequest) -> Result<(), LinkRefusal> {
         let posted = self.link.post(to, request);
@@ -97,26 +101,42 @@ impl<N: Room, L: Link> Link for Noting<N, L> {
     fn budget(&self) -> u64 {
         self.link.budget()
     }
+
+    ghost stays = { λ l. (L.stays l.link, begins_itself (record_of l.keeper)) };
+
+    ghost joins = { λ l m n first next. (
+        L.joins l.link m.link n.link first.0 next.0,
+        begins_further (record_of l.keeper) (record_of m.keeper) (record_of n.keeper) first.1 next.1) };
 }
 
-impl<N: Room, L: Steady + Drop> Recorder<N> for Noting<N, L> {
+impl<N: Room, L: TrueLink> TrueLink for Noting<N, L> {
+    ghost replies_are_true = { λ l v marks truth. L.replies_are_true l.link v marks truth.0 };
+}
+
+impl<N: Room, L: Supplied> Supplied for Noting<N, L> {
+    ghost runs_on = { λ l policy supply. L.runs_on l.link policy supply };
+
+    ghost keeps_on = { λ l m policy supply goes. L.keeps_on l.link m.link policy supply goes.0 };
+}
+
+impl<N: Room, L: Steady + Supplied + Drop> Recorder<N> for Noting<N, L> {
     ghost marks = { λ l. record_of l.keeper };
 
     ghost numbers = { λ l. numbers_of l.keeper };
 
-    fn count_root_stat(&mut self, caller: &mut Seat, who: Who, now: u32, reply: &Reply) {
-        self.keeper.count::<Brand>(caller, who, now, reply);
+    fn count_root_stat(&mut self, caller: &mut Seat, who: Who, now: u32, reply: &Reply) -> u64 {
+        self.keeper.count::<Brand>(caller, who, now, reply)
     }
 
-    fn show(&mut self, caller: &mut Seat) {
-        self.keeper.show(caller);
+    fn show(&mut self, caller: &mut Seat) -> u64 {
+        self.keeper.show(caller)
     }
 
     fn is_full(&self) -> bool {
         self.keeper.is_full()
     }
 
-    fn admit(&mut self) -> Option<(u8, Seat)> {
+    fn admit(&mut self) -> Option<(u8, Seat, u64)> {
         self.keeper.admit()
     }
 

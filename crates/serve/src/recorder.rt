@@ -5,6 +5,7 @@ ghost use Rattle.tree.specs.declared.Call.TheVariants.{Stat};
 ghost use Rattle.tree.specs.Answers.{answer_of};
 ghost use Rattle.marks.specs.Marks.{Mark, Took};
 ghost use Rattle.marks.specs.Opening.{Opening};
+ghost use Rattle.legal.specs.Session.{tally_of};
 ghost use Rattle.board.specs.View.{is_used, without};
 ghost use Rattle.board.specs.Steps.{SessionLearns, SessionIsNew};
 ghost use Rattle.serve.specs.Held.{root_path};
@@ -12,42 +13,43 @@ ghost use Rattle.serve.specs.Keeper.{IsLowestFree};
 ghost use Rattle.serve.specs.Recorder.{SameLink};
 
 use crate::room::Room;
+use crate::steady::Supplied;
 use board::Seat;
-use reissue::link::Link;
 use tree::{Reply, Who};
 
 /// A link that keeps the record of a service on the service's board, and gives its sessions their numbers.
 ///
 /// Contracts see two things more of it: `marks` is the record, and `numbers` are the numbers that sessions have.
-pub trait Recorder<N: Room>: Link + Drop {
+pub trait Recorder<N: Room>: Supplied + Drop {
     ghost marks: { Self → List Mark };
 
     ghost numbers: { Self → List ℕ };
 
-    /// A `stat /` of the caller's session was answered. The caller has then seen the whole record, its call last.
-    fn count_root_stat(&mut self, caller: &mut Seat, who: Who, now: u32, reply: &Reply)
+    /// A `stat /` of the caller's session was answered. The caller has then seen the whole record, its call last. Gives how many counted
+    /// marks it has, modulo 2^64.
+    fn count_root_stat(&mut self, caller: &mut Seat, who: Who, now: u32, reply: &Reply) -> u64
         requires { (caller.old.table ≡ N.table) × (caller.old.view.number ≡ Some who.session) }
-        ensures same { SameLink (Self.history self.old) (Self.budget_left self.old) (Self.room self.old)
-            (Self.history self.new) (Self.budget_left self.new) (Self.room self.new) }
+        ensures same { SameLink Self.Link self.old self.new }
         ensures truth { (v : Opening) (older : List Mark) → Self.truth self.old v older
             → Self.truth self.new v (Took who now (Stat root_path) (answer_of reply.now) ∷ older) }
         ensures marks { marks self.new ≡ Took who now (Stat root_path) (answer_of reply.now) ∷ marks self.old }
         ensures numbers { numbers self.new ≡ numbers self.old }
         ensures caller { (caller.new.table ≡ N.table) × (caller.new.view.number ≡ Some who.session) }
         ensures seen { caller.new.view.seen ≡ marks self.new }
+        ensures tally { result ≡ tally_of (marks self.new) }
         ensures mine { caller.new.view.mine ≡ Took who now (Stat root_path) (answer_of reply.now) ∷ caller.old.view.mine }
         ensures session { SessionLearns caller.old.view caller.new.view };
 
-    /// The caller has then seen the whole record.
-    fn show(&mut self, caller: &mut Seat)
+    /// The caller has then seen the whole record. Gives how many counted marks it has, modulo 2^64.
+    fn show(&mut self, caller: &mut Seat) -> u64
         requires { caller.old.table ≡ N.table }
-        ensures same { SameLink (Self.history self.old) (Self.budget_left self.old) (Self.room self.old)
-            (Self.history self.new) (Self.budget_left self.new) (Self.room self.new) }
+        ensures same { SameLink Self.Link self.old self.new }
         ensures truth { (v : Opening) (older : List Mark) → Self.truth self.old v older → Self.truth self.new v older }
         ensures marks { marks self.new ≡ marks self.old }
         ensures numbers { numbers self.new ≡ numbers self.old }
         ensures caller { (caller.new.table ≡ N.table) × (caller.new.view.number ≡ caller.old.view.number) }
         ensures seen { caller.new.view.seen ≡ marks self.new }
+        ensures tally { result ≡ tally_of (marks self.new) }
         ensures mine { caller.new.view.mine ≡ caller.old.view.mine }
         ensures session { SessionLearns caller.old.view caller.new.view };
 
@@ -55,21 +57,21 @@ pub trait Recorder<N: Room>: Link + Drop {
     fn is_full(&self) -> bool
         ensures { (result ≡ true) ↔ ((n : ℕ) → n < 64 → is_used n (numbers self.now) ≡ true) };
 
-    /// A seat with the lowest number that no session has, if there is one: its session has seen the whole record, and made no call.
-    fn admit(&mut self) -> Option<(u8, Seat)>
-        ensures same { SameLink (Self.history self.old) (Self.budget_left self.old) (Self.room self.old)
-            (Self.history self.new) (Self.budget_left self.new) (Self.room self.new) }
+    /// A seat with the lowest number that no session has, if there is one: its session has seen the whole record, and made no call. With it
+    /// comes how many counted marks that has, modulo 2^64.
+    fn admit(&mut self) -> Option<(u8, Seat, u64)>
+        ensures same { SameLink Self.Link self.old self.new }
         ensures truth { (v : Opening) (older : List Mark) → Self.truth self.old v older → Self.truth self.new v older }
         ensures marks { marks self.new ≡ marks self.old }
         ensures full { IfNone result ((numbers self.new ≡ numbers self.old) × ((n : ℕ) → n < 64 → is_used n (numbers self.old) ≡ true)) }
         ensures number { IfSome result (λ r. IsLowestFree r.0 (numbers self.old) × (numbers self.new ≡ r.0 ∷ numbers self.old)) }
-        ensures seat { IfSome result (λ r. (r.1.table ≡ N.table) × SessionIsNew r.0 r.1.view (marks self.old)) };
+        ensures seat { IfSome result (λ r. (r.1.table ≡ N.table) × SessionIsNew r.0 r.1.view (marks self.old)) }
+        ensures tally { IfSome result (λ r. r.2 ≡ tally_of (marks self.old)) };
 
     /// A session ends: its number is free again.
     fn release(&mut self, number: u8, caller: Seat)
         requires { (caller.table ≡ N.table) × (caller.view.number ≡ Some number) × (number < 64) }
-        ensures same { SameLink (Self.history self.old) (Self.budget_left self.old) (Self.room self.old)
-            (Self.history self.new) (Self.budget_left self.new) (Self.room self.new) }
+        ensures same { SameLink Self.Link self.old self.new }
         ensures truth { (v : Opening) (older : List Mark) → Self.truth self.old v older → Self.truth self.new v older }
         ensures marks { marks self.new ≡ marks self.old }
         ensures numbers { numbers self.new ≡ without (Some number) (numbers self.old) };

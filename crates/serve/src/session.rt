@@ -1,14 +1,14 @@
 //! Sessions of a service.
 
-ghost use Rattle.std.specs.Prelude.{◌≡◌, ◌≢◌, ◌↔◌, true};
+ghost use Rattle.std.specs.Prelude.{◌≡◌, ◌≢◌, ◌<◌, ◌^◌, ◌↔◌, true};
 ghost use Rattle.tree.specs.Tree.{Tree};
-ghost use Rattle.marks.specs.Marks.{gave_up};
+ghost use Rattle.marks.specs.Marks.{counted, gave_up};
 ghost use Rattle.marks.specs.Opening.{contents_at};
 ghost use Rattle.legal.specs.Legal.{IsAtFirst};
-ghost use Rattle.legal.specs.Session.{caller_of, tally_of, SessionCallKeeps, SessionGoesOn, DeviceKeeps, MeetKeeps};
+ghost use Rattle.legal.specs.Session.{caller_of, SessionCallKeeps, DeviceKeeps, MeetKeeps};
 ghost use Rattle.board.specs.Words.{is_given_up};
-ghost use Rattle.serve.specs.Held.{root_path, IsRootStat, IsSound};
-ghost use Rattle.serve.specs.Server.{outcome_of};
+ghost use Rattle.serve.specs.Held.{root_path, IsGuaranteed, IsRootStat, IsSound};
+ghost use Rattle.reader.specs.Server.{outcome_of};
 
 use crate::recorder::Recorder;
 use crate::room::Room;
@@ -28,12 +28,15 @@ pub struct Session<N: Room, S> {
     pub(crate) board: Arc<Board>,
     pub(crate) seat: Seat,
     pub(crate) who: Who,
+    // How many counted marks it has seen, while they are fewer than 2^64.
+    pub(crate) seen: u64,
     pub(crate) shared: Arc<S>,
     pub(crate) of: PhantomData<N>,
 }
 
 impl<N: Room, S> Model for Session<N, S> {
     ghost use Rattle.std.specs.Prelude.{◌≡◌, ◌<◌, Some};
+    ghost use Rattle.serve.specs.Counts.{Counts};
     ghost use Rattle.std.specs.Arc.{arc_value};
     ghost use Rattle.legal.specs.Session.{SessionState};
     ghost use Rattle.board.specs.View.{session_for};
@@ -42,33 +45,37 @@ impl<N: Room, S> Model for Session<N, S> {
 
     ghost view = { λ s. session_for s.who.uid s.who.gid s.who.session s.seat.view };
 
-    ghost invariant = { λ s. (arc_value s.board ≡ N.table) × (s.seat.table ≡ N.table) × (s.seat.view.number ≡ Some s.who.session) × (s.who.session < 64) };
+    ghost invariant = { λ s. (arc_value s.board ≡ N.table) × (s.seat.table ≡ N.table) × (s.seat.view.number ≡ Some s.who.session) × (s.who.session < 64)
+        × Counts s.seen s.seat.view.seen };
 }
 
 impl<N: Room, S> Session<N, S> {
-    /// How many counted marks the record has, modulo 2^64: the starts, the answers, the flushes, the giving up and the calls. The session
-    /// has then seen them.
-    pub fn seen(&mut self) -> u64
-        ensures tally { result ≡ tally_of self.new.knows.seen }
-        ensures goes_on { SessionGoesOn self.old self.new }
-        ensures own { self.new.knows.mine ≡ self.old.knows.mine }
+    /// How many counted marks the session has seen: the starts, the answers, the flushes, the giving up and the calls. It doesn't look at the
+    /// board, so it stays the same whatever others do; of 2^64 marks or more it says nothing.
+    pub fn seen(&self) -> u64
+        ensures { counted self.now.knows.seen < 2 ^ 64 → result ≡ counted self.now.knows.seen }
     {
-        self.board.tally(&mut self.seat)
+        self.seen
     }
 
     /// Whether the device was given up. `GivenUp` comes only where the session has then seen so, and comes where it had seen a call
-    /// taken after it.
+    /// taken after it. It looks at the board, so the session may then have seen more.
     pub fn device(&mut self) -> Device
         ensures { DeviceKeeps self.old (is_given_up result) self.new }
     {
-        self.board.device(&mut self.seat)
+        let device = self.board.device(&mut self.seat);
+        self.seen = self.board.tally(&mut self.seat);
+        device
     }
 
-    /// Two sessions meet: both have then seen what either had seen.
+    /// Two sessions meet: both have then seen what either had seen, and give the same number of marks.
     pub fn meet(&mut self, other: &mut Session<N, S>)
         ensures { MeetKeeps self.old other.old self.new other.new }
     {
         self.board.meet(&mut self.seat, &mut other.seat);
+        let seen = self.seen.max(other.seen);
+        self.seen = seen;
+        other.seen = seen;
     }
 }
 
@@ -79,7 +86,8 @@ impl<N: Room, R: Wait + Copy, L: Recorder<N>> Session<N, Shared<N, R, L>> {
     pub fn call(&mut self, now: u32, call: &Call<'_>) -> Outcome
         requires root { IsRootStat call.now }
         ensures keeps { SessionCallKeeps N.geometry (contents_at N.opening) self.old (caller_of self.old) now (Call.Stat root_path) (outcome_of result) self.new }
-        ensures sound { (tree : Tree) → IsAtFirst N.geometry (contents_at N.opening) tree → IsSound N.opening self.new.knows.seen }
+        ensures sound { (tree : Tree) → IsAtFirst N.geometry (contents_at N.opening) tree → IsSound self.new.knows.seen }
+        ensures guaranteed { (tree : Tree) → IsAtFirst N.geometry (contents_at N.opening) tree → IsGuaranteed L.truth N.opening self.new.knows.seen }
         ensures eio { (tree : Tree) → IsAtFirst N.geometry (contents_at N.opening) tree
             → (result ≡ Outcome.Reply (Reply.Refused Errno.EIO)) ↔ ((result ≢ Outcome.Cut) × (gave_up self.new.knows.seen ≡ true)) }
     {
@@ -87,10 +95,12 @@ impl<N: Room, R: Wait + Copy, L: Recorder<N>> Session<N, Shared<N, R, L>> {
             unreachable!()
         };
         let shared = &*self.shared;
-        shared
+        let (outcome, seen) = shared
             .server
             .lock(&shared.rt)
-            .stat_root(&mut self.seat, self.who, now)
+            .stat_root(&mut self.seat, self.who, now);
+        self.seen = seen;
+        outcome
     }
 
     /// Ends the session: its number is free again. It may wait for the calls of other sessions.
@@ -99,6 +109,7 @@ impl<N: Room, R: Wait + Copy, L: Recorder<N>> Session<N, Shared<N, R, L>> {
             board: _,
             seat,
             who,
+            seen: _,
             shared,
             of: _,
         } = self;

@@ -9,60 +9,64 @@ ghost use Rattle.board.specs.View.{is_used, without};
 ghost use Rattle.board.specs.Steps.{SessionLearns, SessionIsNew};
 ghost use Rattle.serve.specs.Held.{root_path};
 ghost use Rattle.serve.specs.Keeper.{IsLowestFree};
-ghost use Rattle.serve.specs.Server.{line_of, guarantee_of, SameServer};
+ghost use Rattle.legal.specs.Session.{tally_of};
+ghost use Rattle.reader.specs.Server.{line_of};
+ghost use Rattle.serve.specs.Recorder.{SameServer};
 
 use crate::recorder::Recorder;
 use crate::refusal::SessionRefusal;
 use crate::room::Room;
-use crate::server::Server;
 use board::Seat;
+use reader::Server;
 use tree::{Reply, Who};
 
-/// A `stat /` of the caller's session was answered. The caller has then seen the whole record, its call last.
+/// A `stat /` of the caller's session was answered. The caller has then seen the whole record, its call last. Gives how many counted marks it
+/// has, modulo 2^64.
 pub(crate) fn count_root_stat<N: Room, L: Recorder<N>>(
     server: &mut Server<L>,
     caller: &mut Seat,
     who: Who,
     now: u32,
     reply: &Reply,
-)
+) -> u64
     requires { (caller.old.table ≡ N.table) × (caller.old.view.number ≡ Some who.session) }
-    ensures same { SameServer server.old server.new }
-    ensures truth { (v : Opening) (older : List Mark) → guarantee_of server.old v older
-        → guarantee_of server.new v (Took who now (Stat root_path) (answer_of reply.now) ∷ older) }
+    ensures same { SameServer L.Link server.old server.new }
+    ensures truth { (v : Opening) (older : List Mark) → L.truth (line_of server.old) v older
+        → L.truth (line_of server.new) v (Took who now (Stat root_path) (answer_of reply.now) ∷ older) }
     ensures marks { L.marks (line_of server.new) ≡ Took who now (Stat root_path) (answer_of reply.now) ∷ L.marks (line_of server.old) }
     ensures caller { (caller.new.table ≡ N.table) × (caller.new.view.number ≡ Some who.session) }
     ensures seen { caller.new.view.seen ≡ L.marks (line_of server.new) }
+    ensures tally { result ≡ tally_of (L.marks (line_of server.new)) }
     ensures mine { caller.new.view.mine ≡ Took who now (Stat root_path) (answer_of reply.now) ∷ caller.old.view.mine }
     ensures session { SessionLearns caller.old.view caller.new.view }
 {
     server
-        .transfers
         .link_mut()
-        .count_root_stat(caller, who, now, reply);
+        .count_root_stat(caller, who, now, reply)
 }
 
-/// The caller has then seen the whole record.
-pub(crate) fn show<N: Room, L: Recorder<N>>(server: &mut Server<L>, caller: &mut Seat)
+/// The caller has then seen the whole record. Gives how many counted marks it has, modulo 2^64.
+pub(crate) fn show<N: Room, L: Recorder<N>>(server: &mut Server<L>, caller: &mut Seat) -> u64
     requires { caller.old.table ≡ N.table }
-    ensures same { SameServer server.old server.new }
-    ensures truth { (v : Opening) (older : List Mark) → guarantee_of server.old v older → guarantee_of server.new v older }
+    ensures same { SameServer L.Link server.old server.new }
+    ensures truth { (v : Opening) (older : List Mark) → L.truth (line_of server.old) v older → L.truth (line_of server.new) v older }
     ensures marks { L.marks (line_of server.new) ≡ L.marks (line_of server.old) }
     ensures caller { (caller.new.table ≡ N.table) × (caller.new.view.number ≡ caller.old.view.number) }
     ensures seen { caller.new.view.seen ≡ L.marks (line_of server.new) }
+    ensures tally { result ≡ tally_of (L.marks (line_of server.new)) }
     ensures mine { caller.new.view.mine ≡ caller.old.view.mine }
     ensures session { SessionLearns caller.old.view caller.new.view }
 {
-    server.transfers.link_mut().show(caller);
+    server.link_mut().show(caller)
 }
 
 /// A seat for a new session, with the lowest number that is free: 1 TooMany where 64 are in use, 2 Stopped where a take gave End. A refusal
 /// changes nothing.
 pub(crate) fn admit<N: Room, L: Recorder<N>>(
     server: &mut Server<L>,
-) -> Result<(u8, Seat), SessionRefusal>
-    ensures same { SameServer server.old server.new }
-    ensures truth { (v : Opening) (older : List Mark) → guarantee_of server.old v older → guarantee_of server.new v older }
+) -> Result<(u8, Seat, u64), SessionRefusal>
+    ensures same { SameServer L.Link server.old server.new }
+    ensures truth { (v : Opening) (older : List Mark) → L.truth (line_of server.old) v older → L.truth (line_of server.new) v older }
     ensures marks { L.marks (line_of server.new) ≡ L.marks (line_of server.old) }
     ensures too_many { IsErrOf result SessionRefusal.TooMany ↔ ((n : ℕ) → n < 64 → is_used n (L.numbers (line_of server.old)) ≡ true) }
     ensures stopped { IsErrOf result SessionRefusal.Stopped
@@ -70,28 +74,25 @@ pub(crate) fn admit<N: Room, L: Recorder<N>>(
     ensures number { IfOk result (λ r. IsLowestFree r.0 (L.numbers (line_of server.old))
         × (L.numbers (line_of server.new) ≡ r.0 ∷ L.numbers (line_of server.old))) }
     ensures seat { IfOk result (λ r. (r.1.table ≡ N.table) × SessionIsNew r.0 r.1.view (L.marks (line_of server.old))) }
+    ensures tally { IfOk result (λ r. r.2 ≡ tally_of (L.marks (line_of server.old))) }
     ensures refused { OnErr result (L.numbers (line_of server.new) ≡ L.numbers (line_of server.old)) }
 {
-    if server.transfers.link().is_full() {
+    if server.link().is_full() {
         return Err(SessionRefusal::TooMany);
     }
-    if server.ended {
+    if server.has_ended() {
         return Err(SessionRefusal::Stopped);
     }
-    server
-        .transfers
-        .link_mut()
-        .admit()
-        .ok_or(SessionRefusal::TooMany)
+    server.link_mut().admit().ok_or(SessionRefusal::TooMany)
 }
 
 /// A session ends: its number is free again.
 pub(crate) fn release<N: Room, L: Recorder<N>>(server: &mut Server<L>, number: u8, caller: Seat)
     requires { (caller.table ≡ N.table) × (caller.view.number ≡ Some number) × (number < 64) }
-    ensures same { SameServer server.old server.new }
-    ensures truth { (v : Opening) (older : List Mark) → guarantee_of server.old v older → guarantee_of server.new v older }
+    ensures same { SameServer L.Link server.old server.new }
+    ensures truth { (v : Opening) (older : List Mark) → L.truth (line_of server.old) v older → L.truth (line_of server.new) v older }
     ensures marks { L.marks (line_of server.new) ≡ L.marks (line_of server.old) }
     ensures numbers { L.numbers (line_of server.new) ≡ without (Some number) (L.numbers (line_of server.old)) }
 {
-    server.transfers.link_mut().release(number, caller);
+    server.link_mut().release(number, caller);
 }

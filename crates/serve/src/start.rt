@@ -7,10 +7,10 @@ ghost use Rattle.marks.specs.Opening.{Opening};
 ghost use Rattle.policy.specs.Policy.{IsAllowed};
 ghost use Rattle.inline.specs.Inline.{IsReady};
 ghost use Rattle.driven.specs.View.{guarded_of};
-ghost use Rattle.reincarnate.specs.Supply.{new_state};
 ghost use Rattle.true_replies.specs.Events.{IsOnMedia, opening_media};
 ghost use Rattle.board.specs.View.{IsKeeper, opener};
 ghost use Rattle.startup.specs.Starting.{opening_of, IsRefused, IsStartable};
+ghost use Rattle.serve.specs.Supplied.{IsSupplied};
 
 use crate::gate::Gate;
 use crate::noting::Noting;
@@ -23,7 +23,7 @@ use inline::local::LocalDriver;
 use media::Media;
 use policy::{Policy, Setup};
 use reincarnate::{Reincarnation, SupplyRefusal};
-use reissue::link::Link;
+use reissue::link::{Link, TrueLink};
 use startup::{Prepared, StartRefusal, prepare};
 use std::alloc::{AllocError, Global};
 use std::marker::Brand;
@@ -39,7 +39,7 @@ pub trait Program<R: Wait + Copy>: Drop {
     ghost gives: { Self → Geometry → Opening → Self.Output → Type 0 };
 
     /// Does it.
-    fn run<N: Room, L: Recorder<N>>(self, service: &Service<N, Shared<N, R, L>>) -> Self::Output
+    fn run<N: Room, L: Recorder<N> + TrueLink>(self, service: &Service<N, Shared<N, R, L>>) -> Self::Output
         ensures { gives self N.geometry N.opening result };
 }
 
@@ -56,7 +56,7 @@ fn drivers_on<D: LocalDriver>(
     ensures budget { IfOk result (λ link. ⟦<Driven<D> as Link>⟧.budget_left link ≡ 1099511627776) }
     ensures truth { IfOk result (λ link. (v : Opening) → IsOnMedia v → media ≡ opening_media v
         → All (IsReady v) (map D.state supply.items) → ⟦<Driven<D> as Link>⟧.truth link v []) }
-    ensures server { IfOk result (λ link. (guarded_of link.drivers).server ≡ new_state policy supply.items) }
+    ensures drivers { IfOk result (λ link. IsSupplied D.state (guarded_of link.drivers) policy (map D.state supply.items)) }
 {
     match Reincarnation::new(alloc, policy, supply) {
         Ok(reincarnation) => Driven::new(alloc, media, reincarnation),
@@ -68,8 +68,8 @@ fn drivers_on<D: LocalDriver>(
 /// A service on what was prepared, over its drivers: they are replaced as the setup's policy says. It counts on this board, which is new.
 /// No driver is started yet: that comes with the first message that a call takes. Where no memory was found, all of it is let go.
 ///
-/// What the parts of the service agree on is `N`, which the caller picks: the board, the volume as it was handed in, and its sizes.
-/// `serve` picks it for a program. The gate is for the threads that a service will have: it is never asked yet.
+/// What the parts of the service agree on is `N`, which the caller picks: the board, the volume as it was handed in, its sizes, the setup's
+/// policy and these drivers in their order. `serve` picks it for a program. The gate is for the threads that a service will have: it is never asked yet.
 pub fn start<N: Room, R: Wait + Copy, D: LocalDriver, G: Gate>(
     alloc: Global,
     rt: R,
@@ -86,8 +86,9 @@ pub fn start<N: Room, R: Wait + Copy, D: LocalDriver, G: Gate>(
     requires on_media { IsOnMedia N.opening }
     requires minor { N.opening.minor ≡ setup.now.minor }
     requires geometry { IsGeometry prepared.geometry × (prepared.geometry ≡ N.geometry) }
-    requires policy { IsAllowed setup.now.policy }
+    requires policy { IsAllowed setup.now.policy × (setup.now.policy ≡ N.policy) }
     requires some { supply.items ≢ [] }
+    requires drivers { map D.state supply.items ≡ N.supply }
     requires ready { All (IsReady N.opening) (map D.state supply.items) }
 {
     let Prepared {
@@ -118,6 +119,8 @@ fn start_and_run<N: Room, R: Wait + Copy, D: LocalDriver, G: Gate, P: Program<R>
     requires seat { IsKeeper N.table seat × (seat.view ≡ opener) }
     requires opening { N.opening ≡ opening_of image.now setup.now.minor prepared.range }
     requires sizes { N.geometry ≡ prepared.geometry }
+    requires policy { N.policy ≡ setup.now.policy }
+    requires drivers { N.supply ≡ map D.state supply.items }
     requires startable { IsStartable image.now setup.now (map D.state supply.items) prepared.geometry prepared.range }
     requires contents { prepared.media ≡ opening_media (opening_of image.now setup.now.minor prepared.range) }
     requires on_media { IsOnMedia (opening_of image.now setup.now.minor prepared.range) }

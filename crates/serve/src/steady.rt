@@ -1,9 +1,13 @@
-//! Links whose guarantee doesn't rest on calls.
+//! What a service asks of the link to its drivers.
 
+ghost use Rattle.std.specs.Prelude.{List};
 ghost use Rattle.marks.specs.Marks.{Took};
+ghost use Rattle.policy.specs.declared.Policy.{Policy};
+ghost use Rattle.bdev.specs.DriverState.{DriverState};
 ghost use Rattle.driven.specs.KeptLaws.{noted_drivers_kept};
 ghost use Rattle.driven.specs.View.{guarded_of};
-ghost use Rattle.serve.specs.Reader.{RestsNotOnCalls};
+ghost use Rattle.reader.specs.Reader.{RestsNotOnCalls};
+ghost use Rattle.serve.specs.Supplied.{IsSupplied, supplied_on};
 
 use driven::Driven;
 use inline::local::LocalDriver;
@@ -14,6 +18,22 @@ pub trait Steady: Link {
     ghost rests: { (link : Self) → RestsNotOnCalls (Self.truth link) };
 }
 
+/// A link to drivers that are replaced by a policy.
+///
+/// Contracts see one thing more of it: `runs_on` says by which policy, and which drivers were handed in, the first one first. However
+/// far the link goes on, it does so.
+pub trait Supplied: Link {
+    ghost runs_on: { Self → Policy → List DriverState → Type 0 };
+
+    ghost keeps_on: { (l m : Self) (policy : Policy) (supply : List DriverState) → Self.goes_on l m → runs_on l policy supply → runs_on m policy supply };
+}
+
 impl<D: LocalDriver> Steady for Driven<D> {
     ghost rests = { λ l v marks who now call answer kept. noted_drivers_kept D.state v (guarded_of l.drivers) marks (Took who now call answer) tt kept };
+}
+
+impl<D: LocalDriver> Supplied for Driven<D> {
+    ghost runs_on = { λ l policy supply. IsSupplied D.state (guarded_of l.drivers) policy supply };
+
+    ghost keeps_on = { λ l m policy supply goes. supplied_on D.state (guarded_of l.drivers) (guarded_of m.drivers) policy supply goes.leads };
 }

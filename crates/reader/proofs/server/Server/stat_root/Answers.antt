@@ -15,7 +15,7 @@ returns-then-self-clause-stats g c = λ path slash.
     let l = g.L.Link.history (link_of s.transfers) in
     let t = g.L.Link.truth (link_of s.transfers) in
     stat_cut s.geometry s.minor (table_of s.transfers) (table_of s.transfers) l l t t s.ended s.ended c.args.who c.args.now path
-    (went_none s.minor (table_of s.transfers) l t) (quiet_none (table_of s.transfers) l s.ended c.requires.told_end) c.if-self.true
+    (went_none s.minor (table_of s.transfers) l t) (quiet_none (table_of s.transfers) l s.ended c.requires.ready.told_end) c.if-self.true
 
 pub returns-then-is_given_up-clause-stats : goal.returns-then-is_given_up-clause-stats
 returns-then-is_given_up-clause-stats g c = λ path slash.
@@ -24,7 +24,7 @@ returns-then-is_given_up-clause-stats g c = λ path slash.
     let t = g.L.Link.truth (link_of s.transfers) in
     let given_up : (table_of s.transfers).given_up ≡ true = sym c.is_given_up.ensures ∙ c.if-is_given_up.true in
     stat_refused s.geometry s.minor (table_of s.transfers) (table_of s.transfers) l l t t s.ended s.ended c.args.who c.args.now path EIO
-    (went_none s.minor (table_of s.transfers) l t) (quiet_none (table_of s.transfers) l s.ended c.requires.told_end) c.if-self.false
+    (went_none s.minor (table_of s.transfers) l t) (quiet_none (table_of s.transfers) l s.ended c.requires.ready.told_end) c.if-self.false
     (λ eio. given_up) (λ e. refl)
     (λ image tree marks r. right_eio s.geometry (table_of s.transfers).given_up image tree marks c.args.who c.args.now _ given_up)
 
@@ -35,7 +35,7 @@ returns-then-who-ge-MAX_SESSIONS-clause-stats g c = λ path slash.
     let t = g.L.Link.truth (link_of s.transfers) in
     let live : (table_of s.transfers).given_up ≡ false = sym c.is_given_up.ensures ∙ c.if-is_given_up.false in
     stat_refused s.geometry s.minor (table_of s.transfers) (table_of s.transfers) l l t t s.ended s.ended c.args.who c.args.now path EINVAL
-    (went_none s.minor (table_of s.transfers) l t) (quiet_none (table_of s.transfers) l s.ended c.requires.told_end) c.if-self.false
+    (went_none s.minor (table_of s.transfers) l t) (quiet_none (table_of s.transfers) l s.ended c.requires.ready.told_end) c.if-self.false
     (λ eio. absurd (einval_eio eio)) (λ given_up. absurd (false_is_true (sym live ∙ given_up)))
     (λ image tree marks r. right_einval s.geometry s.minor (table_of s.transfers) image tree marks c.args.who c.args.now path r live c.if-who-ge-MAX_SESSIONS.true)
 
@@ -50,8 +50,8 @@ returns-in-Ok-clause-stats g c = λ path slash.
     x.geometry x.minor
     (stat_read s.geometry s.minor (table_of s.transfers) (table_of n.transfers) (g.L.Link.history (link_of s.transfers)) (g.L.Link.history (link_of n.transfers))
     (g.L.Link.truth (link_of s.transfers)) (g.L.Link.truth (link_of n.transfers)) s.ended n.ended c.args.who c.args.now path c.in-Ok.block s.geometry.block_size x.reads.went
-    (quiet_live x.reads.went.acts (table_of s.transfers) _ _ s.ended n.ended c.requirec.requires.told_end x.ready.told_end live c.if-self.false)
-    (x.ready.told_end ∙ x.reads.end.0) x.reads.end.1 slash c.if-who-ge-MAX_SESSIONS.false (holds_inode s.geometry c.requires.sizes)
+    (quiet_live x.reads.went.acts (table_of s.transfers) _ _ s.ended n.ended c.requires.ready.told_end x.ready.told_end live c.if-self.false)
+    (x.ready.told_end ∙ x.reads.end.0) x.reads.end.1 slash c.if-who-ge-MAX_SESSIONS.false (holds_inode s.geometry c.requires.ready.sizes)
     (λ marks h m. subst (λ (p : ℕ). AreRead p s.geometry.block_size c.in-Ok.block (marks_after x.reads.went.acts marks)) c.root_place.ensures (x.reads.end.3 marks h m))))
 
 pub returns-in-Err-GaveUp-clause-stats : goal.returns-in-Err-GaveUp-clause-stats
@@ -64,7 +64,7 @@ returns-in-Err-GaveUp-clause-stats g c = λ path slash.
     x.geometry x.minor
     (stat_refused s.geometry s.minor (table_of s.transfers) (table_of n.transfers) (g.L.Link.history (link_of s.transfers)) (g.L.Link.history (link_of n.transfers))
     (g.L.Link.truth (link_of s.transfers)) (g.L.Link.truth (link_of n.transfers)) s.ended n.ended c.args.who c.args.now path EIO x.reads.went
-    (quiet_live x.reads.went.acts (table_of s.transfers) _ _ s.ended n.ended c.requirec.requires.told_end x.ready.told_end live c.if-self.false)
+    (quiet_live x.reads.went.acts (table_of s.transfers) _ _ s.ended n.ended c.requires.ready.told_end x.ready.told_end live c.if-self.false)
     (x.ready.told_end ∙ x.reads.end.0) (λ eio. x.reads.end.1) (λ given_up. refl)
     (λ image tree marks r. right_eio s.geometry (table_of n.transfers).given_up image tree (marks_after x.reads.went.acts marks) c.args.who c.args.now _ x.reads.end.1))
 
@@ -78,5 +78,5 @@ returns-in-Err-Ended-clause-stats g c = λ path slash.
     x.geometry x.minor
     (stat_cut s.geometry s.minor (table_of s.transfers) (table_of n.transfers) (g.L.Link.history (link_of s.transfers)) (g.L.Link.history (link_of n.transfers))
     (g.L.Link.truth (link_of s.transfers)) (g.L.Link.truth (link_of n.transfers)) s.ended n.ended c.args.who c.args.now path x.reads.went
-    (quiet_live x.reads.went.acts (table_of s.transfers) _ _ s.ended n.ended c.requirec.requires.told_end x.ready.told_end live c.if-self.false)
+    (quiet_live x.reads.went.acts (table_of s.transfers) _ _ s.ended n.ended c.requires.ready.told_end x.ready.told_end live c.if-self.false)
     (x.ready.told_end ∙ x.reads.end.0))

@@ -1,5 +1,6 @@
 use Rattle.std.proofs.Common.{List, ◌∷◌, ◌∙◌, ap}
 use Rattle.marks.specs.Marks.{Mark, Issued}
+use Rattle.serve.specs.Keeper.{begins_before}
 use Rattle.serve.proofs.HeardLaws.{where_ok}
 use Rattle.serve.proofs.noting.NotingLink.post.Goals as goal
 
@@ -12,3 +13,7 @@ returns-then-is_ok-clause-accepted g c = λ v marks truth.
       c.issued.ensures marks c.args.to may truth.2,
     ))
     (c.post-posted.ensures.accepted v marks truth.0)
+
+pub returns-then-is_ok-clause-goes : goal.returns-then-is_ok-clause-goes
+returns-then-is_ok-clause-goes g c =
+    (c.post-posted.ensures.goes, begins_before (Issued c.args.request.now c.args.to) _ _ c.issue.ensures.record_is)
