@@ -44,8 +44,8 @@ pub goes_then : {D : Type 0} (state : D → DriverState) (b x a : Guarded D) (be
     → GoesOn state b x before between → GoesOn state x a between after → GoesOn state b a before after
 goes_then state b x a before between after first next = record {
   leads = record {
-      turns = next.leads.turns ++ first.leads.turns;
-      run = run_then state b x first.leads.turns first.leads.run a next.leads.turns next.leads.run;
+    turns = next.leads.turns ++ first.leads.turns;
+    run = run_then state b x first.leads.turns first.leads.run a next.leads.turns next.leads.run;
   };
   later = next.later ++ first.later;
   history = next.history ∙ ap (λ (l : List Told). next.later ++ l) first.history ∙ sym (append_assoc next.later first.later before);

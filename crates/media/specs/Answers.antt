@@ -1,10 +1,16 @@
 -- What the calls of media answer, and the numbers of their refusals.
-use Rattle.std.specs.Prelude.{ℕ, ◌==◌, List, Result, Ok, Err, if◌then◌else◌}
+use Rattle.std.specs.Prelude.{ℕ, ◌==◌, List, Result, Ok, Err, codes, if◌then◌else◌}
 use Rattle.media.specs.Contents.{MediaState, sector, accepts}
 use Rattle.media.specs.declared.MediaRefusal.{MediaRefusal}
 use Rattle.media.specs.declared.MediaRefusal.TheVariants.{NotWholeSectors, TooLarge, OutOfMemory}
 use Rattle.media.specs.declared.SectorRefusal.{SectorRefusal}
 use Rattle.media.specs.declared.SectorRefusal.TheVariants.{Revoked, PastEnd}
+
+-- the names of the refusals to make media
+abbrev pub media_refusal_name : MediaRefusal → List ℕ
+media_refusal_name NotWholeSectors = codes "NotWholeSectors"
+media_refusal_name TooLarge = codes "TooLarge"
+media_refusal_name OutOfMemory = codes "OutOfMemory"
 
 -- the numbers of the refusals to make media or an image
 abbrev pub media_refusal_number : MediaRefusal → ℕ

@@ -5,14 +5,15 @@
 //! replaced can't write any more, however late it wakes up.
 #![tactic(auto)]
 
-ghost use Rattle.std.specs.Prelude.{◌≡◌, ◌≢◌, ◌≤◌, ◌<◌, ◌*◌, ◌%◌, ◌/◌, ◌↔◌, length, IsTrue, IsNone, IfSome, IfOk, IfErr};
+ghost use Rattle.std.specs.Prelude.{◌≡◌, ◌≢◌, ◌≤◌, ◌<◌, ◌*◌, ◌%◌, ◌/◌, ◌↔◌, length, IsTrue, IsNone, IfSome, IfOk, IfErr, Some};
 ghost use Rattle.std.specs.List.{concat};
 ghost use Rattle.media.specs.Contents.{IsWhole, Adopt, Write, Tear, accepts, media_after, sectors_of, written};
 ghost use Rattle.media.specs.Laws.{ContentsFollow, RevokedForEver, ChangesOneSector, IsSameImage};
-ghost use Rattle.media.specs.Answers.{media_refusal_number, sector_refusal_number, refusal_of, read_answer, write_answer};
+ghost use Rattle.media.specs.Answers.{media_refusal_name, media_refusal_number, sector_refusal_number, refusal_of, read_answer, write_answer};
 
 use std::alloc::{AllocError, Global};
 use std::marker::Model;
+use std::{error, fmt};
 use thiserror::Error;
 
 /// The bytes of a sector.
@@ -22,16 +23,13 @@ pub const SECTOR: usize = 512;
 pub const MOST_BYTES: usize = 67108864;
 
 /// Why bytes don't make a media, or a media gives no image.
-#[derive(Clone, Copy, Debug, Drop, Error, PartialEq, Eq)]
+#[derive(Clone, Copy, Debug, Drop, PartialEq, Eq)]
 pub enum MediaRefusal {
     /// The number of bytes is no multiple of 512.
-    #[error("NotWholeSectors")]
     NotWholeSectors,
     /// There are more than 67108864 bytes.
-    #[error("TooLarge")]
     TooLarge,
     /// No memory was found.
-    #[error("OutOfMemory")]
     OutOfMemory,
 }
 
@@ -47,6 +45,21 @@ impl MediaRefusal {
         }
     }
 }
+
+/// Writes the name.
+impl fmt::Display for MediaRefusal {
+    ghost output = { λ refusal. Some (media_refusal_name refusal) };
+
+    fn fmt<W: fmt::Write>(&self, f: &mut fmt::Formatter<W>) -> fmt::Result {
+        f.write_str(match self {
+            MediaRefusal::NotWholeSectors => "NotWholeSectors",
+            MediaRefusal::TooLarge => "TooLarge",
+            MediaRefusal::OutOfMemory => "OutOfMemory",
+        })
+    }
+}
+
+impl error::Error for MediaRefusal {}
 
 impl From<AllocError> for MediaRefusal {
     ghost use Rattle.media.specs.declared.MediaRefusal.TheVariants.{OutOfMemory};

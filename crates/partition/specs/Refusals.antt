@@ -1,10 +1,16 @@
 -- What parsing a table answers, and the numbers of its refusals.
-use Rattle.std.specs.Prelude.{ℕ, List, Result, Ok, Err, not, if◌then◌else◌}
+use Rattle.std.specs.Prelude.{ℕ, List, Result, Ok, Err, codes, not, if◌then◌else◌}
 use Rattle.std.specs.List.{list_any}
 use Rattle.partition.specs.declared.PartitionRefusal.{PartitionRefusal}
 use Rattle.partition.specs.declared.PartitionRefusal.TheVariants.{NoSignature, PastMedia, Overlap}
 use Rattle.partition.specs.Entries.{entries_of, has_overlap, has_signature, passes}
 use Rattle.partition.specs.Table.{TableState}
+
+-- the names of the refusals
+abbrev pub partition_refusal_name : PartitionRefusal → List ℕ
+partition_refusal_name NoSignature = codes "NoSignature"
+partition_refusal_name PastMedia = codes "PastMedia"
+partition_refusal_name Overlap = codes "Overlap"
 
 -- the numbers of the refusals
 abbrev pub partition_refusal_number : PartitionRefusal → ℕ

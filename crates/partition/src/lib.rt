@@ -1,27 +1,24 @@
 //! The DOS partition table in the first sector of a disk.
 #![tactic(auto)]
 
-ghost use Rattle.std.specs.Prelude.{◌≡◌, ◌+◌, ◌≤◌, [], ◌∷◌, IfOk, IfSome, get_or};
+ghost use Rattle.std.specs.Prelude.{◌≡◌, ◌+◌, ◌≤◌, [], ◌∷◌, IfOk, IfSome, Some, get_or};
 ghost use Rattle.std.specs.List.{list_any};
 ghost use Rattle.partition.specs.Entries.{entry_at, unless_empty, entries_of, has_overlap, has_signature, holds_sector_0, meets, overlap, passes};
 ghost use Rattle.partition.specs.Table.{IsTable, kind_at, range_at, range_of_entry};
-ghost use Rattle.partition.specs.Refusals.{partition_refusal_number, checked, table_of};
+ghost use Rattle.partition.specs.Refusals.{partition_refusal_name, partition_refusal_number, checked, table_of};
 
 use byteorder::{ByteOrder, LittleEndian};
 use std::marker::Model;
-use thiserror::Error;
+use std::{error, fmt};
 
 /// Why a partition table is refused: the first of these that holds.
-#[derive(Clone, Copy, Debug, Drop, Error, PartialEq, Eq)]
+#[derive(Clone, Copy, Debug, Drop, PartialEq, Eq)]
 pub enum PartitionRefusal {
     /// The bytes 0x55 and 0xaa don't end the sector.
-    #[error("NoSignature")]
     NoSignature,
     /// An entry ends past the media.
-    #[error("PastMedia")]
     PastMedia,
     /// Two entries share a sector, or one holds sector 0, where the table itself stands.
-    #[error("Overlap")]
     Overlap,
 }
 
@@ -37,6 +34,21 @@ impl PartitionRefusal {
         }
     }
 }
+
+/// Writes the name.
+impl fmt::Display for PartitionRefusal {
+    ghost output = { λ refusal. Some (partition_refusal_name refusal) };
+
+    fn fmt<W: fmt::Write>(&self, f: &mut fmt::Formatter<W>) -> fmt::Result {
+        f.write_str(match self {
+            PartitionRefusal::NoSignature => "NoSignature",
+            PartitionRefusal::PastMedia => "PastMedia",
+            PartitionRefusal::Overlap => "Overlap",
+        })
+    }
+}
+
+impl error::Error for PartitionRefusal {}
 
 /// An entry of a table.
 #[derive(Clone, Copy)]

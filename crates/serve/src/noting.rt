@@ -105,8 +105,9 @@ impl<N: Room, L: Link> Link for Noting<N, L> {
     ghost stays = { λ l. (L.stays l.link, begins_itself (record_of l.keeper)) };
 
     ghost joins = { λ l m n first next. (
-        L.joins l.link m.link n.link first.0 next.0,
-        begins_further (record_of l.keeper) (record_of m.keeper) (record_of n.keeper) first.1 next.1) };
+      L.joins l.link m.link n.link first.0 next.0,
+      begins_further (record_of l.keeper) (record_of m.keeper) (record_of n.keeper) first.1 next.1,
+    ) };
 }
 
 impl<N: Room, L: TrueLink> TrueLink for Noting<N, L> {

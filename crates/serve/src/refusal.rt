@@ -1,24 +1,36 @@
 //! Why a session of a file server isn't made.
 
-ghost use Rattle.std.specs.Prelude.{◌≡◌};
-ghost use Rattle.serve.specs.Refusals.{session_refusal_number};
+ghost use Rattle.std.specs.Prelude.{◌≡◌, Some};
+ghost use Rattle.serve.specs.Refusals.{session_refusal_name, session_refusal_number};
 
 use std::alloc::AllocError;
-use thiserror::Error;
+use std::{error, fmt};
 
 /// Why no session is made. All is as it was.
-#[derive(Clone, Copy, Debug, PartialEq, Eq, Error)]
+#[derive(Clone, Copy, Debug, PartialEq, Eq)]
 pub enum SessionRefusal {
     /// There are 64 sessions.
-    #[error("TooMany")]
     TooMany,
     /// The link to the drivers has ended: each call would be cut.
-    #[error("Stopped")]
     Stopped,
     /// No memory was found.
-    #[error("OutOfMemory")]
     OutOfMemory,
 }
+
+/// Writes the name.
+impl fmt::Display for SessionRefusal {
+    ghost output = { λ refusal. Some (session_refusal_name refusal) };
+
+    fn fmt<W: fmt::Write>(&self, f: &mut fmt::Formatter<W>) -> fmt::Result {
+        f.write_str(match self {
+            SessionRefusal::TooMany => "TooMany",
+            SessionRefusal::Stopped => "Stopped",
+            SessionRefusal::OutOfMemory => "OutOfMemory",
+        })
+    }
+}
+
+impl error::Error for SessionRefusal {}
 
 impl SessionRefusal {
     /// Its number: 1 to 3.

@@ -50,6 +50,14 @@ impl<N: Room, S> Model for Session<N, S> {
 }
 
 impl<N: Room, S> Session<N, S> {
+    /// Its number among the sessions of the service, 0 to 63.
+    pub fn number(&self) -> u8
+        ensures number { result ≡ self.now.knows.number }
+        ensures low { result < 64 }
+    {
+        self.who.session
+    }
+
     /// How many counted marks the session has seen: the starts, the answers, the flushes, the giving up and the calls. It doesn't look at the
     /// board, so it stays the same whatever others do; of 2^64 marks or more it says nothing.
     pub fn seen(&self) -> u64

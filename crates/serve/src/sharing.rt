@@ -40,9 +40,7 @@ pub(crate) fn count_root_stat<N: Room, L: Recorder<N>>(
     ensures mine { caller.new.view.mine ≡ Took who now (Stat root_path) (answer_of reply.now) ∷ caller.old.view.mine }
     ensures session { SessionLearns caller.old.view caller.new.view }
 {
-    server
-        .link_mut()
-        .count_root_stat(caller, who, now, reply)
+    server.link_mut().count_root_stat(caller, who, now, reply)
 }
 
 /// The caller has then seen the whole record. Gives how many counted marks it has, modulo 2^64.

@@ -39,7 +39,10 @@ pub trait Program<R: Wait + Copy>: Drop {
     ghost gives: { Self → Geometry → Opening → Self.Output → Type 0 };
 
     /// Does it.
-    fn run<N: Room, L: Recorder<N> + TrueLink>(self, service: &Service<N, Shared<N, R, L>>) -> Self::Output
+    fn run<N: Room, L: Recorder<N> + TrueLink>(
+        self,
+        service: &Service<N, Shared<N, R, L>>,
+    ) -> Self::Output
         ensures { gives self N.geometry N.opening result };
 }
 

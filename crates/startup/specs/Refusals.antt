@@ -1,5 +1,9 @@
--- The numbers of the refusals to start a server.
-use Rattle.std.specs.Prelude.{ℕ}
+-- The numbers and the texts of the refusals to start a server.
+use Rattle.std.specs.Prelude.{ℕ, List, ◌++◌, codes}
+use Rattle.layout.specs.Places.{refusal_name}
+use Rattle.volume.specs.Text.{finding_text}
+use Rattle.media.specs.Answers.{media_refusal_name}
+use Rattle.partition.specs.Refusals.{partition_refusal_name}
 use Rattle.startup.specs.declared.refusal.MountRefusal.{MountRefusal}
 use Rattle.startup.specs.declared.refusal.MountRefusal.TheVariants.{Layout, Inconsistent}
 use Rattle.startup.specs.declared.refusal.StartRefusal.{StartRefusal}
@@ -19,3 +23,18 @@ start_refusal_number (Mount refusal) = 3
 start_refusal_number BadSetup = 4
 start_refusal_number NoDriver = 5
 start_refusal_number OutOfMemory = 6
+
+-- the text of a refusal to serve a volume: its name, and what it carries
+abbrev pub mount_refusal_text : MountRefusal → List ℕ
+mount_refusal_text (Layout refusal) = codes "Layout " ++ refusal_name refusal
+mount_refusal_text (Inconsistent finding) = codes "Inconsistent " ++ finding_text finding
+
+-- the text of a refusal to start
+abbrev pub start_refusal_text : StartRefusal → List ℕ
+start_refusal_text (Media refusal) = codes "Media " ++ media_refusal_name refusal
+start_refusal_text (Partition refusal) = codes "Partition " ++ partition_refusal_name refusal
+start_refusal_text NoPartition = codes "Partition"
+start_refusal_text (Mount refusal) = codes "Mount " ++ mount_refusal_text refusal
+start_refusal_text BadSetup = codes "BadSetup"
+start_refusal_text NoDriver = codes "NoDriver"
+start_refusal_text OutOfMemory = codes "OutOfMemory"

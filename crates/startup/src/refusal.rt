@@ -1,25 +1,37 @@
 //! Why a file server isn't started.
 
-ghost use Rattle.std.specs.Prelude.{◌≡◌};
-ghost use Rattle.startup.specs.Refusals.{mount_refusal_number, start_refusal_number};
+ghost use Rattle.std.specs.Prelude.{◌≡◌, Some};
+ghost use Rattle.startup.specs.Refusals.{mount_refusal_number, mount_refusal_text, start_refusal_number, start_refusal_text};
 
 use layout::LayoutRefusal;
 use media::MediaRefusal;
 use partition::PartitionRefusal;
 use std::alloc::AllocError;
-use thiserror::Error;
+use std::{error, fmt};
 use volume::Finding;
 
 /// Why a volume isn't served.
-#[derive(Clone, Copy, Debug, Drop, Error, PartialEq, Eq)]
+#[derive(Clone, Copy, Debug, Drop, PartialEq, Eq)]
 pub enum MountRefusal {
     /// Its superblock is refused.
-    #[error("Layout {0}")]
     Layout(LayoutRefusal),
     /// It breaks a rule of the format.
-    #[error("Inconsistent {0}")]
     Inconsistent(Finding),
 }
+
+/// Writes the name, and what it carries.
+impl fmt::Display for MountRefusal {
+    ghost output = { λ refusal. Some (mount_refusal_text refusal) };
+
+    fn fmt<W: fmt::Write>(&self, f: &mut fmt::Formatter<W>) -> fmt::Result {
+        match self {
+            MountRefusal::Layout(refusal) => write!(f, "Layout {refusal}"),
+            MountRefusal::Inconsistent(finding) => write!(f, "Inconsistent {finding}"),
+        }
+    }
+}
+
+impl error::Error for MountRefusal {}
 
 impl MountRefusal {
     /// Its number: 1 or 2.
@@ -34,30 +46,42 @@ impl MountRefusal {
 }
 
 /// Why a server isn't started. Nothing is left running, and the image is as it was.
-#[derive(Clone, Copy, Debug, Drop, Error, PartialEq, Eq)]
+#[derive(Clone, Copy, Debug, Drop, PartialEq, Eq)]
 pub enum StartRefusal {
     /// The image makes no media.
-    #[error("Media {0}")]
     Media(MediaRefusal),
     /// The media's partition table is refused.
-    #[error("Partition {0}")]
     Partition(PartitionRefusal),
     /// The media have no partition of this minor, or it isn't of MINIX's type.
-    #[error("Partition")]
     NoPartition,
     /// The volume is refused.
-    #[error("Mount {0}")]
     Mount(MountRefusal),
     /// A number of the setup isn't in its range, or some driver isn't ready for the range of the media that the volume lies in.
-    #[error("BadSetup")]
     BadSetup,
     /// There is no driver.
-    #[error("NoDriver")]
     NoDriver,
     /// No memory was found.
-    #[error("OutOfMemory")]
     OutOfMemory,
 }
+
+/// Writes the name, and what it carries.
+impl fmt::Display for StartRefusal {
+    ghost output = { λ refusal. Some (start_refusal_text refusal) };
+
+    fn fmt<W: fmt::Write>(&self, f: &mut fmt::Formatter<W>) -> fmt::Result {
+        match self {
+            StartRefusal::Media(refusal) => write!(f, "Media {refusal}"),
+            StartRefusal::Partition(refusal) => write!(f, "Partition {refusal}"),
+            StartRefusal::NoPartition => f.write_str("Partition"),
+            StartRefusal::Mount(refusal) => write!(f, "Mount {refusal}"),
+            StartRefusal::BadSetup => f.write_str("BadSetup"),
+            StartRefusal::NoDriver => f.write_str("NoDriver"),
+            StartRefusal::OutOfMemory => f.write_str("OutOfMemory"),
+        }
+    }
+}
+
+impl error::Error for StartRefusal {}
 
 impl StartRefusal {
     /// Its number: 1 to 6.

@@ -10,9 +10,11 @@ use Rattle.tree.specs.Tree.{Tree}
 use Rattle.marks.specs.Marks.{Mark}
 use Rattle.marks.specs.Opening.{Opening, contents_at}
 use Rattle.legal.specs.Legal.{IsAtFirst}
-use Rattle.legal.specs.Session.{SessionState, SessionCallKeeps, IsMadeFor, caller_of}
-use Rattle.serve.specs.Held.{root_path, IsGood}
-use Rattle.serve.specs.Server.{outcome_of}
+use Rattle.legal.specs.Session.{SessionState, SessionCallKeeps, IsMadeFor, caller_of, calls_of}
+use Rattle.marks.specs.Disk.{HasTrueReplies}
+use Rattle.reissue.specs.Calls.{Truth}
+use Rattle.serve.specs.Held.{root_path, IsGood, IsGuaranteed}
+use Rattle.reader.specs.Server.{outcome_of}
 use Rattle.tools.specs.Made.{is_eio, calls_made, cuts, some_cut, all_cut, cuts_last, IsSame, Plays, Calls, IsAnswered}
 
 -- one call more
@@ -50,9 +52,9 @@ some_cut-reply [] r = refl
 some_cut-reply (Cut ∷ outcomes) r = refl
 some_cut-reply (Reply s ∷ outcomes) r = some_cut-reply outcomes r
 
-module _ (g : Geometry) (v : Opening) (old : SessionState) where
+module _ {L : Type 0} (truth : L → Truth) (g : Geometry) (v : Opening) (old : SessionState) where
   -- no call was made
-  pub plays_none : Plays g v old [] [] old
+  pub plays_none : Plays truth g v old [] [] old
   plays_none = record {
     same = record { caller = refl; place = refl };
     each = refl;
@@ -60,9 +62,10 @@ module _ (g : Geometry) (v : Opening) (old : SessionState) where
     mine = refl;
     own = λ own. own;
     good = λ tree first good. good;
+    guaranteed = λ tree first guaranteed. guaranteed;
   }
 
-  module _ (mid new : SessionState) (times : List ℕ) (outcomes : List Outcome) (now : ℕ) (plays : Plays g v old times outcomes mid) where
+  module _ (mid new : SessionState) (times : List ℕ) (outcomes : List Outcome) (now : ℕ) (plays : Plays truth g v old times outcomes mid) where
     counts_more : (outcome : Outcome) → length (outcomes ++ outcome ∷ []) ≡ length (times ++ now ∷ [])
     counts_more outcome = omega (arith, length-append outcomes (outcome ∷ []), length-append times (now ∷ []), plays.each)
 
@@ -83,19 +86,20 @@ module _ (g : Geometry) (v : Opening) (old : SessionState) where
 
     call_more : (outcome : Outcome) → SessionCallKeeps g (contents_at v) mid (caller_of mid) now (Stat root_path) (outcome_of outcome) new
         → cuts_last (outcomes ++ outcome ∷ []) ≡ true → new.knows.mine ≡ calls_made (caller_of mid) (now ∷ []) (outcome ∷ []) mid.knows.mine
-        → Calls g v mid false now outcome new → Plays g v old (times ++ now ∷ []) (outcomes ++ outcome ∷ []) new
+        → Calls truth g v mid false now outcome new → Plays truth g v old (times ++ now ∷ []) (outcomes ++ outcome ∷ []) new
     call_more outcome k last mine c = record {
       same = same_more (outcome_of outcome) k;
       each = counts_more outcome;
       cuts_last = last;
       mine = mine_more outcome mine;
       own = λ own. k.goes_on.learns.own;
-      good = λ tree first good. let sound = c.sound refl tree first in (sound, k.legal tree first sound.true_replies);
+      good = λ tree first good. (c.sound refl tree first, k.legal tree first);
+      guaranteed = λ tree first guaranteed. c.guaranteed refl tree first;
     }
 
     -- a call more
-    plays_called : (outcome : Outcome) → some_cut outcomes ≡ false → Calls g v mid false now outcome new
-        → Plays g v old (times ++ now ∷ []) (outcomes ++ outcome ∷ []) new
+    plays_called : (outcome : Outcome) → some_cut outcomes ≡ false → Calls truth g v mid false now outcome new
+        → Plays truth g v old (times ++ now ∷ []) (outcomes ++ outcome ∷ []) new
     plays_called (Reply r) none c =
         let k = c.call refl in
         call_more (Reply r) k (cuts_last-reply outcomes r none) k.ends.2 c
@@ -104,48 +108,60 @@ module _ (g : Geometry) (v : Opening) (old : SessionState) where
         call_more Cut k (cuts_last-cut outcomes plays.cuts_last) k.ends c
 
     -- a call that wasn't made, since an earlier one was cut
-    plays_cut : (outcome : Outcome) → Calls g v mid true now outcome new → Plays g v old (times ++ now ∷ []) (outcomes ++ outcome ∷ []) new
+    plays_cut : (outcome : Outcome) → Calls truth g v mid true now outcome new → Plays truth g v old (times ++ now ∷ []) (outcomes ++ outcome ∷ []) new
     plays_cut outcome c =
         let both = c.after_cut refl in
-        subst (λ (o : Outcome). Plays g v old (times ++ now ∷ []) (outcomes ++ o ∷ []) new) (sym both.0)
-        (subst (λ (s : SessionState). Plays g v old (times ++ now ∷ []) (outcomes ++ Cut ∷ []) s) (sym both.1) (record {
+        subst (λ (o : Outcome). Plays truth g v old (times ++ now ∷ []) (outcomes ++ o ∷ []) new) (sym both.0)
+        (subst (λ (s : SessionState). Plays truth g v old (times ++ now ∷ []) (outcomes ++ Cut ∷ []) s) (sym both.1) (record {
           same = plays.same;
           each = counts_more Cut;
           cuts_last = cuts_last-cut outcomes plays.cuts_last;
           mine = plays.mine ∙ sym (calls_made-more (caller_of old) times outcomes now Cut old.knows.mine plays.each);
           own = plays.own;
           good = plays.good;
+          guaranteed = plays.guaranteed;
         }))
 
-    pub plays_more : (cut : Bool) (outcome : Outcome) → cut ≡ some_cut outcomes → Calls g v mid cut now outcome new
-        → Plays g v old (times ++ now ∷ []) (outcomes ++ outcome ∷ []) new
+    pub plays_more : (cut : Bool) (outcome : Outcome) → cut ≡ some_cut outcomes → Calls truth g v mid cut now outcome new
+        → Plays truth g v old (times ++ now ∷ []) (outcomes ++ outcome ∷ []) new
     plays_more true outcome is c = plays_cut outcome c
     plays_more false outcome is c = plays_called outcome (sym is) c
 
 -- from the first that is cut on all are, so the last tells whether one was
-pub cut_more : (g : Geometry) (v : Opening) (mid new : SessionState) (outcomes : List Outcome) (now : ℕ) (cut : Bool) (outcome : Outcome)
-    → cut ≡ some_cut outcomes → Calls g v mid cut now outcome new → cuts outcome ≡ some_cut (outcomes ++ outcome ∷ [])
-cut_more g v mid new outcomes now cut Cut is c = sym (some_cut-cut outcomes)
-cut_more g v mid new outcomes now true (Reply r) is c = let no = (c.after_cut refl).0 in cc
-cut_more g v mid new outcomes now false (Reply r) is c = is ∙ sym (some_cut-reply outcomes r)
+pub cut_more : {L : Type 0} (truth : L → Truth) (g : Geometry) (v : Opening) (mid new : SessionState) (outcomes : List Outcome) (now : ℕ) (cut : Bool) (outcome : Outcome)
+    → cut ≡ some_cut outcomes → Calls truth g v mid cut now outcome new → cuts outcome ≡ some_cut (outcomes ++ outcome ∷ [])
+cut_more truth g v mid new outcomes now cut Cut is c = sym (some_cut-cut outcomes)
+cut_more truth g v mid new outcomes now true (Reply r) is c = let no = (c.after_cut refl).0 in cc
+cut_more truth g v mid new outcomes now false (Reply r) is c = is ∙ sym (some_cut-reply outcomes r)
 
 -- what a session's calls came to
-pub is_answered : (g : Geometry) (v : Opening) (uid gid : ℕ) (first last : SessionState) (times : List ℕ) (outcomes : List Outcome) (gave : Bool)
-    → IsMadeFor uid gid first first.knows.seen
+pub is_answered : {L : Type 0} (truth : L → Truth) (g : Geometry) (v : Opening) (number uid gid : ℕ) (first last : SessionState) (times : List ℕ)
+    (outcomes : List Outcome) (gave : Bool) (marks : List Mark) → number ≡ first.knows.number
+    → IsMadeFor uid gid first marks → first.knows.seen ≡ marks
     → ((tree : Tree) → IsAtFirst g (contents_at v) tree → IsGood g v tree first.knows.seen)
-    → Plays g v first times outcomes last → gave ≡ list_any is_eio outcomes → IsAnswered g v (uid, gid, times) outcomes gave
-is_answered g v uid gid first last times outcomes gave made good plays eio = record {
-  each = plays.each;
-  cuts = plays.cuts_last;
-  given_up = eio;
-  recorded = λ tree at. record {
-    session = last;
-    user = ap (λ (w : Who). w.uid) plays.same.caller ∙ made.user;
-    group = ap (λ (w : Who). w.gid) plays.same.caller ∙ made.group;
-    good = plays.good tree at (good tree at);
-    calls =
-        sym (plays.own (made.new.none ∙ sym made.new.saw_all)) ∙ plays.mine
-        ∙ ap (λ (older : List Mark). calls_made (caller_of first) times outcomes older) made.new.none
-        ∙ ap (λ (w : Who). calls_made w times outcomes []) (sym plays.same.caller);
-  };
-}
+    → ((tree : Tree) → IsAtFirst g (contents_at v) tree → IsGuaranteed truth v first.knows.seen)
+    → ((line : L) (v : Opening) (older : List Mark) → truth line v older → HasTrueReplies (contents_at v) older)
+    → Plays truth g v first times outcomes last → gave ≡ list_any is_eio outcomes → IsAnswered g v (uid, gid, times) number outcomes gave
+is_answered truth g v number uid gid first last times outcomes gave marks numbered made whole good guaranteed are_true plays eio =
+    let none : calls_of first.knows.number first.knows.place first.knows.seen ≡ [] =
+    ap (λ (ms : List Mark). calls_of first.knows.number first.knows.place ms) whole ∙ made.new.saw_all in
+    record {
+      low = rw numbered made.number;
+      each = plays.each;
+      cuts = plays.cuts_last;
+      given_up = eio;
+      recorded = λ tree at.
+          let seen = plays.guaranteed tree at (guaranteed tree at) in
+          record {
+            session = last;
+            numbered = ap (λ (w : Who). w.session) plays.same.caller ∙ sym numbered;
+            user = ap (λ (w : Who). w.uid) plays.same.caller ∙ made.user;
+            group = ap (λ (w : Who). w.gid) plays.same.caller ∙ made.group;
+            good = plays.good tree at (good tree at);
+            true_replies = are_true seen.0 v last.knows.seen seen.1;
+            calls =
+                sym (plays.own (made.new.none ∙ sym none)) ∙ plays.mine
+                ∙ ap (λ (older : List Mark). calls_made (caller_of first) times outcomes older) made.new.none
+                ∙ ap (λ (w : Who). calls_made w times outcomes []) (sym plays.same.caller);
+          };
+    }

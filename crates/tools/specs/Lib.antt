@@ -1,4 +1,5 @@
 pub mod Output
+pub mod Refusals
 pub mod Made
 pub mod Played
 pub mod Script

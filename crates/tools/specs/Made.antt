@@ -1,5 +1,5 @@
 -- The calls of a script in one session, and the record of them.
-use Rattle.std.specs.Prelude.{◌≡◌, ℕ, List, [], ◌∷◌, Bool, true, false, length}
+use Rattle.std.specs.Prelude.{◌≡◌, ℕ, ◌<◌, List, [], ◌∷◌, Bool, true, false, length}
 use Rattle.std.specs.List.{list_any}
 use Rattle.layout.specs.declared.Geometry.{Geometry}
 use Rattle.tree.specs.declared.Who.{Who}
@@ -8,14 +8,16 @@ use Rattle.tree.specs.declared.Outcome.{Outcome}
 use Rattle.tree.specs.declared.Outcome.TheVariants.{Reply, Cut}
 use Rattle.tree.specs.declared.Reply.TheVariants.{Refused}
 use Rattle.errno.specs.declared.Errno.TheVariants.{EIO}
-use Rattle.tree.specs.Tree.{Tree}
+use Rattle.tree.specs.Tree.{Tree, most_sessions}
 use Rattle.tree.specs.Answers.{answer_of}
 use Rattle.marks.specs.Marks.{Mark, Took}
+use Rattle.marks.specs.Disk.{HasTrueReplies}
 use Rattle.marks.specs.Opening.{Opening, contents_at}
 use Rattle.legal.specs.Legal.{IsAtFirst}
 use Rattle.legal.specs.Session.{SessionState, SessionCallKeeps, caller_of, calls_of}
-use Rattle.serve.specs.Held.{root_path, IsGood, IsSound}
-use Rattle.serve.specs.Server.{outcome_of}
+use Rattle.reissue.specs.Calls.{Truth}
+use Rattle.serve.specs.Held.{root_path, IsGood, IsGuaranteed, IsSound}
+use Rattle.reader.specs.Server.{outcome_of}
 
 -- the marks of a `stat /` at each of these times, onto older ones, the newest first; a call that was cut has none
 abbrev pub calls_made : Who → List ℕ → List Outcome → List Mark → List Mark
@@ -62,32 +64,40 @@ pub record IsSame (old new : SessionState) : Type 0 where
   pub place : new.knows.place ≡ old.knows.place
 
 -- Calls of a session were made, each in its turn and with its outcome; from the first that is cut on all are. Its own calls grew by
--- those that were answered. What it has seen stays good.
-pub record Plays (g : Geometry) (v : Opening) (old : SessionState) (times : List ℕ) (outcomes : List Outcome) (new : SessionState) : Type 0 where
+-- those that were answered. What it has seen stays good, and what the service's link guaranteed.
+pub record Plays {L : Type 0} (truth : L → Truth) (g : Geometry) (v : Opening) (old : SessionState) (times : List ℕ) (outcomes : List Outcome)
+    (new : SessionState) : Type 0 where
   pub same : IsSame old new
   pub each : length outcomes ≡ length times
   pub cuts_last : cuts_last outcomes ≡ true
   pub mine : new.knows.mine ≡ calls_made (caller_of old) times outcomes old.knows.mine
   pub own : IsOwn old → IsOwn new
   pub good : (tree : Tree) → IsAtFirst g (contents_at v) tree → IsGood g v tree old.knows.seen → IsGood g v tree new.knows.seen
+  pub guaranteed : (tree : Tree) → IsAtFirst g (contents_at v) tree → IsGuaranteed truth v old.knows.seen → IsGuaranteed truth v new.knows.seen
 
 -- One call, unless an earlier one was cut.
-pub record Calls (g : Geometry) (v : Opening) (old : SessionState) (cut : Bool) (now : ℕ) (outcome : Outcome) (new : SessionState) : Type 0 where
+pub record Calls {L : Type 0} (truth : L → Truth) (g : Geometry) (v : Opening) (old : SessionState) (cut : Bool) (now : ℕ) (outcome : Outcome)
+    (new : SessionState) : Type 0 where
   pub after_cut : cut ≡ true → (outcome ≡ Cut) × (new ≡ old)
   pub call : cut ≡ false → SessionCallKeeps g (contents_at v) old (caller_of old) now (Stat root_path) (outcome_of outcome) new
-  pub sound : cut ≡ false → (tree : Tree) → IsAtFirst g (contents_at v) tree → IsSound v new.knows.seen
+  pub sound : cut ≡ false → (tree : Tree) → IsAtFirst g (contents_at v) tree → IsSound new.knows.seen
+  pub guaranteed : cut ≡ false → (tree : Tree) → IsAtFirst g (contents_at v) tree → IsGuaranteed truth v new.knows.seen
 
--- A session of this user and group, whose calls are these. What it has seen is sound and legal.
-pub record Records (g : Geometry) (v : Opening) (tree : Tree) (uid gid : ℕ) (times : List ℕ) (outcomes : List Outcome) : Type 0 where
+-- A session of this number, user and group, whose calls are these. What it has seen is sound, its replies are true, and it is legal.
+pub record Records (g : Geometry) (v : Opening) (tree : Tree) (number uid gid : ℕ) (times : List ℕ) (outcomes : List Outcome) : Type 0 where
   pub session : SessionState
+  pub numbered : session.knows.number ≡ number
   pub user : session.uid ≡ uid
   pub group : session.gid ≡ gid
   pub good : IsGood g v tree session.knows.seen
+  pub true_replies : HasTrueReplies (contents_at v) session.knows.seen
   pub calls : calls_of session.knows.number session.knows.place session.knows.seen ≡ calls_made (caller_of session) times outcomes []
 
--- The calls of a script (its user, group and times) got these outcomes from a service for the volume, some of them EIO or none. Whichever tree the volume held as it was handed in, there is a record of these calls.
-pub record IsAnswered (g : Geometry) (v : Opening) (script : ℕ × ℕ × List ℕ) (outcomes : List Outcome) (gave : Bool) : Type 0 where
+-- The calls of a script (its user, group and times) got these outcomes in a session of this number from a service for the volume, some of
+-- them EIO or none. Whichever tree the volume held as it was handed in, the session has seen these calls.
+pub record IsAnswered (g : Geometry) (v : Opening) (script : ℕ × ℕ × List ℕ) (number : ℕ) (outcomes : List Outcome) (gave : Bool) : Type 0 where
+  pub low : number < most_sessions
   pub each : length outcomes ≡ length script.2
   pub cuts : cuts_last outcomes ≡ true
   pub given_up : gave ≡ list_any is_eio outcomes
-  pub recorded : (tree : Tree) → IsAtFirst g (contents_at v) tree → Records g v tree script.0 script.1 script.2 outcomes
+  pub recorded : (tree : Tree) → IsAtFirst g (contents_at v) tree → Records g v tree number script.0 script.1 script.2 outcomes

@@ -1,17 +1,22 @@
 -- What playing a script comes to.
 use Rattle.std.specs.Prelude.{◌≡◌, ◌⊎◌, ℕ, List, ◌++◌, Bool, true, false, codes, decimal, Option, Some, None, Ok, Err, IsSome, IfSome, IsTrue}
 use Rattle.std.specs.Borrow.{Bor}
+use Rattle.std.specs.Io.KnownBytes.{Appends}
 use Rattle.layout.specs.declared.Geometry.{Geometry}
 use Rattle.tree.specs.declared.Outcome.{Outcome}
 use Rattle.bdev.specs.DriverState.{DriverState}
 use Rattle.policy.specs.declared.Setup.{Setup}
+use Rattle.startup.specs.Refusals.{start_refusal_text}
 use Rattle.startup.specs.Starting.{opening_of, IsStartable, IsRefused}
+use Rattle.serve.specs.Refusals.{session_refusal_name}
 use Rattle.tools.specs.Script.{script_of, has_call}
 use Rattle.tools.specs.Output.{session_text, AppendsPart}
 use Rattle.tools.specs.Made.{IsAnswered}
 use Rattle.tools.specs.declared.play.File.{File}
 use Rattle.tools.specs.declared.play.PlayRefusal.{PlayRefusal}
 use Rattle.tools.specs.declared.play.PlayRefusal.TheVariants.{CannotRead, BadLine, Start, NoSession, OutOfMemory, NotWritten}
+use Rattle.tools.specs.declared.play.Told.{Told}
+use Rattle.tools.specs.declared.play.Told.TheVariants.{Whole, Partly, NoMemory, NoMemoryPartly}
 
 -- the file could be read, and holds a script of these calls
 abbrev pub IsScript : File → ℕ × ℕ × List ℕ → Type 0
@@ -44,14 +49,14 @@ pub record IsStarted (image : File) (setup : Setup) (supply : List DriverState) 
   pub startable : IsStartable bytes.now setup supply g range
 
 -- The files' script was played on the volume in the files' image, for which a service starts, and got these outcomes.
-pub record IsPlayed (image script : File) (setup : Setup) (supply : List DriverState) (outcomes : List Outcome) (gave : Bool) : Type 0 where
+pub record IsPlayed (image script : File) (setup : Setup) (supply : List DriverState) (number : ℕ) (outcomes : List Outcome) (gave : Bool) : Type 0 where
   pub bytes : Bor (List ℕ)
   pub sizes : Geometry
   pub range : ℕ × ℕ
   pub started : IsStarted image setup supply bytes sizes range
   pub calls : ℕ × ℕ × List ℕ
   pub scripted : IsScript script calls
-  pub answered : IsAnswered sizes (opening_of bytes.now setup.minor range) calls outcomes gave
+  pub answered : IsAnswered sizes (opening_of bytes.now setup.minor range) calls number outcomes gave
 
 -- why nothing is played, in the order in which faults are looked for
 abbrev pub IsUnplayed : File → File → Setup → List DriverState → PlayRefusal → Type 0
@@ -66,10 +71,10 @@ IsUnplayed image script setup supply (NoSession refusal) =
 IsUnplayed image script setup supply OutOfMemory = IsSome image.bytes × HasCall script
 IsUnplayed image script setup supply NotWritten = ⊥
 
--- the script was played, and of the session's text this went out
+-- the script was played in a session of some number, and of the text of that session this went out
 abbrev pub IsShown : File → File → Setup → List DriverState → Bool → (List ℕ → Type 0) → Type 0
 IsShown image script setup supply gave WentOut =
-    (outcomes : List Outcome) × IsPlayed image script setup supply outcomes gave × WentOut (session_text 0 outcomes)
+    (number : ℕ) × (outcomes : List Outcome) × IsPlayed image script setup supply number outcomes gave × WentOut (session_text number outcomes)
 
 -- whether it is about writing
 abbrev pub is_of_output : PlayRefusal → Bool
@@ -83,19 +88,26 @@ IsCutShort image script setup supply refusal Nothing Part =
     (Nothing × IsUnplayed image script setup supply refusal)
     ⊎ ((is_of_output refusal ≡ true) × ((gave : Bool) × IsShown image script setup supply gave Part))
 
--- the text of a refusal; those of a service's start and of its sessions are their own
-abbrev pub refusal_text : PlayRefusal → Option (List ℕ)
-refusal_text (CannotRead name) = Some (codes "cannot read " ++ name.now)
-refusal_text (BadLine number name) = Some (codes "bad line " ++ decimal number ++ codes " of " ++ name.now)
-refusal_text (Start refusal) = None
-refusal_text (NoSession refusal) = None
-refusal_text OutOfMemory = Some (codes "OutOfMemory")
-refusal_text NotWritten = Some (codes "cannot write standard output")
+-- the text of a refusal
+abbrev pub refusal_text : PlayRefusal → List ℕ
+refusal_text (CannotRead name) = codes "cannot read " ++ name.now
+refusal_text (BadLine number name) = codes "bad line " ++ decimal number ++ codes " of " ++ name.now
+refusal_text (Start refusal) = start_refusal_text refusal
+refusal_text (NoSession refusal) = session_refusal_name refusal
+refusal_text OutOfMemory = codes "OutOfMemory"
+refusal_text NotWritten = codes "cannot write standard output"
 
--- the line of a refusal, or that there was no memory for it
-abbrev pub IsLine : PlayRefusal → List ℕ → Type 0
-IsLine refusal line = IfSome (refusal_text refusal) (λ text. line ≡ text ++ codes "\n") ⊎ (line ≡ codes "OutOfMemory\n")
+-- its line
+abbrev pub refusal_line : PlayRefusal → List ℕ
+refusal_line refusal = refusal_text refusal ++ codes "\n"
 
--- that line went out, or a part of it
-abbrev pub Tells : PlayRefusal → Option (List ℕ) → Option (List ℕ) → Type 0
-Tells refusal old new = (line : List ℕ) × IsLine refusal line × AppendsPart old new line
+-- the line that goes out where there is no memory for another
+abbrev pub no_memory_line : List ℕ
+no_memory_line = codes "OutOfMemory\n"
+
+-- exactly what went out, by how the telling of a refusal ended
+abbrev pub Tells : PlayRefusal → Told → Option (List ℕ) → Option (List ℕ) → Type 0
+Tells refusal Whole old new = Appends old new (refusal_line refusal)
+Tells refusal Partly old new = AppendsPart old new (refusal_line refusal)
+Tells refusal NoMemory old new = Appends old new no_memory_line
+Tells refusal NoMemoryPartly old new = AppendsPart old new no_memory_line

@@ -6,10 +6,15 @@ use Rattle.tools.specs.declared.play.Status.TheVariants.{Done, Refused, GivenUp}
 -- the status of the process
 abbrev pub status_number : Status → ℕ
 status_number Done = 0
-status_number Refused = 1
+status_number (Refused told) = 1
 status_number GivenUp = 3
 
 -- whether it says that the device was given up
 abbrev pub gave_of : Status → Bool
 gave_of GivenUp = true
 gave_of _ = false
+
+-- whether all went out
+abbrev pub IsWhole : Status → Type 0
+IsWhole (Refused told) = ⊥
+IsWhole _ = Unit {0}

@@ -6,6 +6,7 @@ ghost use Rattle.tools.specs.Made.{is_eio, cuts, Calls, Plays, IsAnswered};
 
 use crate::script::Script;
 use errno::Errno;
+use reissue::link::TrueLink;
 use serve::recorder::Recorder;
 use serve::refusal::SessionRefusal;
 use serve::room::Room;
@@ -19,6 +20,8 @@ use tree::{Call, Outcome, Reply};
 /// What came of a script's calls.
 #[derive(Drop)]
 pub(crate) struct Played {
+    // Of the session.
+    pub(crate) number: u8,
     pub(crate) outcomes: Vec<Outcome>,
     pub(crate) given_up: bool,
 }
@@ -34,30 +37,36 @@ impl<R: Wait + Copy> Program<R> for Player {
     type Output = Result<Played, SessionRefusal>;
 
     ghost gives = { λ player g v result. IfOk result (λ played.
-        IsAnswered g v (player.script.uid, player.script.gid, player.script.times.items) played.outcomes.items played.given_up) };
+        IsAnswered g v (player.script.uid, player.script.gid, player.script.times.items) played.number played.outcomes.items played.given_up) };
 
-    fn run<N: Room, L: Recorder<N>>(
+    fn run<N: Room, L: Recorder<N> + TrueLink>(
         self,
         service: &Service<N, Shared<N, R, L>>,
     ) -> Result<Played, SessionRefusal>
         ensures { IfOk result (λ played.
-            IsAnswered N.geometry N.opening (self.script.uid, self.script.gid, self.script.times.items) played.outcomes.items played.given_up) }
+            IsAnswered N.geometry N.opening (self.script.uid, self.script.gid, self.script.times.items) played.number played.outcomes.items
+            played.given_up) }
     {
         let mut session = service.session(self.script.uid, self.script.gid)?;
+        let number = session.number();
         let outcomes = make_calls(self.alloc, &mut session, self.script.times.as_slice())?;
         session.end();
         let given_up = has_eio(outcomes.as_slice());
-        Ok(Played { outcomes, given_up })
+        Ok(Played {
+            number,
+            outcomes,
+            given_up,
+        })
     }
 }
 
 /// Makes calls in a session, one after the other; from the first that is cut on all are. Without memory for the outcomes none is made.
-fn make_calls<N: Room, R: Wait + Copy, L: Recorder<N>>(
+pub fn make_calls<N: Room, R: Wait + Copy, L: Recorder<N>>(
     alloc: Global,
     session: &mut Session<N, Shared<N, R, L>>,
     times: &[u32],
 ) -> Result<Vec<Outcome>, AllocError>
-    ensures { IfOk result (λ outcomes. Plays N.geometry N.opening session.old times.now outcomes.items session.new) }
+    ensures { IfOk result (λ outcomes. Plays L.truth N.geometry N.opening session.old times.now outcomes.items session.new) }
 {
     let mut outcomes = Vec::with_capacity(alloc, times.len())?;
     let mut cut = false;
@@ -75,7 +84,7 @@ fn call_unless<N: Room, R: Wait + Copy, L: Recorder<N>>(
     session: &mut Session<N, Shared<N, R, L>>,
     now: u32,
 ) -> Outcome
-    ensures { Calls N.geometry N.opening session.old cut now result session.new }
+    ensures { Calls L.truth N.geometry N.opening session.old cut now result session.new }
 {
     if cut {
         Outcome::Cut

@@ -1,6 +1,6 @@
 //! Writing, with a record of what went out.
 
-ghost use Rattle.std.specs.Prelude.{◌≡◌, [], IsOk, OnOk, OnErr};
+ghost use Rattle.std.specs.Prelude.{◌≡◌, [], IfErr, IsOk, OnOk, OnErr};
 ghost use Rattle.std.specs.Io.KnownBytes.{Appends};
 ghost use Rattle.tools.specs.Output.{AppendsPart, number_text, outcomes_text, session_text};
 
@@ -21,6 +21,10 @@ pub enum OutputRefusal {
 }
 
 impl From<AllocError> for OutputRefusal {
+    ghost use Rattle.tools.specs.declared.output.OutputRefusal.TheVariants.{OutOfMemory as NoMemory};
+
+    ghost from_gives = { λ _ e. e ≡ NoMemory };
+
     fn from(_refused: AllocError) -> OutputRefusal {
         OutputRefusal::OutOfMemory
     }
@@ -30,6 +34,7 @@ impl From<AllocError> for OutputRefusal {
 #[tactic(auto, using(crate::proofs::Writes::part_of_front))]
 pub fn write_text<W: Write>(to: &mut W, text: &[u8]) -> Result<(), OutputRefusal>
     ensures empty { text.now ≡ [] → IsOk result }
+    ensures refusal { IfErr result (λ e. e ≡ OutputRefusal.NotWritten) }
     ensures ok { OnOk result (Appends (W.contents to.old) (W.contents to.new) text.now) }
     ensures err { OnErr result (AppendsPart (W.contents to.old) (W.contents to.new) text.now) }
 {

@@ -1,10 +1,11 @@
 //! Playing a script against a server of its own, from the bytes of its files to the lines of its answers.
 
-ghost use Rattle.std.specs.Prelude.{◌≡◌, ◌≢◌, IfOk, IfErr, map, Some, None};
+ghost use Rattle.std.specs.Prelude.{◌≡◌, IfOk, IfErr, map, Some, None, if◌then◌else◌};
 ghost use Rattle.std.specs.Io.KnownBytes.{Appends};
 ghost use Rattle.tools.specs.Played.{IsPlayed, IsUnplayed, IsShown, IsCutShort, IsScript, IsNoScript, Tells, refusal_text};
 ghost use Rattle.tools.specs.Output.{AppendsPart};
-ghost use Rattle.tools.specs.Status.{status_number, gave_of};
+ghost use Rattle.tools.specs.Refusals.{refusal_of};
+ghost use Rattle.tools.specs.Status.{status_number, gave_of, IsWhole};
 
 use crate::calls::{Played, Player};
 use crate::output::{OutputRefusal, write_session, write_text};
@@ -29,13 +30,26 @@ pub struct File<'n, 'b> {
     pub bytes: Option<&'b [u8]>,
 }
 
+/// How the telling of a refusal ended.
+#[derive(Clone, Copy, Debug, PartialEq, Eq)]
+pub enum Told {
+    /// Its line went out.
+    Whole,
+    /// The writer refused bytes: a beginning of its line went out.
+    Partly,
+    /// No memory was found for its line: the line `OutOfMemory` went out.
+    NoMemory,
+    /// No memory was found for its line, and the writer refused bytes: a beginning of the line `OutOfMemory` went out.
+    NoMemoryPartly,
+}
+
 /// How a play ended.
 #[derive(Clone, Copy, Debug, PartialEq, Eq)]
 pub enum Status {
     /// Each call was made, and all of the text was written.
     Done,
-    /// Nothing was played, or not all of the text was written. A line says why.
-    Refused,
+    /// Nothing was played, or not all of the text was written. A line was to say why.
+    Refused(Told),
     /// As `Done`, and the device was given up.
     GivenUp,
 }
@@ -47,7 +61,7 @@ impl Status {
     {
         match self {
             Status::Done => 0,
-            Status::Refused => 1,
+            Status::Refused(_) => 1,
             Status::GivenUp => 3,
         }
     }
@@ -71,7 +85,7 @@ pub enum PlayRefusal<'n> {
 }
 
 impl fmt::Display for PlayRefusal<'_> {
-    ghost output = { λ r. refusal_text r };
+    ghost output = { λ r. Some (refusal_text r) };
 
     fn fmt<W: fmt::Write>(&self, f: &mut fmt::Formatter<W>) -> fmt::Result {
         match self {
@@ -85,11 +99,12 @@ impl fmt::Display for PlayRefusal<'_> {
     }
 }
 
-/// Plays a script in a session of a service on the volume in an image, and writes the answers on `out`: a line `session 0`, and then a line
-/// for each call.
+/// Plays a script in a session of a service on the volume in an image, and writes the answers on `out`: a line with the session's number, as
+/// `session 0`, and then a line for each call.
 ///
 /// Faults are looked for in this order: reading the image, reading the script, its lines, the start of the service, its session. For the
-/// first of them, or where the answers can't be written, a line goes to `err`, and nothing is played after it.
+/// first of them, or where the answers can't be written, a line goes to `err`, and nothing is played after it; the status says how that
+/// line went out.
 pub fn play<R: Wait + Copy, D: LocalDriver, W: Write, E: Write>(
     alloc: Global,
     rt: R,
@@ -100,31 +115,36 @@ pub fn play<R: Wait + Copy, D: LocalDriver, W: Write, E: Write>(
     out: &mut W,
     err: &mut E,
 ) -> Status
-    ensures whole { result ≢ Status.Refused → IsShown image.entry script.entry setup.now (map D.state supply.items) (gave_of result)
+    ensures whole { IsWhole result → IsShown image.entry script.entry setup.now (map D.state supply.items) (gave_of result)
         (Appends (W.contents out.old) (W.contents out.new)) × (err.new ≡ err.old) }
-    ensures refused { result ≡ Status.Refused → (refusal : PlayRefusal) × Tells refusal (E.contents err.old) (E.contents err.new)
-        × IsCutShort image.entry script.entry setup.now (map D.state supply.items) refusal (out.new ≡ out.old) (AppendsPart (W.contents out.old) (W.contents out.new)) }
+    ensures refused { (told : Told) → result ≡ Status.Refused told → (refusal : PlayRefusal)
+        × Tells refusal told (E.contents err.old) (E.contents err.new)
+        × IsCutShort image.entry script.entry setup.now (map D.state supply.items) refusal (out.new ≡ out.old)
+        (AppendsPart (W.contents out.old) (W.contents out.new)) }
 {
     match run(alloc, rt, image, script, setup, supply, out) {
-        Ok(status) => status,
-        Err(refusal) => {
-            write_refusal(alloc, err, refusal);
-            Status::Refused
-        }
+        Ok(played) => status_of(played),
+        Err(refusal) => Status::Refused(write_refusal(alloc, err, refusal)),
     }
 }
 
 /// Writes the line of a refusal.
-fn write_refusal<E: Write>(alloc: Global, err: &mut E, refusal: PlayRefusal<'_>)
-    ensures { Tells refusal.entry (E.contents err.old) (E.contents err.new) }
+fn write_refusal<E: Write>(alloc: Global, err: &mut E, refusal: PlayRefusal<'_>) -> Told
+    ensures { Tells refusal.entry result (E.contents err.old) (E.contents err.new) }
 {
-    let _ = match format!(in alloc; "{refusal}\n") {
-        Ok(line) => write_text(err, line.as_bytes()),
-        Err(_) => write_text(err, b"OutOfMemory\n"),
-    };
+    match format!(in alloc; "{refusal}\n") {
+        Ok(line) => match write_text(err, line.as_bytes()) {
+            Ok(()) => Told::Whole,
+            Err(_) => Told::Partly,
+        },
+        Err(_) => match write_text(err, b"OutOfMemory\n") {
+            Ok(()) => Told::NoMemory,
+            Err(_) => Told::NoMemoryPartly,
+        },
+    }
 }
 
-/// Plays, and writes the answers.
+/// Plays, and writes the answers; whether the device was given up.
 fn run<'n, R: Wait + Copy, D: LocalDriver, W: Write>(
     alloc: Global,
     rt: R,
@@ -133,17 +153,27 @@ fn run<'n, R: Wait + Copy, D: LocalDriver, W: Write>(
     setup: &Setup,
     supply: Vec<D>,
     out: &mut W,
-) -> Result<Status, PlayRefusal<'n>>
-    ensures shown { IfOk result (λ status. (status ≢ Status.Refused) × IsShown image.entry script.entry setup.now (map D.state supply.items) (gave_of status)
+) -> Result<bool, PlayRefusal<'n>>
+    ensures shown { IfOk result (λ gave. IsShown image.entry script.entry setup.now (map D.state supply.items) gave
         (Appends (W.contents out.old) (W.contents out.new))) }
     ensures refused { IfErr result (λ refusal. IsCutShort image.entry script.entry setup.now (map D.state supply.items) refusal (out.new ≡ out.old)
         (AppendsPart (W.contents out.old) (W.contents out.new))) }
 {
     let played = play_session(alloc, rt, image, script, setup, supply)?;
-    match write_session(alloc, out, 0, played.outcomes.as_slice()) {
-        Ok(()) => Ok(status_of(played.given_up)),
-        Err(OutputRefusal::OutOfMemory) => Err(PlayRefusal::OutOfMemory),
-        Err(OutputRefusal::NotWritten) => Err(PlayRefusal::NotWritten),
+    let number = usize::from(played.number);
+    match write_session(alloc, out, number, played.outcomes.as_slice()) {
+        Ok(()) => Ok(played.given_up),
+        Err(refusal) => Err(told_as(refusal)),
+    }
+}
+
+/// Why a text wasn't written, as a refusal of a play.
+fn told_as<'n>(refusal: OutputRefusal) -> PlayRefusal<'n>
+    ensures { result ≡ refusal_of refusal }
+{
+    match refusal {
+        OutputRefusal::OutOfMemory => PlayRefusal::OutOfMemory,
+        OutputRefusal::NotWritten => PlayRefusal::NotWritten,
     }
 }
 
@@ -156,7 +186,7 @@ fn play_session<'n, R: Wait + Copy, D: LocalDriver>(
     setup: &Setup,
     supply: Vec<D>,
 ) -> Result<Played, PlayRefusal<'n>>
-    ensures played { IfOk result (λ played. IsPlayed image.entry script.entry setup.now (map D.state supply.items) played.outcomes.items played.given_up) }
+    ensures played { IfOk result (λ played. IsPlayed image.entry script.entry setup.now (map D.state supply.items) played.number played.outcomes.items played.given_up) }
     ensures unplayed { IfErr result (IsUnplayed image.entry script.entry setup.now (map D.state supply.items)) }
 {
     let image = readable(image)?;
@@ -178,7 +208,7 @@ fn play_session<'n, R: Wait + Copy, D: LocalDriver>(
 
 /// The status of a play that was written whole.
 fn status_of(given_up: bool) -> Status
-    ensures live { result ≢ Status.Refused }
+    ensures status { result ≡ (if given_up then Status.GivenUp else Status.Done) }
     ensures given_up { gave_of result ≡ given_up }
 {
     if given_up {

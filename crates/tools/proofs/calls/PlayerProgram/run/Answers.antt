@@ -10,7 +10,9 @@ returns g c =
     let volume = g.N.Room.opening in
     let first = c.in_ok-session.session in
     let last = c.make_calls.new.session in
-    is_answered geometry volume c.args.self.script.uid c.args.self.script.gid first last c.args.self.script.times.items
-    c.in_ok-outcomes.outcomes.items _ c.in_ok-session.ensures.made c.in_ok-session.ensures.sound
-    (subst (λ (times : List ℕ). Plays geometry volume first times c.in_ok-outcomes.outcomes.items last) c.as_slice.ensures.value c.in_ok-outcomes.ensures)
+    let made = c.in_ok-session.ensures.made in
+    is_answered g.L.Link.truth geometry volume c.number-number.result c.args.self.script.uid c.args.self.script.gid first last c.args.self.script.times.items
+    c.in_ok-outcomes.outcomes.items _ (g.L.Recorder.marks made.line) c.number-number.ensures.number made.made made.whole
+    c.in_ok-session.ensures.sound c.in_ok-session.ensures.guaranteed g.met.L.TrueLink.replies_are_true
+    (subst (λ (times : List ℕ). Plays g.L.Link.truth geometry volume first times c.in_ok-outcomes.outcomes.items last) c.as_slice.ensures.value c.in_ok-outcomes.ensures)
     (c.has_eio-given_up.ensures ∙ ap (list_any is_eio) c.as_slice-2.ensures.value)
