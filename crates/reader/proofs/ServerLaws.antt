@@ -205,6 +205,7 @@ leads_reader : (g : Geometry) (minor : ℕ) (old new : Table) (before after : Li
 leads_reader g minor old new before after was is o e w ended_before ended_after = record {
   geometry = refl;
   minor = refl;
+  frame_count = refl;
   told = w.told;
   ended = ended_after ∙ ap took_end w.told ∙ took_end_both (told_of w.acts) before ∙ ap (λ (b : Bool). took_end (told_of w.acts) || b) (sym ended_before);
 }

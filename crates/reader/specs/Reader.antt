@@ -39,6 +39,7 @@ reader g minor table told ended = record {
   minor = minor;
   Agrees = IsReader g minor table;
   frames = λ block. None;
+  frame_count = 0;
   outbox = outbox_of table;
   is_busy = false;
   told = told;
