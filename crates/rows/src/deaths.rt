@@ -58,6 +58,50 @@ fn no_fault_is_allowed(rt: HostRuntime) -> Result<(), Fail> {
     Ok(())
 }
 
+/// Each number of the policy is the one that was handed in, and so are all drivers, in their order. Each driver but the last dies in its
+/// first request, at the tick of its start; starts come 1, 2 and 4 ticks after the first, second and third fault in a row, or after `cap`.
+#[test]
+fn each_number_of_the_policy_counts(rt: HostRuntime) -> Result<(), Fail> {
+    let alloc = rt.alloc();
+    let image = new_volume(alloc, 1024)?;
+    // How many die, the most faults, the cap and the calm, and whether the last one serves.
+    let rows: [(usize, u32, u32, u32, bool); 8] = [
+        // Faults 1 to 5 are allowed: the sixth driver serves.
+        (5, 5, 32, 64, true),
+        (5, 4, 32, 64, false),
+        (6, 6, 32, 64, true),
+        (6, 5, 32, 64, false),
+        // Faults at ticks 0 and 1: after one tick of calm the second counts as a first one.
+        (2, 1, 32, 1, true),
+        (2, 1, 32, 2, false),
+        // Faults at ticks 0, 1 and 3, or 0, 1 and 2: the third comes two ticks after the second, or one.
+        (3, 2, 32, 2, true),
+        (3, 2, 1, 2, false),
+    ];
+    for (die, max_faults, cap, calm, serves) in rows {
+        let mut faults = Vec::new(alloc);
+        for _ in 0..die {
+            faults.push(Some((0, FaultKind::Die)))?;
+        }
+        faults.push(None)?;
+        let mut setup = whole();
+        setup.policy.max_faults = max_faults;
+        setup.policy.cap = cap;
+        setup.policy.calm = calm;
+        let supply = supply_of(alloc, 128, faults.as_slice())?;
+        let played = play_as(alloc, rt, image.as_slice(), TWICE, &setup, supply)?;
+        let reply = if serves { ROOT } else { "EIO\n" };
+        let text = format!(in alloc; "session 0\n{reply}{reply}")?;
+        assert_eq!(rt;
+            played.out.as_str(),
+            text.as_str(),
+            "{die} {max_faults} {cap} {calm}"
+        );
+        assert_eq!(rt; played.status, if serves { 0 } else { 3 });
+    }
+    Ok(())
+}
+
 /// A call makes one request, and each call reads anew: a driver that dies in its second request serves one call.
 #[test]
 fn each_call_asks_once(rt: HostRuntime) -> Result<(), Fail> {

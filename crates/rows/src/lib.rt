@@ -1,8 +1,7 @@
-//! Rows that run: what the programs' crates answer, each expected value taken from a format or worked out by hand.
+//! Rows of scripts and of plays, on whole images and partitions and over drivers that die: each expected value is taken from a format
+//! or worked out by hand.
 #![tactic(auto)]
 
-#[cfg(test)]
-mod backoff;
 #[cfg(test)]
 mod deaths;
 #[cfg(test)]
@@ -11,7 +10,5 @@ mod partitions;
 mod plays;
 #[cfg(test)]
 mod scripts;
-#[cfg(test)]
-mod sessions;
 #[cfg(test)]
 mod volumes;

@@ -3,9 +3,10 @@ use crate::volumes::{Played, ROOT, changed, new_volume, play_with, supply_of, wh
 use bdev::Driver;
 use modeldisk::RamDriver;
 use partition::Table;
+use std::io::{self, Write};
 use std::process::Abort;
 use std::test::Fail;
-use tools::play::{File, play};
+use tools::play::{File, Status, Told, play};
 
 const STAT: &[u8] = b"user 0 0\n100 stat /\n";
 
@@ -169,6 +170,7 @@ fn a_writer_fails(rt: HostRuntime) -> Result<(), Fail> {
             &mut out,
             &mut err,
         );
+        assert_eq!(rt; status, Status::Refused(Told::Whole));
         assert_eq!(rt; status.number(), 1);
         assert_eq!(rt;
             err.as_slice(),
@@ -207,8 +209,65 @@ fn a_refusal_is_cut_off(rt: HostRuntime) -> Result<(), Fail> {
         &mut out,
         &mut err,
     );
-    assert_eq!(rt; status.number(), 1);
+    assert_eq!(rt; status, Status::Refused(Told::Partly));
     assert_eq!(rt; out.as_slice(), b"".as_slice());
     assert_eq!(rt; space, *b"can");
+    Ok(())
+}
+
+/// Takes at most so many bytes at a call.
+#[derive(Drop)]
+struct Slow(Vec<u8>, usize);
+
+impl Write for Slow {
+    fn write(&mut self, bytes: &[u8]) -> io::Result<usize> {
+        let count = bytes.len().min(self.1);
+        self.0.extend_from_slice(&bytes[..count])?;
+        Ok(count)
+    }
+
+    fn flush(&mut self) -> io::Result<()> {
+        Ok(())
+    }
+}
+
+/// A writer that takes little at a time and goes on gets all of it.
+#[test]
+fn a_writer_takes_little(rt: HostRuntime) -> Result<(), Fail> {
+    let alloc = rt.alloc();
+    let image = new_volume(alloc, 1024)?;
+    let text = format!(in alloc; "session 0\n{ROOT}")?;
+    let rows: [(&[u8], &str, &str, u8); 2] = [
+        (STAT, text.as_str(), "", 0),
+        (b"user 0\n", "", "bad line 1 of s.txt\n", 1),
+    ];
+    for most in [1usize, 3, 64] {
+        for (script, out_text, err_text, number) in rows {
+            let mut out = Slow(Vec::new(alloc), most);
+            let mut err = Slow(Vec::new(alloc), most);
+            let image = File {
+                name: "v.img",
+                bytes: Some(image.as_slice()),
+            };
+            let script = File {
+                name: "s.txt",
+                bytes: Some(script),
+            };
+            let supply = supply_of(alloc, 128, &[None])?;
+            let status = play(
+                alloc,
+                rt,
+                image,
+                script,
+                &whole(),
+                supply,
+                &mut out,
+                &mut err,
+            );
+            assert_eq!(rt; status.number(), number);
+            assert_eq!(rt; out.0.as_slice(), out_text.as_bytes());
+            assert_eq!(rt; err.0.as_slice(), err_text.as_bytes());
+        }
+    }
     Ok(())
 }

@@ -12,6 +12,7 @@ use driven::Driven;
 use inline::local::LocalDriver;
 use modeldisk::{FaultKind, ScriptedDriver};
 use policy::Setup;
+use reissue::link::TrueLink;
 use serve::gate::Open;
 use serve::noting::Noting;
 use serve::recorder::Recorder;
@@ -33,6 +34,8 @@ use tree::{Call, Outcome};
 struct Got {
     outcomes: Vec<Outcome>,
     devices: (Device, Device),
+    // How many marks each had seen before they met, and after.
+    apart: (u64, u64),
     seen: (u64, u64),
 }
 
@@ -47,7 +50,10 @@ impl<R: Wait + Copy> Program<R> for InTurn {
 
     ghost gives = { λ program geometry opening output. Unit {0} };
 
-    fn run<N: Room, L: Recorder<N>>(self, service: &Service<N, Shared<N, R, L>>) -> Option<Got>
+    fn run<N: Room, L: Recorder<N> + TrueLink>(
+        self,
+        service: &Service<N, Shared<N, R, L>>,
+    ) -> Option<Got>
         ensures { Unit {0} }
     {
         let mut outcomes = Vec::new(self.alloc);
@@ -61,14 +67,16 @@ impl<R: Wait + Copy> Program<R> for InTurn {
                 .push(two.call(now, &Call::Stat { path: b"/" }))
                 .ok()?;
         }
+        let apart = (one.seen(), two.seen());
         one.meet(&mut two);
-        let devices = (one.device(), two.device());
         let seen = (one.seen(), two.seen());
+        let devices = (one.device(), two.device());
         one.end();
         two.end();
         Some(Got {
             outcomes,
             devices,
+            apart,
             seen,
         })
     }
@@ -104,6 +112,7 @@ fn two_sessions_call_in_turn(rt: HostRuntime) -> Result<(), Fail> {
     assert_eq!(rt; got.outcomes.len(), 6);
     assert!(rt; all_told(alloc, got.outcomes.as_slice(), ROOT)?);
     assert_eq!(rt; got.devices, (Device::Live, Device::Live));
+    assert_eq!(rt; got.apart, (11, 13));
     assert_eq!(rt; got.seen, (13, 13));
     Ok(())
 }
@@ -128,6 +137,7 @@ fn both_are_told_of_the_giving_up(rt: HostRuntime) -> Result<(), Fail> {
     assert_eq!(rt; got.outcomes.len(), 6);
     assert!(rt; all_told(alloc, got.outcomes.as_slice(), "EIO\n")?);
     assert_eq!(rt; got.devices, (Device::GivenUp, Device::GivenUp));
+    assert_eq!(rt; got.apart, (7, 8));
     assert_eq!(rt; got.seen, (8, 8));
     Ok(())
 }
@@ -143,7 +153,7 @@ impl<R: Wait + Copy> Program<R> for Many {
 
     ghost gives = { λ program geometry opening output. Unit {0} };
 
-    fn run<N: Room, L: Recorder<N>>(
+    fn run<N: Room, L: Recorder<N> + TrueLink>(
         self,
         service: &Service<N, Shared<N, R, L>>,
     ) -> Option<(usize, Option<SessionRefusal>, Option<SessionRefusal>)>
@@ -216,6 +226,8 @@ fn on_threads<N: Room + Send + Sync, R: Threads + Wait + Copy + Send + Sync, D: 
     requires seat { IsKeeper N.table seat × (seat.view ≡ opener) }
     requires opening { N.opening ≡ opening_of image.now setup.now.minor prepared.range }
     requires sizes { N.geometry ≡ prepared.geometry }
+    requires policy { N.policy ≡ setup.now.policy }
+    requires drivers { N.supply ≡ map D.state supply.items }
     requires startable { IsStartable image.now setup.now (map D.state supply.items) prepared.geometry prepared.range }
     requires contents { prepared.media ≡ opening_media (opening_of image.now setup.now.minor prepared.range) }
     requires on_media { IsOnMedia (opening_of image.now setup.now.minor prepared.range) }

@@ -1,3 +1,4 @@
+use Rattle.std.specs.Prelude.{map}
 use Rattle.startup.specs.Starting.{opening_of}
 use Rattle.rows.proofs.sessions.called_on_threads.Given as goal
 
@@ -6,4 +7,6 @@ ghosts-on_threads g a = record {
   table = a.board;
   opening = opening_of a.image.now a.setup.now.minor a.prepared.range;
   geometry = a.prepared.geometry;
+  policy = a.setup.now.policy;
+  supply = map g.D.LocalDriver.state a.supply.items;
 }
