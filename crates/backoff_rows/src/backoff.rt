@@ -1,5 +1,4 @@
 //! Drivers that fail under a link which waits between restarts: the ticks are worked out by hand from the restart policy.
-use crate::volumes::supply_of;
 use driven::Driven;
 use endpoint::{DISK_DRIVER, Endpoint};
 use media::Media;
@@ -7,6 +6,7 @@ use message::{BlockRequest, Incoming, Kind};
 use modeldisk::{FaultKind, ScriptedDriver};
 use reincarnate::{Policy, Reincarnation};
 use reissue::link::{Link, LinkRefusal};
+use samples::supply_of;
 use std::alloc::{AllocError, Global};
 use std::test::Fail;
 

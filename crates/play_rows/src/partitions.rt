@@ -1,8 +1,9 @@
 //! Volumes in a partition of an image.
-use crate::volumes::{Played, ROOT, new_volume, play_as, whole};
+use crate::volumes::{Played, play_as};
 use modeldisk::{Inner, RamDriver, ScriptedDriver};
 use partition::{Table, parse};
 use policy::Setup;
+use samples::{ROOT, new_volume, whole};
 use std::alloc::{AllocError, Global};
 use std::sync::Wait;
 use std::test::Fail;

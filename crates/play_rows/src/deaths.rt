@@ -1,9 +1,10 @@
 //! Drivers that die, hang or answer wrongly in the middle of a read.
-use crate::volumes::{ROOT, new_volume, play_as, play_over, play_with, supply_of, whole};
+use crate::volumes::{play_as, play_over, play_with};
 use endpoint::{SlotRefusal, Slots};
 use errno::Errno;
 use modeldisk::{Fault, FaultKind, Inner, RamDriver, ScriptedDriver};
 use partition::Table;
+use samples::{ROOT, new_volume, supply_of, whole};
 use std::test::Fail;
 
 const TWICE: &[u8] = b"user 0 0\n100 stat /\n101 stat /\n";

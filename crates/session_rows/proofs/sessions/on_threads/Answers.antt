@@ -2,7 +2,7 @@ use Rattle.std.proofs.Common.{sym, subst, map}
 use Rattle.std.specs.Prelude.{All}
 use Rattle.marks.specs.Opening.{Opening}
 use Rattle.inline.specs.Inline.{IsReady}
-use Rattle.rows.proofs.sessions.on_threads.Goals as goal
+use Rattle.session_rows.proofs.sessions.on_threads.Goals as goal
 
 pub start-requires-clause-ready : goal.start-requires-clause-ready
 start-requires-clause-ready g c = λ _ _.

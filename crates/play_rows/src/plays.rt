@@ -1,8 +1,9 @@
 //! Scripts played on volumes: the replies, and what is refused.
-use crate::volumes::{Played, ROOT, changed, new_volume, play_with, supply_of, whole};
+use crate::volumes::{Played, play_with};
 use bdev::Driver;
 use modeldisk::RamDriver;
 use partition::Table;
+use samples::{ROOT, changed, new_volume, supply_of, whole};
 use std::io::{self, Write};
 use std::process::Abort;
 use std::test::Fail;

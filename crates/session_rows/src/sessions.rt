@@ -6,13 +6,13 @@ ghost use Rattle.inline.specs.Inline.{IsReady};
 ghost use Rattle.board.specs.View.{IsKeeper, opener};
 ghost use Rattle.startup.specs.Starting.{opening_of, IsStartable};
 
-use crate::volumes::{ROOT, new_volume, supply_of, whole};
 use board::{Board, Device, Seat};
 use driven::Driven;
 use inline::local::LocalDriver;
 use modeldisk::{FaultKind, ScriptedDriver};
 use policy::Setup;
 use reissue::link::TrueLink;
+use samples::{ROOT, new_volume, supply_of, whole};
 use serve::gate::Open;
 use serve::noting::Noting;
 use serve::recorder::Recorder;

@@ -1,15 +1,13 @@
-//! Images of new volumes, byte by byte as the format says, and plays over them.
-use bdev::Driver;
+//! What rows begin with: images of new volumes, byte by byte as the format says, and supplies of drivers with faults.
+#![tactic(auto)]
+
 use modeldisk::{Fault, FaultKind, Inner, RamDriver, ScriptedDriver};
 use partition::Table;
 use policy::{Policy, Setup};
 use std::alloc::{AllocError, Global};
-use std::sync::Wait;
-use std::test::Fail;
-use tools::play::{File, play};
 
 /// The reply to `stat /` on a new volume.
-pub(crate) const ROOT: &str = "inode 1 mode 0040755 links 2 uid 0 gid 0 size 128 times 50 50 50\n";
+pub const ROOT: &str = "inode 1 mode 0040755 links 2 uid 0 gid 0 size 128 times 50 50 50\n";
 
 /// Puts bytes at a place.
 fn put(image: &mut [u8], at: usize, bytes: &[u8]) {
@@ -19,7 +17,7 @@ fn put(image: &mut [u8], at: usize, bytes: &[u8]) {
 }
 
 /// A volume of 64 blocks and 32 inodes, made at time 50, whose root is empty.
-pub(crate) fn new_volume(alloc: Global, block: usize) -> Result<Vec<u8>, AllocError> {
+pub fn new_volume(alloc: Global, block: usize) -> Result<Vec<u8>, AllocError> {
     // Of the smallest blocks the inodes take two, of the others one.
     let (first, last_bits) = if block == 1024 { (6, 0xf8) } else { (5, 0xf0) };
     let mut image = vec![in alloc; 0; block.saturating_mul(64)]?;
@@ -63,22 +61,14 @@ pub(crate) fn new_volume(alloc: Global, block: usize) -> Result<Vec<u8>, AllocEr
 }
 
 /// The smallest of them with one byte changed.
-pub(crate) fn changed(alloc: Global, at: usize, byte: u8) -> Result<Vec<u8>, AllocError> {
+pub fn changed(alloc: Global, at: usize, byte: u8) -> Result<Vec<u8>, AllocError> {
     let mut image = new_volume(alloc, 1024)?;
     put(image.as_mut_slice(), at, &[byte]);
     Ok(image)
 }
 
-/// What a play gave.
-#[derive(Drop)]
-pub(crate) struct Played {
-    pub(crate) status: u8,
-    pub(crate) out: String,
-    pub(crate) err: String,
-}
-
 /// A supply of drivers of so many sectors, each with its fault in its first request, or with none.
-pub(crate) fn supply_of(
+pub fn supply_of(
     alloc: Global,
     sectors: usize,
     faults: &[Option<(u32, FaultKind)>],
@@ -100,59 +90,10 @@ pub(crate) fn supply_of(
 }
 
 /// The whole image is the volume, under the default policy.
-pub(crate) fn whole() -> Setup {
+pub fn whole() -> Setup {
     Setup {
         minor: 0,
         frames: 64,
         policy: Policy::default(),
     }
-}
-
-/// Plays a script on an image with drivers that have these faults.
-pub(crate) fn play_with<R: Wait + Copy>(
-    alloc: Global,
-    rt: R,
-    image: &[u8],
-    script: &[u8],
-    faults: &[Option<(u32, FaultKind)>],
-) -> Result<Played, Fail> {
-    let supply = supply_of(alloc, image.len() / 512, faults)?;
-    play_over(alloc, rt, image, script, supply)
-}
-
-/// Plays a script on an image with these drivers.
-pub(crate) fn play_over<R: Wait + Copy>(
-    alloc: Global,
-    rt: R,
-    image: &[u8],
-    script: &[u8],
-    supply: Vec<ScriptedDriver>,
-) -> Result<Played, Fail> {
-    play_as(alloc, rt, image, script, &whole(), supply)
-}
-
-/// The same under a setup.
-pub(crate) fn play_as<R: Wait + Copy>(
-    alloc: Global,
-    rt: R,
-    image: &[u8],
-    script: &[u8],
-    setup: &Setup,
-    supply: Vec<ScriptedDriver>,
-) -> Result<Played, Fail> {
-    let (mut out, mut err) = (Vec::new(alloc), Vec::new(alloc));
-    let image = File {
-        name: "v.img",
-        bytes: Some(image),
-    };
-    let script = File {
-        name: "s.txt",
-        bytes: Some(script),
-    };
-    let status = play(alloc, rt, image, script, setup, supply, &mut out, &mut err).number();
-    Ok(Played {
-        status,
-        out: String::from_utf8(out)?,
-        err: String::from_utf8(err)?,
-    })
 }

@@ -4,13 +4,13 @@ ghost use Rattle.layout.specs.Places.{IsGeometry};
 ghost use Rattle.board.specs.View.{IsKeeper, opener};
 ghost use Rattle.inline.specs.Notes.{history_of, room_of};
 
-use crate::volumes::new_volume;
 use board::{Board, Seat};
 use endpoint::Endpoint;
 use inline::note::{Note, Notes};
 use layout::Geometry;
 use message::{BlockRequest, Incoming};
 use reissue::link::{Link, LinkRefusal};
+use samples::new_volume;
 use serve::noting::Noting;
 use serve::refusal::SessionRefusal;
 use serve::room::Room;

@@ -1,6 +1,6 @@
 use Rattle.std.specs.Prelude.{map}
 use Rattle.startup.specs.Starting.{opening_of}
-use Rattle.rows.proofs.sessions.called_on_threads.Given as goal
+use Rattle.session_rows.proofs.sessions.called_on_threads.Given as goal
 
 abbrev pub ghosts-on_threads : goal.ghosts-on_threads
 ghosts-on_threads g a = record {

@@ -1,0 +1,7 @@
+//! Rows of a service's sessions: in turn, in two threads, given up, refused and stopped. Each expected value is worked out by hand.
+#![tactic(auto)]
+
+#[cfg(test)]
+mod sessions;
+#[cfg(test)]
+mod stopped;
