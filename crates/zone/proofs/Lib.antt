@@ -1,0 +1,9 @@
+pub mod Frames
+pub mod Levels
+pub mod Ending
+pub mod Taking
+pub mod Filling
+pub mod Held
+pub mod Last
+pub mod Cutting
+pub mod Needed

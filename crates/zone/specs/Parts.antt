@@ -1,0 +1,33 @@
+-- The changes of a volume's pieces that zones need: a number of a block, a slot of an inode, a zone that is taken or given back.
+use Rattle.std.specs.Prelude.{◌≡◌, ◌≢◌, ℕ, ◌*◌, ◌<◌, Bool, true, slice_set, Option, None, Some}
+use Rattle.std.specs.Int.{w32, to_le_bytes}
+use Rattle.layout.specs.declared.Geometry.{Geometry}
+use Rattle.tree.specs.Sums.{put}
+use Rattle.tree.specs.Space.{numbers_in_zone}
+use Rattle.volume.specs.Pieces.{Pieces}
+use Rattle.volume.specs.Nodes.{number}
+use Rattle.store.specs.Rows.{with_bytes}
+use Rattle.regions.specs.Regions.{with_zone}
+use Rattle.zone_laws.specs.Steps.{bit_of, IsBare}
+
+-- pieces in which number j of a block is x
+abbrev pub with_number : Pieces → ℕ → ℕ → ℕ → Pieces
+with_number v block j x = with_zone v block (with_bytes (4 * j) (to_le_bytes w32 x) (v.zones block))
+
+-- pieces in which slot s of inode n is x
+abbrev pub with_slot : Pieces → ℕ → ℕ → ℕ → Pieces
+with_slot v n s x = record v { inodes = put v.inodes n (record (v.inodes n) { zones = slice_set (v.inodes n).zones s x }) }
+
+-- pieces in which a zone is marked or not
+abbrev pub with_mark : Geometry → Pieces → ℕ → Bool → Pieces
+with_mark g v z b = record v { zone_map = put v.zone_map (bit_of g z) b }
+
+-- pieces in which a zone is marked, and its bytes are zeros
+abbrev pub with_fresh : Geometry → Pieces → ℕ → Pieces
+with_fresh g v z = with_zone (with_mark g v z true) z (λ o. 0)
+
+-- the last number of a block that isn't 0, or there is none
+abbrev pub IsLastNumber : Geometry → Pieces → ℕ → Option ℕ → Type 0
+IsLastNumber g v block None = IsBare g v block
+IsLastNumber g v block (Some j) =
+    (j < numbers_in_zone g) × (number v block j ≢ 0) × ((i : ℕ) → j < i → i < numbers_in_zone g → number v block i ≡ 0)

@@ -1,0 +1,9 @@
+-- The numbers in a block's bytes.
+use Rattle.std.specs.Prelude.{◌≡◌, ◌≢◌, ℕ, ◌*◌, ◌/◌, ◌<◌, List, length, Option, None, Some}
+use Rattle.layout.specs.Bytes.{u32_at}
+
+-- the last number in these bytes that isn't 0, or there is none
+abbrev pub IsLastWord : List ℕ → Option ℕ → Type 0
+IsLastWord bytes None = (i : ℕ) → i < length bytes / 4 → u32_at bytes (4 * i) ≡ 0
+IsLastWord bytes (Some j) =
+    (j < length bytes / 4) × (u32_at bytes (4 * j) ≢ 0) × ((i : ℕ) → j < i → i < length bytes / 4 → u32_at bytes (4 * i) ≡ 0)
