@@ -1,0 +1,5 @@
+pub mod Files
+pub mod Keys
+pub mod Made
+pub mod Table
+pub mod Laws

@@ -1,0 +1,4 @@
+pub mod Names
+pub mod Scans
+pub mod Pages
+pub mod Turning

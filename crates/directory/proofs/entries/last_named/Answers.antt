@@ -1,0 +1,25 @@
+use Rattle.std.proofs.Common.{◌≡◌, ◌-◌, arith, ap, sym, ◌∙◌, true, false, Some}
+use Rattle.std.specs.Prelude.{slice_index}
+use Rattle.std.specs.Ordering.{eq_by_cmp}
+use Rattle.tree.specs.Names.{name_cmp}
+use Rattle.volume.specs.Nodes.{entry_name}
+use Rattle.directory.proofs.Scans.{one_found, one_less}
+use Rattle.directory.proofs.entries.last_named.Goals as goal
+
+pub returns-then-is_same : goal.returns-then-is_same
+returns-then-is_same c =
+    let f = slice_index c.args.bytes.now in
+    let is : eq_by_cmp name_cmp c.args.name.now (entry_name f (c.loop-left.left - 1)) ≡ true =
+    ap (eq_by_cmp name_cmp c.args.name.now) (sym c.entry_name.ensures) ∙ sym c.is_same.ensures ∙ c.if-is_same.true in
+    sym (c.loop-left.invariant.same ∙ one_found f c.args.name.now c.args.from c.loop-left.left (omega arith) is ∙ ap Some (sym c.entry_inode.ensures))
+
+pub loop-left-preserved : goal.loop-left-preserved
+loop-left-preserved c =
+    let f = slice_index c.args.bytes.now in
+    let other : eq_by_cmp name_cmp c.args.name.now (entry_name f (c.loop-left.left - 1)) ≡ false =
+    ap (eq_by_cmp name_cmp c.args.name.now) (sym c.entry_name.ensures) ∙ sym c.is_same.ensures ∙ c.if-is_same.false in
+    record {
+      above = omega arith;
+      below = omega arith;
+      same = c.loop-left.invariant.same ∙ one_less f c.args.name.now c.args.from c.loop-left.left (omega arith) other;
+    }

@@ -1,0 +1,9 @@
+//! Rows of paths, access and open files that run: each expected value is worked out by hand from the rules of client calls.
+#![tactic(auto)]
+
+#[cfg(test)]
+mod access;
+#[cfg(test)]
+mod opens;
+#[cfg(test)]
+mod paths;

@@ -1,0 +1,66 @@
+//! Open files and descriptors.
+
+use descriptors::Descriptors;
+use errno::Errno;
+use std::test::Fail;
+use tree::OpenFlags;
+
+#[test]
+fn a_session_has_32_descriptors(rt: HostRuntime) -> Result<(), Fail> {
+    let mut opens = Descriptors::new(rt.alloc())?;
+    for fd in 0..32 {
+        assert_eq!(rt; opens.put(0, 1, OpenFlags::READ), Ok(fd));
+    }
+    assert_eq!(rt; opens.put(0, 1, OpenFlags::READ), Err(Errno::EMFILE));
+    assert_eq!(rt; opens.dup(0, 3), Err(Errno::EMFILE));
+    assert_eq!(rt; opens.dup(0, 32), Err(Errno::EBADF));
+    assert_eq!(rt; opens.close(0, 5), Ok(Some(1)));
+    assert_eq!(rt; opens.close(0, 5), Err(Errno::EBADF));
+    assert_eq!(rt; opens.put(0, 1, OpenFlags::READ), Ok(5));
+    Ok(())
+}
+
+#[test]
+fn all_sessions_have_128_open_files(rt: HostRuntime) -> Result<(), Fail> {
+    let mut opens = Descriptors::new(rt.alloc())?;
+    for session in 0..4 {
+        for fd in 0..32 {
+            assert_eq!(rt; opens.put(session, 7, OpenFlags::READ), Ok(fd));
+        }
+    }
+    assert_eq!(rt; opens.put(3, 7, OpenFlags::READ), Err(Errno::EMFILE));
+    assert_eq!(rt; opens.put(63, 8, OpenFlags::READ), Err(Errno::ENFILE));
+    assert_eq!(rt; opens.close(2, 31), Ok(Some(7)));
+    assert_eq!(rt; opens.put(63, 8, OpenFlags::READ), Ok(0));
+    assert!(rt; opens.is_open(8));
+    assert!(rt; !opens.is_open(9));
+    Ok(())
+}
+
+/// Sets the position of a descriptor's open file, if it leads to one.
+fn seek(opens: &mut Descriptors, fd: u32, position: u32) -> bool {
+    if opens.get(0, fd).is_none() || position > 2147483647 {
+        return false;
+    }
+    opens.set_position(0, fd, position);
+    true
+}
+
+#[test]
+fn dup_shares_the_position(rt: HostRuntime) -> Result<(), Fail> {
+    let flags = OpenFlags::READ;
+    let mut opens = Descriptors::new(rt.alloc())?;
+    assert_eq!(rt; opens.put(0, 4, flags), Ok(0));
+    assert_eq!(rt; opens.put(0, 4, flags), Ok(1));
+    assert_eq!(rt; opens.dup(0, 0), Ok(2));
+    assert!(rt; seek(&mut opens, 2, 77));
+    assert_eq!(rt; opens.get(0, 0), Some((4, 77, flags)));
+    assert_eq!(rt; opens.get(0, 1), Some((4, 0, flags)));
+    assert_eq!(rt; opens.get(0, 2), Some((4, 77, flags)));
+    assert_eq!(rt; opens.get(1, 0), None);
+    assert_eq!(rt; opens.close(0, 0), Ok(None));
+    assert_eq!(rt; opens.get(0, 2), Some((4, 77, flags)));
+    assert_eq!(rt; opens.close(0, 2), Ok(Some(4)));
+    assert!(rt; opens.is_open(4));
+    Ok(())
+}
