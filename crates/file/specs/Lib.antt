@@ -1,0 +1,2 @@
+-- What reading and writing files means.
+pub mod Reading

@@ -1,0 +1,9 @@
+//! Rows of the bytes of files, over blocks in memory: each expected value is worked out by hand from the format.
+#![tactic(auto)]
+
+#[cfg(test)]
+mod calls;
+#[cfg(test)]
+mod reads;
+#[cfg(test)]
+mod volumes;
