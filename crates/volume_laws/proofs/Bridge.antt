@@ -80,7 +80,7 @@ module _ (g : Geometry) (v : Pieces) (sized : 0 < numbers_in_zone g) where
   m = naming g v
 
   -- the zones that the check enters are the plain ones
-  entered_is : (k z : ℕ) → is_entered g v k z ≡ entered m k z
+  pub entered_is : (k z : ℕ) → is_entered g v k z ≡ entered m k z
   unfolding entered
   entered_is zero z = refl
   entered_is (suc k) z = λ i. not (z == 0) && (is_in_slot g v (8 - k) z

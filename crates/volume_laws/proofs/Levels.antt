@@ -20,7 +20,7 @@ taken m n h i = not (spot m n h i == 0)
 
 module _ (m : Naming) (n : ℕ) where
   -- below a hole are holes
-  hole_below : (h i j : ℕ) → j < m.width → spot m n h i ≡ 0 → spot m n (suc h) (room h + (i * m.width + j)) ≡ 0
+  pub hole_below : (h i j : ℕ) → j < m.width → spot m n h i ≡ 0 → spot m n (suc h) (room h + (i * m.width + j)) ≡ 0
   hole_below h i j l e =
       let p = room h + (i * m.width + j) in
       let less : p - room h ≡ i * m.width + j = omega arith in
