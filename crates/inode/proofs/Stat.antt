@@ -45,7 +45,7 @@ module _ (f h : ℕ → ℕ) (p : ℕ) (same : (k : ℕ) → k < 64 → f (p + k
   wide b inside = four (p + b) b inside refl
 
   -- the same 64 bytes are the same inode
-  same_inode : inode_in f p ≡ inode_in h 0
+  pub same_inode : inode_in f p ≡ inode_in h 0
   same_inode = λ i. record {
     mode = two p 0 (omega arith) (omega arith) i;
     links = two (p + 2) 2 (omega arith) refl i;

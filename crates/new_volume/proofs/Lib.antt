@@ -1,0 +1,6 @@
+pub mod Bits
+pub mod Fresh
+pub mod Made
+pub mod OfBytes
+pub mod Parts
+pub mod Widths
