@@ -1,0 +1,57 @@
+//! Writing texts, with a record of what went out.
+#![tactic(auto)]
+
+ghost use Rattle.std.specs.Prelude.{◌≡◌, [], IsOk, OnOk, OnErr};
+ghost use Rattle.std.specs.Io.KnownBytes.{Appends};
+ghost use Rattle.output.specs.Output.{AppendsPart, Tells};
+
+use std::alloc::{AllocError, Global};
+use std::fmt::Display;
+use std::io::Write;
+use thiserror::Error;
+
+/// Why not all was written. What went out is a beginning of the text.
+#[derive(Clone, Copy, Debug, PartialEq, Eq, Error)]
+pub enum OutputRefusal {
+    /// No memory for a line.
+    #[error("OutOfMemory")]
+    OutOfMemory,
+    /// The writer refused bytes, or took none.
+    #[error("NotWritten")]
+    NotWritten,
+}
+
+impl From<AllocError> for OutputRefusal {
+    fn from(_refused: AllocError) -> OutputRefusal {
+        OutputRefusal::OutOfMemory
+    }
+}
+
+/// Writes a text, as many bytes at a time as the writer takes.
+#[tactic(auto, using(crate::proofs::Writes::part_of_front))]
+pub fn write_text<W: Write>(to: &mut W, text: &[u8]) -> Result<(), OutputRefusal>
+    ensures empty { text.now ≡ [] → IsOk result }
+    ensures ok { OnOk result (Appends (W.contents to.old) (W.contents to.new) text.now) }
+    ensures err { OnErr result (AppendsPart (W.contents to.old) (W.contents to.new) text.now) }
+{
+    let mut at = 0;
+    while at < text.len() {
+        match to.write(&text[at..]) {
+            Ok(0) => return Err(OutputRefusal::NotWritten),
+            Ok(count) => at += count,
+            Err(_) => return Err(OutputRefusal::NotWritten),
+        }
+    }
+    Ok(())
+}
+
+/// Writes a line that says what a value prints, or `OutOfMemory` where there is no memory for it. What the writer refuses of it is
+/// left out.
+pub fn tell<T: Display, W: Write>(alloc: Global, to: &mut W, what: &T)
+    ensures { Tells (T.output what.now) (W.contents to.old) (W.contents to.new) }
+{
+    let _ = match format!(in alloc; "{what}\n") {
+        Ok(line) => write_text(to, line.as_bytes()),
+        Err(_) => write_text(to, b"OutOfMemory\n"),
+    };
+}

@@ -1,0 +1,5 @@
+//! What `mkmfs` and `mfsck` do, between what they read and what they write.
+#![tactic(auto)]
+
+pub mod make;
+pub mod verify;
