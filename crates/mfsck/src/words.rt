@@ -19,7 +19,9 @@ pub(crate) fn command<'a>(alloc: Global) -> Result<Command<'a>, AllocError> {
         );
     Command::new(alloc, "mfsck")
         .version("0.1.0")
-        .about("Checks a MINIX 3 volume: prints `clean`, or the first rule that it breaks and where")
+        .about(
+            "Checks a MINIX 3 volume: prints `clean`, or the first rule that it breaks and where",
+        )
         .arg(image)?
         .arg(minor)
 }

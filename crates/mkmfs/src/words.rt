@@ -10,15 +10,15 @@ const MOST: u64 = 4294967295;
 
 /// The words that `mkmfs` knows.
 pub(crate) fn command<'a>(alloc: Global) -> Result<Command<'a>, AllocError> {
-    let image = Arg::new(alloc, "IMAGE")
-        .required(true)
-        .help("The file of the new volume; a file that is there is replaced");
-    let blocks = number(alloc, "blocks", "N")
-        .required(true)
-        .help("How many blocks the volume has, at most 65536, and at most 64 MiB of them");
-    let inodes = number(alloc, "inodes", "I")
-        .required(true)
-        .help("How many inodes it has, for as many files and directories: 1 to 65535");
+    let image = Arg::new(alloc, "IMAGE").required(true).help(
+        "The file of the new volume; a file that is there is replaced",
+    );
+    let blocks = number(alloc, "blocks", "N").required(true).help(
+        "How many blocks the volume has, at most 65536, and at most 64 MiB of them",
+    );
+    let inodes = number(alloc, "inodes", "I").required(true).help(
+        "How many inodes it has, for as many files and directories: 1 to 65535",
+    );
     let block_size = number(alloc, "block-size", "B")
         .default_value("4096")
         .help("How many bytes a block has: 1024, 2048 or 4096");

@@ -45,7 +45,11 @@ fn new_volumes_are_clean(rt: HostRuntime) -> Result<(), Fail> {
     for (blocks, block_size, inodes) in rows {
         let image = mkfs(rt.alloc(), blocks, block_size, inodes, 50)?;
         let said = told(rt.alloc(), Some(&image), 0);
-        assert_eq!(rt; said.verified, Verified::IsClean, "{blocks} {block_size} {inodes}");
+        assert_eq!(rt;
+            said.verified,
+            Verified::IsClean,
+            "{blocks} {block_size} {inodes}"
+        );
         assert_eq!(rt; said.verified.number(), 0);
         assert_eq!(rt; said.out.as_slice(), b"clean\n".as_slice());
         assert_eq!(rt; said.err.len(), 0);
@@ -100,7 +104,13 @@ fn changed_bytes(rt: HostRuntime) -> Result<(), Fail> {
 /// A disk of 129 sectors with that volume in its first partition, of a type and of so many sectors.
 fn disk(alloc: Global, kind: u8, count: u8) -> Result<Vec<u8>, Fail> {
     let mut disk = vec![in alloc; 0u8; 512]?;
-    for (at, byte) in [(450, kind), (454, 1), (458, count), (510, 0x55), (511, 0xaa)] {
+    for (at, byte) in [
+        (450, kind),
+        (454, 1),
+        (458, count),
+        (510, 0x55),
+        (511, 0xaa),
+    ] {
         put(&mut disk, at, byte);
     }
     disk.extend_from_slice(&small(alloc)?)?;
@@ -184,7 +194,10 @@ fn writers_fail(rt: HostRuntime) -> Result<(), Fail> {
             taken: Vec::new(rt.alloc()),
         };
         let mut err = Vec::new(rt.alloc());
-        assert_eq!(rt; verify(rt.alloc(), "v.img", Some(&image), 0, &mut out, &mut err), verified);
+        assert_eq!(rt;
+            verify(rt.alloc(), "v.img", Some(&image), 0, &mut out, &mut err),
+            verified
+        );
         assert_eq!(rt; out.taken.as_slice(), taken.as_bytes());
         let line: &[u8] = match verified {
             Verified::Refused => b"cannot write standard output\n",

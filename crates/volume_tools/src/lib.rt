@@ -1,8 +1,7 @@
 //! What `mkmfs` and `mfsck` do, between what they read and what they write.
 #![tactic(auto)]
 
+pub mod make;
 #[cfg(test)]
 mod tests;
-
-pub mod make;
 pub mod verify;

@@ -59,7 +59,10 @@ fn volumes_are_made(rt: HostRuntime) -> Result<(), Fail> {
         let made = make(rt.alloc(), &wanted, &mut out, &mut err);
         assert_eq!(rt; made.status, Status::Done);
         let image = made.image.ok_or("no image")?;
-        assert_eq!(rt; image.len(), wanted.blocks as usize * wanted.block_size as usize);
+        assert_eq!(rt;
+            image.len(),
+            wanted.blocks as usize * wanted.block_size as usize
+        );
         assert_eq!(rt; out.as_slice(), line.as_bytes());
         assert_eq!(rt; err.len(), 0);
     }
@@ -109,7 +112,10 @@ fn writers_fail(rt: HostRuntime) -> Result<(), Fail> {
         if calls < 5 {
             assert_eq!(rt; made.status, Status::Refused);
             assert!(rt; made.image.is_none());
-            assert_eq!(rt; err.as_slice(), b"cannot write standard output\n".as_slice());
+            assert_eq!(rt;
+                err.as_slice(),
+                b"cannot write standard output\n".as_slice()
+            );
         } else {
             assert_eq!(rt; made.status, Status::Done);
             assert!(rt; made.image.is_some());
