@@ -70,7 +70,8 @@ pub fn store<B: Blocks>(
 ) -> Result<(), Halt>
     requires on { IsOn B.world geometry.now blocks.old }
     ensures turns { Turns B.world blocks.old blocks.new (λ d e.
-        Ends result (λ _. Alters geometry.now (with_inode (pieces geometry.now d) number inode.now) d e) (IsTrue (is_inode geometry.now number))) }
+        Ends result (λ _. Alters geometry.now (with_inode (pieces geometry.now d) number inode.now) d e)
+        (IsTrue (is_inode geometry.now number))) }
     ensures unsound { IsErrOf result Halt.Unsound ↔ (is_inode geometry.now number ≡ false) }
     ensures untouched { is_inode geometry.now number ≡ false → blocks.new ≡ blocks.old }
     ensures halt { IfErr result (λ h. IsHalt B.world blocks.new h) }

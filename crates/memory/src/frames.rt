@@ -12,7 +12,8 @@ impl Blocks for Memory {
 
     ghost world = { memory_world };
 
-    ghost names = { λ m f block. (f.block ≡ block) × (f.at ≡ block * m.block_size) × (block * m.block_size + m.block_size ≤ length m.image.items) };
+    ghost names = { λ m f block.
+        (f.block ≡ block) × (f.at ≡ block * m.block_size) × (block * m.block_size + m.block_size ≤ length m.image.items) };
 
     fn block_size(&self) -> u32 {
         self.block_size
