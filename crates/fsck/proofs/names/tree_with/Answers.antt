@@ -1,0 +1,29 @@
+use Rattle.std.proofs.Common.{◌≡◌, ◌+◌, ℕ, refl, sym, ap, ◌∙◌}
+use Rattle.std.specs.Prelude.{None}
+use Rattle.volume.specs.Findings.{lacks_inode_bit, lacks_zone_bit, lacks_root, has_bad_mode, has_bad_size, has_bad_number, is_used_twice, has_bad_bit, has_spare_zone, has_hole, has_bad_dots, has_bad_entry, has_bad_target, is_misplaced, has_bad_links}
+use Rattle.volume.specs.Verdict.{place_limit}
+use Rattle.image.specs.Contents.{contents}
+use Rattle.fsck.specs.Parts.{first_of}
+use Rattle.fsck.proofs.Firsts.{first_none, first_here, first_later}
+use Rattle.fsck.proofs.names.tree_with.Goals as goal
+
+pub returns-in-Some : goal.returns-in-Some
+returns-in-Some c =
+    let g = c.args.image.now.geometry in
+    let v = contents c.args.image.now in
+    let l = place_limit g in
+    first_here l 15 c.in-Some.place (is_misplaced g v) _ (c.in-Some.ensures)
+
+pub returns-in-Some-bad_links : goal.returns-in-Some-bad_links
+returns-in-Some-bad_links c =
+    let g = c.args.image.now.geometry in
+    let v = contents c.args.image.now in
+    let l = place_limit g in
+    first_later l 15 (is_misplaced g v) _ _ (c.in_default.ensures) (first_here l 16 c.in-Some-bad_links.place (has_bad_links g v) _ (c.in-Some-bad_links.ensures))
+
+pub returns : goal.returns
+returns c =
+    let g = c.args.image.now.geometry in
+    let v = contents c.args.image.now in
+    let l = place_limit g in
+    first_later l 15 (is_misplaced g v) _ _ (c.in_default.ensures) (first_later l 16 (has_bad_links g v) _ _ (c.in_default-bad_links.ensures) (first_none l 17))

@@ -1,0 +1,3 @@
+-- The check of a volume.
+pub mod Parts
+pub mod Shown

@@ -1,0 +1,16 @@
+-- What a verdict says.
+use Rattle.std.specs.Prelude.{◌≡◌, ℕ, List, Ok}
+use Rattle.layout.specs.Places.{geometry_of}
+use Rattle.volume.specs.Verdict as volume
+use Rattle.fsck.specs.declared.verdict.Verdict.{Verdict}
+use Rattle.fsck.specs.declared.verdict.Verdict.TheVariants.{Clean, Found}
+
+-- the verdict in the volume's words
+abbrev pub shown : Verdict → volume.Verdict
+shown (Clean c) = volume.Clean
+shown (Found f) = volume.Found f
+
+-- a clean image has the sizes that the verdict holds
+abbrev pub HasItsGeometry : List ℕ → Verdict → Type 0
+HasItsGeometry image (Clean c) = geometry_of image ≡ Ok c.geometry
+HasItsGeometry image (Found f) = Unit {0}

@@ -1,0 +1,59 @@
+//! The check of a volume: its verdict, whatever the bytes are.
+#![tactic(auto)]
+
+mod blocks;
+mod names;
+mod structure;
+mod verdict;
+mod zones;
+
+ghost use Rattle.std.specs.Prelude.{◌≡◌, IfOk};
+ghost use Rattle.volume.specs.Verdict.{place_limit, tests, verdict_of};
+ghost use Rattle.image.specs.Contents.{contents};
+ghost use Rattle.fsck.specs.Shown.{HasItsGeometry, shown};
+ghost use Rattle.fsck.specs.Parts.{first_of};
+
+use image::Image;
+use std::alloc::Global;
+pub use verdict::{Clean, OutOfMemory, Verdict};
+use volume::Finding;
+
+/// The verdict on an image: the true finding with the least number, and of these the least place, or clean. It answers for any bytes,
+/// in time in proportion to the image. `OutOfMemory` says that no memory was found, and nothing of the image.
+pub fn check(alloc: Global, image: &[u8]) -> Result<Verdict, OutOfMemory>
+    ensures verdict { IfOk result (λ v. shown v ≡ verdict_of image.now) }
+    ensures geometry { IfOk result (HasItsGeometry image.now) }
+{
+    let volume = match Image::parse(image) {
+        Ok(volume) => volume,
+        Err(refusal) => {
+            return Ok(Verdict::Found(Finding {
+                number: 1,
+                place: refusal.number(),
+            }));
+        }
+    };
+    match finding(alloc, &volume)? {
+        Some(finding) => Ok(Verdict::Found(finding)),
+        None => Ok(Verdict::Clean(Clean::of(volume.geometry()))),
+    }
+}
+
+/// The first finding from 2 on.
+fn finding(alloc: Global, image: &Image) -> Result<Option<Finding>, OutOfMemory>
+    ensures { IfOk result (λ r. r ≡ first_of (place_limit image.now.geometry) 2 (tests image.now.geometry (contents image.now))) }
+{
+    if let Some(finding) = structure::structure(image) {
+        return Ok(Some(finding));
+    }
+    if let Some(finding) = zones::zones(alloc, image)? {
+        return Ok(Some(finding));
+    }
+    if let Some(finding) = blocks::blocks(image) {
+        return Ok(Some(finding));
+    }
+    if let Some(finding) = names::entries(alloc, image)? {
+        return Ok(Some(finding));
+    }
+    Ok(names::tree(alloc, image)?)
+}

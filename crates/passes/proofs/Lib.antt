@@ -1,0 +1,5 @@
+pub mod Contents
+pub mod Sweep
+pub mod Steps
+pub mod Counting
+pub mod Spares

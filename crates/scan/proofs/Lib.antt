@@ -1,0 +1,5 @@
+pub mod Entries
+pub mod Doubles
+pub mod Counts
+pub mod Walks
+pub mod Standing

@@ -1,0 +1,3 @@
+-- The passes over directories.
+pub mod Named
+pub mod Reached
