@@ -3,7 +3,7 @@
 ghost use Rattle.std.specs.Prelude.{◌≡◌, ◌≢◌, ◌+◌, ◌≤◌, Some, Ok, Err, IfOk, IfErr, length, string_bytes};
 ghost use Rattle.std.specs.Io.KnownBytes.{Appends};
 ghost use Rattle.volume.specs.Verdict.{Verdict as OfVolume};
-ghost use Rattle.fsck.specs.Said.{said};
+ghost use Rattle.fsck.specs.Shown.{shown};
 ghost use Rattle.partition.specs.Refusals.{table_of};
 ghost use Rattle.output.specs.Output.{AppendsPart, Tells};
 ghost use Rattle.volume_tools.specs.Verifying.{IsVerdictOn, IsUnverified, IsUntold, missing_text, partition_at, partition_or, partition_text, verdict_text, verified_as, verified_number, verify_text, volume_at};
@@ -155,7 +155,7 @@ fn try_verify<'n, W: Write>(
 /// How a verifying ends that told this verdict.
 fn ended_by(verdict: &Verdict) -> Verified
     ensures told { result ≢ Verified.Refused }
-    ensures verdict { result ≡ verified_as (said verdict.now) }
+    ensures verdict { result ≡ verified_as (shown verdict.now) }
 {
     match verdict {
         Verdict::Clean(_) => Verified::IsClean,
@@ -165,7 +165,7 @@ fn ended_by(verdict: &Verdict) -> Verified
 
 /// The line of a verdict.
 fn line_of(alloc: Global, verdict: &Verdict) -> Result<String, AllocError>
-    ensures { IfOk result (λ line. string_bytes line ≡ verdict_text (said verdict.now)) }
+    ensures { IfOk result (λ line. string_bytes line ≡ verdict_text (shown verdict.now)) }
 {
     match verdict {
         Verdict::Clean(_) => String::from_str(alloc, "clean\n"),
@@ -180,7 +180,7 @@ fn verdict_on<'n>(
     file: Option<&[u8]>,
     minor: u8,
 ) -> Result<Verdict, VerifyRefusal<'n>>
-    ensures verdict { IfOk result (λ verdict. IsVerdictOn file.entry minor (said verdict)) }
+    ensures verdict { IfOk result (λ verdict. IsVerdictOn file.entry minor (shown verdict)) }
     ensures refused { IfErr result (IsUnverified file.entry name.entry minor) }
 {
     let Some(bytes) = file else {
