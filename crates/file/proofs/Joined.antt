@@ -1,7 +1,7 @@
 -- The bytes of a file that were read so far, and those of the next page.
-use Rattle.std.proofs.Common.{◌≡◌, ◌<◌, ◌≤◌, ◌+◌, ◌-◌, ◌*◌, ◌/◌, ◌%◌, ℕ, List, length, refl, sym, ap, ◌∙◌, arith}
+use Rattle.std.proofs.Common.{◌≡◌, ◌<◌, ◌≤◌, ◌+◌, ◌-◌, ◌*◌, ◌/◌, ◌%◌, ℕ, List, length, sym, ap, ◌∙◌, arith}
 use mathlib.Core.Logic.{inl, inr}
-use Rattle.std.specs.Prelude.{slice_index, nat_lt}
+use Rattle.std.specs.Prelude.{nat_lt}
 use Rattle.std.proofs.lemmas.Bool.{cond-true, cases_lt, lt-ltb}
 use Rattle.std.proofs.lemmas.Nat.{div-add-mod', div-mul-add, mod-mul-add}
 use Rattle.layout.specs.declared.Geometry.{Geometry}

@@ -1,3 +1,4 @@
 pub mod Pages
 pub mod Parts
 pub mod Joined
+pub mod Written

@@ -1,7 +1,7 @@
 -- Rows of bytes of which a part in the middle was replaced.
-use Rattle.std.proofs.Common.{◌≡◌, ◌<◌, ◌≤◌, ◌+◌, ◌-◌, ℕ, List, length, ◌++◌, sym, ap, ◌∙◌, arith}
+use Rattle.std.proofs.Common.{◌≡◌, ◌<◌, ◌≤◌, ◌+◌, ◌-◌, ℕ, List, length, ◌++◌, ap, ◌∙◌, arith}
 use Rattle.std.specs.Prelude.{slice_index}
-use Rattle.std.proofs.Math.ListN.{get_or, get_or-append, take, drop, length-append, length-take, length-drop}
+use Rattle.std.proofs.Math.ListN.{get_or-append, take, drop, length-append, length-take, length-drop}
 use Rattle.std.proofs.lemmas.List.{get_or-take, get_or-drop, get_or-append_right}
 use borrow.Rule.Slice.PartMut.{put_mid}
 

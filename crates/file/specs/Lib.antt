@@ -1,2 +1,3 @@
 -- What reading and writing files means.
 pub mod Reading
+pub mod Writing

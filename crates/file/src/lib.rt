@@ -2,5 +2,7 @@
 #![tactic(auto)]
 
 pub mod reading;
+pub mod writing;
 
 pub use reading::read_at;
+pub use writing::write_page;

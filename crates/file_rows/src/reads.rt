@@ -31,7 +31,7 @@ fn a_short_file(rt: HostRuntime) -> Result<(), Fail> {
             Ok(count),
             "{at} {room}"
         );
-        assert_eq!(rt; into, expected, "{at} {room}");
+        assert_eq!(rt; into.as_slice(), expected, "{at} {room}");
     }
     Ok(())
 }
@@ -58,14 +58,14 @@ fn a_hole_has_zeros(rt: HostRuntime) -> Result<(), Fail> {
     for (at, expected, count) in rows {
         let mut into = [0x2e; 6];
         assert_eq!(rt; volume.read(at, &mut into), Ok(count), "{at}");
-        assert_eq!(rt; into, expected, "{at}");
+        assert_eq!(rt; into.as_slice(), expected, "{at}");
     }
     // over three pages at once
     let mut into = [0x2e; 1030];
     assert_eq!(rt; volume.read(1022, &mut into), Ok(1029));
-    assert_eq!(rt; into[..2], *b"yz");
+    assert_eq!(rt; &into[..2], b"yz".as_slice());
     assert!(rt; into[2..1026].iter().all(|byte| *byte == 0));
-    assert_eq!(rt; into[1026..], *b"abc.");
+    assert_eq!(rt; &into[1026..], b"abc.".as_slice());
     Ok(())
 }
 

@@ -1,4 +1,4 @@
-use Rattle.std.proofs.Common.{rules, ◌≡◌, ◌<◌, ◌≤◌, ◌+◌, ◌-◌, ◌/◌, ◌%◌, ℕ, length, arith, refl, ap, sym, ◌∙◌}
+use Rattle.std.proofs.Common.{rules, ◌≡◌, ◌≤◌, ◌+◌, ◌-◌, ◌%◌, length, arith, refl, ◌∙◌}
 use Rattle.volume.specs.Pieces.{pieces}
 use Rattle.store.proofs.Turns.{reads_then, if_cut}
 use Rattle.file.specs.Reading.{read_count}
