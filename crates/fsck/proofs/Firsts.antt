@@ -86,11 +86,13 @@ none_parts k (Some p) r e = absurd (cc)
 pub none_first : (limit k : ℕ) (test : Test) (tests : List Test) → None ≡ first_of limit k (test ∷ tests) → (some_below test limit ≡ false) × (None ≡ first_of limit (k + 1) tests)
 unfolding first_of
 none_first limit k test tests e =
-    let parts = none_parts k (least_of test limit) (first_of limit (k + 1) tests) e in
-    (elim (cases_Bool (some_below test limit)) [
-      | inl is ↦ let some = parts.0 ∙ cond-true (some_below test limit) (Some (least_below test limit)) None is in absurd (cc)
-      | inr out ↦ out
-    ], parts.1)
+    let parts = none_parts k (least_of test limit) (first_of limit (k + 1) tests) e in (
+      elim (cases_Bool (some_below test limit)) [
+        | inl is ↦ let some = parts.0 ∙ cond-true (some_below test limit) (Some (least_below test limit)) None is in absurd (cc)
+        | inr out ↦ out
+      ],
+      parts.1,
+    )
 
 module _ (i : Image) where
   -- what all findings are

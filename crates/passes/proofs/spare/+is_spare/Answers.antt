@@ -48,13 +48,23 @@ is_spare-requires t c =
     let w = numbers_in_zone i.geometry in
     let j : c.loop-j.j < w = let e = c.numbers-j-end.ensures.value in omega arith in
     let place : c.first_place-first.result + (c.args.index * c.numbers.result + c.loop-j.j) ≡ first_place (c.args.level - 1) + (c.args.index * w + c.loop-j.j)
-        = same_place _ _ c.args.index c.numbers.result w c.loop-j.j c.first_place-first.ensures c.numbers.ensures.value in
+    = same_place _ _ c.args.index c.numbers.result w c.loop-j.j c.first_place-first.ensures c.numbers.ensures.value in
     let most : w ≤ 1024 = let e = c.numbers.ensures.value in let m = c.numbers.ensures.most in omega arith in
-    let near = deeper c.args.level c.args.index w c.loop-j.j (omega arith) c.requires.low most j c.requires.near in
-    (omega arith, (omega (arith, c.requires.low), (omega arith, (c.requires.pages,
-    c.number.ensures ∙ number_word i c.args.zone c.loop-j.j
-    ∙ sym (child_at i c.args.n c.args.level c.args.index c.loop-j.j c.args.zone (omega arith) c.requires.low j (sym c.requires.zone) c.if-zone-eq0.false)
-    ∙ ap (zone_at i.geometry (contents i) ((contents i).inodes c.args.n) (c.args.level - 1)) (sym place)))))
+    let near = deeper c.args.level c.args.index w c.loop-j.j (omega arith) c.requires.low most j c.requires.near in (
+      omega arith,
+      (
+        omega (arith, c.requires.low),
+        (
+          omega arith,
+          (
+            c.requires.pages,
+            c.number.ensures ∙ number_word i c.args.zone c.loop-j.j
+                ∙ sym (child_at i c.args.n c.args.level c.args.index c.loop-j.j c.args.zone (omega arith) c.requires.low j (sym c.requires.zone) c.if-zone-eq0.false)
+                ∙ ap (zone_at i.geometry (contents i) ((contents i).inodes c.args.n) (c.args.level - 1)) (sym place),
+          ),
+        ),
+      ),
+    )
 
 pub returns-then-is_spare : goal.returns-then-is_spare
 returns-then-is_spare t c =
@@ -62,7 +72,7 @@ returns-then-is_spare t c =
     let w = numbers_in_zone i.geometry in
     let j : c.loop-j.j < w = let e = c.numbers-j-end.ensures.value in omega arith in
     let place : first_place (c.args.level - 1) + (c.args.index * w + c.loop-j.j) ≡ c.first_place-first.result + (c.args.index * c.numbers.result + c.loop-j.j)
-        = same_place _ _ c.args.index w c.numbers.result c.loop-j.j (sym c.first_place-first.ensures) (sym c.numbers.ensures.value) in
+    = same_place _ _ c.args.index w c.numbers.result c.loop-j.j (sym c.first_place-first.ensures) (sym c.numbers.ensures.value) in
     below_spare i c.args.n c.args.level c.args.index c.args.zone c.requires.low c.requires.zone c.if-zone-eq0.false (omega arith) c.loop-j.j j
     (ap (is_spare i c.args.n (c.args.level - 1)) place ∙ sym c.is_spare.ensures ∙ c.if-is_spare.true)
 
@@ -71,7 +81,7 @@ loop-j-preserved t c =
     let i = c.args.image.now in
     let w = numbers_in_zone i.geometry in
     let place : first_place (c.args.level - 1) + (c.args.index * w + c.loop-j.j) ≡ c.first_place-first.result + (c.args.index * c.numbers.result + c.loop-j.j)
-        = same_place _ _ c.args.index w c.numbers.result c.loop-j.j (sym c.first_place-first.ensures) (sym c.numbers.ensures.value) in
+    = same_place _ _ c.args.index w c.numbers.result c.loop-j.j (sym c.first_place-first.ensures) (sym c.numbers.ensures.value) in
     let P : ℕ → Type 0 = λ j. is_spare i c.args.n (c.args.level - 1) (first_place (c.args.level - 1) + (c.args.index * w + j)) ≡ false in
     below_more P c.loop-j.j c.loop-j.invariant (ap (is_spare i c.args.n (c.args.level - 1)) place ∙ sym c.is_spare.ensures ∙ c.if-is_spare.false)
 

@@ -31,7 +31,7 @@ returns-then-is_directory c =
     let some = c.if-links-eq0.false in
     let few = c.if-links-gt32767.false in
     let wanted : 2 + c.subdirectories.result ≡ links_of i.geometry (contents i) n
-        = ap (λ k. 2 + k) c.subdirectories.ensures.value ∙ sym (cond-true (is_directory_inode i.geometry (contents i) n) (2 + subdirectories_of i.geometry (contents i) n) _ (sym c.is_directory.ensures ∙ c.if-is_directory.true)) in
+    = ap (λ k. 2 + k) c.subdirectories.ensures.value ∙ sym (cond-true (is_directory_inode i.geometry (contents i) n) (2 + subdirectories_of i.geometry (contents i) n) _ (sym c.is_directory.ensures ∙ c.if-is_directory.true)) in
     ap (λ l. not (l == 2 + c.subdirectories.result)) is
     ∙ other_links i n (sym c.is_marked.ensures ∙ c.if-not-is_marked.false) (λ e. some (is ∙ e)) (omega arith) (2 + c.subdirectories.result)
     (ap (λ k. ((contents i).inodes n).links == k) wanted)
@@ -49,7 +49,7 @@ returns c =
     let few = c.if-links-gt32767.false in
     let low : ((contents i).inodes n).links ≤ 32767 = omega arith in
     let wanted : links_of i.geometry (contents i) n ≡ all_names_of i.geometry (contents i) n
-        = cond-false (is_directory_inode i.geometry (contents i) n) (2 + subdirectories_of i.geometry (contents i) n) _ (sym c.is_directory.ensures ∙ c.if-is_directory.false) in
+    = cond-false (is_directory_inode i.geometry (contents i) n) (2 + subdirectories_of i.geometry (contents i) n) _ (sym c.is_directory.ensures ∙ c.if-is_directory.false) in
     ap (λ l. not (l == c.from.result)) is
     ∙ other_links i n marked (λ e. some (is ∙ e)) low c.from.result
     (ap (λ k. ((contents i).inodes n).links == k) (c.from.ensures ∙ c.requires.counted n (inside i n marked))

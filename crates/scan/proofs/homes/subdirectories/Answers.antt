@@ -18,9 +18,9 @@ loop-number-preserved c =
     let low : 2 ≤ e = omega arith in
     let target = target_at i.geometry (contents i) n in
     let here : c.target.result ≡ target (e - 2 + 2)
-        = c.target.ensures ∙ ap (λ x. entry_inode (file_byte i.geometry (contents i) x) e) c.inode-inode.ensures ∙ ap target (let k : e ≡ e - 2 + 2 = omega arith in k) in
+    = c.target.ensures ∙ ap (λ x. entry_inode (file_byte i.geometry (contents i) x) e) c.inode-inode.ensures ∙ ap target (let k : e ≡ e - 2 + 2 = omega arith in k) in
     let one : c.one_when-count.result ≡ one_if (is_directory_inode i.geometry (contents i) (target (e - 2 + 2)))
-        = c.one_when-count.ensures ∙ ap one_if (c.is_directory.ensures ∙ ap (is_directory_inode i.geometry (contents i)) here) in
+    = c.one_when-count.ensures ∙ ap one_if (c.is_directory.ensures ∙ ap (is_directory_inode i.geometry (contents i)) here) in
     let few = one_most (is_directory_inode i.geometry (contents i) (target (e - 2 + 2))) in
     let before = c.loop-number.invariant in
     let next : e - 2 + 1 ≡ e + 1 - 2 = omega arith in

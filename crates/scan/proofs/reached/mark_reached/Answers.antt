@@ -18,6 +18,5 @@ loop-n-preserved c =
 
 pub returns : goal.returns
 returns c =
-
     let none : length c.loop-n.waiting.items ≡ 0 = omega (arith, c.in_default.ensures.cases.0, c.loop-n.waiting.ok.0) in
     walk_over c.args.image.now c.loop-n.seen c.loop-n.waiting.items c.loop-n.invariant none
