@@ -1,7 +1,5 @@
-//! Rows of a service's sessions: in turn, in two threads, given up, refused and stopped. Each expected value is worked out by hand.
+//! Rows of a service's sessions: in turn, in two threads, given up and refused. Each expected value is worked out by hand.
 #![tactic(auto)]
 
 #[cfg(test)]
 mod sessions;
-#[cfg(test)]
-mod stopped;
