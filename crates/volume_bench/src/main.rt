@@ -10,8 +10,8 @@ use new_volume::mkfs;
 use std::io;
 use std::time::Instant;
 
-/// How often all of it is measured.
-const ROUNDS: u32 = 3;
+/// How often all of it is measured; the program is started again for more.
+const ROUNDS: u32 = 1;
 
 /// How many bytes each volume has.
 const BYTES: usize = 67108864;
