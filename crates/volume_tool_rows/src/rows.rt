@@ -18,17 +18,17 @@ fn put(image: &mut Vec<u8>, at: usize, byte: u8) {
 
 /// What `verify` says of a file, what it writes on standard output and what on standard error.
 #[derive(Drop)]
-struct Told {
+struct Printed {
     verified: Verified,
     out: Vec<u8>,
     err: Vec<u8>,
 }
 
 /// Verifies the volume of a minor in a file named `v.img`.
-fn told(alloc: Global, file: Option<&[u8]>, minor: u8) -> Told {
+fn told(alloc: Global, file: Option<&[u8]>, minor: u8) -> Printed {
     let (mut out, mut err) = (Vec::new(alloc), Vec::new(alloc));
     let verified = verify(alloc, "v.img", file, minor, &mut out, &mut err);
-    Told { verified, out, err }
+    Printed { verified, out, err }
 }
 
 #[test]
