@@ -47,15 +47,24 @@ attributes_text a =
     codes "inode " ++ decimal a.inode ++ codes " mode " ++ octal_text a.mode ++ codes " links " ++ decimal a.links
     ++ codes " " ++ details_text a
 
+-- what is free of the zones, and of so many inodes
+unfoldable pub free_text : ℕ → ℕ → ℕ → List ℕ
+free_text zones inodes free_inodes =
+    codes "free " ++ decimal zones ++ codes " inodes " ++ decimal inodes ++ codes " free " ++ decimal free_inodes
+
 -- what statfs tells of a volume
 abbrev pub room_text : Room → List ℕ
 room_text r =
-    codes "block " ++ decimal r.block_size ++ codes " zones " ++ decimal r.zones ++ codes " free " ++ decimal r.free_zones
-    ++ codes " inodes " ++ decimal r.inodes ++ codes " free " ++ decimal r.free_inodes
+    codes "block " ++ decimal r.block_size ++ codes " zones " ++ decimal r.zones ++ codes " "
+    ++ free_text r.free_zones r.inodes r.free_inodes
 
 -- a name and its inode, after a space
 abbrev pub entry_text : Name × ℕ → List ℕ
 entry_text e = codes " " ++ hex_text e.0 ++ codes ":" ++ decimal e.1
+
+-- how many names, and each with its inode
+abbrev pub names_text : List (Name × ℕ) → List ℕ
+names_text names = decimal (length names) ++ flat_map entry_text names
 
 -- an answer: a refusal by its name
 abbrev pub answer_text : Answer → List ℕ
@@ -66,7 +75,7 @@ answer_text (some_bytes bytes) = codes "bytes " ++ bytes_text bytes
 answer_text (wrote n) = codes "wrote " ++ decimal n
 answer_text (position n) = codes "at " ++ decimal n
 answer_text (node_is a) = attributes_text a
-answer_text (names_are names) = codes "names " ++ decimal (length names) ++ flat_map entry_text names
+answer_text (names_are names) = codes "names " ++ names_text names
 answer_text (room_is r) = room_text r
 
 -- the server's answer to a call

@@ -2,7 +2,7 @@
 
 ghost use Rattle.std.specs.Prelude.{Some, map};
 ghost use Rattle.tree.specs.Answers.{answer_of, entry_of};
-ghost use Rattle.tree.specs.Text.{answer_text, attributes_text, details_text, entry_text, hex_text, octal_text, outcome_text, owner_text, room_text, times_text};
+ghost use Rattle.tree.specs.Text.{answer_text, attributes_text, bytes_text, details_text, entry_text, free_text, hex_text, names_text, octal_text, outcome_text, owner_text, room_text, times_text};
 
 use super::{Attributes, Entry, Outcome, Reply, Room};
 use std::fmt;
@@ -36,6 +36,22 @@ impl fmt::Display for Hex<'_> {
             write!(f, "{high:x}{low:x}")?;
         }
         Ok(())
+    }
+}
+
+/// Bytes in hexadecimal, or `-` for none.
+#[derive(Clone, Copy)]
+struct Bytes<'a>(&'a [u8]);
+
+impl fmt::Display for Bytes<'_> {
+    ghost output = { λ b. Some (bytes_text b.0.now) };
+
+    fn fmt<W: fmt::Write>(&self, f: &mut fmt::Formatter<W>) -> fmt::Result {
+        if self.0.is_empty() {
+            return f.write_str("-");
+        }
+        let hex = Hex(self.0);
+        write!(f, "{hex}")
     }
 }
 
@@ -101,22 +117,28 @@ impl fmt::Display for Attributes {
     }
 }
 
+/// What is free of a volume's zones, and of its inodes.
+#[derive(Clone, Copy)]
+struct Free(u32, u32, u32);
+
+impl fmt::Display for Free {
+    ghost output = { λ f. Some (free_text f.0 f.1 f.2) };
+
+    #[tactic(auto, unfolding(crate::specs::Text::free_text))]
+    fn fmt<W: fmt::Write>(&self, f: &mut fmt::Formatter<W>) -> fmt::Result {
+        let Free(zones, inodes, free_inodes) = *self;
+        write!(f, "free {zones} inodes {inodes} free {free_inodes}")
+    }
+}
+
 /// Writes `block B zones Z free F inodes I free J`.
 impl fmt::Display for Room {
     ghost output = { λ r. Some (room_text r) };
 
     fn fmt<W: fmt::Write>(&self, f: &mut fmt::Formatter<W>) -> fmt::Result {
-        let Room {
-            block_size,
-            zones,
-            free_zones,
-            inodes,
-            free_inodes,
-        } = *self;
-        write!(
-            f,
-            "block {block_size} zones {zones} free {free_zones} inodes {inodes} free {free_inodes}"
-        )
+        let (block_size, zones) = (self.block_size, self.zones);
+        let free = Free(self.free_zones, self.inodes, self.free_inodes);
+        write!(f, "block {block_size} zones {zones} {free}")
     }
 }
 
@@ -131,6 +153,23 @@ impl fmt::Display for Entry {
     }
 }
 
+/// How many names there are, and each.
+#[derive(Clone, Copy)]
+struct Names<'a>(&'a [Entry]);
+
+impl fmt::Display for Names<'_> {
+    ghost output = { λ n. Some (names_text (map entry_of n.0.now)) };
+
+    fn fmt<W: fmt::Write>(&self, f: &mut fmt::Formatter<W>) -> fmt::Result {
+        let count = self.0.len();
+        write!(f, "{count}")?;
+        for name in self.0 {
+            write!(f, "{name}")?;
+        }
+        Ok(())
+    }
+}
+
 /// Writes a refusal's name; `ok`; `fd N`; `bytes` with the bytes in hexadecimal, or with `-` for none;
 /// `wrote N`; `at N`; a node's attributes; `names K` and the entries; or a volume's room.
 impl fmt::Display for Reply {
@@ -141,21 +180,16 @@ impl fmt::Display for Reply {
             Reply::Refused(errno) => write!(f, "{errno}"),
             Reply::Done => f.write_str("ok"),
             Reply::Descriptor(fd) => write!(f, "fd {fd}"),
-            Reply::Bytes(bytes) if bytes.is_empty() => f.write_str("bytes -"),
             Reply::Bytes(bytes) => {
-                let hex = Hex(bytes.as_slice());
-                write!(f, "bytes {hex}")
+                let shown = Bytes(bytes.as_slice());
+                write!(f, "bytes {shown}")
             }
             Reply::Wrote(count) => write!(f, "wrote {count}"),
             Reply::At(position) => write!(f, "at {position}"),
             Reply::Inode(attributes) => write!(f, "{attributes}"),
             Reply::Names(names) => {
-                let count = names.len();
-                write!(f, "names {count}")?;
-                for name in names {
-                    write!(f, "{name}")?;
-                }
-                Ok(())
+                let shown = Names(names.as_slice());
+                write!(f, "names {shown}")
             }
             Reply::Space(room) => write!(f, "{room}"),
         }

@@ -2,7 +2,7 @@ use Rattle.std.proofs.Common.{take, map, flat_map}
 use Rattle.std.specs.Fmt.{HasWritten, IsPlainFormatter}
 use Rattle.tree.specs.Answers.{entry_of}
 use Rattle.tree.specs.Text.{entry_text}
-use Rattle.tree.proofs.text.ReplyDisplay.fmt.Given as goal
+use Rattle.tree.proofs.text.NamesDisplay.fmt.Given as goal
 
 -- the names so far are written
 abbrev pub invariant-loop-name : goal.invariant-loop-name
