@@ -1,0 +1,60 @@
+-- A server stands through what is done at its link between two calls, through messages and calls.
+use Rattle.std.proofs.Common.{◌≡◌, ◌∙◌, sym, subst, List, ◌∷◌}
+use Rattle.layout.specs.declared.Geometry.{Geometry}
+use Rattle.tree.specs.Tree.{Tree}
+use Rattle.marks.specs.Marks.{Mark, Took}
+use Rattle.marks.specs.Disk.{Contents}
+use Rattle.marks.specs.Opening.{contents_at}
+use Rattle.marks.specs.Acts.{Outbox, IsAtRest, marks_after}
+use Rattle.legal.specs.Legal.{IsLegal, tree_after}
+use Rattle.legal.specs.View.{Frames, ReadsBack}
+use Rattle.legal.specs.ServerCall.{Serving, Serves, HasTree, has_open_file}
+use Rattle.reissue.specs.Calls.{Truth}
+use Rattle.file_server.specs.Over.{SameServing}
+use Rattle.file_server.specs.Laws.{SameStands, MessageStands, AnswerStands, CutStands}
+
+pub serves_same : (old new : Serving) (image : Contents) (tree : Tree) (marks : List Mark) → SameServing old new
+    → Serves old image tree marks → Serves new image tree marks
+serves_same old new image tree marks same s = record {
+  agrees = same.agrees image tree marks s.agrees;
+  well_formed = s.well_formed;
+  at_rest = subst (λ (o : Outbox). IsAtRest marks o) (sym same.outbox) s.at_rest;
+  legal = λ replies. subst (λ (g : Geometry). IsLegal g image tree marks) (sym same.geometry) (s.legal replies);
+  has_tree = λ replies live not_given_up.
+      let had : HasTree old image tree marks = s.has_tree replies (sym same.ended ∙ live) not_given_up in
+      record {
+        reads_back = subst (λ (g : Geometry). ReadsBack g new.frames image tree marks) (sym same.geometry)
+            (subst (λ (f : Frames). ReadsBack old.geometry f image tree marks) (sym same.frames) had.reads_back);
+        open_files = subst (λ (g : Geometry). new.is_busy ≡ has_open_file (tree_after g tree marks)) (sym same.geometry)
+            (same.is_busy ∙ had.open_files);
+      };
+}
+
+pub same_stands : {S L : Type 0} (serving : S → Serving) (link_truth : L → Truth) → SameStands S L serving link_truth
+same_stands serving link_truth s t l m v tree marks same truth stood = record {
+  minor = stood.minor ∙ sym same.minor;
+  serves = serves_same (serving s) (serving t) (contents_at v) tree marks same stood.serves;
+  truth = truth;
+}
+
+pub message_stands : {S L : Type 0} (serving : S → Serving) (link_truth : L → Truth) → MessageStands S L serving link_truth
+message_stands serving link_truth s t l m message v tree marks absorbs heard = record {
+  minor = heard.minor ∙ sym absorbs.keeps.leads.minor;
+  serves = absorbs.keeps.serves (contents_at v) tree marks heard.serves;
+  truth = absorbs.truth v tree marks heard.minor heard.serves.agrees heard.truth;
+}
+
+pub answer_stands : {S L : Type 0} (serving : S → Serving) (link_truth : L → Truth) → AnswerStands S L serving link_truth
+answer_stands serving link_truth s t u l m n who now call answer v tree marks calls same took stood = record {
+  minor = stood.minor ∙ sym calls.keeps.leads.minor ∙ sym same.minor;
+  serves = serves_same (serving t) (serving u) (contents_at v) tree (Took who now call answer ∷ marks_after calls.keeps.acts marks) same
+      (calls.keeps.serves (contents_at v) tree marks stood.serves);
+  truth = took (calls.truth v tree marks stood.minor stood.serves.agrees stood.truth);
+}
+
+pub cut_stands : {S L : Type 0} (serving : S → Serving) (link_truth : L → Truth) → CutStands S L serving link_truth
+cut_stands serving link_truth s t l m who now call v tree marks calls stood = record {
+  minor = stood.minor ∙ sym calls.keeps.leads.minor;
+  serves = calls.keeps.serves (contents_at v) tree marks stood.serves;
+  truth = calls.truth v tree marks stood.minor stood.serves.agrees stood.truth;
+}

@@ -1,0 +1,78 @@
+//! A file server over a link: what every one keeps, so that whoever moves its link needs to know nothing else of it.
+#![tactic(auto)]
+
+ghost use Rattle.std.specs.Prelude.{◌≡◌, ◌≤◌, ◌<◌, ◌+◌, ◌^◌, ℕ, min};
+ghost use Rattle.std.specs.Borrow.{Lends, sem};
+ghost use Rattle.tree.specs.declared.Call.{Call as TreeCall};
+ghost use Rattle.reissue.specs.Room.{room_needed};
+ghost use Rattle.file_server.specs.Over.{CallsOver, AbsorbsOver, SameServing, outcome_of};
+
+pub mod laws;
+
+use legal::Serve;
+use message::Incoming;
+use reissue::Link;
+use tree::{Call, Outcome, Who};
+
+/// A file server over a link of this type.
+///
+/// Its link is lent out between two calls: whoever owns its type may change it then, as long as it was told and gave nothing more.
+/// What goes on in the link goes on through each call, so that its owner finds his own state again.
+pub trait FileServer<L: Link + Drop>: Serve + Drop {
+    // the calls that it knows how to answer: a whole file server knows each
+    ghost knows: { TreeCall → Type 0 };
+
+    // its link, and the server with another link in its place
+    ghost line: { Self → L };
+
+    ghost with_line: { Self → L → Self };
+
+    // how many messages it was handed between two calls
+    ghost absorbed: { Self → ℕ };
+
+    // what it needs of its link for the next call: room, and ids for what the link still gives
+    ghost is_ready: { Self → Type 0 };
+
+    /// One call of a client, with the time in seconds since 1970. Cut once a take gave End; else EIO once the device was given up.
+    fn call(&mut self, who: Who, now: u32, call: &Call) -> Outcome
+        requires ready { is_ready self.old }
+        requires knows { knows call.now }
+        ensures ready { is_ready self.new }
+        ensures keeps { CallsOver (Self.serving self.old) (Self.serving self.new) (L.truth (line self.old)) (L.truth (line self.new))
+            who now call.now (outcome_of result) }
+        ensures goes { L.goes_on (line self.old) (line self.new) }
+        ensures budget { L.budget_left (line self.new) ≤ L.budget_left (line self.old) }
+        ensures absorbed { absorbed self.new ≡ absorbed self.old };
+
+    /// One message between two calls, which its link has noted. End has no effect.
+    fn absorb(&mut self, message: Incoming)
+        requires ready { is_ready self.old }
+        requires few { absorbed self.old < 2 ^ 48 }
+        requires room { room_needed message ≤ L.room (line self.old) }
+        ensures ready { is_ready self.new }
+        ensures keeps { AbsorbsOver (Self.serving self.old) (Self.serving self.new) (L.truth (line self.old)) (L.truth (line self.new)) message }
+        ensures goes { L.goes_on (line self.old) (line self.new) }
+        ensures budget { L.budget_left (line self.new) ≤ L.budget_left (line self.old) }
+        ensures absorbed { absorbed self.new ≤ absorbed self.old + 1 };
+
+    /// The link.
+    fn link(&self) -> &L
+        ensures { result.now ≡ line self.now };
+
+    /// The link, to be changed: all else stays as it is.
+    fn link_mut(&mut self) -> &mut L
+        ensures* lends { sem 𝓛 (Lends Self.row L.row self.entry result (with_line self.entry.now)) }
+        ensures value { result.now ≡ line self.old };
+
+    // the link that was put there is the link
+    ghost is_there: { (s : Self) (l : L) → line (with_line s l) ≡ l };
+
+    ghost counts_on: { (s : Self) (l : L) → absorbed (with_line s l) ≡ absorbed s };
+
+    // a link with the same history changes nothing of the server
+    ghost stays: { (s : Self) (l : L) → L.history l ≡ L.history (line s) → SameServing (Self.serving s) (Self.serving (with_line s l)) };
+
+    // one with as much room and no more messages leaves it ready
+    ghost stays_ready: { (s : Self) (l : L) → L.history l ≡ L.history (line s) → min 33 (L.room (line s)) ≤ L.room l
+        → L.budget_left l ≤ L.budget_left (line s) → is_ready s → is_ready (with_line s l) };
+}
