@@ -18,8 +18,7 @@ use Rattle.message.specs.Good.{is_write}
 use Rattle.reissue.specs.Agrees.{ApartFromAll, Apart}
 use Rattle.reissue.specs.Calls.{Closing}
 use Rattle.reissue.specs.Entries.{AreDistinct, HasNumbers, IsAmong, IsFresh, begun_of, pending_of}
-use Rattle.marks.specs.Disk.{bytes_read}
-use Rattle.reissue.specs.Moves.{Begun, Closes, Joins, IsQuiet, Spares, Tells, Touches, put, state_after, written_by}
+use Rattle.reissue.specs.Moves.{Begun, Closes, Joins, IsQuiet, Spares, Tells, Touches, put, state_after, written_by, WasRead}
 
 -- the entry at a place is one of them
 pub among_here : (ps : List Pending) (at : ℕ) (e : Pending) → at < length ps → e ≡ get_or ps at e → IsAmong e ps
@@ -124,11 +123,11 @@ tells_read ps e image more bytes d i h = λ r is.
 
 -- a settled read has the answers' bytes
 pub joins_read : (ps : List Pending) (e : Pending) (more : List Mark) (bytes : List ℕ)
-    → AreDistinct ps → IsAmong e ps → ((k : ℕ) → k < e.size → slice_index bytes k ≡ bytes_read more (e.start + k))
+    → AreDistinct ps → IsAmong e ps → ((k : ℕ) → k < e.size → WasRead more (e.start + k) (slice_index bytes k))
     → Joins (settled.Read e.ticket bytes) (pending_of ps) more
 joins_read ps e more bytes d i h = λ r is.
     let same : begun_of e ≡ r = some_same (sym (pending_among e ps d i) ∙ is) in
-    subst (λ (x : Begun). (k : ℕ) → k < x.size → slice_index bytes k ≡ bytes_read more (x.start + k)) same h
+    subst (λ (x : Begun). (k : ℕ) → k < x.size → WasRead more (x.start + k) (slice_index bytes k)) same h
   where
     some_same : {r : Begun} → Some (begun_of e) ≡ Some r → begun_of e ≡ r
     some_same h = cc
@@ -181,7 +180,7 @@ pub closing_read : (ps us : List Pending) (marks more : List Mark) (e : Pending)
     → AreDistinct ps → IsAmong e ps → t ≡ e.ticket
     → ((image : Contents) → Spares (pending_of ps) (state_after image marks) (state_after image more))
     → ((image : Contents) → HasTrueReplies image more → AreDisk image more e.start e.size bytes)
-    → ((k : ℕ) → k < e.size → slice_index bytes k ≡ bytes_read more (e.start + k))
+    → ((k : ℕ) → k < e.size → WasRead more (e.start + k) (slice_index bytes k))
     → Closing (settled.Read t bytes) ps us marks more
 closing_read ps us marks more e t bytes d i ticket s h j = rw ticket (record {
   moves = λ image tr. record { spares = s image; tells = tells_read ps e image more bytes d i (h image tr) };

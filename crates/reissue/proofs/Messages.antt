@@ -62,7 +62,7 @@ agrees_started t u marks e h items issued ids current given_up =
         current = started_target t u marks e t.given_up refl s.given_up s.current current;
         given_up = given_up ∙ s.given_up;
         apart = s.apart;
-        joined = joined_like marks (Started e ∷ marks) (h.opened ++ h.waiting) (λ _. refl) s.joined;
+        joined = joined_like marks (Started e ∷ marks) (h.opened ++ h.waiting) (λ _ _ h. h) s.joined;
         reads = λ image tr. reads_like image marks (Started e ∷ marks) (h.opened ++ h.waiting) (λ _. refl) (λ _. refl) (s.reads image tr);
         writes = λ image. wrote_like image marks (Started e ∷ marks) (h.opened ++ h.waiting) (λ _. refl) (λ _. refl) (s.writes image);
       };
@@ -85,7 +85,7 @@ agrees_flushed t marks h =
         current = s.current;
         given_up = s.given_up;
         apart = s.apart;
-        joined = joined_like marks (Flush ∷ marks) (h.opened ++ h.waiting) (λ _. refl) s.joined;
+        joined = joined_like marks (Flush ∷ marks) (h.opened ++ h.waiting) (λ _ _ h. h) s.joined;
         reads = λ image tr. reads_like image marks (Flush ∷ marks) (h.opened ++ h.waiting) (λ _. refl) (λ _. refl) (s.reads image tr);
         writes = λ image. wrote_like image marks (Flush ∷ marks) (h.opened ++ h.waiting) (λ _. refl) (λ _. refl) (s.writes image);
       };
@@ -109,7 +109,7 @@ agrees_gave_up t u marks h items issued ids current given_up =
         current = current;
         given_up = given_up;
         apart = s.apart;
-        joined = joined_like marks (GaveUp ∷ marks) (h.opened ++ h.waiting) (λ _. refl) s.joined;
+        joined = joined_like marks (GaveUp ∷ marks) (h.opened ++ h.waiting) (λ _ _ h. h) s.joined;
         reads = λ image tr. reads_like image marks (GaveUp ∷ marks) (h.opened ++ h.waiting) (λ _. refl) (λ _. refl) (s.reads image tr);
         writes = λ image. wrote_like image marks (GaveUp ∷ marks) (h.opened ++ h.waiting) (λ _. refl) (λ _. refl) (s.writes image);
       };

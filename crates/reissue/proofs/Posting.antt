@@ -14,7 +14,7 @@ use Rattle.marks.specs.Marks.{Mark}
 use Rattle.marks.specs.Told.{Complained, Posted, Received, Told, grown}
 use Rattle.reissue.specs.Calls.{Closing, LeavesQuiet}
 use Rattle.reissue.specs.Entries.{begun_of, pending_of}
-use Rattle.marks.specs.Disk.{bytes_read}
+use Rattle.marks.specs.Disk.{bytes_read, is_read}
 use Rattle.reissue.specs.Moves.{Begun, Closes, Joins, IsBusy, IsQuiet, Spares, Tells, put, state_after}
 use Rattle.reissue.specs.Posts.{OnlyPosts}
 
@@ -82,10 +82,20 @@ bytes_read_posted (Posted to r false ∷ es) marks p o = bytes_read_posted es ma
 bytes_read_posted (Complained e ∷ es) marks p o = absurd o
 bytes_read_posted (Received m ∷ es) marks p o = absurd o
 
+-- and what places were
+is_read_posted : (es : List Told) (marks : List Mark) (p : ℕ) → OnlyPosts es → is_read (grown es marks) p ≡ is_read marks p
+is_read_posted [] marks p o = refl
+is_read_posted (Posted to r true ∷ es) marks p o = is_read_posted es marks p o
+is_read_posted (Posted to r false ∷ es) marks p o = is_read_posted es marks p o
+is_read_posted (Complained e ∷ es) marks p o = absurd o
+is_read_posted (Received m ∷ es) marks p o = absurd o
+
 -- and so what a settled read has
 joins_posted : (res : Settled) (f : ℕ → Option Begun) (es : List Told) (marks : List Mark) → OnlyPosts es
     → Joins res f marks → Joins res f (grown es marks)
-joins_posted (settled.Read t b) f es marks o h = λ r is k lt. h r is k lt ∙ sym (bytes_read_posted es marks (r.start + k) o)
+joins_posted (settled.Read t b) f es marks o h = λ r is k lt.
+    let was = h r is k lt in
+    (was.0 ∙ sym (bytes_read_posted es marks (r.start + k) o), is_read_posted es marks (r.start + k) o ∙ was.1)
 joins_posted (settled.Written t) f es marks o h = tt
 joins_posted settled.Nothing f es marks o h = tt
 joins_posted settled.Flush f es marks o h = tt

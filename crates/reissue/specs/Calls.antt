@@ -16,7 +16,7 @@ use Rattle.reissue.specs.Moves.{Begun, Touches, IsQuiet, IsBusy, Spares, Moves, 
 use Rattle.reissue.specs.Entries.{pending_of, begun_of, AllOfMinor}
 use Rattle.reissue.specs.Agrees.{Agrees}
 use Rattle.marks.specs.Acts.{Act, Absorbed, told_of, has_absorbed}
-use Rattle.reissue.specs.Rules.{KeepsRulesBy, acts_on}
+use Rattle.reissue.specs.Rules.{KeepsRulesBy, BeganAmong, acts_on}
 use Rattle.reissue.specs.Hears.{Hears}
 use Rattle.reissue.specs.Posts.{OnlyPosts, accepted_of, PostsInOrder, PostsAfter, due_after, complaints_about}
 
@@ -140,6 +140,7 @@ pub record Steps (result : Settled) (old new : Table) (before after : List Told)
   pub acts : List Act
   pub told : after ≡ told_of acts ++ before
   pub none_absorbed : has_absorbed acts ≡ false
+  pub began : BeganAmong acts new.pending
   pub message : Incoming
   pub mid : Table
   pub posts : List Told
@@ -172,6 +173,7 @@ pub record Begins (ask : Ask) (old new : Table) (before after : List Told) (was 
   pub acts : List Act
   pub told : after ≡ told_of acts ++ before
   pub none_absorbed : has_absorbed acts ≡ false
+  pub began : BeganAmong acts new.pending
   pub posts : List Told
   pub history : after ≡ posts ++ before
   pub only_posts : OnlyPosts posts
