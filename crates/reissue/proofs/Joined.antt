@@ -14,7 +14,7 @@ use Rattle.reissue.specs.Agrees.{ApartFromAll, IsJoined, AllJoined}
 use Rattle.reissue.specs.Moves.{WasRead}
 
 -- a place outside isn't covered
-not_within : (w : Bool) (position n place : ℕ) → (place < position) ⊎ (position + n ≤ place)
+pub not_within : (w : Bool) (position n place : ℕ) → (place < position) ⊎ (position + n ≤ place)
     → (not w && nat_le position place && nat_lt place (position + n)) ≡ false
 not_within false position n place h = grind (arith, nat_tests)
 not_within true position n place h = refl
@@ -26,7 +26,7 @@ within false position n place e h k = grind (arith, nat_tests)
 within true position n place e h k = cc
 
 -- at a place that the answer didn't cover
-bytes_read_other : (marks : List Mark) (a : BlockReply) (r : BlockRequest) (n place : ℕ) → asked_by a marks ≡ Some r → moved_by a marks ≡ Some n
+pub bytes_read_other : (marks : List Mark) (a : BlockReply) (r : BlockRequest) (n place : ℕ) → asked_by a marks ≡ Some r → moved_by a marks ≡ Some n
     → (place < r.position) ⊎ (r.position + n ≤ place) → bytes_read (Answered a ∷ marks) place ≡ bytes_read marks place
 bytes_read_other marks a r n place w m o = rw (m, w) (kept o) where
   kept : (place < r.position) ⊎ (r.position + n ≤ place)

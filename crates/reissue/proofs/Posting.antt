@@ -12,8 +12,8 @@ use Rattle.std.specs.List.{list_any}
 use Rattle.marks.specs.Disk.{Contents, HasTrueReplies, disk_after, unsure}
 use Rattle.marks.specs.Marks.{Mark}
 use Rattle.marks.specs.Told.{Complained, Posted, Received, Told, grown}
-use Rattle.reissue.specs.Calls.{Closing, LeavesQuiet}
-use Rattle.reissue.specs.Entries.{begun_of, pending_of}
+use Rattle.reissue.specs.Calls.{Closing, LeavesQuiet, ReadsOn}
+use Rattle.reissue.specs.Entries.{AllAsk, IsLeft, begun_of, pending_of}
 use Rattle.marks.specs.Disk.{bytes_read, is_read}
 use Rattle.reissue.specs.Moves.{Begun, Closes, Joins, IsBusy, IsQuiet, Spares, Tells, put, state_after}
 use Rattle.reissue.specs.Posts.{OnlyPosts}
@@ -102,6 +102,16 @@ joins_posted settled.Flush f es marks o h = tt
 joins_posted settled.GaveUp f es marks o h = tt
 joins_posted settled.End f es marks o h = tt
 
+-- what a message did to what was read
+reads_posted : (ps ts us : List Pending) (marks mid : List Mark) (es : List Told) → OnlyPosts es → us ≡ ts
+    → ReadsOn ps ts marks mid → ReadsOn ps us marks (grown es mid)
+reads_posted ps ts us marks mid es o same h = record {
+  others = λ place none. let k = h.others place none in
+      (bytes_read_posted es mid place o ∙ k.0, is_read_posted es mid place o ∙ k.1);
+  left = λ place l. let k = h.left place (subst (λ (x : List Pending). IsLeft x place) same l) in (k.0, is_read_posted es mid place o ∙ k.1);
+  ask = λ a. subst (λ (x : List Pending). AllAsk x) (sym same) (h.ask a);
+}
+
 -- what a message did, and then posts
 pub closing_posted : (res : Settled) (ps ts us : List Pending) (marks mid : List Mark) (es : List Told)
     → OnlyPosts es → us ≡ ts → Closes res (pending_of ps) (pending_of ts)
@@ -121,6 +131,7 @@ closing_posted res ps ts us marks mid es o same c before s h = record {
       };
   joins = joins_posted res (pending_of ps) es mid o h.joins;
   leaves = subst (λ (l : List Pending). LeavesQuiet res (pending_of ps) (pending_of l)) (sym same) h.leaves;
+  reads = reads_posted ps ts us marks mid es o same h.reads;
 }
 
 -- where there is an entry, something is pending
