@@ -240,7 +240,7 @@ ends_read ask ticket n bytes s t u before between after was mid is left budget r
             let k = step_then ask.minor (settled.Read n bytes) s t u before between after was mid is r x busy live marks h m in
             let c = x.closing (marks_after r.acts marks) k.agrees in
             subst (λ (ms : List Mark). AreRead ask.position ask.count bytes ms) (sym k.grows)
-            (record { joined = c.joins (begun_by ask) there; are_disk = λ image tr. (c.moves image tr).tells (begun_by ask) there }),
+            (record { joined = λ k lt. (c.joins (begun_by ask) there k lt).0; are_disk = λ image tr. (c.moves image tr).tells (begun_by ask) there }),
       );
     }
 

@@ -14,7 +14,6 @@ use Rattle.reissue.specs.declared.pending.Pending.{Pending}
 use Rattle.reissue.specs.declared.table.Table.{Table}
 use Rattle.reissue.proofs.Steps.{started_at}
 use Rattle.reissue.specs.Hears.{counted_move}
-use Rattle.marks.specs.Disk.{bytes_read}
 use Rattle.reissue.proofs.Joined.{joined_like, joined_answered, joined_rest, joined_push, joined_out}
 use Rattle.reissue.proofs.Writes.{same_at, all_wrote_answered, wrote_rest, wrote_like, wrote_push, wrote_out}
 use Rattle.marks.specs.Disk.{Contents, HasTrueReplies, IsTrueOf, disk_after, unsure}
@@ -24,6 +23,7 @@ use Rattle.marks.specs.Told.{received}
 use Rattle.message.specs.Good.{is_write, moved}
 use Rattle.marks.specs.Acts.{complaint_due}
 use Rattle.marks.specs.Acts.{target}
+use Rattle.reissue.specs.Moves.{WasRead}
 use Rattle.reissue.specs.Agrees.{AreNumbered, IsJoined, Agrees, AllApart, AllReadDisk, Apart, ApartFromAll, Holds, ReadsDisk, Wrote}
 use Rattle.reissue.specs.Entries.{MissesOrSame, request_of}
 
@@ -407,7 +407,7 @@ pub done_joined : (t v : Table) (marks : List Mark) (a : BlockReply) (e r : Pend
     → r.start ≡ e.start → r.size ≡ e.size → r.request.position ≡ e.request.position + n → r.request.count ≡ 0
     → ((k : ℕ) → e.start + k < e.request.position → slice_index r.bytes k ≡ slice_index e.bytes k)
     → ((k : ℕ) → k < n → slice_index r.bytes (e.request.position - e.start + k) ≡ slice_index a.bytes k)
-    → (k : ℕ) → k < e.size → slice_index r.bytes k ≡ bytes_read (Answered a ∷ marks) (e.start + k)
+    → (k : ℕ) → k < e.size → WasRead (Answered a ∷ marks) (e.start + k) (slice_index r.bytes k)
 done_joined t v marks a e r n x m read start size position none before new k lt =
     let all = joined_rest marks a e r n x.there m read (x.joined read) start position before new in
     let end : r.request.position ≡ r.start + r.size = omega (arith, r.end) in
@@ -511,7 +511,7 @@ agrees_bad t marks a r h from w m =
         current = s.current;
         given_up = s.given_up;
         apart = s.apart;
-        joined = joined_like marks (Answered a ∷ marks) (h.opened ++ h.waiting) (λ _. rw (m, w) refl) s.joined;
+        joined = joined_like marks (Answered a ∷ marks) (h.opened ++ h.waiting) (λ _ _ h. rw (m, w) h) s.joined;
         reads = λ image tr. reads_bad image marks a r (h.opened ++ h.waiting) w m (s.reads image tr.0);
         writes = λ image. wrote_like image marks (Answered a ∷ marks) (h.opened ++ h.waiting) (λ _. rw (m, w) refl) (λ _. rw (m, w) refl) (s.writes image);
       };

@@ -16,10 +16,10 @@ use Rattle.marks.specs.Marks.{Answered, Mark}
 use Rattle.marks.specs.Open.{asked_by, moved_by}
 use Rattle.message.specs.Good.{is_write}
 use Rattle.reissue.specs.Agrees.{ApartFromAll, Apart}
-use Rattle.reissue.specs.Calls.{Closing}
+use Rattle.reissue.specs.Calls.{Closing, ReadsOn}
 use Rattle.reissue.specs.Entries.{AreDistinct, HasNumbers, IsAmong, IsFresh, begun_of, pending_of}
-use Rattle.marks.specs.Disk.{bytes_read}
-use Rattle.reissue.specs.Moves.{Begun, Closes, Joins, IsQuiet, Spares, Tells, Touches, put, state_after, written_by}
+use Rattle.reissue.proofs.Left.{reads_none}
+use Rattle.reissue.specs.Moves.{Begun, Closes, Joins, IsQuiet, Spares, Tells, Touches, put, state_after, written_by, WasRead}
 
 -- the entry at a place is one of them
 pub among_here : (ps : List Pending) (at : ℕ) (e : Pending) → at < length ps → e ≡ get_or ps at e → IsAmong e ps
@@ -124,11 +124,11 @@ tells_read ps e image more bytes d i h = λ r is.
 
 -- a settled read has the answers' bytes
 pub joins_read : (ps : List Pending) (e : Pending) (more : List Mark) (bytes : List ℕ)
-    → AreDistinct ps → IsAmong e ps → ((k : ℕ) → k < e.size → slice_index bytes k ≡ bytes_read more (e.start + k))
+    → AreDistinct ps → IsAmong e ps → ((k : ℕ) → k < e.size → WasRead more (e.start + k) (slice_index bytes k))
     → Joins (settled.Read e.ticket bytes) (pending_of ps) more
 joins_read ps e more bytes d i h = λ r is.
     let same : begun_of e ≡ r = some_same (sym (pending_among e ps d i) ∙ is) in
-    subst (λ (x : Begun). (k : ℕ) → k < x.size → slice_index bytes k ≡ bytes_read more (x.start + k)) same h
+    subst (λ (x : Begun). (k : ℕ) → k < x.size → WasRead more (x.start + k) (slice_index bytes k)) same h
   where
     some_same : {r : Begun} → Some (begun_of e) ≡ Some r → begun_of e ≡ r
     some_same h = cc
@@ -173,20 +173,21 @@ quiet_apart e ps place a from to = record { none = λ t r bytes is w touch. none
 -- nothing is settled
 pub closing_nothing : (ps us : List Pending) (marks more : List Mark)
     → ((image : Contents) → Spares (pending_of ps) (state_after image marks) (state_after image more))
-    → Closing settled.Nothing ps us marks more
-closing_nothing ps us marks more s = record { moves = λ image tr. record { spares = s image; tells = tt }; joins = tt; leaves = tt }
+    → ReadsOn ps us marks more → Closing settled.Nothing ps us marks more
+closing_nothing ps us marks more s on = record { moves = λ image tr. record { spares = s image; tells = tt }; joins = tt; leaves = tt; reads = on }
 
 -- a read is settled
 pub closing_read : (ps us : List Pending) (marks more : List Mark) (e : Pending) (t : ℕ) (bytes : List ℕ)
     → AreDistinct ps → IsAmong e ps → t ≡ e.ticket
     → ((image : Contents) → Spares (pending_of ps) (state_after image marks) (state_after image more))
     → ((image : Contents) → HasTrueReplies image more → AreDisk image more e.start e.size bytes)
-    → ((k : ℕ) → k < e.size → slice_index bytes k ≡ bytes_read more (e.start + k))
-    → Closing (settled.Read t bytes) ps us marks more
-closing_read ps us marks more e t bytes d i ticket s h j = rw ticket (record {
+    → ((k : ℕ) → k < e.size → WasRead more (e.start + k) (slice_index bytes k))
+    → ReadsOn ps us marks more → Closing (settled.Read t bytes) ps us marks more
+closing_read ps us marks more e t bytes d i ticket s h j on = rw ticket (record {
   moves = λ image tr. record { spares = s image; tells = tells_read ps e image more bytes d i (h image tr) };
   joins = joins_read ps e more bytes d i j;
   leaves = tt;
+  reads = on;
 })
 
 -- a write is settled
@@ -194,9 +195,9 @@ pub closing_written : (ps us : List Pending) (marks more : List Mark) (e : Pendi
     → AreDistinct ps → IsAmong e ps → t ≡ e.ticket → is_write e.request.kind ≡ true
     → ((image : Contents) → Spares (pending_of ps) (state_after image marks) (state_after image more))
     → ((image : Contents) → AreWritten image more e.start e.size e.bytes)
-    → ApartFromAll e us
+    → ApartFromAll e us → ReadsOn ps us marks more
     → Closing (settled.Written t) ps us marks more
-closing_written ps us marks more e t d i ticket w s h a = rw ticket (record {
+closing_written ps us marks more e t d i ticket w s h a on = rw ticket (record {
   moves = λ image tr. record { spares = s image; tells = tells_written ps e image more d i w (h image) };
   joins = tt;
   leaves = λ r is place touch.
@@ -204,6 +205,7 @@ closing_written ps us marks more e t d i ticket w s h a = rw ticket (record {
       let s : e.start ≡ r.start = ap (λ (x : Begun). x.start) same in
       let z : e.size ≡ r.size = ap (λ (x : Begun). x.size) same in
       quiet_apart e us place a (omega (arith, s, touch.from)) (omega (arith, s, z, touch.to));
+  reads = on;
 }) where
   some_same : {r : Begun} → Some (begun_of e) ≡ Some r → begun_of e ≡ r
   some_same h = cc
@@ -229,10 +231,12 @@ pub closing_bad : (ps : List Pending) (marks : List Mark) (a : BlockReply) (r : 
     → Closing settled.Nothing ps ps marks (Answered a ∷ marks)
 closing_bad ps marks a r w m = closing_nothing ps ps marks (Answered a ∷ marks)
     (λ image. spares_same (pending_of ps) image marks (Answered a ∷ marks) (λ _. rw (m, w) refl) (λ _. rw (m, w) refl))
+    (reads_none ps ps marks (Answered a ∷ marks) refl (λ _. rw (m, w) refl) (λ _. rw (m, w) refl))
 
 -- a reply that is dropped
 pub closing_dropped : (ps : List Pending) (marks : List Mark) → Closing settled.Nothing ps ps marks marks
 closing_dropped ps marks = closing_nothing ps ps marks marks (λ image. spares_same (pending_of ps) image marks marks (λ _. refl) (λ _. refl))
+    (reads_none ps ps marks marks refl (λ _. refl) (λ _. refl))
 
 -- a write of which nothing is left is written
 pub done_writes : (t v : Table) (marks : List Mark) (image : Contents) (a : BlockReply) (e r : Pending) (n : ℕ)

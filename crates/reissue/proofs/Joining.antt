@@ -23,7 +23,7 @@ use Rattle.reissue.specs.Agrees.{Agrees, unposted}
 use Rattle.reissue.specs.Posts.{OnlyPosts, PostsInOrder, PostsAfter, is_message}
 use Rattle.reissue.specs.Calls.{Truth, Leads, TakesIn, Absorbs, Steps, Begins, PostsNew, IsAnswerTo, more_may_come}
 use Rattle.reissue.proofs.Posting.{closing_posted}
-use Rattle.reissue.specs.Rules.{at_link, all_began, began_on, acts_on}
+use Rattle.reissue.specs.Rules.{BeganAmong, at_link, all_began, began_on, acts_on}
 use Rattle.reissue.proofs.StepRules.{arrival}
 use Rattle.reissue.proofs.CallRules.{absorb_rules, step_rules, begin_rules}
 use Rattle.reissue.proofs.Settling.{minors_push}
@@ -106,6 +106,54 @@ none_absorbed posts old mid complaints m before =
 
     by : (b : Bool) → has_absorbed (cond b (all_began (drop (length mid.pending - 1) mid.pending)) [] ++ (at_link complaints ++ arrival m before)) ≡ false
     by true = none_begun (drop (length mid.pending - 1) mid.pending) (at_link complaints ++ arrival m before) ∙ rest
+    by false = rest
+
+-- nothing becomes pending in what is told
+began_told : (told : List Told) (acts : List Act) (ps : List Pending) → BeganAmong acts ps → BeganAmong (at_link told ++ acts) ps
+began_told [] acts ps h = h
+began_told (t ∷ told) acts ps h = began_told told acts ps h
+
+-- nor in a taken message
+began_arrives : (m : Incoming) (before : List Told) (ps : List Pending) → BeganAmong (arrival m before) ps
+began_arrives incoming.End before ps = by (took_end before) where
+  by : (b : Bool) → BeganAmong (cond b [] (AtLink (Received incoming.End) ∷ [])) ps
+  by true = tt
+  by false = tt
+began_arrives (incoming.Reply a) before ps = tt
+began_arrives (incoming.Started d) before ps = tt
+began_arrives incoming.GaveUp before ps = tt
+began_arrives incoming.Flush before ps = tt
+
+-- these become pending
+began_those : (qs : List Pending) (acts : List Act) (ps : List Pending) → ((p : Pending) → IsAmong p qs → IsAmong p ps)
+    → BeganAmong acts ps → BeganAmong (all_began qs ++ acts) ps
+began_those [] acts ps e h = h
+began_those (q ∷ qs) acts ps e h = ((q, e q (inl refl), refl), began_those qs acts ps (λ p i. e p (inr i)) h)
+
+-- one of the last is one of all
+among_drop : (n : ℕ) (ps : List Pending) (p : Pending) → IsAmong p (drop n ps) → IsAmong p ps
+among_drop zero [] p i = i
+among_drop zero (q ∷ ps) p i = i
+among_drop (suc n) [] p i = i
+among_drop (suc n) (q ∷ ps) p i = inr (among_drop n ps p i)
+
+-- the last is one of all
+among_end : (ps : List Pending) (p : Pending) → IsAmong p (ps ++ p ∷ [])
+among_end [] p = inl refl
+among_end (q ∷ ps) p = inr (among_end ps p)
+
+-- what becomes pending in a step
+began_in_step : (posts : List Told) (old mid : Table) (complaints : List Told) (m : Incoming) (before : List Told)
+    → BeganAmong (acts_on posts old mid complaints (arrival m before)) mid.pending
+began_in_step posts old mid complaints m before =
+    began_told posts (began_on old mid ++ (at_link complaints ++ arrival m before)) mid.pending (by (nat_lt old.ids mid.ids))
+  where
+    rest : BeganAmong (at_link complaints ++ arrival m before) mid.pending
+    rest = began_told complaints (arrival m before) mid.pending (began_arrives m before mid.pending)
+
+    by : (b : Bool) → BeganAmong (cond b (all_began (drop (length mid.pending - 1) mid.pending)) [] ++ (at_link complaints ++ arrival m before)) mid.pending
+    by true = began_those (drop (length mid.pending - 1) mid.pending) (at_link complaints ++ arrival m before) mid.pending
+        (λ p i. among_drop (length mid.pending - 1) mid.pending p i) rest
     by false = rest
 
 -- what the link was told stands in front
@@ -206,6 +254,8 @@ steps_one m res t u before taken after was mid is told truth x answer =
       acts = acts_on x.posts t x.mid x.complaints (arrival m before);
       told = history ∙ sym (told_on x.posts t x.mid x.complaints m before);
       none_absorbed = none_absorbed x.posts t x.mid x.complaints m before;
+      began = subst (λ (ls : List Pending). BeganAmong (acts_on x.posts t x.mid x.complaints (arrival m before)) ls) (sym x.same)
+          (began_in_step x.posts t x.mid x.complaints m before);
       given_up = x.given_up;
       ended = x.ended ∙ ap took_end told ∙ ended_heard m res before answer;
       message = m;
@@ -249,6 +299,8 @@ begins_add ask s t u p due before after was is agrees items posted issued minor 
       acts = at_link l.posts ++ Began p.request ∷ [];
       told = told_began l.posts before after p.request l.history;
       none_absorbed = none_told l.posts (Began p.request ∷ []);
+      began = began_told l.posts (Began p.request ∷ []) u.pending
+          ((p, subst (λ (ls : List Pending). IsAmong p ls) (sym (l.same ∙ items)) (among_end s.pending p), refl), tt);
       posts = l.posts;
       history = l.history;
       only_posts = l.only_posts;
@@ -270,6 +322,7 @@ begins_none ask t history was = record {
   acts = [];
   told = refl;
   none_absorbed = refl;
+  began = tt;
   given_up = refl;
   ended = refl;
   posts = [];

@@ -4,6 +4,7 @@ mod Finding
 pub mod Tickets
 mod Writes
 mod Joined
+pub mod Left
 mod Steps
 mod Answering
 mod Closing

@@ -21,10 +21,11 @@ use Rattle.reissue.specs.Agrees.{Agrees, AllReadDisk}
 use Rattle.reissue.specs.Hears.{HearsStart, HearsAnswer, counted_move}
 use Rattle.marks.specs.Acts.{complaint_due, target}
 use Rattle.reissue.specs.Posts.{complaints_about}
-use Rattle.reissue.specs.Calls.{Truth, TakesIn, Closing, gives_up}
+use Rattle.reissue.specs.Calls.{Truth, TakesIn, Closing, ReadsOn, gives_up}
 use Rattle.reissue.specs.Answers.{is_bad, settled_of, complained}
 use Rattle.reissue.proofs.Writes.{wrote_like}
 use Rattle.reissue.proofs.Joined.{joined_like}
+use Rattle.reissue.proofs.Left.{reads_none}
 
 -- marks that leave the disk and what is sure of it leave what was read true
 pub reads_like : (image : Contents) (marks more : List Mark) (ps : List Pending)
@@ -62,7 +63,7 @@ agrees_started t u marks e h items issued ids current given_up =
         current = started_target t u marks e t.given_up refl s.given_up s.current current;
         given_up = given_up ∙ s.given_up;
         apart = s.apart;
-        joined = joined_like marks (Started e ∷ marks) (h.opened ++ h.waiting) (λ _. refl) s.joined;
+        joined = joined_like marks (Started e ∷ marks) (h.opened ++ h.waiting) (λ _ _ h. h) s.joined;
         reads = λ image tr. reads_like image marks (Started e ∷ marks) (h.opened ++ h.waiting) (λ _. refl) (λ _. refl) (s.reads image tr);
         writes = λ image. wrote_like image marks (Started e ∷ marks) (h.opened ++ h.waiting) (λ _. refl) (λ _. refl) (s.writes image);
       };
@@ -85,7 +86,7 @@ agrees_flushed t marks h =
         current = s.current;
         given_up = s.given_up;
         apart = s.apart;
-        joined = joined_like marks (Flush ∷ marks) (h.opened ++ h.waiting) (λ _. refl) s.joined;
+        joined = joined_like marks (Flush ∷ marks) (h.opened ++ h.waiting) (λ _ _ h. h) s.joined;
         reads = λ image tr. reads_like image marks (Flush ∷ marks) (h.opened ++ h.waiting) (λ _. refl) (λ _. refl) (s.reads image tr);
         writes = λ image. wrote_like image marks (Flush ∷ marks) (h.opened ++ h.waiting) (λ _. refl) (λ _. refl) (s.writes image);
       };
@@ -109,7 +110,7 @@ agrees_gave_up t u marks h items issued ids current given_up =
         current = current;
         given_up = given_up;
         apart = s.apart;
-        joined = joined_like marks (GaveUp ∷ marks) (h.opened ++ h.waiting) (λ _. refl) s.joined;
+        joined = joined_like marks (GaveUp ∷ marks) (h.opened ++ h.waiting) (λ _ _ h. h) s.joined;
         reads = λ image tr. reads_like image marks (GaveUp ∷ marks) (h.opened ++ h.waiting) (λ _. refl) (λ _. refl) (s.reads image tr);
         writes = λ image. wrote_like image marks (GaveUp ∷ marks) (h.opened ++ h.waiting) (λ _. refl) (λ _. refl) (s.writes image);
       };
@@ -171,11 +172,12 @@ takes_reply message a r t u before after was is same agrees hears due closes clo
 -- the disk and what is sure stay
 closing_same : (result : Settled) (ps us : List Pending) (marks more : List Mark)
     → ((image : Contents) (p : ℕ) → disk_after image more p ≡ disk_after image marks p) → ((p : ℕ) → unsure more p ≡ unsure marks p)
-    → Closing settled.Nothing ps us marks more
-closing_same result ps us marks more d u = record {
+    → ReadsOn ps us marks more → Closing settled.Nothing ps us marks more
+closing_same result ps us marks more d u on = record {
   moves = λ image tr. record { spares = record { disk = λ p q. d image p; sure = λ p q s. u p ∙ s }; tells = tt };
   joins = tt;
   leaves = tt;
+  reads = on;
 }
 
 -- what a start does, given whether the device was given up before
@@ -206,7 +208,8 @@ takes_started message e t u history was is items posted issued ids current given
       hears = λ marks h. started_hears t u e t.given_up items ids posted issued current (nowhere t marks h);
       agrees = λ marks h. agrees_started t u marks e h items issued ids current given_up;
       closes = ap pending_of items;
-      closing = λ marks h. closing_same settled.Nothing t.pending u.pending marks (Started e ∷ marks) (λ _ _. refl) (λ _. refl);
+      closing = λ marks h. closing_same settled.Nothing t.pending u.pending marks (Started e ∷ marks) (λ _ _. refl) (λ _. refl)
+          (reads_none t.pending u.pending marks (Started e ∷ marks) items (λ _. refl) (λ _. refl));
       minors = λ minor h. rw items h;
       truth = λ opening marks k. k;
     })
@@ -226,7 +229,7 @@ takes_flush message t history was is =
       hears = λ marks h. (record { pending = refl; ids = refl; posted = refl; issued = refl }, refl);
       agrees = λ marks h. agrees_flushed t marks h;
       closes = refl;
-      closing = λ marks h. record { moves = λ image tr. record { spares = record { disk = λ p q. refl; sure = λ p q s. s }; tells = tt }; joins = tt; leaves = tt };
+      closing = λ marks h. record { moves = λ image tr. record { spares = record { disk = λ p q. refl; sure = λ p q s. s }; tells = tt }; joins = tt; leaves = tt; reads = reads_none t.pending t.pending marks (Flush ∷ marks) refl (λ _. refl) (λ _. refl) };
       minors = λ minor h. h;
       truth = λ opening marks k. k;
     })
@@ -247,7 +250,7 @@ takes_gave_up message t u history was is items posted issued ids current given_u
       hears = λ marks h. (record { pending = items; ids = ids; posted = posted; issued = issued }, current);
       agrees = λ marks h. agrees_gave_up t u marks h items issued ids current given_up;
       closes = ap pending_of items;
-      closing = λ marks h. record { moves = λ image tr. record { spares = record { disk = λ p q. refl; sure = λ p q s. s }; tells = tt }; joins = tt; leaves = tt };
+      closing = λ marks h. record { moves = λ image tr. record { spares = record { disk = λ p q. refl; sure = λ p q s. s }; tells = tt }; joins = tt; leaves = tt; reads = reads_none t.pending u.pending marks (GaveUp ∷ marks) items (λ _. refl) (λ _. refl) };
       minors = λ minor h. rw items h;
       truth = λ opening marks k. k;
     })
@@ -267,7 +270,7 @@ takes_end message t history was is =
       hears = λ marks h. (record { pending = refl; ids = refl; posted = refl; issued = refl }, refl);
       agrees = λ marks h. h;
       closes = refl;
-      closing = λ marks h. record { moves = λ image tr. record { spares = record { disk = λ p q. refl; sure = λ p q s. s }; tells = tt }; joins = tt; leaves = tt };
+      closing = λ marks h. record { moves = λ image tr. record { spares = record { disk = λ p q. refl; sure = λ p q s. s }; tells = tt }; joins = tt; leaves = tt; reads = reads_none t.pending t.pending marks marks refl (λ _. refl) (λ _. refl) };
       minors = λ minor h. h;
       truth = λ opening marks k. k;
     })

@@ -12,9 +12,9 @@ use Rattle.std.specs.List.{list_any}
 use Rattle.marks.specs.Disk.{Contents, HasTrueReplies, disk_after, unsure}
 use Rattle.marks.specs.Marks.{Mark}
 use Rattle.marks.specs.Told.{Complained, Posted, Received, Told, grown}
-use Rattle.reissue.specs.Calls.{Closing, LeavesQuiet}
-use Rattle.reissue.specs.Entries.{begun_of, pending_of}
-use Rattle.marks.specs.Disk.{bytes_read}
+use Rattle.reissue.specs.Calls.{Closing, LeavesQuiet, ReadsOn}
+use Rattle.reissue.specs.Entries.{AllAsk, IsLeft, begun_of, pending_of}
+use Rattle.marks.specs.Disk.{bytes_read, is_read}
 use Rattle.reissue.specs.Moves.{Begun, Closes, Joins, IsBusy, IsQuiet, Spares, Tells, put, state_after}
 use Rattle.reissue.specs.Posts.{OnlyPosts}
 
@@ -82,15 +82,35 @@ bytes_read_posted (Posted to r false ∷ es) marks p o = bytes_read_posted es ma
 bytes_read_posted (Complained e ∷ es) marks p o = absurd o
 bytes_read_posted (Received m ∷ es) marks p o = absurd o
 
+-- and what places were
+is_read_posted : (es : List Told) (marks : List Mark) (p : ℕ) → OnlyPosts es → is_read (grown es marks) p ≡ is_read marks p
+is_read_posted [] marks p o = refl
+is_read_posted (Posted to r true ∷ es) marks p o = is_read_posted es marks p o
+is_read_posted (Posted to r false ∷ es) marks p o = is_read_posted es marks p o
+is_read_posted (Complained e ∷ es) marks p o = absurd o
+is_read_posted (Received m ∷ es) marks p o = absurd o
+
 -- and so what a settled read has
 joins_posted : (res : Settled) (f : ℕ → Option Begun) (es : List Told) (marks : List Mark) → OnlyPosts es
     → Joins res f marks → Joins res f (grown es marks)
-joins_posted (settled.Read t b) f es marks o h = λ r is k lt. h r is k lt ∙ sym (bytes_read_posted es marks (r.start + k) o)
+joins_posted (settled.Read t b) f es marks o h = λ r is k lt.
+    let was = h r is k lt in
+    (was.0 ∙ sym (bytes_read_posted es marks (r.start + k) o), is_read_posted es marks (r.start + k) o ∙ was.1)
 joins_posted (settled.Written t) f es marks o h = tt
 joins_posted settled.Nothing f es marks o h = tt
 joins_posted settled.Flush f es marks o h = tt
 joins_posted settled.GaveUp f es marks o h = tt
 joins_posted settled.End f es marks o h = tt
+
+-- what a message did to what was read
+reads_posted : (ps ts us : List Pending) (marks mid : List Mark) (es : List Told) → OnlyPosts es → us ≡ ts
+    → ReadsOn ps ts marks mid → ReadsOn ps us marks (grown es mid)
+reads_posted ps ts us marks mid es o same h = record {
+  others = λ place none. let k = h.others place none in
+      (bytes_read_posted es mid place o ∙ k.0, is_read_posted es mid place o ∙ k.1);
+  left = λ place l. let k = h.left place (subst (λ (x : List Pending). IsLeft x place) same l) in (k.0, is_read_posted es mid place o ∙ k.1);
+  ask = λ a. subst (λ (x : List Pending). AllAsk x) (sym same) (h.ask a);
+}
 
 -- what a message did, and then posts
 pub closing_posted : (res : Settled) (ps ts us : List Pending) (marks mid : List Mark) (es : List Told)
@@ -111,6 +131,7 @@ closing_posted res ps ts us marks mid es o same c before s h = record {
       };
   joins = joins_posted res (pending_of ps) es mid o h.joins;
   leaves = subst (λ (l : List Pending). LeavesQuiet res (pending_of ps) (pending_of l)) (sym same) h.leaves;
+  reads = reads_posted ps ts us marks mid es o same h.reads;
 }
 
 -- where there is an entry, something is pending

@@ -103,7 +103,7 @@ posts_again t u marks r to d opened waiting a cur lt is items ids current given_
       current = current ∙ a.current;
       given_up = given_up ∙ a.given_up;
       apart = a.apart;
-      joined = joined_like marks (Issued r to ∷ marks) (opened ++ waiting) (λ _. refl) a.joined;
+      joined = joined_like marks (Issued r to ∷ marks) (opened ++ waiting) (λ _ _ h. h) a.joined;
       reads = λ image h. reads_issued image marks r to (opened ++ waiting) (a.reads image h);
       writes = writes_posted t marks r to d opened waiting a (omega arith) is;
     }
@@ -141,7 +141,7 @@ posts_new t u marks r to d opened q ws a cur eq is items ids current given_up is
       current = current ∙ a.current;
       given_up = given_up ∙ a.given_up;
       apart = rw (← lists) a.apart;
-      joined = rw (← lists) (joined_like marks (Issued r to ∷ marks) (opened ++ q ∷ ws) (λ _. refl) a.joined);
+      joined = rw (← lists) (joined_like marks (Issued r to ∷ marks) (opened ++ q ∷ ws) (λ _ _ h. h) a.joined);
       reads = λ image h. rw (← lists) (reads_issued image marks r to (opened ++ q ∷ ws) (a.reads image h));
       writes = λ image. rw (← lists) (writes_posted t marks r to d opened (q ∷ ws) a (omega (arith, eq)) is image);
     }

@@ -29,7 +29,7 @@ agrees_took t marks who now call answer h =
         current = s.current;
         given_up = s.given_up;
         apart = s.apart;
-        joined = joined_like marks more (h.opened ++ h.waiting) (λ _. refl) s.joined;
+        joined = joined_like marks more (h.opened ++ h.waiting) (λ _ _ h. h) s.joined;
         reads = λ image tr. reads_like image marks more (h.opened ++ h.waiting) (λ _. refl) (λ _. refl) (s.reads image tr);
         writes = λ image. wrote_like image marks more (h.opened ++ h.waiting) (λ _. refl) (λ _. refl) (s.writes image);
       };

@@ -5,10 +5,11 @@ use Rattle.message.specs.declared.BlockRequest.{BlockRequest}
 use Rattle.marks.specs.Marks.{Mark, gave_up}
 use Rattle.marks.specs.Acts.{target}
 use Rattle.marks.specs.Open.{greatest, open_requests, IsWellFormed}
-use Rattle.marks.specs.Disk.{Contents, disk_after, bytes_read, unsure, HasTrueReplies}
+use Rattle.marks.specs.Disk.{Contents, disk_after, unsure, HasTrueReplies}
 use Rattle.reissue.specs.declared.pending.Pending.{Pending}
 use Rattle.reissue.specs.declared.table.Table.{Table}
 use Rattle.reissue.specs.Entries.{request_of}
+use Rattle.reissue.specs.Moves.{WasRead}
 
 -- the pending requests that weren't posted to the present endpoint, in rising order of ids
 abbrev pub unposted : Table → List BlockRequest
@@ -60,9 +61,9 @@ abbrev pub AllWrote : Contents → List Mark → List Pending → Type 0
 AllWrote image marks [] = Unit {0}
 AllWrote image marks (p ∷ ps) = (is_write p.request.kind ≡ true → Wrote image marks p) × AllWrote image marks ps
 
--- of a read: what was read so far are the answers' bytes, joined
+-- of a read: what was read so far are the answers' bytes, joined, and each place of it was read
 pub record IsJoined (marks : List Mark) (p : Pending) : Type 0 where
-  pub each : (k : ℕ) → p.start + k < p.request.position → slice_index p.bytes k ≡ bytes_read marks (p.start + k)
+  pub each : (k : ℕ) → p.start + k < p.request.position → WasRead marks (p.start + k) (slice_index p.bytes k)
 
 -- so it is of each read among them
 abbrev pub AllJoined : List Mark → List Pending → Type 0

@@ -4,7 +4,7 @@ use Rattle.message.specs.declared.BlockRequest.{BlockRequest}
 use Rattle.message.specs.declared.Incoming.{Incoming}
 use Rattle.message.specs.declared.Incoming.TheVariants as incoming
 use Rattle.marks.specs.Marks.{Mark}
-use Rattle.marks.specs.Disk.{Contents, HasTrueReplies}
+use Rattle.marks.specs.Disk.{Contents, HasTrueReplies, bytes_read, is_read}
 use Rattle.marks.specs.Told.{Told, Received, grown, received, heard, took_end, took_nothing}
 use Rattle.reissue.specs.declared.ask.Ask.{Ask}
 use Rattle.reissue.specs.declared.ask.Settled.{Settled}
@@ -13,10 +13,10 @@ use Rattle.reissue.specs.declared.pending.Pending.{Pending}
 use Rattle.reissue.specs.declared.table.Table.{Table}
 use Rattle.marks.specs.Opening.{Opening}
 use Rattle.reissue.specs.Moves.{Begun, Touches, IsQuiet, IsBusy, Spares, Moves, Closes, Joins, state_after, request_for, begun_by}
-use Rattle.reissue.specs.Entries.{pending_of, begun_of, AllOfMinor}
+use Rattle.reissue.specs.Entries.{pending_of, begun_of, AllOfMinor, AllAsk, IsLeft}
 use Rattle.reissue.specs.Agrees.{Agrees}
 use Rattle.marks.specs.Acts.{Act, Absorbed, told_of, has_absorbed}
-use Rattle.reissue.specs.Rules.{KeepsRulesBy, acts_on}
+use Rattle.reissue.specs.Rules.{KeepsRulesBy, BeganAmong, acts_on}
 use Rattle.reissue.specs.Hears.{Hears}
 use Rattle.reissue.specs.Posts.{OnlyPosts, accepted_of, PostsInOrder, PostsAfter, due_after, complaints_about}
 
@@ -57,12 +57,21 @@ gives_up settled.Nothing = false
 gives_up settled.Flush = false
 gives_up settled.End = false
 
--- what a message does to the disk, from the one record to the other
+-- What a message does to what was read: outside what was left of the pending requests it stays, and so does in what is left of them
+-- whether it was read; each goes on asking for something.
+pub record ReadsOn (old new : List Pending) (marks more : List Mark) : Type 0 where
+  pub others : (place : ℕ) → (IsLeft old place → ⊥)
+      → (bytes_read more place ≡ bytes_read marks place) × (is_read more place ≡ is_read marks place)
+  pub left : (place : ℕ) → IsLeft new place → IsLeft old place × (is_read more place ≡ is_read marks place)
+  pub ask : AllAsk old → AllAsk new
+
+-- what a message does to the disk and to what was read, from the one record to the other
 pub record Closing (result : Settled) (old new : List Pending) (marks more : List Mark) : Type 0 where
   pub moves : (image : Contents) → HasTrueReplies image more
       → Moves result (pending_of old) (state_after image marks) (state_after image more)
   pub joins : Joins result (pending_of old) more
   pub leaves : LeavesQuiet result (pending_of old) (pending_of new)
+  pub reads : ReadsOn old new marks more
 
 -- what is done on a message before anything is posted: the complaint that is due
 pub record TakesIn (message : Incoming) (result : Settled) (old mid : Table) (before after : List Told) (was is : Truth) : Type 0 where
@@ -140,6 +149,7 @@ pub record Steps (result : Settled) (old new : Table) (before after : List Told)
   pub acts : List Act
   pub told : after ≡ told_of acts ++ before
   pub none_absorbed : has_absorbed acts ≡ false
+  pub began : BeganAmong acts new.pending
   pub message : Incoming
   pub mid : Table
   pub posts : List Told
@@ -172,6 +182,7 @@ pub record Begins (ask : Ask) (old new : Table) (before after : List Told) (was 
   pub acts : List Act
   pub told : after ≡ told_of acts ++ before
   pub none_absorbed : has_absorbed acts ≡ false
+  pub began : BeganAmong acts new.pending
   pub posts : List Told
   pub history : after ≡ posts ++ before
   pub only_posts : OnlyPosts posts

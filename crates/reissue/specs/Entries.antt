@@ -85,6 +85,16 @@ abbrev pub AllOfMinor : ℕ → List Pending → Type 0
 AllOfMinor minor [] = Unit {0}
 AllOfMinor minor (p ∷ ps) = (p.request.minor ≡ minor) × AllOfMinor minor ps
 
+-- the place is in what is left of one of them
+abbrev pub IsLeft : List Pending → ℕ → Type 0
+IsLeft [] place = ⊥
+IsLeft (p ∷ ps) place = ((p.request.position ≤ place) × (place < p.start + p.size)) ⊎ IsLeft ps place
+
+-- each still asks for something
+abbrev pub AllAsk : List Pending → Type 0
+AllAsk [] = Unit {0}
+AllAsk (p ∷ ps) = (0 < p.request.count) × AllAsk ps
+
 -- each pending range misses this one or is the same
 abbrev pub MissesOrSame : ℕ → ℕ → List Pending → Type 0
 MissesOrSame start size [] = Unit {0}

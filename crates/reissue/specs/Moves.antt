@@ -1,10 +1,10 @@
 -- Pending requests and the disk as those who begin requests see them: what each call may change, and what a settled request tells.
-use Rattle.std.specs.Prelude.{◌≡◌, ◌⊎◌, ℕ, ◌+◌, ◌<◌, ◌≤◌, ◌==◌, List, Option, Some, None, Result, Ok, Err, Bool, false, if◌then◌else◌, slice_index}
+use Rattle.std.specs.Prelude.{◌≡◌, ◌⊎◌, ℕ, ◌+◌, ◌<◌, ◌≤◌, ◌==◌, List, Option, Some, None, Result, Ok, Err, Bool, true, false, if◌then◌else◌, slice_index}
 use Rattle.message.specs.declared.Kind.{Kind}
 use Rattle.message.specs.declared.Kind.TheVariants.{Read, Write}
 use Rattle.message.specs.declared.BlockRequest.{BlockRequest}
 use Rattle.marks.specs.Marks.{Mark}
-use Rattle.marks.specs.Disk.{Contents, disk_after, bytes_read, unsure}
+use Rattle.marks.specs.Disk.{Contents, disk_after, bytes_read, is_read, unsure}
 use Rattle.reissue.specs.declared.ask.Ask.{Ask}
 use Rattle.reissue.specs.declared.ask.BeginRefusal.{BeginRefusal}
 use Rattle.reissue.specs.declared.ask.Settled.{Settled}
@@ -95,10 +95,14 @@ Tells settled.Flush pending w = Unit {0}
 Tells settled.GaveUp pending w = Unit {0}
 Tells settled.End pending w = Unit {0}
 
--- a settled read has the bytes of the good answers to it, joined
+-- the place was read, and this is the byte that was read there last
+abbrev pub WasRead : List Mark → ℕ → ℕ → Type 0
+WasRead marks place byte = (byte ≡ bytes_read marks place) × (is_read marks place ≡ true)
+
+-- a settled read has the bytes of the good answers to it, joined: each of its places was read
 abbrev pub Joins : Settled → (ℕ → Option Begun) → List Mark → Type 0
 Joins (settled.Read t bytes) pending marks =
-    (r : Begun) → pending t ≡ Some r → (k : ℕ) → k < r.size → slice_index bytes k ≡ bytes_read marks (r.start + k)
+    (r : Begun) → pending t ≡ Some r → (k : ℕ) → k < r.size → WasRead marks (r.start + k) (slice_index bytes k)
 Joins (settled.Written t) pending marks = Unit {0}
 Joins settled.Nothing pending marks = Unit {0}
 Joins settled.Flush pending marks = Unit {0}

@@ -2,9 +2,10 @@
 use Rattle.std.specs.Prelude.{◌≡◌, ℕ, ◌-◌, List, [], ◌∷◌, ◌++◌, length, drop, ◌&&◌, nat_lt, is_some, None, if◌then◌else◌}
 use Rattle.marks.specs.Marks.{Mark}
 use Rattle.marks.specs.Told.{Told}
-use Rattle.marks.specs.Acts.{Act, Began, AtLink, Outbox, KeepsRules, outbox_after, marks_after, told_of}
+use Rattle.marks.specs.Acts.{Act, Began, Absorbed, AtLink, Outbox, KeepsRules, outbox_after, marks_after, told_of}
 use Rattle.reissue.specs.declared.pending.Pending.{Pending}
 use Rattle.reissue.specs.declared.table.Table.{Table}
+use Rattle.reissue.specs.Entries.{IsAmong}
 use Rattle.reissue.specs.Agrees.{unposted, never_issued}
 
 -- what a table owes its link between two calls
@@ -25,6 +26,13 @@ at_link (t ∷ told) = AtLink t ∷ at_link told
 abbrev pub all_began : List Pending → List Act
 all_began [] = []
 all_began (p ∷ ps) = Began p.request ∷ all_began ps
+
+-- each request that became pending in these acts is one of these, which are pending
+abbrev pub BeganAmong : List Act → List Pending → Type 0
+BeganAmong [] ps = Unit {0}
+BeganAmong (Began r ∷ acts) ps = ((p : Pending) × IsAmong p ps × (p.request ≡ r)) × BeganAmong acts ps
+BeganAmong (Absorbed message ∷ acts) ps = BeganAmong acts ps
+BeganAmong (AtLink told ∷ acts) ps = BeganAmong acts ps
 
 -- what became pending on a message: the last request, where it got an id
 abbrev pub began_on : Table → Table → List Act

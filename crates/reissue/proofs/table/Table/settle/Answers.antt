@@ -5,6 +5,7 @@ use Rattle.reissue.specs.declared.pending.Pending.{Pending}
 use Rattle.reissue.proofs.Answering.{taken, agrees_rest, agrees_done, done_reads, done_joined}
 use Rattle.reissue.proofs.Writes.{spares_answered}
 use Rattle.reissue.proofs.Closing.{tickets_out, closes_rest, closes_read, closes_written, closing_nothing, closing_read, closing_written, among_here, done_writes}
+use Rattle.reissue.proofs.Left.{reads_out, reads_rest}
 use Rattle.reissue.proofs.Settling.{issued_within, answered_whole, answered_part, minors_rest, minors_push, minor_there}
 use Rattle.reissue.proofs.table.Table.settle.Goals as goal
 
@@ -70,6 +71,9 @@ returns-then-rest-gt0-clause-closing c = λ marks h place m from.
     h place m from o.value o.items o.issued o.ids o.current o.given_up in
     let i = among_here c.args.self.now.pending c.args.at c.take_out-entry.result lt o.value in
     closing_nothing _ _ marks _ (λ image. spares_answered image marks c.args.reply.now c.take_out-entry.result c.args.n c.args.self.now.pending x.there m x.within c.args.self.now.numbers.distinct i)
+    (reads_rest c.args.self.now.pending c.take_out-entry.new.self.pending _ marks c.args.reply.now c.take_out-entry.result c.with_answer-rest.result c.args.at c.args.n
+    x.there m x.within lt o.value o.items c.push.ensures.items (rw x.holds.items x.apart) c.with_answer-rest.ensures.start c.with_answer-rest.ensures.size
+    c.with_answer-rest.ensures.position (omega (arith, c.if-rest-gt0.true)))
 
 pub returns-then-rest-gt0-clause-minors : goal.returns-then-rest-gt0-clause-minors
 returns-then-rest-gt0-clause-minors c = λ minor h.
@@ -120,6 +124,8 @@ returns-in-Read-clause-closing c = λ marks h place m from.
     x m tr k w.start w.size w.position none (w.before k) (w.moved k))
     (done_joined c.args.self.now c.take_out-entry.new.self marks c.args.reply.now c.take_out-entry.result c.with_answer-rest.result c.args.n
     x m k w.start w.size w.position none (w.before k) (w.moved k))
+    (reads_out c.args.self.now.pending c.take_out-entry.new.self.pending marks c.args.reply.now c.take_out-entry.result c.args.at c.args.n
+    x.there m x.within lt o.value o.items (rw x.holds.items x.apart))
 
 pub returns-in-Read-clause-minors : goal.returns-in-Read-clause-minors
 returns-in-Read-clause-minors c = λ minor h. rw c.take_out-entry.ensures.items (minors_rest minor c.args.self.now.pending c.args.at h)
@@ -162,6 +168,8 @@ returns-in-Write-clause-closing c = λ marks h place m from.
     (λ image. done_writes c.args.self.now c.take_out-entry.new.self marks image c.args.reply.now c.take_out-entry.result c.with_answer-rest.result c.args.n
     x m k w.start w.size w.position w.count (omega (arith, c.if-rest-gt0.false)) (w.begun k))
     (rw x.holds.items x.apart)
+    (reads_out c.args.self.now.pending c.take_out-entry.new.self.pending marks c.args.reply.now c.take_out-entry.result c.args.at c.args.n
+    x.there m x.within lt o.value o.items (rw x.holds.items x.apart))
 
 pub returns-in-Write-clause-minors : goal.returns-in-Write-clause-minors
 returns-in-Write-clause-minors c = λ minor h. rw c.take_out-entry.ensures.items (minors_rest minor c.args.self.now.pending c.args.at h)
