@@ -10,6 +10,7 @@ use Rattle.tree.specs.ZonesNeeded.{zones_needed}
 use Rattle.tree.specs.Space.{numbers_in_zone, zones_of, pages_of}
 use Rattle.tree.proofs.Maps.{put-same, put-other}
 use Rattle.volume.specs.declared.Inode.{Inode}
+use Rattle.volume.specs.Reading.{is_inode}
 use Rattle.volume.specs.Pieces.{Pieces}
 use Rattle.volume.specs.Nodes.{file_of, is_marked, is_mode, is_directory_mode, node_of, nodes_of}
 use Rattle.volume.specs.Entries.{is_directory_inode}
@@ -66,7 +67,7 @@ module _ (g : Geometry) (v w : Pieces) (n : ℕ) (may : MayChange g v n) (rules 
     (others : (m : ℕ) → m ≢ n → w.inodes m ≡ record (v.inodes m) { zones = (w.inodes m).zones })
     (files : (m : ℕ) → IsTrue (is_marked g v m) → m ≢ n → file_of g w (w.inodes m) ≡ file_of g v (v.inodes m)) where
   still_marked : IsTrue (is_marked g w n)
-  still_marked = ap (λ (f : ℕ → Bool). Rattle.volume.specs.Reading.is_inode g n && f n) marks ∙ may.marked
+  still_marked = ap (λ (f : ℕ → Bool). is_inode g n && f n) marks ∙ may.marked
 
   plain_nodes : nodes_of g (plain w n) ≡ put (nodes_of g (plain v n)) n (Some (node_from ((plain w n).inodes n) (file_of g w ((plain w n).inodes n))))
   plain_nodes = nodes_change_with g (plain v n) (plain w n) n marks may.marked
@@ -102,7 +103,7 @@ module _ (g : Geometry) (v w : Pieces) (n : ℕ) (may : MayChange g v n) (rules 
 pub may_change_after : (g : Geometry) (v w : Pieces) (n : ℕ) (i : Inode) (f : File) → MayChange g v n → BecomesFile g v w n i f → MayChange g w n
 may_change_after g v w n i f may b = record {
   geometry = may.geometry;
-  marked = ap (λ (h : ℕ → Bool). Rattle.volume.specs.Reading.is_inode g n && h n) b.marks ∙ may.marked;
+  marked = ap (λ (h : ℕ → Bool). is_inode g n && h n) b.marks ∙ may.marked;
   rules = b.rules;
 }
 
@@ -111,12 +112,8 @@ pub becomes_then : (g : Geometry) (u v w : Pieces) (n : ℕ) (i j : Inode) (f h 
     → BecomesFile g u w n j h
 becomes_then g u v w n i j f h may a b = becomes g u w n may b.rules (b.marks ∙ a.marks)
     (λ m d. b.others m d ∙ (λ t. record (a.others m d t) { zones = (w.inodes m).zones }))
-    (λ m is d. b.files m (ap (λ (k : ℕ → Bool). Rattle.volume.specs.Reading.is_inode g m && k m) a.marks ∙ is) d ∙ a.files m is d)
+    (λ m is d. b.files m (ap (λ (k : ℕ → Bool). is_inode g m && k m) a.marks ∙ is) d ∙ a.files m is d)
     j h b.inode b.file
-
--- attributes but size and zones
-abbrev pub attributes_of : Inode → Inode
-attributes_of i = record i { size = 0; zones = Rattle.std.specs.Prelude.[] }
 
 -- a change that keeps the attributes, after one that does
 pub becomes_again : (g : Geometry) (u v w : Pieces) (n : ℕ) (i : Inode) (f h : File) → MayChange g u n → BecomesFile g u v n i f → BecomesFile g v w n (v.inodes n) h

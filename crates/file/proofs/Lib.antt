@@ -8,3 +8,4 @@ pub mod Rest
 pub mod Resizing
 pub mod Chunk
 pub mod SoFar
+pub mod Touched

@@ -20,6 +20,7 @@ use Rattle.zone_laws.proofs.Full.{not_zero}
 use Rattle.zone_laws.proofs.Stay.{resized_file, resize_keeps}
 use Rattle.zone_laws.proofs.Files.{same_file}
 use Rattle.zone.specs.Files.{MayDetach, LetGo, DetachesFrom, cut_at}
+use Rattle.zone.proofs.Held.{inode_is}
 use Rattle.file.specs.Changing.{MayChange, BecomesFile, file_at, IsPadded, PadsRest, MayResize, Resized, SetsSize, Stamps, stamped}
 use Rattle.file.proofs.Becoming.{becomes, becomes_again, may_change_after}
 use Rattle.file.proofs.Rest.{wide}
@@ -97,7 +98,7 @@ module _ (g : Geometry) (d x y f : Disk) (n size : ℕ) (i : Inode) (pads : Pads
   resizes = record { head = λ b low. alters.head b low ∙ ap (λ (z : Disk). z b) same ∙ pads.head b low; becomes = became }
 
 pub may_store : (g : Geometry) (d x y : Disk) (n size : ℕ) → PadsRest g n d x → y ≡ x → MayResize g (pieces g d) n size → IsTrue (is_inode g n)
-may_store g d x y n size pads same may = Rattle.zone.proofs.Held.inode_is g (pieces g d) n may.change.marked
+may_store g d x y n size pads same may = inode_is g (pieces g d) n may.change.marked
 
 -- the times
 pub stamps : (g : Geometry) (d x f : Disk) (n now : ℕ) (i : Inode) → x ≡ d → i ≡ (pieces g d).inodes n → Alters g (with_inode (pieces g x) n (stamped now i)) x f → Stamps g n now d f

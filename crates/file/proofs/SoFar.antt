@@ -8,7 +8,9 @@ use Rattle.std.proofs.Math.ListN.{take, drop, length-take}
 use Rattle.layout.specs.declared.Geometry.{Geometry}
 use Rattle.tree.specs.Tree.{File}
 use Rattle.tree.specs.Changes.{file_after_write}
+use Rattle.std.proofs.Math.Seq.{take-add}
 use Rattle.tree.specs.Space.{numbers_in_zone}
+use Rattle.tree.specs.ZonesNeeded.{zones_needed}
 use Rattle.volume.specs.declared.Inode.{Inode}
 use Rattle.volume.specs.Reading.{Disk}
 use Rattle.volume.specs.Pieces.{Pieces, pieces}
@@ -54,8 +56,8 @@ module _ (g : Geometry) (v : Pieces) (n at : ℕ) (a b : List ℕ) (may : MayWri
         let now : (file_at g u n).held ≡ (written_at g v n at a).held = ap (λ (x : File). x.held) done.file in
         let then_ : (written_at g u n (at + length a) b).held ≡ (written_at g v n at (a ++ b)).held =
         ap (λ (x : File). (file_after_write g x (at + length a) b).held) done.file ∙ ap (λ (x : File). x.held) join in
-        let x = ap (Rattle.tree.specs.ZonesNeeded.zones_needed k) now in
-        let y = ap (Rattle.tree.specs.ZonesNeeded.zones_needed k) then_ in
+        let x = ap (zones_needed k) now in
+        let y = ap (zones_needed k) then_ in
         let s : (u.inodes n).size ≡ (written_at g v n at a).size = ap (λ (x : File). x.size) done.file in
         let z : (written_at g v n at a).size ≡ (v.inodes n).size = cond-false (nat_lt (v.inodes n).size (at + length a)) _ _ (le-ltb _ (at + length a) f.inside) in
         record {
@@ -95,7 +97,7 @@ module _ (g : Geometry) (n at : ℕ) (bytes : List ℕ) (done end : ℕ) (up : d
   parts : take end bytes ≡ take done bytes ++ part
   parts =
       let sum : done + (end - done) ≡ end = omega (arith, up) in
-      sym (ap (λ x. take x bytes) sum) ∙ Rattle.std.proofs.Math.Seq.take-add done (end - done) bytes
+      sym (ap (λ x. take x bytes) sum) ∙ take-add done (end - done) bytes
 
   whole : bytes ≡ take done bytes ++ drop done bytes
   whole = sym (take-append-drop done bytes)
@@ -227,8 +229,8 @@ module _ (g : Geometry) (d e : Disk) (n at : ℕ) (bytes : List ℕ) (grow : Gro
         let all = may.room in
         let x : (file_at g mid n).held ≡ old.held = ap (λ (h : File). h.held) longer.file in
         let y : (written_at g mid n at bytes).held ≡ (written_at g before n at bytes).held = ap (λ (h : File). (file_after_write g h at bytes).held) longer.file in
-        let a = ap (Rattle.tree.specs.ZonesNeeded.zones_needed k) x in
-        let b = ap (Rattle.tree.specs.ZonesNeeded.zones_needed k) y in
+        let a = ap (zones_needed k) x in
+        let b = ap (zones_needed k) y in
         let s : (mid.inodes n).size ≡ grown old end = ap (λ (h : File). h.size) longer.file in
         let l = least in
         record {

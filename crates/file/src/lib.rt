@@ -3,8 +3,10 @@
 
 pub mod changing;
 pub mod reading;
+pub mod room;
 pub mod writing;
 
 pub use changing::{set_size, stamp, write_at};
 pub use reading::read_at;
+pub use room::has_room;
 pub use writing::write_page;
