@@ -2,3 +2,10 @@ pub mod Pages
 pub mod Parts
 pub mod Joined
 pub mod Written
+pub mod Becoming
+pub mod Sizes
+pub mod Rest
+pub mod Resizing
+pub mod Chunk
+pub mod SoFar
+pub mod Touched

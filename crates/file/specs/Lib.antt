@@ -1,3 +1,4 @@
 -- What reading and writing files means.
 pub mod Reading
 pub mod Writing
+pub mod Changing

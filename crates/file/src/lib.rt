@@ -1,8 +1,12 @@
 //! Files: the bytes of an inode, which stand in the zones of its pages.
 #![tactic(auto)]
 
+pub mod changing;
 pub mod reading;
+pub mod room;
 pub mod writing;
 
+pub use changing::{set_size, stamp, write_at};
 pub use reading::read_at;
+pub use room::has_room;
 pub use writing::write_page;

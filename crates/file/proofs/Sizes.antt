@@ -1,0 +1,63 @@
+-- Pages and sizes.
+use Rattle.std.proofs.Common.{◌≡◌, ◌<◌, ◌≤◌, ◌+◌, ◌-◌, ◌*◌, ◌/◌, ◌%◌, ℕ, ap, ◌∙◌, arith}
+use mathlib.Core.Logic.{inl, inr}
+use Rattle.std.proofs.lemmas.Bool.{cases_lt}
+use Rattle.std.proofs.lemmas.Nat.{div-add-mod', div-mul-add, mod-mul-add, le-div}
+use Rattle.std.proofs.Math.Nat.{div-mul-le_self, mul-le-mul_right}
+
+module _ (w : ℕ) (wide : 0 < w) where
+  -- a page that so many bytes cover begins below their end
+  pub begins : (size q : ℕ) → q < (size + w - 1) / w → q * w < size
+  begins size q below =
+      let pages : ℕ = (size + w - 1) / w in
+      let covered : pages * w ≤ size + w - 1 = div-mul-le_self (size + w - 1) w in
+      let more : (q + 1) * w ≤ pages * w = mul-le-mul_right {m = q + 1} {n = pages} w (omega arith) in
+      let next : (q + 1) * w ≡ q * w + w = omega arith in
+      omega arith
+
+  -- and one that begins there is covered
+  pub covered : (size q : ℕ) → q * w < size → q < (size + w - 1) / w
+  covered size q below =
+      let next : (q + 1) * w ≡ q * w + w = omega arith in
+      let up : q + 1 ≤ (size + w - 1) / w = le-div (q + 1) (size + w - 1) w wide (omega arith) in
+      omega arith
+
+  -- the page of a byte begins at it or before
+  pub page_begins : (q : ℕ) → q / w * w ≤ q
+  page_begins q = div-mul-le_self q w
+
+  -- pages begin in their order
+  pub in_order : (p q : ℕ) → p ≤ q / w → p * w ≤ q
+  in_order p q low =
+      let up : p * w ≤ q / w * w = mul-le-mul_right {m = p} {n = q / w} w low in
+      let b = page_begins q in
+      omega (arith, up, b)
+
+  pub ends_after : (p q : ℕ) → q / w < p → q < p * w
+  ends_after p q low = elim (cases_lt q (p * w)) [
+    | inl l ↦ l
+    | inr far ↦ let up : p ≤ q / w = le-div p q w wide far in absurd (omega arith)
+  ]
+
+  -- a byte past the end, in a page that begins before it, is on the last page, behind its last byte
+  module _ (size q : ℕ) (past : size ≤ q) (before : q / w * w < size) where
+    r : ℕ
+    r = size - q / w * w
+
+    small : size - q / w * w < w
+    small = let whole = div-add-mod' q w in omega (arith, whole, past, before)
+
+    spot : size ≡ q / w * w + (size - q / w * w)
+    spot = omega (arith, before)
+
+    pub rest_page : size / w ≡ q / w
+    rest_page = ap (λ x. x / w) spot ∙ div-mul-add (q / w) w (size - q / w * w) small
+
+    rest_is : size % w ≡ size - q / w * w
+    rest_is = ap (λ x. x % w) spot ∙ mod-mul-add (q / w) w (size - q / w * w) small
+
+    pub rest_from : size % w ≤ q % w
+    rest_from = let whole = div-add-mod' q w in let e = rest_is in omega (arith, whole, e, past, before)
+
+    pub rest_some : size % w ≡ 0 → ⊥
+    rest_some none = let e = rest_is in omega (arith, e, none, before)

@@ -1,0 +1,177 @@
+//! The bytes of files, changed: writes of any length, and sizes.
+
+ghost use Rattle.std.specs.Prelude.{◌≡◌, ◌≤◌, ◌<◌, ◌+◌, ◌/◌, ◌%◌, length, IfErr, IsTrue};
+ghost use Rattle.tree.specs.Space.{pages_of};
+ghost use Rattle.layout.specs.Places.{IsGeometry};
+ghost use Rattle.volume.specs.Pieces.{pieces};
+ghost use Rattle.volume.specs.Reading.{is_inode};
+ghost use Rattle.store.specs.World.{Turns, Reads};
+ghost use Rattle.store.specs.Halts.{Ends, IsHalt};
+ghost use Rattle.store.specs.Volume.{IsOn};
+ghost use Rattle.file.specs.Changing.{MayChange, MayWriteAt, WritesAt, MayWriteInside, WritesInside, MayResize, Resized, SetsSize, PadsRest, Stamps, Grows};
+
+use crate::writing::write_page;
+use inode_table::{load, store};
+use layout::Geometry;
+use store::{Blocks, Halt};
+use zone::pages::{attach, detach_from};
+use zone::places::lookup;
+
+/// Makes the bytes zeros that stand in the last page behind the end of a file.
+fn pad_rest<B: Blocks>(blocks: &mut B, geometry: &Geometry, number: u32) -> Result<(), Halt>
+    requires on { IsOn B.world geometry.now blocks.old }
+    ensures turns { Turns B.world blocks.old blocks.new (λ d e. Ends result
+        (λ x. PadsRest geometry.now number d e) (MayChange geometry.now (pieces geometry.now d) number)) }
+    ensures halt { IfErr result (λ h. IsHalt B.world blocks.new h) }
+{
+    let inode = load(blocks, geometry, number)?;
+    let width = geometry.block_size as usize;
+    let from = inode.size as usize % width;
+    if from == 0 {
+        return Ok(());
+    }
+    let zone = lookup(blocks, geometry, &inode, inode.size / geometry.block_size)?;
+    if zone == 0 {
+        return Ok(());
+    }
+    write_page(blocks, geometry, zone, from, &[0; 4096][from..width])
+}
+
+/// Sets the size of an inode of which no page at or past that size is held. Bytes up to it that weren't the file's are zeros.
+fn resize<B: Blocks>(
+    blocks: &mut B,
+    geometry: &Geometry,
+    number: u32,
+    size: u32,
+) -> Result<(), Halt>
+    requires on { IsOn B.world geometry.now blocks.old }
+    ensures turns { Turns B.world blocks.old blocks.new (λ d e. Ends result
+        (λ x. Resized geometry.now number size d e) (MayResize geometry.now (pieces geometry.now d) number size)) }
+    ensures halt { IfErr result (λ h. IsHalt B.world blocks.new h) }
+{
+    pad_rest(blocks, geometry, number)?;
+    let mut inode = load(blocks, geometry, number)?;
+    inode.size = size;
+    store(blocks, geometry, number, &inode)
+}
+
+/// Makes the file of an inode that long. What lies past the size is gone, its pages and indirect blocks are let go; bytes past the
+/// old end are zeros, of pages that aren't held. The times stay. Unsound where the rules are broken, or the number is no inode's.
+pub fn set_size<B: Blocks>(
+    blocks: &mut B,
+    geometry: &Geometry,
+    number: u32,
+    size: u32,
+) -> Result<(), Halt>
+    requires on { IsOn B.world geometry.now blocks.old }
+    requires end { size ≤ 2147483647 }
+    ensures turns { Turns B.world blocks.old blocks.new (λ d e. Ends result
+        (λ x. SetsSize geometry.now number size d e) (MayChange geometry.now (pieces geometry.now d) number)) }
+    ensures halt { IfErr result (λ h. IsHalt B.world blocks.new h) }
+{
+    let pages = (size + geometry.block_size - 1) / geometry.block_size;
+    detach_from(blocks, geometry, number, pages)?;
+    resize(blocks, geometry, number, size)
+}
+
+/// Sets the time of the last change of an inode's bytes or names, and that of its attributes, in seconds. Unsound where the number
+/// is no inode's.
+pub fn stamp<B: Blocks>(
+    blocks: &mut B,
+    geometry: &Geometry,
+    number: u32,
+    now: u32,
+) -> Result<(), Halt>
+    requires on { IsOn B.world geometry.now blocks.old }
+    ensures turns { Turns B.world blocks.old blocks.new (λ d e. Ends result
+        (λ x. Stamps geometry.now number now d e) (MayChange geometry.now (pieces geometry.now d) number)) }
+    ensures halt { IfErr result (λ h. IsHalt B.world blocks.new h) }
+{
+    let mut inode = load(blocks, geometry, number)?;
+    inode.mtime = now;
+    inode.ctime = now;
+    store(blocks, geometry, number, &inode)
+}
+
+/// Makes the file of an inode that long where it is shorter.
+fn grow<B: Blocks>(blocks: &mut B, geometry: &Geometry, number: u32, size: u32) -> Result<(), Halt>
+    requires on { IsOn B.world geometry.now blocks.old }
+    ensures turns { Turns B.world blocks.old blocks.new (λ d e. Ends result
+        (λ x. Grows geometry.now number size d e) (MayChange geometry.now (pieces geometry.now d) number)) }
+    ensures halt { IfErr result (λ h. IsHalt B.world blocks.new h) }
+{
+    let inode = load(blocks, geometry, number)?;
+    if inode.size < size {
+        resize(blocks, geometry, number, size)
+    } else {
+        Ok(())
+    }
+}
+
+/// Writes bytes of one page below the end of a file, whose page gets a zone if it has none.
+fn write_chunk<B: Blocks>(
+    blocks: &mut B,
+    geometry: &Geometry,
+    number: u32,
+    at: u32,
+    bytes: &[u8],
+) -> Result<(), Halt>
+    requires on { IsOn B.world geometry.now blocks.old }
+    requires some { 0 < length bytes.now }
+    requires end { at + length bytes.now ≤ 2147483647 }
+    requires within { at % geometry.now.block_size + length bytes.now ≤ geometry.now.block_size }
+    ensures turns { Turns B.world blocks.old blocks.new (λ d e. Ends result
+        (λ x. WritesInside geometry.now number at bytes.now d e) (MayWriteInside geometry.now (pieces geometry.now d) number at bytes.now)) }
+    ensures halt { IfErr result (λ h. IsHalt B.world blocks.new h) }
+{
+    let width = geometry.block_size;
+    let zone = attach(blocks, geometry, number, at / width)?;
+    write_page(blocks, geometry, zone, (at % width) as usize, bytes)
+}
+
+/// Writes bytes below the end of a file, page by page.
+fn write_inside<B: Blocks>(
+    blocks: &mut B,
+    geometry: &Geometry,
+    number: u32,
+    at: u32,
+    bytes: &[u8],
+) -> Result<(), Halt>
+    requires on { IsOn B.world geometry.now blocks.old }
+    requires some { 0 < length bytes.now }
+    requires end { at + length bytes.now ≤ 2147483647 }
+    ensures turns { Turns B.world blocks.old blocks.new (λ d e. Ends result
+        (λ x. WritesInside geometry.now number at bytes.now d e) (MayWriteInside geometry.now (pieces geometry.now d) number at bytes.now)) }
+    ensures halt { IfErr result (λ h. IsHalt B.world blocks.new h) }
+{
+    let width = geometry.block_size as usize;
+    let mut done = 0;
+    while done < bytes.len() {
+        let place = at as usize + done;
+        let end = bytes.len().min(done + width - place % width);
+        write_chunk(blocks, geometry, number, place as u32, &bytes[done..end])?;
+        done = end;
+    }
+    Ok(())
+}
+
+/// Writes these bytes into the file of an inode, from a place on: the pages that they touch are held then, and bytes between an
+/// old end and the place are zeros. The times stay. Zones enough are asked for before, by `has_room`. Unsound where the rules are
+/// broken, no zone is free where one is due, or the number is no inode's.
+pub fn write_at<B: Blocks>(
+    blocks: &mut B,
+    geometry: &Geometry,
+    number: u32,
+    at: u32,
+    bytes: &[u8],
+) -> Result<(), Halt>
+    requires on { IsOn B.world geometry.now blocks.old }
+    requires some { 0 < length bytes.now }
+    requires end { at + length bytes.now ≤ 2147483647 }
+    ensures turns { Turns B.world blocks.old blocks.new (λ d e. Ends result
+        (λ x. WritesAt geometry.now number at bytes.now d e) (MayWriteAt geometry.now (pieces geometry.now d) number at bytes.now)) }
+    ensures halt { IfErr result (λ h. IsHalt B.world blocks.new h) }
+{
+    grow(blocks, geometry, number, at + bytes.len() as u32)?;
+    write_inside(blocks, geometry, number, at, bytes)
+}
