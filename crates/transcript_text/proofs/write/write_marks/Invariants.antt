@@ -1,0 +1,9 @@
+use Rattle.std.proofs.Common.{take}
+use Rattle.std.specs.Io.KnownBytes.{Appends}
+use Rattle.transcript_text.specs.Text.{marks_text}
+use Rattle.transcript_text.proofs.write.write_marks.Given as goal
+
+-- the marks so far went out
+abbrev pub invariant-loop-mark : goal.invariant-loop-mark
+invariant-loop-mark g l =
+    Appends (g.W.Write.contents l.fn.to) (g.W.Write.contents l.to) (marks_text (take l.mark-index l.marks))
