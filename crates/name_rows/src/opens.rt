@@ -2,6 +2,7 @@
 
 use descriptors::Descriptors;
 use errno::Errno;
+use std::alloc::{AllocError, Global};
 use std::test::Fail;
 use tree::OpenFlags;
 
@@ -47,19 +48,41 @@ fn seek(opens: &mut Descriptors, fd: u32, position: u32) -> bool {
 }
 
 #[test]
-fn dup_shares_the_position(rt: HostRuntime) -> Result<(), Fail> {
+fn dup_gives_the_lowest_number(rt: HostRuntime) -> Result<(), Fail> {
     let flags = OpenFlags::READ;
     let mut opens = Descriptors::new(rt.alloc())?;
     assert_eq!(rt; opens.put(0, 4, flags), Ok(0));
     assert_eq!(rt; opens.put(0, 4, flags), Ok(1));
     assert_eq!(rt; opens.dup(0, 0), Ok(2));
-    assert!(rt; seek(&mut opens, 2, 77));
+    Ok(())
+}
+
+/// A file that is opened twice; the first open file has a second descriptor, number 2, by which its position is set to 77.
+fn with_a_dup(alloc: Global) -> Result<Descriptors, AllocError> {
+    let mut opens = Descriptors::new(alloc)?;
+    let _ = opens.put(0, 4, OpenFlags::READ);
+    let _ = opens.put(0, 4, OpenFlags::READ);
+    let _ = opens.dup(0, 0);
+    seek(&mut opens, 2, 77);
+    Ok(opens)
+}
+
+#[test]
+fn dup_shares_the_position(rt: HostRuntime) -> Result<(), Fail> {
+    let flags = OpenFlags::READ;
+    let opens = with_a_dup(rt.alloc())?;
     assert_eq!(rt; opens.get(0, 0), Some((4, 77, flags)));
     assert_eq!(rt; opens.get(0, 1), Some((4, 0, flags)));
     assert_eq!(rt; opens.get(0, 2), Some((4, 77, flags)));
     assert_eq!(rt; opens.get(1, 0), None);
+    Ok(())
+}
+
+#[test]
+fn a_dup_stays_open(rt: HostRuntime) -> Result<(), Fail> {
+    let mut opens = with_a_dup(rt.alloc())?;
     assert_eq!(rt; opens.close(0, 0), Ok(None));
-    assert_eq!(rt; opens.get(0, 2), Some((4, 77, flags)));
+    assert_eq!(rt; opens.get(0, 2), Some((4, 77, OpenFlags::READ)));
     assert_eq!(rt; opens.close(0, 2), Ok(Some(4)));
     assert!(rt; opens.is_open(4));
     Ok(())

@@ -89,19 +89,19 @@ fn two_drivers_of_two_kinds(rt: HostRuntime) -> Result<(), Fail> {
 fn starts_wait_longer(rt: HostRuntime) -> Result<(), Fail> {
     let alloc = rt.alloc();
     let mut six = Reincarnation::new(alloc, Policy::default(), drivers(alloc, 6)?)?;
-    let wait = |tick| Seen::WaitUntil(tick);
-    let start = |generation| Seen::Start(disk(generation), generation);
-    assert_eq!(rt; starts_and_ends(&mut six, 0, 1), (start(1), wait(1)));
-    assert_eq!(rt; starts_and_ends(&mut six, 1, 2), (start(2), wait(3)));
-    assert_eq!(rt; outcome(six.on(Event::Tick(2, (0, 0)))), Seen::Nothing);
-    assert_eq!(rt; starts_and_ends(&mut six, 3, 3), (start(3), wait(7)));
-    assert_eq!(rt; outcome(six.on(Event::Tick(6, (0, 0)))), Seen::Nothing);
-    assert_eq!(rt; starts_and_ends(&mut six, 7, 4), (start(4), wait(15)));
-    assert_eq!(rt; outcome(six.on(Event::Tick(14, (0, 0)))), Seen::Nothing);
-    assert_eq!(rt; starts_and_ends(&mut six, 15, 5), (start(5), wait(31)));
-    assert_eq!(rt; outcome(six.on(Event::Tick(30, (0, 0)))), Seen::Nothing);
-    assert_eq!(rt; starts_and_ends(&mut six, 31, 6), (start(6), Seen::GiveUp));
-    assert_eq!(rt; outcome(six.on(Event::Tick(99, (0, 0)))), Seen::Nothing);
+    let rows = [
+        (1, 0, Seen::WaitUntil(1), 0),
+        (2, 1, Seen::WaitUntil(3), 2),
+        (3, 3, Seen::WaitUntil(7), 6),
+        (4, 7, Seen::WaitUntil(15), 14),
+        (5, 15, Seen::WaitUntil(31), 30),
+        (6, 31, Seen::GiveUp, 99),
+    ];
+    for (generation, tick, end, idle) in rows {
+        let start = Seen::Start(disk(generation), generation);
+        assert_eq!(rt; starts_and_ends(&mut six, tick, generation), (start, end));
+        assert_eq!(rt; outcome(six.on(Event::Tick(idle, (0, 0)))), Seen::Nothing);
+    }
     Ok(())
 }
 
@@ -138,14 +138,16 @@ fn the_first_fault_may_be_too_many(rt: HostRuntime) -> Result<(), Fail> {
 fn the_third_miss_is_a_fault(rt: HostRuntime) -> Result<(), Fail> {
     let alloc = rt.alloc();
     let mut two = Reincarnation::new(alloc, Policy::default(), drivers(alloc, 2)?)?;
-    assert_eq!(rt;
-        outcome(two.on(Event::Tick(0, (0, 0)))),
-        Seen::Start(disk(1), 1)
-    );
-    assert_eq!(rt; outcome(two.on(Event::Tick(1, (1, 1)))), Seen::Nothing);
-    assert_eq!(rt; outcome(two.on(Event::Tick(2, (1, 1)))), Seen::Nothing);
-    assert_eq!(rt; outcome(two.on(Event::Tick(3, (1, 1)))), Seen::Nothing);
-    assert_eq!(rt; outcome(two.on(Event::Tick(4, (1, 1)))), Seen::WaitUntil(5));
+    let rows = [
+        (0, (0, 0), Seen::Start(disk(1), 1)),
+        (1, (1, 1), Seen::Nothing),
+        (2, (1, 1), Seen::Nothing),
+        (3, (1, 1), Seen::Nothing),
+        (4, (1, 1), Seen::WaitUntil(5)),
+    ];
+    for (tick, pulse, seen) in rows {
+        assert_eq!(rt; outcome(two.on(Event::Tick(tick, pulse))), seen);
+    }
     Ok(())
 }
 
