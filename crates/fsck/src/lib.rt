@@ -1,4 +1,4 @@
-//! The check of a volume: its verdict, whatever the bytes are.
+//! Making and checking volumes: the image of a new one, and the verdict on an image, whatever its bytes are.
 #![tactic(auto)]
 
 mod blocks;
@@ -10,19 +10,22 @@ mod zones;
 ghost use Rattle.std.specs.Prelude.{◌≡◌, IfOk};
 ghost use Rattle.volume.specs.Verdict.{place_limit, tests, verdict_of};
 ghost use Rattle.image.specs.Contents.{contents};
-ghost use Rattle.fsck.specs.Shown.{HasItsGeometry, shown};
+ghost use Rattle.fsck.specs.Shown.{HasItsGeometry, TellsWhetherTree, shown};
 ghost use Rattle.fsck.specs.Parts.{first_of};
 
 use image::Image;
+pub use new_volume::{MkfsRefusal, mkfs};
 use std::alloc::Global;
 pub use verdict::{Clean, OutOfMemory, Verdict};
 use volume::Finding;
 
 /// The verdict on an image: the true finding with the least number, and of these the least place, or clean. It answers for any bytes,
-/// in time in proportion to the image. `OutOfMemory` says that no memory was found, and nothing of the image.
+/// in time in proportion to the image. It is clean exactly where the image holds a tree without an open file. `OutOfMemory` says that no
+/// memory was found, and nothing of the image.
 pub fn check(alloc: Global, image: &[u8]) -> Result<Verdict, OutOfMemory>
     ensures verdict { IfOk result (λ v. shown v ≡ verdict_of image.now) }
     ensures geometry { IfOk result (HasItsGeometry image.now) }
+    ensures tree { IfOk result (TellsWhetherTree image.now) }
 {
     let volume = match Image::parse(image) {
         Ok(volume) => volume,

@@ -1,9 +1,8 @@
 -- Writes one after another.
-use Rattle.std.proofs.Common.{◌≡◌, ℕ, ◌+◌, ◌-◌, ◌≤◌, ◌<◌, List, [], ◌++◌, length, take, drop, sym, ap, ◌∙◌, append_assoc, append-nil, arith, length-drop, codes}
+use Rattle.std.proofs.Common.{◌≡◌, ℕ, ◌+◌, ◌-◌, ◌≤◌, ◌<◌, List, ◌++◌, length, take, drop, sym, ap, ◌∙◌, append_assoc, arith, length-append, length-drop}
 use Rattle.std.proofs.lemmas.Grind.{common_steps}
 use Rattle.std.proofs.Math.Seq.{take-add}
-use Rattle.std.specs.Prelude.{Option, Some, None, Result, Ok, Err, OnOk, OnErr, IfSome}
-use Rattle.std.specs.Fmt.{◌++?◌}
+use Rattle.std.specs.Prelude.{Option, Some, None, Result, Ok, Err, OnOk, OnErr}
 use Rattle.std.specs.Io.KnownBytes.{Appends}
 use Rattle.std.proofs.lemmas.List.{take-append-drop}
 use Rattle.output.specs.Output.{AppendsPart}
@@ -14,14 +13,19 @@ appends_more (Some xs) None c p q h k = absurd h
 appends_more (Some xs) (Some ys) None p q h k = absurd k
 appends_more (Some xs) (Some ys) (Some zs) p q h k = k ∙ ap (λ l. l ++ q) h ∙ append_assoc xs p q
 
--- the front of a text is a part of it
-pub part_of_front : (a b : Option (List ℕ)) (text : List ℕ) (n : ℕ) → Appends a b (take n text) → AppendsPart a b text
-part_of_front a b text n h = (take n text, drop n text, sym (take-append-drop n text), h)
+-- the front of a text is a part of it, where some is left
+pub part_of_front : (a b : Option (List ℕ)) (text : List ℕ) (n : ℕ) → n < length text → Appends a b (take n text) → AppendsPart a b text
+part_of_front a b text n less h = (take n text, drop n text, sym (take-append-drop n text), omega (arith, length-drop n text), h)
 
 -- a part of what comes next is a part of the whole
 pub part_of_more : (a b c : Option (List ℕ)) (done line more all : List ℕ) → all ≡ done ++ (line ++ more) → Appends a b done → AppendsPart b c line → AppendsPart a c all
-part_of_more a b c done line more all whole h (part, rest, split, k) =
-    (done ++ part, rest ++ more, whole ∙ ap (λ l. done ++ (l ++ more)) split ∙ ap (λ l. done ++ l) (append_assoc part rest more) ∙ sym (append_assoc done part (rest ++ more)), appends_more a b c done part h k)
+part_of_more a b c done line more all whole h (part, rest, split, some, k) = (
+  done ++ part,
+  rest ++ more,
+  whole ∙ ap (λ l. done ++ (l ++ more)) split ∙ ap (λ l. done ++ l) (append_assoc part rest more) ∙ sym (append_assoc done part (rest ++ more)),
+  omega (arith, length-append rest more),
+  appends_more a b c done part h k,
+)
 
 -- the front of a text grows by the front of what is left
 pub front_more : (a b c : Option (List ℕ)) (text : List ℕ) (at n : ℕ) → at ≤ length text → Appends a b (take at text)
@@ -40,12 +44,13 @@ on_err (Err e) P p = p
 
 -- a part of a front is a part of the whole
 pub part_of_whole : (a b : Option (List ℕ)) (front back : List ℕ) → AppendsPart a b front → AppendsPart a b (front ++ back)
-part_of_whole a b front back (part, rest, split, h) = (part, rest ++ back, ap (λ l. l ++ back) split ∙ append_assoc part rest back, h)
+part_of_whole a b front back (part, rest, split, some, h) =
+    (part, rest ++ back, ap (λ l. l ++ back) split ∙ append_assoc part rest back, omega (arith, length-append rest back), h)
 
 -- a front and a part of the back are a part of the whole
 pub part_of_back : (a b c : Option (List ℕ)) (front back : List ℕ) → Appends a b front → AppendsPart b c back → AppendsPart a c (front ++ back)
-part_of_back a b c front back h (part, rest, split, k) =
-    (front ++ part, rest, ap (λ l. front ++ l) split ∙ sym (append_assoc front part rest), appends_more a b c front part h k)
+part_of_back a b c front back h (part, rest, split, some, k) =
+    (front ++ part, rest, ap (λ l. front ++ l) split ∙ sym (append_assoc front part rest), some, appends_more a b c front part h k)
 
 -- two writes one after the other: all of both, or all of the first and a part of the second
 pub second_ok : {E : Type 0} (r : Result (Unit {0}) E) (a b c : Option (List ℕ)) (front back : List ℕ) → Appends a b front → OnOk r (Appends b c back) → OnOk r (Appends a c (front ++ back))
@@ -55,17 +60,3 @@ second_ok (Err e) a b c front back h k = tt
 pub second_err : {E : Type 0} (r : Result (Unit {0}) E) (a b c : Option (List ℕ)) (front back : List ℕ) → Appends a b front → OnErr r (AppendsPart b c back) → OnErr r (AppendsPart a c (front ++ back))
 second_err (Ok x) a b c front back h k = tt
 second_err (Err e) a b c front back h k = part_of_back a b c front back h k
-
--- all of a text is a part of it
-pub part_of_all : (a b : Option (List ℕ)) (text : List ℕ) → Appends a b text → AppendsPart a b text
-part_of_all a b text h = (text, [], sym (append-nil text), h)
-
--- whether all was written or not, a part was
-pub part_either : {E : Type 0} (r : Result (Unit {0}) E) (a b : Option (List ℕ)) (text : List ℕ) → OnOk r (Appends a b text) → OnErr r (AppendsPart a b text) → AppendsPart a b text
-part_either (Ok x) a b text h k = part_of_all a b text h
-part_either (Err e) a b text h k = k
-
--- a text with a newline
-pub with_newline : (text : Option (List ℕ)) (line written : List ℕ) → line ≡ written → IfSome (text ++? Some (codes "\n")) (λ t. written ≡ t) → IfSome text (λ t. line ≡ t ++ codes "\n")
-with_newline None line written same h = tt
-with_newline (Some t) line written same h = same ∙ h

@@ -1,7 +1,7 @@
 //! Writing texts, with a record of what went out.
 #![tactic(auto)]
 
-ghost use Rattle.std.specs.Prelude.{◌≡◌, [], IsOk, OnOk, OnErr};
+ghost use Rattle.std.specs.Prelude.{◌≡◌, [], IfErr, IsOk, OnOk, OnErr};
 ghost use Rattle.std.specs.Io.KnownBytes.{Appends};
 ghost use Rattle.output.specs.Output.{AppendsPart, Tells};
 
@@ -10,7 +10,7 @@ use std::fmt::Display;
 use std::io::Write;
 use thiserror::Error;
 
-/// Why not all was written. What went out is a beginning of the text.
+/// Why not all was written. What went out is a beginning of the text, and some of it is left.
 #[derive(Clone, Copy, Debug, PartialEq, Eq, Error)]
 pub enum OutputRefusal {
     /// No memory for a line.
@@ -22,6 +22,10 @@ pub enum OutputRefusal {
 }
 
 impl From<AllocError> for OutputRefusal {
+    ghost use Rattle.output.specs.declared.OutputRefusal.TheVariants.{OutOfMemory as NoMemory};
+
+    ghost from_gives = { λ _ e. e ≡ NoMemory };
+
     fn from(_refused: AllocError) -> OutputRefusal {
         OutputRefusal::OutOfMemory
     }
@@ -31,6 +35,7 @@ impl From<AllocError> for OutputRefusal {
 #[tactic(auto, using(crate::proofs::Writes::part_of_front))]
 pub fn write_text<W: Write>(to: &mut W, text: &[u8]) -> Result<(), OutputRefusal>
     ensures empty { text.now ≡ [] → IsOk result }
+    ensures refusal { IfErr result (λ e. e ≡ OutputRefusal.NotWritten) }
     ensures ok { OnOk result (Appends (W.contents to.old) (W.contents to.new) text.now) }
     ensures err { OnErr result (AppendsPart (W.contents to.old) (W.contents to.new) text.now) }
 {
@@ -45,13 +50,33 @@ pub fn write_text<W: Write>(to: &mut W, text: &[u8]) -> Result<(), OutputRefusal
     Ok(())
 }
 
-/// Writes a line that says what a value prints, or `OutOfMemory` where there is no memory for it. What the writer refuses of it is
-/// left out.
-pub fn tell<T: Display, W: Write>(alloc: Global, to: &mut W, what: &T)
-    ensures { Tells (T.output what.now) (W.contents to.old) (W.contents to.new) }
+/// How the telling of a value ended.
+#[derive(Clone, Copy, Debug, PartialEq, Eq)]
+pub enum Told {
+    /// Its line went out.
+    Whole,
+    /// The writer refused bytes: a beginning of its line went out, and some of it is left.
+    Partly,
+    /// No memory was found for its line: the line `OutOfMemory` went out.
+    NoMemory,
+    /// No memory was found for its line, and the writer refused bytes: a beginning of the line `OutOfMemory` went out, and some of it
+    /// is left.
+    NoMemoryPartly,
+}
+
+/// Writes a line that says what a value prints, or `OutOfMemory` where there is no memory for it; how that ended says exactly what
+/// went out.
+pub fn tell<T: Display, W: Write>(alloc: Global, to: &mut W, what: &T) -> Told
+    ensures { Tells (T.output what.now) result (W.contents to.old) (W.contents to.new) }
 {
-    let _ = match format!(in alloc; "{what}\n") {
-        Ok(line) => write_text(to, line.as_bytes()),
-        Err(_) => write_text(to, b"OutOfMemory\n"),
-    };
+    match format!(in alloc; "{what}\n") {
+        Ok(line) => match write_text(to, line.as_bytes()) {
+            Ok(()) => Told::Whole,
+            Err(_) => Told::Partly,
+        },
+        Err(_) => match write_text(to, b"OutOfMemory\n") {
+            Ok(()) => Told::NoMemory,
+            Err(_) => Told::NoMemoryPartly,
+        },
+    }
 }

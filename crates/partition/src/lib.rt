@@ -1,5 +1,7 @@
-//! The DOS partition table in the first sector of a disk.
+//! The DOS partition table in the first sector of a disk, and where the volume of a minor lies.
 #![tactic(auto)]
+
+pub mod place;
 
 ghost use Rattle.std.specs.Prelude.{◌≡◌, ◌+◌, ◌≤◌, [], ◌∷◌, IfOk, IfSome, Some, get_or};
 ghost use Rattle.std.specs.List.{list_any};
@@ -8,6 +10,7 @@ ghost use Rattle.partition.specs.Table.{IsTable, kind_at, range_at, range_of_ent
 ghost use Rattle.partition.specs.Refusals.{partition_refusal_name, partition_refusal_number, checked, table_of};
 
 use byteorder::{ByteOrder, LittleEndian};
+pub use place::{PlaceRefusal, volume_place};
 use std::marker::Model;
 use std::{error, fmt};
 

@@ -4,6 +4,8 @@ use Rattle.layout.specs.Places.{refusal_name}
 use Rattle.volume.specs.Text.{finding_text}
 use Rattle.media.specs.Answers.{media_refusal_name}
 use Rattle.partition.specs.Refusals.{partition_refusal_name}
+use Rattle.partition.specs.declared.place.PlaceRefusal.{PlaceRefusal}
+use Rattle.partition.specs.declared.place.PlaceRefusal.TheVariants as place
 use Rattle.startup.specs.declared.refusal.MountRefusal.{MountRefusal}
 use Rattle.startup.specs.declared.refusal.MountRefusal.TheVariants.{Layout, Inconsistent}
 use Rattle.startup.specs.declared.refusal.StartRefusal.{StartRefusal}
@@ -38,3 +40,8 @@ start_refusal_text (Mount refusal) = codes "Mount " ++ mount_refusal_text refusa
 start_refusal_text BadSetup = codes "BadSetup"
 start_refusal_text NoDriver = codes "NoDriver"
 start_refusal_text OutOfMemory = codes "OutOfMemory"
+
+-- the refusal to start where the volume has no place
+abbrev pub refusal_of_place : PlaceRefusal → StartRefusal
+refusal_of_place (place.Table refusal) = Partition refusal
+refusal_of_place place.NoPartition = NoPartition

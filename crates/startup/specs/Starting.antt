@@ -1,5 +1,5 @@
 -- When a server starts on an image with some drivers, and when it is refused.
-use Rattle.std.specs.Prelude.{◌≡◌, ◌≢◌, ◌≤◌, ℕ, zero, suc, ◌%◌, Bool, not, ◌==◌, ◌&&◌, nat_lt, true, List, [], ◌∷◌, length, Option, Some, None, ok_or, Result, Ok, Err, if◌then◌else◌}
+use Rattle.std.specs.Prelude.{◌≡◌, ◌≢◌, ◌≤◌, ℕ, ◌%◌, Bool, not, ◌==◌, ◌&&◌, nat_lt, true, List, [], length, Option, Some, None, Result, Ok, Err, if◌then◌else◌}
 use Rattle.std.specs.List.{list_all}
 use Rattle.std.specs.Option.{option_eq}
 use Rattle.layout.specs.declared.Geometry.{Geometry}
@@ -11,12 +11,11 @@ use Rattle.marks.specs.Opening.{Opening, volume_bytes}
 use Rattle.media.specs.Contents.{sectors_of}
 use Rattle.media.specs.declared.MediaRefusal.TheVariants.{NotWholeSectors, TooLarge}
 use Rattle.bdev.specs.DriverState.{DriverState, range_while_fresh}
-use Rattle.partition.specs.declared.PartitionRefusal.{PartitionRefusal}
-use Rattle.partition.specs.declared.PartitionRefusal.TheVariants.{NoSignature}
-use Rattle.partition.specs.Table.{TableState, kind_at, range_at}
-use Rattle.partition.specs.Refusals.{table_of}
+use Rattle.partition.specs.declared.place.PlaceRefusal.{PlaceRefusal}
+use Rattle.partition.specs.Places.{volume_place}
 use Rattle.policy.specs.declared.Setup.{Setup}
 use Rattle.policy.specs.Policy.{IsAllowed}
+use Rattle.startup.specs.Refusals.{refusal_of_place}
 use Rattle.startup.specs.declared.refusal.MountRefusal.{MountRefusal}
 use Rattle.startup.specs.declared.refusal.MountRefusal.TheVariants.{Layout, Inconsistent}
 use Rattle.startup.specs.declared.refusal.StartRefusal.{StartRefusal}
@@ -30,24 +29,14 @@ opening_of image minor range = record { media = image; first = range.0; count = 
 abbrev pub bytes_of : List ℕ → ℕ × ℕ → List ℕ
 bytes_of image range = volume_bytes (record { first = range.0; count = range.1 }) image
 
--- the range of a partition of MINIX's type, 0x81
-abbrev pub partition_at : TableState → ℕ → Result (ℕ × ℕ) StartRefusal
-partition_at t minor = if option_eq (λ a b. a == b) (kind_at t minor) (Some 129) then ok_or (range_at t minor) NoPartition else Err NoPartition
-
--- the same, where the table isn't refused
-abbrev pub partition_or : Result TableState PartitionRefusal → ℕ → Result (ℕ × ℕ) StartRefusal
-partition_or (Err refusal) minor = Err (Partition refusal)
-partition_or (Ok t) minor = partition_at t minor
-
--- the same, by the table in the first of so many sectors
-abbrev pub partition_in : List ℕ → ℕ → ℕ → Result (ℕ × ℕ) StartRefusal
-partition_in first sectors minor = partition_or (table_of first sectors) minor
+-- a place, or the refusal to start
+abbrev pub place_or : Result (ℕ × ℕ) PlaceRefusal → Result (ℕ × ℕ) StartRefusal
+place_or (Ok range) = Ok range
+place_or (Err refusal) = Err (refusal_of_place refusal)
 
 -- where a volume lies: minor 0 is all of the media, and another one a partition
 abbrev pub place_in : List (List ℕ) → ℕ → Result (ℕ × ℕ) StartRefusal
-place_in sectors zero = Ok (0, length sectors)
-place_in [] (suc m) = Err (Partition NoSignature)
-place_in (first ∷ rest) (suc m) = partition_in first (length (first ∷ rest)) (suc m)
+place_in sectors minor = place_or (volume_place sectors minor)
 
 -- whether these sectors are those
 abbrev pub is_same_range : Option (ℕ × ℕ) → Option (ℕ × ℕ) → Bool

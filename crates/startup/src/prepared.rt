@@ -1,6 +1,6 @@
 //! The volume in an image, and drivers that are ready for it.
 
-ghost use Rattle.std.specs.Prelude.{◌≡◌, ◌≢◌, ◌↔◌, ◌/◌, ◌+◌, ◌≤◌, [], IfErr, IfOk, OnOk, IsTrue, None, Some, Ok, Err, All, length, map};
+ghost use Rattle.std.specs.Prelude.{◌≡◌, ◌≢◌, ◌↔◌, ◌/◌, ◌+◌, ◌^◌, ◌<◌, ◌≤◌, [], IfErr, IfOk, OnOk, IsTrue, None, Some, Ok, Err, All, length, map};
 ghost use Rattle.std.specs.Bool.{OnTrue};
 ghost use Rattle.std.specs.List.{list_all};
 ghost use Rattle.layout.specs.Places.{geometry_of, IsGeometry};
@@ -11,19 +11,16 @@ ghost use Rattle.media.specs.Contents.{sectors_of};
 ghost use Rattle.bdev.specs.Promises.{IsDriver};
 ghost use Rattle.inline.specs.Inline.{IsReady};
 ghost use Rattle.true_replies.specs.Events.{IsOnMedia, opening_media};
-ghost use Rattle.startup.specs.Starting.{bytes_of, opening_of, partition_in, place_in as place_by, is_ready_for, IsInRanges, why_no_media, why_not_mounted, IsNotSetUp, IsWellSetUp, IsRefused, IsStartable};
+ghost use Rattle.startup.specs.Starting.{bytes_of, opening_of, place_in as place_by, is_ready_for, IsInRanges, why_no_media, why_not_mounted, IsNotSetUp, IsWellSetUp, IsRefused, IsStartable};
 
 use crate::refusal::{MountRefusal, StartRefusal};
 use inline::local::LocalDriver;
 use layout::{Geometry, u16_at};
 use media::{Media, MediaRefusal, SECTOR};
-use partition::{PartitionRefusal, parse};
+use partition::volume_place;
 use policy::Setup;
 use std::alloc::Global;
 use volume::Finding;
-
-/// The type of MINIX's partitions.
-const MINIX: u8 = 0x81;
 
 /// The type of directories, in the four highest bits of a mode.
 const DIRECTORY: u16 = 4;
@@ -60,32 +57,15 @@ fn media_of(alloc: Global, image: &[u8]) -> Result<Media, StartRefusal>
     }
 }
 
-/// The range of a partition of MINIX's type, by the table in the first of so many sectors.
-fn partition_by(first: &[u8; 512], sectors: u32, minor: u8) -> Result<(u32, u32), StartRefusal>
-    ensures place { result ≡ partition_in first.now sectors minor }
-    ensures inside { IfOk result (λ r. r.0 + r.1 ≤ sectors) }
-{
-    let table = parse(first, sectors)?;
-    if table.kind(minor) == Some(MINIX) {
-        table.range(minor).ok_or(StartRefusal::NoPartition)
-    } else {
-        Err(StartRefusal::NoPartition)
-    }
-}
-
 /// Where the volume of this minor lies.
 fn place_in(sectors: &[[u8; 512]], minor: u8) -> Result<(u32, u32), StartRefusal>
-    requires { length sectors.now ≤ 131072 }
+    requires { length sectors.now < 2 ^ 32 }
     ensures place { result ≡ place_by sectors.now minor }
     ensures inside { IfOk result (λ r. r.0 + r.1 ≤ length sectors.now) }
 {
-    let count = sectors.len() as u32;
-    if minor == 0 {
-        return Ok((0, count));
-    }
-    match sectors.first() {
-        Some(first) => partition_by(first, count, minor),
-        None => Err(StartRefusal::Partition(PartitionRefusal::NoSignature)),
+    match volume_place(sectors, minor) {
+        Ok(range) => Ok(range),
+        Err(refusal) => Err(StartRefusal::from(refusal)),
     }
 }
 

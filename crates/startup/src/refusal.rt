@@ -5,7 +5,7 @@ ghost use Rattle.startup.specs.Refusals.{mount_refusal_number, mount_refusal_tex
 
 use layout::LayoutRefusal;
 use media::MediaRefusal;
-use partition::PartitionRefusal;
+use partition::{PartitionRefusal, PlaceRefusal};
 use std::alloc::AllocError;
 use std::{error, fmt};
 use volume::Finding;
@@ -120,12 +120,15 @@ impl From<MountRefusal> for StartRefusal {
     }
 }
 
-impl From<PartitionRefusal> for StartRefusal {
-    ghost use Rattle.startup.specs.declared.refusal.StartRefusal.TheVariants.{Partition};
+impl From<PlaceRefusal> for StartRefusal {
+    ghost use Rattle.startup.specs.Refusals.{refusal_of_place};
 
-    ghost from_gives = { λ refusal e. e ≡ Partition refusal };
+    ghost from_gives = { λ refusal e. e ≡ refusal_of_place refusal };
 
-    fn from(refusal: PartitionRefusal) -> StartRefusal {
-        StartRefusal::Partition(refusal)
+    fn from(refusal: PlaceRefusal) -> StartRefusal {
+        match refusal {
+            PlaceRefusal::Table(refusal) => StartRefusal::Partition(refusal),
+            PlaceRefusal::NoPartition => StartRefusal::NoPartition,
+        }
     }
 }

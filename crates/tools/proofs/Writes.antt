@@ -1,40 +1,13 @@
--- Writes one after another.
-use Rattle.std.proofs.Common.{◌≡◌, ℕ, ◌+◌, ◌-◌, ◌≤◌, ◌<◌, get_or, List, [], ◌∷◌, ◌++◌, length, take, drop, sym, ap, ◌∙◌, append_assoc, append-nil, arith, length-drop, codes}
+-- Answers one after another.
+use Rattle.std.proofs.Common.{◌≡◌, ℕ, ◌+◌, ◌<◌, get_or, List, [], ◌∷◌, ◌++◌, length, take, drop, sym, ap, ◌∙◌, append_assoc, arith, length-append}
 use Rattle.std.proofs.lemmas.Grind.{common_steps, flat_map-append}
-use Rattle.tree.specs.declared.Outcome.{Outcome}
-use Rattle.tools.specs.Output.{line_text, outcomes_text}
-use Rattle.std.proofs.Math.Seq.{take-add}
-use Rattle.std.specs.Prelude.{Option, Some, None, Result, Ok, Err, OnOk, OnErr, IfSome}
-use Rattle.std.specs.Fmt.{◌++?◌}
-use Rattle.std.specs.Io.KnownBytes.{Appends}
 use Rattle.std.proofs.lemmas.List.{take-append-drop, flat_map_more}
-use Rattle.tools.specs.Output.{AppendsPart}
-
-pub appends_more : (a b c : Option (List ℕ)) (p q : List ℕ) → Appends a b p → Appends b c q → Appends a c (p ++ q)
-appends_more None b c p q h k = tt
-appends_more (Some xs) None c p q h k = absurd h
-appends_more (Some xs) (Some ys) None p q h k = absurd k
-appends_more (Some xs) (Some ys) (Some zs) p q h k = k ∙ ap (λ l. l ++ q) h ∙ append_assoc xs p q
-
--- the front of a text is a part of it
-pub part_of_front : (a b : Option (List ℕ)) (text : List ℕ) (n : ℕ) → Appends a b (take n text) → AppendsPart a b text
-part_of_front a b text n h = (take n text, drop n text, sym (take-append-drop n text), h)
-
--- a part of what comes next is a part of the whole
-pub part_of_more : (a b c : Option (List ℕ)) (done line more all : List ℕ) → all ≡ done ++ (line ++ more) → Appends a b done → AppendsPart b c line → AppendsPart a c all
-part_of_more a b c done line more all whole h (part, rest, split, k) =
-    (done ++ part, rest ++ more, whole ∙ ap (λ l. done ++ (l ++ more)) split ∙ ap (λ l. done ++ l) (append_assoc part rest more) ∙ sym (append_assoc done part (rest ++ more)), appends_more a b c done part h k)
-
--- the front of a text grows by the front of what is left
-pub front_more : (a b c : Option (List ℕ)) (text : List ℕ) (at n : ℕ) → at ≤ length text → Appends a b (take at text)
-    → n ≤ length (take (length text - at) (drop at text)) → Appends b c (take n (take (length text - at) (drop at text)))
-    → (at + n ≤ length text) × Appends a c (take (at + n) text)
-front_more a b c text at n within h few k =
-    let whole : take (length text - at) (drop at text) ≡ drop at text = grind (arith, common_steps) in
-    let size : n ≤ length (drop at text) = rw (sym whole) few in
-    let left : length (drop at text) ≡ length text - at = length-drop at text in
-    let more : Appends b c (take n (drop at text)) = rw (sym whole) k in
-    (omega arith, rw (take-add at n text) (appends_more a b c (take at text) (take n (drop at text)) h more))
+use Rattle.std.specs.Prelude.{Option}
+use Rattle.std.specs.Io.KnownBytes.{Appends}
+use Rattle.tree.specs.declared.Outcome.{Outcome}
+use Rattle.tree.specs.Text.{outcome_text}
+use Rattle.output.specs.Output.{AppendsPart}
+use Rattle.tools.specs.Answers.{line_text, outcomes_text}
 
 -- the text so far grows by a line
 pub text_next : (replies : List Outcome) (i : ℕ) (r : Outcome) → i < length replies → r ≡ get_or replies i r
@@ -52,47 +25,13 @@ text_split replies i r within is =
     ∙ ap (λ t. t ++ outcomes_text (drop (i + 1) replies)) (text_next replies i r within is)
     ∙ append_assoc (outcomes_text (take i replies)) (line_text r) (outcomes_text (drop (i + 1) replies))
 
--- what went out before a line is a part of the text
-pub part_before : (a b : Option (List ℕ)) (replies : List Outcome) (i : ℕ) → Appends a b (outcomes_text (take i replies)) → AppendsPart a b (outcomes_text replies)
-part_before a b replies i h = (
-  outcomes_text (take i replies),
-  outcomes_text (drop i replies),
-  ap outcomes_text (sym (take-append-drop i replies)) ∙ flat_map-append line_text (take i replies) (drop i replies),
+-- what went out before a line is a part of the text, and the line is left
+pub part_before : (a b : Option (List ℕ)) (outcomes : List Outcome) (i : ℕ) (r : Outcome) → i < length outcomes → r ≡ get_or outcomes i r
+    → Appends a b (outcomes_text (take i outcomes)) → AppendsPart a b (outcomes_text outcomes)
+part_before a b outcomes i r within is h = (
+  outcomes_text (take i outcomes),
+  line_text r ++ outcomes_text (drop (i + 1) outcomes),
+  text_split outcomes i r within is,
+  omega (arith, length-append (line_text r) (outcomes_text (drop (i + 1) outcomes)), length-append (outcome_text r) (10 ∷ [])),
   h,
 )
-
-pub on_err : {A E : Type 0} (r : Result A E) (P : Type 0) → P → OnErr r P
-on_err (Ok x) P p = tt
-on_err (Err e) P p = p
-
--- a part of a front is a part of the whole
-pub part_of_whole : (a b : Option (List ℕ)) (front back : List ℕ) → AppendsPart a b front → AppendsPart a b (front ++ back)
-part_of_whole a b front back (part, rest, split, h) = (part, rest ++ back, ap (λ l. l ++ back) split ∙ append_assoc part rest back, h)
-
--- a front and a part of the back are a part of the whole
-pub part_of_back : (a b c : Option (List ℕ)) (front back : List ℕ) → Appends a b front → AppendsPart b c back → AppendsPart a c (front ++ back)
-part_of_back a b c front back h (part, rest, split, k) =
-    (front ++ part, rest, ap (λ l. front ++ l) split ∙ sym (append_assoc front part rest), appends_more a b c front part h k)
-
--- two writes one after the other: all of both, or all of the first and a part of the second
-pub second_ok : {E : Type 0} (r : Result (Unit {0}) E) (a b c : Option (List ℕ)) (front back : List ℕ) → Appends a b front → OnOk r (Appends b c back) → OnOk r (Appends a c (front ++ back))
-second_ok (Ok x) a b c front back h k = appends_more a b c front back h k
-second_ok (Err e) a b c front back h k = tt
-
-pub second_err : {E : Type 0} (r : Result (Unit {0}) E) (a b c : Option (List ℕ)) (front back : List ℕ) → Appends a b front → OnErr r (AppendsPart b c back) → OnErr r (AppendsPart a c (front ++ back))
-second_err (Ok x) a b c front back h k = tt
-second_err (Err e) a b c front back h k = part_of_back a b c front back h k
-
--- all of a text is a part of it
-pub part_of_all : (a b : Option (List ℕ)) (text : List ℕ) → Appends a b text → AppendsPart a b text
-part_of_all a b text h = (text, [], sym (append-nil text), h)
-
--- whether all was written or not, a part was
-pub part_either : {E : Type 0} (r : Result (Unit {0}) E) (a b : Option (List ℕ)) (text : List ℕ) → OnOk r (Appends a b text) → OnErr r (AppendsPart a b text) → AppendsPart a b text
-part_either (Ok x) a b text h k = part_of_all a b text h
-part_either (Err e) a b text h k = k
-
--- a text with a newline
-pub with_newline : (text : Option (List ℕ)) (line written : List ℕ) → line ≡ written → IfSome (text ++? Some (codes "\n")) (λ t. written ≡ t) → IfSome text (λ t. line ≡ t ++ codes "\n")
-with_newline None line written same h = tt
-with_newline (Some t) line written same h = same ∙ h

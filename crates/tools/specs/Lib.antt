@@ -1,4 +1,4 @@
-pub mod Output
+pub mod Answers
 pub mod Refusals
 pub mod Made
 pub mod Played

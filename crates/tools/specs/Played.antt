@@ -1,7 +1,6 @@
 -- What playing a script comes to.
-use Rattle.std.specs.Prelude.{◌≡◌, ◌⊎◌, ℕ, List, ◌++◌, Bool, true, false, codes, decimal, Option, Some, None, Ok, Err, IsSome, IfSome, IsTrue}
+use Rattle.std.specs.Prelude.{◌≡◌, ◌⊎◌, ℕ, List, ◌++◌, Bool, true, false, codes, decimal, Some, None, Ok, Err, IsSome, IsTrue}
 use Rattle.std.specs.Borrow.{Bor}
-use Rattle.std.specs.Io.KnownBytes.{Appends}
 use Rattle.layout.specs.declared.Geometry.{Geometry}
 use Rattle.tree.specs.declared.Outcome.{Outcome}
 use Rattle.bdev.specs.DriverState.{DriverState}
@@ -10,13 +9,11 @@ use Rattle.startup.specs.Refusals.{start_refusal_text}
 use Rattle.startup.specs.Starting.{opening_of, IsStartable, IsRefused}
 use Rattle.serve.specs.Refusals.{session_refusal_name}
 use Rattle.tools.specs.Script.{script_of, has_call}
-use Rattle.tools.specs.Output.{session_text, AppendsPart}
+use Rattle.tools.specs.Answers.{session_text}
 use Rattle.tools.specs.Made.{IsAnswered}
 use Rattle.tools.specs.declared.play.File.{File}
 use Rattle.tools.specs.declared.play.PlayRefusal.{PlayRefusal}
 use Rattle.tools.specs.declared.play.PlayRefusal.TheVariants.{CannotRead, BadLine, Start, NoSession, OutOfMemory, NotWritten}
-use Rattle.tools.specs.declared.play.Told.{Told}
-use Rattle.tools.specs.declared.play.Told.TheVariants.{Whole, Partly, NoMemory, NoMemoryPartly}
 
 -- the file could be read, and holds a script of these calls
 abbrev pub IsScript : File → ℕ × ℕ × List ℕ → Type 0
@@ -96,18 +93,3 @@ refusal_text (Start refusal) = start_refusal_text refusal
 refusal_text (NoSession refusal) = session_refusal_name refusal
 refusal_text OutOfMemory = codes "OutOfMemory"
 refusal_text NotWritten = codes "cannot write standard output"
-
--- its line
-abbrev pub refusal_line : PlayRefusal → List ℕ
-refusal_line refusal = refusal_text refusal ++ codes "\n"
-
--- the line that goes out where there is no memory for another
-abbrev pub no_memory_line : List ℕ
-no_memory_line = codes "OutOfMemory\n"
-
--- exactly what went out, by how the telling of a refusal ended
-abbrev pub Tells : PlayRefusal → Told → Option (List ℕ) → Option (List ℕ) → Type 0
-Tells refusal Whole old new = Appends old new (refusal_line refusal)
-Tells refusal Partly old new = AppendsPart old new (refusal_line refusal)
-Tells refusal NoMemory old new = Appends old new no_memory_line
-Tells refusal NoMemoryPartly old new = AppendsPart old new no_memory_line

@@ -1,6 +1,6 @@
 -- What a play is refused as where a text wasn't written.
-use Rattle.tools.specs.declared.output.OutputRefusal.{OutputRefusal}
-use Rattle.tools.specs.declared.output.OutputRefusal.TheVariants as output
+use Rattle.output.specs.declared.OutputRefusal.{OutputRefusal}
+use Rattle.output.specs.declared.OutputRefusal.TheVariants as output
 use Rattle.tools.specs.declared.play.PlayRefusal.{PlayRefusal}
 use Rattle.tools.specs.declared.play.PlayRefusal.TheVariants.{OutOfMemory, NotWritten}
 

@@ -1,7 +1,10 @@
 //! What the programs do, between the bytes that they read and the bytes that they write.
 #![tactic(auto)]
 
+pub mod answers;
 mod calls;
-pub mod output;
 pub mod play;
 pub mod script;
+
+pub use output;
+pub use volume_tools::{make, verify};

@@ -2,15 +2,17 @@
 
 ghost use Rattle.std.specs.Prelude.{◌≡◌, IfOk, IfErr, map, Some, None, if◌then◌else◌};
 ghost use Rattle.std.specs.Io.KnownBytes.{Appends};
-ghost use Rattle.tools.specs.Played.{IsPlayed, IsUnplayed, IsShown, IsCutShort, IsScript, IsNoScript, Tells, refusal_text};
-ghost use Rattle.tools.specs.Output.{AppendsPart};
+ghost use Rattle.tools.specs.Played.{IsPlayed, IsUnplayed, IsShown, IsCutShort, IsScript, IsNoScript, refusal_text};
+ghost use Rattle.output.specs.Output.{AppendsPart, Tells};
 ghost use Rattle.tools.specs.Refusals.{refusal_of};
 ghost use Rattle.tools.specs.Status.{status_number, gave_of, IsWhole};
 
+use crate::answers::write_session;
 use crate::calls::{Played, Player};
-use crate::output::{OutputRefusal, write_session, write_text};
 use crate::script::{Script, ScriptRefusal, read_script};
 use inline::local::LocalDriver;
+pub use output::Told;
+use output::{OutputRefusal, tell};
 use policy::Setup;
 use serve::gate::Open;
 use serve::refusal::SessionRefusal;
@@ -28,19 +30,6 @@ pub struct File<'n, 'b> {
     pub name: &'n str,
     /// All its bytes; none where it couldn't be read.
     pub bytes: Option<&'b [u8]>,
-}
-
-/// How the telling of a refusal ended.
-#[derive(Clone, Copy, Debug, PartialEq, Eq)]
-pub enum Told {
-    /// Its line went out.
-    Whole,
-    /// The writer refused bytes: a beginning of its line went out.
-    Partly,
-    /// No memory was found for its line: the line `OutOfMemory` went out.
-    NoMemory,
-    /// No memory was found for its line, and the writer refused bytes: a beginning of the line `OutOfMemory` went out.
-    NoMemoryPartly,
 }
 
 /// How a play ended.
@@ -118,29 +107,13 @@ pub fn play<R: Wait + Copy, D: LocalDriver, W: Write, E: Write>(
     ensures whole { IsWhole result → IsShown image.entry script.entry setup.now (map D.state supply.items) (gave_of result)
         (Appends (W.contents out.old) (W.contents out.new)) × (err.new ≡ err.old) }
     ensures refused { (told : Told) → result ≡ Status.Refused told → (refusal : PlayRefusal)
-        × Tells refusal told (E.contents err.old) (E.contents err.new)
+        × Tells (Some (refusal_text refusal)) told (E.contents err.old) (E.contents err.new)
         × IsCutShort image.entry script.entry setup.now (map D.state supply.items) refusal (out.new ≡ out.old)
         (AppendsPart (W.contents out.old) (W.contents out.new)) }
 {
     match run(alloc, rt, image, script, setup, supply, out) {
         Ok(played) => status_of(played),
-        Err(refusal) => Status::Refused(write_refusal(alloc, err, refusal)),
-    }
-}
-
-/// Writes the line of a refusal.
-fn write_refusal<E: Write>(alloc: Global, err: &mut E, refusal: PlayRefusal<'_>) -> Told
-    ensures { Tells refusal.entry result (E.contents err.old) (E.contents err.new) }
-{
-    match format!(in alloc; "{refusal}\n") {
-        Ok(line) => match write_text(err, line.as_bytes()) {
-            Ok(()) => Told::Whole,
-            Err(_) => Told::Partly,
-        },
-        Err(_) => match write_text(err, b"OutOfMemory\n") {
-            Ok(()) => Told::NoMemory,
-            Err(_) => Told::NoMemoryPartly,
-        },
+        Err(refusal) => Status::Refused(tell(alloc, err, &refusal)),
     }
 }
 

@@ -1,4 +1,5 @@
 use new_volume::mkfs;
+use output::Told;
 use std::alloc::Global;
 use std::io::{self, ErrorKind, Write};
 use std::test::Fail;
@@ -148,7 +149,7 @@ fn no_volume(rt: HostRuntime) -> Result<(), Fail> {
     ];
     for (file, minor, line) in rows {
         let said = told(rt.alloc(), file, minor);
-        assert_eq!(rt; said.verified, Verified::Refused);
+        assert_eq!(rt; said.verified, Verified::Refused(Told::Whole));
         assert_eq!(rt; said.verified.number(), 1);
         assert_eq!(rt; said.out.len(), 0);
         assert_eq!(rt; said.err.as_slice(), line.as_bytes());
@@ -184,8 +185,8 @@ impl Write for Failing {
 fn writers_fail(rt: HostRuntime) -> Result<(), Fail> {
     let image = small(rt.alloc())?;
     let rows = [
-        (0, "", Verified::Refused),
-        (1, "clea", Verified::Refused),
+        (0, "", Verified::Refused(Told::Whole)),
+        (1, "clea", Verified::Refused(Told::Whole)),
         (2, "clean\n", Verified::IsClean),
     ];
     for (calls, taken, verified) in rows {
@@ -200,10 +201,34 @@ fn writers_fail(rt: HostRuntime) -> Result<(), Fail> {
         );
         assert_eq!(rt; out.taken.as_slice(), taken.as_bytes());
         let line: &[u8] = match verified {
-            Verified::Refused => b"cannot write standard output\n",
+            Verified::Refused(_) => b"cannot write standard output\n",
             _ => b"",
         };
         assert_eq!(rt; err.as_slice(), line);
+    }
+    Ok(())
+}
+
+/// The line on standard error has 18 bytes, so five calls take it.
+#[test]
+fn error_writers_fail(rt: HostRuntime) -> Result<(), Fail> {
+    let rows = [
+        (0, "", Told::Partly),
+        (4, "cannot read v.im", Told::Partly),
+        (5, "cannot read v.img\n", Told::Whole),
+    ];
+    for (calls, taken, ended) in rows {
+        let mut out = Vec::new(rt.alloc());
+        let mut err = Failing {
+            calls,
+            taken: Vec::new(rt.alloc()),
+        };
+        assert_eq!(rt;
+            verify(rt.alloc(), "v.img", None, 0, &mut out, &mut err),
+            Verified::Refused(ended)
+        );
+        assert_eq!(rt; out.len(), 0);
+        assert_eq!(rt; err.taken.as_slice(), taken.as_bytes());
     }
     Ok(())
 }

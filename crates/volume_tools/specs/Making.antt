@@ -2,7 +2,6 @@
 use Rattle.std.specs.Prelude.{◌≡◌, ℕ, ◌-◌, List, ◌++◌, Ok, codes, decimal}
 use Rattle.layout.specs.declared.Geometry.{Geometry}
 use Rattle.tree.specs.Space.{data_zones}
-use Rattle.new_volume.specs.declared.MkfsRefusal.{MkfsRefusal}
 use Rattle.new_volume.specs.Sizes.{sizes_of, refusal_name}
 use Rattle.new_volume.specs.Made.{IsNewVolume, IsRefused}
 use Rattle.volume_tools.specs.declared.make.Wanted.{Wanted}
@@ -14,7 +13,7 @@ use Rattle.volume_tools.specs.declared.make.MakeRefusal.TheVariants.{Mkfs, NotWr
 -- the status of the process
 abbrev pub status_number : Status → ℕ
 status_number Done = 0
-status_number Refused = 1
+status_number (Refused told) = 1
 
 -- the line about a volume: its first data zone, how many data zones it has and how many of them are free
 abbrev pub line_text : ℕ → ℕ → ℕ → List ℕ

@@ -1,18 +1,16 @@
 -- What a verifying comes to.
-use Rattle.std.specs.Prelude.{◌≡◌, ◌⊎◌, ℕ, zero, suc, ◌*◌, ◌%◌, List, [], ◌∷◌, ◌++◌, length, take, drop, Bool, true, false, not, ◌==◌, nat_lt, if◌then◌else◌, Option, Some, None, IsSome, ok_or, Result, Ok, Err, codes}
+use Rattle.std.specs.Prelude.{◌≡◌, ◌⊎◌, ℕ, zero, suc, ◌*◌, ◌%◌, List, ◌++◌, length, take, drop, not, ◌==◌, nat_lt, if◌then◌else◌, Option, Some, None, Result, Ok, Err, codes}
 use Rattle.std.specs.Borrow.{Bor}
-use Rattle.volume.specs.declared.Finding.{Finding}
 use Rattle.volume.specs.Text.{finding_text}
 use Rattle.volume.specs.Verdict.{Verdict, Clean, Found, verdict_of}
 use Rattle.media.specs.Contents.{sectors_of}
-use Rattle.media.specs.declared.MediaRefusal.{MediaRefusal}
-use Rattle.media.specs.declared.MediaRefusal.TheVariants.{NotWholeSectors, TooLarge}
 use Rattle.partition.specs.declared.PartitionRefusal.{PartitionRefusal}
 use Rattle.partition.specs.declared.PartitionRefusal.TheVariants.{NoSignature, PastMedia, Overlap}
-use Rattle.partition.specs.Table.{TableState, kind_at, range_at}
-use Rattle.partition.specs.Refusals.{table_of}
+use Rattle.partition.specs.declared.place.PlaceRefusal.{PlaceRefusal}
+use Rattle.partition.specs.declared.place.PlaceRefusal.TheVariants.{Table, NoPartition}
+use Rattle.partition.specs.Places.{volume_place}
 use Rattle.volume_tools.specs.declared.verify.NoVolume.{NoVolume}
-use Rattle.volume_tools.specs.declared.verify.NoVolume.TheVariants.{NotSectors, TooManySectors, Partition, NoPartition}
+use Rattle.volume_tools.specs.declared.verify.NoVolume.TheVariants.{NotSectors, TooManySectors, Place}
 use Rattle.volume_tools.specs.declared.verify.VerifyRefusal.{VerifyRefusal}
 use Rattle.volume_tools.specs.declared.verify.VerifyRefusal.TheVariants.{CannotRead, Missing, OutOfMemory, NotWritten}
 use Rattle.volume_tools.specs.declared.verify.Verified.{Verified}
@@ -22,34 +20,15 @@ use Rattle.volume_tools.specs.declared.verify.Verified.TheVariants.{IsClean, Has
 abbrev pub verified_number : Verified → ℕ
 verified_number IsClean = 0
 verified_number HasFinding = 1
-verified_number Refused = 1
-
--- whether an entry's type is MINIX's, 0x81
-abbrev pub is_minix : Option ℕ → Bool
-is_minix None = false
-is_minix (Some kind) = kind == 129
-
--- the range of a partition of MINIX's type: its first sector and how many there are
-abbrev pub partition_at : TableState → ℕ → Result (ℕ × ℕ) NoVolume
-partition_at t minor = if is_minix (kind_at t minor) then ok_or (range_at t minor) NoPartition else Err NoPartition
-
--- the same, where the table isn't refused
-abbrev pub partition_or : Result TableState PartitionRefusal → ℕ → Result (ℕ × ℕ) NoVolume
-partition_or (Err refusal) minor = Err (Partition refusal)
-partition_or (Ok t) minor = partition_at t minor
-
--- the same, by the table in the first of some sectors
-abbrev pub partition_in : List (List ℕ) → ℕ → Result (ℕ × ℕ) NoVolume
-partition_in [] minor = Err (Partition NoSignature)
-partition_in (first ∷ rest) minor = partition_or (table_of first (length (first ∷ rest))) minor
+verified_number (Refused told) = 1
 
 -- the bytes of a range of sectors
 abbrev pub in_sectors : List ℕ → ℕ × ℕ → List ℕ
 in_sectors bytes range = take (512 * range.1) (drop (512 * range.0) bytes)
 
 -- the same, where there is such a range
-abbrev pub sectors_or : List ℕ → Result (ℕ × ℕ) NoVolume → Result (List ℕ) NoVolume
-sectors_or bytes (Err refusal) = Err refusal
+abbrev pub sectors_or : List ℕ → Result (ℕ × ℕ) PlaceRefusal → Result (List ℕ) NoVolume
+sectors_or bytes (Err refusal) = Err (Place refusal)
 sectors_or bytes (Ok range) = Ok (in_sectors bytes range)
 
 -- The bytes in which the volume of a minor lies: all of the file for minor 0, else a partition of the disk that it holds.
@@ -58,7 +37,7 @@ volume_at bytes zero = Ok bytes
 volume_at bytes (suc m) =
     if not (length bytes % 512 == 0) then Err NotSectors else
     if nat_lt 67108864 (length bytes) then Err TooManySectors else
-    sectors_or bytes (partition_in (sectors_of bytes) (suc m))
+    sectors_or bytes (volume_place (sectors_of bytes) (suc m))
 
 -- the texts of a table's refusals
 abbrev pub partition_text : PartitionRefusal → List ℕ
@@ -70,8 +49,8 @@ partition_text Overlap = codes "Partition Overlap"
 abbrev pub missing_text : NoVolume → List ℕ
 missing_text NotSectors = codes "Media NotWholeSectors"
 missing_text TooManySectors = codes "Media TooLarge"
-missing_text (Partition refusal) = partition_text refusal
-missing_text NoPartition = codes "Partition"
+missing_text (Place (Table refusal)) = partition_text refusal
+missing_text (Place NoPartition) = codes "Partition"
 
 -- the text of a refusal
 abbrev pub verify_text : VerifyRefusal → List ℕ
@@ -89,6 +68,11 @@ verdict_text (Found finding) = finding_text finding ++ codes "\n"
 abbrev pub verified_as : Verdict → Verified
 verified_as Clean = IsClean
 verified_as (Found finding) = HasFinding
+
+-- whether the verdict was told, all of its line
+abbrev pub IsToldWhole : Verified → Type 0
+IsToldWhole (Refused told) = ⊥
+IsToldWhole _ = Unit {0}
 
 -- the file could be read, and the volume of the minor in it has this verdict
 abbrev pub IsVerdictOn : Option (Bor (List ℕ)) → ℕ → Verdict → Type 0

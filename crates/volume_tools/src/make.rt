@@ -8,7 +8,7 @@ ghost use Rattle.volume_tools.specs.Making.{IsMade, IsUnmade, line_text, refusal
 
 use layout::Geometry;
 use new_volume::{MkfsRefusal, mkfs};
-use output::{tell, write_text};
+use output::{Told, tell, write_text};
 use std::alloc::{AllocError, Global};
 use std::fmt;
 use std::io::Write;
@@ -31,8 +31,8 @@ pub struct Wanted {
 pub enum Status {
     /// All was done.
     Done,
-    /// It was refused, and a line says why.
-    Refused,
+    /// It was refused, and a line was to say why.
+    Refused(Told),
 }
 
 impl Status {
@@ -42,7 +42,7 @@ impl Status {
     {
         match self {
             Status::Done => 0,
-            Status::Refused => 1,
+            Status::Refused(_) => 1,
         }
     }
 }
@@ -77,12 +77,13 @@ pub struct Made {
 }
 
 /// Makes the image of a new volume, and writes on `out` a line with its first data zone, how many data zones it has and how many of
-/// them are free. Where it is refused, or the line can't be written, a line on `err` says why, and there is no image.
+/// them are free. Where it is refused, or the line can't be written, a line on `err` says why, and there is no image; how that line went out
+/// is handed back.
 pub fn make<W: Write, E: Write>(alloc: Global, wanted: &Wanted, out: &mut W, err: &mut E) -> Made
     ensures made { IfSome result.image (λ image. (result.status ≡ Status.Done) × (err.new ≡ err.old)
         × IsMade wanted.entry.now image.items (Appends (W.contents out.old) (W.contents out.new))) }
-    ensures refused { IfNone result.image ((result.status ≡ Status.Refused) × (refusal : MakeRefusal)
-        × Tells (Some (refusal_text refusal)) (E.contents err.old) (E.contents err.new)
+    ensures refused { IfNone result.image ((told : Told) × (result.status ≡ Status.Refused told) × (refusal : MakeRefusal)
+        × Tells (Some (refusal_text refusal)) told (E.contents err.old) (E.contents err.new)
         × IsUnmade wanted.entry.now refusal (out.new ≡ out.old) (AppendsPart (W.contents out.old) (W.contents out.new))) }
 {
     match try_make(alloc, wanted, out) {
@@ -90,13 +91,10 @@ pub fn make<W: Write, E: Write>(alloc: Global, wanted: &Wanted, out: &mut W, err
             status: Status::Done,
             image: Some(image),
         },
-        Err(refusal) => {
-            tell(alloc, err, &refusal);
-            Made {
-                status: Status::Refused,
-                image: None,
-            }
-        }
+        Err(refusal) => Made {
+            status: Status::Refused(tell(alloc, err, &refusal)),
+            image: None,
+        },
     }
 }
 
@@ -140,13 +138,12 @@ fn line_of(alloc: Global, first: u32, zones: u32, free: u32) -> Result<String, A
 /// How a making ended whose image was handed out: it was written under this name, or it wasn't, and then a line on `err` says so.
 pub fn finish<E: Write>(alloc: Global, name: &str, written: bool, err: &mut E) -> Status
     ensures written { OnTrue written ((result ≡ Status.Done) × (err.new ≡ err.old)) }
-    ensures unwritten { OnFalse written ((result ≡ Status.Refused) × Tells (Some (unwritten_text name.now)) (E.contents err.old) (E.contents err.new)) }
+    ensures unwritten { OnFalse written ((told : Told) × (result ≡ Status.Refused told) × Tells (Some (unwritten_text name.now)) told (E.contents err.old) (E.contents err.new)) }
 {
     if written {
         return Status::Done;
     }
-    tell(alloc, err, &CannotWrite(name));
-    Status::Refused
+    Status::Refused(tell(alloc, err, &CannotWrite(name)))
 }
 
 /// A file of this name can't be written.

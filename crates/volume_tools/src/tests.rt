@@ -1,5 +1,6 @@
 //! Texts and statuses of making a volume, and writers that fail.
 use crate::make::{Status, Wanted, finish, make};
+use output::Told;
 use std::io::{self, ErrorKind, Write};
 use std::test::Fail;
 
@@ -88,7 +89,7 @@ fn others_are_refused(rt: HostRuntime) -> Result<(), Fail> {
         };
         let (mut out, mut err) = (Vec::new(rt.alloc()), Vec::new(rt.alloc()));
         let made = make(rt.alloc(), &wanted, &mut out, &mut err);
-        assert_eq!(rt; made.status, Status::Refused);
+        assert_eq!(rt; made.status, Status::Refused(Told::Whole));
         assert!(rt; made.image.is_none());
         assert_eq!(rt; out.len(), 0);
         assert_eq!(rt; err.as_slice(), line.as_bytes());
@@ -110,7 +111,7 @@ fn writers_fail(rt: HostRuntime) -> Result<(), Fail> {
         let taken = (5 * calls as usize).min(line.len());
         assert_eq!(rt; out.taken.as_slice(), &line[..taken]);
         if calls < 5 {
-            assert_eq!(rt; made.status, Status::Refused);
+            assert_eq!(rt; made.status, Status::Refused(Told::Whole));
             assert!(rt; made.image.is_none());
             assert_eq!(rt;
                 err.as_slice(),

@@ -1,23 +1,19 @@
 //! Checking a volume, from the bytes of its file to the line of the verdict.
 
-ghost use Rattle.std.specs.Prelude.{◌≡◌, ◌≢◌, ◌+◌, ◌≤◌, Some, Ok, Err, IfOk, IfErr, length, string_bytes};
+ghost use Rattle.std.specs.Prelude.{◌≡◌, Some, Ok, Err, IfOk, IfErr, string_bytes};
 ghost use Rattle.std.specs.Io.KnownBytes.{Appends};
 ghost use Rattle.volume.specs.Verdict.{Verdict as OfVolume};
 ghost use Rattle.fsck.specs.Shown.{shown};
-ghost use Rattle.partition.specs.Refusals.{table_of};
 ghost use Rattle.output.specs.Output.{AppendsPart, Tells};
-ghost use Rattle.volume_tools.specs.Verifying.{IsVerdictOn, IsUnverified, IsUntold, missing_text, partition_at, partition_or, partition_text, verdict_text, verified_as, verified_number, verify_text, volume_at};
+ghost use Rattle.volume_tools.specs.Verifying.{IsToldWhole, IsVerdictOn, IsUnverified, IsUntold, missing_text, partition_text, verdict_text, verified_as, verified_number, verify_text, volume_at};
 
 use fsck::{Verdict, check};
 use media::{MOST_BYTES, SECTOR};
-use output::{tell, write_text};
-use partition::{PartitionRefusal, Table, parse};
+use output::{Told, tell, write_text};
+use partition::{PartitionRefusal, PlaceRefusal, volume_place};
 use std::alloc::{AllocError, Global};
 use std::fmt;
 use std::io::Write;
-
-/// The type of MINIX's partitions.
-const MINIX: u8 = 0x81;
 
 /// Why a file holds no volume of a minor.
 #[derive(Clone, Copy, Debug, PartialEq, Eq)]
@@ -26,10 +22,8 @@ pub enum NoVolume {
     NotSectors,
     /// It has over 67108864 bytes.
     TooManySectors,
-    /// The partition table is refused.
-    Partition(PartitionRefusal),
-    /// There is no partition of this minor, or it isn't of MINIX's type.
-    NoPartition,
+    /// It has no partition of this minor.
+    Place(PlaceRefusal),
 }
 
 /// Why nothing is said of a volume.
@@ -65,8 +59,8 @@ fn text_of_missing(refusal: NoVolume) -> &'static str
     match refusal {
         NoVolume::NotSectors => "Media NotWholeSectors",
         NoVolume::TooManySectors => "Media TooLarge",
-        NoVolume::Partition(refusal) => text_of_partition(refusal),
-        NoVolume::NoPartition => "Partition",
+        NoVolume::Place(PlaceRefusal::Table(refusal)) => text_of_partition(refusal),
+        NoVolume::Place(PlaceRefusal::NoPartition) => "Partition",
     }
 }
 
@@ -88,8 +82,8 @@ pub enum Verified {
     IsClean,
     /// It breaks a rule.
     HasFinding,
-    /// Nothing was said of it, or not all, and a line says why.
-    Refused,
+    /// Nothing was said of it, or not all, and a line was to say why.
+    Refused(Told),
 }
 
 impl Verified {
@@ -100,14 +94,14 @@ impl Verified {
         match self {
             Verified::IsClean => 0,
             Verified::HasFinding => 1,
-            Verified::Refused => 1,
+            Verified::Refused(_) => 1,
         }
     }
 }
 
 /// Checks the volume in a file, whose bytes are none where it couldn't be read, and writes on `out` the line `clean` or `finding N at P`.
 /// With minor 0 the volume is all of the file, and with another one a partition of the disk that it holds. Where nothing can be said of
-/// it, or the line can't be written, a line on `err` says why.
+/// it, or the line can't be written, a line on `err` says why; how that line went out is handed back.
 pub fn verify<W: Write, E: Write>(
     alloc: Global,
     name: &str,
@@ -116,17 +110,15 @@ pub fn verify<W: Write, E: Write>(
     out: &mut W,
     err: &mut E,
 ) -> Verified
-    ensures told { result ≢ Verified.Refused → (verdict : OfVolume) × IsVerdictOn file.entry minor verdict × (result ≡ verified_as verdict)
+    ensures told { IsToldWhole result → (verdict : OfVolume) × IsVerdictOn file.entry minor verdict × (result ≡ verified_as verdict)
         × Appends (W.contents out.old) (W.contents out.new) (verdict_text verdict) × (err.new ≡ err.old) }
-    ensures refused { result ≡ Verified.Refused → (refusal : VerifyRefusal) × Tells (Some (verify_text refusal)) (E.contents err.old) (E.contents err.new)
+    ensures refused { (told : Told) → result ≡ Verified.Refused told → (refusal : VerifyRefusal)
+        × Tells (Some (verify_text refusal)) told (E.contents err.old) (E.contents err.new)
         × IsUntold file.entry name.entry minor refusal (out.new ≡ out.old) (AppendsPart (W.contents out.old) (W.contents out.new)) }
 {
     match try_verify(alloc, name, file, minor, out) {
         Ok(verified) => verified,
-        Err(refusal) => {
-            tell(alloc, err, &refusal);
-            Verified::Refused
-        }
+        Err(refusal) => Verified::Refused(tell(alloc, err, &refusal)),
     }
 }
 
@@ -138,7 +130,7 @@ fn try_verify<'n, W: Write>(
     minor: u8,
     out: &mut W,
 ) -> Result<Verified, VerifyRefusal<'n>>
-    ensures told { IfOk result (λ verified. (verified ≢ Verified.Refused) × ((verdict : OfVolume) × IsVerdictOn file.entry minor verdict × (verified ≡ verified_as verdict)
+    ensures told { IfOk result (λ verified. IsToldWhole verified × ((verdict : OfVolume) × IsVerdictOn file.entry minor verdict × (verified ≡ verified_as verdict)
         × Appends (W.contents out.old) (W.contents out.new) (verdict_text verdict))) }
     ensures refused { IfErr result (λ refusal. IsUntold file.entry name.entry minor refusal (out.new ≡ out.old) (AppendsPart (W.contents out.old) (W.contents out.new))) }
 {
@@ -154,7 +146,7 @@ fn try_verify<'n, W: Write>(
 
 /// How a verifying ends that told this verdict.
 fn ended_by(verdict: &Verdict) -> Verified
-    ensures told { result ≢ Verified.Refused }
+    ensures told { IsToldWhole result }
     ensures verdict { result ≡ verified_as (shown verdict.now) }
 {
     match verdict {
@@ -211,32 +203,11 @@ fn volume_in(bytes: &[u8], minor: u8) -> Result<&[u8], NoVolume>
     if bytes.len() > MOST_BYTES {
         return Err(NoVolume::TooManySectors);
     }
-    let Some(first) = sectors.first() else {
-        return Err(NoVolume::Partition(PartitionRefusal::NoSignature));
-    };
-    let (start, count) = partition_by(first, sectors.len() as u32, minor)?;
-    let place = SECTOR * start as usize;
-    Ok(&bytes[place..place + SECTOR * count as usize])
-}
-
-/// Where a partition of MINIX's type lies, by the table in the first of so many sectors.
-fn partition_by(first: &[u8; 512], sectors: u32, minor: u8) -> Result<(u32, u32), NoVolume>
-    ensures place { result ≡ partition_or (table_of first.now sectors) minor }
-    ensures inside { IfOk result (λ range. range.0 + range.1 ≤ sectors) }
-{
-    match parse(first, sectors) {
-        Ok(table) => partition_in(&table, minor),
-        Err(refusal) => Err(NoVolume::Partition(refusal)),
-    }
-}
-
-/// Where a table has a partition of MINIX's type.
-fn partition_in(table: &Table, minor: u8) -> Result<(u32, u32), NoVolume>
-    ensures place { result ≡ partition_at table.now minor }
-    ensures inside { IfOk result (λ range. range.0 + range.1 ≤ table.now.sectors) }
-{
-    match table.kind(minor) {
-        Some(MINIX) => table.range(minor).ok_or(NoVolume::NoPartition),
-        _ => Err(NoVolume::NoPartition),
+    match volume_place(sectors, minor) {
+        Ok((first, count)) => {
+            let place = SECTOR * first as usize;
+            Ok(&bytes[place..place + SECTOR * count as usize])
+        }
+        Err(refusal) => Err(NoVolume::Place(refusal)),
     }
 }

@@ -1,8 +1,7 @@
-use Rattle.std.proofs.Common.{◌≡◌, ℕ, refl, sym, ap, ◌∙◌}
-use Rattle.std.specs.Prelude.{None}
+use Rattle.std.proofs.Common.{sym, ap, ◌∙◌}
 use Rattle.volume.specs.Verdict.{place_limit}
 use Rattle.image.specs.Contents.{contents}
-use Rattle.fsck.specs.Parts.{first_of, structure_tests, zone_tests, block_tests, entry_tests, tree_tests}
+use Rattle.fsck.specs.Parts.{first_of, zone_tests, block_tests, entry_tests, tree_tests}
 use Rattle.fsck.proofs.Firsts.{or_else, all_parts, sizes_good}
 use Rattle.fsck.proofs.finding.Goals as goal
 

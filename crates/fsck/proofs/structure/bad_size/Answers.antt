@@ -1,4 +1,4 @@
-use Rattle.std.proofs.Common.{◌≡◌, ◌≤◌, ◌+◌, ℕ, Bool, false, ap, rules, arith}
+use Rattle.std.proofs.Common.{◌≡◌, ap, rules, arith}
 use Rattle.std.proofs.lemmas.Bool.{and_left}
 use Rattle.volume.specs.Nodes.{is_marked}
 use Rattle.volume.specs.Findings.{has_bad_size}

@@ -1,4 +1,4 @@
-use Rattle.std.proofs.Common.{◌≡◌, ◌∙◌, rules}
+use Rattle.std.proofs.Common.{◌∙◌, rules}
 use Rattle.std.specs.Prelude.{false}
 use Rattle.fsck.proofs.Firsts.{fresh}
 use Rattle.fsck.proofs.zones.zones.Goals as goal

@@ -1,9 +1,6 @@
-use Rattle.std.proofs.Common.{◌≡◌, ◌+◌, ℕ, refl, sym, ap, ◌∙◌}
-use Rattle.std.specs.Prelude.{None}
-use Rattle.volume.specs.Findings.{lacks_inode_bit, lacks_zone_bit, lacks_root, has_bad_mode, has_bad_size, has_bad_number, is_used_twice, has_bad_bit, has_spare_zone, has_hole, has_bad_dots, has_bad_entry, has_bad_target, is_misplaced, has_bad_links}
+use Rattle.volume.specs.Findings.{has_bad_number, is_used_twice, has_bad_bit}
 use Rattle.volume.specs.Verdict.{place_limit}
 use Rattle.image.specs.Contents.{contents}
-use Rattle.fsck.specs.Parts.{first_of}
 use Rattle.fsck.proofs.Firsts.{first_none, first_here, first_later}
 use Rattle.fsck.proofs.zones.zones_with.Goals as goal
 

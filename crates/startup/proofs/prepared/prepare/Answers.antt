@@ -1,11 +1,11 @@
-use Rattle.std.proofs.Common.{◌≡◌, ◌∙◌, ◌*◌, ◌-◌, ◌+◌, sym, ap, subst, arith, take, drop, IfErr, length, map}
+use Rattle.std.proofs.Common.{◌∙◌, ◌+◌, sym, ap, subst, IfErr, length, map}
 use Rattle.std.specs.Prelude.{◌≤◌}
 use Rattle.std.proofs.lemmas.List.Folds.{list_all-map}
 use Rattle.layout.specs.Places.{geometry_of}
 use Rattle.layout.proofs.Parsed.{geometry_fits}
 use Rattle.startup.specs.declared.refusal.StartRefusal.TheVariants.{Mount}
 use Rattle.startup.specs.Starting.{place_in, why_not_mounted, bytes_of, IsRefused, opening_of, is_ready_for}
-use Rattle.startup.proofs.Starts.{err_is, not_placed, all_ready, each_ready, lies_on_media, many_sectors, same_bytes}
+use Rattle.startup.proofs.Starts.{err_is, not_placed, all_ready, lies_on_media, many_sectors, same_bytes}
 use Rattle.startup.proofs.prepared.prepare.Goals as goal
 
 pub returns-in_err-range-clause-refusal : goal.returns-in_err-range-clause-refusal

@@ -1,7 +1,7 @@
 use Rattle.std.proofs.Common.{take}
 use Rattle.std.specs.Io.KnownBytes.{Appends}
-use Rattle.tools.specs.Output.{outcomes_text}
-use Rattle.tools.proofs.output.write_outcomes.Given as goal
+use Rattle.tools.specs.Answers.{outcomes_text}
+use Rattle.tools.proofs.answers.write_outcomes.Given as goal
 
 -- the answers so far went out
 abbrev pub invariant-loop-outcome : goal.invariant-loop-outcome

@@ -1,6 +1,6 @@
-use Rattle.tools.specs.Output.{number_text, outcomes_text}
-use Rattle.tools.proofs.Writes.{part_of_whole, on_err, second_ok, second_err}
-use Rattle.tools.proofs.output.write_session.Goals as goal
+use Rattle.tools.specs.Answers.{number_text, outcomes_text}
+use Rattle.output.proofs.Writes.{part_of_whole, on_err, second_ok, second_err}
+use Rattle.tools.proofs.answers.write_session.Goals as goal
 
 pub returns-in_err-write_number-clause-err : goal.returns-in_err-write_number-clause-err
 returns-in_err-write_number-clause-err g c = on_err _ _ (part_of_whole _ _ _ _ c.in_err-write_number.ensures.err)

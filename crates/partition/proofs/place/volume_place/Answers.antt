@@ -1,7 +1,7 @@
-use Rattle.std.proofs.Common.{◌≡◌, ◌∙◌, sym, ap}
+use Rattle.std.proofs.Common.{◌∙◌, sym, ap}
 use Rattle.std.specs.Option.{option_copied}
-use Rattle.startup.proofs.Starts.{placed}
-use Rattle.startup.proofs.prepared.place_in.Goals as goal
+use Rattle.partition.proofs.Volumes.{placed}
+use Rattle.partition.proofs.place.volume_place.Goals as goal
 
 pub returns-in-Some-clause-place : goal.returns-in-Some-clause-place
 returns-in-Some-clause-place c =

@@ -1,9 +1,11 @@
 use Rattle.std.proofs.Common.{◌∙◌}
-use Rattle.tools.proofs.Writes.{appends_more, part_of_more, part_before, text_next, text_split, on_err}
-use Rattle.tools.proofs.output.write_outcomes.Goals as goal
+use Rattle.output.proofs.Writes.{appends_more, part_of_more, on_err}
+use Rattle.tools.proofs.Writes.{part_before, text_next, text_split}
+use Rattle.tools.proofs.answers.write_outcomes.Goals as goal
 
 pub returns-in_err-line-clause-err : goal.returns-in_err-line-clause-err
-returns-in_err-line-clause-err g c = on_err _ _ (part_before _ _ _ _ c.loop-outcome.invariant)
+returns-in_err-line-clause-err g c =
+    on_err _ _ (part_before _ _ c.args.outcomes.now c.loop-outcome.outcome-index c.outcome-item.result c.loop-outcome-test.true c.outcome-item.is c.loop-outcome.invariant)
 
 pub returns-in_err-write_text-clause-err : goal.returns-in_err-write_text-clause-err
 returns-in_err-write_text-clause-err g c =

@@ -1,12 +1,7 @@
--- What goes out.
-use Rattle.std.specs.Prelude.{◌≡◌, ℕ, List, ◌∷◌, [], ◌++◌, Option, codes, decimal, flat_map}
-use Rattle.std.specs.Io.KnownBytes.{Appends}
+-- The texts of a session's answers.
+use Rattle.std.specs.Prelude.{ℕ, List, ◌∷◌, [], ◌++◌, codes, decimal, flat_map}
 use Rattle.tree.specs.declared.Outcome.{Outcome}
 use Rattle.tree.specs.Text.{outcome_text}
-
--- what went out is a beginning of the text
-abbrev pub AppendsPart : Option (List ℕ) → Option (List ℕ) → List ℕ → Type 0
-AppendsPart old new text = (part : List ℕ) × (rest : List ℕ) × (text ≡ part ++ rest) × Appends old new part
 
 -- an answer and a newline
 abbrev pub line_text : Outcome → List ℕ
