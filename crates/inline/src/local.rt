@@ -18,6 +18,11 @@ pub trait LocalDriver: Drop {
         ensures keeps { AcceptKeeps (state self.old) request result (state self.new) }
         ensures driver { IsDriver (state self.new) };
 
+    /// The sector of the media that the next step may write: some only while a write is in work.
+    fn in_work_here(&self) -> Option<u32>
+        ensures value { result ≡ (state self.now).in_work }
+        ensures driver { IsDriver (state self.now) };
+
     /// The first sector and the count of a minor's range, while nothing was taken and nothing failed.
     fn ready_here(&self, minor: u8) -> Option<(u32, u32)>
         ensures value { result ≡ range_while_fresh (state self.now) minor }
@@ -36,6 +41,10 @@ impl<D: BlockDriver> LocalDriver for D {
 
     fn accept_here(&mut self, request: BlockRequest) -> Accept {
         self.accept(request)
+    }
+
+    fn in_work_here(&self) -> Option<u32> {
+        self.in_work()
     }
 
     fn ready_here(&self, minor: u8) -> Option<(u32, u32)> {

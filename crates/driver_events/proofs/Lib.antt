@@ -1,0 +1,4 @@
+pub mod Decided
+pub mod DisksLaws
+pub mod StageLaws
+pub mod Keeping

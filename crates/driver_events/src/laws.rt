@@ -1,0 +1,15 @@
+//! What each event keeps, each a law of the definitions.
+
+ghost use Rattle.driver_events.specs.Kept.{EventsKeep, EventsNoteAside};
+
+/// What holds of the drivers and of the server's record holds after each event, with the message that it brings.
+#[tactic(auto, using(crate::proofs::Keeping::events_keep))]
+pub fn events_keep()
+    ensures { EventsKeep }
+{}
+
+/// What an event notes changes nothing of what the server knows.
+#[tactic(auto, using(crate::proofs::Keeping::events_note_aside))]
+pub fn events_note_aside()
+    ensures { EventsNoteAside }
+{}

@@ -1,0 +1,4 @@
+pub mod Posts
+pub mod Noted
+pub mod LogView
+pub mod MarkView
