@@ -85,7 +85,7 @@ from_line number (Some x) (Ok said) h = tt
 from_line number (Some x) (Err bad) h = omega arith
 
 -- no line before the lines' first is their first bad one
-lines_are_from : {A : Type 0} (said : ℕ → List ℕ → Option A) (number : ℕ) (lines : List (List ℕ)) → IsFrom number (said_by_lines said number lines)
+pub lines_are_from : {A : Type 0} (said : ℕ → List ℕ → Option A) (number : ℕ) (lines : List (List ℕ)) → IsFrom number (said_by_lines said number lines)
 lines_are_from said number [] = omega arith
 lines_are_from said number (last ∷ []) = from_last _ number (length last == 0)
 lines_are_from said number (line ∷ next ∷ more) = from_line number (said number line) (said_by_lines said (number + 1) (next ∷ more)) (lines_are_from said (number + 1) (next ∷ more))

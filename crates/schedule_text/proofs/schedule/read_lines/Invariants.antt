@@ -1,0 +1,10 @@
+use Rattle.std.proofs.Common.{length}
+use Rattle.schedule_text.proofs.Events.{SaysSoFar}
+use Rattle.schedule_text.proofs.schedule.read_lines.Given as goal
+
+-- what the text says is the events so far, before those of the lines that are left
+abbrev pub invariant-loop-rest : goal.invariant-loop-rest
+invariant-loop-rest l = SaysSoFar l.text l.lines.items l.rest
+
+abbrev pub decreases-loop-rest : goal.decreases-loop-rest
+decreases-loop-rest l = length l.rest

@@ -1,0 +1,5 @@
+//! Schedules as text: a line for each event.
+#![tactic(auto)]
+
+pub mod line;
+pub mod schedule;
