@@ -1,0 +1,5 @@
+pub mod Made
+mod Exits
+mod Looks
+mod Room
+mod Effects

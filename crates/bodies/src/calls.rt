@@ -1,0 +1,73 @@
+//! The body of each call.
+
+ghost use Rattle.std.specs.Prelude.{◌≡◌, ◌≢◌, IfOk, IfErr, IsTrue};
+ghost use Rattle.tree.specs.Answers.{answer_of, refused};
+ghost use Rattle.legal.specs.Legal.{is_success, is_sync};
+ghost use Rattle.descriptors.specs.Table.{files_of};
+ghost use Rattle.store.specs.World.{Turns};
+ghost use Rattle.store.specs.Volume.{IsOn};
+ghost use Rattle.store.specs.Halts.{IsHalt};
+ghost use Rattle.bodies.specs.Calls.{DoesCall, MeetsCall, IsGiven};
+
+use crate::open_files::fstat;
+use crate::whole::{statfs, sync};
+use descriptors::Descriptors;
+use errno::Errno;
+use layout::Geometry;
+use store::{Blocks, Cut, Halt};
+use tree::{Call, MAX_SESSIONS, Reply, Who};
+
+/// The call by its kind.
+fn perform<B: Blocks>(
+    blocks: &mut B,
+    opens: &mut Descriptors,
+    geometry: &Geometry,
+    who: Who,
+    now: u32,
+    call: &Call,
+) -> Result<Reply, Halt>
+    requires on { IsOn B.world geometry.now blocks.old }
+    requires given { IsGiven call.now }
+    ensures turns { Turns B.world blocks.old blocks.new (λ d e.
+        MeetsCall geometry.now who now call.now result (files_of opens.old) (files_of opens.new) d e) }
+    ensures synced { IfOk result (λ r. IsTrue (is_sync call.now) → IsTrue (is_success (answer_of r)) → B.world.synced blocks.new) }
+    ensures halt { IfErr result (λ h. IsHalt B.world blocks.new h) }
+    ensures proper { IfOk result (λ r. answer_of r ≢ refused Errno.EIO) }
+{
+    let _time = now;
+    if who.session >= MAX_SESSIONS {
+        return Ok(Reply::Refused(Errno::EINVAL));
+    }
+    match *call {
+        Call::Fstat { fd } => fstat(blocks, opens, geometry, who.session, fd),
+        Call::Sync => sync(blocks, geometry),
+        Call::Statfs => statfs(blocks, geometry),
+        _ => unreachable!(),
+    }
+}
+
+/// Does a client call. EINVAL where the session isn't one that may be, before anything else is looked at. EIO is never answered, and
+/// after a sync that succeeded all that was changed is written. A volume that turns out not to be sound holds no tree; the call is
+/// refused with EINVAL then.
+pub fn body<B: Blocks>(
+    blocks: &mut B,
+    opens: &mut Descriptors,
+    geometry: &Geometry,
+    who: Who,
+    now: u32,
+    call: &Call,
+) -> Result<Reply, Cut>
+    requires on { IsOn B.world geometry.now blocks.old }
+    requires given { IsGiven call.now }
+    ensures turns { Turns B.world blocks.old blocks.new (λ d e. IfOk result (λ r.
+        DoesCall geometry.now who now call.now (answer_of r) (files_of opens.old) (files_of opens.new) d e)) }
+    ensures synced { IfOk result (λ r. IsTrue (is_sync call.now) → IsTrue (is_success (answer_of r)) → B.world.synced blocks.new) }
+    ensures cut { IfErr result (λ c. B.world.over blocks.new c) }
+    ensures proper { IfOk result (λ r. answer_of r ≢ refused Errno.EIO) }
+{
+    match perform(blocks, opens, geometry, who, now, call) {
+        Ok(reply) => Ok(reply),
+        Err(Halt::Cut(cut)) => Err(cut),
+        Err(Halt::Unsound) => Ok(Reply::Refused(Errno::EINVAL)),
+    }
+}

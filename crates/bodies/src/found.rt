@@ -1,0 +1,56 @@
+//! The node of a descriptor's open file.
+
+ghost use Rattle.std.specs.Prelude.{◌≡◌, ◌<◌, IfOk, IfErr, IfSome, option_map};
+ghost use Rattle.tree.specs.Tree.{most_sessions};
+ghost use Rattle.volume.specs.Pieces.{pieces};
+ghost use Rattle.descriptors.specs.Files.{HasFiles, file_at};
+ghost use Rattle.descriptors.specs.Table.{files_of};
+ghost use Rattle.store.specs.World.{Reads};
+ghost use Rattle.store.specs.Volume.{IsOn};
+ghost use Rattle.store.specs.Halts.{IsHalt, Ends};
+ghost use Rattle.bodies.specs.Does.{IsHeld};
+ghost use Rattle.bodies.specs.Found.{file_of};
+
+use descriptors::Descriptors;
+use inode_table::{Inode, load};
+use layout::Geometry;
+use store::{Blocks, Halt};
+use tree::OpenFlags;
+
+/// An open file, and the inode of its node.
+#[derive(Clone, Copy)]
+pub(crate) struct Found {
+    pub number: u16,
+    pub position: u32,
+    pub flags: OpenFlags,
+    pub inode: Inode,
+}
+
+/// The open file to which a descriptor leads, if it leads to one.
+pub(crate) fn find<B: Blocks>(
+    blocks: &mut B,
+    opens: &Descriptors,
+    geometry: &Geometry,
+    session: u8,
+    fd: u32,
+) -> Result<Option<Found>, Halt>
+    requires on { IsOn B.world geometry.now blocks.old }
+    requires session { session < most_sessions }
+    ensures file { IfOk result (λ x. option_map file_of x ≡ file_at (files_of opens.now) session fd) }
+    ensures reads { Reads B.world blocks.old blocks.new (λ d. Ends result
+        (λ x. IfSome x (λ y. y.inode ≡ (pieces geometry.now d).inodes y.number)) (IsHeld geometry.now (HasFiles (files_of opens.now)) d)) }
+    ensures halt { IfErr result (λ h. IsHalt B.world blocks.new h) }
+{
+    match opens.get(session, fd) {
+        None => Ok(None),
+        Some((number, position, flags)) => {
+            let inode = load(blocks, geometry, u32::from(number))?;
+            Ok(Some(Found {
+                number,
+                position,
+                flags,
+                inode,
+            }))
+        }
+    }
+}

@@ -1,0 +1,3 @@
+-- A file server over the frames of a cache.
+pub mod Server
+pub mod Outcomes

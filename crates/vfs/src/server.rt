@@ -1,0 +1,92 @@
+//! A file server: what is common to all calls.
+
+ghost use Rattle.std.specs.Prelude.{◌≡◌, false};
+ghost use Rattle.vfs.specs.Outcomes.{stopped};
+
+use bodies::calls::body;
+use descriptors::Descriptors;
+use errno::Errno;
+use layout::Geometry;
+use legal::Serve;
+use message::Incoming;
+use store::Cut;
+use stored::Caches;
+use tree::{Call, Outcome, Reply, Who};
+
+/// A file server of one volume, over blocks that have a cache.
+///
+/// Once a take gave End each call is cut, and once the device was given up each is answered EIO; neither does anything at the link. A
+/// Flush that is taken in a call is done when the call's work is finished, before it is answered.
+#[derive(Drop)]
+pub struct Server<B> {
+    blocks: B,
+    geometry: Geometry,
+    opens: Descriptors,
+}
+
+/// What a call that is cut off gives back.
+fn stop(cut: Cut) -> Outcome
+    ensures { result ≡ stopped cut }
+{
+    match cut {
+        Cut::Eio => Outcome::Reply(Reply::Refused(Errno::EIO)),
+        Cut::LinkEnded => Outcome::Cut,
+    }
+}
+
+impl<B: Caches> Server<B> {
+    ghost use Rattle.bodies.specs.Calls.{IsGiven};
+    ghost use Rattle.stored.specs.Cached.{MayAbsorb};
+    ghost use Rattle.vfs.specs.Outcomes.{outcome_of, OnAnswered};
+    ghost use Rattle.vfs.specs.Server.{IsOpen, Answers, Absorbs};
+
+    /// Answers a client call, with the time in seconds since 1970. Cut once a take gave End, else EIO once the device was given up. No
+    /// Flush is left undone where the call is answered otherwise.
+    pub fn call(&mut self, who: Who, now: u32, call: &Call) -> Outcome
+        requires may { IsOpen B.caching self.old }
+        requires given { IsGiven call.now }
+        ensures may { IsOpen B.caching self.new }
+        ensures calls { Answers B.caching B.frame_count self.old self.new who now call.now (outcome_of result) }
+        ensures goes { B.goes_on self.old.blocks self.new.blocks }
+        ensures flushed { OnAnswered (outcome_of result) (B.wanted self.new.blocks ≡ false) }
+    {
+        if let Err(cut) = self.blocks.live() {
+            return stop(cut);
+        }
+        let reply = match body(
+            &mut self.blocks,
+            &mut self.opens,
+            &self.geometry,
+            who,
+            now,
+            call,
+        ) {
+            Ok(reply) => reply,
+            Err(cut) => return stop(cut),
+        };
+        self.blocks.flush_wanted();
+        if let Err(cut) = self.blocks.live() {
+            return stop(cut);
+        }
+        Outcome::Reply(reply)
+    }
+
+    /// Takes a message between two calls, which the link has noted: a Flush is done at once, and so is one that a call which was cut left
+    /// undone. End has no effect.
+    pub fn absorb(&mut self, message: Incoming)
+        requires open { IsOpen B.caching self.old }
+        requires may { MayAbsorb message (B.caching self.old.blocks) }
+        ensures open { IsOpen B.caching self.new }
+        ensures absorbs { Absorbs B.caching B.frame_count self.old self.new message }
+        ensures goes { B.goes_on self.old.blocks self.new.blocks }
+        ensures flushed { message ≡ Incoming.Flush → B.wanted self.new.blocks ≡ false }
+    {
+        self.blocks.absorb(message);
+    }
+}
+
+impl<B: Caches> Serve for Server<B> {
+    ghost use Rattle.vfs.specs.Server.{serving as as_seen};
+
+    ghost serving = { as_seen B.caching B.frame_count };
+}
