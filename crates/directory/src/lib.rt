@@ -5,4 +5,4 @@ mod entries;
 mod look_up;
 
 pub use entries::{ENTRY_SIZE, entry_inode, entry_name};
-pub use look_up::{entry, find};
+pub use look_up::{entry, find, parent};

@@ -3,17 +3,18 @@
 ghost use Rattle.std.specs.Prelude.{◌≡◌, ◌<◌, ◌≤◌, ◌+◌, ◌-◌, ◌*◌, ◌/◌, ℕ, IfErr, IfOk, length, slice_index};
 ghost use Rattle.store.specs.Rows.{HasBytes};
 ghost use Rattle.directory.specs.Scan.{last_named};
+ghost use Rattle.store.specs.Halts.{Ends, IsHalt};
 ghost use Rattle.store.specs.Volume.{IsOn};
 ghost use Rattle.store.specs.World.{Reads};
 ghost use Rattle.tree.specs.Names.{inode_of};
 ghost use Rattle.volume.specs.Nodes.{directory_of, file_byte};
 ghost use Rattle.volume.specs.Pieces.{pieces};
 
-use crate::entries::last_named;
+use crate::entries::{entry_inode, last_named};
 use inode::Inode;
 use layout::Geometry;
 use store::words::read_bytes;
-use store::{Blocks, Cut};
+use store::{Blocks, Cut, Halt};
 use zone::numbers::is_data_zone;
 use zone::places::lookup;
 
@@ -105,4 +106,18 @@ pub fn entry<B: Blocks>(
     }
     read_bytes(blocks, zone, 64 * (k % each) as usize, &mut bytes)?;
     Ok(bytes)
+}
+
+/// The directory that holds a directory, which its entry `..` names. Unsound where the directory is shorter than two entries.
+pub fn parent<B: Blocks>(blocks: &mut B, geometry: &Geometry, inode: &Inode) -> Result<u32, Halt>
+    requires on { IsOn B.world geometry.now blocks.old }
+    ensures reads { Reads B.world blocks.old blocks.new (λ d. Ends result
+        (λ x. x ≡ (directory_of geometry.now (pieces geometry.now d) inode.now).parent) (128 ≤ inode.now.size)) }
+    ensures halt { IfErr result (λ h. IsHalt B.world blocks.new h) }
+{
+    if inode.size < 128 {
+        return Err(Halt::Unsound);
+    }
+    let bytes = entry(blocks, geometry, inode, 1)?;
+    Ok(entry_inode(&bytes, 0))
 }

@@ -37,6 +37,7 @@ pub(crate) fn split_first(bytes: &[u8]) -> Option<(&[u8], &[u8])>
     ensures none { IfNone result (parts_of bytes.now ≡ []) }
     ensures parts { IfSome result (λ x. parts_of bytes.now ≡ x.0.now ∷ parts_of x.1.now) }
     ensures less { IfSome result (λ x. length x.1.now < length bytes.now) }
+    ensures some { IfSome result (λ x. 0 < length x.0.now) }
 {
     let bytes = &bytes[leading_slashes(bytes)..];
     let end = until_slash(bytes);
@@ -78,6 +79,7 @@ impl<'a> Parts<'a> {
         ensures none { IfNone result (self.old ≡ []) }
         ensures stays { IfNone result (self.new ≡ self.old) }
         ensures some { IfSome result (λ part. self.old ≡ part.now ∷ self.new) }
+        ensures bytes { IfSome result (λ part. 0 < length part.now) }
     {
         if self.left == 0 {
             return None;

@@ -1,0 +1,4 @@
+pub mod Ending
+pub mod Entering
+pub mod Going
+pub mod Finding
