@@ -25,10 +25,10 @@ use Rattle.zone_laws.proofs.Counts.{marked_as_needed}
 use Rattle.file.specs.Changing.{MayChange, BecomesFile, file_at}
 
 -- The pieces with inode n a file, whatever it was: then its zones are those of its held pages.
-abbrev plain_inode : Inode → Inode
+abbrev pub plain_inode : Inode → Inode
 plain_inode i = record i { mode = 8 ^ 5 }
 
-abbrev plain : Pieces → ℕ → Pieces
+abbrev pub plain : Pieces → ℕ → Pieces
 plain v n = record v { inodes = put v.inodes n (plain_inode (v.inodes n)) }
 
 module _ (g : Geometry) (v : Pieces) (n : ℕ) (ok : IsGeometry g) (is : IsTrue (is_marked g v n)) (rules : IsSoundBut g v n 0 0) where
@@ -47,7 +47,7 @@ module _ (g : Geometry) (v : Pieces) (n : ℕ) (ok : IsGeometry g) (is : IsTrue 
     inside = λ p some. let low = rules.inside n p is some in let wide : pages_of g ((plain v n).inodes n).size ≡ pages_of g (v.inodes n).size = ap (λ (i : Inode). pages_of g i.size) its in omega (arith, low, wide);
   }
 
-  plain_sound : IsSound g (plain v n)
+  pub plain_sound : IsSound g (plain v n)
   plain_sound = sound_but_is_sound g (plain v n) n 0 (resize_keeps g v (plain v n) n 0 0 ok made_plain rules) (λ dir. absurd (no_dir dir))
     where
       no_dir : IsTrue (is_directory_inode g (plain v n) n) → ⊥
@@ -57,7 +57,7 @@ module _ (g : Geometry) (v : Pieces) (n : ℕ) (ok : IsGeometry g) (is : IsTrue 
           cc
 
   -- and takes as many zones as they need
-  plain_takes : zones_of g (Some (node_from ((plain v n).inodes n) (file_of g v ((plain v n).inodes n)))) ≡ zones_needed (numbers_in_zone g) (file_at g v n).held
+  pub plain_takes : zones_of g (Some (node_from ((plain v n).inodes n) (file_of g v ((plain v n).inodes n)))) ≡ zones_needed (numbers_in_zone g) (file_at g v n).held
   plain_takes = ap (λ (i : Inode). zones_of g (Some (node_from i (file_of g v i)))) its
 
   plain_node : zones_of g (nodes_of g (plain v n) n) ≡ zones_needed (numbers_in_zone g) (file_at g v n).held

@@ -9,3 +9,4 @@ pub mod Resizing
 pub mod Chunk
 pub mod SoFar
 pub mod Touched
+pub mod Spaces

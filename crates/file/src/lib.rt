@@ -2,6 +2,7 @@
 #![tactic(auto)]
 
 pub mod changing;
+pub mod laws;
 pub mod reading;
 pub mod room;
 pub mod writing;

@@ -1,11 +1,13 @@
 //! Calls on files, over any blocks.
 
+ghost use Rattle.std.specs.Prelude.{◌≤◌, ◌<◌, ◌+◌, length};
 ghost use Rattle.store.specs.Volume.{IsOn};
 
-use file::read_at;
-use inode_table::load;
+use bitmap::{Map, count_free};
+use file::{has_room, read_at, set_size, stamp, write_at};
+use inode_table::{Inode, load};
 use layout::Geometry;
-use store::{Blocks, Halt};
+use store::{Blocks, Cut, Halt};
 
 /// Reads bytes of an inode's file.
 pub(crate) fn read<B: Blocks>(
@@ -20,4 +22,83 @@ pub(crate) fn read<B: Blocks>(
 {
     let loaded = load(blocks, geometry, inode)?;
     Ok(read_at(blocks, geometry, &loaded, at, into)?)
+}
+
+/// The inode of a number.
+pub(crate) fn find<B: Blocks>(
+    blocks: &mut B,
+    geometry: &Geometry,
+    inode: u32,
+) -> Result<Inode, Halt>
+    requires { IsOn B.world geometry.now blocks.old }
+    ensures { IsOn B.world geometry.now blocks.new }
+{
+    load(blocks, geometry, inode)
+}
+
+/// How many zones are free.
+pub(crate) fn free<B: Blocks>(blocks: &mut B, geometry: &Geometry) -> Result<u32, Cut>
+    requires { IsOn B.world geometry.now blocks.old }
+    ensures { IsOn B.world geometry.now blocks.new }
+{
+    count_free(blocks, geometry, Map::Zones)
+}
+
+/// Writes bytes into an inode's file.
+pub(crate) fn write<B: Blocks>(
+    blocks: &mut B,
+    geometry: &Geometry,
+    inode: u32,
+    at: u32,
+    bytes: &[u8],
+) -> Result<(), Halt>
+    requires on { IsOn B.world geometry.now blocks.old }
+    requires some { 0 < length bytes.now }
+    requires end { at + length bytes.now ≤ 2147483647 }
+    ensures { IsOn B.world geometry.now blocks.new }
+{
+    write_at(blocks, geometry, inode, at, bytes)
+}
+
+/// Makes an inode's file that long.
+pub(crate) fn resize<B: Blocks>(
+    blocks: &mut B,
+    geometry: &Geometry,
+    inode: u32,
+    size: u32,
+) -> Result<(), Halt>
+    requires on { IsOn B.world geometry.now blocks.old }
+    requires end { size ≤ 2147483647 }
+    ensures { IsOn B.world geometry.now blocks.new }
+{
+    set_size(blocks, geometry, inode, size)
+}
+
+/// Sets an inode's times.
+pub(crate) fn mark<B: Blocks>(
+    blocks: &mut B,
+    geometry: &Geometry,
+    inode: u32,
+    now: u32,
+) -> Result<(), Halt>
+    requires { IsOn B.world geometry.now blocks.old }
+    ensures { IsOn B.world geometry.now blocks.new }
+{
+    stamp(blocks, geometry, inode, now)
+}
+
+/// Whether there are zones enough for so many bytes.
+pub(crate) fn fits<B: Blocks>(
+    blocks: &mut B,
+    geometry: &Geometry,
+    inode: u32,
+    at: u32,
+    count: u32,
+) -> Result<bool, Halt>
+    requires on { IsOn B.world geometry.now blocks.old }
+    requires some { 0 < count }
+    requires end { at + count ≤ 2147483647 }
+    ensures { IsOn B.world geometry.now blocks.new }
+{
+    has_room(blocks, geometry, inode, at, count)
 }

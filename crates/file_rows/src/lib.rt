@@ -7,3 +7,5 @@ mod calls;
 mod reads;
 #[cfg(test)]
 mod volumes;
+#[cfg(test)]
+mod writes;
