@@ -29,7 +29,7 @@ left_out (p ∷ ps) zero place h = inr h
 left_out (p ∷ ps) (suc at) place h = elim h [ inl l ↦ inl l | inr l ↦ inr (left_out ps at place l) ]
 
 -- what is left with one more is left of it or of the others
-left_back : (ps : List Pending) (r : Pending) (place : ℕ) → IsLeft (ps ++ r ∷ []) place
+pub left_back : (ps : List Pending) (r : Pending) (place : ℕ) → IsLeft (ps ++ r ∷ []) place
     → IsLeft ps place ⊎ ((r.request.position ≤ place) × (place < r.start + r.size))
 left_back [] r place h = elim h [ inl l ↦ inr l | inr l ↦ absurd l ]
 left_back (p ∷ ps) r place h = elim h [
@@ -114,9 +114,9 @@ reads_rest ps vs us marks a e r at n w m le lt is gone items apart start size po
       left = λ place l. elim (left_back vs r place (subst (λ (x : List Pending). IsLeft x place) items l)) [
         | inl k ↦ o.left place k
         | inr k ↦ (
-            left_at ps at place e lt is (omega (arith, k.0, position)) (omega (arith, k.1, start, size)),
-            is_read_other marks a e.request n place w m (inr (omega (arith, k.0, position))),
-          )
+          left_at ps at place e lt is (omega (arith, k.0, position)) (omega (arith, k.1, start, size)),
+          is_read_other marks a e.request n place w m (inr (omega (arith, k.0, position))),
+        )
       ];
       ask = λ h. subst (λ (x : List Pending). AllAsk x) (sym items) (ask_push vs r (o.ask h) some);
     }

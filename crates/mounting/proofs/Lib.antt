@@ -1,0 +1,4 @@
+pub mod Searching
+pub mod Going
+pub mod Parts
+pub mod Steps

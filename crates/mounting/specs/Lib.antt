@@ -1,0 +1,3 @@
+-- Reading a volume through a link, and mounting it.
+pub mod Sought
+pub mod Reading
