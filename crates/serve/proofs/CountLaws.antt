@@ -1,10 +1,10 @@
 -- How many marks were seen, once by two.
-use Rattle.std.proofs.Common.{◌≡◌, ℕ, ◌+◌, ◌<◌, ◌≤◌, ◌^◌, ◌%◌, max, List, [], ◌∷◌, ◌++◌, Bool, true, refl, sym, ◌∙◌, ap, subst, inl, inr, arith, Some}
+use Rattle.std.proofs.Common.{◌≡◌, ℕ, ◌≤◌, max, List, [], ◌∷◌, ◌++◌, Bool, true, refl, sym, ◌∙◌, ap, subst, inl, inr, arith, Some}
 use Rattle.marks.specs.Marks.{Mark, Started, Answered, Flush, GaveUp, Took, Issued, Fault, counted, gave_up, IsBeginning}
 use Rattle.legal.specs.Session.{tally_of, IsLonger, DeviceKeeps}
 use Rattle.board.specs.View.{View, session_for}
 use Rattle.board.specs.Steps.{SeesMore, SessionAsks}
-use Rattle.serve.specs.Keeper.{begins_further}
+use Rattle.keeping.specs.Keeper.{begins_further}
 use Rattle.serve.specs.Counts.{Counts}
 
 -- the tally of fewer than 2^64 marks is their number

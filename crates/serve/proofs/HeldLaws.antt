@@ -14,7 +14,7 @@ use Rattle.tree.specs.Answers.{Answer}
 use Rattle.marks.specs.Marks.{Mark, Took, gave_up}
 use Rattle.marks.specs.Disk.{Contents, HasTrueReplies}
 use Rattle.marks.specs.Acts.{Act, marks_after}
-use Rattle.marks.specs.Opening.{Opening, contents_at}
+use Rattle.marks.specs.Opening.{contents_at}
 use Rattle.marks.specs.Told.{took_end}
 use Rattle.bdev.specs.DriverState.{DriverState}
 use Rattle.policy.specs.declared.Policy.{Policy}
@@ -28,9 +28,9 @@ use Rattle.reissue.specs.Calls.{Truth}
 use Rattle.board.specs.View.{View, SeatState, session_for, is_used}
 use Rattle.board.specs.Steps.{SessionLearns, SessionIsNew}
 use Rattle.reader.specs.declared.server.Server.{Server}
-use Rattle.reader.specs.Reader.{Stands, IsIdle, reader}
+use Rattle.reader.specs.Reader.{Stands, reader}
 use Rattle.reader.specs.Server.{Calls, IsReady, serving, line_of, is_given_up, outcome_of}
-use Rattle.serve.specs.declared.room.Room.{Ghosts as RoomWords}
+use Rattle.keeping.specs.declared.room.Room.{Ghosts as RoomWords}
 use Rattle.serve.specs.Recorder.{SameServer}
 use Rattle.serve.specs.declared.refusal.SessionRefusal.{SessionRefusal}
 use Rattle.serve.specs.declared.refusal.SessionRefusal.TheVariants.{TooMany, Stopped, OutOfMemory}

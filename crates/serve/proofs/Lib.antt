@@ -1,5 +1,3 @@
 pub mod MediaLaws
-pub mod HeardLaws
 pub mod HeldLaws
-pub mod KeeperLaws
 pub mod CountLaws

@@ -1,9 +1,14 @@
 -- What lies under the lock of a service, as contracts see it.
-use Rattle.std.specs.Prelude.{◌≡◌, ℕ, ◌<◌, List, true, false, codes}
+use Rattle.std.specs.Prelude.{◌≡◌, ◌≢◌, ◌↔◌, ℕ, List, true, codes}
 use Rattle.std.specs.Borrow.{Bor}
 use Rattle.layout.specs.declared.Geometry.{Geometry}
+use Rattle.errno.specs.declared.Errno.TheVariants.{EIO}
+use Rattle.tree.specs.declared.Who.{Who}
 use Rattle.tree.specs.declared.Call.{Call}
 use Rattle.tree.specs.declared.Call.TheVariants.{Stat}
+use Rattle.tree.specs.declared.Reply.TheVariants.{Refused}
+use Rattle.tree.specs.declared.Outcome.{Outcome as TreeOutcome}
+use Rattle.tree.specs.declared.Outcome.TheVariants.{Reply, Cut}
 use Rattle.tree.specs.Tree.{Tree}
 use Rattle.marks.specs.Marks.{Mark, gave_up}
 use Rattle.marks.specs.Open.{IsWellFormed}
@@ -13,25 +18,33 @@ use Rattle.marks.specs.Told.{took_end}
 use Rattle.bdev.specs.DriverState.{DriverState}
 use Rattle.policy.specs.declared.Policy.{Policy}
 use Rattle.legal.specs.Legal.{IsAtFirst, IsLegal}
-use Rattle.legal.specs.Session.{SessionState, IsMadeFor, went_on}
+use Rattle.legal.specs.ServerCall.{Outcome}
+use Rattle.legal.specs.Session.{SessionState, SessionCallKeeps, IsMadeFor, went_on}
 use Rattle.reissue.specs.declared.link.Link.{Ghosts as LinkWords}
 use Rattle.reissue.specs.Calls.{Truth}
-use Rattle.board.specs.View.{is_used}
+use Rattle.board.specs.View.{View, session_for}
 use Rattle.reader.specs.declared.server.Server.{Server}
 use Rattle.reader.specs.Reader.{Stands}
 use Rattle.reader.specs.Server.{line_of, serving, IsReady}
-use Rattle.serve.specs.declared.room.Room.{Ghosts as RoomWords}
+use Rattle.keeping.specs.declared.room.Room.{Ghosts as RoomWords}
+use Rattle.keeping.specs.Root.{root_path}
 use Rattle.serve.specs.declared.refusal.SessionRefusal.{SessionRefusal}
 use Rattle.serve.specs.declared.refusal.SessionRefusal.TheVariants.{TooMany, Stopped, OutOfMemory}
-use Rattle.serve.specs.Keeper.{IsLowestFree}
-
--- the path of the root; where its byte lies says nothing
-abbrev pub root_path : Bor (List ℕ)
-root_path = record { ref_ptr = (0, 0); now = codes "/" }
+use Rattle.keeping.specs.Keeper.{AreAllUsed, IsLowestFree, IsOneFree}
 
 -- it is a `stat /`
 abbrev pub IsRootStat : Call → Type 0
 IsRootStat call = (path : Bor (List ℕ)) × (call ≡ Stat path) × (path.now ≡ codes "/")
+
+-- a `stat /` of a caller that had seen as much as the first of these, and then has seen as much as the second, came to this outcome
+abbrev pub IsRootStatOf : Geometry → Opening → Who → ℕ → View → Outcome → View → Type 0
+IsRootStatOf g v who now before outcome after =
+    SessionCallKeeps g (contents_at v) (session_for who.uid who.gid who.session before) who now (Stat root_path) outcome
+    (session_for who.uid who.gid who.session after)
+
+-- the outcome is EIO exactly where it isn't a cut and the caller has then seen that the device was given up
+abbrev pub IsEioOnceGivenUp : TreeOutcome → List Mark → Type 0
+IsEioOnceGivenUp outcome seen = (outcome ≡ Reply (Refused EIO)) ↔ ((outcome ≢ Cut) × (gave_up seen ≡ true))
 
 -- The server may be called, and is for the service's volume; its link runs on the service's drivers under the service's policy. Whichever tree
 -- the volume held as it was handed in, the server stands on it with the record that the link keeps, which is legal where its replies
@@ -71,7 +84,6 @@ pub record IsAdmitted {L : Type 0} (runs_on : L → Policy → List DriverState 
 
 -- why none was made, by the service's link as it was then
 abbrev pub IsNotAdmitted : {L : Type 0} → LinkWords L → (L → List ℕ) → SessionRefusal → Type 0
-IsNotAdmitted {L} link numbers TooMany = (line : L) × ((n : ℕ) → n < 64 → is_used n (numbers line) ≡ true)
-IsNotAdmitted {L} link numbers Stopped =
-    (line : L) × (took_end (link.history line) ≡ true) × ((n : ℕ) × (n < 64) × (is_used n (numbers line) ≡ false))
+IsNotAdmitted {L} link numbers TooMany = (line : L) × AreAllUsed (numbers line)
+IsNotAdmitted {L} link numbers Stopped = (line : L) × (took_end (link.history line) ≡ true) × IsOneFree (numbers line)
 IsNotAdmitted {L} link numbers OutOfMemory = Unit {0}

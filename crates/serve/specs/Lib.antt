@@ -1,10 +1,7 @@
 pub mod Refusals
-pub mod Rooms
-pub mod Supplied
-pub mod Heard
-pub mod Keeper
 pub mod Counts
 pub mod Under
 pub mod Held
 pub mod Recorder
+pub mod Ran
 pub mod Laws

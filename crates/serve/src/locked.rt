@@ -1,26 +1,24 @@
 //! What lies under the lock of a service.
 
-ghost use Rattle.std.specs.Prelude.{◌≡◌, ◌≢◌, ◌↔◌, ◌∷◌, ℕ, ◌<◌, true, false, Some, IsErrOf, IfErr, IfOk, OnErr};
-ghost use Rattle.marks.specs.Marks.{gave_up};
+ghost use Rattle.std.specs.Prelude.{◌≡◌, ◌↔◌, ◌∷◌, ◌<◌, true, Some, IsErrOf, IfErr, IfOk, OnErr};
 ghost use Rattle.marks.specs.Opening.{contents_at};
 ghost use Rattle.tree.specs.Tree.{Tree};
 ghost use Rattle.legal.specs.Legal.{IsAtFirst};
-ghost use Rattle.legal.specs.Session.{SessionCallKeeps, tally_of};
-ghost use Rattle.board.specs.View.{is_used, session_for, without};
+ghost use Rattle.legal.specs.Session.{tally_of};
+ghost use Rattle.board.specs.View.{without};
 ghost use Rattle.board.specs.Steps.{SessionIsNew};
 ghost use Rattle.reader.specs.Server.{line_of, outcome_of};
-ghost use Rattle.serve.specs.Held.{root_path, IsHeld, IsGood, IsGuaranteed, IsNotAdmitted, IsSound};
-ghost use Rattle.serve.specs.Keeper.{IsLowestFree};
+ghost use Rattle.serve.specs.Held.{IsEioOnceGivenUp, IsGood, IsGuaranteed, IsHeld, IsNotAdmitted, IsRootStatOf, IsSound};
+ghost use Rattle.keeping.specs.Keeper.{AreAllUsed, IsLowestFree, IsOneFree};
 
-use crate::recorder::Recorder;
 use crate::refusal::SessionRefusal;
-use crate::room::Room;
 use crate::sharing::{admit, count_root_stat, release, show};
 use board::Seat;
-use errno::Errno;
+use keeping::recorder::Recorder;
+use keeping::room::Room;
 use reader::Server;
 use std::marker::{Model, PhantomData};
-use tree::{Call, Outcome, Reply, Who};
+use tree::{Outcome, Who};
 
 /// What lies under the lock of a service: its server, whose link keeps the record. Contracts see the link, and whether a take gave End.
 #[derive(Drop)]
@@ -53,20 +51,20 @@ impl<N: Room, L: Recorder<N>> Locked<N, L> {
         }
     }
 
-    /// A `stat /` of a session, which has then seen the whole record. An answer is a mark of it, the last; a cut isn't. With the outcome comes
-    /// how many counted marks the record has, modulo 2^64.
+    /// A `stat /` of a session, which has then seen the whole record. An answer is a mark of it, the last; a cut isn't. With the outcome
+    /// comes how many counted marks the record has, modulo 2^64.
     pub(crate) fn stat_root(&mut self, seat: &mut Seat, who: Who, now: u32) -> (Outcome, u64)
         requires { (seat.old.table ≡ N.table) × (seat.old.view.number ≡ Some who.session) }
         ensures seat { (seat.new.table ≡ N.table) × (seat.new.view.number ≡ Some who.session) }
-        ensures call { SessionCallKeeps N.geometry (contents_at N.opening) (session_for who.uid who.gid who.session seat.old.view) who now
-            (Call.Stat root_path) (outcome_of result.0) (session_for who.uid who.gid who.session seat.new.view) }
+        ensures call { IsRootStatOf N.geometry N.opening who now seat.old.view (outcome_of result.0) seat.new.view }
         ensures seen { seat.new.view.seen ≡ L.marks self.new.line }
         ensures tally { result.1 ≡ tally_of seat.new.view.seen }
         ensures sound { (tree : Tree) → IsAtFirst N.geometry (contents_at N.opening) tree → IsSound seat.new.view.seen }
-        ensures guaranteed { (tree : Tree) → IsAtFirst N.geometry (contents_at N.opening) tree → IsGuaranteed L.truth N.opening seat.new.view.seen }
+        ensures guaranteed { (tree : Tree) → IsAtFirst N.geometry (contents_at N.opening) tree
+            → IsGuaranteed L.truth N.opening seat.new.view.seen }
         ensures cut { (result.0 ≡ Outcome.Cut) ↔ (self.new.ended ≡ true) }
         ensures eio { (tree : Tree) → IsAtFirst N.geometry (contents_at N.opening) tree
-            → (result.0 ≡ Outcome.Reply (Reply.Refused Errno.EIO)) ↔ ((result.0 ≢ Outcome.Cut) × (gave_up seat.new.view.seen ≡ true)) }
+            → IsEioOnceGivenUp result.0 seat.new.view.seen }
     {
         let outcome = self.server.stat_root(who, now);
         match outcome {
@@ -81,9 +79,9 @@ impl<N: Room, L: Recorder<N>> Locked<N, L> {
     /// A seat for a new session, with the lowest number that is free: 1 TooMany where 64 are in use, 2 Stopped where a take gave End.
     /// A refusal changes nothing. With the seat comes how many counted marks the record has, modulo 2^64.
     pub(crate) fn admit(&mut self) -> Result<(u8, Seat, u64), SessionRefusal>
-        ensures too_many { IsErrOf result SessionRefusal.TooMany ↔ ((n : ℕ) → n < 64 → is_used n (L.numbers self.old.line) ≡ true) }
+        ensures too_many { IsErrOf result SessionRefusal.TooMany ↔ AreAllUsed (L.numbers self.old.line) }
         ensures stopped { IsErrOf result SessionRefusal.Stopped
-            ↔ ((self.old.ended ≡ true) × ((n : ℕ) × (n < 64) × (is_used n (L.numbers self.old.line) ≡ false))) }
+            ↔ ((self.old.ended ≡ true) × IsOneFree (L.numbers self.old.line)) }
         ensures number { IfOk result (λ r. IsLowestFree r.0 (L.numbers self.old.line)
             × (L.numbers self.new.line ≡ r.0 ∷ L.numbers self.old.line)) }
         ensures seat { IfOk result (λ r. (r.1.table ≡ N.table) × SessionIsNew r.0 r.1.view (L.marks self.old.line)) }

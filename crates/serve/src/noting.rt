@@ -7,16 +7,16 @@ ghost use Rattle.marks.specs.Opening.{Opening};
 ghost use Rattle.tree.specs.Answers.{answer_of};
 ghost use Rattle.board.specs.View.{IsKeeper, opener};
 ghost use Rattle.board.specs.Steps.{SessionLearns};
-ghost use Rattle.serve.specs.Heard.{IsHeard};
-ghost use Rattle.serve.specs.Keeper.{record_of, numbers_of, begins_itself, begins_further};
+ghost use Rattle.keeping.specs.Heard.{IsHeard};
+ghost use Rattle.keeping.specs.Keeper.{record_of, numbers_of, begins_itself, begins_further};
 
-use crate::heard::Heard;
-use crate::keeper::Keeper;
-use crate::recorder::Recorder;
-use crate::room::Room;
-use crate::steady::{Steady, Supplied};
 use board::{Board, Seat};
 use endpoint::Endpoint;
+use keeping::heard::Heard;
+use keeping::keeper::Keeper;
+use keeping::recorder::Recorder;
+use keeping::room::Room;
+use keeping::steady::{Steady, Supplied};
 use message::{BlockRequest, Incoming};
 use reissue::link::{Link, LinkRefusal, TrueLink};
 use std::alloc::{AllocError, Global};
@@ -24,8 +24,8 @@ use std::marker::Brand;
 use std::sync::Arc;
 use tree::{Reply, Who};
 
-/// A link that has the record's seat of the service's board. Over it goes what goes over the link in it. Each request that is issued it adds to
-/// the board's record, and each message that leaves a mark, which is counted. It takes no memory but when it is made.
+/// A link that has the record's seat of the service's board. Over it goes what goes over the link in it. Each request that is issued it
+/// adds to the board's record, and each message that leaves a mark, which is counted. It takes no memory but when it is made.
 ///
 /// What it guarantees of a record is what the link in it does, and that the record is what the seat has seen.
 #[derive(Drop)]

@@ -10,11 +10,11 @@ ghost use Rattle.legal.specs.Legal.{IsAtFirst};
 ghost use Rattle.serve.specs.Held.{IsAdmitted, IsGood, IsGuaranteed, IsNotAdmitted};
 
 use crate::locked::Locked;
-use crate::recorder::Recorder;
 use crate::refusal::SessionRefusal;
-use crate::room::Room;
 use crate::session::Session;
 use board::Board;
+use keeping::recorder::Recorder;
+use keeping::room::Room;
 use layout::Geometry;
 use reader::Server;
 use std::alloc::{AllocError, Global};
@@ -40,7 +40,8 @@ pub struct Service<N: Room, S> {
 
 impl<N: Room, R: Wait + Copy, L: Recorder<N>> Service<N, Shared<N, R, L>> {
     /// A service for its volume in a range of the media, over a link that has told nothing yet, keeps an empty record on the service's
-    /// board, and runs on the service's drivers under its policy. The link gives at most 2^58 messages. Where no memory was found, the link is let go.
+    /// board, and runs on the service's drivers under its policy. The link gives at most 2^58 messages. Where no memory was found, the link
+    /// is let go.
     pub fn over(
         alloc: Global,
         rt: R,

@@ -1,28 +1,28 @@
 //! Sessions of a service.
 
-ghost use Rattle.std.specs.Prelude.{◌≡◌, ◌≢◌, ◌<◌, ◌^◌, ◌↔◌, true};
+ghost use Rattle.std.specs.Prelude.{◌≡◌, ◌<◌, ◌^◌};
 ghost use Rattle.tree.specs.Tree.{Tree};
-ghost use Rattle.marks.specs.Marks.{counted, gave_up};
+ghost use Rattle.marks.specs.Marks.{counted};
 ghost use Rattle.marks.specs.Opening.{contents_at};
 ghost use Rattle.legal.specs.Legal.{IsAtFirst};
 ghost use Rattle.legal.specs.Session.{caller_of, SessionCallKeeps, DeviceKeeps, MeetKeeps};
 ghost use Rattle.board.specs.Words.{is_given_up};
-ghost use Rattle.serve.specs.Held.{root_path, IsGuaranteed, IsRootStat, IsSound};
+ghost use Rattle.serve.specs.Held.{IsEioOnceGivenUp, IsGuaranteed, IsRootStat, IsSound};
+ghost use Rattle.keeping.specs.Root.{root_path};
 ghost use Rattle.reader.specs.Server.{outcome_of};
 
-use crate::recorder::Recorder;
-use crate::room::Room;
 use crate::service::Shared;
 use board::{Board, Device, Seat};
-use errno::Errno;
+use keeping::recorder::Recorder;
+use keeping::room::Room;
 use std::marker::{Model, PhantomData};
 use std::sync::{Arc, Wait};
-use tree::{Call, Outcome, Reply, Who};
+use tree::{Call, Outcome, Who};
 
 /// One client of a service: a user and a group, and what it has seen of the service's record. A session may move to another thread.
 ///
-/// What the sessions of a service share is a type parameter, so that what waits for nobody needs no handle that may wait. A session that is let
-/// go without `end` keeps its number.
+/// What the sessions of a service share is a type parameter, so that what waits for nobody needs no handle that may wait. A session that is
+/// let go without `end` keeps its number.
 #[derive(Drop)]
 pub struct Session<N: Room, S> {
     pub(crate) board: Arc<Board>,
@@ -45,8 +45,8 @@ impl<N: Room, S> Model for Session<N, S> {
 
     ghost view = { λ s. session_for s.who.uid s.who.gid s.who.session s.seat.view };
 
-    ghost invariant = { λ s. (arc_value s.board ≡ N.table) × (s.seat.table ≡ N.table) × (s.seat.view.number ≡ Some s.who.session) × (s.who.session < 64)
-        × Counts s.seen s.seat.view.seen };
+    ghost invariant = { λ s. (arc_value s.board ≡ N.table) × (s.seat.table ≡ N.table) × (s.seat.view.number ≡ Some s.who.session)
+        × (s.who.session < 64) × Counts s.seen s.seat.view.seen };
 }
 
 impl<N: Room, S> Session<N, S> {
@@ -58,8 +58,8 @@ impl<N: Room, S> Session<N, S> {
         self.who.session
     }
 
-    /// How many counted marks the session has seen: the starts, the answers, the flushes, the giving up and the calls. It doesn't look at the
-    /// board, so it stays the same whatever others do; of 2^64 marks or more it says nothing.
+    /// How many counted marks the session has seen: the starts, the answers, the flushes, the giving up and the calls. It doesn't look at
+    /// the board, so it stays the same whatever others do; of 2^64 marks or more it says nothing.
     pub fn seen(&self) -> u64
         ensures { counted self.now.knows.seen < 2 ^ 64 → result ≡ counted self.now.knows.seen }
     {
@@ -93,11 +93,13 @@ impl<N: Room, R: Wait + Copy, L: Recorder<N>> Session<N, Shared<N, R, L>> {
     /// the drivers has ended, leaves none.
     pub fn call(&mut self, now: u32, call: &Call<'_>) -> Outcome
         requires root { IsRootStat call.now }
-        ensures keeps { SessionCallKeeps N.geometry (contents_at N.opening) self.old (caller_of self.old) now (Call.Stat root_path) (outcome_of result) self.new }
+        ensures keeps { SessionCallKeeps N.geometry (contents_at N.opening) self.old (caller_of self.old) now
+            (Call.Stat root_path) (outcome_of result) self.new }
         ensures sound { (tree : Tree) → IsAtFirst N.geometry (contents_at N.opening) tree → IsSound self.new.knows.seen }
-        ensures guaranteed { (tree : Tree) → IsAtFirst N.geometry (contents_at N.opening) tree → IsGuaranteed L.truth N.opening self.new.knows.seen }
+        ensures guaranteed { (tree : Tree) → IsAtFirst N.geometry (contents_at N.opening) tree
+            → IsGuaranteed L.truth N.opening self.new.knows.seen }
         ensures eio { (tree : Tree) → IsAtFirst N.geometry (contents_at N.opening) tree
-            → (result ≡ Outcome.Reply (Reply.Refused Errno.EIO)) ↔ ((result ≢ Outcome.Cut) × (gave_up self.new.knows.seen ≡ true)) }
+            → IsEioOnceGivenUp result self.new.knows.seen }
     {
         let Call::Stat { .. } = call else {
             unreachable!()

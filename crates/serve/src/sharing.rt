@@ -5,23 +5,23 @@ ghost use Rattle.tree.specs.declared.Call.TheVariants.{Stat};
 ghost use Rattle.tree.specs.Answers.{answer_of};
 ghost use Rattle.marks.specs.Marks.{Mark, Took};
 ghost use Rattle.marks.specs.Opening.{Opening};
-ghost use Rattle.board.specs.View.{is_used, without};
+ghost use Rattle.board.specs.View.{without};
 ghost use Rattle.board.specs.Steps.{SessionLearns, SessionIsNew};
-ghost use Rattle.serve.specs.Held.{root_path};
-ghost use Rattle.serve.specs.Keeper.{IsLowestFree};
+ghost use Rattle.keeping.specs.Root.{root_path};
+ghost use Rattle.keeping.specs.Keeper.{AreAllUsed, IsLowestFree, IsOneFree};
 ghost use Rattle.legal.specs.Session.{tally_of};
 ghost use Rattle.reader.specs.Server.{line_of};
 ghost use Rattle.serve.specs.Recorder.{SameServer};
 
-use crate::recorder::Recorder;
 use crate::refusal::SessionRefusal;
-use crate::room::Room;
 use board::Seat;
+use keeping::recorder::Recorder;
+use keeping::room::Room;
 use reader::Server;
 use tree::{Reply, Who};
 
-/// A `stat /` of the caller's session was answered. The caller has then seen the whole record, its call last. Gives how many counted marks it
-/// has, modulo 2^64.
+/// A `stat /` of the caller's session was answered. The caller has then seen the whole record, its call last. Gives how many counted marks
+/// it has, modulo 2^64.
 pub(crate) fn count_root_stat<N: Room, L: Recorder<N>>(
     server: &mut Server<L>,
     caller: &mut Seat,
@@ -66,9 +66,9 @@ pub(crate) fn admit<N: Room, L: Recorder<N>>(
     ensures same { SameServer L.Link server.old server.new }
     ensures truth { (v : Opening) (older : List Mark) → L.truth (line_of server.old) v older → L.truth (line_of server.new) v older }
     ensures marks { L.marks (line_of server.new) ≡ L.marks (line_of server.old) }
-    ensures too_many { IsErrOf result SessionRefusal.TooMany ↔ ((n : ℕ) → n < 64 → is_used n (L.numbers (line_of server.old)) ≡ true) }
+    ensures too_many { IsErrOf result SessionRefusal.TooMany ↔ AreAllUsed (L.numbers (line_of server.old)) }
     ensures stopped { IsErrOf result SessionRefusal.Stopped
-        ↔ ((server.old.ended ≡ true) × ((n : ℕ) × (n < 64) × (is_used n (L.numbers (line_of server.old)) ≡ false))) }
+        ↔ ((server.old.ended ≡ true) × IsOneFree (L.numbers (line_of server.old))) }
     ensures number { IfOk result (λ r. IsLowestFree r.0 (L.numbers (line_of server.old))
         × (L.numbers (line_of server.new) ≡ r.0 ∷ L.numbers (line_of server.old))) }
     ensures seat { IfOk result (λ r. (r.1.table ≡ N.table) × SessionIsNew r.0 r.1.view (L.marks (line_of server.old))) }

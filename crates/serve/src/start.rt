@@ -10,16 +10,17 @@ ghost use Rattle.driven.specs.View.{guarded_of};
 ghost use Rattle.true_replies.specs.Events.{IsOnMedia, opening_media};
 ghost use Rattle.board.specs.View.{IsKeeper, opener};
 ghost use Rattle.startup.specs.Starting.{opening_of, IsRefused, IsStartable};
-ghost use Rattle.serve.specs.Supplied.{IsSupplied};
+ghost use Rattle.keeping.specs.Supplied.{IsSupplied};
+ghost use Rattle.serve.specs.Ran.{HasRun};
 
 use crate::gate::Gate;
 use crate::noting::Noting;
-use crate::recorder::Recorder;
-use crate::room::Room;
 use crate::service::{Service, Shared};
 use board::{Board, Seat};
 use driven::Driven;
 use inline::local::LocalDriver;
+use keeping::recorder::Recorder;
+use keeping::room::Room;
 use media::Media;
 use policy::{Policy, Setup};
 use reincarnate::{Reincarnation, SupplyRefusal};
@@ -72,7 +73,8 @@ fn drivers_on<D: LocalDriver>(
 /// No driver is started yet: that comes with the first message that a call takes. Where no memory was found, all of it is let go.
 ///
 /// What the parts of the service agree on is `N`, which the caller picks: the board, the volume as it was handed in, its sizes, the setup's
-/// policy and these drivers in their order. `serve` picks it for a program. The gate is for the threads that a service will have: it is never asked yet.
+/// policy and these drivers in their order. `serve` picks it for a program. The gate is for the threads that a service will have: it is
+/// never asked yet.
 pub fn start<N: Room, R: Wait + Copy, D: LocalDriver, G: Gate>(
     alloc: Global,
     rt: R,
@@ -149,8 +151,7 @@ pub fn serve<R: Wait + Copy, D: LocalDriver, G: Gate, P: Program<R>>(
     program: P,
 ) -> Result<P::Output, StartRefusal>
     ensures refusal { IfErr result (IsRefused image.now setup.now (map D.state supply.items)) }
-    ensures ran { IfOk result (λ o. (g : Geometry) × (range : ℕ × ℕ)
-        × IsStartable image.now setup.now (map D.state supply.items) g range × P.gives program g (opening_of image.now setup.now.minor range) o) }
+    ensures ran { IfOk result (λ o. HasRun image.now setup.now (map D.state supply.items) (λ g opening. P.gives program g opening o)) }
 {
     let prepared = prepare(alloc, image, setup, &supply)?;
     let (board, seat) = Board::new(alloc)?;

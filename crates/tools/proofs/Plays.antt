@@ -13,7 +13,8 @@ use Rattle.legal.specs.Legal.{IsAtFirst}
 use Rattle.legal.specs.Session.{SessionState, SessionCallKeeps, IsMadeFor, caller_of, calls_of}
 use Rattle.marks.specs.Disk.{HasTrueReplies}
 use Rattle.reissue.specs.Calls.{Truth}
-use Rattle.serve.specs.Held.{root_path, IsGood, IsGuaranteed}
+use Rattle.serve.specs.Held.{IsGood, IsGuaranteed}
+use Rattle.keeping.specs.Root.{root_path}
 use Rattle.reader.specs.Server.{outcome_of}
 use Rattle.tools.specs.Made.{is_eio, calls_made, cuts, some_cut, all_cut, cuts_last, IsSame, Plays, Calls, IsAnswered}
 

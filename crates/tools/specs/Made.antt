@@ -16,7 +16,8 @@ use Rattle.marks.specs.Opening.{Opening, contents_at}
 use Rattle.legal.specs.Legal.{IsAtFirst}
 use Rattle.legal.specs.Session.{SessionState, SessionCallKeeps, caller_of, calls_of}
 use Rattle.reissue.specs.Calls.{Truth}
-use Rattle.serve.specs.Held.{root_path, IsGood, IsGuaranteed, IsSound}
+use Rattle.serve.specs.Held.{IsGood, IsGuaranteed, IsSound}
+use Rattle.keeping.specs.Root.{root_path}
 use Rattle.reader.specs.Server.{outcome_of}
 
 -- the marks of a `stat /` at each of these times, onto older ones, the newest first; a call that was cut has none

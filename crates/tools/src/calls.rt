@@ -6,10 +6,10 @@ ghost use Rattle.tools.specs.Made.{is_eio, cuts, Calls, Plays, IsAnswered};
 
 use crate::script::Script;
 use errno::Errno;
+use keeping::recorder::Recorder;
+use keeping::room::Room;
 use reissue::link::TrueLink;
-use serve::recorder::Recorder;
 use serve::refusal::SessionRefusal;
-use serve::room::Room;
 use serve::service::{Service, Shared};
 use serve::session::Session;
 use serve::start::Program;

@@ -1,7 +1,7 @@
 use Rattle.std.proofs.Common.{◌≡◌, ℕ, ◌<◌, sym, ◌∙◌, true, subst, refl}
 use Rattle.board.specs.View.{is_used}
 use Rattle.reader.specs.Server.{line_of}
-use Rattle.serve.proofs.KeeperLaws.{some_free}
+use Rattle.keeping.proofs.KeeperLaws.{some_free}
 use Rattle.serve.proofs.sharing.admit.Goals as goal
 
 pub returns-then-has_ended-clause-stopped : goal.returns-then-has_ended-clause-stopped

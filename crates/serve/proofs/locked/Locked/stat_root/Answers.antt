@@ -5,7 +5,7 @@ use Rattle.tree.specs.Answers.{answer_of}
 use Rattle.marks.specs.Opening.{contents_at}
 use Rattle.legal.specs.Legal.{IsAtFirst}
 use Rattle.reader.specs.Server.{line_of, outcome_of}
-use Rattle.serve.specs.Held.{root_path}
+use Rattle.keeping.specs.Root.{root_path}
 use Rattle.serve.proofs.HeldLaws.{is_cut, eio_exactly, eio_given, held_after, held_sound, held_guaranteed, session_answered, session_cut}
 use Rattle.serve.proofs.locked.Locked.stat_root.Goals as goal
 

@@ -1,7 +1,7 @@
 use Rattle.std.proofs.Common.{List, ◌∷◌, ◌∙◌, ap}
 use Rattle.marks.specs.Marks.{Mark, Issued}
-use Rattle.serve.specs.Keeper.{begins_before}
-use Rattle.serve.proofs.HeardLaws.{where_ok}
+use Rattle.keeping.specs.Keeper.{begins_before}
+use Rattle.keeping.proofs.HeardLaws.{where_ok}
 use Rattle.serve.proofs.noting.NotingLink.post.Goals as goal
 
 pub returns-then-is_ok-clause-accepted : goal.returns-then-is_ok-clause-accepted

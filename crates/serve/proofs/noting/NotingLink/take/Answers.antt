@@ -1,5 +1,5 @@
 use Rattle.board.specs.Words.{mark_of}
-use Rattle.serve.specs.Keeper.{begins_before}
+use Rattle.keeping.specs.Keeper.{begins_before}
 use Rattle.serve.proofs.noting.NotingLink.take.Goals as goal
 
 pub returns-then-leaves_mark-clause-goes : goal.returns-then-leaves_mark-clause-goes

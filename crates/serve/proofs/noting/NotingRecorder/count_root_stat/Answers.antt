@@ -2,8 +2,8 @@ use Rattle.std.proofs.Common.{refl}
 use Rattle.tree.specs.declared.Call.TheVariants.{Stat}
 use Rattle.tree.specs.Answers.{answer_of}
 use Rattle.marks.specs.Marks.{Took}
-use Rattle.serve.specs.Held.{root_path}
-use Rattle.serve.specs.Keeper.{begins_before}
+use Rattle.keeping.specs.Root.{root_path}
+use Rattle.keeping.specs.Keeper.{begins_before}
 use Rattle.serve.proofs.noting.NotingRecorder.count_root_stat.Goals as goal
 
 pub returns-clause-same : goal.returns-clause-same

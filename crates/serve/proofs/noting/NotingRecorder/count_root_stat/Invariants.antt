@@ -1,5 +1,5 @@
 use Rattle.tree.specs.declared.Call.TheVariants.{Stat}
-use Rattle.serve.specs.Held.{root_path}
+use Rattle.keeping.specs.Root.{root_path}
 use Rattle.serve.proofs.noting.NotingRecorder.count_root_stat.Given as goal
 
 abbrev pub ghosts-count : goal.ghosts-count

@@ -1,5 +1,5 @@
 use Rattle.std.proofs.Common.{refl}
-use Rattle.serve.specs.Keeper.{begins_same}
+use Rattle.keeping.specs.Keeper.{begins_same}
 use Rattle.serve.proofs.noting.NotingRecorder.show.Goals as goal
 
 pub returns-clause-same : goal.returns-clause-same

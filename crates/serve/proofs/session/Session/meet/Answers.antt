@@ -1,4 +1,4 @@
-use Rattle.std.proofs.Common.{Option, ℕ, refl, sym, ◌∙◌, ap}
+use Rattle.std.proofs.Common.{refl, sym, ◌∙◌, ap}
 use Rattle.board.specs.View.{View}
 use Rattle.serve.proofs.CountLaws.{counts_max}
 use Rattle.serve.proofs.session.Session.meet.Goals as goal

@@ -3,8 +3,8 @@ use Rattle.std.proofs.Common.{◌≡◌, ℕ, ◌<◌, List, [], ◌∷◌, ◌+
 use Rattle.marks.specs.Marks.{Mark, IsBeginning}
 use Rattle.tree.specs.Tree.{most_sessions}
 use Rattle.board.specs.View.{is_used}
-use Rattle.serve.specs.declared.room.Room.{Ghosts}
-use Rattle.serve.specs.declared.keeper.Keeper.{Keeper}
+use Rattle.keeping.specs.declared.room.Room.{Ghosts}
+use Rattle.keeping.specs.declared.keeper.Keeper.{Keeper}
 
 -- the whole record
 abbrev pub record_of : {N : Type 0} {g : Ghosts N} → Keeper N g → List Mark
@@ -19,6 +19,14 @@ pub record IsLowestFree (number : ℕ) (used : List ℕ) : Type 0 where
   pub low : number < most_sessions
   pub free : is_used number used ≡ false
   pub lowest : (n : ℕ) → n < number → is_used n used ≡ true
+
+-- each number that a session may have is that of one
+abbrev pub AreAllUsed : List ℕ → Type 0
+AreAllUsed used = (n : ℕ) → n < 64 → is_used n used ≡ true
+
+-- one of them is free
+abbrev pub IsOneFree : List ℕ → Type 0
+IsOneFree used = (n : ℕ) × (n < 64) × (is_used n used ≡ false)
 
 -- a record is a beginning of itself
 abbrev pub begins_itself : (marks : List Mark) → IsBeginning marks marks

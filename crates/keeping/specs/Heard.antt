@@ -3,8 +3,8 @@ use Rattle.std.specs.Prelude.{◌≡◌, List, map}
 use Rattle.message.specs.declared.BlockRequest.{BlockRequest}
 use Rattle.marks.specs.Marks.{Mark, last_started, gave_up}
 use Rattle.marks.specs.Open.{open_requests, greatest}
-use Rattle.serve.specs.declared.heard.Asked.{Asked}
-use Rattle.serve.specs.declared.heard.Heard.{Heard}
+use Rattle.keeping.specs.declared.heard.Asked.{Asked}
+use Rattle.keeping.specs.declared.heard.Heard.{Heard}
 
 -- what is kept of a request while it is open
 abbrev pub asked_for : BlockRequest → Asked

@@ -26,7 +26,7 @@ pub trait Room {
 impl Room for Brand {
     ghost use Rattle.std.specs.Prelude.{[]};
     ghost use Rattle.policy.specs.Policy.{default_policy};
-    ghost use Rattle.serve.specs.Rooms.{no_table, no_opening, no_geometry};
+    ghost use Rattle.keeping.specs.Rooms.{no_table, no_opening, no_geometry};
 
     ghost table = { no_table };
 

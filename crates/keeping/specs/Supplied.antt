@@ -1,5 +1,5 @@
 -- By which policy drivers are replaced, and which were handed in.
-use Rattle.std.proofs.Common.{◌≡◌, List, [], ◌++◌, ◌∙◌, map}
+use Rattle.std.proofs.Common.{◌≡◌, List, ◌++◌, ◌∙◌, map}
 use Rattle.bdev.specs.DriverState.{DriverState}
 use Rattle.policy.specs.declared.Policy.{Policy}
 use Rattle.reincarnate.specs.Runs.{Turn}

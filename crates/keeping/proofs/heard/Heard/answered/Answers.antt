@@ -2,8 +2,8 @@ use Rattle.std.proofs.Common.{refl, sym, ◌∙◌, ap, Option}
 use Rattle.std.specs.Prelude.{is_some}
 use Rattle.message.specs.declared.BlockRequest.{BlockRequest}
 use Rattle.marks.specs.Open.{moved_of}
-use Rattle.serve.proofs.HeardLaws.{heard_none, moved_at, closes_none, closes_one}
-use Rattle.serve.proofs.heard.Heard.answered.Goals as goal
+use Rattle.keeping.proofs.HeardLaws.{heard_none, moved_at, closes_none, closes_one}
+use Rattle.keeping.proofs.heard.Heard.answered.Goals as goal
 
 pub returns-in_default : goal.returns-in_default
 returns-in_default c = λ marks is.

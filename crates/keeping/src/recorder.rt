@@ -6,11 +6,11 @@ ghost use Rattle.tree.specs.Answers.{answer_of};
 ghost use Rattle.marks.specs.Marks.{Mark, Took};
 ghost use Rattle.marks.specs.Opening.{Opening};
 ghost use Rattle.legal.specs.Session.{tally_of};
-ghost use Rattle.board.specs.View.{is_used, without};
+ghost use Rattle.board.specs.View.{without};
 ghost use Rattle.board.specs.Steps.{SessionLearns, SessionIsNew};
-ghost use Rattle.serve.specs.Held.{root_path};
-ghost use Rattle.serve.specs.Keeper.{IsLowestFree};
-ghost use Rattle.serve.specs.Recorder.{SameLink};
+ghost use Rattle.keeping.specs.Root.{root_path};
+ghost use Rattle.keeping.specs.Keeper.{AreAllUsed, IsLowestFree};
+ghost use Rattle.keeping.specs.Recorder.{SameLink};
 
 use crate::room::Room;
 use crate::steady::Supplied;
@@ -55,7 +55,7 @@ pub trait Recorder<N: Room>: Supplied + Drop {
 
     /// Whether each of the 64 numbers is that of a session.
     fn is_full(&self) -> bool
-        ensures { (result ≡ true) ↔ ((n : ℕ) → n < 64 → is_used n (numbers self.now) ≡ true) };
+        ensures { (result ≡ true) ↔ AreAllUsed (numbers self.now) };
 
     /// A seat with the lowest number that no session has, if there is one: its session has seen the whole record, and made no call. With it
     /// comes how many counted marks that has, modulo 2^64.
@@ -63,7 +63,7 @@ pub trait Recorder<N: Room>: Supplied + Drop {
         ensures same { SameLink Self.Link self.old self.new }
         ensures truth { (v : Opening) (older : List Mark) → Self.truth self.old v older → Self.truth self.new v older }
         ensures marks { marks self.new ≡ marks self.old }
-        ensures full { IfNone result ((numbers self.new ≡ numbers self.old) × ((n : ℕ) → n < 64 → is_used n (numbers self.old) ≡ true)) }
+        ensures full { IfNone result ((numbers self.new ≡ numbers self.old) × AreAllUsed (numbers self.old)) }
         ensures number { IfSome result (λ r. IsLowestFree r.0 (numbers self.old) × (numbers self.new ≡ r.0 ∷ numbers self.old)) }
         ensures seat { IfSome result (λ r. (r.1.table ≡ N.table) × SessionIsNew r.0 r.1.view (marks self.old)) }
         ensures tally { IfSome result (λ r. r.2 ≡ tally_of (marks self.old)) };

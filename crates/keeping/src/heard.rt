@@ -11,20 +11,20 @@ const MOST_OPEN: usize = 16;
 
 /// What is kept of a request while it is open.
 #[derive(Clone, Copy)]
-pub(crate) struct Asked {
-    pub(crate) id: u64,
+pub struct Asked {
+    id: u64,
     /// How many bytes it is for.
-    pub(crate) count: u32,
+    count: u32,
 }
 
 /// What a link has heard: the driver of the last start, whether the device was given up, the greatest id that was issued, and the open
 /// requests in the order of their first issue. Its memory is taken when it is made.
 #[derive(Drop)]
-pub(crate) struct Heard {
-    pub(crate) current: Option<Endpoint>,
-    pub(crate) given_up: bool,
-    pub(crate) greatest: u64,
-    pub(crate) asked: Vec<Asked>,
+pub struct Heard {
+    current: Option<Endpoint>,
+    given_up: bool,
+    greatest: u64,
+    asked: Vec<Asked>,
     ghost places: { 16 ≤ vec_capacity asked },
 }
 
@@ -35,10 +35,10 @@ impl Heard {
     ghost use Rattle.marks.specs.Open.{MayFollow, counts};
     ghost use Rattle.marks.specs.Told.{received};
     ghost use Rattle.board.specs.Words.{mark_of};
-    ghost use Rattle.serve.specs.Heard.{IsHeard};
+    ghost use Rattle.keeping.specs.Heard.{IsHeard};
 
     /// Nothing was heard.
-    pub(crate) fn new(alloc: Global) -> Result<Heard, AllocError>
+    pub fn new(alloc: Global) -> Result<Heard, AllocError>
         ensures { IfOk result (λ h. IsHeard h []) }
     {
         Ok(Heard {
@@ -50,7 +50,7 @@ impl Heard {
     }
 
     /// A request was issued, where it may be.
-    pub(crate) fn issued(&mut self, request: &BlockRequest)
+    pub fn issued(&mut self, request: &BlockRequest)
         ensures { (marks : List Mark) (to : Endpoint) → MayFollow (Issued request.now to) marks → IsHeard self.old marks
             → IsHeard self.new (Issued request.now to ∷ marks) }
     {
@@ -67,7 +67,7 @@ impl Heard {
     }
 
     /// Whether a message leaves a mark: a reply does if it counts, and an End doesn't.
-    pub(crate) fn leaves_mark(&self, message: &Incoming) -> bool
+    pub fn leaves_mark(&self, message: &Incoming) -> bool
         ensures mark { (marks : List Mark) → IsHeard self.now marks
             → received message.now marks ≡ (if result then mark_of message.now ∷ marks else marks) }
         ensures end { message.now ≡ Incoming.End → result ≡ false }
@@ -82,7 +82,7 @@ impl Heard {
     }
 
     /// A message was taken that leaves a mark.
-    pub(crate) fn takes(&mut self, message: &Incoming)
+    pub fn takes(&mut self, message: &Incoming)
         ensures { (marks : List Mark) → IsHeard self.old marks → IsHeard self.new (mark_of message.now ∷ marks) }
     {
         match message {

@@ -11,9 +11,9 @@ use Rattle.message.specs.Good.{moved}
 use Rattle.marks.specs.Marks.{Mark, Issued, Answered, last_started, is_endpoint}
 use Rattle.marks.specs.Open.{greatest, open_requests, with_id, without_id, moved_of, asked_by, counts, IsIn, MayFollow}
 use Rattle.marks.proofs.OpenRequests.{Below, below_open}
-use Rattle.serve.specs.declared.heard.Asked.{Asked}
-use Rattle.serve.specs.declared.heard.Heard.{Heard}
-use Rattle.serve.specs.Heard.{asked_for, IsHeard}
+use Rattle.keeping.specs.declared.heard.Asked.{Asked}
+use Rattle.keeping.specs.declared.heard.Heard.{Heard}
+use Rattle.keeping.specs.Heard.{asked_for, IsHeard}
 
 -- it has this id
 abbrev pub has_id : ℕ → Asked → Bool

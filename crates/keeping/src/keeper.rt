@@ -15,7 +15,7 @@ use tree::{Reply, Who};
 
 /// The record's seat of the board, and which numbers sessions have.
 #[derive(Drop)]
-pub(crate) struct Keeper<N: Room> {
+pub struct Keeper<N: Room> {
     board: Arc<Board>,
     seat: Seat,
     used: [bool; 64],
@@ -34,10 +34,10 @@ impl<N: Room> Keeper<N> {
     ghost use Rattle.board.specs.View.{opener, new_caller, caller_after, without};
     ghost use Rattle.board.specs.Words.{mark_of};
     ghost use Rattle.board.specs.Steps.{SessionLearns, SessionIsNew};
-    ghost use Rattle.serve.specs.Keeper.{record_of, numbers_of, IsLowestFree};
+    ghost use Rattle.keeping.specs.Keeper.{record_of, numbers_of, AreAllUsed, IsLowestFree};
 
     /// The record's seat of a new board: nothing is in the record, and no session has a number.
-    pub(crate) fn new(board: Arc<Board>, seat: Seat) -> Keeper<N>
+    pub fn new(board: Arc<Board>, seat: Seat) -> Keeper<N>
         requires board { arc_value board ≡ N.table }
         requires seat { IsKeeper N.table seat × (seat.view ≡ opener) }
         ensures record_is { record_of result ≡ [] }
@@ -52,7 +52,7 @@ impl<N: Room> Keeper<N> {
     }
 
     /// A request was issued.
-    pub(crate) fn issue(&mut self, request: &BlockRequest, to: Endpoint)
+    pub fn issue(&mut self, request: &BlockRequest, to: Endpoint)
         ensures record_is { record_of self.new ≡ Issued request.now to ∷ record_of self.old }
         ensures numbers { numbers_of self.new ≡ numbers_of self.old }
     {
@@ -60,7 +60,7 @@ impl<N: Room> Keeper<N> {
     }
 
     /// A message was taken that leaves a mark.
-    pub(crate) fn note(&mut self, message: &Incoming)
+    pub fn note(&mut self, message: &Incoming)
         requires { message.now ≢ Incoming.End }
         ensures record_is { record_of self.new ≡ mark_of message.now ∷ record_of self.old }
         ensures numbers { numbers_of self.new ≡ numbers_of self.old }
@@ -73,13 +73,7 @@ impl<N: Room> Keeper<N> {
 
     /// A call of the caller's session was answered. The caller has then seen the whole record, its call last. Gives how many counted
     /// marks it has, modulo 2^64.
-    pub(crate) fn count<C: NewCall>(
-        &mut self,
-        caller: &mut Seat,
-        who: Who,
-        now: u32,
-        reply: &Reply,
-    ) -> u64
+    pub fn count<C: NewCall>(&mut self, caller: &mut Seat, who: Who, now: u32, reply: &Reply) -> u64
         requires { (caller.old.table ≡ N.table) × (caller.old.view.number ≡ Some who.session) }
         ensures record_is { record_of self.new ≡ Took who now C.call (answer_of reply.now) ∷ record_of self.old }
         ensures numbers { numbers_of self.new ≡ numbers_of self.old }
@@ -95,7 +89,7 @@ impl<N: Room> Keeper<N> {
     }
 
     /// The caller has then seen the whole record. Gives how many counted marks it has, modulo 2^64.
-    pub(crate) fn show(&mut self, caller: &mut Seat) -> u64
+    pub fn show(&mut self, caller: &mut Seat) -> u64
         requires { caller.old.table ≡ N.table }
         ensures record_is { record_of self.new ≡ record_of self.old }
         ensures numbers { numbers_of self.new ≡ numbers_of self.old }
@@ -110,17 +104,17 @@ impl<N: Room> Keeper<N> {
     }
 
     /// Whether each of the 64 numbers is that of a session.
-    pub(crate) fn is_full(&self) -> bool
-        ensures { (result ≡ true) ↔ ((n : ℕ) → n < 64 → is_used n (numbers_of self.now) ≡ true) }
+    pub fn is_full(&self) -> bool
+        ensures { (result ≡ true) ↔ AreAllUsed (numbers_of self.now) }
     {
         self.used.iter().all(|used| *used)
     }
 
     /// A seat with the lowest number that no session has, if there is one: its session has seen the whole record. With it comes how many
     /// counted marks that has, modulo 2^64.
-    pub(crate) fn admit(&mut self) -> Option<(u8, Seat, u64)>
+    pub fn admit(&mut self) -> Option<(u8, Seat, u64)>
         ensures record_is { record_of self.new ≡ record_of self.old }
-        ensures full { IfNone result ((numbers_of self.new ≡ numbers_of self.old) × ((n : ℕ) → n < 64 → is_used n (numbers_of self.old) ≡ true)) }
+        ensures full { IfNone result ((numbers_of self.new ≡ numbers_of self.old) × AreAllUsed (numbers_of self.old)) }
         ensures number { IfSome result (λ r. IsLowestFree r.0 (numbers_of self.old)) }
         ensures numbers { IfSome result (λ r. numbers_of self.new ≡ r.0 ∷ numbers_of self.old) }
         ensures seat { IfSome result (λ r. (r.1.table ≡ N.table) × SessionIsNew r.0 r.1.view (record_of self.old)) }
@@ -136,7 +130,7 @@ impl<N: Room> Keeper<N> {
     }
 
     /// A session ends: its number is free again.
-    pub(crate) fn release(&mut self, number: u8, caller: Seat)
+    pub fn release(&mut self, number: u8, caller: Seat)
         requires { (caller.table ≡ N.table) × (caller.view.number ≡ Some number) × (number < 64) }
         ensures record_is { record_of self.new ≡ record_of self.old }
         ensures numbers { numbers_of self.new ≡ without (Some number) (numbers_of self.old) }

@@ -7,7 +7,7 @@ ghost use Rattle.bdev.specs.DriverState.{DriverState};
 ghost use Rattle.driven.specs.KeptLaws.{noted_drivers_kept};
 ghost use Rattle.driven.specs.View.{guarded_of};
 ghost use Rattle.reader.specs.Reader.{RestsNotOnCalls};
-ghost use Rattle.serve.specs.Supplied.{IsSupplied, supplied_on};
+ghost use Rattle.keeping.specs.Supplied.{IsSupplied, supplied_on};
 
 use driven::Driven;
 use inline::local::LocalDriver;
@@ -25,15 +25,18 @@ pub trait Steady: Link {
 pub trait Supplied: Link {
     ghost runs_on: { Self → Policy → List DriverState → Type 0 };
 
-    ghost keeps_on: { (l m : Self) (policy : Policy) (supply : List DriverState) → Self.goes_on l m → runs_on l policy supply → runs_on m policy supply };
+    ghost keeps_on: { (l m : Self) (policy : Policy) (supply : List DriverState) → Self.goes_on l m → runs_on l policy supply
+        → runs_on m policy supply };
 }
 
 impl<D: LocalDriver> Steady for Driven<D> {
-    ghost rests = { λ l v marks who now call answer kept. noted_drivers_kept D.state v (guarded_of l.drivers) marks (Took who now call answer) tt kept };
+    ghost rests = { λ l v marks who now call answer kept. noted_drivers_kept D.state v (guarded_of l.drivers) marks
+        (Took who now call answer) tt kept };
 }
 
 impl<D: LocalDriver> Supplied for Driven<D> {
     ghost runs_on = { λ l policy supply. IsSupplied D.state (guarded_of l.drivers) policy supply };
 
-    ghost keeps_on = { λ l m policy supply goes. supplied_on D.state (guarded_of l.drivers) (guarded_of m.drivers) policy supply goes.leads };
+    ghost keeps_on = { λ l m policy supply goes. supplied_on D.state (guarded_of l.drivers) (guarded_of m.drivers) policy
+        supply goes.leads };
 }
