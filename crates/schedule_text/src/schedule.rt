@@ -98,9 +98,9 @@ pub fn read_schedule(alloc: Global, text: &[u8]) -> Result<Schedule<'_>, Schedul
     }
 }
 
-impl<'t> Schedule<'t> {
+impl Schedule<'_> {
     /// Its events, in the order of the lines, fewer than 2 to the 32nd. The calls' paths and bytes stand in the schedule and in its text.
-    pub fn events(&'t self, alloc: Global) -> Result<Vec<Event<'t>>, AllocError>
+    pub fn events(&self, alloc: Global) -> Result<Vec<Event<'_>>, AllocError>
         ensures { IfOk result (λ events. map plain_event events.items ≡ map line_event self.now.lines.items) }
     {
         events_of(alloc, self.lines.as_slice(), self.bytes.as_slice())

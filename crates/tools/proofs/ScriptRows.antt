@@ -1,7 +1,8 @@
 -- Scripts by hand.
 use Rattle.std.proofs.Common.{true, false, ◌≡◌, ◌∷◌, [], refl}
 use Rattle.std.specs.Prelude.{Ok, Err, Some, None, codes}
-use Rattle.tools.specs.Script.{script_of, number_of, user_of, time_of, has_call}
+use Rattle.call_text.specs.Words.{number_of}
+use Rattle.tools.specs.Script.{script_of, user_of, time_of, has_call}
 
 -- no bytes are a bad line 1
 empty : script_of [] ≡ Err 1
@@ -86,3 +87,11 @@ bad_call_to_keep = refl
 -- but for a call before a bad line
 call_to_keep : has_call (script_of (codes "user 0 0\n1 stat /\n1 stat\n")) ≡ true
 call_to_keep = refl
+
+-- another call is none that is played yet
+not_played : script_of (codes "user 0 0\n100 stat /a\n") ≡ Err 2
+not_played = refl
+
+-- nor one of another name
+nothing_synced : script_of (codes "user 0 0\n100 sync\n") ≡ Err 2
+nothing_synced = refl

@@ -1,62 +1,50 @@
 -- What a text says as a script.
-use Rattle.std.specs.Prelude.{◌≡◌, ℕ, ◌+◌, Bool, List, ◌∷◌, [], ◌==◌, ◌&&◌, nat_le, nat_lt, length, cond, Option, Some, None, Result, Ok, Err, IsTrue, codes}
-use Rattle.std.specs.List.{slice_split, list_all}
-use Rattle.std.specs.Char.{is_digit}
+use Rattle.std.specs.Prelude.{◌≡◌, ℕ, Bool, false, List, ◌∷◌, [], nat_lt, length, cond, if◌then◌else◌, Option, Some, None, Result, Ok, Err, IsTrue, codes}
 use Rattle.std.specs.Option.{option_zip}
 use Rattle.std.specs.Str.{bytes_eq}
-use Rattle.std.specs.Str.Parse.{digits_value}
+use Rattle.tree.specs.declared.Call.{Call}
+use Rattle.tree.specs.declared.Call.TheVariants.{Stat}
+use Rattle.call_text.specs.Words.{words_of, lines_of, number_of}
+use Rattle.call_text.specs.Calls.{call_of}
+use Rattle.call_text.specs.Lines.{said_by_lines}
 use Rattle.tools.specs.declared.script.ScriptRefusal.{ScriptRefusal}
 use Rattle.tools.specs.declared.script.ScriptRefusal.TheVariants.{BadLine, OutOfMemory}
-
--- the parts of a text before, between and after its separators
-abbrev pub parts_of : ℕ → List ℕ → List (List ℕ)
-parts_of separator text = slice_split (λ b. b == separator) text
-
--- the words of a line, a space between two
-abbrev pub words_of : List ℕ → List (List ℕ)
-words_of line = parts_of 32 line
-
--- the lines of a text, each ended by a newline, and then the bytes that follow the last newline
-abbrev pub lines_of : List ℕ → List (List ℕ)
-lines_of text = parts_of 10 text
-
--- one decimal digit or more, and nothing else
-abbrev pub is_decimal : List ℕ → Bool
-is_decimal word = nat_lt 0 (length word) && list_all (λ b. is_digit b 10) word
-
--- the number that a word writes in decimal, where it is at most `most`
-abbrev pub number_of : ℕ → List ℕ → Option ℕ
-number_of most word = cond (is_decimal word && nat_le (digits_value 10 word) most) (Some (digits_value 10 word)) None
 
 -- the user and the group that the words `user UID GID` name, each at most 65535
 abbrev pub user_of_words : List (List ℕ) → Option (ℕ × ℕ)
 user_of_words (name ∷ uid ∷ gid ∷ []) = cond (bytes_eq name (codes "user")) (option_zip (number_of 65535 uid) (number_of 65535 gid)) None
 user_of_words _ = None
 
--- the time that the words `NOW stat /` name, at most 4294967295
+-- whether a call is one that is played: so far `stat /` alone
+abbrev pub is_played : Call → Bool
+is_played (Stat path) = bytes_eq path.now (codes "/")
+is_played _ = false
+
+-- whether there is such a call
+abbrev pub can_be_played : Option Call → Bool
+can_be_played None = false
+can_be_played (Some call) = is_played call
+
+-- the time that the words `NOW CALL` name, at most 4294967295, where the call is one that is played
 abbrev pub time_of_words : List (List ℕ) → Option ℕ
-time_of_words (now ∷ name ∷ path ∷ []) = cond (bytes_eq name (codes "stat") && bytes_eq path (codes "/")) (number_of 4294967295 now) None
-time_of_words _ = None
+time_of_words [] = None
+time_of_words (now ∷ call) = if can_be_played (call_of call) then number_of 4294967295 now else None
 
 -- the user and the group that a line `user UID GID` names
 abbrev pub user_of : List ℕ → Option (ℕ × ℕ)
 user_of line = user_of_words (words_of line)
 
--- the time that a line `NOW stat /` names
+-- the time that a line `NOW CALL` names
 abbrev pub time_of : List ℕ → Option ℕ
 time_of line = time_of_words (words_of line)
 
--- a line's time before those of the lines after it
-abbrev pub time_before : Option ℕ → ℕ → Result (List ℕ) ℕ → Result (List ℕ) ℕ
-time_before None number later = Err number
-time_before (Some time) number (Ok times) = Ok (time ∷ times)
-time_before (Some time) number (Err bad) = Err bad
+-- the same, whatever the line's number
+abbrev pub time_at : ℕ → List ℕ → Option ℕ
+time_at number line = time_of line
 
 -- the times of the lines from this number on, or the number of the first that can't be read; after the last newline nothing may follow
 abbrev pub times_of : ℕ → List (List ℕ) → Result (List ℕ) ℕ
-times_of number [] = Err number
-times_of number (last ∷ []) = cond (length last == 0) (Ok []) (Err number)
-times_of number (line ∷ next ∷ more) = time_before (time_of line) number (times_of (number + 1) (next ∷ more))
+times_of number lines = said_by_lines time_at number lines
 
 -- line 1's user and group with the times of the later lines, or the number of the first line that can't be read
 abbrev pub with_user : Option (ℕ × ℕ) → Result (List ℕ) ℕ → Result (ℕ × ℕ × List ℕ) ℕ

@@ -1,10 +1,15 @@
-//! Reading scripts: a line `user UID GID`, and then a line `NOW CALL` for each call. Of the calls `stat /` alone is read so far.
+//! Reading scripts: a line `user UID GID`, and then a line `NOW CALL` for each call. Of the calls `stat /` alone is played so far.
 
-ghost use Rattle.std.specs.Prelude.{◌≡◌, ◌≢◌, ℕ, ◌<◌, ◌≤◌, List, ◌∷◌, [], MatchOption, IfOk, IfErr, length};
-ghost use Rattle.tools.specs.Script.{parts_of, words_of, number_of, user_of, time_of, script_of, IsRefused};
+ghost use Rattle.std.specs.Prelude.{◌≡◌, ◌≢◌, ℕ, List, ◌∷◌, [], MatchOption, IfOk, IfErr};
+ghost use Rattle.call_text.specs.Calls.{meant};
+ghost use Rattle.call_text.specs.Words.{words_of};
+ghost use Rattle.tools.specs.Script.{is_played, user_of, time_of, script_of, IsRefused};
 
+use call_text::call::{WrittenCall, read_call};
+use call_text::words::{cut, decimal, half};
 use std::alloc::Global;
 use thiserror::Error;
+use tree::Call;
 
 /// The calls of one session, each a `stat /`, and whose they are.
 #[derive(Debug, PartialEq, Eq, Drop)]
@@ -28,17 +33,6 @@ pub enum ScriptRefusal {
     OutOfMemory,
 }
 
-/// What stands before the first separator of a text, and what stands after it.
-fn cut(text: &[u8], separator: u8) -> Option<(&[u8], &[u8])>
-    ensures { MatchOption result (parts_of separator text.now ≡ text.now ∷ [])
-        (λ cut. (parts_of separator text.now ≡ cut.0.now ∷ parts_of separator cut.1.now) × (length cut.1.now < length text.now)) }
-{
-    match text.iter().position(|byte| *byte == separator) {
-        Some(end) => Some((&text[..end], &text[end + 1..])),
-        None => None,
-    }
-}
-
 /// The words of a line of three words.
 fn three_words(line: &[u8]) -> Option<(&[u8], &[u8], &[u8])>
     ensures { MatchOption result ((a b c : List ℕ) → words_of line.now ≢ a ∷ b ∷ c ∷ [])
@@ -50,28 +44,6 @@ fn three_words(line: &[u8]) -> Option<(&[u8], &[u8], &[u8])>
         Some(_) => None,
         None => Some((first, second, third)),
     }
-}
-
-/// A number of decimal digits, at most 4294967295.
-fn decimal(word: &[u8]) -> Option<u32>
-    ensures { result ≡ number_of u32.MAX word.now }
-{
-    if word.is_empty() {
-        return None;
-    }
-    let mut value: u32 = 0;
-    for byte in word {
-        let digit = char::from(*byte).to_digit(10)?;
-        value = value.checked_mul(10)?.checked_add(digit)?;
-    }
-    Some(value)
-}
-
-/// A number of decimal digits, at most 65535.
-fn half(word: &[u8]) -> Option<u16>
-    ensures { result ≡ number_of u16.MAX word.now }
-{
-    u16::try_from(decimal(word)?).ok()
 }
 
 /// The user and the group of a line `user UID GID`.
@@ -87,15 +59,23 @@ fn read_user(line: &[u8]) -> Option<(u16, u16)>
     Some((uid, gid))
 }
 
-/// The time of a line `NOW stat /`.
-fn read_stat(line: &[u8]) -> Option<u32>
+/// Whether a call is one that is played: so far `stat /` alone.
+fn is_played(call: &WrittenCall<'_>) -> bool
+    ensures { result ≡ is_played (meant call.now) }
+{
+    match call {
+        WrittenCall::Whole(Call::Stat { path }) => *path == b"/".as_slice(),
+        _ => false,
+    }
+}
+
+/// The time of a line `NOW CALL`, where the call is one that is played.
+fn read_timed(line: &[u8]) -> Option<u32>
     ensures { result ≡ time_of line.now }
 {
-    let (now, name, path) = three_words(line)?;
-    if name != b"stat".as_slice() || path != b"/".as_slice() {
-        return None;
-    }
-    decimal(now)
+    let (now, words) = cut(line, b' ')?;
+    let call = read_call(words)?;
+    if is_played(&call) { decimal(now) } else { None }
 }
 
 /// Reads a script: a line for the user and then one for each call, each ended by a newline.
@@ -119,7 +99,7 @@ pub fn read_script(alloc: Global, text: &[u8]) -> Result<Script, ScriptRefusal>
             return Err(ScriptRefusal::BadLine(number));
         };
         rest = after;
-        let Some(now) = read_stat(line) else {
+        let Some(now) = read_timed(line) else {
             return Err(ScriptRefusal::BadLine(number));
         };
         if times.push(now).is_err() {

@@ -58,18 +58,14 @@ mark_text (Took who now call answer) = codes "reply " ++ decimal who.session ++ 
 abbrev pub mark_line : Mark → List ℕ
 mark_line mark = mark_text mark ++ codes "\n"
 
--- the line of a mark that is borrowed
-abbrev pub line_text : MarkRef → List ℕ
-line_text mark = mark_line (mark_of mark)
-
--- marks, one a line, oldest first
-abbrev pub marks_text : List MarkRef → List ℕ
-marks_text marks = flat_map line_text marks
+-- marks, one a line, oldest first; `mark` says what each of these stands for
+abbrev pub marks_text : {M : Type 0} → (M → Mark) → List M → List ℕ
+marks_text mark marks = flat_map (λ m. mark_line (mark m)) marks
 
 -- how many calls arrived and have no reply
 abbrev pub unanswered_text : ℕ → List ℕ
 unanswered_text unanswered = codes "unanswered " ++ decimal unanswered ++ codes "\n"
 
 -- a transcript: its marks, oldest first, and last the calls without a reply
-abbrev pub transcript_text : List MarkRef → ℕ → List ℕ
-transcript_text marks unanswered = marks_text marks ++ unanswered_text unanswered
+abbrev pub transcript_text : {M : Type 0} → (M → Mark) → List M → ℕ → List ℕ
+transcript_text mark marks unanswered = marks_text mark marks ++ unanswered_text unanswered

@@ -1,6 +1,7 @@
 //! Marks, and their texts.
 
 ghost use Rattle.std.specs.Prelude.{◌≡◌, Some};
+ghost use Rattle.marks.specs.Marks.{Mark};
 ghost use Rattle.transcript_text.specs.Text.{cause_text, kind_text, mark_of, mark_text, moved_text};
 
 use endpoint::Endpoint;
@@ -27,6 +28,24 @@ pub enum MarkRef<'a> {
     Issued(&'a BlockRequest, Endpoint),
     /// A driver is to be replaced.
     Fault(Endpoint, Cause),
+}
+
+/// What is a mark of a record, or keeps one.
+pub trait AsMark {
+    // the mark
+    ghost mark: { Self → Mark };
+
+    /// The mark, borrowed.
+    fn as_mark(&self) -> MarkRef<'_>
+        ensures { mark_of result ≡ mark self.now };
+}
+
+impl AsMark for MarkRef<'_> {
+    ghost mark = { mark_of };
+
+    fn as_mark(&self) -> MarkRef<'_> {
+        *self
+    }
 }
 
 /// Whether a request reads or writes, as a transcript has it.

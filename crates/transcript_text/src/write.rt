@@ -5,21 +5,22 @@ ghost use Rattle.std.specs.Io.KnownBytes.{Appends};
 ghost use Rattle.output.specs.Output.{AppendsPart};
 ghost use Rattle.transcript_text.specs.Text.{marks_text, transcript_text, unanswered_text};
 
-use crate::mark::MarkRef;
+use crate::mark::AsMark;
 use output::{OutputRefusal, write_text};
 use std::alloc::Global;
 use std::io::Write;
 
 /// Writes marks, one a line, as they stand. Memory is taken for one line at a time.
-fn write_marks<W: Write>(
+fn write_marks<M: AsMark, W: Write>(
     alloc: Global,
     to: &mut W,
-    marks: &[MarkRef<'_>],
+    marks: &[M],
 ) -> Result<(), OutputRefusal>
-    ensures ok { OnOk result (Appends (W.contents to.old) (W.contents to.new) (marks_text marks.now)) }
-    ensures err { OnErr result (AppendsPart (W.contents to.old) (W.contents to.new) (marks_text marks.now)) }
+    ensures ok { OnOk result (Appends (W.contents to.old) (W.contents to.new) (marks_text M.mark marks.now)) }
+    ensures err { OnErr result (AppendsPart (W.contents to.old) (W.contents to.new) (marks_text M.mark marks.now)) }
 {
-    for mark in marks {
+    for marked in marks {
+        let mark = marked.as_mark();
         let line = format!(in alloc; "{mark}\n")?;
         write_text(to, line.as_bytes())?;
     }
@@ -42,14 +43,14 @@ fn write_unanswered<W: Write>(
 /// Writes a transcript: its marks, oldest first, one a line, and last `unanswered N`, how many calls arrived and have no reply.
 ///
 /// Where a write fails, or no memory is found for a line, what went out is a beginning of the text.
-pub fn write_transcript<W: Write>(
+pub fn write_transcript<M: AsMark, W: Write>(
     alloc: Global,
     to: &mut W,
-    marks: &[MarkRef<'_>],
+    marks: &[M],
     unanswered: u64,
 ) -> Result<(), OutputRefusal>
-    ensures ok { OnOk result (Appends (W.contents to.old) (W.contents to.new) (transcript_text marks.now unanswered)) }
-    ensures err { OnErr result (AppendsPart (W.contents to.old) (W.contents to.new) (transcript_text marks.now unanswered)) }
+    ensures ok { OnOk result (Appends (W.contents to.old) (W.contents to.new) (transcript_text M.mark marks.now unanswered)) }
+    ensures err { OnErr result (AppendsPart (W.contents to.old) (W.contents to.new) (transcript_text M.mark marks.now unanswered)) }
 {
     write_marks(alloc, to, marks)?;
     write_unanswered(alloc, to, unanswered)

@@ -8,8 +8,8 @@ loop-rest-init c =
     rw c.new-times.ensures.items
     (script_starts c.args.text.now c.in-Some.first.now c.in-Some.rest.now c.in-Some-read_user.uid c.in-Some-read_user.gid (search rules) (search rules))
 
-pub returns-in_default-read_stat-clause-err : goal.returns-in_default-read_stat-clause-err
-returns-in_default-read_stat-clause-err c =
+pub returns-in_default-read_timed-clause-err : goal.returns-in_default-read_timed-clause-err
+returns-in_default-read_timed-clause-err c =
     let count : length c.loop-rest.times.items ≡ c.len.result = search rules in
     script_bad (script_of c.args.text.now) c.in-Some-read_user.uid c.in-Some-read_user.gid c.loop-rest.times.items c.loop-rest.rest.now c.in-Some-cut.line.now c.in-Some-cut.after.now
     (length c.loop-rest.times.items + 2) c.loop-rest.invariant (search rules) (search rules) ∙ ap (λ n. Err (n + 2)) count
@@ -17,7 +17,7 @@ returns-in_default-read_stat-clause-err c =
 pub loop-rest-preserved : goal.loop-rest-preserved
 loop-rest-preserved c =
     let done = c.loop-rest.times.items in
-    let now = c.in-Some-read_stat.now in
+    let now = c.in-Some-read_timed.now in
     let items : c.push.new.self.items ≡ done ++ now ∷ [] = search rules in
     let count : length (done ++ now ∷ []) + 2 ≡ length done + 2 + 1 = omega (arith, length-append done (now ∷ [])) in
     rw (items, count)
@@ -27,4 +27,4 @@ loop-rest-preserved c =
 pub returns-then-is_err-clause-err : goal.returns-then-is_err-clause-err
 returns-then-is_err-clause-err c =
     has_call_read (script_of c.args.text.now) c.in-Some-read_user.uid c.in-Some-read_user.gid c.loop-rest.times.items c.loop-rest.rest.now c.in-Some-cut.line.now c.in-Some-cut.after.now
-    (length c.loop-rest.times.items + 2) c.in-Some-read_stat.now c.loop-rest.invariant (search rules) (search rules) (omega arith)
+    (length c.loop-rest.times.items + 2) c.in-Some-read_timed.now c.loop-rest.invariant (search rules) (search rules) (omega arith)

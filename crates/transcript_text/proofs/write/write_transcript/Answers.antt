@@ -8,9 +8,9 @@ returns-in_err-write_marks-clause-err g c = on_err _ _ (part_of_whole _ _ _ _ c.
 pub returns-clause-ok : goal.returns-clause-ok
 returns-clause-ok g c =
     second_ok c.write_unanswered.result (g.W.Write.contents c.args.to.now) (g.W.Write.contents c.write_marks.new.to) (g.W.Write.contents c.write_unanswered.new.to)
-    (marks_text c.args.marks.now) (unanswered_text c.args.unanswered) c.in_ok-write_marks.ensures.ok c.write_unanswered.ensures.ok
+    (marks_text g.M.AsMark.mark c.args.marks.now) (unanswered_text c.args.unanswered) c.in_ok-write_marks.ensures.ok c.write_unanswered.ensures.ok
 
 pub returns-clause-err : goal.returns-clause-err
 returns-clause-err g c =
     second_err c.write_unanswered.result (g.W.Write.contents c.args.to.now) (g.W.Write.contents c.write_marks.new.to) (g.W.Write.contents c.write_unanswered.new.to)
-    (marks_text c.args.marks.now) (unanswered_text c.args.unanswered) c.in_ok-write_marks.ensures.ok c.write_unanswered.ensures.err
+    (marks_text g.M.AsMark.mark c.args.marks.now) (unanswered_text c.args.unanswered) c.in_ok-write_marks.ensures.ok c.write_unanswered.ensures.err
