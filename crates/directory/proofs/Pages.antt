@@ -14,7 +14,7 @@ use Rattle.directory.specs.Scan.{last_named}
 use Rattle.directory.proofs.Scans.{scan_moved, scan_zeros}
 
 -- what holds of the three sizes of a block holds of each
-each_size : (P : ℕ → Type 0) (b : ℕ) → IsTrue (is_block_size b) → P 1024 → P 2048 → P 4096 → P b
+pub each_size : (P : ℕ → Type 0) (b : ℕ) → IsTrue (is_block_size b) → P 1024 → P 2048 → P 4096 → P b
 each_size P b size x y z = elim (or_cases ((b == 1024) || (b == 2048)) (b == 4096) size) [
   | inr c ↦ subst P (sym (eqb-true b 4096 c)) z
   | inl ab ↦ elim (or_cases (b == 1024) (b == 2048) ab) [
@@ -135,3 +135,30 @@ entry_missing g d i k zone bytes geometry holds many zeros is o low =
     zeros o
     ∙ sym (ap (file_byte g (pieces g d) i) (sym at)
     ∙ byte_nowhere g d i (k / (g.block_size / 64)) zone (64 * (k % (g.block_size / 64)) + o) geometry is holds (omega (arith, low, many, place.within)))
+
+-- The bytes of a page's block are the file's.
+pub page_same : (g : Geometry) (d : Disk) (i : Inode) (page zone q : ℕ) (bytes : List ℕ) → IsGeometry g → IsTrue (is_data_zone g zone) → q < g.block_size
+    → page * g.block_size + q < i.size → zone ≡ page_zone g (pieces g d) i page → d zone ≡ slice_index bytes
+    → slice_index bytes q ≡ file_byte g (pieces g d) i (64 * (page * (g.block_size / 64)) + q)
+page_same g d i page zone q bytes geometry holds low size is there =
+    let place = in_page page 0 g.block_size geometry.block_size in
+    ap (λ (f : ℕ → ℕ). f q) (sym there) ∙ byte_there g d i page zone q geometry is holds low size ∙ ap (λ (p : ℕ). file_byte g (pieces g d) i (p + q)) (sym place.entries)
+
+-- and in a page without a data zone they are zeros
+pub page_zeros : (g : Geometry) (d : Disk) (i : Inode) (page zone q : ℕ) → IsGeometry g → is_data_zone g zone ≡ false → q < g.block_size
+    → zone ≡ page_zone g (pieces g d) i page → file_byte g (pieces g d) i (64 * (page * (g.block_size / 64)) + q) ≡ 0
+page_zeros g d i page zone q geometry holds low is =
+    let place = in_page page 0 g.block_size geometry.block_size in
+    ap (λ (p : ℕ). file_byte g (pieces g d) i (p + q)) place.entries ∙ byte_nowhere g d i page zone q geometry is holds low
+
+-- a page's entries are as many as its bytes
+pub entries_whole : (b : ℕ) → IsTrue (is_block_size b) → 64 * (b / 64) ≡ b
+entries_whole b size = (in_page 0 0 b size).whole
+
+-- its first entry begins it
+pub entries_begin : (page b : ℕ) → IsTrue (is_block_size b) → 64 * (page * (b / 64)) ≡ page * b
+entries_begin page b size = (in_page page 0 b size).entries
+
+-- and no page has many
+pub entries_few : (b : ℕ) → IsTrue (is_block_size b) → b / 64 ≤ 64
+entries_few b size = each_size (λ n. n / 64 ≤ 64) b size (omega arith) (omega arith) (omega arith)

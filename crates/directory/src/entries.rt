@@ -44,7 +44,7 @@ pub fn entry_inode(bytes: &[u8], e: usize) -> u32
 }
 
 /// Whether two names are the same bytes.
-fn is_same(name: &[u8], other: &[u8]) -> bool
+pub(crate) fn is_same(name: &[u8], other: &[u8]) -> bool
     ensures { result ≡ eq_by_cmp name_cmp name.now other.now }
 {
     name == other

@@ -3,6 +3,8 @@
 
 mod entries;
 mod look_up;
+mod positions;
 
 pub use entries::{ENTRY_SIZE, entry_inode, entry_name};
 pub use look_up::{entry, find, parent};
+pub use positions::position;
