@@ -31,7 +31,7 @@ pub still_held : (y z : ℕ) → not (y == 0) ≡ not (z == 0) → y ≢ 0 → z
 still_held y z same some = not_zero z (sym same ∙ not_from_false (y == 0) (ne_eqb y 0 some))
 
 -- An inode is stored whose zones are those of before.
-module _ (g : Geometry) (u : Pieces) (n : ℕ) (i : Inode) (may : MayChange g u n) (zones : i.zones ≡ (u.inodes n).zones) (mode : i.mode ≡ (u.inodes n).mode)
+module _ (g : Geometry) (u : Pieces) (n : ℕ) (i : Inode) (may : MayChange g u n) (zones : i.zones ≡ (u.inodes n).zones) (mode : IsTrue (is_mode i.mode))
     (inside : (p : ℕ) → page_zone g u (u.inodes n) p ≢ 0 → p < pages_of g i.size) where
   abbrev w : Pieces
   w = with_inode u n i
@@ -47,7 +47,7 @@ module _ (g : Geometry) (u : Pieces) (n : ℕ) (i : Inode) (may : MayChange g u 
     zones = refl;
     others = λ m d. put-other u.inodes n i m d;
     slots = ap (λ (x : Inode). x.zones) its ∙ zones;
-    mode = ap (λ (x : Inode). is_mode x.mode) its ∙ ap is_mode mode ∙ may.rules.modes n may.marked;
+    mode = ap (λ (x : Inode). is_mode x.mode) its ∙ mode;
     inside = λ p some. let low = inside p some in let e : pages_of g (w.inodes n).size ≡ pages_of g i.size = ap (λ (x : Inode). pages_of g x.size) its in omega (arith, low, e);
   }
 
@@ -87,7 +87,7 @@ module _ (g : Geometry) (d x y f : Disk) (n size : ℕ) (i : Inode) (pads : Pads
     held p some = may.inside p (still_held (page_zone g u (u.inodes n) p) (page_zone g v (v.inodes n) p) (ap (λ (h : File). h.held p) padded.file) some)
 
     sized : BecomesFile g u (with_inode u n j) n (u.inodes n) (resized (file_at g u n) size)
-    sized = stored_becomes g u n j now refl refl held (u.inodes n) (resized (file_at g u n) size) refl (stored_file g u n j now refl refl held (pads.padded may.change))
+    sized = stored_becomes g u n j now refl (now.rules.modes n now.marked) held (u.inodes n) (resized (file_at g u n) size) refl (stored_file g u n j now refl (now.rules.modes n now.marked) held (pads.padded may.change))
 
     became : BecomesFile g v (pieces g f) n (v.inodes n) (resized (file_at g v n) size)
     became = subst (λ (z : Pieces). BecomesFile g v z n (v.inodes n) (resized (file_at g v n) size)) (sym altered)
@@ -108,7 +108,7 @@ stamps g d x f n now i same is alters =
     record {
       head = λ b low. alters.head b low ∙ ap (λ (z : Disk). z b) same;
       becomes = λ may. subst (λ (z : Pieces). BecomesFile g v z n (stamped now (v.inodes n)) (file_at g v n)) (sym altered)
-          (stored_becomes g v n (stamped now (v.inodes n)) may refl refl (λ p some. may.rules.inside n p may.marked some) (stamped now (v.inodes n)) (file_at g v n) refl
+          (stored_becomes g v n (stamped now (v.inodes n)) may refl (may.rules.modes n may.marked) (λ p some. may.rules.inside n p may.marked some) (stamped now (v.inodes n)) (file_at g v n) refl
           (ap (file_of g v) (put-same v.inodes n (stamped now (v.inodes n)))));
     }
 
