@@ -14,6 +14,7 @@ use message::Incoming;
 use policy::Event as PolicyEvent;
 use reincarnate::{Action, Reincarnation};
 use run_log::log::{Entry, Log};
+use schedule::Event;
 use std::alloc::Global;
 
 /// The drivers, the reincarnation server that has the others, the tick, and the last beat: its driver's generation and its tick.
@@ -38,13 +39,12 @@ fn driver(generation: u32) -> Endpoint
 }
 
 impl<D: LocalDriver> Stage<D> {
-    ghost use Rattle.driver_events.specs.Scene.{Exits, Ticks, StepsAt, DiesAt, beaten, delivered};
+    ghost use Rattle.driver_events.specs.Scene.{Exits, Ticks, StepsAt, DiesAt, Quietly, Plays, beaten, delivered};
     ghost use Rattle.driver_events.specs.StageView.{scene_of};
     ghost use Rattle.driver_events.specs.View.{HasRoom};
     ghost use Rattle.std.specs.Prelude.{slice_get};
     ghost use Rattle.run_log.specs.LogView.{said, room_in};
-    ghost use Rattle.driver_events.specs.Disks.{Repeats};
-    ghost use Rattle.driver_events.specs.Scene.{Quietly};
+    ghost use Rattle.driver_events.specs.Disks.{Hangs, Repeats};
 
     /// The driver of this generation exited.
     fn exited(&mut self, log: &mut Log, generation: u32) -> Option<Incoming>
@@ -172,5 +172,41 @@ impl<D: LocalDriver> Stage<D> {
                 Some(Incoming::Started(endpoint))
             }
         }
+    }
+
+    /// What an event does to the drivers, the one with this number, and what message it brings. The calls that arrive wait elsewhere.
+    pub fn play(&mut self, alloc: Global, log: &mut Log, place: u32, event: &Event) -> Option<Incoming>
+        requires log { 0 < room_in log.old }
+        requires room { HasRoom self.old.drivers }
+        requires ticks { self.old.tick + 1 < 2 ^ 32 }
+        ensures plays { Plays place event.now (scene_of D.state self.old (said log.old)) result (scene_of D.state self.new (said log.new)) }
+        ensures room { room_in log.old ≤ room_in log.new + 1 }
+        ensures over { log.new.over ≡ log.old.over }
+        ensures tick { self.new.tick ≤ self.old.tick + 1 }
+    {
+        match event {
+            Event::Arrive(_, _, _) => None,
+            Event::Flush => Some(Incoming::Flush),
+            Event::Tick => self.pass_tick(alloc, log),
+            Event::Step(generation) => self.step(log, place, *generation),
+            Event::Die(generation, bytes) => self.die(log, *generation, *bytes),
+            Event::Hang(generation) => {
+                self.hang(log, *generation);
+                None
+            }
+            Event::Deliver(n) => self.deliver(*n),
+            Event::Repeat(n) => {
+                self.repeat(log, *n);
+                None
+            }
+        }
+    }
+
+    /// The driver of this generation hangs.
+    fn hang(&mut self, log: &Log, generation: u32)
+        ensures quietly { Quietly (scene_of D.state self.old (said log.now)) None (scene_of D.state self.new (said log.now)) (Hangs generation) }
+        ensures tick { self.new.tick ≡ self.old.tick }
+    {
+        self.drivers.hang(generation);
     }
 }
