@@ -5,7 +5,8 @@ use Rattle.transcript_text.proofs.Lines.{part_before, text_next, text_split}
 use Rattle.transcript_text.proofs.write.write_marks.Goals as goal
 
 pub returns-in_err-line-clause-err : goal.returns-in_err-line-clause-err
-returns-in_err-line-clause-err g c = on_err _ _ (part_before g.M.AsMark.mark _ _ _ _ c.loop-marked.invariant)
+returns-in_err-line-clause-err g c = on_err _ _ (part_before g.M.AsMark.mark _ _ c.args.marks.now c.loop-marked.marked-index c.marked-item.result c.loop-marked-test.true c.marked-item.is
+    c.loop-marked.invariant)
 
 pub returns-in_err-write_text-clause-err : goal.returns-in_err-write_text-clause-err
 returns-in_err-write_text-clause-err g c =

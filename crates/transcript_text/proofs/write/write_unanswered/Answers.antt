@@ -1,11 +1,11 @@
 use Rattle.std.proofs.Common.{◌∙◌}
 use Rattle.output.proofs.Writes.{on_err}
 use Rattle.transcript_text.specs.Text.{unanswered_text}
-use Rattle.transcript_text.proofs.Lines.{nothing_written}
+use Rattle.transcript_text.proofs.Lines.{nothing_written, unanswered_some}
 use Rattle.transcript_text.proofs.write.write_unanswered.Goals as goal
 
 pub returns-in_err-line-clause-err : goal.returns-in_err-line-clause-err
-returns-in_err-line-clause-err g c = on_err _ _ (nothing_written _ (unanswered_text c.args.unanswered))
+returns-in_err-line-clause-err g c = on_err _ _ (nothing_written _ (unanswered_text c.args.unanswered) (unanswered_some c.args.unanswered))
 
 pub returns-clause-ok : goal.returns-clause-ok
 returns-clause-ok g c =
