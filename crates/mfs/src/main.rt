@@ -3,23 +3,12 @@
 
 mod words;
 
+use command_line::{line_of, status_for};
 use std::process::ExitCode;
-use std::{env, fs, io};
+use std::{fs, io};
 use supply::{drivers_for, setup_for, table_in};
 use tools::play::{File, play};
-use words::{Words, command, status_for};
-
-/// The words of the command line; none where one isn't UTF-8, and then a line says so.
-fn line_of(rt: &HostRuntime) -> io::Result<Option<Vec<String>>> {
-    match env::args(rt) {
-        Ok(line) => Ok(Some(line.collect(rt.alloc())?)),
-        Err(error) if error.kind() == io::ErrorKind::InvalidData => {
-            eprintln!(*rt; "error: a word isn't UTF-8")?;
-            Ok(None)
-        }
-        Err(error) => Err(error),
-    }
-}
+use words::{Words, command};
 
 /// A file of this name, with its bytes if it could be read.
 fn file<'n, 'b>(name: &'n str, bytes: &'b Option<Vec<u8>>) -> File<'n, 'b> {

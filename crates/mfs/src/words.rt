@@ -1,11 +1,7 @@
 //! What the command line says.
 
-ghost use Rattle.std.specs.Prelude.{◌≡◌, ◌⊎◌, ◌↔◌};
-ghost use Rattle.clap.specs.Values.{kind_of};
-
 use clap::builder::ValueParser;
-use clap::error::ErrorKind;
-use clap::{Arg, ArgAction, ArgMatches, Command, Error};
+use clap::{Arg, ArgAction, ArgMatches, Command};
 use std::alloc::{AllocError, Global};
 
 /// The words that `mfs` knows.
@@ -77,17 +73,10 @@ impl<'a> Words<'a> {
     }
 }
 
-/// The status for words that aren't taken: 0 where they ask for help or the version, else 2.
-pub(crate) fn status_for(error: &Error) -> u8
-    ensures asked { (result ≡ 0) ↔ ((kind_of error.now ≡ ErrorKind.DisplayHelp) ⊎ (kind_of error.now ≡ ErrorKind.DisplayVersion)) }
-    ensures mistaken { (result ≡ 0) ⊎ (result ≡ 2) }
-{
-    if error.use_stderr() { 2 } else { 0 }
-}
-
 #[cfg(test)]
 mod rows {
-    use super::{Words, command, status_for};
+    use super::{Words, command};
+    use command_line::status_for;
     use std::test::Fail;
 
     #[test]
