@@ -1,0 +1,4 @@
+pub mod EntryBytes
+pub mod Becoming
+pub mod Placing
+pub mod Removing

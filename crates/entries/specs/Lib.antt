@@ -1,0 +1,3 @@
+-- Changes of a directory's names.
+pub mod Names
+pub mod Removal

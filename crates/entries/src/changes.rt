@@ -1,0 +1,116 @@
+//! Names more, names less, names that lead elsewhere.
+
+ghost use Rattle.std.specs.Prelude.{◌≡◌, ◌≤◌, ◌<◌, ◌+◌, ◌*◌, IfErr, IfOk, length};
+ghost use Rattle.store.specs.Halts.{Ends, IsHalt};
+ghost use Rattle.store.specs.Volume.{IsOn};
+ghost use Rattle.store.specs.World.{Reads, Turns};
+ghost use Rattle.volume.specs.Pieces.{pieces};
+ghost use Rattle.entries.specs.Names.{HasName, Inserts, IsPlaced, MayInsert, MayReplace, MaySetParent, Replaces, SetsParent};
+
+use crate::bytes::entry_bytes;
+use directory::position;
+use file::{stamp, write_at};
+use inode_table::load;
+use layout::Geometry;
+use store::{Blocks, Halt};
+use tree::MAX_SIZE;
+
+/// Gives a directory a name more, of 1 to 60 bytes, that leads to an inode: it stands last, and the directory is 64 bytes longer. Zones
+/// enough are asked for before, by `file::has_room` of 64 bytes at its size. Its times become `now`, in seconds. Unsound where the volume
+/// isn't sound, or the directory is as long as a file may be.
+pub fn insert<B: Blocks>(
+    blocks: &mut B,
+    geometry: &Geometry,
+    directory: u32,
+    name: &[u8],
+    number: u32,
+    now: u32,
+) -> Result<(), Halt>
+    requires on { IsOn B.world geometry.now blocks.old }
+    requires short { length name.now ≤ 60 }
+    ensures turns { Turns B.world blocks.old blocks.new (λ d e. Ends result
+        (λ x. Inserts geometry.now directory name.now number now d e)
+        (MayInsert geometry.now (pieces geometry.now d) directory name.now number)) }
+    ensures halt { IfErr result (λ h. IsHalt B.world blocks.new h) }
+{
+    let inode = load(blocks, geometry, directory)?;
+    if inode.size > MAX_SIZE - 64 {
+        return Err(Halt::Unsound);
+    }
+    write_at(
+        blocks,
+        geometry,
+        directory,
+        inode.size,
+        &entry_bytes(number, name),
+    )?;
+    stamp(blocks, geometry, directory, now)
+}
+
+/// Gives a directory another parent: its entry `..` leads there. Its times stay. Unsound where the volume isn't sound.
+pub fn set_parent<B: Blocks>(
+    blocks: &mut B,
+    geometry: &Geometry,
+    directory: u32,
+    parent: u32,
+) -> Result<(), Halt>
+    requires on { IsOn B.world geometry.now blocks.old }
+    ensures turns { Turns B.world blocks.old blocks.new (λ d e. Ends result
+        (λ x. SetsParent geometry.now directory parent d e) (MaySetParent geometry.now (pieces geometry.now d) directory parent)) }
+    ensures halt { IfErr result (λ h. IsHalt B.world blocks.new h) }
+{
+    write_at(blocks, geometry, directory, 64, &parent.to_le_bytes())
+}
+
+/// The number of the entry of a directory that has a name. Unsound where none has it.
+pub(crate) fn place_of<B: Blocks>(
+    blocks: &mut B,
+    geometry: &Geometry,
+    directory: u32,
+    name: &[u8],
+) -> Result<u32, Halt>
+    requires on { IsOn B.world geometry.now blocks.old }
+    requires named { 0 < length name.now }
+    ensures reads { Reads B.world blocks.old blocks.new (λ d. Ends result
+        (λ e. IsPlaced geometry.now (pieces geometry.now d) directory name.now e)
+        (HasName geometry.now (pieces geometry.now d) directory name.now)) }
+    ensures within { IfOk result (λ e. 64 * e + 64 ≤ 2147483647) }
+    ensures halt { IfErr result (λ h. IsHalt B.world blocks.new h) }
+{
+    let inode = load(blocks, geometry, directory)?;
+    if inode.size > MAX_SIZE {
+        return Err(Halt::Unsound);
+    }
+    match position(blocks, geometry, &inode, name)? {
+        Some(place) => Ok(place),
+        None => Err(Halt::Unsound),
+    }
+}
+
+/// Makes a name of a directory lead to another inode. Its times become `now`, in seconds. Unsound where the volume isn't sound, or the
+/// directory hasn't the name.
+pub fn replace<B: Blocks>(
+    blocks: &mut B,
+    geometry: &Geometry,
+    directory: u32,
+    name: &[u8],
+    number: u32,
+    now: u32,
+) -> Result<(), Halt>
+    requires on { IsOn B.world geometry.now blocks.old }
+    requires named { 0 < length name.now }
+    ensures turns { Turns B.world blocks.old blocks.new (λ d e. Ends result
+        (λ x. Replaces geometry.now directory name.now number now d e)
+        (MayReplace geometry.now (pieces geometry.now d) directory name.now number)) }
+    ensures halt { IfErr result (λ h. IsHalt B.world blocks.new h) }
+{
+    let place = place_of(blocks, geometry, directory, name)?;
+    write_at(
+        blocks,
+        geometry,
+        directory,
+        64 * place,
+        &number.to_le_bytes(),
+    )?;
+    stamp(blocks, geometry, directory, now)
+}
