@@ -175,7 +175,13 @@ impl<D: LocalDriver> Stage<D> {
     }
 
     /// What an event does to the drivers, the one with this number, and what message it brings. The calls that arrive wait elsewhere.
-    pub fn play(&mut self, alloc: Global, log: &mut Log, place: u32, event: &Event) -> Option<Incoming>
+    pub fn play(
+        &mut self,
+        alloc: Global,
+        log: &mut Log,
+        place: u32,
+        event: &Event,
+    ) -> Option<Incoming>
         requires log { 0 < room_in log.old }
         requires room { HasRoom self.old.drivers }
         requires ticks { self.old.tick + 1 < 2 ^ 32 }

@@ -1,0 +1,43 @@
+use Rattle.std.proofs.Common.{rules, ◌≡◌, ◌∙◌, sym, refl, ap}
+use Rattle.message.specs.declared.Incoming.TheVariants as incoming
+use Rattle.run_log.specs.declared.log.Entry.TheVariants as entry
+use Rattle.playing.proofs.PlayLaws.{received_true, owed_heard, true_of, take_told, end_told, take_falls, take_spent, take_true, end_true}
+use Rattle.playing.proofs.Going.{take_goes, end_goes}
+use Rattle.playing.proofs.link.PlayingLink.take.Goals as goal
+
+pub returns-then-self-2-clause-truth : goal.returns-then-self-2-clause-truth
+returns-then-self-2-clause-truth g c = λ v marks h.
+    received_true v _ _ marks incoming.GaveUp c.note.ensures.said (owed_heard v _ marks (true_of v _ _ marks c.make_room.ensures.scene h))
+
+pub returns-in-Some-clause-told : goal.returns-in-Some-clause-told
+returns-in-Some-clause-told g c = take_told _ _ _ _ _ c.in-Some.ensures.advances c.note-in-Some.ensures.said c.make_room.ensures.scene
+
+pub returns-in-Some-clause-budget : goal.returns-in-Some-clause-budget
+returns-in-Some-clause-budget g c = λ some.
+    take_falls _ _ _ _ _ _ _ _ c.in-Some.ensures.advances c.if-self.false (c.note-in-Some.ensures.over ∙ c.in-Some.ensures.over) refl refl
+    c.in-Some.ensures.next c.advance.new.self.within
+
+pub returns-in-Some-clause-spent : goal.returns-in-Some-clause-spent
+returns-in-Some-clause-spent g c =
+    take_spent _ _ _ (take_falls _ _ _ c.args.self.now.log.over c.note-in-Some.new.self.over _ _ _ c.in-Some.ensures.advances c.if-self.false
+    (c.note-in-Some.ensures.over ∙ c.in-Some.ensures.over) refl refl c.in-Some.ensures.next c.advance.new.self.within)
+
+pub returns-in-Some-clause-goes : goal.returns-in-Some-clause-goes
+returns-in-Some-clause-goes g c =
+    take_goes _ _ _ _ _ (entry.Received c.in-Some.message) _ c.in-Some.ensures.advances c.note-in-Some.ensures.said refl refl refl
+    c.make_room.ensures.waiting refl c.make_room.ensures.scene
+
+pub returns-in-Some-clause-truth : goal.returns-in-Some-clause-truth
+returns-in-Some-clause-truth g c = λ v marks h.
+    take_true v _ _ _ _ _ marks c.in-Some.ensures.advances c.note-in-Some.ensures.said c.make_room.ensures.scene h
+
+pub returns-in-None-clause-told : goal.returns-in-None-clause-told
+returns-in-None-clause-told g c = end_told _ _ _ _ c.in-None.ensures.advances c.end-in-None.ensures.said c.make_room.ensures.scene
+
+pub returns-in-None-clause-goes : goal.returns-in-None-clause-goes
+returns-in-None-clause-goes g c =
+    end_goes _ _ _ _ _ _ c.in-None.ensures.advances c.end-in-None.ensures.said refl refl c.make_room.ensures.waiting refl c.make_room.ensures.scene
+
+pub returns-in-None-clause-truth : goal.returns-in-None-clause-truth
+returns-in-None-clause-truth g c = λ v marks h.
+    end_true v _ _ _ _ marks c.in-None.ensures.advances c.end-in-None.ensures.said c.make_room.ensures.scene h
