@@ -2,4 +2,7 @@ pub mod Made
 mod Exits
 mod Looks
 mod Room
+mod OpenFiles
+mod ReadBytes
+mod ReadCall
 mod Effects

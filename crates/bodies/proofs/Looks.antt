@@ -1,6 +1,6 @@
 -- Calls on open files that only look.
-use Rattle.std.proofs.Common.{◌≡◌, ℕ, refl, sym, ap, subst, ◌∙◌, Option, Some, None, Ok, Err, true}
-use Rattle.std.specs.Prelude.{Result, IsTrue, IfSome, option_map, ◌&&◌}
+use Rattle.std.proofs.Common.{◌≡◌, ◌<◌, ◌≤◌, arith, ℕ, refl, sym, ap, subst, ◌∙◌, Option, Some, None, Ok, Err, true}
+use Rattle.std.specs.Prelude.{Result, IsTrue, IfOk, IfSome, option_map, ◌&&◌}
 use Rattle.std.proofs.lemmas.Bool.{cond-true, and_parts}
 use Rattle.errno.specs.declared.Errno.{Errno}
 use Rattle.errno.specs.declared.Errno.TheVariants.{EBADF, ENOENT}
@@ -42,7 +42,7 @@ abbrev found_at : ℕ → Option OpenFile → Result (ℕ × OpenFile) Errno
 found_at k x = or_refuse x EBADF >>= λ o. Ok (k, o)
 
 -- the tree has these open files, so its descriptor leads where theirs does
-same_found : (t : Tree) (f : Files) (session fd : ℕ) → HasFiles f t → open_file_of t session fd ≡ open_file_of (tree_with f) session fd
+pub same_found : (t : Tree) (f : Files) (session fd : ℕ) → HasFiles f t → open_file_of t session fd ≡ open_file_of (tree_with f) session fd
 same_found t f session fd files =
     ap (λ (x : ℕ → ℕ → Option ℕ). found_by (x session fd) t.open_files) files.descriptors
     ∙ ap (λ (x : ℕ → Option OpenFile). found_by (f.descriptors session fd) x) files.opened
@@ -104,6 +104,11 @@ found_some x y o is h = sym (ap (λ (z : Option Found). option_map file_of z) is
 pub found_none : (x : Option Found) (o : Option OpenFile) → x ≡ None → option_map file_of x ≡ o → None ≡ o
 found_none x o is h = sym (ap (λ (z : Option Found). option_map file_of z) is) ∙ h
 
+-- what is nothing else is nothing
+pub none_left : {X : Type 0} (x : Option X) → ((y : X) → x ≡ Some y → ⊥) → x ≡ None
+none_left None h = refl
+none_left (Some y) h = absurd (h y refl)
+
 -- what is said of it
 pub said_of : {X : Type 0} (x : Option X) (y : X) (P : X → Type 0) → x ≡ Some y → IfSome x P → P y
 said_of {X = X} x y P is h = subst (λ (z : Option X). IfSome z P) is h
@@ -136,3 +141,11 @@ module _ (g : Geometry) (d e : Disk) (f : Files) (session fd : ℕ) (same : e �
         ∙ ap (λ (z : Option Node). or_refuse z ENOENT >>= λ node. Ok (node_is (attributes_of o.inode node), t)) n.1
         ∙ ap (λ (a : Attributes). Ok (node_is a, t)) all) same holds files;
   }
+
+-- what a good result gave
+pub given_ok : {X E : Type 0} (r : Result X E) (x : X) (P : X → Type 0) → r ≡ Ok x → IfOk r P → P x
+given_ok {X = X} {E = E} r x P e h = subst (λ (z : Result X E). IfOk z P) e h
+
+-- no number is above its limit
+pub too_big : (n : ℕ) → 2147483647 < n → n ≤ 2147483647 → ⊥
+too_big n over within = absurd (omega (arith, over, within))

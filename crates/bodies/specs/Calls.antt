@@ -3,7 +3,7 @@ use Rattle.std.specs.Prelude.{◌≡◌, ℕ, Bool, Result, is_some, IsTrue}
 use Rattle.layout.specs.declared.Geometry.{Geometry}
 use Rattle.tree.specs.declared.Who.{Who}
 use Rattle.tree.specs.declared.Call.{Call}
-use Rattle.tree.specs.declared.Call.TheVariants.{Fstat, Sync, Statfs}
+use Rattle.tree.specs.declared.Call.TheVariants.{Dup, Fstat, Sync, Statfs}
 use Rattle.tree.specs.declared.Reply.{Reply}
 use Rattle.tree.specs.Sums.{some_below}
 use Rattle.tree.specs.Tree.{Tree, most_open_files}
@@ -28,7 +28,8 @@ pub record DoesCall (g : Geometry) (who : Who) (now : ℕ) (call : Call) (answer
 
 -- a call does this, or it is cut off; that the volume isn't sound it says of none that holds a tree
 abbrev pub MeetsCall : Geometry → Who → ℕ → Call → Result Reply Halt → Files → Files → Disk → Disk → Type 0
-MeetsCall g who now call result old new d e = Ends result (λ r. DoesCall g who now call (answer_of r) old new d e) (IsHeld g (HasFiles old) d)
+MeetsCall g who now call result old new d e =
+    Ends result (λ r. DoesCall g who now call (answer_of r) old new d e) (IsHeld g (HasFiles old) d)
 
 -- whether some file is open
 abbrev pub is_busy : Files → Bool
@@ -36,6 +37,7 @@ is_busy f = some_below (λ k. is_some (f.opened k)) most_open_files
 
 -- the calls that have a body
 abbrev pub IsGiven : Call → Type 0
+IsGiven (Dup fd) = Unit {0}
 IsGiven (Fstat fd) = Unit {0}
 IsGiven Sync = Unit {0}
 IsGiven Statfs = Unit {0}

@@ -2,3 +2,4 @@
 pub mod Does
 pub mod Calls
 pub mod Found
+pub mod Reading

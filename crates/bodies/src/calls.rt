@@ -9,7 +9,7 @@ ghost use Rattle.store.specs.Volume.{IsOn};
 ghost use Rattle.store.specs.Halts.{IsHalt};
 ghost use Rattle.bodies.specs.Calls.{DoesCall, MeetsCall, IsGiven};
 
-use crate::open_files::fstat;
+use crate::open_files::{dup, fstat};
 use crate::whole::{statfs, sync};
 use descriptors::Descriptors;
 use errno::Errno;
@@ -39,6 +39,7 @@ fn perform<B: Blocks>(
         return Ok(Reply::Refused(Errno::EINVAL));
     }
     match *call {
+        Call::Dup { fd } => Ok(dup(opens, who.session, fd)),
         Call::Fstat { fd } => fstat(blocks, opens, geometry, who.session, fd),
         Call::Sync => sync(blocks, geometry),
         Call::Statfs => statfs(blocks, geometry),

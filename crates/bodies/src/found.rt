@@ -1,7 +1,7 @@
 //! The node of a descriptor's open file.
 
-ghost use Rattle.std.specs.Prelude.{◌≡◌, ◌<◌, IfOk, IfErr, IfSome, option_map};
-ghost use Rattle.tree.specs.Tree.{most_sessions};
+ghost use Rattle.std.specs.Prelude.{◌≡◌, ◌<◌, ◌≤◌, IfOk, IfErr, IfSome, option_map};
+ghost use Rattle.tree.specs.Tree.{most_sessions, most_size};
 ghost use Rattle.volume.specs.Pieces.{pieces};
 ghost use Rattle.descriptors.specs.Files.{HasFiles, file_at};
 ghost use Rattle.descriptors.specs.Table.{files_of};
@@ -37,10 +37,12 @@ pub(crate) fn find<B: Blocks>(
     requires on { IsOn B.world geometry.now blocks.old }
     requires session { session < most_sessions }
     ensures file { IfOk result (λ x. option_map file_of x ≡ file_at (files_of opens.now) session fd) }
+    ensures within { IfOk result (λ x. IfSome x (λ y. y.position ≤ most_size)) }
     ensures reads { Reads B.world blocks.old blocks.new (λ d. Ends result
         (λ x. IfSome x (λ y. y.inode ≡ (pieces geometry.now d).inodes y.number)) (IsHeld geometry.now (HasFiles (files_of opens.now)) d)) }
     ensures halt { IfErr result (λ h. IsHalt B.world blocks.new h) }
 {
+    opens.keep_limits();
     match opens.get(session, fd) {
         None => Ok(None),
         Some((number, position, flags)) => {

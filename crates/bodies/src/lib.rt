@@ -7,4 +7,5 @@
 pub mod calls;
 mod found;
 pub mod open_files;
+pub mod reading;
 pub mod whole;

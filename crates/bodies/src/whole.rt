@@ -19,7 +19,8 @@ use tree::{Reply, Room};
 /// sync: writes all that was changed.
 pub fn sync<B: Blocks>(blocks: &mut B, geometry: &Geometry) -> Result<Reply, Halt>
     requires on { IsOn B.world geometry.now blocks.old }
-    ensures turns { Turns B.world blocks.old blocks.new (λ d e. (f : Files) → Meets geometry.now (λ t. Ok (done, t)) result (HasFiles f) (HasFiles f) d e) }
+    ensures turns { Turns B.world blocks.old blocks.new (λ d e. (f : Files) →
+        Meets geometry.now (λ t. Ok (done, t)) result (HasFiles f) (HasFiles f) d e) }
     ensures synced { OnOk result (B.world.synced blocks.new) }
     ensures halt { IfErr result (λ h. IsHalt B.world blocks.new h) }
     ensures proper { IfOk result (λ r. answer_of r ≢ refused Errno.EIO) }
@@ -31,7 +32,8 @@ pub fn sync<B: Blocks>(blocks: &mut B, geometry: &Geometry) -> Result<Reply, Hal
 /// statfs: the sizes of the volume, and how many zones and inodes are free, counted in its maps.
 pub fn statfs<B: Blocks>(blocks: &mut B, geometry: &Geometry) -> Result<Reply, Halt>
     requires on { IsOn B.world geometry.now blocks.old }
-    ensures turns { Turns B.world blocks.old blocks.new (λ d e. (f : Files) → Meets geometry.now (λ t. statfs geometry.now t) result (HasFiles f) (HasFiles f) d e) }
+    ensures turns { Turns B.world blocks.old blocks.new (λ d e. (f : Files) →
+        Meets geometry.now (λ t. statfs geometry.now t) result (HasFiles f) (HasFiles f) d e) }
     ensures halt { IfErr result (λ h. IsHalt B.world blocks.new h) }
     ensures proper { IfOk result (λ r. answer_of r ≢ refused Errno.EIO) }
 {
