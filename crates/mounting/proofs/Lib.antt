@@ -2,3 +2,4 @@ pub mod Searching
 pub mod Going
 pub mod Parts
 pub mod Steps
+pub mod Heads

@@ -1,3 +1,4 @@
 -- Reading a volume through a link, and mounting it.
 pub mod Sought
 pub mod Reading
+pub mod Whole

@@ -3,5 +3,7 @@
 
 pub mod reading;
 pub mod sought;
+pub mod whole;
 
 pub use reading::{Stop, read_range};
+pub use whole::{MountRefusal, sizes};
