@@ -1,23 +1,23 @@
 -- A directory whose file changes becomes a node with other names, or another parent.
-use Rattle.std.proofs.Common.{◌≡◌, ◌≢◌, ◌<◌, ◌≤◌, ◌+◌, ◌*◌, ◌-◌, ◌/◌, ◌%◌, ℕ, Bool, true, false, List, length, Some, refl, sym, ap, subst, ◌∙◌, arith, inl, inr}
-use Rattle.std.specs.Prelude.{◌==◌, ◌||◌, ◌&&◌, not, nat_lt, nat_le, IsTrue, slice_index, if◌then◌else◌}
-use Rattle.std.proofs.lemmas.Bool.{and_parts, cond-true, cond-false, cases_Bool, ltb-true, le-ltb, ne_eqb, not_from_false}
+use Rattle.std.proofs.Common.{◌≡◌, ◌<◌, ◌≤◌, ◌+◌, ◌*◌, ◌-◌, ◌/◌, ℕ, Bool, true, false, List, length, Some, refl, sym, ap, subst, ◌∙◌, arith}
+use Rattle.std.specs.Prelude.{◌||◌, ◌&&◌, nat_lt, IsTrue, slice_index, if◌then◌else◌}
+use Rattle.std.proofs.lemmas.Bool.{and_parts, cond-true, ltb-true, ne_eqb, not_from_false}
 use Rattle.layout.specs.declared.Geometry.{Geometry}
-use Rattle.layout.specs.Places.{IsGeometry, is_block_size}
+use Rattle.layout.specs.Places.{is_block_size}
 use Rattle.tree.specs.Sums.{put}
 use Rattle.tree.specs.Names.{Name, Names, with_name}
-use Rattle.tree.specs.Tree.{File, Directory, Body, is_file, is_directory, Node, most_size}
-use Rattle.tree.specs.Changes.{with_names, with_parent, with_body, file_after_write}
-use Rattle.tree.specs.Space.{data_zones, numbers_in_zone, pages_of}
+use Rattle.tree.specs.Tree.{File, Directory, Body, is_file, is_directory, Node}
+use Rattle.tree.specs.Changes.{with_names, with_parent, with_body}
+use Rattle.tree.specs.Space.{data_zones, numbers_in_zone}
 use Rattle.tree.specs.ZonesNeeded.{zones_needed}
 use Rattle.volume.specs.declared.Inode.{Inode}
 use Rattle.volume.specs.Pieces.{Pieces, pieces}
 use Rattle.volume.specs.Reading.{Disk, u32_in}
-use Rattle.volume.specs.Nodes.{directory_of, entry_inode, file_of, is_directory_mode, is_marked, names_in, node_of, nodes_of, page_zone, permissions_in}
-use Rattle.volume.specs.Entries.{is_directory_inode, entry_count}
-use Rattle.volume.specs.Holds.{IsSound, IsSoundDirectory}
+use Rattle.volume.specs.Nodes.{directory_of, entry_inode, file_of, is_directory_mode, is_marked, names_in, node_of, nodes_of, permissions_in}
+use Rattle.volume.specs.Entries.{entry_count}
+use Rattle.volume.specs.Holds.{IsSoundDirectory}
 use Rattle.volume_laws.proofs.Sums.{count_most}
-use Rattle.zone_laws.specs.Steps.{IsSoundBut, body_from, node_from, marked_in}
+use Rattle.zone_laws.specs.Steps.{body_from, node_from, marked_in}
 use Rattle.zone_laws.proofs.Keeps.{sound_but_is_sound, sound_is_sound_but}
 use Rattle.entry_laws.specs.Directories.{IsDirectoryOf, before}
 use Rattle.entry_laws.specs.Files.{IsEntryBytes}

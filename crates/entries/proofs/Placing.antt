@@ -1,13 +1,13 @@
 -- Entries that have a name, and what becomes of them.
-use Rattle.std.proofs.Common.{◌≡◌, ◌<◌, ◌≤◌, ◌+◌, ◌*◌, ◌/◌, ℕ, List, length, Option, None, Some, false, true, refl, sym, ap, subst, ◌∙◌, arith}
+use Rattle.std.proofs.Common.{◌≡◌, ◌*◌, ℕ, List, length, Option, None, Some, false, true, refl, subst, ◌∙◌, arith}
 use Rattle.std.specs.Prelude.{IsTrue, is_some, slice_index}
 use Rattle.layout.specs.declared.Geometry.{Geometry}
-use Rattle.tree.specs.Names.{Name, Names, inode_of, with_name}
+use Rattle.tree.specs.Names.{Name, inode_of, with_name}
 use Rattle.volume.specs.declared.Inode.{Inode}
 use Rattle.volume.specs.Pieces.{Pieces, pieces}
 use Rattle.volume.specs.Reading.{Disk, u32_in}
 use Rattle.volume.specs.Nodes.{entry_count_of, file_byte}
-use Rattle.volume.specs.Entries.{entry_count, name_at}
+use Rattle.volume.specs.Entries.{entry_count}
 use Rattle.entry_laws.specs.Directories.{IsDirectoryOf, before, row_of}
 use Rattle.entry_laws.specs.Rows.{IsRow}
 use Rattle.entry_laws.proofs.Directories.{directory_is_row}

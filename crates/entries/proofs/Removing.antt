@@ -1,23 +1,20 @@
 -- An entry that goes.
-use Rattle.std.proofs.Common.{◌≡◌, ◌<◌, ◌≤◌, ◌+◌, ◌*◌, ◌-◌, ◌/◌, ℕ, List, length, refl, sym, ap, subst, ◌∙◌, arith}
-use Rattle.std.specs.Prelude.{slice_index}
+use Rattle.std.proofs.Common.{◌≡◌, ◌*◌, ◌-◌, ◌/◌, ℕ, List, length, ap, subst, ◌∙◌, arith}
 use Rattle.layout.specs.declared.Geometry.{Geometry}
-use Rattle.tree.specs.Names.{Name, Names, without_name}
+use Rattle.tree.specs.Names.{Name, without_name}
 use Rattle.tree.specs.Tree.{File}
 use Rattle.tree.specs.Changes.{file_after_resize}
 use Rattle.volume.specs.declared.Inode.{Inode}
 use Rattle.volume.specs.Pieces.{Pieces, pieces}
 use Rattle.volume.specs.Reading.{Disk}
 use Rattle.volume.specs.Nodes.{file_byte}
-use Rattle.volume.specs.Entries.{entry_count}
 use Rattle.store.specs.Rows.{HasBytes}
-use Rattle.entry_laws.specs.Directories.{IsDirectoryOf, before, row_of}
-use Rattle.entry_laws.specs.Files.{IsCopy}
+use Rattle.entry_laws.specs.Directories.{IsDirectoryOf, before}
 use Rattle.entry_laws.proofs.Writes.{file_removed}
-use Rattle.file.specs.Changing.{BecomesFile, MayChange, MayWriteAt, WritesAt, SetsSize, Stamps, file_at, written_at}
+use Rattle.file.specs.Changing.{BecomesFile, MayChange, MayWriteAt, WritesAt, SetsSize, Stamps, written_at}
 use Rattle.file.proofs.Becoming.{may_change_after, becomes_again}
 use Rattle.entries.specs.Names.{HasName, IsPlaced}
-use Rattle.entries.specs.Removal.{MayDrop, LastIsCopied, CopiesLast, IsDropped, Drops, Removes}
+use Rattle.entries.specs.Removal.{MayDrop, CopiesLast, Drops, Removes}
 use Rattle.entries.proofs.Becoming.{may_change, in_order, ends, has_zones, becomes_names}
 
 -- the last entry's bytes may be written over another

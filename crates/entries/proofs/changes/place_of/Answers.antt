@@ -1,7 +1,7 @@
-use Rattle.std.proofs.Common.{◌≡◌, ap, subst, arith}
+use Rattle.std.proofs.Common.{subst}
 use Rattle.volume.specs.Nodes.{file_byte, entry_count_of}
 use Rattle.volume.specs.Pieces.{pieces}
-use Rattle.store.proofs.Turns.{reads_as, reads_then}
+use Rattle.store.proofs.Turns.{reads_then}
 use Rattle.zone.proofs.Ending.{ends_cut_exit}
 use Rattle.directory.specs.Standing.{StandsAt}
 use Rattle.entries.proofs.Placing.{placed, not_missing}

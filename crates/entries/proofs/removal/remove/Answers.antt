@@ -1,4 +1,4 @@
-use Rattle.std.proofs.Common.{◌≡◌, sym, subst}
+use Rattle.std.proofs.Common.{sym, subst}
 use Rattle.volume.specs.Pieces.{pieces}
 use Rattle.store.proofs.Turns.{turns_as, turns_then, ends_as}
 use Rattle.zone.proofs.Ending.{ends_exit, turns_three}
