@@ -1,0 +1,4 @@
+mod Volumes
+mod Effects
+mod Naming
+mod Calls

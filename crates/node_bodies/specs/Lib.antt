@@ -1,0 +1,2 @@
+-- What the paths of calls on one node lead to.
+pub mod Named
