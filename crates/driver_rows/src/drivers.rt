@@ -1,68 +1,17 @@
+//! What media, partition tables and drivers answer.
 use bdev::{Accept, BlockDriver, Driver, Step};
+use driver_samples::{first_byte, numbered, outcome, request, run};
 use errno::Errno;
 use media::{Media, MediaRefusal, SectorRefusal};
-use message::{BlockRequest, Kind};
-use modeldisk::{Fault, FaultKind, Inner, ModelDriver, RamDriver, ScriptedDriver};
+use message::Kind;
+use modeldisk::{ModelDriver, RamDriver};
 use partition::{PartitionRefusal, Table, parse};
 use std::alloc::{AllocError, Global};
-use std::process::Abort;
 use std::test::Fail;
-
-/// Media whose k-th sector holds 512 times the byte k.
-pub fn numbered(alloc: Global, sectors: u8) -> Result<Media, MediaRefusal> {
-    let mut bytes = Vec::new(alloc);
-    for sector in 0..sectors {
-        bytes.extend_from_slice(&[sector; 512])?;
-    }
-    Media::from_bytes(alloc, bytes.as_slice())
-}
 
 /// So many zeros.
 fn zeros(alloc: Global, count: usize) -> Result<Vec<u8>, AllocError> {
     vec![in alloc; 0; count]
-}
-
-/// A request; a write's bytes are all 200.
-pub fn request(id: u64, kind: Kind, minor: u8, position: u64, count: u32) -> BlockRequest {
-    BlockRequest {
-        id,
-        kind,
-        minor,
-        position,
-        count,
-        bytes: [200; 4096],
-    }
-}
-
-/// The outcome of a step that answered.
-pub fn outcome(step: &Step) -> Option<Result<u32, Errno>> {
-    match step {
-        Step::Done(answer) => Some(answer.outcome),
-        _ => None,
-    }
-}
-
-/// Steps until an answer comes, at most 20 times.
-pub fn run<D: BlockDriver>(
-    driver: &mut D,
-    media: &mut Media,
-    generation: u32,
-) -> Option<Result<u32, Errno>> {
-    for _ in 0..20 {
-        let step = driver.step(media, generation);
-        if outcome(&step).is_some() {
-            return outcome(&step);
-        }
-    }
-    None
-}
-
-/// The first byte of a sector under generation 0.
-pub fn first_byte(media: &Media, sector: u32) -> Option<u8> {
-    match media.read_sector(0, sector) {
-        Ok(bytes) => Some(bytes[0]),
-        Err(_) => None,
-    }
 }
 
 /// The first sector of a disk with one entry, of type 0x81 from sector 1 on.
@@ -99,38 +48,18 @@ fn an_arm_sweeps(rt: HostRuntime) -> Result<(), Fail> {
 }
 
 #[test]
-fn short_answers_lead(rt: HostRuntime) -> Result<(), Fail> {
-    for (after, bytes, bad, changed) in [
-        (3, 512, 0, [true, false, true, true]),
-        (2, 0, 1, [false, false, true, true]),
-    ] {
-        let mut media = numbered(rt.alloc(), 16)?;
-        let fault = Fault {
-            request: 1,
-            after,
-            kind: FaultKind::Short,
-        };
-        let inner = Inner::Model(ModelDriver::new(Table::whole(16), 10));
-        let mut driver = ScriptedDriver::new(inner, vec![in rt.alloc(); fault]?);
-        driver.accept(request(1, Kind::Write, 0, 4096, 2048));
-        assert_eq!(rt; run(&mut driver, &mut media, 0), Some(Ok(bytes)));
-        assert_eq!(rt; driver.bad(), bad);
-        for k in 0..4u32 {
-            assert_eq!(rt; first_byte(&media, 8 + k) == Some(200), changed[k as usize]);
-        }
-        driver.accept(request(2, Kind::Read, 0, 0, 512));
-        assert_eq!(rt; run(&mut driver, &mut media, 0), Some(Ok(512)));
-    }
+fn partitions_are_within_the_media(rt: HostRuntime) -> Result<(), Fail> {
+    let table = parse(&table_sector(128), 129)?;
+    assert_eq!(rt; table.range(1), Some((1, 128)));
+    assert_eq!(rt; table.range(2), None);
+    assert_eq!(rt; table.kind(1), Some(0x81));
+    assert!(rt; parse(&table_sector(129), 129).err() == Some(PartitionRefusal::PastMedia));
     Ok(())
 }
 
 #[test]
 fn partitions_bound_requests(rt: HostRuntime) -> Result<(), Fail> {
     let table = parse(&table_sector(128), 129)?;
-    assert_eq!(rt; table.range(1), Some((1, 128)));
-    assert_eq!(rt; table.range(2), None);
-    assert_eq!(rt; table.kind(1), Some(0x81));
-    assert!(rt; parse(&table_sector(129), 129).err() == Some(PartitionRefusal::PastMedia));
     let mut media = numbered(rt.alloc(), 129)?;
     let mut driver = RamDriver::new(table);
     assert_eq!(rt; driver.ready(1), Some((1, 128)));
@@ -235,73 +164,5 @@ fn images_are_refused(rt: HostRuntime) -> Result<(), Fail> {
             + PartitionRefusal::Overlap.number(),
         8
     );
-    Ok(())
-}
-
-#[test]
-fn deaths_and_hangs_keep_what_was_moved(rt: HostRuntime) -> Result<(), Fail> {
-    for kind in [FaultKind::Die, FaultKind::Hang] {
-        for after in 0..8u32 {
-            let mut media = numbered(rt.alloc(), 16)?;
-            let fault = Fault {
-                request: 1,
-                after,
-                kind,
-            };
-            let inner = Inner::Ram(RamDriver::new(Table::whole(16)));
-            let mut driver = ScriptedDriver::new(inner, vec![in rt.alloc(); fault]?);
-            driver.accept(request(1, Kind::Write, 0, 2048, 4096));
-            for _ in 0..after {
-                assert!(rt; matches!(&driver.step(&mut media, 0), Step::Working));
-            }
-            let died = matches!(&driver.step(&mut media, 0), Step::Failed);
-            assert_eq!(rt; died, kind == FaultKind::Die);
-            assert_eq!(rt; run(&mut driver, &mut media, 0), None);
-            keeps_first(&rt, &media, after);
-        }
-    }
-    Ok(())
-}
-
-/// Of eight sectors from the fourth on the first so many hold a write's bytes, and no others do.
-fn keeps_first(rt: &impl Abort, media: &Media, after: u32) {
-    for sector in 0..16u32 {
-        let moved = 4 <= sector && sector - 4 < after;
-        assert_eq!(rt;
-            first_byte(media, sector),
-            Some(if moved { 200 } else { sector as u8 })
-        );
-    }
-}
-
-#[test]
-fn errors_are_answered(rt: HostRuntime) -> Result<(), Fail> {
-    let mut media = numbered(rt.alloc(), 16)?;
-    let faults = [
-        (2, 1, FaultKind::Error(Errno::EIO)),
-        (3, 0, FaultKind::Error(Errno::EIO)),
-        (4, 0, FaultKind::Short),
-    ];
-    let mut script = Vec::new(rt.alloc());
-    for (request, after, kind) in faults {
-        script.push(Fault {
-            request,
-            after,
-            kind,
-        })?;
-    }
-    let mut driver = ScriptedDriver::new(Inner::Ram(RamDriver::new(Table::whole(16))), script);
-    let rows = [
-        (1, 1024, Ok(1024)),
-        (2, 1024, Err(Errno::EIO)),
-        (3, 513, Err(Errno::EINVAL)),
-        (4, 512, Ok(0)),
-        (5, 512, Ok(512)),
-    ];
-    for (id, count, answer) in rows {
-        driver.accept(request(id, Kind::Read, 0, 0, count));
-        assert_eq!(rt; run(&mut driver, &mut media, 0), Some(answer));
-    }
-    assert_eq!(rt; driver.bad(), 3);
     Ok(())
 }

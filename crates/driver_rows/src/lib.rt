@@ -1,7 +1,5 @@
-//! Rows that run: what media, partition tables and the three drivers answer, each expected value worked out by hand.
+//! Rows that run: what media, partition tables and the drivers in memory answer, each expected value worked out by hand.
 #![tactic(auto)]
 
 #[cfg(test)]
 mod drivers;
-#[cfg(test)]
-mod scripted;

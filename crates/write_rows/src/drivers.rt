@@ -2,10 +2,10 @@
 ghost use Rattle.std.specs.Prelude.{◌≡◌, IfOk};
 ghost use Rattle.cache.specs.Calls.{caching, IsReady};
 
-use crate::frames::{VOLUME, fetch_run, fill, fill_fresh, is_filled};
 use cache::Cache;
 use driven::Driven;
 use flusher::{flush_some, sync};
+use frame_samples::frames::{VOLUME, fetch_run, fill, fill_fresh, is_filled};
 use media::Media;
 use modeldisk::{Fault, FaultKind, Inner, RamDriver, ScriptedDriver};
 use partition::Table;

@@ -1,6 +1,6 @@
 //! What a script leaves as it is: the arm of its driver, and that nothing is moved before the first step.
-use crate::drivers::{first_byte, numbered, outcome, request, run};
 use bdev::{BlockDriver, Step};
+use driver_samples::{first_byte, numbered, outcome, request, run};
 use errno::Errno;
 use message::Kind;
 use modeldisk::{Fault, FaultKind, Inner, ModelDriver, RamDriver, ScriptedDriver};

@@ -6,7 +6,7 @@ use message::{BlockReply, BlockRequest, Incoming, Kind};
 use std::alloc::{AllocError, Global};
 
 /// The driver of this generation.
-pub(crate) fn driver(generation: u32) -> Endpoint {
+pub fn driver(generation: u32) -> Endpoint {
     Endpoint {
         slot: DISK_DRIVER,
         generation,
@@ -14,12 +14,12 @@ pub(crate) fn driver(generation: u32) -> Endpoint {
 }
 
 /// It was started.
-pub(crate) fn started(generation: u32) -> Incoming {
+pub fn started(generation: u32) -> Incoming {
     Incoming::Started(driver(generation))
 }
 
 /// Its answer to this request: so many bytes were moved, each of them this one.
-pub(crate) fn moved(generation: u32, id: u64, count: u32, byte: u8) -> Incoming {
+pub fn moved(generation: u32, id: u64, count: u32, byte: u8) -> Incoming {
     Incoming::Reply(BlockReply {
         from: driver(generation),
         id,
@@ -29,7 +29,7 @@ pub(crate) fn moved(generation: u32, id: u64, count: u32, byte: u8) -> Incoming 
 }
 
 /// The first driver is started, and answers the requests 1 to this one by whole blocks of 4096 bytes.
-pub(crate) fn answers(alloc: Global, count: u64) -> Result<Vec<Incoming>, AllocError> {
+pub fn answers(alloc: Global, count: u64) -> Result<Vec<Incoming>, AllocError> {
     let mut messages = vec![in alloc; started(1); 1]?;
     for id in 1..=count {
         messages.push(moved(1, id, 4096, 0))?;
@@ -47,7 +47,7 @@ fn write_request(text: &mut String, request: &BlockRequest) -> Result<(), AllocE
 }
 
 /// What a link was told, a line for each post and complaint.
-pub(crate) fn told(alloc: Global, link: &ListLink) -> Result<String, AllocError> {
+pub fn told(alloc: Global, link: &ListLink) -> Result<String, AllocError> {
     let mut text = String::new(alloc);
     for note in link.notes() {
         match note {
@@ -60,7 +60,7 @@ pub(crate) fn told(alloc: Global, link: &ListLink) -> Result<String, AllocError>
 }
 
 /// How many requests a link was posted before the first message was taken.
-pub(crate) fn posts_at_first(link: &ListLink) -> usize {
+pub fn posts_at_first(link: &ListLink) -> usize {
     link.notes()
         .iter()
         .take_while(|note| matches!(note, Note::Posted(_, _, _)))

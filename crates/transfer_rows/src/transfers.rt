@@ -5,7 +5,7 @@ ghost use Rattle.reissue.specs.Posts.{HasRoom};
 ghost use Rattle.reissue.specs.Moves.{Begun};
 ghost use Rattle.cache.specs.Frames.{IsOfBlock};
 
-use crate::lists::{driver, moved, started, told};
+use frame_samples::lists::{driver, moved, started, told};
 use list_link::ListLink;
 use message::Incoming;
 use reissue::{Ask, BeginRefusal, Link, Settled, Transfers};

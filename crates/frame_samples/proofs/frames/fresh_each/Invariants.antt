@@ -1,6 +1,6 @@
 use Rattle.std.proofs.Common.{◌≡◌}
 use Rattle.cache.specs.Calls.{caching, IsReady}
-use Rattle.frame_rows.proofs.frames.fresh_each.Given as goal
+use Rattle.frame_samples.proofs.frames.fresh_each.Given as goal
 
 abbrev pub invariant-loop-block : goal.invariant-loop-block
 invariant-loop-block g l = record {
