@@ -2,4 +2,4 @@
 #![tactic(auto)]
 
 pub mod line;
-pub mod schedule;
+pub mod reading;

@@ -4,7 +4,7 @@ ghost use Rattle.std.specs.Prelude.{◌≡◌, IfOk, IfErr, Some, map};
 ghost use Rattle.schedule_text.specs.Events.{line_event};
 ghost use Rattle.simulation.specs.Inputs.{HasSchedule, IsNoInput, IsNoSchedule, refusal_text};
 
-use schedule_text::schedule::{Schedule, ScheduleRefusal, read_schedule};
+use schedule_text::reading::{Schedule, ScheduleRefusal, read_schedule};
 use std::alloc::Global;
 use std::fmt;
 

@@ -1,6 +1,6 @@
 //! Schedules, line by line.
 use schedule::Event;
-use schedule_text::schedule::{ScheduleRefusal, read_schedule};
+use schedule_text::reading::{ScheduleRefusal, read_schedule};
 use std::alloc::Global;
 use std::test::Fail;
 use tree::{Call, Who};

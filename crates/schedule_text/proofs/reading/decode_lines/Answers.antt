@@ -1,5 +1,5 @@
 use Rattle.schedule_text.proofs.Events.{bytes_more}
-use Rattle.schedule_text.proofs.schedule.decode_lines.Goals as goal
+use Rattle.schedule_text.proofs.reading.decode_lines.Goals as goal
 
 pub loop-line-preserved : goal.loop-line-preserved
 loop-line-preserved c =

@@ -1,6 +1,6 @@
 use Rattle.std.proofs.Common.{◌≡◌, ◌∷◌, [], ◌++◌, rules}
 use Rattle.schedule_text.proofs.Events.{none_so_far, line_read, line_not_read, line_to_keep, all_read}
-use Rattle.schedule_text.proofs.schedule.read_lines.Goals as goal
+use Rattle.schedule_text.proofs.reading.read_lines.Goals as goal
 
 pub loop-rest-init : goal.loop-rest-init
 loop-rest-init c = none_so_far c.args.text.now c.new-lines.result.items c.new-lines.ensures.items

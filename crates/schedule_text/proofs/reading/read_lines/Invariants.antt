@@ -1,6 +1,6 @@
 use Rattle.std.proofs.Common.{length}
 use Rattle.schedule_text.proofs.Events.{SaysSoFar}
-use Rattle.schedule_text.proofs.schedule.read_lines.Given as goal
+use Rattle.schedule_text.proofs.reading.read_lines.Given as goal
 
 -- what the text says is the events so far, before those of the lines that are left
 abbrev pub invariant-loop-rest : goal.invariant-loop-rest

@@ -1,7 +1,7 @@
 use Rattle.std.proofs.Common.{arith}
 use Rattle.std.proofs.lemmas.Grind.{common_steps}
 use Rattle.schedule_text.proofs.Events.{bytes_left, own_bytes, bytes_after, events_more}
-use Rattle.schedule_text.proofs.schedule.events_of.Goals as goal
+use Rattle.schedule_text.proofs.reading.events_of.Goals as goal
 
 pub split_at-requires : goal.split_at-requires
 split_at-requires c =

@@ -1,7 +1,7 @@
 use Rattle.std.proofs.Common.{◌≡◌, ◌≤◌, take, drop, length, map}
 use Rattle.std.specs.Prelude.{flat_map, vec_capacity}
 use Rattle.schedule_text.specs.Events.{line_bytes, line_event, plain_event}
-use Rattle.schedule_text.proofs.schedule.events_of.Given as goal
+use Rattle.schedule_text.proofs.reading.events_of.Given as goal
 
 -- the bytes of the lines that are left, and the events of those so far
 abbrev pub invariant-loop-line : goal.invariant-loop-line

@@ -1,7 +1,7 @@
 use Rattle.std.proofs.Common.{◌≡◌, take}
 use Rattle.std.specs.Prelude.{flat_map}
 use Rattle.schedule_text.specs.Events.{line_bytes}
-use Rattle.schedule_text.proofs.schedule.decode_lines.Given as goal
+use Rattle.schedule_text.proofs.reading.decode_lines.Given as goal
 
 -- the bytes of the lines so far
 abbrev pub invariant-loop-line : goal.invariant-loop-line
