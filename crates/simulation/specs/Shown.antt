@@ -11,7 +11,7 @@ use Rattle.simulation.specs.declared.show.Status.TheVariants.{Done, Refused, Giv
 -- the status of the process
 abbrev pub status_number : Status → ℕ
 status_number Done = 0
-status_number Refused = 1
+status_number (Refused told) = 1
 status_number GivenUp = 3
 
 -- whether a mark says that the device was given up
@@ -25,9 +25,9 @@ output_text output.OutOfMemory = codes "OutOfMemory"
 output_text output.NotWritten = codes "cannot write standard output"
 
 -- the transcript was written, and nothing was said; the status says whether the device was given up. Or a part of it was written, and a line
--- said why not all.
+-- was to say why not all.
 abbrev pub Shows : List ℕ → Bool → Status → Option (List ℕ) → Option (List ℕ) → Option (List ℕ) → Option (List ℕ) → Type 0
 Shows text gave_up Done out_old out_new err_old err_new = (gave_up ≡ false) × Appends out_old out_new text × (err_new ≡ err_old)
 Shows text gave_up GivenUp out_old out_new err_old err_new = (gave_up ≡ true) × Appends out_old out_new text × (err_new ≡ err_old)
-Shows text gave_up Refused out_old out_new err_old err_new =
-    AppendsPart out_old out_new text × ((refusal : OutputRefusal) × Tells (Some (output_text refusal)) err_old err_new)
+Shows text gave_up (Refused told) out_old out_new err_old err_new =
+    AppendsPart out_old out_new text × ((refusal : OutputRefusal) × Tells (Some (output_text refusal)) told err_old err_new)

@@ -7,7 +7,7 @@ ghost use Rattle.output.specs.Output.{AppendsPart, Tells};
 ghost use Rattle.transcript_text.specs.Text.{transcript_text};
 ghost use Rattle.simulation.specs.Shown.{Shows, is_giving_up, output_text, status_number};
 
-use output::{OutputRefusal, tell};
+use output::{OutputRefusal, Told, tell};
 use std::alloc::Global;
 use std::fmt;
 use std::io::Write;
@@ -19,8 +19,8 @@ use transcript_text::write::write_transcript;
 pub enum Status {
     /// The transcript was written.
     Done,
-    /// Nothing was run, or not all of the transcript was written. A line says why.
-    Refused,
+    /// Nothing was run, or not all of the transcript was written. A line was to say why.
+    Refused(Told),
     /// As `Done`, and the device was given up.
     GivenUp,
 }
@@ -32,7 +32,7 @@ impl Status {
     {
         match self {
             Status::Done => 0,
-            Status::Refused => 1,
+            Status::Refused(_) => 1,
             Status::GivenUp => 3,
         }
     }
@@ -55,11 +55,9 @@ impl fmt::Display for NotShown {
 
 /// Says on `err` why nothing was run.
 pub fn refuse<T: fmt::Display, E: Write>(alloc: Global, refusal: &T, err: &mut E) -> Status
-    ensures status { result ≡ Status.Refused }
-    ensures told { Tells (T.output refusal.now) (E.contents err.old) (E.contents err.new) }
+    ensures told { (told : Told) × (result ≡ Status.Refused told) × Tells (T.output refusal.now) told (E.contents err.old) (E.contents err.new) }
 {
-    tell(alloc, err, refusal);
-    Status::Refused
+    Status::Refused(tell(alloc, err, refusal))
 }
 
 /// Whether the device was given up.
@@ -91,6 +89,6 @@ pub fn show<M: AsMark, W: Write, E: Write>(
     match write_transcript(alloc, out, marks, u64::from(unanswered)) {
         Ok(()) if gave_up(marks) => Status::GivenUp,
         Ok(()) => Status::Done,
-        Err(refusal) => refuse(alloc, &NotShown(refusal), err),
+        Err(refusal) => Status::Refused(tell(alloc, err, &NotShown(refusal))),
     }
 }
