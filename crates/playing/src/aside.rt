@@ -1,6 +1,6 @@
 //! What is done at the link between two calls.
 
-ghost use Rattle.std.specs.Prelude.{◌≡◌, ◌≢◌, ◌<◌, ◌≤◌, ◌+◌, ◌-◌, ◌∷◌, List, IfSome, IfOk, OnOk, OnSome, length};
+ghost use Rattle.std.specs.Prelude.{◌≡◌, ◌≢◌, ◌<◌, ◌≤◌, ◌+◌, ◌-◌, ◌∷◌, List, IfSome, IfOk, OnOk, OnSome, length, slice_get, drop};
 ghost use Rattle.marks.specs.Opening.{Opening};
 ghost use Rattle.marks.specs.Marks.{Mark, Took};
 ghost use Rattle.tree.specs.Answers.{answer_of};
@@ -57,6 +57,9 @@ impl<'a, D: LocalDriver> Playing<'a, D> {
         ensures truth { (v : Opening) (marks : List Mark) → PlayTrue v (scene_of D.state self.old.stage (said self.old.log)) marks
             → OnOk result (PlayTrue v (scene_of D.state self.new.stage (said self.new.log))
             (Took arrived.entry.who arrived.entry.now arrived.entry.call (answer_of reply) ∷ marks)) }
+        ensures waiting { self.new.queue.items ≡ self.old.queue.items }
+        ensures rest { (self.new.events ≡ self.old.events) × (self.new.next ≡ self.old.next) × (self.new.told ≡ self.old.told)
+            × (self.new.owed ≡ self.old.owed) }
         ensures room { OnOk result (33 ≤ room_in self.new.log) }
         ensures budget { left_of self.new.log.over (length self.new.events.now - self.new.next) self.new.told
             ≤ left_of self.old.log.over (length self.old.events.now - self.old.next) self.old.told }
@@ -72,11 +75,14 @@ impl<'a, D: LocalDriver> Playing<'a, D> {
         Ok(())
     }
 
-    /// The next call that arrived, if one waits.
+    /// The call that arrived first of those that wait, which waits no more; none where none waits.
     pub fn next_call(&mut self) -> Option<Arrived<'a>>
+        ensures front { result ≡ slice_get self.old.queue.items 0 }
+        ensures queue { self.new.queue.items ≡ drop 1 self.old.queue.items }
         ensures stage { self.new.stage ≡ self.old.stage }
         ensures log { self.new.log ≡ self.old.log }
-        ensures rest { (self.new.events ≡ self.old.events) × (self.new.next ≡ self.old.next) × (self.new.told ≡ self.old.told) }
+        ensures rest { (self.new.events ≡ self.old.events) × (self.new.next ≡ self.old.next) × (self.new.told ≡ self.old.told)
+            × (self.new.owed ≡ self.old.owed) }
         ensures goes { GoesOn (play_of D.state self.old) (play_of D.state self.new) }
         ensures work { OnSome result (work_left (play_of D.state self.new) < work_left (play_of D.state self.old)) }
     {
