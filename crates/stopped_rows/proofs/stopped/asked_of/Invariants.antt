@@ -1,0 +1,12 @@
+use Rattle.std.specs.Prelude.{[]}
+use Rattle.policy.specs.Policy.{default_policy}
+use Rattle.stopped_rows.proofs.stopped.asked_of.Given as goal
+
+abbrev pub ghosts-asked : goal.ghosts-asked
+ghosts-asked g a = record {
+  table = a.board;
+  opening = record { media = []; first = 0; count = 0; minor = 0 };
+  geometry = a.geometry;
+  policy = default_policy;
+  supply = [];
+}
