@@ -1,6 +1,6 @@
 //! The media and the drivers of a run.
 
-ghost use Rattle.std.specs.Prelude.{◌≡◌, ◌≢◌, ◌⊎◌, ◌<◌, ◌+◌, IfSome, IfNone, OnOk, OnErr, vec_len, vec_capacity};
+ghost use Rattle.std.specs.Prelude.{◌≡◌, ◌≢◌, ◌↔◌, ◌⊎◌, ◌<◌, ◌≤◌, ◌+◌, IfSome, IfNone, OnOk, OnErr, Err, length, true, false, vec_len, vec_capacity};
 ghost use Rattle.driver_events.specs.Disks.{torn_media};
 
 use crate::moves::{send, step_unit};
@@ -35,7 +35,7 @@ pub struct Drivers<D> {
 }
 
 impl<D: LocalDriver> Drivers<D> {
-    ghost use Rattle.driver_events.specs.Disks.{Steps, Dies, Hangs, LinesUpAgain, lined_up, started};
+    ghost use Rattle.driver_events.specs.Disks.{Steps, Dies, Hangs, LinesUpAgain, is_at, lined_up, started};
     ghost use Rattle.driver_events.specs.View.{disks_of, HasRoom};
 
     /// Where the driver of this generation stands among those started before the last one; none where it wasn't started.
@@ -190,14 +190,22 @@ impl<D: LocalDriver> Drivers<D> {
         self.older[at].line.push_back_reserved(*request);
     }
 
+    /// Whether the driver at this endpoint is the one that was started last, and lives.
+    fn is_at(&self, to: Endpoint) -> bool
+        ensures { result ≡ is_at to (disks_of D.state self.now) }
+    {
+        to.slot == DISK_DRIVER && to.generation == self.generation && self.current.live
+    }
+
     /// Puts a request on the line of the current driver, if it is the one at this endpoint: 1 DeadEndpoint where it isn't, or doesn't
     /// live; 2 Full where the line holds 32.
     pub fn line_up(&mut self, to: Endpoint, request: &BlockRequest) -> Result<(), LinkRefusal>
-        ensures ok { OnOk result (disks_of D.state self.new ≡ lined_up request.now (disks_of D.state self.old)) }
-        ensures to { OnOk result ((to.slot ≡ 1) × (to.generation ≡ self.old.generation)) }
+        ensures dead { (result ≡ Err LinkRefusal.DeadEndpoint) ↔ (is_at to (disks_of D.state self.old) ≡ false) }
+        ensures full { (result ≡ Err LinkRefusal.Full) ↔ ((is_at to (disks_of D.state self.old) ≡ true) × (32 ≤ length self.old.current.line.items)) }
+        ensures lined { OnOk result (disks_of D.state self.new ≡ lined_up request.now (disks_of D.state self.old)) }
         ensures refused { OnErr result (disks_of D.state self.new ≡ disks_of D.state self.old) }
     {
-        if to.slot != DISK_DRIVER || to.generation != self.generation || !self.current.live {
+        if !self.is_at(to) {
             return Err(LinkRefusal::DeadEndpoint);
         }
         if self.current.line.len() >= LINE {

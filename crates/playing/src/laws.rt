@@ -1,6 +1,6 @@
 //! What the link's guarantee goes on through, each a law of the definitions.
 
-ghost use Rattle.playing.specs.Laws.{RepliesAreTrue, MediaAreHeld};
+ghost use Rattle.playing.specs.Laws.{RepliesAreTrue, MediaAreHeld, ServersLeadOn, AsidesLeadOn, CallsLeadOn, AnswersLeadOn};
 
 /// In each record of which the guarantee holds the replies are true.
 #[tactic(auto, using(crate::proofs::PlayLaws::replies_true))]
@@ -12,4 +12,29 @@ pub fn replies_are_true()
 #[tactic(auto, using(crate::proofs::PlayLaws::media_held))]
 pub fn media_are_held()
     ensures { MediaAreHeld }
+{}
+
+/// After whatever a server does at the link: the schedule stays, no event is played twice, no more is left to do, and the events that were
+/// noted are still those of the schedule.
+#[tactic(auto, using(crate::proofs::Going::servers_lead_on))]
+pub fn servers_lead_on()
+    ensures { ServersLeadOn }
+{}
+
+/// So it is after what is done between two calls; where something is done, less is left to do.
+#[tactic(auto, using(crate::proofs::Going::asides_lead_on))]
+pub fn asides_lead_on()
+    ensures { AsidesLeadOn }
+{}
+
+/// And after a call is handed out.
+#[tactic(auto, using(crate::proofs::Going::calls_lead_on))]
+pub fn calls_lead_on()
+    ensures { CallsLeadOn }
+{}
+
+/// And after its answer is noted.
+#[tactic(auto, using(crate::proofs::Going::answers_lead_on))]
+pub fn answers_lead_on()
+    ensures { AnswersLeadOn }
 {}
