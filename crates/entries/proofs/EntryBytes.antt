@@ -7,6 +7,7 @@ use Rattle.volume.specs.Reading.{u32_in}
 use Rattle.store.specs.Rows.{with_bytes}
 use Rattle.store.proofs.Rows.{row_new, row_old, number_written}
 use Rattle.entry_laws.specs.Files.{IsEntryBytes}
+use Rattle.entries.specs.Places.{IsNameBytes}
 
 -- past its end a list has zeros
 past : (xs : List ℕ) (a : ℕ) → length xs ≤ a → slice_index xs a ≡ 0
@@ -46,3 +47,15 @@ pub zero_at : (n o : ℕ) → get_or (replicate n zero) o zero ≡ zero
 zero_at zero o = refl
 zero_at (suc n) zero = refl
 zero_at (suc n) (suc o) = zero_at n o
+
+-- a name, put into zeros
+pub is_name_field : (name bytes : List ℕ) (f : ℕ → ℕ) → length bytes ≡ 60 → ((o : ℕ) → f o ≡ 0) → ((o : ℕ) → slice_index bytes o ≡ with_bytes 0 name f o) → IsNameBytes bytes name
+is_name_field name bytes f many zeros written = record {
+  many = many;
+  same = λ a few. elim (cases_Bool (nat_lt a (length name))) [
+    | inl is ↦ written a ∙ ap (with_bytes 0 name f) (omega arith) ∙ row_new 0 name f a (ltb-true a (length name) is)
+    | inr not ↦
+        let l = ltb-false a (length name) not in
+        written a ∙ row_old 0 name f a (inr (omega (arith, l))) ∙ zeros a ∙ sym (past name a l)
+  ];
+}

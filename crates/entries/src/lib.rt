@@ -6,5 +6,5 @@ mod bytes;
 mod changes;
 mod removal;
 
-pub use changes::{insert, replace, set_parent};
+pub use changes::{insert, rename, replace, set_parent};
 pub use removal::remove;
