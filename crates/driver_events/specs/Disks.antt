@@ -153,3 +153,12 @@ started g d b = record {
   older = b.older ++ b.current ∷ [];
   sent = b.sent;
 }
+
+-- before the first event: the first driver runs, as generation 1, which the media adopted
+abbrev pub opened_disks : MediaState → DriverState → Disks
+opened_disks media d = record {
+  media = adopted media 1;
+  current = record { state = d; live = true; hung = false; line = [] };
+  older = [];
+  sent = [];
+}
