@@ -1,0 +1,3 @@
+-- The steps of a rename.
+pub mod Leads
+pub mod Moves
