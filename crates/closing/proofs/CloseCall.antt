@@ -43,12 +43,12 @@ abbrev files_by : Files → ℕ → ℕ → Result (ℕ × OpenFile) Errno → R
 files_by f session fd a = a >>= λ found. Ok (let_go (less f session fd) found.0 found.1, files_in (without_unused (less f session fd) found.0))
 
 -- The open file that was found, and what is left then.
-record Closed (f h : Files) (session fd : ℕ) (gone : Option ℕ) (a : Result (ℕ × OpenFile) Errno) : Type 0 where
-  number : ℕ
-  file : OpenFile
-  found : a ≡ Ok (number, file)
-  goes : gone ≡ let_go (less f session fd) number file
-  left : h ≡ files_in (without_unused (less f session fd) number)
+pub record Closed (f h : Files) (session fd : ℕ) (gone : Option ℕ) (a : Result (ℕ × OpenFile) Errno) : Type 0 where
+  pub number : ℕ
+  pub file : OpenFile
+  pub found : a ≡ Ok (number, file)
+  pub goes : gone ≡ let_go (less f session fd) number file
+  pub left : h ≡ files_in (without_unused (less f session fd) number)
 
 module _ (session fd : ℕ) (f : Files) where
   close_is : (t : Tree) → HasFiles f t
@@ -104,7 +104,8 @@ module _ (g : Geometry) (session fd : ℕ) (early : session < 64) (f h : Files) 
   }
 
   module _ (gone : Option ℕ) (is : Ok (gone, h) ≡ close_file f session fd) where
-    x : Closed f h session fd gone (open_file_of (tree_with f) session fd)
+    -- what was found
+    pub x : Closed f h session fd gone (open_file_of (tree_with f) session fd)
     x = closed_by session fd f h gone (open_file_of (tree_with f) session fd) is
 
     abbrev n : ℕ
@@ -179,8 +180,8 @@ module _ (g : Geometry) (session fd : ℕ) (early : session < 64) (f h : Files) 
           let here : opens n (h.opened x.number) ≡ true =
           ap (λ (y : ℕ → Option OpenFile). opens n (y x.number)) (opened ∙ sym files.opened) ∙ ap (opens n) file ∙ eq-eqb n n refl in
           let low : x.number < most_open_files = holds.nodes.tree.open_files.numbers x.number (ap is_some file) in
-          let open : is_open (tree_with h) n ≡ true = found_below (λ k. opens n (h.opened k)) most_open_files x.number low here in
-          let kept : left_of h n (node t files d holds) ≡ Some (node t files d holds) = by ((node t files d holds).links == 0) (is_open (tree_with h) n) (node t files d holds) open in
+          let used : is_open (tree_with h) n ≡ true = found_below (λ k. opens n (h.opened k)) most_open_files x.number low here in
+          let kept : left_of h n (node t files d holds) ≡ Some (node t files d holds) = by ((node t files d holds).links == 0) (is_open (tree_with h) n) (node t files d holds) used in
           let nodes : (after t).nodes ≡ t.nodes =
           nodes_are t files d holds ∙ ap (λ (y : Option Node). put t.nodes n y) kept ∙ sym (put_back t.nodes n (Some (node t files d holds)) (there t files d holds)) in
           granted_made g t (after t) (close t session fd) done (HasFiles h) e (effect t files)
