@@ -18,7 +18,7 @@ use Rattle.cache.specs.Edits.{AllClean}
 use Rattle.legal.specs.Legal.{is_success}
 use Rattle.std.specs.Prelude.{IsTrue}
 use Rattle.descriptors.specs.Files.{Files}
-use Rattle.bodies.specs.Calls.{DoesCall}
+use Rattle.call_bodies.specs.Calls.{DoesCall}
 use Rattle.vfs.specs.Outcomes.{stopped}
 use Rattle.file_server.specs.Over.{CallsOver, outcome_of}
 use Rattle.vfs.specs.Server.{MayServe, server_of}

@@ -35,7 +35,7 @@ use Rattle.flusher.proofs.Flushing.{synced}
 use Rattle.cache.specs.Edits.{AllClean}
 use Rattle.legal.specs.Legal.{is_success, IsSynced}
 use Rattle.descriptors.specs.Files.{Files, HasFiles}
-use Rattle.bodies.specs.Calls.{IsDone, DoesCall}
+use Rattle.call_bodies.specs.Calls.{IsDone, DoesCall}
 use Rattle.marks.specs.Opening.{Opening, contents_at}
 use Rattle.file_server.specs.Over.{CallsOver}
 use Rattle.vfs.specs.Server.{IsServer, server_of}

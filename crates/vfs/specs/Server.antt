@@ -19,7 +19,7 @@ use Rattle.cache.specs.Calls.{Caching, IsReady, messages_left}
 use Rattle.cache.specs.Frames.{CacheAgrees, frames_of}
 use Rattle.descriptors.specs.Files.{Files, HasFiles}
 use Rattle.descriptors.specs.Table.{files_of}
-use Rattle.bodies.specs.Calls.{is_busy}
+use Rattle.call_bodies.specs.Calls.{is_busy}
 use Rattle.vfs.specs.declared.server.Server.{Server}
 
 -- calls may be made, on a cache for a volume of this geometry

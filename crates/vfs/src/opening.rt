@@ -43,6 +43,7 @@ impl<L: Link> Server<Stored<L>> {
             Err(_) => return Err(CacheRefusal::OutOfMemory),
         };
         Ok(Server {
+            alloc,
             blocks: Stored::new(cache),
             geometry,
             opens,

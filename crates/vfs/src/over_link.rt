@@ -1,6 +1,6 @@
 //! The server over a link, as a file server of all calls that have a body.
 
-ghost use Rattle.bodies.specs.Calls.{IsGiven};
+ghost use Rattle.call_bodies.specs.Given.{IsGiven};
 ghost use Rattle.vfs.specs.OverLink.{IsReadyOver, line_of as link_there, with_line as with_link_there};
 
 use crate::server::Server;

@@ -3,22 +3,24 @@
 ghost use Rattle.std.specs.Prelude.{◌≡◌, ◌<◌, ◌+◌, ◌^◌, false};
 ghost use Rattle.vfs.specs.Outcomes.{stopped};
 
-use bodies::calls::body;
+use call_bodies::body;
 use descriptors::Descriptors;
 use errno::Errno;
 use layout::Geometry;
 use legal::Serve;
 use message::Incoming;
+use std::alloc::Global;
 use store::Cut;
 use stored::Caches;
 use tree::{Call, Outcome, Reply, Who};
 
-/// A file server of one volume, over blocks that have a cache.
+/// A file server of one volume, over blocks that have a cache, and the memory that it takes for answers of read and readdir.
 ///
 /// Once a take gave End each call is cut, and once the device was given up each is answered EIO; neither does anything at the link. A
 /// Flush that is taken in a call is done when the call's work is finished, before it is answered.
 #[derive(Drop)]
 pub struct Server<B> {
+    pub(crate) alloc: Global,
     pub(crate) blocks: B,
     pub(crate) geometry: Geometry,
     pub(crate) opens: Descriptors,
@@ -37,7 +39,7 @@ fn stop(cut: Cut) -> Outcome
 }
 
 impl<B: Caches> Server<B> {
-    ghost use Rattle.bodies.specs.Calls.{IsGiven};
+    ghost use Rattle.call_bodies.specs.Given.{IsGiven};
     ghost use Rattle.stored.specs.Cached.{MayAbsorb};
     ghost use Rattle.file_server.specs.Over.{outcome_of};
     ghost use Rattle.vfs.specs.Outcomes.{OnAnswered};
@@ -59,6 +61,7 @@ impl<B: Caches> Server<B> {
             return stop(cut);
         }
         let reply = match body(
+            self.alloc,
             &mut self.blocks,
             &mut self.opens,
             &self.geometry,
