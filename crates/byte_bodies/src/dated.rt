@@ -13,7 +13,7 @@ use layout::Geometry;
 use store::{Blocks, Halt};
 
 /// Writes these bytes into the file of an inode from a place on, at `now`, if there are zones enough for all of them, and says whether
-/// there are. Where not, nothing is changed. Unsound where the rules are broken, or the number is no inode's.
+/// there are. Where not, nothing is changed. Unsound only where the rules are broken, or the inode isn't marked.
 pub(crate) fn write_if_room<B: Blocks>(
     blocks: &mut B,
     geometry: &Geometry,
@@ -37,8 +37,8 @@ pub(crate) fn write_if_room<B: Blocks>(
     Ok(true)
 }
 
-/// Makes the file of an inode that long, at `now`: what lies past the size is gone, and what is new is a hole. Unsound where the rules
-/// are broken, or the number is no inode's.
+/// Makes the file of an inode that long, at `now`: what lies past the size is gone, and what is new is a hole. Unsound only where the
+/// rules are broken, or the inode isn't marked.
 pub fn set_size_at<B: Blocks>(
     blocks: &mut B,
     geometry: &Geometry,
