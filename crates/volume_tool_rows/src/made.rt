@@ -1,8 +1,10 @@
 //! Texts and statuses of making a volume, and writers that fail.
-use crate::make::{Status, Wanted, finish, make};
 use output::Told;
+use std::alloc::Global;
 use std::io::{self, ErrorKind, Write};
+use std::process::Abort;
 use std::test::Fail;
+use volume_tools::make::{Status, Wanted, finish, make};
 
 /// 64 blocks of 1024 bytes with 32 inodes, made at 50.
 const SMALL: Wanted = Wanted {
@@ -35,37 +37,45 @@ impl Write for Failing {
     }
 }
 
+/// What `make` wrote on standard output and on standard error, and the status.
+type Said<'a> = (&'a str, &'a str, Status);
+
+/// Looks at what was written and answered.
+fn is_said(rt: &impl Abort, out: &[u8], err: &[u8], status: Status, wanted: Said) {
+    assert_eq!(rt; out, wanted.0.as_bytes());
+    assert_eq!(rt; err, wanted.1.as_bytes());
+    assert_eq!(rt; status, wanted.2);
+}
+
+/// Looks at what `make` does, and at the image's length, if there is one.
+fn makes(rt: &impl Abort, alloc: Global, wanted: &Wanted, length: Option<usize>, said: Said) {
+    let (mut out, mut err) = (Vec::new(alloc), Vec::new(alloc));
+    let made = make(alloc, wanted, &mut out, &mut err);
+    is_said(rt, &out, &err, made.status, said);
+    assert_eq!(rt; made.image.as_deref().map(|image| image.len()), length);
+}
+
 #[test]
 fn volumes_are_made(rt: HostRuntime) -> Result<(), Fail> {
     let rows = [
-        (SMALL, "first 6 zones 58 free 57\n"),
-        (
-            Wanted {
-                block_size: 2048,
-                ..SMALL
-            },
-            "first 5 zones 59 free 58\n",
-        ),
-        (
-            Wanted {
-                blocks: 6,
-                inodes: 16,
-                ..SMALL
-            },
-            "first 5 zones 1 free 0\n",
-        ),
+        ((64, 1024, 32), 65536, "first 6 zones 58 free 57\n"),
+        ((64, 2048, 32), 131072, "first 5 zones 59 free 58\n"),
+        ((6, 1024, 16), 6144, "first 5 zones 1 free 0\n"),
     ];
-    for (wanted, line) in rows {
-        let (mut out, mut err) = (Vec::new(rt.alloc()), Vec::new(rt.alloc()));
-        let made = make(rt.alloc(), &wanted, &mut out, &mut err);
-        assert_eq!(rt; made.status, Status::Done);
-        let image = made.image.ok_or("no image")?;
-        assert_eq!(rt;
-            image.len(),
-            wanted.blocks as usize * wanted.block_size as usize
+    for ((blocks, block_size, inodes), length, line) in rows {
+        let wanted = Wanted {
+            blocks,
+            block_size,
+            inodes,
+            now: 50,
+        };
+        makes(
+            &rt,
+            rt.alloc(),
+            &wanted,
+            Some(length),
+            (line, "", Status::Done),
         );
-        assert_eq!(rt; out.as_slice(), line.as_bytes());
-        assert_eq!(rt; err.len(), 0);
     }
     Ok(())
 }
@@ -87,12 +97,13 @@ fn others_are_refused(rt: HostRuntime) -> Result<(), Fail> {
             inodes,
             now: 0,
         };
-        let (mut out, mut err) = (Vec::new(rt.alloc()), Vec::new(rt.alloc()));
-        let made = make(rt.alloc(), &wanted, &mut out, &mut err);
-        assert_eq!(rt; made.status, Status::Refused(Told::Whole));
-        assert!(rt; made.image.is_none());
-        assert_eq!(rt; out.len(), 0);
-        assert_eq!(rt; err.as_slice(), line.as_bytes());
+        makes(
+            &rt,
+            rt.alloc(),
+            &wanted,
+            None,
+            ("", line, Status::Refused(Told::Whole)),
+        );
     }
     Ok(())
 }
@@ -100,28 +111,27 @@ fn others_are_refused(rt: HostRuntime) -> Result<(), Fail> {
 /// The line has 25 bytes, so five calls take it: a writer that fails earlier has a beginning of it, and there is no image.
 #[test]
 fn writers_fail(rt: HostRuntime) -> Result<(), Fail> {
-    let line = b"first 6 zones 58 free 57\n";
-    for calls in 0..6 {
+    let failed = (
+        "cannot write standard output\n",
+        Status::Refused(Told::Whole),
+    );
+    let rows = [
+        (0, "", failed),
+        (1, "first", failed),
+        (2, "first 6 zo", failed),
+        (3, "first 6 zones 5", failed),
+        (4, "first 6 zones 58 fre", failed),
+        (5, "first 6 zones 58 free 57\n", ("", Status::Done)),
+    ];
+    for (calls, taken, (line, status)) in rows {
         let mut out = Failing {
             calls,
             taken: Vec::new(rt.alloc()),
         };
         let mut err = Vec::new(rt.alloc());
         let made = make(rt.alloc(), &SMALL, &mut out, &mut err);
-        let taken = (5 * calls as usize).min(line.len());
-        assert_eq!(rt; out.taken.as_slice(), &line[..taken]);
-        if calls < 5 {
-            assert_eq!(rt; made.status, Status::Refused(Told::Whole));
-            assert!(rt; made.image.is_none());
-            assert_eq!(rt;
-                err.as_slice(),
-                b"cannot write standard output\n".as_slice()
-            );
-        } else {
-            assert_eq!(rt; made.status, Status::Done);
-            assert!(rt; made.image.is_some());
-            assert_eq!(rt; err.len(), 0);
-        }
+        is_said(&rt, &out.taken, &err, made.status, (taken, line, status));
+        assert_eq!(rt; made.image.is_some(), calls == 5);
     }
     Ok(())
 }

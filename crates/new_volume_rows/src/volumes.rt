@@ -1,6 +1,6 @@
 //! New volumes by the format's tables, byte by byte, and when none is made.
-use super::{MkfsRefusal, mkfs};
 use layout::Geometry;
+use new_volume::{MkfsRefusal, mkfs};
 use std::test::Fail;
 
 /// 32 inodes, a block of each map, the first data zone 6, 64 zones, blocks of 1024.
@@ -30,9 +30,13 @@ fn small_volume(rt: HostRuntime) -> Result<(), Fail> {
     put(&mut wanted, 6208, &[1, 0, 0, 0, b'.', b'.']);
     let image = mkfs(rt.alloc(), 64, 1024, 32, 50)?;
     assert_eq!(rt; image.len(), wanted.len());
-    for (at, (byte, want)) in image.iter().zip(wanted.iter()).enumerate() {
-        assert_eq!(rt; byte, want, "byte {at}");
-    }
+    assert_eq!(rt;
+        image
+            .iter()
+            .zip(wanted.iter())
+            .position(|(byte, want)| byte != want),
+        None
+    );
     Ok(())
 }
 
@@ -53,25 +57,36 @@ fn fill(image: &mut Vec<u8>, from: usize, to: usize) {
 /// The sizes of other volumes, worked out by hand, and the last bytes of their maps.
 #[test]
 fn other_volumes(rt: HostRuntime) -> Result<(), Fail> {
-    // 64 blocks of 2048 with 32 inodes: both maps a block, one block of inodes
-    assert_eq!(rt;
-        first_zone(&mkfs(rt.alloc(), 64, 2048, 32, 0)?),
-        Some((64, 1, 1, 5))
-    );
-    // 8191 inodes fill a map of 1024 bytes to its last bit, one more takes a second block
-    let full = mkfs(rt.alloc(), 1024, 1024, 8191, 0)?;
-    assert_eq!(rt; first_zone(&full), Some((1024, 1, 1, 516)));
-    assert_eq!(rt; full.get(3070..3073), Some([0, 0, 3].as_slice()));
-    let over = mkfs(rt.alloc(), 1024, 1024, 8192, 0)?;
-    assert_eq!(rt; first_zone(&over), Some((1024, 2, 1, 517)));
-    assert_eq!(rt; over.get(3071..3074), Some([0, 0xfe, 0xff].as_slice()));
-    // one data zone alone: blocks 2 and 3 the maps, 4 the inodes, 5 the zone
-    let least = mkfs(rt.alloc(), 6, 1024, 16, 0)?;
-    assert_eq!(rt; first_zone(&least), Some((6, 1, 1, 5)));
-    assert_eq!(rt; least.get(3072..3074), Some([0xff, 0xff].as_slice()));
-    // 65536 blocks of 1024 bytes are 64 MiB, and so are 16384 of 4096
-    assert_eq!(rt; mkfs(rt.alloc(), 65536, 1024, 65535, 0)?.len(), 67108864);
-    assert_eq!(rt; mkfs(rt.alloc(), 16384, 4096, 1, 0)?.len(), 67108864);
+    let rows: [((u32, u32, u32), (u32, u32, u32, u32), (usize, &[u8])); 4] = [
+        // both maps a block, one block of inodes
+        ((64, 2048, 32), (64, 1, 1, 5), (10240, &[1, 0, 0, 0, b'.'])),
+        // 8191 inodes fill a map of 1024 bytes to its last bit, one more takes a second block
+        ((1024, 1024, 8191), (1024, 1, 1, 516), (3070, &[0, 0, 3])),
+        (
+            (1024, 1024, 8192),
+            (1024, 2, 1, 517),
+            (3071, &[0, 0xfe, 0xff]),
+        ),
+        // one data zone alone: blocks 2 and 3 the maps, 4 the inodes, 5 the zone
+        ((6, 1024, 16), (6, 1, 1, 5), (3072, &[0xff, 0xff])),
+    ];
+    for ((blocks, block_size, inodes), sizes, (at, bytes)) in rows {
+        let image = mkfs(rt.alloc(), blocks, block_size, inodes, 0)?;
+        assert_eq!(rt; first_zone(&image), Some(sizes));
+        assert!(rt; image.get(at..).is_some_and(|rest| rest.starts_with(bytes)));
+    }
+    Ok(())
+}
+
+/// 65536 blocks of 1024 bytes are 64 MiB, and so are 16384 of 4096.
+#[test]
+fn largest_volumes(rt: HostRuntime) -> Result<(), Fail> {
+    for (blocks, block_size, inodes) in [(65536, 1024, 65535), (16384, 4096, 1)] {
+        assert_eq!(rt;
+            mkfs(rt.alloc(), blocks, block_size, inodes, 0)?.len(),
+            67108864
+        );
+    }
     Ok(())
 }
 

@@ -1,6 +1,6 @@
 //! Superblocks by the format's table: a whole one, each field at the ends of its range, and which of
 //! two refusals is answered.
-use super::{Geometry, LayoutRefusal};
+use layout::{Geometry, LayoutRefusal};
 use std::alloc::{AllocError, Global};
 
 /// A volume of 64 blocks of 1024 bytes with 32 inodes: 1 block for each map, 2 for the inodes.
