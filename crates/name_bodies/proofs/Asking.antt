@@ -1,34 +1,19 @@
 -- A file has a name more.
-use Rattle.std.proofs.Common.{◌≡◌, ◌≢◌, ◌<◌, ◌≤◌, ◌+◌, ◌*◌, ◌^◌, ℕ, List, length, Bool, true, false, Option, Some, None, Ok, Err, refl, sym, ap, subst, ◌∙◌, arith}
-use mathlib.Core.Logic.{inl, inr}
-use Rattle.std.specs.Prelude.{IsTrue, Result, is_some, not, nat_le, nat_lt, ◌==◌, ◌||◌, ◌&&◌, if◌then◌else◌}
+use Rattle.std.proofs.Common.{◌≡◌, ◌<◌, ◌≤◌, ℕ, List, Bool, true, false, Option, Some, None, Ok, Err, refl, sym, ap, subst, ◌∙◌, arith}
+use Rattle.std.specs.Prelude.{IsTrue, Result, is_some, not, nat_le, ◌||◌}
 use Rattle.std.specs.Borrow.{Bor}
-use Rattle.std.specs.List.{All}
-use Rattle.std.proofs.lemmas.Bool.{and_parts, cases_Bool, cases_eq, cases_lt, cond-true, cond-false, leb-true, le-leb, lt-ltb, le-ltb, lt-leb}
+use Rattle.std.proofs.lemmas.Bool.{and_parts, cond-true, le-leb, lt-leb}
 use Rattle.errno.specs.declared.Errno.{Errno}
-use Rattle.errno.specs.declared.Errno.TheVariants.{EACCES, EEXIST, EMLINK, ENOENT, ENOSPC, EPERM}
+use Rattle.errno.specs.declared.Errno.TheVariants.{EACCES, EEXIST, EMLINK, ENOENT, EPERM}
 use Rattle.layout.specs.declared.Geometry.{Geometry}
-use Rattle.layout.specs.Places.{IsGeometry}
 use Rattle.tree.specs.declared.User.{User}
-use Rattle.tree.specs.Sums.{put, sum_below}
-use Rattle.tree.specs.Names.{Name, Names, has_name, inode_of, is_name, with_name}
-use Rattle.tree.specs.Tree.{Body, Directory, Node, Tree, is_dir, is_directory, is_file, most_links, most_size, names_of, on_node, size_of, with_node}
-use Rattle.tree.specs.IsTree.{IsTree}
+use Rattle.tree.specs.Names.{Name, has_name, inode_of}
+use Rattle.tree.specs.Tree.{Node, Tree, is_dir, most_links}
 use Rattle.tree.specs.Refusals.{◌>>=◌, or_refuse, refuse_if}
 use Rattle.tree.specs.Walk.{Place, has_last_name, is_taken, last_part, may_access, parent_walk, read_path, to_write, walk_parts}
 use Rattle.tree.specs.Walk as tree
-use Rattle.tree.specs.Changes.{more_links, with_ctime, with_names}
-use Rattle.tree.specs.Space.{data_zones, zones_of, zones_used}
-use Rattle.tree.specs.Answers.{Effect, done, if_it_fits, refused}
-use Rattle.tree.specs.NameCalls.{link, with_entry}
-use Rattle.tree.proofs.Maps.{not_true, put-other, put-same, same_sum}
-use Rattle.tree_laws.proofs.CallsKeep.{link_keeps}
-use Rattle.tree_laws.proofs.Growth.{grown_fits}
-use Rattle.tree_laws.proofs.PathNames.{last_is_name}
-use Rattle.tree_laws.proofs.Shapes.{kind_of, weight}
-use Rattle.tree_laws.proofs.Totals.{weigh_one}
-use Rattle.tree_laws.proofs.Views.{on_node_there}
-use Rattle.tree_laws.proofs.Weights.{weigh, weigh_with_name}
+use Rattle.tree.specs.Answers.{Effect}
+use Rattle.tree.proofs.Maps.{not_true}
 use Rattle.volume.specs.declared.Inode.{Inode}
 use Rattle.volume.specs.Reading.{Disk, is_inode}
 use Rattle.volume.specs.Pieces.{Pieces, pieces}
@@ -37,27 +22,18 @@ use Rattle.volume.specs.Holds.{Holds, HoldsVolume}
 use Rattle.store.specs.declared.Halt.{Halt}
 use Rattle.store.specs.declared.Halt.TheVariants as halt
 use Rattle.store.specs.Halts.{Ends}
-use Rattle.zone_laws.specs.Room.{taken_by}
 use Rattle.zone.proofs.Held.{inode_is}
-use Rattle.entry_laws.specs.Directories.{before}
-use Rattle.entries.specs.Names.{Inserts, IsOfDirectory, MayInsert}
 use Rattle.walk.specs.declared.stop.Stop.{Stop}
 use Rattle.walk.specs.declared.stop.Stop.TheVariants as stop
 use Rattle.walk.specs.declared.place.Place.{Place as Found}
 use Rattle.walk.specs.Stops.{Answers}
-use Rattle.walk.specs.Walking.{IsThere, Walks}
-use Rattle.walk.specs.Places.{IsPlace, last_leads_to, place_of}
-use Rattle.descriptors.specs.Files.{Files, HasFiles}
-use Rattle.bodies.specs.Does.{Does, IsHeld, tree_in}
-use Rattle.bodies.proofs.Made.{granted_made, node_there, refused_made}
-use Rattle.node_steps.specs.Steps.{AddsLink, BecomesAt, IsOfNode, MayAddLink, node_at}
-use Rattle.call_laws.specs.Naming.{named}
-use Rattle.call_laws.specs.Stands.{NodeIs, Stands}
-use Rattle.call_laws.proofs.Between.{holds_at_end, kind_is, node_stands, nothing_is_done, step_is_done}
-use Rattle.call_laws.proofs.Entering.{body_is, name_may_be_put, names_are, room_is_for_name}
-use Rattle.name_bodies.specs.declared.linking.Free.{Free}
+use Rattle.walk.specs.Walking.{Walks}
+use Rattle.walk.specs.Places.{place_of}
+use Rattle.bodies.proofs.Made.{node_there}
+use Rattle.node_steps.specs.Steps.{node_at}
+use Rattle.call_laws.proofs.Between.{kind_is}
 use Rattle.name_bodies.specs.Names.{IsOfInode, IsVolume, MeansPlace}
-use Rattle.name_bodies.specs.Linking.{FindsFile, FindsFree, IsFree, IsLast, IsLinkable, IsRoomFor, free_at, on_file, on_free}
+use Rattle.name_bodies.specs.Linking.{FindsFile, FindsFree, on_file, on_free}
 
 -- The file.
 abbrev to_file : (ℕ → Node → Effect) → ℕ → Node → Effect

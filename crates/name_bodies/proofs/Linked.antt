@@ -12,7 +12,7 @@ use Rattle.layout.specs.Places.{IsGeometry}
 use Rattle.tree.specs.declared.User.{User}
 use Rattle.tree.specs.Sums.{put}
 use Rattle.tree.specs.Names.{Name, Names, inode_of, is_dots, is_name, most_name, with_name}
-use Rattle.tree.specs.Tree.{Body, Node, Tree, is_dir, is_directory, most_links, most_size, names_of, on_node, size_of, with_node}
+use Rattle.tree.specs.Tree.{Body, Node, Tree, is_dir, is_directory, most_size, names_of, size_of, with_node}
 use Rattle.tree.specs.IsTree.{IsTree}
 use Rattle.tree.specs.Refusals.{◌>>=◌}
 use Rattle.tree.specs.Walk.{Place, read_path}
@@ -44,12 +44,11 @@ use Rattle.bodies.specs.Does.{Does, IsHeld, tree_in}
 use Rattle.bodies.proofs.Made.{granted_made, refused_made}
 use Rattle.node_steps.specs.Steps.{AddsLink, BecomesAt, MayAddLink, node_at}
 use Rattle.call_laws.specs.Naming.{named}
-use Rattle.call_laws.specs.Stands.{NodeIs, Stands}
+use Rattle.call_laws.specs.Stands.{Stands}
 use Rattle.call_laws.proofs.Between.{holds_at_end, kind_is, node_stands, nothing_is_done, step_is_done}
 use Rattle.call_laws.proofs.Entering.{body_is, name_may_be_put, names_are, room_is_for_name}
 use Rattle.name_bodies.specs.declared.linking.Free.{Free}
-use Rattle.name_bodies.specs.Names.{IsVolume}
-use Rattle.name_bodies.specs.Linking.{FindsFile, FindsFree, IsFree, IsLast, IsLinkable, IsRoomFor, free_at, on_file, on_free}
+use Rattle.name_bodies.specs.Linking.{FindsFile, FindsFree, IsFree, IsLast, IsRoomFor, free_at, on_file, on_free}
 
 -- a last name is within its limit, and is a name
 pub name_of : (path : List ℕ) (parts : List Name) (name : Name) → All (λ b. b < 256) path → read_path path ≡ Ok parts → IsLast parts name → IsTrue (is_name name)
