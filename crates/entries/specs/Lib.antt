@@ -1,3 +1,4 @@
 -- Changes of a directory's names.
+pub mod First
 pub mod Names
 pub mod Removal
