@@ -1,6 +1,6 @@
 //! Paths that were read.
 
-ghost use Rattle.std.specs.Prelude.{◌≡◌, ◌==◌, Ok, Err};
+ghost use Rattle.std.specs.Prelude.{◌≡◌, ◌≢◌, ◌==◌, Ok, Err, IfErr};
 ghost use Rattle.std.specs.List.{list_any};
 ghost use Rattle.tree.specs.Names.{dot, dot_dot, is_dots, same_name};
 ghost use Rattle.tree.specs.Walk.{all_but_last, has_last_name, last_part, parts_of, read_path};
@@ -81,7 +81,8 @@ impl<'a> Path<'a> {
     /// Reads a path. In this order: ENOENT where it is empty, ENAMETOOLONG over 1024 bytes, EINVAL where it doesn't begin with `/` or
     /// holds a zero byte, ENAMETOOLONG where a part has over 60 bytes. Slashes in a row count as one, and those at the end don't count.
     pub fn parse(bytes: &'a [u8]) -> Result<Path<'a>, Errno>
-        ensures { result ≡ read_path bytes.now }
+        ensures parsed { result ≡ read_path bytes.now }
+        ensures proper { IfErr result (λ e. e ≢ Errno.EIO) }
     {
         let Some(first) = bytes.first() else {
             return Err(Errno::ENOENT);

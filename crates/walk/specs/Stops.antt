@@ -21,6 +21,11 @@ abbrev pub IsStop : {B : Type 0} → World B → B → Stop → Type 0
 IsStop w b (stop.Refused e) = Unit {0}
 IsStop w b (stop.Halted h) = IsHalt w b h
 
+-- of a refusal this is said
+abbrev pub IfRefused : Stop → (Errno → Type 0) → Type 0
+IfRefused (stop.Refused e) P = P e
+IfRefused (stop.Halted h) P = Unit {0}
+
 -- what a call answered on a sound volume: a value or a refusal, of which this is said; or it was cut off
 abbrev pub Answers : {X : Type 0} → Result X Stop → (Result X Errno → Type 0) → Type 0
 Answers (Ok x) P = P (Ok x)

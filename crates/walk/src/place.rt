@@ -1,18 +1,19 @@
 //! Places for names.
 
-ghost use Rattle.std.specs.Prelude.{◌≡◌, IfErr, IfOk};
+ghost use Rattle.std.specs.Prelude.{◌≡◌, ◌≢◌, IfErr, IfOk};
 ghost use Rattle.store.specs.Volume.{IsOn};
 ghost use Rattle.store.specs.World.{Reads};
 ghost use Rattle.tree.specs.Tree.{Tree};
 ghost use Rattle.volume.specs.Holds.{Holds};
 ghost use Rattle.volume.specs.Nodes.{directory_of};
 ghost use Rattle.volume.specs.Pieces.{pieces};
-ghost use Rattle.walk.specs.Stops.{Answers, IsStop};
+ghost use Rattle.walk.specs.Stops.{Answers, IsStop, IfRefused};
 ghost use Rattle.walk.specs.Places.{Finds, FindsPlace, last_leads_to};
 
 use crate::step::{enter, walk};
 use crate::stop::Stop;
 use directory::find;
+use errno::Errno;
 use inode_table::Inode;
 use layout::Geometry;
 use path::Path;
@@ -72,6 +73,7 @@ pub fn find_place<'a, B: Blocks>(
     ensures reads { Reads B.world blocks.old blocks.new (λ d. (t : Tree) → Holds geometry.now d t
         → Answers result (FindsPlace geometry.now d t user path.now)) }
     ensures stop { IfErr result (λ s. IsStop B.world blocks.new s) }
+    ensures proper { IfErr result (λ s. IfRefused s (λ e. e ≢ Errno.EIO)) }
 {
     let directory = walk(blocks, geometry, user, path.parent())?;
     let inode = enter(blocks, geometry, user, directory)?;
@@ -96,6 +98,7 @@ pub fn look_up<'a, B: Blocks>(
     ensures reads { Reads B.world blocks.old blocks.new (λ d. (t : Tree) → Holds geometry.now d t
         → Answers result (Finds geometry.now d t user path.now)) }
     ensures stop { IfErr result (λ s. IsStop B.world blocks.new s) }
+    ensures proper { IfErr result (λ s. IfRefused s (λ e. e ≢ Errno.EIO)) }
 {
     if !path.has_last_name() {
         return Ok(Found::There(walk(blocks, geometry, user, path.parts())?));

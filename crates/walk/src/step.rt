@@ -1,13 +1,13 @@
 //! The walk of a path's parts.
 
-ghost use Rattle.std.specs.Prelude.{◌≡◌, ◌<◌, ◌≤◌, ◌/◌, ◌%◌, ◌==◌, IfErr, IfOk, IsTrue, is_some, length};
+ghost use Rattle.std.specs.Prelude.{◌≡◌, ◌≢◌, ◌<◌, ◌≤◌, ◌/◌, ◌%◌, ◌==◌, IfErr, IfOk, IsTrue, is_some, length};
 ghost use Rattle.store.specs.Volume.{IsOn};
 ghost use Rattle.store.specs.World.{Reads};
 ghost use Rattle.tree.specs.Tree.{Tree};
 ghost use Rattle.tree.specs.Walk.{next};
 ghost use Rattle.volume.specs.Holds.{Holds};
 ghost use Rattle.volume.specs.Nodes.{is_directory_mode, permissions_in};
-ghost use Rattle.walk.specs.Stops.{Answers, IsStop};
+ghost use Rattle.walk.specs.Stops.{Answers, IsStop, IfRefused};
 ghost use Rattle.walk.specs.Walking.{entries_in, Enters, StepsTo, Walks};
 
 use crate::stop::Stop;
@@ -47,6 +47,7 @@ pub(crate) fn enter<B: Blocks>(
     ensures reads { Reads B.world blocks.old blocks.new (λ d. (t : Tree) → Holds geometry.now d t → IsTrue (is_some (t.nodes here))
         → Answers result (Enters geometry.now d t user here)) }
     ensures stop { IfErr result (λ s. IsStop B.world blocks.new s) }
+    ensures proper { IfErr result (λ s. IfRefused s (λ e. e ≢ Errno.EIO)) }
 {
     let inode = load(blocks, geometry, here)?;
     if !is_directory(inode.mode) {
@@ -77,6 +78,7 @@ fn next<B: Blocks>(
     ensures reads { Reads B.world blocks.old blocks.new (λ d. 128 ≤ inode.now.size
         → let dir = entries_in geometry.now d inode.now in Answers result (λ r. r ≡ next here dir.0 dir.1 part.now)) }
     ensures stop { IfErr result (λ s. IsStop B.world blocks.new s) }
+    ensures proper { IfErr result (λ s. IfRefused s (λ e. e ≢ Errno.EIO)) }
 {
     if is_dot(part) {
         return Ok(here);
@@ -103,6 +105,7 @@ fn step<B: Blocks>(
     ensures reads { Reads B.world blocks.old blocks.new (λ d. (t : Tree) → Holds geometry.now d t → IsTrue (is_some (t.nodes here))
         → Answers result (StepsTo t user here part.now)) }
     ensures stop { IfErr result (λ s. IsStop B.world blocks.new s) }
+    ensures proper { IfErr result (λ s. IfRefused s (λ e. e ≢ Errno.EIO)) }
 {
     let inode = enter(blocks, geometry, user, here)?;
     next(blocks, geometry, here, &inode, part)
@@ -110,7 +113,7 @@ fn step<B: Blocks>(
 
 /// The inode to which parts of a path lead from the root: the tree's walk, with its refusals in their order. From each part but the
 /// last a directory is entered: ENOTDIR where it is a file, EACCES where the user may not search it, then ENOENT where the name is
-/// missing. Where the volume isn't sound, any inode or refusal may be answered, or Unsound; each part is read once.
+/// missing. Where the volume isn't sound, any inode may be answered, any refusal but EIO, or Unsound; each part is read once.
 pub fn walk<B: Blocks>(
     blocks: &mut B,
     geometry: &Geometry,
@@ -121,6 +124,7 @@ pub fn walk<B: Blocks>(
     ensures reads { Reads B.world blocks.old blocks.new (λ d. (t : Tree) → Holds geometry.now d t
         → Answers result (Walks t user parts.entry)) }
     ensures stop { IfErr result (λ s. IsStop B.world blocks.new s) }
+    ensures proper { IfErr result (λ s. IfRefused s (λ e. e ≢ Errno.EIO)) }
 {
     let mut parts = parts;
     let mut here = ROOT;
