@@ -1,0 +1,2 @@
+-- Steps of client calls that change one node of a volume.
+pub mod Steps
