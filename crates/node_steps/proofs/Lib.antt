@@ -1,0 +1,4 @@
+pub mod Nodes
+pub mod Storing
+pub mod Freeing
+pub mod Losing

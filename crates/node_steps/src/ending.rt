@@ -49,7 +49,10 @@ pub fn lose_node<B: Blocks>(
         return Err(Halt::Unsound);
     }
     let inode = load(blocks, geometry, number)?;
-    if inode.links > 0 || opens.is_open(number as u16) {
+    if inode.links > 0 {
+        return Ok(());
+    }
+    if opens.is_open(number as u16) {
         return Ok(());
     }
     free_node(blocks, geometry, number)
