@@ -1,0 +1,3 @@
+pub mod Between
+pub mod Entering
+pub mod Ending
