@@ -1,8 +1,8 @@
 pub mod Made
-mod Exits
-mod Looks
+pub mod Exits
+pub mod Looks
 mod Room
-mod OpenFiles
+pub mod OpenFiles
 mod ReadBytes
 mod ReadCall
-mod Effects
+mod SeekCall

@@ -73,7 +73,7 @@ pub none_is : (t : Tree) (f : Files) (session fd : ℕ) → HasFiles f t → fil
 none_is t f session fd files is = subst (λ (x : Option OpenFile). found_in x (open_file_of t session fd)) is (found_is t f session fd files)
 
 -- its number's open file is that one
-opened_by : (n : Option ℕ) (h : ℕ → Option OpenFile) (k : ℕ) (o : OpenFile) → found_by n h ≡ Ok (k, o) → h k ≡ Some o
+pub opened_by : (n : Option ℕ) (h : ℕ → Option OpenFile) (k : ℕ) (o : OpenFile) → found_by n h ≡ Ok (k, o) → h k ≡ Some o
 opened_by None h k o is = cc
 opened_by (Some j) h k o is = go (h j) refl is
   where

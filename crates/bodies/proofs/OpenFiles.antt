@@ -8,20 +8,23 @@ use Rattle.layout.specs.declared.Geometry.{Geometry}
 use Rattle.tree.specs.declared.Who.{Who}
 use Rattle.tree.specs.declared.Call.{Call}
 use Rattle.tree.specs.declared.Call.TheVariants.{Dup}
-use Rattle.tree.specs.Tree.{Tree, Node}
+use Rattle.tree.specs.Tree.{Tree, Node, OpenFile}
+use Rattle.tree.specs.Sums.{put}
 use Rattle.tree.specs.IsTree.{IsTree}
 use Rattle.tree.specs.Refusals.{◌>>=◌, refuse_if}
 use Rattle.tree.specs.Effects.{effect_in_session, tree_after_call}
+use Rattle.tree.specs.Changes.{open_file_of, at_position}
 use Rattle.tree.specs.FileCalls.{dup}
 use Rattle.tree.specs.Answers.{Answer, Effect, refused, descriptor}
 use Rattle.tree_laws.proofs.OpenFileCalls.{dup_keeps}
 use Rattle.volume.specs.Reading.{Disk}
 use Rattle.volume.specs.Holds.{HoldsVolume}
-use Rattle.descriptors.specs.Files.{Files, HasFiles, files_in, with_files, dup_file}
+use Rattle.descriptors.specs.Files.{Files, HasFiles, files_in, tree_with, with_files, dup_file, moved}
 use Rattle.descriptors.specs.Table.{Table, files_of, told}
 use Rattle.descriptors.proofs.TreeCalls.{dup_is_dup}
 use Rattle.bodies.specs.Does.{tree_in, Does}
 use Rattle.bodies.proofs.Made.{refused_made, granted_made}
+use Rattle.bodies.proofs.Looks.{same_found}
 
 -- the tree after an effect is one, where it is after the call
 pub tree_kept : (g : Geometry) (t : Tree) (who : Who) (now : ℕ) (call : Call) → who.session < 64 → (u : Tree) (a : Answer)
@@ -40,6 +43,18 @@ other_files g d e t u holds same nodes tree = subst (λ (x : Disk). HoldsVolume 
 -- a tree's open files
 pub files_are : (f : Files) (t : Tree) → HasFiles f t → files_in t ≡ f
 files_are f t files = λ i. record { opened = files.opened i; descriptors = files.descriptors i }
+
+-- those with a position moved
+pub files_moved : (t : Tree) (f : Files) (session fd k : ℕ) (o : OpenFile) (place : ℕ) → HasFiles f t → open_file_of t session fd ≡ Ok (k, o)
+    → HasFiles (moved f session fd place) (at_position t k o place)
+files_moved t f session fd k o place files found =
+    let there : moved f session fd place ≡ files_in (at_position (tree_with f) k o place) =
+    ap (λ (r : Result (ℕ × OpenFile) Errno). elim r [ Ok y ↦ files_in (at_position (tree_with f) y.0 y.1 place) | Err z ↦ f ])
+    (sym (same_found t f session fd files) ∙ found) in
+    subst (λ (y : Files). HasFiles y (at_position t k o place)) (sym there) (record {
+      opened = ap (λ (y : ℕ → Option OpenFile). put y k (Some (record o { position = place }))) files.opened;
+      descriptors = files.descriptors;
+    })
 
 -- a caller of a session
 abbrev pub caller : ℕ → Who

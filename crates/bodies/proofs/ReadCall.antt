@@ -32,7 +32,7 @@ use Rattle.bodies.specs.Reading.{why_unread}
 use Rattle.bodies.specs.Does.{answer_in, IsHeld, DoesOrLacks, IsMade, IsLacking}
 use Rattle.bodies.proofs.Made.{refused_made, granted_made}
 use Rattle.bodies.proofs.Looks.{open_is, none_is, node_open, same_found}
-use Rattle.bodies.proofs.OpenFiles.{tree_kept, other_files, files_are, caller}
+use Rattle.bodies.proofs.OpenFiles.{tree_kept, other_files, files_moved, caller}
 
 -- read, of the file that was found
 abbrev from_file : Tree → ℕ → OpenFile → ℕ → Result File Errno → Effect
@@ -119,17 +119,6 @@ module _ (g : Geometry) (d e : Disk) (same : e ≡ d) (session fd count : ℕ) (
             });
       }
 
-      -- the open files with the position moved
-      files_moved : (t : Tree) (k place : ℕ) → HasFiles f t → open_file_of t session fd ≡ Ok (k, o) → HasFiles (moved f session fd place) (at_position t k o place)
-      files_moved t k place files found =
-          let there : moved f session fd place ≡ files_in (at_position (tree_with f) k o place) =
-          ap (λ (r : Result (ℕ × OpenFile) Errno). elim r [ Ok y ↦ files_in (at_position (tree_with f) y.0 y.1 place) | Err z ↦ f ])
-          (sym (same_found t f session fd files) ∙ found) in
-          subst (λ (y : Files). HasFiles y (at_position t k o place)) (sym there) (record {
-            opened = ap (λ (y : ℕ → Option OpenFile). put y k (Some (record o { position = place }))) files.opened;
-            descriptors = files.descriptors;
-          })
-
       pub read_done : session < 64 → (bytes : List ℕ) (n : ℕ) (new : Files) → bytes ≡ bytes_read h x.position count → n ≡ x.position + length bytes
           → new ≡ moved f session fd n → DoesOrLacks g (λ t. read t session fd count) (some_bytes bytes) (HasFiles f) (HasFiles new) d e
       read_done early bytes n new got place is_new = record {
@@ -142,7 +131,7 @@ module _ (g : Geometry) (d e : Disk) (same : e ≡ d) (session fd count : ℕ) (
             inl (granted_made g t u (read t session fd count) (some_bytes bytes) (HasFiles new) e effect
             (other_files g d e t u holds same refl
             (tree_kept g t (caller session) 0 (Read fd count) early u (some_bytes bytes) effect (read_keeps g t (caller session) 0 fd count holds.nodes.tree)))
-            (subst (λ (z : Files). HasFiles z u) (sym is_new) (files_moved t y.0 n files y.1)));
+            (subst (λ (z : Files). HasFiles z u) (sym is_new) (files_moved t f session fd y.0 o n files y.1)));
       }
 
     -- what may be read is no directory

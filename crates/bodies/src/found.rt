@@ -2,6 +2,7 @@
 
 ghost use Rattle.std.specs.Prelude.{◌≡◌, ◌<◌, ◌≤◌, IfOk, IfErr, IfSome, option_map};
 ghost use Rattle.tree.specs.Tree.{most_sessions, most_size};
+ghost use Rattle.volume.specs.Nodes.{is_directory_mode};
 ghost use Rattle.volume.specs.Pieces.{pieces};
 ghost use Rattle.descriptors.specs.Files.{HasFiles, file_at};
 ghost use Rattle.descriptors.specs.Table.{files_of};
@@ -19,15 +20,26 @@ use tree::OpenFlags;
 
 /// An open file, and the inode of its node.
 #[derive(Clone, Copy)]
-pub(crate) struct Found {
+pub struct Found {
+    /// The number of the inode.
     pub number: u16,
+    /// The place of the next read or write.
     pub position: u32,
+    /// The flags that it was opened with.
     pub flags: OpenFlags,
+    /// The inode.
     pub inode: Inode,
 }
 
-/// The open file to which a descriptor leads, if it leads to one.
-pub(crate) fn find<B: Blocks>(
+/// Whether an inode is a directory's.
+pub fn is_directory(inode: &Inode) -> bool
+    ensures { result ≡ is_directory_mode inode.now.mode }
+{
+    inode.mode / 4096 == 4
+}
+
+/// The open file to which a descriptor leads, with its inode, if it leads to one. Nothing is changed.
+pub fn find<B: Blocks>(
     blocks: &mut B,
     opens: &Descriptors,
     geometry: &Geometry,

@@ -4,8 +4,8 @@
 //! known. It answers `Unsound` only where the volume holds no tree.
 #![tactic(auto)]
 
-pub mod calls;
-mod found;
+pub mod found;
 pub mod open_files;
 pub mod reading;
+pub mod seeking;
 pub mod whole;

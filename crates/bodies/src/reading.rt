@@ -4,7 +4,7 @@ ghost use Rattle.std.specs.Prelude.{◌≡◌, ◌≢◌, ◌<◌, ◌≤◌, If
 ghost use Rattle.tree.specs.Tree.{most_sessions};
 ghost use Rattle.tree.specs.FileCalls.{read, bytes_read};
 ghost use Rattle.tree.specs.Answers.{answer_of, refused};
-ghost use Rattle.volume.specs.Nodes.{is_directory_mode, file_of};
+ghost use Rattle.volume.specs.Nodes.{file_of};
 ghost use Rattle.volume.specs.Pieces.{pieces};
 ghost use Rattle.file.specs.Reading.{read_count};
 ghost use Rattle.descriptors.specs.Files.{HasFiles};
@@ -15,7 +15,7 @@ ghost use Rattle.store.specs.Halts.{IsHalt};
 ghost use Rattle.bodies.specs.Does.{MeetsOrLacks};
 ghost use Rattle.bodies.specs.Reading.{why_unread};
 
-use crate::found::{Found, find};
+use crate::found::{Found, find, is_directory};
 use descriptors::Descriptors;
 use errno::Errno;
 use file::reading::read_at;
@@ -24,13 +24,6 @@ use layout::Geometry;
 use std::alloc::{AllocError, Global};
 use store::{Blocks, Cut, Halt};
 use tree::{MAX_SIZE, MAX_TRANSFER, Reply};
-
-/// Whether an inode is a directory's.
-fn is_directory(inode: &Inode) -> bool
-    ensures { result ≡ is_directory_mode inode.now.mode }
-{
-    inode.mode / 4096 == 4
-}
 
 /// Why an open file can't be read, if it can't.
 fn refusal(file: &Found, count: u32) -> Option<Errno>

@@ -24,7 +24,7 @@ use Rattle.cache.proofs.Places.{none_at, some_at}
 use Rattle.cache.proofs.Tied.{tied_idle, tied_changed, no_ticket}
 use Rattle.cache.proofs.Agreeing.{agrees_put, agrees_given_up, view_given_up, view_put, view_row, not_clean, seen_within, seen_past}
 use Rattle.cache.proofs.Edits.{one_slot}
-use Rattle.cache.proofs.Runs.{runs_none, runs_as, runs_then}
+use Rattle.cache.proofs.Runs.{runs_none, runs_as, runs_then, same_left, ids_kept}
 
 -- ---- calls at the link between changes of frames
 
@@ -132,7 +132,8 @@ runs_slots old new R minor size table told truth room budget ended ready tied h 
       minor = refl;
       size = refl;
       ended = λ f. f;
-      ids = λ f. omega arith;
+      left = same_left _;
+      ids = ids_kept _ _ _;
       agrees = λ marks k. k;
       ends = λ f. f;
       related = λ image marks k tr. h _;

@@ -22,7 +22,7 @@ use Rattle.endpoint.specs.declared.Endpoint.{Endpoint}
 use Rattle.reissue.specs.Calls.{Begins, Steps, Absorbs, more_may_come}
 use Rattle.reissue.proofs.Joining.{grown_append}
 use Rattle.cache.proofs.Handing.{Done, told_both, none_of_both}
-use Rattle.cache.specs.Calls.{Caching, IsReady, Runs, after_message, with_handed}
+use Rattle.cache.specs.Calls.{Caching, IsReady, Runs, after_message, with_handed, messages_left}
 use Rattle.cache.specs.Takes.{is_ended_by}
 
 -- ---- true replies
@@ -75,6 +75,54 @@ handed_first : (m : Option Incoming) (xs ys : List Act) → xs ++ with_handed m 
 handed_first None xs ys = refl
 handed_first (Some message) xs ys = sym (append_assoc xs ys (Absorbed message ∷ []))
 
+-- ---- messages and ids
+
+-- where none was taken as many are left, or fewer
+pub left_same : (a b : Caching) → b.ended ≡ a.ended → b.budget ≤ a.budget → messages_left b ≤ messages_left a
+left_same a b e less = by a.ended b.ended e
+  where
+    by : (x y : Bool) → y ≡ x → cond y 0 (b.budget + 1) ≤ cond x 0 (a.budget + 1)
+    by false false e = omega (arith, less)
+    by true true e = omega arith
+    by false true e = cc
+    by true false e = cc
+
+-- where one was taken fewer
+left_step : (a b : Caching) → a.ended ≡ false → (b.ended ≡ false → b.budget < a.budget) → messages_left b < messages_left a
+left_step a b alive less = by a.ended b.ended alive less
+  where
+    by : (x y : Bool) → x ≡ false → (y ≡ false → b.budget < a.budget) → cond y 0 (b.budget + 1) < cond x 0 (a.budget + 1)
+    by false false e less = let l = less refl in omega (arith, l)
+    by false true e less = omega arith
+    by true y e less = cc
+
+-- ids after a request was begun, a message was taken, and one was handed over
+ids_begun : (i j p q m n : ℕ) → j + p ≡ i + q → n ≤ m → j + n + p ≤ i + m + q + 0
+ids_begun i j p q m n e less = omega (arith, e, less)
+
+ids_taken : (i j p q m n : ℕ) → j + p ≤ i + q + 1 → n < m → j + n + p ≤ i + m + q + 0
+ids_taken i j p q m n e less = omega (arith, e, less)
+
+ids_handed : (i j p q m n : ℕ) → j + p ≤ i + q + 1 → n ≤ m → j + n + p ≤ i + m + q + 1
+ids_handed i j p q m n e less = omega (arith, e, less)
+
+-- and after both
+pub ids_then : (i j k p q r l m n c : ℕ) → j + m + p ≤ i + l + q + c → k + n + q ≤ j + m + r + 0 → k + n + p ≤ i + l + r + c
+ids_then i j k p q r l m n c first second = omega (arith, first, second)
+
+-- where none was given
+pub ids_kept : (i m p : ℕ) → i + m + p ≤ i + m + p + 0
+ids_kept i m p = omega arith
+
+left_then : (l m n : ℕ) → m ≤ l → n ≤ m → n ≤ l
+left_then l m n h k = omega (arith, h, k)
+
+fewer_most : (m n : ℕ) → n < m → n ≤ m
+fewer_most m n h = omega (arith, h)
+
+pub same_left : (m : ℕ) → m ≤ m
+same_left m = omega arith
+
 -- ---- calls one after the other
 
 -- nothing happened
@@ -89,7 +137,8 @@ runs_none c R ready h = record {
   minor = refl;
   size = refl;
   ended = λ e. e;
-  ids = λ e. omega arith;
+  left = same_left _;
+  ids = ids_kept _ _ _;
   agrees = λ marks k. k;
   ends = λ e. e;
   related = λ image marks k tr. h (state_after image marks);
@@ -110,6 +159,7 @@ runs_as m a b R S h x = record {
   minor = x.minor;
   size = x.size;
   ended = x.ended;
+  left = x.left;
   ids = x.ids;
   agrees = x.agrees;
   ends = x.ends;
@@ -117,11 +167,6 @@ runs_as m a b R S h x = record {
   truth = x.truth;
   rules = x.rules;
 }
-
--- a call whose link has ended had ended before
-open_before : (b c : Bool) → (b ≡ true → c ≡ true) → c ≡ false → b ≡ false
-open_before false c h e = refl
-open_before true c h e = let k = h refl in cc
 
 -- one call after the other
 pub runs_then : (m : Option Incoming) (a b c : Caching) (R S T : DiskState → DiskState → Type 0)
@@ -137,7 +182,8 @@ runs_then m a b c R S T h x y = record {
   minor = y.minor ∙ x.minor;
   size = y.size ∙ x.size;
   ended = λ e. y.ended (x.ended e);
-  ids = λ e. let first = x.ids (open_before b.ended c.ended y.ended e) in let second = y.ids e in omega (arith, first, second);
+  left = left_then _ _ _ x.left y.left;
+  ids = ids_then _ _ _ _ _ _ _ _ _ _ x.ids y.ids;
   agrees = λ marks k. subst (λ (ms : List Mark). Agrees c.table ms) (sym (all marks)) (y.agrees (mid marks) (x.agrees marks k));
   ends = λ e. y.ends (x.ends e);
   related = λ image marks k tr.
@@ -184,7 +230,8 @@ begin_runs ask old new R x ready minors minor same_minor same_size ended budget 
   minor = same_minor;
   size = same_size;
   ended = λ e. ended ∙ e;
-  ids = λ e. omega (arith, budget, ids);
+  left = left_same old new ended budget;
+  ids = ids_begun _ _ _ _ _ _ ids (left_same old new ended budget);
   agrees = x.agrees;
   ends = λ e. ended ∙ e ∙ sym x.ended;
   related = λ image marks k tr. h (state_after image marks) (state_after image (grown x.posts marks)) (x.spares image marks k);
@@ -230,7 +277,8 @@ step_runs res old new R x ready minors busy going same_minor same_size alive end
   minor = same_minor;
   size = same_size;
   ended = λ e. absurd (let k = alive in cc);
-  ids = λ e. let less = budget (sym ended ∙ e) in omega (arith, less, ids);
+  left = fewer_most _ _ fewer;
+  ids = ids_taken _ _ _ _ _ _ ids fewer;
   agrees = λ marks k. subst (λ (ms : List Mark). Agrees new.table ms) (sym (all marks k)) (x.agrees marks k);
   ends = λ e. ended ∙ by_end res e ∙ sym x.ended;
   related = λ image marks k tr.
@@ -245,6 +293,9 @@ step_runs res old new R x ready minors busy going same_minor same_size alive end
       (x.rules old.minor marks k minors busy going);
 }
   where
+    fewer : messages_left new < messages_left old
+    fewer = left_step old new alive (λ e. budget (sym ended ∙ e))
+
     more : (b : Bool) × (heard x.message old.told ≡ news b x.message ++ old.told) × ((marks : List Mark) → grown (news b x.message) marks ≡ received x.message marks)
     more = heard_news x.message old.told
 
@@ -302,7 +353,8 @@ absorb_runs m res old new R x ready minors same_minor same_size ended budget ids
     minor = same_minor;
     size = same_size;
     ended = λ e. ended ∙ e;
-    ids = λ e. omega (arith, budget, ids);
+    left = left_same old new ended budget;
+    ids = ids_handed _ _ _ _ _ _ ids (left_same old new ended budget);
     agrees = λ marks k. subst (λ (ms : List Mark). Agrees new.table ms) (sym (all marks)) (x.agrees marks k);
     ends = λ e. ended ∙ e ∙ sym x.ended;
     related = λ image marks k tr.

@@ -101,6 +101,10 @@ abbrev pub with_handed : Option Incoming → List Act → List Act
 with_handed None acts = acts
 with_handed (Some message) acts = acts ++ Absorbed message ∷ []
 
+-- how many messages may still come: one more is asked for than the link gives, since it may say that it ended
+abbrev pub messages_left : Caching → ℕ
+messages_left c = if c.ended then 0 else c.budget + 1
+
 -- A call that leads from one state of a cache to the next, and what it was told at its link. From each record that agrees with the pending
 -- requests it leads to one that agrees, by acts that keep the rules; over true replies the disk before and after are related so.
 pub record Runs (message : Option Incoming) (old new : Caching) (Related : DiskState → DiskState → Type 0) : Type 0 where
@@ -114,9 +118,10 @@ pub record Runs (message : Option Incoming) (old new : Caching) (Related : DiskS
   pub minor : new.minor ≡ old.minor
   pub size : new.size ≡ old.size
   pub ended : old.ended ≡ true → new.ended ≡ true
-  -- a message spends an id at most
-  pub ids : new.ended ≡ false → new.table.ids + new.budget + length old.table.pending
-      ≤ old.table.ids + old.budget + length new.table.pending + message_count message
+  -- messages are taken from those that are left; each one, and one that is handed over, spends an id at most, also once the link has ended
+  pub left : messages_left new ≤ messages_left old
+  pub ids : new.table.ids + messages_left new + length old.table.pending
+      ≤ old.table.ids + messages_left old + length new.table.pending + message_count message
   pub agrees : (marks : List Mark) → Agrees old.table marks → Agrees new.table (grown told (after_message message marks))
   pub ends : old.ended ≡ took_end old.told → new.ended ≡ took_end new.told
   pub related : (image : Contents) (marks : List Mark) → Agrees old.table marks

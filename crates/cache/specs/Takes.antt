@@ -1,5 +1,5 @@
 -- What a message taken does to the frames, and what a block that was read reads as.
-use Rattle.std.specs.Prelude.{◌≡◌, ℕ, ◌+◌, ◌*◌, ◌<◌, List, Bool, true, false, Option, Some, None, Result, Ok, Err, slice_index, if◌then◌else◌, ◌==◌}
+use Rattle.std.specs.Prelude.{◌≡◌, ℕ, ◌+◌, ◌*◌, ◌<◌, List, Bool, true, false, Option, Some, None, Result, Ok, Err, slice_index, ◌==◌}
 use Rattle.reissue.specs.declared.ask.Settled.{Settled}
 use Rattle.reissue.specs.declared.ask.Settled.TheVariants as settled
 use Rattle.reissue.specs.Moves.{DiskState, Begun}
@@ -37,10 +37,6 @@ is_ended_by (settled.Written t) = false
 is_ended_by settled.Nothing = false
 is_ended_by settled.Flush = false
 is_ended_by settled.GaveUp = false
-
--- how many messages may still come: one more is asked for than the link gives, since it may say that it ended
-abbrev pub messages_left : Caching → ℕ
-messages_left c = if c.ended then 0 else c.budget + 1
 
 -- these bytes are the disk's from the place on, where it is sure
 pub record AreDisk (start size : ℕ) (bytes : List ℕ) (v : DiskState) : Type 0 where

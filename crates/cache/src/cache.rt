@@ -61,14 +61,14 @@ impl<L: Link> Cache<L> {
     ghost use Rattle.cache.specs.Edits.{AllStay, StayBut, IsChangedAt};
     ghost use Rattle.cache.specs.Frames.{frames_of, view, with_bytes};
     ghost use Rattle.cache.specs.Calls.{caching, held_by, frame_count, IsReady, IsLive, IsWhyCut, IsFrame, IsMade, IsStuck, IsRefusing};
-    ghost use Rattle.cache.specs.Calls.{PostsAlone};
+    ghost use Rattle.cache.specs.Calls.{PostsAlone, messages_left};
     ghost use Rattle.cache.specs.Calls.{Does, Keeps, HandsOver, Blanks, Rewrites, LinkGoesOn, WantsFlush, IsWantedFor};
     ghost use Rattle.cache.specs.Calls.{forgotten, with_cache_link, without_flush};
     ghost use Rattle.cache.specs.contracts.cache.Cache.{the_row};
     ghost use Rattle.cache.specs.declared.slots.Frame.{Frame as FrameValue};
     ghost use Rattle.cache.specs.declared.slots.Slot.{Slot};
     ghost use Rattle.cache.specs.Fetches.{Hits, Misses, BlanksFrame, MakesRoom, IsAtOnce};
-    ghost use Rattle.cache.specs.Takes.{Settles, took_of, Takes, ReadsStay, NoReadBegun, IsBlockRead, Reads, messages_left};
+    ghost use Rattle.cache.specs.Takes.{Settles, took_of, Takes, ReadsStay, NoReadBegun, IsBlockRead, Reads};
 
     /// A cache with so many frames, none of them in use, over transfers with nothing pending: 1 BadFrames unless they are 16 to
     /// 4096, looked at first; 2 OutOfMemory.

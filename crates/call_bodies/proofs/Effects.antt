@@ -22,7 +22,7 @@ use Rattle.store.specs.declared.Halt.TheVariants as halt
 use Rattle.store.specs.Halts.{Ends}
 use Rattle.store.proofs.Turns.{ends_as}
 use Rattle.bodies.specs.Does.{answer_in, tree_in, IsHeld, IsMade, IsLacking, Does, DoesOrLacks, Meets, MeetsOrLacks}
-use Rattle.bodies.specs.Calls.{IsDone, DoesCall, MeetsCall}
+use Rattle.call_bodies.specs.Calls.{IsDone, DoesCall, MeetsCall}
 use Rattle.bodies.proofs.Made.{refused_made}
 
 -- no success is want of memory
@@ -106,6 +106,10 @@ module _ (g : Geometry) (who : Who) (now : ℕ) (call : Call) where
     pub call_meets : (r : Result Reply Halt) (f h : Files) (d e : Disk) → Meets g effect r (HasFiles f) (HasFiles h) d e → MeetsCall g who now call r f h d e
     call_meets r f h d e x = ends_as r _ _ _ _ (λ (y : Reply). call_does (answer_of y) f h d e) (λ held. held) x
 
+    -- of this call
+    pub kind_meets : (k : Call) → k ≡ call → (r : Result Reply Halt) (f h : Files) (d e : Disk) → Meets g effect r (HasFiles f) (HasFiles h) d e → MeetsCall g who now k r f h d e
+    kind_meets k kind r f h d e x = subst (λ (y : Call). MeetsCall g who now y r f h d e) (sym kind) (call_meets r f h d e x)
+
     -- and where memory may be wanting
     pub call_lacks : may_want_memory call ≡ true → (answer : Answer) (f h : Files) (d e : Disk)
         → DoesOrLacks g effect answer (HasFiles f) (HasFiles h) d e → DoesCall g who now call answer f h d e
@@ -119,6 +123,10 @@ module _ (g : Geometry) (who : Who) (now : ℕ) (call : Call) where
     pub call_meets_or_lacks : may_want_memory call ≡ true → (r : Result Reply Halt) (f h : Files) (d e : Disk)
         → MeetsOrLacks g effect r (HasFiles f) (HasFiles h) d e → MeetsCall g who now call r f h d e
     call_meets_or_lacks may r f h d e x = ends_as r _ _ _ _ (λ (y : Reply). call_lacks may (answer_of y) f h d e) (λ held. held) x
+
+    pub kind_meets_or_lacks : (k : Call) → k ≡ call → may_want_memory call ≡ true → (r : Result Reply Halt) (f h : Files) (d e : Disk)
+        → MeetsOrLacks g effect r (HasFiles f) (HasFiles h) d e → MeetsCall g who now k r f h d e
+    kind_meets_or_lacks k kind may r f h d e x = subst (λ (y : Call). MeetsCall g who now y r f h d e) (sym kind) (call_meets_or_lacks may r f h d e x)
 
 -- what is unsound holds no tree
 pub call_unsound : (g : Geometry) (who : Who) (now : ℕ) (call : Call) (answer : Answer) (f h : Files) (d e : Disk) → (IsHeld g (HasFiles f) d → ⊥)

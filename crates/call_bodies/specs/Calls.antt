@@ -3,7 +3,6 @@ use Rattle.std.specs.Prelude.{◌≡◌, ℕ, Bool, Result, is_some, IsTrue}
 use Rattle.layout.specs.declared.Geometry.{Geometry}
 use Rattle.tree.specs.declared.Who.{Who}
 use Rattle.tree.specs.declared.Call.{Call}
-use Rattle.tree.specs.declared.Call.TheVariants.{Dup, Fstat, Sync, Statfs}
 use Rattle.tree.specs.declared.Reply.{Reply}
 use Rattle.tree.specs.Sums.{some_below}
 use Rattle.tree.specs.Tree.{Tree, most_open_files}
@@ -34,11 +33,3 @@ MeetsCall g who now call result old new d e =
 -- whether some file is open
 abbrev pub is_busy : Files → Bool
 is_busy f = some_below (λ k. is_some (f.opened k)) most_open_files
-
--- the calls that have a body
-abbrev pub IsGiven : Call → Type 0
-IsGiven (Dup fd) = Unit {0}
-IsGiven (Fstat fd) = Unit {0}
-IsGiven Sync = Unit {0}
-IsGiven Statfs = Unit {0}
-IsGiven _ = ⊥

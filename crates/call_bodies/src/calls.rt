@@ -7,18 +7,38 @@ ghost use Rattle.descriptors.specs.Table.{files_of};
 ghost use Rattle.store.specs.World.{Turns};
 ghost use Rattle.store.specs.Volume.{IsOn};
 ghost use Rattle.store.specs.Halts.{IsHalt};
-ghost use Rattle.bodies.specs.Calls.{DoesCall, MeetsCall, IsGiven};
+ghost use Rattle.tree.specs.Effects.{user_of};
+ghost use Rattle.call_bodies.specs.Calls.{DoesCall, MeetsCall};
+ghost use Rattle.call_bodies.specs.Given.{IsGiven};
 
-use crate::open_files::{dup, fstat};
-use crate::whole::{statfs, sync};
+use bodies::open_files::{dup, fstat};
+use bodies::reading::read;
+use bodies::seeking::seek;
+use bodies::whole::{statfs, sync};
+use closing::close;
 use descriptors::Descriptors;
 use errno::Errno;
 use layout::Geometry;
+use listing::readdir;
+use name_bodies::{rmdir, unlink};
+use node_bodies::{chmod, chown, stat, utime};
+use std::alloc::Global;
 use store::{Blocks, Cut, Halt};
-use tree::{Call, MAX_SESSIONS, Reply, Who};
+use tree::{Call, MAX_SESSIONS, Reply, User, Who};
+
+/// The user who calls.
+fn user_of(who: Who) -> User
+    ensures { result ≡ user_of who }
+{
+    User {
+        uid: who.uid,
+        gid: who.gid,
+    }
+}
 
 /// The call by its kind.
 fn perform<B: Blocks>(
+    alloc: Global,
     blocks: &mut B,
     opens: &mut Descriptors,
     geometry: &Geometry,
@@ -34,13 +54,28 @@ fn perform<B: Blocks>(
     ensures halt { IfErr result (λ h. IsHalt B.world blocks.new h) }
     ensures proper { IfOk result (λ r. answer_of r ≢ refused Errno.EIO) }
 {
-    let _time = now;
     if who.session >= MAX_SESSIONS {
         return Ok(Reply::Refused(Errno::EINVAL));
     }
+    let session = who.session;
+    let user = user_of(who);
     match *call {
-        Call::Dup { fd } => Ok(dup(opens, who.session, fd)),
-        Call::Fstat { fd } => fstat(blocks, opens, geometry, who.session, fd),
+        Call::Close { fd } => close(blocks, opens, geometry, session, fd),
+        Call::Dup { fd } => Ok(dup(opens, session, fd)),
+        Call::Read { fd, count } => read(alloc, blocks, opens, geometry, session, fd, count),
+        Call::Seek { fd, whence, offset } => {
+            seek(blocks, opens, geometry, session, fd, whence, offset)
+        }
+        Call::Stat { path } => stat(blocks, geometry, user, path),
+        Call::Fstat { fd } => fstat(blocks, opens, geometry, session, fd),
+        Call::Unlink { path } => unlink(blocks, opens, geometry, user, now, path),
+        Call::Rmdir { path } => rmdir(blocks, opens, geometry, user, now, path),
+        Call::Chmod { path, mode } => chmod(blocks, geometry, user, now, path, mode),
+        Call::Chown { path, uid, gid } => chown(blocks, geometry, user, now, path, uid, gid),
+        Call::Utime { path, atime, mtime } => {
+            utime(blocks, geometry, user, now, path, atime, mtime)
+        }
+        Call::Readdir { fd } => readdir(alloc, blocks, opens, geometry, session, fd),
         Call::Sync => sync(blocks, geometry),
         Call::Statfs => statfs(blocks, geometry),
         _ => unreachable!(),
@@ -49,8 +84,9 @@ fn perform<B: Blocks>(
 
 /// Does a client call. EINVAL where the session isn't one that may be, before anything else is looked at. EIO is never answered, and
 /// after a sync that succeeded all that was changed is written. A volume that turns out not to be sound holds no tree; the call is
-/// refused with EINVAL then.
+/// refused with EINVAL then. Read and readdir take memory for their answer, and no other call takes any.
 pub fn body<B: Blocks>(
+    alloc: Global,
     blocks: &mut B,
     opens: &mut Descriptors,
     geometry: &Geometry,
@@ -66,7 +102,7 @@ pub fn body<B: Blocks>(
     ensures cut { IfErr result (λ c. B.world.over blocks.new c) }
     ensures proper { IfOk result (λ r. answer_of r ≢ refused Errno.EIO) }
 {
-    match perform(blocks, opens, geometry, who, now, call) {
+    match perform(alloc, blocks, opens, geometry, who, now, call) {
         Ok(reply) => Ok(reply),
         Err(Halt::Cut(cut)) => Err(cut),
         Err(Halt::Unsound) => Ok(Reply::Refused(Errno::EINVAL)),

@@ -1,7 +1,7 @@
 //! A file server over a link: what every one keeps, so that whoever moves its link needs to know nothing else of it.
 #![tactic(auto)]
 
-ghost use Rattle.std.specs.Prelude.{◌≡◌, ◌≤◌, ◌<◌, ◌+◌, ◌^◌, ℕ, min};
+ghost use Rattle.std.specs.Prelude.{◌≡◌, ◌≤◌, ◌<◌, ◌+◌, ◌^◌, ℕ, min, false};
 ghost use Rattle.std.specs.Borrow.{Lends, sem};
 ghost use Rattle.tree.specs.declared.Call.{Call as TreeCall};
 ghost use Rattle.reissue.specs.Room.{room_needed};
@@ -17,7 +17,8 @@ use tree::{Call, Outcome, Who};
 /// A file server over a link of this type.
 ///
 /// Its link is lent out between two calls: whoever owns its type may change it then, as long as it was told and gave nothing more.
-/// What goes on in the link goes on through each call, so that its owner finds his own state again.
+/// What goes on in the link goes on through each call, so that its owner finds his own state again. While the link hasn't ended it gives
+/// no more messages after a call than before.
 pub trait FileServer<L: Link + Drop>: Serve + Drop {
     // the calls that it knows how to answer: a whole file server knows each
     ghost knows: { TreeCall → Type 0 };
@@ -41,7 +42,7 @@ pub trait FileServer<L: Link + Drop>: Serve + Drop {
         ensures keeps { CallsOver (Self.serving self.old) (Self.serving self.new) (L.truth (line self.old)) (L.truth (line self.new))
             who now call.now (outcome_of result) }
         ensures goes { L.goes_on (line self.old) (line self.new) }
-        ensures budget { L.budget_left (line self.new) ≤ L.budget_left (line self.old) }
+        ensures budget { (Self.serving self.new).ended ≡ false → L.budget_left (line self.new) ≤ L.budget_left (line self.old) }
         ensures absorbed { absorbed self.new ≡ absorbed self.old };
 
     /// One message between two calls, which its link has noted. End has no effect.
@@ -52,7 +53,7 @@ pub trait FileServer<L: Link + Drop>: Serve + Drop {
         ensures ready { is_ready self.new }
         ensures keeps { AbsorbsOver (Self.serving self.old) (Self.serving self.new) (L.truth (line self.old)) (L.truth (line self.new)) message }
         ensures goes { L.goes_on (line self.old) (line self.new) }
-        ensures budget { L.budget_left (line self.new) ≤ L.budget_left (line self.old) }
+        ensures budget { (Self.serving self.new).ended ≡ false → L.budget_left (line self.new) ≤ L.budget_left (line self.old) }
         ensures absorbed { absorbed self.new ≤ absorbed self.old + 1 };
 
     /// The link.

@@ -5,7 +5,8 @@ ghost use Rattle.std.specs.Prelude.{◌≡◌, ◌<◌, ◌≤◌, Ok, IfErr, On
 ghost use Rattle.cache.specs.Calls.{caching, held_by, frame_count, IsReady, IsLive, IsStuck, IsWhyCut, IsFrame, PostsAlone, Does, Keeps};
 ghost use Rattle.cache.specs.Calls.{LinkGoesOn, WantsFlush};
 ghost use Rattle.reissue.specs.Transfers.{begun_in};
-ghost use Rattle.cache.specs.Takes.{messages_left, NoReadBegun};
+ghost use Rattle.cache.specs.Calls.{messages_left};
+ghost use Rattle.cache.specs.Takes.{NoReadBegun};
 ghost use Rattle.cache.specs.Edits.{AllClean, SomeUnclean};
 ghost use Rattle.cache.specs.declared.slots.Frame.{Frame};
 ghost use Rattle.flusher.specs.Flushing.{WritesLowest, IsIdle, Syncs};

@@ -402,7 +402,7 @@ range_none minor start size bytes t told was none = record {
   went = went_none minor t told was none;
   below = λ marks h unread. record { each = λ place lt. (refl, refl) };
   beyond = λ marks h unread. record { each = λ place le. unread.each place (omega (arith, le)) };
-  end = tt;
+  end = (refl, refl);
 }
 
 -- where nothing was begun all is as before

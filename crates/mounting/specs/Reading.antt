@@ -97,12 +97,13 @@ pub record IsCutShort (start size : ℕ) (marks : List Mark) : Type 0 where
   pub to : place < start + size
   pub unread : is_read marks place ≡ false
 
--- how the reading of a range ended: with all its bytes, and nothing pending; for want of memory; with the device given up; with the link's end
+-- how the reading of a range ended: with all its bytes, and nothing pending; for want of memory, before anything was done; with the device
+-- given up; with the link's end
 abbrev pub IsRangeEnd : Result (Unit {0}) Stop → ℕ → ℕ → List ℕ → Table → Table → List Act → List Told → Type 0
 IsRangeEnd (Ok u) start size bytes old new acts after =
     (took_end after ≡ false) × (new.given_up ≡ false) × (new.pending ≡ [])
     × ((marks : List Mark) → Agrees old marks → (k : ℕ) → k < size → IsFilled marks (marks_after acts marks) (start + k) (slice_index bytes k))
-IsRangeEnd (Err OutOfMemory) start size bytes old new acts after = Unit {0}
+IsRangeEnd (Err OutOfMemory) start size bytes old new acts after = (acts ≡ []) × (new ≡ old)
 IsRangeEnd (Err GaveUp) start size bytes old new acts after =
     (took_end after ≡ false) × (new.given_up ≡ true)
     × ((marks : List Mark) → Agrees old marks → IsUnread start marks → IsCutShort start size (marks_after acts marks))

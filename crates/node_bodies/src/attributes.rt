@@ -1,7 +1,8 @@
 //! The calls on the attributes of a node.
 
-ghost use Rattle.std.specs.Prelude.{◌≡◌, ℕ, IfErr};
+ghost use Rattle.std.specs.Prelude.{◌≡◌, ◌≢◌, ℕ, IfOk, IfErr};
 ghost use Rattle.tree.specs.Tree.{Tree};
+ghost use Rattle.tree.specs.Answers.{answer_of, refused};
 ghost use Rattle.tree.specs.NodeCalls.{stat, chmod, chown, utime};
 ghost use Rattle.descriptors.specs.Files.{Files, HasFiles};
 ghost use Rattle.store.specs.World.{Turns};
@@ -28,6 +29,7 @@ pub fn stat<B: Blocks>(
     ensures turns { Turns B.world blocks.old blocks.new (λ d e. (f : Files) →
         Meets geometry.now (λ t. stat t user path.now) result (HasFiles f) (HasFiles f) d e) }
     ensures halt { IfErr result (λ h. IsHalt B.world blocks.new h) }
+    ensures proper { IfOk result (λ r. answer_of r ≢ refused Errno.EIO) }
 {
     match find_node(blocks, geometry, user, path)? {
         Ok((number, inode)) => {
@@ -53,6 +55,7 @@ pub fn chmod<B: Blocks>(
     ensures turns { Turns B.world blocks.old blocks.new (λ d e. (f : Files) →
         Meets geometry.now (λ t. chmod t user now path.now mode) result (HasFiles f) (HasFiles f) d e) }
     ensures halt { IfErr result (λ h. IsHalt B.world blocks.new h) }
+    ensures proper { IfOk result (λ r. answer_of r ≢ refused Errno.EIO) }
 {
     if mode > MAX_PERMISSIONS {
         return Ok(Reply::Refused(Errno::EINVAL));
@@ -85,6 +88,7 @@ pub fn chown<B: Blocks>(
     ensures turns { Turns B.world blocks.old blocks.new (λ d e. (f : Files) →
         Meets geometry.now (λ t. chown t user now path.now uid gid) result (HasFiles f) (HasFiles f) d e) }
     ensures halt { IfErr result (λ h. IsHalt B.world blocks.new h) }
+    ensures proper { IfOk result (λ r. answer_of r ≢ refused Errno.EIO) }
 {
     match find_node(blocks, geometry, user, path)? {
         Ok((number, mut inode)) => {
@@ -115,6 +119,7 @@ pub fn utime<B: Blocks>(
     ensures turns { Turns B.world blocks.old blocks.new (λ d e. (f : Files) →
         Meets geometry.now (λ t. utime t user now path.now atime mtime) result (HasFiles f) (HasFiles f) d e) }
     ensures halt { IfErr result (λ h. IsHalt B.world blocks.new h) }
+    ensures proper { IfOk result (λ r. answer_of r ≢ refused Errno.EIO) }
 {
     match find_node(blocks, geometry, user, path)? {
         Ok((number, mut inode)) => {

@@ -1,6 +1,6 @@
 //! The node to which a path leads.
 
-ghost use Rattle.std.specs.Prelude.{IfErr};
+ghost use Rattle.std.specs.Prelude.{◌≢◌, IfErr, IfOk};
 ghost use Rattle.store.specs.World.{Reads};
 ghost use Rattle.store.specs.Volume.{IsOn};
 ghost use Rattle.store.specs.Halts.{IsHalt, Ends};
@@ -25,6 +25,7 @@ fn named<B: Blocks>(
     ensures reads { Reads B.world blocks.old blocks.new (λ d. Ends result
         (λ r. Names geometry.now d user path.now r) (IsVolume geometry.now d)) }
     ensures halt { IfErr result (λ h. IsHalt B.world blocks.new h) }
+    ensures proper { IfOk result (λ r. IfErr r (λ e. e ≢ Errno.EIO)) }
 {
     let path = match Path::parse(path) {
         Ok(path) => path,
@@ -48,6 +49,7 @@ pub(crate) fn find_node<B: Blocks>(
     ensures reads { Reads B.world blocks.old blocks.new (λ d. Ends result
         (λ r. Finds geometry.now d user path.now r) (IsVolume geometry.now d)) }
     ensures halt { IfErr result (λ h. IsHalt B.world blocks.new h) }
+    ensures proper { IfOk result (λ r. IfErr r (λ e. e ≢ Errno.EIO)) }
 {
     match named(blocks, geometry, user, path)? {
         Ok(number) => Ok(Ok((number, load(blocks, geometry, number)?))),

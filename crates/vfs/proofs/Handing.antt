@@ -1,5 +1,5 @@
 -- What a message that is handed over to a server over a cache keeps.
-use Rattle.std.proofs.Common.{◌≡◌, ℕ, ◌<◌, List, [], ◌∷◌, ◌++◌, Bool, true, false, refl, sym, ◌∙◌, ap, subst, Some, None}
+use Rattle.std.proofs.Common.{◌≡◌, ℕ, ◌<◌, List, [], ◌∷◌, ◌++◌, false, refl, sym, ◌∙◌, ap, subst, Some}
 use Rattle.std.specs.Prelude.{is_some, Option}
 use Rattle.layout.specs.declared.Geometry.{Geometry}
 use Rattle.message.specs.declared.Incoming.{Incoming}
@@ -19,11 +19,12 @@ use Rattle.reissue.specs.Moves.{state_after}
 use Rattle.reissue.proofs.TableRules.{at_rest}
 use Rattle.cache.specs.Calls.{Caching, Runs, Serves as Stays, HandsOver}
 use Rattle.cache.specs.Laws.{LeadsBy}
-use Rattle.cache.specs.Frames.{CacheAgrees, frames_of, view}
-use Rattle.cache.proofs.Runs.{runs_as, true_before}
+use Rattle.cache.specs.Frames.{frames_of}
+use Rattle.cache.proofs.Runs.{true_before}
 use Rattle.cache.proofs.Leading.{leads_by}
 use Rattle.descriptors.specs.Files.{Files, HasFiles}
-use Rattle.vfs.specs.Server.{IsServer, server_of, AbsorbsOn}
+use Rattle.file_server.specs.Over.{AbsorbsOver}
+use Rattle.vfs.specs.Server.{IsServer, server_of}
 use Rattle.vfs.proofs.Keeping.{tree_acts, legal_acts, gone_acts, not_true, never, view_of, covers_of}
 
 module _ (g : Geometry) (a b : Caching) (n k : ℕ) (many : k ≡ n) (f : Files) (m : Incoming) (sized : a.size ≡ g.block_size) (some : 0 < g.block_size)
@@ -49,6 +50,7 @@ module _ (g : Geometry) (a b : Caching) (n k : ℕ) (many : k ≡ n) (f : Files)
     minor = x.minor;
     size = x.size;
     ended = x.ended;
+    left = x.left;
     ids = x.ids;
     agrees = x.agrees;
     ends = x.ends;
@@ -133,7 +135,7 @@ module _ (g : Geometry) (a b : Caching) (n k : ℕ) (many : k ≡ n) (f : Files)
     serves = serves;
   }
 
-  pub handed : AbsorbsOn s t a.truth b.truth m
+  pub handed : AbsorbsOver s t a.truth b.truth m
   handed = record {
     keeps = kept;
     truth = λ v tree marks minor k was. subst (λ (ms : List Mark). b.truth v ms) (sym (grows marks k.table)) (x.truth v marks k.table minor was);

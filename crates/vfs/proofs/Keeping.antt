@@ -1,6 +1,6 @@
 -- What a call of a server over a cache keeps.
-use Rattle.std.proofs.Common.{◌≡◌, ◌≢◌, ℕ, ◌<◌, List, [], ◌∷◌, ◌++◌, Bool, true, false, cond, refl, sym, ◌∙◌, ap, subst, inl, inr, Some, None}
-use Rattle.std.specs.Prelude.{◌||◌, ◌&&◌, ◌⊎◌, IsTrue, Option, is_some}
+use Rattle.std.proofs.Common.{◌≡◌, ◌≢◌, ℕ, ◌<◌, List, [], ◌∷◌, Bool, true, false, cond, refl, sym, ◌∙◌, ap, subst, inl, inr, None}
+use Rattle.std.specs.Prelude.{IsTrue, Option, is_some}
 use Rattle.errno.specs.declared.Errno.TheVariants.{EIO}
 use Rattle.layout.specs.declared.Geometry.{Geometry}
 use Rattle.message.specs.declared.Incoming.{Incoming}
@@ -15,19 +15,19 @@ use Rattle.volume.specs.Holds.{HoldsVolume}
 use Rattle.marks.specs.Marks.{Mark, Answered, Took, gave_up}
 use Rattle.marks.specs.Open.{counts}
 use Rattle.marks.specs.Disk.{Contents, HasTrueReplies}
-use Rattle.marks.specs.Told.{Told, Posted, Complained, Received, received, grown, took_end}
-use Rattle.marks.specs.Acts.{Act, Began, Absorbed, AtLink, told_of, marks_after}
-use Rattle.legal.specs.Legal.{IsLegal, IsLegalTook, IsLegalCall, is_sync, tree_after, tree_after_answer}
-use Rattle.legal.specs.View.{server_view, IsCovered, ReadsBack, Frames}
-use Rattle.legal.specs.ServerCall.{Serving, HasTree, Serves, Leads as ServerLeads, Rules, has_open_file, Outcome, Replied, Cut, with_outcome, CallKeeps}
+use Rattle.marks.specs.Told.{Posted, Complained, Received, received, grown, took_end}
+use Rattle.marks.specs.Acts.{Act, Began, Absorbed, AtLink, marks_after}
+use Rattle.legal.specs.Legal.{IsLegal, IsLegalTook, is_sync, tree_after, tree_after_answer}
+use Rattle.legal.specs.View.{server_view, IsCovered}
+use Rattle.legal.specs.ServerCall.{Serving, Serves, Replied, Cut, CallKeeps}
 use Rattle.reissue.specs.Agrees.{Agrees}
-use Rattle.reissue.specs.Moves.{state_after, DiskState}
+use Rattle.reissue.specs.Moves.{state_after}
 use Rattle.reissue.proofs.TableRules.{at_rest}
 use Rattle.reissue.proofs.Taking.{agrees_took}
 use Rattle.cache.specs.Calls.{Caching, Runs}
-use Rattle.cache.specs.Laws.{IsOver, LeadsBy}
+use Rattle.cache.specs.Laws.{LeadsBy}
 use Rattle.cache.specs.Frames.{CacheAgrees, frames_of, view}
-use Rattle.cache.proofs.Runs.{runs_as, true_before}
+use Rattle.cache.proofs.Runs.{true_before}
 use Rattle.cache.proofs.Leading.{leads_by}
 use Rattle.cache.proofs.ReadingBack.{frames_read_back}
 use Rattle.stored.specs.World.{Leads, Sees}
@@ -35,9 +35,10 @@ use Rattle.flusher.proofs.Flushing.{synced}
 use Rattle.cache.specs.Edits.{AllClean}
 use Rattle.legal.specs.Legal.{is_success, IsSynced}
 use Rattle.descriptors.specs.Files.{Files, HasFiles}
-use Rattle.bodies.specs.Calls.{IsDone, DoesCall}
+use Rattle.call_bodies.specs.Calls.{IsDone, DoesCall}
 use Rattle.marks.specs.Opening.{Opening, contents_at}
-use Rattle.vfs.specs.Server.{IsServer, server_of, CallsOn}
+use Rattle.file_server.specs.Over.{CallsOver}
+use Rattle.vfs.specs.Server.{IsServer, server_of}
 
 -- ---- acts leave the tree and a legal record (as in the crate `serve`)
 
@@ -148,6 +149,7 @@ module _ (g : Geometry) (a b : Caching) (n m : ℕ) (many : m ≡ n) (p q : File
     minor = x.minor;
     size = x.size;
     ended = x.ended;
+    left = x.left;
     ids = x.ids;
     agrees = x.agrees;
     ends = x.ends;
@@ -299,7 +301,7 @@ module _ (g : Geometry) (a b : Caching) (n m : ℕ) (many : m ≡ n) (p q : File
     pub answered : CallKeeps s who now call (Replied answer) t
     answered = answered_by
 
-    pub calls_answered : CallsOn s t a.truth b.truth who now call (Replied answer)
+    pub calls_answered : CallsOver s t a.truth b.truth who now call (Replied answer)
     calls_answered = record { keeps = answered_by; truth = heard }
 
   -- a call that is cut, or answered EIO
@@ -362,8 +364,8 @@ module _ (g : Geometry) (a b : Caching) (n m : ℕ) (many : m ≡ n) (p q : File
     pub was_eio : b.ended ≡ false → b.table.given_up ≡ true → CallKeeps s who now call (Replied (refused EIO)) t
     was_eio live gone = was_eio_by live gone
 
-    pub calls_cut : b.ended ≡ true → CallsOn s t a.truth b.truth who now call Cut
+    pub calls_cut : b.ended ≡ true → CallsOver s t a.truth b.truth who now call Cut
     calls_cut end = record { keeps = was_cut_by end; truth = heard }
 
-    pub calls_eio : b.ended ≡ false → b.table.given_up ≡ true → CallsOn s t a.truth b.truth who now call (Replied (refused EIO))
+    pub calls_eio : b.ended ≡ false → b.table.given_up ≡ true → CallsOver s t a.truth b.truth who now call (Replied (refused EIO))
     calls_eio live gone = record { keeps = was_eio_by live gone; truth = heard }

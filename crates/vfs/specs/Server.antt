@@ -1,5 +1,5 @@
 -- A server over a cache, as contracts see it.
-use Rattle.std.specs.Prelude.{◌≡◌, ℕ, List, [], ◌∷◌, ◌++◌, false}
+use Rattle.std.specs.Prelude.{◌≡◌, ◌≤◌, ℕ, ◌+◌, List, length, false}
 use Rattle.layout.specs.declared.Geometry.{Geometry}
 use Rattle.layout.specs.Places.{IsGeometry}
 use Rattle.tree.specs.declared.Who.{Who}
@@ -7,21 +7,19 @@ use Rattle.tree.specs.declared.Call.{Call}
 use Rattle.tree.specs.Tree.{Tree}
 use Rattle.marks.specs.Marks.{Mark, gave_up}
 use Rattle.marks.specs.Disk.{Contents, HasTrueReplies}
-use Rattle.marks.specs.Told.{took_end, received}
+use Rattle.marks.specs.Told.{took_end}
 use Rattle.message.specs.declared.Incoming.{Incoming}
-use Rattle.marks.specs.Opening.{Opening, contents_at}
-use Rattle.marks.specs.Acts.{Absorbed, marks_after}
 use Rattle.legal.specs.Legal.{tree_after}
-use Rattle.legal.specs.ServerCall.{Serving, Outcome, CallKeeps, AbsorbKeeps}
-use Rattle.reissue.specs.Calls.{Truth}
+use Rattle.legal.specs.ServerCall.{Serving, Outcome}
+use Rattle.file_server.specs.Over.{CallsOver, AbsorbsOver}
 use Rattle.reissue.specs.Agrees.{Agrees}
 use Rattle.reissue.specs.Moves.{state_after}
 use Rattle.reissue.specs.Rules.{outbox_of}
-use Rattle.cache.specs.Calls.{Caching, IsReady}
+use Rattle.cache.specs.Calls.{Caching, IsReady, messages_left}
 use Rattle.cache.specs.Frames.{CacheAgrees, frames_of}
 use Rattle.descriptors.specs.Files.{Files, HasFiles}
 use Rattle.descriptors.specs.Table.{files_of}
-use Rattle.bodies.specs.Calls.{is_busy}
+use Rattle.call_bodies.specs.Calls.{is_busy}
 use Rattle.vfs.specs.declared.server.Server.{Server}
 
 -- calls may be made, on a cache for a volume of this geometry
@@ -51,6 +49,11 @@ server_of g c frames f = record {
   ended = c.ended;
 }
 
+-- Messages were taken from those that were left, and each spent an id at most, as did those that were handed over.
+pub record Spends (handed : ℕ) (old new : Caching) : Type 0 where
+  pub left : messages_left new ≤ messages_left old
+  pub ids : new.table.ids + messages_left new + length old.table.pending ≤ old.table.ids + messages_left old + length new.table.pending + handed
+
 -- a server as contracts see it, by what is said of its blocks
 abbrev pub serving : {B : Type 0} → (B → Caching) → (B → ℕ) → Server B → Serving
 serving caching frame_count s = server_of s.geometry (caching s.blocks) (frame_count s.blocks) (files_of s.opens)
@@ -59,24 +62,12 @@ serving caching frame_count s = server_of s.geometry (caching s.blocks) (frame_c
 abbrev pub IsOpen : {B : Type 0} → (B → Caching) → Server B → Type 0
 IsOpen caching s = MayServe s.geometry (caching s.blocks)
 
--- One call, and what its link guarantees: of a record that the server agrees with it guarantees as much after the call's acts.
-pub record CallsOn (old new : Serving) (was is : Truth) (who : Who) (now : ℕ) (call : Call) (outcome : Outcome) : Type 0 where
-  pub keeps : CallKeeps old who now call outcome new
-  pub truth : (v : Opening) (tree : Tree) (marks : List Mark) → v.minor ≡ old.minor → old.Agrees (contents_at v) tree marks
-      → was v marks → is v (marks_after keeps.acts marks)
-
--- One message between two calls: the link has noted it, so its guarantee is of the record with it.
-pub record AbsorbsOn (old new : Serving) (was is : Truth) (message : Incoming) : Type 0 where
-  pub keeps : AbsorbKeeps old message new
-  pub truth : (v : Opening) (tree : Tree) (marks : List Mark) → v.minor ≡ old.minor → old.Agrees (contents_at v) tree marks
-      → was v (received message marks) → is v (marks_after (keeps.later ++ Absorbed message ∷ []) marks)
-
 -- one call of a server over the blocks of a cache
 abbrev pub Answers : {B : Type 0} → (B → Caching) → (B → ℕ) → Server B → Server B → Who → ℕ → Call → Outcome → Type 0
 Answers caching frame_count old new who now call outcome =
-    CallsOn (serving caching frame_count old) (serving caching frame_count new) (caching old.blocks).truth (caching new.blocks).truth who now call outcome
+    CallsOver (serving caching frame_count old) (serving caching frame_count new) (caching old.blocks).truth (caching new.blocks).truth who now call outcome
 
 -- one message that is handed over to it
 abbrev pub Absorbs : {B : Type 0} → (B → Caching) → (B → ℕ) → Server B → Server B → Incoming → Type 0
 Absorbs caching frame_count old new message =
-    AbsorbsOn (serving caching frame_count old) (serving caching frame_count new) (caching old.blocks).truth (caching new.blocks).truth message
+    AbsorbsOver (serving caching frame_count old) (serving caching frame_count new) (caching old.blocks).truth (caching new.blocks).truth message

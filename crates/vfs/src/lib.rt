@@ -1,6 +1,8 @@
 //! The file server of one volume, over the frames of a cache.
 #![tactic(auto)]
 
+pub mod opening;
+pub mod over_link;
 pub mod server;
 
 pub use server::Server;

@@ -1,27 +1,31 @@
 //! A file server: what is common to all calls.
 
-ghost use Rattle.std.specs.Prelude.{◌≡◌, false};
+ghost use Rattle.std.specs.Prelude.{◌≡◌, ◌<◌, ◌+◌, ◌^◌, false};
 ghost use Rattle.vfs.specs.Outcomes.{stopped};
 
-use bodies::calls::body;
+use call_bodies::body;
 use descriptors::Descriptors;
 use errno::Errno;
 use layout::Geometry;
 use legal::Serve;
 use message::Incoming;
+use std::alloc::Global;
 use store::Cut;
 use stored::Caches;
 use tree::{Call, Outcome, Reply, Who};
 
-/// A file server of one volume, over blocks that have a cache.
+/// A file server of one volume, over blocks that have a cache, and the memory that it takes for answers of read and readdir.
 ///
 /// Once a take gave End each call is cut, and once the device was given up each is answered EIO; neither does anything at the link. A
 /// Flush that is taken in a call is done when the call's work is finished, before it is answered.
 #[derive(Drop)]
 pub struct Server<B> {
-    blocks: B,
-    geometry: Geometry,
-    opens: Descriptors,
+    pub(crate) alloc: Global,
+    pub(crate) blocks: B,
+    pub(crate) geometry: Geometry,
+    pub(crate) opens: Descriptors,
+    // How many messages it was handed between two calls.
+    pub(crate) absorbed: u64,
 }
 
 /// What a call that is cut off gives back.
@@ -35,10 +39,11 @@ fn stop(cut: Cut) -> Outcome
 }
 
 impl<B: Caches> Server<B> {
-    ghost use Rattle.bodies.specs.Calls.{IsGiven};
+    ghost use Rattle.call_bodies.specs.Given.{IsGiven};
     ghost use Rattle.stored.specs.Cached.{MayAbsorb};
-    ghost use Rattle.vfs.specs.Outcomes.{outcome_of, OnAnswered};
-    ghost use Rattle.vfs.specs.Server.{IsOpen, Answers, Absorbs};
+    ghost use Rattle.file_server.specs.Over.{outcome_of};
+    ghost use Rattle.vfs.specs.Outcomes.{OnAnswered};
+    ghost use Rattle.vfs.specs.Server.{IsOpen, Answers, Absorbs, Spends};
 
     /// Answers a client call, with the time in seconds since 1970. Cut once a take gave End, else EIO once the device was given up. No
     /// Flush is left undone where the call is answered otherwise.
@@ -49,11 +54,14 @@ impl<B: Caches> Server<B> {
         ensures calls { Answers B.caching B.frame_count self.old self.new who now call.now (outcome_of result) }
         ensures goes { B.goes_on self.old.blocks self.new.blocks }
         ensures flushed { OnAnswered (outcome_of result) (B.wanted self.new.blocks ≡ false) }
+        ensures spends { Spends 0 (B.caching self.old.blocks) (B.caching self.new.blocks) }
+        ensures absorbed { self.new.absorbed ≡ self.old.absorbed }
     {
         if let Err(cut) = self.blocks.live() {
             return stop(cut);
         }
         let reply = match body(
+            self.alloc,
             &mut self.blocks,
             &mut self.opens,
             &self.geometry,
@@ -76,12 +84,23 @@ impl<B: Caches> Server<B> {
     pub fn absorb(&mut self, message: Incoming)
         requires open { IsOpen B.caching self.old }
         requires may { MayAbsorb message (B.caching self.old.blocks) }
+        requires few { self.old.absorbed < 2 ^ 48 }
         ensures open { IsOpen B.caching self.new }
         ensures absorbs { Absorbs B.caching B.frame_count self.old self.new message }
         ensures goes { B.goes_on self.old.blocks self.new.blocks }
         ensures flushed { message ≡ Incoming.Flush → B.wanted self.new.blocks ≡ false }
+        ensures spends { Spends 1 (B.caching self.old.blocks) (B.caching self.new.blocks) }
+        ensures absorbed { self.new.absorbed ≡ self.old.absorbed + 1 }
     {
+        self.absorbed += 1;
         self.blocks.absorb(message);
+    }
+
+    /// How many messages it was handed between two calls.
+    pub fn absorbed(&self) -> u64
+        ensures { result ≡ self.now.absorbed }
+    {
+        self.absorbed
     }
 }
 

@@ -2,7 +2,8 @@ use Rattle.std.proofs.Common.{◌≡◌}
 use Rattle.reissue.specs.Entries.{pending_of}
 use Rattle.cache.specs.declared.slots.Frame.{Frame}
 use Rattle.cache.specs.Calls.{caching, frame_count, Keeps, IsFrame, LinkGoesOn, WantsFlush}
-use Rattle.cache.specs.Takes.{messages_left, NoReadBegun}
+use Rattle.cache.specs.Calls.{messages_left}
+use Rattle.cache.specs.Takes.{NoReadBegun}
 use Rattle.flusher.proofs.write_all.Given as goal
 
 abbrev pub invariant-messages : goal.invariant-messages

@@ -3,8 +3,8 @@ use Rattle.errno.specs.declared.Errno.TheVariants.{EINVAL}
 use Rattle.tree.specs.Answers.{refused}
 use Rattle.descriptors.specs.Table.{files_of}
 use Rattle.store.proofs.Turns.{turns_as}
-use Rattle.bodies.proofs.Effects.{call_unsound, unsound_is}
-use Rattle.bodies.proofs.calls.body.Goals as goal
+use Rattle.call_bodies.proofs.Effects.{call_unsound, unsound_is}
+use Rattle.call_bodies.proofs.calls.body.Goals as goal
 
 pub returns-in-Err-Unsound-clause-turns : goal.returns-in-Err-Unsound-clause-turns
 returns-in-Err-Unsound-clause-turns g c =

@@ -1,14 +1,16 @@
-use Rattle.std.proofs.Common.{◌≡◌, ◌<◌, sym, subst, refl, Ok, arith}
-use Rattle.tree.specs.declared.Call.{Call}
-use Rattle.tree.specs.declared.Call.TheVariants.{Dup, Fstat, Sync, Statfs}
-use Rattle.tree.specs.NodeCalls.{statfs}
-use Rattle.tree.specs.FileCalls.{dup, fstat}
+use Rattle.std.proofs.Common.{◌≡◌, ap, sym, refl, Ok, w64, to_z, of_z, rules}
+use mir.Val.{SFits}
+use Rattle.std.proofs.lemmas.Int.{to_z-of_z}
+use Rattle.tree.specs.declared.User.{User}
+use Rattle.tree.specs.declared.Call.TheVariants.{Close, Unlink, Rmdir, Dup, Read, Seek, Stat, Fstat, Chmod, Chown, Utime, Readdir, Sync, Statfs}
+use Rattle.tree.specs.NodeCalls.{stat, chmod, chown, utime, statfs}
+use Rattle.tree.specs.FileCalls.{close, dup, read, seek, fstat, readdir}
+use Rattle.tree.specs.NameCalls.{unlink, rmdir}
 use Rattle.tree.specs.Answers.{done}
 use Rattle.descriptors.specs.Table.{files_of}
 use Rattle.store.proofs.Turns.{turns_none, turns_as}
-use Rattle.bodies.specs.Calls.{MeetsCall}
-use Rattle.bodies.proofs.Effects.{call_late, call_meets}
-use Rattle.bodies.proofs.calls.perform.Goals as goal
+use Rattle.call_bodies.proofs.Effects.{call_late, kind_meets, kind_meets_or_lacks}
+use Rattle.call_bodies.proofs.calls.perform.Goals as goal
 
 pub returns-then-who-ge-MAX_SESSIONS-clause-turns : goal.returns-then-who-ge-MAX_SESSIONS-clause-turns
 returns-then-who-ge-MAX_SESSIONS-clause-turns g c =
@@ -16,31 +18,102 @@ returns-then-who-ge-MAX_SESSIONS-clause-turns g c =
     turns_as _ _ _ _ _ (λ d e same. call_late a.geometry.now a.who a.now a.call.now (files_of a.opens.now) d e c.if-who-ge-MAX_SESSIONS.true same)
     (turns_none _ g.met.B.Blocks.lawful _ c.requires.on.ready)
 
+pub returns-in-Dup-clause-turns : goal.returns-in-Dup-clause-turns
+returns-in-Dup-clause-turns g c =
+    let a = c.args in let f = files_of a.opens.now in let w = c.in-Dup in let early = c.if-who-ge-MAX_SESSIONS.false in
+    let h = files_of c.dup.new.opens in
+    turns_as _ _ _ _ _ (λ d e same. kind_meets a.geometry.now a.who a.now (Dup w.fd) early (λ t. dup t a.who.session w.fd) (λ t. refl) a.call.now w.is (Ok c.dup.result) f h d e
+    (c.dup.ensures.does a.geometry.now d e same))
+    (turns_none _ g.met.B.Blocks.lawful _ c.requires.on.ready)
+
+pub returns-in-Read-clause-turns : goal.returns-in-Read-clause-turns
+returns-in-Read-clause-turns g c =
+    let a = c.args in let f = files_of a.opens.now in let w = c.in-Read in let early = c.if-who-ge-MAX_SESSIONS.false in
+    turns_as _ _ _ _ _ (λ d e x. kind_meets_or_lacks a.geometry.now a.who a.now (Read w.fd w.count) early (λ t. read t a.who.session w.fd w.count)
+    (λ t. refl) a.call.now w.is refl c.read.result f (files_of c.read.new.opens) d e x)
+    c.read.ensures.turns
+
+pub returns-in-Seek-clause-turns : goal.returns-in-Seek-clause-turns
+returns-in-Seek-clause-turns g c =
+    let a = c.args in let f = files_of a.opens.now in let w = c.in-Seek in let early = c.if-who-ge-MAX_SESSIONS.false in
+    let fits : SFits w64 w.offset = search rules in
+    turns_as _ _ _ _ _ (λ d e x. kind_meets a.geometry.now a.who a.now (Seek w.fd w.whence w.offset) early (λ t. seek t a.who.session w.fd w.whence (to_z w64 (of_z w64 w.offset)))
+    (λ t. ap (λ z. seek t a.who.session w.fd w.whence z) (sym (to_z-of_z w64 w.offset fits))) a.call.now w.is c.seek.result f (files_of c.seek.new.opens) d e x)
+    c.seek.ensures.turns
+
+pub returns-in-Stat-clause-turns : goal.returns-in-Stat-clause-turns
+returns-in-Stat-clause-turns g c =
+    let a = c.args in let f = files_of a.opens.now in let w = c.in-Stat in let early = c.if-who-ge-MAX_SESSIONS.false in
+    turns_as _ _ _ _ _ (λ d e x. kind_meets a.geometry.now a.who a.now (Stat w.path) early (λ t. stat t c.user_of-user.result w.path.now)
+    (λ t. ap (λ (u : User). stat t u w.path.now) (sym c.user_of-user.ensures)) a.call.now w.is c.stat.result f f d e (x f))
+    c.stat.ensures.turns
+
 pub returns-in-Fstat-clause-turns : goal.returns-in-Fstat-clause-turns
 returns-in-Fstat-clause-turns g c =
-    let a = c.args in let f = files_of a.opens.now in let w = c.in-Fstat in
-    turns_as _ _ _ _ _ (λ d e x. subst (λ (k : Call). MeetsCall a.geometry.now a.who a.now k c.fstat.result f f d e) (sym w.is)
-    (call_meets a.geometry.now a.who a.now (Fstat w.fd) c.if-who-ge-MAX_SESSIONS.false (λ t. fstat t a.who.session w.fd) (λ t. refl) c.fstat.result f f d e x))
+    let a = c.args in let f = files_of a.opens.now in let w = c.in-Fstat in let early = c.if-who-ge-MAX_SESSIONS.false in
+    turns_as _ _ _ _ _ (λ d e x. kind_meets a.geometry.now a.who a.now (Fstat w.fd) early (λ t. fstat t a.who.session w.fd)
+    (λ t. refl) a.call.now w.is c.fstat.result f f d e x)
     c.fstat.ensures.turns
+
+pub returns-in-Chmod-clause-turns : goal.returns-in-Chmod-clause-turns
+returns-in-Chmod-clause-turns g c =
+    let a = c.args in let f = files_of a.opens.now in let w = c.in-Chmod in let early = c.if-who-ge-MAX_SESSIONS.false in
+    turns_as _ _ _ _ _ (λ d e x. kind_meets a.geometry.now a.who a.now (Chmod w.path w.mode) early (λ t. chmod t c.user_of-user.result a.now w.path.now w.mode)
+    (λ t. ap (λ (u : User). chmod t u a.now w.path.now w.mode) (sym c.user_of-user.ensures)) a.call.now w.is c.chmod.result f f d e (x f))
+    c.chmod.ensures.turns
+
+pub returns-in-Chown-clause-turns : goal.returns-in-Chown-clause-turns
+returns-in-Chown-clause-turns g c =
+    let a = c.args in let f = files_of a.opens.now in let w = c.in-Chown in let early = c.if-who-ge-MAX_SESSIONS.false in
+    turns_as _ _ _ _ _ (λ d e x. kind_meets a.geometry.now a.who a.now (Chown w.path w.uid w.gid) early (λ t. chown t c.user_of-user.result a.now w.path.now w.uid w.gid)
+    (λ t. ap (λ (u : User). chown t u a.now w.path.now w.uid w.gid) (sym c.user_of-user.ensures)) a.call.now w.is c.chown.result f f d e (x f))
+    c.chown.ensures.turns
+
+pub returns-in-Utime-clause-turns : goal.returns-in-Utime-clause-turns
+returns-in-Utime-clause-turns g c =
+    let a = c.args in let f = files_of a.opens.now in let w = c.in-Utime in let early = c.if-who-ge-MAX_SESSIONS.false in
+    turns_as _ _ _ _ _ (λ d e x. kind_meets a.geometry.now a.who a.now (Utime w.path w.atime w.mtime) early (λ t. utime t c.user_of-user.result a.now w.path.now w.atime w.mtime)
+    (λ t. ap (λ (u : User). utime t u a.now w.path.now w.atime w.mtime) (sym c.user_of-user.ensures)) a.call.now w.is c.utime.result f f d e (x f))
+    c.utime.ensures.turns
+
+pub returns-in-Readdir-clause-turns : goal.returns-in-Readdir-clause-turns
+returns-in-Readdir-clause-turns g c =
+    let a = c.args in let f = files_of a.opens.now in let w = c.in-Readdir in let early = c.if-who-ge-MAX_SESSIONS.false in
+    turns_as _ _ _ _ _ (λ d e x. kind_meets_or_lacks a.geometry.now a.who a.now (Readdir w.fd) early (λ t. readdir t a.who.session w.fd)
+    (λ t. refl) a.call.now w.is refl c.readdir.result f f d e x)
+    c.readdir.ensures.turns
 
 pub returns-in-Sync-clause-turns : goal.returns-in-Sync-clause-turns
 returns-in-Sync-clause-turns g c =
-    let a = c.args in let f = files_of a.opens.now in
-    turns_as _ _ _ _ _ (λ d e x. subst (λ (k : Call). MeetsCall a.geometry.now a.who a.now k c.sync.result f f d e) (sym c.in-Sync.is)
-    (call_meets a.geometry.now a.who a.now Sync c.if-who-ge-MAX_SESSIONS.false (λ t. Ok (done, t)) (λ t. refl) c.sync.result f f d e (x f)))
+    let a = c.args in let f = files_of a.opens.now in let w = c.in-Sync in let early = c.if-who-ge-MAX_SESSIONS.false in
+    turns_as _ _ _ _ _ (λ d e x. kind_meets a.geometry.now a.who a.now Sync early (λ t. Ok (done, t))
+    (λ t. refl) a.call.now w.is c.sync.result f f d e (x f))
     c.sync.ensures.turns
 
 pub returns-in-Statfs-clause-turns : goal.returns-in-Statfs-clause-turns
 returns-in-Statfs-clause-turns g c =
-    let a = c.args in let f = files_of a.opens.now in
-    turns_as _ _ _ _ _ (λ d e x. subst (λ (k : Call). MeetsCall a.geometry.now a.who a.now k c.statfs.result f f d e) (sym c.in-Statfs.is)
-    (call_meets a.geometry.now a.who a.now Statfs c.if-who-ge-MAX_SESSIONS.false (λ t. statfs a.geometry.now t) (λ t. refl) c.statfs.result f f d e (x f)))
+    let a = c.args in let f = files_of a.opens.now in let w = c.in-Statfs in let early = c.if-who-ge-MAX_SESSIONS.false in
+    turns_as _ _ _ _ _ (λ d e x. kind_meets a.geometry.now a.who a.now Statfs early (λ t. statfs a.geometry.now t)
+    (λ t. refl) a.call.now w.is c.statfs.result f f d e (x f))
     c.statfs.ensures.turns
 
-pub returns-in-Dup-clause-turns : goal.returns-in-Dup-clause-turns
-returns-in-Dup-clause-turns g c =
-    let a = c.args in let f = files_of a.opens.now in let h = files_of c.dup.new.opens in let w = c.in-Dup in
-    turns_as _ _ _ _ _ (λ d e same. subst (λ (k : Call). MeetsCall a.geometry.now a.who a.now k (Ok c.dup.result) f h d e) (sym w.is)
-    (call_meets a.geometry.now a.who a.now (Dup w.fd) c.if-who-ge-MAX_SESSIONS.false (λ t. dup t a.who.session w.fd) (λ t. refl) (Ok c.dup.result) f h d e
-    (c.dup.ensures.does a.geometry.now d e same)))
-    (turns_none _ g.met.B.Blocks.lawful _ c.requires.on.ready)
+pub returns-in-Close-clause-turns : goal.returns-in-Close-clause-turns
+returns-in-Close-clause-turns g c =
+    let a = c.args in let f = files_of a.opens.now in let w = c.in-Close in let early = c.if-who-ge-MAX_SESSIONS.false in
+    turns_as _ _ _ _ _ (λ d e x. kind_meets a.geometry.now a.who a.now (Close w.fd) early (λ t. close t a.who.session w.fd)
+    (λ t. refl) a.call.now w.is c.close.result f (files_of c.close.new.opens) d e x)
+    c.close.ensures.turns
+
+pub returns-in-Unlink-clause-turns : goal.returns-in-Unlink-clause-turns
+returns-in-Unlink-clause-turns g c =
+    let a = c.args in let f = files_of a.opens.now in let w = c.in-Unlink in let early = c.if-who-ge-MAX_SESSIONS.false in
+    turns_as _ _ _ _ _ (λ d e x. kind_meets a.geometry.now a.who a.now (Unlink w.path) early (λ t. unlink t c.user_of-user.result a.now w.path.now)
+    (λ t. ap (λ (u : User). unlink t u a.now w.path.now) (sym c.user_of-user.ensures)) a.call.now w.is c.unlink.result f f d e x)
+    c.unlink.ensures.turns
+
+pub returns-in-Rmdir-clause-turns : goal.returns-in-Rmdir-clause-turns
+returns-in-Rmdir-clause-turns g c =
+    let a = c.args in let f = files_of a.opens.now in let w = c.in-Rmdir in let early = c.if-who-ge-MAX_SESSIONS.false in
+    turns_as _ _ _ _ _ (λ d e x. kind_meets a.geometry.now a.who a.now (Rmdir w.path) early (λ t. rmdir t c.user_of-user.result a.now w.path.now)
+    (λ t. ap (λ (u : User). rmdir t u a.now w.path.now) (sym c.user_of-user.ensures)) a.call.now w.is c.rmdir.result f f d e x)
+    c.rmdir.ensures.turns

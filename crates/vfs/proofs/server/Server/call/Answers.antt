@@ -1,9 +1,10 @@
-use Rattle.std.proofs.Common.{◌≡◌, refl, sym, subst}
+use Rattle.std.proofs.Common.{sym, subst}
 use Rattle.volume.specs.Reading.{Disk}
 use Rattle.tree.specs.Answers.{answer_of}
 use Rattle.store.proofs.Turns.{turns_then}
 use Rattle.descriptors.specs.Table.{files_of}
-use Rattle.bodies.specs.Calls.{DoesCall}
+use Rattle.call_bodies.specs.Calls.{DoesCall}
+use Rattle.vfs.proofs.Spending.{spends_none, spends_on}
 use Rattle.vfs.proofs.Ending.{stopped_at_once, stopped_later, ends_well}
 use Rattle.vfs.proofs.server.Server.call.Goals as goal
 
@@ -58,3 +59,24 @@ returns-clause-calls g c =
     (k.leads s.blocks b whole.leads) (k.live b c.in_default-live.ensures.live) c.args.who c.args.now c.args.call.now answer c.in-Ok.ensures.proper
     (λ is ok. c.flush_wanted.ensures.clean (k.synced c.body.new.blocks (c.in-Ok.ensures.synced is ok)))
     (λ d e x. whole.related d e (k.sees s.blocks b d e x))
+
+pub returns-in-Err-clause-spends : goal.returns-in-Err-clause-spends
+returns-in-Err-clause-spends g c = spends_none _
+
+pub returns-in-Err-body-clause-spends : goal.returns-in-Err-body-clause-spends
+returns-in-Err-body-clause-spends g c =
+    spends_on _ _ (g.met.B.Caches.is_cached.leads c.args.self.now.blocks c.body.new.blocks c.body.ensures.turns.leads)
+
+pub returns-in-Err-live-clause-spends : goal.returns-in-Err-live-clause-spends
+returns-in-Err-live-clause-spends g c =
+    let b = c.flush_wanted.new.self in
+    let s = c.args.self.now in
+    spends_on _ _ (g.met.B.Caches.is_cached.leads s.blocks b
+    (g.met.B.Blocks.lawful.chain s.blocks c.body.new.blocks b c.body.ensures.turns.leads c.flush_wanted.ensures.turns.leads))
+
+pub returns-clause-spends : goal.returns-clause-spends
+returns-clause-spends g c =
+    let b = c.flush_wanted.new.self in
+    let s = c.args.self.now in
+    spends_on _ _ (g.met.B.Caches.is_cached.leads s.blocks b
+    (g.met.B.Blocks.lawful.chain s.blocks c.body.new.blocks b c.body.ensures.turns.leads c.flush_wanted.ensures.turns.leads))

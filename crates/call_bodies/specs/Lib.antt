@@ -1,0 +1,3 @@
+-- What a client call does on a volume, and the calls that have a body.
+pub mod Calls
+pub mod Given

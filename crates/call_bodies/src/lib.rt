@@ -1,0 +1,6 @@
+//! The body of each client call, by its kind, over any blocks.
+#![tactic(auto)]
+
+mod calls;
+
+pub use calls::body;

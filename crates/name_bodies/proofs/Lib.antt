@@ -1,0 +1,4 @@
+pub mod Meaning
+pub mod Standing
+pub mod Unlinking
+pub mod Going

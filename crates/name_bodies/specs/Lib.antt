@@ -1,0 +1,2 @@
+-- Client calls on names.
+pub mod Names

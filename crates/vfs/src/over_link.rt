@@ -1,0 +1,50 @@
+//! The server over a link, as a file server of all calls that have a body.
+
+ghost use Rattle.call_bodies.specs.Given.{IsGiven};
+ghost use Rattle.vfs.specs.OverLink.{IsReadyOver, line_of as link_there, with_line as with_link_there};
+
+use crate::server::Server;
+use file_server::FileServer;
+use message::Incoming;
+use reissue::Link;
+use stored::Stored;
+use tree::{Call, Outcome, Who};
+
+impl<L: Link + Drop> FileServer<L> for Server<Stored<L>> {
+    ghost use Rattle.std.specs.Prelude.{refl};
+    ghost use Rattle.vfs.specs.LineLaws.{stays_by, ready_by};
+
+    ghost knows = { IsGiven };
+
+    ghost line = { link_there };
+
+    ghost with_line = { with_link_there };
+
+    ghost absorbed = { λ s. s.absorbed };
+
+    ghost is_ready = { IsReadyOver L.Link };
+
+    fn call(&mut self, who: Who, now: u32, call: &Call) -> Outcome {
+        self.call(who, now, call)
+    }
+
+    fn absorb(&mut self, message: Incoming) {
+        self.absorb(message);
+    }
+
+    fn link(&self) -> &L {
+        self.blocks.link()
+    }
+
+    fn link_mut(&mut self) -> &mut L {
+        self.blocks.link_mut()
+    }
+
+    ghost is_there = { λ s l. refl };
+
+    ghost counts_on = { λ s l. refl };
+
+    ghost stays = { stays_by L.Link.own };
+
+    ghost stays_ready = { ready_by L.Link.own };
+}
