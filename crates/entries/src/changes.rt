@@ -16,8 +16,9 @@ use store::{Blocks, Halt};
 use tree::MAX_SIZE;
 
 /// Gives a directory a name more, of 1 to 60 bytes, that leads to an inode: it stands last, and the directory is 64 bytes longer. Zones
-/// enough are asked for before, by `file::has_room` of 64 bytes at its size. Its times become `now`, in seconds. Unsound where the volume
-/// isn't sound, or the directory is as long as a file may be.
+/// enough are asked for before, by `file::has_room` of 64 bytes at its size. Its times become `now`, in seconds. Unsound only where the
+/// volume isn't sound, the inode is no directory's, the name stands in it or is none, it leads to inode 0, the directory is as long as a
+/// file may be, or there are too few zones.
 pub fn insert<B: Blocks>(
     blocks: &mut B,
     geometry: &Geometry,
@@ -47,7 +48,8 @@ pub fn insert<B: Blocks>(
     stamp(blocks, geometry, directory, now)
 }
 
-/// Gives a directory another parent: its entry `..` leads there. Its times stay. Unsound where the volume isn't sound.
+/// Gives a directory another parent: its entry `..` leads there. Its times stay. Unsound only where the volume
+/// isn't sound, the inode is no directory's, or the parent is inode 0.
 pub fn set_parent<B: Blocks>(
     blocks: &mut B,
     geometry: &Geometry,
@@ -62,7 +64,7 @@ pub fn set_parent<B: Blocks>(
     write_at(blocks, geometry, directory, 64, &parent.to_le_bytes())
 }
 
-/// The number of the entry of a directory that has a name. Unsound where none has it.
+/// The number of the entry of a directory that has a name. Unsound only where none has it, or the volume isn't sound.
 pub(crate) fn place_of<B: Blocks>(
     blocks: &mut B,
     geometry: &Geometry,
@@ -87,8 +89,8 @@ pub(crate) fn place_of<B: Blocks>(
     }
 }
 
-/// Makes a name of a directory lead to another inode. Its times become `now`, in seconds. Unsound where the volume isn't sound, or the
-/// directory hasn't the name.
+/// Makes a name of a directory lead to another inode. Its times become `now`, in seconds. Unsound only where the volume isn't
+/// sound, the directory hasn't the name, or it is to lead to inode 0.
 pub fn replace<B: Blocks>(
     blocks: &mut B,
     geometry: &Geometry,

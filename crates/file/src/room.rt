@@ -15,8 +15,8 @@ use store::{Blocks, Halt};
 use zone::room::need;
 
 /// How many zones more the file of an inode takes when `count` bytes from a place on are written into it: those of the pages that
-/// they touch and that aren't held yet, and of the indirect blocks on the way to them. Nothing is changed. Unsound where the number
-/// is no inode's.
+/// they touch and that aren't held yet, and of the indirect blocks on the way to them. Nothing is changed. Unsound only where the
+/// number is no inode's.
 pub fn zones_for<B: Blocks>(
     blocks: &mut B,
     geometry: &Geometry,
@@ -39,7 +39,7 @@ pub fn zones_for<B: Blocks>(
 }
 
 /// Whether there are zones enough for `count` bytes from a place on to be written into the file of an inode, as `zones_for` counts
-/// them, and for `others` zones beside. Nothing is changed. Unsound where the number is no inode's.
+/// them, and for `others` zones beside. Nothing is changed. Unsound only where the number is no inode's.
 pub fn has_room_beside<B: Blocks>(
     blocks: &mut B,
     geometry: &Geometry,
@@ -61,7 +61,7 @@ pub fn has_room_beside<B: Blocks>(
 }
 
 /// Whether there are zones enough for `count` bytes from a place on to be written into the file of an inode, as `zones_for` counts
-/// them. Nothing is changed. Unsound where the number is no inode's.
+/// them. Nothing is changed. Unsound only where the number is no inode's.
 pub fn has_room<B: Blocks>(
     blocks: &mut B,
     geometry: &Geometry,
