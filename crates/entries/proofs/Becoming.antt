@@ -54,7 +54,7 @@ made_of i body = record {
 }
 
 -- what the file of a directory becomes, as a body
-body_is : (g : Geometry) (w : Pieces) (n parent : ℕ) (names : Names) (i : Inode) (f : File) → is_directory_mode i.mode ≡ true → file_of g w (w.inodes n) ≡ f
+pub body_is : (g : Geometry) (w : Pieces) (n parent : ℕ) (names : Names) (i : Inode) (f : File) → is_directory_mode i.mode ≡ true → file_of g w (w.inodes n) ≡ f
     → IsDirectoryOf g w n parent names → body_from i f ≡ is_directory (record { parent = parent; names = names })
 body_is g w n parent names i f mode file is =
     cond-true (is_directory_mode i.mode) (is_directory (said_by f)) (is_file f) mode

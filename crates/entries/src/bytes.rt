@@ -2,6 +2,7 @@
 
 ghost use Rattle.std.specs.Prelude.{◌≡◌, ◌≤◌, ◌+◌, ℕ, length, slice_index};
 ghost use Rattle.entry_laws.specs.Files.{IsEntryBytes};
+ghost use Rattle.entries.specs.First.{AreFirstEntries};
 ghost use Rattle.store.specs.Rows.{with_bytes};
 ghost use Rattle.entries.specs.Places.{IsNameBytes};
 
@@ -31,5 +32,15 @@ pub(crate) fn name_bytes(name: &[u8]) -> [u8; 60]
 {
     let mut bytes = [0; 60];
     put(&mut bytes, 0, name);
+    bytes
+}
+
+/// The 128 bytes of a directory without names: `.` leads to it, `..` to its parent.
+pub fn first_entries(number: u32, parent: u32) -> [u8; 128]
+    ensures { AreFirstEntries result number parent }
+{
+    let mut bytes = [0; 128];
+    put(&mut bytes, 0, &entry_bytes(number, b"."));
+    put(&mut bytes, 64, &entry_bytes(parent, b".."));
     bytes
 }
