@@ -1,20 +1,17 @@
 -- Names of directories, and links.
-use Rattle.std.proofs.Common.{◌≡◌, ◌≤◌, ◌-◌, ℕ, Bool, true, false, refl, sym, ap, subst, ◌∙◌, arith, Some, None}
-use Rattle.std.specs.Prelude.{IsTrue, Option}
+use Rattle.std.proofs.Common.{◌≡◌, ◌-◌, ℕ, true, false, refl, sym, ap, subst, ◌∙◌, arith, Some}
 use Rattle.layout.specs.declared.Geometry.{Geometry}
 use Rattle.layout.specs.Places.{IsGeometry}
-use Rattle.tree.specs.Sums.{one_if, put}
 use Rattle.tree.specs.Names.{Name, Names, without_name}
 use Rattle.tree.specs.Tree.{Body, is_file, is_directory, Node, Tree, is_dir, on_node, with_node}
-use Rattle.tree.specs.Changes.{fewer_links, more_links, with_ctime, with_link_lost, with_names}
+use Rattle.tree.specs.Changes.{fewer_links, with_link_lost, with_names}
 use Rattle.tree.proofs.Maps.{put-same}
 use Rattle.volume.specs.Reading.{Disk}
-use Rattle.volume.specs.Pieces.{Pieces, pieces}
+use Rattle.volume.specs.Pieces.{pieces}
 use Rattle.entries.specs.Names.{HasName}
 use Rattle.entries.specs.Removal.{Removes}
-use Rattle.node_steps.specs.Steps.{BecomesAt, DropsLink, IsOfNode, node_at}
-use Rattle.node_steps.proofs.Nodes.{put_back, put_twice}
-use Rattle.call_laws.specs.Stands.{Stands}
+use Rattle.node_steps.specs.Steps.{BecomesAt, DropsLink, IsOfNode}
+use Rattle.node_steps.proofs.Nodes.{put_back}
 use Rattle.call_laws.proofs.Between.{node_stands}
 use Rattle.call_laws.proofs.Entering.{name_is_there}
 use Rattle.moving.specs.Leads.{Leads, CanLead}

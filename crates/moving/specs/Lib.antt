@@ -1,3 +1,4 @@
 -- The steps of a rename.
 pub mod Leads
 pub mod Moves
+pub mod Whole
