@@ -3,3 +3,4 @@ pub mod Parents
 pub mod Putting
 pub mod Settling
 pub mod Whole
+pub mod Dropping

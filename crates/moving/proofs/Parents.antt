@@ -15,6 +15,7 @@ use Rattle.node_steps.proofs.Nodes.{put_back}
 use Rattle.call_laws.proofs.Between.{node_stands}
 use Rattle.call_laws.proofs.Entering.{name_is_there}
 use Rattle.moving.specs.Leads.{Leads, CanLead}
+use Rattle.moving.specs.Replaced.{IsFresh}
 use Rattle.moving.specs.Moves.{IsParent, MayTakeOut, taken_out}
 use Rattle.moving.proofs.Leading.{leads_then, leads_as, can_then, node_leads, becomes_at, changed_at}
 
@@ -26,12 +27,6 @@ names_kept now f x kind = by x.body kind
         → (is_dir (with_names now f (record x { body = b })) ≡ true) × ((with_names now f (record x { body = b })).ctime ≡ now) × ((with_names now f (record x { body = b })).links ≡ x.links)
     by (is_file file) h = let no : false ≡ true = h in cc
     by (is_directory d) h = (refl, refl, refl)
-
--- a directory that was changed at `now`
-pub record IsFresh (now n : ℕ) (t : Tree) : Type 0 where
-  pub node : Node
-  pub parent : IsParent t n node
-  pub time : node.ctime ≡ now
 
 module _ (g : Geometry) (ok : IsGeometry g) (n : ℕ) (now : ℕ) where
   -- its names changed

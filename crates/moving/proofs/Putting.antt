@@ -15,7 +15,8 @@ use Rattle.call_laws.proofs.Entering.{name_may_be_put}
 use Rattle.moving.specs.Leads.{Leads, CanLead}
 use Rattle.moving.specs.Moves.{MayPutIn, MayPutOver, with_entry_and_links}
 use Rattle.moving.proofs.Leading.{leads_then, leads_as, can_then, node_leads, becomes_at, changed_at}
-use Rattle.moving.proofs.Parents.{IsFresh, fresh_after, may_remove}
+use Rattle.moving.specs.Replaced.{IsFresh}
+use Rattle.moving.proofs.Parents.{fresh_after, may_remove}
 
 module _ (g : Geometry) (ok : IsGeometry g) (n : ℕ) (now : ℕ) where
   -- a link more

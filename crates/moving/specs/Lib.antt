@@ -2,3 +2,4 @@
 pub mod Leads
 pub mod Moves
 pub mod Whole
+pub mod Replaced
