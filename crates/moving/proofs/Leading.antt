@@ -1,8 +1,7 @@
 -- Steps that lead from tree to tree.
-use Rattle.std.proofs.Common.{◌≡◌, ℕ, sym, ap, subst, ◌∙◌, Some, None}
+use Rattle.std.proofs.Common.{◌≡◌, ℕ, sym, ap, subst, Some, None}
 use Rattle.std.specs.Prelude.{Option}
 use Rattle.layout.specs.declared.Geometry.{Geometry}
-use Rattle.tree.specs.Sums.{put}
 use Rattle.tree.specs.Tree.{Node, Tree, on_node, with_node}
 use Rattle.volume.specs.Reading.{Disk}
 use Rattle.volume.specs.Pieces.{Pieces, pieces}

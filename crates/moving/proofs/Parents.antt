@@ -1,23 +1,21 @@
 -- Names of directories, and links.
-use Rattle.std.proofs.Common.{◌≡◌, ◌≤◌, ◌-◌, ℕ, Bool, true, false, refl, sym, ap, subst, ◌∙◌, arith, Some, None}
-use Rattle.std.specs.Prelude.{IsTrue, Option}
+use Rattle.std.proofs.Common.{◌≡◌, ◌-◌, ℕ, true, false, refl, sym, ap, subst, ◌∙◌, arith, Some}
 use Rattle.layout.specs.declared.Geometry.{Geometry}
 use Rattle.layout.specs.Places.{IsGeometry}
-use Rattle.tree.specs.Sums.{one_if, put}
 use Rattle.tree.specs.Names.{Name, Names, without_name}
 use Rattle.tree.specs.Tree.{Body, is_file, is_directory, Node, Tree, is_dir, on_node, with_node}
-use Rattle.tree.specs.Changes.{fewer_links, more_links, with_ctime, with_link_lost, with_names}
+use Rattle.tree.specs.Changes.{fewer_links, with_link_lost, with_names}
 use Rattle.tree.proofs.Maps.{put-same}
 use Rattle.volume.specs.Reading.{Disk}
-use Rattle.volume.specs.Pieces.{Pieces, pieces}
+use Rattle.volume.specs.Pieces.{pieces}
 use Rattle.entries.specs.Names.{HasName}
 use Rattle.entries.specs.Removal.{Removes}
-use Rattle.node_steps.specs.Steps.{BecomesAt, DropsLink, IsOfNode, node_at}
-use Rattle.node_steps.proofs.Nodes.{put_back, put_twice}
-use Rattle.call_laws.specs.Stands.{Stands}
+use Rattle.node_steps.specs.Steps.{BecomesAt, DropsLink, IsOfNode}
+use Rattle.node_steps.proofs.Nodes.{put_back}
 use Rattle.call_laws.proofs.Between.{node_stands}
 use Rattle.call_laws.proofs.Entering.{name_is_there}
 use Rattle.moving.specs.Leads.{Leads, CanLead}
+use Rattle.moving.specs.Replaced.{IsFresh}
 use Rattle.moving.specs.Moves.{IsParent, MayTakeOut, taken_out}
 use Rattle.moving.proofs.Leading.{leads_then, leads_as, can_then, node_leads, becomes_at, changed_at}
 
@@ -29,12 +27,6 @@ names_kept now f x kind = by x.body kind
         → (is_dir (with_names now f (record x { body = b })) ≡ true) × ((with_names now f (record x { body = b })).ctime ≡ now) × ((with_names now f (record x { body = b })).links ≡ x.links)
     by (is_file file) h = let no : false ≡ true = h in cc
     by (is_directory d) h = (refl, refl, refl)
-
--- a directory that was changed at `now`
-pub record IsFresh (now n : ℕ) (t : Tree) : Type 0 where
-  pub node : Node
-  pub parent : IsParent t n node
-  pub time : node.ctime ≡ now
 
 module _ (g : Geometry) (ok : IsGeometry g) (n : ℕ) (now : ℕ) where
   -- its names changed

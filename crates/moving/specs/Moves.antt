@@ -27,8 +27,8 @@ pub record MayTakeOut (n : ℕ) (name : Name) (t : Tree) : Type 0 where
   pub has : IsTrue (has_name (names_of (Some node)) name)
 
 -- the tree in which a directory's name leads to an inode, and it has so many links more
-abbrev pub put_in : ℕ → ℕ → Name → ℕ → ℕ → Tree → Tree
-put_in now n name number links t = on_node (on_node t n (with_names now (λ names. with_name names name number))) n (more_links links)
+abbrev pub with_entry_and_links : ℕ → ℕ → Name → ℕ → ℕ → Tree → Tree
+with_entry_and_links now n name number links t = on_node (on_node t n (with_names now (λ names. with_name names name number))) n (more_links links)
 
 -- a directory that hasn't the name, and room for it
 pub record MayPutIn (g : Geometry) (now n : ℕ) (name : Name) (number : ℕ) (t : Tree) : Type 0 where
@@ -44,6 +44,15 @@ pub record MayPutIn (g : Geometry) (now n : ℕ) (name : Name) (number : ℕ) (t
 pub record MayPutOver (n : ℕ) (name : Name) (number : ℕ) (t : Tree) : Type 0 where
   pub out : MayTakeOut n name t
   pub some : number ≢ 0
+
+-- some node is there
+pub record IsThere (n : ℕ) (t : Tree) : Type 0 where
+  pub node : Node
+  pub there : t.nodes n ≡ Some node
+
+-- the tree in which it changed at `now`
+abbrev pub touched : ℕ → ℕ → Tree → Tree
+touched now n t = on_node t n (with_ctime now)
 
 -- the tree in which a node has another parent, if it is a directory, and changed at `now`
 abbrev pub settled : ℕ → ℕ → ℕ → Tree → Tree

@@ -2,6 +2,12 @@
 //! parent. No memory is taken.
 #![tactic(auto)]
 
+mod laws;
+mod moves;
+mod replaced;
 mod steps;
 
-pub use steps::take_out;
+pub use laws::moves_are_the_trees;
+pub use moves::{Move, move_over, move_to, move_within};
+pub use replaced::drop_replaced;
+pub use steps::{put_in, put_over, settle, take_out};

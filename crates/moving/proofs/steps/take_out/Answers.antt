@@ -1,4 +1,4 @@
-use Rattle.std.proofs.Common.{subst, sym, ap}
+use Rattle.std.proofs.Common.{subst, sym}
 use Rattle.tree.specs.Sums.{one_if}
 use Rattle.store.proofs.Turns.{turns_as, turns_then, ends_as}
 use Rattle.zone.proofs.Ending.{ends_exit}
