@@ -9,7 +9,6 @@ use Rattle.store.proofs.Rows.{row_new, row_old, number_written}
 use Rattle.tree.specs.Names.{dot, dot_dot}
 use Rattle.entry_laws.specs.Files.{IsEntryBytes}
 use Rattle.entries.specs.Places.{IsNameBytes}
-
 use Rattle.entries.specs.First.{AreFirstEntries}
 
 -- past its end a list has zeros
