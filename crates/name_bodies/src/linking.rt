@@ -114,7 +114,7 @@ fn has_room_for<B: Blocks>(blocks: &mut B, geometry: &Geometry, free: &Free) -> 
 }
 
 /// link: a file has a name more. In this order: the refusals of the old path and of the new, those of the walk to the file, EPERM of a
-/// directory, EMLINK, those of the walk to the new place, EEXIST where it is taken, EACCES of a directory that the user may not write, ENOSPC.
+/// directory, EMLINK, those of the walk to the place, EEXIST where it is taken, EACCES of a directory that the user may not write, ENOSPC.
 pub fn link<B: Blocks>(
     blocks: &mut B,
     geometry: &Geometry,

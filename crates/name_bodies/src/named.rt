@@ -64,7 +64,7 @@ pub(crate) fn place_of<'a, B: Blocks>(
 }
 
 /// The name at the end of a path, which has to lead to a node from a directory that the user may write: what unlink and rmdir begin with.
-/// In this order: the refusals of the path, EINVAL where it has no last name, those of the walk, ENOENT where there is no such name, EACCES.
+/// In this order: the refusals of the path, EINVAL where it has no last name, those of the walk, ENOENT where there is none, EACCES.
 pub(crate) fn find_name<'a, B: Blocks>(
     blocks: &mut B,
     geometry: &Geometry,
