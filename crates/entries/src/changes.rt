@@ -88,8 +88,8 @@ pub(crate) fn place_of<B: Blocks>(
     }
 }
 
-/// Makes a name of a directory lead to another inode; it stands where it stood. Its times become `now`, in seconds. Unsound where the volume isn't sound, or the
-/// directory hasn't the name.
+/// Makes a name of a directory lead to another inode; it stands where it stood. Its times become `now`, in seconds. Unsound where the
+/// volume isn't sound, or the directory hasn't the name.
 pub fn replace<B: Blocks>(
     blocks: &mut B,
     geometry: &Geometry,
