@@ -4,3 +4,4 @@ pub mod Putting
 pub mod Settling
 pub mod Whole
 pub mod Dropping
+pub mod Asked

@@ -3,3 +3,4 @@ pub mod Leads
 pub mod Moves
 pub mod Whole
 pub mod Replaced
+pub mod Asking

@@ -1,5 +1,6 @@
 //! Laws that lead from the moves to the client call.
 
+ghost use Rattle.moving.specs.Asking.{MoveToMayBeMade};
 ghost use Rattle.moving.specs.Replaced.{ReplacedIsReplaced};
 ghost use Rattle.moving.specs.Whole.{MovedIsMoved};
 
@@ -7,4 +8,9 @@ ghost use Rattle.moving.specs.Whole.{MovedIsMoved};
 pub fn moves_are_the_trees()
     ensures moved { MovedIsMoved }
     ensures replaced { ReplacedIsReplaced }
+{}
+
+/// The steps of a move to another directory may be made where the tree before them has what they ask.
+pub fn moves_may_be_made()
+    ensures { MoveToMayBeMade }
 {}

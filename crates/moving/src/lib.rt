@@ -7,7 +7,7 @@ mod moves;
 mod replaced;
 mod steps;
 
-pub use laws::moves_are_the_trees;
+pub use laws::{moves_are_the_trees, moves_may_be_made};
 pub use moves::{Move, move_over, move_to, move_within};
 pub use replaced::drop_replaced;
 pub use steps::{put_in, put_over, settle, take_out};

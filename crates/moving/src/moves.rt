@@ -36,7 +36,8 @@ pub fn move_to<B: Blocks>(blocks: &mut B, geometry: &Geometry, what: &Move) -> R
     requires on { IsOn B.world geometry.now blocks.old }
     requires named { 0 < length what.now.old.now }
     requires short { length what.now.new.now ≤ 60 }
-    ensures turns { Turns B.world blocks.old blocks.new (λ d e. Makes geometry.now (MayMoveTo geometry.now what.entry.now) (moved what.entry.now) result d e) }
+    ensures turns { Turns B.world blocks.old blocks.new (λ d e.
+        Makes geometry.now (MayMoveTo geometry.now what.entry.now) (moved what.entry.now) result d e) }
     ensures halt { IfErr result (λ h. IsHalt B.world blocks.new h) }
 {
     take_out(
@@ -71,7 +72,8 @@ pub fn move_over<B: Blocks>(blocks: &mut B, geometry: &Geometry, what: &Move) ->
     requires on { IsOn B.world geometry.now blocks.old }
     requires named { 0 < length what.now.old.now }
     requires over { 0 < length what.now.new.now }
-    ensures turns { Turns B.world blocks.old blocks.new (λ d e. Makes geometry.now (MayMoveOver what.entry.now) (moved what.entry.now) result d e) }
+    ensures turns { Turns B.world blocks.old blocks.new (λ d e.
+        Makes geometry.now (MayMoveOver what.entry.now) (moved what.entry.now) result d e) }
     ensures halt { IfErr result (λ h. IsHalt B.world blocks.new h) }
 {
     take_out(
@@ -106,7 +108,8 @@ pub fn move_within<B: Blocks>(blocks: &mut B, geometry: &Geometry, what: &Move) 
     requires on { IsOn B.world geometry.now blocks.old }
     requires named { 0 < length what.now.old.now }
     requires short { length what.now.new.now ≤ 60 }
-    ensures turns { Turns B.world blocks.old blocks.new (λ d e. Makes geometry.now (MayMoveWithin what.entry.now) (moved_within what.entry.now) result d e) }
+    ensures turns { Turns B.world blocks.old blocks.new (λ d e.
+        Makes geometry.now (MayMoveWithin what.entry.now) (moved_within what.entry.now) result d e) }
     ensures halt { IfErr result (λ h. IsHalt B.world blocks.new h) }
 {
     rename(blocks, geometry, what.from, what.old, what.new, what.now)?;

@@ -13,8 +13,8 @@ use layout::Geometry;
 use node_steps::{drop_link, free_node, lose_name};
 use store::{Blocks, Halt};
 
-/// Drops what lost its name to another, at `now`, in seconds. A file has a link less, and is gone where that was the last and it isn't open.
-/// A directory, which is empty, is gone, and its parent has a link less.
+/// Drops what lost its name to another, at `now`, in seconds. A file has a link less, and is gone where that was the last and it isn't
+/// open. A directory, which is empty, is gone, and its parent has a link less.
 pub fn drop_replaced<B: Blocks>(
     blocks: &mut B,
     opens: &Descriptors,

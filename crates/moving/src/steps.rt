@@ -37,8 +37,8 @@ pub fn take_out<B: Blocks>(
     drop_link(blocks, geometry, directory, now)
 }
 
-/// Puts a name that leads to an inode into a directory that hasn't it, at `now`, in seconds; where the inode is a directory's, the parent has
-/// a link more. Zones enough are asked for before.
+/// Puts a name that leads to an inode into a directory that hasn't it, at `now`, in seconds; where the inode is a directory's, the
+/// parent has a link more. Zones enough are asked for before.
 pub fn put_in<B: Blocks>(
     blocks: &mut B,
     geometry: &Geometry,
@@ -51,7 +51,8 @@ pub fn put_in<B: Blocks>(
     requires on { IsOn B.world geometry.now blocks.old }
     requires short { length name.now ≤ 60 }
     ensures turns { Turns B.world blocks.old blocks.new (λ d e.
-        Makes geometry.now (MayPutIn geometry.now now directory name.now number) (with_entry_and_links now directory name.now number (one_if is_directory)) result d e) }
+        Makes geometry.now (MayPutIn geometry.now now directory name.now number)
+        (with_entry_and_links now directory name.now number (one_if is_directory)) result d e) }
     ensures halt { IfErr result (λ h. IsHalt B.world blocks.new h) }
 {
     insert(blocks, geometry, directory, name, number, now)?;
@@ -74,7 +75,8 @@ pub fn put_over<B: Blocks>(
     requires on { IsOn B.world geometry.now blocks.old }
     requires named { 0 < length name.now }
     ensures turns { Turns B.world blocks.old blocks.new (λ d e.
-        Makes geometry.now (MayPutOver directory name.now number) (with_entry_and_links now directory name.now number (one_if is_directory)) result d e) }
+        Makes geometry.now (MayPutOver directory name.now number)
+        (with_entry_and_links now directory name.now number (one_if is_directory)) result d e) }
     ensures halt { IfErr result (λ h. IsHalt B.world blocks.new h) }
 {
     replace(blocks, geometry, directory, name, number, now)?;
