@@ -1,26 +1,23 @@
 -- What stands between the steps of a call.
-use Rattle.std.proofs.Common.{◌≡◌, ◌<◌, ◌≤◌, ◌*◌, ◌+◌, ◌-◌, ◌/◌, ◌%◌, ℕ, Bool, true, false, refl, sym, ap, subst, ◌∙◌, arith, length, Some, None}
+use Rattle.std.proofs.Common.{◌≡◌, ◌≤◌, ◌*◌, ◌+◌, ◌/◌, ◌%◌, ℕ, Bool, true, false, refl, sym, ap, ◌∙◌, arith, length}
 use mathlib.Core.Logic.{inl, inr}
-use Rattle.std.specs.Prelude.{IsTrue, Option, ◌==◌, if◌then◌else◌}
-use Rattle.std.proofs.lemmas.Bool.{and_from, and_parts, cases_Bool, cond-true, cond-false}
+use Rattle.std.specs.Prelude.{IsTrue, Option, if◌then◌else◌}
+use Rattle.std.proofs.lemmas.Bool.{and_from, cases_Bool, cond-true, cond-false}
 use Rattle.std.proofs.lemmas.Nat.{div_below}
 use Rattle.layout.specs.declared.Geometry.{Geometry}
 use Rattle.layout.specs.Places.{IsGeometry, is_block_size}
 use Rattle.layout.proofs.Parsed.{block_sizes}
 use Rattle.tree.specs.Sums.{put}
 use Rattle.tree.specs.Tree.{Body, Directory, Node, Tree, is_dir, is_directory, is_file, size_of}
-use Rattle.tree.proofs.Maps.{not_true}
 use Rattle.volume.specs.Reading.{Disk}
 use Rattle.volume.specs.Pieces.{Pieces, pieces}
-use Rattle.volume.specs.Nodes.{body_of, directory_of, file_of, is_directory_mode, is_marked, nodes_of}
-use Rattle.volume.specs.Entries.{is_directory_inode}
-use Rattle.volume.specs.Holds.{HasSuperblock, HoldsVolume, IsSound}
+use Rattle.volume.specs.Nodes.{directory_of, file_of, is_directory_mode, is_marked}
+use Rattle.volume.specs.Holds.{HasSuperblock, IsSound}
 use Rattle.volume_laws.proofs.NodesAs.{length_node, names_differ}
 use Rattle.zone.specs.Pages.{SameHead}
-use Rattle.entries.specs.Names.{IsOfDirectory}
-use Rattle.node_steps.specs.Steps.{BecomesAt, IsOfNode, node_at}
+use Rattle.node_steps.specs.Steps.{node_at}
 use Rattle.node_steps.proofs.Nodes.{node_is}
-use Rattle.call_laws.specs.Stands.{Stands, NothingIsDone, StepIsDone, NodeIs, NodeStands, DirectoryStands, HoldsAtEnd}
+use Rattle.call_laws.specs.Stands.{NothingIsDone, StepIsDone, NodeStands, DirectoryStands, HoldsAtEnd}
 
 pub nothing_is_done : NothingIsDone
 nothing_is_done g d t holds = record { head = λ b low. refl; sound = holds.nodes.sound; nodes = sym holds.nodes.nodes }

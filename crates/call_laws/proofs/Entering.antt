@@ -1,26 +1,26 @@
 -- A name more and a name less of a directory, and room for an entry.
-use Rattle.std.proofs.Common.{◌≡◌, ◌≢◌, ◌<◌, ◌≤◌, ◌+◌, ◌-◌, ◌*◌, ◌/◌, ℕ, Bool, true, false, List, length, Some, None, refl, sym, ap, subst, ◌∙◌, arith, cond, replicate}
+use Rattle.std.proofs.Common.{◌≡◌, ◌<◌, ◌≤◌, ◌+◌, ◌-◌, ◌*◌, ◌/◌, ℕ, Bool, true, false, List, length, Some, None, refl, sym, ap, subst, ◌∙◌, arith, replicate}
 use mathlib.Core.Logic.{inl, inr}
-use Rattle.std.specs.Prelude.{IsTrue, Option, ◌||◌, ◌&&◌, ◌==◌, not, nat_lt, if◌then◌else◌}
+use Rattle.std.specs.Prelude.{IsTrue, Option, ◌||◌, ◌&&◌, ◌==◌, not, nat_lt}
 use Rattle.std.proofs.lemmas.Bool.{and_parts, cases_eq, cases_lt, cond-true, eq-eqb, ne_eqb, lt-ltb, le-ltb, not_from_false}
 use Rattle.layout.specs.declared.Geometry.{Geometry}
 use Rattle.layout.specs.Places.{IsGeometry, is_block_size}
 use Rattle.tree.specs.Sums.{put}
 use Rattle.tree.specs.Names.{Name, Names, inode_of, with_name}
-use Rattle.tree.specs.Tree.{Body, Directory, Node, is_dir, is_directory, is_file, names_of, size_of}
+use Rattle.tree.specs.Tree.{Body, Node, is_dir, is_directory, is_file, names_of, size_of}
 use Rattle.tree.specs.Changes.{with_names}
 use Rattle.tree.specs.Space.{data_zones, held_of, pages_of}
 use Rattle.tree_laws.proofs.Totals.{weigh_one}
 use Rattle.tree_laws.proofs.Weights.{weigh_with_name}
 use Rattle.volume.specs.Reading.{Disk}
 use Rattle.volume.specs.Pieces.{Pieces, pieces}
-use Rattle.volume.specs.Nodes.{body_of, directory_of, file_of, is_directory_mode, is_marked, nodes_of, page_zone}
+use Rattle.volume.specs.Nodes.{directory_of, file_of, is_directory_mode, is_marked, nodes_of, page_zone}
 use Rattle.zone_laws.specs.Room.{taken_by}
 use Rattle.entry_laws.specs.Directories.{before}
 use Rattle.file.specs.Changing.{HasZonesFor, MayChange, written_at}
 use Rattle.file.proofs.Spaces.{room_is_space}
 use Rattle.directory.proofs.Pages.{each_size}
-use Rattle.entries.specs.Names.{HasName, IsOfDirectory, MayInsert}
+use Rattle.entries.specs.Names.{IsOfDirectory}
 use Rattle.entries.proofs.Becoming.{in_order, may_change}
 use Rattle.node_steps.specs.Steps.{node_at}
 use Rattle.call_laws.specs.Stands.{Stands}

@@ -114,3 +114,16 @@ never_starts b a e tick to d decides = (none_at_report b.policy b.watch b.watch.
 
 pub complaint_never_starts : {D : Type 0} (b a : ReincarnationState D) (e : Endpoint) (tick : ℕ) (to : Endpoint) (d : D) → Decides b (Complaint e tick) (Start to d) a → ⊥
 complaint_never_starts b a e tick to d decides = (none_at_report b.policy b.watch b.watch.phase e tick).none to (sym decides.keeps.does)
+
+-- a reincarnation server that was told nothing yet starts its first driver at tick 0
+starts_at_first : (policy : Policy) (watch : Watch) (n : ℕ) → watch ≡ restart.new_watch n → (on policy watch (Tick 0 (0, 0))).1 ≡ restart.Start (driver 1)
+starts_at_first policy watch n is = ap (λ (w : Watch). (on policy w (Tick 0 (0, 0))).1) is
+
+pub starts_first : {D : Type 0} (b a : ReincarnationState D) (answer : Action D) (n : ℕ) → b.watch ≡ restart.new_watch n → Decides b (Tick 0 (0, 0)) answer a
+    → (e : Endpoint) × (d : D) × (answer ≡ Start e d)
+starts_first b a answer n is decides = by answer (decides.keeps.does ∙ starts_at_first b.policy b.watch n is) where
+  by : {D : Type 0} (x : Action D) → action_of x ≡ restart.Start (driver 1) → (e : Endpoint) × (d : D) × (x ≡ Start e d)
+  by Nothing h = cc
+  by (WaitUntil tick) h = cc
+  by (Start e d) h = (e, d, refl)
+  by GiveUp h = cc

@@ -1,11 +1,14 @@
 -- The media and drivers as lists and slots, against the code's fields.
-use Rattle.std.proofs.Common.{◌≡◌, ℕ, zero, suc, ◌+◌, ◌<◌, List, [], ◌∷◌, ◌++◌, true, Option, Some, refl, sym, ◌∙◌, ap, subst, arith, length}
-use Rattle.std.specs.Prelude.{map, slice_get, slice_set, slice_index_or}
+use Rattle.std.proofs.Common.{◌≡◌, ℕ, zero, suc, ◌+◌, ◌<◌, List, [], ◌∷◌, ◌++◌, Bool, true, false, Option, Some, refl, sym, ◌∙◌, ap, subst, arith, length}
+use Rattle.std.specs.Prelude.{◌≤◌, ◌↔◌, map, slice_get, slice_set, slice_index_or, Result, Ok, Err, OnOk, OnErr}
+use Rattle.endpoint.specs.declared.Endpoint.{Endpoint}
 use Rattle.message.specs.declared.BlockRequest.{BlockRequest}
 use Rattle.media.specs.Contents.{MediaState}
 use Rattle.bdev.specs.declared.Step.{Step}
 use Rattle.schedule.specs.declared.Sent.{Sent}
-use Rattle.driver_events.specs.Disks.{Slot, Disks, SlotSteps, Steps, CurrentSteps, OlderSteps, IsOlder, sent_at, torn_media, dead_slot, Dies, CurrentDies, OlderDies, hung_slot, Hangs, OlderHangs, lined, LinesUpAgain, CurrentLinesUp, OlderLinesUp}
+use Rattle.reissue.specs.declared.link.LinkRefusal.{LinkRefusal}
+use Rattle.reissue.specs.declared.link.LinkRefusal.TheVariants.{DeadEndpoint, Full}
+use Rattle.driver_events.specs.Disks.{is_at, LinesUp, NoneIsThere, LineIsFull, IsLinedUp, lined_up, Slot, Disks, SlotSteps, Steps, CurrentSteps, OlderSteps, IsOlder, sent_at, torn_media, dead_slot, Dies, CurrentDies, OlderDies, hung_slot, Hangs, OlderHangs, lined, LinesUpAgain, CurrentLinesUp, OlderLinesUp}
 
 pub map_push : {A B : Type 0} (f : A → B) (xs : List A) (x : A) → map f (xs ++ x ∷ []) ≡ map f xs ++ f x ∷ []
 map_push f [] x = refl
@@ -108,3 +111,23 @@ older_lines {A} f units g r b at u x w v is number before low there again lent l
 -- the line after a push
 pub lined_slot : (s : Slot) (r : BlockRequest) (line : List BlockRequest) → line ≡ s.line ++ r ∷ [] → record s { line = line } ≡ lined r s
 lined_slot s r line is = ap (λ (l : List BlockRequest). record s { line = l }) is
+
+-- a post, by what came of it
+pub lines_up : (to : Endpoint) (r : BlockRequest) (b a : Disks) (result : Result Unit LinkRefusal) → ((result ≡ Err DeadEndpoint) ↔ (is_at to b ≡ false))
+    → ((result ≡ Err Full) ↔ ((is_at to b ≡ true) × (32 ≤ length b.current.line))) → OnOk result (a ≡ lined_up r b) → OnErr result (a ≡ b)
+    → LinesUp to r b result a
+lines_up to r b a (Ok tt) dead full lined refused = by (is_at to b) refl where
+  not_dead : ◌≡◌ {A = Result Unit LinkRefusal} (Ok tt) (Err DeadEndpoint) → ⊥
+  not_dead h = cc
+
+  not_full : ◌≡◌ {A = Result Unit LinkRefusal} (Ok tt) (Err Full) → ⊥
+  not_full h = cc
+
+  by : (there : Bool) → is_at to b ≡ there → LinesUp to r b (Ok tt) a
+  by false is = absurd (not_dead (dead.1 is))
+  by true is = subst (λ (d : Disks). LinesUp to r b (Ok tt) d) (sym lined) (IsLinedUp is (few (length b.current.line) (λ many. not_full (full.1 (is, many))))) where
+    few : (n : ℕ) → (32 ≤ n → ⊥) → n < 32
+    few n none = omega (arith, none)
+lines_up to r b a (Err DeadEndpoint) dead full lined refused = subst (λ (d : Disks). LinesUp to r b (Err DeadEndpoint) d) (sym refused) (NoneIsThere (dead.0 refl))
+lines_up to r b a (Err Full) dead full lined refused =
+    subst (λ (d : Disks). LinesUp to r b (Err Full) d) (sym refused) (LineIsFull (full.0 refl).0 (full.0 refl).1)

@@ -11,12 +11,13 @@ use Rattle.bdev.specs.declared.Step.{Step}
 use Rattle.bdev.specs.declared.Step.TheVariants.{Working, Idle, Done, Failed}
 use Rattle.message.specs.declared.Kind.{Kind}
 use Rattle.message.specs.declared.Kind.TheVariants.{Read, Write}
-use Rattle.bdev.specs.DriverState.{DriverState, Work, chunk}
+use Rattle.bdev.specs.DriverState.{DriverState, Work, chunk, fresh}
 use Rattle.bdev.specs.Promises.{StepKeeps, StepsAt as DriverStepsAt, MovesAtMostOne, MovesBytes, IsDriver}
 use Rattle.policy.specs.declared.Event.{Event as PolicyEvent}
 use Rattle.policy.specs.declared.Event.TheVariants as policy
 use Rattle.policy.specs.Watch as restart
-use Rattle.policy.specs.Watch.{driver, on}
+use Rattle.policy.specs.declared.Policy.{Policy}
+use Rattle.policy.specs.Watch.{Watch, driver, on}
 use Rattle.marks.specs.Marks.{Mark, Started, Answered, Flush, GaveUp, Fault, ChangesNothing}
 use Rattle.marks.specs.declared.Cause.{Cause}
 use Rattle.marks.specs.declared.Cause.TheVariants.{Exit, Hung}
@@ -30,8 +31,8 @@ use Rattle.inline.specs.Inline.{IsReady}
 use Rattle.inline.specs.Steps.{HandsOver}
 use Rattle.true_replies.specs.State.{State, state_of, Invariant}
 use Rattle.true_replies.specs.Posted.{IsSent, since_start}
-use Rattle.true_replies.specs.Events.{opening_media, sent_after, live_after, reply_of, Stepped, SteppedOlder, Torn, Dead, Replaced, Repeated, Delivered, Noted as AlsoNoted}
-use Rattle.true_replies.proofs.Keeps.{next_keeps}
+use Rattle.true_replies.specs.Events.{opening_media, IsOnMedia, sent_after, live_after, reply_of, Stepped, SteppedOlder, Torn, Dead, Replaced, Repeated, Delivered, Noted as AlsoNoted}
+use Rattle.true_replies.proofs.Keeps.{next_keeps, opening_holds}
 use Rattle.true_replies.proofs.Others.{handed_keeps}
 use Rattle.faultless.specs.Faultless.{without_faults}
 use Rattle.run_log.specs.declared.log.Entry.{Entry}
@@ -42,9 +43,9 @@ use Rattle.run_log.specs.Noted.{Noted, grouped, with_mark, with_entry}
 use Rattle.run_log.proofs.NotedLaws.{mark_in}
 use Rattle.driver_events.specs.declared.ruling.Ruling.{Ruling}
 use Rattle.driver_events.specs.declared.ruling.Ruling.TheVariants as ruling
-use Rattle.driver_events.specs.Disks.{Disks, seen, reply_in, sent_at, Steps, NoStep, CurrentSteps, OlderSteps, torn_media, Dies, NoneDies, CurrentDies, OlderDies, Hangs, NoneHangs, CurrentHangs, OlderHangs, LinesUpAgain, NoneLinesUp, CurrentLinesUp, OlderLinesUp, Repeats, started}
-use Rattle.driver_events.specs.Scene.{Scene, faulted, told_of_ruling, ruled, Exits, beaten, acted, told_of_action, tick_event, next_started, Ticks, AfterStep, AfterDeath, delivered}
-use Rattle.driver_events.specs.Kept.{DisksKept, IsPost, PostsKept, SceneKept, NotesAside, with_next, IsLatest, EventsKeep, EventsNoteAside}
+use Rattle.driver_events.specs.Disks.{Disks, seen, reply_in, sent_at, Steps, NoStep, CurrentSteps, OlderSteps, torn_media, Dies, NoneDies, CurrentDies, OlderDies, Hangs, NoneHangs, CurrentHangs, OlderHangs, LinesUpAgain, NoneLinesUp, CurrentLinesUp, OlderLinesUp, Repeats, started, opened_disks}
+use Rattle.driver_events.specs.Scene.{Scene, Opens, faulted, told_of_ruling, ruled, Exits, beaten, acted, told_of_action, tick_event, next_started, Ticks, AfterStep, AfterDeath, delivered}
+use Rattle.driver_events.specs.Kept.{DisksKept, IsPost, PostsKept, SceneKept, NotesAside, with_next, IsLatest, EventsKeep, EventsNoteAside, OpeningKeeps}
 use Rattle.driver_events.proofs.DisksLaws.{map_push}
 use Rattle.driver_events.proofs.Decided.{start_is_next}
 
@@ -443,3 +444,33 @@ events_note_aside place (event.Die g bytes) b a result p = after_death_aside p.d
 events_note_aside place (event.Hang g) b a result p = aside_by b a (record b { disks = p.disks }) p.after (aside_none b.noted)
 events_note_aside place (event.Deliver n) b a result p = aside_by b a b p.1 (aside_none b.noted)
 events_note_aside place (event.Repeat n) b a result p = aside_by b a (record b { disks = p.disks }) p.after (aside_none b.noted)
+
+-- a driver that isn't there could have done nothing yet
+before_first : (v : Opening) → IsOnMedia v → Fine v (state_of (opening_media v) (fresh []) false [] [] [])
+before_first v on = opening_holds v (state_of (opening_media v) (fresh []) false [] [] []) on (record {
+  media = refl;
+  driver = record { bad_is_few = omega arith; names_its_own = tt };
+  unused = refl;
+  live = refl;
+  line = refl;
+  sent = refl;
+  marks = refl;
+})
+
+opening_kept : (v : Opening) (s : Scene) (first : DriverState) (rest : List DriverState) → IsOnMedia v → All (IsReady v) (first ∷ rest)
+    → s.noted.posts ≡ [] → s.disks ≡ opened_disks (opening_media v) first → s.supply ≡ rest → SceneKept v s (Started (driver 1) ∷ [])
+opening_kept v s first rest on ready none disks supply =
+    let own : IsReady v first = ready zero first (omega arith) in
+    record {
+      disks = subst (λ (d : Disks). DisksKept v d (Started (driver 1) ∷ [])) (sym disks)
+          (next_keeps v (contents_at v) (opening_media v) (state_of (opening_media v) (fresh []) false [] [] []) _ (before_first v on)
+          (Replaced 1 first (omega arith) own.driver own.ready));
+      posts = subst (λ (l : List Post). PostsKept s.disks.media.generation l (Started (driver 1) ∷ [])) (sym none)
+          (record { before = λ p is. absurd is; since = λ p is at. absurd is });
+      supply = subst (λ (l : List DriverState). All (IsReady v) l) (sym supply) (λ i x low. ready (suc i) x (omega (arith, low)));
+    }
+
+pub opening_keeps : OpeningKeeps
+opening_keeps v rules watch supply noted a on ready none o =
+    subst (λ (s : Scene). SceneKept v s (Started (driver 1) ∷ [])) (sym o.is)
+    (opening_kept v _ o.first o.rest on (subst (λ (l : List DriverState). All (IsReady v) l) o.spare ready) none refl refl)

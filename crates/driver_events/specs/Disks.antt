@@ -1,5 +1,6 @@
 -- The media and the drivers of a run, and what each event does to them.
-use Rattle.std.specs.Prelude.{◌≡◌, ◌⊎◌, ℕ, ◌+◌, ◌<◌, ◌≤◌, List, [], ◌∷◌, ◌++◌, length, map, Bool, true, false, Option, Some, None, slice_get, slice_set}
+use Rattle.std.specs.Prelude.{◌≡◌, ◌⊎◌, ℕ, ◌+◌, ◌<◌, ◌≤◌, List, [], ◌∷◌, ◌++◌, length, map, Bool, true, false, ◌&&◌, ◌==◌, Option, Some, None, Result, Ok, Err, slice_get, slice_set}
+use Rattle.endpoint.specs.declared.Endpoint.{Endpoint}
 use Rattle.message.specs.declared.BlockRequest.{BlockRequest}
 use Rattle.message.specs.declared.BlockReply.{BlockReply}
 use Rattle.media.specs.Contents.{MediaState, written, adopted}
@@ -12,6 +13,8 @@ use Rattle.schedule.specs.declared.Sent.{Sent}
 use Rattle.inline.specs.Steps.{HandsOver}
 use Rattle.true_replies.specs.State.{State, state_of}
 use Rattle.true_replies.specs.Events.{reply_of, live_after}
+use Rattle.reissue.specs.declared.link.LinkRefusal.{LinkRefusal}
+use Rattle.reissue.specs.declared.link.LinkRefusal.TheVariants.{DeadEndpoint, Full}
 use Rattle.run_log.specs.declared.log.Post.{Post}
 
 -- a driver that was started, as it stands: what is known of it, whether it lives, whether it hangs, and its line
@@ -114,6 +117,16 @@ lined r s = record s { line = s.line ++ r ∷ [] }
 abbrev pub lined_up : BlockRequest → Disks → Disks
 lined_up r b = record b { current = lined r b.current }
 
+-- whether the driver at this endpoint is the one that was started last, and lives
+abbrev pub is_at : Endpoint → Disks → Bool
+is_at to b = (to.slot == 1) && (to.generation == b.media.generation) && b.current.live
+
+-- A post: refused where no such driver is at its endpoint; refused too where the driver's line holds 32; else the request is lined up.
+pub data LinesUp (to : Endpoint) (r : BlockRequest) (b : Disks) : Result (Unit {0}) LinkRefusal → Disks → Type 0 where
+  NoneIsThere : is_at to b ≡ false → LinesUp to r b (Err DeadEndpoint) b
+  LineIsFull : is_at to b ≡ true → 32 ≤ length b.current.line → LinesUp to r b (Err Full) b
+  IsLinedUp : is_at to b ≡ true → length b.current.line < 32 → LinesUp to r b (Ok tt) (lined_up r b)
+
 -- the line of driver g takes no repeated request: it doesn't live, or its line holds 16
 pub data NoneTakes (g : ℕ) (b : Disks) : Type 0 where
   Dead : NoneLives g b → NoneTakes g b
@@ -139,4 +152,13 @@ started g d b = record {
   current = record { state = d; live = true; hung = false; line = [] };
   older = b.older ++ b.current ∷ [];
   sent = b.sent;
+}
+
+-- before the first event: the first driver runs, as generation 1, which the media adopted
+abbrev pub opened_disks : MediaState → DriverState → Disks
+opened_disks media d = record {
+  media = adopted media 1;
+  current = record { state = d; live = true; hung = false; line = [] };
+  older = [];
+  sent = [];
 }

@@ -1,7 +1,10 @@
 -- What events keep of the drivers and of the server's record.
 use Rattle.std.specs.Prelude.{◌≡◌, ◌⊎◌, ◌≤◌, ℕ, List, [], ◌∷◌, map, All, Option, Some, None}
 use Rattle.message.specs.declared.Incoming.{Incoming}
-use Rattle.marks.specs.Marks.{Mark}
+use Rattle.bdev.specs.DriverState.{DriverState}
+use Rattle.policy.specs.declared.Policy.{Policy}
+use Rattle.policy.specs.Watch.{Watch, driver}
+use Rattle.marks.specs.Marks.{Mark, Started}
 use Rattle.marks.specs.Open.{IsIn}
 use Rattle.marks.specs.Opening.{Opening, contents_at}
 use Rattle.marks.specs.Told.{received}
@@ -9,13 +12,13 @@ use Rattle.schedule.specs.declared.Event.{Event}
 use Rattle.schedule.specs.Groups.{event_of}
 use Rattle.true_replies.specs.Posted.{since_start}
 use Rattle.true_replies.specs.State.{Invariant}
-use Rattle.true_replies.specs.Events.{opening_media}
+use Rattle.true_replies.specs.Events.{opening_media, IsOnMedia}
 use Rattle.inline.specs.Inline.{IsReady}
 use Rattle.faultless.specs.Faultless.{without_faults}
 use Rattle.run_log.specs.declared.log.Post.{Post}
 use Rattle.run_log.specs.Noted.{Noted, marks_in}
 use Rattle.driver_events.specs.Disks.{Disks, seen}
-use Rattle.driver_events.specs.Scene.{Scene, Plays}
+use Rattle.driver_events.specs.Scene.{Scene, Opens, Plays}
 
 -- what holds of the media, the drivers and the server's record, since an opening
 abbrev pub DisksKept : Opening → Disks → List Mark → Type 0
@@ -62,3 +65,9 @@ EventsKeep =
 abbrev pub EventsNoteAside : Type 0
 EventsNoteAside =
     (place : ℕ) (event : Event) (b a : Scene) (result : Option Incoming) → Plays place event b result a → NotesAside b.noted a.noted
+
+-- before the first event it holds with the record that has the first start alone, where the media are those handed in and the drivers are ready
+abbrev pub OpeningKeeps : Type 0
+OpeningKeeps =
+    (v : Opening) (rules : Policy) (watch : Watch) (supply : List DriverState) (noted : Noted) (a : Scene) → IsOnMedia v → All (IsReady v) supply
+    → noted.posts ≡ [] → Opens (opening_media v) rules watch supply noted a → SceneKept v a (Started (driver 1) ∷ [])

@@ -3,6 +3,7 @@ use Rattle.std.specs.Prelude.{◌≡◌, ℕ, ◌+◌, List, [], ◌∷◌, Bool
 use Rattle.endpoint.specs.declared.Endpoint.{Endpoint}
 use Rattle.message.specs.declared.Incoming.{Incoming}
 use Rattle.message.specs.declared.Incoming.TheVariants as incoming
+use Rattle.media.specs.Contents.{MediaState}
 use Rattle.bdev.specs.declared.Step.{Step}
 use Rattle.bdev.specs.declared.Step.TheVariants.{Working, Idle, Done, Failed}
 use Rattle.bdev.specs.DriverState.{DriverState}
@@ -21,7 +22,7 @@ use Rattle.run_log.specs.declared.log.Entry.TheVariants as entry
 use Rattle.driver_events.specs.declared.ruling.Ruling.{Ruling}
 use Rattle.driver_events.specs.declared.ruling.Ruling.TheVariants.{Ignored, Fault, GivesUp}
 use Rattle.driver_events.specs.Ruling.{ruling_of}
-use Rattle.driver_events.specs.Disks.{Disks, Steps, Dies, Hangs, Repeats, started}
+use Rattle.driver_events.specs.Disks.{Disks, Steps, Dies, Hangs, Repeats, started, opened_disks}
 
 -- the media and the drivers; those that weren't started, the next one first; the policy and what the reincarnation server knows; the tick,
 -- the last beat (its driver's generation and its tick), and what was noted
@@ -148,3 +149,19 @@ Plays place (event.Die g bytes) b result a = DiesAt g bytes b result a
 Plays place (event.Hang g) b result a = Quietly b result a (Hangs g)
 Plays place (event.Deliver n) b result a = (result ≡ delivered (slice_get b.disks.sent n)) × (a ≡ b)
 Plays place (event.Repeat n) b result a = Quietly b result a (Repeats (slice_get b.noted.posts n))
+
+-- Before the first event, over these media, by this policy: the first driver of the supply runs, and the tick is 0; the reincarnation server,
+-- which knew this much, was told of that tick.
+pub record Opens (media : MediaState) (rules : Policy) (watch : Watch) (supply : List DriverState) (noted : Noted) (a : Scene) : Type 0 where
+  pub first : DriverState
+  pub rest : List DriverState
+  pub spare : supply ≡ first ∷ rest
+  pub is : a ≡ record {
+    disks = opened_disks media first;
+    supply = rest;
+    policy = rules;
+    watch = (on rules watch (policy.Tick 0 (0, 0))).0;
+    tick = 0;
+    pulse = (0, 0);
+    noted = noted;
+  }

@@ -1,6 +1,6 @@
 //! The media and the drivers of a run.
 
-ghost use Rattle.std.specs.Prelude.{◌≡◌, ◌≢◌, ◌⊎◌, ◌<◌, ◌+◌, IfSome, IfNone, OnOk, OnErr, vec_len, vec_capacity};
+ghost use Rattle.std.specs.Prelude.{◌≡◌, ◌≢◌, ◌↔◌, ◌⊎◌, ◌<◌, ◌≤◌, ◌+◌, IfSome, IfNone, IfOk, OnOk, OnErr, Err, length, true, false, vec_len, vec_capacity};
 ghost use Rattle.driver_events.specs.Disks.{torn_media};
 
 use crate::moves::{send, step_unit};
@@ -35,8 +35,32 @@ pub struct Drivers<D> {
 }
 
 impl<D: LocalDriver> Drivers<D> {
-    ghost use Rattle.driver_events.specs.Disks.{Steps, Dies, Hangs, LinesUpAgain, lined_up, started};
+    ghost use Rattle.driver_events.specs.Disks.{Steps, Dies, Hangs, LinesUpAgain, is_at, lined_up, started, opened_disks};
     ghost use Rattle.driver_events.specs.View.{disks_of, HasRoom};
+
+    /// The first driver, on media that had none: it runs, as generation 1.
+    pub(crate) fn first(alloc: Global, media: Media, driver: D) -> Result<Drivers<D>, AllocError>
+        requires { media.generation ≡ 0 }
+        ensures disks { IfOk result (λ d. disks_of D.state d ≡ opened_disks media (D.state driver)) }
+        ensures generation { IfOk result (λ d. d.media.generation ≡ 1) }
+    {
+        let line = VecDeque::with_capacity(alloc, LINE)?;
+        let mut media = media;
+        media.adopt(1);
+        Ok(Drivers {
+            media,
+            generation: 1,
+            current: Unit {
+                driver,
+                live: true,
+                hung: false,
+                line,
+            },
+            older: Vec::new(alloc),
+            sent: Vec::new(alloc),
+            next_line: VecDeque::new(alloc),
+        })
+    }
 
     /// Where the driver of this generation stands among those started before the last one; none where it wasn't started.
     fn place_of(&self, generation: u32) -> Option<usize>
@@ -190,14 +214,22 @@ impl<D: LocalDriver> Drivers<D> {
         self.older[at].line.push_back_reserved(*request);
     }
 
+    /// Whether the driver at this endpoint is the one that was started last, and lives.
+    fn is_at(&self, to: Endpoint) -> bool
+        ensures { result ≡ is_at to (disks_of D.state self.now) }
+    {
+        to.slot == DISK_DRIVER && to.generation == self.generation && self.current.live
+    }
+
     /// Puts a request on the line of the current driver, if it is the one at this endpoint: 1 DeadEndpoint where it isn't, or doesn't
     /// live; 2 Full where the line holds 32.
     pub fn line_up(&mut self, to: Endpoint, request: &BlockRequest) -> Result<(), LinkRefusal>
-        ensures ok { OnOk result (disks_of D.state self.new ≡ lined_up request.now (disks_of D.state self.old)) }
-        ensures to { OnOk result ((to.slot ≡ 1) × (to.generation ≡ self.old.generation)) }
+        ensures dead { (result ≡ Err LinkRefusal.DeadEndpoint) ↔ (is_at to (disks_of D.state self.old) ≡ false) }
+        ensures full { (result ≡ Err LinkRefusal.Full) ↔ ((is_at to (disks_of D.state self.old) ≡ true) × (32 ≤ length self.old.current.line.items)) }
+        ensures lined { OnOk result (disks_of D.state self.new ≡ lined_up request.now (disks_of D.state self.old)) }
         ensures refused { OnErr result (disks_of D.state self.new ≡ disks_of D.state self.old) }
     {
-        if to.slot != DISK_DRIVER || to.generation != self.generation || !self.current.live {
+        if !self.is_at(to) {
             return Err(LinkRefusal::DeadEndpoint);
         }
         if self.current.line.len() >= LINE {

@@ -1,6 +1,6 @@
 //! What each event keeps, each a law of the definitions.
 
-ghost use Rattle.driver_events.specs.Kept.{EventsKeep, EventsNoteAside};
+ghost use Rattle.driver_events.specs.Kept.{EventsKeep, EventsNoteAside, OpeningKeeps};
 
 /// What holds of the drivers and of the server's record holds after each event, with the message that it brings.
 #[tactic(auto, using(crate::proofs::Keeping::events_keep))]
@@ -12,4 +12,10 @@ pub fn events_keep()
 #[tactic(auto, using(crate::proofs::Keeping::events_note_aside))]
 pub fn events_note_aside()
     ensures { EventsNoteAside }
+{}
+
+/// What holds of the drivers and of the server's record holds before the first event, over the media that were handed in.
+#[tactic(auto, using(crate::proofs::Keeping::opening_keeps))]
+pub fn opening_keeps()
+    ensures { OpeningKeeps }
 {}

@@ -1,6 +1,6 @@
 //! What a driver that was started does at a step.
 
-ghost use Rattle.std.specs.Prelude.{◌≡◌, ◌<◌, vec_len, vec_capacity, true, drop};
+ghost use Rattle.std.specs.Prelude.{◌≡◌, ◌<◌, ◌≤◌, length, vec_len, vec_capacity, true, drop};
 ghost use Rattle.std.specs.VecDeque.{deque_capacity};
 ghost use Rattle.inline.specs.Steps.{HandsOver};
 ghost use Rattle.bdev.specs.Promises.{IsDriver};
@@ -39,6 +39,7 @@ fn stamped(generation: u32, place: u32, answer: &Answer) -> Sent
 fn hand_over<D: LocalDriver>(driver: &mut D, line: &mut VecDeque<BlockRequest>)
     ensures hands { HandsOver (D.state driver.old) line.old.items (D.state driver.new) line.new.items }
     ensures driver { IsDriver (D.state driver.new) }
+    ensures few { length line.new.items ≤ length line.old.items }
     ensures room { deque_capacity line.new ≡ deque_capacity line.old }
 {
     let _ready = driver.ready_here(0);

@@ -20,6 +20,32 @@ pub enum Ruling {
     GivesUp,
 }
 
+impl Ruling {
+    ghost use Rattle.driver_events.specs.Ruling.{is_fault, gives_up};
+
+    /// Whether it is a fault.
+    pub fn is_fault(self) -> bool
+        ensures { result ≡ is_fault self }
+    {
+        match self {
+            Ruling::Ignored => false,
+            Ruling::Fault => true,
+            Ruling::GivesUp => true,
+        }
+    }
+
+    /// Whether it is a fault that gives the device up.
+    pub fn gives_up(self) -> bool
+        ensures { result ≡ gives_up self }
+    {
+        match self {
+            Ruling::Ignored => false,
+            Ruling::Fault => false,
+            Ruling::GivesUp => true,
+        }
+    }
+}
+
 /// A driver exits.
 #[tactic(auto, using(crate::proofs::Decided::after_exit, crate::proofs::Decided::never_starts))]
 pub(crate) fn exit<D: Drop>(server: &mut Reincarnation<D>, about: Endpoint, tick: u64) -> Ruling

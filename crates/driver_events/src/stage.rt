@@ -1,7 +1,8 @@
 //! The drivers under the reincarnation server, and what each event of a schedule does.
 
-ghost use Rattle.std.specs.Prelude.{◌≡◌, ◌<◌, ◌≤◌, ◌+◌, ◌^◌, None, vec_len, vec_capacity};
-ghost use Rattle.policy.specs.Watch.{driver as driver_of};
+ghost use Rattle.std.specs.Prelude.{◌≡◌, ◌<◌, ◌≤◌, ◌+◌, ◌^◌, ◌∷◌, None, IfOk, length, map, vec_len, vec_capacity};
+ghost use Rattle.policy.specs.declared.Event.TheVariants.{Tick};
+ghost use Rattle.policy.specs.Watch.{driver as driver_of, new_watch, on};
 ghost use Rattle.run_log.specs.Noted.{Noted};
 
 use crate::drivers::Drivers;
@@ -10,12 +11,13 @@ use bdev::Step;
 use endpoint::{DISK_DRIVER, Endpoint};
 use inline::local::LocalDriver;
 use marks::Cause;
+use media::Media;
 use message::Incoming;
 use policy::Event as PolicyEvent;
 use reincarnate::{Action, Reincarnation};
 use run_log::log::{Entry, Log};
 use schedule::Event;
-use std::alloc::Global;
+use std::alloc::{AllocError, Global};
 
 /// The drivers, the reincarnation server that has the others, the tick, and the last beat: its driver's generation and its tick.
 #[derive(Drop)]
@@ -38,13 +40,52 @@ fn driver(generation: u32) -> Endpoint
     }
 }
 
+/// The first driver of the supply, which a reincarnation server that was told nothing yet starts at tick 0.
+#[tactic(auto, using(crate::proofs::Decided::starts_first))]
+fn first_driver<D: Drop>(reincarnation: &mut Reincarnation<D>) -> D
+    requires { reincarnation.old.watch ≡ new_watch (length reincarnation.old.supply) }
+    ensures policy { reincarnation.new.policy ≡ reincarnation.old.policy }
+    ensures watch { reincarnation.new.watch ≡ (on reincarnation.old.policy reincarnation.old.watch (Tick 0 (0, 0))).0 }
+    ensures supply { reincarnation.old.supply ≡ result ∷ reincarnation.new.supply }
+{
+    match reincarnation.on(PolicyEvent::Tick(0, (0, 0))) {
+        Action::Start(_, driver) => driver,
+        Action::Nothing => unreachable!(),
+        Action::WaitUntil(_) => unreachable!(),
+        Action::GiveUp => unreachable!(),
+    }
+}
+
 impl<D: LocalDriver> Stage<D> {
-    ghost use Rattle.driver_events.specs.Scene.{Exits, Ticks, StepsAt, DiesAt, Quietly, Plays, beaten, delivered};
+    ghost use Rattle.driver_events.specs.Scene.{Opens, Exits, Ticks, StepsAt, DiesAt, Quietly, Plays, beaten, delivered};
     ghost use Rattle.driver_events.specs.StageView.{scene_of};
     ghost use Rattle.driver_events.specs.View.{HasRoom};
     ghost use Rattle.std.specs.Prelude.{slice_get};
     ghost use Rattle.run_log.specs.LogView.{said, room_in};
     ghost use Rattle.driver_events.specs.Disks.{Hangs, Repeats};
+
+    /// Before the first event, at tick 0: the first driver of the supply of a reincarnation server that was told nothing yet is started on
+    /// the media, as generation 1. An error: no memory was found.
+    pub fn new(
+        alloc: Global,
+        media: Media,
+        reincarnation: Reincarnation<D>,
+    ) -> Result<Stage<D>, AllocError>
+        requires media { media.generation ≡ 0 }
+        requires untold { reincarnation.watch ≡ new_watch (length reincarnation.supply) }
+        ensures opens { IfOk result (λ s. (n : Noted) → Opens media reincarnation.policy reincarnation.watch (map D.state reincarnation.supply) n
+            (scene_of D.state s n)) }
+        ensures tick { IfOk result (λ s. s.tick ≡ 0) }
+    {
+        let mut reincarnation = reincarnation;
+        let driver = first_driver(&mut reincarnation);
+        Ok(Stage {
+            drivers: Drivers::first(alloc, media, driver)?,
+            reincarnation,
+            tick: 0,
+            pulse: (0, 0),
+        })
+    }
 
     /// The driver of this generation exited.
     fn exited(&mut self, log: &mut Log, generation: u32) -> Option<Incoming>

@@ -1,6 +1,6 @@
 //! A driver that was started.
 
-ghost use Rattle.std.specs.Prelude.{◌≤◌};
+ghost use Rattle.std.specs.Prelude.{◌≤◌, length};
 ghost use Rattle.std.specs.VecDeque.{deque_capacity};
 
 use message::BlockRequest;
@@ -21,4 +21,5 @@ pub struct Unit<D> {
     /// The requests that wait for it, the next one first: at most 32, for which there is room.
     pub line: VecDeque<BlockRequest>,
     pub ghost roomy: { 32 ≤ deque_capacity line },
+    pub ghost few: { length line.items ≤ 32 },
 }

@@ -25,6 +25,7 @@ use Rattle.entry_laws.proofs.Writes.{file_inserted, file_reparented}
 use Rattle.file.specs.Changing.{MayChange, BecomesFile, HasZonesFor, MayWriteAt, WritesAt, Stamps, stamped, file_at, written_at}
 use Rattle.file.proofs.Becoming.{becomes_then, may_change_after}
 use Rattle.directory.proofs.Pages.{each_size}
+use Rattle.entries.proofs.Standing.{stands_last, dots_set}
 use Rattle.entries.specs.Names.{IsOfDirectory, BecomesNode, NamesBecome, node_at, MayInsert, Inserts, MaySetParent, SetsParent}
 
 -- the file of a directory may change
@@ -53,7 +54,7 @@ made_of i body = record {
 }
 
 -- what the file of a directory becomes, as a body
-body_is : (g : Geometry) (w : Pieces) (n parent : ℕ) (names : Names) (i : Inode) (f : File) → is_directory_mode i.mode ≡ true → file_of g w (w.inodes n) ≡ f
+pub body_is : (g : Geometry) (w : Pieces) (n parent : ℕ) (names : Names) (i : Inode) (f : File) → is_directory_mode i.mode ≡ true → file_of g w (w.inodes n) ≡ f
     → IsDirectoryOf g w n parent names → body_from i f ≡ is_directory (record { parent = parent; names = names })
 body_is g w n parent names i f mode file is =
     cond-true (is_directory_mode i.mode) (is_directory (said_by f)) (is_file f) mode
@@ -156,20 +157,40 @@ may_insert g v n name number bytes i loaded many may = record {
   room = subst (λ (x : ℕ). HasZonesFor g v n (written_at g v n x bytes).held) (sym (ap (λ (j : Inode). j.size) loaded)) (may.room bytes many);
 }
 
+-- bytes are written into the file of a directory, and then its times are set
+module _ (g : Geometry) (n at : ℕ) (bytes : List ℕ) (now : ℕ) (d e f : Disk) (of : IsOfDirectory g (pieces g d) n) (may : MayWriteAt g (pieces g d) n at bytes)
+    (writes : WritesAt g n at bytes d e) (stamps : Stamps g n now e f) where
+  wrote : BecomesFile g (pieces g d) (pieces g e) n ((pieces g d).inodes n) (written_at g (pieces g d) n at bytes)
+  wrote = writes.becomes may
+
+  then_stamped : BecomesFile g (pieces g e) (pieces g f) n (stamped now ((pieces g e).inodes n)) (file_at g (pieces g e) n)
+  then_stamped = stamps.becomes (may_change_after g (pieces g d) (pieces g e) n ((pieces g d).inodes n) _ (may_change g (pieces g d) n of) wrote)
+
+  pub file_then : file_of g (pieces g f) ((pieces g f).inodes n) ≡ written_at g (pieces g d) n at bytes
+  file_then = then_stamped.file ∙ wrote.file
+
+  pub names_then : (change : Names → Names) → IsDirectoryOf g (pieces g f) n (before g (pieces g d) n).parent (change (before g (pieces g d) n).names)
+      → NamesBecome g (pieces g d) (pieces g f) n now change
+  names_then change is = becomes_names g (pieces g d) n of (pieces g e) _ wrote (pieces g f) now then_stamped change is
+
 -- an entry is written behind the last, and the times are set
 pub inserted : (g : Geometry) (n : ℕ) (name : Name) (number now : ℕ) (bytes : List ℕ) (i : Inode) (d e f : Disk) → i ≡ (pieces g d).inodes n → IsEntryBytes bytes number name
     → WritesAt g n i.size bytes d e → Stamps g n now e f → Inserts g n name number now d f
 inserted g n name number now bytes i d e f loaded is writes stamps = record {
   head = λ b l. stamps.head b l ∙ writes.head b l;
   becomes = λ may.
-      let v = pieces g d in
-      let wrote = writes.becomes (may_insert g (pieces g d) n name number bytes i loaded is.many may) in
-      let at_last = stamps.becomes (may_change_after g v (pieces g e) n (v.inodes n) _ (may_change g v n may.of) wrote) in
-      let at : i.size ≡ 64 * entry_count v n = ap (λ (j : Inode). j.size) loaded ∙ sym (ends g v n may.of) in
-      let file = at_last.file ∙ wrote.file ∙ ap (λ (x : ℕ). written_at g v n x bytes) at in
-      becomes_names g v n may.of (pieces g e) _ wrote (pieces g f) now at_last (λ names. with_name names name number)
-      (file_inserted g v (pieces g f) n number name bytes may.of.geometry (in_order g v n may.of) may.named may.some may.new is file);
+      names_then g n i.size bytes now d e f may.of (allowed may) writes stamps (λ names. with_name names name number)
+      (file_inserted g (pieces g d) (pieces g f) n number name bytes may.of.geometry (in_order g (pieces g d) n may.of) may.named may.some may.new is (file may));
+  place = λ may. stands_last g (pieces g d) (pieces g f) n (in_order g (pieces g d) n may.of) number name bytes is (file may);
 }
+  where
+    allowed : MayInsert g (pieces g d) n name number → MayWriteAt g (pieces g d) n i.size bytes
+    allowed may = may_insert g (pieces g d) n name number bytes i loaded is.many may
+
+    file : MayInsert g (pieces g d) n name number → file_of g (pieces g f) ((pieces g f).inodes n) ≡ written_at g (pieces g d) n (64 * entry_count (pieces g d) n) bytes
+    file may =
+        let at : i.size ≡ 64 * entry_count (pieces g d) n = ap (λ (j : Inode). j.size) loaded ∙ sym (ends g (pieces g d) n may.of) in
+        file_then g n i.size bytes now d e f may.of (allowed may) writes stamps ∙ ap (λ (x : ℕ). written_at g (pieces g d) n x bytes) at
 
 -- the number of entry 1 is written
 pub may_set_parent : (g : Geometry) (v : Pieces) (n parent : ℕ) (bytes : List ℕ) → length bytes ≡ 4 → MaySetParent g v n parent → MayWriteAt g v n 64 bytes
@@ -186,4 +207,6 @@ parent_set g n parent bytes d e many is writes = record {
       let wrote = writes.becomes (may_set_parent g v n parent bytes many may) in
       becomes_parent g v n may.of (pieces g e) _ wrote parent
       (file_reparented g v (pieces g e) n parent bytes may.of.geometry (in_order g v n may.of) may.some many is wrote.file);
+  place = λ may. dots_set g (pieces g d) (pieces g e) n (in_order g (pieces g d) n may.of) parent bytes many is
+      (writes.becomes (may_set_parent g (pieces g d) n parent bytes many may)).file;
 }

@@ -6,7 +6,7 @@ use Rattle.tree.specs.Names.{Name, inode_of, with_name}
 use Rattle.volume.specs.declared.Inode.{Inode}
 use Rattle.volume.specs.Pieces.{Pieces, pieces}
 use Rattle.volume.specs.Reading.{Disk, u32_in}
-use Rattle.volume.specs.Nodes.{entry_count_of, file_byte}
+use Rattle.volume.specs.Nodes.{entry_count_of, file_byte, file_of}
 use Rattle.volume.specs.Entries.{entry_count}
 use Rattle.entry_laws.specs.Directories.{IsDirectoryOf, before, row_of}
 use Rattle.entry_laws.specs.Rows.{IsRow}
@@ -15,10 +15,11 @@ use Rattle.entry_laws.proofs.Rows.{entry_of_name}
 use Rattle.entry_laws.proofs.Text.{field_is_name}
 use Rattle.entry_laws.proofs.Writes.{file_retargeted}
 use Rattle.directory.specs.Standing.{NoneNamed, IsNamed}
-use Rattle.file.specs.Changing.{MayWriteAt, WritesAt, Stamps}
-use Rattle.file.proofs.Becoming.{may_change_after}
-use Rattle.entries.specs.Names.{HasName, IsPlaced, MayReplace, Replaces}
-use Rattle.entries.proofs.Becoming.{may_change, in_order, ends, has_zones, becomes_names}
+use Rattle.file.specs.Changing.{MayWriteAt, WritesAt, Stamps, written_at}
+use Rattle.entries.specs.Places.{IsPlaced}
+use Rattle.entries.specs.Names.{HasName, MayReplace, Replaces}
+use Rattle.entries.proofs.Standing.{number_set}
+use Rattle.entries.proofs.Becoming.{may_change, in_order, ends, has_zones, names_then, file_then}
 
 -- the entry of the directory's inode
 pub placed : (g : Geometry) (v : Pieces) (n : ℕ) (name : Name) (i : Inode) (e : ℕ) → i ≡ v.inodes n → IsNamed (file_byte g v i) name 2 (entry_count_of i) e → IsPlaced g v n name e
@@ -56,9 +57,11 @@ replaced g n e name number now bytes d m f many is placed writes stamps = record
   becomes = λ may.
       let v = pieces g d in
       let of = may.has.of in
-      let wrote = writes.becomes (may_replace g v n e name number bytes many placed may) in
-      let at_last = stamps.becomes (may_change_after g v (pieces g m) n (v.inodes n) _ (may_change g v n of) wrote) in
-      becomes_names g v n of (pieces g m) _ wrote (pieces g f) now at_last (λ names. with_name names name number)
+      names_then g n (64 * e) bytes now d m f of (may_replace g v n e name number bytes many placed may) writes stamps (λ names. with_name names name number)
       (subst (λ (x : Name). IsDirectoryOf g (pieces g f) n (before g v n).parent (with_name (before g v n).names x number)) placed.named
-      (file_retargeted g v (pieces g f) n e number bytes of.geometry (in_order g v n of) placed.past placed.low may.some many is (at_last.file ∙ wrote.file)));
+      (file_retargeted g v (pieces g f) n e number bytes of.geometry (in_order g v n of) placed.past placed.low may.some many is (file may)));
+  place = λ may. number_set g (pieces g d) (pieces g f) n (in_order g (pieces g d) n may.has.of) e number bytes placed.past placed.low many is (file may) name placed;
 }
+  where
+    file : MayReplace g (pieces g d) n name number → file_of g (pieces g f) ((pieces g f).inodes n) ≡ written_at g (pieces g d) n (64 * e) bytes
+    file may = file_then g n (64 * e) bytes now d m f may.has.of (may_replace g (pieces g d) n e name number bytes many placed may) writes stamps

@@ -13,8 +13,10 @@ use Rattle.entry_laws.specs.Directories.{IsDirectoryOf, before}
 use Rattle.entry_laws.proofs.Writes.{file_removed}
 use Rattle.file.specs.Changing.{BecomesFile, MayChange, MayWriteAt, WritesAt, SetsSize, Stamps, written_at}
 use Rattle.file.proofs.Becoming.{may_change_after, becomes_again}
-use Rattle.entries.specs.Names.{HasName, IsPlaced}
+use Rattle.entries.specs.Places.{IsPlaced}
+use Rattle.entries.specs.Names.{HasName}
 use Rattle.entries.specs.Removal.{MayDrop, CopiesLast, Drops, Removes}
+use Rattle.entries.proofs.Standing.{last_takes_place}
 use Rattle.entries.proofs.Becoming.{may_change, in_order, ends, has_zones, becomes_names}
 
 -- the last entry's bytes may be written over another
@@ -83,4 +85,8 @@ removed g n e name now d m f placed drops stamps = record {
       becomes_names g v n has.of (pieces g m) _ gone.becomes (pieces g f) now at_last (λ names. without_name names name)
       (subst (λ (x : Name). IsDirectoryOf g (pieces g f) n (before g v n).parent (without_name (before g v n).names x)) placed.named
       (file_removed g v (pieces g f) n e gone.bytes has.of.geometry (in_order g v n has.of) placed.past placed.low gone.copy (at_last.file ∙ gone.becomes.file)));
+  place = λ has.
+      let gone = drops.dropped (may_drop g (pieces g d) n e name placed has) in
+      let at_last = stamps.becomes (may_stamp g n e name d m placed drops has) in
+      last_takes_place g (pieces g d) (pieces g f) n (in_order g (pieces g d) n has.of) e name gone.bytes placed gone.copy (at_last.file ∙ gone.becomes.file);
 }

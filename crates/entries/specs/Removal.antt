@@ -11,6 +11,7 @@ use Rattle.zone.specs.Pages.{SameHead}
 use Rattle.entry_laws.specs.Directories.{row_of}
 use Rattle.entry_laws.specs.Files.{IsCopy}
 use Rattle.file.specs.Changing.{BecomesFile, written_at}
+use Rattle.entries.specs.Places.{LastTakesPlace}
 use Rattle.entries.specs.Names.{IsOfDirectory, HasName, NamesBecome}
 
 -- An entry of a directory, none of the first two.
@@ -41,8 +42,9 @@ pub record Drops (g : Geometry) (n e : ℕ) (d f : Disk) : Type 0 where
   pub head : SameHead d f
   pub dropped : let v = pieces g d in MayDrop g v n e → IsDropped g v (pieces g f) n e
 
--- The directory has the name no more.
+-- The directory has the name no more, and the last entry stands where the name stood.
 pub record Removes (g : Geometry) (n : ℕ) (name : Name) (now : ℕ) (d e : Disk) : Type 0 where
   pub head : SameHead d e
   pub becomes : let v = pieces g d in
       HasName g v n name → NamesBecome g v (pieces g e) n now (λ names. without_name names name)
+  pub place : HasName g (pieces g d) n name → LastTakesPlace g (pieces g d) (pieces g e) n name

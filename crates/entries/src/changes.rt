@@ -5,9 +5,10 @@ ghost use Rattle.store.specs.Halts.{Ends, IsHalt};
 ghost use Rattle.store.specs.Volume.{IsOn};
 ghost use Rattle.store.specs.World.{Reads, Turns};
 ghost use Rattle.volume.specs.Pieces.{pieces};
-ghost use Rattle.entries.specs.Names.{HasName, Inserts, IsPlaced, MayInsert, MayReplace, MaySetParent, Replaces, SetsParent};
+ghost use Rattle.entries.specs.Places.{IsPlaced};
+ghost use Rattle.entries.specs.Names.{HasName, Inserts, MayInsert, MayRenameIt, MayReplace, MaySetParent, Renames, Replaces, SetsParent};
 
-use crate::bytes::entry_bytes;
+use crate::bytes::{entry_bytes, name_bytes};
 use directory::position;
 use file::{stamp, write_at};
 use inode_table::load;
@@ -16,8 +17,9 @@ use store::{Blocks, Halt};
 use tree::MAX_SIZE;
 
 /// Gives a directory a name more, of 1 to 60 bytes, that leads to an inode: it stands last, and the directory is 64 bytes longer. Zones
-/// enough are asked for before, by `file::has_room` of 64 bytes at its size. Its times become `now`, in seconds. Unsound where the volume
-/// isn't sound, or the directory is as long as a file may be.
+/// enough are asked for before, by `file::has_room` of 64 bytes at its size. Its times become `now`, in seconds. Unsound only where the
+/// volume isn't sound, the inode is no directory's, the name stands in it or is none, it leads to inode 0, the directory is as long as a
+/// file may be, or there are too few zones.
 pub fn insert<B: Blocks>(
     blocks: &mut B,
     geometry: &Geometry,
@@ -47,7 +49,8 @@ pub fn insert<B: Blocks>(
     stamp(blocks, geometry, directory, now)
 }
 
-/// Gives a directory another parent: its entry `..` leads there. Its times stay. Unsound where the volume isn't sound.
+/// Gives a directory another parent: its entry `..` leads there. Its times stay. Unsound only where the volume
+/// isn't sound, the inode is no directory's, or the parent is inode 0.
 pub fn set_parent<B: Blocks>(
     blocks: &mut B,
     geometry: &Geometry,
@@ -62,7 +65,7 @@ pub fn set_parent<B: Blocks>(
     write_at(blocks, geometry, directory, 64, &parent.to_le_bytes())
 }
 
-/// The number of the entry of a directory that has a name. Unsound where none has it.
+/// The number of the entry of a directory that has a name. Unsound only where none has it, or the volume isn't sound.
 pub(crate) fn place_of<B: Blocks>(
     blocks: &mut B,
     geometry: &Geometry,
@@ -87,8 +90,8 @@ pub(crate) fn place_of<B: Blocks>(
     }
 }
 
-/// Makes a name of a directory lead to another inode. Its times become `now`, in seconds. Unsound where the volume isn't sound, or the
-/// directory hasn't the name.
+/// Makes a name of a directory lead to another inode; it stands where it stood. Its times become `now`, in seconds. Unsound only where the
+/// volume isn't sound, the directory hasn't the name, or it is to lead to inode 0.
 pub fn replace<B: Blocks>(
     blocks: &mut B,
     geometry: &Geometry,
@@ -111,6 +114,35 @@ pub fn replace<B: Blocks>(
         directory,
         64 * place,
         &number.to_le_bytes(),
+    )?;
+    stamp(blocks, geometry, directory, now)
+}
+
+/// Gives what has a name in a directory another name, of 1 to 60 bytes, that the directory hasn't: its entry stays where it is. The
+/// directory's times become `now`, in seconds. Unsound where the volume isn't sound, or the directory hasn't the old name.
+pub fn rename<B: Blocks>(
+    blocks: &mut B,
+    geometry: &Geometry,
+    directory: u32,
+    old: &[u8],
+    new: &[u8],
+    now: u32,
+) -> Result<(), Halt>
+    requires on { IsOn B.world geometry.now blocks.old }
+    requires named { 0 < length old.now }
+    requires short { length new.now ≤ 60 }
+    ensures turns { Turns B.world blocks.old blocks.new (λ d e. Ends result
+        (λ x. Renames geometry.now directory old.now new.now now d e)
+        (MayRenameIt geometry.now (pieces geometry.now d) directory old.now new.now)) }
+    ensures halt { IfErr result (λ h. IsHalt B.world blocks.new h) }
+{
+    let place = place_of(blocks, geometry, directory, old)?;
+    write_at(
+        blocks,
+        geometry,
+        directory,
+        64 * place + 4,
+        &name_bytes(new),
     )?;
     stamp(blocks, geometry, directory, now)
 }

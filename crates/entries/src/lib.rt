@@ -6,5 +6,6 @@ mod bytes;
 mod changes;
 mod removal;
 
-pub use changes::{insert, replace, set_parent};
+pub use bytes::first_entries;
+pub use changes::{insert, rename, replace, set_parent};
 pub use removal::remove;

@@ -59,7 +59,8 @@ fn drop_entry<B: Blocks>(
 }
 
 /// Takes a name from a directory: the last entry takes the place of its entry, and the directory is 64 bytes shorter. A page that no
-/// entry is left of is let go. Its times become `now`, in seconds. Unsound where the volume isn't sound, or the directory hasn't the name.
+/// entry is left of is let go. Its times become `now`, in seconds. Unsound only where the volume isn't sound, or the directory hasn't the
+/// name.
 pub fn remove<B: Blocks>(
     blocks: &mut B,
     geometry: &Geometry,

@@ -19,7 +19,7 @@ use Rattle.zone_laws.specs.Room.{taken_by}
 use Rattle.zone_laws.proofs.Room.{nodes_take_marked}
 use Rattle.zone_laws.proofs.Files.{nodes_change_with}
 use Rattle.zone_laws.proofs.Keeps.{sound_is_sound_but}
-use Rattle.file.specs.Laws.{BytesAreRead, NodeTakesHeld, RoomIsSpace}
+use Rattle.file.specs.Laws.{BytesAreRead, NodeTakesHeld, RoomIsSpace, RoomBesideIsSpace}
 use Rattle.file.specs.Reading.{read_count}
 use Rattle.file.proofs.Becoming.{plain, plain_inode, plain_sound, plain_takes}
 
@@ -69,10 +69,15 @@ node_takes_held g v n ok s is =
     let marked : marked_in g w ≡ marked_in g v = refl in
     omega (arith, all, plain_all, whole, takes, same, marked)
 
-pub room_is_space : RoomIsSpace
-room_is_space g v n x held ok s is same =
+pub room_beside_is_space : RoomBesideIsSpace
+room_beside_is_space g v n x held others ok s is same =
     let all = nodes_take_marked g v ok s in
     let here = node_takes_held g v n ok s is in
     let then_ : zones_of g (Some x) ≡ zones_needed (numbers_in_zone g) held = ap (zones_needed (numbers_in_zone g)) same in
     let whole = put_taken g v n x (marked_below g v n is) in
     (λ fits. omega (arith, fits, all, here, then_, whole), λ room. omega (arith, room, all, here, then_, whole))
+
+pub room_is_space : RoomIsSpace
+room_is_space g v n x held ok s is same =
+    let both = room_beside_is_space g v n x held 0 ok s is same in
+    (λ fits. let room = both.0 (omega (arith, fits)) in omega (arith, room), λ room. let fits = both.1 (omega (arith, room)) in omega (arith, fits))

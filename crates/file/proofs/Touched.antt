@@ -14,7 +14,8 @@ use Rattle.bitmap.specs.Numbers.{count_free_in}
 use Rattle.bitmap.proofs.Counting.{free_taken}
 use Rattle.zone.specs.Need.{or_from, NeedsMore}
 use Rattle.zone.specs.Files.{IsFull}
-use Rattle.file.specs.Changing.{file_at, written_at, IsRoom}
+use Rattle.file.specs.Changing.{file_at, written_at}
+use Rattle.file.specs.Room.{TakesMore, IsRoom, IsRoomBeside}
 use Rattle.file.proofs.Rest.{wide}
 use Rattle.file.proofs.Sizes.{in_order, ends_after}
 
@@ -54,10 +55,13 @@ module _ (w : ℕ) (fit : 0 < w) (at count : ℕ) (some : 0 < count) where
   pub pages_touched : (held : ℕ → Bool) → (λ q. held q || (nat_lt (q * w) (at + count) && nat_lt at ((q + 1) * w))) ≡ or_from held first last
   pages_touched held = λ t q. held q || ((λ s. ends q s && starts q s) ∙ swap (nat_lt q last) (nat_le first q)) t
 
-module _ (g : Geometry) (v : Pieces) (n at count x y : ℕ) (some : 0 < count) (free : y ≡ count_free_in v.zone_map 1 (data_zones g + 1))
-    (more : NeedsMore g v (v.inodes n) (at / g.block_size) (at / g.block_size + ((at + count - 1) / g.block_size + 1 - at / g.block_size)) x) where
-  pub is_room : IsRoom g v n at count (nat_le x y)
-  is_room may bytes many =
+-- the pages from the first that so many bytes touch up to that behind the last
+abbrev touched_end : Geometry → ℕ → ℕ → ℕ
+touched_end g at count = at / g.block_size + ((at + count - 1) / g.block_size + 1 - at / g.block_size)
+
+module _ (g : Geometry) (v : Pieces) (n at count x : ℕ) (some : 0 < count) (more : NeedsMore g v (v.inodes n) (at / g.block_size) (touched_end g at count) x) where
+  pub takes_more : TakesMore g v n at count x
+  takes_more may bytes many =
       let w = g.block_size in
       let k = numbers_in_zone g in
       let held = (file_at g v n).held in
@@ -67,13 +71,29 @@ module _ (g : Geometry) (v : Pieces) (n at count x y : ℕ) (some : 0 < count) (
       let end : at / w + ((at + count - 1) / w + 1 - at / w) ≡ (at + count - 1) / w + 1 = omega (arith, order) in
       let touched : (written_at g v n at bytes).held ≡ or_from held (at / w) ((at + count - 1) / w + 1) =
       ap (λ c. λ (q : ℕ). held q || (nat_lt (q * w) (at + c) && nat_lt at ((q + 1) * w))) many ∙ pages_touched w fit at count some held in
-      let needed : zones_needed k (written_at g v n at bytes).held ≡ zones_needed k held + x = ap (zones_needed k) (touched ∙ sym (ap (or_from held (at / w)) end)) ∙ more full in
-      let taken = free_taken v.zone_map (data_zones g) in
-      (λ yes_. let l = leb-true x y yes_ in omega (arith, l, needed, taken, free), λ fits. le-leb x y (omega (arith, fits, needed, taken, free)))
+      ap (zones_needed k) (touched ∙ sym (ap (or_from held (at / w)) end)) ∙ more full
 
 -- over what was read
-pub room_read : (g : Geometry) (d : Disk) (n at count x y : ℕ) (i : Inode) → 0 < count → i ≡ (pieces g d).inodes n
-    → NeedsMore g (pieces g d) i (at / g.block_size) (at / g.block_size + ((at + count - 1) / g.block_size + 1 - at / g.block_size)) x
-    → y ≡ count_free_in (pieces g d).zone_map 1 (data_zones g + 1) → IsRoom g (pieces g d) n at count (nat_le x y)
-room_read g d n at count x y i some is more free = is_room g (pieces g d) n at count x y some free
-    (subst (λ (j : Inode). NeedsMore g (pieces g d) j (at / g.block_size) (at / g.block_size + ((at + count - 1) / g.block_size + 1 - at / g.block_size)) x) is more)
+pub takes_read : (g : Geometry) (d : Disk) (n at count x : ℕ) (i : Inode) → 0 < count → i ≡ (pieces g d).inodes n
+    → NeedsMore g (pieces g d) i (at / g.block_size) (touched_end g at count) x → TakesMore g (pieces g d) n at count x
+takes_read g d n at count x i some is more = takes_more g (pieces g d) n at count x some
+    (subst (λ (j : Inode). NeedsMore g (pieces g d) j (at / g.block_size) (touched_end g at count) x) is more)
+
+-- as many zones more as there are others beside fit where they are free
+room_beside : (g : Geometry) (v : Pieces) (n at count others x y : ℕ) → TakesMore g v n at count x → y ≡ count_free_in v.zone_map 1 (data_zones g + 1)
+    → IsRoomBeside g v n at count others (nat_le (x + others) y)
+room_beside g v n at count others x y more free may bytes many =
+    let needed = more may bytes many in
+    let taken = free_taken v.zone_map (data_zones g) in
+    (λ yes_. let l = leb-true (x + others) y yes_ in omega (arith, l, needed, taken, free), λ fits. le-leb (x + others) y (omega (arith, fits, needed, taken, free)))
+
+-- over what was read, and counted in wider numbers
+pub room_read : (g : Geometry) (d : Disk) (n at count others x y a b c : ℕ) → a ≡ x → b ≡ others → c ≡ y → TakesMore g (pieces g d) n at count x
+    → y ≡ count_free_in (pieces g d).zone_map 1 (data_zones g + 1) → IsRoomBeside g (pieces g d) n at count others (nat_le (a + b) c)
+room_read g d n at count others x y a b c is_x is_others is_y more free =
+    subst (λ z. IsRoomBeside g (pieces g d) n at count others z) (sym (λ i. nat_le (is_x i + is_others i) (is_y i))) (room_beside g (pieces g d) n at count others x y more free)
+
+pub room_alone : (g : Geometry) (v : Pieces) (n at count : ℕ) (x : Bool) → IsRoomBeside g v n at count 0 x → IsRoom g v n at count x
+room_alone g v n at count x beside may bytes many =
+    let both = beside may bytes many in
+    (λ yes_. let room = both.0 yes_ in omega (arith, room), λ room. both.1 (omega (arith, room)))

@@ -1,5 +1,5 @@
 -- What a change of one inode's file leaves.
-use Rattle.std.specs.Prelude.{◌≡◌, ◌≢◌, ◌↔◌, ◌≤◌, ◌<◌, ℕ, ◌+◌, ◌/◌, ◌%◌, List, length, Bool, true, Some, IsTrue}
+use Rattle.std.specs.Prelude.{◌≡◌, ◌≢◌, ◌≤◌, ◌<◌, ℕ, ◌+◌, ◌/◌, ◌%◌, List, length, Bool, Some, IsTrue}
 use Rattle.layout.specs.declared.Geometry.{Geometry}
 use Rattle.layout.specs.Places.{IsGeometry}
 use Rattle.tree.specs.Sums.{put}
@@ -111,8 +111,3 @@ pub record Stamps (g : Geometry) (n now : ℕ) (d e : Disk) : Type 0 where
   pub head : SameHead d e
   pub becomes : let v = pieces g d in
       MayChange g v n → BecomesFile g v (pieces g e) n (stamped now (v.inodes n)) (file_at g v n)
-
--- the answer to whether there are zones enough for so many bytes from a place on
-abbrev pub IsRoom : Geometry → Pieces → ℕ → ℕ → ℕ → Bool → Type 0
-IsRoom g v n at count x = MayChange g v n
-    → (bytes : List ℕ) → length bytes ≡ count → (x ≡ true) ↔ HasZonesFor g v n (written_at g v n at bytes).held

@@ -1,5 +1,5 @@
 -- Laws that lead from this layer to the client calls.
-use Rattle.std.specs.Prelude.{◌≡◌, ◌↔◌, ◌≤◌, ℕ, List, length, take, Bool, Some, IsTrue}
+use Rattle.std.specs.Prelude.{◌≡◌, ◌↔◌, ◌≤◌, ℕ, ◌+◌, List, length, take, Bool, Some, IsTrue}
 use Rattle.layout.specs.declared.Geometry.{Geometry}
 use Rattle.layout.specs.Places.{IsGeometry}
 use Rattle.tree.specs.Sums.{put}
@@ -13,6 +13,7 @@ use Rattle.volume.specs.Holds.{IsSound}
 use Rattle.zone_laws.specs.Room.{taken_by}
 use Rattle.file.specs.Reading.{HasFileBytes, read_count}
 use Rattle.file.specs.Changing.{file_at, HasZonesFor}
+use Rattle.file.specs.Room.{HasZonesBeside}
 
 -- The bytes that were read into a slice are those that a read of as many bytes as it is long gives.
 abbrev pub BytesAreRead : Type 0
@@ -28,3 +29,8 @@ NodeTakesHeld = (g : Geometry) (v : Pieces) (n : ℕ) → IsGeometry g → IsSou
 abbrev pub RoomIsSpace : Type 0
 RoomIsSpace = (g : Geometry) (v : Pieces) (n : ℕ) (x : Node) (held : ℕ → Bool) → IsGeometry g → IsSound g v → IsTrue (is_marked g v n)
     → held_of g x.body ≡ held → (taken_by g (put (nodes_of g v) n (Some x)) ≤ data_zones g) ↔ HasZonesFor g v n held
+
+-- The nodes with another at n fit with other zones beside exactly where there are zones enough for that node's pages and for those.
+abbrev pub RoomBesideIsSpace : Type 0
+RoomBesideIsSpace = (g : Geometry) (v : Pieces) (n : ℕ) (x : Node) (held : ℕ → Bool) (others : ℕ) → IsGeometry g → IsSound g v → IsTrue (is_marked g v n)
+    → held_of g x.body ≡ held → (taken_by g (put (nodes_of g v) n (Some x)) + others ≤ data_zones g) ↔ HasZonesBeside g v n others held

@@ -2,4 +2,5 @@
 pub mod Reading
 pub mod Writing
 pub mod Changing
+pub mod Room
 pub mod Laws

@@ -56,7 +56,7 @@ fn resize<B: Blocks>(
 }
 
 /// Makes the file of an inode that long. What lies past the size is gone, its pages and indirect blocks are let go; bytes past the
-/// old end are zeros, of pages that aren't held. The times stay. Unsound where the rules are broken, or the number is no inode's.
+/// old end are zeros, of pages that aren't held. The times stay. Unsound only where the rules are broken, or the inode isn't marked.
 pub fn set_size<B: Blocks>(
     blocks: &mut B,
     geometry: &Geometry,
@@ -74,8 +74,8 @@ pub fn set_size<B: Blocks>(
     resize(blocks, geometry, number, size)
 }
 
-/// Sets the time of the last change of an inode's bytes or names, and that of its attributes, in seconds. Unsound where the number
-/// is no inode's.
+/// Sets the time of the last change of an inode's bytes or names, and that of its attributes, in seconds. Unsound only where the rules
+/// are broken, or the inode isn't marked.
 pub fn stamp<B: Blocks>(
     blocks: &mut B,
     geometry: &Geometry,
@@ -156,8 +156,8 @@ fn write_inside<B: Blocks>(
 }
 
 /// Writes these bytes into the file of an inode, from a place on: the pages that they touch are held then, and bytes between an
-/// old end and the place are zeros. The times stay. Zones enough are asked for before, by `has_room`. Unsound where the rules are
-/// broken, no zone is free where one is due, or the number is no inode's.
+/// old end and the place are zeros. The times stay. Zones enough are asked for before, by `has_room`. Unsound only where the rules are
+/// broken, the inode isn't marked, or there are too few zones for all of the bytes; what was written then isn't said.
 pub fn write_at<B: Blocks>(
     blocks: &mut B,
     geometry: &Geometry,

@@ -9,5 +9,5 @@ pub mod writing;
 
 pub use changing::{set_size, stamp, write_at};
 pub use reading::read_at;
-pub use room::has_room;
+pub use room::{has_room, has_room_beside, zones_for};
 pub use writing::write_page;

@@ -12,7 +12,7 @@ use store::{Blocks, Halt};
 use zone::numbers::write_zone;
 
 /// Writes these bytes into the zone of a page, from an offset of the page on: the file whose page lies there has them then, up to
-/// its end, and all else stays. Unsound where the zone is no data zone; then nothing is changed.
+/// its end, and all else stays. Unsound only where no page of a marked inode lies in the zone, or the rules are broken.
 pub fn write_page<B: Blocks>(
     blocks: &mut B,
     geometry: &Geometry,

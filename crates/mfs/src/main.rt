@@ -1,14 +1,12 @@
 //! Plays a script of client calls against a file server over the image of a volume.
 #![tactic(auto)]
 
-mod words;
-
 use command_line::{line_of, status_for};
+use mfs_words::{Words, command};
 use std::process::ExitCode;
 use std::{fs, io};
 use supply::{drivers_for, setup_for, table_in};
 use tools::play::{File, play};
-use words::{Words, command};
 
 /// A file of this name, with its bytes if it could be read.
 fn file<'n, 'b>(name: &'n str, bytes: &'b Option<Vec<u8>>) -> File<'n, 'b> {

@@ -12,7 +12,7 @@ pub(crate) fn command<'a>(alloc: Global) -> Result<Command<'a>, AllocError> {
     let minor = Arg::new(alloc, "minor")
         .long("minor")
         .value_name("M")
-        .value_parser(ValueParser::Unsigned(0, 4))
+        .value_parser(ValueParser::Unsigned(0, 255))
         .default_value("0")
         .help(
             "Where the volume lies: 0 is the whole image, 1 to 4 are the partitions of its table",
@@ -31,7 +31,7 @@ pub(crate) fn command<'a>(alloc: Global) -> Result<Command<'a>, AllocError> {
 pub(crate) struct Words<'a> {
     /// The image's file.
     pub(crate) image: &'a str,
-    /// Where the volume lies, 0 to 4.
+    /// Where the volume lies: 0 is the whole image.
     pub(crate) minor: u8,
 }
 

@@ -1,6 +1,5 @@
 -- What is done at a link while a range is read, act by act.
-use Rattle.std.proofs.Common.{◌≡◌, ◌≢◌, ◌⊎◌, ℕ, ◌+◌, ◌-◌, ◌<◌, ◌≤◌, List, [], ◌∷◌, ◌++◌, length, Bool, true, false, cond, refl, sym, ◌∙◌, ap, subst, inl, inr, arith, append_assoc, Option, Some, None}
-use Rattle.std.specs.Prelude.{slice_index, ◌==◌}
+use Rattle.std.proofs.Common.{◌≡◌, ℕ, ◌+◌, ◌<◌, ◌≤◌, List, [], ◌∷◌, ◌++◌, Bool, true, false, cond, refl, sym, ◌∙◌, ap, subst, inl, inr, arith, append_assoc, Option, Some, None}
 use Rattle.message.specs.declared.Kind.{Kind}
 use Rattle.message.specs.declared.Kind.TheVariants.{Read, Write}
 use Rattle.message.specs.Good.{is_write}
@@ -15,19 +14,18 @@ use Rattle.marks.specs.Told.{Told, Posted, Complained, Received, received, grown
 use Rattle.marks.specs.Acts.{Act, Began, Absorbed, AtLink, Outbox, told_of, has_absorbed, marks_after, outbox_after, KeepsRules}
 use Rattle.marks.proofs.ActLaws.{acts_compose}
 use Rattle.legal.specs.Mount.{OnlyReads}
-use Rattle.reissue.specs.declared.ask.Ask.{Ask}
 use Rattle.reissue.specs.declared.pending.Pending.{Pending}
 use Rattle.reissue.specs.declared.table.Table.{Table}
 use Rattle.reissue.specs.Entries.{AreDistinct as HaveTickets, IsAmong, IsLeft, pending_of, begun_of, AllOfMinor}
 use Rattle.reissue.specs.Agrees.{Agrees}
-use Rattle.reissue.specs.Moves.{Begun, IsQuiet, Spares, Touches, WasRead, state_after, begun_by, written_by}
+use Rattle.reissue.specs.Moves.{Begun, IsQuiet, Spares, Touches, state_after, written_by}
 use Rattle.reissue.specs.Posts.{OnlyPosts}
 use Rattle.reissue.specs.Rules.{BeganAmong, KeepsRulesBy, outbox_of}
 use Rattle.reissue.specs.Calls.{Truth, ReadsOn}
 use Rattle.reissue.proofs.Tickets.{pending_among}
 use Rattle.mounting.specs.declared.sought.Sought.{Sought}
 use Rattle.mounting.specs.Sought.{piece, piece_size, pieces_of, AreBefore}
-use Rattle.mounting.specs.Reading.{Follows, LeavesDisk, Went, IsFilled, IsUntouched, IsUnread, KeepsBelow, GoesUpTo}
+use Rattle.mounting.specs.Reading.{LeavesDisk, Went, IsFilled, IsUntouched, GoesUpTo}
 use Rattle.mounting.proofs.Searching.{piece_there, before_at}
 
 -- neither has a handed message

@@ -1,5 +1,5 @@
 -- What a superblock that isn't refused says of the volume's length.
-use Rattle.std.proofs.Common.{◌≡◌, ◌<◌, ◌≤◌, ◌+◌, ◌-◌, ◌*◌, ℕ, Bool, true, false, refl, sym, ◌∙◌, ap, arith, List}
+use Rattle.std.proofs.Common.{◌≡◌, ◌<◌, ◌≤◌, ◌+◌, ◌-◌, ◌*◌, ℕ, Bool, true, false, refl, sym, ◌∙◌, arith, List}
 use Rattle.std.specs.Prelude.{Result, Ok, Err, not, ◌==◌, ◌&&◌, if◌then◌else◌, nat_lt, nat_le, length, slice_index}
 use Rattle.std.proofs.lemmas.Bool.{and_parts, eqb-true, leb-true, ltb-true}
 use Rattle.layout.specs.declared.Geometry.{Geometry}

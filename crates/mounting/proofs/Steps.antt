@@ -1,5 +1,5 @@
 -- A range that is being read, from one message to the next.
-use Rattle.std.proofs.Common.{◌≡◌, ◌≢◌, ◌⊎◌, ℕ, ◌+◌, ◌-◌, ◌<◌, ◌≤◌, List, [], ◌∷◌, ◌++◌, length, Bool, true, false, cond, refl, sym, ◌∙◌, ap, subst, inl, inr, arith, Option, Some, None, Ok, Err}
+use Rattle.std.proofs.Common.{◌≡◌, ◌⊎◌, ℕ, ◌+◌, ◌-◌, ◌<◌, ◌≤◌, List, [], ◌∷◌, length, true, false, refl, sym, ◌∙◌, ap, subst, inl, inr, arith, Option, Some, None, Ok, Err}
 use Rattle.std.specs.Prelude.{slice_index, ◌==◌}
 use Rattle.std.proofs.lemmas.Bool.Decides.{leb_tells, nat_tests}
 use Rattle.std.proofs.lemmas.Bool.{cases_eq}
@@ -17,18 +17,18 @@ use Rattle.reissue.specs.declared.link.Link.{Ghosts as LinkWords}
 use Rattle.reissue.specs.declared.pending.Pending.{Pending}
 use Rattle.reissue.specs.declared.table.Table.{Table}
 use Rattle.reissue.specs.declared.transfers.Transfers.{Transfers}
-use Rattle.reissue.specs.Entries.{AllAsk, AllOfMinor, IsLeft, pending_of, begun_of}
+use Rattle.reissue.specs.Entries.{AllAsk, AllOfMinor, IsLeft, pending_of}
 use Rattle.reissue.specs.Agrees.{Agrees}
-use Rattle.reissue.specs.Moves.{Begun, IsBusy, IsFree, Touches, WasRead, begun_by, written_by, put}
-use Rattle.reissue.specs.Calls.{Truth, Adds, Begins, Steps, Closing}
-use Rattle.reissue.specs.Transfers.{table_of, link_of, begun_in}
+use Rattle.reissue.specs.Moves.{Begun, IsBusy, IsFree, WasRead, begun_by, written_by, put}
+use Rattle.reissue.specs.Calls.{Truth, Begins, Steps, Closing}
+use Rattle.reissue.specs.Transfers.{table_of, link_of}
 use Rattle.reissue.proofs.Maps.{put-same, put_cases}
 use Rattle.reissue.proofs.Tickets.{pending_here}
 use Rattle.reissue.proofs.Left.{ask_push, left_back}
 use Rattle.mounting.specs.declared.sought.Sought.{Sought}
 use Rattle.mounting.specs.declared.reading.Stop.TheVariants.{OutOfMemory, GaveUp, Ended}
 use Rattle.mounting.specs.Sought.{piece, piece_at, piece_size, pieces_of, place_of, without_ticket, AreBefore, AreDistinct as SoughtDistinct, PutsAt, PutsPiece}
-use Rattle.mounting.specs.Reading.{Went, LeavesDisk, IsFilled, IsUntouched, IsUnread, IsCutShort, KeepsBelow, AreFilled, GoesUpTo, Midway, BeginsNext, ReadsRange}
+use Rattle.mounting.specs.Reading.{LeavesDisk, IsFilled, IsUntouched, IsUnread, IsCutShort, AreFilled, GoesUpTo, Midway, BeginsNext, ReadsRange}
 use Rattle.mounting.proofs.Searching.{before_at, before_gone, before_later, before_new, distinct_gone, distinct_new, no_piece, piece_there, pieces_gone, pieces_new, place_here, place_stays}
 use Rattle.mounting.proofs.Going.{Further, began_reads, filled_on, goes_on, grows_on, leaves_both, leaves_quiet, left_within, no_write, nothing_left, posts_read, quiet_pieces, true_posted, true_step, went_none, went_on}
 

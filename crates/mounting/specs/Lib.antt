@@ -2,3 +2,4 @@
 pub mod Sought
 pub mod Reading
 pub mod Whole
+pub mod Mounts

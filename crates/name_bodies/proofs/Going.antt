@@ -1,7 +1,7 @@
 -- An empty directory goes.
 use Rattle.std.proofs.Common.{◌≡◌, ◌≢◌, ◌≤◌, ◌<◌, ◌+◌, ◌*◌, ◌^◌, ℕ, List, length, Bool, true, false, Option, Some, None, Ok, Err, refl, sym, ap, subst, ◌∙◌, arith}
 use mathlib.Core.Logic.{inl, inr}
-use Rattle.std.specs.Prelude.{IsTrue, Result, nat_le, not, ◌==◌, if◌then◌else◌}
+use Rattle.std.specs.Prelude.{nat_le, not, ◌==◌, if◌then◌else◌}
 use Rattle.std.specs.Borrow.{Bor}
 use Rattle.std.proofs.lemmas.Bool.{and_parts, cases_eq, eq-eqb, leb-true, ne_eqb}
 use Rattle.errno.specs.declared.Errno.{Errno}
@@ -11,7 +11,7 @@ use Rattle.layout.specs.Places.{IsGeometry}
 use Rattle.tree.specs.declared.User.{User}
 use Rattle.tree.specs.Sums.{put}
 use Rattle.tree.specs.Names.{Names, without_name}
-use Rattle.tree.specs.Tree.{Body, Directory, Node, Tree, is_dir, is_directory, is_file, is_open, names_of, on_node, size_of, with_node}
+use Rattle.tree.specs.Tree.{Body, Node, Tree, is_dir, is_directory, is_file, is_open, names_of, on_node, size_of, with_node}
 use Rattle.tree.specs.IsTree.{IsTree}
 use Rattle.tree.specs.Refusals.{◌>>=◌, refuse_if}
 use Rattle.tree.specs.Walk.{Place}
@@ -25,10 +25,9 @@ use Rattle.tree_laws.proofs.Shapes.{kind_of}
 use Rattle.tree_laws.proofs.Views.{on_node_there}
 use Rattle.volume.specs.declared.Inode.{Inode}
 use Rattle.volume.specs.Reading.{Disk}
-use Rattle.volume.specs.Pieces.{Pieces, pieces}
+use Rattle.volume.specs.Pieces.{pieces}
 use Rattle.volume.specs.Nodes.{is_directory_mode, node_of}
 use Rattle.volume.specs.Holds.{HoldsVolume}
-use Rattle.entry_laws.specs.Directories.{before}
 use Rattle.entries.specs.Removal.{Removes}
 use Rattle.store.specs.World.{IsWorld, Turns, World}
 use Rattle.store.proofs.Turns.{turns_then}
@@ -37,7 +36,7 @@ use Rattle.zone.proofs.Held.{inode_is}
 use Rattle.descriptors.specs.Files.{Files, HasFiles, tree_with}
 use Rattle.bodies.specs.Does.{Does, IsHeld, tree_in}
 use Rattle.bodies.proofs.Made.{granted_made, refused_made}
-use Rattle.node_steps.specs.Steps.{BecomesAt, DropsLink, FreesNode, IsOfNode, node_at}
+use Rattle.node_steps.specs.Steps.{BecomesAt, DropsLink, FreesNode, IsOfNode}
 use Rattle.call_laws.specs.Stands.{NodeIs, Stands}
 use Rattle.call_laws.proofs.Between.{holds_at_end, node_stands, nothing_is_done, step_is_done}
 use Rattle.call_laws.proofs.Ending.{open_by_files}

@@ -2,3 +2,5 @@ pub mod Meaning
 pub mod Standing
 pub mod Unlinking
 pub mod Going
+pub mod Asking
+pub mod Linked

@@ -27,11 +27,10 @@ use Rattle.walk.specs.declared.stop.Stop.{Stop}
 use Rattle.walk.specs.declared.stop.Stop.TheVariants as stop
 use Rattle.walk.specs.declared.place.Place.{Place as Found}
 use Rattle.walk.specs.Stops.{Answers}
-use Rattle.walk.specs.Places.{FindsPlace, IsPlace, place_of}
+use Rattle.walk.specs.Places.{FindsPlace, place_of}
 use Rattle.walk.proofs.Going.{has_entries}
 use Rattle.bodies.proofs.Made.{node_there}
-use Rattle.name_bodies.specs.declared.named.Named.{Named}
-use Rattle.name_bodies.specs.Names.{FindsName, IsNamed, IsOfInode, IsVolume, MeansPlace, on_name, place_at}
+use Rattle.name_bodies.specs.Names.{FindsName, IsOfInode, IsVolume, MeansPlace, on_name}
 
 -- What the place's search answers, of each tree that is held.
 module _ (g : Geometry) (d : Disk) (user : User) (parts : List Name) (s : Result Found Stop) (finds : (t : Tree) → Holds g d t → Answers s (FindsPlace g d t user parts)) where

@@ -1,19 +1,19 @@
 -- The directory of a name, and the nodes once the name is gone.
-use Rattle.std.proofs.Common.{◌≡◌, ◌≤◌, ◌<◌, ℕ, List, Bool, true, false, Option, Some, None, Ok, refl, sym, ap, subst, ◌∙◌}
+use Rattle.std.proofs.Common.{◌≡◌, ◌≤◌, ℕ, List, true, Option, Some, None, Ok, refl, sym, ap, subst, ◌∙◌}
 use Rattle.std.specs.Prelude.{IsTrue, is_some}
 use Rattle.std.proofs.lemmas.Bool.{and_parts, cond-true}
 use Rattle.layout.specs.declared.Geometry.{Geometry}
 use Rattle.layout.specs.Places.{IsGeometry}
 use Rattle.tree.specs.declared.User.{User}
 use Rattle.tree.specs.Sums.{put}
-use Rattle.tree.specs.Names.{Names, has_name, inode_of, without_name}
-use Rattle.tree.specs.Tree.{Body, Node, Tree, is_dir, is_directory, is_file, most_size, names_of, size_of}
+use Rattle.tree.specs.Names.{Names, inode_of, without_name}
+use Rattle.tree.specs.Tree.{Body, Node, Tree, is_dir, is_directory, most_size, names_of, size_of}
 use Rattle.tree.specs.IsTree.{IsBody}
 use Rattle.tree.specs.Changes.{with_names}
 use Rattle.tree_laws.proofs.Places.{IsPlace}
 use Rattle.volume.specs.Reading.{Disk}
 use Rattle.volume.specs.Pieces.{Pieces, pieces}
-use Rattle.volume.specs.Nodes.{file_of, is_directory_mode, is_marked, node_of, nodes_of}
+use Rattle.volume.specs.Nodes.{is_directory_mode, is_marked}
 use Rattle.volume.specs.Holds.{HoldsVolume}
 use Rattle.entry_laws.specs.Directories.{before}
 use Rattle.entries.specs.Names.{HasName, IsOfDirectory}
@@ -23,7 +23,7 @@ use Rattle.bodies.proofs.Made.{node_there}
 use Rattle.descriptors.specs.Files.{Files, HasFiles}
 use Rattle.node_steps.specs.Steps.{node_at}
 use Rattle.call_laws.specs.Stands.{Stands}
-use Rattle.call_laws.proofs.Between.{directory_stands, kind_is, nothing_is_done, step_is_done}
+use Rattle.call_laws.proofs.Between.{kind_is, nothing_is_done, step_is_done}
 use Rattle.call_laws.proofs.Entering.{body_is, name_is_there, names_are}
 use Rattle.name_bodies.specs.declared.named.Named.{Named}
 use Rattle.name_bodies.specs.Names.{FindsName, IsNamed, IsVolume, place_at}

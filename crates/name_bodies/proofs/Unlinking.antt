@@ -1,13 +1,11 @@
 -- A file loses a name.
-use Rattle.std.proofs.Common.{◌≡◌, ◌≢◌, ◌<◌, ◌^◌, ℕ, List, Bool, true, false, Option, Some, None, Ok, Err, refl, sym, ap, subst, ◌∙◌}
-use Rattle.std.specs.Prelude.{IsTrue, Result}
+use Rattle.std.proofs.Common.{◌≡◌, ◌≢◌, ◌<◌, ◌^◌, ℕ, List, Bool, true, false, Option, Some, Ok, Err, refl, sym, ap, subst, ◌∙◌}
 use Rattle.std.specs.Borrow.{Bor}
 use Rattle.errno.specs.declared.Errno.{Errno}
 use Rattle.errno.specs.declared.Errno.TheVariants.{EPERM}
 use Rattle.layout.specs.declared.Geometry.{Geometry}
 use Rattle.layout.specs.Places.{IsGeometry}
 use Rattle.tree.specs.declared.User.{User}
-use Rattle.tree.specs.declared.Call.TheVariants.{Unlink}
 use Rattle.tree.specs.Sums.{put}
 use Rattle.tree.specs.Tree.{Node, Tree, is_dir, on_node, with_node}
 use Rattle.tree.specs.IsTree.{IsTree}
@@ -20,7 +18,7 @@ use Rattle.tree.proofs.Maps.{not_true, put-other}
 use Rattle.tree_laws.proofs.Unlinked.{unlink_keeps}
 use Rattle.tree_laws.proofs.Views.{on_node_there}
 use Rattle.volume.specs.Reading.{Disk}
-use Rattle.volume.specs.Pieces.{Pieces, pieces}
+use Rattle.volume.specs.Pieces.{pieces}
 use Rattle.volume.specs.Nodes.{is_directory_mode}
 use Rattle.volume.specs.Holds.{HoldsVolume}
 use Rattle.entries.specs.Removal.{Removes}

@@ -1,2 +1,3 @@
 -- Client calls on names.
 pub mod Names
+pub mod Linking

@@ -1,7 +1,9 @@
-//! The bodies of client calls on names: `unlink` and `rmdir`, over any blocks.
+//! The bodies of client calls on names: `link`, `unlink` and `rmdir`, over any blocks.
 #![tactic(auto)]
 
+mod linking;
 mod named;
 mod removing;
 
+pub use linking::link;
 pub use removing::{rmdir, unlink};

@@ -1,9 +1,6 @@
 //! Makes the image of a new volume: a root alone.
 #![tactic(auto)]
 
-#[cfg(test)]
-mod tests;
-
 ghost use Rattle.std.specs.Prelude.{◌≡◌, ◌≤◌, ◌<◌, ◌+◌, ◌-◌, ◌*◌, ◌++◌, ◌^◌, IfOk, IfErr, OnOk, length};
 ghost use Rattle.layout.specs.Places.{IsGeometry, table_blocks};
 ghost use Rattle.tree.specs.Space.{data_zones};

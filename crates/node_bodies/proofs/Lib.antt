@@ -1,4 +1,4 @@
-mod Volumes
-mod Effects
-mod Naming
-mod Calls
+pub mod Volumes
+pub mod Effects
+pub mod Naming
+pub mod Calls

@@ -52,16 +52,21 @@ module _ (g : Geometry) (ok : IsGeometry g) (d : Disk) (t : Tree) (holds : Holds
   may_change = record { geometry = ok; marked = marked; rules = sound_is_sound_but g v n 0 holds.nodes.sound }
 
   module _ (e : Disk) (i : Inode) (f : File) (head : SameHead d e) (b : BecomesFile g v (pieces g e) n i f) where
-    pub volume_changed : (IsTrue (is_directory_inode g (pieces g e) n) → IsSoundDirectory g (pieces g e) n)
-        → (x : Node) → node_from i f ≡ x → IsTree g (with_node t n (Some x)) → HoldsVolume g e (with_node t n (Some x))
-    volume_changed directory x is tree = record {
+    -- the tree has this node there, and perhaps other open files
+    pub volume_with : (IsTrue (is_directory_inode g (pieces g e) n) → IsSoundDirectory g (pieces g e) n)
+        → (x : Node) → node_from i f ≡ x → (u : Tree) → u.nodes ≡ put t.nodes n (Some x) → IsTree g u → HoldsVolume g e u
+    volume_with directory x is u nodes tree = record {
       superblock = superblock_stays g d e ok head holds.superblock;
       nodes = record {
-        nodes = (λ k. put (holds.nodes.nodes k) n (Some (sym is k))) ∙ sym b.nodes;
+        nodes = nodes ∙ (λ k. put (holds.nodes.nodes k) n (Some (sym is k))) ∙ sym b.nodes;
         sound = sound_but_is_sound g (pieces g e) n 0 b.rules directory;
         tree = tree;
       };
     }
+
+    pub volume_changed : (IsTrue (is_directory_inode g (pieces g e) n) → IsSoundDirectory g (pieces g e) n)
+        → (x : Node) → node_from i f ≡ x → IsTree g (with_node t n (Some x)) → HoldsVolume g e (with_node t n (Some x))
+    volume_changed directory x is tree = volume_with directory x is (with_node t n (Some x)) refl tree
 
     -- a directory that was in order is, where its bytes stay
     pub still_directory : f ≡ file_at g v n → is_directory_mode i.mode ≡ is_directory_mode (v.inodes n).mode

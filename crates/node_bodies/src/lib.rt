@@ -2,6 +2,6 @@
 #![tactic(auto)]
 
 mod attributes;
-mod named;
+pub mod named;
 
 pub use attributes::{chmod, chown, stat, utime};

@@ -38,8 +38,9 @@ fn named<B: Blocks>(
     }
 }
 
-/// That inode with its number, or the refusal.
-pub(crate) fn find_node<B: Blocks>(
+/// The inode to which a path leads, after its number; or the refusal of the path or of the walk. Nothing is changed. Unsound where the
+/// volume holds no tree.
+pub fn find_node<B: Blocks>(
     blocks: &mut B,
     geometry: &Geometry,
     user: User,

@@ -1,21 +1,20 @@
 -- A node is freed.
-use Rattle.std.proofs.Common.{◌≡◌, ◌≢◌, ◌<◌, ◌≤◌, ◌+◌, ◌-◌, ◌*◌, ◌/◌, ℕ, zero, suc, Bool, true, false, refl, sym, ap, subst, ◌∙◌, arith}
+use Rattle.std.proofs.Common.{◌≡◌, ◌≢◌, ◌<◌, ◌+◌, ◌-◌, ◌*◌, ◌/◌, ℕ, zero, suc, Bool, true, false, refl, sym, ap, subst, ◌∙◌, arith}
 use mathlib.Core.Logic.{inl, inr}
 use Rattle.std.specs.Prelude.{IsTrue, None, Some, Option, not, ◌==◌, ◌&&◌, if◌then◌else◌}
-use Rattle.std.proofs.lemmas.Bool.{and_parts, cases_eq, cases_lt, eqb-true, leb-true, not-true}
+use Rattle.std.proofs.lemmas.Bool.{and_parts, cases_eq, cases_lt, leb-true}
 use Rattle.layout.specs.declared.Geometry.{Geometry}
 use Rattle.layout.specs.Places.{IsGeometry}
 use Rattle.tree.specs.Sums.{put}
 use Rattle.tree.specs.Tree.{Node}
 use Rattle.tree.specs.Space.{numbers_in_zone, pages_of}
 use Rattle.tree.specs.Changes.{file_after_resize}
-use Rattle.tree.proofs.Maps.{is_put, put-same, put-other}
+use Rattle.tree.proofs.Maps.{put-same, put-other}
 use Rattle.volume.specs.declared.Inode.{Inode}
 use Rattle.volume.specs.Reading.{Disk, is_inode}
 use Rattle.volume.specs.Pieces.{Pieces, pieces}
 use Rattle.volume.specs.Nodes.{is_marked, nodes_of, page_zone, word}
-use Rattle.volume.specs.Places.{zone_at, has_number}
-use Rattle.volume.specs.Entries.{is_directory_inode}
+use Rattle.volume.specs.Places.{zone_at}
 use Rattle.volume_laws.proofs.Bridge.{naming, zone_spot, no_level}
 use Rattle.volume_laws.proofs.Naming.{room, spot}
 use Rattle.volume_laws.proofs.Spots.{spot_word}

@@ -12,7 +12,7 @@ use Rattle.volume.specs.Reading.{Disk}
 use Rattle.volume.specs.Pieces.{Pieces, pieces}
 use Rattle.volume.specs.Nodes.{nodes_of}
 use Rattle.descriptors.specs.Files.{Files, tree_with}
-use Rattle.node_steps.specs.Steps.{BecomesAt, Changes, DropsLink, FreesNode, IsOfNode, LosesName, LosesNode, left_of, node_at}
+use Rattle.node_steps.specs.Steps.{BecomesAt, DropsLink, FreesNode, IsOfNode, LosesName, LosesNode, left_of, node_at}
 use Rattle.node_steps.proofs.Nodes.{node_is, node_there, put_back, put_twice}
 
 -- what is left, by whether it has a link and is open

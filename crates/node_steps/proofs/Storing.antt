@@ -3,7 +3,7 @@ use Rattle.std.proofs.Common.{◌≡◌, ◌+◌, ◌-◌, ◌≤◌, ℕ, Bool,
 use Rattle.std.specs.Prelude.{IsTrue}
 use Rattle.std.proofs.lemmas.Bool.{and_parts, and_from}
 use Rattle.layout.specs.declared.Geometry.{Geometry}
-use Rattle.tree.specs.Changes.{more_links, with_ctime, with_link_lost}
+use Rattle.tree.specs.Changes.{with_ctime}
 use Rattle.tree.proofs.Maps.{put-same}
 use Rattle.volume.specs.declared.Inode.{Inode}
 use Rattle.volume.specs.Reading.{Disk, is_inode}
@@ -19,7 +19,7 @@ use Rattle.zone_laws.proofs.Files.{directory_kept}
 use Rattle.zone.proofs.Held.{inode_is}
 use Rattle.file.specs.Changing.{MayChange, BecomesFile, file_at}
 use Rattle.file.proofs.Resizing.{stored_becomes}
-use Rattle.node_steps.specs.Steps.{AddsLink, BecomesAt, Changes, DropsLink, IsOfNode, MayAddLink, MaySetAttributes, SetsAttributes, node_at}
+use Rattle.node_steps.specs.Steps.{AddsLink, BecomesAt, DropsLink, IsOfNode, MaySetAttributes, SetsAttributes, node_at}
 
 -- the file of a node may change
 pub may_change : (g : Geometry) (v : Pieces) (n : ℕ) → IsOfNode g v n → MayChange g v n

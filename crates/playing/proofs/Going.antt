@@ -1,25 +1,34 @@
 -- What goes on in the link: its schedule, and the events that were noted.
-use Rattle.std.proofs.Common.{◌≡◌, ℕ, zero, suc, ◌+◌, ◌-◌, ◌*◌, ◌<◌, ◌≤◌, List, [], ◌∷◌, ◌++◌, Bool, true, false, cond, refl, sym, ◌∙◌, ap, subst, arith, length, get_or}
-use Rattle.std.specs.Prelude.{map, reverse, take, Option, Some, None, slice_get}
+use Rattle.std.proofs.Common.{◌≡◌, ℕ, zero, suc, ◌+◌, ◌-◌, ◌*◌, ◌<◌, ◌≤◌, List, [], ◌∷◌, ◌++◌, Bool, true, false, cond, refl, sym, ◌∙◌, ap, subst, arith, length}
+use Rattle.std.specs.Prelude.{map, reverse, take, drop, ◌||◌, ◌&&◌, not, Option, Some, None, Result, Ok, Err, OnSome, is_ok, slice_get}
 use Rattle.std.proofs.lemmas.List.{reverse-append}
+use Rattle.std.specs.declared.alloc.AllocError.{AllocError}
+use Rattle.endpoint.specs.declared.Endpoint.{Endpoint}
+use Rattle.message.specs.declared.BlockRequest.{BlockRequest}
 use Rattle.message.specs.declared.Incoming.{Incoming}
 use Rattle.message.specs.declared.Incoming.TheVariants as incoming
 use Rattle.tree.specs.Answers.{answer_of}
-use Rattle.marks.specs.Marks.{Mark, Issued, Fault, Answered, Started, GaveUp, Flush, Took}
+use Rattle.marks.specs.Marks.{Issued, Fault, Answered, Started, GaveUp, Flush, Took}
 use Rattle.marks.specs.declared.Cause.TheVariants.{Complaint}
 use Rattle.marks.specs.Open.{counts}
+use Rattle.bdev.specs.DriverState.{DriverState}
+use Rattle.policy.specs.declared.Event.TheVariants as policy
+use Rattle.policy.specs.Watch.{on}
+use Rattle.reincarnate.specs.Supply.{ReincarnationState}
+use Rattle.reissue.specs.declared.link.LinkRefusal.{LinkRefusal}
+use Rattle.driver_events.specs.Disks.{Disks, LinesUp}
+use Rattle.driver_events.specs.Ruling.{is_fault, gives_up}
 use Rattle.schedule.specs.declared.Event.{Event}
 use Rattle.schedule.specs.declared.Event.TheVariants as event
-use Rattle.schedule.specs.Groups.{Group, event_of, schedule_of}
+use Rattle.schedule.specs.Groups.{event_of}
 use Rattle.run_log.specs.declared.log.Entry.{Entry}
 use Rattle.run_log.specs.declared.log.Entry.TheVariants as entry
 use Rattle.run_log.specs.Noted.{Noted, marks_in, with_mark, with_message, with_entry, with_end}
-use Rattle.driver_events.specs.Scene.{Scene}
 use Rattle.driver_events.specs.Kept.{NotesAside}
 use Rattle.driver_events.proofs.Keeping.{events_same, events_note_aside}
 use Rattle.playing.specs.declared.arrived.Arrived.{Arrived}
-use Rattle.playing.specs.Goes.{goes_stays, goes_joins}
-use Rattle.playing.specs.PlayView.{Play, calls_of, unless_told, work_left, begun, PlaysNext, Advances, Stays, Goes, IsSound, GoesOn}
+use Rattle.playing.specs.PlayView.{Play, calls_of, unless_told, work_left, begun, noting, paid, ended, posted, complained, ruling_at, PlaysNext, Advances, Stays, Goes, Turn, Takes, TakesOwed, TakesEnd, Posts, Complains, GoesOn, Still, Further, Asides, HandsEvent, HandsNone, HandsOwed, HandsNothing}
+use Rattle.playing.specs.Laws.{LeadsOn, CallLeads, ServersLeadOn, AsidesLeadOn, CallsLeadOn, AnswersLeadOn}
 
 -- whether a note begins an event
 abbrev pub is_beginning : Entry → Bool
@@ -86,17 +95,6 @@ next_works b a result p =
     let told : unless_told a.told ≡ unless_told b.told = ap unless_told p.told in
     omega (arith, below, same, queue, one, told, p.next)
 
--- with the same events begun, and no call more that waits
-pub goes_same : (b a : Play) → a.events ≡ b.events → a.next ≡ b.next → length a.queue ≤ length b.queue → unless_told a.told ≤ unless_told b.told → map event_of a.scene.noted.groups ≡ map event_of b.scene.noted.groups → GoesOn b a
-goes_same b a events next queue told same = record {
-  events = events;
-  next = omega (arith, next);
-  work = less_work a.events b.events a.next b.next (length a.queue) (length b.queue) (unless_told a.told) (unless_told b.told) (ap length events) next queue told;
-  sound = λ s. record {
-    schedule = ap reverse same ∙ s.schedule ∙ ap (λ (l : List Event). take b.next l) (sym events) ∙ ap (λ (n : ℕ). take n a.events) (sym next);
-  };
-}
-
 take_more : (events : List Event) (n : ℕ) (e : Event) → slice_get events n ≡ Some e → take (suc n) events ≡ take n events ++ e ∷ []
 take_more [] n e is = cc
 take_more (x ∷ events) zero e is = ap (λ (o : Option Event). first_of o x ∷ []) is where
@@ -105,9 +103,32 @@ take_more (x ∷ events) zero e is = ap (λ (o : Option Event). first_of o x ∷
   first_of None d = d
 take_more (x ∷ events) (suc n) e is = ap (λ (l : List Event). x ∷ l) (take_more events n e is)
 
+pub leads_stays : (p : Play) → LeadsOn p p
+leads_stays p = record { events = refl; next = omega arith; work = omega arith; sound = λ s. s }
+
+pub leads_joins : (a b c : Play) → LeadsOn a b → LeadsOn b c → LeadsOn a c
+leads_joins a b c first next = record {
+  events = next.events ∙ first.events;
+  next = omega (arith, first.next, next.next);
+  work = omega (arith, first.work, next.work);
+  sound = λ s. next.sound (first.sound s);
+}
+
+-- with the same events begun, and no call more that waits
+leads_same : (b a : Play) → a.events ≡ b.events → a.next ≡ b.next → length a.queue ≤ length b.queue → unless_told a.told ≤ unless_told b.told
+    → map event_of a.scene.noted.groups ≡ map event_of b.scene.noted.groups → LeadsOn b a
+leads_same b a events next queue told same = record {
+  events = events;
+  next = omega (arith, next);
+  work = less_work a.events b.events a.next b.next (length a.queue) (length b.queue) (unless_told a.told) (unless_told b.told) (ap length events) next queue told;
+  sound = λ s. record {
+    schedule = ap reverse same ∙ s.schedule ∙ ap (λ (l : List Event). take b.next l) (sym events) ∙ ap (λ (n : ℕ). take n a.events) (sym next);
+  };
+}
+
 -- an event is played
-pub goes_next : (b a : Play) (result : Option Incoming) → PlaysNext b result a → GoesOn b a
-goes_next b a result p =
+leads_next : (b a : Play) (result : Option Incoming) → PlaysNext b result a → LeadsOn b a
+leads_next b a result p =
     let aside : NotesAside (begun p.event b.scene).noted a.scene.noted = events_note_aside b.next p.event (begun p.event b.scene) a.scene result p.plays in
     record {
       events = p.events;
@@ -121,64 +142,159 @@ goes_next b a result p =
       };
     }
 
-pub goes_far : (b a : Play) (result : Option Incoming) → Advances b result a → GoesOn b a
-goes_far b _ _ Stays = goes_stays b
-goes_far b a _ (Goes m _ result before last) = goes_joins b m a (goes_far b m None before) (goes_next m a result last)
+leads_far : (b a : Play) (result : Option Incoming) → Advances b result a → LeadsOn b a
+leads_far b _ _ Stays = leads_stays b
+leads_far b a _ (Goes m _ result before last) = leads_joins b m a (leads_far b m None before) (leads_next m a result last)
 
 -- a note within an event
-pub goes_noted : (b a : Play) (e : Entry) → a.events ≡ b.events → a.next ≡ b.next → a.queue ≡ b.queue → a.told ≡ b.told
-    → a.scene.noted ≡ with_entry e b.scene.noted → is_beginning e ≡ false → GoesOn b a
-goes_noted b a e events next queue told noted within =
-    goes_same b a events next (let h : length a.queue ≡ length b.queue = ap length queue in omega (arith, h))
-    (let h : unless_told a.told ≡ unless_told b.told = ap unless_told told in omega (arith, h))
-    (ap (λ (n : Noted). map event_of n.groups) noted ∙ entry_events e b.scene.noted within)
+leads_noted : (b : Play) (e : Entry) → is_beginning e ≡ false → LeadsOn b (noting e b)
+leads_noted b e within = leads_same b (noting e b) refl refl (omega arith) (omega arith) (entry_events e b.scene.noted within)
 
 -- that the device was given up is told
-pub goes_told : (b a : Play) (e : Entry) → a.events ≡ b.events → a.next ≡ b.next → a.queue ≡ b.queue → a.told ≡ true
-    → a.scene.noted ≡ with_entry e b.scene.noted → is_beginning e ≡ false → GoesOn b a
-goes_told b a e events next queue told noted within =
-    goes_same b a events next (let h : length a.queue ≡ length b.queue = ap length queue in omega (arith, h))
-    (let h : unless_told a.told ≡ 0 = ap unless_told told in omega (arith, h))
-    (ap (λ (n : Noted). map event_of n.groups) noted ∙ entry_events e b.scene.noted within)
-
--- room was made
-pub goes_roomy : (b a : Play) → a.events ≡ b.events → a.next ≡ b.next → a.queue ≡ b.queue → a.told ≡ b.told → a.scene ≡ b.scene → GoesOn b a
-goes_roomy b a events next queue told scene =
-    goes_same b a events next (let h : length a.queue ≡ length b.queue = ap length queue in omega (arith, h))
-    (let h : unless_told a.told ≡ unless_told b.told = ap unless_told told in omega (arith, h))
-    (ap (λ (x : Scene). map event_of x.noted.groups) scene)
+leads_paid : (b : Play) → LeadsOn b (paid b)
+leads_paid b = leads_same b (paid b) refl refl (omega arith) (omega arith) refl
 
 -- the link ends
-pub goes_ended : (b a : Play) → a.events ≡ b.events → a.next ≡ b.next → a.queue ≡ b.queue → a.told ≡ b.told
-    → a.scene.noted ≡ with_end b.scene.noted → GoesOn b a
-goes_ended b a events next queue told noted =
-    goes_same b a events next (let h : length a.queue ≡ length b.queue = ap length queue in omega (arith, h))
-    (let h : unless_told a.told ≡ unless_told b.told = ap unless_told told in omega (arith, h))
-    (ap (λ (n : Noted). map event_of n.groups) noted)
+leads_ended : (b : Play) → LeadsOn b (ended b)
+leads_ended b = leads_same b (ended b) refl refl (omega arith) (omega arith) refl
 
--- room was made, events were played, and one thing was noted
-pub take_goes : (b m a : Play) (r : Option Incoming) (n : Noted) (e : Entry) (over : Bool) → Advances m r a → n ≡ with_entry e a.scene.noted
-    → is_beginning e ≡ false → m.events ≡ b.events → m.next ≡ b.next → m.queue ≡ b.queue → m.told ≡ b.told → m.scene ≡ b.scene
+turns_lead_on : (b a : Play) → Turn b a → LeadsOn b a
+turns_lead_on b _ (Takes message a far) = leads_joins b a (noting (entry.Received message) a) (leads_far b a (Some message) far) (leads_noted a (entry.Received message) refl)
+turns_lead_on b _ (TakesOwed live owed first) =
+    leads_joins b (paid b) (noting (entry.Received incoming.GaveUp) (paid b)) (leads_paid b) (leads_noted (paid b) (entry.Received incoming.GaveUp) refl)
+turns_lead_on b _ (TakesEnd a far) = leads_joins b a (ended a) (leads_far b a None far) (leads_ended a)
+turns_lead_on b _ (Posts to r result d lines) =
+    leads_same b (posted to r (is_ok result) d b) refl refl (omega arith) (omega arith) (entry_events (entry.Posted to r (is_ok result)) b.scene.noted refl)
+turns_lead_on b _ (Complains about) =
+    leads_same b (complained about b) refl refl (omega arith) (omega arith)
+    (entry_events (entry.Complained about (is_fault (ruling_at about b.scene))) b.scene.noted refl)
+
+pub servers_lead_on : ServersLeadOn
+servers_lead_on b _ Still = leads_stays b
+servers_lead_on b a (Further m _ before last) = leads_joins b m a (servers_lead_on b m before) (turns_lead_on m a last)
+
+pub asides_lead_on : AsidesLeadOn
+asides_lead_on b _ _ (HandsEvent message a next) = record {
+  leads = leads_joins b a (noting (entry.Handed message) a) (leads_next b a (Some message) next) (leads_noted a (entry.Handed message) refl);
+  less = next_works b a (Some message) next;
+}
+asides_lead_on b _ _ (HandsNone a next) = record { leads = leads_next b a None next; less = next_works b a None next }
+asides_lead_on b _ _ (HandsOwed live owed first) = record {
+  leads = leads_joins b (paid b) (noting (entry.Handed incoming.GaveUp) (paid b)) (leads_paid b) (leads_noted (paid b) (entry.Handed incoming.GaveUp) refl);
+  less = (let h : unless_told b.told ≡ 1 = ap unless_told first in omega (arith, h));
+}
+asides_lead_on b _ _ (HandsNothing error) = record { leads = leads_stays b; less = tt }
+
+less_waits : (queue : List Arrived) (first : Option Arrived) (rest : ℕ) (told : ℕ) → first ≡ slice_get queue 0
+    → OnSome first (rest + length (drop 1 queue) + told < rest + length queue + told)
+less_waits [] first rest told is = subst (λ (o : Option Arrived). OnSome o (rest + 0 + told < rest + 0 + told)) (sym is) tt
+less_waits (x ∷ queue) first rest told is =
+    subst (λ (o : Option Arrived). OnSome o (rest + length queue + told < rest + length (x ∷ queue) + told)) (sym is) (omega arith)
+
+pub calls_lead_on : CallsLeadOn
+calls_lead_on b a result hands = subst (λ (p : Play). CallLeads b result p) (sym hands.after) (record {
+  leads = leads_same b (record b { queue = drop 1 b.queue }) refl refl (fewer b.queue) (omega arith) refl;
+  less = less_waits b.queue result (2 * (length b.events - b.next)) (unless_told b.told) hands.first;
+}) where
+  fewer : (queue : List Arrived) → length (drop 1 queue) ≤ length queue
+  fewer [] = omega arith
+  fewer (x ∷ queue) = omega arith
+
+pub answers_lead_on : AnswersLeadOn
+answers_lead_on b a arrived reply (Ok done) is =
+    subst (λ (p : Play). LeadsOn b p) (sym is) (leads_noted b (entry.Took arrived.who arrived.now arrived.call reply) refl)
+answers_lead_on b a arrived reply (Err error) is = subst (λ (p : Play). LeadsOn b p) (sym is) (leads_stays b)
+
+-- A play by its parts is the one that it was.
+pub same_play : (m b : Play) → m.scene ≡ b.scene → m.events ≡ b.events → m.next ≡ b.next → m.queue ≡ b.queue → m.owed ≡ b.owed → m.told ≡ b.told
+    → m.over ≡ b.over → m ≡ b
+same_play m b scene events next queue owed told over =
+    λ i. record { scene = scene i; events = events i; next = next i; queue = queue i; owed = owed i; told = told i; over = over i }
+
+with_parts : (P : Play → Type 0) (a : Play) (n m : Noted) (over live : Bool) → n ≡ m → over ≡ live
+    → P (record a { scene = record (a.scene) { noted = m }; over = live }) → P (record a { scene = record (a.scene) { noted = n }; over = over })
+with_parts P a n m over live noted same h =
+    subst P (λ i. record a { scene = record (a.scene) { noted = sym noted i }; over = sym same i }) h
+
+-- room was made, events were played, and the message that they brought was noted
+pub takes : (b m a : Play) (message : Incoming) (n : Noted) (over : Bool) → m ≡ b → Advances m (Some message) a
+    → n ≡ with_entry (entry.Received message) a.scene.noted → over ≡ a.over
     → GoesOn b (record a { scene = record (a.scene) { noted = n }; over = over })
-take_goes b m a r n e over far is within events next queue told scene =
-    goes_joins b a _ (goes_joins b m a (goes_roomy b m events next queue told scene) (goes_far m a r far))
-    (goes_noted a (record a { scene = record (a.scene) { noted = n }; over = over }) e refl refl refl refl is within)
+takes b m a message n over same far is live =
+    with_parts (λ (p : Play). GoesOn b p) a n (with_entry (entry.Received message) a.scene.noted) over a.over is live
+    (Further b (noting (entry.Received message) a) Still (Takes message a (subst (λ (p : Play). Advances p (Some message) a) same far)))
 
-pub end_goes : (b m a : Play) (r : Option Incoming) (n : Noted) (over : Bool) → Advances m r a → n ≡ with_end a.scene.noted
-    → m.events ≡ b.events → m.next ≡ b.next → m.queue ≡ b.queue → m.told ≡ b.told → m.scene ≡ b.scene
+pub takes_owed : (b m : Play) (n : Noted) (over : Bool) → m ≡ b → m.over ≡ false → m.owed ≡ true → m.told ≡ false
+    → n ≡ with_entry (entry.Received incoming.GaveUp) m.scene.noted → over ≡ m.over
+    → GoesOn b (record m { scene = record (m.scene) { noted = n }; over = over; owed = false; told = true })
+takes_owed b m n over same live owed first is stays =
+    with_parts (λ (p : Play). GoesOn b p) (paid m) n (with_entry (entry.Received incoming.GaveUp) m.scene.noted) over m.over is stays
+    (subst (λ (p : Play). GoesOn p (noting (entry.Received incoming.GaveUp) (paid m))) same
+    (Further m (noting (entry.Received incoming.GaveUp) (paid m)) Still (TakesOwed live owed first)))
+
+pub takes_end : (b m a : Play) (n : Noted) (over : Bool) → m ≡ b → Advances m None a → n ≡ with_end a.scene.noted → over ≡ true
     → GoesOn b (record a { scene = record (a.scene) { noted = n }; over = over })
-end_goes b m a r n over far is events next queue told scene =
-    goes_joins b a _ (goes_joins b m a (goes_roomy b m events next queue told scene) (goes_far m a r far))
-    (goes_ended a (record a { scene = record (a.scene) { noted = n }; over = over }) refl refl refl refl is)
+takes_end b m a n over same far is done =
+    with_parts (λ (p : Play). GoesOn b p) a n (with_end a.scene.noted) over true is done
+    (Further b (ended a) Still (TakesEnd a (subst (λ (p : Play). Advances p None a) same far)))
 
-pub aside_goes : (b m a : Play) (r : Option Incoming) (n : Noted) (e : Entry) (over : Bool) → PlaysNext m r a → n ≡ with_entry e a.scene.noted
-    → is_beginning e ≡ false → m.events ≡ b.events → m.next ≡ b.next → m.queue ≡ b.queue → m.told ≡ b.told → m.scene ≡ b.scene
-    → GoesOn b (record a { scene = record (a.scene) { noted = n }; over = over })
-aside_goes b m a r n e over next_is is within events next queue told scene =
-    goes_joins b a _ (goes_joins b m a (goes_roomy b m events next queue told scene) (goes_next m a r next_is))
-    (goes_noted a (record a { scene = record (a.scene) { noted = n }; over = over }) e refl refl refl refl is within)
+-- a post
+pub posts : (b : Play) (to : Endpoint) (r : BlockRequest) (result : Result (Unit {0}) LinkRefusal) (d : Disks) (n : Noted) (over : Bool)
+    → LinesUp to r b.scene.disks result d → n ≡ with_entry (entry.Posted to r (is_ok result)) b.scene.noted → over ≡ b.over
+    → GoesOn b (record b { scene = record (b.scene) { disks = d; noted = n }; over = over })
+posts b to r result d n over lines is live =
+    with_parts (λ (p : Play). GoesOn b p) (record b { scene = record (b.scene) { disks = d } }) n
+    (with_entry (entry.Posted to r (is_ok result)) b.scene.noted) over b.over is live
+    (Further b (posted to r (is_ok result) d b) Still (Posts to r result d lines))
 
-pub quiet_goes : (b m a : Play) (r : Option Incoming) → PlaysNext m r a → m.events ≡ b.events → m.next ≡ b.next → m.queue ≡ b.queue → m.told ≡ b.told
-    → m.scene ≡ b.scene → GoesOn b a
-quiet_goes b m a r next_is events next queue told scene =
-    goes_joins b m a (goes_roomy b m events next queue told scene) (goes_next m a r next_is)
+-- a complaint
+pub complains : {D : Type 0} (state : D → DriverState) (b : Play) (r s : ReincarnationState D) (about : Endpoint) (owed : Bool) (n : Noted) (over : Bool)
+    → b.scene.supply ≡ map state r.supply → b.scene.policy ≡ r.policy
+    → s ≡ record r { watch = (on b.scene.policy b.scene.watch (policy.Complaint about b.scene.tick)).0 }
+    → owed ≡ (b.owed || (gives_up (ruling_at about b.scene) && not b.told))
+    → n ≡ with_entry (entry.Complained about (is_fault (ruling_at about b.scene))) b.scene.noted → over ≡ b.over
+    → GoesOn b (record b {
+      scene = record (b.scene) { supply = map state s.supply; policy = s.policy; watch = s.watch; noted = n };
+      owed = owed;
+      over = over;
+    })
+complains {D} state b r s about owed n over supply same after owes is live =
+    let supply_is : b.scene.supply ≡ map state s.supply = supply ∙ sym (ap (λ (x : ReincarnationState D). map state x.supply) after) in
+    let policy_is : b.scene.policy ≡ s.policy = same ∙ sym (ap (λ (x : ReincarnationState D). x.policy) after) in
+    let watch_is : (on b.scene.policy b.scene.watch (policy.Complaint about b.scene.tick)).0 ≡ s.watch = sym (ap (λ (x : ReincarnationState D). x.watch) after) in
+    subst (λ (p : Play). GoesOn b p) (λ i. record b {
+      scene = record (b.scene) { supply = supply_is i; policy = policy_is i; watch = watch_is i; noted = sym is i };
+      owed = sym owes i;
+      over = sym live i;
+    }) (Further b (complained about b) Still (Complains about))
+
+-- between two calls an event was played, and its message noted
+pub hands_event : (b m a : Play) (message : Incoming) (r : Option Incoming) (n : Noted) (over : Bool) → m ≡ b → PlaysNext m r a → r ≡ Some message
+    → n ≡ with_entry (entry.Handed message) a.scene.noted → over ≡ a.over
+    → Asides b (Ok r) (record a { scene = record (a.scene) { noted = n }; over = over })
+hands_event b m a message r n over same next came is live =
+    subst (λ (o : Option Incoming). Asides b (Ok o) (record a { scene = record (a.scene) { noted = n }; over = over })) (sym came)
+    (with_parts (λ (p : Play). Asides b (Ok (Some message)) p) a n (with_entry (entry.Handed message) a.scene.noted) over a.over is live
+    (HandsEvent message a (subst (λ (o : Option Incoming). PlaysNext b o a) came (subst (λ (p : Play). PlaysNext p r a) same next))))
+
+pub hands_none : (b m a : Play) (r : Option Incoming) → m ≡ b → PlaysNext m r a → r ≡ None → Asides b (Ok r) a
+hands_none b m a r same next none =
+    subst (λ (o : Option Incoming). Asides b (Ok o) a) (sym none)
+    (HandsNone a (subst (λ (o : Option Incoming). PlaysNext b o a) none (subst (λ (p : Play). PlaysNext p r a) same next)))
+
+pub hands_owed : (b m : Play) (n : Noted) (over : Bool) → m ≡ b → m.over ≡ false → m.owed ≡ true → m.told ≡ false
+    → n ≡ with_entry (entry.Handed incoming.GaveUp) m.scene.noted → over ≡ m.over
+    → Asides b (Ok (Some incoming.GaveUp)) (record m { scene = record (m.scene) { noted = n }; over = over; owed = false; told = true })
+hands_owed b m n over same live owed first is stays =
+    with_parts (λ (p : Play). Asides b (Ok (Some incoming.GaveUp)) p) (paid m) n (with_entry (entry.Handed incoming.GaveUp) m.scene.noted) over m.over is stays
+    (subst (λ (p : Play). Asides p (Ok (Some incoming.GaveUp)) (noting (entry.Handed incoming.GaveUp) (paid m))) same (HandsOwed live owed first))
+
+pub hands_nothing : (b m : Play) (error : AllocError) → m ≡ b → Asides b (Err error) m
+hands_nothing b m error same = subst (λ (p : Play). Asides b (Err error) p) (sym same) (HandsNothing error)
+
+-- it is told once
+pub not_told : (told owed : Bool) → (told ≡ true → owed ≡ false) → owed ≡ true → told ≡ false
+not_told true owed once is = absurd (no (sym is ∙ once refl)) where
+  no : ◌≡◌ {A = Bool} true false → ⊥
+  no h = cc
+not_told false owed once is = refl

@@ -1,12 +1,17 @@
--- What the link's guarantee says of replies and of the media.
-use Rattle.std.specs.Prelude.{◌≡◌, ℕ, List}
+-- What the link's guarantee says of replies and of the media, and what is the same or less after anything that is done at the link.
+use Rattle.std.specs.Prelude.{◌≡◌, ◌<◌, ◌≤◌, List, take, Option, Result, OnOk, OnSome}
+use Rattle.std.specs.declared.alloc.AllocError.{AllocError}
+use Rattle.message.specs.declared.Incoming.{Incoming}
+use Rattle.tree.specs.declared.Reply.{Reply}
+use Rattle.schedule.specs.Groups.{schedule_of}
 use Rattle.marks.specs.Marks.{Mark}
 use Rattle.marks.specs.Disk.{HasTrueReplies}
 use Rattle.marks.specs.Opening.{Opening, contents_at}
 use Rattle.true_replies.specs.State.{MediaHold, OutsideHolds}
 use Rattle.true_replies.specs.Events.{opening_media}
 use Rattle.driver_events.specs.Scene.{Scene}
-use Rattle.playing.specs.PlayView.{PlayTrue}
+use Rattle.playing.specs.declared.arrived.Arrived.{Arrived}
+use Rattle.playing.specs.PlayView.{Play, PlayTrue, GoesOn, Asides, HandsOut, Answers, work_left}
 
 -- in each record of which it holds the replies are true
 abbrev pub RepliesAreTrue : Type 0
@@ -19,3 +24,38 @@ pub record MediaHeld (v : Opening) (s : Scene) (marks : List Mark) : Type 0 wher
 
 abbrev pub MediaAreHeld : Type 0
 MediaAreHeld = (v : Opening) (s : Scene) (marks : List Mark) → PlayTrue v s marks → MediaHeld v s marks
+
+-- the events that were noted are the first of the schedule
+pub record IsSound (p : Play) : Type 0 where
+  pub schedule : schedule_of p.scene.noted.groups ≡ take p.next p.events
+
+-- the schedule stays, no event is played twice, nothing more is left to do, and what was sound is
+pub record LeadsOn (b a : Play) : Type 0 where
+  pub events : a.events ≡ b.events
+  pub next : b.next ≤ a.next
+  pub work : work_left a ≤ work_left b
+  pub sound : IsSound b → IsSound a
+
+-- so it is after whatever a server does at the link
+abbrev pub ServersLeadOn : Type 0
+ServersLeadOn = (b a : Play) → GoesOn b a → LeadsOn b a
+
+-- and after what is done between two calls; where something is done, less is left
+pub record AsideLeads (b : Play) (result : Result (Option Incoming) AllocError) (a : Play) : Type 0 where
+  pub leads : LeadsOn b a
+  pub less : OnOk result (work_left a < work_left b)
+
+abbrev pub AsidesLeadOn : Type 0
+AsidesLeadOn = (b a : Play) (result : Result (Option Incoming) AllocError) → Asides b result a → AsideLeads b result a
+
+-- and after a call is handed out
+pub record CallLeads (b : Play) (result : Option Arrived) (a : Play) : Type 0 where
+  pub leads : LeadsOn b a
+  pub less : OnSome result (work_left a < work_left b)
+
+abbrev pub CallsLeadOn : Type 0
+CallsLeadOn = (b a : Play) (result : Option Arrived) → HandsOut b result a → CallLeads b result a
+
+-- and after its answer is noted
+abbrev pub AnswersLeadOn : Type 0
+AnswersLeadOn = (b a : Play) (arrived : Arrived) (reply : Reply) (result : Result (Unit {0}) AllocError) → Answers b arrived reply result a → LeadsOn b a

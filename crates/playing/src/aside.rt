@@ -1,6 +1,6 @@
 //! What is done at the link between two calls.
 
-ghost use Rattle.std.specs.Prelude.{◌≡◌, ◌≢◌, ◌<◌, ◌≤◌, ◌+◌, ◌-◌, ◌∷◌, List, IfSome, IfOk, OnOk, OnSome, length, slice_get, drop};
+ghost use Rattle.std.specs.Prelude.{◌≡◌, ◌⊎◌, ◌<◌, ◌≤◌, ◌-◌, ◌∷◌, List, IfOk, OnOk, length, true};
 ghost use Rattle.marks.specs.Opening.{Opening};
 ghost use Rattle.marks.specs.Marks.{Mark, Took};
 ghost use Rattle.tree.specs.Answers.{answer_of};
@@ -18,24 +18,21 @@ impl<'a, D: LocalDriver> Playing<'a, D> {
     ghost use Rattle.run_log.specs.LogView.{said, room_in};
     ghost use Rattle.driver_events.specs.StageView.{scene_of};
     ghost use Rattle.driver_events.specs.Kept.{with_next};
-    ghost use Rattle.playing.specs.PlayView.{play_of, PlayTrue, GoesOn, left_of, work_left};
+    ghost use Rattle.playing.specs.PlayView.{play_of, PlayTrue, Asides, Answers, HandsOut, left_of};
 
-    /// Plays the next event between two calls, or tells that a complaint gave the device up: the message that the server is to be handed,
-    /// if there is one. An error: no memory was found, or the link has ended.
+    /// Plays the next event between two calls, or tells that a complaint gave the device up, if that is owed: the message that the server is
+    /// to be handed, if there is one. An error: no memory was found, or the link has ended; nothing was done.
     pub fn aside(&mut self) -> Result<Option<Incoming>, AllocError>
-        requires { self.old.next < length self.old.events.now }
+        requires { (self.old.owed ≡ true) ⊎ (self.old.next < length self.old.events.now) }
+        ensures asides { Asides (play_of D.state self.old) result (play_of D.state self.new) }
         ensures history { (said self.new.log).history ≡ (said self.old.log).history }
         ensures truth { (v : Opening) (marks : List Mark) → PlayTrue v (scene_of D.state self.old.stage (said self.old.log)) marks
             → IfOk result (λ m. PlayTrue v (scene_of D.state self.new.stage (said self.new.log)) (with_next m marks)) }
         ensures room { OnOk result (33 ≤ room_in self.new.log) }
         ensures budget { left_of self.new.log.over (length self.new.events.now - self.new.next) self.new.told
             ≤ left_of self.old.log.over (length self.old.events.now - self.old.next) self.old.told }
-        ensures goes { GoesOn (play_of D.state self.old) (play_of D.state self.new) }
-        ensures work { OnOk result (work_left (play_of D.state self.new) < work_left (play_of D.state self.old)) }
     {
-        if self.log.over
-            || !make_room(&mut self.stage, &mut self.log, &mut self.queue, self.alloc)
-        {
+        if !make_room(&mut self.stage, &mut self.log, &mut self.queue, self.alloc) {
             return Err(AllocError);
         }
         if self.owed {
@@ -51,23 +48,18 @@ impl<'a, D: LocalDriver> Playing<'a, D> {
         Ok(message)
     }
 
-    /// A call was answered. An error: no memory was found, or the link has ended.
+    /// A call was answered. An error: no memory was found, or the link has ended; nothing was noted.
     pub fn took(&mut self, arrived: Arrived<'a>, reply: Reply) -> Result<(), AllocError>
+        ensures answers { Answers (play_of D.state self.old) arrived.entry reply result (play_of D.state self.new) }
         ensures history { (said self.new.log).history ≡ (said self.old.log).history }
         ensures truth { (v : Opening) (marks : List Mark) → PlayTrue v (scene_of D.state self.old.stage (said self.old.log)) marks
             → OnOk result (PlayTrue v (scene_of D.state self.new.stage (said self.new.log))
             (Took arrived.entry.who arrived.entry.now arrived.entry.call (answer_of reply) ∷ marks)) }
-        ensures waiting { self.new.queue.items ≡ self.old.queue.items }
-        ensures rest { (self.new.events ≡ self.old.events) × (self.new.next ≡ self.old.next) × (self.new.told ≡ self.old.told)
-            × (self.new.owed ≡ self.old.owed) }
         ensures room { OnOk result (33 ≤ room_in self.new.log) }
         ensures budget { left_of self.new.log.over (length self.new.events.now - self.new.next) self.new.told
             ≤ left_of self.old.log.over (length self.old.events.now - self.old.next) self.old.told }
-        ensures goes { GoesOn (play_of D.state self.old) (play_of D.state self.new) }
     {
-        if self.log.over
-            || !make_room(&mut self.stage, &mut self.log, &mut self.queue, self.alloc)
-        {
+        if !make_room(&mut self.stage, &mut self.log, &mut self.queue, self.alloc) {
             return Err(AllocError);
         }
         self.log
@@ -77,14 +69,9 @@ impl<'a, D: LocalDriver> Playing<'a, D> {
 
     /// The call that arrived first of those that wait, which waits no more; none where none waits.
     pub fn next_call(&mut self) -> Option<Arrived<'a>>
-        ensures front { result ≡ slice_get self.old.queue.items 0 }
-        ensures queue { self.new.queue.items ≡ drop 1 self.old.queue.items }
+        ensures hands { HandsOut (play_of D.state self.old) result (play_of D.state self.new) }
         ensures stage { self.new.stage ≡ self.old.stage }
         ensures log { self.new.log ≡ self.old.log }
-        ensures rest { (self.new.events ≡ self.old.events) × (self.new.next ≡ self.old.next) × (self.new.told ≡ self.old.told)
-            × (self.new.owed ≡ self.old.owed) }
-        ensures goes { GoesOn (play_of D.state self.old) (play_of D.state self.new) }
-        ensures work { OnSome result (work_left (play_of D.state self.new) < work_left (play_of D.state self.old)) }
     {
         self.queue.pop_front()
     }

@@ -1,6 +1,7 @@
 //! What the link's guarantee goes on through, each a law of the definitions.
 
-ghost use Rattle.playing.specs.Laws.{RepliesAreTrue, MediaAreHeld};
+ghost use Rattle.playing.specs.Waiting.{ServersHandNone, AsidesHandNone, OneIsHandedOut, ItIsAnswered};
+ghost use Rattle.playing.specs.Laws.{RepliesAreTrue, MediaAreHeld, ServersLeadOn, AsidesLeadOn, CallsLeadOn, AnswersLeadOn};
 
 /// In each record of which the guarantee holds the replies are true.
 #[tactic(auto, using(crate::proofs::PlayLaws::replies_true))]
@@ -12,4 +13,54 @@ pub fn replies_are_true()
 #[tactic(auto, using(crate::proofs::PlayLaws::media_held))]
 pub fn media_are_held()
     ensures { MediaAreHeld }
+{}
+
+/// After whatever a server does at the link: the schedule stays, no event is played twice, no more is left to do, and the events that were
+/// noted are still those of the schedule.
+#[tactic(auto, using(crate::proofs::Going::servers_lead_on))]
+pub fn servers_lead_on()
+    ensures { ServersLeadOn }
+{}
+
+/// So it is after what is done between two calls; where something is done, less is left to do.
+#[tactic(auto, using(crate::proofs::Going::asides_lead_on))]
+pub fn asides_lead_on()
+    ensures { AsidesLeadOn }
+{}
+
+/// And after a call is handed out.
+#[tactic(auto, using(crate::proofs::Going::calls_lead_on))]
+pub fn calls_lead_on()
+    ensures { CallsLeadOn }
+{}
+
+/// And after its answer is noted.
+#[tactic(auto, using(crate::proofs::Going::answers_lead_on))]
+pub fn answers_lead_on()
+    ensures { AnswersLeadOn }
+{}
+
+/// Whatever a server does at the link hands no call out and answers none: the calls that arrived are still those that wait, those that were
+/// handed out and those that were answered, in their order.
+#[tactic(auto, using(crate::proofs::Waits::servers_hand_none))]
+pub fn servers_hand_none()
+    ensures { ServersHandNone }
+{}
+
+/// Nor does what is done between two calls.
+#[tactic(auto, using(crate::proofs::Waits::asides_hand_none))]
+pub fn asides_hand_none()
+    ensures { AsidesHandNone }
+{}
+
+/// The call that is handed out is the first that waits.
+#[tactic(auto, using(crate::proofs::Waits::one_is_handed_out))]
+pub fn one_is_handed_out()
+    ensures { OneIsHandedOut }
+{}
+
+/// Its answer is that of a call that was handed out.
+#[tactic(auto, using(crate::proofs::Waits::it_is_answered))]
+pub fn it_is_answered()
+    ensures { ItIsAnswered }
 {}

@@ -1,21 +1,18 @@
 //! The drivers that a schedule moves, as the server's link.
 
-ghost use Rattle.std.specs.Prelude.{◌≡◌, ◌≢◌, ◌<◌, ◌≤◌, ◌+◌, ◌-◌, ◌∷◌, List, IfSome, IfOk, OnOk, length, true, false};
+ghost use Rattle.std.specs.Prelude.{◌≡◌, ◌<◌, ◌≤◌, ◌+◌, ◌-◌, List, IfSome, length, false, not, ◌||◌, ◌&&◌};
 ghost use Rattle.std.specs.VecDeque.{deque_len, deque_capacity};
 ghost use Rattle.marks.specs.Opening.{Opening};
-ghost use Rattle.marks.specs.Marks.{Mark, Took};
-ghost use Rattle.tree.specs.Answers.{answer_of};
+ghost use Rattle.marks.specs.Marks.{Mark};
 
 use crate::playing::Playing;
 use crate::room::{event_at, make_room, wait};
-use driver_events::ruling::{Ruling, complain};
+use driver_events::ruling::complain;
 use endpoint::Endpoint;
 use inline::local::LocalDriver;
 use message::{BlockRequest, Incoming};
 use reissue::link::{Link, LinkRefusal, TrueLink};
 use run_log::Entry;
-use std::alloc::AllocError;
-use tree::Reply;
 
 impl<'a, D: LocalDriver> Playing<'a, D> {
     ghost use Rattle.run_log.specs.LogView.{said, room_in};
@@ -26,6 +23,8 @@ impl<'a, D: LocalDriver> Playing<'a, D> {
     /// Plays the next event: what message it brings, if any.
     pub(crate) fn play(&mut self) -> Option<Incoming>
         requires left { self.old.next < length self.old.events.now }
+        requires live { self.old.log.over ≡ false }
+        requires paid { self.old.owed ≡ false }
         requires log { 1 < room_in self.old.log }
         requires drivers { HasRoom self.old.stage.drivers }
         requires queue { deque_len self.old.queue < deque_capacity self.old.queue }
@@ -45,6 +44,7 @@ impl<'a, D: LocalDriver> Playing<'a, D> {
     /// Plays events until one brings a message; none, if no event is left or no memory was found.
     fn advance(&mut self) -> Option<Incoming>
         requires live { self.old.log.over ≡ false }
+        requires paid { self.old.owed ≡ false }
         requires log { 36 ≤ room_in self.old.log }
         requires drivers { HasRoom self.old.stage.drivers }
         requires queue { deque_len self.old.queue < deque_capacity self.old.queue }
@@ -63,6 +63,13 @@ impl<'a, D: LocalDriver> Playing<'a, D> {
         }
         None
     }
+}
+
+/// Whether that the device was given up is owed, after a ruling.
+fn owes(owed: bool, gives_up: bool, told: bool) -> bool
+    ensures { result ≡ (owed || (gives_up && not told)) }
+{
+    owed || (gives_up && !told)
 }
 
 impl<'a, D: LocalDriver> Link for Playing<'a, D> {
@@ -96,18 +103,13 @@ impl<'a, D: LocalDriver> Link for Playing<'a, D> {
 
     fn complain(&mut self, about: Endpoint) {
         let ruling = complain(&mut self.stage.reincarnation, about, self.stage.tick);
-        if ruling == Ruling::GivesUp && !self.told {
-            self.owed = true;
-        }
-        self.log
-            .note(Entry::Complained(about, ruling != Ruling::Ignored));
+        self.owed = owes(self.owed, ruling.gives_up(), self.told);
+        self.log.note(Entry::Complained(about, ruling.is_fault()));
     }
 
-    #[tactic(auto, using(crate::proofs::PlayLaws::ended_true, crate::proofs::PlayLaws::true_of, crate::proofs::Going::goes_ended))]
+    #[tactic(auto, using(crate::proofs::PlayLaws::ended_true, crate::proofs::PlayLaws::true_of))]
     fn take(&mut self) -> Incoming {
-        if self.log.over
-            || !make_room(&mut self.stage, &mut self.log, &mut self.queue, self.alloc)
-        {
+        if !make_room(&mut self.stage, &mut self.log, &mut self.queue, self.alloc) {
             self.log.end();
             return Incoming::End;
         }

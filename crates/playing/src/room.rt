@@ -16,14 +16,14 @@ use schedule::Event;
 use std::alloc::Global;
 use std::collections::VecDeque;
 
-/// Makes room for an event and what follows it; false where no memory was found.
+/// Makes room for an event and what follows it; false where no memory was found, or the link has ended.
 pub(crate) fn make_room<'a, D: LocalDriver>(
     stage: &mut Stage<D>,
     log: &mut Log<'a>,
     queue: &mut VecDeque<Arrived<'a>>,
     alloc: Global,
 ) -> bool
-    requires { log.old.over ≡ false }
+    ensures live { OnTrue result (log.old.over ≡ false) }
     ensures scene { scene_of D.state stage.new (said log.new) ≡ scene_of D.state stage.old (said log.old) }
     ensures log { OnTrue result (36 ≤ room_in log.new) }
     ensures over { log.new.over ≡ log.old.over }
@@ -32,6 +32,9 @@ pub(crate) fn make_room<'a, D: LocalDriver>(
     ensures waiting { queue.new.items ≡ queue.old.items }
     ensures tick { stage.new.tick ≡ stage.old.tick }
 {
+    if log.over {
+        return false;
+    }
     if !log.make_room() {
         return false;
     }

@@ -2,6 +2,4 @@
 #![tactic(auto)]
 
 pub mod make;
-#[cfg(test)]
-mod tests;
 pub mod verify;

@@ -1,4 +1,4 @@
-use Rattle.std.proofs.Common.{◌≡◌, ◌+◌, ◌<◌, ℕ, arith, sym, ◌∙◌, ap, Option, Some, refl}
+use Rattle.std.proofs.Common.{◌≡◌, ◌+◌, ℕ, arith, ◌∙◌, ap, Some}
 use Rattle.reissue.specs.Moves.{Begun, begun_by, put}
 use Rattle.reissue.specs.Transfers.{begun_in}
 use Rattle.mounting.specs.Sought.{piece}

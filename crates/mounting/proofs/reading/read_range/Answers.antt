@@ -1,14 +1,8 @@
-use Rattle.std.proofs.Common.{◌≡◌, ◌+◌, ◌-◌, ◌*◌, ◌<◌, ◌≤◌, ◌%◌, ◌⊎◌, ℕ, [], length, false, true, arith, refl, sym, ◌∙◌, ap, subst, inl, inr, rules, List, Option, Some}
-use Rattle.std.proofs.lemmas.Bool.Decides.{nat_tests}
+use Rattle.std.proofs.Common.{◌≡◌, ◌<◌, ℕ, length, arith, refl, sym, ◌∙◌, ap, rules}
 use Rattle.std.specs.Prelude.{vec_len, ◌==◌}
 use Rattle.reissue.specs.declared.ask.Settled.TheVariants as settled
-use Rattle.marks.specs.Told.{took_end}
-use Rattle.reissue.specs.declared.transfers.Transfers.{Transfers}
-use Rattle.reissue.specs.Moves.{Begun}
 use Rattle.reissue.specs.Transfers.{link_of, table_of}
-use Rattle.mounting.specs.declared.sought.Sought.{Sought}
-use Rattle.mounting.specs.Sought.{AreBefore, piece_size, place_of, PutsAt, pieces_of}
-use Rattle.mounting.specs.Reading.{Midway}
+use Rattle.mounting.specs.Sought.{place_of}
 use Rattle.mounting.proofs.Searching.{before_later}
 use Rattle.mounting.proofs.Steps.{midway_first, midway_put, midway_unwritten, all_asked, live_same, unended_same, ids_same, none_is, some_is, midway_begins, midway_same, midway_step, range_done, range_given_up, range_ended, range_none, is_free, puts_length}
 use Rattle.mounting.proofs.reading.read_range.Goals as goal

@@ -1,4 +1,4 @@
-use Rattle.std.proofs.Common.{◌≡◌, ◌+◌, ◌-◌, ◌*◌, ◌≤◌, ◌<◌, ◌%◌, ◌^◌, length, false}
+use Rattle.std.proofs.Common.{◌≡◌, ◌+◌, ◌-◌, ◌*◌, ◌≤◌, ◌<◌, ◌%◌, length, false}
 use Rattle.std.specs.Prelude.{vec_capacity}
 use Rattle.marks.specs.Told.{took_end}
 use Rattle.reissue.specs.Posts.{HasRoom}

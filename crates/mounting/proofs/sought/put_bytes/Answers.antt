@@ -1,4 +1,4 @@
-use Rattle.std.proofs.Common.{◌≡◌, length, arith, sym}
+use Rattle.std.proofs.Common.{length, arith, sym}
 use Rattle.mounting.specs.Sought.{place_of}
 use Rattle.mounting.proofs.Searching.{before_at}
 use Rattle.mounting.proofs.Parts.{puts_piece}

@@ -1,7 +1,7 @@
 use Rattle.std.proofs.Common.{◌≡◌, ◌<◌, ◌∙◌, true, sym, subst, arith}
 use Rattle.std.specs.List.{All}
 use Rattle.std.proofs.lemmas.List.Elements.{All-from_get_or}
-use Rattle.std.specs.Prelude.{Result, Ok}
+use Rattle.std.specs.Prelude.{Ok}
 use Rattle.tree.specs.Walk.{has_last_name, read_path}
 use Rattle.store.proofs.Turns.{reads_as, reads_then}
 use Rattle.zone.proofs.Ending.{ends_exit}

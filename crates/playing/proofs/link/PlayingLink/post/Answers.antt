@@ -1,8 +1,19 @@
-use Rattle.std.proofs.Common.{rules, ◌≡◌, ◌∙◌, sym}
-use Rattle.playing.proofs.PlayLaws.{posted_true}
+use Rattle.driver_events.proofs.DisksLaws.{lines_up}
+use Rattle.playing.proofs.PlayLaws.{posted_true, accepted_at}
+use Rattle.playing.proofs.Going.{posts}
 use Rattle.playing.proofs.link.PlayingLink.post.Goals as goal
 
 pub returns-in-Ok-clause-accepted : goal.returns-in-Ok-clause-accepted
-returns-in-Ok-clause-accepted g c = λ v marks h may fits.
-    posted_true v _ _ _ marks _ _ c.in-Ok.ensures.ok (c.in-Ok.ensures.to.1 ∙ sym c.args.self.now.stage.drivers.current_is) c.note_post.ensures.said h
-    may fits
+returns-in-Ok-clause-accepted g c =
+    let accepted = accepted_at _ _ _ _ (lines_up _ _ _ _ _ c.in-Ok.ensures.dead c.in-Ok.ensures.full c.in-Ok.ensures.lined c.in-Ok.ensures.refused) in
+    λ v marks h may fits. posted_true v _ _ _ marks _ _ accepted.0 accepted.1 c.note_post.ensures.said h may fits
+
+pub returns-in-Ok-clause-goes : goal.returns-in-Ok-clause-goes
+returns-in-Ok-clause-goes g c =
+    posts _ _ _ _ _ _ _ (lines_up _ _ _ _ _ c.in-Ok.ensures.dead c.in-Ok.ensures.full c.in-Ok.ensures.lined c.in-Ok.ensures.refused)
+    c.note_post.ensures.said c.note_post.ensures.over
+
+pub returns-in-Err-clause-goes : goal.returns-in-Err-clause-goes
+returns-in-Err-clause-goes g c =
+    posts _ _ _ _ _ _ _ (lines_up _ _ _ _ _ c.in-Err.ensures.dead c.in-Err.ensures.full c.in-Err.ensures.lined c.in-Err.ensures.refused)
+    c.note.ensures.said c.note.ensures.over

@@ -1,0 +1,2 @@
+-- Directories below others.
+pub mod Within

@@ -1,0 +1,3 @@
+mod Stamped
+mod WriteCall
+mod TruncateCall

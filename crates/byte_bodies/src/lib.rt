@@ -1,0 +1,10 @@
+//! The bodies of the client calls that change the bytes of files, over any blocks.
+#![tactic(auto)]
+
+mod dated;
+mod truncating;
+mod writing;
+
+pub use dated::set_size_at;
+pub use truncating::truncate;
+pub use writing::write;

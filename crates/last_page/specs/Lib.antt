@@ -1,0 +1,2 @@
+-- Files without holes.
+pub mod Sizes

@@ -1,0 +1,7 @@
+pub mod Zones
+pub mod Vacancies
+pub mod Trees
+pub mod Numbers
+pub mod Putting
+pub mod Ending
+pub mod NewDirectories

@@ -1,0 +1,3 @@
+pub mod Marking
+pub mod Lowest
+pub mod NewRows

@@ -1,0 +1,2 @@
+-- New nodes.
+pub mod NewNodes

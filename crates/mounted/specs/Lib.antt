@@ -1,0 +1,2 @@
+-- What opening and mounting promise, over any link.
+pub mod Mounted

@@ -1,0 +1,37 @@
+use Rattle.std.proofs.Common.{◌≡◌, ℕ, List, length, subst, ◌∙◌, rules}
+use Rattle.reissue.specs.Transfers.{table_of}
+use Rattle.mounting.specs.Mounts.{IsChecked}
+use Rattle.mounting.proofs.Checked.{stops_at_head, refuses_head, stops_behind, checks, rest_as, written_back}
+use Rattle.mounting.proofs.checking.read_volume.Goals as goal
+
+pub returns-in-Err-clause-reads : goal.returns-in-Err-clause-reads
+returns-in-Err-clause-reads g c =
+    stops_at_head c.args.minor (table_of c.args.transfers.now) (table_of c.read_range.new.transfers) _ _ _ _
+    c.read_range.new.into c.in-Err.stop c.from.result c.from.ensures c.requires.unended c.in-Err.ensures.reads
+
+pub returns-in-Err-sizes-clause-reads : goal.returns-in-Err-sizes-clause-reads
+returns-in-Err-sizes-clause-reads g c =
+    refuses_head c.args.minor (table_of c.args.transfers.now) (table_of c.read_range.new.transfers) _ _ _ _ c.read_range.new.into c.in-Err-sizes.refusal
+    c.read_range.ensures.same_length c.in-Err-sizes.ensures.refused c.in-Err-sizes.ensures.not_short c.in_default.ensures.reads
+
+pub returns-in-Err-read_behind-clause-reads : goal.returns-in-Err-read_behind-clause-reads
+returns-in-Err-read_behind-clause-reads g c =
+    stops_behind c.args.minor (table_of c.args.transfers.now) (table_of c.read_range.new.transfers) (table_of c.read_behind.new.transfers) _ _ _ _ _ _
+    c.read_range.new.into c.read_range.ensures.same_length c.in_default.ensures.reads c.in-Ok.geometry c.in-Ok.ensures.sizes c.in-Ok.ensures.fit
+    c.volume_size.result c.volume_size.ensures.least c.volume_size.ensures.size c.requires.unended
+    c.in-Err-read_behind.stop c.from-in-Err-read_behind.result c.read_behind.new.bytes c.from-in-Err-read_behind.ensures
+    (rest_as _ _ _ _ _ _ _ _ _ _ _ _ c.in-Err-read_behind.ensures.reads (search rules))
+
+pub returns-in-Err-read_behind-clause-goes : goal.returns-in-Err-read_behind-clause-goes
+returns-in-Err-read_behind-clause-goes g c = g.met.L.Link.joins _ _ _ c.read_range.ensures.goes c.read_behind.ensures.goes
+
+pub returns-clause-reads : goal.returns-clause-reads
+returns-clause-reads g c =
+    checks c.args.minor (table_of c.args.transfers.now) (table_of c.read_range.new.transfers) (table_of c.read_behind.new.transfers) _ _ _ _ _ _
+    c.read_range.new.into c.read_range.ensures.same_length c.in_default.ensures.reads c.in-Ok.geometry c.in-Ok.ensures.sizes c.in-Ok.ensures.fit
+    c.volume_size.result c.volume_size.ensures.least c.volume_size.ensures.size c.requires.unended
+    c.checked.result c.read_behind.new.bytes (subst (λ (l : List ℕ). IsChecked l c.checked.result) (c.deref.ensures.value ∙ written_back c.in-Ok-vec.bytes.len c.read_behind.new.bytes _ (let e : length c.read_behind.new.bytes ≡ c.in-Ok-vec.bytes.len = search rules in e)) c.checked.ensures)
+    (rest_as _ _ _ _ _ _ _ _ _ _ _ _ c.in_default-read_behind.ensures.reads (search rules))
+
+pub returns-clause-goes : goal.returns-clause-goes
+returns-clause-goes g c = g.met.L.Link.joins _ _ _ c.read_range.ensures.goes c.read_behind.ensures.goes

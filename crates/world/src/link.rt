@@ -1,0 +1,106 @@
+//! The link of a world: what is done at it between two calls.
+
+ghost use Rattle.std.specs.Prelude.{◌≡◌, ◌⊎◌, ◌↔◌, ◌≤◌, ◌<◌, ◌∷◌, List, IfOk, OnOk, length, true};
+ghost use Rattle.marks.specs.Marks.{Mark, Took};
+ghost use Rattle.marks.specs.Opening.{Opening};
+ghost use Rattle.tree.specs.Answers.{answer_of};
+ghost use Rattle.driver_events.specs.Kept.{with_next};
+ghost use Rattle.playing.specs.PlayView.{Play, PlayTrue, GoesOn, Asides, HandsOut, Answers};
+
+use inline::local::LocalDriver;
+use message::Incoming;
+use playing::{Arrived, Playing};
+use reissue::Link;
+use std::alloc::AllocError;
+use tree::Reply;
+
+/// A link that a schedule moves, as contracts see it: `play` is the run as it stands, with its schedule, the calls that wait, and what was
+/// noted.
+pub trait Played: Link {
+    ghost play: { Self → Play };
+
+    // what goes on in the link is what a server does at it
+    ghost goes: { (a b : Self) → Self.Link.goes_on a b → GoesOn (play a) (play b) };
+
+    // its guarantee is that of the run
+    ghost guarantees: { (l : Self) (v : Opening) (marks : List Mark) → Self.Link.truth l v marks → PlayTrue v (play l).scene marks };
+}
+
+/// A link that a schedule moves.
+pub trait WorldLink<'a>: Played + Drop {
+    /// Whether a complaint gave the device up, which wasn't told yet.
+    fn owes(&self) -> bool
+        ensures { result ≡ (Self.Played.play self.now).owed };
+
+    /// Whether an event is left.
+    fn has_event(&self) -> bool
+        ensures { (result ≡ true) ↔ ((Self.Played.play self.now).next < length (Self.Played.play self.now).events) };
+
+    /// How many calls wait.
+    fn waiting(&self) -> u64
+        ensures { result ≡ length (Self.Played.play self.now).queue };
+
+    /// Plays the next event between two calls, or tells that a complaint gave the device up, if that is owed: the message that the server is
+    /// to be handed, if there is one. An error: no memory was found, or the link has ended; nothing was done.
+    fn aside(&mut self) -> Result<Option<Incoming>, AllocError>
+        requires { ((Self.Played.play self.old).owed ≡ true) ⊎ ((Self.Played.play self.old).next < length (Self.Played.play self.old).events) }
+        ensures asides { Asides (Self.Played.play self.old) result (Self.Played.play self.new) }
+        ensures history { Self.Link.history self.new ≡ Self.Link.history self.old }
+        ensures truth { (v : Opening) (marks : List Mark) → Self.Link.truth self.old v marks
+            → IfOk result (λ m. Self.Link.truth self.new v (with_next m marks)) }
+        ensures room { OnOk result (33 ≤ Self.Link.room self.new) }
+        ensures budget { Self.Link.budget_left self.new ≤ Self.Link.budget_left self.old };
+
+    /// The call that arrived first of those that wait, which waits no more; none where none waits.
+    fn next_call(&mut self) -> Option<Arrived<'a>>
+        ensures hands { HandsOut (Self.Played.play self.old) result (Self.Played.play self.new) }
+        ensures history { Self.Link.history self.new ≡ Self.Link.history self.old }
+        ensures truth { (v : Opening) (marks : List Mark) → Self.Link.truth self.old v marks → Self.Link.truth self.new v marks }
+        ensures room { Self.Link.room self.old ≤ Self.Link.room self.new }
+        ensures budget { Self.Link.budget_left self.new ≤ Self.Link.budget_left self.old };
+
+    /// A call was answered. An error: no memory was found, or the link has ended; nothing was noted.
+    fn took(&mut self, arrived: Arrived<'a>, reply: Reply) -> Result<(), AllocError>
+        ensures answers { Answers (Self.Played.play self.old) arrived.entry reply result (Self.Played.play self.new) }
+        ensures history { Self.Link.history self.new ≡ Self.Link.history self.old }
+        ensures truth { (v : Opening) (marks : List Mark) → Self.Link.truth self.old v marks
+            → OnOk result (Self.Link.truth self.new v (Took arrived.entry.who arrived.entry.now arrived.entry.call (answer_of reply) ∷ marks)) }
+        ensures room { OnOk result (33 ≤ Self.Link.room self.new) }
+        ensures budget { Self.Link.budget_left self.new ≤ Self.Link.budget_left self.old };
+}
+
+impl<'a, D: LocalDriver> Played for Playing<'a, D> {
+    ghost use Rattle.playing.specs.PlayView.{play_of};
+
+    ghost play = { λ l. play_of D.state l };
+
+    ghost goes = { λ a b on. on };
+
+    ghost guarantees = { λ l v marks kept. kept };
+}
+
+impl<'a, D: LocalDriver> WorldLink<'a> for Playing<'a, D> {
+    fn owes(&self) -> bool {
+        self.owed
+    }
+
+    fn has_event(&self) -> bool {
+        self.next < self.events.len()
+    }
+
+    fn waiting(&self) -> u64 {
+        self.queue.len() as u64
+    }
+
+    fn aside(&mut self) -> Result<Option<Incoming>, AllocError> {
+        Playing::aside(self)
+    }
+
+    fn next_call(&mut self) -> Option<Arrived<'a>> {
+        Playing::next_call(self)
+    }
+
+    fn took(&mut self, arrived: Arrived<'a>, reply: Reply) -> Result<(), AllocError> {
+        Playing::took(self, arrived, reply)
+    }
+}
