@@ -1,6 +1,6 @@
 -- The calls that have a body.
 use Rattle.tree.specs.declared.Call.{Call}
-use Rattle.tree.specs.declared.Call.TheVariants.{Close, Dup, Read, Seek, Stat, Fstat, Unlink, Rmdir, Chmod, Chown, Utime, Readdir, Sync, Statfs}
+use Rattle.tree.specs.declared.Call.TheVariants.{Truncate, Write, Close, Dup, Read, Seek, Stat, Fstat, Unlink, Rmdir, Chmod, Chown, Utime, Readdir, Sync, Statfs}
 
 -- the calls that have a body
 abbrev pub IsGiven : Call → Type 0
@@ -18,4 +18,6 @@ IsGiven (Utime path atime mtime) = Unit {0}
 IsGiven (Readdir fd) = Unit {0}
 IsGiven Sync = Unit {0}
 IsGiven Statfs = Unit {0}
+IsGiven (Write fd bytes) = Unit {0}
+IsGiven (Truncate path size) = Unit {0}
 IsGiven _ = ⊥

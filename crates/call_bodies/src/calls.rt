@@ -15,6 +15,7 @@ use bodies::open_files::{dup, fstat};
 use bodies::reading::read;
 use bodies::seeking::seek;
 use bodies::whole::{statfs, sync};
+use byte_bodies::{truncate, write};
 use closing::close;
 use descriptors::Descriptors;
 use errno::Errno;
@@ -78,6 +79,8 @@ fn perform<B: Blocks>(
         Call::Readdir { fd } => readdir(alloc, blocks, opens, geometry, session, fd),
         Call::Sync => sync(blocks, geometry),
         Call::Statfs => statfs(blocks, geometry),
+        Call::Write { fd, bytes } => write(blocks, opens, geometry, now, session, fd, bytes),
+        Call::Truncate { path, size } => truncate(blocks, geometry, user, now, path, size),
         _ => unreachable!(),
     }
 }

@@ -2,9 +2,9 @@ use Rattle.std.proofs.Common.{◌≡◌, ap, sym, refl, Ok, w64, to_z, of_z, rul
 use mir.Val.{SFits}
 use Rattle.std.proofs.lemmas.Int.{to_z-of_z}
 use Rattle.tree.specs.declared.User.{User}
-use Rattle.tree.specs.declared.Call.TheVariants.{Close, Unlink, Rmdir, Dup, Read, Seek, Stat, Fstat, Chmod, Chown, Utime, Readdir, Sync, Statfs}
-use Rattle.tree.specs.NodeCalls.{stat, chmod, chown, utime, statfs}
-use Rattle.tree.specs.FileCalls.{close, dup, read, seek, fstat, readdir}
+use Rattle.tree.specs.declared.Call.TheVariants.{Truncate, Write, Close, Unlink, Rmdir, Dup, Read, Seek, Stat, Fstat, Chmod, Chown, Utime, Readdir, Sync, Statfs}
+use Rattle.tree.specs.NodeCalls.{truncate, stat, chmod, chown, utime, statfs}
+use Rattle.tree.specs.FileCalls.{write, close, dup, read, seek, fstat, readdir}
 use Rattle.tree.specs.NameCalls.{unlink, rmdir}
 use Rattle.tree.specs.Answers.{done}
 use Rattle.descriptors.specs.Table.{files_of}
@@ -117,3 +117,17 @@ returns-in-Rmdir-clause-turns g c =
     turns_as _ _ _ _ _ (λ d e x. kind_meets a.geometry.now a.who a.now (Rmdir w.path) early (λ t. rmdir t c.user_of-user.result a.now w.path.now)
     (λ t. ap (λ (u : User). rmdir t u a.now w.path.now) (sym c.user_of-user.ensures)) a.call.now w.is c.rmdir.result f f d e x)
     c.rmdir.ensures.turns
+
+pub returns-in-Write-clause-turns : goal.returns-in-Write-clause-turns
+returns-in-Write-clause-turns g c =
+    let a = c.args in let f = files_of a.opens.now in let w = c.in-Write in let early = c.if-who-ge-MAX_SESSIONS.false in
+    turns_as _ _ _ _ _ (λ d e x. kind_meets a.geometry.now a.who a.now (Write w.fd w.bytes) early (λ t. write a.geometry.now t a.now a.who.session w.fd w.bytes.now)
+    (λ t. refl) a.call.now w.is c.write.result f (files_of c.write.new.opens) d e x)
+    c.write.ensures.turns
+
+pub returns-in-Truncate-clause-turns : goal.returns-in-Truncate-clause-turns
+returns-in-Truncate-clause-turns g c =
+    let a = c.args in let f = files_of a.opens.now in let w = c.in-Truncate in let early = c.if-who-ge-MAX_SESSIONS.false in
+    turns_as _ _ _ _ _ (λ d e x. kind_meets a.geometry.now a.who a.now (Truncate w.path w.size) early (λ t. truncate a.geometry.now t c.user_of-user.result a.now w.path.now w.size)
+    (λ t. ap (λ (u : User). truncate a.geometry.now t u a.now w.path.now w.size) (sym c.user_of-user.ensures)) a.call.now w.is c.truncate.result f f d e (x f))
+    c.truncate.ensures.turns
