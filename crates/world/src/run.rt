@@ -18,8 +18,8 @@ const FIRST: Endpoint = Endpoint {
     generation: 1,
 };
 
-/// A whole run: the server is handed the start of the first driver, which its link has noted, and then plays the schedule out; how many calls of
-/// those that arrived have no answer. An error: no memory was found.
+/// A whole run: the server is handed the start of the first driver, which its link has noted, and then plays the schedule out; how many calls
+/// of those that arrived have no answer. An error: no memory was found.
 pub fn play_all<'a, L: WorldLink<'a>, S: FileServer<L>>(server: &mut S) -> Result<u64, AllocError>
     requires ready { S.is_ready server.old }
     requires few { S.absorbed server.old + work_left (L.Played.play (S.line server.old)) + 1 < 2 ^ 48 }
@@ -27,8 +27,8 @@ pub fn play_all<'a, L: WorldLink<'a>, S: FileServer<L>>(server: &mut S) -> Resul
     requires knows { (call : Call) → S.knows call }
     requires live { (S.Serve.serving server.old).ended ≡ false }
     requires first { IsBeforeFirst (L.Played.play (S.line server.old)) }
-    ensures { IfOk result (λ unanswered. PlaysAll (S.Serve.serving server.old) (S.Serve.serving server.new) (L.Link.truth (S.line server.old))
-        (L.Played.play (S.line server.old)) (L.Played.play (S.line server.new)) unanswered) }
+    ensures { IfOk result (λ unanswered. PlaysAll (S.Serve.serving server.old) (S.Serve.serving server.new)
+        (L.Link.truth (S.line server.old)) (L.Played.play (S.line server.old)) (L.Played.play (S.line server.new)) unanswered) }
 {
     server.absorb(Incoming::Started(FIRST));
     let unanswered = play_out(server)?;
