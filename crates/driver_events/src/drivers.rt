@@ -225,7 +225,8 @@ impl<D: LocalDriver> Drivers<D> {
     /// live; 2 Full where the line holds 32.
     pub fn line_up(&mut self, to: Endpoint, request: &BlockRequest) -> Result<(), LinkRefusal>
         ensures dead { (result ≡ Err LinkRefusal.DeadEndpoint) ↔ (is_at to (disks_of D.state self.old) ≡ false) }
-        ensures full { (result ≡ Err LinkRefusal.Full) ↔ ((is_at to (disks_of D.state self.old) ≡ true) × (32 ≤ length self.old.current.line.items)) }
+        ensures full { (result ≡ Err LinkRefusal.Full)
+            ↔ ((is_at to (disks_of D.state self.old) ≡ true) × (32 ≤ length self.old.current.line.items)) }
         ensures lined { OnOk result (disks_of D.state self.new ≡ lined_up request.now (disks_of D.state self.old)) }
         ensures refused { OnErr result (disks_of D.state self.new ≡ disks_of D.state self.old) }
     {

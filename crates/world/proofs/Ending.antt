@@ -1,5 +1,5 @@
 -- A run that was played out holds.
-use Rattle.std.proofs.Common.{◌≡◌, ℕ, zero, suc, ◌+◌, ◌*◌, ◌<◌, ◌≤◌, List, [], ◌∷◌, ◌++◌, Bool, true, false, refl, sym, ◌∙◌, ap, subst, arith, length}
+use Rattle.std.proofs.Common.{◌≡◌, ℕ, zero, suc, ◌+◌, ◌*◌, ◌≤◌, List, [], ◌∷◌, ◌++◌, Bool, true, false, refl, sym, ◌∙◌, ap, subst, arith, length}
 use Rattle.std.specs.Prelude.{if◌then◌else◌, map, reverse, take}
 use Rattle.std.proofs.lemmas.List.{append_assoc, length-append, length-reverse}
 use Rattle.layout.specs.declared.Geometry.{Geometry}
@@ -15,7 +15,7 @@ use Rattle.reissue.specs.Calls.{Truth}
 use Rattle.faultless.specs.Faultless.{without_faults, FaultsChangeNothing}
 use Rattle.faultless.proofs.FaultlessLaws.{faults_change_nothing}
 use Rattle.schedule.specs.declared.Event.{Event}
-use Rattle.schedule.specs.Calls.{Arrival, taken}
+use Rattle.schedule.specs.Calls.{taken}
 use Rattle.schedule.specs.Headline.{Transcript, RepliesHold}
 use Rattle.run_log.specs.Noted.{marks_in}
 use Rattle.driver_events.specs.Scene.{Scene}

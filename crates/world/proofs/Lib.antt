@@ -1,3 +1,4 @@
 pub mod Standing
 pub mod Turning
 pub mod Ending
+pub mod Starting

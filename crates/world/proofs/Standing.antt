@@ -1,34 +1,29 @@
 -- A server over its link leads on through what is done at the link, through messages and through calls.
-use Rattle.std.proofs.Common.{◌≡◌, ℕ, ◌+◌, ◌<◌, ◌≤◌, List, [], ◌∷◌, ◌++◌, Bool, true, false, refl, sym, ◌∙◌, ap, subst, arith, inl, inr}
-use Rattle.std.specs.Prelude.{◌||◌, Option, Some, None, Result, Ok, Err, IfOk, OnOk, OnSome, length, drop, slice_get}
+use Rattle.std.proofs.Common.{◌≡◌, ℕ, List, [], ◌∷◌, ◌++◌, Bool, true, false, refl, sym, ◌∙◌, ap, subst, arith}
+use Rattle.std.specs.Prelude.{◌||◌, Option, Some, None, Result, Ok, Err, IfOk, OnOk}
 use Rattle.std.specs.declared.alloc.AllocError.{AllocError}
-use Rattle.layout.specs.declared.Geometry.{Geometry}
 use Rattle.message.specs.declared.Incoming.{Incoming}
-use Rattle.message.specs.declared.Incoming.TheVariants as incoming
 use Rattle.tree.specs.declared.Who.{Who}
 use Rattle.tree.specs.declared.Call.{Call}
 use Rattle.tree.specs.declared.Reply.{Reply}
-use Rattle.tree.specs.Tree.{Tree}
 use Rattle.tree.specs.Answers.{Answer, answer_of}
 use Rattle.marks.specs.Marks.{Mark, Took}
 use Rattle.marks.specs.Opening.{Opening, contents_at}
 use Rattle.marks.specs.Told.{Told, Posted, Complained, Received, received, took_end, took_nothing}
 use Rattle.marks.specs.Acts.{Act, Began, Absorbed, AtLink, told_of, marks_after}
-use Rattle.legal.specs.ServerCall.{Serving, Serves, Replied, Cut as WasCutOff}
+use Rattle.legal.specs.ServerCall.{Serving, Replied, Cut as WasCutOff}
 use Rattle.reissue.specs.Calls.{Truth}
 use Rattle.driver_events.specs.Kept.{with_next}
-use Rattle.schedule.specs.Calls.{Arrival}
 use Rattle.playing.specs.declared.arrived.Arrived.{Arrived}
-use Rattle.playing.specs.PlayView.{Play, GoesOn, Asides, Answers, HandsOut, work_left}
+use Rattle.playing.specs.PlayView.{Play, GoesOn, Asides, Answers, HandsOut}
 use Rattle.playing.specs.Laws.{LeadsOn}
-use Rattle.playing.specs.Waiting.{arrival_of, HasCalls}
+use Rattle.playing.specs.Waiting.{arrival_of}
 use Rattle.playing.proofs.Going.{leads_stays, leads_joins, servers_lead_on, asides_lead_on, calls_lead_on, answers_lead_on}
-use Rattle.playing.proofs.Waits.{servers_hand_none, asides_hand_none, one_is_handed_out, it_is_answered}
-use Rattle.file_server.specs.Over.{SameServing, Stands, Hears, AbsorbsOver, CallsOver}
+use Rattle.playing.proofs.Waits.{servers_hand_none, asides_hand_none, it_is_answered}
+use Rattle.file_server.specs.Over.{SameServing, Hears, AbsorbsOver, CallsOver}
 use Rattle.file_server.proofs.Standing.{serves_same}
-use Rattle.world.specs.declared.course.Course.{Course}
-use Rattle.world.specs.declared.course.Course.TheVariants.{More, Done, Cut}
-use Rattle.world.specs.Runs.{RunsOn, Awaits, Notes, IsIdle, IsAnswering, WasCut, IsPlayedOut, AnswersTo, ComesTo, EndsAs}
+use Rattle.world.specs.declared.course.Course.TheVariants.{More}
+use Rattle.world.specs.Runs.{RunsOn, Awaits, Notes, IsAnswering, WasCut, AnswersTo, ComesTo}
 
 pub runs_stays : (s : Serving) (was : Truth) (b : Play) → RunsOn s s was was b b
 runs_stays s was b = record { geometry = refl; minor = refl; leads = leads_stays b; stands = λ v tree marks stood. (marks, stood) }
@@ -82,13 +77,13 @@ pub none_came_to : (s t : Serving) (was is : Truth) (b a : Play) (r : Option Inc
 none_came_to s t was is b a r w = (w.less, λ idle. record { ended = w.ended ∙ idle.ended; calls = w.hands_none [] idle.calls })
 
 -- a message handed over is no take
-no_end : (told : List Told) → took_nothing told ≡ true → took_end told ≡ false
+pub no_end : (told : List Told) → took_nothing told ≡ true → took_end told ≡ false
 no_end [] nothing = refl
 no_end (Posted to r accepted ∷ told) nothing = no_end told nothing
 no_end (Complained e ∷ told) nothing = no_end told nothing
 no_end (Received message ∷ told) nothing = cc
 
-told_absorbed : (acts : List Act) (message : Incoming) → told_of (acts ++ Absorbed message ∷ []) ≡ told_of acts
+pub told_absorbed : (acts : List Act) (message : Incoming) → told_of (acts ++ Absorbed message ∷ []) ≡ told_of acts
 told_absorbed [] message = refl
 told_absorbed (Began r ∷ acts) message = told_absorbed acts message
 told_absorbed (Absorbed m ∷ acts) message = told_absorbed acts message

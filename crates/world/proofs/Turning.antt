@@ -1,6 +1,6 @@
 -- What a turn comes to, and a run.
-use Rattle.std.proofs.Common.{◌≡◌, ℕ, ◌+◌, ◌<◌, ◌≤◌, List, [], ◌∷◌, Bool, true, false, refl, sym, ◌∙◌, ap, subst, arith}
-use Rattle.std.specs.Prelude.{Option, Some, None, OnSome, length, drop, slice_get}
+use Rattle.std.proofs.Common.{◌≡◌, ◌<◌, ◌≤◌, List, [], ◌∷◌, true, false, refl, sym, ◌∙◌, ap, subst, arith}
+use Rattle.std.specs.Prelude.{Option, Some, None, length, drop, slice_get}
 use Rattle.legal.specs.ServerCall.{Serving}
 use Rattle.reissue.specs.Calls.{Truth}
 use Rattle.playing.specs.declared.arrived.Arrived.{Arrived}
@@ -10,7 +10,7 @@ use Rattle.playing.proofs.Going.{calls_lead_on}
 use Rattle.playing.proofs.Waits.{one_is_handed_out}
 use Rattle.world.specs.declared.course.Course.{Course}
 use Rattle.world.specs.declared.course.Course.TheVariants.{More, Done, Cut}
-use Rattle.world.specs.Runs.{RunsOn, IsIdle, IsAnswering, WasCut, IsPlayedOut, AnswersTo, ComesTo, EndsAs}
+use Rattle.world.specs.Runs.{RunsOn, IsIdle, IsAnswering, AnswersTo, ComesTo, EndsAs}
 
 -- the call that was handed out is being answered
 answering : (s t : Serving) (b m : Play) (call : Arrived) → HandsOut b (Some call) m → t.ended ≡ s.ended → IsIdle s b → IsAnswering (arrival_of call) t m

@@ -3,6 +3,7 @@
 
 pub mod course;
 pub mod link;
+pub mod run;
 pub mod turns;
 
 pub use link::{Played, WorldLink};

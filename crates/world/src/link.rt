@@ -40,10 +40,11 @@ pub trait WorldLink<'a>: Played + Drop {
     fn waiting(&self) -> u64
         ensures { result ≡ length (Self.Played.play self.now).queue };
 
-    /// Plays the next event between two calls, or tells that a complaint gave the device up, if that is owed: the message that the server is
-    /// to be handed, if there is one. An error: no memory was found, or the link has ended; nothing was done.
+    /// Plays the next event between two calls, or tells that a complaint gave the device up, if that is owed: the message that the server
+    /// is to be handed, if there is one. An error: no memory was found, or the link has ended; nothing was done.
     fn aside(&mut self) -> Result<Option<Incoming>, AllocError>
-        requires { ((Self.Played.play self.old).owed ≡ true) ⊎ ((Self.Played.play self.old).next < length (Self.Played.play self.old).events) }
+        requires { ((Self.Played.play self.old).owed ≡ true)
+            ⊎ ((Self.Played.play self.old).next < length (Self.Played.play self.old).events) }
         ensures asides { Asides (Self.Played.play self.old) result (Self.Played.play self.new) }
         ensures history { Self.Link.history self.new ≡ Self.Link.history self.old }
         ensures truth { (v : Opening) (marks : List Mark) → Self.Link.truth self.old v marks
@@ -64,7 +65,8 @@ pub trait WorldLink<'a>: Played + Drop {
         ensures answers { Answers (Self.Played.play self.old) arrived.entry reply result (Self.Played.play self.new) }
         ensures history { Self.Link.history self.new ≡ Self.Link.history self.old }
         ensures truth { (v : Opening) (marks : List Mark) → Self.Link.truth self.old v marks
-            → OnOk result (Self.Link.truth self.new v (Took arrived.entry.who arrived.entry.now arrived.entry.call (answer_of reply) ∷ marks)) }
+            → OnOk result (Self.Link.truth self.new v
+            (Took arrived.entry.who arrived.entry.now arrived.entry.call (answer_of reply) ∷ marks)) }
         ensures room { OnOk result (33 ≤ Self.Link.room self.new) }
         ensures budget { Self.Link.budget_left self.new ≤ Self.Link.budget_left self.old };
 }

@@ -20,10 +20,12 @@ use tree::{Outcome, Reply};
 fn advance<'a, L: WorldLink<'a>, S: FileServer<L>>(
     server: &mut S,
 ) -> Result<Option<Incoming>, AllocError>
-    requires left { ((L.Played.play (S.line server.old)).owed ≡ true) ⊎ ((L.Played.play (S.line server.old)).next < length (L.Played.play (S.line server.old)).events) }
+    requires left { ((L.Played.play (S.line server.old)).owed ≡ true)
+        ⊎ ((L.Played.play (S.line server.old)).next < length (L.Played.play (S.line server.old)).events) }
     requires ready { S.is_ready server.old }
     ensures awaits { IfOk result (λ m. Awaits (S.Serve.serving server.old) (S.Serve.serving server.new)
-        (L.Link.truth (S.line server.old)) (L.Link.truth (S.line server.new)) (L.Played.play (S.line server.old)) (L.Played.play (S.line server.new)) m) }
+        (L.Link.truth (S.line server.old)) (L.Link.truth (S.line server.new)) (L.Played.play (S.line server.old))
+        (L.Played.play (S.line server.new)) m) }
     ensures ready { OnOk result (S.is_ready server.new) }
     ensures room { OnOk result (33 ≤ L.Link.room (S.line server.new)) }
     ensures absorbed { S.absorbed server.new ≡ S.absorbed server.old }
@@ -34,12 +36,14 @@ fn advance<'a, L: WorldLink<'a>, S: FileServer<L>>(
 /// The next event between two calls is played, or what is owed is told, and the server is handed the message that came. An error: no memory
 /// was found.
 pub fn play_event<'a, L: WorldLink<'a>, S: FileServer<L>>(server: &mut S) -> Result<(), AllocError>
-    requires left { ((L.Played.play (S.line server.old)).owed ≡ true) ⊎ ((L.Played.play (S.line server.old)).next < length (L.Played.play (S.line server.old)).events) }
+    requires left { ((L.Played.play (S.line server.old)).owed ≡ true)
+        ⊎ ((L.Played.play (S.line server.old)).next < length (L.Played.play (S.line server.old)).events) }
     requires ready { S.is_ready server.old }
     requires few { S.absorbed server.old < 2 ^ 48 }
     ensures ready { OnOk result (S.is_ready server.new) }
     ensures runs { OnOk result (RunsOn (S.Serve.serving server.old) (S.Serve.serving server.new)
-        (L.Link.truth (S.line server.old)) (L.Link.truth (S.line server.new)) (L.Played.play (S.line server.old)) (L.Played.play (S.line server.new))) }
+        (L.Link.truth (S.line server.old)) (L.Link.truth (S.line server.new)) (L.Played.play (S.line server.old))
+        (L.Played.play (S.line server.new))) }
     ensures course { OnOk result (ComesTo Course.More (S.Serve.serving server.old) (S.Serve.serving server.new)
         (L.Played.play (S.line server.old)) (L.Played.play (S.line server.new))) }
     ensures absorbed { OnOk result (S.absorbed server.new ≤ S.absorbed server.old + 1) }
@@ -59,7 +63,8 @@ fn note_answer<'a, L: WorldLink<'a>, S: FileServer<L>>(
     requires ready { S.is_ready server.old }
     ensures ready { OnOk result (S.is_ready server.new) }
     ensures noted { OnOk result (Notes (S.Serve.serving server.old) (S.Serve.serving server.new)
-        (L.Link.truth (S.line server.old)) (L.Link.truth (S.line server.new)) (L.Played.play (S.line server.old)) (L.Played.play (S.line server.new)) arrived.entry reply) }
+        (L.Link.truth (S.line server.old)) (L.Link.truth (S.line server.new)) (L.Played.play (S.line server.old))
+        (L.Played.play (S.line server.new)) arrived.entry reply) }
     ensures absorbed { S.absorbed server.new ≡ S.absorbed server.old }
 {
     server.link_mut().took(arrived, reply)
@@ -74,7 +79,8 @@ pub fn answer<'a, L: WorldLink<'a>, S: FileServer<L>>(
     requires knows { S.knows arrived.call }
     ensures ready { OnOk result (S.is_ready server.new) }
     ensures runs { OnOk result (RunsOn (S.Serve.serving server.old) (S.Serve.serving server.new)
-        (L.Link.truth (S.line server.old)) (L.Link.truth (S.line server.new)) (L.Played.play (S.line server.old)) (L.Played.play (S.line server.new))) }
+        (L.Link.truth (S.line server.old)) (L.Link.truth (S.line server.new)) (L.Played.play (S.line server.old))
+        (L.Played.play (S.line server.new))) }
     ensures course { IfOk result (λ c. AnswersTo c (arrival_of arrived.entry) (S.Serve.serving server.old) (S.Serve.serving server.new)
         (L.Played.play (S.line server.old)) (L.Played.play (S.line server.new))) }
     ensures absorbed { OnOk result (S.absorbed server.new ≡ S.absorbed server.old) }
@@ -93,7 +99,8 @@ fn next_call<'a, L: WorldLink<'a>, S: FileServer<L>>(server: &mut S) -> Option<A
     requires { S.is_ready server.old }
     ensures ready { S.is_ready server.new }
     ensures runs { RunsOn (S.Serve.serving server.old) (S.Serve.serving server.new)
-        (L.Link.truth (S.line server.old)) (L.Link.truth (S.line server.new)) (L.Played.play (S.line server.old)) (L.Played.play (S.line server.new)) }
+        (L.Link.truth (S.line server.old)) (L.Link.truth (S.line server.new)) (L.Played.play (S.line server.old))
+        (L.Played.play (S.line server.new)) }
     ensures hands { HandsOut (L.Played.play (S.line server.old)) result (L.Played.play (S.line server.new)) }
     ensures ended { (S.Serve.serving server.new).ended ≡ (S.Serve.serving server.old).ended }
     ensures absorbed { S.absorbed server.new ≡ S.absorbed server.old }
@@ -109,7 +116,8 @@ fn turn<'a, L: WorldLink<'a>, S: FileServer<L>>(server: &mut S) -> Result<Course
     requires knows { (call : Call) → S.knows call }
     ensures ready { OnOk result (S.is_ready server.new) }
     ensures runs { OnOk result (RunsOn (S.Serve.serving server.old) (S.Serve.serving server.new)
-        (L.Link.truth (S.line server.old)) (L.Link.truth (S.line server.new)) (L.Played.play (S.line server.old)) (L.Played.play (S.line server.new))) }
+        (L.Link.truth (S.line server.old)) (L.Link.truth (S.line server.new)) (L.Played.play (S.line server.old))
+        (L.Played.play (S.line server.new))) }
     ensures course { IfOk result (λ c. ComesTo c (S.Serve.serving server.old) (S.Serve.serving server.new)
         (L.Played.play (S.line server.old)) (L.Played.play (S.line server.new))) }
     ensures absorbed { OnOk result (S.absorbed server.new ≤ S.absorbed server.old + 1) }
@@ -129,14 +137,15 @@ fn turn<'a, L: WorldLink<'a>, S: FileServer<L>>(server: &mut S) -> Result<Course
     Ok(Course::Done)
 }
 
-/// A run to its end: the schedule is played, and the calls that arrive in it are answered in their order, each once the one before it is; whether
-/// a call was cut. An error: no memory was found.
+/// A run to its end: the schedule is played, and the calls that arrive in it are answered in their order, each once the one before it is;
+/// whether a call was cut. An error: no memory was found.
 pub fn turns<'a, L: WorldLink<'a>, S: FileServer<L>>(server: &mut S) -> Result<bool, AllocError>
     requires ready { S.is_ready server.old }
     requires few { S.absorbed server.old + work_left (L.Played.play (S.line server.old)) < 2 ^ 48 }
     requires knows { (call : Call) → S.knows call }
     ensures runs { OnOk result (RunsOn (S.Serve.serving server.old) (S.Serve.serving server.new)
-        (L.Link.truth (S.line server.old)) (L.Link.truth (S.line server.new)) (L.Played.play (S.line server.old)) (L.Played.play (S.line server.new))) }
+        (L.Link.truth (S.line server.old)) (L.Link.truth (S.line server.new)) (L.Played.play (S.line server.old))
+        (L.Played.play (S.line server.new))) }
     ensures ends { IfOk result (λ cut. EndsAs cut (S.Serve.serving server.old) (S.Serve.serving server.new)
         (L.Played.play (S.line server.old)) (L.Played.play (S.line server.new))) }
 {
@@ -174,16 +183,16 @@ fn unanswered_calls(cut: bool, waiting: u64) -> u64
 
 /// Plays a run out, from before its first event: how many calls of those that arrived have no answer. An error: no memory was found.
 ///
-/// Each event is played, in its order, and each call that arrives is begun, in its order, once the one before it was answered and what was owed
-/// was told; the last one may be cut. Then the replies are those of the file tree, and the media hold what the record says.
+/// Each event is played, in its order, and each call that arrives is begun, in its order, once the one before it was answered and what was
+/// owed was told; the last one may be cut. Then the replies are those of the file tree, and the media hold what the record says.
 pub fn play_out<'a, L: WorldLink<'a>, S: FileServer<L>>(server: &mut S) -> Result<u64, AllocError>
     requires ready { S.is_ready server.old }
     requires few { S.absorbed server.old + work_left (L.Played.play (S.line server.old)) < 2 ^ 48 }
     requires knows { (call : Call) → S.knows call }
     requires idle { IsIdle (S.Serve.serving server.old) (L.Played.play (S.line server.old)) }
     requires sound { IsSound (L.Played.play (S.line server.old)) }
-    ensures { IfOk result (λ unanswered. RunsOut (S.Serve.serving server.old) (S.Serve.serving server.new) (L.Link.truth (S.line server.old))
-        (L.Played.play (S.line server.old)) (L.Played.play (S.line server.new)) unanswered) }
+    ensures { IfOk result (λ unanswered. RunsOut (S.Serve.serving server.old) (S.Serve.serving server.new)
+        (L.Link.truth (S.line server.old)) (L.Played.play (S.line server.old)) (L.Played.play (S.line server.new)) unanswered) }
 {
     let cut = turns(server)?;
     let Some(waiting) = left_waiting(server) else {

@@ -1,4 +1,4 @@
-use Rattle.std.proofs.Common.{◌≡◌, ◌≤◌, ◌+◌}
+use Rattle.std.proofs.Common.{◌≤◌, ◌+◌}
 use Rattle.playing.specs.PlayView.{work_left}
 use Rattle.world.specs.Runs.{RunsOn, IsIdle}
 use Rattle.world.proofs.turns.turns.Given as goal
