@@ -2,6 +2,7 @@
 
 use errno::Errno;
 use path::Path;
+use std::process::Abort;
 use std::test::Fail;
 
 /// Why a path isn't read.
@@ -14,14 +15,19 @@ fn refusal(bytes: &[u8]) -> Option<Errno> {
 
 #[test]
 fn refusals_in_their_order(rt: HostRuntime) -> Result<(), Fail> {
-    assert_eq!(rt; refusal(b""), Some(Errno::ENOENT));
-    assert_eq!(rt; refusal(&[b'a'; 1025]), Some(Errno::ENAMETOOLONG));
-    assert_eq!(rt; refusal(&[b'/'; 1025]), Some(Errno::ENAMETOOLONG));
-    assert_eq!(rt; refusal(&[b'/'; 1024]), None);
-    assert_eq!(rt; refusal(b"a/b"), Some(Errno::EINVAL));
-    assert_eq!(rt; refusal(b"/a\0b"), Some(Errno::EINVAL));
-    assert_eq!(rt; refusal(&[b'a'; 61]), Some(Errno::EINVAL));
-    assert_eq!(rt; refusal(b"/"), None);
+    let rows: [(&[u8], Option<Errno>); 8] = [
+        (b"", Some(Errno::ENOENT)),
+        (&[b'a'; 1025], Some(Errno::ENAMETOOLONG)),
+        (&[b'/'; 1025], Some(Errno::ENAMETOOLONG)),
+        (&[b'/'; 1024], None),
+        (b"a/b", Some(Errno::EINVAL)),
+        (b"/a\0b", Some(Errno::EINVAL)),
+        (&[b'a'; 61], Some(Errno::EINVAL)),
+        (b"/", None),
+    ];
+    for (bytes, wanted) in rows {
+        assert_eq!(rt; refusal(bytes), wanted);
+    }
     Ok(())
 }
 
@@ -36,19 +42,24 @@ fn a_part_has_60_bytes_at_most(rt: HostRuntime) -> Result<(), Fail> {
     Ok(())
 }
 
+/// It is this part, or none.
+fn is_part(rt: &impl Abort, got: Option<&[u8]>, wanted: Option<&[u8]>) {
+    assert_eq!(rt; got, wanted);
+}
+
 #[test]
 fn slashes_in_a_row_are_one(rt: HostRuntime) -> Result<(), Fail> {
     let Ok(path) = Path::parse(b"//a///bc/") else {
         return Err("not read")?;
     };
     let mut parts = path.parts();
-    assert_eq!(rt; parts.next(), Some(b"a".as_slice()));
-    assert_eq!(rt; parts.next(), Some(b"bc".as_slice()));
-    assert_eq!(rt; parts.next(), None);
+    is_part(&rt, parts.next(), Some(b"a"));
+    is_part(&rt, parts.next(), Some(b"bc"));
+    is_part(&rt, parts.next(), None);
     let mut parent = path.parent();
-    assert_eq!(rt; parent.next(), Some(b"a".as_slice()));
-    assert_eq!(rt; parent.next(), None);
-    assert_eq!(rt; path.last(), b"bc".as_slice());
+    is_part(&rt, parent.next(), Some(b"a"));
+    is_part(&rt, parent.next(), None);
+    is_part(&rt, Some(path.last()), Some(b"bc"));
     assert!(rt; path.has_last_name());
     Ok(())
 }
@@ -63,11 +74,16 @@ fn has_last_name(bytes: &[u8]) -> Option<bool> {
 
 #[test]
 fn dots_and_the_root_are_no_last_name(rt: HostRuntime) -> Result<(), Fail> {
-    assert_eq!(rt; has_last_name(b"/"), Some(false));
-    assert_eq!(rt; has_last_name(b"///"), Some(false));
-    assert_eq!(rt; has_last_name(b"/a/."), Some(false));
-    assert_eq!(rt; has_last_name(b"/.."), Some(false));
-    assert_eq!(rt; has_last_name(b"/..a"), Some(true));
-    assert_eq!(rt; has_last_name(b"/.../"), Some(true));
+    let rows: [(&[u8], bool); 6] = [
+        (b"/", false),
+        (b"///", false),
+        (b"/a/.", false),
+        (b"/..", false),
+        (b"/..a", true),
+        (b"/.../", true),
+    ];
+    for (bytes, wanted) in rows {
+        assert_eq!(rt; has_last_name(bytes), Some(wanted));
+    }
     Ok(())
 }

@@ -1,5 +1,5 @@
 //! Drivers that die, hang or answer wrongly in the middle of a read.
-use crate::volumes::{play_as, play_over, play_with};
+use crate::volumes::{gave, play_as, play_over, play_with};
 use endpoint::{SlotRefusal, Slots};
 use errno::Errno;
 use modeldisk::{Fault, FaultKind, Inner, RamDriver, ScriptedDriver};
@@ -30,9 +30,7 @@ fn replies_outlive_drivers(rt: HostRuntime) -> Result<(), Fail> {
         let played = play_with(alloc, rt, image.as_slice(), TWICE, faults)?;
         let reply = if answers { ROOT } else { "EIO\n" };
         let text = format!(in alloc; "session 0\n{reply}{reply}")?;
-        assert_eq!(rt; played.out.as_str(), text.as_str());
-        assert_eq!(rt; played.status, if answers { 0 } else { 3 });
-        assert_eq!(rt; played.err.as_str(), "");
+        gave(&rt, &played, if answers { 0 } else { 3 }, text.as_str(), "");
     }
     Ok(())
 }
@@ -53,8 +51,7 @@ fn no_fault_is_allowed(rt: HostRuntime) -> Result<(), Fail> {
         let supply = supply_of(alloc, 128, faults)?;
         let played = play_as(alloc, rt, image.as_slice(), TWICE, &setup, supply)?;
         let text = format!(in alloc; "session 0\n{reply}{reply}")?;
-        assert_eq!(rt; played.out.as_str(), text.as_str());
-        assert_eq!(rt; played.status, status);
+        gave(&rt, &played, status, text.as_str(), "");
     }
     Ok(())
 }
@@ -93,12 +90,7 @@ fn each_number_of_the_policy_counts(rt: HostRuntime) -> Result<(), Fail> {
         let played = play_as(alloc, rt, image.as_slice(), TWICE, &setup, supply)?;
         let reply = if serves { ROOT } else { "EIO\n" };
         let text = format!(in alloc; "session 0\n{reply}{reply}")?;
-        assert_eq!(rt;
-            played.out.as_str(),
-            text.as_str(),
-            "{die} {max_faults} {cap} {calm}"
-        );
-        assert_eq!(rt; played.status, if serves { 0 } else { 3 });
+        gave(&rt, &played, if serves { 0 } else { 3 }, text.as_str(), "");
     }
     Ok(())
 }
@@ -120,8 +112,7 @@ fn each_call_asks_once(rt: HostRuntime) -> Result<(), Fail> {
     supply.push(ScriptedDriver::new(inner, script))?;
     let played = play_over(alloc, rt, image.as_slice(), TWICE, supply)?;
     let text = format!(in alloc; "session 0\n{ROOT}EIO\n")?;
-    assert_eq!(rt; played.out.as_str(), text.as_str());
-    assert_eq!(rt; played.status, 3);
+    gave(&rt, &played, 3, text.as_str(), "");
     Ok(())
 }
 

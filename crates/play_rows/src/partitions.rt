@@ -1,5 +1,5 @@
 //! Volumes in a partition of an image.
-use crate::volumes::{Played, play_as};
+use crate::volumes::{Played, gave, play_as};
 use modeldisk::{Inner, RamDriver, ScriptedDriver};
 use partition::{Table, parse};
 use policy::Setup;
@@ -52,9 +52,7 @@ fn a_partition_is_served(rt: HostRuntime) -> Result<(), Fail> {
     let image = disk(alloc, 0x81, 128, 0xaa)?;
     let got = played(alloc, rt, image.as_slice(), 2)?;
     let text = format!(in alloc; "session 0\n{ROOT}")?;
-    assert_eq!(rt; got.out.as_str(), text.as_str());
-    assert_eq!(rt; got.err.as_str(), "");
-    assert_eq!(rt; got.status, 0);
+    gave(&rt, &got, 0, text.as_str(), "");
     Ok(())
 }
 
@@ -67,14 +65,13 @@ fn partitions_are_refused_by_name(rt: HostRuntime) -> Result<(), Fail> {
         (0x83, 128, 0xaa, 2, "Partition\n"),
         (0x81, 128, 0xaa, 1, "Partition\n"),
         (0x81, 128, 0xaa, 5, "Partition\n"),
+        (0x81, 128, 0xaa, 255, "Partition\n"),
         (0x81, 128, 0xaa, 0, "Mount Layout BadMagic\n"),
     ];
     for (kind, count, last, minor, line) in rows {
         let image = disk(alloc, kind, count, last)?;
         let got = played(alloc, rt, image.as_slice(), minor)?;
-        assert_eq!(rt; got.out.as_str(), "");
-        assert_eq!(rt; got.err.as_str(), line);
-        assert_eq!(rt; got.status, 1);
+        gave(&rt, &got, 1, "", line);
     }
     Ok(())
 }

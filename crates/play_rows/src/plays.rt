@@ -1,5 +1,5 @@
 //! Scripts played on volumes: the replies, and what is refused.
-use crate::volumes::{Played, play_with};
+use crate::volumes::{Played, gave, play_with};
 use bdev::Driver;
 use modeldisk::RamDriver;
 use partition::Table;
@@ -11,25 +11,14 @@ use tools::play::{File, Status, Told, play};
 
 const STAT: &[u8] = b"user 0 0\n100 stat /\n";
 
-/// It was refused before anything was played, with this line.
-fn is_refused(rt: &impl Abort, played: &Played, line: &str) {
-    assert_eq!(rt; played.status, 1, "{line}");
-    assert_eq!(rt; played.out.as_str(), "");
-    assert_eq!(rt; played.err.as_str(), line);
-}
-
 #[test]
 fn the_root_is_told(rt: HostRuntime) -> Result<(), Fail> {
     let alloc = rt.alloc();
     for block in [1024, 2048, 4096] {
         let image = new_volume(alloc, block)?;
         let played = play_with(alloc, rt, image.as_slice(), STAT, &[None])?;
-        assert_eq!(rt; played.status, 0);
-        assert_eq!(rt;
-            played.out.as_str(),
-            format!(in alloc; "session 0\n{ROOT}")?.as_str()
-        );
-        assert_eq!(rt; played.err.as_str(), "");
+        let text = format!(in alloc; "session 0\n{ROOT}")?;
+        gave(&rt, &played, 0, text.as_str(), "");
     }
     Ok(())
 }
@@ -50,11 +39,8 @@ fn bad_lines_are_named(rt: HostRuntime) -> Result<(), Fail> {
     ];
     for (script, number) in rows {
         let played = play_with(alloc, rt, image.as_slice(), script, &[None])?;
-        is_refused(
-            &rt,
-            &played,
-            format!(in alloc; "bad line {number} of s.txt\n")?.as_str(),
-        );
+        let line = format!(in alloc; "bad line {number} of s.txt\n")?;
+        gave(&rt, &played, 1, "", line.as_str());
     }
     Ok(())
 }
@@ -74,11 +60,8 @@ fn images_are_refused_by_name(rt: HostRuntime) -> Result<(), Fail> {
     ];
     for (at, byte, line) in rows {
         let image = changed(alloc, at, byte)?;
-        is_refused(
-            &rt,
-            &play_with(alloc, rt, image.as_slice(), STAT, &[None])?,
-            line,
-        );
+        let played = play_with(alloc, rt, image.as_slice(), STAT, &[None])?;
+        gave(&rt, &played, 1, "", line);
     }
     let image = new_volume(alloc, 1024)?;
     let cut = [
@@ -88,13 +71,11 @@ fn images_are_refused_by_name(rt: HostRuntime) -> Result<(), Fail> {
     ];
     for (length, line) in cut {
         let image = image.get(..length).unwrap_or(&[]);
-        is_refused(&rt, &play_with(alloc, rt, image, STAT, &[None])?, line);
+        let played = play_with(alloc, rt, image, STAT, &[None])?;
+        gave(&rt, &played, 1, "", line);
     }
-    is_refused(
-        &rt,
-        &play_with(alloc, rt, image.as_slice(), STAT, &[])?,
-        "NoDriver\n",
-    );
+    let played = play_with(alloc, rt, image.as_slice(), STAT, &[])?;
+    gave(&rt, &played, 1, "", "NoDriver\n");
     Ok(())
 }
 
@@ -137,9 +118,24 @@ fn the_first_fault_is_told(rt: HostRuntime) -> Result<(), Fail> {
             out: String::from_utf8(out)?,
             err: String::from_utf8(err)?,
         };
-        is_refused(&rt, &played, line);
+        gave(&rt, &played, 1, "", line);
     }
     Ok(())
+}
+
+/// A refusal, of which this was told.
+fn is_cut_off(rt: &impl Abort, status: Status, err: &[u8], line: &[u8], told: Told) {
+    assert_eq!(rt; status, Status::Refused(told));
+    assert_eq!(rt; status.number(), 1);
+    assert_eq!(rt; err, line);
+}
+
+/// Of the text's first 70 bytes, those before `room` stand in the space, and no other.
+fn is_beginning(rt: &impl Abort, space: &[u8], text: &[u8], room: usize) {
+    for (at, byte) in text.iter().take(70).enumerate() {
+        let wrote = space.get(at) == Some(byte);
+        assert!(rt; wrote == (at < room), "{at} of {room}");
+    }
 }
 
 #[test]
@@ -171,16 +167,14 @@ fn a_writer_fails(rt: HostRuntime) -> Result<(), Fail> {
             &mut out,
             &mut err,
         );
-        assert_eq!(rt; status, Status::Refused(Told::Whole));
-        assert_eq!(rt; status.number(), 1);
-        assert_eq!(rt;
-            err.as_slice(),
-            b"cannot write standard output\n".as_slice()
+        is_cut_off(
+            &rt,
+            status,
+            &err,
+            b"cannot write standard output\n",
+            Told::Whole,
         );
-        for (at, byte) in text.as_bytes().iter().take(70).enumerate() {
-            let wrote = space.get(at) == Some(byte);
-            assert!(rt; wrote == (at < room), "{at} of {room}");
-        }
+        is_beginning(&rt, &space, text.as_bytes(), room);
     }
     Ok(())
 }
@@ -210,9 +204,8 @@ fn a_refusal_is_cut_off(rt: HostRuntime) -> Result<(), Fail> {
         &mut out,
         &mut err,
     );
-    assert_eq!(rt; status, Status::Refused(Told::Partly));
-    assert_eq!(rt; out.as_slice(), b"".as_slice());
-    assert_eq!(rt; space, *b"can");
+    is_cut_off(&rt, status, &space, b"can", Told::Partly);
+    assert!(rt; out.is_empty());
     Ok(())
 }
 
@@ -230,6 +223,13 @@ impl Write for Slow {
     fn flush(&mut self) -> io::Result<()> {
         Ok(())
     }
+}
+
+/// Looks at what two writers have, and at the status.
+fn is_told(rt: &impl Abort, out: &Slow, err: &Slow, status: u8, wanted: (&str, &str, u8)) {
+    assert_eq!(rt; out.0.as_slice(), wanted.0.as_bytes());
+    assert_eq!(rt; err.0.as_slice(), wanted.1.as_bytes());
+    assert_eq!(rt; status, wanted.2);
 }
 
 /// A writer that takes little at a time and goes on gets all of it.
@@ -265,9 +265,13 @@ fn a_writer_takes_little(rt: HostRuntime) -> Result<(), Fail> {
                 &mut out,
                 &mut err,
             );
-            assert_eq!(rt; status.number(), number);
-            assert_eq!(rt; out.0.as_slice(), out_text.as_bytes());
-            assert_eq!(rt; err.0.as_slice(), err_text.as_bytes());
+            is_told(
+                &rt,
+                &out,
+                &err,
+                status.number(),
+                (out_text, err_text, number),
+            );
         }
     }
     Ok(())

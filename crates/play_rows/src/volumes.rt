@@ -3,6 +3,7 @@ use modeldisk::{FaultKind, ScriptedDriver};
 use policy::Setup;
 use samples::{supply_of, whole};
 use std::alloc::Global;
+use std::process::Abort;
 use std::sync::Wait;
 use std::test::Fail;
 use tools::play::{File, play};
@@ -13,6 +14,13 @@ pub(crate) struct Played {
     pub(crate) status: u8,
     pub(crate) out: String,
     pub(crate) err: String,
+}
+
+/// Looks at what a play gave.
+pub(crate) fn gave(rt: &impl Abort, played: &Played, status: u8, out: &str, err: &str) {
+    assert_eq!(rt; played.out.as_str(), out);
+    assert_eq!(rt; played.err.as_str(), err);
+    assert_eq!(rt; played.status, status);
 }
 
 /// Plays a script on an image with drivers that have these faults.

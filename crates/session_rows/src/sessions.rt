@@ -7,7 +7,6 @@ ghost use Rattle.board.specs.View.{IsKeeper, opener};
 ghost use Rattle.startup.specs.Starting.{opening_of, IsStartable};
 
 use board::{Board, Device, Seat};
-use driven::Driven;
 use inline::local::LocalDriver;
 use keeping::recorder::Recorder;
 use keeping::room::Room;
@@ -16,7 +15,6 @@ use policy::Setup;
 use reissue::link::TrueLink;
 use samples::{ROOT, new_volume, supply_of, whole};
 use serve::gate::Open;
-use serve::noting::Noting;
 use serve::refusal::SessionRefusal;
 use serve::service::{Service, Shared};
 use serve::session::Session;
@@ -24,6 +22,7 @@ use serve::start::{Program, serve, start};
 use startup::{Prepared, prepare};
 use std::alloc::Global;
 use std::marker::Brand;
+use std::process::Abort;
 use std::sync::{Arc, Wait};
 use std::test::Fail;
 use std::thread::{Threads, join};
@@ -92,6 +91,26 @@ fn all_told(alloc: Global, outcomes: &[Outcome], line: &str) -> Result<bool, Fai
     Ok(true)
 }
 
+/// There are so many outcomes, and each is told so.
+fn are_told(
+    rt: &impl Abort,
+    alloc: Global,
+    outcomes: &[Outcome],
+    count: usize,
+    line: &str,
+) -> Result<(), Fail> {
+    assert_eq!(rt; outcomes.len(), count);
+    assert!(rt; all_told(alloc, outcomes, line)?);
+    Ok(())
+}
+
+/// Both sessions' device, and how many marks each had seen, before they met and after.
+fn has_seen(rt: &impl Abort, got: &Got, device: Device, apart: (u64, u64), seen: u64) {
+    assert!(rt; got.devices == (device, device));
+    assert_eq!(rt; got.apart, apart);
+    assert_eq!(rt; got.seen, (seen, seen));
+}
+
 /// A start, and an answer and a call's mark for each of six calls.
 #[test]
 fn two_sessions_call_in_turn(rt: HostRuntime) -> Result<(), Fail> {
@@ -109,12 +128,8 @@ fn two_sessions_call_in_turn(rt: HostRuntime) -> Result<(), Fail> {
     ) else {
         panic!(rt; "not served");
     };
-    assert_eq!(rt; got.outcomes.len(), 6);
-    assert!(rt; all_told(alloc, got.outcomes.as_slice(), ROOT)?);
-    assert_eq!(rt; got.devices, (Device::Live, Device::Live));
-    assert_eq!(rt; got.apart, (11, 13));
-    assert_eq!(rt; got.seen, (13, 13));
-    Ok(())
+    has_seen(&rt, &got, Device::Live, (11, 13), 13);
+    are_told(&rt, alloc, got.outcomes.as_slice(), 6, ROOT)
 }
 
 /// A start, the giving up, and six calls' marks.
@@ -134,12 +149,8 @@ fn both_are_told_of_the_giving_up(rt: HostRuntime) -> Result<(), Fail> {
     ) else {
         panic!(rt; "not served");
     };
-    assert_eq!(rt; got.outcomes.len(), 6);
-    assert!(rt; all_told(alloc, got.outcomes.as_slice(), "EIO\n")?);
-    assert_eq!(rt; got.devices, (Device::GivenUp, Device::GivenUp));
-    assert_eq!(rt; got.apart, (7, 8));
-    assert_eq!(rt; got.seen, (8, 8));
-    Ok(())
+    has_seen(&rt, &got, Device::GivenUp, (7, 8), 8);
+    are_told(&rt, alloc, got.outcomes.as_slice(), 6, "EIO\n")
 }
 
 /// As many sessions as there are numbers, and one more before and after one of them ends.
@@ -170,6 +181,18 @@ impl<R: Wait + Copy> Program<R> for Many {
     }
 }
 
+/// 63 sessions are left, the last one before was refused, and the one after wasn't.
+fn is_free_again(
+    rt: &impl Abort,
+    left: usize,
+    before: Option<SessionRefusal>,
+    after: Option<SessionRefusal>,
+) {
+    assert_eq!(rt; left, 63);
+    assert_eq!(rt; before, Some(SessionRefusal::TooMany));
+    assert_eq!(rt; after, None);
+}
+
 #[test]
 fn a_number_is_free_again(rt: HostRuntime) -> Result<(), Fail> {
     let alloc = rt.alloc();
@@ -187,16 +210,14 @@ fn a_number_is_free_again(rt: HostRuntime) -> Result<(), Fail> {
     let Ok(Some((left, before, after))) = served else {
         panic!(rt; "not served");
     };
-    assert_eq!(rt; left, 63);
-    assert_eq!(rt; before, Some(SessionRefusal::TooMany));
-    assert_eq!(rt; after, None);
+    is_free_again(&rt, left, before, after);
     Ok(())
 }
 
 /// Three calls, one after the other.
-fn three_calls<N: Room, R: Wait + Copy, D: LocalDriver>(
+fn three_calls<N: Room, R: Wait + Copy, L: Recorder<N> + TrueLink>(
     alloc: Global,
-    mut session: Session<N, Shared<N, R, Line<N, D>>>,
+    mut session: Session<N, Shared<N, R, L>>,
 ) -> Option<Vec<Outcome>> {
     let mut outcomes = Vec::new(alloc);
     for now in [100, 101, 102] {
@@ -208,10 +229,27 @@ fn three_calls<N: Room, R: Wait + Copy, D: LocalDriver>(
     Some(outcomes)
 }
 
-/// The link of a service over drivers.
-type Line<N, D> = Noting<N, Driven<D>>;
+/// Two sessions of a service make three calls each, in threads of their own.
+fn in_threads<
+    N: Room + Send + Sync,
+    R: Threads + Wait + Copy + Send + Sync,
+    L: Recorder<N> + TrueLink + Send,
+>(
+    alloc: Global,
+    rt: R,
+    service: &Service<N, Shared<N, R, L>>,
+) -> Option<(Vec<Outcome>, Vec<Outcome>)> {
+    let one = service.session(0, 0).ok()?;
+    let two = service.session(7, 8).ok()?;
+    let (first, second) = join(
+        &rt,
+        move || three_calls(alloc, one),
+        move || three_calls(alloc, two),
+    );
+    Some((first?, second?))
+}
 
-/// Two sessions make three calls each, in threads of their own.
+/// The same, over a service that is started on drivers.
 fn on_threads<N: Room + Send + Sync, R: Threads + Wait + Copy + Send + Sync, D: LocalDriver + Send>(
     alloc: Global,
     rt: R,
@@ -238,14 +276,7 @@ fn on_threads<N: Room + Send + Sync, R: Threads + Wait + Copy + Send + Sync, D: 
     let service = start::<N, R, D, Open>(
         alloc, rt, board, seat, prepared, setup, supply, gate,
     ).ok()?;
-    let one = service.session(0, 0).ok()?;
-    let two = service.session(7, 8).ok()?;
-    let (first, second) = join(
-        &rt,
-        move || three_calls(alloc, one),
-        move || three_calls(alloc, two),
-    );
-    Some((first?, second?))
+    in_threads(alloc, rt, &service)
 }
 
 /// The same, over a service on the volume in an image.
@@ -273,8 +304,7 @@ fn two_threads_call(rt: HostRuntime) -> Result<(), Fail> {
         panic!(rt; "not served");
     };
     for outcomes in [one.as_slice(), two.as_slice()] {
-        assert_eq!(rt; outcomes.len(), 3);
-        assert!(rt; all_told(alloc, outcomes, ROOT)?);
+        are_told(&rt, alloc, outcomes, 3, ROOT)?;
     }
     Ok(())
 }
