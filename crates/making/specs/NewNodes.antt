@@ -1,5 +1,5 @@
 -- A free inode of a volume becomes a node.
-use Rattle.std.specs.Prelude.{◌≡◌, ◌≢◌, ◌<◌, ℕ, ◌+◌, List, replicate, true, Option, None, Some, IsTrue}
+use Rattle.std.specs.Prelude.{◌≡◌, ◌≢◌, ◌<◌, ℕ, ◌+◌, replicate, true, Option, None, Some, IsTrue}
 use Rattle.errno.specs.declared.Errno.TheVariants.{ENOSPC}
 use Rattle.layout.specs.declared.Geometry.{Geometry}
 use Rattle.tree.specs.declared.User.{User}
