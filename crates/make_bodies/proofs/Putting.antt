@@ -141,8 +141,7 @@ module _ (g : Geometry) (ok : IsGeometry g) (d : Disk) (p : Place) (n others now
 
   pub file_stands : (e : Disk) → MakesFile g n user now mode d e → Stands g d e (put t.nodes n (Some file))
   file_stands e makes =
-      let b = makes.becomes may_make_file in
-      step_is_done g d d e t.nodes n (Some file) begun makes.head (record { sound = b.sound; nodes = b.nodes })
+      step_is_done g d d e t.nodes n (Some file) begun makes.head (makes.becomes may_make_file)
 
   pub file_small : zones_of g (Some file) ≤ others
   file_small = let a = file_takes g now mode user in omega (arith, a)
@@ -159,8 +158,7 @@ module _ (g : Geometry) (ok : IsGeometry g) (d : Disk) (p : Place) (n others now
   module _ (links : parent.links < most_links) (some_others : 0 < others) where
     pub directory_stands : (e : Disk) → MakesDirectory g n at user now mode d e → Stands g d e (put t.nodes n (Some directory))
     directory_stands e makes =
-        let b = makes.becomes (may_make_directory some_others) in
-        step_is_done g d d e t.nodes n (Some directory) begun makes.head (record { sound = b.sound; nodes = b.nodes })
+        step_is_done g d d e t.nodes n (Some directory) begun makes.head (makes.becomes (may_make_directory some_others))
 
     pub directory_small : zones_of g (Some directory) ≤ others
     directory_small = let a = directory_takes g now mode at user ok in omega (arith, a, some_others)

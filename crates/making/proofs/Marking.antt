@@ -24,7 +24,8 @@ use Rattle.zone_laws.proofs.Keeps.{sound_but_is_sound, sound_is_sound_but}
 use Rattle.zone_laws.proofs.Files.{same_file}
 use Rattle.entries.proofs.EntryBytes.{zero_at}
 use Rattle.file.specs.Changing.{MayChange, file_at}
-use Rattle.making.specs.NewNodes.{BecomesAt, MakesFile, MayMakeFile, new_inode, with_new_inode}
+use Rattle.node_steps.specs.Steps.{BecomesAt}
+use Rattle.making.specs.NewNodes.{MakesFile, MayMakeFile, new_inode, with_new_inode}
 
 -- a file of no bytes
 abbrev pub nothing : File

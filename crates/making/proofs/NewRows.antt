@@ -32,7 +32,8 @@ use Rattle.file.specs.Changing.{BecomesFile, HasZonesFor, MayWriteAt, WritesAt, 
 use Rattle.entries.specs.First.{AreFirstEntries}
 use Rattle.entries.proofs.Becoming.{body_is}
 use Rattle.entries.proofs.EntryBytes.{past}
-use Rattle.making.specs.NewNodes.{BecomesAt, MayMakeDirectory, MakesDirectory, new_inode, with_new_inode}
+use Rattle.node_steps.specs.Steps.{BecomesAt}
+use Rattle.making.specs.NewNodes.{MayMakeDirectory, MakesDirectory, new_inode, with_new_inode}
 use Rattle.making.proofs.Marking.{directory_kind, directory_mode, directory_permissions, its_file, its_nodes, marked, may_change, no_places, nothing, rules, some}
 
 -- what was put last is there
