@@ -1,8 +1,8 @@
 -- What mkdir answers, and the tree that it leaves.
-use Rattle.std.proofs.Common.{◌≡◌, ◌<◌, ◌≤◌, ◌+◌, ◌^◌, ℕ, List, true, false, refl, sym, ap, subst, ◌∙◌, arith, Ok, Err}
+use Rattle.std.proofs.Common.{◌≡◌, ◌<◌, ◌≤◌, ◌+◌, ◌^◌, ℕ, List, refl, sym, ap, subst, ◌∙◌, arith, Ok, Err}
 use mathlib.Core.Logic.{inl, inr}
 use Rattle.std.specs.Borrow.{Bor}
-use Rattle.std.specs.Prelude.{Result, nat_le, nat_lt, if◌then◌else◌}
+use Rattle.std.specs.Prelude.{nat_le, nat_lt}
 use Rattle.std.proofs.lemmas.Bool.{cond-false, cond-true, le-leb, le-ltb, lt-leb, lt-ltb}
 use Rattle.errno.specs.declared.Errno.{Errno}
 use Rattle.errno.specs.declared.Errno.TheVariants.{EINVAL, EMLINK, ENOSPC}
@@ -10,14 +10,13 @@ use Rattle.layout.specs.declared.Geometry.{Geometry}
 use Rattle.layout.specs.Places.{IsGeometry}
 use Rattle.tree.specs.declared.User.{User}
 use Rattle.tree.specs.declared.Who.{Who}
-use Rattle.tree.specs.declared.Call.TheVariants.{Mkdir}
 use Rattle.tree.specs.IsCall.{IsBytes}
 use Rattle.tree.specs.IsTree.{IsTree}
 use Rattle.tree.specs.Tree.{Node, Tree, most_links, most_permissions}
 use Rattle.tree.specs.Refusals.{◌>>=◌, refuse_if}
 use Rattle.tree.specs.Walk as tree
 use Rattle.tree.specs.Changes.{free_inode}
-use Rattle.tree.specs.Answers.{Answer, Effect, done, if_it_fits}
+use Rattle.tree.specs.Answers.{Effect, done, if_it_fits}
 use Rattle.tree.specs.NameCalls.{mkdir}
 use Rattle.tree.specs.Space.{data_zones, zones_used}
 use Rattle.tree_laws.proofs.CallsKeep.{mkdir_keeps}
@@ -29,9 +28,8 @@ use Rattle.walk.specs.declared.place.Place.{Place}
 use Rattle.walk.specs.Places.{place_of}
 use Rattle.bodies.specs.Does.{Does}
 use Rattle.bodies.proofs.Made.{granted_made}
-use Rattle.call_laws.specs.Stands.{Stands}
 use Rattle.call_laws.proofs.Between.{holds_at_end}
-use Rattle.make_bodies.specs.Making.{MakesDirectoryAt, MayMakeAt, MayMakeDirectoryAt, with_new_directory}
+use Rattle.make_bodies.specs.Making.{MakesDirectoryAt, MayMakeDirectoryAt, with_new_directory}
 use Rattle.make_bodies.specs.Vacant.{IsFreeFor, IsFull, IsNewPlace, at_new_place, zones_with_name}
 use Rattle.make_bodies.proofs.Numbers.{directory_in}
 use Rattle.make_bodies.proofs.Putting.{is_free, parent_links}

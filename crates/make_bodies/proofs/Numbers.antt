@@ -1,20 +1,17 @@
 -- The number of a new node, and room for its name.
-use Rattle.std.proofs.Common.{◌≡◌, ◌≢◌, ◌<◌, ◌≤◌, ◌+◌, ℕ, Bool, true, false, List, length, refl, sym, ap, subst, ◌∙◌, arith, replicate, Some, None, Ok, Err}
+use Rattle.std.proofs.Common.{◌≡◌, ◌≢◌, ◌<◌, ◌≤◌, ◌+◌, ℕ, Bool, true, false, List, refl, sym, ap, subst, ◌∙◌, arith, replicate, Some, None}
 use mathlib.Core.Logic.{inl, inr, ◌↔◌}
-use Rattle.std.specs.Prelude.{IsTrue, Option, is_some}
+use Rattle.std.specs.Prelude.{IsTrue, is_some}
 use Rattle.std.proofs.lemmas.Bool.{and_parts, cases_lt}
-use Rattle.errno.specs.declared.Errno.{Errno}
 use Rattle.errno.specs.declared.Errno.TheVariants.{ENOSPC}
 use Rattle.layout.specs.declared.Geometry.{Geometry}
 use Rattle.layout.specs.Places.{IsGeometry}
 use Rattle.tree.specs.Sums.{put}
-use Rattle.tree.specs.Names.{Name, Names, inode_of}
-use Rattle.tree.specs.Tree.{Node, Tree, is_dir, names_of, size_of}
-use Rattle.tree.specs.Refusals.{or_refuse}
-use Rattle.tree.specs.Changes.{free_inode}
+use Rattle.tree.specs.Names.{Names, inode_of}
+use Rattle.tree.specs.Tree.{Node, Tree, names_of, size_of}
 use Rattle.tree.specs.Space.{data_zones, zones_of}
 use Rattle.tree.proofs.Maps.{not_true}
-use Rattle.tree_laws.proofs.Steps.{not_refused, ok_is}
+use Rattle.tree_laws.proofs.Steps.{not_refused}
 use Rattle.volume.specs.declared.Inode.{Inode}
 use Rattle.volume.specs.Holds.{HoldsVolume}
 use Rattle.volume.specs.Nodes.{is_marked, nodes_of}
@@ -26,8 +23,7 @@ use Rattle.zone_laws.specs.Room.{taken_by}
 use Rattle.zone_laws.specs.Steps.{marked_in}
 use Rattle.zone_laws.proofs.Room.{nodes_take_marked}
 use Rattle.entry_laws.specs.Directories.{before}
-use Rattle.file.specs.Changing.{MayChange, written_at}
-use Rattle.file.specs.Room.{HasZonesBeside, IsRoomBeside}
+use Rattle.file.specs.Room.{IsRoomBeside}
 use Rattle.file.proofs.Spaces.{room_beside_is_space}
 use Rattle.entries.proofs.Becoming.{may_change}
 use Rattle.entries.specs.Names.{IsOfDirectory}

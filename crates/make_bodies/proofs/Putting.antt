@@ -1,5 +1,5 @@
 -- A new node and its name are put on a volume, step by step.
-use Rattle.std.proofs.Common.{◌≡◌, ◌≢◌, ◌<◌, ◌≤◌, ◌+◌, ℕ, length, refl, sym, ap, subst, ◌∙◌, arith, Some, None, Ok, Err}
+use Rattle.std.proofs.Common.{◌≡◌, ◌≢◌, ◌<◌, ◌≤◌, ◌+◌, ℕ, length, refl, sym, ap, subst, ◌∙◌, arith, Some, Ok}
 use mathlib.Core.Logic.{inl, inr}
 use Rattle.std.specs.Prelude.{IsTrue, Option, nat_le, nat_lt, ◌&&◌, ◌||◌, ◌==◌, not}
 use Rattle.std.specs.List.{list_any}
@@ -10,10 +10,10 @@ use Rattle.layout.specs.Places.{IsGeometry}
 use Rattle.tree.specs.declared.User.{User}
 use Rattle.tree.specs.Sums.{put}
 use Rattle.tree.specs.Names.{Name, is_dots, is_name, most_name, with_name}
-use Rattle.tree.specs.Tree.{Node, Tree, is_dir, is_directory, most_links}
+use Rattle.tree.specs.Tree.{Node, Tree, most_links}
 use Rattle.tree.specs.Walk as tree
 use Rattle.tree.specs.Changes.{empty_directory, empty_file, free_inode, more_links, new_node, with_ctime, with_names}
-use Rattle.tree.specs.Space.{data_zones, zones_of}
+use Rattle.tree.specs.Space.{zones_of}
 use Rattle.tree.proofs.Maps.{put-same}
 use Rattle.tree_laws.proofs.Outcomes.{IsFree, free_inode_is}
 use Rattle.tree_laws.proofs.Steps.{not_refused, ok_is}
@@ -21,21 +21,20 @@ use Rattle.volume.specs.declared.Inode.{Inode}
 use Rattle.volume.specs.Holds.{HoldsVolume}
 use Rattle.volume.specs.Nodes.{nodes_of}
 use Rattle.volume.specs.Pieces.{Pieces, pieces}
-use Rattle.volume.specs.Reading.{Disk, is_inode}
+use Rattle.volume.specs.Reading.{Disk}
 use Rattle.zone_laws.specs.Room.{taken_by}
 use Rattle.entries.specs.Names.{Inserts, MayInsert}
 use Rattle.walk.specs.declared.place.Place.{Place}
 use Rattle.walk.specs.Places.{place_of}
-use Rattle.making.specs.NewNodes.{BecomesAt, MakesDirectory, MakesFile, MayMakeDirectory, MayMakeFile}
-use Rattle.node_steps.specs.Steps.{AddsLink, MayAddLink, node_at}
-use Rattle.node_steps.specs.Steps as steps
+use Rattle.making.specs.NewNodes.{MakesDirectory, MakesFile, MayMakeDirectory, MayMakeFile}
+use Rattle.node_steps.specs.Steps.{AddsLink, MayAddLink}
 use Rattle.call_laws.specs.Stands.{Stands}
 use Rattle.call_laws.proofs.Between.{node_stands, nothing_is_done, step_is_done}
 use Rattle.call_laws.proofs.Entering.{name_may_be_put}
 use Rattle.make_bodies.specs.Making.{MayMakeAt, MayMakeDirectoryAt, with_new_directory, with_new_file}
 use Rattle.make_bodies.specs.Vacant.{IsVacant, zones_with_name}
 use Rattle.make_bodies.proofs.Numbers.{directory_in, directory_some, may_grow}
-use Rattle.make_bodies.proofs.Trees.{apart, directory_nodes, entered_takes, file_nodes, still_there}
+use Rattle.make_bodies.proofs.Trees.{directory_nodes, entered_takes, file_nodes, still_there}
 use Rattle.make_bodies.proofs.Zones.{by_directory, directory_takes, file_takes, name_takes_more, taken_put}
 
 -- what was found free is
@@ -142,8 +141,7 @@ module _ (g : Geometry) (ok : IsGeometry g) (d : Disk) (p : Place) (n others now
 
   pub file_stands : (e : Disk) → MakesFile g n user now mode d e → Stands g d e (put t.nodes n (Some file))
   file_stands e makes =
-      let b = makes.becomes may_make_file in
-      step_is_done g d d e t.nodes n (Some file) begun makes.head (record { sound = b.sound; nodes = b.nodes })
+      step_is_done g d d e t.nodes n (Some file) begun makes.head (makes.becomes may_make_file)
 
   pub file_small : zones_of g (Some file) ≤ others
   file_small = let a = file_takes g now mode user in omega (arith, a)
@@ -160,8 +158,7 @@ module _ (g : Geometry) (ok : IsGeometry g) (d : Disk) (p : Place) (n others now
   module _ (links : parent.links < most_links) (some_others : 0 < others) where
     pub directory_stands : (e : Disk) → MakesDirectory g n at user now mode d e → Stands g d e (put t.nodes n (Some directory))
     directory_stands e makes =
-        let b = makes.becomes (may_make_directory some_others) in
-        step_is_done g d d e t.nodes n (Some directory) begun makes.head (record { sound = b.sound; nodes = b.nodes })
+        step_is_done g d d e t.nodes n (Some directory) begun makes.head (makes.becomes (may_make_directory some_others))
 
     pub directory_small : zones_of g (Some directory) ≤ others
     directory_small = let a = directory_takes g now mode at user ok in omega (arith, a, some_others)

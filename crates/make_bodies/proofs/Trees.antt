@@ -1,16 +1,16 @@
 -- A tree with a new node at a place: its nodes, its zones, its open files.
-use Rattle.std.proofs.Common.{◌≡◌, ◌≢◌, ◌<◌, ◌≤◌, ◌+◌, ℕ, true, refl, sym, ap, subst, ◌∙◌, arith}
-use Rattle.std.specs.Prelude.{None, Option, Some, is_some}
+use Rattle.std.proofs.Common.{◌≡◌, ◌≢◌, ◌<◌, ◌+◌, ℕ, true, refl, sym, ap, ◌∙◌, arith}
+use Rattle.std.specs.Prelude.{None, Some}
 use Rattle.layout.specs.declared.Geometry.{Geometry}
 use Rattle.layout.specs.Places.{IsGeometry}
 use Rattle.tree.specs.declared.User.{User}
-use Rattle.tree.specs.Names.{Name, inode_of, with_name}
+use Rattle.tree.specs.Names.{inode_of, with_name}
 use Rattle.tree.specs.Sums.{put}
-use Rattle.tree.specs.Tree.{Node, Tree, is_dir, is_directory, names_of, on_node, with_node}
+use Rattle.tree.specs.Tree.{Node, Tree, is_dir, names_of, on_node, with_node}
 use Rattle.tree.specs.Walk.{Place}
 use Rattle.tree.specs.Changes.{empty_directory, empty_file, more_links, new_node, with_ctime, with_names}
 use Rattle.tree.specs.NameCalls.{with_entry}
-use Rattle.tree.specs.Space.{data_zones, zones_of, zones_used}
+use Rattle.tree.specs.Space.{zones_of}
 use Rattle.tree.proofs.Maps.{not_nothing, put-other, put-same}
 use Rattle.tree_laws.proofs.TreeOver.{over_itself, over_on_node, over_with_node}
 use Rattle.tree_laws.proofs.Views.{on_node_there}
@@ -19,7 +19,7 @@ use Rattle.descriptors.specs.Files.{Files, HasFiles}
 use Rattle.node_steps.proofs.Nodes.{put_twice}
 use Rattle.make_bodies.specs.Making.{with_new_directory, with_new_file}
 use Rattle.make_bodies.specs.Vacant.{zones_with_name}
-use Rattle.make_bodies.proofs.Zones.{by_directory, directory_takes, file_takes, name_takes_more, taken_put}
+use Rattle.make_bodies.proofs.Zones.{by_directory, directory_takes, file_takes, taken_put}
 
 module _ (g : Geometry) (ok : IsGeometry g) (t : Tree) (user : User) (now mode : ℕ) (place : Place) (n : ℕ) (parent : Node)
     (there : t.nodes place.directory ≡ Some parent) (kind : is_dir parent ≡ true) (nothing : t.nodes n ≡ None)

@@ -1,7 +1,7 @@
 -- What a path to a new name leads to.
 use Rattle.std.proofs.Common.{◌≡◌, ◌<◌, ℕ, List, true, false, sym, ap, ◌∙◌, Some, None, Ok, Err}
 use mathlib.Core.Logic.{inl, inr}
-use Rattle.std.specs.Prelude.{◌||◌, IsTrue, is_some, not, All}
+use Rattle.std.specs.Prelude.{◌||◌, is_some, not, All}
 use Rattle.std.proofs.lemmas.Bool.{cases_Bool, cond-true, not-false, or_parts}
 use Rattle.errno.specs.declared.Errno.{Errno}
 use Rattle.errno.specs.declared.Errno.TheVariants.{EACCES, EEXIST, ENOENT}
@@ -18,7 +18,7 @@ use Rattle.tree_laws.proofs.NewPlaces.{last_named, none_there}
 use Rattle.tree_laws.proofs.Places.{is_place}
 use Rattle.volume.specs.declared.Inode.{Inode}
 use Rattle.volume.specs.Holds.{HoldsVolume}
-use Rattle.volume.specs.Nodes.{is_directory_mode, is_marked, node_of, permissions_in}
+use Rattle.volume.specs.Nodes.{node_of}
 use Rattle.volume.specs.Pieces.{pieces}
 use Rattle.volume.specs.Reading.{Disk}
 use Rattle.walk.specs.declared.place.Place.{Place}

@@ -1,16 +1,16 @@
 -- How many zones the nodes take when one is new, or has a name more.
-use Rattle.std.proofs.Common.{◌≡◌, ◌≢◌, ◌<◌, ◌≤◌, ◌+◌, ◌*◌, ◌-◌, ◌/◌, ℕ, Bool, true, false, length, refl, sym, ap, subst, ◌∙◌, arith}
+use Rattle.std.proofs.Common.{◌≡◌, ◌<◌, ◌≤◌, ◌+◌, ◌*◌, ◌-◌, ◌/◌, ℕ, Bool, true, false, length, refl, sym, ap, subst, ◌∙◌, arith}
 use mathlib.Core.Logic.{inl, inr}
-use Rattle.std.specs.Prelude.{IsTrue, None, Option, Some, nat_lt, not, ◌==◌}
-use Rattle.std.proofs.lemmas.Bool.{cases_eq, cases_lt, cond-false, eq-eqb, le-ltb, lt-ltb, ltb-true, ne_eqb}
+use Rattle.std.specs.Prelude.{IsTrue, None, Option, Some, nat_lt}
+use Rattle.std.proofs.lemmas.Bool.{cases_eq, cases_lt, cond-false, le-ltb, lt-ltb, ltb-true}
 use Rattle.layout.specs.declared.Geometry.{Geometry}
 use Rattle.layout.specs.Places.{IsGeometry, is_block_size}
 use Rattle.tree.specs.declared.User.{User}
 use Rattle.tree.specs.Sums.{count_below, one_if, put, some_below, sum_below}
-use Rattle.tree.specs.Names.{Name, Names, inode_of, with_name}
+use Rattle.tree.specs.Names.{Name, inode_of, with_name}
 use Rattle.tree.specs.Tree.{Body, Directory, Node, is_dir, is_directory, is_file, names_of, size_of}
 use Rattle.tree.specs.Changes.{empty_directory, empty_file, new_node, with_names}
-use Rattle.tree.specs.Space.{data_zones, held_of, numbers_in_zone, pages_of, zones_of}
+use Rattle.tree.specs.Space.{numbers_in_zone, pages_of, zones_of}
 use Rattle.tree.specs.ZonesNeeded.{double_blocks, from_page, page_limit, single_blocks, triple_blocks, zones_needed}
 use Rattle.tree.proofs.Maps.{not_true, put-other, put-same, same_sum, sum_put}
 use Rattle.tree.proofs.Needs.{none_counted}

@@ -1,5 +1,5 @@
 -- Nodes that are made at places.
-use Rattle.std.specs.Prelude.{◌≡◌, ◌<◌, ◌≤◌, ℕ, ◌+◌, Some}
+use Rattle.std.specs.Prelude.{◌<◌, ℕ, Some}
 use Rattle.layout.specs.declared.Geometry.{Geometry}
 use Rattle.tree.specs.declared.User.{User}
 use Rattle.tree.specs.Tree.{Node, Tree, most_links, on_node, with_node}

@@ -1,12 +1,11 @@
 -- The least inode that isn't marked is the least that is free.
 use Rattle.std.proofs.Common.{◌≡◌, ◌<◌, ◌≤◌, ◌+◌, ◌-◌, ℕ, true, false, sym, ap, ◌∙◌, arith}
-use mathlib.Core.Logic.{inl, inr}
 use Rattle.std.specs.Prelude.{◌&&◌, ◌==◌, nat_le, Option, None, Some, Ok, Err, is_none, if◌then◌else◌}
 use Rattle.std.proofs.lemmas.Bool.{and_from, cond-true, cond-false, eq-eqb, le-leb, ne_eqb}
 use Rattle.layout.specs.declared.Geometry.{Geometry}
 use Rattle.errno.specs.declared.Errno.TheVariants.{ENOSPC}
 use Rattle.tree.specs.Sums.{least_below}
-use Rattle.tree.specs.Tree.{Node, Tree}
+use Rattle.tree.specs.Tree.{Node}
 use Rattle.tree.specs.Refusals.{◌>>=◌}
 use Rattle.volume.specs.Reading.{is_inode}
 use Rattle.volume.specs.Pieces.{Pieces}

@@ -1,21 +1,20 @@
 -- A free inode is written and marked: the rules hold, and a file of no bytes stands there.
-use Rattle.std.proofs.Common.{◌≡◌, ◌≢◌, ◌<◌, ◌≤◌, ◌+◌, ◌*◌, ◌/◌, ◌%◌, ◌^◌, ℕ, Bool, true, false, refl, sym, ap, subst, ◌∙◌, arith, replicate}
+use Rattle.std.proofs.Common.{◌≡◌, ◌≢◌, ◌<◌, ◌≤◌, ◌+◌, ◌/◌, ◌%◌, ◌^◌, ℕ, true, false, refl, sym, ap, subst, ◌∙◌, arith, replicate}
 use mathlib.Core.Logic.{inl, inr}
-use Rattle.std.specs.Prelude.{◌&&◌, ◌||◌, ◌==◌, nat_lt, nat_le, not, if◌then◌else◌, IsTrue, None, Some, slice_index}
+use Rattle.std.specs.Prelude.{◌||◌, ◌==◌, nat_lt, nat_le, not, IsTrue, None, Some, slice_index}
 use Rattle.std.proofs.lemmas.Bool.{and_from, and_parts, cases_Bool, cond-false, cond-true, le-ltb, leb-true, lt-ltb}
 use Rattle.layout.specs.declared.Geometry.{Geometry}
 use Rattle.layout.specs.Places.{IsGeometry}
 use Rattle.tree.specs.declared.User.{User}
 use Rattle.tree.specs.Sums.{put}
-use Rattle.tree.specs.Tree.{File, Node, is_file, directory_type, file_type}
+use Rattle.tree.specs.Tree.{File, Node, directory_type, file_type}
 use Rattle.tree.specs.Changes.{empty_file, new_node}
 use Rattle.tree.proofs.Maps.{not_nothing, not_true, put-same, put-other}
 use Rattle.volume.specs.declared.Inode.{Inode}
 use Rattle.volume.specs.Reading.{Disk, is_inode}
 use Rattle.volume.specs.Pieces.{Pieces, pieces}
-use Rattle.volume.specs.Nodes.{file_of, is_directory_mode, is_marked, is_mode, node_of, nodes_of, page_byte, page_zone, permissions_in, slot, type_in}
+use Rattle.volume.specs.Nodes.{is_directory_mode, is_marked, is_mode, node_of, nodes_of, page_byte, page_zone, permissions_in, slot, type_in}
 use Rattle.volume.specs.Places.{zone_at}
-use Rattle.volume.specs.Entries.{is_directory_inode}
 use Rattle.volume.specs.Holds.{IsSound}
 use Rattle.store.specs.Volume.{Alters}
 use Rattle.zone_laws.specs.Steps.{IsSoundBut, body_from, node_from}
@@ -25,7 +24,8 @@ use Rattle.zone_laws.proofs.Keeps.{sound_but_is_sound, sound_is_sound_but}
 use Rattle.zone_laws.proofs.Files.{same_file}
 use Rattle.entries.proofs.EntryBytes.{zero_at}
 use Rattle.file.specs.Changing.{MayChange, file_at}
-use Rattle.making.specs.NewNodes.{BecomesAt, MakesFile, MayMakeFile, new_inode, with_new_inode}
+use Rattle.node_steps.specs.Steps.{BecomesAt}
+use Rattle.making.specs.NewNodes.{MakesFile, MayMakeFile, new_inode, with_new_inode}
 
 -- a file of no bytes
 abbrev pub nothing : File

@@ -1,5 +1,5 @@
 -- The first page of a directory is written: it is in order, and has no names.
-use Rattle.std.proofs.Common.{◌≡◌, ◌≢◌, ◌<◌, ◌≤◌, ◌+◌, ◌*◌, ◌-◌, ◌/◌, ℕ, Bool, true, false, List, length, refl, sym, ap, subst, ◌∙◌, arith}
+use Rattle.std.proofs.Common.{◌≡◌, ◌≢◌, ◌<◌, ◌≤◌, ◌+◌, ◌*◌, ◌-◌, ◌/◌, ℕ, true, false, List, length, refl, sym, ap, subst, ◌∙◌, arith}
 use mathlib.Core.Logic.{inl, inr}
 use Rattle.std.specs.Prelude.{◌&&◌, ◌==◌, nat_le, nat_lt, IsTrue, Some, slice_index, []}
 use Rattle.std.proofs.lemmas.Bool.{and_from, cases_eq, cases_lt, cond-false, cond-true, le-leb, le-ltb, lt-ltb}
@@ -8,16 +8,15 @@ use Rattle.layout.specs.Places.{IsGeometry, is_block_size}
 use Rattle.tree.specs.declared.User.{User}
 use Rattle.tree.specs.Names.{dot, dot_dot}
 use Rattle.tree.specs.Sums.{one_if, put}
-use Rattle.tree.specs.Tree.{File, Node, directory_type, is_directory}
+use Rattle.tree.specs.Tree.{File, directory_type}
 use Rattle.tree.specs.Changes.{empty_directory, file_after_write, new_node}
-use Rattle.tree.specs.Space.{data_zones, numbers_in_zone, pages_of}
-use Rattle.tree.specs.ZonesNeeded.{page_limit, zones_needed}
+use Rattle.tree.specs.Space.{numbers_in_zone, pages_of}
+use Rattle.tree.specs.ZonesNeeded.{zones_needed}
 use Rattle.tree.proofs.Maps.{is_put, put-same, put-other}
 use Rattle.volume.specs.declared.Inode.{Inode}
 use Rattle.volume.specs.Pieces.{Pieces, pieces}
 use Rattle.volume.specs.Reading.{Disk}
 use Rattle.volume.specs.Nodes.{is_directory_mode, nodes_of, page_zone}
-use Rattle.volume.specs.Places.{zone_at}
 use Rattle.store.specs.Volume.{Alters}
 use Rattle.zone_laws.specs.Steps.{marked_in, node_from}
 use Rattle.zone_laws.specs.Missing.{missing}
@@ -33,7 +32,8 @@ use Rattle.file.specs.Changing.{BecomesFile, HasZonesFor, MayWriteAt, WritesAt, 
 use Rattle.entries.specs.First.{AreFirstEntries}
 use Rattle.entries.proofs.Becoming.{body_is}
 use Rattle.entries.proofs.EntryBytes.{past}
-use Rattle.making.specs.NewNodes.{BecomesAt, MayMakeDirectory, MakesDirectory, new_inode, with_new_inode}
+use Rattle.node_steps.specs.Steps.{BecomesAt}
+use Rattle.making.specs.NewNodes.{MayMakeDirectory, MakesDirectory, new_inode, with_new_inode}
 use Rattle.making.proofs.Marking.{directory_kind, directory_mode, directory_permissions, its_file, its_nodes, marked, may_change, no_places, nothing, rules, some}
 
 -- what was put last is there

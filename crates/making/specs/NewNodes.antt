@@ -1,5 +1,5 @@
 -- A free inode of a volume becomes a node.
-use Rattle.std.specs.Prelude.{◌≡◌, ◌≢◌, ◌<◌, ℕ, ◌+◌, List, replicate, true, Option, None, Some, IsTrue}
+use Rattle.std.specs.Prelude.{◌≡◌, ◌≢◌, ◌<◌, ℕ, ◌+◌, replicate, true, Option, None, Some, IsTrue}
 use Rattle.errno.specs.declared.Errno.TheVariants.{ENOSPC}
 use Rattle.layout.specs.declared.Geometry.{Geometry}
 use Rattle.tree.specs.declared.User.{User}
@@ -14,7 +14,7 @@ use Rattle.volume.specs.Pieces.{Pieces, pieces}
 use Rattle.volume.specs.Nodes.{nodes_of}
 use Rattle.volume.specs.Holds.{IsSound}
 use Rattle.zone_laws.specs.Room.{taken_by}
-use Rattle.zone.specs.Pages.{SameHead}
+use Rattle.node_steps.specs.Steps.{Changes}
 
 -- this is what a tree with these nodes finds as the least free inode
 abbrev pub IsLeastFree : Geometry → Pieces → Option ℕ → Type 0
@@ -38,22 +38,15 @@ new_inode kind links user now permissions = record {
 abbrev pub with_new_inode : Pieces → ℕ → Inode → Pieces
 with_new_inode v n i = record v { inode_map = put v.inode_map n true; inodes = put v.inodes n i }
 
--- The volume stays sound, and the node at n becomes x.
-pub record BecomesAt (g : Geometry) (v w : Pieces) (n : ℕ) (x : Option Node) : Type 0 where
-  pub sound : IsSound g w
-  pub nodes : nodes_of g w ≡ put (nodes_of g v) n x
-
 -- A sound volume in which no node is at the number, which is an inode's.
 pub record MayMakeFile (g : Geometry) (v : Pieces) (n : ℕ) : Type 0 where
   pub sound : IsSound g v
   pub number : IsTrue (is_inode g n)
   pub free : nodes_of g v n ≡ None
 
--- A file without bytes stands there.
-pub record MakesFile (g : Geometry) (n : ℕ) (user : User) (now permissions : ℕ) (d e : Disk) : Type 0 where
-  pub head : SameHead d e
-  pub becomes : let v = pieces g d in
-      MayMakeFile g v n → BecomesAt g v (pieces g e) n (Some (new_node now user permissions 1 empty_file))
+-- a file without bytes stands there
+abbrev pub MakesFile : Geometry → ℕ → User → ℕ → ℕ → Disk → Disk → Type 0
+MakesFile g n user now permissions d e = Changes g n (MayMakeFile g (pieces g d) n) (Some (new_node now user permissions 1 empty_file)) d e
 
 -- The same, a parent, and a zone that no node takes.
 pub record MayMakeDirectory (g : Geometry) (v : Pieces) (n parent : ℕ) : Type 0 where
@@ -61,8 +54,7 @@ pub record MayMakeDirectory (g : Geometry) (v : Pieces) (n parent : ℕ) : Type 
   pub some : parent ≢ 0
   pub room : taken_by g (nodes_of g v) < data_zones g
 
--- A directory without names stands there.
-pub record MakesDirectory (g : Geometry) (n parent : ℕ) (user : User) (now permissions : ℕ) (d e : Disk) : Type 0 where
-  pub head : SameHead d e
-  pub becomes : let v = pieces g d in
-      MayMakeDirectory g v n parent → BecomesAt g v (pieces g e) n (Some (new_node now user permissions 2 (empty_directory parent)))
+-- a directory without names stands there
+abbrev pub MakesDirectory : Geometry → ℕ → ℕ → User → ℕ → ℕ → Disk → Disk → Type 0
+MakesDirectory g n parent user now permissions d e =
+    Changes g n (MayMakeDirectory g (pieces g d) n parent) (Some (new_node now user permissions 2 (empty_directory parent))) d e

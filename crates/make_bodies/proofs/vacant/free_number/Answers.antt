@@ -1,4 +1,4 @@
-use Rattle.std.proofs.Common.{◌<◌, ◌+◌, subst, arith, rules}
+use Rattle.std.proofs.Common.{◌<◌, subst, arith, rules}
 use Rattle.volume.specs.Pieces.{pieces}
 use Rattle.store.proofs.Turns.{reads_as, reads_then}
 use Rattle.file.specs.Room.{IsRoomBeside}
