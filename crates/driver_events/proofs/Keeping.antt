@@ -16,8 +16,7 @@ use Rattle.bdev.specs.Promises.{StepKeeps, StepsAt as DriverStepsAt, MovesAtMost
 use Rattle.policy.specs.declared.Event.{Event as PolicyEvent}
 use Rattle.policy.specs.declared.Event.TheVariants as policy
 use Rattle.policy.specs.Watch as restart
-use Rattle.policy.specs.declared.Policy.{Policy}
-use Rattle.policy.specs.Watch.{Watch, driver, on}
+use Rattle.policy.specs.Watch.{driver, on}
 use Rattle.marks.specs.Marks.{Mark, Started, Answered, Flush, GaveUp, Fault, ChangesNothing}
 use Rattle.marks.specs.declared.Cause.{Cause}
 use Rattle.marks.specs.declared.Cause.TheVariants.{Exit, Hung}
@@ -44,7 +43,7 @@ use Rattle.run_log.proofs.NotedLaws.{mark_in}
 use Rattle.driver_events.specs.declared.ruling.Ruling.{Ruling}
 use Rattle.driver_events.specs.declared.ruling.Ruling.TheVariants as ruling
 use Rattle.driver_events.specs.Disks.{Disks, seen, reply_in, sent_at, Steps, NoStep, CurrentSteps, OlderSteps, torn_media, Dies, NoneDies, CurrentDies, OlderDies, Hangs, NoneHangs, CurrentHangs, OlderHangs, LinesUpAgain, NoneLinesUp, CurrentLinesUp, OlderLinesUp, Repeats, started, opened_disks}
-use Rattle.driver_events.specs.Scene.{Scene, Opens, faulted, told_of_ruling, ruled, Exits, beaten, acted, told_of_action, tick_event, next_started, Ticks, AfterStep, AfterDeath, delivered}
+use Rattle.driver_events.specs.Scene.{Scene, faulted, told_of_ruling, ruled, Exits, beaten, acted, told_of_action, tick_event, next_started, Ticks, AfterStep, AfterDeath, delivered}
 use Rattle.driver_events.specs.Kept.{DisksKept, IsPost, PostsKept, SceneKept, NotesAside, with_next, IsLatest, EventsKeep, EventsNoteAside, OpeningKeeps}
 use Rattle.driver_events.proofs.DisksLaws.{map_push}
 use Rattle.driver_events.proofs.Decided.{start_is_next}

@@ -1,10 +1,11 @@
 -- What the link's guarantee says of replies and of the media, and what is the same or less after anything that is done at the link.
-use Rattle.std.specs.Prelude.{◌≡◌, ◌<◌, ◌≤◌, List, take, Option, Result, OnOk, OnSome}
+use Rattle.std.specs.Prelude.{true, ◌≡◌, ◌<◌, ◌≤◌, List, take, Option, Result, OnOk, OnSome}
 use Rattle.std.specs.declared.alloc.AllocError.{AllocError}
 use Rattle.message.specs.declared.Incoming.{Incoming}
 use Rattle.tree.specs.declared.Reply.{Reply}
 use Rattle.schedule.specs.Groups.{schedule_of}
-use Rattle.marks.specs.Marks.{Mark}
+use Rattle.run_log.specs.Noted.{marks_in}
+use Rattle.marks.specs.Marks.{Mark, gave_up}
 use Rattle.marks.specs.Disk.{HasTrueReplies}
 use Rattle.marks.specs.Opening.{Opening, contents_at}
 use Rattle.true_replies.specs.State.{MediaHold, OutsideHolds}
@@ -59,3 +60,14 @@ CallsLeadOn = (b a : Play) (result : Option Arrived) → HandsOut b result a →
 -- and after its answer is noted
 abbrev pub AnswersLeadOn : Type 0
 AnswersLeadOn = (b a : Play) (arrived : Arrived) (reply : Reply) (result : Result (Unit {0}) AllocError) → Answers b arrived reply result a → LeadsOn b a
+
+-- that the device was given up was told only where the record says so
+pub record IsToldTruly (p : Play) : Type 0 where
+  pub told : p.told ≡ true → gave_up (marks_in p.scene.noted) ≡ true
+
+-- so it stays, whatever a server does at the link, and through what is done between two calls
+abbrev pub ServersTellTruly : Type 0
+ServersTellTruly = (b a : Play) → GoesOn b a → IsToldTruly b → IsToldTruly a
+
+abbrev pub AsidesTellTruly : Type 0
+AsidesTellTruly = (b a : Play) (result : Result (Option Incoming) AllocError) → Asides b result a → IsToldTruly b → IsToldTruly a

@@ -1,7 +1,7 @@
 //! What the link's guarantee goes on through, each a law of the definitions.
 
 ghost use Rattle.playing.specs.Waiting.{ServersHandNone, AsidesHandNone, OneIsHandedOut, ItIsAnswered};
-ghost use Rattle.playing.specs.Laws.{RepliesAreTrue, MediaAreHeld, ServersLeadOn, AsidesLeadOn, CallsLeadOn, AnswersLeadOn};
+ghost use Rattle.playing.specs.Laws.{RepliesAreTrue, MediaAreHeld, ServersLeadOn, AsidesLeadOn, CallsLeadOn, AnswersLeadOn, ServersTellTruly, AsidesTellTruly};
 
 /// In each record of which the guarantee holds the replies are true.
 #[tactic(auto, using(crate::proofs::PlayLaws::replies_true))]
@@ -63,4 +63,16 @@ pub fn one_is_handed_out()
 #[tactic(auto, using(crate::proofs::Waits::it_is_answered))]
 pub fn it_is_answered()
     ensures { ItIsAnswered }
+{}
+
+/// That a complaint gave the device up was told only where the record says that it was given up; so it stays, whatever a server does at the link.
+#[tactic(auto, using(crate::proofs::Telling::servers_tell_truly))]
+pub fn servers_tell_truly()
+    ensures { ServersTellTruly }
+{}
+
+/// And through what is done between two calls.
+#[tactic(auto, using(crate::proofs::Telling::asides_tell_truly))]
+pub fn asides_tell_truly()
+    ensures { AsidesTellTruly }
 {}
