@@ -1,6 +1,6 @@
 -- The calls that have a body.
 use Rattle.tree.specs.declared.Call.{Call}
-use Rattle.tree.specs.declared.Call.TheVariants.{Truncate, Write, Close, Dup, Read, Seek, Stat, Fstat, Unlink, Rmdir, Chmod, Chown, Utime, Readdir, Sync, Statfs}
+use Rattle.tree.specs.declared.Call.TheVariants.{Mkdir, Link, Truncate, Write, Close, Dup, Read, Seek, Stat, Fstat, Unlink, Rmdir, Chmod, Chown, Utime, Readdir, Sync, Statfs}
 
 -- the calls that have a body
 abbrev pub IsGiven : Call → Type 0
@@ -20,4 +20,6 @@ IsGiven Sync = Unit {0}
 IsGiven Statfs = Unit {0}
 IsGiven (Write fd bytes) = Unit {0}
 IsGiven (Truncate path size) = Unit {0}
+IsGiven (Link old new) = Unit {0}
+IsGiven (Mkdir path mode) = Unit {0}
 IsGiven _ = ⊥

@@ -21,7 +21,8 @@ use descriptors::Descriptors;
 use errno::Errno;
 use layout::Geometry;
 use listing::readdir;
-use name_bodies::{rmdir, unlink};
+use make_bodies::mkdir;
+use name_bodies::{link, rmdir, unlink};
 use node_bodies::{chmod, chown, stat, utime};
 use std::alloc::Global;
 use store::{Blocks, Cut, Halt};
@@ -81,6 +82,8 @@ fn perform<B: Blocks>(
         Call::Statfs => statfs(blocks, geometry),
         Call::Write { fd, bytes } => write(blocks, opens, geometry, now, session, fd, bytes),
         Call::Truncate { path, size } => truncate(blocks, geometry, user, now, path, size),
+        Call::Link { old, new } => link(blocks, geometry, user, now, old, new),
+        Call::Mkdir { path, mode } => mkdir(blocks, geometry, user, now, path, mode),
         _ => unreachable!(),
     }
 }

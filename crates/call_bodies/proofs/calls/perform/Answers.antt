@@ -2,10 +2,10 @@ use Rattle.std.proofs.Common.{◌≡◌, ap, sym, refl, Ok, w64, to_z, of_z, rul
 use mir.Val.{SFits}
 use Rattle.std.proofs.lemmas.Int.{to_z-of_z}
 use Rattle.tree.specs.declared.User.{User}
-use Rattle.tree.specs.declared.Call.TheVariants.{Truncate, Write, Close, Unlink, Rmdir, Dup, Read, Seek, Stat, Fstat, Chmod, Chown, Utime, Readdir, Sync, Statfs}
+use Rattle.tree.specs.declared.Call.TheVariants.{Mkdir, Link, Truncate, Write, Close, Unlink, Rmdir, Dup, Read, Seek, Stat, Fstat, Chmod, Chown, Utime, Readdir, Sync, Statfs}
 use Rattle.tree.specs.NodeCalls.{truncate, stat, chmod, chown, utime, statfs}
 use Rattle.tree.specs.FileCalls.{write, close, dup, read, seek, fstat, readdir}
-use Rattle.tree.specs.NameCalls.{unlink, rmdir}
+use Rattle.tree.specs.NameCalls.{mkdir, link, unlink, rmdir}
 use Rattle.tree.specs.Answers.{done}
 use Rattle.descriptors.specs.Table.{files_of}
 use Rattle.store.proofs.Turns.{turns_none, turns_as}
@@ -131,3 +131,17 @@ returns-in-Truncate-clause-turns g c =
     turns_as _ _ _ _ _ (λ d e x. kind_meets a.geometry.now a.who a.now (Truncate w.path w.size) early (λ t. truncate a.geometry.now t c.user_of-user.result a.now w.path.now w.size)
     (λ t. ap (λ (u : User). truncate a.geometry.now t u a.now w.path.now w.size) (sym c.user_of-user.ensures)) a.call.now w.is c.truncate.result f f d e (x f))
     c.truncate.ensures.turns
+
+pub returns-in-Link-clause-turns : goal.returns-in-Link-clause-turns
+returns-in-Link-clause-turns g c =
+    let a = c.args in let f = files_of a.opens.now in let w = c.in-Link in let early = c.if-who-ge-MAX_SESSIONS.false in
+    turns_as _ _ _ _ _ (λ d e x. kind_meets a.geometry.now a.who a.now (Link w.old w.new) early (λ t. link a.geometry.now t c.user_of-user.result a.now w.old.now w.new.now)
+    (λ t. ap (λ (u : User). link a.geometry.now t u a.now w.old.now w.new.now) (sym c.user_of-user.ensures)) a.call.now w.is c.link.result f f d e (x f))
+    c.link.ensures.turns
+
+pub returns-in-Mkdir-clause-turns : goal.returns-in-Mkdir-clause-turns
+returns-in-Mkdir-clause-turns g c =
+    let a = c.args in let f = files_of a.opens.now in let w = c.in-Mkdir in let early = c.if-who-ge-MAX_SESSIONS.false in
+    turns_as _ _ _ _ _ (λ d e x. kind_meets a.geometry.now a.who a.now (Mkdir w.path w.mode) early (λ t. mkdir a.geometry.now t c.user_of-user.result a.now w.path.now w.mode)
+    (λ t. ap (λ (u : User). mkdir a.geometry.now t u a.now w.path.now w.mode) (sym c.user_of-user.ensures)) a.call.now w.is c.mkdir.result f f d e (x f))
+    c.mkdir.ensures.turns
