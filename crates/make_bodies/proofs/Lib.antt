@@ -5,3 +5,4 @@ pub mod Numbers
 pub mod Putting
 pub mod Ending
 pub mod NewDirectories
+pub mod NewFiles

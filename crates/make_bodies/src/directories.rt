@@ -76,8 +76,8 @@ fn make<B: Blocks>(
 }
 
 /// mkdir: a directory at a place where nothing is, with the permissions of the mode; its parent has a link more. EINVAL of other bits, the
-/// refusals of the path and of the walk, EEXIST, EACCES where the user may not change the parent's names, EMLINK where the parent has as many
-/// links as may be, ENOSPC where no inode is free or there aren't zones enough.
+/// refusals of the path and of the walk, EEXIST, EACCES where the user may not change the parent's names, EMLINK where the parent has as
+/// many links as may be, ENOSPC where no inode is free or there aren't zones enough.
 pub fn mkdir<B: Blocks>(
     blocks: &mut B,
     geometry: &Geometry,

@@ -6,5 +6,5 @@ mod files;
 mod vacant;
 
 pub use directories::mkdir;
-pub use files::put_file;
+pub use files::{make_file, put_file};
 pub use vacant::{free_number, may_write};

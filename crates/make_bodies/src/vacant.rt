@@ -28,8 +28,8 @@ pub fn may_write(user: User, inode: &Inode) -> bool
     may(user, inode.mode % 512, inode.uid, inode.gid, Wish::Write)
 }
 
-/// The place at which a path's last name is missing. The refusals of the path and of the walk come first, then EEXIST where the name is there
-/// or the path has none, then EACCES where the user may not change the directory's names.
+/// The place at which a path's last name is missing. The refusals of the path and of the walk come first, then EEXIST where the name is
+/// there or the path has none, then EACCES where the user may not change the directory's names.
 pub(crate) fn vacant_place<'a, B: Blocks>(
     blocks: &mut B,
     geometry: &Geometry,
