@@ -7,6 +7,7 @@ use message::Kind;
 use modeldisk::{ModelDriver, RamDriver};
 use partition::{PartitionRefusal, Table, parse};
 use std::alloc::{AllocError, Global};
+use std::process::Abort;
 use std::test::Fail;
 
 /// So many zeros.
@@ -25,22 +26,47 @@ fn table_sector(count: u8) -> [u8; 512] {
     sector
 }
 
+/// A request is accepted so.
+fn is_accepted(rt: &impl Abort, got: Accept, wanted: Accept) {
+    assert_eq!(rt; got, wanted);
+}
+
+/// A step ended so, or is no end.
+fn ended(rt: &impl Abort, got: Option<Result<u32, Errno>>, wanted: Option<Result<u32, Errno>>) {
+    assert_eq!(rt; got, wanted);
+}
+
+/// This sector is in work, and this byte stands in front of it.
+fn works_at(rt: &impl Abort, got: (Option<u32>, Option<u8>), sector: u32, byte: u8) {
+    assert_eq!(rt; got, (Some(sector), Some(byte)));
+}
+
+/// A sector was moved, or not.
+fn is_moved(rt: &impl Abort, got: Result<(), SectorRefusal>, wanted: Result<(), SectorRefusal>) {
+    assert_eq!(rt; got, wanted);
+}
+
 #[test]
 fn an_arm_sweeps(rt: HostRuntime) -> Result<(), Fail> {
     for (arm, order, after) in [(10, [10, 11, 8, 9], 10), (9, [9, 10, 11, 8], 9)] {
         let mut media = numbered(rt.alloc(), 16)?;
         let mut driver = ModelDriver::new(Table::whole(16), arm);
-        assert_eq!(rt;
+        is_accepted(
+            &rt,
             driver.accept(request(1, Kind::Write, 0, 4096, 2048)),
-            Accept::Taken
+            Accept::Taken,
         );
         for sector in order {
-            assert_eq!(rt; driver.in_work(), Some(sector));
-            assert_eq!(rt; first_byte(&media, sector), Some(sector as u8));
+            let got = (driver.in_work(), first_byte(&media, sector));
+            works_at(&rt, got, sector, sector as u8);
             let step = driver.step(&mut media, 0);
             assert_eq!(rt; first_byte(&media, sector), Some(200));
             let ends = sector == order[3];
-            assert_eq!(rt; outcome(&step), if ends { Some(Ok(2048)) } else { None });
+            ended(
+                &rt,
+                outcome(&step),
+                if ends { Some(Ok(2048)) } else { None },
+            );
         }
         assert_eq!(rt; driver.arm(), after);
     }
@@ -75,7 +101,7 @@ fn partitions_bound_requests(rt: HostRuntime) -> Result<(), Fail> {
     for (id, minor, position, count, answer) in rows {
         driver.accept(request(id, Kind::Read, minor, position, count));
         let step = driver.step(&mut media, 0);
-        assert_eq!(rt; outcome(&step), Some(answer));
+        ended(&rt, outcome(&step), Some(answer));
         if let Step::Done(answer) = step {
             assert_eq!(rt; answer.id, id);
             assert!(rt; id > 1 || answer.bytes[511] == 128);
@@ -90,19 +116,22 @@ fn partitions_bound_requests(rt: HostRuntime) -> Result<(), Fail> {
 fn requests_are_busy_or_old(rt: HostRuntime) -> Result<(), Fail> {
     let mut media = numbered(rt.alloc(), 16)?;
     let mut driver: Driver = Box::new(rt.alloc(), RamDriver::new(Table::whole(16)))?;
-    assert_eq!(rt;
+    is_accepted(
+        &rt,
         driver.accept(request(5, Kind::Read, 0, 512, 512)),
-        Accept::Taken
+        Accept::Taken,
     );
     assert_eq!(rt; driver.in_work(), None);
-    assert_eq!(rt;
+    is_accepted(
+        &rt,
         driver.accept(request(6, Kind::Read, 0, 0, 512)),
-        Accept::Busy
+        Accept::Busy,
     );
-    assert_eq!(rt; run(&mut driver, &mut media, 0), Some(Ok(512)));
-    assert_eq!(rt;
+    ended(&rt, run(&mut driver, &mut media, 0), Some(Ok(512)));
+    is_accepted(
+        &rt,
         driver.accept(request(5, Kind::Read, 0, 0, 512)),
-        Accept::Old
+        Accept::Old,
     );
     assert!(rt; matches!(&driver.step(&mut media, 0), Step::Idle));
     Ok(())
@@ -113,14 +142,19 @@ fn generations_fence(rt: HostRuntime) -> Result<(), Fail> {
     let mut media = numbered(rt.alloc(), 3)?;
     assert_eq!(rt; media.sectors(), 3);
     media.adopt(2);
-    assert_eq!(rt;
+    is_moved(
+        &rt,
         media.write_sector(1, 999999, &[9; 512]),
-        Err(SectorRefusal::Revoked)
+        Err(SectorRefusal::Revoked),
     );
-    assert_eq!(rt; media.tear(2, 3, &[9; 512]), Err(SectorRefusal::PastEnd));
+    is_moved(
+        &rt,
+        media.tear(2, 3, &[9; 512]),
+        Err(SectorRefusal::PastEnd),
+    );
     media.adopt(1);
-    assert_eq!(rt; media.write_sector(2, 0, &[9; 512]), Ok(()));
-    assert_eq!(rt; media.tear(2, 2, &[8; 512]), Ok(()));
+    is_moved(&rt, media.write_sector(2, 0, &[9; 512]), Ok(()));
+    is_moved(&rt, media.tear(2, 2, &[8; 512]), Ok(()));
     let image = media.image(rt.alloc())?;
     assert_eq!(rt; image.len(), 1536);
     assert!(rt; image[511] == 9 && image[512] == 1 && image[1024] == 8);

@@ -6,6 +6,7 @@ use message::{BlockReply, BlockRequest, Kind};
 use output::OutputRefusal;
 use std::alloc::Global;
 use std::io::{self, ErrorKind, Write};
+use std::process::Abort;
 use std::test::Fail;
 use transcript_text::mark::MarkRef;
 use transcript_text::write::write_transcript;
@@ -72,6 +73,11 @@ fn written(
     Ok(out)
 }
 
+/// They are the same text.
+fn is_text(rt: &impl Abort, got: &[u8], wanted: &[u8]) {
+    assert_eq!(rt; got, wanted);
+}
+
 /// A driver dies in a read, and the next one answers it.
 #[test]
 fn writes_a_death(rt: HostRuntime) -> Result<(), Fail> {
@@ -88,7 +94,7 @@ fn writes_a_death(rt: HostRuntime) -> Result<(), Fail> {
     ];
     let text =
         b"started 1.1\nissue 1 read 4096 1024 to 1.1\nfault 1.1 exit\nstarted 1.2\nissue 1 read 4096 1024 to 1.2\nanswer 1 1024 from 1.2\nreply 0 inode 1 mode 0040755 links 2 uid 0 gid 0 size 128 times 50 50 50\nunanswered 0\n";
-    assert_eq!(rt; written(rt.alloc(), &marks, 0)?.as_slice(), text.as_slice());
+    is_text(&rt, &written(rt.alloc(), &marks, 0)?, text);
     Ok(())
 }
 
@@ -113,7 +119,7 @@ fn writes_other_marks(rt: HostRuntime) -> Result<(), Fail> {
     ];
     let text =
         b"flush\nissue 12 write 4096 512 to 1.4294967295\nanswer 1 EIO from 1.2\nfault 1.2 complaint\nfault 1.3 hung\ngiven up\nreply 63 EIO\nunanswered 2\n";
-    assert_eq!(rt; written(rt.alloc(), &marks, 2)?.as_slice(), text.as_slice());
+    is_text(&rt, &written(rt.alloc(), &marks, 2)?, text);
     Ok(())
 }
 
@@ -121,10 +127,7 @@ fn writes_other_marks(rt: HostRuntime) -> Result<(), Fail> {
 #[test]
 fn writes_no_marks(rt: HostRuntime) -> Result<(), Fail> {
     let text = b"unanswered 18446744073709551615\n";
-    assert_eq!(rt;
-        written(rt.alloc(), &[], 18446744073709551615)?.as_slice(),
-        text.as_slice()
-    );
+    is_text(&rt, &written(rt.alloc(), &[], 18446744073709551615)?, text);
     Ok(())
 }
 
