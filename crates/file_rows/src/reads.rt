@@ -1,10 +1,22 @@
 //! Reads of files, with slices that hold 0x2e before.
 
 use crate::volumes::{Volume, image};
+use std::process::Abort;
 use std::test::Fail;
+use store::Halt;
 
 /// The first bytes of inode 1: a file, one link, its size.
 const FILE_OF_3: [u8; 12] = [0xa4, 0x81, 1, 0, 0, 0, 0, 0, 3, 0, 0, 0];
+
+/// So many bytes were read from this place on.
+fn is_read(rt: &impl Abort, at: u32, got: Result<usize, Halt>, count: usize) {
+    assert_eq!(rt; got, Ok(count), "{at}");
+}
+
+/// These bytes are there then.
+fn has_bytes(rt: &impl Abort, at: u32, got: &[u8], wanted: &[u8]) {
+    assert_eq!(rt; got, wanted, "{at}");
+}
 
 #[test]
 fn a_short_file(rt: HostRuntime) -> Result<(), Fail> {
@@ -26,12 +38,8 @@ fn a_short_file(rt: HostRuntime) -> Result<(), Fail> {
     for (at, room, expected) in rows {
         let mut into = [0x2e; 5];
         let count = expected.iter().filter(|byte| **byte != 0x2e).count();
-        assert_eq!(rt;
-            volume.read(at, &mut into[..room]),
-            Ok(count),
-            "{at} {room}"
-        );
-        assert_eq!(rt; into.as_slice(), expected, "{at} {room}");
+        is_read(&rt, at, volume.read(at, &mut into[..room]), count);
+        has_bytes(&rt, at, &into, expected);
     }
     Ok(())
 }
@@ -57,15 +65,15 @@ fn a_hole_has_zeros(rt: HostRuntime) -> Result<(), Fail> {
     ];
     for (at, expected, count) in rows {
         let mut into = [0x2e; 6];
-        assert_eq!(rt; volume.read(at, &mut into), Ok(count), "{at}");
-        assert_eq!(rt; into.as_slice(), expected, "{at}");
+        is_read(&rt, at, volume.read(at, &mut into), count);
+        has_bytes(&rt, at, &into, expected);
     }
     // over three pages at once
     let mut into = [0x2e; 1030];
-    assert_eq!(rt; volume.read(1022, &mut into), Ok(1029));
-    assert_eq!(rt; &into[..2], b"yz".as_slice());
+    is_read(&rt, 1022, volume.read(1022, &mut into), 1029);
+    has_bytes(&rt, 1022, &into[..2], b"yz");
     assert!(rt; into[2..1026].iter().all(|byte| *byte == 0));
-    assert_eq!(rt; &into[1026..], b"abc.".as_slice());
+    has_bytes(&rt, 2048, &into[1026..], b"abc.");
     Ok(())
 }
 
@@ -84,8 +92,8 @@ fn over_the_end_of_the_direct_range(rt: HostRuntime) -> Result<(), Fail> {
     ];
     let mut volume = Volume::new(image(rt.alloc(), &parts)?);
     let mut into = [0x2e; 6];
-    assert_eq!(rt; volume.read(7166, &mut into), Ok(5));
-    assert_eq!(rt; into, *b"yzabc.");
+    is_read(&rt, 7166, volume.read(7166, &mut into), 5);
+    has_bytes(&rt, 7166, &into, b"yzabc.");
     Ok(())
 }
 
@@ -96,8 +104,8 @@ fn a_number_that_names_no_zone(rt: HostRuntime) -> Result<(), Fail> {
         let parts: [(usize, &[u8]); 2] = [(4096, &FILE_OF_3), (4120, &[number])];
         let mut volume = Volume::new(image(rt.alloc(), &parts)?);
         let mut into = [0x2e; 5];
-        assert_eq!(rt; volume.read(0, &mut into), Ok(3), "{number}");
-        assert_eq!(rt; into, *b"\0\0\0..", "{number}");
+        is_read(&rt, 0, volume.read(0, &mut into), 3);
+        has_bytes(&rt, 0, &into, b"\0\0\0..");
     }
     Ok(())
 }

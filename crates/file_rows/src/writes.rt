@@ -3,31 +3,42 @@
 //! of 4096 bytes 1030 and 1049606.
 
 use crate::volumes::{Volume, empty, large, middle, small};
+use std::process::Abort;
 use std::test::Fail;
 use store::Halt;
+
+/// It holds. (In a function of its own: a comparison in one that owns a volume costs its proof some seconds.)
+fn holds(rt: &impl Abort, it: bool) {
+    assert!(rt; it);
+}
+
+/// It holds of this page.
+fn holds_at(rt: &impl Abort, page: u32, it: bool) {
+    assert!(rt; it, "{page}");
+}
 
 #[test]
 fn cut_and_grown_again(rt: HostRuntime) -> Result<(), Fail> {
     let mut volume = Volume::new(empty(rt.alloc(), 1024, 6)?);
-    assert!(rt; volume.has_free(58));
-    assert!(rt; volume.writes(0, b"abc"));
-    assert!(rt; volume.reads(0, b"abc"));
-    assert_eq!(rt; volume.size(), Some(3));
-    assert!(rt; volume.has_free(57));
-    assert!(rt; volume.resizes(1));
-    assert_eq!(rt; volume.size(), Some(1));
-    assert!(rt; volume.resizes(3));
-    assert!(rt; volume.reads(0, b"a\0\0"));
-    assert!(rt; volume.has_free(57));
+    holds(&rt, volume.has_free(58));
+    holds(&rt, volume.writes(0, b"abc"));
+    holds(&rt, volume.reads(0, b"abc"));
+    holds(&rt, volume.size() == Some(3));
+    holds(&rt, volume.has_free(57));
+    holds(&rt, volume.resizes(1));
+    holds(&rt, volume.size() == Some(1));
+    holds(&rt, volume.resizes(3));
+    holds(&rt, volume.reads(0, b"a\0\0"));
+    holds(&rt, volume.has_free(57));
     // and by a write behind the end
-    assert!(rt; volume.writes(0, b"abc"));
-    assert!(rt; volume.resizes(1));
-    assert!(rt; volume.writes(5, b"z"));
-    assert!(rt; volume.reads(0, b"a\0\0\0\0z"));
-    assert!(rt; volume.has_free(57));
-    assert!(rt; volume.resizes(0));
-    assert_eq!(rt; volume.size(), Some(0));
-    assert!(rt; volume.has_free(58));
+    holds(&rt, volume.writes(0, b"abc"));
+    holds(&rt, volume.resizes(1));
+    holds(&rt, volume.writes(5, b"z"));
+    holds(&rt, volume.reads(0, b"a\0\0\0\0z"));
+    holds(&rt, volume.has_free(57));
+    holds(&rt, volume.resizes(0));
+    holds(&rt, volume.size() == Some(0));
+    holds(&rt, volume.has_free(58));
     Ok(())
 }
 
@@ -46,12 +57,12 @@ fn pages_at_1024(rt: HostRuntime) -> Result<(), Fail> {
     for (page, zones) in rows {
         let mut volume = Volume::of(small(), empty(rt.alloc(), 1024, 6)?);
         let at = 1024u32.saturating_mul(page);
-        assert!(rt; volume.writes(at, b"xy"), "{page}");
-        assert!(rt; volume.reads(at, b"xy"), "{page}");
-        assert!(rt; volume.has_free(58u32.saturating_sub(zones)), "{page}");
-        assert!(rt; volume.resizes(at), "{page}");
-        assert!(rt; volume.has_free(58), "{page}");
-        assert!(rt; volume.reads(at, b""), "{page}");
+        holds_at(&rt, page, volume.writes(at, b"xy"));
+        holds_at(&rt, page, volume.reads(at, b"xy"));
+        holds_at(&rt, page, volume.has_free(58u32.saturating_sub(zones)));
+        holds_at(&rt, page, volume.resizes(at));
+        holds_at(&rt, page, volume.has_free(58));
+        holds_at(&rt, page, volume.reads(at, b""));
     }
     Ok(())
 }
@@ -70,11 +81,11 @@ fn pages_at_2048(rt: HostRuntime) -> Result<(), Fail> {
     for (page, zones) in rows {
         let mut volume = Volume::of(middle(), empty(rt.alloc(), 2048, 5)?);
         let at = 2048u32.saturating_mul(page);
-        assert!(rt; volume.writes(at, b"xy"), "{page}");
-        assert!(rt; volume.reads(at, b"xy"), "{page}");
-        assert!(rt; volume.has_free(59u32.saturating_sub(zones)), "{page}");
-        assert!(rt; volume.resizes(at), "{page}");
-        assert!(rt; volume.has_free(59), "{page}");
+        holds_at(&rt, page, volume.writes(at, b"xy"));
+        holds_at(&rt, page, volume.reads(at, b"xy"));
+        holds_at(&rt, page, volume.has_free(59u32.saturating_sub(zones)));
+        holds_at(&rt, page, volume.resizes(at));
+        holds_at(&rt, page, volume.has_free(59));
     }
     Ok(())
 }
@@ -85,11 +96,11 @@ fn pages_at_4096(rt: HostRuntime) -> Result<(), Fail> {
     for (page, zones) in rows {
         let mut volume = Volume::of(large(), empty(rt.alloc(), 4096, 5)?);
         let at = 4096u32.saturating_mul(page);
-        assert!(rt; volume.writes(at, b"xy"), "{page}");
-        assert!(rt; volume.reads(at, b"xy"), "{page}");
-        assert!(rt; volume.has_free(59u32.saturating_sub(zones)), "{page}");
-        assert!(rt; volume.resizes(at), "{page}");
-        assert!(rt; volume.has_free(59), "{page}");
+        holds_at(&rt, page, volume.writes(at, b"xy"));
+        holds_at(&rt, page, volume.reads(at, b"xy"));
+        holds_at(&rt, page, volume.has_free(59u32.saturating_sub(zones)));
+        holds_at(&rt, page, volume.resizes(at));
+        holds_at(&rt, page, volume.has_free(59));
     }
     Ok(())
 }
@@ -98,20 +109,20 @@ fn pages_at_4096(rt: HostRuntime) -> Result<(), Fail> {
 fn the_last_bytes_that_fit(rt: HostRuntime) -> Result<(), Fail> {
     let mut volume = Volume::new(empty(rt.alloc(), 1024, 6)?);
     // a hole as long as a file may be
-    assert!(rt; volume.resizes(2147483647));
-    assert!(rt; volume.has_free(58));
-    assert!(rt; volume.reads(2147483644, b"\0\0\0"));
+    holds(&rt, volume.resizes(2147483647));
+    holds(&rt, volume.has_free(58));
+    holds(&rt, volume.reads(2147483644, b"\0\0\0"));
     // its last page takes three indirect blocks
-    assert!(rt; volume.writes(2147483645, b"yz"));
-    assert!(rt; volume.has_free(54));
-    assert!(rt; volume.reads(2147483644, b"\0yz"));
-    assert_eq!(rt; volume.size(), Some(2147483647));
+    holds(&rt, volume.writes(2147483645, b"yz"));
+    holds(&rt, volume.has_free(54));
+    holds(&rt, volume.reads(2147483644, b"\0yz"));
+    holds(&rt, volume.size() == Some(2147483647));
     // one byte in its first page, which stays when the last goes
-    assert!(rt; volume.writes(0, b"a"));
-    assert!(rt; volume.has_free(53));
-    assert!(rt; volume.resizes(2147482624));
-    assert!(rt; volume.has_free(57));
-    assert!(rt; volume.reads(0, b"a\0"));
+    holds(&rt, volume.writes(0, b"a"));
+    holds(&rt, volume.has_free(53));
+    holds(&rt, volume.resizes(2147482624));
+    holds(&rt, volume.has_free(57));
+    holds(&rt, volume.reads(0, b"a\0"));
     Ok(())
 }
 
@@ -119,21 +130,21 @@ fn the_last_bytes_that_fit(rt: HostRuntime) -> Result<(), Fail> {
 fn over_the_end_of_the_direct_range(rt: HostRuntime) -> Result<(), Fail> {
     let mut volume = Volume::new(empty(rt.alloc(), 1024, 6)?);
     // pages 6 and 7, and the single's block
-    assert!(rt; volume.writes(7166, b"wxyz"));
-    assert!(rt; volume.has_free(55));
-    assert!(rt; volume.reads(7164, b"\0\0wxyz"));
-    assert_eq!(rt; volume.size(), Some(7170));
+    holds(&rt, volume.writes(7166, b"wxyz"));
+    holds(&rt, volume.has_free(55));
+    holds(&rt, volume.reads(7164, b"\0\0wxyz"));
+    holds(&rt, volume.size() == Some(7170));
     // zone 6 was taken first; page 0 has none
     let first = volume.inode().map(|inode| (inode.zones[0], inode.zones[6]));
     assert_eq!(rt; first, Ok((0, 6)));
     // bytes over them take nothing, and the size stays
-    assert!(rt; volume.writes(7167, b"XY"));
-    assert!(rt; volume.reads(7166, b"wXYz"));
-    assert!(rt; volume.has_free(55));
-    assert_eq!(rt; volume.size(), Some(7170));
-    assert!(rt; volume.resizes(7168));
-    assert!(rt; volume.has_free(57));
-    assert!(rt; volume.reads(7166, b"wX"));
+    holds(&rt, volume.writes(7167, b"XY"));
+    holds(&rt, volume.reads(7166, b"wXYz"));
+    holds(&rt, volume.has_free(55));
+    holds(&rt, volume.size() == Some(7170));
+    holds(&rt, volume.resizes(7168));
+    holds(&rt, volume.has_free(57));
+    holds(&rt, volume.reads(7166, b"wX"));
     Ok(())
 }
 
@@ -141,16 +152,16 @@ fn over_the_end_of_the_direct_range(rt: HostRuntime) -> Result<(), Fail> {
 fn zones_for_all_bytes_or_for_none(rt: HostRuntime) -> Result<(), Fail> {
     let mut volume = Volume::new(empty(rt.alloc(), 1024, 6)?);
     // 57 pages and the single's block are the 58 zones
-    assert_eq!(rt; volume.fits(0, 58368), Some(Ok(true)));
-    assert_eq!(rt; volume.fits(0, 58369), Some(Ok(false)));
-    assert_eq!(rt; volume.fits(2147418111, 65536), Some(Ok(false)));
+    holds(&rt, volume.fits(0, 58368) == Some(Ok(true)));
+    holds(&rt, volume.fits(0, 58369) == Some(Ok(false)));
+    holds(&rt, volume.fits(2147418111, 65536) == Some(Ok(false)));
     let bytes = vec![in rt.alloc(); 0x61u8; 58368]?;
-    assert!(rt; volume.writes(0, &bytes));
-    assert!(rt; volume.has_free(0));
-    assert!(rt; volume.reads(58366, b"aa"));
+    holds(&rt, volume.writes(0, &bytes));
+    holds(&rt, volume.has_free(0));
+    holds(&rt, volume.reads(58366, b"aa"));
     // what is held takes none
-    assert_eq!(rt; volume.fits(0, 58368), Some(Ok(true)));
-    assert_eq!(rt; volume.fits(58367, 2), Some(Ok(false)));
+    holds(&rt, volume.fits(0, 58368) == Some(Ok(true)));
+    holds(&rt, volume.fits(58367, 2) == Some(Ok(false)));
     assert_eq!(rt; volume.write(58367, b"bb"), Some(Err(Halt::Unsound)));
     Ok(())
 }
@@ -158,17 +169,17 @@ fn zones_for_all_bytes_or_for_none(rt: HostRuntime) -> Result<(), Fail> {
 #[test]
 fn times(rt: HostRuntime) -> Result<(), Fail> {
     let mut volume = Volume::new(empty(rt.alloc(), 1024, 6)?);
-    assert!(rt; volume.writes(0, b"abc"));
+    holds(&rt, volume.writes(0, b"abc"));
     assert_eq!(rt; volume.stamp(77), Ok(()));
     let told = volume
         .inode()
         .map(|i| (i.mode, i.links, i.size, i.atime, i.mtime, i.ctime));
     assert_eq!(rt; told, Ok((0o100644, 1, 3, 0, 77, 77)));
     // neither a write nor a size sets one
-    assert!(rt; volume.writes(3, b"d"));
-    assert!(rt; volume.resizes(2));
+    holds(&rt, volume.writes(3, b"d"));
+    holds(&rt, volume.resizes(2));
     let times = volume.inode().map(|i| (i.atime, i.mtime, i.ctime));
     assert_eq!(rt; times, Ok((0, 77, 77)));
-    assert!(rt; volume.reads(0, b"ab"));
+    holds(&rt, volume.reads(0, b"ab"));
     Ok(())
 }
