@@ -1,0 +1,2 @@
+pub mod HeardLaws
+pub mod Notes

@@ -1,0 +1,50 @@
+-- What a note adds to a record, and to what is kept of it.
+use Rattle.std.proofs.Common.{◌≡◌, ℕ, ◌+◌, ◌<◌, arith, List, [], ◌∷◌, ◌++◌, length, get_or, take, Option, Some, None, sym, ◌∙◌, ap, subst}
+use Rattle.std.specs.Prelude.{map, reverse}
+use Rattle.std.proofs.lemmas.List.{map-append, reverse-append}
+use Rattle.std.proofs.lemmas.Grind.{common_steps}
+use Rattle.message.specs.declared.Incoming.{Incoming}
+use Rattle.marks.specs.Marks.{Mark}
+use Rattle.marks.specs.Told.{received}
+use Rattle.run_log.specs.Noted.{Noted, marks_in, with_mark, with_message, with_entry, all_noted, nothing_noted}
+use Rattle.run_log.specs.declared.log.Entry.{Entry}
+use Rattle.run_log.proofs.NotedLaws.{mark_in, message_in, all_push}
+use Rattle.transcript_text.specs.Text.{mark_of}
+use Rattle.transcript_text.specs.declared.mark.MarkRef.{MarkRef}
+use Rattle.transcript.specs.declared.heard.Heard.{Heard}
+use Rattle.transcript.specs.Heard.{IsHeard, Leaves, with_ref}
+
+-- a mark more
+pub leaves_one : (h : Heard) (n : Noted) (m : MarkRef) → IsHeard h (mark_of m ∷ marks_in n)
+    → Leaves h (marks_in n) (marks_in (with_mark (mark_of m) n)) (Some m)
+leaves_one h n m is = record {
+  is = mark_in (mark_of m) n;
+  heard = subst (λ (l : List Mark). IsHeard h l) (sym (mark_in (mark_of m) n)) is;
+}
+
+-- the mark of a message, if it leaves one
+pub leaves_message : (h : Heard) (n : Noted) (m : Incoming) (left : Option MarkRef) → Leaves h (marks_in n) (received m (marks_in n)) left
+    → Leaves h (marks_in n) (marks_in (with_message m n)) left
+leaves_message h n m left is = subst (λ (l : List Mark). Leaves h (marks_in n) l left) (sym (message_in m n)) is
+
+-- the notes up to one, and that one
+pub next_noted : (entries : List Entry) (i : ℕ) (e : Entry) → i < length entries → e ≡ get_or entries i e
+    → all_noted (take (i + 1) entries) nothing_noted ≡ with_entry e (all_noted (take i entries) nothing_noted)
+next_noted entries i e within is =
+    let next : take (i + 1) entries ≡ take i entries ++ e ∷ [] = grind (arith, common_steps) in
+    ap (λ (l : List Entry). all_noted l nothing_noted) next ∙ all_push (take i entries) e nothing_noted
+
+-- a mark more is shown last
+pub shows_one : (shown new : List MarkRef) (left : Option MarkRef) (m : MarkRef) (marks more : List Mark) → left ≡ Some m
+    → new ≡ shown ++ m ∷ [] → map mark_of shown ≡ reverse marks → more ≡ with_ref left marks → map mark_of new ≡ reverse more
+shows_one shown new left m marks more left_is new_is shows is =
+    ap (map mark_of) new_is
+    ∙ map-append mark_of shown (m ∷ [])
+    ∙ ap (λ (l : List Mark). l ++ mark_of m ∷ []) shows
+    ∙ sym (ap reverse (is ∙ ap (λ (o : Option MarkRef). with_ref o marks) left_is) ∙ reverse-append (mark_of m ∷ []) marks)
+
+-- with none more, the same is shown
+pub shows_same : (shown new : List MarkRef) (left : Option MarkRef) (marks more : List Mark) → left ≡ None
+    → new ≡ shown → map mark_of shown ≡ reverse marks → more ≡ with_ref left marks → map mark_of new ≡ reverse more
+shows_same shown new left marks more left_is new_is shows is =
+    ap (map mark_of) new_is ∙ shows ∙ sym (ap reverse (is ∙ ap (λ (o : Option MarkRef). with_ref o marks) left_is))

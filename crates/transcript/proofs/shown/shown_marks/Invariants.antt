@@ -1,0 +1,12 @@
+use Rattle.std.proofs.Common.{◌≡◌, take}
+use Rattle.std.specs.Prelude.{map, reverse}
+use Rattle.run_log.specs.Noted.{marks_in, all_noted, nothing_noted}
+use Rattle.transcript_text.specs.Text.{mark_of}
+use Rattle.transcript.specs.Heard.{IsHeard}
+use Rattle.transcript.proofs.shown.shown_marks.Given as goal
+
+-- the marks of the notes so far are shown, and what is kept is what they say
+abbrev pub invariant-loop-entry : goal.invariant-loop-entry
+invariant-loop-entry l =
+    let marks = marks_in (all_noted (take l.entry-index l.log.entries.items) nothing_noted) in
+    IsHeard l.heard marks × (map mark_of l.shown.items ≡ reverse marks)

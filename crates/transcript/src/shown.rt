@@ -1,0 +1,25 @@
+//! The marks of a run's record.
+
+ghost use Rattle.std.specs.Prelude.{◌≡◌, IfOk, map, reverse};
+ghost use Rattle.run_log.specs.LogView.{said};
+ghost use Rattle.run_log.specs.Noted.{marks_in};
+ghost use Rattle.transcript_text.specs.Text.{mark_of};
+
+use crate::heard::Heard;
+use run_log::Log;
+use std::alloc::{AllocError, Global};
+use transcript_text::mark::MarkRef;
+
+/// The marks of the record that a run has noted, oldest first. An error: no memory was found.
+pub fn shown_marks<'l>(alloc: Global, log: &'l Log<'l>) -> Result<Vec<MarkRef<'l>>, AllocError>
+    ensures { IfOk result (λ shown. map mark_of shown.items ≡ reverse (marks_in (said log.now))) }
+{
+    let mut heard = Heard::new(alloc);
+    let mut shown = Vec::new(alloc);
+    for entry in &log.entries {
+        if let Some(mark) = heard.mark_of(entry)? {
+            shown.push(mark)?;
+        }
+    }
+    Ok(shown)
+}
