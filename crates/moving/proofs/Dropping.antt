@@ -14,7 +14,7 @@ use Rattle.call_laws.specs.Stands.{Stands}
 use Rattle.call_laws.proofs.Between.{node_stands, step_is_done}
 use Rattle.call_laws.proofs.Ending.{put_is_left}
 use Rattle.moving.specs.Leads.{Leads, CanLead}
-use Rattle.moving.specs.Replaced.{IsFresh, MayDropReplaced, without_it}
+use Rattle.moving.specs.Replaced.{HasChanged, MayDropReplaced, without_it}
 use Rattle.moving.proofs.Leading.{changed_at}
 use Rattle.moving.proofs.Parents.{drop_leads, may_drop}
 
@@ -35,21 +35,21 @@ module _ (g : Geometry) (ok : IsGeometry g) (f : Files) (now n parent : ℕ) whe
   }
 
   -- a directory
-  fresh_of : (t : Tree) → MayDropReplaced f now n parent true t → IsFresh now parent t
-  fresh_of t may = may.fresh refl
+  changed_of : (t : Tree) → MayDropReplaced f now n parent true t → HasChanged now parent t
+  changed_of t may = may.changed refl
 
   pub may_drop_parent : (d : Disk) → CanLead g (MayDropReplaced f now n parent true) d → IsOfNode g (pieces g d) parent
-  may_drop_parent d k = may_drop g ok parent now d (record { from = k.from; tree = k.tree; stands = k.stands; may = fresh_of k.tree k.may })
+  may_drop_parent d k = may_drop g ok parent now d (record { from = k.from; tree = k.tree; stands = k.stands; may = changed_of k.tree k.may })
 
   -- it is there still
   still : (t : Tree) (may : MayDropReplaced f now n parent true t) → (on_node t parent (fewer_links 1)).nodes n ≡ Some may.node
   still t may =
-      let fresh = fresh_of t may in
-      ap (λ (u : Tree). u.nodes n) (changed_at t parent (fewer_links 1) fresh.node fresh.parent.there) ∙ put-other t.nodes parent (Some (fewer_links 1 fresh.node)) n (may.apart refl) ∙ may.there
+      let changed = changed_of t may in
+      ap (λ (u : Tree). u.nodes n) (changed_at t parent (fewer_links 1) changed.node changed.there) ∙ put-other t.nodes parent (Some (fewer_links 1 changed.node)) n (may.apart refl) ∙ may.there
 
   module _ (d e : Disk) (r : DropsLink g parent now d e) where
     between : (c : Disk) (t : Tree) → Stands g c d t.nodes → MayDropReplaced f now n parent true t → Stands g c e (on_node t parent (fewer_links 1)).nodes
-    between c t s may = (drop_leads g ok parent now d e r).each c t s (fresh_of t may)
+    between c t s may = (drop_leads g ok parent now d e r).each c t s (changed_of t may)
 
     pub may_free : CanLead g (MayDropReplaced f now n parent true) d → IsOfNode g (pieces g e) n
     may_free k = (node_stands g k.from e _ n k.may.node ok (between k.from k.tree k.stands k.may) (still k.tree k.may)).of

@@ -15,7 +15,7 @@ use Rattle.node_steps.proofs.Nodes.{put_back}
 use Rattle.call_laws.proofs.Between.{node_stands}
 use Rattle.call_laws.proofs.Entering.{name_is_there}
 use Rattle.moving.specs.Leads.{Leads, CanLead}
-use Rattle.moving.specs.Replaced.{IsFresh}
+use Rattle.moving.specs.Replaced.{HasChanged, IsFresh}
 use Rattle.moving.specs.Moves.{IsParent, MayTakeOut, taken_out}
 use Rattle.moving.proofs.Leading.{leads_then, leads_as, can_then, node_leads, becomes_at, changed_at}
 
@@ -53,16 +53,20 @@ module _ (g : Geometry) (ok : IsGeometry g) (n : ℕ) (now : ℕ) where
         (r.becomes (may_remove name d (record { from = c; tree = t; stands = s; may = may })));
   })
 
-  -- a link goes
-  pub may_drop : (d : Disk) → CanLead g (IsFresh now n) d → IsOfNode g (pieces g d) n
-  may_drop d k = (node_stands g k.from d k.tree.nodes n k.may.node ok k.stands k.may.parent.there).of
+  -- whatever its links
+  pub has_changed : (t : Tree) → IsFresh now n t → HasChanged now n t
+  has_changed t may = record { node = may.node; there = may.parent.there; time = may.time }
 
-  pub drop_leads : (d e : Disk) → DropsLink g n now d e → Leads g (IsFresh now n) (λ t. on_node t n (fewer_links 1)) d e
-  drop_leads d e r = node_leads g (IsFresh now n) n (fewer_links 1) d e r.head (λ c t s may.
-      let stands = node_stands g c d t.nodes n may.node ok s may.parent.there in
+  -- a link goes
+  pub may_drop : (d : Disk) → CanLead g (HasChanged now n) d → IsOfNode g (pieces g d) n
+  may_drop d k = (node_stands g k.from d k.tree.nodes n k.may.node ok k.stands k.may.there).of
+
+  pub drop_leads : (d e : Disk) → DropsLink g n now d e → Leads g (HasChanged now n) (λ t. on_node t n (fewer_links 1)) d e
+  drop_leads d e r = node_leads g (HasChanged now n) n (fewer_links 1) d e r.head (λ c t s may.
+      let stands = node_stands g c d t.nodes n may.node ok s may.there in
       record {
         node = may.node;
-        there = may.parent.there;
+        there = may.there;
         becomes = subst (λ (z : Node). BecomesAt g (pieces g d) (pieces g e) n (Some z))
             (ap (with_link_lost now) stands.node ∙ (λ t. record (fewer_links 1 may.node) { ctime = sym may.time t })) (r.becomes stands.of);
       })
@@ -78,11 +82,14 @@ module _ (g : Geometry) (ok : IsGeometry g) (n : ℕ) (now : ℕ) where
   pub taken_fresh : (name : Name) (t : Tree) → MayTakeOut n name t → IsFresh now n (on_node t n (with_names now (λ names. without_name names name)))
   taken_fresh name t may = fresh_after (λ names. without_name names name) t may.node may.parent
 
+  taken_changed : (name : Name) (t : Tree) → MayTakeOut n name t → HasChanged now n (on_node t n (with_names now (λ names. without_name names name)))
+  taken_changed name t may = has_changed _ (taken_fresh name t may)
+
   pub taken_file : (name : Name) (d e : Disk) → Removes g n name now d e → Leads g (MayTakeOut n name) (taken_out now n name 0) d e
   taken_file name d e r = leads_as g (MayTakeOut n name) _ _ d e (λ t may. no_link_less (on_node t n (with_names now (λ names. without_name names name))) (taken_fresh name t may)) (remove_leads name d e r)
 
   pub taken_directory : (name : Name) (d e f : Disk) → Removes g n name now d e → DropsLink g n now e f → Leads g (MayTakeOut n name) (taken_out now n name 1) d f
-  taken_directory name d e f r s = leads_then g (MayTakeOut n name) (IsFresh now n) _ (λ t. on_node t n (fewer_links 1)) d e f (taken_fresh name) (remove_leads name d e r) (drop_leads e f s)
+  taken_directory name d e f r s = leads_then g (MayTakeOut n name) (HasChanged now n) _ (λ t. on_node t n (fewer_links 1)) d e f (taken_changed name) (remove_leads name d e r) (drop_leads e f s)
 
   pub may_then_drop : (name : Name) (d e : Disk) → Removes g n name now d e → CanLead g (MayTakeOut n name) d → IsOfNode g (pieces g e) n
-  may_then_drop name d e r k = may_drop e (can_then g (MayTakeOut n name) (IsFresh now n) _ d e (taken_fresh name) (remove_leads name d e r) k)
+  may_then_drop name d e r k = may_drop e (can_then g (MayTakeOut n name) (HasChanged now n) _ d e (taken_changed name) (remove_leads name d e r) k)

@@ -20,12 +20,18 @@ pub record IsFresh (now n : ℕ) (t : Tree) : Type 0 where
   pub parent : IsParent t n node
   pub time : node.ctime ≡ now
 
+-- a node whose attributes changed at `now`, whatever its links
+pub record HasChanged (now n : ℕ) (t : Tree) : Type 0 where
+  pub node : Node
+  pub there : t.nodes n ≡ Some node
+  pub time : node.ctime ≡ now
+
 -- The node is there where these files are open, and its parent, if it is a directory, is another node that changed at `now`.
 pub record MayDropReplaced (f : Files) (now n parent : ℕ) (directory : Bool) (t : Tree) : Type 0 where
   pub node : Node
   pub there : t.nodes n ≡ Some node
   pub files : HasFiles f t
-  pub fresh : directory ≡ true → IsFresh now parent t
+  pub changed : directory ≡ true → HasChanged now parent t
   pub apart : directory ≡ true → n ≢ parent
 
 -- so the tree's own rename has it
