@@ -16,7 +16,7 @@ use store::{Blocks, Halt};
 const ROOT: u32 = 1;
 
 /// Whether a directory is another, `top`, or lies below it: the entries `..` are followed up to the root, and never more of them than there
-/// are inodes and one. Unsound where the volume isn't sound, or the number is no directory's.
+/// are inodes and one. Unsound only where the volume isn't sound, or the number is no directory's.
 pub fn is_within<B: Blocks>(
     blocks: &mut B,
     geometry: &Geometry,

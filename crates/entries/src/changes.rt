@@ -119,7 +119,7 @@ pub fn replace<B: Blocks>(
 }
 
 /// Gives what has a name in a directory another name, of 1 to 60 bytes, that the directory hasn't: its entry stays where it is. The
-/// directory's times become `now`, in seconds. Unsound where the volume isn't sound, or the directory hasn't the old name.
+/// directory's times become `now`, in seconds. Unsound only where the volume isn't sound, or the directory hasn't the old name.
 pub fn rename<B: Blocks>(
     blocks: &mut B,
     geometry: &Geometry,

@@ -18,7 +18,7 @@ use std::alloc::{AllocError, Global};
 use store::{Blocks, Halt};
 use tree::Entry;
 
-/// Puts the name of entry k of a directory among others, if there is memory for it. Unsound where its number is none of an inode.
+/// Puts the name of entry k of a directory among others, if there is memory for it. Unsound only where its number is none of an inode.
 fn put_entry<B: Blocks>(
     alloc: Global,
     names: &mut NameMap,
@@ -62,7 +62,7 @@ fn names_of<B: Blocks>(
     Ok(Ok(names))
 }
 
-/// All names of a directory in the order of their bytes, with their inodes, if there is memory for them. Unsound where a number is none
+/// All names of a directory in the order of their bytes, with their inodes, if there is memory for them. Unsound only where a number is none
 /// of an inode. Any bytes may stand in the directory: each entry is read once.
 pub(crate) fn entries_of<B: Blocks>(
     alloc: Global,

@@ -20,7 +20,7 @@ use tree::{MAX_NAME, User};
 use walk::{Place, Stop};
 
 /// Makes a file of no bytes at a vacant place, with a number that `free_number` gave for no zones beside: its node, and its name. Its
-/// times and those of the directory are `now`, in seconds. Unsound where the volume isn't sound.
+/// times and those of the directory are `now`, in seconds. Unsound only where the volume isn't sound.
 pub fn put_file<B: Blocks>(
     blocks: &mut B,
     geometry: &Geometry,

@@ -51,7 +51,7 @@ fn new_inode(kind: u16, links: u16, user: User, now: u32, permissions: u16) -> I
     }
 }
 
-/// Makes this the inode of a number, and marks it. Unsound where no inode has the number.
+/// Makes this the inode of a number, and marks it. Unsound only where no inode has the number.
 fn mark<B: Blocks>(
     blocks: &mut B,
     geometry: &Geometry,
@@ -69,7 +69,7 @@ fn mark<B: Blocks>(
 }
 
 /// Makes a file of no bytes, of one link, which is the user's: the inode of that number, which is free, is written whole and marked.
-/// Its times are `now`, in seconds. Unsound where no inode has the number.
+/// Its times are `now`, in seconds. Unsound only where no inode has the number.
 pub fn new_file<B: Blocks>(
     blocks: &mut B,
     geometry: &Geometry,
@@ -89,7 +89,7 @@ pub fn new_file<B: Blocks>(
 }
 
 /// Makes a directory without names, of two links, which is the user's: a free inode is written whole and marked, and its first page
-/// gets the entries `.` and `..`. Its times are `now`, in seconds. That a zone is free is asked for before. Unsound where no inode
+/// gets the entries `.` and `..`. Its times are `now`, in seconds. That a zone is free is asked for before. Unsound only where no inode
 /// has the number, or the volume isn't sound.
 pub fn new_directory<B: Blocks>(
     blocks: &mut B,

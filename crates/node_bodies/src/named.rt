@@ -38,7 +38,7 @@ fn named<B: Blocks>(
     }
 }
 
-/// The inode to which a path leads, after its number; or the refusal of the path or of the walk. Nothing is changed. Unsound where the
+/// The inode to which a path leads, after its number; or the refusal of the path or of the walk. Nothing is changed. Unsound only where the
 /// volume holds no tree.
 pub fn find_node<B: Blocks>(
     blocks: &mut B,

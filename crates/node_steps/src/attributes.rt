@@ -12,7 +12,7 @@ use layout::Geometry;
 use store::{Blocks, Halt};
 
 /// Gives a node other attributes: its links, its owner, its permissions, its times. The inode's size, zones and type have to be those that
-/// it has. Unsound where the volume isn't sound, or the number is no inode's.
+/// it has. Unsound only where the volume isn't sound, or the number is no inode's.
 pub fn set_attributes<B: Blocks>(
     blocks: &mut B,
     geometry: &Geometry,
@@ -28,7 +28,7 @@ pub fn set_attributes<B: Blocks>(
     store(blocks, geometry, number, inode)
 }
 
-/// Gives a node a link more; the time of its attributes becomes `now`, in seconds. Unsound where the volume isn't sound, the node has more
+/// Gives a node a link more; the time of its attributes becomes `now`, in seconds. Unsound only where the volume isn't sound, the node has more
 /// links than there may be, or the number is no inode's.
 pub fn add_link<B: Blocks>(
     blocks: &mut B,
@@ -51,7 +51,7 @@ pub fn add_link<B: Blocks>(
 }
 
 /// Takes a link from a node, if it has one; the time of its attributes becomes `now`, in seconds. The node stays, also without a link: see
-/// `lose_node`. Unsound where the volume isn't sound, or the number is no inode's.
+/// `lose_node`. Unsound only where the volume isn't sound, or the number is no inode's.
 pub fn drop_link<B: Blocks>(
     blocks: &mut B,
     geometry: &Geometry,

@@ -16,8 +16,8 @@ use inode_table::load;
 use layout::Geometry;
 use store::{Blocks, Halt};
 
-/// Frees a node: its zones are given back, and its inode is no longer marked. What the inode says beside has no meaning then. Unsound where
-/// the volume isn't sound, or the number is no inode's.
+/// Frees a node: its zones are given back, and its inode is no longer marked. What the inode says beside has no meaning then. Unsound
+/// only where the volume isn't sound, or the number is no inode's.
 pub fn free_node<B: Blocks>(blocks: &mut B, geometry: &Geometry, number: u32) -> Result<(), Halt>
     requires on { IsOn B.world geometry.now blocks.old }
     ensures turns { Turns B.world blocks.old blocks.new (λ d e. Ends result
@@ -32,7 +32,7 @@ pub fn free_node<B: Blocks>(blocks: &mut B, geometry: &Geometry, number: u32) ->
     Ok(())
 }
 
-/// Frees a node that has no link and isn't open; any other stays as it is. Unsound where the volume isn't sound, or the number is no
+/// Frees a node that has no link and isn't open; any other stays as it is. Unsound only where the volume isn't sound, or the number is no
 /// inode's.
 pub fn lose_node<B: Blocks>(
     blocks: &mut B,
@@ -59,7 +59,7 @@ pub fn lose_node<B: Blocks>(
 }
 
 /// Takes a link from a node at `now`, in seconds, and frees it where that was the last and it isn't open: what becomes of a file whose name
-/// is gone. Unsound where the volume isn't sound, or the number is no inode's.
+/// is gone. Unsound only where the volume isn't sound, or the number is no inode's.
 pub fn lose_name<B: Blocks>(
     blocks: &mut B,
     opens: &Descriptors,
