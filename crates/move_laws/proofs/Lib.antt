@@ -1,0 +1,4 @@
+pub mod Apart
+pub mod Between
+pub mod Possible
+pub mod Zones
