@@ -1,2 +1,3 @@
 pub mod HeardLaws
 pub mod Notes
+pub mod Image

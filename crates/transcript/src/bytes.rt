@@ -1,0 +1,9 @@
+//! The media's bytes at a run's end.
+
+ghost use Rattle.transcript.specs.Shown.{ImageShows};
+
+/// Media whose sectors hold what a run's record says of the disk: so do their bytes in a transcript.
+#[tactic(auto, using(crate::proofs::Image::image_shows))]
+pub fn image_shows_media()
+    ensures { ImageShows }
+{}
