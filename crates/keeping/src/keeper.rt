@@ -6,12 +6,12 @@ ghost use Rattle.marks.specs.Marks.{gave_up};
 ghost use Rattle.board.specs.View.{IsKeeper, is_used};
 
 use crate::room::Room;
-use board::{Board, NewCall, Seat};
+use board::{Board, Seat};
 use endpoint::Endpoint;
 use message::{BlockRequest, Incoming};
 use std::marker::PhantomData;
 use std::sync::Arc;
-use tree::{Reply, Who};
+use tree::{Call, Reply, Who};
 
 /// The record's seat of the board, and which numbers sessions have.
 #[derive(Drop)]
@@ -73,18 +73,25 @@ impl<N: Room> Keeper<N> {
 
     /// A call of the caller's session was answered. The caller has then seen the whole record, its call last. Gives how many counted
     /// marks it has, modulo 2^64.
-    pub fn count<C: NewCall>(&mut self, caller: &mut Seat, who: Who, now: u32, reply: &Reply) -> u64
+    pub fn count(
+        &mut self,
+        caller: &mut Seat,
+        who: Who,
+        now: u32,
+        call: &Call,
+        reply: &Reply,
+    ) -> u64
         requires { (caller.old.table ≡ N.table) × (caller.old.view.number ≡ Some who.session) }
-        ensures record_is { record_of self.new ≡ Took who now C.call (answer_of reply.now) ∷ record_of self.old }
+        ensures record_is { record_of self.new ≡ Took who now call.now (answer_of reply.now) ∷ record_of self.old }
         ensures numbers { numbers_of self.new ≡ numbers_of self.old }
         ensures caller { (caller.new.table ≡ N.table) × (caller.new.view.number ≡ Some who.session) }
         ensures seen { caller.new.view.seen ≡ record_of self.new }
         ensures tally { result ≡ tally_of (record_of self.new) }
-        ensures mine { caller.new.view.mine ≡ Took who now C.call (answer_of reply.now) ∷ caller.old.view.mine }
+        ensures mine { caller.new.view.mine ≡ Took who now call.now (answer_of reply.now) ∷ caller.old.view.mine }
         ensures session { SessionLearns caller.old.view caller.new.view }
     {
         self.board
-            .count_said::<C>(&mut self.seat, caller, who, now, reply);
+            .count(&mut self.seat, caller, who, now, call, reply);
         self.board.tally(&mut self.seat)
     }
 

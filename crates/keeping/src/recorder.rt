@@ -1,21 +1,19 @@
 //! Links that keep the record of a service.
 
 ghost use Rattle.std.specs.Prelude.{◌≡◌, ◌↔◌, ◌<◌, ◌∷◌, List, ℕ, true, Some, IfSome, IfNone};
-ghost use Rattle.tree.specs.declared.Call.TheVariants.{Stat};
 ghost use Rattle.tree.specs.Answers.{answer_of};
 ghost use Rattle.marks.specs.Marks.{Mark, Took};
 ghost use Rattle.marks.specs.Opening.{Opening};
 ghost use Rattle.legal.specs.Session.{tally_of};
 ghost use Rattle.board.specs.View.{without};
 ghost use Rattle.board.specs.Steps.{SessionLearns, SessionIsNew};
-ghost use Rattle.keeping.specs.Root.{root_path};
 ghost use Rattle.keeping.specs.Keeper.{AreAllUsed, IsLowestFree};
 ghost use Rattle.keeping.specs.Recorder.{SameLink};
 
 use crate::room::Room;
 use crate::steady::Supplied;
 use board::Seat;
-use tree::{Reply, Who};
+use tree::{Call, Reply, Who};
 
 /// A link that keeps the record of a service on the service's board, and gives its sessions their numbers.
 ///
@@ -25,19 +23,26 @@ pub trait Recorder<N: Room>: Supplied + Drop {
 
     ghost numbers: { Self → List ℕ };
 
-    /// A `stat /` of the caller's session was answered. The caller has then seen the whole record, its call last. Gives how many counted
+    /// A call of the caller's session was answered. The caller has then seen the whole record, its call last. Gives how many counted
     /// marks it has, modulo 2^64.
-    fn count_root_stat(&mut self, caller: &mut Seat, who: Who, now: u32, reply: &Reply) -> u64
+    fn count_call(
+        &mut self,
+        caller: &mut Seat,
+        who: Who,
+        now: u32,
+        call: &Call,
+        reply: &Reply,
+    ) -> u64
         requires { (caller.old.table ≡ N.table) × (caller.old.view.number ≡ Some who.session) }
         ensures same { SameLink Self.Link self.old self.new }
         ensures truth { (v : Opening) (older : List Mark) → Self.truth self.old v older
-            → Self.truth self.new v (Took who now (Stat root_path) (answer_of reply.now) ∷ older) }
-        ensures marks { marks self.new ≡ Took who now (Stat root_path) (answer_of reply.now) ∷ marks self.old }
+            → Self.truth self.new v (Took who now call.now (answer_of reply.now) ∷ older) }
+        ensures marks { marks self.new ≡ Took who now call.now (answer_of reply.now) ∷ marks self.old }
         ensures numbers { numbers self.new ≡ numbers self.old }
         ensures caller { (caller.new.table ≡ N.table) × (caller.new.view.number ≡ Some who.session) }
         ensures seen { caller.new.view.seen ≡ marks self.new }
         ensures tally { result ≡ tally_of (marks self.new) }
-        ensures mine { caller.new.view.mine ≡ Took who now (Stat root_path) (answer_of reply.now) ∷ caller.old.view.mine }
+        ensures mine { caller.new.view.mine ≡ Took who now call.now (answer_of reply.now) ∷ caller.old.view.mine }
         ensures session { SessionLearns caller.old.view caller.new.view };
 
     /// The caller has then seen the whole record. Gives how many counted marks it has, modulo 2^64.

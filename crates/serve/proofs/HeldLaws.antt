@@ -1,10 +1,12 @@
 -- What holds under the lock of a service after each call, and what a session has of it.
 use Rattle.std.proofs.Common.{◌≡◌, ◌≢◌, ℕ, List, ◌∷◌, Bool, true, false, refl, sym, ◌∙◌, ap, subst, Some}
-use Rattle.std.specs.Prelude.{◌||◌, ◌↔◌, ◌<◌, Result, Ok, Err, IsErrOf, IfErr, IfOk}
+use Rattle.std.specs.Borrow.{Bor}
+use Rattle.std.specs.Prelude.{codes, ◌||◌, ◌↔◌, ◌<◌, Result, Ok, Err, IsErrOf, IfErr, IfOk}
 use Rattle.atomic_table.specs.Seated.{TableId}
 use Rattle.layout.specs.declared.Geometry.{Geometry}
 use Rattle.tree.specs.declared.Who.{Who}
 use Rattle.tree.specs.declared.Call.{Call}
+use Rattle.tree.specs.declared.Call.TheVariants.{Stat}
 use Rattle.errno.specs.declared.Errno.TheVariants.{EIO}
 use Rattle.tree.specs.declared.Reply.TheVariants.{Refused}
 use Rattle.tree.specs.declared.Outcome.{Outcome as TreeOutcome}
@@ -29,12 +31,12 @@ use Rattle.board.specs.View.{View, SeatState, session_for, is_used}
 use Rattle.board.specs.Steps.{SessionLearns, SessionIsNew}
 use Rattle.reader.specs.declared.server.Server.{Server}
 use Rattle.reader.specs.Reader.{Stands, reader}
-use Rattle.reader.specs.Server.{Calls, IsReady, serving, line_of, is_given_up, outcome_of}
+use Rattle.reader.specs.Server.{Calls, StatsRoot, IsReady, serving, line_of, is_given_up, outcome_of}
 use Rattle.keeping.specs.declared.room.Room.{Ghosts as RoomWords}
 use Rattle.serve.specs.Recorder.{SameServer}
 use Rattle.serve.specs.declared.refusal.SessionRefusal.{SessionRefusal}
 use Rattle.serve.specs.declared.refusal.SessionRefusal.TheVariants.{TooMany, Stopped, OutOfMemory}
-use Rattle.serve.specs.Held.{IsHeld, IsGood, IsGuaranteed, IsNotAdmitted, IsSound}
+use Rattle.serve.specs.Held.{IsHeld, IsGood, IsGuaranteed, IsNotAdmitted, IsRootStat, IsSound}
 
 -- a server that is as it was but for its link is seen as it was
 pub same_serving : {L : Type 0} (link : LinkWords L) (old new : Server L) → SameServer link old new → serving link new ≡ serving link old
@@ -53,6 +55,13 @@ ready_same link old new is ready =
       idle = λ goes live. rw (table, is.line.same_room, is.line.same_budget)
           (ready.idle (sym ended ∙ goes) (ap (λ (t : Table). t.given_up) (sym table) ∙ live));
     }
+
+-- where the call is a `stat /`, it keeps what one at each path of the root keeps
+pub called_so : (old new : Serving) (was is : Truth) (who : Who) (now : ℕ) (call : Call) (outcome : Outcome) → IsRootStat call
+    → ((path : Bor (List ℕ)) → path.now ≡ codes "/" → StatsRoot old new was is who now (Stat path) outcome)
+    → Calls old new was is who now call outcome
+called_so old new was is who now call outcome root stats =
+    subst (λ (k : Call). Calls old new was is who now k outcome) (sym root.1) (stats root.0 root.2).calls
 
 -- a call that was answered stands after the giving up
 went_after : (who : Who) (now : ℕ) (call : Call) (outcome : Outcome) (marks : List Mark) → (outcome ≡ Cut → gave_up marks ≡ true → went_on marks ≡ true)

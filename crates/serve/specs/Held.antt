@@ -27,7 +27,6 @@ use Rattle.reader.specs.declared.server.Server.{Server}
 use Rattle.reader.specs.Reader.{Stands}
 use Rattle.reader.specs.Server.{line_of, serving, IsReady}
 use Rattle.keeping.specs.declared.room.Room.{Ghosts as RoomWords}
-use Rattle.keeping.specs.Root.{root_path}
 use Rattle.serve.specs.declared.refusal.SessionRefusal.{SessionRefusal}
 use Rattle.serve.specs.declared.refusal.SessionRefusal.TheVariants.{TooMany, Stopped, OutOfMemory}
 use Rattle.keeping.specs.Keeper.{AreAllUsed, IsLowestFree, IsOneFree}
@@ -36,10 +35,10 @@ use Rattle.keeping.specs.Keeper.{AreAllUsed, IsLowestFree, IsOneFree}
 abbrev pub IsRootStat : Call → Type 0
 IsRootStat call = (path : Bor (List ℕ)) × (call ≡ Stat path) × (path.now ≡ codes "/")
 
--- a `stat /` of a caller that had seen as much as the first of these, and then has seen as much as the second, came to this outcome
-abbrev pub IsRootStatOf : Geometry → Opening → Who → ℕ → View → Outcome → View → Type 0
-IsRootStatOf g v who now before outcome after =
-    SessionCallKeeps g (contents_at v) (session_for who.uid who.gid who.session before) who now (Stat root_path) outcome
+-- a call of a caller that had seen as much as the first of these, and then has seen as much as the second, came to this outcome
+abbrev pub IsServedCall : Geometry → Opening → Who → ℕ → Call → View → Outcome → View → Type 0
+IsServedCall g v who now call before outcome after =
+    SessionCallKeeps g (contents_at v) (session_for who.uid who.gid who.session before) who now call outcome
     (session_for who.uid who.gid who.session after)
 
 -- the outcome is EIO exactly where it isn't a cut and the caller has then seen that the device was given up

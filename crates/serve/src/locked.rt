@@ -8,17 +8,17 @@ ghost use Rattle.legal.specs.Session.{tally_of};
 ghost use Rattle.board.specs.View.{without};
 ghost use Rattle.board.specs.Steps.{SessionIsNew};
 ghost use Rattle.reader.specs.Server.{line_of, outcome_of};
-ghost use Rattle.serve.specs.Held.{IsEioOnceGivenUp, IsGood, IsGuaranteed, IsHeld, IsNotAdmitted, IsRootStatOf, IsSound};
+ghost use Rattle.serve.specs.Held.{IsEioOnceGivenUp, IsGood, IsGuaranteed, IsHeld, IsNotAdmitted, IsRootStat, IsServedCall, IsSound};
 ghost use Rattle.keeping.specs.Keeper.{AreAllUsed, IsLowestFree, IsOneFree};
 
 use crate::refusal::SessionRefusal;
-use crate::sharing::{admit, count_root_stat, release, show};
+use crate::sharing::{admit, count_call, release, show};
 use board::Seat;
 use keeping::recorder::Recorder;
 use keeping::room::Room;
 use reader::Server;
 use std::marker::{Model, PhantomData};
-use tree::{Outcome, Who};
+use tree::{Call, Outcome, Who};
 
 /// What lies under the lock of a service: its server, whose link keeps the record. Contracts see the link, and whether a take gave End.
 #[derive(Drop)]
@@ -53,10 +53,17 @@ impl<N: Room, L: Recorder<N>> Locked<N, L> {
 
     /// A `stat /` of a session, which has then seen the whole record. An answer is a mark of it, the last; a cut isn't. With the outcome
     /// comes how many counted marks the record has, modulo 2^64.
-    pub(crate) fn stat_root(&mut self, seat: &mut Seat, who: Who, now: u32) -> (Outcome, u64)
-        requires { (seat.old.table ≡ N.table) × (seat.old.view.number ≡ Some who.session) }
+    pub(crate) fn stat_root(
+        &mut self,
+        seat: &mut Seat,
+        who: Who,
+        now: u32,
+        call: &Call,
+    ) -> (Outcome, u64)
+        requires root { IsRootStat call.now }
+        requires seat { (seat.old.table ≡ N.table) × (seat.old.view.number ≡ Some who.session) }
         ensures seat { (seat.new.table ≡ N.table) × (seat.new.view.number ≡ Some who.session) }
-        ensures call { IsRootStatOf N.geometry N.opening who now seat.old.view (outcome_of result.0) seat.new.view }
+        ensures call { IsServedCall N.geometry N.opening who now call.now seat.old.view (outcome_of result.0) seat.new.view }
         ensures seen { seat.new.view.seen ≡ L.marks self.new.line }
         ensures tally { result.1 ≡ tally_of seat.new.view.seen }
         ensures sound { (tree : Tree) → IsAtFirst N.geometry (contents_at N.opening) tree → IsSound seat.new.view.seen }
@@ -69,7 +76,7 @@ impl<N: Room, L: Recorder<N>> Locked<N, L> {
         let outcome = self.server.stat_root(who, now);
         match outcome {
             Outcome::Reply(reply) => {
-                let count = count_root_stat(&mut self.server, seat, who, now, &reply);
+                let count = count_call(&mut self.server, seat, who, now, call, &reply);
                 (Outcome::Reply(reply), count)
             }
             Outcome::Cut => (Outcome::Cut, show(&mut self.server, seat)),

@@ -20,9 +20,8 @@ use keeping::steady::{Steady, Supplied};
 use message::{BlockRequest, Incoming};
 use reissue::link::{Link, LinkRefusal, TrueLink};
 use std::alloc::{AllocError, Global};
-use std::marker::Brand;
 use std::sync::Arc;
-use tree::{Reply, Who};
+use tree::{Call, Reply, Who};
 
 /// A link that has the record's seat of the service's board. Over it goes what goes over the link in it. Each request that is issued it
 /// adds to the board's record, and each message that leaves a mark, which is counted. It takes no memory but when it is made.
@@ -125,8 +124,15 @@ impl<N: Room, L: Steady + Supplied + Drop> Recorder<N> for Noting<N, L> {
 
     ghost numbers = { λ l. numbers_of l.keeper };
 
-    fn count_root_stat(&mut self, caller: &mut Seat, who: Who, now: u32, reply: &Reply) -> u64 {
-        self.keeper.count::<Brand>(caller, who, now, reply)
+    fn count_call(
+        &mut self,
+        caller: &mut Seat,
+        who: Who,
+        now: u32,
+        call: &Call,
+        reply: &Reply,
+    ) -> u64 {
+        self.keeper.count(caller, who, now, call, reply)
     }
 
     fn show(&mut self, caller: &mut Seat) -> u64 {

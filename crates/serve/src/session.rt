@@ -8,7 +8,6 @@ ghost use Rattle.legal.specs.Legal.{IsAtFirst};
 ghost use Rattle.legal.specs.Session.{caller_of, SessionCallKeeps, DeviceKeeps, MeetKeeps};
 ghost use Rattle.board.specs.Words.{is_given_up};
 ghost use Rattle.serve.specs.Held.{IsEioOnceGivenUp, IsGuaranteed, IsRootStat, IsSound};
-ghost use Rattle.keeping.specs.Root.{root_path};
 ghost use Rattle.reader.specs.Server.{outcome_of};
 
 use crate::service::Shared;
@@ -94,7 +93,7 @@ impl<N: Room, R: Wait + Copy, L: Recorder<N>> Session<N, Shared<N, R, L>> {
     pub fn call(&mut self, now: u32, call: &Call<'_>) -> Outcome
         requires root { IsRootStat call.now }
         ensures keeps { SessionCallKeeps N.geometry (contents_at N.opening) self.old (caller_of self.old) now
-            (Call.Stat root_path) (outcome_of result) self.new }
+            call.now (outcome_of result) self.new }
         ensures sound { (tree : Tree) → IsAtFirst N.geometry (contents_at N.opening) tree → IsSound self.new.knows.seen }
         ensures guaranteed { (tree : Tree) → IsAtFirst N.geometry (contents_at N.opening) tree
             → IsGuaranteed L.truth N.opening self.new.knows.seen }
@@ -108,7 +107,7 @@ impl<N: Room, R: Wait + Copy, L: Recorder<N>> Session<N, Shared<N, R, L>> {
         let (outcome, seen) = shared
             .server
             .lock(&shared.rt)
-            .stat_root(&mut self.seat, self.who, now);
+            .stat_root(&mut self.seat, self.who, now, call);
         self.seen = seen;
         outcome
     }

@@ -1,13 +1,11 @@
 //! What a server does for its sessions at its link, which keeps the record.
 
 ghost use Rattle.std.specs.Prelude.{◌≡◌, ◌<◌, ◌↔◌, ◌∷◌, ℕ, List, IfOk, OnErr, IsErrOf, Some, false, true};
-ghost use Rattle.tree.specs.declared.Call.TheVariants.{Stat};
 ghost use Rattle.tree.specs.Answers.{answer_of};
 ghost use Rattle.marks.specs.Marks.{Mark, Took};
 ghost use Rattle.marks.specs.Opening.{Opening};
 ghost use Rattle.board.specs.View.{without};
 ghost use Rattle.board.specs.Steps.{SessionLearns, SessionIsNew};
-ghost use Rattle.keeping.specs.Root.{root_path};
 ghost use Rattle.keeping.specs.Keeper.{AreAllUsed, IsLowestFree, IsOneFree};
 ghost use Rattle.legal.specs.Session.{tally_of};
 ghost use Rattle.reader.specs.Server.{line_of};
@@ -18,29 +16,30 @@ use board::Seat;
 use keeping::recorder::Recorder;
 use keeping::room::Room;
 use reader::Server;
-use tree::{Reply, Who};
+use tree::{Call, Reply, Who};
 
-/// A `stat /` of the caller's session was answered. The caller has then seen the whole record, its call last. Gives how many counted marks
+/// A call of the caller's session was answered. The caller has then seen the whole record, its call last. Gives how many counted marks
 /// it has, modulo 2^64.
-pub(crate) fn count_root_stat<N: Room, L: Recorder<N>>(
+pub(crate) fn count_call<N: Room, L: Recorder<N>>(
     server: &mut Server<L>,
     caller: &mut Seat,
     who: Who,
     now: u32,
+    call: &Call,
     reply: &Reply,
 ) -> u64
     requires { (caller.old.table ≡ N.table) × (caller.old.view.number ≡ Some who.session) }
     ensures same { SameServer L.Link server.old server.new }
     ensures truth { (v : Opening) (older : List Mark) → L.truth (line_of server.old) v older
-        → L.truth (line_of server.new) v (Took who now (Stat root_path) (answer_of reply.now) ∷ older) }
-    ensures marks { L.marks (line_of server.new) ≡ Took who now (Stat root_path) (answer_of reply.now) ∷ L.marks (line_of server.old) }
+        → L.truth (line_of server.new) v (Took who now call.now (answer_of reply.now) ∷ older) }
+    ensures marks { L.marks (line_of server.new) ≡ Took who now call.now (answer_of reply.now) ∷ L.marks (line_of server.old) }
     ensures caller { (caller.new.table ≡ N.table) × (caller.new.view.number ≡ Some who.session) }
     ensures seen { caller.new.view.seen ≡ L.marks (line_of server.new) }
     ensures tally { result ≡ tally_of (L.marks (line_of server.new)) }
-    ensures mine { caller.new.view.mine ≡ Took who now (Stat root_path) (answer_of reply.now) ∷ caller.old.view.mine }
+    ensures mine { caller.new.view.mine ≡ Took who now call.now (answer_of reply.now) ∷ caller.old.view.mine }
     ensures session { SessionLearns caller.old.view caller.new.view }
 {
-    server.link_mut().count_root_stat(caller, who, now, reply)
+    server.link_mut().count_call(caller, who, now, call, reply)
 }
 
 /// The caller has then seen the whole record. Gives how many counted marks it has, modulo 2^64.

@@ -3,7 +3,7 @@ use Rattle.std.specs.Prelude.{◌≡◌, ℕ, ◌<◌, List, [], ◌∷◌, Bool
 use Rattle.std.specs.List.{list_any}
 use Rattle.layout.specs.declared.Geometry.{Geometry}
 use Rattle.tree.specs.declared.Who.{Who}
-use Rattle.tree.specs.declared.Call.TheVariants.{Stat}
+use Rattle.tree.specs.declared.Call.{Call}
 use Rattle.tree.specs.declared.Outcome.{Outcome}
 use Rattle.tree.specs.declared.Outcome.TheVariants.{Reply, Cut}
 use Rattle.tree.specs.declared.Reply.TheVariants.{Refused}
@@ -16,16 +16,15 @@ use Rattle.marks.specs.Opening.{Opening, contents_at}
 use Rattle.legal.specs.Legal.{IsAtFirst}
 use Rattle.legal.specs.Session.{SessionState, SessionCallKeeps, caller_of, calls_of}
 use Rattle.reissue.specs.Calls.{Truth}
-use Rattle.serve.specs.Held.{IsGood, IsGuaranteed, IsSound}
-use Rattle.keeping.specs.Root.{root_path}
+use Rattle.serve.specs.Held.{IsGood, IsGuaranteed, IsRootStat, IsSound}
 use Rattle.reader.specs.Server.{outcome_of}
 
--- the marks of a `stat /` at each of these times, onto older ones, the newest first; a call that was cut has none
-abbrev pub calls_made : Who → List ℕ → List Outcome → List Mark → List Mark
-calls_made who (now ∷ times) (Reply reply ∷ outcomes) older =
-    calls_made who times outcomes (Took who now (Stat root_path) (answer_of reply) ∷ older)
-calls_made who (now ∷ times) (Cut ∷ outcomes) older = calls_made who times outcomes older
-calls_made who _ _ older = older
+-- the marks of this call at each of these times, onto older ones, the newest first; a call that was cut has none
+abbrev pub calls_made : Who → Call → List ℕ → List Outcome → List Mark → List Mark
+calls_made who call (now ∷ times) (Reply reply ∷ outcomes) older =
+    calls_made who call times outcomes (Took who now call (answer_of reply) ∷ older)
+calls_made who call (now ∷ times) (Cut ∷ outcomes) older = calls_made who call times outcomes older
+calls_made who call _ _ older = older
 
 -- whether a call was cut
 abbrev pub cuts : Outcome → Bool
@@ -64,35 +63,37 @@ pub record IsSame (old new : SessionState) : Type 0 where
   pub caller : caller_of new ≡ caller_of old
   pub place : new.knows.place ≡ old.knows.place
 
--- Calls of a session were made, each in its turn and with its outcome; from the first that is cut on all are. Its own calls grew by
+-- This call was made again and again in a session, each time in its turn and with its outcome; from the first that is cut on all are. Its own calls grew by
 -- those that were answered. What it has seen stays good, and what the service's link guaranteed.
-pub record Plays {L : Type 0} (truth : L → Truth) (g : Geometry) (v : Opening) (old : SessionState) (times : List ℕ) (outcomes : List Outcome)
+pub record Plays {L : Type 0} (truth : L → Truth) (g : Geometry) (v : Opening) (call : Call) (old : SessionState) (times : List ℕ) (outcomes : List Outcome)
     (new : SessionState) : Type 0 where
   pub same : IsSame old new
   pub each : length outcomes ≡ length times
   pub cuts_last : cuts_last outcomes ≡ true
-  pub mine : new.knows.mine ≡ calls_made (caller_of old) times outcomes old.knows.mine
+  pub mine : new.knows.mine ≡ calls_made (caller_of old) call times outcomes old.knows.mine
   pub own : IsOwn old → IsOwn new
   pub good : (tree : Tree) → IsAtFirst g (contents_at v) tree → IsGood g v tree old.knows.seen → IsGood g v tree new.knows.seen
   pub guaranteed : (tree : Tree) → IsAtFirst g (contents_at v) tree → IsGuaranteed truth v old.knows.seen → IsGuaranteed truth v new.knows.seen
 
 -- One call, unless an earlier one was cut.
-pub record Calls {L : Type 0} (truth : L → Truth) (g : Geometry) (v : Opening) (old : SessionState) (cut : Bool) (now : ℕ) (outcome : Outcome)
+pub record Calls {L : Type 0} (truth : L → Truth) (g : Geometry) (v : Opening) (request : Call) (old : SessionState) (cut : Bool) (now : ℕ) (outcome : Outcome)
     (new : SessionState) : Type 0 where
   pub after_cut : cut ≡ true → (outcome ≡ Cut) × (new ≡ old)
-  pub call : cut ≡ false → SessionCallKeeps g (contents_at v) old (caller_of old) now (Stat root_path) (outcome_of outcome) new
+  pub call : cut ≡ false → SessionCallKeeps g (contents_at v) old (caller_of old) now request (outcome_of outcome) new
   pub sound : cut ≡ false → (tree : Tree) → IsAtFirst g (contents_at v) tree → IsSound new.knows.seen
   pub guaranteed : cut ≡ false → (tree : Tree) → IsAtFirst g (contents_at v) tree → IsGuaranteed truth v new.knows.seen
 
--- A session of this number, user and group, whose calls are these. What it has seen is sound, its replies are true, and it is legal.
+-- A session of this number, user and group, whose calls are these of a `stat /`. What it has seen is sound, its replies are true, and it is legal.
 pub record Records (g : Geometry) (v : Opening) (tree : Tree) (number uid gid : ℕ) (times : List ℕ) (outcomes : List Outcome) : Type 0 where
   pub session : SessionState
+  pub call : Call
+  pub root : IsRootStat call
   pub numbered : session.knows.number ≡ number
   pub user : session.uid ≡ uid
   pub group : session.gid ≡ gid
   pub good : IsGood g v tree session.knows.seen
   pub true_replies : HasTrueReplies (contents_at v) session.knows.seen
-  pub calls : calls_of session.knows.number session.knows.place session.knows.seen ≡ calls_made (caller_of session) times outcomes []
+  pub calls : calls_of session.knows.number session.knows.place session.knows.seen ≡ calls_made (caller_of session) call times outcomes []
 
 -- The calls of a script (its user, group and times) got these outcomes in a session of this number from a service for the volume, some of
 -- them EIO or none. Whichever tree the volume held as it was handed in, the session has seen these calls.

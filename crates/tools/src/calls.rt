@@ -2,6 +2,7 @@
 
 ghost use Rattle.std.specs.Prelude.{◌≡◌, IfOk};
 ghost use Rattle.std.specs.List.{list_any};
+ghost use Rattle.serve.specs.Held.{IsRootStat};
 ghost use Rattle.tools.specs.Made.{is_eio, cuts, Calls, Plays, IsAnswered};
 
 use crate::script::Script;
@@ -49,7 +50,13 @@ impl<R: Wait + Copy> Program<R> for Player {
     {
         let mut session = service.session(self.script.uid, self.script.gid)?;
         let number = session.number();
-        let outcomes = make_calls(self.alloc, &mut session, self.script.times.as_slice())?;
+        let root = Call::Stat { path: b"/" };
+        let outcomes = make_calls(
+            self.alloc,
+            &mut session,
+            &root,
+            self.script.times.as_slice(),
+        )?;
         session.end();
         let given_up = has_eio(outcomes.as_slice());
         Ok(Played {
@@ -60,18 +67,20 @@ impl<R: Wait + Copy> Program<R> for Player {
     }
 }
 
-/// Makes calls in a session, one after the other; from the first that is cut on all are. Without memory for the outcomes none is made.
+/// Makes a `stat /` in a session at each of these times, one after the other; from the first that is cut on all are. Without memory for the outcomes none is made.
 pub fn make_calls<N: Room, R: Wait + Copy, L: Recorder<N>>(
     alloc: Global,
     session: &mut Session<N, Shared<N, R, L>>,
+    root: &Call,
     times: &[u32],
 ) -> Result<Vec<Outcome>, AllocError>
-    ensures { IfOk result (λ outcomes. Plays L.truth N.geometry N.opening session.old times.now outcomes.items session.new) }
+    requires { IsRootStat root.now }
+    ensures { IfOk result (λ outcomes. Plays L.truth N.geometry N.opening root.now session.old times.now outcomes.items session.new) }
 {
     let mut outcomes = Vec::with_capacity(alloc, times.len())?;
     let mut cut = false;
     for now in times {
-        let outcome = call_unless(cut, session, *now);
+        let outcome = call_unless(cut, session, *now, root);
         cut = is_cut(&outcome);
         outcomes.push_reserved(outcome);
     }
@@ -83,13 +92,15 @@ fn call_unless<N: Room, R: Wait + Copy, L: Recorder<N>>(
     cut: bool,
     session: &mut Session<N, Shared<N, R, L>>,
     now: u32,
+    root: &Call,
 ) -> Outcome
-    ensures { Calls L.truth N.geometry N.opening session.old cut now result session.new }
+    requires { IsRootStat root.now }
+    ensures { Calls L.truth N.geometry N.opening root.now session.old cut now result session.new }
 {
     if cut {
         Outcome::Cut
     } else {
-        session.call(now, &Call::Stat { path: b"/" })
+        session.call(now, root)
     }
 }
 

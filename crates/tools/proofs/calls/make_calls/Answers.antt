@@ -12,7 +12,7 @@ loop-now-preserved g c =
     let volume = g.N.Room.opening in
     let called = c.call_unless-outcome.ensures in
     rw (next, c.push_reserved.ensures.items) (
-      plays_more g.L.Link.truth geometry volume c.args.session.now c.loop-now.session _ _ c.loop-now.outcomes.items _ c.loop-now.invariant.0
+      plays_more g.L.Link.truth geometry volume c.args.root.now c.args.session.now c.loop-now.session _ _ c.loop-now.outcomes.items _ c.loop-now.invariant.0
           c.loop-now.cut c.call_unless-outcome.result c.loop-now.invariant.1 called,
-      c.is_cut-cut.ensures ∙ cut_more g.L.Link.truth geometry volume _ _ c.loop-now.outcomes.items _ c.loop-now.cut c.call_unless-outcome.result c.loop-now.invariant.1 called,
+      c.is_cut-cut.ensures ∙ cut_more g.L.Link.truth geometry volume c.args.root.now _ _ c.loop-now.outcomes.items _ c.loop-now.cut c.call_unless-outcome.result c.loop-now.invariant.1 called,
     )
