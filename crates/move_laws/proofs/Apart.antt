@@ -1,7 +1,7 @@
 -- What moves is neither of the two directories, and its name is one.
-use Rattle.std.proofs.Common.{◌≡◌, ◌≢◌, ◌≤◌, ◌<◌, ◌+◌, ℕ, zero, suc, Bool, true, false, List, [], ◌∷◌, Option, Some, None, refl, sym, ap, ◌∙◌, arith}
+use Rattle.std.proofs.Common.{◌≡◌, ◌≢◌, ◌≤◌, ◌+◌, ℕ, zero, suc, true, false, [], ◌∷◌, Option, Some, refl, sym, ap, ◌∙◌, arith}
 use mathlib.Core.Logic.{inl, inr}
-use Rattle.std.specs.Prelude.{IsTrue, is_some, ◌&&◌}
+use Rattle.std.specs.Prelude.{is_some, ◌&&◌}
 use Rattle.std.specs.List.{list_all}
 use Rattle.std.specs.Ordering.{eq_by_cmp}
 use Rattle.std.proofs.lemmas.Bool.{and_cases, and_parts, cases_Bool, cases_eq, cond-false}
@@ -10,7 +10,7 @@ use Rattle.tree.specs.Names.{Name, Names, inode_of, is_name, name_cmp}
 use Rattle.tree.specs.Tree.{Body, Node, Tree, is_dir, is_directory, is_file, most_size, names_of, parent_of, size_of}
 use Rattle.tree.specs.IsTree.{IsBody, IsTree, above}
 use Rattle.tree.specs.NameCalls.{is_within}
-use Rattle.tree.proofs.Maps.{is_the_one, not_true}
+use Rattle.tree.proofs.Maps.{not_true}
 use Rattle.tree_laws.proofs.Freed.{part_below}
 use Rattle.tree_laws.proofs.Totals.{one_for, one_for_itself, two_parts, weigh_found}
 use Rattle.tree_laws.proofs.Shapes.{IsShape, kind_of, shape_of, total, weight}

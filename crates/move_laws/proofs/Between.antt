@@ -1,8 +1,7 @@
 -- The nodes between the steps of a move.
-use Rattle.std.proofs.Common.{◌≡◌, ◌≢◌, ◌≤◌, ◌-◌, ◌+◌, ◌*◌, ℕ, Bool, true, false, Option, Some, None, List, length, refl, sym, ap, ◌∙◌, arith}
+use Rattle.std.proofs.Common.{◌≡◌, ◌≢◌, ◌≤◌, ◌+◌, ◌*◌, ℕ, true, Some, None, length, refl, ◌∙◌, arith}
 use Rattle.std.specs.Prelude.{is_some}
 use Rattle.layout.specs.declared.Geometry.{Geometry}
-use Rattle.tree.specs.Sums.{one_if}
 use Rattle.tree.specs.Names.{Name, Names, inode_of, with_name, without_name}
 use Rattle.tree.specs.Tree.{Body, Node, Tree, is_dir, is_directory, is_file, most_size, names_of, on_node, size_of}
 use Rattle.tree.specs.IsTree.{IsBody}

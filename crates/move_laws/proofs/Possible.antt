@@ -1,17 +1,16 @@
 -- The moves may be made.
-use Rattle.std.proofs.Common.{◌≡◌, ◌≢◌, ◌≤◌, ◌<◌, ◌+◌, ◌*◌, ℕ, Bool, true, false, Option, Some, None, List, length, refl, sym, ap, subst, ◌∙◌, arith}
+use Rattle.std.proofs.Common.{◌≡◌, ◌≢◌, ◌≤◌, ◌+◌, ℕ, Bool, true, false, Option, Some, None, refl, sym, ap, ◌∙◌, arith}
 use mathlib.Core.Logic.{inl, inr}
-use Rattle.std.specs.Prelude.{IsTrue, is_some}
+use Rattle.std.specs.Prelude.{is_some}
 use Rattle.std.specs.Ordering.{eq_by_cmp}
 use Rattle.std.proofs.lemmas.Bool.{cases_Bool, cases_eq, cond-true, eqb-false}
 use Rattle.layout.specs.declared.Geometry.{Geometry}
 use Rattle.layout.specs.Places.{IsGeometry}
 use Rattle.tree.specs.Sums.{one_if, put, sum_below}
 use Rattle.tree.specs.Names.{inode_of, name_cmp, with_name}
-use Rattle.tree.specs.Tree.{Node, Tree, is_dir, most_size, names_of, on_node, size_of}
-use Rattle.tree.specs.IsTree.{links_due}
+use Rattle.tree.specs.Tree.{Node, Tree, is_dir, most_size, names_of, size_of}
 use Rattle.tree.specs.Changes.{with_names}
-use Rattle.tree.specs.Space.{data_zones, zones_of, zones_used}
+use Rattle.tree.specs.Space.{data_zones, zones_used}
 use Rattle.tree.proofs.Maps.{is_the_one, not_true}
 use Rattle.tree_laws.proofs.Entries.{other_name}
 use Rattle.tree_laws.proofs.Growth.{grown_fits}
@@ -24,7 +23,7 @@ use Rattle.zone_laws.specs.Room.{taken_by}
 use Rattle.descriptors.specs.Files.{Files, HasFiles}
 use Rattle.moving.specs.declared.moves.Move.{Move}
 use Rattle.moving.specs.Moves.{IsParent, MaySettle, MayTakeOut}
-use Rattle.moving.specs.Replaced.{HasChanged, MayDropReplaced}
+use Rattle.moving.specs.Replaced.{MayDropReplaced}
 use Rattle.moving.specs.Whole.{MayMoveOver, MayMoveTo, MayMoveWithin, into, links_of, moved, out_of, within}
 use Rattle.moving.proofs.Asked.{move_to_may_be_made}
 use Rattle.move_laws.specs.Asked.{IsAsked}

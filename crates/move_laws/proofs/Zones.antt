@@ -1,9 +1,9 @@
 -- The zones of a tree after a move to another directory.
-use Rattle.std.proofs.Common.{◌≡◌, ◌≢◌, ◌≤◌, ◌<◌, ◌-◌, ◌+◌, ◌*◌, ℕ, true, false, Option, Some, None, length, refl, sym, ap, subst, ◌∙◌, arith, replicate}
+use Rattle.std.proofs.Common.{◌≡◌, ◌≢◌, ◌-◌, ◌+◌, ℕ, true, Option, Some, None, refl, sym, ap, subst, ◌∙◌, arith, replicate}
 use Rattle.std.specs.Prelude.{is_some}
 use Rattle.layout.specs.declared.Geometry.{Geometry}
 use Rattle.layout.specs.Places.{IsGeometry}
-use Rattle.tree.specs.Names.{Name, Names, inode_of, with_name, without_name}
+use Rattle.tree.specs.Names.{Name, Names, inode_of, without_name}
 use Rattle.tree.specs.Tree.{Body, Node, Tree, is_dir, is_directory, is_file, names_of, on_node, size_of}
 use Rattle.tree.specs.IsTree.{IsBody}
 use Rattle.tree.specs.Changes.{with_names}
@@ -15,7 +15,6 @@ use Rattle.tree_laws.proofs.Views.{view_gained, view_lost}
 use Rattle.tree_laws.proofs.Weights.{weigh_without_name}
 use Rattle.volume.specs.Reading.{Disk}
 use Rattle.volume.specs.Pieces.{Pieces, pieces}
-use Rattle.volume.specs.Nodes.{is_marked, nodes_of}
 use Rattle.volume.specs.Holds.{HoldsVolume}
 use Rattle.entry_laws.specs.Directories.{before}
 use Rattle.file.specs.Changing.{file_at, written_at}

@@ -15,6 +15,8 @@ use Rattle.move_laws.specs.Asked.{IsAsked}
 
 -- `more` zones are taken for an entry's bytes at the end of the one, and `less` given back with the last 64 bytes of the other.
 abbrev pub MoveTakes : Type 0
-MoveTakes = (g : Geometry) (d : Disk) (t : Tree) (m : Move) (from to node : Node) (less more : ℕ) → IsGeometry g → HoldsVolume g d t → IsAsked g t m None from to node → m.from ≢ m.to
-    → zones_of_size g (size_of from.body) ≡ zones_of_size g (size_of from.body - 64) + less → TakesMore g (pieces g d) m.to (size_of to.body) 64 more
+MoveTakes = (g : Geometry) (d : Disk) (t : Tree) (m : Move) (from to node : Node) (less more : ℕ) → IsGeometry g
+    → HoldsVolume g d t → IsAsked g t m None from to node → m.from ≢ m.to
+    → zones_of_size g (size_of from.body) ≡ zones_of_size g (size_of from.body - 64) + less
+    → TakesMore g (pieces g d) m.to (size_of to.body) 64 more
     → zones_used g (moved m t) + less ≡ zones_used g t + more
