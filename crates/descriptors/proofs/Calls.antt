@@ -15,7 +15,7 @@ use Rattle.tree.specs.Changes.{open_file_of, without_unused}
 use Rattle.tree.specs.FileCalls.{with_open}
 use Rattle.tree.proofs.Maps.{not_nothing, not_true}
 use Rattle.descriptors.specs.Keys.{at_position}
-use Rattle.descriptors.specs.Files.{Files, AreFiles, files_in, tree_with, put_file, dup_file, close_file, let_go, file_at, moved}
+use Rattle.descriptors.specs.Files.{Files, AreFiles, files_in, tree_with, put_file, room_for_file, dup_file, close_file, let_go, file_at, moved}
 use Rattle.descriptors.specs.Table.{Table, IsTable, session_at, opened_at, number_at, files_of}
 use Rattle.descriptors.proofs.Searches.{free_is, found_below, one_below, none_below}
 use Rattle.descriptors.proofs.Tables.{with_number, with_file, same_files, number_after, number-here, number-beside, number-apart, opened_after}
@@ -48,6 +48,15 @@ pub put_refused_later : (t : Table) (s inode flags fd : ℕ) → IsTable t → s
 put_refused_later t s inode flags fd i l h g =
     ap (λ (b : Result ℕ Errno). put_by t s inode flags (Ok fd) b) (sym (free_number t i ∙ ap (λ (o : Option ℕ). ok_or o ENFILE) g))
     ∙ ap (λ (a : Result ℕ Errno). put_by t s inode flags a (free_place (opened_at t) most_open_files ENFILE)) (sym (free_fd t s i l ∙ ap (λ (o : Option ℕ). ok_or o EMFILE) h))
+
+-- whether a file more may be open, by what the searches answer
+abbrev pub room_by : Option ℕ → Option ℕ → Result (Unit {0}) Errno
+room_by fd k = ok_or fd EMFILE >>= λ x. ok_or k ENFILE >>= λ y. Ok tt
+
+pub room_is : (t : Table) (s : ℕ) → IsTable t → s < most_sessions → room_by (position is_none (session_at t s)) (position is_none t.opened) ≡ room_for_file (files_of t) s
+room_is t s i l =
+    ap (λ (a : Result ℕ Errno). a >>= λ x. ok_or (position is_none t.opened) ENFILE >>= λ y. Ok tt) (sym (free_fd t s i l))
+    ∙ ap (λ (b : Result ℕ Errno). free_place (number_at t s) most_descriptors EMFILE >>= λ x. b >>= λ y. Ok tt) (sym (free_number t i))
 
 -- what is none is nothing
 is_nothing : {X : Type 0} (o : Option X) → is_none o ≡ true → o ≡ None

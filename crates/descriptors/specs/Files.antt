@@ -36,6 +36,13 @@ put_file f session inode flags = do
   k ← free_place f.opened most_open_files ENFILE
   Ok (fd, files_in (with_open (tree_with f) (record { session = session; fd = fd; number = k }) inode flags))
 
+-- whether there is a descriptor and a number for it
+abbrev pub room_for_file : Files → ℕ → Result (Unit {0}) Errno
+room_for_file f session = do
+  fd ← free_place (f.descriptors session) most_descriptors EMFILE
+  k ← free_place f.opened most_open_files ENFILE
+  Ok tt
+
 -- one descriptor more for an open file: the descriptor, and what is open then
 abbrev pub dup_file : Files → ℕ → ℕ → Result (ℕ × Files) Errno
 dup_file f session fd = do

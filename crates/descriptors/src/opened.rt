@@ -1,6 +1,6 @@
 //! Open files at numbers of their own.
 
-ghost use Rattle.std.specs.Prelude.{◌≡◌, ◌<◌, IfOk, None, Some, IsSome, is_none, length, option_map, position, replicate, slice_index_or, slice_set};
+ghost use Rattle.std.specs.Prelude.{◌≡◌, ◌<◌, IfOk, None, Some, IsSome, is_none, is_some, length, option_map, position, replicate, slice_index_or, slice_set};
 ghost use Rattle.std.specs.List.{list_any};
 ghost use Rattle.tree.specs.Tree.{most_open_files, opens};
 
@@ -82,6 +82,18 @@ impl OpenFiles {
                 if file.inode == inode {
                     return true;
                 }
+            }
+        }
+        false
+    }
+
+    /// Whether there is one.
+    pub(crate) fn has_some(&self) -> bool
+        ensures { result ≡ list_any is_some self.now }
+    {
+        for number in 0..self.keys.len() {
+            if self.get(number).is_some() {
+                return true;
             }
         }
         false

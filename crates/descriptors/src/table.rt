@@ -1,7 +1,7 @@
 //! The open files of all sessions, and their descriptors.
 
-ghost use Rattle.std.specs.Prelude.{◌≡◌, ◌<◌, ◌≤◌, IfOk, IsSome, OnErr, None, Some, is_none, length, position, option_map, slice_index_or};
-ghost use Rattle.tree.specs.Tree.{is_open, leads_to, most_sessions, most_size};
+ghost use Rattle.std.specs.Prelude.{◌≡◌, ◌<◌, ◌≤◌, IfOk, IsSome, OnErr, None, Some, is_none, is_some, length, position, option_map, slice_index_or};
+ghost use Rattle.tree.specs.Tree.{is_open, leads_to, most_open_files, most_sessions, most_size};
 ghost use Rattle.tree.specs.Sums.{some_below};
 
 use crate::free::first_free;
@@ -54,7 +54,7 @@ fn has_number(session: &[Option<u8>], number: u8) -> bool
 }
 
 impl Descriptors {
-    ghost use Rattle.descriptors.specs.Files.{AreFiles, close_file, dup_file, file_at, moved, put_file, tree_with};
+    ghost use Rattle.descriptors.specs.Files.{AreFiles, close_file, dup_file, file_at, moved, put_file, room_for_file, tree_with};
     ghost use Rattle.descriptors.specs.Keys.{file_of};
     ghost use Rattle.descriptors.specs.Table.{files_of, number_at, session_at, told};
     ghost use Rattle.descriptors.specs.Made.{no_files, shown};
@@ -94,6 +94,18 @@ impl Descriptors {
         self.files.insert(number, file);
         self.sessions[session as usize][fd] = Some(number as u8);
         Ok(fd as u32)
+    }
+
+    /// Whether `put` would open a node for the session: what it would refuse otherwise, EMFILE or ENFILE.
+    pub fn can_put(&self, session: u8) -> Result<(), Errno>
+        requires { session < most_sessions }
+        ensures { result ≡ room_for_file (files_of self.now) session }
+    {
+        match (self.free_descriptor(session), self.files.free()) {
+            (None, _) => Err(Errno::EMFILE),
+            (_, None) => Err(Errno::ENFILE),
+            (Some(_), Some(_)) => Ok(()),
+        }
     }
 
     /// The lowest free descriptor of the session leads to the same open file as `fd` then. EBADF where `fd` leads to none, else EMFILE
@@ -158,6 +170,13 @@ impl Descriptors {
         ensures { result ≡ is_open (tree_with (files_of self.now)) inode }
     {
         self.files.has_inode(inode)
+    }
+
+    /// Whether some file is open.
+    pub fn is_busy(&self) -> bool
+        ensures { result ≡ some_below (λ k. is_some ((files_of self.now).opened k)) most_open_files }
+    {
+        self.files.has_some()
     }
 
     /// What holds of all open files and descriptors, whatever was called: at most 128 open files with numbers below that, positions up to
