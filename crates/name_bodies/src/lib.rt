@@ -2,7 +2,7 @@
 #![tactic(auto)]
 
 mod linking;
-mod named;
+pub mod named;
 mod removing;
 
 pub use linking::link;

@@ -37,14 +37,14 @@ pub(crate) fn is_directory(inode: &Inode) -> bool
 }
 
 /// Whether a user may change the names of the directory of an inode.
-pub(crate) fn may_write(user: User, inode: &Inode) -> bool
+pub fn may_write(user: User, inode: &Inode) -> bool
     ensures { (node : Node) → IsOfInode node inode.now → result ≡ may_access user node to_write }
 {
     may(user, inode.mode % 512, inode.uid, inode.gid, Wish::Write)
 }
 
 /// The place that a path means, or the refusal of the walk there.
-pub(crate) fn place_of<'a, B: Blocks>(
+pub fn place_of<'a, B: Blocks>(
     blocks: &mut B,
     geometry: &Geometry,
     user: User,

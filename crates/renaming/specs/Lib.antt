@@ -1,0 +1,2 @@
+-- Renames.
+pub mod Asked
