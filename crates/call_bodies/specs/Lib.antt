@@ -1,3 +1,2 @@
--- What a client call does on a volume, and the calls that have a body.
+-- What a client call does on a volume.
 pub mod Calls
-pub mod Given

@@ -9,7 +9,6 @@ ghost use Rattle.store.specs.Volume.{IsOn};
 ghost use Rattle.store.specs.Halts.{IsHalt};
 ghost use Rattle.tree.specs.Effects.{user_of};
 ghost use Rattle.call_bodies.specs.Calls.{DoesCall, MeetsCall};
-ghost use Rattle.call_bodies.specs.Given.{IsGiven};
 
 use bodies::open_files::{dup, fstat};
 use bodies::reading::read;
@@ -24,6 +23,8 @@ use listing::readdir;
 use make_bodies::mkdir;
 use name_bodies::{link, rmdir, unlink};
 use node_bodies::{chmod, chown, stat, utime};
+use open_body::open;
+use rename_body::rename;
 use std::alloc::Global;
 use store::{Blocks, Cut, Halt};
 use tree::{Call, MAX_SESSIONS, Reply, User, Who};
@@ -49,7 +50,6 @@ fn perform<B: Blocks>(
     call: &Call,
 ) -> Result<Reply, Halt>
     requires on { IsOn B.world geometry.now blocks.old }
-    requires given { IsGiven call.now }
     ensures turns { Turns B.world blocks.old blocks.new (λ d e.
         MeetsCall geometry.now who now call.now result (files_of opens.old) (files_of opens.new) d e) }
     ensures synced { IfOk result (λ r. IsTrue (is_sync call.now) → IsTrue (is_success (answer_of r)) → B.world.synced blocks.new) }
@@ -62,6 +62,11 @@ fn perform<B: Blocks>(
     let session = who.session;
     let user = user_of(who);
     match *call {
+        Call::Open { path, flags, mode } => {
+            open(
+                blocks, opens, geometry, user, now, session, path, flags, mode,
+            )
+        }
         Call::Close { fd } => close(blocks, opens, geometry, session, fd),
         Call::Dup { fd } => Ok(dup(opens, session, fd)),
         Call::Read { fd, count } => read(alloc, blocks, opens, geometry, session, fd, count),
@@ -84,7 +89,7 @@ fn perform<B: Blocks>(
         Call::Truncate { path, size } => truncate(blocks, geometry, user, now, path, size),
         Call::Link { old, new } => link(blocks, geometry, user, now, old, new),
         Call::Mkdir { path, mode } => mkdir(blocks, geometry, user, now, path, mode),
-        _ => unreachable!(),
+        Call::Rename { old, new } => rename(blocks, opens, geometry, user, now, old, new),
     }
 }
 
@@ -101,7 +106,6 @@ pub fn body<B: Blocks>(
     call: &Call,
 ) -> Result<Reply, Cut>
     requires on { IsOn B.world geometry.now blocks.old }
-    requires given { IsGiven call.now }
     ensures turns { Turns B.world blocks.old blocks.new (λ d e. IfOk result (λ r.
         DoesCall geometry.now who now call.now (answer_of r) (files_of opens.old) (files_of opens.new) d e)) }
     ensures synced { IfOk result (λ r. IsTrue (is_sync call.now) → IsTrue (is_success (answer_of r)) → B.world.synced blocks.new) }

@@ -3,7 +3,6 @@
 ghost use Rattle.std.specs.Prelude.{◌≡◌};
 ghost use Rattle.layout.specs.Places.{IsGeometry};
 ghost use Rattle.store.specs.Volume.{IsOn};
-ghost use Rattle.call_bodies.specs.Given.{IsGiven};
 
 use call_bodies::body;
 use descriptors::Descriptors;
@@ -23,7 +22,6 @@ fn done<B: Blocks>(
     call: &Call,
 ) -> Result<Reply, Cut>
     requires on { IsOn B.world geometry.now blocks.old }
-    requires given { IsGiven call.now }
     ensures { IsOn B.world geometry.now blocks.new }
 {
     let who = Who {
@@ -106,9 +104,7 @@ impl Volume {
     }
 
     /// Does a call of session 0 as user 0.
-    pub(crate) fn call(&mut self, call: &Call) -> Result<Reply, Cut>
-        requires { IsGiven call.now }
-    {
+    pub(crate) fn call(&mut self, call: &Call) -> Result<Reply, Cut> {
         done(
             self.alloc,
             &mut self.blocks,

@@ -72,6 +72,13 @@ impl<D: LocalDriver> Driven<D> {
             notes: Notes::new(alloc)?,
         })
     }
+
+    /// The media, as they stand.
+    pub fn media(&self) -> &Media
+        ensures { result.now ≡ self.now.drivers.media }
+    {
+        &self.drivers.media
+    }
 }
 
 impl<D: LocalDriver> Link for Driven<D> {

@@ -2,3 +2,4 @@ pub mod Decided
 pub mod DisksLaws
 pub mod StageLaws
 pub mod Keeping
+pub mod Sectors

@@ -1,5 +1,5 @@
 -- What events keep of the drivers and of the server's record.
-use Rattle.std.specs.Prelude.{◌≡◌, ◌⊎◌, ◌≤◌, ℕ, List, [], ◌∷◌, map, All, Option, Some, None}
+use Rattle.std.specs.Prelude.{◌≡◌, ◌⊎◌, ◌≤◌, ℕ, List, [], ◌∷◌, length, map, All, Option, Some, None}
 use Rattle.message.specs.declared.Incoming.{Incoming}
 use Rattle.bdev.specs.DriverState.{DriverState}
 use Rattle.policy.specs.declared.Policy.{Policy}
@@ -65,6 +65,12 @@ EventsKeep =
 abbrev pub EventsNoteAside : Type 0
 EventsNoteAside =
     (place : ℕ) (event : Event) (b a : Scene) (result : Option Incoming) → Plays place event b result a → NotesAside b.noted a.noted
+
+-- an event leaves the number of the media's sectors
+abbrev pub EventsKeepSectors : Type 0
+EventsKeepSectors =
+    (place : ℕ) (event : Event) (b a : Scene) (result : Option Incoming) → Plays place event b result a
+    → length a.disks.media.sectors ≡ length b.disks.media.sectors
 
 -- before the first event it holds with the record that has the first start alone, where the media are those handed in and the drivers are ready
 abbrev pub OpeningKeeps : Type 0

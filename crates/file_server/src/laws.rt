@@ -1,6 +1,7 @@
 //! What a server over a link stands through, each a law of the definitions.
 
 ghost use Rattle.file_server.specs.Laws.{SameStands, MessageStands, AnswerStands, CutStands};
+ghost use Rattle.file_server.specs.Leaving.{CutLeaves};
 
 use crate::FileServer;
 use reissue::Link;
@@ -27,4 +28,10 @@ pub fn answer_stands<L: Link + Drop, S: FileServer<L>>()
 #[tactic(auto, using(crate::proofs::Standing::cut_stands))]
 pub fn cut_stands<L: Link + Drop, S: FileServer<L>>()
     ensures { CutStands S L S.Serve.serving L.Link.truth }
+{}
+
+/// A call was cut by an End of its own, after which nothing was taken: something is pending that a message was needed for, and the device
+/// isn't given up.
+pub fn cut_leaves<L: Link + Drop, S: FileServer<L>>()
+    ensures { CutLeaves S L S.Serve.serving L.Link.truth }
 {}

@@ -70,6 +70,9 @@ pub trait FileServer<L: Link + Drop>: Serve + Drop {
 
     ghost counts_on: { (s : Self) (l : L) → absorbed (with_line s l) ≡ absorbed s };
 
+    // what its link was told and gave is the link's history
+    ghost tells: { (s : Self) → (Self.serving s).told ≡ L.history (line s) };
+
     // a link with the same history changes nothing of the server
     ghost stays: { (s : Self) (l : L) → L.history l ≡ L.history (line s) → SameServing (Self.serving s) (Self.serving (with_line s l)) };
 

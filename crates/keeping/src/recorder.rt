@@ -4,11 +4,13 @@ ghost use Rattle.std.specs.Prelude.{◌≡◌, ◌↔◌, ◌<◌, ◌∷◌, Li
 ghost use Rattle.tree.specs.Answers.{answer_of};
 ghost use Rattle.marks.specs.Marks.{Mark, Took};
 ghost use Rattle.marks.specs.Opening.{Opening};
+ghost use Rattle.marks.specs.Told.{took_end};
 ghost use Rattle.legal.specs.Session.{tally_of};
 ghost use Rattle.board.specs.View.{without};
 ghost use Rattle.board.specs.Steps.{SessionLearns, SessionIsNew};
 ghost use Rattle.keeping.specs.Keeper.{AreAllUsed, IsLowestFree};
 ghost use Rattle.keeping.specs.Recorder.{SameLink};
+ghost use Rattle.file_server.specs.Leaving.{IsEndLast};
 
 use crate::room::Room;
 use crate::steady::Supplied;
@@ -58,6 +60,10 @@ pub trait Recorder<N: Room>: Supplied + Drop {
         ensures mine { caller.new.view.mine ≡ caller.old.view.mine }
         ensures session { SessionLearns caller.old.view caller.new.view };
 
+    /// Whether a take gave End. Nothing is taken then any more.
+    fn has_ended(&self) -> bool
+        ensures { result ≡ took_end (Self.Link.history self.now) };
+
     /// Whether each of the 64 numbers is that of a session.
     fn is_full(&self) -> bool
         ensures { (result ≡ true) ↔ AreAllUsed (numbers self.now) };
@@ -83,4 +89,7 @@ pub trait Recorder<N: Room>: Supplied + Drop {
 
     // What it guarantees of a record it guarantees of this one alone.
     ghost is_record: { (link : Self) (v : Opening) (older : List Mark) → Self.truth link v older → marks link ≡ older };
+
+    // Where it guarantees a record, it took nothing after an End.
+    ghost end_last: { (link : Self) (v : Opening) (older : List Mark) → Self.truth link v older → IsEndLast (Self.Link.history link) };
 }

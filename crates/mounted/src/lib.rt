@@ -54,6 +54,7 @@ where
     ensures opens { OpensClean L.Link link minor clean.geometry frames result }
     ensures link { IfOk result (λ s. line_of s ≡ link) }
     ensures ready { IfOk result (IsReadyOver L.Link) }
+    ensures none_absorbed { IfOk result (λ s. s.absorbed ≡ 0) }
 {
     match Server::open(alloc, link, minor, clean.geometry(), frames) {
         Ok(server) => Ok(server),

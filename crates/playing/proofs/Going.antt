@@ -11,12 +11,13 @@ use Rattle.tree.specs.Answers.{answer_of}
 use Rattle.marks.specs.Marks.{Issued, Fault, Answered, Started, GaveUp, Flush, Took}
 use Rattle.marks.specs.declared.Cause.TheVariants.{Complaint}
 use Rattle.marks.specs.Open.{counts}
+use Rattle.marks.specs.Told.{Told, Posted, Complained, Received}
 use Rattle.bdev.specs.DriverState.{DriverState}
 use Rattle.policy.specs.declared.Event.TheVariants as policy
 use Rattle.policy.specs.Watch.{on}
 use Rattle.reincarnate.specs.Supply.{ReincarnationState}
 use Rattle.reissue.specs.declared.link.LinkRefusal.{LinkRefusal}
-use Rattle.driver_events.specs.Disks.{Disks, LinesUp}
+use Rattle.driver_events.specs.Disks.{Disks, LinesUp, NoneIsThere, LineIsFull, IsLinedUp}
 use Rattle.driver_events.specs.Ruling.{is_fault, gives_up}
 use Rattle.schedule.specs.declared.Event.{Event}
 use Rattle.schedule.specs.declared.Event.TheVariants as event
@@ -24,10 +25,12 @@ use Rattle.schedule.specs.Groups.{event_of}
 use Rattle.run_log.specs.declared.log.Entry.{Entry}
 use Rattle.run_log.specs.declared.log.Entry.TheVariants as entry
 use Rattle.run_log.specs.Noted.{Noted, marks_in, with_mark, with_message, with_entry, with_end}
+use Rattle.driver_events.specs.Scene.{Scene}
 use Rattle.driver_events.specs.Kept.{NotesAside}
 use Rattle.driver_events.proofs.Keeping.{events_same, events_note_aside}
+use Rattle.driver_events.proofs.Sectors.{events_keep_sectors}
 use Rattle.playing.specs.declared.arrived.Arrived.{Arrived}
-use Rattle.playing.specs.PlayView.{Play, calls_of, unless_told, work_left, begun, noting, paid, ended, posted, complained, ruling_at, PlaysNext, Advances, Stays, Goes, Turn, Takes, TakesOwed, TakesEnd, Posts, Complains, GoesOn, Still, Further, Asides, HandsEvent, HandsNone, HandsOwed, HandsNothing}
+use Rattle.playing.specs.PlayView.{Play, calls_of, unless_told, work_left, begun, noting, paid, ended, starving, posted, complained, ruling_at, PlaysNext, Advances, Stays, Goes, ComesToEnd, IsPlayedOut, IsStarved, Turn, Takes, TakesOwed, TakesEnd, Posts, Complains, GoesOn, Still, Further, Asides, HandsEvent, HandsNone, HandsOwed, HandsNothing}
 use Rattle.playing.specs.Laws.{LeadsOn, CallLeads, ServersLeadOn, AsidesLeadOn, CallsLeadOn, AnswersLeadOn}
 
 -- whether a note begins an event
@@ -104,21 +107,23 @@ take_more (x ∷ events) zero e is = ap (λ (o : Option Event). first_of o x ∷
 take_more (x ∷ events) (suc n) e is = ap (λ (l : List Event). x ∷ l) (take_more events n e is)
 
 pub leads_stays : (p : Play) → LeadsOn p p
-leads_stays p = record { events = refl; next = omega arith; work = omega arith; sound = λ s. s }
+leads_stays p = record { events = refl; sectors = refl; next = omega arith; work = omega arith; sound = λ s. s }
 
 pub leads_joins : (a b c : Play) → LeadsOn a b → LeadsOn b c → LeadsOn a c
 leads_joins a b c first next = record {
   events = next.events ∙ first.events;
+  sectors = next.sectors ∙ first.sectors;
   next = omega (arith, first.next, next.next);
   work = omega (arith, first.work, next.work);
   sound = λ s. next.sound (first.sound s);
 }
 
--- with the same events begun, and no call more that waits
-leads_same : (b a : Play) → a.events ≡ b.events → a.next ≡ b.next → length a.queue ≤ length b.queue → unless_told a.told ≤ unless_told b.told
+-- with as many sectors, the same events begun, and no call more that waits
+leads_same : (b a : Play) → length a.scene.disks.media.sectors ≡ length b.scene.disks.media.sectors → a.events ≡ b.events → a.next ≡ b.next → length a.queue ≤ length b.queue → unless_told a.told ≤ unless_told b.told
     → map event_of a.scene.noted.groups ≡ map event_of b.scene.noted.groups → LeadsOn b a
-leads_same b a events next queue told same = record {
+leads_same b a sectors events next queue told same = record {
   events = events;
+  sectors = sectors;
   next = omega (arith, next);
   work = less_work a.events b.events a.next b.next (length a.queue) (length b.queue) (unless_told a.told) (unless_told b.told) (ap length events) next queue told;
   sound = λ s. record {
@@ -132,6 +137,7 @@ leads_next b a result p =
     let aside : NotesAside (begun p.event b.scene).noted a.scene.noted = events_note_aside b.next p.event (begun p.event b.scene) a.scene result p.plays in
     record {
       events = p.events;
+      sectors = events_keep_sectors b.next p.event (begun p.event b.scene) a.scene result p.plays;
       next = omega (arith, p.next);
       work = (let h : work_left a < work_left b = next_works b a result p in omega (arith, h));
       sound = λ s. record {
@@ -148,30 +154,45 @@ leads_far b a _ (Goes m _ result before last) = leads_joins b m a (leads_far b m
 
 -- a note within an event
 leads_noted : (b : Play) (e : Entry) → is_beginning e ≡ false → LeadsOn b (noting e b)
-leads_noted b e within = leads_same b (noting e b) refl refl (omega arith) (omega arith) (entry_events e b.scene.noted within)
+leads_noted b e within = leads_same b (noting e b) refl refl refl (omega arith) (omega arith) (entry_events e b.scene.noted within)
 
 -- that the device was given up is told
 leads_paid : (b : Play) → LeadsOn b (paid b)
-leads_paid b = leads_same b (paid b) refl refl (omega arith) (omega arith) refl
+leads_paid b = leads_same b (paid b) refl refl refl (omega arith) (omega arith) refl
 
 -- the link ends
 leads_ended : (b : Play) → LeadsOn b (ended b)
-leads_ended b = leads_same b (ended b) refl refl (omega arith) (omega arith) refl
+leads_ended b = leads_same b (ended b) refl refl refl (omega arith) (omega arith) refl
 
-turns_lead_on : (b a : Play) → Turn b a → LeadsOn b a
-turns_lead_on b _ (Takes message a far) = leads_joins b a (noting (entry.Received message) a) (leads_far b a (Some message) far) (leads_noted a (entry.Received message) refl)
-turns_lead_on b _ (TakesOwed live owed first) =
+-- memory is wanted
+leads_starving : (b : Play) → LeadsOn b (starving b)
+leads_starving b = leads_same b (starving b) refl refl refl (omega arith) (omega arith) refl
+
+-- nothing comes any more
+leads_to_end : (b a : Play) → ComesToEnd b a → LeadsOn b a
+leads_to_end b a (IsPlayedOut _ far spent) = leads_far b a None far
+leads_to_end b _ (IsStarved a far) = leads_joins b a (starving a) (leads_far b a None far) (leads_starving a)
+
+lines_keep_sectors : (to : Endpoint) (r : BlockRequest) (b d : Disks) (result : Result (Unit {0}) LinkRefusal) → LinesUp to r b result d
+    → length d.media.sectors ≡ length b.media.sectors
+lines_keep_sectors to r b _ _ (NoneIsThere none) = refl
+lines_keep_sectors to r b _ _ (LineIsFull there full) = refl
+lines_keep_sectors to r b _ _ (IsLinedUp there few) = refl
+
+pub turns_lead_on : (b a : Play) (told : Told) → Turn b told a → LeadsOn b a
+turns_lead_on b _ _ (Takes message a far) = leads_joins b a (noting (entry.Received message) a) (leads_far b a (Some message) far) (leads_noted a (entry.Received message) refl)
+turns_lead_on b _ _ (TakesOwed live owed first) =
     leads_joins b (paid b) (noting (entry.Received incoming.GaveUp) (paid b)) (leads_paid b) (leads_noted (paid b) (entry.Received incoming.GaveUp) refl)
-turns_lead_on b _ (TakesEnd a far) = leads_joins b a (ended a) (leads_far b a None far) (leads_ended a)
-turns_lead_on b _ (Posts to r result d lines) =
-    leads_same b (posted to r (is_ok result) d b) refl refl (omega arith) (omega arith) (entry_events (entry.Posted to r (is_ok result)) b.scene.noted refl)
-turns_lead_on b _ (Complains about) =
-    leads_same b (complained about b) refl refl (omega arith) (omega arith)
+turns_lead_on b _ _ (TakesEnd a live ends) = leads_joins b a (ended a) (leads_to_end b a ends) (leads_ended a)
+turns_lead_on b _ _ (Posts to r result d lines) =
+    leads_same b (posted to r (is_ok result) d b) (lines_keep_sectors to r b.scene.disks d result lines) refl refl (omega arith) (omega arith) (entry_events (entry.Posted to r (is_ok result)) b.scene.noted refl)
+turns_lead_on b _ _ (Complains about) =
+    leads_same b (complained about b) refl refl refl (omega arith) (omega arith)
     (entry_events (entry.Complained about (is_fault (ruling_at about b.scene))) b.scene.noted refl)
 
 pub servers_lead_on : ServersLeadOn
 servers_lead_on b _ Still = leads_stays b
-servers_lead_on b a (Further m _ before last) = leads_joins b m a (servers_lead_on b m before) (turns_lead_on m a last)
+servers_lead_on b a (Further m _ told before last) = leads_joins b m a (servers_lead_on b m before) (turns_lead_on m a told last)
 
 pub asides_lead_on : AsidesLeadOn
 asides_lead_on b _ _ (HandsEvent message a next) = record {
@@ -183,7 +204,7 @@ asides_lead_on b _ _ (HandsOwed live owed first) = record {
   leads = leads_joins b (paid b) (noting (entry.Handed incoming.GaveUp) (paid b)) (leads_paid b) (leads_noted (paid b) (entry.Handed incoming.GaveUp) refl);
   less = (let h : unless_told b.told ≡ 1 = ap unless_told first in omega (arith, h));
 }
-asides_lead_on b _ _ (HandsNothing error) = record { leads = leads_stays b; less = tt }
+asides_lead_on b _ _ (HandsNothing error) = record { leads = leads_starving b; less = tt }
 
 less_waits : (queue : List Arrived) (first : Option Arrived) (rest : ℕ) (told : ℕ) → first ≡ slice_get queue 0
     → OnSome first (rest + length (drop 1 queue) + told < rest + length queue + told)
@@ -193,7 +214,7 @@ less_waits (x ∷ queue) first rest told is =
 
 pub calls_lead_on : CallsLeadOn
 calls_lead_on b a result hands = subst (λ (p : Play). CallLeads b result p) (sym hands.after) (record {
-  leads = leads_same b (record b { queue = drop 1 b.queue }) refl refl (fewer b.queue) (omega arith) refl;
+  leads = leads_same b (record b { queue = drop 1 b.queue }) refl refl refl (fewer b.queue) (omega arith) refl;
   less = less_waits b.queue result (2 * (length b.events - b.next)) (unless_told b.told) hands.first;
 }) where
   fewer : (queue : List Arrived) → length (drop 1 queue) ≤ length queue
@@ -203,13 +224,22 @@ calls_lead_on b a result hands = subst (λ (p : Play). CallLeads b result p) (sy
 pub answers_lead_on : AnswersLeadOn
 answers_lead_on b a arrived reply (Ok done) is =
     subst (λ (p : Play). LeadsOn b p) (sym is) (leads_noted b (entry.Took arrived.who arrived.now arrived.call reply) refl)
-answers_lead_on b a arrived reply (Err error) is = subst (λ (p : Play). LeadsOn b p) (sym is) (leads_stays b)
+answers_lead_on b a arrived reply (Err error) is = subst (λ (p : Play). LeadsOn b p) (sym is) (leads_starving b)
 
 -- A play by its parts is the one that it was.
 pub same_play : (m b : Play) → m.scene ≡ b.scene → m.events ≡ b.events → m.next ≡ b.next → m.queue ≡ b.queue → m.owed ≡ b.owed → m.told ≡ b.told
-    → m.over ≡ b.over → m ≡ b
-same_play m b scene events next queue owed told over =
-    λ i. record { scene = scene i; events = events i; next = next i; queue = queue i; owed = owed i; told = told i; over = over i }
+    → m.over ≡ b.over → m.starved ≡ b.starved → m ≡ b
+same_play m b scene events next queue owed told over starved =
+    λ i. record {
+      scene = scene i;
+      events = events i;
+      next = next i;
+      queue = queue i;
+      owed = owed i;
+      told = told i;
+      over = over i;
+      starved = starved i;
+    }
 
 with_parts : (P : Play → Type 0) (a : Play) (n m : Noted) (over live : Bool) → n ≡ m → over ≡ live
     → P (record a { scene = record (a.scene) { noted = m }; over = live }) → P (record a { scene = record (a.scene) { noted = n }; over = over })
@@ -222,7 +252,7 @@ pub takes : (b m a : Play) (message : Incoming) (n : Noted) (over : Bool) → m 
     → GoesOn b (record a { scene = record (a.scene) { noted = n }; over = over })
 takes b m a message n over same far is live =
     with_parts (λ (p : Play). GoesOn b p) a n (with_entry (entry.Received message) a.scene.noted) over a.over is live
-    (Further b (noting (entry.Received message) a) Still (Takes message a (subst (λ (p : Play). Advances p (Some message) a) same far)))
+    (Further b (noting (entry.Received message) a) (Received message) Still (Takes message a (subst (λ (p : Play). Advances p (Some message) a) same far)))
 
 pub takes_owed : (b m : Play) (n : Noted) (over : Bool) → m ≡ b → m.over ≡ false → m.owed ≡ true → m.told ≡ false
     → n ≡ with_entry (entry.Received incoming.GaveUp) m.scene.noted → over ≡ m.over
@@ -230,13 +260,20 @@ pub takes_owed : (b m : Play) (n : Noted) (over : Bool) → m ≡ b → m.over �
 takes_owed b m n over same live owed first is stays =
     with_parts (λ (p : Play). GoesOn b p) (paid m) n (with_entry (entry.Received incoming.GaveUp) m.scene.noted) over m.over is stays
     (subst (λ (p : Play). GoesOn p (noting (entry.Received incoming.GaveUp) (paid m))) same
-    (Further m (noting (entry.Received incoming.GaveUp) (paid m)) Still (TakesOwed live owed first)))
+    (Further m (noting (entry.Received incoming.GaveUp) (paid m)) (Received incoming.GaveUp) Still (TakesOwed live owed first)))
 
-pub takes_end : (b m a : Play) (n : Noted) (over : Bool) → m ≡ b → Advances m None a → n ≡ with_end a.scene.noted → over ≡ true
-    → GoesOn b (record a { scene = record (a.scene) { noted = n }; over = over })
-takes_end b m a n over same far is done =
+pub takes_end : (b m a : Play) (n : Noted) (over : Bool) → m ≡ b → b.over ≡ false → ComesToEnd m a → n ≡ with_end a.scene.noted
+    → over ≡ true → GoesOn b (record a { scene = record (a.scene) { noted = n }; over = over })
+takes_end b m a n over same live far is done =
     with_parts (λ (p : Play). GoesOn b p) a n (with_end a.scene.noted) over true is done
-    (Further b (ended a) Still (TakesEnd a (subst (λ (p : Play). Advances p None a) same far)))
+    (Further b (ended a) (Received incoming.End) Still (TakesEnd a live (subst (λ (p : Play). ComesToEnd p a) same far)))
+
+-- memory was wanted after an event
+pub starves : (b m a : Play) (r : Option Incoming) (scene : Scene) (queue : List Arrived) (over : Bool) → Advances b None m → PlaysNext m r a → r ≡ None
+    → scene ≡ a.scene → queue ≡ a.queue → over ≡ a.over → ComesToEnd b (record a { scene = scene; queue = queue; over = over; starved = true })
+starves b m a r scene queue over before last none s q o =
+    subst (λ (p : Play). ComesToEnd b (starving p)) (λ i. record a { scene = sym s i; queue = sym q i; over = sym o i })
+    (IsStarved a (Goes m a None before (subst (λ (x : Option Incoming). PlaysNext m x a) none last)))
 
 -- a post
 pub posts : (b : Play) (to : Endpoint) (r : BlockRequest) (result : Result (Unit {0}) LinkRefusal) (d : Disks) (n : Noted) (over : Bool)
@@ -245,13 +282,13 @@ pub posts : (b : Play) (to : Endpoint) (r : BlockRequest) (result : Result (Unit
 posts b to r result d n over lines is live =
     with_parts (λ (p : Play). GoesOn b p) (record b { scene = record (b.scene) { disks = d } }) n
     (with_entry (entry.Posted to r (is_ok result)) b.scene.noted) over b.over is live
-    (Further b (posted to r (is_ok result) d b) Still (Posts to r result d lines))
+    (Further b (posted to r (is_ok result) d b) (Posted to r (is_ok result)) Still (Posts to r result d lines))
 
 -- a complaint
 pub complains : {D : Type 0} (state : D → DriverState) (b : Play) (r s : ReincarnationState D) (about : Endpoint) (owed : Bool) (n : Noted) (over : Bool)
     → b.scene.supply ≡ map state r.supply → b.scene.policy ≡ r.policy
     → s ≡ record r { watch = (on b.scene.policy b.scene.watch (policy.Complaint about b.scene.tick)).0 }
-    → owed ≡ (b.owed || (gives_up (ruling_at about b.scene) && not b.told))
+    → owed ≡ (b.owed || (gives_up (ruling_at about b.scene) && not b.told && not b.over))
     → n ≡ with_entry (entry.Complained about (is_fault (ruling_at about b.scene))) b.scene.noted → over ≡ b.over
     → GoesOn b (record b {
       scene = record (b.scene) { supply = map state s.supply; policy = s.policy; watch = s.watch; noted = n };
@@ -266,7 +303,7 @@ complains {D} state b r s about owed n over supply same after owes is live =
       scene = record (b.scene) { supply = supply_is i; policy = policy_is i; watch = watch_is i; noted = sym is i };
       owed = sym owes i;
       over = sym live i;
-    }) (Further b (complained about b) Still (Complains about))
+    }) (Further b (complained about b) (Complained about) Still (Complains about))
 
 -- between two calls an event was played, and its message noted
 pub hands_event : (b m a : Play) (message : Incoming) (r : Option Incoming) (n : Noted) (over : Bool) → m ≡ b → PlaysNext m r a → r ≡ Some message
@@ -289,8 +326,8 @@ hands_owed b m n over same live owed first is stays =
     with_parts (λ (p : Play). Asides b (Ok (Some incoming.GaveUp)) p) (paid m) n (with_entry (entry.Handed incoming.GaveUp) m.scene.noted) over m.over is stays
     (subst (λ (p : Play). Asides p (Ok (Some incoming.GaveUp)) (noting (entry.Handed incoming.GaveUp) (paid m))) same (HandsOwed live owed first))
 
-pub hands_nothing : (b m : Play) (error : AllocError) → m ≡ b → Asides b (Err error) m
-hands_nothing b m error same = subst (λ (p : Play). Asides b (Err error) p) (sym same) (HandsNothing error)
+pub hands_nothing : (b m : Play) (error : AllocError) → m ≡ b → Asides b (Err error) (starving m)
+hands_nothing b m error same = subst (λ (p : Play). Asides b (Err error) (starving p)) (sym same) (HandsNothing error)
 
 -- it is told once
 pub not_told : (told owed : Bool) → (told ≡ true → owed ≡ false) → owed ≡ true → told ≡ false

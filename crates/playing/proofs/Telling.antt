@@ -7,7 +7,7 @@ use Rattle.tree.specs.Answers.{answer_of}
 use Rattle.marks.specs.Marks.{Mark, Issued, Fault, Answered, Started, GaveUp, Flush, Took, gave_up}
 use Rattle.marks.specs.declared.Cause.TheVariants.{Complaint}
 use Rattle.marks.specs.Open.{counts}
-use Rattle.marks.specs.Told.{received}
+use Rattle.marks.specs.Told.{Told, received}
 use Rattle.faultless.proofs.FaultlessLaws.{faults_change_nothing}
 use Rattle.run_log.specs.declared.log.Entry.{Entry}
 use Rattle.run_log.specs.declared.log.Entry.TheVariants as entry
@@ -16,7 +16,7 @@ use Rattle.run_log.proofs.NotedLaws.{mark_in, message_in}
 use Rattle.driver_events.specs.Kept.{NotesAside}
 use Rattle.driver_events.specs.Ruling.{is_fault}
 use Rattle.driver_events.proofs.Keeping.{events_note_aside}
-use Rattle.playing.specs.PlayView.{Play, begun, noting, ended, posted, complained, ruling_at, PlaysNext, Advances, Stays, Goes, Turn, Takes, TakesOwed, TakesEnd, Posts, Complains, Still, Further, HandsEvent, HandsNone, HandsOwed, HandsNothing}
+use Rattle.playing.specs.PlayView.{Play, begun, noting, ended, starving, posted, complained, ruling_at, PlaysNext, Advances, Stays, Goes, ComesToEnd, IsPlayedOut, IsStarved, Turn, Takes, TakesOwed, TakesEnd, Posts, Complains, Still, Further, HandsEvent, HandsNone, HandsOwed, HandsNothing}
 use Rattle.playing.specs.Laws.{IsToldTruly, ServersTellTruly, AsidesTellTruly}
 
 -- a device stays given up
@@ -69,21 +69,25 @@ truly_far : (b a : Play) (result : Option Incoming) → Advances b result a → 
 truly_far b _ _ Stays h = h
 truly_far b a _ (Goes m _ result before last) h = truly_next m a result last (truly_far b m None before h)
 
-truly_turn : (b a : Play) → Turn b a → IsToldTruly b → IsToldTruly a
-truly_turn b _ (Takes message a far) h = truly_noted a (entry.Received message) (truly_far b a (Some message) far h)
-truly_turn b _ (TakesOwed live owed first) h = record { told = λ is. ap gave_up (message_in incoming.GaveUp b.scene.noted) }
-truly_turn b _ (TakesEnd a far) h = truly_same a (ended a) refl (λ given. given) (truly_far b a None far h)
-truly_turn b _ (Posts to r result d lines) h =
+truly_to_end : (b a : Play) → ComesToEnd b a → IsToldTruly b → IsToldTruly a
+truly_to_end b a (IsPlayedOut _ far spent) h = truly_far b a None far h
+truly_to_end b _ (IsStarved a far) h = truly_same a (starving a) refl (λ given. given) (truly_far b a None far h)
+
+truly_turn : (b a : Play) (told : Told) → Turn b told a → IsToldTruly b → IsToldTruly a
+truly_turn b _ _ (Takes message a far) h = truly_noted a (entry.Received message) (truly_far b a (Some message) far h)
+truly_turn b _ _ (TakesOwed live owed first) h = record { told = λ is. ap gave_up (message_in incoming.GaveUp b.scene.noted) }
+truly_turn b _ _ (TakesEnd a live ends) h = truly_same a (ended a) refl (λ given. given) (truly_to_end b a ends h)
+truly_turn b _ _ (Posts to r result d lines) h =
     truly_same b (posted to r (is_ok result) d b) refl (given_entry (entry.Posted to r (is_ok result)) b.scene.noted) h
-truly_turn b _ (Complains about) h =
+truly_turn b _ _ (Complains about) h =
     truly_same b (complained about b) refl (given_entry (entry.Complained about (is_fault (ruling_at about b.scene))) b.scene.noted) h
 
 pub servers_tell_truly : ServersTellTruly
 servers_tell_truly b _ Still h = h
-servers_tell_truly b a (Further m _ before last) h = truly_turn m a last (servers_tell_truly b m before h)
+servers_tell_truly b a (Further m _ told before last) h = truly_turn m a told last (servers_tell_truly b m before h)
 
 pub asides_tell_truly : AsidesTellTruly
 asides_tell_truly b _ _ (HandsEvent message a next) h = truly_noted a (entry.Handed message) (truly_next b a (Some message) next h)
 asides_tell_truly b _ _ (HandsNone a next) h = truly_next b a None next h
 asides_tell_truly b _ _ (HandsOwed live owed first) h = record { told = λ is. ap gave_up (message_in incoming.GaveUp b.scene.noted) }
-asides_tell_truly b _ _ (HandsNothing error) h = h
+asides_tell_truly b _ _ (HandsNothing error) h = truly_same b (starving b) refl (λ given. given) h

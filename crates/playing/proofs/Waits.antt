@@ -8,7 +8,7 @@ use Rattle.tree.specs.Answers.{answer_of}
 use Rattle.marks.specs.Marks.{Mark, Issued, Fault, Answered, Started, GaveUp, Flush, Took}
 use Rattle.marks.specs.declared.Cause.TheVariants.{Complaint}
 use Rattle.marks.specs.Open.{counts}
-use Rattle.marks.specs.Told.{received}
+use Rattle.marks.specs.Told.{Told, received}
 use Rattle.schedule.specs.declared.Event.{Event}
 use Rattle.schedule.specs.declared.Event.TheVariants as event
 use Rattle.schedule.specs.Groups.{Group, event_of}
@@ -22,7 +22,7 @@ use Rattle.driver_events.specs.Kept.{NotesAside}
 use Rattle.driver_events.specs.Ruling.{is_fault}
 use Rattle.driver_events.proofs.Keeping.{events_note_aside}
 use Rattle.playing.specs.declared.arrived.Arrived.{Arrived}
-use Rattle.playing.specs.PlayView.{Play, calls_of, begun, noting, paid, ended, posted, complained, ruling_at, PlaysNext, Advances, Stays, Goes, Turn, Takes, TakesOwed, TakesEnd, Posts, Complains, Still, Further, HandsEvent, HandsNone, HandsOwed, HandsNothing}
+use Rattle.playing.specs.PlayView.{Play, calls_of, begun, noting, paid, ended, starving, posted, complained, ruling_at, PlaysNext, Advances, Stays, Goes, ComesToEnd, IsPlayedOut, IsStarved, Turn, Takes, TakesOwed, TakesEnd, Posts, Complains, Still, Further, HandsEvent, HandsNone, HandsOwed, HandsNothing}
 use Rattle.playing.specs.Waiting.{arrival_of, HasCalls, ServersHandNone, AsidesHandNone, OneIsHandedOut, ItIsAnswered}
 use Rattle.playing.proofs.Going.{is_beginning, entry_events}
 
@@ -150,27 +150,31 @@ calls_far : (out : List Arrival) (b a : Play) (result : Option Incoming) → Adv
 calls_far out b _ _ Stays h = h
 calls_far out b a _ (Goes m _ result before last) h = calls_next out m a result last (calls_far out b m None before h)
 
-calls_turn : (out : List Arrival) (b a : Play) → Turn b a → HasCalls out b → HasCalls out a
-calls_turn out b _ (Takes message a far) h = calls_noted out a (entry.Received message) refl (calls_far out b a (Some message) far h)
-calls_turn out b _ (TakesOwed live owed first) h = calls_noted out (paid b) (entry.Received incoming.GaveUp) refl (calls_same out b (paid b) refl refl refl h)
-calls_turn out b _ (TakesEnd a far) h = calls_same out a (ended a) refl refl refl (calls_far out b a None far h)
-calls_turn out b _ (Posts to r result d lines) h =
+calls_to_end : (out : List Arrival) (b a : Play) → ComesToEnd b a → HasCalls out b → HasCalls out a
+calls_to_end out b a (IsPlayedOut _ far spent) h = calls_far out b a None far h
+calls_to_end out b _ (IsStarved a far) h = calls_same out a (starving a) refl refl refl (calls_far out b a None far h)
+
+calls_turn : (out : List Arrival) (b a : Play) (told : Told) → Turn b told a → HasCalls out b → HasCalls out a
+calls_turn out b _ _ (Takes message a far) h = calls_noted out a (entry.Received message) refl (calls_far out b a (Some message) far h)
+calls_turn out b _ _ (TakesOwed live owed first) h = calls_noted out (paid b) (entry.Received incoming.GaveUp) refl (calls_same out b (paid b) refl refl refl h)
+calls_turn out b _ _ (TakesEnd a live ends) h = calls_same out a (ended a) refl refl refl (calls_to_end out b a ends h)
+calls_turn out b _ _ (Posts to r result d lines) h =
     calls_same out b (posted to r (is_ok result) d b) (entry_events (entry.Posted to r (is_ok result)) b.scene.noted refl) refl
     (taken_entry (entry.Posted to r (is_ok result)) b.scene.noted refl) h
-calls_turn out b _ (Complains about) h =
+calls_turn out b _ _ (Complains about) h =
     let e : Entry = entry.Complained about (is_fault (ruling_at about b.scene)) in
     calls_same out b (complained about b) (entry_events e b.scene.noted refl) refl (taken_entry e b.scene.noted refl) h
 
 pub servers_hand_none : ServersHandNone
 servers_hand_none out b _ Still h = h
-servers_hand_none out b a (Further m _ before last) h = calls_turn out m a last (servers_hand_none out b m before h)
+servers_hand_none out b a (Further m _ told before last) h = calls_turn out m a told last (servers_hand_none out b m before h)
 
 pub asides_hand_none : AsidesHandNone
 asides_hand_none out b _ _ (HandsEvent message a next) h = calls_noted out a (entry.Handed message) refl (calls_next out b a (Some message) next h)
 asides_hand_none out b _ _ (HandsNone a next) h = calls_next out b a None next h
 asides_hand_none out b _ _ (HandsOwed live owed first) h =
     calls_noted out (paid b) (entry.Handed incoming.GaveUp) refl (calls_same out b (paid b) refl refl refl h)
-asides_hand_none out b _ _ (HandsNothing error) h = h
+asides_hand_none out b _ _ (HandsNothing error) h = calls_same out b (starving b) refl refl refl h
 
 first_out : (queue : List Arrived) (call : Arrived) (rest : List Arrival) → Some call ≡ slice_get queue 0
     → reverse (map arrival_of queue) ++ rest ≡ reverse (map arrival_of (drop 1 queue)) ++ (arrival_of call ∷ rest)

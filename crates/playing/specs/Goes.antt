@@ -11,7 +11,7 @@ goes_stays p = Still
 
 pub goes_joins : (a b c : Play) → GoesOn a b → GoesOn b c → GoesOn a c
 goes_joins a b _ first Still = first
-goes_joins a b c first (Further m _ next last) = Further m c (goes_joins a b m first next) last
+goes_joins a b c first (Further m _ told next last) = Further m c told (goes_joins a b m first next) last
 
 pub replies_of_play : (v : Opening) (s : Scene) (marks : List Mark) → PlayTrue v s marks → HasTrueReplies (contents_at v) marks
 replies_of_play v s marks h = h.kept.disks.true_replies

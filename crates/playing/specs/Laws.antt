@@ -1,5 +1,5 @@
 -- What the link's guarantee says of replies and of the media, and what is the same or less after anything that is done at the link.
-use Rattle.std.specs.Prelude.{true, ◌≡◌, ◌<◌, ◌≤◌, List, take, Option, Result, OnOk, OnSome}
+use Rattle.std.specs.Prelude.{true, ◌≡◌, ◌⊎◌, ◌<◌, ◌≤◌, List, length, take, Option, Result, OnOk, OnSome}
 use Rattle.std.specs.declared.alloc.AllocError.{AllocError}
 use Rattle.message.specs.declared.Incoming.{Incoming}
 use Rattle.tree.specs.declared.Reply.{Reply}
@@ -8,11 +8,12 @@ use Rattle.run_log.specs.Noted.{marks_in}
 use Rattle.marks.specs.Marks.{Mark, gave_up}
 use Rattle.marks.specs.Disk.{HasTrueReplies}
 use Rattle.marks.specs.Opening.{Opening, contents_at}
+use Rattle.marks.specs.Told.{took_end}
 use Rattle.true_replies.specs.State.{MediaHold, OutsideHolds}
 use Rattle.true_replies.specs.Events.{opening_media}
 use Rattle.driver_events.specs.Scene.{Scene}
 use Rattle.playing.specs.declared.arrived.Arrived.{Arrived}
-use Rattle.playing.specs.PlayView.{Play, PlayTrue, GoesOn, Asides, HandsOut, Answers, work_left}
+use Rattle.playing.specs.PlayView.{Play, PlayTrue, IsSpent, GoesOn, Asides, HandsOut, Answers, work_left}
 
 -- in each record of which it holds the replies are true
 abbrev pub RepliesAreTrue : Type 0
@@ -30,9 +31,10 @@ MediaAreHeld = (v : Opening) (s : Scene) (marks : List Mark) → PlayTrue v s ma
 pub record IsSound (p : Play) : Type 0 where
   pub schedule : schedule_of p.scene.noted.groups ≡ take p.next p.events
 
--- the schedule stays, no event is played twice, nothing more is left to do, and what was sound is
+-- the schedule stays, no event is played twice, nothing more is left to do, the media have as many sectors, and what was sound is
 pub record LeadsOn (b a : Play) : Type 0 where
   pub events : a.events ≡ b.events
+  pub sectors : length a.scene.disks.media.sectors ≡ length b.scene.disks.media.sectors
   pub next : b.next ≤ a.next
   pub work : work_left a ≤ work_left b
   pub sound : IsSound b → IsSound a
@@ -60,6 +62,18 @@ CallsLeadOn = (b a : Play) (result : Option Arrived) → HandsOut b result a →
 -- and after its answer is noted
 abbrev pub AnswersLeadOn : Type 0
 AnswersLeadOn = (b a : Play) (arrived : Arrived) (reply : Reply) (result : Result (Unit {0}) AllocError) → Answers b arrived reply result a → LeadsOn b a
+
+-- an End was given exactly where the link has ended
+pub record IsToldOfEnd (p : Play) : Type 0 where
+  pub is : took_end p.scene.noted.history ≡ p.over
+
+-- where the link has ended, each event was played and nothing is owed, or memory was wanted
+pub record IsEndedRightly (p : Play) : Type 0 where
+  pub why : p.over ≡ true → (p.starved ≡ true) ⊎ IsSpent p
+
+-- so it stays, whatever a server does at the link
+abbrev pub ServersEndRightly : Type 0
+ServersEndRightly = (b a : Play) → GoesOn b a → IsEndedRightly b → IsEndedRightly a
 
 -- that the device was given up was told only where the record says so
 pub record IsToldTruly (p : Play) : Type 0 where

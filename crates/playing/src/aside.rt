@@ -1,6 +1,6 @@
 //! What is done at the link between two calls.
 
-ghost use Rattle.std.specs.Prelude.{◌≡◌, ◌⊎◌, ◌<◌, ◌≤◌, ◌-◌, ◌∷◌, List, IfOk, OnOk, length, true};
+ghost use Rattle.std.specs.Prelude.{◌≡◌, ◌⊎◌, ◌<◌, ◌≤◌, ◌-◌, ◌∷◌, List, IfOk, OnOk, length, true, false};
 ghost use Rattle.marks.specs.Opening.{Opening};
 ghost use Rattle.marks.specs.Marks.{Mark, Took};
 ghost use Rattle.tree.specs.Answers.{answer_of};
@@ -21,9 +21,10 @@ impl<'a, D: LocalDriver> Playing<'a, D> {
     ghost use Rattle.playing.specs.PlayView.{play_of, PlayTrue, Asides, Answers, HandsOut, left_of};
 
     /// Plays the next event between two calls, or tells that a complaint gave the device up, if that is owed: the message that the server is
-    /// to be handed, if there is one. An error: no memory was found, or the link has ended; nothing was done.
+    /// to be handed, if there is one. An error: no memory was found, and nothing was done.
     pub fn aside(&mut self) -> Result<Option<Incoming>, AllocError>
-        requires { (self.old.owed ≡ true) ⊎ (self.old.next < length self.old.events.now) }
+        requires left { (self.old.owed ≡ true) ⊎ (self.old.next < length self.old.events.now) }
+        requires live { self.old.log.over ≡ false }
         ensures asides { Asides (play_of D.state self.old) result (play_of D.state self.new) }
         ensures history { (said self.new.log).history ≡ (said self.old.log).history }
         ensures truth { (v : Opening) (marks : List Mark) → PlayTrue v (scene_of D.state self.old.stage (said self.old.log)) marks
@@ -33,6 +34,7 @@ impl<'a, D: LocalDriver> Playing<'a, D> {
             ≤ left_of self.old.log.over (length self.old.events.now - self.old.next) self.old.told }
     {
         if !make_room(&mut self.stage, &mut self.log, &mut self.queue, self.alloc) {
+            self.starved = true;
             return Err(AllocError);
         }
         if self.owed {
@@ -48,8 +50,9 @@ impl<'a, D: LocalDriver> Playing<'a, D> {
         Ok(message)
     }
 
-    /// A call was answered. An error: no memory was found, or the link has ended; nothing was noted.
+    /// A call was answered. An error: no memory was found, and nothing was noted.
     pub fn took(&mut self, arrived: Arrived<'a>, reply: Reply) -> Result<(), AllocError>
+        requires { self.old.log.over ≡ false }
         ensures answers { Answers (play_of D.state self.old) arrived.entry reply result (play_of D.state self.new) }
         ensures history { (said self.new.log).history ≡ (said self.old.log).history }
         ensures truth { (v : Opening) (marks : List Mark) → PlayTrue v (scene_of D.state self.old.stage (said self.old.log)) marks
@@ -60,6 +63,7 @@ impl<'a, D: LocalDriver> Playing<'a, D> {
             ≤ left_of self.old.log.over (length self.old.events.now - self.old.next) self.old.told }
     {
         if !make_room(&mut self.stage, &mut self.log, &mut self.queue, self.alloc) {
+            self.starved = true;
             return Err(AllocError);
         }
         self.log

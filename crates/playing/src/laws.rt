@@ -1,7 +1,8 @@
 //! What the link's guarantee goes on through, each a law of the definitions.
 
+ghost use Rattle.playing.specs.Moments.{RunsEndNeeding};
 ghost use Rattle.playing.specs.Waiting.{ServersHandNone, AsidesHandNone, OneIsHandedOut, ItIsAnswered};
-ghost use Rattle.playing.specs.Laws.{RepliesAreTrue, MediaAreHeld, ServersLeadOn, AsidesLeadOn, CallsLeadOn, AnswersLeadOn, ServersTellTruly, AsidesTellTruly};
+ghost use Rattle.playing.specs.Laws.{RepliesAreTrue, MediaAreHeld, ServersLeadOn, AsidesLeadOn, CallsLeadOn, AnswersLeadOn, ServersTellTruly, AsidesTellTruly, ServersEndRightly};
 
 /// In each record of which the guarantee holds the replies are true.
 #[tactic(auto, using(crate::proofs::PlayLaws::replies_true))]
@@ -69,6 +70,18 @@ pub fn it_is_answered()
 #[tactic(auto, using(crate::proofs::Telling::servers_tell_truly))]
 pub fn servers_tell_truly()
     ensures { ServersTellTruly }
+{}
+
+/// The link ends only once each event was played and nothing is owed, or for want of memory.
+#[tactic(auto, using(crate::proofs::Running::servers_end_rightly))]
+pub fn servers_end_rightly()
+    ensures { ServersEndRightly }
+{}
+
+/// Where the link has ended in a run by the rules, the server answers a call and needs a message, and the device isn't given up.
+#[tactic(auto, using(crate::proofs::Needing::runs_end_needing))]
+pub fn runs_end_needing()
+    ensures { RunsEndNeeding }
 {}
 
 /// And through what is done between two calls.

@@ -1,6 +1,6 @@
 //! The drivers that a schedule moves, as the server's link.
 
-ghost use Rattle.std.specs.Prelude.{◌≡◌, ◌<◌, ◌≤◌, ◌+◌, ◌-◌, List, IfSome, length, false, not, ◌||◌, ◌&&◌};
+ghost use Rattle.std.specs.Prelude.{◌≡◌, ◌<◌, ◌≤◌, ◌+◌, ◌-◌, List, Some, None, IfSome, length, false, not, ◌||◌, ◌&&◌};
 ghost use Rattle.std.specs.VecDeque.{deque_len, deque_capacity};
 ghost use Rattle.marks.specs.Opening.{Opening};
 ghost use Rattle.marks.specs.Marks.{Mark};
@@ -18,7 +18,7 @@ impl<'a, D: LocalDriver> Playing<'a, D> {
     ghost use Rattle.run_log.specs.LogView.{said, room_in};
     ghost use Rattle.driver_events.specs.View.{HasRoom};
     ghost use Rattle.driver_events.specs.Kept.{with_next};
-    ghost use Rattle.playing.specs.PlayView.{play_of, PlaysNext, Advances, PlayTrue, GoesOn, left_of};
+    ghost use Rattle.playing.specs.PlayView.{play_of, PlaysNext, Advances, ComesToEnd, PlayTrue, GoesOn, left_of};
 
     /// Plays the next event: what message it brings, if any.
     pub(crate) fn play(&mut self) -> Option<Incoming>
@@ -41,14 +41,15 @@ impl<'a, D: LocalDriver> Playing<'a, D> {
     }
 
     #[tactic(auto, using(crate::proofs::PlayLaws::advanced, crate::proofs::PlayLaws::advanced_more))]
-    /// Plays events until one brings a message; none, if no event is left or no memory was found.
+    /// Plays events until one brings a message; none, if each was played or no memory was found.
     fn advance(&mut self) -> Option<Incoming>
         requires live { self.old.log.over ≡ false }
         requires paid { self.old.owed ≡ false }
         requires log { 36 ≤ room_in self.old.log }
         requires drivers { HasRoom self.old.stage.drivers }
         requires queue { deque_len self.old.queue < deque_capacity self.old.queue }
-        ensures advances { Advances (play_of D.state self.old) result (play_of D.state self.new) }
+        ensures came { IfSome result (λ m. Advances (play_of D.state self.old) (Some m) (play_of D.state self.new)) }
+        ensures ends { result ≡ None → ComesToEnd (play_of D.state self.old) (play_of D.state self.new) }
         ensures room { IfSome result (λ m. 34 ≤ room_in self.new.log) }
         ensures next { IfSome result (λ m. self.old.next < self.new.next) }
         ensures over { self.new.log.over ≡ false }
@@ -58,6 +59,7 @@ impl<'a, D: LocalDriver> Playing<'a, D> {
                 return Some(message);
             }
             if !make_room(&mut self.stage, &mut self.log, &mut self.queue, self.alloc) {
+                self.starved = true;
                 return None;
             }
         }
@@ -66,10 +68,10 @@ impl<'a, D: LocalDriver> Playing<'a, D> {
 }
 
 /// Whether that the device was given up is owed, after a ruling.
-fn owes(owed: bool, gives_up: bool, told: bool) -> bool
-    ensures { result ≡ (owed || (gives_up && not told)) }
+fn owes(owed: bool, gives_up: bool, told: bool, over: bool) -> bool
+    ensures { result ≡ (owed || (gives_up && not told && not over)) }
 {
-    owed || (gives_up && !told)
+    owed || (gives_up && !told && !over)
 }
 
 impl<'a, D: LocalDriver> Link for Playing<'a, D> {
@@ -103,13 +105,18 @@ impl<'a, D: LocalDriver> Link for Playing<'a, D> {
 
     fn complain(&mut self, about: Endpoint) {
         let ruling = complain(&mut self.stage.reincarnation, about, self.stage.tick);
-        self.owed = owes(self.owed, ruling.gives_up(), self.told);
+        self.owed = owes(self.owed, ruling.gives_up(), self.told, self.log.over);
         self.log.note(Entry::Complained(about, ruling.is_fault()));
     }
 
     #[tactic(auto, using(crate::proofs::PlayLaws::ended_true, crate::proofs::PlayLaws::true_of))]
     fn take(&mut self) -> Incoming {
+        let over = self.log.over;
+        if over {
+            return Incoming::End;
+        }
         if !make_room(&mut self.stage, &mut self.log, &mut self.queue, self.alloc) {
+            self.starved = true;
             self.log.end();
             return Incoming::End;
         }

@@ -1,67 +1,67 @@
 -- What holds under the lock of a service after each call, and what a session has of it.
-use Rattle.std.proofs.Common.{◌≡◌, ◌≢◌, ℕ, List, ◌∷◌, Bool, true, false, refl, sym, ◌∙◌, ap, subst, Some}
-use Rattle.std.specs.Borrow.{Bor}
-use Rattle.std.specs.Prelude.{codes, ◌||◌, ◌↔◌, ◌<◌, Result, Ok, Err, IsErrOf, IfErr, IfOk}
+use Rattle.std.proofs.Common.{◌≡◌, ◌≢◌, ℕ, List, [], ◌∷◌, ◌++◌, Bool, true, false, refl, sym, ◌∙◌, ap, subst, Some, inl, inr}
+use Rattle.std.specs.List.{concat}
+use Rattle.std.specs.Prelude.{◌||◌, ◌↔◌, ◌⊎◌, ◌<◌, Result, Ok, Err, IsErrOf, IfErr, IfOk}
 use Rattle.atomic_table.specs.Seated.{TableId}
 use Rattle.layout.specs.declared.Geometry.{Geometry}
 use Rattle.tree.specs.declared.Who.{Who}
 use Rattle.tree.specs.declared.Call.{Call}
-use Rattle.tree.specs.declared.Call.TheVariants.{Stat}
+use Rattle.tree.specs.declared.Call.TheVariants.{Sync}
+use Rattle.errno.specs.declared.Errno.{Errno}
 use Rattle.errno.specs.declared.Errno.TheVariants.{EIO}
+use Rattle.tree.specs.declared.Reply.{Reply}
+use Rattle.tree.specs.declared.Reply.TheVariants as reply
 use Rattle.tree.specs.declared.Reply.TheVariants.{Refused}
 use Rattle.tree.specs.declared.Outcome.{Outcome as TreeOutcome}
 use Rattle.tree.specs.declared.Outcome.TheVariants as tree
 use Rattle.tree.specs.Tree.{Tree}
-use Rattle.tree.specs.Answers.{Answer}
+use Rattle.tree.specs.Answers.{Answer, answer_of, refused, done, descriptor, some_bytes, wrote, position, node_is, names_are, room_is}
 use Rattle.marks.specs.Marks.{Mark, Took, gave_up}
-use Rattle.marks.specs.Disk.{Contents, HasTrueReplies}
-use Rattle.marks.specs.Acts.{Act, marks_after}
-use Rattle.marks.specs.Opening.{contents_at}
-use Rattle.marks.specs.Told.{took_end}
+use Rattle.marks.specs.Disk.{HasTrueReplies}
+use Rattle.marks.specs.Acts.{Act, told_of, marks_after}
+use Rattle.marks.specs.Opening.{Opening, contents_at}
+use Rattle.marks.specs.Told.{Told, took_end}
+use Rattle.media.specs.Contents.{MediaState}
 use Rattle.bdev.specs.DriverState.{DriverState}
 use Rattle.policy.specs.declared.Policy.{Policy}
 use Rattle.legal.specs.Legal.{IsAtFirst, IsLegal}
-use Rattle.legal.specs.ServerCall.{Serving, Serves, Outcome, Replied, Cut, with_outcome}
+use Rattle.legal.specs.Mount.{OpenKeeps}
+use Rattle.legal.proofs.Legality.{synced_is_held}
+use Rattle.legal.specs.ServerCall.{Serving, Outcome, Replied, Cut, with_outcome}
 use Rattle.legal.specs.Session.{SessionCallKeeps, went_on}
 use Rattle.reissue.specs.declared.link.Link.{Ghosts as LinkWords}
-use Rattle.reissue.specs.declared.table.Table.{Table}
-use Rattle.reissue.specs.Transfers.{table_of}
 use Rattle.reissue.specs.Calls.{Truth}
+use Rattle.file_server.specs.Over.{CallsOver, Stands, outcome_of}
+use Rattle.file_server.specs.Leaving.{IsEndLast}
+use Rattle.file_server.proofs.Leaving.{cut_leaves, took_either}
+use Rattle.file_server.proofs.Standing.{serves_same, same_stands}
 use Rattle.board.specs.View.{View, SeatState, session_for, is_used}
 use Rattle.board.specs.Steps.{SessionLearns, SessionIsNew}
-use Rattle.reader.specs.declared.server.Server.{Server}
-use Rattle.reader.specs.Reader.{Stands, reader}
-use Rattle.reader.specs.Server.{Calls, StatsRoot, IsReady, serving, line_of, is_given_up, outcome_of}
 use Rattle.keeping.specs.declared.room.Room.{Ghosts as RoomWords}
 use Rattle.serve.specs.Recorder.{SameServer}
+use Rattle.serve.specs.Descriptors.{is_done, succeeded}
+use Rattle.serve.specs.Stopping.{IsSyncedImage, syncer}
 use Rattle.serve.specs.declared.refusal.SessionRefusal.{SessionRefusal}
 use Rattle.serve.specs.declared.refusal.SessionRefusal.TheVariants.{TooMany, Stopped, OutOfMemory}
-use Rattle.serve.specs.Held.{IsHeld, IsGood, IsGuaranteed, IsNotAdmitted, IsRootStat, IsSound}
+use Rattle.serve.specs.Held.{IsHeld, IsGood, IsGuaranteed, IsNotAdmitted, IsSound}
 
--- a server that is as it was but for its link is seen as it was
-pub same_serving : {L : Type 0} (link : LinkWords L) (old new : Server L) → SameServer link old new → serving link new ≡ serving link old
-same_serving link old new is =
-    ap (λ (s : Server _). reader s.geometry s.minor (table_of s.transfers) (link.history (line_of new)) s.ended) is.same
-    ∙ ap (λ (told : List _). reader old.geometry old.minor (table_of old.transfers) told old.ended) is.line.same_history
+-- what servers and links keep, whichever they are
+pub record Kept {N S L : Type 0} (room : RoomWords N) (link : LinkWords L) (serving : S → Serving) (line : S → L)
+    (runs_on : L → Policy → List DriverState → Type 0) (record_in : L → List Mark) : Type 0 where
+  pub tells : (s : S) → (serving s).told ≡ link.history (line s)
+  pub is_record : (l : L) (older : List Mark) → link.truth l room.opening older → record_in l ≡ older
+  pub end_last : (l : L) (older : List Mark) → link.truth l room.opening older → IsEndLast (link.history l)
+  pub keeps_on : (l m : L) → link.goes_on l m → runs_on l room.policy room.supply → runs_on m room.policy room.supply
 
--- and may be called as it might
-pub ready_same : {L : Type 0} (link : LinkWords L) (old new : Server L) → SameServer link old new → IsReady link old → IsReady link new
-ready_same link old new is ready =
-    let ended : new.ended ≡ old.ended = ap (λ (s : Server _). s.ended) is.same in
-    let table : new.transfers.table ≡ old.transfers.table = ap (λ (s : Server _). s.transfers.table) is.same in
-    record {
-      sizes = rw (ap (λ (s : Server _). s.geometry) is.same) ready.sizes;
-      told_end = ended ∙ ready.told_end ∙ ap took_end (sym is.line.same_history);
-      idle = λ goes live. rw (table, is.line.same_room, is.line.same_budget)
-          (ready.idle (sym ended ∙ goes) (ap (λ (t : Table). t.given_up) (sym table) ∙ live));
-    }
-
--- where the call is a `stat /`, it keeps what one at each path of the root keeps
-pub called_so : (old new : Serving) (was is : Truth) (who : Who) (now : ℕ) (call : Call) (outcome : Outcome) → IsRootStat call
-    → ((path : Bor (List ℕ)) → path.now ≡ codes "/" → StatsRoot old new was is who now (Stat path) outcome)
-    → Calls old new was is who now call outcome
-called_so old new was is who now call outcome root stats =
-    subst (λ (k : Call). Calls old new was is who now k outcome) (sym root.1) (stats root.0 root.2).calls
+-- a call, and what was done at the link then: an answer was counted
+pub record Called {N S L : Type 0} (room : RoomWords N) (link : LinkWords L) (serving : S → Serving) (line : S → L) (is_ready : S → Type 0)
+    (who : Who) (now : ℕ) (call : Call) (outcome : Outcome) (old mid new : S) : Type 0 where
+  pub calls : CallsOver (serving old) (serving mid) (link.truth (line old)) (link.truth (line mid)) who now call outcome
+  pub ready : is_ready mid
+  pub goes : link.goes_on (line old) (line mid)
+  pub same : SameServer link serving line is_ready mid new
+  pub counted : (older : List Mark) → link.truth (line mid) room.opening older
+      → link.truth (line new) room.opening (with_outcome who now call outcome older)
 
 -- a call that was answered stands after the giving up
 went_after : (who : Who) (now : ℕ) (call : Call) (outcome : Outcome) (marks : List Mark) → (outcome ≡ Cut → gave_up marks ≡ true → went_on marks ≡ true)
@@ -69,201 +69,295 @@ went_after : (who : Who) (now : ℕ) (call : Call) (outcome : Outcome) (marks : 
 went_after who now call (Replied answer) marks cut gone = ap (λ (b : Bool). b || went_on marks) gone
 went_after who now call Cut marks cut gone = cut refl gone
 
+-- a call's mark is no giving up
+gave_up_with : (who : Who) (now : ℕ) (call : Call) (outcome : Outcome) (marks : List Mark)
+    → gave_up (with_outcome who now call outcome marks) ≡ gave_up marks
+gave_up_with who now call (Replied answer) marks = refl
+gave_up_with who now call Cut marks = refl
+
 -- a call that was cut gave no device up
-went_cut : {L : Type 0} (link : LinkWords L) (old mid : Server L) (was is : Truth) (image : Contents) (tree : Tree) (who : Who) (now : ℕ) (call : Call)
-    (marks : List Mark) (c : Calls (serving link old) (serving link mid) was is who now call Cut) → Serves (serving link old) image tree marks
-    → is_given_up mid ≡ is_given_up old → (gave_up marks ≡ true → went_on marks ≡ true)
+went_cut : {S L : Type 0} (serving : S → Serving) (truth : L → Truth) (old mid : S) (l m : L) (who : Who) (now : ℕ) (call : Call)
+    (v : Opening) (t : Tree) (marks : List Mark) (b : Bool) → (serving old).ended ≡ b
+    → (c : CallsOver (serving old) (serving mid) (truth l) (truth m) who now call Cut)
+    → IsEndLast (serving mid).told → Stands (serving old) (truth l) v t marks → (gave_up marks ≡ true → went_on marks ≡ true)
     → gave_up (marks_after c.keeps.acts marks) ≡ true → went_on (marks_after c.keeps.acts marks) ≡ true
-went_cut link old mid was is image tree who now call marks c serves stays answered gone =
-    let before : gave_up marks ≡ true =
-    sym serves.agrees.table.holds.given_up ∙ sym stays ∙ (c.keeps.serves image tree marks serves).agrees.table.holds.given_up ∙ gone in
-    let none : marks_after c.keeps.acts marks ≡ marks =
-    ap (λ (acts : List Act). marks_after acts marks) (c.keeps.after_giving_up image tree marks serves.agrees before) in
-    subst (λ (ms : List Mark). went_on ms ≡ true) (sym none) (answered before)
+went_cut serving truth old mid l m who now call v t marks true is c last stood answered gone =
+    let none : marks_after c.keeps.acts marks ≡ marks = ap (λ (acts : List Act). marks_after acts marks) (c.keeps.after_end is) in
+    subst (λ (ms : List Mark). went_on ms ≡ true) (sym none) (answered (sym (ap gave_up none) ∙ gone))
+went_cut serving truth old mid l m who now call v t marks false is c last stood answered gone =
+    let live = (cut_leaves serving truth old mid l m who now call v t marks c is last stood).1 in cc
 
 -- the same of any call that is a cut
-went_if_cut : {L : Type 0} (link : LinkWords L) (old mid : Server L) (was is : Truth) (image : Contents) (tree : Tree) (who : Who) (now : ℕ) (call : Call)
-    (outcome : Outcome) (marks : List Mark) (c : Calls (serving link old) (serving link mid) was is who now call outcome)
-    → Serves (serving link old) image tree marks
-    → (outcome ≡ Cut → is_given_up mid ≡ is_given_up old) → (gave_up marks ≡ true → went_on marks ≡ true)
+went_if_cut : {S L : Type 0} (serving : S → Serving) (truth : L → Truth) (old mid : S) (l m : L) (who : Who) (now : ℕ) (call : Call)
+    (outcome : Outcome) (v : Opening) (t : Tree) (marks : List Mark)
+    → (c : CallsOver (serving old) (serving mid) (truth l) (truth m) who now call outcome)
+    → IsEndLast (serving mid).told → Stands (serving old) (truth l) v t marks → (gave_up marks ≡ true → went_on marks ≡ true)
     → outcome ≡ Cut → gave_up (marks_after c.keeps.acts marks) ≡ true → went_on (marks_after c.keeps.acts marks) ≡ true
-went_if_cut link old mid was is image tree who now call (Replied answer) marks c serves stays answered cut = cc
-went_if_cut link old mid was is image tree who now call Cut marks c serves stays answered cut =
-    went_cut link old mid was is image tree who now call marks c serves (stays refl) answered
+went_if_cut serving truth old mid l m who now call (Replied answer) v t marks c last stood answered cut = cc
+went_if_cut serving truth old mid l m who now call Cut v t marks c last stood answered cut =
+    went_cut serving truth old mid l m who now call v t marks (serving old).ended refl c last stood answered
 
--- after a call that was counted if it was answered
-pub held_after : {N L : Type 0} (room : RoomWords N) (link : LinkWords L) (runs_on : L → Policy → List DriverState → Type 0) (record_in : L → List Mark)
-    (old mid new : Server L) (who : Who) (now : ℕ) (call : Call) (outcome : Outcome)
-    → Calls (serving link old) (serving link mid) (link.truth (line_of old)) (link.truth (line_of mid)) who now call outcome
-    → IsReady link mid → link.goes_on (line_of old) (line_of mid)
-    → (outcome ≡ Cut → is_given_up mid ≡ is_given_up old) → SameServer link mid new
-    → ((older : List Mark) → link.truth (line_of mid) room.opening older → link.truth (line_of new) room.opening (with_outcome who now call outcome older))
-    → ((older : List Mark) → link.truth (line_of new) room.opening older → record_in (line_of new) ≡ older)
-    → ((l m : L) → link.goes_on l m → runs_on l room.policy room.supply → runs_on m room.policy room.supply)
-    → IsHeld room link runs_on record_in old → IsHeld room link runs_on record_in new
-held_after room link runs_on record_in old mid new who now call outcome c ready goes stays is_same counted is_record keeps_on held =
-    let g = room.geometry in
-    let v = room.opening in
-    let marks = record_in (line_of old) in
-    let same : serving link new ≡ serving link mid = same_serving link mid new is_same in
-    let here = marks_after c.keeps.acts marks in
-    let all = with_outcome who now call outcome here in
-    let stands : (tree : Tree) → IsAtFirst g (contents_at v) tree → Stands (serving link mid) (link.truth (line_of new)) v tree all =
-    λ tree first.
-    let st = held.stands tree first in
+-- the server stands after a call that was counted if it was answered
+stands_after : {N S L : Type 0} (room : RoomWords N) (link : LinkWords L) (serving : S → Serving) (line : S → L) (is_ready : S → Type 0)
+    (knows : Call → Type 0) (runs_on : L → Policy → List DriverState → Type 0) (record_in : L → List Mark)
+    (who : Who) (now : ℕ) (call : Call) (outcome : Outcome) (old mid new : S) → Kept room link serving line runs_on record_in
+    → (c : Called room link serving line is_ready who now call outcome old mid new) → IsHeld room link serving line is_ready knows runs_on record_in old
+    → (t : Tree) → IsAtFirst room.geometry (contents_at room.opening) t
+    → Stands (serving new) (link.truth (line new)) room.opening t
+    (with_outcome who now call outcome (marks_after c.calls.keeps.acts (record_in (line old))))
+stands_after room link serving line is_ready knows runs_on record_in who now call outcome old mid new kept c held t first =
+    let st = held.stands t first in
+    let marks = record_in (line old) in
     record {
-      minor = st.minor ∙ sym c.keeps.leads.minor;
-      serves = c.keeps.serves (contents_at v) tree marks st.serves;
-      truth = counted here (c.heard v tree marks st.minor st.serves.agrees st.truth);
-    } in
-    record {
-      ready = ready_same link mid new is_same ready;
-      geometry = ap (λ (s : Serving). s.geometry) same ∙ c.keeps.leads.geometry ∙ held.geometry;
-      drivers = keeps_on (line_of mid) (line_of new) is_same.line.goes (keeps_on (line_of old) (line_of mid) goes held.drivers);
-      stands = λ tree first.
-          let st = stands tree first in
-          subst (λ (ms : List Mark). Stands (serving link new) (link.truth (line_of new)) v tree ms) (sym (is_record all st.truth))
-          (subst (λ (s : Serving). Stands s (link.truth (line_of new)) v tree all) (sym same) st);
-      answered = λ tree first.
-          subst (λ (ms : List Mark). gave_up ms ≡ true → went_on ms ≡ true) (sym (is_record all (stands tree first).truth))
-          (went_after who now call outcome here
-          (went_if_cut link old mid (link.truth (line_of old)) (link.truth (line_of mid)) (contents_at v) tree who now call outcome marks c
-          (held.stands tree first).serves stays (held.answered tree first)));
+      minor = st.minor ∙ sym c.calls.keeps.leads.minor ∙ sym c.same.served.minor;
+      serves = serves_same (serving mid) (serving new) (contents_at room.opening) t
+          (with_outcome who now call outcome (marks_after c.calls.keeps.acts marks)) c.same.served
+          (c.calls.keeps.serves (contents_at room.opening) t marks st.serves);
+      truth = c.counted (marks_after c.calls.keeps.acts marks) (c.calls.truth room.opening t marks st.minor st.serves.agrees st.truth);
     }
+
+-- the record then
+record_after : {N S L : Type 0} (room : RoomWords N) (link : LinkWords L) (serving : S → Serving) (line : S → L) (is_ready : S → Type 0)
+    (knows : Call → Type 0) (runs_on : L → Policy → List DriverState → Type 0) (record_in : L → List Mark)
+    (who : Who) (now : ℕ) (call : Call) (outcome : Outcome) (old mid new : S) → Kept room link serving line runs_on record_in
+    → (c : Called room link serving line is_ready who now call outcome old mid new) → IsHeld room link serving line is_ready knows runs_on record_in old
+    → (t : Tree) → IsAtFirst room.geometry (contents_at room.opening) t
+    → record_in (line new) ≡ with_outcome who now call outcome (marks_after c.calls.keeps.acts (record_in (line old)))
+record_after room link serving line is_ready knows runs_on record_in who now call outcome old mid new kept c held t first =
+    kept.is_record (line new) _ (stands_after room link serving line is_ready knows runs_on record_in who now call outcome old mid new kept c held t first).truth
+
+-- it has ended where its link has
+ends_after : {N S L : Type 0} (room : RoomWords N) (link : LinkWords L) (serving : S → Serving) (line : S → L) (is_ready : S → Type 0)
+    (knows : Call → Type 0) (runs_on : L → Policy → List DriverState → Type 0) (record_in : L → List Mark)
+    (who : Who) (now : ℕ) (call : Call) (outcome : Outcome) (old mid new : S) → Kept room link serving line runs_on record_in
+    → (c : Called room link serving line is_ready who now call outcome old mid new) → IsHeld room link serving line is_ready knows runs_on record_in old
+    → (serving mid).ended ≡ took_end (link.history (line mid))
+ends_after room link serving line is_ready knows runs_on record_in who now call outcome old mid new kept c held =
+    let before : (serving old).ended ≡ took_end (serving old).told = held.ends ∙ ap took_end (sym (kept.tells old)) in
+    c.calls.keeps.leads.ended
+    ∙ ap (λ (b : Bool). took_end (told_of c.calls.keeps.acts) || b) before
+    ∙ sym (took_either (told_of c.calls.keeps.acts) (serving old).told)
+    ∙ ap took_end (sym c.calls.keeps.leads.told)
+    ∙ ap took_end (kept.tells mid)
 
 -- where the link alone changed, and guarantees what it did
-pub held_same : {N L : Type 0} (room : RoomWords N) (link : LinkWords L) (runs_on : L → Policy → List DriverState → Type 0) (record_in : L → List Mark)
-    (old new : Server L) → SameServer link old new
-    → ((older : List Mark) → link.truth (line_of old) room.opening older → link.truth (line_of new) room.opening older)
-    → record_in (line_of new) ≡ record_in (line_of old)
-    → ((l m : L) → link.goes_on l m → runs_on l room.policy room.supply → runs_on m room.policy room.supply)
-    → IsHeld room link runs_on record_in old → IsHeld room link runs_on record_in new
-held_same room link runs_on record_in old new is_same kept none keeps_on held =
+pub held_same : {N S L : Type 0} (room : RoomWords N) (link : LinkWords L) (serving : S → Serving) (line : S → L) (is_ready : S → Type 0)
+    (knows : Call → Type 0) (runs_on : L → Policy → List DriverState → Type 0) (record_in : L → List Mark)
+    (old new : S) → Kept room link serving line runs_on record_in → SameServer link serving line is_ready old new
+    → ((older : List Mark) → link.truth (line old) room.opening older → link.truth (line new) room.opening older)
+    → record_in (line new) ≡ record_in (line old) → IsHeld room link serving line is_ready knows runs_on record_in old → IsHeld room link serving line is_ready knows runs_on record_in new
+held_same room link serving line is_ready knows runs_on record_in old new kept same truth none held =
     let v = room.opening in
-    let marks = record_in (line_of old) in
-    let same : serving link new ≡ serving link old = same_serving link old new is_same in
+    let marks = record_in (line old) in
     record {
-      ready = ready_same link old new is_same held.ready;
-      geometry = ap (λ (s : Serving). s.geometry) same ∙ held.geometry;
-      drivers = keeps_on (line_of old) (line_of new) is_same.line.goes held.drivers;
-      stands = λ tree first.
-          let st = held.stands tree first in
-          let stands : Stands (serving link old) (link.truth (line_of new)) v tree marks =
-          record { minor = st.minor; serves = st.serves; truth = kept marks st.truth } in
-          subst (λ (ms : List Mark). Stands (serving link new) (link.truth (line_of new)) v tree ms) (sym none)
-          (subst (λ (s : Serving). Stands s (link.truth (line_of new)) v tree marks) (sym same) stands);
-      answered = λ tree first. subst (λ (ms : List Mark). gave_up ms ≡ true → went_on ms ≡ true) (sym none) (held.answered tree first);
+      ready = same.may held.ready;
+      knows_each = held.knows_each;
+      geometry = same.served.geometry ∙ held.geometry;
+      ends = same.served.ended ∙ held.ends ∙ ap took_end (sym same.at_link.same_history);
+      drivers = kept.keeps_on (line old) (line new) same.at_link.goes held.drivers;
+      stands = λ t first.
+          let st = held.stands t first in
+          subst (λ (ms : List Mark). Stands (serving new) (link.truth (line new)) v t ms) (sym none)
+          (same_stands serving link.truth old new (line old) (line new) v t marks same.served (truth marks st.truth) st);
+      answered = λ t first. subst (λ (ms : List Mark). gave_up ms ≡ true → went_on ms ≡ true) (sym none) (held.answered t first);
     }
 
+-- after a call that was counted if it was answered
+pub held_after : {N S L : Type 0} (room : RoomWords N) (link : LinkWords L) (serving : S → Serving) (line : S → L) (is_ready : S → Type 0)
+    (knows : Call → Type 0) (runs_on : L → Policy → List DriverState → Type 0) (record_in : L → List Mark)
+    (who : Who) (now : ℕ) (call : Call) (outcome : Outcome) (old mid new : S) → Kept room link serving line runs_on record_in
+    → Called room link serving line is_ready who now call outcome old mid new → IsHeld room link serving line is_ready knows runs_on record_in old → IsHeld room link serving line is_ready knows runs_on record_in new
+held_after room link serving line is_ready knows runs_on record_in who now call outcome old mid new kept c held =
+    let v = room.opening in
+    let marks = record_in (line old) in
+    let acts = c.calls.keeps.acts in
+    record {
+      ready = c.same.may c.ready;
+      knows_each = held.knows_each;
+      geometry = c.same.served.geometry ∙ c.calls.keeps.leads.geometry ∙ held.geometry;
+      ends = c.same.served.ended ∙ ends_after room link serving line is_ready knows runs_on record_in who now call outcome old mid new kept c held
+          ∙ ap took_end (sym c.same.at_link.same_history);
+      drivers = kept.keeps_on (line mid) (line new) c.same.at_link.goes (kept.keeps_on (line old) (line mid) c.goes held.drivers);
+      stands = λ t first.
+          subst (λ (ms : List Mark). Stands (serving new) (link.truth (line new)) v t ms)
+          (sym (record_after room link serving line is_ready knows runs_on record_in who now call outcome old mid new kept c held t first))
+          (stands_after room link serving line is_ready knows runs_on record_in who now call outcome old mid new kept c held t first);
+      answered = λ t first.
+          let st = held.stands t first in
+          let last : IsEndLast (link.history (line mid)) =
+          kept.end_last (line mid) (marks_after acts marks) (c.calls.truth v t marks st.minor st.serves.agrees st.truth) in
+          subst (λ (ms : List Mark). gave_up ms ≡ true → went_on ms ≡ true)
+          (sym (record_after room link serving line is_ready knows runs_on record_in who now call outcome old mid new kept c held t first))
+          (went_after who now call outcome (marks_after acts marks)
+          (went_if_cut serving link.truth old mid (line old) (line mid) who now call outcome v t marks c.calls
+          (subst IsEndLast (sym (kept.tells mid)) last) st (held.answered t first)));
+    }
+
+-- a server that was opened over a link which told nothing yet
+pub held_at_first : {N S L : Type 0} (room : RoomWords N) (link : LinkWords L) (serving : S → Serving) (line : S → L) (is_ready : S → Type 0)
+    (knows : Call → Type 0) (runs_on : L → Policy → List DriverState → Type 0) (record_in : L → List Mark)
+    (s : S) (l : L) (minor frames : ℕ) → line s ≡ l → is_ready s → ((call : Call) → knows call) → link.history l ≡ [] → record_in l ≡ []
+    → OpenKeeps room.geometry minor frames (link.history l) (serving s) → room.opening.minor ≡ minor → runs_on l room.policy room.supply
+    → link.truth l room.opening [] → IsHeld room link serving line is_ready knows runs_on record_in s
+held_at_first {L = L} room link serving line is_ready knows runs_on record_in s l minor frames is ready each told none opens same drivers truth = record {
+  ready = ready;
+  knows_each = each;
+  geometry = opens.geometry;
+  ends = opens.is_new.not_ended ∙ sym (ap (λ (k : L). took_end (link.history k)) is ∙ ap took_end told);
+  drivers = subst (λ (k : L). runs_on k room.policy room.supply) (sym is) drivers;
+  stands = λ t first.
+      let here : Stands (serving s) (link.truth l) room.opening t [] = record {
+        minor = same ∙ sym opens.minor_is;
+        serves = opens.serves (contents_at room.opening) t first;
+        truth = truth;
+      } in
+      subst (λ (ms : List Mark). Stands (serving s) (link.truth (line s)) room.opening t ms) (sym (ap record_in is ∙ none))
+      (subst (λ (k : L). Stands (serving s) (link.truth k) room.opening t []) (sym is) here);
+  answered = λ t first gone. let gave : false ≡ true = sym (ap gave_up (ap record_in is ∙ none)) ∙ gone in cc;
+}
+
 -- what is held is sound
-pub held_sound : {N L : Type 0} (room : RoomWords N) (link : LinkWords L) (runs_on : L → Policy → List DriverState → Type 0) (record_in : L → List Mark)
-    (s : Server L) (seen : List Mark) → seen ≡ record_in (line_of s) → IsHeld room link runs_on record_in s
+pub held_sound : {N S L : Type 0} (room : RoomWords N) (link : LinkWords L) (serving : S → Serving) (line : S → L) (is_ready : S → Type 0)
+    (knows : Call → Type 0) (runs_on : L → Policy → List DriverState → Type 0) (record_in : L → List Mark)
+    (s : S) (seen : List Mark) → seen ≡ record_in (line s) → IsHeld room link serving line is_ready knows runs_on record_in s
     → (tree : Tree) → IsAtFirst room.geometry (contents_at room.opening) tree → IsSound seen
-held_sound room link runs_on record_in s seen same held tree first =
+held_sound room link serving line is_ready knows runs_on record_in s seen same held tree first =
     let st = held.stands tree first in
-    let sound : IsSound (record_in (line_of s)) = record { well_formed = st.serves.well_formed; answered = held.answered tree first } in
+    let sound : IsSound (record_in (line s)) = record { well_formed = st.serves.well_formed; answered = held.answered tree first } in
     subst (λ (ms : List Mark). IsSound ms) (sym same) sound
 
 -- what is held is legal
-held_legal : {N L : Type 0} (room : RoomWords N) (link : LinkWords L) (runs_on : L → Policy → List DriverState → Type 0) (record_in : L → List Mark)
-    (s : Server L) (seen : List Mark) → seen ≡ record_in (line_of s) → IsHeld room link runs_on record_in s
+held_legal : {N S L : Type 0} (room : RoomWords N) (link : LinkWords L) (serving : S → Serving) (line : S → L) (is_ready : S → Type 0)
+    (knows : Call → Type 0) (runs_on : L → Policy → List DriverState → Type 0) (record_in : L → List Mark)
+    (s : S) (seen : List Mark) → seen ≡ record_in (line s) → IsHeld room link serving line is_ready knows runs_on record_in s
     → (tree : Tree) → IsAtFirst room.geometry (contents_at room.opening) tree → HasTrueReplies (contents_at room.opening) seen
     → IsLegal room.geometry (contents_at room.opening) tree seen
-held_legal room link runs_on record_in s seen same held tree first replies =
+held_legal room link serving line is_ready knows runs_on record_in s seen same held tree first replies =
     let image = contents_at room.opening in
     subst (λ (ms : List Mark). IsLegal room.geometry image tree ms) (sym same)
-    (subst (λ (h : Geometry). IsLegal h image tree (record_in (line_of s))) held.geometry
+    (subst (λ (h : Geometry). IsLegal h image tree (record_in (line s))) held.geometry
     ((held.stands tree first).serves.legal (subst (λ (ms : List Mark). HasTrueReplies image ms) same replies)))
 
 -- a new session has seen what is held
-pub admitted_good : {N L E : Type 0} (room : RoomWords N) (link : LinkWords L) (runs_on : L → Policy → List DriverState → Type 0)
-    (record_in : L → List Mark) (s : Server L) (table : TableId) (result : Result (ℕ × SeatState × ℕ) E)
-    → IfOk result (λ r. (r.1.table ≡ table) × SessionIsNew r.0 r.1.view (record_in (line_of s))) → IsHeld room link runs_on record_in s
+pub admitted_good : {N S L E : Type 0} (room : RoomWords N) (link : LinkWords L) (serving : S → Serving) (line : S → L) (is_ready : S → Type 0)
+    (knows : Call → Type 0) (runs_on : L → Policy → List DriverState → Type 0) (record_in : L → List Mark)
+    (s : S) (table : TableId) (result : Result (ℕ × SeatState × ℕ) E)
+    → IfOk result (λ r. (r.1.table ≡ table) × SessionIsNew r.0 r.1.view (record_in (line s))) → IsHeld room link serving line is_ready knows runs_on record_in s
     → (tree : Tree) → IsAtFirst room.geometry (contents_at room.opening) tree → IfOk result (λ r. IsGood room.geometry room.opening tree r.1.view.seen)
-admitted_good room link runs_on record_in s table (Ok r) new held tree first =
+admitted_good room link serving line is_ready knows runs_on record_in s table (Ok r) new held tree first =
     let same = new.1.1 in (
-      held_sound room link runs_on record_in s r.1.view.seen same held tree first,
-      held_legal room link runs_on record_in s r.1.view.seen same held tree first,
+      held_sound room link serving line is_ready knows runs_on record_in s r.1.view.seen same held tree first,
+      held_legal room link serving line is_ready knows runs_on record_in s r.1.view.seen same held tree first,
     )
-admitted_good room link runs_on record_in s table (Err e) new held tree first = tt
+admitted_good room link serving line is_ready knows runs_on record_in s table (Err e) new held tree first = tt
 
 -- what is held is what the link guarantees
-pub held_guaranteed : {N L : Type 0} (room : RoomWords N) (link : LinkWords L) (runs_on : L → Policy → List DriverState → Type 0)
-    (record_in : L → List Mark) (s : Server L) (seen : List Mark) → seen ≡ record_in (line_of s) → IsHeld room link runs_on record_in s
+pub held_guaranteed : {N S L : Type 0} (room : RoomWords N) (link : LinkWords L) (serving : S → Serving) (line : S → L) (is_ready : S → Type 0)
+    (knows : Call → Type 0) (runs_on : L → Policy → List DriverState → Type 0) (record_in : L → List Mark)
+    (s : S) (seen : List Mark) → seen ≡ record_in (line s) → IsHeld room link serving line is_ready knows runs_on record_in s
     → (tree : Tree) → IsAtFirst room.geometry (contents_at room.opening) tree → IsGuaranteed link.truth room.opening seen
-held_guaranteed room link runs_on record_in s seen same held tree first =
-    (line_of s, subst (λ (ms : List Mark). link.truth (line_of s) room.opening ms) (sym same) (held.stands tree first).truth)
+held_guaranteed room link serving line is_ready knows runs_on record_in s seen same held tree first =
+    (line s, subst (λ (ms : List Mark). link.truth (line s) room.opening ms) (sym same) (held.stands tree first).truth)
 
 -- and a new session has seen it
-pub admitted_guaranteed : {N L E : Type 0} (room : RoomWords N) (link : LinkWords L) (runs_on : L → Policy → List DriverState → Type 0)
-    (record_in : L → List Mark) (s : Server L) (table : TableId) (result : Result (ℕ × SeatState × ℕ) E)
-    → IfOk result (λ r. (r.1.table ≡ table) × SessionIsNew r.0 r.1.view (record_in (line_of s))) → IsHeld room link runs_on record_in s
+pub admitted_guaranteed : {N S L E : Type 0} (room : RoomWords N) (link : LinkWords L) (serving : S → Serving) (line : S → L) (is_ready : S → Type 0)
+    (knows : Call → Type 0) (runs_on : L → Policy → List DriverState → Type 0) (record_in : L → List Mark)
+    (s : S) (table : TableId) (result : Result (ℕ × SeatState × ℕ) E)
+    → IfOk result (λ r. (r.1.table ≡ table) × SessionIsNew r.0 r.1.view (record_in (line s))) → IsHeld room link serving line is_ready knows runs_on record_in s
     → (tree : Tree) → IsAtFirst room.geometry (contents_at room.opening) tree → IfOk result (λ r. IsGuaranteed link.truth room.opening r.1.view.seen)
-admitted_guaranteed room link runs_on record_in s table (Ok r) new held tree first =
-    held_guaranteed room link runs_on record_in s r.1.view.seen new.1.1 held tree first
-admitted_guaranteed room link runs_on record_in s table (Err e) new held tree first = tt
+admitted_guaranteed room link serving line is_ready knows runs_on record_in s table (Ok r) new held tree first =
+    held_guaranteed room link serving line is_ready knows runs_on record_in s r.1.view.seen new.1.1 held tree first
+admitted_guaranteed room link serving line is_ready knows runs_on record_in s table (Err e) new held tree first = tt
 
 -- why no session was made
-pub not_admitted : {L T : Type 0} (link : LinkWords L) (numbers : L → List ℕ) (s : Server L) (result : Result T SessionRefusal) → IsReady link s
-    → (IsErrOf result TooMany ↔ ((n : ℕ) → n < 64 → is_used n (numbers (line_of s)) ≡ true))
-    → (IsErrOf result Stopped ↔ ((s.ended ≡ true) × ((n : ℕ) × (n < 64) × (is_used n (numbers (line_of s)) ≡ false))))
+pub not_admitted : {L T : Type 0} (link : LinkWords L) (numbers : L → List ℕ) (line : L) (result : Result T SessionRefusal)
+    → (IsErrOf result TooMany ↔ ((n : ℕ) → n < 64 → is_used n (numbers line) ≡ true))
+    → (IsErrOf result Stopped ↔ ((took_end (link.history line) ≡ true) × ((n : ℕ) × (n < 64) × (is_used n (numbers line) ≡ false))))
     → IfErr result (IsNotAdmitted link numbers)
-not_admitted link numbers s (Ok r) ready many stopped = tt
-not_admitted link numbers s (Err TooMany) ready many stopped = (line_of s, many.0 refl)
-not_admitted link numbers s (Err Stopped) ready many stopped =
-    let why = stopped.0 refl in (line_of s, sym ready.told_end ∙ why.0, why.1)
-not_admitted link numbers s (Err OutOfMemory) ready many stopped = tt
+not_admitted link numbers line (Ok r) many stopped = tt
+not_admitted link numbers line (Err TooMany) many stopped = (line, many.0 refl)
+not_admitted link numbers line (Err Stopped) many stopped = let why = stopped.0 refl in (line, why.0, why.1)
+not_admitted link numbers line (Err OutOfMemory) many stopped = tt
 
 -- a session whose call was answered
-pub session_answered : {N L : Type 0} (room : RoomWords N) (link : LinkWords L) (runs_on : L → Policy → List DriverState → Type 0)
-    (record_in : L → List Mark) (s : Server L) (older : List Mark) (who : Who) (now : ℕ) (call : Call)
-    (answer : Answer) (old new : View) → IsHeld room link runs_on record_in s → old.number ≡ Some who.session → SessionLearns old new
-    → new.seen ≡ record_in (line_of s) → record_in (line_of s) ≡ Took who now call answer ∷ older → new.mine ≡ Took who now call answer ∷ old.mine
+pub session_answered : {N S L : Type 0} (room : RoomWords N) (link : LinkWords L) (serving : S → Serving) (line : S → L) (is_ready : S → Type 0)
+    (knows : Call → Type 0) (runs_on : L → Policy → List DriverState → Type 0) (record_in : L → List Mark)
+    (s : S) (older : List Mark) (who : Who) (now : ℕ) (call : Call)
+    (answer : Answer) (old new : View) → IsHeld room link serving line is_ready knows runs_on record_in s → old.number ≡ Some who.session → SessionLearns old new
+    → new.seen ≡ record_in (line s) → record_in (line s) ≡ Took who now call answer ∷ older → new.mine ≡ Took who now call answer ∷ old.mine
     → SessionCallKeeps room.geometry (contents_at room.opening) (session_for who.uid who.gid who.session old) who now call (Replied answer)
     (session_for who.uid who.gid who.session new)
-session_answered room link runs_on record_in s older who now call answer old new held number learns seen is mine = record {
+session_answered room link serving line is_ready knows runs_on record_in s older who now call answer old new held number learns seen is mine = record {
   goes_on = record { user = refl; group = refl; learns = learns who.session number };
   caller = refl;
   ends = (older, seen ∙ is, mine);
-  legal = held_legal room link runs_on record_in s new.seen seen held;
+  legal = held_legal room link serving line is_ready knows runs_on record_in s new.seen seen held;
 }
 
 -- a session whose call was cut
-pub session_cut : {N L : Type 0} (room : RoomWords N) (link : LinkWords L) (runs_on : L → Policy → List DriverState → Type 0)
-    (record_in : L → List Mark) (s : Server L) (who : Who) (now : ℕ) (call : Call) (old new : View)
-    → IsHeld room link runs_on record_in s → old.number ≡ Some who.session → SessionLearns old new → new.seen ≡ record_in (line_of s) → new.mine ≡ old.mine
+pub session_cut : {N S L : Type 0} (room : RoomWords N) (link : LinkWords L) (serving : S → Serving) (line : S → L) (is_ready : S → Type 0)
+    (knows : Call → Type 0) (runs_on : L → Policy → List DriverState → Type 0) (record_in : L → List Mark)
+    (s : S) (who : Who) (now : ℕ) (call : Call) (old new : View)
+    → IsHeld room link serving line is_ready knows runs_on record_in s → old.number ≡ Some who.session → SessionLearns old new → new.seen ≡ record_in (line s) → new.mine ≡ old.mine
     → SessionCallKeeps room.geometry (contents_at room.opening) (session_for who.uid who.gid who.session old) who now call Cut
     (session_for who.uid who.gid who.session new)
-session_cut room link runs_on record_in s who now call old new held number learns seen mine = record {
+session_cut room link serving line is_ready knows runs_on record_in s who now call old new held number learns seen mine = record {
   goes_on = record { user = refl; group = refl; learns = learns who.session number };
   caller = refl;
   ends = mine;
-  legal = held_legal room link runs_on record_in s new.seen seen held;
+  legal = held_legal room link serving line is_ready knows runs_on record_in s new.seen seen held;
 }
 
 -- an outcome that contracts see as a cut is one
-pub is_cut : (outcome : TreeOutcome) → outcome_of outcome ≡ Cut → outcome ≡ tree.Cut
+is_cut : (outcome : TreeOutcome) → outcome_of outcome ≡ Cut → outcome ≡ tree.Cut
 is_cut (tree.Reply r) e = cc
 is_cut tree.Cut e = refl
 
--- what isn't true is false
-not_true : (b : Bool) → (b ≡ true → ⊥) → b ≡ false
-not_true true h = absurd (h refl)
-not_true false h = refl
+-- a reply that contracts see as a refusal is one
+is_refused : (r : Reply) (e : Errno) → answer_of r ≡ refused e → r ≡ Refused e
+is_refused (Refused d) e is = cc
+is_refused reply.Done e is = cc
+is_refused (reply.Descriptor n) e is = cc
+is_refused (reply.Bytes bytes) e is = cc
+is_refused (reply.Wrote n) e is = cc
+is_refused (reply.At n) e is = cc
+is_refused (reply.Inode a) e is = cc
+is_refused (reply.Names names) e is = cc
+is_refused (reply.Space r) e is = cc
 
 -- EIO is answered exactly once the device was given up, unless the call is cut
-pub eio_exactly : {N L : Type 0} (room : RoomWords N) (link : LinkWords L) (runs_on : L → Policy → List DriverState → Type 0) (record_in : L → List Mark)
-    (mid new : Server L) (seen : List Mark) (result : TreeOutcome)
-    → SameServer link mid new → seen ≡ record_in (line_of new) → IsHeld room link runs_on record_in new → (result ≡ tree.Cut) ↔ (mid.ended ≡ true)
-    → (result ≡ tree.Reply (Refused EIO)) ↔ ((mid.ended ≡ false) × (is_given_up mid ≡ true))
+eio_of : (result : TreeOutcome) (gone : Bool) → (outcome_of result ≡ Replied (refused EIO) → gone ≡ true)
+    → (gone ≡ true → (outcome_of result ≡ Cut) ⊎ (outcome_of result ≡ Replied (refused EIO)))
+    → (result ≡ tree.Reply (Refused EIO)) ↔ ((result ≢ tree.Cut) × (gone ≡ true))
+eio_of (tree.Reply r) gone only once = (
+  (λ is. ((λ cut. let h = is in absurd cc), only (ap outcome_of is))),
+  (λ b. elim (once b.1) [
+    | inl cut ↦ absurd cc
+    | inr eio ↦ ap tree.Reply (is_refused r EIO (let h = eio in cc))
+  ]),
+)
+eio_of tree.Cut gone only once = (
+  (λ is. absurd cc),
+  (λ b. absurd (b.0 refl)),
+)
+
+-- and so by what the caller has seen
+pub eio_after : {N S L : Type 0} (room : RoomWords N) (link : LinkWords L) (serving : S → Serving) (line : S → L) (is_ready : S → Type 0)
+    (knows : Call → Type 0) (runs_on : L → Policy → List DriverState → Type 0) (record_in : L → List Mark)
+    (who : Who) (now : ℕ) (call : Call) (result : TreeOutcome) (old mid new : S) (seen : List Mark) → seen ≡ record_in (line new)
+    → Kept room link serving line runs_on record_in
+    → (c : Called room link serving line is_ready who now call (outcome_of result) old mid new) → IsHeld room link serving line is_ready knows runs_on record_in old
     → (t : Tree) → IsAtFirst room.geometry (contents_at room.opening) t
     → (result ≡ tree.Reply (Refused EIO)) ↔ ((result ≢ tree.Cut) × (gave_up seen ≡ true))
-eio_exactly room link runs_on record_in mid new seen result is_same same held cut eio t first =
-    let known : is_given_up mid ≡ gave_up seen =
-    ap (λ (s : Server _). is_given_up s) (sym is_same.same) ∙ (held.stands t first).serves.agrees.table.holds.given_up ∙ ap gave_up (sym same) in (
-      (λ e. let b = eio.0 e in ((λ is. let ended = cut.0 is in let live = b.0 in cc), sym known ∙ b.1)),
-      (λ b. eio.1 (not_true mid.ended (λ ended. b.0 (cut.1 ended)), known ∙ b.1)),
-    )
+eio_after room link serving line is_ready knows runs_on record_in who now call result old mid new seen same kept c held t first =
+    let marks = record_in (line old) in
+    let agrees = (held.stands t first).serves.agrees in
+    let gone : gave_up seen ≡ gave_up (marks_after c.calls.keeps.acts marks) =
+    ap gave_up (same ∙ record_after room link serving line is_ready knows runs_on record_in who now call (outcome_of result) old mid new kept c held t first)
+    ∙ gave_up_with who now call (outcome_of result) (marks_after c.calls.keeps.acts marks) in
+    eio_of result (gave_up seen)
+    (λ eio. gone ∙ c.calls.keeps.only_given_up (contents_at room.opening) t marks agrees eio)
+    (λ up. c.calls.keeps.once_given_up (contents_at room.opening) t marks agrees (sym gone ∙ up))
 
 -- the same of the outcome that is given back
 pub eio_given : (result given : TreeOutcome) (seen : List Mark) (P : Tree → Type 0) → result ≡ given
@@ -271,3 +365,67 @@ pub eio_given : (result given : TreeOutcome) (seen : List Mark) (P : Tree → Ty
     → (t : Tree) → P t → (given ≡ tree.Reply (Refused EIO)) ↔ ((given ≢ tree.Cut) × (gave_up seen ≡ true))
 eio_given result given seen P is exactly t first =
     subst (λ (o : TreeOutcome). (o ≡ tree.Reply (Refused EIO)) ↔ ((o ≢ tree.Cut) × (gave_up seen ≡ true))) is (exactly t first)
+
+-- a call was cut exactly where its link has ended
+pub cut_given : {N S L : Type 0} (room : RoomWords N) (link : LinkWords L) (serving : S → Serving) (line : S → L) (is_ready : S → Type 0)
+    (knows : Call → Type 0) (runs_on : L → Policy → List DriverState → Type 0) (record_in : L → List Mark)
+    (who : Who) (now : ℕ) (call : Call) (result given : TreeOutcome) (old mid new : S) → result ≡ given
+    → Kept room link serving line runs_on record_in
+    → (c : Called room link serving line is_ready who now call (outcome_of result) old mid new) → IsHeld room link serving line is_ready knows runs_on record_in old
+    → (given ≡ tree.Cut) ↔ (took_end (link.history (line new)) ≡ true)
+cut_given room link serving line is_ready knows runs_on record_in who now call result given old mid new is kept c held =
+    let ends : (serving mid).ended ≡ took_end (link.history (line new)) =
+    ends_after room link serving line is_ready knows runs_on record_in who now call (outcome_of result) old mid new kept c held ∙ ap took_end (sym c.same.at_link.same_history) in (
+      (λ cut. sym ends ∙ c.calls.keeps.cut.0 (ap outcome_of (is ∙ cut))),
+      (λ over. sym is ∙ is_cut result (c.calls.keeps.cut.1 (ends ∙ over))),
+    )
+
+-- what answers a sync that was done isn't given up
+not_given_up : (b : Bool) → (b ≡ true → (Replied done ≡ Cut) ⊎ (Replied done ≡ Replied (refused EIO))) → b ≡ false
+not_given_up true once = elim (once refl) [
+  | inl e ↦ cc
+  | inr e ↦ cc
+]
+not_given_up false once = refl
+
+-- an answer that has nothing to tell
+is_done_answer : (answer : Answer) → is_done answer ≡ true → answer ≡ done
+is_done_answer done is = refl
+is_done_answer (refused e) is = cc
+is_done_answer (descriptor n) is = cc
+is_done_answer (some_bytes bytes) is = cc
+is_done_answer (wrote n) is = cc
+is_done_answer (position n) is = cc
+is_done_answer (node_is a) is = cc
+is_done_answer (names_are names) is = cc
+is_done_answer (room_is r) is = cc
+
+-- an outcome that tells so
+pub done_is : (outcome : Outcome) → succeeded outcome ≡ true → outcome ≡ Replied done
+done_is (Replied answer) is = ap Replied (is_done_answer answer is)
+done_is Cut is = cc
+
+-- after a last sync that was done, the media's image is that of a synced volume
+pub synced_image : {N S L : Type 0} (room : RoomWords N) (link : LinkWords L) (serving : S → Serving) (line : S → L) (is_ready : S → Type 0)
+    (knows : Call → Type 0) (runs_on : L → Policy → List DriverState → Type 0) (record_in : L → List Mark)
+    (old mid : S) (lies_on : L → MediaState) (image : List ℕ) → IsHeld room link serving line is_ready knows runs_on record_in old
+    → CallsOver (serving old) (serving mid) (link.truth (line old)) (link.truth (line mid)) syncer 0 Sync (Replied done)
+    → image ≡ concat (lies_on (line mid)).sectors → (t : Tree) → IsAtFirst room.geometry (contents_at room.opening) t
+    → IsSyncedImage room.geometry room.opening t link.truth lies_on image
+synced_image room link serving line is_ready knows runs_on record_in old mid lies_on image held c is t first =
+    let st = held.stands t first in
+    let marks = record_in (line old) in
+    let here = marks_after c.keeps.acts marks in
+    let volume = contents_at room.opening in
+    let serves = c.keeps.serves volume t marks st.serves in
+    let live : gave_up here ≡ false = not_given_up (gave_up here) (c.keeps.once_given_up volume t marks st.serves.agrees) in
+    record {
+      line = line mid;
+      marks = here;
+      bytes = is;
+      guaranteed = c.truth room.opening t marks st.minor st.serves.agrees st.truth;
+      synced = λ replies.
+          synced_is_held room.geometry volume t here syncer 0 Sync done live refl refl
+          (subst (λ (g : Geometry). IsLegal g volume t (Took syncer 0 Sync done ∷ here)) (c.keeps.leads.geometry ∙ held.geometry)
+          (serves.legal replies));
+    }

@@ -1,3 +1,4 @@
-pub mod MediaLaws
 pub mod HeldLaws
 pub mod CountLaws
+pub mod SharingLaws
+pub mod ClosingLaws

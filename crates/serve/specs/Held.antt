@@ -1,11 +1,9 @@
 -- What lies under the lock of a service, as contracts see it.
-use Rattle.std.specs.Prelude.{◌≡◌, ◌≢◌, ◌↔◌, ℕ, List, true, codes}
-use Rattle.std.specs.Borrow.{Bor}
+use Rattle.std.specs.Prelude.{◌≡◌, ◌≢◌, ◌↔◌, ℕ, List, true}
 use Rattle.layout.specs.declared.Geometry.{Geometry}
 use Rattle.errno.specs.declared.Errno.TheVariants.{EIO}
 use Rattle.tree.specs.declared.Who.{Who}
 use Rattle.tree.specs.declared.Call.{Call}
-use Rattle.tree.specs.declared.Call.TheVariants.{Stat}
 use Rattle.tree.specs.declared.Reply.TheVariants.{Refused}
 use Rattle.tree.specs.declared.Outcome.{Outcome as TreeOutcome}
 use Rattle.tree.specs.declared.Outcome.TheVariants.{Reply, Cut}
@@ -18,22 +16,16 @@ use Rattle.marks.specs.Told.{took_end}
 use Rattle.bdev.specs.DriverState.{DriverState}
 use Rattle.policy.specs.declared.Policy.{Policy}
 use Rattle.legal.specs.Legal.{IsAtFirst, IsLegal}
-use Rattle.legal.specs.ServerCall.{Outcome}
+use Rattle.legal.specs.ServerCall.{Serving, Outcome}
 use Rattle.legal.specs.Session.{SessionState, SessionCallKeeps, IsMadeFor, went_on}
 use Rattle.reissue.specs.declared.link.Link.{Ghosts as LinkWords}
 use Rattle.reissue.specs.Calls.{Truth}
+use Rattle.file_server.specs.Over.{Stands}
 use Rattle.board.specs.View.{View, session_for}
-use Rattle.reader.specs.declared.server.Server.{Server}
-use Rattle.reader.specs.Reader.{Stands}
-use Rattle.reader.specs.Server.{line_of, serving, IsReady}
 use Rattle.keeping.specs.declared.room.Room.{Ghosts as RoomWords}
 use Rattle.serve.specs.declared.refusal.SessionRefusal.{SessionRefusal}
 use Rattle.serve.specs.declared.refusal.SessionRefusal.TheVariants.{TooMany, Stopped, OutOfMemory}
 use Rattle.keeping.specs.Keeper.{AreAllUsed, IsLowestFree, IsOneFree}
-
--- it is a `stat /`
-abbrev pub IsRootStat : Call → Type 0
-IsRootStat call = (path : Bor (List ℕ)) × (call ≡ Stat path) × (path.now ≡ codes "/")
 
 -- a call of a caller that had seen as much as the first of these, and then has seen as much as the second, came to this outcome
 abbrev pub IsServedCall : Geometry → Opening → Who → ℕ → Call → View → Outcome → View → Type 0
@@ -45,18 +37,20 @@ IsServedCall g v who now call before outcome after =
 abbrev pub IsEioOnceGivenUp : TreeOutcome → List Mark → Type 0
 IsEioOnceGivenUp outcome seen = (outcome ≡ Reply (Refused EIO)) ↔ ((outcome ≢ Cut) × (gave_up seen ≡ true))
 
--- The server may be called, and is for the service's volume; its link runs on the service's drivers under the service's policy. Whichever tree
--- the volume held as it was handed in, the server stands on it with the record that the link keeps, which is legal where its replies
--- were true; and in that record a call was answered since the device was given up, if it was.
-pub record IsHeld {N L : Type 0} (room : RoomWords N) (link : LinkWords L) (runs_on : L → Policy → List DriverState → Type 0) (marks : L → List Mark)
-    (s : Server L) : Type 0 where
-  pub ready : IsReady link s
-  pub geometry : s.geometry ≡ room.geometry
-  pub drivers : runs_on (line_of s) room.policy room.supply
+-- The server may be called, knows each call, and is for the service's volume; it has ended where its link has, which runs on the service's
+-- drivers under the service's policy. Whichever tree the volume held as it was handed in, the server stands on it with the record that the
+-- link keeps, which is legal where its replies were true; and in that record a call was answered since the device was given up, if it was.
+pub record IsHeld {N S L : Type 0} (room : RoomWords N) (link : LinkWords L) (serving : S → Serving) (line : S → L) (is_ready : S → Type 0)
+    (knows : Call → Type 0) (runs_on : L → Policy → List DriverState → Type 0) (marks : L → List Mark) (s : S) : Type 0 where
+  pub ready : is_ready s
+  pub knows_each : (call : Call) → knows call
+  pub geometry : (serving s).geometry ≡ room.geometry
+  pub ends : (serving s).ended ≡ took_end (link.history (line s))
+  pub drivers : runs_on (line s) room.policy room.supply
   pub stands : (tree : Tree) → IsAtFirst room.geometry (contents_at room.opening) tree
-      → Stands (serving link s) (link.truth (line_of s)) room.opening tree (marks (line_of s))
-  pub answered : (tree : Tree) → IsAtFirst room.geometry (contents_at room.opening) tree → gave_up (marks (line_of s)) ≡ true
-      → went_on (marks (line_of s)) ≡ true
+      → Stands (serving s) (link.truth (line s)) room.opening tree (marks (line s))
+  pub answered : (tree : Tree) → IsAtFirst room.geometry (contents_at room.opening) tree → gave_up (marks (line s)) ≡ true
+      → went_on (marks (line s)) ≡ true
 
 -- a record is well formed, and a call was answered since the device was given up, if it was
 pub record IsSound (marks : List Mark) : Type 0 where

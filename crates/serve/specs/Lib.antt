@@ -1,7 +1,6 @@
 pub mod Refusals
 pub mod Counts
-pub mod Under
+pub mod Descriptors
 pub mod Held
+pub mod Stopping
 pub mod Recorder
-pub mod Ran
-pub mod Laws

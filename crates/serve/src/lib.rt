@@ -2,11 +2,11 @@
 #![tactic(auto)]
 
 pub mod gate;
-pub mod laws;
+mod left_open;
 mod locked;
 pub mod noting;
 pub mod refusal;
 pub mod service;
 pub mod session;
 mod sharing;
-pub mod start;
+pub mod stopping;

@@ -1,22 +1,23 @@
 //! A service: a server that several sessions share.
 
-ghost use Rattle.std.specs.Prelude.{◌≡◌, ◌≤◌, ◌^◌, [], false, IfErr, IfOk};
+ghost use Rattle.std.specs.Prelude.{◌≡◌, IfErr, IfOk};
 ghost use Rattle.std.specs.Arc.{arc_value};
-ghost use Rattle.layout.specs.Places.{IsGeometry};
-ghost use Rattle.marks.specs.Told.{took_end};
 ghost use Rattle.marks.specs.Opening.{contents_at};
 ghost use Rattle.tree.specs.Tree.{Tree};
 ghost use Rattle.legal.specs.Legal.{IsAtFirst};
-ghost use Rattle.serve.specs.Held.{IsAdmitted, IsGood, IsGuaranteed, IsNotAdmitted};
+ghost use Rattle.serve.specs.Stopping.{IsSyncedImage};
+ghost use Rattle.serve.specs.Held.{IsAdmitted, IsGood, IsGuaranteed, IsHeld, IsNotAdmitted};
 
+use crate::left_open::LeftOpen;
 use crate::locked::Locked;
 use crate::refusal::SessionRefusal;
 use crate::session::Session;
+use crate::stopping::{StopRefusal, Stopped};
 use board::Board;
+use file_server::FileServer;
 use keeping::recorder::Recorder;
 use keeping::room::Room;
-use layout::Geometry;
-use reader::Server;
+use keeping::steady::OnMedia;
 use std::alloc::{AllocError, Global};
 use std::marker::PhantomData;
 use std::sync::{Arc, Mutex, Wait};
@@ -24,9 +25,9 @@ use tree::Who;
 
 /// What the sessions of a service share: the server under its lock, and the handle by which they wait for it.
 #[derive(Drop)]
-pub struct Shared<N: Room, R: Wait + Copy, L: Recorder<N>> {
+pub struct Shared<N: Room, R: Wait + Copy, L: Recorder<N>, S: FileServer<L>> {
     pub(crate) rt: R,
-    pub(crate) server: Mutex<Locked<N, L>>,
+    pub(crate) server: Mutex<Locked<N, L, S>>,
 }
 
 /// A service. Its sessions may outlive it.
@@ -38,28 +39,18 @@ pub struct Service<N: Room, S> {
     ghost named: { arc_value board ≡ N.table },
 }
 
-impl<N: Room, R: Wait + Copy, L: Recorder<N>> Service<N, Shared<N, R, L>> {
-    /// A service for its volume in a range of the media, over a link that has told nothing yet, keeps an empty record on the service's
-    /// board, and runs on the service's drivers under its policy. The link gives at most 2^58 messages. Where no memory was found, the link
-    /// is let go.
+impl<N: Room, R: Wait + Copy, L: Recorder<N>, S: FileServer<L>> Service<N, Shared<N, R, L, S>> {
+    /// A service of this server, which stands with what its link keeps as the record on the service's board. Where no memory was found, the
+    /// server is let go.
     pub fn over(
         alloc: Global,
         rt: R,
         board: Arc<Board>,
-        link: L,
-        minor: u8,
-        geometry: Geometry,
-    ) -> Result<Service<N, Shared<N, R, L>>, AllocError>
+        server: S,
+    ) -> Result<Service<N, Shared<N, R, L, S>>, AllocError>
         requires board { arc_value board ≡ N.table }
-        requires marks { L.marks link ≡ [] }
-        requires geometry { IsGeometry geometry × (geometry ≡ N.geometry) }
-        requires minor { minor ≡ N.opening.minor }
-        requires live { took_end (L.history link) ≡ false }
-        requires budget { L.budget_left link ≤ 2 ^ 58 }
-        requires truth { L.truth link N.opening [] }
-        requires drivers { L.runs_on link N.policy N.supply }
+        requires held { IsHeld N.Room L.Link S.Serve.serving S.line S.is_ready S.knows L.runs_on L.marks server }
     {
-        let server = Server::open(alloc, link, minor, geometry)?;
         let shared = Arc::new(
             alloc,
             Shared {
@@ -79,7 +70,11 @@ impl<N: Room, R: Wait + Copy, L: Recorder<N>> Service<N, Shared<N, R, L>> {
     ///
     /// It is refused: 1 TooMany where there are 64 sessions, 2 Stopped where the link to the drivers has ended, 3 OutOfMemory, which
     /// may come whatever else holds.
-    pub fn session(&self, uid: u16, gid: u16) -> Result<Session<N, Shared<N, R, L>>, SessionRefusal>
+    pub fn session(
+        &self,
+        uid: u16,
+        gid: u16,
+    ) -> Result<Session<N, Shared<N, R, L, S>>, SessionRefusal>
         ensures made { IfOk result (λ s. IsAdmitted L.runs_on L.marks L.numbers N.policy N.supply uid gid s) }
         ensures refused { IfErr result (IsNotAdmitted L.Link L.numbers) }
         ensures guaranteed { (tree : Tree) → IsAtFirst N.geometry (contents_at N.opening) tree
@@ -95,8 +90,37 @@ impl<N: Room, R: Wait + Copy, L: Recorder<N>> Service<N, Shared<N, R, L>> {
             seat,
             who: Who { session, uid, gid },
             seen,
+            left_open: LeftOpen::new(),
             shared,
             of: PhantomData,
         })
+    }
+}
+
+impl<N: Room, R: Wait + Copy, L: Recorder<N> + OnMedia, S: FileServer<L>> Service<
+    N,
+    Shared<N, R, L, S>,
+> {
+    /// Stops the service: a last sync is made, and the media are given back as an image. Where the volume held a tree, that image has the
+    /// tree after the calls of all sessions on it.
+    ///
+    /// It is refused: 1 SessionsLeft, where some session neither ended nor was let go, which hands the service back; 3 OutOfMemory, where none
+    /// was found for the image, which hands back what is left; 2 GivenUp and 4 LinkEnded, where the last sync wasn't made, with the image as
+    /// the media stand. The first of these that holds is answered.
+    pub fn stop(
+        self,
+        alloc: Global,
+    ) -> Result<Vec<u8>, StopRefusal<Service<N, Shared<N, R, L, S>>, Stopped<L, S>>>
+        ensures synced { (tree : Tree) → IsAtFirst N.geometry (contents_at N.opening) tree
+            → IfOk result (λ image. IsSyncedImage N.geometry N.opening tree L.truth L.lies_on image.items) }
+    {
+        let Service { board, shared, of } = self;
+        match Arc::try_unwrap(shared) {
+            Ok(shared) => {
+                let Shared { rt: _, server } = shared;
+                server.into_inner().stop(alloc)
+            }
+            Err(shared) => Err(StopRefusal::SessionsLeft(Service { board, shared, of })),
+        }
     }
 }

@@ -1,22 +1,26 @@
 //! Sessions of a service.
 
-ghost use Rattle.std.specs.Prelude.{◌≡◌, ◌<◌, ◌^◌};
+ghost use Rattle.std.specs.Prelude.{◌≡◌, ◌<◌, ◌≤◌, ◌^◌};
+ghost use Rattle.std.specs.Bool.{OnTrue, OnFalse};
 ghost use Rattle.tree.specs.Tree.{Tree};
-ghost use Rattle.marks.specs.Marks.{counted};
+ghost use Rattle.marks.specs.Marks.{counted, IsBeginning};
 ghost use Rattle.marks.specs.Opening.{contents_at};
 ghost use Rattle.legal.specs.Legal.{IsAtFirst};
 ghost use Rattle.legal.specs.Session.{caller_of, SessionCallKeeps, DeviceKeeps, MeetKeeps};
 ghost use Rattle.board.specs.Words.{is_given_up};
-ghost use Rattle.serve.specs.Held.{IsEioOnceGivenUp, IsGuaranteed, IsRootStat, IsSound};
-ghost use Rattle.reader.specs.Server.{outcome_of};
+ghost use Rattle.file_server.specs.Over.{outcome_of};
+ghost use Rattle.serve.specs.Descriptors.{ClosesBelow, ClosesOne};
+ghost use Rattle.serve.specs.Held.{IsEioOnceGivenUp, IsGuaranteed, IsSound};
 
+use crate::left_open::{LeftOpen, is_cut};
 use crate::service::Shared;
 use board::{Board, Device, Seat};
+use file_server::FileServer;
 use keeping::recorder::Recorder;
 use keeping::room::Room;
 use std::marker::{Model, PhantomData};
 use std::sync::{Arc, Wait};
-use tree::{Call, Outcome, Who};
+use tree::{Call, MAX_DESCRIPTORS, Outcome, Who};
 
 /// One client of a service: a user and a group, and what it has seen of the service's record. A session may move to another thread.
 ///
@@ -29,6 +33,8 @@ pub struct Session<N: Room, S> {
     pub(crate) who: Who,
     // How many counted marks it has seen, while they are fewer than 2^64.
     pub(crate) seen: u64,
+    // The descriptors that its calls left open.
+    pub(crate) left_open: LeftOpen,
     pub(crate) shared: Arc<S>,
     pub(crate) of: PhantomData<N>,
 }
@@ -39,13 +45,14 @@ impl<N: Room, S> Model for Session<N, S> {
     ghost use Rattle.std.specs.Arc.{arc_value};
     ghost use Rattle.legal.specs.Session.{SessionState};
     ghost use Rattle.board.specs.View.{session_for};
+    ghost use Rattle.serve.specs.Descriptors.{AreLeftOpen};
 
     ghost Value = { SessionState };
 
     ghost view = { λ s. session_for s.who.uid s.who.gid s.who.session s.seat.view };
 
     ghost invariant = { λ s. (arc_value s.board ≡ N.table) × (s.seat.table ≡ N.table) × (s.seat.view.number ≡ Some s.who.session)
-        × (s.who.session < 64) × Counts s.seen s.seat.view.seen };
+        × (s.who.session < 64) × Counts s.seen s.seat.view.seen × AreLeftOpen s.left_open s.seat.view.mine };
 }
 
 impl<N: Room, S> Session<N, S> {
@@ -86,12 +93,10 @@ impl<N: Room, S> Session<N, S> {
     }
 }
 
-impl<N: Room, R: Wait + Copy, L: Recorder<N>> Session<N, Shared<N, R, L>> {
-    /// Makes a call of the session's user and group: a `stat /`, the one call that there is so far. It may wait for the calls of other
-    /// sessions. The session has then seen the record up to this call: an answer is its last mark; a cut, which comes once the link to
-    /// the drivers has ended, leaves none.
+impl<N: Room, R: Wait + Copy, L: Recorder<N>, S: FileServer<L>> Session<N, Shared<N, R, L, S>> {
+    /// Makes a call of the session's user and group. It may wait for the calls of other sessions. The session has then seen the record up to
+    /// this call: an answer is its last mark; a cut, which comes once the link to the drivers has ended, leaves none.
     pub fn call(&mut self, now: u32, call: &Call<'_>) -> Outcome
-        requires root { IsRootStat call.now }
         ensures keeps { SessionCallKeeps N.geometry (contents_at N.opening) self.old (caller_of self.old) now
             call.now (outcome_of result) self.new }
         ensures sound { (tree : Tree) → IsAtFirst N.geometry (contents_at N.opening) tree → IsSound self.new.knows.seen }
@@ -100,25 +105,57 @@ impl<N: Room, R: Wait + Copy, L: Recorder<N>> Session<N, Shared<N, R, L>> {
         ensures eio { (tree : Tree) → IsAtFirst N.geometry (contents_at N.opening) tree
             → IsEioOnceGivenUp result self.new.knows.seen }
     {
-        let Call::Stat { .. } = call else {
-            unreachable!()
-        };
         let shared = &*self.shared;
         let (outcome, seen) = shared
             .server
             .lock(&shared.rt)
-            .stat_root(&mut self.seat, self.who, now, call);
+            .call(&mut self.seat, self.who, now, call);
         self.seen = seen;
+        self.left_open.note(call, &outcome);
         outcome
     }
 
-    /// Ends the session: its number is free again. It may wait for the calls of other sessions.
-    pub fn end(self) {
+    /// Closes a descriptor at the time 0, if the session's calls left it open. Whether that wasn't cut.
+    fn close(&mut self, fd: u32) -> bool
+        requires { fd < 32 }
+        ensures caller { caller_of self.new ≡ caller_of self.old }
+        ensures seen { IsBeginning self.old.knows.seen self.new.knows.seen }
+        ensures closed { OnTrue result (ClosesOne fd (caller_of self.old) self.old.knows.mine self.new.knows.mine) }
+        ensures cut { OnFalse result (self.new.knows.mine ≡ self.old.knows.mine) }
+    {
+        if !self.left_open.has(fd) {
+            return true;
+        }
+        let outcome = self.call(0, &Call::Close { fd });
+        !is_cut(&outcome)
+    }
+
+    /// Closes each descriptor that the session's calls left open, the lowest first, each by a call at the time 0, until one is cut. How many
+    /// descriptors it went through: all 32 where none was cut.
+    pub fn close_all(&mut self) -> u32
+        ensures bound { result ≤ 32 }
+        ensures caller { caller_of self.new ≡ caller_of self.old }
+        ensures seen { IsBeginning self.old.knows.seen self.new.knows.seen }
+        ensures closed { ClosesBelow result (caller_of self.old) self.old.knows.mine self.new.knows.mine }
+    {
+        for fd in 0..MAX_DESCRIPTORS {
+            if !self.close(fd) {
+                return fd;
+            }
+        }
+        MAX_DESCRIPTORS
+    }
+
+    /// Ends the session: closes each descriptor that its calls left open, as `close_all` does; then its number is free again. It may wait for
+    /// the calls of other sessions.
+    pub fn end(mut self) {
+        self.close_all();
         let Session {
             board: _,
             seat,
             who,
             seen: _,
+            left_open: _,
             shared,
             of: _,
         } = self;

@@ -1,5 +1,7 @@
 //! Sessions of one service: their replies, their numbers, and what they have seen.
-ghost use Rattle.std.specs.Prelude.{◌≡◌, All, map};
+ghost use Rattle.std.specs.Prelude.{◌≡◌, ◌≤◌, ◌^◌, [], true, All, map};
+ghost use Rattle.std.specs.Arc.{arc_value};
+ghost use Rattle.legal.specs.Mount.{is_frame_count};
 ghost use Rattle.layout.specs.Places.{IsGeometry};
 ghost use Rattle.true_replies.specs.Events.{IsOnMedia, opening_media};
 ghost use Rattle.inline.specs.Inline.{IsReady};
@@ -7,20 +9,26 @@ ghost use Rattle.board.specs.View.{IsKeeper, opener};
 ghost use Rattle.startup.specs.Starting.{opening_of, IsStartable};
 
 use board::{Board, Device, Seat};
+use driven::Driven;
+use file_server::FileServer;
 use inline::local::LocalDriver;
 use keeping::recorder::Recorder;
 use keeping::room::Room;
+use keeping::steady::OnMedia;
+use launch::opened::over;
+use launch::start::{Program, drivers_on, serve};
+use layout::Geometry;
 use modeldisk::{FaultKind, ScriptedDriver};
 use policy::Setup;
 use reissue::link::TrueLink;
 use samples::{ROOT, new_volume, supply_of, whole};
 use serve::gate::Open;
+use serve::noting::Noting;
 use serve::refusal::SessionRefusal;
 use serve::service::{Service, Shared};
 use serve::session::Session;
-use serve::start::{Program, serve, start};
 use startup::{Prepared, prepare};
-use std::alloc::Global;
+use std::alloc::{AllocError, Global};
 use std::marker::Brand;
 use std::process::Abort;
 use std::sync::{Arc, Wait};
@@ -49,9 +57,9 @@ impl<R: Wait + Copy> Program<R> for InTurn {
 
     ghost gives = { λ program geometry opening output. Unit {0} };
 
-    fn run<N: Room, L: Recorder<N> + TrueLink>(
+    fn run<N: Room, L: Recorder<N> + TrueLink + OnMedia, S: FileServer<L>>(
         self,
-        service: &Service<N, Shared<N, R, L>>,
+        service: Service<N, Shared<N, R, L, S>>,
     ) -> Option<Got>
         ensures { Unit {0} }
     {
@@ -111,7 +119,7 @@ fn has_seen(rt: &impl Abort, got: &Got, device: Device, apart: (u64, u64), seen:
     assert_eq!(rt; got.seen, (seen, seen));
 }
 
-/// A start, and an answer and a call's mark for each of six calls.
+/// A start, the answer to the first call's read of the root's inode, and six calls' marks.
 #[test]
 fn two_sessions_call_in_turn(rt: HostRuntime) -> Result<(), Fail> {
     let alloc = rt.alloc();
@@ -128,7 +136,7 @@ fn two_sessions_call_in_turn(rt: HostRuntime) -> Result<(), Fail> {
     ) else {
         panic!(rt; "not served");
     };
-    has_seen(&rt, &got, Device::Live, (11, 13), 13);
+    has_seen(&rt, &got, Device::Live, (7, 8), 8);
     are_told(&rt, alloc, got.outcomes.as_slice(), 6, ROOT)
 }
 
@@ -164,13 +172,13 @@ impl<R: Wait + Copy> Program<R> for Many {
 
     ghost gives = { λ program geometry opening output. Unit {0} };
 
-    fn run<N: Room, L: Recorder<N> + TrueLink>(
+    fn run<N: Room, L: Recorder<N> + TrueLink + OnMedia, S: FileServer<L>>(
         self,
-        service: &Service<N, Shared<N, R, L>>,
+        service: Service<N, Shared<N, R, L, S>>,
     ) -> Option<(usize, Option<SessionRefusal>, Option<SessionRefusal>)>
         ensures { Unit {0} }
     {
-        let mut sessions: Vec<Session<N, Shared<N, R, L>>> = Vec::new(self.alloc);
+        let mut sessions: Vec<Session<N, Shared<N, R, L, S>>> = Vec::new(self.alloc);
         for _ in 0..64 {
             sessions.push(service.session(0, 0).ok()?).ok()?;
         }
@@ -215,9 +223,9 @@ fn a_number_is_free_again(rt: HostRuntime) -> Result<(), Fail> {
 }
 
 /// Three calls, one after the other.
-fn three_calls<N: Room, R: Wait + Copy, L: Recorder<N> + TrueLink>(
+fn three_calls<N: Room, R: Wait + Copy, L: Recorder<N> + TrueLink, S: FileServer<L>>(
     alloc: Global,
-    mut session: Session<N, Shared<N, R, L>>,
+    mut session: Session<N, Shared<N, R, L, S>>,
 ) -> Option<Vec<Outcome>> {
     let mut outcomes = Vec::new(alloc);
     for now in [100, 101, 102] {
@@ -234,10 +242,11 @@ fn in_threads<
     N: Room + Send + Sync,
     R: Threads + Wait + Copy + Send + Sync,
     L: Recorder<N> + TrueLink + Send,
+    S: FileServer<L> + Send,
 >(
     alloc: Global,
     rt: R,
-    service: &Service<N, Shared<N, R, L>>,
+    service: &Service<N, Shared<N, R, L, S>>,
 ) -> Option<(Vec<Outcome>, Vec<Outcome>)> {
     let one = service.session(0, 0).ok()?;
     let two = service.session(7, 8).ok()?;
@@ -247,6 +256,34 @@ fn in_threads<
         move || three_calls(alloc, two),
     );
     Some((first?, second?))
+}
+
+/// The same, over a service on a link.
+fn over_threads<
+    N: Room + Send + Sync,
+    R: Threads + Wait + Copy + Send + Sync,
+    L: Recorder<N> + TrueLink + Send,
+>(
+    alloc: Global,
+    rt: R,
+    board: Arc<Board>,
+    link: L,
+    minor: u8,
+    geometry: Geometry,
+    frames: u32,
+) -> Result<Option<(Vec<Outcome>, Vec<Outcome>)>, AllocError>
+    requires board { arc_value board ≡ N.table }
+    requires marks { L.marks link ≡ [] }
+    requires told { L.Link.history link ≡ [] }
+    requires geometry { IsGeometry geometry × (geometry ≡ N.geometry) }
+    requires minor { minor ≡ N.opening.minor }
+    requires frames { is_frame_count frames ≡ true }
+    requires budget { L.Link.budget_left link ≤ 2 ^ 58 }
+    requires truth { L.Link.truth link N.opening [] }
+    requires drivers { L.runs_on link N.policy N.supply }
+{
+    let service = over(alloc, rt, board, link, minor, geometry, frames)?;
+    Ok(in_threads(alloc, rt, &service))
 }
 
 /// The same, over a service that is started on drivers.
@@ -259,7 +296,7 @@ fn on_threads<N: Room + Send + Sync, R: Threads + Wait + Copy + Send + Sync, D: 
     image: &[u8],
     setup: &Setup,
     supply: Vec<D>,
-) -> Option<(Vec<Outcome>, Vec<Outcome>)>
+) -> Result<Option<(Vec<Outcome>, Vec<Outcome>)>, AllocError>
     requires board { board ≡ N.table }
     requires seat { IsKeeper N.table seat × (seat.view ≡ opener) }
     requires opening { N.opening ≡ opening_of image.now setup.now.minor prepared.range }
@@ -272,11 +309,23 @@ fn on_threads<N: Room + Send + Sync, R: Threads + Wait + Copy + Send + Sync, D: 
     requires geometry { IsGeometry prepared.geometry }
     requires ready { All (IsReady (opening_of image.now setup.now.minor prepared.range)) (map D.state supply.items) }
 {
-    let gate = Arc::new(alloc, Open).ok()?;
-    let service = start::<N, R, D, Open>(
-        alloc, rt, board, seat, prepared, setup, supply, gate,
-    ).ok()?;
-    in_threads(alloc, rt, &service)
+    let Prepared {
+        media,
+        geometry,
+        ..
+    } = prepared;
+    let link = drivers_on(alloc, media, setup.policy, supply)?;
+    let board = Arc::new(alloc, board)?;
+    let noting = Noting::<N, Driven<D>>::new(alloc, link, Arc::try_clone(&board)?, seat)?;
+    over_threads(
+        alloc,
+        rt,
+        board,
+        noting,
+        setup.minor,
+        geometry,
+        setup.frames as u32,
+    )
 }
 
 /// The same, over a service on the volume in an image.
@@ -291,7 +340,7 @@ fn called_on_threads<R: Threads + Wait + Copy + Send + Sync, D: LocalDriver + Se
         return None;
     };
     let (board, seat) = Board::new(alloc).ok()?;
-    on_threads::<Brand, R, D>(alloc, rt, board, seat, prepared, image, setup, supply)
+    on_threads::<Brand, R, D>(alloc, rt, board, seat, prepared, image, setup, supply).ok()?
 }
 
 #[test]

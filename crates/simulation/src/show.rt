@@ -79,14 +79,14 @@ fn is_giving_up<M: AsMark>(mark: &M) -> bool
 pub fn show<M: AsMark, W: Write, E: Write>(
     alloc: Global,
     marks: &[M],
-    unanswered: u32,
+    unanswered: u64,
     out: &mut W,
     err: &mut E,
 ) -> Status
     ensures { Shows (transcript_text M.mark marks.now unanswered) (list_any (λ m. is_giving_up (M.mark m)) marks.now) result
         (W.contents out.old) (W.contents out.new) (E.contents err.old) (E.contents err.new) }
 {
-    match write_transcript(alloc, out, marks, u64::from(unanswered)) {
+    match write_transcript(alloc, out, marks, unanswered) {
         Ok(()) if gave_up(marks) => Status::GivenUp,
         Ok(()) => Status::Done,
         Err(refusal) => Status::Refused(tell(alloc, err, &NotShown(refusal))),

@@ -91,7 +91,7 @@ fn has_ranges(setup: &Setup) -> bool
 }
 
 /// Whether the setup fits and there are drivers, all of them ready.
-fn check_setup<D: LocalDriver>(
+pub fn check_setup<D: LocalDriver>(
     setup: &Setup,
     range: (u32, u32),
     supply: &[D],

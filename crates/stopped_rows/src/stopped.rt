@@ -6,11 +6,11 @@ ghost use Rattle.board.specs.View.{IsKeeper, opener};
 use crate::silent::Silent;
 use board::{Board, Seat};
 use keeping::room::Room;
+use launch::opened::over;
 use layout::Geometry;
 use new_volume::mkfs;
 use serve::noting::Noting;
 use serve::refusal::SessionRefusal;
-use serve::service::Service;
 use std::alloc::Global;
 use std::marker::Brand;
 use std::sync::{Arc, Wait};
@@ -39,7 +39,7 @@ fn asked<N: Room, R: Wait + Copy>(
     let Ok(noting) = Noting::<N, Silent>::new(alloc, link, counted, seat) else {
         return None;
     };
-    let service = Service::over(alloc, rt, board, noting, 0, geometry).ok()?;
+    let service = over(alloc, rt, board, noting, 0, geometry, 16).ok()?;
     let mut session = service.session(0, 0).ok()?;
     let outcome = session.call(100, &Call::Stat { path: b"/" });
     let refusal = service.session(0, 0).err();

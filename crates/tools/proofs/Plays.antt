@@ -13,9 +13,9 @@ use Rattle.legal.specs.Legal.{IsAtFirst}
 use Rattle.legal.specs.Session.{SessionState, SessionCallKeeps, IsMadeFor, caller_of, calls_of}
 use Rattle.marks.specs.Disk.{HasTrueReplies}
 use Rattle.reissue.specs.Calls.{Truth}
-use Rattle.serve.specs.Held.{IsGood, IsGuaranteed, IsRootStat}
-use Rattle.reader.specs.Server.{outcome_of}
-use Rattle.tools.specs.Made.{is_eio, calls_made, cuts, some_cut, all_cut, cuts_last, IsSame, Plays, Calls, IsAnswered}
+use Rattle.file_server.specs.Over.{outcome_of}
+use Rattle.serve.specs.Held.{IsGood, IsGuaranteed}
+use Rattle.tools.specs.Made.{is_eio, calls_made, cuts, some_cut, all_cut, cuts_last, IsSame, Plays, Calls, IsAnswered, IsRootStat}
 
 -- one call more
 calls_made-more : (who : Who) (call : Call) (times : List ℕ) (outcomes : List Outcome) (now : ℕ) (outcome : Outcome) (older : List Mark)

@@ -1,9 +1,11 @@
 -- The calls of a script in one session, and the record of them.
-use Rattle.std.specs.Prelude.{◌≡◌, ℕ, ◌<◌, List, [], ◌∷◌, Bool, true, false, length}
+use Rattle.std.specs.Prelude.{◌≡◌, ℕ, ◌<◌, List, [], ◌∷◌, Bool, true, false, length, codes}
+use Rattle.std.specs.Borrow.{Bor}
 use Rattle.std.specs.List.{list_any}
 use Rattle.layout.specs.declared.Geometry.{Geometry}
 use Rattle.tree.specs.declared.Who.{Who}
 use Rattle.tree.specs.declared.Call.{Call}
+use Rattle.tree.specs.declared.Call.TheVariants.{Stat}
 use Rattle.tree.specs.declared.Outcome.{Outcome}
 use Rattle.tree.specs.declared.Outcome.TheVariants.{Reply, Cut}
 use Rattle.tree.specs.declared.Reply.TheVariants.{Refused}
@@ -16,8 +18,12 @@ use Rattle.marks.specs.Opening.{Opening, contents_at}
 use Rattle.legal.specs.Legal.{IsAtFirst}
 use Rattle.legal.specs.Session.{SessionState, SessionCallKeeps, caller_of, calls_of}
 use Rattle.reissue.specs.Calls.{Truth}
-use Rattle.serve.specs.Held.{IsGood, IsGuaranteed, IsRootStat, IsSound}
-use Rattle.reader.specs.Server.{outcome_of}
+use Rattle.file_server.specs.Over.{outcome_of}
+use Rattle.serve.specs.Held.{IsGood, IsGuaranteed, IsSound}
+
+-- it is a `stat /`
+abbrev pub IsRootStat : Call → Type 0
+IsRootStat call = (path : Bor (List ℕ)) × (call ≡ Stat path) × (path.now ≡ codes "/")
 
 -- the marks of this call at each of these times, onto older ones, the newest first; a call that was cut has none
 abbrev pub calls_made : Who → Call → List ℕ → List Outcome → List Mark → List Mark

@@ -2,18 +2,19 @@
 
 ghost use Rattle.std.specs.Prelude.{◌≡◌, IfOk};
 ghost use Rattle.std.specs.List.{list_any};
-ghost use Rattle.serve.specs.Held.{IsRootStat};
-ghost use Rattle.tools.specs.Made.{is_eio, cuts, Calls, Plays, IsAnswered};
+ghost use Rattle.tools.specs.Made.{IsRootStat, is_eio, cuts, Calls, Plays, IsAnswered};
 
 use crate::script::Script;
 use errno::Errno;
+use file_server::FileServer;
 use keeping::recorder::Recorder;
 use keeping::room::Room;
+use keeping::steady::OnMedia;
+use launch::start::Program;
 use reissue::link::TrueLink;
 use serve::refusal::SessionRefusal;
 use serve::service::{Service, Shared};
 use serve::session::Session;
-use serve::start::Program;
 use std::alloc::{AllocError, Global};
 use std::sync::Wait;
 use tree::{Call, Outcome, Reply};
@@ -40,9 +41,9 @@ impl<R: Wait + Copy> Program<R> for Player {
     ghost gives = { λ player g v result. IfOk result (λ played.
         IsAnswered g v (player.script.uid, player.script.gid, player.script.times.items) played.number played.outcomes.items played.given_up) };
 
-    fn run<N: Room, L: Recorder<N> + TrueLink>(
+    fn run<N: Room, L: Recorder<N> + TrueLink + OnMedia, S: FileServer<L>>(
         self,
-        service: &Service<N, Shared<N, R, L>>,
+        service: Service<N, Shared<N, R, L, S>>,
     ) -> Result<Played, SessionRefusal>
         ensures { IfOk result (λ played.
             IsAnswered N.geometry N.opening (self.script.uid, self.script.gid, self.script.times.items) played.number played.outcomes.items
@@ -68,9 +69,9 @@ impl<R: Wait + Copy> Program<R> for Player {
 }
 
 /// Makes a `stat /` in a session at each of these times, one after the other; from the first that is cut on all are. Without memory for the outcomes none is made.
-pub fn make_calls<N: Room, R: Wait + Copy, L: Recorder<N>>(
+pub fn make_calls<N: Room, R: Wait + Copy, L: Recorder<N>, S: FileServer<L>>(
     alloc: Global,
-    session: &mut Session<N, Shared<N, R, L>>,
+    session: &mut Session<N, Shared<N, R, L, S>>,
     root: &Call,
     times: &[u32],
 ) -> Result<Vec<Outcome>, AllocError>
@@ -88,9 +89,9 @@ pub fn make_calls<N: Room, R: Wait + Copy, L: Recorder<N>>(
 }
 
 /// A call, unless an earlier one was cut.
-fn call_unless<N: Room, R: Wait + Copy, L: Recorder<N>>(
+fn call_unless<N: Room, R: Wait + Copy, L: Recorder<N>, S: FileServer<L>>(
     cut: bool,
-    session: &mut Session<N, Shared<N, R, L>>,
+    session: &mut Session<N, Shared<N, R, L, S>>,
     now: u32,
     root: &Call,
 ) -> Outcome

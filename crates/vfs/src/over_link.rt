@@ -1,6 +1,5 @@
-//! The server over a link, as a file server of all calls that have a body.
+//! The server over a link, as a file server of all calls.
 
-ghost use Rattle.call_bodies.specs.Given.{IsGiven};
 ghost use Rattle.vfs.specs.OverLink.{IsReadyOver, line_of as link_there, with_line as with_link_there};
 
 use crate::server::Server;
@@ -14,7 +13,7 @@ impl<L: Link + Drop> FileServer<L> for Server<Stored<L>> {
     ghost use Rattle.std.specs.Prelude.{refl};
     ghost use Rattle.vfs.specs.LineLaws.{stays_by, ready_by};
 
-    ghost knows = { IsGiven };
+    ghost knows = { λ call. Unit {0} };
 
     ghost line = { link_there };
 
@@ -43,6 +42,8 @@ impl<L: Link + Drop> FileServer<L> for Server<Stored<L>> {
     ghost is_there = { λ s l. refl };
 
     ghost counts_on = { λ s l. refl };
+
+    ghost tells = { λ s. refl };
 
     ghost stays = { stays_by L.Link.own };
 

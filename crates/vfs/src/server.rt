@@ -39,7 +39,6 @@ fn stop(cut: Cut) -> Outcome
 }
 
 impl<B: Caches> Server<B> {
-    ghost use Rattle.call_bodies.specs.Given.{IsGiven};
     ghost use Rattle.stored.specs.Cached.{MayAbsorb};
     ghost use Rattle.file_server.specs.Over.{outcome_of};
     ghost use Rattle.vfs.specs.Outcomes.{OnAnswered};
@@ -49,7 +48,6 @@ impl<B: Caches> Server<B> {
     /// Flush is left undone where the call is answered otherwise.
     pub fn call(&mut self, who: Who, now: u32, call: &Call) -> Outcome
         requires may { IsOpen B.caching self.old }
-        requires given { IsGiven call.now }
         ensures may { IsOpen B.caching self.new }
         ensures calls { Answers B.caching B.frame_count self.old self.new who now call.now (outcome_of result) }
         ensures goes { B.goes_on self.old.blocks self.new.blocks }

@@ -1,4 +1,1 @@
-pub mod Standing
-pub mod Turning
-pub mod Ending
-pub mod Starting
+pub mod Showing

@@ -1,3 +1,2 @@
-pub mod Runs
-pub mod Ends
-pub mod Starts
+pub mod Shown
+pub mod Plays

@@ -1,9 +1,9 @@
-//! A file server over drivers that a schedule moves: events are played and calls answered, until the schedule's end.
+//! A run of a schedule: an image is checked, a file server is opened on it, drivers are started, and the schedule moves them all.
 #![tactic(auto)]
 
-pub mod course;
-pub mod link;
-pub mod run;
-pub mod turns;
+pub mod run_transcript;
+pub mod world_run;
 
-pub use link::{Played, WorldLink};
+pub use run_start::RunRefusal;
+pub use run_transcript::Transcript;
+pub use world_run::World;

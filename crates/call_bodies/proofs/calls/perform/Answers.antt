@@ -2,10 +2,10 @@ use Rattle.std.proofs.Common.{◌≡◌, ap, sym, refl, Ok, w64, to_z, of_z, rul
 use mir.Val.{SFits}
 use Rattle.std.proofs.lemmas.Int.{to_z-of_z}
 use Rattle.tree.specs.declared.User.{User}
-use Rattle.tree.specs.declared.Call.TheVariants.{Mkdir, Link, Truncate, Write, Close, Unlink, Rmdir, Dup, Read, Seek, Stat, Fstat, Chmod, Chown, Utime, Readdir, Sync, Statfs}
+use Rattle.tree.specs.declared.Call.TheVariants.{Open, Rename, Mkdir, Link, Truncate, Write, Close, Unlink, Rmdir, Dup, Read, Seek, Stat, Fstat, Chmod, Chown, Utime, Readdir, Sync, Statfs}
 use Rattle.tree.specs.NodeCalls.{truncate, stat, chmod, chown, utime, statfs}
-use Rattle.tree.specs.FileCalls.{write, close, dup, read, seek, fstat, readdir}
-use Rattle.tree.specs.NameCalls.{mkdir, link, unlink, rmdir}
+use Rattle.tree.specs.FileCalls.{open_path, write, close, dup, read, seek, fstat, readdir}
+use Rattle.tree.specs.NameCalls.{mkdir, rename, link, unlink, rmdir}
 use Rattle.tree.specs.Answers.{done}
 use Rattle.descriptors.specs.Table.{files_of}
 use Rattle.store.proofs.Turns.{turns_none, turns_as}
@@ -145,3 +145,20 @@ returns-in-Mkdir-clause-turns g c =
     turns_as _ _ _ _ _ (λ d e x. kind_meets a.geometry.now a.who a.now (Mkdir w.path w.mode) early (λ t. mkdir a.geometry.now t c.user_of-user.result a.now w.path.now w.mode)
     (λ t. ap (λ (u : User). mkdir a.geometry.now t u a.now w.path.now w.mode) (sym c.user_of-user.ensures)) a.call.now w.is c.mkdir.result f f d e (x f))
     c.mkdir.ensures.turns
+
+pub returns-in-Open-clause-turns : goal.returns-in-Open-clause-turns
+returns-in-Open-clause-turns g c =
+    let a = c.args in let f = files_of a.opens.now in let w = c.in-Open in let early = c.if-who-ge-MAX_SESSIONS.false in
+    turns_as _ _ _ _ _ (λ d e x. kind_meets a.geometry.now a.who a.now (Open w.path w.flags w.mode) early
+    (λ t. open_path a.geometry.now t c.user_of-user.result a.now a.who.session w.path.now w.flags.0 w.mode)
+    (λ t. ap (λ (u : User). open_path a.geometry.now t u a.now a.who.session w.path.now w.flags.0 w.mode) (sym c.user_of-user.ensures)) a.call.now w.is c.open.result f
+    (files_of c.open.new.opens) d e x)
+    c.open.ensures.turns
+
+pub returns-in-Rename-clause-turns : goal.returns-in-Rename-clause-turns
+returns-in-Rename-clause-turns g c =
+    let a = c.args in let f = files_of a.opens.now in let w = c.in-Rename in let early = c.if-who-ge-MAX_SESSIONS.false in
+    turns_as _ _ _ _ _ (λ d e x. kind_meets a.geometry.now a.who a.now (Rename w.old w.new) early
+    (λ t. rename a.geometry.now t c.user_of-user.result a.now w.old.now w.new.now)
+    (λ t. ap (λ (u : User). rename a.geometry.now t u a.now w.old.now w.new.now) (sym c.user_of-user.ensures)) a.call.now w.is c.rename.result f f d e x)
+    c.rename.ensures.turns

@@ -1,5 +1,6 @@
-use Rattle.std.proofs.Common.{List, ◌∷◌, ◌∙◌, ap}
+use Rattle.std.proofs.Common.{List, ◌∷◌, ◌∙◌, ap, subst, sym}
 use Rattle.marks.specs.Marks.{Mark, Issued}
+use Rattle.file_server.specs.Leaving.{IsEndLast}
 use Rattle.keeping.specs.Keeper.{begins_before}
 use Rattle.keeping.proofs.HeardLaws.{where_ok}
 use Rattle.serve.proofs.noting.NotingLink.post.Goals as goal
@@ -11,6 +12,7 @@ returns-then-is_ok-clause-accepted g c = λ v marks truth.
       posts may fits,
       c.issue.ensures.record_is ∙ ap (λ (ms : List Mark). Issued c.args.request.now c.args.to ∷ ms) truth.1,
       c.issued.ensures marks c.args.to may truth.2,
+      subst IsEndLast (sym c.post-posted.ensures.told) truth.3,
     ))
     (c.post-posted.ensures.accepted v marks truth.0)
 

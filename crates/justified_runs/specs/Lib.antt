@@ -1,0 +1,5 @@
+pub mod Said
+pub mod RunLaws
+pub mod Complaining
+pub mod Owing
+pub mod Ordered

@@ -1,0 +1,34 @@
+-- What is said of a run between two of its steps.
+use Rattle.std.specs.Prelude.{◌≡◌, ℕ, List, [], ◌∷◌, true, false, None}
+use Rattle.policy.specs.Watch.{driver}
+use Rattle.marks.specs.Marks.{Mark, Started}
+use Rattle.schedule.specs.declared.Event.{Event}
+use Rattle.schedule.specs.Groups.{Group}
+use Rattle.playing.specs.PlayView.{Play}
+use Rattle.playing.specs.Moments.{Moment, Resting}
+use Rattle.justifying.specs.Core.{Core}
+use Rattle.justifying.specs.Seen.{core_at}
+
+abbrev pub core_of : Play → Core
+core_of p = core_at p.scene p.owed p.told
+
+-- of the number of the next event, the groups and what stands; before the first event the first start alone was noted
+pub record IsSaid (Said : ℕ → List Group → Core → Type 0) (p : Play) : Type 0 where
+  pub first : p.scene.noted.first ≡ Started (driver 1) ∷ []
+  pub said : Said p.next p.scene.noted.groups (core_of p)
+
+-- an event began
+pub record IsBegun (groups : List Group) : Type 0 where
+  pub event : Event
+  pub group : List Mark
+  pub earlier : List Group
+  pub is : groups ≡ (event, group) ∷ earlier
+
+-- an event began; or none, and the server does nothing, no call waits, and nothing is owed
+pub data HasBegun (m : Moment) : Type 0 where
+  Began : IsBegun m.play.scene.noted.groups → HasBegun m
+  StandsBefore : m.doing ≡ Resting → m.play.queue ≡ [] → m.play.owed ≡ false → HasBegun m
+
+-- once the link has ended the server owes no complaint
+pub record OverCalm (m : Moment) : Type 0 where
+  pub none : m.play.over ≡ true → m.outbox.complaint ≡ None

@@ -1,0 +1,11 @@
+pub mod DiskMoves
+pub mod FollowLaws
+pub mod TickLaws
+pub mod StartLaws
+pub mod Events
+pub mod SteadyLaws
+pub mod TimesLaws
+pub mod AnswerLaws
+pub mod ExitLaws
+pub mod DriverLaws
+pub mod SlotLaws

@@ -1,0 +1,5 @@
+//! Starting a service of the file server on the volume of an image, whose drivers it runs itself.
+#![tactic(auto)]
+
+pub mod opened;
+pub mod start;

@@ -1,4 +1,0 @@
-pub mod Apart
-pub mod Between
-pub mod Possible
-pub mod Zones

@@ -1,4 +1,0 @@
--- What the moves of a rename need of the tree before it.
-pub mod Asked
-pub mod Laws
-pub mod Zones

@@ -1,0 +1,4 @@
+pub mod Slots
+pub mod There
+pub mod Missing
+pub mod OpenBody

@@ -1,0 +1,3 @@
+-- What open does.
+pub mod Asking
+pub mod Opening

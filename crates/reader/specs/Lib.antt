@@ -1,3 +1,0 @@
-pub mod Reader
-pub mod Reading
-pub mod Server

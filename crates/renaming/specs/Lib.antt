@@ -1,2 +1,0 @@
--- Renames.
-pub mod Asked

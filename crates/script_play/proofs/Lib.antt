@@ -1,0 +1,3 @@
+pub mod Later
+pub mod Plays
+pub mod Sessions

@@ -1,0 +1,91 @@
+-- Which descriptors calls left open, and closing them one after the other.
+use Rattle.std.proofs.Common.{◌≡◌, ◌<◌, ◌≤◌, ℕ, zero, suc, ◌+◌, List, [], ◌∷◌, Bool, true, false, get_or, refl, sym, ◌∙◌, ap, subst, arith, Option, Some, None, eqb-true, add-one}
+use Rattle.std.specs.Bool.{OnTrue, OnFalse}
+use Rattle.std.specs.Prelude.{◌==◌, not, slice_index_or, if◌then◌else◌}
+use Rattle.tree.specs.declared.Who.{Who}
+use Rattle.tree.specs.declared.Call.{Call}
+use Rattle.tree.specs.declared.Call.TheVariants.{Close}
+use Rattle.tree.specs.Answers.{Answer}
+use Rattle.legal.specs.ServerCall.{Outcome, Replied, Cut, with_outcome}
+use Rattle.legal.specs.Session.{Seen, EndsWith}
+use Rattle.keeping.proofs.KeeperLaws.{all_free, is_free}
+use Rattle.marks.specs.Marks.{Mark, Took}
+use Rattle.serve.specs.declared.left_open.LeftOpen.{LeftOpen}
+use Rattle.serve.specs.Descriptors.{change_of, changed, is_done, leaves_open, IsClosing, ClosesIf, ClosesOne, ClosesBelow, was_cut, AreLeftOpen}
+
+-- what a call changed
+pub left_changed : (old new : LeftOpen) (who : Who) (now : ℕ) (call : Call) (answer : Answer) (marks : List Mark) (n : ℕ) (after : Bool)
+    → change_of call answer ≡ Some (n, after)
+    → ((k : ℕ) → k < 32 → slice_index_or new.flags k false ≡ (if n == k then after else slice_index_or old.flags k false))
+    → AreLeftOpen old marks → AreLeftOpen new (Took who now call answer ∷ marks)
+left_changed old new who now call answer marks n after is set left = record {
+  each = λ fd low.
+      set fd low ∙ ap (λ (b : Bool). if n == fd then after else b) (left.each fd low)
+      ∙ sym (ap (λ (o : Option (ℕ × Bool)). changed fd o (leaves_open fd marks)) is);
+}
+
+-- a call that changed nothing
+pub left_same : (o : LeftOpen) (who : Who) (now : ℕ) (call : Call) (answer : Answer) (marks : List Mark) → change_of call answer ≡ None
+    → AreLeftOpen o marks → AreLeftOpen o (Took who now call answer ∷ marks)
+left_same o who now call answer marks is left = record {
+  each = λ fd low. left.each fd low ∙ sym (ap (λ (o : Option (ℕ × Bool)). changed fd o (leaves_open fd marks)) is);
+}
+
+-- none of them is open at first
+pub none_open : (o : LeftOpen) → o.flags ≡ all_free 32 → AreLeftOpen o []
+none_open o is = record { each = λ fd low. ap (λ (bits : List Bool). get_or bits fd false) is ∙ is_free 32 fd }
+
+-- the calls after one more
+pub mine_after : (outcome : Outcome) (who : Who) (now : ℕ) (call : Call) (old new : Seen) → EndsWith outcome who now call old new
+    → new.mine ≡ with_outcome who now call outcome old.mine
+mine_after (Replied answer) who now call old new ends = ends.2
+mine_after Cut who now call old new ends = ends
+
+-- a close of another one
+close_at : (fd n : ℕ) (was b : Bool) → (n == fd) ≡ b → n < fd → changed fd (Some (n, false)) was ≡ was
+close_at fd n was true e less = let same : n ≡ fd = eqb-true n fd e in absurd (omega (arith, same, less))
+close_at fd n was false e less = ap (λ (b : Bool). if b then false else was) e
+
+close_other : (fd n : ℕ) (was b : Bool) → n < fd → changed fd (if b then Some (n, false) else None) was ≡ was
+close_other fd n was true less = close_at fd n was (n == fd) refl less
+close_other fd n was false less = refl
+
+-- closing one leaves those above
+closed_one : (b : Bool) (fd n : ℕ) (who : Who) (mid new : List Mark) → n < fd → ClosesIf b n who mid new
+    → leaves_open fd new ≡ leaves_open fd mid
+closed_one true fd n who mid new less closed =
+    ap (λ (ms : List Mark). leaves_open fd ms) closed.is ∙ close_other fd n (leaves_open fd mid) (is_done closed.answer) less
+closed_one false fd n who mid new less closed = ap (λ (ms : List Mark). leaves_open fd ms) closed
+
+-- closing all below leaves it
+pub still_open : (n fd : ℕ) (who : Who) (old new : List Mark) → n ≤ fd → ClosesBelow n who old new → leaves_open fd new ≡ leaves_open fd old
+still_open zero fd who old new below closed = ap (λ (ms : List Mark). leaves_open fd ms) closed
+still_open (suc n) fd who old new below closed =
+    closed_one (leaves_open n old) fd n who closed.0 new (omega (arith, below)) closed.2
+    ∙ still_open n fd who old closed.0 (omega (arith, below)) closed.1
+
+-- one more is closed
+pub closes_more : (fd : ℕ) (who : Who) (old mid new : List Mark) → ClosesBelow fd who old mid → ClosesOne fd who mid new
+    → ClosesBelow (fd + 1) who old new
+closes_more fd who old mid new closed one =
+    let next : ClosesBelow (suc fd) who old new =
+    (mid, closed, subst (λ (b : Bool). ClosesIf b fd who mid new) (still_open fd fd who old mid (omega arith) closed) one) in
+    subst (λ (n : ℕ). ClosesBelow n who old new) (sym (add-one fd)) next
+
+-- a close that was answered closed the descriptor, and one that was cut did nothing
+pub close_done : (outcome : Outcome) (cut : Bool) (fd : ℕ) (who : Who) (old new : Seen) → cut ≡ was_cut outcome → leaves_open fd old.mine ≡ true
+    → EndsWith outcome who 0 (Close fd) old new → OnTrue (not cut) (ClosesOne fd who old.mine new.mine)
+close_done (Replied answer) cut fd who old new is left ends =
+    subst (λ (b : Bool). OnTrue (not b) (ClosesOne fd who old.mine new.mine)) (sym is)
+    (subst (λ (b : Bool). ClosesIf b fd who old.mine new.mine) (sym left) (record { answer = answer; is = ends.2 }))
+close_done Cut cut fd who old new is left ends =
+    subst (λ (b : Bool). OnTrue (not b) (ClosesOne fd who old.mine new.mine)) (sym is) tt
+
+pub close_cut : (outcome : Outcome) (cut : Bool) (fd : ℕ) (who : Who) (old new : Seen) → cut ≡ was_cut outcome
+    → EndsWith outcome who 0 (Close fd) old new → OnFalse (not cut) (new.mine ≡ old.mine)
+close_cut (Replied answer) cut fd who old new is ends = subst (λ (b : Bool). OnFalse (not b) (new.mine ≡ old.mine)) (sym is) tt
+close_cut Cut cut fd who old new is ends = subst (λ (b : Bool). OnFalse (not b) (new.mine ≡ old.mine)) (sym is) ends
+
+-- the same of one that nothing had left open
+pub none_to_close : (b : Bool) (fd : ℕ) (who : Who) (marks : List Mark) → leaves_open fd marks ≡ b → b ≡ false → ClosesOne fd who marks marks
+none_to_close b fd who marks left is = subst (λ (c : Bool). ClosesIf c fd who marks marks) (sym (left ∙ is)) refl

@@ -1,0 +1,26 @@
+use Rattle.std.proofs.Common.{◌∙◌, sym, ap}
+use Rattle.legal.specs.Session.{SessionState, caller_of}
+use Rattle.file_server.specs.Over.{outcome_of}
+use Rattle.serve.specs.Descriptors.{leaves_open}
+use Rattle.serve.proofs.ClosingLaws.{close_done, close_cut, none_to_close}
+use Rattle.serve.proofs.session.Session+N+Shared+N+R+L+S.close.Goals as goal
+
+pub returns-then-not-has-clause-closed : goal.returns-then-not-has-clause-closed
+returns-then-not-has-clause-closed g c =
+    none_to_close c.has.result c.args.fd (caller_of c.args.self.now) c.args.self.now.knows.mine
+    (ap (λ (s : SessionState). leaves_open c.args.fd s.knows.mine) (sym c.self.view_is)
+    ∙ sym (c.has.ensures c.self.inside.seat.view.mine c.self.invariant.5))
+    c.if-not-has.true
+
+pub returns-clause-closed : goal.returns-clause-closed
+returns-clause-closed g c =
+    close_done (outcome_of c.call-outcome.result) c.is_cut.result c.args.fd (caller_of c.args.self.now) c.args.self.now.knows c.call-outcome.new.self.knows
+    c.is_cut.ensures
+    (ap (λ (s : SessionState). leaves_open c.args.fd s.knows.mine) (sym c.self.view_is)
+    ∙ sym (c.has.ensures c.self.inside.seat.view.mine c.self.invariant.5) ∙ c.if-not-has.false)
+    c.call-outcome.ensures.keeps.ends
+
+pub returns-clause-cut : goal.returns-clause-cut
+returns-clause-cut g c =
+    close_cut (outcome_of c.call-outcome.result) c.is_cut.result c.args.fd (caller_of c.args.self.now) c.args.self.now.knows c.call-outcome.new.self.knows
+    c.is_cut.ensures c.call-outcome.ensures.keeps.ends

@@ -1,0 +1,32 @@
+use Rattle.std.proofs.Common.{◌≡◌, ◌∙◌, sym, subst, List, Bool}
+use Rattle.std.specs.Bool.{OnTrue, OnFalse}
+use Rattle.tree.specs.declared.Who.{Who}
+use Rattle.marks.specs.Marks.{Mark}
+use Rattle.legal.specs.Session.{caller_of}
+use Rattle.keeping.specs.Keeper.{begins_further}
+use Rattle.serve.specs.Descriptors.{ClosesBelow, ClosesOne}
+use Rattle.serve.proofs.ClosingLaws.{closes_more}
+use Rattle.serve.proofs.session.Session+N+Shared+N+R+L+S.close_all.Goals as goal
+
+pub loop-fd-preserved : goal.loop-fd-preserved
+loop-fd-preserved g c =
+    let fd = c.loop-fd.fd in
+    let mid = c.loop-fd.self.knows.mine in
+    let new = c.close.new.self.knows.mine in
+    record {
+      caller = c.close.ensures.caller ∙ c.loop-fd.invariant.caller;
+      seen = begins_further _ _ _ c.loop-fd.invariant.seen c.close.ensures.seen;
+      closed = closes_more fd (caller_of c.args.self.now) c.args.self.now.knows.mine mid new c.loop-fd.invariant.closed
+          (subst (λ (w : Who). ClosesOne fd w mid new) c.loop-fd.invariant.caller
+          (subst (λ (b : Bool). OnTrue b (ClosesOne fd (caller_of c.loop-fd.self) mid new)) c.if-not-close.false c.close.ensures.closed));
+    }
+
+pub returns-then-not-close-clause-seen : goal.returns-then-not-close-clause-seen
+returns-then-not-close-clause-seen g c = begins_further _ _ _ c.loop-fd.invariant.seen c.close.ensures.seen
+
+pub returns-then-not-close-clause-closed : goal.returns-then-not-close-clause-closed
+returns-then-not-close-clause-closed g c =
+    let mid = c.loop-fd.self.knows.mine in
+    let new = c.close.new.self.knows.mine in
+    let same : new ≡ mid = subst (λ (b : Bool). OnFalse b (new ≡ mid)) c.if-not-close.true c.close.ensures.cut in
+    subst (λ (ms : List Mark). ClosesBelow c.loop-fd.fd (caller_of c.args.self.now) c.args.self.now.knows.mine ms) (sym same) c.loop-fd.invariant.closed

@@ -1,0 +1,138 @@
+-- From a schedule that was played out to what is shown of the run.
+use Rattle.std.proofs.Common.{◌≡◌, ℕ, ◌+◌, ◌-◌, ◌*◌, ◌<◌, ◌≤◌, List, [], ◌∷◌, ◌++◌, Bool, true, false, length, refl, sym, ◌∙◌, ap, subst, arith, Result, Ok, Err, IfOk}
+use Rattle.std.specs.List.{concat}
+use Rattle.layout.specs.declared.Geometry.{Geometry}
+use Rattle.tree.specs.Tree.{Tree}
+use Rattle.bdev.specs.DriverState.{DriverState}
+use Rattle.media.specs.Contents.{IsWhole, MediaState, sectors_of}
+use Rattle.policy.specs.declared.Policy.{Policy}
+use Rattle.policy.specs.declared.Setup.{Setup}
+use Rattle.policy.specs.Watch.{Watch, driver}
+use Rattle.marks.specs.Marks.{Mark, Started}
+use Rattle.marks.specs.Opening.{Opening, Range, contents_at}
+use Rattle.marks.specs.Told.{took_end}
+use Rattle.legal.specs.View.{Frames}
+use Rattle.true_replies.specs.Events.{IsOnMedia}
+use Rattle.startup.specs.Starting.{opening_of}
+use Rattle.reissue.specs.declared.link.Link.{Ghosts as LinkWords}
+use Rattle.schedule.specs.declared.Event.{Event}
+use Rattle.schedule.specs.Calls.{arrived, taken}
+use Rattle.schedule.specs.Headline.{Transcript}
+use Rattle.run_log.specs.Noted.{Noted, marks_in}
+use Rattle.driver_events.specs.Scene.{Scene, Opens}
+use Rattle.playing.specs.declared.playing.Playing.{Playing}
+use Rattle.playing.specs.PlayView.{Play, IsOpened, first_noted, left_of, unless_told, work_left}
+use Rattle.file_server.specs.Over.{Hears}
+use Rattle.rounds.specs.Ends.{RunHolds}
+use Rattle.rounds.specs.Starts.{IsBeforeFirst}
+use Rattle.run_shown.specs.Shows.{Shows}
+use Rattle.run_shown.proofs.Showing.{runs_are_shown}
+use Rattle.stored.specs.declared.Stored.{Stored}
+use Rattle.vfs.specs.declared.server.Server.{Server}
+use Rattle.vfs.specs.OverLink.{line_of, serving_over}
+use Rattle.run_start.specs.declared.run_refusal.RunRefusal.TheVariants.{OutOfMemory}
+use Rattle.run_start.specs.Beginning.{IsBegun, IsNotBegun, range_of}
+use Rattle.world.specs.Shown.{frames_in}
+use Rattle.world.specs.Plays.{IsFresh, PlaysFrom, RunShows}
+
+-- ---- before the first event
+
+-- a link that was just made is one that waits for its first event
+pub fresh : (media : MediaState) (rules : Policy) (watch : Watch) (supply : List DriverState) (events : List Event) (p : Play)
+    → IsOpened media rules watch supply events p → IsFresh events (length media.sectors) p
+fresh media rules watch supply events p opened = record {
+  first = record {
+    noted = ap (λ (s : Scene). s.noted) opened.scene.is;
+    next = opened.next;
+    queue = opened.queue;
+    live = opened.over;
+  };
+  events_are = opened.events_are;
+  untold = opened.told;
+  sectors_are = ap (λ (s : Scene). length s.disks.media.sectors) opened.scene.is;
+}
+
+-- nothing was taken, so no End
+pub none_ended : (p : Play) → IsBeforeFirst p → took_end p.scene.noted.history ≡ false
+none_ended p first = ap (λ (n : Noted). took_end n.history) first.noted
+
+-- a message for each event, and one more
+pub few_left : (over told : Bool) (n : ℕ) → over ≡ false → told ≡ false → n < 4294967296 → left_of over n told ≤ 288230376151711744
+few_left true told n o t few = absurd (let y : ⊥ = cc in y)
+few_left false true n o t few = absurd (let y : ⊥ = cc in y)
+few_left false false n o t few = omega (arith, few)
+
+-- ---- at the end
+
+module _ {L : Type 0} (words : LinkWords L) (play : L → Play) (link : L) (image : List ℕ) (setup : Setup) (supply : List DriverState) (events : List Event)
+    (range : ℕ × ℕ) (g : Geometry) (tree : Tree) (frames : ℕ) (s : Server (Stored L)) (t : Transcript) where
+  abbrev v : Opening
+  v = opening_of image setup.minor range
+
+  abbrev last : Play
+  last = play (line_of s)
+
+  -- what is shown of it
+  pub run_shows : IsBegun image setup supply (range_of range) g tree → IsOnMedia v → words.truth link v (Started (driver 1) ∷ [])
+      → IsFresh events (length (sectors_of image)) (play link) → PlaysFrom words play link setup.minor g frames s t.unanswered
+      → IsWhole last.scene.disks.media.sectors → t.marks ≡ marks_in last.scene.noted → t.frames ≡ frames_in s
+      → t.image ≡ concat last.scene.disks.media.sectors → RunShows image setup supply events t
+  run_shows begun on truth new from whole marks frames_are bytes =
+      let hears : Hears (serving_over words from.before) (words.truth link) v tree [] (Started (driver 1) ∷ []) = record {
+        minor = sym from.opened.minor_is;
+        serves = from.opened.serves (contents_at v) tree begun.at_first;
+        truth = truth;
+      } in
+      let holds : RunHolds g (frames_in s) v tree last.scene t.unanswered =
+      subst (λ (x : Geometry). RunHolds x (frames_in s) v tree last.scene t.unanswered) from.opened.geometry (from.plays.holds v tree hears).holds in
+      let shows : Shows g v tree t = runs_are_shown g (frames_in s) v tree last.scene t on
+      (record { marks = marks; frames_are = frames_are; image = bytes; whole = whole; number = from.plays.sectors ∙ new.sectors_are }) holds in
+      record {
+        range = range_of range;
+        geometry = g;
+        tree = tree;
+        begun = begun;
+        replies = shows.replies;
+        media = shows.media;
+        calls = record {
+          groups = last.scene.noted.groups;
+          schedule = from.plays.schedule ∙ new.events_are;
+          left = from.plays.left;
+          order = from.plays.order ∙ ap (λ (m : List Mark). from.plays.left ++ taken m) (sym marks);
+          number = from.plays.number;
+        };
+      }
+
+-- ---- over the link that a server was opened on
+
+pub few_here : {L : Type 0} (play : L → Play) (a b : L) (n : ℕ) → a ≡ b → n ≡ 0 → work_left (play b) + 1 < 281474976710656
+    → n + work_left (play a) + 1 < 281474976710656
+few_here {L} play a b n same none few =
+    let e : work_left (play a) ≡ work_left (play b) = ap (λ (l : L). work_left (play l)) same in omega (arith, e, none, few)
+
+-- a schedule of fewer than 2^32 events leaves little to do
+pub little_work : (events : List Event) (sectors : ℕ) (p : Play) → IsFresh events sectors p → length events < 4294967296 → work_left p + 1 < 281474976710656
+little_work events sectors p new few =
+    let all : length p.events ≡ length events = ap length new.events_are in
+    let none : length p.queue ≡ 0 = ap length new.first.queue in
+    let one : unless_told p.told ≡ 1 = ap unless_told new.untold in
+    omega (arith, all, none, one, few)
+
+-- a promise of what is there holds of what follows from it
+pub if_ok : {A E : Type 0} (P Q : A → Type 0) (r : Result A E) → ((a : A) → P a → Q a) → IfOk r P → IfOk r Q
+if_ok P Q (Ok a) f h = f a h
+if_ok P Q (Err e) f h = tt
+
+pub small_budget : (events : List Event) (sectors : ℕ) (p : Play) → IsFresh events sectors p → length events < 4294967296
+    → left_of p.over (length p.events - p.next) p.told ≤ 288230376151711744
+small_budget events sectors p new few =
+    let all : length p.events ≡ length events = ap length new.events_are in
+    few_left p.over p.told (length p.events - p.next) new.first.live new.untold (omega (arith, all, few))
+
+-- a run that was to be begun is refused for want of memory alone
+pub lacking : (image : List ℕ) (setup : Setup) (supply : List DriverState) (range : Range) (g : Geometry) (begun : (tree : Tree) × IsBegun image setup supply range g tree)
+    → IsNotBegun image setup supply OutOfMemory
+lacking image setup supply range g begun = begun.1.accepted.volume.media
+
+pub whole_there : {D : Type 0} (a b : Playing D) → a ≡ b → IsWhole a.stage.drivers.media.sectors → IsWhole b.stage.drivers.media.sectors
+whole_there {D} a b same whole = subst (λ (l : Playing D). IsWhole l.stage.drivers.media.sectors) same whole

@@ -1,0 +1,52 @@
+-- What a run shows, and what it shows over any link.
+use Rattle.std.specs.Prelude.{◌≡◌, ℕ, List, ◌++◌, length, false}
+use Rattle.layout.specs.declared.Geometry.{Geometry}
+use Rattle.tree.specs.Tree.{Tree}
+use Rattle.bdev.specs.DriverState.{DriverState}
+use Rattle.policy.specs.declared.Setup.{Setup}
+use Rattle.marks.specs.Opening.{Range, volume_in}
+use Rattle.legal.specs.Mount.{OpenKeeps}
+use Rattle.reissue.specs.declared.link.Link.{Ghosts as LinkWords}
+use Rattle.schedule.specs.declared.Event.{Event}
+use Rattle.schedule.specs.Groups.{Group, schedule_of}
+use Rattle.schedule.specs.Calls.{Arrival, arrived, taken}
+use Rattle.schedule.specs.Headline.{Transcript, RepliesHold, MediaHold}
+use Rattle.playing.specs.PlayView.{Play}
+use Rattle.rounds.specs.Starts.{IsBeforeFirst, PlaysAll}
+use Rattle.stored.specs.declared.Stored.{Stored}
+use Rattle.vfs.specs.declared.server.Server.{Server}
+use Rattle.vfs.specs.OverLink.{line_of, serving_over}
+use Rattle.run_start.specs.Beginning.{IsBegun}
+
+-- The schedule was played, event by event. The calls that arrived in it are those that were answered, in their order, and so many that came
+-- later.
+pub record CallsInOrder (events : List Event) (t : Transcript) : Type 0 where
+  pub groups : List Group
+  pub schedule : schedule_of groups ≡ events
+  pub left : List Arrival
+  pub order : arrived groups ≡ left ++ taken t.marks
+  pub number : t.unanswered ≡ length left
+
+-- A run that was begun on an image: the volume in this range held this tree at first, without an open file. The replies are those of that
+-- tree, and the media hold what the record says.
+pub record RunShows (image : List ℕ) (setup : Setup) (supply : List DriverState) (events : List Event) (t : Transcript) : Type 0 where
+  pub range : Range
+  pub geometry : Geometry
+  pub tree : Tree
+  pub begun : IsBegun image setup supply range geometry tree
+  pub replies : RepliesHold geometry (volume_in range image) tree t
+  pub media : MediaHold range image t
+  pub calls : CallsInOrder events t
+
+-- A server that was opened over this link, with so many frames, has played the schedule out; so many calls are left.
+pub record PlaysFrom {L : Type 0} (words : LinkWords L) (play : L → Play) (link : L) (minor : ℕ) (g : Geometry) (frames : ℕ) (s : Server (Stored L)) (unanswered : ℕ) : Type 0 where
+  pub before : Server (Stored L)
+  pub opened : OpenKeeps g minor frames (words.history link) (serving_over words before)
+  pub plays : PlaysAll (serving_over words before) (serving_over words s) (words.truth link) (play link) (play (line_of s)) unanswered
+
+-- Before the first event of these: the first start was noted alone, and the media have so many sectors.
+pub record IsFresh (events : List Event) (sectors : ℕ) (p : Play) : Type 0 where
+  pub first : IsBeforeFirst p
+  pub events_are : p.events ≡ events
+  pub untold : p.told ≡ false
+  pub sectors_are : length p.scene.disks.media.sectors ≡ sectors
