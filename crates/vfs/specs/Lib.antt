@@ -3,3 +3,4 @@ pub mod Server
 pub mod Outcomes
 pub mod OverLink
 pub mod LineLaws
+pub mod Mounted

@@ -21,7 +21,6 @@ use file_server::FileServer;
 use fsck::Clean;
 use inline::local::LocalDriver;
 use media::Media;
-use mounted::open;
 use playing::Playing;
 use policy::Setup;
 use reincarnate::Reincarnation;
@@ -32,6 +31,7 @@ use schedule::Event;
 use std::alloc::{AllocError, Global};
 use stored::Stored;
 use vfs::Server;
+use vfs::mounted::open;
 
 /// A server is opened over this link, which has noted the first start alone, and plays the schedule out: the server then, and how many calls
 /// have no answer. An error: no memory was found.

@@ -2,8 +2,8 @@ use Rattle.std.proofs.Common.{◌∙◌, ap, subst}
 use Rattle.layout.specs.declared.Geometry.{Geometry}
 use Rattle.marks.specs.Told.{took_end}
 use Rattle.vfs.specs.OverLink.{IsNewOver}
-use Rattle.mounted.proofs.Mounting.{lacking_later, mounted, refused_later, unended}
-use Rattle.mounted.proofs.mount.Goals as goal
+use Rattle.vfs.proofs.Mounting.{lacking_later, mounted, refused_later, unended}
+use Rattle.vfs.proofs.mounted.mount.Goals as goal
 
 pub returns-in-Err-read_volume-clause-refused : goal.returns-in-Err-read_volume-clause-refused
 returns-in-Err-read_volume-clause-refused g c =

@@ -1,5 +1,4 @@
 //! A file server is mounted on the volume behind a link, or opened on one that was checked.
-#![tactic(auto)]
 
 ghost use Rattle.std.specs.Prelude.{◌≡◌, ◌≤◌, ◌^◌, IfOk, IfErr, true, false};
 ghost use Rattle.std.specs.Bool.{OnTrue, OnFalse};
@@ -8,15 +7,15 @@ ghost use Rattle.layout.specs.Places.{IsGeometry};
 ghost use Rattle.marks.specs.Told.{took_end};
 ghost use Rattle.mounting.specs.Mounts.{in_words};
 ghost use Rattle.vfs.specs.OverLink.{IsReadyOver, line_of, refusal_of};
-ghost use Rattle.mounted.specs.Mounted.{IsMounted, IsNotMounted, OpensClean};
+ghost use Rattle.vfs.specs.Mounted.{IsMounted, IsNotMounted, OpensClean};
 
+use crate::server::Server;
 use cache::CacheRefusal;
 use fsck::Clean;
 use mounting::{MountRefusal, read_volume};
 use reissue::{Link, Transfers};
 use std::alloc::Global;
 use stored::Stored;
-use vfs::Server;
 
 /// Whether a cache may have so many frames: 16 to 4096.
 fn is_allowed(frames: u32) -> bool

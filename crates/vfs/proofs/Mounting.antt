@@ -32,7 +32,7 @@ use Rattle.vfs.specs.Server.{server_of}
 use Rattle.vfs.specs.OverLink.{IsNewOver, caching_of, serving_over, transfers_of}
 use Rattle.vfs.proofs.Keeping.{legal_acts, tree_acts}
 use Rattle.vfs.proofs.Opened.{just_made, serves_new}
-use Rattle.mounted.specs.Mounted.{IsMounted, IsNotMounted}
+use Rattle.vfs.specs.Mounted.{IsMounted, IsNotMounted}
 
 never : {X : Type 0} → true ≡ false → X
 never e = absurd (let y : ⊥ = cc in y)

@@ -1,2 +1,0 @@
--- What opening and mounting promise, over any link.
-pub mod Mounted
