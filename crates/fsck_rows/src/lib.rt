@@ -129,10 +129,22 @@ mod tests {
     #[test]
     fn names(rt: HostRuntime) -> Result<(), Fail> {
         let alloc = rt.alloc();
-        assert_eq!(rt; found(alloc, &[(6144, 2)])?, (12, 1));
-        assert_eq!(rt; found(alloc, &[(6208, 0)])?, (13, 1));
-        assert_eq!(rt; found(alloc, &[(6208, 2)])?, (14, 1));
-        assert_eq!(rt; found(alloc, &[(4098, 3)])?, (16, 1));
+        let rows: [(&[(usize, u8)], (u32, u32)); 8] = [
+            // entry 0 with another number, and with another name
+            (&[(6144, 2)], (12, 1)),
+            (&[(6148, b'/')], (12, 1)),
+            // entry 1 without a number, and with that of an inode that isn't marked
+            (&[(6208, 0)], (13, 1)),
+            (&[(6208, 2)], (14, 1)),
+            // a third entry: free, with such a number, and one that names the root
+            (&[(4104, 192)], (13, 1)),
+            (&[(4104, 192), (6272, 9), (6276, b'x')], (14, 1)),
+            (&[(4104, 192), (6272, 1), (6276, b'x')], (15, 1)),
+            (&[(4098, 3)], (16, 1)),
+        ];
+        for (changes, finding) in rows {
+            assert_eq!(rt; found(alloc, changes)?, finding);
+        }
         Ok(())
     }
 

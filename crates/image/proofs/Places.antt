@@ -70,6 +70,10 @@ module _ (image : List ℕ) (g : Geometry) (parsed : geometry_of image ≡ Ok g)
   sizes : (g.block_size ≡ 1024) ⊎ (g.block_size ≡ 2048) ⊎ (g.block_size ≡ 4096)
   sizes = block_sizes g.block_size is_geometry.block_size
 
+  -- the largest of them is left
+  pub largest : g.block_size ≢ 1024 → g.block_size ≢ 2048 → g.block_size ≡ 4096
+  largest small middle = elim sizes [ inl e ↦ absurd (small e) | inr (inl e) ↦ absurd (middle e) | inr (inr e) ↦ e ]
+
   -- a byte of a block lies in the image
   pub inside : (b o : ℕ) → b < g.zones → o < g.block_size → b * g.block_size + o < length image
   inside b o hb ho = let l = long in let in_block = mul-add-lt b g.block_size o g.zones hb ho in omega arith

@@ -4,12 +4,12 @@
 mod entry;
 mod least;
 
-ghost use Rattle.std.specs.Prelude.{◌≡◌, ◌≤◌, ◌<◌, ◌+◌, ◌-◌, ◌*◌, ◌/◌, ℕ, Ok, Err, MatchResult, length, slice_index, true};
+ghost use Rattle.std.specs.Prelude.{◌≡◌, ◌≤◌, ◌<◌, ◌+◌, ◌-◌, ◌*◌, ◌/◌, ◌%◌, ℕ, Ok, Err, MatchResult, length, slice_index, true};
 ghost use Rattle.layout.specs.Places.{geometry_of};
 
 pub use entry::{is_field, is_name_field, name_of};
 use inode::decode_in;
-use layout::{Geometry, LayoutRefusal, u32_at};
+use layout::{Geometry, LayoutRefusal, u16_at, u32_at};
 pub use least::least_passing;
 use volume::Inode;
 
@@ -94,17 +94,47 @@ impl<'a> Image<'a> {
         (byte >> (k % 8)) % 2 == 1
     }
 
+    /// The byte at which inode n begins.
+    fn inode_place(&self, n: u32) -> usize
+        requires { is_inode self.now.geometry n ≡ true }
+        ensures value { result ≡ (2 + self.now.geometry.inode_map_blocks + self.now.geometry.zone_map_blocks) * self.now.geometry.block_size + 64 * (n - 1) }
+        ensures inside { result + 64 ≤ length self.now.bytes.now }
+    {
+        let g = self.geometry;
+        let start = 2 + g.inode_map_blocks as usize + g.zone_map_blocks as usize;
+        start * g.block_size as usize + 64 * (n as usize - 1)
+    }
+
     /// Inode n.
     pub fn inode(&self, n: u32) -> Inode
         requires { is_inode self.now.geometry n ≡ true }
         ensures { result ≡ (contents self.now).inodes n }
     {
-        let g = self.geometry;
-        let start = 2 + g.inode_map_blocks as usize + g.zone_map_blocks as usize;
-        decode_in(
-            self.bytes,
-            start * g.block_size as usize + 64 * (n as usize - 1),
-        )
+        decode_in(self.bytes, self.inode_place(n))
+    }
+
+    /// The mode of inode n, of which nothing else is read.
+    pub fn mode(&self, n: u32) -> u16
+        requires { is_inode self.now.geometry n ≡ true }
+        ensures { result ≡ ((contents self.now).inodes n).mode }
+    {
+        u16_at(self.bytes, self.inode_place(n))
+    }
+
+    /// The link count of inode n.
+    pub fn links(&self, n: u32) -> u16
+        requires { is_inode self.now.geometry n ≡ true }
+        ensures { result ≡ ((contents self.now).inodes n).links }
+    {
+        u16_at(self.bytes, self.inode_place(n) + 2)
+    }
+
+    /// The size of inode n in bytes.
+    pub fn size(&self, n: u32) -> u32
+        requires { is_inode self.now.geometry n ≡ true }
+        ensures { result ≡ ((contents self.now).inodes n).size }
+    {
+        u32_at(self.bytes, self.inode_place(n) + 8)
     }
 
     /// Whether inode n is marked: its number is one of the volume's, and its bit is set.
@@ -118,7 +148,7 @@ impl<'a> Image<'a> {
     pub fn is_directory(&self, n: u32) -> bool
         ensures { result ≡ is_directory_inode self.now.geometry (contents self.now) n }
     {
-        self.is_marked(n) && is_directory_mode(self.inode(n).mode)
+        self.is_marked(n) && is_directory_mode(self.mode(n))
     }
 
     /// Number j of a zone; in what is no data zone stands none.
@@ -134,6 +164,36 @@ impl<'a> Image<'a> {
         } else {
             0
         }
+    }
+
+    /// The block of a byte of a file, and the byte's place in it. There are three sizes: a division by one of them is a shift.
+    fn parts_of_byte(&self, byte: usize) -> (usize, usize)
+        ensures block { result.0 ≡ byte / self.now.geometry.block_size }
+        ensures place { result.1 ≡ byte % self.now.geometry.block_size }
+    {
+        let size = self.geometry.block_size;
+        if size == 1024 {
+            return (byte / 1024, byte % 1024);
+        }
+        if size == 2048 {
+            return (byte / 2048, byte % 2048);
+        }
+        (byte / 4096, byte % 4096)
+    }
+
+    /// The block of a number of a row of zones full of numbers, and the number's place in it.
+    fn parts_of_number(&self, index: usize) -> (usize, usize)
+        ensures block { result.0 ≡ index / numbers_in_zone self.now.geometry }
+        ensures place { result.1 ≡ index % numbers_in_zone self.now.geometry }
+    {
+        let size = self.geometry.block_size;
+        if size == 1024 {
+            return (index / 256, index % 256);
+        }
+        if size == 2048 {
+            return (index / 512, index % 512);
+        }
+        (index / 1024, index % 1024)
     }
 
     /// The indirect block of an inode that names blocks that name pages: 0 is the double's, then come those below the triple's.
@@ -156,8 +216,9 @@ impl<'a> Image<'a> {
         if index == 0 {
             return inode.zones[7];
         }
-        let above = self.second_block(inode, (index - 1) / self.numbers());
-        self.number(above, (index - 1) % self.numbers())
+        let (row, column) = self.parts_of_number(index - 1);
+        let above = self.second_block(inode, row);
+        self.number(above, column)
     }
 
     /// The zone of a page of an inode, or 0 for a hole.
@@ -167,8 +228,9 @@ impl<'a> Image<'a> {
         if page < 7 {
             return inode.zones[page];
         }
-        let above = self.last_block(inode, (page - 7) / self.numbers());
-        self.number(above, (page - 7) % self.numbers())
+        let (row, column) = self.parts_of_number(page - 7);
+        let above = self.last_block(inode, row);
+        self.number(above, column)
     }
 
     /// How many pages the bytes of an inode cover.
@@ -185,13 +247,12 @@ impl<'a> Image<'a> {
         ensures len { length result.now ≡ 64 }
         ensures bytes { (a : ℕ) → a < 64 → slice_index result.now a ≡ file_byte self.now.geometry (contents self.now) inode.now (64 * number + a) }
     {
-        let size = self.geometry.block_size as usize;
-        let place = 64 * number as usize;
-        let zone = self.page_zone(inode, place / size);
+        let (page, offset) = self.parts_of_byte(64 * number as usize);
+        let zone = self.page_zone(inode, page);
         if !self.is_data_zone(zone) {
             return &BLANK;
         }
-        let at = zone as usize * size + place % size;
+        let at = zone as usize * self.geometry.block_size as usize + offset;
         &self.bytes[at..at + 64]
     }
 }
