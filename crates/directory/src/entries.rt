@@ -44,10 +44,23 @@ pub fn entry_inode(bytes: &[u8], e: usize) -> u32
 }
 
 /// Whether two names are the same bytes.
-pub(crate) fn is_same(name: &[u8], other: &[u8]) -> bool
+fn is_same(name: &[u8], other: &[u8]) -> bool
     ensures { result ≡ eq_by_cmp name_cmp name.now other.now }
 {
     name == other
+}
+
+/// Whether entry e of some bytes has a name. As many bytes as the name has are compared first, so that of most entries the length isn't
+/// looked for.
+pub(crate) fn is_named(bytes: &[u8], e: usize, name: &[u8]) -> bool
+    requires { 64 * e + 64 ≤ length bytes.now }
+    ensures { result ≡ eq_by_cmp name_cmp name.now (entry_name (slice_index bytes.now) e) }
+{
+    let at = ENTRY_SIZE * e + 4;
+    if name.len() > 60 || !is_same(name, &bytes[at..at + name.len()]) {
+        return false;
+    }
+    is_same(name, entry_name(bytes, e))
 }
 
 /// The inode number of the last of the entries from one on to another that has a name.
@@ -59,7 +72,7 @@ pub(crate) fn last_named(bytes: &[u8], from: usize, to: usize, name: &[u8]) -> O
     let mut left = to;
     while left > from {
         left -= 1;
-        if is_same(name, entry_name(bytes, left)) {
+        if is_named(bytes, left, name) {
             return Some(entry_inode(bytes, left));
         }
     }

@@ -7,7 +7,7 @@ ghost use Rattle.store.specs.World.{Reads};
 ghost use Rattle.volume.specs.Nodes.{entry_count_of, file_byte};
 ghost use Rattle.volume.specs.Pieces.{pieces};
 
-use crate::entries::{entry_name, is_same};
+use crate::entries::is_named;
 use inode::Inode;
 use layout::Geometry;
 use store::{Blocks, Cut};
@@ -21,7 +21,7 @@ fn position_in(bytes: &[u8], from: usize, to: usize, name: &[u8]) -> Option<usiz
     ensures { StandsAt (slice_index bytes.now) name.now from to result }
 {
     for at in from..to {
-        if is_same(name, entry_name(bytes, at)) {
+        if is_named(bytes, at, name) {
             return Some(at);
         }
     }

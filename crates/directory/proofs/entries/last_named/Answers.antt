@@ -6,18 +6,18 @@ use Rattle.volume.specs.Nodes.{entry_name}
 use Rattle.directory.proofs.Scans.{one_found, one_less}
 use Rattle.directory.proofs.entries.last_named.Goals as goal
 
-pub returns-then-is_same : goal.returns-then-is_same
-returns-then-is_same c =
+pub returns-then-is_named : goal.returns-then-is_named
+returns-then-is_named c =
     let f = slice_index c.args.bytes.now in
     let is : eq_by_cmp name_cmp c.args.name.now (entry_name f (c.loop-left.left - 1)) ≡ true =
-    ap (eq_by_cmp name_cmp c.args.name.now) (sym c.entry_name.ensures) ∙ sym c.is_same.ensures ∙ c.if-is_same.true in
+    sym c.is_named.ensures ∙ c.if-is_named.true in
     sym (c.loop-left.invariant.same ∙ one_found f c.args.name.now c.args.from c.loop-left.left (omega arith) is ∙ ap Some (sym c.entry_inode.ensures))
 
 pub loop-left-preserved : goal.loop-left-preserved
 loop-left-preserved c =
     let f = slice_index c.args.bytes.now in
     let other : eq_by_cmp name_cmp c.args.name.now (entry_name f (c.loop-left.left - 1)) ≡ false =
-    ap (eq_by_cmp name_cmp c.args.name.now) (sym c.entry_name.ensures) ∙ sym c.is_same.ensures ∙ c.if-is_same.false in
+    sym c.is_named.ensures ∙ c.if-is_named.false in
     record {
       above = omega arith;
       below = omega arith;

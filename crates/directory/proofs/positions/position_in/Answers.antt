@@ -1,15 +1,17 @@
 use Rattle.std.proofs.Common.{◌≡◌, ap, sym, ◌∙◌, true, false, arith}
 use Rattle.std.specs.Ordering.{eq_by_cmp}
+use Rattle.std.specs.Prelude.{slice_index}
 use Rattle.tree.specs.Names.{name_cmp}
+use Rattle.volume.specs.Nodes.{entry_name}
 use Rattle.directory.proofs.Names.{same_decides}
 use Rattle.directory.proofs.Standing.{none_more, none_at_first, none_up_to}
 use Rattle.directory.proofs.positions.position_in.Goals as goal
 
-pub returns-then-is_same : goal.returns-then-is_same
-returns-then-is_same c = record {
+pub returns-then-is_named : goal.returns-then-is_named
+returns-then-is_named c = record {
   past = omega arith;
   low = omega arith;
-  named = sym c.entry_name.ensures ∙ sym ((same_decides c.args.name.now c.entry_name.result.now).0 (sym c.is_same.ensures ∙ c.if-is_same.true));
+  named = sym ((same_decides c.args.name.now (entry_name (slice_index c.args.bytes.now) c.loop-at.at)).0 (sym c.is_named.ensures ∙ c.if-is_named.true));
 }
 
 pub loop-at-init : goal.loop-at-init
@@ -17,8 +19,10 @@ loop-at-init c = none_at_first _ _ _
 
 pub loop-at-preserved : goal.loop-at-preserved
 loop-at-preserved c = none_more _ _ _ _ c.loop-at.invariant (λ e.
-    let t : eq_by_cmp name_cmp c.args.name.now c.entry_name.result.now ≡ true = (same_decides c.args.name.now c.entry_name.result.now).1 (sym (c.entry_name.ensures ∙ e)) in
-    let f : eq_by_cmp name_cmp c.args.name.now c.entry_name.result.now ≡ false = sym c.is_same.ensures ∙ c.if-is_same.false in
+    let name = c.args.name.now in
+    let there = entry_name (slice_index c.args.bytes.now) c.loop-at.at in
+    let t : eq_by_cmp name_cmp name there ≡ true = (same_decides name there).1 (sym e) in
+    let f : eq_by_cmp name_cmp name there ≡ false = sym c.is_named.ensures ∙ c.if-is_named.false in
     let no : true ≡ false = sym t ∙ f in
     cc)
 
