@@ -1,9 +1,9 @@
-//! Scripts played on volumes: the replies, and what is refused.
-use crate::volumes::{Played, gave, play_with};
+//! Plays of `stat /`: the replies, bad lines, and writers that fail.
+use crate::volumes::{files, gave, play_with};
 use bdev::Driver;
 use modeldisk::RamDriver;
 use partition::Table;
-use samples::{ROOT, changed, new_volume, supply_of, whole};
+use samples::{ROOT, new_volume, supply_of, whole};
 use std::io::{self, Write};
 use std::process::Abort;
 use std::test::Fail;
@@ -23,102 +23,27 @@ fn the_root_is_told(rt: HostRuntime) -> Result<(), Fail> {
     Ok(())
 }
 
+/// Scripts, and the first line of each that can't be read.
+const BAD: [(&[u8], u32); 9] = [
+    (b"user 0 0\n100 stat\n", 2),
+    (b"", 1),
+    (b"user 0 0", 1),
+    (b"user 0 65536\n", 1),
+    (b"user 0 0\n1 stat /\n2 stat /", 3),
+    (b"user 65536 0\n100 stat /\n", 1),
+    (b"user 0 0\n4294967296 stat /\n", 2),
+    (b"user 0 0\r\n100 stat /\n", 1),
+    (b"user 0 0\n100 sync\n\n100 sync\n", 3),
+];
+
 #[test]
 fn bad_lines_are_named(rt: HostRuntime) -> Result<(), Fail> {
     let alloc = rt.alloc();
     let image = new_volume(alloc, 1024)?;
-    let rows: [(&[u8], u32); 8] = [
-        (b"user 0 0\n100 stat\n", 2),
-        (b"", 1),
-        (b"user 0 0", 1),
-        (b"user 0 0\n100 stat /\n100 stat /", 3),
-        (b"user 65536 0\n100 stat /\n", 1),
-        (b"user 0 0\n4294967296 stat /\n", 2),
-        (b"user 0 0\r\n100 stat /\n", 1),
-        (b"user 0 0\n100 stat /\r\n", 2),
-    ];
-    for (script, number) in rows {
+    for (script, number) in &BAD {
         let played = play_with(alloc, rt, image.as_slice(), script, &[None])?;
         let line = format!(in alloc; "bad line {number} of s.txt\n")?;
         gave(&rt, &played, 1, "", line.as_str());
-    }
-    Ok(())
-}
-
-#[test]
-fn images_are_refused_by_name(rt: HostRuntime) -> Result<(), Fail> {
-    let alloc = rt.alloc();
-    let rows = [
-        (1048, 0x00, "Mount Layout BadMagic\n"),
-        (1053, 0x05, "Mount Layout BadBlockSize\n"),
-        (1054, 0x01, "Mount Layout BadVersion\n"),
-        (1036, 0x01, "Mount Layout BadVersion\n"),
-        (1034, 0x07, "Mount Layout BadCounts\n"),
-        (1044, 0x41, "Mount Layout DoesNotFit\n"),
-        (2048, 0x01, "Mount Inconsistent finding 4 at 1\n"),
-        (4097, 0x81, "Mount Inconsistent finding 4 at 1\n"),
-    ];
-    for (at, byte, line) in rows {
-        let image = changed(alloc, at, byte)?;
-        let played = play_with(alloc, rt, image.as_slice(), STAT, &[None])?;
-        gave(&rt, &played, 1, "", line);
-    }
-    let image = new_volume(alloc, 1024)?;
-    let cut = [
-        (1024, "Mount Layout Truncated\n"),
-        (1023, "Media NotWholeSectors\n"),
-        (65024, "Mount Layout DoesNotFit\n"),
-    ];
-    for (length, line) in cut {
-        let image = image.get(..length).unwrap_or(&[]);
-        let played = play_with(alloc, rt, image, STAT, &[None])?;
-        gave(&rt, &played, 1, "", line);
-    }
-    let played = play_with(alloc, rt, image.as_slice(), STAT, &[])?;
-    gave(&rt, &played, 1, "", "NoDriver\n");
-    Ok(())
-}
-
-#[test]
-fn the_first_fault_is_told(rt: HostRuntime) -> Result<(), Fail> {
-    let alloc = rt.alloc();
-    let bad = changed(alloc, 1048, 0)?;
-    let (bad, script): (&[u8], &[u8]) = (bad.as_slice(), b"user 0\n");
-    let rows = [
-        (None, None, "cannot read v.img\n"),
-        (None, Some(script), "cannot read v.img\n"),
-        (Some(bad), None, "cannot read s.txt\n"),
-        (Some(bad), Some(script), "bad line 1 of s.txt\n"),
-        (Some(bad), Some(STAT), "BadSetup\n"),
-    ];
-    for (image, script, line) in rows {
-        let (mut out, mut err) = (Vec::new(alloc), Vec::new(alloc));
-        let image = File {
-            name: "v.img",
-            bytes: image,
-        };
-        let script = File {
-            name: "s.txt",
-            bytes: script,
-        };
-        // Drivers of other media than the image's.
-        let supply = supply_of(alloc, 127, &[None])?;
-        let status = play(
-            alloc,
-            rt,
-            image,
-            script,
-            &whole(),
-            supply,
-            &mut out,
-            &mut err,
-        );
-        let played = Played {
-            status: status.number(),
-            out: String::from_utf8(out)?,
-            err: String::from_utf8(err)?,
-        };
-        gave(&rt, &played, 1, "", line);
     }
     Ok(())
 }
@@ -142,6 +67,7 @@ fn is_beginning(rt: &impl Abort, space: &[u8], text: &[u8], room: usize) {
 fn a_writer_fails(rt: HostRuntime) -> Result<(), Fail> {
     let alloc = rt.alloc();
     let image = new_volume(alloc, 1024)?;
+    let scripts = files(alloc, &[Some(STAT)])?;
     let text = format!(in alloc; "session 0\n{ROOT}")?;
     for room in [0usize, 3, 10, 11, 70] {
         let mut space = [0u8; 70];
@@ -149,19 +75,15 @@ fn a_writer_fails(rt: HostRuntime) -> Result<(), Fail> {
         let mut err = Vec::new(alloc);
         let mut supply: Vec<Driver> = Vec::new(alloc);
         supply.push(Box::new(alloc, RamDriver::new(Table::whole(128)))?)?;
-        let image = File {
+        let named = File {
             name: "v.img",
             bytes: Some(image.as_slice()),
         };
-        let script = File {
-            name: "s.txt",
-            bytes: Some(STAT),
-        };
-        let status = play(
+        let came = play(
             alloc,
             rt,
-            image,
-            script,
+            named,
+            scripts.as_slice(),
             &whole(),
             supply,
             &mut out,
@@ -169,7 +91,7 @@ fn a_writer_fails(rt: HostRuntime) -> Result<(), Fail> {
         );
         is_cut_off(
             &rt,
-            status,
+            came.status,
             &err,
             b"cannot write standard output\n",
             Told::Whole,
@@ -189,22 +111,19 @@ fn a_refusal_is_cut_off(rt: HostRuntime) -> Result<(), Fail> {
         name: "v.img",
         bytes: None,
     };
-    let script = File {
-        name: "s.txt",
-        bytes: Some(STAT),
-    };
+    let scripts = files(alloc, &[Some(STAT)])?;
     let supply = supply_of(alloc, 128, &[None])?;
-    let status = play(
+    let came = play(
         alloc,
         rt,
         image,
-        script,
+        scripts.as_slice(),
         &whole(),
         supply,
         &mut out,
         &mut err,
     );
-    is_cut_off(&rt, status, &space, b"can", Told::Partly);
+    is_cut_off(&rt, came.status, &space, b"can", Told::Partly);
     assert!(rt; out.is_empty());
     Ok(())
 }
@@ -246,20 +165,17 @@ fn a_writer_takes_little(rt: HostRuntime) -> Result<(), Fail> {
         for (script, out_text, err_text, number) in rows {
             let mut out = Slow(Vec::new(alloc), most);
             let mut err = Slow(Vec::new(alloc), most);
-            let image = File {
+            let named = File {
                 name: "v.img",
                 bytes: Some(image.as_slice()),
             };
-            let script = File {
-                name: "s.txt",
-                bytes: Some(script),
-            };
+            let scripts = files(alloc, &[Some(script)])?;
             let supply = supply_of(alloc, 128, &[None])?;
-            let status = play(
+            let came = play(
                 alloc,
                 rt,
-                image,
-                script,
+                named,
+                scripts.as_slice(),
                 &whole(),
                 supply,
                 &mut out,
@@ -269,7 +185,7 @@ fn a_writer_takes_little(rt: HostRuntime) -> Result<(), Fail> {
                 &rt,
                 &out,
                 &err,
-                status.number(),
+                came.status.number(),
                 (out_text, err_text, number),
             );
         }

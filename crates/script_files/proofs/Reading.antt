@@ -1,12 +1,13 @@
 -- Files, one after the other.
-use Rattle.std.proofs.Common.{◌≡◌, ℕ, ◌+◌, ◌<◌, get_or, List, [], ◌∷◌, ◌++◌, map, length, take, drop, sym, ap, ◌∙◌, refl, append_assoc, append-nil, arith, Option, Some, None, Result, Ok, Err}
+use Rattle.std.proofs.Common.{◌≡◌, ℕ, zero, suc, IsTrue, ◌+◌, ◌<◌, get_or, List, [], ◌∷◌, ◌++◌, map, length, take, drop, sym, ap, ◌∙◌, refl, append_assoc, append-nil, arith, Option, Some, None, Result, Ok, Err}
 use Rattle.std.specs.Borrow.{Bor}
 use Rattle.std.proofs.lemmas.List.{drop_all, drop_more}
 use Rattle.script_text.specs.declared.timed.TimedCall.{TimedCall}
+use Rattle.script_text.specs.Scripts.{has_call}
 use Rattle.script_files.specs.declared.File.{File}
 use Rattle.script_files.specs.declared.FileRefusal.{FileRefusal}
 use Rattle.script_files.specs.declared.FileRefusal.TheVariants.{CannotRead, BadLine, TooMany, OutOfMemory}
-use Rattle.script_files.specs.Files.{IsBad, IsRefused, first_unread, unread_or, script_in, script_before, scripts_in}
+use Rattle.script_files.specs.Files.{IsBad, IsRefused, TakeMemory, first_unread, unread_or, script_in, script_before, scripts_in, takes_memory}
 
 -- what was said so far, before what the files after it say
 abbrev pub scripts_after : List (ℕ × ℕ × List TimedCall) → Result (List (ℕ × ℕ × List TimedCall)) (ℕ × Bor (List ℕ)) → Result (List (ℕ × ℕ × List TimedCall)) (ℕ × Bor (List ℕ))
@@ -41,13 +42,28 @@ file_bad files i d done number name inside h said is =
     ∙ ap (λ s. scripts_after done (script_before s (get_or files i d).name (scripts_in (drop (i + 1) files)))) said
     ∙ ap (λ n. Err (number, n)) (sym is)
 
+-- memory is sought for a script, and for a call
+pub script_takes : (r : Result (ℕ × ℕ × List TimedCall) ℕ) (script : ℕ × ℕ × List TimedCall) → r ≡ Ok script → IsTrue (takes_memory r)
+script_takes (Ok script) other is = refl
+script_takes (Err number) other is = cc
+
+pub call_takes : (r : Result (ℕ × ℕ × List TimedCall) ℕ) → IsTrue (has_call r) → IsTrue (takes_memory r)
+call_takes (Ok script) h = refl
+call_takes (Err number) h = h
+
+-- where it was sought for what some file says, it was for what the first one says
+pub takes_here : (files : List File) (i : ℕ) (d : File) → i < length files → (0 < i → TakeMemory files) → IsTrue (takes_memory (script_in (get_or files i d))) → TakeMemory files
+takes_here [] i d inside earlier here = absurd (omega arith)
+takes_here (file ∷ files) zero d inside earlier here = here
+takes_here (file ∷ files) (suc i) d inside earlier here = earlier (omega arith)
+
 -- one file's refusal is that of all
 pub bad_file : (files : List File) (i : ℕ) (d : File) (done : List (ℕ × ℕ × List TimedCall)) (refusal : FileRefusal) → i < length files → first_unread files ≡ None
-    → scripts_in files ≡ scripts_after done (scripts_in (drop i files)) → IsBad (get_or files i d) refusal → IsRefused files refusal
-bad_file files i d done (CannotRead name) inside none h bad = absurd bad
-bad_file files i d done (BadLine number name) inside none h bad = (none, file_bad files i d done number name inside h bad.0 bad.1)
-bad_file files i d done TooMany inside none h bad = absurd bad
-bad_file files i d done OutOfMemory inside none h bad = (none, omega arith)
+    → (0 < i → TakeMemory files) → scripts_in files ≡ scripts_after done (scripts_in (drop i files)) → IsBad (get_or files i d) refusal → IsRefused files refusal
+bad_file files i d done (CannotRead name) inside none takes h bad = absurd bad
+bad_file files i d done (BadLine number name) inside none takes h bad = (none, file_bad files i d done number name inside h bad.0 bad.1)
+bad_file files i d done TooMany inside none takes h bad = absurd bad
+bad_file files i d done OutOfMemory inside none takes h bad = (none, takes_here files i d inside takes bad)
 
 -- all files
 pub files_end : (files : List File) (i : ℕ) (done : List (ℕ × ℕ × List TimedCall)) → length files ≡ i → scripts_in files ≡ scripts_after done (scripts_in (drop i files))

@@ -1,5 +1,5 @@
 -- What files say as scripts.
-use Rattle.std.specs.Prelude.{◌≡◌, ℕ, ◌≤◌, ◌<◌, List, [], ◌∷◌, ◌++◌, length, Option, Some, None, Result, Ok, Err, codes, decimal}
+use Rattle.std.specs.Prelude.{◌≡◌, ℕ, ◌≤◌, ◌<◌, nat_lt, List, [], ◌∷◌, ◌++◌, length, Bool, true, Option, Some, None, Result, Ok, Err, IsTrue, codes, decimal}
 use Rattle.std.specs.Borrow.{Bor}
 use Rattle.script_text.specs.declared.timed.TimedCall.{TimedCall}
 use Rattle.script_text.specs.Scripts.{script_of}
@@ -42,19 +42,29 @@ scripts_in (file ∷ files) = script_before (script_in file) file.name (scripts_
 abbrev pub AreScripts : List File → List (ℕ × ℕ × List TimedCall) → Type 0
 AreScripts files scripts = (first_unread files ≡ None) × (scripts_in files ≡ Ok scripts) × (length files ≤ 64)
 
--- why files give no scripts, in the order in which faults are looked for; memory may be wanting once all files could be read, where there is one
+-- whether memory is sought for what a file says: for a script, or for its first call before a line that can't be read
+abbrev pub takes_memory : Result (ℕ × ℕ × List TimedCall) ℕ → Bool
+takes_memory (Ok script) = true
+takes_memory (Err number) = nat_lt 2 number
+
+-- memory is sought for what the first file says
+abbrev pub TakeMemory : List File → Type 0
+TakeMemory [] = ⊥
+TakeMemory (file ∷ files) = IsTrue (takes_memory (script_in file))
+
+-- why files give no scripts, in the order in which faults are looked for; memory may be wanting once all files could be read and the first lines too
 abbrev pub IsRefused : List File → FileRefusal → Type 0
 IsRefused files (CannotRead name) = first_unread files ≡ Some name
 IsRefused files (BadLine number name) = (first_unread files ≡ None) × (scripts_in files ≡ Err (number, name))
 IsRefused files TooMany = (first_unread files ≡ None) × ((scripts : List (ℕ × ℕ × List TimedCall)) × (scripts_in files ≡ Ok scripts)) × (64 < length files)
-IsRefused files OutOfMemory = (first_unread files ≡ None) × (0 < length files)
+IsRefused files OutOfMemory = (first_unread files ≡ None) × TakeMemory files
 
--- why one file gives no script: its first bad line, or want of memory
+-- why one file gives no script: its first bad line, or want of memory for a call
 abbrev pub IsBad : File → FileRefusal → Type 0
 IsBad file (CannotRead name) = ⊥
 IsBad file (BadLine number name) = (script_in file ≡ Err number) × (name ≡ file.name)
 IsBad file TooMany = ⊥
-IsBad file OutOfMemory = Unit {0}
+IsBad file OutOfMemory = IsTrue (takes_memory (script_in file))
 
 -- the text of a refusal
 abbrev pub refusal_text : FileRefusal → List ℕ

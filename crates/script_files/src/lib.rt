@@ -31,7 +31,7 @@ pub enum FileRefusal<'n> {
     BadLine(u64, &'n str),
     /// There are more than [`MAX_SCRIPTS`].
     TooMany,
-    /// No memory was found for a script.
+    /// No memory was found for a script, or for a call before a line that can't be read.
     OutOfMemory,
 }
 
@@ -88,7 +88,10 @@ pub fn read_scripts<'n, 'b>(
     }
     let mut scripts = Vec::new(alloc);
     for file in files {
-        let script = read(alloc, file)?;
+        let script = match read(alloc, file) {
+            Ok(script) => script,
+            Err(refusal) => return Err(refusal),
+        };
         if scripts.push(script).is_err() {
             return Err(FileRefusal::OutOfMemory);
         }

@@ -124,7 +124,7 @@ module _ {C : Type 0} (Vouches : List Mark → Type 0) (state : C → SessionSta
   }
 
   pub all_played : (rest : List (Turn C)) (played : List Played) (last : Option SessionState) → rest ≡ [] → SoFar Vouches state all rest played last
-      → ArePlayed Vouches (map (asked state) all) played
+      → ArePlayed Vouches (map (asked state) all) played (seen_by last)
   all_played rest played last none h =
       let split : map (asked state) all ≡ h.done = h.split ∙ ap (λ l. h.done ++ map (asked state) l) none ∙ append-nil h.done in
-      (seen_by last, subst (λ (scripts : List (ℕ × ℕ × List TimedCall)). InTurn Vouches [] scripts played (seen_by last)) (sym split) h.turns)
+      subst (λ (scripts : List (ℕ × ℕ × List TimedCall)). InTurn Vouches [] scripts played (seen_by last)) (sym split) h.turns

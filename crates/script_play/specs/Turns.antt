@@ -63,6 +63,6 @@ InTurn Vouches earlier (script ∷ scripts) (p ∷ played) last =
     (s : SessionState) × IsTurn Vouches earlier script p s × InTurn Vouches s.knows.seen scripts played last
 InTurn Vouches earlier _ _ last = ⊥
 
--- the scripts were played one after the other, in sessions of one service
-abbrev pub ArePlayed : (List Mark → Type 0) → List (ℕ × ℕ × List TimedCall) → List Played → Type 0
-ArePlayed Vouches scripts played = (last : List Mark) × InTurn Vouches [] scripts played last
+-- the scripts were played one after the other, in sessions of one service; this is what the last of them has seen in the end
+abbrev pub ArePlayed : (List Mark → Type 0) → List (ℕ × ℕ × List TimedCall) → List Played → List Mark → Type 0
+ArePlayed Vouches scripts played last = InTurn Vouches [] scripts played last

@@ -23,16 +23,17 @@ pub struct Turn<'t, C: Client> {
     pub calls: Vec<TimedCall<'t>>,
 }
 
-/// Makes the calls of each session, one session after the other. Before its first call a session meets the one before it, which then ends.
+/// Makes the calls of each session, one session after the other. Before its first call a session meets the one before it, which then ends. Gives
+/// what came of them, and the last session, which goes on.
 ///
 /// From the first call of a session that is cut on all its calls are. Without memory for the outcomes of a session none of its calls is
 /// made, nor one of those after it.
 pub fn play_in_turn<C: Client>(
     alloc: Global,
     turns: VecDeque<Turn<'_, C>>,
-) -> Result<Vec<Played>, AllocError>
+) -> Result<(Vec<Played>, Option<C>), AllocError>
     requires { All (λ turn. IsUnplayed C.vouches (C.state turn.client)) turns.items }
-    ensures { IfOk result (λ played. ArePlayed C.vouches (map (asked C.state) turns.entry.items) played.items) }
+    ensures { IfOk result (λ came. ArePlayed C.vouches (map (asked C.state) turns.entry.items) came.0.items (seen_by (option_map C.state came.1))) }
 {
     let mut played = Vec::new(alloc);
     let mut left = turns;
@@ -44,10 +45,7 @@ pub fn play_in_turn<C: Client>(
         }
         last = Some(client);
     }
-    if let Some(client) = last {
-        client.end();
-    }
-    Ok(played)
+    Ok((played, last))
 }
 
 /// Makes the calls of a turn, once its session has met the one before it, which ends. What came of them, and the session.

@@ -1,6 +1,4 @@
-pub mod Answers
-pub mod Refusals
-pub mod Made
 pub mod Played
-pub mod Script
+pub mod Served
 pub mod Status
+pub mod Refusals

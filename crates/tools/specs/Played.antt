@@ -1,77 +1,70 @@
--- What playing a script comes to.
-use Rattle.std.specs.Prelude.{◌≡◌, ◌⊎◌, ℕ, List, ◌++◌, Bool, true, false, codes, decimal, Some, None, Ok, Err, IsSome, IsTrue}
+-- What playing scripts comes to.
+use Rattle.std.specs.Prelude.{◌≡◌, ◌⊎◌, ℕ, List, ◌++◌, Bool, true, false, ◌||◌, codes, Option, Some, None, IsSome}
 use Rattle.std.specs.Borrow.{Bor}
+use Rattle.std.specs.List.{list_any}
 use Rattle.layout.specs.declared.Geometry.{Geometry}
-use Rattle.tree.specs.declared.Outcome.{Outcome}
 use Rattle.bdev.specs.DriverState.{DriverState}
 use Rattle.policy.specs.declared.Setup.{Setup}
 use Rattle.startup.specs.Refusals.{start_refusal_text}
 use Rattle.startup.specs.Starting.{opening_of, IsStartable, IsRefused}
-use Rattle.serve.specs.Refusals.{session_refusal_name}
-use Rattle.tools.specs.Script.{script_of, has_call}
-use Rattle.tools.specs.Answers.{session_text}
-use Rattle.tools.specs.Made.{IsAnswered}
-use Rattle.tools.specs.declared.play.File.{File}
+use Rattle.script_text.specs.declared.timed.TimedCall.{TimedCall}
+use Rattle.script_files.specs.declared.File.{File}
+use Rattle.script_files.specs.declared.FileRefusal.{FileRefusal}
+use Rattle.script_files.specs.declared.FileRefusal.TheVariants.{CannotRead}
+use Rattle.script_files.specs.Files as files
+use Rattle.session_text.specs.declared.answers.Played.{Played}
+use Rattle.session_text.specs.Answers.{sessions_text}
+use Rattle.script_play.specs.Made.{has_eio}
+use Rattle.tools.specs.Served.{AreServed, service_text}
+use Rattle.tools.specs.Status.{is_given_up}
+use Rattle.tools.specs.declared.players.LastSync.{LastSync}
 use Rattle.tools.specs.declared.play.PlayRefusal.{PlayRefusal}
-use Rattle.tools.specs.declared.play.PlayRefusal.TheVariants.{CannotRead, BadLine, Start, NoSession, OutOfMemory, NotWritten}
-
--- the file could be read, and holds a script of these calls
-abbrev pub IsScript : File → ℕ × ℕ × List ℕ → Type 0
-IsScript file calls = (text : Bor (List ℕ)) × (file.bytes ≡ Some text) × (script_of text.now ≡ Ok calls)
-
--- the file could be read, and this line of it is the first that can't
-abbrev pub HasBadLine : File → ℕ → Type 0
-HasBadLine file number = (text : Bor (List ℕ)) × (file.bytes ≡ Some text) × (script_of text.now ≡ Err number)
-
--- the file couldn't be read, and has this name
-abbrev pub IsUnread : File → Bor (List ℕ) → Type 0
-IsUnread file name = (file.bytes ≡ None) × (name ≡ file.name)
-
--- the file could be read, and the lines of the user and of a first call in it, for whose time memory is sought
-abbrev pub HasCall : File → Type 0
-HasCall file = (text : Bor (List ℕ)) × (file.bytes ≡ Some text) × IsTrue (has_call (script_of text.now))
-
--- why a file gives no script: it can't be read, or its first bad line, or no memory was found for the time of a call
-abbrev pub IsNoScript : File → PlayRefusal → Type 0
-IsNoScript file (CannotRead name) = IsUnread file name
-IsNoScript file (BadLine number name) = HasBadLine file number × (name ≡ file.name)
-IsNoScript file (Start refusal) = ⊥
-IsNoScript file (NoSession refusal) = ⊥
-IsNoScript file OutOfMemory = HasCall file
-IsNoScript file NotWritten = ⊥
+use Rattle.tools.specs.declared.play.PlayRefusal.TheVariants.{Files, Start, Service, OutOfMemory, NotWritten}
 
 -- a service starts on the volume of these sizes, which lies in this range of the image
 pub record IsStarted (image : File) (setup : Setup) (supply : List DriverState) (bytes : Bor (List ℕ)) (g : Geometry) (range : ℕ × ℕ) : Type 0 where
   pub read : image.bytes ≡ Some bytes
   pub startable : IsStartable bytes.now setup supply g range
 
--- The files' script was played on the volume in the files' image, for which a service starts, and got these outcomes.
-pub record IsPlayed (image script : File) (setup : Setup) (supply : List DriverState) (number : ℕ) (outcomes : List Outcome) (gave : Bool) : Type 0 where
+-- whether the device was given up: some call was answered EIO, or the last sync was
+abbrev pub gave_up : List Played → LastSync → Bool
+gave_up played last = list_any has_eio played || is_given_up last
+
+-- The files' scripts were played on the volume in the image, for which a service starts, each in a session of its own; then the service was
+-- stopped, which left this image.
+pub record IsPlayed (image : File) (scripts : List File) (setup : Setup) (supply : List DriverState) (played : List Played) (gave : Bool)
+    (left : List ℕ) : Type 0 where
   pub bytes : Bor (List ℕ)
   pub sizes : Geometry
   pub range : ℕ × ℕ
   pub started : IsStarted image setup supply bytes sizes range
-  pub calls : ℕ × ℕ × List ℕ
-  pub scripted : IsScript script calls
-  pub answered : IsAnswered sizes (opening_of bytes.now setup.minor range) calls number outcomes gave
+  pub calls : List (ℕ × ℕ × List TimedCall)
+  pub scripted : files.AreScripts scripts calls
+  pub last : LastSync
+  pub served : AreServed sizes (opening_of bytes.now setup.minor range) calls played last left
+  pub given_up : gave ≡ gave_up played last
+
+-- why files aren't read: the image's, or else those of the scripts
+abbrev pub AreUnread : Option (Bor (List ℕ)) → Bor (List ℕ) → List File → FileRefusal → Type 0
+AreUnread None name scripts refusal = refusal ≡ CannotRead name
+AreUnread (Some bytes) name scripts refusal = files.IsRefused scripts refusal
 
 -- why nothing is played, in the order in which faults are looked for
-abbrev pub IsUnplayed : File → File → Setup → List DriverState → PlayRefusal → Type 0
-IsUnplayed image script setup supply (CannotRead name) = IsUnread image name ⊎ (IsSome image.bytes × IsUnread script name)
-IsUnplayed image script setup supply (BadLine number name) = IsSome image.bytes × HasBadLine script number × (name ≡ script.name)
-IsUnplayed image script setup supply (Start refusal) =
+abbrev pub IsUnplayed : File → List File → Setup → List DriverState → PlayRefusal → Type 0
+IsUnplayed image scripts setup supply (Files refusal) = AreUnread image.bytes image.name scripts refusal
+IsUnplayed image scripts setup supply (Start refusal) =
     ((bytes : Bor (List ℕ)) × (image.bytes ≡ Some bytes) × IsRefused bytes.now setup supply refusal)
-    × ((calls : ℕ × ℕ × List ℕ) × IsScript script calls)
-IsUnplayed image script setup supply (NoSession refusal) =
+    × ((calls : List (ℕ × ℕ × List TimedCall)) × files.AreScripts scripts calls)
+IsUnplayed image scripts setup supply (Service refusal) =
     ((bytes : Bor (List ℕ)) × (g : Geometry) × (range : ℕ × ℕ) × IsStarted image setup supply bytes g range)
-    × ((calls : ℕ × ℕ × List ℕ) × IsScript script calls)
-IsUnplayed image script setup supply OutOfMemory = IsSome image.bytes × HasCall script
-IsUnplayed image script setup supply NotWritten = ⊥
+    × ((calls : List (ℕ × ℕ × List TimedCall)) × files.AreScripts scripts calls)
+IsUnplayed image scripts setup supply OutOfMemory = ⊥
+IsUnplayed image scripts setup supply NotWritten = ⊥
 
--- the script was played in a session of some number, and of the text of that session this went out
-abbrev pub IsShown : File → File → Setup → List DriverState → Bool → (List ℕ → Type 0) → Type 0
-IsShown image script setup supply gave WentOut =
-    (number : ℕ) × (outcomes : List Outcome) × IsPlayed image script setup supply number outcomes gave × WentOut (session_text number outcomes)
+-- the scripts were played, of the text of their sessions this went out, and this image was left
+abbrev pub IsShown : File → List File → Setup → List DriverState → Bool → (List ℕ → Type 0) → Option (List ℕ) → Type 0
+IsShown image scripts setup supply gave WentOut left =
+    (played : List Played) × (bytes : List ℕ) × IsPlayed image scripts setup supply played gave bytes × WentOut (sessions_text played) × (left ≡ Some bytes)
 
 -- whether it is about writing
 abbrev pub is_of_output : PlayRefusal → Bool
@@ -79,17 +72,17 @@ is_of_output OutOfMemory = true
 is_of_output NotWritten = true
 is_of_output _ = false
 
--- nothing was played, and nothing went out; or the script was played, and a part of the session's text went out
-abbrev pub IsCutShort : File → File → Setup → List DriverState → PlayRefusal → Type 0 → (List ℕ → Type 0) → Type 0
-IsCutShort image script setup supply refusal Nothing Part =
-    (Nothing × IsUnplayed image script setup supply refusal)
-    ⊎ ((is_of_output refusal ≡ true) × ((gave : Bool) × IsShown image script setup supply gave Part))
+-- nothing went out, and no image was left, since nothing was played; or the scripts were played, a part of their sessions' text went out, and
+-- the image was left
+abbrev pub IsCutShort : File → List File → Setup → List DriverState → PlayRefusal → Type 0 → (List ℕ → Type 0) → Option (List ℕ) → Type 0
+IsCutShort image scripts setup supply refusal Nothing Part left =
+    (Nothing × (left ≡ None) × IsUnplayed image scripts setup supply refusal)
+    ⊎ ((is_of_output refusal ≡ true) × ((gave : Bool) × IsShown image scripts setup supply gave Part left))
 
 -- the text of a refusal
 abbrev pub refusal_text : PlayRefusal → List ℕ
-refusal_text (CannotRead name) = codes "cannot read " ++ name.now
-refusal_text (BadLine number name) = codes "bad line " ++ decimal number ++ codes " of " ++ name.now
+refusal_text (Files refusal) = files.refusal_text refusal
 refusal_text (Start refusal) = start_refusal_text refusal
-refusal_text (NoSession refusal) = session_refusal_name refusal
+refusal_text (Service refusal) = service_text refusal
 refusal_text OutOfMemory = codes "OutOfMemory"
 refusal_text NotWritten = codes "cannot write standard output"

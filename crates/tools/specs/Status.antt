@@ -2,6 +2,8 @@
 use Rattle.std.specs.Prelude.{ℕ, Bool, true, false}
 use Rattle.tools.specs.declared.play.Status.{Status}
 use Rattle.tools.specs.declared.play.Status.TheVariants.{Done, Refused, GivenUp}
+use Rattle.tools.specs.declared.players.LastSync.{LastSync}
+use Rattle.tools.specs.declared.players.LastSync.TheVariants as last
 
 -- the status of the process
 abbrev pub status_number : Status → ℕ
@@ -18,3 +20,8 @@ gave_of _ = false
 abbrev pub IsWhole : Status → Type 0
 IsWhole (Refused told) = ⊥
 IsWhole _ = Unit {0}
+
+-- whether a last sync says that the device was given up
+abbrev pub is_given_up : LastSync → Bool
+is_given_up last.GivenUp = true
+is_given_up _ = false

@@ -1,10 +1,8 @@
 //! What the programs do, between the bytes that they read and the bytes that they write.
 #![tactic(auto)]
 
-pub mod answers;
-mod calls;
 pub mod play;
-pub mod script;
+pub mod players;
 
 pub use output;
 pub use volume_tools::{make, verify};

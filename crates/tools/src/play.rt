@@ -1,36 +1,36 @@
-//! Playing a script against a server of its own, from the bytes of its files to the lines of its answers.
+//! Playing scripts against a server of their own, from the bytes of their files to the lines of their answers and the image that is left.
 
-ghost use Rattle.std.specs.Prelude.{◌≡◌, IfOk, IfErr, map, Some, None, if◌then◌else◌};
+ghost use Rattle.std.specs.Prelude.{◌≡◌, true, IfOk, IfErr, map, Some, None, if◌then◌else◌};
+ghost use Rattle.std.specs.Option.{option_map};
+ghost use Rattle.std.specs.Bool.{OnTrue, OnFalse};
 ghost use Rattle.std.specs.Io.KnownBytes.{Appends};
-ghost use Rattle.tools.specs.Played.{IsPlayed, IsUnplayed, IsShown, IsCutShort, IsScript, IsNoScript, refusal_text};
+ghost use Rattle.session_text.specs.Answers.{sessions_text};
 ghost use Rattle.output.specs.Output.{AppendsPart, Tells};
+ghost use Rattle.tools.specs.Played.{AreUnread, IsPlayed, IsUnplayed, IsShown, IsCutShort, gave_up, is_of_output, refusal_text};
 ghost use Rattle.tools.specs.Refusals.{refusal_of};
-ghost use Rattle.tools.specs.Status.{status_number, gave_of, IsWhole};
+ghost use Rattle.volume_tools.specs.Making.{unwritten_text};
+ghost use Rattle.tools.specs.Status.{status_number, gave_of, is_given_up, IsWhole};
+ghost use Rattle.script_text.specs.Said.{said};
+ghost use Rattle.script_files.specs.Files.{AreScripts};
 
-use crate::answers::write_session;
-use crate::calls::{Played, Player};
-use crate::script::{Script, ScriptRefusal, read_script};
+use crate::players::{Came, LastSync, Players, ServiceRefusal};
 use inline::local::LocalDriver;
 use launch::start::serve;
 pub use output::Told;
 use output::{OutputRefusal, tell};
 use policy::Setup;
+pub use script_files::File;
+use script_files::{FileRefusal, read_scripts};
+use script_play::turns::has_eio;
+use script_text::script::Script;
 use serve::gate::Open;
-use serve::refusal::SessionRefusal;
+use session_text::answers::write_sessions;
 use startup::StartRefusal;
 use std::alloc::Global;
 use std::fmt;
 use std::io::Write;
 use std::sync::Wait;
-
-/// A file that the command line names, and its bytes if it could be read.
-#[derive(Clone, Copy)]
-pub struct File<'n, 'b> {
-    /// The name as it was given.
-    pub name: &'n str,
-    /// All its bytes; none where it couldn't be read.
-    pub bytes: Option<&'b [u8]>,
-}
+use volume_tools::make;
 
 /// How a play ended.
 #[derive(Clone, Copy, Debug, PartialEq, Eq)]
@@ -56,18 +56,25 @@ impl Status {
     }
 }
 
-/// Why a script wasn't played, or not all of its answers were written.
+/// What came of a play.
+#[derive(Debug, PartialEq, Eq, Drop)]
+pub struct Ended {
+    /// How it ended.
+    pub status: Status,
+    /// The bytes of the image as the media stand after the last sync, also where not all of the text was written; none where nothing was played.
+    pub image: Option<Vec<u8>>,
+}
+
+/// Why scripts weren't played, or not all of their answers were written.
 #[derive(Clone, Copy)]
 pub enum PlayRefusal<'n> {
-    /// The file of this name can't be read.
-    CannotRead(&'n str),
-    /// The line of this number, from 1, of the script of this name can't be read.
-    BadLine(u64, &'n str),
+    /// The image can't be read, or the files of the scripts give no scripts.
+    Files(FileRefusal<'n>),
     /// No service starts on this image.
     Start(StartRefusal),
-    /// The service makes no session, or no memory was found for its answers.
-    NoSession(SessionRefusal),
-    /// No memory was found for the script or for the text of an answer.
+    /// The service started, and gives no answers or no image.
+    Service(ServiceRefusal),
+    /// No memory was found for the text of an answer.
     OutOfMemory,
     /// Standard output refused bytes; those before them went out.
     NotWritten,
@@ -78,104 +85,151 @@ impl fmt::Display for PlayRefusal<'_> {
 
     fn fmt<W: fmt::Write>(&self, f: &mut fmt::Formatter<W>) -> fmt::Result {
         match self {
-            PlayRefusal::CannotRead(name) => write!(f, "cannot read {name}"),
-            PlayRefusal::BadLine(number, name) => write!(f, "bad line {number} of {name}"),
+            PlayRefusal::Files(refusal) => write!(f, "{refusal}"),
             PlayRefusal::Start(refusal) => write!(f, "{refusal}"),
-            PlayRefusal::NoSession(refusal) => write!(f, "{refusal}"),
+            PlayRefusal::Service(refusal) => write!(f, "{refusal}"),
             PlayRefusal::OutOfMemory => f.write_str("OutOfMemory"),
             PlayRefusal::NotWritten => f.write_str("cannot write standard output"),
         }
     }
 }
 
-/// Plays a script in a session of a service on the volume in an image, and writes the answers on `out`: a line with the session's number, as
-/// `session 0`, and then a line for each call.
+/// Plays scripts one after the other, each in a session of its own of a service on the volume in an image, stops the service, and writes the
+/// answers on `out`: for each script a line with its session's number, as `session 0`, and then a line for each call.
 ///
-/// Faults are looked for in this order: reading the image, reading the script, its lines, the start of the service, its session. For the
-/// first of them, or where the answers can't be written, a line goes to `err`, and nothing is played after it; the status says how that
-/// line went out.
+/// Faults are looked for in this order: reading the image, reading the scripts in their order, their lines file by file, more than 64 scripts, the
+/// start of the service, its sessions, the image. For the first of them a line goes to `err`, nothing goes out, and no image is left. Where the
+/// answers can't be written, a line goes to `err` too, and the image is there all the same. The status says how that line went out.
 pub fn play<R: Wait + Copy, D: LocalDriver, W: Write, E: Write>(
     alloc: Global,
     rt: R,
     image: File<'_, '_>,
-    script: File<'_, '_>,
+    scripts: &[File<'_, '_>],
     setup: &Setup,
     supply: Vec<D>,
     out: &mut W,
     err: &mut E,
-) -> Status
-    ensures whole { IsWhole result → IsShown image.entry script.entry setup.now (map D.state supply.items) (gave_of result)
-        (Appends (W.contents out.old) (W.contents out.new)) × (err.new ≡ err.old) }
-    ensures refused { (told : Told) → result ≡ Status.Refused told → (refusal : PlayRefusal)
+) -> Ended
+    ensures whole { IsWhole result.status → IsShown image.entry scripts.now setup.now (map D.state supply.items) (gave_of result.status)
+        (Appends (W.contents out.old) (W.contents out.new)) (option_map (λ bytes. bytes.items) result.image) × (err.new ≡ err.old) }
+    ensures refused { (told : Told) → result.status ≡ Status.Refused told → (refusal : PlayRefusal)
         × Tells (Some (refusal_text refusal)) told (E.contents err.old) (E.contents err.new)
-        × IsCutShort image.entry script.entry setup.now (map D.state supply.items) refusal (out.new ≡ out.old)
-        (AppendsPart (W.contents out.old) (W.contents out.new)) }
+        × IsCutShort image.entry scripts.now setup.now (map D.state supply.items) refusal (out.new ≡ out.old)
+        (AppendsPart (W.contents out.old) (W.contents out.new)) (option_map (λ bytes. bytes.items) result.image) }
 {
-    match run(alloc, rt, image, script, setup, supply, out) {
-        Ok(played) => status_of(played),
-        Err(refusal) => Status::Refused(tell(alloc, err, &refusal)),
+    let came = match run(alloc, rt, image, scripts, setup, supply) {
+        Ok(came) => came,
+        Err(refusal) => {
+            return Ended {
+                status: Status::Refused(tell(alloc, err, &refusal)),
+                image: None,
+            };
+        }
+    };
+    let status = show(alloc, &came, out, err);
+    Ended {
+        status,
+        image: Some(came.image),
     }
 }
 
-/// Plays, and writes the answers; whether the device was given up.
-fn run<'n, R: Wait + Copy, D: LocalDriver, W: Write>(
+/// How a play ended whose image was to be written to the file of this name: it was written, or it wasn't, and then a line on `err` says so.
+pub fn finish<E: Write>(
+    alloc: Global,
+    played: Status,
+    name: &str,
+    written: bool,
+    err: &mut E,
+) -> Status
+    ensures written { OnTrue written ((result ≡ played) × (err.new ≡ err.old)) }
+    ensures unwritten { OnFalse written ((told : Told) × (result ≡ Status.Refused told)
+        × Tells (Some (unwritten_text name.now)) told (E.contents err.old) (E.contents err.new)) }
+{
+    match make::finish(alloc, name, written, err) {
+        make::Status::Done => played,
+        make::Status::Refused(told) => Status::Refused(told),
+    }
+}
+
+/// Reads, starts, plays and stops, in this order.
+fn run<'n, R: Wait + Copy, D: LocalDriver>(
     alloc: Global,
     rt: R,
     image: File<'n, '_>,
-    script: File<'n, '_>,
+    scripts: &[File<'n, '_>],
     setup: &Setup,
     supply: Vec<D>,
-    out: &mut W,
-) -> Result<bool, PlayRefusal<'n>>
-    ensures shown { IfOk result (λ gave. IsShown image.entry script.entry setup.now (map D.state supply.items) gave
-        (Appends (W.contents out.old) (W.contents out.new))) }
-    ensures refused { IfErr result (λ refusal. IsCutShort image.entry script.entry setup.now (map D.state supply.items) refusal (out.new ≡ out.old)
-        (AppendsPart (W.contents out.old) (W.contents out.new))) }
+) -> Result<Came, PlayRefusal<'n>>
+    ensures played { IfOk result (λ came. IsPlayed image.entry scripts.now setup.now (map D.state supply.items) came.sessions.items
+        (gave_up came.sessions.items came.last_sync) came.image.items) }
+    ensures unplayed { IfErr result (IsUnplayed image.entry scripts.now setup.now (map D.state supply.items)) }
 {
-    let played = play_session(alloc, rt, image, script, setup, supply)?;
-    let number = usize::from(played.number);
-    match write_session(alloc, out, number, played.outcomes.as_slice()) {
-        Ok(()) => Ok(played.given_up),
-        Err(refusal) => Err(told_as(refusal)),
+    let (image, scripts) = match read(alloc, image, scripts) {
+        Ok(read) => read,
+        Err(refusal) => return Err(PlayRefusal::Files(refusal)),
+    };
+    let players = Players { alloc, scripts };
+    match serve(alloc, rt, image, setup, supply, Open, players) {
+        Ok(Ok(came)) => Ok(came),
+        Ok(Err(refusal)) => Err(PlayRefusal::Service(refusal)),
+        Err(refusal) => Err(PlayRefusal::Start(refusal)),
     }
+}
+
+/// The bytes of the image, and the scripts that the files hold.
+fn read<'n, 'b>(
+    alloc: Global,
+    image: File<'n, 'b>,
+    scripts: &[File<'n, 'b>],
+) -> Result<(&'b [u8], Vec<Script<'b>>), FileRefusal<'n>>
+    ensures ok { IfOk result (λ read. (image.entry.bytes ≡ Some read.0) × AreScripts scripts.now (map said read.1.items)) }
+    ensures err { IfErr result (AreUnread image.entry.bytes image.entry.name scripts.now) }
+{
+    let Some(bytes) = image.bytes else {
+        return Err(FileRefusal::CannotRead(image.name));
+    };
+    match read_scripts(alloc, scripts) {
+        Ok(scripts) => Ok((bytes, scripts)),
+        Err(refusal) => Err(refusal),
+    }
+}
+
+/// Writes the answers. How the play ended.
+fn show<W: Write, E: Write>(alloc: Global, came: &Came, out: &mut W, err: &mut E) -> Status
+    ensures whole { IsWhole result → (gave_of result ≡ gave_up came.now.sessions.items came.now.last_sync)
+        × Appends (W.contents out.old) (W.contents out.new) (sessions_text came.now.sessions.items) × (err.new ≡ err.old) }
+    ensures refused { (told : Told) → result ≡ Status.Refused told → (refusal : PlayRefusal)
+        × Tells (Some (refusal_text refusal)) told (E.contents err.old) (E.contents err.new) × (is_of_output refusal ≡ true)
+        × AppendsPart (W.contents out.old) (W.contents out.new) (sessions_text came.now.sessions.items) }
+{
+    match write_sessions(alloc, out, came.sessions.as_slice()) {
+        Ok(()) => status_of(was_given_up(came)),
+        Err(refusal) => Status::Refused(tell(alloc, err, &told_as(refusal))),
+    }
+}
+
+/// Whether the device was given up: a call was answered EIO, or the last sync was.
+fn was_given_up(came: &Came) -> bool
+    ensures { result ≡ gave_up came.now.sessions.items came.now.last_sync }
+{
+    has_eio(came.sessions.as_slice()) || is_giving_up(came.last_sync)
+}
+
+/// Whether a last sync says that the device was given up.
+fn is_giving_up(last: LastSync) -> bool
+    ensures { result ≡ is_given_up last }
+{
+    matches!(last, LastSync::GivenUp)
 }
 
 /// Why a text wasn't written, as a refusal of a play.
 fn told_as<'n>(refusal: OutputRefusal) -> PlayRefusal<'n>
-    ensures { result ≡ refusal_of refusal }
+    ensures refusal { result ≡ refusal_of refusal }
+    ensures of_output { is_of_output result ≡ true }
 {
     match refusal {
         OutputRefusal::OutOfMemory => PlayRefusal::OutOfMemory,
         OutputRefusal::NotWritten => PlayRefusal::NotWritten,
-    }
-}
-
-/// Reads, starts and makes the calls, in this order.
-fn play_session<'n, R: Wait + Copy, D: LocalDriver>(
-    alloc: Global,
-    rt: R,
-    image: File<'n, '_>,
-    script: File<'n, '_>,
-    setup: &Setup,
-    supply: Vec<D>,
-) -> Result<Played, PlayRefusal<'n>>
-    ensures played { IfOk result (λ played. IsPlayed image.entry script.entry setup.now (map D.state supply.items) played.number played.outcomes.items played.given_up) }
-    ensures unplayed { IfErr result (IsUnplayed image.entry script.entry setup.now (map D.state supply.items)) }
-{
-    let image = readable(image)?;
-    let script = read(alloc, script)?;
-    match serve(
-        alloc,
-        rt,
-        image,
-        setup,
-        supply,
-        Open,
-        Player { alloc, script },
-    ) {
-        Ok(Ok(played)) => Ok(played),
-        Ok(Err(refusal)) => Err(PlayRefusal::NoSession(refusal)),
-        Err(refusal) => Err(PlayRefusal::Start(refusal)),
     }
 }
 
@@ -188,29 +242,5 @@ fn status_of(given_up: bool) -> Status
         Status::GivenUp
     } else {
         Status::Done
-    }
-}
-
-/// The bytes of a file.
-fn readable<'n, 'b>(file: File<'n, 'b>) -> Result<&'b [u8], PlayRefusal<'n>>
-    ensures ok { IfOk result (λ bytes. file.entry.bytes ≡ Some bytes) }
-    ensures err { IfErr result (λ refusal. (file.entry.bytes ≡ None) × (refusal ≡ PlayRefusal.CannotRead file.entry.name)) }
-{
-    match file.bytes {
-        Some(bytes) => Ok(bytes),
-        None => Err(PlayRefusal::CannotRead(file.name)),
-    }
-}
-
-/// The script that a file holds.
-fn read<'n>(alloc: Global, file: File<'n, '_>) -> Result<Script, PlayRefusal<'n>>
-    ensures ok { IfOk result (λ script. IsScript file.entry (script.uid, script.gid, script.times.items)) }
-    ensures err { IfErr result (IsNoScript file.entry) }
-{
-    let text = readable(file)?;
-    match read_script(alloc, text) {
-        Ok(script) => Ok(script),
-        Err(ScriptRefusal::BadLine(number)) => Err(PlayRefusal::BadLine(number, file.name)),
-        Err(ScriptRefusal::OutOfMemory) => Err(PlayRefusal::OutOfMemory),
     }
 }

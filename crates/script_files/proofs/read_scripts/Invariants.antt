@@ -1,6 +1,6 @@
-use Rattle.std.proofs.Common.{◌≡◌, drop, length, map}
+use Rattle.std.proofs.Common.{◌≡◌, ◌<◌, drop, length, map}
 use Rattle.script_text.specs.Said.{said}
-use Rattle.script_files.specs.Files.{scripts_in}
+use Rattle.script_files.specs.Files.{TakeMemory, scripts_in}
 use Rattle.script_files.proofs.Reading.{scripts_after}
 use Rattle.script_files.proofs.read_scripts.Given as goal
 
@@ -9,4 +9,5 @@ abbrev pub invariant-loop-file : goal.invariant-loop-file
 invariant-loop-file l = record {
   so_far : scripts_in l.files ≡ scripts_after (map said l.scripts.items) (scripts_in (drop l.file-index l.files));
   count : length l.scripts.items ≡ l.file-index;
+  takes : 0 < l.file-index → TakeMemory l.files;
 }

@@ -1,0 +1,143 @@
+//! Scripts played one after the other in sessions of one service, which is stopped then.
+
+ghost use Rattle.std.specs.Prelude.{◌≡◌, Some, IfOk, map};
+ghost use Rattle.std.specs.Option.{option_map};
+ghost use Rattle.marks.specs.Opening.{contents_at};
+ghost use Rattle.tree.specs.Tree.{Tree};
+ghost use Rattle.legal.specs.Legal.{IsAtFirst};
+ghost use Rattle.serve.specs.Stopping.{IsSyncedImage};
+ghost use Rattle.script_text.specs.Said.{said};
+ghost use Rattle.script_play.specs.Turns.{ArePlayed, seen_by};
+ghost use Rattle.seats.specs.Vouched.{Vouched};
+ghost use Rattle.tools.specs.Served.{AreServed, service_text};
+
+use file_server::FileServer;
+use keeping::recorder::Recorder;
+use keeping::room::Room;
+use keeping::steady::OnMedia;
+use launch::start::Program;
+use reissue::link::TrueLink;
+use script_play::client::Client;
+use script_play::turns::play_in_turn;
+use script_text::script::Script;
+use seats::admitting::admit_all;
+use seats::script_session::ScriptSession;
+use serve::refusal::SessionRefusal;
+use serve::service::{Service, Shared};
+use serve::stopping::StopRefusal;
+use session_text::answers::Played;
+use std::alloc::Global;
+use std::fmt;
+use std::sync::Wait;
+
+/// What came of the last sync, which a service makes when it is stopped.
+#[derive(Clone, Copy, Debug, PartialEq, Eq)]
+pub enum LastSync {
+    /// All is in the image.
+    Done,
+    /// The device was given up, so what was changed last may not be in the image.
+    GivenUp,
+    /// The link to the drivers had ended, so what was changed last may not be in the image.
+    Cut,
+}
+
+/// Why no image comes of a service that started.
+#[derive(Clone, Copy)]
+pub enum ServiceRefusal {
+    /// The service makes no session for a script, or no memory was found for its answers.
+    NoSession(SessionRefusal),
+    /// The service isn't stopped, since a session is left.
+    SessionsLeft,
+    /// No memory was found for the image.
+    NoImage,
+}
+
+impl fmt::Display for ServiceRefusal {
+    ghost output = { λ r. Some (service_text r) };
+
+    fn fmt<W: fmt::Write>(&self, f: &mut fmt::Formatter<W>) -> fmt::Result {
+        match self {
+            ServiceRefusal::NoSession(refusal) => write!(f, "{refusal}"),
+            ServiceRefusal::SessionsLeft => f.write_str("SessionsLeft"),
+            ServiceRefusal::NoImage => f.write_str("OutOfMemory"),
+        }
+    }
+}
+
+/// What came of scripts: their sessions, and the image once the service was stopped.
+#[derive(Drop)]
+pub(crate) struct Came {
+    pub(crate) sessions: Vec<Played>,
+    pub(crate) last_sync: LastSync,
+    pub(crate) image: Vec<u8>,
+}
+
+/// Scripts, to be played one after the other, each in a session of its own.
+#[derive(Drop)]
+pub(crate) struct Players<'t> {
+    pub(crate) alloc: Global,
+    pub(crate) scripts: Vec<Script<'t>>,
+}
+
+impl<R: Wait + Copy> Program<R> for Players<'_> {
+    type Output = Result<Came, ServiceRefusal>;
+
+    ghost gives = { λ players g v result. IfOk result (λ came.
+        AreServed g v (map said players.scripts.items) came.sessions.items came.last_sync came.image.items) };
+
+    fn run<N: Room, L: Recorder<N> + TrueLink + OnMedia, S: FileServer<L>>(
+        self,
+        service: Service<N, Shared<N, R, L, S>>,
+    ) -> Result<Came, ServiceRefusal>
+        ensures { IfOk result (λ came.
+            AreServed N.geometry N.opening (map said self.entry.scripts.items) came.sessions.items came.last_sync came.image.items) }
+    {
+        let (sessions, last) = play_all(self.alloc, &service, self.scripts.as_slice())?;
+        if let Some(session) = last {
+            session.end();
+        }
+        let (last_sync, image) = stop(self.alloc, service)?;
+        Ok(Came {
+            sessions,
+            last_sync,
+            image,
+        })
+    }
+}
+
+/// Plays scripts one after the other, each in a session of its own; all sessions are made before a call is. What came of them, and the last session,
+/// which goes on.
+fn play_all<N: Room, R: Wait + Copy, L: Recorder<N>, S: FileServer<L>>(
+    alloc: Global,
+    service: &Service<N, Shared<N, R, L, S>>,
+    scripts: &[Script<'_>],
+) -> Result<(Vec<Played>, Option<ScriptSession<N, R, L, S>>), ServiceRefusal>
+    ensures { IfOk result (λ came. ArePlayed (Vouched L.truth N.geometry N.opening) (map said scripts.now) came.0.items
+        (seen_by (option_map (λ s. s.0) came.1))) }
+{
+    let turns = match admit_all(alloc, service, scripts) {
+        Ok(turns) => turns,
+        Err(refusal) => return Err(ServiceRefusal::NoSession(refusal)),
+    };
+    match play_in_turn(alloc, turns) {
+        Ok(came) => Ok(came),
+        Err(_) => Err(ServiceRefusal::NoSession(SessionRefusal::OutOfMemory)),
+    }
+}
+
+/// Stops a service whose sessions have ended. What came of its last sync, and the image as the media stand.
+fn stop<N: Room, R: Wait + Copy, L: Recorder<N> + OnMedia, S: FileServer<L>>(
+    alloc: Global,
+    service: Service<N, Shared<N, R, L, S>>,
+) -> Result<(LastSync, Vec<u8>), ServiceRefusal>
+    ensures { (tree : Tree) → IsAtFirst N.geometry (contents_at N.opening) tree
+        → IfOk result (λ came. came.0 ≡ LastSync.Done → IsSyncedImage N.geometry N.opening tree L.truth L.lies_on came.1.items) }
+{
+    match service.stop(alloc) {
+        Ok(image) => Ok((LastSync::Done, image)),
+        Err(StopRefusal::GivenUp(image)) => Ok((LastSync::GivenUp, image)),
+        Err(StopRefusal::LinkEnded(image)) => Ok((LastSync::Cut, image)),
+        Err(StopRefusal::SessionsLeft(_)) => Err(ServiceRefusal::SessionsLeft),
+        Err(StopRefusal::OutOfMemory(_)) => Err(ServiceRefusal::NoImage),
+    }
+}
