@@ -110,7 +110,11 @@ pub(crate) fn what_was_read<'t>(
 }
 
 /// Plays the sessions on a new volume: the replies are these, the image that is left is clean, and another server reads from it what the last session read.
-pub(crate) fn are_played(alloc: Global, rt: HostRuntime, sessions: &[Session]) -> Result<(), Fail> {
+pub(crate) fn are_played<R: Wait + Abort + Copy>(
+    alloc: Global,
+    rt: R,
+    sessions: &[Session],
+) -> Result<(), Fail> {
     let volume = new_volume(alloc, 1024)?;
     let scripts = scripts_of(alloc, sessions)?;
     let replies = replies_of(alloc, sessions)?;
