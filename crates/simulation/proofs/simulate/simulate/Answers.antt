@@ -1,0 +1,7 @@
+use Rattle.std.proofs.Common.{inl, inr, refl, sym, subst}
+use Rattle.simulation.specs.Inputs.{HasSchedule}
+use Rattle.simulation.proofs.Runs.{has_an_event}
+use Rattle.simulation.proofs.simulate.simulate.Goals as goal
+
+pub returns-in-Err : goal.returns-in-Err
+returns-in-Err g c = inr (c.in-Err.refusal, c.in-Err.ensures.err, refl, c.refuse.ensures.told)
