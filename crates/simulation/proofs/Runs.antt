@@ -1,13 +1,11 @@
 -- From the marks that a transcript lends to its text and to the status.
 use Rattle.std.proofs.Common.{◌≡◌, ℕ, ◌<◌, List, [], ◌∷◌, ◌++◌, Bool, length, reverse, map, refl, sym, ap, ◌∙◌, subst, arith, length-append}
-use Rattle.std.specs.Prelude.{Option, Some, ◌||◌}
+use Rattle.std.specs.Prelude.{Option, ◌||◌}
 use Rattle.std.specs.List.{list_any}
 use Rattle.std.proofs.lemmas.List.Folds.{flat_map-map}
 use Rattle.std.proofs.lemmas.List.Sorted.{IsPermutation-reverse, list_any-IsPermutation}
 use Rattle.marks.specs.Marks.{Mark, Started, Answered, Flush, GaveUp, Took, Issued, Fault, gave_up}
-use Rattle.output.specs.Output.{Tells}
 use Rattle.output.specs.declared.OutputRefusal.TheVariants.{OutOfMemory}
-use Rattle.schedule.specs.declared.Event.{Event}
 use Rattle.schedule.specs.Headline.{Transcript}
 use Rattle.schedule_text.specs.Events.{line_event}
 use Rattle.schedule_text.specs.declared.line.Line.{Line}

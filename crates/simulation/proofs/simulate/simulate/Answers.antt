@@ -1,6 +1,4 @@
-use Rattle.std.proofs.Common.{inl, inr, refl, sym, subst}
-use Rattle.simulation.specs.Inputs.{HasSchedule}
-use Rattle.simulation.proofs.Runs.{has_an_event}
+use Rattle.std.proofs.Common.{inr, refl}
 use Rattle.simulation.proofs.simulate.simulate.Goals as goal
 
 pub returns-in-Err : goal.returns-in-Err
