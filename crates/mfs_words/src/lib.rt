@@ -1,8 +1,11 @@
-//! The words that `mfs` takes, and what they say.
+//! The words that `mfs` takes, and what they say; those of `mfssim` are in [`schedules`].
 #![tactic(auto)]
 
 #[cfg(test)]
 mod rows;
+#[cfg(test)]
+mod schedule_rows;
+pub mod schedules;
 
 use clap::builder::ValueParser;
 use clap::{Arg, ArgAction, ArgMatches, Command};
@@ -39,25 +42,14 @@ Modes are octal, bytes lower-case hexadecimal, other numbers decimal. One space 
 /// The words that `mfs` knows.
 pub fn command<'a>(alloc: Global) -> Result<Command<'a>, AllocError> {
     let files = files(alloc)?;
-    let minor = Arg::new(alloc, "minor")
-        .long("minor")
-        .value_name("M")
-        .value_parser(ValueParser::Unsigned(0, 255))
-        .default_value("0")
-        .help(
-            "Where the volume lies: 0 is the whole image, 1 to 4 are the partitions of its table",
-        );
-    let spares = Arg::new(alloc, "spares")
-        .long("spares")
-        .value_name("K")
-        .value_parser(ValueParser::Unsigned(0, MOST_SPARES))
-        .default_value("5")
-        .help("How many drivers stand by to take the place of one that fails");
     let model = Arg::new(alloc, "model")
         .long("model")
         .action(ArgAction::SetTrue)
         .help("The drivers move an arm over the sectors, from sector 0 on");
-    files.arg(minor)?.arg(spares)?.arg(model)
+    files
+        .arg(minor_word(alloc))?
+        .arg(spares_word(alloc))?
+        .arg(model)
 }
 
 /// The words that name files.
@@ -83,6 +75,26 @@ fn files<'a>(alloc: Global) -> Result<Command<'a>, AllocError> {
         .arg(image)?
         .arg(scripts)?
         .arg(out)
+}
+
+/// The word that says where the volume lies.
+pub(crate) fn minor_word<'a>(alloc: Global) -> Arg<'a> {
+    Arg::new(alloc, "minor")
+        .long("minor")
+        .value_name("M")
+        .value_parser(ValueParser::Unsigned(0, 255))
+        .default_value("0")
+        .help("Where the volume lies: 0 is the whole image, 1 to 4 are the partitions of its table")
+}
+
+/// The word that says how many drivers stand by.
+pub(crate) fn spares_word<'a>(alloc: Global) -> Arg<'a> {
+    Arg::new(alloc, "spares")
+        .long("spares")
+        .value_name("K")
+        .value_parser(ValueParser::Unsigned(0, MOST_SPARES))
+        .default_value("5")
+        .help("How many drivers stand by to take the place of one that fails")
 }
 
 /// The most drivers that stand by (own).

@@ -1,5 +1,5 @@
 -- Which lines are an event.
-use Rattle.std.specs.Prelude.{◌≡◌, ℕ, List, [], ◌∷◌, nat_lt, Bool, Option, Some, None, Result, codes, replicate, if◌then◌else◌}
+use Rattle.std.specs.Prelude.{ℕ, List, [], ◌∷◌, nat_lt, Bool, Option, Some, None, Result, codes, replicate, if◌then◌else◌}
 use Rattle.std.specs.Option.{option_map, option_zip}
 use Rattle.std.specs.Str.{bytes_eq}
 use Rattle.tree.specs.declared.Who.{Who}

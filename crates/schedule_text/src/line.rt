@@ -1,6 +1,6 @@
 //! The lines of a schedule.
 
-ghost use Rattle.std.specs.Prelude.{◌≡◌, ◌++◌, OnOk, length};
+ghost use Rattle.std.specs.Prelude.{◌≡◌, ◌<◌, ◌^◌, ◌++◌, IfSome, OnOk, length};
 ghost use Rattle.std.specs.Option.{option_map};
 ghost use Rattle.call_text.specs.Words.{words_of};
 ghost use Rattle.schedule_text.specs.Events.{arrival_of, caller_of, event_at, event_of, event_of_none, event_of_one, event_of_two, line_bytes, line_event, plain_event};
@@ -123,7 +123,8 @@ fn read_line(line: &[u8]) -> Option<Line<'_>>
 
 /// The event of the line of this number, counted from 1; none past [`LAST_LINE`].
 pub fn read_numbered(number: u64, line: &[u8]) -> Option<Line<'_>>
-    ensures { option_map line_event result ≡ event_at number line.now }
+    ensures event { option_map line_event result ≡ event_at number line.now }
+    ensures few { IfSome result (λ _. number < 2 ^ 32) }
 {
     if number > LAST_LINE {
         None

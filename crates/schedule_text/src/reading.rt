@@ -1,6 +1,6 @@
 //! Schedules, from their text to their events.
 
-ghost use Rattle.std.specs.Prelude.{◌≡◌, ◌<◌, IfOk, IfErr, OnErr, flat_map, length, map};
+ghost use Rattle.std.specs.Prelude.{◌≡◌, ◌<◌, ◌^◌, IfOk, IfErr, OnErr, flat_map, length, map};
 ghost use Rattle.schedule_text.specs.Events.{line_bytes, line_event, plain_event, schedule_in};
 ghost use Rattle.schedule_text.specs.Refusals.{IsRefused};
 
@@ -24,6 +24,7 @@ pub enum ScheduleRefusal {
 /// Reads the lines of a schedule, each ended by a newline. Memory is sought only once a line was read.
 fn read_lines(alloc: Global, text: &[u8]) -> Result<Vec<Line<'_>>, ScheduleRefusal>
     ensures ok { IfOk result (λ lines. schedule_in text.now ≡ Ok (map line_event lines.items)) }
+    ensures few { IfOk result (λ lines. length lines.items < 2 ^ 32) }
     ensures err { IfErr result (IsRefused text.now) }
 {
     let mut lines = Vec::new(alloc);
@@ -64,13 +65,14 @@ fn events_of<'t>(
     bytes: &'t [u8],
 ) -> Result<Vec<Event<'t>>, AllocError>
     requires { bytes.now ≡ flat_map line_bytes lines.now }
-    ensures { IfOk result (λ events. map plain_event events.items ≡ map line_event lines.now) }
+    ensures events { IfOk result (λ events. map plain_event events.items ≡ map line_event lines.now) }
+    ensures some { OnErr result (0 < length lines.now) }
 {
-    let mut events = Vec::with_capacity(alloc, lines.len())?;
+    let mut events = Vec::new(alloc);
     let mut rest = bytes;
     for line in lines {
         let (own, after) = rest.split_at(line.decoded_len());
-        events.push_reserved(line.event(own));
+        events.push(line.event(own))?;
         rest = after;
     }
     Ok(events)
@@ -82,6 +84,7 @@ pub struct Schedule<'t> {
     lines: Vec<Line<'t>>,
     bytes: Vec<u8>,
     ghost whole: { bytes.items ≡ flat_map line_bytes lines.items },
+    ghost few: { length lines.items < 2 ^ 32 },
 }
 
 /// Reads a schedule: a line for each event, ended by a newline. No bytes are a schedule without events.
@@ -100,8 +103,11 @@ pub fn read_schedule(alloc: Global, text: &[u8]) -> Result<Schedule<'_>, Schedul
 
 impl Schedule<'_> {
     /// Its events, in the order of the lines, fewer than 2 to the 32nd. The calls' paths and bytes stand in the schedule and in its text.
+    /// An error: no memory was found for an event.
     pub fn events(&self, alloc: Global) -> Result<Vec<Event<'_>>, AllocError>
-        ensures { IfOk result (λ events. map plain_event events.items ≡ map line_event self.now.lines.items) }
+        ensures events { IfOk result (λ events. map plain_event events.items ≡ map line_event self.now.lines.items) }
+        ensures few { IfOk result (λ events. length events.items < 2 ^ 32) }
+        ensures some { OnErr result (0 < length self.now.lines.items) }
     {
         events_of(alloc, self.lines.as_slice(), self.bytes.as_slice())
     }

@@ -1,5 +1,5 @@
 -- What a program says of a run.
-use Rattle.std.specs.Prelude.{◌≡◌, ℕ, List, [], ◌∷◌, Bool, true, false, Option, Some, codes}
+use Rattle.std.specs.Prelude.{◌≡◌, ℕ, List, Bool, true, false, Option, Some, codes}
 use Rattle.std.specs.Io.KnownBytes.{Appends}
 use Rattle.marks.specs.Marks.{Mark, GaveUp}
 use Rattle.output.specs.Output.{AppendsPart, Tells}

@@ -40,7 +40,7 @@ impl Status {
 
 /// Why a transcript wasn't written, as a line of standard error.
 #[derive(Clone, Copy)]
-struct NotShown(OutputRefusal);
+pub(crate) struct NotShown(pub(crate) OutputRefusal);
 
 impl fmt::Display for NotShown {
     ghost output = { λ r. Some (output_text r.0) };

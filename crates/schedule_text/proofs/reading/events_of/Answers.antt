@@ -1,5 +1,4 @@
-use Rattle.std.proofs.Common.{arith}
-use Rattle.std.proofs.lemmas.Grind.{common_steps}
+use Rattle.std.proofs.Common.{◌≡◌, ◌∷◌, [], ◌++◌, rules}
 use Rattle.schedule_text.proofs.Events.{bytes_left, own_bytes, bytes_after, events_more}
 use Rattle.schedule_text.proofs.reading.events_of.Goals as goal
 
@@ -13,11 +12,11 @@ event-requires c =
     c.decoded_len.ensures c.split_at.ensures.front
 
 pub loop-line-preserved : goal.loop-line-preserved
-loop-line-preserved c = record {
-  rest = bytes_after c.args.lines.now c.loop-line.line-index _ c.loop-line.rest.now c.split_at.result.1.now c.decoded_len.result c.loop-line-test.true c.loop-line.invariant.rest
-      c.decoded_len.ensures c.split_at.ensures.back;
-  events = events_more c.args.lines.now c.loop-line.line-index _ c.loop-line.events.items c.push_reserved.new.self.items c.event.result c.loop-line-test.true
-      c.loop-line.invariant.events c.push_reserved.ensures.items c.event.ensures;
-  count = grind (arith, common_steps);
-  room = grind (arith, common_steps);
-}
+loop-line-preserved c =
+    let items : c.push.new.self.items ≡ c.loop-line.events.items ++ c.event.result ∷ [] = search rules in
+    record {
+      rest = bytes_after c.args.lines.now c.loop-line.line-index _ c.loop-line.rest.now c.split_at.result.1.now c.decoded_len.result c.loop-line-test.true c.loop-line.invariant.rest
+          c.decoded_len.ensures c.split_at.ensures.back;
+      events = events_more c.args.lines.now c.loop-line.line-index _ c.loop-line.events.items c.push.new.self.items c.event.result c.loop-line-test.true
+          c.loop-line.invariant.events items c.event.ensures;
+    }
