@@ -1,5 +1,5 @@
 -- From a schedule that was played out to what is shown of the run.
-use Rattle.std.proofs.Common.{◌≡◌, cond, ℕ, suc, ◌+◌, ◌-◌, ◌*◌, ◌<◌, ◌≤◌, List, [], ◌∷◌, ◌++◌, Bool, true, false, length, refl, sym, ◌∙◌, ap, subst, arith, Result, Ok, Err, IfOk}
+use Rattle.std.proofs.Common.{◌≡◌, cond, ℕ, suc, ◌+◌, ◌-◌, ◌<◌, ◌≤◌, List, [], ◌∷◌, ◌++◌, Bool, true, false, length, refl, sym, ◌∙◌, ap, subst, arith, Result, Ok, Err, IfOk}
 use Rattle.std.specs.List.{concat}
 use Rattle.layout.specs.declared.Geometry.{Geometry}
 use Rattle.tree.specs.Tree.{Tree}
@@ -12,19 +12,18 @@ use Rattle.policy.specs.Watch.{Watch, driver, new_watch}
 use Rattle.marks.specs.Marks.{Mark, Started}
 use Rattle.marks.specs.Opening.{Opening, Range, contents_at}
 use Rattle.marks.specs.Told.{took_end}
-use Rattle.legal.specs.View.{Frames}
 use Rattle.true_replies.specs.Events.{IsOnMedia}
 use Rattle.startup.specs.Starting.{opening_of}
 use Rattle.reissue.specs.declared.link.Link.{Ghosts as LinkWords}
 use Rattle.schedule.specs.declared.Event.{Event}
 use Rattle.schedule.specs.declared.Sent.{Sent}
 use Rattle.schedule.specs.Groups.{Each}
-use Rattle.schedule.specs.Calls.{arrived, taken}
+use Rattle.schedule.specs.Calls.{taken}
 use Rattle.schedule.specs.Headline.{Transcript}
 use Rattle.run_log.specs.Noted.{Noted, marks_in}
-use Rattle.driver_events.specs.Scene.{Scene, Opens}
+use Rattle.driver_events.specs.Scene.{Scene}
 use Rattle.playing.specs.declared.playing.Playing.{Playing}
-use Rattle.playing.specs.PlayView.{Play, IsOpened, first_noted, left_of, unless_told, work_left}
+use Rattle.playing.specs.PlayView.{Play, IsOpened, left_of, unless_told, work_left}
 use Rattle.playing.specs.Moments.{Resting}
 use Rattle.justifying.specs.Steady.{drivers_of}
 use Rattle.justified_runs.specs.Shown.{EventsJustified}

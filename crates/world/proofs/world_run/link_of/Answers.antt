@@ -1,4 +1,3 @@
-use Rattle.std.proofs.Common.{length, map}
 use Rattle.world.proofs.Showing.{fresh, if_ok, opened_on}
 use Rattle.world.proofs.world_run.link_of.Goals as goal
 

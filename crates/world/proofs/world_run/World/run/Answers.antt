@@ -6,7 +6,7 @@ use Rattle.world.specs.Plays.{IsFresh}
 use Rattle.media.specs.Contents.{MediaState}
 use Rattle.startup.specs.Starting.{opening_of}
 use Rattle.playing.specs.PlayView.{play_of}
-use Rattle.world.proofs.Showing.{lacking, little_work, none_ended, run_shows, small_budget, whole_there}
+use Rattle.world.proofs.Showing.{little_work, none_ended, run_shows, small_budget, whole_there}
 use Rattle.world.proofs.world_run.World.run.Goals as goal
 
 pub overflow_cast-frames : goal.overflow_cast-frames
