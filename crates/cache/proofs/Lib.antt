@@ -8,6 +8,7 @@ pub mod Runs
 pub mod Edits
 mod Staying
 mod Taking
+mod Silent
 pub mod Beginning
 pub mod Placing
 mod Fetching

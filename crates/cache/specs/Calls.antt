@@ -145,6 +145,12 @@ pub record Serves (old new : Caching) (w v : DiskState) : Type 0 where
 abbrev pub Keeps : Caching → Caching → Type 0
 Keeps old new = Runs None old new (λ w v. Serves old new w v)
 
+-- nothing is pending, as a record has it
+pub record IsIdle (c : Caching) : Type 0 where
+  pub none : c.table.pending ≡ []
+  pub marks : List Mark
+  pub agrees : Agrees c.table marks
+
 -- A message that is handed over between two calls: no message is taken, and an End has no effect.
 pub record HandsOver (message : Incoming) (old new : Caching) : Type 0 where
   pub runs : Runs (Some message) old new (λ w v. Serves old new w v)

@@ -60,7 +60,7 @@ impl<L: Link> Cache<L> {
     ghost use Rattle.cache.specs.Edits.{AllClean, SomeUnclean, IsIssued, IssuesLowest, IsWritten, IsSlotAt, IsFreeAt, IsAt, Leaves};
     ghost use Rattle.cache.specs.Edits.{AllStay, StayBut, IsChangedAt};
     ghost use Rattle.cache.specs.Frames.{frames_of, view, with_bytes};
-    ghost use Rattle.cache.specs.Calls.{caching, held_by, frame_count, IsReady, IsLive, IsWhyCut, IsFrame, IsMade, IsStuck, IsRefusing};
+    ghost use Rattle.cache.specs.Calls.{caching, held_by, frame_count, IsReady, IsIdle, IsLive, IsWhyCut, IsFrame, IsMade, IsStuck, IsRefusing};
     ghost use Rattle.cache.specs.Calls.{PostsAlone, messages_left};
     ghost use Rattle.cache.specs.Calls.{Does, Keeps, HandsOver, Blanks, Rewrites, LinkGoesOn, WantsFlush, IsWantedFor};
     ghost use Rattle.cache.specs.Calls.{forgotten, with_cache_link, without_flush};
@@ -541,7 +541,8 @@ impl<L: Link> Cache<L> {
         }
     }
 
-    /// Does what a message asks for that was handed over between two calls. End changes nothing.
+    /// Does what a message asks for that was handed over between two calls. End changes nothing. Where nothing is pending the link is told
+    /// nothing.
     pub fn absorb(&mut self, message: Incoming)
         requires ready { IsReady (caching L.Link self.old) }
         requires ids { (table_of self.old.transfers).ids < 2 ^ 60 }
@@ -549,6 +550,7 @@ impl<L: Link> Cache<L> {
             < 2 ^ 60 + length (table_of self.old.transfers).pending }
         requires room { room_needed message ≤ L.room (link_of self.old.transfers) }
         ensures hands_over { HandsOver message (caching L.Link self.old) (caching L.Link self.new) }
+        ensures silent { IsIdle (caching L.Link self.old) → (caching L.Link self.new).told ≡ (caching L.Link self.old).told }
         ensures goes { LinkGoesOn L.Link self.old self.new }
         ensures wanted { IsWantedFor (message ≡ Incoming.Flush) self.old.flush self.new.flush }
         ensures stay { AllStay self.old.slots self.new.slots }

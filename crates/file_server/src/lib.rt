@@ -1,7 +1,7 @@
 //! A file server over a link: what every one keeps, so that whoever moves its link needs to know nothing else of it.
 #![tactic(auto)]
 
-ghost use Rattle.std.specs.Prelude.{◌≡◌, ◌≤◌, ◌<◌, ◌+◌, ◌^◌, ℕ, min, false};
+ghost use Rattle.std.specs.Prelude.{◌≡◌, ◌≢◌, ◌≤◌, ◌<◌, ◌+◌, ◌^◌, ℕ, min, false};
 ghost use Rattle.std.specs.Borrow.{Lends, sem};
 ghost use Rattle.tree.specs.declared.Call.{Call as TreeCall};
 ghost use Rattle.reissue.specs.Room.{room_needed};
@@ -34,6 +34,9 @@ pub trait FileServer<L: Link + Drop>: Serve + Drop {
     // what it needs of its link for the next call: room, and ids for what the link still gives
     ghost is_ready: { Self → Type 0 };
 
+    // nothing is pending at its link, and no Flush is left undone
+    ghost is_idle: { Self → Type 0 };
+
     /// One call of a client, with the time in seconds since 1970. Cut once a take gave End; else EIO once the device was given up.
     fn call(&mut self, who: Who, now: u32, call: &Call) -> Outcome
         requires ready { is_ready self.old }
@@ -45,13 +48,15 @@ pub trait FileServer<L: Link + Drop>: Serve + Drop {
         ensures budget { (Self.serving self.new).ended ≡ false → L.budget_left (line self.new) ≤ L.budget_left (line self.old) }
         ensures absorbed { absorbed self.new ≡ absorbed self.old };
 
-    /// One message between two calls, which its link has noted. End has no effect.
+    /// One message between two calls, which its link has noted. End has no effect. Where nothing is pending and no Flush is left undone,
+    /// nothing but a Flush makes it tell its link anything.
     fn absorb(&mut self, message: Incoming)
         requires ready { is_ready self.old }
         requires few { absorbed self.old < 2 ^ 48 }
         requires room { room_needed message ≤ L.room (line self.old) }
         ensures ready { is_ready self.new }
         ensures keeps { AbsorbsOver (Self.serving self.old) (Self.serving self.new) (L.truth (line self.old)) (L.truth (line self.new)) message }
+        ensures silent { message ≢ Incoming.Flush → is_idle self.old → L.history (line self.new) ≡ L.history (line self.old) }
         ensures goes { L.goes_on (line self.old) (line self.new) }
         ensures budget { (Self.serving self.new).ended ≡ false → L.budget_left (line self.new) ≤ L.budget_left (line self.old) }
         ensures absorbed { absorbed self.new ≤ absorbed self.old + 1 };

@@ -5,3 +5,4 @@ pub mod AfterFaultLaws
 pub mod OrderLaws
 pub mod AllLaws
 pub mod FailureLaws
+pub mod ShownLaws

@@ -27,7 +27,7 @@ use Rattle.justifying.proofs.AnswerLaws.{answered_kept}
 use Rattle.justifying.proofs.ExitLaws.{exits_kept, length_more}
 use Rattle.justifying.proofs.DriverLaws.{drivers_kept}
 use Rattle.justified_runs.specs.Said.{core_of, IsSaid, HasBegun, StandsBefore, OverCalm}
-use Rattle.justified_runs.specs.RunLaws.{EventsJustified, RunsAreJustified}
+use Rattle.justified_runs.specs.RunLaws.{PlayJustified, RunsAreJustified}
 use Rattle.justified_runs.proofs.SaidLaws.{runs_said}
 
 -- the run before its first event
@@ -82,7 +82,7 @@ opened_follows media rules supply first rest new spare =
       clash : ◌≡◌ {A = Bool} false true → ◌≡◌ {A = Bool} false true
       clash e = e
 
-begins_before : (media : MediaState) (rules : Policy) (supply : List DriverState) (events : List Event) (m : Moment)
+pub begins_before : (media : MediaState) (rules : Policy) (supply : List DriverState) (events : List Event) (m : Moment)
     → IsOpened media rules (new_watch (length supply)) supply events m.play → m.doing ≡ Resting → HasBegun m
 begins_before media rules supply events m o rests = StandsBefore rests o.queue o.owed
 

@@ -3,3 +3,4 @@ pub mod RunLaws
 pub mod Complaining
 pub mod Owing
 pub mod Ordered
+pub mod Shown

@@ -1,6 +1,7 @@
 //! What a whole run keeps, each a law of the definitions.
 
 ghost use Rattle.justified_runs.specs.RunLaws.{RunsKeepStarts, RunsKeepHung, RunsKeepFlushes, RunsKeepGivingUp, RunsKeepAnswers, RunsKeepExits, RunsAreJustified, RunsKeepComplaints, RunsKeepAfterFault, RunsKeepOrder, RunsKeepAll, RunsKeepFailures};
+ghost use Rattle.justified_runs.specs.Shown.{RunsShowEvents};
 
 /// At each event of a run drivers are started exactly where the policy and the events before say.
 pub fn runs_keep_starts()
@@ -61,4 +62,9 @@ pub fn runs_keep_all()
 /// A driver that has failed did so at a step of its own.
 pub fn runs_keep_failures()
     ensures { RunsKeepFailures }
+{}
+
+/// All that justifies the events of a run that was played out.
+pub fn runs_show_events()
+    ensures { RunsShowEvents }
 {}

@@ -92,6 +92,7 @@ holds s t was is b a last unanswered runs live guarantees answered v tree marks 
         media = media_hold v a.scene later.marks kept;
       };
       runs = later.runs;
+      calm = later.stands.serves.at_rest.complaint;
       needs = λ over. runs_end_needing s.minor (moment s b Resting) (moment t a last) later.runs live over;
     }
 

@@ -4,7 +4,6 @@ use Rattle.std.specs.Prelude.{take, map, reverse}
 use Rattle.layout.specs.declared.Geometry.{Geometry}
 use Rattle.message.specs.declared.Incoming.TheVariants as incoming
 use Rattle.policy.specs.Watch.{driver}
-use Rattle.marks.specs.Marks.{Started}
 use Rattle.marks.specs.Opening.{contents_at}
 use Rattle.marks.specs.Told.{took_end}
 use Rattle.marks.specs.Acts.{Absorbed, marks_after}
@@ -13,21 +12,19 @@ use Rattle.reissue.specs.Calls.{Truth}
 use Rattle.schedule.specs.declared.Event.{Event}
 use Rattle.schedule.specs.Groups.{schedule_of}
 use Rattle.schedule.specs.Calls.{arrived, taken}
-use Rattle.faultless.specs.Faultless.{without_faults}
 use Rattle.run_log.specs.Noted.{Noted, marks_in}
 use Rattle.playing.specs.declared.arrived.Arrived.{Arrived}
 use Rattle.playing.specs.PlayView.{Play, GoesOn, work_left}
 use Rattle.playing.specs.Laws.{IsSound, LeadsOn, IsToldOfEnd}
 use Rattle.playing.specs.Waiting.{arrival_of, HasCalls}
-use Rattle.playing.specs.Moments.{Resting, record_of}
+use Rattle.playing.specs.Moments.{Resting}
 use Rattle.playing.proofs.Going.{servers_lead_on}
-use Rattle.playing.proofs.Running.{history_of, runs_join, runs_at}
+use Rattle.playing.proofs.Running.{history_of, none_told}
 use Rattle.file_server.specs.Over.{AbsorbsOver, Stands}
-use Rattle.rounds.proofs.Stepping.{absorb_runs}
 use Rattle.rounds.proofs.Standing.{absorbed_live}
 use Rattle.rounds.specs.Runs.{IsIdle, moment}
 use Rattle.rounds.specs.Ends.{RunStands, RunsOut}
-use Rattle.rounds.specs.Starts.{IsBeforeFirst, first_moment, PlaysAll}
+use Rattle.rounds.specs.Starts.{IsBeforeFirst, PlaysAll}
 
 none_taken : (events : List Event) → take 0 events ≡ []
 none_taken [] = refl
@@ -48,9 +45,6 @@ calls_at_first p first = record {
 told_at_first : (p : Play) → IsBeforeFirst p → IsToldOfEnd p
 told_at_first p first = record { is = ap (λ (n : Noted). took_end n.history) first.noted ∙ sym first.live }
 
-record_at_first : (p : Play) → IsBeforeFirst p → record_of p ≡ Started (driver 1) ∷ []
-record_at_first p first = ap (λ (n : Noted). without_faults (marks_in n)) first.noted
-
 -- the first start was handed over
 pub idle_at_first : (s t : Serving) (was is : Truth) (b a : Play) → AbsorbsOver s t was is (incoming.Started (driver 1)) → GoesOn b a → s.ended ≡ false
     → IsBeforeFirst b → s.told ≡ history_of b → t.told ≡ history_of a → IsIdle t a
@@ -63,10 +57,11 @@ sound_after b a on first = (servers_lead_on b a on).sound (sound_at_first b firs
 pub work_after : (b a : Play) (n m : ℕ) → GoesOn b a → m < n + 2 → n + work_left b + 1 < 281474976710656 → m + work_left a < 281474976710656
 work_after b a n m on few bound = let h : LeadsOn b a = servers_lead_on b a on in omega (arith, h.work, few, bound)
 
--- and then the run was played out
+-- nothing was done at the link; and then the run was played out
 pub plays_all : (s m t : Serving) (was then : Truth) (b c a : Play) (unanswered : ℕ) → AbsorbsOver s m was then (incoming.Started (driver 1)) → GoesOn b c
-    → IsBeforeFirst b → s.told ≡ history_of b → m.told ≡ history_of c → RunsOut m t then c a unanswered → PlaysAll s t was b a unanswered
-plays_all s m t was then b c a unanswered absorbs on first before after out =
+    → IsBeforeFirst b → history_of c ≡ history_of b → RunsOut m t then c a unanswered → PlaysAll s t was b a unanswered
+plays_all s m t was then b c a unanswered absorbs on first silent out =
+    let same : c ≡ b = none_told b c on (told_at_first b first) silent in
     record {
       schedule = out.schedule ∙ (servers_lead_on b c on).events;
       spent = out.spent;
@@ -86,13 +81,11 @@ plays_all s m t was then b c a unanswered absorbs on first before after out =
           } in
           let x : RunStands m.geometry t.frames m.minor v tree (moment m c Resting) (moment t a out.last) unanswered =
           out.holds v tree (marks_after (absorbs.keeps.later ++ Absorbed (incoming.Started (driver 1)) ∷ []) []) stands in
-          subst (λ (g : Geometry). RunStands g t.frames s.minor v tree (first_moment s b) (moment t a out.last) unanswered) absorbs.keeps.leads.geometry
-          (record {
-            holds = x.holds;
-            runs = runs_join s.minor (first_moment s b) (moment m c Resting) (moment t a out.last)
-                (absorb_runs s m was then b c (incoming.Started (driver 1)) v tree [] absorbs on (told_at_first b first) before after
-                (record_at_first b first) heard.serves)
-                (runs_at m.minor s.minor (moment m c Resting) (moment t a out.last) absorbs.keeps.leads.minor x.runs);
-            needs = x.needs;
-          });
+          record {
+            outbox = m.outbox;
+            calm = stands.serves.at_rest.complaint;
+            stands = subst (λ (g : Geometry). RunStands g t.frames s.minor v tree (moment m b Resting) (moment t a out.last) unanswered) absorbs.keeps.leads.geometry
+                (subst (λ (n : ℕ). RunStands m.geometry t.frames n v tree (moment m b Resting) (moment t a out.last) unanswered) absorbs.keeps.leads.minor
+                (subst (λ (p : Play). RunStands m.geometry t.frames m.minor v tree (moment m p Resting) (moment t a out.last) unanswered) same x));
+          };
     }

@@ -1,5 +1,5 @@
 -- How a run of a server over a schedule ends.
-use Rattle.std.specs.Prelude.{◌≡◌, ◌≢◌, ℕ, List, [], ◌++◌, length, map, reverse, true, false}
+use Rattle.std.specs.Prelude.{◌≡◌, ◌≢◌, ℕ, List, [], ◌++◌, length, map, reverse, true, false, None}
 use Rattle.layout.specs.declared.Geometry.{Geometry}
 use Rattle.tree.specs.Tree.{Tree}
 use Rattle.marks.specs.Marks.{Mark}
@@ -32,11 +32,12 @@ EndsIn Resting t a = (t.ended ≡ false) × (a.over ≡ false) × (a.queue ≡ [
 EndsIn (Hearing message) t a = ⊥
 EndsIn (Answering call) t a = (t.ended ≡ true) × (a.over ≡ true)
 
--- a run over a volume holds, and each of its steps was by the rules; where the link has ended, the server needs a message, and the device isn't
--- given up
+-- a run over a volume holds, each of its steps was by the rules, and at its end no complaint is owed; where the link has ended, the server needs
+-- a message, and the device isn't given up
 pub record RunStands (g : Geometry) (frames : Frames) (minor : ℕ) (v : Opening) (tree : Tree) (from to : Moment) (unanswered : ℕ) : Type 0 where
   pub holds : RunHolds g frames v tree to.play.scene unanswered
   pub runs : Runs minor from to
+  pub calm : to.outbox.complaint ≡ None
   pub needs : to.play.over ≡ true → Needs to
 
 -- The events that were noted are the schedule, and nothing is owed. The calls that arrived in them are those that were answered, in their order,

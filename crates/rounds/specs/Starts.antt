@@ -1,11 +1,12 @@
 -- How a run of a server over a schedule starts, and what it comes to.
-use Rattle.std.specs.Prelude.{◌≡◌, ◌≢◌, ℕ, List, [], ◌∷◌, ◌++◌, length, map, reverse, true, false}
-use Rattle.message.specs.declared.Incoming.TheVariants as incoming
+use Rattle.std.specs.Prelude.{◌≡◌, ◌≢◌, ℕ, List, [], ◌∷◌, ◌++◌, length, map, reverse, true, false, None}
+use Rattle.layout.specs.declared.Geometry.{Geometry}
 use Rattle.tree.specs.Tree.{Tree}
 use Rattle.policy.specs.Watch.{driver}
 use Rattle.marks.specs.Marks.{Started}
 use Rattle.marks.specs.Opening.{Opening}
-use Rattle.marks.specs.Acts.{owed_after_message}
+use Rattle.marks.specs.Acts.{Outbox}
+use Rattle.legal.specs.View.{Frames}
 use Rattle.legal.specs.ServerCall.{Serving}
 use Rattle.reissue.specs.Calls.{Truth}
 use Rattle.schedule.specs.Groups.{schedule_of}
@@ -13,7 +14,7 @@ use Rattle.schedule.specs.Calls.{Arrival, arrived, taken}
 use Rattle.run_log.specs.Noted.{marks_in}
 use Rattle.playing.specs.PlayView.{Play, IsSpent, first_noted}
 use Rattle.playing.specs.Waiting.{arrival_of}
-use Rattle.playing.specs.Moments.{Doing, Hearing, Moment}
+use Rattle.playing.specs.Moments.{Doing, Resting, Moment}
 use Rattle.file_server.specs.Over.{Hears}
 use Rattle.rounds.specs.Runs.{moment, out_in}
 use Rattle.rounds.specs.Ends.{EndsIn, RunStands}
@@ -25,18 +26,16 @@ pub record IsBeforeFirst (p : Play) : Type 0 where
   pub queue : p.queue ≡ []
   pub live : p.over ≡ false
 
--- the server hears of the first start
-abbrev pub first_moment : Serving → Play → Moment
-first_moment s p = record {
-  play = p;
-  outbox = owed_after_message (incoming.Started (driver 1)) [] s.outbox;
-  doing = Hearing (incoming.Started (driver 1));
-}
+-- The server heard of the first start, did nothing at its link, and owes it no complaint; from there on the run stands.
+pub record StandsFromFirst (g : Geometry) (frames : Frames) (minor : ℕ) (v : Opening) (tree : Tree) (p : Play) (to : Moment) (unanswered : ℕ) : Type 0 where
+  pub outbox : Outbox
+  pub calm : outbox.complaint ≡ None
+  pub stands : RunStands g frames minor v tree (record { play = p; outbox = outbox; doing = Resting }) to unanswered
 
 -- A run from its start: the events that were noted are the schedule, and nothing is owed. The calls that arrived in them are those that were
 -- answered, in their order, and so many that came later: the one that is being answered, if the run ends in it, and those that wait. A call is
 -- left only where the last one was cut. The media have as many sectors as before. Where the server served a volume that held a tree, with
--- nothing in its record, and its link gave its guarantee of the record that has the first start alone, the run holds, by the rules.
+-- nothing in its record, and its link gave its guarantee of the record that has the first start alone, the run stands.
 pub record PlaysAll (s t : Serving) (was : Truth) (b a : Play) (unanswered : ℕ) : Type 0 where
   pub schedule : schedule_of a.scene.noted.groups ≡ b.events
   pub spent : IsSpent a
@@ -49,4 +48,4 @@ pub record PlaysAll (s t : Serving) (was : Truth) (b a : Play) (unanswered : ℕ
   pub cut : left ≢ [] → t.ended ≡ true
   pub sectors : length a.scene.disks.media.sectors ≡ length b.scene.disks.media.sectors
   pub holds : (v : Opening) (tree : Tree) → Hears s was v tree [] (Started (driver 1) ∷ [])
-      → RunStands s.geometry t.frames s.minor v tree (first_moment s b) (moment t a last) unanswered
+      → StandsFromFirst s.geometry t.frames s.minor v tree b (moment t a last) unanswered

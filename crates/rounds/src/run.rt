@@ -18,14 +18,15 @@ const FIRST: Endpoint = Endpoint {
     generation: 1,
 };
 
-/// A whole run: the server is handed the start of the first driver, which its link has noted, and then plays the schedule out; how many calls
-/// of those that arrived have no answer. An error: no memory was found.
+/// A whole run: the server, which was asked nothing yet, is handed the start of the first driver, which its link has noted, and then plays the
+/// schedule out; how many calls of those that arrived have no answer. An error: no memory was found.
 pub fn play_all<L: WorldLink, S: FileServer<L>>(server: &mut S) -> Result<u64, AllocError>
     requires ready { S.is_ready server.old }
     requires few { S.absorbed server.old + work_left (L.Played.play (S.line server.old)) + 1 < 2 ^ 48 }
     requires room { 33 ≤ L.Link.room (S.line server.old) }
     requires knows { (call : Call) → S.knows call }
     requires live { (S.Serve.serving server.old).ended ≡ false }
+    requires idle { S.is_idle server.old }
     requires first { IsBeforeFirst (L.Played.play (S.line server.old)) }
     ensures plays { IfOk result (λ unanswered. PlaysAll (S.Serve.serving server.old) (S.Serve.serving server.new)
         (L.Link.truth (S.line server.old)) (L.Played.play (S.line server.old)) (L.Played.play (S.line server.new)) unanswered) }

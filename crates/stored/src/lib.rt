@@ -73,8 +73,8 @@ impl<L: Link> Stored<L> {
 
 /// Blocks in the frames of a cache, with what a server asks of it besides.
 pub trait Caches: Blocks {
-    ghost use Rattle.std.specs.Prelude.{◌≡◌, ℕ, Bool, true, false};
-    ghost use Rattle.cache.specs.Calls.{Caching, IsReady, IsLive, IsStuck, Keeps, PostsAlone, HandsOver};
+    ghost use Rattle.std.specs.Prelude.{◌≡◌, ◌≢◌, ℕ, Bool, true, false};
+    ghost use Rattle.cache.specs.Calls.{Caching, IsReady, IsIdle, IsLive, IsStuck, Keeps, PostsAlone, HandsOver};
     ghost use Rattle.cache.specs.Edits.{AllClean};
     ghost use Rattle.store.specs.World.{Turns};
     ghost use Rattle.stored.specs.Cached.{IsCached, MayAbsorb, Flushes};
@@ -105,11 +105,14 @@ pub trait Caches: Blocks {
         ensures done { wanted self.new ≡ false };
 
     /// Does what a message asks for that was handed over between two calls; a Flush at once, and one that was left undone with any message
-    /// but End. End changes nothing.
+    /// but End. End changes nothing. Where nothing is pending and no Flush was left undone, nothing but a Flush makes it tell its link
+    /// anything.
     fn absorb(&mut self, message: Incoming)
         requires ready { IsReady (caching self.old) }
         requires may { MayAbsorb message (caching self.old) }
         ensures hands_over { HandsOver message (caching self.old) (caching self.new) }
+        ensures silent { message ≢ Incoming.Flush → wanted self.old ≡ false → IsIdle (caching self.old)
+            → (caching self.new).told ≡ (caching self.old).told }
         ensures goes { goes_on self.old self.new }
         ensures flushed { message ≡ Incoming.Flush → IsLive (caching self.new) → IsStuck (caching self.new) }
         ensures done { (message ≡ Incoming.End → ⊥) → wanted self.new ≡ false }

@@ -32,7 +32,7 @@ use Rattle.call_bodies.specs.Calls.{is_busy}
 use Rattle.stored.specs.declared.Stored.{Stored}
 use Rattle.vfs.specs.declared.server.Server.{Server}
 use Rattle.vfs.specs.Server.{server_of}
-use Rattle.vfs.specs.OverLink.{IsNewOver, Opens, caching_of, serving_over}
+use Rattle.vfs.specs.OverLink.{IsIdleOver, IsNewOver, Opens, caching_of, serving_over}
 use Rattle.vfs.proofs.Keeping.{covers_of}
 
 -- the image is what was handed in, and each place of it is sure
@@ -135,3 +135,17 @@ opens_over words transfers link minor g frames (Ok s) over agrees owes some new 
 opens_over words transfers link minor g frames (Err BadFrames) over agrees owes some new bad = record { why = bad.0 refl; nothing_told = refl }
 opens_over words transfers link minor g frames (Err OutOfMemory) over agrees owes some new bad =
     record { why = not_false (is_frame_count frames) (λ e. let k = bad.1 e in cc); nothing_told = refl }
+
+-- nothing is pending in one that was just made, and no Flush is left undone
+pub idle_over : {L : Type 0} (words : LinkWords L) (transfers : Transfers L) (minor : ℕ) (g : Geometry) (frames : ℕ)
+    (result : Result (Server (Stored L)) CacheRefusal) → (table_of transfers).pending ≡ [] → Agrees (table_of transfers) []
+    → IfOk result (IsNewOver words transfers minor g frames) → IfOk result (IsIdleOver words)
+idle_over {L} words transfers minor g frames (Ok s) none agrees new = record {
+  unwanted = new.no_flush;
+  idle = record {
+    none = ap (λ (t : Transfers L). (table_of t).pending) new.over ∙ none;
+    marks = [];
+    agrees = subst (λ (t : Transfers L). Agrees (table_of t) []) (sym new.over) agrees;
+  };
+}
+idle_over words transfers minor g frames (Err e) none agrees new = tt

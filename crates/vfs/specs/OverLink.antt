@@ -1,5 +1,5 @@
 -- A server over the frames of a cache, and its link.
-use Rattle.std.specs.Prelude.{◌≡◌, ◌≤◌, ◌^◌, ℕ, ◌+◌, length, Result, Ok, Err}
+use Rattle.std.specs.Prelude.{◌≡◌, ◌≤◌, ◌^◌, ℕ, ◌+◌, length, false, Result, Ok, Err}
 use Rattle.layout.specs.declared.Geometry.{Geometry}
 use Rattle.legal.specs.Mount.{OpenKeeps, OpenRefused}
 use Rattle.legal.specs.Mount as mount
@@ -9,7 +9,7 @@ use Rattle.reissue.specs.declared.transfers.Transfers.{Transfers}
 use Rattle.reissue.specs.Transfers.{link_of}
 use Rattle.cache.specs.declared.refusals.CacheRefusal.{CacheRefusal}
 use Rattle.cache.specs.declared.refusals.CacheRefusal.TheVariants.{BadFrames, OutOfMemory}
-use Rattle.cache.specs.Calls.{Caching, IsMade, frame_count, messages_left}
+use Rattle.cache.specs.Calls.{Caching, IsIdle, IsMade, frame_count, messages_left}
 use Rattle.descriptors.specs.Made.{no_files}
 use Rattle.descriptors.specs.Table.{files_of}
 use Rattle.stored.specs.declared.Stored.{Stored}
@@ -46,7 +46,13 @@ pub record IsReadyOver {L : Type 0} (words : LinkWords L) (s : Server (Stored L)
   pub may : IsOpen (stored_caching words) s
   pub ids : HasIds (caching_of words s) s.absorbed
 
--- A server just made over these transfers: no frame is in use, no file is open, and no message was handed over.
+-- nothing is pending, and no Flush is left undone
+pub record IsIdleOver {L : Type 0} (words : LinkWords L) (s : Server (Stored L)) : Type 0 where
+  pub unwanted : s.blocks.cache.flush ≡ false
+  pub idle : IsIdle (caching_of words s)
+
+-- A server just made over these transfers: no frame is in use, no file is open, no message was handed over, and no
+-- Flush is left undone.
 pub record IsNewOver {L : Type 0} (words : LinkWords L) (transfers : Transfers L) (minor : ℕ) (g : Geometry) (frames : ℕ) (s : Server (Stored L)) : Type 0 where
   pub over : transfers_of s ≡ transfers
   pub geometry : s.geometry ≡ g
@@ -55,6 +61,7 @@ pub record IsNewOver {L : Type 0} (words : LinkWords L) (transfers : Transfers L
   pub files : files_of s.opens ≡ no_files
   pub none_absorbed : s.absorbed ≡ 0
   pub ready : IsReadyOver words s
+  pub no_flush : s.blocks.cache.flush ≡ false
 
 -- the refusal in the words of the definitions
 abbrev pub refusal_of : CacheRefusal → mount.MountRefusal

@@ -6,7 +6,7 @@ ghost use Rattle.legal.specs.Mount.{is_frame_count};
 ghost use Rattle.layout.specs.Places.{IsGeometry};
 ghost use Rattle.marks.specs.Told.{took_end};
 ghost use Rattle.mounting.specs.Mounts.{in_words};
-ghost use Rattle.vfs.specs.OverLink.{IsReadyOver, line_of, refusal_of};
+ghost use Rattle.vfs.specs.OverLink.{IsIdleOver, IsReadyOver, line_of, refusal_of};
 ghost use Rattle.vfs.specs.Mounted.{IsMounted, IsNotMounted, OpensClean};
 
 use crate::server::Server;
@@ -53,6 +53,7 @@ where
     ensures opens { OpensClean L.Link link minor clean.geometry frames result }
     ensures link { IfOk result (λ s. line_of s ≡ link) }
     ensures ready { IfOk result (IsReadyOver L.Link) }
+    ensures idle { IfOk result (IsIdleOver L.Link) }
     ensures none_absorbed { IfOk result (λ s. s.absorbed ≡ 0) }
 {
     match Server::open(alloc, link, minor, clean.geometry(), frames) {

@@ -6,7 +6,7 @@ ghost use Rattle.legal.specs.Mount.{is_frame_count};
 ghost use Rattle.marks.specs.Told.{took_end};
 ghost use Rattle.reissue.specs.Posts.{HasRoom};
 ghost use Rattle.reissue.specs.Transfers.{link_of, table_of};
-ghost use Rattle.vfs.specs.OverLink.{IsNewOver, IsReadyOver, Opens, line_of};
+ghost use Rattle.vfs.specs.OverLink.{IsIdleOver, IsNewOver, IsReadyOver, Opens, line_of};
 
 use crate::server::Server;
 use cache::{Cache, CacheRefusal};
@@ -69,6 +69,7 @@ impl<L: Link> Server<Stored<L>> {
         ensures opens { Opens L.Link link minor geometry frames result }
         ensures link { IfOk result (λ s. line_of s ≡ link) }
         ensures ready { IfOk result (IsReadyOver L.Link) }
+        ensures idle { IfOk result (IsIdleOver L.Link) }
         ensures none_absorbed { IfOk result (λ s. s.absorbed ≡ 0) }
     {
         if !(16..=4096).contains(&frames) {

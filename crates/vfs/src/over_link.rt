@@ -1,6 +1,6 @@
 //! The server over a link, as a file server of all calls.
 
-ghost use Rattle.vfs.specs.OverLink.{IsReadyOver, line_of as link_there, with_line as with_link_there};
+ghost use Rattle.vfs.specs.OverLink.{IsIdleOver, IsReadyOver, line_of as link_there, with_line as with_link_there};
 
 use crate::server::Server;
 use file_server::FileServer;
@@ -22,6 +22,8 @@ impl<L: Link + Drop> FileServer<L> for Server<Stored<L>> {
     ghost absorbed = { λ s. s.absorbed };
 
     ghost is_ready = { IsReadyOver L.Link };
+
+    ghost is_idle = { IsIdleOver L.Link };
 
     fn call(&mut self, who: Who, now: u32, call: &Call) -> Outcome {
         self.call(who, now, call)

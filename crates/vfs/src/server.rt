@@ -1,6 +1,6 @@
 //! A file server: what is common to all calls.
 
-ghost use Rattle.std.specs.Prelude.{◌≡◌, ◌<◌, ◌+◌, ◌^◌, false};
+ghost use Rattle.std.specs.Prelude.{◌≡◌, ◌≢◌, ◌<◌, ◌+◌, ◌^◌, false};
 ghost use Rattle.vfs.specs.Outcomes.{stopped};
 
 use call_bodies::body;
@@ -39,6 +39,7 @@ fn stop(cut: Cut) -> Outcome
 }
 
 impl<B: Caches> Server<B> {
+    ghost use Rattle.cache.specs.Calls.{IsIdle};
     ghost use Rattle.stored.specs.Cached.{MayAbsorb};
     ghost use Rattle.file_server.specs.Over.{outcome_of};
     ghost use Rattle.vfs.specs.Outcomes.{OnAnswered};
@@ -78,13 +79,16 @@ impl<B: Caches> Server<B> {
     }
 
     /// Takes a message between two calls, which the link has noted: a Flush is done at once, and so is one that a call which was cut left
-    /// undone. End has no effect.
+    /// undone. End has no effect. Where nothing is pending and no Flush was left undone, nothing but a Flush makes it tell its link
+    /// anything.
     pub fn absorb(&mut self, message: Incoming)
         requires open { IsOpen B.caching self.old }
         requires may { MayAbsorb message (B.caching self.old.blocks) }
         requires few { self.old.absorbed < 2 ^ 48 }
         ensures open { IsOpen B.caching self.new }
         ensures absorbs { Absorbs B.caching B.frame_count self.old self.new message }
+        ensures silent { message ≢ Incoming.Flush → B.wanted self.old.blocks ≡ false → IsIdle (B.caching self.old.blocks)
+            → (B.caching self.new.blocks).told ≡ (B.caching self.old.blocks).told }
         ensures goes { B.goes_on self.old.blocks self.new.blocks }
         ensures flushed { message ≡ Incoming.Flush → B.wanted self.new.blocks ≡ false }
         ensures spends { Spends 1 (B.caching self.old.blocks) (B.caching self.new.blocks) }

@@ -1,30 +1,39 @@
 -- From a schedule that was played out to what is shown of the run.
-use Rattle.std.proofs.Common.{◌≡◌, ℕ, ◌+◌, ◌-◌, ◌*◌, ◌<◌, ◌≤◌, List, [], ◌∷◌, ◌++◌, Bool, true, false, length, refl, sym, ◌∙◌, ap, subst, arith, Result, Ok, Err, IfOk}
+use Rattle.std.proofs.Common.{◌≡◌, cond, ℕ, suc, ◌+◌, ◌-◌, ◌<◌, ◌≤◌, List, [], ◌∷◌, ◌++◌, Bool, true, false, length, refl, sym, ◌∙◌, ap, subst, arith, Result, Ok, Err, IfOk}
 use Rattle.std.specs.List.{concat}
 use Rattle.layout.specs.declared.Geometry.{Geometry}
 use Rattle.tree.specs.Tree.{Tree}
-use Rattle.bdev.specs.DriverState.{DriverState}
+use Rattle.std.specs.Prelude.{map, not, ◌&&◌, ◌==◌, None, Some}
+use Rattle.bdev.specs.DriverState.{DriverState, range_while_fresh, range_of as range_of_driver}
 use Rattle.media.specs.Contents.{IsWhole, MediaState, sectors_of}
 use Rattle.policy.specs.declared.Policy.{Policy}
 use Rattle.policy.specs.declared.Setup.{Setup}
-use Rattle.policy.specs.Watch.{Watch, driver}
+use Rattle.policy.specs.Watch.{Watch, driver, new_watch}
 use Rattle.marks.specs.Marks.{Mark, Started}
 use Rattle.marks.specs.Opening.{Opening, Range, contents_at}
 use Rattle.marks.specs.Told.{took_end}
-use Rattle.legal.specs.View.{Frames}
 use Rattle.true_replies.specs.Events.{IsOnMedia}
 use Rattle.startup.specs.Starting.{opening_of}
 use Rattle.reissue.specs.declared.link.Link.{Ghosts as LinkWords}
 use Rattle.schedule.specs.declared.Event.{Event}
-use Rattle.schedule.specs.Calls.{arrived, taken}
+use Rattle.schedule.specs.declared.Sent.{Sent}
+use Rattle.schedule.specs.Groups.{Each}
+use Rattle.schedule.specs.Calls.{taken}
 use Rattle.schedule.specs.Headline.{Transcript}
 use Rattle.run_log.specs.Noted.{Noted, marks_in}
-use Rattle.driver_events.specs.Scene.{Scene, Opens}
+use Rattle.driver_events.specs.Scene.{Scene}
 use Rattle.playing.specs.declared.playing.Playing.{Playing}
-use Rattle.playing.specs.PlayView.{Play, IsOpened, first_noted, left_of, unless_told, work_left}
+use Rattle.playing.specs.PlayView.{Play, IsOpened, left_of, unless_told, work_left}
+use Rattle.playing.specs.Moments.{Resting}
+use Rattle.justifying.specs.Steady.{drivers_of}
+use Rattle.justified_runs.specs.Shown.{EventsJustified}
+use Rattle.justified_runs.proofs.ShownLaws.{runs_show_events}
+use Rattle.reincarnate.specs.declared.SupplyRefusal.{SupplyRefusal}
+use Rattle.reincarnate.specs.Supply.{ReincarnationState, NewAnswers}
 use Rattle.file_server.specs.Over.{Hears}
 use Rattle.rounds.specs.Ends.{RunHolds}
-use Rattle.rounds.specs.Starts.{IsBeforeFirst}
+use Rattle.rounds.specs.Starts.{IsBeforeFirst, StandsFromFirst}
+use Rattle.rounds.specs.Runs.{moment}
 use Rattle.run_shown.specs.Shows.{Shows}
 use Rattle.run_shown.proofs.Showing.{runs_are_shown}
 use Rattle.stored.specs.declared.Stored.{Stored}
@@ -52,6 +61,20 @@ fresh media rules watch supply events p opened = record {
   sectors_are = ap (λ (s : Scene). length s.disks.media.sectors) opened.scene.is;
 }
 
+as_many : {D : Type 0} (state : D → DriverState) (drivers : List D) → length (map state drivers) ≡ length drivers
+as_many state [] = refl
+as_many state (d ∷ drivers) = ap suc (as_many state drivers)
+
+-- a reincarnation server that was just made of these drivers
+pub opened_on : {D : Type 0} (state : D → DriverState) (media : MediaState) (rules : Policy) (drivers : List D)
+    (made : Result (ReincarnationState D) SupplyRefusal) (r : ReincarnationState D) (events : List Event) (p : Play) → made ≡ Ok r → NewAnswers rules drivers made
+    → IsOpened media r.policy r.watch (map state r.supply) events p
+    → IsOpened media rules (new_watch (length (map state drivers))) (map state drivers) events p
+opened_on {D} state media rules drivers made r events p is answers opened =
+    let new : NewAnswers rules drivers (Ok r) = subst (λ (m : Result (ReincarnationState D) SupplyRefusal). NewAnswers rules drivers m) is answers in
+    subst (λ (n : ℕ). IsOpened media rules (new_watch n) (map state drivers) events p) (sym (as_many state drivers))
+    (subst (λ (x : ReincarnationState D). IsOpened media x.policy x.watch (map state x.supply) events p) new.2 opened)
+
 -- nothing was taken, so no End
 pub none_ended : (p : Play) → IsBeforeFirst p → took_end p.scene.noted.history ≡ false
 none_ended p first = ap (λ (n : Noted). took_end n.history) first.noted
@@ -61,6 +84,19 @@ pub few_left : (over told : Bool) (n : ℕ) → over ≡ false → told ≡ fals
 few_left true told n o t few = absurd (let y : ⊥ = cc in y)
 few_left false true n o t few = absurd (let y : ⊥ = cc in y)
 few_left false false n o t few = omega (arith, few)
+
+-- a driver that is ready hasn't failed
+not_failed : (d : DriverState) (minor : ℕ) (range : ℕ × ℕ) → range_while_fresh d minor ≡ Some range → d.failed ≡ false
+not_failed d minor range ready = by (d.last == 0) d.failed refl ready where
+  by : (fresh failed : Bool) → d.failed ≡ failed → cond (fresh && not failed) (range_of_driver d.ranges minor) None ≡ Some range → d.failed ≡ false
+  by fresh false is h = is
+  by true true is h = absurd (let y : ⊥ = cc in y)
+  by false true is h = absurd (let y : ⊥ = cc in y)
+
+none_failed : (minor : ℕ) (range : Range) (supply : List DriverState) → Each (λ d. range_while_fresh d minor ≡ Some (range.first, range.count)) supply
+    → Each (λ d. d.failed ≡ false) supply
+none_failed minor range [] ready = tt
+none_failed minor range (d ∷ supply) ready = (not_failed d minor (range.first, range.count) ready.0, none_failed minor range supply ready.1)
 
 -- ---- at the end
 
@@ -73,18 +109,25 @@ module _ {L : Type 0} (words : LinkWords L) (play : L → Play) (link : L) (imag
   last = play (line_of s)
 
   -- what is shown of it
-  pub run_shows : IsBegun image setup supply (range_of range) g tree → IsOnMedia v → words.truth link v (Started (driver 1) ∷ [])
+  pub run_shows : (media : MediaState) → media.generation ≡ 0 → IsOpened media setup.policy (new_watch (length supply)) supply events (play link)
+      → IsBegun image setup supply (range_of range) g tree → IsOnMedia v → words.truth link v (Started (driver 1) ∷ [])
       → IsFresh events (length (sectors_of image)) (play link) → PlaysFrom words play link setup.minor g frames s t.unanswered
       → IsWhole last.scene.disks.media.sectors → t.marks ≡ marks_in last.scene.noted → t.frames ≡ frames_in s
-      → t.image ≡ concat last.scene.disks.media.sectors → RunShows image setup supply events t
-  run_shows begun on truth new from whole marks frames_are bytes =
+      → t.sent ≡ last.scene.disks.sent → t.drivers ≡ drivers_of last.scene.disks → t.image ≡ concat last.scene.disks.media.sectors → RunShows image setup supply events t
+  run_shows media none_started opened begun on truth new from whole marks frames_are sent drivers bytes =
       let hears : Hears (serving_over words from.before) (words.truth link) v tree [] (Started (driver 1) ∷ []) = record {
         minor = sym from.opened.minor_is;
         serves = from.opened.serves (contents_at v) tree begun.at_first;
         truth = truth;
       } in
+      let x : StandsFromFirst (serving_over words from.before).geometry (frames_in s) (serving_over words from.before).minor v tree (play link)
+      (moment (serving_over words s) last from.plays.last) t.unanswered = from.plays.holds v tree hears in
       let holds : RunHolds g (frames_in s) v tree last.scene t.unanswered =
-      subst (λ (x : Geometry). RunHolds x (frames_in s) v tree last.scene t.unanswered) from.opened.geometry (from.plays.holds v tree hears).holds in
+      subst (λ (h : Geometry). RunHolds h (frames_in s) v tree last.scene t.unanswered) from.opened.geometry x.stands.holds in
+      let events_are : EventsJustified setup.policy supply last.scene.noted.groups (marks_in last.scene.noted) last.scene.disks.sent (drivers_of last.scene.disks) =
+      runs_show_events media setup.policy supply events (serving_over words from.before).minor (record { play = play link; outbox = x.outbox; doing = Resting })
+      (moment (serving_over words s) last from.plays.last) none_started (none_failed setup.minor (range_of range) supply begun.accepted.setup.ready)
+      opened refl x.calm x.stands.runs x.stands.calm from.plays.spent.paid in
       let shows : Shows g v tree t = runs_are_shown g (frames_in s) v tree last.scene t on
       (record { marks = marks; frames_are = frames_are; image = bytes; whole = whole; number = from.plays.sectors ∙ new.sectors_are }) holds in
       record {
@@ -94,9 +137,13 @@ module _ {L : Type 0} (words : LinkWords L) (play : L → Play) (link : L) (imag
         begun = begun;
         replies = shows.replies;
         media = shows.media;
-        calls = record {
+        played = record {
           groups = last.scene.noted.groups;
           schedule = from.plays.schedule ∙ new.events_are;
+          justified = subst (λ (l : List Mark). EventsJustified setup.policy supply last.scene.noted.groups l t.sent t.drivers) (sym marks)
+              (subst (λ (l : List Sent). EventsJustified setup.policy supply last.scene.noted.groups (marks_in last.scene.noted) l t.drivers) (sym sent)
+              (subst (λ (l : List DriverState). EventsJustified setup.policy supply last.scene.noted.groups (marks_in last.scene.noted) last.scene.disks.sent l)
+              (sym drivers) events_are));
           left = from.plays.left;
           order = from.plays.order ∙ ap (λ (m : List Mark). from.plays.left ++ taken m) (sym marks);
           number = from.plays.number;

@@ -2,7 +2,7 @@
 
 ghost use Rattle.std.specs.Prelude.{◌≡◌, ◌≤◌, ◌<◌, ◌+◌, ◌^◌, ◌∷◌, [], All, IfErr, IfOk, false, length, map};
 ghost use Rattle.layout.specs.Places.{IsGeometry};
-ghost use Rattle.policy.specs.Watch.{driver};
+ghost use Rattle.policy.specs.Watch.{driver, new_watch};
 ghost use Rattle.marks.specs.Marks.{Started};
 ghost use Rattle.marks.specs.Opening.{Opening};
 ghost use Rattle.marks.specs.Told.{took_end};
@@ -10,7 +10,7 @@ ghost use Rattle.media.specs.Contents.{IsWhole};
 ghost use Rattle.inline.specs.Inline.{IsReady};
 ghost use Rattle.true_replies.specs.Events.{IsOnMedia, opening_media};
 ghost use Rattle.run_log.specs.LogView.{room_in};
-ghost use Rattle.playing.specs.PlayView.{PlayTrue, play_of, work_left};
+ghost use Rattle.playing.specs.PlayView.{IsOpened, PlayTrue, play_of, work_left};
 ghost use Rattle.rounds.specs.Starts.{IsBeforeFirst};
 ghost use Rattle.run_start.specs.Beginning.{IsNotBegun};
 ghost use Rattle.world.specs.Shown.{transcript_of};
@@ -69,6 +69,8 @@ fn link_of<'a, D: LocalDriver>(
     requires media { prepared.media.generation ≡ 0 }
     requires few { length events.now < 2 ^ 32 }
     ensures fresh { IfOk result (λ p. IsFresh events.now (length prepared.media.sectors) (play_of D.state p)) }
+    ensures opened { IfOk result (λ p. IsOpened prepared.media setup.now.policy (new_watch (length (map D.state supply.items))) (map D.state supply.items)
+        events.now (play_of D.state p)) }
     ensures truth { IfOk result (λ p. (v : Opening) → IsOnMedia v → prepared.media ≡ opening_media v → All (IsReady v) (map D.state supply.items)
         → PlayTrue v (play_of D.state p).scene (Started (driver 1) ∷ [])) }
     ensures room { IfOk result (λ p. 33 ≤ room_in p.log) }

@@ -1,4 +1,4 @@
-use Rattle.std.proofs.Common.{arith, ◌∙◌}
+use Rattle.std.proofs.Common.{arith, sym, ◌∙◌}
 use Rattle.rounds.proofs.Starting.{idle_at_first, sound_after, work_after, plays_all}
 use Rattle.rounds.proofs.run.play_all.Goals as goal
 
@@ -17,4 +17,5 @@ play_out-requires-clause-sound g c = sound_after _ _ (g.met.L.Played.goes _ _ c.
 pub returns-clause-plays : goal.returns-clause-plays
 returns-clause-plays g c =
     plays_all _ _ _ _ _ _ _ _ _ c.absorb.ensures.keeps (g.met.L.Played.goes _ _ c.absorb.ensures.goes) c.requires.first
-    (g.met.S.FileServer.tells _ ∙ g.met.L.Played.tells _) (g.met.S.FileServer.tells _ ∙ g.met.L.Played.tells _) c.in_ok-unanswered.ensures.out
+    (sym (g.met.L.Played.tells _) ∙ c.absorb.ensures.silent (λ e. cc) c.requires.idle ∙ g.met.L.Played.tells _)
+    c.in_ok-unanswered.ensures.out

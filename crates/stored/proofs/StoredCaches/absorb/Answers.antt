@@ -1,4 +1,5 @@
-use Rattle.stored.specs.World.{goes_joins}
+use Rattle.std.proofs.Common.{◌∙◌, ap}
+use Rattle.stored.specs.World.{goes_joins, stored_caching}
 use Rattle.stored.proofs.Flushes.{hands_then}
 use Rattle.stored.proofs.StoredCaches.absorb.Goals as goal
 
@@ -12,3 +13,10 @@ returns-then-not-last-clause-goes g c =
 
 pub returns-else-not-last-clause-goes : goal.returns-else-not-last-clause-goes
 returns-else-not-last-clause-goes g c = record { link = c.absorb.ensures.goes; frames = c.absorb.ensures.leaves.count }
+
+pub returns-then-not-last-clause-silent : goal.returns-then-not-last-clause-silent
+returns-then-not-last-clause-silent g c = λ other unwanted idle.
+    ap (λ s. (stored_caching g.L.Link s).told) (c.flush_wanted.ensures.unasked (c.absorb.ensures.wanted.1 other ∙ unwanted)) ∙ c.absorb.ensures.silent idle
+
+pub returns-else-not-last-clause-silent : goal.returns-else-not-last-clause-silent
+returns-else-not-last-clause-silent g c = λ other unwanted idle. c.absorb.ensures.silent idle

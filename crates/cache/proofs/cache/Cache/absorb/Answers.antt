@@ -4,6 +4,7 @@ use Rattle.reissue.specs.Transfers.{table_of, link_of}
 use Rattle.reissue.specs.Posts.{HasRoom}
 use Rattle.cache.specs.Calls.{Caching, caching, caching_of, HandsOver}
 use Rattle.cache.proofs.Flushes.{wanted_for}
+use Rattle.cache.proofs.Silent.{silent}
 use Rattle.cache.proofs.Taking.{absorbs_one, room_after, leaves_settled, none_begun}
 use Rattle.message.specs.declared.Incoming.{Incoming}
 use Rattle.reissue.specs.Calls.{IsAnswerTo}
@@ -30,6 +31,7 @@ returns g c =
           (λ alive. room_after c.args.message (HasRoom (table_of c.absorb-settled.new.self) (r (link_of c.absorb-settled.new.self))) x.room
           (λ end. subst (λ (u : Transfers _). HasRoom (table_of u) (r (link_of u))) (sym (x.ended end)) (c.requires.ready.room alive))) x.closed
           (λ end. ap (λ (u : Transfers _). h (link_of u)) (x.ended end)));
+      silent = λ idle. ap (λ (n : Caching). n.told) same ∙ silent c.args.message c.absorb-settled.result old mid x.absorbs idle;
       goes = subst (λ (u : Transfers _). g.L.Link.goes_on (link_of s.transfers) (link_of u)) (sym e.transfers) x.goes;
       stay = e.stay;
       reads = subst (λ (u : Transfers _). NoReadBegun (pending_of (table_of s.transfers).pending) (pending_of (table_of u).pending)) (sym e.transfers)
