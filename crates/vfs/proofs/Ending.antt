@@ -59,7 +59,7 @@ stopped_at_once g a n f may who now call why o e h =
     by LinkEnded h = calls_cut g a a n n refl f f may.size may.geometry.sized may.ends (none a may.ready) who now call (λ e. refl) (λ e. refl) h
     by Eio h = calls_eio g a a n n refl f f may.size may.geometry.sized may.ends (none a may.ready) who now call (λ e. refl) (λ e. refl) h.0 h.1
 
-false_true : (b : Bool) → b ≡ true → b ≡ false → ⊥
+pub false_true : (b : Bool) → b ≡ true → b ≡ false → ⊥
 false_true b h k = cc
 
 -- a call is cut off on its way

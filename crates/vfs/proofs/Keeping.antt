@@ -20,6 +20,7 @@ use Rattle.marks.specs.Acts.{Act, Began, Absorbed, AtLink, marks_after}
 use Rattle.legal.specs.Legal.{IsLegal, IsLegalTook, is_sync, tree_after, tree_after_answer}
 use Rattle.legal.specs.View.{server_view, IsCovered}
 use Rattle.legal.specs.ServerCall.{Serving, Serves, Replied, Cut, CallKeeps}
+use Rattle.legal.specs.Unmount.{Unmounting, Unmounted, unmounting_of}
 use Rattle.reissue.specs.Agrees.{Agrees}
 use Rattle.reissue.specs.Moves.{state_after}
 use Rattle.reissue.proofs.TableRules.{at_rest}
@@ -35,10 +36,11 @@ use Rattle.flusher.proofs.Flushing.{synced}
 use Rattle.cache.specs.Edits.{AllClean}
 use Rattle.legal.specs.Legal.{is_success, IsSynced}
 use Rattle.descriptors.specs.Files.{Files, HasFiles}
-use Rattle.call_bodies.specs.Calls.{IsDone, DoesCall}
+use Rattle.call_bodies.specs.Calls.{IsDone, DoesCall, is_busy}
 use Rattle.marks.specs.Opening.{Opening, contents_at}
 use Rattle.file_server.specs.Over.{CallsOver}
 use Rattle.vfs.specs.Server.{IsServer, server_of}
+use Rattle.vfs.specs.Unmounting.{UnmountsOver}
 
 -- ---- acts leave the tree and a legal record (as in the crate `serve`)
 
@@ -303,6 +305,93 @@ module _ (g : Geometry) (a b : Caching) (n m : ℕ) (many : m ≡ n) (p q : File
 
     pub calls_answered : CallsOver s t a.truth b.truth who now call (Replied answer)
     calls_answered = record { keeps = answered_by; truth = heard }
+
+  -- an unmount
+  module _ (stays : q ≡ p) (same : (d e : Disk) → Sees a b d e → e ≡ d) (before : a.ended ≡ true → x.acts ≡ []) (over : a.table.given_up ≡ true → x.acts ≡ []) where
+    going : (marks : List Mark) → gave_up (after marks) ≡ false → gave_up marks ≡ false
+    going marks u = not_true (gave_up marks) (λ e. never (sym (gone_acts x.acts marks e) ∙ u))
+
+    lasts : b.ended ≡ false → a.ended ≡ false
+    lasts live = not_true a.ended (λ e. never (sym (x.ended e) ∙ live))
+
+    tree_stays : (tree : Tree) (marks : List Mark) → tree_after g tree (after marks) ≡ tree_after g tree marks
+    tree_stays tree marks = tree_acts g tree x.acts marks
+
+    files_stay : (image : Contents) (tree : Tree) (marks : List Mark) → IsServer g a p image tree marks → HasTrueReplies image (after marks)
+        → b.ended ≡ false → gave_up (after marks) ≡ false → HasFiles q (tree_after g tree (after marks))
+    files_stay image tree marks k tr e u = subst (λ (f : Files). HasFiles f (tree_after g tree (after marks))) (sym stays)
+        (subst (λ (y : Tree). HasFiles p y) (sym (tree_stays tree marks)) (k.files (early image marks k.table tr) (lasts e) (going marks u)))
+
+    -- what would be read back is the tree as before
+    held_still : (image : Contents) (tree : Tree) (marks : List Mark) → Serves s image tree marks → HasTrueReplies image (after marks)
+        → b.ended ≡ false → gave_up (after marks) ≡ false
+        → HoldsVolume g (view b.size b.held (state_after image (after marks))) (tree_after g tree (after marks))
+    held_still image tree marks k tr e u =
+        let was = k.has_tree (early image marks k.agrees.table tr) (lasts e) (going marks u) in
+        let old : HoldsVolume g (view a.size a.held (state_after image marks)) (tree_after g tree marks) =
+        subst (λ (y : Disk). HoldsVolume g y (tree_after g tree marks)) (view_of g some a sized image marks) was.reads_back.holds in
+        subst (λ (y : Tree). HoldsVolume g (view b.size b.held (state_after image (after marks))) y) (sym (tree_stays tree marks))
+        (subst (λ (y : Disk). HoldsVolume g y (tree_after g tree marks))
+        (sym (same (view a.size a.held (state_after image marks)) (view b.size b.held (state_after image (after marks))) (seen image tree marks k.agrees tr))) old)
+
+    serves_still : (image : Contents) (tree : Tree) (marks : List Mark) → Serves s image tree marks → Serves t image tree (after marks)
+    serves_still image tree marks k =
+        let agrees = table marks k.agrees.table in
+        record {
+          agrees = record {
+            table = agrees;
+            slots = λ tr. slots image tree marks k.agrees tr;
+            files = λ tr e u. files_stay image tree marks k.agrees tr e u;
+          };
+          well_formed = agrees.holds.well_formed;
+          at_rest = at_rest b.table (after marks) agrees;
+          legal = λ tr. legal_acts g image tree x.acts marks (k.legal (early image marks k.agrees.table tr));
+          has_tree = λ tr e u.
+              let sized' = x.size ∙ sized in
+              record {
+                reads_back = record {
+                  holds = subst (λ (y : Disk). HoldsVolume g y (tree_after g tree (after marks))) (sym (view_of g some b sized' image (after marks)))
+                      (held_still image tree marks k tr e u);
+                  covered = covers_of g some b sized' image (after marks) (slots image tree marks k.agrees tr);
+                };
+                open_files = sym (ap (λ (z : ℕ → Option OpenFile). some_below (λ j. is_some (z j)) most_open_files)
+                    (files_stay image tree marks k.agrees tr e u).opened);
+              };
+        }
+
+    -- where each frame is clean the disk alone holds the tree
+    synced_still : (image : Contents) (tree : Tree) (marks : List Mark) → Serves s image tree marks → HasTrueReplies image (after marks)
+        → AllClean b.held → b.ended ≡ false → gave_up (after marks) ≡ false → IsSynced g image (after marks) (tree_after g tree (after marks))
+    synced_still image tree marks k tr all e u =
+        let sized' = x.size ∙ sized in
+        let v = state_after image (after marks) in
+        let y = synced b v (subst (λ n. 0 < n) (sym sized') some) all (slots image tree marks k.agrees tr) in
+        record {
+          sure = record { each = y.sure };
+          holds = subst (λ (z : Disk). HoldsVolume g z (tree_after g tree (after marks)))
+              (y.on_disk ∙ ap (λ n. view n (λ j. None) v) sized' ∙ sym (frames_read_back g (λ j. None) image (after marks) some).0)
+              (held_still image tree marks k tr e u);
+        }
+
+    pub unmounts : (r : Unmounting) → (is_busy p ≡ true → x.acts ≡ []) → r ≡ unmounting_of b.ended b.table.given_up (is_busy p)
+        → (r ≡ Unmounted → (b.ended ≡ false) × (b.table.given_up ≡ false) × AllClean b.held) → UnmountsOver s t a.truth b.truth r
+    unmounts r busy is clean = record {
+      keeps = record {
+        acts = x.acts;
+        leads = led.leads;
+        none_absorbed = x.none_absorbed;
+        same_files = ap is_busy stays;
+        busy = busy;
+        after_end = before;
+        rules = λ image tree marks k. led.rules marks k.table;
+        is = λ image tree marks k. is ∙ ap (λ (z : Bool). unmounting_of b.ended z (is_busy p)) (given_up marks k.table);
+        after_giving_up = λ image tree marks k e. over (k.table.holds.given_up ∙ e);
+        serves = serves_still;
+        synced = λ image tree marks k e tr. let c = clean e in
+            synced_still image tree marks k tr c.2 c.0 (sym (given_up marks k.agrees.table) ∙ c.1);
+      };
+      truth = heard;
+    }
 
   -- a call that is cut, or answered EIO
   module _ (who : Who) (now : ℕ) (call : Call) (before : a.ended ≡ true → x.acts ≡ []) (over : a.table.given_up ≡ true → x.acts ≡ []) where

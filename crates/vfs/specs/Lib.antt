@@ -4,3 +4,4 @@ pub mod Outcomes
 pub mod OverLink
 pub mod LineLaws
 pub mod Mounted
+pub mod Unmounting

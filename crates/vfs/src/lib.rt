@@ -5,5 +5,6 @@ pub mod mounted;
 pub mod opening;
 pub mod over_link;
 pub mod server;
+pub mod unmounting;
 
 pub use server::Server;

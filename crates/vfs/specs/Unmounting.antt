@@ -1,0 +1,50 @@
+-- What unmounting a server over a cache promises.
+use Rattle.std.specs.Prelude.{◌≡◌, ℕ, List, Result, Ok, Err}
+use Rattle.tree.specs.Tree.{Tree}
+use Rattle.marks.specs.Marks.{Mark}
+use Rattle.marks.specs.Opening.{Opening, contents_at}
+use Rattle.marks.specs.Acts.{marks_after}
+use Rattle.legal.specs.ServerCall.{Serving}
+use Rattle.legal.specs.Unmount.{UnmountKeeps, Unmounting}
+use Rattle.legal.specs.Unmount as legal
+use Rattle.reissue.specs.Calls.{Truth}
+use Rattle.cache.specs.Calls.{Caching}
+use Rattle.store.specs.declared.Cut.{Cut}
+use Rattle.store.specs.declared.Cut.TheVariants as cut
+use Rattle.vfs.specs.declared.server.Server.{Server}
+use Rattle.vfs.specs.declared.unmounting.UnmountRefusal.{UnmountRefusal}
+use Rattle.vfs.specs.declared.unmounting.UnmountRefusal.TheVariants.{LinkEnded, Eio, Busy}
+use Rattle.vfs.specs.Server.{serving}
+
+-- the numbers of the refusals to unmount
+abbrev pub unmount_refusal_number : UnmountRefusal → ℕ
+unmount_refusal_number LinkEnded = 1
+unmount_refusal_number Eio = 2
+unmount_refusal_number Busy = 3
+
+-- why it is refused where calls are cut
+abbrev pub refused_by : Cut → UnmountRefusal
+refused_by cut.Eio = Eio
+refused_by cut.LinkEnded = LinkEnded
+
+-- the refusal in the words of the definitions
+abbrev pub in_words : UnmountRefusal → Unmounting
+in_words LinkEnded = legal.LinkEnded
+in_words Eio = legal.Eio
+in_words Busy = legal.Busy
+
+-- what unmounting gave back, in these words
+abbrev pub unmounting_as : Result (Unit {0}) UnmountRefusal → Unmounting
+unmounting_as (Ok u) = legal.Unmounted
+unmounting_as (Err refusal) = in_words refusal
+
+-- A server over a link is unmounted: what the link guarantees of a record that the server agrees with it guarantees afterwards.
+pub record UnmountsOver (old new : Serving) (was is : Truth) (result : Unmounting) : Type 0 where
+  pub keeps : UnmountKeeps old result new
+  pub truth : (v : Opening) (tree : Tree) (marks : List Mark) → v.minor ≡ old.minor → old.Agrees (contents_at v) tree marks
+      → was v marks → is v (marks_after keeps.acts marks)
+
+-- unmounting a server over the blocks of a cache
+abbrev pub Unmounts : {B : Type 0} → (B → Caching) → (B → ℕ) → Server B → Server B → Unmounting → Type 0
+Unmounts caching frame_count old new result =
+    UnmountsOver (serving caching frame_count old) (serving caching frame_count new) (caching old.blocks).truth (caching new.blocks).truth result
