@@ -2,7 +2,7 @@
 #![tactic(auto)]
 
 use command_line::{line_of, status_for};
-use mfs_words::{Words, command};
+use mfs_words::{Words, command, scripts_of};
 use std::alloc::AllocError;
 use std::process::ExitCode;
 use std::rt::Files;
@@ -43,11 +43,11 @@ fn main(rt: HostRuntime) -> io::Result<ExitCode> {
             return Ok(ExitCode::from(status_for(&error)));
         }
     };
-    let words = Words::of(&matches);
+    let (words, names) = (Words::of(&matches), scripts_of(alloc, &matches)?);
     let image = fs::read(&rt, words.image).ok();
-    let texts = read_all(&rt, words.scripts)?;
+    let texts = read_all(&rt, names.as_slice())?;
     let mut scripts = Vec::new(alloc);
-    for (name, text) in words.scripts.iter().zip(&texts) {
+    for (name, text) in names.iter().zip(&texts) {
         scripts.push(file(name, text))?;
     }
     let table = table_in(image.as_deref().unwrap_or(&[]));

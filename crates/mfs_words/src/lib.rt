@@ -100,13 +100,22 @@ pub(crate) fn spares_word<'a>(alloc: Global) -> Arg<'a> {
 /// The most drivers that stand by (own).
 const MOST_SPARES: u64 = 63;
 
-/// What the words say.
+/// The scripts' files, in the order of the words.
+pub fn scripts_of<'a>(alloc: Global, matches: &ArgMatches<'a>) -> Result<Vec<&'a str>, AllocError> {
+    let mut scripts = Vec::new(alloc);
+    if let Some(names) = matches.get_strs("SCRIPT") {
+        for name in names {
+            scripts.push(*name)?;
+        }
+    }
+    Ok(scripts)
+}
+
+/// What the words say but for the scripts.
 #[derive(Clone, Copy)]
-pub struct Words<'m, 'a> {
+pub struct Words<'a> {
     /// The image's file.
     pub image: &'a str,
-    /// The scripts' files, in the order of the words.
-    pub scripts: &'m [&'a str],
     /// The file that the image is written to in the end, if one is named.
     pub out: Option<&'a str>,
     /// Where the volume lies: 0 is the whole image.
@@ -117,12 +126,11 @@ pub struct Words<'m, 'a> {
     pub model: bool,
 }
 
-impl<'m, 'a> Words<'m, 'a> {
+impl<'a> Words<'a> {
     /// All but `out` are there where the words were taken.
-    pub fn of(matches: &'m ArgMatches<'a>) -> Words<'m, 'a> {
+    pub fn of(matches: &ArgMatches<'a>) -> Words<'a> {
         Words {
             image: matches.get_str("IMAGE").unwrap_or(""),
-            scripts: matches.get_strs("SCRIPT").unwrap_or(&[]),
             out: matches.get_str("out"),
             minor: matches.get_one::<u8>("minor").unwrap_or(0),
             spares: matches.get_one::<u8>("spares").unwrap_or(0),

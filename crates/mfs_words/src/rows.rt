@@ -1,6 +1,6 @@
 //! Words that are taken, and others.
 
-use crate::{Words, command};
+use crate::{Words, command, scripts_of};
 use command_line::status_for;
 use std::process::Abort;
 use std::test::Fail;
@@ -51,10 +51,10 @@ const TAKEN: [(&[&str], Said<'static>); 11] = [
 ];
 
 /// The words say so.
-fn say(rt: &impl Abort, words: &Words<'_, '_>, said: &Said<'_>) {
-    let (scripts, out, minor, spares, model) = *said;
+fn say(rt: &impl Abort, scripts: &[&str], words: &Words<'_>, said: &Said<'_>) {
+    let (files, out, minor, spares, model) = *said;
     assert_eq!(rt; words.image, "v.img");
-    assert_eq!(rt; words.scripts, scripts);
+    assert_eq!(rt; scripts, files);
     assert_eq!(rt; words.out, out);
     assert_eq!(rt;
         (words.minor, words.spares, words.model),
@@ -66,7 +66,8 @@ fn say(rt: &impl Abort, words: &Words<'_, '_>, said: &Said<'_>) {
 fn words_are_taken(rt: HostRuntime) -> Result<(), Fail> {
     for (line, said) in &TAKEN {
         let matches = command(rt.alloc())?.try_get_matches_from(line)?;
-        say(&rt, &Words::of(&matches), said);
+        let scripts = scripts_of(rt.alloc(), &matches)?;
+        say(&rt, scripts.as_slice(), &Words::of(&matches), said);
     }
     Ok(())
 }
