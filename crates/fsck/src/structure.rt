@@ -69,7 +69,7 @@ fn bad_mode(image: &Image) -> Option<u32>
 fn has_bad_mode(image: &Image, n: u32) -> bool
     ensures { result ≡ has_bad_mode image.now.geometry (contents image.now) n }
 {
-    image.is_marked(n) && !is_mode(image.inode(n).mode)
+    image.is_marked(n) && !is_mode(image.mode(n))
 }
 
 /// Whether a mode is of a known type, with permissions alone.
@@ -93,7 +93,7 @@ fn has_bad_size(image: &Image, n: u32) -> bool
     if !image.is_marked(n) {
         return false;
     }
-    let size = image.inode(n).size;
+    let size = image.size(n);
     if 2147483647 < size {
         return true;
     }

@@ -1,13 +1,14 @@
 -- Names in entries.
-use Rattle.std.proofs.Common.{◌≡◌, ◌≢◌, ◌<◌, ◌≤◌, ◌+◌, ◌-◌, take, drop, ℕ, zero, suc, true, false, List, [], ◌∷◌, length, slice_index, get_or, refl, sym, ap, subst, ◌∙◌, arith}
+use Rattle.std.proofs.Common.{◌≡◌, ◌≢◌, ◌<◌, ◌≤◌, ◌+◌, ◌-◌, take, drop, ℕ, zero, suc, true, false, List, [], ◌∷◌, length, slice_index, get_or, refl, sym, ap, subst, ◌∙◌, add-one, arith}
 use Rattle.std.specs.Prelude.{Bool, not, ◌&&◌, ◌||◌, ◌==◌, nat_lt, nat_le}
 use Rattle.std.specs.List.{list_any}
 use mathlib.Core.Logic.{inl, inr}
 use lib.Pointwise.{pointwise}
 use lib.Dec.{eqb}
 use Rattle.tree.specs.Names.{same_name, is_name, is_dots, most_name}
-use Rattle.std.proofs.lemmas.Bool.{cases_eq, cond-true, cond-false, eq-eqb, ne_eqb, le-ltb, le-leb, lt-leb, and_from, and_right}
-use Rattle.volume_laws.proofs.Sums.{some_from, none_from}
+use Rattle.std.proofs.lemmas.Bool.{cases_eq, cases_lt, cond-true, cond-false, eq-eqb, ne_eqb, eqb-true, not-true, not-false, le-ltb, le-leb, lt-leb, and_from, and_left, and_right}
+use Rattle.tree.specs.Sums.{some_below}
+use Rattle.volume_laws.proofs.Sums.{some_from, none_below, none_from}
 use Rattle.image.specs.Entry.{is_field, is_padded, name_in}
 use Rattle.std.proofs.lemmas.List.{length-take, length-drop, length-take-le, get_or-take, get_or-drop}
 use Rattle.volume.specs.Nodes.{text_in}
@@ -158,3 +159,60 @@ module _ (xs : List ℕ) where
         let second : nat_le (length xs) most_name ≡ true = le-leb (length xs) most_name short in
         let third : not (list_any (λ c. (c == 47) || (c == 0) || nat_lt 255 c) xs) ≡ true = ap not (sym (plain xs some low) ∙ out) in
         sym (λ i. first i && second i && third i && not (is_dots xs))
+
+-- no byte is looked at yet, and all are zero
+pub none_yet : (p : ℕ → Bool) → true ≡ not (some_below p 0)
+unfolding some_below
+none_yet p = refl
+
+-- one byte more
+pub one_more_blank : (z : ℕ → Bool) (n : ℕ) → (not (some_below (λ k. not (z k)) n) && z n) ≡ not (some_below (λ k. not (z k)) (n + 1))
+unfolding some_below
+one_more_blank z n =
+    let turn : (a b : Bool) → (not a && b) ≡ not (a || not b) = λ a b. elim a as (λ a. (not a && b) ≡ not (a || not b)) [
+      | true ↦ elim b as (λ b. (not true && b) ≡ not (true || not b)) [ true ↦ refl | false ↦ refl ]
+      | false ↦ elim b as (λ b. (not false && b) ≡ not (false || not b)) [ true ↦ refl | false ↦ refl ]
+    ] in
+    turn (some_below (λ k. not (z k)) n) (z n) ∙ ap not (sym (ap (some_below (λ k. not (z k))) (add-one n)))
+
+-- the bytes of a text aren't zero where they stand
+pub text_front : (f : ℕ → ℕ) (k p a : ℕ) → a < length (text_in f k p) → f (p + a) ≢ 0
+text_front f zero p a h = absurd (omega arith)
+text_front f (suc k) p a h = elim (cases_eq (f p) 0) [
+  | inl e ↦ let none : text_in f (suc k) p ≡ [] = cond-true (f p == 0) [] _ (eq-eqb (f p) 0 e) in let size : length (text_in f (suc k) p) ≡ 0 = ap length none in absurd (omega arith)
+  | inr d ↦
+      let size : length (text_in f (suc k) p) ≡ suc (length (text_in f k (suc p))) = ap length (cond-false (f p == 0) [] (f p ∷ text_in f k (suc p)) (ne_eqb (f p) 0 d)) in
+      at_each (length (text_in f k (suc p))) d (λ b. text_front f k (suc p) b) a (omega arith)
+]
+  where
+    at_each : (n : ℕ) → f p ≢ 0 → ((b : ℕ) → b < n → f (suc p + b) ≢ 0) → (a : ℕ) → a < suc n → f (p + a) ≢ 0
+    at_each n some rest zero h = let at : p + 0 ≡ p = omega arith in λ e. some (ap f (sym at) ∙ e)
+    at_each n some rest (suc b) h = let at : p + suc b ≡ suc p + b = omega arith in λ e. rest b (omega arith) (ap f (sym at) ∙ e)
+
+module _ (xs : List ℕ) (whole : length xs ≡ 64) (n : ℕ) (is : n ≡ length (name_in (slice_index xs))) where
+  -- the bytes behind the name
+  abbrev rest : List ℕ
+  rest = take (length xs - (4 + n)) (drop (4 + n) xs)
+
+  -- a byte of the name
+  front : (k : ℕ) → k < n → slice_index xs (4 + k) ≢ 0
+  unfolding name_in
+  front k h = text_front (slice_index xs) 60 4 k (omega arith)
+
+  -- a field is padded where all bytes behind its name are zero
+  pub padded_behind : not (some_below (λ k. not (slice_index rest k == 0)) (length rest)) ≡ true → true ≡ is_padded (slice_index xs)
+  padded_behind blank =
+      let most = name_most (slice_index xs) in
+      let size : length rest ≡ 60 - n = simp (length-take, length-drop) (omega arith) in
+      let behind : (k : ℕ) → n ≤ k → k < 60 → slice_index xs (4 + k) ≡ 0 = λ k low high.
+      let inside : k - n < length xs - (4 + n) = omega arith in
+      let here : k - n < length rest = omega arith in
+      let none = none_below (λ k. not (slice_index rest k == 0)) (length rest) (not-true _ blank) (k - n) here in
+      let at : 4 + n + (k - n) ≡ 4 + k = omega arith in
+      sym (get_or-take (length xs - (4 + n)) (drop (4 + n) xs) (k - n) 0 inside ∙ get_or-drop (4 + n) xs (k - n) 0 ∙ ap (slice_index xs) at)
+      ∙ eqb-true (slice_index rest (k - n)) 0 (not-false _ none)
+      in
+      all_padding (slice_index xs) 59 (omega arith) (λ k h. elim (cases_lt k n) [
+        | inl low ↦ and_left _ _ (ne_eqb (slice_index xs (4 + k)) 0 (front k low))
+        | inr high ↦ and_right _ _ (ap not (eq-eqb (slice_index xs (4 + (k + 1))) 0 (behind (k + 1) (omega arith) (omega arith))))
+      ])

@@ -1,6 +1,7 @@
 //! The 64 bytes of an entry of a directory: a number of four, and a field of 60 with the name, filled with zeros.
 
-ghost use Rattle.std.specs.Prelude.{◌≡◌, ◌≢◌, ◌≤◌, ◌<◌, ℕ, length, slice_index};
+ghost use Rattle.std.specs.Prelude.{◌≡◌, ◌≢◌, ◌≤◌, ◌<◌, ◌&&◌, ◌==◌, ℕ, length, not, slice_index};
+ghost use Rattle.tree.specs.Sums.{some_below};
 ghost use Rattle.tree.specs.Names.{is_dots, is_name};
 ghost use Rattle.image.specs.Entry.{has_name, is_field, is_padded, name_in};
 
@@ -32,11 +33,33 @@ pub fn is_field(entry: &[u8], name: &[u8]) -> bool
     true
 }
 
-/// Whether after a zero byte of the field all are zero.
+/// Whether all bytes are zero. It goes on after one that isn't, so that many are looked at together.
+fn is_blank(bytes: &[u8]) -> bool
+    ensures { result ≡ not (some_below (λ k. not (slice_index bytes.now k == 0)) (length bytes.now)) }
+{
+    let mut blank = true;
+    for k in 0..bytes.len() {
+        blank = both(blank, bytes[k] == 0);
+    }
+    blank
+}
+
+/// Whether both hold.
+fn both(a: bool, b: bool) -> bool
+    ensures { result ≡ (a && b) }
+{
+    a & b
+}
+
+/// Whether after a zero byte of the field all are zero. Nearly always all behind the name are, which is looked at first.
 fn is_padded(entry: &[u8]) -> bool
     requires { length entry.now ≡ 64 }
     ensures { result ≡ is_padded (slice_index entry.now) }
 {
+    let behind = 4 + name_of(entry).len();
+    if is_blank(&entry[behind..]) {
+        return true;
+    }
     for a in 0..59 {
         if entry[4 + a] == 0 && entry[5 + a] != 0 {
             return false;

@@ -4,9 +4,10 @@
 mod words;
 
 use command_line::{line_of, status_for};
+use std::io;
 use std::process::ExitCode;
-use std::{fs, io};
 use volume_tools::verify::verify;
+use whole_file::read;
 use words::{Words, command};
 
 fn main(rt: HostRuntime) -> io::Result<ExitCode> {
@@ -22,7 +23,7 @@ fn main(rt: HostRuntime) -> io::Result<ExitCode> {
         }
     };
     let words = Words::of(&matches);
-    let image = fs::read(&rt, words.image).ok();
+    let image = read(&rt, words.image).ok();
     let (mut out, mut err) = (io::writer(&rt), rt.stderr());
     let verified = verify(
         alloc,

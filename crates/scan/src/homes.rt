@@ -83,7 +83,7 @@ fn has_bad_links(image: &Image, named: &[u16], namer: &[u16], n: u32) -> bool
     if !image.is_marked(n) {
         return false;
     }
-    let links = u32::from(image.inode(n).links);
+    let links = u32::from(image.links(n));
     if links == 0 {
         return true;
     }

@@ -32,7 +32,7 @@ fn has_bad_entry(alloc: Global, image: &Image, n: u32) -> Result<bool, AllocErro
         return Ok(false);
     }
     let inode = image.inode(n);
-    let mut names = HashSet::new(alloc);
+    let mut names = HashSet::with_capacity(alloc, inode.size as usize / 64)?;
     for number in 0..inode.size / 64 {
         let entry = image.entry(&inode, number);
         if u32_at(entry, 0) == 0 {

@@ -1,13 +1,22 @@
-//! Writing a file so that its name never leads to a part of it.
+//! Reading a file at once, and writing one so that its name never leads to a part of it.
 #![tactic(auto)]
 
-use std::fs::{self, OpenFile, OpenOptions};
-use std::io::{self, ErrorKind, Write};
+use std::fs::{self, File, OpenFile, OpenOptions};
+use std::io::{self, ErrorKind, Read, Write};
 use std::path::PathBuf;
 use std::rt::Files;
 
 /// How many names beside a file are tried for the new one (own).
 const MOST_TRIES: u32 = 100;
+
+/// The bytes of a file. Room is made first for all of them and one more, so that they stay where they are while they are read.
+pub fn read<R: Files + Alloc>(rt: &R, name: &str) -> io::Result<Vec<u8, R::A>> {
+    let mut file = File::open(rt, name)?;
+    let size = file.metadata()?.len() as usize;
+    let mut bytes = Vec::with_capacity(rt.alloc(), size.saturating_add(1))?;
+    file.read_to_end(&mut bytes)?;
+    Ok(bytes)
+}
 
 /// Puts bytes in the place of a file, or makes it. They go to a new file beside it, of the same permissions, which takes its name
 /// once it is whole and on the disk. Where that fails, the file of this name is as it was, and the new one is taken away.

@@ -15,11 +15,11 @@ returns-then-not-is_marked c = sym (and_left (is_marked c.args.image.now.geometr
 pub returns-then-links-eq0 : goal.returns-then-links-eq0
 returns-then-links-eq0 c =
     no_links c.args.image.now c.args.n (sym c.is_marked.ensures ∙ c.if-not-is_marked.false)
-    (ap (λ x. x.links) (sym c.inode.ensures) ∙ sym c.from-links.ensures ∙ c.if-links-eq0.true)
+    (sym c.links.ensures ∙ sym c.from-links.ensures ∙ c.if-links-eq0.true)
 
 pub returns-then-links-gt32767 : goal.returns-then-links-gt32767
 returns-then-links-gt32767 c =
-    let is = c.from-links.ensures ∙ ap (λ x. x.links) c.inode.ensures in
+    let is = c.from-links.ensures ∙ c.links.ensures in
     let many = c.if-links-gt32767.true in
     many_links c.args.image.now c.args.n (sym c.is_marked.ensures ∙ c.if-not-is_marked.false) (omega arith)
 
@@ -27,7 +27,7 @@ pub returns-then-is_directory : goal.returns-then-is_directory
 returns-then-is_directory c =
     let i = c.args.image.now in
     let n = c.args.n in
-    let is = c.from-links.ensures ∙ ap (λ x. x.links) c.inode.ensures in
+    let is = c.from-links.ensures ∙ c.links.ensures in
     let some = c.if-links-eq0.false in
     let few = c.if-links-gt32767.false in
     let wanted : 2 + c.subdirectories.result ≡ links_of i.geometry (contents i) n
@@ -43,7 +43,7 @@ pub returns : goal.returns
 returns c =
     let i = c.args.image.now in
     let n = c.args.n in
-    let is = c.from-links.ensures ∙ ap (λ x. x.links) c.inode.ensures in
+    let is = c.from-links.ensures ∙ c.links.ensures in
     let marked = sym c.is_marked.ensures ∙ c.if-not-is_marked.false in
     let some = c.if-links-eq0.false in
     let few = c.if-links-gt32767.false in

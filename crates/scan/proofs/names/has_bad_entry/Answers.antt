@@ -19,7 +19,7 @@ returns-then-not-is_directory c = no_directory c.args.image.now c.args.n _ (sym 
 pub loop-number-init : goal.loop-number-init
 loop-number-init c = record {
   good = λ e h. absurd (omega arith);
-  names = λ q. ap (list_any (λ (k : Bor (List ℕ)). pointwise eqb q k.now)) c.new-names.ensures.empty ∙ sym (no_some _);
+  names = λ q. ap (list_any (λ (k : Bor (List ℕ)). pointwise eqb q k.now)) c.in_ok-names.ensures.empty ∙ sym (no_some _);
 }
 
 pub returns-then-u32_at-eq0 : goal.returns-then-u32_at-eq0
