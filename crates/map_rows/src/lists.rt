@@ -40,10 +40,12 @@ pub(crate) fn started() -> Incoming {
     Incoming::Started(DRIVER)
 }
 
-/// Its answer to this request: a block was moved, whose first byte is this one, and the others are 0.
-pub(crate) fn moved(id: u64, first: u8) -> Incoming {
+/// Its answer to this request: a block was moved that begins with these bytes, 4096 at most, and the others are 0.
+pub(crate) fn moved(id: u64, first: &[u8]) -> Incoming {
     let mut bytes = [0; 4096];
-    bytes[0] = first;
+    for (place, byte) in bytes.iter_mut().zip(first.iter()) {
+        *place = *byte;
+    }
     Incoming::Reply(BlockReply {
         from: DRIVER,
         id,

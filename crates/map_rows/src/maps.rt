@@ -23,7 +23,7 @@ fn free<B: Blocks>(blocks: &mut B, geometry: &Geometry, map: Map) -> Result<(Opt
 fn a_root_alone(rt: HostRuntime) -> Result<(), Fail> {
     let geometry = small();
     // number 0 is set in both maps, and the root's
-    let messages = [started(), moved(1, 3), moved(2, 3)];
+    let messages = [started(), moved(1, &[3]), moved(2, &[3])];
     let mut blocks = blocks_over(rt.alloc(), &messages)??;
     let inodes = free(&mut blocks, &geometry, Map::Inodes);
     assert_eq!(rt; inodes, Ok((Some(2), 31)));
