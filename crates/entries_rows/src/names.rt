@@ -1,6 +1,7 @@
 //! Names that come, and names that lead elsewhere.
 
 use crate::volumes::{Volume, image};
+use std::alloc::Global;
 use std::process::Abort;
 use std::test::Fail;
 use store::Halt;
@@ -34,8 +35,8 @@ fn numbered(number: u8) -> [u8; 3] {
 }
 
 /// The empty volume's root gets the names `n01` to `n14`, which lead to the inodes 2 to 15.
-fn fourteen(rt: &HostRuntime) -> Result<Volume, Fail> {
-    let mut volume = Volume::new(image(rt.alloc())?);
+fn fourteen(rt: &impl Abort, alloc: Global) -> Result<Volume, Fail> {
+    let mut volume = Volume::new(image(alloc)?);
     for number in 1..15 {
         is_changed(
             rt,
@@ -49,7 +50,7 @@ fn fourteen(rt: &HostRuntime) -> Result<Volume, Fail> {
 /// The root's size is 1024 and its times 50, 70, 70; entries 2 and 15; zone 6 alone is marked.
 #[test]
 fn fourteen_names_fill_a_zone(rt: HostRuntime) -> Result<(), Fail> {
-    let volume = fourteen(&rt)?;
+    let volume = fourteen(&rt, rt.alloc())?;
     has_parts(
         &rt,
         volume.image(),
@@ -66,7 +67,7 @@ fn fourteen_names_fill_a_zone(rt: HostRuntime) -> Result<(), Fail> {
 /// The root's size is 1088; zone 7 is marked, the second of the root's, and has the entry alone.
 #[test]
 fn the_fifteenth_takes_a_zone(rt: HostRuntime) -> Result<(), Fail> {
-    let mut volume = fourteen(&rt)?;
+    let mut volume = fourteen(&rt, rt.alloc())?;
     is_changed(&rt, volume.insert(b"n15", 16), Ok(()));
     has_parts(
         &rt,
@@ -87,7 +88,7 @@ fn the_fifteenth_takes_a_zone(rt: HostRuntime) -> Result<(), Fail> {
 /// The last entry takes the place of the first name, and its zone is free again; the root's times are 50, 90, 90.
 #[test]
 fn the_first_of_fifteen_goes(rt: HostRuntime) -> Result<(), Fail> {
-    let mut volume = fourteen(&rt)?;
+    let mut volume = fourteen(&rt, rt.alloc())?;
     is_changed(&rt, volume.insert(b"n15", 16), Ok(()));
     is_changed(&rt, volume.remove(b"n01"), Ok(()));
     has_parts(

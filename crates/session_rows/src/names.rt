@@ -12,7 +12,7 @@ use samples::{new_volume, supply_of, whole};
 use serve::gate::Open;
 use serve::service::{Service, Shared};
 use serve::session::Session;
-use std::alloc::Global;
+use std::alloc::{AllocError, Global};
 use std::process::Abort;
 use std::sync::Wait;
 use std::test::Fail;
@@ -188,24 +188,33 @@ impl<R: Wait + Copy> Program<R> for Plays {
     }
 }
 
-/// Plays a script on the small new volume: the lines of what the calls answered are these, and these bytes stand in the image.
-fn is_played(
-    rt: HostRuntime,
+/// Plays a script on the small new volume.
+fn ended<R: Wait + Copy>(
+    alloc: Global,
+    rt: R,
     script: Script,
-    lines: &str,
-    parts: &[(usize, &[u8])],
-) -> Result<(), Fail> {
-    let alloc = rt.alloc();
+) -> Result<Option<Played>, AllocError> {
     let image = new_volume(alloc, 1024)?;
     let supply = supply_of(alloc, 128, &[None])?;
     let plays = Plays { alloc, script };
     let served = serve(alloc, rt, image.as_slice(), &whole(), supply, Open, plays);
-    let Ok(Some(Played { outcomes, image })) = served else {
+    Ok(served.unwrap_or(None))
+}
+
+/// It was played: the lines of what the calls answered are these, and these bytes stand in the image.
+fn is_played(
+    rt: &impl Abort,
+    alloc: Global,
+    played: Option<Played>,
+    lines: &str,
+    parts: &[(usize, &[u8])],
+) -> Result<(), Fail> {
+    let Some(Played { outcomes, image }) = played else {
         panic!(rt; "not played");
     };
-    are_told(&rt, alloc, outcomes.as_slice(), lines)?;
+    are_told(rt, alloc, outcomes.as_slice(), lines)?;
     for (at, bytes) in parts {
-        assert_eq!(&rt;
+        assert_eq!(rt;
             image.get(*at..at.saturating_add(bytes.len())),
             Some(*bytes)
         );
@@ -227,9 +236,12 @@ fn are_told(rt: &impl Abort, alloc: Global, outcomes: &[Outcome], lines: &str) -
 /// first name, in entry 2. The root's size stands at byte 4104, its zones from 4120 on, the zone map at 3072.
 #[test]
 fn fifteen_files(rt: HostRuntime) -> Result<(), Fail> {
+    let alloc = rt.alloc();
+    let played = ended(alloc, rt, Script::Fifteen)?;
     is_played(
-        rt,
-        Script::Fifteen,
+        &rt,
+        alloc,
+        played,
         "inode 1 mode 0040755 links 2 uid 0 gid 0 size 1024 times 50 60 60\n\
          block 1024 zones 58 free 57 inodes 32 free 17\n\
          inode 1 mode 0040755 links 2 uid 0 gid 0 size 1088 times 50 60 60\n\
@@ -250,9 +262,12 @@ fn fifteen_files(rt: HostRuntime) -> Result<(), Fail> {
 
 #[test]
 fn the_longest_name(rt: HostRuntime) -> Result<(), Fail> {
+    let alloc = rt.alloc();
+    let played = ended(alloc, rt, Script::Longest)?;
     is_played(
-        rt,
-        Script::Longest,
+        &rt,
+        alloc,
+        played,
         "fd 0\nENAMETOOLONG\n",
         &[(6272, b"\x02\0\0\0"), (6276, &LETTERS[1..61]), (6336, &[0])],
     )
@@ -260,9 +275,12 @@ fn the_longest_name(rt: HostRuntime) -> Result<(), Fail> {
 
 #[test]
 fn a_file_by_its_mode(rt: HostRuntime) -> Result<(), Fail> {
+    let alloc = rt.alloc();
+    let played = ended(alloc, rt, Script::ByMode)?;
     is_played(
-        rt,
-        Script::ByMode,
+        &rt,
+        alloc,
+        played,
         "fd 0\nok\nok\nEACCES\nfd 0\nfd 0\n",
         &[],
     )
@@ -271,9 +289,12 @@ fn a_file_by_its_mode(rt: HostRuntime) -> Result<(), Fail> {
 /// No time changes where a directory is moved onto itself, and none where a move is refused.
 #[test]
 fn directories_that_stay(rt: HostRuntime) -> Result<(), Fail> {
+    let alloc = rt.alloc();
+    let played = ended(alloc, rt, Script::Moves)?;
     is_played(
-        rt,
-        Script::Moves,
+        &rt,
+        alloc,
+        played,
         "ok\nok\nok\nok\nEINVAL\nENOTEMPTY\nok\n\
          inode 1 mode 0040755 links 4 uid 0 gid 0 size 256 times 50 60 60\n\
          inode 2 mode 0040755 links 3 uid 0 gid 0 size 192 times 60 60 60\n",
