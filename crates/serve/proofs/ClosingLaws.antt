@@ -16,7 +16,7 @@ use Rattle.serve.specs.Held.{IsCutAtEnd, HasEnded}
 use Rattle.keeping.proofs.KeeperLaws.{all_free, is_free}
 use Rattle.marks.specs.Marks.{Mark, Took}
 use Rattle.serve.specs.declared.left_open.LeftOpen.{LeftOpen}
-use Rattle.serve.specs.Descriptors.{change_of, changed, is_done, leaves_open, IsClosing, ClosesIf, ClosesOne, ClosesBelow, was_cut, AreLeftOpen}
+use Rattle.serve.specs.Descriptors.{change_of, changed, is_done, leaves_open, ClosesIf, ClosesOne, ClosesBelow, was_cut, AreLeftOpen}
 
 -- what a call changed
 pub left_changed : (old new : LeftOpen) (who : Who) (now : ℕ) (call : Call) (answer : Answer) (marks : List Mark) (n : ℕ) (after : Bool)

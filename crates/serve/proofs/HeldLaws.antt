@@ -1,5 +1,5 @@
 -- What holds under the lock of a service after each call, and what a session has of it.
-use Rattle.std.proofs.Common.{◌≡◌, ◌≢◌, ℕ, List, [], ◌∷◌, ◌++◌, Bool, true, false, refl, sym, ◌∙◌, ap, subst, Some, inl, inr}
+use Rattle.std.proofs.Common.{◌≡◌, ◌≢◌, ℕ, List, [], ◌∷◌, Bool, true, false, refl, sym, ◌∙◌, ap, subst, Some, inl, inr}
 use Rattle.std.specs.List.{concat}
 use Rattle.std.specs.Prelude.{◌||◌, ◌↔◌, ◌⊎◌, ◌<◌, Result, Ok, Err, IsErrOf, IfErr, IfOk}
 use Rattle.atomic_table.specs.Seated.{TableId}
@@ -20,7 +20,7 @@ use Rattle.marks.specs.Marks.{Mark, Took, gave_up}
 use Rattle.marks.specs.Disk.{HasTrueReplies}
 use Rattle.marks.specs.Acts.{Act, told_of, marks_after}
 use Rattle.marks.specs.Opening.{Opening, contents_at}
-use Rattle.marks.specs.Told.{Told, took_end}
+use Rattle.marks.specs.Told.{took_end}
 use Rattle.media.specs.Contents.{MediaState}
 use Rattle.bdev.specs.DriverState.{DriverState}
 use Rattle.policy.specs.declared.Policy.{Policy}

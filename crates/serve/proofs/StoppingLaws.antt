@@ -1,5 +1,5 @@
 -- How the last sync of a service went, and what its link then guarantees.
-use Rattle.std.proofs.Common.{◌≡◌, ℕ, List, [], ◌∷◌, ◌++◌, Bool, true, false, refl, sym, ◌∙◌, ap, subst, inl, inr, append-nil}
+use Rattle.std.proofs.Common.{◌≡◌, ℕ, List, [], ◌∷◌, Bool, true, false, refl, sym, ◌∙◌, ap, subst, inl, inr, append-nil}
 use Rattle.std.specs.List.{concat}
 use Rattle.std.specs.Prelude.{◌⊎◌, Result, Ok, Err, IfOk, IfErr, if◌then◌else◌}
 use Rattle.layout.specs.declared.Geometry.{Geometry}
@@ -19,12 +19,12 @@ use Rattle.marks.specs.Open.{counts}
 use Rattle.marks.specs.Disk.{Contents, HasTrueReplies}
 use Rattle.marks.specs.Acts.{Act, Began, Absorbed, AtLink, marks_after}
 use Rattle.marks.specs.Opening.{Opening, contents_at}
-use Rattle.marks.specs.Told.{Posted, Complained, Received, received, took_end}
-use Rattle.legal.specs.Legal.{IsAtFirst, IsLegal, IsLegalTook, IsSynced, tree_after}
+use Rattle.marks.specs.Told.{Posted, Complained, Received, received}
+use Rattle.legal.specs.Legal.{IsLegal, IsLegalTook, tree_after}
 use Rattle.legal.proofs.Legality.{synced_is_held}
 use Rattle.legal.specs.ServerCall.{Serving, Outcome, Replied, Cut, with_outcome}
 use Rattle.reissue.specs.declared.link.Link.{Ghosts as LinkWords}
-use Rattle.file_server.specs.Over.{CallsOver, Stands}
+use Rattle.file_server.specs.Over.{CallsOver}
 use Rattle.file_server.specs.Leaving.{IsEndLast}
 use Rattle.keeping.specs.declared.room.Room.{Ghosts as RoomWords}
 use Rattle.keeping.specs.Keeper.{begins_itself, begins_before, begins_further}

@@ -3,10 +3,9 @@ use Rattle.std.specs.List.{concat}
 use Rattle.tree.specs.declared.Call.TheVariants.{Sync}
 use Rattle.tree.specs.Answers.{done}
 use Rattle.legal.specs.ServerCall.{Outcome, Replied}
-use Rattle.reissue.specs.declared.link.Link.{Ghosts as LinkWords}
 use Rattle.file_server.specs.Over.{CallsOver, outcome_of}
 use Rattle.serve.specs.Descriptors.{was_cut, succeeded}
-use Rattle.serve.specs.Stopping.{syncer, SyncEnd, Went, WasGivenUp, WasCut, sync_end, IsLastLine}
+use Rattle.serve.specs.Stopping.{syncer, Went, WasGivenUp, WasCut, sync_end, IsLastLine}
 use Rattle.serve.proofs.HeldLaws.{done_is, synced_image}
 use Rattle.serve.proofs.StoppingLaws.{last_line, cut_end, given_up_end, went_end, image_of}
 use Rattle.serve.proofs.locked.Locked.stop.Goals as goal
