@@ -6,12 +6,17 @@ use Rattle.tree.specs.declared.Who.{Who}
 use Rattle.tree.specs.declared.Call.{Call}
 use Rattle.tree.specs.declared.Call.TheVariants.{Close}
 use Rattle.tree.specs.Answers.{Answer}
+use Rattle.tree.specs.declared.Outcome.{Outcome as TreeOutcome}
+use Rattle.tree.specs.declared.Outcome.TheVariants as tree
 use Rattle.legal.specs.ServerCall.{Outcome, Replied, Cut, with_outcome}
 use Rattle.legal.specs.Session.{Seen, EndsWith}
+use Rattle.reissue.specs.declared.link.Link.{Ghosts as LinkWords}
+use Rattle.file_server.specs.Over.{outcome_of}
+use Rattle.serve.specs.Held.{IsCutAtEnd, HasEnded}
 use Rattle.keeping.proofs.KeeperLaws.{all_free, is_free}
 use Rattle.marks.specs.Marks.{Mark, Took}
 use Rattle.serve.specs.declared.left_open.LeftOpen.{LeftOpen}
-use Rattle.serve.specs.Descriptors.{change_of, changed, is_done, leaves_open, IsClosing, ClosesIf, ClosesOne, ClosesBelow, was_cut, AreLeftOpen}
+use Rattle.serve.specs.Descriptors.{change_of, changed, is_done, leaves_open, ClosesIf, ClosesOne, ClosesBelow, was_cut, AreLeftOpen}
 
 -- what a call changed
 pub left_changed : (old new : LeftOpen) (who : Who) (now : ℕ) (call : Call) (answer : Answer) (marks : List Mark) (n : ℕ) (after : Bool)
@@ -89,3 +94,16 @@ close_cut Cut cut fd who old new is ends = subst (λ (b : Bool). OnFalse (not b)
 -- the same of one that nothing had left open
 pub none_to_close : (b : Bool) (fd : ℕ) (who : Who) (marks : List Mark) → leaves_open fd marks ≡ b → b ≡ false → ClosesOne fd who marks marks
 none_to_close b fd who marks left is = subst (λ (c : Bool). ClosesIf c fd who marks marks) (sym (left ∙ is)) refl
+
+-- where it was cut, the service's link has ended
+pub close_ended : {L : Type 0} (link : LinkWords L) (marks : L → List Mark) (outcome : TreeOutcome) (cut : Bool) (seen : List Mark)
+    → cut ≡ was_cut (outcome_of outcome) → IsCutAtEnd link marks outcome seen → OnFalse (not cut) (HasEnded link marks seen)
+close_ended link marks (tree.Reply r) cut seen is end = subst (λ (b : Bool). OnFalse (not b) (HasEnded link marks seen)) (sym is) tt
+close_ended link marks tree.Cut cut seen is end =
+    subst (λ (b : Bool). OnFalse (not b) (HasEnded link marks seen)) (sym is)
+    (record { line = end.line; kept = end.kept; ended = end.exactly.0 refl })
+
+-- what holds anyway
+pub either_way : (b : Bool) (P : Type 0) → P → OnFalse b P
+either_way true P is = tt
+either_way false P is = is

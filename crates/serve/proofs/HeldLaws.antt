@@ -1,5 +1,5 @@
 -- What holds under the lock of a service after each call, and what a session has of it.
-use Rattle.std.proofs.Common.{◌≡◌, ◌≢◌, ℕ, List, [], ◌∷◌, ◌++◌, Bool, true, false, refl, sym, ◌∙◌, ap, subst, Some, inl, inr}
+use Rattle.std.proofs.Common.{◌≡◌, ◌≢◌, ℕ, List, [], ◌∷◌, Bool, true, false, refl, sym, ◌∙◌, ap, subst, Some, inl, inr}
 use Rattle.std.specs.List.{concat}
 use Rattle.std.specs.Prelude.{◌||◌, ◌↔◌, ◌⊎◌, ◌<◌, Result, Ok, Err, IsErrOf, IfErr, IfOk}
 use Rattle.atomic_table.specs.Seated.{TableId}
@@ -20,7 +20,7 @@ use Rattle.marks.specs.Marks.{Mark, Took, gave_up}
 use Rattle.marks.specs.Disk.{HasTrueReplies}
 use Rattle.marks.specs.Acts.{Act, told_of, marks_after}
 use Rattle.marks.specs.Opening.{Opening, contents_at}
-use Rattle.marks.specs.Told.{Told, took_end}
+use Rattle.marks.specs.Told.{took_end}
 use Rattle.media.specs.Contents.{MediaState}
 use Rattle.bdev.specs.DriverState.{DriverState}
 use Rattle.policy.specs.declared.Policy.{Policy}
@@ -97,6 +97,27 @@ went_if_cut serving truth old mid l m who now call (Replied answer) v t marks c 
 went_if_cut serving truth old mid l m who now call Cut v t marks c last stood answered cut =
     went_cut serving truth old mid l m who now call v t marks (serving old).ended refl c last stood answered
 
+-- a call that was cut found no device given up, unless an earlier one did
+kept_by_cut : {S L : Type 0} (serving : S → Serving) (truth : L → Truth) (old mid : S) (l m : L) (who : Who) (now : ℕ) (call : Call)
+    (v : Opening) (t : Tree) (marks : List Mark) (b : Bool) → (serving old).ended ≡ b
+    → (c : CallsOver (serving old) (serving mid) (truth l) (truth m) who now call Cut)
+    → IsEndLast (serving mid).told → Stands (serving old) (truth l) v t marks → ((serving old).ended ≡ true → gave_up marks ≡ false)
+    → gave_up (marks_after c.keeps.acts marks) ≡ false
+kept_by_cut serving truth old mid l m who now call v t marks true is c last stood either =
+    ap (λ (acts : List Act). gave_up (marks_after acts marks)) (c.keeps.after_end is) ∙ either is
+kept_by_cut serving truth old mid l m who now call v t marks false is c last stood either =
+    (cut_leaves serving truth old mid l m who now call v t marks c is last stood).1
+
+-- the same of any call that is a cut
+pub kept_if_cut : {S L : Type 0} (serving : S → Serving) (truth : L → Truth) (old mid : S) (l m : L) (who : Who) (now : ℕ) (call : Call)
+    (outcome : Outcome) (v : Opening) (t : Tree) (marks : List Mark)
+    → (c : CallsOver (serving old) (serving mid) (truth l) (truth m) who now call outcome)
+    → IsEndLast (serving mid).told → Stands (serving old) (truth l) v t marks → ((serving old).ended ≡ true → gave_up marks ≡ false)
+    → outcome ≡ Cut → gave_up (marks_after c.keeps.acts marks) ≡ false
+kept_if_cut serving truth old mid l m who now call (Replied answer) v t marks c last stood either cut = cc
+kept_if_cut serving truth old mid l m who now call Cut v t marks c last stood either cut =
+    kept_by_cut serving truth old mid l m who now call v t marks (serving old).ended refl c last stood either
+
 -- the server stands after a call that was counted if it was answered
 stands_after : {N S L : Type 0} (room : RoomWords N) (link : LinkWords L) (serving : S → Serving) (line : S → L) (is_ready : S → Type 0)
     (knows : Call → Type 0) (runs_on : L → Policy → List DriverState → Type 0) (record_in : L → List Mark)
@@ -126,6 +147,20 @@ record_after : {N S L : Type 0} (room : RoomWords N) (link : LinkWords L) (servi
 record_after room link serving line is_ready knows runs_on record_in who now call outcome old mid new kept c held t first =
     kept.is_record (line new) _ (stands_after room link serving line is_ready knows runs_on record_in who now call outcome old mid new kept c held t first).truth
 
+-- after a call it has ended where its link has
+pub ends_called : {N S L : Type 0} (room : RoomWords N) (link : LinkWords L) (serving : S → Serving) (line : S → L) (is_ready : S → Type 0)
+    (knows : Call → Type 0) (runs_on : L → Policy → List DriverState → Type 0) (record_in : L → List Mark)
+    (who : Who) (now : ℕ) (call : Call) (outcome : Outcome) (old mid : S) → ((s : S) → (serving s).told ≡ link.history (line s))
+    → CallsOver (serving old) (serving mid) (link.truth (line old)) (link.truth (line mid)) who now call outcome
+    → IsHeld room link serving line is_ready knows runs_on record_in old → (serving mid).ended ≡ took_end (link.history (line mid))
+ends_called room link serving line is_ready knows runs_on record_in who now call outcome old mid tells c held =
+    let before : (serving old).ended ≡ took_end (serving old).told = held.ends ∙ ap took_end (sym (tells old)) in
+    c.keeps.leads.ended
+    ∙ ap (λ (b : Bool). took_end (told_of c.keeps.acts) || b) before
+    ∙ sym (took_either (told_of c.keeps.acts) (serving old).told)
+    ∙ ap took_end (sym c.keeps.leads.told)
+    ∙ ap took_end (tells mid)
+
 -- it has ended where its link has
 ends_after : {N S L : Type 0} (room : RoomWords N) (link : LinkWords L) (serving : S → Serving) (line : S → L) (is_ready : S → Type 0)
     (knows : Call → Type 0) (runs_on : L → Policy → List DriverState → Type 0) (record_in : L → List Mark)
@@ -133,12 +168,7 @@ ends_after : {N S L : Type 0} (room : RoomWords N) (link : LinkWords L) (serving
     → (c : Called room link serving line is_ready who now call outcome old mid new) → IsHeld room link serving line is_ready knows runs_on record_in old
     → (serving mid).ended ≡ took_end (link.history (line mid))
 ends_after room link serving line is_ready knows runs_on record_in who now call outcome old mid new kept c held =
-    let before : (serving old).ended ≡ took_end (serving old).told = held.ends ∙ ap took_end (sym (kept.tells old)) in
-    c.calls.keeps.leads.ended
-    ∙ ap (λ (b : Bool). took_end (told_of c.calls.keeps.acts) || b) before
-    ∙ sym (took_either (told_of c.calls.keeps.acts) (serving old).told)
-    ∙ ap took_end (sym c.calls.keeps.leads.told)
-    ∙ ap took_end (kept.tells mid)
+    ends_called room link serving line is_ready knows runs_on record_in who now call outcome old mid kept.tells c.calls held
 
 -- where the link alone changed, and guarantees what it did
 pub held_same : {N S L : Type 0} (room : RoomWords N) (link : LinkWords L) (serving : S → Serving) (line : S → L) (is_ready : S → Type 0)
@@ -160,6 +190,7 @@ held_same room link serving line is_ready knows runs_on record_in old new kept s
           subst (λ (ms : List Mark). Stands (serving new) (link.truth (line new)) v t ms) (sym none)
           (same_stands serving link.truth old new (line old) (line new) v t marks same.served (truth marks st.truth) st);
       answered = λ t first. subst (λ (ms : List Mark). gave_up ms ≡ true → went_on ms ≡ true) (sym none) (held.answered t first);
+      either = λ t first over. ap gave_up none ∙ held.either t first (sym same.served.ended ∙ over);
     }
 
 -- after a call that was counted if it was answered
@@ -191,6 +222,14 @@ held_after room link serving line is_ready knows runs_on record_in who now call 
           (went_after who now call outcome (marks_after acts marks)
           (went_if_cut serving link.truth old mid (line old) (line mid) who now call outcome v t marks c.calls
           (subst IsEndLast (sym (kept.tells mid)) last) st (held.answered t first)));
+      either = λ t first over.
+          let st = held.stands t first in
+          let last : IsEndLast (link.history (line mid)) =
+          kept.end_last (line mid) (marks_after acts marks) (c.calls.truth v t marks st.minor st.serves.agrees st.truth) in
+          ap gave_up (record_after room link serving line is_ready knows runs_on record_in who now call outcome old mid new kept c held t first)
+          ∙ gave_up_with who now call outcome (marks_after acts marks)
+          ∙ kept_if_cut serving link.truth old mid (line old) (line mid) who now call outcome v t marks c.calls
+          (subst IsEndLast (sym (kept.tells mid)) last) st (held.either t first) (c.calls.keeps.cut.1 (sym c.same.served.ended ∙ over));
     }
 
 -- a server that was opened over a link which told nothing yet
@@ -214,6 +253,7 @@ held_at_first {L = L} room link serving line is_ready knows runs_on record_in s 
       subst (λ (ms : List Mark). Stands (serving s) (link.truth (line s)) room.opening t ms) (sym (ap record_in is ∙ none))
       (subst (λ (k : L). Stands (serving s) (link.truth k) room.opening t []) (sym is) here);
   answered = λ t first gone. let gave : false ≡ true = sym (ap gave_up (ap record_in is ∙ none)) ∙ gone in cc;
+  either = λ t first over. ap gave_up (ap record_in is ∙ none);
 }
 
 -- what is held is sound
@@ -381,7 +421,7 @@ cut_given room link serving line is_ready knows runs_on record_in who now call r
     )
 
 -- what answers a sync that was done isn't given up
-not_given_up : (b : Bool) → (b ≡ true → (Replied done ≡ Cut) ⊎ (Replied done ≡ Replied (refused EIO))) → b ≡ false
+pub not_given_up : (b : Bool) → (b ≡ true → (Replied done ≡ Cut) ⊎ (Replied done ≡ Replied (refused EIO))) → b ≡ false
 not_given_up true once = elim (once refl) [
   | inl e ↦ cc
   | inr e ↦ cc

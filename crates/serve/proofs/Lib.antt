@@ -1,4 +1,5 @@
 pub mod HeldLaws
+pub mod StoppingLaws
 pub mod CountLaws
 pub mod SharingLaws
 pub mod ClosingLaws

@@ -1,5 +1,5 @@
 -- What is done at the link of a server leaves the server.
-use Rattle.std.proofs.Common.{◌≡◌, ◌≤◌, ℕ, min, refl, sym, ◌∙◌, ap, subst, arith}
+use Rattle.std.proofs.Common.{◌≡◌, ◌≤◌, min, sym, subst, arith}
 use Rattle.legal.specs.ServerCall.{Serving}
 use Rattle.reissue.specs.declared.link.Link.{Ghosts as LinkWords}
 use Rattle.file_server.specs.Over.{SameServing}

@@ -1,5 +1,5 @@
 -- What lies under the lock of a service, as contracts see it.
-use Rattle.std.specs.Prelude.{◌≡◌, ◌≢◌, ◌↔◌, ℕ, List, true}
+use Rattle.std.specs.Prelude.{◌≡◌, ◌≢◌, ◌↔◌, ℕ, List, true, false}
 use Rattle.layout.specs.declared.Geometry.{Geometry}
 use Rattle.errno.specs.declared.Errno.TheVariants.{EIO}
 use Rattle.tree.specs.declared.Who.{Who}
@@ -39,7 +39,8 @@ IsEioOnceGivenUp outcome seen = (outcome ≡ Reply (Refused EIO)) ↔ ((outcome 
 
 -- The server may be called, knows each call, and is for the service's volume; it has ended where its link has, which runs on the service's
 -- drivers under the service's policy. Whichever tree the volume held as it was handed in, the server stands on it with the record that the
--- link keeps, which is legal where its replies were true; and in that record a call was answered since the device was given up, if it was.
+-- link keeps, which is legal where its replies were true; in that record a call was answered since the device was given up, if it was; and a
+-- device whose link has ended wasn't given up.
 pub record IsHeld {N S L : Type 0} (room : RoomWords N) (link : LinkWords L) (serving : S → Serving) (line : S → L) (is_ready : S → Type 0)
     (knows : Call → Type 0) (runs_on : L → Policy → List DriverState → Type 0) (marks : L → List Mark) (s : S) : Type 0 where
   pub ready : is_ready s
@@ -51,6 +52,8 @@ pub record IsHeld {N S L : Type 0} (room : RoomWords N) (link : LinkWords L) (se
       → Stands (serving s) (link.truth (line s)) room.opening tree (marks (line s))
   pub answered : (tree : Tree) → IsAtFirst room.geometry (contents_at room.opening) tree → gave_up (marks (line s)) ≡ true
       → went_on (marks (line s)) ≡ true
+  pub either : (tree : Tree) → IsAtFirst room.geometry (contents_at room.opening) tree → (serving s).ended ≡ true
+      → gave_up (marks (line s)) ≡ false
 
 -- a record is well formed, and a call was answered since the device was given up, if it was
 pub record IsSound (marks : List Mark) : Type 0 where
@@ -80,3 +83,16 @@ abbrev pub IsNotAdmitted : {L : Type 0} → LinkWords L → (L → List ℕ) →
 IsNotAdmitted {L} link numbers TooMany = (line : L) × AreAllUsed (numbers line)
 IsNotAdmitted {L} link numbers Stopped = (line : L) × (took_end (link.history line) ≡ true) × IsOneFree (numbers line)
 IsNotAdmitted {L} link numbers OutOfMemory = Unit {0}
+
+-- The service's link, as it was when a call of a session was over: the session has seen its record, and the call was cut exactly where the link
+-- has ended.
+pub record IsCutAtEnd {L : Type 0} (link : LinkWords L) (marks : L → List Mark) (outcome : TreeOutcome) (seen : List Mark) : Type 0 where
+  pub line : L
+  pub kept : marks line ≡ seen
+  pub exactly : (outcome ≡ Cut) ↔ (took_end (link.history line) ≡ true)
+
+-- a link of the service had this record and has ended
+pub record HasEnded {L : Type 0} (link : LinkWords L) (marks : L → List Mark) (seen : List Mark) : Type 0 where
+  pub line : L
+  pub kept : marks line ≡ seen
+  pub ended : took_end (link.history line) ≡ true

@@ -7,10 +7,10 @@ ghost use Rattle.tree.specs.Tree.{Tree};
 ghost use Rattle.legal.specs.Legal.{IsAtFirst};
 ghost use Rattle.legal.specs.Session.{tally_of};
 ghost use Rattle.board.specs.View.{without};
-ghost use Rattle.board.specs.Steps.{SessionIsNew};
+ghost use Rattle.board.specs.Steps.{SessionIsNew, SessionLearns};
 ghost use Rattle.file_server.specs.Over.{outcome_of};
 ghost use Rattle.serve.specs.Held.{IsEioOnceGivenUp, IsGood, IsGuaranteed, IsHeld, IsNotAdmitted, IsServedCall, IsSound};
-ghost use Rattle.serve.specs.Stopping.{IsSyncedImage};
+ghost use Rattle.serve.specs.Stopping.{IsLastImage, IsSyncedImage, Went, WhyNotSynced};
 ghost use Rattle.keeping.specs.Keeper.{AreAllUsed, IsLowestFree, IsOneFree};
 
 use crate::left_open::{is_cut, was_done};
@@ -110,6 +110,17 @@ impl<N: Room, L: Recorder<N>, S: FileServer<L>> Locked<N, L, S> {
         admit(&mut self.server)
     }
 
+    /// The session of this seat has then seen the whole record.
+    fn show(&mut self, seat: &mut Seat)
+        requires { seat.old.table ≡ N.table }
+        ensures seat { (seat.new.table ≡ N.table) × (seat.new.view.number ≡ seat.old.view.number) }
+        ensures seen { seat.new.view.seen ≡ L.marks self.new }
+        ensures session { SessionLearns seat.old.view seat.new.view }
+        ensures rest { (L.marks self.new ≡ L.marks self.old) × (L.Link.history self.new ≡ L.Link.history self.old) }
+    {
+        show(&mut self.server, seat);
+    }
+
     /// A session ends: its number is free again.
     pub(crate) fn release(&mut self, number: u8, seat: Seat)
         requires { (seat.table ≡ N.table) × (seat.view.number ≡ Some number) × (number < 64) }
@@ -132,6 +143,8 @@ impl<N: Room, L: Recorder<N> + OnMedia, S: FileServer<L>> Locked<N, L, S> {
     pub(crate) fn stop<T>(self, alloc: Global) -> Result<Vec<u8>, StopRefusal<T, Stopped<L, S>>>
         ensures synced { (tree : Tree) → IsAtFirst N.geometry (contents_at N.opening) tree
             → IfOk result (λ image. IsSyncedImage N.geometry N.opening tree L.truth L.lies_on image.items) }
+        ensures image { IfOk result (λ image. IsLastImage L.Link L.lies_on N.geometry N.opening (L.marks self) Went image.items) }
+        ensures refused { IfErr result (WhyNotSynced L.Link S.line L.lies_on N.geometry N.opening (L.marks self) (λ left. ⊥)) }
     {
         let Locked {
             mut server,
@@ -150,5 +163,22 @@ impl<N: Room, L: Recorder<N> + OnMedia, S: FileServer<L>> Locked<N, L, S> {
             return Err(StopRefusal::GivenUp(image));
         }
         Ok(image)
+    }
+    /// The same once this session has ended: what is left goes on from what it had seen.
+    pub(crate) fn stop_after<T>(
+        mut self,
+        alloc: Global,
+        number: u8,
+        mut seat: Seat,
+    ) -> Result<Vec<u8>, StopRefusal<T, Stopped<L, S>>>
+        requires { (seat.table ≡ N.table) × (seat.view.number ≡ Some number) × (number < 64) }
+        ensures synced { (tree : Tree) → IsAtFirst N.geometry (contents_at N.opening) tree
+            → IfOk result (λ image. IsSyncedImage N.geometry N.opening tree L.truth L.lies_on image.items) }
+        ensures image { IfOk result (λ image. IsLastImage L.Link L.lies_on N.geometry N.opening seat.view.seen Went image.items) }
+        ensures refused { IfErr result (WhyNotSynced L.Link S.line L.lies_on N.geometry N.opening seat.view.seen (λ left. ⊥)) }
+    {
+        self.show(&mut seat);
+        self.release(number, seat);
+        self.stop(alloc)
     }
 }

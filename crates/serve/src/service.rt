@@ -1,11 +1,11 @@
 //! A service: a server that several sessions share.
 
-ghost use Rattle.std.specs.Prelude.{◌≡◌, IfErr, IfOk};
+ghost use Rattle.std.specs.Prelude.{◌≡◌, [], IfErr, IfOk};
 ghost use Rattle.std.specs.Arc.{arc_value};
 ghost use Rattle.marks.specs.Opening.{contents_at};
 ghost use Rattle.tree.specs.Tree.{Tree};
 ghost use Rattle.legal.specs.Legal.{IsAtFirst};
-ghost use Rattle.serve.specs.Stopping.{IsSyncedImage};
+ghost use Rattle.serve.specs.Stopping.{IsLastImage, IsSyncedImage, Went, WhyNotSynced};
 ghost use Rattle.serve.specs.Held.{IsAdmitted, IsGood, IsGuaranteed, IsHeld, IsNotAdmitted};
 
 use crate::left_open::LeftOpen;
@@ -113,6 +113,9 @@ impl<N: Room, R: Wait + Copy, L: Recorder<N> + OnMedia, S: FileServer<L>> Servic
     ) -> Result<Vec<u8>, StopRefusal<Service<N, Shared<N, R, L, S>>, Stopped<L, S>>>
         ensures synced { (tree : Tree) → IsAtFirst N.geometry (contents_at N.opening) tree
             → IfOk result (λ image. IsSyncedImage N.geometry N.opening tree L.truth L.lies_on image.items) }
+        ensures image { IfOk result (λ image. IsLastImage L.Link L.lies_on N.geometry N.opening [] Went image.items) }
+        ensures refused { IfErr result (WhyNotSynced L.Link S.line L.lies_on N.geometry N.opening []
+            (λ left. (left.board ≡ self.board) × (left.shared ≡ self.shared))) }
     {
         let Service { board, shared, of } = self;
         match Arc::try_unwrap(shared) {
@@ -121,6 +124,42 @@ impl<N: Room, R: Wait + Copy, L: Recorder<N> + OnMedia, S: FileServer<L>> Servic
                 server.into_inner().stop(alloc)
             }
             Err(shared) => Err(StopRefusal::SessionsLeft(Service { board, shared, of })),
+        }
+    }
+    /// Stops the service once this session, which is one of its, has ended: its descriptors are closed first, as `end` does. What `stop` says
+    /// of the image and of each refusal holds then, and the image's record goes on from what the session had seen.
+    pub fn stop_after(
+        self,
+        alloc: Global,
+        mut last: Session<N, Shared<N, R, L, S>>,
+    ) -> Result<Vec<u8>, StopRefusal<Service<N, Shared<N, R, L, S>>, Stopped<L, S>>>
+        ensures synced { (tree : Tree) → IsAtFirst N.geometry (contents_at N.opening) tree
+            → IfOk result (λ image. IsSyncedImage N.geometry N.opening tree L.truth L.lies_on image.items) }
+        ensures image { IfOk result (λ image. IsLastImage L.Link L.lies_on N.geometry N.opening last.knows.seen Went image.items) }
+        ensures refused { IfErr result (WhyNotSynced L.Link S.line L.lies_on N.geometry N.opening last.knows.seen
+            (λ left. (left.board ≡ self.board) × (left.shared ≡ self.shared))) }
+    {
+        last.close_all();
+        let Session {
+            board: _,
+            seat,
+            who,
+            seen: _,
+            left_open: _,
+            shared: other,
+            of: _,
+        } = last;
+        drop(other);
+        let Service { board, shared, of } = self;
+        match Arc::try_unwrap(shared) {
+            Ok(shared) => {
+                let Shared { rt: _, server } = shared;
+                server.into_inner().stop_after(alloc, who.session, seat)
+            }
+            Err(shared) => {
+                shared.server.lock(&shared.rt).release(who.session, seat);
+                Err(StopRefusal::SessionsLeft(Service { board, shared, of }))
+            }
         }
     }
 }

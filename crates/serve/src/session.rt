@@ -1,6 +1,6 @@
 //! Sessions of a service.
 
-ghost use Rattle.std.specs.Prelude.{◌≡◌, ◌<◌, ◌≤◌, ◌^◌};
+ghost use Rattle.std.specs.Prelude.{◌≡◌, ◌<◌, ◌≤◌, ◌^◌, true};
 ghost use Rattle.std.specs.Bool.{OnTrue, OnFalse};
 ghost use Rattle.tree.specs.Tree.{Tree};
 ghost use Rattle.marks.specs.Marks.{counted, IsBeginning};
@@ -9,8 +9,8 @@ ghost use Rattle.legal.specs.Legal.{IsAtFirst};
 ghost use Rattle.legal.specs.Session.{caller_of, SessionCallKeeps, DeviceKeeps, MeetKeeps};
 ghost use Rattle.board.specs.Words.{is_given_up};
 ghost use Rattle.file_server.specs.Over.{outcome_of};
-ghost use Rattle.serve.specs.Descriptors.{ClosesBelow, ClosesOne};
-ghost use Rattle.serve.specs.Held.{IsEioOnceGivenUp, IsGuaranteed, IsSound};
+ghost use Rattle.serve.specs.Descriptors.{ClosesBelow, ClosesOne, leaves_open};
+ghost use Rattle.serve.specs.Held.{HasEnded, IsCutAtEnd, IsEioOnceGivenUp, IsGuaranteed, IsSound};
 
 use crate::left_open::{LeftOpen, is_cut};
 use crate::service::Shared;
@@ -104,6 +104,7 @@ impl<N: Room, R: Wait + Copy, L: Recorder<N>, S: FileServer<L>> Session<N, Share
             → IsGuaranteed L.truth N.opening self.new.knows.seen }
         ensures eio { (tree : Tree) → IsAtFirst N.geometry (contents_at N.opening) tree
             → IsEioOnceGivenUp result self.new.knows.seen }
+        ensures cut { IsCutAtEnd L.Link L.marks result self.new.knows.seen }
     {
         let shared = &*self.shared;
         let (outcome, seen) = shared
@@ -122,6 +123,8 @@ impl<N: Room, R: Wait + Copy, L: Recorder<N>, S: FileServer<L>> Session<N, Share
         ensures seen { IsBeginning self.old.knows.seen self.new.knows.seen }
         ensures closed { OnTrue result (ClosesOne fd (caller_of self.old) self.old.knows.mine self.new.knows.mine) }
         ensures cut { OnFalse result (self.new.knows.mine ≡ self.old.knows.mine) }
+        ensures ended { OnFalse result (HasEnded L.Link L.marks self.new.knows.seen) }
+        ensures open { OnFalse result (leaves_open fd self.old.knows.mine ≡ true) }
     {
         if !self.left_open.has(fd) {
             return true;
@@ -130,13 +133,15 @@ impl<N: Room, R: Wait + Copy, L: Recorder<N>, S: FileServer<L>> Session<N, Share
         !is_cut(&outcome)
     }
 
-    /// Closes each descriptor that the session's calls left open, the lowest first, each by a call at the time 0, until one is cut. How many
-    /// descriptors it went through: all 32 where none was cut.
+    /// Closes each descriptor that the session's calls left open, the lowest first, each by a call at the time 0, until one is cut, which comes
+    /// once the link to the drivers has ended. How many descriptors it went through: all 32 where none was cut, else the one that wasn't
+    /// closed is the lowest that it left.
     pub fn close_all(&mut self) -> u32
         ensures bound { result ≤ 32 }
         ensures caller { caller_of self.new ≡ caller_of self.old }
         ensures seen { IsBeginning self.old.knows.seen self.new.knows.seen }
         ensures closed { ClosesBelow result (caller_of self.old) self.old.knows.mine self.new.knows.mine }
+        ensures cut { result < 32 → (leaves_open result self.old.knows.mine ≡ true) × HasEnded L.Link L.marks self.new.knows.seen }
     {
         for fd in 0..MAX_DESCRIPTORS {
             if !self.close(fd) {

@@ -1,9 +1,16 @@
-//! Rows of a service's sessions: in turn, in two threads, given up and refused. Each expected value is worked out by hand.
+//! Rows of a service's sessions: in turn, in two threads, given up, refused and ended, and of a service that is stopped. Each expected value is
+//! worked out by hand.
 #![tactic(auto)]
 
+#[cfg(test)]
+mod closes;
+#[cfg(test)]
+mod ended;
 #[cfg(test)]
 mod names;
 #[cfg(test)]
 mod sessions;
+#[cfg(test)]
+mod silent;
 #[cfg(test)]
 mod stops;

@@ -18,3 +18,10 @@ invariant_of-self g c =
           (sym (mine_after (outcome_of c.call-outcome.result.0) c.self.inside.who c.args.now c.args.call.now _ _ e.call.ends))
           (c.note.ensures c.self.inside.who c.args.now c.self.inside.seat.view.mine c.self.invariant.5),
     )
+
+pub returns-clause-cut : goal.returns-clause-cut
+returns-clause-cut g c = record {
+  line = c.call-outcome.new.self;
+  kept = sym c.call-outcome.ensures.seen;
+  exactly = c.call-outcome.ensures.cut;
+}

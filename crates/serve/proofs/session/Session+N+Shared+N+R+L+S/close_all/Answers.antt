@@ -1,11 +1,12 @@
-use Rattle.std.proofs.Common.{◌≡◌, ◌∙◌, sym, subst, List, Bool}
+use Rattle.std.proofs.Common.{◌≡◌, ◌∙◌, sym, subst, List, Bool, true, arith}
 use Rattle.std.specs.Bool.{OnTrue, OnFalse}
 use Rattle.tree.specs.declared.Who.{Who}
 use Rattle.marks.specs.Marks.{Mark}
 use Rattle.legal.specs.Session.{caller_of}
 use Rattle.keeping.specs.Keeper.{begins_further}
-use Rattle.serve.specs.Descriptors.{ClosesBelow, ClosesOne}
-use Rattle.serve.proofs.ClosingLaws.{closes_more}
+use Rattle.serve.specs.Descriptors.{ClosesBelow, ClosesOne, leaves_open}
+use Rattle.serve.specs.Held.{HasEnded}
+use Rattle.serve.proofs.ClosingLaws.{closes_more, still_open}
 use Rattle.serve.proofs.session.Session+N+Shared+N+R+L+S.close_all.Goals as goal
 
 pub loop-fd-preserved : goal.loop-fd-preserved
@@ -30,3 +31,13 @@ returns-then-not-close-clause-closed g c =
     let new = c.close.new.self.knows.mine in
     let same : new ≡ mid = subst (λ (b : Bool). OnFalse b (new ≡ mid)) c.if-not-close.true c.close.ensures.cut in
     subst (λ (ms : List Mark). ClosesBelow c.loop-fd.fd (caller_of c.args.self.now) c.args.self.now.knows.mine ms) (sym same) c.loop-fd.invariant.closed
+
+pub returns-then-not-close-clause-cut : goal.returns-then-not-close-clause-cut
+returns-then-not-close-clause-cut g c = λ low.
+    let fd = c.loop-fd.fd in
+    let old = c.args.self.now.knows.mine in
+    let mid = c.loop-fd.self.knows.mine in (
+      sym (still_open fd fd (caller_of c.args.self.now) old mid (omega arith) c.loop-fd.invariant.closed)
+          ∙ subst (λ (b : Bool). OnFalse b (leaves_open fd mid ≡ true)) c.if-not-close.true c.close.ensures.open,
+      subst (λ (b : Bool). OnFalse b (HasEnded g.L.Link g.L.Recorder.marks c.close.new.self.knows.seen)) c.if-not-close.true c.close.ensures.ended,
+    )

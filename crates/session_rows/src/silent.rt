@@ -4,24 +4,28 @@ ghost use Rattle.inline.specs.Notes.{history_of, room_of};
 
 use endpoint::Endpoint;
 use inline::note::{Note, Notes};
-use keeping::steady::{Steady, Supplied};
+use keeping::steady::{OnMedia, Steady, Supplied};
+use media::Media;
 use message::{BlockRequest, Incoming};
 use reissue::link::{Link, LinkRefusal};
 use std::alloc::{AllocError, Global};
 
-/// A link that has ended: it refuses each post, and each take gives End. Of any record it guarantees nothing, and it says nothing of drivers.
+/// A link that has ended, beside media that nobody moves: it refuses each post, and each take gives End. Of any record it guarantees nothing,
+/// and it says nothing of drivers.
 #[derive(Drop)]
 pub(crate) struct Silent {
     notes: Notes,
+    media: Media,
 }
 
 impl Silent {
     /// It was told nothing yet.
-    pub(crate) fn new(alloc: Global) -> Result<Silent, AllocError>
+    pub(crate) fn new(alloc: Global, media: Media) -> Result<Silent, AllocError>
         ensures history { IfOk result (λ link. ⟦<Silent as Link>⟧.history link ≡ []) }
     {
         Ok(Silent {
             notes: Notes::new(alloc)?,
+            media,
         })
     }
 }
@@ -68,4 +72,12 @@ impl Supplied for Silent {
     ghost runs_on = { λ l policy supply. Unit {0} };
 
     ghost keeps_on = { λ l m policy supply goes runs. tt };
+}
+
+impl OnMedia for Silent {
+    ghost lies_on = { λ l. l.media };
+
+    fn media(&self) -> &Media {
+        &self.media
+    }
 }

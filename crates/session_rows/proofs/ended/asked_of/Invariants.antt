@@ -1,6 +1,6 @@
 use Rattle.std.specs.Prelude.{[]}
 use Rattle.policy.specs.Policy.{default_policy}
-use Rattle.stopped_rows.proofs.stopped.asked_of.Given as goal
+use Rattle.session_rows.proofs.ended.asked_of.Given as goal
 
 abbrev pub ghosts-asked : goal.ghosts-asked
 ghosts-asked g a = record {

@@ -1,7 +1,0 @@
-//! Rows of a service whose link has ended. Each expected value is worked out by hand.
-#![tactic(auto)]
-
-#[cfg(test)]
-mod silent;
-#[cfg(test)]
-mod stopped;
