@@ -37,6 +37,30 @@ fn pages_take_zones_at_1024(rt: HostRuntime) -> Result<(), Fail> {
 }
 
 #[test]
+fn pages_give_zones_back_at_1024(rt: HostRuntime) -> Result<(), Fail> {
+    let rows = [
+        (0, 1),
+        (6, 1),
+        (7, 2),
+        (262, 2),
+        (263, 3),
+        (65798, 3),
+        (65799, 4),
+        (2097151, 4),
+    ];
+    for (page, zones) in rows {
+        let mut volume = Volume::new(small(), image(rt.alloc(), 1024, 6)?);
+        assert!(rt; volume.attaches(&[page]));
+        // past the page nothing goes, and from it on all of them do
+        assert_eq!(rt; volume.detach_from(1, page.saturating_add(1)), Ok(()));
+        assert!(rt; volume.has_free(58u32.saturating_sub(zones)), "{page}");
+        assert_eq!(rt; volume.detach_from(1, page), Ok(()));
+        assert!(rt; volume.has_free(58), "{page}");
+    }
+    Ok(())
+}
+
+#[test]
 fn pages_take_zones_at_2048(rt: HostRuntime) -> Result<(), Fail> {
     let rows = [
         (6, 1),
