@@ -104,9 +104,9 @@ impl<N: Room, R: Wait + Copy, L: Recorder<N> + OnMedia, S: FileServer<L>> Servic
     /// Stops the service: a last sync is made, and the media are given back as an image. Where the volume held a tree, that image has the
     /// tree after the calls of all sessions on it.
     ///
-    /// It is refused: 1 SessionsLeft, where some session neither ended nor was let go, which hands the service back; 3 OutOfMemory, where none
-    /// was found for the image, which hands back what is left; 2 GivenUp and 4 LinkEnded, where the last sync wasn't made, with the image as
-    /// the media stand. The first of these that holds is answered.
+    /// It is refused: 1 SessionsLeft, where some session neither ended nor was let go, which hands the service back; 3 OutOfMemory, where
+    /// none was found for the image, which hands back what is left; 2 GivenUp and 4 LinkEnded, where the last sync wasn't made, with the
+    /// image as the media stand. The first of these that holds is answered.
     pub fn stop(
         self,
         alloc: Global,
@@ -126,8 +126,8 @@ impl<N: Room, R: Wait + Copy, L: Recorder<N> + OnMedia, S: FileServer<L>> Servic
             Err(shared) => Err(StopRefusal::SessionsLeft(Service { board, shared, of })),
         }
     }
-    /// Stops the service once this session, which is one of its, has ended: its descriptors are closed first, as `end` does. What `stop` says
-    /// of the image and of each refusal holds then, and the image's record goes on from what the session had seen.
+    /// Stops the service once this session, which is one of its, has ended: its descriptors are closed first, as `end` does. What `stop`
+    /// says of the image and of each refusal holds then, and the image's record goes on from what the session had seen.
     pub fn stop_after(
         self,
         alloc: Global,

@@ -94,8 +94,8 @@ impl<N: Room, S> Session<N, S> {
 }
 
 impl<N: Room, R: Wait + Copy, L: Recorder<N>, S: FileServer<L>> Session<N, Shared<N, R, L, S>> {
-    /// Makes a call of the session's user and group. It may wait for the calls of other sessions. The session has then seen the record up to
-    /// this call: an answer is its last mark; a cut, which comes once the link to the drivers has ended, leaves none.
+    /// Makes a call of the session's user and group. It may wait for the calls of other sessions. The session has then seen the record up
+    /// to this call: an answer is its last mark; a cut, which comes once the link to the drivers has ended, leaves none.
     pub fn call(&mut self, now: u32, call: &Call<'_>) -> Outcome
         ensures keeps { SessionCallKeeps N.geometry (contents_at N.opening) self.old (caller_of self.old) now
             call.now (outcome_of result) self.new }
@@ -133,9 +133,9 @@ impl<N: Room, R: Wait + Copy, L: Recorder<N>, S: FileServer<L>> Session<N, Share
         !is_cut(&outcome)
     }
 
-    /// Closes each descriptor that the session's calls left open, the lowest first, each by a call at the time 0, until one is cut, which comes
-    /// once the link to the drivers has ended. How many descriptors it went through: all 32 where none was cut, else the one that wasn't
-    /// closed is the lowest that it left.
+    /// Closes each descriptor that the session's calls left open, the lowest first, each by a call at the time 0, until one is cut, which
+    /// comes once the link to the drivers has ended. How many descriptors it went through: all 32 where none was cut, else the one that
+    /// wasn't closed is the lowest that it left.
     pub fn close_all(&mut self) -> u32
         ensures bound { result ≤ 32 }
         ensures caller { caller_of self.new ≡ caller_of self.old }
@@ -151,8 +151,8 @@ impl<N: Room, R: Wait + Copy, L: Recorder<N>, S: FileServer<L>> Session<N, Share
         MAX_DESCRIPTORS
     }
 
-    /// Ends the session: closes each descriptor that its calls left open, as `close_all` does; then its number is free again. It may wait for
-    /// the calls of other sessions.
+    /// Ends the session: closes each descriptor that its calls left open, as `close_all` does; then its number is free again. It may wait
+    /// for the calls of other sessions.
     pub fn end(mut self) {
         self.close_all();
         let Session {

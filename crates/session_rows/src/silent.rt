@@ -10,8 +10,8 @@ use message::{BlockRequest, Incoming};
 use reissue::link::{Link, LinkRefusal};
 use std::alloc::{AllocError, Global};
 
-/// A link that has ended, beside media that nobody moves: it refuses each post, and each take gives End. Of any record it guarantees nothing,
-/// and it says nothing of drivers.
+/// A link that has ended, beside media that nobody moves: it refuses each post, and each take gives End. Of any record it guarantees
+/// nothing, and it says nothing of drivers.
 #[derive(Drop)]
 pub(crate) struct Silent {
     notes: Notes,
