@@ -29,7 +29,7 @@ struct Asked {
 }
 
 /// A session calls, another one is asked for, and the service is stopped.
-fn asked<N: Room, R: Wait + Copy>(
+fn ask_and_stop<N: Room, R: Wait + Copy>(
     alloc: Global,
     rt: R,
     board: Board,
@@ -70,7 +70,7 @@ fn asked_of<R: Wait + Copy>(alloc: Global, rt: R, image: &[u8]) -> Option<Asked>
     };
     let media = Media::from_bytes(alloc, image).ok()?;
     let (board, seat) = Board::new(alloc).ok()?;
-    asked::<Brand, R>(alloc, rt, board, seat, media, geometry)
+    ask_and_stop::<Brand, R>(alloc, rt, board, seat, media, geometry)
 }
 
 #[test]

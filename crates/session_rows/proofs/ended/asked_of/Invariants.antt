@@ -2,8 +2,8 @@ use Rattle.std.specs.Prelude.{[]}
 use Rattle.policy.specs.Policy.{default_policy}
 use Rattle.session_rows.proofs.ended.asked_of.Given as goal
 
-abbrev pub ghosts-asked : goal.ghosts-asked
-ghosts-asked g a = record {
+abbrev pub ghosts-ask_and_stop : goal.ghosts-ask_and_stop
+ghosts-ask_and_stop g a = record {
   table = a.board;
   opening = record { media = []; first = 0; count = 0; minor = 0 };
   geometry = a.geometry;
