@@ -19,12 +19,25 @@ fn media_after(alloc: Global, image: &[u8], lines: &[&str]) -> Result<Vec<u8>, F
     Ok(transcript.image(alloc)?)
 }
 
-/// Looks at whether these bytes are all equal to one.
-fn are_all(rt: &impl Abort, bytes: &[u8], count: usize, byte: u8) {
-    assert_eq!(rt; bytes.len(), count);
-    for each in bytes {
+/// The bytes from one place on up to another, where there are so many.
+fn part(bytes: &[u8], places: (usize, usize)) -> Option<&[u8]> {
+    bytes.get(places.0..places.1)
+}
+
+/// Looks at whether the bytes between these places are all equal to one.
+fn are_all(rt: &impl Abort, bytes: &[u8], places: (usize, usize), byte: u8) {
+    let part = part(bytes, places);
+    assert!(rt; part.is_some());
+    for each in part.unwrap_or(&[]) {
         assert_eq!(rt; *each, byte);
     }
+}
+
+/// Looks at whether the bytes between these places are the same in both.
+fn are_equal(rt: &impl Abort, bytes: &[u8], others: &[u8], places: (usize, usize)) {
+    let part_of_bytes = part(bytes, places);
+    assert!(rt; part_of_bytes.is_some());
+    assert_eq!(rt; part_of_bytes, part(others, places));
 }
 
 /// Looks at whether the volume in an image is clean.
@@ -117,7 +130,7 @@ fn a_page_that_changed_is_written_again(rt: HostRuntime) -> Result<(), Fail> {
         0,
     )?;
     let media = media_after(alloc, image.as_slice(), &REFILLED)?;
-    are_all(&rt, &media[7168..8192], 1024, 0x32);
+    are_all(&rt, media.as_slice(), (7168, 8192), 0x32);
     is_clean(&rt, alloc, media.as_slice())
 }
 
@@ -178,7 +191,7 @@ fn a_revoked_driver_writes_nothing(rt: HostRuntime) -> Result<(), Fail> {
     wanted.extend_from_slice(&REPLACED)?;
     shows(&rt, alloc, image.as_slice(), &REVOKED, wanted.as_slice(), 0)?;
     let media = media_after(alloc, image.as_slice(), &REVOKED)?;
-    are_all(&rt, &media[7168..8192], 1024, 0x22);
+    are_all(&rt, media.as_slice(), (7168, 8192), 0x22);
     is_clean(&rt, alloc, media.as_slice())
 }
 
@@ -188,8 +201,8 @@ fn a_driver_writes_a_sector_at_a_step(rt: HostRuntime) -> Result<(), Fail> {
     let alloc = rt.alloc();
     let image = new_volume(alloc, 1024)?;
     let media = media_after(alloc, image.as_slice(), &REVOKED[..7])?;
-    are_all(&rt, &media[7168..7680], 512, 0x11);
-    are_all(&rt, &media[7680..8192], 512, 0);
+    are_all(&rt, media.as_slice(), (7168, 7680), 0x11);
+    are_all(&rt, media.as_slice(), (7680, 8192), 0);
     Ok(())
 }
 
@@ -258,9 +271,9 @@ fn a_sector_is_torn(rt: HostRuntime) -> Result<(), Fail> {
     let alloc = rt.alloc();
     let image = new_volume(alloc, 2048)?;
     let media = media_after(alloc, image.as_slice(), &TORN)?;
-    are_all(&rt, &media[5120..5632], 512, 0xee);
-    assert_eq!(rt; &media[..4096], &image.as_slice()[..4096]);
-    assert_eq!(rt; &media[5632..], &image.as_slice()[5632..]);
+    are_all(&rt, media.as_slice(), (5120, 5632), 0xee);
+    are_equal(&rt, media.as_slice(), image.as_slice(), (0, 4096));
+    are_equal(&rt, media.as_slice(), image.as_slice(), (5632, 131072));
     Ok(())
 }
 
@@ -280,7 +293,7 @@ fn a_torn_sector_is_written_again(rt: HostRuntime) -> Result<(), Fail> {
     let ran = run_on(alloc, image.as_slice(), lines.as_slice())?;
     gave(&rt, &ran, 0, wanted.as_slice(), "");
     let media = media_after(alloc, image.as_slice(), lines.as_slice())?;
-    are_all(&rt, &media[5120..5632], 512, 0xff);
-    are_all(&rt, &media[12288..14336], 2048, 0xaa);
+    are_all(&rt, media.as_slice(), (5120, 5632), 0xff);
+    are_all(&rt, media.as_slice(), (12288, 14336), 0xaa);
     is_clean(&rt, alloc, media.as_slice())
 }

@@ -201,7 +201,10 @@ fn files_are_refused_in_order(rt: HostRuntime) -> Result<(), Fail> {
     let alloc = rt.alloc();
     let image = new_volume(alloc, 1024)?;
     for (length, schedule, line) in FILES {
-        let bytes = length.map(|length| &image.as_slice()[..length.min(65536)]);
+        let bytes = match length {
+            Some(length) => image.as_slice().get(..length),
+            None => None,
+        };
         let supply = six(alloc, bytes.unwrap_or(&[]))?;
         let ran = ran_as(alloc, bytes, schedule, &whole(), supply);
         gave(&rt, &ran, 1, b"", line);
