@@ -3,8 +3,6 @@
 #![tactic(auto)]
 
 #[cfg(test)]
-mod media;
-#[cfg(test)]
 mod reads;
 #[cfg(test)]
 mod refusals;
@@ -12,3 +10,5 @@ mod refusals;
 mod runs;
 #[cfg(test)]
 mod writers;
+#[cfg(test)]
+mod written;
