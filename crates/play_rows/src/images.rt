@@ -1,5 +1,5 @@
 //! The image that a play leaves.
-use crate::volumes::{files, gave, play_all, play_over, play_with};
+use crate::volumes::{gave, one_file, play_all, play_over, play_with};
 use fsck::{Verdict, check};
 use modeldisk::{Fault, FaultKind, Inner, RamDriver, ScriptedDriver};
 use partition::Table;
@@ -181,7 +181,7 @@ fn answers_that_are_lost_leave_the_image(rt: HostRuntime) -> Result<(), Fail> {
         name: "v.img",
         bytes: Some(image.as_slice()),
     };
-    let files = files(alloc, &[Some(script)])?;
+    let files = one_file(alloc, script)?;
     let mut space = [0u8; 10];
     let mut out = space.as_mut_slice();
     let mut err = Vec::new(alloc);

@@ -1,5 +1,5 @@
 //! Plays of `stat /`: the replies, bad lines, and writers that fail.
-use crate::volumes::{files, gave, play_with};
+use crate::volumes::{files, gave, one_file, play_with};
 use bdev::Driver;
 use modeldisk::RamDriver;
 use partition::Table;
@@ -169,7 +169,7 @@ fn a_writer_takes_little(rt: HostRuntime) -> Result<(), Fail> {
                 name: "v.img",
                 bytes: Some(image.as_slice()),
             };
-            let scripts = files(alloc, &[Some(script)])?;
+            let scripts = one_file(alloc, script)?;
             let supply = supply_of(alloc, 128, &[None])?;
             let came = play(
                 alloc,

@@ -43,6 +43,11 @@ pub(crate) fn files<'b>(
     Ok(files)
 }
 
+/// A file of one script.
+pub(crate) fn one_file(alloc: Global, script: &[u8]) -> Result<Vec<File<'static, '_>>, AllocError> {
+    files(alloc, &[Some(script)])
+}
+
 /// Plays a script on an image with drivers that have these faults.
 pub(crate) fn play_with<R: Wait + Copy>(
     alloc: Global,
