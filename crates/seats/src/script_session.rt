@@ -1,5 +1,7 @@
 //! A session of a service, as one who plays a script needs it.
 
+ghost use Rattle.std.specs.Prelude.{◌≡◌};
+
 use file_server::FileServer;
 use keeping::recorder::Recorder;
 use keeping::room::Room;
@@ -14,6 +16,16 @@ use tree::{Call, Outcome};
 pub struct ScriptSession<N: Room, R: Wait + Copy, L: Recorder<N>, S: FileServer<L>>(
     pub(crate) Session<N, Shared<N, R, L, S>>,
 );
+
+impl<N: Room, R: Wait + Copy, L: Recorder<N>, S: FileServer<L>> ScriptSession<N, R, L, S> {
+    /// The session itself.
+    pub fn session(self) -> Session<N, Shared<N, R, L, S>>
+        ensures { result ≡ self.0 }
+    {
+        let ScriptSession(session) = self;
+        session
+    }
+}
 
 impl<N: Room, R: Wait + Copy, L: Recorder<N>, S: FileServer<L>> Client
     for ScriptSession<N, R, L, S> {

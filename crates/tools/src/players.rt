@@ -2,14 +2,11 @@
 
 ghost use Rattle.std.specs.Prelude.{◌≡◌, Some, IfOk, map};
 ghost use Rattle.std.specs.Option.{option_map};
-ghost use Rattle.marks.specs.Opening.{contents_at};
-ghost use Rattle.tree.specs.Tree.{Tree};
-ghost use Rattle.legal.specs.Legal.{IsAtFirst};
-ghost use Rattle.serve.specs.Stopping.{IsSyncedImage};
+ghost use Rattle.serve.specs.Stopping.{IsLastImage};
 ghost use Rattle.script_text.specs.Said.{said};
 ghost use Rattle.script_play.specs.Turns.{ArePlayed, seen_by};
 ghost use Rattle.seats.specs.Vouched.{Vouched};
-ghost use Rattle.tools.specs.Served.{AreServed, service_text};
+ghost use Rattle.tools.specs.Served.{AreServed, IsImageOf, service_text, sync_of};
 
 use file_server::FileServer;
 use keeping::recorder::Recorder;
@@ -17,14 +14,13 @@ use keeping::room::Room;
 use keeping::steady::OnMedia;
 use launch::start::Program;
 use reissue::link::TrueLink;
-use script_play::client::Client;
 use script_play::turns::play_in_turn;
 use script_text::script::Script;
 use seats::admitting::admit_all;
 use seats::script_session::ScriptSession;
 use serve::refusal::SessionRefusal;
 use serve::service::{Service, Shared};
-use serve::stopping::StopRefusal;
+use serve::stopping::{StopRefusal, Stopped};
 use session_text::answers::Played;
 use std::alloc::Global;
 use std::fmt;
@@ -93,10 +89,7 @@ impl<R: Wait + Copy> Program<R> for Players<'_> {
             AreServed N.geometry N.opening (map said self.entry.scripts.items) came.sessions.items came.last_sync came.image.items) }
     {
         let (sessions, last) = play_all(self.alloc, &service, self.scripts.as_slice())?;
-        if let Some(session) = last {
-            session.end();
-        }
-        let (last_sync, image) = stop(self.alloc, service)?;
+        let (last_sync, image) = stop(self.alloc, service, last)?;
         Ok(Came {
             sessions,
             last_sync,
@@ -125,15 +118,28 @@ fn play_all<N: Room, R: Wait + Copy, L: Recorder<N>, S: FileServer<L>>(
     }
 }
 
-/// Stops a service whose sessions have ended. What came of its last sync, and the image as the media stand.
+/// Stops a service once this session has ended, if there was one. What came of its last sync, and the image as the media stand.
 fn stop<N: Room, R: Wait + Copy, L: Recorder<N> + OnMedia, S: FileServer<L>>(
     alloc: Global,
     service: Service<N, Shared<N, R, L, S>>,
+    last: Option<ScriptSession<N, R, L, S>>,
 ) -> Result<(LastSync, Vec<u8>), ServiceRefusal>
-    ensures { (tree : Tree) → IsAtFirst N.geometry (contents_at N.opening) tree
-        → IfOk result (λ came. came.0 ≡ LastSync.Done → IsSyncedImage N.geometry N.opening tree L.truth L.lies_on came.1.items) }
+    ensures { IfOk result (λ came.
+        IsLastImage L.Link L.lies_on N.geometry N.opening (seen_by (option_map (λ s. s.0) last)) (sync_of came.0) came.1.items) }
 {
-    match service.stop(alloc) {
+    let Some(session) = last else {
+        return image_of(service.stop(alloc));
+    };
+    image_of(service.stop_after(alloc, session.session()))
+}
+
+/// What came of the last sync of a service that was stopped, and the image.
+fn image_of<L: OnMedia + Drop, S: FileServer<L>, T: Drop>(
+    stopped: Result<Vec<u8>, StopRefusal<T, Stopped<L, S>>>,
+) -> Result<(LastSync, Vec<u8>), ServiceRefusal>
+    ensures { IfOk result (λ came. IsImageOf stopped came.0 came.1) }
+{
+    match stopped {
         Ok(image) => Ok((LastSync::Done, image)),
         Err(StopRefusal::GivenUp(image)) => Ok((LastSync::GivenUp, image)),
         Err(StopRefusal::LinkEnded(image)) => Ok((LastSync::Cut, image)),
