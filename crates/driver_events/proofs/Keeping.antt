@@ -39,7 +39,7 @@ use Rattle.run_log.specs.declared.log.Entry.TheVariants as entry
 use Rattle.run_log.specs.declared.log.Post.{Post}
 use Rattle.run_log.specs.Posts.{post_of}
 use Rattle.run_log.specs.Noted.{Noted, grouped, with_mark, with_entry}
-use Rattle.run_log.proofs.NotedLaws.{mark_in}
+use Rattle.run_log.proofs.NotedLaws.{mark_in, one_more}
 use Rattle.driver_events.specs.declared.ruling.Ruling.{Ruling}
 use Rattle.driver_events.specs.declared.ruling.Ruling.TheVariants as ruling
 use Rattle.driver_events.specs.Disks.{Disks, seen, reply_in, sent_at, Steps, NoStep, CurrentSteps, OlderSteps, torn_media, Dies, NoneDies, CurrentDies, OlderDies, Hangs, NoneHangs, CurrentHangs, OlderHangs, LinesUpAgain, NoneLinesUp, CurrentLinesUp, OlderLinesUp, Repeats, started, opened_disks}
@@ -201,7 +201,7 @@ none_after (x ∷ xs) = ap (λ (l : List Post). x ∷ l) (none_after xs)
 
 -- a note that is no accepted post
 pub posts_entry : (e : Entry) (n : Noted) → post_of e ≡ [] → (with_entry e n).posts ≡ n.posts
-posts_entry e n none = ap (λ (l : List Post). n.posts ++ l) none ∙ none_after n.posts
+posts_entry e n none = one_more e n.posts ∙ ap (λ (l : List Post). n.posts ++ l) none ∙ none_after n.posts
 
 pub aside_none : (n : Noted) → NotesAside n n
 aside_none n = record { history = refl; marks = refl; posts = refl; events = refl }

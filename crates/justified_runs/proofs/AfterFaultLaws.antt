@@ -74,7 +74,7 @@ begins_after place groups c _ _ _ before Flushes = refl
 begins_after place groups c _ _ _ before (Answers n s there counts) = refl
 begins_after place groups c _ _ _ before (Drops n s there counts) = refl
 begins_after place groups c _ _ _ before (Delivers n there) = refl
-begins_after place groups c _ _ _ before (LinesAgain n p d again) = refl
+begins_after place groups c _ _ _ before (LinesAgain n p d same again) = refl
 begins_after place groups c _ _ _ before (HangsOne g d hangs) = refl
 begins_after place groups c _ _ _ before (StepsOne g step d steps well) = refl
 begins_after place groups c _ _ _ before (FailsOne g d ends after steps report) = exit_after (event.Step g) ends (driver g) before (λ marks. refl)
@@ -312,7 +312,7 @@ turn_after drivers b _ _ doing due (TakesOwed live owes first) may busy begun sa
   none_owed (noting (entry.Received incoming.GaveUp) (paid b)) doing refl,
 )
 turn_after drivers b _ _ doing due (TakesEnd a live ends) may busy begun said last answered h owed = end_after b a doing ends said.first h owed
-turn_after drivers b _ _ doing due (Posts to r result d lines) may busy begun said last answered h owed = posts_after b doing to r result d lines begun h owed
+turn_after drivers b _ _ doing due (Posts to r result d unended lines) may busy begun said last answered h owed = posts_after b doing to r result d lines begun h owed
 turn_after drivers b _ _ doing due (Complains about) may busy begun said last answered h owed =
     complains_after drivers b doing about (may about refl).0 busy begun said.said
     (subst (λ (o : Option Endpoint). LastFollows b.scene.noted.groups o) (may about refl).1 last) answered h owed

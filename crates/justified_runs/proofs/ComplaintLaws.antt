@@ -93,7 +93,7 @@ calm_begins place groups c _ _ _ before (Answers n s there counts) none = absurd
   clash e = cc
 calm_begins place groups c _ _ _ before (Drops n s there counts) none = refl
 calm_begins place groups c _ _ _ before (Delivers n there) none = refl
-calm_begins place groups c _ _ _ before (LinesAgain n p d again) none = refl
+calm_begins place groups c _ _ _ before (LinesAgain n p d same again) none = refl
 calm_begins place groups c _ _ _ before (HangsOne g d hangs) none = refl
 calm_begins place groups c _ _ _ before (StepsOne g step d steps well) none = refl
 calm_begins place groups c _ _ _ before (FailsOne g d ends after steps report) none = calm_exit ends (driver g) before
@@ -343,7 +343,7 @@ take_follows drivers b _ _ message o (TakesEnd a live ends) is begun none said h
       end_follows : (x : Play) → ComesToEnd b x → LastFollows x.scene.noted.groups None
       end_follows _ (IsPlayedOut x far spent) = (far_none drivers b x None far refl said h).follow
       end_follows _ (IsStarved x far) = (far_none drivers b x None far refl said h).follow
-take_follows drivers b _ _ message o (Posts to r result d lines) is begun none said h = cc
+take_follows drivers b _ _ message o (Posts to r result d unended lines) is begun none said h = cc
 take_follows drivers b _ _ message o (Complains about) is begun none said h = cc
 
 -- what stands after each step
@@ -360,7 +360,7 @@ tell_follows : (minor drivers : ℕ) (m : Moment) (told : Told) (a : Play) → T
 tell_follows minor drivers m _ _ (Takes message a far) nothing calm may begun said h = cc
 tell_follows minor drivers m _ _ (TakesOwed live owed first) nothing calm may begun said h = cc
 tell_follows minor drivers m _ _ (TakesEnd a live ends) nothing calm may begun said h = cc
-tell_follows minor drivers m _ _ (Posts to r result d lines) nothing calm may begun said h =
+tell_follows minor drivers m _ _ (Posts to r result d unended lines) nothing calm may begun said h =
     owing (posted to r (is_ok result) d m.play).scene.noted.groups m.outbox.complaint _ (same (is_ok result))
     (posts_follow m.play m.outbox.complaint to r result d lines begun may.complained h) where
       same : (b : Bool) → m.outbox.complaint ≡ (owed_after_act (AtLink (Posted to r b)) (record_of m.play) m.outbox).complaint

@@ -123,7 +123,7 @@ turn_orders out b _ _ (TakesEnd a still ends) live begun h = end_orders a ends w
   end_orders : (x : Play) → ComesToEnd b x → FirstOrdered x
   end_orders _ (IsPlayedOut x far spent) = let k : Orders out x = far_orders out b x None far refl h in (k.first, k.earlier)
   end_orders _ (IsStarved x far) = let k : Orders out x = far_orders out b x None far refl h in (k.first, k.earlier)
-turn_orders out b _ _ (Posts to r result d lines) live begun h = posts_order b to r result d lines begun (h.first, h.earlier)
+turn_orders out b _ _ (Posts to r result d unended lines) live begun h = posts_order b to r result d lines begun (h.first, h.earlier)
 turn_orders out b _ _ (Complains about) live begun h =
     subst (λ (p : Play). FirstOrdered p) (sym (complained_is b about (live about refl))) (complaint_orders b about (ruling_at about b.scene) begun (h.first, h.earlier))
 

@@ -17,6 +17,7 @@ use Rattle.schedule.specs.declared.Event.{Event}
 use Rattle.schedule.specs.Groups.{Group}
 use Rattle.reissue.specs.declared.link.LinkRefusal.{LinkRefusal}
 use Rattle.run_log.specs.Noted.{Noted, grouped, with_mark, with_message, with_entry}
+use Rattle.run_log.specs.declared.log.Post.{Post}
 use Rattle.run_log.specs.declared.log.Entry.{Entry}
 use Rattle.run_log.specs.declared.log.Entry.TheVariants as entry
 use Rattle.driver_events.specs.declared.ruling.Ruling.{Ruling}
@@ -53,27 +54,29 @@ complained_is b about live = ap (λ (o : Bool). record (complained about b) { ow
 module _ (Said : ℕ → List Group → Core → Type 0) (kept : IsKept Said) where
   -- an event is played, and the message that it brings is noted
   next_brought : (b a : Play) (result : Option Incoming) (n : Noted) → PlaysNext b result a → n.groups ≡ (with_brought result a.scene.noted).groups
-      → n.first ≡ (with_brought result a.scene.noted).first → IsSaid Said b → IsSaid Said (record a { scene = record (a.scene) { noted = n } })
-  next_brought b a result n p groups first h =
+      → n.first ≡ (with_brought result a.scene.noted).first → n.posts ≡ a.scene.noted.posts → IsSaid Said b
+      → IsSaid Said (record a { scene = record (a.scene) { noted = n } })
+  next_brought b a result n p groups first posts h =
       let done : EventDone b.next b.owed b.told p.event b.scene result a.scene = event_done b.next b.owed b.told p.event b.scene result a.scene h.first p.plays in
       let after : Said (b.next + 1) ((p.event, done.marks) ∷ b.scene.noted.groups) (core_at a.scene b.owed b.told) =
       kept.begins b.next b.scene.noted.groups (core_of b) (core_at a.scene b.owed b.told) p.event done.marks p.paid done.begins h.said in
       record {
         first = first ∙ done.first ∙ h.first;
-        said = subst (λ (k : ℕ). Said k n.groups (core_of a)) (sym p.next)
+        said = subst (λ (l : List Post). Said a.next n.groups (record (core_of a) { posts = l })) (sym posts)
+            (subst (λ (k : ℕ). Said k n.groups (core_of a)) (sym p.next)
             (subst (λ (l : List Group). Said (b.next + 1) l (core_of a)) (sym (groups ∙ done.groups))
             (subst (λ (o : Bool). Said (b.next + 1) ((p.event, done.marks) ∷ b.scene.noted.groups) (core_at a.scene o a.told)) (sym p.owed)
-            (subst (λ (t : Bool). Said (b.next + 1) ((p.event, done.marks) ∷ b.scene.noted.groups) (core_at a.scene b.owed t)) (sym p.told) after)));
+            (subst (λ (t : Bool). Said (b.next + 1) ((p.event, done.marks) ∷ b.scene.noted.groups) (core_at a.scene b.owed t)) (sym p.told) after))));
       }
 
   pub next_none : (b a : Play) → PlaysNext b None a → IsSaid Said b → IsSaid Said a
-  next_none b a p h = next_brought b a None a.scene.noted p refl refl h
+  next_none b a p h = next_brought b a None a.scene.noted p refl refl refl h
 
   pub next_received : (b a : Play) (m : Incoming) → PlaysNext b (Some m) a → IsSaid Said b → IsSaid Said (noting (entry.Received m) a)
-  next_received b a m p h = next_brought b a (Some m) (with_entry (entry.Received m) a.scene.noted) p refl refl h
+  next_received b a m p h = next_brought b a (Some m) (with_entry (entry.Received m) a.scene.noted) p refl refl refl h
 
   pub next_handed : (b a : Play) (m : Incoming) → PlaysNext b (Some m) a → IsSaid Said b → IsSaid Said (noting (entry.Handed m) a)
-  next_handed b a m p h = next_brought b a (Some m) (with_entry (entry.Handed m) a.scene.noted) p refl refl h
+  next_handed b a m p h = next_brought b a (Some m) (with_entry (entry.Handed m) a.scene.noted) p refl refl refl h
 
   -- events are played
   advance_none : (b a : Play) (result : Option Incoming) → Advances b result a → result ≡ None → IsSaid Said b → IsSaid Said a
@@ -102,12 +105,15 @@ module _ (Said : ℕ → List Group → Core → Type 0) (kept : IsKept Said) wh
       )
 
   owed_told : (b : Play) (e : Entry) → (with_entry e b.scene.noted).groups ≡ (with_mark GaveUp b.scene.noted).groups
-      → (with_entry e b.scene.noted).first ≡ (with_mark GaveUp b.scene.noted).first → b.owed ≡ true → IsBegun b.scene.noted.groups → IsSaid Said b
-      → IsSaid Said (noting e (paid b))
-  owed_told b e groups first owed begun h =
+      → (with_entry e b.scene.noted).first ≡ (with_mark GaveUp b.scene.noted).first → (with_entry e b.scene.noted).posts ≡ b.scene.noted.posts
+      → b.owed ≡ true → IsBegun b.scene.noted.groups → IsSaid Said b → IsSaid Said (noting e (paid b))
+  owed_told b e groups first posts owed begun h =
       let k : ((with_entry e b.scene.noted).first ≡ Started (driver 1) ∷ []) × Said b.next (with_entry e b.scene.noted).groups (core_of (paid b)) =
       marked b (core_of (paid b)) GaveUp (with_entry e b.scene.noted) [] begun groups first (Pays owed) h in
-      record { first = k.0; said = k.1 }
+      record {
+        first = k.0;
+        said = subst (λ (l : List Post). Said b.next (with_entry e b.scene.noted).groups (record (core_of (paid b)) { posts = l })) (sym posts) k.1;
+      }
 
   posts_said : (b : Play) (to : Endpoint) (r : BlockRequest) (result : Result (Unit {0}) LinkRefusal) (d : Disks) → LinesUp to r b.scene.disks result d
       → IsBegun b.scene.noted.groups → IsSaid Said b → IsSaid Said (posted to r (is_ok result) d b)
@@ -156,9 +162,9 @@ module _ (Said : ℕ → List Group → Core → Type 0) (kept : IsKept Said) wh
   pub turn_said : (b a : Play) (told : Told) → Turn b told a → ((about : Endpoint) → told ≡ Complained about → b.over ≡ false)
       → IsBegun b.scene.noted.groups → IsSaid Said b → IsSaid Said a
   turn_said b _ _ (Takes message a far) live begun h = advance_some b a (Some message) message far refl h
-  turn_said b _ _ (TakesOwed still owed first) live begun h = owed_told b (entry.Received incoming.GaveUp) refl refl owed begun h
+  turn_said b _ _ (TakesOwed still owed first) live begun h = owed_told b (entry.Received incoming.GaveUp) refl refl refl owed begun h
   turn_said b _ _ (TakesEnd a still ends) live begun h = end_said b a ends h
-  turn_said b _ _ (Posts to r result d lines) live begun h = posts_said b to r result d lines begun h
+  turn_said b _ _ (Posts to r result d unended lines) live begun h = posts_said b to r result d lines begun h
   turn_said b _ _ (Complains about) live begun h = complains_said b about (live about refl) begun h
 
   replied_said : (b : Play) (call : Arrived) (reply : Reply) → IsBegun b.scene.noted.groups → IsSaid Said b
@@ -227,7 +233,7 @@ turn_calm : (minor : ℕ) (b a : Play) (told : Told) (o : Outbox) → Turn b tol
 turn_calm minor b _ _ o (Takes message a far) nothing may calm over = cc
 turn_calm minor b _ _ o (TakesOwed live owed first) nothing may calm over = cc
 turn_calm minor b _ _ o (TakesEnd a live ends) nothing may calm over = cc
-turn_calm minor b _ _ o (Posts to r result d lines) nothing may calm over = by (is_ok result) where
+turn_calm minor b _ _ o (Posts to r result d unended lines) nothing may calm over = by (is_ok result) where
   by : (t : Bool) → (owed_after_act (AtLink (Posted to r t)) (record_of b) o).complaint ≡ None
   by true = calm over
   by false = calm over
@@ -244,7 +250,7 @@ take_calm b _ _ message o (TakesEnd a live ends) is none over = still message is
   still incoming.GaveUp e = cc
   still incoming.Flush e = cc
   still incoming.End e = none
-take_calm b _ _ message o (Posts to r result d lines) is none over = cc
+take_calm b _ _ message o (Posts to r result d unended lines) is none over = cc
 take_calm b _ _ message o (Complains about) is none over = cc
 
 paid_calm : (o : Outbox) (marks : List Mark) → o.complaint ≡ None → (owed_after_message incoming.GaveUp marks o).complaint ≡ None
@@ -273,7 +279,7 @@ module _ (Said : ℕ → List Group → Core → Type 0) (kept : IsKept Said) wh
   step_said minor m _ (Brings message a between none next) calm begun h = next_handed Said kept m.play a message next h
   step_said minor m _ (BringsNone a between none next) calm begun h = next_none Said kept m.play a next h
   step_said minor m _ (StepPays between owed told) calm begun h =
-      owed_told Said kept m.play (entry.Handed incoming.GaveUp) refl refl owed (not_owed_before m owed begun) h
+      owed_told Said kept m.play (entry.Handed incoming.GaveUp) refl refl refl owed (not_owed_before m owed begun) h
   step_said minor m _ (HandsCall call a between paid_so hands) calm begun h = out_said Said kept m.play a (Some call) hands h
   step_said minor m _ (StepReplies call reply doing live rest) calm begun h =
       replied_said Said kept m.play call reply (not_before m (busy_answering m.doing call doing) begun) h
@@ -307,7 +313,7 @@ step_begun minor m _ (Brings message a between none next) calm first begun =
 step_begun minor m _ (BringsNone a between none next) calm first begun =
     Began (next_began m.play a None (entry.Handed incoming.GaveUp) first next a.scene.noted refl)
 step_begun minor m _ (StepPays between owed told) calm first begun = let g : IsBegun m.play.scene.noted.groups = not_owed_before m owed begun in
-    Began (owed_told Some_began began_kept m.play (entry.Handed incoming.GaveUp) refl refl owed g (record { first = first; said = g })).said
+    Began (owed_told Some_began began_kept m.play (entry.Handed incoming.GaveUp) refl refl refl owed g (record { first = first; said = g })).said
 step_begun minor m _ (HandsCall call a between paid_so hands) calm first begun =
     let g : IsBegun m.play.scene.noted.groups = none_waits_before m call a hands begun in
     Began (out_said Some_began began_kept m.play a (Some call) hands (record { first = first; said = g })).said

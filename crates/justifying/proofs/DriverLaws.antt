@@ -203,7 +203,7 @@ goes_begins drivers place groups c _ _ _ h Flushes = goes_same c
 goes_begins drivers place groups c _ _ _ h (Answers n s there counts) = goes_same c
 goes_begins drivers place groups c _ _ _ h (Drops n s there counts) = goes_same c
 goes_begins drivers place groups c _ _ _ h (Delivers n there) = goes_same c
-goes_begins drivers place groups c _ _ _ h (LinesAgain n p d again) =
+goes_begins drivers place groups c _ _ _ h (LinesAgain n p d same again) =
     goes_disks c d (repeats_ranges p c.disks d again) (ap (λ (s : DriverState). s.failed) (repeats_state p c.disks d again))
 goes_begins drivers place groups c _ _ _ h (HangsOne g d hangs) =
     goes_disks c d (hangs_ranges g c.disks d hangs) (ap (λ (s : DriverState). s.failed) (hangs_state g c.disks d hangs))
@@ -222,7 +222,9 @@ goes_begins drivers place groups c a _ marks h (Ticks _ _ ticks) = goes_tick c a
 pub goes_adds : (c a : Core) (marks : List Mark) → Adds c marks a → GoOn c a
 goes_adds c _ _ AddsNothing = goes_same c
 goes_adds c _ _ (Posts r to d lines) =
-    goes_disks c d (lines_ranges to r c.disks d (Ok tt) lines) (ap (λ (s : DriverState). s.failed) (lines_state to r c.disks d (Ok tt) lines))
+    let k : GoOn c (record c { disks = d }) =
+    goes_disks c d (lines_ranges to r c.disks d (Ok tt) lines) (ap (λ (s : DriverState). s.failed) (lines_state to r c.disks d (Ok tt) lines)) in
+    record { ranges = k.ranges; fresh = k.fresh; sound = k.sound }
 goes_adds c _ _ (Replies who now call answer) = goes_same c
 goes_adds c _ _ (Complains about _ _ (OfNone other)) = record { ranges = refl; fresh = λ h. h; sound = λ fresh h. h }
 goes_adds c _ _ (Complains about _ _ (OfRunning was misses ends after runs at fault)) = record {

@@ -258,4 +258,4 @@ event_done place owed told (event.Deliver n) b result a first p =
     (delivers_done place owed told b n (slice_get b.disks.sent n) first refl)
 event_done place owed told (event.Repeat n) b result a first p =
     done_by place owed told (event.Repeat n) b result None a (record (begun_scene (event.Repeat n) b) { disks = p.disks }) p.tells p.after
-    (record { marks = []; begins = LinesAgain n (slice_get (begun_scene (event.Repeat n) b).noted.posts n) p.disks p.does; brought = NoMessage [] refl; groups = refl; first = refl })
+    (record { marks = []; begins = LinesAgain n (slice_get b.noted.posts n) p.disks refl p.does; brought = NoMessage [] refl; groups = refl; first = refl })

@@ -387,7 +387,7 @@ begins_unstarted drivers place groups c _ _ _ f Flushes k h low = k h low
 begins_unstarted drivers place groups c _ _ _ f (Answers n s there counts) k h low = k h low
 begins_unstarted drivers place groups c _ _ _ f (Drops n s there counts) k h low = k h low
 begins_unstarted drivers place groups c _ _ _ f (Delivers n there) k h low = k h low
-begins_unstarted drivers place groups c _ _ _ f (LinesAgain n p d again) k h low = k h low
+begins_unstarted drivers place groups c _ _ _ f (LinesAgain n p d same again) k h low = k h low
 begins_unstarted drivers place groups c _ _ _ f (HangsOne g d hangs) k h low = k h low
 begins_unstarted drivers place groups c _ _ _ f (StepsOne g step d steps well) k h low = none_and (g == h) (has_ended h groups) ∙ k h low
 begins_unstarted drivers place groups c _ _ _ f (FailsOne g d ends after steps report) k h low =
@@ -460,7 +460,7 @@ begins_slots drivers place groups c _ _ _ f Flushes number fresh k h = quietly g
 begins_slots drivers place groups c _ _ _ f (Answers n s there counts) number fresh k h = quietly groups _ _ c.disks (λ n. refl) (λ n. refl) h
 begins_slots drivers place groups c _ _ _ f (Drops n s there counts) number fresh k h = quietly groups _ [] c.disks (λ n. refl) (λ n. refl) h
 begins_slots drivers place groups c _ _ _ f (Delivers n there) number fresh k h = quietly groups _ [] c.disks (λ n. refl) (λ n. refl) h
-begins_slots drivers place groups c _ _ _ f (LinesAgain n p d again) number fresh k h =
+begins_slots drivers place groups c _ _ _ f (LinesAgain n p d same again) number fresh k h =
     repeats_as groups _ p c.disks d (stands_as groups _ (λ x. refl) (λ x. refl)) again h
 begins_slots drivers place groups c _ _ _ f (HangsOne g d hangs) number fresh k h =
     hangs_as groups _ g c.disks d (stands_as groups _ (λ x. refl) (λ x. refl)) hangs h

@@ -14,6 +14,7 @@ use Rattle.schedule.specs.declared.Event.TheVariants as event
 use Rattle.schedule.specs.Groups.{Group, marks_of, ticks_so_far, running, started_in, generation}
 use Rattle.schedule.specs.Drivers.{is_hung, missed, has_started}
 use Rattle.schedule.specs.Starts.{fault_of, ticks_of_faults, ticks_of_faults_in}
+use Rattle.run_log.specs.declared.log.Post.{Post}
 use Rattle.driver_events.specs.Disks.{Disks, started}
 use Rattle.justifying.specs.Core.{Core, Story, story, RunsNow, WaitsNow, IsGivenUp, PhaseIs, Follows, FollowsGroups}
 use Rattle.justifying.specs.Happens.{fault_at, AtFault, Replaces, GivesUp, AtReport, OfNone, OfRunning, fault_marks, exit_marks, blame_marks, is_end, beaten_core, TicksTo, Beats, MissesOne, FoundHung, WaitsOn, StartsNext, IsOver, Begins, Arrives, Flushes, Answers, Drops, Delivers, LinesAgain, HangsOne, StepsOne, FailsOne, DiesNone, DiesOne, Ticks, Adds, AddsNothing, Posts, Replies, Complains, Pays}
@@ -234,7 +235,7 @@ follows_begins drivers place groups c _ _ _ h Flushes = h
 follows_begins drivers place groups c _ _ _ h (Answers n s there counts) = h
 follows_begins drivers place groups c _ _ _ h (Drops n s there counts) = h
 follows_begins drivers place groups c _ _ _ h (Delivers n there) = h
-follows_begins drivers place groups c _ _ _ h (LinesAgain n p d again) =
+follows_begins drivers place groups c _ _ _ h (LinesAgain n p d same again) =
     follows_same drivers (story c.policy c.watch.generation groups) c d h (repeats_same p c.disks d again)
 follows_begins drivers place groups c _ _ _ h (HangsOne g d hangs) = follows_hang drivers g groups c d h hangs
 follows_begins drivers place groups c _ _ _ h (StepsOne g step d steps well) =
@@ -323,11 +324,56 @@ pays_within drivers event group earlier c h owed = record {
   by (Waiting until) k = absurd (clash c.owed owed k.paid)
   by GivenUp k = record { none_runs = k.none_runs; fault = k.fault; last_is = k.last_is; given_up = k.given_up; ended_is = refl; awaited = λ is. cc }
 
+-- the accepted posts are nothing to it
+posts_phase : (x : Story) (c : Core) (posts : List Post) (phase : Phase) → PhaseIs x c phase → PhaseIs x (record c { posts = posts }) phase
+posts_phase x c posts (Running last count) k = record {
+  runs_is = k.runs_is;
+  none_awaited = k.none_awaited;
+  goes_on = k.goes_on;
+  paid = k.paid;
+  live = k.live;
+  hangs_is = k.hangs_is;
+  last_is = k.last_is;
+  count_is = k.count_is;
+}
+posts_phase x c posts (Waiting until) k = record {
+  none_runs = k.none_runs;
+  awaited = k.awaited;
+  goes_on = k.goes_on;
+  paid = k.paid;
+  fault = k.fault;
+  last_is = k.last_is;
+  until_is = k.until_is;
+  replaced = k.replaced;
+}
+posts_phase x c posts GivenUp k = record {
+  none_runs = k.none_runs;
+  fault = k.fault;
+  last_is = k.last_is;
+  given_up = k.given_up;
+  ended_is = k.ended_is;
+  awaited = k.awaited;
+}
+
+follows_posts : (drivers : ℕ) (x : Story) (c : Core) (posts : List Post) → Follows drivers x c → Follows drivers x (record c { posts = posts })
+follows_posts drivers x c posts h = record {
+  started_is = h.started_is;
+  some = h.some;
+  latest = h.latest;
+  spares_are = h.spares_are;
+  tick_is = h.tick_is;
+  beat = h.beat;
+  fault_is = h.fault_is;
+  once = h.once;
+  phase_is = posts_phase x c posts c.watch.phase h.phase_is;
+}
+
 adds_within : (drivers : ℕ) (event : Event) (group : List Mark) (earlier : List Group) (c a : Core) (marks : List Mark) → FollowsWithin drivers event group earlier c
     → Adds c marks a → FollowsWithin drivers event (marks ++ group) earlier a
 adds_within drivers event group earlier c _ _ h AddsNothing = h
 adds_within drivers event group earlier c _ _ h (Posts r to d lines) =
-    follows_same drivers (within c.policy c.watch.generation event group earlier) c d h (lines_same to r c.disks d (Ok tt) lines)
+    follows_posts drivers (within c.policy c.watch.generation event group earlier) (record c { disks = d }) _
+    (follows_same drivers (within c.policy c.watch.generation event group earlier) c d h (lines_same to r c.disks d (Ok tt) lines))
 adds_within drivers event group earlier c _ _ h (Replies who now call answer) = h
 adds_within drivers event group earlier c _ _ h (Complains about ends after report) = complains_within drivers about ends after event group earlier c h report
 adds_within drivers event group earlier c _ _ h (Pays owed) = pays_within drivers event group earlier c h owed

@@ -9,10 +9,11 @@ use Rattle.marks.specs.Marks.{gave_up, awaits_start}
 use Rattle.schedule.specs.Groups.{Group, marks_of, ticks_so_far, running, generation}
 use Rattle.schedule.specs.Drivers.{is_hung, missed}
 use Rattle.schedule.specs.Starts.{fault_of}
+use Rattle.run_log.specs.declared.log.Post.{Post}
 use Rattle.driver_events.specs.Disks.{Disks}
 
--- the drivers, those not started yet, the policy and what the reincarnation server knows, the tick, the last beat, and whether that the
--- device was given up is owed or was told
+-- the drivers, those not started yet, the policy and what the reincarnation server knows, the tick, the last beat, the accepted posts, and
+-- whether that the device was given up is owed or was told
 pub record Core : Type 0 where
   pub disks : Disks
   pub supply : List DriverState
@@ -20,6 +21,7 @@ pub record Core : Type 0 where
   pub watch : Watch
   pub tick : ℕ
   pub pulse : ℕ × ℕ
+  pub posts : List Post
   pub owed : Bool
   pub told : Bool
 

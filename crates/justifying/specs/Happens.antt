@@ -1,5 +1,5 @@
 -- What an event does, and what a server does after it, to the reincarnation server and the drivers; and the marks of it.
-use Rattle.std.specs.Prelude.{◌≡◌, ℕ, ◌+◌, ◌-◌, List, [], ◌∷◌, Bool, true, false, not, ◌&&◌, ◌||◌, ◌==◌, nat_le, Option, Some, None, Ok, slice_get, if◌then◌else◌}
+use Rattle.std.specs.Prelude.{◌≡◌, ℕ, ◌+◌, ◌-◌, List, [], ◌∷◌, ◌++◌, Bool, true, false, not, ◌&&◌, ◌||◌, ◌==◌, nat_le, Option, Some, None, Ok, slice_get, if◌then◌else◌}
 use Rattle.endpoint.specs.declared.Endpoint.{Endpoint}
 use Rattle.message.specs.declared.BlockRequest.{BlockRequest}
 use Rattle.tree.specs.declared.Who.{Who}
@@ -106,7 +106,7 @@ pub data Begins (place : ℕ) (groups : List Group) (c : Core) : Event → List 
   Drops : (n : ℕ) (s : Sent) → slice_get c.disks.sent n ≡ Some s → counts (marks_of groups) s.reply ≡ false
       → Begins place groups c (event.Deliver n) [] c
   Delivers : (n : ℕ) → slice_get c.disks.sent n ≡ None → Begins place groups c (event.Deliver n) [] c
-  LinesAgain : (n : ℕ) (p : Option Post) (d : Disks) → Repeats p c.disks d → Begins place groups c (event.Repeat n) [] (record c { disks = d })
+  LinesAgain : (n : ℕ) (p : Option Post) (d : Disks) → p ≡ slice_get c.posts n → Repeats p c.disks d → Begins place groups c (event.Repeat n) [] (record c { disks = d })
   HangsOne : (g : ℕ) (d : Disks) → Hangs g c.disks d → Begins place groups c (event.Hang g) [] (record c { disks = d })
   StepsOne : (g : ℕ) (step : Option Step) (d : Disks) → Steps place g c.disks step d → GoesWell step
       → Begins place groups c (event.Step g) [] (record c { disks = d })
@@ -124,7 +124,8 @@ pub data Begins (place : ℕ) (groups : List Group) (c : Core) : Event → List 
 -- device was given up, which a complaint owes
 pub data Adds (c : Core) : List Mark → Core → Type 0 where
   AddsNothing : Adds c [] c
-  Posts : (r : BlockRequest) (to : Endpoint) (d : Disks) → LinesUp to r c.disks (Ok tt) d → Adds c (Issued r to ∷ []) (record c { disks = d })
+  Posts : (r : BlockRequest) (to : Endpoint) (d : Disks) → LinesUp to r c.disks (Ok tt) d
+      → Adds c (Issued r to ∷ []) (record c { disks = d; posts = c.posts ++ record { to = to; request = r } ∷ [] })
   Replies : (who : Who) (now : ℕ) (call : Call) (answer : Answer) → Adds c (Took who now call answer ∷ []) c
   Complains : (about : Endpoint) (ends : Option Bool) (after : Watch) → AtReport c.policy c.watch about c.tick ends after
       → Adds c (blame_marks ends about) (record c { watch = after; owed = c.owed || (is_end ends && not c.told) })

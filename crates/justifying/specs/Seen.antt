@@ -22,6 +22,7 @@ core_at s owed told = record {
   watch = s.watch;
   tick = s.tick;
   pulse = s.pulse;
+  posts = s.noted.posts;
   owed = owed;
   told = told;
 }

@@ -184,7 +184,7 @@ turns_lead_on b _ _ (Takes message a far) = leads_joins b a (noting (entry.Recei
 turns_lead_on b _ _ (TakesOwed live owed first) =
     leads_joins b (paid b) (noting (entry.Received incoming.GaveUp) (paid b)) (leads_paid b) (leads_noted (paid b) (entry.Received incoming.GaveUp) refl)
 turns_lead_on b _ _ (TakesEnd a live ends) = leads_joins b a (ended a) (leads_to_end b a ends) (leads_ended a)
-turns_lead_on b _ _ (Posts to r result d lines) =
+turns_lead_on b _ _ (Posts to r result d unended lines) =
     leads_same b (posted to r (is_ok result) d b) (lines_keep_sectors to r b.scene.disks d result lines) refl refl (omega arith) (omega arith) (entry_events (entry.Posted to r (is_ok result)) b.scene.noted refl)
 turns_lead_on b _ _ (Complains about) =
     leads_same b (complained about b) refl refl refl (omega arith) (omega arith)
@@ -277,12 +277,12 @@ starves b m a r scene queue over before last none s q o =
 
 -- a post
 pub posts : (b : Play) (to : Endpoint) (r : BlockRequest) (result : Result (Unit {0}) LinkRefusal) (d : Disks) (n : Noted) (over : Bool)
-    → LinesUp to r b.scene.disks result d → n ≡ with_entry (entry.Posted to r (is_ok result)) b.scene.noted → over ≡ b.over
+    → b.over ≡ false → LinesUp to r b.scene.disks result d → n ≡ with_entry (entry.Posted to r (is_ok result)) b.scene.noted → over ≡ b.over
     → GoesOn b (record b { scene = record (b.scene) { disks = d; noted = n }; over = over })
-posts b to r result d n over lines is live =
+posts b to r result d n over unended lines is live =
     with_parts (λ (p : Play). GoesOn b p) (record b { scene = record (b.scene) { disks = d } }) n
     (with_entry (entry.Posted to r (is_ok result)) b.scene.noted) over b.over is live
-    (Further b (posted to r (is_ok result) d b) (Posted to r (is_ok result)) Still (Posts to r result d lines))
+    (Further b (posted to r (is_ok result) d b) (Posted to r (is_ok result)) Still (Posts to r result d unended lines))
 
 -- a complaint
 pub complains : {D : Type 0} (state : D → DriverState) (b : Play) (r s : ReincarnationState D) (about : Endpoint) (owed : Bool) (n : Noted) (over : Bool)

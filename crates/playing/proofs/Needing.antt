@@ -99,7 +99,7 @@ told_over : (b a : Play) (told : Told) → Turn b told a → took_nothing (told 
 told_over b _ _ (link.Takes message a far) quiet = cc
 told_over b _ _ (link.TakesOwed live owed first) quiet = cc
 told_over b _ _ (link.TakesEnd a live ends) quiet = cc
-told_over b _ _ (link.Posts to r result d lines) quiet = refl
+told_over b _ _ (link.Posts to r result d unended lines) quiet = refl
 told_over b _ _ (link.Complains about) quiet = refl
 
 not_ended : {A : Type 0} (b a : Play) → a.over ≡ b.over → b.over ≡ false → a.over ≡ true → A

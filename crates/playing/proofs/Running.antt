@@ -72,7 +72,7 @@ turn_tells b _ _ (link.TakesOwed live owed first) told =
     ap (λ (l : List Told). Received incoming.GaveUp ∷ l) (message_history incoming.GaveUp b.scene.noted)
 turn_tells b _ _ (link.TakesEnd a live ends) told =
     ap (λ (l : List Told). heard incoming.End l) (to_end_history b a ends) ∙ heard_first (history_of b) (told.is ∙ live)
-turn_tells b _ _ (link.Posts to r result d lines) told = posted_history (is_ok result) to r b.scene.noted
+turn_tells b _ _ (link.Posts to r result d unended lines) told = posted_history (is_ok result) to r b.scene.noted
 turn_tells b _ _ (link.Complains about) told = complained_history (is_fault (ruling_at about b.scene)) about b.scene.noted
 
 no_end_more : (m : Incoming) (told : List Told) → IsNoEnd (Some m) → took_end (Received m ∷ told) ≡ took_end told
@@ -93,8 +93,8 @@ turn_told_of_end b _ _ (link.TakesOwed live owed first) told = record {
 turn_told_of_end b _ _ (link.TakesEnd a live ends) told = record {
   is = ap took_end (turn_tells b (ended a) (Received incoming.End) (link.TakesEnd a live ends) told);
 }
-turn_told_of_end b _ _ (link.Posts to r result d lines) told = record {
-  is = ap took_end (turn_tells b (posted to r (is_ok result) d b) (Posted to r (is_ok result)) (link.Posts to r result d lines) told) ∙ told.is;
+turn_told_of_end b _ _ (link.Posts to r result d unended lines) told = record {
+  is = ap took_end (turn_tells b (posted to r (is_ok result) d b) (Posted to r (is_ok result)) (link.Posts to r result d unended lines) told) ∙ told.is;
 }
 turn_told_of_end b _ _ (link.Complains about) told = record {
   is = ap took_end (turn_tells b (complained about b) (Complained about) (link.Complains about) told) ∙ told.is;
@@ -164,7 +164,7 @@ pub turn_record : (b a : Play) (told : Told) → Turn b told a → record_of a �
 turn_record b _ _ (link.Takes message a far) = received_record message a ∙ ap (received message) (far_record b a (Some message) far)
 turn_record b _ _ (link.TakesOwed live owed first) = received_record incoming.GaveUp (paid b)
 turn_record b _ _ (link.TakesEnd a live ends) = to_end_record b a ends
-turn_record b _ _ (link.Posts to r result d lines) = posted_record (is_ok result) to r b.scene.noted
+turn_record b _ _ (link.Posts to r result d unended lines) = posted_record (is_ok result) to r b.scene.noted
 turn_record b _ _ (link.Complains about) = complaint_marks (is_fault (ruling_at about b.scene)) about b.scene.noted
 
 -- a message is taken within a call alone
@@ -274,7 +274,7 @@ quiet_turn : (b a : Play) (told : Told) (rest : List Told) → Turn b told a →
 quiet_turn b _ _ rest (link.Takes message a far) quiet = cc
 quiet_turn b _ _ rest (link.TakesOwed live owed first) quiet = cc
 quiet_turn b _ _ rest (link.TakesEnd a live ends) quiet = cc
-quiet_turn b _ _ rest (link.Posts to r result d lines) quiet = refl
+quiet_turn b _ _ rest (link.Posts to r result d unended lines) quiet = refl
 quiet_turn b _ _ rest (link.Complains about) quiet = refl
 
 quiet_before : (t : Told) (told : List Told) → took_nothing (t ∷ told) ≡ true → took_nothing told ≡ true
@@ -322,7 +322,7 @@ turn_ends_rightly : (b a : Play) (told : Told) → Turn b told a → IsEndedRigh
 turn_ends_rightly b _ _ (link.Takes message a far) h = record { why = λ over. absurd (no_true (sym over ∙ came_live b a message far)) }
 turn_ends_rightly b _ _ (link.TakesOwed live owed first) h = record { why = λ over. absurd (no_true (sym over ∙ live)) }
 turn_ends_rightly b _ _ (link.TakesEnd a live ends) h = record { why = λ over. ended_spent a (to_end_rightly b a ends) }
-turn_ends_rightly b _ _ (link.Posts to r result d lines) h = record { why = λ over. posted_spent to r (is_ok result) d b (h.why over) }
+turn_ends_rightly b _ _ (link.Posts to r result d unended lines) h = record { why = λ over. posted_spent to r (is_ok result) d b (h.why over) }
 turn_ends_rightly b _ _ (link.Complains about) h = record { why = λ over. complained_spent about b over (h.why over) }
 
 pub servers_end_rightly : ServersEndRightly

@@ -77,7 +77,7 @@ truly_turn : (b a : Play) (told : Told) → Turn b told a → IsToldTruly b → 
 truly_turn b _ _ (Takes message a far) h = truly_noted a (entry.Received message) (truly_far b a (Some message) far h)
 truly_turn b _ _ (TakesOwed live owed first) h = record { told = λ is. ap gave_up (message_in incoming.GaveUp b.scene.noted) }
 truly_turn b _ _ (TakesEnd a live ends) h = truly_same a (ended a) refl (λ given. given) (truly_to_end b a ends h)
-truly_turn b _ _ (Posts to r result d lines) h =
+truly_turn b _ _ (Posts to r result d unended lines) h =
     truly_same b (posted to r (is_ok result) d b) refl (given_entry (entry.Posted to r (is_ok result)) b.scene.noted) h
 truly_turn b _ _ (Complains about) h =
     truly_same b (complained about b) refl (given_entry (entry.Complained about (is_fault (ruling_at about b.scene))) b.scene.noted) h

@@ -158,7 +158,7 @@ calls_turn : (out : List Arrival) (b a : Play) (told : Told) â†’ Turn b told a â
 calls_turn out b _ _ (Takes message a far) h = calls_noted out a (entry.Received message) refl (calls_far out b a (Some message) far h)
 calls_turn out b _ _ (TakesOwed live owed first) h = calls_noted out (paid b) (entry.Received incoming.GaveUp) refl (calls_same out b (paid b) refl refl refl h)
 calls_turn out b _ _ (TakesEnd a live ends) h = calls_same out a (ended a) refl refl refl (calls_to_end out b a ends h)
-calls_turn out b _ _ (Posts to r result d lines) h =
+calls_turn out b _ _ (Posts to r result d unended lines) h =
     calls_same out b (posted to r (is_ok result) d b) (entry_events (entry.Posted to r (is_ok result)) b.scene.noted refl) refl
     (taken_entry (entry.Posted to r (is_ok result)) b.scene.noted refl) h
 calls_turn out b _ _ (Complains about) h =

@@ -8,9 +8,10 @@ use Rattle.marks.specs.Open.{counts}
 use Rattle.marks.specs.Told.{Told, Received, received, heard, took_end}
 use Rattle.schedule.specs.Groups.{Group}
 use Rattle.run_log.specs.Noted.{Noted, marks_from, marks_in, grouped, with_mark, with_message, all_noted, with_entry, with_end, noted_of, nothing_noted}
-use Rattle.run_log.specs.Posts.{post_of, posts_in}
+use Rattle.run_log.specs.Posts.{post_of, posts_with, posts_in}
 use Rattle.run_log.specs.declared.log.Post.{Post}
 use Rattle.run_log.specs.declared.log.Entry.{Entry}
+use Rattle.run_log.specs.declared.log.Entry.TheVariants as entry
 
 pub all_push : (entries : List Entry) (e : Entry) (n : Noted) → all_noted (entries ++ e ∷ []) n ≡ with_entry e (all_noted entries n)
 all_push [] e n = refl
@@ -81,9 +82,21 @@ pub a_post_more : (entries new : List Entry) (posts after : List Post) (e : Entr
 a_post_more entries new posts after e listed is more =
     more ∙ ap (λ (l : List Post). l ++ post_of e) listed ∙ sym (ap posts_in is ∙ posts_push entries e)
 
+-- a note adds the accepted post that it is, if it is one
+pub one_more : (e : Entry) (posts : List Post) → posts_with e posts ≡ posts ++ post_of e
+one_more (entry.Posted to r true) posts = refl
+one_more (entry.Posted to r false) posts = sym (none_after posts)
+one_more (entry.Begun event) posts = sym (none_after posts)
+one_more (entry.Complained e is_fault) posts = sym (none_after posts)
+one_more (entry.Received m) posts = sym (none_after posts)
+one_more (entry.Handed m) posts = sym (none_after posts)
+one_more (entry.Faulted e cause) posts = sym (none_after posts)
+one_more (entry.Took who now call reply) posts = sym (none_after posts)
+
 posts_noted : (entries : List Entry) (n : Noted) → (all_noted entries n).posts ≡ n.posts ++ posts_in entries
 posts_noted [] n = sym (none_after n.posts)
-posts_noted (e ∷ entries) n = posts_noted entries (with_entry e n) ∙ assoc n.posts (post_of e) (posts_in entries)
+posts_noted (e ∷ entries) n =
+    posts_noted entries (with_entry e n) ∙ ap (λ (l : List Post). l ++ posts_in entries) (one_more e n.posts) ∙ assoc n.posts (post_of e) (posts_in entries)
 
 -- the accepted posts are those that were listed
 pub posts_said : (over : Bool) (entries : List Entry) (posts : List Post) → posts ≡ posts_in entries → (noted_of over entries).posts ≡ posts

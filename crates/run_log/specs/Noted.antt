@@ -9,7 +9,7 @@ use Rattle.marks.specs.Open.{counts}
 use Rattle.marks.specs.Told.{Told, Posted, Complained, Received, heard}
 use Rattle.schedule.specs.Groups.{Group}
 use Rattle.run_log.specs.declared.log.Post.{Post}
-use Rattle.run_log.specs.Posts.{post_of}
+use Rattle.run_log.specs.Posts.{posts_with}
 use Rattle.run_log.specs.declared.log.Entry.{Entry}
 use Rattle.run_log.specs.declared.log.Entry.TheVariants as entry
 
@@ -65,7 +65,7 @@ with_note (entry.Took who now call reply) n = with_mark (Took who now call (answ
 
 -- one note
 abbrev pub with_entry : Entry → Noted → Noted
-with_entry e n = record (with_note e n) { posts = n.posts ++ post_of e }
+with_entry e n = record (with_note e n) { posts = posts_with e n.posts }
 
 -- all notes, oldest first
 abbrev pub all_noted : List Entry → Noted → Noted

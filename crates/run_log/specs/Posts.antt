@@ -15,6 +15,17 @@ post_of (entry.Handed m) = []
 post_of (entry.Faulted e cause) = []
 post_of (entry.Took who now call reply) = []
 
+-- the accepted posts after a note, those before it first
+abbrev pub posts_with : Entry → List Post → List Post
+posts_with (entry.Posted to r true) posts = posts ++ record { to = to; request = r } ∷ []
+posts_with (entry.Posted to r false) posts = posts
+posts_with (entry.Begun event) posts = posts
+posts_with (entry.Complained e is_fault) posts = posts
+posts_with (entry.Received m) posts = posts
+posts_with (entry.Handed m) posts = posts
+posts_with (entry.Faulted e cause) posts = posts
+posts_with (entry.Took who now call reply) posts = posts
+
 -- those among these notes, in their order
 abbrev pub posts_in : List Entry → List Post
 posts_in [] = []

@@ -1,3 +1,4 @@
+use Rattle.run_log.proofs.NotedLaws.{has_room}
 use Rattle.driver_events.proofs.DisksLaws.{lines_up}
 use Rattle.playing.proofs.PlayLaws.{posted_true, accepted_at}
 use Rattle.playing.proofs.Going.{posts}
@@ -10,10 +11,10 @@ returns-in-Ok-clause-accepted g c =
 
 pub returns-in-Ok-clause-goes : goal.returns-in-Ok-clause-goes
 returns-in-Ok-clause-goes g c =
-    posts _ _ _ _ _ _ _ (lines_up _ _ _ _ _ c.in-Ok.ensures.dead c.in-Ok.ensures.full c.in-Ok.ensures.lined c.in-Ok.ensures.refused)
+    posts _ _ _ _ _ _ _ (has_room _ _ c.requires) (lines_up _ _ _ _ _ c.in-Ok.ensures.dead c.in-Ok.ensures.full c.in-Ok.ensures.lined c.in-Ok.ensures.refused)
     c.note_post.ensures.said c.note_post.ensures.over
 
 pub returns-in-Err-clause-goes : goal.returns-in-Err-clause-goes
 returns-in-Err-clause-goes g c =
-    posts _ _ _ _ _ _ _ (lines_up _ _ _ _ _ c.in-Err.ensures.dead c.in-Err.ensures.full c.in-Err.ensures.lined c.in-Err.ensures.refused)
+    posts _ _ _ _ _ _ _ (has_room _ _ c.requires) (lines_up _ _ _ _ _ c.in-Err.ensures.dead c.in-Err.ensures.full c.in-Err.ensures.lined c.in-Err.ensures.refused)
     c.note.ensures.said c.note.ensures.over
