@@ -1,12 +1,10 @@
 -- How a run of a server over a schedule starts, and what it comes to.
-use Rattle.std.specs.Prelude.{◌≡◌, ◌≢◌, ℕ, List, [], ◌∷◌, ◌++◌, length, map, reverse, true, false, None}
-use Rattle.layout.specs.declared.Geometry.{Geometry}
+use Rattle.std.specs.Prelude.{◌≡◌, ◌≢◌, ℕ, List, [], ◌∷◌, ◌++◌, length, map, reverse, true, false}
 use Rattle.tree.specs.Tree.{Tree}
 use Rattle.policy.specs.Watch.{driver}
 use Rattle.marks.specs.Marks.{Started}
 use Rattle.marks.specs.Opening.{Opening}
-use Rattle.marks.specs.Acts.{Outbox}
-use Rattle.legal.specs.View.{Frames}
+use Rattle.marks.specs.Acts.{empty_outbox}
 use Rattle.legal.specs.ServerCall.{Serving}
 use Rattle.reissue.specs.Calls.{Truth}
 use Rattle.schedule.specs.Groups.{schedule_of}
@@ -26,16 +24,15 @@ pub record IsBeforeFirst (p : Play) : Type 0 where
   pub queue : p.queue ≡ []
   pub live : p.over ≡ false
 
--- The server heard of the first start, did nothing at its link, and owes it no complaint; from there on the run stands.
-pub record StandsFromFirst (g : Geometry) (frames : Frames) (minor : ℕ) (v : Opening) (tree : Tree) (p : Play) (to : Moment) (unanswered : ℕ) : Type 0 where
-  pub outbox : Outbox
-  pub calm : outbox.complaint ≡ None
-  pub stands : RunStands g frames minor v tree (record { play = p; outbox = outbox; doing = Resting }) to unanswered
+-- the server does nothing at its link, and owes it nothing
+abbrev pub at_first : Play → Moment
+at_first p = record { play = p; outbox = empty_outbox; doing = Resting }
 
 -- A run from its start: the events that were noted are the schedule, and nothing is owed. The calls that arrived in them are those that were
 -- answered, in their order, and so many that came later: the one that is being answered, if the run ends in it, and those that wait. A call is
 -- left only where the last one was cut. The media have as many sectors as before. Where the server served a volume that held a tree, with
--- nothing in its record, and its link gave its guarantee of the record that has the first start alone, the run stands.
+-- nothing in its record and nothing owed, and its link gave its guarantee of the record that has the first start alone, the run stands: the
+-- server hears of that start, and does nothing about it.
 pub record PlaysAll (s t : Serving) (was : Truth) (b a : Play) (unanswered : ℕ) : Type 0 where
   pub schedule : schedule_of a.scene.noted.groups ≡ b.events
   pub spent : IsSpent a
@@ -47,5 +44,5 @@ pub record PlaysAll (s t : Serving) (was : Truth) (b a : Play) (unanswered : ℕ
   pub number : unanswered ≡ length left
   pub cut : left ≢ [] → t.ended ≡ true
   pub sectors : length a.scene.disks.media.sectors ≡ length b.scene.disks.media.sectors
-  pub holds : (v : Opening) (tree : Tree) → Hears s was v tree [] (Started (driver 1) ∷ [])
-      → StandsFromFirst s.geometry t.frames s.minor v tree b (moment t a last) unanswered
+  pub holds : (v : Opening) (tree : Tree) → s.outbox ≡ empty_outbox → Hears s was v tree [] (Started (driver 1) ∷ [])
+      → RunStands s.geometry t.frames s.minor v tree (at_first b) (moment t a last) unanswered

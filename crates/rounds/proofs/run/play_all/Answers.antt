@@ -18,4 +18,5 @@ pub returns-clause-plays : goal.returns-clause-plays
 returns-clause-plays g c =
     plays_all _ _ _ _ _ _ _ _ _ c.absorb.ensures.keeps (g.met.L.Played.goes _ _ c.absorb.ensures.goes) c.requires.first
     (sym (g.met.L.Played.tells _) ∙ c.absorb.ensures.silent (λ e. cc) c.requires.idle ∙ g.met.L.Played.tells _)
+    (g.met.S.FileServer.tells _ ∙ g.met.L.Played.tells _) (g.met.S.FileServer.tells _ ∙ g.met.L.Played.tells _)
     c.in_ok-unanswered.ensures.out

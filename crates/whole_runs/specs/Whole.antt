@@ -1,0 +1,39 @@
+-- What justifies a run that was played out.
+use Rattle.std.specs.Prelude.{◌≡◌, ◌⊎◌, ℕ, List, [], ◌++◌, length, true, false, None}
+use Rattle.bdev.specs.DriverState.{DriverState, is_fresh}
+use Rattle.bdev.specs.Promises.{IsDriver}
+use Rattle.media.specs.Contents.{MediaState}
+use Rattle.policy.specs.declared.Policy.{Policy}
+use Rattle.policy.specs.Watch.{new_watch}
+use Rattle.marks.specs.Open.{IsWellFormed}
+use Rattle.marks.specs.Acts.{empty_outbox}
+use Rattle.schedule.specs.declared.Event.{Event}
+use Rattle.schedule.specs.Groups.{marks_of, Each}
+use Rattle.schedule.specs.Calls.{Arrival, arrived, taken}
+use Rattle.schedule.specs.Justified.{Justified}
+use Rattle.playing.specs.PlayView.{IsOpened}
+use Rattle.playing.specs.Moments.{Moment, Resting, Runs}
+use Rattle.justifying.specs.Steady.{drivers_of}
+
+-- a driver that was never handed a request, and hasn't failed
+pub record IsUnused (d : DriverState) : Type 0 where
+  pub driver : IsDriver d
+  pub fresh : is_fresh d ≡ true
+
+-- How a run ends: no complaint is owed, nor that the device was given up; the server rests and no call waits, or the link has ended. Its
+-- record is well formed.
+pub record IsAtEnd (m : Moment) : Type 0 where
+  pub calm : m.outbox.complaint ≡ None
+  pub paid : m.play.owed ≡ false
+  pub ends : ((m.doing ≡ Resting) × (m.play.queue ≡ [])) ⊎ (m.play.over ≡ true)
+  pub well_formed : IsWellFormed (marks_of m.play.scene.noted.groups)
+
+-- A run from its opening, over drivers that were never used, by a server that owes its link nothing then: at its end it is justified. The
+-- calls left are those that arrived after those that were taken.
+abbrev pub RunsAreWhole : Type 0
+RunsAreWhole =
+    (media : MediaState) (rules : Policy) (supply : List DriverState) (events : List Event) (minor : ℕ) (b a : Moment)
+    → media.generation ≡ 0 → Each IsUnused supply → IsOpened media rules (new_watch (length supply)) supply events b.play
+    → b.doing ≡ Resting → b.outbox ≡ empty_outbox → Runs minor b a → IsAtEnd a
+    → (left : List Arrival) → arrived a.play.scene.noted.groups ≡ left ++ taken (marks_of a.play.scene.noted.groups)
+    → Justified rules supply a.play.scene.noted.groups a.play.scene.disks.sent (drivers_of a.play.scene.disks) (length left)
