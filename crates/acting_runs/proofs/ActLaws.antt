@@ -100,12 +100,14 @@ exits_act (Some ends) handed e = faults_act ends handed e Exit
 ticks_act : (c a : Core) (marks : List Mark) (handed : Bool) → TicksTo c marks a → acts_when_handed handed marks ≡ true
 ticks_act c _ _ handed (Beats last count is same) = refl
 ticks_act c _ _ handed (MissesOne last count is same few) = refl
-ticks_act c _ _ handed (FoundHung last count ends after is same enough fault) = faults_act ends handed (driver c.disks.media.generation) Hung
+ticks_act c _ _ handed (FoundHung last count ends after is same enough fault) =
+    faults_act ends handed (driver c.disks.media.generation) Hung
 ticks_act c _ _ handed (WaitsOn until is early) = refl
 ticks_act c _ _ handed (StartsNext until d rest is come spare) = refl
 ticks_act c _ _ handed (IsOver is) = refl
 
-begins_act : (place : ℕ) (groups : List Group) (c a : Core) (e : Event) (marks : List Mark) (handed : Bool) → Begins place groups c e marks a
+begins_act : (place : ℕ) (groups : List Group) (c a : Core) (e : Event) (marks : List Mark) (handed : Bool)
+    → Begins place groups c e marks a
     → acts_when_handed handed marks ≡ true
 begins_act place groups c _ _ _ handed (Arrives who now call) = refl
 begins_act place groups c _ _ _ handed Flushes = refl
@@ -132,7 +134,8 @@ abbrev last_marks : List Group → List Mark
 last_marks [] = []
 last_marks (g ∷ groups) = g.1
 
-told_mark : (m : Mark) (groups : List Group) (n : Noted) (e : Event) (marks : List Mark) (earlier : List Group) → ((rest : List Mark) → is_told (m ∷ rest) ≡ true)
+told_mark : (m : Mark) (groups : List Group) (n : Noted) (e : Event) (marks : List Mark) (earlier : List Group)
+    → ((rest : List Mark) → is_told (m ∷ rest) ≡ true)
     → n.groups ≡ groups → (grouped m groups n.first n).groups ≡ (e, marks) ∷ earlier → is_told marks ≡ true
 told_mark m [] n e marks earlier told at is = absurd (clash (sym at ∙ is)) where
   clash : ◌≡◌ {A = List Group} [] ((e, marks) ∷ earlier) → ⊥
@@ -169,7 +172,8 @@ action_tells (restart.WaitUntil tick) message is = none_tells message is
 action_tells (restart.Start e) message is = same_tells (incoming.Started e) message is refl
 action_tells restart.GiveUp message is = same_tells incoming.GaveUp message is refl
 
-step_tells : (step : Option DriverStep) (g : ℕ) (b a : Scene) (message : Incoming) → AfterStep step g b (Some message) a → tells message ≡ true
+step_tells : (step : Option DriverStep) (g : ℕ) (b a : Scene) (message : Incoming) → AfterStep step g b (Some message) a
+    → tells message ≡ true
 step_tells (Some Failed) g b a message x = ruling_tells x.ruling message (sym x.tells)
 step_tells (Some Working) g b a message x = none_tells message (sym x.0)
 step_tells (Some Idle) g b a message x = none_tells message (sym x.0)
@@ -181,7 +185,8 @@ death_tells true g b a message x = ruling_tells x.ruling message (sym x.tells)
 death_tells false g b a message x = none_tells message (sym x.0)
 
 -- a reply that is there was sent before this event
-was_there : (n place : ℕ) (sent : List Sent) → Each (λ s. s.place < place) sent → is_some (slice_get sent n) ≡ true → was_sent (slice_get sent n) place ≡ true
+was_there : (n place : ℕ) (sent : List Sent) → Each (λ s. s.place < place) sent → is_some (slice_get sent n) ≡ true
+    → was_sent (slice_get sent n) place ≡ true
 was_there n place [] low some = cc
 was_there zero place (s ∷ sent) low some = let here : s.place < place = low.0 in grind (arith, nat_tests, here)
 was_there (suc n) place (s ∷ sent) low some = was_there n place sent low.1 some
@@ -194,8 +199,10 @@ or_told : (handed told : Bool) → told ≡ true → (handed || told) ≡ true
 or_told true told is = refl
 or_told false told is = is
 
-plays_handed : (place : ℕ) (e : Event) (b : Scene) (message : Incoming) (a : Scene) (marks : List Mark) → Plays place e (begun_scene e b) (Some message) a
-    → (with_message message a.noted).groups ≡ (e, marks) ∷ b.noted.groups → length b.noted.groups ≡ place → Each (λ s. s.place < place) b.disks.sent
+plays_handed : (place : ℕ) (e : Event) (b : Scene) (message : Incoming) (a : Scene) (marks : List Mark)
+    → Plays place e (begun_scene e b) (Some message) a
+    → (with_message message a.noted).groups ≡ (e, marks) ∷ b.noted.groups → length b.noted.groups ≡ place
+    → Each (λ s. s.place < place) b.disks.sent
     → (is_handed a.disks.sent e b.noted.groups || is_told marks) ≡ true
 plays_handed place (event.Arrive who now call) b message a marks p is at low =
     or_told (is_handed a.disks.sent (event.Arrive who now call) b.noted.groups) (is_told marks)
@@ -210,7 +217,8 @@ plays_handed place (event.Die g bytes) b message a marks p is at low =
 plays_handed place (event.Hang g) b message a marks p is at low =
     told_first message a.noted (event.Hang g) marks b.noted.groups (none_tells message (sym p.tells)) is
 plays_handed place (event.Deliver n) b message a marks p is at low =
-    let sent : was_sent (slice_get b.disks.sent n) place ≡ true = was_there n place b.disks.sent low (delivered_some (slice_get b.disks.sent n) message p.0) in
+    let sent : was_sent (slice_get b.disks.sent n) place ≡ true =
+    was_there n place b.disks.sent low (delivered_some (slice_get b.disks.sent n) message p.0) in
     ap (λ (x : Scene). was_sent (slice_get x.disks.sent n) (length b.noted.groups) || is_told marks) p.1
     ∙ ap (λ (k : ℕ). was_sent (slice_get b.disks.sent n) k || is_told marks) at
     ∙ ap (λ (t : Bool). t || is_told marks) sent
@@ -223,10 +231,12 @@ record Acts (p : Play) : Type 0 where
   acts : EachGroup (ActsAsDue p.scene.disks.sent) p.scene.noted.groups
 
 -- an event is played
-next_acts : (b a : Play) (result : Option Incoming) (n : Noted) → PlaysNext b result a → n.groups ≡ (with_brought result a.scene.noted).groups → Acts b
+next_acts : (b a : Play) (result : Option Incoming) (n : Noted) → PlaysNext b result a
+    → n.groups ≡ (with_brought result a.scene.noted).groups → Acts b
     → EachGroup (ActsAsDue a.scene.disks.sent) n.groups
 next_acts b a result n p groups h =
-    let done : EventDone b.next b.owed b.told p.event b.scene result a.scene = event_done b.next b.owed b.told p.event b.scene result a.scene h.said.first p.plays in
+    let done : EventDone b.next b.owed b.told p.event b.scene result a.scene =
+    event_done b.next b.owed b.told p.event b.scene result a.scene h.said.first p.plays in
     let s : SentMore b.next b.scene.disks.sent a.scene.disks.sent =
     begins_sent b.next b.scene.noted.groups (core_at b.scene b.owed b.told) (core_at a.scene b.owed b.told) p.event done.marks done.begins in
     let later : AreLater (length b.scene.noted.groups) s.more = subst (λ (k : ℕ). AreLater k s.more) (sym h.said.said.places) s.from in
@@ -237,7 +247,8 @@ next_acts b a result n p groups h =
     )
 
 -- where it brings a message, the server was handed something
-next_handed : (b a : Play) (message : Incoming) (n : Noted) → PlaysNext b (Some message) a → n.groups ≡ (with_message message a.scene.noted).groups → Acts b
+next_handed : (b a : Play) (message : Incoming) (n : Noted) → PlaysNext b (Some message) a
+    → n.groups ≡ (with_message message a.scene.noted).groups → Acts b
     → was_handed a.scene.disks.sent n.groups ≡ true
 next_handed b a message n p groups h =
     let done : EventDone b.next b.owed b.told p.event b.scene (Some message) a.scene =
@@ -246,7 +257,8 @@ next_handed b a message n p groups h =
     ∙ plays_handed b.next p.event b.scene message a.scene done.marks p.plays done.groups h.said.said.places h.said.said.sent
 
 next_none_acts : (b a : Play) → PlaysNext b None a → Acts b → Acts a
-next_none_acts b a p h = record { said = next_none AnsweredSoFar answered_kept b a p h.said; acts = next_acts b a None a.scene.noted p refl h }
+next_none_acts b a p h =
+    record { said = next_none AnsweredSoFar answered_kept b a p h.said; acts = next_acts b a None a.scene.noted p refl h }
 
 far_acts : (b a : Play) (result : Option Incoming) → Advances b result a → result ≡ None → Acts b → Acts a
 far_acts b _ _ Stays is h = h
@@ -260,7 +272,8 @@ ActsOn p = EachGroup (ActsAsDue p.scene.disks.sent) p.scene.noted.groups
 abbrev HandedOn : Play → Doing → Type 0
 HandedOn p doing = HandedAt p.over (was_handed p.scene.disks.sent p.scene.noted.groups) doing p.queue
 
-far_some_acts : (b a : Play) (result : Option Incoming) (message : Incoming) (doing : Doing) → Advances b result a → result ≡ Some message → Acts b
+far_some_acts : (b a : Play) (result : Option Incoming) (message : Incoming) (doing : Doing) → Advances b result a → result ≡ Some message
+    → Acts b
     → ActsOn (noting (entry.Received message) a) × HandedOn (noting (entry.Received message) a) doing
 far_some_acts b _ _ message doing Stays is h = cc
 far_some_acts b a _ message doing (Goes m _ result before last) is h =
@@ -275,7 +288,8 @@ mark_acts : (sent : List Sent) (n : Noted) (m : Mark) (begun : IsBegun n.groups)
     → acts_when_handed (is_handed sent begun.event begun.earlier) (m ∷ begun.group) ≡ true
     → EachGroup (ActsAsDue sent) n.groups → EachGroup (ActsAsDue sent) (with_mark m n).groups
 mark_acts sent n m begun now each =
-    let was : EachGroup (ActsAsDue sent) ((begun.event, begun.group) ∷ begun.earlier) = subst (λ (l : List Group). EachGroup (ActsAsDue sent) l) begun.is each in
+    let was : EachGroup (ActsAsDue sent) ((begun.event, begun.group) ∷ begun.earlier) =
+    subst (λ (l : List Group). EachGroup (ActsAsDue sent) l) begun.is each in
     subst (λ (l : List Group). EachGroup (ActsAsDue sent) l) (sym (mark_groups n m begun)) (now, was.1)
 
 last_acts : (sent : List Sent) (groups : List Group) (begun : IsBegun groups) → EachGroup (ActsAsDue sent) groups
@@ -317,7 +331,8 @@ owed_acts sent n begun each = (
 )
 
 -- the server is at work, and the link hasn't ended: it was handed something
-at_work_handed : (over handed : Bool) (doing : Doing) (queue : List Arrived) → over ≡ false → is_busy doing ≡ true → HandedAt over handed doing queue → handed ≡ true
+at_work_handed : (over handed : Bool) (doing : Doing) (queue : List Arrived) → over ≡ false → is_busy doing ≡ true
+    → HandedAt over handed doing queue → handed ≡ true
 at_work_handed over handed doing queue live busy (HasEnded ends) = absurd (clash (sym live ∙ ends)) where
   clash : ◌≡◌ {A = Bool} false true → ⊥
   clash e = cc
@@ -326,7 +341,8 @@ at_work_handed over handed doing queue live busy (HasNoWork rests none) = absurd
   clash : ◌≡◌ {A = Bool} false true → ⊥
   clash e = cc
 
-posts_act : (b : Play) (to : Endpoint) (r : BlockRequest) (result : Result (Unit {0}) LinkRefusal) (d : Disks) (doing : Doing) → b.over ≡ false → is_busy doing ≡ true
+posts_act : (b : Play) (to : Endpoint) (r : BlockRequest) (result : Result (Unit {0}) LinkRefusal) (d : Disks) (doing : Doing)
+    → b.over ≡ false → is_busy doing ≡ true
     → LinesUp to r b.scene.disks result d → IsBegun b.scene.noted.groups → ActsOn b → HandedOn b doing
     → ActsOn (posted to r (is_ok result) d b) × HandedOn (posted to r (is_ok result) d b) doing
 posts_act b to r _ _ doing live busy (NoneIsThere none) begun h handed = (h, handed)
@@ -349,7 +365,8 @@ complaint_acts true b about doing begun h handed = (
 )
 
 -- what a server does at the link
-turn_acts : (b a : Play) (told : Told) (doing : Doing) → Turn b told a → is_busy doing ≡ true → IsBegun b.scene.noted.groups → Acts b → HandedOn b doing
+turn_acts : (b a : Play) (told : Told) (doing : Doing) → Turn b told a → is_busy doing ≡ true → IsBegun b.scene.noted.groups → Acts b
+    → HandedOn b doing
     → ActsOn a × HandedOn a doing
 turn_acts b _ _ doing (Takes message a far) busy begun h handed = far_some_acts b a (Some message) message doing far refl h
 turn_acts b _ _ doing (TakesOwed live owes first) busy begun h handed =
@@ -360,15 +377,18 @@ turn_acts b _ _ doing (TakesEnd a live ends) busy begun h handed = (end_acts a e
   end_acts : (x : Play) → ComesToEnd b x → ActsOn x
   end_acts _ (IsPlayedOut x far spent) = (far_acts b x None far refl h).acts
   end_acts _ (IsStarved x far) = (far_acts b x None far refl h).acts
-turn_acts b _ _ doing (Posts to r result d unended lines) busy begun h handed = posts_act b to r result d doing unended busy lines begun h.acts handed
-turn_acts b _ _ doing (Complains about) busy begun h handed = complaint_acts (is_fault (ruling_at about b.scene)) b about doing begun h.acts handed
+turn_acts b _ _ doing (Posts to r result d unended lines) busy begun h handed =
+    posts_act b to r result d doing unended busy lines begun h.acts handed
+turn_acts b _ _ doing (Complains about) busy begun h handed =
+    complaint_acts (is_fault (ruling_at about b.scene)) b about doing begun h.acts handed
 
 -- where no call waits and the next event brings no message, it is a call that is handed over, or nothing
 same_count : (n : ℕ) → nat_le n n ≡ true
 same_count n = grind (arith, nat_tests)
 
 none_handed : (e : Event) (sent : List Sent) (marks : List Mark) (earlier : List Group) (over : Bool) (doing : Doing) (queue : List Arrived)
-    → doing ≡ Resting → queue ≡ calls_of e → arrived earlier ≡ taken (marks_of earlier) → HandedAt over (was_handed sent ((e, marks) ∷ earlier)) doing queue
+    → doing ≡ Resting → queue ≡ calls_of e → arrived earlier ≡ taken (marks_of earlier)
+    → HandedAt over (was_handed sent ((e, marks) ∷ earlier)) doing queue
 none_handed (event.Arrive who now call) sent marks earlier over doing queue rests is calls =
     let enough : nat_le (length (arrived earlier)) (length (taken (marks_of earlier))) ≡ true =
     ap (λ (l : List Arrival). nat_le (length l) (length (taken (marks_of earlier)))) calls ∙ same_count (length (taken (marks_of earlier))) in
@@ -389,28 +409,33 @@ all_taken p first none calls =
     ∙ ap (λ (l : List Arrived). reverse (map arrival_of l) ++ taken (marks_in p.scene.noted)) none
     ∙ ap taken (record_of_groups p.scene.noted.groups p.scene.noted.first first)
 
-next_none_handed : (b a : Play) (doing : Doing) → PlaysNext b None a → Acts b → doing ≡ Resting → b.queue ≡ [] → HasCalls [] b → HandedOn a doing
+next_none_handed : (b a : Play) (doing : Doing) → PlaysNext b None a → Acts b → doing ≡ Resting → b.queue ≡ [] → HasCalls [] b
+    → HandedOn a doing
 next_none_handed b a doing p h rests none calls =
-    let done : EventDone b.next b.owed b.told p.event b.scene None a.scene = event_done b.next b.owed b.told p.event b.scene None a.scene h.said.first p.plays in
+    let done : EventDone b.next b.owed b.told p.event b.scene None a.scene =
+    event_done b.next b.owed b.told p.event b.scene None a.scene h.said.first p.plays in
     subst (λ (l : List Group). HandedAt a.over (was_handed a.scene.disks.sent l) doing a.queue) (sym done.groups)
     (none_handed p.event a.scene.disks.sent done.marks b.scene.noted.groups a.over doing a.queue rests
     (p.queue ∙ ap (λ (l : List Arrived). l ++ calls_of p.event) none) (all_taken b h.said.first none calls))
 
-handed_after : (over handed : Bool) (doing : Doing) (queue : List Arrived) → HandedAt over handed doing queue → HandedAt over handed Resting queue
+handed_after : (over handed : Bool) (doing : Doing) (queue : List Arrived) → HandedAt over handed doing queue
+    → HandedAt over handed Resting queue
 handed_after over handed doing queue (HasEnded ends) = HasEnded ends
 handed_after over handed doing queue (WasHanded was_so) = WasHanded was_so
 handed_after over handed doing queue (HasNoWork rests none) = HasNoWork refl none
 
 -- a call that waits is handed out
-out_handed : (b a : Play) (call : Arrived) (doing : Doing) → b.over ≡ false → HandsOut b (Some call) a → HandedOn b doing → HandedOn a (Answering call)
+out_handed : (b a : Play) (call : Arrived) (doing : Doing) → b.over ≡ false → HandsOut b (Some call) a → HandedOn b doing
+    → HandedOn a (Answering call)
 out_handed b a call doing live hands (HasEnded ends) = absurd (clash (sym live ∙ ends)) where
   clash : ◌≡◌ {A = Bool} false true → ⊥
   clash e = cc
 out_handed b a call doing live hands (WasHanded was_so) =
     WasHanded (ap (λ (p : Play). was_handed p.scene.disks.sent p.scene.noted.groups) hands.after ∙ was_so)
-out_handed b a call doing live hands (HasNoWork rests none) = absurd (clash (hands.first ∙ ap (λ (l : List Arrived). slice_get l 0) none)) where
-  clash : Some call ≡ None → ⊥
-  clash e = cc
+out_handed b a call doing live hands (HasNoWork rests none) =
+    absurd (clash (hands.first ∙ ap (λ (l : List Arrived). slice_get l 0) none)) where
+      clash : Some call ≡ None → ⊥
+      clash e = cc
 
 record ActsStand (m : Moment) : Type 0 where
   calm : OverCalm m
@@ -422,7 +447,8 @@ record ActsStand (m : Moment) : Type 0 where
 -- a step
 step_acts : (minor : ℕ) (m a : Moment) → Step minor m a → ActsStand m → ActsOn a.play × HandedOn a.play a.doing
 step_acts minor m _ (StepBegins r busy may) k = (k.acts.acts, k.handed)
-step_acts minor m _ (Tells told a busy nothing may turn) k = turn_acts m.play a told m.doing turn busy (not_before m busy k.begun) k.acts k.handed
+step_acts minor m _ (Tells told a busy nothing may turn) k =
+    turn_acts m.play a told m.doing turn busy (not_before m busy k.begun) k.acts k.handed
 step_acts minor m _ (StepTakes message call a doing may turn) k =
     let busy : is_busy m.doing ≡ true = busy_answering m.doing call doing in
     turn_acts m.play a (Received message) m.doing turn busy (not_before m busy k.begun) k.acts k.handed

@@ -25,7 +25,8 @@ use Rattle.justified_runs.specs.Ordered.{answering}
 pub at_rest : (m : Moment) → m.doing ≡ Resting → HasCalls (answering m.doing) m.play → HasCalls [] m.play
 at_rest m rests h = subst (λ (l : List Arrival). HasCalls l m.play) (ap answering rests) h
 
-pub at_work : (m : Moment) (call : Arrived) → m.doing ≡ Answering call → HasCalls (answering m.doing) m.play → HasCalls (arrival_of call ∷ []) m.play
+pub at_work : (m : Moment) (call : Arrived) → m.doing ≡ Answering call → HasCalls (answering m.doing) m.play
+    → HasCalls (arrival_of call ∷ []) m.play
 at_work m call works h = subst (λ (l : List Arrival). HasCalls l m.play) (ap answering works) h
 
 -- events are played
@@ -35,7 +36,8 @@ next_calls out b a next h = asides_hand_none out b a (Ok None) (HandsNone a next
 -- a step
 pub step_calls : (minor : ℕ) (m a : Moment) → Step minor m a → HasCalls (answering m.doing) m.play → HasCalls (answering a.doing) a.play
 step_calls minor m _ (StepBegins r busy may) h = h
-step_calls minor m _ (Tells told a busy nothing may turn) h = servers_hand_none (answering m.doing) m.play a (Further m.play a told Still turn) h
+step_calls minor m _ (Tells told a busy nothing may turn) h =
+    servers_hand_none (answering m.doing) m.play a (Further m.play a told Still turn) h
 step_calls minor m _ (StepTakes message call a doing may turn) h =
     servers_hand_none (answering m.doing) m.play a (Further m.play a (Received message) Still turn) h
 step_calls minor m _ (Settles message doing rest) h = subst (λ (l : List Arrival). HasCalls l m.play) (ap answering doing) h
@@ -62,7 +64,8 @@ opened_calls media rules supply events m o rests =
     }
 
 -- a mark more stands in the group of the last event
-pub mark_groups : (n : Noted) (m : Mark) (begun : IsBegun n.groups) → (with_mark m n).groups ≡ (begun.event, m ∷ begun.group) ∷ begun.earlier
+pub mark_groups : (n : Noted) (m : Mark) (begun : IsBegun n.groups)
+    → (with_mark m n).groups ≡ (begun.event, m ∷ begun.group) ∷ begun.earlier
 mark_groups n m begun = ap (λ (l : List Group). (grouped m l n.first n).groups) begun.is
 
 pub mark_first : (n : Noted) (m : Mark) (begun : IsBegun n.groups) → (with_mark m n).first ≡ n.first

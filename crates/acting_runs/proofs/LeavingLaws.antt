@@ -42,16 +42,19 @@ use Rattle.justified_runs.proofs.OpeningLaws.{calm_before, opened_said, opened_f
 use Rattle.acting_runs.specs.Leaving.{CallsAsDue, HasRoom, RunsKeepWaits}
 use Rattle.acting_runs.proofs.CallLaws.{at_rest, at_work, next_calls, step_calls, opened_calls, mark_groups}
 
+one_more : (n k : ℕ) → n ≤ k → n ≤ suc k
+one_more n k low = omega (arith, low)
+
 -- marks that are faults alone leave the record without faults
 none_less : (marks more : List Mark) → length (without_faults more) ≤ length (without_faults (marks ++ more))
 none_less [] more = omega arith
 none_less (Fault e cause ∷ marks) more = none_less marks more
-none_less (Started e ∷ marks) more = let k : length (without_faults more) ≤ length (without_faults (marks ++ more)) = none_less marks more in omega (arith, k)
-none_less (Answered a ∷ marks) more = let k : length (without_faults more) ≤ length (without_faults (marks ++ more)) = none_less marks more in omega (arith, k)
-none_less (Flush ∷ marks) more = let k : length (without_faults more) ≤ length (without_faults (marks ++ more)) = none_less marks more in omega (arith, k)
-none_less (GaveUp ∷ marks) more = let k : length (without_faults more) ≤ length (without_faults (marks ++ more)) = none_less marks more in omega (arith, k)
-none_less (Took who now call answer ∷ marks) more = let k : length (without_faults more) ≤ length (without_faults (marks ++ more)) = none_less marks more in omega (arith, k)
-none_less (Issued r e ∷ marks) more = let k : length (without_faults more) ≤ length (without_faults (marks ++ more)) = none_less marks more in omega (arith, k)
+none_less (Started e ∷ marks) more = one_more _ _ (none_less marks more)
+none_less (Answered a ∷ marks) more = one_more _ _ (none_less marks more)
+none_less (Flush ∷ marks) more = one_more _ _ (none_less marks more)
+none_less (GaveUp ∷ marks) more = one_more _ _ (none_less marks more)
+none_less (Took who now call answer ∷ marks) more = one_more _ _ (none_less marks more)
+none_less (Issued r e ∷ marks) more = one_more _ _ (none_less marks more)
 
 not_more : (m : Mark) (marks more : List Mark) → m ∷ without_faults (marks ++ more) ≡ without_faults more → ⊥
 not_more m marks more same =
@@ -60,7 +63,8 @@ not_more m marks more same =
     omega (arith, k, e)
 
 -- then a start that is awaited still is
-still_awaits : (marks more : List Mark) → without_faults (marks ++ more) ≡ without_faults more → awaits_start more ≡ true → awaits_start (marks ++ more) ≡ true
+still_awaits : (marks more : List Mark) → without_faults (marks ++ more) ≡ without_faults more → awaits_start more ≡ true
+    → awaits_start (marks ++ more) ≡ true
 still_awaits [] more same awaits = awaits
 still_awaits (Fault e cause ∷ marks) more same awaits = refl
 still_awaits (Started e ∷ marks) more same awaits = absurd (not_more (Started e) marks more same)
@@ -74,7 +78,8 @@ still_awaits (Issued r e ∷ marks) more same awaits = absurd (not_more (Issued 
 none_after_fault : (e : Endpoint) (runs : Option Endpoint) → runs ≡ None → (if is_endpoint e runs then None else runs) ≡ None
 none_after_fault e runs none = ap (λ (o : Option Endpoint). if is_endpoint e o then None else o) none
 
-still_none : (marks more : List Mark) → without_faults (marks ++ more) ≡ without_faults more → running more ≡ None → running (marks ++ more) ≡ None
+still_none : (marks more : List Mark) → without_faults (marks ++ more) ≡ without_faults more → running more ≡ None
+    → running (marks ++ more) ≡ None
 still_none [] more same none = none
 still_none (Fault e cause ∷ marks) more same none = none_after_fault e (running (marks ++ more)) (still_none marks more same none)
 still_none (Started e ∷ marks) more same none = absurd (not_more (Started e) marks more same)
@@ -113,7 +118,8 @@ record_is p first = ap without_faults (record_of_groups p.scene.noted.groups p.s
 
 silent : (b a : Play) → PlaysNext b None a → b.scene.noted.first ≡ Started (driver 1) ∷ [] → Silent b a
 silent b a p first =
-    let done : EventDone b.next b.owed b.told p.event b.scene None a.scene = event_done b.next b.owed b.told p.event b.scene None a.scene first p.plays in
+    let done : EventDone b.next b.owed b.told p.event b.scene None a.scene =
+    event_done b.next b.owed b.told p.event b.scene None a.scene first p.plays in
     let first_now : a.scene.noted.first ≡ Started (driver 1) ∷ [] = done.first ∙ first in
     record {
       event = p.event;
@@ -124,7 +130,8 @@ silent b a p first =
     }
 
 silent_waits : (b a : Play) → Silent b a → MayWait (marks_of b.scene.noted.groups) → MayWait (marks_of a.scene.noted.groups)
-silent_waits b a s h = subst (λ (l : List Group). MayWait (marks_of l)) (sym s.groups) (still_waits s.marks (marks_of b.scene.noted.groups) s.same h)
+silent_waits b a s h =
+    subst (λ (l : List Group). MayWait (marks_of l)) (sym s.groups) (still_waits s.marks (marks_of b.scene.noted.groups) s.same h)
 
 silent_none : (b a : Play) → Silent b a → running (marks_of b.scene.noted.groups) ≡ None → running (marks_of a.scene.noted.groups) ≡ None
 silent_none b a s h = ap (λ (l : List Group). running (marks_of l)) s.groups ∙ still_none s.marks (marks_of b.scene.noted.groups) s.same h
@@ -208,10 +215,12 @@ not_stopped o p none is = absurd (clash (sym none ∙ is)) where
   clash c = cc
 
 -- a message lets a refused post be tried again
-message_lets : (message : Incoming) (marks : List Mark) (o : Outbox) → IsNoEnd (Some message) → (owed_after_message message marks o).stopped ≡ false
+message_lets : (message : Incoming) (marks : List Mark) (o : Outbox) → IsNoEnd (Some message)
+    → (owed_after_message message marks o).stopped ≡ false
 message_lets (incoming.Reply a) marks o some = refl
 message_lets (incoming.Started e) marks o some = by (gave_up marks) where
-  by : (t : Bool) → (if t then record o { stopped = false } else record o { unposted = open_requests marks ++ o.never_issued; stopped = false }).stopped ≡ false
+  by : (t : Bool)
+      → (if t then record o { stopped = false } else record o { unposted = open_requests marks ++ o.never_issued; stopped = false }).stopped ≡ false
   by true = refl
   by false = refl
 message_lets incoming.GaveUp marks o some = refl
@@ -230,7 +239,8 @@ record FarSilent (b a : Play) : Type 0 where
   first : a.scene.noted.first ≡ Started (driver 1) ∷ []
   none : running (marks_of b.scene.noted.groups) ≡ None → running (marks_of a.scene.noted.groups) ≡ None
 
-far_silent : (b a : Play) (result : Option Incoming) → Advances b result a → result ≡ None → b.scene.noted.first ≡ Started (driver 1) ∷ [] → FarSilent b a
+far_silent : (b a : Play) (result : Option Incoming) → Advances b result a → result ≡ None → b.scene.noted.first ≡ Started (driver 1) ∷ []
+    → FarSilent b a
 far_silent b _ _ Stays is first = record { first = first; none = λ h. h }
 far_silent b a _ (Goes m _ result before last) is first =
     let k : FarSilent b m = far_silent b m None before refl first in
@@ -238,7 +248,8 @@ far_silent b a _ (Goes m _ result before last) is first =
     record { first = s.first; none = λ h. silent_none m a s (k.none h) }
 
 posts_stopped : (minor drivers : ℕ) (m : Moment) (to : Endpoint) (r : BlockRequest) (result : Result (Unit {0}) LinkRefusal) (d : Disks) (a : Play)
-    → LinesUp to r m.play.scene.disks result d → MayPost minor (record_of m.play) m.outbox to r → HasRoom minor m → IsSaid (OnlyFollows drivers) m.play
+    → LinesUp to r m.play.scene.disks result d → MayPost minor (record_of m.play) m.outbox to r → HasRoom minor m
+    → IsSaid (OnlyFollows drivers) m.play
     → (is_ok result ≡ false → a.scene.noted.groups ≡ m.play.scene.noted.groups)
     → StoppedRight (owed_after_act (AtLink (Posted to r (is_ok result))) (record_of m.play) m.outbox) a
 posts_stopped minor drivers m to r _ _ a (NoneIsThere none) may room said same is =
@@ -247,21 +258,24 @@ posts_stopped minor drivers m to r _ _ a (LineIsFull there full) may room said s
     let few : length m.play.scene.disks.current.line < 32 = room to r may there in absurd (omega (arith, few, full))
 posts_stopped minor drivers m to r _ d a (IsLinedUp there few) may room said same is = not_stopped m.outbox a may.not_stopped is
 
-complaint_stopped : (fault : Bool) (b : Play) (about : Endpoint) → IsBegun b.scene.noted.groups → running (marks_of b.scene.noted.groups) ≡ None
+complaint_stopped : (fault : Bool) (b : Play) (about : Endpoint) → IsBegun b.scene.noted.groups
+    → running (marks_of b.scene.noted.groups) ≡ None
     → running (marks_of (with_entry (entry.Complained about fault) b.scene.noted).groups) ≡ None
 complaint_stopped false b about begun none = none
 complaint_stopped true b about begun none =
     mark_none b.scene.noted (Fault about Complaint) begun (λ marks h. none_after_fault about (running marks) h) none
 
 tell_stopped : (minor drivers : ℕ) (m : Moment) (told : Told) (a : Play) → Turn m.play told a → took_nothing (told ∷ []) ≡ true
-    → MayAct minor (record_of m.play) m.outbox (AtLink told) → HasRoom minor m → IsBegun m.play.scene.noted.groups → IsSaid (OnlyFollows drivers) m.play
+    → MayAct minor (record_of m.play) m.outbox (AtLink told) → HasRoom minor m → IsBegun m.play.scene.noted.groups
+    → IsSaid (OnlyFollows drivers) m.play
     → StoppedRight m.outbox m.play → StoppedRight (owed_after_act (AtLink told) (record_of m.play) m.outbox) a
 tell_stopped minor drivers m _ _ (Takes message a far) nothing may room begun said h = cc
 tell_stopped minor drivers m _ _ (TakesOwed live owed first) nothing may room begun said h = cc
 tell_stopped minor drivers m _ _ (TakesEnd a live ends) nothing may room begun said h = cc
 tell_stopped minor drivers m _ a (Posts to r result d unended lines) nothing may room begun said h =
     posts_stopped minor drivers m to r result d a lines may room said (refused_groups result) where
-      refused_groups : (x : Result (Unit {0}) LinkRefusal) → is_ok x ≡ false → (with_entry (entry.Posted to r (is_ok x)) m.play.scene.noted).groups ≡ m.play.scene.noted.groups
+      refused_groups : (x : Result (Unit {0}) LinkRefusal) → is_ok x ≡ false
+          → (with_entry (entry.Posted to r (is_ok x)) m.play.scene.noted).groups ≡ m.play.scene.noted.groups
       refused_groups (Ok done) is = absurd (clash is) where
         clash : ◌≡◌ {A = Bool} true false → ⊥
         clash c = cc
@@ -269,7 +283,8 @@ tell_stopped minor drivers m _ a (Posts to r result d unended lines) nothing may
 tell_stopped minor drivers m _ _ (Complains about) nothing may room begun said h =
     λ is. complaint_stopped (is_fault (ruling_at about m.play.scene)) m.play about begun (h is)
 
-take_stopped : (m : Moment) (message : Incoming) (a : Play) → Turn m.play (Received message) a → m.play.scene.noted.first ≡ Started (driver 1) ∷ []
+take_stopped : (m : Moment) (message : Incoming) (a : Play) → Turn m.play (Received message) a
+    → m.play.scene.noted.first ≡ Started (driver 1) ∷ []
     → StoppedRight m.outbox m.play → StoppedRight (owed_after_message message (record_of m.play) m.outbox) a
 take_stopped m message _ (Takes _ a far) first h =
     not_stopped (owed_after_message message (record_of m.play) m.outbox) (noting (entry.Received message) a)
@@ -290,7 +305,8 @@ step_stopped minor drivers m _ (Settles message doing rest) begun room said h = 
 step_stopped minor drivers m _ (Brings message a between none next) begun room said h =
     not_stopped (owed_after_message message (record_of m.play) m.outbox) (noting (entry.Handed message) a)
     (message_lets message (record_of m.play) m.outbox (far_no_end m.play a (Some message) (Goes m.play a (Some message) Stays next)))
-step_stopped minor drivers m _ (BringsNone a between none next) begun room said h = λ is. silent_none m.play a (silent m.play a next said.first) (h is)
+step_stopped minor drivers m _ (BringsNone a between none next) begun room said h =
+    λ is. silent_none m.play a (silent m.play a next said.first) (h is)
 step_stopped minor drivers m a (StepPays between owed told) begun room said h = not_stopped a.outbox a.play refl
 step_stopped minor drivers m _ (HandsCall call a between paid_so hands) begun room said h =
     λ is. ap (λ (p : Play). running (marks_of p.scene.noted.groups)) hands.after ∙ h is
@@ -314,7 +330,8 @@ some_started [] = refl
 some_started (g ∷ groups) = last_some g.1 (marks_of groups) (some_started groups)
 
 -- where a message is needed, a request is open, or the last post was refused
-stopped_or_open : (none started stopped others unissued : Bool) → started ≡ true → (not none || cond started (stopped && others) unissued) ≡ true
+stopped_or_open : (none started stopped others unissued : Bool) → started ≡ true
+    → (not none || cond started (stopped && others) unissued) ≡ true
     → (not none || stopped) ≡ true
 stopped_or_open true true true others unissued is needed = refl
 stopped_or_open true true false others unissued is needed = needed
@@ -370,15 +387,19 @@ all_called out p first calls waits h = by p.scene.noted.groups refl h where
   )
 
 -- where no call waits and none is answered, none is left
-none_left : (out : List Arrival) (p : Play) → out ≡ [] → p.queue ≡ [] → reverse (map arrival_of p.queue) ++ out ≢ [] → MayWait (marks_of p.scene.noted.groups)
+none_left : (out : List Arrival) (p : Play) → out ≡ [] → p.queue ≡ [] → reverse (map arrival_of p.queue) ++ out ≢ []
+    → MayWait (marks_of p.scene.noted.groups)
 none_left out p is none some = absurd (some (ap (λ (l : List Arrived). reverse (map arrival_of l) ++ out) none ∙ is))
 
 -- an event is played
-next_called : (out : List Arrival) (b a : Play) (result : Option Incoming) (n : Noted) → PlaysNext b result a → n.groups ≡ (with_brought result a.scene.noted).groups
-    → b.scene.noted.first ≡ Started (driver 1) ∷ [] → HasCalls out b → (reverse (map arrival_of b.queue) ++ out ≢ [] → MayWait (marks_of b.scene.noted.groups))
+next_called : (out : List Arrival) (b a : Play) (result : Option Incoming) (n : Noted) → PlaysNext b result a
+    → n.groups ≡ (with_brought result a.scene.noted).groups
+    → b.scene.noted.first ≡ Started (driver 1) ∷ [] → HasCalls out b
+    → (reverse (map arrival_of b.queue) ++ out ≢ [] → MayWait (marks_of b.scene.noted.groups))
     → EarlierCalled b.scene.noted.groups → EarlierCalled n.groups
 next_called out b a result n p groups first calls waits h =
-    let done : EventDone b.next b.owed b.told p.event b.scene result a.scene = event_done b.next b.owed b.told p.event b.scene result a.scene first p.plays in
+    let done : EventDone b.next b.owed b.told p.event b.scene result a.scene =
+    event_done b.next b.owed b.told p.event b.scene result a.scene first p.plays in
     subst (λ (l : List Group). EarlierCalled l) (sym (groups ∙ done.groups)) (all_called out b first calls waits h)
 
 -- while a call is answered, and may wait
@@ -388,7 +409,8 @@ record Called (out : List Arrival) (p : Play) : Type 0 where
   waits : MayWait (marks_of p.scene.noted.groups)
   earlier : EarlierCalled p.scene.noted.groups
 
-far_called : (out : List Arrival) (b a : Play) (result : Option Incoming) → Advances b result a → result ≡ None → Called out b → Called out a
+far_called : (out : List Arrival) (b a : Play) (result : Option Incoming) → Advances b result a → result ≡ None → Called out b
+    → Called out a
 far_called out b _ _ Stays is h = h
 far_called out b a _ (Goes m _ result before last) is h =
     let next : PlaysNext m None a = subst (λ (r : Option Incoming). PlaysNext m r a) is last in
@@ -401,7 +423,8 @@ far_called out b a _ (Goes m _ result before last) is h =
       earlier = next_called out m a None a.scene.noted next refl k.first k.calls (λ some. k.waits) k.earlier;
     }
 
-far_some_called : (out : List Arrival) (b a : Play) (result : Option Incoming) (message : Incoming) → Advances b result a → result ≡ Some message → Called out b
+far_some_called : (out : List Arrival) (b a : Play) (result : Option Incoming) (message : Incoming) → Advances b result a
+    → result ≡ Some message → Called out b
     → EarlierCalled (noting (entry.Received message) a).scene.noted.groups
 far_some_called out b _ _ message Stays is h = cc
 far_some_called out b a _ message (Goes m _ result before last) is h =
@@ -411,7 +434,8 @@ far_some_called out b a _ message (Goes m _ result before last) is h =
 
 -- a mark more in the last group
 mark_called : (n : Noted) (m : Mark) → IsBegun n.groups → EarlierCalled n.groups → EarlierCalled (with_mark m n).groups
-mark_called n m begun h = subst (λ (l : List Group). EarlierCalled l) (sym (mark_groups n m begun)) (subst (λ (l : List Group). EarlierCalled l) begun.is h)
+mark_called n m begun h =
+    subst (λ (l : List Group). EarlierCalled l) (sym (mark_groups n m begun)) (subst (λ (l : List Group). EarlierCalled l) begun.is h)
 
 posts_called : (n : Noted) (to : Endpoint) (r : BlockRequest) (accepted : Bool) → IsBegun n.groups → EarlierCalled n.groups
     → EarlierCalled (with_entry (entry.Posted to r accepted) n).groups
@@ -423,7 +447,8 @@ complaint_called : (n : Noted) (about : Endpoint) (fault : Bool) → IsBegun n.g
 complaint_called n about true begun h = mark_called n (Fault about Complaint) begun h
 complaint_called n about false begun h = h
 
-tell_called : (b a : Play) (told : Told) → Turn b told a → took_nothing (told ∷ []) ≡ true → IsBegun b.scene.noted.groups → EarlierCalled b.scene.noted.groups
+tell_called : (b a : Play) (told : Told) → Turn b told a → took_nothing (told ∷ []) ≡ true → IsBegun b.scene.noted.groups
+    → EarlierCalled b.scene.noted.groups
     → EarlierCalled a.scene.noted.groups
 tell_called b _ _ (Takes message a far) nothing begun h = cc
 tell_called b _ _ (TakesOwed live owed first) nothing begun h = cc
@@ -431,7 +456,8 @@ tell_called b _ _ (TakesEnd a live ends) nothing begun h = cc
 tell_called b _ _ (Posts to r result d unended lines) nothing begun h = posts_called b.scene.noted to r (is_ok result) begun h
 tell_called b _ _ (Complains about) nothing begun h = complaint_called b.scene.noted about (is_fault (ruling_at about b.scene)) begun h
 
-take_called : (out : List Arrival) (b a : Play) (message : Incoming) → Turn b (Received message) a → IsBegun b.scene.noted.groups → Called out b
+take_called : (out : List Arrival) (b a : Play) (message : Incoming) → Turn b (Received message) a → IsBegun b.scene.noted.groups
+    → Called out b
     → EarlierCalled a.scene.noted.groups
 take_called out b _ message (Takes _ a far) begun h = far_some_called out b a (Some message) message far refl h
 take_called out b _ _ (TakesOwed live owed first) begun h = mark_called b.scene.noted GaveUp begun h.earlier
@@ -450,7 +476,8 @@ record LeavesStand (drivers : ℕ) (m : Moment) : Type 0 where
 
 step_called : (minor drivers : ℕ) (m a : Moment) → Step minor m a → LeavesStand drivers m → EarlierCalled a.play.scene.noted.groups
 step_called minor drivers m _ (StepBegins r busy may) k = k.earlier
-step_called minor drivers m _ (Tells told a busy nothing may turn) k = tell_called m.play a told turn nothing (not_before m busy k.begun) k.earlier
+step_called minor drivers m _ (Tells told a busy nothing may turn) k =
+    tell_called m.play a told turn nothing (not_before m busy k.begun) k.earlier
 step_called minor drivers m _ (StepTakes message call a doing may turn) k =
     take_called (arrival_of call ∷ []) m.play a message turn (not_before m (busy_answering m.doing call doing) k.begun) (record {
       first = k.said.first;
@@ -464,12 +491,15 @@ step_called minor drivers m _ (Brings message a between none next) k =
     (none_left [] m.play refl none) k.earlier
 step_called minor drivers m _ (BringsNone a between none next) k =
     next_called [] m.play a None a.scene.noted next refl k.said.first (at_rest m between.rests k.calls) (none_left [] m.play refl none) k.earlier
-step_called minor drivers m _ (StepPays between owed told) k = mark_called m.play.scene.noted GaveUp (not_owed_before m owed k.begun) k.earlier
-step_called minor drivers m _ (HandsCall call a between paid_so hands) k = subst (λ (p : Play). EarlierCalled p.scene.noted.groups) (sym hands.after) k.earlier
+step_called minor drivers m _ (StepPays between owed told) k =
+    mark_called m.play.scene.noted GaveUp (not_owed_before m owed k.begun) k.earlier
+step_called minor drivers m _ (HandsCall call a between paid_so hands) k =
+    subst (λ (p : Play). EarlierCalled p.scene.noted.groups) (sym hands.after) k.earlier
 step_called minor drivers m _ (StepReplies call reply doing live rest) k =
     mark_called m.play.scene.noted (Took call.who call.now call.call (answer_of reply)) (not_before m (busy_answering m.doing call doing) k.begun) k.earlier
 
-leaves_stand : (minor drivers : ℕ) (b a : Moment) → Runs minor b a → ((m : Moment) → Runs minor b m → HasRoom minor m) → LeavesStand drivers b
+leaves_stand : (minor drivers : ℕ) (b a : Moment) → Runs minor b a → ((m : Moment) → Runs minor b m → HasRoom minor m)
+    → LeavesStand drivers b
     → LeavesStand drivers a
 leaves_stand minor drivers b _ Starts room h = h
 leaves_stand minor drivers b a (Then m _ before last) room h =

@@ -29,7 +29,7 @@ HasRoom minor m = (to : Endpoint) (r : BlockRequest) → MayPost minor (record_o
 abbrev pub RunsKeepWaits : Type 0
 RunsKeepWaits =
     (media : MediaState) (rules : Policy) (supply : List DriverState) (events : List Event) (minor : ℕ) (b a : Moment)
-    → media.generation ≡ 0 → IsOpened media rules (new_watch (length supply)) supply events b.play → b.doing ≡ Resting → b.outbox ≡ empty_outbox
-    → Runs minor b a → ((m : Moment) → Runs minor b m → HasRoom minor m)
+    → media.generation ≡ 0 → IsOpened media rules (new_watch (length supply)) supply events b.play → b.doing ≡ Resting
+    → b.outbox ≡ empty_outbox → Runs minor b a → ((m : Moment) → Runs minor b m → HasRoom minor m)
     → ((a.doing ≡ Resting) × (a.play.queue ≡ [])) ⊎ (a.play.over ≡ true)
     → EachGroup CallsAsDue a.play.scene.noted.groups

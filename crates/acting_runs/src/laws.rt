@@ -3,7 +3,8 @@
 ghost use Rattle.acting_runs.specs.Acting.{RunsKeepActs};
 ghost use Rattle.acting_runs.specs.Leaving.{RunsKeepWaits};
 
-/// At each event of a run calls are finished and requests issued only where the event, or an earlier mark of it, handed the server something.
+/// At each event of a run calls are finished and requests issued only where the event, or an earlier mark of its group, handed the server
+/// something.
 pub fn runs_keep_acts()
     ensures { RunsKeepActs }
 {}
