@@ -67,6 +67,3 @@ opened_calls media rules supply events m o rests =
 pub mark_groups : (n : Noted) (m : Mark) (begun : IsBegun n.groups)
     → (with_mark m n).groups ≡ (begun.event, m ∷ begun.group) ∷ begun.earlier
 mark_groups n m begun = ap (λ (l : List Group). (grouped m l n.first n).groups) begun.is
-
-pub mark_first : (n : Noted) (m : Mark) (begun : IsBegun n.groups) → (with_mark m n).first ≡ n.first
-mark_first n m begun = ap (λ (l : List Group). (grouped m l n.first n).first) begun.is
