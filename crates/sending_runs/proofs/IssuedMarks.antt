@@ -1,7 +1,7 @@
 -- Which requests marks issue, and that none is issued to a driver twice.
 use Rattle.std.proofs.Common.{◌≡◌, ℕ, zero, suc, ◌+◌, ◌<◌, ◌≤◌, List, [], ◌∷◌, ◌++◌, Bool, true, false, refl, sym, ◌∙◌, ap, subst, arith}
 use Rattle.std.proofs.lemmas.Bool.Decides.{nat_tests}
-use Rattle.std.specs.Prelude.{◌&&◌, ◌||◌, ◌==◌, nat_lt, max, not, Option, Some, None, Ok}
+use Rattle.std.specs.Prelude.{◌&&◌, ◌||◌, ◌==◌, nat_lt, max, not, Option, Some, None, Result, Ok}
 use Rattle.endpoint.specs.declared.Endpoint.{Endpoint}
 use Rattle.message.specs.declared.BlockRequest.{BlockRequest}
 use Rattle.policy.specs.declared.Policy.{Policy}
@@ -14,9 +14,11 @@ use Rattle.schedule.specs.declared.Event.{Event}
 use Rattle.schedule.specs.Groups.{Group, marks_of, EachGroup}
 use Rattle.schedule.specs.Drivers.{is_live, is_issued_to}
 use Rattle.schedule.specs.Starts.{is_among_first, may_issue, are_issued_in_place}
+use Rattle.reissue.specs.declared.link.LinkRefusal.{LinkRefusal}
+use Rattle.driver_events.specs.Disks.{Disks, LinesUp, NoneIsThere, LineIsFull, IsLinedUp}
 use Rattle.justifying.specs.Core.{Core}
 use Rattle.justifying.specs.Happens.{AtReport, OfNone, OfRunning, fault_marks, exit_marks, blame_marks, beaten_core, TicksTo, Beats, MissesOne, FoundHung, WaitsOn, StartsNext, IsOver, Begins, Arrives, Flushes, Answers, Drops, Delivers, LinesAgain, HangsOne, StepsOne, FailsOne, DiesNone, DiesOne, Ticks, Adds, AddsNothing, Posts, Replies, Complains, Pays}
-use Rattle.justifying.proofs.FollowLaws.{same_generation}
+use Rattle.justifying.proofs.FollowLaws.{same_generation, same_number}
 use Rattle.sending_runs.specs.Sending.{PlacedAsDue}
 
 or_right : (a b : Bool) → b ≡ true → (a || b) ≡ true
@@ -180,18 +182,29 @@ other_id g id r to other = let no : (r.id == id) ≡ false = grind (arith, nat_t
       none true false = refl
       none false b = refl
 
--- what is done within an event keeps it, where a request goes to the driver that was started last
-pub adds_stands : (c a : Core) (marks old : List Mark) → Adds c marks a
-    → ((r : BlockRequest) (to : Endpoint) → marks ≡ Issued r to ∷ [] → to.generation ≡ c.watch.generation)
+-- a post that was accepted went to the driver that was started last
+pub posted_there : (to : Endpoint) (r : BlockRequest) (b a : Disks) (result : Result (Unit {0}) LinkRefusal) → LinesUp to r b result a → result ≡ Ok tt
+    → (to.slot ≡ 1) × (to.generation ≡ b.media.generation)
+posted_there to r b _ _ (NoneIsThere none) is = cc
+posted_there to r b _ _ (LineIsFull there full) is = cc
+posted_there to r b _ _ (IsLinedUp there few) is =
+    let both : ((to.slot == 1) && (to.generation == b.media.generation)) ≡ true = and_left ((to.slot == 1) && (to.generation == b.media.generation)) b.current.live there in
+    let slot : (to.slot == 1) ≡ true = and_left (to.slot == 1) (to.generation == b.media.generation) both in
+    let number : (to.generation == b.media.generation) ≡ true = and_right (to.slot == 1) (to.generation == b.media.generation) both in
+    (grind (arith, nat_tests, slot), grind (arith, nat_tests, number))
+
+-- what is done within an event keeps it
+pub adds_stands : (c a : Core) (marks old : List Mark) → Adds c marks a → c.disks.media.generation ≡ c.watch.generation
     → IssuesStand c.watch.generation old → IssuesStand a.watch.generation (marks ++ old)
 adds_stands c _ _ old AddsNothing last h = h
 adds_stands c _ _ old (Posts r to d lines) last h = record {
   new = h.new;
   yet = λ g id low. neither (is_this g id r to) (is_issued_to g id old)
-      (other_driver g id r to (λ same. below c.watch.generation to.generation g (last r to refl) same low)) (h.yet g id low);
+      (other_driver g id r to (λ same. below c.watch.generation c.disks.media.generation to.generation g last (posted_there to r c.disks d (Ok tt) lines refl).1 same low))
+      (h.yet g id low);
 } where
-  below : (x y z : ℕ) → y ≡ x → y ≡ z → x < z → ⊥
-  below x y z a b l = omega (arith, a, b, l)
+  below : (w x y z : ℕ) → x ≡ w → y ≡ x → y ≡ z → w < z → ⊥
+  below w x y z k a b l = omega (arith, k, a, b, l)
 adds_stands c _ _ old (Replies who now call answer) last h = record { new = h.new; yet = h.yet }
 adds_stands c _ _ old (Complains about ends after report) last h =
     blame_stands after.generation old ends about
@@ -285,3 +298,34 @@ not_issued_yet marks g r ok new = by (is_issued_to g r.id marks) refl where
       let low : r.id ≤ greatest marks = issued_below marks g r.id is in
       let no : nat_lt (greatest marks) r.id ≡ false = grind (arith, nat_tests, low) in
       sym is ∙ first_not_issued marks g r.id r.id (one (nat_lt (greatest marks) r.id) (is_among_first r.id marks) no ok) (omega arith) new
+
+blame_issues : (ends : Option Bool) (e : Endpoint) → IssueNone (blame_marks ends e)
+blame_issues None e g id = refl
+blame_issues (Some ends) e g id = refl
+
+-- a post issues nothing again
+post_issues : (g id : ℕ) (r : BlockRequest) (to : Endpoint) (old : List Mark) → is_issued_to to.generation r.id old ≡ false → is_issued_to g id old ≡ true
+    → is_issued_to g id (Issued r to ∷ []) ≡ false
+post_issues g id r to old new was = neither (is_this g id r to) false (by (to.generation == g) (r.id == id) refl refl) refl where
+  clash : ◌≡◌ {A = Bool} false true → ⊥
+  clash is = cc
+
+  by : (a b : Bool) → (to.generation == g) ≡ a → (r.id == id) ≡ b → is_this g id r to ≡ false
+  by false b driver number = other_driver g id r to (λ same. clash (sym driver ∙ subst (λ (n : ℕ). (to.generation == n) ≡ true) same (same_number to.generation)))
+  by true false driver number = other_id g id r to (λ same. clash (sym number ∙ subst (λ (n : ℕ). (r.id == n) ≡ true) same (same_number r.id)))
+  by true true driver number =
+      let same_driver : to.generation ≡ g = grind (arith, nat_tests, driver) in
+      let same_id : r.id ≡ id = grind (arith, nat_tests, number) in
+      absurd (clash (sym new ∙ (ap (λ (n : ℕ). is_issued_to n r.id old) same_driver ∙ ap (λ (n : ℕ). is_issued_to g n old) same_id) ∙ was))
+
+-- what is done within an event issues nothing again
+pub adds_issues : (c a : Core) (marks group old : List Mark) → Adds c marks a → c.disks.media.generation ≡ c.watch.generation → StartsNew c.watch.generation (group ++ old)
+    → AreNewOrFirst (marks ++ group) old → (g id : ℕ) → is_issued_to g id (group ++ old) ≡ true → is_issued_to g id marks ≡ false
+adds_issues c _ _ group old AddsNothing last new ok g id was = refl
+adds_issues c _ _ group old (Posts r to d lines) last new ok g id was =
+    let to_last : to.generation ≡ c.watch.generation = (posted_there to r c.disks d (Ok tt) lines refl).1 ∙ last in
+    post_issues g id r to (group ++ old)
+    (subst (λ (n : ℕ). is_issued_to n r.id (group ++ old) ≡ false) (sym to_last) (not_issued_yet (group ++ old) c.watch.generation r ok.0 new)) was
+adds_issues c _ _ group old (Replies who now call answer) last new ok g id was = refl
+adds_issues c _ _ group old (Complains about ends after report) last new ok g id was = blame_issues ends about g id
+adds_issues c _ _ group old (Pays owed) last new ok g id was = refl
