@@ -1,5 +1,5 @@
 -- Which requests marks issue, and that none is issued to a driver twice.
-use Rattle.std.proofs.Common.{◌≡◌, ℕ, zero, suc, ◌+◌, ◌<◌, ◌≤◌, List, [], ◌∷◌, ◌++◌, Bool, true, false, refl, sym, ◌∙◌, ap, subst, arith}
+use Rattle.std.proofs.Common.{◌≡◌, ℕ, ◌+◌, ◌<◌, ◌≤◌, List, [], ◌∷◌, ◌++◌, Bool, true, false, refl, sym, ◌∙◌, ap, subst, arith}
 use Rattle.std.proofs.lemmas.Bool.Decides.{nat_tests}
 use Rattle.std.specs.Prelude.{◌&&◌, ◌||◌, ◌==◌, nat_lt, max, not, Option, Some, None, Result, Ok}
 use Rattle.endpoint.specs.declared.Endpoint.{Endpoint}
@@ -243,8 +243,7 @@ new_of_placed groups (Flush ∷ group) before h = new_of_placed groups group bef
 new_of_placed groups (GaveUp ∷ group) before h = new_of_placed groups group before h
 new_of_placed groups (Took who now call answer ∷ group) before h = new_of_placed groups group before h
 new_of_placed groups (Issued r to ∷ group) before h =
-    let may : may_issue groups r to (group ++ before) ≡ true = and_left (may_issue groups r to (group ++ before)) (are_issued_in_place groups group before) h in
-    (
+    let may : may_issue groups r to (group ++ before) ≡ true = and_left (may_issue groups r to (group ++ before)) (are_issued_in_place groups group before) h in (
       and_right (is_live to.generation groups && not (gave_up (group ++ before))) (is_new_or_first r (group ++ before)) may,
       new_of_placed groups group before (and_right (may_issue groups r to (group ++ before)) (are_issued_in_place groups group before) h),
     )

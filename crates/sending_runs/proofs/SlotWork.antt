@@ -1,15 +1,14 @@
 -- What a driver that lives works on was issued to it, and has no more sectors moved than the driver made steps for it.
-use Rattle.std.proofs.Common.{◌≡◌, ℕ, zero, suc, ◌+◌, ◌*◌, ◌<◌, ◌≤◌, List, [], ◌∷◌, ◌++◌, length, Bool, true, false, refl, sym, ◌∙◌, ap, subst, arith, ◌⊎◌, inl, inr}
+use Rattle.std.proofs.Common.{◌≡◌, ℕ, ◌+◌, ◌*◌, ◌<◌, ◌≤◌, List, [], ◌∷◌, ◌++◌, length, Bool, true, false, refl, sym, ◌∙◌, ap, subst, arith, inl, inr}
 use Rattle.std.specs.Prelude.{Option, Some, None, IfSome, IsSomeAnd}
 use Rattle.message.specs.declared.BlockRequest.{BlockRequest}
 use Rattle.media.specs.Contents.{MediaState}
 use Rattle.bdev.specs.declared.Accept.{Accept}
 use Rattle.bdev.specs.declared.Accept.TheVariants.{Taken, Busy, Old}
-use Rattle.bdev.specs.declared.Answer.{Answer}
 use Rattle.bdev.specs.declared.Step.{Step}
 use Rattle.bdev.specs.declared.Step.TheVariants.{Working, Idle, Done, Failed}
 use Rattle.bdev.specs.DriverState.{DriverState, Work, plan}
-use Rattle.bdev.specs.Promises.{IsDriver, requests_in_work, AcceptKeeps, StepKeeps, StepsAt, MovesAtMostOne, MovesNothing, MovesSector, EndsBy}
+use Rattle.bdev.specs.Promises.{IsDriver, requests_in_work, AcceptKeeps, StepKeeps, StepsAt, MovesAtMostOne, EndsBy}
 use Rattle.marks.specs.Marks.{Mark}
 use Rattle.schedule.specs.declared.Sent.{Sent}
 use Rattle.schedule.specs.declared.Event.TheVariants as event

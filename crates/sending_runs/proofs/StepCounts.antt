@@ -6,7 +6,7 @@ use Rattle.std.specs.Prelude.{◌&&◌, ◌||◌, ◌==◌, drop, map, Option, S
 use Rattle.errno.specs.declared.Errno.{Errno}
 use Rattle.bdev.specs.declared.Run.{Run}
 use Rattle.bdev.specs.DriverState.{Work}
-use Rattle.bdev.specs.Promises.{MayAnswer, IsMoved}
+use Rattle.bdev.specs.Promises.{MayAnswer}
 use Rattle.marks.specs.Marks.{Mark}
 use Rattle.schedule.specs.declared.Sent.{Sent}
 use Rattle.schedule.specs.declared.Event.{Event}
@@ -14,7 +14,7 @@ use Rattle.schedule.specs.declared.Event.TheVariants as event
 use Rattle.schedule.specs.Groups.{Group, event_of, schedule_of, first_groups, Each}
 use Rattle.schedule.specs.Drivers.{is_issued_to}
 use Rattle.schedule.specs.Replies.{has_sent_at, is_step_of, steps_for, bytes_of}
-use Rattle.justifying.proofs.FollowLaws.{same_number, other_number}
+use Rattle.justifying.proofs.FollowLaws.{same_number}
 
 -- the replies sent at this event or later
 abbrev pub AreLater : ℕ → List Sent → Type 0
