@@ -1,19 +1,20 @@
 -- All that justifies a run, put together.
-use Rattle.std.proofs.Common.{◌≡◌, ℕ, ◌+◌, ◌≤◌, List, [], ◌∷◌, ◌++◌, length, Bool, true, false, cond, refl, sym, ◌∙◌, ap, subst, arith}
-use Rattle.std.specs.Prelude.{◌⊎◌, inl, inr, ◌&&◌, not, ◌==◌, Option, Some, None, IfSome}
+use Rattle.std.proofs.Common.{◌≡◌, ℕ, ◌+◌, ◌≤◌, List, [], ◌∷◌, ◌++◌, length, Bool, true, false, cond, inl, inr, refl, sym, ◌∙◌, ap, subst, arith}
+use Rattle.std.specs.Prelude.{◌⊎◌, ◌&&◌, not, ◌==◌, Option, Some, None, IfSome}
 use Rattle.endpoint.specs.declared.Endpoint.{Endpoint}
 use Rattle.message.specs.declared.BlockRequest.{BlockRequest}
 use Rattle.bdev.specs.DriverState.{DriverState, Work}
 use Rattle.bdev.specs.Promises.{requests_in_work}
 use Rattle.policy.specs.declared.Policy.{Policy}
 use Rattle.marks.specs.Marks.{Mark}
+use Rattle.marks.specs.Open.{IsWellFormed}
 use Rattle.marks.specs.Acts.{Outbox, MayPost}
 use Rattle.schedule.specs.declared.Sent.{Sent}
 use Rattle.schedule.specs.declared.Event.{Event}
 use Rattle.schedule.specs.Groups.{Group, marks_of, running, generation, Each, EachGroup}
 use Rattle.schedule.specs.Faults.{ExitsOfGroup, HasNotFailed}
 use Rattle.schedule.specs.Starts.{GivingUpOfGroup}
-use Rattle.schedule.specs.Calls.{CallsSoFar}
+use Rattle.schedule.specs.Calls.{CallsSoFar, taken}
 use Rattle.schedule.specs.Justified.{AnswersAndFlushes, GroupKeeps}
 use Rattle.driver_events.specs.Disks.{is_at}
 use Rattle.playing.specs.Moments.{Moment, Resting, Runs, record_of}
@@ -26,10 +27,11 @@ use Rattle.issuing_runs.specs.Issuing.{PlacedAsDue, FollowedAsDue}
 use Rattle.issuing_runs.specs.Issuing as issuing
 use Rattle.issuing_runs.proofs.PlaceLaws.{runs_keep_places, runs_end_followed, runs_keep_room}
 use Rattle.acting_runs.specs.Acting.{ActsAsDue}
-use Rattle.acting_runs.proofs.ActLaws.{runs_keep_acts, runs_keep_waits}
+use Rattle.acting_runs.proofs.ActLaws.{runs_keep_acts}
+use Rattle.acting_runs.proofs.LeavingLaws.{runs_keep_waits}
 use Rattle.taking_runs.specs.Took as taking
 use Rattle.taking_runs.proofs.TookLaws.{runs_keep_took, runs_keep_replies}
-use Rattle.sending_runs.proofs.StepLaws.{runs_keep_steps}
+use Rattle.sending_runs.proofs.RunLaws.{runs_keep_steps}
 use Rattle.whole_runs.specs.Whole.{IsUnused, IsAtEnd, RunsAreWhole}
 
 -- each of these keeps what follows from what it keeps
@@ -94,23 +96,27 @@ runs_are_whole media rules supply events minor b a new unused o rests none runs 
     runs_show_events media rules supply events minor b a new unfailed o rests (ap (λ (x : Outbox). x.complaint) none) runs end.calm end.paid in
     let places : EachGroup PlacedAsDue groups = runs_keep_places media rules supply events minor b a new unfailed o rests none runs in
     let calls : EachGroup (λ event group earlier. CallsSoFar ((event, group) ∷ earlier)) groups =
-    runs_keep_waits media rules supply events minor b a new unfailed o rests none runs
+    runs_keep_waits media rules supply events minor b a new o rests none runs
     (λ m before to r may at. runs_keep_room media rules supply events minor b m new unfailed idle o rests none before to r may at) end.ends in
+    let formed : IsWellFormed (marks_of groups) = subst IsWellFormed (sym e.record_is) end.well_formed in
     record {
-      events = all_keep rules (length supply) a.play.scene.disks.sent drivers groups e.exits e.hung e.complaints e.starts e.giving_up
-          (runs_end_followed media rules supply events minor b a new unfailed o rests none runs (rests_or_over a end.ends)) places e.answers calls
-          (runs_keep_acts media rules supply events minor b a o rests runs);
-      drivers_stand = record {
-        all = subst (λ (m : List Mark). length drivers ≡ generation m) (sym e.record_is) e.all;
-        handed_in = e.handed_in;
-        took = runs_keep_took media rules supply events minor b a new ready o rests runs;
-        sound = subst (λ (m : List Mark). HasNotFailed drivers (running m)) (sym e.record_is) e.sound;
-        failures = e.failures;
+      record_is = e.record_is;
+      justified = record {
+        events = all_keep rules (length supply) a.play.scene.disks.sent drivers groups e.exits e.hung e.complaints e.starts e.giving_up
+            (runs_end_followed media rules supply events minor b a new unfailed o rests none runs (rests_or_over a end.ends)) places e.answers calls
+            (runs_keep_acts media rules supply events minor b a o rests runs);
+        drivers_stand = record {
+          all = subst (λ (m : List Mark). length drivers ≡ generation m) (sym e.record_is) e.all;
+          handed_in = e.handed_in;
+          took = runs_keep_took media rules supply events minor b a new ready o rests runs;
+          sound = subst (λ (m : List Mark). HasNotFailed drivers (running m)) (sym e.record_is) e.sound;
+          failures = e.failures;
+        };
+        replies_stand = record {
+          order = e.replies_order;
+          steps = runs_keep_steps media rules supply events minor b a new (each_so IsUnused _ (λ d h. h.fresh) supply unused) o rests runs places;
+          own = runs_keep_replies media rules supply events minor b a new ready o rests runs places formed;
+        };
+        calls_left = record { left = left; order = order ∙ ap (λ (m : List Mark). left ++ taken m) (sym e.record_is); number = refl };
       };
-      replies_stand = record {
-        order = e.replies_order;
-        steps = runs_keep_steps media rules supply events minor b a new (each_so IsUnused _ (λ d h. h.fresh) supply unused) o rests runs places;
-        own = runs_keep_replies media rules supply events minor b a new ready o rests runs places end.well_formed;
-      };
-      calls_left = record { left = left; order = order; number = refl };
     }

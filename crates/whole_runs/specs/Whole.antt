@@ -11,7 +11,8 @@ use Rattle.schedule.specs.declared.Event.{Event}
 use Rattle.schedule.specs.Groups.{marks_of, Each}
 use Rattle.schedule.specs.Calls.{Arrival, arrived, taken}
 use Rattle.schedule.specs.Justified.{Justified}
-use Rattle.playing.specs.PlayView.{IsOpened}
+use Rattle.run_log.specs.Noted.{marks_in}
+use Rattle.playing.specs.PlayView.{Play, IsOpened}
 use Rattle.playing.specs.Moments.{Moment, Resting, Runs}
 use Rattle.justifying.specs.Steady.{drivers_of}
 
@@ -26,7 +27,12 @@ pub record IsAtEnd (m : Moment) : Type 0 where
   pub calm : m.outbox.complaint ≡ None
   pub paid : m.play.owed ≡ false
   pub ends : ((m.doing ≡ Resting) × (m.play.queue ≡ [])) ⊎ (m.play.over ≡ true)
-  pub well_formed : IsWellFormed (marks_of m.play.scene.noted.groups)
+  pub well_formed : IsWellFormed (marks_in m.play.scene.noted)
+
+-- a run is justified whose record is that of its groups; so many calls are left
+pub record IsWhole (rules : Policy) (supply : List DriverState) (p : Play) (unanswered : ℕ) : Type 0 where
+  pub record_is : marks_of p.scene.noted.groups ≡ marks_in p.scene.noted
+  pub justified : Justified rules supply p.scene.noted.groups p.scene.disks.sent (drivers_of p.scene.disks) unanswered
 
 -- A run from its opening, over drivers that were never used, by a server that owes its link nothing then: at its end it is justified. The
 -- calls left are those that arrived after those that were taken.
@@ -35,5 +41,4 @@ RunsAreWhole =
     (media : MediaState) (rules : Policy) (supply : List DriverState) (events : List Event) (minor : ℕ) (b a : Moment)
     → media.generation ≡ 0 → Each IsUnused supply → IsOpened media rules (new_watch (length supply)) supply events b.play
     → b.doing ≡ Resting → b.outbox ≡ empty_outbox → Runs minor b a → IsAtEnd a
-    → (left : List Arrival) → arrived a.play.scene.noted.groups ≡ left ++ taken (marks_of a.play.scene.noted.groups)
-    → Justified rules supply a.play.scene.noted.groups a.play.scene.disks.sent (drivers_of a.play.scene.disks) (length left)
+    → (left : List Arrival) → arrived a.play.scene.noted.groups ≡ left ++ taken (marks_in a.play.scene.noted) → IsWhole rules supply a.play (length left)

@@ -1,38 +1,42 @@
 -- From a schedule that was played out to what is shown of the run.
-use Rattle.std.proofs.Common.{◌≡◌, cond, ℕ, suc, ◌+◌, ◌-◌, ◌<◌, ◌≤◌, List, [], ◌∷◌, ◌++◌, Bool, true, false, length, refl, sym, ◌∙◌, ap, subst, arith, Result, Ok, Err, IfOk}
+use Rattle.std.proofs.Common.{◌≡◌, cond, inl, inr, ℕ, suc, ◌+◌, ◌-◌, ◌<◌, ◌≤◌, List, [], ◌∷◌, ◌++◌, Bool, true, false, length, refl, sym, ◌∙◌, ap, subst, arith, Result, Ok, Err, IfOk}
 use Rattle.std.specs.List.{concat}
 use Rattle.layout.specs.declared.Geometry.{Geometry}
 use Rattle.tree.specs.Tree.{Tree}
-use Rattle.std.specs.Prelude.{map, not, ◌&&◌, ◌==◌, None, Some}
-use Rattle.bdev.specs.DriverState.{DriverState, range_while_fresh, range_of as range_of_driver}
+use Rattle.std.specs.Prelude.{map, All, ◌⊎◌, None, Some}
+use Rattle.bdev.specs.DriverState.{DriverState, is_fresh, range_while_fresh, range_of as range_of_driver}
 use Rattle.media.specs.Contents.{IsWhole, MediaState, sectors_of}
 use Rattle.policy.specs.declared.Policy.{Policy}
 use Rattle.policy.specs.declared.Setup.{Setup}
 use Rattle.policy.specs.Watch.{Watch, driver, new_watch}
 use Rattle.marks.specs.Marks.{Mark, Started}
 use Rattle.marks.specs.Opening.{Opening, Range, contents_at}
+use Rattle.marks.specs.Open.{IsWellFormed}
 use Rattle.marks.specs.Told.{took_end}
+use Rattle.legal.specs.ServerCall.{Serving}
+use Rattle.inline.specs.Inline.{IsReady}
 use Rattle.true_replies.specs.Events.{IsOnMedia}
 use Rattle.startup.specs.Starting.{opening_of}
 use Rattle.reissue.specs.declared.link.Link.{Ghosts as LinkWords}
 use Rattle.schedule.specs.declared.Event.{Event}
 use Rattle.schedule.specs.declared.Sent.{Sent}
 use Rattle.schedule.specs.Groups.{Each}
-use Rattle.schedule.specs.Calls.{taken}
+use Rattle.schedule.specs.Justified.{Justified}
 use Rattle.schedule.specs.Headline.{Transcript}
 use Rattle.run_log.specs.Noted.{Noted, marks_in}
 use Rattle.driver_events.specs.Scene.{Scene}
 use Rattle.playing.specs.declared.playing.Playing.{Playing}
 use Rattle.playing.specs.PlayView.{Play, IsOpened, left_of, unless_told, work_left}
-use Rattle.playing.specs.Moments.{Resting}
+use Rattle.playing.specs.Moments.{Doing, Resting, Hearing, Answering}
 use Rattle.justifying.specs.Steady.{drivers_of}
-use Rattle.justified_runs.specs.Shown.{EventsJustified}
-use Rattle.justified_runs.proofs.ShownLaws.{runs_show_events}
+use Rattle.whole_runs.specs.Whole.{IsUnused, IsAtEnd}
+use Rattle.whole_runs.specs.Whole.{IsWhole as IsWholeRun}
+use Rattle.whole_runs.proofs.WholeLaws.{runs_are_whole}
 use Rattle.reincarnate.specs.declared.SupplyRefusal.{SupplyRefusal}
 use Rattle.reincarnate.specs.Supply.{ReincarnationState, NewAnswers}
 use Rattle.file_server.specs.Over.{Hears}
-use Rattle.rounds.specs.Ends.{RunHolds}
-use Rattle.rounds.specs.Starts.{IsBeforeFirst, StandsFromFirst}
+use Rattle.rounds.specs.Ends.{RunHolds, RunStands, EndsIn}
+use Rattle.rounds.specs.Starts.{IsBeforeFirst, at_first}
 use Rattle.rounds.specs.Runs.{moment}
 use Rattle.run_shown.specs.Shows.{Shows}
 use Rattle.run_shown.proofs.Showing.{runs_are_shown}
@@ -85,20 +89,29 @@ few_left true told n o t few = absurd (let y : ⊥ = cc in y)
 few_left false true n o t few = absurd (let y : ⊥ = cc in y)
 few_left false false n o t few = omega (arith, few)
 
--- a driver that is ready hasn't failed
-not_failed : (d : DriverState) (minor : ℕ) (range : ℕ × ℕ) → range_while_fresh d minor ≡ Some range → d.failed ≡ false
-not_failed d minor range ready = by (d.last == 0) d.failed refl ready where
-  by : (fresh failed : Bool) → d.failed ≡ failed → cond (fresh && not failed) (range_of_driver d.ranges minor) None ≡ Some range → d.failed ≡ false
-  by fresh false is h = is
-  by true true is h = absurd (let y : ⊥ = cc in y)
-  by false true is h = absurd (let y : ⊥ = cc in y)
+-- a driver that is ready was never used
+fresh_while : (d : DriverState) (minor : ℕ) (range : ℕ × ℕ) → range_while_fresh d minor ≡ Some range → is_fresh d ≡ true
+fresh_while d minor range ready = by (is_fresh d) refl ready where
+  by : (fresh : Bool) → is_fresh d ≡ fresh → cond fresh (range_of_driver d.ranges minor) None ≡ Some range → is_fresh d ≡ true
+  by true is h = is
+  by false is h = absurd (let y : ⊥ = cc in y)
 
-none_failed : (minor : ℕ) (range : Range) (supply : List DriverState) → Each (λ d. range_while_fresh d minor ≡ Some (range.first, range.count)) supply
-    → Each (λ d. d.failed ≡ false) supply
-none_failed minor range [] ready = tt
-none_failed minor range (d ∷ supply) ready = (not_failed d minor (range.first, range.count) ready.0, none_failed minor range supply ready.1)
+unused_one : (v : Opening) (d : DriverState) → IsReady v d → IsUnused d
+unused_one v d ready = record { driver = ready.driver; fresh = fresh_while d v.minor (v.first, v.count) ready.ready }
+
+pub all_unused : (v : Opening) (supply : List DriverState) → All (IsReady v) supply → Each IsUnused supply
+all_unused v [] ready = tt
+all_unused v (d ∷ supply) ready =
+    (unused_one v d (ready 0 d (omega arith)), all_unused v supply (λ k x below. ready (suc k) x (omega (arith, below))))
 
 -- ---- at the end
+
+-- the server rests and no call waits, or its link has ended
+ends_so : (s : Serving) (p : Play) (last : Doing) → EndsIn last s p
+    → (((moment s p last).doing ≡ Resting) × (p.queue ≡ [])) ⊎ (p.over ≡ true)
+ends_so s p Resting ends = inl (refl, ends.2)
+ends_so s p (Hearing message) ends = absurd ends
+ends_so s p (Answering call) ends = inr ends.1
 
 module _ {L : Type 0} (words : LinkWords L) (play : L → Play) (link : L) (image : List ℕ) (setup : Setup) (supply : List DriverState) (events : List Event)
     (range : ℕ × ℕ) (g : Geometry) (tree : Tree) (frames : ℕ) (s : Server (Stored L)) (t : Transcript) where
@@ -110,43 +123,52 @@ module _ {L : Type 0} (words : LinkWords L) (play : L → Play) (link : L) (imag
 
   -- what is shown of it
   pub run_shows : (media : MediaState) → media.generation ≡ 0 → IsOpened media setup.policy (new_watch (length supply)) supply events (play link)
-      → IsBegun image setup supply (range_of range) g tree → IsOnMedia v → words.truth link v (Started (driver 1) ∷ [])
+      → IsBegun image setup supply (range_of range) g tree → Each IsUnused supply → IsOnMedia v → words.truth link v (Started (driver 1) ∷ [])
       → IsFresh events (length (sectors_of image)) (play link) → PlaysFrom words play link setup.minor g frames s t.unanswered
       → IsWhole last.scene.disks.media.sectors → t.marks ≡ marks_in last.scene.noted → t.frames ≡ frames_in s
       → t.sent ≡ last.scene.disks.sent → t.drivers ≡ drivers_of last.scene.disks → t.image ≡ concat last.scene.disks.media.sectors → RunShows image setup supply events t
-  run_shows media none_started opened begun on truth new from whole marks frames_are sent drivers bytes =
+  run_shows media none_started opened begun unused on truth new from whole marks frames_are sent drivers bytes =
       let hears : Hears (serving_over words from.before) (words.truth link) v tree [] (Started (driver 1) ∷ []) = record {
         minor = sym from.opened.minor_is;
         serves = from.opened.serves (contents_at v) tree begun.at_first;
         truth = truth;
       } in
-      let x : StandsFromFirst (serving_over words from.before).geometry (frames_in s) (serving_over words from.before).minor v tree (play link)
-      (moment (serving_over words s) last from.plays.last) t.unanswered = from.plays.holds v tree hears in
+      let x : RunStands (serving_over words from.before).geometry (frames_in s) (serving_over words from.before).minor v tree (at_first (play link))
+      (moment (serving_over words s) last from.plays.last) t.unanswered = from.plays.holds v tree from.opened.outbox hears in
       let holds : RunHolds g (frames_in s) v tree last.scene t.unanswered =
-      subst (λ (h : Geometry). RunHolds h (frames_in s) v tree last.scene t.unanswered) from.opened.geometry x.stands.holds in
-      let events_are : EventsJustified setup.policy supply last.scene.noted.groups (marks_in last.scene.noted) last.scene.disks.sent (drivers_of last.scene.disks) =
-      runs_show_events media setup.policy supply events (serving_over words from.before).minor (record { play = play link; outbox = x.outbox; doing = Resting })
-      (moment (serving_over words s) last from.plays.last) none_started (none_failed setup.minor (range_of range) supply begun.accepted.setup.ready)
-      opened refl x.calm x.stands.runs x.stands.calm from.plays.spent.paid in
+      subst (λ (h : Geometry). RunHolds h (frames_in s) v tree last.scene t.unanswered) from.opened.geometry x.holds in
       let shows : Shows g v tree t = runs_are_shown g (frames_in s) v tree last.scene t on
       (record { marks = marks; frames_are = frames_are; image = bytes; whole = whole; number = from.plays.sectors ∙ new.sectors_are }) holds in
+      let end : IsAtEnd (moment (serving_over words s) last from.plays.last) = record {
+        calm = x.calm;
+        paid = from.plays.spent.paid;
+        ends = ends_so (serving_over words s) last from.plays.last from.plays.ends;
+        well_formed = subst IsWellFormed marks shows.replies.well_formed;
+      } in
+      let w : IsWholeRun setup.policy supply last (length from.plays.left) =
+      runs_are_whole media setup.policy supply events (serving_over words from.before).minor (at_first (play link))
+      (moment (serving_over words s) last from.plays.last) none_started unused opened refl refl x.runs end from.plays.left from.plays.order in
       record {
         range = range_of range;
         geometry = g;
         tree = tree;
         begun = begun;
-        replies = shows.replies;
-        media = shows.media;
-        played = record {
-          groups = last.scene.noted.groups;
-          schedule = from.plays.schedule ∙ new.events_are;
-          justified = subst (λ (l : List Mark). EventsJustified setup.policy supply last.scene.noted.groups l t.sent t.drivers) (sym marks)
-              (subst (λ (l : List Sent). EventsJustified setup.policy supply last.scene.noted.groups (marks_in last.scene.noted) l t.drivers) (sym sent)
-              (subst (λ (l : List DriverState). EventsJustified setup.policy supply last.scene.noted.groups (marks_in last.scene.noted) last.scene.disks.sent l)
-              (sym drivers) events_are));
-          left = from.plays.left;
-          order = from.plays.order ∙ ap (λ (m : List Mark). from.plays.left ++ taken m) (sym marks);
-          number = from.plays.number;
+        headline = record {
+          geometry = g;
+          parsed = begun.parsed;
+          tree = tree;
+          at_first = begun.at_first;
+          replies = shows.replies;
+          media = shows.media;
+          justified = record {
+            groups = last.scene.noted.groups;
+            schedule = from.plays.schedule ∙ new.events_are;
+            record_is = w.record_is ∙ sym marks;
+            justified = subst (λ (l : List Sent). Justified setup.policy supply last.scene.noted.groups l t.drivers t.unanswered) (sym sent)
+                (subst (λ (l : List DriverState). Justified setup.policy supply last.scene.noted.groups last.scene.disks.sent l t.unanswered) (sym drivers)
+                (subst (λ (n : ℕ). Justified setup.policy supply last.scene.noted.groups last.scene.disks.sent (drivers_of last.scene.disks) n)
+                (sym from.plays.number) w.justified));
+          };
         };
       }
 

@@ -3,43 +3,27 @@ use Rattle.std.specs.Prelude.{◌≡◌, ℕ, List, ◌++◌, length, false}
 use Rattle.layout.specs.declared.Geometry.{Geometry}
 use Rattle.tree.specs.Tree.{Tree}
 use Rattle.bdev.specs.DriverState.{DriverState}
-use Rattle.policy.specs.declared.Policy.{Policy}
 use Rattle.policy.specs.declared.Setup.{Setup}
-use Rattle.marks.specs.Opening.{Range, volume_in}
+use Rattle.marks.specs.Opening.{Range}
 use Rattle.legal.specs.Mount.{OpenKeeps}
 use Rattle.reissue.specs.declared.link.Link.{Ghosts as LinkWords}
 use Rattle.schedule.specs.declared.Event.{Event}
-use Rattle.schedule.specs.Groups.{Group, schedule_of}
-use Rattle.schedule.specs.Calls.{Arrival, arrived, taken}
-use Rattle.schedule.specs.Headline.{Transcript, RepliesHold, MediaHold}
+use Rattle.schedule.specs.Headline.{Transcript, Headline}
 use Rattle.playing.specs.PlayView.{Play}
-use Rattle.justified_runs.specs.Shown.{EventsJustified}
 use Rattle.rounds.specs.Starts.{IsBeforeFirst, PlaysAll}
 use Rattle.stored.specs.declared.Stored.{Stored}
 use Rattle.vfs.specs.declared.server.Server.{Server}
 use Rattle.vfs.specs.OverLink.{line_of, serving_over}
 use Rattle.run_start.specs.Beginning.{IsBegun}
 
--- The schedule was played, event by event: the record can be cut into groups, one for each event, of which this is justified. The calls that
--- arrived in it are those that were answered, in their order, and so many that came later.
-pub record IsPlayed (policy : Policy) (supply : List DriverState) (events : List Event) (t : Transcript) : Type 0 where
-  pub groups : List Group
-  pub schedule : schedule_of groups ≡ events
-  pub justified : EventsJustified policy supply groups t.marks t.sent t.drivers
-  pub left : List Arrival
-  pub order : arrived groups ≡ left ++ taken t.marks
-  pub number : t.unanswered ≡ length left
-
--- A run that was begun on an image: the volume in this range held this tree at first, without an open file. The replies are those of that
--- tree, the media hold what the record says, and the schedule was played.
+-- A run that was begun on an image: the volume in this range was checked, and held this tree at first, without an open file. The headline
+-- holds of it: its replies are those of that tree, the media hold what the record says, and the schedule justifies it, event by event.
 pub record RunShows (image : List ℕ) (setup : Setup) (supply : List DriverState) (events : List Event) (t : Transcript) : Type 0 where
   pub range : Range
   pub geometry : Geometry
   pub tree : Tree
   pub begun : IsBegun image setup supply range geometry tree
-  pub replies : RepliesHold geometry (volume_in range image) tree t
-  pub media : MediaHold range image t
-  pub played : IsPlayed setup.policy supply events t
+  pub headline : Headline setup.policy supply range image events t
 
 -- A server that was opened over this link, with so many frames, has played the schedule out; so many calls are left.
 pub record PlaysFrom {L : Type 0} (words : LinkWords L) (play : L → Play) (link : L) (minor : ℕ) (g : Geometry) (frames : ℕ) (s : Server (Stored L)) (unanswered : ℕ) : Type 0 where

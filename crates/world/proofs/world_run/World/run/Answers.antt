@@ -6,7 +6,7 @@ use Rattle.world.specs.Plays.{IsFresh}
 use Rattle.media.specs.Contents.{MediaState}
 use Rattle.startup.specs.Starting.{opening_of}
 use Rattle.playing.specs.PlayView.{play_of}
-use Rattle.world.proofs.Showing.{little_work, none_ended, run_shows, small_budget, whole_there}
+use Rattle.world.proofs.Showing.{all_unused, little_work, none_ended, run_shows, small_budget, whole_there}
 use Rattle.world.proofs.world_run.World.run.Goals as goal
 
 pub overflow_cast-frames : goal.overflow_cast-frames
@@ -44,5 +44,5 @@ returns-clause-shows g c =
     c.in-Ok.ensures.fresh in
     run_shows _ _ c.in-Ok.link image setup (map state c.args.supply.items) events range geometry tree _ c.in-Ok-play_over.server _
     c.in_ok-prepared.prepared.media (ap (λ (m : MediaState). m.generation) c.in_ok-prepared.ensures.contents) c.in-Ok.ensures.opened begun
-    c.in_ok-prepared.ensures.on_media (c.in-Ok.ensures.truth v c.in_ok-prepared.ensures.on_media c.in_ok-prepared.ensures.contents ready) new
+    (all_unused v (map state c.args.supply.items) ready) c.in_ok-prepared.ensures.on_media (c.in-Ok.ensures.truth v c.in_ok-prepared.ensures.on_media c.in_ok-prepared.ensures.contents ready) new
     c.in-Ok-play_over.ensures (whole_there _ _ c.link.ensures c.are_whole.ensures) refl refl refl refl refl
