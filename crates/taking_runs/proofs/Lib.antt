@@ -1,2 +1,5 @@
 pub mod Moves
 pub mod IssuedLaws
+pub mod EachDriver
+pub mod DriverMoves
+pub mod HoldingLaws
