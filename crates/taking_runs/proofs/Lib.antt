@@ -3,3 +3,4 @@ pub mod IssuedLaws
 pub mod EachDriver
 pub mod DriverMoves
 pub mod HoldingLaws
+pub mod TakingLaws
