@@ -4,3 +4,5 @@ pub mod EachDriver
 pub mod DriverMoves
 pub mod HoldingLaws
 pub mod TakingLaws
+pub mod InPlace
+pub mod Answering

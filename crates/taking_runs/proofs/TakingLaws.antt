@@ -76,7 +76,7 @@ new_idle d new = record { work = by d.work refl; bad = none } where
   by None is = is
   by (Some w) is = absurd (clash d.last (subst (λ (o : Option Work). d.bad + requests_in_work o ≤ d.last) is new.driver.bad_is_few) new.unused)
 
-taken_first : (d : DriverState) → IsNew d → Taken [] [] d []
+pub taken_first : (d : DriverState) → IsNew d → Taken [] [] d []
 taken_first d new = record {
   last = ap (λ (n : ℕ). (n == 0) || false) new.unused;
   work = subst (λ (o : Option Work). IfSome o (λ w. (w.request.id ≡ d.last) × IsIn w.request [])) (sym (new_idle d new).work) tt;
@@ -91,7 +91,7 @@ pub some_if : (o : Option Work) (P Q : Work → Type 0) → ((w : Work) → P w 
 some_if None P Q on h = tt
 some_if (Some w) P Q on h = on w h
 
-taken_hands : (issued : List BlockRequest) (replies : List BlockReply) (b a : DriverState) (line left : List BlockRequest) → Handing b a line left
+pub taken_hands : (issued : List BlockRequest) (replies : List BlockReply) (b a : DriverState) (line left : List BlockRequest) → Handing b a line left
     → Taken issued replies b line → Taken issued replies a left
 taken_hands issued replies b a line _ (Leaves _ is) h = taken_as issued replies b a line is h
 taken_hands issued replies b a _ _ (IsOld q rest low is) h =
@@ -103,7 +103,7 @@ taken_hands issued replies b a _ _ (IsTaken q rest none above takes) h = record 
   waits = h.waits.1;
 }
 
-taken_steps : (issued : List BlockRequest) (replies : List BlockReply) (line : List BlockRequest) (g : ℕ) (b a : DriverState) (answers : List BlockReply)
+pub taken_steps : (issued : List BlockRequest) (replies : List BlockReply) (line : List BlockRequest) (g : ℕ) (b a : DriverState) (answers : List BlockReply)
     → Stepping g b a answers → Taken issued replies b line → Taken issued (replies ++ answers) a line
 taken_steps issued replies line g b a _ (Idles was now last bad) h = record {
   last = ap (λ (n : ℕ). (n == 0) || has_id n issued) last ∙ h.last;
@@ -124,15 +124,15 @@ taken_steps issued replies line g b a _ (Ends w answer was now id last bad) h = 
   waits = h.waits;
 }
 
-pub each_push : (P : BlockRequest → Type 0) (line : List BlockRequest) (r : BlockRequest) → P r → Each P line → Each P (line ++ r ∷ [])
+pub each_push : {A : Type 0} (P : A → Type 0) (line : List A) (r : A) → P r → Each P line → Each P (line ++ r ∷ [])
 each_push P [] r is h = (is, tt)
 each_push P (q ∷ line) r is h = (h.0, each_push P line r is h.1)
 
-pub each_on : (P Q : BlockRequest → Type 0) (line : List BlockRequest) → ((r : BlockRequest) → P r → Q r) → Each P line → Each Q line
+pub each_on : {A : Type 0} (P Q : A → Type 0) (line : List A) → ((r : A) → P r → Q r) → Each P line → Each Q line
 each_on P Q [] on h = tt
 each_on P Q (q ∷ line) on h = (on q h.0, each_on P Q line on h.1)
 
-taken_again : (issued : List BlockRequest) (replies : List BlockReply) (d : DriverState) (line : List BlockRequest) (r : BlockRequest) → IsIn r issued
+pub taken_again : (issued : List BlockRequest) (replies : List BlockReply) (d : DriverState) (line : List BlockRequest) (r : BlockRequest) → IsIn r issued
     → Taken issued replies d line → Taken issued replies d (line ++ r ∷ [])
 taken_again issued replies d line r is h = record { last = h.last; work = h.work; waits = each_push (λ q. IsIn q issued) line r is h.waits }
 
