@@ -6,3 +6,6 @@ pub mod HoldingLaws
 pub mod TakingLaws
 pub mod InPlace
 pub mod Answering
+pub mod Leading
+pub mod Counting
+pub mod ReplyLaws
