@@ -1,0 +1,11 @@
+pub mod Moves
+pub mod IssuedLaws
+pub mod EachDriver
+pub mod DriverMoves
+pub mod HoldingLaws
+pub mod TakingLaws
+pub mod InPlace
+pub mod Answering
+pub mod Leading
+pub mod Counting
+pub mod ReplyLaws
