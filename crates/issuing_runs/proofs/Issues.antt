@@ -11,11 +11,11 @@ use Rattle.message.specs.declared.Incoming.TheVariants as incoming
 use Rattle.bdev.specs.DriverState.{DriverState}
 use Rattle.policy.specs.Watch.{Phase, Waiting, driver}
 use Rattle.marks.specs.Marks.{Mark, Started, Answered, Flush, GaveUp, Issued, gave_up, last_started}
-use Rattle.marks.specs.Open.{greatest, open_requests, counts, has_none, IsIn}
+use Rattle.marks.specs.Open.{greatest, open_requests, counts, has_none, without_id, IsIn}
 use Rattle.marks.specs.Laws.{AllAbove, IsRising}
 use Rattle.marks.specs.Acts.{Outbox, MayBegin, MayPost, IsAtRest, target, is_post_due, first_of, owed_after_message, without_answered, complaint_due}
 use Rattle.marks.specs.Told.{received}
-use Rattle.marks.proofs.OpenRequests.{open_below, open_new, open_again}
+use Rattle.marks.proofs.OpenRequests.{cond_has, open_below, open_new, open_again}
 use Rattle.marks.proofs.Rising.{open_are_rising}
 use Rattle.faultless.specs.Faultless.{without_faults}
 use Rattle.faultless.proofs.FaultlessLaws.{faults_change_nothing}
@@ -33,8 +33,8 @@ use Rattle.justifying.proofs.FollowLaws.{same_number}
 use Rattle.justifying.proofs.SlotLaws.{slots_kept}
 use Rattle.issuing_runs.specs.Issuing.{PlacedAsDue, FollowedAsDue}
 use Rattle.issuing_runs.proofs.OwingLaws.{owed_with, served, IsCalm, is_quiet, with_began, with_posted, core_posted, IsKeptOwing}
-use Rattle.issuing_runs.proofs.NumberLaws.{IsFrom, from_push, from_same, without_lower, without_first, length_push, fewer_answered, never_answered}
-use Rattle.issuing_runs.proofs.Starting.{NextStart, BeginsCalmly, begins_calm, not_told, told_of, follows_on, none_follow, quiet_placed, Within, adds_within, Numbers, same_numbers, adds_numbers, stays_placed}
+use Rattle.issuing_runs.proofs.NumberLaws.{IsFrom, from_push, from_same, without_lower, without_first, length_push, fewer_answered, never_answered, one_first, FirstOut, first_out}
+use Rattle.issuing_runs.proofs.Starting.{NextStart, BeginsCalmly, begins_calm, not_told, told_of, follows_on, none_follow, quiet_placed, Within, adds_within, Numbers, same_numbers, adds_numbers, stays_placed, one_placed}
 
 -- the requests that were never issued have the next ids, and at most 16 are pending
 pub record Numbered (marks : List Mark) (never : List BlockRequest) : Type 0 where
@@ -182,34 +182,14 @@ adds drivers place event group earlier c a marks o o' t does quiet calm same_unp
     (quiet_placed ((event, marks ++ group) ∷ earlier) marks group (marks_of earlier) quiet ∙ stays_placed event marks group earlier w h.placed.0, h.placed.1)
     (numbered_as n (subst (λ (l : List BlockRequest). Numbered (served ((event, group) ∷ earlier)) l) (sym same_never) h.numbered))
     (same_unposted ∙ levelled o h.left none h.unposted ∙ sym same_never)
-    (within_follows marks w.no_starts was.0, was.1) where
+    (none_follow [] marks group (marks_of earlier) w.no_starts was.0, was.1) where
       numbered_as : {x y : List Mark} → Numbers x y → Numbered x o'.never_issued → Numbered y o'.never_issued
       numbered_as n k = record {
         ids = from_same _ _ o'.never_issued (ap suc (sym n.greatest_is)) k.ids;
         few = subst (λ (l : List BlockRequest). length l + length o'.never_issued ≤ 16) (sym n.open_is) k.few;
       }
 
-      within_follows : (more : List Mark) → started_in more ≡ [] → IssuesFollow [] group (marks_of earlier) → IssuesFollow [] (more ++ group) (marks_of earlier)
-      within_follows more no k = both [] more no k where
-        both : (after more : List Mark) → started_in more ≡ [] → IssuesFollow [] group (marks_of earlier) → IssuesFollow after (more ++ group) (marks_of earlier)
-        both after [] no k = follows_on [] after group (marks_of earlier) k
-        both after (Started e ∷ xs) no k = absurd (clash no) where
-          clash : ◌≡◌ {A = List Endpoint} (e ∷ started_in xs) [] → ⊥
-          clash is = cc
-        both after (Answered a ∷ xs) no k = (tt, both (Answered a ∷ after) xs no k)
-        both after (Flush ∷ xs) no k = (tt, both (Flush ∷ after) xs no k)
-        both after (GaveUp ∷ xs) no k = (tt, both (GaveUp ∷ after) xs no k)
-        both after (Rattle.marks.specs.Marks.Took who now call answer ∷ xs) no k = (tt, both (Rattle.marks.specs.Marks.Took who now call answer ∷ after) xs no k)
-        both after (Issued r e ∷ xs) no k = (tt, both (Issued r e ∷ after) xs no k)
-        both after (Rattle.marks.specs.Marks.Fault e cause ∷ xs) no k = (tt, both (Rattle.marks.specs.Marks.Fault e cause ∷ after) xs no k)
-
--- a request of a list, by its first one
-one_first : (r s : BlockRequest) (rest : List BlockRequest) → first_of (s ∷ rest) ≡ Some r → s ≡ r
-one_first r s rest is = ap (λ (x : Option BlockRequest). request_or s x) is where
-  request_or : BlockRequest → Option BlockRequest → BlockRequest
-  request_or d None = d
-  request_or d (Some x) = x
-
+-- two that are there are one
 one_endpoint : (e f : Endpoint) → Some e ≡ Some f → e ≡ f
 one_endpoint e f is = ap (λ (x : Option Endpoint). endpoint_or e x) is where
   endpoint_or : Endpoint → Option Endpoint → Endpoint
@@ -282,3 +262,164 @@ may_issue_it drivers place event group earlier c to r s there goes_on by_id =
 
       at_most : (n m : ℕ) → n ≤ m → nat_le n m ≡ true
       at_most n m h = grind (arith, nat_tests)
+
+-- open requests stay open where the same are
+all_open_as : (marks marks' : List Mark) (rs : List BlockRequest) → open_requests marks' ≡ open_requests marks → AllOpen marks rs → AllOpen marks' rs
+all_open_as marks marks' [] same h = tt
+all_open_as marks marks' (r ∷ rs) same h = (subst (λ (l : List BlockRequest). IsIn r l) (sym same) h.0, all_open_as marks marks' rs same h.1)
+
+less_is : (n m : ℕ) → n < m → nat_lt n m ≡ true
+less_is n m h = grind (arith, nat_tests)
+
+or_right : (a b : Bool) → b ≡ true → (a || b) ≡ true
+or_right true b h = refl
+or_right false b h = h
+
+or_left : (a b : Bool) → a ≡ true → (a || b) ≡ true
+or_left true b h = refl
+or_left false b h = cc
+
+module _ (drivers place : ℕ) (event : Event) (group : List Mark) (earlier : List Group) (c : Core) (to : Endpoint) (r : BlockRequest) (o : Outbox) (t : Bool) (minor : ℕ)
+    (may : MayPost minor (served ((event, group) ∷ earlier)) o to r) (there : is_at to c.disks ≡ true) (few : length c.disks.current.line < 32)
+    (h : Issues drivers place ((event, group) ∷ earlier) c o t) where
+  was : List Group
+  was = (event, group) ∷ earlier
+
+  now : List Group
+  now = (event, Issued r to ∷ group) ∷ earlier
+
+  after : Core
+  after = core_posted to r (lined_up r c.disks) c
+
+  marks : List Mark
+  marks = group ++ marks_of earlier
+
+  post : Adds c (Issued r to ∷ []) after
+  post = Posts r to (lined_up r c.disks) (IsLinedUp there few)
+
+  slots_after : SlotsSoFar drivers place now after
+  slots_after = (slots_kept drivers).adds place event group earlier c after (Issued r to ∷ []) post h.slots
+
+  goes_on : gave_up (served was) ≡ false
+  goes_on = not_given_up (served was) to may.endpoint
+
+  placed_after : (nat_lt (greatest marks) r.id || is_among_first r.id marks) ≡ true → EachGroup PlacedAsDue now
+  placed_after by_id = (
+    one_placed event r to group earlier (adds_within c after (Issued r to ∷ []) group (marks_of earlier) post)
+        (may_issue_it drivers place event group earlier c to r h.slots there goes_on by_id) h.placed.0,
+    h.placed.1,
+  )
+
+  same_greatest : greatest (served was) ≡ greatest marks
+  same_greatest = (faults_change_nothing marks).greatest_is
+
+  -- one that was never issued
+  post_next : h.left ≡ [] → Issues drivers place now after (with_posted r o) t
+  post_next none =
+      let s : List Mark = served was in
+      let flat : o.unposted ≡ o.never_issued = levelled o h.left none h.unposted in
+      let first : first_of o.never_issued ≡ Some r = ap first_of (sym flat) ∙ may.first in
+      let out : FirstOut (suc (greatest s)) r o.never_issued = first_out (suc (greatest s)) r o.never_issued h.numbered.ids first in
+      let new : greatest s < r.id = omega (arith, out.id) in
+      let opened : open_requests (served now) ≡ open_requests s ++ r ∷ [] = open_new s r to new in
+      let more : length (open_requests (served now)) ≡ suc (length (open_requests s)) =
+      ap (λ (l : List BlockRequest). length l) opened ∙ length_push (open_requests s) r in
+      let above : greatest marks < r.id = omega (arith, new, same_greatest) in
+      let follow : EachGroup FollowedAsDue was = followed h.to h.left was none h.follow in
+      level drivers place now after (with_posted r o) t slots_after (placed_after (or_left _ _ (less_is (greatest marks) r.id above)))
+      (record {
+        ids = from_same (suc (suc (greatest s))) (suc (max (greatest s) r.id)) (without_id r.id o.never_issued) (omega (arith, out.id)) out.rest;
+        few = omega (arith, more, out.fewer, h.numbered.few);
+      })
+      (ap (λ (l : List BlockRequest). without_id r.id l) flat)
+      ((tt, follows_on [] (Issued r to ∷ []) group (marks_of earlier) follow.0), follow.1)
+
+  -- the first of those that follow a start
+  post_again : (rest : List BlockRequest) → o.unposted ≡ (r ∷ rest) ++ o.never_issued → FollowsBut h.to (r ∷ rest) was
+      → Following was c.disks o.complaint o.stopped t h.to r rest → Issues drivers place now after (with_posted r o) t
+  post_again rest unposted follow again =
+      let s : List Mark = served was in
+      let same : h.to ≡ to = one_endpoint h.to to (sym again.last_is ∙ target_is s to goes_on may.endpoint) in
+      let old : r.id ≤ greatest s = open_below s r again.opened.0 in
+      let opened : open_requests (served now) ≡ open_requests s = open_again s r to old in
+      let never : without_id r.id o.never_issued ≡ o.never_issued = without_lower (suc (greatest s)) r.id o.never_issued h.numbered.ids (omega (arith, old)) in
+      let k : FollowsBut to (r ∷ rest) was = subst (λ (e : Endpoint). FollowsBut e (r ∷ rest) was) same follow in
+      let with_line : length (c.disks.current.line ++ r ∷ []) ≡ suc (length c.disks.current.line) = length_push c.disks.current.line r in
+      record {
+        slots = slots_after;
+        placed = placed_after (or_right (nat_lt (greatest marks) r.id) _ again.among);
+        numbered = record {
+          ids = subst (λ (l : List BlockRequest). IsFrom (suc (max (greatest s) r.id)) l) (sym never)
+              (from_same (suc (greatest s)) (suc (max (greatest s) r.id)) o.never_issued (omega (arith, old)) h.numbered.ids);
+          few = subst (λ (l : List BlockRequest). length (open_requests (served now)) + length l ≤ 16) (sym never)
+              (subst (λ (l : List BlockRequest). length l + length o.never_issued ≤ 16) (sym opened) h.numbered.few);
+        };
+        to = to;
+        left = rest;
+        unposted = ap (λ (l : List BlockRequest). without_id r.id l) unposted ∙ without_first r (rest ++ o.never_issued)
+            ∙ ap (λ (l : List BlockRequest). rest ++ l) (sym never);
+        follow = ((tt, k.0), k.1);
+        again = by rest again;
+      } where
+        by : (ys : List BlockRequest) → Following was c.disks o.complaint o.stopped t h.to r ys → AgainNow now after.disks o.complaint o.stopped t to ys
+        by [] a = tt
+        by (y ∷ ys) a =
+            let s : List Mark = served was in
+            let with_line : length (c.disks.current.line ++ r ∷ []) ≡ suc (length c.disks.current.line) = length_push c.disks.current.line r in
+            record {
+              among = ap (λ (b : Bool). b && is_among_first r.id marks) (less_is r.id y.id a.rising.0.0) ∙ a.among;
+              rising = a.rising.1;
+              opened = all_open_as s (served now) (y ∷ ys) (open_again s r to (open_below s r a.opened.0)) a.opened.1;
+              uncomplained = a.uncomplained;
+              going = a.going;
+              goes_on = a.goes_on;
+              last_is = target_is s to goes_on may.endpoint;
+              there = there;
+              room = omega (arith, with_line, a.room);
+              working = a.working;
+            }
+
+  post_any : (left : List BlockRequest) → h.left ≡ left → Issues drivers place now after (with_posted r o) t
+  post_any [] is = post_next is
+  post_any (x ∷ rest) is =
+      let unposted : o.unposted ≡ (x ∷ rest) ++ o.never_issued = h.unposted ∙ ap (λ (l : List BlockRequest). l ++ o.never_issued) is in
+      let same : x ≡ r = one_first r x (rest ++ o.never_issued) (ap first_of (sym unposted) ∙ may.first) in
+      post_again rest (unposted ∙ ap (λ (y : BlockRequest). (y ∷ rest) ++ o.never_issued) same)
+      (subst (λ (y : BlockRequest). FollowsBut h.to (y ∷ rest) was) same (subst (λ (l : List BlockRequest). FollowsBut h.to l was) is h.follow))
+      (subst (λ (y : BlockRequest). AgainNow was c.disks o.complaint o.stopped t h.to (y ∷ rest)) same
+      (subst (λ (l : List BlockRequest). AgainNow was c.disks o.complaint o.stopped t h.to l) is h.again))
+
+-- a post is accepted
+posts : (drivers place : ℕ) (event : Event) (group : List Mark) (earlier : List Group) (c : Core) (d : Disks) (to : Endpoint) (r : BlockRequest)
+    (o : Outbox) (t : Bool) (minor : ℕ) → MayPost minor (served ((event, group) ∷ earlier)) o to r → LinesUp to r c.disks (Ok tt) d
+    → Issues drivers place ((event, group) ∷ earlier) c o t
+    → Issues drivers place ((event, Issued r to ∷ group) ∷ earlier) (core_posted to r d c) (with_posted r o) t
+posts drivers place event group earlier c _ to r o t minor may (IsLinedUp there few) h =
+    post_any drivers place event group earlier c to r o t minor may there few h h.left refl
+
+-- a post is refused: no open request was left to follow a start
+refused : (drivers place : ℕ) (groups : List Group) (c : Core) (d : Disks) (why : LinkRefusal) (to : Endpoint) (r : BlockRequest) (o : Outbox)
+    (t : Bool) (minor : ℕ) → MayPost minor (served groups) o to r → LinesUp to r c.disks (Err why) d → Issues drivers place groups c o t
+    → Issues drivers place groups (record c { disks = d }) (record o { stopped = true }) t
+refused drivers place groups c d why to r o t minor may lines h =
+    subst (λ (x : Disks). Issues drivers place groups (record c { disks = x }) (record o { stopped = true }) t) (sym (same d why lines))
+    (level drivers place groups c (record o { stopped = true }) t h.slots h.placed h.numbered (levelled o h.left none h.unposted) (followed h.to h.left groups none h.follow)) where
+      same : (x : Disks) (y : LinkRefusal) → LinesUp to r c.disks (Err y) x → x ≡ c.disks
+      same _ _ (NoneIsThere not_there) = refl
+      same _ _ (LineIsFull there full) = refl
+
+      by : (left : List BlockRequest) → AgainNow groups c.disks o.complaint o.stopped t h.to left → (y : LinkRefusal) → LinesUp to r c.disks (Err y) d → left ≡ []
+      by [] again y l = refl
+      by (x ∷ rest) again y l =
+          let here : is_at to c.disks ≡ true = subst (λ (e : Endpoint). is_at e c.disks ≡ true)
+          (one_endpoint h.to to (sym again.last_is ∙ target_is (served groups) to again.goes_on may.endpoint)) again.there in
+          absurd (clash d y l here again.room) where
+            clash : (z : Disks) (y : LinkRefusal) → LinesUp to r c.disks (Err y) z → is_at to c.disks ≡ true
+                → length c.disks.current.line + suc (length rest) ≤ 16 → ⊥
+            clash _ _ (NoneIsThere not_there) here room = differ (sym not_there ∙ here) where
+              differ : ◌≡◌ {A = Bool} false true → ⊥
+              differ e = cc
+            clash _ _ (LineIsFull there full) here room = omega (arith, full, room)
+
+      none : h.left ≡ []
+      none = by h.left h.again why lines

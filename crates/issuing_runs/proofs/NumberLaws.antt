@@ -7,7 +7,7 @@ use Rattle.message.specs.declared.BlockRequest.{BlockRequest}
 use Rattle.message.specs.declared.BlockReply.{BlockReply}
 use Rattle.marks.specs.Marks.{Mark, Issued, Answered}
 use Rattle.marks.specs.Open.{greatest, open_requests, without_id, with_id, moved_of, moved_by, asked_by, counts, IsIn}
-use Rattle.marks.specs.Acts.{Outbox, without_answered}
+use Rattle.marks.specs.Acts.{without_answered, first_of}
 use Rattle.marks.proofs.OpenRequests.{cond_has, open_below, open_new, open_again, with_id_in}
 use Rattle.justifying.proofs.FollowLaws.{same_number, other_number}
 
@@ -63,3 +63,29 @@ never_answered marks a never h = by (counts marks a) (with_id a.id (open_request
         kept : (g : Bool) → without_id a.id never ≡ never → cond (true && g) (without_id a.id never) never ≡ never
         kept true same = same
         kept false same = refl
+
+-- a request of a list, by its first one
+pub one_first : (r s : BlockRequest) (rest : List BlockRequest) → first_of (s ∷ rest) ≡ Some r → s ≡ r
+one_first r s rest is = ap (λ (x : Option BlockRequest). request_or s x) is where
+  request_or : BlockRequest → Option BlockRequest → BlockRequest
+  request_or d None = d
+  request_or d (Some x) = x
+
+-- the first one taken out
+pub record FirstOut (n : ℕ) (r : BlockRequest) (rs : List BlockRequest) : Type 0 where
+  pub id : r.id ≡ n
+  pub rest : IsFrom (suc n) (without_id r.id rs)
+  pub fewer : length rs ≡ suc (length (without_id r.id rs))
+
+pub first_out : (n : ℕ) (r : BlockRequest) (rs : List BlockRequest) → IsFrom n rs → first_of rs ≡ Some r → FirstOut n r rs
+first_out n r [] h is = absurd (clash is) where
+  clash : ◌≡◌ {A = Option BlockRequest} None (Some r) → ⊥
+  clash e = cc
+first_out n r (x ∷ rs) h is =
+    let same : x ≡ r = one_first r x rs is in
+    let without : without_id r.id (r ∷ rs) ≡ rs = without_first r rs in
+    subst (λ (y : BlockRequest). FirstOut n r (y ∷ rs)) (sym same) (record {
+      id = ap (λ (y : BlockRequest). y.id) (sym same) ∙ h.0;
+      rest = subst (λ (l : List BlockRequest). IsFrom (suc n) l) (sym without) h.1;
+      fewer = ap (λ (l : List BlockRequest). suc (length l)) (sym without);
+    })

@@ -150,18 +150,18 @@ follows_on after more (m ∷ group) before h = (one m h.0, follows_on (m ∷ aft
   one (Issued r e) k = tt
   one (Fault e cause) k = tt
 
--- no driver is started: nothing has to follow
-pub none_follow : (after marks before : List Mark) → started_in marks ≡ [] → IssuesFollow after marks before
-none_follow after [] before none = tt
-none_follow after (Started e ∷ marks) before none = absurd (clash none) where
+-- no driver is started: nothing more has to follow
+pub none_follow : (after marks group before : List Mark) → started_in marks ≡ [] → IssuesFollow [] group before → IssuesFollow after (marks ++ group) before
+none_follow after [] group before none h = follows_on [] after group before h
+none_follow after (Started e ∷ marks) group before none h = absurd (clash none) where
   clash : ◌≡◌ {A = List Endpoint} (e ∷ started_in marks) [] → ⊥
   clash is = cc
-none_follow after (Answered a ∷ marks) before none = (tt, none_follow (Answered a ∷ after) marks before none)
-none_follow after (Flush ∷ marks) before none = (tt, none_follow (Flush ∷ after) marks before none)
-none_follow after (GaveUp ∷ marks) before none = (tt, none_follow (GaveUp ∷ after) marks before none)
-none_follow after (Took who now call answer ∷ marks) before none = (tt, none_follow (Took who now call answer ∷ after) marks before none)
-none_follow after (Issued r e ∷ marks) before none = (tt, none_follow (Issued r e ∷ after) marks before none)
-none_follow after (Fault e cause ∷ marks) before none = (tt, none_follow (Fault e cause ∷ after) marks before none)
+none_follow after (Answered a ∷ marks) group before none h = (tt, none_follow (Answered a ∷ after) marks group before none h)
+none_follow after (Flush ∷ marks) group before none h = (tt, none_follow (Flush ∷ after) marks group before none h)
+none_follow after (GaveUp ∷ marks) group before none h = (tt, none_follow (GaveUp ∷ after) marks group before none h)
+none_follow after (Took who now call answer ∷ marks) group before none h = (tt, none_follow (Took who now call answer ∷ after) marks group before none h)
+none_follow after (Issued r e ∷ marks) group before none h = (tt, none_follow (Issued r e ∷ after) marks group before none h)
+none_follow after (Fault e cause ∷ marks) group before none h = (tt, none_follow (Fault e cause ∷ after) marks group before none h)
 
 -- no request is issued: none is out of its place
 pub quiet_placed : (groups : List Group) (marks group before : List Mark) → is_quiet marks ≡ true
@@ -247,3 +247,14 @@ pub stays_placed : (event : Event) (marks group : List Mark) (earlier : List Gro
 stays_placed event marks group earlier w h =
     placed_by ((event, group) ∷ earlier) ((event, marks ++ group) ∷ earlier) (λ g. live_as g event group (marks ++ group) earlier w.exits w.as_many)
     group (marks_of earlier) ∙ h
+
+-- one more that is in its place
+pub one_placed : (event : Event) (r : BlockRequest) (to : Endpoint) (group : List Mark) (earlier : List Group) → Within (Issued r to ∷ []) group (marks_of earlier)
+    → may_issue ((event, group) ∷ earlier) r to (group ++ marks_of earlier) ≡ true → PlacedAsDue event group earlier → PlacedAsDue event (Issued r to ∷ group) earlier
+one_placed event r to group earlier w may h =
+    let marks : List Mark = group ++ marks_of earlier in
+    let groups : List Group = (event, Issued r to ∷ group) ∷ earlier in
+    ap (λ (b : Bool). (b && not (gave_up marks) && (nat_lt (greatest marks) r.id || is_among_first r.id marks)) && are_issued_in_place groups group (marks_of earlier))
+    (live_as to.generation event group (Issued r to ∷ group) earlier w.exits w.as_many)
+    ∙ ap (λ (b : Bool). b && are_issued_in_place groups group (marks_of earlier)) may
+    ∙ stays_placed event (Issued r to ∷ []) group earlier w h
