@@ -282,16 +282,16 @@ or_left false b h = cc
 module _ (drivers place : ℕ) (event : Event) (group : List Mark) (earlier : List Group) (c : Core) (to : Endpoint) (r : BlockRequest) (o : Outbox) (t : Bool) (minor : ℕ)
     (may : MayPost minor (served ((event, group) ∷ earlier)) o to r) (there : is_at to c.disks ≡ true) (few : length c.disks.current.line < 32)
     (h : Issues drivers place ((event, group) ∷ earlier) c o t) where
-  was : List Group
+  abbrev was : List Group
   was = (event, group) ∷ earlier
 
-  now : List Group
+  abbrev now : List Group
   now = (event, Issued r to ∷ group) ∷ earlier
 
-  after : Core
+  abbrev after : Core
   after = core_posted to r (lined_up r c.disks) c
 
-  marks : List Mark
+  abbrev marks : List Mark
   marks = group ++ marks_of earlier
 
   post : Adds c (Issued r to ∷ []) after
