@@ -117,7 +117,7 @@ followed_by_none to [] h = tt
 followed_by_none to (g ∷ groups) h = h
 
 -- where no request is left to follow a start
-level : (drivers place : ℕ) (groups : List Group) (c : Core) (o : Outbox) (t : Bool) → SlotsSoFar drivers place groups c → EachGroup PlacedAsDue groups
+pub level : (drivers place : ℕ) (groups : List Group) (c : Core) (o : Outbox) (t : Bool) → SlotsSoFar drivers place groups c → EachGroup PlacedAsDue groups
     → Numbered (served groups) o.never_issued → o.unposted ≡ o.never_issued → EachGroup FollowedAsDue groups → Issues drivers place groups c o t
 level drivers place groups c o t slots placed numbered unposted follow = record {
   slots = slots;
@@ -130,11 +130,11 @@ level drivers place groups c o t slots placed numbered unposted follow = record 
   again = tt;
 }
 
-levelled : (o : Outbox) (left : List BlockRequest) → left ≡ [] → o.unposted ≡ left ++ o.never_issued → o.unposted ≡ o.never_issued
+pub levelled : (o : Outbox) (left : List BlockRequest) → left ≡ [] → o.unposted ≡ left ++ o.never_issued → o.unposted ≡ o.never_issued
 levelled o left none is = is ∙ ap (λ (l : List BlockRequest). l ++ o.never_issued) none
 
 -- a request becomes pending
-begins_one : (drivers place : ℕ) (groups : List Group) (c : Core) (o : Outbox) (t : Bool) (r : BlockRequest) → MayBegin (served groups) o r
+pub begins_one : (drivers place : ℕ) (groups : List Group) (c : Core) (o : Outbox) (t : Bool) (r : BlockRequest) → MayBegin (served groups) o r
     → Issues drivers place groups c o t → Issues drivers place groups c (with_began r o) t
 begins_one drivers place groups c o t r may h =
     let more : length (o.never_issued ++ r ∷ []) ≡ suc (length o.never_issued) = length_push o.never_issued r in
@@ -153,7 +153,7 @@ begins_one drivers place groups c o t r may h =
       again = h.again;
     }
 
-rests : (drivers place : ℕ) (groups : List Group) (c : Core) (o : Outbox) (t t' : Bool) → IsAtRest (served groups) o
+pub rests : (drivers place : ℕ) (groups : List Group) (c : Core) (o : Outbox) (t t' : Bool) → IsAtRest (served groups) o
     → Issues drivers place groups c o t → Issues drivers place groups c o t'
 rests drivers place groups c o t t' rest h =
     let none : h.left ≡ [] = none_left groups c.disks o t h.to h.left h.unposted h.again (λ is. rest.post) in
@@ -169,7 +169,7 @@ rests drivers place groups c o t t' rest h =
     }
 
 -- what is done within an event, but for posts
-adds : (drivers place : ℕ) (event : Event) (group : List Mark) (earlier : List Group) (c a : Core) (marks : List Mark) (o o' : Outbox) (t : Bool)
+pub adds : (drivers place : ℕ) (event : Event) (group : List Mark) (earlier : List Group) (c a : Core) (marks : List Mark) (o o' : Outbox) (t : Bool)
     → Adds c marks a → is_quiet marks ≡ true → IsCalm (served ((event, group) ∷ earlier)) o → o'.unposted ≡ o.unposted → o'.never_issued ≡ o.never_issued
     → Issues drivers place ((event, group) ∷ earlier) c o t → Issues drivers place ((event, marks ++ group) ∷ earlier) a o' t
 adds drivers place event group earlier c a marks o o' t does quiet calm same_unposted same_never h =
@@ -390,7 +390,7 @@ module _ (drivers place : ℕ) (event : Event) (group : List Mark) (earlier : Li
       (subst (λ (l : List BlockRequest). AgainNow was c.disks o.complaint o.stopped t h.to l) is h.again))
 
 -- a post is accepted
-posts : (drivers place : ℕ) (event : Event) (group : List Mark) (earlier : List Group) (c : Core) (d : Disks) (to : Endpoint) (r : BlockRequest)
+pub posts : (drivers place : ℕ) (event : Event) (group : List Mark) (earlier : List Group) (c : Core) (d : Disks) (to : Endpoint) (r : BlockRequest)
     (o : Outbox) (t : Bool) (minor : ℕ) → MayPost minor (served ((event, group) ∷ earlier)) o to r → LinesUp to r c.disks (Ok tt) d
     → Issues drivers place ((event, group) ∷ earlier) c o t
     → Issues drivers place ((event, Issued r to ∷ group) ∷ earlier) (core_posted to r d c) (with_posted r o) t
@@ -398,7 +398,7 @@ posts drivers place event group earlier c _ to r o t minor may (IsLinedUp there 
     post_any drivers place event group earlier c to r o t minor may there few h h.left refl
 
 -- a post is refused: no open request was left to follow a start
-refused : (drivers place : ℕ) (groups : List Group) (c : Core) (d : Disks) (why : LinkRefusal) (to : Endpoint) (r : BlockRequest) (o : Outbox)
+pub refused : (drivers place : ℕ) (groups : List Group) (c : Core) (d : Disks) (why : LinkRefusal) (to : Endpoint) (r : BlockRequest) (o : Outbox)
     (t : Bool) (minor : ℕ) → MayPost minor (served groups) o to r → LinesUp to r c.disks (Err why) d → Issues drivers place groups c o t
     → Issues drivers place groups (record c { disks = d }) (record o { stopped = true }) t
 refused drivers place groups c d why to r o t minor may lines h =
