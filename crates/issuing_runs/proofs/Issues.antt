@@ -264,7 +264,7 @@ may_issue_it drivers place event group earlier c to r s there goes_on by_id =
       at_most n m h = grind (arith, nat_tests)
 
 -- open requests stay open where the same are
-all_open_as : (marks marks' : List Mark) (rs : List BlockRequest) → open_requests marks' ≡ open_requests marks → AllOpen marks rs → AllOpen marks' rs
+pub all_open_as : (marks marks' : List Mark) (rs : List BlockRequest) → open_requests marks' ≡ open_requests marks → AllOpen marks rs → AllOpen marks' rs
 all_open_as marks marks' [] same h = tt
 all_open_as marks marks' (r ∷ rs) same h = (subst (λ (l : List BlockRequest). IsIn r l) (sym same) h.0, all_open_as marks marks' rs same h.1)
 
