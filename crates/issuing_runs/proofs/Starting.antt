@@ -32,6 +32,10 @@ pub record NextStart (c a : Core) (marks : List Mark) : Type 0 where
   pub waits : c.watch.phase ≡ Waiting until
   pub marks_are : marks ≡ Started (driver (c.watch.generation + 1)) ∷ []
   pub disks_are : a.disks ≡ started (c.watch.generation + 1) next c.disks
+  pub rest : List DriverState
+  pub spare : c.supply ≡ next ∷ rest
+  pub supply_is : a.supply ≡ rest
+  pub posts_are : a.posts ≡ c.posts
 
 -- no request is issued by an event, and a driver is started, or none
 pub record BeginsCalmly (c a : Core) (marks : List Mark) : Type 0 where
@@ -57,7 +61,9 @@ tick_calm c a _ (FoundHung last count ends after is same enough fault) = calm_fa
 tick_calm c a _ (WaitsOn until is early) = calm_none c a
 tick_calm c a _ (StartsNext until d rest is come spare) = record {
   quiet = refl;
-  starts = inl (record { until = until; next = d; waits = is; marks_are = refl; disks_are = refl });
+  starts = inl (record {
+    until = until; next = d; waits = is; marks_are = refl; disks_are = refl; rest = rest; spare = spare; supply_is = refl; posts_are = refl;
+  });
 }
 tick_calm c a _ (IsOver is) = calm_none c a
 
@@ -163,6 +169,19 @@ none_follow after (Took who now call answer ∷ marks) group before none h = (tt
 none_follow after (Issued r e ∷ marks) group before none h = (tt, none_follow (Issued r e ∷ after) marks group before none h)
 none_follow after (Fault e cause ∷ marks) group before none h = (tt, none_follow (Fault e cause ∷ after) marks group before none h)
 
+-- nor is another one the last
+pub same_last : (marks before : List Mark) → started_in marks ≡ [] → last_started (marks ++ before) ≡ last_started before
+same_last [] before none = refl
+same_last (Started e ∷ marks) before none = absurd (clash none) where
+  clash : ◌≡◌ {A = List Endpoint} (e ∷ started_in marks) [] → ⊥
+  clash is = cc
+same_last (Answered a ∷ marks) before none = same_last marks before none
+same_last (Flush ∷ marks) before none = same_last marks before none
+same_last (GaveUp ∷ marks) before none = same_last marks before none
+same_last (Took who now call answer ∷ marks) before none = same_last marks before none
+same_last (Issued r e ∷ marks) before none = same_last marks before none
+same_last (Fault e cause ∷ marks) before none = same_last marks before none
+
 -- no request is issued: none is out of its place
 pub quiet_placed : (groups : List Group) (marks group before : List Mark) → is_quiet marks ≡ true
     → are_issued_in_place groups (marks ++ group) before ≡ are_issued_in_place groups group before
@@ -212,17 +231,16 @@ placed_by groups groups' same (Fault e cause ∷ marks) before = placed_by group
 pub record Within (marks group before : List Mark) : Type 0 where
   pub exits : has_exit (marks ++ group) ≡ has_exit group
   pub as_many : generation ((marks ++ group) ++ before) ≡ generation (group ++ before)
-  pub last_is : (e : Option Endpoint) → last_started (without_faults (group ++ before)) ≡ e
-      → last_started (without_faults ((marks ++ group) ++ before)) ≡ e
+  pub last_is : last_started ((marks ++ group) ++ before) ≡ last_started (group ++ before)
   pub no_starts : started_in marks ≡ []
 
 pub adds_within : (c a : Core) (marks group before : List Mark) → Adds c marks a → Within marks group before
-adds_within c _ _ group before AddsNothing = record { exits = refl; as_many = refl; last_is = λ e is. is; no_starts = refl }
-adds_within c _ _ group before (Posts r to d lines) = record { exits = refl; as_many = refl; last_is = λ e is. is; no_starts = refl }
-adds_within c _ _ group before (Replies who now call answer) = record { exits = refl; as_many = refl; last_is = λ e is. is; no_starts = refl }
-adds_within c _ _ group before (Complains about None after report) = record { exits = refl; as_many = refl; last_is = λ e is. is; no_starts = refl }
-adds_within c _ _ group before (Complains about (Some ends) after report) = record { exits = refl; as_many = refl; last_is = λ e is. is; no_starts = refl }
-adds_within c _ _ group before (Pays owed) = record { exits = refl; as_many = refl; last_is = λ e is. is; no_starts = refl }
+adds_within c _ _ group before AddsNothing = record { exits = refl; as_many = refl; last_is = refl; no_starts = refl }
+adds_within c _ _ group before (Posts r to d lines) = record { exits = refl; as_many = refl; last_is = refl; no_starts = refl }
+adds_within c _ _ group before (Replies who now call answer) = record { exits = refl; as_many = refl; last_is = refl; no_starts = refl }
+adds_within c _ _ group before (Complains about None after report) = record { exits = refl; as_many = refl; last_is = refl; no_starts = refl }
+adds_within c _ _ group before (Complains about (Some ends) after report) = record { exits = refl; as_many = refl; last_is = refl; no_starts = refl }
+adds_within c _ _ group before (Pays owed) = record { exits = refl; as_many = refl; last_is = refl; no_starts = refl }
 
 -- and these, where no post is
 pub record Numbers (marks marks' : List Mark) : Type 0 where
