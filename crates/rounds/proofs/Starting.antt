@@ -95,8 +95,8 @@ none_begun [] told none rest = refl
 none_begun (Began r ∷ later) told none rest = absurd (clash (sym rest.post ∙ post_due (marks_after (heard (Began r ∷ later)) [])
     (outbox_after (heard (Began r ∷ later)) [] empty_outbox) (silent_marks later told none) (silent_stopped later told none)
     (some_last (outbox_after (heard later) [] empty_outbox).unposted r))) where
-  clash : ◌≡◌ {A = Bool} false true → ⊥
-  clash e = cc
+      clash : ◌≡◌ {A = Bool} false true → ⊥
+      clash e = cc
 none_begun (Absorbed message ∷ later) told none rest = cc
 none_begun (AtLink x ∷ later) told none rest = cc
 
@@ -125,7 +125,7 @@ owes_none s m absorbs empty same image tree agrees rest =
     let is : m.outbox ≡ outbox_after (heard absorbs.later) [] empty_outbox =
     (absorbs.rules image tree [] agrees).outbox ∙ ap (λ (o : Outbox). outbox_after (heard absorbs.later) [] o) empty in
     is ∙ ap (λ (l : List Act). outbox_after (heard l) [] empty_outbox)
-        (none_begun absorbs.later told absorbs.none_absorbed (subst (λ (o : Outbox). IsAtRest (marks_after (heard absorbs.later) []) o) is rest))
+    (none_begun absorbs.later told absorbs.none_absorbed (subst (λ (o : Outbox). IsAtRest (marks_after (heard absorbs.later) []) o) is rest))
 
 -- nothing was done at the link; and then the run was played out
 pub plays_all : (s m t : Serving) (was then : Truth) (b c a : Play) (unanswered : ℕ) → AbsorbsOver s m was then (incoming.Started (driver 1)) → GoesOn b c

@@ -30,7 +30,8 @@ use Rattle.acting_runs.specs.Acting.{ActsAsDue}
 use Rattle.acting_runs.proofs.ActLaws.{runs_keep_acts}
 use Rattle.acting_runs.proofs.LeavingLaws.{runs_keep_waits}
 use Rattle.taking_runs.specs.Took as taking
-use Rattle.taking_runs.proofs.TookLaws.{runs_keep_took, runs_keep_replies}
+use Rattle.taking_runs.proofs.TakingLaws.{runs_keep_took}
+use Rattle.taking_runs.proofs.ReplyLaws.{runs_keep_replies}
 use Rattle.sending_runs.proofs.RunLaws.{runs_keep_steps}
 use Rattle.whole_runs.specs.Whole.{IsUnused, IsAtEnd, RunsAreWhole}
 
