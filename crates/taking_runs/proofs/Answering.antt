@@ -1,8 +1,7 @@
 -- What a driver answered: of what it has done with, in the order of the ids, and each once.
-use Rattle.std.proofs.Common.{◌≡◌, ℕ, ◌+◌, ◌<◌, ◌≤◌, List, [], ◌∷◌, ◌++◌, Bool, true, false, refl, sym, ◌∙◌, ap, subst, arith, ◌⊎◌, inl, inr}
+use Rattle.std.proofs.Common.{◌≡◌, ℕ, ◌+◌, ◌<◌, List, [], ◌∷◌, ◌++◌, Bool, true, false, refl, sym, ◌∙◌, ap, subst, arith}
 use Rattle.std.proofs.lemmas.Bool.Decides.{nat_tests}
-use Rattle.std.specs.Prelude.{◌&&◌, ◌||◌, ◌==◌, max, nat_lt, if◌then◌else◌, Option, Some, None, IfSome, IsSomeAnd}
-use Rattle.endpoint.specs.declared.Endpoint.{Endpoint}
+use Rattle.std.specs.Prelude.{◌&&◌, nat_lt, Option, Some, None, IfSome, IsSomeAnd}
 use Rattle.message.specs.declared.BlockRequest.{BlockRequest}
 use Rattle.message.specs.declared.BlockReply.{BlockReply}
 use Rattle.bdev.specs.declared.Answer.{Answer}
@@ -11,11 +10,10 @@ use Rattle.bdev.specs.Promises.{Takes}
 use Rattle.marks.specs.Open.{IsIn}
 use Rattle.schedule.specs.Groups.{Each}
 use Rattle.true_replies.specs.Events.{reply_of}
-use Rattle.justifying.proofs.FollowLaws.{same_number, other_number}
 use Rattle.taking_runs.specs.Took.{IsNew}
-use Rattle.taking_runs.proofs.Moves.{answers_of}
+use Rattle.taking_runs.proofs.Small.{and_left, and_right, none_more, each_push, each_on}
 use Rattle.taking_runs.proofs.DriverMoves.{Handing, Leaves, IsOld, IsTaken, Stepping, Idles, GoesOn, Ends}
-use Rattle.taking_runs.proofs.TakingLaws.{has_id, IsIdle, new_idle, Taken, taken_first, taken_hands, taken_steps, taken_again, taken_issues, some_if, each_push, each_on}
+use Rattle.taking_runs.proofs.TakingLaws.{new_idle, Taken, taken_first, taken_hands, taken_steps, taken_again, taken_issues, some_if}
 
 -- the ids below this one are done with
 abbrev pub limit_of : Option Work → ℕ → ℕ
@@ -58,7 +56,8 @@ replied_first d new = record {
   positive = subst (λ (o : Option Work). IfSome o (λ w. 0 < d.last)) (sym (new_idle d new).work) tt;
 }
 
-pub replied_hands : (issued : List BlockRequest) (replies : List BlockReply) (b a : DriverState) (line left : List BlockRequest) → Handing b a line left
+pub replied_hands : (issued : List BlockRequest) (replies : List BlockReply) (b a : DriverState) (line left : List BlockRequest)
+    → Handing b a line left
     → Replied issued replies b line → Replied issued replies a left
 replied_hands issued replies b a line _ (Leaves _ is) h = subst (λ (x : DriverState). Replied issued replies x line) (sym is) h
 replied_hands issued replies b a _ _ (IsOld q rest low is) h = record {
@@ -69,7 +68,8 @@ replied_hands issued replies b a _ _ (IsOld q rest low is) h = record {
 }
 replied_hands issued replies b a _ _ (IsTaken q rest none above takes) h = record {
   taken = taken_hands issued replies b a (q ∷ rest) rest (IsTaken q rest none above takes) h.taken;
-  done = each_on (λ r. r.id < limit b) (λ r. r.id < limit a) replies (λ r low. less r.id (limit b) (limit a) b.last q.id low (limit_none b none)
+  done = each_on (λ r. r.id < limit b) (λ r. r.id < limit a) replies
+      (λ r low. less r.id (limit b) (limit a) b.last q.id low (limit_none b none)
       (limit_taken q b a takes) above) h.done;
   rising = h.rising;
   positive = some_if a.work (λ w. (w.request ≡ q) × ((k : ℕ) → w.moved k ≡ false)) (λ w. 0 < a.last)
@@ -82,25 +82,15 @@ replied_hands issued replies b a _ _ (IsTaken q rest none above takes) h = recor
   positive m n l above is = omega (arith, above, is)
 
 -- a reply more, above all
-rise_push : (from : ℕ) (replies : List BlockReply) (x : BlockReply) → rise_from from replies ≡ true → Each (λ a. a.id < x.id) replies → from < x.id
+rise_push : (from : ℕ) (replies : List BlockReply) (x : BlockReply) → rise_from from replies ≡ true → Each (λ a. a.id < x.id) replies
+    → from < x.id
     → rise_from from (replies ++ x ∷ []) ≡ true
 rise_push from [] x rising low above = ap (λ (b : Bool). b && true) (less from x.id above) where
   less : (m n : ℕ) → m < n → nat_lt m n ≡ true
   less m n above = grind (arith, nat_tests, above)
 rise_push from (a ∷ replies) x rising low above =
     ap (λ (b : Bool). b && rise_from a.id (replies ++ x ∷ [])) (and_left (nat_lt from a.id) (rise_from a.id replies) rising)
-    ∙ rise_push a.id replies x (and_right (nat_lt from a.id) (rise_from a.id replies) rising) low.1 low.0 where
-      and_left : (c d : Bool) → (c && d) ≡ true → c ≡ true
-      and_left true d h = refl
-      and_left false d h = cc
-
-      and_right : (c d : Bool) → (c && d) ≡ true → d ≡ true
-      and_right true d h = h
-      and_right false d h = cc
-
-pub none_more : (xs : List BlockReply) → xs ≡ xs ++ []
-none_more [] = refl
-none_more (x ∷ xs) = ap (λ (l : List BlockReply). x ∷ l) (none_more xs)
+    ∙ rise_push a.id replies x (and_right (nat_lt from a.id) (rise_from a.id replies) rising) low.1 low.0
 
 -- a step that answers nothing leaves the limit
 pub idle_limit : (b a : DriverState) → b.work ≡ None → a.work ≡ None → a.last ≡ b.last → limit a ≡ limit b
@@ -115,7 +105,8 @@ pub record AtLast (b a : DriverState) (id : ℕ) : Type 0 where
   pub now : limit a ≡ id + 1
   pub last : b.last ≡ id
 
-pub at_last : (issued : List BlockRequest) (replies : List BlockReply) (line : List BlockRequest) (b a : DriverState) (w : Work) (answer : Answer)
+pub at_last : (issued : List BlockRequest) (replies : List BlockReply) (line : List BlockRequest) (b a : DriverState) (w : Work)
+    (answer : Answer)
     → b.work ≡ Some w → a.work ≡ None → answer.id ≡ w.request.id → a.last ≡ b.last → Taken issued replies b line → AtLast b a answer.id
 at_last issued replies line b a w answer was now id last h =
     let own : (w.request.id ≡ b.last) × IsIn w.request issued =
@@ -123,7 +114,8 @@ at_last issued replies line b a w answer was now id last h =
     let same : b.last ≡ answer.id = sym own.0 ∙ sym id in
     record { was = limit_some b w was ∙ same; now = limit_none a now ∙ ap (λ (n : ℕ). n + 1) (last ∙ same); last = same }
 
-pub replied_steps : (issued : List BlockRequest) (replies : List BlockReply) (line : List BlockRequest) (g : ℕ) (b a : DriverState) (answers : List BlockReply)
+pub replied_steps : (issued : List BlockRequest) (replies : List BlockReply) (line : List BlockRequest) (g : ℕ) (b a : DriverState)
+    (answers : List BlockReply)
     → Stepping g b a answers → Replied issued replies b line → Replied issued (replies ++ answers) a line
 replied_steps issued replies line g b a _ (Idles was now last bad) h = record {
   taken = taken_steps issued replies line g b a [] (Idles was now last bad) h.taken;
@@ -157,7 +149,8 @@ replied_steps issued replies line g b a _ (Ends w answer was now id last bad) h 
       below_too : (r m n : ℕ) → r < m → n ≡ m + 1 → r < n
       below_too r m n less is = omega (arith, less, is)
 
-pub replied_again : (issued : List BlockRequest) (replies : List BlockReply) (d : DriverState) (line : List BlockRequest) (r : BlockRequest) → IsIn r issued
+pub replied_again : (issued : List BlockRequest) (replies : List BlockReply) (d : DriverState) (line : List BlockRequest)
+    (r : BlockRequest) → IsIn r issued
     → Replied issued replies d line → Replied issued replies d (line ++ r ∷ [])
 replied_again issued replies d line r is h = record {
   taken = taken_again issued replies d line r is h.taken;
@@ -166,7 +159,8 @@ replied_again issued replies d line r is h = record {
   positive = h.positive;
 }
 
-pub replied_issues : (issued : List BlockRequest) (replies : List BlockReply) (d : DriverState) (line : List BlockRequest) (r : BlockRequest)
+pub replied_issues : (issued : List BlockRequest) (replies : List BlockReply) (d : DriverState) (line : List BlockRequest)
+    (r : BlockRequest)
     → Replied issued replies d line → Replied (r ∷ issued) replies d (line ++ r ∷ [])
 replied_issues issued replies d line r h = record {
   taken = taken_issues issued replies d line r h.taken;

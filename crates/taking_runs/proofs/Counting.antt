@@ -1,25 +1,23 @@
 -- A driver counts its replies that aren't good.
-use Rattle.std.proofs.Common.{◌≡◌, ℕ, ◌+◌, ◌<◌, ◌≤◌, List, [], ◌∷◌, ◌++◌, Bool, true, false, refl, sym, ◌∙◌, ap, subst, arith, ◌⊎◌, inl, inr}
-use Rattle.std.proofs.lemmas.Bool.Decides.{nat_tests}
-use Rattle.std.specs.Prelude.{◌||◌, ◌==◌, not, if◌then◌else◌, Option, Some, None, Result, Ok, Err, IfSome, is_some}
+use Rattle.std.proofs.Common.{◌≡◌, ℕ, ◌+◌, ◌<◌, List, [], ◌∷◌, ◌++◌, Bool, true, false, refl, sym, ◌∙◌, ap, subst, arith, inl, inr}
+use Rattle.std.specs.Prelude.{◌==◌, not, if◌then◌else◌, Option, Some, None, Result, Ok, Err, IfSome, is_some}
 use Rattle.errno.specs.declared.Errno.{Errno}
 use Rattle.message.specs.Good.{is_good, moved}
 use Rattle.message.specs.declared.BlockRequest.{BlockRequest}
 use Rattle.message.specs.declared.BlockReply.{BlockReply}
-use Rattle.bdev.specs.declared.Answer.{Answer}
 use Rattle.bdev.specs.DriverState.{DriverState, Work}
 use Rattle.marks.specs.Open.{IsIn, moved_of}
 use Rattle.schedule.specs.Groups.{Each}
 use Rattle.true_replies.specs.Events.{reply_of}
 use Rattle.justifying.proofs.FollowLaws.{same_number, other_number}
 use Rattle.taking_runs.specs.Took.{IsNew}
+use Rattle.taking_runs.proofs.Small.{or_right, none_more, each_push, each_on, each_in}
 use Rattle.taking_runs.proofs.Moves.{answers_of}
 use Rattle.taking_runs.proofs.DriverMoves.{Handing, Leaves, IsOld, IsTaken, handing, Stepping, Idles, GoesOn, Ends, stepping}
 use Rattle.taking_runs.proofs.EachDriver.{Keeps}
-use Rattle.taking_runs.proofs.TakingLaws.{has_id, in_has, new_idle, Taken, each_push, each_on}
-use Rattle.taking_runs.proofs.Answering.{none_more}
+use Rattle.taking_runs.proofs.TakingLaws.{has_id, in_has, new_idle}
 use Rattle.taking_runs.proofs.InPlace.{AreInPlace, shorter_in_place, issued_above}
-use Rattle.taking_runs.proofs.Leading.{Leads, leads_first, leads_hands, leads_steps, leads_again_too, leads_issues_too, each_in, has_below}
+use Rattle.taking_runs.proofs.Leading.{Leads, leads_first, leads_hands, leads_steps, leads_again_too, leads_issues_too, has_below}
 
 -- the request with this id
 abbrev pub request_with : ℕ → List BlockRequest → Option BlockRequest
@@ -50,7 +48,8 @@ pub record Counts (issued : List BlockRequest) (replies : List BlockReply) (d : 
 counts_first : (d : DriverState) → IsNew d → Counts [] [] d []
 counts_first d new = record { leads = leads_first d new; rising = tt; asked = tt; bad = (new_idle d new).bad }
 
-counts_hands : (issued : List BlockRequest) (replies : List BlockReply) (b a : DriverState) (line left : List BlockRequest) → Handing b a line left
+counts_hands : (issued : List BlockRequest) (replies : List BlockReply) (b a : DriverState) (line left : List BlockRequest)
+    → Handing b a line left
     → Counts issued replies b line → Counts issued replies a left
 counts_hands issued replies b a line left hands h = record {
   leads = leads_hands issued replies b a line left hands h.leads;
@@ -71,7 +70,8 @@ request_in r (q ∷ issued) rising (inl e) =
     ∙ ap (λ (x : BlockRequest). Some x) (sym e)
 request_in r (q ∷ issued) rising (inr is) =
     ap (λ (b : Bool). if b then Some q else request_with r.id issued)
-    (other_number q.id r.id (λ e. not_both r.id q.id (each_in (λ x. x.id < q.id) r issued is rising.0) e)) ∙ request_in r issued rising.1 is where
+    (other_number q.id r.id (λ e. not_both r.id q.id (each_in (λ x. x.id < q.id) r issued is rising.0) e))
+    ∙ request_in r issued rising.1 is where
       not_both : (m n : ℕ) → m < n → n ≡ m → ⊥
       not_both m n low e = omega (arith, low, e)
 
@@ -95,7 +95,8 @@ bad_push issued (a ∷ replies) x =
       by true m n = omega arith
       by false m n = refl
 
-counts_steps : (issued : List BlockRequest) (replies : List BlockReply) (line : List BlockRequest) (g : ℕ) (b a : DriverState) (answers : List BlockReply)
+counts_steps : (issued : List BlockRequest) (replies : List BlockReply) (line : List BlockRequest) (g : ℕ) (b a : DriverState)
+    (answers : List BlockReply)
     → Stepping g b a answers → Counts issued replies b line → Counts issued (replies ++ answers) a line
 counts_steps issued replies line g b a _ (Idles was now last bad) h = record {
   leads = leads_steps issued replies line g b a [] (Idles was now last bad) h.leads;
@@ -119,13 +120,15 @@ counts_steps issued replies line g b a _ (Ends w answer was now id last bad) h =
     record {
       leads = leads_steps issued replies line g b a (reply_of g answer ∷ []) (Ends w answer was now id last bad) h.leads;
       rising = h.rising;
-      asked = each_push (λ x. has_id x.id issued ≡ true) replies (reply_of g answer) (ap (λ (n : ℕ). has_id n issued) id ∙ in_has w.request issued own.1) h.asked;
+      asked = each_push (λ x. has_id x.id issued ≡ true) replies (reply_of g answer) (ap (λ (n : ℕ). has_id n issued) id
+          ∙ in_has w.request issued own.1) h.asked;
       bad = bad ∙ ap (λ (n : ℕ). n + (if is_good w.request.count answer.outcome then 0 else 1)) h.bad
           ∙ sym (bad_push issued replies (reply_of g answer)
           ∙ ap (λ (t : Bool). bad_among issued replies + (if t then 0 else 1)) good);
     }
 
-counts_again : (issued : List BlockRequest) (replies : List BlockReply) (d : DriverState) (line : List BlockRequest) (r : BlockRequest) → IsIn r issued
+counts_again : (issued : List BlockRequest) (replies : List BlockReply) (d : DriverState) (line : List BlockRequest) (r : BlockRequest)
+    → IsIn r issued
     → Counts issued replies d line → Counts issued replies d (line ++ r ∷ [])
 counts_again issued replies d line r is h = record {
   leads = leads_again_too issued replies d line r is h.leads;
@@ -146,18 +149,13 @@ bad_more issued (a ∷ replies) r above asked =
       not_both : (m n : ℕ) → m ≡ n → n < m → ⊥
       not_both m n e low = omega (arith, e, low)
 
-has_more : (issued : List BlockRequest) (r : BlockRequest) (id : ℕ) → has_id id issued ≡ true → has_id id (r ∷ issued) ≡ true
-has_more issued r id has = by (r.id == id) where
-  by : (b : Bool) → (b || has_id id issued) ≡ true
-  by true = refl
-  by false = has
-
 counts_issues : (issued : List BlockRequest) (replies : List BlockReply) (d : DriverState) (line : List BlockRequest) (r : BlockRequest)
     → Each (λ x. x.id < r.id) issued → 0 < r.id → Counts issued replies d line → Counts (r ∷ issued) replies d (line ++ r ∷ [])
 counts_issues issued replies d line r above some h = record {
   leads = leads_issues_too issued replies d line r above some h.leads;
   rising = (above, h.rising);
-  asked = each_on (λ a. has_id a.id issued ≡ true) (λ a. has_id a.id (r ∷ issued) ≡ true) replies (λ a has. has_more issued r a.id has) h.asked;
+  asked = each_on (λ a. has_id a.id issued ≡ true) (λ a. has_id a.id (r ∷ issued) ≡ true) replies
+      (λ a has. or_right (r.id == a.id) (has_id a.id issued) has) h.asked;
   bad = h.bad ∙ sym (bad_more issued replies r above h.asked);
 }
 

@@ -1,5 +1,5 @@
 -- What each driver keeps over its own moves, all drivers keep over a run.
-use Rattle.std.proofs.Common.{◌≡◌, ℕ, zero, suc, ◌+◌, ◌<◌, ◌≤◌, List, [], ◌∷◌, ◌++◌, length, Bool, true, false, refl, sym, ◌∙◌, ap, subst, arith, ◌⊎◌, inl, inr}
+use Rattle.std.proofs.Common.{◌≡◌, ℕ, zero, suc, ◌+◌, ◌<◌, List, [], ◌∷◌, ◌++◌, length, true, false, refl, sym, ◌∙◌, ap, subst, arith, ◌⊎◌, inl, inr}
 use Rattle.std.proofs.lemmas.Option.{slice_get_within}
 use Rattle.std.specs.Prelude.{Option, Some, None, slice_get, slice_set}
 use Rattle.endpoint.specs.declared.Endpoint.{Endpoint}
@@ -17,13 +17,14 @@ use Rattle.schedule.specs.Drivers.{requests_issued_to}
 use Rattle.inline.specs.Steps.{HandsOver}
 use Rattle.true_replies.specs.Posted.{since_start}
 use Rattle.run_log.specs.declared.log.Post.{Post}
-use Rattle.driver_events.specs.Disks.{Disks, Slot, IsOlder, started, is_at, lined_up}
+use Rattle.driver_events.specs.Disks.{Disks, Slot, started, is_at, lined_up}
 use Rattle.justifying.specs.Core.{Core}
 use Rattle.justifying.specs.Steady.{AllSlots}
 use Rattle.justifying.proofs.SlotLaws.{push_get, same_slot}
 use Rattle.taking_runs.specs.Took.{IsNew, replies_from}
-use Rattle.taking_runs.proofs.Moves.{IsQuiet, answers_of, SlotMoves, Turns, StepsSo, Again, Touches, TheLast, AnOlder, SentBy, Move, Stays, OneMoves, Issues, StartsOne}
-use Rattle.taking_runs.proofs.IssuedLaws.{PostsWere, Known, ToLast, to_last, issued_own, issued_other, next_generation, touched_same}
+use Rattle.taking_runs.proofs.Small.{none_more}
+use Rattle.taking_runs.proofs.Moves.{answers_of, SlotMoves, Turns, StepsSo, Again, Touches, TheLast, AnOlder, Move, Stays, OneMoves, Issues, StartsOne}
+use Rattle.taking_runs.proofs.IssuedLaws.{PostsWere, Known, ToLast, to_last, issued_own, issued_other, next_generation}
 
 -- a list with one thing changed
 set_get : (xs : List Slot) (at k : ℕ) (a s : Slot) → slice_get (slice_set xs at a) k ≡ Some s
@@ -33,13 +34,15 @@ set_get (x ∷ xs) zero zero a s there = inl (refl, sym (same_slot a s there))
 set_get (x ∷ xs) zero (suc k) a s there = inr (λ e. cc, there)
 set_get (x ∷ xs) (suc at) zero a s there = inr (λ e. cc, there)
 set_get (x ∷ xs) (suc at) (suc k) a s there = by (set_get xs at k a s there) where
-  by : ((k ≡ at) × (s ≡ a)) ⊎ ((k ≡ at → ⊥) × (slice_get xs k ≡ Some s)) → ((suc k ≡ suc at) × (s ≡ a)) ⊎ ((suc k ≡ suc at → ⊥) × (slice_get xs k ≡ Some s))
+  by : ((k ≡ at) × (s ≡ a)) ⊎ ((k ≡ at → ⊥) × (slice_get xs k ≡ Some s)) → ((suc k ≡ suc at) × (s ≡ a)) ⊎ ((suc k ≡ suc at
+      → ⊥) × (slice_get xs k ≡ Some s))
   by (inl h) = inl (ap suc h.0, h.1)
   by (inr h) = inr (λ e. h.0 (omega (arith, e)), h.1)
 
 module _ (Was Now : ℕ → Slot → Type 0) where
   -- the last driver alone is changed
-  last_changed : (b a : Disks) → length b.older + 1 ≡ b.media.generation → ((h : ℕ) (s : Slot) → (h ≡ b.media.generation → ⊥) → Was h s → Now h s)
+  last_changed : (b a : Disks) → length b.older + 1 ≡ b.media.generation → ((h : ℕ) (s : Slot) → (h ≡ b.media.generation → ⊥) → Was h s
+      → Now h s)
       → (Was b.media.generation b.current → Now b.media.generation a.current) → a.older ≡ b.older → a.media.generation ≡ b.media.generation
       → AllSlots Was b → AllSlots Now a
   last_changed b a number others own older same h = record {
@@ -53,10 +56,12 @@ module _ (Was Now : ℕ → Slot → Type 0) where
     none at l m within number e = omega (arith, within, number, e)
 
   touched_slots : (R : Slot → Slot → Type 0) (g : ℕ) (b a : Disks) → Touches R g b a → length b.older + 1 ≡ b.media.generation
-      → ((h : ℕ) (s : Slot) → (h ≡ g → ⊥) → Was h s → Now h s) → ((s t : Slot) → R s t → Was g s → Now g t) → AllSlots Was b → AllSlots Now a
+      → ((h : ℕ) (s : Slot) → (h ≡ g → ⊥) → Was h s → Now h s) → ((s t : Slot) → R s t → Was g s → Now g t) → AllSlots Was b
+      → AllSlots Now a
   touched_slots R g b a (TheLast is r older same) number others own h =
       last_changed b a number (λ k s other was. others k s (λ e. other (e ∙ is)) was)
-      (λ was. subst (λ (n : ℕ). Now n a.current) is (own b.current a.current r (subst (λ (n : ℕ). Was n b.current) (sym is) was))) older same h
+      (λ was. subst (λ (n : ℕ). Now n a.current) is (own b.current a.current r
+      (subst (λ (n : ℕ). Was n b.current) (sym is) was))) older same h
   touched_slots R g b a (AnOlder at was new is r older current same) number others own h = record {
     older = λ k s there. by k s (set_get b.older at k new s (ap (λ (l : List Slot). slice_get l k) (sym older) ∙ there));
     current = subst (λ (n : ℕ). Now n a.current) (sym same)
@@ -88,11 +93,9 @@ module _ (Was Now : ℕ → Slot → Type 0) where
     by at s (inl there) = on (at + 1) s (h.older at s there)
     by at s (inr k) =
         let same : b.media.generation ≡ at + 1 = sym number ∙ ap (λ (n : ℕ). n + 1) (sym k.0) in
-        subst (λ (n : ℕ). Now n s) same (subst (λ (x : Slot). Now b.media.generation x) (same_slot b.current s k.1) (on b.media.generation b.current h.current))
-
-none_more : (xs : List BlockReply) → xs ≡ xs ++ []
-none_more [] = refl
-none_more (x ∷ xs) = ap (λ (l : List BlockReply). x ∷ l) (none_more xs)
+        subst (λ (n : ℕ). Now n s) same
+        (subst (λ (x : Slot). Now b.media.generation x) (same_slot b.current s k.1)
+        (on b.media.generation b.current h.current))
 
 -- the accepted post with this number
 post_there : (marks : List Mark) (posts : List Post) (n : ℕ) (p : Post) → slice_get posts n ≡ Some p → PostsWere marks posts
@@ -105,20 +108,24 @@ post_there marks (q ∷ posts) zero p there h = subst (λ (o : Option Post). Was
 post_there marks (q ∷ posts) (suc n) p there h = post_there marks posts n p there h.1
 
 -- what holds of a driver, by what was issued to it, its replies, what is known of it and its line, while the record fits
-pub record Keeps (Fit : List Mark → Type 0) (Holds : List BlockRequest → List BlockReply → DriverState → List BlockRequest → Type 0) : Type 0 where
+pub record Keeps (Fit : List Mark → Type 0)
+    (Holds : List BlockRequest → List BlockReply → DriverState → List BlockRequest → Type 0) : Type 0 where
   pub shorter : (m : Mark) (marks : List Mark) → Fit (m ∷ marks) → Fit marks
   pub at_first : (d : DriverState) → IsNew d → Holds [] [] d []
   pub steps : (issued : List BlockRequest) (replies : List BlockReply) (b : DriverState) (line : List BlockRequest) (handed : DriverState)
       (left : List BlockRequest) (m : MediaState) (g : ℕ) (step : Step) (a : DriverState) (m' : MediaState) → HandsOver b line handed left
       → IsDriver handed → StepKeeps handed m g step a m' → Holds issued replies b line → Holds issued (replies ++ answers_of g step) a left
-  pub again : (issued : List BlockRequest) (replies : List BlockReply) (d : DriverState) (line : List BlockRequest) (r : BlockRequest) → IsIn r issued
+  pub again : (issued : List BlockRequest) (replies : List BlockReply) (d : DriverState) (line : List BlockRequest) (r : BlockRequest)
+      → IsIn r issued
       → Holds issued replies d line → Holds issued replies d (line ++ r ∷ [])
-  pub issues : (marks : List Mark) (r : BlockRequest) (to : Endpoint) (replies : List BlockReply) (d : DriverState) (line : List BlockRequest)
+  pub issues : (marks : List Mark) (r : BlockRequest) (to : Endpoint) (replies : List BlockReply) (d : DriverState)
+      (line : List BlockRequest)
       → Fit (Issued r to ∷ marks) → requests_issued_to to.generation marks ≡ since_start marks
       → Holds (requests_issued_to to.generation marks) replies d line
       → Holds (r ∷ requests_issued_to to.generation marks) replies d (line ++ r ∷ [])
 
-module _ (Fit : List Mark → Type 0) (Holds : List BlockRequest → List BlockReply → DriverState → List BlockRequest → Type 0) (keeps : Keeps Fit Holds) where
+module _ (Fit : List Mark → Type 0) (Holds : List BlockRequest → List BlockReply → DriverState → List BlockRequest → Type 0)
+    (keeps : Keeps Fit Holds) where
   abbrev pub HoldsOf : List Mark → List Sent → ℕ → Slot → Type 0
   HoldsOf marks sent g s = Holds (requests_issued_to g marks) (replies_from g sent) s.state s.line
 
@@ -138,7 +145,8 @@ module _ (Fit : List Mark → Type 0) (Holds : List BlockRequest → List BlockR
       → Holds (requests_issued_to g before) (replies ++ answers) t.state t.line
   moved before posts g s t _ replies (Turns state line) were h = holds_as _ _ replies _ s t refl (sym (none_more replies)) state line h
   moved before posts g s t _ replies (StepsSo m m' step steps) were h =
-      keeps.steps (requests_issued_to g before) replies s.state s.line steps.handed t.line m g step t.state m' steps.hands steps.driver steps.steps h
+      keeps.steps (requests_issued_to g before) replies s.state s.line steps.handed t.line m g step t.state m' steps.hands
+      steps.driver steps.steps h
   moved before posts g s t _ replies (Again n p there to state line) were h =
       let was : IsIn p.request (requests_issued_to g before) =
       subst (λ (x : ℕ). IsIn p.request (requests_issued_to x before)) to (post_there before posts n p there were) in
@@ -147,7 +155,8 @@ module _ (Fit : List Mark → Type 0) (Holds : List BlockRequest → List BlockR
       holds_as _ _ replies _ (record s { line = s.line ++ p.request ∷ [] }) t refl (sym (none_more replies)) state line more
 
   -- the last start's driver has a request more on its line
-  issued_slots : (before : List Mark) (r : BlockRequest) (to : Endpoint) (b : Disks) (supply : List DriverState) (posts : List Post) → is_at to b ≡ true
+  issued_slots : (before : List Mark) (r : BlockRequest) (to : Endpoint) (b : Disks) (supply : List DriverState) (posts : List Post)
+      → is_at to b ≡ true
       → Known before b supply posts → Fit (Issued r to ∷ before) → AllSlots (HoldsOf before b.sent) b
       → AllSlots (HoldsOf (Issued r to ∷ before) b.sent) (lined_up r b)
   issued_slots before r to b supply posts there k fit h =
@@ -162,21 +171,25 @@ module _ (Fit : List Mark → Type 0) (Holds : List BlockRequest → List BlockR
         was_so n = Holds (requests_issued_to n before) (replies_from n b.sent) b.current.state b.current.line
 
         own : to.slot ≡ 1 → requests_issued_to to.generation before ≡ since_start before → was_so to.generation → now to.generation
-        own slot since was = holds_as _ _ _ _ (record (b.current) { line = b.current.line ++ r ∷ [] }) (record (b.current) { line = b.current.line ++ r ∷ [] })
+        own slot since was = holds_as _ _ _ _ (record (b.current) { line = b.current.line ++ r ∷ [] })
+            (record (b.current) { line = b.current.line ++ r ∷ [] })
             (issued_own to.generation r to before slot refl) refl refl refl
             (keeps.issues before r to (replies_from to.generation b.sent) b.current.state b.current.line fit since was)
 
         here : to.generation ≡ b.media.generation → to.slot ≡ 1 → was_so b.media.generation → now b.media.generation
-        here at slot was = subst (λ (n : ℕ). now n) at (own slot (ap (λ (n : ℕ). requests_issued_to n before) at ∙ k.since) (subst (λ (n : ℕ). was_so n) (sym at) was))
+        here at slot was = subst (λ (n : ℕ). now n) at (own slot (ap (λ (n : ℕ). requests_issued_to n before) at
+            ∙ k.since) (subst (λ (n : ℕ). was_so n) (sym at) was))
 
   pub slots_move : (before : List Mark) (c a : Core) (marks : List Mark) → Move c a marks → Known before c.disks c.supply c.posts
-      → (Fit before → AllSlots (HoldsOf before c.disks.sent) c.disks) → Fit (marks ++ before) → AllSlots (HoldsOf (marks ++ before) a.disks.sent) a.disks
+      → (Fit before → AllSlots (HoldsOf before c.disks.sent) c.disks) → Fit (marks ++ before)
+      → AllSlots (HoldsOf (marks ++ before) a.disks.sent) a.disks
   slots_move before c a _ (Stays marks quiet disks supply posts) k h fit =
       subst (λ (d : Disks). AllSlots (HoldsOf (marks ++ before) d.sent) d) (sym disks)
       (slots_as (HoldsOf before c.disks.sent) (HoldsOf (marks ++ before) c.disks.sent) c.disks
       (λ n s was. holds_as _ _ _ _ s s (quiet.none n before) refl refl refl was) (h (fit_before marks before fit)))
   slots_move before c a _ (OneMoves marks g answers quiet touches sent supply posts) k h fit =
-      touched_slots (HoldsOf before c.disks.sent) (HoldsOf (marks ++ before) a.disks.sent) (λ s t. SlotMoves c.posts g s t answers) g c.disks a.disks touches
+      touched_slots (HoldsOf before c.disks.sent) (HoldsOf (marks ++ before) a.disks.sent)
+      (λ s t. SlotMoves c.posts g s t answers) g c.disks a.disks touches
       k.numbered (λ n s other was. holds_as _ _ _ _ s s (quiet.none n before) (sent.others n other) refl refl was)
       (λ s t moves was. holds_as _ _ _ _ t t (quiet.none g before) sent.own refl refl
       (moved before c.posts g s t answers (replies_from g c.disks.sent) moves k.posted was))
@@ -187,7 +200,8 @@ module _ (Fit : List Mark → Type 0) (Holds : List BlockRequest → List BlockR
   slots_move before c a _ (StartsOne e d rest spare supply disks posts) k h fit =
       subst (λ (x : Disks). AllSlots (HoldsOf (Started e ∷ before) x.sent) x) (sym disks)
       (started_slots (HoldsOf before c.disks.sent) (HoldsOf (Started e ∷ before) c.disks.sent) c.disks d k.numbered (λ n s was. was)
-      (holds_as _ _ _ _ first first (k.unstarted (c.disks.media.generation + 1) (omega arith)) (k.silent (c.disks.media.generation + 1) (omega arith)) refl refl
+      (holds_as _ _ _ _ first first (k.unstarted (c.disks.media.generation + 1) (omega arith))
+      (k.silent (c.disks.media.generation + 1) (omega arith)) refl refl
       (keeps.at_first d (subst (λ (l : List DriverState). Each IsNew l) spare k.new).0))
       (h (keeps.shorter (Started e) before fit))) where
         first : Slot

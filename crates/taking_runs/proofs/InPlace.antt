@@ -1,5 +1,5 @@
 -- Requests that are issued in their place: their ids rise from issue to issue to one driver.
-use Rattle.std.proofs.Common.{◌≡◌, ℕ, ◌+◌, ◌<◌, ◌≤◌, List, [], ◌∷◌, ◌++◌, Bool, true, false, refl, sym, ◌∙◌, ap, subst, arith, ◌⊎◌, inl, inr}
+use Rattle.std.proofs.Common.{◌≡◌, ℕ, ◌+◌, ◌<◌, List, [], ◌∷◌, ◌++◌, Bool, true, false, sym, ap, subst, arith, ◌⊎◌, inl, inr}
 use Rattle.std.proofs.lemmas.Bool.Decides.{nat_tests}
 use Rattle.std.specs.Prelude.{◌&&◌, ◌||◌, ◌==◌, not, max, nat_lt, if◌then◌else◌}
 use Rattle.endpoint.specs.declared.Endpoint.{Endpoint}
@@ -7,13 +7,12 @@ use Rattle.message.specs.declared.BlockRequest.{BlockRequest}
 use Rattle.marks.specs.Marks.{Mark, Started, Answered, Flush, GaveUp, Took, Issued, Fault, gave_up}
 use Rattle.marks.specs.Open.{IsIn, IsNew, IsAgain, IsWellFormed, greatest, open_requests}
 use Rattle.marks.proofs.OpenRequests.{open_after_issue, open_answered}
-use Rattle.schedule.specs.declared.Event.{Event}
 use Rattle.schedule.specs.Groups.{Group, marks_of, Each, EachGroup}
 use Rattle.schedule.specs.Drivers.{is_live, requests_issued_to}
 use Rattle.schedule.specs.Starts.{is_among_first, may_issue, are_issued_in_place}
 use Rattle.true_replies.specs.Posted.{since_start}
 use Rattle.taking_runs.specs.TookLaws.{PlacedAsDue}
-use Rattle.taking_runs.proofs.TakingLaws.{each_on}
+use Rattle.taking_runs.proofs.Small.{and_left, and_right, either, each_on}
 
 -- each id is above 0, and above all that were issued, or above those issued since the last start, and before it no other mark
 abbrev pub AreInPlace : List Mark → Type 0
@@ -53,14 +52,6 @@ greatest_above g id (Issued r e ∷ marks) above =
       others m n above = omega (arith, above)
 greatest_above g id (Fault e cause ∷ marks) above = greatest_above g id marks above
 
-and_left : (a b : Bool) → (a && b) ≡ true → a ≡ true
-and_left true b h = refl
-and_left false b h = cc
-
-and_right : (a b : Bool) → (a && b) ≡ true → b ≡ true
-and_right true b h = h
-and_right false b h = cc
-
 less_so : (m n : ℕ) → nat_lt m n ≡ true → m < n
 less_so m n h = grind (arith, nat_tests, h)
 
@@ -73,22 +64,21 @@ first_above id (Flush ∷ marks) first = cc
 first_above id (GaveUp ∷ marks) first = cc
 first_above id (Took who now call reply ∷ marks) first = cc
 first_above id (Issued r e ∷ marks) first =
-    let low : r.id < id = less_so r.id id (and_left (nat_lt r.id id) (is_among_first r.id marks) first) in
-    (low, each_on (λ x. x.id < r.id) (λ x. x.id < id) (since_start marks) (λ x below. less x.id r.id below low)
-    (first_above r.id marks (and_right (nat_lt r.id id) (is_among_first r.id marks) first))) where
+    let low : r.id < id = less_so r.id id (and_left (nat_lt r.id id) (is_among_first r.id marks) first) in (
+      low,
+      each_on (λ x. x.id < r.id) (λ x. x.id < id) (since_start marks) (λ x below. less x.id r.id below low)
+          (first_above r.id marks (and_right (nat_lt r.id id) (is_among_first r.id marks) first)),
+    ) where
       less : (a b : ℕ) → a < b → b < id → a < id
       less a b below low = omega (arith, below, low)
 first_above id (Fault e cause ∷ marks) first = cc
-
-either : (a b : Bool) → (a || b) ≡ true → (a ≡ true) ⊎ (b ≡ true)
-either true b h = inl refl
-either false b h = inr h
 
 -- a request that is issued to the driver of the last start is above all issued to it
 pub issued_above : (r : BlockRequest) (to : Endpoint) (marks : List Mark) → AreInPlace (Issued r to ∷ marks)
     → requests_issued_to to.generation marks ≡ since_start marks → Each (λ x. x.id < r.id) (requests_issued_to to.generation marks)
 issued_above r to marks h since = by (either (nat_lt (greatest marks) r.id) (is_among_first r.id marks) h.1) where
-  by : (nat_lt (greatest marks) r.id ≡ true) ⊎ (is_among_first r.id marks ≡ true) → Each (λ x. x.id < r.id) (requests_issued_to to.generation marks)
+  by : (nat_lt (greatest marks) r.id ≡ true) ⊎ (is_among_first r.id marks ≡ true)
+      → Each (λ x. x.id < r.id) (requests_issued_to to.generation marks)
   by (inl new) = greatest_above to.generation r.id marks (less_so (greatest marks) r.id new)
   by (inr first) = subst (λ (l : List BlockRequest). Each (λ x. x.id < r.id) l) (sym since) (first_above r.id marks first)
 
@@ -115,7 +105,8 @@ last_of_three true true c h = h
 last_of_three true false c h = cc
 last_of_three false b c h = cc
 
-group_in_place : (groups : List Group) (group before : List Mark) → IsWellFormed (group ++ before) → are_issued_in_place groups group before ≡ true
+group_in_place : (groups : List Group) (group before : List Mark) → IsWellFormed (group ++ before)
+    → are_issued_in_place groups group before ≡ true
     → AreInPlace before → AreInPlace (group ++ before)
 group_in_place groups [] before w placed h = h
 group_in_place groups (Started e ∷ group) before w placed h = group_in_place groups group before w.0 placed h
@@ -125,9 +116,11 @@ group_in_place groups (GaveUp ∷ group) before w placed h = group_in_place grou
 group_in_place groups (Took who now call reply ∷ group) before w placed h = group_in_place groups group before w.0 placed h
 group_in_place groups (Issued r to ∷ group) before w placed h = (
   issued_above_0 r (group ++ before) w.0 w.1.1,
-  last_of_three (is_live to.generation groups) (not (gave_up (group ++ before))) (nat_lt (greatest (group ++ before)) r.id || is_among_first r.id (group ++ before))
+  last_of_three (is_live to.generation groups) (not (gave_up (group ++ before)))
+      (nat_lt (greatest (group ++ before)) r.id || is_among_first r.id (group ++ before))
       (and_left (may_issue groups r to (group ++ before)) (are_issued_in_place groups group before) placed),
-  group_in_place groups group before w.0 (and_right (may_issue groups r to (group ++ before)) (are_issued_in_place groups group before) placed) h,
+  group_in_place groups group before w.0
+      (and_right (may_issue groups r to (group ++ before)) (are_issued_in_place groups group before) placed) h,
 )
 group_in_place groups (Fault e cause ∷ group) before w placed h = group_in_place groups group before w.0 placed h
 

@@ -1,24 +1,23 @@
 -- What was issued to each driver: each event keeps it, and so does what is done within one.
-use Rattle.std.proofs.Common.{◌≡◌, ℕ, zero, suc, ◌+◌, ◌<◌, ◌≤◌, List, [], ◌∷◌, ◌++◌, length, Bool, true, false, cond, refl, sym, ◌∙◌, ap, subst, arith, ◌⊎◌, inl, inr}
-use Rattle.std.proofs.lemmas.Bool.Decides.{nat_tests}
-use Rattle.std.specs.Prelude.{◌&&◌, ◌==◌, max, if◌then◌else◌, Option, Some, None, slice_get, slice_set}
+use Rattle.std.proofs.Common.{◌≡◌, ℕ, zero, suc, ◌+◌, ◌<◌, ◌≤◌, List, [], ◌∷◌, ◌++◌, length, Bool, true, false, refl, sym, ◌∙◌, ap, subst, arith, inl, inr}
+use Rattle.std.specs.Prelude.{◌&&◌, ◌==◌, max, if◌then◌else◌, slice_set}
 use Rattle.endpoint.specs.declared.Endpoint.{Endpoint}
 use Rattle.message.specs.declared.BlockRequest.{BlockRequest}
 use Rattle.message.specs.declared.BlockReply.{BlockReply}
 use Rattle.bdev.specs.DriverState.{DriverState}
 use Rattle.marks.specs.Marks.{Mark, Started, Issued}
 use Rattle.marks.specs.Open.{IsIn}
-use Rattle.schedule.specs.declared.Sent.{Sent}
 use Rattle.schedule.specs.Groups.{Each}
 use Rattle.schedule.specs.Drivers.{requests_issued_to}
 use Rattle.true_replies.specs.Posted.{since_start}
 use Rattle.run_log.specs.declared.log.Post.{Post}
-use Rattle.driver_events.specs.Disks.{Disks, Slot, IsOlder, started, is_at, lined_up}
+use Rattle.driver_events.specs.Disks.{Disks, Slot, started, is_at, lined_up}
 use Rattle.justifying.specs.Core.{Core}
 use Rattle.justifying.proofs.FollowLaws.{same_number, other_number}
 use Rattle.justifying.proofs.ExitLaws.{length_more}
 use Rattle.taking_runs.specs.Took.{IsNew, replies_from}
-use Rattle.taking_runs.proofs.Moves.{IsQuiet, SlotMoves, Touches, TheLast, AnOlder, SentBy, Move, Stays, OneMoves, Issues, StartsOne}
+use Rattle.taking_runs.proofs.Small.{and_left, and_right, number_is}
+use Rattle.taking_runs.proofs.Moves.{IsQuiet, Touches, TheLast, AnOlder, SentBy, Move, Stays, OneMoves, Issues, StartsOne}
 
 -- each accepted post was issued to the driver that it names
 abbrev pub PostsWere : List Mark → List Post → Type 0
@@ -34,22 +33,26 @@ pub record Known (marks : List Mark) (d : Disks) (supply : List DriverState) (po
   pub silent : (h : ℕ) → d.media.generation < h → replies_from h d.sent ≡ []
 
 -- what was issued stays issued
-posts_on : (marks after : List Mark) (posts : List Post) → ((h : ℕ) (r : BlockRequest) → IsIn r (requests_issued_to h marks) → IsIn r (requests_issued_to h after))
+posts_on : (marks after : List Mark) (posts : List Post) → ((h : ℕ) (r : BlockRequest) → IsIn r (requests_issued_to h marks)
+    → IsIn r (requests_issued_to h after))
     → PostsWere marks posts → PostsWere after posts
 posts_on marks after [] on h = tt
 posts_on marks after (p ∷ posts) on h = (on p.to.generation p.request h.0, posts_on marks after posts on h.1)
 
-posts_more : (marks : List Mark) (posts : List Post) (p : Post) → PostsWere marks posts → IsIn p.request (requests_issued_to p.to.generation marks)
+posts_more : (marks : List Mark) (posts : List Post) (p : Post) → PostsWere marks posts
+    → IsIn p.request (requests_issued_to p.to.generation marks)
     → PostsWere marks (posts ++ p ∷ [])
 posts_more marks [] p h is = (is, tt)
 posts_more marks (q ∷ posts) p h is = (h.0, posts_more marks posts p h.1 is)
 
-pub quiet_known : (marks before : List Mark) (d : Disks) (supply : List DriverState) (posts : List Post) → IsQuiet marks → Known before d supply posts
+pub quiet_known : (marks before : List Mark) (d : Disks) (supply : List DriverState) (posts : List Post) → IsQuiet marks
+    → Known before d supply posts
     → Known (marks ++ before) d supply posts
 quiet_known marks before d supply posts quiet k = record {
   numbered = k.numbered;
   new = k.new;
-  posted = posts_on before (marks ++ before) posts (λ h r is. subst (λ (l : List BlockRequest). IsIn r l) (sym (quiet.none h before)) is) k.posted;
+  posted = posts_on before (marks ++ before) posts (λ h r is. subst (λ (l : List BlockRequest). IsIn r l)
+      (sym (quiet.none h before)) is) k.posted;
   since = quiet.none d.media.generation before ∙ k.since ∙ sym (quiet.since before);
   unstarted = λ h low. quiet.none h before ∙ k.unstarted h low;
   silent = k.silent;
@@ -74,7 +77,8 @@ pub touched_same : (R : Slot → Slot → Type 0) (g : ℕ) (b a : Disks) → To
 touched_same R g b a (TheLast is r older same) = same
 touched_same R g b a (AnOlder at was new is r older current same) = same
 
-touched_known : (R : Slot → Slot → Type 0) (g : ℕ) (answers : List BlockReply) (marks : List Mark) (b a : Disks) (supply : List DriverState) (posts : List Post)
+touched_known : (R : Slot → Slot
+    → Type 0) (g : ℕ) (answers : List BlockReply) (marks : List Mark) (b a : Disks) (supply : List DriverState) (posts : List Post)
     → Touches R g b a → SentBy g answers b.sent a.sent → Known marks b supply posts → Known marks a supply posts
 touched_known R g answers marks b a supply posts touches sent k =
     let same : a.media.generation ≡ b.media.generation = touched_same R g b a touches in
@@ -93,17 +97,6 @@ touched_known R g answers marks b a supply posts touches sent k =
       not_both h g n is most above = omega (arith, is, most, above)
 
 -- a request is issued to the driver that was started last
-and_left : (a b : Bool) → (a && b) ≡ true → a ≡ true
-and_left true b h = refl
-and_left false b h = cc
-
-and_right : (a b : Bool) → (a && b) ≡ true → b ≡ true
-and_right true b h = h
-and_right false b h = cc
-
-number_is : (n m : ℕ) → (n == m) ≡ true → n ≡ m
-number_is n m h = grind (arith, nat_tests, h)
-
 pub record ToLast (to : Endpoint) (d : Disks) : Type 0 where
   pub slot : to.slot ≡ 1
   pub generation : to.generation ≡ d.media.generation
@@ -126,8 +119,10 @@ to_last to d there = record { slot = number_is to.slot 1 slot; generation = numb
 pub issued_own : (g : ℕ) (r : BlockRequest) (to : Endpoint) (marks : List Mark) → to.slot ≡ 1 → to.generation ≡ g
     → requests_issued_to g (Issued r to ∷ marks) ≡ r ∷ requests_issued_to g marks
 issued_own g r to marks slot is =
-    ap (λ (b : Bool). if b && (to.generation == g) then r ∷ requests_issued_to g marks else requests_issued_to g marks) (ap (λ (n : ℕ). n == 1) slot)
-    ∙ ap (λ (b : Bool). if b then r ∷ requests_issued_to g marks else requests_issued_to g marks) (ap (λ (n : ℕ). n == g) is ∙ same_number g)
+    ap (λ (b : Bool). if b && (to.generation == g) then r ∷ requests_issued_to g marks else requests_issued_to g marks)
+    (ap (λ (n : ℕ). n == 1) slot)
+    ∙ ap (λ (b : Bool). if b then r ∷ requests_issued_to g marks else requests_issued_to g marks) (ap (λ (n : ℕ). n == g) is
+    ∙ same_number g)
 
 pub issued_other : (h : ℕ) (r : BlockRequest) (to : Endpoint) (marks : List Mark) → (h ≡ to.generation → ⊥)
     → requests_issued_to h (Issued r to ∷ marks) ≡ requests_issued_to h marks
@@ -145,7 +140,8 @@ issued_on h r to marks q is = by ((to.slot == 1) && (to.generation == h)) where
   by true = inr is
   by false = is
 
-issued_known : (r : BlockRequest) (to : Endpoint) (marks : List Mark) (d : Disks) (supply : List DriverState) (posts : List Post) → is_at to d ≡ true
+issued_known : (r : BlockRequest) (to : Endpoint) (marks : List Mark) (d : Disks) (supply : List DriverState) (posts : List Post)
+    → is_at to d ≡ true
     → Known marks d supply posts → Known (Issued r to ∷ marks) (lined_up r d) supply (posts ++ record { to = to; request = r } ∷ [])
 issued_known r to marks d supply posts there k =
     let last : ToLast to d = to_last to d there in
@@ -156,7 +152,8 @@ issued_known r to marks d supply posts there k =
           (posts_on marks (Issued r to ∷ marks) posts (λ h q is. issued_on h r to marks q is) k.posted)
           (subst (λ (l : List BlockRequest). IsIn r l) (sym (issued_own to.generation r to marks last.slot refl)) (inl refl));
       since = issued_own d.media.generation r to marks last.slot last.generation ∙ ap (λ (l : List BlockRequest). r ∷ l) k.since;
-      unstarted = λ h low. issued_other h r to marks (λ is. not_both h to.generation d.media.generation is last.generation low) ∙ k.unstarted h low;
+      unstarted = λ h low. issued_other h r to marks (λ is. not_both h to.generation d.media.generation is last.generation low)
+          ∙ k.unstarted h low;
       silent = k.silent;
     } where
       not_both : (h g n : ℕ) → h ≡ g → g ≡ n → n < h → ⊥
@@ -184,7 +181,8 @@ started_known e d rest marks b posts k =
       below n m h is low = omega (arith, is, low)
 
 -- the same by another name
-known_as : (marks : List Mark) (b a : Disks) (s t : List DriverState) (p q : List Post) → a ≡ b → t ≡ s → q ≡ p → Known marks b s p → Known marks a t q
+known_as : (marks : List Mark) (b a : Disks) (s t : List DriverState) (p q : List Post) → a ≡ b → t ≡ s → q ≡ p → Known marks b s p
+    → Known marks a t q
 known_as marks b a s t p q disks supply posts k =
     subst (λ (x : List Post). Known marks a t x) (sym posts)
     (subst (λ (x : List DriverState). Known marks a x p) (sym supply) (subst (λ (x : Disks). Known marks x s p) (sym disks) k))
@@ -192,12 +190,15 @@ known_as marks b a s t p q disks supply posts k =
 pub known_moves : (before : List Mark) (c a : Core) (marks : List Mark) → Move c a marks → Known before c.disks c.supply c.posts
     → Known (marks ++ before) a.disks a.supply a.posts
 known_moves before c a _ (Stays marks quiet disks supply posts) k =
-    known_as (marks ++ before) c.disks a.disks c.supply a.supply c.posts a.posts disks supply posts (quiet_known marks before c.disks c.supply c.posts quiet k)
+    known_as (marks ++ before) c.disks a.disks c.supply a.supply c.posts a.posts disks supply posts
+    (quiet_known marks before c.disks c.supply c.posts quiet k)
 known_moves before c a _ (OneMoves marks g answers quiet touches sent supply posts) k =
     known_as (marks ++ before) a.disks a.disks c.supply a.supply c.posts a.posts refl supply posts
-    (quiet_known marks before a.disks c.supply c.posts quiet (touched_known _ g answers before c.disks a.disks c.supply c.posts touches sent k))
+    (quiet_known marks before a.disks c.supply c.posts quiet
+    (touched_known _ g answers before c.disks a.disks c.supply c.posts touches sent k))
 known_moves before c a _ (Issues r to there disks supply posts) k =
-    known_as (Issued r to ∷ before) _ a.disks c.supply a.supply _ a.posts disks supply posts (issued_known r to before c.disks c.supply c.posts there k)
+    known_as (Issued r to ∷ before) _ a.disks c.supply a.supply _ a.posts disks supply posts
+    (issued_known r to before c.disks c.supply c.posts there k)
 known_moves before c a _ (StartsOne e d rest spare supply disks posts) k =
     known_as (Started e ∷ before) _ a.disks rest a.supply c.posts a.posts disks supply posts
     (started_known e d rest before c.disks c.posts (subst (λ (x : List DriverState). Known before c.disks x c.posts) spare k))

@@ -1,3 +1,4 @@
+pub mod Small
 pub mod Moves
 pub mod IssuedLaws
 pub mod EachDriver
@@ -9,3 +10,4 @@ pub mod Answering
 pub mod Leading
 pub mod Counting
 pub mod ReplyLaws
+pub mod NewDrivers

@@ -1,6 +1,6 @@
 -- What each event, and what is done within one, does to the drivers and to what was issued to them.
-use Rattle.std.proofs.Common.{◌≡◌, ℕ, zero, suc, ◌+◌, ◌<◌, ◌≤◌, List, [], ◌∷◌, ◌++◌, length, Bool, true, false, cond, refl, sym, ◌∙◌, ap, subst, arith}
-use Rattle.std.specs.Prelude.{◌==◌, if◌then◌else◌, Option, Some, None, Result, Ok, Err, slice_get, slice_set}
+use Rattle.std.proofs.Common.{◌≡◌, ℕ, ◌+◌, List, [], ◌∷◌, ◌++◌, Bool, true, false, refl, sym, ◌∙◌, ap, subst}
+use Rattle.std.specs.Prelude.{◌==◌, if◌then◌else◌, Option, Some, None, Result, Ok, slice_get, slice_set}
 use Rattle.endpoint.specs.declared.Endpoint.{Endpoint}
 use Rattle.message.specs.declared.BlockRequest.{BlockRequest}
 use Rattle.message.specs.declared.BlockReply.{BlockReply}
@@ -8,25 +8,25 @@ use Rattle.media.specs.Contents.{MediaState}
 use Rattle.bdev.specs.declared.Step.{Step}
 use Rattle.bdev.specs.declared.Step.TheVariants.{Working, Idle, Done, Failed}
 use Rattle.bdev.specs.DriverState.{DriverState}
-use Rattle.policy.specs.Watch.{Watch, driver}
-use Rattle.marks.specs.Marks.{Mark, Started, Answered, Flush, GaveUp, Took, Issued, Fault}
+use Rattle.policy.specs.Watch.{driver}
+use Rattle.marks.specs.Marks.{Mark, Started, Issued}
 use Rattle.marks.specs.declared.Cause.{Cause}
-use Rattle.marks.specs.declared.Cause.TheVariants.{Exit, Hung, Complaint}
+use Rattle.marks.specs.declared.Cause.TheVariants.{Exit, Hung}
 use Rattle.schedule.specs.declared.Sent.{Sent}
 use Rattle.schedule.specs.declared.Event.{Event}
-use Rattle.schedule.specs.declared.Event.TheVariants as event
 use Rattle.schedule.specs.Groups.{Group}
 use Rattle.schedule.specs.Drivers.{requests_issued_to}
 use Rattle.true_replies.specs.Posted.{since_start}
 use Rattle.true_replies.specs.Events.{reply_of}
 use Rattle.reissue.specs.declared.link.LinkRefusal.{LinkRefusal}
 use Rattle.run_log.specs.declared.log.Post.{Post}
-use Rattle.driver_events.specs.Disks.{Disks, Slot, SlotSteps, IsOlder, started, sent_at, is_at, lined, lined_up, Steps, NoStep, CurrentSteps, OlderSteps, Dies, NoneDies, CurrentDies, OlderDies, Hangs, NoneHangs, CurrentHangs, OlderHangs, LinesUp, NoneIsThere, LineIsFull, IsLinedUp, LinesUpAgain, NoneLinesUp, CurrentLinesUp, OlderLinesUp, Repeats}
-use Rattle.justifying.specs.Core.{Core, FollowsGroups}
+use Rattle.driver_events.specs.Disks.{Disks, Slot, SlotSteps, IsOlder, started, sent_at, is_at, lined_up, Steps, NoStep, CurrentSteps, OlderSteps, Dies, NoneDies, CurrentDies, OlderDies, Hangs, NoneHangs, CurrentHangs, OlderHangs, LinesUp, NoneIsThere, LineIsFull, IsLinedUp, LinesUpAgain, NoneLinesUp, CurrentLinesUp, OlderLinesUp, Repeats}
+use Rattle.justifying.specs.Core.{Core}
 use Rattle.justifying.specs.Happens.{fault_marks, exit_marks, blame_marks, beaten_core, TicksTo, Beats, MissesOne, FoundHung, WaitsOn, StartsNext, IsOver, Begins, Arrives, Flushes, Answers, Drops, Delivers, LinesAgain, HangsOne, StepsOne, FailsOne, DiesNone, DiesOne, Ticks, Adds, AddsNothing, Posts, Replies, Complains, Pays}
 use Rattle.justifying.proofs.DiskMoves.{steps_generation, dies_generation}
 use Rattle.justifying.proofs.FollowLaws.{same_number, other_number}
 use Rattle.taking_runs.specs.Took.{replies_from}
+use Rattle.taking_runs.proofs.Small.{none_more}
 
 -- nothing is issued in these marks, and none of them is a start
 pub record IsQuiet (marks : List Mark) : Type 0 where
@@ -84,10 +84,6 @@ quiet_blame : (ends : Option Bool) (e : Endpoint) → IsQuiet (blame_marks ends 
 quiet_blame None e = quiet_none
 quiet_blame (Some ends) e = record { none = λ h before. refl; since = λ before. refl }
 
-none_more : (xs : List BlockReply) → xs ≡ xs ++ []
-none_more [] = refl
-none_more (x ∷ xs) = ap (λ (l : List BlockReply). x ∷ l) (none_more xs)
-
 -- nothing is sent
 sent_none : (g : ℕ) (sent : List Sent) → SentBy g [] sent sent
 sent_none g sent = record { own = none_more (replies_from g sent); others = λ h other. refl }
@@ -105,12 +101,14 @@ replies_append h (t ∷ sent) more =
       by true = refl
       by false = refl
 
-one_reply : (g place : ℕ) (r : BlockReply) → r.from.generation ≡ g → (sent : List Sent) → SentBy g (r ∷ []) sent (sent ++ record { reply = r; place = place } ∷ [])
+one_reply : (g place : ℕ) (r : BlockReply) → r.from.generation ≡ g → (sent : List Sent) → SentBy g (r ∷ []) sent
+    (sent ++ record { reply = r; place = place } ∷ [])
 one_reply g place r is sent = record {
   own = replies_append g sent (record { reply = r; place = place } ∷ [])
       ∙ ap (λ (b : Bool). replies_from g sent ++ (if b then r ∷ [] else [])) (ap (λ (n : ℕ). n == g) is ∙ same_number g);
   others = λ h other. replies_append h sent (record { reply = r; place = place } ∷ [])
-      ∙ ap (λ (b : Bool). replies_from h sent ++ (if b then r ∷ [] else [])) (ap (λ (n : ℕ). n == h) is ∙ other_number g h (λ e. other (sym e)))
+      ∙ ap (λ (b : Bool). replies_from h sent ++ (if b then r ∷ [] else [])) (ap (λ (n : ℕ). n == h) is
+      ∙ other_number g h (λ e. other (sym e)))
       ∙ sym (none_more (replies_from h sent));
 }
 
@@ -128,12 +126,14 @@ one_moved c a d marks g answers quiet is touches sent supply posts =
     OneMoves marks g answers quiet (subst (λ (x : Disks). Touches (λ s t. SlotMoves c.posts g s t answers) g c.disks x) (sym is) touches)
     (subst (λ (x : Disks). SentBy g answers c.disks.sent x.sent) (sym is) sent) supply posts
 
-steps_move : (place g : ℕ) (c a : Core) (result : Option Step) (d : Disks) (marks : List Mark) → IsQuiet marks → Steps place g c.disks result d → a.disks ≡ d
+steps_move : (place g : ℕ) (c a : Core) (result : Option Step) (d : Disks) (marks : List Mark) → IsQuiet marks
+    → Steps place g c.disks result d → a.disks ≡ d
     → a.supply ≡ c.supply → a.posts ≡ c.posts → Move c a marks
 steps_move place g c a _ _ marks quiet (NoStep none) is supply posts = Stays marks quiet is supply posts
 steps_move place g c a _ _ marks quiet (CurrentSteps step s m at live steps) is supply posts =
     one_moved c a _ marks g (answers_of g step) quiet is
-    (TheLast at (StepsSo c.disks.media m step steps) refl (steps_generation place g c.disks _ (Some step) (CurrentSteps step s m at live steps)))
+    (TheLast at (StepsSo c.disks.media m step steps) refl
+    (steps_generation place g c.disks _ (Some step) (CurrentSteps step s m at live steps)))
     (sent_by place g step c.disks.sent) supply posts
 steps_move place g c a _ _ marks quiet (OlderSteps at was s step m older live steps) is supply posts =
     one_moved c a _ marks g (answers_of g step) quiet is
@@ -141,7 +141,8 @@ steps_move place g c a _ _ marks quiet (OlderSteps at was s step m older live st
     (steps_generation place g c.disks _ (Some step) (OlderSteps at was s step m older live steps)))
     (sent_by place g step c.disks.sent) supply posts
 
-dies_move : (g : ℕ) (bytes : Option (List ℕ)) (c a : Core) (died : Bool) (d : Disks) (marks : List Mark) → IsQuiet marks → Dies g bytes c.disks died d → a.disks ≡ d
+dies_move : (g : ℕ) (bytes : Option (List ℕ)) (c a : Core) (died : Bool) (d : Disks) (marks : List Mark) → IsQuiet marks
+    → Dies g bytes c.disks died d → a.disks ≡ d
     → a.supply ≡ c.supply → a.posts ≡ c.posts → Move c a marks
 dies_move g bytes c a _ _ marks quiet (NoneDies none) is supply posts = Stays marks quiet is supply posts
 dies_move g bytes c a _ _ marks quiet (CurrentDies at live) is supply posts =
@@ -157,11 +158,13 @@ hangs_move g c a _ (CurrentHangs at) is supply posts =
 hangs_move g c a _ (OlderHangs at was older) is supply posts =
     one_moved c a _ [] g [] quiet_none is (AnOlder at was _ older (Turns refl refl) refl refl refl) (sent_none g c.disks.sent) supply posts
 
-again_move : (n : ℕ) (p : Post) (c a : Core) (d : Disks) → slice_get c.posts n ≡ Some p → LinesUpAgain p.to.generation p.request c.disks d → a.disks ≡ d
+again_move : (n : ℕ) (p : Post) (c a : Core) (d : Disks) → slice_get c.posts n ≡ Some p
+    → LinesUpAgain p.to.generation p.request c.disks d → a.disks ≡ d
     → a.supply ≡ c.supply → a.posts ≡ c.posts → Move c a []
 again_move n p c a _ there (NoneLinesUp none) is supply posts = Stays [] quiet_none is supply posts
 again_move n p c a _ there (CurrentLinesUp at live few) is supply posts =
-    one_moved c a _ [] p.to.generation [] quiet_none is (TheLast at (Again n p there refl refl refl) refl refl) (sent_none p.to.generation c.disks.sent)
+    one_moved c a _ [] p.to.generation [] quiet_none is (TheLast at (Again n p there refl refl refl) refl refl)
+    (sent_none p.to.generation c.disks.sent)
     supply posts
 again_move n p c a _ there (OlderLinesUp at was older live few) is supply posts =
     one_moved c a _ [] p.to.generation [] quiet_none is (AnOlder at was _ older (Again n p there refl refl refl) refl refl refl)
@@ -172,7 +175,8 @@ repeats_move : (n : ℕ) (p : Option Post) (c a : Core) (d : Disks) → p ≡ sl
 repeats_move n None c a d there again is supply posts = Stays [] quiet_none (is ∙ again) supply posts
 repeats_move n (Some p) c a d there again is supply posts = again_move n p c a d (sym there) again is supply posts
 
-tick_move : (c a : Core) (marks : List Mark) → c.disks.media.generation ≡ c.watch.generation → TicksTo (beaten_core c) marks a → Move c a marks
+tick_move : (c a : Core) (marks : List Mark) → c.disks.media.generation ≡ c.watch.generation → TicksTo (beaten_core c) marks a
+    → Move c a marks
 tick_move c _ _ latest (Beats last count is same) = Stays [] quiet_none refl refl refl
 tick_move c _ _ latest (MissesOne last count is same few) = Stays [] quiet_none refl refl refl
 tick_move c _ _ latest (FoundHung last count ends after is same enough fault) =
@@ -182,11 +186,13 @@ tick_move c _ _ latest (StartsNext until d rest is come spare) =
     StartsOne (driver (c.watch.generation + 1)) d rest spare refl (ap (λ (n : ℕ). started (n + 1) d c.disks) (sym latest)) refl
 tick_move c _ _ latest (IsOver is) = Stays [] quiet_none refl refl refl
 
-pub begins_move : (place : ℕ) (groups : List Group) (c a : Core) (event : Event) (marks : List Mark) → c.disks.media.generation ≡ c.watch.generation
+pub begins_move : (place : ℕ) (groups : List Group) (c a : Core) (event : Event) (marks : List Mark)
+    → c.disks.media.generation ≡ c.watch.generation
     → Begins place groups c event marks a → Move c a marks
 begins_move place groups c _ _ _ latest (Arrives who now call) = Stays [] quiet_none refl refl refl
 begins_move place groups c _ _ _ latest Flushes = Stays _ (record { none = λ h before. refl; since = λ before. refl }) refl refl refl
-begins_move place groups c _ _ _ latest (Answers n s there counts) = Stays _ (record { none = λ h before. refl; since = λ before. refl }) refl refl refl
+begins_move place groups c _ _ _ latest (Answers n s there counts) =
+    Stays _ (record { none = λ h before. refl; since = λ before. refl }) refl refl refl
 begins_move place groups c _ _ _ latest (Drops n s there counts) = Stays [] quiet_none refl refl refl
 begins_move place groups c _ _ _ latest (Delivers n there) = Stays [] quiet_none refl refl refl
 begins_move place groups c _ _ _ latest (LinesAgain n p d same again) = repeats_move n p c _ d same again refl refl refl
@@ -199,7 +205,8 @@ begins_move place groups c _ _ _ latest (DiesOne g bytes d ends after dies repor
     dies_move g bytes c _ true d _ (quiet_exit ends (driver g)) dies refl refl refl
 begins_move place groups c a _ marks latest (Ticks _ _ ticks) = tick_move c a marks latest ticks
 
-posts_move : (r : BlockRequest) (to : Endpoint) (c a : Core) (d : Disks) (result : Result (Unit {0}) LinkRefusal) → LinesUp to r c.disks result d → result ≡ Ok tt → a.disks ≡ d
+posts_move : (r : BlockRequest) (to : Endpoint) (c a : Core) (d : Disks) (result : Result (Unit {0}) LinkRefusal)
+    → LinesUp to r c.disks result d → result ≡ Ok tt → a.disks ≡ d
     → a.supply ≡ c.supply → a.posts ≡ c.posts ++ record { to = to; request = r } ∷ [] → Move c a (Issued r to ∷ [])
 posts_move r to c a _ _ (NoneIsThere none) ok is supply posts = cc
 posts_move r to c a _ _ (LineIsFull there full) ok is supply posts = cc

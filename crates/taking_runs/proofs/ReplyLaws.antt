@@ -1,61 +1,44 @@
 -- The replies of each driver are those that it gave as it stands.
-use Rattle.std.proofs.Common.{◌≡◌, ℕ, ◌+◌, ◌<◌, ◌≤◌, List, [], ◌∷◌, ◌++◌, length, Bool, true, false, refl, sym, ◌∙◌, ap, subst, arith, ◌⊎◌, inl, inr}
+use Rattle.std.proofs.Common.{◌≡◌, ℕ, ◌+◌, ◌<◌, ◌≤◌, List, [], ◌∷◌, length, Bool, true, false, refl, sym, ◌∙◌, ap, subst, arith, ◌⊎◌, inl, inr}
 use Rattle.std.proofs.lemmas.Bool.Decides.{nat_tests}
 use Rattle.std.specs.Prelude.{◌&&◌, ◌||◌, ◌==◌, not, max, nat_le, nat_lt, if◌then◌else◌, Option, Some, None, IfSome, is_some}
 use Rattle.endpoint.specs.declared.Endpoint.{Endpoint}
 use Rattle.message.specs.declared.BlockRequest.{BlockRequest}
-use Rattle.message.specs.declared.BlockReply.{BlockReply}
-use Rattle.media.specs.Contents.{MediaState}
 use Rattle.bdev.specs.DriverState.{DriverState, Work}
-use Rattle.policy.specs.declared.Policy.{Policy}
-use Rattle.policy.specs.Watch.{driver, new_watch}
+use Rattle.policy.specs.Watch.{driver}
 use Rattle.marks.specs.Marks.{Mark, Started, Answered, Flush, GaveUp, Took, Issued, Fault}
 use Rattle.marks.specs.Open.{IsIn, IsNew as IsNewId, IsAgain, IsWellFormed, greatest, moved_of, open_requests}
 use Rattle.marks.proofs.OpenRequests.{open_below, open_after_issue, open_answered, one_id}
 use Rattle.schedule.specs.declared.Sent.{Sent}
-use Rattle.schedule.specs.declared.Event.{Event}
-use Rattle.schedule.specs.Groups.{Group, marks_of, Each, EachGroup}
-use Rattle.schedule.specs.Drivers.{state_of, requests_issued_to}
+use Rattle.schedule.specs.Groups.{Group, marks_of, Each}
+use Rattle.schedule.specs.Drivers.{requests_issued_to}
 use Rattle.schedule.specs.Replies.{issued_with, is_good_reply, bad_of, replies_of, is_working_on, is_done_with, IsRepliedTo, IsOfItsDriver, are_ids_rising, RepliesOf}
-use Rattle.driver_events.specs.Disks.{Slot}
-use Rattle.playing.specs.PlayView.{IsOpened}
-use Rattle.playing.specs.Moments.{Moment, Resting, Runs}
-use Rattle.justifying.specs.Steady.{drivers_of}
 use Rattle.justifying.proofs.FollowLaws.{same_number, other_number}
 use Rattle.justified_runs.specs.Said.{core_of}
-use Rattle.taking_runs.specs.Took.{IsNew, replies_from}
-use Rattle.taking_runs.specs.TookLaws.{PlacedAsDue, RunsKeepReplies}
+use Rattle.taking_runs.specs.Took.{replies_from}
+use Rattle.taking_runs.specs.TookLaws.{RunsKeepReplies}
+use Rattle.taking_runs.proofs.Small.{clash, and_left, and_right, number_is, each_on}
 use Rattle.taking_runs.proofs.EachDriver.{HoldsOf}
 use Rattle.taking_runs.proofs.HoldingLaws.{HoldsSoFar}
-use Rattle.taking_runs.proofs.TakingLaws.{has_id, Taken, runs_hold, each_driver}
+use Rattle.taking_runs.proofs.TakingLaws.{has_id, runs_hold, each_driver}
 use Rattle.taking_runs.proofs.Answering.{limit, limit_of, rise_from}
 use Rattle.taking_runs.proofs.InPlace.{AreInPlace, all_in_place}
-use Rattle.taking_runs.proofs.Leading.{times, has_below}
+use Rattle.taking_runs.proofs.Leading.{times}
 use Rattle.taking_runs.proofs.Counting.{request_with, is_good_in, bad_among, Counts, counts_keeps}
 
 -- an id is done with where it is below the limit
-done_limit : (work : Option Work) (last id : ℕ) → IfSome work (λ w. w.request.id ≡ last) → (nat_le id last && not (is_working_on work id)) ≡ true
+done_limit : (work : Option Work) (last id : ℕ) → IfSome work (λ w. w.request.id ≡ last)
+    → (nat_le id last && not (is_working_on work id)) ≡ true
     → id < limit_of work last
-done_limit None last id own done = grind (arith, nat_tests, by (nat_le id last) done) where
-  by : (b : Bool) → (b && true) ≡ true → b ≡ true
-  by true h = refl
-  by false h = cc
-done_limit (Some w) last id own done = less (low (nat_le id last) (not (w.request.id == id)) done) (other (w.request.id == id) refl done) where
-  low : (b c : Bool) → (b && c) ≡ true → b ≡ true
-  low true c h = refl
-  low false c h = cc
+done_limit None last id own done = let most : nat_le id last ≡ true = and_left (nat_le id last) true done in grind (arith, nat_tests, most)
+done_limit (Some w) last id own done = less (and_left (nat_le id last) (not (w.request.id == id)) done)
+    (other (w.request.id == id) refl done) where
+      other : (c : Bool) → (w.request.id == id) ≡ c → (nat_le id last && not c) ≡ true → last ≡ id → ⊥
+      other true is h same = clash (sym (and_right (nat_le id last) false h))
+      other false is h same = clash (sym (ap (λ (n : ℕ). n == id) (own ∙ same) ∙ same_number id) ∙ is)
 
-  other : (c : Bool) → (w.request.id == id) ≡ c → (nat_le id last && not c) ≡ true → last ≡ id → ⊥
-  other true is h same = clash (nat_le id last) h where
-    clash : (b : Bool) → (b && false) ≡ true → ⊥
-    clash true k = cc
-    clash false k = cc
-  other false is h same = clash (sym (ap (λ (n : ℕ). n == id) (own ∙ same) ∙ same_number id) ∙ is) where
-    clash : ◌≡◌ {A = Bool} true false → ⊥
-    clash k = cc
-
-  less : nat_le id last ≡ true → (last ≡ id → ⊥) → id < last
-  less most different = grind (arith, nat_tests, most, different)
+      less : nat_le id last ≡ true → (last ≡ id → ⊥) → id < last
+      less most different = grind (arith, nat_tests, most, different)
 
 limit_done : (work : Option Work) (last id : ℕ) → IfSome work (λ w. w.request.id ≡ last) → id < limit_of work last
     → (nat_le id last && not (is_working_on work id)) ≡ true
@@ -73,16 +56,17 @@ own_work issued last None h = tt
 own_work issued last (Some w) h = h.0
 
 -- the replies of one driver
-own_replies : (g : ℕ) (d : DriverState) (sent : List Sent) → Each (λ a. is_done_with d a.id ≡ true) (replies_from g sent) → Each (IsOfItsDriver g d) sent
+own_replies : (g : ℕ) (d : DriverState) (sent : List Sent) → Each (λ a. is_done_with d a.id ≡ true) (replies_from g sent)
+    → Each (IsOfItsDriver g d) sent
 own_replies g d [] h = tt
 own_replies g d (s ∷ sent) h = by (λ k. own_replies g d sent k) (s.reply.from.generation == g) refl h where
   other : (s.reply.from.generation == g) ≡ false → s.reply.from.generation ≡ g → ⊥
-  other is e = clash (sym (ap (λ (n : ℕ). n == g) e ∙ same_number g) ∙ is) where
-    clash : ◌≡◌ {A = Bool} true false → ⊥
-    clash k = cc
+  other is e = clash (sym (ap (λ (n : ℕ). n == g) e ∙ same_number g) ∙ is)
 
-  by : (Each (λ a. is_done_with d a.id ≡ true) (replies_from g sent) → Each (IsOfItsDriver g d) sent) → (b : Bool) → (s.reply.from.generation == g) ≡ b
-      → Each (λ a. is_done_with d a.id ≡ true) (if b then s.reply ∷ replies_from g sent else replies_from g sent) → Each (IsOfItsDriver g d) (s ∷ sent)
+  by : (Each (λ a. is_done_with d a.id ≡ true) (replies_from g sent) → Each (IsOfItsDriver g d) sent) → (b : Bool)
+      → (s.reply.from.generation == g) ≡ b
+      → Each (λ a. is_done_with d a.id ≡ true) (if b then s.reply ∷ replies_from g sent else replies_from g sent)
+      → Each (IsOfItsDriver g d) (s ∷ sent)
   by later true is k = (record { done = λ e. k.0 }, later k.1)
   by later false is k = (record { done = λ e. absurd (other is e) }, later k)
 
@@ -123,21 +107,25 @@ one_reply g d sent (Issued r e ∷ marks) h =
       at is = ap (λ (x : Endpoint). (x.slot == 1) && (x.generation == g)) is ∙ ap (λ (b : Bool). b) (same_number g)
 
       other : ((e.slot == 1) && (e.generation == g)) ≡ false → e ≡ driver g → ⊥
-      other none is = clash (sym (at is) ∙ none) where
-        clash : ◌≡◌ {A = Bool} true false → ⊥
-        clash k = cc
+      other none is = clash (sym (at is) ∙ none)
 
-      by : (Each (λ x. is_done_with d x.id ≡ true → replies_of g x.id sent ≡ 1) (requests_issued_to g marks) → Each (IsRepliedTo g d sent) marks)
+      by : (Each (λ x. is_done_with d x.id ≡ true → replies_of g x.id sent ≡ 1) (requests_issued_to g marks)
+          → Each (IsRepliedTo g d sent) marks)
           → (b : Bool) → ((e.slot == 1) && (e.generation == g)) ≡ b
-          → Each (λ x. is_done_with d x.id ≡ true → replies_of g x.id sent ≡ 1) (if b then r ∷ requests_issued_to g marks else requests_issued_to g marks)
+          → Each (λ x. is_done_with d x.id ≡ true
+          → replies_of g x.id sent ≡ 1) (if b then r ∷ requests_issued_to g marks else requests_issued_to g marks)
           → Each (IsRepliedTo g d sent) (Issued r e ∷ marks)
       by later true is k = (λ same done. k.0 done, later k.1)
       by later false is k = (λ same done. absurd (other is same), later k)
 
--- in a well-formed record the last request with an open one's id is that one
-number_is : (n m : ℕ) → (n == m) ≡ true → n ≡ m
-number_is n m h = grind (arith, nat_tests, h)
+-- a request whose id isn't above the greatest is issued again
+again_where_low : (marks : List Mark) (r : BlockRequest) → r.id ≤ greatest marks → IsNewId marks r ⊎ IsAgain marks r → IsAgain marks r
+again_where_low marks r low (inl new) = absurd (not_both r.id (greatest marks) low new.next) where
+  not_both : (m n : ℕ) → m ≤ n → m ≡ n + 1 → ⊥
+  not_both m n low is = omega (arith, low, is)
+again_where_low marks r low (inr again) = again
 
+-- in a well-formed record the last request with an open one's id is that one
 open_issued : (marks : List Mark) (q : BlockRequest) → IsWellFormed marks → IsIn q (open_requests marks) → issued_with q.id marks ≡ Some q
 open_issued [] q w is = absurd is
 open_issued (Started e ∷ marks) q w is = open_issued marks q w.0 is
@@ -148,17 +136,13 @@ open_issued (Took who now call reply ∷ marks) q w is = open_issued marks q w.0
 open_issued (Fault e cause ∷ marks) q w is = open_issued marks q w.0 is
 open_issued (Issued r e ∷ marks) q w is =
     by (λ k. open_issued marks q w.0 k) (r.id == q.id) refl ((open_after_issue marks r e w.1.1).only q is) w.1.1 where
-      not_new : (n m g : ℕ) → n ≡ m → n ≡ g + 1 → m ≤ g → ⊥
-      not_new n m g same next low = omega (arith, same, next, low)
-
       same_one : IsIn q (open_requests marks) → r.id ≡ q.id → IsNewId marks r ⊎ IsAgain marks r → r ≡ q
-      same_one k e (inl new) = absurd (not_new r.id q.id (greatest marks) e new.next (open_below marks q k))
-      same_one k e (inr again) = one_id marks w.0 r q again.same k e
+      same_one k e how =
+          let low : r.id ≤ greatest marks = subst (λ (n : ℕ). n ≤ greatest marks) (sym e) (open_below marks q k) in
+          one_id marks w.0 r q (again_where_low marks r low how).same k e
 
       differ : (r.id == q.id) ≡ false → q ≡ r → ⊥
-      differ is e = clash (sym (ap (λ (x : BlockRequest). r.id == x.id) e ∙ same_number r.id) ∙ is) where
-        clash : ◌≡◌ {A = Bool} true false → ⊥
-        clash k = cc
+      differ is e = clash (sym (ap (λ (x : BlockRequest). r.id == x.id) e ∙ same_number r.id) ∙ is)
 
       by : (IsIn q (open_requests marks) → issued_with q.id marks ≡ Some q) → (b : Bool) → (r.id == q.id) ≡ b
           → IsIn q (open_requests marks) ⊎ ((q ≡ r) × (r.id ≡ greatest marks + 1)) → IsNewId marks r ⊎ IsAgain marks r
@@ -206,16 +190,18 @@ same_request g id (Took who now call reply ∷ marks) w has = same_request g id 
 same_request g id (Fault e cause ∷ marks) w has = same_request g id marks w.0 has
 same_request g id (Issued r e ∷ marks) w has =
     by (λ k. same_request g id marks w.0 k) ((e.slot == 1) && (e.generation == g)) (r.id == id) refl has where
-      not_new : (n m h : ℕ) → n ≡ m → n ≡ h + 1 → m ≤ h → ⊥
-      not_new n m h same next low = omega (arith, same, next, low)
+      again : (r.id == id) ≡ true → has_id id (requests_issued_to g marks) ≡ true → IsNewId marks r ⊎ IsAgain marks r
+          → Some r ≡ issued_with id marks
+      again is k how =
+          let same : r.id ≡ id = number_is r.id id is in
+          let low : r.id ≤ greatest marks = subst (λ (n : ℕ). n ≤ greatest marks) (sym same) (issued_low g id marks k) in
+          sym (ap (λ (n : ℕ). issued_with n marks) (sym same) ∙ open_issued marks r w.0 (again_where_low marks r low how).same)
 
-      again : (r.id == id) ≡ true → has_id id (requests_issued_to g marks) ≡ true → IsNewId marks r ⊎ IsAgain marks r → Some r ≡ issued_with id marks
-      again is k (inl new) = absurd (not_new r.id id (greatest marks) (number_is r.id id is) new.next (issued_low g id marks k))
-      again is k (inr same) = sym (ap (λ (n : ℕ). issued_with n marks) (sym (number_is r.id id is)) ∙ open_issued marks r w.0 same.same)
-
-      by : (has_id id (requests_issued_to g marks) ≡ true → issued_with id marks ≡ request_with id (requests_issued_to g marks)) → (a b : Bool)
+      by : (has_id id (requests_issued_to g marks) ≡ true → issued_with id marks ≡ request_with id (requests_issued_to g marks))
+          → (a b : Bool)
           → (r.id == id) ≡ b → has_id id (if a then r ∷ requests_issued_to g marks else requests_issued_to g marks) ≡ true
-          → (if b then Some r else issued_with id marks) ≡ request_with id (if a then r ∷ requests_issued_to g marks else requests_issued_to g marks)
+          → (if b then Some r else issued_with id marks)
+          ≡ request_with id (if a then r ∷ requests_issued_to g marks else requests_issued_to g marks)
       by later true true is k = sym (ap (λ (t : Bool). if t then Some r else request_with id (requests_issued_to g marks)) is)
       by later true false is k =
           later (sym (ap (λ (t : Bool). t || has_id id (requests_issued_to g marks)) is) ∙ k)
@@ -228,7 +214,8 @@ bad_replies : (g : ℕ) (marks : List Mark) (sent : List Sent) → IsWellFormed 
     → bad_of g marks sent ≡ bad_among (requests_issued_to g marks) (replies_from g sent)
 bad_replies g marks [] w asked = refl
 bad_replies g marks (s ∷ sent) w asked = by (λ k. bad_replies g marks sent w k) (s.reply.from.generation == g) asked where
-  good : has_id s.reply.id (requests_issued_to g marks) ≡ true → is_good_reply marks s.reply ≡ is_good_in (requests_issued_to g marks) s.reply
+  good : has_id s.reply.id (requests_issued_to g marks) ≡ true
+      → is_good_reply marks s.reply ≡ is_good_in (requests_issued_to g marks) s.reply
   good has = ap (λ (o : Option BlockRequest). is_some (moved_of o s.reply)) (same_request g s.reply.id marks w has)
 
   by : (Each (λ a. has_id a.id (requests_issued_to g marks) ≡ true) (replies_from g sent)
@@ -242,10 +229,6 @@ bad_replies g marks (s ∷ sent) w asked = by (λ k. bad_replies g marks sent w 
       else bad_among (requests_issued_to g marks) (replies_from g sent)) (good k.0)
   by later false k = later k
 
-each_as : {A : Type 0} (P Q : A → Type 0) (xs : List A) → ((x : A) → P x → Q x) → Each P xs → Each Q xs
-each_as P Q [] on h = tt
-each_as P Q (x ∷ xs) on h = (on x h.0, each_as P Q xs on h.1)
-
 replies_stand : (marks : List Mark) (sent : List Sent) (g : ℕ) (d : DriverState) (line : List BlockRequest) → IsWellFormed marks
     → Counts (requests_issued_to g marks) (replies_from g sent) d line → RepliesOf marks sent g d
 replies_stand marks sent g d line w h =
@@ -253,11 +236,11 @@ replies_stand marks sent g d line w h =
     let own : IfSome d.work (λ x. x.request.id ≡ d.last) = own_work issued d.last d.work h.leads.replied.taken.work in
     record {
       bad = bad_replies g marks sent w h.asked ∙ sym h.bad;
-      one = one_reply g d sent marks (each_as (λ r. r.id < limit d → times r.id (replies_from g sent) ≡ 1)
+      one = one_reply g d sent marks (each_on (λ r. r.id < limit d → times r.id (replies_from g sent) ≡ 1)
           (λ r. is_done_with d r.id ≡ true → replies_of g r.id sent ≡ 1) issued
           (λ r k done. times_replies g r.id sent ∙ k (done_limit d.work d.last r.id own done)) h.leads.one);
       rising = rising_replies g 0 sent ∙ h.leads.replied.rising;
-      own = own_replies g d sent (each_as (λ a. a.id < limit d) (λ a. is_done_with d a.id ≡ true) (replies_from g sent)
+      own = own_replies g d sent (each_on (λ a. a.id < limit d) (λ a. is_done_with d a.id ≡ true) (replies_from g sent)
           (λ a low. limit_done d.work d.last a.id own low) h.leads.replied.done);
     }
 
@@ -266,6 +249,7 @@ runs_keep_replies media rules supply events minor b a new fresh o rests runs pla
     let groups : List Group = a.play.scene.noted.groups in
     let h : HoldsSoFar AreInPlace Counts counts_keeps (length supply) a.play.next groups (core_of a.play) =
     runs_hold AreInPlace Counts counts_keeps media rules supply events minor b a new fresh o rests runs in
-    each_driver (HoldsOf AreInPlace Counts counts_keeps (marks_of groups) a.play.scene.disks.sent) (RepliesOf (marks_of groups) a.play.scene.disks.sent)
+    each_driver (HoldsOf AreInPlace Counts counts_keeps (marks_of groups) a.play.scene.disks.sent)
+    (RepliesOf (marks_of groups) a.play.scene.disks.sent)
     (λ g s k. replies_stand (marks_of groups) a.play.scene.disks.sent g s.state s.line w k) a.play.scene.disks h.issued.numbered
     (h.slots (all_in_place groups placed w))

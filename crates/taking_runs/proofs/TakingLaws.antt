@@ -1,14 +1,11 @@
 -- What stands with a driver was issued to it.
-use Rattle.std.proofs.Common.{◌≡◌, ℕ, zero, suc, ◌+◌, ◌<◌, ◌≤◌, List, [], ◌∷◌, ◌++◌, length, Bool, true, false, refl, sym, ◌∙◌, ap, subst, arith, ◌⊎◌, inl, inr}
-use Rattle.std.proofs.lemmas.Bool.Decides.{nat_tests}
+use Rattle.std.proofs.Common.{◌≡◌, ℕ, zero, suc, ◌+◌, ◌≤◌, List, [], ◌∷◌, ◌++◌, length, Bool, true, false, refl, sym, ◌∙◌, ap, subst, arith, ◌⊎◌, inl, inr}
 use Rattle.std.specs.Prelude.{◌&&◌, ◌||◌, ◌==◌, if◌then◌else◌, map, Option, Some, None, IfSome, IsSomeAnd, slice_get}
-use Rattle.endpoint.specs.declared.Endpoint.{Endpoint}
 use Rattle.message.specs.declared.BlockRequest.{BlockRequest}
 use Rattle.message.specs.declared.BlockReply.{BlockReply}
 use Rattle.media.specs.Contents.{MediaState}
-use Rattle.bdev.specs.declared.Step.{Step}
 use Rattle.bdev.specs.DriverState.{DriverState, Work}
-use Rattle.bdev.specs.Promises.{requests_in_work, StepKeeps, IsDriver, Takes}
+use Rattle.bdev.specs.Promises.{requests_in_work}
 use Rattle.policy.specs.declared.Policy.{Policy}
 use Rattle.policy.specs.Watch.{new_watch}
 use Rattle.marks.specs.Marks.{Mark, Started, Answered, Flush, GaveUp, Took, Issued, Fault}
@@ -17,21 +14,20 @@ use Rattle.schedule.specs.declared.Sent.{Sent}
 use Rattle.schedule.specs.declared.Event.{Event}
 use Rattle.schedule.specs.Groups.{Group, marks_of, Each}
 use Rattle.schedule.specs.Drivers.{state_of, is_issued_to, requests_issued_to, TookItsOwn}
-use Rattle.inline.specs.Steps.{HandsOver}
-use Rattle.true_replies.specs.Posted.{since_start}
 use Rattle.driver_events.specs.Disks.{Disks, Slot}
 use Rattle.playing.specs.PlayView.{IsOpened}
 use Rattle.playing.specs.Moments.{Moment, Resting, Runs}
-use Rattle.justifying.specs.Core.{Core, FollowsGroups}
+use Rattle.justifying.specs.Core.{Core}
 use Rattle.justifying.specs.Seen.{core_at}
 use Rattle.justifying.specs.Steady.{IsKept, AllSlots, state_in, drivers_of}
 use Rattle.justifying.proofs.FollowLaws.{same_number}
 use Rattle.justifying.proofs.SlotLaws.{push_get, same_slot}
-use Rattle.justified_runs.specs.Said.{core_of, IsSaid, StandsBefore}
+use Rattle.justified_runs.specs.Said.{core_of}
 use Rattle.justified_runs.proofs.SaidLaws.{runs_said}
 use Rattle.justified_runs.proofs.OpeningLaws.{opened_scene, opened_said, opened_follows, begins_before, calm_before}
 use Rattle.taking_runs.specs.Took.{IsNew, replies_from, IssuedSoFar, SlotTook, TookSoFar}
 use Rattle.taking_runs.specs.TookLaws.{TookIsKept, RunsGiveTook, RunsKeepTook}
+use Rattle.taking_runs.proofs.Small.{or_right, each_push, each_on}
 use Rattle.taking_runs.proofs.Moves.{answers_of}
 use Rattle.taking_runs.proofs.DriverMoves.{Handing, Leaves, IsOld, IsTaken, handing, Stepping, Idles, GoesOn, Ends, stepping}
 use Rattle.taking_runs.proofs.EachDriver.{Keeps, HoldsOf, slots_as}
@@ -41,10 +37,6 @@ use Rattle.taking_runs.proofs.HoldingLaws.{HoldsSoFar, holds_kept}
 abbrev pub has_id : ℕ → List BlockRequest → Bool
 has_id id [] = false
 has_id id (r ∷ rs) = (r.id == id) || has_id id rs
-
-or_right : (a b : Bool) → b ≡ true → (a || b) ≡ true
-or_right true b is = refl
-or_right false b is = is
 
 pub in_has : (r : BlockRequest) (rs : List BlockRequest) → IsIn r rs → has_id r.id rs ≡ true
 in_has r [] h = absurd h
@@ -74,7 +66,8 @@ new_idle d new = record { work = by d.work refl; bad = none } where
 
   by : (w : Option Work) → d.work ≡ w → d.work ≡ None
   by None is = is
-  by (Some w) is = absurd (clash d.last (subst (λ (o : Option Work). d.bad + requests_in_work o ≤ d.last) is new.driver.bad_is_few) new.unused)
+  by (Some w) is =
+      absurd (clash d.last (subst (λ (o : Option Work). d.bad + requests_in_work o ≤ d.last) is new.driver.bad_is_few) new.unused)
 
 pub taken_first : (d : DriverState) → IsNew d → Taken [] [] d []
 taken_first d new = record {
@@ -83,7 +76,8 @@ taken_first d new = record {
   waits = tt;
 }
 
-taken_as : (issued : List BlockRequest) (replies : List BlockReply) (b a : DriverState) (line : List BlockRequest) → a ≡ b → Taken issued replies b line
+taken_as : (issued : List BlockRequest) (replies : List BlockReply) (b a : DriverState) (line : List BlockRequest) → a ≡ b
+    → Taken issued replies b line
     → Taken issued replies a line
 taken_as issued replies b a line is h = subst (λ (x : DriverState). Taken issued replies x line) (sym is) h
 
@@ -91,19 +85,22 @@ pub some_if : (o : Option Work) (P Q : Work → Type 0) → ((w : Work) → P w 
 some_if None P Q on h = tt
 some_if (Some w) P Q on h = on w h
 
-pub taken_hands : (issued : List BlockRequest) (replies : List BlockReply) (b a : DriverState) (line left : List BlockRequest) → Handing b a line left
+pub taken_hands : (issued : List BlockRequest) (replies : List BlockReply) (b a : DriverState) (line left : List BlockRequest)
+    → Handing b a line left
     → Taken issued replies b line → Taken issued replies a left
 taken_hands issued replies b a line _ (Leaves _ is) h = taken_as issued replies b a line is h
 taken_hands issued replies b a _ _ (IsOld q rest low is) h =
     taken_as issued replies b a rest is (record { last = h.last; work = h.work; waits = h.waits.1 })
 taken_hands issued replies b a _ _ (IsTaken q rest none above takes) h = record {
   last = or_right (a.last == 0) (has_id a.last issued) (ap (λ (n : ℕ). has_id n issued) takes.last ∙ in_has q issued h.waits.0);
-  work = some_if a.work (λ w. (w.request ≡ q) × ((k : ℕ) → w.moved k ≡ false)) (λ w. (w.request.id ≡ a.last) × IsIn w.request issued) (λ w is.
+  work = some_if a.work (λ w. (w.request ≡ q) × ((k : ℕ) → w.moved k ≡ false)) (λ w. (w.request.id ≡ a.last) × IsIn w.request issued)
+      (λ w is.
       (ap (λ (r : BlockRequest). r.id) is.0 ∙ sym takes.last, subst (λ (r : BlockRequest). IsIn r issued) (sym is.0) h.waits.0)) takes.work;
   waits = h.waits.1;
 }
 
-pub taken_steps : (issued : List BlockRequest) (replies : List BlockReply) (line : List BlockRequest) (g : ℕ) (b a : DriverState) (answers : List BlockReply)
+pub taken_steps : (issued : List BlockRequest) (replies : List BlockReply) (line : List BlockRequest) (g : ℕ) (b a : DriverState)
+    (answers : List BlockReply)
     → Stepping g b a answers → Taken issued replies b line → Taken issued (replies ++ answers) a line
 taken_steps issued replies line g b a _ (Idles was now last bad) h = record {
   last = ap (λ (n : ℕ). (n == 0) || has_id n issued) last ∙ h.last;
@@ -124,15 +121,8 @@ taken_steps issued replies line g b a _ (Ends w answer was now id last bad) h = 
   waits = h.waits;
 }
 
-pub each_push : {A : Type 0} (P : A → Type 0) (line : List A) (r : A) → P r → Each P line → Each P (line ++ r ∷ [])
-each_push P [] r is h = (is, tt)
-each_push P (q ∷ line) r is h = (h.0, each_push P line r is h.1)
-
-pub each_on : {A : Type 0} (P Q : A → Type 0) (line : List A) → ((r : A) → P r → Q r) → Each P line → Each Q line
-each_on P Q [] on h = tt
-each_on P Q (q ∷ line) on h = (on q h.0, each_on P Q line on h.1)
-
-pub taken_again : (issued : List BlockRequest) (replies : List BlockReply) (d : DriverState) (line : List BlockRequest) (r : BlockRequest) → IsIn r issued
+pub taken_again : (issued : List BlockRequest) (replies : List BlockReply) (d : DriverState) (line : List BlockRequest)
+    (r : BlockRequest) → IsIn r issued
     → Taken issued replies d line → Taken issued replies d (line ++ r ∷ [])
 taken_again issued replies d line r is h = record { last = h.last; work = h.work; waits = each_push (λ q. IsIn q issued) line r is h.waits }
 
@@ -141,7 +131,8 @@ pub taken_more : (issued : List BlockRequest) (replies : List BlockReply) (d : D
     → Taken issued replies d line → Taken (r ∷ issued) replies d line
 taken_more issued replies d line r h = record {
   last = by (d.last == 0) (r.id == d.last) (has_id d.last issued) h.last;
-  work = some_still d.work (λ w. (w.request.id ≡ d.last) × IsIn w.request issued) (λ w. (w.request.id ≡ d.last) × IsIn w.request (r ∷ issued))
+  work = some_still d.work (λ w. (w.request.id ≡ d.last) × IsIn w.request issued)
+      (λ w. (w.request.id ≡ d.last) × IsIn w.request (r ∷ issued))
       (λ w k. (k.0, inr k.1)) h.work;
   waits = each_on (λ q. IsIn q issued) (λ q. IsIn q (r ∷ issued)) line (λ q is. inr is) h.waits;
 } where
@@ -182,7 +173,8 @@ issued_same g id (GaveUp ∷ marks) = issued_same g id marks
 issued_same g id (Took who now call reply ∷ marks) = issued_same g id marks
 issued_same g id (Fault e cause ∷ marks) = issued_same g id marks
 issued_same g id (Issued r e ∷ marks) =
-    ap (λ (b : Bool). ((e.slot == 1) && (e.generation == g) && (r.id == id)) || b) (issued_same g id marks) ∙ by (e.slot == 1) (e.generation == g) where
+    ap (λ (b : Bool). ((e.slot == 1) && (e.generation == g) && (r.id == id)) || b) (issued_same g id marks)
+    ∙ by (e.slot == 1) (e.generation == g) where
       by : (a b : Bool) → ((a && b && (r.id == id)) || has_id id (requests_issued_to g marks))
           ≡ has_id id (if a && b then r ∷ requests_issued_to g marks else requests_issued_to g marks)
       by true true = refl
@@ -191,7 +183,11 @@ issued_same g id (Issued r e ∷ marks) =
 
 pub took_its_own : (marks : List Mark) (g : ℕ) (replies : List BlockReply) (d : DriverState) (line : List BlockRequest)
     → Taken (requests_issued_to g marks) replies d line → TookItsOwn marks g d
-took_its_own marks g replies d line h = record { last = ap (λ (b : Bool). (d.last == 0) || b) (issued_same g d.last marks) ∙ h.last; work = h.work }
+took_its_own marks g replies d line h = record {
+  last = ap (λ (b : Bool). (d.last == 0) || b) (issued_same g d.last marks)
+      ∙ h.last;
+  work = h.work;
+}
 
 slot_taken : (groups : List Group) (sent : List Sent) (g : ℕ) (s : Slot) → SlotTook groups g s
     → HoldsOf AnyRecord Taken taken_keeps (marks_of groups) sent g s
@@ -235,7 +231,8 @@ took_kept drivers =
     }
 
 -- before the first event nothing was issued
-pub opened_issued : (media : MediaState) (rules : Policy) (supply : List DriverState) (first : DriverState) (rest : List DriverState) → media.generation ≡ 0
+pub opened_issued : (media : MediaState) (rules : Policy) (supply : List DriverState) (first : DriverState) (rest : List DriverState)
+    → media.generation ≡ 0
     → supply ≡ first ∷ rest → Each IsNew rest
     → IssuedSoFar (length supply) [] (core_at (opened_scene media rules (length supply) first rest) false false)
 opened_issued media rules supply first rest new spare fresh = record {
@@ -249,7 +246,8 @@ opened_issued media rules supply first rest new spare fresh = record {
 }
 
 -- what each driver keeps holds of each at each moment of a run
-module _ (Fit : List Mark → Type 0) (Holds : List BlockRequest → List BlockReply → DriverState → List BlockRequest → Type 0) (keeps : Keeps Fit Holds) where
+module _ (Fit : List Mark → Type 0) (Holds : List BlockRequest → List BlockReply → DriverState → List BlockRequest → Type 0)
+    (keeps : Keeps Fit Holds) where
   pub runs_hold : (media : MediaState) (rules : Policy) (supply : List DriverState) (events : List Event) (minor : ℕ) (b a : Moment)
       → media.generation ≡ 0 → Each IsNew supply → IsOpened media rules (new_watch (length supply)) supply events b.play → b.doing ≡ Resting
       → Runs minor b a → HoldsSoFar Fit Holds keeps (length supply) a.play.next a.play.scene.noted.groups (core_of a.play)
@@ -268,14 +266,16 @@ runs_give_took media rules supply events minor b a new fresh o rests runs =
     took_so_far (length supply) a.play.next a.play.scene.noted.groups (core_of a.play)
     (runs_hold AnyRecord Taken taken_keeps media rules supply events minor b a new fresh o rests runs)
 
-states_stand : (slots : List Slot) (Good : ℕ → DriverState → Type 0) → ((k : ℕ) (s : Slot) → slice_get slots k ≡ Some s → Good k s.state) → (k : ℕ)
+states_stand : (slots : List Slot) (Good : ℕ → DriverState → Type 0) → ((k : ℕ) (s : Slot) → slice_get slots k ≡ Some s
+    → Good k s.state) → (k : ℕ)
     → IfSome (slice_get (map state_in slots) k) (Good k)
 states_stand [] Good f k = tt
 states_stand (s ∷ slots) Good f zero = f zero s refl
 states_stand (s ∷ slots) Good f (suc k) = states_stand slots (λ (j : ℕ). Good (suc j)) (λ j t there. f (suc j) t there) k
 
 -- what holds of all slots holds of each driver by its number
-pub each_driver : (Stands : ℕ → Slot → Type 0) (Good : ℕ → DriverState → Type 0) → ((g : ℕ) (s : Slot) → Stands g s → Good g s.state) → (d : Disks)
+pub each_driver : (Stands : ℕ → Slot → Type 0) (Good : ℕ → DriverState → Type 0) → ((g : ℕ) (s : Slot) → Stands g s → Good g s.state)
+    → (d : Disks)
     → length d.older + 1 ≡ d.media.generation → AllSlots Stands d → (g : ℕ) → IfSome (state_of (drivers_of d) g) (Good g)
 each_driver Stands Good on d number h zero = tt
 each_driver Stands Good on d number h (suc g) =
@@ -294,4 +294,5 @@ pub runs_keep_took : RunsKeepTook
 runs_keep_took media rules supply events minor b a new fresh o rests runs =
     let h : TookSoFar (length supply) a.play.next a.play.scene.noted.groups (core_of a.play) =
     runs_give_took media rules supply events minor b a new fresh o rests runs in
-    each_driver (SlotTook a.play.scene.noted.groups) (TookItsOwn (marks_of a.play.scene.noted.groups)) (λ g s k. k.took) a.play.scene.disks h.issued.numbered h.slots
+    each_driver (SlotTook a.play.scene.noted.groups) (TookItsOwn (marks_of a.play.scene.noted.groups))
+    (λ g s k. k.took) a.play.scene.disks h.issued.numbered h.slots

@@ -1,6 +1,5 @@
 -- What was issued to each driver of a run, what it took of that, and what it answered.
 use Rattle.std.specs.Prelude.{◌≡◌, ℕ, ◌+◌, ◌<◌, List, [], ◌∷◌, length, ◌==◌, if◌then◌else◌}
-use Rattle.message.specs.declared.BlockRequest.{BlockRequest}
 use Rattle.message.specs.declared.BlockReply.{BlockReply}
 use Rattle.bdev.specs.DriverState.{DriverState}
 use Rattle.bdev.specs.Promises.{IsDriver}

@@ -1,21 +1,27 @@
 -- What a whole run keeps of what its drivers took and answered.
-use Rattle.std.specs.Prelude.{◌≡◌, ℕ, List, ◌∷◌, length, true, IfSome}
+use Rattle.std.specs.Prelude.{◌≡◌, ℕ, List, ◌∷◌, length, true, All, IfSome}
 use Rattle.bdev.specs.DriverState.{DriverState}
 use Rattle.media.specs.Contents.{MediaState}
 use Rattle.policy.specs.declared.Policy.{Policy}
 use Rattle.policy.specs.Watch.{new_watch}
 use Rattle.marks.specs.Marks.{Mark}
 use Rattle.marks.specs.Open.{IsWellFormed}
+use Rattle.marks.specs.Opening.{Opening}
 use Rattle.schedule.specs.declared.Event.{Event}
 use Rattle.schedule.specs.Groups.{Group, marks_of, Each, EachGroup}
 use Rattle.schedule.specs.Drivers.{state_of, TookItsOwn}
 use Rattle.schedule.specs.Starts.{are_issued_in_place}
 use Rattle.schedule.specs.Replies.{RepliesOf}
+use Rattle.inline.specs.Inline.{IsReady}
 use Rattle.playing.specs.PlayView.{IsOpened}
 use Rattle.playing.specs.Moments.{Moment, Resting, Runs}
 use Rattle.justifying.specs.Steady.{IsKept, drivers_of}
 use Rattle.justified_runs.specs.Said.{core_of}
 use Rattle.taking_runs.specs.Took.{IsNew, TookSoFar}
+
+-- drivers that are ready for a volume were handed in new
+abbrev pub ReadyAreNew : Type 0
+ReadyAreNew = (v : Opening) (supply : List DriverState) → All (IsReady v) supply → Each IsNew supply
 
 -- each event, and what is done within it, keeps that what stands with a driver was issued to it
 abbrev pub TookIsKept : Type 0
@@ -45,4 +51,5 @@ RunsKeepReplies =
     (media : MediaState) (rules : Policy) (supply : List DriverState) (events : List Event) (minor : ℕ) (b a : Moment)
     → media.generation ≡ 0 → Each IsNew supply → IsOpened media rules (new_watch (length supply)) supply events b.play → b.doing ≡ Resting
     → Runs minor b a → EachGroup PlacedAsDue a.play.scene.noted.groups → IsWellFormed (marks_of a.play.scene.noted.groups)
-    → (g : ℕ) → IfSome (state_of (drivers_of a.play.scene.disks) g) (RepliesOf (marks_of a.play.scene.noted.groups) a.play.scene.disks.sent g)
+    → (g : ℕ) → IfSome (state_of (drivers_of a.play.scene.disks) g)
+    (RepliesOf (marks_of a.play.scene.noted.groups) a.play.scene.disks.sent g)

@@ -1,6 +1,11 @@
 //! What a whole run keeps of what its drivers took and answered, each a law of the definitions.
 
-ghost use Rattle.taking_runs.specs.TookLaws.{RunsGiveTook, RunsKeepReplies, RunsKeepTook, TookIsKept};
+ghost use Rattle.taking_runs.specs.TookLaws.{ReadyAreNew, RunsGiveTook, RunsKeepReplies, RunsKeepTook, TookIsKept};
+
+/// Drivers that are ready for a volume took nothing yet.
+pub fn ready_are_new()
+    ensures { ReadyAreNew }
+{}
 
 /// What stands with a driver was issued to it: what it took last, what it works on, and each request on its line.
 pub fn took_is_kept()
