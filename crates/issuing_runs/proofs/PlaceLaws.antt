@@ -60,7 +60,7 @@ quiet_message (Some incoming.Flush) marks o other n is = record { unposted = is;
 quiet_message (Some incoming.End) marks o other n is = record { unposted = is; numbered = n }
 
 -- a start that is awaited comes before the device is given up
-waits_on : (drivers : ℕ) (groups : List Group) (c : Core) (until : ℕ) → FollowsGroups drivers groups c → c.watch.phase ≡ Waiting until → gave_up (served groups) ≡ false
+pub waits_on : (drivers : ℕ) (groups : List Group) (c : Core) (until : ℕ) → FollowsGroups drivers groups c → c.watch.phase ≡ Waiting until → gave_up (served groups) ≡ false
 waits_on drivers groups c until h is =
     let w : WaitsNow (story c.policy c.watch.generation groups) c until =
     subst (λ (p : Phase). PhaseIs (story c.policy c.watch.generation groups) c p) is h.phase_is in
@@ -119,7 +119,7 @@ start_issues drivers place event groups c a o t g next slots disks low goes_on n
     })
 
 -- an event
-begins : (drivers place : ℕ) (groups : List Group) (c a : Core) (event : Event) (marks : List Mark) (result : Option Incoming) (o : Outbox)
+pub begins : (drivers place : ℕ) (groups : List Group) (c a : Core) (event : Event) (marks : List Mark) (result : Option Incoming) (o : Outbox)
     → c.owed ≡ false → IsAtRest (served groups) o → Begins place groups c event marks a
     → served ((event, marks) ∷ groups) ≡ with_next result (served groups) → Issues drivers place groups c o true
     → Issues drivers (place + 1) ((event, marks) ∷ groups) a (owed_with result (served groups) o) true
