@@ -1,16 +1,14 @@
 -- Where a request is to be posted, the line of its driver has room: it holds at most 16 requests, and others that are open.
-use Rattle.std.proofs.Common.{◌≡◌, ℕ, zero, suc, ◌+◌, ◌<◌, ◌≤◌, List, [], ◌∷◌, ◌++◌, length, max, Bool, true, false, cond, refl, sym, ◌∙◌, ap, subst, arith, inl, inr, ◌⊎◌}
+use Rattle.std.proofs.Common.{◌≡◌, ℕ, suc, ◌+◌, ◌<◌, ◌≤◌, List, [], ◌∷◌, ◌++◌, length, Bool, true, false, refl, sym, ◌∙◌, ap, subst, arith, inl, inr, ◌⊎◌}
 use Rattle.std.proofs.lemmas.List.{length-append}
-use Rattle.std.specs.Prelude.{Option, Some, None, Result, Ok, Err, ◌&&◌, not, ◌==◌, if◌then◌else◌}
+use Rattle.std.specs.Prelude.{Option, Some, Ok, Err, if◌then◌else◌}
 use Rattle.endpoint.specs.declared.Endpoint.{Endpoint}
 use Rattle.message.specs.declared.BlockRequest.{BlockRequest}
 use Rattle.message.specs.declared.Incoming.{Incoming}
 use Rattle.message.specs.declared.Incoming.TheVariants as incoming
 use Rattle.bdev.specs.DriverState.{DriverState}
-use Rattle.media.specs.Contents.{MediaState}
-use Rattle.policy.specs.declared.Policy.{Policy}
-use Rattle.policy.specs.Watch.{driver, new_watch}
-use Rattle.marks.specs.Marks.{Mark, Started, Issued, gave_up, last_started}
+use Rattle.policy.specs.Watch.{driver}
+use Rattle.marks.specs.Marks.{Mark, Issued, gave_up, last_started}
 use Rattle.marks.specs.Open.{greatest, open_requests, without_id}
 use Rattle.marks.specs.Acts.{Outbox, MayBegin, MayPost, IsAtRest, first_of, empty_outbox}
 use Rattle.marks.proofs.OpenRequests.{below_open}
@@ -19,20 +17,18 @@ use Rattle.schedule.specs.declared.Event.{Event}
 use Rattle.schedule.specs.Groups.{Group, marks_of, started_in, Each}
 use Rattle.reissue.specs.declared.link.LinkRefusal.{LinkRefusal}
 use Rattle.run_log.specs.declared.log.Post.{Post}
-use Rattle.driver_events.specs.Disks.{Disks, LinesUp, IsLinedUp, is_at, lined_up, started}
+use Rattle.driver_events.specs.Disks.{Disks, LinesUp, IsLinedUp, lined_up, started}
 use Rattle.driver_events.specs.Kept.{with_next}
-use Rattle.playing.specs.PlayView.{Play, IsOpened}
-use Rattle.playing.specs.Moments.{Moment, Resting, record_of, Runs}
 use Rattle.justifying.specs.Core.{Core}
 use Rattle.justifying.specs.Seen.{core_at}
 use Rattle.justifying.specs.Happens.{Begins, Adds, AddsNothing, Posts, Replies, Complains, Pays}
 use Rattle.justified_runs.specs.Said.{core_of, IsSaid, StandsBefore}
 use Rattle.justified_runs.proofs.OpeningLaws.{opened_scene, opened_said, calm_before}
 use Rattle.issuing_runs.specs.Issuing.{IsNew, RunsKeepRoom}
-use Rattle.issuing_runs.proofs.OwingLaws.{owed_with, served, IsCalm, is_quiet, with_began, with_posted, core_posted, IsKeptOwing, IsOwed, at_work, served_is, runs_owed}
+use Rattle.issuing_runs.proofs.OwingLaws.{owed_with, served, IsCalm, is_quiet, with_began, with_posted, core_posted, IsKeptOwing, IsOwed, at_work, runs_owed}
 use Rattle.issuing_runs.proofs.NumberLaws.{length_push, FirstOut, first_out}
-use Rattle.issuing_runs.proofs.Starting.{NextStart, BeginsCalmly, begins_calm, not_told, told_of, same_last, Within, adds_within, Numbers, adds_numbers}
-use Rattle.issuing_runs.proofs.Issues.{AllOpen, all_open_as, AgainNow, Issues, levelled, begins_one, rests, adds, posts, refused, at_generation}
+use Rattle.issuing_runs.proofs.Starting.{NextStart, begins_calm, not_told, told_of, same_last, Within, adds_within, Numbers, adds_numbers}
+use Rattle.issuing_runs.proofs.Issues.{all_open_as, AgainNow, Issues, levelled, begins_one, rests, adds, posts, refused, at_generation}
 use Rattle.issuing_runs.proofs.PlaceLaws.{begins, waits_on, issues_opened, slots_opened}
 use Rattle.issuing_runs.proofs.Lines.{Between, OnLine, PostLow, between_push, between_join, between_numbered, between_rising, post_push, few_open, open_in, issue_leaves, same_line, lined_on, started_on}
 use Rattle.issuing_runs.proofs.Roomy.{on_line_as, EventLine, event_line, message_unposted, PostFacts, post_facts, FirstPosted, first_posted, posts_more, posts_older, refused_same}
