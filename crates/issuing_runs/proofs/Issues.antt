@@ -1,40 +1,30 @@
 -- What a run keeps of the requests that it issues: each in its place, and all open ones after a start.
-use Rattle.std.proofs.Common.{◌≡◌, ℕ, zero, suc, ◌+◌, ◌<◌, ◌≤◌, List, [], ◌∷◌, ◌++◌, length, map, max, Bool, true, false, cond, refl, sym, ◌∙◌, ap, subst, arith, inl, inr, ◌⊎◌, append_assoc}
+use Rattle.std.proofs.Common.{◌≡◌, ℕ, suc, ◌+◌, ◌<◌, ◌≤◌, List, [], ◌∷◌, ◌++◌, length, map, max, Bool, true, false, cond, refl, sym, ◌∙◌, ap, subst, arith, append_assoc}
 use Rattle.std.proofs.lemmas.Bool.Decides.{nat_tests}
-use Rattle.std.proofs.lemmas.List.{append-nil, length-append}
-use Rattle.std.specs.Prelude.{Option, Some, None, Result, Ok, Err, ◌&&◌, ◌||◌, not, ◌==◌, nat_lt, nat_le, is_some}
+use Rattle.std.specs.Prelude.{Option, Some, None, Ok, Err, ◌&&◌, ◌||◌, not, ◌==◌, nat_lt, nat_le, is_some}
 use Rattle.endpoint.specs.declared.Endpoint.{Endpoint}
 use Rattle.message.specs.declared.BlockRequest.{BlockRequest}
-use Rattle.message.specs.declared.BlockReply.{BlockReply}
-use Rattle.message.specs.declared.Incoming.{Incoming}
-use Rattle.message.specs.declared.Incoming.TheVariants as incoming
-use Rattle.bdev.specs.DriverState.{DriverState}
-use Rattle.policy.specs.Watch.{Phase, Waiting, driver}
-use Rattle.marks.specs.Marks.{Mark, Started, Answered, Flush, GaveUp, Issued, gave_up, last_started}
-use Rattle.marks.specs.Open.{greatest, open_requests, counts, has_none, without_id, IsIn}
-use Rattle.marks.specs.Laws.{AllAbove, IsRising}
-use Rattle.marks.specs.Acts.{Outbox, MayBegin, MayPost, IsAtRest, target, is_post_due, first_of, owed_after_message, without_answered, complaint_due}
-use Rattle.marks.specs.Told.{received}
-use Rattle.marks.proofs.OpenRequests.{cond_has, open_below, open_new, open_again}
-use Rattle.marks.proofs.Rising.{open_are_rising}
-use Rattle.faultless.specs.Faultless.{without_faults}
+use Rattle.policy.specs.Watch.{driver}
+use Rattle.marks.specs.Marks.{Mark, Issued, gave_up, last_started}
+use Rattle.marks.specs.Open.{greatest, open_requests, has_none, without_id, IsIn}
+use Rattle.marks.specs.Laws.{IsRising}
+use Rattle.marks.specs.Acts.{Outbox, MayBegin, MayPost, IsAtRest, target, is_post_due, first_of}
+use Rattle.marks.proofs.OpenRequests.{open_below, open_new, open_again}
 use Rattle.faultless.proofs.FaultlessLaws.{faults_change_nothing}
 use Rattle.schedule.specs.declared.Event.{Event}
-use Rattle.schedule.specs.Groups.{Group, marks_of, started_in, generation, EachGroup}
-use Rattle.schedule.specs.Drivers.{has_ended, is_live}
-use Rattle.schedule.specs.Starts.{IssuesFollow, is_among_first, may_issue, are_issued_in_place}
+use Rattle.schedule.specs.Groups.{Group, marks_of, generation, EachGroup}
+use Rattle.schedule.specs.Drivers.{has_ended}
+use Rattle.schedule.specs.Starts.{IssuesFollow, is_among_first, may_issue}
 use Rattle.reissue.specs.declared.link.LinkRefusal.{LinkRefusal}
-use Rattle.driver_events.specs.Disks.{Disks, LinesUp, NoneIsThere, LineIsFull, IsLinedUp, is_at, lined_up, started}
-use Rattle.driver_events.specs.Kept.{with_next}
-use Rattle.justifying.specs.Core.{Core, story, PhaseIs, FollowsGroups}
-use Rattle.justifying.specs.Happens.{Begins, Adds, Posts}
+use Rattle.driver_events.specs.Disks.{Disks, LinesUp, NoneIsThere, LineIsFull, IsLinedUp, is_at, lined_up}
+use Rattle.justifying.specs.Core.{Core}
+use Rattle.justifying.specs.Happens.{Adds, Posts}
 use Rattle.justifying.specs.Steady.{SlotsSoFar}
-use Rattle.justifying.proofs.FollowLaws.{same_number}
 use Rattle.justifying.proofs.SlotLaws.{slots_kept}
 use Rattle.issuing_runs.specs.Issuing.{PlacedAsDue, FollowedAsDue}
-use Rattle.issuing_runs.proofs.OwingLaws.{owed_with, served, IsCalm, is_quiet, with_began, with_posted, core_posted, IsKeptOwing}
-use Rattle.issuing_runs.proofs.NumberLaws.{IsFrom, from_push, from_same, without_lower, without_first, length_push, fewer_answered, never_answered, one_first, FirstOut, first_out}
-use Rattle.issuing_runs.proofs.Starting.{NextStart, BeginsCalmly, begins_calm, not_told, told_of, follows_on, none_follow, quiet_placed, Within, adds_within, Numbers, same_numbers, adds_numbers, stays_placed, one_placed}
+use Rattle.issuing_runs.proofs.OwingLaws.{served, IsCalm, is_quiet, with_began, with_posted, core_posted}
+use Rattle.issuing_runs.proofs.NumberLaws.{IsFrom, from_push, from_same, without_lower, without_first, length_push, one_first, FirstOut, first_out}
+use Rattle.issuing_runs.proofs.Starting.{follows_on, none_follow, quiet_placed, Within, adds_within, Numbers, adds_numbers, stays_placed, one_placed}
 
 -- the requests that were never issued have the next ids, and at most 16 are pending
 pub record Numbered (marks : List Mark) (never : List BlockRequest) : Type 0 where

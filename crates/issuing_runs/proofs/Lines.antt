@@ -1,6 +1,6 @@
 -- The line of the current driver: at most 16 requests, and then open ones that it wasn't handed.
-use Rattle.std.proofs.Common.{◌≡◌, ℕ, zero, suc, ◌+◌, ◌<◌, ◌≤◌, List, [], ◌∷◌, ◌++◌, length, max, Bool, true, false, cond, refl, sym, ◌∙◌, ap, subst, arith, inl, inr, ◌⊎◌, append_assoc}
-use Rattle.std.proofs.lemmas.List.{append-nil, length-append}
+use Rattle.std.proofs.Common.{◌≡◌, ℕ, zero, suc, ◌+◌, ◌<◌, ◌≤◌, List, [], ◌∷◌, ◌++◌, length, max, Bool, true, false, refl, sym, ◌∙◌, ap, subst, arith, inl, inr, append_assoc}
+use Rattle.std.proofs.lemmas.List.{append-nil}
 use Rattle.std.specs.Prelude.{Option, Some, None, IsSomeAnd, ◌==◌, nat_lt, slice_get}
 use Rattle.endpoint.specs.declared.Endpoint.{Endpoint}
 use Rattle.message.specs.declared.BlockRequest.{BlockRequest}
@@ -8,25 +8,23 @@ use Rattle.message.specs.declared.BlockReply.{BlockReply}
 use Rattle.media.specs.Contents.{MediaState}
 use Rattle.bdev.specs.declared.Accept.{Accept}
 use Rattle.bdev.specs.declared.Accept.TheVariants.{Taken, Busy, Old}
-use Rattle.bdev.specs.declared.Answer.{Answer}
 use Rattle.bdev.specs.declared.Step.{Step}
 use Rattle.bdev.specs.declared.Step.TheVariants.{Working, Idle, Done, Failed}
 use Rattle.bdev.specs.DriverState.{DriverState, Work}
-use Rattle.bdev.specs.Promises.{AcceptKeeps, MovesAtMostOne, StepKeeps, StepsAt as DriverStepsAt}
+use Rattle.bdev.specs.Promises.{AcceptKeeps, MovesAtMostOne, StepsAt as DriverStepsAt}
 use Rattle.true_replies.specs.Events.{line_after}
 use Rattle.marks.specs.Marks.{Mark, Answered, Issued}
 use Rattle.marks.specs.Open.{greatest, open_requests, without_id, IsIn}
 use Rattle.marks.specs.Laws.{AllAbove, IsRising}
-use Rattle.marks.proofs.OpenRequests.{Below, cond_has, below_open, open_stays, in_push_old}
-use Rattle.marks.proofs.Rising.{open_are_rising}
+use Rattle.marks.proofs.OpenRequests.{Below, cond_has, open_stays, in_push_old}
 use Rattle.schedule.specs.declared.Sent.{Sent}
 use Rattle.schedule.specs.Groups.{Each}
 use Rattle.inline.specs.Steps.{HandsOver}
 use Rattle.run_log.specs.declared.log.Post.{Post}
-use Rattle.driver_events.specs.Disks.{Disks, Slot, SlotSteps, IsOlder, sent_at, Steps, NoStep, CurrentSteps, OlderSteps, Dies, NoneDies, CurrentDies, OlderDies, Hangs, NoneHangs, CurrentHangs, OlderHangs, LinesUpAgain, NoneLinesUp, CurrentLinesUp, OlderLinesUp, Repeats, lined_up, started}
+use Rattle.driver_events.specs.Disks.{Disks, sent_at, Steps, NoStep, CurrentSteps, OlderSteps, Dies, NoneDies, CurrentDies, OlderDies, Hangs, NoneHangs, CurrentHangs, OlderHangs, LinesUpAgain, NoneLinesUp, CurrentLinesUp, OlderLinesUp, Repeats, lined_up, started}
 use Rattle.justifying.proofs.DiskMoves.{steps_generation, dies_generation}
 use Rattle.issuing_runs.proofs.NumberLaws.{IsFrom, length_push}
-use Rattle.issuing_runs.proofs.Issues.{AllOpen, all_open_as}
+use Rattle.issuing_runs.proofs.Issues.{AllOpen}
 
 -- these have rising ids, from the first number on and before the second
 abbrev pub Between : ℕ → ℕ → List BlockRequest → Type 0
@@ -262,33 +260,80 @@ hand_old : (marks : List Mark) (low bound : ℕ) (q : BlockRequest) (rest new : 
     → AcceptKeeps b q result a → line ≡ line_after result q (rest ++ new) → length (q ∷ rest) ≤ 16 → Lower low (q ∷ rest) → WorkLow low b.work
     → Between low bound new → AllOpen marks new → HandedOn marks low bound a line
 hand_old marks low bound q rest new b a line Taken keeps is short lower work k opened = record {
-  old = rest; new = new; least = low; line_is = is; short = omega (arith, short); raised = omega arith; old_low = lower.1;
-  work_low = work_taken low q a.work keeps.2.work lower.0; new_is = k; new_open = opened;
+  old = rest;
+  new = new;
+  least = low;
+  line_is = is;
+  short = omega (arith, short);
+  raised = omega arith;
+  old_low = lower.1;
+  work_low = work_taken low q a.work keeps.2.work lower.0;
+  new_is = k;
+  new_open = opened;
 }
 hand_old marks low bound q rest new b a line Busy keeps is short lower work k opened = record {
-  old = q ∷ rest; new = new; least = low; line_is = is; short = short; raised = omega arith; old_low = lower;
-  work_low = subst (λ (s : DriverState). WorkLow low s.work) (sym keeps.1) work; new_is = k; new_open = opened;
+  old = q ∷ rest;
+  new = new;
+  least = low;
+  line_is = is;
+  short = short;
+  raised = omega arith;
+  old_low = lower;
+  work_low = subst (λ (s : DriverState). WorkLow low s.work) (sym keeps.1) work;
+  new_is = k;
+  new_open = opened;
 }
 hand_old marks low bound q rest new b a line Old keeps is short lower work k opened = record {
-  old = rest; new = new; least = low; line_is = is; short = omega (arith, short); raised = omega arith; old_low = lower.1;
-  work_low = subst (λ (s : DriverState). WorkLow low s.work) (sym keeps.2) work; new_is = k; new_open = opened;
+  old = rest;
+  new = new;
+  least = low;
+  line_is = is;
+  short = omega (arith, short);
+  raised = omega arith;
+  old_low = lower.1;
+  work_low = subst (λ (s : DriverState). WorkLow low s.work) (sym keeps.2) work;
+  new_is = k;
+  new_open = opened;
 }
 
 hand_new : (marks : List Mark) (low bound : ℕ) (q : BlockRequest) (rest : List BlockRequest) (b a : DriverState) (line : List BlockRequest) (result : Accept)
     → AcceptKeeps b q result a → line ≡ line_after result q rest → WorkLow low b.work → Between low bound (q ∷ rest) → AllOpen marks (q ∷ rest)
     → HandedOn marks low bound a line
 hand_new marks low bound q rest b a line Taken keeps is work k opened = record {
-  old = []; new = rest; least = suc q.id; line_is = is; short = omega arith; raised = omega (arith, k.0); old_low = tt;
-  work_low = work_taken (suc q.id) q a.work keeps.2.work (omega arith); new_is = k.1; new_open = opened.1;
+  old = [];
+  new = rest;
+  least = suc q.id;
+  line_is = is;
+  short = omega arith;
+  raised = omega (arith, k.0);
+  old_low = tt;
+  work_low = work_taken (suc q.id) q a.work keeps.2.work (omega arith);
+  new_is = k.1;
+  new_open = opened.1;
 }
 hand_new marks low bound q rest b a line Busy keeps is work k opened = record {
-  old = []; new = q ∷ rest; least = low; line_is = is; short = omega arith; raised = omega arith; old_low = tt;
-  work_low = subst (λ (s : DriverState). WorkLow low s.work) (sym keeps.1) work; new_is = k; new_open = opened;
+  old = [];
+  new = q ∷ rest;
+  least = low;
+  line_is = is;
+  short = omega arith;
+  raised = omega arith;
+  old_low = tt;
+  work_low = subst (λ (s : DriverState). WorkLow low s.work) (sym keeps.1) work;
+  new_is = k;
+  new_open = opened;
 }
 hand_new marks low bound q rest b a line Old keeps is work k opened = record {
-  old = []; new = rest; least = suc q.id; line_is = is; short = omega arith; raised = omega (arith, k.0); old_low = tt;
+  old = [];
+  new = rest;
+  least = suc q.id;
+  line_is = is;
+  short = omega arith;
+  raised = omega (arith, k.0);
+  old_low = tt;
   work_low = subst (λ (s : DriverState). WorkLow (suc q.id) s.work) (sym keeps.2) (work_more low (suc q.id) b.work (omega (arith, k.0)) work);
-  new_is = k.1; new_open = opened.1;
+  new_is = k.1;
+  new_open = opened.1;
 }
 
 hand_on : (marks : List Mark) (low bound : ℕ) (b a : DriverState) (line after old new : List BlockRequest) → HandsOver b line a after → line ≡ old ++ new
@@ -296,8 +341,16 @@ hand_on : (marks : List Mark) (low bound : ℕ) (b a : DriverState) (line after 
 hand_on marks low bound b a line after [] [] hands is short lower work k opened = by line is hands where
   by : (l : List BlockRequest) → l ≡ [] → HandsOver b l a after → HandedOn marks low bound a after
   by [] is h = record {
-    old = []; new = []; least = low; line_is = h.1; short = omega arith; raised = omega arith; old_low = tt;
-    work_low = subst (λ (s : DriverState). WorkLow low s.work) (sym h.0) work; new_is = k; new_open = tt;
+    old = [];
+    new = [];
+    least = low;
+    line_is = h.1;
+    short = omega arith;
+    raised = omega arith;
+    old_low = tt;
+    work_low = subst (λ (s : DriverState). WorkLow low s.work) (sym h.0) work;
+    new_is = k;
+    new_open = tt;
   }
   by (q ∷ l) is h = cc
 hand_on marks low bound b a line after [] (q ∷ rest) hands is short lower work k opened =
@@ -320,10 +373,12 @@ step_on : (least g place generation : ℕ) (b : DriverState) (work : Option Work
     → DriverStepsAt b work m g step a m' → b.work ≡ work → WorkLow least work → g ≤ generation → Each (SentLow generation least) sent
     → Stepped least g place generation step a sent
 step_on least g place generation b None m Idle a m' sent s is low le h = record {
-  work_low = subst (λ (w : Option Work). WorkLow least w) (sym (ap (λ (d : DriverState). d.work) s.1 ∙ is)) tt; sent_low = h;
+  work_low = subst (λ (w : Option Work). WorkLow least w) (sym (ap (λ (d : DriverState). d.work) s.1 ∙ is)) tt;
+  sent_low = h;
 }
 step_on least g place generation b None m Failed a m' sent s is low le h = record {
-  work_low = subst (λ (w : Option Work). WorkLow least w) (sym (ap (λ (d : DriverState). d.work) s.1 ∙ is)) tt; sent_low = h;
+  work_low = subst (λ (w : Option Work). WorkLow least w) (sym (ap (λ (d : DriverState). d.work) s.1 ∙ is)) tt;
+  sent_low = h;
 }
 step_on least g place generation b None m Working a m' sent s is low le h = absurd s.1
 step_on least g place generation b None m (Done answer) a m' sent s is low le h = absurd s.1
@@ -359,17 +414,31 @@ steps_on marks bound place g b _ _ (CurrentSteps step a m is live s) h =
     step_on k.least g place b.media.generation s.handed s.handed.work b.media step a.state m b.sent s.steps.steps refl k.work_low (omega (arith, is))
     (sent_more b.media.generation h.low k.least b.sent k.raised h.sent_low) in
     record {
-      old = k.old; new = k.new; low = k.least; line_is = k.line_is; short = k.short; old_low = k.old_low; work_low = t.work_low;
+      old = k.old;
+      new = k.new;
+      low = k.least;
+      line_is = k.line_is;
+      short = k.short;
+      old_low = k.old_low;
+      work_low = t.work_low;
       sent_low = subst (λ (n : ℕ). Each (SentLow n k.least) (sent_at place g step b.sent)) (sym same) t.sent_low;
-      new_is = k.new_is; new_open = k.new_open;
+      new_is = k.new_is;
+      new_open = k.new_open;
     }
 steps_on marks bound place g b _ _ (OlderSteps at was a step m older live s) h =
     let same : m.generation ≡ b.media.generation = steps_generation place g b _ (Some step) (OlderSteps at was a step m older live s) in
     record {
-      old = h.old; new = h.new; low = h.low; line_is = h.line_is; short = h.short; old_low = h.old_low; work_low = h.work_low;
+      old = h.old;
+      new = h.new;
+      low = h.low;
+      line_is = h.line_is;
+      short = h.short;
+      old_low = h.old_low;
+      work_low = h.work_low;
       sent_low = subst (λ (n : ℕ). Each (SentLow n h.low) (sent_at place g step b.sent)) (sym same)
           (older_sent g place b.media.generation h.low step b.sent older.older h.sent_low);
-      new_is = h.new_is; new_open = h.new_open;
+      new_is = h.new_is;
+      new_open = h.new_open;
     }
 
 pub dies_on : (marks : List Mark) (bound g : ℕ) (bytes : Option (List ℕ)) (b a : Disks) (died : Bool) → Dies g bytes b died a → OnLine marks b bound → OnLine marks a bound

@@ -1,14 +1,12 @@
 -- Requests by their ids, and how many there are.
-use Rattle.std.proofs.Common.{◌≡◌, ℕ, zero, suc, ◌+◌, ◌<◌, ◌≤◌, List, [], ◌∷◌, ◌++◌, length, max, Bool, true, false, cond, refl, sym, ◌∙◌, ap, subst, arith, inl, inr, ◌⊎◌}
-use Rattle.std.proofs.lemmas.List.{length-append}
-use Rattle.std.specs.Prelude.{is_some, Option, Some, None, ◌==◌, if◌then◌else◌, ◌&&◌}
-use Rattle.endpoint.specs.declared.Endpoint.{Endpoint}
+use Rattle.std.proofs.Common.{◌≡◌, ℕ, suc, ◌+◌, ◌<◌, ◌≤◌, List, [], ◌∷◌, ◌++◌, length, Bool, true, false, cond, refl, sym, ◌∙◌, ap, subst, arith}
+use Rattle.std.specs.Prelude.{is_some, Option, Some, None, ◌==◌, ◌&&◌}
 use Rattle.message.specs.declared.BlockRequest.{BlockRequest}
 use Rattle.message.specs.declared.BlockReply.{BlockReply}
-use Rattle.marks.specs.Marks.{Mark, Issued, Answered}
-use Rattle.marks.specs.Open.{greatest, open_requests, without_id, with_id, moved_of, moved_by, asked_by, counts, IsIn}
+use Rattle.marks.specs.Marks.{Mark, Answered}
+use Rattle.marks.specs.Open.{greatest, open_requests, without_id, with_id, moved_of, counts, IsIn}
 use Rattle.marks.specs.Acts.{without_answered, first_of}
-use Rattle.marks.proofs.OpenRequests.{cond_has, open_below, open_new, open_again, with_id_in}
+use Rattle.marks.proofs.OpenRequests.{cond_has, open_below, with_id_in}
 use Rattle.justifying.proofs.FollowLaws.{same_number, other_number}
 
 -- these have the ids from n on, one after the other

@@ -1,11 +1,10 @@
 -- What is said of the groups, of what stands and of what the server owes, each step of a run keeps.
-use Rattle.std.proofs.Common.{◌≡◌, ℕ, zero, suc, ◌+◌, List, [], ◌∷◌, ◌++◌, length, Bool, true, false, cond, refl, sym, ◌∙◌, ap, subst}
-use Rattle.std.specs.Prelude.{◌&&◌, ◌||◌, not, Option, Some, None, Result, Ok, Err, is_ok, slice_get}
+use Rattle.std.proofs.Common.{◌≡◌, ℕ, ◌+◌, List, [], ◌∷◌, ◌++◌, Bool, true, false, refl, sym, ◌∙◌, ap, subst}
+use Rattle.std.specs.Prelude.{◌&&◌, not, Option, Some, None, Result, Ok, Err, is_ok}
 use Rattle.endpoint.specs.declared.Endpoint.{Endpoint}
 use Rattle.message.specs.declared.BlockRequest.{BlockRequest}
 use Rattle.message.specs.declared.Incoming.{Incoming}
 use Rattle.message.specs.declared.Incoming.TheVariants as incoming
-use Rattle.tree.specs.declared.Reply.{Reply}
 use Rattle.tree.specs.Answers.{answer_of}
 use Rattle.policy.specs.declared.Event.TheVariants as policy
 use Rattle.policy.specs.Watch.{driver, on}
@@ -13,7 +12,7 @@ use Rattle.marks.specs.Marks.{Mark, Started, GaveUp, Issued, Fault, Took, Answer
 use Rattle.marks.specs.declared.Cause.TheVariants.{Complaint}
 use Rattle.marks.specs.Open.{without_id}
 use Rattle.marks.specs.Told.{Told, Posted, Complained, Received, took_nothing}
-use Rattle.marks.specs.Acts.{AtLink, Outbox, MayAct, MayBegin, MayPost, MayTake, IsAtRest, is_post_due, owed_after_act, owed_after_message}
+use Rattle.marks.specs.Acts.{AtLink, Outbox, MayAct, MayBegin, MayPost, IsAtRest, is_post_due, owed_after_act, owed_after_message}
 use Rattle.faultless.specs.Faultless.{without_faults}
 use Rattle.faultless.proofs.FaultlessLaws.{leave_same_mark}
 use Rattle.schedule.specs.declared.Event.{Event}
@@ -27,9 +26,8 @@ use Rattle.driver_events.specs.declared.ruling.Ruling.{Ruling}
 use Rattle.driver_events.specs.Disks.{Disks, LinesUp}
 use Rattle.driver_events.specs.Kept.{with_next}
 use Rattle.driver_events.proofs.Keeping.{events_note_aside}
-use Rattle.playing.specs.declared.arrived.Arrived.{Arrived}
-use Rattle.playing.specs.PlayView.{Play, begun, PlaysNext, Advances, Stays, Goes, Turn, Takes, TakesOwed, TakesEnd, Posts, Complains, ComesToEnd, IsPlayedOut, IsStarved, HandsOut, noting, paid, ended, posted, complained, ruling_at}
-use Rattle.playing.specs.Moments.{Doing, Resting, Hearing, Answering, is_busy, Moment, record_of, at_link, Step, Begins as StepBegins, Tells, Takes as StepTakes, Settles, Brings, BringsNone, Pays as StepPays, HandsCall, Replies as StepReplies, Runs, Starts, Then}
+use Rattle.playing.specs.PlayView.{Play, begun, PlaysNext, Advances, Stays, Goes, Turn, Takes, TakesOwed, TakesEnd, Posts, Complains, ComesToEnd, IsPlayedOut, IsStarved, noting, paid, ended, posted, complained}
+use Rattle.playing.specs.Moments.{is_busy, Moment, record_of, Step, Begins as StepBegins, Tells, Takes as StepTakes, Settles, Brings, BringsNone, Pays as StepPays, HandsCall, Replies as StepReplies, Runs, Starts, Then}
 use Rattle.justifying.specs.Core.{Core}
 use Rattle.justifying.specs.Seen.{core_at, with_brought, EventDone}
 use Rattle.justifying.specs.Happens.{AtReport, Begins, Adds, Replies, Complains as AddsComplaint, Pays}

@@ -1,32 +1,29 @@
 -- Each event of a run keeps what holds of its requests; so each is issued in its place, and all open ones after a start.
-use Rattle.std.proofs.Common.{◌≡◌, ℕ, zero, suc, ◌+◌, ◌<◌, ◌≤◌, List, [], ◌∷◌, ◌++◌, length, map, max, Bool, true, false, cond, refl, sym, ◌∙◌, ap, subst, arith, inl, inr, ◌⊎◌}
+use Rattle.std.proofs.Common.{◌≡◌, ℕ, ◌+◌, ◌≤◌, List, [], ◌∷◌, ◌++◌, length, map, max, Bool, true, false, refl, sym, ◌∙◌, ap, subst, arith, inl, inr, ◌⊎◌}
 use Rattle.std.proofs.lemmas.List.{append-nil}
 use Rattle.std.specs.Prelude.{Option, Some, None, ◌&&◌, not, ◌==◌, if◌then◌else◌}
 use Rattle.endpoint.specs.declared.Endpoint.{Endpoint}
 use Rattle.message.specs.declared.BlockRequest.{BlockRequest}
-use Rattle.message.specs.declared.BlockReply.{BlockReply}
 use Rattle.message.specs.declared.Incoming.{Incoming}
 use Rattle.message.specs.declared.Incoming.TheVariants as incoming
 use Rattle.bdev.specs.DriverState.{DriverState}
 use Rattle.media.specs.Contents.{MediaState}
 use Rattle.policy.specs.declared.Policy.{Policy}
 use Rattle.policy.specs.Watch.{Phase, Waiting, driver, new_watch}
-use Rattle.marks.specs.Marks.{Mark, Started, Answered, Flush, GaveUp, Issued, gave_up, last_started}
-use Rattle.marks.specs.Open.{greatest, open_requests, counts, IsIn}
+use Rattle.marks.specs.Marks.{Mark, Started, Answered, Issued, gave_up, last_started}
+use Rattle.marks.specs.Open.{open_requests, counts, IsIn}
 use Rattle.marks.specs.Laws.{IsRising}
 use Rattle.marks.specs.Acts.{Outbox, IsAtRest, is_post_due, without_answered, empty_outbox}
-use Rattle.marks.specs.Told.{received}
 use Rattle.marks.proofs.OpenRequests.{cond_has}
 use Rattle.marks.proofs.Rising.{open_are_rising}
 use Rattle.faultless.proofs.FaultlessLaws.{faults_change_nothing}
 use Rattle.schedule.specs.declared.Event.{Event}
 use Rattle.schedule.specs.Groups.{Group, marks_of, started_in, Each, EachGroup}
 use Rattle.schedule.specs.Starts.{IssuesFollow, is_among_first, are_issued_in_place}
-use Rattle.run_log.specs.Noted.{marks_in}
 use Rattle.driver_events.specs.Disks.{Disks, is_at, started}
 use Rattle.driver_events.specs.Kept.{with_next}
 use Rattle.playing.specs.PlayView.{Play, IsOpened}
-use Rattle.playing.specs.Moments.{Doing, Moment, Resting, is_busy, record_of, Runs}
+use Rattle.playing.specs.Moments.{Doing, Moment, Resting, is_busy, Runs}
 use Rattle.justifying.specs.Core.{Core, story, PhaseIs, WaitsNow, FollowsGroups}
 use Rattle.justifying.specs.Seen.{core_at}
 use Rattle.justifying.specs.Happens.{Begins}
@@ -35,11 +32,11 @@ use Rattle.justifying.proofs.FollowLaws.{same_number}
 use Rattle.justifying.proofs.SlotLaws.{slots_kept}
 use Rattle.justified_runs.specs.Said.{core_of, IsSaid, StandsBefore}
 use Rattle.justified_runs.proofs.OpeningLaws.{opened_scene, opened_said, opened_follows, calm_before}
-use Rattle.issuing_runs.specs.Issuing.{PlacedAsDue, FollowedAsDue, RunsKeepPlaces, RunsKeepFollowed, RunsEndFollowed}
-use Rattle.issuing_runs.proofs.OwingLaws.{owed_with, served, IsCalm, IsKeptOwing, IsOwed, at_work, served_is, runs_owed}
-use Rattle.issuing_runs.proofs.NumberLaws.{IsFrom, fewer_answered, never_answered}
+use Rattle.issuing_runs.specs.Issuing.{FollowedAsDue, RunsKeepPlaces, RunsKeepFollowed, RunsEndFollowed}
+use Rattle.issuing_runs.proofs.OwingLaws.{owed_with, served, IsKeptOwing, IsOwed, at_work, served_is, runs_owed}
+use Rattle.issuing_runs.proofs.NumberLaws.{fewer_answered, never_answered}
 use Rattle.issuing_runs.proofs.Starting.{NextStart, BeginsCalmly, begins_calm, not_told, told_of, none_follow, quiet_placed}
-use Rattle.issuing_runs.proofs.Issues.{Numbered, AllOpen, Following, AgainNow, FollowsBut, Issues, none_left, level, levelled, followed, begins_one, rests, adds, posts, refused}
+use Rattle.issuing_runs.proofs.Issues.{Numbered, AllOpen, AgainNow, Issues, none_left, level, levelled, followed, begins_one, rests, adds, posts, refused}
 
 -- a message other than a start leaves no request to follow one
 record Quiet (result : Option Incoming) (marks : List Mark) (o : Outbox) : Type 0 where
@@ -60,7 +57,7 @@ quiet_message (Some incoming.Flush) marks o other n is = record { unposted = is;
 quiet_message (Some incoming.End) marks o other n is = record { unposted = is; numbered = n }
 
 -- a start that is awaited comes before the device is given up
-waits_on : (drivers : ℕ) (groups : List Group) (c : Core) (until : ℕ) → FollowsGroups drivers groups c → c.watch.phase ≡ Waiting until → gave_up (served groups) ≡ false
+pub waits_on : (drivers : ℕ) (groups : List Group) (c : Core) (until : ℕ) → FollowsGroups drivers groups c → c.watch.phase ≡ Waiting until → gave_up (served groups) ≡ false
 waits_on drivers groups c until h is =
     let w : WaitsNow (story c.policy c.watch.generation groups) c until =
     subst (λ (p : Phase). PhaseIs (story c.policy c.watch.generation groups) c p) is h.phase_is in
@@ -111,15 +108,24 @@ start_issues drivers place event groups c a o t g next slots disks low goes_on n
       to = driver g;
       left = open_requests s;
       unposted = refl;
-      follow = ((([], ap (λ (l : List BlockRequest). map (λ r. Issued r (driver g)) l) opened
-          ∙ sym (append-nil (map (λ r. Issued r (driver g)) (open_requests (marks_of groups))))), tt), follow);
+      follow = (
+        (
+          (
+            [],
+            ap (λ (l : List BlockRequest). map (λ r. Issued r (driver g)) l) opened
+                ∙ sym (append-nil (map (λ r. Issued r (driver g)) (open_requests (marks_of groups)))),
+          ),
+          tt,
+        ),
+        follow,
+      );
       again = subst (λ (d : Disks). AgainNow now d o.complaint false true (driver g) (open_requests s)) (sym disks)
           (start_again now (started g next c.disks) o.complaint (driver g) (open_requests s) (λ id. refl) (open_are_rising s)
           (all_open (served now) (open_requests s) (λ r i. i)) none goes_on refl (started_there g next c.disks low) (omega (arith, h.numbered.few)));
     })
 
 -- an event
-begins : (drivers place : ℕ) (groups : List Group) (c a : Core) (event : Event) (marks : List Mark) (result : Option Incoming) (o : Outbox)
+pub begins : (drivers place : ℕ) (groups : List Group) (c a : Core) (event : Event) (marks : List Mark) (result : Option Incoming) (o : Outbox)
     → c.owed ≡ false → IsAtRest (served groups) o → Begins place groups c event marks a
     → served ((event, marks) ∷ groups) ≡ with_next result (served groups) → Issues drivers place groups c o true
     → Issues drivers (place + 1) ((event, marks) ∷ groups) a (owed_with result (served groups) o) true

@@ -1,20 +1,19 @@
 -- What events leave of the current driver's line, of the posts and of what is owed.
-use Rattle.std.proofs.Common.{◌≡◌, ℕ, zero, suc, ◌+◌, ◌<◌, ◌≤◌, List, [], ◌∷◌, ◌++◌, length, max, Bool, true, false, cond, refl, sym, ◌∙◌, ap, subst, arith, inl, inr, ◌⊎◌}
+use Rattle.std.proofs.Common.{◌≡◌, ℕ, suc, ◌+◌, ◌<◌, ◌≤◌, List, [], ◌∷◌, ◌++◌, length, max, Bool, true, false, cond, refl, sym, ◌∙◌, ap, subst, arith}
 use Rattle.std.proofs.lemmas.Bool.Decides.{nat_tests}
-use Rattle.std.specs.Prelude.{Option, Some, None, Result, Ok, Err, ◌&&◌, not, ◌==◌, is_some, slice_get}
+use Rattle.std.specs.Prelude.{Option, Some, None, Err, ◌&&◌, not, ◌==◌, is_some}
 use Rattle.endpoint.specs.declared.Endpoint.{Endpoint}
 use Rattle.message.specs.declared.BlockRequest.{BlockRequest}
 use Rattle.message.specs.declared.BlockReply.{BlockReply}
 use Rattle.message.specs.declared.Incoming.{Incoming}
 use Rattle.message.specs.declared.Incoming.TheVariants as incoming
 use Rattle.policy.specs.Watch.{driver}
-use Rattle.marks.specs.Marks.{Mark, Started, Answered, Flush, GaveUp, Issued, gave_up, last_started, is_endpoint}
+use Rattle.marks.specs.Marks.{Mark, Answered, Flush, GaveUp, Issued, gave_up, last_started, is_endpoint}
 use Rattle.marks.specs.declared.Cause.{Cause}
 use Rattle.marks.specs.declared.Cause.TheVariants.{Exit, Hung}
 use Rattle.marks.specs.Open.{greatest, open_requests, counts, asked_by, moved_by, without_id, IsIn}
-use Rattle.marks.specs.Acts.{Outbox, first_of, without_answered}
-use Rattle.marks.proofs.OpenRequests.{cond_has, below_open, open_below, open_new, open_again, in_push_new}
-use Rattle.schedule.specs.declared.Sent.{Sent}
+use Rattle.marks.specs.Acts.{Outbox, first_of}
+use Rattle.marks.proofs.OpenRequests.{cond_has, open_below, open_new, open_again, in_push_new}
 use Rattle.schedule.specs.declared.Event.{Event}
 use Rattle.schedule.specs.Groups.{Group, marks_of, started_in, Each}
 use Rattle.reissue.specs.declared.link.LinkRefusal.{LinkRefusal}
@@ -23,11 +22,11 @@ use Rattle.driver_events.specs.Disks.{Disks, LinesUp, NoneIsThere, LineIsFull}
 use Rattle.driver_events.specs.Kept.{with_next}
 use Rattle.justifying.specs.Core.{Core}
 use Rattle.justifying.specs.Happens.{fault_marks, exit_marks, beaten_core, TicksTo, Beats, MissesOne, FoundHung, WaitsOn, StartsNext, IsOver, Begins, Arrives, Flushes, Answers, Drops, Delivers, LinesAgain, HangsOne, StepsOne, FailsOne, DiesNone, DiesOne, Ticks}
-use Rattle.justifying.proofs.DiskMoves.{steps_generation, dies_generation, hangs_generation, SameCurrent, repeats_same}
+use Rattle.justifying.proofs.DiskMoves.{steps_generation, dies_generation, hangs_generation, repeats_same}
 use Rattle.issuing_runs.proofs.OwingLaws.{owed_with, served}
 use Rattle.issuing_runs.proofs.NumberLaws.{without_first, without_lower, one_first, FirstOut, first_out}
 use Rattle.issuing_runs.proofs.Issues.{AllOpen, all_open_as, Following, AgainNow, Issues, levelled}
-use Rattle.issuing_runs.proofs.Lines.{Between, OnLine, SentLow, PostLow, between_from, between_without, sent_found, stay_open, steps_on, dies_on, hangs_on, repeats_on}
+use Rattle.issuing_runs.proofs.Lines.{Between, OnLine, SentLow, PostLow, between_without, sent_found, stay_open, steps_on, dies_on, hangs_on, repeats_on}
 
 -- with marks after which the same requests are open
 pub on_line_as : (marks marks' : List Mark) (d : Disks) (bound : ℕ) → ((rs : List BlockRequest) → AllOpen marks rs → AllOpen marks' rs)

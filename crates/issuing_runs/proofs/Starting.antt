@@ -1,10 +1,8 @@
 -- What events and what is done within them leave of starts, issues and numbers.
-use Rattle.std.proofs.Common.{◌≡◌, ℕ, zero, suc, ◌+◌, ◌<◌, ◌≤◌, List, [], ◌∷◌, ◌++◌, length, map, Bool, true, false, cond, refl, sym, ◌∙◌, ap, subst, arith, inl, inr, ◌⊎◌, append_assoc}
-use Rattle.std.proofs.lemmas.List.{append-nil, length-append}
-use Rattle.std.specs.Prelude.{Option, Some, None, ◌&&◌, ◌||◌, not, ◌==◌, nat_lt, nat_le, is_some}
+use Rattle.std.proofs.Common.{◌≡◌, ℕ, suc, ◌+◌, List, [], ◌∷◌, ◌++◌, length, map, Bool, true, false, cond, refl, sym, ◌∙◌, ap, arith, inl, inr, ◌⊎◌, append_assoc}
+use Rattle.std.specs.Prelude.{Option, Some, None, ◌&&◌, ◌||◌, not, ◌==◌, nat_lt, nat_le}
 use Rattle.endpoint.specs.declared.Endpoint.{Endpoint}
 use Rattle.message.specs.declared.BlockRequest.{BlockRequest}
-use Rattle.message.specs.declared.BlockReply.{BlockReply}
 use Rattle.message.specs.declared.Incoming.{Incoming}
 use Rattle.message.specs.declared.Incoming.TheVariants as incoming
 use Rattle.bdev.specs.DriverState.{DriverState}
@@ -15,14 +13,14 @@ use Rattle.marks.specs.Open.{greatest, open_requests, counts}
 use Rattle.faultless.specs.Faultless.{without_faults}
 use Rattle.schedule.specs.declared.Event.{Event}
 use Rattle.schedule.specs.declared.Event.TheVariants as event
-use Rattle.schedule.specs.Groups.{Group, marks_of, started_in, generation, EachGroup}
+use Rattle.schedule.specs.Groups.{Group, marks_of, started_in, generation}
 use Rattle.schedule.specs.Drivers.{has_exit, has_started, has_ended, is_live}
 use Rattle.schedule.specs.Starts.{IsFollowedByIssues, IssuesFollow, is_among_first, may_issue, are_issued_in_place}
-use Rattle.driver_events.specs.Disks.{Disks, started}
+use Rattle.driver_events.specs.Disks.{started}
 use Rattle.driver_events.specs.Kept.{with_next}
 use Rattle.justifying.specs.Core.{Core}
 use Rattle.justifying.specs.Happens.{fault_marks, exit_marks, beaten_core, TicksTo, Beats, MissesOne, FoundHung, WaitsOn, StartsNext, IsOver, Begins, Arrives, Flushes, Answers, Drops, Delivers, LinesAgain, HangsOne, StepsOne, FailsOne, DiesNone, DiesOne, Ticks, Adds, AddsNothing, Posts, Replies, Complains, Pays}
-use Rattle.issuing_runs.specs.Issuing.{PlacedAsDue, FollowedAsDue}
+use Rattle.issuing_runs.specs.Issuing.{PlacedAsDue}
 use Rattle.issuing_runs.proofs.OwingLaws.{served, is_quiet}
 
 -- the next driver is started
@@ -62,7 +60,15 @@ tick_calm c a _ (WaitsOn until is early) = calm_none c a
 tick_calm c a _ (StartsNext until d rest is come spare) = record {
   quiet = refl;
   starts = inl (record {
-    until = until; next = d; waits = is; marks_are = refl; disks_are = refl; rest = rest; spare = spare; supply_is = refl; posts_are = refl;
+    until = until;
+    next = d;
+    waits = is;
+    marks_are = refl;
+    disks_are = refl;
+    rest = rest;
+    spare = spare;
+    supply_is = refl;
+    posts_are = refl;
   });
 }
 tick_calm c a _ (IsOver is) = calm_none c a
@@ -106,13 +112,13 @@ started_served (Fault e cause ∷ marks) = started_served marks
 pub not_told : (event : Event) (marks : List Mark) (groups : List Group) (e : Endpoint) → started_in marks ≡ []
     → served ((event, marks) ∷ groups) ≡ Started e ∷ served groups → ⊥
 not_told event marks groups e none is = longer (length (started_in (marks_of groups))) (
-  sym (ap (λ (l : List Endpoint). length l) (started_served (marks ++ marks_of groups) ∙ started_more marks (marks_of groups)
-  ∙ ap (λ (l : List Endpoint). l ++ started_in (marks_of groups)) none))
-  ∙ ap (λ (l : List Mark). length (started_in l)) is
-  ∙ ap (λ (l : List Endpoint). suc (length l)) (started_served (marks_of groups))
-) where
-  longer : (n : ℕ) → n ≡ suc n → ⊥
-  longer n h = omega (arith, h)
+    sym (ap (λ (l : List Endpoint). length l) (started_served (marks ++ marks_of groups) ∙ started_more marks (marks_of groups)
+    ∙ ap (λ (l : List Endpoint). l ++ started_in (marks_of groups)) none))
+    ∙ ap (λ (l : List Mark). length (started_in l)) is
+    ∙ ap (λ (l : List Endpoint). suc (length l)) (started_served (marks_of groups))
+    ) where
+      longer : (n : ℕ) → n ≡ suc n → ⊥
+      longer n h = omega (arith, h)
 
 longer_list : (m : Mark) (marks : List Mark) → m ∷ marks ≡ marks → ⊥
 longer_list m marks is = absurd (longer (length marks) (ap (λ (l : List Mark). length l) is)) where

@@ -1,5 +1,5 @@
-use Rattle.issuing_runs.proofs.Roomy.{refused_same}
+use Rattle.issuing_runs.proofs.RoomLaws.{runs_keep_room}
 use Rattle.issuing_runs.proofs.laws.runs_keep_room.Goals as goal
 
 pub returns : goal.returns
-returns c = refused_same
+returns c = runs_keep_room
