@@ -25,7 +25,8 @@ use Rattle.justified_runs.specs.Shown.{EventsJustified}
 use Rattle.justified_runs.proofs.ShownLaws.{runs_show_events}
 use Rattle.issuing_runs.specs.Issuing.{PlacedAsDue, FollowedAsDue}
 use Rattle.issuing_runs.specs.Issuing as issuing
-use Rattle.issuing_runs.proofs.PlaceLaws.{runs_keep_places, runs_end_followed, runs_keep_room}
+use Rattle.issuing_runs.proofs.PlaceLaws.{runs_keep_places, runs_end_followed}
+use Rattle.issuing_runs.proofs.RoomLaws.{runs_keep_room}
 use Rattle.acting_runs.specs.Acting.{ActsAsDue}
 use Rattle.acting_runs.proofs.ActLaws.{runs_keep_acts}
 use Rattle.acting_runs.proofs.LeavingLaws.{runs_keep_waits}
