@@ -2,43 +2,43 @@
 use Rattle.std.proofs.Common.{◌≡◌, ℕ, zero, suc, ◌<◌, ◌≤◌, List, [], ◌∷◌, ◌++◌, length, Bool, true, false, refl, sym, ◌∙◌, ap, subst, arith}
 use Rattle.std.proofs.lemmas.Bool.Decides.{nat_tests}
 use Rattle.std.specs.Prelude.{◌&&◌, ◌||◌, nat_le, map, reverse, Option, Some, None, Result, is_ok, is_some, slice_get}
-use Rattle.endpoint.specs.declared.Endpoint.{Endpoint}
-use Rattle.message.specs.declared.BlockRequest.{BlockRequest}
-use Rattle.message.specs.declared.Incoming.{Incoming}
-use Rattle.message.specs.declared.Incoming.TheVariants as incoming
-use Rattle.tree.specs.Answers.{answer_of}
-use Rattle.bdev.specs.declared.Step.{Step as DriverStep}
-use Rattle.bdev.specs.declared.Step.TheVariants.{Working, Idle, Done, Failed}
-use Rattle.policy.specs.Watch as restart
-use Rattle.policy.specs.Watch.{driver, new_watch}
-use Rattle.marks.specs.Marks.{Mark, Started, GaveUp, Took, Issued, Fault}
-use Rattle.marks.specs.declared.Cause.{Cause}
-use Rattle.marks.specs.declared.Cause.TheVariants.{Exit, Hung, Complaint}
-use Rattle.marks.specs.Told.{Told, Received}
-use Rattle.schedule.specs.declared.Sent.{Sent}
-use Rattle.schedule.specs.declared.Event.{Event}
-use Rattle.schedule.specs.declared.Event.TheVariants as event
-use Rattle.schedule.specs.Groups.{Group, marks_of, Each, EachGroup}
-use Rattle.schedule.specs.Calls.{Arrival, arrived, taken}
-use Rattle.schedule.specs.Handed.{was_sent, is_handed, is_told, acts_when_handed}
-use Rattle.reissue.specs.declared.link.LinkRefusal.{LinkRefusal}
-use Rattle.run_log.specs.Noted.{Noted, marks_in, grouped, with_mark, with_message, with_entry}
-use Rattle.run_log.specs.declared.log.Entry.TheVariants as entry
-use Rattle.driver_events.specs.declared.ruling.Ruling.{Ruling}
-use Rattle.driver_events.specs.declared.ruling.Ruling.TheVariants as ruling
-use Rattle.driver_events.specs.Ruling.{is_fault}
-use Rattle.driver_events.specs.Disks.{Disks, LinesUp, NoneIsThere, LineIsFull, IsLinedUp}
-use Rattle.driver_events.specs.Scene.{Scene, Plays, told_of_ruling, told_of_action, delivered, AfterStep, AfterDeath}
-use Rattle.playing.specs.declared.arrived.Arrived.{Arrived}
-use Rattle.playing.specs.PlayView.{Play, calls_of, PlaysNext, Advances, Stays, Goes, Turn, Takes, TakesOwed, TakesEnd, Posts, Complains, ComesToEnd, IsPlayedOut, IsStarved, HandsOut, noting, posted, ruling_at}
-use Rattle.playing.specs.Waiting.{HasCalls, arrival_of}
-use Rattle.playing.specs.Moments.{Doing, Resting, Answering, is_busy, Moment, Step, Begins as StepBegins, Tells, Takes as StepTakes, Settles, Brings, BringsNone, Pays as StepPays, HandsCall, Replies as StepReplies, Runs, Starts, Then}
-use Rattle.justifying.specs.Core.{Core}
-use Rattle.justifying.specs.Happens.{fault_marks, exit_marks, TicksTo, Beats, MissesOne, FoundHung, WaitsOn, StartsNext, IsOver, Begins, Arrives, Flushes, Answers, Drops, Delivers, LinesAgain, HangsOne, StepsOne, FailsOne, DiesNone, DiesOne, Ticks}
-use Rattle.justifying.specs.Seen.{core_at, with_brought, EventDone, begun_scene}
-use Rattle.justifying.specs.Steady.{AnsweredSoFar}
-use Rattle.justifying.proofs.Events.{event_done, record_of_groups}
-use Rattle.justifying.proofs.AnswerLaws.{SentMore, begins_sent, answered_kept}
+use Rattle.justified_runs.specs.endpoint.declared.Endpoint.{Endpoint}
+use Rattle.justified_runs.specs.message.declared.BlockRequest.{BlockRequest}
+use Rattle.justified_runs.specs.message.declared.Incoming.{Incoming}
+use Rattle.justified_runs.specs.message.declared.Incoming.TheVariants as incoming
+use Rattle.justified_runs.specs.tree.Answers.{answer_of}
+use Rattle.justified_runs.specs.bdev.declared.Step.{Step as DriverStep}
+use Rattle.justified_runs.specs.bdev.declared.Step.TheVariants.{Working, Idle, Done, Failed}
+use Rattle.justified_runs.specs.policy.Watch as restart
+use Rattle.justified_runs.specs.policy.Watch.{driver, new_watch}
+use Rattle.justified_runs.specs.marks.Marks.{Mark, Started, GaveUp, Took, Issued, Fault}
+use Rattle.justified_runs.specs.marks.declared.Cause.{Cause}
+use Rattle.justified_runs.specs.marks.declared.Cause.TheVariants.{Exit, Hung, Complaint}
+use Rattle.justified_runs.specs.marks.Told.{Told, Received}
+use Rattle.justified_runs.specs.schedule.declared.Sent.{Sent}
+use Rattle.justified_runs.specs.schedule.declared.Event.{Event}
+use Rattle.justified_runs.specs.schedule.declared.Event.TheVariants as event
+use Rattle.justified_runs.specs.schedule.Groups.{Group, marks_of, Each, EachGroup}
+use Rattle.justified_runs.specs.schedule.Calls.{Arrival, arrived, taken}
+use Rattle.justified_runs.specs.schedule.Handed.{was_sent, is_handed, is_told, acts_when_handed}
+use Rattle.justified_runs.specs.reissue.declared.link.LinkRefusal.{LinkRefusal}
+use Rattle.justified_runs.specs.run_log.Noted.{Noted, marks_in, grouped, with_mark, with_message, with_entry}
+use Rattle.justified_runs.specs.run_log.declared.log.Entry.TheVariants as entry
+use Rattle.justified_runs.specs.driver_events.declared.ruling.Ruling.{Ruling}
+use Rattle.justified_runs.specs.driver_events.declared.ruling.Ruling.TheVariants as ruling
+use Rattle.justified_runs.specs.driver_events.Ruling.{is_fault}
+use Rattle.justified_runs.specs.driver_events.Disks.{Disks, LinesUp, NoneIsThere, LineIsFull, IsLinedUp}
+use Rattle.justified_runs.specs.driver_events.Scene.{Scene, Plays, told_of_ruling, told_of_action, delivered, AfterStep, AfterDeath}
+use Rattle.justified_runs.specs.playing.declared.arrived.Arrived.{Arrived}
+use Rattle.justified_runs.specs.playing.PlayView.{Play, calls_of, PlaysNext, Advances, Stays, Goes, Turn, Takes, TakesOwed, TakesEnd, Posts, Complains, ComesToEnd, IsPlayedOut, IsStarved, HandsOut, noting, posted, ruling_at}
+use Rattle.justified_runs.specs.playing.Waiting.{HasCalls, arrival_of}
+use Rattle.justified_runs.specs.playing.Moments.{Doing, Resting, Answering, is_busy, Moment, Step, Begins as StepBegins, Tells, Takes as StepTakes, Settles, Brings, BringsNone, Pays as StepPays, HandsCall, Replies as StepReplies, Runs, Starts, Then}
+use Rattle.justified_runs.specs.justifying.Core.{Core}
+use Rattle.justified_runs.specs.justifying.Happens.{fault_marks, exit_marks, TicksTo, Beats, MissesOne, FoundHung, WaitsOn, StartsNext, IsOver, Begins, Arrives, Flushes, Answers, Drops, Delivers, LinesAgain, HangsOne, StepsOne, FailsOne, DiesNone, DiesOne, Ticks}
+use Rattle.justified_runs.specs.justifying.Seen.{core_at, with_brought, EventDone, begun_scene}
+use Rattle.justified_runs.specs.justifying.Steady.{AnsweredSoFar}
+use Rattle.justified_runs.proofs.justifying.Events.{event_done, record_of_groups}
+use Rattle.justified_runs.proofs.justifying.AnswerLaws.{SentMore, begins_sent, answered_kept}
 use Rattle.justified_runs.specs.Said.{IsSaid, IsBegun, HasBegun, StandsBefore, OverCalm}
 use Rattle.justified_runs.specs.Ordered.{answering}
 use Rattle.justified_runs.proofs.SaidLaws.{not_before, not_owed_before, busy_answering, step_begun, step_calm, step_said, next_none}

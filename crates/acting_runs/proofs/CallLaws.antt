@@ -1,24 +1,24 @@
 -- The calls that arrived are those that wait, the one that is being answered, and those that were answered, at each moment of a run.
 use Rattle.std.proofs.Common.{◌≡◌, ℕ, List, [], ◌∷◌, ◌++◌, refl, sym, ◌∙◌, ap, subst}
 use Rattle.std.specs.Prelude.{map, reverse, length, Some, None, Ok}
-use Rattle.message.specs.declared.Incoming.TheVariants as incoming
-use Rattle.bdev.specs.DriverState.{DriverState}
-use Rattle.media.specs.Contents.{MediaState}
-use Rattle.policy.specs.declared.Policy.{Policy}
-use Rattle.policy.specs.Watch.{new_watch}
-use Rattle.marks.specs.Marks.{Mark}
-use Rattle.marks.specs.Told.{Received}
-use Rattle.schedule.specs.declared.Event.{Event}
-use Rattle.schedule.specs.Groups.{Group}
-use Rattle.schedule.specs.Calls.{Arrival, arrived, taken}
-use Rattle.run_log.specs.Noted.{Noted, marks_in, grouped, with_mark}
-use Rattle.run_log.specs.declared.log.Entry.TheVariants as entry
-use Rattle.driver_events.specs.Scene.{Scene}
-use Rattle.playing.specs.declared.arrived.Arrived.{Arrived}
-use Rattle.playing.specs.PlayView.{Play, IsOpened, first_noted, PlaysNext, Further, Still, HandsEvent, HandsNone, HandsOwed, noting, paid}
-use Rattle.playing.specs.Waiting.{HasCalls, arrival_of}
-use Rattle.playing.specs.Moments.{Doing, Resting, Answering, Moment, Step, Begins as StepBegins, Tells, Takes as StepTakes, Settles, Brings, BringsNone, Pays as StepPays, HandsCall, Replies as StepReplies}
-use Rattle.playing.proofs.Waits.{servers_hand_none, asides_hand_none, one_is_handed_out, it_is_answered}
+use Rattle.justified_runs.specs.message.declared.Incoming.TheVariants as incoming
+use Rattle.justified_runs.specs.bdev.DriverState.{DriverState}
+use Rattle.justified_runs.specs.media.Contents.{MediaState}
+use Rattle.justified_runs.specs.policy.declared.Policy.{Policy}
+use Rattle.justified_runs.specs.policy.Watch.{new_watch}
+use Rattle.justified_runs.specs.marks.Marks.{Mark}
+use Rattle.justified_runs.specs.marks.Told.{Received}
+use Rattle.justified_runs.specs.schedule.declared.Event.{Event}
+use Rattle.justified_runs.specs.schedule.Groups.{Group}
+use Rattle.justified_runs.specs.schedule.Calls.{Arrival, arrived, taken}
+use Rattle.justified_runs.specs.run_log.Noted.{Noted, marks_in, grouped, with_mark}
+use Rattle.justified_runs.specs.run_log.declared.log.Entry.TheVariants as entry
+use Rattle.justified_runs.specs.driver_events.Scene.{Scene}
+use Rattle.justified_runs.specs.playing.declared.arrived.Arrived.{Arrived}
+use Rattle.justified_runs.specs.playing.PlayView.{Play, IsOpened, first_noted, PlaysNext, Further, Still, HandsEvent, HandsNone, HandsOwed, noting, paid}
+use Rattle.justified_runs.specs.playing.Waiting.{HasCalls, arrival_of}
+use Rattle.justified_runs.specs.playing.Moments.{Doing, Resting, Answering, Moment, Step, Begins as StepBegins, Tells, Takes as StepTakes, Settles, Brings, BringsNone, Pays as StepPays, HandsCall, Replies as StepReplies}
+use Rattle.justified_runs.proofs.playing.Waits.{servers_hand_none, asides_hand_none, one_is_handed_out, it_is_answered}
 use Rattle.justified_runs.specs.Said.{IsBegun}
 use Rattle.justified_runs.specs.Ordered.{answering}
 

@@ -1,39 +1,39 @@
 -- Calls are left only while a request is open or a start is awaited, and not after giving up.
 use Rattle.std.proofs.Common.{◌≡◌, ℕ, suc, ◌<◌, ◌≤◌, List, [], ◌∷◌, ◌++◌, append_assoc, length, Bool, true, false, cond, refl, sym, ◌∙◌, ap, subst, inl, inr, ◌⊎◌, arith}
 use Rattle.std.specs.Prelude.{◌≢◌, ◌&&◌, ◌||◌, ◌==◌, not, map, reverse, Option, Some, None, Result, Ok, Err, is_ok, is_some, if◌then◌else◌}
-use Rattle.endpoint.specs.declared.Endpoint.{Endpoint}
-use Rattle.message.specs.declared.BlockRequest.{BlockRequest}
-use Rattle.message.specs.declared.Incoming.{Incoming}
-use Rattle.message.specs.declared.Incoming.TheVariants as incoming
-use Rattle.tree.specs.Answers.{answer_of}
-use Rattle.policy.specs.Watch.{Phase, Running, Waiting, GivenUp, driver}
-use Rattle.marks.specs.Marks.{Mark, Started, Answered, Flush, GaveUp, Took, Issued, Fault, last_started, gave_up, awaits_start, is_endpoint}
-use Rattle.marks.specs.declared.Cause.TheVariants.{Complaint}
-use Rattle.marks.specs.Open.{open_requests, has_none}
-use Rattle.marks.specs.Told.{Told, Posted, Received, took_nothing}
-use Rattle.marks.specs.Acts.{AtLink, Outbox, owed_after_act, owed_after_message, needs_message, MayPost, MayAct}
-use Rattle.faultless.specs.Faultless.{without_faults, FaultsChangeNothing}
-use Rattle.faultless.proofs.FaultlessLaws.{faults_change_nothing}
-use Rattle.schedule.specs.declared.Event.{Event}
-use Rattle.schedule.specs.Groups.{Group, marks_of, running, EachGroup}
-use Rattle.schedule.specs.Calls.{Arrival, arrived, taken, MayWait}
-use Rattle.reissue.specs.declared.link.LinkRefusal.{LinkRefusal}
-use Rattle.run_log.specs.Noted.{Noted, with_mark, with_entry}
-use Rattle.run_log.specs.declared.log.Entry.TheVariants as entry
-use Rattle.driver_events.specs.Ruling.{is_fault}
-use Rattle.driver_events.specs.Disks.{Disks, is_at, LinesUp, NoneIsThere, LineIsFull, IsLinedUp}
-use Rattle.driver_events.specs.Scene.{Scene}
-use Rattle.playing.specs.declared.arrived.Arrived.{Arrived}
-use Rattle.playing.specs.PlayView.{Play, PlaysNext, Advances, Stays, Goes, Turn, Takes, TakesOwed, TakesEnd, Posts, Complains, ComesToEnd, IsPlayedOut, IsStarved, noting, ruling_at}
-use Rattle.playing.specs.Waiting.{HasCalls, arrival_of}
-use Rattle.playing.specs.Moments.{Resting, Moment, record_of, Step, Begins as StepBegins, Tells, Takes as StepTakes, Settles, Brings, BringsNone, Pays as StepPays, HandsCall, Replies as StepReplies, Runs, Starts, Then, Needs}
-use Rattle.playing.proofs.Needing.{runs_end_needing}
-use Rattle.playing.proofs.PlayLaws.{IsNoEnd, far_no_end}
-use Rattle.playing.proofs.Running.{next_record}
-use Rattle.justifying.specs.Core.{Core, story, PhaseIs, FollowsGroups}
-use Rattle.justifying.specs.Seen.{with_brought, EventDone}
-use Rattle.justifying.proofs.Events.{event_done, record_of_groups}
-use Rattle.justifying.proofs.FollowLaws.{same_number}
+use Rattle.justified_runs.specs.endpoint.declared.Endpoint.{Endpoint}
+use Rattle.justified_runs.specs.message.declared.BlockRequest.{BlockRequest}
+use Rattle.justified_runs.specs.message.declared.Incoming.{Incoming}
+use Rattle.justified_runs.specs.message.declared.Incoming.TheVariants as incoming
+use Rattle.justified_runs.specs.tree.Answers.{answer_of}
+use Rattle.justified_runs.specs.policy.Watch.{Phase, Running, Waiting, GivenUp, driver}
+use Rattle.justified_runs.specs.marks.Marks.{Mark, Started, Answered, Flush, GaveUp, Took, Issued, Fault, last_started, gave_up, awaits_start, is_endpoint}
+use Rattle.justified_runs.specs.marks.declared.Cause.TheVariants.{Complaint}
+use Rattle.justified_runs.specs.marks.Open.{open_requests, has_none}
+use Rattle.justified_runs.specs.marks.Told.{Told, Posted, Received, took_nothing}
+use Rattle.justified_runs.specs.marks.Acts.{AtLink, Outbox, owed_after_act, owed_after_message, needs_message, MayPost, MayAct}
+use Rattle.justified_runs.specs.faultless.Faultless.{without_faults, FaultsChangeNothing}
+use Rattle.justified_runs.proofs.faultless.FaultlessLaws.{faults_change_nothing}
+use Rattle.justified_runs.specs.schedule.declared.Event.{Event}
+use Rattle.justified_runs.specs.schedule.Groups.{Group, marks_of, running, EachGroup}
+use Rattle.justified_runs.specs.schedule.Calls.{Arrival, arrived, taken, MayWait}
+use Rattle.justified_runs.specs.reissue.declared.link.LinkRefusal.{LinkRefusal}
+use Rattle.justified_runs.specs.run_log.Noted.{Noted, with_mark, with_entry}
+use Rattle.justified_runs.specs.run_log.declared.log.Entry.TheVariants as entry
+use Rattle.justified_runs.specs.driver_events.Ruling.{is_fault}
+use Rattle.justified_runs.specs.driver_events.Disks.{Disks, is_at, LinesUp, NoneIsThere, LineIsFull, IsLinedUp}
+use Rattle.justified_runs.specs.driver_events.Scene.{Scene}
+use Rattle.justified_runs.specs.playing.declared.arrived.Arrived.{Arrived}
+use Rattle.justified_runs.specs.playing.PlayView.{Play, PlaysNext, Advances, Stays, Goes, Turn, Takes, TakesOwed, TakesEnd, Posts, Complains, ComesToEnd, IsPlayedOut, IsStarved, noting, ruling_at}
+use Rattle.justified_runs.specs.playing.Waiting.{HasCalls, arrival_of}
+use Rattle.justified_runs.specs.playing.Moments.{Resting, Moment, record_of, Step, Begins as StepBegins, Tells, Takes as StepTakes, Settles, Brings, BringsNone, Pays as StepPays, HandsCall, Replies as StepReplies, Runs, Starts, Then, Needs}
+use Rattle.justified_runs.proofs.playing.Needing.{runs_end_needing}
+use Rattle.justified_runs.proofs.playing.PlayLaws.{IsNoEnd, far_no_end}
+use Rattle.justified_runs.proofs.playing.Running.{next_record}
+use Rattle.justified_runs.specs.justifying.Core.{Core, story, PhaseIs, FollowsGroups}
+use Rattle.justified_runs.specs.justifying.Seen.{with_brought, EventDone}
+use Rattle.justified_runs.proofs.justifying.Events.{event_done, record_of_groups}
+use Rattle.justified_runs.proofs.justifying.FollowLaws.{same_number}
 use Rattle.justified_runs.specs.Said.{core_of, IsSaid, IsBegun, HasBegun, StandsBefore, OverCalm}
 use Rattle.justified_runs.specs.Ordered.{answering}
 use Rattle.justified_runs.proofs.SaidLaws.{not_before, not_owed_before, busy_answering, step_begun, step_calm, step_said}

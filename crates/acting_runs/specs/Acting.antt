@@ -1,17 +1,17 @@
 -- When the server acts, at each event of a run.
 use Rattle.std.specs.Prelude.{◌≡◌, ℕ, List, [], ◌∷◌, length, Bool, true, false, ◌||◌}
-use Rattle.bdev.specs.DriverState.{DriverState}
-use Rattle.media.specs.Contents.{MediaState}
-use Rattle.policy.specs.declared.Policy.{Policy}
-use Rattle.policy.specs.Watch.{new_watch}
-use Rattle.marks.specs.Marks.{Mark}
-use Rattle.schedule.specs.declared.Sent.{Sent}
-use Rattle.schedule.specs.declared.Event.{Event}
-use Rattle.schedule.specs.Groups.{Group, EachGroup}
-use Rattle.schedule.specs.Handed.{is_handed, is_told, acts_when_handed}
-use Rattle.playing.specs.declared.arrived.Arrived.{Arrived}
-use Rattle.playing.specs.PlayView.{IsOpened}
-use Rattle.playing.specs.Moments.{Doing, Resting, Moment, Runs}
+use Rattle.justified_runs.specs.bdev.DriverState.{DriverState}
+use Rattle.justified_runs.specs.media.Contents.{MediaState}
+use Rattle.justified_runs.specs.policy.declared.Policy.{Policy}
+use Rattle.justified_runs.specs.policy.Watch.{new_watch}
+use Rattle.justified_runs.specs.marks.Marks.{Mark}
+use Rattle.justified_runs.specs.schedule.declared.Sent.{Sent}
+use Rattle.justified_runs.specs.schedule.declared.Event.{Event}
+use Rattle.justified_runs.specs.schedule.Groups.{Group, EachGroup}
+use Rattle.justified_runs.specs.schedule.Handed.{is_handed, is_told, acts_when_handed}
+use Rattle.justified_runs.specs.playing.declared.arrived.Arrived.{Arrived}
+use Rattle.justified_runs.specs.playing.PlayView.{IsOpened}
+use Rattle.justified_runs.specs.playing.Moments.{Doing, Resting, Moment, Runs}
 
 -- a call is finished and a request is issued only where the event, or an earlier mark of its group, handed the server something
 abbrev pub ActsAsDue : List Sent → Event → List Mark → List Group → Type 0

@@ -1,19 +1,19 @@
 -- The calls that wait, at each event of a run.
 use Rattle.std.specs.Prelude.{◌≡◌, ◌⊎◌, ◌<◌, ℕ, List, [], ◌∷◌, length, true}
-use Rattle.endpoint.specs.declared.Endpoint.{Endpoint}
-use Rattle.message.specs.declared.BlockRequest.{BlockRequest}
-use Rattle.bdev.specs.DriverState.{DriverState}
-use Rattle.media.specs.Contents.{MediaState}
-use Rattle.policy.specs.declared.Policy.{Policy}
-use Rattle.policy.specs.Watch.{new_watch}
-use Rattle.marks.specs.Marks.{Mark}
-use Rattle.marks.specs.Acts.{MayPost, empty_outbox}
-use Rattle.schedule.specs.declared.Event.{Event}
-use Rattle.schedule.specs.Groups.{Group, EachGroup}
-use Rattle.schedule.specs.Calls.{CallsSoFar}
-use Rattle.driver_events.specs.Disks.{is_at}
-use Rattle.playing.specs.PlayView.{IsOpened}
-use Rattle.playing.specs.Moments.{Moment, Resting, Runs, record_of}
+use Rattle.justified_runs.specs.endpoint.declared.Endpoint.{Endpoint}
+use Rattle.justified_runs.specs.message.declared.BlockRequest.{BlockRequest}
+use Rattle.justified_runs.specs.bdev.DriverState.{DriverState}
+use Rattle.justified_runs.specs.media.Contents.{MediaState}
+use Rattle.justified_runs.specs.policy.declared.Policy.{Policy}
+use Rattle.justified_runs.specs.policy.Watch.{new_watch}
+use Rattle.justified_runs.specs.marks.Marks.{Mark}
+use Rattle.justified_runs.specs.marks.Acts.{MayPost, empty_outbox}
+use Rattle.justified_runs.specs.schedule.declared.Event.{Event}
+use Rattle.justified_runs.specs.schedule.Groups.{Group, EachGroup}
+use Rattle.justified_runs.specs.schedule.Calls.{CallsSoFar}
+use Rattle.justified_runs.specs.driver_events.Disks.{is_at}
+use Rattle.justified_runs.specs.playing.PlayView.{IsOpened}
+use Rattle.justified_runs.specs.playing.Moments.{Moment, Resting, Runs, record_of}
 
 -- the calls taken so far are the first that arrived, in their order, and the others wait only where they may
 abbrev pub CallsAsDue : Event → List Mark → List Group → Type 0

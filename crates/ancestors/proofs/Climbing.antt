@@ -4,16 +4,16 @@ use mathlib.Core.Logic.{inl, inr}
 use Rattle.std.specs.Prelude.{◌==◌, ◌&&◌, IsTrue, if◌then◌else◌}
 use Rattle.std.proofs.lemmas.Bool.{cases_Bool, cases_eq, cases_lt, and_parts, eq-eqb, eqb-true}
 use Rattle.layout.specs.declared.Geometry.{Geometry}
-use Rattle.tree.specs.Tree.{Body, Directory, File, is_file, is_directory, Node, Tree, is_dir, is_dir_at, names_of, parent_of}
-use Rattle.tree.specs.IsTree.{NodesAgree, above, names_to}
-use Rattle.tree.specs.NameCalls.{is_within}
-use Rattle.tree_laws.proofs.Search.{found_below, one_below}
-use Rattle.volume.specs.declared.Inode.{Inode}
-use Rattle.volume.specs.Entries.{is_directory_inode}
-use Rattle.volume.specs.Holds.{Holds}
-use Rattle.volume.specs.Nodes.{directory_of, file_of, is_directory_mode, is_marked, node_of}
-use Rattle.volume.specs.Pieces.{pieces}
-use Rattle.volume.specs.Reading.{Disk, is_inode}
+use Rattle.walk.specs.tree.Tree.{Body, Directory, File, is_file, is_directory, Node, Tree, is_dir, is_dir_at, names_of, parent_of}
+use Rattle.walk.specs.tree.IsTree.{NodesAgree, above, names_to}
+use Rattle.walk.specs.tree.NameCalls.{is_within}
+use Rattle.directory.proofs.tree_laws.Search.{found_below, one_below}
+use Rattle.store.specs.volume.declared.Inode.{Inode}
+use Rattle.store.specs.volume.Entries.{is_directory_inode}
+use Rattle.store.specs.volume.Holds.{Holds}
+use Rattle.store.specs.volume.Nodes.{directory_of, file_of, is_directory_mode, is_marked, node_of}
+use Rattle.store.specs.volume.Pieces.{pieces}
+use Rattle.store.specs.volume.Reading.{Disk, is_inode}
 use Rattle.walk.proofs.Going.{HasEntries, has_entries}
 use Rattle.ancestors.specs.Within.{HoldsDirectory, SaysWithin}
 

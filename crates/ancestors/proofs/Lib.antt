@@ -1,1 +1,2 @@
+pub use Rattle.walk.proofs as walk
 pub mod Climbing

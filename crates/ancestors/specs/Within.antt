@@ -1,10 +1,10 @@
 -- What a volume says of the directories above one.
 use Rattle.std.specs.Prelude.{◌≡◌, ℕ, Bool, true}
 use Rattle.layout.specs.declared.Geometry.{Geometry}
-use Rattle.tree.specs.Tree.{Tree, is_dir_at}
-use Rattle.tree.specs.NameCalls.{is_within}
-use Rattle.volume.specs.Reading.{Disk}
-use Rattle.volume.specs.Holds.{Holds}
+use Rattle.walk.specs.tree.Tree.{Tree, is_dir_at}
+use Rattle.walk.specs.tree.NameCalls.{is_within}
+use Rattle.store.specs.volume.Reading.{Disk}
+use Rattle.store.specs.volume.Holds.{Holds}
 
 -- some tree is held in which a directory has this number
 pub record HoldsDirectory (g : Geometry) (d : Disk) (n : ℕ) : Type 0 where

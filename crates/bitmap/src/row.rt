@@ -1,7 +1,7 @@
 //! Bits in a row of bytes: bit b is bit b mod 8 of byte b div 8.
 
 ghost use Rattle.std.specs.Prelude.{◌≡◌, ◌≢◌, ◌≤◌, ◌<◌, ◌+◌, ◌*◌, ◌/◌, ◌%◌, ◌^◌, ◌==◌, ℕ, length, slice_index};
-ghost use Rattle.volume.specs.Reading.{bit_in};
+ghost use Rattle.store.specs.volume.Reading.{bit_in};
 ghost use Rattle.bitmap.specs.Numbers.{IsLowestFree, count_free_in};
 
 /// A byte where one bit is set or not, and the others are as they were.
@@ -39,8 +39,8 @@ pub(crate) fn first_clear(bytes: &[u8], from: u32, end: u32) -> Option<u32>
     None
 }
 
-/// How many bits from one up to another aren't set.
-pub(crate) fn count_clear(bytes: &[u8], from: u32, end: u32) -> u32
+/// How many bits from one up to another aren't set, looked at one by one.
+fn count_bits(bytes: &[u8], from: u32, end: u32) -> u32
     requires order { from ≤ end }
     requires within { end ≤ 8 * length bytes.now }
     ensures value { result ≡ count_free_in (bit_in (slice_index bytes.now)) from end }
@@ -53,4 +53,36 @@ pub(crate) fn count_clear(bytes: &[u8], from: u32, end: u32) -> u32
         }
     }
     clear
+}
+
+/// How many bits aren't set of the bytes from one up to another.
+fn count_whole(bytes: &[u8], from: u32, end: u32) -> u32
+    requires order { from ≤ end }
+    requires within { end ≤ length bytes.now }
+    requires few { 8 * end < 2 ^ 32 }
+    ensures value { result ≡ count_free_in (bit_in (slice_index bytes.now)) (8 * from) (8 * end) }
+    ensures most { result + 8 * from ≤ 8 * end }
+{
+    let mut clear = 0;
+    for at in from..end {
+        clear += 8 - bytes[at as usize].count_ones();
+    }
+    clear
+}
+
+/// How many bits from one up to another aren't set.
+pub(crate) fn count_clear(bytes: &[u8], from: u32, end: u32) -> u32
+    requires order { from ≤ end }
+    requires within { end ≤ 8 * length bytes.now }
+    ensures value { result ≡ count_free_in (bit_in (slice_index bytes.now)) from end }
+    ensures most { result + from ≤ end }
+{
+    let first = from / 8 + 1;
+    let last = end / 8;
+    if last <= first {
+        return count_bits(bytes, from, end);
+    }
+    count_bits(bytes, from, 8 * first)
+        + count_whole(bytes, first, last)
+        + count_bits(bytes, 8 * last, end)
 }

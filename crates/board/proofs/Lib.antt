@@ -1,3 +1,4 @@
+pub use Rattle.legal.proofs as legal
 pub mod Records
 pub mod Lists
 pub mod Moves

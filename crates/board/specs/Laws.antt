@@ -2,7 +2,7 @@
 use Rattle.std.specs.Prelude.{◌≡◌, ℕ, ◌≤◌, List, true, Some, slice_index}
 use mathlib.Core.Option.{some}
 use lib.ListN.{get_elem?}
-use Rattle.marks.specs.Marks.{gave_up, IsBeginning}
+use Rattle.legal.specs.marks.Marks.{gave_up, IsBeginning}
 use Rattle.legal.specs.Session.{calls_of, tally_of, went_on, IsSession}
 use Rattle.board.specs.View.{View, session_of, is_used}
 use Rattle.board.specs.Rule.{Kept}

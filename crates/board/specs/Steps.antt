@@ -1,6 +1,6 @@
 -- What each step on a word tells its seat, and what a meeting tells two.
 use Rattle.std.specs.Prelude.{◌≡◌, ℕ, ◌^◌, ◌<◌, ◌≤◌, max, Bool, true, false, List, [], Option, Some}
-use Rattle.marks.specs.Marks.{Mark, Took, is_counted, gave_up, IsBeginning}
+use Rattle.legal.specs.marks.Marks.{Mark, Took, is_counted, gave_up, IsBeginning}
 use Rattle.legal.specs.Laws.{is_call}
 use Rattle.legal.specs.Session.{calls_of, tally_of, went_on, LearnsMore, IsNewSession, MeetKeeps, DeviceKeeps, IsLonger}
 use Rattle.atomic_table.specs.Table.{Me, Step}

@@ -3,7 +3,7 @@
 ghost use Rattle.std.specs.Prelude.{◌≡◌, ◌≢◌, ℕ, ◌+◌, ◌*◌, ◌^◌, ◌≤◌, max, true, false, None, Some, IfOk, IsOk, IfSome, MatchOption};
 ghost use Rattle.tree.specs.declared.Call.{Call};
 ghost use Rattle.tree.specs.Answers.{answer_of};
-ghost use Rattle.marks.specs.Marks.{Took, Issued, gave_up, IsBeginning};
+ghost use Rattle.legal.specs.marks.Marks.{Took, Issued, gave_up, IsBeginning};
 ghost use Rattle.legal.specs.Session.{tally_of, went_on, IsLonger};
 ghost use Rattle.board.specs.View.{opener, is_used, other_of, new_caller, with_used, hosting, alone, guest_of, IsKeeper, noted, called, keeper_after, caller_after, spending, telling};
 ghost use Rattle.board.specs.Steps.{SessionLearns, SeesMore, IsCallOf, OwnsCalls, LearnsTold, Meets, SessionsMeet, SessionAsks, SessionIsNew};

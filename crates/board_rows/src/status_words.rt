@@ -1,5 +1,5 @@
 ghost use Rattle.std.specs.Prelude.{◌≡◌, ◌∷◌, [], IfOk};
-ghost use Rattle.marks.specs.Marks.{Flush, GaveUp};
+ghost use Rattle.board.specs.marks.Marks.{Flush, GaveUp};
 
 use board::{Board, Device, Seat};
 use endpoint::Endpoint;

@@ -1,3 +1,5 @@
+pub use Rattle.tree_laws.proofs as tree_laws
+pub use Rattle.file.proofs as file
 pub mod Made
 pub mod Exits
 pub mod Looks

@@ -2,8 +2,8 @@
 
 ghost use Rattle.std.specs.Prelude.{◌≡◌, ◌<◌, ◌≤◌, IfOk, IfErr, IfSome, option_map};
 ghost use Rattle.tree.specs.Tree.{most_sessions, most_size};
-ghost use Rattle.volume.specs.Nodes.{is_directory_mode};
-ghost use Rattle.volume.specs.Pieces.{pieces};
+ghost use Rattle.store.specs.volume.Nodes.{is_directory_mode};
+ghost use Rattle.store.specs.volume.Pieces.{pieces};
 ghost use Rattle.descriptors.specs.Files.{HasFiles, file_at};
 ghost use Rattle.descriptors.specs.Table.{files_of};
 ghost use Rattle.store.specs.World.{Reads};

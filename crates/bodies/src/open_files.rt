@@ -10,7 +10,7 @@ ghost use Rattle.store.specs.World.{Turns};
 ghost use Rattle.store.specs.Volume.{IsOn};
 ghost use Rattle.store.specs.Halts.{IsHalt};
 ghost use Rattle.layout.specs.declared.Geometry.{Geometry};
-ghost use Rattle.volume.specs.Reading.{Disk};
+ghost use Rattle.store.specs.volume.Reading.{Disk};
 ghost use Rattle.bodies.specs.Does.{Does, Meets};
 
 use crate::found::find;

@@ -4,8 +4,8 @@ ghost use Rattle.std.specs.Prelude.{◌≡◌, ◌≢◌, ◌<◌, ◌≤◌, If
 ghost use Rattle.tree.specs.Tree.{most_sessions};
 ghost use Rattle.tree.specs.FileCalls.{read, bytes_read};
 ghost use Rattle.tree.specs.Answers.{answer_of, refused};
-ghost use Rattle.volume.specs.Nodes.{file_of};
-ghost use Rattle.volume.specs.Pieces.{pieces};
+ghost use Rattle.store.specs.volume.Nodes.{file_of};
+ghost use Rattle.store.specs.volume.Pieces.{pieces};
 ghost use Rattle.file.specs.Reading.{read_count};
 ghost use Rattle.descriptors.specs.Files.{HasFiles};
 ghost use Rattle.descriptors.specs.Table.{files_of};

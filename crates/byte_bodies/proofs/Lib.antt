@@ -1,3 +1,4 @@
+pub use Rattle.node_bodies.proofs as node_bodies
 mod Stamped
 mod WriteCall
 mod TruncateCall

@@ -2,10 +2,10 @@
 use Rattle.std.proofs.Common.{◌≡◌, ℕ, List, length, Bool, true, false, refl, sym, ap, subst, ◌∙◌}
 use Rattle.layout.specs.declared.Geometry.{Geometry}
 use Rattle.tree.specs.Tree.{File}
-use Rattle.volume.specs.Reading.{Disk}
-use Rattle.volume.specs.Pieces.{Pieces, pieces}
+use Rattle.store.specs.volume.Reading.{Disk}
+use Rattle.store.specs.volume.Pieces.{Pieces, pieces}
 use Rattle.file.specs.Changing.{MayChange, BecomesFile, MayWriteAt, WritesAt, SetsSize, Stamps, file_at, written_at, stamped}
-use Rattle.file.specs.Room.{IsRoom}
+use Rattle.file_room.specs.Room.{IsRoom}
 use Rattle.file.proofs.Becoming.{becomes, becomes_then, may_change_after}
 use Rattle.byte_bodies.specs.Dated.{WritesIfRoom, SetsSizeAt}
 

@@ -13,14 +13,14 @@ use Rattle.tree.specs.Walk.{walk, node_at, may_access, to_write}
 use Rattle.tree.specs.Changes.{with_body, file_after_resize}
 use Rattle.tree.specs.NodeCalls.{file_or, truncate}
 use Rattle.tree.specs.Answers.{Effect, refused, done}
-use Rattle.tree_laws.proofs.ByteCalls.{file_changed, file_fits}
-use Rattle.tree_laws.proofs.FileBodies.{resized_fits}
-use Rattle.volume.specs.Reading.{Disk}
-use Rattle.volume.specs.declared.Inode.{Inode}
-use Rattle.volume.specs.Pieces.{Pieces, pieces}
-use Rattle.volume.specs.Nodes.{node_of, directory_of, is_directory_mode, permissions_in, entry_inode, names_in}
-use Rattle.volume.specs.Holds.{HoldsVolume}
-use Rattle.zone_laws.specs.Steps.{node_from}
+use Rattle.bodies.proofs.tree_laws.ByteCalls.{file_changed, file_fits}
+use Rattle.bodies.proofs.tree_laws.FileBodies.{resized_fits}
+use Rattle.store.specs.volume.Reading.{Disk}
+use Rattle.store.specs.volume.declared.Inode.{Inode}
+use Rattle.store.specs.volume.Pieces.{Pieces, pieces}
+use Rattle.store.specs.volume.Nodes.{node_of, directory_of, is_directory_mode, permissions_in, entry_inode, names_in}
+use Rattle.store.specs.volume.Holds.{HoldsVolume}
+use Rattle.file.specs.zone_laws.Steps.{node_from}
 use Rattle.path.specs.Wishes.{IsWhose}
 use Rattle.descriptors.specs.Files.{Files, HasFiles}
 use Rattle.file.specs.Changing.{MayChange, file_at, stamped}

@@ -20,13 +20,13 @@ use Rattle.tree.specs.NodeCalls.{file_or}
 use Rattle.tree.specs.FileCalls.{write}
 use Rattle.tree.specs.Flags.{writes, appends}
 use Rattle.tree.specs.Answers.{Effect, refused, wrote, if_it_fits}
-use Rattle.tree_laws.proofs.ByteCalls.{write_keeps}
-use Rattle.volume.specs.Reading.{Disk}
-use Rattle.volume.specs.Pieces.{Pieces, pieces}
-use Rattle.volume.specs.Nodes.{node_of, directory_of, is_directory_mode, nodes_of, entry_inode, names_in}
-use Rattle.volume.specs.Holds.{HoldsVolume}
-use Rattle.zone_laws.specs.Steps.{node_from}
-use Rattle.zone_laws.specs.Room.{taken_by}
+use Rattle.bodies.proofs.tree_laws.ByteCalls.{write_keeps}
+use Rattle.store.specs.volume.Reading.{Disk}
+use Rattle.store.specs.volume.Pieces.{Pieces, pieces}
+use Rattle.store.specs.volume.Nodes.{node_of, directory_of, is_directory_mode, nodes_of, entry_inode, names_in}
+use Rattle.store.specs.volume.Holds.{HoldsVolume}
+use Rattle.file.specs.zone_laws.Steps.{node_from}
+use Rattle.file.specs.zone_laws.Room.{taken_by}
 use Rattle.descriptors.specs.Files.{Files, HasFiles, file_at as open_at, moved}
 use Rattle.file.specs.Changing.{MayChange, HasZonesFor, file_at, written_at, stamped}
 use Rattle.file.proofs.Rest.{wide}

@@ -2,9 +2,9 @@
 use Rattle.std.specs.Prelude.{◌≡◌, ◌↔◌, ℕ, List, Bool, true, false}
 use Rattle.layout.specs.declared.Geometry.{Geometry}
 use Rattle.tree.specs.Changes.{file_after_resize}
-use Rattle.volume.specs.Reading.{Disk}
-use Rattle.volume.specs.Pieces.{pieces}
-use Rattle.zone.specs.Pages.{SameHead}
+use Rattle.store.specs.volume.Reading.{Disk}
+use Rattle.store.specs.volume.Pieces.{pieces}
+use Rattle.store.specs.Volume.{SameHead}
 use Rattle.file.specs.Changing.{MayChange, BecomesFile, HasZonesFor, file_at, written_at, stamped}
 
 -- Where there are zones enough, these bytes are written into the file of inode n at `now`; where not, nothing is changed. x says which.

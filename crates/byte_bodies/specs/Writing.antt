@@ -4,7 +4,7 @@ use Rattle.errno.specs.declared.Errno.{Errno}
 use Rattle.errno.specs.declared.Errno.TheVariants.{EBADF, EINVAL, EFBIG}
 use Rattle.tree.specs.Tree.{most_bytes, most_size}
 use Rattle.tree.specs.Flags.{writes, appends}
-use Rattle.volume.specs.Nodes.{is_directory_mode}
+use Rattle.store.specs.volume.Nodes.{is_directory_mode}
 use Rattle.bodies.specs.declared.found.Found.{Found}
 
 -- the end of the file with the append flag, else the position

@@ -1,14 +1,15 @@
 //! Changes of the bytes of one inode's file, with the times of the change.
 
 ghost use Rattle.std.specs.Prelude.{◌≤◌, ◌<◌, ◌+◌, length, IfErr};
-ghost use Rattle.volume.specs.Pieces.{pieces};
+ghost use Rattle.store.specs.volume.Pieces.{pieces};
 ghost use Rattle.store.specs.World.{Turns};
 ghost use Rattle.store.specs.Volume.{IsOn};
 ghost use Rattle.store.specs.Halts.{Ends, IsHalt};
 ghost use Rattle.file.specs.Changing.{MayChange};
 ghost use Rattle.byte_bodies.specs.Dated.{WritesIfRoom, SetsSizeAt};
 
-use file::{has_room, set_size, stamp, write_at};
+use file::{set_size, stamp, write_at};
+use file_room::has_room;
 use layout::Geometry;
 use store::{Blocks, Halt};
 

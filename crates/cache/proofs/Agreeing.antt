@@ -7,19 +7,19 @@ use Rattle.std.proofs.lemmas.Bool.Decides.{nat_tests}
 use Rattle.legal.specs.View.{frame_or}
 use Rattle.reissue.specs.Moves.{DiskState, Begun, put, Spares}
 use Rattle.reissue.proofs.Maps.{put-same, put-other, put_cases}
-use Rattle.cache.specs.Slots.{ticket_of, dirtied, written}
+use Rattle.slots.specs.Slots.{ticket_of, dirtied, written}
 use Rattle.cache.specs.Frames.{HasSure, Tied, CacheAgrees, frame_of, disk_block, view}
 use Rattle.cache.proofs.Tied.{same_slot, same_start, quiet, no_ticket, its_start}
-use Rattle.cache.specs.declared.slots.Slot.{Slot}
-use Rattle.cache.specs.declared.state.State.{State}
-use Rattle.cache.specs.declared.state.State.TheVariants.{Clean, Dirty, Writing, Changed}
+use Rattle.slots.specs.declared.slot.Slot.{Slot}
+use Rattle.slots.specs.declared.state.State.{State}
+use Rattle.slots.specs.declared.state.State.TheVariants.{Clean, Dirty, Writing, Changed}
 
 -- ---- bytes of a block
 
 -- the byte of a slot, or this one
 abbrev pub byte_or : Option Slot → ℕ → ℕ → ℕ
 byte_or None o below = below
-byte_or (Some s) o below = slice_index s.bytes o
+byte_or (Some s) o below = slice_index s.bytes.value o
 
 -- no byte stands past the end of a list's leading part
 get_or_past : (n : ℕ) (xs : List ℕ) (o : ℕ) → n ≤ o → get_or (take n xs) o 0 ≡ 0
@@ -32,13 +32,13 @@ get_or_past (suc n) (x ∷ xs) (suc o) le = get_or_past n xs o (omega arith)
 pub seen_within : (size : ℕ) (w : DiskState) (b o : ℕ) (x : Option Slot) → o < size
     → frame_or (frame_of size x) (disk_block size w b) o ≡ byte_or x o (w.disk (b * size + o))
 seen_within size w b o None lt = cond-true (nat_lt o size) (w.disk (b * size + o)) 0 (lt-ltb o size lt)
-seen_within size w b o (Some s) lt = get_or-take size s.bytes o 0 lt
+seen_within size w b o (Some s) lt = get_or-take size s.bytes.value o 0 lt
 
 -- past its end
 pub seen_past : (size : ℕ) (w : DiskState) (b o : ℕ) (x : Option Slot) → size ≤ o
     → frame_or (frame_of size x) (disk_block size w b) o ≡ 0
 seen_past size w b o None le = grind (arith, nat_tests)
-seen_past size w b o (Some s) le = get_or_past size s.bytes o le
+seen_past size w b o (Some s) le = get_or_past size s.bytes.value o le
 
 -- what would be read back is the same where each byte within a block is
 pub same_view : (size : ℕ) (held held' : ℕ → Option Slot) (w v : DiskState)
@@ -79,12 +79,12 @@ view_moved size held pending w v sp k = same_view size held held w v (λ b o lt.
 
 -- slots and the disk go on agreeing, if that block's do
 pub agrees_put : (size : ℕ) (held : ℕ → Option Slot) (w : DiskState) (b : ℕ) (x : Option Slot)
-    → ((s : Slot) → x ≡ Some s → s.state ≡ Clean → (o : ℕ) → o < size → HasSure w (b * size + o) (slice_index s.bytes o))
+    → ((s : Slot) → x ≡ Some s → s.state ≡ Clean → (o : ℕ) → o < size → HasSure w (b * size + o) (slice_index s.bytes.value o))
     → (x ≡ None → (o : ℕ) → o < size → w.unsure (b * size + o) ≡ false)
     → CacheAgrees size held w → CacheAgrees size (put held b x) w
 agrees_put size held w b x clean none k = record {
   clean = λ c u h e o lt. elim (put_cases held b x c) [
-    | inl p ↦ subst (λ (d : ℕ). HasSure w (d * size + o) (slice_index u.bytes o)) (sym p.0) (clean u (sym p.1 ∙ h) e o lt)
+    | inl p ↦ subst (λ (d : ℕ). HasSure w (d * size + o) (slice_index u.bytes.value o)) (sym p.0) (clean u (sym p.1 ∙ h) e o lt)
     | inr p ↦ k.clean c u (sym p.1 ∙ h) e o lt
   ];
   covered = λ c h o lt. elim (put_cases held b x c) [
@@ -141,7 +141,7 @@ view_given_up size held w b s is st k = view_put size held w b None (λ o lt.
 
 -- a write was settled: the slot is clean, or dirty if it was changed since
 pub agrees_written : (size : ℕ) (held : ℕ → Option Slot) (pending : ℕ → Option Begun) (v : DiskState) (b n : ℕ) (s t : Slot) (r : Begun) (bytes : List ℕ)
-    → 0 < size → held b ≡ Some s → ticket_of s.state ≡ Some n → t.state ≡ written s.state → t.bytes ≡ s.bytes
+    → 0 < size → held b ≡ Some s → ticket_of s.state ≡ Some n → t.state ≡ written s.state → t.bytes.value ≡ s.bytes.value
     → pending n ≡ Some r → r.written ≡ Some bytes
     → ((o : ℕ) → o < r.size → (v.disk (r.start + o) ≡ slice_index bytes o) × (v.unsure (r.start + o) ≡ false))
     → Tied size held pending → CacheAgrees size held v → CacheAgrees size (put held b (Some t)) v
@@ -149,7 +149,7 @@ agrees_written size held pending v b n s t r bytes some is ticket st same_bytes 
     agrees_put size held v b (Some t) (λ u h e o lt.
     let same : t ≡ u = same_slot (Some t) t u refl h in
     let clean_t : written s.state ≡ Clean = sym st ∙ ap (λ (x : Slot). x.state) same ∙ e in
-    subst (λ (x : Slot). HasSure v (b * size + o) (slice_index x.bytes o)) same (now_clean (was_writing s.state n ticket clean_t) o lt))
+    subst (λ (x : Slot). HasSure v (b * size + o) (slice_index x.bytes.value o)) same (now_clean (was_writing s.state n ticket clean_t) o lt))
     (λ e o lt. cc) agrees
   where
     was_writing : (x : State) (m : ℕ) → ticket_of x ≡ Some m → written x ≡ Clean → x ≡ Writing m
@@ -158,7 +158,7 @@ agrees_written size held pending v b n s t r bytes some is ticket st same_bytes 
     was_writing (Writing y) m h e = cc
     was_writing (Changed y) m h e = cc
 
-    now_clean : s.state ≡ Writing n → (o : ℕ) → o < size → HasSure v (b * size + o) (slice_index t.bytes o)
+    now_clean : s.state ≡ Writing n → (o : ℕ) → o < size → HasSure v (b * size + o) (slice_index t.bytes.value o)
     now_clean writing o lt =
         let x = k.writes n r bytes there wr in
         let start = its_start size held pending b n s r k is ticket there in
@@ -171,7 +171,7 @@ agrees_written size held pending v b n s t r bytes some is ticket st same_bytes 
         elim x.way.state [
           | inl e ↦ absurd (let z : Writing n ≡ Changed n = sym writing ∙ ap (λ (y : Slot). y.state) (sym same) ∙ e in cc)
           | inr p ↦ record {
-            byte_is = ap (λ (y : List ℕ). slice_index y o) (same_bytes ∙ ap (λ (y : Slot). y.bytes) (sym same)) ∙ p.1 o lt ∙ sym told.0 ∙ ap v.disk place;
+            byte_is = ap (λ (y : List ℕ). slice_index y o) (same_bytes ∙ ap (λ (y : Slot). y.bytes.value) (sym same)) ∙ p.1 o lt ∙ sym told.0 ∙ ap v.disk place;
             sure = ap v.unsure (sym place) ∙ told.1;
           }
         ]

@@ -2,7 +2,7 @@
 use Rattle.std.proofs.Common.{◌≡◌, ◌≢◌, ℕ, suc, ◌+◌, ◌*◌, ◌<◌, ◌≤◌, List, [], ◌∷◌, length, set, refl, sym, ap, subst, ◌∙◌, arith, true, false, Option, Some, None, Result, Ok, Err, IsErr, Bool}
 use Rattle.std.proofs.lemmas.List.{length-append}
 use mathlib.Core.Logic.{inl, inr, ◌⊎◌}
-use Rattle.std.specs.Prelude.{◌&&◌, ◌==◌, ◌↔◌, IsTrue, IsErrOf, is_some, not, slice_get}
+use Rattle.std.specs.Prelude.{◌&&◌, ◌==◌, ◌↔◌, IsTrue, IsErrOf, slice_get}
 use Rattle.std.specs.Bool.{OnFalse}
 use Rattle.std.specs.List.{list_any}
 use Rattle.std.proofs.lemmas.Bool.{cases_eq, cases_lt}
@@ -18,42 +18,18 @@ use Rattle.reissue.specs.Entries.{pending_of, AllOfMinor}
 use Rattle.reissue.specs.Posts.{HasRoom}
 use Rattle.reissue.specs.Calls.{Begins, Adds}
 use Rattle.reissue.proofs.Maps.{put-same}
-use Rattle.cache.specs.declared.slots.Slot.{Slot}
-use Rattle.cache.specs.declared.state.State.{State}
-use Rattle.cache.specs.declared.state.State.TheVariants.{Clean, Dirty, Writing, Changed}
-use Rattle.cache.specs.Slots.{held, ticket_of, is_clean, is_dirty, is_dirty_slot, is_unclean_slot, IsDistinct}
-use Rattle.cache.specs.Edits.{IsSetAt, IsIssued, Leaves}
+use Rattle.slots.specs.declared.slot.Slot.{Slot}
+use Rattle.slots.specs.declared.state.State.TheVariants.{Clean, Dirty, Writing}
+use Rattle.slots.specs.Slots.{held, ticket_of, IsDistinct}
+use Rattle.slots.specs.Edits.{IsSetAt}
 use Rattle.cache.specs.Frames.{Tied, IsOfBlock, CacheAgrees, view}
 use Rattle.cache.specs.Calls.{Caching, IsReady, IsLive, IsStuck, IsRefusing, Serves, Keeps}
 use Rattle.cache.specs.Takes.{IsReadAt}
-use Rattle.cache.proofs.Held.{held_at, held_set}
+use Rattle.slots.proofs.Held.{held_at, held_set}
 use Rattle.cache.proofs.Tied.{tied_write, tied_read}
 use Rattle.cache.proofs.Agreeing.{agrees_moved, view_moved, agrees_put, view_put}
-use Rattle.cache.proofs.Edits.{one_slot, leaves_set}
+use Rattle.slots.proofs.Edits.{one_slot}
 use Rattle.cache.proofs.Runs.{begin_runs}
-
--- a dirty slot has a block, and this state
-pub dirty_parts : (s : Slot) → is_dirty_slot s ≡ true → (b : ℕ) × (s.block ≡ Some b) × (s.state ≡ Dirty)
-dirty_parts s h = by s.block s.state refl refl h
-  where
-    by : (o : Option ℕ) (x : State) → s.block ≡ o → s.state ≡ x → (is_some o && is_dirty x) ≡ true → (b : ℕ) × (s.block ≡ Some b) × (s.state ≡ Dirty)
-    by None x p q h = cc
-    by (Some b) Clean p q h = cc
-    by (Some b) Dirty p q h = (b, p, q)
-    by (Some b) (Writing t) p q h = cc
-    by (Some b) (Changed t) p q h = cc
-
--- an unclean slot that isn't dirty has a block and a write under way
-pub under_way : (s : Slot) → is_unclean_slot s ≡ true → is_dirty_slot s ≡ false → (b t : ℕ) × (s.block ≡ Some b) × (ticket_of s.state ≡ Some t)
-under_way s h k = by s.block s.state refl refl h k
-  where
-    by : (o : Option ℕ) (x : State) → s.block ≡ o → s.state ≡ x → (is_some o && not (is_clean x)) ≡ true → (is_some o && is_dirty x) ≡ false
-        → (b t : ℕ) × (s.block ≡ Some b) × (ticket_of s.state ≡ Some t)
-    by None x p q h k = cc
-    by (Some b) Clean p q h k = cc
-    by (Some b) Dirty p q h k = cc
-    by (Some b) (Writing t) p q h k = (b, t, p, ap ticket_of q)
-    by (Some b) (Changed t) p q h k = (b, t, p, ap ticket_of q)
 
 -- a slot with a write under way has a pending request
 pub busy_under : (size : ℕ) (items : List Slot) (pending : ℕ → Option Begun) (at b t : ℕ) (s : Slot) → IsDistinct items → slice_get items at ≡ Some s
@@ -151,7 +127,7 @@ pub write_one : (ask : Ask) (old new : Caching) (items items' : List Slot) (b n 
     → IsSetAt items items' at (λ t. record t { state = Writing n }) → old.held ≡ held items → new.held ≡ held items'
     → Begins ask old.table new.table old.told new.told old.truth new.truth → Adds ask old.table new.table old.told new.told
     → Opens (Ok n) (begun_by ask) (pending_of old.table.pending) (pending_of new.table.pending)
-    → ask.kind ≡ kind.Write → ask.minor ≡ old.minor → ask.position ≡ b * old.size → ask.count ≡ old.size → ask.bytes ≡ s.bytes
+    → ask.kind ≡ kind.Write → ask.minor ≡ old.minor → ask.position ≡ b * old.size → ask.count ≡ old.size → ask.bytes ≡ s.bytes.value
     → IsReady old → new.minor ≡ old.minor → new.size ≡ old.size → new.ended ≡ old.ended → new.budget ≤ old.budget → HasRoom new.table new.room
     → Keeps old new
 write_one ask old new items items' b n at s d is block st e here there x adds opens write minor position count bytes ready same size ended budget room =
@@ -181,7 +157,7 @@ write_one ask old new items items' b n at s d is block st e here there x adds op
     all : new.held ≡ put old.held b (Some t)
     all = there ∙ ap held set_is ∙ held_set items at b s t d is block refl ∙ ap (λ (h : ℕ → Option Slot). put h b (Some t)) (sym here)
 
-    wr : written_by ask.kind ask.bytes ≡ Some s.bytes
+    wr : written_by ask.kind ask.bytes ≡ Some s.bytes.value
     wr = ap (λ (y : Kind). written_by y ask.bytes) write ∙ ap Some bytes
 
     same_state : (u : Slot) → Some t ≡ Some u → Writing n ≡ u.state
@@ -190,19 +166,10 @@ write_one ask old new items items' b n at s d is block st e here there x adds op
     tied : Tied old.size new.held (pending_of new.table.pending)
     tied = subst (λ (h : ℕ → Option Slot). Tied old.size h (pending_of new.table.pending)) (sym all)
         (subst (λ (o : ℕ → Option Begun). Tied old.size (put old.held b (Some t)) o) (sym opens.1)
-        (tied_write old.size old.held (pending_of old.table.pending) b n s t (begun_by ask) s.bytes slot st refl (λ o lt. refl) opens.0 position count wr ready.tied))
+        (tied_write old.size old.held (pending_of old.table.pending) b n s t (begun_by ask) s.bytes.value slot st refl (λ o lt. refl) opens.0 position count wr ready.tied))
 
     tied' : Tied new.size new.held (pending_of new.table.pending)
     tied' = subst (λ (k : ℕ). Tied k new.held (pending_of new.table.pending)) (sym size) tied
-
--- what the slots leave then
-pub write_leaves : (items items' : List Slot) (b at : ℕ) (s : Slot) (x : State)
-    → IsDistinct items → slice_get items at ≡ Some s → s.block ≡ Some b
-    → IsSetAt items items' at (λ t. record t { state = x }) → Leaves items items'
-write_leaves items items' b at s x d is block e =
-    let one : e.slot ≡ s = one_slot items at e.slot s e.is is in
-    leaves_set items items' at b s (record s { state = x }) d is block refl
-    (e.all ∙ ap (λ (y : Slot). set items at (record y { state = x })) one)
 
 -- the read of a block is begun
 pub read_one : (ask : Ask) (old new : Caching) (b n : ℕ)
@@ -243,18 +210,3 @@ read_is_at n start size pending pending' ask opens read position count = record 
   start_is = position;
   size_is = count;
 }
-
--- the write of the slot there is begun
-pub issued_at : (items items' : List Slot) (b n at : ℕ) (s : Slot) → IsDistinct items → slice_get items at ≡ Some s → s.block ≡ Some b → s.state ≡ Dirty
-    → IsSetAt items items' at (λ t. record t { state = Writing n }) → IsIssued items at (held items')
-issued_at items items' b n at s d is block st e =
-    let one : e.slot ≡ s = one_slot items at e.slot s e.is is in
-    record {
-      slot = s;
-      block = b;
-      ticket = n;
-      is = is;
-      block_is = block;
-      dirty = st;
-      all = ap held (e.all ∙ ap (λ (y : Slot). set items at (record y { state = Writing n })) one) ∙ held_set items at b s (record s { state = Writing n }) d is block refl;
-    }

@@ -4,9 +4,9 @@ use Rattle.std.specs.Prelude.{nat_lt}
 use Rattle.std.proofs.lemmas.Bool.Decides.{nat_tests}
 use Rattle.message.specs.declared.Incoming.{Incoming}
 use Rattle.message.specs.declared.Incoming.TheVariants as incoming
-use Rattle.marks.specs.Marks.{Mark}
-use Rattle.marks.specs.Told.{Told, Posted, Complained, Received, received, grown, took_nothing}
-use Rattle.marks.specs.Acts.{Act, Began, Absorbed, AtLink, told_of, has_absorbed}
+use Rattle.reissue.specs.marks.Marks.{Mark}
+use Rattle.reissue.specs.marks.Told.{Told, Posted, Complained, Received, received, grown, took_nothing}
+use Rattle.reissue.specs.marks.Acts.{Act, Began, Absorbed, AtLink, told_of, has_absorbed}
 use Rattle.reissue.specs.declared.ask.Settled.{Settled}
 use Rattle.reissue.specs.declared.pending.Pending.{Pending}
 use Rattle.reissue.specs.declared.table.Table.{Table}

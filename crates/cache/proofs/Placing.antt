@@ -1,29 +1,29 @@
 -- A block comes into a slot or out of one, or has other bytes there.
 use Rattle.std.proofs.Common.{◌≡◌, ℕ, ◌+◌, ◌-◌, ◌*◌, ◌<◌, ◌≤◌, List, [], length, set, refl, sym, ap, subst, ◌∙◌, arith, Bool, true, false, cond, Option, Some, None, Result, Ok, Err, IsErr}
 use mathlib.Core.Logic.{inl, inr, ◌⊎◌}
-use Rattle.std.specs.Prelude.{◌&&◌, is_some, not, slice_index, slice_get, nat_le, nat_lt, position}
+use Rattle.std.specs.Prelude.{◌&&◌, is_some, not, slice_index, slice_get, nat_le, nat_lt}
 use Rattle.std.proofs.lemmas.Bool.{cases_lt, cond-true, cond-false}
 use Rattle.std.proofs.lemmas.Bool.Decides.{nat_tests}
 use Rattle.legal.specs.View.{frame_or}
 use Rattle.reissue.specs.Moves.{DiskState, Begun, put}
 use Rattle.reissue.specs.Entries.{pending_of}
-use Rattle.reissue.proofs.Maps.{put_cases, is_put}
-use Rattle.cache.specs.declared.slots.Slot.{Slot}
-use Rattle.cache.specs.declared.state.State.{State}
-use Rattle.cache.specs.declared.state.State.TheVariants.{Clean, Dirty, Writing, Changed}
+use Rattle.reissue.proofs.Maps.{is_put}
+use Rattle.slots.specs.declared.slot.Slot.{Slot}
+use Rattle.slots.specs.declared.state.State.{State}
+use Rattle.slots.specs.declared.state.State.TheVariants.{Clean, Dirty, Writing, Changed}
 use Rattle.cache.specs.declared.refusals.Cut.{Cut}
-use Rattle.cache.specs.Slots.{held, is_number, ticket_of, dirtied, is_clean, is_unclean_slot, IsDistinct}
-use Rattle.cache.specs.Edits.{IsSetAt, IsSlotAt, IsFreeAt, IsAt}
+use Rattle.slots.specs.Slots.{held, ticket_of, dirtied, is_clean, is_unclean_slot, IsDistinct}
+use Rattle.slots.specs.Edits.{IsSetAt, IsFilledAt, IsSlotAt, IsFreeAt, IsAt}
 use Rattle.cache.specs.Frames.{Tied, CacheAgrees, HasSure, view, frame_of, disk_block, with_bytes}
 use Rattle.cache.specs.Calls.{Caching, IsReady, Runs, Serves, Keeps, Rewrites, Blanks, unless_clean, forgotten}
 use Rattle.cache.specs.declared.cache.Took.{Took}
 use Rattle.cache.specs.declared.cache.Took.TheVariants as took
 use Rattle.cache.specs.Takes.{Reads, AreDisk, BytesOf, Takes, ReadTells, ReadsStay, is_read_of, IsReadAt}
-use Rattle.cache.proofs.Held.{block_is, is_its_number, get_set_same, place_of, held_at, held_set, held_other, held_vacated, held_filled}
-use Rattle.cache.proofs.Places.{none_at, some_at}
+use Rattle.slots.proofs.Held.{place_of, held_at, held_set, held_vacated}
+use Rattle.slots.proofs.Filling.{vacated_held, filled_held}
 use Rattle.cache.proofs.Tied.{tied_idle, tied_changed, no_ticket}
 use Rattle.cache.proofs.Agreeing.{agrees_put, agrees_given_up, view_given_up, view_put, view_row, not_clean, seen_within, seen_past}
-use Rattle.cache.proofs.Edits.{one_slot}
+use Rattle.slots.proofs.Edits.{one_slot}
 use Rattle.cache.proofs.Runs.{runs_none, runs_as, runs_then, same_left, ids_kept}
 
 -- ---- calls at the link between changes of frames
@@ -154,26 +154,6 @@ not_unclean s h = by s.block s.state refl refl h
     by (Some b) (Writing t) p q h = cc
     by (Some b) (Changed t) p q h = cc
 
--- which block has which slot, where one is made free
-vacated_held : (old new : List Slot) (at : ℕ) (s : Slot) → IsDistinct old → slice_get old at ≡ Some s
-    → IsSetAt old new at (λ t. record t { block = None })
-    → ((s.block ≡ None) × (held new ≡ held old)) ⊎ ((b : ℕ) × (held old b ≡ Some s) × (held new ≡ put (held old) b None))
-vacated_held old new at s d is e = by s.block refl
-  where
-    one : e.slot ≡ s
-    one = one_slot old at e.slot s e.is is
-
-    t : Slot
-    t = record s { block = None }
-
-    set_is : new ≡ set old at t
-    set_is = e.all ∙ ap (λ (y : Slot). set old at (record y { block = None })) one
-
-    by : (x : Option ℕ) → s.block ≡ x
-        → ((s.block ≡ None) × (held new ≡ held old)) ⊎ ((b : ℕ) × (held old b ≡ Some s) × (held new ≡ put (held old) b None))
-    by None k = inl (k, λ i b. (ap (λ (l : List Slot). held l b) set_is ∙ held_other old at b s t is (rw k refl) refl) i)
-    by (Some b) k = inr (b, held_at old at b s d is k, ap held set_is ∙ held_vacated old at b s t d is k refl)
-
 -- a slot that isn't unclean is made free, as a call
 pub vacated : (old new : Caching) (items items' : List Slot) (at : ℕ) → IsDistinct items
     → IsSlotAt items at (λ s. not (is_unclean_slot s)) → IsSetAt items items' at (λ t. record t { block = None })
@@ -207,38 +187,12 @@ vacated old new items items' at d f e here all ready = subst (λ (c : Caching). 
           same = λ a. ap (λ (h : ℕ → Option Slot). view old.size h w) to ∙ view_given_up old.size old.held w b s is clean a;
         })
 
--- it is free then
-pub free_at : (old new : List Slot) (at : ℕ) → IsSetAt old new at (λ t. record t { block = None }) → IsFreeAt new at
-free_at old new at e = record {
-  slot = record e.slot { block = None };
-  is = ap (λ (l : List Slot). slice_get l at) e.all ∙ get_set_same old at e.slot (record e.slot { block = None }) e.is;
-  none = refl;
-}
-
--- and no block gets a slot
-pub vacated_none : (old new : List Slot) (at : ℕ) (s : Slot) → IsDistinct old → slice_get old at ≡ Some s
-    → IsSetAt old new at (λ t. record t { block = None }) → (c : ℕ) → held old c ≡ None → held new c ≡ None
-vacated_none old new at s d is e c h = elim (vacated_held old new at s d is e) [
-  | inl p ↦ ap (λ (f : ℕ → Option Slot). f c) p.1 ∙ h
-  | inr p ↦ elim (put_cases (held old) p.0 None c) [
-    | inl q ↦ ap (λ (f : ℕ → Option Slot). f c) p.2 ∙ q.1
-    | inr q ↦ ap (λ (f : ℕ → Option Slot). f c) p.2 ∙ q.1 ∙ h
-  ]
-]
-
 -- ---- a block comes into a free slot
-
--- which block has which slot then
-pub filled_held : (items items' : List Slot) (at b : ℕ) (t : Slot) (change : Slot → Slot) → ((s : Slot) → change s ≡ t) → t.block ≡ Some b
-    → IsDistinct items → IsFreeAt items at → held items b ≡ None → IsSetAt items items' at change → held items' ≡ put (held items) b (Some t)
-filled_held items items' at b t change is_t block d free none e =
-    let one : e.slot ≡ free.slot = one_slot items at e.slot free.slot e.is free.is in
-    ap held (e.all ∙ ap (λ (y : Slot). set items at y) (is_t e.slot)) ∙ held_filled items at b free.slot t d free.is free.none block none
 
 -- what was read comes into it, as a call
 pub placed : (old new : Caching) (items items' : List Slot) (at b start size : ℕ) (bytes : List ℕ) (before : Caching)
     → IsDistinct items → IsFreeAt items at → held items b ≡ None
-    → IsSetAt items items' at (λ s. record { block = Some b; bytes = bytes; state = Clean })
+    → (e : IsFilledAt items items' at b bytes Clean)
     → old.held ≡ held items → new ≡ record old { held = held items' } → start ≡ b * size → old.size ≡ size → IsReady old
     → Runs None before old (λ w v. Reads (Ok bytes) start size before old w v)
     → Keeps before new
@@ -250,14 +204,14 @@ placed old new items items' at b start size bytes before d free none e here all 
     (runs_slots old after (λ w v. AreDisk start size bytes w → Serves old after w v) refl refl refl refl refl refl refl refl ready tied
     (λ w told. record {
       agrees = λ a. subst (λ (h : ℕ → Option Slot). CacheAgrees old.size h w) (sym to)
-          (agrees_put old.size old.held w b (Some t) (λ u h c o lt. subst (λ (y : Slot). HasSure w (b * old.size + o) (slice_index y.bytes o))
+          (agrees_put old.size old.held w b (Some t) (λ u h c o lt. subst (λ (y : Slot). HasSure w (b * old.size + o) (slice_index y.bytes.value o))
           (let k : t ≡ u = cc in k) (sure w a told o lt)) (λ h o lt. cc) a);
       same = λ a. ap (λ (h : ℕ → Option Slot). view old.size h w) to
           ∙ view_put old.size old.held w b (Some t) (λ o lt. rw slot (sure w a told o lt).byte_is);
     })))
   where
     t : Slot
-    t = record { block = Some b; bytes = bytes; state = Clean }
+    t = e.after
 
     after : Caching
     after = record old { held = held items' }
@@ -266,45 +220,20 @@ placed old new items items' at b start size bytes before d free none e here all 
     slot = ap (λ (h : ℕ → Option Slot). h b) here ∙ none
 
     to : held items' ≡ put old.held b (Some t)
-    to = filled_held items items' at b t (λ s. t) (λ s. refl) refl d free none e ∙ ap (λ (h : ℕ → Option Slot). put h b (Some t)) (sym here)
+    to = filled_held items items' at b bytes Clean d free none e ∙ ap (λ (h : ℕ → Option Slot). put h b (Some t)) (sym here)
 
     tied : Tied old.size (held items') (pending_of old.table.pending)
     tied = subst (λ (h : ℕ → Option Slot). Tied old.size h (pending_of old.table.pending)) (sym to)
         (tied_idle old.size old.held (pending_of old.table.pending) b (Some t) (λ n s h k. let z = slot in cc)
-        (λ n u h k. let y : t ≡ u = cc in let z : None ≡ Some n = ap (λ (x : Slot). ticket_of x.state) y ∙ k in cc) ready.tied)
+        (λ n u h k. let y : t ≡ u = cc in let z : None ≡ Some n = sym (ap ticket_of e.state_is) ∙ ap (λ (x : Slot). ticket_of x.state) y ∙ k in cc) ready.tied)
 
     sure : (w : DiskState) → CacheAgrees old.size old.held w → AreDisk start size bytes w → (o : ℕ) → o < old.size
-        → HasSure w (b * old.size + o) (slice_index bytes o)
+        → HasSure w (b * old.size + o) (slice_index t.bytes.value o)
     sure w a told o lt =
         let u = a.covered b slot o lt in
         let place : start + o ≡ b * old.size + o = ap (λ q. q + o) (at_start ∙ ap (λ n. b * n) (sym whole)) in
         let lt' : o < size = subst (λ (n : ℕ). o < n) whole lt in
-        record { byte_is = told.each o lt' (ap w.unsure place ∙ u) ∙ ap w.disk place; sure = u }
-
--- where a block's frame stands then
-pub filled_at : (old new : List Slot) (at b : ℕ) (bytes : List ℕ) (x : State)
-    → IsSetAt old new at (λ s. record { block = Some b; bytes = bytes; state = x }) → IsAt new at b
-filled_at old new at b bytes x e =
-    let t : Slot = record { block = Some b; bytes = bytes; state = x } in
-    record { slot = t; is = ap (λ (l : List Slot). slice_get l at) e.all ∙ get_set_same old at e.slot t e.is; block_is = refl }
-
--- no slot of a block is found only where it has none
-pub none_held : (items : List Slot) (b : ℕ) → position (λ (s : Slot). is_number s.block b) items ≡ None → held items b ≡ None
-none_held items b h = by_held (held items b) refl
-  where
-    by_held : (x : Option Slot) → held items b ≡ x → held items b ≡ None
-    by_held None k = k
-    by_held (Some s) k =
-        let p = place_of items b s k in
-        let z = none_at (λ (t : Slot). is_number t.block b) items h p.index s p.is in
-        let y = is_its_number s.block b p.block in
-        absurd (let q : true ≡ false = sym y ∙ z in cc)
-
--- the slot that is found is the block's
-pub found_at : (items : List Slot) (at b : ℕ) → position (λ (s : Slot). is_number s.block b) items ≡ Some at → IsAt items at b
-found_at items at b h =
-    let x = some_at (λ (s : Slot). is_number s.block b) items at h in
-    record { slot = x.slot; is = x.is; block_is = block_is x.slot.block b x.passes }
+        record { byte_is = ap (λ (y : List ℕ). slice_index y o) e.bytes_are ∙ told.each o lt' (ap w.unsure place ∙ u) ∙ ap w.disk place; sure = u }
 
 -- ---- a block has other bytes
 
@@ -339,7 +268,7 @@ rewritten old new items items' at b s t row d is block same st set_is h here all
 
 -- the row of a block whose bytes were changed
 pub changed_row : (size from : ℕ) (bytes : List ℕ) (b : ℕ) (s t : Slot) (w : DiskState) → from + length bytes ≤ size
-    → ((o : ℕ) → slice_index t.bytes o ≡ cond (nat_le from o && nat_lt o (from + length bytes)) (slice_index bytes (o - from)) (slice_index s.bytes o))
+    → ((o : ℕ) → slice_index t.bytes.value o ≡ cond (nat_le from o && nat_lt o (from + length bytes)) (slice_index bytes (o - from)) (slice_index s.bytes.value o))
     → frame_or (frame_of size (Some t)) (disk_block size w b) ≡ with_bytes from bytes (frame_or (frame_of size (Some s)) (disk_block size w b))
 changed_row size from bytes b s t w within h = λ i o. at o (cases_lt o size) i
   where
@@ -360,7 +289,7 @@ changed_row size from bytes b s t w within h = λ i o. at o (cases_lt o size) i
     at o (inr le) = seen_past size w b o (Some t) le ∙ sym (past o le ∙ seen_past size w b o (Some s) le)
 
 -- the row of a block of zero bytes
-pub zero_row : (size b : ℕ) (t : Slot) (w : DiskState) → ((o : ℕ) → slice_index t.bytes o ≡ 0)
+pub zero_row : (size b : ℕ) (t : Slot) (w : DiskState) → ((o : ℕ) → slice_index t.bytes.value o ≡ 0)
     → frame_or (frame_of size (Some t)) (disk_block size w b) ≡ (λ o. 0)
 zero_row size b t w h = λ i o. at o (cases_lt o size) i
   where
@@ -373,7 +302,7 @@ zero_row size b t w h = λ i o. at o (cases_lt o size) i
 -- as a call, after others
 pub blanked : (old new : Caching) (items items' : List Slot) (at b : ℕ) (bytes : List ℕ) (before : Caching)
     → IsDistinct items → IsFreeAt items at → held items b ≡ None → ((o : ℕ) → slice_index bytes o ≡ 0)
-    → IsSetAt items items' at (λ s. record { block = Some b; bytes = bytes; state = Dirty })
+    → (e : IsFilledAt items items' at b bytes Dirty)
     → old.held ≡ held items → new ≡ record old { held = held items' } → IsReady old → Keeps before old
     → Runs None before new (λ w v. Rewrites b (λ row o. 0) before new w v)
 blanked old new items items' at b bytes before d free none zeros e here all ready x =
@@ -387,13 +316,13 @@ blanked old new items items' at b bytes before d free none zeros e here all read
     (λ w. record {
       agrees = λ a. subst (λ (h : ℕ → Option Slot). CacheAgrees old.size h w) (sym to)
           (agrees_put old.size old.held w b (Some t) (λ u h c o lt.
-          absurd (let y : t ≡ u = cc in let z : Dirty ≡ Clean = ap (λ (k : Slot). k.state) y ∙ c in let q : ⊥ = cc in q)) (λ h o lt. cc) a);
+          absurd (let y : t ≡ u = cc in let z : Dirty ≡ Clean = sym e.state_is ∙ ap (λ (k : Slot). k.state) y ∙ c in let q : ⊥ = cc in q)) (λ h o lt. cc) a);
       changed = λ a. ap (λ (h : ℕ → Option Slot). view old.size h w) to
-          ∙ view_row old.size old.held w b (Some t) (λ o. 0) (zero_row old.size b t w zeros);
+          ∙ view_row old.size old.held w b (Some t) (λ o. 0) (zero_row old.size b t w (λ o. ap (λ (y : List ℕ). slice_index y o) e.bytes_are ∙ zeros o));
     })))
   where
     t : Slot
-    t = record { block = Some b; bytes = bytes; state = Dirty }
+    t = e.after
 
     after : Caching
     after = record old { held = held items' }
@@ -402,12 +331,12 @@ blanked old new items items' at b bytes before d free none zeros e here all read
     slot = ap (λ (h : ℕ → Option Slot). h b) here ∙ none
 
     to : held items' ≡ put old.held b (Some t)
-    to = filled_held items items' at b t (λ s. t) (λ s. refl) refl d free none e ∙ ap (λ (h : ℕ → Option Slot). put h b (Some t)) (sym here)
+    to = filled_held items items' at b bytes Dirty d free none e ∙ ap (λ (h : ℕ → Option Slot). put h b (Some t)) (sym here)
 
     tied : Tied old.size (held items') (pending_of old.table.pending)
     tied = subst (λ (h : ℕ → Option Slot). Tied old.size h (pending_of old.table.pending)) (sym to)
         (tied_idle old.size old.held (pending_of old.table.pending) b (Some t) (λ n s h k. let z = slot in cc)
-        (λ n u h k. let y : t ≡ u = cc in let z : None ≡ Some n = ap (λ (x : Slot). ticket_of x.state) y ∙ k in cc) ready.tied)
+        (λ n u h k. let y : t ≡ u = cc in let z : None ≡ Some n = sym (ap ticket_of e.state_is) ∙ ap (λ (x : Slot). ticket_of x.state) y ∙ k in cc) ready.tied)
 
 -- ---- a block is forgotten
 

@@ -2,14 +2,13 @@
 use Rattle.std.proofs.Common.{◌≡◌, ℕ, zero, suc, List, [], ◌∷◌, ◌++◌, Bool, true, false, refl, sym, ap, subst, ◌∙◌, arith, Option, Some, None}
 use Rattle.std.proofs.lemmas.Bool.Decides.{nat_tests}
 use Rattle.std.specs.Prelude.{map, drop, not, ◌&&◌, is_some, MatchBool, if◌then◌else◌}
-use Rattle.endpoint.specs.declared.Endpoint.{Endpoint}
+use Rattle.message.specs.endpoint.declared.Endpoint.{Endpoint}
 use Rattle.message.specs.declared.BlockRequest.{BlockRequest}
-use Rattle.message.specs.declared.BlockReply.{BlockReply}
 use Rattle.message.specs.declared.Incoming.{Incoming}
 use Rattle.message.specs.declared.Incoming.TheVariants as incoming
-use Rattle.marks.specs.Marks.{Mark, gave_up, last_started, is_endpoint}
-use Rattle.marks.specs.Open.{open_requests, with_id, moved_by}
-use Rattle.marks.specs.Told.{Told}
+use Rattle.reissue.specs.marks.Marks.{Mark, gave_up, last_started, is_endpoint}
+use Rattle.reissue.specs.marks.Open.{open_requests, with_id, moved_by}
+use Rattle.reissue.specs.marks.Told.{Told}
 use Rattle.reissue.specs.declared.ask.Settled.{Settled}
 use Rattle.reissue.specs.declared.ask.Settled.TheVariants as settled
 use Rattle.reissue.specs.declared.pending.Pending.{Pending}
@@ -18,7 +17,7 @@ use Rattle.reissue.specs.Moves.{Begun, Closes}
 use Rattle.reissue.specs.Entries.{pending_of, begun_of, request_of}
 use Rattle.reissue.specs.Agrees.{Agrees, unposted}
 use Rattle.reissue.specs.Posts.{PostsInOrder, is_message, due_after, complaints_about}
-use Rattle.reissue.specs.Calls.{Truth, Absorbs}
+use Rattle.reissue.specs.Calls.{Absorbs}
 use Rattle.cache.specs.Calls.{Caching, IsIdle}
 
 -- nothing can be taken out of nothing

@@ -12,20 +12,20 @@ use Rattle.message.specs.declared.Incoming.TheVariants as incoming
 use Rattle.reissue.specs.Posts.{HasRoom, is_message}
 use Rattle.reissue.specs.Calls.{Steps, Absorbs, more_may_come}
 use Rattle.reissue.proofs.Maps.{put-other, put_cases}
-use Rattle.cache.specs.declared.slots.Slot.{Slot}
+use Rattle.slots.specs.declared.slot.Slot.{Slot}
 use Rattle.cache.specs.declared.cache.Took.{Took}
 use Rattle.cache.specs.declared.refusals.Cut.{Cut}
-use Rattle.cache.specs.Slots.{held}
-use Rattle.cache.specs.Edits.{IsWritten, IsWrittenSlot, Leaves}
+use Rattle.slots.specs.Slots.{held}
+use Rattle.slots.specs.Edits.{IsWritten, IsWrittenSlot, Leaves}
 use Rattle.cache.specs.Frames.{Tied, CacheAgrees, view}
 use Rattle.cache.specs.Calls.{Caching, IsReady, Serves, Runs, HandsOver}
-use Rattle.marks.specs.Told.{took_nothing}
-use Rattle.marks.specs.Acts.{Act, told_of}
+use Rattle.reissue.specs.marks.Told.{took_nothing}
+use Rattle.reissue.specs.marks.Acts.{Act, told_of}
 use Rattle.cache.proofs.Handing.{Done, done_on}
 use Rattle.cache.specs.Takes.{Settles, took_of, is_ended_by, Takes, ReadTells, ReadsStay, NoReadBegun, IsHandedOut, is_read_of}
 use Rattle.cache.proofs.Tied.{way_ticket, tied_read_settled, tied_written, same_begun}
 use Rattle.cache.proofs.Agreeing.{agrees_moved, view_moved, agrees_written, view_put}
-use Rattle.cache.proofs.Edits.{leaves_none}
+use Rattle.slots.proofs.Edits.{leaves_none}
 use Rattle.cache.proofs.Runs.{step_runs, absorb_runs}
 
 -- the slot of a settled write

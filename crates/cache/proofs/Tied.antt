@@ -5,11 +5,11 @@ use Rattle.std.specs.Prelude.{slice_index}
 use Rattle.std.proofs.lemmas.Nat.{same_from_place}
 use Rattle.reissue.specs.Moves.{Begun, put, IsQuiet}
 use Rattle.reissue.proofs.Maps.{put-same, put-other, put_cases}
-use Rattle.cache.specs.Slots.{ticket_of, dirtied, written}
+use Rattle.slots.specs.Slots.{ticket_of, dirtied, written}
 use Rattle.cache.specs.Frames.{IsUnderWay, HasSlot, IsOfBlock, Tied}
-use Rattle.cache.specs.declared.slots.Slot.{Slot}
-use Rattle.cache.specs.declared.state.State.{State}
-use Rattle.cache.specs.declared.state.State.TheVariants.{Clean, Dirty, Writing, Changed}
+use Rattle.slots.specs.declared.slot.Slot.{Slot}
+use Rattle.slots.specs.declared.state.State.{State}
+use Rattle.slots.specs.declared.state.State.TheVariants.{Clean, Dirty, Writing, Changed}
 
 -- what is there is one slot
 pub same_slot : (o : Option Slot) (s t : Slot) → o ≡ Some s → o ≡ Some t → s ≡ t
@@ -212,7 +212,7 @@ tied_read_settled size held pending t r is read k =
 
 -- the write of a dirty slot is begun
 pub tied_write : (size : ℕ) (held : ℕ → Option Slot) (pending : ℕ → Option Begun) (b n : ℕ) (s t : Slot) (r : Begun) (bytes : List ℕ)
-    → held b ≡ Some s → s.state ≡ Dirty → t.state ≡ Writing n → ((o : ℕ) → o < size → slice_index t.bytes o ≡ slice_index bytes o)
+    → held b ≡ Some s → s.state ≡ Dirty → t.state ≡ Writing n → ((o : ℕ) → o < size → slice_index t.bytes.value o ≡ slice_index bytes o)
     → pending n ≡ None → r.start ≡ b * size → r.size ≡ size → r.written ≡ Some bytes
     → Tied size held pending → Tied size (put held b (Some t)) (put pending n (Some r))
 tied_write size held pending b n s t r bytes is st state same_bytes free start whole wr k = record {

@@ -4,11 +4,11 @@ use Rattle.std.specs.List.{list_any}
 use Rattle.message.specs.declared.Incoming.{Incoming}
 use Rattle.message.specs.declared.Incoming.TheVariants.{End}
 use Rattle.message.specs.declared.Incoming.TheVariants as incoming
-use Rattle.marks.specs.Marks.{Mark}
-use Rattle.marks.specs.Disk.{Contents, HasTrueReplies}
-use Rattle.marks.specs.Told.{Told, Received, grown, received, took_end, took_nothing}
-use Rattle.marks.specs.Acts.{Act, Absorbed, told_of, has_absorbed}
-use Rattle.marks.specs.Opening.{Opening}
+use Rattle.reissue.specs.marks.Marks.{Mark}
+use Rattle.reissue.specs.marks.Disk.{Contents, HasTrueReplies}
+use Rattle.reissue.specs.marks.Told.{Told, Received, grown, received, took_end, took_nothing}
+use Rattle.reissue.specs.marks.Acts.{Act, Absorbed, told_of, has_absorbed}
+use Rattle.reissue.specs.marks.Opening.{Opening}
 use Rattle.reissue.specs.declared.link.Link.{Ghosts as LinkWords}
 use Rattle.reissue.specs.declared.table.Table.{Table}
 use Rattle.reissue.specs.Moves.{DiskState, state_after, put, IsBusy}
@@ -18,16 +18,16 @@ use Rattle.reissue.specs.Posts.{HasRoom, OnlyPosts}
 use Rattle.reissue.specs.Rules.{KeepsRulesBy}
 use Rattle.reissue.specs.Calls.{Truth}
 use Rattle.reissue.specs.Transfers.{table_of, link_of, with_link}
-use Rattle.cache.specs.declared.slots.Slot.{Slot}
-use Rattle.cache.specs.declared.state.State.TheVariants.{Dirty}
-use Rattle.cache.specs.declared.slots.Frame.{Frame}
+use Rattle.slots.specs.declared.slot.Slot.{Slot}
+use Rattle.slots.specs.declared.state.State.TheVariants.{Dirty}
+use Rattle.cache.specs.declared.frame.Frame.{Frame}
 use Rattle.reissue.specs.declared.transfers.Transfers.{Transfers}
 use Rattle.cache.specs.declared.shape.Shape.{Shape}
 use Rattle.cache.specs.declared.cache.Cache.{Cache}
 use Rattle.cache.specs.declared.refusals.Cut.{Cut}
 use Rattle.cache.specs.declared.refusals.Cut.TheVariants.{Eio, LinkEnded}
-use Rattle.cache.specs.Slots.{held, is_clean}
-use Rattle.cache.specs.Edits.{IsAt, NoneDirty}
+use Rattle.slots.specs.Slots.{held, is_clean}
+use Rattle.slots.specs.Edits.{IsAt, NoneDirty}
 use Rattle.cache.specs.Frames.{Tied, CacheAgrees, view}
 
 -- What is said of a cache.

@@ -1,16 +1,16 @@
 -- What a cache keeps true of its slots, of the pending requests and of the disk, and what would be read back.
 use Rattle.std.specs.Prelude.{◌≡◌, ◌⊎◌, ℕ, ◌+◌, ◌*◌, ◌<◌, ◌-◌, ◌&&◌, nat_lt, nat_le, List, length, take, Option, Some, None, false, if◌then◌else◌, slice_index}
-use Rattle.volume.specs.Reading.{Disk}
+use Rattle.legal.specs.volume.Reading.{Disk}
 use Rattle.legal.specs.View.{Frames, frame_or}
 use Rattle.reissue.specs.Moves.{DiskState, Begun}
-use Rattle.cache.specs.declared.state.State.TheVariants.{Clean, Writing, Changed}
-use Rattle.cache.specs.declared.slots.Slot.{Slot}
-use Rattle.cache.specs.Slots.{ticket_of}
+use Rattle.slots.specs.declared.state.State.TheVariants.{Clean, Writing, Changed}
+use Rattle.slots.specs.declared.slot.Slot.{Slot}
+use Rattle.slots.specs.Slots.{ticket_of}
 
 -- the bytes of the write that is under way are the slot's, unless they were changed since it was issued
 pub record IsUnderWay (size : ℕ) (slot : Slot) (ticket : ℕ) (bytes : List ℕ) : Type 0 where
   pub state : (slot.state ≡ Changed ticket)
-      ⊎ ((slot.state ≡ Writing ticket) × ((o : ℕ) → o < size → slice_index slot.bytes o ≡ slice_index bytes o))
+      ⊎ ((slot.state ≡ Writing ticket) × ((o : ℕ) → o < size → slice_index slot.bytes.value o ≡ slice_index bytes o))
 
 -- a pending write is of a block that has a slot
 pub record HasSlot (size : ℕ) (held : ℕ → Option Slot) (ticket : ℕ) (r : Begun) (bytes : List ℕ) : Type 0 where
@@ -49,13 +49,13 @@ pub record HasSure (w : DiskState) (place byte : ℕ) : Type 0 where
 -- slots and the disk agree: the bytes of a clean slot are the disk's, which is sure of them, and each unsure place lies in a block with a slot
 pub record CacheAgrees (size : ℕ) (held : ℕ → Option Slot) (w : DiskState) : Type 0 where
   pub clean : (b : ℕ) (s : Slot) → held b ≡ Some s → s.state ≡ Clean → (o : ℕ) → o < size
-      → HasSure w (b * size + o) (slice_index s.bytes o)
+      → HasSure w (b * size + o) (slice_index s.bytes.value o)
   pub covered : (b : ℕ) → held b ≡ None → (o : ℕ) → o < size → w.unsure (b * size + o) ≡ false
 
 -- the bytes of a slot, a block's length of them
 abbrev pub frame_of : ℕ → Option Slot → Option (List ℕ)
 frame_of size None = None
-frame_of size (Some s) = Some (take size s.bytes)
+frame_of size (Some s) = Some (take size s.bytes.value)
 
 -- the frames of a cache by their blocks
 abbrev pub frames_of : ℕ → (ℕ → Option Slot) → Frames

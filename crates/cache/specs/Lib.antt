@@ -1,9 +1,7 @@
 -- Frames of a volume's blocks.
+pub use Rattle.slots.specs as slots
+pub use Rattle.legal.specs as legal
 pub mod Refusals
-pub mod Slots
-pub mod Edits
-pub mod Uses
-pub mod Order
 pub mod Frames
 pub mod Calls
 pub mod Takes

@@ -4,11 +4,11 @@ use Rattle.reissue.specs.declared.ask.Settled.{Settled}
 use Rattle.reissue.specs.declared.ask.Settled.TheVariants as settled
 use Rattle.reissue.specs.Moves.{DiskState, Begun}
 use Rattle.reissue.specs.Entries.{pending_of}
-use Rattle.cache.specs.declared.slots.Slot.{Slot}
+use Rattle.slots.specs.declared.slot.Slot.{Slot}
 use Rattle.cache.specs.declared.cache.Took.{Took}
 use Rattle.cache.specs.declared.cache.Took.TheVariants as took
 use Rattle.cache.specs.declared.refusals.Cut.{Cut}
-use Rattle.cache.specs.Edits.{IsWritten}
+use Rattle.slots.specs.Edits.{IsWritten}
 use Rattle.cache.specs.Calls.{Caching, Serves}
 
 -- what each message does to the slots

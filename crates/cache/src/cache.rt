@@ -13,13 +13,13 @@ ghost use Rattle.reissue.specs.Posts.{is_message, HasRoom};
 ghost use Rattle.reissue.specs.Moves.{IsBusy};
 ghost use Rattle.cache.specs.Takes.{is_ended_by};
 
+use crate::frame::Frame;
 use crate::refusals::{CacheRefusal, Cut};
 use crate::shape::Shape;
-use crate::slots::{Among, Frame, Slots, zeros};
-use crate::state::State;
 use layout::Geometry;
 use message::Incoming;
 use reissue::{Link, Settled, Ticket, Transfers};
+use slots::{Slots, State, zeros};
 use std::alloc::Global;
 
 /// What came of a message.
@@ -56,17 +56,17 @@ pub struct Cache<L> {
 }
 
 impl<L: Link> Cache<L> {
-    ghost use Rattle.cache.specs.Slots.{held, is_dirty_slot, is_unclean_slot};
-    ghost use Rattle.cache.specs.Edits.{AllClean, SomeUnclean, IsIssued, IssuesLowest, IsWritten, IsSlotAt, IsFreeAt, IsAt, Leaves};
-    ghost use Rattle.cache.specs.Edits.{AllStay, StayBut, IsChangedAt};
+    ghost use Rattle.slots.specs.Slots.{held, is_dirty_slot, is_unclean_slot};
+    ghost use Rattle.slots.specs.Edits.{AllClean, SomeUnclean, IsIssued, IssuesLowest, IsWritten, IsSlotAt, IsFreeAt, IsAt, Leaves};
+    ghost use Rattle.slots.specs.Edits.{AllStay, StayBut, IsChangedAt};
     ghost use Rattle.cache.specs.Frames.{frames_of, view, with_bytes};
     ghost use Rattle.cache.specs.Calls.{caching, held_by, frame_count, IsReady, IsIdle, IsLive, IsWhyCut, IsFrame, IsMade, IsStuck, IsRefusing};
     ghost use Rattle.cache.specs.Calls.{PostsAlone, messages_left};
     ghost use Rattle.cache.specs.Calls.{Does, Keeps, HandsOver, Blanks, Rewrites, LinkGoesOn, WantsFlush, IsWantedFor};
     ghost use Rattle.cache.specs.Calls.{forgotten, with_cache_link, without_flush};
     ghost use Rattle.cache.specs.contracts.cache.Cache.{the_row};
-    ghost use Rattle.cache.specs.declared.slots.Frame.{Frame as FrameValue};
-    ghost use Rattle.cache.specs.declared.slots.Slot.{Slot};
+    ghost use Rattle.cache.specs.declared.frame.Frame.{Frame as FrameValue};
+    ghost use Rattle.slots.specs.declared.slot.Slot.{Slot};
     ghost use Rattle.cache.specs.Fetches.{Hits, Misses, BlanksFrame, MakesRoom, IsAtOnce};
     ghost use Rattle.cache.specs.Takes.{Settles, took_of, Takes, ReadsStay, NoReadBegun, IsBlockRead, Reads};
 
@@ -154,21 +154,6 @@ impl<L: Link> Cache<L> {
         Ok(())
     }
 
-    /// The write with this ticket was settled.
-    fn write_settled(&mut self, ticket: Ticket)
-        ensures slots { IsWritten ticket self.old.slots.items.items self.new.slots.items.items }
-        ensures transfers { self.new.transfers ≡ self.old.transfers }
-        ensures shape { self.new.shape ≡ self.old.shape }
-        ensures ended { self.new.ended ≡ self.old.ended }
-        ensures stay { AllStay self.old.slots self.new.slots }
-        ensures flush { self.new.flush ≡ self.old.flush }
-    {
-        if let Some(at) = self.slots.find_ticket(ticket) {
-            let state = self.slots.get(at).state;
-            self.slots.set_state(at, state.written());
-        }
-    }
-
     /// Does with the frames what a message came to.
     fn settle(&mut self, settled: Settled) -> Took
         ensures slots { Settles settled self.old.slots.items.items self.new.slots.items.items }
@@ -184,7 +169,7 @@ impl<L: Link> Cache<L> {
             Settled::Nothing => Took::Nothing,
             Settled::Read(ticket, bytes) => Took::Read(ticket, bytes),
             Settled::Written(ticket) => {
-                self.write_settled(ticket);
+                self.slots.settle(ticket);
                 Took::Nothing
             }
             Settled::Flush => {
@@ -418,10 +403,28 @@ impl<L: Link> Cache<L> {
         ensures cut { IfErr result (λ cut. IsWhyCut (caching L.Link self.new) cut) }
         ensures flush { WantsFlush L.Link self.old self.new }
     {
-        if let Some(at) = self.slots.find(block) {
-            self.slots.touch(at);
-            return Ok(Frame { block, at });
+        match self.slots.find(block) {
+            Some(at) => {
+                self.slots.touch(at, block);
+                Ok(Frame { block, at })
+            }
+            None => self.fetch_missing(block),
         }
+    }
+
+    /// The frame of a block that has none, which is read.
+    #[inline(never)]
+    fn fetch_missing(&mut self, block: u32) -> Result<Frame, Cut>
+        requires ready { IsReady (caching L.Link self.old) }
+        requires missing { held self.old.slots.items.items block ≡ None }
+        ensures keeps { Keeps (caching L.Link self.old) (caching L.Link self.new) }
+        ensures goes { LinkGoesOn L.Link self.old self.new }
+        ensures count { frame_count self.new ≡ frame_count self.old }
+        ensures frame { IfOk result (λ f. (f.block ≡ block) × IsFrame self.new f) }
+        ensures miss { Misses State.Clean result self.old self.new }
+        ensures cut { IfErr result (λ cut. IsWhyCut (caching L.Link self.new) cut) }
+        ensures flush { WantsFlush L.Link self.old self.new }
+    {
         let at = self.make_room()?;
         let bytes = self.read(block)?;
         self.slots.fill(at, block, &bytes, State::Clean);
@@ -441,10 +444,29 @@ impl<L: Link> Cache<L> {
         ensures flush { WantsFlush L.Link self.old self.new }
         ensures at_once { held self.old.slots.items.items block ≡ None → IsAtOnce result self.old self.new }
     {
-        if let Some(at) = self.slots.find(block) {
-            self.slots.blank(at);
-            return Ok(Frame { block, at });
+        match self.slots.find(block) {
+            Some(at) => {
+                self.slots.blank(at, block);
+                Ok(Frame { block, at })
+            }
+            None => self.fresh_missing(block),
         }
+    }
+
+    /// The frame of a block that has none, with zero bytes.
+    #[inline(never)]
+    fn fresh_missing(&mut self, block: u32) -> Result<Frame, Cut>
+        requires ready { IsReady (caching L.Link self.old) }
+        requires missing { held self.old.slots.items.items block ≡ None }
+        ensures runs { Does L.Link self.old self.new (Blanks result block) }
+        ensures goes { LinkGoesOn L.Link self.old self.new }
+        ensures count { frame_count self.new ≡ frame_count self.old }
+        ensures frame { IfOk result (λ f. (f.block ≡ block) × IsFrame self.new f) }
+        ensures miss { Misses State.Dirty result self.old self.new }
+        ensures cut { IfErr result (λ cut. IsWhyCut (caching L.Link self.new) cut) }
+        ensures flush { WantsFlush L.Link self.old self.new }
+        ensures at_once { IsAtOnce result self.old self.new }
+    {
         let at = self.make_room()?;
         self.slots.fill(at, block, &zeros(), State::Dirty);
         Ok(Frame { block, at })
@@ -494,10 +516,13 @@ impl<L: Link> Cache<L> {
         ensures uses { self.new.slots.uses ≡ self.old.slots.uses }
         ensures frames { (f : FrameValue) → f.block ≢ block → IsFrame self.old f → IsFrame self.new f }
     {
-        if let Some(at) = self.slots.find(block) {
-            if self.slots.get(at).state.is_clean() {
-                self.slots.vacate(at);
+        match self.slots.find(block) {
+            Some(at) => {
+                if self.slots.get(at).state.is_clean() {
+                    self.slots.vacate(at);
+                }
             }
+            None => {}
         }
     }
 
@@ -524,7 +549,7 @@ impl<L: Link> Cache<L> {
         if self.live().is_err() {
             return false;
         }
-        match self.slots.first(Among::Dirty) {
+        match self.slots.lowest_dirty() {
             Some(at) => self.issue(at),
             None => false,
         }
@@ -535,10 +560,7 @@ impl<L: Link> Cache<L> {
         ensures clean { OnTrue result (AllClean (held_by self.now)) }
         ensures unclean { OnFalse result (SomeUnclean (held_by self.now)) }
     {
-        match self.slots.find_unclean() {
-            Some(_) => false,
-            None => true,
-        }
+        self.slots.is_clean()
     }
 
     /// Does what a message asks for that was handed over between two calls. End changes nothing. Where nothing is pending the link is told

@@ -2,13 +2,11 @@
 #![tactic(auto)]
 
 pub mod cache;
+mod frame;
 pub mod laws;
 pub mod refusals;
 mod shape;
-mod slots;
-mod state;
-mod uses;
 
 pub use cache::{Cache, Took};
+pub use frame::Frame;
 pub use refusals::{CacheRefusal, Cut};
-pub use slots::Frame;

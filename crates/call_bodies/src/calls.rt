@@ -2,7 +2,7 @@
 
 ghost use Rattle.std.specs.Prelude.{◌≡◌, ◌≢◌, IfOk, IfErr, IsTrue};
 ghost use Rattle.tree.specs.Answers.{answer_of, refused};
-ghost use Rattle.legal.specs.Legal.{is_success, is_sync};
+ghost use Rattle.bodies.specs.legal.Legal.{is_success, is_sync};
 ghost use Rattle.descriptors.specs.Table.{files_of};
 ghost use Rattle.store.specs.World.{Turns};
 ghost use Rattle.store.specs.Volume.{IsOn};

@@ -4,17 +4,17 @@ use mathlib.Core.Logic.{inl, inr}
 use Rattle.std.specs.Prelude.{IsTrue, Option, if◌then◌else◌}
 use Rattle.std.proofs.lemmas.Bool.{and_from, cases_Bool, cond-true, cond-false}
 use Rattle.std.proofs.lemmas.Nat.{div_below}
-use Rattle.layout.specs.declared.Geometry.{Geometry}
-use Rattle.layout.specs.Places.{IsGeometry, is_block_size}
-use Rattle.layout.proofs.Parsed.{block_sizes}
-use Rattle.tree.specs.Sums.{put}
-use Rattle.tree.specs.Tree.{Body, Directory, Node, Tree, is_dir, is_directory, is_file, size_of}
-use Rattle.volume.specs.Reading.{Disk}
-use Rattle.volume.specs.Pieces.{Pieces, pieces}
-use Rattle.volume.specs.Nodes.{directory_of, file_of, is_directory_mode, is_marked}
-use Rattle.volume.specs.Holds.{HasSuperblock, IsSound}
-use Rattle.volume_laws.proofs.NodesAs.{length_node, names_differ}
-use Rattle.zone.specs.Pages.{SameHead}
+use Rattle.node_steps.specs.layout.declared.Geometry.{Geometry}
+use Rattle.node_steps.specs.layout.Places.{IsGeometry, is_block_size}
+use Rattle.node_steps.proofs.layout.Parsed.{block_sizes}
+use Rattle.entries.specs.tree.Sums.{put}
+use Rattle.entries.specs.tree.Tree.{Body, Directory, Node, Tree, is_dir, is_directory, is_file, size_of}
+use Rattle.node_steps.specs.volume.Reading.{Disk}
+use Rattle.node_steps.specs.volume.Pieces.{Pieces, pieces}
+use Rattle.node_steps.specs.volume.Nodes.{directory_of, file_of, is_directory_mode, is_marked}
+use Rattle.node_steps.specs.volume.Holds.{HasSuperblock, IsSound}
+use Rattle.node_steps.proofs.volume_laws.NodesAs.{length_node, names_differ}
+use Rattle.node_steps.specs.store.Volume.{SameHead}
 use Rattle.node_steps.specs.Steps.{node_at}
 use Rattle.node_steps.proofs.Nodes.{node_is}
 use Rattle.call_laws.specs.Stands.{NothingIsDone, StepIsDone, NodeStands, DirectoryStands, HoldsAtEnd}
@@ -30,7 +30,7 @@ step_is_done g d e f nodes n x s head b = record {
 }
 
 -- the kind of a node is that of its inode
-kind_of_body : (b : Bool) (dir : Directory) (f : Rattle.tree.specs.Tree.File) (node : Node) → is_dir (record node { body = if b then is_directory dir else is_file f }) ≡ b
+kind_of_body : (b : Bool) (dir : Directory) (f : Rattle.entries.specs.tree.Tree.File) (node : Node) → is_dir (record node { body = if b then is_directory dir else is_file f }) ≡ b
 kind_of_body true dir f node = refl
 kind_of_body false dir f node = refl
 

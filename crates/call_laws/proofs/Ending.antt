@@ -1,11 +1,11 @@
 -- Nodes without a name.
 use Rattle.std.proofs.Common.{◌≡◌, ℕ, Bool, true, false, refl, ap, ◌∙◌, Some, None}
 use Rattle.std.specs.Prelude.{Option, not, ◌&&◌, ◌==◌, if◌then◌else◌}
-use Rattle.tree.specs.Sums.{some_below}
-use Rattle.tree.specs.Tree.{Node, OpenFile, Tree, is_open, most_open_files, opens, with_node}
-use Rattle.tree.specs.Changes.{has_no_link, without_nameless}
-use Rattle.tree.proofs.Maps.{put-same}
-use Rattle.descriptors.specs.Files.{Files, HasFiles, tree_with}
+use Rattle.entries.specs.tree.Sums.{some_below}
+use Rattle.entries.specs.tree.Tree.{Node, OpenFile, Tree, is_open, most_open_files, opens, with_node}
+use Rattle.entries.specs.tree.Changes.{has_no_link, without_nameless}
+use Rattle.entries.proofs.tree.Maps.{put-same}
+use Rattle.node_steps.specs.descriptors.Files.{Files, HasFiles, tree_with}
 use Rattle.node_steps.proofs.Nodes.{put_back, put_twice}
 use Rattle.call_laws.specs.Ending.{LeftIsLeft, PutIsLeft}
 

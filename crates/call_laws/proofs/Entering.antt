@@ -3,23 +3,23 @@ use Rattle.std.proofs.Common.{◌≡◌, ◌<◌, ◌≤◌, ◌+◌, ◌-◌, �
 use mathlib.Core.Logic.{inl, inr}
 use Rattle.std.specs.Prelude.{IsTrue, Option, ◌||◌, ◌&&◌, ◌==◌, not, nat_lt}
 use Rattle.std.proofs.lemmas.Bool.{and_parts, cases_eq, cases_lt, cond-true, eq-eqb, ne_eqb, lt-ltb, le-ltb, not_from_false}
-use Rattle.layout.specs.declared.Geometry.{Geometry}
-use Rattle.layout.specs.Places.{IsGeometry, is_block_size}
-use Rattle.tree.specs.Sums.{put}
-use Rattle.tree.specs.Names.{Name, Names, inode_of, with_name}
-use Rattle.tree.specs.Tree.{Body, Node, is_dir, is_directory, is_file, names_of, size_of}
-use Rattle.tree.specs.Changes.{with_names}
-use Rattle.tree.specs.Space.{data_zones, held_of, pages_of}
-use Rattle.tree_laws.proofs.Totals.{weigh_one}
-use Rattle.tree_laws.proofs.Weights.{weigh_with_name}
-use Rattle.volume.specs.Reading.{Disk}
-use Rattle.volume.specs.Pieces.{Pieces, pieces}
-use Rattle.volume.specs.Nodes.{directory_of, file_of, is_directory_mode, is_marked, nodes_of, page_zone}
-use Rattle.zone_laws.specs.Room.{taken_by}
-use Rattle.entry_laws.specs.Directories.{before}
-use Rattle.file.specs.Changing.{HasZonesFor, MayChange, written_at}
-use Rattle.file.proofs.Spaces.{room_is_space}
-use Rattle.directory.proofs.Pages.{each_size}
+use Rattle.node_steps.specs.layout.declared.Geometry.{Geometry}
+use Rattle.node_steps.specs.layout.Places.{IsGeometry, is_block_size}
+use Rattle.entries.specs.tree.Sums.{put}
+use Rattle.entries.specs.tree.Names.{Name, Names, inode_of, with_name}
+use Rattle.entries.specs.tree.Tree.{Body, Node, is_dir, is_directory, is_file, names_of, size_of}
+use Rattle.entries.specs.tree.Changes.{with_names}
+use Rattle.entries.specs.tree.Space.{data_zones, held_of, pages_of}
+use Rattle.entries.proofs.tree_laws.Totals.{weigh_one}
+use Rattle.entries.proofs.tree_laws.Weights.{weigh_with_name}
+use Rattle.node_steps.specs.volume.Reading.{Disk}
+use Rattle.node_steps.specs.volume.Pieces.{Pieces, pieces}
+use Rattle.node_steps.specs.volume.Nodes.{directory_of, file_of, is_directory_mode, is_marked, nodes_of, page_zone}
+use Rattle.node_steps.specs.zone_laws.Room.{taken_by}
+use Rattle.entries.specs.entry_laws.Directories.{before}
+use Rattle.node_steps.specs.file.Changing.{HasZonesFor, MayChange, written_at}
+use Rattle.node_steps.proofs.file.Spaces.{room_is_space}
+use Rattle.entries.proofs.directory.Pages.{each_size}
 use Rattle.entries.specs.Names.{IsOfDirectory}
 use Rattle.entries.proofs.Becoming.{in_order, may_change}
 use Rattle.node_steps.specs.Steps.{node_at}
@@ -105,7 +105,7 @@ name_is_there g d e nodes n x name ok s is kind most name_is has =
       of = of;
       named = name_is;
       size = omega (arith, most, let z = node.size in z);
-      there = ap (λ (names : Names). Rattle.tree.specs.Names.has_name names name) (sym (names_are g v n of) ∙ ap (λ (y : Node). names_of (Some y)) node.node) ∙ has;
+      there = ap (λ (names : Names). Rattle.entries.specs.tree.Names.has_name names name) (sym (names_are g v n of) ∙ ap (λ (y : Node). names_of (Some y)) node.node) ∙ has;
     }
 
 module _ (g : Geometry) (d e : Disk) (nodes : ℕ → Option Node) (n : ℕ) (x : Node) (name : Name) (number now : ℕ) (ok : IsGeometry g) (s : Stands g d e nodes)

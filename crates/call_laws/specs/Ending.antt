@@ -1,8 +1,8 @@
 -- Nodes without a name, and other attributes, in the words of the tree.
 use Rattle.std.specs.Prelude.{◌≡◌, ℕ, Some}
-use Rattle.tree.specs.Tree.{Node, Tree, with_node}
-use Rattle.tree.specs.Changes.{without_nameless}
-use Rattle.descriptors.specs.Files.{Files, HasFiles}
+use Rattle.entries.specs.tree.Tree.{Node, Tree, with_node}
+use Rattle.entries.specs.tree.Changes.{without_nameless}
+use Rattle.node_steps.specs.descriptors.Files.{Files, HasFiles}
 use Rattle.node_steps.specs.Steps.{left_of}
 
 -- What is left of a node is what the tree leaves of it where it has no name and isn't open.

@@ -1,16 +1,16 @@
 -- Names that are put into directories and taken away, between the steps of a call.
 use Rattle.std.specs.Prelude.{◌≡◌, ◌≢◌, ◌↔◌, ◌≤◌, ◌+◌, ℕ, List, length, Bool, Option, None, Some, IsTrue, true}
-use Rattle.layout.specs.declared.Geometry.{Geometry}
-use Rattle.layout.specs.Places.{IsGeometry}
-use Rattle.tree.specs.Sums.{put}
-use Rattle.tree.specs.Names.{Name, has_name, inode_of, is_name, with_name}
-use Rattle.tree.specs.Tree.{Node, is_dir, most_size, names_of, size_of}
-use Rattle.tree.specs.Changes.{with_names}
-use Rattle.tree.specs.Space.{data_zones}
-use Rattle.volume.specs.Reading.{Disk}
-use Rattle.volume.specs.Pieces.{Pieces, pieces}
-use Rattle.zone_laws.specs.Room.{taken_by}
-use Rattle.file.specs.Changing.{HasZonesFor, MayChange, written_at}
+use Rattle.node_steps.specs.layout.declared.Geometry.{Geometry}
+use Rattle.node_steps.specs.layout.Places.{IsGeometry}
+use Rattle.entries.specs.tree.Sums.{put}
+use Rattle.entries.specs.tree.Names.{Name, has_name, inode_of, is_name, with_name}
+use Rattle.entries.specs.tree.Tree.{Node, is_dir, most_size, names_of, size_of}
+use Rattle.entries.specs.tree.Changes.{with_names}
+use Rattle.entries.specs.tree.Space.{data_zones}
+use Rattle.node_steps.specs.volume.Reading.{Disk}
+use Rattle.node_steps.specs.volume.Pieces.{Pieces, pieces}
+use Rattle.node_steps.specs.zone_laws.Room.{taken_by}
+use Rattle.node_steps.specs.file.Changing.{HasZonesFor, MayChange, written_at}
 use Rattle.entries.specs.Names.{HasName, MayInsert}
 use Rattle.call_laws.specs.Stands.{Stands}
 

@@ -1,15 +1,15 @@
 -- What stands between the steps of a call.
 use Rattle.std.specs.Prelude.{◌≡◌, ℕ, Option, Some, true}
-use Rattle.layout.specs.declared.Geometry.{Geometry}
-use Rattle.layout.specs.Places.{IsGeometry}
-use Rattle.tree.specs.Sums.{put}
-use Rattle.tree.specs.Tree.{Node, Tree, is_dir, size_of}
-use Rattle.tree.specs.IsTree.{IsTree}
-use Rattle.volume.specs.Reading.{Disk}
-use Rattle.volume.specs.Pieces.{pieces}
-use Rattle.volume.specs.Nodes.{nodes_of}
-use Rattle.volume.specs.Holds.{HoldsVolume, IsSound}
-use Rattle.zone.specs.Pages.{SameHead}
+use Rattle.node_steps.specs.layout.declared.Geometry.{Geometry}
+use Rattle.node_steps.specs.layout.Places.{IsGeometry}
+use Rattle.entries.specs.tree.Sums.{put}
+use Rattle.entries.specs.tree.Tree.{Node, Tree, is_dir, size_of}
+use Rattle.entries.specs.tree.IsTree.{IsTree}
+use Rattle.node_steps.specs.volume.Reading.{Disk}
+use Rattle.node_steps.specs.volume.Pieces.{pieces}
+use Rattle.node_steps.specs.volume.Nodes.{nodes_of}
+use Rattle.node_steps.specs.volume.Holds.{HoldsVolume, IsSound}
+use Rattle.node_steps.specs.store.Volume.{SameHead}
 use Rattle.entries.specs.Names.{IsOfDirectory}
 use Rattle.node_steps.specs.Steps.{BecomesAt, IsOfNode, node_at}
 

@@ -1,10 +1,10 @@
 -- Bytes that digits write, and calls of too many words.
 use Rattle.std.proofs.Common.{◌≡◌, ℕ, ◌+◌, ◌/◌, ◌<◌, List, [], ◌∷◌, length, refl, sym, ap, ◌∙◌, arith, Some, None}
 use Rattle.std.specs.Prelude.{Option}
-use Rattle.call_text.specs.Bytes.{hex_bytes}
-use Rattle.call_text.specs.Words.{words_of}
+use Rattle.text_words.specs.Bytes.{hex_bytes}
+use Rattle.text_words.specs.Words.{words_of}
 use Rattle.call_text.specs.Calls.{call_of}
-use Rattle.call_text.proofs.Reading.{some_part}
+use Rattle.text_words.proofs.Reading.{some_part}
 use Rattle.tree.specs.declared.Call.{Call}
 
 -- two digits write a byte

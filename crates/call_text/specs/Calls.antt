@@ -7,8 +7,8 @@ use Rattle.tree.specs.declared.Call.{Call}
 use Rattle.tree.specs.declared.Call.TheVariants.{Open, Close, Dup, Read, Write, Seek, Stat, Fstat, Link, Unlink, Mkdir, Rmdir, Rename, Chmod, Chown, Utime, Truncate, Readdir, Sync, Statfs}
 use Rattle.tree.specs.declared.Whence.{Whence}
 use Rattle.tree.specs.declared.Whence.TheVariants.{Set, Cur, End}
-use Rattle.call_text.specs.Words.{number_of, mode_of, offset_of, path_of}
-use Rattle.call_text.specs.Bytes.{hex_bytes, byte_of, digits_in, flags_of}
+use Rattle.text_words.specs.Words.{number_of, mode_of, offset_of, path_of}
+use Rattle.text_words.specs.Bytes.{hex_bytes, byte_of, digits_in, flags_of}
 use Rattle.call_text.specs.declared.call.WrittenCall.{WrittenCall}
 use Rattle.call_text.specs.declared.call.WrittenCall.TheVariants.{Whole, Hex, Fill}
 

@@ -2,12 +2,12 @@
 
 ghost use Rattle.std.specs.Prelude.{◌≡◌, ◌++◌, OnOk, length, replicate};
 ghost use Rattle.std.specs.Option.{option_map};
-ghost use Rattle.call_text.specs.Words.{words_of};
+ghost use Rattle.text_words.specs.Words.{words_of};
 ghost use Rattle.call_text.specs.Calls.{call_of, call_of_none, call_of_one, call_of_two, call_of_three, count, decoded, meant, plain, whence_of};
 
-use crate::bytes::{byte, digits, flags, push_hex};
-use crate::words::{cut, decimal, half, mode, offset, path};
 use std::alloc::AllocError;
+use text_words::bytes::{byte, digits, flags, push_hex};
+use text_words::words::{cut, decimal, half, mode, offset, path};
 use tree::{Call, Whence};
 
 /// A call as words write it: the bytes of a write are still to be decoded.

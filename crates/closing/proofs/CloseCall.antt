@@ -13,12 +13,12 @@ use Rattle.tree.specs.Refusals.{◌>>=◌}
 use Rattle.tree.specs.Changes.{open_file_of, without_unused, without_nameless}
 use Rattle.tree.specs.FileCalls.{close}
 use Rattle.tree.specs.Answers.{Effect, done, refused}
-use Rattle.tree_laws.proofs.Search.{found_below}
-use Rattle.tree_laws.proofs.Closed.{close_keeps}
-use Rattle.volume.specs.Reading.{Disk}
-use Rattle.volume.specs.Pieces.{Pieces, pieces}
-use Rattle.volume.specs.Nodes.{node_of}
-use Rattle.volume.specs.Holds.{HoldsVolume}
+use Rattle.bodies.proofs.tree_laws.Search.{found_below}
+use Rattle.bodies.proofs.tree_laws.Closed.{close_keeps}
+use Rattle.store.specs.volume.Reading.{Disk}
+use Rattle.store.specs.volume.Pieces.{Pieces, pieces}
+use Rattle.store.specs.volume.Nodes.{node_of}
+use Rattle.store.specs.volume.Holds.{HoldsVolume}
 use Rattle.descriptors.specs.Files.{Files, HasFiles, files_in, tree_with, with_files, let_go, close_file}
 use Rattle.descriptors.proofs.TreeCalls.{close_is_close}
 use Rattle.node_steps.specs.Steps.{IsOfNode, LosesNode, left_of}

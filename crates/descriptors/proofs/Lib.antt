@@ -1,3 +1,4 @@
+pub use Rattle.tree.proofs as tree
 pub mod Keys
 pub mod Searches
 pub mod Tables

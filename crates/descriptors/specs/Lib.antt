@@ -1,3 +1,4 @@
+pub use Rattle.tree.specs as tree
 pub mod Files
 pub mod Keys
 pub mod Made

@@ -6,9 +6,9 @@ ghost use Rattle.directory.specs.Scan.{last_named};
 ghost use Rattle.store.specs.Halts.{Ends, IsHalt};
 ghost use Rattle.store.specs.Volume.{IsOn};
 ghost use Rattle.store.specs.World.{Reads};
-ghost use Rattle.tree.specs.Names.{inode_of};
-ghost use Rattle.volume.specs.Nodes.{directory_of, file_byte};
-ghost use Rattle.volume.specs.Pieces.{pieces};
+ghost use Rattle.inode.specs.tree.Names.{inode_of};
+ghost use Rattle.store.specs.volume.Nodes.{directory_of, file_byte};
+ghost use Rattle.store.specs.volume.Pieces.{pieces};
 
 use crate::entries::{entry_inode, last_named};
 use inode::Inode;

@@ -4,8 +4,8 @@ ghost use Rattle.std.specs.Prelude.{◌≡◌, ◌<◌, ◌≤◌, ◌+◌, ◌-
 ghost use Rattle.directory.specs.Standing.{StandsAt};
 ghost use Rattle.store.specs.Volume.{IsOn};
 ghost use Rattle.store.specs.World.{Reads};
-ghost use Rattle.volume.specs.Nodes.{entry_count_of, file_byte};
-ghost use Rattle.volume.specs.Pieces.{pieces};
+ghost use Rattle.store.specs.volume.Nodes.{entry_count_of, file_byte};
+ghost use Rattle.store.specs.volume.Pieces.{pieces};
 
 use crate::entries::is_named;
 use inode::Inode;

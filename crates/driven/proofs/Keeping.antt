@@ -8,17 +8,17 @@ use Rattle.endpoint.specs.declared.Endpoint.{Endpoint}
 use Rattle.message.specs.declared.BlockRequest.{BlockRequest}
 use Rattle.message.specs.declared.Incoming.{Incoming}
 use Rattle.message.specs.declared.Incoming.TheVariants as incoming
-use Rattle.marks.specs.Marks.{Mark, Started, GaveUp, Issued}
-use Rattle.marks.specs.Open.{MayFollow}
-use Rattle.marks.specs.Opening.{Opening, Fits}
-use Rattle.marks.specs.Told.{received}
+use Rattle.history.specs.marks.Marks.{Mark, Started, GaveUp, Issued}
+use Rattle.history.specs.marks.Open.{MayFollow}
+use Rattle.history.specs.marks.Opening.{Opening, Fits}
+use Rattle.history.specs.marks.Told.{received}
 use Rattle.media.specs.Contents.{MediaState, adopted}
-use Rattle.bdev.specs.DriverState.{DriverState}
+use Rattle.reincarnate.specs.bdev.DriverState.{DriverState}
 use Rattle.policy.specs.declared.Event.TheVariants.{Exit, Complaint}
 use Rattle.policy.specs.Watch.{Watch, new_watch}
 use Rattle.reincarnate.specs.Supply.{ReincarnationState}
-use Rattle.true_replies.specs.Events.{IsOnMedia, opening_media}
-use Rattle.true_replies.specs.Posted.{driver_at}
+use Rattle.inline.specs.true_replies.Events.{IsOnMedia, opening_media}
+use Rattle.inline.specs.true_replies.Posted.{driver_at}
 use Rattle.inline.specs.declared.running.Ran.{Ran}
 use Rattle.inline.specs.declared.running.Ran.TheVariants as ran
 use Rattle.inline.specs.Running.{Kept, RunLeaves}

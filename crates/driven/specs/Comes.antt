@@ -1,9 +1,9 @@
 -- What the drivers come to next.
-use Rattle.std.specs.Prelude.{◌≡◌, ◌⊎◌, ◌-◌, Some, None}
+use Rattle.std.specs.Prelude.{◌≡◌, ◌⊎◌, ℕ, ◌-◌, Bool, true, Some, None}
 use Rattle.message.specs.declared.Incoming.{Incoming}
 use Rattle.message.specs.declared.Incoming.TheVariants as incoming
-use Rattle.bdev.specs.declared.Step.TheVariants.{Failed}
-use Rattle.bdev.specs.DriverState.{DriverState}
+use Rattle.reincarnate.specs.bdev.declared.Step.TheVariants.{Failed}
+use Rattle.reincarnate.specs.bdev.DriverState.{DriverState}
 use Rattle.policy.specs.declared.Event.TheVariants.{Exit}
 use Rattle.policy.specs.Watch.{GivenUp}
 use Rattle.inline.specs.Steps.{Machine, EndsIn}
@@ -56,6 +56,10 @@ ComesTo state b (incoming.Started to) a = ComesAfter state b (incoming.Started t
 ComesTo state b incoming.GaveUp a = ComesAfter state b incoming.GaveUp a
 ComesTo state b incoming.Flush a = ⊥
 ComesTo state b incoming.End a = IsSpent state b a ⊎ ComesAfter state b incoming.End a
+
+-- why nothing comes any more: that the device was given up was told, or the budget is spent
+abbrev pub IsOver : Bool → ℕ → Type 0
+IsOver told budget = (told ≡ true) ⊎ (budget ≡ 0)
 
 -- what a take comes to: what the drivers come to, or, where it is over, End, which leaves no budget and all else as it was
 abbrev pub Takes : {D : Type 0} → (D → DriverState) → Guarded D → Type 0 → Incoming → Guarded D → Type 0

@@ -1,13 +1,9 @@
 -- What goes on in a link through all that it is told and gives.
 use Rattle.std.proofs.Common.{◌≡◌, List, [], ◌++◌, refl, sym, ◌∙◌, ap, subst, append_assoc}
-use Rattle.message.specs.declared.BlockRequest.{BlockRequest}
-use Rattle.message.specs.declared.Incoming.{Incoming}
-use Rattle.marks.specs.Told.{Told}
-use Rattle.bdev.specs.DriverState.{DriverState}
-use Rattle.reincarnate.specs.Runs.{Turn, Met}
-use Rattle.policy.specs.declared.Event.TheVariants.{Complaint}
-use Rattle.driven.specs.Waits.{Guarded, last_tick, IsTold}
-use Rattle.driven.specs.Comes.{ComesTo}
+use Rattle.history.specs.marks.Told.{Told}
+use Rattle.reincarnate.specs.bdev.DriverState.{DriverState}
+use Rattle.reincarnate.specs.Runs.{Turn}
+use Rattle.driven.specs.Waits.{Guarded}
 use Rattle.driven.specs.Runs.{turns_until, Run, Begins, Comes, Complained, Posted, Ended}
 
 -- a run leads from the one to the other

@@ -3,10 +3,10 @@ use Rattle.std.specs.Prelude.{◌≡◌, ℕ, ◌+◌, ◌-◌, ◌≤◌, max, 
 use Rattle.std.specs.Option.{option_map}
 use Rattle.endpoint.specs.declared.Endpoint.{Endpoint}
 use Rattle.message.specs.declared.BlockRequest.{BlockRequest}
-use Rattle.marks.specs.Marks.{Mark}
-use Rattle.marks.specs.Opening.{Opening}
+use Rattle.history.specs.marks.Marks.{Mark}
+use Rattle.history.specs.marks.Opening.{Opening}
 use Rattle.media.specs.Contents.{MediaState, adopted}
-use Rattle.bdev.specs.DriverState.{DriverState}
+use Rattle.reincarnate.specs.bdev.DriverState.{DriverState}
 use Rattle.policy.specs.declared.Event.{Event}
 use Rattle.policy.specs.declared.Event.TheVariants.{Tick}
 use Rattle.policy.specs.Watch.{Waiting, driver}

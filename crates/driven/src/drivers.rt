@@ -2,9 +2,9 @@
 
 ghost use Rattle.std.specs.Prelude.{◌≡◌, ◌≢◌, ◌≤◌, ◌<◌, ◌+◌, ◌^◌, ◌⊎◌, ◌↔◌, ◌||◌, ◌==◌, true, false, List, [], ◌∷◌, ◌++◌, length, is_some, None, Err, OnOk, OnErr, IfOk};
 ghost use Rattle.std.specs.VecDeque.{deque_capacity};
-ghost use Rattle.marks.specs.Marks.{Mark};
-ghost use Rattle.marks.specs.Opening.{Opening};
-ghost use Rattle.marks.specs.Told.{received};
+ghost use Rattle.history.specs.marks.Marks.{Mark};
+ghost use Rattle.history.specs.marks.Opening.{Opening};
+ghost use Rattle.history.specs.marks.Told.{received};
 ghost use Rattle.policy.specs.declared.Event.TheVariants.{Complaint};
 ghost use Rattle.policy.specs.Watch.{driver, new_watch, on, on_fault};
 ghost use Rattle.policy.specs.Laws.{is_running, tick_of};
@@ -158,6 +158,7 @@ impl<D: LocalDriver> Drivers<D> {
         requires awaited { self.old.given_up ≡ false }
         ensures waits { WaitsFor (guarded_of self.old) result (guarded_of self.new) }
         ensures goes_on { result ≢ Incoming.GaveUp }
+        ensures ends { result ≡ Incoming.End → self.new.budget ≡ 0 }
         ensures over { self.new.over ≡ self.old.over }
     {
         while self.budget > 0 {
@@ -172,6 +173,7 @@ impl<D: LocalDriver> Drivers<D> {
     fn without_driver(&mut self) -> Incoming
         requires { self.old.running ≡ None }
         ensures waits { WaitsFor (guarded_of self.old) result (guarded_of self.new) }
+        ensures ends { result ≡ Incoming.End → self.new.budget ≡ 0 }
         ensures over { (self.new.over ≡ true) ↔ ((result ≡ Incoming.GaveUp) ⊎ (self.old.over ≡ true)) }
     {
         if self.given_up {
@@ -190,6 +192,7 @@ impl<D: LocalDriver> Drivers<D> {
         ensures comes { ComesTo D.state (guarded_of self.old) result (guarded_of self.new) }
         ensures over { (self.new.over ≡ true) ↔ ((result ≡ Incoming.GaveUp) ⊎ (self.old.over ≡ true)) }
         ensures budget { self.new.budget < self.old.budget }
+        ensures ends { result ≡ Incoming.End → self.new.budget ≡ 0 }
     {
         let Some(mut driver) = self.running.take() else {
             return self.without_driver();
@@ -247,6 +250,7 @@ impl<D: LocalDriver> Drivers<D> {
             → IsTold (guarded_of self.old) (Complaint about (last_tick self.old.ticks)) (guarded_of self.new) }
         ensures leaves { (self.old.running ≡ None) ⊎ (about ≢ self.old.endpoint) → self.new ≡ self.old }
         ensures leads { Leads D.state (guarded_of self.old) (guarded_of self.new) }
+        ensures budget { self.new.budget ≡ self.old.budget }
         ensures over { self.new.over ≡ self.old.over }
     {
         if self.running.is_none() || about != self.endpoint {

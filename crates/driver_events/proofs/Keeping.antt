@@ -28,11 +28,11 @@ use Rattle.schedule.specs.declared.Event.TheVariants as event
 use Rattle.schedule.specs.Groups.{Group, event_of}
 use Rattle.inline.specs.Inline.{IsReady}
 use Rattle.inline.specs.Steps.{HandsOver}
-use Rattle.true_replies.specs.State.{State, state_of, Invariant}
-use Rattle.true_replies.specs.Posted.{IsSent, since_start}
-use Rattle.true_replies.specs.Events.{opening_media, IsOnMedia, sent_after, live_after, reply_of, Stepped, SteppedOlder, Torn, Dead, Replaced, Repeated, Delivered, Noted as AlsoNoted}
-use Rattle.true_replies.proofs.Keeps.{next_keeps, opening_holds}
-use Rattle.true_replies.proofs.Others.{handed_keeps}
+use Rattle.inline.specs.true_replies.State.{State, state_of, Invariant}
+use Rattle.inline.specs.true_replies.Posted.{IsSent, since_start}
+use Rattle.inline.specs.true_replies.Events.{opening_media, IsOnMedia, sent_after, live_after, reply_of, Stepped, SteppedOlder, Torn, Dead, Replaced, Repeated, Delivered, Noted as AlsoNoted}
+use Rattle.inline.proofs.true_replies.Keeps.{next_keeps, opening_holds}
+use Rattle.inline.proofs.true_replies.Others.{handed_keeps}
 use Rattle.faultless.specs.Faultless.{without_faults}
 use Rattle.run_log.specs.declared.log.Entry.{Entry}
 use Rattle.run_log.specs.declared.log.Entry.TheVariants as entry

@@ -1,3 +1,5 @@
+pub use Rattle.faultless.proofs as faultless
+pub use Rattle.marks.proofs as marks
 pub mod Decided
 pub mod DisksLaws
 pub mod StageLaws

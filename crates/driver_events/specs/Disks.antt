@@ -11,8 +11,8 @@ use Rattle.bdev.specs.Promises.{StepKeeps, IsDriver}
 use Rattle.marks.specs.Marks.{Mark}
 use Rattle.schedule.specs.declared.Sent.{Sent}
 use Rattle.inline.specs.Steps.{HandsOver}
-use Rattle.true_replies.specs.State.{State, state_of}
-use Rattle.true_replies.specs.Events.{reply_of, live_after}
+use Rattle.inline.specs.true_replies.State.{State, state_of}
+use Rattle.inline.specs.true_replies.Events.{reply_of, live_after}
 use Rattle.reissue.specs.declared.link.LinkRefusal.{LinkRefusal}
 use Rattle.reissue.specs.declared.link.LinkRefusal.TheVariants.{DeadEndpoint, Full}
 use Rattle.run_log.specs.declared.log.Post.{Post}

@@ -10,9 +10,9 @@ use Rattle.marks.specs.Opening.{Opening, contents_at}
 use Rattle.marks.specs.Told.{received}
 use Rattle.schedule.specs.declared.Event.{Event}
 use Rattle.schedule.specs.Groups.{event_of}
-use Rattle.true_replies.specs.Posted.{since_start}
-use Rattle.true_replies.specs.State.{Invariant}
-use Rattle.true_replies.specs.Events.{opening_media, IsOnMedia}
+use Rattle.inline.specs.true_replies.Posted.{since_start}
+use Rattle.inline.specs.true_replies.State.{Invariant}
+use Rattle.inline.specs.true_replies.Events.{opening_media, IsOnMedia}
 use Rattle.inline.specs.Inline.{IsReady}
 use Rattle.faultless.specs.Faultless.{without_faults}
 use Rattle.run_log.specs.declared.log.Post.{Post}

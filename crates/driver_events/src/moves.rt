@@ -4,7 +4,7 @@ ghost use Rattle.std.specs.Prelude.{◌≡◌, ◌<◌, ◌≤◌, length, vec_l
 ghost use Rattle.std.specs.VecDeque.{deque_capacity};
 ghost use Rattle.inline.specs.Steps.{HandsOver};
 ghost use Rattle.bdev.specs.Promises.{IsDriver};
-ghost use Rattle.true_replies.specs.Events.{reply_of};
+ghost use Rattle.inline.specs.true_replies.Events.{reply_of};
 ghost use Rattle.driver_events.specs.Disks.{SlotSteps, sent_at};
 ghost use Rattle.driver_events.specs.UnitView.{slot_of};
 

@@ -10,18 +10,18 @@ use Rattle.tree.specs.Tree.{File, Directory, Body, is_file, is_directory, Node}
 use Rattle.tree.specs.Changes.{with_names, with_parent, with_body}
 use Rattle.tree.specs.Space.{data_zones, numbers_in_zone}
 use Rattle.tree.specs.ZonesNeeded.{zones_needed}
-use Rattle.volume.specs.declared.Inode.{Inode}
-use Rattle.volume.specs.Pieces.{Pieces, pieces}
-use Rattle.volume.specs.Reading.{Disk, u32_in}
-use Rattle.volume.specs.Nodes.{directory_of, entry_inode, file_of, is_directory_mode, is_marked, names_in, node_of, nodes_of, permissions_in}
-use Rattle.volume.specs.Entries.{entry_count}
-use Rattle.volume.specs.Holds.{IsSoundDirectory}
-use Rattle.volume_laws.proofs.Sums.{count_most}
-use Rattle.zone_laws.specs.Steps.{body_from, node_from, marked_in}
-use Rattle.zone_laws.proofs.Keeps.{sound_but_is_sound, sound_is_sound_but}
-use Rattle.entry_laws.specs.Directories.{IsDirectoryOf, before}
-use Rattle.entry_laws.specs.Files.{IsEntryBytes}
-use Rattle.entry_laws.proofs.Writes.{file_inserted, file_reparented}
+use Rattle.store.specs.volume.declared.Inode.{Inode}
+use Rattle.store.specs.volume.Pieces.{Pieces, pieces}
+use Rattle.store.specs.volume.Reading.{Disk, u32_in}
+use Rattle.store.specs.volume.Nodes.{directory_of, entry_inode, file_of, is_directory_mode, is_marked, names_in, node_of, nodes_of, permissions_in}
+use Rattle.store.specs.volume.Entries.{entry_count}
+use Rattle.store.specs.volume.Holds.{IsSoundDirectory}
+use Rattle.inode_table.proofs.volume_laws.Sums.{count_most}
+use Rattle.file.specs.zone_laws.Steps.{body_from, node_from, marked_in}
+use Rattle.file.proofs.zone_laws.Keeps.{sound_but_is_sound, sound_is_sound_but}
+use Rattle.directory.specs.entry_laws.Directories.{IsDirectoryOf, before}
+use Rattle.directory.specs.entry_laws.Files.{IsEntryBytes}
+use Rattle.directory.proofs.entry_laws.Writes.{file_inserted, file_reparented}
 use Rattle.file.specs.Changing.{MayChange, BecomesFile, HasZonesFor, MayWriteAt, WritesAt, Stamps, stamped, file_at, written_at}
 use Rattle.file.proofs.Becoming.{becomes_then, may_change_after}
 use Rattle.directory.proofs.Pages.{each_size}

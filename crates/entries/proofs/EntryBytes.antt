@@ -3,11 +3,11 @@ use Rattle.std.proofs.Common.{◌≡◌, ◌<◌, ◌≤◌, ◌+◌, ◌*◌, �
 use Rattle.std.specs.Prelude.{slice_index, nat_lt}
 use Rattle.std.specs.Int.{w32, to_le_bytes}
 use Rattle.std.proofs.lemmas.Bool.{cases_Bool, ltb-true, ltb-false}
-use Rattle.volume.specs.Reading.{u32_in}
+use Rattle.store.specs.volume.Reading.{u32_in}
 use Rattle.store.specs.Rows.{with_bytes}
 use Rattle.store.proofs.Rows.{row_new, row_old, number_written}
 use Rattle.tree.specs.Names.{dot, dot_dot}
-use Rattle.entry_laws.specs.Files.{IsEntryBytes}
+use Rattle.directory.specs.entry_laws.Files.{IsEntryBytes}
 use Rattle.entries.specs.Places.{IsNameBytes}
 use Rattle.entries.specs.First.{AreFirstEntries}
 

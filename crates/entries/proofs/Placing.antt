@@ -3,17 +3,17 @@ use Rattle.std.proofs.Common.{◌≡◌, ◌*◌, ℕ, List, length, Option, Non
 use Rattle.std.specs.Prelude.{IsTrue, is_some, slice_index}
 use Rattle.layout.specs.declared.Geometry.{Geometry}
 use Rattle.tree.specs.Names.{Name, inode_of, with_name}
-use Rattle.volume.specs.declared.Inode.{Inode}
-use Rattle.volume.specs.Pieces.{Pieces, pieces}
-use Rattle.volume.specs.Reading.{Disk, u32_in}
-use Rattle.volume.specs.Nodes.{entry_count_of, file_byte, file_of}
-use Rattle.volume.specs.Entries.{entry_count}
-use Rattle.entry_laws.specs.Directories.{IsDirectoryOf, before, row_of}
-use Rattle.entry_laws.specs.Rows.{IsRow}
-use Rattle.entry_laws.proofs.Directories.{directory_is_row}
-use Rattle.entry_laws.proofs.Rows.{entry_of_name}
-use Rattle.entry_laws.proofs.Text.{field_is_name}
-use Rattle.entry_laws.proofs.Writes.{file_retargeted}
+use Rattle.store.specs.volume.declared.Inode.{Inode}
+use Rattle.store.specs.volume.Pieces.{Pieces, pieces}
+use Rattle.store.specs.volume.Reading.{Disk, u32_in}
+use Rattle.store.specs.volume.Nodes.{entry_count_of, file_byte, file_of}
+use Rattle.store.specs.volume.Entries.{entry_count}
+use Rattle.directory.specs.entry_laws.Directories.{IsDirectoryOf, before, row_of}
+use Rattle.directory.specs.entry_laws.Rows.{IsRow}
+use Rattle.directory.proofs.entry_laws.Directories.{directory_is_row}
+use Rattle.directory.proofs.entry_laws.Rows.{entry_of_name}
+use Rattle.directory.proofs.entry_laws.Text.{field_is_name}
+use Rattle.directory.proofs.entry_laws.Writes.{file_retargeted}
 use Rattle.directory.specs.Standing.{NoneNamed, IsNamed}
 use Rattle.file.specs.Changing.{MayWriteAt, WritesAt, Stamps, written_at}
 use Rattle.entries.specs.Places.{IsPlaced}

@@ -4,13 +4,13 @@ use Rattle.layout.specs.declared.Geometry.{Geometry}
 use Rattle.tree.specs.Names.{Name, without_name}
 use Rattle.tree.specs.Tree.{File}
 use Rattle.tree.specs.Changes.{file_after_resize}
-use Rattle.volume.specs.declared.Inode.{Inode}
-use Rattle.volume.specs.Pieces.{Pieces, pieces}
-use Rattle.volume.specs.Reading.{Disk}
-use Rattle.volume.specs.Nodes.{file_byte}
+use Rattle.store.specs.volume.declared.Inode.{Inode}
+use Rattle.store.specs.volume.Pieces.{Pieces, pieces}
+use Rattle.store.specs.volume.Reading.{Disk}
+use Rattle.store.specs.volume.Nodes.{file_byte}
 use Rattle.store.specs.Rows.{HasBytes}
-use Rattle.entry_laws.specs.Directories.{IsDirectoryOf, before}
-use Rattle.entry_laws.proofs.Writes.{file_removed}
+use Rattle.directory.specs.entry_laws.Directories.{IsDirectoryOf, before}
+use Rattle.directory.proofs.entry_laws.Writes.{file_removed}
 use Rattle.file.specs.Changing.{BecomesFile, MayChange, MayWriteAt, WritesAt, SetsSize, Stamps, written_at}
 use Rattle.file.proofs.Becoming.{may_change_after, becomes_again}
 use Rattle.entries.specs.Places.{IsPlaced}

@@ -3,16 +3,16 @@ use Rattle.std.proofs.Common.{◌≡◌, ◌+◌, ◌*◌, ℕ, List, length, So
 use Rattle.std.specs.Prelude.{IsTrue}
 use Rattle.layout.specs.declared.Geometry.{Geometry}
 use Rattle.tree.specs.Names.{Name, inode_of, with_name, without_name}
-use Rattle.volume.specs.Pieces.{Pieces, pieces}
-use Rattle.volume.specs.Reading.{Disk}
-use Rattle.volume.specs.Nodes.{file_of}
-use Rattle.volume.specs.Entries.{entry_count, target_at}
-use Rattle.volume.specs.Holds.{IsSoundDirectory}
-use Rattle.entry_laws.specs.Directories.{IsDirectoryOf, before, row_of}
-use Rattle.entry_laws.specs.Rows.{has_field}
-use Rattle.entry_laws.proofs.Directories.{directory_is_row, renamed}
-use Rattle.entry_laws.proofs.Rows.{found_at}
-use Rattle.entry_laws.proofs.Text.{name_is_field}
+use Rattle.store.specs.volume.Pieces.{Pieces, pieces}
+use Rattle.store.specs.volume.Reading.{Disk}
+use Rattle.store.specs.volume.Nodes.{file_of}
+use Rattle.store.specs.volume.Entries.{entry_count, target_at}
+use Rattle.store.specs.volume.Holds.{IsSoundDirectory}
+use Rattle.directory.specs.entry_laws.Directories.{IsDirectoryOf, before, row_of}
+use Rattle.directory.specs.entry_laws.Rows.{has_field}
+use Rattle.directory.proofs.entry_laws.Directories.{directory_is_row, renamed}
+use Rattle.directory.proofs.entry_laws.Rows.{found_at}
+use Rattle.directory.proofs.entry_laws.Text.{name_is_field}
 use Rattle.file.specs.Changing.{MayWriteAt, WritesAt, Stamps, written_at}
 use Rattle.entries.specs.Places.{IsPlaced, IsNameBytes}
 use Rattle.entries.specs.Names.{IsOfDirectory, HasName, MayRename, Renames}

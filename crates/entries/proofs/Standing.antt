@@ -8,16 +8,16 @@ use Rattle.tree.specs.Names.{Name, dot_dot}
 use Rattle.tree.specs.Tree.{File}
 use Rattle.tree.specs.Space.{pages_of}
 use Rattle.tree.specs.Changes.{file_after_write, file_after_resize}
-use Rattle.volume.specs.Pieces.{Pieces}
-use Rattle.volume.specs.Reading.{u32_in}
-use Rattle.volume.specs.Nodes.{file_of, page_zone}
-use Rattle.volume.specs.Entries.{entry_count, target_at}
-use Rattle.volume.specs.Holds.{IsSoundDirectory}
-use Rattle.entry_laws.specs.Directories.{SameSize, row_of}
-use Rattle.entry_laws.specs.Files.{IsEntryBytes, IsCopy}
-use Rattle.entry_laws.specs.Rows.{SetsEntry, DropsEntry}
-use Rattle.entry_laws.proofs.Files.{write_sets_entry, write_sets_number, write_drops_entry}
-use Rattle.entry_laws.proofs.Text.{bytes_of_good, bytes_of_field}
+use Rattle.store.specs.volume.Pieces.{Pieces}
+use Rattle.store.specs.volume.Reading.{u32_in}
+use Rattle.store.specs.volume.Nodes.{file_of, page_zone}
+use Rattle.store.specs.volume.Entries.{entry_count, target_at}
+use Rattle.store.specs.volume.Holds.{IsSoundDirectory}
+use Rattle.directory.specs.entry_laws.Directories.{SameSize, row_of}
+use Rattle.directory.specs.entry_laws.Files.{IsEntryBytes, IsCopy}
+use Rattle.directory.specs.entry_laws.Rows.{SetsEntry, DropsEntry}
+use Rattle.directory.proofs.entry_laws.Files.{write_sets_entry, write_sets_number, write_drops_entry}
+use Rattle.directory.proofs.entry_laws.Text.{bytes_of_good, bytes_of_field}
 use Rattle.file.specs.Changing.{file_at}
 use Rattle.entries.specs.Places.{IsPlaced, IsNameBytes, StandsLast, KeepsPlace, LastTakesPlace}
 

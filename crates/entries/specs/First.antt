@@ -1,7 +1,7 @@
 -- The first two entries of a directory.
 use Rattle.std.specs.Prelude.{◌≡◌, ℕ, List, length, slice_index}
 use Rattle.tree.specs.Names.{dot, dot_dot}
-use Rattle.entry_laws.specs.Rows.{IsEntry}
+use Rattle.directory.specs.entry_laws.Rows.{IsEntry}
 
 -- 128 bytes that are the entries . and .. of directory n
 pub record AreFirstEntries (bytes : List ℕ) (n parent : ℕ) : Type 0 where

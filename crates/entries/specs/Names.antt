@@ -6,14 +6,14 @@ use Rattle.tree.specs.Sums.{put}
 use Rattle.tree.specs.Names.{Name, Names, dot_dot, has_name, is_name, inode_of, with_name, without_name}
 use Rattle.tree.specs.Tree.{Node, most_size}
 use Rattle.tree.specs.Changes.{with_names, with_parent}
-use Rattle.volume.specs.Reading.{Disk}
-use Rattle.volume.specs.Pieces.{Pieces, pieces}
-use Rattle.volume.specs.Nodes.{node_of, nodes_of}
-use Rattle.volume.specs.Entries.{is_directory_inode}
-use Rattle.volume.specs.Holds.{IsSound}
-use Rattle.zone.specs.Pages.{SameHead}
-use Rattle.entry_laws.specs.Directories.{before, row_of}
-use Rattle.entry_laws.specs.Rows.{SetsEntry}
+use Rattle.store.specs.volume.Reading.{Disk}
+use Rattle.store.specs.volume.Pieces.{Pieces, pieces}
+use Rattle.store.specs.volume.Nodes.{node_of, nodes_of}
+use Rattle.store.specs.volume.Entries.{is_directory_inode}
+use Rattle.store.specs.volume.Holds.{IsSound}
+use Rattle.store.specs.Volume.{SameHead}
+use Rattle.directory.specs.entry_laws.Directories.{before, row_of}
+use Rattle.directory.specs.entry_laws.Rows.{SetsEntry}
 use Rattle.file.specs.Changing.{HasZonesFor, written_at}
 use Rattle.entries.specs.Places.{StandsLast, KeepsPlace}
 

@@ -2,10 +2,10 @@
 use Rattle.std.specs.Prelude.{◌≡◌, ℕ, ◌+◌, ◌<◌, List, length, slice_index}
 use Rattle.layout.specs.declared.Geometry.{Geometry}
 use Rattle.tree.specs.Names.{Name}
-use Rattle.volume.specs.Pieces.{Pieces}
-use Rattle.volume.specs.Entries.{entry_count}
-use Rattle.entry_laws.specs.Rows.{SetsEntry, DropsEntry}
-use Rattle.entry_laws.specs.Directories.{row_of}
+use Rattle.store.specs.volume.Pieces.{Pieces}
+use Rattle.store.specs.volume.Entries.{entry_count}
+use Rattle.directory.specs.entry_laws.Rows.{SetsEntry, DropsEntry}
+use Rattle.directory.specs.entry_laws.Directories.{row_of}
 use Rattle.directory.specs.Standing.{IsNamed}
 
 -- the entry has the name

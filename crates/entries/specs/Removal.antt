@@ -4,12 +4,12 @@ use Rattle.layout.specs.declared.Geometry.{Geometry}
 use Rattle.tree.specs.Names.{Name, without_name}
 use Rattle.tree.specs.Tree.{most_size}
 use Rattle.tree.specs.Changes.{file_after_resize}
-use Rattle.volume.specs.Reading.{Disk}
-use Rattle.volume.specs.Pieces.{Pieces, pieces}
-use Rattle.volume.specs.Entries.{entry_count}
-use Rattle.zone.specs.Pages.{SameHead}
-use Rattle.entry_laws.specs.Directories.{row_of}
-use Rattle.entry_laws.specs.Files.{IsCopy}
+use Rattle.store.specs.volume.Reading.{Disk}
+use Rattle.store.specs.volume.Pieces.{Pieces, pieces}
+use Rattle.store.specs.volume.Entries.{entry_count}
+use Rattle.store.specs.Volume.{SameHead}
+use Rattle.directory.specs.entry_laws.Directories.{row_of}
+use Rattle.directory.specs.entry_laws.Files.{IsCopy}
 use Rattle.file.specs.Changing.{BecomesFile, written_at}
 use Rattle.entries.specs.Places.{LastTakesPlace}
 use Rattle.entries.specs.Names.{IsOfDirectory, HasName, NamesBecome}

@@ -1,7 +1,7 @@
 //! The bytes of an entry.
 
 ghost use Rattle.std.specs.Prelude.{◌≡◌, ◌≤◌, ◌+◌, ℕ, length, slice_index};
-ghost use Rattle.entry_laws.specs.Files.{IsEntryBytes};
+ghost use Rattle.directory.specs.entry_laws.Files.{IsEntryBytes};
 ghost use Rattle.entries.specs.First.{AreFirstEntries};
 ghost use Rattle.store.specs.Rows.{with_bytes};
 ghost use Rattle.entries.specs.Places.{IsNameBytes};

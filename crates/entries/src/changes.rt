@@ -4,7 +4,7 @@ ghost use Rattle.std.specs.Prelude.{◌≡◌, ◌≤◌, ◌<◌, ◌+◌, ◌*
 ghost use Rattle.store.specs.Halts.{Ends, IsHalt};
 ghost use Rattle.store.specs.Volume.{IsOn};
 ghost use Rattle.store.specs.World.{Reads, Turns};
-ghost use Rattle.volume.specs.Pieces.{pieces};
+ghost use Rattle.store.specs.volume.Pieces.{pieces};
 ghost use Rattle.entries.specs.Places.{IsPlaced};
 ghost use Rattle.entries.specs.Names.{HasName, Inserts, MayInsert, MayRenameIt, MayReplace, MaySetParent, Renames, Replaces, SetsParent};
 

@@ -1,14 +1,14 @@
 -- The same of a directory of a volume.
 use Rattle.std.specs.Prelude.{◌≡◌, ◌≢◌, ℕ, ◌+◌, ◌/◌, ◌%◌, ◌<◌, ◌≤◌, length, None, IsTrue, []}
-use Rattle.layout.specs.declared.Geometry.{Geometry}
-use Rattle.layout.specs.Places.{IsGeometry}
-use Rattle.tree.specs.Names.{Name, Names, is_name, dot, dot_dot, inode_of, with_name, without_name}
-use Rattle.tree.specs.Tree.{Directory}
-use Rattle.tree.specs.Space.{pages_of}
-use Rattle.volume.specs.Pieces.{Pieces}
-use Rattle.volume.specs.Nodes.{file_byte, page_zone, directory_of}
-use Rattle.volume.specs.Entries.{entry_count, name_at, target_at}
-use Rattle.volume.specs.Holds.{IsSoundDirectory}
+use Rattle.tree_laws.specs.layout.declared.Geometry.{Geometry}
+use Rattle.tree_laws.specs.layout.Places.{IsGeometry}
+use Rattle.tree_laws.specs.tree.Names.{Name, Names, is_name, dot, dot_dot, inode_of, with_name, without_name}
+use Rattle.tree_laws.specs.tree.Tree.{Directory}
+use Rattle.tree_laws.specs.tree.Space.{pages_of}
+use Rattle.volume_laws.specs.volume.Pieces.{Pieces}
+use Rattle.volume_laws.specs.volume.Nodes.{file_byte, page_zone, directory_of}
+use Rattle.volume_laws.specs.volume.Entries.{entry_count, name_at, target_at}
+use Rattle.volume_laws.specs.volume.Holds.{IsSoundDirectory}
 use Rattle.entry_laws.specs.Rows.{IsRow, IsEntry, SetsEntry, DropsEntry}
 
 -- the bytes of directory n

@@ -1,10 +1,10 @@
 -- An entry is set by a write of 64 bytes, and dropped by such a write and a resize.
 use Rattle.std.specs.Prelude.{◌≡◌, ℕ, ◌+◌, ◌-◌, ◌*◌, ◌<◌, List, length, slice_index}
-use Rattle.layout.specs.declared.Geometry.{Geometry}
-use Rattle.tree.specs.Names.{Name}
-use Rattle.tree.specs.Tree.{File}
-use Rattle.tree.specs.Changes.{file_after_write, file_after_resize}
-use Rattle.volume.specs.Reading.{u32_in}
+use Rattle.tree_laws.specs.layout.declared.Geometry.{Geometry}
+use Rattle.tree_laws.specs.tree.Names.{Name}
+use Rattle.tree_laws.specs.tree.Tree.{File}
+use Rattle.tree_laws.specs.tree.Changes.{file_after_write, file_after_resize}
+use Rattle.volume_laws.specs.volume.Reading.{u32_in}
 use Rattle.entry_laws.specs.Rows.{SetsEntry, DropsEntry}
 
 -- 64 bytes that are an inode number and a name, filled with zeros

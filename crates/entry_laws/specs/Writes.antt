@@ -1,14 +1,14 @@
 -- A directory whose file is written: the changes of names by the calls of the layer of files.
 use Rattle.std.specs.Prelude.{◌≡◌, ◌≢◌, ℕ, ◌-◌, ◌*◌, ◌<◌, ◌≤◌, List, length, slice_index, None, IsTrue}
-use Rattle.layout.specs.declared.Geometry.{Geometry}
-use Rattle.layout.specs.Places.{IsGeometry}
-use Rattle.tree.specs.Names.{Name, is_name, inode_of, with_name, without_name}
-use Rattle.tree.specs.Changes.{file_after_write, file_after_resize}
-use Rattle.volume.specs.Reading.{u32_in}
-use Rattle.volume.specs.Pieces.{Pieces}
-use Rattle.volume.specs.Nodes.{file_of}
-use Rattle.volume.specs.Entries.{entry_count, name_at, target_at}
-use Rattle.volume.specs.Holds.{IsSoundDirectory}
+use Rattle.tree_laws.specs.layout.declared.Geometry.{Geometry}
+use Rattle.tree_laws.specs.layout.Places.{IsGeometry}
+use Rattle.tree_laws.specs.tree.Names.{Name, is_name, inode_of, with_name, without_name}
+use Rattle.tree_laws.specs.tree.Changes.{file_after_write, file_after_resize}
+use Rattle.volume_laws.specs.volume.Reading.{u32_in}
+use Rattle.volume_laws.specs.volume.Pieces.{Pieces}
+use Rattle.volume_laws.specs.volume.Nodes.{file_of}
+use Rattle.volume_laws.specs.volume.Entries.{entry_count, name_at, target_at}
+use Rattle.volume_laws.specs.volume.Holds.{IsSoundDirectory}
 use Rattle.entry_laws.specs.Files.{IsEntryBytes, IsCopy}
 use Rattle.entry_laws.specs.Directories.{IsDirectoryOf, before, row_of}
 

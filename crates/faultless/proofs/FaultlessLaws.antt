@@ -1,22 +1,22 @@
 -- Faults change nothing of what a record says of requests, the disk and the tree.
 use Rattle.std.proofs.Common.{◌≡◌, ℕ, List, [], ◌∷◌, ◌++◌, Bool, true, false, cond, refl, sym, ◌∙◌, ap, subst, ◌⊎◌, inl, inr, length, ◌<◌, ◌+◌}
 use Rattle.std.specs.Prelude.{◌&&◌, ◌||◌, not, nat_lt, is_some, IsTrue, Option, max, Some, None}
-use Rattle.layout.specs.declared.Geometry.{Geometry}
-use Rattle.endpoint.specs.declared.Endpoint.{Endpoint}
-use Rattle.message.specs.Good.{is_write}
-use Rattle.message.specs.declared.BlockRequest.{BlockRequest}
-use Rattle.message.specs.declared.BlockReply.{BlockReply}
-use Rattle.message.specs.declared.Incoming.{Incoming}
-use Rattle.message.specs.declared.Incoming.TheVariants as incoming
-use Rattle.tree.specs.declared.Who.{Who}
-use Rattle.tree.specs.declared.Call.{Call}
-use Rattle.tree.specs.Tree.{Tree}
-use Rattle.tree.specs.Answers.{Answer}
-use Rattle.volume.specs.Reading.{blocks_of}
-use Rattle.volume.specs.Holds.{HoldsVolume}
-use Rattle.marks.specs.Marks.{Mark, Fault, Started, Answered, Flush, GaveUp, Took, Issued, last_started, gave_up, is_endpoint}
-use Rattle.marks.specs.Open.{open_requests, greatest, IsWellFormed, MayFollow, IsNew, IsAgain, IsIn, counts, with_id, without_id, moved_of, asked_by, moved_by, MissesAll}
-use Rattle.marks.specs.Disk.{Contents, disk_after, unsure, HasTrueReplies, IsTrueAnswer, IsTrueOf, settles, byte_for, covers}
+use Rattle.legal.specs.layout.declared.Geometry.{Geometry}
+use Rattle.legal.specs.endpoint.declared.Endpoint.{Endpoint}
+use Rattle.legal.specs.message.Good.{is_write}
+use Rattle.legal.specs.message.declared.BlockRequest.{BlockRequest}
+use Rattle.legal.specs.message.declared.BlockReply.{BlockReply}
+use Rattle.legal.specs.message.declared.Incoming.{Incoming}
+use Rattle.legal.specs.message.declared.Incoming.TheVariants as incoming
+use Rattle.legal.specs.tree.declared.Who.{Who}
+use Rattle.legal.specs.tree.declared.Call.{Call}
+use Rattle.legal.specs.tree.Tree.{Tree}
+use Rattle.legal.specs.tree.Answers.{Answer}
+use Rattle.legal.specs.volume.Reading.{blocks_of}
+use Rattle.legal.specs.volume.Holds.{HoldsVolume}
+use Rattle.legal.specs.marks.Marks.{Mark, Fault, Started, Answered, Flush, GaveUp, Took, Issued, last_started, gave_up, is_endpoint}
+use Rattle.legal.specs.marks.Open.{open_requests, greatest, IsWellFormed, MayFollow, IsNew, IsAgain, IsIn, counts, with_id, without_id, moved_of, asked_by, moved_by, MissesAll}
+use Rattle.legal.specs.marks.Disk.{Contents, disk_after, unsure, HasTrueReplies, IsTrueAnswer, IsTrueOf, settles, byte_for, covers}
 use Rattle.legal.specs.Legal.{IsLegal, IsLegalTook, IsSynced, tree_after, tree_after_answer}
 use Rattle.legal.specs.View.{Frames, ReadsBack, server_view, frame_or}
 use Rattle.faultless.specs.Faultless.{without_faults, FaultsChangeNothing, LeaveSameMark}

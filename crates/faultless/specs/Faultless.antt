@@ -1,12 +1,12 @@
 -- The record of the server, which knows of no fault: that of a run without its faults.
 use Rattle.std.specs.Prelude.{◌≡◌, ℕ, List, [], ◌∷◌}
-use Rattle.layout.specs.declared.Geometry.{Geometry}
-use Rattle.tree.specs.Tree.{Tree}
-use Rattle.marks.specs.Marks.{Mark, Fault, Started, Answered, Flush, GaveUp, Took, Issued, last_started, gave_up}
-use Rattle.message.specs.declared.Incoming.{Incoming}
-use Rattle.marks.specs.Open.{open_requests, greatest, IsWellFormed}
-use Rattle.marks.specs.Told.{received}
-use Rattle.marks.specs.Disk.{Contents, disk_after, unsure, HasTrueReplies}
+use Rattle.legal.specs.layout.declared.Geometry.{Geometry}
+use Rattle.legal.specs.tree.Tree.{Tree}
+use Rattle.legal.specs.marks.Marks.{Mark, Fault, Started, Answered, Flush, GaveUp, Took, Issued, last_started, gave_up}
+use Rattle.legal.specs.message.declared.Incoming.{Incoming}
+use Rattle.legal.specs.marks.Open.{open_requests, greatest, IsWellFormed}
+use Rattle.legal.specs.marks.Told.{received}
+use Rattle.legal.specs.marks.Disk.{Contents, disk_after, unsure, HasTrueReplies}
 use Rattle.legal.specs.Legal.{IsLegal, tree_after}
 use Rattle.legal.specs.View.{Frames, ReadsBack}
 

@@ -2,9 +2,9 @@
 #![tactic(auto)]
 
 ghost use Rattle.std.specs.Prelude.{List};
-ghost use Rattle.message.specs.declared.BlockReply.{BlockReply};
-ghost use Rattle.message.specs.declared.Incoming.{Incoming};
-ghost use Rattle.marks.specs.Marks.{Mark};
+ghost use Rattle.legal.specs.message.declared.BlockReply.{BlockReply};
+ghost use Rattle.legal.specs.message.declared.Incoming.{Incoming};
+ghost use Rattle.legal.specs.marks.Marks.{Mark};
 ghost use Rattle.faultless.specs.Faultless.{FaultsChangeNothing, LeaveSameMark};
 
 /// A record without its faults says the same of requests, the disk and the tree, and what holds of it holds of the record.

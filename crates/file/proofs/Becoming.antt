@@ -4,24 +4,24 @@ use Rattle.std.specs.Prelude.{IsTrue, Some, None, ◌&&◌}
 use Rattle.std.proofs.lemmas.Bool.{cond-true, and_parts}
 use Rattle.layout.specs.declared.Geometry.{Geometry}
 use Rattle.layout.specs.Places.{IsGeometry}
-use Rattle.tree.specs.Sums.{put}
-use Rattle.tree.specs.Tree.{File}
-use Rattle.tree.specs.ZonesNeeded.{zones_needed}
-use Rattle.tree.specs.Space.{numbers_in_zone, zones_of, pages_of}
-use Rattle.tree.proofs.Maps.{put-same, put-other}
-use Rattle.volume.specs.declared.Inode.{Inode}
-use Rattle.volume.specs.Reading.{is_inode}
-use Rattle.volume.specs.Pieces.{Pieces}
-use Rattle.volume.specs.Nodes.{file_of, is_marked, is_mode, is_directory_mode, node_of, nodes_of}
-use Rattle.volume.specs.Entries.{is_directory_inode}
-use Rattle.volume.specs.Holds.{IsSound}
-use Rattle.volume_laws.proofs.Ranges.{marked_below}
-use Rattle.zone_laws.specs.Steps.{IsSoundBut, node_from, marked_in}
-use Rattle.zone_laws.specs.Raw.{Resizes}
-use Rattle.zone_laws.proofs.Keeps.{sound_but_is_sound}
-use Rattle.zone_laws.proofs.Stay.{resize_keeps}
-use Rattle.zone_laws.proofs.Files.{nodes_change_with}
-use Rattle.zone_laws.proofs.Counts.{marked_as_needed}
+use Rattle.store.specs.tree.Sums.{put}
+use Rattle.store.specs.tree.Tree.{File}
+use Rattle.store.specs.tree.ZonesNeeded.{zones_needed}
+use Rattle.store.specs.tree.Space.{numbers_in_zone, zones_of, pages_of}
+use Rattle.store.proofs.tree.Maps.{put-same, put-other}
+use Rattle.store.specs.volume.declared.Inode.{Inode}
+use Rattle.store.specs.volume.Reading.{is_inode}
+use Rattle.store.specs.volume.Pieces.{Pieces}
+use Rattle.store.specs.volume.Nodes.{file_of, is_marked, is_mode, is_directory_mode, node_of, nodes_of}
+use Rattle.store.specs.volume.Entries.{is_directory_inode}
+use Rattle.store.specs.volume.Holds.{IsSound}
+use Rattle.inode_table.proofs.volume_laws.Ranges.{marked_below}
+use Rattle.zone.specs.zone_laws.Steps.{IsSoundBut, node_from, marked_in}
+use Rattle.zone.specs.zone_laws.Raw.{Resizes}
+use Rattle.zone.proofs.zone_laws.Keeps.{sound_but_is_sound}
+use Rattle.zone.proofs.zone_laws.Stay.{resize_keeps}
+use Rattle.zone.proofs.zone_laws.Files.{nodes_change_with}
+use Rattle.zone.proofs.zone_laws.Counts.{marked_as_needed}
 use Rattle.file.specs.Changing.{MayChange, BecomesFile, file_at}
 
 -- The pieces with inode n a file, whatever it was: then its zones are those of its held pages.

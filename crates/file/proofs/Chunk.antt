@@ -5,28 +5,28 @@ use Rattle.std.specs.Prelude.{nat_lt, ◌&&◌, ◌==◌, if◌then◌else◌}
 use Rattle.std.proofs.lemmas.Bool.{cases_eq, cases_lt, cond-true, cond-false, lt-ltb, le-ltb, ne_eqb, and_from, or_left, or_right}
 use Rattle.std.proofs.lemmas.Nat.{div-add-mod', div-mul-add, mod-mul-add}
 use Rattle.layout.specs.declared.Geometry.{Geometry}
-use Rattle.tree.specs.Tree.{File}
-use Rattle.tree.specs.Sums.{put}
-use Rattle.tree.specs.Changes.{file_after_write}
-use Rattle.tree.specs.Space.{numbers_in_zone}
-use Rattle.tree.specs.ZonesNeeded.{page_limit}
-use Rattle.tree.proofs.Maps.{put-other}
-use Rattle.tree.proofs.Pages.{pages_fit}
-use Rattle.volume.specs.declared.Inode.{Inode}
-use Rattle.volume.specs.Reading.{Disk}
-use Rattle.volume.specs.Pieces.{Pieces, pieces}
-use Rattle.volume.specs.Nodes.{file_byte, page_byte, page_zone}
+use Rattle.store.specs.tree.Tree.{File}
+use Rattle.store.specs.tree.Sums.{put}
+use Rattle.store.specs.tree.Changes.{file_after_write}
+use Rattle.store.specs.tree.Space.{numbers_in_zone}
+use Rattle.store.specs.tree.ZonesNeeded.{page_limit}
+use Rattle.store.proofs.tree.Maps.{put-other}
+use Rattle.store.proofs.tree.Pages.{pages_fit}
+use Rattle.store.specs.volume.declared.Inode.{Inode}
+use Rattle.store.specs.volume.Reading.{Disk}
+use Rattle.store.specs.volume.Pieces.{Pieces, pieces}
+use Rattle.store.specs.volume.Nodes.{file_byte, page_byte, page_zone}
 use Rattle.store.specs.Rows.{with_bytes}
 use Rattle.store.proofs.Rows.{row_new, row_old}
-use Rattle.zone_laws.specs.Steps.{with_page}
-use Rattle.zone_laws.specs.Raw.{with_bytes as with_page_bytes}
-use Rattle.zone_laws.specs.Chunks.{grown, resized, Replaces}
-use Rattle.zone_laws.specs.Composite.{Attached}
-use Rattle.zone_laws.proofs.Chunks.{chunk_is_written}
-use Rattle.zone_laws.proofs.Fewer.{need_less}
-use Rattle.zone_laws.proofs.Missing.{page_takes_missing}
-use Rattle.zone_laws.proofs.Keeps.{weaker}
-use Rattle.zone_laws.proofs.Files.{same_file}
+use Rattle.zone.specs.zone_laws.Steps.{with_page}
+use Rattle.zone.specs.zone_laws.Raw.{with_bytes as with_page_bytes}
+use Rattle.zone.specs.zone_laws.Chunks.{grown, resized, Replaces}
+use Rattle.zone.specs.zone_laws.Composite.{Attached}
+use Rattle.zone.proofs.zone_laws.Chunks.{chunk_is_written}
+use Rattle.zone.proofs.zone_laws.Fewer.{need_less}
+use Rattle.zone.proofs.zone_laws.Missing.{page_takes_missing}
+use Rattle.zone.proofs.zone_laws.Keeps.{weaker}
+use Rattle.zone.proofs.zone_laws.Files.{same_file}
 use Rattle.zone.specs.Pages.{MayHold}
 use Rattle.zone.specs.Files.{AttachesPage}
 use Rattle.file.specs.Writing.{MayWrite, IsPageZone, PageIsWritten, WritesPage, with_chunk}

@@ -5,9 +5,9 @@ use Rattle.std.specs.Prelude.{nat_lt}
 use Rattle.std.proofs.lemmas.Bool.{cond-true, cases_lt, lt-ltb}
 use Rattle.std.proofs.lemmas.Nat.{div-add-mod', div-mul-add, mod-mul-add}
 use Rattle.layout.specs.declared.Geometry.{Geometry}
-use Rattle.volume.specs.declared.Inode.{Inode}
-use Rattle.volume.specs.Pieces.{Pieces}
-use Rattle.volume.specs.Nodes.{file_of, file_byte, page_byte, page_zone}
+use Rattle.store.specs.volume.declared.Inode.{Inode}
+use Rattle.store.specs.volume.Pieces.{Pieces}
+use Rattle.store.specs.volume.Nodes.{file_of, file_byte, page_byte, page_zone}
 use Rattle.store.specs.Rows.{HasBytes}
 use Rattle.file.specs.Reading.{HasFileBytes}
 use Rattle.file.proofs.Parts.{index_before, index_inside}

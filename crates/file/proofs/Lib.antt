@@ -1,3 +1,5 @@
+pub use Rattle.cutting.proofs as cutting
+pub use Rattle.zone.proofs.zone_laws as zone_laws
 pub mod Pages
 pub mod Parts
 pub mod Joined
@@ -8,5 +10,4 @@ pub mod Rest
 pub mod Resizing
 pub mod Chunk
 pub mod SoFar
-pub mod Touched
 pub mod Spaces

@@ -4,9 +4,9 @@ use Rattle.std.specs.Prelude.{IsTrue, ◌==◌, if◌then◌else◌, slice_index
 use Rattle.std.proofs.lemmas.Bool.{cond-false, ne_eqb}
 use Rattle.layout.specs.declared.Geometry.{Geometry}
 use Rattle.layout.specs.Places.{IsGeometry}
-use Rattle.volume.specs.Reading.{Disk, is_data_zone}
-use Rattle.volume.specs.Pieces.{pieces}
-use Rattle.volume.specs.Nodes.{page_byte}
+use Rattle.store.specs.volume.Reading.{Disk, is_data_zone}
+use Rattle.store.specs.volume.Pieces.{pieces}
+use Rattle.store.specs.volume.Nodes.{page_byte}
 use Rattle.store.specs.Rows.{HasBytes}
 use Rattle.zone.proofs.Frames.{zone_bounds, zone_row}
 

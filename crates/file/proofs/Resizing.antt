@@ -4,23 +4,23 @@ use mathlib.Core.Logic.{inl, inr}
 use Rattle.std.specs.Prelude.{IsTrue, nat_lt, ◌&&◌, ◌==◌, not}
 use Rattle.std.proofs.lemmas.Bool.{cases_lt, cond-true, cond-false, lt-ltb, le-ltb, ne_eqb, not_from_false}
 use Rattle.layout.specs.declared.Geometry.{Geometry}
-use Rattle.tree.specs.Tree.{File}
-use Rattle.tree.specs.Changes.{file_after_resize}
-use Rattle.tree.specs.Space.{pages_of}
-use Rattle.tree.proofs.Maps.{put-same, put-other}
-use Rattle.volume.specs.declared.Inode.{Inode}
-use Rattle.volume.specs.Reading.{Disk, is_inode}
-use Rattle.volume.specs.Pieces.{Pieces, pieces}
-use Rattle.volume.specs.Nodes.{file_of, page_zone, is_mode}
+use Rattle.store.specs.tree.Tree.{File}
+use Rattle.store.specs.tree.Changes.{file_after_resize}
+use Rattle.store.specs.tree.Space.{pages_of}
+use Rattle.store.proofs.tree.Maps.{put-same, put-other}
+use Rattle.store.specs.volume.declared.Inode.{Inode}
+use Rattle.store.specs.volume.Reading.{Disk, is_inode}
+use Rattle.store.specs.volume.Pieces.{Pieces, pieces}
+use Rattle.store.specs.volume.Nodes.{file_of, page_zone, is_mode}
 use Rattle.store.specs.Volume.{Alters}
 use Rattle.inode_table.specs.Table.{with_inode}
-use Rattle.zone_laws.specs.Raw.{Resizes}
-use Rattle.zone_laws.specs.Chunks.{resized}
-use Rattle.zone_laws.proofs.Full.{not_zero}
-use Rattle.zone_laws.proofs.Stay.{resized_file, resize_keeps}
-use Rattle.zone_laws.proofs.Files.{same_file}
-use Rattle.zone.specs.Files.{MayDetach, LetGo, DetachesFrom, cut_at}
-use Rattle.zone.proofs.Held.{inode_is}
+use Rattle.zone.specs.zone_laws.Raw.{Resizes}
+use Rattle.zone.specs.zone_laws.Chunks.{resized}
+use Rattle.zone.proofs.zone_laws.Full.{not_zero}
+use Rattle.zone.proofs.zone_laws.Stay.{resized_file, resize_keeps}
+use Rattle.zone.proofs.zone_laws.Files.{same_file}
+use Rattle.cutting.specs.Files.{MayDetach, LetGo, DetachesFrom, cut_at}
+use Rattle.zone.proofs.zone_laws.Inodes.{inode_is}
 use Rattle.file.specs.Changing.{MayChange, BecomesFile, file_at, IsPadded, PadsRest, MayResize, Resized, SetsSize, Stamps, stamped}
 use Rattle.file.proofs.Becoming.{becomes, becomes_again, may_change_after}
 use Rattle.file.proofs.Rest.{wide}

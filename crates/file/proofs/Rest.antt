@@ -9,13 +9,13 @@ use Rattle.std.proofs.Math.ListN.{take, drop, replicate, length-take}
 use Rattle.layout.specs.declared.Geometry.{Geometry}
 use Rattle.layout.specs.Places.{IsGeometry}
 use Rattle.layout.proofs.Parsed.{is_sized}
-use Rattle.volume.specs.declared.Inode.{Inode}
-use Rattle.volume.specs.Reading.{Disk}
-use Rattle.volume.specs.Pieces.{Pieces, pieces}
-use Rattle.volume.specs.Nodes.{file_byte, page_byte, page_zone, is_marked}
+use Rattle.store.specs.volume.declared.Inode.{Inode}
+use Rattle.store.specs.volume.Reading.{Disk}
+use Rattle.store.specs.volume.Pieces.{Pieces, pieces}
+use Rattle.store.specs.volume.Nodes.{file_byte, page_byte, page_zone, is_marked}
 use Rattle.store.specs.Rows.{with_bytes}
 use Rattle.store.proofs.Rows.{row_new, row_old}
-use Rattle.zone_laws.proofs.Files.{same_file}
+use Rattle.zone.proofs.zone_laws.Files.{same_file}
 use Rattle.file.specs.Writing.{MayWrite, IsPageZone, PageIsWritten, WritesPage, with_chunk}
 use Rattle.file.specs.Changing.{MayChange, BecomesFile, file_at, IsPadded, PadsRest}
 use Rattle.file.proofs.Becoming.{becomes}
@@ -147,7 +147,7 @@ module _ (g : Geometry) (d f : Disk) (n z from p : ℕ) (i : Inode) (zeros : Lis
 
     is_padded : IsPadded g w n
     is_padded q past held =
-        let marked : IsTrue (is_marked g w n) = ap (λ (x : ℕ → Bool). Rattle.volume.specs.Reading.is_inode g n && x n) done.writes.marks ∙ may.marked in
+        let marked : IsTrue (is_marked g w n) = ap (λ (x : ℕ → Bool). Rattle.store.specs.volume.Reading.is_inode g n && x n) done.writes.marks ∙ may.marked in
         let now : MayChange g w n = record { geometry = may.geometry; marked = marked; rules = done.rules } in
         let before = held_begins g w n q now held in
         let fit = wide g may.geometry in

@@ -6,18 +6,18 @@ use Rattle.std.proofs.lemmas.Bool.{cases_eq, cases_lt, cond-true, cond-false, lt
 use Rattle.std.proofs.lemmas.List.{take-append-drop, take_all}
 use Rattle.std.proofs.Math.ListN.{take, drop, length-take}
 use Rattle.layout.specs.declared.Geometry.{Geometry}
-use Rattle.tree.specs.Tree.{File}
-use Rattle.tree.specs.Changes.{file_after_write}
+use Rattle.store.specs.tree.Tree.{File}
+use Rattle.store.specs.tree.Changes.{file_after_write}
 use Rattle.std.proofs.Math.Seq.{take-add}
-use Rattle.tree.specs.Space.{numbers_in_zone}
-use Rattle.tree.specs.ZonesNeeded.{zones_needed}
-use Rattle.volume.specs.declared.Inode.{Inode}
-use Rattle.volume.specs.Reading.{Disk}
-use Rattle.volume.specs.Pieces.{Pieces, pieces}
-use Rattle.zone_laws.specs.Chunks.{grown, resized}
-use Rattle.zone_laws.proofs.Chunks.{writes_join}
-use Rattle.zone_laws.proofs.Fewer.{need_less}
-use Rattle.zone_laws.proofs.Files.{same_file}
+use Rattle.store.specs.tree.Space.{numbers_in_zone}
+use Rattle.store.specs.tree.ZonesNeeded.{zones_needed}
+use Rattle.store.specs.volume.declared.Inode.{Inode}
+use Rattle.store.specs.volume.Reading.{Disk}
+use Rattle.store.specs.volume.Pieces.{Pieces, pieces}
+use Rattle.zone.specs.zone_laws.Chunks.{grown, resized}
+use Rattle.zone.proofs.zone_laws.Chunks.{writes_join}
+use Rattle.zone.proofs.zone_laws.Fewer.{need_less}
+use Rattle.zone.proofs.zone_laws.Files.{same_file}
 use Rattle.file.specs.Changing.{MayChange, BecomesFile, file_at, written_at, MayWriteAt, MayWriteInside, WritesInside, WritesAt, MayResize, Resized, Grows}
 use Rattle.file.proofs.Becoming.{becomes_again, may_change_after}
 use Rattle.file.proofs.Rest.{wide, becomes_none}

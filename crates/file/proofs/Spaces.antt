@@ -4,22 +4,22 @@ use mathlib.Core.Logic.{inl, inr}
 use Rattle.std.specs.Prelude.{slice_index, Some, take}
 use Rattle.std.proofs.lemmas.Bool.{cases_eq, cases_lt, cond-true, cond-false, lt-ltb, le-ltb}
 use Rattle.layout.specs.declared.Geometry.{Geometry}
-use Rattle.tree.specs.Sums.{put, sum_below}
-use Rattle.tree.specs.Tree.{Node}
-use Rattle.tree.specs.FileCalls.{bytes_from}
-use Rattle.tree.specs.ZonesNeeded.{zones_needed}
-use Rattle.tree.specs.Space.{numbers_in_zone, zones_of}
-use Rattle.tree.proofs.Maps.{put-same, put-other, same_sum, sum_put}
-use Rattle.volume.specs.Pieces.{Pieces}
-use Rattle.volume.specs.declared.Inode.{Inode}
-use Rattle.volume.specs.Nodes.{file_of, nodes_of}
-use Rattle.volume_laws.proofs.Ranges.{marked_below}
-use Rattle.zone_laws.specs.Steps.{node_from, marked_in}
-use Rattle.zone_laws.specs.Room.{taken_by}
-use Rattle.zone_laws.proofs.Room.{nodes_take_marked}
-use Rattle.zone_laws.proofs.Files.{nodes_change_with}
-use Rattle.zone_laws.proofs.Keeps.{sound_is_sound_but}
-use Rattle.file.specs.Laws.{BytesAreRead, NodeTakesHeld, RoomIsSpace, RoomBesideIsSpace}
+use Rattle.store.specs.tree.Sums.{put, sum_below}
+use Rattle.store.specs.tree.Tree.{Node}
+use Rattle.store.specs.tree.FileCalls.{bytes_from}
+use Rattle.store.specs.tree.ZonesNeeded.{zones_needed}
+use Rattle.store.specs.tree.Space.{numbers_in_zone, zones_of}
+use Rattle.store.proofs.tree.Maps.{put-same, put-other, same_sum, sum_put}
+use Rattle.store.specs.volume.Pieces.{Pieces}
+use Rattle.store.specs.volume.declared.Inode.{Inode}
+use Rattle.store.specs.volume.Nodes.{file_of, nodes_of}
+use Rattle.inode_table.proofs.volume_laws.Ranges.{marked_below}
+use Rattle.zone.specs.zone_laws.Steps.{node_from, marked_in}
+use Rattle.zone.specs.zone_laws.Room.{taken_by}
+use Rattle.zone.proofs.zone_laws.Room.{nodes_take_marked}
+use Rattle.zone.proofs.zone_laws.Files.{nodes_change_with}
+use Rattle.zone.proofs.zone_laws.Keeps.{sound_is_sound_but}
+use Rattle.file.specs.Laws.{BytesAreRead, NodeTakesHeld, RoomIsSpace}
 use Rattle.file.specs.Reading.{read_count}
 use Rattle.file.proofs.Becoming.{plain, plain_inode, plain_sound, plain_takes}
 
@@ -42,7 +42,7 @@ pub bytes_are_read : BytesAreRead
 bytes_are_read f at bytes h = firsts f.byte (read_count f.size at (length bytes)) at bytes (count_room f.size at (length bytes)) h
 
 -- the zones of the nodes, where one is another
-put_taken : (g : Geometry) (v : Pieces) (n : ℕ) (x : Node) → n < g.inodes + 1
+pub put_taken : (g : Geometry) (v : Pieces) (n : ℕ) (x : Node) → n < g.inodes + 1
     → taken_by g (put (nodes_of g v) n (Some x)) + zones_of g (nodes_of g v n) ≡ taken_by g (nodes_of g v) + zones_of g (Some x)
 put_taken g v n x low =
     let h : ℕ → ℕ = λ m. zones_of g (nodes_of g v m) in
@@ -69,15 +69,10 @@ node_takes_held g v n ok s is =
     let marked : marked_in g w ≡ marked_in g v = refl in
     omega (arith, all, plain_all, whole, takes, same, marked)
 
-pub room_beside_is_space : RoomBesideIsSpace
-room_beside_is_space g v n x held others ok s is same =
+pub room_is_space : RoomIsSpace
+room_is_space g v n x held ok s is same =
     let all = nodes_take_marked g v ok s in
     let here = node_takes_held g v n ok s is in
     let then_ : zones_of g (Some x) ≡ zones_needed (numbers_in_zone g) held = ap (zones_needed (numbers_in_zone g)) same in
     let whole = put_taken g v n x (marked_below g v n is) in
     (λ fits. omega (arith, fits, all, here, then_, whole), λ room. omega (arith, room, all, here, then_, whole))
-
-pub room_is_space : RoomIsSpace
-room_is_space g v n x held ok s is same =
-    let both = room_beside_is_space g v n x held 0 ok s is same in
-    (λ fits. let room = both.0 (omega (arith, fits)) in omega (arith, room), λ room. let fits = both.1 (omega (arith, room)) in omega (arith, fits))

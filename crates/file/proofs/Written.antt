@@ -2,18 +2,18 @@
 use Rattle.std.proofs.Common.{◌≡◌, ◌≢◌, ℕ, List, sym, ap, ◌∙◌}
 use Rattle.std.specs.Prelude.{IsTrue, Some}
 use Rattle.layout.specs.declared.Geometry.{Geometry}
-use Rattle.tree.specs.Sums.{put}
-use Rattle.tree.proofs.Maps.{put-same, put-other}
-use Rattle.volume.specs.Reading.{Disk, is_data_zone}
-use Rattle.volume.specs.Pieces.{Pieces, pieces}
-use Rattle.volume.specs.Nodes.{file_of, is_marked, nodes_of}
+use Rattle.store.specs.tree.Sums.{put}
+use Rattle.store.proofs.tree.Maps.{put-same, put-other}
+use Rattle.store.specs.volume.Reading.{Disk, is_data_zone}
+use Rattle.store.specs.volume.Pieces.{Pieces, pieces}
+use Rattle.store.specs.volume.Nodes.{file_of, is_marked, nodes_of}
 use Rattle.store.specs.Rows.{with_bytes}
 use Rattle.store.specs.Volume.{Alters}
-use Rattle.regions.specs.Regions.{with_zone}
-use Rattle.zone_laws.specs.Steps.{SameInodes, node_from}
-use Rattle.zone_laws.specs.Raw.{Writes, with_bytes as with_page_bytes}
-use Rattle.zone_laws.proofs.Stay.{written_file, write_keeps, write_keeps_files, write_keeps_numbers, places_stay}
-use Rattle.zone_laws.proofs.Files.{nodes_change_at}
+use Rattle.inode_table.specs.regions.Regions.{with_zone}
+use Rattle.zone.specs.zone_laws.Steps.{SameInodes, node_from}
+use Rattle.zone.specs.zone_laws.Raw.{Writes, with_bytes as with_page_bytes}
+use Rattle.zone.proofs.zone_laws.Stay.{written_file, write_keeps, write_keeps_files, write_keeps_numbers, places_stay}
+use Rattle.zone.proofs.zone_laws.Files.{nodes_change_at}
 use Rattle.file.specs.Writing.{MayWrite, IsPageZone, with_chunk, PageIsWritten, WritesPage}
 
 -- a zone in which a page lies is a data zone

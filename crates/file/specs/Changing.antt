@@ -2,18 +2,18 @@
 use Rattle.std.specs.Prelude.{◌≡◌, ◌≢◌, ◌≤◌, ◌<◌, ℕ, ◌+◌, ◌/◌, ◌%◌, List, length, Bool, Some, IsTrue}
 use Rattle.layout.specs.declared.Geometry.{Geometry}
 use Rattle.layout.specs.Places.{IsGeometry}
-use Rattle.tree.specs.Sums.{put}
-use Rattle.tree.specs.Tree.{File}
-use Rattle.tree.specs.Changes.{file_after_write, file_after_resize}
-use Rattle.tree.specs.ZonesNeeded.{zones_needed}
-use Rattle.tree.specs.Space.{numbers_in_zone, data_zones, pages_of}
-use Rattle.volume.specs.declared.Inode.{Inode}
-use Rattle.volume.specs.Reading.{Disk}
-use Rattle.volume.specs.Pieces.{Pieces, pieces}
-use Rattle.volume.specs.Nodes.{file_of, is_marked, nodes_of, page_zone}
-use Rattle.zone_laws.specs.Steps.{IsSoundBut, node_from, marked_in}
-use Rattle.zone_laws.specs.Chunks.{grown, resized}
-use Rattle.zone.specs.Pages.{SameHead}
+use Rattle.store.specs.tree.Sums.{put}
+use Rattle.store.specs.tree.Tree.{File}
+use Rattle.store.specs.tree.Changes.{file_after_write, file_after_resize}
+use Rattle.store.specs.tree.ZonesNeeded.{zones_needed}
+use Rattle.store.specs.tree.Space.{numbers_in_zone, data_zones, pages_of}
+use Rattle.store.specs.volume.declared.Inode.{Inode}
+use Rattle.store.specs.volume.Reading.{Disk}
+use Rattle.store.specs.volume.Pieces.{Pieces, pieces}
+use Rattle.store.specs.volume.Nodes.{file_of, is_marked, nodes_of, page_zone}
+use Rattle.zone.specs.zone_laws.Steps.{IsSoundBut, node_from, marked_in}
+use Rattle.zone.specs.zone_laws.Chunks.{grown, resized}
+use Rattle.store.specs.Volume.{SameHead}
 
 -- a marked inode of a volume of which directory n may be out of order
 pub record MayChange (g : Geometry) (v : Pieces) (n : ℕ) : Type 0 where

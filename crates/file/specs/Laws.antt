@@ -2,18 +2,17 @@
 use Rattle.std.specs.Prelude.{◌≡◌, ◌↔◌, ◌≤◌, ℕ, ◌+◌, List, length, take, Bool, Some, IsTrue}
 use Rattle.layout.specs.declared.Geometry.{Geometry}
 use Rattle.layout.specs.Places.{IsGeometry}
-use Rattle.tree.specs.Sums.{put}
-use Rattle.tree.specs.Tree.{File, Node}
-use Rattle.tree.specs.FileCalls.{bytes_read}
-use Rattle.tree.specs.ZonesNeeded.{zones_needed}
-use Rattle.tree.specs.Space.{numbers_in_zone, data_zones, zones_of, held_of}
-use Rattle.volume.specs.Pieces.{Pieces}
-use Rattle.volume.specs.Nodes.{is_marked, nodes_of}
-use Rattle.volume.specs.Holds.{IsSound}
-use Rattle.zone_laws.specs.Room.{taken_by}
+use Rattle.store.specs.tree.Sums.{put}
+use Rattle.store.specs.tree.Tree.{File, Node}
+use Rattle.store.specs.tree.FileCalls.{bytes_read}
+use Rattle.store.specs.tree.ZonesNeeded.{zones_needed}
+use Rattle.store.specs.tree.Space.{numbers_in_zone, data_zones, zones_of, held_of}
+use Rattle.store.specs.volume.Pieces.{Pieces}
+use Rattle.store.specs.volume.Nodes.{is_marked, nodes_of}
+use Rattle.store.specs.volume.Holds.{IsSound}
+use Rattle.zone.specs.zone_laws.Room.{taken_by}
 use Rattle.file.specs.Reading.{HasFileBytes, read_count}
 use Rattle.file.specs.Changing.{file_at, HasZonesFor}
-use Rattle.file.specs.Room.{HasZonesBeside}
 
 -- The bytes that were read into a slice are those that a read of as many bytes as it is long gives.
 abbrev pub BytesAreRead : Type 0
@@ -29,8 +28,3 @@ NodeTakesHeld = (g : Geometry) (v : Pieces) (n : ℕ) → IsGeometry g → IsSou
 abbrev pub RoomIsSpace : Type 0
 RoomIsSpace = (g : Geometry) (v : Pieces) (n : ℕ) (x : Node) (held : ℕ → Bool) → IsGeometry g → IsSound g v → IsTrue (is_marked g v n)
     → held_of g x.body ≡ held → (taken_by g (put (nodes_of g v) n (Some x)) ≤ data_zones g) ↔ HasZonesFor g v n held
-
--- The nodes with another at n fit with other zones beside exactly where there are zones enough for that node's pages and for those.
-abbrev pub RoomBesideIsSpace : Type 0
-RoomBesideIsSpace = (g : Geometry) (v : Pieces) (n : ℕ) (x : Node) (held : ℕ → Bool) (others : ℕ) → IsGeometry g → IsSound g v → IsTrue (is_marked g v n)
-    → held_of g x.body ≡ held → (taken_by g (put (nodes_of g v) n (Some x)) + others ≤ data_zones g) ↔ HasZonesBeside g v n others held

@@ -1,6 +1,7 @@
 -- What reading and writing files means.
+pub use Rattle.cutting.specs as cutting
+pub use Rattle.zone.specs.zone_laws as zone_laws
 pub mod Reading
 pub mod Writing
 pub mod Changing
-pub mod Room
 pub mod Laws

@@ -1,6 +1,6 @@
 -- What a read of a file gives.
 use Rattle.std.specs.Prelude.{◌≡◌, ℕ, ◌+◌, ◌-◌, ◌<◌, List, slice_index, nat_lt, if◌then◌else◌}
-use Rattle.tree.specs.Tree.{File}
+use Rattle.store.specs.tree.Tree.{File}
 
 -- how many bytes are read at a place: those up to the end of the file, or as many as there is room for
 abbrev pub read_count : ℕ → ℕ → ℕ → ℕ

@@ -2,15 +2,15 @@
 use Rattle.std.specs.Prelude.{◌≡◌, ◌≢◌, ℕ, List, Some, IsTrue}
 use Rattle.layout.specs.declared.Geometry.{Geometry}
 use Rattle.layout.specs.Places.{IsGeometry}
-use Rattle.tree.specs.Sums.{put}
-use Rattle.tree.specs.Tree.{File}
-use Rattle.volume.specs.Reading.{Disk}
-use Rattle.volume.specs.Pieces.{Pieces, pieces}
-use Rattle.volume.specs.Nodes.{file_of, is_marked, nodes_of, page_zone}
+use Rattle.store.specs.tree.Sums.{put}
+use Rattle.store.specs.tree.Tree.{File}
+use Rattle.store.specs.volume.Reading.{Disk}
+use Rattle.store.specs.volume.Pieces.{Pieces, pieces}
+use Rattle.store.specs.volume.Nodes.{file_of, is_marked, nodes_of, page_zone}
 use Rattle.store.specs.Rows.{with_bytes}
-use Rattle.zone_laws.specs.Steps.{IsSoundBut, node_from}
-use Rattle.zone_laws.specs.Raw.{Writes, with_bytes as with_page_bytes}
-use Rattle.zone.specs.Pages.{SameHead}
+use Rattle.zone.specs.zone_laws.Steps.{IsSoundBut, node_from}
+use Rattle.zone.specs.zone_laws.Raw.{Writes, with_bytes as with_page_bytes}
+use Rattle.store.specs.Volume.{SameHead}
 
 -- page p of a marked inode lies in this zone, of a volume of which directory n may be out of order
 pub record MayWrite (g : Geometry) (v : Pieces) (n p z : ℕ) : Type 0 where

@@ -1,20 +1,21 @@
 //! The bytes of files, changed: writes of any length, and sizes.
 
 ghost use Rattle.std.specs.Prelude.{◌≡◌, ◌≤◌, ◌<◌, ◌+◌, ◌/◌, ◌%◌, length, IfErr, IsTrue};
-ghost use Rattle.tree.specs.Space.{pages_of};
+ghost use Rattle.store.specs.tree.Space.{pages_of};
 ghost use Rattle.layout.specs.Places.{IsGeometry};
-ghost use Rattle.volume.specs.Pieces.{pieces};
-ghost use Rattle.volume.specs.Reading.{is_inode};
+ghost use Rattle.store.specs.volume.Pieces.{pieces};
+ghost use Rattle.store.specs.volume.Reading.{is_inode};
 ghost use Rattle.store.specs.World.{Turns, Reads};
 ghost use Rattle.store.specs.Halts.{Ends, IsHalt};
 ghost use Rattle.store.specs.Volume.{IsOn};
 ghost use Rattle.file.specs.Changing.{MayChange, MayWriteAt, WritesAt, MayWriteInside, WritesInside, MayResize, Resized, SetsSize, PadsRest, Stamps, Grows};
 
 use crate::writing::write_page;
+use cutting::detach_from;
 use inode_table::{load, store};
 use layout::Geometry;
 use store::{Blocks, Halt};
-use zone::pages::{attach, detach_from};
+use zone::pages::attach;
 use zone::places::lookup;
 
 /// Makes the bytes zeros that stand in the last page behind the end of a file.

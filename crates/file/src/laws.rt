@@ -1,6 +1,6 @@
 //! Laws that lead from this layer to the client calls, each a function whose contract is the law.
 
-ghost use Rattle.file.specs.Laws.{BytesAreRead, NodeTakesHeld, RoomIsSpace, RoomBesideIsSpace};
+ghost use Rattle.file.specs.Laws.{BytesAreRead, NodeTakesHeld, RoomIsSpace};
 
 /// What `read_at` leaves in the slice is what a client's read of as many bytes gives.
 pub fn bytes_are_read()
@@ -15,10 +15,4 @@ pub fn node_takes_held()
 /// There are zones enough for a node's pages exactly where the nodes fit with it in the other's place.
 pub fn room_is_space()
     ensures { RoomIsSpace }
-{}
-
-/// There are zones enough for a node's pages and for others beside exactly where the nodes fit with it in the other's place, and
-/// those others too.
-pub fn room_beside_is_space()
-    ensures { RoomBesideIsSpace }
 {}

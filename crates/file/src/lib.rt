@@ -4,10 +4,8 @@
 pub mod changing;
 pub mod laws;
 pub mod reading;
-pub mod room;
 pub mod writing;
 
 pub use changing::{set_size, stamp, write_at};
 pub use reading::read_at;
-pub use room::{has_room, has_room_beside, zones_for};
 pub use writing::write_page;

@@ -1,8 +1,8 @@
 //! The bytes of files, read.
 
 ghost use Rattle.std.specs.Prelude.{◌≡◌, ◌<◌, ◌≤◌, ◌+◌, ◌-◌, ◌*◌, ◌/◌, ◌%◌, ℕ, length, slice_index, IfErr, IfOk, OnOk, OnErr};
-ghost use Rattle.volume.specs.Pieces.{pieces};
-ghost use Rattle.volume.specs.Nodes.{file_of, page_byte, page_zone};
+ghost use Rattle.store.specs.volume.Pieces.{pieces};
+ghost use Rattle.store.specs.volume.Nodes.{file_of, page_byte, page_zone};
 ghost use Rattle.store.specs.World.{Reads};
 ghost use Rattle.store.specs.Rows.{HasBytes};
 ghost use Rattle.store.specs.Volume.{IsOn};

@@ -1,7 +1,7 @@
 //! The bytes of files, written.
 
 ghost use Rattle.std.specs.Prelude.{◌≤◌, ◌+◌, ℕ, length, IfErr};
-ghost use Rattle.volume.specs.Pieces.{pieces};
+ghost use Rattle.store.specs.volume.Pieces.{pieces};
 ghost use Rattle.store.specs.World.{Turns};
 ghost use Rattle.store.specs.Halts.{Ends, IsHalt};
 ghost use Rattle.store.specs.Volume.{IsOn};

@@ -1,11 +1,5 @@
-//! Rows of the bytes of files, over blocks in memory: each expected value is worked out by hand from the format.
+//! Rows of files that are written and made longer or shorter, over blocks in memory: each expected value is worked out by hand from the format.
 #![tactic(auto)]
 
-#[cfg(test)]
-mod calls;
-#[cfg(test)]
-mod reads;
-#[cfg(test)]
-mod volumes;
 #[cfg(test)]
 mod writes;

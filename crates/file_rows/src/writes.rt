@@ -2,10 +2,9 @@
 //! pages 0 to 6 are direct, 7 to 262 single, 263 to 65798 double, and the others triple; of 2048 bytes the last are 518 and 262662,
 //! of 4096 bytes 1030 and 1049606.
 
-use crate::volumes::{Volume, empty, large, middle, small};
+use file_samples::volumes::{Volume, empty, large, middle, small};
 use std::process::Abort;
 use std::test::Fail;
-use store::Halt;
 
 /// It holds. (In a function of its own: a comparison in one that owns a volume costs its proof some seconds.)
 fn holds(rt: &impl Abort, it: bool) {
@@ -145,24 +144,6 @@ fn over_the_end_of_the_direct_range(rt: HostRuntime) -> Result<(), Fail> {
     holds(&rt, volume.resizes(7168));
     holds(&rt, volume.has_free(57));
     holds(&rt, volume.reads(7166, b"wX"));
-    Ok(())
-}
-
-#[test]
-fn zones_for_all_bytes_or_for_none(rt: HostRuntime) -> Result<(), Fail> {
-    let mut volume = Volume::new(empty(rt.alloc(), 1024, 6)?);
-    // 57 pages and the single's block are the 58 zones
-    holds(&rt, volume.fits(0, 58368) == Some(Ok(true)));
-    holds(&rt, volume.fits(0, 58369) == Some(Ok(false)));
-    holds(&rt, volume.fits(2147418111, 65536) == Some(Ok(false)));
-    let bytes = vec![in rt.alloc(); 0x61u8; 58368]?;
-    holds(&rt, volume.writes(0, &bytes));
-    holds(&rt, volume.has_free(0));
-    holds(&rt, volume.reads(58366, b"aa"));
-    // what is held takes none
-    holds(&rt, volume.fits(0, 58368) == Some(Ok(true)));
-    holds(&rt, volume.fits(58367, 2) == Some(Ok(false)));
-    assert_eq!(rt; volume.write(58367, b"bb"), Some(Err(Halt::Unsound)));
     Ok(())
 }
 

@@ -1,11 +1,11 @@
 -- A server stands through what is done at its link between two calls, through messages and calls.
 use Rattle.std.proofs.Common.{◌≡◌, ◌∙◌, sym, subst, List, ◌∷◌}
-use Rattle.layout.specs.declared.Geometry.{Geometry}
+use Rattle.tree.specs.layout.declared.Geometry.{Geometry}
 use Rattle.tree.specs.Tree.{Tree}
-use Rattle.marks.specs.Marks.{Mark, Took}
-use Rattle.marks.specs.Disk.{Contents}
-use Rattle.marks.specs.Opening.{contents_at}
-use Rattle.marks.specs.Acts.{Outbox, IsAtRest, marks_after}
+use Rattle.reissue.specs.marks.Marks.{Mark, Took}
+use Rattle.reissue.specs.marks.Disk.{Contents}
+use Rattle.reissue.specs.marks.Opening.{contents_at}
+use Rattle.reissue.specs.marks.Acts.{Outbox, IsAtRest, marks_after}
 use Rattle.legal.specs.Legal.{IsLegal, tree_after}
 use Rattle.legal.specs.View.{Frames, ReadsBack}
 use Rattle.legal.specs.ServerCall.{Serving, Serves, HasTree, has_open_file}

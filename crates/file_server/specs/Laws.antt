@@ -5,10 +5,10 @@ use Rattle.tree.specs.declared.Who.{Who}
 use Rattle.tree.specs.declared.Call.{Call}
 use Rattle.tree.specs.Tree.{Tree}
 use Rattle.tree.specs.Answers.{Answer}
-use Rattle.marks.specs.Marks.{Mark, Took}
-use Rattle.marks.specs.Opening.{Opening}
-use Rattle.marks.specs.Told.{received}
-use Rattle.marks.specs.Acts.{Absorbed, marks_after}
+use Rattle.reissue.specs.marks.Marks.{Mark, Took}
+use Rattle.reissue.specs.marks.Opening.{Opening}
+use Rattle.reissue.specs.marks.Told.{received}
+use Rattle.reissue.specs.marks.Acts.{Absorbed, marks_after}
 use Rattle.legal.specs.ServerCall.{Serving, Replied, Cut}
 use Rattle.reissue.specs.Calls.{Truth}
 use Rattle.file_server.specs.Over.{CallsOver, AbsorbsOver, SameServing, Stands, Hears}

@@ -3,10 +3,10 @@ use Rattle.std.specs.Prelude.{◌≡◌, ℕ, List, [], ◌∷◌, false, IsTrue
 use Rattle.tree.specs.declared.Who.{Who}
 use Rattle.tree.specs.declared.Call.{Call}
 use Rattle.tree.specs.Tree.{Tree}
-use Rattle.marks.specs.Marks.{Mark, gave_up}
-use Rattle.marks.specs.Opening.{Opening}
-use Rattle.marks.specs.Told.{Told, Received, took_end}
-use Rattle.marks.specs.Acts.{marks_after, needs_message}
+use Rattle.reissue.specs.marks.Marks.{Mark, gave_up}
+use Rattle.reissue.specs.marks.Opening.{Opening}
+use Rattle.reissue.specs.marks.Told.{Told, Received, took_end}
+use Rattle.reissue.specs.marks.Acts.{marks_after, needs_message}
 use Rattle.legal.specs.ServerCall.{Serving, Cut}
 use Rattle.reissue.specs.Calls.{Truth}
 use Rattle.file_server.specs.Over.{CallsOver, Stands}

@@ -7,11 +7,11 @@ use Rattle.tree.specs.declared.Outcome.{Outcome as TreeOutcome}
 use Rattle.tree.specs.declared.Outcome.TheVariants as tree
 use Rattle.tree.specs.Tree.{Tree}
 use Rattle.tree.specs.Answers.{answer_of}
-use Rattle.marks.specs.Marks.{Mark}
-use Rattle.marks.specs.Disk.{Contents}
-use Rattle.marks.specs.Opening.{Opening, contents_at}
-use Rattle.marks.specs.Told.{received}
-use Rattle.marks.specs.Acts.{Absorbed, marks_after}
+use Rattle.reissue.specs.marks.Marks.{Mark}
+use Rattle.reissue.specs.marks.Disk.{Contents}
+use Rattle.reissue.specs.marks.Opening.{Opening, contents_at}
+use Rattle.reissue.specs.marks.Told.{received}
+use Rattle.reissue.specs.marks.Acts.{Absorbed, marks_after}
 use Rattle.legal.specs.ServerCall.{Serving, Serves, Outcome, Replied, Cut, CallKeeps, AbsorbKeeps}
 use Rattle.reissue.specs.Calls.{Truth}
 
@@ -39,6 +39,7 @@ pub record SameServing (old new : Serving) : Type 0 where
   pub minor : new.minor ≡ old.minor
   pub agrees : (image : Contents) (tree : Tree) (marks : List Mark) → old.Agrees image tree marks → new.Agrees image tree marks
   pub frames : new.frames ≡ old.frames
+  pub frame_count : new.frame_count ≡ old.frame_count
   pub outbox : new.outbox ≡ old.outbox
   pub is_busy : new.is_busy ≡ old.is_busy
   pub told : new.told ≡ old.told

@@ -7,8 +7,8 @@ ghost use Rattle.cache.specs.Calls.{LinkGoesOn, WantsFlush};
 ghost use Rattle.reissue.specs.Transfers.{begun_in};
 ghost use Rattle.cache.specs.Calls.{messages_left};
 ghost use Rattle.cache.specs.Takes.{NoReadBegun};
-ghost use Rattle.cache.specs.Edits.{AllClean, SomeUnclean};
-ghost use Rattle.cache.specs.declared.slots.Frame.{Frame};
+ghost use Rattle.cache.specs.slots.Edits.{AllClean, SomeUnclean};
+ghost use Rattle.cache.specs.declared.frame.Frame.{Frame};
 ghost use Rattle.flusher.specs.Flushing.{WritesLowest, IsIdle, Syncs};
 
 use cache::{Cache, Cut};

@@ -1,7 +1,7 @@
 //! Messages for a link that answers from a list, and what such a link was told.
 use endpoint::{DISK_DRIVER, Endpoint};
-use inline::note::Note;
 use list_link::ListLink;
+use list_link::note::Note;
 use message::{BlockReply, BlockRequest, Incoming, Kind};
 use std::alloc::{AllocError, Global};
 

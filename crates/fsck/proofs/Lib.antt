@@ -1,2 +1,3 @@
+pub use Rattle.layout.proofs as layout
 pub mod Firsts
 pub mod Trees

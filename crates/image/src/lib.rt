@@ -25,7 +25,7 @@ pub struct Image<'a> {
 static BLANK: [u8; 64] = [0; 64];
 
 impl<'a> Image<'a> {
-    ghost use Rattle.tree.specs.Space.{numbers_in_zone, pages_of};
+    ghost use Rattle.volume.specs.tree.Space.{numbers_in_zone, pages_of};
     ghost use Rattle.volume.specs.Reading.{bit_in, is_data_zone, is_inode};
     ghost use Rattle.volume.specs.Nodes.{entry_count_of, file_byte, is_marked, last_block, number, page_zone, second_block};
     ghost use Rattle.volume.specs.Entries.{is_directory_inode};

@@ -1,5 +1,5 @@
+pub use Rattle.true_replies.proofs as true_replies
 pub mod Runs
 pub mod Going
 pub mod Opens
-pub mod NotesLaws
 pub mod LinkLaws

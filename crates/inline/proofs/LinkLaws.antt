@@ -6,10 +6,10 @@ use Rattle.endpoint.specs.declared.Endpoint.{Endpoint}
 use Rattle.message.specs.declared.BlockRequest.{BlockRequest}
 use Rattle.message.specs.declared.BlockReply.{BlockReply}
 use Rattle.message.specs.declared.Incoming.TheVariants as incoming
-use Rattle.marks.specs.Marks.{Mark, Started, Issued}
-use Rattle.marks.specs.Open.{MayFollow}
-use Rattle.marks.specs.Opening.{Opening, Fits, contents_at}
-use Rattle.marks.specs.Told.{received}
+use Rattle.true_replies.specs.marks.Marks.{Mark, Started, Issued}
+use Rattle.true_replies.specs.marks.Open.{MayFollow}
+use Rattle.true_replies.specs.marks.Opening.{Opening, Fits, contents_at}
+use Rattle.true_replies.specs.marks.Told.{received}
 use Rattle.media.specs.Contents.{MediaState, adopted}
 use Rattle.bdev.specs.DriverState.{DriverState}
 use Rattle.true_replies.specs.Posted.{driver_at}

@@ -2,8 +2,7 @@
 use Rattle.std.proofs.Common.{◌≡◌, ℕ, List, [], false, refl, arith, None}
 use Rattle.std.specs.Prelude.{All}
 use Rattle.endpoint.specs.declared.Endpoint.{Endpoint}
-use Rattle.message.specs.declared.BlockRequest.{BlockRequest}
-use Rattle.marks.specs.Opening.{Opening}
+use Rattle.true_replies.specs.marks.Opening.{Opening}
 use Rattle.media.specs.Contents.{MediaState}
 use Rattle.bdev.specs.DriverState.{DriverState, fresh}
 use Rattle.bdev.specs.Promises.{IsDriver}

@@ -1,5 +1,5 @@
 -- What a running driver comes to, and when nothing comes any more.
-use Rattle.std.specs.Prelude.{◌≡◌, ◌⊎◌, ℕ, ◌+◌, ◌<◌, List, Bool, true, Option, Some}
+use Rattle.std.specs.Prelude.{◌≡◌, ℕ, List, Option, Some}
 use Rattle.endpoint.specs.declared.Endpoint.{Endpoint}
 use Rattle.message.specs.declared.BlockRequest.{BlockRequest}
 use Rattle.message.specs.declared.BlockReply.{BlockReply}
@@ -43,8 +43,3 @@ pub record Spends (e : Endpoint) (b a : Running) : Type 0 where
   pub after : Machine
   pub goes : GoesOn e.generation (machine_of driver b) b.budget after
   pub now : a ≡ running_of after 0
-
--- why nothing comes any more: the link has ended, the device was given up, the budget is spent, or notes have no room (and no
--- memory was found for more)
-abbrev pub IsOver : Bool → Bool → ℕ → ℕ → ℕ → Type 0
-IsOver ended given_up budget capacity count = (ended ≡ true) ⊎ ((given_up ≡ true) ⊎ ((budget ≡ 0) ⊎ (capacity < count + 34)))

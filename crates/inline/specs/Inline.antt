@@ -2,8 +2,8 @@
 use Rattle.std.specs.Prelude.{◌≡◌, ℕ, List, All, Option, Some, is_some, IfSome}
 use Rattle.endpoint.specs.declared.Endpoint.{Endpoint}
 use Rattle.message.specs.declared.BlockRequest.{BlockRequest}
-use Rattle.marks.specs.Marks.{Mark}
-use Rattle.marks.specs.Opening.{Opening}
+use Rattle.true_replies.specs.marks.Marks.{Mark}
+use Rattle.true_replies.specs.marks.Opening.{Opening}
 use Rattle.media.specs.Contents.{MediaState}
 use Rattle.bdev.specs.DriverState.{DriverState, range_while_fresh}
 use Rattle.bdev.specs.Promises.{IsDriver}

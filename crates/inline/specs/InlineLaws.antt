@@ -2,8 +2,8 @@
 use Rattle.std.specs.Prelude.{ℕ, List, ◌∷◌, Option}
 use Rattle.endpoint.specs.declared.Endpoint.{Endpoint}
 use Rattle.message.specs.declared.BlockRequest.{BlockRequest}
-use Rattle.marks.specs.Marks.{Mark, ChangesNothing}
-use Rattle.marks.specs.Opening.{Opening, contents_at}
+use Rattle.true_replies.specs.marks.Marks.{Mark, ChangesNothing}
+use Rattle.true_replies.specs.marks.Opening.{Opening, contents_at}
 use Rattle.media.specs.Contents.{MediaState}
 use Rattle.bdev.specs.DriverState.{DriverState}
 use Rattle.true_replies.specs.State.{state_of}

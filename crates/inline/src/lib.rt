@@ -1,6 +1,5 @@
-//! What a link needs that runs its drivers itself: running one of them, and noting what the link was told and gave.
+//! What a link needs that runs its drivers itself: running one of them.
 #![tactic(auto)]
 
 pub mod local;
-pub mod note;
 pub mod running;

@@ -2,8 +2,8 @@
 
 ghost use Rattle.std.specs.Prelude.{◌≡◌, ◌<◌, ◌≤◌, List, drop, true};
 ghost use Rattle.std.specs.VecDeque.{deque_capacity};
-ghost use Rattle.marks.specs.Marks.{Mark};
-ghost use Rattle.marks.specs.Opening.{Opening};
+ghost use Rattle.true_replies.specs.marks.Marks.{Mark};
+ghost use Rattle.true_replies.specs.marks.Opening.{Opening};
 ghost use Rattle.media.specs.Contents.{MediaState};
 ghost use Rattle.inline.specs.Running.{Kept, StepLeaves, RunLeaves};
 ghost use Rattle.inline.specs.Steps.{Machine, HandsOver, StepsOnce, RunsTo};

@@ -7,7 +7,7 @@ use Rattle.std.proofs.lemmas.Bool.{cases_Bool, and_parts, eqb-true, ltb-true, lt
 use Rattle.std.proofs.Math.Nat.{zero-add}
 use Rattle.layout.specs.declared.Geometry.{Geometry}
 use Rattle.layout.proofs.Parsed.{block_sizes, geometry_fits}
-use Rattle.errno.specs.declared.Errno.TheVariants.{EINVAL, ENOENT}
+use Rattle.tree.specs.errno.declared.Errno.TheVariants.{EINVAL, ENOENT}
 use Rattle.tree.specs.declared.Who.{Who}
 use Rattle.tree.specs.declared.Call.TheVariants.{Stat}
 use Rattle.tree.specs.Tree.{Body, is_file, is_directory, Node, Tree, file_type, directory_type, mode_of, size_of, is_dir, most_sessions}

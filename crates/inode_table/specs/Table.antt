@@ -1,8 +1,8 @@
 -- The inode table of a volume.
 use Rattle.std.specs.Prelude.{ℕ}
-use Rattle.tree.specs.Sums.{put}
-use Rattle.volume.specs.declared.Inode.{Inode}
-use Rattle.volume.specs.Pieces.{Pieces}
+use Rattle.inode.specs.tree.Sums.{put}
+use Rattle.store.specs.volume.declared.Inode.{Inode}
+use Rattle.store.specs.volume.Pieces.{Pieces}
 
 -- pieces with this inode
 abbrev pub with_inode : Pieces → ℕ → Inode → Pieces

@@ -3,8 +3,8 @@
 
 ghost use Rattle.std.specs.Prelude.{◌≡◌, ◌≤◌, ◌<◌, ◌+◌, ◌↔◌, IfErr, IsErrOf, IsTrue, false};
 ghost use Rattle.layout.specs.Places.{IsGeometry};
-ghost use Rattle.volume.specs.Reading.{is_inode, inode_block, inode_offset};
-ghost use Rattle.volume.specs.Pieces.{pieces};
+ghost use Rattle.store.specs.volume.Reading.{is_inode, inode_block, inode_offset};
+ghost use Rattle.store.specs.volume.Pieces.{pieces};
 ghost use Rattle.store.specs.World.{Turns, Reads};
 ghost use Rattle.store.specs.Volume.{IsOn, Alters};
 ghost use Rattle.store.specs.Halts.{IsHalt, Ends};

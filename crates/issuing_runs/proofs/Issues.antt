@@ -2,26 +2,27 @@
 use Rattle.std.proofs.Common.{◌≡◌, ℕ, suc, ◌+◌, ◌<◌, ◌≤◌, List, [], ◌∷◌, ◌++◌, length, map, max, Bool, true, false, cond, refl, sym, ◌∙◌, ap, subst, arith, append_assoc}
 use Rattle.std.proofs.lemmas.Bool.Decides.{nat_tests}
 use Rattle.std.specs.Prelude.{Option, Some, None, Ok, Err, ◌&&◌, ◌||◌, not, ◌==◌, nat_lt, nat_le, is_some}
-use Rattle.endpoint.specs.declared.Endpoint.{Endpoint}
-use Rattle.message.specs.declared.BlockRequest.{BlockRequest}
-use Rattle.policy.specs.Watch.{driver}
-use Rattle.marks.specs.Marks.{Mark, Issued, gave_up, last_started}
-use Rattle.marks.specs.Open.{greatest, open_requests, has_none, without_id, IsIn}
-use Rattle.marks.specs.Laws.{IsRising}
-use Rattle.marks.specs.Acts.{Outbox, MayBegin, MayPost, IsAtRest, target, is_post_due, first_of}
-use Rattle.marks.proofs.OpenRequests.{open_below, open_new, open_again}
-use Rattle.faultless.proofs.FaultlessLaws.{faults_change_nothing}
-use Rattle.schedule.specs.declared.Event.{Event}
-use Rattle.schedule.specs.Groups.{Group, marks_of, generation, EachGroup}
-use Rattle.schedule.specs.Drivers.{has_ended}
-use Rattle.schedule.specs.Starts.{IssuesFollow, is_among_first, may_issue}
-use Rattle.reissue.specs.declared.link.LinkRefusal.{LinkRefusal}
-use Rattle.driver_events.specs.Disks.{Disks, LinesUp, NoneIsThere, LineIsFull, IsLinedUp, is_at, lined_up}
-use Rattle.justifying.specs.Core.{Core}
-use Rattle.justifying.specs.Happens.{Adds, Posts}
-use Rattle.justifying.specs.Steady.{SlotsSoFar}
-use Rattle.justifying.proofs.SlotLaws.{slots_kept}
-use Rattle.issuing_runs.specs.Issuing.{PlacedAsDue, FollowedAsDue}
+use Rattle.justified_runs.specs.endpoint.declared.Endpoint.{Endpoint}
+use Rattle.justified_runs.specs.message.declared.BlockRequest.{BlockRequest}
+use Rattle.justified_runs.specs.policy.Watch.{driver}
+use Rattle.justified_runs.specs.marks.Marks.{Mark, Issued, gave_up, last_started}
+use Rattle.justified_runs.specs.marks.Open.{greatest, open_requests, has_none, without_id, IsIn}
+use Rattle.justified_runs.specs.marks.Laws.{IsRising}
+use Rattle.justified_runs.specs.marks.Acts.{Outbox, MayBegin, MayPost, IsAtRest, target, is_post_due, first_of}
+use Rattle.justified_runs.proofs.marks.OpenRequests.{open_below, open_new, open_again}
+use Rattle.justified_runs.proofs.faultless.FaultlessLaws.{faults_change_nothing}
+use Rattle.justified_runs.specs.schedule.declared.Event.{Event}
+use Rattle.justified_runs.specs.schedule.Groups.{Group, marks_of, generation, EachGroup}
+use Rattle.justified_runs.specs.schedule.Drivers.{has_ended}
+use Rattle.justified_runs.specs.schedule.Starts.{IssuesFollow, is_among_first, may_issue}
+use Rattle.justified_runs.specs.reissue.declared.link.LinkRefusal.{LinkRefusal}
+use Rattle.justified_runs.specs.driver_events.Disks.{Disks, LinesUp, NoneIsThere, LineIsFull, IsLinedUp, is_at, lined_up}
+use Rattle.justified_runs.specs.justifying.Core.{Core}
+use Rattle.justified_runs.specs.justifying.Happens.{Adds, Posts}
+use Rattle.justified_runs.specs.justifying.Steady.{SlotsSoFar}
+use Rattle.justified_runs.proofs.justifying.SlotLaws.{slots_kept}
+use Rattle.justified_runs.specs.Said.{PlacedAsDue}
+use Rattle.issuing_runs.specs.Issuing.{FollowedAsDue}
 use Rattle.issuing_runs.proofs.OwingLaws.{served, IsCalm, is_quiet, with_began, with_posted, core_posted}
 use Rattle.issuing_runs.proofs.NumberLaws.{IsFrom, from_push, from_same, without_lower, without_first, length_push, one_first, FirstOut, first_out}
 use Rattle.issuing_runs.proofs.Starting.{follows_on, none_follow, quiet_placed, Within, adds_within, Numbers, adds_numbers, stays_placed, one_placed}

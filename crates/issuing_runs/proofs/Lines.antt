@@ -2,27 +2,27 @@
 use Rattle.std.proofs.Common.{◌≡◌, ℕ, zero, suc, ◌+◌, ◌<◌, ◌≤◌, List, [], ◌∷◌, ◌++◌, length, max, Bool, true, false, refl, sym, ◌∙◌, ap, subst, arith, inl, inr, append_assoc}
 use Rattle.std.proofs.lemmas.List.{append-nil}
 use Rattle.std.specs.Prelude.{Option, Some, None, IsSomeAnd, ◌==◌, nat_lt, slice_get}
-use Rattle.endpoint.specs.declared.Endpoint.{Endpoint}
-use Rattle.message.specs.declared.BlockRequest.{BlockRequest}
-use Rattle.message.specs.declared.BlockReply.{BlockReply}
-use Rattle.media.specs.Contents.{MediaState}
-use Rattle.bdev.specs.declared.Accept.{Accept}
-use Rattle.bdev.specs.declared.Accept.TheVariants.{Taken, Busy, Old}
-use Rattle.bdev.specs.declared.Step.{Step}
-use Rattle.bdev.specs.declared.Step.TheVariants.{Working, Idle, Done, Failed}
-use Rattle.bdev.specs.DriverState.{DriverState, Work}
-use Rattle.bdev.specs.Promises.{AcceptKeeps, MovesAtMostOne, StepsAt as DriverStepsAt}
-use Rattle.true_replies.specs.Events.{line_after}
-use Rattle.marks.specs.Marks.{Mark, Answered, Issued}
-use Rattle.marks.specs.Open.{greatest, open_requests, without_id, IsIn}
-use Rattle.marks.specs.Laws.{AllAbove, IsRising}
-use Rattle.marks.proofs.OpenRequests.{Below, cond_has, open_stays, in_push_old}
-use Rattle.schedule.specs.declared.Sent.{Sent}
-use Rattle.schedule.specs.Groups.{Each}
-use Rattle.inline.specs.Steps.{HandsOver}
-use Rattle.run_log.specs.declared.log.Post.{Post}
-use Rattle.driver_events.specs.Disks.{Disks, sent_at, Steps, NoStep, CurrentSteps, OlderSteps, Dies, NoneDies, CurrentDies, OlderDies, Hangs, NoneHangs, CurrentHangs, OlderHangs, LinesUpAgain, NoneLinesUp, CurrentLinesUp, OlderLinesUp, Repeats, lined_up, started}
-use Rattle.justifying.proofs.DiskMoves.{steps_generation, dies_generation}
+use Rattle.justified_runs.specs.endpoint.declared.Endpoint.{Endpoint}
+use Rattle.justified_runs.specs.message.declared.BlockRequest.{BlockRequest}
+use Rattle.justified_runs.specs.message.declared.BlockReply.{BlockReply}
+use Rattle.justified_runs.specs.media.Contents.{MediaState}
+use Rattle.justified_runs.specs.bdev.declared.Accept.{Accept}
+use Rattle.justified_runs.specs.bdev.declared.Accept.TheVariants.{Taken, Busy, Old}
+use Rattle.justified_runs.specs.bdev.declared.Step.{Step}
+use Rattle.justified_runs.specs.bdev.declared.Step.TheVariants.{Working, Idle, Done, Failed}
+use Rattle.justified_runs.specs.bdev.DriverState.{DriverState, Work}
+use Rattle.justified_runs.specs.bdev.Promises.{AcceptKeeps, MovesAtMostOne, StepsAt as DriverStepsAt}
+use Rattle.justified_runs.specs.true_replies.Events.{line_after}
+use Rattle.justified_runs.specs.marks.Marks.{Mark, Answered, Issued}
+use Rattle.justified_runs.specs.marks.Open.{greatest, open_requests, without_id, IsIn}
+use Rattle.justified_runs.specs.marks.Laws.{AllAbove, IsRising}
+use Rattle.justified_runs.proofs.marks.OpenRequests.{Below, cond_has, open_stays, in_push_old}
+use Rattle.justified_runs.specs.schedule.declared.Sent.{Sent}
+use Rattle.justified_runs.specs.schedule.Groups.{Each}
+use Rattle.justified_runs.specs.inline.Steps.{HandsOver}
+use Rattle.justified_runs.specs.run_log.declared.log.Post.{Post}
+use Rattle.justified_runs.specs.driver_events.Disks.{Disks, sent_at, Steps, NoStep, CurrentSteps, OlderSteps, Dies, NoneDies, CurrentDies, OlderDies, Hangs, NoneHangs, CurrentHangs, OlderHangs, LinesUpAgain, NoneLinesUp, CurrentLinesUp, OlderLinesUp, Repeats, lined_up, started}
+use Rattle.justified_runs.proofs.justifying.DiskMoves.{steps_generation, dies_generation}
 use Rattle.issuing_runs.proofs.NumberLaws.{IsFrom, length_push}
 use Rattle.issuing_runs.proofs.Issues.{AllOpen}
 

@@ -1,13 +1,13 @@
 -- Requests by their ids, and how many there are.
 use Rattle.std.proofs.Common.{◌≡◌, ℕ, suc, ◌+◌, ◌<◌, ◌≤◌, List, [], ◌∷◌, ◌++◌, length, Bool, true, false, cond, refl, sym, ◌∙◌, ap, subst, arith}
 use Rattle.std.specs.Prelude.{is_some, Option, Some, None, ◌==◌, ◌&&◌}
-use Rattle.message.specs.declared.BlockRequest.{BlockRequest}
-use Rattle.message.specs.declared.BlockReply.{BlockReply}
-use Rattle.marks.specs.Marks.{Mark, Answered}
-use Rattle.marks.specs.Open.{greatest, open_requests, without_id, with_id, moved_of, counts, IsIn}
-use Rattle.marks.specs.Acts.{without_answered, first_of}
-use Rattle.marks.proofs.OpenRequests.{cond_has, open_below, with_id_in}
-use Rattle.justifying.proofs.FollowLaws.{same_number, other_number}
+use Rattle.justified_runs.specs.message.declared.BlockRequest.{BlockRequest}
+use Rattle.justified_runs.specs.message.declared.BlockReply.{BlockReply}
+use Rattle.justified_runs.specs.marks.Marks.{Mark, Answered}
+use Rattle.justified_runs.specs.marks.Open.{greatest, open_requests, without_id, with_id, moved_of, counts, IsIn}
+use Rattle.justified_runs.specs.marks.Acts.{without_answered, first_of}
+use Rattle.justified_runs.proofs.marks.OpenRequests.{cond_has, open_below, with_id_in}
+use Rattle.justified_runs.proofs.justifying.FollowLaws.{same_number, other_number}
 
 -- these have the ids from n on, one after the other
 abbrev pub IsFrom : ℕ → List BlockRequest → Type 0

@@ -1,37 +1,37 @@
 -- What is said of the groups, of what stands and of what the server owes, each step of a run keeps.
 use Rattle.std.proofs.Common.{◌≡◌, ℕ, ◌+◌, List, [], ◌∷◌, ◌++◌, Bool, true, false, refl, sym, ◌∙◌, ap, subst}
 use Rattle.std.specs.Prelude.{◌&&◌, not, Option, Some, None, Result, Ok, Err, is_ok}
-use Rattle.endpoint.specs.declared.Endpoint.{Endpoint}
-use Rattle.message.specs.declared.BlockRequest.{BlockRequest}
-use Rattle.message.specs.declared.Incoming.{Incoming}
-use Rattle.message.specs.declared.Incoming.TheVariants as incoming
-use Rattle.tree.specs.Answers.{answer_of}
-use Rattle.policy.specs.declared.Event.TheVariants as policy
-use Rattle.policy.specs.Watch.{driver, on}
-use Rattle.marks.specs.Marks.{Mark, Started, GaveUp, Issued, Fault, Took, Answered, Flush}
-use Rattle.marks.specs.declared.Cause.TheVariants.{Complaint}
-use Rattle.marks.specs.Open.{without_id}
-use Rattle.marks.specs.Told.{Told, Posted, Complained, Received, took_nothing}
-use Rattle.marks.specs.Acts.{AtLink, Outbox, MayAct, MayBegin, MayPost, IsAtRest, is_post_due, owed_after_act, owed_after_message}
-use Rattle.faultless.specs.Faultless.{without_faults}
-use Rattle.faultless.proofs.FaultlessLaws.{leave_same_mark}
-use Rattle.schedule.specs.declared.Event.{Event}
-use Rattle.schedule.specs.Groups.{Group, marks_of}
-use Rattle.reissue.specs.declared.link.LinkRefusal.{LinkRefusal}
-use Rattle.run_log.specs.Noted.{Noted, marks_in, grouped, with_mark, with_entry}
-use Rattle.run_log.specs.declared.log.Post.{Post}
-use Rattle.run_log.specs.declared.log.Entry.TheVariants as entry
-use Rattle.run_log.proofs.NotedLaws.{message_in}
-use Rattle.driver_events.specs.declared.ruling.Ruling.{Ruling}
-use Rattle.driver_events.specs.Disks.{Disks, LinesUp}
-use Rattle.driver_events.specs.Kept.{with_next}
-use Rattle.driver_events.proofs.Keeping.{events_note_aside}
-use Rattle.playing.specs.PlayView.{Play, begun, PlaysNext, Advances, Stays, Goes, Turn, Takes, TakesOwed, TakesEnd, Posts, Complains, ComesToEnd, IsPlayedOut, IsStarved, noting, paid, ended, posted, complained}
-use Rattle.playing.specs.Moments.{is_busy, Moment, record_of, Step, Begins as StepBegins, Tells, Takes as StepTakes, Settles, Brings, BringsNone, Pays as StepPays, HandsCall, Replies as StepReplies, Runs, Starts, Then}
-use Rattle.justifying.specs.Core.{Core}
-use Rattle.justifying.specs.Seen.{core_at, with_brought, EventDone}
-use Rattle.justifying.specs.Happens.{AtReport, Begins, Adds, Replies, Complains as AddsComplaint, Pays}
-use Rattle.justifying.proofs.Events.{event_done, Reported, reported, ruling_for, record_of_groups}
+use Rattle.justified_runs.specs.endpoint.declared.Endpoint.{Endpoint}
+use Rattle.justified_runs.specs.message.declared.BlockRequest.{BlockRequest}
+use Rattle.justified_runs.specs.message.declared.Incoming.{Incoming}
+use Rattle.justified_runs.specs.message.declared.Incoming.TheVariants as incoming
+use Rattle.justified_runs.specs.tree.Answers.{answer_of}
+use Rattle.justified_runs.specs.policy.declared.Event.TheVariants as policy
+use Rattle.justified_runs.specs.policy.Watch.{driver, on}
+use Rattle.justified_runs.specs.marks.Marks.{Mark, Started, GaveUp, Issued, Fault, Took, Answered, Flush}
+use Rattle.justified_runs.specs.marks.declared.Cause.TheVariants.{Complaint}
+use Rattle.justified_runs.specs.marks.Open.{without_id}
+use Rattle.justified_runs.specs.marks.Told.{Told, Posted, Complained, Received, took_nothing}
+use Rattle.justified_runs.specs.marks.Acts.{AtLink, Outbox, MayAct, MayBegin, MayPost, IsAtRest, is_post_due, owed_after_act, owed_after_message}
+use Rattle.justified_runs.specs.faultless.Faultless.{without_faults}
+use Rattle.justified_runs.proofs.faultless.FaultlessLaws.{leave_same_mark}
+use Rattle.justified_runs.specs.schedule.declared.Event.{Event}
+use Rattle.justified_runs.specs.schedule.Groups.{Group, marks_of}
+use Rattle.justified_runs.specs.reissue.declared.link.LinkRefusal.{LinkRefusal}
+use Rattle.justified_runs.specs.run_log.Noted.{Noted, marks_in, grouped, with_mark, with_entry}
+use Rattle.justified_runs.specs.run_log.declared.log.Post.{Post}
+use Rattle.justified_runs.specs.run_log.declared.log.Entry.TheVariants as entry
+use Rattle.justified_runs.proofs.run_log.NotedLaws.{message_in}
+use Rattle.justified_runs.specs.driver_events.declared.ruling.Ruling.{Ruling}
+use Rattle.justified_runs.specs.driver_events.Disks.{Disks, LinesUp}
+use Rattle.justified_runs.specs.driver_events.Kept.{with_next}
+use Rattle.justified_runs.proofs.driver_events.Keeping.{events_note_aside}
+use Rattle.justified_runs.specs.playing.PlayView.{Play, begun, PlaysNext, Advances, Stays, Goes, Turn, Takes, TakesOwed, TakesEnd, Posts, Complains, ComesToEnd, IsPlayedOut, IsStarved, noting, paid, ended, posted, complained}
+use Rattle.justified_runs.specs.playing.Moments.{is_busy, Moment, record_of, Step, Begins as StepBegins, Tells, Takes as StepTakes, Settles, Brings, BringsNone, Pays as StepPays, HandsCall, Replies as StepReplies, Runs, Starts, Then}
+use Rattle.justified_runs.specs.justifying.Core.{Core}
+use Rattle.justified_runs.specs.justifying.Seen.{core_at, with_brought, EventDone}
+use Rattle.justified_runs.specs.justifying.Happens.{AtReport, Begins, Adds, Replies, Complains as AddsComplaint, Pays}
+use Rattle.justified_runs.proofs.justifying.Events.{event_done, Reported, reported, ruling_for, record_of_groups}
 use Rattle.justified_runs.specs.Said.{core_of, IsBegun, HasBegun, OverCalm}
 use Rattle.justified_runs.proofs.SaidLaws.{complained_as, complained_is, may_complain, step_calm, step_begun, not_before, not_owed_before, busy_answering}
 

@@ -2,34 +2,34 @@
 use Rattle.std.proofs.Common.{◌≡◌, ℕ, ◌+◌, ◌≤◌, List, [], ◌∷◌, ◌++◌, length, map, max, Bool, true, false, refl, sym, ◌∙◌, ap, subst, arith, inl, inr, ◌⊎◌}
 use Rattle.std.proofs.lemmas.List.{append-nil}
 use Rattle.std.specs.Prelude.{Option, Some, None, ◌&&◌, not, ◌==◌, if◌then◌else◌}
-use Rattle.endpoint.specs.declared.Endpoint.{Endpoint}
-use Rattle.message.specs.declared.BlockRequest.{BlockRequest}
-use Rattle.message.specs.declared.Incoming.{Incoming}
-use Rattle.message.specs.declared.Incoming.TheVariants as incoming
-use Rattle.bdev.specs.DriverState.{DriverState}
-use Rattle.media.specs.Contents.{MediaState}
-use Rattle.policy.specs.declared.Policy.{Policy}
-use Rattle.policy.specs.Watch.{Phase, Waiting, driver, new_watch}
-use Rattle.marks.specs.Marks.{Mark, Started, Answered, Issued, gave_up, last_started}
-use Rattle.marks.specs.Open.{open_requests, counts, IsIn}
-use Rattle.marks.specs.Laws.{IsRising}
-use Rattle.marks.specs.Acts.{Outbox, IsAtRest, is_post_due, without_answered, empty_outbox}
-use Rattle.marks.proofs.OpenRequests.{cond_has}
-use Rattle.marks.proofs.Rising.{open_are_rising}
-use Rattle.faultless.proofs.FaultlessLaws.{faults_change_nothing}
-use Rattle.schedule.specs.declared.Event.{Event}
-use Rattle.schedule.specs.Groups.{Group, marks_of, started_in, Each, EachGroup}
-use Rattle.schedule.specs.Starts.{IssuesFollow, is_among_first, are_issued_in_place}
-use Rattle.driver_events.specs.Disks.{Disks, is_at, started}
-use Rattle.driver_events.specs.Kept.{with_next}
-use Rattle.playing.specs.PlayView.{Play, IsOpened}
-use Rattle.playing.specs.Moments.{Doing, Moment, Resting, is_busy, Runs}
-use Rattle.justifying.specs.Core.{Core, story, PhaseIs, WaitsNow, FollowsGroups}
-use Rattle.justifying.specs.Seen.{core_at}
-use Rattle.justifying.specs.Happens.{Begins}
-use Rattle.justifying.specs.Steady.{SlotsSoFar}
-use Rattle.justifying.proofs.FollowLaws.{same_number}
-use Rattle.justifying.proofs.SlotLaws.{slots_kept}
+use Rattle.justified_runs.specs.endpoint.declared.Endpoint.{Endpoint}
+use Rattle.justified_runs.specs.message.declared.BlockRequest.{BlockRequest}
+use Rattle.justified_runs.specs.message.declared.Incoming.{Incoming}
+use Rattle.justified_runs.specs.message.declared.Incoming.TheVariants as incoming
+use Rattle.justified_runs.specs.bdev.DriverState.{DriverState}
+use Rattle.justified_runs.specs.media.Contents.{MediaState}
+use Rattle.justified_runs.specs.policy.declared.Policy.{Policy}
+use Rattle.justified_runs.specs.policy.Watch.{Phase, Waiting, driver, new_watch}
+use Rattle.justified_runs.specs.marks.Marks.{Mark, Started, Answered, Issued, gave_up, last_started}
+use Rattle.justified_runs.specs.marks.Open.{open_requests, counts, IsIn}
+use Rattle.justified_runs.specs.marks.Laws.{IsRising}
+use Rattle.justified_runs.specs.marks.Acts.{Outbox, IsAtRest, is_post_due, without_answered, empty_outbox}
+use Rattle.justified_runs.proofs.marks.OpenRequests.{cond_has}
+use Rattle.justified_runs.proofs.marks.Rising.{open_are_rising}
+use Rattle.justified_runs.proofs.faultless.FaultlessLaws.{faults_change_nothing}
+use Rattle.justified_runs.specs.schedule.declared.Event.{Event}
+use Rattle.justified_runs.specs.schedule.Groups.{Group, marks_of, started_in, Each, EachGroup}
+use Rattle.justified_runs.specs.schedule.Starts.{IssuesFollow, is_among_first, are_issued_in_place}
+use Rattle.justified_runs.specs.driver_events.Disks.{Disks, is_at, started}
+use Rattle.justified_runs.specs.driver_events.Kept.{with_next}
+use Rattle.justified_runs.specs.playing.PlayView.{Play, IsOpened}
+use Rattle.justified_runs.specs.playing.Moments.{Doing, Moment, Resting, is_busy, Runs}
+use Rattle.justified_runs.specs.justifying.Core.{Core, story, PhaseIs, WaitsNow, FollowsGroups}
+use Rattle.justified_runs.specs.justifying.Seen.{core_at}
+use Rattle.justified_runs.specs.justifying.Happens.{Begins}
+use Rattle.justified_runs.specs.justifying.Steady.{SlotsSoFar}
+use Rattle.justified_runs.proofs.justifying.FollowLaws.{same_number}
+use Rattle.justified_runs.proofs.justifying.SlotLaws.{slots_kept}
 use Rattle.justified_runs.specs.Said.{core_of, IsSaid, StandsBefore}
 use Rattle.justified_runs.proofs.OpeningLaws.{opened_scene, opened_said, opened_follows, calm_before}
 use Rattle.issuing_runs.specs.Issuing.{FollowedAsDue, RunsKeepPlaces, RunsKeepFollowed, RunsEndFollowed}

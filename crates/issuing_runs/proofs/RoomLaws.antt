@@ -2,29 +2,29 @@
 use Rattle.std.proofs.Common.{◌≡◌, ℕ, suc, ◌+◌, ◌<◌, ◌≤◌, List, [], ◌∷◌, ◌++◌, length, Bool, true, false, refl, sym, ◌∙◌, ap, subst, arith, inl, inr, ◌⊎◌}
 use Rattle.std.proofs.lemmas.List.{length-append}
 use Rattle.std.specs.Prelude.{Option, Some, Ok, Err, if◌then◌else◌}
-use Rattle.endpoint.specs.declared.Endpoint.{Endpoint}
-use Rattle.message.specs.declared.BlockRequest.{BlockRequest}
-use Rattle.message.specs.declared.Incoming.{Incoming}
-use Rattle.message.specs.declared.Incoming.TheVariants as incoming
-use Rattle.bdev.specs.DriverState.{DriverState}
-use Rattle.policy.specs.Watch.{driver}
-use Rattle.marks.specs.Marks.{Mark, Issued, gave_up, last_started}
-use Rattle.marks.specs.Open.{greatest, open_requests, without_id}
-use Rattle.marks.specs.Acts.{Outbox, MayBegin, MayPost, IsAtRest, first_of, empty_outbox}
-use Rattle.marks.proofs.OpenRequests.{below_open}
-use Rattle.marks.proofs.Rising.{open_are_rising}
-use Rattle.schedule.specs.declared.Event.{Event}
-use Rattle.schedule.specs.Groups.{Group, marks_of, started_in, Each}
-use Rattle.reissue.specs.declared.link.LinkRefusal.{LinkRefusal}
-use Rattle.run_log.specs.declared.log.Post.{Post}
-use Rattle.driver_events.specs.Disks.{Disks, LinesUp, IsLinedUp, lined_up, started}
-use Rattle.driver_events.specs.Kept.{with_next}
-use Rattle.justifying.specs.Core.{Core}
-use Rattle.justifying.specs.Seen.{core_at}
-use Rattle.justifying.specs.Happens.{Begins, Adds, AddsNothing, Posts, Replies, Complains, Pays}
+use Rattle.justified_runs.specs.endpoint.declared.Endpoint.{Endpoint}
+use Rattle.justified_runs.specs.message.declared.BlockRequest.{BlockRequest}
+use Rattle.justified_runs.specs.message.declared.Incoming.{Incoming}
+use Rattle.justified_runs.specs.message.declared.Incoming.TheVariants as incoming
+use Rattle.justified_runs.specs.bdev.DriverState.{DriverState}
+use Rattle.justified_runs.specs.policy.Watch.{driver}
+use Rattle.justified_runs.specs.marks.Marks.{Mark, Issued, gave_up, last_started}
+use Rattle.justified_runs.specs.marks.Open.{greatest, open_requests, without_id}
+use Rattle.justified_runs.specs.marks.Acts.{Outbox, MayBegin, MayPost, IsAtRest, first_of, empty_outbox}
+use Rattle.justified_runs.proofs.marks.OpenRequests.{below_open}
+use Rattle.justified_runs.proofs.marks.Rising.{open_are_rising}
+use Rattle.justified_runs.specs.schedule.declared.Event.{Event}
+use Rattle.justified_runs.specs.schedule.Groups.{Group, marks_of, started_in, Each}
+use Rattle.justified_runs.specs.reissue.declared.link.LinkRefusal.{LinkRefusal}
+use Rattle.justified_runs.specs.run_log.declared.log.Post.{Post}
+use Rattle.justified_runs.specs.driver_events.Disks.{Disks, LinesUp, IsLinedUp, lined_up, started}
+use Rattle.justified_runs.specs.driver_events.Kept.{with_next}
+use Rattle.justified_runs.specs.justifying.Core.{Core}
+use Rattle.justified_runs.specs.justifying.Seen.{core_at}
+use Rattle.justified_runs.specs.justifying.Happens.{Begins, Adds, AddsNothing, Posts, Replies, Complains, Pays}
 use Rattle.justified_runs.specs.Said.{core_of, IsSaid, StandsBefore}
 use Rattle.justified_runs.proofs.OpeningLaws.{opened_scene, opened_said, calm_before}
-use Rattle.issuing_runs.specs.Issuing.{IsNew, RunsKeepRoom}
+use Rattle.issuing_runs.specs.Issuing.{HasNoWork, RunsKeepRoom}
 use Rattle.issuing_runs.proofs.OwingLaws.{owed_with, served, IsCalm, is_quiet, with_began, with_posted, core_posted, IsKeptOwing, IsOwed, at_work, runs_owed}
 use Rattle.issuing_runs.proofs.NumberLaws.{length_push, FirstOut, first_out}
 use Rattle.issuing_runs.proofs.Starting.{NextStart, begins_calm, not_told, told_of, same_last, Within, adds_within, Numbers, adds_numbers}
@@ -36,7 +36,7 @@ use Rattle.issuing_runs.proofs.Roomy.{on_line_as, EventLine, event_line, message
 -- with what holds of requests: the line of the current driver, the posts, and those unposted, each of which has a greater id
 record Roomy (drivers : ℕ) (place : ℕ) (groups : List Group) (c : Core) (o : Outbox) (t : Bool) : Type 0 where
   issues : Issues drivers place groups c o t
-  fresh : Each IsNew c.supply
+  fresh : Each HasNoWork c.supply
   last_is : last_started (marks_of groups) ≡ Some (driver c.disks.media.generation)
   bound : ℕ
   on_line : OnLine (served groups) c.disks bound
@@ -130,7 +130,7 @@ adds_roomy drivers place event group earlier c a marks o o' t does quiet calm sa
     let k : Still c a = adds_still c a marks does quiet in
     record {
       issues = adds drivers place event group earlier c a marks o o' t does quiet calm same_unposted same_never h.issues;
-      fresh = subst (λ (l : List DriverState). Each IsNew l) (sym k.supply_is) h.fresh;
+      fresh = subst (λ (l : List DriverState). Each HasNoWork l) (sym k.supply_is) h.fresh;
       last_is = w.last_is ∙ h.last_is ∙ ap (λ (d : Disks). Some (driver d.media.generation)) (sym k.disks_are);
       bound = h.bound;
       on_line = subst (λ (d : Disks). OnLine s' d h.bound) (sym k.disks_are)
@@ -155,7 +155,7 @@ module _ (drivers place : ℕ) (groups : List Group) (c a : Core) (event : Event
       let k : EventLine groups event marks c a h.bound = event_line place groups c a event marks h.bound does none h.last_is h.posts_low h.on_line in
       record {
         issues = issues_after;
-        fresh = subst (λ (l : List DriverState). Each IsNew l) (sym k.supply_is) h.fresh;
+        fresh = subst (λ (l : List DriverState). Each HasNoWork l) (sym k.supply_is) h.fresh;
         last_is = same_last marks (marks_of groups) none ∙ h.last_is ∙ ap (λ (g : ℕ). Some (driver g)) (sym k.generation);
         bound = h.bound;
         on_line = k.on_line;
@@ -173,7 +173,7 @@ module _ (drivers place : ℕ) (groups : List Group) (c a : Core) (event : Event
       let g : ℕ = c.watch.generation + 1 in
       let e : Endpoint = driver g in
       let m : List Mark = served groups in
-      let ones : Each IsNew (s.next ∷ s.rest) = subst (λ (l : List DriverState). Each IsNew l) s.spare h.fresh in
+      let ones : Each HasNoWork (s.next ∷ s.rest) = subst (λ (l : List DriverState). Each HasNoWork l) s.spare h.fresh in
       let told : result ≡ Some (incoming.Started e) = told_of result m e (sym (ap (λ (l : List Mark). served ((event, l) ∷ groups)) s.marks_are) ∙ same) in
       let more : c.disks.media.generation < g = omega (arith, h.issues.slots.follows.latest) in
       let adopts : a.disks.media.generation ≡ g = ap (λ (d : Disks). d.media.generation) s.disks_are ∙ omega (arith, more) in
@@ -185,7 +185,7 @@ module _ (drivers place : ℕ) (groups : List Group) (c a : Core) (event : Event
       (subst (λ (n : ℕ). Between (suc (greatest m)) n o.never_issued) (omega arith) (between_numbered (suc (greatest m)) o.never_issued h.issues.numbered.ids)) in
       record {
         issues = issues_after;
-        fresh = subst (λ (l : List DriverState). Each IsNew l) (sym s.supply_is) ones.1;
+        fresh = subst (λ (l : List DriverState). Each HasNoWork l) (sym s.supply_is) ones.1;
         last_is = ap (λ (l : List Mark). last_started (l ++ marks_of groups)) s.marks_are ∙ ap (λ (n : ℕ). Some (driver n)) (sym adopts);
         bound = 0;
         on_line = subst (λ (d : Disks). OnLine (served ((event, marks) ∷ groups)) d 0) (sym s.disks_are)
@@ -242,7 +242,7 @@ runs_keep_room media rules supply events minor b a new ready fresh o idle empty 
     let n : ℕ = length supply in
     let t : Bool = at_work b in
     let c : Core = core_at (opened_scene media rules n o.scene.first o.scene.rest) false false in
-    let ones : Each IsNew (o.scene.first ∷ o.scene.rest) = subst (λ (l : List DriverState). Each IsNew l) o.scene.spare fresh in
+    let ones : Each HasNoWork (o.scene.first ∷ o.scene.rest) = subst (λ (l : List DriverState). Each HasNoWork l) o.scene.spare fresh in
     let before : Disks = record (c.disks) { media = media } in
     let k : IsSaid (λ place groups c. Roomy n place groups c empty_outbox t) b.play =
     opened_said (λ place groups c. Roomy n place groups c empty_outbox t) media rules supply events b.play o (record {

@@ -2,27 +2,27 @@
 use Rattle.std.proofs.Common.{◌≡◌, ℕ, suc, ◌+◌, ◌<◌, ◌≤◌, List, [], ◌∷◌, ◌++◌, length, max, Bool, true, false, cond, refl, sym, ◌∙◌, ap, subst, arith}
 use Rattle.std.proofs.lemmas.Bool.Decides.{nat_tests}
 use Rattle.std.specs.Prelude.{Option, Some, None, Err, ◌&&◌, not, ◌==◌, is_some}
-use Rattle.endpoint.specs.declared.Endpoint.{Endpoint}
-use Rattle.message.specs.declared.BlockRequest.{BlockRequest}
-use Rattle.message.specs.declared.BlockReply.{BlockReply}
-use Rattle.message.specs.declared.Incoming.{Incoming}
-use Rattle.message.specs.declared.Incoming.TheVariants as incoming
-use Rattle.policy.specs.Watch.{driver}
-use Rattle.marks.specs.Marks.{Mark, Answered, Flush, GaveUp, Issued, gave_up, last_started, is_endpoint}
-use Rattle.marks.specs.declared.Cause.{Cause}
-use Rattle.marks.specs.declared.Cause.TheVariants.{Exit, Hung}
-use Rattle.marks.specs.Open.{greatest, open_requests, counts, asked_by, moved_by, without_id, IsIn}
-use Rattle.marks.specs.Acts.{Outbox, first_of}
-use Rattle.marks.proofs.OpenRequests.{cond_has, open_below, open_new, open_again, in_push_new}
-use Rattle.schedule.specs.declared.Event.{Event}
-use Rattle.schedule.specs.Groups.{Group, marks_of, started_in, Each}
-use Rattle.reissue.specs.declared.link.LinkRefusal.{LinkRefusal}
-use Rattle.run_log.specs.declared.log.Post.{Post}
-use Rattle.driver_events.specs.Disks.{Disks, LinesUp, NoneIsThere, LineIsFull}
-use Rattle.driver_events.specs.Kept.{with_next}
-use Rattle.justifying.specs.Core.{Core}
-use Rattle.justifying.specs.Happens.{fault_marks, exit_marks, beaten_core, TicksTo, Beats, MissesOne, FoundHung, WaitsOn, StartsNext, IsOver, Begins, Arrives, Flushes, Answers, Drops, Delivers, LinesAgain, HangsOne, StepsOne, FailsOne, DiesNone, DiesOne, Ticks}
-use Rattle.justifying.proofs.DiskMoves.{steps_generation, dies_generation, hangs_generation, repeats_same}
+use Rattle.justified_runs.specs.endpoint.declared.Endpoint.{Endpoint}
+use Rattle.justified_runs.specs.message.declared.BlockRequest.{BlockRequest}
+use Rattle.justified_runs.specs.message.declared.BlockReply.{BlockReply}
+use Rattle.justified_runs.specs.message.declared.Incoming.{Incoming}
+use Rattle.justified_runs.specs.message.declared.Incoming.TheVariants as incoming
+use Rattle.justified_runs.specs.policy.Watch.{driver}
+use Rattle.justified_runs.specs.marks.Marks.{Mark, Answered, Flush, GaveUp, Issued, gave_up, last_started, is_endpoint}
+use Rattle.justified_runs.specs.marks.declared.Cause.{Cause}
+use Rattle.justified_runs.specs.marks.declared.Cause.TheVariants.{Exit, Hung}
+use Rattle.justified_runs.specs.marks.Open.{greatest, open_requests, counts, asked_by, moved_by, without_id, IsIn}
+use Rattle.justified_runs.specs.marks.Acts.{Outbox, first_of}
+use Rattle.justified_runs.proofs.marks.OpenRequests.{cond_has, open_below, open_new, open_again, in_push_new}
+use Rattle.justified_runs.specs.schedule.declared.Event.{Event}
+use Rattle.justified_runs.specs.schedule.Groups.{Group, marks_of, started_in, Each}
+use Rattle.justified_runs.specs.reissue.declared.link.LinkRefusal.{LinkRefusal}
+use Rattle.justified_runs.specs.run_log.declared.log.Post.{Post}
+use Rattle.justified_runs.specs.driver_events.Disks.{Disks, LinesUp, NoneIsThere, LineIsFull}
+use Rattle.justified_runs.specs.driver_events.Kept.{with_next}
+use Rattle.justified_runs.specs.justifying.Core.{Core}
+use Rattle.justified_runs.specs.justifying.Happens.{fault_marks, exit_marks, beaten_core, TicksTo, Beats, MissesOne, FoundHung, WaitsOn, StartsNext, IsOver, Begins, Arrives, Flushes, Answers, Drops, Delivers, LinesAgain, HangsOne, StepsOne, FailsOne, DiesNone, DiesOne, Ticks}
+use Rattle.justified_runs.proofs.justifying.DiskMoves.{steps_generation, dies_generation, hangs_generation, repeats_same}
 use Rattle.issuing_runs.proofs.OwingLaws.{owed_with, served}
 use Rattle.issuing_runs.proofs.NumberLaws.{without_first, without_lower, one_first, FirstOut, first_out}
 use Rattle.issuing_runs.proofs.Issues.{AllOpen, all_open_as, Following, AgainNow, Issues, levelled}

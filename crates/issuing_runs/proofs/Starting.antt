@@ -1,27 +1,27 @@
 -- What events and what is done within them leave of starts, issues and numbers.
 use Rattle.std.proofs.Common.{◌≡◌, ℕ, suc, ◌+◌, List, [], ◌∷◌, ◌++◌, length, map, Bool, true, false, cond, refl, sym, ◌∙◌, ap, arith, inl, inr, ◌⊎◌, append_assoc}
 use Rattle.std.specs.Prelude.{Option, Some, None, ◌&&◌, ◌||◌, not, ◌==◌, nat_lt, nat_le}
-use Rattle.endpoint.specs.declared.Endpoint.{Endpoint}
-use Rattle.message.specs.declared.BlockRequest.{BlockRequest}
-use Rattle.message.specs.declared.Incoming.{Incoming}
-use Rattle.message.specs.declared.Incoming.TheVariants as incoming
-use Rattle.bdev.specs.DriverState.{DriverState}
-use Rattle.policy.specs.Watch.{Waiting, driver}
-use Rattle.marks.specs.Marks.{Mark, Started, Answered, Flush, GaveUp, Took, Issued, Fault, gave_up, last_started}
-use Rattle.marks.specs.declared.Cause.{Cause}
-use Rattle.marks.specs.Open.{greatest, open_requests, counts}
-use Rattle.faultless.specs.Faultless.{without_faults}
-use Rattle.schedule.specs.declared.Event.{Event}
-use Rattle.schedule.specs.declared.Event.TheVariants as event
-use Rattle.schedule.specs.Groups.{Group, marks_of, started_in, generation}
-use Rattle.schedule.specs.Drivers.{has_exit, has_started, has_ended, is_live}
-use Rattle.schedule.specs.Starts.{IsFollowedByIssues, IssuesFollow, is_among_first, may_issue, are_issued_in_place}
-use Rattle.driver_events.specs.Disks.{started}
-use Rattle.driver_events.specs.Kept.{with_next}
-use Rattle.justifying.specs.Core.{Core}
-use Rattle.justifying.specs.Happens.{fault_marks, exit_marks, beaten_core, TicksTo, Beats, MissesOne, FoundHung, WaitsOn, StartsNext, IsOver, Begins, Arrives, Flushes, Answers, Drops, Delivers, LinesAgain, HangsOne, StepsOne, FailsOne, DiesNone, DiesOne, Ticks, Adds, AddsNothing, Posts, Replies, Complains, Pays}
-use Rattle.issuing_runs.specs.Issuing.{PlacedAsDue}
+use Rattle.justified_runs.specs.endpoint.declared.Endpoint.{Endpoint}
+use Rattle.justified_runs.specs.message.declared.BlockRequest.{BlockRequest}
+use Rattle.justified_runs.specs.message.declared.Incoming.{Incoming}
+use Rattle.justified_runs.specs.message.declared.Incoming.TheVariants as incoming
+use Rattle.justified_runs.specs.bdev.DriverState.{DriverState}
+use Rattle.justified_runs.specs.policy.Watch.{Waiting, driver}
+use Rattle.justified_runs.specs.marks.Marks.{Mark, Started, Answered, Flush, GaveUp, Took, Issued, Fault, gave_up, last_started}
+use Rattle.justified_runs.specs.marks.declared.Cause.{Cause}
+use Rattle.justified_runs.specs.marks.Open.{greatest, open_requests, counts}
+use Rattle.justified_runs.specs.faultless.Faultless.{without_faults}
+use Rattle.justified_runs.specs.schedule.declared.Event.{Event}
+use Rattle.justified_runs.specs.schedule.declared.Event.TheVariants as event
+use Rattle.justified_runs.specs.schedule.Groups.{Group, marks_of, started_in, generation}
+use Rattle.justified_runs.specs.schedule.Drivers.{has_exit, has_started, has_ended, is_live}
+use Rattle.justified_runs.specs.schedule.Starts.{IsFollowedByIssues, IssuesFollow, is_among_first, may_issue, are_issued_in_place}
+use Rattle.justified_runs.specs.driver_events.Disks.{started}
+use Rattle.justified_runs.specs.driver_events.Kept.{with_next}
+use Rattle.justified_runs.specs.justifying.Core.{Core}
+use Rattle.justified_runs.specs.justifying.Happens.{fault_marks, exit_marks, beaten_core, TicksTo, Beats, MissesOne, FoundHung, WaitsOn, StartsNext, IsOver, Begins, Arrives, Flushes, Answers, Drops, Delivers, LinesAgain, HangsOne, StepsOne, FailsOne, DiesNone, DiesOne, Ticks, Adds, AddsNothing, Posts, Replies, Complains, Pays}
 use Rattle.issuing_runs.proofs.OwingLaws.{served, is_quiet}
+use Rattle.justified_runs.specs.Said.{PlacedAsDue}
 
 -- the next driver is started
 pub record NextStart (c a : Core) (marks : List Mark) : Type 0 where

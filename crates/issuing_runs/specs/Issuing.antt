@@ -1,30 +1,27 @@
 -- When requests are issued, in a whole run.
-use Rattle.std.specs.Prelude.{◌≡◌, ◌⊎◌, ◌<◌, ℕ, List, [], ◌∷◌, length, true, false, None}
-use Rattle.endpoint.specs.declared.Endpoint.{Endpoint}
-use Rattle.message.specs.declared.BlockRequest.{BlockRequest}
-use Rattle.bdev.specs.DriverState.{DriverState}
-use Rattle.media.specs.Contents.{MediaState}
-use Rattle.policy.specs.declared.Policy.{Policy}
-use Rattle.policy.specs.Watch.{new_watch}
-use Rattle.marks.specs.Marks.{Mark}
-use Rattle.marks.specs.Acts.{MayPost, is_post_due, empty_outbox}
-use Rattle.schedule.specs.declared.Event.{Event}
-use Rattle.schedule.specs.Groups.{Group, marks_of, Each, EachGroup}
-use Rattle.schedule.specs.Starts.{IssuesFollow, are_issued_in_place}
-use Rattle.driver_events.specs.Disks.{is_at}
-use Rattle.playing.specs.PlayView.{IsOpened}
-use Rattle.playing.specs.Moments.{Moment, Resting, Runs, record_of}
-
--- each request of an event is issued to a live driver, before the device is given up, and again only among the first ones after a start
-abbrev pub PlacedAsDue : Event → List Mark → List Group → Type 0
-PlacedAsDue event group earlier = are_issued_in_place ((event, group) ∷ earlier) group (marks_of earlier) ≡ true
+use Rattle.std.specs.Prelude.{◌≡◌, ◌⊎◌, ◌<◌, ℕ, List, [], length, true, false, None}
+use Rattle.justified_runs.specs.endpoint.declared.Endpoint.{Endpoint}
+use Rattle.justified_runs.specs.message.declared.BlockRequest.{BlockRequest}
+use Rattle.justified_runs.specs.bdev.DriverState.{DriverState}
+use Rattle.justified_runs.specs.media.Contents.{MediaState}
+use Rattle.justified_runs.specs.policy.declared.Policy.{Policy}
+use Rattle.justified_runs.specs.policy.Watch.{new_watch}
+use Rattle.justified_runs.specs.marks.Marks.{Mark}
+use Rattle.justified_runs.specs.marks.Acts.{MayPost, is_post_due, empty_outbox}
+use Rattle.justified_runs.specs.schedule.declared.Event.{Event}
+use Rattle.justified_runs.specs.schedule.Groups.{Group, marks_of, Each, EachGroup}
+use Rattle.justified_runs.specs.schedule.Starts.{IssuesFollow}
+use Rattle.justified_runs.specs.driver_events.Disks.{is_at}
+use Rattle.justified_runs.specs.playing.PlayView.{IsOpened}
+use Rattle.justified_runs.specs.playing.Moments.{Moment, Resting, Runs, record_of}
+use Rattle.justified_runs.specs.Said.{PlacedAsDue}
 
 -- right after a start all open requests are issued to the new driver, in rising order
 abbrev pub FollowedAsDue : Event → List Mark → List Group → Type 0
 FollowedAsDue event group earlier = IssuesFollow [] group (marks_of earlier)
 
 -- a driver that has no request in work, as each one that was never handed a request
-pub record IsNew (d : DriverState) : Type 0 where
+pub record HasNoWork (d : DriverState) : Type 0 where
   pub idle : d.work ≡ None
 
 -- at each event of a run from its opening requests are issued in their places
@@ -54,7 +51,7 @@ RunsEndFollowed =
 abbrev pub RunsKeepRoom : Type 0
 RunsKeepRoom =
     (media : MediaState) (rules : Policy) (supply : List DriverState) (events : List Event) (minor : ℕ) (b a : Moment)
-    → media.generation ≡ 0 → Each (λ d. d.failed ≡ false) supply → Each IsNew supply
+    → media.generation ≡ 0 → Each (λ d. d.failed ≡ false) supply → Each HasNoWork supply
     → IsOpened media rules (new_watch (length supply)) supply events b.play → b.doing ≡ Resting → b.outbox ≡ empty_outbox → Runs minor b a
     → (to : Endpoint) (r : BlockRequest) → MayPost minor (record_of a.play) a.outbox to r → is_at to a.play.scene.disks ≡ true
     → length a.play.scene.disks.current.line < 32

@@ -2,40 +2,40 @@
 use Rattle.std.proofs.Common.{◌≡◌, ℕ, zero, suc, ◌+◌, List, [], ◌∷◌, ◌++◌, Bool, true, false, cond, refl, sym, ◌∙◌, ap, subst, arith}
 use Rattle.std.proofs.lemmas.Bool.Decides.{nat_tests}
 use Rattle.std.specs.Prelude.{◌&&◌, ◌||◌, not, ◌==◌, length, Option, Some, None, Result, Ok, Err, is_ok, is_some, if◌then◌else◌, slice_get}
-use Rattle.endpoint.specs.declared.Endpoint.{Endpoint}
-use Rattle.message.specs.declared.BlockRequest.{BlockRequest}
-use Rattle.message.specs.declared.BlockReply.{BlockReply}
-use Rattle.message.specs.declared.Incoming.{Incoming}
-use Rattle.message.specs.declared.Incoming.TheVariants as incoming
-use Rattle.tree.specs.declared.Reply.{Reply}
-use Rattle.tree.specs.Answers.{answer_of}
-use Rattle.bdev.specs.DriverState.{DriverState}
-use Rattle.media.specs.Contents.{MediaState}
-use Rattle.policy.specs.declared.Policy.{Policy}
-use Rattle.policy.specs.declared.Event.TheVariants as policy
-use Rattle.policy.specs.Watch.{Watch, Phase, Running, Waiting, GivenUp, driver, new_watch, is_last_started, on}
-use Rattle.marks.specs.Marks.{Mark, Started, Answered, Flush, GaveUp, Took, Issued, Fault, is_endpoint, gave_up}
-use Rattle.marks.specs.declared.Cause.{Cause}
-use Rattle.marks.specs.declared.Cause.TheVariants.{Exit, Hung, Complaint}
-use Rattle.marks.specs.Open.{counts, moved_by, moved_of, with_id, open_requests}
-use Rattle.marks.specs.Told.{Told, Posted, Complained, Received, took_nothing}
-use Rattle.marks.specs.Acts.{AtLink, Outbox, MayAct, complaint_due, owed_after_message, owed_after_act}
-use Rattle.faultless.specs.Faultless.{without_faults}
-use Rattle.faultless.proofs.FaultlessLaws.{faults_change_nothing, counts_same}
-use Rattle.schedule.specs.declared.Event.{Event}
-use Rattle.schedule.specs.Groups.{Group, marks_of, running, EachGroup}
-use Rattle.schedule.specs.Faults.{complaint_after, complaint_of, ComplaintsFollow}
-use Rattle.schedule.specs.Replies.{answers_in}
-use Rattle.reissue.specs.declared.link.LinkRefusal.{LinkRefusal}
-use Rattle.run_log.specs.Noted.{Noted, marks_in, grouped, with_mark, with_entry}
-use Rattle.run_log.specs.declared.log.Entry.{Entry}
-use Rattle.run_log.specs.declared.log.Entry.TheVariants as entry
-use Rattle.driver_events.specs.declared.ruling.Ruling.{Ruling}
-use Rattle.driver_events.specs.Ruling.{is_fault, gives_up}
-use Rattle.driver_events.specs.Disks.{Disks, LinesUp, NoneIsThere, LineIsFull, IsLinedUp}
-use Rattle.driver_events.specs.Scene.{Scene, ruled}
-use Rattle.driver_events.specs.Kept.{NotesAside}
-use Rattle.driver_events.proofs.Keeping.{events_note_aside}
+use Rattle.playing.specs.endpoint.declared.Endpoint.{Endpoint}
+use Rattle.playing.specs.message.declared.BlockRequest.{BlockRequest}
+use Rattle.playing.specs.message.declared.BlockReply.{BlockReply}
+use Rattle.playing.specs.message.declared.Incoming.{Incoming}
+use Rattle.playing.specs.message.declared.Incoming.TheVariants as incoming
+use Rattle.playing.specs.tree.declared.Reply.{Reply}
+use Rattle.playing.specs.tree.Answers.{answer_of}
+use Rattle.justifying.specs.bdev.DriverState.{DriverState}
+use Rattle.playing.specs.media.Contents.{MediaState}
+use Rattle.justifying.specs.policy.declared.Policy.{Policy}
+use Rattle.justifying.specs.policy.declared.Event.TheVariants as policy
+use Rattle.justifying.specs.policy.Watch.{Watch, Phase, Running, Waiting, GivenUp, driver, new_watch, is_last_started, on}
+use Rattle.justifying.specs.marks.Marks.{Mark, Started, Answered, Flush, GaveUp, Took, Issued, Fault, is_endpoint, gave_up}
+use Rattle.justifying.specs.marks.declared.Cause.{Cause}
+use Rattle.justifying.specs.marks.declared.Cause.TheVariants.{Exit, Hung, Complaint}
+use Rattle.justifying.specs.marks.Open.{counts, moved_by, moved_of, with_id, open_requests}
+use Rattle.justifying.specs.marks.Told.{Told, Posted, Complained, Received, took_nothing}
+use Rattle.justifying.specs.marks.Acts.{AtLink, Outbox, MayAct, complaint_due, owed_after_message, owed_after_act}
+use Rattle.justifying.specs.faultless.Faultless.{without_faults}
+use Rattle.justifying.proofs.faultless.FaultlessLaws.{faults_change_nothing, counts_same}
+use Rattle.playing.specs.schedule.declared.Event.{Event}
+use Rattle.playing.specs.schedule.Groups.{Group, marks_of, running, EachGroup}
+use Rattle.playing.specs.schedule.Faults.{complaint_after, complaint_of, ComplaintsFollow}
+use Rattle.playing.specs.schedule.Replies.{answers_in}
+use Rattle.playing.specs.reissue.declared.link.LinkRefusal.{LinkRefusal}
+use Rattle.playing.specs.run_log.Noted.{Noted, marks_in, grouped, with_mark, with_entry}
+use Rattle.playing.specs.run_log.declared.log.Entry.{Entry}
+use Rattle.playing.specs.run_log.declared.log.Entry.TheVariants as entry
+use Rattle.justifying.specs.driver_events.declared.ruling.Ruling.{Ruling}
+use Rattle.justifying.specs.driver_events.Ruling.{is_fault, gives_up}
+use Rattle.justifying.specs.driver_events.Disks.{Disks, LinesUp, NoneIsThere, LineIsFull, IsLinedUp}
+use Rattle.justifying.specs.driver_events.Scene.{Scene, ruled}
+use Rattle.justifying.specs.driver_events.Kept.{NotesAside}
+use Rattle.justifying.proofs.driver_events.Keeping.{events_note_aside}
 use Rattle.playing.specs.declared.arrived.Arrived.{Arrived}
 use Rattle.playing.specs.PlayView.{Play, IsOpened, begun, PlaysNext, Advances, Stays, Goes, Turn, Takes, TakesOwed, TakesEnd, Posts, Complains, ComesToEnd, IsPlayedOut, IsStarved, HandsOut, noting, paid, ended, starving, posted, complained}
 use Rattle.playing.specs.Moments.{Doing, Resting, Hearing, Answering, is_busy, Moment, record_of, IsBetween, hearing, at_link, Step, Begins as StepBegins, Tells, Takes as StepTakes, Settles, Brings, BringsNone, Pays as StepPays, HandsCall, Replies as StepReplies, Runs, Starts, Then}

@@ -1,15 +1,15 @@
 -- A driver that has failed did so at a step of its own.
 use Rattle.std.proofs.Common.{◌≡◌, ℕ, zero, suc, ◌+◌, List, [], ◌∷◌, ◌++◌, length, Bool, true, false, refl, sym, ◌∙◌, ap, subst, arith, ◌⊎◌, inl, inr}
 use Rattle.std.specs.Prelude.{map, Option, Some, None, IfSome, slice_get}
-use Rattle.bdev.specs.DriverState.{DriverState}
-use Rattle.media.specs.Contents.{MediaState}
-use Rattle.policy.specs.declared.Policy.{Policy}
-use Rattle.policy.specs.Watch.{new_watch}
-use Rattle.schedule.specs.declared.Event.{Event}
-use Rattle.schedule.specs.Groups.{Group, Each}
-use Rattle.schedule.specs.Drivers.{state_of}
-use Rattle.schedule.specs.Faults.{FailsAtItsStep}
-use Rattle.driver_events.specs.Disks.{Disks, Slot}
+use Rattle.justifying.specs.bdev.DriverState.{DriverState}
+use Rattle.playing.specs.media.Contents.{MediaState}
+use Rattle.justifying.specs.policy.declared.Policy.{Policy}
+use Rattle.justifying.specs.policy.Watch.{new_watch}
+use Rattle.playing.specs.schedule.declared.Event.{Event}
+use Rattle.playing.specs.schedule.Groups.{Group, Each}
+use Rattle.playing.specs.schedule.Drivers.{state_of}
+use Rattle.playing.specs.schedule.Faults.{FailsAtItsStep}
+use Rattle.justifying.specs.driver_events.Disks.{Disks, Slot}
 use Rattle.playing.specs.PlayView.{IsOpened}
 use Rattle.playing.specs.Moments.{Moment, Resting, Runs}
 use Rattle.justifying.specs.Core.{Core}

@@ -1,20 +1,20 @@
 -- Before the first event all is said that a run keeps; so at each of its moments what was said is justified.
 use Rattle.std.proofs.Common.{◌≡◌, ℕ, zero, suc, ◌+◌, ◌-◌, ◌<◌, ◌≤◌, List, [], ◌∷◌, ◌++◌, length, Bool, true, false, refl, sym, ◌∙◌, ap, subst, arith}
 use Rattle.std.specs.Prelude.{map, max, take, Option, None, Some, IsSomeAnd, slice_get}
-use Rattle.endpoint.specs.declared.Endpoint.{Endpoint}
-use Rattle.bdev.specs.DriverState.{DriverState, Ranges}
-use Rattle.media.specs.Contents.{MediaState}
-use Rattle.policy.specs.declared.Policy.{Policy}
-use Rattle.policy.specs.declared.Event.TheVariants as policy
-use Rattle.policy.specs.Watch.{Watch, Phase, Running, Waiting, GivenUp, driver, new_watch, on}
-use Rattle.marks.specs.Marks.{Mark, Started}
-use Rattle.schedule.specs.declared.Event.{Event}
-use Rattle.schedule.specs.Groups.{Group, marks_of, running, generation, Each, EachGroup}
-use Rattle.schedule.specs.Drivers.{state_of}
-use Rattle.schedule.specs.Faults.{HasNotFailed}
-use Rattle.run_log.specs.Noted.{marks_in}
-use Rattle.driver_events.specs.Disks.{Disks, Slot, opened_disks}
-use Rattle.driver_events.specs.Scene.{Scene}
+use Rattle.playing.specs.endpoint.declared.Endpoint.{Endpoint}
+use Rattle.justifying.specs.bdev.DriverState.{DriverState, Ranges}
+use Rattle.playing.specs.media.Contents.{MediaState}
+use Rattle.justifying.specs.policy.declared.Policy.{Policy}
+use Rattle.justifying.specs.policy.declared.Event.TheVariants as policy
+use Rattle.justifying.specs.policy.Watch.{Watch, Phase, Running, Waiting, GivenUp, driver, new_watch, on}
+use Rattle.justifying.specs.marks.Marks.{Mark, Started}
+use Rattle.playing.specs.schedule.declared.Event.{Event}
+use Rattle.playing.specs.schedule.Groups.{Group, marks_of, running, generation, Each, EachGroup}
+use Rattle.playing.specs.schedule.Drivers.{state_of}
+use Rattle.playing.specs.schedule.Faults.{HasNotFailed}
+use Rattle.playing.specs.run_log.Noted.{marks_in}
+use Rattle.justifying.specs.driver_events.Disks.{Disks, Slot, opened_disks}
+use Rattle.justifying.specs.driver_events.Scene.{Scene}
 use Rattle.playing.specs.PlayView.{Play, IsOpened, first_noted}
 use Rattle.playing.specs.Moments.{Moment, Resting, Runs}
 use Rattle.justifying.specs.Core.{Core, Story, story, PhaseIs, FollowsGroups}

@@ -1,28 +1,28 @@
 -- At each event the calls taken are the first that arrived, in their order.
 use Rattle.std.proofs.Common.{◌≡◌, ℕ, List, [], ◌∷◌, ◌++◌, append_assoc, Bool, true, false, refl, sym, ◌∙◌, ap, subst}
 use Rattle.std.specs.Prelude.{map, reverse, length, Option, Some, None, Result, Ok, Err, is_ok}
-use Rattle.endpoint.specs.declared.Endpoint.{Endpoint}
-use Rattle.message.specs.declared.BlockRequest.{BlockRequest}
-use Rattle.message.specs.declared.Incoming.{Incoming}
-use Rattle.message.specs.declared.Incoming.TheVariants as incoming
-use Rattle.tree.specs.Answers.{answer_of}
-use Rattle.bdev.specs.DriverState.{DriverState}
-use Rattle.media.specs.Contents.{MediaState}
-use Rattle.policy.specs.declared.Policy.{Policy}
-use Rattle.policy.specs.Watch.{driver, new_watch}
-use Rattle.marks.specs.Marks.{Mark, Started, GaveUp, Took, Issued, Fault}
-use Rattle.marks.specs.declared.Cause.TheVariants.{Complaint}
-use Rattle.marks.specs.Told.{Told, Complained, Received}
-use Rattle.schedule.specs.declared.Event.{Event}
-use Rattle.schedule.specs.Groups.{Group, marks_of, EachGroup}
-use Rattle.schedule.specs.Calls.{Arrival, arrived, taken}
-use Rattle.reissue.specs.declared.link.LinkRefusal.{LinkRefusal}
-use Rattle.run_log.specs.Noted.{Noted, marks_in, grouped, with_mark, with_entry}
-use Rattle.run_log.specs.declared.log.Entry.TheVariants as entry
-use Rattle.driver_events.specs.declared.ruling.Ruling.{Ruling}
-use Rattle.driver_events.specs.declared.ruling.Ruling.TheVariants as ruling
-use Rattle.driver_events.specs.Disks.{Disks, LinesUp, NoneIsThere, LineIsFull, IsLinedUp}
-use Rattle.driver_events.specs.Scene.{Scene}
+use Rattle.playing.specs.endpoint.declared.Endpoint.{Endpoint}
+use Rattle.playing.specs.message.declared.BlockRequest.{BlockRequest}
+use Rattle.playing.specs.message.declared.Incoming.{Incoming}
+use Rattle.playing.specs.message.declared.Incoming.TheVariants as incoming
+use Rattle.playing.specs.tree.Answers.{answer_of}
+use Rattle.justifying.specs.bdev.DriverState.{DriverState}
+use Rattle.playing.specs.media.Contents.{MediaState}
+use Rattle.justifying.specs.policy.declared.Policy.{Policy}
+use Rattle.justifying.specs.policy.Watch.{driver, new_watch}
+use Rattle.justifying.specs.marks.Marks.{Mark, Started, GaveUp, Took, Issued, Fault}
+use Rattle.justifying.specs.marks.declared.Cause.TheVariants.{Complaint}
+use Rattle.justifying.specs.marks.Told.{Told, Complained, Received}
+use Rattle.playing.specs.schedule.declared.Event.{Event}
+use Rattle.playing.specs.schedule.Groups.{Group, marks_of, EachGroup}
+use Rattle.playing.specs.schedule.Calls.{Arrival, arrived, taken}
+use Rattle.playing.specs.reissue.declared.link.LinkRefusal.{LinkRefusal}
+use Rattle.playing.specs.run_log.Noted.{Noted, marks_in, grouped, with_mark, with_entry}
+use Rattle.playing.specs.run_log.declared.log.Entry.TheVariants as entry
+use Rattle.justifying.specs.driver_events.declared.ruling.Ruling.{Ruling}
+use Rattle.justifying.specs.driver_events.declared.ruling.Ruling.TheVariants as ruling
+use Rattle.justifying.specs.driver_events.Disks.{Disks, LinesUp, NoneIsThere, LineIsFull, IsLinedUp}
+use Rattle.justifying.specs.driver_events.Scene.{Scene}
 use Rattle.playing.specs.declared.arrived.Arrived.{Arrived}
 use Rattle.playing.specs.PlayView.{Play, IsOpened, first_noted, PlaysNext, Advances, Stays, Goes, Turn, Takes, TakesOwed, TakesEnd, Posts, Complains, ComesToEnd, IsPlayedOut, IsStarved, Still, Further, HandsEvent, HandsNone, HandsOwed, noting, paid, posted, complained, ruling_at}
 use Rattle.playing.specs.Waiting.{HasCalls, arrival_of}

@@ -1,13 +1,13 @@
 -- What justifies a run that was played out, put together.
 use Rattle.std.proofs.Common.{◌≡◌, ℕ, List, [], ◌∷◌, length, false, refl, sym, ◌∙◌, subst}
 use Rattle.std.specs.Prelude.{None}
-use Rattle.endpoint.specs.declared.Endpoint.{Endpoint}
-use Rattle.bdev.specs.DriverState.{DriverState}
-use Rattle.policy.specs.declared.Policy.{Policy}
-use Rattle.marks.specs.Marks.{Mark}
-use Rattle.schedule.specs.declared.Event.{Event}
-use Rattle.schedule.specs.Groups.{Group, running, generation, EachGroup}
-use Rattle.schedule.specs.Faults.{HasNotFailed}
+use Rattle.playing.specs.endpoint.declared.Endpoint.{Endpoint}
+use Rattle.justifying.specs.bdev.DriverState.{DriverState}
+use Rattle.justifying.specs.policy.declared.Policy.{Policy}
+use Rattle.justifying.specs.marks.Marks.{Mark}
+use Rattle.playing.specs.schedule.declared.Event.{Event}
+use Rattle.playing.specs.schedule.Groups.{Group, running, generation, EachGroup}
+use Rattle.playing.specs.schedule.Faults.{HasNotFailed}
 use Rattle.justifying.specs.Core.{Core}
 use Rattle.justifying.specs.Steady.{IsKept, StartsAsDue, HungAsDue, GivesUpAsDue, FlushesAsDue, drivers_of}
 use Rattle.justifying.proofs.SteadyLaws.{begins_policy, adds_policy}

@@ -1,3 +1,20 @@
+pub use Rattle.playing.specs.endpoint as endpoint
+pub use Rattle.playing.specs.message as message
+pub use Rattle.playing.specs.tree as tree
+pub use Rattle.playing.specs.media as media
+pub use Rattle.justifying.specs.bdev as bdev
+pub use Rattle.justifying.specs.policy as policy
+pub use Rattle.justifying.specs.marks as marks
+pub use Rattle.playing.specs.schedule as schedule
+pub use Rattle.justifying.specs.true_replies as true_replies
+pub use Rattle.playing.specs.inline as inline
+pub use Rattle.playing.specs.reissue as reissue
+pub use Rattle.justifying.specs.faultless as faultless
+pub use Rattle.playing.specs.run_log as run_log
+pub use Rattle.justifying.specs.driver_events as driver_events
+pub use Rattle.playing.specs as playing
+pub use Rattle.justifying.specs as justifying
+pub use Rattle.justifying.specs.errno as errno
 pub mod Said
 pub mod RunLaws
 pub mod Complaining

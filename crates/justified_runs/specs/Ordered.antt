@@ -1,9 +1,9 @@
 -- The calls taken, at each event.
 use Rattle.std.specs.Prelude.{◌≡◌, List, [], ◌∷◌, ◌++◌}
-use Rattle.marks.specs.Marks.{Mark}
-use Rattle.schedule.specs.declared.Event.{Event}
-use Rattle.schedule.specs.Groups.{Group, marks_of, EachGroup}
-use Rattle.schedule.specs.Calls.{Arrival, arrived, taken}
+use Rattle.justifying.specs.marks.Marks.{Mark}
+use Rattle.playing.specs.schedule.declared.Event.{Event}
+use Rattle.playing.specs.schedule.Groups.{Group, marks_of, EachGroup}
+use Rattle.playing.specs.schedule.Calls.{Arrival, arrived, taken}
 use Rattle.playing.specs.Waiting.{arrival_of}
 use Rattle.playing.specs.Moments.{Doing, Resting, Hearing, Answering}
 

@@ -1,16 +1,16 @@
 -- What a whole run keeps.
 use Rattle.std.specs.Prelude.{◌≡◌, ℕ, List, [], ◌∷◌, length, map, take, true, false, None, IfSome}
-use Rattle.bdev.specs.DriverState.{DriverState}
-use Rattle.media.specs.Contents.{MediaState}
-use Rattle.policy.specs.declared.Policy.{Policy}
-use Rattle.policy.specs.Watch.{driver, new_watch}
-use Rattle.marks.specs.Marks.{Started}
-use Rattle.schedule.specs.declared.Event.{Event}
-use Rattle.schedule.specs.Groups.{Group, marks_of, running, generation, Each, EachGroup}
-use Rattle.schedule.specs.Faults.{ExitsOfGroup, HasNotFailed, FailsAtItsStep}
-use Rattle.schedule.specs.Drivers.{state_of}
-use Rattle.schedule.specs.Replies.{answers_in, answers_due, are_in_order}
-use Rattle.run_log.specs.Noted.{marks_in}
+use Rattle.justifying.specs.bdev.DriverState.{DriverState}
+use Rattle.playing.specs.media.Contents.{MediaState}
+use Rattle.justifying.specs.policy.declared.Policy.{Policy}
+use Rattle.justifying.specs.policy.Watch.{driver, new_watch}
+use Rattle.justifying.specs.marks.Marks.{Started}
+use Rattle.playing.specs.schedule.declared.Event.{Event}
+use Rattle.playing.specs.schedule.Groups.{Group, marks_of, running, generation, Each, EachGroup}
+use Rattle.playing.specs.schedule.Faults.{ExitsOfGroup, HasNotFailed, FailsAtItsStep}
+use Rattle.playing.specs.schedule.Drivers.{state_of}
+use Rattle.playing.specs.schedule.Replies.{answers_in, answers_due, are_in_order}
+use Rattle.playing.specs.run_log.Noted.{marks_in}
 use Rattle.playing.specs.PlayView.{Play, IsOpened}
 use Rattle.playing.specs.Moments.{Moment, Resting, Runs}
 use Rattle.justifying.specs.Core.{Core}

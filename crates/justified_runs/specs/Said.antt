@@ -1,9 +1,10 @@
 -- What is said of a run between two of its steps.
 use Rattle.std.specs.Prelude.{◌≡◌, ℕ, List, [], ◌∷◌, true, false, None}
-use Rattle.policy.specs.Watch.{driver}
-use Rattle.marks.specs.Marks.{Mark, Started}
-use Rattle.schedule.specs.declared.Event.{Event}
-use Rattle.schedule.specs.Groups.{Group}
+use Rattle.justifying.specs.policy.Watch.{driver}
+use Rattle.justifying.specs.marks.Marks.{Mark, Started}
+use Rattle.playing.specs.schedule.declared.Event.{Event}
+use Rattle.playing.specs.schedule.Groups.{Group, marks_of}
+use Rattle.playing.specs.schedule.Starts.{are_issued_in_place}
 use Rattle.playing.specs.PlayView.{Play}
 use Rattle.playing.specs.Moments.{Moment, Resting}
 use Rattle.justifying.specs.Core.{Core}
@@ -16,6 +17,10 @@ core_of p = core_at p.scene p.owed p.told
 pub record IsSaid (Said : ℕ → List Group → Core → Type 0) (p : Play) : Type 0 where
   pub first : p.scene.noted.first ≡ Started (driver 1) ∷ []
   pub said : Said p.next p.scene.noted.groups (core_of p)
+
+-- each request of an event is issued to a live driver, before the device is given up, and again only among the first ones after a start
+abbrev pub PlacedAsDue : Event → List Mark → List Group → Type 0
+PlacedAsDue event group earlier = are_issued_in_place ((event, group) ∷ earlier) group (marks_of earlier) ≡ true
 
 -- an event began
 pub record IsBegun (groups : List Group) : Type 0 where

@@ -1,19 +1,19 @@
 -- What justifies a run that was played out.
 use Rattle.std.specs.Prelude.{◌≡◌, ℕ, List, length, map, take, true, false, None, IfSome}
-use Rattle.bdev.specs.DriverState.{DriverState}
-use Rattle.media.specs.Contents.{MediaState}
-use Rattle.policy.specs.declared.Policy.{Policy}
-use Rattle.policy.specs.Watch.{new_watch}
-use Rattle.marks.specs.Marks.{Mark}
-use Rattle.schedule.specs.declared.Sent.{Sent}
-use Rattle.schedule.specs.declared.Event.{Event}
-use Rattle.schedule.specs.Groups.{Group, marks_of, running, generation, Each, EachGroup}
-use Rattle.schedule.specs.Drivers.{state_of}
-use Rattle.schedule.specs.Faults.{ExitsOfGroup, FailsAtItsStep, HasNotFailed}
-use Rattle.schedule.specs.Starts.{GivingUpOfGroup}
-use Rattle.schedule.specs.Replies.{are_in_order}
-use Rattle.schedule.specs.Justified.{AnswersAndFlushes}
-use Rattle.run_log.specs.Noted.{marks_in}
+use Rattle.justifying.specs.bdev.DriverState.{DriverState}
+use Rattle.playing.specs.media.Contents.{MediaState}
+use Rattle.justifying.specs.policy.declared.Policy.{Policy}
+use Rattle.justifying.specs.policy.Watch.{new_watch}
+use Rattle.justifying.specs.marks.Marks.{Mark}
+use Rattle.playing.specs.schedule.declared.Sent.{Sent}
+use Rattle.playing.specs.schedule.declared.Event.{Event}
+use Rattle.playing.specs.schedule.Groups.{Group, marks_of, running, generation, Each, EachGroup}
+use Rattle.playing.specs.schedule.Drivers.{state_of}
+use Rattle.playing.specs.schedule.Faults.{ExitsOfGroup, FailsAtItsStep, HasNotFailed}
+use Rattle.playing.specs.schedule.Starts.{GivingUpOfGroup}
+use Rattle.playing.specs.schedule.Replies.{are_in_order}
+use Rattle.playing.specs.schedule.Justified.{AnswersAndFlushes}
+use Rattle.playing.specs.run_log.Noted.{marks_in}
 use Rattle.playing.specs.PlayView.{IsOpened}
 use Rattle.playing.specs.Moments.{Moment, Resting, Runs}
 use Rattle.justifying.specs.Steady.{StartsAsDue, HungAsDue, drivers_of}

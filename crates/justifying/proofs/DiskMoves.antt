@@ -1,17 +1,17 @@
 -- What is done to the drivers leaves the media's generation, and, but for a fault of the current driver, that one living.
 use Rattle.std.proofs.Common.{◌≡◌, ℕ, zero, suc, ◌+◌, ◌<◌, ◌≤◌, List, [], ◌∷◌, ◌++◌, Bool, true, false, cond, refl, sym, ◌∙◌, ap, subst, inl, inr, ◌⊎◌, arith}
 use Rattle.std.specs.Prelude.{Option, Some, None, Result, Ok, Err, slice_get, slice_set}
-use Rattle.endpoint.specs.declared.Endpoint.{Endpoint}
-use Rattle.message.specs.declared.BlockRequest.{BlockRequest}
-use Rattle.message.specs.declared.Kind.{Kind}
-use Rattle.message.specs.declared.Kind.TheVariants.{Read, Write}
-use Rattle.media.specs.Contents.{MediaState, written, accepts}
-use Rattle.bdev.specs.declared.Step.{Step}
-use Rattle.bdev.specs.declared.Step.TheVariants.{Working, Idle, Done, Failed}
-use Rattle.bdev.specs.DriverState.{DriverState, Work, chunk}
-use Rattle.bdev.specs.Promises.{StepKeeps, StepsAt as DriverStepsAt, MovesAtMostOne, MovesBytes}
-use Rattle.reissue.specs.declared.link.LinkRefusal.{LinkRefusal}
-use Rattle.run_log.specs.declared.log.Post.{Post}
+use Rattle.driver_events.specs.endpoint.declared.Endpoint.{Endpoint}
+use Rattle.driver_events.specs.message.declared.BlockRequest.{BlockRequest}
+use Rattle.driver_events.specs.message.declared.Kind.{Kind}
+use Rattle.driver_events.specs.message.declared.Kind.TheVariants.{Read, Write}
+use Rattle.driver_events.specs.media.Contents.{MediaState, written, accepts}
+use Rattle.driver_events.specs.bdev.declared.Step.{Step}
+use Rattle.driver_events.specs.bdev.declared.Step.TheVariants.{Working, Idle, Done, Failed}
+use Rattle.driver_events.specs.bdev.DriverState.{DriverState, Work, chunk}
+use Rattle.driver_events.specs.bdev.Promises.{StepKeeps, StepsAt as DriverStepsAt, MovesAtMostOne, MovesBytes}
+use Rattle.driver_events.specs.reissue.declared.link.LinkRefusal.{LinkRefusal}
+use Rattle.driver_events.specs.run_log.declared.log.Post.{Post}
 use Rattle.driver_events.specs.Disks.{Disks, Slot, torn_media, Steps, NoStep, CurrentSteps, OlderSteps, Dies, NoneDies, CurrentDies, OlderDies, Hangs, NoneHangs, CurrentHangs, OlderHangs, LinesUp, NoneIsThere, LineIsFull, IsLinedUp, LinesUpAgain, NoneLinesUp, CurrentLinesUp, OlderLinesUp, Repeats}
 use Rattle.justifying.specs.Happens.{GoesWell}
 

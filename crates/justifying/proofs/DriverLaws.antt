@@ -1,23 +1,23 @@
 -- The drivers are those that were handed in, and the one that runs hasn't failed.
 use Rattle.std.proofs.Common.{◌≡◌, ℕ, zero, suc, ◌+◌, ◌<◌, ◌≤◌, List, [], ◌∷◌, ◌++◌, length, Bool, true, false, refl, sym, ◌∙◌, ap, subst, arith}
 use Rattle.std.specs.Prelude.{map, Option, Some, None, Result, Ok, Err, slice_get, slice_set}
-use Rattle.endpoint.specs.declared.Endpoint.{Endpoint}
-use Rattle.message.specs.declared.BlockRequest.{BlockRequest}
-use Rattle.media.specs.Contents.{MediaState}
-use Rattle.bdev.specs.declared.Step.{Step}
-use Rattle.bdev.specs.declared.Step.TheVariants.{Working, Idle, Done, Failed}
-use Rattle.bdev.specs.declared.Accept.{Accept}
-use Rattle.bdev.specs.declared.Accept.TheVariants.{Taken, Busy, Old}
-use Rattle.bdev.specs.DriverState.{DriverState, Ranges, Work}
-use Rattle.bdev.specs.Promises.{StepsAt as DriverStepsAt, AcceptKeeps}
-use Rattle.policy.specs.declared.Policy.{Policy}
-use Rattle.policy.specs.Watch.{Watch, Phase, Running, Waiting, GivenUp, driver}
-use Rattle.inline.specs.Steps.{HandsOver}
-use Rattle.marks.specs.Marks.{Mark}
-use Rattle.schedule.specs.declared.Event.{Event}
-use Rattle.schedule.specs.Groups.{Group, Each}
-use Rattle.reissue.specs.declared.link.LinkRefusal.{LinkRefusal}
-use Rattle.run_log.specs.declared.log.Post.{Post}
+use Rattle.driver_events.specs.endpoint.declared.Endpoint.{Endpoint}
+use Rattle.driver_events.specs.message.declared.BlockRequest.{BlockRequest}
+use Rattle.driver_events.specs.media.Contents.{MediaState}
+use Rattle.driver_events.specs.bdev.declared.Step.{Step}
+use Rattle.driver_events.specs.bdev.declared.Step.TheVariants.{Working, Idle, Done, Failed}
+use Rattle.driver_events.specs.bdev.declared.Accept.{Accept}
+use Rattle.driver_events.specs.bdev.declared.Accept.TheVariants.{Taken, Busy, Old}
+use Rattle.driver_events.specs.bdev.DriverState.{DriverState, Ranges, Work}
+use Rattle.driver_events.specs.bdev.Promises.{StepsAt as DriverStepsAt, AcceptKeeps}
+use Rattle.driver_events.specs.policy.declared.Policy.{Policy}
+use Rattle.driver_events.specs.policy.Watch.{Watch, Phase, Running, Waiting, GivenUp, driver}
+use Rattle.driver_events.specs.inline.Steps.{HandsOver}
+use Rattle.driver_events.specs.marks.Marks.{Mark}
+use Rattle.driver_events.specs.schedule.declared.Event.{Event}
+use Rattle.driver_events.specs.schedule.Groups.{Group, Each}
+use Rattle.driver_events.specs.reissue.declared.link.LinkRefusal.{LinkRefusal}
+use Rattle.driver_events.specs.run_log.declared.log.Post.{Post}
 use Rattle.driver_events.specs.Disks.{Disks, Slot, SlotSteps, started, Steps, NoStep, CurrentSteps, OlderSteps, Dies, NoneDies, CurrentDies, OlderDies, Hangs, NoneHangs, CurrentHangs, OlderHangs, LinesUp, NoneIsThere, LineIsFull, IsLinedUp, LinesUpAgain, NoneLinesUp, CurrentLinesUp, OlderLinesUp, Repeats}
 use Rattle.justifying.specs.Core.{Core, Story, story, FollowsGroups}
 use Rattle.justifying.specs.Happens.{AtFault, Replaces, GivesUp, AtReport, OfNone, OfRunning, GoesWell, beaten_core, TicksTo, Beats, MissesOne, FoundHung, WaitsOn, StartsNext, IsOver, Begins, Arrives, Flushes, Answers, Drops, Delivers, LinesAgain, HangsOne, StepsOne, FailsOne, DiesNone, DiesOne, Ticks, Adds, AddsNothing, Posts, Replies, Complains, Pays}

@@ -2,26 +2,26 @@
 use Rattle.std.proofs.Common.{◌≡◌, ℕ, zero, suc, ◌+◌, List, [], ◌∷◌, ◌++◌, Bool, true, false, cond, refl, sym, ◌∙◌, ap, subst, arith}
 use Rattle.std.proofs.lemmas.Bool.Decides.{nat_tests}
 use Rattle.std.specs.Prelude.{◌&&◌, ◌==◌, nat_le, Option, Some, None, if◌then◌else◌, slice_get}
-use Rattle.endpoint.specs.declared.Endpoint.{Endpoint}
-use Rattle.message.specs.declared.Incoming.{Incoming}
-use Rattle.message.specs.declared.Incoming.TheVariants as incoming
-use Rattle.bdev.specs.declared.Step.{Step}
-use Rattle.bdev.specs.declared.Step.TheVariants.{Working, Idle, Done, Failed}
-use Rattle.bdev.specs.DriverState.{DriverState}
-use Rattle.policy.specs.declared.Policy.{Policy}
-use Rattle.policy.specs.declared.Event.TheVariants as policy
-use Rattle.policy.specs.Faults.{gives_up, restart_tick}
-use Rattle.policy.specs.Watch as restart
-use Rattle.policy.specs.Watch.{Watch, Phase, Running, Waiting, GivenUp, driver, is_last_started, is_same_pulse, on, on_fault, on_report, on_start, on_tick}
-use Rattle.marks.specs.Marks.{Mark, Started, Answered, Flush, GaveUp, Fault}
-use Rattle.marks.specs.Open.{counts}
-use Rattle.marks.specs.declared.Cause.TheVariants.{Exit, Hung}
-use Rattle.schedule.specs.declared.Sent.{Sent}
-use Rattle.schedule.specs.declared.Event.{Event}
-use Rattle.schedule.specs.declared.Event.TheVariants as event
-use Rattle.schedule.specs.Groups.{Group, marks_of}
-use Rattle.run_log.specs.declared.log.Entry.TheVariants as entry
-use Rattle.run_log.specs.Noted.{Noted, marks_from, marks_in, with_mark, with_message, with_entry}
+use Rattle.driver_events.specs.endpoint.declared.Endpoint.{Endpoint}
+use Rattle.driver_events.specs.message.declared.Incoming.{Incoming}
+use Rattle.driver_events.specs.message.declared.Incoming.TheVariants as incoming
+use Rattle.driver_events.specs.bdev.declared.Step.{Step}
+use Rattle.driver_events.specs.bdev.declared.Step.TheVariants.{Working, Idle, Done, Failed}
+use Rattle.driver_events.specs.bdev.DriverState.{DriverState}
+use Rattle.driver_events.specs.policy.declared.Policy.{Policy}
+use Rattle.driver_events.specs.policy.declared.Event.TheVariants as policy
+use Rattle.driver_events.specs.policy.Faults.{gives_up, restart_tick}
+use Rattle.driver_events.specs.policy.Watch as restart
+use Rattle.driver_events.specs.policy.Watch.{Watch, Phase, Running, Waiting, GivenUp, driver, is_last_started, is_same_pulse, on, on_fault, on_report, on_start, on_tick}
+use Rattle.driver_events.specs.marks.Marks.{Mark, Started, Answered, Flush, GaveUp, Fault}
+use Rattle.driver_events.specs.marks.Open.{counts}
+use Rattle.driver_events.specs.marks.declared.Cause.TheVariants.{Exit, Hung}
+use Rattle.driver_events.specs.schedule.declared.Sent.{Sent}
+use Rattle.driver_events.specs.schedule.declared.Event.{Event}
+use Rattle.driver_events.specs.schedule.declared.Event.TheVariants as event
+use Rattle.driver_events.specs.schedule.Groups.{Group, marks_of}
+use Rattle.driver_events.specs.run_log.declared.log.Entry.TheVariants as entry
+use Rattle.driver_events.specs.run_log.Noted.{Noted, marks_from, marks_in, with_mark, with_message, with_entry}
 use Rattle.driver_events.specs.declared.ruling.Ruling.{Ruling}
 use Rattle.driver_events.specs.declared.ruling.Ruling.TheVariants as ruling
 use Rattle.driver_events.specs.Ruling.{ruling_of}

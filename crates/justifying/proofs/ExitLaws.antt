@@ -2,27 +2,27 @@
 use Rattle.std.proofs.Common.{◌≡◌, ℕ, zero, suc, ◌+◌, ◌-◌, ◌<◌, ◌≤◌, List, [], ◌∷◌, ◌++◌, length, Bool, true, false, cond, refl, sym, ◌∙◌, ap, subst, arith, ◌⊎◌, inl, inr}
 use Rattle.std.specs.Prelude.{◌&&◌, map, max, Option, Some, None, Result, Ok, Err, IsSomeAnd, slice_get, slice_set}
 use Rattle.std.proofs.lemmas.List.{append_assoc}
-use Rattle.endpoint.specs.declared.Endpoint.{Endpoint}
-use Rattle.message.specs.declared.BlockRequest.{BlockRequest}
-use Rattle.media.specs.Contents.{MediaState}
-use Rattle.bdev.specs.declared.Step.{Step}
-use Rattle.bdev.specs.declared.Step.TheVariants.{Working, Idle, Done, Failed}
-use Rattle.bdev.specs.declared.Accept.{Accept}
-use Rattle.bdev.specs.declared.Accept.TheVariants.{Taken, Busy, Old}
-use Rattle.bdev.specs.DriverState.{DriverState, Work}
-use Rattle.bdev.specs.Promises.{StepKeeps, StepsAt as DriverStepsAt, AcceptKeeps}
-use Rattle.policy.specs.Watch.{Watch, driver}
-use Rattle.marks.specs.Marks.{Mark, Started, Answered, Flush, GaveUp, Took, Issued, Fault}
-use Rattle.marks.specs.declared.Cause.TheVariants.{Exit, Hung}
-use Rattle.inline.specs.Steps.{HandsOver}
-use Rattle.schedule.specs.declared.Event.{Event}
-use Rattle.schedule.specs.declared.Event.TheVariants as event
-use Rattle.schedule.specs.Groups.{Group, EachGroup}
-use Rattle.schedule.specs.Drivers.{state_of, exits_in, driver_runs}
-use Rattle.schedule.specs.Faults.{ExitsOfGroup, ExitsAtStep, exits_due}
-use Rattle.schedule.specs.Laws.{HasFailed}
-use Rattle.reissue.specs.declared.link.LinkRefusal.{LinkRefusal}
-use Rattle.run_log.specs.declared.log.Post.{Post}
+use Rattle.driver_events.specs.endpoint.declared.Endpoint.{Endpoint}
+use Rattle.driver_events.specs.message.declared.BlockRequest.{BlockRequest}
+use Rattle.driver_events.specs.media.Contents.{MediaState}
+use Rattle.driver_events.specs.bdev.declared.Step.{Step}
+use Rattle.driver_events.specs.bdev.declared.Step.TheVariants.{Working, Idle, Done, Failed}
+use Rattle.driver_events.specs.bdev.declared.Accept.{Accept}
+use Rattle.driver_events.specs.bdev.declared.Accept.TheVariants.{Taken, Busy, Old}
+use Rattle.driver_events.specs.bdev.DriverState.{DriverState, Work}
+use Rattle.driver_events.specs.bdev.Promises.{StepKeeps, StepsAt as DriverStepsAt, AcceptKeeps}
+use Rattle.driver_events.specs.policy.Watch.{Watch, driver}
+use Rattle.driver_events.specs.marks.Marks.{Mark, Started, Answered, Flush, GaveUp, Took, Issued, Fault}
+use Rattle.driver_events.specs.marks.declared.Cause.TheVariants.{Exit, Hung}
+use Rattle.driver_events.specs.inline.Steps.{HandsOver}
+use Rattle.driver_events.specs.schedule.declared.Event.{Event}
+use Rattle.driver_events.specs.schedule.declared.Event.TheVariants as event
+use Rattle.driver_events.specs.schedule.Groups.{Group, EachGroup}
+use Rattle.driver_events.specs.schedule.Drivers.{state_of, exits_in, driver_runs}
+use Rattle.driver_events.specs.schedule.Faults.{ExitsOfGroup, ExitsAtStep, exits_due}
+use Rattle.driver_events.specs.schedule.Laws.{HasFailed}
+use Rattle.driver_events.specs.reissue.declared.link.LinkRefusal.{LinkRefusal}
+use Rattle.driver_events.specs.run_log.declared.log.Post.{Post}
 use Rattle.driver_events.specs.Disks.{Disks, Slot, SlotSteps, IsOlder, started, Steps, NoStep, CurrentSteps, OlderSteps, Dies, NoneDies, CurrentDies, OlderDies, Hangs, NoneHangs, CurrentHangs, OlderHangs, LinesUp, NoneIsThere, LineIsFull, IsLinedUp, LinesUpAgain, NoneLinesUp, CurrentLinesUp, OlderLinesUp, Repeats}
 use Rattle.justifying.specs.Core.{Core, FollowsGroups}
 use Rattle.justifying.specs.Happens.{AtReport, OfNone, OfRunning, fault_marks, exit_marks, beaten_core, TicksTo, Beats, MissesOne, FoundHung, WaitsOn, StartsNext, IsOver, Begins, Arrives, Flushes, Answers, Drops, Delivers, LinesAgain, HangsOne, StepsOne, FailsOne, DiesNone, DiesOne, Ticks, Adds, AddsNothing, Posts, Replies, Complains, Pays}

@@ -1,3 +1,6 @@
+pub use Rattle.driver_events.proofs.faultless as faultless
+pub use Rattle.driver_events.proofs as driver_events
+pub use Rattle.driver_events.proofs.marks as marks
 pub mod DiskMoves
 pub mod FollowLaws
 pub mod TickLaws

@@ -3,24 +3,24 @@ use Rattle.std.proofs.Common.{◌≡◌, ℕ, zero, suc, ◌+◌, ◌<◌, ◌�
 use Rattle.std.proofs.lemmas.Bool.Decides.{nat_tests}
 use Rattle.std.proofs.lemmas.Option.{slice_get_within}
 use Rattle.std.specs.Prelude.{◌&&◌, ◌||◌, ◌==◌, not, nat_lt, nat_le, max, Option, Some, None, Result, Ok, Err, slice_get, slice_set}
-use Rattle.endpoint.specs.declared.Endpoint.{Endpoint}
-use Rattle.message.specs.declared.BlockRequest.{BlockRequest}
-use Rattle.media.specs.Contents.{MediaState}
-use Rattle.bdev.specs.declared.Step.{Step}
-use Rattle.bdev.specs.declared.Step.TheVariants.{Working, Idle, Done, Failed}
-use Rattle.bdev.specs.DriverState.{DriverState}
-use Rattle.policy.specs.declared.Policy.{Policy}
-use Rattle.policy.specs.Watch.{Watch, driver}
-use Rattle.marks.specs.Marks.{Mark}
-use Rattle.marks.specs.declared.Cause.TheVariants.{Exit}
-use Rattle.schedule.specs.declared.Event.{Event}
-use Rattle.schedule.specs.declared.Event.TheVariants as event
-use Rattle.schedule.specs.Groups.{Group, marks_of, generation, Each}
-use Rattle.schedule.specs.Drivers.{has_exit, has_started, has_ended, is_live, driver_runs}
-use Rattle.schedule.specs.Faults.{may_have_failed}
-use Rattle.true_replies.specs.Events.{live_after}
-use Rattle.reissue.specs.declared.link.LinkRefusal.{LinkRefusal}
-use Rattle.run_log.specs.declared.log.Post.{Post}
+use Rattle.driver_events.specs.endpoint.declared.Endpoint.{Endpoint}
+use Rattle.driver_events.specs.message.declared.BlockRequest.{BlockRequest}
+use Rattle.driver_events.specs.media.Contents.{MediaState}
+use Rattle.driver_events.specs.bdev.declared.Step.{Step}
+use Rattle.driver_events.specs.bdev.declared.Step.TheVariants.{Working, Idle, Done, Failed}
+use Rattle.driver_events.specs.bdev.DriverState.{DriverState}
+use Rattle.driver_events.specs.policy.declared.Policy.{Policy}
+use Rattle.driver_events.specs.policy.Watch.{Watch, driver}
+use Rattle.driver_events.specs.marks.Marks.{Mark}
+use Rattle.driver_events.specs.marks.declared.Cause.TheVariants.{Exit}
+use Rattle.driver_events.specs.schedule.declared.Event.{Event}
+use Rattle.driver_events.specs.schedule.declared.Event.TheVariants as event
+use Rattle.driver_events.specs.schedule.Groups.{Group, marks_of, generation, Each}
+use Rattle.driver_events.specs.schedule.Drivers.{has_exit, has_started, has_ended, is_live, driver_runs}
+use Rattle.driver_events.specs.schedule.Faults.{may_have_failed}
+use Rattle.driver_events.specs.true_replies.Events.{live_after}
+use Rattle.driver_events.specs.reissue.declared.link.LinkRefusal.{LinkRefusal}
+use Rattle.driver_events.specs.run_log.declared.log.Post.{Post}
 use Rattle.driver_events.specs.Disks.{Disks, Slot, SlotSteps, IsOlder, NoneLives, NotStarted, CurrentIsDead, OlderIsDead, started, Steps, NoStep, CurrentSteps, OlderSteps, Dies, NoneDies, CurrentDies, OlderDies, Hangs, NoneHangs, CurrentHangs, OlderHangs, LinesUp, NoneIsThere, LineIsFull, IsLinedUp, LinesUpAgain, NoneLinesUp, CurrentLinesUp, OlderLinesUp, Repeats}
 use Rattle.justifying.specs.Core.{Core, FollowsGroups}
 use Rattle.justifying.specs.Happens.{AtReport, OfNone, OfRunning, fault_marks, exit_marks, GoesWell, beaten_core, TicksTo, Beats, MissesOne, FoundHung, WaitsOn, StartsNext, IsOver, Begins, Arrives, Flushes, Answers, Drops, Delivers, LinesAgain, HangsOne, StepsOne, FailsOne, DiesNone, DiesOne, Ticks, Adds, AddsNothing, Posts, Replies, Complains, Pays}

@@ -1,9 +1,9 @@
 -- What each group keeps, each event and what is done within it keep.
 use Rattle.std.proofs.Common.{◌≡◌, ℕ, ◌+◌, List, [], ◌∷◌, ◌++◌, Bool, true, false, refl, sym, ◌∙◌, subst}
-use Rattle.policy.specs.declared.Policy.{Policy}
-use Rattle.marks.specs.Marks.{Mark}
-use Rattle.schedule.specs.declared.Event.{Event}
-use Rattle.schedule.specs.Groups.{Group, EachGroup}
+use Rattle.driver_events.specs.policy.declared.Policy.{Policy}
+use Rattle.driver_events.specs.marks.Marks.{Mark}
+use Rattle.driver_events.specs.schedule.declared.Event.{Event}
+use Rattle.driver_events.specs.schedule.Groups.{Group, EachGroup}
 use Rattle.justifying.specs.Core.{Core, FollowsGroups}
 use Rattle.justifying.specs.Happens.{TicksTo, Beats, MissesOne, FoundHung, WaitsOn, StartsNext, IsOver, beaten_core, Begins, Arrives, Flushes, Answers, Drops, Delivers, LinesAgain, HangsOne, StepsOne, FailsOne, DiesNone, DiesOne, Ticks, Adds, AddsNothing, Posts, Replies, Complains, Pays}
 use Rattle.justifying.specs.Steady.{IsKept, EachSoFar, StartsAsDue, HungAsDue, FlushesAsDue}

@@ -2,19 +2,19 @@
 use Rattle.std.proofs.Common.{◌≡◌, ℕ, zero, suc, ◌+◌, ◌-◌, ◌<◌, ◌≤◌, List, [], ◌∷◌, ◌++◌, Bool, true, false, cond, refl, sym, ◌∙◌, ap, subst, inl, inr, ◌⊎◌, arith, length}
 use Rattle.std.proofs.lemmas.Bool.Decides.{nat_tests}
 use Rattle.std.specs.Prelude.{◌&&◌, ◌||◌, not, ◌==◌, nat_lt, nat_le, max, Option, Some, None, Ok, if◌then◌else◌}
-use Rattle.endpoint.specs.declared.Endpoint.{Endpoint}
-use Rattle.bdev.specs.DriverState.{DriverState}
-use Rattle.policy.specs.declared.Policy.{Policy}
-use Rattle.policy.specs.Faults.{LastFault, next_fault, last_fault, gives_up, restart_tick}
-use Rattle.policy.specs.Watch.{Watch, Phase, Running, Waiting, GivenUp, driver, is_same_pulse}
-use Rattle.marks.specs.Marks.{Mark, Started, Answered, Flush, GaveUp, Took, Issued, Fault, gave_up, awaits_start, is_endpoint}
-use Rattle.marks.specs.declared.Cause.TheVariants.{Exit, Hung, Complaint}
-use Rattle.schedule.specs.declared.Event.{Event}
-use Rattle.schedule.specs.declared.Event.TheVariants as event
-use Rattle.schedule.specs.Groups.{Group, marks_of, ticks_so_far, running, started_in, generation}
-use Rattle.schedule.specs.Drivers.{is_hung, missed, has_started}
-use Rattle.schedule.specs.Starts.{fault_of, ticks_of_faults, ticks_of_faults_in}
-use Rattle.run_log.specs.declared.log.Post.{Post}
+use Rattle.driver_events.specs.endpoint.declared.Endpoint.{Endpoint}
+use Rattle.driver_events.specs.bdev.DriverState.{DriverState}
+use Rattle.driver_events.specs.policy.declared.Policy.{Policy}
+use Rattle.driver_events.specs.policy.Faults.{LastFault, next_fault, last_fault, gives_up, restart_tick}
+use Rattle.driver_events.specs.policy.Watch.{Watch, Phase, Running, Waiting, GivenUp, driver, is_same_pulse}
+use Rattle.driver_events.specs.marks.Marks.{Mark, Started, Answered, Flush, GaveUp, Took, Issued, Fault, gave_up, awaits_start, is_endpoint}
+use Rattle.driver_events.specs.marks.declared.Cause.TheVariants.{Exit, Hung, Complaint}
+use Rattle.driver_events.specs.schedule.declared.Event.{Event}
+use Rattle.driver_events.specs.schedule.declared.Event.TheVariants as event
+use Rattle.driver_events.specs.schedule.Groups.{Group, marks_of, ticks_so_far, running, started_in, generation}
+use Rattle.driver_events.specs.schedule.Drivers.{is_hung, missed, has_started}
+use Rattle.driver_events.specs.schedule.Starts.{fault_of, ticks_of_faults, ticks_of_faults_in}
+use Rattle.driver_events.specs.run_log.declared.log.Post.{Post}
 use Rattle.driver_events.specs.Disks.{Disks, started}
 use Rattle.justifying.specs.Core.{Core, Story, story, RunsNow, WaitsNow, IsGivenUp, PhaseIs, Follows, FollowsGroups}
 use Rattle.justifying.specs.Happens.{fault_at, AtFault, Replaces, GivesUp, AtReport, OfNone, OfRunning, fault_marks, exit_marks, blame_marks, is_end, beaten_core, TicksTo, Beats, MissesOne, FoundHung, WaitsOn, StartsNext, IsOver, Begins, Arrives, Flushes, Answers, Drops, Delivers, LinesAgain, HangsOne, StepsOne, FailsOne, DiesNone, DiesOne, Ticks, Adds, AddsNothing, Posts, Replies, Complains, Pays}

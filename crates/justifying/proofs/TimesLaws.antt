@@ -1,18 +1,18 @@
 -- The device is given up in the group of the fault that gives it up, once.
 use Rattle.std.proofs.Common.{◌≡◌, ℕ, zero, suc, ◌+◌, ◌-◌, ◌<◌, ◌≤◌, List, [], ◌∷◌, ◌++◌, Bool, true, false, cond, refl, sym, ◌∙◌, ap, subst, arith}
 use Rattle.std.specs.Prelude.{◌&&◌, ◌||◌, not, Option, Some, None, if◌then◌else◌}
-use Rattle.endpoint.specs.declared.Endpoint.{Endpoint}
-use Rattle.policy.specs.declared.Policy.{Policy}
-use Rattle.policy.specs.Faults.{LastFault, gives_up}
-use Rattle.policy.specs.Laws.{is_running}
-use Rattle.policy.specs.Watch.{Watch, Phase, Running, Waiting, GivenUp, driver}
-use Rattle.marks.specs.Marks.{Mark, Started, Answered, Flush, GaveUp, Took, Issued, Fault}
-use Rattle.marks.specs.declared.Cause.{Cause}
-use Rattle.marks.specs.declared.Cause.TheVariants.{Exit, Hung, Complaint}
-use Rattle.schedule.specs.declared.Event.{Event}
-use Rattle.schedule.specs.declared.Event.TheVariants as event
-use Rattle.schedule.specs.Groups.{Group, marks_of, generation, EachGroup}
-use Rattle.schedule.specs.Starts.{fault_of, times_gave_up, times_due, has_fault, gives_up_at}
+use Rattle.driver_events.specs.endpoint.declared.Endpoint.{Endpoint}
+use Rattle.driver_events.specs.policy.declared.Policy.{Policy}
+use Rattle.driver_events.specs.policy.Faults.{LastFault, gives_up}
+use Rattle.driver_events.specs.policy.Laws.{is_running}
+use Rattle.driver_events.specs.policy.Watch.{Watch, Phase, Running, Waiting, GivenUp, driver}
+use Rattle.driver_events.specs.marks.Marks.{Mark, Started, Answered, Flush, GaveUp, Took, Issued, Fault}
+use Rattle.driver_events.specs.marks.declared.Cause.{Cause}
+use Rattle.driver_events.specs.marks.declared.Cause.TheVariants.{Exit, Hung, Complaint}
+use Rattle.driver_events.specs.schedule.declared.Event.{Event}
+use Rattle.driver_events.specs.schedule.declared.Event.TheVariants as event
+use Rattle.driver_events.specs.schedule.Groups.{Group, marks_of, generation, EachGroup}
+use Rattle.driver_events.specs.schedule.Starts.{fault_of, times_gave_up, times_due, has_fault, gives_up_at}
 use Rattle.driver_events.specs.Disks.{Disks}
 use Rattle.justifying.specs.Core.{Core, Story, story, WaitsNow, IsGivenUp, PhaseIs, Follows, FollowsGroups}
 use Rattle.justifying.specs.Happens.{AtFault, Replaces, GivesUp, AtReport, OfNone, OfRunning, fault_marks, exit_marks, blame_marks, is_end, beaten_core, TicksTo, Beats, MissesOne, FoundHung, WaitsOn, StartsNext, IsOver, Begins, Arrives, Flushes, Answers, Drops, Delivers, LinesAgain, HangsOne, StepsOne, FailsOne, DiesNone, DiesOne, Ticks, Adds, AddsNothing, Posts, Replies, Complains, Pays}

@@ -1,15 +1,15 @@
 -- What a run stands at, but for what was noted, and what its groups say of the driver that runs.
 use Rattle.std.specs.Prelude.{◌≡◌, ℕ, ◌+◌, ◌≤◌, ◌<◌, List, Bool, true, false, not, Option, Some, None}
-use Rattle.endpoint.specs.declared.Endpoint.{Endpoint}
-use Rattle.bdev.specs.DriverState.{DriverState}
-use Rattle.policy.specs.declared.Policy.{Policy}
-use Rattle.policy.specs.Faults.{LastFault, gives_up, restart_tick}
-use Rattle.policy.specs.Watch.{Watch, Phase, Running, Waiting, GivenUp, driver}
-use Rattle.marks.specs.Marks.{gave_up, awaits_start}
-use Rattle.schedule.specs.Groups.{Group, marks_of, ticks_so_far, running, generation}
-use Rattle.schedule.specs.Drivers.{is_hung, missed}
-use Rattle.schedule.specs.Starts.{fault_of}
-use Rattle.run_log.specs.declared.log.Post.{Post}
+use Rattle.driver_events.specs.endpoint.declared.Endpoint.{Endpoint}
+use Rattle.driver_events.specs.bdev.DriverState.{DriverState}
+use Rattle.driver_events.specs.policy.declared.Policy.{Policy}
+use Rattle.driver_events.specs.policy.Faults.{LastFault, gives_up, restart_tick}
+use Rattle.driver_events.specs.policy.Watch.{Watch, Phase, Running, Waiting, GivenUp, driver}
+use Rattle.driver_events.specs.marks.Marks.{gave_up, awaits_start}
+use Rattle.driver_events.specs.schedule.Groups.{Group, marks_of, ticks_so_far, running, generation}
+use Rattle.driver_events.specs.schedule.Drivers.{is_hung, missed}
+use Rattle.driver_events.specs.schedule.Starts.{fault_of}
+use Rattle.driver_events.specs.run_log.declared.log.Post.{Post}
 use Rattle.driver_events.specs.Disks.{Disks}
 
 -- the drivers, those not started yet, the policy and what the reincarnation server knows, the tick, the last beat, the accepted posts, and

@@ -1,10 +1,10 @@
 -- What each event, and what a server does within it, keep.
 use Rattle.std.specs.Prelude.{◌≡◌, ℕ, List, [], ◌∷◌, ◌++◌, Bool, false, Option}
-use Rattle.message.specs.declared.Incoming.{Incoming}
-use Rattle.bdev.specs.DriverState.{DriverState}
-use Rattle.policy.specs.Watch.{driver}
-use Rattle.marks.specs.Marks.{Mark, Started}
-use Rattle.schedule.specs.declared.Event.{Event}
+use Rattle.driver_events.specs.message.declared.Incoming.{Incoming}
+use Rattle.driver_events.specs.bdev.DriverState.{DriverState}
+use Rattle.driver_events.specs.policy.Watch.{driver}
+use Rattle.driver_events.specs.marks.Marks.{Mark, Started}
+use Rattle.driver_events.specs.schedule.declared.Event.{Event}
 use Rattle.driver_events.specs.Scene.{Scene, Plays}
 use Rattle.justifying.specs.Steady.{IsKept, EachSoFar, StartsAsDue, HungAsDue, FlushesAsDue, GivesUpSoFar, AnsweredSoFar, ExitsSoFar, DriversSoFar, SlotsSoFar}
 use Rattle.justifying.specs.Seen.{EventDone, begun_scene}

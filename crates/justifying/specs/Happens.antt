@@ -1,25 +1,25 @@
 -- What an event does, and what a server does after it, to the reincarnation server and the drivers; and the marks of it.
 use Rattle.std.specs.Prelude.{◌≡◌, ℕ, ◌+◌, ◌-◌, List, [], ◌∷◌, ◌++◌, Bool, true, false, not, ◌&&◌, ◌||◌, ◌==◌, nat_le, Option, Some, None, Ok, slice_get, if◌then◌else◌}
-use Rattle.endpoint.specs.declared.Endpoint.{Endpoint}
-use Rattle.message.specs.declared.BlockRequest.{BlockRequest}
-use Rattle.tree.specs.declared.Who.{Who}
-use Rattle.tree.specs.declared.Call.{Call}
-use Rattle.tree.specs.Answers.{Answer}
-use Rattle.bdev.specs.declared.Step.{Step}
-use Rattle.bdev.specs.declared.Step.TheVariants.{Working, Idle, Done, Failed}
-use Rattle.bdev.specs.DriverState.{DriverState}
-use Rattle.policy.specs.declared.Policy.{Policy}
-use Rattle.policy.specs.Faults.{LastFault, next_fault, gives_up, restart_tick}
-use Rattle.policy.specs.Watch.{Watch, Running, Waiting, GivenUp, driver, is_last_started, is_same_pulse}
-use Rattle.marks.specs.Marks.{Mark, Started, Answered, Flush, GaveUp, Took, Issued, Fault}
-use Rattle.marks.specs.Open.{counts}
-use Rattle.marks.specs.declared.Cause.{Cause}
-use Rattle.marks.specs.declared.Cause.TheVariants.{Exit, Hung, Complaint}
-use Rattle.schedule.specs.declared.Sent.{Sent}
-use Rattle.schedule.specs.declared.Event.{Event}
-use Rattle.schedule.specs.declared.Event.TheVariants as event
-use Rattle.schedule.specs.Groups.{Group, marks_of}
-use Rattle.run_log.specs.declared.log.Post.{Post}
+use Rattle.driver_events.specs.endpoint.declared.Endpoint.{Endpoint}
+use Rattle.driver_events.specs.message.declared.BlockRequest.{BlockRequest}
+use Rattle.driver_events.specs.tree.declared.Who.{Who}
+use Rattle.driver_events.specs.tree.declared.Call.{Call}
+use Rattle.driver_events.specs.tree.Answers.{Answer}
+use Rattle.driver_events.specs.bdev.declared.Step.{Step}
+use Rattle.driver_events.specs.bdev.declared.Step.TheVariants.{Working, Idle, Done, Failed}
+use Rattle.driver_events.specs.bdev.DriverState.{DriverState}
+use Rattle.driver_events.specs.policy.declared.Policy.{Policy}
+use Rattle.driver_events.specs.policy.Faults.{LastFault, next_fault, gives_up, restart_tick}
+use Rattle.driver_events.specs.policy.Watch.{Watch, Running, Waiting, GivenUp, driver, is_last_started, is_same_pulse}
+use Rattle.driver_events.specs.marks.Marks.{Mark, Started, Answered, Flush, GaveUp, Took, Issued, Fault}
+use Rattle.driver_events.specs.marks.Open.{counts}
+use Rattle.driver_events.specs.marks.declared.Cause.{Cause}
+use Rattle.driver_events.specs.marks.declared.Cause.TheVariants.{Exit, Hung, Complaint}
+use Rattle.driver_events.specs.schedule.declared.Sent.{Sent}
+use Rattle.driver_events.specs.schedule.declared.Event.{Event}
+use Rattle.driver_events.specs.schedule.declared.Event.TheVariants as event
+use Rattle.driver_events.specs.schedule.Groups.{Group, marks_of}
+use Rattle.driver_events.specs.run_log.declared.log.Post.{Post}
 use Rattle.driver_events.specs.Disks.{Disks, Steps, Dies, Hangs, LinesUp, Repeats, started}
 use Rattle.justifying.specs.Core.{Core}
 

@@ -1,15 +1,15 @@
 -- A run between two events, seen without what was noted.
 use Rattle.std.specs.Prelude.{◌≡◌, ℕ, List, [], ◌∷◌, Bool, true, false, Option, Some, None}
-use Rattle.message.specs.declared.BlockReply.{BlockReply}
-use Rattle.message.specs.declared.Incoming.{Incoming}
-use Rattle.message.specs.declared.Incoming.TheVariants as incoming
-use Rattle.marks.specs.Marks.{Mark, Answered}
-use Rattle.marks.specs.Open.{counts}
-use Rattle.schedule.specs.declared.Event.{Event}
-use Rattle.schedule.specs.Groups.{Group, marks_of}
-use Rattle.schedule.specs.Replies.{answers_in}
-use Rattle.run_log.specs.declared.log.Entry.TheVariants as entry
-use Rattle.run_log.specs.Noted.{Noted, with_message, with_entry}
+use Rattle.driver_events.specs.message.declared.BlockReply.{BlockReply}
+use Rattle.driver_events.specs.message.declared.Incoming.{Incoming}
+use Rattle.driver_events.specs.message.declared.Incoming.TheVariants as incoming
+use Rattle.driver_events.specs.marks.Marks.{Mark, Answered}
+use Rattle.driver_events.specs.marks.Open.{counts}
+use Rattle.driver_events.specs.schedule.declared.Event.{Event}
+use Rattle.driver_events.specs.schedule.Groups.{Group, marks_of}
+use Rattle.driver_events.specs.schedule.Replies.{answers_in}
+use Rattle.driver_events.specs.run_log.declared.log.Entry.TheVariants as entry
+use Rattle.driver_events.specs.run_log.Noted.{Noted, with_message, with_entry}
 use Rattle.driver_events.specs.Scene.{Scene}
 use Rattle.justifying.specs.Core.{Core}
 use Rattle.justifying.specs.Happens.{Begins}

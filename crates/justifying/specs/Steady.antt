@@ -1,17 +1,17 @@
 -- What a run keeps from event to event, and within each.
 use Rattle.std.specs.Prelude.{◌≡◌, ℕ, ◌+◌, ◌<◌, List, [], ◌∷◌, ◌++◌, length, map, Bool, true, false, Some, slice_get}
-use Rattle.bdev.specs.DriverState.{DriverState, Ranges}
-use Rattle.policy.specs.declared.Policy.{Policy}
-use Rattle.policy.specs.Laws.{is_running}
-use Rattle.policy.specs.Watch.{Running}
-use Rattle.marks.specs.Marks.{Mark}
-use Rattle.schedule.specs.declared.Event.{Event}
-use Rattle.schedule.specs.Groups.{Group, Each, EachGroup, started_in}
-use Rattle.schedule.specs.Drivers.{has_ended}
-use Rattle.schedule.specs.Faults.{hung_in, hung_due, ExitsOfGroup, may_have_failed}
-use Rattle.schedule.specs.Starts.{starts_due, times_gave_up, times_due, has_fault}
-use Rattle.schedule.specs.Calls.{flushes_in, flushes_due}
-use Rattle.schedule.specs.Replies.{answers_in, answers_due, are_in_order}
+use Rattle.driver_events.specs.bdev.DriverState.{DriverState, Ranges}
+use Rattle.driver_events.specs.policy.declared.Policy.{Policy}
+use Rattle.driver_events.specs.policy.Laws.{is_running}
+use Rattle.driver_events.specs.policy.Watch.{Running}
+use Rattle.driver_events.specs.marks.Marks.{Mark}
+use Rattle.driver_events.specs.schedule.declared.Event.{Event}
+use Rattle.driver_events.specs.schedule.Groups.{Group, Each, EachGroup, started_in}
+use Rattle.driver_events.specs.schedule.Drivers.{has_ended}
+use Rattle.driver_events.specs.schedule.Faults.{hung_in, hung_due, ExitsOfGroup, may_have_failed}
+use Rattle.driver_events.specs.schedule.Starts.{starts_due, times_gave_up, times_due, has_fault}
+use Rattle.driver_events.specs.schedule.Calls.{flushes_in, flushes_due}
+use Rattle.driver_events.specs.schedule.Replies.{answers_in, answers_due, are_in_order}
 use Rattle.driver_events.specs.Disks.{Disks, Slot}
 use Rattle.justifying.specs.Core.{Core, FollowsGroups}
 use Rattle.justifying.specs.Happens.{Begins, Adds}

@@ -1,1 +1,2 @@
+pub use Rattle.tree_laws.proofs as tree_laws
 pub mod Pages

@@ -4,11 +4,11 @@ use mathlib.Core.Logic.{inl, inr}
 use Rattle.std.specs.Prelude.{◌&&◌, ◌||◌, ◌==◌, nat_lt, nat_le, IsTrue}
 use Rattle.std.proofs.lemmas.Bool.{cases_eq, cases_lt, cases_Bool, eq-eqb, ne_eqb, eqb-true, lt-ltb, le-ltb, le-leb, leb-true, ltb-true, and_parts, and_from, or_cases}
 use Rattle.layout.specs.Places.{is_block_size}
-use Rattle.tree.specs.Sums.{sum_below, count_below, some_below, one_if}
-use Rattle.tree.specs.ZonesNeeded.{zones_needed, page_limit}
-use Rattle.tree.specs.ZonesNeededByPlace.{last_needed, second_needed, third_needed}
-use Rattle.tree.proofs.Maps.{not_true}
-use Rattle.tree.proofs.Needs.{zones_needed_is_by_place}
+use Rattle.tree_laws.specs.tree.Sums.{sum_below, count_below, some_below, one_if}
+use Rattle.tree_laws.specs.tree.ZonesNeeded.{zones_needed, page_limit}
+use Rattle.tree_laws.specs.tree.ZonesNeededByPlace.{last_needed, second_needed, third_needed}
+use Rattle.tree_laws.proofs.tree.Maps.{not_true}
+use Rattle.tree_laws.proofs.tree.Needs.{zones_needed_is_by_place}
 use Rattle.tree_laws.proofs.Search.{found_below, one_below}
 use Rattle.last_page.specs.Sizes.{first_pages}
 

@@ -1,8 +1,8 @@
 -- The zones of a file without holes, as each directory is one.
 use Rattle.std.specs.Prelude.{ℕ, Bool, nat_lt}
 use Rattle.layout.specs.declared.Geometry.{Geometry}
-use Rattle.tree.specs.ZonesNeeded.{zones_needed}
-use Rattle.tree.specs.Space.{numbers_in_zone, pages_of}
+use Rattle.tree_laws.specs.tree.ZonesNeeded.{zones_needed}
+use Rattle.tree_laws.specs.tree.Space.{numbers_in_zone, pages_of}
 
 -- the first p pages, and no others
 abbrev pub first_pages : ℕ → ℕ → Bool

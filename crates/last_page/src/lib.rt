@@ -2,7 +2,7 @@
 #![tactic(auto)]
 
 ghost use Rattle.std.specs.Prelude.{◌≡◌, ◌≤◌, ◌<◌, ◌+◌, ◌-◌, ◌/◌};
-ghost use Rattle.tree.specs.ZonesNeeded.{zones_needed};
+ghost use Rattle.tree_laws.specs.tree.ZonesNeeded.{zones_needed};
 ghost use Rattle.layout.specs.Places.{IsGeometry};
 ghost use Rattle.last_page.specs.Sizes.{first_pages, zones_of_size};
 

@@ -1,1 +1,2 @@
+pub use Rattle.layout.specs as layout
 pub mod Ran

@@ -1,35 +1,36 @@
 //! Starting a service on the volume of an image, whose drivers it runs itself.
 
 ghost use Rattle.std.specs.Arc.{arc_value};
-ghost use Rattle.legal.specs.Mount.{is_frame_count};
-ghost use Rattle.std.specs.Prelude.{◌≡◌, ◌^◌, true, ◌≢◌, ◌≤◌, ℕ, [], All, IfErr, IfOk, length, map};
+ghost use Rattle.board.specs.legal.Mount.{is_frame_count};
+ghost use Rattle.std.specs.Prelude.{◌≡◌, ◌^◌, true, ◌≢◌, ◌≤◌, ℕ, [], All, IfErr, IfOk, OnOk, length, map};
 ghost use Rattle.layout.specs.declared.Geometry.{Geometry as Sizes};
-ghost use Rattle.layout.specs.Places.{IsGeometry};
-ghost use Rattle.marks.specs.Opening.{Opening};
+ghost use Rattle.board.specs.tree.Tree.{Tree};
+ghost use Rattle.board.specs.legal.Legal.{IsAtFirst};
+ghost use Rattle.reissue.specs.marks.Opening.{Opening, contents_at};
+ghost use Rattle.mounting.specs.Laws.{sizes_in};
 ghost use Rattle.policy.specs.Policy.{IsAllowed};
 ghost use Rattle.inline.specs.Inline.{IsReady};
 ghost use Rattle.driven.specs.View.{guarded_of};
-ghost use Rattle.true_replies.specs.Events.{IsOnMedia, opening_media};
+ghost use Rattle.inline.specs.true_replies.Events.{IsOnMedia, opening_media};
 ghost use Rattle.board.specs.View.{IsKeeper, opener};
-ghost use Rattle.startup.specs.Starting.{opening_of, IsRefused, IsStartable};
+ghost use Rattle.startup.specs.Starting.{opening_of, IsPrepared};
 ghost use Rattle.keeping.specs.Supplied.{IsSupplied};
-ghost use Rattle.launch.specs.Ran.{HasRun};
+ghost use Rattle.launch.specs.Ran.{HasRun, IsNotStarted, IsStopped};
 
-use crate::opened::over;
+use crate::opened::mounted;
 use board::{Board, Seat};
+use counting_link::Noting;
 use driven::Driven;
 use file_server::FileServer;
 use inline::local::LocalDriver;
 use keeping::recorder::Recorder;
 use keeping::room::Room;
 use keeping::steady::OnMedia;
-use layout::Geometry;
 use media::Media;
 use policy::{Policy, Setup};
 use reincarnate::{Reincarnation, SupplyRefusal};
 use reissue::link::{Link, TrueLink};
 use serve::gate::Gate;
-use serve::noting::Noting;
 use serve::service::{Service, Shared};
 use startup::{Prepared, StartRefusal, prepare};
 use std::alloc::{AllocError, Global};
@@ -75,30 +76,33 @@ pub fn drivers_on<D: LocalDriver>(
     }
 }
 
-// Runs a program over a service on this link.
+// Mounts the volume over this link, and runs a program over the service of it.
 fn run_over<N: Room, R: Wait + Copy, L: Recorder<N> + TrueLink + OnMedia, P: Program<R>>(
     alloc: Global,
     rt: R,
     board: Arc<Board>,
     link: L,
     minor: u8,
-    geometry: Geometry,
     frames: u32,
     program: P,
-) -> Result<P::Output, AllocError>
+) -> Result<P::Output, StartRefusal>
     requires board { arc_value board ≡ N.table }
     requires marks { L.marks link ≡ [] }
     requires told { L.Link.history link ≡ [] }
-    requires geometry { IsGeometry geometry × (geometry ≡ N.geometry) }
+    requires geometry { N.geometry ≡ sizes_in (contents_at N.opening) }
     requires minor { minor ≡ N.opening.minor }
     requires frames { is_frame_count frames ≡ true }
-    requires budget { L.Link.budget_left link ≤ 2 ^ 58 }
+    requires budget { L.Link.budget_left link ≤ 2 ^ 57 }
     requires truth { L.Link.truth link N.opening [] }
     requires drivers { L.runs_on link N.policy N.supply }
-    ensures { IfOk result (λ o. P.gives program N.geometry N.opening o) }
+    ensures ran { IfOk result (λ o. P.gives program N.geometry N.opening o) }
+    ensures holds { OnOk result ((tree : Tree) × IsAtFirst N.geometry (contents_at N.opening) tree) }
+    ensures refused { IfErr result (IsStopped N.opening frames) }
 {
-    let service = over(alloc, rt, board, link, minor, geometry, frames)?;
-    Ok(program.run(service))
+    match mounted(alloc, rt, board, link, minor, frames) {
+        Ok(service) => Ok(program.run(service)),
+        Err(refusal) => Err(refusal),
+    }
 }
 
 // The caller picks `N` from what it hands over.
@@ -113,44 +117,42 @@ fn start_and_run<N: Room, R: Wait + Copy, D: LocalDriver, G: Gate, P: Program<R>
     supply: Vec<D>,
     gate: G,
     program: P,
-) -> Result<P::Output, AllocError>
+) -> Result<Result<P::Output, StartRefusal>, AllocError>
     requires board { board ≡ N.table }
     requires seat { IsKeeper N.table seat × (seat.view ≡ opener) }
     requires opening { N.opening ≡ opening_of image.now setup.now.minor prepared.range }
-    requires sizes { N.geometry ≡ prepared.geometry }
+    requires geometry { N.geometry ≡ sizes_in (contents_at (opening_of image.now setup.now.minor prepared.range)) }
     requires policy { N.policy ≡ setup.now.policy }
     requires drivers { N.supply ≡ map D.state supply.items }
-    requires startable { IsStartable image.now setup.now (map D.state supply.items) prepared.geometry prepared.range }
+    requires prepared { IsPrepared image.now setup.now (map D.state supply.items) prepared.range }
     requires contents { prepared.media ≡ opening_media (opening_of image.now setup.now.minor prepared.range) }
     requires on_media { IsOnMedia (opening_of image.now setup.now.minor prepared.range) }
-    requires geometry { IsGeometry prepared.geometry }
     requires ready { All (IsReady (opening_of image.now setup.now.minor prepared.range)) (map D.state supply.items) }
-    ensures { IfOk result (λ o. P.gives program prepared.geometry (opening_of image.now setup.now.minor prepared.range) o) }
+    ensures ran { IfOk result (λ came. IfOk came (λ o.
+        HasRun image.now setup.now (map D.state supply.items) (λ g opening. P.gives program g opening o))) }
+    ensures refused { IfOk result (λ came. IfErr came (IsStopped (opening_of image.now setup.now.minor prepared.range) setup.now.frames)) }
 {
     let _gate = Arc::new(alloc, gate)?;
-    let Prepared {
-        media,
-        geometry,
-        ..
-    } = prepared;
+    let Prepared { media, .. } = prepared;
     let link = drivers_on(alloc, media, setup.policy, supply)?;
     let board = Arc::new(alloc, board)?;
     let noting = Noting::<N, Driven<D>>::new(alloc, link, Arc::try_clone(&board)?, seat)?;
-    run_over(
+    Ok(run_over(
         alloc,
         rt,
         board,
         noting,
         setup.minor,
-        geometry,
         setup.frames as u32,
         program,
-    )
+    ))
 }
 
-/// Starts a service on the volume in an image and runs a program over it. When the program ends, the service does.
+/// Starts a service on the volume in an image and runs a program over it: the volume is mounted through the drivers. When the program
+/// ends, the service does.
 ///
-/// It is refused as `prepare` is, and then nothing runs.
+/// It is refused as `prepare` is, which is looked at first; and `Mount` as a mount is, by the volume as the drivers give it, or since
+/// the device was given up or the link to the drivers ended before all of it was read. Then nothing runs.
 pub fn serve<R: Wait + Copy, D: LocalDriver, G: Gate, P: Program<R>>(
     alloc: Global,
     rt: R,
@@ -160,12 +162,12 @@ pub fn serve<R: Wait + Copy, D: LocalDriver, G: Gate, P: Program<R>>(
     gate: G,
     program: P,
 ) -> Result<P::Output, StartRefusal>
-    ensures refusal { IfErr result (IsRefused image.now setup.now (map D.state supply.items)) }
+    ensures refusal { IfErr result (IsNotStarted image.now setup.now (map D.state supply.items)) }
     ensures ran { IfOk result (λ o. HasRun image.now setup.now (map D.state supply.items) (λ g opening. P.gives program g opening o)) }
 {
     let prepared = prepare(alloc, image, setup, &supply)?;
     let (board, seat) = Board::new(alloc)?;
-    Ok(start_and_run::<Brand, R, D, G, P>(
+    start_and_run::<Brand, R, D, G, P>(
         alloc, rt, board, seat, prepared, image, setup, supply, gate, program,
-    )?)
+    )?
 }

@@ -2,19 +2,19 @@
 use Rattle.std.specs.Prelude.{◌≡◌, ℕ, pos, List, [], ◌∷◌, Bool, true, false, IsTrue, refl}
 use Rattle.std.proofs.Common.{inl, inr, arith, ap, codes}
 use Rattle.std.specs.Borrow.{Bor}
-use Rattle.errno.specs.declared.Errno.TheVariants.{EIO, EBADF, ENOMEM}
-use Rattle.message.specs.declared.Kind.TheVariants.{Write}
-use Rattle.message.specs.declared.BlockRequest.{BlockRequest}
-use Rattle.layout.specs.declared.Geometry.{Geometry}
-use Rattle.tree.specs.declared.Who.{Who}
-use Rattle.tree.specs.declared.Whence.TheVariants.{Set}
-use Rattle.tree.specs.declared.Call.{Call}
-use Rattle.tree.specs.declared.Call.TheVariants as call
-use Rattle.tree.specs.Sums.{sum_below, some_below, least_below}
-use Rattle.tree.specs.Tree.{Tree}
-use Rattle.tree.specs.Laws.{fresh_tree}
-use Rattle.tree.specs.Answers.{Answer, refused, done, some_bytes, node_is}
-use Rattle.tree.specs.Effects.{tree_after_call}
+use Rattle.volume.specs.errno.declared.Errno.TheVariants.{EIO, EBADF, ENOMEM}
+use Rattle.marks.specs.message.declared.Kind.TheVariants.{Write}
+use Rattle.marks.specs.message.declared.BlockRequest.{BlockRequest}
+use Rattle.volume.specs.layout.declared.Geometry.{Geometry}
+use Rattle.volume.specs.tree.declared.Who.{Who}
+use Rattle.volume.specs.tree.declared.Whence.TheVariants.{Set}
+use Rattle.volume.specs.tree.declared.Call.{Call}
+use Rattle.volume.specs.tree.declared.Call.TheVariants as call
+use Rattle.volume.specs.tree.Sums.{sum_below, some_below, least_below}
+use Rattle.volume.specs.tree.Tree.{Tree}
+use Rattle.volume.specs.tree.Laws.{fresh_tree}
+use Rattle.volume.specs.tree.Answers.{Answer, refused, done, some_bytes, node_is}
+use Rattle.volume.specs.tree.Effects.{tree_after_call}
 use Rattle.volume.specs.Reading.{blocks_of}
 use Rattle.volume.specs.Holds.{HoldsVolume}
 use Rattle.marks.specs.Marks.{Started, Flush, GaveUp, Took, Issued}

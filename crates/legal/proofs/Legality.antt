@@ -1,12 +1,12 @@
 -- Laws of legal records.
 use Rattle.std.specs.Prelude.{◌≡◌, ℕ, List, [], ◌∷◌, ◌++◌, Bool, true, false, ◌&&◌, if◌then◌else◌, IsTrue, refl}
-use Rattle.errno.specs.declared.Errno.TheVariants.{EIO, ENOMEM}
-use Rattle.layout.specs.declared.Geometry.{Geometry}
-use Rattle.tree.specs.declared.Who.{Who}
-use Rattle.tree.specs.declared.Call.{Call}
-use Rattle.tree.specs.Tree.{Tree}
-use Rattle.tree.specs.Answers.{Answer, refused}
-use Rattle.tree.specs.Effects.{tree_after_call}
+use Rattle.volume.specs.errno.declared.Errno.TheVariants.{EIO, ENOMEM}
+use Rattle.volume.specs.layout.declared.Geometry.{Geometry}
+use Rattle.volume.specs.tree.declared.Who.{Who}
+use Rattle.volume.specs.tree.declared.Call.{Call}
+use Rattle.volume.specs.tree.Tree.{Tree}
+use Rattle.volume.specs.tree.Answers.{Answer, refused}
+use Rattle.volume.specs.tree.Effects.{tree_after_call}
 use Rattle.marks.specs.Marks.{Mark, Started, Answered, Flush, GaveUp, Took, Issued, Fault, gave_up}
 use Rattle.marks.specs.Disk.{Contents}
 use Rattle.legal.specs.Legal.{is_sync, is_success, is_no_memory, may_lack_memory, tree_after_answer, tree_after, IsSynced, IsLegal, IsLegalTook}

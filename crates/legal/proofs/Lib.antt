@@ -1,3 +1,4 @@
+pub use Rattle.marks.proofs as marks
 pub mod Legality
 pub mod Sessions
 pub mod Living

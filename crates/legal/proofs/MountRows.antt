@@ -1,11 +1,11 @@
 -- Mounts and an unmount that are refused for no reason, or do what they may not.
 use Rattle.std.specs.Prelude.{◌≡◌, ◌<◌, ℕ, List, [], ◌∷◌, ◌++◌, replicate, Bool, true, false, Option, Some, None}
 use Rattle.std.proofs.Common.{arith, refl, sym, ◌∙◌, subst}
-use Rattle.endpoint.specs.declared.Endpoint.{Endpoint}
-use Rattle.message.specs.declared.Kind.TheVariants.{Read, Write}
-use Rattle.message.specs.declared.BlockRequest.{BlockRequest}
-use Rattle.message.specs.declared.Incoming.TheVariants as incoming
-use Rattle.layout.specs.declared.Geometry.{Geometry}
+use Rattle.marks.specs.endpoint.declared.Endpoint.{Endpoint}
+use Rattle.marks.specs.message.declared.Kind.TheVariants.{Read, Write}
+use Rattle.marks.specs.message.declared.BlockRequest.{BlockRequest}
+use Rattle.marks.specs.message.declared.Incoming.TheVariants as incoming
+use Rattle.volume.specs.layout.declared.Geometry.{Geometry}
 use Rattle.volume.specs.declared.Finding.{Finding}
 use Rattle.marks.specs.Told.{Told, Posted, Received}
 use Rattle.marks.specs.Marks.{GaveUp}

@@ -1,13 +1,13 @@
 -- A server that only tells of a new volume's root: what opening, a call, a cut call and unmounting promise can be met.
 use Rattle.std.specs.Prelude.{◌≡◌, List, [], ◌∷◌, Bool, true, false, not, ◌&&◌, None, is_some, refl}
 use Rattle.std.proofs.Common.{inl, ap, sym, subst, ◌∙◌}
-use Rattle.errno.specs.declared.Errno.TheVariants.{EIO}
-use Rattle.message.specs.declared.Incoming.TheVariants.{End}
-use Rattle.tree.specs.declared.Call.TheVariants as call
-use Rattle.tree.specs.Sums.{sum_below, some_below, least_below}
-use Rattle.tree.specs.Tree.{Tree, OpenFile, most_open_files}
-use Rattle.tree.specs.IsTree.{IsClosed}
-use Rattle.tree.specs.Answers.{Answer, refused}
+use Rattle.volume.specs.errno.declared.Errno.TheVariants.{EIO}
+use Rattle.marks.specs.message.declared.Incoming.TheVariants.{End}
+use Rattle.volume.specs.tree.declared.Call.TheVariants as call
+use Rattle.volume.specs.tree.Sums.{sum_below, some_below, least_below}
+use Rattle.volume.specs.tree.Tree.{Tree, OpenFile, most_open_files}
+use Rattle.volume.specs.tree.IsTree.{IsClosed}
+use Rattle.volume.specs.tree.Answers.{Answer, refused}
 use Rattle.volume.specs.Holds.{HoldsVolume}
 use Rattle.marks.specs.Marks.{Mark, Took, gave_up}
 use Rattle.marks.specs.Disk.{Contents}

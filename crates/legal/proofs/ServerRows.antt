@@ -1,14 +1,14 @@
 -- What opening, mounting, calls and unmounting may not do, and what follows of a mount over any link.
 use Rattle.std.specs.Prelude.{◌≡◌, ℕ, List, [], ◌∷◌, Bool, true, false, Some, None, IsTrue, refl}
 use Rattle.std.proofs.Common.{arith, sym, subst, ◌∙◌}
-use Rattle.endpoint.specs.declared.Endpoint.{Endpoint}
-use Rattle.message.specs.declared.Incoming.TheVariants as incoming
-use Rattle.layout.specs.declared.Geometry.{Geometry}
-use Rattle.layout.specs.declared.LayoutRefusal.TheVariants.{BadMagic}
-use Rattle.tree.specs.declared.Who.{Who}
-use Rattle.tree.specs.declared.Call.{Call}
-use Rattle.tree.specs.Tree.{Tree}
-use Rattle.tree.specs.Answers.{Answer}
+use Rattle.marks.specs.endpoint.declared.Endpoint.{Endpoint}
+use Rattle.marks.specs.message.declared.Incoming.TheVariants as incoming
+use Rattle.volume.specs.layout.declared.Geometry.{Geometry}
+use Rattle.volume.specs.layout.declared.LayoutRefusal.TheVariants.{BadMagic}
+use Rattle.volume.specs.tree.declared.Who.{Who}
+use Rattle.volume.specs.tree.declared.Call.{Call}
+use Rattle.volume.specs.tree.Tree.{Tree}
+use Rattle.volume.specs.tree.Answers.{Answer}
 use Rattle.volume.specs.declared.Finding.{Finding}
 use Rattle.marks.specs.Marks.{Mark, Started, GaveUp}
 use Rattle.marks.specs.Open.{IsWellFormed}

@@ -1,10 +1,10 @@
 -- Sessions worked by hand: two with one number, one after the other, and one with another number.
 use Rattle.std.specs.Prelude.{◌≡◌, ℕ, List, [], ◌∷◌, length, Bool, true, false, refl}
 use Rattle.std.proofs.Common.{inr, arith, ap}
-use Rattle.layout.specs.declared.Geometry.{Geometry}
-use Rattle.tree.specs.declared.Who.{Who}
-use Rattle.tree.specs.declared.Call.TheVariants as call
-use Rattle.tree.specs.Answers.{done}
+use Rattle.volume.specs.layout.declared.Geometry.{Geometry}
+use Rattle.volume.specs.tree.declared.Who.{Who}
+use Rattle.volume.specs.tree.declared.Call.TheVariants as call
+use Rattle.volume.specs.tree.Answers.{done}
 use Rattle.marks.specs.Marks.{Mark, Started, Flush, GaveUp, Took}
 use Rattle.marks.specs.Disk.{Contents}
 use Rattle.legal.specs.ServerCall.{Replied, Cut}

@@ -1,11 +1,11 @@
 -- Laws of sessions, and of a server without frames.
 use Rattle.std.specs.Prelude.{◌≡◌, ℕ, List, [], ◌∷◌, ◌++◌, length, Bool, true, false, ◌&&◌, ◌==◌, nat_le, None, IsSome, IsTrue, if◌then◌else◌, refl}
 use Rattle.std.proofs.Common.{sym, ap, subst, ◌∙◌}
-use Rattle.layout.specs.declared.Geometry.{Geometry}
+use Rattle.volume.specs.layout.declared.Geometry.{Geometry}
 use Rattle.marks.specs.Marks.{Mark, Started, Answered, Flush, GaveUp, Took, Issued, Fault, IsBeginning}
 use Rattle.marks.specs.Disk.{Contents, unsure}
-use Rattle.tree.specs.declared.Who.{Who}
-use Rattle.tree.specs.declared.Call.{Call}
+use Rattle.volume.specs.tree.declared.Who.{Who}
+use Rattle.volume.specs.tree.declared.Call.{Call}
 use Rattle.legal.specs.ServerCall.{Outcome, Replied, Cut}
 use Rattle.legal.specs.Session.{calls_of, Seen, IsSession, IsNewSession, SessionState, caller_of, AreCallsOf, SessionGoesOn, SessionCallKeeps}
 use Rattle.legal.specs.Laws.{WithoutFrames, OwnCallsAreByItsUser}

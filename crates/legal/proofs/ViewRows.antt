@@ -2,8 +2,8 @@
 use Rattle.std.specs.Prelude.{◌≡◌, ℕ, ◌/◌, ◌<◌, ◌≤◌, List, [], ◌∷◌, Bool, true, false, ◌==◌, nat_le, nat_lt, Some, None, IsSome, if◌then◌else◌, refl}
 use Rattle.std.proofs.Common.{arith, subst, sym}
 use Rattle.std.proofs.lemmas.Bool.Decides.{nat_tests}
-use Rattle.message.specs.declared.Kind.TheVariants.{Write}
-use Rattle.layout.specs.declared.Geometry.{Geometry}
+use Rattle.marks.specs.message.declared.Kind.TheVariants.{Write}
+use Rattle.volume.specs.layout.declared.Geometry.{Geometry}
 use Rattle.marks.specs.Marks.{Mark, Issued}
 use Rattle.marks.specs.Disk.{Contents, unsure}
 use Rattle.legal.specs.View.{Frames, server_view, IsCovered}

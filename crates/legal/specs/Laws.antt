@@ -1,11 +1,11 @@
 -- Laws of legal records, of what a server would read back, and of sessions.
 use Rattle.std.specs.Prelude.{◌≡◌, ℕ, List, ◌∷◌, ◌++◌, Bool, true, false, None, IsTrue}
-use Rattle.errno.specs.declared.Errno.TheVariants.{EIO, ENOMEM}
-use Rattle.layout.specs.declared.Geometry.{Geometry}
-use Rattle.tree.specs.declared.Who.{Who}
-use Rattle.tree.specs.declared.Call.{Call}
-use Rattle.tree.specs.Tree.{Tree}
-use Rattle.tree.specs.Answers.{Answer, refused}
+use Rattle.volume.specs.errno.declared.Errno.TheVariants.{EIO, ENOMEM}
+use Rattle.volume.specs.layout.declared.Geometry.{Geometry}
+use Rattle.volume.specs.tree.declared.Who.{Who}
+use Rattle.volume.specs.tree.declared.Call.{Call}
+use Rattle.volume.specs.tree.Tree.{Tree}
+use Rattle.volume.specs.tree.Answers.{Answer, refused}
 use Rattle.volume.specs.Reading.{blocks_of}
 use Rattle.marks.specs.Marks.{Mark, Took, gave_up, IsBeginning}
 use Rattle.marks.specs.Disk.{Contents, disk_after, unsure}

@@ -1,14 +1,14 @@
 -- When a record is legal: each answer is that of the tree, which each call moves once.
 use Rattle.std.specs.Prelude.{◌≡◌, ◌⊎◌, ℕ, List, [], ◌∷◌, Bool, true, false, ◌&&◌, if◌then◌else◌, IsTrue}
-use Rattle.errno.specs.declared.Errno.TheVariants.{EIO, ENOMEM}
-use Rattle.layout.specs.declared.Geometry.{Geometry}
-use Rattle.tree.specs.declared.Who.{Who}
-use Rattle.tree.specs.declared.Call.{Call}
-use Rattle.tree.specs.declared.Call.TheVariants.{Sync}
-use Rattle.tree.specs.Tree.{Tree}
-use Rattle.tree.specs.IsTree.{IsClosed}
-use Rattle.tree.specs.Answers.{Answer, refused}
-use Rattle.tree.specs.Effects.{reply_to, tree_after_call, may_want_memory}
+use Rattle.volume.specs.errno.declared.Errno.TheVariants.{EIO, ENOMEM}
+use Rattle.volume.specs.layout.declared.Geometry.{Geometry}
+use Rattle.volume.specs.tree.declared.Who.{Who}
+use Rattle.volume.specs.tree.declared.Call.{Call}
+use Rattle.volume.specs.tree.declared.Call.TheVariants.{Sync}
+use Rattle.volume.specs.tree.Tree.{Tree}
+use Rattle.volume.specs.tree.IsTree.{IsClosed}
+use Rattle.volume.specs.tree.Answers.{Answer, refused}
+use Rattle.volume.specs.tree.Effects.{reply_to, tree_after_call, may_want_memory}
 use Rattle.volume.specs.Reading.{blocks_of}
 use Rattle.volume.specs.Holds.{HoldsVolume}
 use Rattle.marks.specs.Marks.{Mark, Took, gave_up}

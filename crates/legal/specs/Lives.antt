@@ -1,9 +1,9 @@
 -- A server from its opening or mounting on, after every list of calls and messages.
 use Rattle.std.specs.Prelude.{ℕ, List, [], ◌∷◌, ◌++◌}
-use Rattle.message.specs.declared.Incoming.{Incoming}
-use Rattle.tree.specs.declared.Who.{Who}
-use Rattle.tree.specs.declared.Call.{Call}
-use Rattle.tree.specs.Tree.{Tree}
+use Rattle.marks.specs.message.declared.Incoming.{Incoming}
+use Rattle.volume.specs.tree.declared.Who.{Who}
+use Rattle.volume.specs.tree.declared.Call.{Call}
+use Rattle.volume.specs.tree.Tree.{Tree}
 use Rattle.marks.specs.Marks.{Mark}
 use Rattle.marks.specs.Disk.{Contents}
 use Rattle.marks.specs.Acts.{Absorbed, marks_after}

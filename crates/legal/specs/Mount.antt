@@ -1,11 +1,11 @@
 -- What opening and mounting promise, over any link.
 use Rattle.std.specs.Prelude.{◌≡◌, ◌≢◌, ℕ, zero, suc, ◌*◌, ◌<◌, List, [], ◌∷◌, ◌++◌, Bool, true, false, ◌&&◌, nat_le, None, Err}
-use Rattle.message.specs.Good.{is_write}
-use Rattle.layout.specs.declared.Geometry.{Geometry}
-use Rattle.layout.specs.declared.LayoutRefusal.{LayoutRefusal}
-use Rattle.layout.specs.declared.LayoutRefusal.TheVariants.{DoesNotFit}
-use Rattle.layout.specs.Places.{superblock_geometry, geometry_of}
-use Rattle.tree.specs.Tree.{Tree}
+use Rattle.marks.specs.message.Good.{is_write}
+use Rattle.volume.specs.layout.declared.Geometry.{Geometry}
+use Rattle.volume.specs.layout.declared.LayoutRefusal.{LayoutRefusal}
+use Rattle.volume.specs.layout.declared.LayoutRefusal.TheVariants.{DoesNotFit}
+use Rattle.volume.specs.layout.Places.{superblock_geometry, geometry_of}
+use Rattle.volume.specs.tree.Tree.{Tree}
 use Rattle.volume.specs.declared.Finding.{Finding}
 use Rattle.volume.specs.Verdict.{Clean, Found, verdict_of, HoldsClosed}
 use Rattle.marks.specs.Marks.{Mark, gave_up}

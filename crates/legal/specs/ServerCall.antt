@@ -1,14 +1,14 @@
 -- What a call of a server and a message between two calls keep, over any link.
 use Rattle.std.specs.Prelude.{◌≡◌, ◌↔◌, ◌⊎◌, ℕ, List, [], ◌∷◌, ◌++◌, Bool, true, false, ◌||◌, is_some}
-use Rattle.errno.specs.declared.Errno.TheVariants.{EIO}
-use Rattle.layout.specs.declared.Geometry.{Geometry}
-use Rattle.message.specs.declared.Incoming.{Incoming}
-use Rattle.message.specs.declared.Incoming.TheVariants.{End}
-use Rattle.tree.specs.declared.Who.{Who}
-use Rattle.tree.specs.declared.Call.{Call}
-use Rattle.tree.specs.Sums.{some_below}
-use Rattle.tree.specs.Tree.{Tree, most_open_files}
-use Rattle.tree.specs.Answers.{Answer, refused}
+use Rattle.volume.specs.errno.declared.Errno.TheVariants.{EIO}
+use Rattle.volume.specs.layout.declared.Geometry.{Geometry}
+use Rattle.marks.specs.message.declared.Incoming.{Incoming}
+use Rattle.marks.specs.message.declared.Incoming.TheVariants.{End}
+use Rattle.volume.specs.tree.declared.Who.{Who}
+use Rattle.volume.specs.tree.declared.Call.{Call}
+use Rattle.volume.specs.tree.Sums.{some_below}
+use Rattle.volume.specs.tree.Tree.{Tree, most_open_files}
+use Rattle.volume.specs.tree.Answers.{Answer, refused}
 use Rattle.marks.specs.Marks.{Mark, Took, gave_up}
 use Rattle.marks.specs.Open.{IsWellFormed}
 use Rattle.marks.specs.Disk.{Contents, HasTrueReplies}

@@ -1,9 +1,9 @@
 -- What a session has seen of the service's record, which marks of it are its own, and what its calls keep.
 use Rattle.std.specs.Prelude.{◌≡◌, ◌⊎◌, ℕ, ◌<◌, ◌%◌, ◌^◌, ◌&&◌, ◌||◌, ◌==◌, List, [], ◌∷◌, Bool, true, false, length, nat_le, if◌then◌else◌}
-use Rattle.layout.specs.declared.Geometry.{Geometry}
-use Rattle.tree.specs.declared.Who.{Who}
-use Rattle.tree.specs.declared.Call.{Call}
-use Rattle.tree.specs.Tree.{Tree, most_sessions}
+use Rattle.volume.specs.layout.declared.Geometry.{Geometry}
+use Rattle.volume.specs.tree.declared.Who.{Who}
+use Rattle.volume.specs.tree.declared.Call.{Call}
+use Rattle.volume.specs.tree.Tree.{Tree, most_sessions}
 use Rattle.marks.specs.Marks.{Mark, Took, counted, gave_up, IsBeginning}
 use Rattle.marks.specs.Disk.{Contents, HasTrueReplies}
 use Rattle.legal.specs.Legal.{IsAtFirst, IsLegal}

@@ -1,6 +1,6 @@
 -- What unmounting promises, over any link.
 use Rattle.std.specs.Prelude.{◌≡◌, List, [], Bool, true, false, if◌then◌else◌}
-use Rattle.tree.specs.Tree.{Tree}
+use Rattle.volume.specs.tree.Tree.{Tree}
 use Rattle.marks.specs.Marks.{Mark, gave_up}
 use Rattle.marks.specs.Disk.{Contents, HasTrueReplies}
 use Rattle.marks.specs.Acts.{Act, has_absorbed, marks_after}

@@ -1,7 +1,7 @@
 -- What a server would read back.
 use Rattle.std.specs.Prelude.{ℕ, ◌/◌, List, Option, Some, None, IsSome, IsTrue, slice_index}
-use Rattle.layout.specs.declared.Geometry.{Geometry}
-use Rattle.tree.specs.Tree.{Tree}
+use Rattle.volume.specs.layout.declared.Geometry.{Geometry}
+use Rattle.volume.specs.tree.Tree.{Tree}
 use Rattle.volume.specs.Reading.{Disk, blocks_of}
 use Rattle.volume.specs.Holds.{HoldsVolume}
 use Rattle.marks.specs.Marks.{Mark}

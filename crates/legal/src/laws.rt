@@ -1,7 +1,7 @@
 //! Laws of legal records and sessions, each a function whose contract is the law.
 
 ghost use Rattle.std.specs.Prelude.{List};
-ghost use Rattle.layout.specs.declared.Geometry.{Geometry};
+ghost use Rattle.volume.specs.layout.declared.Geometry.{Geometry};
 ghost use Rattle.marks.specs.Marks.{Mark};
 ghost use Rattle.marks.specs.Disk.{Contents};
 ghost use Rattle.legal.specs.Lives.{StillServes};

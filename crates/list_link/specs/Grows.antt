@@ -2,7 +2,7 @@
 use Rattle.std.proofs.Common.{◌≡◌, List, [], ◌∷◌, ◌++◌, Bool, true, false, cond, refl, sym, ◌∙◌, ap, append_assoc}
 use Rattle.message.specs.declared.Incoming.{Incoming}
 use Rattle.message.specs.declared.Incoming.TheVariants as incoming
-use Rattle.marks.specs.Told.{Told, Received, heard, took_end}
+use Rattle.reissue.specs.marks.Told.{Told, Received, heard, took_end}
 
 -- more is told after this
 pub record Grows (before after : List Told) : Type 0 where

@@ -1,2 +1,3 @@
--- What goes on in a link that answers from a list.
+-- A link that answers from a list: what it was told, and that its history grows.
+pub mod Notes
 pub mod Grows

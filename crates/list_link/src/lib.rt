@@ -2,13 +2,15 @@
 #![tactic(auto)]
 
 ghost use Rattle.std.specs.Prelude.{◌≡◌, ◌≤◌, [], IfOk, List, vec_len, vec_capacity};
-ghost use Rattle.marks.specs.Marks.{Mark};
-ghost use Rattle.marks.specs.Opening.{Opening};
-ghost use Rattle.inline.specs.Notes.{history_of, room_of};
+ghost use Rattle.reissue.specs.marks.Marks.{Mark};
+ghost use Rattle.reissue.specs.marks.Opening.{Opening};
+ghost use Rattle.list_link.specs.Notes.{history_of, room_of};
 ghost use Rattle.list_link.specs.Grows.{Grows, grows_not, grows_then};
 
+pub mod note;
+
+use crate::note::{Note, Notes};
 use endpoint::Endpoint;
-use inline::note::{Note, Notes};
 use message::{BlockRequest, Incoming};
 use reissue::link::{Link, LinkRefusal};
 use std::alloc::{AllocError, Global};

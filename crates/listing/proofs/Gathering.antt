@@ -7,17 +7,17 @@ use Rattle.layout.specs.Places.{IsGeometry}
 use Rattle.tree.specs.Names.{Name, Names, with_name, inode_of}
 use Rattle.tree.specs.Tree.{Tree, Node, Body, is_file, is_directory, names_of}
 use Rattle.tree.specs.Changes.{open_file_of}
-use Rattle.volume.specs.Reading.{Disk, is_inode}
-use Rattle.volume.specs.declared.Inode.{Inode}
-use Rattle.volume.specs.Pieces.{Pieces, pieces}
-use Rattle.volume.specs.Nodes.{entry_inode, entry_name, names_in, entry_count_of, is_directory_mode, is_marked, directory_of, file_of, file_byte, node_of}
-use Rattle.volume.specs.Entries.{is_directory_inode}
-use Rattle.volume.specs.Holds.{HoldsVolume}
+use Rattle.store.specs.volume.Reading.{Disk, is_inode}
+use Rattle.store.specs.volume.declared.Inode.{Inode}
+use Rattle.store.specs.volume.Pieces.{Pieces, pieces}
+use Rattle.store.specs.volume.Nodes.{entry_inode, entry_name, names_in, entry_count_of, is_directory_mode, is_marked, directory_of, file_of, file_byte, node_of}
+use Rattle.store.specs.volume.Entries.{is_directory_inode}
+use Rattle.store.specs.volume.Holds.{HoldsVolume}
 use Rattle.store.specs.Rows.{HasBytes}
-use Rattle.entry_laws.specs.Rows.{IsRow, SameEntry}
-use Rattle.entry_laws.proofs.Rows.{same_target, same_name_there, next_name, found_at}
-use Rattle.entry_laws.proofs.Text.{name_is_field, name_of_good}
-use Rattle.entry_laws.proofs.Directories.{directory_is_row}
+use Rattle.directory.specs.entry_laws.Rows.{IsRow, SameEntry}
+use Rattle.directory.proofs.entry_laws.Rows.{same_target, same_name_there, next_name, found_at}
+use Rattle.directory.proofs.entry_laws.Text.{name_is_field, name_of_good}
+use Rattle.directory.proofs.entry_laws.Directories.{directory_is_row}
 use Rattle.descriptors.specs.Files.{Files, HasFiles, file_at}
 use Rattle.bodies.specs.declared.found.Found.{Found}
 use Rattle.bodies.specs.Found.{file_of as open_file}

@@ -13,12 +13,12 @@ use Rattle.tree.specs.Changes.{open_file_of}
 use Rattle.tree.specs.FileCalls.{names_or, readdir}
 use Rattle.tree.specs.Flags.{reads}
 use Rattle.tree.specs.Answers.{Effect, refused, names_are}
-use Rattle.legal.specs.Legal.{is_success}
-use Rattle.volume.specs.Reading.{Disk}
-use Rattle.volume.specs.declared.Inode.{Inode}
-use Rattle.volume.specs.Pieces.{pieces}
-use Rattle.volume.specs.Nodes.{node_of, file_of, directory_of, is_directory_mode}
-use Rattle.volume.specs.Holds.{HoldsVolume}
+use Rattle.bodies.specs.legal.Legal.{is_success}
+use Rattle.store.specs.volume.Reading.{Disk}
+use Rattle.store.specs.volume.declared.Inode.{Inode}
+use Rattle.store.specs.volume.Pieces.{pieces}
+use Rattle.store.specs.volume.Nodes.{node_of, file_of, directory_of, is_directory_mode}
+use Rattle.store.specs.volume.Holds.{HoldsVolume}
 use Rattle.descriptors.specs.Files.{Files, HasFiles, file_at}
 use Rattle.bodies.specs.declared.found.Found.{Found}
 use Rattle.bodies.specs.Found.{file_of as open_file}

@@ -3,7 +3,7 @@ use Rattle.std.specs.Prelude.{Option, Some, None, not, if◌then◌else◌}
 use Rattle.errno.specs.declared.Errno.{Errno}
 use Rattle.errno.specs.declared.Errno.TheVariants.{EBADF, ENOTDIR}
 use Rattle.tree.specs.Flags.{reads}
-use Rattle.volume.specs.Nodes.{is_directory_mode}
+use Rattle.store.specs.volume.Nodes.{is_directory_mode}
 use Rattle.bodies.specs.declared.found.Found.{Found}
 
 -- the first of the reasons against it

@@ -6,8 +6,8 @@ ghost use Rattle.store.specs.Volume.{IsOn};
 ghost use Rattle.store.specs.World.{Reads};
 ghost use Rattle.tree.specs.Answers.{entry_of};
 ghost use Rattle.tree.specs.Names.{with_name};
-ghost use Rattle.volume.specs.Nodes.{directory_of, entry_count_of, entry_inode, entry_name, file_byte};
-ghost use Rattle.volume.specs.Pieces.{pieces};
+ghost use Rattle.store.specs.volume.Nodes.{directory_of, entry_count_of, entry_inode, entry_name, file_byte};
+ghost use Rattle.store.specs.volume.Pieces.{pieces};
 ghost use Rattle.listing.specs.Numbers.{HasInodes};
 
 use crate::names::NameMap;

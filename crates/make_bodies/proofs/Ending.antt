@@ -6,8 +6,8 @@ use Rattle.errno.specs.declared.Errno.{Errno}
 use Rattle.layout.specs.declared.Geometry.{Geometry}
 use Rattle.tree.specs.Tree.{Tree}
 use Rattle.tree.specs.Answers.{Answer, Effect, refused}
-use Rattle.volume.specs.Reading.{Disk}
-use Rattle.volume.specs.Holds.{HoldsVolume}
+use Rattle.store.specs.volume.Reading.{Disk}
+use Rattle.store.specs.volume.Holds.{HoldsVolume}
 use Rattle.store.specs.declared.Halt.{Halt}
 use Rattle.store.specs.declared.Halt.TheVariants as halt
 use Rattle.store.specs.Halts.{Ends}

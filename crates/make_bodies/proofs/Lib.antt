@@ -1,3 +1,4 @@
+pub use Rattle.call_laws.proofs as call_laws
 pub mod Zones
 pub mod Vacancies
 pub mod Trees

@@ -19,11 +19,11 @@ use Rattle.tree.specs.Changes.{free_inode}
 use Rattle.tree.specs.Answers.{Effect, done, if_it_fits}
 use Rattle.tree.specs.NameCalls.{mkdir}
 use Rattle.tree.specs.Space.{data_zones, zones_used}
-use Rattle.tree_laws.proofs.CallsKeep.{mkdir_keeps}
-use Rattle.tree_laws.proofs.Outcomes.{free_inode_is}
-use Rattle.volume.specs.Holds.{HoldsVolume}
-use Rattle.volume.specs.Reading.{Disk}
-use Rattle.descriptors.specs.Files.{Files, HasFiles}
+use Rattle.bodies.proofs.tree_laws.CallsKeep.{mkdir_keeps}
+use Rattle.bodies.proofs.tree_laws.Outcomes.{free_inode_is}
+use Rattle.store.specs.volume.Holds.{HoldsVolume}
+use Rattle.store.specs.volume.Reading.{Disk}
+use Rattle.node_steps.specs.descriptors.Files.{Files, HasFiles}
 use Rattle.walk.specs.declared.place.Place.{Place}
 use Rattle.walk.specs.Places.{place_of}
 use Rattle.bodies.specs.Does.{Does}

@@ -13,11 +13,11 @@ use Rattle.tree.specs.Walk.{may_access, to_write}
 use Rattle.tree.specs.Changes.{free_inode}
 use Rattle.tree.specs.Answers.{Effect}
 use Rattle.tree.specs.Space.{zones_used}
-use Rattle.tree_laws.proofs.Outcomes.{free_inode_is}
-use Rattle.volume.specs.declared.Inode.{Inode}
-use Rattle.volume.specs.Holds.{HoldsVolume}
-use Rattle.volume.specs.Nodes.{permissions_in}
-use Rattle.volume.specs.Reading.{Disk}
+use Rattle.bodies.proofs.tree_laws.Outcomes.{free_inode_is}
+use Rattle.store.specs.volume.declared.Inode.{Inode}
+use Rattle.store.specs.volume.Holds.{HoldsVolume}
+use Rattle.store.specs.volume.Nodes.{permissions_in}
+use Rattle.store.specs.volume.Reading.{Disk}
 use Rattle.walk.specs.declared.place.Place.{Place}
 use Rattle.walk.specs.Places.{place_of}
 use Rattle.call_laws.proofs.Between.{node_stands, nothing_is_done}
@@ -29,7 +29,7 @@ use Rattle.make_bodies.proofs.Trees.{file_zones}
 
 module _ (g : Geometry) (ok : IsGeometry g) (t : Tree) (user : User) (now mode : ℕ) (d : Disk) (p : Place) (parent : Node)
     (holds : HoldsVolume g d t) (vacant : IsVacant g d t p parent) where
-  its_node : Rattle.node_steps.specs.Steps.node_at g (Rattle.volume.specs.Pieces.pieces g d) p.directory ≡ parent
+  its_node : Rattle.node_steps.specs.Steps.node_at g (Rattle.store.specs.volume.Pieces.pieces g d) p.directory ≡ parent
   its_node = (node_stands g d d t.nodes p.directory parent ok (nothing_is_done g d t holds) vacant.there).node
 
   -- the parent's attributes are those of its inode

@@ -11,20 +11,20 @@ use Rattle.tree.specs.Names.{Names, inode_of}
 use Rattle.tree.specs.Tree.{Node, Tree, names_of, size_of}
 use Rattle.tree.specs.Space.{data_zones, zones_of}
 use Rattle.tree.proofs.Maps.{not_true}
-use Rattle.tree_laws.proofs.Steps.{not_refused}
-use Rattle.volume.specs.declared.Inode.{Inode}
-use Rattle.volume.specs.Holds.{HoldsVolume}
-use Rattle.volume.specs.Nodes.{is_marked, nodes_of}
-use Rattle.volume.specs.Pieces.{Pieces, pieces}
-use Rattle.volume.specs.Reading.{Disk, is_inode}
-use Rattle.volume_laws.proofs.Sums.{count_most}
-use Rattle.zone.proofs.Held.{inode_is}
-use Rattle.zone_laws.specs.Room.{taken_by}
-use Rattle.zone_laws.specs.Steps.{marked_in}
-use Rattle.zone_laws.proofs.Room.{nodes_take_marked}
-use Rattle.entry_laws.specs.Directories.{before}
-use Rattle.file.specs.Room.{IsRoomBeside}
-use Rattle.file.proofs.Spaces.{room_beside_is_space}
+use Rattle.bodies.proofs.tree_laws.Steps.{not_refused}
+use Rattle.store.specs.volume.declared.Inode.{Inode}
+use Rattle.store.specs.volume.Holds.{HoldsVolume}
+use Rattle.store.specs.volume.Nodes.{is_marked, nodes_of}
+use Rattle.store.specs.volume.Pieces.{Pieces, pieces}
+use Rattle.store.specs.volume.Reading.{Disk, is_inode}
+use Rattle.inode_table.proofs.volume_laws.Sums.{count_most}
+use Rattle.file_room.proofs.zone_laws.Inodes.{inode_is}
+use Rattle.file_room.specs.zone_laws.Room.{taken_by}
+use Rattle.file_room.specs.zone_laws.Steps.{marked_in}
+use Rattle.file_room.proofs.zone_laws.Room.{nodes_take_marked}
+use Rattle.walk.specs.entry_laws.Directories.{before}
+use Rattle.file_room.specs.Room.{IsRoomBeside}
+use Rattle.file_room.proofs.Spaces.{room_beside_is_space}
 use Rattle.entries.proofs.Becoming.{may_change}
 use Rattle.entries.specs.Names.{IsOfDirectory}
 use Rattle.walk.specs.declared.place.Place.{Place}

@@ -15,14 +15,14 @@ use Rattle.tree.specs.Walk as tree
 use Rattle.tree.specs.Changes.{empty_directory, empty_file, free_inode, more_links, new_node, with_ctime, with_names}
 use Rattle.tree.specs.Space.{zones_of}
 use Rattle.tree.proofs.Maps.{put-same}
-use Rattle.tree_laws.proofs.Outcomes.{IsFree, free_inode_is}
-use Rattle.tree_laws.proofs.Steps.{not_refused, ok_is}
-use Rattle.volume.specs.declared.Inode.{Inode}
-use Rattle.volume.specs.Holds.{HoldsVolume}
-use Rattle.volume.specs.Nodes.{nodes_of}
-use Rattle.volume.specs.Pieces.{Pieces, pieces}
-use Rattle.volume.specs.Reading.{Disk}
-use Rattle.zone_laws.specs.Room.{taken_by}
+use Rattle.bodies.proofs.tree_laws.Outcomes.{IsFree, free_inode_is}
+use Rattle.bodies.proofs.tree_laws.Steps.{not_refused, ok_is}
+use Rattle.store.specs.volume.declared.Inode.{Inode}
+use Rattle.store.specs.volume.Holds.{HoldsVolume}
+use Rattle.store.specs.volume.Nodes.{nodes_of}
+use Rattle.store.specs.volume.Pieces.{Pieces, pieces}
+use Rattle.store.specs.volume.Reading.{Disk}
+use Rattle.file_room.specs.zone_laws.Room.{taken_by}
 use Rattle.entries.specs.Names.{Inserts, MayInsert}
 use Rattle.walk.specs.declared.place.Place.{Place}
 use Rattle.walk.specs.Places.{place_of}

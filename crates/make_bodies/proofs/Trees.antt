@@ -12,10 +12,10 @@ use Rattle.tree.specs.Changes.{empty_directory, empty_file, more_links, new_node
 use Rattle.tree.specs.NameCalls.{with_entry}
 use Rattle.tree.specs.Space.{zones_of}
 use Rattle.tree.proofs.Maps.{not_nothing, put-other, put-same}
-use Rattle.tree_laws.proofs.TreeOver.{over_itself, over_on_node, over_with_node}
-use Rattle.tree_laws.proofs.Views.{on_node_there}
-use Rattle.zone_laws.specs.Room.{taken_by}
-use Rattle.descriptors.specs.Files.{Files, HasFiles}
+use Rattle.bodies.proofs.tree_laws.TreeOver.{over_itself, over_on_node, over_with_node}
+use Rattle.bodies.proofs.tree_laws.Views.{on_node_there}
+use Rattle.file_room.specs.zone_laws.Room.{taken_by}
+use Rattle.node_steps.specs.descriptors.Files.{Files, HasFiles}
 use Rattle.node_steps.proofs.Nodes.{put_twice}
 use Rattle.make_bodies.specs.Making.{with_new_directory, with_new_file}
 use Rattle.make_bodies.specs.Vacant.{zones_with_name}

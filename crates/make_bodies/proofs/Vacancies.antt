@@ -14,13 +14,13 @@ use Rattle.tree.specs.Walk.{has_last_name, is_taken, last_part, may_access, node
 use Rattle.tree.specs.Walk as tree
 use Rattle.tree.specs.Answers.{Effect}
 use Rattle.tree.proofs.Maps.{is_the_one}
-use Rattle.tree_laws.proofs.NewPlaces.{last_named, none_there}
-use Rattle.tree_laws.proofs.Places.{is_place}
-use Rattle.volume.specs.declared.Inode.{Inode}
-use Rattle.volume.specs.Holds.{HoldsVolume}
-use Rattle.volume.specs.Nodes.{node_of}
-use Rattle.volume.specs.Pieces.{pieces}
-use Rattle.volume.specs.Reading.{Disk}
+use Rattle.bodies.proofs.tree_laws.NewPlaces.{last_named, none_there}
+use Rattle.bodies.proofs.tree_laws.Places.{is_place}
+use Rattle.store.specs.volume.declared.Inode.{Inode}
+use Rattle.store.specs.volume.Holds.{HoldsVolume}
+use Rattle.store.specs.volume.Nodes.{node_of}
+use Rattle.store.specs.volume.Pieces.{pieces}
+use Rattle.store.specs.volume.Reading.{Disk}
 use Rattle.walk.specs.declared.place.Place.{Place}
 use Rattle.walk.specs.Places.{IsPlace, place_of}
 use Rattle.bodies.proofs.Made.{node_there}
@@ -84,7 +84,7 @@ module _ (g : Geometry) (d : Disk) (t : Tree) (user : User) (parts : List Name) 
   abbrev pub parent_node : Node
   parent_node = node_of g (pieces g d) p.inode
 
-  stands : Rattle.tree_laws.proofs.Places.IsPlace t (place_of g d p)
+  stands : Rattle.bodies.proofs.tree_laws.Places.IsPlace t (place_of g d p)
   stands = is_place t user parts (place_of g d p) at.walked
 
   pub parent_there : t.nodes p.directory ≡ Some parent_node

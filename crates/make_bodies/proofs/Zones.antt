@@ -14,15 +14,15 @@ use Rattle.tree.specs.Space.{numbers_in_zone, pages_of, zones_of}
 use Rattle.tree.specs.ZonesNeeded.{double_blocks, from_page, page_limit, single_blocks, triple_blocks, zones_needed}
 use Rattle.tree.proofs.Maps.{not_true, put-other, put-same, same_sum, sum_put}
 use Rattle.tree.proofs.Needs.{none_counted}
-use Rattle.tree_laws.proofs.Freed.{part_below}
-use Rattle.tree_laws.proofs.NeedGrows.{need_grows}
-use Rattle.tree_laws.proofs.Totals.{weigh_one}
-use Rattle.tree_laws.proofs.Ways.{count_all, count_first}
-use Rattle.tree_laws.proofs.Weights.{weigh_with_name}
-use Rattle.zone_laws.specs.Room.{taken_by}
-use Rattle.zone_laws.proofs.Missing.{count_put}
-use Rattle.descriptors.proofs.Searches.{none_below}
-use Rattle.directory.proofs.Pages.{each_size}
+use Rattle.bodies.proofs.tree_laws.Freed.{part_below}
+use Rattle.bodies.proofs.tree_laws.NeedGrows.{need_grows}
+use Rattle.bodies.proofs.tree_laws.Totals.{weigh_one}
+use Rattle.bodies.proofs.tree_laws.Ways.{count_all, count_first}
+use Rattle.bodies.proofs.tree_laws.Weights.{weigh_with_name}
+use Rattle.file_room.specs.zone_laws.Room.{taken_by}
+use Rattle.file_room.proofs.zone_laws.Missing.{count_put}
+use Rattle.node_steps.proofs.descriptors.Searches.{none_below}
+use Rattle.walk.proofs.directory.Pages.{each_size}
 
 -- one node becomes another
 pub taken_put : (g : Geometry) (nodes : ℕ → Option Node) (k : ℕ) (x : Option Node) → k < g.inodes + 1

@@ -12,8 +12,8 @@ use Rattle.tree.specs.Changes.{empty_directory, empty_file, free_inode, more_lin
 use Rattle.tree.specs.Answers.{Effect}
 use Rattle.tree.specs.NameCalls.{with_entry}
 use Rattle.tree.specs.Space.{data_zones, zones_used}
-use Rattle.volume.specs.Holds.{HoldsVolume}
-use Rattle.volume.specs.Reading.{Disk}
+use Rattle.store.specs.volume.Holds.{HoldsVolume}
+use Rattle.store.specs.volume.Reading.{Disk}
 use Rattle.walk.specs.declared.place.Place.{Place}
 use Rattle.walk.specs.Places.{place_of}
 use Rattle.call_laws.specs.Stands.{Stands}

@@ -3,7 +3,7 @@ use Rattle.std.specs.Prelude.{Result, Ok, Err}
 use Rattle.layout.specs.declared.Geometry.{Geometry}
 use Rattle.tree.specs.Tree.{Tree}
 use Rattle.tree.specs.Answers.{Answer, Effect, refused}
-use Rattle.volume.specs.Reading.{Disk}
+use Rattle.store.specs.volume.Reading.{Disk}
 use Rattle.store.specs.declared.Halt.TheVariants as halt
 use Rattle.walk.specs.declared.stop.Stop.{Stop}
 use Rattle.walk.specs.declared.stop.Stop.TheVariants as stop

@@ -13,9 +13,9 @@ use Rattle.tree.specs.Walk as tree
 use Rattle.tree.specs.Changes.{free_inode, with_names}
 use Rattle.tree.specs.Answers.{Effect}
 use Rattle.tree.specs.Space.{data_zones}
-use Rattle.volume.specs.Pieces.{pieces}
-use Rattle.volume.specs.Reading.{Disk}
-use Rattle.zone_laws.specs.Room.{taken_by}
+use Rattle.store.specs.volume.Pieces.{pieces}
+use Rattle.store.specs.volume.Reading.{Disk}
+use Rattle.file_room.specs.zone_laws.Room.{taken_by}
 use Rattle.walk.specs.declared.place.Place.{Place}
 use Rattle.walk.specs.Places.{place_of}
 

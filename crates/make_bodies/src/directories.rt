@@ -4,7 +4,7 @@ ghost use Rattle.std.specs.Prelude.{◌≢◌, ◌≤◌, IfErr, IfOk};
 ghost use Rattle.tree.specs.Tree.{most_permissions};
 ghost use Rattle.tree.specs.Answers.{answer_of, done, refused};
 ghost use Rattle.tree.specs.NameCalls.{mkdir};
-ghost use Rattle.descriptors.specs.Files.{Files, HasFiles};
+ghost use Rattle.node_steps.specs.descriptors.Files.{Files, HasFiles};
 ghost use Rattle.store.specs.Halts.{Ends, IsHalt};
 ghost use Rattle.store.specs.Volume.{IsOn};
 ghost use Rattle.store.specs.World.{Turns};

@@ -2,7 +2,7 @@
 
 ghost use Rattle.std.specs.Prelude.{◌≢◌, ◌≤◌, IfErr};
 ghost use Rattle.tree.specs.Tree.{Node, Tree, most_permissions};
-ghost use Rattle.volume.specs.Holds.{HoldsVolume};
+ghost use Rattle.store.specs.volume.Holds.{HoldsVolume};
 ghost use Rattle.store.specs.Halts.{Ends, IsHalt};
 ghost use Rattle.store.specs.Volume.{IsOn};
 ghost use Rattle.store.specs.World.{Turns};

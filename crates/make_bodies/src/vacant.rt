@@ -3,15 +3,15 @@
 ghost use Rattle.std.specs.Prelude.{◌≡◌, ◌≢◌, IfErr};
 ghost use Rattle.tree.specs.Tree.{Node, Tree};
 ghost use Rattle.tree.specs.Walk.{may_access, to_write};
-ghost use Rattle.volume.specs.Holds.{HoldsVolume};
-ghost use Rattle.volume.specs.Nodes.{permissions_in};
+ghost use Rattle.store.specs.volume.Holds.{HoldsVolume};
+ghost use Rattle.store.specs.volume.Nodes.{permissions_in};
 ghost use Rattle.store.specs.Volume.{IsOn};
 ghost use Rattle.store.specs.World.{Reads};
 ghost use Rattle.walk.specs.Stops.{Answers, IfRefused, IsStop};
 ghost use Rattle.make_bodies.specs.Vacant.{FindsNewPlace, FindsNumber, IsVacant};
 
 use errno::Errno;
-use file::has_room_beside;
+use file_room::has_room_beside;
 use inode_table::Inode;
 use layout::Geometry;
 use making::free_inode;

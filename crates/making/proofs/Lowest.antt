@@ -3,14 +3,14 @@ use Rattle.std.proofs.Common.{◌≡◌, ◌<◌, ◌≤◌, ◌+◌, ◌-◌, �
 use Rattle.std.specs.Prelude.{◌&&◌, ◌==◌, nat_le, Option, None, Some, Ok, Err, is_none, if◌then◌else◌}
 use Rattle.std.proofs.lemmas.Bool.{and_from, cond-true, cond-false, eq-eqb, le-leb, ne_eqb}
 use Rattle.layout.specs.declared.Geometry.{Geometry}
-use Rattle.errno.specs.declared.Errno.TheVariants.{ENOSPC}
+use Rattle.tree.specs.errno.declared.Errno.TheVariants.{ENOSPC}
 use Rattle.tree.specs.Sums.{least_below}
 use Rattle.tree.specs.Tree.{Node}
 use Rattle.tree.specs.Refusals.{◌>>=◌}
-use Rattle.volume.specs.Reading.{is_inode}
-use Rattle.volume.specs.Pieces.{Pieces}
-use Rattle.volume.specs.Nodes.{is_marked, node_of, nodes_of}
-use Rattle.descriptors.proofs.Searches.{least_at}
+use Rattle.store.specs.volume.Reading.{is_inode}
+use Rattle.store.specs.volume.Pieces.{Pieces}
+use Rattle.store.specs.volume.Nodes.{is_marked, node_of, nodes_of}
+use Rattle.node_steps.proofs.descriptors.Searches.{least_at}
 use Rattle.bitmap.specs.Numbers.{IsLowestFree}
 use Rattle.making.specs.NewNodes.{IsLeastFree}
 

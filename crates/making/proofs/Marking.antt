@@ -10,18 +10,18 @@ use Rattle.tree.specs.Sums.{put}
 use Rattle.tree.specs.Tree.{File, Node, directory_type, file_type}
 use Rattle.tree.specs.Changes.{empty_file, new_node}
 use Rattle.tree.proofs.Maps.{not_nothing, not_true, put-same, put-other}
-use Rattle.volume.specs.declared.Inode.{Inode}
-use Rattle.volume.specs.Reading.{Disk, is_inode}
-use Rattle.volume.specs.Pieces.{Pieces, pieces}
-use Rattle.volume.specs.Nodes.{is_directory_mode, is_marked, is_mode, node_of, nodes_of, page_byte, page_zone, permissions_in, slot, type_in}
-use Rattle.volume.specs.Places.{zone_at}
-use Rattle.volume.specs.Holds.{IsSound}
+use Rattle.store.specs.volume.declared.Inode.{Inode}
+use Rattle.store.specs.volume.Reading.{Disk, is_inode}
+use Rattle.store.specs.volume.Pieces.{Pieces, pieces}
+use Rattle.store.specs.volume.Nodes.{is_directory_mode, is_marked, is_mode, node_of, nodes_of, page_byte, page_zone, permissions_in, slot, type_in}
+use Rattle.store.specs.volume.Places.{zone_at}
+use Rattle.store.specs.volume.Holds.{IsSound}
 use Rattle.store.specs.Volume.{Alters}
-use Rattle.zone_laws.specs.Steps.{IsSoundBut, body_from, node_from}
-use Rattle.zone_laws.specs.Inodes.{ChangesInode}
-use Rattle.zone_laws.proofs.Inodes.{change_keeps, changed_nodes, no_slots_no_places}
-use Rattle.zone_laws.proofs.Keeps.{sound_but_is_sound, sound_is_sound_but}
-use Rattle.zone_laws.proofs.Files.{same_file}
+use Rattle.file.specs.zone_laws.Steps.{IsSoundBut, body_from, node_from}
+use Rattle.file.specs.zone_laws.Inodes.{ChangesInode}
+use Rattle.file.proofs.zone_laws.Inodes.{change_keeps, changed_nodes, no_slots_no_places}
+use Rattle.file.proofs.zone_laws.Keeps.{sound_but_is_sound, sound_is_sound_but}
+use Rattle.file.proofs.zone_laws.Files.{same_file}
 use Rattle.entries.proofs.EntryBytes.{zero_at}
 use Rattle.file.specs.Changing.{MayChange, file_at}
 use Rattle.node_steps.specs.Steps.{BecomesAt}

@@ -13,21 +13,21 @@ use Rattle.tree.specs.Changes.{empty_directory, file_after_write, new_node}
 use Rattle.tree.specs.Space.{numbers_in_zone, pages_of}
 use Rattle.tree.specs.ZonesNeeded.{zones_needed}
 use Rattle.tree.proofs.Maps.{is_put, put-same, put-other}
-use Rattle.volume.specs.declared.Inode.{Inode}
-use Rattle.volume.specs.Pieces.{Pieces, pieces}
-use Rattle.volume.specs.Reading.{Disk}
-use Rattle.volume.specs.Nodes.{is_directory_mode, nodes_of, page_zone}
+use Rattle.store.specs.volume.declared.Inode.{Inode}
+use Rattle.store.specs.volume.Pieces.{Pieces, pieces}
+use Rattle.store.specs.volume.Reading.{Disk}
+use Rattle.store.specs.volume.Nodes.{is_directory_mode, nodes_of, page_zone}
 use Rattle.store.specs.Volume.{Alters}
-use Rattle.zone_laws.specs.Steps.{marked_in, node_from}
-use Rattle.zone_laws.specs.Missing.{missing}
-use Rattle.zone_laws.proofs.Full.{not_zero}
-use Rattle.zone_laws.proofs.Keeps.{sound_but_is_sound}
-use Rattle.zone_laws.proofs.Missing.{page_takes_missing}
-use Rattle.zone_laws.proofs.Room.{nodes_take_marked}
-use Rattle.entry_laws.specs.Rows.{IsEntry}
-use Rattle.entry_laws.specs.Directories.{IsDirectoryOf, IsWhole, row_of}
-use Rattle.entry_laws.proofs.Directories.{new_directory}
-use Rattle.directory.proofs.Pages.{each_size}
+use Rattle.file.specs.zone_laws.Steps.{marked_in, node_from}
+use Rattle.file.specs.zone_laws.Missing.{missing}
+use Rattle.file.proofs.zone_laws.Full.{not_zero}
+use Rattle.file.proofs.zone_laws.Keeps.{sound_but_is_sound}
+use Rattle.file.proofs.zone_laws.Missing.{page_takes_missing}
+use Rattle.file.proofs.zone_laws.Room.{nodes_take_marked}
+use Rattle.entries.specs.entry_laws.Rows.{IsEntry}
+use Rattle.entries.specs.entry_laws.Directories.{IsDirectoryOf, IsWhole, row_of}
+use Rattle.entries.proofs.entry_laws.Directories.{new_directory}
+use Rattle.entries.proofs.directory.Pages.{each_size}
 use Rattle.file.specs.Changing.{BecomesFile, HasZonesFor, MayWriteAt, WritesAt, file_at, written_at}
 use Rattle.entries.specs.First.{AreFirstEntries}
 use Rattle.entries.proofs.Becoming.{body_is}

@@ -1,6 +1,6 @@
 -- A free inode of a volume becomes a node.
 use Rattle.std.specs.Prelude.{◌≡◌, ◌≢◌, ◌<◌, ℕ, ◌+◌, replicate, true, Option, None, Some, IsTrue}
-use Rattle.errno.specs.declared.Errno.TheVariants.{ENOSPC}
+use Rattle.tree.specs.errno.declared.Errno.TheVariants.{ENOSPC}
 use Rattle.layout.specs.declared.Geometry.{Geometry}
 use Rattle.tree.specs.declared.User.{User}
 use Rattle.tree.specs.Sums.{put}
@@ -8,12 +8,12 @@ use Rattle.tree.specs.Tree.{Node, Tree}
 use Rattle.tree.specs.Refusals.{or_refuse}
 use Rattle.tree.specs.Changes.{empty_directory, empty_file, free_inode, new_node}
 use Rattle.tree.specs.Space.{data_zones}
-use Rattle.volume.specs.declared.Inode.{Inode}
-use Rattle.volume.specs.Reading.{Disk, is_inode}
-use Rattle.volume.specs.Pieces.{Pieces, pieces}
-use Rattle.volume.specs.Nodes.{nodes_of}
-use Rattle.volume.specs.Holds.{IsSound}
-use Rattle.zone_laws.specs.Room.{taken_by}
+use Rattle.store.specs.volume.declared.Inode.{Inode}
+use Rattle.store.specs.volume.Reading.{Disk, is_inode}
+use Rattle.store.specs.volume.Pieces.{Pieces, pieces}
+use Rattle.store.specs.volume.Nodes.{nodes_of}
+use Rattle.store.specs.volume.Holds.{IsSound}
+use Rattle.file.specs.zone_laws.Room.{taken_by}
 use Rattle.node_steps.specs.Steps.{Changes}
 
 -- this is what a tree with these nodes finds as the least free inode

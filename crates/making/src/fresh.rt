@@ -2,8 +2,8 @@
 
 ghost use Rattle.std.specs.Prelude.{◌≡◌, ◌≤◌, IfErr, IfOk, IfSome, IsTrue};
 ghost use Rattle.tree.specs.Tree.{directory_type, file_type, most_permissions};
-ghost use Rattle.volume.specs.Pieces.{pieces};
-ghost use Rattle.volume.specs.Reading.{is_inode};
+ghost use Rattle.store.specs.volume.Pieces.{pieces};
+ghost use Rattle.store.specs.volume.Reading.{is_inode};
 ghost use Rattle.store.specs.World.{Reads, Turns};
 ghost use Rattle.store.specs.Halts.{Ends, IsHalt};
 ghost use Rattle.store.specs.Volume.{Alters, IsOn};

@@ -6,12 +6,12 @@ ghost use Rattle.store.specs.Volume.{IsOn};
 use crate::lists::{blocks_over, moved, small, started};
 use bitmap::{Map, count_free};
 use file::{read_at, set_size, write_at};
+use file_room::need;
 use inode_table::load;
 use layout::Geometry;
 use std::process::Abort;
 use std::test::Fail;
 use store::{Blocks, Halt};
-use zone::room::need;
 
 /// The first bytes of inode 1: an empty file with one link.
 const EMPTY: [u8; 3] = [0xa4, 0x81, 1];

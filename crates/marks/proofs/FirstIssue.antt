@@ -2,7 +2,7 @@
 use Rattle.std.specs.Prelude.{◌≡◌, ◌⊎◌, ℕ, ◌+◌, ◌≤◌, List, [], ◌∷◌, ◌++◌, max, Bool, true, false, not, ◌||◌, ◌==◌, nat_lt, is_some, if◌then◌else◌, refl}
 use Rattle.std.proofs.Common.{inl, inr, sym, ap, arith}
 use Rattle.std.proofs.lemmas.Bool.Decides.{nat_tests}
-use Rattle.endpoint.specs.declared.Endpoint.{Endpoint}
+use Rattle.message.specs.endpoint.declared.Endpoint.{Endpoint}
 use Rattle.message.specs.declared.BlockRequest.{BlockRequest}
 use Rattle.marks.specs.Marks.{Mark, Started, Answered, Flush, GaveUp, Took, Issued, Fault}
 use Rattle.marks.specs.Open.{IsWellFormed, IsNew, IsAgain, IsIn, without_id, open_requests, greatest, moved_by}

@@ -1,8 +1,8 @@
 -- Records of one driver or two, worked by hand: what is open, what is well formed, which replies count.
 use Rattle.std.specs.Prelude.{◌≡◌, ℕ, zero, suc, ◌+◌, ◌*◌, ◌%◌, List, [], ◌∷◌, Bool, true, false, ◌<◌, ◌≤◌, Some, None, Ok, Err, refl}
 use Rattle.std.proofs.Common.{inl, inr, arith, ap}
-use Rattle.errno.specs.declared.Errno.TheVariants.{EIO}
-use Rattle.endpoint.specs.declared.Endpoint.{Endpoint}
+use Rattle.message.specs.errno.declared.Errno.TheVariants.{EIO}
+use Rattle.message.specs.endpoint.declared.Endpoint.{Endpoint}
 use Rattle.message.specs.declared.Kind.TheVariants.{Read}
 use Rattle.message.specs.declared.BlockRequest.{BlockRequest}
 use Rattle.message.specs.declared.BlockReply.{BlockReply}

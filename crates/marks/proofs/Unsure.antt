@@ -2,7 +2,7 @@
 use Rattle.std.proofs.Common.{◌≡◌, ◌⊎◌, ℕ, ◌+◌, ◌<◌, ◌≤◌, List, [], ◌∷◌, Bool, true, false, cond, refl, sym, ◌∙◌, ap, subst, inl, inr, arith, Option, Some, None, Result, Ok, Err}
 use Rattle.std.proofs.lemmas.Bool.Decides.{nat_tests}
 use Rattle.std.specs.Prelude.{nat_lt, nat_le, ◌==◌, ◌&&◌, ◌||◌, not, ◌%◌}
-use Rattle.errno.specs.declared.Errno.{Errno}
+use Rattle.message.specs.errno.declared.Errno.{Errno}
 use Rattle.message.specs.Good.{is_write, moved}
 use Rattle.message.specs.declared.BlockRequest.{BlockRequest}
 use Rattle.marks.specs.Marks.{Mark, Issued, Started, Answered, Flush, GaveUp, Took, Fault}

@@ -1,4 +1,8 @@
 -- The record of a file server, and what happens at its link.
+pub use Rattle.tree.specs as tree
+pub use Rattle.message.specs.endpoint as endpoint
+pub use Rattle.message.specs as message
+pub use Rattle.tree.specs.layout as layout
 pub mod Marks
 pub mod Open
 pub mod Disk

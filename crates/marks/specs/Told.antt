@@ -1,6 +1,6 @@
 -- What a link was told and what it gave, newest first, and the marks that follow from it.
 use Rattle.std.specs.Prelude.{List, [], ◌∷◌, Bool, true, false, if◌then◌else◌}
-use Rattle.endpoint.specs.declared.Endpoint.{Endpoint}
+use Rattle.message.specs.endpoint.declared.Endpoint.{Endpoint}
 use Rattle.message.specs.declared.BlockRequest.{BlockRequest}
 use Rattle.message.specs.declared.Incoming.{Incoming}
 use Rattle.message.specs.declared.Incoming.TheVariants as incoming

@@ -5,7 +5,7 @@ use mathlib.Core.Logic.{inl, inr}
 use Rattle.std.proofs.lemmas.Bool.{cases_lt, lt-ltb, le-ltb, cond-true, cond-false}
 use Rattle.std.proofs.Math.Nat.{le_trans, min-le_left}
 use Rattle.std.proofs.lemmas.List.{get_or-drop, get_or-take, get_or_past, length-take}
-use Rattle.volume.specs.Reading.{Disk}
+use Rattle.store.specs.volume.Reading.{Disk}
 use Rattle.store.specs.World.{IsWorld, IsBlocks, IsShown}
 use Rattle.memory.specs.Memory.{disk_in, frame_in, memory_world}
 

@@ -1,6 +1,6 @@
 -- Blocks in memory: one after the other in a list of bytes.
 use Rattle.std.specs.Prelude.{◌≡◌, ℕ, ◌+◌, ◌*◌, List, length, take, drop, Option, Some, None, nat_lt, nat_le, if◌then◌else◌, slice_index}
-use Rattle.volume.specs.Reading.{Disk}
+use Rattle.store.specs.volume.Reading.{Disk}
 use Rattle.store.specs.declared.Cut.TheVariants as cut
 use Rattle.store.specs.World.{World}
 use Rattle.memory.specs.declared.Memory.{Memory}

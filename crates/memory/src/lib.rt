@@ -4,7 +4,7 @@
 mod frames;
 
 ghost use Rattle.std.specs.Prelude.{◌≡◌, ◌↔◌, ℕ, ◌+◌, ◌*◌, ◌<◌, ◌≤◌, length, replicate, slice_index, IsOk, IfOk, IfErr, IsTrue};
-ghost use Rattle.layout.specs.Places.{is_block_size};
+ghost use Rattle.store.specs.layout.Places.{is_block_size};
 ghost use Rattle.store.specs.Rows.{with_bytes};
 
 use store::Cut;

@@ -6,13 +6,13 @@ use Rattle.message.specs.Good.{is_write}
 use Rattle.message.specs.declared.BlockRequest.{BlockRequest}
 use Rattle.message.specs.declared.Incoming.{Incoming}
 use Rattle.message.specs.declared.Incoming.TheVariants as incoming
-use Rattle.marks.specs.Marks.{Mark, Answered}
-use Rattle.marks.specs.Open.{counts}
-use Rattle.marks.specs.Disk.{Contents, HasTrueReplies, bytes_read, is_read}
-use Rattle.marks.specs.Opening.{Opening}
-use Rattle.marks.specs.Told.{Told, Posted, Complained, Received, received, grown}
-use Rattle.marks.specs.Acts.{Act, Began, Absorbed, AtLink, Outbox, told_of, has_absorbed, marks_after, outbox_after, KeepsRules}
-use Rattle.marks.proofs.ActLaws.{acts_compose}
+use Rattle.reissue.specs.marks.Marks.{Mark, Answered}
+use Rattle.reissue.specs.marks.Open.{counts}
+use Rattle.reissue.specs.marks.Disk.{Contents, HasTrueReplies, bytes_read, is_read}
+use Rattle.reissue.specs.marks.Opening.{Opening}
+use Rattle.reissue.specs.marks.Told.{Told, Posted, Complained, Received, received, grown}
+use Rattle.reissue.specs.marks.Acts.{Act, Began, Absorbed, AtLink, Outbox, told_of, has_absorbed, marks_after, outbox_after, KeepsRules}
+use Rattle.reissue.proofs.marks.ActLaws.{acts_compose}
 use Rattle.legal.specs.Mount.{OnlyReads}
 use Rattle.reissue.specs.declared.pending.Pending.{Pending}
 use Rattle.reissue.specs.declared.table.Table.{Table}

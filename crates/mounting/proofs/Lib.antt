@@ -6,3 +6,5 @@ pub mod Heads
 pub mod Volumes
 pub mod Ending
 pub mod Checked
+pub mod ReadAlone
+pub mod OfImage

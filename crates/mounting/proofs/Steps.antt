@@ -6,10 +6,10 @@ use Rattle.std.proofs.lemmas.Bool.{cases_eq}
 use Rattle.message.specs.declared.BlockRequest.{BlockRequest}
 use Rattle.message.specs.declared.Kind.{Kind}
 use Rattle.message.specs.declared.Kind.TheVariants.{Read}
-use Rattle.marks.specs.Marks.{Mark}
-use Rattle.marks.specs.Disk.{Contents, HasTrueReplies, disk_after, unsure}
-use Rattle.marks.specs.Told.{Told, received, grown, took_end}
-use Rattle.marks.specs.Acts.{marks_after}
+use Rattle.reissue.specs.marks.Marks.{Mark}
+use Rattle.reissue.specs.marks.Disk.{Contents, HasTrueReplies, disk_after, unsure}
+use Rattle.reissue.specs.marks.Told.{Told, received, grown, took_end}
+use Rattle.reissue.specs.marks.Acts.{marks_after}
 use Rattle.reissue.specs.declared.ask.Ask.{Ask}
 use Rattle.reissue.specs.declared.ask.Settled.{Settled}
 use Rattle.reissue.specs.declared.ask.Settled.TheVariants as settled

@@ -14,12 +14,12 @@ use Rattle.layout.proofs.Parsed.{block_sizes}
 use Rattle.volume.specs.declared.Inode.{Inode}
 use Rattle.volume.specs.Reading.{Disk, blocks_of, is_inode, is_data_zone, inode_in, inode_block, inode_offset, inode_of_disk, inode_bit, zone_bit, bit_in}
 use Rattle.volume.specs.Pieces.{pieces, blank}
-use Rattle.marks.specs.Disk.{Contents}
+use Rattle.reissue.specs.marks.Disk.{Contents}
 use Rattle.legal.specs.Mount.{first_bytes}
 
 -- ---- the first bytes
 
-first_length : (c : Contents) (n : ℕ) → length (first_bytes c n) ≡ n
+pub first_length : (c : Contents) (n : ℕ) → length (first_bytes c n) ≡ n
 unfolding first_bytes
 first_length c zero = refl
 first_length c (suc n) = let l = length-append (first_bytes c n) (c n ∷ []) in let h = first_length c n in omega (arith, l, h)
@@ -41,6 +41,10 @@ first_same xs c n many same =
     let l = first_length c n in
     same_number_lists (first_bytes c n) xs (l ∙ sym many)
     (λ k lt. let low : k < n = omega (arith, l, lt) in first_at c n k low ∙ sym (same k low))
+
+-- rows that are the same so far have the same first bytes
+pub first_alike : (c d : Contents) (n : ℕ) → ((k : ℕ) → k < n → c k ≡ d k) → first_bytes c n ≡ first_bytes d n
+first_alike c d n same = first_same (first_bytes d n) c n (first_length d n) (λ k lt. first_at d n k lt ∙ sym (same k lt))
 
 -- ---- the pieces
 

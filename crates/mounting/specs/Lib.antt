@@ -2,4 +2,6 @@
 pub mod Sought
 pub mod Reading
 pub mod Whole
+pub mod Refusals
 pub mod Mounts
+pub mod Laws

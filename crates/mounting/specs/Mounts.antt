@@ -1,12 +1,12 @@
 -- Reading a volume through a link and checking it.
 use Rattle.std.specs.Prelude.{◌≡◌, ◌<◌, ◌+◌, ℕ, List, [], length, slice_index, Bool, true, false, Result, Ok, Err}
-use Rattle.tree.specs.Tree.{Tree}
+use Rattle.volume.specs.tree.Tree.{Tree}
 use Rattle.volume.specs.Verdict.{verdict_of, HoldsClosed}
 use Rattle.volume.specs.Verdict as volume
-use Rattle.marks.specs.Marks.{Mark}
-use Rattle.marks.specs.Disk.{Contents, HasTrueReplies}
-use Rattle.marks.specs.Told.{Told, took_end}
-use Rattle.marks.specs.Acts.{told_of, marks_after}
+use Rattle.reissue.specs.marks.Marks.{Mark}
+use Rattle.reissue.specs.marks.Disk.{Contents, HasTrueReplies}
+use Rattle.reissue.specs.marks.Told.{Told, took_end}
+use Rattle.reissue.specs.marks.Acts.{told_of, marks_after}
 use Rattle.legal.specs.Legal.{IsAtFirst}
 use Rattle.legal.specs.Mount.{AreRead, IsWhyNotMounted, geometry_read, is_frame_count, volume_read, volume_size}
 use Rattle.legal.specs.Mount as words

@@ -1,10 +1,10 @@
 -- What reading a range of a volume through a link does.
 use Rattle.std.specs.Prelude.{◌≡◌, ℕ, ◌+◌, ◌<◌, ◌≤◌, List, [], ◌∷◌, ◌++◌, length, ◌⊎◌, Option, Some, None, true, false, Result, Ok, Err, slice_index}
-use Rattle.marks.specs.Marks.{Mark}
-use Rattle.marks.specs.Disk.{Contents, HasTrueReplies, bytes_read, is_read, disk_after, unsure}
-use Rattle.marks.specs.Opening.{Opening}
-use Rattle.marks.specs.Told.{Told, took_end}
-use Rattle.marks.specs.Acts.{Act, told_of, has_absorbed, marks_after, outbox_after, KeepsRules}
+use Rattle.reissue.specs.marks.Marks.{Mark}
+use Rattle.reissue.specs.marks.Disk.{Contents, HasTrueReplies, bytes_read, is_read, disk_after, unsure}
+use Rattle.reissue.specs.marks.Opening.{Opening}
+use Rattle.reissue.specs.marks.Told.{Told, took_end}
+use Rattle.reissue.specs.marks.Acts.{Act, told_of, has_absorbed, marks_after, outbox_after, KeepsRules}
 use Rattle.legal.specs.Mount.{OnlyReads}
 use Rattle.reissue.specs.declared.table.Table.{Table}
 use Rattle.reissue.specs.declared.pending.Pending.{Pending}

@@ -2,6 +2,7 @@
 #![tactic(auto)]
 
 pub mod checking;
+pub mod laws;
 pub mod reading;
 pub mod sought;
 pub mod whole;

@@ -1,7 +1,7 @@
 //! Reading a range of a volume through a link.
 
 ghost use Rattle.std.specs.Prelude.{◌≡◌, ◌+◌, ◌-◌, ◌*◌, ◌<◌, ◌≤◌, ◌^◌, ◌%◌, [], false, length, vec_capacity, IfSome, IfNone, OnOk};
-ghost use Rattle.marks.specs.Told.{took_end};
+ghost use Rattle.reissue.specs.marks.Told.{took_end};
 ghost use Rattle.reissue.specs.Moves.{IsFree};
 ghost use Rattle.reissue.specs.Posts.{HasRoom};
 ghost use Rattle.reissue.specs.Transfers.{link_of, table_of, begun_in};
@@ -112,21 +112,20 @@ pub fn read_range<L: Link>(
     let size = into.len();
     let mut next = 0;
     'messages: loop {
-        match begin_next(transfers, &mut asked, minor, start, size, next) {
-            Some(after) => next = after,
-            None => {
-                if asked.is_empty() {
-                    return Ok(());
-                }
-                match transfers.step() {
-                    Settled::Read(ticket, bytes) => put_bytes(&mut asked, into, ticket, &bytes),
-                    Settled::GaveUp => return Err(Stop::GaveUp),
-                    Settled::End => return Err(Stop::Ended),
-                    Settled::Nothing => {}
-                    Settled::Written(_) => {}
-                    Settled::Flush => {}
-                }
-            }
+        if let Some(after) = begin_next(transfers, &mut asked, minor, start, size, next) {
+            next = after;
+            continue;
+        }
+        if asked.is_empty() {
+            return Ok(());
+        }
+        match transfers.step() {
+            Settled::Read(ticket, bytes) => put_bytes(&mut asked, into, ticket, &bytes),
+            Settled::GaveUp => return Err(Stop::GaveUp),
+            Settled::End => return Err(Stop::Ended),
+            Settled::Nothing => {}
+            Settled::Written(_) => {}
+            Settled::Flush => {}
         }
     }
 }

@@ -1,16 +1,18 @@
 //! What is read of a volume first, and why nothing is mounted.
 
-ghost use Rattle.std.specs.Prelude.{◌≡◌, IfOk, IfErr, Err, ◌≢◌};
+ghost use Rattle.std.specs.Prelude.{◌≡◌, IfOk, IfErr, Err, Some, ◌≢◌};
 ghost use Rattle.layout.specs.Places.{geometry_of, superblock_geometry};
+ghost use Rattle.mounting.specs.Refusals.{mount_refusal_number, mount_refusal_text};
 ghost use Rattle.mounting.specs.Whole.{HasSizes, IsHeadFit};
 
 use crate::reading::Stop;
 use layout::{Geometry, LayoutRefusal, u16_at, u32_at};
+use std::{error, fmt};
 use volume::Finding;
 
 /// Why nothing is mounted. Nothing is left due at the link; where several hold the least is answered, but BadFrames, which is looked at
 /// first, and want of memory, which may be answered whenever some is needed.
-#[derive(Clone, Copy, Debug, PartialEq, Eq)]
+#[derive(Clone, Copy, Debug, Drop, PartialEq, Eq)]
 pub enum MountRefusal {
     /// The superblock is refused.
     Layout(LayoutRefusal),
@@ -24,6 +26,40 @@ pub enum MountRefusal {
     LinkEnded,
     /// The number of frames isn't 16 to 4096. Nothing was done at the link.
     BadFrames,
+}
+
+/// Writes the name, and what it carries.
+impl fmt::Display for MountRefusal {
+    ghost output = { λ refusal. Some (mount_refusal_text refusal) };
+
+    fn fmt<W: fmt::Write>(&self, f: &mut fmt::Formatter<W>) -> fmt::Result {
+        match self {
+            MountRefusal::Layout(refusal) => write!(f, "Layout {refusal}"),
+            MountRefusal::Inconsistent(finding) => write!(f, "Inconsistent {finding}"),
+            MountRefusal::OutOfMemory => f.write_str("OutOfMemory"),
+            MountRefusal::Eio => f.write_str("Eio"),
+            MountRefusal::LinkEnded => f.write_str("LinkEnded"),
+            MountRefusal::BadFrames => f.write_str("BadFrames"),
+        }
+    }
+}
+
+impl error::Error for MountRefusal {}
+
+impl MountRefusal {
+    /// Its number: 1 to 6.
+    pub fn number(&self) -> u32
+        ensures { result ≡ mount_refusal_number self.now }
+    {
+        match self {
+            MountRefusal::Layout(_) => 1,
+            MountRefusal::Inconsistent(_) => 2,
+            MountRefusal::OutOfMemory => 3,
+            MountRefusal::Eio => 4,
+            MountRefusal::LinkEnded => 5,
+            MountRefusal::BadFrames => 6,
+        }
+    }
 }
 
 impl From<Stop> for MountRefusal {

@@ -2,10 +2,10 @@
 use Rattle.std.proofs.Common.{◌≡◌, ◌≢◌, ℕ, refl, sym, ap, ◌∙◌, Some}
 use Rattle.layout.specs.declared.Geometry.{Geometry}
 use Rattle.layout.specs.Places.{IsGeometry}
-use Rattle.tree.specs.Names.{Names, with_name, without_name}
-use Rattle.tree.specs.Tree.{Node, Tree, on_node}
-use Rattle.tree.specs.Changes.{fewer_links, more_links, with_names}
-use Rattle.tree.proofs.Maps.{put-other}
+use Rattle.descriptors.specs.tree.Names.{Names, with_name, without_name}
+use Rattle.descriptors.specs.tree.Tree.{Node, Tree, on_node}
+use Rattle.descriptors.specs.tree.Changes.{fewer_links, more_links, with_names}
+use Rattle.descriptors.proofs.tree.Maps.{put-other}
 use Rattle.moving.specs.declared.moves.Move.{Move}
 use Rattle.moving.specs.Moves.{IsParent}
 use Rattle.moving.specs.Replaced.{IsFresh}

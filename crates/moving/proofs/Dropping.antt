@@ -3,11 +3,11 @@ use Rattle.std.proofs.Common.{◌≡◌, ◌≢◌, ℕ, Bool, true, false, refl
 use Rattle.std.specs.Prelude.{Option}
 use Rattle.layout.specs.declared.Geometry.{Geometry}
 use Rattle.layout.specs.Places.{IsGeometry}
-use Rattle.tree.specs.Tree.{Node, Tree, on_node, with_node}
-use Rattle.tree.specs.Changes.{fewer_links, with_link_lost, without_nameless}
-use Rattle.tree.proofs.Maps.{put-other}
-use Rattle.volume.specs.Reading.{Disk}
-use Rattle.volume.specs.Pieces.{pieces}
+use Rattle.descriptors.specs.tree.Tree.{Node, Tree, on_node, with_node}
+use Rattle.descriptors.specs.tree.Changes.{fewer_links, with_link_lost, without_nameless}
+use Rattle.descriptors.proofs.tree.Maps.{put-other}
+use Rattle.store.specs.volume.Reading.{Disk}
+use Rattle.store.specs.volume.Pieces.{pieces}
 use Rattle.descriptors.specs.Files.{Files, HasFiles}
 use Rattle.node_steps.specs.Steps.{BecomesAt, DropsLink, FreesNode, IsOfNode, LosesName, left_of}
 use Rattle.call_laws.specs.Stands.{Stands}

@@ -2,10 +2,10 @@
 use Rattle.std.proofs.Common.{◌≡◌, ℕ, sym, ap, subst, Some, None}
 use Rattle.std.specs.Prelude.{Option}
 use Rattle.layout.specs.declared.Geometry.{Geometry}
-use Rattle.tree.specs.Tree.{Node, Tree, on_node, with_node}
-use Rattle.volume.specs.Reading.{Disk}
-use Rattle.volume.specs.Pieces.{Pieces, pieces}
-use Rattle.zone.specs.Pages.{SameHead}
+use Rattle.descriptors.specs.tree.Tree.{Node, Tree, on_node, with_node}
+use Rattle.store.specs.volume.Reading.{Disk}
+use Rattle.store.specs.volume.Pieces.{Pieces, pieces}
+use Rattle.store.specs.Volume.{SameHead}
 use Rattle.entries.specs.Names.{BecomesNode}
 use Rattle.node_steps.specs.Steps.{BecomesAt}
 use Rattle.call_laws.specs.Stands.{Stands}

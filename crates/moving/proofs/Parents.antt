@@ -2,12 +2,12 @@
 use Rattle.std.proofs.Common.{◌≡◌, ◌-◌, ℕ, true, false, refl, sym, ap, subst, ◌∙◌, arith, Some}
 use Rattle.layout.specs.declared.Geometry.{Geometry}
 use Rattle.layout.specs.Places.{IsGeometry}
-use Rattle.tree.specs.Names.{Name, Names, without_name}
-use Rattle.tree.specs.Tree.{Body, is_file, is_directory, Node, Tree, is_dir, on_node, with_node}
-use Rattle.tree.specs.Changes.{fewer_links, with_link_lost, with_names}
-use Rattle.tree.proofs.Maps.{put-same}
-use Rattle.volume.specs.Reading.{Disk}
-use Rattle.volume.specs.Pieces.{pieces}
+use Rattle.descriptors.specs.tree.Names.{Name, Names, without_name}
+use Rattle.descriptors.specs.tree.Tree.{Body, is_file, is_directory, Node, Tree, is_dir, on_node, with_node}
+use Rattle.descriptors.specs.tree.Changes.{fewer_links, with_link_lost, with_names}
+use Rattle.descriptors.proofs.tree.Maps.{put-same}
+use Rattle.store.specs.volume.Reading.{Disk}
+use Rattle.store.specs.volume.Pieces.{pieces}
 use Rattle.entries.specs.Names.{HasName}
 use Rattle.entries.specs.Removal.{Removes}
 use Rattle.node_steps.specs.Steps.{BecomesAt, DropsLink, IsOfNode}

@@ -2,11 +2,11 @@
 use Rattle.std.proofs.Common.{◌≡◌, ◌+◌, ℕ, sym, ap, subst, ◌∙◌, arith, Some}
 use Rattle.layout.specs.declared.Geometry.{Geometry}
 use Rattle.layout.specs.Places.{IsGeometry}
-use Rattle.tree.specs.Names.{Name, with_name}
-use Rattle.tree.specs.Tree.{Node, Tree, on_node, with_node}
-use Rattle.tree.specs.Changes.{more_links, with_ctime, with_names}
-use Rattle.volume.specs.Reading.{Disk}
-use Rattle.volume.specs.Pieces.{pieces}
+use Rattle.descriptors.specs.tree.Names.{Name, with_name}
+use Rattle.descriptors.specs.tree.Tree.{Node, Tree, on_node, with_node}
+use Rattle.descriptors.specs.tree.Changes.{more_links, with_ctime, with_names}
+use Rattle.store.specs.volume.Reading.{Disk}
+use Rattle.store.specs.volume.Pieces.{pieces}
 use Rattle.entries.specs.Names.{Inserts, MayInsert, MayReplace, Replaces}
 use Rattle.node_steps.specs.Steps.{AddsLink, BecomesAt, MayAddLink}
 use Rattle.node_steps.proofs.Nodes.{put_back}

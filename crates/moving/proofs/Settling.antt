@@ -2,13 +2,13 @@
 use Rattle.std.proofs.Common.{◌≡◌, ℕ, true, false, refl, sym, ap, subst, ◌∙◌, Some}
 use Rattle.layout.specs.declared.Geometry.{Geometry}
 use Rattle.layout.specs.Places.{IsGeometry}
-use Rattle.tree.specs.Tree.{Body, is_file, is_directory, Node, Tree, is_dir, on_node, with_node}
-use Rattle.tree.specs.Changes.{with_ctime, with_parent}
-use Rattle.tree.proofs.Maps.{put-same}
-use Rattle.volume.specs.declared.Inode.{Inode}
-use Rattle.volume.specs.Reading.{Disk}
-use Rattle.volume.specs.Pieces.{pieces}
-use Rattle.volume.specs.Nodes.{is_mode}
+use Rattle.descriptors.specs.tree.Tree.{Body, is_file, is_directory, Node, Tree, is_dir, on_node, with_node}
+use Rattle.descriptors.specs.tree.Changes.{with_ctime, with_parent}
+use Rattle.descriptors.proofs.tree.Maps.{put-same}
+use Rattle.store.specs.volume.declared.Inode.{Inode}
+use Rattle.store.specs.volume.Reading.{Disk}
+use Rattle.store.specs.volume.Pieces.{pieces}
+use Rattle.store.specs.volume.Nodes.{is_mode}
 use Rattle.entries.specs.Names.{MaySetParent, SetsParent}
 use Rattle.node_steps.specs.Steps.{BecomesAt, IsOfNode, MaySetAttributes, SetsAttributes}
 use Rattle.node_steps.proofs.Nodes.{put_twice}
@@ -52,7 +52,7 @@ module _ (g : Geometry) (ok : IsGeometry g) (n : ℕ) (now : ℕ) where
         size = ap (λ (j : Inode). j.size) loaded;
         zones = ap (λ (j : Inode). j.zones) loaded;
         mode = ap (λ (j : Inode). is_mode j.mode) loaded ∙ (of.sound.inodes n of.marked).mode;
-        kind = ap (λ (j : Inode). Rattle.volume.specs.Nodes.is_directory_mode j.mode) loaded;
+        kind = ap (λ (j : Inode). Rattle.store.specs.volume.Nodes.is_directory_mode j.mode) loaded;
       })
 
   pub touch_leads : (d e f : Disk) (i : Inode) → e ≡ d → i ≡ (pieces g d).inodes n → SetsAttributes g n (dated i) e f → Leads g (IsThere n) (touched now n) d f

@@ -2,13 +2,13 @@
 use Rattle.std.proofs.Common.{◌≡◌, ◌≤◌, ◌+◌, ◌-◌, ℕ, true, false, sym, ap, ◌∙◌, arith, Some}
 use Rattle.layout.specs.declared.Geometry.{Geometry}
 use Rattle.layout.specs.Places.{IsGeometry}
-use Rattle.tree.specs.Sums.{one_if}
-use Rattle.tree.specs.Names.{Name, Names, inode_of, with_name, without_name}
-use Rattle.tree.specs.Tree.{Body, is_file, is_directory, Node, Tree, is_dir, names_of, on_node}
-use Rattle.tree.specs.Changes.{fewer_links, more_links, with_ctime, with_names, with_parent}
-use Rattle.volume.specs.Reading.{Disk}
-use Rattle.volume.specs.Pieces.{pieces}
-use Rattle.entry_laws.specs.Directories.{before}
+use Rattle.descriptors.specs.tree.Sums.{one_if}
+use Rattle.descriptors.specs.tree.Names.{Name, Names, inode_of, with_name, without_name}
+use Rattle.descriptors.specs.tree.Tree.{Body, is_file, is_directory, Node, Tree, is_dir, names_of, on_node}
+use Rattle.descriptors.specs.tree.Changes.{fewer_links, more_links, with_ctime, with_names, with_parent}
+use Rattle.store.specs.volume.Reading.{Disk}
+use Rattle.store.specs.volume.Pieces.{pieces}
+use Rattle.entries.specs.entry_laws.Directories.{before}
 use Rattle.entries.specs.Names.{MayRename, MayRenameIt, Renames}
 use Rattle.call_laws.proofs.Between.{directory_stands, node_stands}
 use Rattle.call_laws.proofs.Entering.{names_are}

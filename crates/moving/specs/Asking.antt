@@ -2,12 +2,12 @@
 use Rattle.std.specs.Prelude.{◌≡◌, ◌≢◌, ◌≤◌, ◌+◌, None, Some, IsTrue}
 use Rattle.layout.specs.declared.Geometry.{Geometry}
 use Rattle.layout.specs.Places.{IsGeometry}
-use Rattle.tree.specs.Sums.{put}
-use Rattle.tree.specs.Names.{inode_of, is_name, with_name}
-use Rattle.tree.specs.Tree.{Node, Tree, is_dir, most_size, names_of, size_of}
-use Rattle.tree.specs.Changes.{with_names}
-use Rattle.tree.specs.Space.{data_zones}
-use Rattle.zone_laws.specs.Room.{taken_by}
+use Rattle.descriptors.specs.tree.Sums.{put}
+use Rattle.descriptors.specs.tree.Names.{inode_of, is_name, with_name}
+use Rattle.descriptors.specs.tree.Tree.{Node, Tree, is_dir, most_size, names_of, size_of}
+use Rattle.descriptors.specs.tree.Changes.{with_names}
+use Rattle.descriptors.specs.tree.Space.{data_zones}
+use Rattle.node_steps.specs.zone_laws.Room.{taken_by}
 use Rattle.moving.specs.declared.moves.Move.{Move}
 use Rattle.moving.specs.Moves.{IsParent, MayTakeOut}
 use Rattle.moving.specs.Whole.{MayMoveTo, out_of}

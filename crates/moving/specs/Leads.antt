@@ -1,8 +1,8 @@
 -- What some steps of a call make of the nodes of a tree.
 use Rattle.std.specs.Prelude.{Result}
 use Rattle.layout.specs.declared.Geometry.{Geometry}
-use Rattle.tree.specs.Tree.{Tree}
-use Rattle.volume.specs.Reading.{Disk}
+use Rattle.descriptors.specs.tree.Tree.{Tree}
+use Rattle.store.specs.volume.Reading.{Disk}
 use Rattle.store.specs.declared.Halt.{Halt}
 use Rattle.store.specs.Halts.{Ends}
 use Rattle.call_laws.specs.Stands.{Stands}

@@ -1,12 +1,12 @@
 -- The steps of a rename, by what each makes of a tree.
 use Rattle.std.specs.Prelude.{◌≡◌, ◌≢◌, ◌≤◌, ◌+◌, ℕ, Bool, None, Some, IsTrue, true}
 use Rattle.layout.specs.declared.Geometry.{Geometry}
-use Rattle.tree.specs.Sums.{put}
-use Rattle.tree.specs.Names.{Name, has_name, inode_of, is_name, with_name, without_name}
-use Rattle.tree.specs.Tree.{Node, Tree, is_dir, most_links, most_size, names_of, on_node, size_of}
-use Rattle.tree.specs.Changes.{fewer_links, more_links, with_ctime, with_names, with_parent}
-use Rattle.tree.specs.Space.{data_zones}
-use Rattle.zone_laws.specs.Room.{taken_by}
+use Rattle.descriptors.specs.tree.Sums.{put}
+use Rattle.descriptors.specs.tree.Names.{Name, has_name, inode_of, is_name, with_name, without_name}
+use Rattle.descriptors.specs.tree.Tree.{Node, Tree, is_dir, most_links, most_size, names_of, on_node, size_of}
+use Rattle.descriptors.specs.tree.Changes.{fewer_links, more_links, with_ctime, with_names, with_parent}
+use Rattle.descriptors.specs.tree.Space.{data_zones}
+use Rattle.node_steps.specs.zone_laws.Room.{taken_by}
 
 -- a directory of the tree, with room for links
 pub record IsParent (t : Tree) (n : ℕ) (x : Node) : Type 0 where

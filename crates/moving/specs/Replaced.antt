@@ -1,9 +1,9 @@
 -- What a rename makes of the node whose name another took.
 use Rattle.std.specs.Prelude.{◌≡◌, ◌≢◌, ℕ, Bool, true, false, None, Some, if◌then◌else◌}
-use Rattle.tree.specs.Tree.{Node, Tree, is_dir, on_node, with_node}
-use Rattle.tree.specs.Changes.{fewer_links, with_link_lost, without_nameless}
-use Rattle.tree.specs.Walk.{Place}
-use Rattle.tree.specs.NameCalls.{without_replaced}
+use Rattle.descriptors.specs.tree.Tree.{Node, Tree, is_dir, on_node, with_node}
+use Rattle.descriptors.specs.tree.Changes.{fewer_links, with_link_lost, without_nameless}
+use Rattle.descriptors.specs.tree.Walk.{Place}
+use Rattle.descriptors.specs.tree.NameCalls.{without_replaced}
 use Rattle.descriptors.specs.Files.{Files, HasFiles}
 use Rattle.moving.specs.Moves.{IsParent}
 

@@ -1,11 +1,11 @@
 -- Whole moves, by what each makes of a tree.
 use Rattle.std.specs.Prelude.{◌≡◌, ◌≤◌, ℕ, None, Some, IsTrue}
 use Rattle.layout.specs.declared.Geometry.{Geometry}
-use Rattle.tree.specs.Sums.{one_if}
-use Rattle.tree.specs.Names.{inode_of, is_name}
-use Rattle.tree.specs.Tree.{Node, Tree, is_dir, names_of}
-use Rattle.tree.specs.Walk.{Place}
-use Rattle.tree.specs.NameCalls.{with_moved, without_moved}
+use Rattle.descriptors.specs.tree.Sums.{one_if}
+use Rattle.descriptors.specs.tree.Names.{inode_of, is_name}
+use Rattle.descriptors.specs.tree.Tree.{Node, Tree, is_dir, names_of}
+use Rattle.descriptors.specs.tree.Walk.{Place}
+use Rattle.descriptors.specs.tree.NameCalls.{with_moved, without_moved}
 use Rattle.moving.specs.declared.moves.Move.{Move}
 use Rattle.moving.specs.Moves.{MayPutIn, MayPutOver, MaySettle, MayTakeOut, settled, taken_out, with_entry_and_links}
 

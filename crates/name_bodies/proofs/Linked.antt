@@ -21,23 +21,23 @@ use Rattle.tree.specs.Space.{data_zones, zones_of, zones_used}
 use Rattle.tree.specs.Answers.{Effect, done, if_it_fits, refused}
 use Rattle.tree.specs.NameCalls.{link, with_entry}
 use Rattle.tree.proofs.Maps.{not_true, put-other, put-same, same_sum}
-use Rattle.tree_laws.proofs.CallsKeep.{link_keeps}
-use Rattle.tree_laws.proofs.Growth.{grown_fits}
-use Rattle.tree_laws.proofs.PathNames.{last_is_name}
-use Rattle.tree_laws.proofs.Shapes.{kind_of, weight}
-use Rattle.tree_laws.proofs.Totals.{weigh_one}
-use Rattle.tree_laws.proofs.Views.{on_node_there}
-use Rattle.tree_laws.proofs.Weights.{weigh, weigh_with_name}
-use Rattle.volume.specs.Reading.{Disk, is_inode}
-use Rattle.volume.specs.Pieces.{Pieces, pieces}
-use Rattle.volume.specs.Nodes.{is_directory_mode, is_marked}
-use Rattle.volume.specs.Holds.{HoldsVolume}
-use Rattle.volume_laws.proofs.Ranges.{marked_below}
+use Rattle.bodies.proofs.tree_laws.CallsKeep.{link_keeps}
+use Rattle.bodies.proofs.tree_laws.Growth.{grown_fits}
+use Rattle.bodies.proofs.tree_laws.PathNames.{last_is_name}
+use Rattle.bodies.proofs.tree_laws.Shapes.{kind_of, weight}
+use Rattle.bodies.proofs.tree_laws.Totals.{weigh_one}
+use Rattle.bodies.proofs.tree_laws.Views.{on_node_there}
+use Rattle.bodies.proofs.tree_laws.Weights.{weigh, weigh_with_name}
+use Rattle.store.specs.volume.Reading.{Disk, is_inode}
+use Rattle.store.specs.volume.Pieces.{Pieces, pieces}
+use Rattle.store.specs.volume.Nodes.{is_directory_mode, is_marked}
+use Rattle.store.specs.volume.Holds.{HoldsVolume}
+use Rattle.inode_table.proofs.volume_laws.Ranges.{marked_below}
 use Rattle.store.specs.World.{IsWorld, Reads, World}
 use Rattle.store.proofs.Turns.{reads_then}
-use Rattle.zone_laws.specs.Room.{taken_by}
-use Rattle.zone.proofs.Held.{inode_is}
-use Rattle.entry_laws.specs.Directories.{before}
+use Rattle.file_room.specs.zone_laws.Room.{taken_by}
+use Rattle.file_room.proofs.zone_laws.Inodes.{inode_is}
+use Rattle.walk.specs.entry_laws.Directories.{before}
 use Rattle.entries.specs.Names.{Inserts, IsOfDirectory, MayInsert}
 use Rattle.descriptors.specs.Files.{Files, HasFiles}
 use Rattle.bodies.specs.Does.{Does, IsHeld, tree_in}

@@ -15,12 +15,12 @@ use Rattle.tree.specs.Changes.{with_link_lost, with_names, without_nameless}
 use Rattle.tree.specs.Answers.{Effect, done, refused}
 use Rattle.tree.specs.NameCalls.{unlink, with_name_lost, without_entry}
 use Rattle.tree.proofs.Maps.{not_true, put-other}
-use Rattle.tree_laws.proofs.Unlinked.{unlink_keeps}
-use Rattle.tree_laws.proofs.Views.{on_node_there}
-use Rattle.volume.specs.Reading.{Disk}
-use Rattle.volume.specs.Pieces.{pieces}
-use Rattle.volume.specs.Nodes.{is_directory_mode}
-use Rattle.volume.specs.Holds.{HoldsVolume}
+use Rattle.bodies.proofs.tree_laws.Unlinked.{unlink_keeps}
+use Rattle.bodies.proofs.tree_laws.Views.{on_node_there}
+use Rattle.store.specs.volume.Reading.{Disk}
+use Rattle.store.specs.volume.Pieces.{pieces}
+use Rattle.store.specs.volume.Nodes.{is_directory_mode}
+use Rattle.store.specs.volume.Holds.{HoldsVolume}
 use Rattle.entries.specs.Removal.{Removes}
 use Rattle.descriptors.specs.Files.{Files, HasFiles}
 use Rattle.bodies.specs.Does.{Does, IsHeld, tree_in}
@@ -50,7 +50,7 @@ module _ (g : Geometry) (user : User) (path : Bor (List ℕ)) (now : ℕ) (f : F
         → unlink t user now path.now ≡ (refuse_if b EPERM >>= λ _. Ok (done, with_name_lost (without_entry t now (place_at g d x)) now x.number))
     effect_is t holds b is =
         (finds t holds).goes_on (takes t now)
-        ∙ ap (λ (i : Rattle.volume.specs.declared.Inode.Inode). takes t now (place_at g d x) x.number (Rattle.volume.specs.Nodes.node_of g (pieces g d) i)) (finds t holds).loaded
+        ∙ ap (λ (i : Rattle.store.specs.volume.declared.Inode.Inode). takes t now (place_at g d x) x.number (Rattle.store.specs.volume.Nodes.node_of g (pieces g d) i)) (finds t holds).loaded
         ∙ ap (λ c. refuse_if c EPERM >>= λ _. Ok (done, with_name_lost (without_entry t now (place_at g d x)) now x.number)) (target_kind g ok user path.now now d x finds t holds ∙ is)
 
     -- it is a directory's

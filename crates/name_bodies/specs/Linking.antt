@@ -9,13 +9,13 @@ use Rattle.tree.specs.Tree.{Node, Tree, is_dir, most_links, most_size}
 use Rattle.tree.specs.Refusals.{◌>>=◌, refuse_if}
 use Rattle.tree.specs.Walk.{Place, has_last_name, is_taken, last_part, may_access, node_at, parent_walk, to_write, walk_parts}
 use Rattle.tree.specs.Answers.{Effect}
-use Rattle.volume.specs.Reading.{Disk}
-use Rattle.volume.specs.Pieces.{Pieces, pieces}
-use Rattle.volume.specs.Nodes.{node_of}
-use Rattle.volume.specs.Entries.{is_directory_inode}
-use Rattle.volume.specs.Holds.{HoldsVolume}
-use Rattle.entry_laws.specs.Directories.{before}
-use Rattle.file.specs.Changing.{MayChange}
+use Rattle.store.specs.volume.Reading.{Disk}
+use Rattle.store.specs.volume.Pieces.{Pieces, pieces}
+use Rattle.store.specs.volume.Nodes.{node_of}
+use Rattle.store.specs.volume.Entries.{is_directory_inode}
+use Rattle.store.specs.volume.Holds.{HoldsVolume}
+use Rattle.walk.specs.entry_laws.Directories.{before}
+use Rattle.file_room.specs.file.Changing.{MayChange}
 use Rattle.call_laws.specs.Naming.{IsRoomForEntry}
 use Rattle.name_bodies.specs.declared.linking.Free.{Free}
 

@@ -4,8 +4,8 @@ ghost use Rattle.std.specs.Prelude.{◌≡◌, ◌≢◌, ◌≤◌, IfErr, IfOk
 ghost use Rattle.tree.specs.Answers.{answer_of, refused};
 ghost use Rattle.tree.specs.NameCalls.{link};
 ghost use Rattle.tree.specs.Walk.{has_last_name, last_part};
-ghost use Rattle.volume.specs.Pieces.{pieces};
-ghost use Rattle.volume.specs.Reading.{is_inode};
+ghost use Rattle.store.specs.volume.Pieces.{pieces};
+ghost use Rattle.store.specs.volume.Reading.{is_inode};
 ghost use Rattle.descriptors.specs.Files.{Files, HasFiles};
 ghost use Rattle.store.specs.World.{Reads, Turns};
 ghost use Rattle.store.specs.Volume.{IsOn};
@@ -17,7 +17,7 @@ ghost use Rattle.name_bodies.specs.Linking.{FindsFile, FindsFree, IsLast, IsRoom
 use crate::named::{is_directory, may_write, place_of};
 use entries::insert;
 use errno::Errno;
-use file::has_room;
+use file_room::has_room;
 use inode_table::load;
 use layout::Geometry;
 use node_steps::add_link;

@@ -6,7 +6,7 @@ ghost use Rattle.store.specs.Volume.{IsOn};
 ghost use Rattle.store.specs.Halts.{IsHalt, Ends};
 ghost use Rattle.tree.specs.Tree.{Node};
 ghost use Rattle.tree.specs.Walk.{may_access, to_write};
-ghost use Rattle.volume.specs.Nodes.{is_directory_mode};
+ghost use Rattle.store.specs.volume.Nodes.{is_directory_mode};
 ghost use Rattle.name_bodies.specs.Names.{FindsName, IsOfInode, IsVolume, MeansPlace};
 
 use errno::Errno;

@@ -14,13 +14,13 @@ use Rattle.tree.specs.Walk.{node_at, is_owner}
 use Rattle.tree.specs.Changes.{with_ctime}
 use Rattle.tree.specs.Answers.{Answer, Effect, done, refused, node_is}
 use Rattle.tree.specs.NodeCalls.{attributes_of, stat, chmod, chown, utime}
-use Rattle.volume.specs.declared.Inode.{Inode}
-use Rattle.volume.specs.Reading.{Disk, is_inode, inode_of_disk}
-use Rattle.volume.specs.Pieces.{pieces, blank}
-use Rattle.volume.specs.Nodes.{is_mode, is_directory_mode, permissions_in, type_in, node_of}
-use Rattle.inode.specs.Bytes.{attributes_in}
-use Rattle.inode.proofs.Stat.{held_attributes}
-use Rattle.descriptors.specs.Files.{Files, HasFiles}
+use Rattle.store.specs.volume.declared.Inode.{Inode}
+use Rattle.store.specs.volume.Reading.{Disk, is_inode, inode_of_disk}
+use Rattle.store.specs.volume.Pieces.{pieces, blank}
+use Rattle.store.specs.volume.Nodes.{is_mode, is_directory_mode, permissions_in, type_in, node_of}
+use Rattle.inode_table.specs.inode.Bytes.{attributes_in}
+use Rattle.inode_table.proofs.inode.Stat.{held_attributes}
+use Rattle.bodies.specs.descriptors.Files.{Files, HasFiles}
 use Rattle.store.specs.Volume.{Alters}
 use Rattle.inode_table.specs.Table.{with_inode}
 use Rattle.bodies.specs.Does.{Does, IsHeld}
@@ -120,7 +120,7 @@ module _ (g : Geometry) (user : User) (path : List ℕ) (now mode : ℕ) where
         atime = j.atime;
         mtime = j.mtime;
         ctime = now;
-        body = Rattle.std.proofs.Common.cond (its_kind mode few j.mode k) (is_directory (record { parent = Rattle.volume.specs.Nodes.entry_inode b.byte 1; names = Rattle.volume.specs.Nodes.names_in b.byte (b.size / 64 - 2) })) (is_file b);
+        body = Rattle.std.proofs.Common.cond (its_kind mode few j.mode k) (is_directory (record { parent = Rattle.store.specs.volume.Nodes.entry_inode b.byte 1; names = Rattle.store.specs.volume.Nodes.names_in b.byte (b.size / 64 - 2) })) (is_file b);
       }))
       (λ t node tree there.
       let old = tree.nodes.each n node there in

@@ -11,20 +11,20 @@ use Rattle.tree.specs.IsTree.{IsNode, IsTree}
 use Rattle.tree.specs.Refusals.{◌>>=◌, or_refuse, refuse_if}
 use Rattle.tree.specs.Walk.{walk, node_at}
 use Rattle.tree.specs.Answers.{Effect, done, refused}
-use Rattle.tree_laws.proofs.Kept.{kept}
-use Rattle.volume.specs.declared.Inode.{Inode}
-use Rattle.volume.specs.Reading.{Disk, is_inode}
-use Rattle.volume.specs.Pieces.{pieces}
-use Rattle.volume.specs.Nodes.{is_mode, is_directory_mode, node_of}
-use Rattle.volume.specs.Holds.{HoldsVolume}
-use Rattle.descriptors.specs.Files.{Files, HasFiles}
+use Rattle.bodies.proofs.tree_laws.Kept.{kept}
+use Rattle.store.specs.volume.declared.Inode.{Inode}
+use Rattle.store.specs.volume.Reading.{Disk, is_inode}
+use Rattle.store.specs.volume.Pieces.{pieces}
+use Rattle.store.specs.volume.Nodes.{is_mode, is_directory_mode, node_of}
+use Rattle.store.specs.volume.Holds.{HoldsVolume}
+use Rattle.bodies.specs.descriptors.Files.{Files, HasFiles}
 use Rattle.store.specs.Volume.{Alters}
 use Rattle.inode_table.specs.Table.{with_inode}
-use Rattle.zone_laws.specs.Steps.{node_from}
-use Rattle.zone.proofs.Held.{inode_is}
+use Rattle.walk.specs.zone_laws.Steps.{node_from}
+use Rattle.walk.proofs.zone_laws.Inodes.{inode_is}
 use Rattle.bodies.specs.Does.{Does, IsHeld}
 use Rattle.bodies.proofs.Made.{refused_made, granted_made}
-use Rattle.file.specs.Changing.{file_at}
+use Rattle.bodies.specs.file.Changing.{file_at}
 use Rattle.node_bodies.specs.Named.{IsVolume, Finds}
 use Rattle.node_bodies.proofs.Volumes.{attributes_changed}
 

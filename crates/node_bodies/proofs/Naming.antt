@@ -8,14 +8,14 @@ use Rattle.tree.specs.Names.{Name}
 use Rattle.tree.specs.Tree.{Tree}
 use Rattle.tree.specs.Refusals.{◌>>=◌}
 use Rattle.tree.specs.Walk.{walk_parts, read_path}
-use Rattle.volume.specs.declared.Inode.{Inode}
-use Rattle.volume.specs.Reading.{Disk, is_inode}
-use Rattle.volume.specs.Pieces.{pieces}
-use Rattle.volume.specs.Holds.{Holds, HoldsVolume}
+use Rattle.store.specs.volume.declared.Inode.{Inode}
+use Rattle.store.specs.volume.Reading.{Disk, is_inode}
+use Rattle.store.specs.volume.Pieces.{pieces}
+use Rattle.store.specs.volume.Holds.{Holds, HoldsVolume}
 use Rattle.store.specs.declared.Halt.{Halt}
 use Rattle.store.specs.declared.Halt.TheVariants as halt
 use Rattle.store.specs.Halts.{Ends}
-use Rattle.zone.proofs.Held.{inode_is}
+use Rattle.walk.proofs.zone_laws.Inodes.{inode_is}
 use Rattle.walk.specs.declared.stop.Stop.{Stop}
 use Rattle.walk.specs.declared.stop.Stop.TheVariants as stop
 use Rattle.walk.specs.Stops.{Answers}

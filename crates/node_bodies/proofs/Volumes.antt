@@ -11,20 +11,19 @@ use Rattle.tree.specs.Sums.{put}
 use Rattle.tree.specs.Tree.{File, Node, Tree, with_node}
 use Rattle.tree.specs.IsTree.{IsTree}
 use Rattle.tree.proofs.Maps.{put-same}
-use Rattle.volume.specs.declared.Inode.{Inode}
-use Rattle.volume.specs.Reading.{Disk}
-use Rattle.volume.specs.Pieces.{Pieces, pieces}
-use Rattle.volume.specs.Nodes.{file_of, is_marked, is_mode, is_directory_mode}
-use Rattle.volume.specs.Entries.{is_directory_inode}
-use Rattle.volume.specs.Holds.{HasSuperblock, HoldsVolume, IsSoundDirectory}
-use Rattle.store.specs.Volume.{Alters}
+use Rattle.store.specs.volume.declared.Inode.{Inode}
+use Rattle.store.specs.volume.Reading.{Disk}
+use Rattle.store.specs.volume.Pieces.{Pieces, pieces}
+use Rattle.store.specs.volume.Nodes.{file_of, is_marked, is_mode, is_directory_mode}
+use Rattle.store.specs.volume.Entries.{is_directory_inode}
+use Rattle.store.specs.volume.Holds.{HasSuperblock, HoldsVolume, IsSoundDirectory}
+use Rattle.store.specs.Volume.{Alters, SameHead}
 use Rattle.inode_table.specs.Table.{with_inode}
-use Rattle.zone_laws.specs.Steps.{node_from}
-use Rattle.zone_laws.proofs.Keeps.{sound_is_sound_but, sound_but_is_sound}
-use Rattle.zone_laws.proofs.Files.{directory_kept}
-use Rattle.zone.specs.Pages.{SameHead}
-use Rattle.file.specs.Changing.{MayChange, BecomesFile, file_at}
-use Rattle.file.proofs.Resizing.{stored_becomes}
+use Rattle.walk.specs.zone_laws.Steps.{node_from}
+use Rattle.walk.proofs.zone_laws.Keeps.{sound_is_sound_but, sound_but_is_sound}
+use Rattle.walk.proofs.zone_laws.Files.{directory_kept}
+use Rattle.bodies.specs.file.Changing.{MayChange, BecomesFile, file_at}
+use Rattle.bodies.proofs.file.Resizing.{stored_becomes}
 
 -- the superblock lies before the maps
 wide : (w : ℕ) → IsTrue (is_block_size w) → 1024 ≤ w

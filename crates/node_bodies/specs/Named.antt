@@ -5,11 +5,11 @@ use Rattle.layout.specs.declared.Geometry.{Geometry}
 use Rattle.tree.specs.declared.User.{User}
 use Rattle.tree.specs.Tree.{Tree}
 use Rattle.tree.specs.Walk.{walk}
-use Rattle.volume.specs.declared.Inode.{Inode}
-use Rattle.volume.specs.Reading.{Disk}
-use Rattle.volume.specs.Pieces.{pieces}
-use Rattle.volume.specs.Nodes.{is_marked, node_of}
-use Rattle.volume.specs.Holds.{HoldsVolume}
+use Rattle.store.specs.volume.declared.Inode.{Inode}
+use Rattle.store.specs.volume.Reading.{Disk}
+use Rattle.store.specs.volume.Pieces.{pieces}
+use Rattle.store.specs.volume.Nodes.{is_marked, node_of}
+use Rattle.store.specs.volume.Holds.{HoldsVolume}
 use Rattle.walk.specs.Walking.{IsThere}
 
 -- some tree is held

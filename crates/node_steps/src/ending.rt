@@ -5,7 +5,7 @@ ghost use Rattle.descriptors.specs.Table.{files_of};
 ghost use Rattle.store.specs.Halts.{Ends, IsHalt};
 ghost use Rattle.store.specs.Volume.{IsOn};
 ghost use Rattle.store.specs.World.{Turns};
-ghost use Rattle.volume.specs.Pieces.{pieces};
+ghost use Rattle.store.specs.volume.Pieces.{pieces};
 ghost use Rattle.node_steps.specs.Steps.{FreesNode, IsOfNode, LosesName, LosesNode};
 
 use crate::attributes::drop_link;

@@ -17,9 +17,9 @@ use Rattle.tree.specs.Walk as tree
 use Rattle.tree.specs.Answers.{Effect, descriptor, if_it_fits}
 use Rattle.tree.specs.FileCalls.{Slot, open_found, with_open}
 use Rattle.tree.specs.Space.{data_zones, zones_used}
-use Rattle.tree_laws.proofs.OpenCall.{missing_at}
-use Rattle.volume.specs.Reading.{Disk}
-use Rattle.volume.specs.Holds.{HoldsVolume}
+use Rattle.bodies.proofs.tree_laws.OpenCall.{missing_at}
+use Rattle.store.specs.volume.Reading.{Disk}
+use Rattle.store.specs.volume.Holds.{HoldsVolume}
 use Rattle.descriptors.specs.Files.{files_in}
 use Rattle.walk.specs.declared.place.Place.{Place}
 use Rattle.walk.specs.Places.{IsPlace, place_of}

@@ -3,7 +3,7 @@
 ghost use Rattle.std.specs.Prelude.{◌≡◌, ◌≢◌, ◌<◌, ◌&&◌, IfErr, IfSome, not};
 ghost use Rattle.tree.specs.Flags.{bad_flags, truncates};
 ghost use Rattle.tree.specs.Tree.{Node, most_sessions};
-ghost use Rattle.volume.specs.Nodes.{is_directory_mode, permissions_in};
+ghost use Rattle.store.specs.volume.Nodes.{is_directory_mode, permissions_in};
 ghost use Rattle.descriptors.specs.Table.{files_of};
 ghost use Rattle.path.specs.Wishes.{IsWhose};
 ghost use Rattle.open_body.specs.Asking.{lacks_permission, may_begin, why_barred};

@@ -2,7 +2,7 @@
 
 ghost use Rattle.std.specs.Prelude.{◌≢◌, ◌≤◌, IfErr, IsTrue, is_some};
 ghost use Rattle.tree.specs.Tree.{Tree, most_permissions};
-ghost use Rattle.volume.specs.Holds.{HoldsVolume};
+ghost use Rattle.store.specs.volume.Holds.{HoldsVolume};
 ghost use Rattle.store.specs.Volume.{IsOn};
 ghost use Rattle.store.specs.World.{Turns};
 ghost use Rattle.walk.specs.Stops.{Answers, IfRefused, IsStop};

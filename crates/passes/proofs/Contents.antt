@@ -3,16 +3,16 @@ use Rattle.std.proofs.Common.{◌≡◌, ◌≢◌, ◌⊎◌, ◌<◌, ◌≤�
 use mathlib.Core.Logic.{inl, inr}
 use Rattle.std.specs.Prelude.{◌==◌, nat_lt, nat_le}
 use Rattle.std.proofs.lemmas.Bool.{cases_eq, cases_lt, cases_Bool, cond-true, cond-false, and_parts, and_left, and_right, leb-true, lt-leb, lt-ltb, le-ltb, eq-eqb, ne_eqb}
-use Rattle.layout.specs.declared.Geometry.{Geometry}
-use Rattle.layout.specs.Places.{IsGeometry}
-use Rattle.tree.specs.Space.{numbers_in_zone}
-use Rattle.volume.specs.Reading.{is_inode, is_data_zone}
-use Rattle.volume.specs.Pieces.{Pieces}
-use Rattle.volume.specs.Nodes.{word, number, slot, is_marked}
-use Rattle.volume.specs.Places.{zone_at}
-use Rattle.volume_laws.proofs.Naming.{Naming, room, front, spot}
-use Rattle.volume_laws.proofs.Spots.{under, beside, Inner, Outer, seen_top, seen_next, spot_word}
-use Rattle.volume_laws.proofs.Bridge.{naming, zone_spot}
+use Rattle.image.specs.layout.declared.Geometry.{Geometry}
+use Rattle.image.specs.layout.Places.{IsGeometry}
+use Rattle.image.specs.tree.Space.{numbers_in_zone}
+use Rattle.image.specs.volume.Reading.{is_inode, is_data_zone}
+use Rattle.image.specs.volume.Pieces.{Pieces}
+use Rattle.image.specs.volume.Nodes.{word, number, slot, is_marked}
+use Rattle.image.specs.volume.Places.{zone_at}
+use Rattle.image.proofs.volume_laws.Naming.{Naming, room, front, spot}
+use Rattle.image.proofs.volume_laws.Spots.{under, beside, Inner, Outer, seen_top, seen_next, spot_word}
+use Rattle.image.proofs.volume_laws.Bridge.{naming, zone_spot}
 use Rattle.image.specs.declared.Image.{Image}
 use Rattle.image.specs.Contents.{contents}
 use Rattle.image.proofs.Places as places

@@ -5,17 +5,17 @@ use Rattle.std.specs.Prelude.{not, ◌&&◌, ◌||◌, ◌==◌, nat_lt, nat_le}
 use Rattle.std.proofs.lemmas.Bool.{cases_eq, cases_lt, cases_Bool, cond-true, cond-false, eq-eqb, ne_eqb, lt-ltb, le-ltb, and_from, and_parts, and_left, and_right, or_cases, or_left, or_right, or_from, not-true, both_ways}
 use Rattle.std.proofs.lemmas.Nat.{div-add-mod'}
 use Rattle.std.proofs.Math.Nat.{mod-lt, mul-le-mul_left}
-use Rattle.tree.specs.Sums.{some_below}
-use Rattle.tree.specs.Space.{pages_of, numbers_in_zone}
-use Rattle.tree.specs.ZonesNeeded.{page_limit}
-use Rattle.volume.specs.Nodes.{slot, word, is_marked}
-use Rattle.volume.specs.Places.{zone_at, has_number}
-use Rattle.volume.specs.Findings.{is_past_end, is_empty_block, has_spare_zone}
-use Rattle.volume_laws.proofs.Naming.{room, spot}
-use Rattle.volume_laws.proofs.Spots.{under, beside, Inner, Outer, seen_top, seen_next}
-use Rattle.volume_laws.proofs.Sums.{some_from, some_witness, none_from}
-use Rattle.volume_laws.proofs.Bridge.{no_index, zone_spot}
-use Rattle.volume_laws.proofs.Levels.{hole_below}
+use Rattle.image.specs.tree.Sums.{some_below}
+use Rattle.image.specs.tree.Space.{pages_of, numbers_in_zone}
+use Rattle.image.specs.tree.ZonesNeeded.{page_limit}
+use Rattle.image.specs.volume.Nodes.{slot, word, is_marked}
+use Rattle.image.specs.volume.Places.{zone_at, has_number}
+use Rattle.image.specs.volume.Findings.{is_past_end, is_empty_block, has_spare_zone}
+use Rattle.image.proofs.volume_laws.Naming.{room, spot}
+use Rattle.image.proofs.volume_laws.Spots.{under, beside, Inner, Outer, seen_top, seen_next}
+use Rattle.image.proofs.volume_laws.Sums.{some_from, some_witness, none_from}
+use Rattle.image.proofs.volume_laws.Bridge.{no_index, zone_spot}
+use Rattle.image.proofs.volume_laws.Levels.{hole_below}
 use Rattle.image.specs.declared.Image.{Image}
 use Rattle.passes.specs.Entered.{level_of}
 use Rattle.passes.specs.Spare.{first_place, index_of, is_spare}

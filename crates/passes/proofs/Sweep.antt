@@ -5,17 +5,17 @@ use Rattle.std.specs.Prelude.{not, ◌&&◌, ◌||◌, ◌==◌, nat_lt}
 use Rattle.std.proofs.lemmas.Bool.{cases_eq, cases_lt, cases_Bool, cond-true, cond-false, eq-eqb, ne_eqb, and_from, and_parts, and_left, and_right, not-true, both_ways, lt-ltb}
 use Rattle.std.proofs.lemmas.Nat.{mul-add-lt, same_from_place}
 use Rattle.std.proofs.lemmas.List.{length-set, get_or-set_same, get_or-set_other}
-use Rattle.tree.specs.Space.{numbers_in_zone}
-use Rattle.tree.specs.ZonesNeeded.{page_limit}
-use Rattle.tree.specs.Sums.{some_below}
-use Rattle.volume.specs.Reading.{is_data_zone}
-use Rattle.volume.specs.Nodes.{word, slot, is_marked}
-use Rattle.volume.specs.Places.{zone_at, is_entered}
-use Rattle.volume.specs.Findings.{is_bad_zone, has_bad_number}
-use Rattle.volume_laws.proofs.Sums.{some_from, some_witness, none_from}
-use Rattle.volume_laws.proofs.Naming.{room, spot}
-use Rattle.volume_laws.proofs.Spots.{under, beside, Inner, Outer, seen_top, seen_next, entered_named, named_entered}
-use Rattle.volume_laws.proofs.Bridge.{no_index, zone_spot, entered_is}
+use Rattle.image.specs.tree.Space.{numbers_in_zone}
+use Rattle.image.specs.tree.ZonesNeeded.{page_limit}
+use Rattle.image.specs.tree.Sums.{some_below}
+use Rattle.image.specs.volume.Reading.{is_data_zone}
+use Rattle.image.specs.volume.Nodes.{word, slot, is_marked}
+use Rattle.image.specs.volume.Places.{zone_at, is_entered}
+use Rattle.image.specs.volume.Findings.{is_bad_zone, has_bad_number}
+use Rattle.image.proofs.volume_laws.Sums.{some_from, some_witness, none_from}
+use Rattle.image.proofs.volume_laws.Naming.{room, spot}
+use Rattle.image.proofs.volume_laws.Spots.{under, beside, Inner, Outer, seen_top, seen_next, entered_named, named_entered}
+use Rattle.image.proofs.volume_laws.Bridge.{no_index, zone_spot, entered_is}
 use Rattle.std.proofs.Math.Nat.{mod-lt}
 use Rattle.image.specs.declared.Image.{Image}
 use Rattle.passes.specs.Entered.{is_in, Keeps, level_of, numbers_at, IsNamed, IsFine, IsSwept, SlotsAreFine, HasBadPlace, AreEntered}

@@ -1,9 +1,9 @@
 -- Counts of the uses of zones, up to two.
 use Rattle.std.specs.Prelude.{◌≡◌, ◌≤◌, ◌<◌, ℕ, ◌+◌, List, length, slice_index, Bool, ◌==◌, min, if◌then◌else◌}
-use Rattle.tree.specs.Sums.{sum_below, count_below}
-use Rattle.tree.specs.Space.{numbers_in_zone}
-use Rattle.volume.specs.Nodes.{word, slot, is_marked}
-use Rattle.volume.specs.Places.{uses}
+use Rattle.image.specs.tree.Sums.{sum_below, count_below}
+use Rattle.image.specs.tree.Space.{numbers_in_zone}
+use Rattle.image.specs.volume.Nodes.{word, slot, is_marked}
+use Rattle.image.specs.volume.Places.{uses}
 use Rattle.image.specs.declared.Image.{Image}
 use Rattle.image.specs.Contents.{contents}
 use Rattle.passes.specs.Entered.{is_in}

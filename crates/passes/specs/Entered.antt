@@ -1,10 +1,10 @@
 -- The indirect zones that are entered, each once a level, and what is known of them.
 use Rattle.std.specs.Prelude.{◌≡◌, ◌≢◌, ◌<◌, ℕ, suc, ◌+◌, ◌-◌, ◌*◌, List, length, slice_index_or, Bool, true, false, ◌==◌, nat_lt, if◌then◌else◌}
-use Rattle.tree.specs.Space.{numbers_in_zone}
-use Rattle.volume.specs.Reading.{is_data_zone}
-use Rattle.volume.specs.Nodes.{word, slot, is_marked}
-use Rattle.volume.specs.Places.{zone_at, is_entered}
-use Rattle.volume.specs.Findings.{is_bad_zone}
+use Rattle.image.specs.tree.Space.{numbers_in_zone}
+use Rattle.image.specs.volume.Reading.{is_data_zone}
+use Rattle.image.specs.volume.Nodes.{word, slot, is_marked}
+use Rattle.image.specs.volume.Places.{zone_at, is_entered}
+use Rattle.image.specs.volume.Findings.{is_bad_zone}
 use Rattle.image.specs.declared.Image.{Image}
 use Rattle.image.specs.Contents.{contents}
 

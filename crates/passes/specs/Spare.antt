@@ -1,9 +1,9 @@
 -- Zones past the end of a file and empty blocks, at a place and below it.
 use Rattle.std.specs.Prelude.{ℕ, zero, suc, ◌+◌, ◌*◌, Bool, ◌||◌, ◌==◌, nat_lt, if◌then◌else◌}
-use Rattle.tree.specs.Sums.{some_below}
-use Rattle.tree.specs.Space.{numbers_in_zone}
-use Rattle.volume.specs.Places.{zone_at}
-use Rattle.volume.specs.Findings.{is_past_end, is_empty_block}
+use Rattle.image.specs.tree.Sums.{some_below}
+use Rattle.image.specs.tree.Space.{numbers_in_zone}
+use Rattle.image.specs.volume.Places.{zone_at}
+use Rattle.image.specs.volume.Findings.{is_past_end, is_empty_block}
 use Rattle.image.specs.declared.Image.{Image}
 use Rattle.image.specs.Contents.{contents}
 

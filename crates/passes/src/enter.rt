@@ -1,10 +1,10 @@
 //! Entering the indirect zones, and the first inode with a number that is no data zone's.
 
 ghost use Rattle.std.specs.Prelude.{◌≡◌, ◌<◌, ◌+◌, ◌*◌, ℕ, None, true, false, not, length, slice_index_or};
-ghost use Rattle.tree.specs.Space.{numbers_in_zone};
-ghost use Rattle.volume.specs.Nodes.{is_marked};
-ghost use Rattle.volume.specs.Findings.{has_bad_number};
-ghost use Rattle.volume.specs.Verdict.{place_limit};
+ghost use Rattle.image.specs.tree.Space.{numbers_in_zone};
+ghost use Rattle.image.specs.volume.Nodes.{is_marked};
+ghost use Rattle.image.specs.volume.Findings.{has_bad_number};
+ghost use Rattle.image.specs.volume.Verdict.{place_limit};
 ghost use Rattle.image.specs.Contents.{contents};
 ghost use Rattle.image.specs.Least.{least_of};
 ghost use Rattle.passes.specs.Entered.{AreEntered, HasBadBelow, IsFine, IsNamed, IsSwept, Keeps, SlotsAreFine, level_of, numbers_at};

@@ -1,10 +1,10 @@
 //! Zones past the end of a file, and indirect blocks without any number.
 
 ghost use Rattle.std.specs.Prelude.{◌≡◌, ◌≤◌, ◌<◌, ◌+◌, ◌-◌, ◌*◌, ◌^◌};
-ghost use Rattle.tree.specs.Space.{pages_of};
-ghost use Rattle.volume.specs.Places.{has_number, zone_at};
-ghost use Rattle.volume.specs.Findings.{has_spare_zone};
-ghost use Rattle.volume.specs.Verdict.{place_limit};
+ghost use Rattle.image.specs.tree.Space.{pages_of};
+ghost use Rattle.image.specs.volume.Places.{has_number, zone_at};
+ghost use Rattle.image.specs.volume.Findings.{has_spare_zone};
+ghost use Rattle.image.specs.volume.Verdict.{place_limit};
 ghost use Rattle.image.specs.Contents.{contents};
 ghost use Rattle.image.specs.Least.{least_of};
 ghost use Rattle.passes.specs.Spare.{first_place, index_of, is_spare};

@@ -1,12 +1,12 @@
 //! How often each zone is named.
 
 ghost use Rattle.std.specs.Prelude.{◌≡◌, ◌≤◌, ◌<◌, ◌+◌, ◌*◌, ℕ, ◌==◌, min, length, slice_index, if◌then◌else◌};
-ghost use Rattle.tree.specs.Sums.{count_below, one_if, sum_below};
-ghost use Rattle.tree.specs.Space.{numbers_in_zone};
-ghost use Rattle.volume.specs.Nodes.{is_marked, slot, word};
-ghost use Rattle.volume.specs.Places.{uses};
-ghost use Rattle.volume.specs.Findings.{has_bad_bit, is_used_twice};
-ghost use Rattle.volume.specs.Verdict.{place_limit};
+ghost use Rattle.image.specs.tree.Sums.{count_below, one_if, sum_below};
+ghost use Rattle.image.specs.tree.Space.{numbers_in_zone};
+ghost use Rattle.image.specs.volume.Nodes.{is_marked, slot, word};
+ghost use Rattle.image.specs.volume.Places.{uses};
+ghost use Rattle.image.specs.volume.Findings.{has_bad_bit, is_used_twice};
+ghost use Rattle.image.specs.volume.Verdict.{place_limit};
 ghost use Rattle.image.specs.Contents.{contents};
 ghost use Rattle.image.specs.Least.{least_of};
 ghost use Rattle.passes.specs.Entered.{AreEntered, is_in};

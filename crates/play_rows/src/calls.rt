@@ -1,5 +1,6 @@
 //! Scripts of all calls, each on a new volume of 64 blocks of 1024 bytes with 32 inodes: what its calls are answered.
-use crate::volumes::{gave, play_all};
+use crate::given::gave;
+use play_samples::volumes::play_all;
 use samples::new_volume;
 use std::test::Fail;
 

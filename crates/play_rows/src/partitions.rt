@@ -1,7 +1,8 @@
 //! Volumes in a partition of an image.
-use crate::volumes::{Played, gave, play_as};
+use crate::given::gave;
 use modeldisk::{Inner, RamDriver, ScriptedDriver};
 use partition::{Table, parse};
+use play_samples::volumes::{Played, play_as};
 use policy::Setup;
 use samples::{ROOT, new_volume, whole};
 use std::alloc::{AllocError, Global};
@@ -32,7 +33,12 @@ fn disk(alloc: Global, kind: u8, count: u8, last: u8) -> Result<Vec<u8>, AllocEr
 }
 
 /// Plays `stat /` on the volume of this minor, over a driver of its ranges.
-fn played<R: Wait + Copy>(alloc: Global, rt: R, image: &[u8], minor: u8) -> Result<Played, Fail> {
+fn played<R: Wait + Copy>(
+    alloc: Global,
+    rt: R,
+    image: &[u8],
+    minor: u8,
+) -> Result<Played, AllocError> {
     let (sectors, _) = image.as_chunks::<512>();
     let whole_disk = Table::whole(129);
     let table = match sectors.first() {

@@ -1,13 +1,13 @@
 //! Plays of `stat /`: the replies, bad lines, and writers that fail.
-use crate::volumes::{files, gave, one_file, play_with};
+use crate::given::gave;
 use bdev::Driver;
 use modeldisk::RamDriver;
 use partition::Table;
+use play_samples::volumes::{File, Status, Told, files, one_file, play, play_with};
 use samples::{ROOT, new_volume, supply_of, whole};
 use std::io::{self, Write};
 use std::process::Abort;
 use std::test::Fail;
-use tools::play::{File, Status, Told, play};
 
 const STAT: &[u8] = b"user 0 0\n100 stat /\n";
 

@@ -8,13 +8,13 @@ use Rattle.message.specs.declared.BlockRequest.{BlockRequest}
 use Rattle.message.specs.declared.Incoming.{Incoming}
 use Rattle.message.specs.declared.Incoming.TheVariants as incoming
 use Rattle.tree.specs.Answers.{answer_of}
-use Rattle.marks.specs.Marks.{Issued, Fault, Answered, Started, GaveUp, Flush, Took}
-use Rattle.marks.specs.declared.Cause.TheVariants.{Complaint}
-use Rattle.marks.specs.Open.{counts}
-use Rattle.marks.specs.Told.{Told, Posted, Complained, Received}
-use Rattle.bdev.specs.DriverState.{DriverState}
-use Rattle.policy.specs.declared.Event.TheVariants as policy
-use Rattle.policy.specs.Watch.{on}
+use Rattle.reissue.specs.marks.Marks.{Issued, Fault, Answered, Started, GaveUp, Flush, Took}
+use Rattle.reissue.specs.marks.declared.Cause.TheVariants.{Complaint}
+use Rattle.reissue.specs.marks.Open.{counts}
+use Rattle.reissue.specs.marks.Told.{Told, Posted, Complained, Received}
+use Rattle.reincarnate.specs.bdev.DriverState.{DriverState}
+use Rattle.reincarnate.specs.policy.declared.Event.TheVariants as policy
+use Rattle.reincarnate.specs.policy.Watch.{on}
 use Rattle.reincarnate.specs.Supply.{ReincarnationState}
 use Rattle.reissue.specs.declared.link.LinkRefusal.{LinkRefusal}
 use Rattle.driver_events.specs.Disks.{Disks, LinesUp, NoneIsThere, LineIsFull, IsLinedUp}

@@ -5,10 +5,10 @@ use Rattle.endpoint.specs.declared.Endpoint.{Endpoint}
 use Rattle.message.specs.declared.BlockRequest.{BlockRequest}
 use Rattle.message.specs.declared.Incoming.{Incoming}
 use Rattle.message.specs.declared.Incoming.TheVariants as incoming
-use Rattle.marks.specs.Marks.{Mark, Issued, last_started, gave_up}
-use Rattle.marks.specs.Open.{open_requests, greatest, has_none}
-use Rattle.marks.specs.Told.{Told, Posted, Complained, Received, with_told, took_nothing}
-use Rattle.marks.specs.Acts.{Began, AtLink, Outbox, owed_after_act, owed_after_post, target, needs_message, MayPost, MayTake, MayAct}
+use Rattle.reissue.specs.marks.Marks.{Mark, Issued, last_started, gave_up}
+use Rattle.reissue.specs.marks.Open.{open_requests, greatest, has_none}
+use Rattle.reissue.specs.marks.Told.{Told, Posted, Complained, Received, with_told, took_nothing}
+use Rattle.reissue.specs.marks.Acts.{Began, AtLink, Outbox, owed_after_act, owed_after_post, target, needs_message, MayPost, MayTake, MayAct}
 use Rattle.playing.specs.declared.arrived.Arrived.{Arrived}
 use Rattle.playing.specs.PlayView as link
 use Rattle.playing.specs.PlayView.{Play, PlaysNext, Turn}

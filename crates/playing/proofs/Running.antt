@@ -6,12 +6,12 @@ use Rattle.message.specs.declared.BlockRequest.{BlockRequest}
 use Rattle.message.specs.declared.Incoming.{Incoming}
 use Rattle.message.specs.declared.Incoming.TheVariants as incoming
 use Rattle.endpoint.specs.declared.Endpoint.{Endpoint}
-use Rattle.marks.specs.Marks.{Mark, Issued, Fault}
-use Rattle.marks.specs.declared.Cause.TheVariants.{Complaint}
-use Rattle.marks.specs.Told.{Told, Posted, Complained, Received, received, with_told, took_end, took_nothing, heard}
-use Rattle.marks.specs.Acts.{Act, Began, Absorbed, AtLink, Outbox, told_of, has_absorbed, marks_after, outbox_after, owed_after_act, owed_after_message, IsAtRest, MayBegin, MayTake, MayAct, KeepsRules}
-use Rattle.faultless.specs.Faultless.{without_faults}
-use Rattle.faultless.proofs.FaultlessLaws.{leave_same_mark}
+use Rattle.reissue.specs.marks.Marks.{Mark, Issued, Fault}
+use Rattle.reissue.specs.marks.declared.Cause.TheVariants.{Complaint}
+use Rattle.reissue.specs.marks.Told.{Told, Posted, Complained, Received, received, with_told, took_end, took_nothing, heard}
+use Rattle.reissue.specs.marks.Acts.{Act, Began, Absorbed, AtLink, Outbox, told_of, has_absorbed, marks_after, outbox_after, owed_after_act, owed_after_message, IsAtRest, MayBegin, MayTake, MayAct, KeepsRules}
+use Rattle.driver_events.specs.faultless.Faultless.{without_faults}
+use Rattle.driver_events.proofs.faultless.FaultlessLaws.{leave_same_mark}
 use Rattle.run_log.specs.declared.log.Entry.TheVariants as entry
 use Rattle.run_log.specs.Noted.{Noted, marks_in, with_entry}
 use Rattle.run_log.proofs.NotedLaws.{mark_in, message_in}

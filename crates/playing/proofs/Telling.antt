@@ -4,11 +4,11 @@ use Rattle.std.specs.Prelude.{Option, Some, None, is_ok}
 use Rattle.message.specs.declared.Incoming.{Incoming}
 use Rattle.message.specs.declared.Incoming.TheVariants as incoming
 use Rattle.tree.specs.Answers.{answer_of}
-use Rattle.marks.specs.Marks.{Mark, Issued, Fault, Answered, Started, GaveUp, Flush, Took, gave_up}
-use Rattle.marks.specs.declared.Cause.TheVariants.{Complaint}
-use Rattle.marks.specs.Open.{counts}
-use Rattle.marks.specs.Told.{Told, received}
-use Rattle.faultless.proofs.FaultlessLaws.{faults_change_nothing}
+use Rattle.reissue.specs.marks.Marks.{Mark, Issued, Fault, Answered, Started, GaveUp, Flush, Took, gave_up}
+use Rattle.reissue.specs.marks.declared.Cause.TheVariants.{Complaint}
+use Rattle.reissue.specs.marks.Open.{counts}
+use Rattle.reissue.specs.marks.Told.{Told, received}
+use Rattle.driver_events.proofs.faultless.FaultlessLaws.{faults_change_nothing}
 use Rattle.run_log.specs.declared.log.Entry.{Entry}
 use Rattle.run_log.specs.declared.log.Entry.TheVariants as entry
 use Rattle.run_log.specs.Noted.{Noted, marks_in, with_entry}

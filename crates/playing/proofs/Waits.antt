@@ -5,15 +5,15 @@ use Rattle.std.proofs.lemmas.List.{append_assoc, map-append, reverse-append}
 use Rattle.message.specs.declared.Incoming.{Incoming}
 use Rattle.message.specs.declared.Incoming.TheVariants as incoming
 use Rattle.tree.specs.Answers.{answer_of}
-use Rattle.marks.specs.Marks.{Mark, Issued, Fault, Answered, Started, GaveUp, Flush, Took}
-use Rattle.marks.specs.declared.Cause.TheVariants.{Complaint}
-use Rattle.marks.specs.Open.{counts}
-use Rattle.marks.specs.Told.{Told, received}
+use Rattle.reissue.specs.marks.Marks.{Mark, Issued, Fault, Answered, Started, GaveUp, Flush, Took}
+use Rattle.reissue.specs.marks.declared.Cause.TheVariants.{Complaint}
+use Rattle.reissue.specs.marks.Open.{counts}
+use Rattle.reissue.specs.marks.Told.{Told, received}
 use Rattle.schedule.specs.declared.Event.{Event}
 use Rattle.schedule.specs.declared.Event.TheVariants as event
 use Rattle.schedule.specs.Groups.{Group, event_of}
 use Rattle.schedule.specs.Calls.{Arrival, arrived, taken}
-use Rattle.faultless.specs.Faultless.{without_faults}
+use Rattle.driver_events.specs.faultless.Faultless.{without_faults}
 use Rattle.run_log.specs.declared.log.Entry.{Entry}
 use Rattle.run_log.specs.declared.log.Entry.TheVariants as entry
 use Rattle.run_log.specs.Noted.{Noted, marks_in, with_entry}

@@ -1,8 +1,8 @@
 -- What goes on in the link goes on from itself, and twice; its guarantee makes the replies true.
 use Rattle.std.specs.Prelude.{List}
-use Rattle.marks.specs.Marks.{Mark}
-use Rattle.marks.specs.Disk.{HasTrueReplies}
-use Rattle.marks.specs.Opening.{Opening, contents_at}
+use Rattle.reissue.specs.marks.Marks.{Mark}
+use Rattle.reissue.specs.marks.Disk.{HasTrueReplies}
+use Rattle.reissue.specs.marks.Opening.{Opening, contents_at}
 use Rattle.driver_events.specs.Scene.{Scene}
 use Rattle.playing.specs.PlayView.{Play, PlayTrue, GoesOn, Still, Further}
 

@@ -5,12 +5,12 @@ use Rattle.message.specs.declared.Incoming.{Incoming}
 use Rattle.tree.specs.declared.Reply.{Reply}
 use Rattle.schedule.specs.Groups.{schedule_of}
 use Rattle.run_log.specs.Noted.{marks_in}
-use Rattle.marks.specs.Marks.{Mark, gave_up}
-use Rattle.marks.specs.Disk.{HasTrueReplies}
-use Rattle.marks.specs.Opening.{Opening, contents_at}
-use Rattle.marks.specs.Told.{took_end}
-use Rattle.true_replies.specs.State.{MediaHold, OutsideHolds}
-use Rattle.true_replies.specs.Events.{opening_media}
+use Rattle.reissue.specs.marks.Marks.{Mark, gave_up}
+use Rattle.reissue.specs.marks.Disk.{HasTrueReplies}
+use Rattle.reissue.specs.marks.Opening.{Opening, contents_at}
+use Rattle.reissue.specs.marks.Told.{took_end}
+use Rattle.inline.specs.true_replies.State.{MediaHold, OutsideHolds}
+use Rattle.inline.specs.true_replies.Events.{opening_media}
 use Rattle.driver_events.specs.Scene.{Scene}
 use Rattle.playing.specs.declared.arrived.Arrived.{Arrived}
 use Rattle.playing.specs.PlayView.{Play, PlayTrue, IsSpent, GoesOn, Asides, HandsOut, Answers, work_left}

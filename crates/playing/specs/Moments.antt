@@ -4,10 +4,10 @@ use Rattle.message.specs.declared.BlockRequest.{BlockRequest}
 use Rattle.message.specs.declared.Incoming.{Incoming}
 use Rattle.message.specs.declared.Incoming.TheVariants as incoming
 use Rattle.tree.specs.declared.Reply.{Reply}
-use Rattle.marks.specs.Marks.{Mark, gave_up}
-use Rattle.marks.specs.Told.{Told, Received, took_nothing}
-use Rattle.marks.specs.Acts.{Began, AtLink, Outbox, owed_after_act, owed_after_message, IsAtRest, MayBegin, MayTake, MayAct, needs_message}
-use Rattle.faultless.specs.Faultless.{without_faults}
+use Rattle.reissue.specs.marks.Marks.{Mark, gave_up}
+use Rattle.reissue.specs.marks.Told.{Told, Received, took_nothing}
+use Rattle.reissue.specs.marks.Acts.{Began, AtLink, Outbox, owed_after_act, owed_after_message, IsAtRest, MayBegin, MayTake, MayAct, needs_message}
+use Rattle.driver_events.specs.faultless.Faultless.{without_faults}
 use Rattle.run_log.specs.Noted.{marks_in}
 use Rattle.run_log.specs.declared.log.Entry.TheVariants as entry
 use Rattle.playing.specs.declared.arrived.Arrived.{Arrived}

@@ -1,8 +1,8 @@
 //! What is done at the link between two calls.
 
 ghost use Rattle.std.specs.Prelude.{◌≡◌, ◌⊎◌, ◌<◌, ◌≤◌, ◌-◌, ◌∷◌, List, IfOk, OnOk, length, true, false};
-ghost use Rattle.marks.specs.Opening.{Opening};
-ghost use Rattle.marks.specs.Marks.{Mark, Took};
+ghost use Rattle.reissue.specs.marks.Opening.{Opening};
+ghost use Rattle.reissue.specs.marks.Marks.{Mark, Took};
 ghost use Rattle.tree.specs.Answers.{answer_of};
 
 use crate::arrived::Arrived;

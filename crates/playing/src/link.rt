@@ -2,8 +2,8 @@
 
 ghost use Rattle.std.specs.Prelude.{◌≡◌, ◌<◌, ◌≤◌, ◌+◌, ◌-◌, List, Some, None, IfSome, length, false, not, ◌||◌, ◌&&◌};
 ghost use Rattle.std.specs.VecDeque.{deque_len, deque_capacity};
-ghost use Rattle.marks.specs.Opening.{Opening};
-ghost use Rattle.marks.specs.Marks.{Mark};
+ghost use Rattle.reissue.specs.marks.Opening.{Opening};
+ghost use Rattle.reissue.specs.marks.Marks.{Mark};
 
 use crate::playing::Playing;
 use crate::room::{event_at, make_room, wait};

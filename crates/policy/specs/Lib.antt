@@ -1,4 +1,5 @@
 -- When a driver is replaced.
+pub use Rattle.endpoint.specs as endpoint
 pub mod Policy
 pub mod Faults
 pub mod Watch

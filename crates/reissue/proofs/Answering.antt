@@ -6,7 +6,7 @@ use Rattle.std.proofs.lemmas.Iterator.Adapters.{position_from-zero}
 use Rattle.std.specs.List.{position_from, list_any}
 use Rattle.std.specs.Prelude.{nat_lt, nat_le, is_some, ◌==◌, ◌&&◌, ◌||◌, not, position, slice_index, remove}
 use Rattle.endpoint.specs.declared.Endpoint.{Endpoint}
-use Rattle.errno.specs.declared.Errno.{Errno}
+use Rattle.message.specs.errno.declared.Errno.{Errno}
 use Rattle.message.specs.declared.BlockRequest.{BlockRequest}
 use Rattle.message.specs.declared.BlockReply.{BlockReply}
 use Rattle.message.specs.declared.Incoming.TheVariants as incoming

@@ -1,8 +1,8 @@
 -- What a client call's mark leaves of agreement with the record.
 use Rattle.std.proofs.Common.{ℕ, List, ◌∷◌, ◌++◌, refl}
-use Rattle.tree.specs.declared.Who.{Who}
-use Rattle.tree.specs.declared.Call.{Call}
-use Rattle.tree.specs.Answers.{Answer}
+use Rattle.marks.specs.tree.declared.Who.{Who}
+use Rattle.marks.specs.tree.declared.Call.{Call}
+use Rattle.marks.specs.tree.Answers.{Answer}
 use Rattle.marks.specs.Marks.{Mark, Took}
 use Rattle.reissue.specs.declared.table.Table.{Table}
 use Rattle.reissue.specs.Agrees.{Agrees}

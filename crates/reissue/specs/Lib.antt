@@ -1,4 +1,5 @@
 -- Links, pending requests, and what transfers do.
+pub use Rattle.marks.specs as marks
 pub mod Refusals
 pub mod Room
 pub mod Queue

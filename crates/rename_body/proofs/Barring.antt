@@ -10,15 +10,15 @@ use Rattle.tree.specs.Refusals.{◌>>=◌, or_refuse, refuse_if}
 use Rattle.tree.specs.Answers.{Effect}
 use Rattle.tree.specs.NameCalls.{can_replace, has_room_for_link, is_empty, is_within}
 use Rattle.tree.proofs.Maps.{is_the_one, not_nothing}
-use Rattle.volume.specs.declared.Inode.{Inode}
-use Rattle.volume.specs.Reading.{Disk}
-use Rattle.volume.specs.Pieces.{Pieces, pieces}
-use Rattle.volume.specs.Nodes.{is_directory_mode}
-use Rattle.volume.specs.Holds.{HoldsVolume}
+use Rattle.store.specs.volume.declared.Inode.{Inode}
+use Rattle.store.specs.volume.Reading.{Disk}
+use Rattle.store.specs.volume.Pieces.{Pieces, pieces}
+use Rattle.store.specs.volume.Nodes.{is_directory_mode}
+use Rattle.store.specs.volume.Holds.{HoldsVolume}
 use Rattle.ancestors.specs.Within.{SaysWithin}
 use Rattle.descriptors.specs.Files.{Files, HasFiles, tree_with}
-use Rattle.call_laws.proofs.Between.{kind_is}
-use Rattle.call_laws.proofs.Ending.{open_by_files}
+use Rattle.moving.proofs.call_laws.Between.{kind_is}
+use Rattle.moving.proofs.call_laws.Ending.{open_by_files}
 use Rattle.moving.specs.declared.moves.Move.{Move}
 use Rattle.rename_body.specs.declared.asked.Asked.{Asked}
 use Rattle.rename_body.specs.Asked.{AreFound, Rest, moving_at, new_at, old_at}

@@ -8,11 +8,11 @@ use Rattle.tree.specs.IsTree.{IsBody}
 use Rattle.tree.specs.Changes.{fewer_links, more_links, with_ctime, with_names, with_parent}
 use Rattle.tree.specs.Space.{zones_of}
 use Rattle.tree.proofs.Maps.{not_true}
-use Rattle.tree_laws.proofs.Places.{without_name_fits}
-use Rattle.tree_laws.proofs.Totals.{weigh_one}
-use Rattle.tree_laws.proofs.Views.{on_node_at, on_node_elsewhere, view_kept}
-use Rattle.tree_laws.proofs.Weights.{weigh_with_name}
-use Rattle.tree_laws.proofs.TreeOver.{IsOver, over_itself, over_on_node}
+use Rattle.last_page.proofs.tree_laws.Places.{without_name_fits}
+use Rattle.last_page.proofs.tree_laws.Totals.{weigh_one}
+use Rattle.last_page.proofs.tree_laws.Views.{on_node_at, on_node_elsewhere, view_kept}
+use Rattle.last_page.proofs.tree_laws.Weights.{weigh_with_name}
+use Rattle.last_page.proofs.tree_laws.TreeOver.{IsOver, over_itself, over_on_node}
 use Rattle.moving.specs.declared.moves.Move.{Move}
 use Rattle.moving.specs.Whole.{into, links_of, moved, out_of}
 

@@ -9,9 +9,9 @@ use Rattle.tree.specs.Names.{Name, is_dots, is_name, most_name}
 use Rattle.tree.specs.Tree.{Node, Tree}
 use Rattle.tree.specs.Space.{data_zones, zones_used}
 use Rattle.tree.proofs.Maps.{not_true}
-use Rattle.volume.specs.Reading.{Disk}
+use Rattle.store.specs.volume.Reading.{Disk}
 use Rattle.descriptors.specs.Files.{Files}
-use Rattle.call_laws.specs.Stands.{Stands}
+use Rattle.moving.specs.call_laws.Stands.{Stands}
 use Rattle.moving.specs.declared.moves.Move.{Move}
 use Rattle.moving.specs.Leads.{CanLead, Leads}
 use Rattle.moving.specs.Replaced.{MayDropReplaced, without_it}

@@ -20,16 +20,16 @@ use Rattle.tree.specs.Space.{data_zones, zones_used}
 use Rattle.tree.specs.Answers.{Effect, done, if_it_fits, refused}
 use Rattle.tree.specs.NameCalls.{is_same, is_within, rename, rename_onto, with_moved, without_moved, without_replaced}
 use Rattle.tree.proofs.Maps.{not_true}
-use Rattle.tree_laws.proofs.RenameCall.{rename_keeps}
-use Rattle.tree_laws.proofs.TreeOver.{IsOver, over_on_node, over_with_node}
-use Rattle.volume.specs.Reading.{Disk}
-use Rattle.volume.specs.Pieces.{pieces}
-use Rattle.volume.specs.Nodes.{node_of}
-use Rattle.volume.specs.Holds.{HoldsVolume}
+use Rattle.last_page.proofs.tree_laws.RenameCall.{rename_keeps}
+use Rattle.last_page.proofs.tree_laws.TreeOver.{IsOver, over_on_node, over_with_node}
+use Rattle.store.specs.volume.Reading.{Disk}
+use Rattle.store.specs.volume.Pieces.{pieces}
+use Rattle.store.specs.volume.Nodes.{node_of}
+use Rattle.store.specs.volume.Holds.{HoldsVolume}
 use Rattle.descriptors.specs.Files.{Files, HasFiles}
 use Rattle.bodies.specs.Does.{Does, IsHeld, tree_in}
 use Rattle.bodies.proofs.Made.{granted_made, looked_made, refused_made}
-use Rattle.call_laws.proofs.Between.{holds_at_end, nothing_is_done}
+use Rattle.moving.proofs.call_laws.Between.{holds_at_end, nothing_is_done}
 use Rattle.moving.specs.declared.moves.Move.{Move}
 use Rattle.moving.specs.Leads.{CanLead, Leads}
 use Rattle.moving.specs.Replaced.{without_it}

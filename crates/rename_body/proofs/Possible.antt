@@ -12,14 +12,14 @@ use Rattle.tree.specs.Tree.{Node, Tree, is_dir, most_size, names_of, size_of}
 use Rattle.tree.specs.Changes.{with_names}
 use Rattle.tree.specs.Space.{data_zones, zones_used}
 use Rattle.tree.proofs.Maps.{is_the_one, not_true}
-use Rattle.tree_laws.proofs.Entries.{other_name}
-use Rattle.tree_laws.proofs.Growth.{grown_fits}
-use Rattle.tree_laws.proofs.Shapes.{kind_of}
-use Rattle.tree_laws.proofs.Totals.{weigh_one}
-use Rattle.tree_laws.proofs.Views.{on_node_there}
-use Rattle.tree_laws.proofs.Weights.{weigh}
-use Rattle.volume_laws.proofs.Entries.{same_by_cmp}
-use Rattle.zone_laws.specs.Room.{taken_by}
+use Rattle.last_page.proofs.tree_laws.Entries.{other_name}
+use Rattle.last_page.proofs.tree_laws.Growth.{grown_fits}
+use Rattle.last_page.proofs.tree_laws.Shapes.{kind_of}
+use Rattle.last_page.proofs.tree_laws.Totals.{weigh_one}
+use Rattle.last_page.proofs.tree_laws.Views.{on_node_there}
+use Rattle.last_page.proofs.tree_laws.Weights.{weigh}
+use Rattle.inode_table.proofs.volume_laws.Entries.{same_by_cmp}
+use Rattle.file_room.specs.zone_laws.Room.{taken_by}
 use Rattle.descriptors.specs.Files.{Files, HasFiles}
 use Rattle.moving.specs.declared.moves.Move.{Move}
 use Rattle.moving.specs.Moves.{IsParent, MaySettle, MayTakeOut}

@@ -10,16 +10,16 @@ use Rattle.tree.specs.Answers.{Effect}
 use Rattle.tree.specs.Tree.{Body, Node, Tree, is_dir, is_dir_at, is_directory, is_file, names_of, size_of}
 use Rattle.tree.specs.NameCalls.{is_empty}
 use Rattle.tree.proofs.Maps.{not_true}
-use Rattle.volume.specs.declared.Inode.{Inode}
-use Rattle.volume.specs.Reading.{Disk, is_inode}
-use Rattle.volume.specs.Pieces.{Pieces, pieces}
-use Rattle.volume.specs.Nodes.{is_directory_mode, is_marked, node_of}
-use Rattle.volume.specs.Holds.{HoldsVolume}
-use Rattle.zone.proofs.Held.{inode_is}
-use Rattle.walk.proofs.Going.{has_entries}
+use Rattle.store.specs.volume.declared.Inode.{Inode}
+use Rattle.store.specs.volume.Reading.{Disk, is_inode}
+use Rattle.store.specs.volume.Pieces.{Pieces, pieces}
+use Rattle.store.specs.volume.Nodes.{is_directory_mode, is_marked, node_of}
+use Rattle.store.specs.volume.Holds.{HoldsVolume}
+use Rattle.file_room.proofs.zone_laws.Inodes.{inode_is}
+use Rattle.ancestors.proofs.walk.Going.{has_entries}
 use Rattle.ancestors.specs.Within.{HoldsDirectory}
 use Rattle.bodies.proofs.Made.{node_there}
-use Rattle.call_laws.proofs.Between.{kind_is, node_stands, nothing_is_done}
+use Rattle.moving.proofs.call_laws.Between.{kind_is, node_stands, nothing_is_done}
 use Rattle.rename_body.specs.declared.asked.Asked.{Asked}
 use Rattle.rename_body.specs.Asked.{AreFound, Rest, moving_at}
 use Rattle.rename_body.specs.Barred.{IsFound, other_at}

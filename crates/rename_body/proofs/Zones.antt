@@ -10,23 +10,23 @@ use Rattle.tree.specs.Changes.{with_names}
 use Rattle.tree.specs.Space.{numbers_in_zone, zones_of, zones_used}
 use Rattle.tree.specs.ZonesNeeded.{zones_needed}
 use Rattle.tree.proofs.Maps.{is_the_one, not_true}
-use Rattle.tree_laws.proofs.Totals.{only_at, sum_moved, weigh_one}
-use Rattle.tree_laws.proofs.Views.{view_gained, view_lost}
-use Rattle.tree_laws.proofs.Weights.{weigh_without_name}
-use Rattle.volume.specs.Reading.{Disk}
-use Rattle.volume.specs.Pieces.{Pieces, pieces}
-use Rattle.volume.specs.Holds.{HoldsVolume}
-use Rattle.entry_laws.specs.Directories.{before}
-use Rattle.file.specs.Changing.{file_at, written_at}
-use Rattle.file.specs.Room.{TakesMore}
-use Rattle.file.proofs.Spaces.{node_takes_held}
-use Rattle.entries.specs.Names.{IsOfDirectory}
-use Rattle.entries.proofs.Becoming.{may_change}
-use Rattle.node_steps.specs.Steps.{node_at}
-use Rattle.call_laws.specs.Stands.{NodeIs, Stands}
-use Rattle.call_laws.specs.Naming.{named}
-use Rattle.call_laws.proofs.Between.{directory_stands, node_stands, nothing_is_done}
-use Rattle.call_laws.proofs.Entering.{held_with_name, names_are}
+use Rattle.last_page.proofs.tree_laws.Totals.{only_at, sum_moved, weigh_one}
+use Rattle.last_page.proofs.tree_laws.Views.{view_gained, view_lost}
+use Rattle.last_page.proofs.tree_laws.Weights.{weigh_without_name}
+use Rattle.store.specs.volume.Reading.{Disk}
+use Rattle.store.specs.volume.Pieces.{Pieces, pieces}
+use Rattle.store.specs.volume.Holds.{HoldsVolume}
+use Rattle.ancestors.specs.entry_laws.Directories.{before}
+use Rattle.file_room.specs.file.Changing.{file_at, written_at}
+use Rattle.file_room.specs.Room.{TakesMore}
+use Rattle.file_room.proofs.file.Spaces.{node_takes_held}
+use Rattle.moving.specs.entries.Names.{IsOfDirectory}
+use Rattle.moving.proofs.entries.Becoming.{may_change}
+use Rattle.moving.specs.node_steps.Steps.{node_at}
+use Rattle.moving.specs.call_laws.Stands.{NodeIs, Stands}
+use Rattle.moving.specs.call_laws.Naming.{named}
+use Rattle.moving.proofs.call_laws.Between.{directory_stands, node_stands, nothing_is_done}
+use Rattle.moving.proofs.call_laws.Entering.{held_with_name, names_are}
 use Rattle.last_page.specs.Sizes.{zones_of_size}
 use Rattle.moving.specs.declared.moves.Move.{Move}
 use Rattle.moving.specs.Whole.{moved, out_of}

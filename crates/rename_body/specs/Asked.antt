@@ -9,11 +9,11 @@ use Rattle.tree.specs.Tree.{Node, Tree}
 use Rattle.tree.specs.Refusals.{◌>>=◌, or_refuse, refuse_if}
 use Rattle.tree.specs.Walk.{Place, has_last_name, last_part, may_access, node_at, parent_walk, read_path, to_write}
 use Rattle.tree.specs.Answers.{Effect}
-use Rattle.volume.specs.Reading.{Disk}
-use Rattle.volume.specs.Pieces.{pieces}
-use Rattle.volume.specs.Nodes.{directory_of, is_directory_mode, node_of}
-use Rattle.volume.specs.Entries.{is_directory_inode}
-use Rattle.volume.specs.Holds.{HoldsVolume}
+use Rattle.store.specs.volume.Reading.{Disk}
+use Rattle.store.specs.volume.Pieces.{pieces}
+use Rattle.store.specs.volume.Nodes.{directory_of, is_directory_mode, node_of}
+use Rattle.store.specs.volume.Entries.{is_directory_inode}
+use Rattle.store.specs.volume.Holds.{HoldsVolume}
 use Rattle.moving.specs.declared.moves.Move.{Move}
 use Rattle.rename_body.specs.declared.asked.Asked.{Asked}
 

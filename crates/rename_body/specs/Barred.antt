@@ -8,11 +8,11 @@ use Rattle.tree.specs.Refusals.{◌>>=◌, refuse_if}
 use Rattle.tree.specs.Walk.{Place, node_at}
 use Rattle.tree.specs.Answers.{Effect}
 use Rattle.tree.specs.NameCalls.{can_replace, has_room_for_link, is_within}
-use Rattle.volume.specs.declared.Inode.{Inode}
-use Rattle.volume.specs.Reading.{Disk}
-use Rattle.volume.specs.Pieces.{pieces}
-use Rattle.volume.specs.Nodes.{is_directory_mode, node_of}
-use Rattle.volume.specs.Holds.{Holds, HoldsVolume}
+use Rattle.store.specs.volume.declared.Inode.{Inode}
+use Rattle.store.specs.volume.Reading.{Disk}
+use Rattle.store.specs.volume.Pieces.{pieces}
+use Rattle.store.specs.volume.Nodes.{is_directory_mode, node_of}
+use Rattle.store.specs.volume.Holds.{Holds, HoldsVolume}
 use Rattle.descriptors.specs.Files.{Files, HasFiles, tree_with}
 use Rattle.moving.specs.declared.moves.Move.{Move}
 use Rattle.rename_body.specs.declared.asked.Asked.{Asked}

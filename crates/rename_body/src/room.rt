@@ -8,7 +8,7 @@ ghost use Rattle.rename_body.specs.Elsewhere.{CanMove, TellsRoom};
 
 use crate::asked::Asked;
 use bitmap::{Map, count_free};
-use file::zones_for;
+use file_room::zones_for;
 use last_page::let_go;
 use layout::Geometry;
 use store::{Blocks, Halt};

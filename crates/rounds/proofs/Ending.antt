@@ -2,23 +2,23 @@
 use Rattle.std.proofs.Common.{◌≡◌, ◌⊎◌, inl, inr, ℕ, zero, suc, ◌+◌, ◌*◌, ◌<◌, ◌≤◌, List, [], ◌∷◌, ◌++◌, Bool, true, false, refl, sym, ◌∙◌, ap, subst, arith, length}
 use Rattle.std.specs.Prelude.{if◌then◌else◌, map, reverse, take}
 use Rattle.std.proofs.lemmas.List.{append_assoc, length-append, length-reverse}
-use Rattle.layout.specs.declared.Geometry.{Geometry}
+use Rattle.tree.specs.layout.declared.Geometry.{Geometry}
 use Rattle.tree.specs.Tree.{Tree}
-use Rattle.marks.specs.Marks.{Mark, gave_up}
-use Rattle.marks.specs.Open.{IsWellFormed}
-use Rattle.marks.specs.Disk.{HasTrueReplies}
-use Rattle.marks.specs.Opening.{Opening, contents_at}
-use Rattle.legal.specs.Legal.{IsLegal}
-use Rattle.legal.specs.View.{Frames, ReadsBack}
-use Rattle.legal.specs.ServerCall.{Serving, HasTree}
+use Rattle.reissue.specs.marks.Marks.{Mark, gave_up}
+use Rattle.reissue.specs.marks.Open.{IsWellFormed}
+use Rattle.reissue.specs.marks.Disk.{HasTrueReplies}
+use Rattle.reissue.specs.marks.Opening.{Opening, contents_at}
+use Rattle.file_server.specs.legal.Legal.{IsLegal}
+use Rattle.file_server.specs.legal.View.{Frames, ReadsBack}
+use Rattle.file_server.specs.legal.ServerCall.{Serving, HasTree}
 use Rattle.reissue.specs.Calls.{Truth}
-use Rattle.faultless.specs.Faultless.{without_faults, FaultsChangeNothing}
-use Rattle.faultless.proofs.FaultlessLaws.{faults_change_nothing}
-use Rattle.schedule.specs.declared.Event.{Event}
-use Rattle.schedule.specs.Calls.{taken}
-use Rattle.schedule.specs.Headline.{Transcript, RepliesHold}
-use Rattle.run_log.specs.Noted.{marks_in}
-use Rattle.driver_events.specs.Scene.{Scene}
+use Rattle.playing.specs.faultless.Faultless.{without_faults, FaultsChangeNothing}
+use Rattle.playing.proofs.faultless.FaultlessLaws.{faults_change_nothing}
+use Rattle.playing.specs.schedule.declared.Event.{Event}
+use Rattle.playing.specs.schedule.Calls.{taken}
+use Rattle.playing.specs.schedule.Headline.{Transcript, RepliesHold}
+use Rattle.playing.specs.run_log.Noted.{marks_in}
+use Rattle.playing.specs.driver_events.Scene.{Scene}
 use Rattle.playing.specs.declared.arrived.Arrived.{Arrived}
 use Rattle.playing.specs.PlayView.{Play, PlayTrue, IsSpent, work_left}
 use Rattle.playing.specs.Laws.{IsSound, MediaHeld}
@@ -112,6 +112,7 @@ runs_out false s t was is b a waiting unanswered ends sound live spent length_is
       number = number ∙ length_is ∙ ap length ends.out.queue ∙ sym (ap length none);
       cut = λ some. absurd (some none);
       sectors = ends.runs.leads.sectors;
+      frame_count = ends.runs.frame_count;
       holds = λ v tree marks stood. holds s t was is b a Resting unanswered ends.runs live guarantees (λ no. ends.idle.ended) v tree marks stood;
     }
 runs_out true s t was is b a waiting unanswered ends sound live spent length_is number guarantees =
@@ -129,6 +130,7 @@ runs_out true s t was is b a waiting unanswered ends sound live spent length_is 
           omega (arith, all, own, number, length_is));
       cut = λ some. ends.cut.ended;
       sectors = ends.runs.leads.sectors;
+      frame_count = ends.runs.frame_count;
       holds = λ v tree marks stood.
           holds s t was is b a (Answering ends.call) unanswered ends.runs live guarantees (λ none. absurd (some waiting unanswered number none)) v tree marks stood;
     } where

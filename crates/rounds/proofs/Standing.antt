@@ -6,13 +6,13 @@ use Rattle.message.specs.declared.Incoming.{Incoming}
 use Rattle.tree.specs.Tree.{Tree}
 use Rattle.tree.specs.declared.Reply.{Reply}
 use Rattle.tree.specs.Answers.{Answer, answer_of}
-use Rattle.marks.specs.Marks.{Mark, Took}
-use Rattle.marks.specs.Opening.{Opening, contents_at}
-use Rattle.marks.specs.Told.{received, took_end}
-use Rattle.marks.specs.Acts.{Absorbed, told_of, marks_after, owed_after_message, IsAtRest}
-use Rattle.legal.specs.ServerCall.{Serving, Serves, Outcome, Replied, Cut as WasCutOff}
+use Rattle.reissue.specs.marks.Marks.{Mark, Took}
+use Rattle.reissue.specs.marks.Opening.{Opening, contents_at}
+use Rattle.reissue.specs.marks.Told.{received, took_end}
+use Rattle.reissue.specs.marks.Acts.{Absorbed, told_of, marks_after, owed_after_message, IsAtRest}
+use Rattle.file_server.specs.legal.ServerCall.{Serving, Serves, Outcome, Replied, Cut as WasCutOff}
 use Rattle.reissue.specs.Calls.{Truth}
-use Rattle.driver_events.specs.Kept.{with_next}
+use Rattle.playing.specs.driver_events.Kept.{with_next}
 use Rattle.playing.specs.declared.arrived.Arrived.{Arrived}
 use Rattle.playing.specs.PlayView.{Play, PlayTrue, GoesOn, Asides, HandsEvent, HandsNone, HandsOwed, HandsNothing, Answers, HandsOut, work_left}
 use Rattle.playing.specs.Laws.{LeadsOn, IsToldOfEnd}
@@ -35,6 +35,7 @@ pub runs_stays : (s : Serving) (was : Truth) (b : Play) (x : Doing) → RunsOn s
 runs_stays s was b x = record {
   geometry = refl;
   minor = refl;
+  frame_count = refl;
   leads = leads_stays b;
   stands = λ v tree marks stood. record { marks = marks; stands = stood; runs = Starts };
 }
@@ -44,6 +45,7 @@ pub runs_joins : (s t u : Serving) (was then is : Truth) (b m a : Play) (x y z :
 runs_joins s t u was then is b m a x y z first next = record {
   geometry = next.geometry ∙ first.geometry;
   minor = next.minor ∙ first.minor;
+  frame_count = next.frame_count ∙ first.frame_count;
   leads = leads_joins b m a first.leads next.leads;
   stands = λ v tree marks stood.
       let between : StandsAfter s.minor t then v tree (moment s b x) (moment t m y) = first.stands v tree marks stood in
@@ -92,6 +94,7 @@ none_came s t was is b a r none w idle left guarantees = by (subst (λ (o : Opti
   by x = record {
     geometry = x.same.geometry;
     minor = x.same.minor;
+    frame_count = x.same.frame_count;
     leads = (asides_lead_on b a (Ok None) x.asides).leads;
     stands = λ v tree marks stood. record {
       marks = marks;
@@ -123,6 +126,7 @@ handed s t u was noted is b m a r message came absorbs on w idle left guarantees
       by x = record {
         geometry = absorbs.keeps.leads.geometry ∙ x.same.geometry;
         minor = absorbs.keeps.leads.minor ∙ x.same.minor;
+        frame_count = absorbs.keeps.leads.frame_count ∙ x.same.frame_count;
         leads = leads_joins b m a (asides_lead_on b m (Ok (Some message)) x.asides).leads (servers_lead_on m a on);
         stands = λ v tree marks stood.
             let h : Hears t noted v tree marks (received message marks) = still_serves s t was noted v tree marks (received message marks) x.same stood (x.truth v marks stood.truth) in
@@ -234,6 +238,7 @@ pub answered : (s t u : Serving) (was is after : Truth) (b m a : Play) (arrived 
 answered s t u was is after b m a arrived reply calls on n live guarantees first last = record {
   geometry = n.same.geometry ∙ calls.keeps.leads.geometry;
   minor = n.same.minor ∙ calls.keeps.leads.minor;
+  frame_count = n.same.frame_count ∙ calls.keeps.leads.frame_count;
   leads = leads_joins b m a (servers_lead_on b m on) (answers_lead_on m a arrived reply (Ok tt) n.answers);
   stands = λ v tree marks stood.
       let done : Serves t (contents_at v) tree (Took arrived.who arrived.now arrived.call (answer_of reply) ∷ marks_after calls.keeps.acts marks) =
@@ -280,6 +285,7 @@ pub cut_off : (s t : Serving) (was is : Truth) (b a : Play) (arrived : Arrived) 
 cut_off s t was is b a arrived calls on live guarantees first last = record {
   geometry = calls.keeps.leads.geometry;
   minor = calls.keeps.leads.minor;
+  frame_count = calls.keeps.leads.frame_count;
   leads = servers_lead_on b a on;
   stands = λ v tree marks stood. record {
     marks = marks_after calls.keeps.acts marks;
@@ -312,6 +318,7 @@ hands_there : (s t : Serving) (was is : Truth) (b a : Play) (first : Option Arri
 hands_there s t was is b a first same hands live paid guarantees truth = record {
   geometry = same.geometry;
   minor = same.minor;
+  frame_count = same.frame_count;
   leads = (calls_lead_on b a first hands).leads;
   stands = λ v tree marks stood. record {
     marks = marks;

@@ -1,23 +1,23 @@
 -- A run from its start.
 use Rattle.std.proofs.Common.{◌≡◌, ℕ, suc, ◌+◌, ◌<◌, List, [], ◌∷◌, ◌++◌, length, Bool, true, false, refl, sym, ◌∙◌, ap, subst, arith}
 use Rattle.std.specs.Prelude.{take, map, reverse, not, ◌&&◌, is_some}
-use Rattle.layout.specs.declared.Geometry.{Geometry}
+use Rattle.tree.specs.layout.declared.Geometry.{Geometry}
 use Rattle.tree.specs.Tree.{Tree}
 use Rattle.message.specs.declared.BlockRequest.{BlockRequest}
 use Rattle.message.specs.declared.Incoming.TheVariants as incoming
-use Rattle.policy.specs.Watch.{driver}
-use Rattle.marks.specs.Marks.{Mark, Started}
-use Rattle.marks.specs.Disk.{Contents}
-use Rattle.marks.specs.Opening.{contents_at}
-use Rattle.marks.specs.Open.{has_none}
-use Rattle.marks.specs.Told.{Told, took_end}
-use Rattle.marks.specs.Acts.{Act, Began, Absorbed, AtLink, Outbox, told_of, has_absorbed, marks_after, empty_outbox, outbox_after, target, is_post_due, IsAtRest}
-use Rattle.legal.specs.ServerCall.{Serving, AbsorbKeeps}
+use Rattle.playing.specs.policy.Watch.{driver}
+use Rattle.reissue.specs.marks.Marks.{Mark, Started}
+use Rattle.reissue.specs.marks.Disk.{Contents}
+use Rattle.reissue.specs.marks.Opening.{contents_at}
+use Rattle.reissue.specs.marks.Open.{has_none}
+use Rattle.reissue.specs.marks.Told.{Told, took_end}
+use Rattle.reissue.specs.marks.Acts.{Act, Began, Absorbed, AtLink, Outbox, told_of, has_absorbed, marks_after, empty_outbox, outbox_after, target, is_post_due, IsAtRest}
+use Rattle.file_server.specs.legal.ServerCall.{Serving, AbsorbKeeps}
 use Rattle.reissue.specs.Calls.{Truth}
-use Rattle.schedule.specs.declared.Event.{Event}
-use Rattle.schedule.specs.Groups.{schedule_of}
-use Rattle.schedule.specs.Calls.{arrived, taken}
-use Rattle.run_log.specs.Noted.{Noted, marks_in}
+use Rattle.playing.specs.schedule.declared.Event.{Event}
+use Rattle.playing.specs.schedule.Groups.{schedule_of}
+use Rattle.playing.specs.schedule.Calls.{arrived, taken}
+use Rattle.playing.specs.run_log.Noted.{Noted, marks_in}
 use Rattle.playing.specs.declared.arrived.Arrived.{Arrived}
 use Rattle.playing.specs.PlayView.{Play, GoesOn, work_left}
 use Rattle.playing.specs.Laws.{IsSound, LeadsOn, IsToldOfEnd}
@@ -144,6 +144,7 @@ plays_all s m t was then b c a unanswered absorbs on first silent before after o
       number = out.number;
       cut = out.cut;
       sectors = out.sectors ∙ (servers_lead_on b c on).sectors;
+      frame_count = out.frame_count ∙ absorbs.keeps.leads.frame_count;
       holds = λ v tree empty hears.
           let stands : Stands m then v tree (marks_after (heard absorbs.keeps.later) []) = record {
             minor = hears.minor ∙ sym absorbs.keeps.leads.minor;

@@ -6,13 +6,13 @@ use Rattle.message.specs.declared.Incoming.TheVariants as incoming
 use Rattle.tree.specs.Tree.{Tree}
 use Rattle.tree.specs.declared.Reply.{Reply}
 use Rattle.tree.specs.Answers.{answer_of}
-use Rattle.marks.specs.Marks.{Mark, Took}
-use Rattle.marks.specs.Opening.{Opening, contents_at}
-use Rattle.marks.specs.Told.{Told, Posted, Complained, Received, received, took_end, took_nothing}
-use Rattle.marks.specs.Acts.{Act, Began, Absorbed, AtLink, Outbox, told_of, marks_after, outbox_after, owed_after_message, IsAtRest}
-use Rattle.legal.specs.ServerCall.{Serving, Serves, Outcome, Rules}
+use Rattle.reissue.specs.marks.Marks.{Mark, Took}
+use Rattle.reissue.specs.marks.Opening.{Opening, contents_at}
+use Rattle.reissue.specs.marks.Told.{Told, Posted, Complained, Received, received, took_end, took_nothing}
+use Rattle.reissue.specs.marks.Acts.{Act, Began, Absorbed, AtLink, Outbox, told_of, marks_after, outbox_after, owed_after_message, IsAtRest}
+use Rattle.file_server.specs.legal.ServerCall.{Serving, Serves, Outcome, Rules}
 use Rattle.reissue.specs.Calls.{Truth}
-use Rattle.run_log.specs.declared.log.Entry.TheVariants as entry
+use Rattle.playing.specs.run_log.declared.log.Entry.TheVariants as entry
 use Rattle.playing.specs.declared.arrived.Arrived.{Arrived}
 use Rattle.playing.specs.PlayView.{Play, noting, paid, PlaysNext, GoesOn, Asides, HandsEvent, HandsNone, HandsOwed, HandsOut}
 use Rattle.playing.specs.Laws.{IsToldOfEnd}

@@ -1,7 +1,7 @@
 -- What a turn comes to, and a run.
 use Rattle.std.proofs.Common.{◌≡◌, ℕ, ◌+◌, ◌<◌, ◌≤◌, true, false, ◌∙◌, ap, subst, arith}
 use Rattle.std.specs.Prelude.{Option, Some, None, length}
-use Rattle.legal.specs.ServerCall.{Serving}
+use Rattle.file_server.specs.legal.ServerCall.{Serving}
 use Rattle.reissue.specs.Calls.{Truth}
 use Rattle.playing.specs.declared.arrived.Arrived.{Arrived}
 use Rattle.playing.specs.PlayView.{Play, HandsOut, work_left}

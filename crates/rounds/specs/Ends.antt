@@ -1,17 +1,17 @@
 -- How a run of a server over a schedule ends.
 use Rattle.std.specs.Prelude.{◌≡◌, ◌≢◌, ℕ, List, [], ◌++◌, length, map, reverse, true, false, None}
-use Rattle.layout.specs.declared.Geometry.{Geometry}
+use Rattle.tree.specs.layout.declared.Geometry.{Geometry}
 use Rattle.tree.specs.Tree.{Tree}
-use Rattle.marks.specs.Marks.{Mark}
-use Rattle.marks.specs.Opening.{Opening, contents_at}
-use Rattle.legal.specs.View.{Frames}
-use Rattle.legal.specs.ServerCall.{Serving}
+use Rattle.reissue.specs.marks.Marks.{Mark}
+use Rattle.reissue.specs.marks.Opening.{Opening, contents_at}
+use Rattle.file_server.specs.legal.View.{Frames}
+use Rattle.file_server.specs.legal.ServerCall.{Serving}
 use Rattle.reissue.specs.Calls.{Truth}
-use Rattle.schedule.specs.Groups.{schedule_of}
-use Rattle.schedule.specs.Calls.{Arrival, arrived, taken}
-use Rattle.schedule.specs.Headline.{Transcript, RepliesHold}
-use Rattle.run_log.specs.Noted.{marks_in}
-use Rattle.driver_events.specs.Scene.{Scene}
+use Rattle.playing.specs.schedule.Groups.{schedule_of}
+use Rattle.playing.specs.schedule.Calls.{Arrival, arrived, taken}
+use Rattle.playing.specs.schedule.Headline.{Transcript, RepliesHold}
+use Rattle.playing.specs.run_log.Noted.{marks_in}
+use Rattle.playing.specs.driver_events.Scene.{Scene}
 use Rattle.playing.specs.PlayView.{Play, IsSpent}
 use Rattle.playing.specs.Laws.{MediaHeld}
 use Rattle.playing.specs.Waiting.{arrival_of}
@@ -42,7 +42,8 @@ pub record RunStands (g : Geometry) (frames : Frames) (minor : ℕ) (v : Opening
 
 -- The events that were noted are the schedule, and nothing is owed. The calls that arrived in them are those that were answered, in their order,
 -- and so many that came later: the one that is being answered, if the run ends in it, and those that wait. A call is left only where the last
--- one was cut. The media have as many sectors as before. Where the server stood with a record at first, the run holds, by the rules.
+-- one was cut. The media have as many sectors as before, and the server has as many frames. Where it stood with a record at first, the run
+-- holds, by the rules.
 pub record RunsOut (s t : Serving) (was : Truth) (b a : Play) (unanswered : ℕ) : Type 0 where
   pub schedule : schedule_of a.scene.noted.groups ≡ b.events
   pub spent : IsSpent a
@@ -54,5 +55,6 @@ pub record RunsOut (s t : Serving) (was : Truth) (b a : Play) (unanswered : ℕ)
   pub number : unanswered ≡ length left
   pub cut : left ≢ [] → t.ended ≡ true
   pub sectors : length a.scene.disks.media.sectors ≡ length b.scene.disks.media.sectors
+  pub frame_count : t.frame_count ≡ s.frame_count
   pub holds : (v : Opening) (tree : Tree) (marks : List Mark) → Stands s was v tree marks
       → RunStands s.geometry t.frames s.minor v tree (moment s b Resting) (moment t a last) unanswered

@@ -4,12 +4,12 @@ use Rattle.message.specs.declared.Incoming.{Incoming}
 use Rattle.tree.specs.Tree.{Tree}
 use Rattle.tree.specs.declared.Reply.{Reply}
 use Rattle.tree.specs.Answers.{answer_of}
-use Rattle.marks.specs.Marks.{Mark, Took}
-use Rattle.marks.specs.Opening.{Opening}
-use Rattle.legal.specs.ServerCall.{Serving}
+use Rattle.reissue.specs.marks.Marks.{Mark, Took}
+use Rattle.reissue.specs.marks.Opening.{Opening}
+use Rattle.file_server.specs.legal.ServerCall.{Serving}
 use Rattle.reissue.specs.Calls.{Truth}
-use Rattle.driver_events.specs.Kept.{with_next}
-use Rattle.schedule.specs.Calls.{Arrival}
+use Rattle.playing.specs.driver_events.Kept.{with_next}
+use Rattle.playing.specs.schedule.Calls.{Arrival}
 use Rattle.playing.specs.declared.arrived.Arrived.{Arrived}
 use Rattle.playing.specs.PlayView.{Play, IsSpent, Asides, Answers, work_left}
 use Rattle.playing.specs.Laws.{LeadsOn, IsToldOfEnd}
@@ -58,6 +58,7 @@ pub record StandsAfter (minor : ℕ) (t : Serving) (is : Truth) (v : Opening) (t
 pub record RunsOn (s t : Serving) (was is : Truth) (b a : Play) (x y : Doing) : Type 0 where
   pub geometry : t.geometry ≡ s.geometry
   pub minor : t.minor ≡ s.minor
+  pub frame_count : t.frame_count ≡ s.frame_count
   pub leads : LeadsOn b a
   pub stands : (v : Opening) (tree : Tree) (marks : List Mark) → Stands s was v tree marks
       → StandsAfter s.minor t is v tree (moment s b x) (moment t a y)

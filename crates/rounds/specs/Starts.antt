@@ -1,15 +1,15 @@
 -- How a run of a server over a schedule starts, and what it comes to.
 use Rattle.std.specs.Prelude.{◌≡◌, ◌≢◌, ℕ, List, [], ◌∷◌, ◌++◌, length, map, reverse, true, false}
 use Rattle.tree.specs.Tree.{Tree}
-use Rattle.policy.specs.Watch.{driver}
-use Rattle.marks.specs.Marks.{Started}
-use Rattle.marks.specs.Opening.{Opening}
-use Rattle.marks.specs.Acts.{empty_outbox}
-use Rattle.legal.specs.ServerCall.{Serving}
+use Rattle.playing.specs.policy.Watch.{driver}
+use Rattle.reissue.specs.marks.Marks.{Started}
+use Rattle.reissue.specs.marks.Opening.{Opening}
+use Rattle.reissue.specs.marks.Acts.{empty_outbox}
+use Rattle.file_server.specs.legal.ServerCall.{Serving}
 use Rattle.reissue.specs.Calls.{Truth}
-use Rattle.schedule.specs.Groups.{schedule_of}
-use Rattle.schedule.specs.Calls.{Arrival, arrived, taken}
-use Rattle.run_log.specs.Noted.{marks_in}
+use Rattle.playing.specs.schedule.Groups.{schedule_of}
+use Rattle.playing.specs.schedule.Calls.{Arrival, arrived, taken}
+use Rattle.playing.specs.run_log.Noted.{marks_in}
 use Rattle.playing.specs.PlayView.{Play, IsSpent, first_noted}
 use Rattle.playing.specs.Waiting.{arrival_of}
 use Rattle.playing.specs.Moments.{Doing, Resting, Moment}
@@ -30,9 +30,9 @@ at_first p = record { play = p; outbox = empty_outbox; doing = Resting }
 
 -- A run from its start: the events that were noted are the schedule, and nothing is owed. The calls that arrived in them are those that were
 -- answered, in their order, and so many that came later: the one that is being answered, if the run ends in it, and those that wait. A call is
--- left only where the last one was cut. The media have as many sectors as before. Where the server served a volume that held a tree, with
--- nothing in its record and nothing owed, and its link gave its guarantee of the record that has the first start alone, the run stands: the
--- server hears of that start, and does nothing about it.
+-- left only where the last one was cut. The media have as many sectors as before, and the server has as many frames. Where it served a volume
+-- that held a tree, with nothing in its record and nothing owed, and its link gave its guarantee of the record that has the first start alone,
+-- the run stands: the server hears of that start, and does nothing about it.
 pub record PlaysAll (s t : Serving) (was : Truth) (b a : Play) (unanswered : ℕ) : Type 0 where
   pub schedule : schedule_of a.scene.noted.groups ≡ b.events
   pub spent : IsSpent a
@@ -44,5 +44,6 @@ pub record PlaysAll (s t : Serving) (was : Truth) (b a : Play) (unanswered : ℕ
   pub number : unanswered ≡ length left
   pub cut : left ≢ [] → t.ended ≡ true
   pub sectors : length a.scene.disks.media.sectors ≡ length b.scene.disks.media.sectors
+  pub frame_count : t.frame_count ≡ s.frame_count
   pub holds : (v : Opening) (tree : Tree) → s.outbox ≡ empty_outbox → Hears s was v tree [] (Started (driver 1) ∷ [])
       → RunStands s.geometry t.frames s.minor v tree (at_first b) (moment t a last) unanswered

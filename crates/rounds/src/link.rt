@@ -1,10 +1,10 @@
 //! A link that a schedule moves: what is done at it between two calls.
 
 ghost use Rattle.std.specs.Prelude.{◌≡◌, ◌⊎◌, ◌↔◌, ◌≤◌, ◌<◌, ◌∷◌, List, IfOk, OnOk, length, option_map, true, false};
-ghost use Rattle.marks.specs.Marks.{Mark, Took};
-ghost use Rattle.marks.specs.Opening.{Opening};
+ghost use Rattle.reissue.specs.marks.Marks.{Mark, Took};
+ghost use Rattle.reissue.specs.marks.Opening.{Opening};
 ghost use Rattle.tree.specs.Answers.{answer_of};
-ghost use Rattle.driver_events.specs.Kept.{with_next};
+ghost use Rattle.playing.specs.driver_events.Kept.{with_next};
 ghost use Rattle.playing.specs.PlayView.{Play, PlayTrue, GoesOn, Asides, HandsOut, Answers};
 ghost use Rattle.playing.specs.declared.arrived.Arrived.{Arrived as OfCall};
 

@@ -1,6 +1,6 @@
 //! A call that reads the root's inode, while drivers die, hang, answer late and are given up.
 
-use crate::runs::shows;
+use run_samples::runs::{add_first, shows};
 use samples::new_volume;
 use std::test::Fail;
 
@@ -17,7 +17,7 @@ const ROOT_OF_1: &str = "reply 1 inode 1 mode 0040755 links 2 uid 0 gid 0 size 1
 /// A schedule's lines, and those of the transcript.
 type Row = (&'static [&'static str], &'static [&'static str]);
 
-const ROWS: [Row; 6] = [
+const ROWS: [Row; 7] = [
     // The call waits: nothing was done.
     (&[STAT], &["started 1.1", ASKED, "unanswered 1"]),
     // The driver dies in the middle of the block: the next one, which is started a tick later, is asked again.
@@ -86,6 +86,25 @@ const ROWS: [Row; 6] = [
     ),
     // No events.
     (&[], &["started 1.1", "unanswered 0"]),
+    // A request that was answered is repeated: the driver drops it at its next step, and the next request has one step less.
+    (
+        &[
+            STAT,
+            "step 1\nstep 1\ndeliver 0",
+            "repeat 0",
+            "call 0 0 0 100 open /f rwc 644",
+            "step 1\nstep 1",
+            "deliver 1",
+        ],
+        &[
+            "started 1.1",
+            ASKED,
+            "answer 1 1024 from 1.1",
+            ROOT,
+            "issue 2 read 2048 1024 to 1.1",
+            "unanswered 1",
+        ],
+    ),
 ];
 
 #[test]
@@ -226,19 +245,36 @@ fn the_device_is_given_up(rt: HostRuntime) -> Result<(), Fail> {
     )
 }
 
-/// A tick earlier the sixth driver isn't started.
+/// How many lines are played, the ticks after them, which are one too few for the next start, and how many faults and marks there are then.
+const EARLY: [(usize, &[&'static str], usize); 5] = [
+    (2, &[], 3),
+    (4, &["tick"], 6),
+    (6, &["tick\ntick\ntick"], 9),
+    (8, &[FOUR, "tick\ntick\ntick"], 12),
+    (11, &[FOUR, FOUR, FOUR, "tick\ntick\ntick"], 15),
+];
+
+/// A tick earlier the next driver isn't started.
 #[test]
 fn starts_are_backed_off(rt: HostRuntime) -> Result<(), Fail> {
-    let image = new_volume(rt.alloc(), 1024)?;
-    let mut wanted = Vec::new(rt.alloc());
-    wanted.extend_from_slice(&FAULTS)?;
-    wanted.extend_from_slice(&["fault 1.5 exit", "unanswered 1"])?;
-    shows(
-        &rt,
-        rt.alloc(),
-        image.as_slice(),
-        &DEATHS[..15],
-        wanted.as_slice(),
-        0,
-    )
+    let alloc = rt.alloc();
+    let image = new_volume(alloc, 1024)?;
+    for (lines, ticks, noted) in EARLY {
+        let mut schedule = Vec::new(alloc);
+        add_first(&mut schedule, &DEATHS, lines)?;
+        schedule.extend_from_slice(ticks)?;
+        let mut wanted = Vec::new(alloc);
+        add_first(&mut wanted, &FAULTS, noted)?;
+        add_first(&mut wanted, &[END[0]], noted.saturating_sub(FAULTS.len()))?;
+        wanted.push("unanswered 1")?;
+        shows(
+            &rt,
+            alloc,
+            image.as_slice(),
+            schedule.as_slice(),
+            wanted.as_slice(),
+            0,
+        )?;
+    }
+    Ok(())
 }

@@ -1,9 +1,9 @@
 -- A run that holds is shown.
 use Rattle.std.proofs.Common.{List, refl, sym, subst}
-use Rattle.marks.specs.Marks.{Mark}
-use Rattle.marks.specs.Opening.{contents_at}
-use Rattle.schedule.specs.Headline.{RepliesHold}
-use Rattle.playing.specs.Laws.{MediaHeld}
+use Rattle.transcript.specs.marks.Marks.{Mark}
+use Rattle.transcript.specs.marks.Opening.{contents_at}
+use Rattle.transcript.specs.schedule.Headline.{RepliesHold}
+use Rattle.rounds.specs.playing.Laws.{MediaHeld}
 use Rattle.transcript.proofs.Image.{image_shows}
 use Rattle.run_shown.specs.Shows.{RunsAreShown}
 

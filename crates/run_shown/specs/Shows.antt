@@ -1,15 +1,15 @@
 -- What a transcript of a run shows.
 use Rattle.std.specs.Prelude.{◌≡◌, length}
 use Rattle.std.specs.List.{concat}
-use Rattle.layout.specs.declared.Geometry.{Geometry}
-use Rattle.tree.specs.Tree.{Tree}
-use Rattle.legal.specs.View.{Frames}
-use Rattle.marks.specs.Opening.{Opening, contents_at, opening_range}
-use Rattle.media.specs.Contents.{IsWhole, sectors_of}
-use Rattle.true_replies.specs.Events.{IsOnMedia}
-use Rattle.schedule.specs.Headline.{Transcript, RepliesHold, MediaHold}
-use Rattle.run_log.specs.Noted.{marks_in}
-use Rattle.driver_events.specs.Scene.{Scene}
+use Rattle.transcript.specs.layout.declared.Geometry.{Geometry}
+use Rattle.rounds.specs.tree.Tree.{Tree}
+use Rattle.transcript.specs.legal.View.{Frames}
+use Rattle.transcript.specs.marks.Opening.{Opening, contents_at, opening_range}
+use Rattle.transcript.specs.media.Contents.{IsWhole, sectors_of}
+use Rattle.transcript.specs.true_replies.Events.{IsOnMedia}
+use Rattle.transcript.specs.schedule.Headline.{Transcript, RepliesHold, MediaHold}
+use Rattle.transcript.specs.run_log.Noted.{marks_in}
+use Rattle.rounds.specs.driver_events.Scene.{Scene}
 use Rattle.rounds.specs.Ends.{RunHolds}
 
 -- the transcript is of this run: its marks, the server's frames, and the bytes of the media, which are as many sectors as were handed in

@@ -4,26 +4,26 @@ use Rattle.std.specs.Prelude.{All, map, ◌&&◌, ◌==◌, nat_lt, if◌then◌
 use Rattle.std.specs.List.{list_all}
 use Rattle.std.proofs.Math.Nat.{div-add-mod', mod-lt}
 use Rattle.std.proofs.lemmas.Bool.{and_parts, lt-ltb, ltb-false, cond-true}
-use Rattle.layout.specs.declared.Geometry.{Geometry}
-use Rattle.layout.specs.declared.LayoutRefusal.{LayoutRefusal}
-use Rattle.layout.specs.Places.{geometry_of, IsGeometry}
-use Rattle.layout.proofs.Parsed.{geometry_fits}
-use Rattle.tree.specs.Tree.{Tree}
+use Rattle.fsck.specs.layout.declared.Geometry.{Geometry}
+use Rattle.fsck.specs.layout.declared.LayoutRefusal.{LayoutRefusal}
+use Rattle.fsck.specs.layout.Places.{geometry_of, IsGeometry}
+use Rattle.fsck.proofs.layout.Parsed.{geometry_fits}
+use Rattle.volume.specs.tree.Tree.{Tree}
 use Rattle.volume.specs.Reading.{blocks_of, disk_of}
 use Rattle.volume.specs.Holds.{Holds}
 use Rattle.volume.specs.Verdict.{HoldsClosed}
 use Rattle.media.specs.declared.MediaRefusal.TheVariants.{NotWholeSectors, TooLarge}
-use Rattle.bdev.specs.DriverState.{DriverState, range_while_fresh}
+use Rattle.inline.specs.bdev.DriverState.{DriverState, range_while_fresh}
 use Rattle.policy.specs.declared.Setup.{Setup}
-use Rattle.marks.specs.Disk.{Contents}
-use Rattle.legal.specs.Legal.{IsAtFirst}
-use Rattle.true_replies.specs.Events.{IsOnMedia}
+use Rattle.inline.specs.marks.Disk.{Contents}
+use Rattle.schedule.specs.legal.Legal.{IsAtFirst}
+use Rattle.inline.specs.true_replies.Events.{IsOnMedia}
 use Rattle.schedule.specs.Groups.{Each}
 use Rattle.volume.specs.Verdict as volume
 use Rattle.volume.specs.Verdict.{verdict_of}
 use Rattle.media.specs.Contents.{sectors_of}
 use Rattle.partition.specs.Places.{volume_place}
-use Rattle.marks.specs.Opening.{volume_bytes}
+use Rattle.inline.specs.marks.Opening.{volume_bytes}
 use Rattle.fsck.specs.declared.verdict.Clean.{Clean}
 use Rattle.schedule.specs.Refusals.{HasVolume, IsGoodSetup, media_refusal_of, verdict_in}
 use Rattle.startup.specs.declared.refusal.StartRefusal.{StartRefusal}

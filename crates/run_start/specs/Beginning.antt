@@ -1,17 +1,17 @@
 -- When a run is begun on an image, and when it is refused.
 use Rattle.std.specs.Prelude.{◌≡◌, ℕ, List, [], length, Option, Some, None, Result, Ok, Err}
-use Rattle.layout.specs.Places.{geometry_of}
-use Rattle.layout.specs.declared.Geometry.{Geometry}
-use Rattle.tree.specs.Tree.{Tree}
+use Rattle.fsck.specs.layout.Places.{geometry_of}
+use Rattle.fsck.specs.layout.declared.Geometry.{Geometry}
+use Rattle.volume.specs.tree.Tree.{Tree}
 use Rattle.volume.specs.Verdict.{verdict_of, HoldsClosed}
 use Rattle.volume.specs.Verdict as volume
 use Rattle.media.specs.Contents.{sectors_of}
-use Rattle.bdev.specs.DriverState.{DriverState}
+use Rattle.inline.specs.bdev.DriverState.{DriverState}
 use Rattle.partition.specs.declared.place.PlaceRefusal.{PlaceRefusal}
 use Rattle.partition.specs.Places.{volume_place}
 use Rattle.policy.specs.declared.Setup.{Setup}
-use Rattle.marks.specs.Opening.{Range, volume_bytes, volume_in}
-use Rattle.legal.specs.Legal.{IsAtFirst}
+use Rattle.inline.specs.marks.Opening.{Range, volume_bytes, volume_in}
+use Rattle.schedule.specs.legal.Legal.{IsAtFirst}
 use Rattle.schedule.specs.Refusals.{Start, Refusal, NoPlace, IsGoodSetup, IsRefusedFor, IsAccepted, media_refusal_of, start_of}
 use Rattle.fsck.specs.declared.verdict.Clean.{Clean}
 use Rattle.startup.specs.declared.refusal.StartRefusal.{StartRefusal}

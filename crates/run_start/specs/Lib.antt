@@ -1,2 +1,3 @@
+pub use Rattle.startup.specs as startup
 pub mod Reasons
 pub mod Beginning

@@ -1,13 +1,13 @@
 //! The volume in an image, which was checked, and drivers that are ready for it.
 
 ghost use Rattle.std.specs.Prelude.{◌≡◌, ◌≢◌, ◌/◌, ◌+◌, ◌<◌, ◌≤◌, ◌^◌, [], All, IfErr, IfOk, OnOk, None, length, map};
-ghost use Rattle.layout.specs.Places.{IsGeometry};
-ghost use Rattle.tree.specs.Tree.{Tree};
+ghost use Rattle.fsck.specs.layout.Places.{IsGeometry};
+ghost use Rattle.volume.specs.tree.Tree.{Tree};
 ghost use Rattle.media.specs.Contents.{sectors_of};
-ghost use Rattle.bdev.specs.Promises.{IsDriver};
+ghost use Rattle.inline.specs.bdev.Promises.{IsDriver};
 ghost use Rattle.partition.specs.Places.{volume_place as place_by};
 ghost use Rattle.inline.specs.Inline.{IsReady};
-ghost use Rattle.true_replies.specs.Events.{IsOnMedia, opening_media};
+ghost use Rattle.inline.specs.true_replies.Events.{IsOnMedia, opening_media};
 ghost use Rattle.startup.specs.Starting.{opening_of};
 ghost use Rattle.schedule.specs.Refusals.{IsGoodSetup, media_refusal_of};
 ghost use Rattle.run_start.specs.Beginning.{IsBegun, IsChecked, IsNoMedia, IsNoPlace, IsNotBegun, IsNotSetUp, range_of, setup_refusal_of};

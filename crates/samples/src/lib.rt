@@ -9,6 +9,10 @@ use std::alloc::{AllocError, Global};
 /// The reply to `stat /` on a new volume.
 pub const ROOT: &str = "inode 1 mode 0040755 links 2 uid 0 gid 0 size 128 times 50 50 50\n";
 
+/// How many requests a mount of the smallest new volume makes: one for its first 2048 bytes, and as many as it takes for the other 63488 by
+/// 4096 at most.
+pub const MOUNT_READS: u32 = 17;
+
 /// Puts bytes at a place.
 fn put(image: &mut [u8], at: usize, bytes: &[u8]) {
     for (place, byte) in image.iter_mut().skip(at).zip(bytes) {
@@ -73,12 +77,22 @@ pub fn supply_of(
     sectors: usize,
     faults: &[Option<(u32, FaultKind)>],
 ) -> Result<Vec<ScriptedDriver>, AllocError> {
+    supply_at(alloc, sectors, 1, faults)
+}
+
+/// The same, with the faults in this request of each, counted from 1.
+pub fn supply_at(
+    alloc: Global,
+    sectors: usize,
+    request: u32,
+    faults: &[Option<(u32, FaultKind)>],
+) -> Result<Vec<ScriptedDriver>, AllocError> {
     let mut supply = Vec::new(alloc);
     for fault in faults {
         let mut script = Vec::new(alloc);
         if let Some((after, kind)) = *fault {
             script.push(Fault {
-                request: 1,
+                request,
                 after,
                 kind,
             })?;

@@ -6,8 +6,8 @@ use Rattle.std.specs.Prelude.{not, ◌&&◌, ◌||◌, ◌==◌, nat_le}
 use Rattle.std.specs.List.{list_any}
 use Rattle.std.specs.Borrow.{Bor}
 use Rattle.std.proofs.lemmas.Bool.{not-true, not-false, or_left, or_right, or_from}
-use Rattle.tree.specs.Sums.{some_below}
-use Rattle.tree.specs.Names.{same_name}
+use Rattle.volume.specs.tree.Sums.{some_below}
+use Rattle.volume.specs.tree.Names.{same_name}
 use Rattle.volume.specs.Entries.{name_at, target_at, is_name_field}
 use Rattle.volume.specs.Findings.{is_bad_entry}
 use Rattle.image.specs.declared.Image.{Image}

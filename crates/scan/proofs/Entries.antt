@@ -3,15 +3,15 @@ use Rattle.std.proofs.Common.{◌≡◌, ◌≢◌, ◌<◌, ◌≤◌, ◌+◌,
 use mathlib.Core.Logic.{inl, inr}
 use Rattle.std.specs.Prelude.{not, ◌&&◌, ◌||◌, ◌==◌, nat_lt}
 use Rattle.std.proofs.lemmas.Bool.{cases_eq, cond-true, cond-false, and_parts, and_left, and_right, and_from, or_parts, ltb-false, eq-eqb, ne_eqb}
-use Rattle.tree.specs.Sums.{some_below}
-use Rattle.tree.specs.Names.{Name, is_name}
-use Rattle.tree.specs.Tree.{most_size}
+use Rattle.volume.specs.tree.Sums.{some_below}
+use Rattle.volume.specs.tree.Names.{Name, is_name}
+use Rattle.volume.specs.tree.Tree.{most_size}
 use Rattle.volume.specs.declared.Inode.{Inode}
 use Rattle.volume.specs.Reading.{u16_in, u32_in}
 use Rattle.volume.specs.Nodes.{text_in, file_byte, entry_inode, is_marked}
 use Rattle.volume.specs.Entries.{is_directory_inode, name_at, target_at, name_byte, is_field, is_padded, is_name_field}
 use Rattle.volume.specs.Findings.{has_bad_size, is_bad_directory_size}
-use Rattle.volume_laws.proofs.Sums.{same_some}
+use Rattle.image.proofs.volume_laws.Sums.{same_some}
 use Rattle.image.specs.declared.Image.{Image}
 use Rattle.image.specs.Entry as entry
 use Rattle.image.proofs.Places.{four}

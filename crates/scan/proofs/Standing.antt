@@ -3,12 +3,12 @@ use Rattle.std.proofs.Common.{◌≡◌, ◌≢◌, ◌<◌, ◌≤◌, ◌+◌,
 use mathlib.Core.Logic.{inl, inr}
 use Rattle.std.specs.Prelude.{min, not, ◌&&◌, ◌||◌, ◌==◌, nat_lt}
 use Rattle.std.proofs.lemmas.Bool.{cases_eq, cases_lt, cases_Bool, cond-true, cond-false, both_ways, eq-eqb, ne_eqb, eqb-true, lt-ltb, le-ltb, and_left, and_parts, or_left, or_right, not-false}
-use Rattle.tree.specs.Sums.{sum_below, one_if}
-use Rattle.tree.specs.Tree.{most_links}
+use Rattle.volume.specs.tree.Sums.{sum_below, one_if}
+use Rattle.volume.specs.tree.Tree.{most_links}
 use Rattle.volume.specs.Nodes.{is_marked}
 use Rattle.volume.specs.Entries.{is_directory_inode, target_at}
 use Rattle.volume.specs.Findings.{names_in_of, all_names_of, is_reached, is_parent, is_misplaced, subdirectories_of, links_of, has_bad_links}
-use Rattle.volume_laws.proofs.Sums.{sum_same}
+use Rattle.image.proofs.volume_laws.Sums.{sum_same}
 use Rattle.image.specs.declared.Image.{Image}
 use Rattle.passes.proofs.Contents.{g, v, inside}
 use Rattle.scan.specs.Named.{AreNamed}

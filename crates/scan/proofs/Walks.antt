@@ -6,11 +6,11 @@ use Rattle.std.proofs.lemmas.Bool.{cases_eq, cases_lt, cases_Bool, both_ways, eq
 use Rattle.std.proofs.lemmas.List.{length-set, get_or-set_same, get_or-set_other, get_or_append_left, get_or_push, length_push, get_or_past}
 use Rattle.std.proofs.lemmas.List.Sums.{sum_by-set}
 use Rattle.std.specs.List.{sum_by}
-use Rattle.tree.specs.Sums.{some_below, one_if}
+use Rattle.volume.specs.tree.Sums.{some_below, one_if}
 use Rattle.volume.specs.Findings.{names_in_of, is_reached}
-use Rattle.volume_laws.proofs.Sums.{some_from, some_witness}
-use Rattle.volume_laws.proofs.Reach.{reached}
-use Rattle.volume_laws.proofs.Reached.{fuel_enough}
+use Rattle.image.proofs.volume_laws.Sums.{some_from, some_witness}
+use Rattle.image.proofs.volume_laws.Reach.{reached}
+use Rattle.image.proofs.volume_laws.Reached.{fuel_enough}
 use Rattle.image.specs.declared.Image.{Image}
 use Rattle.passes.proofs.Contents.{g, v, is_geometry}
 use Rattle.scan.specs.Reached.{is_seen, unseen, IsWaiting, AreReached, GoesOn}

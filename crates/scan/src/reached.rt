@@ -1,7 +1,7 @@
 //! The inodes that are reached from the root by names.
 
 ghost use Rattle.std.specs.Prelude.{◌≡◌, ◌<◌, ◌+◌, ◌==◌, ℕ, OnOk, false, length, slice_index_or};
-ghost use Rattle.tree.specs.Sums.{one_if};
+ghost use Rattle.volume.specs.tree.Sums.{one_if};
 ghost use Rattle.volume.specs.Findings.{names_in_of};
 ghost use Rattle.image.specs.Contents.{contents};
 ghost use Rattle.scan.specs.Reached.{AreReached, GoesOn};

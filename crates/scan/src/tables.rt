@@ -1,7 +1,7 @@
 //! Who names an inode, and how often.
 
 ghost use Rattle.std.specs.Prelude.{◌≡◌, ◌≤◌, ◌<◌, ◌+◌, ◌==◌, ℕ, length, min, slice_index};
-ghost use Rattle.tree.specs.Sums.{one_if};
+ghost use Rattle.volume.specs.tree.Sums.{one_if};
 ghost use Rattle.volume.specs.Findings.{names_in_of};
 ghost use Rattle.image.specs.Contents.{contents};
 ghost use Rattle.scan.specs.Named.{AreNamed, AreNamedMore};

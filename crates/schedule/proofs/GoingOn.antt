@@ -6,8 +6,8 @@ use Rattle.std.proofs.lemmas.List.{length-drop, length-map, length-reverse, reve
 use Rattle.std.proofs.lemmas.Option.{slice_get_within}
 use Rattle.bdev.specs.DriverState.{DriverState}
 use Rattle.policy.specs.declared.Policy.{Policy}
-use Rattle.marks.specs.Marks.{Mark}
-use Rattle.marks.specs.Open.{counts}
+use Rattle.legal.specs.marks.Marks.{Mark}
+use Rattle.legal.specs.marks.Open.{counts}
 use Rattle.schedule.specs.declared.Sent.{Sent}
 use Rattle.schedule.specs.declared.Event.{Event}
 use Rattle.schedule.specs.declared.Event.TheVariants as event

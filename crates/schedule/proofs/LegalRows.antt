@@ -2,8 +2,8 @@
 use Rattle.std.specs.Prelude.{◌≡◌, [], ◌∷◌, refl}
 use Rattle.std.proofs.Common.{arith, inl, inr}
 use Rattle.tree.specs.Laws.{fresh_tree}
-use Rattle.marks.specs.Open.{open_requests, IsWellFormed}
-use Rattle.marks.specs.Disk.{Contents, HasTrueReplies}
+use Rattle.legal.specs.marks.Open.{open_requests, IsWellFormed}
+use Rattle.legal.specs.marks.Disk.{Contents, HasTrueReplies}
 use Rattle.legal.specs.Legal.{IsLegal, tree_after}
 use Rattle.schedule.specs.Groups.{marks_of}
 use Rattle.schedule.proofs.Small.{small, inode_block}

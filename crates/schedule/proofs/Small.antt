@@ -1,6 +1,6 @@
 -- A small volume with a root alone, and a call on it: what the worked runs are made of.
 use Rattle.std.specs.Prelude.{List, ◌≡◌, ℕ, [], ◌∷◌, true, false, codes, Some, None, Ok, refl, replicate}
-use Rattle.layout.specs.declared.Geometry.{Geometry}
+use Rattle.tree.specs.layout.declared.Geometry.{Geometry}
 use Rattle.message.specs.declared.BlockReply.{BlockReply}
 use Rattle.message.specs.declared.BlockRequest.{BlockRequest}
 use Rattle.message.specs.declared.Kind.TheVariants.{Read}
@@ -13,7 +13,7 @@ use Rattle.tree.specs.Laws.{fresh_tree}
 use Rattle.bdev.specs.DriverState.{DriverState}
 use Rattle.policy.specs.Watch.{driver}
 use Rattle.schedule.specs.Calls.{Arrival}
-use Rattle.marks.specs.Marks.{Mark, Took, Issued}
+use Rattle.legal.specs.marks.Marks.{Mark, Took, Issued}
 
 -- 64 blocks of 1024 bytes with 32 inodes
 abbrev pub small : Geometry

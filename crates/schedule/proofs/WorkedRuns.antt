@@ -3,8 +3,8 @@ use Rattle.std.specs.Prelude.{zero, suc, ◌≡◌, ℕ, List, [], ◌∷◌, No
 use Rattle.std.proofs.Common.{inl, inr, lit≤}
 use Rattle.policy.specs.Policy.{default_policy}
 use Rattle.policy.specs.Watch.{driver}
-use Rattle.marks.specs.declared.Cause.TheVariants.{Exit, Hung}
-use Rattle.marks.specs.Marks.{Started, Answered, Fault}
+use Rattle.legal.specs.marks.declared.Cause.TheVariants.{Exit, Hung}
+use Rattle.legal.specs.marks.Marks.{Started, Answered, Fault}
 use Rattle.schedule.specs.declared.Sent.{Sent}
 use Rattle.schedule.specs.declared.Event.TheVariants as event
 use Rattle.schedule.specs.Groups.{Group, marks_of, schedule_of}

@@ -5,8 +5,8 @@ use Rattle.policy.specs.declared.Policy.{Policy}
 use Rattle.policy.specs.Policy.{default_policy}
 use Rattle.policy.specs.Watch.{driver}
 use Rattle.message.specs.declared.Kind.TheVariants.{Write}
-use Rattle.marks.specs.declared.Cause.TheVariants.{Exit, Complaint}
-use Rattle.marks.specs.Marks.{Mark, Started, Answered, Issued, GaveUp, Fault}
+use Rattle.legal.specs.marks.declared.Cause.TheVariants.{Exit, Complaint}
+use Rattle.legal.specs.marks.Marks.{Mark, Started, Answered, Issued, GaveUp, Fault}
 use Rattle.schedule.specs.declared.Sent.{Sent}
 use Rattle.schedule.specs.declared.Event.{Event}
 use Rattle.schedule.specs.declared.Event.TheVariants as event

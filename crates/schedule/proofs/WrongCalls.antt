@@ -5,9 +5,9 @@ use Rattle.bdev.specs.DriverState.{DriverState}
 use Rattle.policy.specs.declared.Policy.{Policy}
 use Rattle.policy.specs.Policy.{default_policy}
 use Rattle.policy.specs.Watch.{driver}
-use Rattle.marks.specs.Open.{is_unfinished}
-use Rattle.marks.specs.Marks.{gave_up, Answered, Flush, GaveUp, Fault}
-use Rattle.marks.specs.declared.Cause.TheVariants.{Exit}
+use Rattle.legal.specs.marks.Open.{is_unfinished}
+use Rattle.legal.specs.marks.Marks.{gave_up, Answered, Flush, GaveUp, Fault}
+use Rattle.legal.specs.marks.declared.Cause.TheVariants.{Exit}
 use Rattle.schedule.specs.declared.Sent.{Sent}
 use Rattle.schedule.specs.declared.Event.TheVariants as event
 use Rattle.schedule.specs.Groups.{Group, marks_of}

@@ -3,8 +3,8 @@ use Rattle.std.specs.Prelude.{◌≡◌, ℕ, List, [], ◌∷◌, false, true, 
 use Rattle.bdev.specs.DriverState.{DriverState}
 use Rattle.policy.specs.Policy.{default_policy}
 use Rattle.policy.specs.Watch.{driver}
-use Rattle.marks.specs.declared.Cause.TheVariants.{Exit}
-use Rattle.marks.specs.Marks.{Flush, GaveUp, Fault}
+use Rattle.legal.specs.marks.declared.Cause.TheVariants.{Exit}
+use Rattle.legal.specs.marks.Marks.{Flush, GaveUp, Fault}
 use Rattle.schedule.specs.declared.Sent.{Sent}
 use Rattle.schedule.specs.declared.Event.TheVariants as event
 use Rattle.schedule.specs.Justified.{Justified}

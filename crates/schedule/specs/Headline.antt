@@ -1,14 +1,14 @@
 -- What a run of the server over a schedule promises.
 use Rattle.std.specs.Prelude.{◌≡◌, ℕ, ◌+◌, ◌*◌, ◌<◌, ◌≤◌, ◌⊎◌, List, length, false, Ok, slice_index}
-use Rattle.layout.specs.declared.Geometry.{Geometry}
-use Rattle.layout.specs.Places.{geometry_of}
+use Rattle.tree.specs.layout.declared.Geometry.{Geometry}
+use Rattle.tree.specs.layout.Places.{geometry_of}
 use Rattle.tree.specs.Tree.{Tree}
 use Rattle.bdev.specs.DriverState.{DriverState}
 use Rattle.policy.specs.declared.Policy.{Policy}
-use Rattle.marks.specs.Marks.{Mark, gave_up}
-use Rattle.marks.specs.Open.{IsWellFormed}
-use Rattle.marks.specs.Disk.{Contents, disk_after, is_unsure, HasTrueReplies}
-use Rattle.marks.specs.Opening.{Range, volume_bytes, volume_in}
+use Rattle.legal.specs.marks.Marks.{Mark, gave_up}
+use Rattle.legal.specs.marks.Open.{IsWellFormed}
+use Rattle.legal.specs.marks.Disk.{Contents, disk_after, is_unsure, HasTrueReplies}
+use Rattle.legal.specs.marks.Opening.{Range, volume_bytes, volume_in}
 use Rattle.legal.specs.Legal.{IsAtFirst, IsLegal}
 use Rattle.legal.specs.View.{Frames, ReadsBack}
 use Rattle.schedule.specs.declared.Sent.{Sent}

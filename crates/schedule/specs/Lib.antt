@@ -1,4 +1,5 @@
 -- What a run over a schedule must show.
+pub use Rattle.legal.specs as legal
 pub mod Groups
 pub mod Drivers
 pub mod Faults

@@ -1,2 +1,3 @@
+pub use Rattle.schedule.specs as schedule
 pub mod Events
 pub mod Refusals

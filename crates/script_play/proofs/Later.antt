@@ -1,7 +1,7 @@
 -- A session later.
 use Rattle.std.proofs.Common.{◌≡◌, List, [], ◌++◌, refl, sym, ap, ◌∙◌, append_assoc, append-nil}
 use Rattle.tree.specs.declared.Who.{Who}
-use Rattle.marks.specs.Marks.{Mark, IsBeginning}
+use Rattle.legal.specs.marks.Marks.{Mark, IsBeginning}
 use Rattle.legal.specs.Session.{SessionState, SessionGoesOn, caller_of}
 use Rattle.script_play.specs.Made.{IsLater}
 

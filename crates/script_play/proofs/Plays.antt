@@ -4,7 +4,7 @@ use Rattle.std.proofs.lemmas.List.{take_more}
 use Rattle.tree.specs.declared.Who.{Who}
 use Rattle.tree.specs.declared.Outcome.{Outcome}
 use Rattle.tree.specs.declared.Outcome.TheVariants.{Reply, Cut}
-use Rattle.marks.specs.Marks.{Mark}
+use Rattle.legal.specs.marks.Marks.{Mark}
 use Rattle.legal.specs.Session.{SessionState, caller_of}
 use Rattle.script_text.specs.declared.timed.TimedCall.{TimedCall}
 use Rattle.script_play.specs.Made.{call_made, calls_made, cuts, some_cut, all_cut, cuts_last, Plays, Calls}

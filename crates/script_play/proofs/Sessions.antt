@@ -3,7 +3,7 @@ use Rattle.std.proofs.Common.{◌≡◌, ℕ, suc, ◌<◌, arith, List, [], ◌
 use Rattle.std.specs.Prelude.{All}
 use Rattle.tree.specs.Tree.{most_sessions}
 use Rattle.tree.specs.declared.Who.{Who}
-use Rattle.marks.specs.Marks.{Mark, IsBeginning}
+use Rattle.legal.specs.marks.Marks.{Mark, IsBeginning}
 use Rattle.legal.specs.Session.{SessionState, MeetKeeps, caller_of, calls_of}
 use Rattle.script_text.specs.declared.timed.TimedCall.{TimedCall}
 use Rattle.script_text.specs.Scripts.{plain_timed}

@@ -8,7 +8,7 @@ use Rattle.tree.specs.declared.Outcome.{Outcome}
 use Rattle.tree.specs.declared.Outcome.TheVariants.{Reply, Cut}
 use Rattle.tree.specs.declared.Reply.TheVariants.{Refused}
 use Rattle.tree.specs.Answers.{answer_of}
-use Rattle.marks.specs.Marks.{Mark, Took, IsBeginning}
+use Rattle.legal.specs.marks.Marks.{Mark, Took, IsBeginning}
 use Rattle.legal.specs.Session.{SessionState, SessionGoesOn, caller_of, calls_of}
 use Rattle.script_text.specs.declared.timed.TimedCall.{TimedCall}
 use Rattle.session_text.specs.declared.answers.Played.{Played}

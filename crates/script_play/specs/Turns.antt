@@ -1,7 +1,7 @@
 -- Scripts played one after the other, each in a session of its own.
 use Rattle.std.specs.Prelude.{◌≡◌, ℕ, ◌<◌, List, [], ◌∷◌, Option, Some, None, true, length, map}
 use Rattle.tree.specs.Tree.{most_sessions}
-use Rattle.marks.specs.Marks.{Mark, IsBeginning}
+use Rattle.legal.specs.marks.Marks.{Mark, IsBeginning}
 use Rattle.legal.specs.Session.{SessionState, caller_of, calls_of}
 use Rattle.script_text.specs.declared.timed.TimedCall.{TimedCall}
 use Rattle.script_text.specs.Scripts.{plain_timed}

@@ -1,7 +1,7 @@
 //! A session of a service, as one who plays a script needs it.
 
 ghost use Rattle.std.specs.Prelude.{◌≡◌, List};
-ghost use Rattle.marks.specs.Marks.{Mark};
+ghost use Rattle.legal.specs.marks.Marks.{Mark};
 ghost use Rattle.legal.specs.Session.{SessionState, SessionGoesOn, MeetKeeps, caller_of};
 ghost use Rattle.script_play.specs.Made.{call_made};
 

@@ -1,18 +1,18 @@
 -- One call of a session, and a session just made.
 use Rattle.std.proofs.Common.{◌≡◌, ℕ, List, [], ap, sym, subst, ◌∙◌}
-use Rattle.layout.specs.declared.Geometry.{Geometry}
+use Rattle.tree.specs.layout.declared.Geometry.{Geometry}
 use Rattle.tree.specs.declared.Who.{Who}
 use Rattle.tree.specs.declared.Call.{Call}
 use Rattle.tree.specs.declared.Outcome.{Outcome}
 use Rattle.tree.specs.declared.Outcome.TheVariants.{Reply, Cut}
 use Rattle.tree.specs.Tree.{Tree}
-use Rattle.marks.specs.Marks.{Mark}
-use Rattle.marks.specs.Opening.{Opening, contents_at}
-use Rattle.legal.specs.Legal.{IsAtFirst}
-use Rattle.legal.specs.Session.{Seen, SessionState, SessionCallKeeps, EndsWith, IsMadeFor, calls_of}
+use Rattle.file_server.specs.marks.Marks.{Mark}
+use Rattle.file_server.specs.marks.Opening.{Opening, contents_at}
+use Rattle.file_server.specs.legal.Legal.{IsAtFirst}
+use Rattle.file_server.specs.legal.Session.{Seen, SessionState, SessionCallKeeps, EndsWith, IsMadeFor, calls_of}
 use Rattle.file_server.specs.Over.{outcome_of}
-use Rattle.reissue.specs.Calls.{Truth}
-use Rattle.serve.specs.Held.{IsGood, IsGuaranteed, IsSound}
+use Rattle.file_server.specs.reissue.Calls.{Truth}
+use Rattle.shared_server.specs.Held.{IsGood, IsGuaranteed, IsSound}
 use Rattle.script_play.specs.Made.{call_made}
 use Rattle.script_play.specs.Turns.{IsUnplayed}
 use Rattle.seats.specs.Vouched.{Vouched}

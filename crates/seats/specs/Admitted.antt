@@ -1,7 +1,7 @@
 -- A session that was made for a script.
 use Rattle.std.specs.Prelude.{◌≡◌, ℕ, List}
-use Rattle.marks.specs.Marks.{Mark}
-use Rattle.legal.specs.Session.{SessionState}
+use Rattle.file_server.specs.marks.Marks.{Mark}
+use Rattle.file_server.specs.legal.Session.{SessionState}
 use Rattle.script_text.specs.declared.timed.TimedCall.{TimedCall}
 use Rattle.script_play.specs.declared.turns.Turn.{Turn}
 use Rattle.script_play.specs.Turns.{IsUnplayed, asked}

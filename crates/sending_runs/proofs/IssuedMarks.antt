@@ -2,24 +2,24 @@
 use Rattle.std.proofs.Common.{◌≡◌, ℕ, ◌+◌, ◌<◌, ◌≤◌, List, [], ◌∷◌, ◌++◌, Bool, true, false, refl, sym, ◌∙◌, ap, subst, arith}
 use Rattle.std.proofs.lemmas.Bool.Decides.{nat_tests}
 use Rattle.std.specs.Prelude.{◌&&◌, ◌||◌, ◌==◌, nat_lt, max, not, Option, Some, None, Result, Ok}
-use Rattle.endpoint.specs.declared.Endpoint.{Endpoint}
-use Rattle.message.specs.declared.BlockRequest.{BlockRequest}
-use Rattle.policy.specs.declared.Policy.{Policy}
-use Rattle.policy.specs.Watch.{Watch, driver}
-use Rattle.marks.specs.Marks.{Mark, Started, Answered, Flush, GaveUp, Took, Issued, Fault, gave_up}
-use Rattle.marks.specs.Open.{greatest}
-use Rattle.marks.specs.declared.Cause.{Cause}
-use Rattle.marks.specs.declared.Cause.TheVariants.{Exit, Hung}
-use Rattle.schedule.specs.declared.Event.{Event}
-use Rattle.schedule.specs.Groups.{Group, marks_of, EachGroup}
-use Rattle.schedule.specs.Drivers.{is_live, is_issued_to}
-use Rattle.schedule.specs.Starts.{is_among_first, may_issue, are_issued_in_place}
-use Rattle.reissue.specs.declared.link.LinkRefusal.{LinkRefusal}
-use Rattle.driver_events.specs.Disks.{Disks, LinesUp, NoneIsThere, LineIsFull, IsLinedUp}
-use Rattle.justifying.specs.Core.{Core}
-use Rattle.justifying.specs.Happens.{AtReport, OfNone, OfRunning, fault_marks, exit_marks, blame_marks, beaten_core, TicksTo, Beats, MissesOne, FoundHung, WaitsOn, StartsNext, IsOver, Begins, Arrives, Flushes, Answers, Drops, Delivers, LinesAgain, HangsOne, StepsOne, FailsOne, DiesNone, DiesOne, Ticks, Adds, AddsNothing, Posts, Replies, Complains, Pays}
-use Rattle.justifying.proofs.FollowLaws.{same_generation, same_number}
-use Rattle.sending_runs.specs.Sending.{PlacedAsDue}
+use Rattle.justified_runs.specs.endpoint.declared.Endpoint.{Endpoint}
+use Rattle.justified_runs.specs.message.declared.BlockRequest.{BlockRequest}
+use Rattle.justified_runs.specs.policy.declared.Policy.{Policy}
+use Rattle.justified_runs.specs.policy.Watch.{Watch, driver}
+use Rattle.justified_runs.specs.marks.Marks.{Mark, Started, Answered, Flush, GaveUp, Took, Issued, Fault, gave_up}
+use Rattle.justified_runs.specs.marks.Open.{greatest}
+use Rattle.justified_runs.specs.marks.declared.Cause.{Cause}
+use Rattle.justified_runs.specs.marks.declared.Cause.TheVariants.{Exit, Hung}
+use Rattle.justified_runs.specs.schedule.declared.Event.{Event}
+use Rattle.justified_runs.specs.schedule.Groups.{Group, marks_of, EachGroup}
+use Rattle.justified_runs.specs.schedule.Drivers.{is_live, is_issued_to}
+use Rattle.justified_runs.specs.schedule.Starts.{is_among_first, may_issue, are_issued_in_place}
+use Rattle.justified_runs.specs.reissue.declared.link.LinkRefusal.{LinkRefusal}
+use Rattle.justified_runs.specs.driver_events.Disks.{Disks, LinesUp, NoneIsThere, LineIsFull, IsLinedUp}
+use Rattle.justified_runs.specs.justifying.Core.{Core}
+use Rattle.justified_runs.specs.justifying.Happens.{AtReport, OfNone, OfRunning, fault_marks, exit_marks, blame_marks, beaten_core, TicksTo, Beats, MissesOne, FoundHung, WaitsOn, StartsNext, IsOver, Begins, Arrives, Flushes, Answers, Drops, Delivers, LinesAgain, HangsOne, StepsOne, FailsOne, DiesNone, DiesOne, Ticks, Adds, AddsNothing, Posts, Replies, Complains, Pays}
+use Rattle.justified_runs.proofs.justifying.FollowLaws.{same_generation, same_number}
+use Rattle.justified_runs.specs.Said.{PlacedAsDue}
 
 or_right : (a b : Bool) → b ≡ true → (a || b) ≡ true
 or_right true b is = refl

@@ -2,11 +2,11 @@
 use Rattle.std.proofs.Common.{◌≡◌, ℕ, ◌<◌, List, [], ◌∷◌, length, Bool, true, false, refl, sym, ◌∙◌, subst, arith}
 use Rattle.std.proofs.lemmas.Bool.Decides.{nat_tests}
 use Rattle.std.specs.Prelude.{◌&&◌, ◌==◌, not}
-use Rattle.bdev.specs.DriverState.{DriverState, is_fresh}
-use Rattle.media.specs.Contents.{MediaState}
-use Rattle.policy.specs.declared.Policy.{Policy}
-use Rattle.schedule.specs.Groups.{Each}
-use Rattle.justifying.specs.Seen.{core_at}
+use Rattle.justified_runs.specs.bdev.DriverState.{DriverState, is_fresh}
+use Rattle.justified_runs.specs.media.Contents.{MediaState}
+use Rattle.justified_runs.specs.policy.declared.Policy.{Policy}
+use Rattle.justified_runs.specs.schedule.Groups.{Each}
+use Rattle.justified_runs.specs.justifying.Seen.{core_at}
 use Rattle.justified_runs.specs.Said.{IsSaid, StandsBefore}
 use Rattle.justified_runs.proofs.SaidLaws.{runs_said}
 use Rattle.justified_runs.proofs.OpeningLaws.{opened_scene, opened_said, opened_follows, calm_before}

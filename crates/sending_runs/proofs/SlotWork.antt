@@ -1,23 +1,23 @@
 -- What a driver that lives works on was issued to it, and has no more sectors moved than the driver made steps for it.
 use Rattle.std.proofs.Common.{◌≡◌, ℕ, ◌+◌, ◌*◌, ◌<◌, ◌≤◌, List, [], ◌∷◌, ◌++◌, length, Bool, true, false, refl, sym, ◌∙◌, ap, subst, arith, inl, inr}
 use Rattle.std.specs.Prelude.{Option, Some, None, IfSome, IsSomeAnd}
-use Rattle.message.specs.declared.BlockRequest.{BlockRequest}
-use Rattle.media.specs.Contents.{MediaState}
-use Rattle.bdev.specs.declared.Accept.{Accept}
-use Rattle.bdev.specs.declared.Accept.TheVariants.{Taken, Busy, Old}
-use Rattle.bdev.specs.declared.Step.{Step}
-use Rattle.bdev.specs.declared.Step.TheVariants.{Working, Idle, Done, Failed}
-use Rattle.bdev.specs.DriverState.{DriverState, Work, plan}
-use Rattle.bdev.specs.Promises.{IsDriver, requests_in_work, AcceptKeeps, StepKeeps, StepsAt, MovesAtMostOne, EndsBy}
-use Rattle.marks.specs.Marks.{Mark}
-use Rattle.schedule.specs.declared.Sent.{Sent}
-use Rattle.schedule.specs.declared.Event.TheVariants as event
-use Rattle.schedule.specs.Groups.{Group, marks_of, first_groups, Each}
-use Rattle.schedule.specs.Drivers.{is_issued_to, is_live}
-use Rattle.schedule.specs.Replies.{has_sent_at, steps_for, bytes_of, IsSentAtItsStep}
-use Rattle.true_replies.specs.Events.{line_after, live_after, reply_of}
-use Rattle.inline.specs.Steps.{HandsOver}
-use Rattle.driver_events.specs.Disks.{Slot, SlotSteps, lined}
+use Rattle.justified_runs.specs.message.declared.BlockRequest.{BlockRequest}
+use Rattle.justified_runs.specs.media.Contents.{MediaState}
+use Rattle.justified_runs.specs.bdev.declared.Accept.{Accept}
+use Rattle.justified_runs.specs.bdev.declared.Accept.TheVariants.{Taken, Busy, Old}
+use Rattle.justified_runs.specs.bdev.declared.Step.{Step}
+use Rattle.justified_runs.specs.bdev.declared.Step.TheVariants.{Working, Idle, Done, Failed}
+use Rattle.justified_runs.specs.bdev.DriverState.{DriverState, Work, plan}
+use Rattle.justified_runs.specs.bdev.Promises.{IsDriver, requests_in_work, AcceptKeeps, StepKeeps, StepsAt, MovesAtMostOne, EndsBy}
+use Rattle.justified_runs.specs.marks.Marks.{Mark}
+use Rattle.justified_runs.specs.schedule.declared.Sent.{Sent}
+use Rattle.justified_runs.specs.schedule.declared.Event.TheVariants as event
+use Rattle.justified_runs.specs.schedule.Groups.{Group, marks_of, first_groups, Each}
+use Rattle.justified_runs.specs.schedule.Drivers.{is_issued_to, is_live}
+use Rattle.justified_runs.specs.schedule.Replies.{has_sent_at, steps_for, bytes_of, IsSentAtItsStep}
+use Rattle.justified_runs.specs.true_replies.Events.{line_after, live_after, reply_of}
+use Rattle.justified_runs.specs.inline.Steps.{HandsOver}
+use Rattle.justified_runs.specs.driver_events.Disks.{Slot, SlotSteps, lined}
 use Rattle.sending_runs.proofs.StepCounts.{moved_below, none_moved, one_moved, few_bytes, steps_append, steps_one_more, event_there, groups_there}
 
 -- a request was issued to this driver

@@ -3,18 +3,18 @@ use Rattle.std.proofs.Common.{◌≡◌, ℕ, zero, suc, ◌+◌, ◌-◌, ◌*�
 use Rattle.std.proofs.lemmas.Bool.Decides.{nat_tests}
 use Rattle.std.proofs.lemmas.List.{length-map, length-reverse, reverse-append}
 use Rattle.std.specs.Prelude.{◌&&◌, ◌||◌, ◌==◌, drop, map, Option, Some, None, Result, Ok, Err, IsTrue, if◌then◌else◌, slice_get}
-use Rattle.errno.specs.declared.Errno.{Errno}
-use Rattle.bdev.specs.declared.Run.{Run}
-use Rattle.bdev.specs.DriverState.{Work}
-use Rattle.bdev.specs.Promises.{MayAnswer}
-use Rattle.marks.specs.Marks.{Mark}
-use Rattle.schedule.specs.declared.Sent.{Sent}
-use Rattle.schedule.specs.declared.Event.{Event}
-use Rattle.schedule.specs.declared.Event.TheVariants as event
-use Rattle.schedule.specs.Groups.{Group, event_of, schedule_of, first_groups, Each}
-use Rattle.schedule.specs.Drivers.{is_issued_to}
-use Rattle.schedule.specs.Replies.{has_sent_at, is_step_of, steps_for, bytes_of}
-use Rattle.justifying.proofs.FollowLaws.{same_number}
+use Rattle.justified_runs.specs.errno.declared.Errno.{Errno}
+use Rattle.justified_runs.specs.bdev.declared.Run.{Run}
+use Rattle.justified_runs.specs.bdev.DriverState.{Work}
+use Rattle.justified_runs.specs.bdev.Promises.{MayAnswer}
+use Rattle.justified_runs.specs.marks.Marks.{Mark}
+use Rattle.justified_runs.specs.schedule.declared.Sent.{Sent}
+use Rattle.justified_runs.specs.schedule.declared.Event.{Event}
+use Rattle.justified_runs.specs.schedule.declared.Event.TheVariants as event
+use Rattle.justified_runs.specs.schedule.Groups.{Group, event_of, schedule_of, first_groups, Each}
+use Rattle.justified_runs.specs.schedule.Drivers.{is_issued_to}
+use Rattle.justified_runs.specs.schedule.Replies.{has_sent_at, is_step_of, steps_for, bytes_of}
+use Rattle.justified_runs.proofs.justifying.FollowLaws.{same_number}
 
 -- the replies sent at this event or later
 abbrev pub AreLater : ℕ → List Sent → Type 0

@@ -1,20 +1,16 @@
 -- The replies that were sent in a run.
 use Rattle.std.specs.Prelude.{◌≡◌, ℕ, List, ◌∷◌, length, true}
-use Rattle.bdev.specs.DriverState.{DriverState, is_fresh}
-use Rattle.media.specs.Contents.{MediaState}
-use Rattle.policy.specs.declared.Policy.{Policy}
-use Rattle.policy.specs.Watch.{new_watch}
-use Rattle.marks.specs.Marks.{Mark}
-use Rattle.schedule.specs.declared.Event.{Event}
-use Rattle.schedule.specs.Groups.{Group, marks_of, Each, EachGroup}
-use Rattle.schedule.specs.Starts.{are_issued_in_place}
-use Rattle.schedule.specs.Replies.{IsSentAtItsStep}
-use Rattle.playing.specs.PlayView.{IsOpened}
-use Rattle.playing.specs.Moments.{Moment, Resting, Runs}
-
--- each request of a group was issued where it may be
-abbrev pub PlacedAsDue : Event → List Mark → List Group → Type 0
-PlacedAsDue event group earlier = are_issued_in_place ((event, group) ∷ earlier) group (marks_of earlier) ≡ true
+use Rattle.justified_runs.specs.bdev.DriverState.{DriverState, is_fresh}
+use Rattle.justified_runs.specs.media.Contents.{MediaState}
+use Rattle.justified_runs.specs.policy.declared.Policy.{Policy}
+use Rattle.justified_runs.specs.policy.Watch.{new_watch}
+use Rattle.justified_runs.specs.marks.Marks.{Mark}
+use Rattle.justified_runs.specs.schedule.declared.Event.{Event}
+use Rattle.justified_runs.specs.schedule.Groups.{Group, marks_of, Each, EachGroup}
+use Rattle.justified_runs.specs.schedule.Replies.{IsSentAtItsStep}
+use Rattle.justified_runs.specs.playing.PlayView.{IsOpened}
+use Rattle.justified_runs.specs.playing.Moments.{Moment, Resting, Runs}
+use Rattle.justified_runs.specs.Said.{PlacedAsDue}
 
 -- where the drivers that were handed in are new, and each request was issued where it may be, each reply stands at a step of its driver
 abbrev pub RunsKeepSteps : Type 0

@@ -1,44 +1,20 @@
--- Which descriptors calls left open, and closing them one after the other.
-use Rattle.std.proofs.Common.{◌≡◌, ◌<◌, ◌≤◌, ℕ, zero, suc, ◌+◌, List, [], ◌∷◌, Bool, true, false, get_or, refl, sym, ◌∙◌, ap, subst, arith, Option, Some, None, eqb-true, add-one}
+-- Closing the descriptors that calls left open, one after the other.
+use Rattle.std.proofs.Common.{◌≡◌, ◌<◌, ◌≤◌, ℕ, zero, suc, ◌+◌, List, Bool, true, false, refl, sym, ◌∙◌, ap, subst, arith, Some, None, eqb-true, add-one}
 use Rattle.std.specs.Bool.{OnTrue, OnFalse}
-use Rattle.std.specs.Prelude.{◌==◌, not, slice_index_or, if◌then◌else◌}
+use Rattle.std.specs.Prelude.{◌==◌, not, if◌then◌else◌}
 use Rattle.tree.specs.declared.Who.{Who}
 use Rattle.tree.specs.declared.Call.{Call}
 use Rattle.tree.specs.declared.Call.TheVariants.{Close}
-use Rattle.tree.specs.Answers.{Answer}
 use Rattle.tree.specs.declared.Outcome.{Outcome as TreeOutcome}
 use Rattle.tree.specs.declared.Outcome.TheVariants as tree
-use Rattle.legal.specs.ServerCall.{Outcome, Replied, Cut, with_outcome}
-use Rattle.legal.specs.Session.{Seen, EndsWith}
-use Rattle.reissue.specs.declared.link.Link.{Ghosts as LinkWords}
+use Rattle.board.specs.marks.Marks.{Mark}
+use Rattle.board.specs.legal.ServerCall.{Outcome, Replied, Cut, with_outcome}
+use Rattle.board.specs.legal.Session.{Seen, EndsWith}
+use Rattle.file_server.specs.reissue.declared.link.Link.{Ghosts as LinkWords}
 use Rattle.file_server.specs.Over.{outcome_of}
-use Rattle.serve.specs.Held.{IsCutAtEnd, HasEnded}
-use Rattle.keeping.proofs.KeeperLaws.{all_free, is_free}
-use Rattle.marks.specs.Marks.{Mark, Took}
-use Rattle.serve.specs.declared.left_open.LeftOpen.{LeftOpen}
-use Rattle.serve.specs.Descriptors.{change_of, changed, is_done, leaves_open, ClosesIf, ClosesOne, ClosesBelow, was_cut, AreLeftOpen}
-
--- what a call changed
-pub left_changed : (old new : LeftOpen) (who : Who) (now : ℕ) (call : Call) (answer : Answer) (marks : List Mark) (n : ℕ) (after : Bool)
-    → change_of call answer ≡ Some (n, after)
-    → ((k : ℕ) → k < 32 → slice_index_or new.flags k false ≡ (if n == k then after else slice_index_or old.flags k false))
-    → AreLeftOpen old marks → AreLeftOpen new (Took who now call answer ∷ marks)
-left_changed old new who now call answer marks n after is set left = record {
-  each = λ fd low.
-      set fd low ∙ ap (λ (b : Bool). if n == fd then after else b) (left.each fd low)
-      ∙ sym (ap (λ (o : Option (ℕ × Bool)). changed fd o (leaves_open fd marks)) is);
-}
-
--- a call that changed nothing
-pub left_same : (o : LeftOpen) (who : Who) (now : ℕ) (call : Call) (answer : Answer) (marks : List Mark) → change_of call answer ≡ None
-    → AreLeftOpen o marks → AreLeftOpen o (Took who now call answer ∷ marks)
-left_same o who now call answer marks is left = record {
-  each = λ fd low. left.each fd low ∙ sym (ap (λ (o : Option (ℕ × Bool)). changed fd o (leaves_open fd marks)) is);
-}
-
--- none of them is open at first
-pub none_open : (o : LeftOpen) → o.flags ≡ all_free 32 → AreLeftOpen o []
-none_open o is = record { each = λ fd low. ap (λ (bits : List Bool). get_or bits fd false) is ∙ is_free 32 fd }
+use Rattle.shared_server.specs.Descriptors.{changed, is_done, leaves_open, was_cut}
+use Rattle.shared_server.specs.Held.{IsCutAtEnd, HasEnded}
+use Rattle.serve.specs.Closing.{ClosesIf, ClosesOne, ClosesBelow}
 
 -- the calls after one more
 pub mine_after : (outcome : Outcome) (who : Who) (now : ℕ) (call : Call) (old new : Seen) → EndsWith outcome who now call old new

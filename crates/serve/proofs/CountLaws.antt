@@ -1,7 +1,7 @@
 -- How many marks were seen, once by two.
 use Rattle.std.proofs.Common.{◌≡◌, ℕ, ◌≤◌, max, List, [], ◌∷◌, ◌++◌, Bool, true, refl, sym, ◌∙◌, ap, subst, inl, inr, arith, Some}
-use Rattle.marks.specs.Marks.{Mark, Started, Answered, Flush, GaveUp, Took, Issued, Fault, counted, gave_up, IsBeginning}
-use Rattle.legal.specs.Session.{tally_of, IsLonger, DeviceKeeps}
+use Rattle.board.specs.marks.Marks.{Mark, Started, Answered, Flush, GaveUp, Took, Issued, Fault, counted, gave_up, IsBeginning}
+use Rattle.board.specs.legal.Session.{tally_of, IsLonger, DeviceKeeps}
 use Rattle.board.specs.View.{View, session_for}
 use Rattle.board.specs.Steps.{SeesMore, SessionAsks}
 use Rattle.keeping.specs.Keeper.{begins_further}

@@ -2,22 +2,22 @@
 
 ghost use Rattle.std.specs.Prelude.{◌≡◌, [], IfErr, IfOk};
 ghost use Rattle.std.specs.Arc.{arc_value};
-ghost use Rattle.marks.specs.Opening.{contents_at};
+ghost use Rattle.board.specs.marks.Opening.{contents_at};
 ghost use Rattle.tree.specs.Tree.{Tree};
-ghost use Rattle.legal.specs.Legal.{IsAtFirst};
-ghost use Rattle.serve.specs.Stopping.{IsLastImage, IsSyncedImage, Went, WhyNotSynced};
-ghost use Rattle.serve.specs.Held.{IsAdmitted, IsGood, IsGuaranteed, IsHeld, IsNotAdmitted};
+ghost use Rattle.board.specs.legal.Legal.{IsAtFirst};
+ghost use Rattle.shared_server.specs.Stopping.{IsLastImage, IsSyncedImage, Went, WhyNotSynced};
+ghost use Rattle.shared_server.specs.Held.{IsAdmitted, IsGood, IsGuaranteed, IsHeld, IsNotAdmitted};
 
-use crate::left_open::LeftOpen;
-use crate::locked::Locked;
-use crate::refusal::SessionRefusal;
 use crate::session::Session;
-use crate::stopping::{StopRefusal, Stopped};
 use board::Board;
 use file_server::FileServer;
 use keeping::recorder::Recorder;
 use keeping::room::Room;
 use keeping::steady::OnMedia;
+use shared_server::left_open::LeftOpen;
+use shared_server::locked::Locked;
+use shared_server::refusal::SessionRefusal;
+use shared_server::stopping::{StopRefusal, Stopped};
 use std::alloc::{AllocError, Global};
 use std::marker::PhantomData;
 use std::sync::{Arc, Mutex, Wait};

@@ -5,14 +5,14 @@ ghost use Rattle.board.specs.View.{IsKeeper, opener};
 
 use crate::silent::Silent;
 use board::{Board, Seat};
+use counting_link::Noting;
 use keeping::room::Room;
 use launch::opened::over;
 use layout::Geometry;
 use media::Media;
 use samples::new_volume;
-use serve::noting::Noting;
-use serve::refusal::SessionRefusal;
-use serve::stopping::StopRefusal;
+use shared_server::refusal::SessionRefusal;
+use shared_server::stopping::StopRefusal;
 use std::alloc::Global;
 use std::marker::Brand;
 use std::sync::{Arc, Wait};

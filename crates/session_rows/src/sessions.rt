@@ -1,32 +1,32 @@
 //! Sessions of one service: their replies, their numbers, and what they have seen.
 ghost use Rattle.std.specs.Prelude.{◌≡◌, ◌≤◌, ◌^◌, [], true, All, map};
 ghost use Rattle.std.specs.Arc.{arc_value};
-ghost use Rattle.legal.specs.Mount.{is_frame_count};
-ghost use Rattle.layout.specs.Places.{IsGeometry};
-ghost use Rattle.true_replies.specs.Events.{IsOnMedia, opening_media};
+ghost use Rattle.board.specs.legal.Mount.{is_frame_count};
+ghost use Rattle.history.specs.marks.Opening.{contents_at};
+ghost use Rattle.startup.specs.mounting.Laws.{sizes_in};
+ghost use Rattle.inline.specs.true_replies.Events.{IsOnMedia, opening_media};
 ghost use Rattle.inline.specs.Inline.{IsReady};
 ghost use Rattle.board.specs.View.{IsKeeper, opener};
-ghost use Rattle.startup.specs.Starting.{opening_of, IsStartable};
+ghost use Rattle.startup.specs.Starting.{opening_of, IsPrepared};
 
 use board::{Board, Device, Seat};
+use counting_link::Noting;
 use driven::Driven;
 use file_server::FileServer;
 use inline::local::LocalDriver;
 use keeping::recorder::Recorder;
 use keeping::room::Room;
 use keeping::steady::OnMedia;
-use launch::opened::over;
+use launch::opened::mounted;
 use launch::start::{Program, drivers_on, serve};
-use layout::Geometry;
 use modeldisk::{FaultKind, ScriptedDriver};
 use policy::Setup;
 use reissue::link::TrueLink;
-use samples::{ROOT, new_volume, supply_of, whole};
+use samples::{MOUNT_READS, ROOT, new_volume, supply_at, supply_of, whole};
 use serve::gate::Open;
-use serve::noting::Noting;
-use serve::refusal::SessionRefusal;
 use serve::service::{Service, Shared};
 use serve::session::Session;
+use shared_server::refusal::SessionRefusal;
 use startup::{Prepared, prepare};
 use std::alloc::{AllocError, Global};
 use std::marker::Brand;
@@ -119,7 +119,7 @@ fn has_seen(rt: &impl Abort, got: &Got, device: Device, apart: (u64, u64), seen:
     assert_eq!(rt; got.seen, (seen, seen));
 }
 
-/// A start, the answer to the first call's read of the root's inode, and six calls' marks.
+/// A start, the answers to the mount's 17 reads and to the first call's read of the root's inode, and six calls' marks.
 #[test]
 fn two_sessions_call_in_turn(rt: HostRuntime) -> Result<(), Fail> {
     let alloc = rt.alloc();
@@ -136,16 +136,17 @@ fn two_sessions_call_in_turn(rt: HostRuntime) -> Result<(), Fail> {
     ) else {
         panic!(rt; "not served");
     };
-    has_seen(&rt, &got, Device::Live, (7, 8), 8);
+    has_seen(&rt, &got, Device::Live, (24, 25), 25);
     are_told(&rt, alloc, got.outcomes.as_slice(), 6, ROOT)
 }
 
-/// A start, the giving up, and six calls' marks.
+/// A start, the answers to the mount's 17 reads, the giving up, and six calls' marks.
 #[test]
 fn both_are_told_of_the_giving_up(rt: HostRuntime) -> Result<(), Fail> {
     let alloc = rt.alloc();
     let image = new_volume(alloc, 1024)?;
-    let supply = supply_of(alloc, 128, &[Some((0, FaultKind::Die))])?;
+    let dies = Some((0, FaultKind::Die));
+    let supply = supply_at(alloc, 128, MOUNT_READS + 1, &[dies])?;
     let Ok(Some(got)) = serve(
         alloc,
         rt,
@@ -157,7 +158,7 @@ fn both_are_told_of_the_giving_up(rt: HostRuntime) -> Result<(), Fail> {
     ) else {
         panic!(rt; "not served");
     };
-    has_seen(&rt, &got, Device::GivenUp, (7, 8), 8);
+    has_seen(&rt, &got, Device::GivenUp, (24, 25), 25);
     are_told(&rt, alloc, got.outcomes.as_slice(), 6, "EIO\n")
 }
 
@@ -269,21 +270,20 @@ fn over_threads<
     board: Arc<Board>,
     link: L,
     minor: u8,
-    geometry: Geometry,
     frames: u32,
-) -> Result<Option<(Vec<Outcome>, Vec<Outcome>)>, AllocError>
+) -> Option<(Vec<Outcome>, Vec<Outcome>)>
     requires board { arc_value board ≡ N.table }
     requires marks { L.marks link ≡ [] }
     requires told { L.Link.history link ≡ [] }
-    requires geometry { IsGeometry geometry × (geometry ≡ N.geometry) }
+    requires geometry { N.geometry ≡ sizes_in (contents_at N.opening) }
     requires minor { minor ≡ N.opening.minor }
     requires frames { is_frame_count frames ≡ true }
-    requires budget { L.Link.budget_left link ≤ 2 ^ 58 }
+    requires budget { L.Link.budget_left link ≤ 2 ^ 57 }
     requires truth { L.Link.truth link N.opening [] }
     requires drivers { L.runs_on link N.policy N.supply }
 {
-    let service = over(alloc, rt, board, link, minor, geometry, frames)?;
-    Ok(in_threads(alloc, rt, &service))
+    let service = mounted(alloc, rt, board, link, minor, frames).ok()?;
+    in_threads(alloc, rt, &service)
 }
 
 /// The same, over a service that is started on drivers.
@@ -300,32 +300,19 @@ fn on_threads<N: Room + Send + Sync, R: Threads + Wait + Copy + Send + Sync, D: 
     requires board { board ≡ N.table }
     requires seat { IsKeeper N.table seat × (seat.view ≡ opener) }
     requires opening { N.opening ≡ opening_of image.now setup.now.minor prepared.range }
-    requires sizes { N.geometry ≡ prepared.geometry }
+    requires geometry { N.geometry ≡ sizes_in (contents_at (opening_of image.now setup.now.minor prepared.range)) }
     requires policy { N.policy ≡ setup.now.policy }
     requires drivers { N.supply ≡ map D.state supply.items }
-    requires startable { IsStartable image.now setup.now (map D.state supply.items) prepared.geometry prepared.range }
+    requires prepared { IsPrepared image.now setup.now (map D.state supply.items) prepared.range }
     requires contents { prepared.media ≡ opening_media (opening_of image.now setup.now.minor prepared.range) }
     requires on_media { IsOnMedia (opening_of image.now setup.now.minor prepared.range) }
-    requires geometry { IsGeometry prepared.geometry }
     requires ready { All (IsReady (opening_of image.now setup.now.minor prepared.range)) (map D.state supply.items) }
 {
-    let Prepared {
-        media,
-        geometry,
-        ..
-    } = prepared;
+    let Prepared { media, .. } = prepared;
     let link = drivers_on(alloc, media, setup.policy, supply)?;
     let board = Arc::new(alloc, board)?;
     let noting = Noting::<N, Driven<D>>::new(alloc, link, Arc::try_clone(&board)?, seat)?;
-    over_threads(
-        alloc,
-        rt,
-        board,
-        noting,
-        setup.minor,
-        geometry,
-        setup.frames as u32,
-    )
+    Ok(over_threads(alloc, rt, board, noting, setup.minor, setup.frames as u32))
 }
 
 /// The same, over a service on the volume in an image.

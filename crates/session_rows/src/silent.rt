@@ -1,9 +1,8 @@
 //! A link to no driver.
-ghost use Rattle.std.specs.Prelude.{◌≡◌, ◌≤◌, [], IfOk, vec_len, vec_capacity};
-ghost use Rattle.inline.specs.Notes.{history_of, room_of};
+ghost use Rattle.std.specs.Prelude.{◌≡◌, [], IfOk};
 
 use endpoint::Endpoint;
-use inline::note::{Note, Notes};
+use history::History;
 use keeping::steady::{OnMedia, Steady, Supplied};
 use media::Media;
 use message::{BlockRequest, Incoming};
@@ -14,7 +13,7 @@ use std::alloc::{AllocError, Global};
 /// nothing, and it says nothing of drivers.
 #[derive(Drop)]
 pub(crate) struct Silent {
-    notes: Notes,
+    history: History,
     media: Media,
 }
 
@@ -24,34 +23,34 @@ impl Silent {
         ensures history { IfOk result (λ link. ⟦<Silent as Link>⟧.history link ≡ []) }
     {
         Ok(Silent {
-            notes: Notes::new(alloc)?,
+            history: History::new(alloc)?,
             media,
         })
     }
 }
 
 impl Link for Silent {
-    ghost history = { λ l. history_of l.notes.ended l.notes.items.items };
+    ghost history = { λ l. l.history };
 
     ghost budget_left = { λ l. 0 };
 
-    ghost room = { λ l. room_of l.notes.ended (vec_capacity l.notes.items) (vec_len l.notes.items) };
+    ghost room = { λ l. 34 };
 
     ghost truth = { λ l opening marks. Unit {0} };
 
     ghost goes_on = { λ l m. Unit {0} };
 
     fn post(&mut self, to: Endpoint, request: &BlockRequest) -> Result<(), LinkRefusal> {
-        self.notes.told(Note::Posted(to, *request, false));
+        self.history.posted(to, request, false);
         Err(LinkRefusal::DeadEndpoint)
     }
 
     fn complain(&mut self, about: Endpoint) {
-        self.notes.told(Note::Complained(about));
+        self.history.complained(about);
     }
 
     fn take(&mut self) -> Incoming {
-        self.notes.end();
+        self.history.heard(&Incoming::End);
         Incoming::End
     }
 

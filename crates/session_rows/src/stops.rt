@@ -9,10 +9,10 @@ use keeping::steady::OnMedia;
 use launch::start::{Program, serve};
 use modeldisk::FaultKind;
 use reissue::link::TrueLink;
-use samples::{new_volume, supply_of, whole};
+use samples::{MOUNT_READS, new_volume, supply_at, supply_of, whole};
 use serve::gate::Open;
 use serve::service::{Service, Shared};
-use serve::stopping::StopRefusal;
+use shared_server::stopping::StopRefusal;
 use std::alloc::Global;
 use std::sync::Wait;
 use std::test::Fail;
@@ -144,7 +144,8 @@ impl<R: Wait + Copy> Program<R> for GivesUp {
 fn the_image_of_a_given_up_device_is_as_it_was(rt: HostRuntime) -> Result<(), Fail> {
     let alloc = rt.alloc();
     let first = new_volume(alloc, 1024)?;
-    let supply = supply_of(alloc, 128, &[Some((0, FaultKind::Die))])?;
+    let dies = Some((0, FaultKind::Die));
+    let supply = supply_at(alloc, 128, MOUNT_READS + 1, &[dies])?;
     let stopped = serve(
         alloc,
         rt,

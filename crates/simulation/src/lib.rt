@@ -1,8 +1,7 @@
-//! What a program that plays schedules does: what it reads, the run, what it prints, and its status.
+//! What a program that plays schedules does, from the bytes that it reads to those that it prints, and its status.
 #![tactic(auto)]
 
-pub mod inputs;
-pub mod show;
 pub mod simulate;
 
+pub use run_texts::{inputs, show};
 pub use world;

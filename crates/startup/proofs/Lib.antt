@@ -1,2 +1,1 @@
-pub mod RootLaws
 pub mod Starts

@@ -5,12 +5,12 @@ use Rattle.std.specs.List.{list_all}
 use Rattle.std.proofs.lemmas.Bool.{and_parts, eqb-true, ltb-false}
 use Rattle.std.proofs.lemmas.List.Folds.{list_all_more, list_all-map}
 use Rattle.std.proofs.lemmas.List.Elements.{All-nil, All-cons, All-head, All-tail, All-more}
-use Rattle.marks.specs.Opening.{Opening}
+use Rattle.inline.specs.marks.Opening.{Opening}
 use Rattle.media.specs.Contents.{sectors_of}
 use Rattle.media.proofs.SectorLaws.{length-first_chunks}
-use Rattle.bdev.specs.DriverState.{DriverState, range_while_fresh}
-use Rattle.bdev.specs.Promises.{IsDriver}
-use Rattle.true_replies.specs.Events.{IsOnMedia}
+use Rattle.inline.specs.bdev.DriverState.{DriverState, range_while_fresh}
+use Rattle.inline.specs.bdev.Promises.{IsDriver}
+use Rattle.inline.specs.true_replies.Events.{IsOnMedia}
 use Rattle.inline.specs.Inline.{IsReady}
 use Rattle.media.specs.declared.MediaRefusal.TheVariants.{NotWholeSectors, TooLarge}
 use Rattle.partition.specs.declared.place.PlaceRefusal.{PlaceRefusal}

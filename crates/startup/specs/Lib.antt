@@ -1,2 +1,3 @@
+pub use Rattle.mounting.specs as mounting
 pub mod Refusals
 pub mod Starting

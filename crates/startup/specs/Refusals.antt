@@ -1,20 +1,12 @@
 -- The numbers and the texts of the refusals to start a server.
 use Rattle.std.specs.Prelude.{ℕ, List, ◌++◌, codes}
-use Rattle.layout.specs.Places.{refusal_name}
-use Rattle.volume.specs.Text.{finding_text}
 use Rattle.media.specs.Answers.{media_refusal_name}
+use Rattle.mounting.specs.Refusals.{mount_refusal_text}
 use Rattle.partition.specs.Refusals.{partition_refusal_name}
 use Rattle.partition.specs.declared.place.PlaceRefusal.{PlaceRefusal}
 use Rattle.partition.specs.declared.place.PlaceRefusal.TheVariants as place
-use Rattle.startup.specs.declared.refusal.MountRefusal.{MountRefusal}
-use Rattle.startup.specs.declared.refusal.MountRefusal.TheVariants.{Layout, Inconsistent}
 use Rattle.startup.specs.declared.refusal.StartRefusal.{StartRefusal}
 use Rattle.startup.specs.declared.refusal.StartRefusal.TheVariants.{Media, Partition, NoPartition, Mount, BadSetup, NoDriver, OutOfMemory}
-
--- the numbers of the refusals to serve a volume
-abbrev pub mount_refusal_number : MountRefusal → ℕ
-mount_refusal_number (Layout refusal) = 1
-mount_refusal_number (Inconsistent finding) = 2
 
 -- the numbers of the refusals to start
 abbrev pub start_refusal_number : StartRefusal → ℕ
@@ -25,11 +17,6 @@ start_refusal_number (Mount refusal) = 3
 start_refusal_number BadSetup = 4
 start_refusal_number NoDriver = 5
 start_refusal_number OutOfMemory = 6
-
--- the text of a refusal to serve a volume: its name, and what it carries
-abbrev pub mount_refusal_text : MountRefusal → List ℕ
-mount_refusal_text (Layout refusal) = codes "Layout " ++ refusal_name refusal
-mount_refusal_text (Inconsistent finding) = codes "Inconsistent " ++ finding_text finding
 
 -- the text of a refusal to start
 abbrev pub start_refusal_text : StartRefusal → List ℕ

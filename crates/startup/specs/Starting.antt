@@ -2,22 +2,15 @@
 use Rattle.std.specs.Prelude.{◌≡◌, ◌≢◌, ◌≤◌, ℕ, ◌%◌, Bool, not, ◌==◌, ◌&&◌, nat_lt, true, List, [], length, Option, Some, None, Result, Ok, Err, if◌then◌else◌}
 use Rattle.std.specs.List.{list_all}
 use Rattle.std.specs.Option.{option_eq}
-use Rattle.layout.specs.declared.Geometry.{Geometry}
-use Rattle.layout.specs.Places.{geometry_of}
-use Rattle.volume.specs.Reading.{disk_of}
-use Rattle.volume.specs.Pieces.{pieces}
-use Rattle.volume.specs.Findings.{lacks_root}
-use Rattle.marks.specs.Opening.{Opening, volume_bytes}
+use Rattle.inline.specs.marks.Opening.{Opening, volume_bytes}
 use Rattle.media.specs.Contents.{sectors_of}
 use Rattle.media.specs.declared.MediaRefusal.TheVariants.{NotWholeSectors, TooLarge}
-use Rattle.bdev.specs.DriverState.{DriverState, range_while_fresh}
+use Rattle.inline.specs.bdev.DriverState.{DriverState, range_while_fresh}
 use Rattle.partition.specs.declared.place.PlaceRefusal.{PlaceRefusal}
 use Rattle.partition.specs.Places.{volume_place}
 use Rattle.policy.specs.declared.Setup.{Setup}
 use Rattle.policy.specs.Policy.{IsAllowed}
 use Rattle.startup.specs.Refusals.{refusal_of_place}
-use Rattle.startup.specs.declared.refusal.MountRefusal.{MountRefusal}
-use Rattle.startup.specs.declared.refusal.MountRefusal.TheVariants.{Layout, Inconsistent}
 use Rattle.startup.specs.declared.refusal.StartRefusal.{StartRefusal}
 use Rattle.startup.specs.declared.refusal.StartRefusal.TheVariants.{Media, Partition, NoPartition, Mount, BadSetup, NoDriver, OutOfMemory}
 
@@ -66,33 +59,23 @@ IsNotSetUp setup range supply BadSetup = ¬ (IsWellSetUp setup range supply)
 IsNotSetUp setup range supply NoDriver = IsWellSetUp setup range supply × (supply ≡ [])
 IsNotSetUp setup range supply _ = ⊥
 
--- why a volume isn't served: its layout, or finding 4 at inode 1, that there is no root
-abbrev pub why_not_mounted : List ℕ → Option MountRefusal
-why_not_mounted image = elim (geometry_of image) [
-  | Err refusal ↦ Some (Layout refusal)
-  | Ok g ↦ if lacks_root g (pieces g (disk_of g image)) 1 then Some (Inconsistent (record { number = 4; place = 1 })) else None
-]
-
 -- the image makes media, and the volume lies in these sectors of them
 abbrev pub HasPlace : List ℕ → ℕ → ℕ × ℕ → Type 0
 HasPlace image minor range = (why_no_media image ≡ None) × (place_in (sectors_of image) minor ≡ Ok range)
 
--- why a server isn't started, the first reason that holds; for want of memory it may be refused wherever the image makes media
+-- why a server isn't started before its volume is looked at, the first reason that holds; for want of memory it may be refused wherever the
+-- image makes media
 abbrev pub IsRefused : List ℕ → Setup → List DriverState → StartRefusal → Type 0
 IsRefused image setup supply (Media refusal) = why_no_media image ≡ Some (Media refusal)
 IsRefused image setup supply (Partition refusal) = (why_no_media image ≡ None) × (place_in (sectors_of image) setup.minor ≡ Err (Partition refusal))
 IsRefused image setup supply NoPartition = (why_no_media image ≡ None) × (place_in (sectors_of image) setup.minor ≡ Err NoPartition)
 IsRefused image setup supply BadSetup = (range : ℕ × ℕ) × HasPlace image setup.minor range × IsNotSetUp setup range supply BadSetup
 IsRefused image setup supply NoDriver = (range : ℕ × ℕ) × HasPlace image setup.minor range × IsNotSetUp setup range supply NoDriver
-IsRefused image setup supply (Mount refusal) =
-    (range : ℕ × ℕ) × HasPlace image setup.minor range × IsWellSetUp setup range supply × (supply ≢ [])
-    × (why_not_mounted (bytes_of image range) ≡ Some refusal)
+IsRefused image setup supply (Mount refusal) = ⊥
 IsRefused image setup supply OutOfMemory = why_no_media image ≡ None
 
--- a server starts on the image: the volume of these sizes lies there, and there are drivers, all ready
-pub record IsStartable (image : List ℕ) (setup : Setup) (supply : List DriverState) (g : Geometry) (range : ℕ × ℕ) : Type 0 where
+-- all stands ready: the volume lies in this range of the image, and there are drivers, all ready for it
+pub record IsPrepared (image : List ℕ) (setup : Setup) (supply : List DriverState) (range : ℕ × ℕ) : Type 0 where
   pub place : HasPlace image setup.minor range
   pub set_up : IsWellSetUp setup range supply
   pub some : supply ≢ []
-  pub geometry : geometry_of (bytes_of image range) ≡ Ok g
-  pub mounted : why_not_mounted (bytes_of image range) ≡ None

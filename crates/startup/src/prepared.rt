@@ -1,43 +1,26 @@
-//! The volume in an image, and drivers that are ready for it.
+//! The media that hold an image, where the volume lies on them, and drivers that are ready for it.
 
 ghost use Rattle.std.specs.Prelude.{◌≡◌, ◌≢◌, ◌↔◌, ◌/◌, ◌+◌, ◌^◌, ◌<◌, ◌≤◌, [], IfErr, IfOk, OnOk, IsTrue, None, Some, Ok, Err, All, length, map};
 ghost use Rattle.std.specs.Bool.{OnTrue};
 ghost use Rattle.std.specs.List.{list_all};
-ghost use Rattle.layout.specs.Places.{geometry_of, IsGeometry};
-ghost use Rattle.volume.specs.Entries.{is_directory_inode};
-ghost use Rattle.volume.specs.Pieces.{pieces};
-ghost use Rattle.volume.specs.Reading.{disk_of};
 ghost use Rattle.media.specs.Contents.{sectors_of};
-ghost use Rattle.bdev.specs.Promises.{IsDriver};
+ghost use Rattle.inline.specs.bdev.Promises.{IsDriver};
 ghost use Rattle.inline.specs.Inline.{IsReady};
-ghost use Rattle.true_replies.specs.Events.{IsOnMedia, opening_media};
-ghost use Rattle.startup.specs.Starting.{bytes_of, opening_of, place_in as place_by, is_ready_for, IsInRanges, why_no_media, why_not_mounted, IsNotSetUp, IsWellSetUp, IsRefused, IsStartable};
+ghost use Rattle.inline.specs.true_replies.Events.{IsOnMedia, opening_media};
+ghost use Rattle.startup.specs.Starting.{opening_of, place_in as place_by, is_ready_for, IsInRanges, why_no_media, IsNotSetUp, IsWellSetUp, IsPrepared, IsRefused};
 
-use crate::refusal::{MountRefusal, StartRefusal};
+use crate::refusal::StartRefusal;
 use inline::local::LocalDriver;
-use layout::{Geometry, u16_at};
 use media::{Media, MediaRefusal, SECTOR};
 use partition::volume_place;
 use policy::Setup;
 use std::alloc::Global;
-use volume::Finding;
 
-/// The type of directories, in the four highest bits of a mode.
-const DIRECTORY: u16 = 4;
-
-/// No inode is marked as the root, or it is no directory.
-const NO_ROOT: Finding = Finding {
-    number: 4,
-    place: 1,
-};
-
-/// What a server starts on: media on which no driver was started, and the volume that lies on them.
+/// What a server starts on: media on which no driver was started, and where the volume lies on them.
 #[derive(Drop)]
 pub struct Prepared {
     /// All the image's sectors.
     pub media: Media,
-    /// The volume's sizes, by its superblock.
-    pub geometry: Geometry,
     /// The volume's first sector, and how many sectors its range has.
     pub range: (u32, u32),
 }
@@ -113,42 +96,13 @@ pub fn check_setup<D: LocalDriver>(
     Ok(())
 }
 
-/// Whether inode 1 is marked and is a directory.
-#[tactic(auto, using(crate::proofs::RootLaws::root_is, crate::proofs::RootLaws::root_within))]
-fn has_root(geometry: &Geometry, volume: &[u8]) -> bool
-    requires { geometry_of volume.now ≡ Ok geometry.now }
-    ensures { result ≡ is_directory_inode geometry.now (pieces geometry.now (disk_of geometry.now volume.now)) 1 }
-{
-    let block = geometry.block_size as usize;
-    let table = (2 + geometry.inode_map_blocks + geometry.zone_map_blocks) as usize;
-    let is_marked = volume[2 * block] / 2 % 2 == 1;
-    is_marked && u16_at(volume, table * block) >> 12 == DIRECTORY
-}
-
-/// The sizes of the volume in these bytes, or why it isn't served.
-fn volume_in(volume: &[u8]) -> Result<Geometry, MountRefusal>
-    ensures refusal { IfErr result (λ e. why_not_mounted volume.now ≡ Some e) }
-    ensures ok { IfOk result (λ g. (geometry_of volume.now ≡ Ok g) × (why_not_mounted volume.now ≡ None)) }
-{
-    match Geometry::parse(volume) {
-        Ok(geometry) => {
-            if has_root(&geometry, volume) {
-                Ok(geometry)
-            } else {
-                Err(MountRefusal::Inconsistent(NO_ROOT))
-            }
-        }
-        Err(refusal) => Err(MountRefusal::Layout(refusal)),
-    }
-}
-
 /// What a server needs to start on an image with drivers that stand ready: the media, and where the volume of the setup's minor
 /// lies on them.
 ///
 /// It is refused where the image makes no media; where there is no such partition; where a number of the setup isn't in its
-/// range, or a driver isn't ready for the volume's sectors; where there is no driver; where the superblock is refused; and where
-/// inode 1 isn't marked or no directory, which is finding 4 at inode 1. The first of these that holds is answered. Where the
-/// image makes media, it may also be refused for want of memory, whatever else holds. Nothing else of the image is looked at.
+/// range, or a driver isn't ready for the volume's sectors; and where there is no driver. The first of these that holds is answered. Where
+/// the image makes media, it may also be refused for want of memory, whatever else holds. Nothing else of the image is looked at: the
+/// volume in it is read, and checked, through the drivers.
 pub fn prepare<D: LocalDriver>(
     alloc: Global,
     image: &[u8],
@@ -157,9 +111,8 @@ pub fn prepare<D: LocalDriver>(
 ) -> Result<Prepared, StartRefusal>
     ensures refusal { IfErr result (IsRefused image.now setup.now (map D.state supply.now)) }
     ensures media { (e : StartRefusal) → why_no_media image.now ≡ Some e → result ≡ Err e }
-    ensures ok { IfOk result (λ p. IsStartable image.now setup.now (map D.state supply.now) p.geometry p.range) }
+    ensures ok { IfOk result (λ p. IsPrepared image.now setup.now (map D.state supply.now) p.range) }
     ensures contents { IfOk result (λ p. p.media ≡ opening_media (opening_of image.now setup.now.minor p.range)) }
-    ensures sizes { IfOk result (λ p. IsGeometry p.geometry) }
     ensures ready { IfOk result (λ p. All (IsReady (opening_of image.now setup.now.minor p.range)) (map D.state supply.now)) }
     ensures on_media { IfOk result (λ p. IsOnMedia (opening_of image.now setup.now.minor p.range)) }
 {
@@ -167,12 +120,5 @@ pub fn prepare<D: LocalDriver>(
     let (sectors, _) = image.as_chunks::<SECTOR>();
     let range = place_in(sectors, setup.minor)?;
     check_setup(setup, range, supply)?;
-    let first = SECTOR * range.0 as usize;
-    let volume = &image[first..first + SECTOR * range.1 as usize];
-    let geometry = volume_in(volume)?;
-    Ok(Prepared {
-        media,
-        geometry,
-        range,
-    })
+    Ok(Prepared { media, range })
 }

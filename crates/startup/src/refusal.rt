@@ -1,49 +1,13 @@
 //! Why a file server isn't started.
 
 ghost use Rattle.std.specs.Prelude.{◌≡◌, Some};
-ghost use Rattle.startup.specs.Refusals.{mount_refusal_number, mount_refusal_text, start_refusal_number, start_refusal_text};
+ghost use Rattle.startup.specs.Refusals.{start_refusal_number, start_refusal_text};
 
-use layout::LayoutRefusal;
 use media::MediaRefusal;
+use mounting::MountRefusal;
 use partition::{PartitionRefusal, PlaceRefusal};
 use std::alloc::AllocError;
 use std::{error, fmt};
-use volume::Finding;
-
-/// Why a volume isn't served.
-#[derive(Clone, Copy, Debug, Drop, PartialEq, Eq)]
-pub enum MountRefusal {
-    /// Its superblock is refused.
-    Layout(LayoutRefusal),
-    /// It breaks a rule of the format.
-    Inconsistent(Finding),
-}
-
-/// Writes the name, and what it carries.
-impl fmt::Display for MountRefusal {
-    ghost output = { λ refusal. Some (mount_refusal_text refusal) };
-
-    fn fmt<W: fmt::Write>(&self, f: &mut fmt::Formatter<W>) -> fmt::Result {
-        match self {
-            MountRefusal::Layout(refusal) => write!(f, "Layout {refusal}"),
-            MountRefusal::Inconsistent(finding) => write!(f, "Inconsistent {finding}"),
-        }
-    }
-}
-
-impl error::Error for MountRefusal {}
-
-impl MountRefusal {
-    /// Its number: 1 or 2.
-    pub fn number(&self) -> u32
-        ensures { result ≡ mount_refusal_number self.now }
-    {
-        match self {
-            MountRefusal::Layout(_) => 1,
-            MountRefusal::Inconsistent(_) => 2,
-        }
-    }
-}
 
 /// Why a server isn't started. Nothing is left running, and the image is as it was.
 #[derive(Clone, Copy, Debug, Drop, PartialEq, Eq)]
@@ -54,7 +18,7 @@ pub enum StartRefusal {
     Partition(PartitionRefusal),
     /// The media have no partition of this minor, or it isn't of MINIX's type.
     NoPartition,
-    /// The volume is refused.
+    /// The volume isn't mounted.
     Mount(MountRefusal),
     /// A number of the setup isn't in its range, or some driver isn't ready for the range of the media that the volume lies in.
     BadSetup,
@@ -107,16 +71,6 @@ impl From<AllocError> for StartRefusal {
 
     fn from(_error: AllocError) -> StartRefusal {
         StartRefusal::OutOfMemory
-    }
-}
-
-impl From<MountRefusal> for StartRefusal {
-    ghost use Rattle.startup.specs.declared.refusal.StartRefusal.TheVariants.{Mount};
-
-    ghost from_gives = { λ refusal e. e ≡ Mount refusal };
-
-    fn from(refusal: MountRefusal) -> StartRefusal {
-        StartRefusal::Mount(refusal)
     }
 }
 

@@ -1,9 +1,9 @@
 -- Calls of a cache, as blocks have them.
 use Rattle.std.proofs.Common.{◌≡◌, ℕ, List, sym, ap, subst, ◌∙◌, None}
 use Rattle.std.specs.Prelude.{Result, Ok, Err}
-use Rattle.volume.specs.Reading.{Disk}
-use Rattle.marks.specs.Told.{Told, grown}
-use Rattle.marks.specs.Disk.{HasTrueReplies}
+use Rattle.store.specs.volume.Reading.{Disk}
+use Rattle.reissue.specs.marks.Told.{Told, grown}
+use Rattle.reissue.specs.marks.Disk.{HasTrueReplies}
 use Rattle.reissue.specs.Moves.{DiskState, state_after}
 use Rattle.cache.specs.Calls.{Caching, Runs, Keeps, Serves, Blanks, Rewrites}
 use Rattle.cache.specs.Frames.{view, with_bytes}

@@ -4,14 +4,14 @@ use Rattle.std.specs.Prelude.{◌+◌, ◌*◌, take, if◌then◌else◌}
 use Rattle.std.proofs.lemmas.List.{append_cancel_right, get_or_past, length-take}
 use Rattle.std.proofs.lemmas.Bool.{le-ltb}
 use Rattle.std.proofs.Math.Nat.{le_trans, min-le_left}
-use Rattle.volume.specs.Reading.{Disk}
-use Rattle.marks.specs.Marks.{Mark}
-use Rattle.marks.specs.Told.{Told, grown}
-use Rattle.marks.specs.Disk.{Contents, HasTrueReplies}
+use Rattle.store.specs.volume.Reading.{Disk}
+use Rattle.reissue.specs.marks.Marks.{Mark}
+use Rattle.reissue.specs.marks.Told.{Told, grown}
+use Rattle.reissue.specs.marks.Disk.{Contents, HasTrueReplies}
 use Rattle.reissue.specs.Moves.{DiskState, state_after}
 use Rattle.reissue.proofs.Joining.{grown_append}
-use Rattle.cache.specs.declared.slots.Slot.{Slot}
-use Rattle.legal.specs.View.{frame_or}
+use Rattle.cache.specs.slots.declared.slot.Slot.{Slot}
+use Rattle.cache.specs.legal.View.{frame_or}
 use Rattle.cache.specs.Calls.{Caching, IsReady}
 use Rattle.cache.specs.Frames.{CacheAgrees, frames_of, frame_of, view, disk_block}
 use Rattle.cache.proofs.Runs.{runs_none, runs_then, true_before}
@@ -75,7 +75,7 @@ ends c w block o past = by (c.held block)
   where
     by : (x : Option Slot) → frame_or (frame_of c.size x) (disk_block c.size w block) o ≡ 0
     by None = ap (λ (b : Bool). if b then w.disk (block * c.size + o) else 0) (le-ltb o c.size past)
-    by (Some s) = get_or_past (take c.size s.bytes) o 0 (le_trans (subst (λ (n : ℕ). n ≤ c.size) (sym (length-take c.size s.bytes)) (min-le_left c.size (length s.bytes))) past)
+    by (Some s) = get_or_past (take c.size s.bytes.value) o 0 (le_trans (subst (λ (n : ℕ). n ≤ c.size) (sym (length-take c.size s.bytes.value)) (min-le_left c.size (length s.bytes.value))) past)
 
 -- the laws
 pub is_world : {B : Type 0} (f : B → Caching) (goes : B → B → Type 0) → ((a : B) → goes a a)

@@ -6,9 +6,9 @@ ghost use Rattle.stored.specs.World.{stored_caching};
 
 use cache::{Cache, CacheRefusal};
 use endpoint::{DISK_DRIVER, Endpoint};
-use inline::note::Note;
 use layout::Geometry;
 use list_link::ListLink;
+use list_link::note::Note;
 use message::{BlockReply, BlockRequest, Incoming, Kind};
 use reissue::{Link, Transfers};
 use std::alloc::{AllocError, Global};

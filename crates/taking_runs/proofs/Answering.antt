@@ -2,15 +2,15 @@
 use Rattle.std.proofs.Common.{◌≡◌, ℕ, ◌+◌, ◌<◌, List, [], ◌∷◌, ◌++◌, Bool, true, false, refl, sym, ◌∙◌, ap, subst, arith}
 use Rattle.std.proofs.lemmas.Bool.Decides.{nat_tests}
 use Rattle.std.specs.Prelude.{◌&&◌, nat_lt, Option, Some, None, IfSome, IsSomeAnd}
-use Rattle.message.specs.declared.BlockRequest.{BlockRequest}
-use Rattle.message.specs.declared.BlockReply.{BlockReply}
-use Rattle.bdev.specs.declared.Answer.{Answer}
-use Rattle.bdev.specs.DriverState.{DriverState, Work}
-use Rattle.bdev.specs.Promises.{Takes}
-use Rattle.marks.specs.Open.{IsIn}
-use Rattle.schedule.specs.Groups.{Each}
-use Rattle.true_replies.specs.Events.{reply_of}
-use Rattle.taking_runs.specs.Took.{IsNew}
+use Rattle.justified_runs.specs.message.declared.BlockRequest.{BlockRequest}
+use Rattle.justified_runs.specs.message.declared.BlockReply.{BlockReply}
+use Rattle.justified_runs.specs.bdev.declared.Answer.{Answer}
+use Rattle.justified_runs.specs.bdev.DriverState.{DriverState, Work}
+use Rattle.justified_runs.specs.bdev.Promises.{Takes}
+use Rattle.justified_runs.specs.marks.Open.{IsIn}
+use Rattle.justified_runs.specs.schedule.Groups.{Each}
+use Rattle.justified_runs.specs.true_replies.Events.{reply_of}
+use Rattle.taking_runs.specs.Took.{TookNothing}
 use Rattle.taking_runs.proofs.Small.{and_left, and_right, none_more, each_push, each_on}
 use Rattle.taking_runs.proofs.DriverMoves.{Handing, Leaves, IsOld, IsTaken, Stepping, Idles, GoesOn, Ends}
 use Rattle.taking_runs.proofs.TakingLaws.{new_idle, Taken, taken_first, taken_hands, taken_steps, taken_again, taken_issues, some_if}
@@ -48,7 +48,7 @@ limit_some_and (Some w) n P h = refl
 pub limit_taken : (q : BlockRequest) (b a : DriverState) → Takes b q a → limit a ≡ q.id
 limit_taken q b a takes = limit_some_and a.work a.last (λ w. (w.request ≡ q) × ((k : ℕ) → w.moved k ≡ false)) takes.work ∙ takes.last
 
-pub replied_first : (d : DriverState) → IsNew d → Replied [] [] d []
+pub replied_first : (d : DriverState) → TookNothing d → Replied [] [] d []
 replied_first d new = record {
   taken = taken_first d new;
   done = tt;

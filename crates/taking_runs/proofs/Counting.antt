@@ -1,16 +1,16 @@
 -- A driver counts its replies that aren't good.
 use Rattle.std.proofs.Common.{◌≡◌, ℕ, ◌+◌, ◌<◌, List, [], ◌∷◌, ◌++◌, Bool, true, false, refl, sym, ◌∙◌, ap, subst, arith, inl, inr}
 use Rattle.std.specs.Prelude.{◌==◌, not, if◌then◌else◌, Option, Some, None, Result, Ok, Err, IfSome, is_some}
-use Rattle.errno.specs.declared.Errno.{Errno}
-use Rattle.message.specs.Good.{is_good, moved}
-use Rattle.message.specs.declared.BlockRequest.{BlockRequest}
-use Rattle.message.specs.declared.BlockReply.{BlockReply}
-use Rattle.bdev.specs.DriverState.{DriverState, Work}
-use Rattle.marks.specs.Open.{IsIn, moved_of}
-use Rattle.schedule.specs.Groups.{Each}
-use Rattle.true_replies.specs.Events.{reply_of}
-use Rattle.justifying.proofs.FollowLaws.{same_number, other_number}
-use Rattle.taking_runs.specs.Took.{IsNew}
+use Rattle.justified_runs.specs.errno.declared.Errno.{Errno}
+use Rattle.justified_runs.specs.message.Good.{is_good, moved}
+use Rattle.justified_runs.specs.message.declared.BlockRequest.{BlockRequest}
+use Rattle.justified_runs.specs.message.declared.BlockReply.{BlockReply}
+use Rattle.justified_runs.specs.bdev.DriverState.{DriverState, Work}
+use Rattle.justified_runs.specs.marks.Open.{IsIn, moved_of}
+use Rattle.justified_runs.specs.schedule.Groups.{Each}
+use Rattle.justified_runs.specs.true_replies.Events.{reply_of}
+use Rattle.justified_runs.proofs.justifying.FollowLaws.{same_number, other_number}
+use Rattle.taking_runs.specs.Took.{TookNothing}
 use Rattle.taking_runs.proofs.Small.{or_right, none_more, each_push, each_on, each_in}
 use Rattle.taking_runs.proofs.Moves.{answers_of}
 use Rattle.taking_runs.proofs.DriverMoves.{Handing, Leaves, IsOld, IsTaken, handing, Stepping, Idles, GoesOn, Ends, stepping}
@@ -45,7 +45,7 @@ pub record Counts (issued : List BlockRequest) (replies : List BlockReply) (d : 
   pub asked : Each (λ a. has_id a.id issued ≡ true) replies
   pub bad : d.bad ≡ bad_among issued replies
 
-counts_first : (d : DriverState) → IsNew d → Counts [] [] d []
+counts_first : (d : DriverState) → TookNothing d → Counts [] [] d []
 counts_first d new = record { leads = leads_first d new; rising = tt; asked = tt; bad = (new_idle d new).bad }
 
 counts_hands : (issued : List BlockRequest) (replies : List BlockReply) (b a : DriverState) (line left : List BlockRequest)

@@ -1,19 +1,19 @@
 -- What a driver does with the front of its line, and in a step, as far as what it took and answered goes.
 use Rattle.std.proofs.Common.{◌≡◌, ℕ, ◌+◌, ◌<◌, ◌≤◌, List, [], ◌∷◌, refl, sym, ◌∙◌, ap, subst, inl, inr}
 use Rattle.std.specs.Prelude.{Option, Some, None, if◌then◌else◌}
-use Rattle.message.specs.Good.{is_good}
-use Rattle.message.specs.declared.BlockRequest.{BlockRequest}
-use Rattle.message.specs.declared.BlockReply.{BlockReply}
-use Rattle.media.specs.Contents.{MediaState}
-use Rattle.bdev.specs.declared.Accept.{Accept}
-use Rattle.bdev.specs.declared.Accept.TheVariants.{Taken, Busy, Old}
-use Rattle.bdev.specs.declared.Answer.{Answer}
-use Rattle.bdev.specs.declared.Step.{Step}
-use Rattle.bdev.specs.declared.Step.TheVariants.{Working, Idle, Done, Failed}
-use Rattle.bdev.specs.DriverState.{DriverState, Work}
-use Rattle.bdev.specs.Promises.{Takes, AcceptKeeps, MovesAtMostOne, Says, SaysIdle, StepsAt, StepKeeps}
-use Rattle.inline.specs.Steps.{HandsOver}
-use Rattle.true_replies.specs.Events.{reply_of, line_after}
+use Rattle.justified_runs.specs.message.Good.{is_good}
+use Rattle.justified_runs.specs.message.declared.BlockRequest.{BlockRequest}
+use Rattle.justified_runs.specs.message.declared.BlockReply.{BlockReply}
+use Rattle.justified_runs.specs.media.Contents.{MediaState}
+use Rattle.justified_runs.specs.bdev.declared.Accept.{Accept}
+use Rattle.justified_runs.specs.bdev.declared.Accept.TheVariants.{Taken, Busy, Old}
+use Rattle.justified_runs.specs.bdev.declared.Answer.{Answer}
+use Rattle.justified_runs.specs.bdev.declared.Step.{Step}
+use Rattle.justified_runs.specs.bdev.declared.Step.TheVariants.{Working, Idle, Done, Failed}
+use Rattle.justified_runs.specs.bdev.DriverState.{DriverState, Work}
+use Rattle.justified_runs.specs.bdev.Promises.{Takes, AcceptKeeps, MovesAtMostOne, Says, SaysIdle, StepsAt, StepKeeps}
+use Rattle.justified_runs.specs.inline.Steps.{HandsOver}
+use Rattle.justified_runs.specs.true_replies.Events.{reply_of, line_after}
 use Rattle.taking_runs.proofs.Moves.{answers_of}
 
 -- none waits; the driver is busy; the request at the front is old; it is taken

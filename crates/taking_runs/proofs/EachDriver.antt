@@ -2,26 +2,26 @@
 use Rattle.std.proofs.Common.{◌≡◌, ℕ, zero, suc, ◌+◌, ◌<◌, List, [], ◌∷◌, ◌++◌, length, true, false, refl, sym, ◌∙◌, ap, subst, arith, ◌⊎◌, inl, inr}
 use Rattle.std.proofs.lemmas.Option.{slice_get_within}
 use Rattle.std.specs.Prelude.{Option, Some, None, slice_get, slice_set}
-use Rattle.endpoint.specs.declared.Endpoint.{Endpoint}
-use Rattle.message.specs.declared.BlockRequest.{BlockRequest}
-use Rattle.message.specs.declared.BlockReply.{BlockReply}
-use Rattle.media.specs.Contents.{MediaState}
-use Rattle.bdev.specs.declared.Step.{Step}
-use Rattle.bdev.specs.DriverState.{DriverState}
-use Rattle.bdev.specs.Promises.{StepKeeps, IsDriver}
-use Rattle.marks.specs.Marks.{Mark, Started, Issued}
-use Rattle.marks.specs.Open.{IsIn}
-use Rattle.schedule.specs.declared.Sent.{Sent}
-use Rattle.schedule.specs.Groups.{Each}
-use Rattle.schedule.specs.Drivers.{requests_issued_to}
-use Rattle.inline.specs.Steps.{HandsOver}
-use Rattle.true_replies.specs.Posted.{since_start}
-use Rattle.run_log.specs.declared.log.Post.{Post}
-use Rattle.driver_events.specs.Disks.{Disks, Slot, started, is_at, lined_up}
-use Rattle.justifying.specs.Core.{Core}
-use Rattle.justifying.specs.Steady.{AllSlots}
-use Rattle.justifying.proofs.SlotLaws.{push_get, same_slot}
-use Rattle.taking_runs.specs.Took.{IsNew, replies_from}
+use Rattle.justified_runs.specs.endpoint.declared.Endpoint.{Endpoint}
+use Rattle.justified_runs.specs.message.declared.BlockRequest.{BlockRequest}
+use Rattle.justified_runs.specs.message.declared.BlockReply.{BlockReply}
+use Rattle.justified_runs.specs.media.Contents.{MediaState}
+use Rattle.justified_runs.specs.bdev.declared.Step.{Step}
+use Rattle.justified_runs.specs.bdev.DriverState.{DriverState}
+use Rattle.justified_runs.specs.bdev.Promises.{StepKeeps, IsDriver}
+use Rattle.justified_runs.specs.marks.Marks.{Mark, Started, Issued}
+use Rattle.justified_runs.specs.marks.Open.{IsIn}
+use Rattle.justified_runs.specs.schedule.declared.Sent.{Sent}
+use Rattle.justified_runs.specs.schedule.Groups.{Each}
+use Rattle.justified_runs.specs.schedule.Drivers.{requests_issued_to}
+use Rattle.justified_runs.specs.inline.Steps.{HandsOver}
+use Rattle.justified_runs.specs.true_replies.Posted.{since_start}
+use Rattle.justified_runs.specs.run_log.declared.log.Post.{Post}
+use Rattle.justified_runs.specs.driver_events.Disks.{Disks, Slot, started, is_at, lined_up}
+use Rattle.justified_runs.specs.justifying.Core.{Core}
+use Rattle.justified_runs.specs.justifying.Steady.{AllSlots}
+use Rattle.justified_runs.proofs.justifying.SlotLaws.{push_get, same_slot}
+use Rattle.taking_runs.specs.Took.{TookNothing, replies_from}
 use Rattle.taking_runs.proofs.Small.{none_more}
 use Rattle.taking_runs.proofs.Moves.{answers_of, SlotMoves, Turns, StepsSo, Again, Touches, TheLast, AnOlder, Move, Stays, OneMoves, Issues, StartsOne}
 use Rattle.taking_runs.proofs.IssuedLaws.{PostsWere, Known, ToLast, to_last, issued_own, issued_other, next_generation}
@@ -111,7 +111,7 @@ post_there marks (q ∷ posts) (suc n) p there h = post_there marks posts n p th
 pub record Keeps (Fit : List Mark → Type 0)
     (Holds : List BlockRequest → List BlockReply → DriverState → List BlockRequest → Type 0) : Type 0 where
   pub shorter : (m : Mark) (marks : List Mark) → Fit (m ∷ marks) → Fit marks
-  pub at_first : (d : DriverState) → IsNew d → Holds [] [] d []
+  pub at_first : (d : DriverState) → TookNothing d → Holds [] [] d []
   pub steps : (issued : List BlockRequest) (replies : List BlockReply) (b : DriverState) (line : List BlockRequest) (handed : DriverState)
       (left : List BlockRequest) (m : MediaState) (g : ℕ) (step : Step) (a : DriverState) (m' : MediaState) → HandsOver b line handed left
       → IsDriver handed → StepKeeps handed m g step a m' → Holds issued replies b line → Holds issued (replies ++ answers_of g step) a left
@@ -202,7 +202,7 @@ module _ (Fit : List Mark → Type 0) (Holds : List BlockRequest → List BlockR
       (started_slots (HoldsOf before c.disks.sent) (HoldsOf (Started e ∷ before) c.disks.sent) c.disks d k.numbered (λ n s was. was)
       (holds_as _ _ _ _ first first (k.unstarted (c.disks.media.generation + 1) (omega arith))
       (k.silent (c.disks.media.generation + 1) (omega arith)) refl refl
-      (keeps.at_first d (subst (λ (l : List DriverState). Each IsNew l) spare k.new).0))
+      (keeps.at_first d (subst (λ (l : List DriverState). Each TookNothing l) spare k.new).0))
       (h (keeps.shorter (Started e) before fit))) where
         first : Slot
         first = record { state = d; live = true; hung = false; line = [] }

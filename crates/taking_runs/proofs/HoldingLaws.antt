@@ -1,16 +1,16 @@
 -- What is kept of each driver, and what was issued, each event and what is done within one keep.
 use Rattle.std.proofs.Common.{◌≡◌, ℕ, ◌+◌, List, ◌∷◌, ◌++◌, sym, subst}
 use Rattle.std.proofs.lemmas.List.{append_assoc}
-use Rattle.message.specs.declared.BlockRequest.{BlockRequest}
-use Rattle.message.specs.declared.BlockReply.{BlockReply}
-use Rattle.bdev.specs.DriverState.{DriverState}
-use Rattle.marks.specs.Marks.{Mark}
-use Rattle.schedule.specs.declared.Event.{Event}
-use Rattle.schedule.specs.Groups.{Group, marks_of}
-use Rattle.justifying.specs.Core.{Core, FollowsGroups}
-use Rattle.justifying.specs.Happens.{Begins, Adds}
-use Rattle.justifying.specs.Steady.{IsKept, AllSlots}
-use Rattle.justifying.proofs.TickLaws.{follows_begins, follows_adds}
+use Rattle.justified_runs.specs.message.declared.BlockRequest.{BlockRequest}
+use Rattle.justified_runs.specs.message.declared.BlockReply.{BlockReply}
+use Rattle.justified_runs.specs.bdev.DriverState.{DriverState}
+use Rattle.justified_runs.specs.marks.Marks.{Mark}
+use Rattle.justified_runs.specs.schedule.declared.Event.{Event}
+use Rattle.justified_runs.specs.schedule.Groups.{Group, marks_of}
+use Rattle.justified_runs.specs.justifying.Core.{Core, FollowsGroups}
+use Rattle.justified_runs.specs.justifying.Happens.{Begins, Adds}
+use Rattle.justified_runs.specs.justifying.Steady.{IsKept, AllSlots}
+use Rattle.justified_runs.proofs.justifying.TickLaws.{follows_begins, follows_adds}
 use Rattle.taking_runs.specs.Took.{IssuedSoFar}
 use Rattle.taking_runs.proofs.Moves.{Move, begins_move, adds_move}
 use Rattle.taking_runs.proofs.IssuedLaws.{Known, known_moves}

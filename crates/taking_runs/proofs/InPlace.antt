@@ -2,17 +2,17 @@
 use Rattle.std.proofs.Common.{◌≡◌, ℕ, ◌+◌, ◌<◌, List, [], ◌∷◌, ◌++◌, Bool, true, false, sym, ap, subst, arith, ◌⊎◌, inl, inr}
 use Rattle.std.proofs.lemmas.Bool.Decides.{nat_tests}
 use Rattle.std.specs.Prelude.{◌&&◌, ◌||◌, ◌==◌, not, max, nat_lt, if◌then◌else◌}
-use Rattle.endpoint.specs.declared.Endpoint.{Endpoint}
-use Rattle.message.specs.declared.BlockRequest.{BlockRequest}
-use Rattle.marks.specs.Marks.{Mark, Started, Answered, Flush, GaveUp, Took, Issued, Fault, gave_up}
-use Rattle.marks.specs.Open.{IsIn, IsNew, IsAgain, IsWellFormed, greatest, open_requests}
-use Rattle.marks.proofs.OpenRequests.{open_after_issue, open_answered}
-use Rattle.schedule.specs.Groups.{Group, marks_of, Each, EachGroup}
-use Rattle.schedule.specs.Drivers.{is_live, requests_issued_to}
-use Rattle.schedule.specs.Starts.{is_among_first, may_issue, are_issued_in_place}
-use Rattle.true_replies.specs.Posted.{since_start}
-use Rattle.taking_runs.specs.TookLaws.{PlacedAsDue}
+use Rattle.justified_runs.specs.endpoint.declared.Endpoint.{Endpoint}
+use Rattle.justified_runs.specs.message.declared.BlockRequest.{BlockRequest}
+use Rattle.justified_runs.specs.marks.Marks.{Mark, Started, Answered, Flush, GaveUp, Took, Issued, Fault, gave_up}
+use Rattle.justified_runs.specs.marks.Open.{IsIn, IsNew, IsAgain, IsWellFormed, greatest, open_requests}
+use Rattle.justified_runs.proofs.marks.OpenRequests.{open_after_issue, open_answered}
+use Rattle.justified_runs.specs.schedule.Groups.{Group, marks_of, Each, EachGroup}
+use Rattle.justified_runs.specs.schedule.Drivers.{is_live, requests_issued_to}
+use Rattle.justified_runs.specs.schedule.Starts.{is_among_first, may_issue, are_issued_in_place}
+use Rattle.justified_runs.specs.true_replies.Posted.{since_start}
 use Rattle.taking_runs.proofs.Small.{and_left, and_right, either, each_on}
+use Rattle.justified_runs.specs.Said.{PlacedAsDue}
 
 -- each id is above 0, and above all that were issued, or above those issued since the last start, and before it no other mark
 abbrev pub AreInPlace : List Mark → Type 0

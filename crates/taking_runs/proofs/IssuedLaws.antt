@@ -1,21 +1,21 @@
 -- What was issued to each driver: each event keeps it, and so does what is done within one.
 use Rattle.std.proofs.Common.{◌≡◌, ℕ, zero, suc, ◌+◌, ◌<◌, ◌≤◌, List, [], ◌∷◌, ◌++◌, length, Bool, true, false, refl, sym, ◌∙◌, ap, subst, arith, inl, inr}
 use Rattle.std.specs.Prelude.{◌&&◌, ◌==◌, max, if◌then◌else◌, slice_set}
-use Rattle.endpoint.specs.declared.Endpoint.{Endpoint}
-use Rattle.message.specs.declared.BlockRequest.{BlockRequest}
-use Rattle.message.specs.declared.BlockReply.{BlockReply}
-use Rattle.bdev.specs.DriverState.{DriverState}
-use Rattle.marks.specs.Marks.{Mark, Started, Issued}
-use Rattle.marks.specs.Open.{IsIn}
-use Rattle.schedule.specs.Groups.{Each}
-use Rattle.schedule.specs.Drivers.{requests_issued_to}
-use Rattle.true_replies.specs.Posted.{since_start}
-use Rattle.run_log.specs.declared.log.Post.{Post}
-use Rattle.driver_events.specs.Disks.{Disks, Slot, started, is_at, lined_up}
-use Rattle.justifying.specs.Core.{Core}
-use Rattle.justifying.proofs.FollowLaws.{same_number, other_number}
-use Rattle.justifying.proofs.ExitLaws.{length_more}
-use Rattle.taking_runs.specs.Took.{IsNew, replies_from}
+use Rattle.justified_runs.specs.endpoint.declared.Endpoint.{Endpoint}
+use Rattle.justified_runs.specs.message.declared.BlockRequest.{BlockRequest}
+use Rattle.justified_runs.specs.message.declared.BlockReply.{BlockReply}
+use Rattle.justified_runs.specs.bdev.DriverState.{DriverState}
+use Rattle.justified_runs.specs.marks.Marks.{Mark, Started, Issued}
+use Rattle.justified_runs.specs.marks.Open.{IsIn}
+use Rattle.justified_runs.specs.schedule.Groups.{Each}
+use Rattle.justified_runs.specs.schedule.Drivers.{requests_issued_to}
+use Rattle.justified_runs.specs.true_replies.Posted.{since_start}
+use Rattle.justified_runs.specs.run_log.declared.log.Post.{Post}
+use Rattle.justified_runs.specs.driver_events.Disks.{Disks, Slot, started, is_at, lined_up}
+use Rattle.justified_runs.specs.justifying.Core.{Core}
+use Rattle.justified_runs.proofs.justifying.FollowLaws.{same_number, other_number}
+use Rattle.justified_runs.proofs.justifying.ExitLaws.{length_more}
+use Rattle.taking_runs.specs.Took.{TookNothing, replies_from}
 use Rattle.taking_runs.proofs.Small.{and_left, and_right, number_is}
 use Rattle.taking_runs.proofs.Moves.{IsQuiet, Touches, TheLast, AnOlder, SentBy, Move, Stays, OneMoves, Issues, StartsOne}
 
@@ -26,7 +26,7 @@ PostsWere marks posts = Each (λ p. IsIn p.request (requests_issued_to p.to.gene
 -- what is known of what was issued, by the record, the drivers, those that are left, and the accepted posts
 pub record Known (marks : List Mark) (d : Disks) (supply : List DriverState) (posts : List Post) : Type 0 where
   pub numbered : length d.older + 1 ≡ d.media.generation
-  pub new : Each IsNew supply
+  pub new : Each TookNothing supply
   pub posted : PostsWere marks posts
   pub since : requests_issued_to d.media.generation marks ≡ since_start marks
   pub unstarted : (h : ℕ) → d.media.generation < h → requests_issued_to h marks ≡ []

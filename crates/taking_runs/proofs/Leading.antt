@@ -1,14 +1,14 @@
 -- A driver takes what was issued to it in its order, and answers each once.
 use Rattle.std.proofs.Common.{◌≡◌, ℕ, ◌+◌, ◌<◌, ◌≤◌, List, [], ◌∷◌, ◌++◌, Bool, true, false, refl, sym, ◌∙◌, ap, subst, arith, ◌⊎◌, inl, inr}
 use Rattle.std.specs.Prelude.{◌||◌, ◌==◌, max, if◌then◌else◌, Option, Some, None}
-use Rattle.message.specs.declared.BlockRequest.{BlockRequest}
-use Rattle.message.specs.declared.BlockReply.{BlockReply}
-use Rattle.bdev.specs.DriverState.{DriverState, Work}
-use Rattle.marks.specs.Open.{IsIn}
-use Rattle.schedule.specs.Groups.{Each}
-use Rattle.true_replies.specs.Events.{reply_of}
-use Rattle.justifying.proofs.FollowLaws.{same_number, other_number}
-use Rattle.taking_runs.specs.Took.{IsNew}
+use Rattle.justified_runs.specs.message.declared.BlockRequest.{BlockRequest}
+use Rattle.justified_runs.specs.message.declared.BlockReply.{BlockReply}
+use Rattle.justified_runs.specs.bdev.DriverState.{DriverState, Work}
+use Rattle.justified_runs.specs.marks.Open.{IsIn}
+use Rattle.justified_runs.specs.schedule.Groups.{Each}
+use Rattle.justified_runs.specs.true_replies.Events.{reply_of}
+use Rattle.justified_runs.proofs.justifying.FollowLaws.{same_number, other_number}
+use Rattle.taking_runs.specs.Took.{TookNothing}
 use Rattle.taking_runs.proofs.Small.{number_is, none_more, each_on, each_with, each_in}
 use Rattle.taking_runs.proofs.DriverMoves.{Handing, Leaves, IsOld, IsTaken, Stepping, Idles, GoesOn, Ends}
 use Rattle.taking_runs.proofs.TakingLaws.{has_id, Taken}
@@ -58,7 +58,7 @@ leads_issues issued id (q ∷ line) r above among h = (
   less : (m n : ℕ) → m < n → m ≤ n
   less m n h = omega (arith, h)
 
-pub leads_first : (d : DriverState) → IsNew d → Leads [] [] d []
+pub leads_first : (d : DriverState) → TookNothing d → Leads [] [] d []
 leads_first d new = record { replied = replied_first d new; leads = tt; one = tt }
 
 -- the front of the line

@@ -1,30 +1,30 @@
 -- What each event, and what is done within one, does to the drivers and to what was issued to them.
 use Rattle.std.proofs.Common.{◌≡◌, ℕ, ◌+◌, List, [], ◌∷◌, ◌++◌, Bool, true, false, refl, sym, ◌∙◌, ap, subst}
 use Rattle.std.specs.Prelude.{◌==◌, if◌then◌else◌, Option, Some, None, Result, Ok, slice_get, slice_set}
-use Rattle.endpoint.specs.declared.Endpoint.{Endpoint}
-use Rattle.message.specs.declared.BlockRequest.{BlockRequest}
-use Rattle.message.specs.declared.BlockReply.{BlockReply}
-use Rattle.media.specs.Contents.{MediaState}
-use Rattle.bdev.specs.declared.Step.{Step}
-use Rattle.bdev.specs.declared.Step.TheVariants.{Working, Idle, Done, Failed}
-use Rattle.bdev.specs.DriverState.{DriverState}
-use Rattle.policy.specs.Watch.{driver}
-use Rattle.marks.specs.Marks.{Mark, Started, Issued}
-use Rattle.marks.specs.declared.Cause.{Cause}
-use Rattle.marks.specs.declared.Cause.TheVariants.{Exit, Hung}
-use Rattle.schedule.specs.declared.Sent.{Sent}
-use Rattle.schedule.specs.declared.Event.{Event}
-use Rattle.schedule.specs.Groups.{Group}
-use Rattle.schedule.specs.Drivers.{requests_issued_to}
-use Rattle.true_replies.specs.Posted.{since_start}
-use Rattle.true_replies.specs.Events.{reply_of}
-use Rattle.reissue.specs.declared.link.LinkRefusal.{LinkRefusal}
-use Rattle.run_log.specs.declared.log.Post.{Post}
-use Rattle.driver_events.specs.Disks.{Disks, Slot, SlotSteps, IsOlder, started, sent_at, is_at, lined_up, Steps, NoStep, CurrentSteps, OlderSteps, Dies, NoneDies, CurrentDies, OlderDies, Hangs, NoneHangs, CurrentHangs, OlderHangs, LinesUp, NoneIsThere, LineIsFull, IsLinedUp, LinesUpAgain, NoneLinesUp, CurrentLinesUp, OlderLinesUp, Repeats}
-use Rattle.justifying.specs.Core.{Core}
-use Rattle.justifying.specs.Happens.{fault_marks, exit_marks, blame_marks, beaten_core, TicksTo, Beats, MissesOne, FoundHung, WaitsOn, StartsNext, IsOver, Begins, Arrives, Flushes, Answers, Drops, Delivers, LinesAgain, HangsOne, StepsOne, FailsOne, DiesNone, DiesOne, Ticks, Adds, AddsNothing, Posts, Replies, Complains, Pays}
-use Rattle.justifying.proofs.DiskMoves.{steps_generation, dies_generation}
-use Rattle.justifying.proofs.FollowLaws.{same_number, other_number}
+use Rattle.justified_runs.specs.endpoint.declared.Endpoint.{Endpoint}
+use Rattle.justified_runs.specs.message.declared.BlockRequest.{BlockRequest}
+use Rattle.justified_runs.specs.message.declared.BlockReply.{BlockReply}
+use Rattle.justified_runs.specs.media.Contents.{MediaState}
+use Rattle.justified_runs.specs.bdev.declared.Step.{Step}
+use Rattle.justified_runs.specs.bdev.declared.Step.TheVariants.{Working, Idle, Done, Failed}
+use Rattle.justified_runs.specs.bdev.DriverState.{DriverState}
+use Rattle.justified_runs.specs.policy.Watch.{driver}
+use Rattle.justified_runs.specs.marks.Marks.{Mark, Started, Issued}
+use Rattle.justified_runs.specs.marks.declared.Cause.{Cause}
+use Rattle.justified_runs.specs.marks.declared.Cause.TheVariants.{Exit, Hung}
+use Rattle.justified_runs.specs.schedule.declared.Sent.{Sent}
+use Rattle.justified_runs.specs.schedule.declared.Event.{Event}
+use Rattle.justified_runs.specs.schedule.Groups.{Group}
+use Rattle.justified_runs.specs.schedule.Drivers.{requests_issued_to}
+use Rattle.justified_runs.specs.true_replies.Posted.{since_start}
+use Rattle.justified_runs.specs.true_replies.Events.{reply_of}
+use Rattle.justified_runs.specs.reissue.declared.link.LinkRefusal.{LinkRefusal}
+use Rattle.justified_runs.specs.run_log.declared.log.Post.{Post}
+use Rattle.justified_runs.specs.driver_events.Disks.{Disks, Slot, SlotSteps, IsOlder, started, sent_at, is_at, lined_up, Steps, NoStep, CurrentSteps, OlderSteps, Dies, NoneDies, CurrentDies, OlderDies, Hangs, NoneHangs, CurrentHangs, OlderHangs, LinesUp, NoneIsThere, LineIsFull, IsLinedUp, LinesUpAgain, NoneLinesUp, CurrentLinesUp, OlderLinesUp, Repeats}
+use Rattle.justified_runs.specs.justifying.Core.{Core}
+use Rattle.justified_runs.specs.justifying.Happens.{fault_marks, exit_marks, blame_marks, beaten_core, TicksTo, Beats, MissesOne, FoundHung, WaitsOn, StartsNext, IsOver, Begins, Arrives, Flushes, Answers, Drops, Delivers, LinesAgain, HangsOne, StepsOne, FailsOne, DiesNone, DiesOne, Ticks, Adds, AddsNothing, Posts, Replies, Complains, Pays}
+use Rattle.justified_runs.proofs.justifying.DiskMoves.{steps_generation, dies_generation}
+use Rattle.justified_runs.proofs.justifying.FollowLaws.{same_number, other_number}
 use Rattle.taking_runs.specs.Took.{replies_from}
 use Rattle.taking_runs.proofs.Small.{none_more}
 

@@ -2,10 +2,10 @@
 use Rattle.std.proofs.Common.{◌≡◌, ℕ, [], ◌∷◌, Bool, true, false}
 use Rattle.std.proofs.lemmas.List.Elements.{All-head, All-tail}
 use Rattle.std.specs.Prelude.{◌&&◌, ◌==◌, not, if◌then◌else◌, Option, Some, None}
-use Rattle.bdev.specs.DriverState.{DriverState, range_of, range_while_fresh}
-use Rattle.marks.specs.Opening.{Opening}
-use Rattle.inline.specs.Inline.{IsReady}
-use Rattle.taking_runs.specs.Took.{IsNew}
+use Rattle.justified_runs.specs.bdev.DriverState.{DriverState, range_of, range_while_fresh}
+use Rattle.justified_runs.specs.marks.Opening.{Opening}
+use Rattle.justified_runs.specs.inline.Inline.{IsReady}
+use Rattle.taking_runs.specs.Took.{TookNothing}
 use Rattle.taking_runs.specs.TookLaws.{ReadyAreNew}
 use Rattle.taking_runs.proofs.Small.{number_is}
 
@@ -15,7 +15,7 @@ unused d minor range ready = number_is d.last 0 (by (d.last == 0) (not d.failed)
   by true c found h = cc
   by false c found h = cc
 
-ready_new : (v : Opening) (d : DriverState) → IsReady v d → IsNew d
+ready_new : (v : Opening) (d : DriverState) → IsReady v d → TookNothing d
 ready_new v d ready = record { driver = ready.driver; unused = unused d v.minor (v.first, v.count) ready.ready }
 
 pub ready_are_new : ReadyAreNew

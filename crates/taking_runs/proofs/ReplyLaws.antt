@@ -2,18 +2,18 @@
 use Rattle.std.proofs.Common.{◌≡◌, ℕ, ◌+◌, ◌<◌, ◌≤◌, List, [], ◌∷◌, length, Bool, true, false, refl, sym, ◌∙◌, ap, subst, arith, ◌⊎◌, inl, inr}
 use Rattle.std.proofs.lemmas.Bool.Decides.{nat_tests}
 use Rattle.std.specs.Prelude.{◌&&◌, ◌||◌, ◌==◌, not, max, nat_le, nat_lt, if◌then◌else◌, Option, Some, None, IfSome, is_some}
-use Rattle.endpoint.specs.declared.Endpoint.{Endpoint}
-use Rattle.message.specs.declared.BlockRequest.{BlockRequest}
-use Rattle.bdev.specs.DriverState.{DriverState, Work}
-use Rattle.policy.specs.Watch.{driver}
-use Rattle.marks.specs.Marks.{Mark, Started, Answered, Flush, GaveUp, Took, Issued, Fault}
-use Rattle.marks.specs.Open.{IsIn, IsNew as IsNewId, IsAgain, IsWellFormed, greatest, moved_of, open_requests}
-use Rattle.marks.proofs.OpenRequests.{open_below, open_after_issue, open_answered, one_id}
-use Rattle.schedule.specs.declared.Sent.{Sent}
-use Rattle.schedule.specs.Groups.{Group, marks_of, Each}
-use Rattle.schedule.specs.Drivers.{requests_issued_to}
-use Rattle.schedule.specs.Replies.{issued_with, is_good_reply, bad_of, replies_of, is_working_on, is_done_with, IsRepliedTo, IsOfItsDriver, are_ids_rising, RepliesOf}
-use Rattle.justifying.proofs.FollowLaws.{same_number, other_number}
+use Rattle.justified_runs.specs.endpoint.declared.Endpoint.{Endpoint}
+use Rattle.justified_runs.specs.message.declared.BlockRequest.{BlockRequest}
+use Rattle.justified_runs.specs.bdev.DriverState.{DriverState, Work}
+use Rattle.justified_runs.specs.policy.Watch.{driver}
+use Rattle.justified_runs.specs.marks.Marks.{Mark, Started, Answered, Flush, GaveUp, Took, Issued, Fault}
+use Rattle.justified_runs.specs.marks.Open.{IsIn, IsNew, IsAgain, IsWellFormed, greatest, moved_of, open_requests}
+use Rattle.justified_runs.proofs.marks.OpenRequests.{open_below, open_after_issue, open_answered, one_id}
+use Rattle.justified_runs.specs.schedule.declared.Sent.{Sent}
+use Rattle.justified_runs.specs.schedule.Groups.{Group, marks_of, Each}
+use Rattle.justified_runs.specs.schedule.Drivers.{requests_issued_to}
+use Rattle.justified_runs.specs.schedule.Replies.{issued_with, is_good_reply, bad_of, replies_of, is_working_on, is_done_with, IsRepliedTo, IsOfItsDriver, are_ids_rising, RepliesOf}
+use Rattle.justified_runs.proofs.justifying.FollowLaws.{same_number, other_number}
 use Rattle.justified_runs.specs.Said.{core_of}
 use Rattle.taking_runs.specs.Took.{replies_from}
 use Rattle.taking_runs.specs.TookLaws.{RunsKeepReplies}
@@ -119,7 +119,7 @@ one_reply g d sent (Issued r e ∷ marks) h =
       by later false is k = (λ same done. absurd (other is same), later k)
 
 -- a request whose id isn't above the greatest is issued again
-again_where_low : (marks : List Mark) (r : BlockRequest) → r.id ≤ greatest marks → IsNewId marks r ⊎ IsAgain marks r → IsAgain marks r
+again_where_low : (marks : List Mark) (r : BlockRequest) → r.id ≤ greatest marks → IsNew marks r ⊎ IsAgain marks r → IsAgain marks r
 again_where_low marks r low (inl new) = absurd (not_both r.id (greatest marks) low new.next) where
   not_both : (m n : ℕ) → m ≤ n → m ≡ n + 1 → ⊥
   not_both m n low is = omega (arith, low, is)
@@ -136,7 +136,7 @@ open_issued (Took who now call reply ∷ marks) q w is = open_issued marks q w.0
 open_issued (Fault e cause ∷ marks) q w is = open_issued marks q w.0 is
 open_issued (Issued r e ∷ marks) q w is =
     by (λ k. open_issued marks q w.0 k) (r.id == q.id) refl ((open_after_issue marks r e w.1.1).only q is) w.1.1 where
-      same_one : IsIn q (open_requests marks) → r.id ≡ q.id → IsNewId marks r ⊎ IsAgain marks r → r ≡ q
+      same_one : IsIn q (open_requests marks) → r.id ≡ q.id → IsNew marks r ⊎ IsAgain marks r → r ≡ q
       same_one k e how =
           let low : r.id ≤ greatest marks = subst (λ (n : ℕ). n ≤ greatest marks) (sym e) (open_below marks q k) in
           one_id marks w.0 r q (again_where_low marks r low how).same k e
@@ -145,7 +145,7 @@ open_issued (Issued r e ∷ marks) q w is =
       differ is e = clash (sym (ap (λ (x : BlockRequest). r.id == x.id) e ∙ same_number r.id) ∙ is)
 
       by : (IsIn q (open_requests marks) → issued_with q.id marks ≡ Some q) → (b : Bool) → (r.id == q.id) ≡ b
-          → IsIn q (open_requests marks) ⊎ ((q ≡ r) × (r.id ≡ greatest marks + 1)) → IsNewId marks r ⊎ IsAgain marks r
+          → IsIn q (open_requests marks) ⊎ ((q ≡ r) × (r.id ≡ greatest marks + 1)) → IsNew marks r ⊎ IsAgain marks r
           → (if b then Some r else issued_with q.id marks) ≡ Some q
       by later true is (inl k) how = ap (λ (x : BlockRequest). Some x) (same_one k (number_is r.id q.id is) how)
       by later true is (inr k) how = ap (λ (x : BlockRequest). Some x) (sym k.0)
@@ -190,7 +190,7 @@ same_request g id (Took who now call reply ∷ marks) w has = same_request g id 
 same_request g id (Fault e cause ∷ marks) w has = same_request g id marks w.0 has
 same_request g id (Issued r e ∷ marks) w has =
     by (λ k. same_request g id marks w.0 k) ((e.slot == 1) && (e.generation == g)) (r.id == id) refl has where
-      again : (r.id == id) ≡ true → has_id id (requests_issued_to g marks) ≡ true → IsNewId marks r ⊎ IsAgain marks r
+      again : (r.id == id) ≡ true → has_id id (requests_issued_to g marks) ≡ true → IsNew marks r ⊎ IsAgain marks r
           → Some r ≡ issued_with id marks
       again is k how =
           let same : r.id ≡ id = number_is r.id id is in

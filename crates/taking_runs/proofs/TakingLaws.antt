@@ -1,31 +1,31 @@
 -- What stands with a driver was issued to it.
 use Rattle.std.proofs.Common.{◌≡◌, ℕ, zero, suc, ◌+◌, ◌≤◌, List, [], ◌∷◌, ◌++◌, length, Bool, true, false, refl, sym, ◌∙◌, ap, subst, arith, ◌⊎◌, inl, inr}
 use Rattle.std.specs.Prelude.{◌&&◌, ◌||◌, ◌==◌, if◌then◌else◌, map, Option, Some, None, IfSome, IsSomeAnd, slice_get}
-use Rattle.message.specs.declared.BlockRequest.{BlockRequest}
-use Rattle.message.specs.declared.BlockReply.{BlockReply}
-use Rattle.media.specs.Contents.{MediaState}
-use Rattle.bdev.specs.DriverState.{DriverState, Work}
-use Rattle.bdev.specs.Promises.{requests_in_work}
-use Rattle.policy.specs.declared.Policy.{Policy}
-use Rattle.policy.specs.Watch.{new_watch}
-use Rattle.marks.specs.Marks.{Mark, Started, Answered, Flush, GaveUp, Took, Issued, Fault}
-use Rattle.marks.specs.Open.{IsIn}
-use Rattle.schedule.specs.declared.Sent.{Sent}
-use Rattle.schedule.specs.declared.Event.{Event}
-use Rattle.schedule.specs.Groups.{Group, marks_of, Each}
-use Rattle.schedule.specs.Drivers.{state_of, is_issued_to, requests_issued_to, TookItsOwn}
-use Rattle.driver_events.specs.Disks.{Disks, Slot}
-use Rattle.playing.specs.PlayView.{IsOpened}
-use Rattle.playing.specs.Moments.{Moment, Resting, Runs}
-use Rattle.justifying.specs.Core.{Core}
-use Rattle.justifying.specs.Seen.{core_at}
-use Rattle.justifying.specs.Steady.{IsKept, AllSlots, state_in, drivers_of}
-use Rattle.justifying.proofs.FollowLaws.{same_number}
-use Rattle.justifying.proofs.SlotLaws.{push_get, same_slot}
+use Rattle.justified_runs.specs.message.declared.BlockRequest.{BlockRequest}
+use Rattle.justified_runs.specs.message.declared.BlockReply.{BlockReply}
+use Rattle.justified_runs.specs.media.Contents.{MediaState}
+use Rattle.justified_runs.specs.bdev.DriverState.{DriverState, Work}
+use Rattle.justified_runs.specs.bdev.Promises.{requests_in_work}
+use Rattle.justified_runs.specs.policy.declared.Policy.{Policy}
+use Rattle.justified_runs.specs.policy.Watch.{new_watch}
+use Rattle.justified_runs.specs.marks.Marks.{Mark, Started, Answered, Flush, GaveUp, Took, Issued, Fault}
+use Rattle.justified_runs.specs.marks.Open.{IsIn}
+use Rattle.justified_runs.specs.schedule.declared.Sent.{Sent}
+use Rattle.justified_runs.specs.schedule.declared.Event.{Event}
+use Rattle.justified_runs.specs.schedule.Groups.{Group, marks_of, Each}
+use Rattle.justified_runs.specs.schedule.Drivers.{state_of, is_issued_to, requests_issued_to, TookItsOwn}
+use Rattle.justified_runs.specs.driver_events.Disks.{Disks, Slot}
+use Rattle.justified_runs.specs.playing.PlayView.{IsOpened}
+use Rattle.justified_runs.specs.playing.Moments.{Moment, Resting, Runs}
+use Rattle.justified_runs.specs.justifying.Core.{Core}
+use Rattle.justified_runs.specs.justifying.Seen.{core_at}
+use Rattle.justified_runs.specs.justifying.Steady.{IsKept, AllSlots, state_in, drivers_of}
+use Rattle.justified_runs.proofs.justifying.FollowLaws.{same_number}
+use Rattle.justified_runs.proofs.justifying.SlotLaws.{push_get, same_slot}
 use Rattle.justified_runs.specs.Said.{core_of}
 use Rattle.justified_runs.proofs.SaidLaws.{runs_said}
 use Rattle.justified_runs.proofs.OpeningLaws.{opened_scene, opened_said, opened_follows, begins_before, calm_before}
-use Rattle.taking_runs.specs.Took.{IsNew, replies_from, IssuedSoFar, SlotTook, TookSoFar}
+use Rattle.taking_runs.specs.Took.{TookNothing, replies_from, IssuedSoFar, SlotTook, TookSoFar}
 use Rattle.taking_runs.specs.TookLaws.{TookIsKept, RunsGiveTook, RunsKeepTook}
 use Rattle.taking_runs.proofs.Small.{or_right, each_push, each_on}
 use Rattle.taking_runs.proofs.Moves.{answers_of}
@@ -55,7 +55,7 @@ pub record IsIdle (d : DriverState) : Type 0 where
   pub work : d.work ≡ None
   pub bad : d.bad ≡ 0
 
-pub new_idle : (d : DriverState) → IsNew d → IsIdle d
+pub new_idle : (d : DriverState) → TookNothing d → IsIdle d
 new_idle d new = record { work = by d.work refl; bad = none } where
   none : d.bad ≡ 0
   none = let few : d.bad + requests_in_work d.work ≤ d.last = new.driver.bad_is_few in
@@ -69,7 +69,7 @@ new_idle d new = record { work = by d.work refl; bad = none } where
   by (Some w) is =
       absurd (clash d.last (subst (λ (o : Option Work). d.bad + requests_in_work o ≤ d.last) is new.driver.bad_is_few) new.unused)
 
-pub taken_first : (d : DriverState) → IsNew d → Taken [] [] d []
+pub taken_first : (d : DriverState) → TookNothing d → Taken [] [] d []
 taken_first d new = record {
   last = ap (λ (n : ℕ). (n == 0) || false) new.unused;
   work = subst (λ (o : Option Work). IfSome o (λ w. (w.request.id ≡ d.last) × IsIn w.request [])) (sym (new_idle d new).work) tt;
@@ -233,7 +233,7 @@ took_kept drivers =
 -- before the first event nothing was issued
 pub opened_issued : (media : MediaState) (rules : Policy) (supply : List DriverState) (first : DriverState) (rest : List DriverState)
     → media.generation ≡ 0
-    → supply ≡ first ∷ rest → Each IsNew rest
+    → supply ≡ first ∷ rest → Each TookNothing rest
     → IssuedSoFar (length supply) [] (core_at (opened_scene media rules (length supply) first rest) false false)
 opened_issued media rules supply first rest new spare fresh = record {
   follows = opened_follows media rules supply first rest new spare;
@@ -249,11 +249,11 @@ opened_issued media rules supply first rest new spare fresh = record {
 module _ (Fit : List Mark → Type 0) (Holds : List BlockRequest → List BlockReply → DriverState → List BlockRequest → Type 0)
     (keeps : Keeps Fit Holds) where
   pub runs_hold : (media : MediaState) (rules : Policy) (supply : List DriverState) (events : List Event) (minor : ℕ) (b a : Moment)
-      → media.generation ≡ 0 → Each IsNew supply → IsOpened media rules (new_watch (length supply)) supply events b.play → b.doing ≡ Resting
+      → media.generation ≡ 0 → Each TookNothing supply → IsOpened media rules (new_watch (length supply)) supply events b.play → b.doing ≡ Resting
       → Runs minor b a → HoldsSoFar Fit Holds keeps (length supply) a.play.next a.play.scene.noted.groups (core_of a.play)
   runs_hold media rules supply events minor b a new fresh o rests runs =
       let n : ℕ = length supply in
-      let all : Each IsNew (o.scene.first ∷ o.scene.rest) = subst (λ (l : List DriverState). Each IsNew l) o.scene.spare fresh in
+      let all : Each TookNothing (o.scene.first ∷ o.scene.rest) = subst (λ (l : List DriverState). Each TookNothing l) o.scene.spare fresh in
       (runs_said (HoldsSoFar Fit Holds keeps n) (holds_kept Fit Holds keeps n) minor b a runs (calm_before media rules supply events b o)
       (begins_before media rules supply events b o rests)
       (opened_said (HoldsSoFar Fit Holds keeps n) media rules supply events b.play o (record {

@@ -1,19 +1,19 @@
 -- What was issued to each driver of a run, what it took of that, and what it answered.
 use Rattle.std.specs.Prelude.{◌≡◌, ℕ, ◌+◌, ◌<◌, List, [], ◌∷◌, length, ◌==◌, if◌then◌else◌}
-use Rattle.message.specs.declared.BlockReply.{BlockReply}
-use Rattle.bdev.specs.DriverState.{DriverState}
-use Rattle.bdev.specs.Promises.{IsDriver}
-use Rattle.marks.specs.Open.{IsIn}
-use Rattle.schedule.specs.declared.Sent.{Sent}
-use Rattle.schedule.specs.Groups.{Group, marks_of, Each}
-use Rattle.schedule.specs.Drivers.{requests_issued_to, TookItsOwn}
-use Rattle.true_replies.specs.Posted.{since_start}
-use Rattle.driver_events.specs.Disks.{Slot}
-use Rattle.justifying.specs.Core.{Core, FollowsGroups}
-use Rattle.justifying.specs.Steady.{AllSlots}
+use Rattle.justified_runs.specs.message.declared.BlockReply.{BlockReply}
+use Rattle.justified_runs.specs.bdev.DriverState.{DriverState}
+use Rattle.justified_runs.specs.bdev.Promises.{IsDriver}
+use Rattle.justified_runs.specs.marks.Open.{IsIn}
+use Rattle.justified_runs.specs.schedule.declared.Sent.{Sent}
+use Rattle.justified_runs.specs.schedule.Groups.{Group, marks_of, Each}
+use Rattle.justified_runs.specs.schedule.Drivers.{requests_issued_to, TookItsOwn}
+use Rattle.justified_runs.specs.true_replies.Posted.{since_start}
+use Rattle.justified_runs.specs.driver_events.Disks.{Slot}
+use Rattle.justified_runs.specs.justifying.Core.{Core, FollowsGroups}
+use Rattle.justified_runs.specs.justifying.Steady.{AllSlots}
 
 -- a driver that was handed in: it took nothing
-pub record IsNew (d : DriverState) : Type 0 where
+pub record TookNothing (d : DriverState) : Type 0 where
   pub driver : IsDriver d
   pub unused : d.last ≡ 0
 
@@ -28,7 +28,7 @@ replies_from g (s ∷ sent) = if s.reply.from.generation == g then s.reply ∷ r
 pub record IssuedSoFar (drivers : ℕ) (groups : List Group) (c : Core) : Type 0 where
   pub follows : FollowsGroups drivers groups c
   pub numbered : length c.disks.older + 1 ≡ c.disks.media.generation
-  pub new : Each IsNew c.supply
+  pub new : Each TookNothing c.supply
   pub posts : Each (λ p. IsIn p.request (requests_issued_to p.to.generation (marks_of groups))) c.posts
   pub since : requests_issued_to c.disks.media.generation (marks_of groups) ≡ since_start (marks_of groups)
   pub unstarted : (h : ℕ) → c.disks.media.generation < h → requests_issued_to h (marks_of groups) ≡ []

@@ -1,4 +1,4 @@
-//! Rows of schedules and transcripts as text: every kind of line, and lines that can't be read. Each expected value is the format's, or
+//! Rows of calls and schedules as text: every kind of line, and lines that can't be read. Each expected value is the format's, or
 //! worked out by hand.
 #![tactic(auto)]
 
@@ -6,5 +6,3 @@
 mod calls;
 #[cfg(test)]
 mod schedules;
-#[cfg(test)]
-mod transcripts;

@@ -1,4 +1,3 @@
 pub mod Played
-pub mod Served
 pub mod Status
 pub mod Refusals

@@ -1,12 +1,13 @@
 -- What playing scripts comes to.
-use Rattle.std.specs.Prelude.{◌≡◌, ◌⊎◌, ℕ, List, ◌++◌, Bool, true, false, ◌||◌, codes, Option, Some, None, IsSome}
+use Rattle.std.specs.Prelude.{◌≡◌, ◌⊎◌, ℕ, List, Bool, true, false, ◌||◌, codes, Option, Some, None}
 use Rattle.std.specs.Borrow.{Bor}
 use Rattle.std.specs.List.{list_any}
-use Rattle.layout.specs.declared.Geometry.{Geometry}
-use Rattle.bdev.specs.DriverState.{DriverState}
+use Rattle.volume_tools.specs.layout.declared.Geometry.{Geometry}
+use Rattle.inline.specs.bdev.DriverState.{DriverState}
 use Rattle.policy.specs.declared.Setup.{Setup}
 use Rattle.startup.specs.Refusals.{start_refusal_text}
-use Rattle.startup.specs.Starting.{opening_of, IsStartable, IsRefused}
+use Rattle.startup.specs.Starting.{opening_of}
+use Rattle.service_play.specs.launch.Ran.{IsNotStarted, IsStartable}
 use Rattle.script_text.specs.declared.timed.TimedCall.{TimedCall}
 use Rattle.script_files.specs.declared.File.{File}
 use Rattle.script_files.specs.declared.FileRefusal.{FileRefusal}
@@ -15,9 +16,9 @@ use Rattle.script_files.specs.Files as files
 use Rattle.session_text.specs.declared.answers.Played.{Played}
 use Rattle.session_text.specs.Answers.{sessions_text}
 use Rattle.script_play.specs.Made.{has_eio}
-use Rattle.tools.specs.Served.{AreServed, service_text}
+use Rattle.service_play.specs.Served.{AreServed, service_text}
 use Rattle.tools.specs.Status.{is_given_up}
-use Rattle.tools.specs.declared.players.LastSync.{LastSync}
+use Rattle.service_play.specs.declared.players.LastSync.{LastSync}
 use Rattle.tools.specs.declared.play.PlayRefusal.{PlayRefusal}
 use Rattle.tools.specs.declared.play.PlayRefusal.TheVariants.{Files, Start, Service, OutOfMemory, NotWritten}
 
@@ -53,7 +54,7 @@ AreUnread (Some bytes) name scripts refusal = files.IsRefused scripts refusal
 abbrev pub IsUnplayed : File → List File → Setup → List DriverState → PlayRefusal → Type 0
 IsUnplayed image scripts setup supply (Files refusal) = AreUnread image.bytes image.name scripts refusal
 IsUnplayed image scripts setup supply (Start refusal) =
-    ((bytes : Bor (List ℕ)) × (image.bytes ≡ Some bytes) × IsRefused bytes.now setup supply refusal)
+    ((bytes : Bor (List ℕ)) × (image.bytes ≡ Some bytes) × IsNotStarted bytes.now setup supply refusal)
     × ((calls : List (ℕ × ℕ × List TimedCall)) × files.AreScripts scripts calls)
 IsUnplayed image scripts setup supply (Service refusal) =
     ((bytes : Bor (List ℕ)) × (g : Geometry) × (range : ℕ × ℕ) × IsStarted image setup supply bytes g range)

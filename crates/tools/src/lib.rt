@@ -2,7 +2,6 @@
 #![tactic(auto)]
 
 pub mod play;
-pub mod players;
 
 pub use output;
 pub use volume_tools::{make, verify};

@@ -13,9 +13,7 @@ ghost use Rattle.tools.specs.Status.{status_number, gave_of, is_given_up, IsWhol
 ghost use Rattle.script_text.specs.Said.{said};
 ghost use Rattle.script_files.specs.Files.{AreScripts};
 
-use crate::players::{Came, LastSync, Players, ServiceRefusal};
 use inline::local::LocalDriver;
-use launch::start::serve;
 pub use output::Told;
 use output::{OutputRefusal, tell};
 use policy::Setup;
@@ -23,7 +21,7 @@ pub use script_files::File;
 use script_files::{FileRefusal, read_scripts};
 use script_play::turns::has_eio;
 use script_text::script::Script;
-use serve::gate::Open;
+use service_play::{Came, LastSync, ServiceRefusal, play_scripts};
 use session_text::answers::write_sessions;
 use startup::StartRefusal;
 use std::alloc::Global;
@@ -168,8 +166,7 @@ fn run<'n, R: Wait + Copy, D: LocalDriver>(
         Ok(read) => read,
         Err(refusal) => return Err(PlayRefusal::Files(refusal)),
     };
-    let players = Players { alloc, scripts };
-    match serve(alloc, rt, image, setup, supply, Open, players) {
+    match play_scripts(alloc, rt, image, scripts, setup, supply) {
         Ok(Ok(came)) => Ok(came),
         Ok(Err(refusal)) => Err(PlayRefusal::Service(refusal)),
         Err(refusal) => Err(PlayRefusal::Start(refusal)),

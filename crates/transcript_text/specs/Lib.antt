@@ -1,1 +1,3 @@
+pub use Rattle.marks.specs as marks
+pub use Rattle.tree.specs as tree
 pub mod Text

@@ -3,7 +3,7 @@ ghost use Rattle.std.specs.Prelude.{◌≡◌, ◌<◌, ◌≤◌, ◌+◌, ◌^
 ghost use Rattle.reissue.specs.Transfers.{table_of, link_of, begun_in};
 ghost use Rattle.reissue.specs.Posts.{HasRoom};
 ghost use Rattle.reissue.specs.Moves.{Begun};
-ghost use Rattle.cache.specs.Frames.{IsOfBlock};
+ghost use Rattle.frame_samples.specs.cache.Frames.{IsOfBlock};
 
 use frame_samples::lists::{driver, moved, started, told};
 use list_link::ListLink;

@@ -1,3 +1,4 @@
+pub use Rattle.layout.proofs as layout
 pub mod Maps
 pub mod Pages
 pub mod Leaves

@@ -1,4 +1,6 @@
 -- The file tree of a volume, and the client calls on it.
+pub use Rattle.layout.specs as layout
+pub use Rattle.errno.specs as errno
 pub mod Sums
 pub mod ZonesNeeded
 pub mod ZonesNeededByPlace

@@ -1,7 +1,7 @@
 -- The calls that set attributes keep a tree a tree.
 use Rattle.std.proofs.Common.{◌≡◌, ℕ, refl, ap}
 use Rattle.std.specs.Prelude.{Some}
-use Rattle.layout.specs.declared.Geometry.{Geometry}
+use Rattle.tree.specs.layout.declared.Geometry.{Geometry}
 use Rattle.tree.specs.declared.Call.TheVariants.{Chmod, Chown, Utime}
 use Rattle.tree.specs.Tree.{Node, Tree, is_dir, names_of, parent_of, with_node}
 use Rattle.tree.specs.IsTree.{IsNode, IsTree}

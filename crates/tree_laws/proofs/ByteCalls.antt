@@ -1,7 +1,7 @@
 -- Write and truncate keep a tree a tree.
 use Rattle.std.proofs.Common.{◌≡◌, ◌<◌, ◌^◌, ℕ, length, refl, sym, ap, subst}
 use Rattle.std.specs.Prelude.{Some}
-use Rattle.layout.specs.declared.Geometry.{Geometry}
+use Rattle.tree.specs.layout.declared.Geometry.{Geometry}
 use Rattle.tree.specs.declared.Call.TheVariants.{Write, Truncate}
 use Rattle.tree.specs.Tree.{File, is_file, Node, Tree, is_dir, names_of, parent_of, with_node}
 use Rattle.tree.specs.IsTree.{IsFile, IsBody, IsNode, IsTree}

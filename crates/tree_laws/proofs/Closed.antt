@@ -3,7 +3,7 @@ use Rattle.std.proofs.Common.{◌≡◌, ◌≢◌, ℕ, true, false, refl, sym,
 use mathlib.Core.Logic.{inl, inr}
 use Rattle.std.specs.Prelude.{Option, None, Some, is_some, IsTrue}
 use Rattle.std.proofs.lemmas.Bool.{cases_eq, cond_both, eqb-true}
-use Rattle.layout.specs.declared.Geometry.{Geometry}
+use Rattle.tree.specs.layout.declared.Geometry.{Geometry}
 use Rattle.tree.specs.declared.Call.TheVariants.{Close}
 use Rattle.tree.specs.Tree.{OpenFile, Tree, opens, is_open, has_descriptor, with_open_file, with_descriptor, most_open_files}
 use Rattle.tree.specs.IsTree.{IsTree}

@@ -5,7 +5,7 @@ use Rattle.std.specs.Prelude.{Option, None, Some, nat_lt, not, ◌&&◌, if◌th
 use Rattle.std.specs.Ordering.{eq_by_cmp}
 use Rattle.std.proofs.Math.Nat.{div-mul-le_self, le-div_iff_mul-le}
 use Rattle.std.proofs.lemmas.Bool.{cases_eq, cond_both, cond-true, and_parts, ltb-true, lt-ltb}
-use Rattle.layout.specs.declared.Geometry.{Geometry}
+use Rattle.tree.specs.layout.declared.Geometry.{Geometry}
 use Rattle.tree.specs.Sums.{sum_below, count_below, some_below, one_if, put}
 use Rattle.tree.specs.ZonesNeeded.{page_limit, from_page, quotients, zones_needed}
 use Rattle.tree.specs.Names.{Name, Names, name_cmp, without_name}

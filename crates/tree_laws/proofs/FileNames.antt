@@ -1,7 +1,7 @@
 -- Where only names of files change, and their links with them, the shape of a tree stays.
 use Rattle.std.proofs.Common.{◌≡◌, ◌≤◌, ◌+◌, ℕ, zero, suc, true, false, sym, ap, ◌∙◌, refl}
 use Rattle.std.specs.Prelude.{is_some, IsTrue}
-use Rattle.layout.specs.declared.Geometry.{Geometry}
+use Rattle.tree.specs.layout.declared.Geometry.{Geometry}
 use Rattle.tree.specs.Sums.{one_if}
 use Rattle.tree.specs.Tree.{names_of, parent_of}
 use Rattle.tree.specs.IsTree.{above}

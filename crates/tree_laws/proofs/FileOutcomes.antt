@@ -2,9 +2,9 @@
 use Rattle.std.proofs.Common.{◌≡◌, ◌<◌, ◌≤◌, ◌+◌, ℕ, ℤ, List, true, false, refl, ap, subst, length}
 use Rattle.std.specs.Prelude.{None, Some, Ok, not, ◌==◌, nat_lt, if◌then◌else◌}
 use Rattle.std.proofs.lemmas.Bool.{ltb-false, eqb-true}
-use Rattle.layout.specs.declared.Geometry.{Geometry}
-use Rattle.errno.specs.declared.Errno.{Errno}
-use Rattle.errno.specs.declared.Errno.TheVariants.{EBADF, ENOTDIR, EISDIR, EINVAL, EMFILE, EFBIG}
+use Rattle.tree.specs.layout.declared.Geometry.{Geometry}
+use Rattle.tree.specs.errno.declared.Errno.{Errno}
+use Rattle.tree.specs.errno.declared.Errno.TheVariants.{EBADF, ENOTDIR, EISDIR, EINVAL, EMFILE, EFBIG}
 use Rattle.tree.specs.declared.Whence.{Whence}
 use Rattle.tree.specs.Names.{Names}
 use Rattle.tree.specs.Flags.{reads, writes, appends}

@@ -4,7 +4,7 @@ use mathlib.Core.Logic.{inl, inr}
 use Rattle.std.specs.Prelude.{Option, None, Some, is_some, not, ◌&&◌, ◌==◌, IsTrue, if◌then◌else◌}
 use Rattle.std.specs.Ordering.{eq_by_cmp}
 use Rattle.std.proofs.lemmas.Bool.{cases_eq, cases_Bool, cond-true, cond-false, cond_both, and_parts, and_cases, eqb-true, eq-eqb, not-true, not-false}
-use Rattle.layout.specs.declared.Geometry.{Geometry}
+use Rattle.tree.specs.layout.declared.Geometry.{Geometry}
 use Rattle.tree.specs.Sums.{put, sum_below, one_if}
 use Rattle.tree.specs.Names.{Name, Names, name_cmp, inode_of}
 use Rattle.tree.specs.Tree.{Body, is_file, is_directory, Node, Tree, is_dir, is_dir_at, names_of, parent_of, with_node, opens, is_open, most_open_files}

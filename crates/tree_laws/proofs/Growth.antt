@@ -4,8 +4,8 @@ use mathlib.Core.Logic.{inl, inr}
 use Rattle.std.specs.Prelude.{Option, None, Some, nat_lt, ◌==◌, ◌||◌}
 use Rattle.std.proofs.Math.Nat.{le-div_iff_mul-le}
 use Rattle.std.proofs.lemmas.Bool.{cases_lt, or_cases, eqb-true}
-use Rattle.layout.specs.declared.Geometry.{Geometry}
-use Rattle.layout.specs.Places.{IsGeometry, is_block_size}
+use Rattle.tree.specs.layout.declared.Geometry.{Geometry}
+use Rattle.tree.specs.layout.Places.{IsGeometry, is_block_size}
 use Rattle.tree.specs.ZonesNeeded.{page_limit, zones_needed}
 use Rattle.tree.specs.Tree.{Body, is_file, is_directory, Node, Tree, size_of, most_size}
 use Rattle.tree.specs.Space.{zones_of, zones_used, data_zones, numbers_in_zone, pages_of}

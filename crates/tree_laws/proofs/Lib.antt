@@ -1,3 +1,4 @@
+pub use Rattle.tree.proofs as tree
 pub mod Names
 pub mod Search
 pub mod Steps

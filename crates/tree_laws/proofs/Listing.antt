@@ -1,8 +1,8 @@
 -- A readdir lists the names of the directory, in the order of their bytes.
 use Rattle.std.proofs.Common.{◌≡◌, ℕ, refl, sym, ap, subst, ◌∙◌}
 use Rattle.std.specs.Prelude.{Ok, Err, nat_le}
-use Rattle.layout.specs.declared.Geometry.{Geometry}
-use Rattle.errno.specs.declared.Errno.TheVariants.{EINVAL, EBADF}
+use Rattle.tree.specs.layout.declared.Geometry.{Geometry}
+use Rattle.tree.specs.errno.declared.Errno.TheVariants.{EINVAL, EBADF}
 use Rattle.tree.specs.declared.Who.{Who}
 use Rattle.tree.specs.Tree.{OpenFile, Tree, most_sessions}
 use Rattle.tree.specs.IsTree.{IsBody, IsDirectory, IsTree}

@@ -3,8 +3,8 @@ use Rattle.std.proofs.Common.{◌≡◌, ◌≢◌, ◌<◌, ◌≤◌, ◌+◌,
 use mathlib.Core.Logic.{inl, inr}
 use Rattle.std.specs.Prelude.{Option, Some, is_some, IsTrue}
 use Rattle.std.proofs.lemmas.Bool.{cases_eq}
-use Rattle.layout.specs.declared.Geometry.{Geometry}
-use Rattle.layout.specs.Places.{IsGeometry}
+use Rattle.tree.specs.layout.declared.Geometry.{Geometry}
+use Rattle.tree.specs.layout.Places.{IsGeometry}
 use Rattle.tree.specs.declared.User.{User}
 use Rattle.tree.specs.Names.{Names, inode_of, with_name}
 use Rattle.tree.specs.Tree.{Node, Tree, names_of, parent_of, with_node, on_node, is_open, most_links, most_permissions, most_size}

@@ -3,8 +3,8 @@ use Rattle.std.proofs.Common.{◌≡◌, ◌≢◌, ◌<◌, ◌≤◌, ◌+◌,
 use mathlib.Core.Logic.{inl, inr}
 use Rattle.std.specs.Prelude.{None, Some, is_some, IsTrue, not, ◌&&◌}
 use Rattle.std.proofs.lemmas.Bool.{cases_eq, cond_both}
-use Rattle.layout.specs.declared.Geometry.{Geometry}
-use Rattle.layout.specs.Places.{IsGeometry}
+use Rattle.tree.specs.layout.declared.Geometry.{Geometry}
+use Rattle.tree.specs.layout.Places.{IsGeometry}
 use Rattle.tree.specs.Sums.{one_if}
 use Rattle.tree.specs.Names.{is_name, inode_of}
 use Rattle.tree.specs.Tree.{Node, Tree, is_dir, names_of, parent_of, with_node, on_node, is_open, most_size}

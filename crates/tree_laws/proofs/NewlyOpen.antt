@@ -3,7 +3,7 @@ use Rattle.std.proofs.Common.{◌≡◌, ◌≢◌, ◌<◌, ℕ, false, sym, ap
 use mathlib.Core.Logic.{inl, inr}
 use Rattle.std.specs.Prelude.{None, Some, is_some, IsTrue, not}
 use Rattle.std.proofs.lemmas.Bool.{cases_eq}
-use Rattle.layout.specs.declared.Geometry.{Geometry}
+use Rattle.tree.specs.layout.declared.Geometry.{Geometry}
 use Rattle.tree.specs.Tree.{OpenFile, Tree, opens, is_open, with_open_file, most_sessions, most_descriptors, most_open_files}
 use Rattle.tree.specs.Flags.{writes, bad_flags}
 use Rattle.tree.specs.IsTree.{IsOpenFile, IsTree}

@@ -2,9 +2,9 @@
 use Rattle.std.proofs.Common.{◌≡◌, ◌≤◌, ℕ, List, Bool, true, false, refl, ap}
 use Rattle.std.specs.Prelude.{Some, Ok, not, ◌==◌, nat_lt}
 use Rattle.std.proofs.lemmas.Bool.{ltb-false}
-use Rattle.layout.specs.declared.Geometry.{Geometry}
-use Rattle.errno.specs.declared.Errno.{Errno}
-use Rattle.errno.specs.declared.Errno.TheVariants.{EPERM, ENOENT, EACCES, EISDIR, EINVAL, EFBIG}
+use Rattle.tree.specs.layout.declared.Geometry.{Geometry}
+use Rattle.tree.specs.errno.declared.Errno.{Errno}
+use Rattle.tree.specs.errno.declared.Errno.TheVariants.{EPERM, ENOENT, EACCES, EISDIR, EINVAL, EFBIG}
 use Rattle.tree.specs.declared.User.{User}
 use Rattle.tree.specs.Names.{Name, inode_of}
 use Rattle.tree.specs.Tree.{Body, File, is_file, is_directory, Node, Tree, is_dir, with_node, most_size, most_permissions}

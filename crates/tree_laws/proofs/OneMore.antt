@@ -3,8 +3,8 @@ use Rattle.std.proofs.Common.{◌≡◌, ◌+◌, ℕ, zero, suc, false, refl, s
 use mathlib.Core.Logic.{inl, inr}
 use Rattle.std.specs.Prelude.{None, is_some, IsTrue, Ok, Err, nat_lt}
 use Rattle.std.proofs.lemmas.Bool.{cases_Bool, cond-false, ltb-true}
-use Rattle.layout.specs.declared.Geometry.{Geometry}
-use Rattle.errno.specs.declared.Errno.TheVariants.{ENOSPC}
+use Rattle.tree.specs.layout.declared.Geometry.{Geometry}
+use Rattle.tree.specs.errno.declared.Errno.TheVariants.{ENOSPC}
 use Rattle.tree.specs.Tree.{Tree}
 use Rattle.tree.specs.Space.{zones_used, data_zones}
 use Rattle.tree.specs.Refusals.{◌>>=◌}

@@ -3,7 +3,7 @@ use Rattle.std.proofs.Common.{◌≡◌, ◌≢◌, ◌<◌, ◌≤◌, ℕ, Boo
 use mathlib.Core.Logic.{inl, inr, ◌⊎◌}
 use Rattle.std.specs.Prelude.{Option, None, Some, is_some, IsTrue}
 use Rattle.std.proofs.lemmas.Bool.{cases_eq, eqb-true, eq-eqb}
-use Rattle.layout.specs.declared.Geometry.{Geometry}
+use Rattle.tree.specs.layout.declared.Geometry.{Geometry}
 use Rattle.tree.specs.Sums.{put, some_below}
 use Rattle.tree.specs.Tree.{OpenFile, Tree, opens, is_open, leads_to, with_descriptor, most_sessions, most_descriptors, most_open_files, most_size}
 use Rattle.tree.specs.IsTree.{IsOpenFile, IsTree}

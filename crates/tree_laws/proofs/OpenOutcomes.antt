@@ -2,8 +2,8 @@
 use Rattle.std.proofs.Common.{◌≡◌, ◌<◌, ◌≤◌, ℕ, List, false, refl}
 use Rattle.std.specs.Prelude.{None, Some, Ok, Err, not, ◌&&◌, ◌||◌, nat_lt}
 use Rattle.std.proofs.lemmas.Bool.{ltb-false, or_parts}
-use Rattle.layout.specs.declared.Geometry.{Geometry}
-use Rattle.errno.specs.declared.Errno.TheVariants.{ENOENT, EACCES, EEXIST, EISDIR, EINVAL, ENFILE, EMFILE, ENOSPC}
+use Rattle.tree.specs.layout.declared.Geometry.{Geometry}
+use Rattle.tree.specs.errno.declared.Errno.TheVariants.{ENOENT, EACCES, EEXIST, EISDIR, EINVAL, ENFILE, EMFILE, ENOSPC}
 use Rattle.tree.specs.declared.User.{User}
 use Rattle.tree.specs.Names.{Name}
 use Rattle.tree.specs.Flags.{reads, writes, creates, is_exclusive, bad_flags}

@@ -2,9 +2,9 @@
 use Rattle.std.proofs.Common.{◌≡◌, ℕ, List, Bool, true, false, ap, ◌∙◌}
 use Rattle.std.specs.Prelude.{Some, Result, Ok, Err, not, ◌&&◌, ◌||◌, nat_le, nat_lt, if◌then◌else◌}
 use Rattle.std.proofs.lemmas.Bool.{cond-false}
-use Rattle.layout.specs.declared.Geometry.{Geometry}
-use Rattle.errno.specs.declared.Errno.{Errno}
-use Rattle.errno.specs.declared.Errno.TheVariants.{EPERM, ENOENT, EACCES, EEXIST, EISDIR, EINVAL, EMLINK, EMFILE, ENFILE}
+use Rattle.tree.specs.layout.declared.Geometry.{Geometry}
+use Rattle.tree.specs.errno.declared.Errno.{Errno}
+use Rattle.tree.specs.errno.declared.Errno.TheVariants.{EPERM, ENOENT, EACCES, EEXIST, EISDIR, EINVAL, EMLINK, EMFILE, ENFILE}
 use Rattle.tree.specs.declared.User.{User}
 use Rattle.tree.specs.Names.{Name, inode_of}
 use Rattle.tree.specs.Flags.{reads, writes, creates, is_exclusive, bad_flags}

@@ -5,9 +5,9 @@ use mathlib.Core.Logic.{inl, inr, ◌⊎◌}
 use Rattle.std.specs.Prelude.{Option, None, Some, is_some, is_none, IsTrue, Result, Ok, Err, not, ◌==◌, ◌||◌, nat_lt}
 use Rattle.std.specs.List.{list_any}
 use Rattle.std.proofs.lemmas.Bool.{cases_Bool, cond_both, cond-true, cond-false, eq-eqb, ne_eqb}
-use Rattle.layout.specs.declared.Geometry.{Geometry}
-use Rattle.errno.specs.declared.Errno.{Errno}
-use Rattle.errno.specs.declared.Errno.TheVariants.{ENOENT, EACCES, EINVAL, ENAMETOOLONG, ENOSPC}
+use Rattle.tree.specs.layout.declared.Geometry.{Geometry}
+use Rattle.tree.specs.errno.declared.Errno.{Errno}
+use Rattle.tree.specs.errno.declared.Errno.TheVariants.{ENOENT, EACCES, EINVAL, ENAMETOOLONG, ENOSPC}
 use Rattle.tree.specs.declared.User.{User}
 use Rattle.tree.specs.Sums.{some_below, least_below}
 use Rattle.tree.specs.Names.{Name, Names, most_name, same_name, dot, dot_dot, inode_of}

@@ -5,7 +5,7 @@ use Rattle.std.specs.Prelude.{Ok, not, ◌||◌, ◌==◌, nat_lt, nat_le, if◌
 use Rattle.std.specs.List.{All, list_any}
 use Rattle.std.proofs.lemmas.List.Folds.{list_any_none, list_any-append}
 use Rattle.std.proofs.lemmas.Bool.{cases_Bool, cond_both, and_from, and_parts, or_from, or_parts, ltb-true, ltb-false, le-leb, eqb-false, not-true, not_from_false}
-use Rattle.errno.specs.declared.Errno.TheVariants.{ENOENT, EINVAL, ENAMETOOLONG}
+use Rattle.tree.specs.errno.declared.Errno.TheVariants.{ENOENT, EINVAL, ENAMETOOLONG}
 use Rattle.tree.specs.Names.{Name, is_name, is_dots, most_name}
 use Rattle.tree.specs.Refusals.{◌>>=◌, refuse_if}
 use Rattle.tree.specs.Walk.{read_path, parts_of, parts_after, begins_with_slash, has_last_name, last_part, most_path}

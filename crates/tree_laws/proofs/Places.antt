@@ -8,7 +8,7 @@ use Rattle.std.specs.Cmp.{alike_right}
 use Rattle.std.specs.Cmp.Lexicographic.{nat_list_cmp_total}
 use Rattle.std.specs.FinMap.Entries.{is_sorted-where_key, length_without, find-where_key}
 use Rattle.std.proofs.lemmas.Bool.{cases_Bool, cond-true, cond-false, and_parts, and_from, cond_both}
-use Rattle.errno.specs.declared.Errno.TheVariants.{ENOTDIR, EACCES, ENOENT}
+use Rattle.tree.specs.errno.declared.Errno.TheVariants.{ENOTDIR, EACCES, ENOENT}
 use Rattle.tree.specs.declared.User.{User}
 use Rattle.tree.specs.Names.{Name, Names, name_cmp, is_name, inode_of, without_name}
 use Rattle.tree.specs.Tree.{Body, Directory, is_file, is_directory, Node, Tree}

@@ -3,9 +3,9 @@ use Rattle.std.proofs.Common.{◌≡◌, ◌≤◌, ◌<◌, ◌+◌, ◌-◌, �
 use Rattle.std.specs.Prelude.{Some, Result, Ok, Err, nat_le, nat_lt, not, ◌&&◌, slice_index}
 use mathlib.Core.Logic.{inl, inr}
 use Rattle.std.proofs.lemmas.Bool.{cases_Bool, cond-true, cond-false, and_from, le-leb, lt-ltb, ltb-true, ltb-false, not_from_true}
-use Rattle.layout.specs.declared.Geometry.{Geometry}
-use Rattle.errno.specs.declared.Errno.{Errno}
-use Rattle.errno.specs.declared.Errno.TheVariants.{ENOENT, EISDIR, EBADF, EINVAL, ENOSPC}
+use Rattle.tree.specs.layout.declared.Geometry.{Geometry}
+use Rattle.tree.specs.errno.declared.Errno.{Errno}
+use Rattle.tree.specs.errno.declared.Errno.TheVariants.{ENOENT, EISDIR, EBADF, EINVAL, ENOSPC}
 use Rattle.tree.specs.declared.Who.{Who}
 use Rattle.tree.specs.declared.Whence.TheVariants.{Set}
 use Rattle.tree.specs.declared.Call.TheVariants.{Read, Seek}

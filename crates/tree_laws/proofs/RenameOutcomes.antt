@@ -2,9 +2,9 @@
 use Rattle.std.proofs.Common.{◌≡◌, ◌≢◌, ℕ, List, Bool, true, false, refl}
 use Rattle.std.specs.Prelude.{Option, None, Some, Result, Ok, not, ◌&&◌, ◌||◌, ◌==◌, nat_le, if◌then◌else◌}
 use Rattle.std.proofs.lemmas.Bool.{or_parts, not-false, eqb-false}
-use Rattle.layout.specs.declared.Geometry.{Geometry}
-use Rattle.errno.specs.declared.Errno.{Errno}
-use Rattle.errno.specs.declared.Errno.TheVariants.{ENOENT, EACCES, EBUSY, EINVAL, EISDIR, ENOTDIR, ENOTEMPTY}
+use Rattle.tree.specs.layout.declared.Geometry.{Geometry}
+use Rattle.tree.specs.errno.declared.Errno.{Errno}
+use Rattle.tree.specs.errno.declared.Errno.TheVariants.{ENOENT, EACCES, EBUSY, EINVAL, EISDIR, ENOTDIR, ENOTEMPTY}
 use Rattle.tree.specs.declared.User.{User}
 use Rattle.tree.specs.Names.{Name, inode_of}
 use Rattle.tree.specs.Tree.{Node, Tree, is_dir, is_open, most_links}

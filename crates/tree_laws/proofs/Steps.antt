@@ -1,9 +1,9 @@
 -- The steps of a do block, and what a value that was found tells.
 use Rattle.std.proofs.Common.{◌≡◌, ℕ, Bool, true, false, refl, sym, ap, ◌∙◌}
 use Rattle.std.specs.Prelude.{Option, None, Some, Result, Ok, Err}
-use Rattle.layout.specs.declared.Geometry.{Geometry}
-use Rattle.errno.specs.declared.Errno.{Errno}
-use Rattle.errno.specs.declared.Errno.TheVariants.{EBADF}
+use Rattle.tree.specs.layout.declared.Geometry.{Geometry}
+use Rattle.tree.specs.errno.declared.Errno.{Errno}
+use Rattle.tree.specs.errno.declared.Errno.TheVariants.{EBADF}
 use Rattle.tree.specs.Tree.{OpenFile, Tree}
 use Rattle.tree.specs.IsTree.{IsTree}
 use Rattle.tree.specs.Refusals.{◌>>=◌, refuse_if, or_refuse}

@@ -2,7 +2,7 @@
 use Rattle.std.proofs.Common.{◌≡◌, ◌≢◌, ℕ, true, refl, sym, ap, subst, ◌∙◌}
 use Rattle.std.specs.Prelude.{Option, None, Some, is_some, IsTrue}
 use Rattle.std.proofs.lemmas.Bool.{eq-eqb}
-use Rattle.layout.specs.declared.Geometry.{Geometry}
+use Rattle.tree.specs.layout.declared.Geometry.{Geometry}
 use Rattle.tree.specs.Tree.{Node, OpenFile, Tree, names_of, with_node, on_node, opens, is_open, most_open_files}
 use Rattle.tree.specs.IsTree.{NodesAgree, OpenFilesAgree, IsTree}
 use Rattle.tree.specs.Walk.{Place}

@@ -1,7 +1,7 @@
 -- A file that loses a name leaves a tree a tree, whether or not it goes.
 use Rattle.std.proofs.Common.{◌≡◌, ◌≤◌, ◌<◌, ◌+◌, ◌^◌, ℕ, true, false, refl, sym, ap, ◌∙◌, arith}
 use Rattle.std.specs.Prelude.{Some, is_some, IsTrue}
-use Rattle.layout.specs.declared.Geometry.{Geometry}
+use Rattle.tree.specs.layout.declared.Geometry.{Geometry}
 use Rattle.tree.specs.declared.Call.TheVariants.{Unlink}
 use Rattle.tree.specs.Names.{Names, inode_of, without_name}
 use Rattle.tree.specs.Tree.{Tree, names_of, parent_of, on_node}

@@ -3,7 +3,7 @@ use Rattle.std.proofs.Common.{◌≡◌, ◌≢◌, ◌<◌, ◌≤◌, ◌+◌,
 use mathlib.Core.Logic.{inl, inr}
 use Rattle.std.specs.Prelude.{Option, None, Some, is_some, IsTrue}
 use Rattle.std.proofs.lemmas.Bool.{cases_eq}
-use Rattle.layout.specs.declared.Geometry.{Geometry}
+use Rattle.tree.specs.layout.declared.Geometry.{Geometry}
 use Rattle.tree.specs.Sums.{put}
 use Rattle.tree.specs.Names.{Names, is_name, inode_of, with_name, without_name}
 use Rattle.tree.specs.Tree.{Body, Directory, is_file, is_directory, Node, Tree, names_of, parent_of, with_node, on_node, most_size}

@@ -2,8 +2,8 @@
 use Rattle.std.specs.Prelude.{◌<◌, ◌^◌, ℕ, ℤ, List}
 use Rattle.std.specs.Borrow.{Bor}
 use Rattle.std.specs.List.{All}
-use Rattle.layout.specs.declared.Geometry.{Geometry}
-use Rattle.layout.specs.Places.{IsGeometry}
+use Rattle.tree.specs.layout.declared.Geometry.{Geometry}
+use Rattle.tree.specs.layout.Places.{IsGeometry}
 use Rattle.tree.specs.declared.Who.{Who}
 use Rattle.tree.specs.declared.Whence.{Whence}
 use Rattle.tree.specs.declared.OpenFlags.{OpenFlags}

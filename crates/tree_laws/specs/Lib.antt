@@ -1,3 +1,5 @@
+pub use Rattle.tree.specs as tree
+pub use Rattle.tree.specs.layout as layout
 pub mod Keeps
 pub mod Room
 pub mod Zones

@@ -1,9 +1,9 @@
 -- Which of two refusals that hold at once a call answers. Each law asks that the tests before one have passed, and nothing of the
 -- tests after it; so where that one and a later one hold, the one is answered.
 use Rattle.std.specs.Prelude.{◌≡◌, ℕ, List, true, false, not, ◌&&◌, ◌||◌, nat_le, nat_lt, None, Some, Ok, Err}
-use Rattle.layout.specs.declared.Geometry.{Geometry}
-use Rattle.errno.specs.declared.Errno.{Errno}
-use Rattle.errno.specs.declared.Errno.TheVariants.{EPERM, ENOENT, EACCES, EEXIST, EISDIR, EINVAL, EMLINK, EMFILE, ENFILE}
+use Rattle.tree.specs.layout.declared.Geometry.{Geometry}
+use Rattle.tree.specs.errno.declared.Errno.{Errno}
+use Rattle.tree.specs.errno.declared.Errno.TheVariants.{EPERM, ENOENT, EACCES, EEXIST, EISDIR, EINVAL, EMLINK, EMFILE, ENFILE}
 use Rattle.tree.specs.declared.User.{User}
 use Rattle.tree.specs.Names.{Name, inode_of}
 use Rattle.tree.specs.Flags.{reads, writes, creates, is_exclusive, bad_flags}

@@ -1,8 +1,8 @@
 -- What the calls do to the room on a volume, and when they are refused for want of it.
 use Rattle.std.specs.Prelude.{◌≡◌, ◌≤◌, ◌<◌, ◌+◌, ℕ, Bool, true, false, None, Ok, Err, IsTrue, is_some, ◌⊎◌}
-use Rattle.layout.specs.declared.Geometry.{Geometry}
-use Rattle.layout.specs.Places.{IsGeometry}
-use Rattle.errno.specs.declared.Errno.TheVariants.{ENOSPC}
+use Rattle.tree.specs.layout.declared.Geometry.{Geometry}
+use Rattle.tree.specs.layout.Places.{IsGeometry}
+use Rattle.tree.specs.errno.declared.Errno.TheVariants.{ENOSPC}
 use Rattle.tree.specs.declared.Who.{Who}
 use Rattle.tree.specs.declared.Call.{Call}
 use Rattle.tree.specs.declared.Call.TheVariants.{Open, Write, Link, Mkdir, Rename}

@@ -2,7 +2,7 @@
 use Rattle.std.specs.Prelude.{◌≡◌, ◌≢◌, ℕ, ◌+◌, List, length, pos, true, Ok, Some}
 use Rattle.std.specs.Borrow.{Bor}
 use Rattle.std.specs.FinMap.Entries.{is_sorted}
-use Rattle.layout.specs.declared.Geometry.{Geometry}
+use Rattle.tree.specs.layout.declared.Geometry.{Geometry}
 use Rattle.tree.specs.declared.User.{User}
 use Rattle.tree.specs.declared.Who.{Who}
 use Rattle.tree.specs.declared.Whence.TheVariants.{Set}

@@ -1,7 +1,7 @@
 -- Read, write, seek, fstat and readdir: what they answer, each refusal, and of two the one that is answered.
 use Rattle.std.proofs.Common.{[], ◌∷◌, refl, codes, replicate}
 use Rattle.std.specs.Prelude.{pos, negsuc}
-use Rattle.errno.specs.declared.Errno.TheVariants.{EBADF, ENOTDIR, EISDIR, EINVAL, EFBIG, ENOSPC}
+use Rattle.tree.specs.errno.declared.Errno.TheVariants.{EBADF, ENOTDIR, EISDIR, EINVAL, EFBIG, ENOSPC}
 use Rattle.tree.specs.declared.Call.TheVariants.{Open, Read, Write, Seek, Fstat, Mkdir, Truncate, Readdir, Statfs}
 use Rattle.tree.specs.declared.Whence.TheVariants.{Set, Cur, End}
 use Rattle.tree.specs.Sums.{sum_below, some_below, least_below}

@@ -1,6 +1,6 @@
 -- Mkdir and rmdir: what they answer and leave, each refusal, and of two the one that is answered.
 use Rattle.std.proofs.Common.{◌++◌, [], ◌∷◌, refl, codes, replicate}
-use Rattle.errno.specs.declared.Errno.TheVariants.{ENOENT, EACCES, EBUSY, EEXIST, ENOTDIR, EINVAL, ENAMETOOLONG, ENOTEMPTY, EMLINK, ENOSPC}
+use Rattle.tree.specs.errno.declared.Errno.TheVariants.{ENOENT, EACCES, EBUSY, EEXIST, ENOTDIR, EINVAL, ENAMETOOLONG, ENOTEMPTY, EMLINK, ENOSPC}
 use Rattle.tree.specs.declared.Call.TheVariants.{Open, Stat, Mkdir, Rmdir, Chmod, Statfs}
 use Rattle.tree.specs.Sums.{sum_below, some_below, least_below}
 use Rattle.tree.specs.Tree.{Tree, on_node}

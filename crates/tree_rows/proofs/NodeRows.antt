@@ -1,8 +1,8 @@
 -- Stat, chmod, chown, utime, truncate, sync and statfs; sessions; and the calls that may want memory.
 use Rattle.std.proofs.Common.{◌≡◌, ℕ, List, [], ◌∷◌, map, refl, true, false}
 use Rattle.std.specs.Prelude.{pos}
-use Rattle.errno.specs.declared.Errno.{Errno}
-use Rattle.errno.specs.declared.Errno.TheVariants.{EPERM, ENOENT, EACCES, ENOTDIR, EISDIR, EINVAL, EFBIG, ENAMETOOLONG}
+use Rattle.tree.specs.errno.declared.Errno.{Errno}
+use Rattle.tree.specs.errno.declared.Errno.TheVariants.{EPERM, ENOENT, EACCES, ENOTDIR, EISDIR, EINVAL, EFBIG, ENAMETOOLONG}
 use Rattle.tree.specs.declared.Call.{Call}
 use Rattle.tree.specs.declared.Call.TheVariants.{Open, Close, Dup, Read, Write, Seek, Stat, Fstat, Link, Unlink, Mkdir, Rmdir, Rename, Chmod, Chown, Utime, Truncate, Readdir, Sync, Statfs}
 use Rattle.tree.specs.declared.Whence.TheVariants.{Set}

@@ -1,7 +1,7 @@
 -- Paths and access: each refusal of a path, which of two is answered, and whose permission bits are looked at.
 use Rattle.std.proofs.Common.{◌++◌, [], ◌∷◌, refl, codes, replicate}
 use Rattle.tree.specs.declared.Call.TheVariants.{Chmod, Chown, Open, Stat}
-use Rattle.errno.specs.declared.Errno.TheVariants.{ENOENT, EACCES, ENOTDIR, EINVAL, ENAMETOOLONG}
+use Rattle.tree.specs.errno.declared.Errno.TheVariants.{ENOENT, EACCES, ENOTDIR, EINVAL, ENAMETOOLONG}
 use Rattle.tree.specs.Sums.{sum_below, some_below, least_below}
 use Rattle.tree.specs.Tree.{Tree}
 use Rattle.tree.specs.Answers.{Answer, refused, done, descriptor, node_is}

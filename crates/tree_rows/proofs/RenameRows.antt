@@ -2,7 +2,7 @@
 use Rattle.std.proofs.Common.{◌++◌, List, [], ◌∷◌, refl}
 use Rattle.std.specs.Borrow.{Bor}
 use Rattle.std.proofs.Common.{ℕ}
-use Rattle.errno.specs.declared.Errno.TheVariants.{ENOENT, EACCES, EBUSY, ENOTDIR, EISDIR, EINVAL, ENAMETOOLONG, ENOTEMPTY, EMLINK, ENOSPC}
+use Rattle.tree.specs.errno.declared.Errno.TheVariants.{ENOENT, EACCES, EBUSY, ENOTDIR, EISDIR, EINVAL, ENAMETOOLONG, ENOTEMPTY, EMLINK, ENOSPC}
 use Rattle.tree.specs.declared.Call.TheVariants.{Open, Stat, Fstat, Link, Rename, Chmod, Statfs}
 use Rattle.tree.specs.Sums.{sum_below, some_below, least_below}
 use Rattle.tree.specs.Tree.{Tree, on_node}

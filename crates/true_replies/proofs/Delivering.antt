@@ -2,16 +2,16 @@
 use Rattle.std.proofs.Common.{◌≡◌, ◌⊎◌, ℕ, suc, zero, ◌+◌, ◌-◌, ◌*◌, ◌/◌, ◌%◌, ◌<◌, ◌≤◌, List, ◌∷◌, Bool, true, false, cond, refl, sym, ◌∙◌, ap, inl, inr, arith, Option, Some, None}
 use Rattle.std.proofs.lemmas.Bool.Decides.{leb_tells, nat_tests}
 use Rattle.std.specs.Prelude.{slice_index, ◌&&◌, ◌==◌, not, nat_le, nat_lt, is_some}
-use Rattle.endpoint.specs.declared.Endpoint.{Endpoint}
-use Rattle.message.specs.declared.Kind.{Kind}
-use Rattle.message.specs.declared.Kind.TheVariants.{Read, Write}
-use Rattle.message.specs.declared.BlockRequest.{BlockRequest}
-use Rattle.message.specs.declared.BlockReply.{BlockReply}
+use Rattle.bdev.specs.endpoint.declared.Endpoint.{Endpoint}
+use Rattle.bdev.specs.message.declared.Kind.{Kind}
+use Rattle.bdev.specs.message.declared.Kind.TheVariants.{Read, Write}
+use Rattle.bdev.specs.message.declared.BlockRequest.{BlockRequest}
+use Rattle.bdev.specs.message.declared.BlockReply.{BlockReply}
 use Rattle.marks.specs.Marks.{Mark, Answered, last_started, is_endpoint, gave_up}
 use Rattle.marks.specs.Open.{open_requests, with_id, moved_of, counts}
 use Rattle.marks.specs.Disk.{unsure, disk_after, IsTrueOf, IsTrueAnswer, Contents}
-use Rattle.message.specs.Good.{is_write, moved}
-use Rattle.media.specs.Contents.{MediaState, sector}
+use Rattle.bdev.specs.message.Good.{is_write, moved}
+use Rattle.bdev.specs.media.Contents.{MediaState, sector}
 use Rattle.bdev.specs.DriverState.{Work}
 use Rattle.bdev.specs.Promises.{requests_in_work}
 use Rattle.marks.specs.Opening.{Opening, Fits}

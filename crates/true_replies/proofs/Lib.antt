@@ -1,3 +1,4 @@
+pub use Rattle.bdev.proofs.media as media
 pub mod Since
 pub mod Places
 pub mod Delivering

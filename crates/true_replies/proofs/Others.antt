@@ -2,14 +2,14 @@
 use Rattle.std.proofs.Common.{◌≡◌, ◌⊎◌, ℕ, suc, zero, ◌+◌, ◌-◌, ◌*◌, ◌<◌, ◌≤◌, List, ◌∷◌, Bool, true, false, cond, refl, sym, ◌∙◌, ap, subst, inl, inr, arith, max, Option, Some, None}
 use Rattle.std.proofs.lemmas.Bool.Decides.{nat_tests}
 use Rattle.std.specs.Prelude.{◌||◌, ◌&&◌, ◌==◌, not, IsSomeAnd, IfSome}
-use Rattle.endpoint.specs.declared.Endpoint.{Endpoint}
-use Rattle.message.specs.declared.BlockRequest.{BlockRequest}
-use Rattle.message.specs.declared.BlockReply.{BlockReply}
+use Rattle.bdev.specs.endpoint.declared.Endpoint.{Endpoint}
+use Rattle.bdev.specs.message.declared.BlockRequest.{BlockRequest}
+use Rattle.bdev.specs.message.declared.BlockReply.{BlockReply}
 use Rattle.marks.specs.Marks.{Mark, Issued, Started}
 use Rattle.marks.specs.Open.{MayFollow, open_requests, IsIn}
 use Rattle.marks.specs.Disk.{unsure, covers, Contents}
-use Rattle.message.specs.Good.{is_write}
-use Rattle.media.specs.Contents.{MediaState, written, adopted, accepts}
+use Rattle.bdev.specs.message.Good.{is_write}
+use Rattle.bdev.specs.media.Contents.{MediaState, written, adopted, accepts}
 use Rattle.media.proofs.WrittenLaws.{generation-written}
 use Rattle.bdev.specs.declared.Run.{Run}
 use Rattle.bdev.specs.declared.Accept.{Accept}

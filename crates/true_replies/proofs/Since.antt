@@ -1,6 +1,6 @@
 -- The requests that were issued since the last start.
 use Rattle.std.proofs.Common.{◌≡◌, ◌≤◌, List, [], ◌∷◌, inl, inr, ap, arith}
-use Rattle.message.specs.declared.BlockRequest.{BlockRequest}
+use Rattle.bdev.specs.message.declared.BlockRequest.{BlockRequest}
 use Rattle.marks.specs.Marks.{Mark, Issued, Started, Answered, Flush, GaveUp, Took, Fault}
 use Rattle.marks.specs.Open.{greatest, IsIn}
 use Rattle.true_replies.specs.Posted.{since_start}

@@ -3,15 +3,15 @@ use Rattle.std.proofs.Common.{◌≡◌, ◌⊎◌, ℕ, ◌+◌, ◌*◌, ◌<�
 use Rattle.std.proofs.lemmas.Bool.{cases_eq}
 use Rattle.std.proofs.lemmas.Bool.Decides.{nat_tests}
 use Rattle.std.specs.Prelude.{slice_index, ◌||◌, ◌==◌}
-use Rattle.errno.specs.declared.Errno.{Errno}
-use Rattle.message.specs.declared.Kind.{Kind}
-use Rattle.message.specs.declared.Kind.TheVariants.{Read, Write}
-use Rattle.message.specs.declared.BlockRequest.{BlockRequest}
-use Rattle.message.specs.declared.BlockReply.{BlockReply}
+use Rattle.bdev.specs.errno.declared.Errno.{Errno}
+use Rattle.bdev.specs.message.declared.Kind.{Kind}
+use Rattle.bdev.specs.message.declared.Kind.TheVariants.{Read, Write}
+use Rattle.bdev.specs.message.declared.BlockRequest.{BlockRequest}
+use Rattle.bdev.specs.message.declared.BlockReply.{BlockReply}
 use Rattle.marks.specs.Open.{open_requests, IsIn}
 use Rattle.marks.specs.Disk.{Contents}
-use Rattle.message.specs.Good.{is_write, moved}
-use Rattle.media.specs.Contents.{MediaState, sector, written, accepts}
+use Rattle.bdev.specs.message.Good.{is_write, moved}
+use Rattle.bdev.specs.media.Contents.{MediaState, sector, written, accepts}
 use Rattle.media.proofs.WrittenLaws.{accepts-true, sector-written_same, generation-written}
 use Rattle.bdev.specs.declared.Run.{Run}
 use Rattle.bdev.specs.declared.Answer.{Answer}

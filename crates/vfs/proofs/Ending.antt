@@ -6,7 +6,7 @@ use Rattle.tree.specs.declared.Who.{Who}
 use Rattle.tree.specs.declared.Call.{Call}
 use Rattle.tree.specs.declared.Outcome.{Outcome as TreeOutcome}
 use Rattle.tree.specs.Answers.{Answer, refused}
-use Rattle.volume.specs.Reading.{Disk}
+use Rattle.store.specs.volume.Reading.{Disk}
 use Rattle.legal.specs.Legal.{is_sync}
 use Rattle.legal.specs.ServerCall.{Replied}
 use Rattle.cache.specs.Calls.{Caching, IsReady, IsLive, IsWhyCut}
@@ -14,7 +14,7 @@ use Rattle.cache.proofs.Runs.{same_left, ids_kept}
 use Rattle.store.specs.declared.Cut.{Cut as Why}
 use Rattle.store.specs.declared.Cut.TheVariants.{Eio, LinkEnded}
 use Rattle.stored.specs.World.{Leads, Sees, reason}
-use Rattle.cache.specs.Edits.{AllClean}
+use Rattle.cache.specs.slots.Edits.{AllClean}
 use Rattle.legal.specs.Legal.{is_success}
 use Rattle.std.specs.Prelude.{IsTrue}
 use Rattle.descriptors.specs.Files.{Files}

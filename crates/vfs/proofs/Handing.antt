@@ -5,12 +5,12 @@ use Rattle.layout.specs.declared.Geometry.{Geometry}
 use Rattle.message.specs.declared.Incoming.{Incoming}
 use Rattle.tree.specs.Sums.{some_below}
 use Rattle.tree.specs.Tree.{Tree, OpenFile, most_open_files}
-use Rattle.volume.specs.Reading.{Disk}
-use Rattle.volume.specs.Holds.{HoldsVolume}
-use Rattle.marks.specs.Marks.{Mark, gave_up}
-use Rattle.marks.specs.Disk.{Contents, HasTrueReplies}
-use Rattle.marks.specs.Told.{Received, received, grown, took_end}
-use Rattle.marks.specs.Acts.{Absorbed, marks_after}
+use Rattle.store.specs.volume.Reading.{Disk}
+use Rattle.store.specs.volume.Holds.{HoldsVolume}
+use Rattle.reissue.specs.marks.Marks.{Mark, gave_up}
+use Rattle.reissue.specs.marks.Disk.{Contents, HasTrueReplies}
+use Rattle.reissue.specs.marks.Told.{Received, received, grown, took_end}
+use Rattle.reissue.specs.marks.Acts.{Absorbed, marks_after}
 use Rattle.legal.specs.Legal.{tree_after}
 use Rattle.legal.specs.View.{server_view}
 use Rattle.legal.specs.ServerCall.{Serving, Serves, AbsorbKeeps}

@@ -10,13 +10,13 @@ use Rattle.tree.specs.declared.Call.{Call}
 use Rattle.tree.specs.Sums.{some_below}
 use Rattle.tree.specs.Tree.{Tree, OpenFile, most_open_files}
 use Rattle.tree.specs.Answers.{Answer, refused}
-use Rattle.volume.specs.Reading.{Disk}
-use Rattle.volume.specs.Holds.{HoldsVolume}
-use Rattle.marks.specs.Marks.{Mark, Answered, Took, gave_up}
-use Rattle.marks.specs.Open.{counts}
-use Rattle.marks.specs.Disk.{Contents, HasTrueReplies}
-use Rattle.marks.specs.Told.{Posted, Complained, Received, received, grown, took_end}
-use Rattle.marks.specs.Acts.{Act, Began, Absorbed, AtLink, marks_after}
+use Rattle.store.specs.volume.Reading.{Disk}
+use Rattle.store.specs.volume.Holds.{HoldsVolume}
+use Rattle.reissue.specs.marks.Marks.{Mark, Answered, Took, gave_up}
+use Rattle.reissue.specs.marks.Open.{counts}
+use Rattle.reissue.specs.marks.Disk.{Contents, HasTrueReplies}
+use Rattle.reissue.specs.marks.Told.{Posted, Complained, Received, received, grown, took_end}
+use Rattle.reissue.specs.marks.Acts.{Act, Began, Absorbed, AtLink, marks_after}
 use Rattle.legal.specs.Legal.{IsLegal, IsLegalTook, is_sync, tree_after, tree_after_answer}
 use Rattle.legal.specs.View.{server_view, IsCovered}
 use Rattle.legal.specs.ServerCall.{Serving, Serves, Replied, Cut, CallKeeps}
@@ -32,12 +32,12 @@ use Rattle.cache.proofs.Runs.{true_before}
 use Rattle.cache.proofs.Leading.{leads_by}
 use Rattle.cache.proofs.ReadingBack.{frames_read_back}
 use Rattle.stored.specs.World.{Leads, Sees}
-use Rattle.flusher.proofs.Flushing.{synced}
-use Rattle.cache.specs.Edits.{AllClean}
+use Rattle.stored.proofs.flusher.Flushing.{synced}
+use Rattle.cache.specs.slots.Edits.{AllClean}
 use Rattle.legal.specs.Legal.{is_success, IsSynced}
 use Rattle.descriptors.specs.Files.{Files, HasFiles}
 use Rattle.call_bodies.specs.Calls.{IsDone, DoesCall, is_busy}
-use Rattle.marks.specs.Opening.{Opening, contents_at}
+use Rattle.reissue.specs.marks.Opening.{Opening, contents_at}
 use Rattle.file_server.specs.Over.{CallsOver}
 use Rattle.vfs.specs.Server.{IsServer, server_of}
 use Rattle.vfs.specs.Unmounting.{UnmountsOver}

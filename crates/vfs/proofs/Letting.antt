@@ -1,11 +1,11 @@
 -- How an unmount ends.
 use Rattle.std.proofs.Common.{◌≡◌, ℕ, Bool, true, false, refl, sym, ◌∙◌, ap}
 use Rattle.layout.specs.declared.Geometry.{Geometry}
-use Rattle.volume.specs.Reading.{Disk}
+use Rattle.store.specs.volume.Reading.{Disk}
 use Rattle.legal.specs.Unmount.{unmounting_of}
 use Rattle.legal.specs.Unmount as legal
 use Rattle.cache.specs.Calls.{Caching, IsLive, IsWhyCut}
-use Rattle.cache.specs.Edits.{AllClean}
+use Rattle.cache.specs.slots.Edits.{AllClean}
 use Rattle.store.specs.declared.Cut.{Cut as Why}
 use Rattle.store.specs.declared.Cut.TheVariants.{Eio, LinkEnded}
 use Rattle.stored.specs.World.{Leads, Sees, reason}

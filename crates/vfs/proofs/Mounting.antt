@@ -3,10 +3,10 @@ use Rattle.std.proofs.Common.{◌≡◌, ℕ, List, [], ◌∷◌, ◌++◌, Boo
 use Rattle.std.specs.Prelude.{Ok, Err, ◌||◌}
 use Rattle.message.specs.declared.Incoming.TheVariants as incoming
 use Rattle.layout.specs.declared.Geometry.{Geometry}
-use Rattle.marks.specs.Marks.{Mark}
-use Rattle.marks.specs.Disk.{Contents, HasTrueReplies}
-use Rattle.marks.specs.Told.{Told, Posted, Complained, Received, took_end}
-use Rattle.marks.specs.Acts.{Act, Outbox, IsAtRest, KeepsRules, empty_outbox, marks_after, outbox_after, told_of}
+use Rattle.reissue.specs.marks.Marks.{Mark}
+use Rattle.reissue.specs.marks.Disk.{Contents, HasTrueReplies}
+use Rattle.reissue.specs.marks.Told.{Told, Posted, Complained, Received, took_end}
+use Rattle.reissue.specs.marks.Acts.{Act, Outbox, IsAtRest, KeepsRules, empty_outbox, marks_after, outbox_after, told_of}
 use Rattle.legal.specs.Legal.{IsAtFirst}
 use Rattle.legal.specs.Mount.{IsWhyNotMounted, MountKeeps, MountRefused, Mounting, is_frame_count}
 use Rattle.legal.specs.Mount as words
@@ -89,26 +89,46 @@ module _ (minor : ℕ) (old new : Table) (before after : List Told) (was is : Tr
 
 -- ---- the refusals
 
+-- before anything was done
+pub refused_now : {L : Type 0} (words : LinkWords L) (link : L) (minor frames : ℕ) (e : MountRefusal) → words.goes_on link link
+    → IsWhyNotMounted frames [] false (in_words e) → IsNotMounted words link minor frames e
+refused_now words link minor frames e goes why = record {
+  last = link;
+  goes = goes;
+  refused = record {
+    acts = [];
+    mounting = record { told = refl; none_absorbed = refl; only_reads = tt; keep = tt };
+    at_rest = record { complaint = refl; post = refl };
+    bad_frames = λ same. (refl, refl);
+    why = why;
+  };
+  truth = λ v same was. was;
+}
+
 pub refused_later : {L : Type 0} (words : LinkWords L) (link : L) (minor frames : ℕ) (e : MountRefusal) (old new : Transfers L) → link_of old ≡ link
     → Agrees (table_of old) [] → outbox_of (table_of old) ≡ empty_outbox → words.goes_on (link_of old) (link_of new) → is_frame_count frames ≡ true
     → ReadsVolume (Err e) minor (table_of old) (table_of new) (words.history (link_of old)) (words.history (link_of new))
     (words.truth (link_of old)) (words.truth (link_of new)) → IsNotMounted words link minor frames e
+unfolding refused_by
 refused_later {L} words link minor frames e old new over agrees owes goes ok r =
     subst (λ (l : L). IsNotMounted words l minor frames e) over (record {
       last = link_of new;
       goes = goes;
       refused = refused_by minor (table_of old) (table_of new) _ _ _ _ agrees owes r.went frames e ok (r.end agrees frames ok);
+      truth = λ v same was. r.went.truth v [] same agrees was;
     })
 
 pub lacking_later : {L : Type 0} (words : LinkWords L) (link : L) (minor frames : ℕ) (clean : Clean) (old new : Transfers L) → link_of old ≡ link
     → Agrees (table_of old) [] → outbox_of (table_of old) ≡ empty_outbox → words.goes_on (link_of old) (link_of new) → is_frame_count frames ≡ true
     → ReadsVolume (Ok clean) minor (table_of old) (table_of new) (words.history (link_of old)) (words.history (link_of new))
     (words.truth (link_of old)) (words.truth (link_of new)) → IsNotMounted words link minor frames refusal.OutOfMemory
+unfolding refused_by
 lacking_later {L} words link minor frames clean old new over agrees owes goes ok r =
     subst (λ (l : L). IsNotMounted words l minor frames refusal.OutOfMemory) over (record {
       last = link_of new;
       goes = goes;
       refused = refused_by minor (table_of old) (table_of new) _ _ _ _ agrees owes r.went frames refusal.OutOfMemory ok ok;
+      truth = λ v same was. r.went.truth v [] same agrees was;
     })
 
 -- ---- the server

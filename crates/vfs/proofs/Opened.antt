@@ -6,11 +6,11 @@ use Rattle.cache.specs.declared.refusals.CacheRefusal.TheVariants.{BadFrames, Ou
 use Rattle.layout.specs.declared.Geometry.{Geometry}
 use Rattle.tree.specs.Sums.{some_below}
 use Rattle.tree.specs.Tree.{Tree, OpenFile, most_open_files}
-use Rattle.volume.specs.Reading.{Disk, blocks_of}
-use Rattle.volume.specs.Holds.{HoldsVolume}
-use Rattle.marks.specs.Marks.{Mark}
-use Rattle.marks.specs.Disk.{Contents, HasTrueReplies, disk_after, unsure}
-use Rattle.marks.specs.Acts.{empty_outbox}
+use Rattle.store.specs.volume.Reading.{Disk, blocks_of}
+use Rattle.store.specs.volume.Holds.{HoldsVolume}
+use Rattle.reissue.specs.marks.Marks.{Mark}
+use Rattle.reissue.specs.marks.Disk.{Contents, HasTrueReplies, disk_after, unsure}
+use Rattle.reissue.specs.marks.Acts.{empty_outbox}
 use Rattle.legal.specs.Legal.{IsAtFirst, IsLegal, tree_after}
 use Rattle.legal.specs.View.{Frames, server_view}
 use Rattle.legal.specs.Mount.{IsJustMade, OpenKeeps, is_frame_count}
@@ -22,7 +22,7 @@ use Rattle.reissue.specs.Agrees.{Agrees}
 use Rattle.reissue.specs.Moves.{state_after}
 use Rattle.reissue.specs.Rules.{outbox_of}
 use Rattle.reissue.proofs.TableRules.{at_rest}
-use Rattle.cache.specs.declared.slots.Slot.{Slot}
+use Rattle.cache.specs.slots.declared.slot.Slot.{Slot}
 use Rattle.cache.specs.Calls.{Caching, frame_count}
 use Rattle.cache.specs.Frames.{CacheAgrees, frame_of, frames_of}
 use Rattle.descriptors.specs.Files.{Files, HasFiles}

@@ -1,8 +1,8 @@
 -- What opening and mounting promise of a server, over any link.
 use Rattle.std.specs.Prelude.{◌≡◌, ℕ, [], Result, Ok, Err}
 use Rattle.layout.specs.declared.Geometry.{Geometry}
-use Rattle.marks.specs.Opening.{Opening}
-use Rattle.marks.specs.Acts.{marks_after}
+use Rattle.reissue.specs.marks.Opening.{Opening}
+use Rattle.reissue.specs.marks.Acts.{marks_after}
 use Rattle.legal.specs.Mount.{MountKeeps, MountRefused, OpenKeeps, OpenRefused}
 use Rattle.reissue.specs.declared.link.Link.{Ghosts as LinkWords}
 use Rattle.stored.specs.declared.Stored.{Stored}
@@ -24,8 +24,9 @@ pub record IsMounted {L : Type 0} (words : LinkWords L) (link : L) (minor frames
   pub ready : IsReadyOver words s
   pub none_absorbed : s.absorbed ≡ 0
 
--- Nothing is mounted: the link as it was let go.
+-- Nothing is mounted: the link as it was let go. What it guaranteed of the empty record it guarantees of the record of what was done.
 pub record IsNotMounted {L : Type 0} (words : LinkWords L) (link : L) (minor frames : ℕ) (e : MountRefusal) : Type 0 where
   pub last : L
   pub goes : words.goes_on link last
   pub refused : MountRefused minor frames (words.history link) (in_words e) (words.history last)
+  pub truth : (v : Opening) → v.minor ≡ minor → words.truth link v [] → words.truth last v (marks_after refused.acts [])

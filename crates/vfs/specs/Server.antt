@@ -5,9 +5,9 @@ use Rattle.layout.specs.Places.{IsGeometry}
 use Rattle.tree.specs.declared.Who.{Who}
 use Rattle.tree.specs.declared.Call.{Call}
 use Rattle.tree.specs.Tree.{Tree}
-use Rattle.marks.specs.Marks.{Mark, gave_up}
-use Rattle.marks.specs.Disk.{Contents, HasTrueReplies}
-use Rattle.marks.specs.Told.{took_end}
+use Rattle.reissue.specs.marks.Marks.{Mark, gave_up}
+use Rattle.reissue.specs.marks.Disk.{Contents, HasTrueReplies}
+use Rattle.reissue.specs.marks.Told.{took_end}
 use Rattle.message.specs.declared.Incoming.{Incoming}
 use Rattle.legal.specs.Legal.{tree_after}
 use Rattle.legal.specs.ServerCall.{Serving, Outcome}

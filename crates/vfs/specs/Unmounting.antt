@@ -1,9 +1,9 @@
 -- What unmounting a server over a cache promises.
 use Rattle.std.specs.Prelude.{◌≡◌, ℕ, List, Result, Ok, Err}
 use Rattle.tree.specs.Tree.{Tree}
-use Rattle.marks.specs.Marks.{Mark}
-use Rattle.marks.specs.Opening.{Opening, contents_at}
-use Rattle.marks.specs.Acts.{marks_after}
+use Rattle.reissue.specs.marks.Marks.{Mark}
+use Rattle.reissue.specs.marks.Opening.{Opening, contents_at}
+use Rattle.reissue.specs.marks.Acts.{marks_after}
 use Rattle.legal.specs.ServerCall.{Serving}
 use Rattle.legal.specs.Unmount.{UnmountKeeps, Unmounting}
 use Rattle.legal.specs.Unmount as legal

@@ -4,7 +4,7 @@ ghost use Rattle.std.specs.Prelude.{◌≡◌, ◌≤◌, ◌^◌, IfOk, IfErr, 
 ghost use Rattle.std.specs.Bool.{OnTrue, OnFalse};
 ghost use Rattle.legal.specs.Mount.{is_frame_count};
 ghost use Rattle.layout.specs.Places.{IsGeometry};
-ghost use Rattle.marks.specs.Told.{took_end};
+ghost use Rattle.reissue.specs.marks.Told.{took_end};
 ghost use Rattle.mounting.specs.Mounts.{in_words};
 ghost use Rattle.vfs.specs.OverLink.{IsIdleOver, IsReadyOver, line_of, refusal_of};
 ghost use Rattle.vfs.specs.Mounted.{IsMounted, IsNotMounted, OpensClean};

@@ -3,7 +3,7 @@
 ghost use Rattle.std.specs.Prelude.{◌≡◌, ◌≤◌, ◌+◌, ◌^◌, [], IfOk, IsErrOf, ◌↔◌, false};
 ghost use Rattle.layout.specs.Places.{IsGeometry};
 ghost use Rattle.legal.specs.Mount.{is_frame_count};
-ghost use Rattle.marks.specs.Told.{took_end};
+ghost use Rattle.reissue.specs.marks.Told.{took_end};
 ghost use Rattle.reissue.specs.Posts.{HasRoom};
 ghost use Rattle.reissue.specs.Transfers.{link_of, table_of};
 ghost use Rattle.vfs.specs.OverLink.{IsIdleOver, IsNewOver, IsReadyOver, Opens, line_of};

@@ -4,10 +4,10 @@ use mathlib.Core.Logic.{inl, inr}
 use Rattle.std.specs.Prelude.{not, ◌==◌, ◌&&◌, ◌||◌, nat_lt, nat_le}
 use Rattle.std.proofs.lemmas.Bool.{cases_eq, cases_lt, cond-true, cond-false, eq-eqb, ne_eqb, lt-ltb, le-ltb, le-leb, lt-leb, ltb-true}
 use Rattle.std.proofs.lemmas.Nat.{div-add-mod', div_below}
-use Rattle.layout.specs.declared.Geometry.{Geometry}
-use Rattle.tree.specs.Sums.{sum_below, count_below, some_below}
-use Rattle.tree.specs.ZonesNeeded.{page_limit}
-use Rattle.tree.specs.Space.{numbers_in_zone}
+use Rattle.volume.specs.layout.declared.Geometry.{Geometry}
+use Rattle.volume.specs.tree.Sums.{sum_below, count_below, some_below}
+use Rattle.volume.specs.tree.ZonesNeeded.{page_limit}
+use Rattle.volume.specs.tree.Space.{numbers_in_zone}
 use Rattle.volume.specs.Pieces.{Pieces}
 use Rattle.volume.specs.Nodes.{word, number, slot, second_block, last_block, zone_of, is_marked}
 use Rattle.volume.specs.Places.{zone_at, Use, is_in_slot, is_entered, uses_in_inodes, uses}

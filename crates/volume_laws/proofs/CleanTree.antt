@@ -1,12 +1,12 @@
 -- The verdict on an image is Clean exactly where it holds a tree without open files.
 use Rattle.std.proofs.Common.{◌≡◌, ◌<◌, ℕ, List, refl, sym, ap, ◌∙◌, subst}
 use Rattle.std.specs.Prelude.{All, Result, Ok, Err}
-use Rattle.layout.specs.declared.Geometry.{Geometry}
-use Rattle.layout.specs.declared.LayoutRefusal.{LayoutRefusal}
-use Rattle.layout.specs.Places.{geometry_of, refusal_number}
-use Rattle.layout.proofs.Parsed.{geometry_fits}
-use Rattle.tree.specs.Tree.{Tree}
-use Rattle.tree.specs.IsTree.{IsTree, IsClosed}
+use Rattle.volume.specs.layout.declared.Geometry.{Geometry}
+use Rattle.volume.specs.layout.declared.LayoutRefusal.{LayoutRefusal}
+use Rattle.volume.specs.layout.Places.{geometry_of, refusal_number}
+use Rattle.volume.proofs.layout.Parsed.{geometry_fits}
+use Rattle.volume.specs.tree.Tree.{Tree}
+use Rattle.volume.specs.tree.IsTree.{IsTree, IsClosed}
 use Rattle.volume.specs.Reading.{disk_of}
 use Rattle.volume.specs.Pieces.{Pieces, pieces}
 use Rattle.volume.specs.Nodes.{nodes_of}

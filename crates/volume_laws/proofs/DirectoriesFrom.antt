@@ -2,11 +2,11 @@
 use Rattle.std.proofs.Common.{◌≡◌, ◌≢◌, ◌<◌, ◌≤◌, ◌%◌, ℕ, true, false, sym, ap, ◌∙◌, arith}
 use Rattle.std.specs.Prelude.{not, ◌&&◌, ◌||◌, ◌==◌, nat_lt, nat_le}
 use Rattle.std.proofs.lemmas.Bool.{or_parts, eqb-true, eqb-false, ltb-false, le-leb, not-false, both_ways}
-use Rattle.layout.specs.declared.Geometry.{Geometry}
-use Rattle.tree.specs.Sums.{some_below}
-use Rattle.tree.specs.Names.{same_name, dot, dot_dot}
-use Rattle.tree.specs.Tree.{most_size}
-use Rattle.tree.specs.Space.{pages_of}
+use Rattle.volume.specs.layout.declared.Geometry.{Geometry}
+use Rattle.volume.specs.tree.Sums.{some_below}
+use Rattle.volume.specs.tree.Names.{same_name, dot, dot_dot}
+use Rattle.volume.specs.tree.Tree.{most_size}
+use Rattle.volume.specs.tree.Space.{pages_of}
 use Rattle.volume.specs.Pieces.{Pieces}
 use Rattle.volume.specs.Nodes.{page_zone, is_marked}
 use Rattle.volume.specs.Entries.{is_directory_inode, entry_count, name_at, target_at, is_field, is_name_field}

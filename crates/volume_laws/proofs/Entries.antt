@@ -11,8 +11,8 @@ use Rattle.std.specs.Cmp.Lexicographic.{nat_list_cmp_total}
 use Rattle.std.specs.FinMap.{slice_cmp-IsAntisymmetric, nat_cmp-IsAntisymmetric}
 use Rattle.std.specs.FinMap.Entries.{length-put, find-put, by_order, is_sorted, is_sorted-put}
 use Rattle.std.proofs.lemmas.Bool.{cases_eq, cases_Bool, and_parts, and_from, cond-true, cond-false}
-use Rattle.tree.specs.Sums.{count_below, sum_below, one_if}
-use Rattle.tree.specs.Names.{Name, Names, name_cmp, inode_of, with_name}
+use Rattle.volume.specs.tree.Sums.{count_below, sum_below, one_if}
+use Rattle.volume.specs.tree.Names.{Name, Names, name_cmp, inode_of, with_name}
 
 -- the first k entries as a map, where entry e has that name and leads to that inode
 unfoldable pub collected : (ℕ → Name) → (ℕ → ℕ) → ℕ → Names

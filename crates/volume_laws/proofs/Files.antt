@@ -4,11 +4,11 @@ use mathlib.Core.Logic.{inl, inr}
 use Rattle.std.specs.Prelude.{not, ◌||◌, ◌==◌, nat_lt, nat_le}
 use Rattle.std.proofs.lemmas.Bool.{or_cases, cond-false, eqb-false, leb-true, le-ltb, not-true, not-false}
 use Rattle.std.proofs.lemmas.Nat.{div-add-mod'}
-use Rattle.layout.specs.declared.Geometry.{Geometry}
+use Rattle.volume.specs.layout.declared.Geometry.{Geometry}
 use Rattle.volume.specs.declared.Inode.{Inode}
-use Rattle.tree.specs.Tree.{most_size}
-use Rattle.tree.specs.IsTree.{IsFile}
-use Rattle.tree.specs.Space.{pages_of}
+use Rattle.volume.specs.tree.Tree.{most_size}
+use Rattle.volume.specs.tree.IsTree.{IsFile}
+use Rattle.volume.specs.tree.Space.{pages_of}
 use Rattle.volume.specs.Pieces.{Pieces}
 use Rattle.volume.specs.Nodes.{page_zone, file_byte, file_of}
 

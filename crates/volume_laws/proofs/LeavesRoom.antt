@@ -1,8 +1,8 @@
 -- The tree that a volume holds leaves room.
 use Rattle.std.proofs.Common.{◌+◌, ◌∙◌, arith}
-use Rattle.layout.proofs.Parsed.{geometry_fits}
-use Rattle.tree.specs.Sums.{sum_below}
-use Rattle.tree.specs.Space.{zones_of, data_zones}
+use Rattle.volume.proofs.layout.Parsed.{geometry_fits}
+use Rattle.volume.specs.tree.Sums.{sum_below}
+use Rattle.volume.specs.tree.Space.{zones_of, data_zones}
 use Rattle.volume.specs.Reading.{disk_of}
 use Rattle.volume.specs.Pieces.{pieces}
 use Rattle.volume_laws.specs.Laws.{UsedZonesAreMarked, HeldLeavesRoom, ImageLeavesRoom}

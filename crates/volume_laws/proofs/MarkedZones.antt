@@ -3,11 +3,11 @@ use Rattle.std.proofs.Common.{◌≡◌, ◌≢◌, ◌<◌, ◌≤◌, ◌+◌,
 use mathlib.Core.Logic.{inl, inr}
 use Rattle.std.specs.Prelude.{◌&&◌, ◌==◌, nat_lt, nat_le}
 use Rattle.std.proofs.lemmas.Bool.{cases_Bool, cases_lt, and_parts, and_from, eq-eqb, eqb-true, ltb-true, le-leb, lt-ltb, both_ways}
-use Rattle.layout.specs.declared.Geometry.{Geometry}
-use Rattle.layout.specs.Places.{IsGeometry}
-use Rattle.tree.specs.Sums.{sum_below, count_below, one_if}
-use Rattle.tree.specs.Space.{numbers_in_zone, data_zones, zones_of}
-use Rattle.tree.proofs.Maps.{same_sum}
+use Rattle.volume.specs.layout.declared.Geometry.{Geometry}
+use Rattle.volume.specs.layout.Places.{IsGeometry}
+use Rattle.volume.specs.tree.Sums.{sum_below, count_below, one_if}
+use Rattle.volume.specs.tree.Space.{numbers_in_zone, data_zones, zones_of}
+use Rattle.volume.proofs.tree.Maps.{same_sum}
 use Rattle.volume.specs.Reading.{is_data_zone}
 use Rattle.volume.specs.Pieces.{Pieces}
 use Rattle.volume.specs.Nodes.{is_marked}

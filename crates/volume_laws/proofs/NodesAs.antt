@@ -5,12 +5,12 @@ use Rattle.std.specs.Prelude.{◌&&◌, ◌==◌, Option, None, Some, is_some}
 use Rattle.std.specs.List.{list_all}
 use Rattle.std.specs.FinMap.Entries.{is_sorted}
 use Rattle.std.proofs.lemmas.Bool.{cases_Bool, and_parts, and_left, cond-true, cond-false}
-use Rattle.layout.specs.declared.Geometry.{Geometry}
-use Rattle.tree.specs.Sums.{count_below, one_if}
-use Rattle.tree.specs.Names.{Name, Names, name_cmp, is_name, inode_of, with_name}
-use Rattle.tree.specs.Tree.{Body, is_file, is_directory, Node, is_dir_at, names_of, parent_of}
-use Rattle.tree.specs.IsTree.{names_to, subdirectories, all_names_to}
-use Rattle.tree.proofs.Maps.{same_sum, is_the_one}
+use Rattle.volume.specs.layout.declared.Geometry.{Geometry}
+use Rattle.volume.specs.tree.Sums.{count_below, one_if}
+use Rattle.volume.specs.tree.Names.{Name, Names, name_cmp, is_name, inode_of, with_name}
+use Rattle.volume.specs.tree.Tree.{Body, is_file, is_directory, Node, is_dir_at, names_of, parent_of}
+use Rattle.volume.specs.tree.IsTree.{names_to, subdirectories, all_names_to}
+use Rattle.volume.proofs.tree.Maps.{same_sum, is_the_one}
 use Rattle.volume.specs.Pieces.{Pieces}
 use Rattle.volume.specs.Nodes.{file_byte, entry_inode, entry_name, names_in, is_directory_mode, body_of, node_of, nodes_of, directory_of, file_of, is_marked}
 use Rattle.volume.specs.Entries.{is_directory_inode, entry_count, name_at, target_at}

@@ -3,10 +3,10 @@ use Rattle.std.proofs.Common.{◌≡◌, ◌≢◌, ◌<◌, ◌≤◌, ◌+◌,
 use mathlib.Core.Logic.{inl, inr}
 use Rattle.std.specs.Prelude.{not, ◌||◌, ◌==◌, nat_lt, None, Some}
 use Rattle.std.proofs.lemmas.Bool.{cases_eq, cases_Bool, cases_lt, or_from, cond-true, cond-false, eq-eqb, ne_eqb, lt-ltb, le-ltb, both_ways}
-use Rattle.layout.specs.declared.Geometry.{Geometry}
-use Rattle.tree.specs.Sums.{one_if}
-use Rattle.tree.specs.Tree.{Tree, is_dir, names_of, opens, is_open, most_size, most_links, most_open_files}
-use Rattle.tree.specs.IsTree.{IsBody, IsTree, IsClosed, above, links_due, subdirectories}
+use Rattle.volume.specs.layout.declared.Geometry.{Geometry}
+use Rattle.volume.specs.tree.Sums.{one_if}
+use Rattle.volume.specs.tree.Tree.{Tree, is_dir, names_of, opens, is_open, most_size, most_links, most_open_files}
+use Rattle.volume.specs.tree.IsTree.{IsBody, IsTree, IsClosed, above, links_due, subdirectories}
 use Rattle.volume.specs.Pieces.{Pieces}
 use Rattle.volume.specs.Nodes.{is_marked, node_of}
 use Rattle.volume.specs.Entries.{is_directory_inode, entry_count, name_at, target_at}

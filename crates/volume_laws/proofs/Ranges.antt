@@ -2,11 +2,11 @@
 use Rattle.std.proofs.Common.{◌≡◌, ◌≢◌, ◌<◌, ◌≤◌, ◌+◌, ℕ, List, [], ◌∷◌, Bool, true, false, refl, arith}
 use Rattle.std.specs.Prelude.{◌&&◌, ◌==◌, nat_lt, nat_le}
 use Rattle.std.proofs.lemmas.Bool.{and_parts, and_from, leb-true, ltb-true, eqb-true, eq-eqb}
-use Rattle.layout.specs.declared.Geometry.{Geometry}
-use Rattle.tree.specs.Names.{same_name}
-use Rattle.tree.specs.Sums.{some_below}
+use Rattle.volume.specs.layout.declared.Geometry.{Geometry}
+use Rattle.volume.specs.tree.Names.{same_name}
+use Rattle.volume.specs.tree.Sums.{some_below}
 use Rattle.volume.specs.Reading.{is_inode, is_data_zone}
-use Rattle.layout.specs.Places.{IsGeometry}
+use Rattle.volume.specs.layout.Places.{IsGeometry}
 use Rattle.volume.specs.Pieces.{Pieces}
 use Rattle.volume.specs.Nodes.{is_directory_mode, is_marked}
 use Rattle.volume.specs.Entries.{is_directory_inode}

@@ -3,12 +3,12 @@ use Rattle.std.proofs.Common.{◌≡◌, ◌≢◌, ◌<◌, ◌≤◌, ◌+◌,
 use mathlib.Core.Logic.{inl, inr}
 use Rattle.std.specs.Prelude.{not, ◌&&◌, ◌||◌, ◌==◌, nat_lt, None, Some}
 use Rattle.std.proofs.lemmas.Bool.{cases_Bool, and_parts, or_parts, cond-true, cond-false, ne_eqb, eqb-true, eqb-false, ltb-true, ltb-false, lt-ltb, not-false}
-use Rattle.layout.specs.declared.Geometry.{Geometry}
-use Rattle.tree.specs.Sums.{one_if, some_below}
-use Rattle.tree.specs.Names.{is_name}
-use Rattle.tree.specs.Tree.{Node, Tree, is_dir, names_of, most_links}
-use Rattle.tree.specs.IsTree.{IsBody, IsDirectory, IsNode, IsPlaced, NodesAgree, OpenFilesAgree, IsTree, IsClosed, links_due, subdirectories}
-use Rattle.tree.proofs.Maps.{not_nothing}
+use Rattle.volume.specs.layout.declared.Geometry.{Geometry}
+use Rattle.volume.specs.tree.Sums.{one_if, some_below}
+use Rattle.volume.specs.tree.Names.{is_name}
+use Rattle.volume.specs.tree.Tree.{Node, Tree, is_dir, names_of, most_links}
+use Rattle.volume.specs.tree.IsTree.{IsBody, IsDirectory, IsNode, IsPlaced, NodesAgree, OpenFilesAgree, IsTree, IsClosed, links_due, subdirectories}
+use Rattle.volume.proofs.tree.Maps.{not_nothing}
 use Rattle.volume.specs.Pieces.{Pieces}
 use Rattle.volume.specs.Nodes.{is_marked, node_of, directory_of, body_of}
 use Rattle.volume.specs.Entries.{is_directory_inode, entry_count, name_at, target_at, is_padded}

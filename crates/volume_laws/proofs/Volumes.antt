@@ -2,10 +2,10 @@
 use Rattle.std.proofs.Common.{◌≡◌, ◌≢◌, ◌<◌, ◌*◌, ℕ, Bool, true, false, arith, cond}
 use mathlib.Core.Logic.{inl, inr}
 use Rattle.std.proofs.lemmas.Bool.{cases_Bool}
-use Rattle.layout.specs.declared.Geometry.{Geometry}
-use Rattle.layout.specs.Places.{IsGeometry}
-use Rattle.layout.proofs.Parsed.{block_sizes}
-use Rattle.tree.specs.Space.{numbers_in_zone}
+use Rattle.volume.specs.layout.declared.Geometry.{Geometry}
+use Rattle.volume.specs.layout.Places.{IsGeometry}
+use Rattle.volume.proofs.layout.Parsed.{block_sizes}
+use Rattle.volume.specs.tree.Space.{numbers_in_zone}
 use Rattle.volume.specs.Reading.{Disk, u32_in, is_data_zone}
 use Rattle.volume.specs.Pieces.{Pieces, pieces}
 use Rattle.volume.specs.Nodes.{word}

@@ -3,10 +3,10 @@ use Rattle.std.proofs.Common.{◌≡◌, ◌<◌, ◌+◌, ℕ, zero, suc, Bool,
 use mathlib.Core.Logic.{inl, inr}
 use Rattle.std.specs.Prelude.{◌&&◌, ◌||◌, nat_lt, Option}
 use Rattle.std.proofs.lemmas.Bool.{cases_Bool, cond-false, ltb-true}
-use Rattle.layout.specs.declared.Geometry.{Geometry}
-use Rattle.tree.specs.Sums.{some_below}
-use Rattle.tree.specs.Tree.{Node, is_dir_at, parent_of}
-use Rattle.tree.specs.IsTree.{above}
+use Rattle.volume.specs.layout.declared.Geometry.{Geometry}
+use Rattle.volume.specs.tree.Sums.{some_below}
+use Rattle.volume.specs.tree.Tree.{Node, is_dir_at, parent_of}
+use Rattle.volume.specs.tree.IsTree.{above}
 use Rattle.volume.specs.Pieces.{Pieces}
 use Rattle.volume.specs.Entries.{is_directory_inode}
 use Rattle.volume.specs.Findings.{names_in_of, is_reached}

@@ -5,7 +5,7 @@ use Rattle.std.specs.Prelude.{slice_index, All}
 use Rattle.std.proofs.lemmas.Bool.{cases_lt}
 use Rattle.std.proofs.lemmas.List.Elements.{All-get_or}
 use Rattle.std.proofs.lemmas.List.{get_or_past}
-use Rattle.layout.specs.declared.Geometry.{Geometry}
+use Rattle.volume.specs.layout.declared.Geometry.{Geometry}
 use Rattle.volume.specs.declared.Inode.{Inode}
 use Rattle.volume.specs.Reading.{Disk, disk_of, u16_in, u32_in, inode_in, inode_block, inode_offset, is_inode, is_data_zone}
 use Rattle.volume.specs.Pieces.{Pieces, blank, pieces}

@@ -3,9 +3,9 @@ use Rattle.std.proofs.Common.{◌≡◌, ◌≢◌, ◌<◌, ◌≤◌, ◌+◌,
 use mathlib.Core.Logic.{inl, inr, ◌↔◌}
 use Rattle.std.specs.Prelude.{not, ◌==◌, nat_lt}
 use Rattle.std.proofs.lemmas.Bool.{cases_Bool, cases_lt, or_parts, cond-true, cond-false, ne_eqb, eqb-true, eqb-false, ltb-false, le-leb, not-false, not_from_false}
-use Rattle.layout.specs.declared.Geometry.{Geometry}
-use Rattle.tree.specs.ZonesNeeded.{page_limit}
-use Rattle.tree.specs.Space.{pages_of, numbers_in_zone}
+use Rattle.volume.specs.layout.declared.Geometry.{Geometry}
+use Rattle.volume.specs.tree.ZonesNeeded.{page_limit}
+use Rattle.volume.specs.tree.Space.{pages_of, numbers_in_zone}
 use Rattle.volume.specs.Reading.{is_data_zone}
 use Rattle.volume.specs.Pieces.{Pieces}
 use Rattle.volume.specs.Nodes.{page_zone, is_marked}

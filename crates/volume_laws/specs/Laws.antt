@@ -1,10 +1,10 @@
 -- Laws of the volume.
 use Rattle.std.specs.Prelude.{◌≡◌, ◌≤◌, ◌+◌, ℕ, List}
-use Rattle.layout.specs.declared.Geometry.{Geometry}
-use Rattle.layout.specs.Places.{IsGeometry}
-use Rattle.tree.specs.Sums.{count_below}
-use Rattle.tree.specs.Tree.{Tree}
-use Rattle.tree.specs.Space.{zones_used, data_zones}
+use Rattle.volume.specs.layout.declared.Geometry.{Geometry}
+use Rattle.volume.specs.layout.Places.{IsGeometry}
+use Rattle.volume.specs.tree.Sums.{count_below}
+use Rattle.volume.specs.tree.Tree.{Tree}
+use Rattle.volume.specs.tree.Space.{zones_used, data_zones}
 use Rattle.volume.specs.Reading.{Disk}
 use Rattle.volume.specs.Pieces.{pieces}
 use Rattle.volume.specs.Holds.{Holds}

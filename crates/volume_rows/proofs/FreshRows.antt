@@ -1,6 +1,6 @@
 -- The pieces of a new volume, against its bytes written out.
 use Rattle.std.proofs.Common.{◌≡◌, ℕ, zero, suc, List, [], ◌∷◌, ◌++◌, replicate, map, refl}
-use Rattle.layout.specs.declared.Geometry.{Geometry}
+use Rattle.volume.specs.layout.declared.Geometry.{Geometry}
 use Rattle.volume.specs.Reading.{Disk}
 use Rattle.volume.specs.Pieces.{pieces}
 use Rattle.volume.specs.Fresh.{fresh_pieces}

@@ -2,7 +2,7 @@
 use Rattle.std.proofs.Common.{◌≡◌, ℕ, [], ◌∷◌, ◌++◌, replicate, refl, Bool, true, false}
 use Rattle.std.specs.Prelude.{slice_index, is_some, flat_map}
 use Rattle.volume.specs.declared.Inode.{Inode}
-use Rattle.tree.specs.Tree.{size_of, is_dir, names_of, parent_of}
+use Rattle.volume.specs.tree.Tree.{size_of, is_dir, names_of, parent_of}
 use Rattle.volume.specs.Reading.{blocks_of, disk_of, u16_in, u32_in, bit_in, map_bit, inode_block, inode_offset, inode_in}
 use Rattle.volume.specs.Pieces.{blank}
 use Rattle.volume.specs.Nodes.{page_zone, file_byte, file_of, entry_inode, entry_name, names_in, type_in, permissions_in, is_mode, node_of, nodes_of}

@@ -1,8 +1,8 @@
 -- Small volumes written out in bytes: a root alone, and a tree with files in all ranges. A block holds one inode, one entry or 16 numbers.
 use Rattle.std.proofs.Common.{◌≡◌, ℕ, List, [], ◌∷◌, ◌/◌, ◌%◌, ◌-◌, ◌++◌, map, drop}
 use Rattle.std.specs.Prelude.{slice_index, flat_map}
-use Rattle.layout.specs.declared.Geometry.{Geometry}
-use Rattle.tree.specs.Sums.{put}
+use Rattle.volume.specs.layout.declared.Geometry.{Geometry}
+use Rattle.volume.specs.tree.Sums.{put}
 use Rattle.volume.specs.Reading.{Disk}
 use Rattle.volume.specs.Pieces.{Pieces, pieces}
 use Rattle.volume.specs.Verdict.{Verdict, tests, first_found, place_limit, verdict_of_pieces}

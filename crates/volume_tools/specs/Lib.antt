@@ -1,2 +1,3 @@
+pub use Rattle.layout.specs as layout
 pub mod Making
 pub mod Verifying

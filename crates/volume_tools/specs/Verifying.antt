@@ -1,8 +1,8 @@
 -- What a verifying comes to.
 use Rattle.std.specs.Prelude.{◌≡◌, ◌⊎◌, ℕ, zero, suc, ◌*◌, ◌%◌, List, ◌++◌, length, take, drop, not, ◌==◌, nat_lt, if◌then◌else◌, Option, Some, None, Result, Ok, Err, codes}
 use Rattle.std.specs.Borrow.{Bor}
-use Rattle.volume.specs.Text.{finding_text}
-use Rattle.volume.specs.Verdict.{Verdict, Clean, Found, verdict_of}
+use Rattle.fsck.specs.volume.Text.{finding_text}
+use Rattle.fsck.specs.volume.Verdict.{Verdict, Clean, Found, verdict_of}
 use Rattle.media.specs.Contents.{sectors_of}
 use Rattle.partition.specs.declared.PartitionRefusal.{PartitionRefusal}
 use Rattle.partition.specs.declared.PartitionRefusal.TheVariants.{NoSignature, PastMedia, Overlap}

@@ -9,11 +9,11 @@ use Rattle.tree.specs.declared.User.{User}
 use Rattle.tree.specs.Names.{Names}
 use Rattle.tree.specs.Tree.{Body, is_file, is_directory, Node, Tree}
 use Rattle.tree.specs.Walk.{enter, may_access, to_search}
-use Rattle.volume.specs.declared.Inode.{Inode}
-use Rattle.volume.specs.Holds.{Holds}
-use Rattle.volume.specs.Nodes.{directory_of, file_of, is_directory_mode, is_marked, node_of}
-use Rattle.volume.specs.Pieces.{pieces}
-use Rattle.volume.specs.Reading.{Disk}
+use Rattle.store.specs.volume.declared.Inode.{Inode}
+use Rattle.store.specs.volume.Holds.{Holds}
+use Rattle.store.specs.volume.Nodes.{directory_of, file_of, is_directory_mode, is_marked, node_of}
+use Rattle.store.specs.volume.Pieces.{pieces}
+use Rattle.store.specs.volume.Reading.{Disk}
 use Rattle.walk.specs.Walking.{Entered}
 
 -- a node that is there is a marked inode's

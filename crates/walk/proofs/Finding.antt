@@ -10,10 +10,10 @@ use Rattle.tree.specs.Tree.{Tree}
 use Rattle.tree.specs.Refusals.{◌>>=◌}
 use Rattle.tree.specs.Walk.{enter, walk_parts, parent_walk, all_but_last, last_part, has_last_name, found_at, Found, is_there, is_missing, look_up}
 use Rattle.tree.specs.Walk as tree
-use Rattle.volume.specs.Holds.{Holds}
-use Rattle.volume.specs.Nodes.{directory_of}
-use Rattle.volume.specs.Pieces.{pieces}
-use Rattle.volume.specs.Reading.{Disk}
+use Rattle.store.specs.volume.Holds.{Holds}
+use Rattle.store.specs.volume.Nodes.{directory_of}
+use Rattle.store.specs.volume.Pieces.{pieces}
+use Rattle.store.specs.volume.Reading.{Disk}
 use Rattle.walk.specs.declared.place.Place.{Place}
 use Rattle.walk.specs.Walking.{Entered, entries_in, Walks}
 use Rattle.walk.specs.Places.{place_of, IsPlace, last_leads_to}

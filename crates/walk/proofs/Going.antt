@@ -11,12 +11,12 @@ use Rattle.tree.specs.Tree.{Body, is_file, is_directory, Node, Tree, names_of, p
 use Rattle.tree.specs.IsTree.{NodesAgree, names_to}
 use Rattle.tree.specs.Refusals.{◌>>=◌, or_refuse}
 use Rattle.tree.specs.Walk.{enter, next, walk_from, walk_parts}
-use Rattle.volume.specs.declared.Inode.{Inode}
-use Rattle.volume.specs.Entries.{is_directory_inode, entry_count}
-use Rattle.volume.specs.Holds.{Holds}
-use Rattle.volume.specs.Nodes.{directory_of, file_of, is_directory_mode, is_marked, node_of}
-use Rattle.volume.specs.Pieces.{pieces}
-use Rattle.volume.specs.Reading.{Disk}
+use Rattle.store.specs.volume.declared.Inode.{Inode}
+use Rattle.store.specs.volume.Entries.{is_directory_inode, entry_count}
+use Rattle.store.specs.volume.Holds.{Holds}
+use Rattle.store.specs.volume.Nodes.{directory_of, file_of, is_directory_mode, is_marked, node_of}
+use Rattle.store.specs.volume.Pieces.{pieces}
+use Rattle.store.specs.volume.Reading.{Disk}
 use Rattle.walk.specs.Walking.{Entered, step, StepsTo, Walks, IsThere}
 
 -- a directory is there

@@ -7,10 +7,10 @@ use Rattle.tree.specs.Names.{Name, Names, inode_of}
 use Rattle.tree.specs.Tree.{Tree}
 use Rattle.tree.specs.Walk.{parent_walk, look_up, has_last_name, last_part, is_there, is_missing}
 use Rattle.tree.specs.Walk as tree
-use Rattle.volume.specs.Entries.{is_directory_inode}
-use Rattle.volume.specs.Nodes.{directory_of}
-use Rattle.volume.specs.Pieces.{pieces}
-use Rattle.volume.specs.Reading.{Disk}
+use Rattle.store.specs.volume.Entries.{is_directory_inode}
+use Rattle.store.specs.volume.Nodes.{directory_of}
+use Rattle.store.specs.volume.Pieces.{pieces}
+use Rattle.store.specs.volume.Reading.{Disk}
 use Rattle.walk.specs.declared.place.Place.{Place}
 use Rattle.walk.specs.declared.place.Found.{Found}
 use Rattle.walk.specs.declared.place.Found.TheVariants as found

@@ -7,11 +7,11 @@ use Rattle.tree.specs.Names.{Name, Names}
 use Rattle.tree.specs.Tree.{Tree}
 use Rattle.tree.specs.Refusals.{◌>>=◌}
 use Rattle.tree.specs.Walk.{enter, next, walk_parts}
-use Rattle.volume.specs.declared.Inode.{Inode}
-use Rattle.volume.specs.Entries.{is_directory_inode}
-use Rattle.volume.specs.Nodes.{directory_of}
-use Rattle.volume.specs.Pieces.{pieces}
-use Rattle.volume.specs.Reading.{Disk}
+use Rattle.store.specs.volume.declared.Inode.{Inode}
+use Rattle.store.specs.volume.Entries.{is_directory_inode}
+use Rattle.store.specs.volume.Nodes.{directory_of}
+use Rattle.store.specs.volume.Pieces.{pieces}
+use Rattle.store.specs.volume.Reading.{Disk}
 
 -- the parent and the names that an inode says
 abbrev pub entries_in : Geometry → Disk → Inode → ℕ × Names

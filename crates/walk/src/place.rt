@@ -4,9 +4,9 @@ ghost use Rattle.std.specs.Prelude.{◌≡◌, ◌≢◌, IfErr, IfOk};
 ghost use Rattle.store.specs.Volume.{IsOn};
 ghost use Rattle.store.specs.World.{Reads};
 ghost use Rattle.tree.specs.Tree.{Tree};
-ghost use Rattle.volume.specs.Holds.{Holds};
-ghost use Rattle.volume.specs.Nodes.{directory_of};
-ghost use Rattle.volume.specs.Pieces.{pieces};
+ghost use Rattle.store.specs.volume.Holds.{Holds};
+ghost use Rattle.store.specs.volume.Nodes.{directory_of};
+ghost use Rattle.store.specs.volume.Pieces.{pieces};
 ghost use Rattle.walk.specs.Stops.{Answers, IsStop, IfRefused};
 ghost use Rattle.walk.specs.Places.{Finds, FindsPlace, last_leads_to};
 

@@ -5,8 +5,8 @@ ghost use Rattle.store.specs.Volume.{IsOn};
 ghost use Rattle.store.specs.World.{Reads};
 ghost use Rattle.tree.specs.Tree.{Tree};
 ghost use Rattle.tree.specs.Walk.{next};
-ghost use Rattle.volume.specs.Holds.{Holds};
-ghost use Rattle.volume.specs.Nodes.{is_directory_mode, permissions_in};
+ghost use Rattle.store.specs.volume.Holds.{Holds};
+ghost use Rattle.store.specs.volume.Nodes.{is_directory_mode, permissions_in};
 ghost use Rattle.walk.specs.Stops.{Answers, IsStop, IfRefused};
 ghost use Rattle.walk.specs.Walking.{entries_in, Enters, StepsTo, Walks};
 

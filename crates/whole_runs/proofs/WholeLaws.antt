@@ -1,36 +1,36 @@
 -- All that justifies a run, put together.
 use Rattle.std.proofs.Common.{◌≡◌, ℕ, ◌+◌, ◌≤◌, List, [], ◌∷◌, ◌++◌, length, Bool, true, false, cond, inl, inr, refl, sym, ◌∙◌, ap, subst, arith}
 use Rattle.std.specs.Prelude.{◌⊎◌, ◌&&◌, not, ◌==◌, Option, Some, None, IfSome}
-use Rattle.endpoint.specs.declared.Endpoint.{Endpoint}
-use Rattle.message.specs.declared.BlockRequest.{BlockRequest}
-use Rattle.bdev.specs.DriverState.{DriverState, Work}
-use Rattle.bdev.specs.Promises.{requests_in_work}
-use Rattle.policy.specs.declared.Policy.{Policy}
-use Rattle.marks.specs.Marks.{Mark}
-use Rattle.marks.specs.Open.{IsWellFormed}
-use Rattle.marks.specs.Acts.{Outbox, MayPost}
-use Rattle.schedule.specs.declared.Sent.{Sent}
-use Rattle.schedule.specs.declared.Event.{Event}
-use Rattle.schedule.specs.Groups.{Group, marks_of, running, generation, Each, EachGroup}
-use Rattle.schedule.specs.Faults.{ExitsOfGroup, HasNotFailed}
-use Rattle.schedule.specs.Starts.{GivingUpOfGroup}
-use Rattle.schedule.specs.Calls.{CallsSoFar, taken}
-use Rattle.schedule.specs.Justified.{AnswersAndFlushes, GroupKeeps}
-use Rattle.driver_events.specs.Disks.{is_at}
-use Rattle.playing.specs.Moments.{Moment, Resting, Runs, record_of}
-use Rattle.run_log.specs.Noted.{marks_in}
-use Rattle.justifying.specs.Steady.{StartsAsDue, HungAsDue, drivers_of}
-use Rattle.justified_runs.specs.Complaining.{ComplaintsAsDue}
-use Rattle.justified_runs.specs.Shown.{EventsJustified}
-use Rattle.justified_runs.proofs.ShownLaws.{runs_show_events}
-use Rattle.issuing_runs.specs.Issuing.{PlacedAsDue, FollowedAsDue}
-use Rattle.issuing_runs.specs.Issuing as issuing
+use Rattle.acting_runs.specs.endpoint.declared.Endpoint.{Endpoint}
+use Rattle.acting_runs.specs.message.declared.BlockRequest.{BlockRequest}
+use Rattle.acting_runs.specs.bdev.DriverState.{DriverState, Work}
+use Rattle.acting_runs.specs.bdev.Promises.{requests_in_work}
+use Rattle.acting_runs.specs.policy.declared.Policy.{Policy}
+use Rattle.acting_runs.specs.marks.Marks.{Mark}
+use Rattle.acting_runs.specs.marks.Open.{IsWellFormed}
+use Rattle.acting_runs.specs.marks.Acts.{Outbox, MayPost}
+use Rattle.acting_runs.specs.schedule.declared.Sent.{Sent}
+use Rattle.acting_runs.specs.schedule.declared.Event.{Event}
+use Rattle.acting_runs.specs.schedule.Groups.{Group, marks_of, running, generation, Each, EachGroup}
+use Rattle.acting_runs.specs.schedule.Faults.{ExitsOfGroup, HasNotFailed}
+use Rattle.acting_runs.specs.schedule.Starts.{GivingUpOfGroup}
+use Rattle.acting_runs.specs.schedule.Calls.{CallsSoFar, taken}
+use Rattle.acting_runs.specs.schedule.Justified.{AnswersAndFlushes, GroupKeeps}
+use Rattle.acting_runs.specs.driver_events.Disks.{is_at}
+use Rattle.acting_runs.specs.playing.Moments.{Moment, Resting, Runs, record_of}
+use Rattle.acting_runs.specs.run_log.Noted.{marks_in}
+use Rattle.acting_runs.specs.justifying.Steady.{StartsAsDue, HungAsDue, drivers_of}
+use Rattle.acting_runs.specs.justified_runs.Complaining.{ComplaintsAsDue}
+use Rattle.acting_runs.specs.justified_runs.Shown.{EventsJustified}
+use Rattle.acting_runs.proofs.justified_runs.ShownLaws.{runs_show_events}
+use Rattle.acting_runs.specs.justified_runs.Said.{PlacedAsDue}
+use Rattle.issuing_runs.specs.Issuing.{FollowedAsDue, HasNoWork}
 use Rattle.issuing_runs.proofs.PlaceLaws.{runs_keep_places, runs_end_followed}
 use Rattle.issuing_runs.proofs.RoomLaws.{runs_keep_room}
 use Rattle.acting_runs.specs.Acting.{ActsAsDue}
 use Rattle.acting_runs.proofs.ActLaws.{runs_keep_acts}
 use Rattle.acting_runs.proofs.LeavingLaws.{runs_keep_waits}
-use Rattle.taking_runs.specs.Took as taking
+use Rattle.taking_runs.specs.Took.{TookNothing}
 use Rattle.taking_runs.proofs.TakingLaws.{runs_keep_took}
 use Rattle.taking_runs.proofs.ReplyLaws.{runs_keep_replies}
 use Rattle.sending_runs.proofs.RunLaws.{runs_keep_steps}
@@ -90,9 +90,9 @@ runs_are_whole media rules supply events minor b a new unused o rests none runs 
     let drivers : List DriverState = drivers_of a.play.scene.disks in
     let unfailed : Each (λ d. d.failed ≡ false) supply =
     each_so IsUnused (λ d. d.failed ≡ false) (λ d h. (unused_fresh d.last d.failed h.fresh).1) supply unused in
-    let idle : Each issuing.IsNew supply = each_so IsUnused issuing.IsNew
+    let idle : Each HasNoWork supply = each_so IsUnused HasNoWork
     (λ d h. record { idle = none_in_work d.work d.bad d.last h.driver.bad_is_few (unused_fresh d.last d.failed h.fresh).0 }) supply unused in
-    let ready : Each taking.IsNew supply = each_so IsUnused taking.IsNew
+    let ready : Each TookNothing supply = each_so IsUnused TookNothing
     (λ d h. record { driver = h.driver; unused = (unused_fresh d.last d.failed h.fresh).0 }) supply unused in
     let e : EventsJustified rules supply groups (marks_in a.play.scene.noted) a.play.scene.disks.sent drivers =
     runs_show_events media rules supply events minor b a new unfailed o rests (ap (λ (x : Outbox). x.complaint) none) runs end.calm end.paid in

@@ -1,1 +1,2 @@
+pub use Rattle.acting_runs.specs.justifying as justifying
 pub mod Whole

@@ -1,20 +1,20 @@
 -- What justifies a run that was played out.
 use Rattle.std.specs.Prelude.{◌≡◌, ◌⊎◌, ℕ, List, [], ◌++◌, length, true, false, None}
-use Rattle.bdev.specs.DriverState.{DriverState, is_fresh}
-use Rattle.bdev.specs.Promises.{IsDriver}
-use Rattle.media.specs.Contents.{MediaState}
-use Rattle.policy.specs.declared.Policy.{Policy}
-use Rattle.policy.specs.Watch.{new_watch}
-use Rattle.marks.specs.Open.{IsWellFormed}
-use Rattle.marks.specs.Acts.{empty_outbox}
-use Rattle.schedule.specs.declared.Event.{Event}
-use Rattle.schedule.specs.Groups.{marks_of, Each}
-use Rattle.schedule.specs.Calls.{Arrival, arrived, taken}
-use Rattle.schedule.specs.Justified.{Justified}
-use Rattle.run_log.specs.Noted.{marks_in}
-use Rattle.playing.specs.PlayView.{Play, IsOpened}
-use Rattle.playing.specs.Moments.{Moment, Resting, Runs}
-use Rattle.justifying.specs.Steady.{drivers_of}
+use Rattle.acting_runs.specs.bdev.DriverState.{DriverState, is_fresh}
+use Rattle.acting_runs.specs.bdev.Promises.{IsDriver}
+use Rattle.acting_runs.specs.media.Contents.{MediaState}
+use Rattle.acting_runs.specs.policy.declared.Policy.{Policy}
+use Rattle.acting_runs.specs.policy.Watch.{new_watch}
+use Rattle.acting_runs.specs.marks.Open.{IsWellFormed}
+use Rattle.acting_runs.specs.marks.Acts.{empty_outbox}
+use Rattle.acting_runs.specs.schedule.declared.Event.{Event}
+use Rattle.acting_runs.specs.schedule.Groups.{marks_of, Each}
+use Rattle.acting_runs.specs.schedule.Calls.{Arrival, arrived, taken}
+use Rattle.acting_runs.specs.schedule.Justified.{Justified}
+use Rattle.acting_runs.specs.run_log.Noted.{marks_in}
+use Rattle.acting_runs.specs.playing.PlayView.{Play, IsOpened}
+use Rattle.acting_runs.specs.playing.Moments.{Moment, Resting, Runs}
+use Rattle.acting_runs.specs.justifying.Steady.{drivers_of}
 
 -- a driver that was never handed a request, and hasn't failed
 pub record IsUnused (d : DriverState) : Type 0 where

@@ -1,34 +1,34 @@
 -- From a schedule that was played out to what is shown of the run.
 use Rattle.std.proofs.Common.{◌≡◌, cond, inl, inr, ℕ, suc, ◌+◌, ◌-◌, ◌<◌, ◌≤◌, List, [], ◌∷◌, ◌++◌, Bool, true, false, length, refl, sym, ◌∙◌, ap, subst, arith, Result, Ok, Err, IfOk}
 use Rattle.std.specs.List.{concat}
-use Rattle.layout.specs.declared.Geometry.{Geometry}
-use Rattle.tree.specs.Tree.{Tree}
+use Rattle.fsck.specs.layout.declared.Geometry.{Geometry}
+use Rattle.transcript_text.specs.tree.Tree.{Tree}
 use Rattle.std.specs.Prelude.{map, All, ◌⊎◌, None, Some}
-use Rattle.bdev.specs.DriverState.{DriverState, is_fresh, range_while_fresh, range_of as range_of_driver}
+use Rattle.reincarnate.specs.bdev.DriverState.{DriverState, is_fresh, range_while_fresh, range_of as range_of_driver}
 use Rattle.media.specs.Contents.{IsWhole, MediaState, sectors_of}
 use Rattle.policy.specs.declared.Policy.{Policy}
 use Rattle.policy.specs.declared.Setup.{Setup}
 use Rattle.policy.specs.Watch.{Watch, driver, new_watch}
-use Rattle.marks.specs.Marks.{Mark, Started}
-use Rattle.marks.specs.Opening.{Opening, Range, contents_at}
-use Rattle.marks.specs.Open.{IsWellFormed}
-use Rattle.marks.specs.Told.{took_end}
-use Rattle.legal.specs.ServerCall.{Serving}
+use Rattle.transcript_text.specs.marks.Marks.{Mark, Started}
+use Rattle.transcript_text.specs.marks.Opening.{Opening, Range, contents_at}
+use Rattle.transcript_text.specs.marks.Open.{IsWellFormed}
+use Rattle.transcript_text.specs.marks.Told.{took_end}
+use Rattle.file_server.specs.legal.ServerCall.{Serving}
 use Rattle.inline.specs.Inline.{IsReady}
-use Rattle.true_replies.specs.Events.{IsOnMedia}
-use Rattle.startup.specs.Starting.{opening_of}
-use Rattle.reissue.specs.declared.link.Link.{Ghosts as LinkWords}
+use Rattle.inline.specs.true_replies.Events.{IsOnMedia}
+use Rattle.run_start.specs.startup.Starting.{opening_of}
+use Rattle.file_server.specs.reissue.declared.link.Link.{Ghosts as LinkWords}
 use Rattle.schedule.specs.declared.Event.{Event}
 use Rattle.schedule.specs.declared.Sent.{Sent}
 use Rattle.schedule.specs.Groups.{Each}
 use Rattle.schedule.specs.Justified.{Justified}
 use Rattle.schedule.specs.Headline.{Transcript}
-use Rattle.run_log.specs.Noted.{Noted, marks_in}
+use Rattle.transcript.specs.run_log.Noted.{Noted, marks_in}
 use Rattle.driver_events.specs.Scene.{Scene}
 use Rattle.playing.specs.declared.playing.Playing.{Playing}
 use Rattle.playing.specs.PlayView.{Play, IsOpened, left_of, unless_told, work_left}
 use Rattle.playing.specs.Moments.{Doing, Resting, Hearing, Answering}
-use Rattle.justifying.specs.Steady.{drivers_of}
+use Rattle.whole_runs.specs.justifying.Steady.{drivers_of}
 use Rattle.whole_runs.specs.Whole.{IsUnused, IsAtEnd}
 use Rattle.whole_runs.specs.Whole.{IsWhole as IsWholeRun}
 use Rattle.whole_runs.proofs.WholeLaws.{runs_are_whole}

@@ -1,12 +1,12 @@
 -- What a run shows, and what it shows over any link.
 use Rattle.std.specs.Prelude.{◌≡◌, ℕ, List, ◌++◌, length, false}
-use Rattle.layout.specs.declared.Geometry.{Geometry}
-use Rattle.tree.specs.Tree.{Tree}
-use Rattle.bdev.specs.DriverState.{DriverState}
+use Rattle.fsck.specs.layout.declared.Geometry.{Geometry}
+use Rattle.transcript_text.specs.tree.Tree.{Tree}
+use Rattle.reincarnate.specs.bdev.DriverState.{DriverState}
 use Rattle.policy.specs.declared.Setup.{Setup}
-use Rattle.marks.specs.Opening.{Range}
-use Rattle.legal.specs.Mount.{OpenKeeps}
-use Rattle.reissue.specs.declared.link.Link.{Ghosts as LinkWords}
+use Rattle.transcript_text.specs.marks.Opening.{Range}
+use Rattle.file_server.specs.legal.Mount.{OpenKeeps}
+use Rattle.file_server.specs.reissue.declared.link.Link.{Ghosts as LinkWords}
 use Rattle.schedule.specs.declared.Event.{Event}
 use Rattle.schedule.specs.Headline.{Transcript, Headline}
 use Rattle.playing.specs.PlayView.{Play}

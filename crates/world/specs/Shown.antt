@@ -1,13 +1,14 @@
 -- What a run came to, in the words of schedules.
-use Rattle.std.specs.Prelude.{List, [], ◌∷◌, ◌++◌, map}
+use Rattle.std.specs.Prelude.{ℕ, List, [], ◌∷◌, ◌++◌, map}
 use Rattle.std.specs.List.{concat}
-use Rattle.bdev.specs.DriverState.{DriverState}
-use Rattle.legal.specs.View.{Frames}
-use Rattle.cache.specs.Slots.{held}
-use Rattle.cache.specs.Frames.{frames_of}
+use Rattle.reincarnate.specs.bdev.DriverState.{DriverState}
+use Rattle.file_server.specs.legal.View.{Frames}
+use Rattle.stored.specs.slots.Slots.{held}
+use Rattle.stored.specs.cache.Frames.{frames_of}
+use Rattle.stored.specs.cache.Calls.{frame_count}
 use Rattle.schedule.specs.Headline as schedule
-use Rattle.run_log.specs.Noted.{marks_in}
-use Rattle.run_log.specs.LogView.{said}
+use Rattle.transcript.specs.run_log.Noted.{marks_in}
+use Rattle.transcript.specs.run_log.LogView.{said}
 use Rattle.driver_events.specs.Disks.{Disks}
 use Rattle.driver_events.specs.View.{disks_of}
 use Rattle.stored.specs.declared.Stored.{Stored}
@@ -33,3 +34,7 @@ transcript_of state t = let link = line_of t.server in record {
   unanswered = t.unanswered;
   image = concat (disks_of state link.stage.drivers).media.sectors;
 }
+
+-- how many blocks of the volume may have a frame at a time
+abbrev pub frame_count_of : {D : Type 0} → Transcript D → ℕ
+frame_count_of t = frame_count t.server.blocks.cache

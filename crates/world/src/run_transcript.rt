@@ -1,5 +1,6 @@
 //! What a run came to.
 
+use driver_events::unit::Unit;
 use file_server::FileServer;
 use inline::local::LocalDriver;
 use playing::Playing;
@@ -20,7 +21,7 @@ pub struct Transcript<'a, D> {
 }
 
 impl<'a, D: LocalDriver> Transcript<'a, D> {
-    ghost use Rattle.std.specs.Prelude.{◌≡◌, IfOk, map, reverse};
+    ghost use Rattle.std.specs.Prelude.{◌≡◌, ◌++◌, ◌∷◌, [], IfOk, map, reverse};
     ghost use Rattle.transcript_text.specs.Text.{mark_of};
     ghost use Rattle.vfs.specs.OverLink.{line_of};
     ghost use Rattle.world.specs.Shown.{transcript_of};
@@ -44,6 +45,14 @@ impl<'a, D: LocalDriver> Transcript<'a, D> {
         ensures { result.now ≡ (transcript_of D.state self.now).sent }
     {
         self.link().stage.drivers.sent.as_slice()
+    }
+
+    /// The drivers that were started, each as it stands: those before the last one, the first of them first, and the last one.
+    pub fn drivers(&self) -> (&[Unit<D>], &Unit<D>)
+        ensures { map (λ u. D.state u.driver) result.0.now ++ D.state result.1.now.driver ∷ [] ≡ (transcript_of D.state self.now).drivers }
+    {
+        let drivers = &self.link().stage.drivers;
+        (drivers.older.as_slice(), &drivers.current)
     }
 
     /// The bytes of the media. An error: no memory was found.

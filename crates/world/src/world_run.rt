@@ -1,19 +1,19 @@
 //! A run of a schedule, from an image to its transcript.
 
 ghost use Rattle.std.specs.Prelude.{◌≡◌, ◌≤◌, ◌<◌, ◌+◌, ◌^◌, ◌∷◌, [], All, IfErr, IfOk, false, length, map};
-ghost use Rattle.layout.specs.Places.{IsGeometry};
+ghost use Rattle.fsck.specs.layout.Places.{IsGeometry};
 ghost use Rattle.policy.specs.Watch.{driver, new_watch};
-ghost use Rattle.marks.specs.Marks.{Started};
-ghost use Rattle.marks.specs.Opening.{Opening};
-ghost use Rattle.marks.specs.Told.{took_end};
+ghost use Rattle.transcript_text.specs.marks.Marks.{Started};
+ghost use Rattle.transcript_text.specs.marks.Opening.{Opening};
+ghost use Rattle.transcript_text.specs.marks.Told.{took_end};
 ghost use Rattle.media.specs.Contents.{IsWhole};
 ghost use Rattle.inline.specs.Inline.{IsReady};
-ghost use Rattle.true_replies.specs.Events.{IsOnMedia, opening_media};
-ghost use Rattle.run_log.specs.LogView.{room_in};
+ghost use Rattle.inline.specs.true_replies.Events.{IsOnMedia, opening_media};
+ghost use Rattle.transcript.specs.run_log.LogView.{room_in};
 ghost use Rattle.playing.specs.PlayView.{IsOpened, PlayTrue, play_of, work_left};
 ghost use Rattle.rounds.specs.Starts.{IsBeforeFirst};
 ghost use Rattle.run_start.specs.Beginning.{IsNotBegun};
-ghost use Rattle.world.specs.Shown.{transcript_of};
+ghost use Rattle.world.specs.Shown.{frame_count_of, transcript_of};
 ghost use Rattle.world.specs.Plays.{IsFresh, PlaysFrom, RunShows};
 
 use crate::run_transcript::Transcript;
@@ -94,7 +94,7 @@ pub struct World;
 
 impl World {
     /// Runs a schedule of fewer than 2^32 events on an image: checks the volume of the setup's minor, starts the first driver as generation
-    /// 1 at tick 0, opens a server on the volume, and plays the events.
+    /// 1 at tick 0, opens a server on the volume, with as many frames as the setup asks for, and plays the events.
     ///
     /// It is refused where the image makes no media; where there is no such partition; where the volume breaks a rule of the format; where
     /// a number of the setup isn't in its range, or a driver isn't ready for the volume's sectors; and where there is no driver. The first of
@@ -109,6 +109,7 @@ impl World {
         requires few { length events.now < 2 ^ 32 }
         ensures refused { IfErr result (IsNotBegun image.now setup.now (map D.state supply.items)) }
         ensures shows { IfOk result (λ t. RunShows image.now setup.now (map D.state supply.items) events.now (transcript_of D.state t)) }
+        ensures frames { IfOk result (λ t. frame_count_of t ≡ setup.now.frames) }
     {
         let prepared = prepare_run(alloc, image, setup, supply.as_slice())?;
         let clean = prepared.clean;

@@ -8,16 +8,16 @@ use Rattle.std.proofs.lemmas.Nat.{div_below}
 use Rattle.std.proofs.lemmas.List.{get_or-set_same, get_or-set_other}
 use Rattle.layout.specs.declared.Geometry.{Geometry}
 use Rattle.layout.specs.Places.{IsGeometry}
-use Rattle.tree.specs.Sums.{put, one_if}
-use Rattle.tree.proofs.Maps.{put-same, put-other}
-use Rattle.tree.specs.Space.{numbers_in_zone, data_zones}
+use Rattle.volume.specs.tree.Sums.{put, one_if}
+use Rattle.volume.proofs.tree.Maps.{put-same, put-other}
+use Rattle.volume.specs.tree.Space.{numbers_in_zone, data_zones}
 use Rattle.volume.specs.declared.Inode.{Inode}
 use Rattle.volume.specs.Reading.{Disk, is_data_zone, is_inode, u32_in, inode_of_disk}
 use Rattle.volume.specs.Pieces.{Pieces, pieces, blank}
 use Rattle.volume.specs.Nodes.{word, slot, number, is_marked}
 use Rattle.volume.specs.Places.{zone_at, has_number}
 use Rattle.volume.specs.Holds.{ZonesAgree}
-use Rattle.volume_laws.proofs.Volumes.{numbers_sized}
+use Rattle.zone_laws.proofs.volume_laws.Volumes.{numbers_sized}
 use Rattle.store.specs.Rows.{with_bytes}
 use Rattle.store.proofs.Rows.{row_new, row_old}
 use Rattle.zone_laws.specs.Steps.{first_places, slot_of, above, beside, bit_of, Links, Unlinks, IsSoundBut, IsBare, marked_in}

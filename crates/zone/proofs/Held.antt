@@ -1,27 +1,24 @@
 -- From the calls on slots and blocks to places that are held and let go.
 use Rattle.std.proofs.Common.{◌≡◌, ◌≢◌, ◌<◌, ◌≤◌, ◌+◌, ◌-◌, ◌/◌, ◌%◌, ℕ, refl, sym, ap, subst, ◌∙◌, arith}
 use mathlib.Core.Logic.{inl, inr}
-use Rattle.std.specs.Prelude.{◌==◌, IsTrue, not, Option, None, Some}
-use Rattle.std.proofs.lemmas.Bool.{cases_eq, cond-false, ne_eqb, and_parts, not_from_false}
-use Rattle.volume_laws.proofs.Sums.{some_from}
-use Rattle.volume_laws.proofs.Volumes.{numbers_sized}
+use Rattle.std.specs.Prelude.{◌==◌, not, Option, None, Some}
+use Rattle.std.proofs.lemmas.Bool.{cases_eq, cond-false, ne_eqb, not_from_false}
+use Rattle.zone_laws.proofs.volume_laws.Sums.{some_from}
+use Rattle.zone_laws.proofs.volume_laws.Volumes.{numbers_sized}
 use Rattle.layout.specs.declared.Geometry.{Geometry}
-use Rattle.tree.specs.Space.{numbers_in_zone}
-use Rattle.volume.specs.Reading.{Disk, is_inode}
+use Rattle.volume.specs.tree.Space.{numbers_in_zone}
+use Rattle.volume.specs.Reading.{Disk}
 use Rattle.volume.specs.Pieces.{Pieces, pieces}
-use Rattle.volume.specs.Nodes.{word, slot, number, is_marked}
+use Rattle.volume.specs.Nodes.{word, slot, number}
 use Rattle.volume.specs.Places.{zone_at}
 use Rattle.zone_laws.specs.Steps.{first_places, slot_of, IsBare, Links, Unlinks}
 use Rattle.zone_laws.specs.Composite.{Attached, Detached}
+use Rattle.zone_laws.proofs.Inodes.{inode_is}
 use Rattle.zone.specs.Parts.{IsLastNumber}
 use Rattle.zone.specs.Steps.{HoldsSlot, MayHoldSlot, HoldsNumber, MayHoldNumber, DropsSlot, MayDropSlot, DropsNumber, MayDropNumber}
 use Rattle.zone.specs.Pages.{MayHold, HoldsPlace, MayRelease, Releases}
 use Rattle.zone.proofs.Levels.{zone_inner, found_outer}
 use Rattle.zone.proofs.Filling.{ten, slot_filled_links, word_filled_links, inner_zone, inner_done, inner_room, inner_filled, here_above, outer_level, block_is, block_some, is_low, nth_is, marked_u, outer_zone, outer_done, outer_room, outer_filled, slot_cleared_unlinks, word_cleared_unlinks, released_inner, released_outer, released_on, may_release_above, block_there, its_place, walk_block}
-
--- a marked inode is one of the volume's
-pub inode_is : (g : Geometry) (v : Pieces) (n : ℕ) → IsTrue (is_marked g v n) → IsTrue (is_inode g n)
-inode_is g v n is = (and_parts (is_inode g n) (v.inode_map n) is).0
 
 module _ (g : Geometry) (d e : Disk) (n l k f s z : ℕ) (first : f ≡ first_places l) (near : k < f) (at : s ≡ slot_of l k) where
   abbrev v : Pieces

@@ -1,9 +1,7 @@
+pub use Rattle.zone_laws.proofs as zone_laws
 pub mod Frames
 pub mod Levels
-pub mod Ending
 pub mod Taking
 pub mod Filling
 pub mod Held
-pub mod Last
-pub mod Cutting
-pub mod Needed
+pub mod Attaching

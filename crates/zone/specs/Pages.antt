@@ -2,14 +2,15 @@
 use Rattle.std.specs.Prelude.{◌≡◌, ◌≢◌, ℕ, zero, suc, ◌+◌, ◌*◌, ◌-◌, ◌<◌, ◌≤◌, IsTrue}
 use Rattle.layout.specs.declared.Geometry.{Geometry}
 use Rattle.layout.specs.Places.{IsGeometry}
-use Rattle.tree.specs.ZonesNeeded.{page_limit}
-use Rattle.tree.specs.Space.{numbers_in_zone, data_zones, pages_of}
+use Rattle.volume.specs.tree.ZonesNeeded.{page_limit}
+use Rattle.volume.specs.tree.Space.{numbers_in_zone, data_zones, pages_of}
 use Rattle.volume.specs.Reading.{Disk}
 use Rattle.volume.specs.Pieces.{Pieces, pieces}
 use Rattle.volume.specs.Nodes.{is_marked}
 use Rattle.volume.specs.Places.{zone_at}
 use Rattle.zone_laws.specs.Steps.{first_places, IsBare, IsSoundBut, marked_in}
 use Rattle.zone_laws.specs.Missing.{missing}
+use Rattle.store.specs.Volume.{SameHead}
 use Rattle.zone_laws.specs.Composite.{Attached, Detached}
 
 -- how many places a level has
@@ -32,10 +33,6 @@ pub record MayHold (g : Geometry) (v : Pieces) (n l k : ℕ) : Type 0 where
   pub inside : l ≡ 0 → k < pages_of g (v.inodes n).size
   pub rules : IsSoundBut g v n 0 0
   pub room : marked_in g v + missing g v n (4 - l) l k ≤ data_zones g
-
--- the blocks before the maps stay
-abbrev pub SameHead : Disk → Disk → Type 0
-SameHead d e = (block : ℕ) → block < 2 → e block ≡ d block
 
 -- Zone z stands at place k of level l of inode n, where it may be held.
 pub record HoldsPlace (g : Geometry) (n l k z : ℕ) (d e : Disk) : Type 0 where

@@ -2,12 +2,12 @@
 use Rattle.std.specs.Prelude.{◌≡◌, ◌≢◌, ℕ, ◌*◌, ◌<◌, Bool, true, slice_set, Option, None, Some}
 use Rattle.std.specs.Int.{w32, to_le_bytes}
 use Rattle.layout.specs.declared.Geometry.{Geometry}
-use Rattle.tree.specs.Sums.{put}
-use Rattle.tree.specs.Space.{numbers_in_zone}
+use Rattle.volume.specs.tree.Sums.{put}
+use Rattle.volume.specs.tree.Space.{numbers_in_zone}
 use Rattle.volume.specs.Pieces.{Pieces}
 use Rattle.volume.specs.Nodes.{number}
 use Rattle.store.specs.Rows.{with_bytes}
-use Rattle.regions.specs.Regions.{with_zone}
+use Rattle.bitmap.specs.regions.Regions.{with_zone}
 use Rattle.zone_laws.specs.Steps.{bit_of, IsBare}
 
 -- pieces in which number j of a block is x

@@ -1,7 +1,7 @@
 -- The steps of which the calls on zones are made: a zone comes to stand in a slot of an inode or in a block, or is let go there.
 use Rattle.std.specs.Prelude.{◌≡◌, ◌≢◌, ℕ, ◌<◌, true, false, IsTrue}
 use Rattle.layout.specs.declared.Geometry.{Geometry}
-use Rattle.tree.specs.Space.{data_zones}
+use Rattle.volume.specs.tree.Space.{data_zones}
 use Rattle.volume.specs.Reading.{Disk, is_inode, is_data_zone}
 use Rattle.volume.specs.Pieces.{Pieces, pieces}
 use Rattle.volume.specs.Nodes.{slot, number}

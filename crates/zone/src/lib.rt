@@ -5,5 +5,4 @@ pub mod holding;
 pub mod numbers;
 pub mod pages;
 pub mod places;
-pub mod room;
 pub mod steps;

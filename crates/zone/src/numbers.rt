@@ -1,7 +1,7 @@
 //! The numbers that stand in indirect blocks, and the bytes of zones.
 
 ghost use Rattle.std.specs.Prelude.{◌≡◌, ◌<◌, ◌≤◌, ◌+◌, ◌*◌, ◌/◌, IfOk, IfErr, IfSome, OnOk, IsTrue, length, ℕ};
-ghost use Rattle.tree.specs.Space.{numbers_in_zone};
+ghost use Rattle.volume.specs.tree.Space.{numbers_in_zone};
 ghost use Rattle.layout.specs.Bytes.{u32_at};
 ghost use Rattle.volume.specs.Pieces.{pieces};
 ghost use Rattle.volume.specs.Nodes.{number};
@@ -10,7 +10,7 @@ ghost use Rattle.store.specs.World.{Turns, Reads};
 ghost use Rattle.store.specs.Rows.{with_bytes};
 ghost use Rattle.store.specs.Halts.{Ends, IsHalt};
 ghost use Rattle.store.specs.Volume.{IsOn, Alters};
-ghost use Rattle.regions.specs.Regions.{with_zone};
+ghost use Rattle.bitmap.specs.regions.Regions.{with_zone};
 ghost use Rattle.zone.specs.Parts.{with_number, IsLastNumber};
 ghost use Rattle.zone.specs.Words.{IsLastWord};
 

@@ -4,7 +4,7 @@
 //! shows what it held before. A number that is removed is removed before its zone is given back.
 
 ghost use Rattle.std.specs.Prelude.{◌≡◌, ◌<◌, IfErr, IsTrue, false};
-ghost use Rattle.tree.specs.Space.{numbers_in_zone};
+ghost use Rattle.volume.specs.tree.Space.{numbers_in_zone};
 ghost use Rattle.volume.specs.Pieces.{pieces};
 ghost use Rattle.volume.specs.Reading.{is_data_zone};
 ghost use Rattle.store.specs.World.{Turns};

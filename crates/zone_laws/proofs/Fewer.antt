@@ -2,10 +2,10 @@
 use Rattle.std.proofs.Common.{◌≡◌, ◌≤◌, ◌+◌, ◌*◌, ℕ, zero, suc, Bool, true, false, refl, sym, arith}
 use Rattle.std.specs.Prelude.{◌||◌}
 use Rattle.std.proofs.lemmas.Bool.{false≢true}
-use Rattle.tree.specs.Sums.{sum_below, some_below, count_below, one_if}
-use Rattle.tree.specs.ZonesNeeded.{zones_needed, page_limit}
-use Rattle.tree.specs.ZonesNeededByPlace.{last_needed, second_needed, third_needed}
-use Rattle.tree.proofs.Needs.{zones_needed_is_by_place}
+use Rattle.volume_laws.specs.tree.Sums.{sum_below, some_below, count_below, one_if}
+use Rattle.volume_laws.specs.tree.ZonesNeeded.{zones_needed, page_limit}
+use Rattle.volume_laws.specs.tree.ZonesNeededByPlace.{last_needed, second_needed, third_needed}
+use Rattle.volume_laws.proofs.tree.Needs.{zones_needed_is_by_place}
 
 -- one test implies the other
 abbrev IsLess : (ℕ → Bool) → (ℕ → Bool) → Type 0

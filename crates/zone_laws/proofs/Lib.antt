@@ -1,3 +1,4 @@
+pub use Rattle.volume_laws.proofs as volume_laws
 pub mod Change
 pub mod OnePlaces
 pub mod Agree

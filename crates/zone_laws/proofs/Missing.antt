@@ -4,17 +4,17 @@ use mathlib.Core.Logic.{inl, inr}
 use Rattle.std.specs.Prelude.{not, ◌==◌, nat_lt, IsTrue}
 use Rattle.std.proofs.lemmas.Bool.{cases_eq, cases_lt, cases_Bool, cond-true, cond-false, eq-eqb, ne_eqb, lt-ltb, le-ltb, not_from_false}
 use Rattle.std.proofs.lemmas.Nat.{div-add-mod', div_below, div-mul-add}
-use Rattle.layout.specs.declared.Geometry.{Geometry}
-use Rattle.layout.specs.Places.{IsGeometry}
-use Rattle.tree.specs.Sums.{put, one_if, sum_below, count_below, some_below}
-use Rattle.tree.specs.ZonesNeeded.{page_limit, zones_needed}
-use Rattle.tree.specs.ZonesNeededByPlace.{last_needed, second_needed, third_needed}
-use Rattle.tree.specs.Space.{numbers_in_zone}
-use Rattle.tree.proofs.Maps.{put-same, put-other, same_sum, sum_put}
-use Rattle.tree.proofs.Needs.{zones_needed_is_by_place}
-use Rattle.volume.specs.Pieces.{Pieces}
-use Rattle.volume.specs.Nodes.{number, is_marked}
-use Rattle.volume.specs.Places.{zone_at}
+use Rattle.volume_laws.specs.layout.declared.Geometry.{Geometry}
+use Rattle.volume_laws.specs.layout.Places.{IsGeometry}
+use Rattle.volume_laws.specs.tree.Sums.{put, one_if, sum_below, count_below, some_below}
+use Rattle.volume_laws.specs.tree.ZonesNeeded.{page_limit, zones_needed}
+use Rattle.volume_laws.specs.tree.ZonesNeededByPlace.{last_needed, second_needed, third_needed}
+use Rattle.volume_laws.specs.tree.Space.{numbers_in_zone}
+use Rattle.volume_laws.proofs.tree.Maps.{put-same, put-other, same_sum, sum_put}
+use Rattle.volume_laws.proofs.tree.Needs.{zones_needed_is_by_place}
+use Rattle.volume_laws.specs.volume.Pieces.{Pieces}
+use Rattle.volume_laws.specs.volume.Nodes.{number, is_marked}
+use Rattle.volume_laws.specs.volume.Places.{zone_at}
 use Rattle.volume_laws.proofs.Naming.{room, spot}
 use Rattle.volume_laws.proofs.Spots.{spot_next}
 use Rattle.volume_laws.proofs.Sums.{some_from, same_some, none_from}

@@ -3,13 +3,13 @@ use Rattle.std.proofs.Common.{◌≡◌, ◌<◌, ◌≤◌, ◌+◌, ℕ, true,
 use mathlib.Core.Logic.{inl, inr}
 use Rattle.std.proofs.lemmas.Bool.{cases_eq, cond-true, cond-false}
 use Rattle.std.specs.Prelude.{Some, None}
-use Rattle.tree.specs.Sums.{put, sum_below}
-use Rattle.tree.specs.Tree.{is_file}
-use Rattle.tree.specs.ZonesNeeded.{zones_needed}
-use Rattle.tree.specs.Space.{numbers_in_zone, zones_of, held_of}
-use Rattle.tree.proofs.Maps.{put-same, put-other, same_sum, sum_put}
+use Rattle.volume_laws.specs.tree.Sums.{put, sum_below}
+use Rattle.volume_laws.specs.tree.Tree.{is_file}
+use Rattle.volume_laws.specs.tree.ZonesNeeded.{zones_needed}
+use Rattle.volume_laws.specs.tree.Space.{numbers_in_zone, zones_of, held_of}
+use Rattle.volume_laws.proofs.tree.Maps.{put-same, put-other, same_sum, sum_put}
 use Rattle.zone_laws.proofs.Fewer.{need_less}
-use Rattle.volume.specs.Nodes.{file_of, node_of, nodes_of, is_marked}
+use Rattle.volume_laws.specs.volume.Nodes.{file_of, node_of, nodes_of, is_marked}
 use Rattle.volume_laws.proofs.Ranges.{marked_below}
 use Rattle.volume_laws.proofs.MarkedZones.{zones_are_marked}
 use Rattle.volume_laws.proofs.Volumes.{numbers_sized}
@@ -28,7 +28,7 @@ page_has_room g v n p f x ok s is plain low body more fits =
     let h : ℕ → ℕ = λ m. zones_of g (nodes_of g v m) in
     let here : h n ≡ zones_needed w held =
     ap (zones_of g) (cond-true (is_marked g v n) (Some (node_of g v (v.inodes n))) None is)
-    ∙ ap (λ b. zones_needed w (held_of g b)) (cond-false (Rattle.volume.specs.Nodes.is_directory_mode (v.inodes n).mode) _ _ plain) in
+    ∙ ap (λ b. zones_needed w (held_of g b)) (cond-false (Rattle.volume_laws.specs.volume.Nodes.is_directory_mode (v.inodes n).mode) _ _ plain) in
     let then_ : zones_of g (Some x) ≡ zones_needed w f.held = ap (λ b. zones_needed w (held_of g b)) body in
     let same : sum_below (λ m. zones_of g (put (nodes_of g v) n (Some x) m)) (g.inodes + 1) ≡ sum_below (put h n (zones_of g (Some x))) (g.inodes + 1) = same_sum _ _ (g.inodes + 1) (λ m _. elim (cases_eq m n) [
       | inl e ↦ ap (zones_of g) (ap (put (nodes_of g v) n (Some x)) e ∙ put-same (nodes_of g v) n (Some x)) ∙ sym (ap (put h n (zones_of g (Some x))) e ∙ put-same h n (zones_of g (Some x)))

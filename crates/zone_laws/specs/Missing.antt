@@ -1,13 +1,13 @@
 -- How many zones one page more takes.
 use Rattle.std.specs.Prelude.{◌≡◌, ℕ, zero, suc, ◌+◌, ◌*◌, ◌<◌, ◌≤◌, Bool, true, not, ◌==◌, nat_lt, if◌then◌else◌, IsTrue}
-use Rattle.layout.specs.declared.Geometry.{Geometry}
-use Rattle.layout.specs.Places.{IsGeometry}
-use Rattle.tree.specs.Sums.{put, one_if, count_below, some_below}
-use Rattle.tree.specs.ZonesNeeded.{page_limit, zones_needed}
-use Rattle.tree.specs.Space.{numbers_in_zone}
-use Rattle.volume.specs.Pieces.{Pieces}
-use Rattle.volume.specs.Nodes.{page_zone, file_of, is_marked}
-use Rattle.volume.specs.Places.{zone_at}
+use Rattle.volume_laws.specs.layout.declared.Geometry.{Geometry}
+use Rattle.volume_laws.specs.layout.Places.{IsGeometry}
+use Rattle.volume_laws.specs.tree.Sums.{put, one_if, count_below, some_below}
+use Rattle.volume_laws.specs.tree.ZonesNeeded.{page_limit, zones_needed}
+use Rattle.volume_laws.specs.tree.Space.{numbers_in_zone}
+use Rattle.volume_laws.specs.volume.Pieces.{Pieces}
+use Rattle.volume_laws.specs.volume.Nodes.{page_zone, file_of, is_marked}
+use Rattle.volume_laws.specs.volume.Places.{zone_at}
 use Rattle.volume_laws.proofs.Bridge.{limit_at}
 use Rattle.zone_laws.specs.Steps.{first_places, above, IsSoundBut}
 

@@ -1,15 +1,14 @@
 //! Calls on zones, over any blocks.
 
-ghost use Rattle.std.specs.Prelude.{◌≤◌, ◌+◌};
 ghost use Rattle.store.specs.Volume.{IsOn};
 
 use bitmap::{Map, count_free};
+use cutting::detach_from;
 use inode_table::load;
 use layout::Geometry;
 use store::{Blocks, Cut, Halt};
-use zone::pages::{attach, detach_from};
+use zone::pages::attach;
 use zone::places::lookup;
-use zone::room::need;
 
 /// How many zones are free.
 pub(crate) fn free<B: Blocks>(blocks: &mut B, geometry: &Geometry) -> Result<u32, Cut>
@@ -57,20 +56,4 @@ pub(crate) fn find<B: Blocks>(
 {
     let loaded = load(blocks, geometry, inode)?;
     Ok(lookup(blocks, geometry, &loaded, page)?)
-}
-
-/// How many zones more an inode takes when so many of its pages from the first one on are held too.
-pub(crate) fn more<B: Blocks>(
-    blocks: &mut B,
-    geometry: &Geometry,
-    inode: u32,
-    first: u32,
-    count: u32,
-) -> Result<u32, Halt>
-    requires on { IsOn B.world geometry.now blocks.old }
-    requires pages { first + count ≤ 2097152 }
-    ensures { IsOn B.world geometry.now blocks.new }
-{
-    let loaded = load(blocks, geometry, inode)?;
-    Ok(need(blocks, geometry, &loaded, first, count)?)
 }

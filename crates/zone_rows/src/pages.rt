@@ -155,31 +155,3 @@ fn numbers_that_are_none(rt: HostRuntime) -> Result<(), Fail> {
     assert!(rt; volume.has_free(58));
     Ok(())
 }
-
-#[test]
-fn zones_needed_at_1024(rt: HostRuntime) -> Result<(), Fail> {
-    let mut volume = Volume::new(small(), image(rt.alloc(), 1024, 6)?);
-    let rows = [
-        (0, 0, 0),
-        (0, 1, 1),
-        (7, 1, 2),
-        (262, 1, 2),
-        (263, 1, 3),
-        (65798, 1, 3),
-        (262, 2, 5),
-        (65799, 1, 4),
-        (2097151, 1, 4),
-        (0, 56, 57),
-    ];
-    for (first, count, zones) in rows {
-        assert!(rt; volume.needs(first, count, zones), "{count} from {first}");
-    }
-    // page 7 and the single's block are there
-    assert!(rt; volume.attaches(&[7]));
-    assert!(rt; volume.needs(7, 1, 0));
-    assert!(rt; volume.needs(0, 8, 7));
-    assert!(rt; volume.needs(262, 2, 4));
-    // nothing was taken but these two
-    assert!(rt; volume.has_free(56));
-    Ok(())
-}

@@ -3,7 +3,7 @@
 ghost use Rattle.std.specs.Prelude.{◌≡◌};
 ghost use Rattle.layout.specs.Places.{IsGeometry};
 
-use crate::calls::{drop_from, find, free, hold, more};
+use crate::calls::{drop_from, find, free, hold};
 use layout::Geometry;
 use memory::Memory;
 use std::alloc::{AllocError, Global};
@@ -117,14 +117,6 @@ impl Volume {
             }
         }
         true
-    }
-
-    /// Whether inode 1 takes so many zones more when these pages are held too.
-    pub(crate) fn needs(&mut self, first: u32, count: u32, zones: u32) -> bool {
-        if first > 2097152 || count > 2097152 - first {
-            return false;
-        }
-        more(&mut self.blocks, &self.geometry, 1, first, count) == Ok(zones)
     }
 
     /// Lets go the pages of an inode from one on.

@@ -1,5 +1,5 @@
 use Rattle.std.proofs.Common.{◌/◌, ap, ◌∙◌, arith}
-use Rattle.tree.specs.ZonesNeeded.{zones_needed}
+use Rattle.tree_laws.specs.tree.ZonesNeeded.{zones_needed}
 use Rattle.last_page.specs.Sizes.{first_pages}
 use Rattle.last_page.proofs.Pages.{kept_or_next}
 use Rattle.last_page.proofs.let_go.Goals as goal

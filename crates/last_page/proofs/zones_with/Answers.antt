@@ -2,7 +2,7 @@ use Rattle.std.proofs.Common.{◌≡◌, ◌+◌, ◌-◌, ◌*◌, ◌/◌, ◌
 use Rattle.std.specs.Prelude.{◌&&◌, ◌==◌}
 use Rattle.std.proofs.lemmas.Bool.{le-leb, lt-leb}
 use mir.Val.{bool_byte}
-use Rattle.tree.specs.Sums.{one_if}
+use Rattle.tree_laws.specs.tree.Sums.{one_if}
 use Rattle.last_page.proofs.Pages.{page_more, is_last_first, is_second_first, is_third_first}
 use Rattle.last_page.proofs.zones_with.Goals as goal
 use Rattle.last_page.proofs.zones_with.Goals.{then-page-ge7, else-page-ge7, then-page-numbers, else-page-numbers}

@@ -1,29 +1,15 @@
-use Rattle.std.proofs.Common.{◌≡◌, ◌+◌, ap, sym, arith}
-use Rattle.std.specs.Prelude.{not, slice_index}
-use Rattle.tree.specs.Sums.{one_if}
-use Rattle.volume.specs.Reading.{bit_in}
-use Rattle.bitmap.specs.Numbers.{count_free_in}
-use Rattle.bitmap.proofs.Counting.{counted_none, counted_one}
-use Rattle.bitmap.proofs.row.count_clear.Goals.{then-not-is_set, else-not-is_set}
+use Rattle.std.proofs.Common.{◌+◌, ◌*◌, ◌/◌, arith}
+use Rattle.std.specs.Prelude.{slice_index}
+use Rattle.store.specs.volume.Reading.{bit_in}
+use Rattle.bitmap.proofs.Counting.{more_counted}
 use Rattle.bitmap.proofs.row.count_clear.Goals as goal
 
-pub loop-bit-init : goal.loop-bit-init
-loop-bit-init c = record { value = sym (counted_none (bit_in (slice_index c.args.bytes.now)) c.args.from); most = omega arith }
-
-pub loop-bit-preserved : goal.loop-bit-preserved
-loop-bit-preserved c =
+pub returns-clause-value : goal.returns-clause-value
+returns-clause-value c =
     let set = bit_in (slice_index c.args.bytes.now) in
-    let next : count_free_in set c.args.from (c.loop-bit.bit + 1) ≡ count_free_in set c.args.from c.loop-bit.bit + one_if (not (set c.loop-bit.bit)) =
-    counted_one set c.args.from c.loop-bit.bit c.loop-bit.auto.bit in
-    let before = c.loop-bit.invariant.value in
-    let most = c.loop-bit.invariant.most in
-    elim c.if-not-is_set.branch [
-      | then-not-is_set w ↦
-          let now = w.clear-is in
-          let one : one_if (not (set c.loop-bit.bit)) ≡ 1 = ap (λ b. one_if (not b)) (sym w.if-not-is_set.ensures) in
-          record { value = omega (arith, before, next, one, now); most = omega (arith, most, now) }
-      | else-not-is_set w ↦
-          let now = w.clear-is in
-          let none : one_if (not (set c.loop-bit.bit)) ≡ 0 = ap (λ b. one_if (not b)) (sym w.if-not-is_set.ensures) in
-          record { value = omega (arith, before, next, none, now); most = omega (arith, most, now) }
-    ]
+    let first = 8 * (c.args.from / 8 + 1) in
+    let last = 8 * (c.args.end / 8) in
+    let two = more_counted set c.args.from first last c.count_bits-2.result c.count_whole.result (omega arith) (omega arith)
+    c.count_bits-2.ensures.value c.count_whole.ensures.value in
+    more_counted set c.args.from last c.args.end (c.count_bits-2.result + c.count_whole.result) c.count_bits-3.result (omega arith) (omega arith)
+    two c.count_bits-3.ensures.value

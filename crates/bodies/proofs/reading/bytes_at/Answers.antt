@@ -1,6 +1,6 @@
 use Rattle.std.proofs.Common.{◌≡◌, ◌+◌, ◌-◌, length, rules}
-use Rattle.volume.specs.Pieces.{pieces}
-use Rattle.volume.specs.Nodes.{file_of}
+use Rattle.store.specs.volume.Pieces.{pieces}
+use Rattle.store.specs.volume.Nodes.{file_of}
 use Rattle.file.specs.Reading.{read_count}
 use Rattle.store.proofs.Turns.{turns_as}
 use Rattle.bodies.proofs.ReadBytes.{bytes_are, whole_taken}

@@ -1,6 +1,6 @@
 use Rattle.std.proofs.Common.{refl}
 use Rattle.store.proofs.Turns.{turns_then}
-use Rattle.zone.proofs.Ending.{ends_exit, turns_three}
+use Rattle.store.proofs.Ending.{ends_exit, turns_three}
 use Rattle.byte_bodies.proofs.Stamped.{may_write, may_stamp, written}
 use Rattle.byte_bodies.proofs.dated.write_if_room.Goals as goal
 

@@ -1,5 +1,5 @@
 use Rattle.std.proofs.Common.{◌≡◌, ◌+◌, ◌<◌, length, refl, sym, subst, ◌∙◌, arith, rules}
-use Rattle.volume.specs.Pieces.{pieces}
+use Rattle.store.specs.volume.Pieces.{pieces}
 use Rattle.descriptors.specs.Table.{files_of}
 use Rattle.file.specs.Changing.{MayChange}
 use Rattle.store.proofs.Turns.{turns_as, turns_then}

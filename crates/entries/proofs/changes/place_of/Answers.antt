@@ -1,8 +1,8 @@
 use Rattle.std.proofs.Common.{subst}
-use Rattle.volume.specs.Nodes.{file_byte, entry_count_of}
-use Rattle.volume.specs.Pieces.{pieces}
+use Rattle.store.specs.volume.Nodes.{file_byte, entry_count_of}
+use Rattle.store.specs.volume.Pieces.{pieces}
 use Rattle.store.proofs.Turns.{reads_then}
-use Rattle.zone.proofs.Ending.{ends_cut_exit}
+use Rattle.store.proofs.Ending.{ends_cut_exit}
 use Rattle.directory.specs.Standing.{StandsAt}
 use Rattle.entries.proofs.Placing.{placed, not_missing}
 use Rattle.entries.proofs.changes.place_of.Goals as goal

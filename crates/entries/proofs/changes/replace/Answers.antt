@@ -1,9 +1,9 @@
 use Rattle.std.proofs.Common.{◌≡◌, ◌<◌, ◌^◌, ◌*◌, ◌∙◌, ℕ, List, length, ap, arith, sym, subst}
 use Rattle.std.specs.Prelude.{slice_index}
-use Rattle.volume.specs.Reading.{u32_in}
-use Rattle.volume.specs.Pieces.{pieces}
+use Rattle.store.specs.volume.Reading.{u32_in}
+use Rattle.store.specs.volume.Pieces.{pieces}
 use Rattle.store.proofs.Turns.{turns_as, turns_then, ends_as}
-use Rattle.zone.proofs.Ending.{ends_exit, turns_three}
+use Rattle.store.proofs.Ending.{ends_exit, turns_three}
 use Rattle.file.specs.Changing.{MayWriteAt, WritesAt}
 use Rattle.file.proofs.Becoming.{may_change_after}
 use Rattle.entries.proofs.Becoming.{may_change}

@@ -1,7 +1,7 @@
 use Rattle.std.proofs.Common.{◌≡◌, ◌<◌, ◌^◌, ◌∙◌, ℕ, List, length, ap, arith}
 use Rattle.std.specs.Prelude.{slice_index}
-use Rattle.volume.specs.Reading.{u32_in}
-use Rattle.volume.specs.Pieces.{pieces}
+use Rattle.store.specs.volume.Reading.{u32_in}
+use Rattle.store.specs.volume.Pieces.{pieces}
 use Rattle.store.proofs.Turns.{turns_as, ends_as}
 use Rattle.entries.proofs.Becoming.{parent_set, may_set_parent}
 use Rattle.entries.proofs.EntryBytes.{number_in_bytes}

@@ -1,7 +1,7 @@
 use Rattle.std.proofs.Common.{sym, subst}
-use Rattle.volume.specs.Pieces.{pieces}
+use Rattle.store.specs.volume.Pieces.{pieces}
 use Rattle.store.proofs.Turns.{turns_as, turns_then, ends_as}
-use Rattle.zone.proofs.Ending.{ends_exit, turns_three}
+use Rattle.store.proofs.Ending.{ends_exit, turns_three}
 use Rattle.entries.specs.Removal.{Drops, MayDrop}
 use Rattle.entries.proofs.Removing.{may_drop, may_stamp, removed}
 use Rattle.entries.proofs.removal.remove.Goals as goal

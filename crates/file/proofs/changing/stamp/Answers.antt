@@ -1,6 +1,6 @@
-use Rattle.volume.specs.Pieces.{pieces}
+use Rattle.store.specs.volume.Pieces.{pieces}
 use Rattle.store.proofs.Turns.{turns_then, ends_as}
-use Rattle.zone.proofs.Held.{inode_is}
+use Rattle.zone.proofs.zone_laws.Inodes.{inode_is}
 use Rattle.file.proofs.Resizing.{stamps}
 use Rattle.file.proofs.changing.stamp.Goals as goal
 

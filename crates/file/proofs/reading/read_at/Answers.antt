@@ -1,5 +1,5 @@
 use Rattle.std.proofs.Common.{rules, ◌≡◌, ◌≤◌, ◌+◌, ◌-◌, ◌%◌, length, arith, refl, ◌∙◌}
-use Rattle.volume.specs.Pieces.{pieces}
+use Rattle.store.specs.volume.Pieces.{pieces}
 use Rattle.store.proofs.Turns.{reads_then, if_cut}
 use Rattle.file.specs.Reading.{read_count}
 use Rattle.file.proofs.Parts.{index_behind, length_kept}

@@ -1,6 +1,6 @@
 use Rattle.std.proofs.Common.{◌-◌, ◌≡◌, ◌≤◌, ℕ, length, slice_index}
-use Rattle.volume.specs.Pieces.{pieces}
-use Rattle.volume.specs.Nodes.{file_of}
+use Rattle.store.specs.volume.Pieces.{pieces}
+use Rattle.store.specs.volume.Nodes.{file_of}
 use Rattle.store.specs.World.{Reads}
 use Rattle.file.specs.Reading.{HasFileBytes}
 use Rattle.file.proofs.reading.read_at.Given as goal

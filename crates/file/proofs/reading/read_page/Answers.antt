@@ -1,6 +1,6 @@
 use Rattle.std.proofs.Common.{rules, ◌≡◌, ◌<◌, ℕ, length, slice_index, false}
 use Rattle.std.specs.Prelude.{IsTrue}
-use Rattle.volume.specs.Reading.{is_data_zone}
+use Rattle.store.specs.volume.Reading.{is_data_zone}
 use Rattle.store.proofs.Turns.{reads_then, reads_as, on_ok}
 use Rattle.file.proofs.Pages.{bytes_inside, bytes_outside}
 use Rattle.file.proofs.reading.read_page.Goals as goal

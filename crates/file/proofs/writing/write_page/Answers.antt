@@ -1,4 +1,4 @@
-use Rattle.volume.specs.Pieces.{pieces}
+use Rattle.store.specs.volume.Pieces.{pieces}
 use Rattle.store.proofs.Turns.{turns_as, ends_as}
 use Rattle.file.proofs.Written.{page_in_zone, writes_page}
 use Rattle.file.proofs.writing.write_page.Goals as goal

@@ -1,7 +1,7 @@
 use Rattle.std.proofs.Common.{◌≡◌, ◌≤◌, List, true}
 use Rattle.std.specs.VecDeque.{deque_capacity}
-use Rattle.marks.specs.Marks.{Mark}
-use Rattle.marks.specs.Opening.{Opening}
+use Rattle.true_replies.specs.marks.Marks.{Mark}
+use Rattle.true_replies.specs.marks.Opening.{Opening}
 use Rattle.inline.specs.Running.{Kept}
 use Rattle.inline.proofs.Going.{HasGone}
 use Rattle.inline.proofs.running.run.Given as goal

@@ -1,7 +1,7 @@
 use Rattle.std.proofs.Common.{◌≡◌, refl, ◌∙◌, ap}
 use Rattle.message.specs.declared.Incoming.TheVariants as incoming
-use Rattle.marks.specs.Told.{heard}
-use Rattle.inline.specs.Notes.{history_of}
+use Rattle.reissue.specs.marks.Told.{heard}
+use Rattle.list_link.specs.Notes.{history_of}
 use Rattle.list_link.specs.Grows.{grows_heard}
 use Rattle.list_link.proofs.ListLinkLink.take.Goals.{then-self-via-then-self, then-self-via-else-self+then-self-eq0, then-self-via-else-self+else-self-eq0+then-not-make_room}
 use Rattle.list_link.proofs.ListLinkLink.take.Goals as goal

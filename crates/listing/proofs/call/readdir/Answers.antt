@@ -1,11 +1,11 @@
 use Rattle.std.proofs.Common.{sym, ap, subst, ◌∙◌}
-use Rattle.volume.specs.Reading.{Disk}
-use Rattle.volume.specs.Pieces.{pieces}
-use Rattle.volume.specs.Nodes.{directory_of, entry_count_of, file_byte}
+use Rattle.store.specs.volume.Reading.{Disk}
+use Rattle.store.specs.volume.Pieces.{pieces}
+use Rattle.store.specs.volume.Nodes.{directory_of, entry_count_of, file_byte}
 use Rattle.tree.specs.Answers.{answer_of}
 use Rattle.descriptors.specs.Table.{files_of}
 use Rattle.store.proofs.Turns.{turns_as, turns_then}
-use Rattle.zone.proofs.Ending.{ends_exit}
+use Rattle.store.proofs.Ending.{ends_exit}
 use Rattle.bodies.proofs.Looks.{found_some, found_none, said_of, none_left, given_ok}
 use Rattle.listing.specs.Numbers.{HasInodes}
 use Rattle.listing.proofs.Gathering.{numbers_small}

@@ -1,8 +1,8 @@
 use Rattle.std.proofs.Common.{◌≡◌, ◌<◌, ◌≤◌, ◌/◌, arith, rules}
-use Rattle.volume.specs.Pieces.{pieces}
-use Rattle.volume.specs.Nodes.{file_byte, entry_count_of}
+use Rattle.store.specs.volume.Pieces.{pieces}
+use Rattle.store.specs.volume.Nodes.{file_byte, entry_count_of}
 use Rattle.store.proofs.Turns.{reads_none, reads_then}
-use Rattle.zone.proofs.Ending.{ends_exit}
+use Rattle.store.proofs.Ending.{ends_exit}
 use Rattle.listing.proofs.Gathering.{none_yet, one_more, said_ok}
 use Rattle.listing.proofs.gather.names_of.Goals as goal
 

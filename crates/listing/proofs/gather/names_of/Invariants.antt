@@ -1,6 +1,6 @@
 use Rattle.std.proofs.Common.{◌≡◌, ◌≤◌, ◌-◌, ◌/◌}
-use Rattle.volume.specs.Nodes.{file_byte, names_in}
-use Rattle.volume.specs.Pieces.{pieces}
+use Rattle.store.specs.volume.Nodes.{file_byte, names_in}
+use Rattle.store.specs.volume.Pieces.{pieces}
 use Rattle.store.specs.World.{Reads}
 use Rattle.listing.proofs.gather.names_of.Given as goal
 

@@ -1,6 +1,6 @@
 use Rattle.std.proofs.Common.{◌≡◌, length, rules}
-use Rattle.volume.specs.Pieces.{pieces}
-use Rattle.volume.specs.Nodes.{file_byte}
+use Rattle.store.specs.volume.Pieces.{pieces}
+use Rattle.store.specs.volume.Nodes.{file_byte}
 use Rattle.store.proofs.Turns.{turns_as, on_ok}
 use Rattle.listing.proofs.Gathering.{entry_put}
 use Rattle.listing.proofs.gather.put_entry.Goals as goal

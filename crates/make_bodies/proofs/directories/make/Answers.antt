@@ -5,8 +5,8 @@ use Rattle.errno.specs.declared.Errno.TheVariants.{EINVAL, EMLINK}
 use Rattle.tree.specs.Answers.{done}
 use Rattle.tree.specs.NameCalls.{mkdir}
 use Rattle.tree.specs.Tree.{Tree}
-use Rattle.volume.specs.Reading.{Disk}
-use Rattle.descriptors.specs.Files.{HasFiles}
+use Rattle.store.specs.volume.Reading.{Disk}
+use Rattle.node_steps.specs.descriptors.Files.{HasFiles}
 use Rattle.store.proofs.Turns.{turns_as, turns_none, turns_then}
 use Rattle.walk.proofs.Ending.{answers_as}
 use Rattle.make_bodies.specs.Making.{MakesDirectoryAt, MayMakeDirectoryAt}

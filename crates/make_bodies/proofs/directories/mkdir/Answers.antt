@@ -3,7 +3,7 @@ use Rattle.std.specs.Prelude.{Result}
 use Rattle.tree.specs.Answers.{done}
 use Rattle.tree.specs.NameCalls.{mkdir}
 use Rattle.tree.specs.Tree.{Tree}
-use Rattle.descriptors.specs.Files.{HasFiles}
+use Rattle.node_steps.specs.descriptors.Files.{HasFiles}
 use Rattle.store.proofs.Turns.{turns_as}
 use Rattle.walk.specs.declared.stop.Stop.{Stop}
 use Rattle.make_bodies.specs.Stopping.{MeetsOrStops}

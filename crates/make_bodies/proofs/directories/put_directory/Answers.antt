@@ -1,5 +1,5 @@
 use Rattle.std.proofs.Common.{◌<◌, length, arith, rules}
-use Rattle.zone.proofs.Ending.{ends_exit, turns_three}
+use Rattle.store.proofs.Ending.{ends_exit, turns_three}
 use Rattle.store.proofs.Turns.{ends_as, turns_as, turns_none, turns_then}
 use Rattle.make_bodies.specs.Making.{MakesDirectoryAt, MayMakeDirectoryAt}
 use Rattle.make_bodies.proofs.Putting.{all_done, name_short, to_enter, to_link, to_make}

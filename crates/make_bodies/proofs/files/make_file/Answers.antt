@@ -1,6 +1,6 @@
 use Rattle.std.proofs.Common.{◌∙◌, Bool, Ok, sym, subst}
 use Rattle.errno.specs.declared.Errno.TheVariants.{EACCES, ENOENT}
-use Rattle.volume.specs.Reading.{Disk}
+use Rattle.store.specs.volume.Reading.{Disk}
 use Rattle.store.proofs.Turns.{turns_as, turns_none, turns_then}
 use Rattle.walk.proofs.Ending.{answers_exit}
 use Rattle.make_bodies.specs.Making.{IsFileRefused, MakesFileAt, MakesFileOr, MayMakeAt}

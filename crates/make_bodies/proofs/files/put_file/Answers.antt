@@ -1,6 +1,6 @@
 use Rattle.std.proofs.Common.{◌<◌, length, arith, rules}
 use Rattle.tree.specs.Changes.{empty_file, new_node}
-use Rattle.zone.proofs.Ending.{ends_exit}
+use Rattle.store.proofs.Ending.{ends_exit}
 use Rattle.store.proofs.Turns.{ends_as, turns_as, turns_none, turns_then}
 use Rattle.make_bodies.specs.Making.{MakesFileAt, MayMakeAt}
 use Rattle.make_bodies.proofs.Putting.{file_done, file_small, file_stands, may_enter, may_make_file, name_short}

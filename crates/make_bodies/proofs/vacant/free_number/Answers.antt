@@ -1,7 +1,7 @@
 use Rattle.std.proofs.Common.{◌<◌, subst, arith, rules}
-use Rattle.volume.specs.Pieces.{pieces}
+use Rattle.store.specs.volume.Pieces.{pieces}
 use Rattle.store.proofs.Turns.{reads_as, reads_then}
-use Rattle.file.specs.Room.{IsRoomBeside}
+use Rattle.file_room.specs.Room.{IsRoomBeside}
 use Rattle.making.specs.NewNodes.{IsLeastFree}
 use Rattle.make_bodies.proofs.Ending.{answers_halted}
 use Rattle.make_bodies.proofs.Numbers.{directory_number, is_free_for, no_inode, no_zones, not_long}

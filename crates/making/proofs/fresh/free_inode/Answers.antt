@@ -1,4 +1,4 @@
-use Rattle.volume.specs.Pieces.{pieces}
+use Rattle.store.specs.volume.Pieces.{pieces}
 use Rattle.store.proofs.Turns.{if_ok, reads_as}
 use Rattle.making.proofs.Lowest.{least_free}
 use Rattle.making.proofs.fresh.free_inode.Goals as goal

@@ -2,7 +2,7 @@ use Rattle.std.proofs.Common.{true}
 use Rattle.bitmap.specs.Maps.{with_number}
 use Rattle.bitmap.specs.declared.Map.TheVariants as map
 use Rattle.store.proofs.Turns.{turns_as, turns_then}
-use Rattle.zone.proofs.Ending.{alters_over, ends_exit}
+use Rattle.store.proofs.Ending.{alters_over, ends_exit}
 use Rattle.making.proofs.fresh.mark.Goals as goal
 
 pub returns-in_err-store-clause-turns : goal.returns-in_err-store-clause-turns

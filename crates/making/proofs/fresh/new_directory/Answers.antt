@@ -1,9 +1,9 @@
 use Rattle.std.proofs.Common.{subst}
-use Rattle.volume.specs.declared.Inode.{Inode}
-use Rattle.volume.specs.Pieces.{pieces}
+use Rattle.store.specs.volume.declared.Inode.{Inode}
+use Rattle.store.specs.volume.Pieces.{pieces}
 use Rattle.store.specs.Volume.{Alters}
 use Rattle.store.proofs.Turns.{ends_as, turns_as, turns_then}
-use Rattle.zone.proofs.Ending.{ends_exit}
+use Rattle.store.proofs.Ending.{ends_exit}
 use Rattle.making.specs.NewNodes.{with_new_inode}
 use Rattle.making.proofs.NewRows.{directory_makes, may_begin}
 use Rattle.making.proofs.fresh.new_directory.Goals as goal

@@ -1,6 +1,6 @@
 use Rattle.std.proofs.Common.{subst}
-use Rattle.volume.specs.declared.Inode.{Inode}
-use Rattle.volume.specs.Pieces.{pieces}
+use Rattle.store.specs.volume.declared.Inode.{Inode}
+use Rattle.store.specs.volume.Pieces.{pieces}
 use Rattle.store.specs.Volume.{Alters}
 use Rattle.store.proofs.Turns.{ends_as, turns_as}
 use Rattle.making.specs.NewNodes.{with_new_inode}

@@ -55,7 +55,7 @@ messages-preserved-in-Some g c =
 pub returns-then-is_empty-clause-reads : goal.returns-then-is_empty-clause-reads
 returns-then-is_empty-clause-reads g c =
     let i = c.messages.invariant in
-    let e = c.in-None.ensures in
+    let e = c.in_default.ensures in
     let n = e.none in
     let size = length c.args.into.now in
     let asked = c.begin_next.new.asked.items in
@@ -78,7 +78,7 @@ returns-then-is_empty-clause-reads g c =
 pub put_bytes-requires : goal.put_bytes-requires
 put_bytes-requires g c =
     let i = c.messages.invariant in
-    let e = c.in-None.ensures in
+    let e = c.in_default.ensures in
     let n = e.none in
     let size = length c.args.into.now in
     let asked = c.begin_next.new.asked.items in
@@ -97,7 +97,7 @@ put_bytes-requires g c =
 pub messages-preserved-in-Read : goal.messages-preserved-in-Read
 messages-preserved-in-Read g c =
     let i = c.messages.invariant in
-    let e = c.in-None.ensures in
+    let e = c.in_default.ensures in
     let n = e.none in
     let size = length c.args.into.now in
     let asked = c.begin_next.new.asked.items in
@@ -135,7 +135,7 @@ messages-preserved-in-Read g c =
 pub returns-in-GaveUp-clause-reads : goal.returns-in-GaveUp-clause-reads
 returns-in-GaveUp-clause-reads g c =
     let i = c.messages.invariant in
-    let e = c.in-None.ensures in
+    let e = c.in_default.ensures in
     let n = e.none in
     let size = length c.args.into.now in
     let asked = c.begin_next.new.asked.items in
@@ -161,7 +161,7 @@ returns-in-GaveUp-clause-reads g c =
 pub returns-in-End-clause-reads : goal.returns-in-End-clause-reads
 returns-in-End-clause-reads g c =
     let i = c.messages.invariant in
-    let e = c.in-None.ensures in
+    let e = c.in_default.ensures in
     let n = e.none in
     let size = length c.args.into.now in
     let asked = c.begin_next.new.asked.items in
@@ -187,7 +187,7 @@ returns-in-End-clause-reads g c =
 pub messages-preserved-in-Nothing : goal.messages-preserved-in-Nothing
 messages-preserved-in-Nothing g c =
     let i = c.messages.invariant in
-    let e = c.in-None.ensures in
+    let e = c.in_default.ensures in
     let n = e.none in
     let size = length c.args.into.now in
     let asked = c.begin_next.new.asked.items in
@@ -224,7 +224,7 @@ messages-preserved-in-Nothing g c =
 pub messages-preserved-in-Written : goal.messages-preserved-in-Written
 messages-preserved-in-Written g c =
     let i = c.messages.invariant in
-    let e = c.in-None.ensures in
+    let e = c.in_default.ensures in
     let n = e.none in
     let size = length c.args.into.now in
     let asked = c.begin_next.new.asked.items in
@@ -245,7 +245,7 @@ messages-preserved-in-Written g c =
 pub messages-preserved : goal.messages-preserved
 messages-preserved g c =
     let i = c.messages.invariant in
-    let e = c.in-None.ensures in
+    let e = c.in_default.ensures in
     let n = e.none in
     let size = length c.args.into.now in
     let asked = c.begin_next.new.asked.items in

@@ -1,5 +1,5 @@
 use Rattle.store.proofs.Turns.{turns_as, turns_then, ends_as}
-use Rattle.zone.proofs.Ending.{ends_exit, turns_three}
+use Rattle.store.proofs.Ending.{ends_exit, turns_three}
 use Rattle.moving.proofs.Whole.{can_out_over, can_put_over, can_settle_over, moved_over}
 use Rattle.moving.proofs.moves.move_over.Goals as goal
 

@@ -1,5 +1,5 @@
 use Rattle.store.proofs.Turns.{turns_as, turns_then, ends_as}
-use Rattle.zone.proofs.Ending.{ends_exit, turns_three}
+use Rattle.store.proofs.Ending.{ends_exit, turns_three}
 use Rattle.moving.proofs.Whole.{can_out_to, can_put_to, can_settle_to, moved_to}
 use Rattle.moving.proofs.moves.move_to.Goals as goal
 

@@ -1,5 +1,5 @@
 use Rattle.store.proofs.Turns.{turns_as, turns_then, ends_as}
-use Rattle.zone.proofs.Ending.{ends_exit}
+use Rattle.store.proofs.Ending.{ends_exit}
 use Rattle.moving.proofs.Whole.{may_rename_it, then_settle, settled_within}
 use Rattle.moving.proofs.moves.move_within.Goals as goal
 

@@ -1,6 +1,6 @@
 use Rattle.std.proofs.Common.{subst, sym, true, false}
 use Rattle.store.proofs.Turns.{turns_as, turns_then, ends_as}
-use Rattle.zone.proofs.Ending.{ends_exit}
+use Rattle.store.proofs.Ending.{ends_exit}
 use Rattle.descriptors.specs.Table.{files_of}
 use Rattle.moving.specs.Leads.{Leads, CanLead}
 use Rattle.moving.specs.Replaced.{MayDropReplaced, without_it}

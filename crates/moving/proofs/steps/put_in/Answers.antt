@@ -1,7 +1,7 @@
 use Rattle.std.proofs.Common.{subst, sym}
-use Rattle.tree.specs.Sums.{one_if}
+use Rattle.descriptors.specs.tree.Sums.{one_if}
 use Rattle.store.proofs.Turns.{turns_as, turns_then, ends_as}
-use Rattle.zone.proofs.Ending.{ends_exit}
+use Rattle.store.proofs.Ending.{ends_exit}
 use Rattle.moving.specs.Leads.{Leads}
 use Rattle.moving.specs.Moves.{MayPutIn, with_entry_and_links}
 use Rattle.moving.proofs.Putting.{may_insert, in_file, in_directory, in_then_add}

@@ -1,6 +1,6 @@
 use Rattle.std.proofs.Common.{subst, sym}
 use Rattle.store.proofs.Turns.{turns_as, turns_then, ends_as}
-use Rattle.zone.proofs.Ending.{ends_exit}
+use Rattle.store.proofs.Ending.{ends_exit}
 use Rattle.moving.specs.Leads.{Leads, CanLead}
 use Rattle.moving.specs.Moves.{MaySettle, settled}
 use Rattle.moving.proofs.Settling.{may_parent, settled_directory, settled_file, file_touch, can_touch}

@@ -1,7 +1,7 @@
 use Rattle.store.proofs.Turns.{turns_as, turns_then, ends_as}
-use Rattle.zone.proofs.Ending.{ends_exit}
-use Rattle.zone.proofs.Held.{inode_is}
-use Rattle.volume.specs.Pieces.{pieces}
+use Rattle.store.proofs.Ending.{ends_exit}
+use Rattle.node_steps.proofs.zone_laws.Inodes.{inode_is}
+use Rattle.store.specs.volume.Pieces.{pieces}
 use Rattle.moving.proofs.Settling.{of_there, may_touch, touch_leads}
 use Rattle.moving.proofs.steps.touch.Goals as goal
 

@@ -1,9 +1,9 @@
 use Rattle.std.proofs.Common.{◌≡◌, ◌<◌, ◌≤◌, ◌∙◌, true, false, Ok, Err, rules, sym, ap, subst}
 use Rattle.errno.specs.declared.Errno.TheVariants.{EMLINK, EPERM}
 use Rattle.tree.specs.Tree.{most_links}
-use Rattle.volume.specs.Nodes.{is_directory_mode}
+use Rattle.store.specs.volume.Nodes.{is_directory_mode}
 use Rattle.store.proofs.Turns.{reads_then, turns_as}
-use Rattle.zone.proofs.Ending.{ends_exit}
+use Rattle.store.proofs.Ending.{ends_exit}
 use Rattle.name_bodies.specs.Linking.{FindsFile}
 use Rattle.name_bodies.proofs.Asking.{file_found, file_halted, file_has_links, file_is_directory, file_not_walked, number_of_file}
 use Rattle.name_bodies.proofs.linking.find_file.Goals as goal

@@ -5,7 +5,7 @@ use Rattle.std.proofs.lemmas.List.Elements.{All-from_get_or}
 use Rattle.tree.specs.Names.{is_name}
 use Rattle.tree.specs.Walk.{read_path}
 use Rattle.store.proofs.Turns.{turns_as, turns_none, turns_then}
-use Rattle.zone.proofs.Ending.{ends_exit, turns_three}
+use Rattle.store.proofs.Ending.{ends_exit, turns_three}
 use Rattle.name_bodies.specs.declared.linking.Free.{Free}
 use Rattle.name_bodies.specs.Linking.{FindsFile, FindsFree, IsLast}
 use Rattle.name_bodies.proofs.Standing.{volume_of}

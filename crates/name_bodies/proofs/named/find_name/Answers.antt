@@ -4,7 +4,7 @@ use Rattle.std.proofs.lemmas.List.Elements.{All-from_get_or}
 use Rattle.std.specs.Prelude.{Ok}
 use Rattle.tree.specs.Walk.{has_last_name, read_path}
 use Rattle.store.proofs.Turns.{reads_as, reads_then}
-use Rattle.zone.proofs.Ending.{ends_exit}
+use Rattle.store.proofs.Ending.{ends_exit}
 use Rattle.name_bodies.specs.Names.{MeansPlace}
 use Rattle.name_bodies.proofs.Meaning.{has_bytes, its_number, name_found, no_name, not_walked, not_writable}
 use Rattle.name_bodies.proofs.named.find_name.Goals as goal

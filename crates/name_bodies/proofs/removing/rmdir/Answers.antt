@@ -2,7 +2,7 @@ use Rattle.std.proofs.Common.{◌≡◌, ◌<◌, ◌≤◌, ◌^◌, ◌∙◌,
 use Rattle.std.specs.Prelude.{IfOk}
 use Rattle.descriptors.specs.Table.{files_of}
 use Rattle.store.proofs.Turns.{turns_as, turns_then}
-use Rattle.zone.proofs.Ending.{ends_exit, turns_three}
+use Rattle.store.proofs.Ending.{ends_exit, turns_three}
 use Rattle.name_bodies.specs.declared.named.Named.{Named}
 use Rattle.name_bodies.specs.Names.{FindsName, why_kept}
 use Rattle.name_bodies.proofs.Standing.{may_remove_of}

@@ -1,8 +1,8 @@
 use Rattle.std.proofs.Common.{◌≡◌, ◌<◌, ◌^◌, ◌∙◌, true, false, sym, subst, arith}
-use Rattle.volume.specs.Nodes.{is_directory_mode}
+use Rattle.store.specs.volume.Nodes.{is_directory_mode}
 use Rattle.descriptors.specs.Table.{files_of}
 use Rattle.store.proofs.Turns.{turns_as, turns_then}
-use Rattle.zone.proofs.Ending.{ends_exit, turns_three}
+use Rattle.store.proofs.Ending.{ends_exit, turns_three}
 use Rattle.name_bodies.specs.Names.{FindsName}
 use Rattle.name_bodies.proofs.Standing.{may_remove_of, volume_of}
 use Rattle.name_bodies.proofs.Unlinking.{may_lose, unlink_of_directory, unlink_refused, unlinked}

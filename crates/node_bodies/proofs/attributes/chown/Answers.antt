@@ -2,7 +2,7 @@ use Rattle.std.proofs.Common.{rules, ap, arith}
 use Rattle.std.specs.Prelude.{not, ◌==◌}
 use Rattle.std.proofs.lemmas.Bool.{eq-eqb, ne_eqb}
 use Rattle.store.proofs.Turns.{turns_as, turns_then}
-use Rattle.zone.proofs.Ending.{ends_exit}
+use Rattle.store.proofs.Ending.{ends_exit}
 use Rattle.node_bodies.proofs.Effects.{walk_refused, right_refused, is_number}
 use Rattle.node_bodies.proofs.Calls.{found_ok, found_err, chown_done, with_owner}
 use Rattle.node_bodies.proofs.attributes.chown.Goals as goal

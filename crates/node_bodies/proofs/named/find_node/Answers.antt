@@ -1,6 +1,6 @@
 use Rattle.std.proofs.Common.{subst}
 use Rattle.store.proofs.Turns.{reads_then, reads_as}
-use Rattle.zone.proofs.Ending.{ends_exit}
+use Rattle.store.proofs.Ending.{ends_exit}
 use Rattle.node_bodies.specs.Named.{Names}
 use Rattle.node_bodies.proofs.Naming.{its_number, found_node, found_refused}
 use Rattle.node_bodies.proofs.named.find_node.Goals as goal

@@ -1,6 +1,6 @@
-use Rattle.volume.specs.Pieces.{pieces}
+use Rattle.store.specs.volume.Pieces.{pieces}
 use Rattle.store.proofs.Turns.{turns_as, turns_then}
-use Rattle.zone.proofs.Ending.{ends_exit}
+use Rattle.store.proofs.Ending.{ends_exit}
 use Rattle.node_steps.proofs.Freeing.{frees_node}
 use Rattle.node_steps.proofs.Storing.{may_change}
 use Rattle.node_steps.proofs.ending.free_node.Goals as goal

@@ -4,8 +4,8 @@ use Rattle.std.specs.List.{All}
 use Rattle.std.specs.Prelude.{IsTrue, is_some}
 use Rattle.tree.specs.Tree.{Tree}
 use Rattle.tree.specs.Walk.{is_there, read_path}
-use Rattle.volume.specs.Holds.{HoldsVolume}
-use Rattle.volume.specs.Reading.{Disk}
+use Rattle.store.specs.volume.Holds.{HoldsVolume}
+use Rattle.store.specs.volume.Reading.{Disk}
 use Rattle.store.proofs.Turns.{turns_as, turns_none, turns_then}
 use Rattle.walk.specs.declared.place.Found.{Found}
 use Rattle.walk.specs.Places.{Finds}

@@ -1,9 +1,9 @@
 use Rattle.std.proofs.Common.{◌<◌, ◌^◌, sym, subst, ◌∙◌, arith}
-use Rattle.volume.specs.Pieces.{pieces}
-use Rattle.volume.specs.Reading.{Disk}
+use Rattle.store.specs.volume.Pieces.{pieces}
+use Rattle.store.specs.volume.Reading.{Disk}
 use Rattle.store.proofs.Turns.{turns_as, turns_then}
-use Rattle.zone.proofs.Held.{inode_is}
-use Rattle.file.specs.Changing.{MayChange}
+use Rattle.walk.proofs.zone_laws.Inodes.{inode_is}
+use Rattle.bodies.specs.file.Changing.{MayChange}
 use Rattle.bodies.proofs.Made.{node_there}
 use Rattle.byte_bodies.specs.Dated.{SetsSizeAt}
 use Rattle.make_bodies.proofs.Ending.{answers_halted}

@@ -1,9 +1,9 @@
 use Rattle.std.proofs.Common.{◌≡◌, ◌≢◌, ◌<◌, ◌+◌, ◌*◌, ◌-◌, ℕ, Bool, true, false, sym, ap, subst, ◌∙◌, below_more, arith}
 use Rattle.std.specs.Prelude.{not, ◌==◌, ◌&&◌}
 use Rattle.std.proofs.lemmas.Bool.{false≢true, ne_eqb}
-use Rattle.volume.specs.Reading.{is_data_zone}
-use Rattle.volume.specs.Nodes.{word, number}
-use Rattle.volume.specs.Findings.{is_bad_zone}
+use Rattle.image.specs.volume.Reading.{is_data_zone}
+use Rattle.image.specs.volume.Nodes.{word, number}
+use Rattle.image.specs.volume.Findings.{is_bad_zone}
 use Rattle.image.specs.Contents.{contents}
 use Rattle.passes.specs.Entered.{IsNamed, IsFine, is_in}
 use Rattle.passes.proofs.Contents.{data_some, child_of, number_is, numbers_low}

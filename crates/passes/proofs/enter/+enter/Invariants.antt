@@ -1,5 +1,5 @@
 use Rattle.std.proofs.Common.{◌<◌, ◌-◌, ℕ}
-use Rattle.volume.specs.Nodes.{word}
+use Rattle.image.specs.volume.Nodes.{word}
 use Rattle.image.specs.Contents.{contents}
 use Rattle.passes.specs.Entered.{IsFine, IsSwept, Keeps}
 use Rattle.passes.proofs.enter.+enter.Given as goal

@@ -2,9 +2,9 @@ use Rattle.std.proofs.Common.{◌≡◌, ◌<◌, ◌≤◌, ◌+◌, ℕ, Bool,
 use mathlib.Core.Logic.{inl, inr}
 use Rattle.std.specs.Prelude.{not}
 use Rattle.std.proofs.lemmas.Bool.{cases_lt, both_ways, not-true, not-false}
-use Rattle.volume.specs.Nodes.{slot, is_marked}
-use Rattle.volume.specs.Findings.{has_bad_number}
-use Rattle.volume.specs.Verdict.{place_limit}
+use Rattle.image.specs.volume.Nodes.{slot, is_marked}
+use Rattle.image.specs.volume.Findings.{has_bad_number}
+use Rattle.image.specs.volume.Verdict.{place_limit}
 use Rattle.image.specs.Contents.{contents}
 use Rattle.image.proofs.Leasts.{some_least, none_least}
 use Rattle.passes.specs.Entered.{IsFine, SlotsAreFine, level_of}

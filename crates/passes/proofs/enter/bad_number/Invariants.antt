@@ -1,6 +1,6 @@
 use Rattle.std.proofs.Common.{◌≡◌, ◌<◌, ℕ, true, false}
-use Rattle.volume.specs.Nodes.{is_marked}
-use Rattle.volume.specs.Findings.{has_bad_number}
+use Rattle.image.specs.volume.Nodes.{is_marked}
+use Rattle.image.specs.volume.Findings.{has_bad_number}
 use Rattle.image.specs.Contents.{contents}
 use Rattle.passes.specs.Entered.{IsSwept, SlotsAreFine}
 use Rattle.passes.proofs.enter.bad_number.Given as goal

@@ -1,7 +1,7 @@
 use Rattle.std.proofs.Common.{◌≡◌, ◌<◌, ◌+◌, ℕ, Bool, true, false, refl, sym, ap, subst, ◌∙◌, slice_index_or, below_more, arith}
 use Rattle.std.specs.Prelude.{not}
-use Rattle.volume.specs.Nodes.{slot, is_marked}
-use Rattle.volume.specs.Places.{zone_at}
+use Rattle.image.specs.volume.Nodes.{slot, is_marked}
+use Rattle.image.specs.volume.Places.{zone_at}
 use Rattle.image.specs.Contents.{contents}
 use Rattle.passes.specs.Entered.{IsNamed, IsFine, level_of}
 use Rattle.passes.proofs.Contents.{index_of, slot_place}

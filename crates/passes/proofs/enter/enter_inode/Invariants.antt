@@ -1,5 +1,5 @@
 use Rattle.std.proofs.Common.{◌<◌, ℕ}
-use Rattle.volume.specs.Nodes.{slot}
+use Rattle.image.specs.volume.Nodes.{slot}
 use Rattle.image.specs.Contents.{contents}
 use Rattle.passes.specs.Entered.{IsFine, IsSwept, Keeps, level_of}
 use Rattle.passes.proofs.enter.enter_inode.Given as goal

@@ -1,7 +1,7 @@
 use Rattle.std.proofs.Common.{◌≡◌, ◌<◌, ◌≤◌, ◌+◌, ◌*◌, ◌-◌, ◌^◌, ℕ, Bool, true, false, sym, ap, ◌∙◌, below_more, arith}
 use Rattle.std.specs.Prelude.{nat_le}
-use Rattle.tree.specs.Space.{numbers_in_zone}
-use Rattle.volume.specs.Places.{zone_at}
+use Rattle.image.specs.tree.Space.{numbers_in_zone}
+use Rattle.image.specs.volume.Places.{zone_at}
 use Rattle.image.specs.Contents.{contents}
 use Rattle.passes.specs.Spare.{first_place, is_spare}
 use Rattle.passes.proofs.Contents.{number_word}

@@ -1,5 +1,5 @@
 use Rattle.std.proofs.Common.{◌≡◌, ◌<◌, ◌+◌, ◌*◌, ◌-◌, ℕ, false}
-use Rattle.tree.specs.Space.{numbers_in_zone}
+use Rattle.image.specs.tree.Space.{numbers_in_zone}
 use Rattle.passes.specs.Spare.{first_place, is_spare}
 use Rattle.passes.proofs.spare.+is_spare.Given as goal
 

@@ -1,9 +1,9 @@
 use Rattle.std.proofs.Common.{◌≡◌, ◌<◌, ◌+◌, ℕ, Bool, true, false, sym, ap, ◌∙◌, arith}
 use Rattle.std.specs.Prelude.{not, ◌==◌}
 use Rattle.std.proofs.lemmas.Bool.{eq-eqb, ne_eqb}
-use Rattle.tree.specs.Space.{numbers_in_zone}
-use Rattle.volume.specs.Nodes.{word}
-use Rattle.volume_laws.proofs.Sums.{some_from, none_from}
+use Rattle.image.specs.tree.Space.{numbers_in_zone}
+use Rattle.image.specs.volume.Nodes.{word}
+use Rattle.image.proofs.volume_laws.Sums.{some_from, none_from}
 use Rattle.image.specs.Contents.{contents}
 use Rattle.passes.proofs.Contents.{number_word}
 use Rattle.passes.proofs.spare.has_number.Goals as goal

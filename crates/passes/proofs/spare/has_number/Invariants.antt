@@ -1,5 +1,5 @@
 use Rattle.std.proofs.Common.{◌≡◌, ◌<◌, ℕ}
-use Rattle.volume.specs.Nodes.{number}
+use Rattle.image.specs.volume.Nodes.{number}
 use Rattle.image.specs.Contents.{contents}
 use Rattle.passes.proofs.spare.has_number.Given as goal
 

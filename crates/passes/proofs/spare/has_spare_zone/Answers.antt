@@ -1,7 +1,7 @@
 use Rattle.std.proofs.Common.{◌≡◌, ◌<◌, ◌≤◌, ◌+◌, ◌-◌, ◌^◌, ℕ, Bool, true, false, sym, ap, subst, ◌∙◌, below_more, arith}
-use Rattle.tree.specs.Space.{pages_of}
-use Rattle.volume.specs.Nodes.{slot}
-use Rattle.volume.specs.Places.{zone_at}
+use Rattle.image.specs.tree.Space.{pages_of}
+use Rattle.image.specs.volume.Nodes.{slot}
+use Rattle.image.specs.volume.Places.{zone_at}
 use Rattle.image.specs.Contents.{contents}
 use Rattle.passes.specs.Entered.{level_of}
 use Rattle.passes.proofs.Contents.{slot_place}

@@ -1,6 +1,6 @@
 use Rattle.std.proofs.Common.{◌≡◌, ◌≤◌, ◌+◌, ℕ, Bool, false, ap, sym, rules, arith}
-use Rattle.volume.specs.Findings.{has_bad_bit}
-use Rattle.volume.specs.Verdict.{place_limit}
+use Rattle.image.specs.volume.Findings.{has_bad_bit}
+use Rattle.image.specs.volume.Verdict.{place_limit}
 use Rattle.image.specs.Contents.{contents}
 use Rattle.image.proofs.Leasts.{first_least}
 use Rattle.passes.proofs.Counting.{past_zones}

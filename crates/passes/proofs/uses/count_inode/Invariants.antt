@@ -1,7 +1,7 @@
 use Rattle.std.proofs.Common.{◌+◌, ℕ, length}
 use Rattle.std.specs.Prelude.{◌==◌}
-use Rattle.tree.specs.Sums.{sum_below, count_below}
-use Rattle.volume.specs.Nodes.{slot, word}
+use Rattle.image.specs.tree.Sums.{sum_below, count_below}
+use Rattle.image.specs.volume.Nodes.{slot, word}
 use Rattle.image.specs.Contents.{contents}
 use Rattle.passes.specs.Counts.{AreSmall, AreCountedTo, named_by_inode, named_by_entered}
 use Rattle.passes.proofs.uses.count_inode.Given as goal

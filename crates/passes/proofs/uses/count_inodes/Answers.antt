@@ -1,9 +1,9 @@
 use Rattle.std.proofs.Common.{◌≡◌, ◌≤◌, ◌<◌, ◌+◌, ◌*◌, ◌-◌, ℕ, Bool, true, false, refl, sym, ap, ◌∙◌, cond, slice_index, slice_index_or, arith}
 use Rattle.std.specs.Prelude.{◌==◌, min}
 use Rattle.std.proofs.lemmas.Bool.{cond-true, cond-false}
-use Rattle.tree.specs.Sums.{sum_below, count_below, one_if}
-use Rattle.tree.specs.Space.{numbers_in_zone}
-use Rattle.volume.specs.Nodes.{slot, word, number, is_marked}
+use Rattle.image.specs.tree.Sums.{sum_below, count_below, one_if}
+use Rattle.image.specs.tree.Space.{numbers_in_zone}
+use Rattle.image.specs.volume.Nodes.{slot, word, number, is_marked}
 use Rattle.image.specs.Contents.{contents}
 use Rattle.passes.specs.Entered.{is_in}
 use Rattle.passes.specs.Counts.{AreSmall, AreCountedTo, named_by_inode, named_by_zone, named_by_entered}

@@ -1,7 +1,7 @@
 use Rattle.std.proofs.Common.{◌≡◌, ◌∙◌, true, false, sym, subst}
 use Rattle.descriptors.specs.Table.{files_of}
 use Rattle.store.proofs.Turns.{reads_as, reads_then}
-use Rattle.zone.proofs.Ending.{ends_exit}
+use Rattle.store.proofs.Ending.{ends_exit}
 use Rattle.rename_body.specs.Barred.{SaysInside}
 use Rattle.rename_body.proofs.Standing.{directory_held, number_held}
 use Rattle.rename_body.proofs.Barring.{at_free_name, at_taken_name, in_itself}

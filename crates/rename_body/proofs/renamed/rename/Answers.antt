@@ -5,7 +5,7 @@ use Rattle.std.proofs.lemmas.List.Elements.{All-from_get_or}
 use Rattle.tree.specs.NameCalls.{is_same}
 use Rattle.descriptors.specs.Table.{files_of}
 use Rattle.store.proofs.Turns.{turns_as, turns_then}
-use Rattle.zone.proofs.Ending.{ends_exit}
+use Rattle.store.proofs.Ending.{ends_exit}
 use Rattle.name_bodies.proofs.Linked.{reads_both}
 use Rattle.rename_body.specs.declared.asked.Asked.{Asked}
 use Rattle.rename_body.specs.Asked.{FindsAsked, IsNamed}

@@ -1,12 +1,12 @@
 use Rattle.std.proofs.Common.{◌∙◌, ◌+◌, sym, ap, subst, IfErr, length, map}
 use Rattle.std.specs.Prelude.{◌≤◌}
 use Rattle.std.proofs.lemmas.List.Folds.{list_all-map}
-use Rattle.layout.specs.Places.{geometry_of}
-use Rattle.layout.proofs.Parsed.{geometry_fits}
+use Rattle.fsck.specs.layout.Places.{geometry_of}
+use Rattle.fsck.proofs.layout.Parsed.{geometry_fits}
 use Rattle.partition.specs.Places.{volume_place}
 use Rattle.startup.specs.Starting.{is_ready_for, opening_of}
 use Rattle.startup.proofs.Starts.{all_ready, err_is, many_sectors, same_bytes}
-use Rattle.marks.specs.Opening.{volume_bytes}
+use Rattle.inline.specs.marks.Opening.{volume_bytes}
 use Rattle.run_start.specs.Beginning.{IsNotBegun, range_of}
 use Rattle.run_start.proofs.Begun.{begun, lies_on, not_clean, not_good, well_set_up}
 use Rattle.run_start.proofs.preparing.prepare_run.Goals as goal

@@ -1,11 +1,11 @@
 use Rattle.std.proofs.Common.{◌≡◌, ◌<◌, ◌≤◌, ◌+◌, ◌/◌, ℕ, Bool, true, false, sym, ap, ◌∙◌, arith}
 use Rattle.std.specs.Prelude.{not, ◌&&◌, ◌||◌, ◌==◌}
 use Rattle.std.proofs.lemmas.Bool.{eq-eqb, ne_eqb, or_left, or_right, and_from}
-use Rattle.tree.specs.Names.{dot, dot_dot}
-use Rattle.tree.specs.Space.{pages_of}
+use Rattle.volume.specs.tree.Names.{dot, dot_dot}
+use Rattle.volume.specs.tree.Space.{pages_of}
 use Rattle.volume.specs.Nodes.{page_zone, entry_inode, file_byte, is_marked}
 use Rattle.volume.specs.Entries.{is_directory_inode, is_field, target_at, entry_count}
-use Rattle.volume_laws.proofs.Sums.{some_from, none_from}
+use Rattle.image.proofs.volume_laws.Sums.{some_from, none_from}
 use Rattle.image.specs.Contents.{contents}
 use Rattle.scan.proofs.Entries.{no_directory, of_directory, two_entries, target_same, field_same}
 use Rattle.scan.proofs.dots.has_hole.Goals as goal

@@ -1,11 +1,11 @@
 use Rattle.std.proofs.Common.{◌≡◌, ◌<◌, ◌≤◌, ◌+◌, ◌/◌, ℕ, true, false, sym, ap, ◌∙◌, cond, slice_index, arith}
 use Rattle.std.specs.Prelude.{not, ◌==◌, min}
-use Rattle.tree.specs.Sums.{one_if}
+use Rattle.volume.specs.tree.Sums.{one_if}
 use Rattle.volume.specs.Nodes.{entry_inode, file_byte}
 use Rattle.volume.specs.Entries.{target_at}
 use Rattle.volume.specs.Findings.{all_names_of, is_reached}
 use Rattle.image.specs.Contents.{contents}
-use Rattle.volume_laws.proofs.Sums.{one_most}
+use Rattle.image.proofs.volume_laws.Sums.{one_most}
 use Rattle.scan.proofs.Entries.{no_directory, two_entries, directory_low}
 use Rattle.scan.proofs.Standing.{unreached, not_once, by_home}
 use Rattle.scan.proofs.homes.is_misplaced.Goals as goal

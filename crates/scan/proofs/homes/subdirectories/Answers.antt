@@ -1,8 +1,8 @@
 use Rattle.std.proofs.Common.{◌≡◌, ◌<◌, ◌≤◌, ◌+◌, ◌-◌, ◌/◌, ℕ, sym, ap, ◌∙◌, arith}
-use Rattle.tree.specs.Sums.{count_below, one_if}
+use Rattle.volume.specs.tree.Sums.{count_below, one_if}
 use Rattle.volume.specs.Nodes.{entry_inode, file_byte}
 use Rattle.volume.specs.Entries.{is_directory_inode, entry_count, target_at}
-use Rattle.volume_laws.proofs.Sums.{one_most}
+use Rattle.image.proofs.volume_laws.Sums.{one_most}
 use Rattle.image.specs.Contents.{contents}
 use Rattle.scan.proofs.Counts.{sum_more, no_sum}
 use Rattle.scan.proofs.homes.subdirectories.Goals as goal

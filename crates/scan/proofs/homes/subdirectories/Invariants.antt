@@ -1,5 +1,5 @@
 use Rattle.std.proofs.Common.{◌≡◌, ◌≤◌, ◌+◌, ◌-◌, ◌/◌, ℕ}
-use Rattle.tree.specs.Sums.{count_below}
+use Rattle.volume.specs.tree.Sums.{count_below}
 use Rattle.volume.specs.Entries.{is_directory_inode, target_at}
 use Rattle.image.specs.Contents.{contents}
 use Rattle.scan.proofs.homes.subdirectories.Given as goal

@@ -7,7 +7,7 @@ use lib.Pointwise.{pointwise}
 use lib.Dec.{eqb}
 use Rattle.volume.specs.Entries.{entry_count, name_at}
 use Rattle.volume.specs.Findings.{is_bad_entry}
-use Rattle.volume_laws.proofs.Sums.{some_from, none_from}
+use Rattle.image.proofs.volume_laws.Sums.{some_from, none_from}
 use Rattle.image.specs.Contents.{contents}
 use Rattle.scan.proofs.Entries.{no_directory, of_directory, target_same, name_same, name_field_same}
 use Rattle.scan.proofs.Doubles.{no_some, names_more, stands_earlier, bad_free, bad_field, bad_double, good_entry}

@@ -1,6 +1,6 @@
 use Rattle.std.proofs.Common.{◌≡◌, ◌+◌, ◌*◌, ◌<◌, ℕ, List, length, sym, subst, arith}
 use Rattle.std.specs.Prelude.{◌==◌}
-use Rattle.tree.specs.Sums.{one_if}
+use Rattle.volume.specs.tree.Sums.{one_if}
 use Rattle.scan.specs.Reached.{GoesOn, unseen}
 use Rattle.scan.proofs.Walks.{walk_begins, walk_goes, walk_over}
 use Rattle.scan.proofs.reached.mark_reached.Goals as goal

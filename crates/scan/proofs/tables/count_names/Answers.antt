@@ -2,7 +2,7 @@ use Rattle.std.proofs.Common.{◌≡◌, ◌<◌, ◌≤◌, ◌+◌, ℕ, slice
 use mathlib.Core.Logic.{inl, inr}
 use Rattle.std.proofs.lemmas.Bool.{cases_lt}
 use Rattle.std.specs.Prelude.{min}
-use Rattle.tree.specs.Sums.{sum_below}
+use Rattle.volume.specs.tree.Sums.{sum_below}
 use Rattle.volume.specs.Findings.{names_in_of}
 use Rattle.image.specs.Contents.{contents}
 use Rattle.scan.proofs.Counts.{sum_more, no_sum}

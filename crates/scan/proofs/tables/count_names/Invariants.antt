@@ -1,6 +1,6 @@
 use Rattle.std.proofs.Common.{◌≡◌, ◌<◌, ◌≤◌, ◌+◌, ℕ, length, slice_index}
 use Rattle.std.specs.Prelude.{min}
-use Rattle.tree.specs.Sums.{sum_below}
+use Rattle.volume.specs.tree.Sums.{sum_below}
 use Rattle.volume.specs.Findings.{names_in_of}
 use Rattle.image.specs.Contents.{contents}
 use Rattle.scan.proofs.tables.count_names.Given as goal

@@ -1,7 +1,7 @@
 use Rattle.std.proofs.Common.{◌≡◌, ◌<◌, ◌≤◌, ◌+◌, ◌-◌, ◌/◌, ℕ, Bool, true, false, refl, sym, ap, ◌∙◌, cond, arith}
 use Rattle.std.specs.Prelude.{◌==◌}
 use Rattle.std.proofs.lemmas.Bool.{cond-true, cond-false}
-use Rattle.tree.specs.Sums.{sum_below, count_below, one_if}
+use Rattle.volume.specs.tree.Sums.{sum_below, count_below, one_if}
 use Rattle.volume.specs.Nodes.{entry_inode, file_byte}
 use Rattle.volume.specs.Entries.{is_directory_inode, entry_count, target_at}
 use Rattle.volume.specs.Findings.{names_in_of}

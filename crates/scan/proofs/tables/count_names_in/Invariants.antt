@@ -1,6 +1,6 @@
 use Rattle.std.proofs.Common.{◌≡◌, ◌≤◌, ◌+◌, ◌-◌, ◌/◌, ℕ, length, slice_index}
 use Rattle.std.specs.Prelude.{◌==◌}
-use Rattle.tree.specs.Sums.{count_below}
+use Rattle.volume.specs.tree.Sums.{count_below}
 use Rattle.volume.specs.Entries.{target_at}
 use Rattle.image.specs.Contents.{contents}
 use Rattle.scan.specs.Named.{AreNamedMore}

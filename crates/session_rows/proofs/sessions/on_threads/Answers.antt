@@ -1,8 +1,9 @@
 use Rattle.std.proofs.Common.{◌≡◌, sym, subst, map}
 use Rattle.std.specs.Prelude.{All}
-use Rattle.marks.specs.Opening.{Opening}
+use Rattle.history.specs.marks.Opening.{Opening, contents_at}
 use Rattle.inline.specs.Inline.{IsReady}
-use Rattle.true_replies.specs.Events.{IsOnMedia, opening_media}
+use Rattle.startup.specs.mounting.Laws.{sizes_in}
+use Rattle.inline.specs.true_replies.Events.{IsOnMedia, opening_media}
 use Rattle.launch.proofs.Frames.{frames_fit}
 use Rattle.session_rows.proofs.sessions.on_threads.Goals as goal
 
@@ -16,4 +17,8 @@ over_threads-requires-clause-truth g c = λ _ _.
 
 pub over_threads-requires-clause-frames : goal.over_threads-requires-clause-frames
 over_threads-requires-clause-frames g c = λ _ _.
-    frames_fit c.args.setup.now.frames c.requires.startable.set_up.0.0 c.requires.startable.set_up.0.1
+    frames_fit c.args.setup.now.frames c.requires.prepared.set_up.0.0 c.requires.prepared.set_up.0.1
+
+pub over_threads-requires-clause-geometry : goal.over_threads-requires-clause-geometry
+over_threads-requires-clause-geometry g c = λ _ _.
+    subst (λ (v : Opening). g.N.Room.geometry ≡ sizes_in (contents_at v)) (sym c.requires.opening) c.requires.geometry

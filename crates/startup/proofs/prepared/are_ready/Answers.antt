@@ -1,5 +1,5 @@
 use Rattle.std.proofs.Common.{◌∙◌, sym, ap, Some}
-use Rattle.bdev.specs.Promises.{IsDriver}
+use Rattle.inline.specs.bdev.Promises.{IsDriver}
 use Rattle.startup.specs.Starting.{is_same_range, is_ready_for}
 use Rattle.startup.proofs.Starts.{ready_more, holds_not}
 use Rattle.startup.proofs.prepared.are_ready.Goals as goal

@@ -1,7 +1,7 @@
 use Rattle.std.proofs.Common.{◌≡◌, true, take}
 use Rattle.std.specs.Prelude.{All}
 use Rattle.std.specs.List.{list_all}
-use Rattle.bdev.specs.Promises.{IsDriver}
+use Rattle.inline.specs.bdev.Promises.{IsDriver}
 use Rattle.startup.specs.Starting.{is_ready_for}
 use Rattle.startup.proofs.prepared.are_ready.Given as goal
 

@@ -1,11 +1,8 @@
 use Rattle.std.proofs.Common.{◌∙◌, ◌+◌, sym, ap, subst, IfErr, length, map}
 use Rattle.std.specs.Prelude.{◌≤◌}
 use Rattle.std.proofs.lemmas.List.Folds.{list_all-map}
-use Rattle.layout.specs.Places.{geometry_of}
-use Rattle.layout.proofs.Parsed.{geometry_fits}
-use Rattle.startup.specs.declared.refusal.StartRefusal.TheVariants.{Mount}
-use Rattle.startup.specs.Starting.{place_in, why_not_mounted, bytes_of, IsRefused, opening_of, is_ready_for}
-use Rattle.startup.proofs.Starts.{err_is, not_placed, all_ready, lies_on_media, many_sectors, same_bytes}
+use Rattle.startup.specs.Starting.{place_in, IsRefused, opening_of, is_ready_for}
+use Rattle.startup.proofs.Starts.{err_is, not_placed, all_ready, lies_on_media, many_sectors}
 use Rattle.startup.proofs.prepared.prepare.Goals as goal
 
 pub returns-in_err-range-clause-refusal : goal.returns-in_err-range-clause-refusal
@@ -16,34 +13,15 @@ returns-in_err-range-clause-refusal g c =
     subst (λ r. IfErr r (IsRefused image c.args.setup.now (map g.D.LocalDriver.state c.args.supply.now))) (sym (err_is c.from_residual-in_err-range.result e c.from_residual-in_err-range.ensures))
     (not_placed image c.args.setup.now (map g.D.LocalDriver.state c.args.supply.now) e c.in_ok-media.ensures.ok.0 at)
 
-pub returns-in_err-geometry-clause-refusal : goal.returns-in_err-geometry-clause-refusal
-returns-in_err-geometry-clause-refusal g c =
-    let image = c.args.image.now in
-    let range = c.in_ok-range.range in
-    let e = c.in_err-geometry.field-0.0 in
-    let at = ap (λ s. place_in s c.args.setup.now.minor) (sym c.as_chunks.ensures.front) ∙ sym c.place_in.ensures.place ∙ c.in_ok-range.was in
-    let why = ap why_not_mounted (sym (same_bytes image range)) ∙ c.in_err-geometry.ensures.refusal in
-    subst (λ r. IfErr r (IsRefused image c.args.setup.now (map g.D.LocalDriver.state c.args.supply.now))) (sym (err_is c.from_residual-in_err-geometry.result (Mount e) c.from_residual-in_err-geometry.ensures))
-    (range, (c.in_ok-media.ensures.ok.0, at), c.in_ok-check_setup.ensures.fits, c.in_ok-check_setup.ensures.some, why)
-
 pub returns-clause-ok : goal.returns-clause-ok
 returns-clause-ok g c =
     let image = c.args.image.now in
-    let same = same_bytes image c.in_ok-range.range in
     let at = ap (λ s. place_in s c.args.setup.now.minor) (sym c.as_chunks.ensures.front) ∙ sym c.place_in.ensures.place ∙ c.in_ok-range.was in
     record {
       place = (c.in_ok-media.ensures.ok.0, at);
       set_up = c.in_ok-check_setup.ensures.fits;
       some = c.in_ok-check_setup.ensures.some;
-      geometry = ap geometry_of (sym same) ∙ c.in_ok-geometry.ensures.ok.0;
-      mounted = ap why_not_mounted (sym same) ∙ c.in_ok-geometry.ensures.ok.1;
     }
-
-pub returns-clause-sizes : goal.returns-clause-sizes
-returns-clause-sizes g c =
-    let image = c.args.image.now in
-    let range = c.in_ok-range.range in
-    (geometry_fits (bytes_of image range) c.in_ok-geometry.geometry (ap geometry_of (sym (same_bytes image range)) ∙ c.in_ok-geometry.ensures.ok.0)).0
 
 pub returns-clause-ready : goal.returns-clause-ready
 returns-clause-ready g c =

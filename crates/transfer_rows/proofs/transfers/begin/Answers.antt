@@ -3,8 +3,8 @@ use mathlib.Core.Logic.{inl, inr}
 use Rattle.reissue.specs.declared.ask.BeginRefusal.{BeginRefusal}
 use Rattle.reissue.specs.Moves.{Begun, Opens}
 use Rattle.reissue.proofs.Maps.{put_cases}
-use Rattle.cache.specs.Frames.{IsOfBlock}
-use Rattle.cache.proofs.Beginning.{free_block}
+use Rattle.frame_samples.specs.cache.Frames.{IsOfBlock}
+use Rattle.frame_samples.proofs.cache.Beginning.{free_block}
 use Rattle.transfer_rows.proofs.transfers.begin.Goals as goal
 
 -- a request for a block is begun, or none

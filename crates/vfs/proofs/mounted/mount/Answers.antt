@@ -1,9 +1,18 @@
-use Rattle.std.proofs.Common.{◌∙◌, ap, subst}
+use Rattle.std.proofs.Common.{◌∙◌, ap, refl, subst}
 use Rattle.layout.specs.declared.Geometry.{Geometry}
-use Rattle.marks.specs.Told.{took_end}
+use Rattle.reissue.specs.marks.Told.{took_end}
 use Rattle.vfs.specs.OverLink.{IsNewOver}
-use Rattle.vfs.proofs.Mounting.{lacking_later, mounted, refused_later, unended}
+use Rattle.vfs.proofs.Mounting.{lacking_later, mounted, refused_later, refused_now, unended}
+use Rattle.mounting.specs.declared.whole.MountRefusal.TheVariants as refusal
 use Rattle.vfs.proofs.mounted.mount.Goals as goal
+
+pub returns-then-not-is_allowed-clause-refused : goal.returns-then-not-is_allowed-clause-refused
+returns-then-not-is_allowed-clause-refused g c =
+    refused_now g.L.Link c.args.link c.args.minor c.args.frames refusal.BadFrames (g.met.L.Link.stays _) (c.if-not-is_allowed.ensures.refused, refl)
+
+pub returns-in-Err-clause-refused : goal.returns-in-Err-clause-refused
+returns-in-Err-clause-refused g c =
+    refused_now g.L.Link c.args.link c.args.minor c.args.frames refusal.OutOfMemory (g.met.L.Link.stays _) c.if-not-is_allowed.ensures.allowed
 
 pub returns-in-Err-read_volume-clause-refused : goal.returns-in-Err-read_volume-clause-refused
 returns-in-Err-read_volume-clause-refused g c =

@@ -1,5 +1,5 @@
 use Rattle.store.proofs.Turns.{reads_as, reads_then}
-use Rattle.zone.proofs.Ending.{reads_three}
+use Rattle.store.proofs.Ending.{reads_three}
 use Rattle.walk.proofs.Ending.{answers_cut, answers_exit}
 use Rattle.walk.proofs.Finding.{is_placed, not_entered, not_walked, walks_of}
 use Rattle.walk.proofs.place.find_place.Goals as goal

@@ -1,6 +1,6 @@
 use Rattle.std.proofs.Common.{◌∙◌, sym, refl}
-use Rattle.volume.specs.Nodes.{node_of}
-use Rattle.volume.specs.Pieces.{pieces}
+use Rattle.store.specs.volume.Nodes.{node_of}
+use Rattle.store.specs.volume.Pieces.{pieces}
 use Rattle.store.proofs.Turns.{reads_as}
 use Rattle.walk.proofs.Entering.{is_held, of_a_file, of_a_closed, of_an_open}
 use Rattle.walk.proofs.step.enter.Goals as goal

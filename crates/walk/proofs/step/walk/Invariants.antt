@@ -1,6 +1,6 @@
 use Rattle.std.proofs.Common.{length}
 use Rattle.tree.specs.Tree.{Tree}
-use Rattle.volume.specs.Holds.{Holds}
+use Rattle.store.specs.volume.Holds.{Holds}
 use Rattle.store.specs.World.{Reads}
 use Rattle.walk.proofs.Going.{IsOnWay}
 use Rattle.walk.proofs.step.walk.Given as goal

@@ -1,5 +1,5 @@
 use Rattle.store.proofs.Turns.{turns_as, ends_as}
-use Rattle.zone.proofs.Cutting.{page_attached}
+use Rattle.zone.proofs.Attaching.{page_attached}
 use Rattle.zone.proofs.pages.attach.Goals as goal
 
 pub returns-clause-turns : goal.returns-clause-turns

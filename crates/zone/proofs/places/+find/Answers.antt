@@ -1,5 +1,5 @@
 use Rattle.volume.specs.Pieces.{pieces}
-use Rattle.volume_laws.proofs.Volumes.{numbers_sized}
+use Rattle.zone_laws.proofs.volume_laws.Volumes.{numbers_sized}
 use Rattle.store.proofs.Turns.{reads_then, if_ok}
 use Rattle.zone.proofs.Levels.{found_outer}
 use Rattle.zone.proofs.places.+find.Goals as goal

@@ -2,7 +2,7 @@ use Rattle.std.proofs.Common.{◌∙◌, sym, subst}
 use Rattle.volume.specs.Pieces.{pieces}
 use Rattle.store.proofs.Turns.{turns_then}
 use Rattle.zone.specs.Steps.{HasRoom}
-use Rattle.zone.proofs.Ending.{ends_exit, turns_three}
+use Rattle.store.proofs.Ending.{ends_exit, turns_three}
 use Rattle.zone.proofs.Taking.{number_filled}
 use Rattle.zone.proofs.steps.hold_number.Goals as goal
 

@@ -1,5 +1,5 @@
 use Rattle.std.proofs.Common.{ap, sym, subst, ◌∙◌, ◌≡◌, List}
-use Rattle.marks.specs.Marks.{Mark}
+use Rattle.legal.specs.marks.Marks.{Mark}
 use Rattle.legal.specs.Session.{IsLonger}
 use Rattle.board.specs.View.{SeatState}
 use Rattle.board.specs.Steps.{Meets}

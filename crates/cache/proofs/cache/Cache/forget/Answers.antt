@@ -1,7 +1,7 @@
 use Rattle.std.proofs.Common.{refl, sym, ◌∙◌}
 use Rattle.cache.specs.Calls.{caching, caching_of}
-use Rattle.cache.proofs.Placing.{keeps_none, vacated, clean_passes, found_at, none_held, forgotten_clean, forgotten_other, forgotten_none}
-use Rattle.cache.proofs.Staying.{frame_stays}
+use Rattle.cache.proofs.Placing.{keeps_none, vacated, clean_passes, forgotten_clean, forgotten_other, forgotten_none}
+use Rattle.slots.proofs.Staying.{frame_stays}
 use Rattle.cache.proofs.cache.Cache.forget.Goals as goal
 
 pub returns-then-is_clean-clause-keeps : goal.returns-then-is_clean-clause-keeps
@@ -17,7 +17,7 @@ returns-then-is_clean-clause-held g c =
     let s = c.args.self.now in
     let items = s.slots.items.items in
     forgotten_clean items c.vacate.new.self.items.items c.in-Some.at c.args.block c.get.result.now s.slots.distinct
-    (found_at items c.in-Some.at c.args.block (sym c.find.ensures ∙ c.in-Some.is)) c.get.ensures (sym c.is_clean.ensures ∙ c.if-is_clean.true) c.vacate.ensures.set
+    c.in-Some.ensures c.get.ensures (sym c.is_clean.ensures ∙ c.if-is_clean.true) c.vacate.ensures.set
 
 pub returns-else-is_clean-clause-keeps : goal.returns-else-is_clean-clause-keeps
 returns-else-is_clean-clause-keeps g c = keeps_none _ c.requires.ready
@@ -27,16 +27,16 @@ returns-else-is_clean-clause-held g c =
     let s = c.args.self.now in
     let items = s.slots.items.items in
     forgotten_other items c.in-Some.at c.args.block c.get.result.now s.slots.distinct
-    (found_at items c.in-Some.at c.args.block (sym c.find.ensures ∙ c.in-Some.is)) c.get.ensures (sym c.is_clean.ensures ∙ c.if-is_clean.false)
+    c.in-Some.ensures c.get.ensures (sym c.is_clean.ensures ∙ c.if-is_clean.false)
 
-pub returns-in_default-clause-keeps : goal.returns-in_default-clause-keeps
-returns-in_default-clause-keeps g c = keeps_none _ c.requires.ready
+pub returns-in-None-clause-keeps : goal.returns-in-None-clause-keeps
+returns-in-None-clause-keeps g c = keeps_none _ c.requires.ready
 
-pub returns-in_default-clause-held : goal.returns-in_default-clause-held
-returns-in_default-clause-held g c = forgotten_none _ c.args.block (none_held c.args.self.now.slots.items.items c.args.block (sym c.find.ensures ∙ c.in_default.is))
+pub returns-in-None-clause-held : goal.returns-in-None-clause-held
+returns-in-None-clause-held g c = forgotten_none _ c.args.block c.in-None.ensures
 
 pub returns-then-is_clean-clause-frames : goal.returns-then-is_clean-clause-frames
 returns-then-is_clean-clause-frames g c = λ f ne is.
     let items = c.args.self.now.slots.items.items in
     frame_stays items c.vacate.new.self.items.items c.in-Some.at c.args.block f.at f.block _
-    (found_at items c.in-Some.at c.args.block (sym c.find.ensures ∙ c.in-Some.is)) ne c.vacate.ensures.set is
+    c.in-Some.ensures ne c.vacate.ensures.set is

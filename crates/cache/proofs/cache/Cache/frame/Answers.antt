@@ -1,8 +1,8 @@
-use Rattle.std.proofs.Common.{sym, ap, ◌∙◌, Option}
+use Rattle.std.proofs.Common.{ℕ, List, take, sym, ap, ◌∙◌, Option, Some}
 use Rattle.cache.specs.Frames.{frame_of}
-use Rattle.cache.specs.declared.slots.Slot.{Slot}
-use Rattle.cache.proofs.Edits.{one_slot}
-use Rattle.cache.proofs.Held.{held_at}
+use Rattle.slots.specs.declared.slot.Slot.{Slot}
+use Rattle.slots.proofs.Edits.{one_slot}
+use Rattle.slots.proofs.Held.{held_at}
 use Rattle.cache.proofs.cache.Cache.frame.Goals as goal
 
 pub returns-clause-bytes : goal.returns-clause-bytes
@@ -13,3 +13,4 @@ returns-clause-bytes g c =
     let same = one_slot items c.args.frame.at f.slot c.get.result.now f.is c.get.ensures in
     ap (λ (o : Option Slot). frame_of s.shape.block_size o)
     (held_at items c.args.frame.at c.args.frame.block c.get.result.now s.slots.distinct c.get.ensures (ap (λ (y : Slot). y.block) (sym same) ∙ f.block_is))
+    ∙ ap (λ (row : List ℕ). Some (take s.shape.block_size row)) (sym c.deref.ensures)

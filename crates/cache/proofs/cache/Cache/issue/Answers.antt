@@ -1,11 +1,12 @@
 use Rattle.std.proofs.Common.{◌≡◌, refl, sym, ap, subst, ◌∙◌, Err}
 use Rattle.cache.specs.Calls.{Caching, caching, caching_of, Keeps}
-use Rattle.cache.specs.declared.slots.Slot.{Slot}
-use Rattle.cache.proofs.Beginning.{longer, refusing, issued_at, free_block, write_one, write_leaves, busy_begun, dirty_parts}
-use Rattle.cache.proofs.Edits.{one_slot}
-use Rattle.cache.proofs.Held.{in_range, held_at}
+use Rattle.slots.specs.declared.slot.Slot.{Slot}
+use Rattle.slots.proofs.Issuing.{issued_at, write_leaves, dirty_parts}
+use Rattle.cache.proofs.Beginning.{longer, refusing, free_block, write_one, busy_begun}
+use Rattle.slots.proofs.Edits.{one_slot}
+use Rattle.slots.proofs.Held.{in_range, held_at}
 use Rattle.cache.proofs.Placing.{keeps_none}
-use Rattle.cache.proofs.Staying.{but_none, set_others}
+use Rattle.slots.proofs.Staying.{but_none, set_others}
 use Rattle.cache.proofs.cache.Cache.issue.Goals as goal
 
 pub begin-requires-clause-free : goal.begin-requires-clause-free
@@ -27,7 +28,7 @@ returns-in-Ok-clause-keeps g c =
     write_one c.write-ask.result (caching g.L.Link s) (caching_of g.L.Link c.begin.new.self s.shape c.set_state.new.self.items.items s.ended)
     items c.set_state.new.self.items.items c.in-Some.block c.in-Ok.ticket c.args.at c.get-slot.result.now
     s.slots.distinct c.get-slot.ensures c.in-Some.is state c.set_state.ensures.set refl refl
-    x.begins x.adds x.opens a.kind a.minor a.position a.count a.bytes c.requires.ready refl refl refl x.budget x.room
+    x.begins x.adds x.opens a.kind a.minor a.position a.count (a.bytes ∙ c.deref.ensures) c.requires.ready refl refl refl x.budget x.room
 
 pub returns-in-Ok-clause-busy : goal.returns-in-Ok-clause-busy
 returns-in-Ok-clause-busy g c = busy_begun c.in-Ok.ticket _ _ _ c.in-Ok.ensures.opens.1

@@ -1,5 +1,5 @@
 use Rattle.cache.proofs.Placing.{reads_cut, reads_after}
-use Rattle.cache.proofs.Staying.{all_then}
+use Rattle.slots.proofs.Staying.{all_then}
 use Rattle.cache.proofs.Flushes.{follows_then}
 use Rattle.cache.proofs.cache.Cache.read.Goals as goal
 

@@ -1,4 +1,4 @@
-use Rattle.cache.proofs.Staying.{all_none}
+use Rattle.slots.proofs.Staying.{all_none}
 use Rattle.cache.proofs.cache.Cache.settle.Goals as goal
 
 pub returns-in-Nothing-clause-stay : goal.returns-in-Nothing-clause-stay

@@ -2,7 +2,7 @@ use Rattle.std.proofs.Common.{◌≡◌, refl, sym, subst, ◌∙◌, arith, Non
 use Rattle.cache.specs.Calls.{Caching, caching, caching_of, Runs, FlushFollows}
 use Rattle.cache.specs.Takes.{Takes, took_of, is_ended_by}
 use Rattle.cache.proofs.Runs.{runs_none}
-use Rattle.cache.proofs.Staying.{all_none}
+use Rattle.slots.proofs.Staying.{all_none}
 use Rattle.cache.proofs.Taking.{takes_none, takes_one}
 use Rattle.cache.proofs.Flushes.{follows_none, follows_take, wanted_for}
 use Rattle.reissue.specs.declared.transfers.Transfers.{Transfers}

@@ -1,5 +1,5 @@
 use Rattle.cache.specs.Calls.{caching, Keeps, WantsFlush, LinkGoesOn}
-use Rattle.cache.specs.Edits.{Leaves, StayBut}
+use Rattle.slots.specs.Edits.{Leaves, StayBut}
 use Rattle.cache.specs.Calls.{messages_left}
 use Rattle.cache.proofs.cache.Cache.wait_for.Given as goal
 

@@ -1,7 +1,7 @@
 use mathlib.Core.Logic.{inl}
 use Rattle.cache.specs.Calls.{caching}
+use Rattle.slots.proofs.Issuing.{issued_lowest, lowest_is_dirty}
 use Rattle.cache.proofs.Beginning.{stuck_for}
-use Rattle.cache.proofs.Choosing.{match_bool, issued_lowest, none_dirty}
 use Rattle.cache.proofs.Placing.{keeps_none}
 use Rattle.cache.proofs.cache.Cache.write_lowest.Goals as goal
 
@@ -11,13 +11,16 @@ returns-then-is_err-clause-keeps g c = keeps_none _ c.requires.ready
 pub returns-in-Some-clause-issued : goal.returns-in-Some-clause-issued
 returns-in-Some-clause-issued g c =
     let s = c.args.self.now.slots in
-    match_bool c.issue.result _ _ _ (issued_lowest s.items.items s.uses.numbers.items c.in-Some.at _ s.distinct c.in-Some.ensures) c.issue.ensures.issued
+    issued_lowest c.issue.result s.items.items c.in-Some.at _ _ s.distinct c.in-Some.ensures c.issue.ensures.issued
+
+pub issue-requires-clause-dirty : goal.issue-requires-clause-dirty
+issue-requires-clause-dirty g c = lowest_is_dirty _ _ c.in-Some.ensures
 
 pub returns-in-None-clause-keeps : goal.returns-in-None-clause-keeps
 returns-in-None-clause-keeps g c = keeps_none _ c.requires.ready
 
 pub returns-in-None-clause-stuck : goal.returns-in-None-clause-stuck
-returns-in-None-clause-stuck g c = λ live. record { why = inl (none_dirty c.args.self.now.slots.items.items c.args.self.now.slots.uses.numbers.items c.in-None.ensures) }
+returns-in-None-clause-stuck g c = λ live. record { why = inl c.in-None.ensures }
 
 pub returns-in-Some-clause-stuck : goal.returns-in-Some-clause-stuck
 returns-in-Some-clause-stuck g c =

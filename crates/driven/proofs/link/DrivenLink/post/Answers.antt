@@ -10,4 +10,4 @@ returns-clause-accepted g c = λ opening marks kept.
 pub returns-clause-goes : goal.returns-clause-goes
 returns-clause-goes g c =
     goes_posted g.D.LocalDriver.state _ _ _ _ _ c.args.request.now c.put_on_line-posted.result c.put_on_line-posted.ensures.on_line
-    (refused_leaves c.args.self.now.drivers c.put_on_line-posted.new.self c.put_on_line-posted.result guarded_of c.put_on_line-posted.ensures.refused) c.told.ensures.history
+    (refused_leaves c.args.self.now.drivers c.put_on_line-posted.new.self c.put_on_line-posted.result guarded_of c.put_on_line-posted.ensures.refused) c.posted.ensures

@@ -1,6 +1,6 @@
 use Rattle.std.proofs.Common.{◌∙◌, refl, ap}
 use Rattle.message.specs.declared.Incoming.TheVariants as incoming
-use Rattle.policy.specs.Watch.{driver}
+use Rattle.reincarnate.specs.policy.Watch.{driver}
 use Rattle.run_log.specs.LogView.{said}
 use Rattle.run_log.specs.Noted.{with_entry}
 use Rattle.run_log.specs.declared.log.Entry.TheVariants as entry

@@ -1,6 +1,6 @@
 use Rattle.std.proofs.Common.{[], refl}
-use Rattle.serve.specs.Stopping.{Went}
-use Rattle.serve.proofs.StoppingLaws.{begins_empty, image_from, why_from, ok_so, err_so}
+use Rattle.shared_server.specs.Stopping.{Went}
+use Rattle.shared_server.proofs.StoppingLaws.{begins_empty, image_from, why_from, ok_so, err_so}
 use Rattle.serve.proofs.service.Service+N+Shared+N+R+L+S.stop.Goals as goal
 
 pub returns-in-Ok-clause-image : goal.returns-in-Ok-clause-image

@@ -1,8 +1,8 @@
 use Rattle.std.proofs.Common.{refl, sym, subst}
-use Rattle.marks.specs.Marks.{IsBeginning}
-use Rattle.legal.specs.Session.{SessionState}
-use Rattle.serve.specs.Stopping.{Went}
-use Rattle.serve.proofs.StoppingLaws.{image_from, why_from, ok_so, err_so}
+use Rattle.board.specs.marks.Marks.{IsBeginning}
+use Rattle.board.specs.legal.Session.{SessionState}
+use Rattle.shared_server.specs.Stopping.{Went}
+use Rattle.shared_server.proofs.StoppingLaws.{image_from, why_from, ok_so, err_so}
 use Rattle.serve.proofs.service.Service+N+Shared+N+R+L+S.stop_after.Goals as goal
 
 pub returns-in-Ok-clause-image : goal.returns-in-Ok-clause-image

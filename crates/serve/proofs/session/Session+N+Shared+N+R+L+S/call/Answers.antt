@@ -1,7 +1,7 @@
 use Rattle.std.proofs.Common.{List, sym, subst}
-use Rattle.marks.specs.Marks.{Mark}
+use Rattle.board.specs.marks.Marks.{Mark}
 use Rattle.file_server.specs.Over.{outcome_of}
-use Rattle.serve.specs.Descriptors.{AreLeftOpen}
+use Rattle.shared_server.specs.Descriptors.{AreLeftOpen}
 use Rattle.serve.proofs.CountLaws.{counts_tally}
 use Rattle.serve.proofs.ClosingLaws.{mine_after}
 use Rattle.serve.proofs.session.Session+N+Shared+N+R+L+S.call.Goals as goal

@@ -1,7 +1,7 @@
 use Rattle.std.proofs.Common.{◌∙◌, sym, ap}
-use Rattle.legal.specs.Session.{SessionState, caller_of}
+use Rattle.board.specs.legal.Session.{SessionState, caller_of}
 use Rattle.file_server.specs.Over.{outcome_of}
-use Rattle.serve.specs.Descriptors.{leaves_open}
+use Rattle.shared_server.specs.Descriptors.{leaves_open}
 use Rattle.serve.proofs.ClosingLaws.{close_done, close_cut, close_ended, either_way, none_to_close}
 use Rattle.serve.proofs.session.Session+N+Shared+N+R+L+S.close.Goals as goal
 

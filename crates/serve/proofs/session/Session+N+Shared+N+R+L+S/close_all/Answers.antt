@@ -1,11 +1,12 @@
 use Rattle.std.proofs.Common.{◌≡◌, ◌∙◌, sym, subst, List, Bool, true, arith}
 use Rattle.std.specs.Bool.{OnTrue, OnFalse}
 use Rattle.tree.specs.declared.Who.{Who}
-use Rattle.marks.specs.Marks.{Mark}
-use Rattle.legal.specs.Session.{caller_of}
+use Rattle.board.specs.marks.Marks.{Mark}
+use Rattle.board.specs.legal.Session.{caller_of}
 use Rattle.keeping.specs.Keeper.{begins_further}
-use Rattle.serve.specs.Descriptors.{ClosesBelow, ClosesOne, leaves_open}
-use Rattle.serve.specs.Held.{HasEnded}
+use Rattle.serve.specs.Closing.{ClosesBelow, ClosesOne}
+use Rattle.shared_server.specs.Descriptors.{leaves_open}
+use Rattle.shared_server.specs.Held.{HasEnded}
 use Rattle.serve.proofs.ClosingLaws.{closes_more, still_open}
 use Rattle.serve.proofs.session.Session+N+Shared+N+R+L+S.close_all.Goals as goal
 

@@ -1,7 +1,7 @@
 use Rattle.std.proofs.Common.{refl, sym, ◌∙◌, ap, subst, List}
-use Rattle.marks.specs.Marks.{Mark}
+use Rattle.board.specs.marks.Marks.{Mark}
 use Rattle.board.specs.View.{View}
-use Rattle.serve.specs.Descriptors.{AreLeftOpen}
+use Rattle.shared_server.specs.Descriptors.{AreLeftOpen}
 use Rattle.serve.proofs.CountLaws.{counts_max}
 use Rattle.serve.proofs.session.Session.meet.Goals as goal
 

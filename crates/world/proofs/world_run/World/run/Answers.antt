@@ -1,10 +1,10 @@
-use Rattle.std.proofs.Common.{refl, ap, arith, subst, length, map}
+use Rattle.std.proofs.Common.{refl, ap, arith, subst, length, map, ◌∙◌}
 use Rattle.std.specs.Prelude.{All}
 use Rattle.inline.specs.Inline.{IsReady}
 use Rattle.run_start.specs.Beginning.{IsBegun, range_of}
 use Rattle.world.specs.Plays.{IsFresh}
 use Rattle.media.specs.Contents.{MediaState}
-use Rattle.startup.specs.Starting.{opening_of}
+use Rattle.run_start.specs.startup.Starting.{opening_of}
 use Rattle.playing.specs.PlayView.{play_of}
 use Rattle.world.proofs.Showing.{all_unused, little_work, none_ended, run_shows, small_budget, whole_there}
 use Rattle.world.proofs.world_run.World.run.Goals as goal
@@ -46,3 +46,6 @@ returns-clause-shows g c =
     c.in_ok-prepared.prepared.media (ap (λ (m : MediaState). m.generation) c.in_ok-prepared.ensures.contents) c.in-Ok.ensures.opened begun
     (all_unused v (map state c.args.supply.items) ready) c.in_ok-prepared.ensures.on_media (c.in-Ok.ensures.truth v c.in_ok-prepared.ensures.on_media c.in_ok-prepared.ensures.contents ready) new
     c.in-Ok-play_over.ensures (whole_there _ _ c.link.ensures c.are_whole.ensures) refl refl refl refl refl
+
+pub returns-clause-frames : goal.returns-clause-frames
+returns-clause-frames g c = c.in-Ok-play_over.ensures.plays.frame_count ∙ c.in-Ok-play_over.ensures.opened.is_new.as_many

@@ -1,0 +1,5 @@
+pub use Rattle.zone.proofs.zone_laws as zone_laws
+pub use Rattle.file.proofs as file
+pub mod Needed
+pub mod Touched
+pub mod Spaces

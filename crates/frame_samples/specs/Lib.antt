@@ -1,0 +1,1 @@
+pub use Rattle.cache.specs as cache

@@ -1,0 +1,1 @@
+pub use Rattle.marks.specs as marks

@@ -1,0 +1,3 @@
+-- Scripts played on a service.
+pub use Rattle.launch.specs as launch
+pub mod Served

@@ -1,0 +1,6 @@
+//! Scripts played on a service that is started for them: a session for each, one after the other, and the image once the service was stopped.
+#![tactic(auto)]
+
+pub mod players;
+
+pub use players::{Came, LastSync, ServiceRefusal, play_scripts};

@@ -1,0 +1,36 @@
+use Rattle.shared_server.proofs.HeldLaws.{held_same, admitted_good, admitted_guaranteed, not_admitted}
+use Rattle.shared_server.proofs.locked.Locked.admit.Goals as goal
+
+pub invariant_of-self : goal.invariant_of-self
+invariant_of-self g c =
+    held_same
+    g.N.Room g.L.Link g.S.Serve.serving g.S.FileServer.line g.S.FileServer.is_ready g.S.FileServer.knows
+    g.L.Supplied.runs_on g.L.Recorder.marks
+    c.self.inside.server c.admit.new.server
+    (record {
+      tells = g.met.S.FileServer.tells;
+      is_record = λ l older truth. g.met.L.Recorder.is_record l g.N.Room.opening older truth;
+      end_last = λ l older truth. g.met.L.Recorder.end_last l g.N.Room.opening older truth;
+      keeps_on = λ l m goes runs. g.met.L.Supplied.keeps_on l m g.N.Room.policy g.N.Room.supply goes runs;
+    })
+    c.admit.ensures.same (λ older truth. c.admit.ensures.truth g.N.Room.opening older truth) c.admit.ensures.marks c.self.invariant
+
+pub returns-clause-refusal : goal.returns-clause-refusal
+returns-clause-refusal g c =
+    not_admitted g.L.Link g.L.Recorder.numbers (g.S.FileServer.line c.self.inside.server) c.admit.result c.admit.ensures.too_many c.admit.ensures.stopped
+
+pub returns-clause-guaranteed : goal.returns-clause-guaranteed
+returns-clause-guaranteed g c =
+    admitted_guaranteed
+    g.N.Room g.L.Link g.S.Serve.serving g.S.FileServer.line g.S.FileServer.is_ready g.S.FileServer.knows
+    g.L.Supplied.runs_on g.L.Recorder.marks
+    c.self.inside.server g.N.Room.table c.admit.result
+    c.admit.ensures.seat c.self.invariant
+
+pub returns-clause-sound : goal.returns-clause-sound
+returns-clause-sound g c =
+    admitted_good
+    g.N.Room g.L.Link g.S.Serve.serving g.S.FileServer.line g.S.FileServer.is_ready g.S.FileServer.knows
+    g.L.Supplied.runs_on g.L.Recorder.marks
+    c.self.inside.server g.N.Room.table c.admit.result
+    c.admit.ensures.seat c.self.invariant

@@ -1,0 +1,8 @@
+//! What lies under the lock of a service: a file server that sessions share, and what is left of it in the end.
+#![tactic(auto)]
+
+pub mod left_open;
+pub mod locked;
+pub mod refusal;
+mod sharing;
+pub mod stopping;

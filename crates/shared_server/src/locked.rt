@@ -1,0 +1,178 @@
+//! What lies under the lock of a service.
+
+ghost use Rattle.std.specs.Prelude.{◌≡◌, ◌↔◌, ◌∷◌, ◌<◌, true, Some, IsErrOf, IfErr, IfOk, OnErr};
+ghost use Rattle.board.specs.marks.Opening.{contents_at};
+ghost use Rattle.board.specs.marks.Told.{took_end};
+ghost use Rattle.tree.specs.Tree.{Tree};
+ghost use Rattle.board.specs.legal.Legal.{IsAtFirst};
+ghost use Rattle.board.specs.legal.Session.{tally_of};
+ghost use Rattle.board.specs.View.{without};
+ghost use Rattle.board.specs.Steps.{SessionIsNew, SessionLearns};
+ghost use Rattle.file_server.specs.Over.{outcome_of};
+ghost use Rattle.shared_server.specs.Held.{IsEioOnceGivenUp, IsGood, IsGuaranteed, IsHeld, IsNotAdmitted, IsServedCall, IsSound};
+ghost use Rattle.shared_server.specs.Stopping.{IsLastImage, IsSyncedImage, Went, WhyNotSynced};
+ghost use Rattle.keeping.specs.Keeper.{AreAllUsed, IsLowestFree, IsOneFree};
+
+use crate::left_open::{is_cut, was_done};
+use crate::refusal::SessionRefusal;
+use crate::sharing::{admit, count_call, release, show};
+use crate::stopping::{StopRefusal, Stopped};
+use board::Seat;
+use file_server::FileServer;
+use keeping::recorder::Recorder;
+use keeping::room::Room;
+use keeping::steady::OnMedia;
+use std::alloc::Global;
+use std::marker::{Model, PhantomData};
+use tree::{Call, Outcome, Who};
+
+/// What lies under the lock of a service: its server, whose link keeps the record. Contracts see the link.
+#[derive(Drop)]
+pub struct Locked<N: Room, L: Recorder<N>, S: FileServer<L>> {
+    server: S,
+    of: PhantomData<N>,
+    over: PhantomData<L>,
+}
+
+impl<N: Room, L: Recorder<N>, S: FileServer<L>> Model for Locked<N, L, S> {
+    ghost use Rattle.shared_server.specs.Held.{IsHeld as IsHeldFor};
+
+    ghost Value = { L };
+
+    ghost view = { λ d. S.line d.server };
+
+    ghost invariant = { λ d. IsHeldFor N.Room L.Link S.Serve.serving S.line S.is_ready S.knows L.runs_on L.marks d.server };
+}
+
+impl<N: Room, L: Recorder<N>, S: FileServer<L>> Locked<N, L, S> {
+    /// A server over the service's volume, which stands with its record.
+    pub fn new(server: S) -> Locked<N, L, S>
+        requires { IsHeld N.Room L.Link S.Serve.serving S.line S.is_ready S.knows L.runs_on L.marks server }
+        ensures { result ≡ S.line server }
+    {
+        Locked {
+            server,
+            of: PhantomData,
+            over: PhantomData,
+        }
+    }
+
+    /// A call of a session, which has then seen the whole record. An answer is a mark of it, the last; a cut isn't. With the outcome
+    /// comes how many counted marks the record has, modulo 2^64.
+    pub fn call(&mut self, seat: &mut Seat, who: Who, now: u32, call: &Call) -> (Outcome, u64)
+        requires seat { (seat.old.table ≡ N.table) × (seat.old.view.number ≡ Some who.session) }
+        ensures seat { (seat.new.table ≡ N.table) × (seat.new.view.number ≡ Some who.session) }
+        ensures call { IsServedCall N.geometry N.opening who now call.now seat.old.view (outcome_of result.0) seat.new.view }
+        ensures seen { seat.new.view.seen ≡ L.marks self.new }
+        ensures tally { result.1 ≡ tally_of seat.new.view.seen }
+        ensures sound { (tree : Tree) → IsAtFirst N.geometry (contents_at N.opening) tree → IsSound seat.new.view.seen }
+        ensures guaranteed { (tree : Tree) → IsAtFirst N.geometry (contents_at N.opening) tree
+            → IsGuaranteed L.truth N.opening seat.new.view.seen }
+        ensures cut { (result.0 ≡ Outcome.Cut) ↔ (took_end (L.Link.history self.new) ≡ true) }
+        ensures eio { (tree : Tree) → IsAtFirst N.geometry (contents_at N.opening) tree
+            → IsEioOnceGivenUp result.0 seat.new.view.seen }
+    {
+        let outcome = self.server.call(who, now, call);
+        match outcome {
+            Outcome::Reply(reply) => {
+                let count = count_call(&mut self.server, seat, who, now, call, &reply);
+                (Outcome::Reply(reply), count)
+            }
+            Outcome::Cut => (Outcome::Cut, show(&mut self.server, seat)),
+        }
+    }
+
+    /// A seat for a new session, with the lowest number that is free: 1 TooMany where 64 are in use, 2 Stopped where a take gave End.
+    /// A refusal changes nothing. With the seat comes how many counted marks the record has, modulo 2^64.
+    pub fn admit(&mut self) -> Result<(u8, Seat, u64), SessionRefusal>
+        ensures too_many { IsErrOf result SessionRefusal.TooMany ↔ AreAllUsed (L.numbers self.old) }
+        ensures stopped { IsErrOf result SessionRefusal.Stopped
+            ↔ ((took_end (L.Link.history self.old) ≡ true) × IsOneFree (L.numbers self.old)) }
+        ensures number { IfOk result (λ r. IsLowestFree r.0 (L.numbers self.old)
+            × (L.numbers self.new ≡ r.0 ∷ L.numbers self.old)) }
+        ensures seat { IfOk result (λ r. (r.1.table ≡ N.table) × SessionIsNew r.0 r.1.view (L.marks self.old)) }
+        ensures tally { IfOk result (λ r. r.2 ≡ tally_of (L.marks self.old)) }
+        ensures refusal { IfErr result (IsNotAdmitted L.Link L.numbers) }
+        ensures drivers { L.runs_on self.old N.policy N.supply }
+        ensures guaranteed { (tree : Tree) → IsAtFirst N.geometry (contents_at N.opening) tree
+            → IfOk result (λ r. IsGuaranteed L.truth N.opening r.1.view.seen) }
+        ensures sound { (tree : Tree) → IsAtFirst N.geometry (contents_at N.opening) tree
+            → IfOk result (λ r. IsGood N.geometry N.opening tree r.1.view.seen) }
+        ensures rest { (L.marks self.new ≡ L.marks self.old) × (L.Link.history self.new ≡ L.Link.history self.old) }
+        ensures refused { OnErr result (L.numbers self.new ≡ L.numbers self.old) }
+    {
+        admit(&mut self.server)
+    }
+
+    /// The session of this seat has then seen the whole record.
+    fn show(&mut self, seat: &mut Seat)
+        requires { seat.old.table ≡ N.table }
+        ensures seat { (seat.new.table ≡ N.table) × (seat.new.view.number ≡ seat.old.view.number) }
+        ensures seen { seat.new.view.seen ≡ L.marks self.new }
+        ensures session { SessionLearns seat.old.view seat.new.view }
+        ensures rest { (L.marks self.new ≡ L.marks self.old) × (L.Link.history self.new ≡ L.Link.history self.old) }
+    {
+        show(&mut self.server, seat);
+    }
+
+    /// A session ends: its number is free again.
+    pub fn release(&mut self, number: u8, seat: Seat)
+        requires { (seat.table ≡ N.table) × (seat.view.number ≡ Some number) × (number < 64) }
+        ensures used { L.numbers self.new ≡ without (Some number) (L.numbers self.old) }
+        ensures rest { (L.marks self.new ≡ L.marks self.old) × (L.Link.history self.new ≡ L.Link.history self.old) }
+    {
+        release(&mut self.server, number, seat);
+    }
+}
+
+/// Who makes the last sync of a service.
+const SYNCER: Who = Who {
+    session: 0,
+    uid: 0,
+    gid: 0,
+};
+
+impl<N: Room, L: Recorder<N> + OnMedia, S: FileServer<L>> Locked<N, L, S> {
+    /// A last sync, and then the image, as the media stand: where the sync was answered ok the disk alone holds the tree.
+    pub fn stop<T>(self, alloc: Global) -> Result<Vec<u8>, StopRefusal<T, Stopped<L, S>>>
+        ensures synced { (tree : Tree) → IsAtFirst N.geometry (contents_at N.opening) tree
+            → IfOk result (λ image. IsSyncedImage N.geometry N.opening tree L.truth L.lies_on image.items) }
+        ensures image { IfOk result (λ image. IsLastImage L.Link L.lies_on N.geometry N.opening (L.marks self) Went image.items) }
+        ensures refused { IfErr result (WhyNotSynced L.Link S.line L.lies_on N.geometry N.opening (L.marks self) (λ left. ⊥)) }
+    {
+        let Locked {
+            mut server,
+            of: _,
+            over: _,
+        } = self;
+        let outcome = server.call(SYNCER, 0, &Call::Sync);
+        let stopped = Stopped::new(server);
+        let Ok(image) = stopped.image(alloc) else {
+            return Err(StopRefusal::OutOfMemory(stopped));
+        };
+        if is_cut(&outcome) {
+            return Err(StopRefusal::LinkEnded(image));
+        }
+        if !was_done(&outcome) {
+            return Err(StopRefusal::GivenUp(image));
+        }
+        Ok(image)
+    }
+    /// The same once this session has ended: what is left goes on from what it had seen.
+    pub fn stop_after<T>(
+        mut self,
+        alloc: Global,
+        number: u8,
+        mut seat: Seat,
+    ) -> Result<Vec<u8>, StopRefusal<T, Stopped<L, S>>>
+        requires { (seat.table ≡ N.table) × (seat.view.number ≡ Some number) × (number < 64) }
+        ensures synced { (tree : Tree) → IsAtFirst N.geometry (contents_at N.opening) tree
+            → IfOk result (λ image. IsSyncedImage N.geometry N.opening tree L.truth L.lies_on image.items) }
+        ensures image { IfOk result (λ image. IsLastImage L.Link L.lies_on N.geometry N.opening seat.view.seen Went image.items) }
+        ensures refused { IfErr result (WhyNotSynced L.Link S.line L.lies_on N.geometry N.opening seat.view.seen (λ left. ⊥)) }
+    {
+        self.show(&mut seat);
+        self.release(number, seat);
+        self.stop(alloc)
+    }
+}

@@ -1,0 +1,5 @@
+-- Slots that hold blocks.
+pub mod Slots
+pub mod Edits
+pub mod Uses
+pub mod Order

@@ -1,0 +1,4 @@
+-- Lines and words, and what stands in a word.
+pub mod Bytes
+pub mod Words
+pub mod Lines
