@@ -200,7 +200,7 @@ fn refusals_are_told(rt: HostRuntime) -> Result<(), Fail> {
             &setup,
             supply,
         );
-        gave(&rt, &ran, 1, b"", line);
+        gave(ran, 1, b"", line)?;
     }
     Ok(())
 }
@@ -228,7 +228,7 @@ fn files_are_refused_in_order(rt: HostRuntime) -> Result<(), Fail> {
         };
         let supply = six(alloc, bytes.unwrap_or(&[]))?;
         let ran = ran_as(alloc, bytes, schedule, &whole(), supply);
-        gave(&rt, &ran, 1, b"", line);
+        gave(ran, 1, b"", line)?;
     }
     Ok(())
 }

@@ -114,7 +114,7 @@ fn boxed_drivers_fail(rt: HostRuntime) -> Result<(), Fail> {
             &whole(),
             supply,
         );
-        gave(&rt, &ran, status, wanted.as_slice(), "");
+        gave(ran, status, wanted.as_slice(), "")?;
     }
     Ok(())
 }

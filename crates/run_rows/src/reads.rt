@@ -111,7 +111,7 @@ const ROWS: [Row; 7] = [
 fn the_root_is_read(rt: HostRuntime) -> Result<(), Fail> {
     let image = new_volume(rt.alloc(), 1024)?;
     for (lines, wanted) in ROWS {
-        shows(&rt, rt.alloc(), image.as_slice(), lines, wanted, 0)?;
+        shows(rt.alloc(), image.as_slice(), lines, wanted, 0)?;
     }
     Ok(())
 }
@@ -169,7 +169,7 @@ const HUNG: [Row; 4] = [
 fn a_driver_hangs(rt: HostRuntime) -> Result<(), Fail> {
     let image = new_volume(rt.alloc(), 1024)?;
     for (lines, wanted) in HUNG {
-        shows(&rt, rt.alloc(), image.as_slice(), lines, wanted, 0)?;
+        shows(rt.alloc(), image.as_slice(), lines, wanted, 0)?;
     }
     Ok(())
 }
@@ -235,14 +235,7 @@ fn the_device_is_given_up(rt: HostRuntime) -> Result<(), Fail> {
     let mut wanted = Vec::new(rt.alloc());
     wanted.extend_from_slice(&FAULTS)?;
     wanted.extend_from_slice(&END)?;
-    shows(
-        &rt,
-        rt.alloc(),
-        image.as_slice(),
-        &DEATHS,
-        wanted.as_slice(),
-        3,
-    )
+    shows(rt.alloc(), image.as_slice(), &DEATHS, wanted.as_slice(), 3)
 }
 
 /// How many lines are played, the ticks after them, which are one too few for the next start, and how many faults and marks there are then.
@@ -268,7 +261,6 @@ fn starts_are_backed_off(rt: HostRuntime) -> Result<(), Fail> {
         add_first(&mut wanted, &[END[0]], noted.saturating_sub(FAULTS.len()))?;
         wanted.push("unanswered 1")?;
         shows(
-            &rt,
             alloc,
             image.as_slice(),
             schedule.as_slice(),

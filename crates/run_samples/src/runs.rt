@@ -7,23 +7,24 @@ use simulation::inputs::File;
 pub use simulation::simulate::simulate;
 pub use simulation::world::{RunRefusal, World};
 use std::alloc::{AllocError, Global};
-use std::process::Abort;
 use std::test::Fail;
 use supply::{DiskDriver, drivers_for, table_in};
 
 /// What a run printed, and its status.
-#[derive(Drop)]
+#[derive(Debug, Drop)]
 pub struct Ran {
     pub status: u8,
     pub out: Vec<u8>,
     pub err: Vec<u8>,
 }
 
-/// Looks at what a run gave.
-pub fn gave(rt: &impl Abort, ran: &Ran, status: u8, out: &[u8], err: &str) {
-    assert_eq!(rt; ran.out.as_slice(), out);
-    assert_eq!(rt; ran.err.as_slice(), err.as_bytes());
-    assert_eq!(rt; ran.status, status);
+/// Looks at what a run gave: it is an error where that is something else.
+pub fn gave(ran: Ran, status: u8, out: &[u8], err: &str) -> Result<(), Ran> {
+    if ran.status == status && ran.out.as_slice() == out && ran.err.as_slice() == err.as_bytes() {
+        Ok(())
+    } else {
+        Err(ran)
+    }
 }
 
 /// The text of these lines.
@@ -77,9 +78,8 @@ pub fn run_on(alloc: Global, image: &[u8], lines: &[&str]) -> Result<Ran, Fail> 
     ))
 }
 
-/// Looks at the transcript of such a run, and at its status.
+/// Looks at the transcript of such a run, and at its status: it is an error where these are others.
 pub fn shows(
-    rt: &impl Abort,
     alloc: Global,
     image: &[u8],
     lines: &[&str],
@@ -88,7 +88,7 @@ pub fn shows(
 ) -> Result<(), Fail> {
     let ran = run_on(alloc, image, lines)?;
     let text = text_of(alloc, wanted)?;
-    gave(rt, &ran, status, text.as_slice(), "");
+    gave(ran, status, text.as_slice(), "")?;
     Ok(())
 }
 

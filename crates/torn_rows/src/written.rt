@@ -83,7 +83,7 @@ fn all_frames_are_used(rt: HostRuntime) -> Result<(), Fail> {
     let mut wanted = Vec::new(alloc);
     add_first(&mut wanted, &HEARD, 10)?;
     wanted.extend_from_slice(&ALL_WROTE)?;
-    shows(&rt, alloc, image.as_slice(), &FILLED, wanted.as_slice(), 0)
+    shows(alloc, image.as_slice(), &FILLED, wanted.as_slice(), 0)
 }
 
 /// The writes of what these calls changed: both maps, the inodes, the root's entries, the file's page.
@@ -140,14 +140,7 @@ fn a_page_that_changed_is_written_again(rt: HostRuntime) -> Result<(), Fail> {
     wanted.push("flush")?;
     wanted.extend_from_slice(&CHANGED)?;
     wanted.extend_from_slice(&WRITTEN_AGAIN)?;
-    shows(
-        &rt,
-        alloc,
-        image.as_slice(),
-        &REFILLED,
-        wanted.as_slice(),
-        0,
-    )?;
+    shows(alloc, image.as_slice(), &REFILLED, wanted.as_slice(), 0)?;
     let media = media_after(alloc, image.as_slice(), &REFILLED)?;
     are_all(&rt, media.as_slice(), (7168, 8192), 0x32);
     is_clean(&rt, alloc, media.as_slice())
@@ -208,7 +201,7 @@ fn a_revoked_driver_writes_nothing(rt: HostRuntime) -> Result<(), Fail> {
     wanted.extend_from_slice(&HEARD)?;
     wanted.extend_from_slice(&CHANGED)?;
     wanted.extend_from_slice(&REPLACED)?;
-    shows(&rt, alloc, image.as_slice(), &REVOKED, wanted.as_slice(), 0)?;
+    shows(alloc, image.as_slice(), &REVOKED, wanted.as_slice(), 0)?;
     let media = media_after(alloc, image.as_slice(), &REVOKED)?;
     are_all(&rt, media.as_slice(), (7168, 8192), 0x22);
     is_clean(&rt, alloc, media.as_slice())
@@ -324,7 +317,7 @@ fn a_torn_sector_is_written_again(rt: HostRuntime) -> Result<(), Fail> {
     }
     wanted.extend_from_slice(b"\nunanswered 0\n")?;
     let ran = run_on(alloc, image.as_slice(), lines.as_slice())?;
-    gave(&rt, &ran, 0, wanted.as_slice(), "");
+    gave(ran, 0, wanted.as_slice(), "")?;
     let media = media_after(alloc, image.as_slice(), lines.as_slice())?;
     are_all(&rt, media.as_slice(), (5120, 5632), 0xff);
     are_all(&rt, media.as_slice(), (12288, 14336), 0xaa);
