@@ -4,3 +4,5 @@
 pub mod pages;
 
 pub use pages::detach_from;
+// passed on: what cuts files attaches their pages too
+pub use zone;

@@ -6,3 +6,6 @@ mod opening;
 mod readying;
 
 pub use opening::open;
+// passed on: what an open may do besides
+pub use byte_bodies;
+pub use make_bodies;

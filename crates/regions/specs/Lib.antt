@@ -1,2 +1,3 @@
 -- What a write to one block of a volume changes.
+pub use Rattle.store.specs as store
 pub mod Regions

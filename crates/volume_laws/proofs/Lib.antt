@@ -1,3 +1,4 @@
+pub use Rattle.volume.proofs as volume
 pub use Rattle.volume.proofs.tree as tree
 pub mod Sums
 pub mod Cube

@@ -1,3 +1,4 @@
+pub use Rattle.inode_table.proofs as inode_table
 pub use Rattle.zone_laws.proofs as zone_laws
 pub mod Frames
 pub mod Levels
