@@ -64,13 +64,13 @@ module _ (session fd : ℕ) (f : Files) where
   refused_by t error (Ok found) is = cc
 
   -- and of one
-  closed_by : (h : Files) (gone : Option ℕ) (a : Result (ℕ × OpenFile) Errno) → Ok (gone, h) ≡ files_by f session fd a → Closed f h session fd gone a
-  closed_by h gone (Err e) is = cc
-  closed_by h gone (Ok found) is = record {
+  closed_by : (h : Files) (lost : Option ℕ) (a : Result (ℕ × OpenFile) Errno) → Ok (lost, h) ≡ files_by f session fd a → Closed f h session fd lost a
+  closed_by h lost (Err e) is = cc
+  closed_by h lost (Ok found) is = record {
     number = found.0;
     file = found.1;
     found = refl;
-    goes = ap (λ (r : Result (Option ℕ × Files) Errno). elim r [ Ok x ↦ x.0 | Err z ↦ gone ]) is;
+    goes = ap (λ (r : Result (Option ℕ × Files) Errno). elim r [ Ok x ↦ x.0 | Err z ↦ lost ]) is;
     left = ap (λ (r : Result (Option ℕ × Files) Errno). elim r [ Ok x ↦ x.1 | Err z ↦ h ]) is;
   }
 
