@@ -3,9 +3,9 @@ use Rattle.std.proofs.Common.{◌≡◌, ◌<◌, ◌≤◌, ◌+◌, ◌-◌, �
 use Rattle.std.specs.Prelude.{not, Some, None, slice_index}
 use Rattle.std.proofs.lemmas.Nat.{div-mul-add, mod-mul-add}
 use Rattle.layout.specs.declared.Geometry.{Geometry}
-use Rattle.regions.specs.store.tree.Sums.{count_below, sum_below, one_if}
-use Rattle.regions.specs.store.volume.Reading.{Disk, bit_in}
-use Rattle.regions.specs.store.volume.Pieces.{pieces}
+use Rattle.store.specs.tree.Sums.{count_below, sum_below, one_if}
+use Rattle.store.specs.volume.Reading.{Disk, bit_in}
+use Rattle.store.specs.volume.Pieces.{pieces}
 use Rattle.bitmap.specs.declared.Map.{Map}
 use Rattle.bitmap.specs.Numbers.{AllIn, IsLowestFree, count_free_in}
 use Rattle.bitmap.specs.Maps.{numbers_in, last_number, first_block, reach}

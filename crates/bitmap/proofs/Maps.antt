@@ -7,13 +7,13 @@ use Rattle.std.proofs.lemmas.Nat.{div_below, div-add-mod'}
 use Rattle.std.proofs.lemmas.Bool.{cases_eq, cases_lt, le-leb}
 use Rattle.layout.specs.declared.Geometry.{Geometry}
 use Rattle.layout.specs.Places.{IsGeometry}
-use Rattle.regions.specs.store.tree.Sums.{put}
-use Rattle.regions.proofs.store.tree.Maps.{put-same, put-other, is_put}
-use Rattle.regions.specs.store.volume.Reading.{Disk, bit_in, map_bit}
-use Rattle.regions.specs.store.volume.Pieces.{pieces}
-use Rattle.regions.specs.store.Rows.{with_bytes, written}
-use Rattle.regions.specs.store.Volume.{Alters}
-use Rattle.regions.proofs.store.Rows.{row_new, row_old}
+use Rattle.store.specs.tree.Sums.{put}
+use Rattle.store.proofs.tree.Maps.{put-same, put-other, is_put}
+use Rattle.store.specs.volume.Reading.{Disk, bit_in, map_bit}
+use Rattle.store.specs.volume.Pieces.{pieces}
+use Rattle.store.specs.Rows.{with_bytes, written}
+use Rattle.store.specs.Volume.{Alters}
+use Rattle.store.proofs.Rows.{row_new, row_old}
 use Rattle.regions.specs.Regions.{zone_map_start}
 use Rattle.regions.proofs.Regions.{in_inode_map, in_zone_map}
 use Rattle.bitmap.specs.declared.Map.{Map}

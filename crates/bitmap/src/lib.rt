@@ -7,16 +7,16 @@ mod row;
 
 ghost use Rattle.std.specs.Prelude.{◌≡◌, ◌≤◌, ◌<◌, ◌+◌, ◌-◌, ◌*◌, ◌/◌, ◌%◌, OnOk, IfOk, IfErr, IfSome, true, false};
 ghost use Rattle.layout.specs.Places.{IsGeometry};
-ghost use Rattle.regions.specs.store.volume.Pieces.{pieces};
-ghost use Rattle.regions.specs.store.World.{Turns, Reads};
-ghost use Rattle.regions.specs.store.Volume.{IsOn, Alters};
+ghost use Rattle.store.specs.volume.Pieces.{pieces};
+ghost use Rattle.store.specs.World.{Turns, Reads};
+ghost use Rattle.store.specs.Volume.{IsOn, Alters};
 ghost use Rattle.bitmap.specs.Numbers.{IsLowestFree, count_free_in};
 ghost use Rattle.bitmap.specs.Maps.{numbers_in, with_number, last_number, first_block, reach};
 
 use crate::row::{count_clear, first_clear, with_bit};
 use layout::Geometry;
-use regions::store::words::{read_byte, write_bytes};
-use regions::store::{Blocks, Cut};
+use store::words::{read_byte, write_bytes};
+use store::{Blocks, Cut};
 
 /// A map of a volume.
 #[derive(Clone, Copy, Debug, PartialEq, Eq)]

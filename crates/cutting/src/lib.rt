@@ -4,5 +4,3 @@
 pub mod pages;
 
 pub use pages::detach_from;
-// passed on: what cuts files attaches their pages too
-pub use zone;

@@ -12,11 +12,11 @@ ghost use Rattle.file.specs.Changing.{MayChange, MayWriteAt, WritesAt, MayWriteI
 
 use crate::writing::write_page;
 use cutting::detach_from;
-use cutting::zone::inode_table::{load, store};
-use cutting::zone::pages::attach;
-use cutting::zone::places::lookup;
+use inode_table::{load, store};
 use layout::Geometry;
 use store::{Blocks, Halt};
+use zone::pages::attach;
+use zone::places::lookup;
 
 /// Makes the bytes zeros that stand in the last page behind the end of a file.
 fn pad_rest<B: Blocks>(blocks: &mut B, geometry: &Geometry, number: u32) -> Result<(), Halt>

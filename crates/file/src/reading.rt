@@ -8,12 +8,12 @@ ghost use Rattle.store.specs.Rows.{HasBytes};
 ghost use Rattle.store.specs.Volume.{IsOn};
 ghost use Rattle.file.specs.Reading.{HasFileBytes, read_count};
 
-use cutting::zone::inode_table::Inode;
-use cutting::zone::numbers::is_data_zone;
-use cutting::zone::places::lookup;
+use inode_table::Inode;
 use layout::Geometry;
 use store::words::read_bytes;
 use store::{Blocks, Cut};
+use zone::numbers::is_data_zone;
+use zone::places::lookup;
 
 /// Fills the slice with bytes of one page, from an offset of the page on. A page without a zone has zeros, and so has one whose
 /// number is no data zone's. Where the call is cut, the slice stays.

@@ -1,6 +1,6 @@
 pub use Rattle.volume_laws.proofs as volume_laws
-pub use Rattle.volume_laws.proofs.volume as volume
-pub use Rattle.volume_laws.proofs.tree as tree
+pub use Rattle.volume.proofs as volume
+pub use Rattle.tree.proofs as tree
 pub mod Root
 pub mod RoundTrip
 pub mod Stat

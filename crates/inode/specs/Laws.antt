@@ -3,16 +3,16 @@ use Rattle.std.specs.Prelude.{◌≡◌, ◌≤◌, ◌<◌, ℕ, ◌+◌, ◌*�
 use Rattle.std.specs.Borrow.{Bor}
 use Rattle.layout.specs.declared.Geometry.{Geometry}
 use Rattle.layout.specs.Places.{IsGeometry}
-use Rattle.volume_laws.specs.tree.errno.declared.Errno.TheVariants.{EINVAL}
-use Rattle.volume_laws.specs.tree.declared.Who.{Who}
-use Rattle.volume_laws.specs.tree.declared.Attributes.{Attributes}
-use Rattle.volume_laws.specs.tree.declared.Call.TheVariants.{Stat}
-use Rattle.volume_laws.specs.tree.Tree.{Node, Tree, most_sessions}
-use Rattle.volume_laws.specs.tree.NodeCalls.{attributes_of}
-use Rattle.volume_laws.specs.tree.Answers.{refused, node_is}
-use Rattle.volume_laws.specs.tree.Effects.{reply_to, tree_after_call, may_want_memory}
-use Rattle.volume_laws.specs.volume.Reading.{Disk, blocks_of, inode_in, inode_block, inode_offset, inode_of_disk}
-use Rattle.volume_laws.specs.volume.Holds.{Holds, HoldsVolume}
+use Rattle.tree.specs.errno.declared.Errno.TheVariants.{EINVAL}
+use Rattle.tree.specs.declared.Who.{Who}
+use Rattle.tree.specs.declared.Attributes.{Attributes}
+use Rattle.tree.specs.declared.Call.TheVariants.{Stat}
+use Rattle.tree.specs.Tree.{Node, Tree, most_sessions}
+use Rattle.tree.specs.NodeCalls.{attributes_of}
+use Rattle.tree.specs.Answers.{refused, node_is}
+use Rattle.tree.specs.Effects.{reply_to, tree_after_call, may_want_memory}
+use Rattle.volume.specs.Reading.{Disk, blocks_of, inode_in, inode_block, inode_offset, inode_of_disk}
+use Rattle.volume.specs.Holds.{Holds, HoldsVolume}
 use Rattle.inode.specs.Bytes.{attributes_in}
 
 -- the byte at which the root begins: behind two blocks, of the boot block and the superblock, and both maps

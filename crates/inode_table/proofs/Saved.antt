@@ -7,12 +7,12 @@ use Rattle.layout.specs.declared.Geometry.{Geometry}
 use Rattle.layout.specs.Places.{IsGeometry}
 use Rattle.inode.specs.tree.Sums.{put}
 use Rattle.inode.proofs.tree.Maps.{put-same, put-other, is_put}
-use Rattle.regions.specs.store.volume.declared.Inode.{Inode}
-use Rattle.regions.specs.store.volume.Reading.{Disk, is_inode, inode_in, inode_block, inode_offset, inode_of_disk, u16_in, u32_in}
-use Rattle.regions.specs.store.volume.Pieces.{pieces, blank}
-use Rattle.regions.specs.store.Rows.{with_bytes, written}
-use Rattle.regions.specs.store.Volume.{Alters}
-use Rattle.regions.proofs.store.Rows.{row_new, row_old}
+use Rattle.store.specs.volume.declared.Inode.{Inode}
+use Rattle.store.specs.volume.Reading.{Disk, is_inode, inode_in, inode_block, inode_offset, inode_of_disk, u16_in, u32_in}
+use Rattle.store.specs.volume.Pieces.{pieces, blank}
+use Rattle.store.specs.Rows.{with_bytes, written}
+use Rattle.store.specs.Volume.{Alters}
+use Rattle.store.proofs.Rows.{row_new, row_old}
 use Rattle.regions.proofs.Places.{after_maps, before_zones, apart}
 use Rattle.regions.proofs.Regions.{in_table}
 use Rattle.inode_table.specs.Table.{with_inode}

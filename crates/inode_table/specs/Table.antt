@@ -1,8 +1,8 @@
 -- The inode table of a volume.
 use Rattle.std.specs.Prelude.{ℕ}
 use Rattle.inode.specs.tree.Sums.{put}
-use Rattle.regions.specs.store.volume.declared.Inode.{Inode}
-use Rattle.regions.specs.store.volume.Pieces.{Pieces}
+use Rattle.store.specs.volume.declared.Inode.{Inode}
+use Rattle.store.specs.volume.Pieces.{Pieces}
 
 -- pieces with this inode
 abbrev pub with_inode : Pieces → ℕ → Inode → Pieces

@@ -3,17 +3,17 @@
 
 ghost use Rattle.std.specs.Prelude.{◌≡◌, ◌≤◌, ◌<◌, ◌+◌, ◌↔◌, IfErr, IsErrOf, IsTrue, false};
 ghost use Rattle.layout.specs.Places.{IsGeometry};
-ghost use Rattle.regions.specs.store.volume.Reading.{is_inode, inode_block, inode_offset};
-ghost use Rattle.regions.specs.store.volume.Pieces.{pieces};
-ghost use Rattle.regions.specs.store.World.{Turns, Reads};
-ghost use Rattle.regions.specs.store.Volume.{IsOn, Alters};
-ghost use Rattle.regions.specs.store.Halts.{IsHalt, Ends};
+ghost use Rattle.store.specs.volume.Reading.{is_inode, inode_block, inode_offset};
+ghost use Rattle.store.specs.volume.Pieces.{pieces};
+ghost use Rattle.store.specs.World.{Turns, Reads};
+ghost use Rattle.store.specs.Volume.{IsOn, Alters};
+ghost use Rattle.store.specs.Halts.{IsHalt, Ends};
 ghost use Rattle.inode_table.specs.Table.{with_inode};
 
 pub use inode::{INODE_SIZE, Inode, attributes, decode, decode_in, encode};
 use layout::Geometry;
-use regions::store::words::write_bytes;
-use regions::store::{Blocks, Halt};
+use store::words::write_bytes;
+use store::{Blocks, Halt};
 
 /// Where an inode begins.
 #[derive(Clone, Copy)]

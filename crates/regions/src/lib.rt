@@ -4,9 +4,6 @@
 
 ghost use Rattle.regions.specs.Regions.{InodeMapAlone, ZoneMapAlone, TableAlone, ZoneAlone};
 
-// passed on: what stands on regions stands on blocks
-pub use store;
-
 /// A write to a block of the inode map changes the inode map alone.
 pub fn inode_map_alone()
     ensures { InodeMapAlone }

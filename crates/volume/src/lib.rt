@@ -8,9 +8,6 @@ ghost use Rattle.volume.specs.IsVerdict.{VerdictIsLeast};
 use std::error::Error;
 use std::fmt;
 
-// passed on: a volume holds a tree
-pub use tree;
-
 /// An inode as it lies on the disk: 64 bytes, of which each field here is a little-endian number (MINIX version 3).
 #[derive(Clone, Copy, Debug, PartialEq, Eq)]
 pub struct Inode {

@@ -1,4 +1,3 @@
-pub use Rattle.volume.proofs as volume
 pub use Rattle.volume.proofs.tree as tree
 pub mod Sums
 pub mod Cube

@@ -3,9 +3,6 @@
 
 ghost use Rattle.volume_laws.specs.Laws.{CleanIsATree, UsedZonesAreMarked, HeldLeavesRoom, ImageLeavesRoom};
 
-// passed on: what stands on these laws stands on the volume
-pub use volume;
-
 /// The verdict on an image is Clean exactly where the image holds a tree without open files, whatever its bytes.
 pub fn clean_is_a_tree()
     ensures { CleanIsATree }

@@ -1,4 +1,3 @@
-pub use Rattle.inode_table.proofs as inode_table
 pub use Rattle.zone_laws.proofs as zone_laws
 pub mod Frames
 pub mod Levels

@@ -1,5 +1,4 @@
 -- What the calls on the zones of files do.
-pub use Rattle.inode_table.specs as inode_table
 pub use Rattle.zone_laws.specs as zone_laws
 pub mod Parts
 pub mod Words

@@ -6,6 +6,3 @@ pub mod numbers;
 pub mod pages;
 pub mod places;
 pub mod steps;
-
-// passed on: zones are those of inodes
-pub use inode_table;

@@ -1,6 +1,6 @@
 use Rattle.std.proofs.Common.{◌≡◌, ◌+◌, ap, sym, ◌∙◌, arith}
-use Rattle.regions.specs.store.volume.Pieces.{pieces}
-use Rattle.regions.proofs.store.Turns.{reads_none, reads_then, if_cut}
+use Rattle.store.specs.volume.Pieces.{pieces}
+use Rattle.store.proofs.Turns.{reads_none, reads_then, if_cut}
 use Rattle.bitmap.specs.Numbers.{count_free_in}
 use Rattle.bitmap.specs.Maps.{numbers_in, reach}
 use Rattle.bitmap.proofs.Counting.{counted_none, more_counted}

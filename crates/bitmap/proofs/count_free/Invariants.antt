@@ -1,6 +1,6 @@
 use Rattle.std.proofs.Common.{◌≡◌, ◌+◌, ◌≤◌}
-use Rattle.regions.specs.store.volume.Pieces.{pieces}
-use Rattle.regions.specs.store.World.{Reads}
+use Rattle.store.specs.volume.Pieces.{pieces}
+use Rattle.store.specs.World.{Reads}
 use Rattle.bitmap.specs.Numbers.{count_free_in}
 use Rattle.bitmap.specs.Maps.{numbers_in, reach}
 use Rattle.bitmap.proofs.count_free.Given as goal

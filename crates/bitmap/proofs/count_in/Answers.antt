@@ -1,8 +1,8 @@
 use Rattle.std.proofs.Common.{◌∙◌}
 use Rattle.std.specs.Prelude.{slice_index}
-use Rattle.regions.specs.store.volume.Reading.{bit_in}
-use Rattle.regions.specs.store.volume.Pieces.{pieces}
-use Rattle.regions.proofs.store.Turns.{turns_as, turns_seen}
+use Rattle.store.specs.volume.Reading.{bit_in}
+use Rattle.store.specs.volume.Pieces.{pieces}
+use Rattle.store.proofs.Turns.{turns_as, turns_seen}
 use Rattle.bitmap.specs.Maps.{numbers_in}
 use Rattle.bitmap.proofs.Blocks.{in_block, count_moved}
 use Rattle.bitmap.proofs.count_in.Goals as goal

@@ -1,5 +1,5 @@
-use Rattle.regions.specs.store.volume.Pieces.{pieces}
-use Rattle.regions.specs.store.World.{Reads}
+use Rattle.store.specs.volume.Pieces.{pieces}
+use Rattle.store.specs.World.{Reads}
 use Rattle.bitmap.specs.Numbers.{AllIn}
 use Rattle.bitmap.specs.Maps.{numbers_in, reach}
 use Rattle.bitmap.proofs.lowest_free.Given as goal

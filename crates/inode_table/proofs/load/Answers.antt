@@ -1,7 +1,7 @@
 use Rattle.std.proofs.Common.{sym}
 use Rattle.std.specs.Prelude.{IsTrue}
-use Rattle.regions.specs.store.volume.Reading.{is_inode}
-use Rattle.regions.proofs.store.Turns.{turns_as, turns_seen}
+use Rattle.store.specs.volume.Reading.{is_inode}
+use Rattle.store.proofs.Turns.{turns_as, turns_seen}
 use Rattle.inode_table.proofs.Saved.{loaded}
 use Rattle.inode_table.proofs.load.Goals as goal
 
