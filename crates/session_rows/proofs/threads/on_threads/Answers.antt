@@ -5,7 +5,7 @@ use Rattle.inline.specs.Inline.{IsReady}
 use Rattle.startup.specs.mounting.Laws.{sizes_in}
 use Rattle.inline.specs.true_replies.Events.{IsOnMedia, opening_media}
 use Rattle.launch.proofs.Frames.{frames_fit}
-use Rattle.session_rows.proofs.sessions.on_threads.Goals as goal
+use Rattle.session_rows.proofs.threads.on_threads.Goals as goal
 
 pub over_threads-requires-clause-truth : goal.over_threads-requires-clause-truth
 over_threads-requires-clause-truth g c = λ _ _.
