@@ -1,7 +1,7 @@
 //! What is refused, and which fault is told first.
-use crate::given::gave;
-use play_samples::volumes::{files, play_files};
-use samples::{changed, new_volume, supply_of, whole};
+use play_samples::volumes::{Faults, HONEST, Play};
+use samples::{changed, new_volume};
+use std::alloc::{AllocError, Global};
 use std::test::Fail;
 
 /// A script.
@@ -48,48 +48,61 @@ const ROWS: [Row; 9] = [
 #[test]
 fn the_first_fault_is_told(rt: HostRuntime) -> Result<(), Fail> {
     let alloc = rt.alloc();
-    for (image, texts, line) in &ROWS {
-        let files = files(alloc, texts)?;
-        let supply = supply_of(alloc, 128, &[None])?;
-        let played = play_files(alloc, rt, *image, files.as_slice(), &whole(), supply)?;
-        gave(&rt, &played, 1, "", line);
+    for (image, scripts, line) in ROWS {
+        let play = Play {
+            image,
+            sectors: 128,
+            ..Play::new(&[], scripts)
+        };
+        play.gives(alloc, rt, 1, "", line)?;
     }
     Ok(())
 }
 
+/// So many scripts, the last of which may be another one.
+fn many(
+    alloc: Global,
+    count: usize,
+    last: &'static [u8],
+) -> Result<Vec<Option<&'static [u8]>>, AllocError> {
+    let mut scripts = Vec::new(alloc);
+    for number in 1..=count {
+        scripts.push(Some(if number < count { STAT } else { last }))?;
+    }
+    Ok(scripts)
+}
+
 /// A play of so many scripts; the last one may be bad.
-const COUNTS: [(usize, &[u8], u8, &str); 4] = [
-    (64, STAT, 1, "BadSetup\n"),
-    (65, STAT, 1, "TooMany\n"),
-    (65, BAD, 1, "bad line 2 of w.txt\n"),
-    (64, BAD, 1, "bad line 2 of w.txt\n"),
+const COUNTS: [(usize, &[u8], &str); 4] = [
+    (64, STAT, "BadSetup\n"),
+    (65, STAT, "TooMany\n"),
+    (65, BAD, "bad line 2 of w.txt\n"),
+    (64, BAD, "bad line 2 of w.txt\n"),
 ];
 
-/// More scripts than sessions are refused once each line is read, and before anything starts.
+/// More scripts than sessions are refused once each line is read, and before anything starts: the driver is one of other media than the image's.
 #[test]
 fn scripts_are_sixty_four(rt: HostRuntime) -> Result<(), Fail> {
     let alloc = rt.alloc();
     let image = new_volume(alloc, 1024)?;
-    for (count, last, status, line) in &COUNTS {
-        let mut texts = Vec::new(alloc);
-        for _ in 1..*count {
-            texts.push(Some(STAT))?;
-        }
-        texts.push(Some(*last))?;
-        let files = files(alloc, texts.as_slice())?;
-        // A driver of other media than the image's.
-        let supply = supply_of(alloc, 127, &[None])?;
-        let played = play_files(
-            alloc,
-            rt,
-            Some(image.as_slice()),
-            files.as_slice(),
-            &whole(),
-            supply,
-        )?;
-        gave(&rt, &played, *status, "", line);
+    for (count, last, line) in COUNTS {
+        let scripts = many(alloc, count, last)?;
+        let play = Play {
+            sectors: 127,
+            ..Play::new(image.as_slice(), scripts.as_slice())
+        };
+        play.gives(alloc, rt, 1, "", line)?;
     }
     Ok(())
+}
+
+/// The replies to 64 syncs, each in a session of its own.
+fn synced(alloc: Global) -> Result<String, AllocError> {
+    let mut out = String::new(alloc);
+    for number in 0..64 {
+        writeln!(out, "session {number}\nok")?;
+    }
+    Ok(out)
 }
 
 /// Each of 64 scripts has its session.
@@ -97,84 +110,66 @@ fn scripts_are_sixty_four(rt: HostRuntime) -> Result<(), Fail> {
 fn sixty_four_are_played(rt: HostRuntime) -> Result<(), Fail> {
     let alloc = rt.alloc();
     let image = new_volume(alloc, 1024)?;
-    let mut texts = Vec::new(alloc);
-    let mut out = format!(in alloc; "")?;
-    for number in 0..64 {
-        texts.push(Some(b"user 0 0\n100 sync\n".as_slice()))?;
-        out.push_str(format!(in alloc; "session {number}\nok\n")?.as_str())?;
-    }
-    let files = files(alloc, texts.as_slice())?;
-    let supply = supply_of(alloc, 128, &[None])?;
-    let played = play_files(
-        alloc,
-        rt,
-        Some(image.as_slice()),
-        files.as_slice(),
-        &whole(),
-        supply,
-    )?;
-    gave(&rt, &played, 0, out.as_str(), "");
-    Ok(())
+    let out = synced(alloc)?;
+    let script: &[u8] = b"user 0 0\n100 sync\n";
+    let scripts = [Some(script); 64];
+    Play::new(image.as_slice(), &scripts).gives(alloc, rt, 0, out.as_str(), "")
 }
 
-/// Where an image is changed to which byte, and the refusal.
-const CHANGES: [(usize, u8, &str); 10] = [
-    (1048, 0x00, "Mount Layout BadMagic\n"),
-    (1053, 0x05, "Mount Layout BadBlockSize\n"),
-    (1054, 0x01, "Mount Layout BadVersion\n"),
-    (1036, 0x01, "Mount Layout BadVersion\n"),
-    (1034, 0x07, "Mount Layout BadCounts\n"),
+/// Where an image is changed to which byte, how many sectors the driver serves, and the refusal.
+const CHANGES: [(usize, u8, usize, &str); 11] = [
+    (1048, 0x00, 128, "Mount Layout BadMagic\n"),
+    (1053, 0x05, 128, "Mount Layout BadBlockSize\n"),
+    (1054, 0x01, 128, "Mount Layout BadVersion\n"),
+    (1036, 0x01, 128, "Mount Layout BadVersion\n"),
+    (1034, 0x07, 128, "Mount Layout BadCounts\n"),
     // One block more than there are: the last read passes the end, and moves nothing there.
-    (1044, 0x41, "Mount Eio\n"),
-    (2048, 0x01, "Mount Inconsistent finding 4 at 1\n"),
-    (4097, 0x81, "Mount Inconsistent finding 4 at 1\n"),
+    (1044, 0x41, 128, "Mount Eio\n"),
+    (2048, 0x01, 128, "Mount Inconsistent finding 4 at 1\n"),
+    (4097, 0x81, 128, "Mount Inconsistent finding 4 at 1\n"),
     // Zone 7 is marked, and nothing names it.
-    (3072, 0x07, "Mount Inconsistent finding 9 at 7\n"),
+    (3072, 0x07, 128, "Mount Inconsistent finding 9 at 7\n"),
     // The root has three links.
-    (4098, 0x03, "Mount Inconsistent finding 16 at 1\n"),
+    (4098, 0x03, 128, "Mount Inconsistent finding 16 at 1\n"),
+    // Drivers of other media than the image's are told before its superblock.
+    (1048, 0x00, 127, "BadSetup\n"),
 ];
 
 #[test]
 fn images_are_refused_by_name(rt: HostRuntime) -> Result<(), Fail> {
     let alloc = rt.alloc();
-    let script = files(alloc, &[Some(STAT)])?;
-    for (at, byte, line) in &CHANGES {
-        let image = changed(alloc, *at, *byte)?;
-        let supply = supply_of(alloc, 128, &[None])?;
-        let image = Some(image.as_slice());
-        let played = play_files(alloc, rt, image, script.as_slice(), &whole(), supply)?;
-        gave(&rt, &played, 1, "", line);
+    for (at, byte, sectors, line) in CHANGES {
+        let image = changed(alloc, at, byte)?;
+        let scripts = [Some(STAT)];
+        let play = Play {
+            sectors,
+            ..Play::new(image.as_slice(), &scripts)
+        };
+        play.gives(alloc, rt, 1, "", line)?;
     }
-    // Drivers of other media than the image's are told before its superblock.
-    let bad = changed(alloc, 1048, 0)?;
-    let supply = supply_of(alloc, 127, &[None])?;
-    let bad = Some(bad.as_slice());
-    let played = play_files(alloc, rt, bad, script.as_slice(), &whole(), supply)?;
-    gave(&rt, &played, 1, "", "BadSetup\n");
     Ok(())
 }
 
-/// How many bytes are left of an image, how many drivers there are, and the refusal.
-const CUTS: [(usize, usize, &str); 4] = [
+/// How many bytes are left of an image, the drivers, and the refusal.
+const CUTS: [(usize, Faults<'static>, &str); 4] = [
     // The first 2048 bytes, or the volume's last ones, aren't all there: a read past the end moves nothing, which is a driver's fault.
-    (1024, 1, "Mount Eio\n"),
-    (1023, 1, "Media NotWholeSectors\n"),
-    (65024, 1, "Mount Eio\n"),
-    (65536, 0, "NoDriver\n"),
+    (1024, HONEST, "Mount Eio\n"),
+    (1023, HONEST, "Media NotWholeSectors\n"),
+    (65024, HONEST, "Mount Eio\n"),
+    (65536, &[], "NoDriver\n"),
 ];
 
 #[test]
 fn cut_images_are_refused_by_name(rt: HostRuntime) -> Result<(), Fail> {
     let alloc = rt.alloc();
-    let script = files(alloc, &[Some(STAT)])?;
     let image = new_volume(alloc, 1024)?;
-    for (length, drivers, line) in &CUTS {
-        let image = image.get(..*length);
-        let honest = [None];
-        let faults = honest.get(..*drivers).unwrap_or(&[]);
-        let supply = supply_of(alloc, length / 512, faults)?;
-        let played = play_files(alloc, rt, image, script.as_slice(), &whole(), supply)?;
-        gave(&rt, &played, 1, "", line);
+    for (length, faults, line) in CUTS {
+        let scripts = [Some(STAT)];
+        let play = Play {
+            faults,
+            ..Play::new(image.get(..length).unwrap_or(&[]), &scripts)
+        };
+        play.gives(alloc, rt, 1, "", line)?;
     }
     Ok(())
 }

@@ -5,5 +5,3 @@
 mod deaths;
 #[cfg(test)]
 mod faults;
-#[cfg(test)]
-mod given;

@@ -1,28 +1,205 @@
 //! The image that a play leaves.
-use crate::given::gave;
 use fsck::{Verdict, check};
 use modeldisk::FaultKind;
-use play_samples::volumes::{
-    File, Status, Told, finish, one_file, play, play_all, play_mounted, play_over,
-};
-use samples::{MOUNT_READS, new_volume, supply_at, supply_of, whole};
+use play_samples::volumes::{Faults, HONEST, Play, Played};
+use samples::new_volume;
 use std::alloc::Global;
 use std::process::Abort;
+use std::sync::Wait;
 use std::test::Fail;
 
-/// Whether an image is that of a sound volume.
-fn is_clean(alloc: Global, image: Option<&[u8]>) -> Result<bool, Fail> {
-    match image {
-        Some(image) => Ok(matches!(check(alloc, image)?, Verdict::Clean(_))),
-        None => Ok(false),
-    }
+/// What is played on a new volume, and what comes of it.
+struct Row {
+    script: &'static [u8],
+    // the driver's fault, in this request
+    request: u32,
+    faults: Faults<'static>,
+    status: u8,
+    out: &'static str,
+    // bytes of the image, from these places on
+    parts: &'static [(usize, &'static [u8])],
+    // whether the image is as it was
+    stays: bool,
 }
 
-/// The bytes of an image at a place.
-fn holds(rt: &impl Abort, image: Option<&[u8]>, at: usize, bytes: &[u8]) {
-    let there = image.and_then(|image| image.get(at..at.saturating_add(bytes.len())));
-    assert!(rt; there == Some(bytes));
-}
+const DIES: Faults<'static> = &[Some((0, FaultKind::Die))];
+
+/// The root's inode stands at byte 4096, its zone, block 6, at 6144; entry 2 there is the first behind those of `.` and `..`.
+const ROWS: [Row; 6] = [
+    // What a script left is on the image, though it never asked for a sync.
+    Row {
+        script: FILLS,
+        request: 1,
+        faults: HONEST,
+        status: 0,
+        out: FILLED,
+        parts: &[],
+        stays: false,
+    },
+    // What is only read stays byte by byte.
+    Row {
+        script: b"user 0 0
+100 stat /
+100 open / r 0
+100 readdir 0
+",
+        request: 1,
+        faults: HONEST,
+        status: 0,
+        out: "session 0
+inode 1 mode 0040755 links 2 uid 0 gid 0 size 128 times 50 50 50
+fd 0
+names 0
+",
+        parts: &[],
+        stays: true,
+    },
+    // 16 entries fill the root's zone: fourteen names beside `.` and `..`. The fifteenth name takes a zone, and gives it back when its entry
+    // takes the place of the first name, in entry 2. The root's size stands at byte 4104, its zones from 4120 on, the zone map at 3072.
+    Row {
+        script: b"user 0 0
+60 open /n01 rwc 644
+60 close 0
+60 open /n02 rwc 644
+60 close 0
+60 open /n03 rwc 644
+60 close 0
+60 open /n04 rwc 644
+60 close 0
+60 open /n05 rwc 644
+60 close 0
+60 open /n06 rwc 644
+60 close 0
+60 open /n07 rwc 644
+60 close 0
+60 open /n08 rwc 644
+60 close 0
+60 open /n09 rwc 644
+60 close 0
+60 open /n10 rwc 644
+60 close 0
+60 open /n11 rwc 644
+60 close 0
+60 open /n12 rwc 644
+60 close 0
+60 open /n13 rwc 644
+60 close 0
+60 open /n14 rwc 644
+60 close 0
+61 stat /
+61 statfs
+60 open /n15 rwc 644
+60 close 0
+61 stat /
+61 statfs
+70 unlink /n01
+71 stat /
+71 statfs
+",
+        request: 1,
+        faults: HONEST,
+        status: 0,
+        out: "session 0
+fd 0
+ok
+fd 0
+ok
+fd 0
+ok
+fd 0
+ok
+fd 0
+ok
+fd 0
+ok
+fd 0
+ok
+fd 0
+ok
+fd 0
+ok
+fd 0
+ok
+fd 0
+ok
+fd 0
+ok
+fd 0
+ok
+fd 0
+ok
+inode 1 mode 0040755 links 2 uid 0 gid 0 size 1024 times 50 60 60
+block 1024 zones 58 free 57 inodes 32 free 17
+fd 0
+ok
+inode 1 mode 0040755 links 2 uid 0 gid 0 size 1088 times 50 60 60
+block 1024 zones 58 free 56 inodes 32 free 16
+ok
+inode 1 mode 0040755 links 2 uid 0 gid 0 size 1024 times 50 70 70
+block 1024 zones 58 free 57 inodes 32 free 17
+",
+        parts: &[
+            (6272, b"\x10\0\0\0n15\0"),
+            (6336, b"\x03\0\0\0n02\0"),
+            (7104, b"\x0f\0\0\0n14\0"),
+            (4104, &[0, 4, 0, 0]),
+            (4120, &[6, 0, 0, 0, 0, 0, 0, 0]),
+            (3072, &[3, 0]),
+        ],
+        stays: false,
+    },
+    // The 60 bytes of the longest name are in its entry; a longer one is refused.
+    Row {
+        script: b"user 0 0
+60 open /aaaaaaaaaaaaaaaaaaaaaaaaaaaaaaaaaaaaaaaaaaaaaaaaaaaaaaaaaaaa rwc 644
+60 open /aaaaaaaaaaaaaaaaaaaaaaaaaaaaaaaaaaaaaaaaaaaaaaaaaaaaaaaaaaaaa rwc 644
+",
+        request: 1,
+        faults: HONEST,
+        status: 0,
+        out: "session 0
+fd 0
+ENAMETOOLONG
+",
+        parts: &[
+            (6272, b"\x02\0\0\0"),
+            (
+                6276,
+                b"aaaaaaaaaaaaaaaaaaaaaaaaaaaaaaaaaaaaaaaaaaaaaaaaaaaaaaaaaaaa",
+            ),
+            (6336, &[0]),
+        ],
+        stays: false,
+    },
+    // Where the device is given up the image is there as the media stand. Request 18 is the first after the mount's.
+    Row {
+        script: b"user 0 0
+100 stat /
+",
+        request: 18,
+        faults: DIES,
+        status: 3,
+        out: "session 0
+EIO
+",
+        parts: &[],
+        stays: true,
+    },
+    // So it is, and the status says so, where that happened in the last sync alone: request 18 reads the root's inode, the next one writes it.
+    Row {
+        script: b"user 0 0
+100 chmod / 700
+",
+        request: 19,
+        faults: DIES,
+        status: 3,
+        out: "session 0
+ok
+",
+        parts: &[],
+        stays: true,
+    },
+];
 
 /// A script that fills a volume, and one that reads it, with what is printed of each.
 const FILLS: &[u8] = b"user 0 0
@@ -35,7 +212,15 @@ const FILLS: &[u8] = b"user 0 0
 100 unlink /h
 ";
 
-const FILLED: &str = "session 0\nok\nfd 0\nwrote 5\nok\nfd 1\nwrote 3000\nok\n";
+const FILLED: &str = "session 0
+ok
+fd 0
+wrote 5
+ok
+fd 1
+wrote 3000
+ok
+";
 
 const READS: &[u8] = b"user 0 0
 200 open /g r 0
@@ -47,172 +232,81 @@ const READS: &[u8] = b"user 0 0
 200 statfs
 ";
 
-const READ: &str =
-    "fd 0\nbytes 68656c6c6f\nfd 1\nnames 1 66:3\nfd 2\nnames 2 64:2 67:3\nblock 1024 zones 58 free 55 inodes 32 free 29\n";
+const READ: &str = "session 0
+fd 0
+bytes 68656c6c6f
+fd 1
+names 1 66:3
+fd 2
+names 2 64:2 67:3
+block 1024 zones 58 free 55 inodes 32 free 29
+";
 
-/// What a script left is on the image, though it never asked for a sync: the image is sound, and a second play reads the same from it.
+const FILLED_AND_READ: &str = "session 0
+ok
+fd 0
+wrote 5
+ok
+fd 1
+wrote 3000
+ok
+session 1
+fd 0
+bytes 68656c6c6f
+fd 1
+names 1 66:3
+fd 2
+names 2 64:2 67:3
+block 1024 zones 58 free 55 inodes 32 free 29
+";
+
+/// Whether an image is that of a sound volume.
+fn is_clean(alloc: Global, image: Option<&[u8]>) -> bool {
+    match image {
+        Some(image) => matches!(check(alloc, image), Ok(Verdict::Clean(_))),
+        None => false,
+    }
+}
+
+/// What a row's play gives, which was looked at: the image is sound, and where it stays it is this one.
+fn played<R: Wait + Abort + Copy>(
+    alloc: Global,
+    rt: R,
+    image: &[u8],
+    row: &Row,
+) -> Result<Played, Fail> {
+    let scripts = [Some(row.script)];
+    let play = Play {
+        request: row.request,
+        faults: row.faults,
+        ..Play::new(image, &scripts)
+    };
+    let played = play.played(alloc, rt)?;
+    played.gave(row.status, row.out, "")?;
+    played.holds(row.parts)?;
+    let left = played.image.as_deref();
+    assert!(rt; is_clean(alloc, left) && (left == Some(image) || !row.stays));
+    Ok(played)
+}
+
+#[test]
+fn images_are_left(rt: HostRuntime) -> Result<(), Fail> {
+    let alloc = rt.alloc();
+    let image = new_volume(alloc, 1024)?;
+    for row in &ROWS {
+        played(alloc, rt, image.as_slice(), row)?;
+    }
+    Ok(())
+}
+
+/// A second play reads from the image what a second session reads from the service.
 #[test]
 fn the_image_has_all(rt: HostRuntime) -> Result<(), Fail> {
     let alloc = rt.alloc();
     let image = new_volume(alloc, 1024)?;
-    let both = play_all(alloc, rt, image.as_slice(), &[FILLS, READS])?;
-    let text = format!(in alloc; "{FILLED}session 1\n{READ}")?;
-    gave(&rt, &both, 0, text.as_str(), "");
-    let first = play_all(alloc, rt, image.as_slice(), &[FILLS])?;
-    gave(&rt, &first, 0, FILLED, "");
-    assert!(rt; is_clean(alloc, first.image.as_deref())?);
-    let again = play_all(alloc, rt, first.image.as_deref().unwrap_or(&[]), &[READS])?;
-    let text = format!(in alloc; "session 0\n{READ}")?;
-    gave(&rt, &again, 0, text.as_str(), "");
-    Ok(())
-}
-
-/// What is only read stays byte by byte.
-#[test]
-fn what_is_read_stays(rt: HostRuntime) -> Result<(), Fail> {
-    let alloc = rt.alloc();
-    let image = new_volume(alloc, 1024)?;
-    let script = b"user 0 0\n100 stat /\n100 open / r 0\n100 readdir 0\n";
-    let played = play_all(alloc, rt, image.as_slice(), &[script])?;
-    assert!(rt; played.image.as_deref() == Some(image.as_slice()));
-    Ok(())
-}
-
-/// Fourteen names fill the root's first zone, a fifteenth takes a second one, and the last entry goes where a name is taken away.
-#[test]
-fn entries_stay_together(rt: HostRuntime) -> Result<(), Fail> {
-    let alloc = rt.alloc();
-    let image = new_volume(alloc, 1024)?;
-    let mut script = format!(in alloc; "user 0 0\n")?;
-    let mut out = format!(in alloc; "session 0\n")?;
-    for number in 1..16 {
-        if number == 15 {
-            script.push_str("100 stat /\n100 statfs\n")?;
-            out.push_str(
-                "inode 1 mode 0040755 links 2 uid 0 gid 0 size 1024 times 50 100 100
-block 1024 zones 58 free 57 inodes 32 free 17\n",
-            )?;
-        }
-        let tens = number / 10;
-        let ones = number % 10;
-        script.push_str(format!(in alloc;
-            "100 open /n{tens}{ones} wc 644\n100 close 0\n"
-        )?.as_str())?;
-        out.push_str("fd 0\nok\n")?;
-    }
-    script.push_str("100 stat /\n100 statfs\n100 unlink /n01\n100 stat /\n100 statfs\n")?;
-    out.push_str(
-        "inode 1 mode 0040755 links 2 uid 0 gid 0 size 1088 times 50 100 100
-block 1024 zones 58 free 56 inodes 32 free 16
-ok
-inode 1 mode 0040755 links 2 uid 0 gid 0 size 1024 times 50 100 100
-block 1024 zones 58 free 57 inodes 32 free 17\n",
-    )?;
-    let played = play_all(alloc, rt, image.as_slice(), &[script.as_bytes()])?;
-    gave(&rt, &played, 0, out.as_str(), "");
-    // The root's zone is block 6; its entry 2 stands behind those of `.` and `..`.
-    holds(
-        &rt,
-        played.image.as_deref(),
-        6144 + 128,
-        &[16, 0, 0, 0, b'n', b'1', b'5', 0],
-    );
-    assert!(rt; is_clean(alloc, played.image.as_deref())?);
-    Ok(())
-}
-
-/// The 60 bytes of the longest name are in its entry.
-#[test]
-fn the_longest_name_is_written(rt: HostRuntime) -> Result<(), Fail> {
-    let alloc = rt.alloc();
-    let image = new_volume(alloc, 1024)?;
-    let name = [b'a'; 60];
-    let name = String::from_utf8(Vec::from_array(alloc, name)?)?;
-    let script = format!(in alloc; "user 0 0\n100 open /{name} rwc 644\n")?;
-    let played = play_all(alloc, rt, image.as_slice(), &[script.as_bytes()])?;
-    holds(&rt, played.image.as_deref(), 6144 + 132, name.as_bytes());
-    Ok(())
-}
-
-/// Where the device is given up the image is there as the media stand, and the status says so, though it happened in the last sync alone.
-#[test]
-fn a_device_that_is_given_up_leaves_its_image(rt: HostRuntime) -> Result<(), Fail> {
-    let alloc = rt.alloc();
-    let image = new_volume(alloc, 1024)?;
-    let dies = Some((0, FaultKind::Die));
-    let script = b"user 0 0\n100 stat /\n";
-    let played = play_mounted(alloc, rt, image.as_slice(), script, &[dies])?;
-    gave(&rt, &played, 3, "session 0\nEIO\n", "");
-    assert!(rt; played.image.as_deref() == Some(image.as_slice()));
-    // The first request after the mount reads the root's inode, the second is the write of it in the last sync.
-    let script = b"user 0 0\n100 chmod / 700\n";
-    let supply = supply_at(alloc, 128, MOUNT_READS + 2, &[dies])?;
-    let played = play_over(alloc, rt, image.as_slice(), script, supply)?;
-    gave(&rt, &played, 3, "session 0\nok\n", "");
-    assert!(rt; played.image.as_deref() == Some(image.as_slice()));
-    Ok(())
-}
-
-/// Where the answers can't be written the image is there all the same.
-#[test]
-fn answers_that_are_lost_leave_the_image(rt: HostRuntime) -> Result<(), Fail> {
-    let alloc = rt.alloc();
-    let image = new_volume(alloc, 1024)?;
-    let script = b"user 0 0\n100 chmod / 700\n100 stat /\n";
-    let supply = supply_of(alloc, 128, &[None])?;
-    let named = File {
-        name: "v.img",
-        bytes: Some(image.as_slice()),
-    };
-    let files = one_file(alloc, script)?;
-    let mut space = [0u8; 10];
-    let mut out = space.as_mut_slice();
-    let mut err = Vec::new(alloc);
-    let came = play(
-        alloc,
-        rt,
-        named,
-        files.as_slice(),
-        &whole(),
-        supply,
-        &mut out,
-        &mut err,
-    );
-    assert!(rt; came.status == Status::Refused(Told::Whole));
-    assert_eq!(rt;
-        err.as_slice(),
-        b"cannot write standard output\n".as_slice()
-    );
-    // The inode's mode stands first: a directory, of mode 0700.
-    holds(&rt, came.image.as_deref(), 4096, &[0xc0, 0x41, 2, 0]);
-    Ok(())
-}
-
-/// A file that can't be written is told, whatever came before.
-#[test]
-fn a_file_that_cannot_be_written_is_told(rt: HostRuntime) -> Result<(), Fail> {
-    let alloc = rt.alloc();
-    let rows = [
-        (Status::Done, true, Status::Done, ""),
-        (Status::GivenUp, true, Status::GivenUp, ""),
-        (
-            Status::Done,
-            false,
-            Status::Refused(Told::Whole),
-            "cannot write w.img\n",
-        ),
-        (
-            Status::GivenUp,
-            false,
-            Status::Refused(Told::Whole),
-            "cannot write w.img\n",
-        ),
-    ];
-    for (played, written, status, line) in rows {
-        let mut err = Vec::new(alloc);
-        let ended = finish(alloc, played, "w.img", written, &mut err);
-        assert!(rt; ended == status);
-        assert_eq!(rt; err.as_slice(), line.as_bytes());
-    }
-    Ok(())
+    let both = [Some(FILLS), Some(READS)];
+    Play::new(image.as_slice(), &both).gives(alloc, rt, 0, FILLED_AND_READ, "")?;
+    let first = played(alloc, rt, image.as_slice(), &ROWS[0])?;
+    let left = first.image.as_deref().unwrap_or(&[]);
+    Play::new(left, &[Some(READS)]).gives(alloc, rt, 0, READ, "")
 }

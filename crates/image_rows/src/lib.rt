@@ -2,6 +2,6 @@
 #![tactic(auto)]
 
 #[cfg(test)]
-mod given;
+mod endings;
 #[cfg(test)]
 mod images;

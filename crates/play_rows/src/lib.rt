@@ -4,8 +4,8 @@
 #[cfg(test)]
 mod calls;
 #[cfg(test)]
-mod given;
-#[cfg(test)]
 mod partitions;
 #[cfg(test)]
 mod plays;
+#[cfg(test)]
+mod writers;

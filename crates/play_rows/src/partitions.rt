@@ -1,20 +1,17 @@
 //! Volumes in a partition of an image.
-use crate::given::gave;
+use crate::plays::{STAT, TOLD};
 use modeldisk::{Inner, RamDriver, ScriptedDriver};
 use partition::{Table, parse};
-use play_samples::volumes::{Played, play_as};
+use play_samples::volumes::{Play, Played};
 use policy::Setup;
-use samples::{ROOT, new_volume, whole};
+use samples::{new_volume, whole};
 use std::alloc::{AllocError, Global};
 use std::sync::Wait;
 use std::test::Fail;
 
-const STAT: &[u8] = b"user 0 0\n100 stat /\n";
-
 /// A new volume of 128 sectors behind a sector with a table, whose second entry has this type, is said to have so many sectors from sector 1
 /// on, and which ends in 0x55 and this byte.
 fn disk(alloc: Global, kind: u8, count: u8, last: u8) -> Result<Vec<u8>, AllocError> {
-    let volume = new_volume(alloc, 1024)?;
     let mut image = Vec::new(alloc);
     for at in 0..512usize {
         image.push(match at {
@@ -26,10 +23,18 @@ fn disk(alloc: Global, kind: u8, count: u8, last: u8) -> Result<Vec<u8>, AllocEr
             _ => 0,
         })?;
     }
-    for byte in &volume {
-        image.push(*byte)?;
-    }
+    image.extend_from_slice(new_volume(alloc, 1024)?.as_slice())?;
     Ok(image)
+}
+
+/// The table in the image's first sector, or that of a disk without one.
+fn table_of(image: &[u8]) -> Table {
+    let whole_disk = Table::whole(129);
+    let (sectors, _) = image.as_chunks::<512>();
+    match sectors.first() {
+        Some(first) => parse(first, 129).unwrap_or(whole_disk),
+        None => whole_disk,
+    }
 }
 
 /// Plays `stat /` on the volume of this minor, over a driver of its ranges.
@@ -39,45 +44,36 @@ fn played<R: Wait + Copy>(
     image: &[u8],
     minor: u8,
 ) -> Result<Played, AllocError> {
-    let (sectors, _) = image.as_chunks::<512>();
-    let whole_disk = Table::whole(129);
-    let table = match sectors.first() {
-        Some(first) => parse(first, 129).unwrap_or(whole_disk),
-        None => whole_disk,
-    };
     let mut supply = Vec::new(alloc);
-    let inner = Inner::Ram(RamDriver::new(table));
+    let inner = Inner::Ram(RamDriver::new(table_of(image)));
     supply.push(ScriptedDriver::new(inner, Vec::new(alloc)))?;
     let setup = Setup { minor, ..whole() };
-    play_as(alloc, rt, image, STAT, &setup, supply)
+    let scripts = [Some(STAT)];
+    let play = Play {
+        setup,
+        ..Play::new(image, &scripts)
+    };
+    play.played_over(alloc, rt, supply)
 }
 
-#[test]
-fn a_partition_is_served(rt: HostRuntime) -> Result<(), Fail> {
-    let alloc = rt.alloc();
-    let image = disk(alloc, 0x81, 128, 0xaa)?;
-    let got = played(alloc, rt, image.as_slice(), 2)?;
-    let text = format!(in alloc; "session 0\n{ROOT}")?;
-    gave(&rt, &got, 0, text.as_str(), "");
-    Ok(())
-}
+/// The type, the size and the last byte, the minor that is asked for, and what comes of it: the status and both texts.
+const ROWS: [(u8, u8, u8, u8, u8, &str, &str); 8] = [
+    (0x81, 128, 0xaa, 2, 0, TOLD, ""),
+    (0x81, 128, 0x55, 2, 1, "", "Partition NoSignature\n"),
+    (0x81, 129, 0xaa, 2, 1, "", "Partition PastMedia\n"),
+    (0x83, 128, 0xaa, 2, 1, "", "Partition\n"),
+    (0x81, 128, 0xaa, 1, 1, "", "Partition\n"),
+    (0x81, 128, 0xaa, 5, 1, "", "Partition\n"),
+    (0x81, 128, 0xaa, 255, 1, "", "Partition\n"),
+    (0x81, 128, 0xaa, 0, 1, "", "Mount Layout BadMagic\n"),
+];
 
 #[test]
-fn partitions_are_refused_by_name(rt: HostRuntime) -> Result<(), Fail> {
+fn partitions_are_served_or_refused_by_name(rt: HostRuntime) -> Result<(), Fail> {
     let alloc = rt.alloc();
-    let rows = [
-        (0x81, 128, 0x55, 2, "Partition NoSignature\n"),
-        (0x81, 129, 0xaa, 2, "Partition PastMedia\n"),
-        (0x83, 128, 0xaa, 2, "Partition\n"),
-        (0x81, 128, 0xaa, 1, "Partition\n"),
-        (0x81, 128, 0xaa, 5, "Partition\n"),
-        (0x81, 128, 0xaa, 255, "Partition\n"),
-        (0x81, 128, 0xaa, 0, "Mount Layout BadMagic\n"),
-    ];
-    for (kind, count, last, minor, line) in rows {
+    for (kind, count, last, minor, status, out, err) in ROWS {
         let image = disk(alloc, kind, count, last)?;
-        let got = played(alloc, rt, image.as_slice(), minor)?;
-        gave(&rt, &got, 1, "", line);
+        played(alloc, rt, image.as_slice(), minor)?.gave(status, out, err)?;
     }
     Ok(())
 }
