@@ -6,164 +6,84 @@ use message::{BlockRequest, Kind};
 use modeldisk::RamDriver;
 use partition::Table;
 use policy::Setup;
-use run_samples::runs::{RunRefusal, World, gave, ran_as, six, text_of};
-use samples::{changed, new_volume, whole};
+use run_samples::runs::{DiskDriver, RunRefusal, gave, ran_as, refusal_of, six, text_of};
+use samples::{changed, whole};
 use std::alloc::{AllocError, Global};
-use std::process::Abort;
 use std::test::Fail;
 use volume::Finding;
 
-/// New drivers of the volume's 128 sectors.
-fn drivers(alloc: Global, count: u32) -> Result<Vec<RamDriver>, AllocError> {
+/// A driver of so many sectors, which may have taken a request before.
+fn driver((sectors, used): (u32, bool)) -> DiskDriver {
+    let mut driver = RamDriver::new(Table::whole(sectors));
+    if used {
+        driver.accept(BlockRequest {
+            id: 1,
+            kind: Kind::Read,
+            minor: 0,
+            position: 4096,
+            count: 1024,
+            bytes: [0; 4096],
+        });
+    }
+    DiskDriver::Ram(driver)
+}
+
+/// Such drivers.
+fn drivers(alloc: Global, each: &[(u32, bool)]) -> Result<Vec<DiskDriver>, AllocError> {
     let mut supply = Vec::new(alloc);
-    for _ in 0..count {
-        supply.push(RamDriver::new(Table::whole(128)))?;
+    for one in each {
+        supply.push(driver(*one))?;
     }
     Ok(supply)
 }
 
-/// Looks at why no run is begun.
-fn is_refused(
-    rt: &impl Abort,
-    alloc: Global,
-    image: &[u8],
-    setup: &Setup,
-    supply: Vec<RamDriver>,
-    wanted: RunRefusal,
-) {
-    match World::run(alloc, image, setup, supply, &[]) {
-        Ok(_) => assert_eq!(rt; None, Some(wanted)),
-        Err(refusal) => assert_eq!(rt; Some(refusal), Some(wanted)),
-    }
-}
-
-/// No number of ticks without a sign of life may be a fault.
-fn no_misses() -> Setup {
+/// A setup with so many missed heartbeats to a fault, and so many frames.
+fn setup(misses: u32, frames: usize) -> Setup {
     let mut setup = whole();
-    setup.policy.misses = 0;
+    setup.policy.misses = misses;
+    setup.frames = frames;
     setup
 }
 
-/// One frame less than the least number.
-fn few_frames() -> Setup {
-    let mut setup = whole();
-    setup.frames = 15;
-    setup
-}
+/// The zone map of a new volume, with zone 7, which isn't used.
+const FOUND: RunRefusal = RunRefusal::NotClean(Finding {
+    number: 9,
+    place: 7,
+});
+
+/// What byte 3072 of a new volume of 128 sectors is changed to, the missed heartbeats and the frames of the setup, the drivers, and why no run is
+/// begun. The byte is 3 where it isn't changed; the default setup has 3 and 64.
+const ROWS: [(u8, u32, usize, &[(u32, bool)], RunRefusal); 9] = [
+    // Ticks without a sign of life have to be a fault; frames are 16 at least. Both are told before the want of drivers.
+    (3, 0, 64, &[(128, false)], RunRefusal::BadSetup),
+    (3, 0, 64, &[], RunRefusal::BadSetup),
+    (3, 3, 15, &[(128, false)], RunRefusal::BadSetup),
+    (3, 3, 15, &[], RunRefusal::BadSetup),
+    // The second driver serves half of the volume, or took a request before.
+    (3, 3, 64, &[(128, false), (64, false)], RunRefusal::BadSetup),
+    (3, 3, 64, &[(128, false), (128, true)], RunRefusal::BadSetup),
+    (3, 3, 64, &[], RunRefusal::NoDriver),
+    // A finding is told before a bad setup.
+    (7, 3, 64, &[], FOUND),
+    (7, 3, 15, &[], FOUND),
+];
 
 #[test]
-fn bad_setups_are_refused(rt: HostRuntime) -> Result<(), Fail> {
+fn runs_are_refused(rt: HostRuntime) -> Result<(), Fail> {
     let alloc = rt.alloc();
-    let image = new_volume(alloc, 1024)?;
-    for setup in [no_misses(), few_frames()] {
-        let supply = drivers(alloc, 1)?;
-        is_refused(
-            &rt,
-            alloc,
-            image.as_slice(),
-            &setup,
-            supply,
-            RunRefusal::BadSetup,
-        );
-        // Before the want of drivers.
-        let none = drivers(alloc, 0)?;
-        is_refused(
-            &rt,
-            alloc,
-            image.as_slice(),
-            &setup,
-            none,
-            RunRefusal::BadSetup,
-        );
-    }
-    Ok(())
-}
-
-/// The second driver serves half of the volume.
-#[test]
-fn a_driver_of_another_range_is_refused(rt: HostRuntime) -> Result<(), Fail> {
-    let alloc = rt.alloc();
-    let image = new_volume(alloc, 1024)?;
-    let mut supply = drivers(alloc, 1)?;
-    supply.push(RamDriver::new(Table::whole(64)))?;
-    is_refused(
-        &rt,
-        alloc,
-        image.as_slice(),
-        &whole(),
-        supply,
-        RunRefusal::BadSetup,
-    );
-    Ok(())
-}
-
-#[test]
-fn no_driver_is_refused(rt: HostRuntime) -> Result<(), Fail> {
-    let alloc = rt.alloc();
-    let image = new_volume(alloc, 1024)?;
-    let none = drivers(alloc, 0)?;
-    is_refused(
-        &rt,
-        alloc,
-        image.as_slice(),
-        &whole(),
-        none,
-        RunRefusal::NoDriver,
-    );
-    Ok(())
-}
-
-/// The first driver took a request before.
-#[test]
-fn a_used_driver_is_refused(rt: HostRuntime) -> Result<(), Fail> {
-    let alloc = rt.alloc();
-    let image = new_volume(alloc, 1024)?;
-    let mut used = RamDriver::new(Table::whole(128));
-    used.accept(BlockRequest {
-        id: 1,
-        kind: Kind::Read,
-        minor: 0,
-        position: 4096,
-        count: 1024,
-        bytes: [0; 4096],
-    });
-    let mut supply = drivers(alloc, 1)?;
-    supply.push(used)?;
-    is_refused(
-        &rt,
-        alloc,
-        image.as_slice(),
-        &whole(),
-        supply,
-        RunRefusal::BadSetup,
-    );
-    Ok(())
-}
-
-/// The zone map has a zone that isn't used; that is told before a bad setup.
-#[test]
-fn a_finding_is_refused(rt: HostRuntime) -> Result<(), Fail> {
-    let alloc = rt.alloc();
-    let image = changed(alloc, 3072, 7)?;
-    let found = RunRefusal::NotClean(Finding {
-        number: 9,
-        place: 7,
-    });
-    for setup in [whole(), few_frames()] {
-        let none = drivers(alloc, 0)?;
-        is_refused(&rt, alloc, image.as_slice(), &setup, none, found);
+    for (byte, misses, frames, each, wanted) in ROWS {
+        let image = changed(alloc, 3072, byte)?;
+        let supply = drivers(alloc, each)?;
+        let refusal = refusal_of(alloc, image.as_slice(), &setup(misses, frames), supply);
+        assert_eq!(rt; refusal, Some(wanted));
     }
     Ok(())
 }
 
 #[test]
 fn refusals_have_numbers(rt: HostRuntime) {
-    let found = RunRefusal::NotClean(Finding {
-        number: 9,
-        place: 7,
-    });
     let rows = [
-        (found, 3),
+        (FOUND, 3),
         (RunRefusal::Media(MediaRefusal::NotWholeSectors), 1),
         (RunRefusal::Media(MediaRefusal::TooLarge), 1),
         (RunRefusal::BadSetup, 4),
@@ -173,6 +93,19 @@ fn refusals_have_numbers(rt: HostRuntime) {
     for (refusal, number) in rows {
         assert_eq!(rt; refusal.number(), number);
     }
+}
+
+/// Looks at the line that is told of an image and a schedule that aren't run, over drivers of that image; it is an error where it is another.
+fn is_told(
+    alloc: Global,
+    image: Option<&[u8]>,
+    schedule: Option<&[u8]>,
+    setup: &Setup,
+    line: &str,
+) -> Result<(), Fail> {
+    let supply = six(alloc, image.unwrap_or(&[]))?;
+    gave(ran_as(alloc, image, schedule, setup, supply), 1, b"", line)?;
+    Ok(())
 }
 
 /// The first byte that is changed, the setup's frames and minor, and the line that is told.
@@ -189,18 +122,12 @@ fn refusals_are_told(rt: HostRuntime) -> Result<(), Fail> {
     let schedule = text_of(alloc, &["call 0 0 0 100 stat /", "step 1"])?;
     for (at, byte, frames, minor, line) in TOLD {
         let image = changed(alloc, at, byte)?;
-        let mut setup = whole();
-        setup.frames = frames;
-        setup.minor = minor;
-        let supply = six(alloc, image.as_slice())?;
-        let ran = ran_as(
-            alloc,
-            Some(image.as_slice()),
-            Some(schedule.as_slice()),
-            &setup,
-            supply,
-        );
-        gave(ran, 1, b"", line)?;
+        let setup = Setup {
+            minor,
+            ..setup(3, frames)
+        };
+        let (image, schedule) = (Some(image.as_slice()), Some(schedule.as_slice()));
+        is_told(alloc, image, schedule, &setup, line)?;
     }
     Ok(())
 }
@@ -219,16 +146,13 @@ const FILES: [(Option<usize>, Option<&[u8]>, &str); 8] = [
 
 #[test]
 fn files_are_refused_in_order(rt: HostRuntime) -> Result<(), Fail> {
-    let alloc = rt.alloc();
-    let image = new_volume(alloc, 1024)?;
+    let image = changed(rt.alloc(), 0, 0)?;
     for (length, schedule, line) in FILES {
         let bytes = match length {
             Some(length) => image.as_slice().get(..length),
             None => None,
         };
-        let supply = six(alloc, bytes.unwrap_or(&[]))?;
-        let ran = ran_as(alloc, bytes, schedule, &whole(), supply);
-        gave(ran, 1, b"", line)?;
+        is_told(rt.alloc(), bytes, schedule, &whole(), line)?;
     }
     Ok(())
 }
