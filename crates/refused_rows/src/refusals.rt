@@ -13,7 +13,7 @@ use std::test::Fail;
 use volume::Finding;
 
 /// A driver of so many sectors, which may have taken a request before.
-fn driver((sectors, used): (u32, bool)) -> DiskDriver {
+fn driver(sectors: u32, used: bool) -> DiskDriver {
     let mut driver = RamDriver::new(Table::whole(sectors));
     if used {
         driver.accept(BlockRequest {
@@ -31,8 +31,8 @@ fn driver((sectors, used): (u32, bool)) -> DiskDriver {
 /// Such drivers.
 fn drivers(alloc: Global, each: &[(u32, bool)]) -> Result<Vec<DiskDriver>, AllocError> {
     let mut supply = Vec::new(alloc);
-    for one in each {
-        supply.push(driver(*one))?;
+    for (sectors, used) in each {
+        supply.push(driver(*sectors, *used))?;
     }
     Ok(supply)
 }

@@ -29,7 +29,10 @@ impl Write for Failing {
     }
 }
 
-/// What two writers take of a run, standard output at so many calls and standard error at others.
+/// A schedule.
+const CALL: &[u8] = b"call 0 0 0 100 stat /\n";
+
+/// What two writers take of its run, standard output at so many calls and standard error at others.
 fn ran_into(alloc: Global, image: &[u8], calls: u32, others: u32) -> Result<Ran, AllocError> {
     let mut out = Failing {
         calls,
@@ -40,9 +43,10 @@ fn ran_into(alloc: Global, image: &[u8], calls: u32, others: u32) -> Result<Ran,
         taken: Vec::new(alloc),
     };
     let supply = six(alloc, image)?;
-    let (image, schedule): (_, Option<&[u8]>) = (Some(image), Some(b"call 0 0 0 100 stat /\n"));
+    let (image, schedule) = (Some(image), Some(CALL));
     let status = run_into(alloc, image, schedule, &whole(), supply, &mut out, &mut err);
-    let (Failing { taken: out, .. }, Failing { taken: err, .. }) = (out, err);
+    let Failing { taken: out, .. } = out;
+    let Failing { taken: err, .. } = err;
     Ok(Ran { status, out, err })
 }
 
