@@ -261,7 +261,7 @@ block 1024 zones 58 free 55 inodes 32 free 29
 ";
 
 /// Whether an image is that of a sound volume.
-fn is_clean(alloc: Global, image: Option<&[u8]>) -> bool {
+pub(crate) fn is_clean(alloc: Global, image: Option<&[u8]>) -> bool {
     match image {
         Some(image) => matches!(check(alloc, image), Ok(Verdict::Clean(_))),
         None => false,

@@ -1,12 +1,13 @@
 //! Each line of the table of calls, played.
 use crate::attributes::{GRANTED, OWNERS, SIZES, STATS};
+use crate::full::FULL;
 use crate::opening::{APPENDED, BYTES, CLOSED, DESCRIPTORS, OPENS, SHARED};
 use crate::places::{DIRECTORIES, LINKS, RENAMES, RENAMES_REFUSED, UNLINKS};
 use crate::sessions::{Session, are_played};
 use std::test::Fail;
 
 /// All that is played.
-const TABLES: [&[Session]; 15] = [
+const TABLES: [&[Session]; 16] = [
     &OPENS,
     &DESCRIPTORS,
     &CLOSED,
@@ -22,6 +23,7 @@ const TABLES: [&[Session]; 15] = [
     &DIRECTORIES,
     &RENAMES_REFUSED,
     &RENAMES,
+    &FULL,
 ];
 
 #[test]
