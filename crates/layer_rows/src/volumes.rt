@@ -26,24 +26,44 @@ pub(crate) enum Sizes {
     ManyInodes,
 }
 
-/// Their numbers.
+/// The numbers of the small one.
+const SMALL: Geometry = Geometry {
+    block_size: 1024,
+    inodes: 32,
+    zones: 64,
+    inode_map_blocks: 1,
+    zone_map_blocks: 1,
+    first_zone: 6,
+};
+
+/// The numbers of each.
 fn geometry(sizes: Sizes) -> Geometry
     ensures { IsGeometry result }
 {
-    let (block_size, inodes, zones, inode_map_blocks, first_zone) = match sizes {
-        Sizes::Small => (1024, 32, 64, 1, 6),
-        Sizes::Middle => (2048, 32, 64, 1, 5),
-        Sizes::Large => (4096, 32, 64, 1, 5),
-        Sizes::MoreInodes => (1024, 200, 64, 1, 17),
-        Sizes::ManyInodes => (1024, 8292, 600, 2, 524),
-    };
-    Geometry {
-        block_size,
-        inodes,
-        zones,
-        inode_map_blocks,
-        zone_map_blocks: 1,
-        first_zone,
+    match sizes {
+        Sizes::Small => SMALL,
+        Sizes::Middle => Geometry {
+            block_size: 2048,
+            first_zone: 5,
+            ..SMALL
+        },
+        Sizes::Large => Geometry {
+            block_size: 4096,
+            first_zone: 5,
+            ..SMALL
+        },
+        Sizes::MoreInodes => Geometry {
+            inodes: 200,
+            first_zone: 17,
+            ..SMALL
+        },
+        Sizes::ManyInodes => Geometry {
+            inodes: 8292,
+            zones: 600,
+            inode_map_blocks: 2,
+            first_zone: 524,
+            ..SMALL
+        },
     }
 }
 
