@@ -9,6 +9,7 @@ use std::sync::Wait;
 use std::test::Fail;
 
 /// What is played on a new volume, and what comes of it.
+#[derive(Clone, Copy)]
 struct Row {
     script: &'static [u8],
     // the driver's fault, in this request

@@ -7,7 +7,8 @@ use std::alloc::{AllocError, Global};
 use std::io::Write;
 use std::sync::Wait;
 use std::test::Fail;
-pub use tools::play::{Ended, File, Status, Told, finish, play};
+pub use tools::play::{Ended, Status, Told, finish};
+use tools::play::{File, play};
 
 /// Drivers, each with its fault once so many of a request's sectors were moved, or with none.
 pub type Faults<'f> = &'f [Option<(u32, FaultKind)>];

@@ -11,7 +11,7 @@ use launch::opened::over;
 use layout::Geometry;
 use media::Media;
 use samples::new_volume;
-use session_samples::services::{Cut, cut};
+use session_samples::services::{Asked, asked_and_stopped};
 use shared_server::refusal::SessionRefusal;
 use std::alloc::Global;
 use std::marker::Brand;
@@ -26,7 +26,7 @@ fn ask_and_stop<N: Room, R: Wait + Copy>(
     seat: Seat,
     media: Media,
     geometry: Geometry,
-) -> Option<Cut>
+) -> Option<Asked>
     requires board { board ≡ N.table }
     requires seat { IsKeeper N.table seat × (seat.view ≡ opener) }
     requires geometry { IsGeometry geometry × (geometry ≡ N.geometry) }
@@ -39,11 +39,11 @@ fn ask_and_stop<N: Room, R: Wait + Copy>(
         return None;
     };
     let service = over(alloc, rt, board, noting, 0, geometry, 16).ok()?;
-    cut(alloc, service)
+    asked_and_stopped(alloc, service)
 }
 
 /// The same, over a service on the volume in an image.
-fn asked_of<R: Wait + Copy>(alloc: Global, rt: R, image: &[u8]) -> Option<Cut> {
+fn asked_of<R: Wait + Copy>(alloc: Global, rt: R, image: &[u8]) -> Option<Asked> {
     let Ok(geometry) = Geometry::parse(image) else {
         return None;
     };

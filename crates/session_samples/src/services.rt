@@ -135,7 +135,7 @@ fn stopped_at_last<N: Room, R: Wait + Copy, L: Recorder<N> + OnMedia, S: FileSer
 
 /// What came of a service whose link has ended.
 #[derive(Drop)]
-pub struct Cut {
+pub struct Asked {
     /// What a call was answered.
     pub line: String,
     /// Why no session was made after it.
@@ -145,10 +145,10 @@ pub struct Cut {
 }
 
 /// A session calls, another one is asked for, and the service is stopped.
-pub fn cut<N: Room, R: Wait + Copy, L: Recorder<N> + OnMedia, S: FileServer<L>>(
+pub fn asked_and_stopped<N: Room, R: Wait + Copy, L: Recorder<N> + OnMedia, S: FileServer<L>>(
     alloc: Global,
     service: Service<N, Shared<N, R, L, S>>,
-) -> Option<Cut> {
+) -> Option<Asked> {
     let mut session = service.session(0, 0).ok()?;
     let mut line = String::new(alloc);
     told(&mut session, 100, &Call::Stat { path: b"/" }, &mut line);
@@ -157,7 +157,7 @@ pub fn cut<N: Room, R: Wait + Copy, L: Recorder<N> + OnMedia, S: FileServer<L>>(
     let Err(StopRefusal::LinkEnded(image)) = service.stop(alloc) else {
         return None;
     };
-    Some(Cut {
+    Some(Asked {
         line,
         refusal,
         image,

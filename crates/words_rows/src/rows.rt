@@ -34,7 +34,8 @@ fn said(alloc: Global, line: &[&str]) -> Result<String, Fail> {
     let (minor, spares) = (words.minor, words.spares);
     let order = if words.model { "arm" } else { "rising" };
     let mut text = format!(in alloc; "{image} to {out}, minor {minor}, {spares} spares, {order}:")?;
-    for name in &scripts_of(alloc, &matches)? {
+    let scripts = scripts_of(alloc, &matches)?;
+    for name in &scripts {
         text.push_str(" ")?;
         text.push_str(name)?;
     }
