@@ -1,6 +1,6 @@
 //! Attributes, sizes and the volume's numbers.
 
-use crate::sessions::Session;
+use play_samples::sessions::Session;
 
 /// Paths that stat refuses, by a user who may search each directory and by one who may not.
 pub(crate) const STATS: [Session; 2] = [

@@ -1,6 +1,6 @@
 //! A volume is filled to its last inode and its last zone, and emptied again.
 
-use crate::sessions::Session;
+use play_samples::sessions::Session;
 
 /// 31 directories take all inodes, a zone each, and two more of the root; then a file takes the place of the last of them, and all zones.
 pub(crate) const FULL: [Session; 1] = [Session {

@@ -1,5 +1,4 @@
 //! The image that a play leaves.
-use fsck::{Verdict, check};
 use modeldisk::FaultKind;
 use play_samples::volumes::{Faults, HONEST, Play, Played};
 use samples::new_volume;
@@ -261,14 +260,6 @@ names 2 64:2 67:3
 block 1024 zones 58 free 55 inodes 32 free 29
 ";
 
-/// Whether an image is that of a sound volume.
-pub(crate) fn is_clean(alloc: Global, image: Option<&[u8]>) -> bool {
-    match image {
-        Some(image) => matches!(check(alloc, image), Ok(Verdict::Clean(_))),
-        None => false,
-    }
-}
-
 /// What a row's play gives, which was looked at: the image is sound, and where it stays it is this one.
 fn played<R: Wait + Abort + Copy>(
     alloc: Global,
@@ -285,8 +276,7 @@ fn played<R: Wait + Abort + Copy>(
     let played = play.played(alloc, rt)?;
     played.gave(row.status, row.out, "")?;
     played.holds(row.parts)?;
-    let left = played.image.as_deref();
-    assert!(rt; is_clean(alloc, left) && (left == Some(image) || !row.stays));
+    assert!(rt; played.is_clean(alloc) && (played.left() == image || !row.stays));
     Ok(played)
 }
 
@@ -308,6 +298,5 @@ fn the_image_has_all(rt: HostRuntime) -> Result<(), Fail> {
     let both = [Some(FILLS), Some(READS)];
     Play::new(image.as_slice(), &both).gives(alloc, rt, 0, FILLED_AND_READ, "")?;
     let first = played(alloc, rt, image.as_slice(), &ROWS[0])?;
-    let left = first.image.as_deref().unwrap_or(&[]);
-    Play::new(left, &[Some(READS)]).gives(alloc, rt, 0, READ, "")
+    Play::new(first.left(), &[Some(READS)]).gives(alloc, rt, 0, READ, "")
 }

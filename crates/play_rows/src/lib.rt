@@ -27,8 +27,6 @@ mod places;
 #[cfg(test)]
 mod plays;
 #[cfg(test)]
-mod sessions;
-#[cfg(test)]
 mod table;
 #[cfg(test)]
 mod writers;

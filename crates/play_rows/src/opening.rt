@@ -1,6 +1,6 @@
 //! Opens, and what descriptors are used for.
 
-use crate::sessions::Session;
+use play_samples::sessions::Session;
 
 /// Opens, refused in their order, by the owner and by another user.
 pub(crate) const OPENS: [Session; 2] = [

@@ -1,6 +1,6 @@
 //! Names: made, linked, taken away and moved.
 
-use crate::sessions::Session;
+use play_samples::sessions::Session;
 
 /// A second name.
 pub(crate) const LINKS: [Session; 2] = [

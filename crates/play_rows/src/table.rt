@@ -3,7 +3,7 @@ use crate::attributes::{GRANTED, OWNERS, SIZES, STATS};
 use crate::full::FULL;
 use crate::opening::{APPENDED, BYTES, CLOSED, DESCRIPTORS, OPENS, SHARED};
 use crate::places::{DIRECTORIES, LINKS, RENAMES, RENAMES_REFUSED, UNLINKS};
-use crate::sessions::{Session, are_played};
+use play_samples::sessions::{Session, are_played};
 use std::test::Fail;
 
 /// All that is played.

@@ -3,10 +3,10 @@ use crate::plays::{STAT, TOLD};
 use bdev::Driver;
 use modeldisk::RamDriver;
 use partition::Table;
-use play_samples::volumes::{HONEST, Played, Status, Told, play_into};
+use play_samples::volumes::{HONEST, Status, Told, play_into};
+use play_samples::writers::slowly;
 use samples::{new_volume, supply_of, whole};
 use std::alloc::{AllocError, Global};
-use std::io::{self, Write};
 use std::process::Abort;
 use std::sync::Wait;
 use std::test::Fail;
@@ -67,44 +67,6 @@ fn a_refusal_is_cut_off(rt: HostRuntime) -> Result<(), Fail> {
     assert!(rt; came.status == Status::Refused(Told::Partly) && came.status.number() == 1);
     assert!(rt; space.as_slice() == b"can".as_slice() && out.is_empty());
     Ok(())
-}
-
-/// Takes at most so many bytes at a call.
-#[derive(Drop)]
-struct Slow(Vec<u8>, usize);
-
-impl Write for Slow {
-    fn write(&mut self, bytes: &[u8]) -> io::Result<usize> {
-        let count = bytes.len().min(self.1);
-        self.0.extend_from_slice(&bytes[..count])?;
-        Ok(count)
-    }
-
-    fn flush(&mut self) -> io::Result<()> {
-        Ok(())
-    }
-}
-
-/// What a play of a script gives to writers that take so many bytes at a call.
-fn slowly<R: Wait + Copy>(
-    alloc: Global,
-    rt: R,
-    image: &[u8],
-    script: &[u8],
-    most: usize,
-) -> Result<Played, AllocError> {
-    let mut out = Slow(Vec::new(alloc), most);
-    let mut err = Slow(Vec::new(alloc), most);
-    let supply = supply_of(alloc, 128, HONEST)?;
-    let (image, scripts) = (Some(image), [Some(script)]);
-    let came = play_into(alloc, rt, image, &scripts, &whole(), supply, &mut out, &mut err)?;
-    let (Slow(out, _), Slow(err, _)) = (out, err);
-    Ok(Played {
-        status: came.status.number(),
-        out,
-        err,
-        image: came.image,
-    })
 }
 
 /// A writer that takes little at a time and goes on gets all of it.

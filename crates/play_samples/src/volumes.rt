@@ -1,4 +1,5 @@
 //! Plays over images.
+use fsck::{Verdict, check};
 use inline::local::LocalDriver;
 use modeldisk::{FaultKind, ScriptedDriver};
 use policy::Setup;
@@ -37,11 +38,20 @@ impl Played {
         Err(Fail::new(format_args!("status {}, {err}, {out}", self.status)))
     }
 
+    /// The image, or no bytes.
+    pub fn left(&self) -> &[u8] {
+        self.image.as_deref().unwrap_or(&[])
+    }
+
+    /// Whether the image is that of a sound volume.
+    pub fn is_clean(&self, alloc: Global) -> bool {
+        matches!(check(alloc, self.left()), Ok(Verdict::Clean(_)))
+    }
+
     /// Looks at whether these bytes stand at these places of the image; it is an error where they don't.
     pub fn holds(&self, parts: &[(usize, &[u8])]) -> Result<(), Fail> {
-        let image = self.image.as_deref().unwrap_or(&[]);
         for (at, bytes) in parts {
-            if image.get(*at..at.saturating_add(bytes.len())) != Some(*bytes) {
+            if self.left().get(*at..at.saturating_add(bytes.len())) != Some(*bytes) {
                 return Err(Fail::new(format_args!("other bytes from {at} on")));
             }
         }

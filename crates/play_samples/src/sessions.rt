@@ -1,17 +1,17 @@
 //! Sessions that are played one after the other on a new volume.
-use crate::images::is_clean;
-use play_samples::volumes::{Play, Played};
+use crate::volumes::{Play, Played};
 use samples::new_volume;
 use std::alloc::{AllocError, Global};
-use std::process::Abort;
 use std::sync::Wait;
 use std::test::Fail;
 
-/// A session: its user and group, as a script's first line has them, and each call, after its time, with its reply.
+/// A session that is played: its user and group, as a script's first line has them, and each call, after its time, with its reply.
 #[derive(Clone, Copy)]
-pub(crate) struct Session {
-    pub(crate) user: &'static str,
-    pub(crate) calls: &'static [(&'static str, &'static str)],
+pub struct Session {
+    /// The user and the group.
+    pub user: &'static str,
+    /// The calls and their replies.
+    pub calls: &'static [(&'static str, &'static str)],
 }
 
 /// Reads a volume: the root's names and attributes, and the volume's numbers.
@@ -72,24 +72,20 @@ fn behind<'p>(played: &'p Played, text: &str) -> Option<&'p str> {
     }
 }
 
-/// The sessions' replies are these, and behind them stands what another play read.
-fn are_told(rt: &impl Abort, first: &Played, replies: &str, again: &Played) {
-    let read = behind(first, replies);
-    assert!(rt; read.is_some(), "{replies}");
-    assert!(rt; read == behind(again, "session 0\n"), "{replies}");
-}
-
 /// Plays the sessions on a new volume: the replies are these, the image that is left is clean, and another server reads from it what the last session read.
-pub(crate) fn are_played<R: Wait + Abort + Copy>(
+/// It is an error where that isn't so.
+pub fn are_played<R: Wait + Copy>(
     alloc: Global,
     rt: R,
     sessions: &[Session],
 ) -> Result<(), Fail> {
     let first = played(alloc, rt, sessions)?;
-    assert!(rt; is_clean(alloc, first.image.as_deref()));
-    let image = first.image.as_deref().unwrap_or(&[]);
-    let again = Play::new(image, &[Some(READS.as_bytes())]).played(alloc, rt)?;
+    let again = Play::new(first.left(), &[Some(READS.as_bytes())]).played(alloc, rt)?;
     let replies = replies_of(alloc, sessions)?;
-    are_told(&rt, &first, replies.as_str(), &again);
-    Ok(())
+    let read = behind(&first, replies.as_str());
+    if first.is_clean(alloc) && read.is_some() && read == behind(&again, "session 0\n") {
+        return Ok(());
+    }
+    let out = str::from_utf8(first.out.as_slice()).unwrap_or("no text");
+    Err(Fail::new(format_args!("{out}")))
 }
