@@ -1,5 +1,5 @@
 //! Plays with writers that take little at a time, or not all.
-use crate::volumes::{HONEST, Played, play_into};
+use crate::volumes::{HONEST, Played, Status, play_into};
 use samples::{supply_of, whole};
 use std::alloc::{AllocError, Global};
 use std::io::{self, Write};
@@ -43,23 +43,24 @@ pub fn slowly<R: Wait + Copy>(
     })
 }
 
-/// What a play of a script gives of which 10 bytes of standard output can be written; those aren't told.
+/// What a play of a script gives of which 10 bytes of standard output can be written, which aren't told, and its status.
 pub fn lost<R: Wait + Copy>(
     alloc: Global,
     rt: R,
     image: &[u8],
     script: &[u8],
-) -> Result<Played, AllocError> {
+) -> Result<(Played, Status), AllocError> {
     let mut space = [0u8; 10];
     let mut out = space.as_mut_slice();
     let mut err = Vec::new(alloc);
     let supply = supply_of(alloc, 128, HONEST)?;
     let (image, scripts) = (Some(image), [Some(script)]);
     let came = play_into(alloc, rt, image, &scripts, &whole(), supply, &mut out, &mut err)?;
-    Ok(Played {
+    let played = Played {
         status: came.status.number(),
         out: Vec::new(alloc),
         err,
         image: came.image,
-    })
+    };
+    Ok((played, came.status))
 }
