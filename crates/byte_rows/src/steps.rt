@@ -75,12 +75,7 @@ fn answer(alloc: Global, answer: Result<Reply, Halt>) -> Result<String, AllocErr
 }
 
 /// The line of so many bytes that are read.
-fn read(
-    alloc: Global,
-    volume: &mut Volume,
-    at: u32,
-    count: usize,
-) -> Result<String, AllocError> {
+fn read(alloc: Global, volume: &mut Volume, at: u32, count: usize) -> Result<String, AllocError> {
     let mut into = [0x2e; 16];
     let count = count.min(16);
     match volume.read(at, &mut into[..count]) {

@@ -56,10 +56,7 @@ const ROWS: [(Sizes, Image, &[Step], &str); 12] = [
     (
         Sizes::Small,
         Image::Fresh(1024, 0xf8, 6),
-        &[
-            Step::Free(Map::Inodes),
-            Step::Free(Map::Zones),
-        ],
+        &[Step::Free(Map::Inodes), Step::Free(Map::Zones)],
         "from 2 on, 31
 from 2 on, 57
 ",
@@ -67,10 +64,7 @@ from 2 on, 57
     (
         Sizes::Middle,
         Image::Fresh(2048, 0xf0, 5),
-        &[
-            Step::Free(Map::Inodes),
-            Step::Free(Map::Zones),
-        ],
+        &[Step::Free(Map::Inodes), Step::Free(Map::Zones)],
         "from 2 on, 31
 from 2 on, 58
 ",
@@ -78,10 +72,7 @@ from 2 on, 58
     (
         Sizes::Large,
         Image::Fresh(4096, 0xf0, 5),
-        &[
-            Step::Free(Map::Inodes),
-            Step::Free(Map::Zones),
-        ],
+        &[Step::Free(Map::Inodes), Step::Free(Map::Zones)],
         "from 2 on, 31
 from 2 on, 58
 ",
@@ -150,9 +141,7 @@ not done
     (
         Sizes::MoreInodes,
         Image::Zeros(65536, 2056, 2056, 1),
-        &[
-            Step::Free(Map::Inodes),
-        ],
+        &[Step::Free(Map::Inodes)],
         "from 65 on, 136
 ",
     ),
@@ -160,9 +149,7 @@ not done
     (
         Sizes::Small,
         Image::Zeros(65536, 2052, 2052, 1),
-        &[
-            Step::Free(Map::Inodes),
-        ],
+        &[Step::Free(Map::Inodes)],
         "none, 0
 ",
     ),
@@ -170,9 +157,7 @@ not done
     (
         Sizes::Small,
         Image::Zeros(65536, 2048, 2048, 0xfc),
-        &[
-            Step::Free(Map::Inodes),
-        ],
+        &[Step::Free(Map::Inodes)],
         "from 1 on, 26
 ",
     ),
@@ -290,11 +275,7 @@ same
     (
         Sizes::Small,
         Image::CutOff(4608),
-        &[
-            Step::Free(Map::Zones),
-            Step::Load(1),
-            Step::Store(1, &ROOT),
-        ],
+        &[Step::Free(Map::Zones), Step::Load(1), Step::Store(1, &ROOT)],
         "from 2 on, 57
 cut off
 cut off

@@ -16,10 +16,7 @@ fn bytes_come_and_go(rt: HostRuntime) -> Result<(), Fail> {
     );
     let byte = read_byte(&mut blocks, 1, 1023);
     let wrote = write_u32(&mut blocks, 1, 4, 0x0403_0201);
-    let numbers = [
-        read_u32(&mut blocks, 1, 4),
-        read_u32(&mut blocks, 1, 2),
-    ];
+    let numbers = [read_u32(&mut blocks, 1, 4), read_u32(&mut blocks, 1, 2)];
     let wrote_bytes = write_bytes(&mut blocks, 1, 1020, &[1, 2, 3]);
     let mut into = [0u8; 5];
     let read = read_bytes(&mut blocks, 1, 1019, &mut into);

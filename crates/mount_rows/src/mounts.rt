@@ -16,7 +16,14 @@ const ROWS: [(usize, u8, Option<usize>, bool, u32, &str); 14] = [
     (0, 0, None, false, 4097, "6 BadFrames"),
     // A bad superblock is told once the first 2048 bytes have come, and of a bad volume all of it has to.
     (1048, 0, Some(1), false, 64, "1 Layout BadMagic"),
-    (3072, 7, Some(17), false, 64, "2 Inconsistent finding 9 at 7"),
+    (
+        3072,
+        7,
+        Some(17),
+        false,
+        64,
+        "2 Inconsistent finding 9 at 7",
+    ),
     (3072, 7, Some(16), false, 64, "5 LinkEnded"),
     // The device is given up, or the link ends, before the first start, before the head was read, behind it, and before the last bytes.
     (0, 0, None, true, 64, "4 Eio"),

@@ -41,7 +41,9 @@ fn told(alloc: Global, read: Result<Geometry, LayoutRefusal>) -> Result<String, 
             let (block, inodes, zones) = (sizes.block_size, sizes.inodes, sizes.zones);
             let (maps, others) = (sizes.inode_map_blocks, sizes.zone_map_blocks);
             let first = sizes.first_zone;
-            format!(in alloc; "block {block} inodes {inodes} zones {zones} maps {maps} {others} first {first}")
+            format!(in alloc;
+                "block {block} inodes {inodes} zones {zones} maps {maps} {others} first {first}"
+            )
         }
         Err(refusal) => {
             let number = refusal.number();
@@ -54,7 +56,18 @@ fn told(alloc: Global, read: Result<Geometry, LayoutRefusal>) -> Result<String, 
 const ROWS: [(usize, &[(usize, u8)], &str); 30] = [
     (65536, &[], "block 1024 inodes 32 zones 64 maps 1 1 first 6"),
     // the pads at 1028, 1038 and 1050 aren't looked at
-    (65536, &[(1028, 1), (1029, 2), (1038, 3), (1039, 4), (1050, 5), (1051, 6)], "block 1024 inodes 32 zones 64 maps 1 1 first 6"),
+    (
+        65536,
+        &[
+            (1028, 1),
+            (1029, 2),
+            (1038, 3),
+            (1039, 4),
+            (1050, 5),
+            (1051, 6),
+        ],
+        "block 1024 inodes 32 zones 64 maps 1 1 first 6",
+    ),
     // one field
     (65536, &[(1048, 0x5b)], "2 BadMagic"),
     (65536, &[(1049, 0x4e)], "2 BadMagic"),
@@ -81,8 +94,16 @@ const ROWS: [(usize, &[(usize, u8)], &str); 30] = [
     (1055, &[], "6 DoesNotFit"),
     (65535, &[], "6 DoesNotFit"),
     // the first of several
-    (1054, &[(1048, 0), (1052, 1), (1054, 1), (1024, 0)], "1 Truncated"),
-    (1055, &[(1048, 0), (1052, 1), (1054, 1), (1024, 0)], "2 BadMagic"),
+    (
+        1054,
+        &[(1048, 0), (1052, 1), (1054, 1), (1024, 0)],
+        "1 Truncated",
+    ),
+    (
+        1055,
+        &[(1048, 0), (1052, 1), (1054, 1), (1024, 0)],
+        "2 BadMagic",
+    ),
     (1055, &[(1052, 1), (1054, 1), (1024, 0)], "3 BadBlockSize"),
     (1055, &[(1054, 1), (1024, 0)], "4 BadVersion"),
     (1055, &[(1024, 0)], "5 BadCounts"),

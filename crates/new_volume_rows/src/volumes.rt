@@ -55,7 +55,11 @@ const SIZES: [((u32, u32, u32), (u32, u32, u32, u32), (usize, &[u8])); 4] = [
     ((64, 2048, 32), (64, 1, 1, 5), (10240, &[1, 0, 0, 0, b'.'])),
     // 8191 inodes fill a map of 1024 bytes to its last bit, one more takes a second block
     ((1024, 1024, 8191), (1024, 1, 1, 516), (3070, &[0, 0, 3])),
-    ((1024, 1024, 8192), (1024, 2, 1, 517), (3071, &[0, 0xfe, 0xff])),
+    (
+        (1024, 1024, 8192),
+        (1024, 2, 1, 517),
+        (3071, &[0, 0xfe, 0xff]),
+    ),
     // one data zone alone: blocks 2 and 3 the maps, 4 the inodes, 5 the zone
     ((6, 1024, 16), (6, 1, 1, 5), (3072, &[0xff, 0xff])),
 ];
@@ -65,7 +69,10 @@ fn other_volumes(rt: HostRuntime) -> Result<(), Fail> {
     for ((blocks, block_size, inodes), sizes, (at, bytes)) in SIZES {
         let image = mkfs(rt.alloc(), blocks, block_size, inodes, 0)?;
         let there = image.get(at..at.saturating_add(bytes.len()));
-        assert!(rt; first_zone(&image) == Some(sizes) && there == Some(bytes), "{at}");
+        assert!(rt;
+            first_zone(&image) == Some(sizes) && there == Some(bytes),
+            "{at}"
+        );
     }
     Ok(())
 }

@@ -71,7 +71,9 @@ fn open_all(alloc: Global, volume: &mut Volume, session: u8) -> Result<String, A
 fn inode(alloc: Global, volume: &mut Volume, number: u32) -> Result<String, AllocError> {
     match volume.said(number) {
         Ok((mode, uid, gid, links, size, mtime, ctime)) => {
-            format!(in alloc; "{mode:o} {uid} {gid} links {links} size {size} times {mtime} {ctime}\n")
+            format!(in alloc;
+                "{mode:o} {uid} {gid} links {links} size {size} times {mtime} {ctime}\n"
+            )
         }
         Err(_) => format!(in alloc; "halt\n"),
     }

@@ -372,7 +372,9 @@ const SEVERAL: [(&[Option<&[u8]>], &str); 4] = [
     // What a session left open is closed before the next one calls.
     (
         &[
-            Some(b"user 0 0\n100 open /f rwc 644\n100 write 0 41\n100 dup 0\n100 unlink /f\n100 statfs\n"),
+            Some(
+                b"user 0 0\n100 open /f rwc 644\n100 write 0 41\n100 dup 0\n100 unlink /f\n100 statfs\n",
+            ),
             Some(b"user 0 0\n100 statfs\n"),
         ],
         "session 0

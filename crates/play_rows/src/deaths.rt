@@ -21,13 +21,19 @@ inode 1 mode 0040755 links 2 uid 0 gid 0 size 128 times 50 50 50
 ",
     "",
 );
+
 const GIVEN_UP: Told = (3, "session 0\nEIO\nEIO\n", "");
+
 const NOT_MOUNTED: Told = (1, "", "Mount Eio\n");
 
 const DIES: Option<(u32, FaultKind)> = Some((0, FaultKind::Die));
+
 const DIES_LATER: Option<(u32, FaultKind)> = Some((1, FaultKind::Die));
+
 const STOPS_SHORT: Option<(u32, FaultKind)> = Some((0, FaultKind::Short));
+
 const GIVES_HALF: Option<(u32, FaultKind)> = Some((1, FaultKind::Short));
+
 const ERRS: Option<(u32, FaultKind)> = Some((0, FaultKind::Error(Errno::EIO)));
 
 /// In which request the drivers' faults come, the drivers that are started one after the other, and what comes of it. Requests 1 to 17 are the
@@ -79,9 +85,30 @@ const POLICIES: [(u32, u32, u32, u32, Faults<'static>, Told); 11] = [
     // Each driver but the last dies at the tick of its start; starts come 1, 2 and 4 ticks after the first, second and third fault in a row, or
     // after the cap. Faults 1 to 5 are allowed: the sixth driver serves.
     (5, 32, 64, 1, &[DIES, DIES, DIES, DIES, DIES, None], SERVED),
-    (4, 32, 64, 1, &[DIES, DIES, DIES, DIES, DIES, None], NOT_MOUNTED),
-    (6, 32, 64, 1, &[DIES, DIES, DIES, DIES, DIES, DIES, None], SERVED),
-    (5, 32, 64, 1, &[DIES, DIES, DIES, DIES, DIES, DIES, None], NOT_MOUNTED),
+    (
+        4,
+        32,
+        64,
+        1,
+        &[DIES, DIES, DIES, DIES, DIES, None],
+        NOT_MOUNTED,
+    ),
+    (
+        6,
+        32,
+        64,
+        1,
+        &[DIES, DIES, DIES, DIES, DIES, DIES, None],
+        SERVED,
+    ),
+    (
+        5,
+        32,
+        64,
+        1,
+        &[DIES, DIES, DIES, DIES, DIES, DIES, None],
+        NOT_MOUNTED,
+    ),
     // Faults at ticks 0 and 1: after one tick of calm the second counts as a first one.
     (1, 32, 1, 1, &[DIES, DIES, None], SERVED),
     (1, 32, 2, 1, &[DIES, DIES, None], NOT_MOUNTED),

@@ -11,7 +11,10 @@ fn answers_that_are_lost_leave_the_image(rt: HostRuntime) -> Result<(), Fail> {
     let script = b"user 0 0\n100 chmod / 700\n100 stat /\n";
     let (played, status) = lost(rt.alloc(), rt, image.as_slice(), script)?;
     assert!(rt; status == Status::Refused(Told::Whole));
-    assert_eq!(rt; played.err.as_slice(), b"cannot write standard output\n".as_slice());
+    assert_eq!(rt;
+        played.err.as_slice(),
+        b"cannot write standard output\n".as_slice()
+    );
     played.holds(&[(4096, &[0xc0, 0x41, 2, 0])])
 }
 
@@ -19,8 +22,18 @@ fn answers_that_are_lost_leave_the_image(rt: HostRuntime) -> Result<(), Fail> {
 const ROWS: [(Status, bool, Status, &str); 4] = [
     (Status::Done, true, Status::Done, ""),
     (Status::GivenUp, true, Status::GivenUp, ""),
-    (Status::Done, false, Status::Refused(Told::Whole), "cannot write w.img\n"),
-    (Status::GivenUp, false, Status::Refused(Told::Whole), "cannot write w.img\n"),
+    (
+        Status::Done,
+        false,
+        Status::Refused(Told::Whole),
+        "cannot write w.img\n",
+    ),
+    (
+        Status::GivenUp,
+        false,
+        Status::Refused(Told::Whole),
+        "cannot write w.img\n",
+    ),
 ];
 
 /// A file that can't be written is told, whatever came before.

@@ -80,6 +80,9 @@ pub(crate) const FULL: [Session; 1] = [Session {
         ("100 rmdir /28", "ok"),
         ("100 rmdir /29", "ok"),
         ("100 rmdir /30", "ok"),
-        ("100 statfs", "block 1024 zones 58 free 57 inodes 32 free 31"),
+        (
+            "100 statfs",
+            "block 1024 zones 58 free 57 inodes 32 free 31",
+        ),
     ],
 }];

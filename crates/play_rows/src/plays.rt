@@ -5,7 +5,9 @@ use std::test::Fail;
 
 /// A script, and what is printed of it on a new volume.
 pub(crate) const STAT: &[u8] = b"user 0 0\n100 stat /\n";
-pub(crate) const TOLD: &str = "session 0\ninode 1 mode 0040755 links 2 uid 0 gid 0 size 128 times 50 50 50\n";
+
+pub(crate) const TOLD: &str =
+    "session 0\ninode 1 mode 0040755 links 2 uid 0 gid 0 size 128 times 50 50 50\n";
 
 #[test]
 fn the_root_is_told(rt: HostRuntime) -> Result<(), Fail> {

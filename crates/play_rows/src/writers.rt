@@ -24,7 +24,16 @@ fn cut_off<R: Wait + Copy>(
     let mut supply: Vec<Driver> = Vec::new(alloc);
     supply.push(Box::new(alloc, RamDriver::new(Table::whole(128)))?)?;
     let (image, scripts) = (Some(image), [Some(STAT)]);
-    let came = play_into(alloc, rt, image, &scripts, &whole(), supply, &mut out, &mut err)?;
+    let came = play_into(
+        alloc,
+        rt,
+        image,
+        &scripts,
+        &whole(),
+        supply,
+        &mut out,
+        &mut err,
+    )?;
     Ok((space, err, came.status))
 }
 
@@ -41,7 +50,10 @@ fn beginning(room: usize) -> [u8; 70] {
 fn is_cut_off(rt: &impl Abort, space: &[u8], err: &[u8], status: Status, room: usize) {
     assert!(rt; space == beginning(room).as_slice(), "{room}");
     assert_eq!(rt; err, b"cannot write standard output\n".as_slice());
-    assert_eq!(rt; (status, status.number()), (Status::Refused(Told::Whole), 1));
+    assert_eq!(rt;
+        (status, status.number()),
+        (Status::Refused(Told::Whole), 1)
+    );
 }
 
 #[test]
@@ -63,7 +75,16 @@ fn a_refusal_is_cut_off(rt: HostRuntime) -> Result<(), Fail> {
     let mut err: &mut [u8] = &mut space;
     let mut out = Vec::new(alloc);
     let supply = supply_of(alloc, 128, HONEST)?;
-    let came = play_into(alloc, rt, None, &[Some(STAT)], &whole(), supply, &mut out, &mut err)?;
+    let came = play_into(
+        alloc,
+        rt,
+        None,
+        &[Some(STAT)],
+        &whole(),
+        supply,
+        &mut out,
+        &mut err,
+    )?;
     assert!(rt; came.status == Status::Refused(Told::Partly) && came.status.number() == 1);
     assert!(rt; space.as_slice() == b"can".as_slice() && out.is_empty());
     Ok(())

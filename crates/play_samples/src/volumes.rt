@@ -29,7 +29,8 @@ pub struct Played {
 impl Played {
     /// Looks at what a play gave, which is an error where it is something else: the image is there exactly where nothing was refused.
     pub fn gave(&self, status: u8, out: &str, err: &str) -> Result<(), Fail> {
-        let is_told = self.out.as_slice() == out.as_bytes() && self.err.as_slice() == err.as_bytes();
+        let is_told = self.out.as_slice() == out.as_bytes()
+            && self.err.as_slice() == err.as_bytes();
         if is_told && self.status == status && self.image.is_some() == (status != 1) {
             return Ok(());
         }

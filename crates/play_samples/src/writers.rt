@@ -33,7 +33,16 @@ pub fn slowly<R: Wait + Copy>(
     let mut err = Slow(Vec::new(alloc), most);
     let supply = supply_of(alloc, 128, HONEST)?;
     let (image, scripts) = (Some(image), [Some(script)]);
-    let came = play_into(alloc, rt, image, &scripts, &whole(), supply, &mut out, &mut err)?;
+    let came = play_into(
+        alloc,
+        rt,
+        image,
+        &scripts,
+        &whole(),
+        supply,
+        &mut out,
+        &mut err,
+    )?;
     let (Slow(out, _), Slow(err, _)) = (out, err);
     Ok(Played {
         status: came.status.number(),
@@ -55,7 +64,16 @@ pub fn lost<R: Wait + Copy>(
     let mut err = Vec::new(alloc);
     let supply = supply_of(alloc, 128, HONEST)?;
     let (image, scripts) = (Some(image), [Some(script)]);
-    let came = play_into(alloc, rt, image, &scripts, &whole(), supply, &mut out, &mut err)?;
+    let came = play_into(
+        alloc,
+        rt,
+        image,
+        &scripts,
+        &whole(),
+        supply,
+        &mut out,
+        &mut err,
+    )?;
     let played = Played {
         status: came.status.number(),
         out: Vec::new(alloc),

@@ -197,11 +197,20 @@ const MENDING: [&str; 30] = [
 
 /// Schedules on a new volume of blocks of 1024, and their transcripts.
 const SHOWN: [(Lines, Lines); 3] = [
-    (&[&FILLED], &[&OPENED, &["reply 0 wrote 20480", "unanswered 0"]]),
+    (
+        &[&FILLED],
+        &[&OPENED, &["reply 0 wrote 20480", "unanswered 0"]],
+    ),
     // A page that changed is written again.
-    (&[&REFILLED], &[&OPENED, &[WROTE, "flush"], &CHANGED, &WRITTEN_AGAIN]),
+    (
+        &[&REFILLED],
+        &[&OPENED, &[WROTE, "flush"], &CHANGED, &WRITTEN_AGAIN],
+    ),
     // A revoked driver writes nothing.
-    (&[&HALF_WRITTEN, &GONE_ON], &[&OPENED, &[WROTE], &CHANGED, &REPLACED]),
+    (
+        &[&HALF_WRITTEN, &GONE_ON],
+        &[&OPENED, &[WROTE], &CHANGED, &REPLACED],
+    ),
 ];
 
 #[test]
@@ -237,18 +246,37 @@ type Part = (usize, usize, Option<u8>);
 /// The size of a new volume's blocks, a schedule, what its media hold then, and whether their volume is clean.
 const MEDIA: [(usize, Lines, &[Part], bool); 6] = [
     (1024, &[&REFILLED], &[(7168, 8192, Some(0x32))], true),
-    (1024, &[&HALF_WRITTEN, &GONE_ON], &[(7168, 8192, Some(0x22))], true),
+    (
+        1024,
+        &[&HALF_WRITTEN, &GONE_ON],
+        &[(7168, 8192, Some(0x22))],
+        true,
+    ),
     // Half of the page was written, and of the first block all: a driver writes a sector at a step.
-    (1024, &[&HALF_WRITTEN], &[(7168, 7680, Some(0x11)), (7680, 8192, Some(0))], false),
+    (
+        1024,
+        &[&HALF_WRITTEN],
+        &[(7168, 7680, Some(0x11)), (7680, 8192, Some(0))],
+        false,
+    ),
     // A death tears the sector that was being written, and no other.
     (
         2048,
         &[&TWO_STEPS, &[TORN]],
-        &[(5120, 5632, Some(0xee)), (0, 4096, None), (5632, 131072, None)],
+        &[
+            (5120, 5632, Some(0xee)),
+            (0, 4096, None),
+            (5632, 131072, None),
+        ],
         false,
     ),
     // A death without bytes tears nothing: of the request's sectors those that were written before it are new.
-    (2048, &[&TWO_STEPS, &["die 1"]], &[(0, 4096, None), (5120, 131072, None)], false),
+    (
+        2048,
+        &[&TWO_STEPS, &["die 1"]],
+        &[(0, 4096, None), (5120, 131072, None)],
+        false,
+    ),
     // A torn sector is written again.
     (
         2048,

@@ -112,13 +112,7 @@ pub fn media_after(alloc: Global, image: &[u8], schedule: &[u8]) -> Result<Vec<u
 /// Runs a schedule's text on an image, with six drivers under the default policy.
 pub fn run_text(alloc: Global, image: &[u8], schedule: &[u8]) -> Result<Ran, AllocError> {
     let supply = six(alloc, image)?;
-    Ok(ran_as(
-        alloc,
-        Some(image),
-        Some(schedule),
-        &whole(),
-        supply,
-    ))
+    Ok(ran_as(alloc, Some(image), Some(schedule), &whole(), supply))
 }
 
 /// Runs the lines of a schedule in the same way.

@@ -7,23 +7,50 @@ use std::test::Fail;
 
 /// Words of `mfs` that are taken, and what they say.
 const TAKEN: [(&[&str], &str); 11] = [
-    (&["mfs", "v.img", "s.txt"], "v.img to -, minor 0, 5 spares, rising: s.txt"),
-    (&["mfs", "v.img", "s.txt", "--minor", "5"], "v.img to -, minor 5, 5 spares, rising: s.txt"),
-    (&["mfs", "v.img", "s.txt", "--minor", "255"], "v.img to -, minor 255, 5 spares, rising: s.txt"),
-    (&["mfs", "--spares", "63", "v.img", "s.txt"], "v.img to -, minor 0, 63 spares, rising: s.txt"),
-    (&["mfs", "v.img", "--spares=0", "s.txt"], "v.img to -, minor 0, 0 spares, rising: s.txt"),
-    (&["mfs", "--model", "v.img", "s.txt"], "v.img to -, minor 0, 5 spares, arm: s.txt"),
-    (&["mfs", "v.img", "s.txt", "t.txt"], "v.img to -, minor 0, 5 spares, rising: s.txt t.txt"),
+    (
+        &["mfs", "v.img", "s.txt"],
+        "v.img to -, minor 0, 5 spares, rising: s.txt",
+    ),
+    (
+        &["mfs", "v.img", "s.txt", "--minor", "5"],
+        "v.img to -, minor 5, 5 spares, rising: s.txt",
+    ),
+    (
+        &["mfs", "v.img", "s.txt", "--minor", "255"],
+        "v.img to -, minor 255, 5 spares, rising: s.txt",
+    ),
+    (
+        &["mfs", "--spares", "63", "v.img", "s.txt"],
+        "v.img to -, minor 0, 63 spares, rising: s.txt",
+    ),
+    (
+        &["mfs", "v.img", "--spares=0", "s.txt"],
+        "v.img to -, minor 0, 0 spares, rising: s.txt",
+    ),
+    (
+        &["mfs", "--model", "v.img", "s.txt"],
+        "v.img to -, minor 0, 5 spares, arm: s.txt",
+    ),
+    (
+        &["mfs", "v.img", "s.txt", "t.txt"],
+        "v.img to -, minor 0, 5 spares, rising: s.txt t.txt",
+    ),
     (
         &["mfs", "v.img", "t.txt", "s.txt", "t.txt", "--minor", "1"],
         "v.img to -, minor 1, 5 spares, rising: t.txt s.txt t.txt",
     ),
-    (&["mfs", "v.img", "s.txt", "--out", "w.img"], "v.img to w.img, minor 0, 5 spares, rising: s.txt"),
+    (
+        &["mfs", "v.img", "s.txt", "--out", "w.img"],
+        "v.img to w.img, minor 0, 5 spares, rising: s.txt",
+    ),
     (
         &["mfs", "--out=v.img", "v.img", "s.txt", "t.txt"],
         "v.img to v.img, minor 0, 5 spares, rising: s.txt t.txt",
     ),
-    (&["mfs", "v.img", "-"], "v.img to -, minor 0, 5 spares, rising: -"),
+    (
+        &["mfs", "v.img", "-"],
+        "v.img to -, minor 0, 5 spares, rising: -",
+    ),
 ];
 
 /// What words say: the image's file, the one for the image that is left, the minor, how many drivers stand by, how they move, and the scripts' files.

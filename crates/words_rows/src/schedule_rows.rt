@@ -7,7 +7,10 @@ use std::test::Fail;
 
 /// Words that are taken, and what they say.
 const TAKEN: [(&[&str], &str); 4] = [
-    (&["mfssim", "v.img", "s.txt"], "v.img, s.txt, minor 0, 5 spares"),
+    (
+        &["mfssim", "v.img", "s.txt"],
+        "v.img, s.txt, minor 0, 5 spares",
+    ),
     (
         &["mfssim", "v.img", "s.txt", "--minor", "255"],
         "v.img, s.txt, minor 255, 5 spares",
