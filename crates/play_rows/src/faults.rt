@@ -166,8 +166,10 @@ fn cut_images_are_refused_by_name(rt: HostRuntime) -> Result<(), Fail> {
     for (length, faults, line) in CUTS {
         let scripts = [Some(STAT)];
         let play = Play {
+            image: image.get(..length),
+            sectors: length / 512,
             faults,
-            ..Play::new(image.get(..length).unwrap_or(&[]), &scripts)
+            ..Play::new(&[], &scripts)
         };
         play.gives(alloc, rt, 1, "", line)?;
     }
