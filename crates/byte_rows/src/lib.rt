@@ -4,8 +4,8 @@
 #[cfg(test)]
 mod calls;
 #[cfg(test)]
-mod sizes;
+mod rows;
+#[cfg(test)]
+mod steps;
 #[cfg(test)]
 mod volumes;
-#[cfg(test)]
-mod writes;

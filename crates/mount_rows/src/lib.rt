@@ -4,6 +4,8 @@
 #[cfg(test)]
 mod answered;
 #[cfg(test)]
+mod mounted;
+#[cfg(test)]
 mod mounts;
 #[cfg(test)]
 mod unmounts;

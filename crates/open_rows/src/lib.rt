@@ -4,8 +4,8 @@
 #[cfg(test)]
 mod calls;
 #[cfg(test)]
-mod opened;
+mod rows;
 #[cfg(test)]
-mod refused;
+mod steps;
 #[cfg(test)]
 mod volumes;

@@ -1,11 +1,10 @@
 //! Scripts of all calls, each on a new volume of 64 blocks of 1024 bytes with 32 inodes: what its calls are answered.
-use crate::given::gave;
-use play_samples::volumes::play_all;
+use play_samples::volumes::Play;
 use samples::new_volume;
 use std::test::Fail;
 
 /// A script in one session, and what is printed.
-const ROWS: [(&str, &str); 13] = [
+const ROWS: [(&str, &str); 14] = [
     // No call.
     ("user 0 0\n", "session 0\n"),
     // A path holds any bytes but a space and a newline.
@@ -259,6 +258,83 @@ ok
 EBADF
 ",
     ),
+    // A session has 32 descriptors, of which the lowest that is free is given: 33 opens, and one after a close.
+    (
+        "user 0 0
+100 open / r 0
+100 open / r 0
+100 open / r 0
+100 open / r 0
+100 open / r 0
+100 open / r 0
+100 open / r 0
+100 open / r 0
+100 open / r 0
+100 open / r 0
+100 open / r 0
+100 open / r 0
+100 open / r 0
+100 open / r 0
+100 open / r 0
+100 open / r 0
+100 open / r 0
+100 open / r 0
+100 open / r 0
+100 open / r 0
+100 open / r 0
+100 open / r 0
+100 open / r 0
+100 open / r 0
+100 open / r 0
+100 open / r 0
+100 open / r 0
+100 open / r 0
+100 open / r 0
+100 open / r 0
+100 open / r 0
+100 open / r 0
+100 open / r 0
+100 close 5
+100 open / r 0
+",
+        "session 0
+fd 0
+fd 1
+fd 2
+fd 3
+fd 4
+fd 5
+fd 6
+fd 7
+fd 8
+fd 9
+fd 10
+fd 11
+fd 12
+fd 13
+fd 14
+fd 15
+fd 16
+fd 17
+fd 18
+fd 19
+fd 20
+fd 21
+fd 22
+fd 23
+fd 24
+fd 25
+fd 26
+fd 27
+fd 28
+fd 29
+fd 30
+fd 31
+EMFILE
+ok
+fd 5
+",
+    ),
 ];
 
 #[test]
@@ -266,43 +342,45 @@ fn calls_are_answered(rt: HostRuntime) -> Result<(), Fail> {
     let alloc = rt.alloc();
     let image = new_volume(alloc, 1024)?;
     for (script, out) in &ROWS {
-        let played = play_all(alloc, rt, image.as_slice(), &[script.as_bytes()])?;
-        gave(&rt, &played, 0, out, "");
+        Play::new(image.as_slice(), &[Some(script.as_bytes())]).gives(alloc, rt, 0, out, "")?;
     }
     Ok(())
 }
 
 /// Scripts in sessions of their own, one after the other, and what is printed.
-const SEVERAL: [(&[&[u8]], &str); 4] = [
+const SEVERAL: [(&[Option<&[u8]>], &str); 4] = [
     // None.
     (&[], ""),
     // Whom a file's bits grant to read: its group isn't, others and user 0 are.
     (
         &[
-            b"user 0 0\n100 open /f wc 604\n100 close 0\n100 chown /f 5 7\n",
-            b"user 9 7\n100 open /f r 0\n",
-            b"user 9 8\n100 open /f r 0\n",
-            b"user 0 0\n100 open /f r 0\n",
+            Some(b"user 0 0\n100 open /f rwc 604\n100 close 0\n100 chown /f 5 7\n"),
+            Some(b"user 9 7\n100 open /f r 0\n"),
+            Some(b"user 9 8\n100 open /f r 0\n"),
+            Some(b"user 0 0\n100 open /f r 0\n"),
         ],
         "session 0\nfd 0\nok\nok\nsession 1\nEACCES\nsession 2\nfd 0\nsession 3\nfd 0\n",
     ),
     // A session sees what the one before it wrote; its descriptors are its own.
     (
         &[
-            b"user 0 0\n100 open /f rwac 644\n100 write 0 6162\n",
-            b"user 0 0\n100 close 0\n100 open /f r 0\n100 read 0 9\n",
+            Some(b"user 0 0\n100 open /f rwac 644\n100 write 0 6162\n"),
+            Some(b"user 0 0\n100 close 0\n100 open /f r 0\n100 read 0 9\n"),
         ],
         "session 0\nfd 0\nwrote 2\nsession 1\nEBADF\nfd 0\nbytes 6162\n",
     ),
     // What a session left open is closed before the next one calls.
     (
         &[
-            b"user 0 0\n100 open /f rwc 644\n100 fill 0 1 41\n100 unlink /f\n100 statfs\n",
-            b"user 0 0\n100 statfs\n",
+            Some(
+                b"user 0 0\n100 open /f rwc 644\n100 write 0 41\n100 dup 0\n100 unlink /f\n100 statfs\n",
+            ),
+            Some(b"user 0 0\n100 statfs\n"),
         ],
         "session 0
 fd 0
 wrote 1
+fd 1
 ok
 block 1024 zones 58 free 56 inodes 32 free 30
 session 1
@@ -316,26 +394,7 @@ fn sessions_follow_each_other(rt: HostRuntime) -> Result<(), Fail> {
     let alloc = rt.alloc();
     let image = new_volume(alloc, 1024)?;
     for (scripts, out) in &SEVERAL {
-        let played = play_all(alloc, rt, image.as_slice(), scripts)?;
-        gave(&rt, &played, 0, out, "");
+        Play::new(image.as_slice(), scripts).gives(alloc, rt, 0, out, "")?;
     }
-    Ok(())
-}
-
-/// A session has 32 descriptors, and the lowest that is free is given.
-#[test]
-fn descriptors_are_thirty_two(rt: HostRuntime) -> Result<(), Fail> {
-    let alloc = rt.alloc();
-    let image = new_volume(alloc, 1024)?;
-    let mut script = format!(in alloc; "user 0 0\n")?;
-    let mut out = format!(in alloc; "session 0\n")?;
-    for fd in 0..32 {
-        script.push_str("100 open / r 0\n")?;
-        out.push_str(format!(in alloc; "fd {fd}\n")?.as_str())?;
-    }
-    script.push_str("100 open / r 0\n100 close 5\n100 open / r 0\n")?;
-    out.push_str("EMFILE\nok\nfd 5\n")?;
-    let played = play_all(alloc, rt, image.as_slice(), &[script.as_bytes()])?;
-    gave(&rt, &played, 0, out.as_str(), "");
     Ok(())
 }

@@ -1,11 +1,32 @@
-//! Rows of plays, on whole images and partitions, of scripts of all calls: each expected value is taken from a format or worked out by hand.
+//! Rows of plays: scripts of all calls, sessions of different users, whole images and partitions, drivers that die, plays that are refused, and
+//! the images that are left. Each expected value is taken from a format or worked out by hand.
+//!
+//! They stand in one crate, since each crate of plays has to build the whole service.
 #![tactic(auto)]
 
 #[cfg(test)]
+mod attributes;
+#[cfg(test)]
 mod calls;
 #[cfg(test)]
-mod given;
+mod deaths;
+#[cfg(test)]
+mod endings;
+#[cfg(test)]
+mod faults;
+#[cfg(test)]
+mod full;
+#[cfg(test)]
+mod images;
+#[cfg(test)]
+mod opening;
 #[cfg(test)]
 mod partitions;
 #[cfg(test)]
+mod places;
+#[cfg(test)]
 mod plays;
+#[cfg(test)]
+mod table;
+#[cfg(test)]
+mod writers;

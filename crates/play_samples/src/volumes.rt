@@ -1,10 +1,21 @@
 //! Plays over images.
+use fsck::{Verdict, check};
+use inline::local::LocalDriver;
 use modeldisk::{FaultKind, ScriptedDriver};
 use policy::Setup;
-use samples::{MOUNT_READS, supply_at, supply_of, whole};
+use samples::{supply_at, whole};
 use std::alloc::{AllocError, Global};
+use std::io::Write;
 use std::sync::Wait;
-pub use tools::play::{File, Status, Told, finish, play};
+use std::test::Fail;
+pub use tools::play::{Ended, Status, Told, finish};
+use tools::play::{File, play};
+
+/// Drivers, each with its fault once so many of a request's sectors were moved, or with none.
+pub type Faults<'f> = &'f [Option<(u32, FaultKind)>];
+
+/// One driver without a fault.
+pub const HONEST: Faults<'static> = &[None];
 
 /// What a play gave: the status of the process, what stands on standard output and on standard error, and the image.
 #[derive(Drop)]
@@ -15,11 +26,45 @@ pub struct Played {
     pub image: Option<Vec<u8>>,
 }
 
+impl Played {
+    /// Looks at what a play gave, which is an error where it is something else: the image is there exactly where nothing was refused.
+    pub fn gave(&self, status: u8, out: &str, err: &str) -> Result<(), Fail> {
+        let is_told = self.out.as_slice() == out.as_bytes()
+            && self.err.as_slice() == err.as_bytes();
+        if is_told && self.status == status && self.image.is_some() == (status != 1) {
+            return Ok(());
+        }
+        let out = str::from_utf8(self.out.as_slice()).unwrap_or("no text");
+        let err = str::from_utf8(self.err.as_slice()).unwrap_or("no text");
+        Err(Fail::new(format_args!("status {}, {err}, {out}", self.status)))
+    }
+
+    /// The image, or no bytes.
+    pub fn left(&self) -> &[u8] {
+        self.image.as_deref().unwrap_or(&[])
+    }
+
+    /// Whether the image is that of a sound volume.
+    pub fn is_clean(&self, alloc: Global) -> bool {
+        matches!(check(alloc, self.left()), Ok(Verdict::Clean(_)))
+    }
+
+    /// Looks at whether these bytes stand at these places of the image; it is an error where they don't.
+    pub fn holds(&self, parts: &[(usize, &[u8])]) -> Result<(), Fail> {
+        for (at, bytes) in parts {
+            if self.left().get(*at..at.saturating_add(bytes.len())) != Some(*bytes) {
+                return Err(Fail::new(format_args!("other bytes from {at} on")));
+            }
+        }
+        Ok(())
+    }
+}
+
 /// The names of the scripts' files, in their order; further ones have the last.
 const NAMES: [&str; 4] = ["s.txt", "t.txt", "u.txt", "w.txt"];
 
 /// Files of scripts.
-pub fn files<'b>(
+fn files<'b>(
     alloc: Global,
     scripts: &[Option<&'b [u8]>],
 ) -> Result<Vec<File<'static, 'b>>, AllocError> {
@@ -33,95 +78,88 @@ pub fn files<'b>(
     Ok(files)
 }
 
-/// A file of one script.
-pub fn one_file(alloc: Global, script: &[u8]) -> Result<Vec<File<'static, '_>>, AllocError> {
-    files(alloc, &[Some(script)])
-}
-
-/// Plays a script on an image with drivers that have these faults.
-pub fn play_with<R: Wait + Copy>(
-    alloc: Global,
-    rt: R,
-    image: &[u8],
-    script: &[u8],
-    faults: &[Option<(u32, FaultKind)>],
-) -> Result<Played, AllocError> {
-    let supply = supply_of(alloc, image.len() / 512, faults)?;
-    play_over(alloc, rt, image, script, supply)
-}
-
-/// Plays a script on the smallest new volume, or what came of it, with drivers that have these faults in the first request after those of a
-/// mount.
-pub fn play_mounted<R: Wait + Copy>(
-    alloc: Global,
-    rt: R,
-    image: &[u8],
-    script: &[u8],
-    faults: &[Option<(u32, FaultKind)>],
-) -> Result<Played, AllocError> {
-    let supply = supply_at(alloc, image.len() / 512, MOUNT_READS + 1, faults)?;
-    play_over(alloc, rt, image, script, supply)
-}
-
-/// Plays scripts on an image with an honest driver.
-pub fn play_all<R: Wait + Copy>(
-    alloc: Global,
-    rt: R,
-    image: &[u8],
-    scripts: &[&[u8]],
-) -> Result<Played, AllocError> {
-    let mut texts = Vec::new(alloc);
-    for script in scripts {
-        texts.push(Some(*script))?;
-    }
-    let files = files(alloc, texts.as_slice())?;
-    let supply = supply_of(alloc, image.len() / 512, &[None])?;
-    play_files(alloc, rt, Some(image), files.as_slice(), &whole(), supply)
-}
-
-/// Plays a script on an image with these drivers.
-pub fn play_over<R: Wait + Copy>(
-    alloc: Global,
-    rt: R,
-    image: &[u8],
-    script: &[u8],
-    supply: Vec<ScriptedDriver>,
-) -> Result<Played, AllocError> {
-    play_as(alloc, rt, image, script, &whole(), supply)
-}
-
-/// The same under a setup.
-pub fn play_as<R: Wait + Copy>(
-    alloc: Global,
-    rt: R,
-    image: &[u8],
-    script: &[u8],
-    setup: &Setup,
-    supply: Vec<ScriptedDriver>,
-) -> Result<Played, AllocError> {
-    let files = files(alloc, &[Some(script)])?;
-    play_files(alloc, rt, Some(image), files.as_slice(), setup, supply)
-}
-
-/// Plays the scripts of files on an image, if it can be read.
-pub fn play_files<R: Wait + Copy>(
+/// Plays the scripts of files on an image, of each the bytes if it can be read, with these writers as standard output and standard error.
+pub fn play_into<R: Wait + Copy, D: LocalDriver, W: Write, E: Write>(
     alloc: Global,
     rt: R,
     image: Option<&[u8]>,
-    files: &[File<'_, '_>],
+    scripts: &[Option<&[u8]>],
     setup: &Setup,
-    supply: Vec<ScriptedDriver>,
-) -> Result<Played, AllocError> {
-    let (mut out, mut err) = (Vec::new(alloc), Vec::new(alloc));
+    supply: Vec<D>,
+    out: &mut W,
+    err: &mut E,
+) -> Result<Ended, AllocError> {
+    let files = files(alloc, scripts)?;
     let image = File {
         name: "v.img",
         bytes: image,
     };
-    let came = play(alloc, rt, image, files, setup, supply, &mut out, &mut err);
-    Ok(Played {
-        status: came.status.number(),
-        out,
-        err,
-        image: came.image,
-    })
+    Ok(play(alloc, rt, image, files.as_slice(), setup, supply, out, err))
+}
+
+/// Scripts to be played on an image, over drivers that may have faults.
+#[derive(Clone, Copy)]
+pub struct Play<'p> {
+    /// The bytes of the image, if it can be read.
+    pub image: Option<&'p [u8]>,
+    /// The bytes of each script's file, if it can be read.
+    pub scripts: &'p [Option<&'p [u8]>],
+    /// Where the volume lies, and how it is served.
+    pub setup: Setup,
+    /// How many sectors each driver serves.
+    pub sectors: usize,
+    /// The request of each driver in which its fault comes, counted from 1.
+    pub request: u32,
+    /// The drivers.
+    pub faults: Faults<'p>,
+}
+
+impl<'p> Play<'p> {
+    /// Scripts on an image that is a volume, over one driver of it without a fault, under the default policy.
+    pub fn new(image: &'p [u8], scripts: &'p [Option<&'p [u8]>]) -> Play<'p> {
+        Play {
+            image: Some(image),
+            scripts,
+            setup: whole(),
+            sectors: image.len() / 512,
+            request: 1,
+            faults: HONEST,
+        }
+    }
+
+    /// What it gives over other drivers.
+    pub fn played_over<R: Wait + Copy>(
+        &self,
+        alloc: Global,
+        rt: R,
+        supply: Vec<ScriptedDriver>,
+    ) -> Result<Played, AllocError> {
+        let (mut out, mut err) = (Vec::new(alloc), Vec::new(alloc));
+        let (image, scripts, setup) = (self.image, self.scripts, &self.setup);
+        let came = play_into(alloc, rt, image, scripts, setup, supply, &mut out, &mut err)?;
+        Ok(Played {
+            status: came.status.number(),
+            out,
+            err,
+            image: came.image,
+        })
+    }
+
+    /// What it gives.
+    pub fn played<R: Wait + Copy>(&self, alloc: Global, rt: R) -> Result<Played, AllocError> {
+        let supply = supply_at(alloc, self.sectors, self.request, self.faults)?;
+        self.played_over(alloc, rt, supply)
+    }
+
+    /// Looks at what it gives, which is an error where it is something else.
+    pub fn gives<R: Wait + Copy>(
+        &self,
+        alloc: Global,
+        rt: R,
+        status: u8,
+        out: &str,
+        err: &str,
+    ) -> Result<(), Fail> {
+        self.played(alloc, rt)?.gave(status, out, err)
+    }
 }

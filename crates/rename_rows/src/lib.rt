@@ -7,3 +7,5 @@ mod calls;
 mod places;
 #[cfg(test)]
 mod renames;
+#[cfg(test)]
+mod steps;

@@ -11,22 +11,12 @@ use launch::opened::over;
 use layout::Geometry;
 use media::Media;
 use samples::new_volume;
+use session_samples::services::{Asked, asked_and_stopped};
 use shared_server::refusal::SessionRefusal;
-use shared_server::stopping::StopRefusal;
 use std::alloc::Global;
 use std::marker::Brand;
 use std::sync::{Arc, Wait};
 use std::test::Fail;
-use tree::{Call, Outcome};
-
-/// What a session's call came to, why no session was made after it, and the image of the service that was stopped then because its link
-/// had ended.
-#[derive(Drop)]
-struct Asked {
-    outcome: Outcome,
-    refusal: Option<SessionRefusal>,
-    image: Vec<u8>,
-}
 
 /// A session calls, another one is asked for, and the service is stopped.
 fn ask_and_stop<N: Room, R: Wait + Copy>(
@@ -49,18 +39,7 @@ fn ask_and_stop<N: Room, R: Wait + Copy>(
         return None;
     };
     let service = over(alloc, rt, board, noting, 0, geometry, 16).ok()?;
-    let mut session = service.session(0, 0).ok()?;
-    let outcome = session.call(100, &Call::Stat { path: b"/" });
-    let refusal = service.session(0, 0).err();
-    session.end();
-    let Err(StopRefusal::LinkEnded(image)) = service.stop(alloc) else {
-        return None;
-    };
-    Some(Asked {
-        outcome,
-        refusal,
-        image,
-    })
+    asked_and_stopped(alloc, service)
 }
 
 /// The same, over a service on the volume in an image.
@@ -76,11 +55,11 @@ fn asked_of<R: Wait + Copy>(alloc: Global, rt: R, image: &[u8]) -> Option<Asked>
 #[test]
 fn a_stopped_service_makes_no_session(rt: HostRuntime) -> Result<(), Fail> {
     let image = new_volume(rt.alloc(), 1024)?;
-    let Some(asked) = asked_of(rt.alloc(), rt, image.as_slice()) else {
+    let Some(came) = asked_of(rt.alloc(), rt, image.as_slice()) else {
         panic!(rt; "not served");
     };
-    assert!(rt; matches!(asked.outcome, Outcome::Cut));
-    assert_eq!(rt; asked.refusal, Some(SessionRefusal::Stopped));
-    assert!(rt; asked.image == image);
+    assert_eq!(rt; came.line.as_str(), "cut\n");
+    assert_eq!(rt; came.refusal, Some(SessionRefusal::Stopped));
+    assert!(rt; came.image == image);
     Ok(())
 }

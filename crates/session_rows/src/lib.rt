@@ -3,14 +3,14 @@
 #![tactic(auto)]
 
 #[cfg(test)]
-mod closes;
-#[cfg(test)]
 mod ended;
 #[cfg(test)]
-mod names;
+mod programs;
 #[cfg(test)]
 mod sessions;
 #[cfg(test)]
 mod silent;
 #[cfg(test)]
 mod stops;
+#[cfg(test)]
+mod threads;

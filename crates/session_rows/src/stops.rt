@@ -1,143 +1,63 @@
 //! A service is stopped: its image holds what was made, or stays as it was where the device was given up.
-ghost use Rattle.std.specs.Prelude.{◌≡◌};
 
-use errno::Errno;
-use file_server::FileServer;
-use keeping::recorder::Recorder;
-use keeping::room::Room;
-use keeping::steady::OnMedia;
-use launch::start::{Program, serve};
+use crate::programs::{Stops, served};
 use modeldisk::FaultKind;
-use reissue::link::TrueLink;
-use samples::{MOUNT_READS, new_volume, supply_at, supply_of, whole};
-use serve::gate::Open;
-use serve::service::{Service, Shared};
-use shared_server::stopping::StopRefusal;
-use std::alloc::Global;
+use samples::new_volume;
+use session_samples::services::Left;
+use std::process::Abort;
 use std::sync::Wait;
 use std::test::Fail;
-use tree::{Call, Outcome, Reply};
+use tree::Call;
 
-/// Makes a directory, and stops the service: once while the session is there, and once with its end.
-#[derive(Drop)]
-struct Makes {
-    alloc: Global,
+const MAKES: Call<'static> = Call::Mkdir {
+    path: b"/d",
+    mode: 0o755,
+};
+
+const LOOKS: Call<'static> = Call::Stat { path: b"/d" };
+
+/// A call was answered in this line, and the last sync was made, or it wasn't.
+fn has_told(rt: &impl Abort, left: &Left, line: &str, synced: bool) {
+    assert_eq!(rt; left.line.as_str(), line);
+    assert_eq!(rt; left.synced, synced);
 }
 
-impl<R: Wait + Copy> Program<R> for Makes {
-    type Output = Option<Vec<u8>>;
-
-    ghost gives = { λ program geometry opening output. Unit {0} };
-
-    fn run<N: Room, L: Recorder<N> + TrueLink + OnMedia, S: FileServer<L>>(
-        self,
-        service: Service<N, Shared<N, R, L, S>>,
-    ) -> Option<Vec<u8>>
-        ensures { Unit {0} }
-    {
-        let mut session = service.session(0, 0).ok()?;
-        let made = session.call(
-            100,
-            &Call::Mkdir {
-                path: b"/d",
-                mode: 0o755,
-            },
-        );
-        let Outcome::Reply(Reply::Done) = made else {
-            return None;
-        };
-        let Err(StopRefusal::SessionsLeft(service)) = service.stop(self.alloc) else {
-            return None;
-        };
-        service.stop_after(self.alloc, session).ok()
-    }
+/// What a service leaves on the volume in an image, whose driver has this fault: its call is answered in this line, and the last sync is made
+/// where there is no fault.
+fn image_left<R: Wait + Abort + Copy>(
+    rt: R,
+    image: &[u8],
+    fault: Option<(u32, FaultKind)>,
+    stops: Stops,
+    line: &str,
+) -> Result<Vec<u8>, Fail> {
+    let Some(Some(left)) = served(stops.alloc, rt, image, fault, stops)? else {
+        panic!(rt; "not stopped");
+    };
+    has_told(&rt, &left, line, fault.is_none());
+    Ok(left.image)
 }
 
-/// Looks for the directory.
-#[derive(Drop)]
-struct Looks;
-
-impl<R: Wait + Copy> Program<R> for Looks {
-    type Output = bool;
-
-    ghost gives = { λ program geometry opening output. Unit {0} };
-
-    fn run<N: Room, L: Recorder<N> + TrueLink + OnMedia, S: FileServer<L>>(
-        self,
-        service: Service<N, Shared<N, R, L, S>>,
-    ) -> bool
-        ensures { Unit {0} }
-    {
-        let Ok(mut session) = service.session(0, 0) else {
-            return false;
-        };
-        let outcome = session.call(101, &Call::Stat { path: b"/d" });
-        session.end();
-        matches!(outcome, Outcome::Reply(Reply::Inode(_)))
-    }
-}
-
+/// Another service finds what was made, and leaves the image as it is.
 #[test]
 fn what_was_made_is_in_the_image(rt: HostRuntime) -> Result<(), Fail> {
     let alloc = rt.alloc();
     let first = new_volume(alloc, 1024)?;
-    let supply = supply_of(alloc, 128, &[None])?;
-    let made = serve(
+    let makes = Stops {
         alloc,
-        rt,
-        first.as_slice(),
-        &whole(),
-        supply,
-        Open,
-        Makes { alloc },
-    );
-    let Ok(Some(image)) = made else {
-        panic!(rt; "no image");
+        call: MAKES,
+        has_ended: false,
     };
-    let supply = supply_of(alloc, 128, &[None])?;
-    let found = serve(alloc, rt, image.as_slice(), &whole(), supply, Open, Looks);
-    assert!(rt; matches!(found, Ok(true)));
+    let image = image_left(rt, first.as_slice(), None, makes, "ok\n")?;
+    let looks = Stops {
+        alloc,
+        call: LOOKS,
+        has_ended: true,
+    };
+    let line = "inode 2 mode 0040755 links 2 uid 0 gid 0 size 128 times 100 100 100\n";
+    let again = image_left(rt, image.as_slice(), None, looks, line)?;
+    assert!(rt; again == image);
     Ok(())
-}
-
-/// Calls, and stops the service with the end of one of two sessions, and then after the other ended: the device was given up.
-#[derive(Drop)]
-struct GivesUp {
-    alloc: Global,
-}
-
-impl<R: Wait + Copy> Program<R> for GivesUp {
-    type Output = Option<Vec<u8>>;
-
-    ghost gives = { λ program geometry opening output. Unit {0} };
-
-    fn run<N: Room, L: Recorder<N> + TrueLink + OnMedia, S: FileServer<L>>(
-        self,
-        service: Service<N, Shared<N, R, L, S>>,
-    ) -> Option<Vec<u8>>
-        ensures { Unit {0} }
-    {
-        let mut one = service.session(0, 0).ok()?;
-        let two = service.session(0, 0).ok()?;
-        let made = one.call(
-            100,
-            &Call::Mkdir {
-                path: b"/d",
-                mode: 0o755,
-            },
-        );
-        let Outcome::Reply(Reply::Refused(Errno::EIO)) = made else {
-            return None;
-        };
-        let Err(StopRefusal::SessionsLeft(service)) = service.stop_after(self.alloc, two) else {
-            return None;
-        };
-        one.end();
-        let Err(StopRefusal::GivenUp(image)) = service.stop(self.alloc) else {
-            return None;
-        };
-        Some(image)
-    }
 }
 
 #[test]
@@ -145,19 +65,12 @@ fn the_image_of_a_given_up_device_is_as_it_was(rt: HostRuntime) -> Result<(), Fa
     let alloc = rt.alloc();
     let first = new_volume(alloc, 1024)?;
     let dies = Some((0, FaultKind::Die));
-    let supply = supply_at(alloc, 128, MOUNT_READS + 1, &[dies])?;
-    let stopped = serve(
+    let makes = Stops {
         alloc,
-        rt,
-        first.as_slice(),
-        &whole(),
-        supply,
-        Open,
-        GivesUp { alloc },
-    );
-    let Ok(Some(image)) = stopped else {
-        panic!(rt; "no image");
+        call: MAKES,
+        has_ended: true,
     };
+    let image = image_left(rt, first.as_slice(), dies, makes, "EIO\n")?;
     assert!(rt; image == first);
     Ok(())
 }
