@@ -8,10 +8,11 @@ use measures::Measures;
 use new_volume::mkfs;
 use serve::gate::Open;
 use std::io;
+use std::sync::Wait;
 use supply::{drivers_for, setup_for, table_in};
 
-/// Starts the service, and measures calls in one session of it.
-pub(crate) fn run(rt: &HostRuntime) -> io::Result<()> {
+/// Starts the service, whose sessions wait by a handle, and measures calls in one of them.
+pub(crate) fn run<R: Wait + Copy>(rt: &HostRuntime, waits: R) -> io::Result<()> {
     let alloc = rt.alloc();
     let Ok(image) = mkfs(alloc, 4096, 4096, 4096, 50) else {
         return eprintln!(*rt; "no volume");
@@ -20,7 +21,7 @@ pub(crate) fn run(rt: &HostRuntime) -> io::Result<()> {
     let setup = setup_for(0);
     match serve(
         alloc,
-        *rt,
+        waits,
         image.as_slice(),
         &setup,
         supply,

@@ -15,17 +15,6 @@ use std::io;
 use std::process::ExitCode;
 use words::{Work, named};
 
-/// Measures one kind of work.
-fn measure(rt: &HostRuntime, work: Work) -> io::Result<()> {
-    match work {
-        Work::Drivers => drivers::run(rt),
-        Work::Volumes => volumes::run(rt),
-        Work::Names => names::run(rt),
-        Work::Bytes => bytes::run(rt),
-        Work::Calls => calls::run(rt),
-    }
-}
-
 fn main(rt: HostRuntime) -> io::Result<ExitCode> {
     let Some(line) = line_of(&rt)? else {
         return Ok(ExitCode::from(2));
@@ -36,7 +25,13 @@ fn main(rt: HostRuntime) -> io::Result<ExitCode> {
         return Ok(ExitCode::from(2));
     };
     for work in named {
-        measure(&rt, work)?;
+        match work {
+            Work::Drivers => drivers::run(&rt)?,
+            Work::Volumes => volumes::run(&rt)?,
+            Work::Names => names::run(&rt)?,
+            Work::Bytes => bytes::run(&rt)?,
+            Work::Calls => calls::run(&rt, rt)?,
+        }
     }
     Ok(ExitCode::SUCCESS)
 }
