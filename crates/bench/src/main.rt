@@ -1,84 +1,37 @@
-//! Measures the drivers and the frames, over 2048 blocks of 4096 bytes, which is 8 MiB. What it measured goes to standard error.
+//! Measures how long work takes: the words of the command line say which. What it measured goes to standard error.
 #![tactic(auto)]
 
-mod work;
+mod bytes;
+mod calls;
+mod drivers;
+mod names;
+mod sizes;
+mod timing;
+mod volumes;
+mod words;
 
-use message::Kind;
+use command_line::line_of;
 use std::io;
-use std::time::{Duration, Instant};
-use work::{cache_over, drive, fetch_again, fetch_run, write_run, zeros};
+use std::process::ExitCode;
+use words::{Work, named};
 
-/// How many blocks a piece of work goes over.
-const BLOCKS: u32 = 2048;
-
-/// How often all of it is measured.
-const ROUNDS: u32 = 3;
-
-/// Tells how long a piece of work took, and over how many blocks it went.
-fn tell(rt: &HostRuntime, what: &str, blocks: u32, took: Duration) -> io::Result<()> {
-    let micros = took.as_micros();
-    eprintln!(*rt; "{what}: {blocks} blocks in {micros} microseconds")
-}
-
-/// Measures a driver alone.
-fn measure_driver(rt: &HostRuntime) -> io::Result<()> {
-    let Some(mut media) = zeros(rt.alloc()) else {
-        return eprintln!(*rt; "no memory");
+fn main(rt: HostRuntime) -> io::Result<ExitCode> {
+    let Some(line) = line_of(&rt)? else {
+        return Ok(ExitCode::from(2));
     };
-    media.adopt(1);
-    for (what, kind) in [
-        ("driver, writes", Kind::Write),
-        ("driver, reads", Kind::Read),
-    ] {
-        let start = Instant::now(rt)?;
-        let blocks = drive(&mut media, kind, BLOCKS);
-        tell(rt, what, blocks, start.elapsed(rt)?)?;
-    }
-    Ok(())
-}
-
-/// Measures a cache of so many frames.
-fn measure_frames(rt: &HostRuntime, frames: u32) -> io::Result<()> {
-    let Some(mut cache) = cache_over(rt.alloc(), frames) else {
-        return eprintln!(*rt; "no memory");
+    let words = line.as_slice().get(1..).unwrap_or(&[]);
+    let Some(named) = named(rt.alloc(), words)? else {
+        eprintln!(rt; "usage: bench [drivers|volumes|names|bytes|calls]..")?;
+        return Ok(ExitCode::from(2));
     };
-    eprintln!(*rt; "{frames} frames")?;
-    let start = Instant::now(rt)?;
-    let missed = fetch_run(&mut cache, 16, BLOCKS);
-    tell(rt, "fetches that miss", missed, start.elapsed(rt)?)?;
-    let _ = fetch_run(&mut cache, 0, 16);
-    let start = Instant::now(rt)?;
-    let hit = fetch_again(&mut cache, BLOCKS);
-    tell(rt, "fetches that hit", hit, start.elapsed(rt)?)?;
-    let start = Instant::now(rt)?;
-    let written = write_run(&mut cache, BLOCKS / 16);
-    tell(
-        rt,
-        "made anew and written back",
-        written,
-        start.elapsed(rt)?,
-    )
-}
-
-/// Measures a plain copy of as many bytes, into memory that was used before, and tells the last byte that was copied.
-fn measure_copy(rt: &HostRuntime, from: &[u8], to: &mut [u8]) -> io::Result<()> {
-    let count = from.len().min(to.len());
-    let start = Instant::now(rt)?;
-    to[..count].copy_from_slice(&from[..count]);
-    let took = start.elapsed(rt)?.as_micros();
-    let last = to.last();
-    eprintln!(*rt; "a plain copy of {count} bytes: {took} microseconds, last {last:?}")
-}
-
-fn main(rt: HostRuntime) -> io::Result<()> {
-    let from = vec![in rt.alloc(); 1u8; 8388608]?;
-    let mut to = vec![in rt.alloc(); 0u8; 8388608]?;
-    for _ in 0..ROUNDS {
-        measure_copy(&rt, &from, &mut to)?;
-        measure_driver(&rt)?;
-        for frames in [16, 256, 1024] {
-            measure_frames(&rt, frames)?;
+    for work in named {
+        match work {
+            Work::Drivers => drivers::run(&rt)?,
+            Work::Volumes => volumes::run(&rt)?,
+            Work::Names => names::run(&rt)?,
+            Work::Bytes => bytes::run(&rt)?,
+            Work::Calls => calls::run(&rt, rt)?,
         }
     }
-    Ok(())
+    Ok(ExitCode::SUCCESS)
 }

@@ -1,0 +1,54 @@
+//! The words of the command line.
+
+use std::alloc::{AllocError, Global};
+
+/// A kind of work that is measured.
+#[derive(Clone, Copy)]
+pub(crate) enum Work {
+    /// What drivers and the frames of a cache do.
+    Drivers,
+    /// Making volumes, and checking them.
+    Volumes,
+    /// Looking names up in a directory.
+    Names,
+    /// Reading and writing the bytes of a file.
+    Bytes,
+    /// Client calls in a session.
+    Calls,
+}
+
+/// All of it, in turn.
+const ALL: [Work; 5] = [
+    Work::Drivers,
+    Work::Volumes,
+    Work::Names,
+    Work::Bytes,
+    Work::Calls,
+];
+
+/// The work of a word.
+fn work_of(word: &str) -> Option<Work> {
+    match word {
+        "drivers" => Some(Work::Drivers),
+        "volumes" => Some(Work::Volumes),
+        "names" => Some(Work::Names),
+        "bytes" => Some(Work::Bytes),
+        "calls" => Some(Work::Calls),
+        _ => None,
+    }
+}
+
+/// The work that the words name, in their order, and all of it where there is no word; none where one of them names no work.
+pub(crate) fn named(alloc: Global, words: &[String]) -> Result<Option<Vec<Work>>, AllocError> {
+    if words.is_empty() {
+        return Ok(Some(ALL.to_vec(alloc)?));
+    }
+    let mut named = Vec::new(alloc);
+    for word in words {
+        let Some(work) = work_of(word.as_str()) else {
+            return Ok(None);
+        };
+        named.push(work)?;
+    }
+    Ok(Some(named))
+}
