@@ -6,8 +6,8 @@ use std::process::Abort;
 use std::test::Fail;
 use tree::Call;
 
-/// The session, how many times it opens, the path, the bits of the flags (read 1, create 8) and the mode; and the first descriptor that it gets,
-/// behind which the others follow, or the refusal.
+/// The session, how many times it opens, the path, the bits of the flags (read 1, create 8) and the mode; and the first descriptor that it
+/// gets, behind which the others follow, or the refusal.
 type Opens = (u8, u32, &'static [u8], u8, u16, Result<u32, Errno>);
 
 /// Opens, in their order.

@@ -55,8 +55,8 @@ fn put_bytes(image: &mut Vec<u8>, from: usize, bytes: &[u8]) {
     }
 }
 
-/// An image whose root, inode 1, has `.`, `..`, `f` and `d` in zone 6. Inode 2 is `f`, of 5 bytes without a zone; inode 3 is `d`, a directory
-/// without names in zone 7: both of user 5. The maps begin at bytes 2048 and 3072, the inode table at 4096. All times are 0.
+/// An image whose root, inode 1, has `.`, `..`, `f` and `d` in zone 6. Inode 2 is `f`, of 5 bytes without a zone; inode 3 is `d`, a
+/// directory without names in zone 7: both of user 5. The maps begin at bytes 2048 and 3072, the inode table at 4096. All times are 0.
 fn image(alloc: Global) -> Result<Vec<u8>, AllocError> {
     let mut image = vec![in alloc; 0u8; 65536]?;
     let parts: [(usize, &[u8]); 12] = [
@@ -103,8 +103,8 @@ impl Volume {
         })
     }
 
-    /// Does a call of a session below 64 as user 0: the descriptor that it gives, with the position there, or its refusal. EIO, which no call is
-    /// answered over blocks, stands for all else.
+    /// Does a call of a session below 64 as user 0: the descriptor that it gives, with the position there, or its refusal. EIO, which no
+    /// call is answered over blocks, stands for all else.
     pub(crate) fn answer(&mut self, session: u8, call: &Call) -> Result<(u32, u32), Errno> {
         let reply = done(
             self.alloc,

@@ -185,8 +185,8 @@ pub(crate) const SEEKS: [Session; 2] = [
     },
 ];
 
-/// An empty file, inode 2 of user 5 and group 7. A file of 56 pages, with the block of numbers that the 49 from page 7 on take, had all other
-/// zones before, so none of them is full of zeros.
+/// An empty file, inode 2 of user 5 and group 7. A file of 56 pages, with the block of numbers that the 49 from page 7 on take, had all
+/// other zones before, so none of them is full of zeros.
 pub(crate) const EMPTY_FILE: Session = Session {
     user: "0 0",
     calls: &[
@@ -397,8 +397,8 @@ pub(crate) const SIZES_REFUSED: [Session; 2] = [
     },
 ];
 
-/// 31 directories take all inodes, a zone each, and two more of the root; then a file takes the place of the last of them, and all zones: the
-/// root's third, 24 pages and their block of numbers. All of it is given back.
+/// 31 directories take all inodes, a zone each, and two more of the root; then a file takes the place of the last of them, and all zones:
+/// the root's third, 24 pages and their block of numbers. All of it is given back.
 pub(crate) const FILLED_AND_EMPTIED: [Session; 1] = [Session {
     user: "0 0",
     calls: &[

@@ -1,5 +1,5 @@
-//! Rows of the table of calls: scripts of sessions, as different users, with each reply worked out by hand from the rules of the calls, and bytes
-//! of the images that they leave, from the format.
+//! Rows of the table of calls: scripts of sessions, as different users, with each reply worked out by hand from the rules of the calls,
+//! and bytes of the images that they leave, from the format.
 #![tactic(auto)]
 
 #[cfg(test)]

@@ -255,8 +255,8 @@ pub(crate) const NAME_OF_AN_EMPTY_ONE_LEFT: [(usize, &[u8]); 6] = [
 ];
 
 /// A volume whose zones are taken. The root has `s`, `a`, `q` and `b` to `n`, 18 entries in zones 6 and 8, of which the last two, `m` and
-/// `n`, stand in zone 8; `s`, inode 2, has `a` to `n` too, 16 entries that fill zone 7. All these names are of inode 3, a file with 28 links
-/// and 54 pages, which take 55 zones, and `q` is of inode 4, a file with one link and without a zone.
+/// `n`, stand in zone 8; `s`, inode 2, has `a` to `n` too, 16 entries that fill zone 7. All these names are of inode 3, a file with 28
+/// links and 54 pages, which take 55 zones, and `q` is of inode 4, a file with one link and without a zone.
 pub(crate) const FULL: Session = Session {
     user: "0 0",
     calls: &[

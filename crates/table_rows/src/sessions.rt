@@ -14,8 +14,8 @@ pub(crate) struct Session {
     pub(crate) calls: &'static [(&'static str, &'static str)],
 }
 
-/// Sessions on a new volume of 64 blocks of 1024 bytes, with 32 inodes; sessions of another server after them, which change no byte of the image;
-/// and bytes of it, with the places where they stand.
+/// Sessions on a new volume of 64 blocks of 1024 bytes, with 32 inodes; sessions of another server after them, which change no byte of the
+/// image; and bytes of it, with the places where they stand.
 pub(crate) type Table = (
     &'static [Session],
     &'static [Session],
@@ -91,7 +91,8 @@ fn played<R: Wait + Copy>(
     Ok((String::from_utf8(out)?, image.unwrap_or(Vec::new(alloc))))
 }
 
-/// What is wrong with an image, where these bytes should stand, by the one that was left when sessions that change nothing were played on it.
+/// What is wrong with an image, where these bytes should stand, by the one that is left when sessions that change nothing are played on
+/// it.
 fn fault_of(alloc: Global, image: &[u8], again: &[u8], left: &[(usize, &[u8])]) -> &'static str {
     if !matches!(check(alloc, image), Ok(Verdict::Clean(_))) {
         return "not clean";
@@ -133,8 +134,8 @@ fn are_told(
     Ok(())
 }
 
-/// Plays a table: its sessions on a new volume, and then, by another server on the image that they left, those that change nothing. The replies
-/// are the table's, both servers read the same of the volume, and the image is clean, has the table's bytes, and stays.
+/// Plays a table: its sessions on a new volume, and then, by another server on the image that they left, those that change nothing. The
+/// replies are the table's, both servers read the same of the volume, and the image is clean, has the table's bytes, and stays.
 pub(crate) fn is_played<R: Wait + Abort + Copy>(alloc: Global, rt: R, table: Table) -> Result<(), Fail> {
     let volume = new_volume(alloc, 1024)?;
     let first = played(alloc, rt, volume.as_slice(), table.0)?;
