@@ -202,10 +202,7 @@ pub(crate) const EMPTY_FILE: Session = Session {
             "50 stat /f",
             "inode 2 mode 0100644 links 1 uid 5 gid 7 size 0 times 50 50 50",
         ),
-        (
-            "50 statfs",
-            "block 1024 zones 58 free 57 inodes 32 free 30",
-        ),
+        ("50 statfs", "block 1024 zones 58 free 57 inodes 32 free 30"),
     ],
 };
 
@@ -218,10 +215,7 @@ pub(crate) const OVER_THE_DIRECT_PAGES: [Session; 2] = [
             ("60 open /f w 0", "fd 0"),
             ("60 seek 0 set 7166", "at 7166"),
             ("60 write 0 7778797a", "wrote 4"),
-            (
-                "60 statfs",
-                "block 1024 zones 58 free 54 inodes 32 free 30",
-            ),
+            ("60 statfs", "block 1024 zones 58 free 54 inodes 32 free 30"),
             ("60 open /f r 0", "fd 1"),
             ("60 seek 1 set 7164", "at 7164"),
             ("60 read 1 9", "bytes 00007778797a"),
@@ -353,24 +347,15 @@ pub(crate) const DOWN_AND_UP: [Session; 4] = [
         calls: &[
             ("71 open /f rw 0", "fd 0"),
             ("71 read 0 9", "bytes 610000"),
-            (
-                "71 statfs",
-                "block 1024 zones 58 free 56 inodes 32 free 30",
-            ),
+            ("71 statfs", "block 1024 zones 58 free 56 inodes 32 free 30"),
             ("72 truncate /f 2048", "ok"),
-            (
-                "72 statfs",
-                "block 1024 zones 58 free 56 inodes 32 free 30",
-            ),
+            ("72 statfs", "block 1024 zones 58 free 56 inodes 32 free 30"),
             (
                 "72 fstat 0",
                 "inode 2 mode 0100644 links 1 uid 5 gid 7 size 2048 times 50 72 72",
             ),
             ("73 truncate /f 0", "ok"),
-            (
-                "73 statfs",
-                "block 1024 zones 58 free 57 inodes 32 free 30",
-            ),
+            ("73 statfs", "block 1024 zones 58 free 57 inodes 32 free 30"),
             ("73 seek 0 cur 0", "at 3"),
         ],
     },
@@ -433,24 +418,15 @@ pub(crate) const FILLED_AND_EMPTIED: [Session; 1] = [Session {
         ("100 mkdir /29 755", "ok"),
         ("100 mkdir /30 755", "ok"),
         ("100 mkdir /31 755", "ok"),
-        (
-            "100 statfs",
-            "block 1024 zones 58 free 24 inodes 32 free 0",
-        ),
+        ("100 statfs", "block 1024 zones 58 free 24 inodes 32 free 0"),
         ("100 mkdir /x 755", "ENOSPC"),
         ("100 open /x rwc 644", "ENOSPC"),
         ("100 rmdir /31", "ok"),
-        (
-            "100 statfs",
-            "block 1024 zones 58 free 26 inodes 32 free 1",
-        ),
+        ("100 statfs", "block 1024 zones 58 free 26 inodes 32 free 1"),
         ("100 open /x rwc 644", "fd 0"),
         ("100 fill 0 24577 61", "ENOSPC"),
         ("100 fill 0 24576 61", "wrote 24576"),
-        (
-            "100 statfs",
-            "block 1024 zones 58 free 0 inodes 32 free 0",
-        ),
+        ("100 statfs", "block 1024 zones 58 free 0 inodes 32 free 0"),
         ("100 write 0 62", "ENOSPC"),
         ("100 seek 0 cur 0", "at 24576"),
         ("100 unlink /x", "ok"),

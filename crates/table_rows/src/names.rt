@@ -155,10 +155,7 @@ pub(crate) const TWO_FILES: Session = Session {
         ("50 truncate /f 5", "ok"),
         ("50 chown /f 5 7", "ok"),
         ("50 chown /b 5 7", "ok"),
-        (
-            "50 statfs",
-            "block 1024 zones 58 free 57 inodes 32 free 29",
-        ),
+        ("50 statfs", "block 1024 zones 58 free 57 inodes 32 free 29"),
     ],
 };
 
@@ -187,15 +184,9 @@ pub(crate) const NAMELESS: [Session; 2] = [
             ("60 dup 0", "fd 1"),
             ("60 unlink /f", "ok"),
             ("60 close 0", "ok"),
-            (
-                "60 statfs",
-                "block 1024 zones 58 free 57 inodes 32 free 29",
-            ),
+            ("60 statfs", "block 1024 zones 58 free 57 inodes 32 free 29"),
             ("60 close 1", "ok"),
-            (
-                "60 statfs",
-                "block 1024 zones 58 free 57 inodes 32 free 30",
-            ),
+            ("60 statfs", "block 1024 zones 58 free 57 inodes 32 free 30"),
             ("60 close 1", "EBADF"),
         ],
     },

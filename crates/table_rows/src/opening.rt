@@ -136,10 +136,7 @@ pub(crate) const FILE_AND_DIRECTORY: Session = Session {
             "50 stat /",
             "inode 1 mode 0040755 links 3 uid 0 gid 0 size 256 times 50 50 50",
         ),
-        (
-            "50 statfs",
-            "block 1024 zones 58 free 56 inodes 32 free 29",
-        ),
+        ("50 statfs", "block 1024 zones 58 free 56 inodes 32 free 29"),
     ],
 };
 

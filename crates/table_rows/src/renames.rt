@@ -124,10 +124,7 @@ pub(crate) const FILES_AND_DIRECTORIES: Session = Session {
             "50 stat /",
             "inode 1 mode 0040755 links 4 uid 0 gid 0 size 448 times 50 50 50",
         ),
-        (
-            "50 statfs",
-            "block 1024 zones 58 free 55 inodes 32 free 26",
-        ),
+        ("50 statfs", "block 1024 zones 58 free 55 inodes 32 free 26"),
     ],
 };
 
@@ -171,29 +168,20 @@ pub(crate) const OVER_A_FILE: [Session; 2] = [
                 "inode 2 mode 0100644 links 2 uid 0 gid 0 size 5 times 50 50 60",
             ),
             ("60 stat /f", "ENOENT"),
-            (
-                "60 statfs",
-                "block 1024 zones 58 free 55 inodes 32 free 27",
-            ),
+            ("60 statfs", "block 1024 zones 58 free 55 inodes 32 free 27"),
             ("60 open /d/x r 0", "fd 0"),
             ("60 rename /g /d/x", "ok"),
             (
                 "60 stat /d/x",
                 "inode 2 mode 0100644 links 2 uid 0 gid 0 size 5 times 50 50 60",
             ),
-            (
-                "60 statfs",
-                "block 1024 zones 58 free 55 inodes 32 free 27",
-            ),
+            ("60 statfs", "block 1024 zones 58 free 55 inodes 32 free 27"),
             (
                 "60 fstat 0",
                 "inode 6 mode 0100644 links 0 uid 0 gid 0 size 0 times 50 50 60",
             ),
             ("60 close 0", "ok"),
-            (
-                "60 statfs",
-                "block 1024 zones 58 free 55 inodes 32 free 28",
-            ),
+            ("60 statfs", "block 1024 zones 58 free 55 inodes 32 free 28"),
         ],
     },
 ];
@@ -214,10 +202,7 @@ pub(crate) const OVER_ONE_OF_TWO_NAMES: [Session; 2] = [
                 "inode 2 mode 0100644 links 1 uid 0 gid 0 size 5 times 50 50 60",
             ),
             ("60 stat /g", "ENOENT"),
-            (
-                "60 statfs",
-                "block 1024 zones 58 free 55 inodes 32 free 26",
-            ),
+            ("60 statfs", "block 1024 zones 58 free 55 inodes 32 free 26"),
         ],
     },
 ];
@@ -269,10 +254,7 @@ pub(crate) const OVER_AN_EMPTY_DIRECTORY: [Session; 2] = [
                 "60 stat /",
                 "inode 1 mode 0040755 links 3 uid 0 gid 0 size 384 times 50 60 60",
             ),
-            (
-                "60 statfs",
-                "block 1024 zones 58 free 56 inodes 32 free 27",
-            ),
+            ("60 statfs", "block 1024 zones 58 free 56 inodes 32 free 27"),
         ],
     },
 ];

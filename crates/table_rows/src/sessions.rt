@@ -54,7 +54,12 @@ fn scripts_of(alloc: Global, sessions: &[Session]) -> Result<Vec<String>, Fail> 
 }
 
 /// Adds a session's number and its replies to a text.
-fn add_replies(alloc: Global, text: &mut String, number: usize, calls: &[(&str, &str)]) -> Result<(), Fail> {
+fn add_replies(
+    alloc: Global,
+    text: &mut String,
+    number: usize,
+    calls: &[(&str, &str)],
+) -> Result<(), Fail> {
     text.push_str(format!(in alloc; "session {number}\n")?.as_str())?;
     for (_, reply) in calls {
         text.push_str(reply)?;
@@ -83,11 +88,7 @@ fn played<R: Wait + Copy>(
     for script in scripts.as_slice() {
         files.push(script.as_bytes())?;
     }
-    let Played {
-        out,
-        image,
-        ..
-    } = play_all(alloc, rt, image, files.as_slice())?;
+    let Played { out, image, .. } = play_all(alloc, rt, image, files.as_slice())?;
     Ok((String::from_utf8(out)?, image.unwrap_or(Vec::new(alloc))))
 }
 
@@ -136,7 +137,11 @@ fn are_told(
 
 /// Plays a table: its sessions on a new volume, and then, by another server on the image that they left, those that change nothing. The
 /// replies are the table's, both servers read the same of the volume, and the image is clean, has the table's bytes, and stays.
-pub(crate) fn is_played<R: Wait + Abort + Copy>(alloc: Global, rt: R, table: Table) -> Result<(), Fail> {
+pub(crate) fn is_played<R: Wait + Abort + Copy>(
+    alloc: Global,
+    rt: R,
+    table: Table,
+) -> Result<(), Fail> {
     let volume = new_volume(alloc, 1024)?;
     let first = played(alloc, rt, volume.as_slice(), table.0)?;
     let second = played(alloc, rt, first.1.as_slice(), table.1)?;
