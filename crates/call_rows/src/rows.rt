@@ -11,7 +11,7 @@ use tree::Call;
 type Opens = (u8, u32, &'static [u8], u8, u16, Result<u32, Errno>);
 
 /// Opens, in their order.
-const OPENS: [Opens; 17] = [
+static OPENS: [Opens; 17] = [
     // flags and modes, before the path
     (0, 1, b"", 0, 0, Err(Errno::EINVAL)),
     (0, 1, b"", 8, 0, Err(Errno::EINVAL)),
@@ -37,8 +37,8 @@ const OPENS: [Opens; 17] = [
 ];
 
 /// Each of these opens is answered so, and begins at position 0.
-fn are_answered(rt: &impl Abort, volume: &mut Volume, opens: Opens) {
-    let (session, times, path, bits, mode, first) = opens;
+fn are_answered(rt: &impl Abort, volume: &mut Volume, opens: &Opens) {
+    let (session, times, path, bits, mode, first) = *opens;
     for more in 0..times {
         let expected = match first {
             Ok(fd) => Ok((fd.saturating_add(more), 0)),
@@ -51,7 +51,7 @@ fn are_answered(rt: &impl Abort, volume: &mut Volume, opens: Opens) {
 #[test]
 fn what_no_script_says(rt: HostRuntime) -> Result<(), Fail> {
     let mut volume = Volume::new(rt.alloc())?;
-    for opens in OPENS {
+    for opens in &OPENS {
         are_answered(&rt, &mut volume, opens);
     }
     let without_a_path = Call::Rename {

@@ -24,7 +24,7 @@ use crate::sessions::{Table, is_played};
 use std::test::Fail;
 
 /// All that is played: sessions on a new volume; others that change no byte of it then; and bytes that both leave.
-const TABLES: [Table; 48] = [
+static TABLES: [Table; 48] = [
     (&OPENS, &[], &[]),
     (&DESCRIPTORS, &[], &[]),
     (&CLOSED, &[], &[]),
@@ -77,7 +77,7 @@ const TABLES: [Table; 48] = [
 
 #[test]
 fn each_call_is_answered(rt: HostRuntime) -> Result<(), Fail> {
-    for table in TABLES {
+    for table in &TABLES {
         is_played(rt.alloc(), rt, table)?;
     }
     Ok(())

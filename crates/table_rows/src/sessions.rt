@@ -140,10 +140,10 @@ fn are_told(
 pub(crate) fn is_played<R: Wait + Abort + Copy>(
     alloc: Global,
     rt: R,
-    table: Table,
+    table: &Table,
 ) -> Result<(), Fail> {
     let volume = new_volume(alloc, 1024)?;
     let first = played(alloc, rt, volume.as_slice(), table.0)?;
     let second = played(alloc, rt, first.1.as_slice(), table.1)?;
-    are_told(&rt, alloc, &table, &first, &second)
+    are_told(&rt, alloc, table, &first, &second)
 }
