@@ -7,6 +7,8 @@
 #[cfg(test)]
 mod attributes;
 #[cfg(test)]
+mod bytes;
+#[cfg(test)]
 mod calls;
 #[cfg(test)]
 mod deaths;
@@ -15,17 +17,19 @@ mod endings;
 #[cfg(test)]
 mod faults;
 #[cfg(test)]
-mod full;
-#[cfg(test)]
 mod images;
+#[cfg(test)]
+mod moves;
+#[cfg(test)]
+mod names;
 #[cfg(test)]
 mod opening;
 #[cfg(test)]
 mod partitions;
 #[cfg(test)]
-mod places;
-#[cfg(test)]
 mod plays;
+#[cfg(test)]
+mod renames;
 #[cfg(test)]
 mod table;
 #[cfg(test)]
