@@ -4,8 +4,8 @@
 #[cfg(test)]
 mod calls;
 #[cfg(test)]
-mod rows;
-#[cfg(test)]
-mod steps;
+mod sizes;
 #[cfg(test)]
 mod volumes;
+#[cfg(test)]
+mod writes;

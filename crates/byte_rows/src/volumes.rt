@@ -10,7 +10,7 @@ use inode_table::Inode;
 use layout::Geometry;
 use memory::Memory;
 use std::alloc::{AllocError, Global};
-use store::{Cut, Halt};
+use store::Halt;
 use tree::{OpenFlags, Reply, User};
 
 /// A volume of so many blocks of 1024 bytes, 7 to 64, with 32 inodes.
@@ -126,14 +126,17 @@ impl Volume {
         inode(&mut self.blocks, &self.geometry)
     }
 
-    /// Reads bytes of the file from a place on; how many.
-    pub(crate) fn read(&mut self, at: u32, into: &mut [u8]) -> Result<usize, Halt> {
-        read(&mut self.blocks, &self.geometry, at, into)
+    /// Whether these bytes are read from a place on, and then the end of the file or other bytes.
+    pub(crate) fn reads(&mut self, at: u32, bytes: &[u8]) -> bool {
+        let mut into = [0x2e; 16];
+        let count = bytes.len().min(16);
+        read(&mut self.blocks, &self.geometry, at, &mut into[..count]) == Ok(bytes.len())
+            && &into[..count] == bytes
     }
 
-    /// How many zones are free.
-    pub(crate) fn free(&mut self) -> Result<u32, Cut> {
-        free(&mut self.blocks, &self.geometry)
+    /// Whether so many zones are free.
+    pub(crate) fn has_free(&mut self, count: u32) -> bool {
+        free(&mut self.blocks, &self.geometry) == Ok(count)
     }
 
     /// All its bytes.

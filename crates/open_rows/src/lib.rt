@@ -4,8 +4,8 @@
 #[cfg(test)]
 mod calls;
 #[cfg(test)]
-mod rows;
+mod opened;
 #[cfg(test)]
-mod steps;
+mod refused;
 #[cfg(test)]
 mod volumes;

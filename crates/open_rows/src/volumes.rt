@@ -7,6 +7,7 @@ ghost use Rattle.layout.specs.Places.{IsGeometry};
 use crate::calls::{Wanted, inode, opened};
 use bitflags::Flags;
 use descriptors::Descriptors;
+use errno::Errno;
 use inode_table::Inode;
 use layout::Geometry;
 use memory::Memory;
@@ -118,6 +119,20 @@ impl Volume {
             session % 64,
             wanted,
         )
+    }
+
+    /// Opens a path in session 0, and says why not.
+    pub(crate) fn refusal(
+        &mut self,
+        user: (u16, u16),
+        path: &[u8],
+        bits: u8,
+        mode: u16,
+    ) -> Option<Errno> {
+        match self.open(0, user, path, bits, mode) {
+            Ok(Reply::Refused(errno)) => Some(errno),
+            _ => None,
+        }
     }
 
     /// The inode, the position and the bits of the flags of a descriptor of session 0.

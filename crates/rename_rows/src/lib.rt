@@ -7,5 +7,3 @@ mod calls;
 mod places;
 #[cfg(test)]
 mod renames;
-#[cfg(test)]
-mod steps;

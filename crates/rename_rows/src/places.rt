@@ -9,7 +9,7 @@ use errno::Errno;
 use layout::Geometry;
 use memory::Memory;
 use std::alloc::{AllocError, Global};
-use store::{Cut, Halt};
+use store::Halt;
 use tree::{OpenFlags, Reply};
 
 /// A volume of so many blocks of 1024 bytes, 7 to 64, with 32 inodes.
@@ -118,16 +118,21 @@ pub(crate) struct Volume {
 }
 
 impl Volume {
-    /// A volume of 64 blocks, in which nothing is open; or one of 9 blocks without a free zone, whose root takes one more with its next name.
-    pub(crate) fn new(alloc: Global, full: bool) -> Result<Volume, AllocError> {
-        let geometry = sizes(if full { 9 } else { 64 });
-        let image = if full {
-            full_image(alloc)?
-        } else {
-            image(alloc)?
-        };
+    /// A volume of 64 blocks, in which nothing is open.
+    pub(crate) fn new(alloc: Global) -> Result<Volume, AllocError> {
+        let geometry = sizes(64);
         Ok(Volume {
-            blocks: Memory::new(geometry.block_size, image),
+            blocks: Memory::new(geometry.block_size, image(alloc)?),
+            opens: Descriptors::new(alloc)?,
+            geometry,
+        })
+    }
+
+    /// A volume of 9 blocks without a free zone, whose root takes one more with its next name.
+    pub(crate) fn full(alloc: Global) -> Result<Volume, AllocError> {
+        let geometry = sizes(9);
+        Ok(Volume {
+            blocks: Memory::new(geometry.block_size, full_image(alloc)?),
             opens: Descriptors::new(alloc)?,
             geometry,
         })
@@ -151,9 +156,9 @@ impl Volume {
         }
     }
 
-    /// How many inodes are free.
-    pub(crate) fn free(&mut self) -> Result<u32, Cut> {
-        free_inodes(&mut self.blocks, &self.geometry)
+    /// Whether so many inodes are free.
+    pub(crate) fn has_free(&mut self, count: u32) -> bool {
+        free_inodes(&mut self.blocks, &self.geometry) == Ok(count)
     }
 
     /// All its bytes.

@@ -1,161 +1,113 @@
 //! Renames. `/f` and `/l` are inode 2, `/g` inode 3, `/d` inode 4, `/e` inode 5 and `/d/x` inode 6.
-use crate::steps::{Step, lines_of};
-use std::test::Fail;
 
-/// Whether the volume has no free zone, what is done with it, and what comes of that.
-const ROWS: [(bool, &[Step], &str); 7] = [
-    // Refusals change nothing; `/e` is open.
-    (
-        false,
-        &[
-            Step::Open(5),
-            Step::Rename(b"/f", b"/d"),
-            Step::Rename(b"/d", b"/f"),
-            Step::Rename(b"/e", b"/d"),
-            Step::Rename(b"/d", b"/e"),
-            Step::Rename(b"/d", b"/d/y"),
-            Step::Rename(b"/d", b"/d/x"),
-            Step::Rename(b"/h", b"/f"),
-            Step::Rename(b"/f", b"/h/f"),
-            Step::Rename(b"/f", b"/e/.."),
-            Step::Same,
-        ],
-        "fd 0
-EISDIR
-ENOTDIR
-ENOTEMPTY
-EBUSY
-EINVAL
-EINVAL
-ENOENT
-ENOENT
-EINVAL
-same
-",
-    ),
-    // Names of one inode stay.
-    (
-        false,
-        &[
-            Step::Rename(b"/f", b"/l"),
-            Step::Rename(b"/l", b"/f"),
-            Step::Rename(b"/g", b"/g"),
-            Step::Rename(b"/d", b"/d"),
-            Step::Same,
-        ],
-        "ok
-ok
-ok
-ok
-same
-",
-    ),
-    // Over a file; one that is open lives on, and one that has another name.
-    (
-        false,
-        &[
-            Step::Free,
-            Step::Rename(b"/f", b"/g"),
-            Step::Look(b"/g"),
-            Step::Look(b"/f"),
-            Step::Free,
-            Step::Open(6),
-            Step::Rename(b"/g", b"/d/x"),
-            Step::Look(b"/d/x"),
-            Step::Free,
-        ],
-        "free 26
-ok
-inode 2 links 2
-none
-free 27
-fd 0
-ok
-inode 2 links 2
-free 27
-",
-    ),
-    // A file loses one of its names.
-    (
-        false,
-        &[
-            Step::Rename(b"/g", b"/f"),
-            Step::Look(b"/f"),
-            Step::Look(b"/l"),
-            Step::Free,
-        ],
-        "ok
-inode 3 links 1
-inode 2 links 1
-free 26
-",
-    ),
-    // A directory has its new parent.
-    (
-        false,
-        &[
-            Step::Look(b"/"),
-            Step::Rename(b"/d", b"/e/k"),
-            Step::Look(b"/e/k"),
-            Step::Look(b"/e/k/.."),
-            Step::Look(b"/e/k/x"),
-            Step::Look(b"/"),
-            Step::Look(b"/d"),
-        ],
-        "inode 1 links 4
-ok
-inode 4 links 2
-inode 5 links 3
-inode 6 links 1
-inode 1 links 3
-none
-",
-    ),
-    // Over an empty directory.
-    (
-        false,
-        &[
-            Step::Rename(b"/d", b"/e"),
-            Step::Look(b"/e"),
-            Step::Look(b"/e/x"),
-            Step::Look(b"/"),
-            Step::Free,
-        ],
-        "ok
-inode 4 links 2
-inode 6 links 1
-inode 1 links 3
-free 27
-",
-    ),
-    // Without a free zone: within a directory, over a name, and to where the last zone has room.
-    (
-        true,
-        &[
-            Step::Rename(b"/d/x", b"/y"),
-            Step::Same,
-            Step::Rename(b"/f", b"/y"),
-            Step::Rename(b"/d/x", b"/y"),
-            Step::Rename(b"/l", b"/e/l"),
-            Step::Look(b"/y"),
-            Step::Look(b"/e/l"),
-        ],
-        "ENOSPC
-same
-ok
-ok
-ok
-inode 6 links 1
-inode 2 links 1
-",
-    ),
-];
+use crate::places::Volume;
+use errno::Errno;
+use std::test::Fail;
+use tree::Reply;
 
 #[test]
-fn nodes_are_renamed(rt: HostRuntime) -> Result<(), Fail> {
-    for (full, steps, lines) in ROWS {
-        let got = lines_of(rt.alloc(), full, steps)?;
-        assert_eq!(rt; got.as_str(), lines);
+fn refusals_change_nothing(rt: HostRuntime) -> Result<(), Fail> {
+    let mut volume = Volume::new(rt.alloc())?;
+    let before = Vec::from_slice(rt.alloc(), volume.bytes())?;
+    assert_eq!(rt; volume.open(5), Ok(0));
+    let rows: [(&[u8], &[u8], Errno); 9] = [
+        (b"/f", b"/d", Errno::EISDIR),
+        (b"/d", b"/f", Errno::ENOTDIR),
+        (b"/e", b"/d", Errno::ENOTEMPTY),
+        (b"/d", b"/e", Errno::EBUSY),
+        (b"/d", b"/d/y", Errno::EINVAL),
+        (b"/d", b"/d/x", Errno::EINVAL),
+        (b"/h", b"/f", Errno::ENOENT),
+        (b"/f", b"/h/f", Errno::ENOENT),
+        (b"/f", b"/e/..", Errno::EINVAL),
+    ];
+    for (old, new, errno) in rows {
+        assert_eq!(rt; volume.rename(old, new), Ok(Reply::Refused(errno)));
     }
+    assert!(rt; volume.bytes() == before.as_slice());
+    Ok(())
+}
+
+#[test]
+fn names_of_one_inode_stay(rt: HostRuntime) -> Result<(), Fail> {
+    let mut volume = Volume::new(rt.alloc())?;
+    let before = Vec::from_slice(rt.alloc(), volume.bytes())?;
+    for (old, new) in [
+        (b"/f", b"/l"),
+        (b"/l", b"/f"),
+        (b"/g", b"/g"),
+        (b"/d", b"/d"),
+    ] {
+        assert_eq!(rt; volume.rename(old, new), Ok(Reply::Done));
+    }
+    assert!(rt; volume.bytes() == before.as_slice());
+    Ok(())
+}
+
+#[test]
+fn over_a_file(rt: HostRuntime) -> Result<(), Fail> {
+    let mut volume = Volume::new(rt.alloc())?;
+    assert!(rt; volume.has_free(26));
+    assert_eq!(rt; volume.rename(b"/f", b"/g"), Ok(Reply::Done));
+    assert_eq!(rt; volume.look(b"/g"), Some((2, 2)));
+    assert_eq!(rt; volume.look(b"/f"), None);
+    assert!(rt; volume.has_free(27));
+    // one that is open lives on, and one that has another name
+    assert_eq!(rt; volume.open(6), Ok(0));
+    assert_eq!(rt; volume.rename(b"/g", b"/d/x"), Ok(Reply::Done));
+    assert_eq!(rt; volume.look(b"/d/x"), Some((2, 2)));
+    assert!(rt; volume.has_free(27));
+    Ok(())
+}
+
+#[test]
+fn a_file_loses_one_of_its_names(rt: HostRuntime) -> Result<(), Fail> {
+    let mut volume = Volume::new(rt.alloc())?;
+    assert_eq!(rt; volume.rename(b"/g", b"/f"), Ok(Reply::Done));
+    assert_eq!(rt; volume.look(b"/f"), Some((3, 1)));
+    assert_eq!(rt; volume.look(b"/l"), Some((2, 1)));
+    assert!(rt; volume.has_free(26));
+    Ok(())
+}
+
+#[test]
+fn a_directory_has_its_new_parent(rt: HostRuntime) -> Result<(), Fail> {
+    let mut volume = Volume::new(rt.alloc())?;
+    assert_eq!(rt; volume.look(b"/"), Some((1, 4)));
+    assert_eq!(rt; volume.rename(b"/d", b"/e/k"), Ok(Reply::Done));
+    assert_eq!(rt; volume.look(b"/e/k"), Some((4, 2)));
+    assert_eq!(rt; volume.look(b"/e/k/.."), Some((5, 3)));
+    assert_eq!(rt; volume.look(b"/e/k/x"), Some((6, 1)));
+    assert_eq!(rt; volume.look(b"/"), Some((1, 3)));
+    assert_eq!(rt; volume.look(b"/d"), None);
+    Ok(())
+}
+
+#[test]
+fn over_an_empty_directory(rt: HostRuntime) -> Result<(), Fail> {
+    let mut volume = Volume::new(rt.alloc())?;
+    assert_eq!(rt; volume.rename(b"/d", b"/e"), Ok(Reply::Done));
+    assert_eq!(rt; volume.look(b"/e"), Some((4, 2)));
+    assert_eq!(rt; volume.look(b"/e/x"), Some((6, 1)));
+    assert_eq!(rt; volume.look(b"/"), Some((1, 3)));
+    assert!(rt; volume.has_free(27));
+    Ok(())
+}
+
+#[test]
+fn without_a_free_zone(rt: HostRuntime) -> Result<(), Fail> {
+    let mut volume = Volume::full(rt.alloc())?;
+    let before = Vec::from_slice(rt.alloc(), volume.bytes())?;
+    assert_eq!(rt;
+        volume.rename(b"/d/x", b"/y"),
+        Ok(Reply::Refused(Errno::ENOSPC))
+    );
+    assert!(rt; volume.bytes() == before.as_slice());
+    // within a directory, over a name, and to where the last zone has room
+    assert_eq!(rt; volume.rename(b"/f", b"/y"), Ok(Reply::Done));
+    assert_eq!(rt; volume.rename(b"/d/x", b"/y"), Ok(Reply::Done));
+    assert_eq!(rt; volume.rename(b"/l", b"/e/l"), Ok(Reply::Done));
+    assert_eq!(rt; volume.look(b"/y"), Some((6, 1)));
+    assert_eq!(rt; volume.look(b"/e/l"), Some((2, 1)));
     Ok(())
 }
