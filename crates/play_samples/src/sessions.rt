@@ -72,8 +72,8 @@ fn behind<'p>(played: &'p Played, text: &str) -> Option<&'p str> {
     }
 }
 
-/// Plays the sessions on a new volume: the replies are these, the image that is left is clean, and another server reads from it what the last session read.
-/// It is an error where that isn't so.
+/// Plays the sessions on a new volume: the replies are these, the image that is left is clean, and another server reads from it what the last
+/// session read. It is an error where that isn't so.
 pub fn are_played<R: Wait + Copy>(alloc: Global, rt: R, sessions: &[Session]) -> Result<(), Fail> {
     let first = played(alloc, rt, sessions)?;
     let again = Play::new(first.left(), &[Some(READS.as_bytes())]).played(alloc, rt)?;
