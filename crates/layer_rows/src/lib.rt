@@ -4,8 +4,6 @@
 #[cfg(test)]
 mod calls;
 #[cfg(test)]
-mod steps;
-#[cfg(test)]
 mod tables;
 #[cfg(test)]
 mod volumes;

@@ -1,13 +1,16 @@
 //! The maps and the inode table.
 
-use crate::steps::{Image, Step, lines_of};
-use crate::volumes::Sizes;
+use crate::volumes::{
+    Volume, fill, fresh_image, image_with, large, many_inodes, middle, more_inodes, put, put_bytes,
+    small,
+};
 use bitmap::Map;
 use inode_table::Inode;
 use std::test::Fail;
+use store::{Cut, Halt};
 
 /// The root of a fresh volume made at time 50, in zone 6.
-pub(crate) const ROOT: Inode = Inode {
+const ROOT: Inode = Inode {
     mode: 0x41ed,
     links: 2,
     uid: 0,
@@ -20,7 +23,7 @@ pub(crate) const ROOT: Inode = Inode {
 };
 
 /// An inode of which each field has another number.
-pub(crate) const OTHER: Inode = Inode {
+const OTHER: Inode = Inode {
     mode: 0x81a4,
     links: 0x0201,
     uid: 0x0403,
@@ -50,244 +53,133 @@ const OTHER_BYTES: [u8; 64] = [
     0, 0, 0, 0x1e, 0, 0, 0, 0x1f, 0, 0, 0, 0x21, 0x22, 0x23, 0x24,
 ];
 
-/// A volume's sizes and image, what is done with it, and what comes of that.
-const ROWS: [(Sizes, Image, &[Step], &str); 12] = [
-    // A fresh volume has free numbers.
-    (
-        Sizes::Small,
-        Image::Fresh(1024, 0xf8, 6),
-        &[Step::Free(Map::Inodes), Step::Free(Map::Zones)],
-        "from 2 on, 31
-from 2 on, 57
-",
-    ),
-    (
-        Sizes::Middle,
-        Image::Fresh(2048, 0xf0, 5),
-        &[Step::Free(Map::Inodes), Step::Free(Map::Zones)],
-        "from 2 on, 31
-from 2 on, 58
-",
-    ),
-    (
-        Sizes::Large,
-        Image::Fresh(4096, 0xf0, 5),
-        &[Step::Free(Map::Inodes), Step::Free(Map::Zones)],
-        "from 2 on, 31
-from 2 on, 58
-",
-    ),
-    // Numbers change one bit, in and out.
-    (
-        Sizes::Small,
-        Image::Fresh(1024, 0xf8, 6),
-        &[
-            // each number, and the byte in which its bit stands
-            Step::Mark(Map::Inodes, 2, true),
-            Step::Put(2048, &[0x07]),
-            Step::Same,
-            Step::Mark(Map::Inodes, 8, true),
-            Step::Put(2049, &[0x01]),
-            Step::Same,
-            Step::Mark(Map::Inodes, 32, true),
-            Step::Put(2052, &[0xff]),
-            Step::Same,
-            Step::Mark(Map::Zones, 2, true),
-            Step::Put(3072, &[0x07]),
-            Step::Same,
-            Step::Mark(Map::Zones, 58, true),
-            Step::Put(3079, &[0xfc]),
-            Step::Same,
-            Step::Free(Map::Inodes),
-            Step::Free(Map::Zones),
-            Step::Mark(Map::Inodes, 2, false),
-            Step::Mark(Map::Inodes, 8, false),
-            Step::Mark(Map::Inodes, 32, false),
-            Step::Mark(Map::Zones, 2, false),
-            Step::Mark(Map::Zones, 58, false),
-            Step::Put(2048, &[0x03]),
-            Step::Put(2049, &[0]),
-            Step::Put(2052, &[0xfe]),
-            Step::Put(3072, &[0x03]),
-            Step::Put(3079, &[0xf8]),
-            Step::Same,
-            // there are none past the last
-            Step::Mark(Map::Inodes, 33, true),
-            Step::Mark(Map::Zones, 59, true),
-        ],
-        "done
-same
-done
-same
-done
-same
-done
-same
-done
-same
-from 3 on, 28
-from 3 on, 55
-done
-done
-done
-done
-done
-same
-not done
-not done
-",
-    ),
-    // Numbers past the last are not looked at: of 200 inodes 0 to 64 are in the map.
-    (
-        Sizes::MoreInodes,
-        Image::Zeros(65536, 2056, 2056, 1),
-        &[Step::Free(Map::Inodes)],
-        "from 65 on, 136
-",
-    ),
-    // Of 32 inodes 0 to 32 are in the map, and no bit past them: none is free.
-    (
-        Sizes::Small,
-        Image::Zeros(65536, 2052, 2052, 1),
-        &[Step::Free(Map::Inodes)],
-        "none, 0
-",
-    ),
-    // Nor is number 0, which stands for nothing: 2 to 7 are in the map.
-    (
-        Sizes::Small,
-        Image::Zeros(65536, 2048, 2048, 0xfc),
-        &[Step::Free(Map::Inodes)],
-        "from 1 on, 26
-",
-    ),
-    // Numbers 0 to 8191 are in the first block, all of them in the map; 8192 to 8292 are free. The zone map begins behind both blocks.
-    (
-        Sizes::ManyInodes,
-        Image::Zeros(614400, 3072, 3072, 0),
-        &[
-            Step::Free(Map::Inodes),
-            Step::Mark(Map::Inodes, 8192, true),
-            Step::Free(Map::Inodes),
-            Step::Mark(Map::Inodes, 8191, false),
-            Step::Free(Map::Inodes),
-            Step::Mark(Map::Zones, 0, true),
-            Step::Put(3071, &[0x7f, 1]),
-            Step::Put(4096, &[1]),
-            Step::Same,
-        ],
-        "from 8192 on, 101
-done
-from 8193 on, 100
-done
-from 8191 on, 101
-done
-same
-",
-    ),
-    // Inodes leave their neighbours.
-    (
-        Sizes::Small,
-        Image::Fresh(1024, 0xf8, 6),
-        &[
-            Step::Load(1),
-            // numbers, and where they stand in blocks of 1024 bytes
-            Step::Store(2, &OTHER),
-            Step::Put(4160, &OTHER_BYTES),
-            Step::Same,
-            Step::Load(2),
-            Step::Store(16, &OTHER),
-            Step::Put(5056, &OTHER_BYTES),
-            Step::Same,
-            Step::Load(16),
-            Step::Store(17, &OTHER),
-            Step::Put(5120, &OTHER_BYTES),
-            Step::Same,
-            Step::Load(17),
-            Step::Store(32, &OTHER),
-            Step::Put(6080, &OTHER_BYTES),
-            Step::Same,
-            Step::Load(32),
-            Step::Store(1, &OTHER),
-            Step::Put(4096, &OTHER_BYTES),
-            Step::Same,
-            Step::Load(1),
-            // none has these numbers
-            Step::Load(0),
-            Step::Store(0, &ROOT),
-            Step::Load(33),
-            Step::Store(33, &ROOT),
-            Step::Same,
-        ],
-        "the root
-ok
-same
-the other
-ok
-same
-the other
-ok
-same
-the other
-ok
-same
-the other
-ok
-same
-the other
-unsound
-unsound
-unsound
-unsound
-same
-",
-    ),
-    // Inode 20 is entry 19: 1216 bytes into the table, which begins with block 4.
-    (
-        Sizes::Middle,
-        Image::Fresh(2048, 0xf0, 6),
-        &[
-            Step::Load(1),
-            Step::Store(20, &OTHER),
-            Step::Put(9408, &OTHER_BYTES),
-            Step::Same,
-        ],
-        "the root
-ok
-same
-",
-    ),
-    (
-        Sizes::Large,
-        Image::Fresh(4096, 0xf0, 6),
-        &[
-            Step::Load(1),
-            Step::Store(20, &OTHER),
-            Step::Put(17600, &OTHER_BYTES),
-            Step::Same,
-        ],
-        "the root
-ok
-same
-",
-    ),
-    // The image ends in the middle of block 4, in which the table begins.
-    (
-        Sizes::Small,
-        Image::CutOff(4608),
-        &[Step::Free(Map::Zones), Step::Load(1), Step::Store(1, &ROOT)],
-        "from 2 on, 57
-cut off
-cut off
-",
-    ),
-];
+#[test]
+fn fresh_volume_has_free_numbers(rt: HostRuntime) -> Result<(), Fail> {
+    let mut volume = Volume::new(small(), fresh_image(rt.alloc(), 1024, 0xf8, 6)?);
+    assert!(rt; volume.has_free(Map::Inodes, Some(2), 31));
+    assert!(rt; volume.has_free(Map::Zones, Some(2), 57));
+    let mut volume = Volume::new(middle(), fresh_image(rt.alloc(), 2048, 0xf0, 5)?);
+    assert!(rt; volume.has_free(Map::Inodes, Some(2), 31));
+    assert!(rt; volume.has_free(Map::Zones, Some(2), 58));
+    let mut volume = Volume::new(large(), fresh_image(rt.alloc(), 4096, 0xf0, 5)?);
+    assert!(rt; volume.has_free(Map::Inodes, Some(2), 31));
+    assert!(rt; volume.has_free(Map::Zones, Some(2), 58));
+    Ok(())
+}
 
 #[test]
-fn maps_and_inodes_are_changed(rt: HostRuntime) -> Result<(), Fail> {
-    for (sizes, image, steps, lines) in ROWS {
-        let got = lines_of(rt.alloc(), sizes, image, steps)?;
-        assert_eq!(rt; got.as_str(), lines);
+fn numbers_change_one_bit(rt: HostRuntime) -> Result<(), Fail> {
+    let mut volume = Volume::new(small(), fresh_image(rt.alloc(), 1024, 0xf8, 6)?);
+    let mut image = fresh_image(rt.alloc(), 1024, 0xf8, 6)?;
+    // a map, a number, and the byte in which its bit stands, with the bit
+    let cases = [
+        (Map::Inodes, 2, 2048, 0x07),
+        (Map::Inodes, 8, 2049, 0x01),
+        (Map::Inodes, 32, 2052, 0xff),
+        (Map::Zones, 2, 3072, 0x07),
+        (Map::Zones, 58, 3079, 0xfc),
+    ];
+    for (map, number, at, byte) in cases {
+        assert!(rt; volume.mark(map, number, true));
+        put(&mut image, at, byte);
+        assert!(rt; volume.is(&image), "{number} in");
     }
+    assert!(rt; volume.has_free(Map::Inodes, Some(3), 28));
+    assert!(rt; volume.has_free(Map::Zones, Some(3), 55));
+    for (map, number, _, _) in cases {
+        assert!(rt; volume.mark(map, number, false));
+    }
+    let image = fresh_image(rt.alloc(), 1024, 0xf8, 6)?;
+    assert!(rt; volume.is(&image), "all out");
+    assert!(rt; !volume.mark(Map::Inodes, 33, true));
+    assert!(rt; !volume.mark(Map::Zones, 59, true));
+    Ok(())
+}
+
+#[test]
+fn numbers_past_the_last_are_not_looked_at(rt: HostRuntime) -> Result<(), Fail> {
+    // 200 inodes, 0 to 64 in the map: 65 to 200 are free
+    let mut image = image_with(rt.alloc(), 65536, &[(2056, 1)])?;
+    fill(&mut image, 2048, 2056, 0xff);
+    let mut volume = Volume::new(more_inodes(), image);
+    assert!(rt; volume.has_free(Map::Inodes, Some(65), 136));
+    // 32 inodes, 0 to 32 in the map, and no bit past them: none is free
+    let mut image = image_with(rt.alloc(), 65536, &[(2052, 1)])?;
+    fill(&mut image, 2048, 2052, 0xff);
+    let mut volume = Volume::new(small(), image);
+    assert!(rt; volume.has_free(Map::Inodes, None, 0));
+    // nor is number 0, which stands for nothing: 2 to 7 are in the map
+    let mut volume = Volume::new(small(), image_with(rt.alloc(), 65536, &[(2048, 0xfc)])?);
+    assert!(rt; volume.has_free(Map::Inodes, Some(1), 26));
+    Ok(())
+}
+
+#[test]
+fn maps_go_on_in_the_next_block(rt: HostRuntime) -> Result<(), Fail> {
+    // numbers 0 to 8191 are in the first block, all of them in the map; 8192 to 8292 are free
+    let mut image = image_with(rt.alloc(), 614400, &[])?;
+    fill(&mut image, 2048, 3072, 0xff);
+    let mut volume = Volume::new(many_inodes(), image);
+    assert!(rt; volume.has_free(Map::Inodes, Some(8192), 101));
+    assert!(rt; volume.mark(Map::Inodes, 8192, true));
+    assert!(rt; volume.has_free(Map::Inodes, Some(8193), 100));
+    assert!(rt; volume.mark(Map::Inodes, 8191, false));
+    assert!(rt; volume.has_free(Map::Inodes, Some(8191), 101));
+    // the zone map begins behind both blocks
+    assert!(rt; volume.mark(Map::Zones, 0, true));
+    let mut image = image_with(rt.alloc(), 614400, &[(3072, 1), (4096, 1)])?;
+    fill(&mut image, 2048, 3071, 0xff);
+    put(&mut image, 3071, 0x7f);
+    assert!(rt; volume.is(&image), "both maps");
+    Ok(())
+}
+
+#[test]
+fn inodes_leave_their_neighbours(rt: HostRuntime) -> Result<(), Fail> {
+    let mut volume = Volume::new(small(), fresh_image(rt.alloc(), 1024, 0xf8, 6)?);
+    let mut image = fresh_image(rt.alloc(), 1024, 0xf8, 6)?;
+    assert!(rt; volume.loads(1, Ok(ROOT)));
+    // numbers, and where they stand in blocks of 1024 bytes
+    for (number, begins) in [(2, 4160), (16, 5056), (17, 5120), (32, 6080), (1, 4096)] {
+        assert!(rt; volume.stores(number, &OTHER, Ok(())));
+        put_bytes(&mut image, begins, &OTHER_BYTES);
+        assert!(rt; volume.is(&image), "{number}");
+        assert!(rt; volume.loads(number, Ok(OTHER)));
+    }
+    for number in [0, 33] {
+        assert!(rt; volume.loads(number, Err(Halt::Unsound)));
+        assert!(rt; volume.stores(number, &ROOT, Err(Halt::Unsound)));
+    }
+    assert!(rt; volume.is(&image), "none has it");
+    Ok(())
+}
+
+#[test]
+fn inodes_stand_behind_the_maps(rt: HostRuntime) -> Result<(), Fail> {
+    // inode 20 is entry 19: 1216 bytes into the table, which begins with block 4
+    let mut volume = Volume::new(middle(), fresh_image(rt.alloc(), 2048, 0xf0, 6)?);
+    let mut image = fresh_image(rt.alloc(), 2048, 0xf0, 6)?;
+    assert!(rt; volume.loads(1, Ok(ROOT)));
+    assert!(rt; volume.stores(20, &OTHER, Ok(())));
+    put_bytes(&mut image, 9408, &OTHER_BYTES);
+    assert!(rt; volume.is(&image), "blocks of 2048 bytes");
+    let mut volume = Volume::new(large(), fresh_image(rt.alloc(), 4096, 0xf0, 6)?);
+    let mut image = fresh_image(rt.alloc(), 4096, 0xf0, 6)?;
+    assert!(rt; volume.loads(1, Ok(ROOT)));
+    assert!(rt; volume.stores(20, &OTHER, Ok(())));
+    put_bytes(&mut image, 17600, &OTHER_BYTES);
+    assert!(rt; volume.is(&image), "blocks of 4096 bytes");
+    Ok(())
+}
+
+#[test]
+fn blocks_past_the_last_are_cut_off(rt: HostRuntime) -> Result<(), Fail> {
+    // the image ends in the middle of block 4, in which the table begins
+    let mut image = fresh_image(rt.alloc(), 1024, 0xf8, 6)?;
+    image.truncate(4608);
+    let mut volume = Volume::new(small(), image);
+    assert!(rt; volume.has_free(Map::Zones, Some(2), 57));
+    assert!(rt; volume.loads(1, Err(Halt::Cut(Cut::Eio))));
+    assert!(rt; volume.stores(1, &ROOT, Err(Halt::Cut(Cut::Eio))));
     Ok(())
 }

@@ -9,61 +9,75 @@ use inode_table::Inode;
 use layout::Geometry;
 use memory::Memory;
 use std::alloc::{AllocError, Global};
-use store::{Cut, Halt};
+use store::Halt;
 
-/// The sizes of a volume.
-#[derive(Clone, Copy)]
-pub(crate) enum Sizes {
-    /// 64 blocks of 1024 bytes, 32 inodes.
-    Small,
-    /// The same with blocks of 2048 bytes: the table takes one block, so there is a data zone more.
-    Middle,
-    /// And with blocks of 4096 bytes.
-    Large,
-    /// 200 inodes.
-    MoreInodes,
-    /// An inode map of two blocks: the second begins with number 8192.
-    ManyInodes,
-}
-
-/// The numbers of the small one.
-const SMALL: Geometry = Geometry {
-    block_size: 1024,
-    inodes: 32,
-    zones: 64,
-    inode_map_blocks: 1,
-    zone_map_blocks: 1,
-    first_zone: 6,
-};
-
-/// The numbers of each.
-fn geometry(sizes: Sizes) -> Geometry
+/// A volume of 64 blocks of 1024 bytes with 32 inodes.
+pub(crate) fn small() -> Geometry
     ensures { IsGeometry result }
 {
-    match sizes {
-        Sizes::Small => SMALL,
-        Sizes::Middle => Geometry {
-            block_size: 2048,
-            first_zone: 5,
-            ..SMALL
-        },
-        Sizes::Large => Geometry {
-            block_size: 4096,
-            first_zone: 5,
-            ..SMALL
-        },
-        Sizes::MoreInodes => Geometry {
-            inodes: 200,
-            first_zone: 17,
-            ..SMALL
-        },
-        Sizes::ManyInodes => Geometry {
-            inodes: 8292,
-            zones: 600,
-            inode_map_blocks: 2,
-            first_zone: 524,
-            ..SMALL
-        },
+    Geometry {
+        block_size: 1024,
+        inodes: 32,
+        zones: 64,
+        inode_map_blocks: 1,
+        zone_map_blocks: 1,
+        first_zone: 6,
+    }
+}
+
+/// The same with blocks of 2048 bytes: the table takes one block, so there is a data zone more.
+pub(crate) fn middle() -> Geometry
+    ensures { IsGeometry result }
+{
+    Geometry {
+        block_size: 2048,
+        inodes: 32,
+        zones: 64,
+        inode_map_blocks: 1,
+        zone_map_blocks: 1,
+        first_zone: 5,
+    }
+}
+
+/// And with blocks of 4096 bytes.
+pub(crate) fn large() -> Geometry
+    ensures { IsGeometry result }
+{
+    Geometry {
+        block_size: 4096,
+        inodes: 32,
+        zones: 64,
+        inode_map_blocks: 1,
+        zone_map_blocks: 1,
+        first_zone: 5,
+    }
+}
+
+/// A volume with 200 inodes.
+pub(crate) fn more_inodes() -> Geometry
+    ensures { IsGeometry result }
+{
+    Geometry {
+        block_size: 1024,
+        inodes: 200,
+        zones: 64,
+        inode_map_blocks: 1,
+        zone_map_blocks: 1,
+        first_zone: 17,
+    }
+}
+
+/// A volume whose inode map has two blocks: the second begins with number 8192.
+pub(crate) fn many_inodes() -> Geometry
+    ensures { IsGeometry result }
+{
+    Geometry {
+        block_size: 1024,
+        inodes: 8292,
+        zones: 600,
+        inode_map_blocks: 2,
+        zone_map_blocks: 1,
+        first_zone: 524,
     }
 }
 
@@ -139,22 +153,23 @@ pub(crate) struct Volume {
 
 impl Volume {
     /// The volume of these sizes whose bytes the image has.
-    pub(crate) fn new(sizes: Sizes, image: Vec<u8>) -> Volume {
-        let geometry = geometry(sizes);
+    pub(crate) fn new(geometry: Geometry, image: Vec<u8>) -> Volume
+        requires { IsGeometry geometry }
+    {
         Volume {
             blocks: Memory::new(geometry.block_size, image),
             geometry,
         }
     }
 
-    /// Its bytes.
-    pub(crate) fn bytes(&self) -> &[u8] {
-        self.blocks.image()
+    /// Whether its bytes are these.
+    pub(crate) fn is(&self, image: &[u8]) -> bool {
+        self.blocks.image() == image
     }
 
-    /// The lowest free number of a map, and how many are free.
-    pub(crate) fn free(&mut self, map: Map) -> Result<(Option<u32>, u32), Cut> {
-        free(&mut self.blocks, &self.geometry, map)
+    /// Whether this is the lowest free number of a map, and so many are free.
+    pub(crate) fn has_free(&mut self, map: Map, lowest: Option<u32>, count: u32) -> bool {
+        free(&mut self.blocks, &self.geometry, map) == Ok((lowest, count))
     }
 
     /// Puts a number into a map, or takes it out; whether that was done.
@@ -162,13 +177,13 @@ impl Volume {
         mark(&mut self.blocks, &self.geometry, map, number, inside) == Ok(true)
     }
 
-    /// Reads an inode.
-    pub(crate) fn load(&mut self, number: u32) -> Result<Inode, Halt> {
-        read_inode(&mut self.blocks, &self.geometry, number)
+    /// Whether this is what reading an inode gives.
+    pub(crate) fn loads(&mut self, number: u32, inode: Result<Inode, Halt>) -> bool {
+        read_inode(&mut self.blocks, &self.geometry, number) == inode
     }
 
-    /// Changes an inode.
-    pub(crate) fn store(&mut self, number: u32, inode: &Inode) -> Result<(), Halt> {
-        write_inode(&mut self.blocks, &self.geometry, number, inode)
+    /// Changes an inode; whether it ends so.
+    pub(crate) fn stores(&mut self, number: u32, inode: &Inode, end: Result<(), Halt>) -> bool {
+        write_inode(&mut self.blocks, &self.geometry, number, inode) == end
     }
 }

@@ -1,6 +1,10 @@
 //! The words that `mfs` takes, and what they say; those of `mfssim` are in [`schedules`].
 #![tactic(auto)]
 
+#[cfg(test)]
+mod rows;
+#[cfg(test)]
+mod schedule_rows;
 pub mod schedules;
 
 use clap::builder::ValueParser;
@@ -8,7 +12,7 @@ use clap::{Arg, ArgAction, ArgMatches, Command};
 use std::alloc::{AllocError, Global};
 
 /// What the help says of scripts: their lines, and each call.
-pub const SCRIPTS: &str =
+const SCRIPTS: &str =
     "A script is a line `user UID GID`, and then a line `NOW CALL` for each call: the time in seconds since 1970, and one of
 
   open PATH FLAGS MODE        a descriptor; FLAGS are letters of r w a c x t, or - for none

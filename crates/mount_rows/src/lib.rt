@@ -4,8 +4,6 @@
 #[cfg(test)]
 mod answered;
 #[cfg(test)]
-mod mounted;
-#[cfg(test)]
 mod mounts;
 #[cfg(test)]
 mod unmounts;

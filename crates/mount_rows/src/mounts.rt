@@ -1,86 +1,155 @@
-//! Why a mount is refused.
-use crate::answered::{mounted_over, reads_of};
+//! What a mount reads, and why it is refused.
+use crate::answered::{gives, mounted_over, reads_of};
+use file_server::FileServer;
+use frame_samples::lists::{started, told};
+use layout::LayoutRefusal;
 use message::Incoming;
 use mounting::MountRefusal;
-use samples::changed;
+use samples::{ROOT, changed, new_volume};
 use std::alloc::{AllocError, Global};
 use std::test::Fail;
+use tree::{Call, Who};
+use volume::Finding;
 
-/// A new volume with a byte that is changed, how many of its reads the driver answers once it is started, or that none is started, whether the
-/// device is given up then or the link ends, the frames, and what comes of it.
-const ROWS: [(usize, u8, Option<usize>, bool, u32, &str); 14] = [
-    // Frames are looked at first.
-    (0, 0, None, false, 15, "6 BadFrames"),
-    (0, 0, None, false, 16, "5 LinkEnded"),
-    (0, 0, None, false, 4096, "5 LinkEnded"),
-    (0, 0, None, false, 4097, "6 BadFrames"),
-    // A bad superblock is told once the first 2048 bytes have come, and of a bad volume all of it has to.
-    (1048, 0, Some(1), false, 64, "1 Layout BadMagic"),
-    (
-        3072,
-        7,
-        Some(17),
-        false,
-        64,
-        "2 Inconsistent finding 9 at 7",
-    ),
-    (3072, 7, Some(16), false, 64, "5 LinkEnded"),
-    // The device is given up, or the link ends, before the first start, before the head was read, behind it, and before the last bytes.
-    (0, 0, None, true, 64, "4 Eio"),
-    (0, 0, Some(0), true, 64, "4 Eio"),
-    (0, 0, Some(0), false, 64, "5 LinkEnded"),
-    (0, 0, Some(1), true, 64, "4 Eio"),
-    (0, 0, Some(1), false, 64, "5 LinkEnded"),
-    (0, 0, Some(16), true, 64, "4 Eio"),
-    (0, 0, Some(16), false, 64, "5 LinkEnded"),
-];
+/// The head of a volume of 65536 bytes, the other bytes, and the block of the root's inode, which the first call asks for: the mount leaves
+/// nothing in memory.
+const READS: &str = "read 1 0 2048
+read 2 2048 4096
+read 3 6144 4096
+read 4 10240 4096
+read 5 14336 4096
+read 6 18432 4096
+read 7 22528 4096
+read 8 26624 4096
+read 9 30720 4096
+read 10 34816 4096
+read 11 38912 4096
+read 12 43008 4096
+read 13 47104 4096
+read 14 51200 4096
+read 15 55296 4096
+read 16 59392 4096
+read 17 63488 2048
+read 18 4096 1024
+";
 
-/// The messages of a link to the driver of an image, of whose reads it answers so many.
-fn messages(
-    alloc: Global,
-    image: &[u8],
-    answers: Option<usize>,
-    gives_up: bool,
-) -> Result<Vec<Incoming>, AllocError> {
-    let mut messages = match answers {
-        Some(count) => reads_of(alloc, image, count)?,
-        None => Vec::new(alloc),
+#[test]
+fn the_whole_volume_is_read(rt: HostRuntime) -> Result<(), Fail> {
+    let alloc = rt.alloc();
+    let image = new_volume(alloc, 1024)?;
+    let mut messages = reads_of(alloc, image.as_slice(), 17)?;
+    messages.push(gives(18, image.get(4096..5120).unwrap_or(&[])))?;
+    let Ok(mut server) = mounted_over(alloc, messages, 16)? else {
+        panic!(rt; "not mounted");
     };
-    if gives_up {
-        messages.push(Incoming::GaveUp)?;
-    }
-    Ok(messages)
+    let who = Who {
+        session: 0,
+        uid: 0,
+        gid: 0,
+    };
+    let outcome = server.call(who, 100, &Call::Stat { path: b"/" });
+    assert_eq!(rt; format!(in alloc; "{outcome}\n")?.as_str(), ROOT);
+    assert_eq!(rt; told(alloc, server.link())?.as_str(), READS);
+    Ok(())
 }
 
-/// The number and the text of a refusal.
-fn said(alloc: Global, refusal: MountRefusal) -> Result<String, AllocError> {
-    let number = refusal.number();
-    format!(in alloc; "{number} {refusal}")
-}
-
-/// What comes of a mount over a link that gives these messages.
-fn came(alloc: Global, messages: Vec<Incoming>, frames: u32) -> Result<String, AllocError> {
-    match mounted_over(alloc, messages, frames)? {
-        Ok(_) => format!(in alloc; "mounted"),
-        Err(refusal) => said(alloc, refusal),
-    }
+/// Why a mount with so many frames was refused over a link that gives these messages.
+fn refusal(
+    alloc: Global,
+    messages: Vec<Incoming>,
+    frames: u32,
+) -> Result<Option<MountRefusal>, AllocError> {
+    Ok(mounted_over(alloc, messages, frames)?.err())
 }
 
 #[test]
-fn mounts_are_refused(rt: HostRuntime) -> Result<(), Fail> {
+fn frames_are_looked_at_first(rt: HostRuntime) -> Result<(), Fail> {
     let alloc = rt.alloc();
-    for (at, byte, answers, gives_up, frames, text) in ROWS {
-        let image = changed(alloc, at, byte)?;
-        let messages = messages(alloc, image.as_slice(), answers, gives_up)?;
-        assert_eq!(rt; came(alloc, messages, frames)?.as_str(), text);
+    for (frames, refused) in [
+        (15, MountRefusal::BadFrames),
+        (16, MountRefusal::LinkEnded),
+        (4096, MountRefusal::LinkEnded),
+        (4097, MountRefusal::BadFrames),
+    ] {
+        let got = refusal(alloc, Vec::new(alloc), frames)?;
+        assert_eq!(rt; got, Some(refused));
     }
     Ok(())
 }
 
-/// What no row shows.
+/// A bad superblock is told once the first 2048 bytes have come, and of a bad volume all of it has to.
 #[test]
-fn a_want_of_memory_has_a_number(rt: HostRuntime) -> Result<(), Fail> {
-    let text = said(rt.alloc(), MountRefusal::OutOfMemory)?;
-    assert_eq!(rt; text.as_str(), "3 OutOfMemory");
+fn volumes_are_refused(rt: HostRuntime) -> Result<(), Fail> {
+    let alloc = rt.alloc();
+    let magic = MountRefusal::Layout(LayoutRefusal::BadMagic);
+    let bit = MountRefusal::Inconsistent(Finding {
+        number: 9,
+        place: 7,
+    });
+    let rows = [
+        (1048, 0, 1, magic),
+        (3072, 7, 17, bit),
+        (3072, 7, 16, MountRefusal::LinkEnded),
+    ];
+    for (at, byte, answers, refused) in rows {
+        let image = changed(alloc, at, byte)?;
+        let messages = reads_of(alloc, image.as_slice(), answers)?;
+        assert_eq!(rt; refusal(alloc, messages, 64)?, Some(refused));
+    }
+    Ok(())
+}
+
+/// The device is given up, or the link ends, before the first start, before the head was read, behind it, and before the last bytes.
+#[test]
+fn devices_are_given_up_and_links_end(rt: HostRuntime) -> Result<(), Fail> {
+    let alloc = rt.alloc();
+    let image = new_volume(alloc, 1024)?;
+    for answers in [0, 1, 16] {
+        let mut messages = reads_of(alloc, image.as_slice(), answers)?;
+        messages.push(Incoming::GaveUp)?;
+        assert_eq!(rt; refusal(alloc, messages, 64)?, Some(MountRefusal::Eio));
+        let messages = reads_of(alloc, image.as_slice(), answers)?;
+        assert_eq!(rt;
+            refusal(alloc, messages, 64)?,
+            Some(MountRefusal::LinkEnded)
+        );
+    }
+    let unstarted = vec![in alloc; Incoming::GaveUp; 1]?;
+    assert_eq!(rt; refusal(alloc, unstarted, 64)?, Some(MountRefusal::Eio));
+    let started_alone = vec![in alloc; started(1); 1]?;
+    assert_eq!(rt;
+        refusal(alloc, started_alone, 64)?,
+        Some(MountRefusal::LinkEnded)
+    );
+    Ok(())
+}
+
+#[test]
+fn refusals_are_numbered_and_named(rt: HostRuntime) -> Result<(), Fail> {
+    let alloc = rt.alloc();
+    let finding = Finding {
+        number: 9,
+        place: 7,
+    };
+    let rows = [
+        (
+            1,
+            MountRefusal::Layout(LayoutRefusal::BadMagic),
+            "Layout BadMagic",
+        ),
+        (
+            2,
+            MountRefusal::Inconsistent(finding),
+            "Inconsistent finding 9 at 7",
+        ),
+        (3, MountRefusal::OutOfMemory, "OutOfMemory"),
+        (4, MountRefusal::Eio, "Eio"),
+        (5, MountRefusal::LinkEnded, "LinkEnded"),
+        (6, MountRefusal::BadFrames, "BadFrames"),
+    ];
+    for (number, refusal, text) in rows {
+        assert_eq!(rt; refusal.number(), number);
+        assert_eq!(rt; format!(in alloc; "{refusal}")?.as_str(), text);
+    }
     Ok(())
 }

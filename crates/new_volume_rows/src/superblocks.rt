@@ -21,8 +21,12 @@ fn put(image: &mut Vec<u8>, at: usize, byte: u8) {
     }
 }
 
-/// What is read of that volume's image with some bytes changed, cut to a length: its sizes, or the number and the name of why not.
-fn read(alloc: Global, length: usize, changes: &[(usize, u8)]) -> Result<String, AllocError> {
+/// The image of that volume with some bytes changed, and cut to a length.
+fn parse(
+    alloc: Global,
+    length: usize,
+    changes: &[(usize, u8)],
+) -> Result<Result<Geometry, LayoutRefusal>, AllocError> {
     let mut image = zeros(alloc, 65536)?;
     for (at, byte) in SUPERBLOCK.iter().enumerate() {
         put(&mut image, 1024 + at, *byte);
@@ -31,88 +35,123 @@ fn read(alloc: Global, length: usize, changes: &[(usize, u8)]) -> Result<String,
         put(&mut image, *at, *byte);
     }
     image.truncate(length);
-    told(alloc, Geometry::parse(&image))
+    Ok(Geometry::parse(&image))
 }
-
-/// The line of what is read.
-fn told(alloc: Global, read: Result<Geometry, LayoutRefusal>) -> Result<String, AllocError> {
-    match read {
-        Ok(sizes) => {
-            let (block, inodes, zones) = (sizes.block_size, sizes.inodes, sizes.zones);
-            let (maps, others) = (sizes.inode_map_blocks, sizes.zone_map_blocks);
-            let first = sizes.first_zone;
-            format!(in alloc;
-                "block {block} inodes {inodes} zones {zones} maps {maps} {others} first {first}"
-            )
-        }
-        Err(refusal) => {
-            let number = refusal.number();
-            format!(in alloc; "{number} {refusal}")
-        }
-    }
-}
-
-/// The length of the image, the bytes that are changed, and what is read.
-const ROWS: [(usize, &[(usize, u8)], &str); 30] = [
-    (65536, &[], "block 1024 inodes 32 zones 64 maps 1 1 first 6"),
-    // the pads at 1028, 1038 and 1050 aren't looked at
-    (
-        65536,
-        &[
-            (1028, 1),
-            (1029, 2),
-            (1038, 3),
-            (1039, 4),
-            (1050, 5),
-            (1051, 6),
-        ],
-        "block 1024 inodes 32 zones 64 maps 1 1 first 6",
-    ),
-    // one field
-    (65536, &[(1048, 0x5b)], "2 BadMagic"),
-    (65536, &[(1049, 0x4e)], "2 BadMagic"),
-    (65536, &[(1053, 2)], "3 BadBlockSize"),
-    (65536, &[(1053, 0x20)], "3 BadBlockSize"),
-    (65536, &[(1052, 1)], "3 BadBlockSize"),
-    (65536, &[(1054, 1)], "4 BadVersion"),
-    (65536, &[(1036, 1)], "4 BadVersion"),
-    (65536, &[(1037, 1)], "4 BadVersion"),
-    (65536, &[(1024, 0)], "5 BadCounts"),
-    (65536, &[(1026, 1)], "5 BadCounts"),
-    (65536, &[(1024, 33)], "5 BadCounts"),
-    (65536, &[(1030, 0)], "5 BadCounts"),
-    (65536, &[(1032, 0)], "5 BadCounts"),
-    (65536, &[(1034, 5)], "5 BadCounts"),
-    (65536, &[(1034, 7)], "5 BadCounts"),
-    (65536, &[(1040, 0xfe)], "5 BadCounts"),
-    (65536, &[(1043, 0xff)], "5 BadCounts"),
-    (65536, &[(1044, 6)], "5 BadCounts"),
-    (65536, &[(1044, 65)], "6 DoesNotFit"),
-    // a short image
-    (0, &[], "1 Truncated"),
-    (1054, &[], "1 Truncated"),
-    (1055, &[], "6 DoesNotFit"),
-    (65535, &[], "6 DoesNotFit"),
-    // the first of several
-    (
-        1054,
-        &[(1048, 0), (1052, 1), (1054, 1), (1024, 0)],
-        "1 Truncated",
-    ),
-    (
-        1055,
-        &[(1048, 0), (1052, 1), (1054, 1), (1024, 0)],
-        "2 BadMagic",
-    ),
-    (1055, &[(1052, 1), (1054, 1), (1024, 0)], "3 BadBlockSize"),
-    (1055, &[(1054, 1), (1024, 0)], "4 BadVersion"),
-    (1055, &[(1024, 0)], "5 BadCounts"),
-];
 
 #[test]
-fn superblocks_are_read(rt: HostRuntime) -> Result<(), AllocError> {
-    for (length, changes, text) in ROWS {
-        assert_eq!(rt; read(rt.alloc(), length, changes)?.as_str(), text);
+fn reads_a_volume(rt: HostRuntime) -> Result<(), AllocError> {
+    let geometry = Geometry {
+        block_size: 1024,
+        inodes: 32,
+        zones: 64,
+        inode_map_blocks: 1,
+        zone_map_blocks: 1,
+        first_zone: 6,
+    };
+    assert_eq!(rt; parse(rt.alloc(), 65536, &[])?, Ok(geometry));
+    // the pads at 1028, 1038 and 1050 aren't looked at
+    let pads = [
+        (1028, 1),
+        (1029, 2),
+        (1038, 3),
+        (1039, 4),
+        (1050, 5),
+        (1051, 6),
+    ];
+    assert_eq!(rt; parse(rt.alloc(), 65536, &pads)?, Ok(geometry));
+    Ok(())
+}
+
+#[test]
+fn refuses_one_field(rt: HostRuntime) -> Result<(), AllocError> {
+    let cases = [
+        (1048, 0x5b, LayoutRefusal::BadMagic),
+        (1049, 0x4e, LayoutRefusal::BadMagic),
+        (1053, 2, LayoutRefusal::BadBlockSize),
+        (1053, 0x20, LayoutRefusal::BadBlockSize),
+        (1052, 1, LayoutRefusal::BadBlockSize),
+        (1054, 1, LayoutRefusal::BadVersion),
+        (1036, 1, LayoutRefusal::BadVersion),
+        (1037, 1, LayoutRefusal::BadVersion),
+        (1024, 0, LayoutRefusal::BadCounts),
+        (1026, 1, LayoutRefusal::BadCounts),
+        (1024, 33, LayoutRefusal::BadCounts),
+        (1030, 0, LayoutRefusal::BadCounts),
+        (1032, 0, LayoutRefusal::BadCounts),
+        (1034, 5, LayoutRefusal::BadCounts),
+        (1034, 7, LayoutRefusal::BadCounts),
+        (1040, 0xfe, LayoutRefusal::BadCounts),
+        (1043, 0xff, LayoutRefusal::BadCounts),
+        (1044, 6, LayoutRefusal::BadCounts),
+        (1044, 65, LayoutRefusal::DoesNotFit),
+    ];
+    for (at, byte, refusal) in cases {
+        assert_eq!(rt;
+            parse(rt.alloc(), 65536, &[(at, byte)])?,
+            Err(refusal),
+            "{byte} at {at}"
+        );
+    }
+    Ok(())
+}
+
+#[test]
+fn refuses_a_short_image(rt: HostRuntime) -> Result<(), AllocError> {
+    assert_eq!(rt; parse(rt.alloc(), 0, &[])?, Err(LayoutRefusal::Truncated));
+    assert_eq!(rt;
+        parse(rt.alloc(), 1054, &[])?,
+        Err(LayoutRefusal::Truncated)
+    );
+    assert_eq!(rt;
+        parse(rt.alloc(), 1055, &[])?,
+        Err(LayoutRefusal::DoesNotFit)
+    );
+    assert_eq!(rt;
+        parse(rt.alloc(), 65535, &[])?,
+        Err(LayoutRefusal::DoesNotFit)
+    );
+    Ok(())
+}
+
+#[test]
+fn answers_the_first(rt: HostRuntime) -> Result<(), AllocError> {
+    let all = [(1048, 0), (1052, 1), (1054, 1), (1024, 0)];
+    assert_eq!(rt;
+        parse(rt.alloc(), 1054, &all)?,
+        Err(LayoutRefusal::Truncated)
+    );
+    assert_eq!(rt;
+        parse(rt.alloc(), 1055, &all)?,
+        Err(LayoutRefusal::BadMagic)
+    );
+    assert_eq!(rt;
+        parse(rt.alloc(), 1055, &all[1..])?,
+        Err(LayoutRefusal::BadBlockSize)
+    );
+    assert_eq!(rt;
+        parse(rt.alloc(), 1055, &all[2..])?,
+        Err(LayoutRefusal::BadVersion)
+    );
+    assert_eq!(rt;
+        parse(rt.alloc(), 1055, &all[3..])?,
+        Err(LayoutRefusal::BadCounts)
+    );
+    Ok(())
+}
+
+#[test]
+fn numbers_and_names(rt: HostRuntime) -> Result<(), AllocError> {
+    let cases = [
+        (LayoutRefusal::Truncated, 1, "Truncated"),
+        (LayoutRefusal::BadMagic, 2, "BadMagic"),
+        (LayoutRefusal::BadBlockSize, 3, "BadBlockSize"),
+        (LayoutRefusal::BadVersion, 4, "BadVersion"),
+        (LayoutRefusal::BadCounts, 5, "BadCounts"),
+        (LayoutRefusal::DoesNotFit, 6, "DoesNotFit"),
+    ];
+    for (refusal, number, name) in cases {
+        assert_eq!(rt; refusal.number(), number);
+        assert_eq!(rt; format!(in rt.alloc(); "{refusal}")?.as_str(), name);
     }
     Ok(())
 }
@@ -129,7 +168,7 @@ fn writes_a_volume(rt: HostRuntime) -> Result<(), AllocError> {
     };
     let mut image = vec![in rt.alloc(); 9u8; 1056]?;
     volume.write(&mut image);
-    assert!(rt; &image[1024..1055] == SUPERBLOCK.as_slice());
+    assert_eq!(rt; &image[1024..1055], SUPERBLOCK.as_slice());
     assert_eq!(rt; (image[0], image[1023], image[1055]), (9, 9, 9));
     Ok(())
 }

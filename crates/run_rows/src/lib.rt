@@ -1,16 +1,8 @@
-//! Rows of runs of schedules: transcripts, statuses, what the media hold afterwards, and runs that aren't begun or whose transcript can't be
-//! written. Each expected value is taken from a format or worked out by hand.
-//!
-//! They stand in one crate, since each crate of runs has to build the whole of a run.
+//! Rows of runs that read: transcripts, while drivers die, hang, answer late, badly or too little, and are given up. Each expected value is taken
+//! from a format or worked out by hand.
 #![tactic(auto)]
 
 #[cfg(test)]
 mod faults;
 #[cfg(test)]
 mod reads;
-#[cfg(test)]
-mod refusals;
-#[cfg(test)]
-mod writers;
-#[cfg(test)]
-mod written;

@@ -3,16 +3,12 @@
 use bdev::BlockDriver;
 use policy::Setup;
 use samples::whole;
-use schedule_text::reading::read_schedule;
 use simulation::inputs::File;
-use simulation::simulate::simulate;
-pub use simulation::world::RunRefusal;
-use simulation::world::World;
+pub use simulation::simulate::simulate;
+pub use simulation::world::{RunRefusal, World};
 use std::alloc::{AllocError, Global};
-use std::io::Write;
 use std::test::Fail;
-pub use supply::DiskDriver;
-use supply::{drivers_for, table_in};
+use supply::{DiskDriver, drivers_for, table_in};
 
 /// What a run printed, and its status.
 #[derive(Debug, Drop)]
@@ -46,35 +42,9 @@ pub fn six(alloc: Global, image: &[u8]) -> Result<Vec<DiskDriver>, AllocError> {
     drivers_for(alloc, 5, false, table_in(image))
 }
 
-/// The text of these groups of lines.
-pub fn text_of_all(alloc: Global, groups: &[&[&str]]) -> Result<Vec<u8>, AllocError> {
-    let mut text = Vec::new(alloc);
-    for lines in groups {
-        text.extend_from_slice(text_of(alloc, lines)?.as_slice())?;
-    }
-    Ok(text)
-}
-
-/// Runs a schedule on an image, each if it can be read, under a setup, with these drivers, and with these writers as standard output and standard
-/// error. The status.
-pub fn run_into<D: BlockDriver, W: Write, E: Write>(
-    alloc: Global,
-    image: Option<&[u8]>,
-    schedule: Option<&[u8]>,
-    setup: &Setup,
-    supply: Vec<D>,
-    out: &mut W,
-    err: &mut E,
-) -> u8 {
-    let image = File {
-        name: "v.img",
-        bytes: image,
-    };
-    let schedule = File {
-        name: "s.txt",
-        bytes: schedule,
-    };
-    simulate(alloc, image, schedule, setup, supply, out, err).number()
+/// A file of this name.
+pub fn file<'n, 'b>(name: &'n str, bytes: Option<&'b [u8]>) -> File<'n, 'b> {
+    File { name, bytes }
 }
 
 /// Runs a schedule on an image under a setup, with these drivers.
@@ -86,39 +56,26 @@ pub fn ran_as<D: BlockDriver>(
     supply: Vec<D>,
 ) -> Ran {
     let (mut out, mut err) = (Vec::new(alloc), Vec::new(alloc));
-    let status = run_into(alloc, image, schedule, setup, supply, &mut out, &mut err);
-    Ran { status, out, err }
+    let (image, schedule) = (file("v.img", image), file("s.txt", schedule));
+    let status = simulate(alloc, image, schedule, setup, supply, &mut out, &mut err);
+    Ran {
+        status: status.number(),
+        out,
+        err,
+    }
 }
 
-/// Why a run without events isn't begun.
-pub fn refusal_of<D: BlockDriver>(
-    alloc: Global,
-    image: &[u8],
-    setup: &Setup,
-    supply: Vec<D>,
-) -> Option<RunRefusal> {
-    World::run(alloc, image, setup, supply, &[]).err()
-}
-
-/// The bytes of the media after a run of a schedule's text on an image, with six drivers under the default policy.
-pub fn media_after(alloc: Global, image: &[u8], schedule: &[u8]) -> Result<Vec<u8>, Fail> {
-    let schedule = read_schedule(alloc, schedule)?;
-    let events = schedule.events(alloc)?;
-    let supply = six(alloc, image)?;
-    let transcript = World::run(alloc, image, &whole(), supply, events.as_slice())?;
-    Ok(transcript.image(alloc)?)
-}
-
-/// Runs a schedule's text on an image, with six drivers under the default policy.
-pub fn run_text(alloc: Global, image: &[u8], schedule: &[u8]) -> Result<Ran, AllocError> {
-    let supply = six(alloc, image)?;
-    Ok(ran_as(alloc, Some(image), Some(schedule), &whole(), supply))
-}
-
-/// Runs the lines of a schedule in the same way.
+/// Runs the lines of a schedule on an image, with six drivers under the default policy.
 pub fn run_on(alloc: Global, image: &[u8], lines: &[&str]) -> Result<Ran, Fail> {
     let schedule = text_of(alloc, lines)?;
-    Ok(run_text(alloc, image, schedule.as_slice())?)
+    let supply = six(alloc, image)?;
+    Ok(ran_as(
+        alloc,
+        Some(image),
+        Some(schedule.as_slice()),
+        &whole(),
+        supply,
+    ))
 }
 
 /// Looks at the transcript of such a run, and at its status: it is an error where these are others.

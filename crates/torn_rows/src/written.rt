@@ -1,22 +1,58 @@
 //! Writes that drivers leave half done, and what the media hold afterwards.
 
 use fsck::{Verdict, check};
-use run_samples::runs::{gave, media_after, run_text, text_of_all};
-use samples::new_volume;
+use run_samples::runs::{World, add_first, gave, run_on, shows, six, text_of};
+use samples::{new_volume, whole};
+use schedule_text::reading::read_schedule;
 use std::alloc::Global;
 use std::process::Abort;
 use std::test::Fail;
 
-/// Groups of lines.
-type Lines = &'static [&'static [&'static str]];
+/// The bytes of the media after a run on an image.
+fn media_after(alloc: Global, image: &[u8], lines: &[&str]) -> Result<Vec<u8>, Fail> {
+    let text = text_of(alloc, lines)?;
+    let schedule = read_schedule(alloc, text.as_slice())?;
+    let events = schedule.events(alloc)?;
+    let supply = six(alloc, image)?;
+    let transcript = World::run(alloc, image, &whole(), supply, events.as_slice())?;
+    Ok(transcript.image(alloc)?)
+}
+
+/// The bytes from one place on up to another, where there are so many.
+fn part(bytes: &[u8], places: (usize, usize)) -> Option<&[u8]> {
+    bytes.get(places.0..places.1)
+}
+
+/// Looks at whether the bytes between these places are all equal to one.
+fn are_all(rt: &impl Abort, bytes: &[u8], places: (usize, usize), byte: u8) {
+    let part = part(bytes, places);
+    assert!(rt; part.is_some());
+    for each in part.unwrap_or(&[]) {
+        assert_eq!(rt; *each, byte);
+    }
+}
+
+/// Looks at whether the bytes between these places are the same in both.
+fn are_equal(rt: &impl Abort, bytes: &[u8], others: &[u8], places: (usize, usize)) {
+    let part_of_bytes = part(bytes, places);
+    assert!(rt; part_of_bytes.is_some());
+    assert_eq!(rt; part_of_bytes, part(others, places));
+}
+
+/// Looks at whether the volume in an image is clean.
+fn is_clean(rt: &impl Abort, alloc: Global, image: &[u8]) -> Result<(), Fail> {
+    let verdict = check(alloc, image)?;
+    assert_eq!(rt; matches!(verdict, Verdict::Clean(_)), true);
+    Ok(())
+}
 
 /// The reads that making a file takes on a new volume of 64 blocks of 1024: the root's inode, both maps, and the root's entries. In which
 /// order a call reads what it needs is the server's own choice; so is it here, and nothing else is.
 const READ: &str =
     "step 1\nstep 1\ndeliver 0\nstep 1\nstep 1\ndeliver 1\nstep 1\nstep 1\ndeliver 2\nstep 1\nstep 1\ndeliver 3";
 
-/// The transcript of these reads, with the open.
-const OPENED: [&str; 10] = [
+/// The transcript of these reads, with the first two calls.
+const HEARD: [&str; 11] = [
     "started 1.1",
     "issue 1 read 4096 1024 to 1.1",
     "answer 1 1024 from 1.1",
@@ -27,6 +63,7 @@ const OPENED: [&str; 10] = [
     "issue 4 read 6144 1024 to 1.1",
     "answer 4 1024 from 1.1",
     "reply 0 fd 0",
+    "reply 0 wrote 1024",
 ];
 
 /// Twenty pages are changed, and 25 blocks with what leads to them: under the setup's 64 frames nothing is written yet.
@@ -36,8 +73,18 @@ const FILLED: [&str; 3] = [
     READ,
 ];
 
-/// A page is filled.
-const WROTE: &str = "reply 0 wrote 1024";
+/// What it writes, in place of one page; and no call waits.
+const ALL_WROTE: [&str; 2] = ["reply 0 wrote 20480", "unanswered 0"];
+
+#[test]
+fn all_frames_are_used(rt: HostRuntime) -> Result<(), Fail> {
+    let alloc = rt.alloc();
+    let image = new_volume(alloc, 1024)?;
+    let mut wanted = Vec::new(alloc);
+    add_first(&mut wanted, &HEARD, 10)?;
+    wanted.extend_from_slice(&ALL_WROTE)?;
+    shows(alloc, image.as_slice(), &FILLED, wanted.as_slice(), 0)
+}
 
 /// The writes of what these calls changed: both maps, the inodes, the root's entries, the file's page.
 const CHANGED: [&str; 5] = [
@@ -84,8 +131,24 @@ const WRITTEN_AGAIN: [&str; 15] = [
     "unanswered 0",
 ];
 
-/// The first driver hangs when it has written half of a page.
-const HALF_WRITTEN: [&str; 7] = [
+#[test]
+fn a_page_that_changed_is_written_again(rt: HostRuntime) -> Result<(), Fail> {
+    let alloc = rt.alloc();
+    let image = new_volume(alloc, 1024)?;
+    let mut wanted = Vec::new(alloc);
+    wanted.extend_from_slice(&HEARD)?;
+    wanted.push("flush")?;
+    wanted.extend_from_slice(&CHANGED)?;
+    wanted.extend_from_slice(&WRITTEN_AGAIN)?;
+    shows(alloc, image.as_slice(), &REFILLED, wanted.as_slice(), 0)?;
+    let media = media_after(alloc, image.as_slice(), &REFILLED)?;
+    are_all(&rt, media.as_slice(), (7168, 8192), 0x32);
+    is_clean(&rt, alloc, media.as_slice())
+}
+
+/// The first driver hangs when it has written half of a page, the second one writes it, and later the same page with other bytes; then the
+/// first one goes on.
+const REVOKED: [&str; 19] = [
     "call 0 0 0 100 open /f rwc 644",
     "call 0 0 0 100 fill 0 1024 11",
     "call 0 0 0 100 sync",
@@ -93,10 +156,6 @@ const HALF_WRITTEN: [&str; 7] = [
     "step 1\nstep 1\ndeliver 4\nstep 1\nstep 1\ndeliver 5\nstep 1\nstep 1\ndeliver 6\nstep 1\nstep 1\ndeliver 7",
     "step 1",
     "hang 1",
-];
-
-/// The second one writes it, and later the same page with other bytes; then the first one goes on.
-const GONE_ON: [&str; 12] = [
     "tick\ntick\ntick",
     "tick",
     "step 2\nstep 2\ndeliver 8",
@@ -134,8 +193,33 @@ const REPLACED: [&str; 19] = [
     "unanswered 0",
 ];
 
+#[test]
+fn a_revoked_driver_writes_nothing(rt: HostRuntime) -> Result<(), Fail> {
+    let alloc = rt.alloc();
+    let image = new_volume(alloc, 1024)?;
+    let mut wanted = Vec::new(alloc);
+    wanted.extend_from_slice(&HEARD)?;
+    wanted.extend_from_slice(&CHANGED)?;
+    wanted.extend_from_slice(&REPLACED)?;
+    shows(alloc, image.as_slice(), &REVOKED, wanted.as_slice(), 0)?;
+    let media = media_after(alloc, image.as_slice(), &REVOKED)?;
+    are_all(&rt, media.as_slice(), (7168, 8192), 0x22);
+    is_clean(&rt, alloc, media.as_slice())
+}
+
+/// Half of the page was written, and of the first block all.
+#[test]
+fn a_driver_writes_a_sector_at_a_step(rt: HostRuntime) -> Result<(), Fail> {
+    let alloc = rt.alloc();
+    let image = new_volume(alloc, 1024)?;
+    let media = media_after(alloc, image.as_slice(), &REVOKED[..7])?;
+    are_all(&rt, media.as_slice(), (7168, 7680), 0x11);
+    are_all(&rt, media.as_slice(), (7680, 8192), 0);
+    Ok(())
+}
+
 /// The reads on a volume of 64 blocks of 2048, and the first sync's first two steps: its first request is for block 2.
-const TWO_STEPS: [&str; 8] = [
+const TORN: [&str; 9] = [
     "call 0 0 0 100 open /f rwc 644",
     "call 0 0 0 100 fill 0 2048 aa",
     "call 0 0 0 100 sync",
@@ -144,10 +228,8 @@ const TWO_STEPS: [&str; 8] = [
     "step 1\nstep 1\nstep 1\nstep 1\ndeliver 2",
     "step 1\nstep 1\nstep 1\nstep 1\ndeliver 3",
     "step 1\nstep 1",
+    "die 1 ee",
 ];
-
-/// The driver dies, and tears the sector that it was writing.
-const TORN: &str = "die 1 ee";
 
 /// The next driver writes all.
 const MENDED: [&str; 8] = [
@@ -195,128 +277,49 @@ const MENDING: [&str; 30] = [
     "reply 0 at 0",
 ];
 
-/// Schedules on a new volume of blocks of 1024, and their transcripts.
-const SHOWN: [(Lines, Lines); 3] = [
-    (
-        &[&FILLED],
-        &[&OPENED, &["reply 0 wrote 20480", "unanswered 0"]],
-    ),
-    // A page that changed is written again.
-    (
-        &[&REFILLED],
-        &[&OPENED, &[WROTE, "flush"], &CHANGED, &WRITTEN_AGAIN],
-    ),
-    // A revoked driver writes nothing.
-    (
-        &[&HALF_WRITTEN, &GONE_ON],
-        &[&OPENED, &[WROTE], &CHANGED, &REPLACED],
-    ),
-];
-
+/// A death tears the sector that was being written, and no other.
 #[test]
-fn runs_are_shown(rt: HostRuntime) -> Result<(), Fail> {
+fn a_sector_is_torn(rt: HostRuntime) -> Result<(), Fail> {
     let alloc = rt.alloc();
-    let image = new_volume(alloc, 1024)?;
-    for (lines, wanted) in SHOWN {
-        let schedule = text_of_all(alloc, lines)?;
-        let wanted = text_of_all(alloc, wanted)?;
-        let ran = run_text(alloc, image.as_slice(), schedule.as_slice())?;
-        gave(ran, 0, wanted.as_slice(), "")?;
-    }
+    let image = new_volume(alloc, 2048)?;
+    let media = media_after(alloc, image.as_slice(), &TORN)?;
+    are_all(&rt, media.as_slice(), (5120, 5632), 0xee);
+    are_equal(&rt, media.as_slice(), image.as_slice(), (0, 4096));
+    are_equal(&rt, media.as_slice(), image.as_slice(), (5632, 131072));
     Ok(())
 }
 
-/// The file's 2048 bytes are told, a pair of digits each.
+/// A death without bytes tears nothing: of the request's sectors those that were written before it are new.
+#[test]
+fn a_death_alone_tears_nothing(rt: HostRuntime) -> Result<(), Fail> {
+    let alloc = rt.alloc();
+    let image = new_volume(alloc, 2048)?;
+    let mut lines = Vec::new(alloc);
+    add_first(&mut lines, &TORN, 8)?;
+    lines.push("die 1")?;
+    let media = media_after(alloc, image.as_slice(), lines.as_slice())?;
+    are_equal(&rt, media.as_slice(), image.as_slice(), (0, 4096));
+    are_equal(&rt, media.as_slice(), image.as_slice(), (5120, 131072));
+    Ok(())
+}
+
 #[test]
 fn a_torn_sector_is_written_again(rt: HostRuntime) -> Result<(), Fail> {
     let alloc = rt.alloc();
     let image = new_volume(alloc, 2048)?;
-    let schedule = text_of_all(alloc, &[&TWO_STEPS, &[TORN], &MENDED])?;
-    let ran = run_text(alloc, image.as_slice(), schedule.as_slice())?;
-    let bytes = "aa".repeat(alloc, 2048)?;
-    let last = format!(in alloc; "reply 0 bytes {bytes}")?;
-    let wanted = text_of_all(alloc, &[&MENDING, &[last.as_str(), "unanswered 0"]])?;
+    let mut lines = Vec::new(alloc);
+    lines.extend_from_slice(&TORN)?;
+    lines.extend_from_slice(&MENDED)?;
+    let mut wanted = text_of(alloc, &MENDING)?;
+    wanted.extend_from_slice(b"reply 0 bytes ")?;
+    for _ in 0..4096 {
+        wanted.push(b'a')?;
+    }
+    wanted.extend_from_slice(b"\nunanswered 0\n")?;
+    let ran = run_on(alloc, image.as_slice(), lines.as_slice())?;
     gave(ran, 0, wanted.as_slice(), "")?;
-    Ok(())
-}
-
-/// A part of the media, from one byte on up to another: each is this one, or they are as they were.
-type Part = (usize, usize, Option<u8>);
-
-/// The size of a new volume's blocks, a schedule, what its media hold then, and whether their volume is clean.
-const MEDIA: [(usize, Lines, &[Part], bool); 6] = [
-    (1024, &[&REFILLED], &[(7168, 8192, Some(0x32))], true),
-    (
-        1024,
-        &[&HALF_WRITTEN, &GONE_ON],
-        &[(7168, 8192, Some(0x22))],
-        true,
-    ),
-    // Half of the page was written, and of the first block all: a driver writes a sector at a step.
-    (
-        1024,
-        &[&HALF_WRITTEN],
-        &[(7168, 7680, Some(0x11)), (7680, 8192, Some(0))],
-        false,
-    ),
-    // A death tears the sector that was being written, and no other.
-    (
-        2048,
-        &[&TWO_STEPS, &[TORN]],
-        &[
-            (5120, 5632, Some(0xee)),
-            (0, 4096, None),
-            (5632, 131072, None),
-        ],
-        false,
-    ),
-    // A death without bytes tears nothing: of the request's sectors those that were written before it are new.
-    (
-        2048,
-        &[&TWO_STEPS, &["die 1"]],
-        &[(0, 4096, None), (5120, 131072, None)],
-        false,
-    ),
-    // A torn sector is written again.
-    (
-        2048,
-        &[&TWO_STEPS, &[TORN], &MENDED],
-        &[(5120, 5632, Some(0xff)), (12288, 14336, Some(0xaa))],
-        true,
-    ),
-];
-
-/// Whether the media hold this part, where they were these bytes before.
-fn holds(media: &[u8], before: &[u8], part: &Part) -> bool {
-    let (from, to, byte) = *part;
-    match (media.get(from..to), byte) {
-        (Some(bytes), Some(byte)) => bytes.iter().all(|each| *each == byte),
-        (Some(bytes), None) => before.get(from..to) == Some(bytes),
-        (None, _) => false,
-    }
-}
-
-/// The media hold these parts.
-fn hold_all(rt: &impl Abort, media: &[u8], before: &[u8], parts: &[Part]) {
-    for part in parts {
-        assert!(rt; holds(media, before, part), "{} to {}", part.0, part.1);
-    }
-}
-
-/// Whether the volume in an image is clean.
-fn is_clean(alloc: Global, image: &[u8]) -> bool {
-    matches!(check(alloc, image), Ok(Verdict::Clean(_)))
-}
-
-#[test]
-fn media_hold_what_was_written(rt: HostRuntime) -> Result<(), Fail> {
-    let alloc = rt.alloc();
-    for (block, lines, parts, clean) in MEDIA {
-        let image = new_volume(alloc, block)?;
-        let schedule = text_of_all(alloc, lines)?;
-        let media = media_after(alloc, image.as_slice(), schedule.as_slice())?;
-        hold_all(&rt, media.as_slice(), image.as_slice(), parts);
-        assert!(rt; !clean || is_clean(alloc, media.as_slice()));
-    }
-    Ok(())
+    let media = media_after(alloc, image.as_slice(), lines.as_slice())?;
+    are_all(&rt, media.as_slice(), (5120, 5632), 0xff);
+    are_all(&rt, media.as_slice(), (12288, 14336), 0xaa);
+    is_clean(&rt, alloc, media.as_slice())
 }

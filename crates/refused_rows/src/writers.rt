@@ -1,9 +1,9 @@
 //! Writers that fail: what went out is a beginning of the transcript, and a line says so.
 
-use run_samples::runs::{Ran, gave, run_into, six};
+use run_samples::runs::{file, simulate, six, text_of};
 use samples::{new_volume, whole};
-use std::alloc::{AllocError, Global};
 use std::io::{self, ErrorKind, Write};
+use std::process::Abort;
 use std::test::Fail;
 
 /// A writer that takes up to 5 bytes at each of some calls, and fails at the next.
@@ -29,25 +29,11 @@ impl Write for Failing {
     }
 }
 
-/// A schedule.
-const CALL: &[u8] = b"call 0 0 0 100 stat /\n";
-
-/// What two writers take of its run, standard output at so many calls and standard error at others.
-fn ran_into(alloc: Global, image: &[u8], calls: u32, others: u32) -> Result<Ran, AllocError> {
-    let mut out = Failing {
-        calls,
-        taken: Vec::new(alloc),
-    };
-    let mut err = Failing {
-        calls: others,
-        taken: Vec::new(alloc),
-    };
-    let supply = six(alloc, image)?;
-    let (image, schedule) = (Some(image), Some(CALL));
-    let status = run_into(alloc, image, schedule, &whole(), supply, &mut out, &mut err);
-    let Failing { taken: out, .. } = out;
-    let Failing { taken: err, .. } = err;
-    Ok(Ran { status, out, err })
+/// Looks at what both writers took, and at the status.
+fn took(rt: &impl Abort, out: &Failing, err: &Failing, said: (&str, &str), status: u8, number: u8) {
+    assert_eq!(rt; out.taken.as_slice(), said.0.as_bytes());
+    assert_eq!(rt; err.taken.as_slice(), said.1.as_bytes());
+    assert_eq!(rt; status, number);
 }
 
 /// The transcript has lines of 12, 30 and 13 bytes, which take 3, 6 and 3 calls; the line on the other writer has 29, which take 6.
@@ -80,10 +66,25 @@ const ROWS: [(u32, u32, &str, &str, u8); 6] = [
 
 #[test]
 fn writers_fail(rt: HostRuntime) -> Result<(), Fail> {
-    let image = new_volume(rt.alloc(), 1024)?;
-    for (calls, others, text, line, status) in ROWS {
-        let ran = ran_into(rt.alloc(), image.as_slice(), calls, others)?;
-        gave(ran, status, text.as_bytes(), line)?;
+    let alloc = rt.alloc();
+    let image = new_volume(alloc, 1024)?;
+    let schedule = text_of(alloc, &["call 0 0 0 100 stat /"])?;
+    for (calls, more, text, line, number) in ROWS {
+        let mut out = Failing {
+            calls,
+            taken: Vec::new(alloc),
+        };
+        let mut err = Failing {
+            calls: more,
+            taken: Vec::new(alloc),
+        };
+        let supply = six(alloc, image.as_slice())?;
+        let (image, schedule) = (
+            file("v.img", Some(image.as_slice())),
+            file("s.txt", Some(schedule.as_slice())),
+        );
+        let status = simulate(alloc, image, schedule, &whole(), supply, &mut out, &mut err);
+        took(&rt, &out, &err, (text, line), status.number(), number);
     }
     Ok(())
 }
