@@ -57,7 +57,7 @@ fn replies_of(alloc: Global, sessions: &[Session]) -> Result<String, AllocError>
 fn played<R: Wait + Copy>(
     alloc: Global,
     rt: R,
-    image: &[u8],
+    image: Vec<u8>,
     sessions: &[Session],
 ) -> Result<Played, AllocError> {
     let mut texts = Vec::new(alloc);
@@ -69,7 +69,7 @@ fn played<R: Wait + Copy>(
         scripts.push(Some(text.as_bytes()))?;
     }
     scripts.push(Some(READS.as_bytes()))?;
-    Play::new(image, scripts.as_slice()).played(alloc, rt)
+    Play::new(image.as_slice(), scripts.as_slice()).played(alloc, rt)
 }
 
 /// What stands on standard output behind this text.
@@ -84,9 +84,9 @@ fn behind<'p>(played: &'p Played, text: &str) -> Option<&'p str> {
 /// replies are the table's, both servers read the same of the volume, and the image is clean, has the table's bytes, and stays. It is an
 /// error where that isn't so.
 pub fn is_played<R: Wait + Copy>(alloc: Global, rt: R, table: &Table) -> Result<(), Fail> {
-    let volume = new_volume(alloc, 1024)?;
-    let first = played(alloc, rt, volume.as_slice(), table.0)?;
-    let second = played(alloc, rt, first.left(), table.1)?;
+    let first = played(alloc, rt, new_volume(alloc, 1024)?, table.0)?;
+    let left = Vec::from_slice(alloc, first.left())?;
+    let second = played(alloc, rt, left, table.1)?;
     let replies = replies_of(alloc, table.0)?;
     let later = replies_of(alloc, table.1)?;
     let read = behind(&first, replies.as_str());
