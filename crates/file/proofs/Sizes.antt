@@ -2,7 +2,7 @@
 use Rattle.std.proofs.Common.{◌≡◌, ◌<◌, ◌≤◌, ◌+◌, ◌-◌, ◌*◌, ◌/◌, ◌%◌, ℕ, ap, ◌∙◌, arith}
 use mathlib.Core.Logic.{inl, inr}
 use Rattle.std.proofs.lemmas.Bool.{cases_lt}
-use Rattle.std.proofs.lemmas.Nat.{div-add-mod', div-mul-add, mod-mul-add, le-div}
+use Rattle.std.proofs.lemmas.Nat.{div-add-mod', div-mul-add, mod-mul-add, div_below, le-div, mod_below}
 use Rattle.std.proofs.Math.Nat.{div-mul-le_self, mul-le-mul_right}
 
 module _ (w : ℕ) (wide : 0 < w) where
@@ -38,6 +38,25 @@ module _ (w : ℕ) (wide : 0 < w) where
     | inl l ↦ l
     | inr far ↦ let up : p ≤ q / w = le-div p q w wide far in absurd (omega arith)
   ]
+
+  -- some pages from that of a place on end behind it
+  pub row_reaches : (at many : ℕ) → 0 < many → at % w < many * w
+  row_reaches at many some =
+      let one : 1 * w ≤ many * w = mul-le-mul_right {m = 1} {n = many} w some in
+      let low = mod_below at w wide in
+      omega (arith, one, low)
+
+  -- a place behind is on a page behind, or on the same
+  pub pages_rise : (at done : ℕ) → at / w ≤ (at + done) / w
+  pages_rise at done = le-div (at / w) (at + done) w wide (let b = page_begins at in omega (arith, b))
+
+  -- and on one of these pages, where it is before their end
+  pub page_in_row : (at many done end : ℕ) → 0 < many → at % w + end ≤ many * w → done < end → (at + done) / w - at / w < many
+  page_in_row at many done end some within low =
+      let whole = div-add-mod' at w in
+      let sum : (at / w + many) * w ≡ at / w * w + many * w = omega arith in
+      let below = div_below (at + done) w (at / w + many) wide (omega (arith, whole, sum, within, low)) in
+      omega (arith, below, some)
 
   -- a byte past the end, in a page that begins before it, is on the last page, behind its last byte
   module _ (size q : ℕ) (past : size ≤ q) (before : q / w * w < size) where

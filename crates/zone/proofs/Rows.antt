@@ -1,0 +1,53 @@
+-- Numbers of a block side by side, and the zones of pages that they are.
+use Rattle.std.proofs.Common.{◌≡◌, ◌≢◌, ◌<◌, ◌≤◌, ◌+◌, ◌-◌, ◌*◌, ◌/◌, ◌%◌, ℕ, List, length, ◌++◌, false, sym, ap, ◌∙◌, arith}
+use Rattle.std.specs.Prelude.{IsTrue, slice_index, slice_set}
+use Rattle.std.proofs.lemmas.List.{get_or-set_same}
+use Rattle.std.proofs.lemmas.Nat.{div-add-mod', div-mul-add, mod-mul-add}
+use Rattle.std.proofs.Math.ListN.{get_or-append}
+use Rattle.layout.specs.declared.Geometry.{Geometry}
+use Rattle.layout.specs.Places.{IsGeometry}
+use Rattle.volume.specs.tree.Space.{numbers_in_zone}
+use Rattle.volume.specs.declared.Inode.{Inode}
+use Rattle.volume.specs.Reading.{Disk, is_data_zone, u32_in}
+use Rattle.volume.specs.Pieces.{Pieces, pieces}
+use Rattle.volume.specs.Nodes.{number, page_zone}
+use Rattle.volume.specs.Places.{zone_at}
+use Rattle.zone_laws.specs.Steps.{first_places}
+use Rattle.zone.specs.Parts.{HasNumbers, HasZones}
+use Rattle.zone.specs.Words.{HasWords}
+use Rattle.zone.proofs.Frames.{number_outside, number_inside}
+use Rattle.zone.proofs.Levels.{found_outer}
+
+-- the numbers in a block's bytes are the block's
+pub numbers_inside : (g : Geometry) → IsGeometry g → (d : Disk) (z from : ℕ) (bytes words : List ℕ) → IsTrue (is_data_zone g z) → d z ≡ slice_index bytes
+    → HasWords from words bytes → HasNumbers (pieces g d) z from words
+numbers_inside g ok d z from bytes words is shown h =
+    λ k low. h k low ∙ sym (number_inside g ok d z (from + k) is ∙ ap (λ (f : ℕ → ℕ). u32_in f (4 * (from + k))) shown)
+
+-- outside the data zones there are none
+pub numbers_outside : (g : Geometry) (d : Disk) (z from : ℕ) (words : List ℕ) → is_data_zone g z ≡ false → ((k : ℕ) → k < length words → slice_index words k ≡ 0)
+    → HasNumbers (pieces g d) z from words
+numbers_outside g d z from words not zeros = λ k low. zeros k low ∙ number_outside g d z (from + k) not
+
+-- a page alone
+pub one_zone : (g : Geometry) (v : Pieces) (i : Inode) (page z : ℕ) (old : List ℕ) → 0 < length old → z ≡ page_zone g v i page → HasZones g v i page 1 (slice_set old 0 z)
+one_zone g v i page z old some is = λ k low.
+    let here : k ≡ 0 = omega (arith, low) in
+    let same : page ≡ page + k = omega (arith, here) in
+    ap (slice_index (slice_set old 0 z)) here ∙ get_or-set_same old 0 z 0 some ∙ is ∙ ap (page_zone g v i) same
+
+-- the pages that one block names
+pub row_found : (g : Geometry) (v : Pieces) (i : Inode) (page f w block count : ℕ) (new rest : List ℕ) → 0 < numbers_in_zone g → f ≡ first_places 0 → w ≡ numbers_in_zone g → f ≤ page
+    → (page - f) % w + count ≤ w → length new ≡ count → block ≡ zone_at g v i 1 ((page - f) / w) → HasNumbers v block ((page - f) % w) new
+    → HasZones g v i page count (new ++ rest)
+row_found g v i page f w block count new rest sized first wide far within many up has = λ k low.
+    let whole = div-add-mod' (page - f) w in
+    let few : k < length new = omega (arith, many, low) in
+    let inner : (page - f) % w + k < w = omega (arith, within, low) in
+    let spot : page + k - f ≡ (page - f) / w * w + ((page - f) % w + k) = omega (arith, whole, far) in
+    let above : (page + k - f) / w ≡ (page - f) / w = ap (λ x. x / w) spot ∙ div-mul-add ((page - f) / w) w ((page - f) % w + k) inner in
+    let beside : (page + k - f) % w ≡ (page - f) % w + k = ap (λ x. x % w) spot ∙ mod-mul-add ((page - f) / w) w ((page - f) % w + k) inner in
+    let differs : 0 ≢ 3 = λ e. absurd (omega (arith, e)) in
+    get_or-append new rest 0 k few
+    ∙ found_outer g v i 0 (page + k) f w block (slice_index new k) sized (omega arith) differs first wide (omega (arith, far))
+    (up ∙ sym (ap (zone_at g v i 1) above)) (has k few ∙ sym (ap (number v block) beside))
