@@ -182,8 +182,8 @@ fn write_held<B: Blocks>(
         let place = at as usize + done;
         let from = place % width;
         let end = bytes.len().min(done + width - from);
-        let zone = zones[place / width - first];
-        write_page(blocks, geometry, zone, from, &bytes[done..end])?;
+        let index = place / width - first;
+        write_page(blocks, geometry, zones[index], from, &bytes[done..end])?;
         done = end;
     }
     Ok(())
@@ -215,11 +215,13 @@ fn write_row<B: Blocks>(
     let width = geometry.block_size as usize;
     let from = at as usize % width;
     if held == 0 {
-        let count = bytes.len().min(found * width - from);
+        let room = found * width - from;
+        let count = bytes.len().min(room);
         write_chunks(blocks, geometry, number, at, &bytes[..count])?;
         return Ok(count);
     }
-    let count = bytes.len().min(held * width - from);
+    let room = held * width - from;
+    let count = bytes.len().min(room);
     write_held(blocks, geometry, &zones[..held], at, &bytes[..count])?;
     Ok(count)
 }

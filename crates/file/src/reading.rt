@@ -60,14 +60,15 @@ fn read_row<B: Blocks>(
     let found = find_row(blocks, geometry, inode, at, into.len(), &mut zones)?;
     let width = geometry.block_size as usize;
     let first = at as usize / width;
-    let count = into.len().min(found * width - at as usize % width);
+    let room = found * width - at as usize % width;
+    let count = into.len().min(room);
     let mut done = 0;
     while done < count {
         let place = at as usize + done;
         let from = place % width;
         let end = count.min(done + width - from);
-        let zone = zones[place / width - first];
-        read_page(blocks, geometry, zone, from, &mut into[done..end])?;
+        let index = place / width - first;
+        read_page(blocks, geometry, zones[index], from, &mut into[done..end])?;
         done = end;
     }
     Ok(count)

@@ -1,8 +1,20 @@
 use Rattle.std.proofs.Common.{rules, ◌≡◌, ◌≢◌, ◌<◌, ◌≤◌, ◌/◌, ℕ, length, take, arith}
 use Rattle.std.specs.Prelude.{slice_index}
 use Rattle.store.proofs.Ending.{ends_exit, turns_three}
+use Rattle.file.proofs.Rest.{wide}
+use Rattle.file.proofs.Sizes.{row_reaches, row_room}
 use Rattle.file.proofs.HeldRow.{row_held, first_written, may_write_first}
 use Rattle.file.proofs.changing.write_row.Goals as goal
+
+pub overflow_mul-room : goal.overflow_mul-room
+overflow_mul-room g c =
+    let few : c.in_ok-found.found ≤ 16 = c.in_ok-found.ensures.some.1 in
+    row_room c.args.geometry.now.block_size (wide c.args.geometry.now c.requires.on.geometry) c.in_ok-found.found few (omega arith)
+
+pub overflow_sub-room : goal.overflow_sub-room
+overflow_sub-room g c =
+    let reach = row_reaches c.args.geometry.now.block_size (wide c.args.geometry.now c.requires.on.geometry) c.args.at c.in_ok-found.found c.in_ok-found.ensures.some.0 in
+    omega (arith, reach)
 
 pub returns-in_err-write_chunks-clause-turns : goal.returns-in_err-write_chunks-clause-turns
 returns-in_err-write_chunks-clause-turns g c =
