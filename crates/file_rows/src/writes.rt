@@ -149,7 +149,7 @@ fn over_the_end_of_the_direct_range(rt: HostRuntime) -> Result<(), Fail> {
 
 /// Whether a read gives these bytes, all of them; the second slice is as long.
 fn has_bytes(volume: &mut Volume, at: u32, bytes: &[u8], into: &mut [u8]) -> bool {
-    volume.read(at, into) == Ok(bytes.len()) && into == bytes
+    volume.read(at, into) == Ok(bytes.len()) && &into[..] == bytes
 }
 
 #[test]
