@@ -1,9 +1,9 @@
 -- Numbers of a block side by side, and the zones of pages that they are.
 use Rattle.std.proofs.Common.{◌≡◌, ◌≢◌, ◌<◌, ◌≤◌, ◌+◌, ◌-◌, ◌*◌, ◌/◌, ◌%◌, ℕ, List, length, ◌++◌, false, sym, ap, ◌∙◌, arith}
-use Rattle.std.specs.Prelude.{IsTrue, slice_index, slice_set}
-use Rattle.std.proofs.lemmas.List.{get_or-set_same}
+use Rattle.std.specs.Prelude.{IsTrue, slice_index}
+use Rattle.std.proofs.lemmas.List.{get_or-take, get_or-drop}
 use Rattle.std.proofs.lemmas.Nat.{div-add-mod', div-mul-add, mod-mul-add}
-use Rattle.std.proofs.Math.ListN.{get_or-append}
+use Rattle.std.proofs.Math.ListN.{get_or-append, take, drop, length-take, length-drop}
 use Rattle.layout.specs.declared.Geometry.{Geometry}
 use Rattle.layout.specs.Places.{IsGeometry}
 use Rattle.volume.specs.tree.Space.{numbers_in_zone}
@@ -16,7 +16,7 @@ use Rattle.zone_laws.specs.Steps.{first_places}
 use Rattle.zone.specs.Parts.{HasNumbers, HasZones}
 use Rattle.zone.specs.Words.{HasWords}
 use Rattle.zone.proofs.Frames.{number_outside, number_inside}
-use Rattle.zone.proofs.Levels.{found_outer}
+use Rattle.zone.proofs.Levels.{zone_inner, found_outer}
 
 -- the numbers in a block's bytes are the block's
 pub numbers_inside : (g : Geometry) → IsGeometry g → (d : Disk) (z from : ℕ) (bytes words : List ℕ) → IsTrue (is_data_zone g z) → d z ≡ slice_index bytes
@@ -29,12 +29,16 @@ pub numbers_outside : (g : Geometry) (d : Disk) (z from : ℕ) (words : List ℕ
     → HasNumbers (pieces g d) z from words
 numbers_outside g d z from words not zeros = λ k low. zeros k low ∙ number_outside g d z (from + k) not
 
--- a page alone
-pub one_zone : (g : Geometry) (v : Pieces) (i : Inode) (page z : ℕ) (old : List ℕ) → 0 < length old → z ≡ page_zone g v i page → HasZones g v i page 1 (slice_set old 0 z)
-one_zone g v i page z old some is = λ k low.
-    let here : k ≡ 0 = omega (arith, low) in
-    let same : page ≡ page + k = omega (arith, here) in
-    ap (slice_index (slice_set old 0 z)) here ∙ get_or-set_same old 0 z 0 some ∙ is ∙ ap (page_zone g v i) same
+-- pages of the direct range
+pub direct_row : (g : Geometry) (v : Pieces) (i : Inode) (page count : ℕ) (rest : List ℕ) → length i.zones ≡ 10 → page + count ≤ 7
+    → HasZones g v i page count (take count (drop page i.zones) ++ rest)
+direct_row g v i page count rest ten within = λ k low.
+    let many = length-take count (drop page i.zones) in
+    let behind = length-drop page i.zones in
+    let few : k < length (take count (drop page i.zones)) = omega (arith, many, behind, ten, within, low) in
+    let near : page + k < 7 = omega (arith, within, low) in
+    get_or-append (take count (drop page i.zones)) rest 0 k few ∙ get_or-take count (drop page i.zones) k 0 low ∙ get_or-drop page i.zones k 0
+    ∙ sym (zone_inner g v i 0 (page + k) (omega arith) near)
 
 -- the pages that one block names
 pub row_found : (g : Geometry) (v : Pieces) (i : Inode) (page f w block count : ℕ) (new rest : List ℕ) → 0 < numbers_in_zone g → f ≡ first_places 0 → w ≡ numbers_in_zone g → f ≤ page

@@ -76,8 +76,9 @@ pub fn lookup<B: Blocks>(
 }
 
 /// Fills the slice with the zones of pages that stand side by side, from this one on, and says of how many: at least of this one, at
-/// most of as many as the slice is long. A page of the direct range comes alone; any other one comes with those behind it that its own
-/// indirect block names, with one look-up of that block. Where the call is cut, nothing is said of what the slice holds.
+/// most of as many as the slice is long. A page of the direct range comes with those behind it in that range; any other one comes with
+/// those behind it that its own indirect block names, with one look-up of that block. Where the call is cut, nothing is said of what the
+/// slice holds.
 pub fn lookup_row<B: Blocks>(
     blocks: &mut B,
     geometry: &Geometry,
@@ -94,9 +95,10 @@ pub fn lookup_row<B: Blocks>(
 {
     let first = first_places(0);
     if page < first {
-        let zone = lookup(blocks, geometry, inode, page)?;
-        into[0] = zone;
-        return Ok(1);
+        let start = page as usize;
+        let count = into.len().min(first as usize - start);
+        into[..count].copy_from_slice(&inode.zones[start..start + count]);
+        return Ok(count);
     }
     let width = numbers_in_zone(geometry);
     let past = page - first;

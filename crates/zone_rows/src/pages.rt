@@ -148,8 +148,8 @@ fn zones_side_by_side(rt: HostRuntime) -> Result<(), Fail> {
     // a zone each, but the single's block in 7, before page 7, and the double's in 11 and 12, before page 263
     assert!(rt; volume.attaches(&[6, 7, 9, 262, 263]));
     let rows: [(u32, &[u32]); 10] = [
-        (0, &[0]),
-        (6, &[6]),
+        (0, &[0, 0, 0, 0]),
+        (5, &[0, 6]),
         (7, &[8, 0, 9, 0]),
         (8, &[0, 9, 0, 0]),
         (261, &[0, 10]),

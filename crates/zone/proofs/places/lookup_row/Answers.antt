@@ -1,15 +1,17 @@
 use Rattle.std.proofs.Common.{rules, ◌≡◌, ◌<◌, ◌≤◌, ◌+◌, ◌-◌, ◌%◌, length, drop, arith}
 use Rattle.volume.specs.Pieces.{pieces}
 use Rattle.zone_laws.proofs.volume_laws.Volumes.{numbers_sized}
-use Rattle.store.proofs.Turns.{reads_as, reads_then}
-use Rattle.zone.proofs.Rows.{one_zone, row_found}
+use Rattle.store.proofs.Turns.{reads_none, reads_then}
+use Rattle.zone.proofs.Rows.{direct_row, row_found}
 use Rattle.zone.proofs.places.lookup_row.Goals as goal
 
 pub returns-then-page-first-clause-reads : goal.returns-then-page-first-clause-reads
 returns-then-page-first-clause-reads g c =
     let a = c.args in
-    reads_as _ _ _ _ _ (λ d p. one_zone a.geometry.now (pieces a.geometry.now d) a.inode.now a.page c.in_ok-zone.zone a.into.now c.requires.some p)
-    c.in_ok-zone.ensures.reads
+    let n = c.min-count.result in
+    let within : a.page + n ≤ 7 = omega arith in
+    reads_none _ g.met.B.Blocks.lawful _ _ c.requires.on.ready
+    (λ d. direct_row a.geometry.now (pieces a.geometry.now d) a.inode.now a.page n (drop n a.into.now) (search rules) within)
 
 pub returns-clause-reads : goal.returns-clause-reads
 returns-clause-reads g c =
