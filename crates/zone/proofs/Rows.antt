@@ -30,14 +30,16 @@ pub numbers_outside : (g : Geometry) (d : Disk) (z from : ℕ) (words : List ℕ
 numbers_outside g d z from words not zeros = λ k low. zeros k low ∙ number_outside g d z (from + k) not
 
 -- pages of the direct range
-pub direct_row : (g : Geometry) (v : Pieces) (i : Inode) (page count : ℕ) (rest : List ℕ) → length i.zones ≡ 10 → page + count ≤ 7
-    → HasZones g v i page count (take count (drop page i.zones) ++ rest)
-direct_row g v i page count rest ten within = λ k low.
-    let many = length-take count (drop page i.zones) in
+pub direct_row : (g : Geometry) (v : Pieces) (i : Inode) (page count many : ℕ) (new rest : List ℕ) → length i.zones ≡ 10 → page + count ≤ 7 → many ≡ count
+    → new ≡ take many (drop page i.zones) → HasZones g v i page count (new ++ rest)
+direct_row g v i page count many new rest ten within same is = λ k low.
+    let front = length-take many (drop page i.zones) in
     let behind = length-drop page i.zones in
-    let few : k < length (take count (drop page i.zones)) = omega (arith, many, behind, ten, within, low) in
+    let size : length new ≡ length (take many (drop page i.zones)) = ap length is in
+    let few : k < length new = omega (arith, front, behind, size, ten, within, same, low) in
+    let inner : k < many = omega (arith, same, low) in
     let near : page + k < 7 = omega (arith, within, low) in
-    get_or-append (take count (drop page i.zones)) rest 0 k few ∙ get_or-take count (drop page i.zones) k 0 low ∙ get_or-drop page i.zones k 0
+    get_or-append new rest 0 k few ∙ ap (λ row. slice_index row k) is ∙ get_or-take many (drop page i.zones) k 0 inner ∙ get_or-drop page i.zones k 0
     ∙ sym (zone_inner g v i 0 (page + k) (omega arith) near)
 
 -- the pages that one block names

@@ -9,9 +9,12 @@ pub returns-then-page-first-clause-reads : goal.returns-then-page-first-clause-r
 returns-then-page-first-clause-reads g c =
     let a = c.args in
     let n = c.min-count.result in
+    let ten : length a.inode.now.zones ≡ 10 = search rules in
     let within : a.page + n ≤ 7 = omega arith in
+    let same : a.page + n - a.page ≡ n = omega arith in
     reads_none _ g.met.B.Blocks.lawful _ _ c.requires.on.ready
-    (λ d. direct_row a.geometry.now (pieces a.geometry.now d) a.inode.now a.page n (drop n a.into.now) (search rules) within)
+    (λ d. direct_row a.geometry.now (pieces a.geometry.now d) a.inode.now a.page n (a.page + n - a.page) c.copy_from_slice.new.self (drop n a.into.now) ten within same
+    c.copy_from_slice.ensures.after)
 
 pub returns-clause-reads : goal.returns-clause-reads
 returns-clause-reads g c =
