@@ -1,4 +1,4 @@
-use Rattle.std.proofs.Common.{rules, ◌≡◌, ◌≢◌, ◌<◌, ◌≤◌, ◌/◌, ℕ, length, take, arith}
+use Rattle.std.proofs.Common.{rules, ◌≡◌, ◌≢◌, ◌<◌, ◌≤◌, ◌*◌, ◌/◌, ℕ, length, take, length-take, ap, arith}
 use Rattle.std.specs.Prelude.{slice_index}
 use Rattle.store.proofs.Ending.{ends_exit, turns_three}
 use Rattle.file.proofs.Rest.{wide}
@@ -15,6 +15,27 @@ pub overflow_sub-room : goal.overflow_sub-room
 overflow_sub-room g c =
     let reach = row_reaches c.args.geometry.now.block_size (wide c.args.geometry.now c.requires.on.geometry) c.args.at c.in_ok-found.found c.in_ok-found.ensures.some.0 in
     omega (arith, reach)
+
+pub write_chunks-requires-clause-some : goal.write_chunks-requires-clause-some
+write_chunks-requires-clause-some g c =
+    let reach = row_reaches c.args.geometry.now.block_size (wide c.args.geometry.now c.requires.on.geometry) c.args.at c.in_ok-found.found c.in_ok-found.ensures.some.0 in
+    let part = length-take c.min-count.result c.args.bytes.now in
+    omega (arith, reach, part)
+
+pub write_chunks-requires-clause-end : goal.write_chunks-requires-clause-end
+write_chunks-requires-clause-end g c = let part = length-take c.min-count.result c.args.bytes.now in omega (arith, part)
+
+pub write_held-requires-clause-pages : goal.write_held-requires-clause-pages
+write_held-requires-clause-pages g c =
+    let w = c.args.geometry.now.block_size in
+    let held = c.held_before-held.result in
+    let some : 0 < held = omega arith in
+    let reach = row_reaches w (wide c.args.geometry.now c.requires.on.geometry) c.args.at held some in
+    let part = length-take c.min-count-2.result c.args.bytes.now in
+    let row = length-take held c.find_row.new.zones in
+    let same : length (take held c.find_row.new.zones) ≡ held = omega (arith, row) in
+    let product = ap (λ n. n * w) same in
+    omega (arith, reach, part, product)
 
 pub returns-in_err-write_chunks-clause-turns : goal.returns-in_err-write_chunks-clause-turns
 returns-in_err-write_chunks-clause-turns g c =
