@@ -53,7 +53,6 @@ row_found g v i page f w block count new rest sized first wide far within many u
     let spot : page + k - f ≡ (page - f) / w * w + ((page - f) % w + k) = omega (arith, whole, far) in
     let above : (page + k - f) / w ≡ (page - f) / w = ap (λ x. x / w) spot ∙ div-mul-add ((page - f) / w) w ((page - f) % w + k) inner in
     let beside : (page + k - f) % w ≡ (page - f) % w + k = ap (λ x. x % w) spot ∙ mod-mul-add ((page - f) / w) w ((page - f) % w + k) inner in
-    let differs : 0 ≢ 3 = λ e. absurd (omega (arith, e)) in
     get_or-append new rest 0 k few
-    ∙ found_outer g v i 0 (page + k) f w block (slice_index new k) sized (omega arith) differs first wide (omega (arith, far))
+    ∙ found_outer g v i 0 (page + k) f w block (slice_index new k) sized (omega arith) (λ e. absurd (omega (arith, e))) first wide (omega (arith, far))
     (up ∙ sym (ap (zone_at g v i 1) above)) (has k few ∙ sym (ap (number v block) beside))

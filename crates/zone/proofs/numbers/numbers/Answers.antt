@@ -5,8 +5,8 @@ use Rattle.store.proofs.Turns.{turns_as, turns_seen, reads_none}
 use Rattle.zone.proofs.Rows.{numbers_inside, numbers_outside}
 use Rattle.zone.proofs.numbers.numbers.Goals as goal
 
-pub returns-then-is_data_zone-clause-reads : goal.returns-then-is_data_zone-clause-reads
-returns-then-is_data_zone-clause-reads g c =
+pub returns-then-not-is_data_zone-clause-reads : goal.returns-then-not-is_data_zone-clause-reads
+returns-then-not-is_data_zone-clause-reads g c =
     let a = c.args in
     let not : is_data_zone a.geometry.now a.zone ≡ false = search rules in
     let zeros : (k : ℕ) → k < length c.fill.new.self → slice_index c.fill.new.self k ≡ 0 = search rules in
