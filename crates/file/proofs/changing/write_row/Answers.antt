@@ -9,7 +9,8 @@ use Rattle.file.proofs.changing.write_row.Goals as goal
 pub overflow_mul-room : goal.overflow_mul-room
 overflow_mul-room g c =
     let few : c.in_ok-found.found ≤ 16 = c.in_ok-found.ensures.some.1 in
-    row_room c.args.geometry.now.block_size (wide c.args.geometry.now c.requires.on.geometry) c.in_ok-found.found few (omega arith)
+    let fits = row_room c.args.geometry.now.block_size (wide c.args.geometry.now c.requires.on.geometry) c.in_ok-found.found few (omega arith) in
+    omega (arith, fits)
 
 pub overflow_sub-room : goal.overflow_sub-room
 overflow_sub-room g c =
@@ -33,7 +34,9 @@ write_held-requires-clause-pages g c =
     let reach = row_reaches w (wide c.args.geometry.now c.requires.on.geometry) c.args.at held some in
     let part = length-take c.min-count-2.result c.args.bytes.now in
     let row = length-take held c.find_row.new.zones in
-    let same : length (take held c.find_row.new.zones) ≡ held = omega (arith, row) in
+    let few : held ≤ c.in_ok-found.found = search rules in
+    let within : c.in_ok-found.found ≤ length c.find_row.new.zones = search rules in
+    let same : length (take held c.find_row.new.zones) ≡ held = omega (arith, row, few, within) in
     let product = ap (λ n. n * w) same in
     omega (arith, reach, part, product)
 

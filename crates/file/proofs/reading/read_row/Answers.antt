@@ -1,6 +1,6 @@
 use Rattle.std.proofs.Common.{rules, ◌≡◌, ◌<◌, ◌≤◌, ◌+◌, ◌-◌, ◌/◌, ◌%◌, length, arith, refl, ◌∙◌}
 use Rattle.store.specs.volume.Pieces.{pieces}
-use Rattle.store.proofs.Turns.{reads_as, reads_then}
+use Rattle.store.proofs.Turns.{reads_as, reads_then, if_cut}
 use Rattle.file.proofs.Parts.{length_kept}
 use Rattle.file.proofs.Rest.{wide}
 use Rattle.file.proofs.Sizes.{row_reaches, row_room, pages_rise, in_row}
@@ -10,7 +10,8 @@ use Rattle.file.proofs.reading.read_row.Goals as goal
 pub overflow_mul-room : goal.overflow_mul-room
 overflow_mul-room g c =
     let few : c.in_ok-found.found ≤ 16 = c.in_ok-found.ensures.some.1 in
-    row_room c.args.geometry.now.block_size (wide c.args.geometry.now c.requires.on.geometry) c.in_ok-found.found few (omega arith)
+    let fits = row_room c.args.geometry.now.block_size (wide c.args.geometry.now c.requires.on.geometry) c.in_ok-found.found few (omega arith) in
+    omega (arith, fits)
 
 pub overflow_sub-room : goal.overflow_sub-room
 overflow_sub-room g c =
@@ -59,6 +60,11 @@ loop-done-preserved g c =
       many = length_kept l.done (e - l.done) l.into c.read_page.new.into (omega (arith, up, room)) many ∙ l.invariant.many;
       done = low;
     }
+
+pub returns-in_err-read_page-clause-reads : goal.returns-in_err-read_page-clause-reads
+returns-in_err-read_page-clause-reads g c =
+    reads_then _ g.met.B.Blocks.lawful _ _ _ _ _ _ (λ d p q. if_cut c.from_residual-in_err-read_page.result _ c.from_residual-in_err-read_page.ensures.0)
+    c.loop-done.invariant.reads c.in_err-read_page.ensures.reads
 
 pub returns-clause-reads : goal.returns-clause-reads
 returns-clause-reads g c =
