@@ -1,11 +1,10 @@
 -- Bytes are written into pages that are held, whose zones stand in a row.
 use Rattle.std.proofs.Common.{◌≡◌, ◌≢◌, ◌<◌, ◌≤◌, ◌+◌, ◌-◌, ◌/◌, ◌%◌, ℕ, List, length, true, refl, sym, ap, subst, ◌∙◌, arith}
-use Rattle.std.specs.Prelude.{not, ◌==◌, slice_index}
+use Rattle.std.specs.Prelude.{not, slice_index}
 use Rattle.std.proofs.lemmas.Bool.{ne_eqb}
 use Rattle.std.proofs.lemmas.List.{get_or-take, take-append-drop}
 use Rattle.std.proofs.Math.ListN.{take, drop, length-take, length-drop}
 use Rattle.layout.specs.declared.Geometry.{Geometry}
-use Rattle.store.specs.tree.Tree.{File}
 use Rattle.store.specs.tree.Sums.{put}
 use Rattle.store.specs.tree.Space.{numbers_in_zone}
 use Rattle.store.specs.tree.ZonesNeeded.{zones_needed}

@@ -1,5 +1,5 @@
 -- Numbers of a block side by side, and the zones of pages that they are.
-use Rattle.std.proofs.Common.{◌≡◌, ◌≢◌, ◌<◌, ◌≤◌, ◌+◌, ◌-◌, ◌*◌, ◌/◌, ◌%◌, ℕ, List, length, ◌++◌, false, sym, ap, ◌∙◌, arith}
+use Rattle.std.proofs.Common.{◌≡◌, ◌<◌, ◌≤◌, ◌+◌, ◌-◌, ◌*◌, ◌/◌, ◌%◌, ℕ, List, length, ◌++◌, false, sym, ap, ◌∙◌, arith}
 use Rattle.std.specs.Prelude.{IsTrue, slice_index}
 use Rattle.std.proofs.lemmas.List.{get_or-take, get_or-drop}
 use Rattle.std.proofs.lemmas.Nat.{div-add-mod', div-mul-add, mod-mul-add}
@@ -10,7 +10,7 @@ use Rattle.volume.specs.tree.Space.{numbers_in_zone}
 use Rattle.volume.specs.declared.Inode.{Inode}
 use Rattle.volume.specs.Reading.{Disk, is_data_zone, u32_in}
 use Rattle.volume.specs.Pieces.{Pieces, pieces}
-use Rattle.volume.specs.Nodes.{number, page_zone}
+use Rattle.volume.specs.Nodes.{number}
 use Rattle.volume.specs.Places.{zone_at}
 use Rattle.zone_laws.specs.Steps.{first_places}
 use Rattle.zone.specs.Parts.{HasNumbers, HasZones}

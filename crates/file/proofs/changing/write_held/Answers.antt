@@ -1,4 +1,4 @@
-use Rattle.std.proofs.Common.{rules, ◌<◌, ◌≤◌, ◌+◌, ◌-◌, ◌*◌, ◌/◌, ◌%◌, length, arith}
+use Rattle.std.proofs.Common.{rules, ◌<◌, ◌≤◌, ◌+◌, ◌-◌, ◌/◌, ◌%◌, length, arith}
 use Rattle.store.proofs.Turns.{turns_as, turns_then, turns_none}
 use Rattle.store.proofs.Ending.{ends_exit}
 use Rattle.file.proofs.Rest.{wide}

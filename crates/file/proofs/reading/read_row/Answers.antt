@@ -53,9 +53,12 @@ loop-done-preserved g c =
     in_row w (wide a.geometry.now c.requires.on.geometry) a.at n l.done c.min-count.result c.in_ok-found.ensures.some.0 (omega arith) c.loop-done-test.true in
     record {
       reads = reads_then _ g.met.B.Blocks.lawful _ _ _ _ _ _
-          (λ d p q. (p.0, next_bytes a.geometry.now (pieces a.geometry.now d) a.inode.now a.at l.done e ((a.at + l.done) / w) ((a.at + l.done) % w)
-          l.into c.read_page.new.into refl refl up inside fit room many p.1
-          (row_bytes a.geometry.now (pieces a.geometry.now d) a.inode.now (a.at / w) n ((a.at + l.done) / w) ((a.at + l.done) % w) c.find_row.new.zones c.read_page.new.into p.0 far near q)))
+          (λ d p q. (
+            p.0,
+            next_bytes a.geometry.now (pieces a.geometry.now d) a.inode.now a.at l.done e ((a.at + l.done) / w) ((a.at + l.done) % w)
+                l.into c.read_page.new.into refl refl up inside fit room many p.1
+                (row_bytes a.geometry.now (pieces a.geometry.now d) a.inode.now (a.at / w) n ((a.at + l.done) / w) ((a.at + l.done) % w) c.find_row.new.zones c.read_page.new.into p.0 far near q),
+          ))
           l.invariant.reads c.in_ok-read_page.ensures.reads;
       many = length_kept l.done (e - l.done) l.into c.read_page.new.into (omega (arith, up, room)) many ∙ l.invariant.many;
       done = low;
