@@ -172,7 +172,8 @@ fn write_held<B: Blocks>(
     requires pages { at % geometry.now.block_size + length bytes.now ≤ length zones.now * geometry.now.block_size }
     ensures turns { Turns B.world blocks.old blocks.new (λ d e. (n : ℕ)
         → IsHeldRow geometry.now (pieces geometry.now d) n (at / geometry.now.block_size) zones.now
-        → Ends result (λ x. WritesInside geometry.now n at bytes.now d e) (MayWriteInside geometry.now (pieces geometry.now d) n at bytes.now)) }
+        → Ends result (λ x. WritesInside geometry.now n at bytes.now d e)
+        (MayWriteInside geometry.now (pieces geometry.now d) n at bytes.now)) }
     ensures halt { IfErr result (λ h. IsHalt B.world blocks.new h) }
 {
     let width = geometry.block_size as usize;
