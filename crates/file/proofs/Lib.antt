@@ -10,4 +10,5 @@ pub mod Rest
 pub mod Resizing
 pub mod Chunk
 pub mod SoFar
+pub mod HeldRow
 pub mod Spaces

@@ -4,7 +4,7 @@ use mathlib.Core.Logic.{inl, inr}
 use Rattle.std.specs.Prelude.{nat_lt, nat_le, ◌&&◌, slice_index}
 use Rattle.std.proofs.lemmas.Bool.{cases_eq, cases_lt, cond-true, cond-false, lt-ltb, le-ltb, or_left}
 use Rattle.std.proofs.lemmas.List.{take-append-drop, take_all}
-use Rattle.std.proofs.Math.ListN.{take, drop, length-take}
+use Rattle.std.proofs.Math.ListN.{take, drop, length-take, length-drop}
 use Rattle.layout.specs.declared.Geometry.{Geometry}
 use Rattle.store.specs.tree.Tree.{File}
 use Rattle.store.specs.tree.Changes.{file_after_write}
@@ -129,6 +129,21 @@ module _ (g : Geometry) (n at : ℕ) (bytes : List ℕ) (done end : ℕ) (up : d
           (subst (λ x. WritesInside g n (at + x) part e f) (sym front_length) h)
     ]);
   }
+
+-- all the rest may be written
+pub may_rest : (g : Geometry) (n at : ℕ) (bytes : List ℕ) (done : ℕ) (d e : Disk) → done < length bytes → SoFar g n at bytes done d e
+    → MayWriteInside g (pieces g d) n at bytes → MayWriteInside g (pieces g e) n (at + done) (take (length bytes - done) (drop done bytes))
+may_rest g n at bytes done d e low so may = may_go_on g n at bytes done (length bytes) low (omega arith) d e so may
+
+-- and as many of it as a call says are written then
+pub goes_on_some : (g : Geometry) (n at : ℕ) (bytes : List ℕ) (done more : ℕ) (d e f : Disk) → 0 < more → done + more ≤ length bytes → SoFar g n at bytes done d e
+    → WritesInside g n (at + done) (take more (take (length bytes - done) (drop done bytes))) e f → SoFar g n at bytes (done + more) d f
+goes_on_some g n at bytes done more d e f some within so h =
+    let many = length-drop done bytes in
+    let whole : take (length bytes - done) (drop done bytes) ≡ drop done bytes = take_all (length bytes - done) (drop done bytes) (omega (arith, many)) in
+    let same : more ≡ done + more - done = omega arith in
+    goes_on g n at bytes done (done + more) (omega (arith, some)) within d e so f
+    (subst (λ x. WritesInside g n (at + done) (take x (drop done bytes)) e f) same (subst (λ x. WritesInside g n (at + done) (take more x) e f) whole h))
 
 -- in the end all are written
 pub all_written : (g : Geometry) (n at : ℕ) (bytes : List ℕ) (done : ℕ) (d e : Disk) → 0 < length bytes → length bytes ≤ done → SoFar g n at bytes done d e → WritesInside g n at bytes d e

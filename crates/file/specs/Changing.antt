@@ -1,5 +1,5 @@
 -- What a change of one inode's file leaves.
-use Rattle.std.specs.Prelude.{◌≡◌, ◌≢◌, ◌≤◌, ◌<◌, ℕ, ◌+◌, ◌/◌, ◌%◌, List, length, Bool, Some, IsTrue}
+use Rattle.std.specs.Prelude.{◌≡◌, ◌≢◌, ◌≤◌, ◌<◌, ℕ, ◌+◌, ◌/◌, ◌%◌, List, length, slice_index, Bool, Some, IsTrue}
 use Rattle.layout.specs.declared.Geometry.{Geometry}
 use Rattle.layout.specs.Places.{IsGeometry}
 use Rattle.store.specs.tree.Sums.{put}
@@ -13,6 +13,7 @@ use Rattle.store.specs.volume.Pieces.{Pieces, pieces}
 use Rattle.store.specs.volume.Nodes.{file_of, is_marked, nodes_of, page_zone}
 use Rattle.zone.specs.zone_laws.Steps.{IsSoundBut, node_from, marked_in}
 use Rattle.zone.specs.zone_laws.Chunks.{grown, resized}
+use Rattle.zone.specs.Parts.{HasZones}
 use Rattle.store.specs.Volume.{SameHead}
 
 -- a marked inode of a volume of which directory n may be out of order
@@ -66,6 +67,11 @@ pub record WritesInside (g : Geometry) (n at : ℕ) (bytes : List ℕ) (d e : Di
   pub head : SameHead d e
   pub becomes : let v = pieces g d in
       MayWriteInside g v n at bytes → BecomesFile g v (pieces g e) n (v.inodes n) (written_at g v n at bytes)
+
+-- these are the zones of pages of inode n that stand side by side, from a page on, and all of these are held
+pub record IsHeldRow (g : Geometry) (v : Pieces) (n page : ℕ) (row : List ℕ) : Type 0 where
+  pub names : HasZones g v (v.inodes n) page (length row) row
+  pub held : (k : ℕ) → k < length row → slice_index row k ≢ 0
 
 -- The file of inode n is made that long, where it may change.
 pub record SetsSize (g : Geometry) (n size : ℕ) (d e : Disk) : Type 0 where

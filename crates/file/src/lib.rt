@@ -4,6 +4,7 @@
 pub mod changing;
 pub mod laws;
 pub mod reading;
+mod rows;
 pub mod writing;
 
 pub use changing::{set_size, stamp, write_at};

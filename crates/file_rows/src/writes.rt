@@ -147,6 +147,45 @@ fn over_the_end_of_the_direct_range(rt: HostRuntime) -> Result<(), Fail> {
     Ok(())
 }
 
+/// Whether a read gives these bytes, all of them; the second slice is as long.
+fn has_bytes(volume: &mut Volume, at: u32, bytes: &[u8], into: &mut [u8]) -> bool {
+    volume.read(at, into) == Ok(bytes.len()) && &into[..] == bytes
+}
+
+#[test]
+fn over_the_end_of_the_single_range(rt: HostRuntime) -> Result<(), Fail> {
+    let mut volume = Volume::new(empty(rt.alloc(), 1024, 6)?);
+    // pages 262 and 263, the single's block, the double's and the first below it; the second time all of these are there
+    for bytes in [b"vwxyz", b"VWXYZ"] {
+        holds(&rt, volume.writes(269310, bytes));
+        holds(&rt, volume.reads(269310, bytes));
+        holds(&rt, volume.has_free(53));
+    }
+    Ok(())
+}
+
+#[test]
+fn many_pages_at_once(rt: HostRuntime) -> Result<(), Fail> {
+    let mut volume = Volume::new(empty(rt.alloc(), 1024, 6)?);
+    let mut into = vec![in rt.alloc(); 0u8; 18432]?;
+    let mut bytes = vec![in rt.alloc(); 0u8; 18432]?;
+    for (k, byte) in bytes.iter_mut().enumerate() {
+        *byte = (k % 251) as u8;
+    }
+    // pages 8 and 10, and the single's block
+    holds(&rt, volume.writes(8192, b"a"));
+    holds(&rt, volume.writes(10240, b"b"));
+    holds(&rt, volume.has_free(55));
+    // pages 6 to 24, over both of these; and once more, a byte further on, where all pages are held
+    for at in [7166, 7167] {
+        holds(&rt, volume.writes(at, &bytes));
+        holds(&rt, has_bytes(&mut volume, at, &bytes, &mut into));
+        holds(&rt, volume.has_free(38));
+    }
+    holds(&rt, volume.reads(7166, b"\0\0\x01"));
+    Ok(())
+}
+
 #[test]
 fn times(rt: HostRuntime) -> Result<(), Fail> {
     let mut volume = Volume::new(empty(rt.alloc(), 1024, 6)?);

@@ -98,6 +98,57 @@ fn over_the_end_of_the_direct_range(rt: HostRuntime) -> Result<(), Fail> {
 }
 
 #[test]
+fn over_the_ends_of_indirect_blocks(rt: HostRuntime) -> Result<(), Fail> {
+    // page 262 stands at number 255 of block 9, the single's; page 263 at the first number of block 11, the first of block 10, the
+    // double's; page 518 at number 255 of block 11, and page 519 at the first of block 12, the next one of block 10
+    let size: [u8; 4] = [3, 28, 8, 0];
+    let parts: [(usize, &[u8]); 12] = [
+        (4096, &FILE_OF_3),
+        (4104, &size),
+        (4148, &[9, 0, 0, 0, 10]),
+        (10236, &[6, 0, 0, 0]),
+        (10240, &[11, 0, 0, 0, 12, 0, 0, 0]),
+        (11264, &[8, 0, 0, 0]),
+        (12284, &[13, 0, 0, 0]),
+        (12288, &[14, 0, 0, 0]),
+        (7166, b"yz"),
+        (8192, b"abc"),
+        (14334, b"YZ"),
+        (14336, b"ABC"),
+    ];
+    let mut volume = Volume::new(image(rt.alloc(), &parts)?);
+    for (at, expected) in [(269310, b"yzabc"), (531454, b"YZABC")] {
+        let mut into = [0x2e; 5];
+        is_read(&rt, at, volume.read(at, &mut into), 5);
+        has_bytes(&rt, at, &into, expected);
+    }
+    Ok(())
+}
+
+#[test]
+fn over_a_hole_in_place_of_a_block(rt: HostRuntime) -> Result<(), Fail> {
+    // page 6 in zone 8; the single's block is a hole; page 263 in zone 6, by block 11, the first of block 10
+    let size: [u8; 4] = [3, 28, 8, 0];
+    let parts: [(usize, &[u8]); 8] = [
+        (4096, &FILE_OF_3),
+        (4104, &size),
+        (4144, &[8]),
+        (4152, &[10]),
+        (9214, b"yz"),
+        (10240, &[11, 0, 0, 0]),
+        (11264, &[6, 0, 0, 0]),
+        (6144, b"abc"),
+    ];
+    let mut volume = Volume::new(image(rt.alloc(), &parts)?);
+    for (at, expected) in [(7166, b"yz\0\0\0"), (269310, b"\0\0abc")] {
+        let mut into = [0x2e; 5];
+        is_read(&rt, at, volume.read(at, &mut into), 5);
+        has_bytes(&rt, at, &into, expected);
+    }
+    Ok(())
+}
+
+#[test]
 fn a_number_that_names_no_zone(rt: HostRuntime) -> Result<(), Fail> {
     // 3 is a map's block, 64 is past the last
     for number in [3, 64] {

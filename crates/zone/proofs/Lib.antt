@@ -1,6 +1,7 @@
 pub use Rattle.zone_laws.proofs as zone_laws
 pub mod Frames
 pub mod Levels
+pub mod Rows
 pub mod Taking
 pub mod Filling
 pub mod Held

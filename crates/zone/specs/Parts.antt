@@ -1,11 +1,12 @@
 -- The changes of a volume's pieces that zones need: a number of a block, a slot of an inode, a zone that is taken or given back.
-use Rattle.std.specs.Prelude.{◌≡◌, ◌≢◌, ℕ, ◌*◌, ◌<◌, Bool, true, slice_set, Option, None, Some}
+use Rattle.std.specs.Prelude.{◌≡◌, ◌≢◌, ℕ, ◌+◌, ◌*◌, ◌<◌, List, length, slice_index, Bool, true, slice_set, Option, None, Some}
 use Rattle.std.specs.Int.{w32, to_le_bytes}
 use Rattle.layout.specs.declared.Geometry.{Geometry}
 use Rattle.volume.specs.tree.Sums.{put}
 use Rattle.volume.specs.tree.Space.{numbers_in_zone}
+use Rattle.volume.specs.declared.Inode.{Inode}
 use Rattle.volume.specs.Pieces.{Pieces}
-use Rattle.volume.specs.Nodes.{number}
+use Rattle.volume.specs.Nodes.{number, page_zone}
 use Rattle.store.specs.Rows.{with_bytes}
 use Rattle.bitmap.specs.regions.Regions.{with_zone}
 use Rattle.zone_laws.specs.Steps.{bit_of, IsBare}
@@ -31,3 +32,11 @@ abbrev pub IsLastNumber : Geometry → Pieces → ℕ → Option ℕ → Type 0
 IsLastNumber g v block None = IsBare g v block
 IsLastNumber g v block (Some j) =
     (j < numbers_in_zone g) × (number v block j ≢ 0) × ((i : ℕ) → j < i → i < numbers_in_zone g → number v block i ≡ 0)
+
+-- these are the numbers of a block that stand side by side, from one of them on
+abbrev pub HasNumbers : Pieces → ℕ → ℕ → List ℕ → Type 0
+HasNumbers v block from words = (k : ℕ) → k < length words → slice_index words k ≡ number v block (from + k)
+
+-- the first n of these are the zones of an inode's pages side by side, from a page on
+abbrev pub HasZones : Geometry → Pieces → Inode → ℕ → ℕ → List ℕ → Type 0
+HasZones g v i page n zones = (k : ℕ) → k < n → slice_index zones k ≡ page_zone g v i (page + k)

@@ -1,5 +1,5 @@
 -- The numbers in a block's bytes.
-use Rattle.std.specs.Prelude.{◌≡◌, ◌≢◌, ℕ, ◌*◌, ◌/◌, ◌<◌, List, length, Option, None, Some}
+use Rattle.std.specs.Prelude.{◌≡◌, ◌≢◌, ℕ, ◌+◌, ◌*◌, ◌/◌, ◌<◌, List, length, slice_index, Option, None, Some}
 use Rattle.layout.specs.Bytes.{u32_at}
 
 -- the last number in these bytes that isn't 0, or there is none
@@ -7,3 +7,7 @@ abbrev pub IsLastWord : List ℕ → Option ℕ → Type 0
 IsLastWord bytes None = (i : ℕ) → i < length bytes / 4 → u32_at bytes (4 * i) ≡ 0
 IsLastWord bytes (Some j) =
     (j < length bytes / 4) × (u32_at bytes (4 * j) ≢ 0) × ((i : ℕ) → j < i → i < length bytes / 4 → u32_at bytes (4 * i) ≡ 0)
+
+-- these numbers stand side by side in a block's bytes, from one of them on
+abbrev pub HasWords : ℕ → List ℕ → List ℕ → Type 0
+HasWords from words bytes = (k : ℕ) → k < length words → slice_index words k ≡ u32_at bytes (4 * (from + k))

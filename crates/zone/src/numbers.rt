@@ -1,6 +1,6 @@
 //! The numbers that stand in indirect blocks, and the bytes of zones.
 
-ghost use Rattle.std.specs.Prelude.{◌≡◌, ◌<◌, ◌≤◌, ◌+◌, ◌*◌, ◌/◌, IfOk, IfErr, IfSome, OnOk, IsTrue, length, ℕ};
+ghost use Rattle.std.specs.Prelude.{◌≡◌, ◌<◌, ◌≤◌, ◌+◌, ◌*◌, ◌/◌, IfOk, IfErr, IfSome, OnOk, OnErr, IsTrue, length, ℕ};
 ghost use Rattle.volume.specs.tree.Space.{numbers_in_zone};
 ghost use Rattle.layout.specs.Bytes.{u32_at};
 ghost use Rattle.volume.specs.Pieces.{pieces};
@@ -11,8 +11,8 @@ ghost use Rattle.store.specs.Rows.{with_bytes};
 ghost use Rattle.store.specs.Halts.{Ends, IsHalt};
 ghost use Rattle.store.specs.Volume.{IsOn, Alters};
 ghost use Rattle.bitmap.specs.regions.Regions.{with_zone};
-ghost use Rattle.zone.specs.Parts.{with_number, IsLastNumber};
-ghost use Rattle.zone.specs.Words.{IsLastWord};
+ghost use Rattle.zone.specs.Parts.{with_number, HasNumbers, IsLastNumber};
+ghost use Rattle.zone.specs.Words.{HasWords, IsLastWord};
 
 use layout::{Geometry, u32_at};
 use store::words::{clear, read_u32, write_bytes, write_u32};
@@ -48,6 +48,41 @@ pub fn number<B: Blocks>(
         return Ok(0);
     }
     read_u32(blocks, zone, 4 * index as usize)
+}
+
+/// Fills the slice with the numbers that stand side by side in a block's bytes, from one of them on.
+fn read_words(bytes: &[u8], from: usize, into: &mut [u32])
+    requires most { length bytes.now ≤ 4096 }
+    requires within { 4 * (from + length into.old) ≤ length bytes.now }
+    ensures { HasWords from into.new bytes.now }
+{
+    for (k, word) in into.iter_mut().enumerate() {
+        *word = u32_at(bytes, 4 * (from + k));
+    }
+}
+
+/// Fills the slice with the numbers that stand side by side in an indirect zone, from one of them on, with one look-up; none stands in
+/// a hole, or outside the data zones, which gives zeros. Where the call is cut, the slice stays.
+pub fn numbers<B: Blocks>(
+    blocks: &mut B,
+    geometry: &Geometry,
+    zone: u32,
+    from: u32,
+    into: &mut [u32],
+) -> Result<(), Cut>
+    requires on { IsOn B.world geometry.now blocks.old }
+    requires within { from + length into.old ≤ numbers_in_zone geometry.now }
+    ensures reads { Reads B.world blocks.old blocks.new (λ d. OnOk result (HasNumbers (pieces geometry.now d) zone from into.new)) }
+    ensures stays { OnErr result (into.new ≡ into.old) }
+    ensures cut { IfErr result (λ c. B.world.over blocks.new c) }
+{
+    if !is_data_zone(geometry, zone) {
+        into.fill(0);
+        return Ok(());
+    }
+    let frame = blocks.fetch(zone)?;
+    read_words(blocks.bytes(frame), from as usize, into);
+    Ok(())
 }
 
 /// The last number but 0 in a block's bytes.

@@ -143,6 +143,29 @@ fn blocks_stay_while_they_have_numbers(rt: HostRuntime) -> Result<(), Fail> {
 }
 
 #[test]
+fn zones_side_by_side(rt: HostRuntime) -> Result<(), Fail> {
+    let mut volume = Volume::new(small(), image(rt.alloc(), 1024, 6)?);
+    // a zone each, but the single's block in 7, before page 7, and the double's in 11 and 12, before page 263
+    assert!(rt; volume.attaches(&[6, 7, 9, 262, 263]));
+    let rows: [(u32, &[u32]); 10] = [
+        (0, &[0, 0, 0, 0]),
+        (5, &[0, 6]),
+        (7, &[8, 0, 9, 0]),
+        (8, &[0, 9, 0, 0]),
+        (261, &[0, 10]),
+        (262, &[10]),
+        (263, &[13, 0, 0, 0]),
+        (518, &[0]),
+        (519, &[0, 0, 0, 0]),
+        (65799, &[0, 0, 0, 0]),
+    ];
+    for (page, zones) in rows {
+        assert!(rt; volume.has_row(page, zones), "{page}");
+    }
+    Ok(())
+}
+
+#[test]
 fn numbers_that_are_none(rt: HostRuntime) -> Result<(), Fail> {
     let mut volume = Volume::new(small(), image(rt.alloc(), 1024, 6)?);
     for inode in [0, 33] {

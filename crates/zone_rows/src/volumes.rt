@@ -3,7 +3,7 @@
 ghost use Rattle.std.specs.Prelude.{◌≡◌};
 ghost use Rattle.layout.specs.Places.{IsGeometry};
 
-use crate::calls::{drop_from, find, free, hold};
+use crate::calls::{drop_from, find, find_row, free, hold};
 use layout::Geometry;
 use memory::Memory;
 use std::alloc::{AllocError, Global};
@@ -127,6 +127,15 @@ impl Volume {
     /// The zone of a page of an inode.
     pub(crate) fn lookup(&mut self, inode: u32, page: u32) -> Result<u32, Halt> {
         find(&mut self.blocks, &self.geometry, inode, page)
+    }
+
+    /// Whether these are the zones of pages of inode 1 side by side, from one on, where up to four are asked for.
+    pub(crate) fn has_row(&mut self, page: u32, zones: &[u32]) -> bool {
+        let mut into = [1u32; 4];
+        match find_row(&mut self.blocks, &self.geometry, 1, page, &mut into) {
+            Ok(count) => count <= 4 && &into[..count] == zones,
+            Err(_) => false,
+        }
     }
 
     /// Whether each of these pages of inode 1 has a data zone, whose bytes are zeros.

@@ -1,7 +1,7 @@
-use Rattle.std.proofs.Common.{rules, ◌<◌, ◌≤◌, length, arith}
+use Rattle.std.proofs.Common.{rules, ◌<◌, ◌≤◌, ◌+◌, length, arith}
 use Rattle.store.proofs.Turns.{turns_as, turns_then, turns_none}
 use Rattle.store.proofs.Ending.{ends_exit}
-use Rattle.file.proofs.SoFar.{so_far_none, may_go_on, goes_on, all_written}
+use Rattle.file.proofs.SoFar.{so_far_none, may_rest, goes_on_some, all_written}
 use Rattle.file.proofs.changing.write_inside.Goals as goal
 
 pub loop-done-init : goal.loop-done-init
@@ -11,27 +11,27 @@ loop-done-init g c = record {
   done = omega arith;
 }
 
-pub returns-in_err-write_chunk-clause-turns : goal.returns-in_err-write_chunk-clause-turns
-returns-in_err-write_chunk-clause-turns g c =
+pub returns-in_err-more-clause-turns : goal.returns-in_err-more-clause-turns
+returns-in_err-more-clause-turns g c =
     let a = c.args in
     let l = c.loop-done in
-    let up : l.done < c.min-end.result = search rules in
-    let low : c.min-end.result ≤ length a.bytes.now = search rules in
+    let low : l.done < length a.bytes.now = search rules in
     turns_then _ g.met.B.Blocks.lawful _ _ _ _ _ _
-    (λ d e f p q. ends_exit _ _ _ _ _ _ c.from_residual.ensures.1 (λ may. may_go_on a.geometry.now a.number a.at a.bytes.now l.done c.min-end.result up low d e p may) q)
-    l.invariant.turns c.in_err-write_chunk.ensures.turns
+    (λ d e f p q. ends_exit _ _ _ _ _ _ c.from_residual.ensures.1 (λ may. may_rest a.geometry.now a.number a.at a.bytes.now l.done d e low p may) q)
+    l.invariant.turns c.in_err-more.ensures.turns
 
 pub loop-done-preserved : goal.loop-done-preserved
 loop-done-preserved g c =
     let a = c.args in
     let l = c.loop-done in
-    let up : l.done < c.min-end.result = search rules in
-    let low : c.min-end.result ≤ length a.bytes.now = search rules in
+    let n = c.in_ok-more.more in
+    let some : 0 < n = search rules in
+    let within : l.done + n ≤ length a.bytes.now = search rules in
     record {
       turns = turns_then _ g.met.B.Blocks.lawful _ _ _ _ _ _
-          (λ d e f p q. goes_on a.geometry.now a.number a.at a.bytes.now l.done c.min-end.result up low d e p f q)
-          l.invariant.turns c.in_ok-write_chunk.ensures.turns;
-      done = low;
+          (λ d e f p q. goes_on_some a.geometry.now a.number a.at a.bytes.now l.done n d e f some within p q)
+          l.invariant.turns c.in_ok-more.ensures.turns;
+      done = within;
     }
 
 pub returns-clause-turns : goal.returns-clause-turns
