@@ -1,5 +1,4 @@
-//! Rows of client calls that no script can say, over blocks in memory: calls without a path, flags that have no letter, and sessions side by
-//! side.
+//! Rows of client calls by their dispatch, over blocks in memory: each expected value is worked out by hand from the format.
 #![tactic(auto)]
 
 #[cfg(test)]

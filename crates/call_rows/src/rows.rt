@@ -1,64 +1,73 @@
-//! Calls without a path, opens with another bit, and descriptors of several sessions.
+//! Seeks, lists of names, and closes.
 
 use crate::volumes::Volume;
 use errno::Errno;
-use std::process::Abort;
 use std::test::Fail;
-use tree::Call;
+use tree::{Call, Entry, Reply, Whence};
 
-/// The session, how many times it opens, the path, the bits of the flags (read 1, create 8) and the mode; and the first descriptor that it
-/// gets, behind which the others follow, or the refusal.
-type Opens = (u8, u32, &'static [u8], u8, u16, Result<u32, Errno>);
-
-/// Opens, in their order.
-static OPENS: [Opens; 17] = [
-    // flags and modes, before the path
-    (0, 1, b"", 0, 0, Err(Errno::EINVAL)),
-    (0, 1, b"", 8, 0, Err(Errno::EINVAL)),
-    (0, 1, b"/f", 65, 0, Err(Errno::EINVAL)),
-    (0, 1, b"", 1, 0o1000, Err(Errno::EINVAL)),
-    // the path
-    (0, 1, b"", 9, 0o777, Err(Errno::ENOENT)),
-    // a session has 32 descriptors, which is told after the flags and before the path
-    (0, 1, b"/", 1, 0, Ok(0)),
-    (0, 1, b"/d/", 9, 0, Ok(1)),
-    (0, 1, b"/d/..", 1, 0, Ok(2)),
-    (0, 29, b"/f", 1, 0, Ok(3)),
-    (0, 1, b"", 1, 0, Err(Errno::EMFILE)),
-    (0, 1, b"", 0, 0, Err(Errno::EINVAL)),
-    // another one has others
-    (1, 32, b"/f", 1, 0, Ok(0)),
-    (2, 32, b"/f", 1, 0, Ok(0)),
-    (3, 32, b"/f", 1, 0, Ok(0)),
-    // all of them have 128 open files, which is told last, and before the path
-    (4, 1, b"", 0, 0, Err(Errno::EINVAL)),
-    (4, 1, b"", 1, 0, Err(Errno::ENFILE)),
-    (3, 1, b"", 1, 0, Err(Errno::EMFILE)),
-];
-
-/// Each of these opens is answered so, and begins at position 0.
-fn are_answered(rt: &impl Abort, volume: &mut Volume, opens: &Opens) {
-    let (session, times, path, bits, mode, first) = *opens;
-    for more in 0..times {
-        let expected = match first {
-            Ok(fd) => Ok((fd.saturating_add(more), 0)),
-            Err(errno) => Err(errno),
-        };
-        assert_eq!(rt; volume.open(session, path, bits, mode), expected);
+#[test]
+fn names_in_their_order(rt: HostRuntime) -> Result<(), Fail> {
+    let alloc = rt.alloc();
+    let mut volume = Volume::new(alloc)?;
+    assert_eq!(rt; volume.open(1), Ok(0));
+    assert_eq!(rt; volume.open(2), Ok(1));
+    let mut names = Vec::new(alloc);
+    for (name, inode) in [(b"b", 3), (b"f", 2)] {
+        let name = Vec::from_slice(alloc, name)?;
+        names.push(Entry { name, inode })?;
     }
+    assert_eq!(rt;
+        volume.call(&Call::Readdir { fd: 0 }),
+        Ok(Reply::Names(names))
+    );
+    assert_eq!(rt;
+        volume.call(&Call::Readdir { fd: 1 }),
+        Ok(Reply::Refused(Errno::ENOTDIR))
+    );
+    assert_eq!(rt;
+        volume.call(&Call::Readdir { fd: 2 }),
+        Ok(Reply::Refused(Errno::EBADF))
+    );
+    Ok(())
 }
 
 #[test]
-fn what_no_script_says(rt: HostRuntime) -> Result<(), Fail> {
+fn seeks(rt: HostRuntime) -> Result<(), Fail> {
     let mut volume = Volume::new(rt.alloc())?;
-    for opens in &OPENS {
-        are_answered(&rt, &mut volume, opens);
+    assert_eq!(rt; volume.open(2), Ok(0));
+    let rows: [(Whence, i64, Reply); 6] = [
+        (Whence::End, -2, Reply::At(3)),
+        (Whence::Cur, -4, Reply::Refused(Errno::EINVAL)),
+        (Whence::Cur, -3, Reply::At(0)),
+        (Whence::Set, 2147483648, Reply::Refused(Errno::EINVAL)),
+        (Whence::Set, 2147483647, Reply::At(2147483647)),
+        (Whence::End, i64::MAX, Reply::Refused(Errno::EINVAL)),
+    ];
+    for (whence, offset, expected) in rows {
+        let call = Call::Seek {
+            fd: 0,
+            whence,
+            offset,
+        };
+        assert_eq!(rt; volume.call(&call), Ok(expected));
     }
-    let without_a_path = Call::Rename {
-        old: b"",
-        new: b"/x",
-    };
-    assert_eq!(rt; volume.answer(0, &without_a_path), Err(Errno::ENOENT));
-    assert!(rt; volume.is_as_new()?);
+    Ok(())
+}
+
+#[test]
+fn a_nameless_file_goes_with_its_last_descriptor(rt: HostRuntime) -> Result<(), Fail> {
+    let mut volume = Volume::new(rt.alloc())?;
+    assert_eq!(rt; volume.free_inodes(), Some(29));
+    assert_eq!(rt; volume.open(2), Ok(0));
+    assert_eq!(rt; volume.call(&Call::Dup { fd: 0 }), Ok(Reply::Descriptor(1)));
+    assert_eq!(rt; volume.call(&Call::Unlink { path: b"/f" }), Ok(Reply::Done));
+    assert_eq!(rt; volume.call(&Call::Close { fd: 0 }), Ok(Reply::Done));
+    assert_eq!(rt; volume.free_inodes(), Some(29));
+    assert_eq!(rt; volume.call(&Call::Close { fd: 1 }), Ok(Reply::Done));
+    assert_eq!(rt; volume.free_inodes(), Some(30));
+    assert_eq!(rt;
+        volume.call(&Call::Close { fd: 1 }),
+        Ok(Reply::Refused(Errno::EBADF))
+    );
     Ok(())
 }

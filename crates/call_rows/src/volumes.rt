@@ -1,10 +1,9 @@
-//! A small volume with a file and a directory.
+//! A small volume with two files.
 
 ghost use Rattle.std.specs.Prelude.{◌≡◌};
 ghost use Rattle.layout.specs.Places.{IsGeometry};
 ghost use Rattle.store.specs.Volume.{IsOn};
 
-use bitflags::Flags;
 use call_bodies::body;
 use descriptors::Descriptors;
 use errno::Errno;
@@ -14,20 +13,19 @@ use std::alloc::{AllocError, Global};
 use store::{Blocks, Cut};
 use tree::{Call, OpenFlags, Reply, Who};
 
-/// Does a call of a session as user 0.
+/// Does a call of session 0 as user 0.
 fn done<B: Blocks>(
     alloc: Global,
     blocks: &mut B,
     opens: &mut Descriptors,
     geometry: &Geometry,
-    session: u8,
     call: &Call,
 ) -> Result<Reply, Cut>
     requires on { IsOn B.world geometry.now blocks.old }
     ensures { IsOn B.world geometry.now blocks.new }
 {
     let who = Who {
-        session,
+        session: 0,
         uid: 0,
         gid: 0,
     };
@@ -55,28 +53,25 @@ fn put_bytes(image: &mut Vec<u8>, from: usize, bytes: &[u8]) {
     }
 }
 
-/// An image whose root, inode 1, has `.`, `..`, `f` and `d` in zone 6. Inode 2 is `f`, of 5 bytes without a zone; inode 3 is `d`, a
-/// directory without names in zone 7: both of user 5. The maps begin at bytes 2048 and 3072, the inode table at 4096. All times are 0.
+/// An image whose root, inode 1, has `.`, `..`, `f` and `b` in zone 6. Inode 2 is `f`, of 5 bytes without a zone, inode 3 is `b`, empty:
+/// both of user 5. The maps begin at bytes 2048 and 3072, the inode table at 4096.
 fn image(alloc: Global) -> Result<Vec<u8>, AllocError> {
     let mut image = vec![in alloc; 0u8; 65536]?;
-    let parts: [(usize, &[u8]); 12] = [
+    let parts: [(usize, &[u8]); 9] = [
         (2048, &[15]),
-        (3072, &[7]),
-        (4096, &[0xed, 0x41, 3, 0, 0, 0, 0, 0, 0, 1]),
+        (3072, &[3]),
+        (4096, &[0xed, 0x41, 2, 0, 0, 0, 0, 0, 0, 1]),
         (4120, &[6]),
-        (4160, &[0xa0, 0x81, 1, 0, 5, 0, 7, 0, 5]),
-        (4224, &[0xed, 0x41, 2, 0, 5, 0, 7, 0, 128]),
-        (4248, &[7]),
+        (4160, &[0xa4, 0x81, 1, 0, 5, 0, 7, 0, 5]),
+        (4224, &[0xa4, 0x81, 1, 0, 5, 0, 7, 0]),
         (6144, &[1, 0, 0, 0, b'.']),
         (6208, &[1, 0, 0, 0, b'.', b'.']),
         (6272, &[2, 0, 0, 0, b'f']),
-        (6336, &[3, 0, 0, 0, b'd']),
-        (7168, &[3, 0, 0, 0, b'.']),
     ];
     for (from, bytes) in parts {
         put_bytes(&mut image, from, bytes);
     }
-    put_bytes(&mut image, 7232, &[1, 0, 0, 0, b'.', b'.']);
+    put_bytes(&mut image, 6336, &[3, 0, 0, 0, b'b']);
     Ok(image)
 }
 
@@ -103,46 +98,27 @@ impl Volume {
         })
     }
 
-    /// Does a call of a session below 64 as user 0: the descriptor that it gives, with the position there, or its refusal. EIO, which no
-    /// call is answered over blocks, stands for all else.
-    pub(crate) fn answer(&mut self, session: u8, call: &Call) -> Result<(u32, u32), Errno> {
-        let reply = done(
+    /// Opens an inode for reading.
+    pub(crate) fn open(&mut self, inode: u16) -> Result<u32, Errno> {
+        self.opens.put(0, inode, OpenFlags::READ)
+    }
+
+    /// Does a call of session 0 as user 0.
+    pub(crate) fn call(&mut self, call: &Call) -> Result<Reply, Cut> {
+        done(
             self.alloc,
             &mut self.blocks,
             &mut self.opens,
             &self.geometry,
-            session,
             call,
-        );
-        match reply {
-            Ok(Reply::Descriptor(fd)) => self.opened(session, fd),
-            Ok(Reply::Refused(errno)) => Err(errno),
-            _ => Err(Errno::EIO),
+        )
+    }
+
+    /// How many inodes are free.
+    pub(crate) fn free_inodes(&mut self) -> Option<u32> {
+        match self.call(&Call::Statfs) {
+            Ok(Reply::Space(room)) => Some(room.free_inodes),
+            _ => None,
         }
-    }
-
-    /// A descriptor of a session, with its position.
-    fn opened(&self, session: u8, fd: u32) -> Result<(u32, u32), Errno> {
-        match self.opens.get(session % 64, fd) {
-            Some((_, position, _)) => Ok((fd, position)),
-            None => Err(Errno::EIO),
-        }
-    }
-
-    /// Opens a path in a session as user 0, with the bits of flags, and a mode.
-    pub(crate) fn open(
-        &mut self,
-        session: u8,
-        path: &[u8],
-        bits: u8,
-        mode: u16,
-    ) -> Result<(u32, u32), Errno> {
-        let flags = OpenFlags::from_bits_retain(bits);
-        self.answer(session, &Call::Open { path, flags, mode })
-    }
-
-    /// Whether no byte has changed.
-    pub(crate) fn is_as_new(&self) -> Result<bool, AllocError> {
-        Ok(self.blocks.image() == image(self.alloc)?.as_slice())
     }
 }

@@ -1,4 +1,4 @@
-//! Attributes, and whose permissions are looked at.
+//! Attributes, sizes and the volume's numbers.
 
 use play_samples::sessions::Session;
 
@@ -138,5 +138,91 @@ pub(crate) const GRANTED: [Session; 5] = [
     Session {
         user: "0 8",
         calls: &[("100 open /f rw 0", "fd 0"), ("100 open /g rw 0", "fd 1")],
+    },
+];
+
+/// Sizes up and down across the ranges of pages, and what they need of the volume.
+pub(crate) const SIZES: [Session; 2] = [
+    Session {
+        user: "0 0",
+        calls: &[
+            (
+                "100 statfs",
+                "block 1024 zones 58 free 57 inodes 32 free 31",
+            ),
+            ("100 truncate /n 2147483648", "EFBIG"),
+            ("100 truncate /n 0", "ENOENT"),
+            ("100 truncate / 0", "EISDIR"),
+            ("100 open /f rwc 644", "fd 0"),
+            ("100 write 0 616263", "wrote 3"),
+            ("110 truncate /f 1", "ok"),
+            ("120 truncate /f 3", "ok"),
+            ("130 seek 0 set 0", "at 0"),
+            ("130 read 0 9", "bytes 610000"),
+            (
+                "130 fstat 0",
+                "inode 2 mode 0100644 links 1 uid 0 gid 0 size 3 times 100 120 120",
+            ),
+            (
+                "130 statfs",
+                "block 1024 zones 58 free 56 inodes 32 free 30",
+            ),
+            // growth is a hole
+            ("130 truncate /f 2147483647", "ok"),
+            (
+                "130 statfs",
+                "block 1024 zones 58 free 56 inodes 32 free 30",
+            ),
+            // page 7 takes a block of numbers and itself
+            ("130 seek 0 set 7168", "at 7168"),
+            ("130 write 0 62", "wrote 1"),
+            (
+                "130 statfs",
+                "block 1024 zones 58 free 54 inodes 32 free 30",
+            ),
+            // page 263 two blocks more
+            ("130 seek 0 set 269312", "at 269312"),
+            ("130 write 0 63", "wrote 1"),
+            (
+                "130 statfs",
+                "block 1024 zones 58 free 51 inodes 32 free 30",
+            ),
+            // page 65799 three more
+            ("130 seek 0 set 67378176", "at 67378176"),
+            ("130 write 0 64", "wrote 1"),
+            (
+                "130 statfs",
+                "block 1024 zones 58 free 47 inodes 32 free 30",
+            ),
+            ("130 truncate /f 67378176", "ok"),
+            (
+                "130 statfs",
+                "block 1024 zones 58 free 51 inodes 32 free 30",
+            ),
+            ("130 truncate /f 269312", "ok"),
+            (
+                "130 statfs",
+                "block 1024 zones 58 free 54 inodes 32 free 30",
+            ),
+            ("130 truncate /f 7168", "ok"),
+            (
+                "130 statfs",
+                "block 1024 zones 58 free 56 inodes 32 free 30",
+            ),
+            ("130 truncate /f 0", "ok"),
+            (
+                "130 statfs",
+                "block 1024 zones 58 free 57 inodes 32 free 30",
+            ),
+            ("130 sync", "ok"),
+        ],
+    },
+    Session {
+        user: "5 7",
+        calls: &[
+            ("100 truncate /f 2147483648", "EFBIG"),
+            ("100 truncate / 0", "EISDIR"),
+            ("100 truncate /f 0", "EACCES"),
+        ],
     },
 ];

@@ -7,8 +7,6 @@
 #[cfg(test)]
 mod attributes;
 #[cfg(test)]
-mod bytes;
-#[cfg(test)]
 mod calls;
 #[cfg(test)]
 mod deaths;
@@ -17,19 +15,17 @@ mod endings;
 #[cfg(test)]
 mod faults;
 #[cfg(test)]
+mod full;
+#[cfg(test)]
 mod images;
-#[cfg(test)]
-mod moves;
-#[cfg(test)]
-mod names;
 #[cfg(test)]
 mod opening;
 #[cfg(test)]
 mod partitions;
 #[cfg(test)]
-mod plays;
+mod places;
 #[cfg(test)]
-mod renames;
+mod plays;
 #[cfg(test)]
 mod table;
 #[cfg(test)]

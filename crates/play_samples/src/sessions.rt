@@ -1,4 +1,4 @@
-//! Sessions that are played one after the other on a new volume, and what they leave.
+//! Sessions that are played one after the other on a new volume.
 use crate::volumes::{Play, Played};
 use samples::new_volume;
 use std::alloc::{AllocError, Global};
@@ -13,14 +13,6 @@ pub struct Session {
     /// The calls and their replies.
     pub calls: &'static [(&'static str, &'static str)],
 }
-
-/// Sessions on a new volume of 64 blocks of 1024 bytes, with 32 inodes; sessions of another server after them, which change no byte of the
-/// image; and bytes of it, with the places where they stand.
-pub type Table = (
-    &'static [Session],
-    &'static [Session],
-    &'static [(usize, &'static [u8])],
-);
 
 /// Reads a volume: the root's names and attributes, and the volume's numbers.
 const READS: &str = "user 0 0
@@ -53,11 +45,10 @@ fn replies_of(alloc: Global, sessions: &[Session]) -> Result<String, AllocError>
     Ok(text)
 }
 
-/// Plays the sessions on an image, and then one that reads it.
+/// Plays the sessions on a new volume, and then one that reads it.
 fn played<R: Wait + Copy>(
     alloc: Global,
     rt: R,
-    image: Vec<u8>,
     sessions: &[Session],
 ) -> Result<Played, AllocError> {
     let mut texts = Vec::new(alloc);
@@ -69,7 +60,8 @@ fn played<R: Wait + Copy>(
         scripts.push(Some(text.as_bytes()))?;
     }
     scripts.push(Some(READS.as_bytes()))?;
-    Play::new(image.as_slice(), scripts.as_slice()).played(alloc, rt)
+    let volume = new_volume(alloc, 1024)?;
+    Play::new(volume.as_slice(), scripts.as_slice()).played(alloc, rt)
 }
 
 /// What stands on standard output behind this text.
@@ -80,21 +72,16 @@ fn behind<'p>(played: &'p Played, text: &str) -> Option<&'p str> {
     }
 }
 
-/// Plays a table: its sessions on a new volume, and then, by another server on the image that they left, those that change nothing. The
-/// replies are the table's, both servers read the same of the volume, and the image is clean, has the table's bytes, and stays. It is an
-/// error where that isn't so.
-pub fn is_played<R: Wait + Copy>(alloc: Global, rt: R, table: &Table) -> Result<(), Fail> {
-    let first = played(alloc, rt, new_volume(alloc, 1024)?, table.0)?;
-    let left = Vec::from_slice(alloc, first.left())?;
-    let second = played(alloc, rt, left, table.1)?;
-    let replies = replies_of(alloc, table.0)?;
-    let later = replies_of(alloc, table.1)?;
+/// Plays the sessions on a new volume: the replies are these, the image that is left is clean, and another server reads from it what the last
+/// session read. It is an error where that isn't so.
+pub fn are_played<R: Wait + Copy>(alloc: Global, rt: R, sessions: &[Session]) -> Result<(), Fail> {
+    let first = played(alloc, rt, sessions)?;
+    let again = Play::new(first.left(), &[Some(READS.as_bytes())]).played(alloc, rt)?;
+    let replies = replies_of(alloc, sessions)?;
     let read = behind(&first, replies.as_str());
-    let is_read = read.is_some() && read == behind(&second, later.as_str());
-    if is_read && first.is_clean(alloc) && first.left() == second.left() {
-        return first.holds(table.2);
+    if first.is_clean(alloc) && read.is_some() && read == behind(&again, "session 0\n") {
+        return Ok(());
     }
     let out = str::from_utf8(first.out.as_slice()).unwrap_or("no text");
-    let again = str::from_utf8(second.out.as_slice()).unwrap_or("no text");
-    Err(Fail::new(format_args!("{out}{again}")))
+    Err(Fail::new(format_args!("{out}")))
 }

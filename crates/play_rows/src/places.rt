@@ -1,4 +1,4 @@
-//! Names: made, linked, listed and taken away.
+//! Names: made, linked, taken away and moved.
 
 use play_samples::sessions::Session;
 
@@ -146,48 +146,105 @@ pub(crate) const DIRECTORIES: [Session; 2] = [
     },
 ];
 
-/// Two files of user 5: `f`, inode 2, of 5 bytes without a zone, and `b`, inode 3, which is empty.
-pub(crate) const TWO_FILES: Session = Session {
+/// Renames that are refused, in their order.
+pub(crate) const RENAMES_REFUSED: [Session; 2] = [
+    Session {
+        user: "0 0",
+        calls: &[
+            ("100 mkdir /d 755", "ok"),
+            ("100 mkdir /d/e 755", "ok"),
+            ("100 mkdir /g 755", "ok"),
+            ("100 mkdir /g/h 755", "ok"),
+            ("100 open /f wc 644", "fd 0"),
+            ("100 rename /n x", "EINVAL"),
+            ("100 rename / /x", "EINVAL"),
+            ("100 rename /n /d/.", "EINVAL"),
+            ("100 rename /n /q/x", "ENOENT"),
+            ("100 rename /f/a /n/x", "ENOTDIR"),
+            ("100 rename /f /n/x", "ENOENT"),
+            ("100 rename /f /f/x", "ENOTDIR"),
+            ("110 rename /f /f", "ok"),
+            ("110 rename /d /d/e/x", "EINVAL"),
+            ("110 rename /d /d/x", "EINVAL"),
+            ("110 rename /d /d/e", "EINVAL"),
+            ("110 rename /d /f", "ENOTDIR"),
+            ("110 rename /f /d", "EISDIR"),
+            ("110 rename /d /g", "ENOTEMPTY"),
+            ("110 rmdir /g/h", "ok"),
+            ("110 open /g r 0", "fd 1"),
+            ("120 rename /d /g", "EBUSY"),
+            (
+                "120 stat /f",
+                "inode 6 mode 0100644 links 1 uid 0 gid 0 size 0 times 100 100 100",
+            ),
+        ],
+    },
+    Session {
+        user: "5 7",
+        calls: &[
+            ("100 rename /n /g/x", "ENOENT"),
+            ("100 rename /f /n/x", "ENOENT"),
+            ("100 rename /f /f", "EACCES"),
+            ("100 rename /d /d/x", "EACCES"),
+        ],
+    },
+];
+
+/// Renames that are done.
+pub(crate) const RENAMES: [Session; 1] = [Session {
     user: "0 0",
     calls: &[
-        ("50 open /f wc 644", "fd 0"),
-        ("50 open /b wc 644", "fd 1"),
-        ("50 truncate /f 5", "ok"),
-        ("50 chown /f 5 7", "ok"),
-        ("50 chown /b 5 7", "ok"),
-        ("50 statfs", "block 1024 zones 58 free 57 inodes 32 free 29"),
+        ("100 mkdir /d 755", "ok"),
+        ("100 mkdir /d/e 755", "ok"),
+        ("100 mkdir /g 755", "ok"),
+        // a directory takes the name of an empty one, and its parent loses a subdirectory
+        ("110 rename /d /g", "ok"),
+        (
+            "120 stat /",
+            "inode 1 mode 0040755 links 3 uid 0 gid 0 size 192 times 50 110 110",
+        ),
+        (
+            "120 stat /g",
+            "inode 2 mode 0040755 links 3 uid 0 gid 0 size 192 times 100 100 110",
+        ),
+        // and moves to another, which is its `..` then
+        ("120 mkdir /k 700", "ok"),
+        ("130 rename /g/e /k/m", "ok"),
+        (
+            "140 stat /k/m/..",
+            "inode 4 mode 0040700 links 3 uid 0 gid 0 size 192 times 120 130 130",
+        ),
+        (
+            "140 stat /g",
+            "inode 2 mode 0040755 links 2 uid 0 gid 0 size 128 times 100 130 130",
+        ),
+        // a file takes the name of an open one, which lives on
+        ("140 open /a wc 644", "fd 0"),
+        ("140 open /b rwc 644", "fd 1"),
+        ("140 fill 1 2 62", "wrote 2"),
+        ("150 rename /a /b", "ok"),
+        (
+            "160 fstat 1",
+            "inode 6 mode 0100644 links 0 uid 0 gid 0 size 2 times 140 140 150",
+        ),
+        (
+            "160 stat /b",
+            "inode 5 mode 0100644 links 1 uid 0 gid 0 size 0 times 140 140 150",
+        ),
+        ("160 stat /a", "ENOENT"),
+        ("160 seek 1 set 1", "at 1"),
+        ("160 read 1 9", "bytes 62"),
+        ("160 close 1", "ok"),
+        // two names of one inode: nothing changes
+        ("160 link /b /c", "ok"),
+        ("170 rename /b /c", "ok"),
+        (
+            "180 stat /b",
+            "inode 5 mode 0100644 links 2 uid 0 gid 0 size 0 times 140 140 160",
+        ),
+        // within one directory the name's place stays
+        ("180 rename /b /z", "ok"),
+        ("190 open / r 0", "fd 1"),
+        ("190 readdir 1", "names 4 63:5 67:2 6b:4 7a:5"),
     ],
-};
-
-/// The names of a directory come in the order of their bytes.
-pub(crate) const NAMES_IN_ORDER: [Session; 2] = [
-    TWO_FILES,
-    Session {
-        user: "0 0",
-        calls: &[
-            ("60 open / r 0", "fd 0"),
-            ("60 open /f r 0", "fd 1"),
-            ("60 readdir 0", "names 2 62:3 66:2"),
-            ("60 readdir 1", "ENOTDIR"),
-            ("60 readdir 2", "EBADF"),
-        ],
-    },
-];
-
-/// A file without a name goes with its last descriptor.
-pub(crate) const NAMELESS: [Session; 2] = [
-    TWO_FILES,
-    Session {
-        user: "0 0",
-        calls: &[
-            ("60 open /f r 0", "fd 0"),
-            ("60 dup 0", "fd 1"),
-            ("60 unlink /f", "ok"),
-            ("60 close 0", "ok"),
-            ("60 statfs", "block 1024 zones 58 free 57 inodes 32 free 29"),
-            ("60 close 1", "ok"),
-            ("60 statfs", "block 1024 zones 58 free 57 inodes 32 free 30"),
-            ("60 close 1", "EBADF"),
-        ],
-    },
-];
+}];
