@@ -89,8 +89,8 @@ row_none g n at bytes page row d e same is = record {
   stays = λ may. subst (λ (x : Disk). IsHeldRow g (pieces g x) n page row) (sym same) is;
 }
 
-module _ (g : Geometry) (n at : ℕ) (bytes : List ℕ) (page : ℕ) (row : List ℕ) (done end : ℕ) (up : done < end) (within : end ≤ length bytes) (all : at + length bytes ≤ 2147483647)
-    (far : page ≤ (at + done) / g.block_size) (few : (at + done) / g.block_size - page < length row) (d e : Disk) (x : RowSoFar g n at bytes page row done d e) where
+module _ (g : Geometry) (n at : ℕ) (bytes : List ℕ) (page : ℕ) (row : List ℕ) (done end index : ℕ) (up : done < end) (within : end ≤ length bytes) (all : at + length bytes ≤ 2147483647)
+    (its : page + index ≡ (at + done) / g.block_size) (few : index < length row) (d e : Disk) (x : RowSoFar g n at bytes page row done d e) where
   abbrev part : List ℕ
   part = take (end - done) (drop done bytes)
 
@@ -98,7 +98,7 @@ module _ (g : Geometry) (n at : ℕ) (bytes : List ℕ) (page : ℕ) (row : List
   spot = (at + done) / g.block_size
 
   abbrev zone : ℕ
-  zone = slice_index row (spot - page)
+  zone = slice_index row index
 
   part_length : length part ≡ end - done
   part_length = let a = length-take (end - done) (drop done bytes) in let b = length-drop done bytes in omega (arith, a, b, within)
@@ -114,28 +114,28 @@ module _ (g : Geometry) (n at : ℕ) (bytes : List ℕ) (page : ℕ) (row : List
     next = may_go_on g n at bytes done end up within d e (x.so may) may
 
     names : page_zone g (pieces g e) ((pieces g e).inodes n) spot ≡ zone
-    names =
-        let same : page + (spot - page) ≡ spot = omega (arith, far) in
-        sym ((x.stays may).names (spot - page) few ∙ ap (page_zone g (pieces g e) ((pieces g e).inodes n)) same)
+    names = sym ((x.stays may).names index few ∙ ap (page_zone g (pieces g e) ((pieces g e).inodes n)) its)
 
     held : zone ≢ 0
-    held = (x.stays may).held (spot - page) few
+    held = (x.stays may).held index few
 
     pub row_zone : IsPageZone g (pieces g e) zone
     row_zone = its_zone g e n (at + done) zone part part_some part_end names held next
 
-  pub row_goes_on : (at + done) % g.block_size + (end - done) ≤ g.block_size → (f : Disk) → WritesPage g n spot zone ((at + done) % g.block_size) part e f
+  pub row_goes_on : (from : ℕ) → from ≡ (at + done) % g.block_size → from + (end - done) ≤ g.block_size → (f : Disk) → WritesPage g n spot zone from part e f
       → RowSoFar g n at bytes page row end d f
-  row_goes_on fit f h = record {
-    head = λ b low. h.head b low ∙ x.head b low;
-    so = λ may. goes_on g n at bytes done end up within d e (x.so may) f
-        (writes_there g e n (at + done) zone part part_some part_end (names may) (held may) f h (let l = part_length in omega (arith, l, fit)));
-    stays = λ may. record {
-      names = λ k low. (x.stays may).names k low
-          ∙ sym (zones_stay g e n (at + done) zone part part_some part_end (names may) (held may) f h (next may) (page + k));
-      held = (x.stays may).held;
-    };
-  }
+  row_goes_on from starts fit f w =
+      let h : WritesPage g n spot zone ((at + done) % g.block_size) part e f = subst (λ o. WritesPage g n spot zone o part e f) starts w in
+      record {
+        head = λ b low. h.head b low ∙ x.head b low;
+        so = λ may. goes_on g n at bytes done end up within d e (x.so may) f
+            (writes_there g e n (at + done) zone part part_some part_end (names may) (held may) f h (let l = part_length in omega (arith, l, starts, fit)));
+        stays = λ may. record {
+          names = λ k low. (x.stays may).names k low
+              ∙ sym (zones_stay g e n (at + done) zone part part_some part_end (names may) (held may) f h (next may) (page + k));
+          held = (x.stays may).held;
+        };
+      }
 
 -- in the end all are written
 pub row_written : (g : Geometry) (n at : ℕ) (bytes : List ℕ) (page : ℕ) (row : List ℕ) (done : ℕ) (d e : Disk) → 0 < length bytes → length bytes ≤ done

@@ -37,11 +37,9 @@ row_in_front g v i page most new rest (Ok n) many some h = λ k low. get_or-appe
 row_in_front g v i page most new rest (Err e) many some h = tt
 
 -- the bytes of a page are those of its zone in a row
-pub row_bytes : (g : Geometry) (v : Pieces) (i : Inode) (first many page from : ℕ) (zones new : List ℕ) → HasZones g v i first many zones → first ≤ page → page - first < many
-    → HasBytes from new (page_byte v (slice_index zones (page - first))) → HasBytes from new (page_byte v (page_zone g v i page))
-row_bytes g v i first many page from zones new names far low has = λ k l.
-    let same : first + (page - first) ≡ page = omega (arith, far) in
-    has k l ∙ ap (λ z. page_byte v z (from + k)) (names (page - first) low ∙ ap (page_zone g v i) same)
+pub row_bytes : (g : Geometry) (v : Pieces) (i : Inode) (first many index page from : ℕ) (zones new : List ℕ) → HasZones g v i first many zones → first + index ≡ page → index < many
+    → HasBytes from new (page_byte v (slice_index zones index)) → HasBytes from new (page_byte v (page_zone g v i page))
+row_bytes g v i first many index page from zones new names its low has = λ k l. has k l ∙ ap (λ z. page_byte v z (from + k)) (names index low ∙ ap (page_zone g v i) its)
 
 -- and those of the next page
 pub next_bytes : (g : Geometry) (v : Pieces) (i : Inode) (at done end page from : ℕ) (old new : List ℕ)

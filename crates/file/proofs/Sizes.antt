@@ -1,5 +1,5 @@
 -- Pages and sizes.
-use Rattle.std.proofs.Common.{◌≡◌, ◌<◌, ◌≤◌, ◌+◌, ◌-◌, ◌*◌, ◌/◌, ◌%◌, ◌^◌, ℕ, zero, suc, ap, ◌∙◌, arith}
+use Rattle.std.proofs.Common.{◌≡◌, ◌<◌, ◌≤◌, ◌+◌, ◌-◌, ◌*◌, ◌/◌, ◌%◌, ◌^◌, ℕ, zero, suc, ap, sym, ◌∙◌, arith}
 use mathlib.Core.Logic.{inl, inr}
 use Rattle.std.proofs.lemmas.Bool.{cases_lt}
 use Rattle.std.proofs.lemmas.Nat.{div-add-mod', div-mul-add, mod-mul-add, div_below, le-div, mod_below, mul-le}
@@ -55,11 +55,7 @@ module _ (w : ℕ) (wide : 0 < w) where
   some_pages at len zero some low = absurd (omega (arith, some, low))
   some_pages at len (suc m) some low = omega arith
 
-  -- a place behind is on a page behind, or on the same
-  pub pages_rise : (at done : ℕ) → at / w ≤ (at + done) / w
-  pages_rise at done = le-div (at / w) (at + done) w wide (let b = page_begins at in omega (arith, b))
-
-  -- and on one of these pages, where it is before their end
+  -- a place is on one of these pages, where it is before their end
   pub page_in_row : (at many done end : ℕ) → 0 < many → at % w + end ≤ many * w → done < end → (at + done) / w - at / w < many
   page_in_row at many done end some within low =
       let whole = div-add-mod' at w in
@@ -67,8 +63,40 @@ module _ (w : ℕ) (wide : 0 < w) where
       let below = div_below (at + done) w (at / w + many) wide (omega (arith, whole, sum, within, low)) in
       omega (arith, below, some)
 
-  pub in_row : (at many done count : ℕ) → 0 < many → count ≤ many * w - at % w → done < count → (at + done) / w - at / w < many
-  in_row at many done count some few low = let reach = row_reaches at many some in page_in_row at many done count some (omega (arith, reach, few)) low
+  -- the page's number in the row
+  pub index_in_row : (at many done end index : ℕ) → 0 < many → at % w + end ≤ many * w → done < end → at / w + index ≡ (at + done) / w → index < many
+  index_in_row at many done end index some within low its = let near = page_in_row at many done end some within low in omega (arith, its, near)
+
+  pub in_row : (at many done count index : ℕ) → 0 < many → count ≤ many * w - at % w → done < count → at / w + index ≡ (at + done) / w → index < many
+  in_row at many done count index some few low its =
+      let reach = row_reaches at many some in
+      index_in_row at many done count index some (omega (arith, reach, few)) low its
+
+  -- where a page ends the next one begins
+  pub next_page : (q : ℕ) → ((q + (w - q % w)) % w ≡ 0) × ((q + (w - q % w)) / w ≡ q / w + 1)
+  next_page q =
+      let whole = div-add-mod' q w in
+      let low = mod_below q w wide in
+      let sum : (q / w + 1) * w ≡ q / w * w + w = omega arith in
+      let spot : q + (w - q % w) ≡ (q / w + 1) * w + 0 = omega (arith, whole, low, sum) in
+      (
+        ap (λ x. x % w) spot ∙ mod-mul-add (q / w + 1) w 0 wide,
+        ap (λ x. x / w) spot ∙ div-mul-add (q / w + 1) w 0 wide,
+      )
+
+  -- so the bytes behind a page begin the next one
+  pub next_starts : (at done end from : ℕ) → from ≡ (at + done) % w → end ≡ done + w - from → 0 ≡ (at + end) % w
+  next_starts at done end from starts ends =
+      let low = mod_below (at + done) w wide in
+      let spot : at + end ≡ at + done + (w - (at + done) % w) = omega (arith, starts, ends, low) in
+      sym (ap (λ x. x % w) spot ∙ (next_page (at + done)).0)
+
+  pub next_index : (at done end from index : ℕ) → from ≡ (at + done) % w → at / w + index ≡ (at + done) / w → end ≡ done + w - from → at / w + (index + 1) ≡ (at + end) / w
+  next_index at done end from index starts its ends =
+      let low = mod_below (at + done) w wide in
+      let spot : at + end ≡ at + done + (w - (at + done) % w) = omega (arith, starts, ends, low) in
+      let next : (at + end) / w ≡ (at + done) / w + 1 = ap (λ x. x / w) spot ∙ (next_page (at + done)).1 in
+      omega (arith, its, next)
 
   -- a byte past the end, in a page that begins before it, is on the last page, behind its last byte
   module _ (size q : ℕ) (past : size ≤ q) (before : q / w * w < size) where

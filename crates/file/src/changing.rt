@@ -177,14 +177,14 @@ fn write_held<B: Blocks>(
     ensures halt { IfErr result (λ h. IsHalt B.world blocks.new h) }
 {
     let width = geometry.block_size as usize;
-    let first = at as usize / width;
+    let mut index = 0;
+    let mut from = at as usize % width;
     let mut done = 0;
     while done < bytes.len() {
-        let place = at as usize + done;
-        let from = place % width;
         let end = bytes.len().min(done + width - from);
-        let index = place / width - first;
         write_page(blocks, geometry, zones[index], from, &bytes[done..end])?;
+        index += 1;
+        from = 0;
         done = end;
     }
     Ok(())

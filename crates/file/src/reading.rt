@@ -59,16 +59,16 @@ fn read_row<B: Blocks>(
     let mut zones = [0u32; 16];
     let found = find_row(blocks, geometry, inode, at, into.len(), &mut zones)?;
     let width = geometry.block_size as usize;
-    let first = at as usize / width;
-    let room = found * width - at as usize % width;
+    let mut index = 0;
+    let mut from = at as usize % width;
+    let room = found * width - from;
     let count = into.len().min(room);
     let mut done = 0;
     while done < count {
-        let place = at as usize + done;
-        let from = place % width;
         let end = count.min(done + width - from);
-        let index = place / width - first;
         read_page(blocks, geometry, zones[index], from, &mut into[done..end])?;
+        index += 1;
+        from = 0;
         done = end;
     }
     Ok(count)

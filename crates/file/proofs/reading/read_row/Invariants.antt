@@ -1,4 +1,4 @@
-use Rattle.std.proofs.Common.{◌-◌, ◌/◌, ◌≡◌, ◌≤◌, length}
+use Rattle.std.proofs.Common.{◌≡◌, ◌<◌, ◌≤◌, ◌+◌, ◌-◌, ◌/◌, ◌%◌, length}
 use Rattle.store.specs.volume.Pieces.{pieces}
 use Rattle.store.specs.volume.Nodes.{file_of}
 use Rattle.store.specs.World.{Reads}
@@ -12,6 +12,8 @@ invariant-loop-done g l = record {
       HasZones l.geometry v l.inode (l.at / l.geometry.block_size) l.found l.zones × HasFileBytes (file_of l.geometry v l.inode) l.at l.done l.into);
   many : length l.into ≡ length l.fn.into;
   done : l.done ≤ l.count;
+  from : l.done < l.count → l.from ≡ (l.at + l.done) % l.geometry.block_size;
+  index : l.done < l.count → l.at / l.geometry.block_size + l.index ≡ (l.at + l.done) / l.geometry.block_size;
 }
 
 abbrev pub decreases-loop-done : goal.decreases-loop-done
