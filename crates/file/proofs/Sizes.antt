@@ -78,8 +78,7 @@ module _ (w : ℕ) (wide : 0 < w) where
       let whole = div-add-mod' q w in
       let low = mod_below q w wide in
       let sum : (q / w + 1) * w ≡ q / w * w + w = omega arith in
-      let spot : q + (w - q % w) ≡ (q / w + 1) * w + 0 = omega (arith, whole, low, sum) in
-      (
+      let spot : q + (w - q % w) ≡ (q / w + 1) * w + 0 = omega (arith, whole, low, sum) in (
         ap (λ x. x % w) spot ∙ mod-mul-add (q / w + 1) w 0 wide,
         ap (λ x. x / w) spot ∙ div-mul-add (q / w + 1) w 0 wide,
       )

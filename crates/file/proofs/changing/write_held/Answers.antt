@@ -68,7 +68,7 @@ loop-done-preserved g c =
     record {
       turns = turns_then _ g.met.B.Blocks.lawful _ _ _ _ _ _
           (λ d e f p q. λ n row. row_goes_on a.geometry.now n a.at a.bytes.now (a.at / w) a.zones.now l.done c.min-end.result l.index up low c.requires.end its few d e (p n row)
-              l.from starts fit f (q n ((a.at + l.done) / w)))
+          l.from starts fit f (q n ((a.at + l.done) / w)))
           l.invariant.turns c.in_ok-write_page.ensures.turns;
       done = low;
       from = λ more. next_starts w (wide a.geometry.now c.requires.on.geometry) a.at l.done c.min-end.result l.from starts (ends more);
