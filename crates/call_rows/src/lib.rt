@@ -1,4 +1,5 @@
-//! Rows of client calls by their dispatch, over blocks in memory: each expected value is worked out by hand from the format.
+//! Rows of client calls that no script can make or show, over blocks in memory: empty paths, flags that have no letter, sessions beside
+//! each other, and what the table of descriptors holds. Each expected value is worked out by hand from the definitions and the format.
 #![tactic(auto)]
 
 #[cfg(test)]

@@ -1,9 +1,10 @@
-//! A small volume with two files.
+//! A small volume with a file and a directory.
 
 ghost use Rattle.std.specs.Prelude.{◌≡◌};
 ghost use Rattle.layout.specs.Places.{IsGeometry};
 ghost use Rattle.store.specs.Volume.{IsOn};
 
+use bitflags::Flags;
 use call_bodies::body;
 use descriptors::Descriptors;
 use errno::Errno;
@@ -13,22 +14,18 @@ use std::alloc::{AllocError, Global};
 use store::{Blocks, Cut};
 use tree::{Call, OpenFlags, Reply, Who};
 
-/// Does a call of session 0 as user 0.
+/// Does a call at 60.
 fn done<B: Blocks>(
     alloc: Global,
     blocks: &mut B,
     opens: &mut Descriptors,
     geometry: &Geometry,
+    who: Who,
     call: &Call,
 ) -> Result<Reply, Cut>
     requires on { IsOn B.world geometry.now blocks.old }
     ensures { IsOn B.world geometry.now blocks.new }
 {
-    let who = Who {
-        session: 0,
-        uid: 0,
-        gid: 0,
-    };
     body(alloc, blocks, opens, geometry, who, 60, call)
 }
 
@@ -53,27 +50,44 @@ fn put_bytes(image: &mut Vec<u8>, from: usize, bytes: &[u8]) {
     }
 }
 
-/// An image whose root, inode 1, has `.`, `..`, `f` and `b` in zone 6. Inode 2 is `f`, of 5 bytes without a zone, inode 3 is `b`, empty:
-/// both of user 5. The maps begin at bytes 2048 and 3072, the inode table at 4096.
+/// An image whose root, inode 1 of user 0 with permissions 755, has `.`, `..`, `f` and `d` in zone 6. Inode 2 is `f`, of 5 bytes without a
+/// zone, with permissions 640; inode 3 is `d`, a directory without names in zone 7, with permissions 755: both of user 5 and group 7. The
+/// maps begin at bytes 2048 and 3072, the inode table at 4096. All times are 50, those of the root 0.
 fn image(alloc: Global) -> Result<Vec<u8>, AllocError> {
     let mut image = vec![in alloc; 0u8; 65536]?;
-    let parts: [(usize, &[u8]); 9] = [
+    let parts: [(usize, &[u8]); 12] = [
         (2048, &[15]),
-        (3072, &[3]),
-        (4096, &[0xed, 0x41, 2, 0, 0, 0, 0, 0, 0, 1]),
+        (3072, &[7]),
+        (4096, &[0xed, 0x41, 3, 0, 0, 0, 0, 0, 0, 1]),
         (4120, &[6]),
-        (4160, &[0xa4, 0x81, 1, 0, 5, 0, 7, 0, 5]),
-        (4224, &[0xa4, 0x81, 1, 0, 5, 0, 7, 0]),
+        (
+            4160,
+            &[
+                0xa0, 0x81, 1, 0, 5, 0, 7, 0, 5, 0, 0, 0, 50, 0, 0, 0, 50, 0, 0, 0, 50,
+            ],
+        ),
+        (
+            4224,
+            &[
+                0xed, 0x41, 2, 0, 5, 0, 7, 0, 128, 0, 0, 0, 50, 0, 0, 0, 50, 0, 0, 0, 50, 0, 0, 0,
+                7,
+            ],
+        ),
         (6144, &[1, 0, 0, 0, b'.']),
         (6208, &[1, 0, 0, 0, b'.', b'.']),
         (6272, &[2, 0, 0, 0, b'f']),
+        (6336, &[3, 0, 0, 0, b'd']),
+        (7168, &[3, 0, 0, 0, b'.']),
+        (7232, &[1, 0, 0, 0, b'.', b'.']),
     ];
     for (from, bytes) in parts {
         put_bytes(&mut image, from, bytes);
     }
-    put_bytes(&mut image, 6336, &[3, 0, 0, 0, b'b']);
     Ok(image)
 }
+
+/// An open: its session, its user and group, the path, the bits of the flags, and the mode.
+pub(crate) type Open<'a> = (u8, (u16, u16), &'a [u8], u8, u16);
 
 /// A volume in memory, and what is open.
 #[derive(Drop)]
@@ -98,27 +112,36 @@ impl Volume {
         })
     }
 
-    /// Opens an inode for reading.
-    pub(crate) fn open(&mut self, inode: u16) -> Result<u32, Errno> {
-        self.opens.put(0, inode, OpenFlags::READ)
-    }
-
-    /// Does a call of session 0 as user 0.
-    pub(crate) fn call(&mut self, call: &Call) -> Result<Reply, Cut> {
-        done(
-            self.alloc,
-            &mut self.blocks,
-            &mut self.opens,
-            &self.geometry,
-            call,
-        )
-    }
-
-    /// How many inodes are free.
-    pub(crate) fn free_inodes(&mut self) -> Option<u32> {
-        match self.call(&Call::Statfs) {
-            Ok(Reply::Space(room)) => Some(room.free_inodes),
-            _ => None,
+    /// Does a call at 60: the error that it is refused with, or a descriptor, or 0 for another answer. A call that is cut, as none is here,
+    /// is answered EIO.
+    pub(crate) fn call(&mut self, who: Who, call: &Call) -> Result<u32, Errno> {
+        let (blocks, opens) = (&mut self.blocks, &mut self.opens);
+        match done(self.alloc, blocks, opens, &self.geometry, who, call) {
+            Ok(Reply::Descriptor(fd)) => Ok(fd),
+            Ok(Reply::Refused(errno)) => Err(errno),
+            Ok(_) => Ok(0),
+            Err(_) => Err(Errno::EIO),
         }
+    }
+
+    /// Opens a path.
+    pub(crate) fn open(
+        &mut self,
+        (session, (uid, gid), path, bits, mode): Open<'_>,
+    ) -> Result<u32, Errno> {
+        let flags = OpenFlags::from_bits_retain(bits);
+        let who = Who { session, uid, gid };
+        self.call(who, &Call::Open { path, flags, mode })
+    }
+
+    /// The inode, the position and the bits of the flags of a descriptor of session 0.
+    pub(crate) fn file(&self, fd: u32) -> Option<(u16, u32, u8)> {
+        let (inode, position, flags) = self.opens.get(0, fd)?;
+        Some((inode, position, flags.bits()))
+    }
+
+    /// All its bytes.
+    pub(crate) fn bytes(&self) -> &[u8] {
+        self.blocks.image()
     }
 }

@@ -7,51 +7,258 @@ use std::test::Fail;
 /// A script.
 const STAT: &[u8] = b"user 0 0\n100 stat /\n";
 
-/// Files' bytes, and the fault that is told.
-type Row = (
-    Option<&'static [u8]>,
-    &'static [Option<&'static [u8]>],
-    &'static str,
-);
-
 /// A script whose second line is bad.
 const BAD: &[u8] = b"user 0 0\n100 stat\n";
 
-/// No image.
+/// No image, or no script.
 const NONE: &[u8] = &[];
 
-/// The driver of each row is one of 128 sectors, which an image without sectors hasn't.
-const ROWS: [Row; 9] = [
-    (None, &[], "cannot read v.img\n"),
-    (None, &[None], "cannot read v.img\n"),
-    (None, &[Some(BAD)], "cannot read v.img\n"),
-    (Some(NONE), &[Some(BAD), None], "cannot read t.txt\n"),
-    (Some(NONE), &[None, None], "cannot read s.txt\n"),
+/// An image: one that can't be read, the first bytes of a new volume's, or a new volume's with a byte at a place changed to another.
+#[derive(Clone, Copy)]
+enum Image {
+    Unread,
+    First(usize),
+    Changed(usize, u8),
+}
+
+/// The image of a new volume.
+const WHOLE: Image = Image::First(65536);
+
+/// An image, how many sectors each driver serves, the scripts' bytes if they can be read, the drivers, and the fault that is told.
+type Row = (
+    Image,
+    usize,
+    &'static [Option<&'static [u8]>],
+    Faults<'static>,
+    &'static str,
+);
+
+/// Files, lines and images.
+const ROWS: [Row; 33] = [
+    (Image::Unread, 128, &[], HONEST, "cannot read v.img\n"),
+    (Image::Unread, 128, &[None], HONEST, "cannot read v.img\n"),
     (
-        Some(NONE),
+        Image::Unread,
+        128,
+        &[Some(BAD)],
+        HONEST,
+        "cannot read v.img\n",
+    ),
+    (
+        Image::First(0),
+        128,
+        &[Some(BAD), None],
+        HONEST,
+        "cannot read t.txt\n",
+    ),
+    (
+        Image::First(0),
+        128,
+        &[None, None],
+        HONEST,
+        "cannot read s.txt\n",
+    ),
+    (
+        Image::First(0),
+        128,
         &[Some(STAT), Some(BAD)],
+        HONEST,
         "bad line 2 of t.txt\n",
     ),
     (
-        Some(NONE),
+        Image::First(0),
+        128,
         &[Some(BAD), Some(NONE)],
+        HONEST,
         "bad line 2 of s.txt\n",
     ),
     (
-        Some(NONE),
+        Image::First(0),
+        128,
         &[Some(STAT), Some(STAT), Some(b"user 0\n")],
+        HONEST,
         "bad line 1 of u.txt\n",
     ),
-    (Some(NONE), &[Some(STAT), Some(STAT)], "BadSetup\n"),
+    (
+        Image::First(0),
+        128,
+        &[Some(STAT), Some(STAT)],
+        HONEST,
+        "BadSetup\n",
+    ),
+    (WHOLE, 128, &[Some(BAD)], HONEST, "bad line 2 of s.txt\n"),
+    (WHOLE, 128, &[Some(NONE)], HONEST, "bad line 1 of s.txt\n"),
+    (
+        WHOLE,
+        128,
+        &[Some(b"user 0 0")],
+        HONEST,
+        "bad line 1 of s.txt\n",
+    ),
+    (
+        WHOLE,
+        128,
+        &[Some(b"user 0 65536\n")],
+        HONEST,
+        "bad line 1 of s.txt\n",
+    ),
+    (
+        WHOLE,
+        128,
+        &[Some(b"user 0 0\n1 stat /\n2 stat /")],
+        HONEST,
+        "bad line 3 of s.txt\n",
+    ),
+    (
+        WHOLE,
+        128,
+        &[Some(b"user 65536 0\n100 stat /\n")],
+        HONEST,
+        "bad line 1 of s.txt\n",
+    ),
+    (
+        WHOLE,
+        128,
+        &[Some(b"user 0 0\n4294967296 stat /\n")],
+        HONEST,
+        "bad line 2 of s.txt\n",
+    ),
+    (
+        WHOLE,
+        128,
+        &[Some(b"user 0 0\r\n100 stat /\n")],
+        HONEST,
+        "bad line 1 of s.txt\n",
+    ),
+    (
+        WHOLE,
+        128,
+        &[Some(b"user 0 0\n100 sync\n\n100 sync\n")],
+        HONEST,
+        "bad line 3 of s.txt\n",
+    ),
+    (
+        Image::Changed(1048, 0x00),
+        128,
+        &[Some(STAT)],
+        HONEST,
+        "Mount Layout BadMagic\n",
+    ),
+    (
+        Image::Changed(1053, 0x05),
+        128,
+        &[Some(STAT)],
+        HONEST,
+        "Mount Layout BadBlockSize\n",
+    ),
+    (
+        Image::Changed(1054, 0x01),
+        128,
+        &[Some(STAT)],
+        HONEST,
+        "Mount Layout BadVersion\n",
+    ),
+    (
+        Image::Changed(1036, 0x01),
+        128,
+        &[Some(STAT)],
+        HONEST,
+        "Mount Layout BadVersion\n",
+    ),
+    (
+        Image::Changed(1034, 0x07),
+        128,
+        &[Some(STAT)],
+        HONEST,
+        "Mount Layout BadCounts\n",
+    ),
+    // One block more than there are: the last read passes the end, and moves nothing there.
+    (
+        Image::Changed(1044, 0x41),
+        128,
+        &[Some(STAT)],
+        HONEST,
+        "Mount Eio\n",
+    ),
+    (
+        Image::Changed(2048, 0x01),
+        128,
+        &[Some(STAT)],
+        HONEST,
+        "Mount Inconsistent finding 4 at 1\n",
+    ),
+    (
+        Image::Changed(4097, 0x81),
+        128,
+        &[Some(STAT)],
+        HONEST,
+        "Mount Inconsistent finding 4 at 1\n",
+    ),
+    // Zone 7 is marked, and nothing names it.
+    (
+        Image::Changed(3072, 0x07),
+        128,
+        &[Some(STAT)],
+        HONEST,
+        "Mount Inconsistent finding 9 at 7\n",
+    ),
+    // The root has three links.
+    (
+        Image::Changed(4098, 0x03),
+        128,
+        &[Some(STAT)],
+        HONEST,
+        "Mount Inconsistent finding 16 at 1\n",
+    ),
+    // Drivers of other media than the image's are told before its superblock.
+    (
+        Image::Changed(1048, 0x00),
+        127,
+        &[Some(STAT)],
+        HONEST,
+        "BadSetup\n",
+    ),
+    // The first 2048 bytes, or the volume's last ones, aren't all there: a read past the end moves nothing, which is a driver's fault.
+    (Image::First(1024), 2, &[Some(STAT)], HONEST, "Mount Eio\n"),
+    (
+        Image::First(1023),
+        1,
+        &[Some(STAT)],
+        HONEST,
+        "Media NotWholeSectors\n",
+    ),
+    (
+        Image::First(65024),
+        127,
+        &[Some(STAT)],
+        HONEST,
+        "Mount Eio\n",
+    ),
+    (WHOLE, 128, &[Some(STAT)], &[], "NoDriver\n"),
 ];
+
+/// An image's bytes, if it can be read.
+fn bytes_of(alloc: Global, image: Image) -> Result<Option<Vec<u8>>, AllocError> {
+    Ok(match image {
+        Image::Unread => None,
+        Image::Changed(at, byte) => Some(changed(alloc, at, byte)?),
+        Image::First(length) => {
+            let mut image = new_volume(alloc, 1024)?;
+            image.truncate(length);
+            Some(image)
+        },
+    })
+}
 
 #[test]
 fn the_first_fault_is_told(rt: HostRuntime) -> Result<(), Fail> {
     let alloc = rt.alloc();
-    for (image, scripts, line) in ROWS {
+    for (image, sectors, scripts, faults, line) in ROWS {
+        let image = bytes_of(alloc, image)?;
         let play = Play {
-            image,
-            sectors: 128,
+            image: image.as_deref(),
+            sectors,
+            faults,
             ..Play::new(&[], scripts)
         };
         play.gives(alloc, rt, 1, "", line)?;
@@ -80,7 +287,17 @@ const COUNTS: [(usize, &[u8], &str); 4] = [
     (64, BAD, "bad line 2 of w.txt\n"),
 ];
 
-/// More scripts than sessions are refused once each line is read, and before anything starts: the driver is one of other media than the image's.
+/// The replies to 64 syncs, each in a session of its own.
+fn synced(alloc: Global) -> Result<String, AllocError> {
+    let mut out = String::new(alloc);
+    for number in 0..64 {
+        writeln!(out, "session {number}\nok")?;
+    }
+    Ok(out)
+}
+
+/// More scripts than sessions are refused once each line is read, and before anything starts: the driver is one of other media than the
+/// image's. Each of 64 scripts has its session, and none is no fault.
 #[test]
 fn scripts_are_sixty_four(rt: HostRuntime) -> Result<(), Fail> {
     let alloc = rt.alloc();
@@ -93,85 +310,9 @@ fn scripts_are_sixty_four(rt: HostRuntime) -> Result<(), Fail> {
         };
         play.gives(alloc, rt, 1, "", line)?;
     }
-    Ok(())
-}
-
-/// The replies to 64 syncs, each in a session of its own.
-fn synced(alloc: Global) -> Result<String, AllocError> {
-    let mut out = String::new(alloc);
-    for number in 0..64 {
-        writeln!(out, "session {number}\nok")?;
-    }
-    Ok(out)
-}
-
-/// Each of 64 scripts has its session.
-#[test]
-fn sixty_four_are_played(rt: HostRuntime) -> Result<(), Fail> {
-    let alloc = rt.alloc();
-    let image = new_volume(alloc, 1024)?;
-    let out = synced(alloc)?;
     let script: &[u8] = b"user 0 0\n100 sync\n";
     let scripts = [Some(script); 64];
-    Play::new(image.as_slice(), &scripts).gives(alloc, rt, 0, out.as_str(), "")
-}
-
-/// Where an image is changed to which byte, how many sectors the driver serves, and the refusal.
-const CHANGES: [(usize, u8, usize, &str); 11] = [
-    (1048, 0x00, 128, "Mount Layout BadMagic\n"),
-    (1053, 0x05, 128, "Mount Layout BadBlockSize\n"),
-    (1054, 0x01, 128, "Mount Layout BadVersion\n"),
-    (1036, 0x01, 128, "Mount Layout BadVersion\n"),
-    (1034, 0x07, 128, "Mount Layout BadCounts\n"),
-    // One block more than there are: the last read passes the end, and moves nothing there.
-    (1044, 0x41, 128, "Mount Eio\n"),
-    (2048, 0x01, 128, "Mount Inconsistent finding 4 at 1\n"),
-    (4097, 0x81, 128, "Mount Inconsistent finding 4 at 1\n"),
-    // Zone 7 is marked, and nothing names it.
-    (3072, 0x07, 128, "Mount Inconsistent finding 9 at 7\n"),
-    // The root has three links.
-    (4098, 0x03, 128, "Mount Inconsistent finding 16 at 1\n"),
-    // Drivers of other media than the image's are told before its superblock.
-    (1048, 0x00, 127, "BadSetup\n"),
-];
-
-#[test]
-fn images_are_refused_by_name(rt: HostRuntime) -> Result<(), Fail> {
-    let alloc = rt.alloc();
-    for (at, byte, sectors, line) in CHANGES {
-        let image = changed(alloc, at, byte)?;
-        let scripts = [Some(STAT)];
-        let play = Play {
-            sectors,
-            ..Play::new(image.as_slice(), &scripts)
-        };
-        play.gives(alloc, rt, 1, "", line)?;
-    }
-    Ok(())
-}
-
-/// How many bytes are left of an image, the drivers, and the refusal.
-const CUTS: [(usize, Faults<'static>, &str); 4] = [
-    // The first 2048 bytes, or the volume's last ones, aren't all there: a read past the end moves nothing, which is a driver's fault.
-    (1024, HONEST, "Mount Eio\n"),
-    (1023, HONEST, "Media NotWholeSectors\n"),
-    (65024, HONEST, "Mount Eio\n"),
-    (65536, &[], "NoDriver\n"),
-];
-
-#[test]
-fn cut_images_are_refused_by_name(rt: HostRuntime) -> Result<(), Fail> {
-    let alloc = rt.alloc();
-    let image = new_volume(alloc, 1024)?;
-    for (length, faults, line) in CUTS {
-        let scripts = [Some(STAT)];
-        let play = Play {
-            image: image.get(..length),
-            sectors: length / 512,
-            faults,
-            ..Play::new(&[], &scripts)
-        };
-        play.gives(alloc, rt, 1, "", line)?;
-    }
-    Ok(())
+    let out = synced(alloc)?;
+    Play::new(image.as_slice(), &scripts).gives(alloc, rt, 0, out.as_str(), "")?;
+    Play::new(image.as_slice(), &[]).gives(alloc, rt, 0, "", "")
 }

@@ -1,17 +1,18 @@
-//! Rows of plays: scripts of all calls, sessions of different users, whole images and partitions, drivers that die, plays that are refused, and
-//! the images that are left. Each expected value is taken from a format or worked out by hand.
+//! Rows of plays: scripts of all calls, sessions of different users, whole images and partitions, drivers that die, plays that are refused,
+//! and the images that are left. Each expected value is taken from a format or worked out by hand.
 //!
-//! They stand in one crate, since each crate of plays has to build the whole service.
+//! They stand in one crate, since each crate of plays has to build the whole service; and most of them as text, which costs next to
+//! nothing.
 #![tactic(auto)]
 
 #[cfg(test)]
 mod attributes;
 #[cfg(test)]
+mod bytes;
+#[cfg(test)]
 mod calls;
 #[cfg(test)]
 mod deaths;
-#[cfg(test)]
-mod endings;
 #[cfg(test)]
 mod faults;
 #[cfg(test)]
@@ -19,13 +20,17 @@ mod full;
 #[cfg(test)]
 mod images;
 #[cfg(test)]
+mod moves;
+#[cfg(test)]
+mod opened;
+#[cfg(test)]
 mod opening;
 #[cfg(test)]
 mod partitions;
 #[cfg(test)]
 mod places;
 #[cfg(test)]
-mod plays;
+mod renames;
 #[cfg(test)]
 mod table;
 #[cfg(test)]

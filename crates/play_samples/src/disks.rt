@@ -7,8 +7,8 @@ use samples::{new_volume, whole};
 use std::alloc::{AllocError, Global};
 use std::sync::Wait;
 
-/// A new volume of 128 sectors behind a sector with a table, whose second entry has this type, is said to have so many sectors from sector 1
-/// on, and which ends in 0x55 and this byte.
+/// A new volume of 128 sectors behind a sector with a table, whose second entry has this type, is said to have so many sectors from sector
+/// 1 on, and which ends in 0x55 and this byte.
 fn disk(alloc: Global, kind: u8, count: u8, last: u8) -> Result<Vec<u8>, AllocError> {
     let mut image = Vec::new(alloc);
     for at in 0..512usize {
@@ -35,8 +35,8 @@ fn table_of(image: &[u8]) -> Table {
     }
 }
 
-/// What a script gives on the volume of this minor of such an image, whose table's entry has this type and size, and which ends in this byte; over
-/// a driver of its ranges.
+/// What a script gives on the volume of this minor of such an image, whose table's entry has this type and size, and which ends in this
+/// byte; over a driver of its ranges.
 pub fn played_on<R: Wait + Copy>(
     alloc: Global,
     rt: R,

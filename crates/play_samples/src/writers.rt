@@ -52,15 +52,16 @@ pub fn slowly<R: Wait + Copy>(
     })
 }
 
-/// What a play of a script gives of which 10 bytes of standard output can be written, which aren't told, and its status.
+/// What a play of a script gives where standard output has room for so many bytes, 70 at most, and its status.
 pub fn lost<R: Wait + Copy>(
     alloc: Global,
     rt: R,
     image: &[u8],
     script: &[u8],
+    room: usize,
 ) -> Result<(Played, Status), AllocError> {
-    let mut space = [0u8; 10];
-    let mut out = space.as_mut_slice();
+    let mut space = [0u8; 70];
+    let mut out = space.get_mut(..room).unwrap_or(&mut []);
     let mut err = Vec::new(alloc);
     let supply = supply_of(alloc, 128, HONEST)?;
     let (image, scripts) = (Some(image), [Some(script)]);
@@ -76,9 +77,32 @@ pub fn lost<R: Wait + Copy>(
     )?;
     let played = Played {
         status: came.status.number(),
-        out: Vec::new(alloc),
+        out: Vec::from_slice(alloc, &space)?,
         err,
         image: came.image,
     };
     Ok((played, came.status))
+}
+
+/// What standard error has, with room for three bytes, where there is no image, what standard output has, and the status.
+pub fn untold<R: Wait + Copy>(
+    alloc: Global,
+    rt: R,
+    script: &[u8],
+) -> Result<([u8; 3], Vec<u8>, Status), AllocError> {
+    let mut space = [0u8; 3];
+    let mut err = space.as_mut_slice();
+    let mut out = Vec::new(alloc);
+    let supply = supply_of(alloc, 128, HONEST)?;
+    let came = play_into(
+        alloc,
+        rt,
+        None,
+        &[Some(script)],
+        &whole(),
+        supply,
+        &mut out,
+        &mut err,
+    )?;
+    Ok((space, out, came.status))
 }
