@@ -1,10 +1,6 @@
 //! The words that `mfs` takes, and what they say; those of `mfssim` are in [`schedules`].
 #![tactic(auto)]
 
-#[cfg(test)]
-mod rows;
-#[cfg(test)]
-mod schedule_rows;
 pub mod schedules;
 
 use clap::builder::ValueParser;

@@ -1,8 +1,16 @@
-//! Rows of runs that read: transcripts, while drivers die, hang, answer late, badly or too little, and are given up. Each expected value is taken
-//! from a format or worked out by hand.
+//! Rows of runs of schedules: transcripts, while drivers die, hang, answer late, badly or too little, and are given up; what the media hold after
+//! writes; and runs that aren't begun, or whose transcript can't be written. Each expected value is taken from a format or worked out by hand.
 #![tactic(auto)]
 
 #[cfg(test)]
 mod faults;
 #[cfg(test)]
 mod reads;
+#[cfg(test)]
+mod refusals;
+#[cfg(test)]
+mod runs;
+#[cfg(test)]
+mod writers;
+#[cfg(test)]
+mod writes;

@@ -1,9 +1,9 @@
 //! Writers that fail: what went out is a beginning of the transcript, and a line says so.
 
-use run_samples::runs::{file, simulate, six, text_of};
+use crate::runs::{file, is_said, six};
 use samples::{new_volume, whole};
+use simulation::simulate::simulate;
 use std::io::{self, ErrorKind, Write};
-use std::process::Abort;
 use std::test::Fail;
 
 /// A writer that takes up to 5 bytes at each of some calls, and fails at the next.
@@ -27,13 +27,6 @@ impl Write for Failing {
     fn flush(&mut self) -> io::Result<()> {
         Ok(())
     }
-}
-
-/// Looks at what both writers took, and at the status.
-fn took(rt: &impl Abort, out: &Failing, err: &Failing, said: (&str, &str), status: u8, number: u8) {
-    assert_eq!(rt; out.taken.as_slice(), said.0.as_bytes());
-    assert_eq!(rt; err.taken.as_slice(), said.1.as_bytes());
-    assert_eq!(rt; status, number);
 }
 
 /// The transcript has lines of 12, 30 and 13 bytes, which take 3, 6 and 3 calls; the line on the other writer has 29, which take 6.
@@ -68,7 +61,6 @@ const ROWS: [(u32, u32, &str, &str, u8); 6] = [
 fn writers_fail(rt: HostRuntime) -> Result<(), Fail> {
     let alloc = rt.alloc();
     let image = new_volume(alloc, 1024)?;
-    let schedule = text_of(alloc, &["call 0 0 0 100 stat /"])?;
     for (calls, more, text, line, number) in ROWS {
         let mut out = Failing {
             calls,
@@ -79,12 +71,16 @@ fn writers_fail(rt: HostRuntime) -> Result<(), Fail> {
             taken: Vec::new(alloc),
         };
         let supply = six(alloc, image.as_slice())?;
-        let (image, schedule) = (
-            file("v.img", Some(image.as_slice())),
-            file("s.txt", Some(schedule.as_slice())),
-        );
+        let image = file("v.img", Some(image.as_slice()));
+        let schedule = file("s.txt", Some(b"call 0 0 0 100 stat /\n"));
         let status = simulate(alloc, image, schedule, &whole(), supply, &mut out, &mut err);
-        took(&rt, &out, &err, (text, line), status.number(), number);
+        is_said(
+            &rt,
+            status.number(),
+            &out.taken,
+            &err.taken,
+            (number, text, line),
+        );
     }
     Ok(())
 }

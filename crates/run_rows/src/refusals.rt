@@ -1,0 +1,183 @@
+//! What isn't run, and what is said of it.
+
+use crate::runs::{says, six};
+use bdev::{BlockDriver, Driver};
+use media::MediaRefusal;
+use message::{BlockRequest, Kind};
+use modeldisk::RamDriver;
+use partition::Table;
+use policy::Setup;
+use samples::{changed, whole};
+use simulation::world::{RunRefusal, World};
+use std::alloc::{AllocError, Global};
+use std::test::Fail;
+use volume::Finding;
+
+/// A driver of so many sectors that took a request before.
+fn used(sectors: u32) -> RamDriver {
+    let mut used = RamDriver::new(Table::whole(sectors));
+    used.accept(BlockRequest {
+        id: 1,
+        kind: Kind::Read,
+        minor: 0,
+        position: 4096,
+        count: 1024,
+        bytes: [0; 4096],
+    });
+    used
+}
+
+/// Drivers of so many sectors each, and whether each is new.
+fn drivers(alloc: Global, wanted: &[(u32, bool)]) -> Result<Vec<Driver>, AllocError> {
+    let mut supply: Vec<Driver> = Vec::new(alloc);
+    for (sectors, is_new) in wanted {
+        let driver = if *is_new {
+            RamDriver::new(Table::whole(*sectors))
+        } else {
+            used(*sectors)
+        };
+        supply.push(Box::new(alloc, driver)?)?;
+    }
+    Ok(supply)
+}
+
+/// A setup with this number of missed heartbeats, of frames and of the minor.
+fn setup_of(misses: u32, frames: usize, minor: u8) -> Setup {
+    let mut setup = whole();
+    setup.policy.misses = misses;
+    setup.frames = frames;
+    setup.minor = minor;
+    setup
+}
+
+/// A driver of the volume's 128 sectors that is new.
+const NEW: (u32, bool) = (128, true);
+
+/// The zone map has a zone that isn't used.
+const FOUND: RunRefusal = RunRefusal::NotClean(Finding {
+    number: 9,
+    place: 7,
+});
+
+/// The missed heartbeats that are a fault, the frames, the zone map's first byte, which is 3 on a new volume, the drivers, and why no run is begun.
+type Row = (u32, usize, u8, &'static [(u32, bool)], RunRefusal);
+
+const ROWS: [Row; 9] = [
+    // No number of ticks without a sign of life may be a fault. That is told before the want of drivers.
+    (0, 64, 3, &[NEW], RunRefusal::BadSetup),
+    (0, 64, 3, &[], RunRefusal::BadSetup),
+    // One frame less than the least number.
+    (3, 15, 3, &[NEW], RunRefusal::BadSetup),
+    (3, 15, 3, &[], RunRefusal::BadSetup),
+    // The second driver serves half of the volume, or took a request before.
+    (3, 64, 3, &[NEW, (64, true)], RunRefusal::BadSetup),
+    (3, 64, 3, &[NEW, (128, false)], RunRefusal::BadSetup),
+    (3, 64, 3, &[], RunRefusal::NoDriver),
+    // A finding is told before a bad setup.
+    (3, 64, 7, &[], FOUND),
+    (3, 15, 7, &[], FOUND),
+];
+
+#[test]
+fn runs_are_refused(rt: HostRuntime) -> Result<(), Fail> {
+    for (number, row) in ROWS.iter().enumerate() {
+        let (misses, frames, byte, wanted, refusal) = *row;
+        let image = changed(rt.alloc(), 3072, byte)?;
+        let supply = drivers(rt.alloc(), wanted)?;
+        let setup = setup_of(misses, frames, 0);
+        let refused = World::run(rt.alloc(), &image, &setup, supply, &[]).err();
+        assert_eq!(rt; refused, Some(refusal), "row {number}");
+    }
+    Ok(())
+}
+
+const NUMBERS: [(RunRefusal, u32); 6] = [
+    (FOUND, 3),
+    (RunRefusal::Media(MediaRefusal::NotWholeSectors), 1),
+    (RunRefusal::Media(MediaRefusal::TooLarge), 1),
+    (RunRefusal::BadSetup, 4),
+    (RunRefusal::NoDriver, 5),
+    (RunRefusal::OutOfMemory, 6),
+];
+
+#[test]
+fn refusals_have_numbers(rt: HostRuntime) {
+    for (refusal, number) in NUMBERS {
+        assert_eq!(rt; refusal.number(), number);
+    }
+}
+
+/// A schedule of two lines.
+const TWO: Option<&[u8]> = Some(b"call 0 0 0 100 stat /\nstep 1\n");
+
+/// The first byte of a new volume that is changed, the new one, and how many bytes the file has. A file that can't be read has none.
+type Image = Option<(usize, u8, usize)>;
+
+/// The image, the schedule, the setup's frames and minor, and the line that is told first.
+const TOLD: [(Image, Option<&[u8]>, usize, u8, &str); 12] = [
+    (
+        Some((3072, 7, 65536)),
+        TWO,
+        64,
+        0,
+        "NotClean finding 9 at 7\n",
+    ),
+    (
+        Some((1048, 0, 65536)),
+        TWO,
+        64,
+        0,
+        "NotClean finding 1 at 2\n",
+    ),
+    (Some((0, 0, 65536)), TWO, 15, 0, "BadSetup\n"),
+    (Some((0, 0, 65536)), TWO, 64, 1, "Partition NoSignature\n"),
+    (None, None, 64, 0, "cannot read v.img\n"),
+    (None, Some(b"step\n"), 64, 0, "cannot read v.img\n"),
+    (Some((0, 0, 65536)), None, 64, 0, "cannot read s.txt\n"),
+    (Some((0, 0, 1023)), None, 64, 0, "cannot read s.txt\n"),
+    (
+        Some((0, 0, 1023)),
+        Some(b"tick\nstep\n"),
+        64,
+        0,
+        "bad line 2 of s.txt\n",
+    ),
+    (
+        Some((0, 0, 65536)),
+        Some(b"tick\nflush"),
+        64,
+        0,
+        "bad line 2 of s.txt\n",
+    ),
+    (
+        Some((0, 0, 1023)),
+        Some(b"tick\n"),
+        64,
+        0,
+        "Media NotWholeSectors\n",
+    ),
+    (
+        Some((0, 0, 512)),
+        Some(b""),
+        64,
+        0,
+        "NotClean finding 1 at 1\n",
+    ),
+];
+
+#[test]
+fn refusals_are_told(rt: HostRuntime) -> Result<(), Fail> {
+    for (image, schedule, frames, minor, line) in TOLD {
+        let (at, byte, length) = image.unwrap_or((0, 0, 0));
+        let changed = changed(rt.alloc(), at, byte)?;
+        let bytes = match image {
+            Some(_) => changed.get(..length),
+            None => None,
+        };
+        let supply = six(rt.alloc(), bytes.unwrap_or(&[]))?;
+        let setup = setup_of(3, frames, minor);
+        let wanted = (1, "", line);
+        says(&rt, rt.alloc(), (bytes, schedule), &setup, supply, wanted);
+    }
+    Ok(())
+}

@@ -1,0 +1,76 @@
+//! What rows of runs share: runs of a schedule on an image, over boxed drivers, and what they print.
+
+use bdev::Driver;
+use policy::Setup;
+use samples::whole;
+use schedule_text::reading::read_schedule;
+use simulation::inputs::File;
+use simulation::simulate::simulate;
+use simulation::world::World;
+use std::alloc::{AllocError, Global};
+use std::process::Abort;
+use std::str;
+use std::test::Fail;
+use supply::{drivers_for, table_in};
+
+/// The status of a run, and what it printed on standard output and on standard error.
+type Said<'s> = (u8, &'s str, &'s str);
+
+/// Six drivers of this image.
+pub fn six(alloc: Global, image: &[u8]) -> Result<Vec<Driver>, AllocError> {
+    let mut supply: Vec<Driver> = Vec::new(alloc);
+    for driver in drivers_for(alloc, 5, false, table_in(image))? {
+        supply.push(Box::new(alloc, driver)?)?;
+    }
+    Ok(supply)
+}
+
+/// A file of this name.
+pub fn file<'n, 'b>(name: &'n str, bytes: Option<&'b [u8]>) -> File<'n, 'b> {
+    File { name, bytes }
+}
+
+/// Looks at what was printed, and at the status.
+pub fn is_said(rt: &impl Abort, status: u8, out: &[u8], err: &[u8], wanted: Said<'_>) {
+    let said = (status, str::from_utf8(out).ok(), str::from_utf8(err).ok());
+    assert_eq!(rt; said, (wanted.0, Some(wanted.1), Some(wanted.2)));
+}
+
+/// Looks at what the run of a schedule on an image says under a setup, with these drivers.
+pub fn says(
+    rt: &impl Abort,
+    alloc: Global,
+    files: (Option<&[u8]>, Option<&[u8]>),
+    setup: &Setup,
+    supply: Vec<Driver>,
+    wanted: Said<'_>,
+) {
+    let (mut out, mut err) = (Vec::new(alloc), Vec::new(alloc));
+    let (image, schedule) = (file("v.img", files.0), file("s.txt", files.1));
+    let status = simulate(alloc, image, schedule, setup, supply, &mut out, &mut err);
+    is_said(rt, status.number(), &out, &err, wanted);
+}
+
+/// Looks at the transcript of a schedule on an image with six drivers under the default policy, and at the status.
+pub fn shows(
+    rt: &impl Abort,
+    alloc: Global,
+    image: &[u8],
+    schedule: &str,
+    transcript: &str,
+    status: u8,
+) -> Result<(), AllocError> {
+    let supply = six(alloc, image)?;
+    let files = (Some(image), Some(schedule.as_bytes()));
+    says(rt, alloc, files, &whole(), supply, (status, transcript, ""));
+    Ok(())
+}
+
+/// The bytes of the media after such a run.
+pub fn media_after(alloc: Global, image: &[u8], schedule: &str) -> Result<Vec<u8>, Fail> {
+    let schedule = read_schedule(alloc, schedule.as_bytes())?;
+    let events = schedule.events(alloc)?;
+    let supply = six(alloc, image)?;
+    let transcript = World::run(alloc, image, &whole(), supply, events.as_slice())?;
+    Ok(transcript.image(alloc)?)
+}

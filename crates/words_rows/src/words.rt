@@ -1,0 +1,126 @@
+//! Words that are taken, and others.
+
+use clap::{ArgMatches, Error};
+use command_line::status_for;
+use mfs_words::{Words, command, schedules, scripts_of};
+use std::alloc::{AllocError, Global};
+use std::test::Fail;
+
+/// Words of a line, and what they say: the files, the minor, how many drivers stand by, and whether they move an arm; or, of words that aren't
+/// taken or ask for help, the status.
+const ROWS: &str = "\
+mfs v.img s.txt : v.img [s.txt] out none minor 0 spares 5
+mfs v.img s.txt --minor 5 : v.img [s.txt] out none minor 5 spares 5
+mfs v.img s.txt --minor 255 : v.img [s.txt] out none minor 255 spares 5
+mfs --spares 63 v.img s.txt : v.img [s.txt] out none minor 0 spares 63
+mfs v.img --spares=0 s.txt : v.img [s.txt] out none minor 0 spares 0
+mfs --model v.img s.txt : v.img [s.txt] out none minor 0 spares 5 model
+mfs v.img s.txt t.txt : v.img [s.txt t.txt] out none minor 0 spares 5
+mfs v.img t.txt s.txt t.txt --minor 1 : v.img [t.txt s.txt t.txt] out none minor 1 spares 5
+mfs v.img s.txt --out w.img : v.img [s.txt] out w.img minor 0 spares 5
+mfs --out=v.img v.img s.txt t.txt : v.img [s.txt t.txt] out v.img minor 0 spares 5
+mfs v.img - : v.img [-] out none minor 0 spares 5
+mfs v.img s.txt --minor 256 : status 2
+mfs v.img s.txt --spares 64 : status 2
+mfs v.img s.txt --spares -1 : status 2
+mfs v.img s.txt --model=1 : status 2
+mfs : status 2
+mfs v.img : status 2
+mfs v.img s.txt --minor : status 2
+mfs v.img s.txt --out : status 2
+mfs v.img --out s.txt : status 2
+mfs v.img s.txt --out a --out b : status 2
+mfs --help : status 0
+mfs -h : status 0
+mfs v.img --version : status 0
+mfssim v.img s.txt : v.img s.txt minor 0 spares 5
+mfssim v.img s.txt --minor 255 : v.img s.txt minor 255 spares 5
+mfssim --spares 63 v.img s.txt : v.img s.txt minor 0 spares 63
+mfssim v.img --spares=0 s.txt : v.img s.txt minor 0 spares 0
+mfssim v.img s.txt --minor 256 : status 2
+mfssim v.img s.txt --spares 64 : status 2
+mfssim v.img s.txt --model : status 2
+mfssim : status 2
+mfssim v.img : status 2
+mfssim v.img s.txt t.txt : status 2
+mfssim --help : status 0
+mfssim v.img --version : status 0
+";
+
+/// What words of `mfs` say that are taken.
+fn of_calls(alloc: Global, matches: &ArgMatches<'_>) -> Result<String, AllocError> {
+    let words = Words::of(matches);
+    let scripts = scripts_of(alloc, matches)?.join(alloc, " ")?;
+    let out = words.out.unwrap_or("none");
+    let model = if words.model { " model" } else { "" };
+    format!(in alloc;
+        "{} [{scripts}] out {out} minor {} spares {}{model}",
+        words.image, words.minor, words.spares
+    )
+}
+
+/// What words of `mfssim` say that are taken.
+fn of_schedules(alloc: Global, matches: &ArgMatches<'_>) -> Result<String, AllocError> {
+    let words = schedules::Words::of(matches);
+    format!(in alloc;
+        "{} {} minor {} spares {}",
+        words.image, words.schedule, words.minor, words.spares
+    )
+}
+
+/// What is said of words that aren't taken: the status, and in further lines what is printed.
+fn of_others(alloc: Global, error: &Error) -> Result<String, AllocError> {
+    format!(in alloc; "status {}\n{error}", status_for(error))
+}
+
+/// What these words of `mfs` say.
+fn calls_said(alloc: Global, words: &[&str]) -> Result<String, AllocError> {
+    match command(alloc)?.try_get_matches_from(words) {
+        Ok(matches) => of_calls(alloc, &matches),
+        Err(error) => of_others(alloc, &error),
+    }
+}
+
+/// What these words of `mfssim` say.
+fn schedules_said(alloc: Global, words: &[&str]) -> Result<String, AllocError> {
+    match schedules::command(alloc)?.try_get_matches_from(words) {
+        Ok(matches) => of_schedules(alloc, &matches),
+        Err(error) => of_others(alloc, &error),
+    }
+}
+
+/// What the words of a line say.
+fn said(alloc: Global, line: &str) -> Result<String, AllocError> {
+    let words: Vec<&str> = line.split_whitespace().collect(alloc)?;
+    if line.starts_with("mfssim") {
+        schedules_said(alloc, &words)
+    } else {
+        calls_said(alloc, &words)
+    }
+}
+
+#[test]
+fn words_are_taken_or_not(rt: HostRuntime) -> Result<(), Fail> {
+    for row in ROWS.lines() {
+        let Some((line, wanted)) = row.split_once(" : ") else {
+            return Err(Fail::from("no row"));
+        };
+        let said = said(rt.alloc(), line)?;
+        assert_eq!(rt; said.lines().next(), Some(wanted), "{line}");
+    }
+    Ok(())
+}
+
+/// The calls, each of which has its line in the help of `mfs`.
+const CALLS: &str =
+    "open close dup read write fill seek stat fstat link unlink mkdir rmdir rename chmod chown utime truncate readdir sync statfs";
+
+#[test]
+fn the_help_lists_each_call(rt: HostRuntime) -> Result<(), Fail> {
+    let help = said(rt.alloc(), "mfs --help")?;
+    for name in CALLS.split_whitespace() {
+        let line = format!(in rt.alloc(); "\n  {name} ")?;
+        assert!(rt; help.as_str().contains(line.as_str()), "{name}");
+    }
+    Ok(())
+}
