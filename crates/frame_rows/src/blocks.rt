@@ -88,7 +88,8 @@ fn first_other<L: Link>(blocks: &mut Stored<L>, steps: &[(Step, Result<u32, Cut>
     None
 }
 
-/// Whether the driver's start is handed over at first, what the link gives, what is done with blocks in 32 frames, and what the link was told.
+/// Whether the driver's start is handed over at first, what the link gives, what is done with blocks in 32 frames, and what the link was
+/// told.
 type Row = (
     bool,
     Given,

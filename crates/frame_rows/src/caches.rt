@@ -12,8 +12,8 @@ use reissue::{Link, Transfers};
 use std::alloc::{AllocError, Global};
 use std::test::Fail;
 
-/// What a link gives: whether the first driver is started first, and what comes then: an answer to its next request, of which a whole block was
-/// moved, each byte of it this one, or a Flush.
+/// What a link gives: whether the first driver is started first, and what comes then: an answer to its next request, of which a whole
+/// block was moved, each byte of it this one, or a Flush.
 pub(crate) type Given = (bool, &'static [Option<u8>]);
 
 /// These messages.

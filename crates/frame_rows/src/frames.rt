@@ -62,8 +62,8 @@ fn first_other<L: Link>(cache: &mut Cache<L>, steps: &[(Step, u32)]) -> Option<u
     None
 }
 
-/// A cache's frames, whether the driver's start is handed over at first, what its link gives, what is done with it, how many requests the link was
-/// posted before it gave the first message, and what it was told.
+/// A cache's frames, whether the driver's start is handed over at first, what its link gives, what is done with it, how many requests the
+/// link was posted before it gave the first message, and what it was told.
 type Row = (
     u32,
     bool,

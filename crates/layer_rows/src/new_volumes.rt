@@ -27,8 +27,8 @@ static SMALL: Image = (
     ],
 );
 
-/// The blocks, their bytes and the inodes that are asked for, and the sizes of that volume, worked out by hand, with bytes from a place on: those
-/// of a root's entry, or the last ones of a map.
+/// The blocks, their bytes and the inodes that are asked for, and the sizes of that volume, worked out by hand, with bytes from a place
+/// on: those of a root's entry, or the last ones of a map.
 static MADE: [(u32, u32, u32, &str, usize, &[u8]); 4] = [
     // both maps a block, one block of inodes
     (

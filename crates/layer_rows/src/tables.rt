@@ -59,8 +59,8 @@ const ROOT_5: &[u8] = b"\xed\x41\x02\0\0\0\0\0\x80\0\0\0\x32\0\0\0\x32\0\0\0\x32
 /// What is done with a volume, what comes of it, and what it changes: from a place on, these bytes.
 type Steps = &'static [(Step, Result<u32, Halt>, usize, &'static [u8])];
 
-/// A volume's sizes and image, and what is done with it. A fresh volume of 64 blocks with 32 inodes is made at time 50: the root is inode 1, its
-/// zone the first.
+/// A volume's sizes and image, and what is done with it. A fresh volume of 64 blocks with 32 inodes is made at time 50: the root is inode
+/// 1, its zone the first.
 static ROWS: [(Sizes, Image, Steps); 12] = [
     // a fresh volume has free numbers
     (
