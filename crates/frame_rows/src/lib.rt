@@ -1,5 +1,9 @@
-//! Rows of frames, over a link that answers from a list: each expected value is worked out by hand.
+//! Rows of frames, and of blocks in them, over a link that answers from a list: each expected value is worked out by hand.
 #![tactic(auto)]
 
+#[cfg(test)]
+mod blocks;
+#[cfg(test)]
+mod caches;
 #[cfg(test)]
 mod frames;

@@ -1,8 +1,15 @@
-//! Rows of the layers above blocks, over blocks in memory: each expected value is worked out by hand from the format.
+//! Rows of superblocks, of new volumes, and of the layers above blocks, over blocks in memory. Each expected value is taken from the
+//! format's tables or worked out by hand.
 #![tactic(auto)]
 
 #[cfg(test)]
-mod calls;
+mod images;
+#[cfg(test)]
+mod new_volumes;
+#[cfg(test)]
+mod steps;
+#[cfg(test)]
+mod superblocks;
 #[cfg(test)]
 mod tables;
 #[cfg(test)]

@@ -1,16 +1,16 @@
 //! The maps and the inode table.
 
-use crate::volumes::{
-    Volume, fill, fresh_image, image_with, large, many_inodes, middle, more_inodes, put, put_bytes,
-    small,
-};
+use crate::images::{Image, image_of, put};
+use crate::steps::Step;
+use crate::volumes::{Sizes, Volume};
 use bitmap::Map;
 use inode_table::Inode;
+use std::alloc::Global;
 use std::test::Fail;
 use store::{Cut, Halt};
 
 /// The root of a fresh volume made at time 50, in zone 6.
-const ROOT: Inode = Inode {
+pub(crate) const ROOT: Inode = Inode {
     mode: 0x41ed,
     links: 2,
     uid: 0,
@@ -23,7 +23,7 @@ const ROOT: Inode = Inode {
 };
 
 /// An inode of which each field has another number.
-const OTHER: Inode = Inode {
+pub(crate) const OTHER: Inode = Inode {
     mode: 0x81a4,
     links: 0x0201,
     uid: 0x0403,
@@ -47,139 +47,251 @@ const OTHER: Inode = Inode {
 };
 
 /// Its bytes.
-const OTHER_BYTES: [u8; 64] = [
-    0xa4, 0x81, 1, 2, 3, 4, 5, 6, 7, 8, 9, 10, 11, 12, 13, 14, 15, 16, 17, 18, 19, 20, 21, 22,
-    0x17, 0, 0, 0, 0x18, 0, 0, 0, 0x19, 0, 0, 0, 0x1a, 0, 0, 0, 0x1b, 0, 0, 0, 0x1c, 0, 0, 0, 0x1d,
-    0, 0, 0, 0x1e, 0, 0, 0, 0x1f, 0, 0, 0, 0x21, 0x22, 0x23, 0x24,
+const BYTES: &[u8] =
+    b"\xa4\x81\x01\x02\x03\x04\x05\x06\x07\x08\x09\x0a\x0b\x0c\x0d\x0e\x0f\x10\x11\x12\x13\x14\x15\x16\
+\x17\0\0\0\x18\0\0\0\x19\0\0\0\x1a\0\0\0\x1b\0\0\0\x1c\0\0\0\x1d\0\0\0\x1e\0\0\0\x1f\0\0\0\x21\x22\x23\x24";
+
+/// The bytes of the root in a volume whose first data zone is 6, and of one whose first is 5.
+const ROOT_6: &[u8] = b"\xed\x41\x02\0\0\0\0\0\x80\0\0\0\x32\0\0\0\x32\0\0\0\x32\0\0\0\x06";
+
+const ROOT_5: &[u8] = b"\xed\x41\x02\0\0\0\0\0\x80\0\0\0\x32\0\0\0\x32\0\0\0\x32\0\0\0\x05";
+
+/// What is done with a volume, what comes of it, and what it changes: from a place on, these bytes.
+type Steps = &'static [(Step, Result<u32, Halt>, usize, &'static [u8])];
+
+/// A volume's sizes and image, and what is done with it. A fresh volume of 64 blocks with 32 inodes is made at time 50: the root is inode
+/// 1, its zone the first.
+static ROWS: [(Sizes, Image, Steps); 12] = [
+    // a fresh volume has free numbers
+    (
+        Sizes::Small,
+        (
+            65536,
+            &[
+                (2048, b"\x03\0\0\0\xfe", 3072),
+                (3072, b"\x03\0\0\0\0\0\0\xf8", 4096),
+                (4096, ROOT_6, 0),
+            ],
+        ),
+        &[
+            (Step::Lowest(Map::Inodes), Ok(2), 0, b""),
+            (Step::Count(Map::Inodes), Ok(31), 0, b""),
+            (Step::Lowest(Map::Zones), Ok(2), 0, b""),
+            (Step::Count(Map::Zones), Ok(57), 0, b""),
+        ],
+    ),
+    (
+        Sizes::Middle,
+        (
+            131072,
+            &[
+                (4096, b"\x03\0\0\0\xfe", 6144),
+                (6144, b"\x03\0\0\0\0\0\0\xf0", 8192),
+                (8192, ROOT_5, 0),
+            ],
+        ),
+        &[
+            (Step::Lowest(Map::Inodes), Ok(2), 0, b""),
+            (Step::Count(Map::Inodes), Ok(31), 0, b""),
+            (Step::Lowest(Map::Zones), Ok(2), 0, b""),
+            (Step::Count(Map::Zones), Ok(58), 0, b""),
+        ],
+    ),
+    (
+        Sizes::Large,
+        (
+            262144,
+            &[
+                (8192, b"\x03\0\0\0\xfe", 12288),
+                (12288, b"\x03\0\0\0\0\0\0\xf0", 16384),
+                (16384, ROOT_5, 0),
+            ],
+        ),
+        &[
+            (Step::Lowest(Map::Inodes), Ok(2), 0, b""),
+            (Step::Count(Map::Inodes), Ok(31), 0, b""),
+            (Step::Lowest(Map::Zones), Ok(2), 0, b""),
+            (Step::Count(Map::Zones), Ok(58), 0, b""),
+        ],
+    ),
+    // numbers change one bit, in and out
+    (
+        Sizes::Small,
+        (
+            65536,
+            &[
+                (2048, b"\x03\0\0\0\xfe", 3072),
+                (3072, b"\x03\0\0\0\0\0\0\xf8", 4096),
+                (4096, ROOT_6, 0),
+            ],
+        ),
+        &[
+            (Step::Mark(Map::Inodes, 2, true), Ok(1), 2048, b"\x07"),
+            (Step::Mark(Map::Inodes, 8, true), Ok(1), 2049, b"\x01"),
+            (Step::Mark(Map::Inodes, 32, true), Ok(1), 2052, b"\xff"),
+            (Step::Mark(Map::Zones, 2, true), Ok(1), 3072, b"\x07"),
+            (Step::Mark(Map::Zones, 58, true), Ok(1), 3079, b"\xfc"),
+            (Step::Lowest(Map::Inodes), Ok(3), 0, b""),
+            (Step::Count(Map::Inodes), Ok(28), 0, b""),
+            (Step::Lowest(Map::Zones), Ok(3), 0, b""),
+            (Step::Count(Map::Zones), Ok(55), 0, b""),
+            (Step::Mark(Map::Inodes, 2, false), Ok(1), 2048, b"\x03"),
+            (Step::Mark(Map::Inodes, 8, false), Ok(1), 2049, b"\0"),
+            (Step::Mark(Map::Inodes, 32, false), Ok(1), 2052, b"\xfe"),
+            (Step::Mark(Map::Zones, 2, false), Ok(1), 3072, b"\x03"),
+            (Step::Mark(Map::Zones, 58, false), Ok(1), 3079, b"\xf8"),
+            (Step::Mark(Map::Inodes, 33, true), Ok(0), 0, b""),
+            (Step::Mark(Map::Zones, 59, true), Ok(0), 0, b""),
+        ],
+    ),
+    // numbers past the last are not looked at: of 200 inodes 0 to 64 are in the map, and 65 to 200 are free
+    (
+        Sizes::MoreInodes,
+        (65536, &[(2048, b"\xff\xff\xff\xff\xff\xff\xff\xff\x01", 0)]),
+        &[
+            (Step::Lowest(Map::Inodes), Ok(65), 0, b""),
+            (Step::Count(Map::Inodes), Ok(136), 0, b""),
+        ],
+    ),
+    // 32 inodes, 0 to 32 in the map, and no bit past them: none is free
+    (
+        Sizes::Small,
+        (65536, &[(2048, b"\xff\xff\xff\xff\x01", 0)]),
+        &[
+            (Step::Lowest(Map::Inodes), Ok(0), 0, b""),
+            (Step::Count(Map::Inodes), Ok(0), 0, b""),
+        ],
+    ),
+    // nor is number 0, which stands for nothing: 2 to 7 are in the map
+    (
+        Sizes::Small,
+        (65536, &[(2048, b"\xfc", 0)]),
+        &[
+            (Step::Lowest(Map::Inodes), Ok(1), 0, b""),
+            (Step::Count(Map::Inodes), Ok(26), 0, b""),
+        ],
+    ),
+    // numbers 0 to 8191 are in the first block, all of them in the map; 8192 to 8292 are free
+    (
+        Sizes::ManyInodes,
+        (614400, &[(2048, b"", 3072)]),
+        &[
+            (Step::Lowest(Map::Inodes), Ok(8192), 0, b""),
+            (Step::Count(Map::Inodes), Ok(101), 0, b""),
+            (Step::Mark(Map::Inodes, 8192, true), Ok(1), 3072, b"\x01"),
+            (Step::Lowest(Map::Inodes), Ok(8193), 0, b""),
+            (Step::Count(Map::Inodes), Ok(100), 0, b""),
+            (Step::Mark(Map::Inodes, 8191, false), Ok(1), 3071, b"\x7f"),
+            (Step::Lowest(Map::Inodes), Ok(8191), 0, b""),
+            (Step::Count(Map::Inodes), Ok(101), 0, b""),
+            // the zone map begins behind both blocks
+            (Step::Mark(Map::Zones, 0, true), Ok(1), 4096, b"\x01"),
+        ],
+    ),
+    // inodes leave their neighbours
+    (
+        Sizes::Small,
+        (
+            65536,
+            &[
+                (2048, b"\x03\0\0\0\xfe", 3072),
+                (3072, b"\x03\0\0\0\0\0\0\xf8", 4096),
+                (4096, ROOT_6, 0),
+            ],
+        ),
+        &[
+            (Step::Load(1), Ok(1), 0, b""),
+            (Step::StoreOther(2), Ok(0), 4160, BYTES),
+            (Step::Load(2), Ok(2), 0, b""),
+            (Step::StoreOther(16), Ok(0), 5056, BYTES),
+            (Step::Load(16), Ok(2), 0, b""),
+            (Step::StoreOther(17), Ok(0), 5120, BYTES),
+            (Step::Load(17), Ok(2), 0, b""),
+            (Step::StoreOther(32), Ok(0), 6080, BYTES),
+            (Step::Load(32), Ok(2), 0, b""),
+            (Step::StoreOther(1), Ok(0), 4096, BYTES),
+            (Step::Load(1), Ok(2), 0, b""),
+            // none has these numbers
+            (Step::Load(0), Err(Halt::Unsound), 0, b""),
+            (Step::StoreRoot(0), Err(Halt::Unsound), 0, b""),
+            (Step::Load(33), Err(Halt::Unsound), 0, b""),
+            (Step::StoreRoot(33), Err(Halt::Unsound), 0, b""),
+        ],
+    ),
+    // inode 20 is entry 19: 1216 bytes into the table, which begins with block 4
+    (
+        Sizes::Middle,
+        (
+            131072,
+            &[
+                (4096, b"\x03\0\0\0\xfe", 6144),
+                (6144, b"\x03\0\0\0\0\0\0\xf0", 8192),
+                (8192, ROOT_6, 0),
+            ],
+        ),
+        &[
+            (Step::Load(1), Ok(1), 0, b""),
+            (Step::StoreOther(20), Ok(0), 9408, BYTES),
+        ],
+    ),
+    (
+        Sizes::Large,
+        (
+            262144,
+            &[
+                (8192, b"\x03\0\0\0\xfe", 12288),
+                (12288, b"\x03\0\0\0\0\0\0\xf0", 16384),
+                (16384, ROOT_6, 0),
+            ],
+        ),
+        &[
+            (Step::Load(1), Ok(1), 0, b""),
+            (Step::StoreOther(20), Ok(0), 17600, BYTES),
+        ],
+    ),
+    // the image ends in the middle of block 4, in which the table begins
+    (
+        Sizes::Small,
+        (
+            4608,
+            &[
+                (2048, b"\x03\0\0\0\xfe", 3072),
+                (3072, b"\x03\0\0\0\0\0\0\xf8", 4096),
+                (4096, ROOT_6, 0),
+            ],
+        ),
+        &[
+            (Step::Lowest(Map::Zones), Ok(2), 0, b""),
+            (Step::Count(Map::Zones), Ok(57), 0, b""),
+            (Step::Load(1), Err(Halt::Cut(Cut::Eio)), 0, b""),
+            (Step::StoreRoot(1), Err(Halt::Cut(Cut::Eio)), 0, b""),
+        ],
+    ),
 ];
 
-#[test]
-fn fresh_volume_has_free_numbers(rt: HostRuntime) -> Result<(), Fail> {
-    let mut volume = Volume::new(small(), fresh_image(rt.alloc(), 1024, 0xf8, 6)?);
-    assert!(rt; volume.has_free(Map::Inodes, Some(2), 31));
-    assert!(rt; volume.has_free(Map::Zones, Some(2), 57));
-    let mut volume = Volume::new(middle(), fresh_image(rt.alloc(), 2048, 0xf0, 5)?);
-    assert!(rt; volume.has_free(Map::Inodes, Some(2), 31));
-    assert!(rt; volume.has_free(Map::Zones, Some(2), 58));
-    let mut volume = Volume::new(large(), fresh_image(rt.alloc(), 4096, 0xf0, 5)?);
-    assert!(rt; volume.has_free(Map::Inodes, Some(2), 31));
-    assert!(rt; volume.has_free(Map::Zones, Some(2), 58));
-    Ok(())
-}
-
-#[test]
-fn numbers_change_one_bit(rt: HostRuntime) -> Result<(), Fail> {
-    let mut volume = Volume::new(small(), fresh_image(rt.alloc(), 1024, 0xf8, 6)?);
-    let mut image = fresh_image(rt.alloc(), 1024, 0xf8, 6)?;
-    // a map, a number, and the byte in which its bit stands, with the bit
-    let cases = [
-        (Map::Inodes, 2, 2048, 0x07),
-        (Map::Inodes, 8, 2049, 0x01),
-        (Map::Inodes, 32, 2052, 0xff),
-        (Map::Zones, 2, 3072, 0x07),
-        (Map::Zones, 58, 3079, 0xfc),
-    ];
-    for (map, number, at, byte) in cases {
-        assert!(rt; volume.mark(map, number, true));
-        put(&mut image, at, byte);
-        assert!(rt; volume.is(&image), "{number} in");
+/// Does these things with a volume: it is an error where something else comes of one, or the volume has other bytes then.
+fn are_done(
+    alloc: Global,
+    row: usize,
+    sizes: &Sizes,
+    image: &Image,
+    steps: Steps,
+) -> Result<(), Fail> {
+    let mut volume = Volume::new(sizes, image_of(alloc, image)?);
+    let mut wanted = image_of(alloc, image)?;
+    for (number, (step, came, at, bytes)) in steps.iter().enumerate() {
+        put(&mut wanted, *at, bytes);
+        if volume.does(step) != *came || volume.bytes() != wanted.as_slice() {
+            return Err(Fail::new(format_args!("step {number} of row {row}")));
+        }
     }
-    assert!(rt; volume.has_free(Map::Inodes, Some(3), 28));
-    assert!(rt; volume.has_free(Map::Zones, Some(3), 55));
-    for (map, number, _, _) in cases {
-        assert!(rt; volume.mark(map, number, false));
+    Ok(())
+}
+
+#[test]
+fn maps_and_inodes_are_changed(rt: HostRuntime) -> Result<(), Fail> {
+    for (row, (sizes, image, steps)) in ROWS.iter().enumerate() {
+        are_done(rt.alloc(), row, sizes, image, steps)?;
     }
-    let image = fresh_image(rt.alloc(), 1024, 0xf8, 6)?;
-    assert!(rt; volume.is(&image), "all out");
-    assert!(rt; !volume.mark(Map::Inodes, 33, true));
-    assert!(rt; !volume.mark(Map::Zones, 59, true));
-    Ok(())
-}
-
-#[test]
-fn numbers_past_the_last_are_not_looked_at(rt: HostRuntime) -> Result<(), Fail> {
-    // 200 inodes, 0 to 64 in the map: 65 to 200 are free
-    let mut image = image_with(rt.alloc(), 65536, &[(2056, 1)])?;
-    fill(&mut image, 2048, 2056, 0xff);
-    let mut volume = Volume::new(more_inodes(), image);
-    assert!(rt; volume.has_free(Map::Inodes, Some(65), 136));
-    // 32 inodes, 0 to 32 in the map, and no bit past them: none is free
-    let mut image = image_with(rt.alloc(), 65536, &[(2052, 1)])?;
-    fill(&mut image, 2048, 2052, 0xff);
-    let mut volume = Volume::new(small(), image);
-    assert!(rt; volume.has_free(Map::Inodes, None, 0));
-    // nor is number 0, which stands for nothing: 2 to 7 are in the map
-    let mut volume = Volume::new(small(), image_with(rt.alloc(), 65536, &[(2048, 0xfc)])?);
-    assert!(rt; volume.has_free(Map::Inodes, Some(1), 26));
-    Ok(())
-}
-
-#[test]
-fn maps_go_on_in_the_next_block(rt: HostRuntime) -> Result<(), Fail> {
-    // numbers 0 to 8191 are in the first block, all of them in the map; 8192 to 8292 are free
-    let mut image = image_with(rt.alloc(), 614400, &[])?;
-    fill(&mut image, 2048, 3072, 0xff);
-    let mut volume = Volume::new(many_inodes(), image);
-    assert!(rt; volume.has_free(Map::Inodes, Some(8192), 101));
-    assert!(rt; volume.mark(Map::Inodes, 8192, true));
-    assert!(rt; volume.has_free(Map::Inodes, Some(8193), 100));
-    assert!(rt; volume.mark(Map::Inodes, 8191, false));
-    assert!(rt; volume.has_free(Map::Inodes, Some(8191), 101));
-    // the zone map begins behind both blocks
-    assert!(rt; volume.mark(Map::Zones, 0, true));
-    let mut image = image_with(rt.alloc(), 614400, &[(3072, 1), (4096, 1)])?;
-    fill(&mut image, 2048, 3071, 0xff);
-    put(&mut image, 3071, 0x7f);
-    assert!(rt; volume.is(&image), "both maps");
-    Ok(())
-}
-
-#[test]
-fn inodes_leave_their_neighbours(rt: HostRuntime) -> Result<(), Fail> {
-    let mut volume = Volume::new(small(), fresh_image(rt.alloc(), 1024, 0xf8, 6)?);
-    let mut image = fresh_image(rt.alloc(), 1024, 0xf8, 6)?;
-    assert!(rt; volume.loads(1, Ok(ROOT)));
-    // numbers, and where they stand in blocks of 1024 bytes
-    for (number, begins) in [(2, 4160), (16, 5056), (17, 5120), (32, 6080), (1, 4096)] {
-        assert!(rt; volume.stores(number, &OTHER, Ok(())));
-        put_bytes(&mut image, begins, &OTHER_BYTES);
-        assert!(rt; volume.is(&image), "{number}");
-        assert!(rt; volume.loads(number, Ok(OTHER)));
-    }
-    for number in [0, 33] {
-        assert!(rt; volume.loads(number, Err(Halt::Unsound)));
-        assert!(rt; volume.stores(number, &ROOT, Err(Halt::Unsound)));
-    }
-    assert!(rt; volume.is(&image), "none has it");
-    Ok(())
-}
-
-#[test]
-fn inodes_stand_behind_the_maps(rt: HostRuntime) -> Result<(), Fail> {
-    // inode 20 is entry 19: 1216 bytes into the table, which begins with block 4
-    let mut volume = Volume::new(middle(), fresh_image(rt.alloc(), 2048, 0xf0, 6)?);
-    let mut image = fresh_image(rt.alloc(), 2048, 0xf0, 6)?;
-    assert!(rt; volume.loads(1, Ok(ROOT)));
-    assert!(rt; volume.stores(20, &OTHER, Ok(())));
-    put_bytes(&mut image, 9408, &OTHER_BYTES);
-    assert!(rt; volume.is(&image), "blocks of 2048 bytes");
-    let mut volume = Volume::new(large(), fresh_image(rt.alloc(), 4096, 0xf0, 6)?);
-    let mut image = fresh_image(rt.alloc(), 4096, 0xf0, 6)?;
-    assert!(rt; volume.loads(1, Ok(ROOT)));
-    assert!(rt; volume.stores(20, &OTHER, Ok(())));
-    put_bytes(&mut image, 17600, &OTHER_BYTES);
-    assert!(rt; volume.is(&image), "blocks of 4096 bytes");
-    Ok(())
-}
-
-#[test]
-fn blocks_past_the_last_are_cut_off(rt: HostRuntime) -> Result<(), Fail> {
-    // the image ends in the middle of block 4, in which the table begins
-    let mut image = fresh_image(rt.alloc(), 1024, 0xf8, 6)?;
-    image.truncate(4608);
-    let mut volume = Volume::new(small(), image);
-    assert!(rt; volume.has_free(Map::Zones, Some(2), 57));
-    assert!(rt; volume.loads(1, Err(Halt::Cut(Cut::Eio))));
-    assert!(rt; volume.stores(1, &ROOT, Err(Halt::Cut(Cut::Eio))));
     Ok(())
 }

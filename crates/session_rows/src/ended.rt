@@ -3,6 +3,8 @@ ghost use Rattle.std.specs.Prelude.{◌≡◌};
 ghost use Rattle.layout.specs.Places.{IsGeometry};
 ghost use Rattle.board.specs.View.{IsKeeper, opener};
 
+use crate::lines::is_told;
+use crate::services::{Came, asked_and_stopped};
 use crate::silent::Silent;
 use board::{Board, Seat};
 use counting_link::Noting;
@@ -11,8 +13,6 @@ use launch::opened::over;
 use layout::Geometry;
 use media::Media;
 use samples::new_volume;
-use session_samples::services::{Asked, asked_and_stopped};
-use shared_server::refusal::SessionRefusal;
 use std::alloc::Global;
 use std::marker::Brand;
 use std::sync::{Arc, Wait};
@@ -26,7 +26,7 @@ fn ask_and_stop<N: Room, R: Wait + Copy>(
     seat: Seat,
     media: Media,
     geometry: Geometry,
-) -> Option<Asked>
+) -> Option<Came>
     requires board { board ≡ N.table }
     requires seat { IsKeeper N.table seat × (seat.view ≡ opener) }
     requires geometry { IsGeometry geometry × (geometry ≡ N.geometry) }
@@ -43,7 +43,7 @@ fn ask_and_stop<N: Room, R: Wait + Copy>(
 }
 
 /// The same, over a service on the volume in an image.
-fn asked_of<R: Wait + Copy>(alloc: Global, rt: R, image: &[u8]) -> Option<Asked> {
+fn asked_of<R: Wait + Copy>(alloc: Global, rt: R, image: &[u8]) -> Option<Came> {
     let Ok(geometry) = Geometry::parse(image) else {
         return None;
     };
@@ -55,11 +55,12 @@ fn asked_of<R: Wait + Copy>(alloc: Global, rt: R, image: &[u8]) -> Option<Asked>
 #[test]
 fn a_stopped_service_makes_no_session(rt: HostRuntime) -> Result<(), Fail> {
     let image = new_volume(rt.alloc(), 1024)?;
-    let Some(came) = asked_of(rt.alloc(), rt, image.as_slice()) else {
-        panic!(rt; "not served");
+    let Some(came) = asked_of(rt.alloc(), rt, &image) else {
+        return Err(Fail::from("not served"));
     };
-    assert_eq!(rt; came.line.as_str(), "cut\n");
-    assert_eq!(rt; came.refusal, Some(SessionRefusal::Stopped));
-    assert!(rt; came.image == image);
-    Ok(())
+    is_told(came.lines.as_str(), "cut\nSome(Stopped)\n")?;
+    if came.image.as_slice() == image.as_slice() {
+        return Ok(());
+    }
+    Err(Fail::from("another image"))
 }

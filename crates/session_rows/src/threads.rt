@@ -9,6 +9,8 @@ ghost use Rattle.inline.specs.Inline.{IsReady};
 ghost use Rattle.board.specs.View.{IsKeeper, opener};
 ghost use Rattle.startup.specs.Starting.{opening_of, IsPrepared};
 
+use crate::lines::is_told;
+use crate::services::two_in_threads;
 use board::{Board, Seat};
 use counting_link::Noting;
 use driven::Driven;
@@ -19,14 +21,19 @@ use launch::opened::mounted;
 use launch::start::drivers_on;
 use policy::Setup;
 use reissue::link::TrueLink;
-use samples::{ROOT, new_volume, supply_of, whole};
-use session_samples::services::two_in_threads;
+use samples::{new_volume, supply_of, whole};
 use startup::{Prepared, prepare};
 use std::alloc::{AllocError, Global};
 use std::marker::Brand;
 use std::sync::{Arc, Wait};
 use std::test::Fail;
 use std::thread::Threads;
+
+/// What each of them is answered.
+const LINES: &str = "inode 1 mode 0040755 links 2 uid 0 gid 0 size 128 times 50 50 50
+inode 1 mode 0040755 links 2 uid 0 gid 0 size 128 times 50 50 50
+inode 1 mode 0040755 links 2 uid 0 gid 0 size 128 times 50 50 50
+";
 
 /// Two sessions call in threads of their own, over a service on a link.
 fn over_threads<
@@ -101,14 +108,11 @@ fn called_on_threads<R: Threads + Wait + Copy + Send + Sync, D: LocalDriver + Se
 
 #[test]
 fn two_threads_call(rt: HostRuntime) -> Result<(), Fail> {
-    let alloc = rt.alloc();
-    let image = new_volume(alloc, 1024)?;
-    let supply = supply_of(alloc, 128, &[None])?;
-    let got = called_on_threads(alloc, rt, image.as_slice(), &whole(), supply);
-    let lines = ROOT.repeat(alloc, 3)?;
-    let Some((one, two)) = got else {
-        panic!(rt; "not served");
+    let image = new_volume(rt.alloc(), 1024)?;
+    let supply = supply_of(rt.alloc(), 128, &[None])?;
+    let Some((one, two)) = called_on_threads(rt.alloc(), rt, &image, &whole(), supply) else {
+        return Err(Fail::from("not served"));
     };
-    assert!(rt; one == lines && two == lines);
-    Ok(())
+    is_told(one.as_str(), LINES)?;
+    is_told(two.as_str(), LINES)
 }

@@ -1,5 +1,5 @@
 use Rattle.std.proofs.Common.{◌≡◌}
-use Rattle.stored_rows.proofs.blocks.clear_run.Given as goal
+use Rattle.frame_rows.proofs.blocks.clear_run.Given as goal
 
 abbrev pub invariant-loop-block : goal.invariant-loop-block
 invariant-loop-block g l = record {

@@ -11,7 +11,7 @@ use std::sync::Wait;
 use tree::{Call, Outcome};
 
 /// A session, whichever service it is of.
-pub trait Caller {
+pub(crate) trait Caller {
     /// Makes a call at this time.
     fn make(&mut self, now: u32, call: &Call<'_>) -> Outcome;
 
@@ -45,40 +45,30 @@ impl<N: Room, R: Wait + Copy, L: Recorder<N>, S: FileServer<L>> Caller
 }
 
 /// Makes a call at this time, and adds a line with what it is answered, where there is memory for it.
-pub fn told<C: Caller>(caller: &mut C, now: u32, call: &Call<'_>, lines: &mut String) {
+pub(crate) fn told<C: Caller>(caller: &mut C, now: u32, call: &Call<'_>, lines: &mut String) {
     let outcome = caller.make(now, call);
     let _ = writeln!(lines, "{outcome}");
 }
 
-/// What two sessions got.
-#[derive(Drop)]
-pub struct Got {
-    /// A line for each answer.
-    pub lines: String,
-    /// How many marks each had seen before they met.
-    pub apart: (u64, u64),
-    /// How many each had seen once they had met.
-    pub seen: (u64, u64),
-    /// The device, as each saw it at last.
-    pub devices: (Device, Device),
+/// Adds a line with how many marks each of two sessions has seen.
+fn told_marks<C: Caller>(one: &C, two: &C, lines: &mut String) {
+    let (first, second) = (one.marks(), two.marks());
+    let _ = writeln!(lines, "{first} {second}");
 }
 
-/// Two sessions ask for the root three times each in turn, meet, and ask for the device.
-pub fn in_turn<C: Caller>(alloc: Global, one: &mut C, two: &mut C) -> Got {
+/// Two sessions ask for the root three times each in turn, meet, and ask for the device: a line for each answer, how many marks each had
+/// seen before they met and after, and the device, as each saw it at last.
+pub(crate) fn in_turn<C: Caller>(alloc: Global, one: &mut C, two: &mut C) -> String {
     let stat = Call::Stat { path: b"/" };
     let mut lines = String::new(alloc);
     for now in [100, 101, 102] {
         told(one, now, &stat, &mut lines);
         told(two, now, &stat, &mut lines);
     }
-    let apart = (one.marks(), two.marks());
+    told_marks(one, two, &mut lines);
     one.meets(two);
-    let seen = (one.marks(), two.marks());
-    let devices = (one.looks(), two.looks());
-    Got {
-        lines,
-        apart,
-        seen,
-        devices,
-    }
+    told_marks(one, two, &mut lines);
+    let (first, second) = (one.looks(), two.looks());
+    let _ = writeln!(lines, "{first:?} {second:?}");
+    lines
 }

@@ -1,7 +1,0 @@
-//! Rows of blocks in the frames of a cache, over a link that answers from a list: each expected value is worked out by hand.
-#![tactic(auto)]
-
-#[cfg(test)]
-mod blocks;
-#[cfg(test)]
-mod lists;
