@@ -1,31 +1,46 @@
-//! Who may do what.
+//! Who may do what with a file of user 5 and group 7 with mode 604.
 
 use path::{Wish, is_owner, may};
 use std::test::Fail;
 use tree::User;
 
-/// A file of user 5 and group 7 with mode 604.
-fn may_with(uid: u16, gid: u16, wish: Wish) -> bool {
-    may(User { uid, gid }, 0o604, 5, 7, wish)
-}
+/// A user and a group, a wish, and whether it is granted.
+static MAY: [(u16, u16, Wish, bool); 8] = [
+    // the first that fits speaks
+    (5, 7, Wish::Read, true),
+    (5, 8, Wish::Write, true),
+    (5, 7, Wish::Search, false),
+    (9, 7, Wish::Read, false),
+    (9, 8, Wish::Read, true),
+    (9, 8, Wish::Write, false),
+    // user 0 may all
+    (0, 9, Wish::Read, true),
+    (0, 9, Wish::Search, true),
+];
+
+/// A user and a group, and whether it is the owner, or user 0.
+static OWNS: [(u16, u16, bool); 3] = [(0, 9, true), (5, 9, true), (6, 7, false)];
 
 #[test]
-fn the_first_that_fits_speaks(rt: HostRuntime) -> Result<(), Fail> {
-    assert!(rt; may_with(5, 7, Wish::Read));
-    assert!(rt; may_with(5, 8, Wish::Write));
-    assert!(rt; !may_with(5, 7, Wish::Search));
-    assert!(rt; !may_with(9, 7, Wish::Read));
-    assert!(rt; may_with(9, 8, Wish::Read));
-    assert!(rt; !may_with(9, 8, Wish::Write));
-    Ok(())
-}
-
-#[test]
-fn user_0_may_all(rt: HostRuntime) -> Result<(), Fail> {
-    assert!(rt; may_with(0, 9, Wish::Read));
-    assert!(rt; may_with(0, 9, Wish::Search));
-    assert!(rt; is_owner(User { uid: 0, gid: 9 }, 5));
-    assert!(rt; is_owner(User { uid: 5, gid: 9 }, 5));
-    assert!(rt; !is_owner(User { uid: 6, gid: 7 }, 5));
+fn who_may_do_what(rt: HostRuntime) -> Result<(), Fail> {
+    let _ = rt;
+    for (number, (uid, gid, wish, wanted)) in MAY.iter().enumerate() {
+        let user = User {
+            uid: *uid,
+            gid: *gid,
+        };
+        if may(user, 0o604, 5, 7, *wish) != *wanted {
+            return Err(Fail::new(format_args!("wish {number}")));
+        }
+    }
+    for (uid, gid, wanted) in &OWNS {
+        let user = User {
+            uid: *uid,
+            gid: *gid,
+        };
+        if is_owner(user, 5) != *wanted {
+            return Err(Fail::new(format_args!("owner {uid}")));
+        }
+    }
     Ok(())
 }

@@ -2,108 +2,137 @@
 
 use descriptors::Descriptors;
 use errno::Errno;
-use std::alloc::{AllocError, Global};
-use std::process::Abort;
 use std::test::Fail;
 use tree::OpenFlags;
 
-/// A call answers this.
-fn answers(rt: &impl Abort, got: Result<u32, Errno>, wanted: Result<u32, Errno>) {
-    assert_eq!(rt; got, wanted);
+/// A call on the open files.
+#[derive(Clone, Copy)]
+enum Call {
+    /// Opens an inode for reading: the descriptor.
+    Put(u16),
+    /// The descriptor that leads where this one does.
+    Dup(u32),
+    /// The inode that a descriptor lets go.
+    Close(u32),
+    /// Sets a descriptor's position.
+    Seek(u32, u32),
+    /// The inode that is read by a descriptor, and the position.
+    Get(u32),
+    /// The inode, if some open file is of it.
+    IsOpen(u16),
 }
 
-/// A close lets this file go, if any.
-fn lets_go(rt: &impl Abort, got: Result<Option<u16>, Errno>, wanted: Result<Option<u16>, Errno>) {
-    assert_eq!(rt; got, wanted);
-}
+/// What a call gives: a descriptor or an inode, and a position, 0 where it gives none.
+type Answer = Result<Option<(u32, u32)>, Errno>;
 
-/// A descriptor leads to this file, with this position and these flags.
-fn leads_to(
-    rt: &impl Abort,
-    got: Option<(u16, u32, OpenFlags)>,
-    wanted: Option<(u16, u32, OpenFlags)>,
-) {
-    assert_eq!(rt; got, wanted);
-}
+/// A session's call, and what it is to give.
+type Step = (u8, Call, Answer);
 
-#[test]
-fn a_session_has_32_descriptors(rt: HostRuntime) -> Result<(), Fail> {
-    let mut opens = Descriptors::new(rt.alloc())?;
-    for fd in 0..32 {
-        answers(&rt, opens.put(0, 1, OpenFlags::READ), Ok(fd));
+/// A session has 32 descriptors, all of inode 1 here.
+static DESCRIPTORS: [Step; 6] = [
+    (0, Call::Put(1), Err(Errno::EMFILE)),
+    (0, Call::Dup(3), Err(Errno::EMFILE)),
+    (0, Call::Dup(32), Err(Errno::EBADF)),
+    (0, Call::Close(5), Ok(Some((1, 0)))),
+    (0, Call::Close(5), Err(Errno::EBADF)),
+    (0, Call::Put(1), Ok(Some((5, 0)))),
+];
+
+/// All sessions have 128 open files, all of inode 7 here.
+static OPEN_FILES: [Step; 6] = [
+    (3, Call::Put(7), Err(Errno::EMFILE)),
+    (63, Call::Put(8), Err(Errno::ENFILE)),
+    (2, Call::Close(31), Ok(Some((7, 0)))),
+    (63, Call::Put(8), Ok(Some((0, 0)))),
+    (63, Call::IsOpen(8), Ok(Some((8, 0)))),
+    (63, Call::IsOpen(9), Ok(None)),
+];
+
+/// A dup gives the lowest number and shares the position, and the open file stays as long as one leads to it.
+static DUPS: [Step; 12] = [
+    (0, Call::Put(4), Ok(Some((0, 0)))),
+    (0, Call::Put(4), Ok(Some((1, 0)))),
+    (0, Call::Dup(0), Ok(Some((2, 0)))),
+    (0, Call::Seek(2, 77), Ok(Some((2, 77)))),
+    (0, Call::Get(0), Ok(Some((4, 77)))),
+    (0, Call::Get(1), Ok(Some((4, 0)))),
+    (0, Call::Get(2), Ok(Some((4, 77)))),
+    (1, Call::Get(0), Ok(None)),
+    (0, Call::Close(0), Ok(None)),
+    (0, Call::Get(2), Ok(Some((4, 77)))),
+    (0, Call::Close(2), Ok(Some((4, 0)))),
+    (0, Call::IsOpen(4), Ok(Some((4, 0)))),
+];
+
+/// Makes a session's call.
+fn made(opens: &mut Descriptors, session: u8, call: Call) -> Answer {
+    if session >= 64 {
+        return Ok(None);
     }
-    answers(&rt, opens.put(0, 1, OpenFlags::READ), Err(Errno::EMFILE));
-    answers(&rt, opens.dup(0, 3), Err(Errno::EMFILE));
-    answers(&rt, opens.dup(0, 32), Err(Errno::EBADF));
-    lets_go(&rt, opens.close(0, 5), Ok(Some(1)));
-    lets_go(&rt, opens.close(0, 5), Err(Errno::EBADF));
-    answers(&rt, opens.put(0, 1, OpenFlags::READ), Ok(5));
-    Ok(())
+    match call {
+        Call::Put(inode) => Ok(Some((opens.put(session, inode, OpenFlags::READ)?, 0))),
+        Call::Dup(fd) => Ok(Some((opens.dup(session, fd)?, 0))),
+        Call::Close(fd) => Ok(named(opens.close(session, fd)?)),
+        Call::Seek(fd, position) => Ok(sought(opens, session, fd, position)),
+        Call::Get(fd) => Ok(read_by(opens.get(session, fd))),
+        Call::IsOpen(inode) if opens.is_open(inode) => Ok(named(Some(inode))),
+        Call::IsOpen(_) => Ok(None),
+    }
 }
 
-#[test]
-fn all_sessions_have_128_open_files(rt: HostRuntime) -> Result<(), Fail> {
-    let mut opens = Descriptors::new(rt.alloc())?;
-    for session in 0..4 {
-        for fd in 0..32 {
-            answers(&rt, opens.put(session, 7, OpenFlags::READ), Ok(fd));
-        }
+/// The inode that was named.
+fn named(inode: Option<u16>) -> Option<(u32, u32)> {
+    Some((u32::from(inode?), 0))
+}
+
+/// The inode and the position of an open file, if it is open for reading alone.
+fn read_by(file: Option<(u16, u32, OpenFlags)>) -> Option<(u32, u32)> {
+    match file {
+        Some((inode, position, OpenFlags::READ)) => Some((u32::from(inode), position)),
+        _ => None,
     }
-    answers(&rt, opens.put(3, 7, OpenFlags::READ), Err(Errno::EMFILE));
-    answers(&rt, opens.put(63, 8, OpenFlags::READ), Err(Errno::ENFILE));
-    lets_go(&rt, opens.close(2, 31), Ok(Some(7)));
-    answers(&rt, opens.put(63, 8, OpenFlags::READ), Ok(0));
-    assert!(rt; opens.is_open(8));
-    assert!(rt; !opens.is_open(9));
-    Ok(())
 }
 
 /// Sets the position of a descriptor's open file, if it leads to one.
-fn seek(opens: &mut Descriptors, fd: u32, position: u32) -> bool {
-    if opens.get(0, fd).is_none() || position > 2147483647 {
-        return false;
+fn sought(opens: &mut Descriptors, session: u8, fd: u32, position: u32) -> Option<(u32, u32)> {
+    if session >= 64 || opens.get(session, fd).is_none() || position > 2147483647 {
+        return None;
     }
-    opens.set_position(0, fd, position);
-    true
+    opens.set_position(session, fd, position);
+    Some((fd, position))
+}
+
+/// Makes calls one after the other: each gives what stands beside it.
+fn gives(opens: &mut Descriptors, row: &str, steps: &[Step]) -> Result<(), Fail> {
+    for (number, (session, call, wanted)) in steps.iter().enumerate() {
+        if made(opens, *session, *call) != *wanted {
+            return Err(Fail::new(format_args!("{row}: step {number}")));
+        }
+    }
+    Ok(())
+}
+
+/// A session opens an inode 32 times, which gives the descriptors 0 to 31.
+fn fill(opens: &mut Descriptors, session: u8, inode: u16) -> Result<(), Fail> {
+    for fd in 0..32 {
+        gives(
+            opens,
+            "fill",
+            &[(session, Call::Put(inode), Ok(Some((fd, 0))))],
+        )?;
+    }
+    Ok(())
 }
 
 #[test]
-fn dup_gives_the_lowest_number(rt: HostRuntime) -> Result<(), Fail> {
-    let flags = OpenFlags::READ;
+fn files_are_opened(rt: HostRuntime) -> Result<(), Fail> {
     let mut opens = Descriptors::new(rt.alloc())?;
-    answers(&rt, opens.put(0, 4, flags), Ok(0));
-    answers(&rt, opens.put(0, 4, flags), Ok(1));
-    answers(&rt, opens.dup(0, 0), Ok(2));
-    Ok(())
-}
-
-/// A file that is opened twice; the first open file has a second descriptor, number 2, by which its position is set to 77.
-fn with_a_dup(alloc: Global) -> Result<Descriptors, AllocError> {
-    let mut opens = Descriptors::new(alloc)?;
-    let _ = opens.put(0, 4, OpenFlags::READ);
-    let _ = opens.put(0, 4, OpenFlags::READ);
-    let _ = opens.dup(0, 0);
-    seek(&mut opens, 2, 77);
-    Ok(opens)
-}
-
-#[test]
-fn dup_shares_the_position(rt: HostRuntime) -> Result<(), Fail> {
-    let flags = OpenFlags::READ;
-    let opens = with_a_dup(rt.alloc())?;
-    leads_to(&rt, opens.get(0, 0), Some((4, 77, flags)));
-    leads_to(&rt, opens.get(0, 1), Some((4, 0, flags)));
-    leads_to(&rt, opens.get(0, 2), Some((4, 77, flags)));
-    leads_to(&rt, opens.get(1, 0), None);
-    Ok(())
-}
-
-#[test]
-fn a_dup_stays_open(rt: HostRuntime) -> Result<(), Fail> {
-    let mut opens = with_a_dup(rt.alloc())?;
-    lets_go(&rt, opens.close(0, 0), Ok(None));
-    leads_to(&rt, opens.get(0, 2), Some((4, 77, OpenFlags::READ)));
-    lets_go(&rt, opens.close(0, 2), Ok(Some(4)));
-    assert!(rt; opens.is_open(4));
-    Ok(())
+    fill(&mut opens, 0, 1)?;
+    gives(&mut opens, "descriptors", &DESCRIPTORS)?;
+    let mut opens = Descriptors::new(rt.alloc())?;
+    for session in 0..4 {
+        fill(&mut opens, session, 7)?;
+    }
+    gives(&mut opens, "open files", &OPEN_FILES)?;
+    gives(&mut Descriptors::new(rt.alloc())?, "dups", &DUPS)
 }

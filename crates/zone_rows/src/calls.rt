@@ -1,76 +1,70 @@
-//! Calls on zones, over any blocks.
+//! Calls on a volume, and what each is to give.
 
-ghost use Rattle.std.specs.Prelude.{◌<◌, length};
-ghost use Rattle.store.specs.Volume.{IsOn};
+use store::Halt;
 
-use bitmap::{Map, count_free};
-use cutting::detach_from;
-use inode_table::load;
-use layout::Geometry;
-use store::{Blocks, Cut, Halt};
-use zone::pages::attach;
-use zone::places::{lookup, lookup_row};
-
-/// How many zones are free.
-pub(crate) fn free<B: Blocks>(blocks: &mut B, geometry: &Geometry) -> Result<u32, Cut>
-    requires { IsOn B.world geometry.now blocks.old }
-    ensures { IsOn B.world geometry.now blocks.new }
-{
-    count_free(blocks, geometry, Map::Zones)
+/// A field of inode 1.
+#[derive(Clone, Copy)]
+pub(crate) enum Field {
+    Mode,
+    Links,
+    Size,
+    Atime,
+    Mtime,
+    Ctime,
+    /// One of its ten zone numbers.
+    Zone(usize),
 }
 
-/// Attaches a page of an inode.
-pub(crate) fn hold<B: Blocks>(
-    blocks: &mut B,
-    geometry: &Geometry,
-    inode: u32,
-    page: u32,
-) -> Result<u32, Halt>
-    requires { IsOn B.world geometry.now blocks.old }
-    ensures { IsOn B.world geometry.now blocks.new }
-{
-    attach(blocks, geometry, inode, page)
+/// A call on a volume. Where no inode is named it is inode 1.
+#[derive(Clone, Copy)]
+pub(crate) enum Call<'a> {
+    /// How many zones are free.
+    Free,
+    /// Attaches pages of an inode.
+    Attach(u32, &'a [u32]),
+    /// Lets go the pages of an inode from one on.
+    Detach(u32, u32),
+    /// The zone of a page.
+    Zone(u32),
+    /// Whether these are the zones of pages side by side, from one on, where up to four are asked for: how many.
+    Zones(u32, &'a [u32]),
+    /// Whether each of these pages has a data zone of 1024 bytes, which are zeros.
+    Blank(&'a [u32]),
+    /// Whether each of these pages is a hole.
+    Holes(&'a [u32]),
+    /// Reads from a place on into so many bytes of a slice of 0x2e, which then has these bytes: how many came.
+    Read(u32, usize, &'a [u8]),
+    /// Writes bytes from a place on.
+    Write(u32, &'a [u8]),
+    /// Makes the file that long.
+    Resize(u32),
+    /// Sets the times.
+    Stamp(u32),
+    /// A field.
+    Field(Field),
+    /// How many zones more it takes when so many of its pages from the first one on are held too.
+    Need(u32, u32),
+    /// Whether there are zones enough for so many bytes from a place on: 1 or 0.
+    Room(u32, u32),
 }
 
-/// Lets go the pages of an inode from one on.
-pub(crate) fn drop_from<B: Blocks>(
-    blocks: &mut B,
-    geometry: &Geometry,
-    inode: u32,
-    page: u32,
-) -> Result<(), Halt>
-    requires { IsOn B.world geometry.now blocks.old }
-    ensures { IsOn B.world geometry.now blocks.new }
-{
-    detach_from(blocks, geometry, inode, page)
-}
+/// What a call gives: a number, which is 0 where it gives none; or none, where it isn't so, or can't be tried.
+pub(crate) type Answer = Result<Option<u32>, Halt>;
 
-/// The zone of a page of an inode.
-pub(crate) fn find<B: Blocks>(
-    blocks: &mut B,
-    geometry: &Geometry,
-    inode: u32,
-    page: u32,
-) -> Result<u32, Halt>
-    requires { IsOn B.world geometry.now blocks.old }
-    ensures { IsOn B.world geometry.now blocks.new }
-{
-    let loaded = load(blocks, geometry, inode)?;
-    Ok(lookup(blocks, geometry, &loaded, page)?)
-}
+/// A call, and the number or the halt that it is to give.
+pub(crate) type Step<'a> = (Call<'a>, Result<u32, Halt>);
 
-/// The zones of pages of an inode that stand side by side, from one on.
-pub(crate) fn find_row<B: Blocks>(
-    blocks: &mut B,
-    geometry: &Geometry,
-    inode: u32,
-    page: u32,
-    into: &mut [u32],
-) -> Result<usize, Halt>
-    requires on { IsOn B.world geometry.now blocks.old }
-    requires some { 0 < length into.old }
-    ensures { IsOn B.world geometry.now blocks.new }
-{
-    let loaded = load(blocks, geometry, inode)?;
-    Ok(lookup_row(blocks, geometry, &loaded, page, into)?)
+/// How long the file is.
+pub(crate) const SIZE: Call<'static> = Call::Field(Field::Size);
+
+/// It was done, or it is so.
+pub(crate) const DONE: Result<u32, Halt> = Ok(0);
+
+/// Whether a call gave what it was to give.
+pub(crate) fn is_wanted(got: Answer, wanted: Result<u32, Halt>) -> bool {
+    match (got, wanted) {
+        (Ok(Some(got)), Ok(wanted)) => got == wanted,
+        (Err(got), Err(wanted)) => got == wanted,
+        _ => false,
+    }
 }

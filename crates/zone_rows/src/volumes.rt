@@ -1,83 +1,20 @@
-//! Small volumes with one file.
+//! A volume in memory, on which calls are made.
 
 ghost use Rattle.std.specs.Prelude.{◌≡◌};
 ghost use Rattle.layout.specs.Places.{IsGeometry};
 
-use crate::calls::{drop_from, find, find_row, free, hold};
+use crate::calls::{Answer, Call, Field, Step, is_wanted};
+use bitmap::{Map, count_free};
+use cutting::detach_from;
+use file::{read_at, set_size, stamp, write_at};
+use file_room::{has_room, need};
+use inode_table::load;
 use layout::Geometry;
 use memory::Memory;
-use std::alloc::{AllocError, Global};
+use std::test::Fail;
 use store::Halt;
-
-/// A volume of 64 blocks of 1024 bytes with 32 inodes: 58 data zones.
-pub(crate) fn small() -> Geometry
-    ensures { IsGeometry result }
-{
-    Geometry {
-        block_size: 1024,
-        inodes: 32,
-        zones: 64,
-        inode_map_blocks: 1,
-        zone_map_blocks: 1,
-        first_zone: 6,
-    }
-}
-
-/// The same with blocks of 2048 bytes: the table takes one block, so there is a data zone more.
-pub(crate) fn middle() -> Geometry
-    ensures { IsGeometry result }
-{
-    Geometry {
-        block_size: 2048,
-        inodes: 32,
-        zones: 64,
-        inode_map_blocks: 1,
-        zone_map_blocks: 1,
-        first_zone: 5,
-    }
-}
-
-/// And with blocks of 4096 bytes.
-pub(crate) fn large() -> Geometry
-    ensures { IsGeometry result }
-{
-    Geometry {
-        block_size: 4096,
-        inodes: 32,
-        zones: 64,
-        inode_map_blocks: 1,
-        zone_map_blocks: 1,
-        first_zone: 5,
-    }
-}
-
-/// Sets bytes from a place on.
-fn put_bytes(image: &mut Vec<u8>, from: usize, bytes: &[u8]) {
-    for (place, byte) in image.iter_mut().skip(from).zip(bytes.iter()) {
-        *place = *byte;
-    }
-}
-
-/// An image of 64 blocks whose first inode is a file of the greatest size without a zone. Number 0 is in both maps, inode 1 in the
-/// inode map, and each byte of the data zones is 0x5a, as if other files had lain there.
-pub(crate) fn image(
-    alloc: Global,
-    block_size: usize,
-    first_zone: usize,
-) -> Result<Vec<u8>, AllocError> {
-    let mut image = vec![in alloc; 0u8; 64usize.saturating_mul(block_size)]?;
-    put_bytes(&mut image, 2usize.saturating_mul(block_size), &[3]);
-    put_bytes(&mut image, 3usize.saturating_mul(block_size), &[1]);
-    put_bytes(
-        &mut image,
-        4usize.saturating_mul(block_size),
-        &[0xa4, 0x81, 1, 0, 0, 0, 0, 0, 0xff, 0xff, 0xff, 0x7f],
-    );
-    for place in image.iter_mut().skip(first_zone.saturating_mul(block_size)) {
-        *place = 0x5a;
-    }
-    Ok(image)
-}
+use zone::pages::attach;
+use zone::places::{lookup, lookup_row};
 
 /// A volume in memory.
 #[derive(Drop)]
@@ -99,77 +36,183 @@ impl Volume {
         }
     }
 
-    /// Whether so many zones are free.
-    pub(crate) fn has_free(&mut self, count: u32) -> bool {
-        free(&mut self.blocks, &self.geometry) == Ok(count)
+    /// Makes the calls of a row one after the other: each gives what stands beside it.
+    pub(crate) fn gives(&mut self, row: &str, number: u32, steps: &[Step]) -> Result<(), Fail> {
+        for (step, (call, wanted)) in steps.iter().enumerate() {
+            let got = self.call(call);
+            if !is_wanted(got, *wanted) {
+                return Err(Fail::new(format_args!("{row} {number}: step {step}")));
+            }
+        }
+        Ok(())
+    }
+
+    /// Makes a call.
+    fn call(&mut self, call: &Call) -> Answer {
+        match call {
+            Call::Free => self.free(),
+            Call::Attach(inode, pages) => self.attach(*inode, pages),
+            Call::Detach(inode, page) => self.detach(*inode, *page),
+            Call::Zone(page) => Ok(Some(self.zone(*page)?)),
+            Call::Zones(page, zones) => self.has_row(*page, zones),
+            Call::Blank(pages) => self.are_blank(pages),
+            Call::Holes(pages) => self.are_holes(pages),
+            Call::Read(at, room, left) => self.read(*at, *room, left),
+            Call::Write(at, bytes) => self.write(*at, bytes),
+            Call::Resize(size) => self.resize(*size),
+            Call::Stamp(now) => self.stamp(*now),
+            Call::Field(field) => self.field(field),
+            Call::Need(first, count) => self.need(*first, *count),
+            Call::Room(at, count) => self.room(*at, *count),
+        }
+    }
+
+    /// How many zones are free.
+    fn free(&mut self) -> Answer {
+        let count = count_free(&mut self.blocks, &self.geometry, Map::Zones)?;
+        Ok(Some(count))
+    }
+
+    /// Attaches pages of an inode.
+    fn attach(&mut self, inode: u32, pages: &[u32]) -> Answer {
+        for page in pages {
+            self.attach_page(inode, *page)?;
+        }
+        Ok(Some(0))
     }
 
     /// Attaches a page of an inode.
-    pub(crate) fn attach(&mut self, inode: u32, page: u32) -> Result<u32, Halt> {
-        hold(&mut self.blocks, &self.geometry, inode, page)
-    }
-
-    /// Attaches pages of inode 1; whether that was done.
-    pub(crate) fn attaches(&mut self, pages: &[u32]) -> bool {
-        for page in pages {
-            if self.attach(1, *page).is_err() {
-                return false;
-            }
-        }
-        true
+    fn attach_page(&mut self, inode: u32, page: u32) -> Result<u32, Halt> {
+        attach(&mut self.blocks, &self.geometry, inode, page)
     }
 
     /// Lets go the pages of an inode from one on.
-    pub(crate) fn detach_from(&mut self, inode: u32, page: u32) -> Result<(), Halt> {
-        drop_from(&mut self.blocks, &self.geometry, inode, page)
+    fn detach(&mut self, inode: u32, page: u32) -> Answer {
+        detach_from(&mut self.blocks, &self.geometry, inode, page)?;
+        Ok(Some(0))
     }
 
-    /// The zone of a page of an inode.
-    pub(crate) fn lookup(&mut self, inode: u32, page: u32) -> Result<u32, Halt> {
-        find(&mut self.blocks, &self.geometry, inode, page)
+    /// The zone of a page.
+    fn zone(&mut self, page: u32) -> Result<u32, Halt> {
+        let inode = load(&mut self.blocks, &self.geometry, 1)?;
+        Ok(lookup(&mut self.blocks, &self.geometry, &inode, page)?)
     }
 
-    /// Whether these are the zones of pages of inode 1 side by side, from one on, where up to four are asked for.
-    pub(crate) fn has_row(&mut self, page: u32, zones: &[u32]) -> bool {
-        let mut into = [1u32; 4];
-        match find_row(&mut self.blocks, &self.geometry, 1, page, &mut into) {
-            Ok(count) => count <= 4 && &into[..count] == zones,
-            Err(_) => false,
+    /// How many these zones are, if they are those of pages side by side, where up to four are asked for.
+    fn has_row(&mut self, page: u32, zones: &[u32]) -> Answer {
+        let inode = load(&mut self.blocks, &self.geometry, 1)?;
+        let mut into = [1; 4];
+        let count = lookup_row(&mut self.blocks, &self.geometry, &inode, page, &mut into)?;
+        if &into[..count] != zones {
+            return Ok(None);
         }
+        Ok(u32::try_from(count).ok())
     }
 
-    /// Whether each of these pages of inode 1 has a data zone, whose bytes are zeros.
-    pub(crate) fn finds(&mut self, pages: &[u32]) -> bool {
+    /// Whether each of these pages has a data zone of 1024 bytes, which are zeros.
+    fn are_blank(&mut self, pages: &[u32]) -> Answer {
         for page in pages {
-            let zone = self.lookup(1, *page).unwrap_or(0);
-            if zone < self.geometry.first_zone
-                || zone >= self.geometry.zones
-                || !self.has_zeros(zone)
-            {
-                return false;
+            if !self.is_blank(*page)? {
+                return Ok(None);
             }
         }
-        true
+        Ok(Some(0))
     }
 
-    /// Whether each of these pages of inode 1 is a hole.
-    pub(crate) fn misses(&mut self, pages: &[u32]) -> bool {
+    /// Whether a page has a data zone of 1024 bytes, which are zeros.
+    fn is_blank(&mut self, page: u32) -> Result<bool, Halt> {
+        let zone = self.zone(page)?;
+        if zone < self.geometry.first_zone || zone >= self.geometry.zones {
+            return Ok(false);
+        }
+        let from = (zone as usize).saturating_mul(1024);
+        match self.blocks.image().get(from..) {
+            Some(bytes) => Ok(bytes.starts_with(&[0; 1024])),
+            None => Ok(false),
+        }
+    }
+
+    /// Whether each of these pages is a hole.
+    fn are_holes(&mut self, pages: &[u32]) -> Answer {
         for page in pages {
-            if self.lookup(1, *page) != Ok(0) {
-                return false;
+            if self.zone(*page)? != 0 {
+                return Ok(None);
             }
         }
-        true
+        Ok(Some(0))
     }
 
-    /// Whether each byte of a zone is 0.
-    pub(crate) fn has_zeros(&self, zone: u32) -> bool {
-        let width = self.geometry.block_size as usize;
-        let bytes = self
-            .blocks
-            .image()
-            .iter()
-            .skip((zone as usize).saturating_mul(width));
-        bytes.take(width).all(|byte| *byte == 0)
+    /// Reads into so many bytes of a slice of 0x2e: how many came, if it has these bytes then.
+    fn read(&mut self, at: u32, room: usize, left: &[u8]) -> Answer {
+        let inode = load(&mut self.blocks, &self.geometry, 1)?;
+        let mut into = [0x2e; 18432];
+        let room = room.min(18432);
+        let count = read_at(
+            &mut self.blocks,
+            &self.geometry,
+            &inode,
+            at,
+            &mut into[..room],
+        )?;
+        if !into.starts_with(left) {
+            return Ok(None);
+        }
+        Ok(u32::try_from(count).ok())
+    }
+
+    /// Writes bytes; none, or past the greatest size, isn't tried.
+    fn write(&mut self, at: u32, bytes: &[u8]) -> Answer {
+        if bytes.is_empty() || at > 2147483647 || bytes.len() > (2147483647 - at) as usize {
+            return Ok(None);
+        }
+        write_at(&mut self.blocks, &self.geometry, 1, at, bytes)?;
+        Ok(Some(0))
+    }
+
+    /// Makes the file that long.
+    fn resize(&mut self, size: u32) -> Answer {
+        if size > 2147483647 {
+            return Ok(None);
+        }
+        set_size(&mut self.blocks, &self.geometry, 1, size)?;
+        Ok(Some(0))
+    }
+
+    /// Sets the times.
+    fn stamp(&mut self, now: u32) -> Answer {
+        stamp(&mut self.blocks, &self.geometry, 1, now)?;
+        Ok(Some(0))
+    }
+
+    /// A field of inode 1.
+    fn field(&mut self, field: &Field) -> Answer {
+        let inode = load(&mut self.blocks, &self.geometry, 1)?;
+        Ok(match field {
+            Field::Mode => Some(u32::from(inode.mode)),
+            Field::Links => Some(u32::from(inode.links)),
+            Field::Size => Some(inode.size),
+            Field::Atime => Some(inode.atime),
+            Field::Mtime => Some(inode.mtime),
+            Field::Ctime => Some(inode.ctime),
+            Field::Zone(place) => inode.zones.get(*place).copied(),
+        })
+    }
+
+    /// How many zones more inode 1 takes for pages.
+    fn need(&mut self, first: u32, count: u32) -> Answer {
+        if first > 2097152 || count > 2097152 - first {
+            return Ok(None);
+        }
+        let inode = load(&mut self.blocks, &self.geometry, 1)?;
+        Ok(Some(need(&mut self.blocks, &self.geometry, &inode, first, count)?))
+    }
+
+    /// Whether there are zones enough for so many bytes.
+    fn room(&mut self, at: u32, count: u32) -> Answer {
+        if count == 0 || at > 2147483647 || count > 2147483647 - at {
+            return Ok(None);
+        }
+        let fits = has_room(&mut self.blocks, &self.geometry, 1, at, count)?;
+        Ok(Some(u32::from(fits)))
     }
 }
