@@ -22,8 +22,7 @@ static MAY: [(u16, u16, Wish, bool); 8] = [
 static OWNS: [(u16, u16, bool); 3] = [(0, 9, true), (5, 9, true), (6, 7, false)];
 
 #[test]
-fn who_may_do_what(rt: HostRuntime) -> Result<(), Fail> {
-    let _ = rt;
+fn who_may_do_what() -> Result<(), Fail> {
     for (number, (uid, gid, wish, wanted)) in MAY.iter().enumerate() {
         let user = User {
             uid: *uid,
