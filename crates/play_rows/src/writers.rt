@@ -1,7 +1,7 @@
 //! Writers that fail, and writers that take little at a time; plays whose answers are lost, or whose image can't be written.
 use play_samples::sessions::has_left;
-use play_samples::volumes::{Status, Told, finish};
-use play_samples::writers::{lost, slowly, untold};
+use play_samples::volumes::{Room, Status, Told, finish};
+use play_samples::writers::narrow;
 use samples::new_volume;
 use std::test::Fail;
 
@@ -14,61 +14,102 @@ pub(crate) const TOLD: &str =
 /// Sets the root's mode: its inode begins with it, that of a directory of mode 0700.
 const CHMOD: &[u8] = b"user 0 0\n100 chmod / 700\n100 stat /\n";
 
-/// Scripts, the room that standard output has, and what the image has then.
-const ROOMS: [(&[u8], usize, &str); 6] = [
-    (STAT, 0, ""),
-    (STAT, 3, ""),
-    (STAT, 10, ""),
-    (STAT, 11, ""),
-    (STAT, 70, ""),
-    (CHMOD, 10, "left 4096 c0410200\n"),
+/// A play that was refused, or whose text was cut off, and a line that says so.
+const CUT_OFF: Status = Status::Refused(Told::Whole);
+
+/// What is said of a script whose first line is bad.
+const BAD_LINE: &str = "bad line 1 of s.txt\n";
+
+/// That standard output took no more.
+const LOST: &str = "cannot write standard output\n";
+
+/// A script whose first line is bad.
+const BAD: &[u8] = b"user 0\n";
+
+/// Whether there is an image, a script, how many bytes are taken at a call, on standard output and on standard error, how the play ends,
+/// what is written, and what bytes the image has then, if it is there.
+type Row = (
+    bool,
+    &'static [u8],
+    (usize, usize, usize),
+    Status,
+    (&'static str, &'static str),
+    Option<&'static str>,
+);
+
+/// Writers that fail, and then writers that go on.
+const ROOMS: [Row; 13] = [
+    // The text is cut off, which a line says, and the image is there all the same.
+    (true, STAT, (99, 0, 99), CUT_OFF, ("", LOST), Some("")),
+    (true, STAT, (99, 3, 99), CUT_OFF, ("ses", LOST), Some("")),
+    (
+        true,
+        STAT,
+        (99, 10, 99),
+        CUT_OFF,
+        ("session 0\n", LOST),
+        Some(""),
+    ),
+    (
+        true,
+        STAT,
+        (99, 11, 99),
+        CUT_OFF,
+        ("session 0\ni", LOST),
+        Some(""),
+    ),
+    (
+        true,
+        STAT,
+        (99, 70, 99),
+        CUT_OFF,
+        (
+            "session 0\ninode 1 mode 0040755 links 2 uid 0 gid 0 size 128 times 50 5",
+            LOST,
+        ),
+        Some(""),
+    ),
+    (
+        true,
+        CHMOD,
+        (99, 10, 99),
+        CUT_OFF,
+        ("session 0\n", LOST),
+        Some("left 4096 c0410200\n"),
+    ),
+    // There is no image, and room for three bytes of the line that says so.
+    (
+        false,
+        STAT,
+        (99, 99, 3),
+        Status::Refused(Told::Partly),
+        ("", "can"),
+        None,
+    ),
+    // A writer that takes little at a time and goes on gets all of it.
+    (true, STAT, (1, 99, 99), Status::Done, (TOLD, ""), Some("")),
+    (true, STAT, (3, 99, 99), Status::Done, (TOLD, ""), Some("")),
+    (true, STAT, (64, 99, 99), Status::Done, (TOLD, ""), Some("")),
+    (true, BAD, (1, 99, 99), CUT_OFF, ("", BAD_LINE), None),
+    (true, BAD, (3, 99, 99), CUT_OFF, ("", BAD_LINE), None),
+    (true, BAD, (64, 99, 99), CUT_OFF, ("", BAD_LINE), None),
 ];
 
-/// The text's first bytes, as many as there was room for; behind them nothing was written.
-fn beginning(room: usize) -> [u8; 70] {
-    let mut space = [0u8; 70];
-    for (place, byte) in space.iter_mut().zip(TOLD.as_bytes()).take(room) {
-        *place = *byte;
-    }
-    space
-}
-
-/// The text is cut off, which a line says, and the image is there all the same.
 #[test]
-fn a_writer_fails(rt: HostRuntime) -> Result<(), Fail> {
+fn writers_take_some(rt: HostRuntime) -> Result<(), Fail> {
     let alloc = rt.alloc();
     let image = new_volume(alloc, 1024)?;
-    for (script, room, left) in ROOMS {
-        let (played, status) = lost(alloc, rt, image.as_slice(), script, room)?;
-        let is_told = played.err.as_slice() == b"cannot write standard output\n".as_slice()
-            && (status, played.status) == (Status::Refused(Told::Whole), 1);
+    for (has_image, script, (most, out, err), ended, (told, line), left) in ROOMS {
+        let given = has_image.then_some(image.as_slice());
+        let (played, status) = narrow(alloc, rt, given, script, Room { most, out, err })?;
+        let is_told = played.out.as_slice() == told.as_bytes()
+            && played.err.as_slice() == line.as_bytes();
+        let is_ended = (status, played.status) == (ended, ended.number());
         assert!(rt;
-            is_told && played.out.as_slice() == beginning(room).as_slice(),
-            "{room}"
+            is_told && is_ended && played.image.is_some() == left.is_some(),
+            "{told}"
         );
-        has_left(alloc, played.left(), left)?;
-    }
-    Ok(())
-}
-
-/// There is no image, and room for three bytes of the line that says so.
-#[test]
-fn a_refusal_is_cut_off(rt: HostRuntime) -> Result<(), Fail> {
-    let (err, out, status) = untold(rt.alloc(), rt, STAT)?;
-    assert!(rt; status == Status::Refused(Told::Partly) && status.number() == 1);
-    assert!(rt; err.as_slice() == b"can".as_slice() && out.is_empty());
-    Ok(())
-}
-
-/// A writer that takes little at a time and goes on gets all of it.
-#[test]
-fn a_writer_takes_little(rt: HostRuntime) -> Result<(), Fail> {
-    let alloc = rt.alloc();
-    let image = new_volume(alloc, 1024)?;
-    for most in [1usize, 3, 64] {
-        slowly(alloc, rt, image.as_slice(), STAT, most)?.gave(0, TOLD, "")?;
-        let bad = slowly(alloc, rt, image.as_slice(), b"user 0\n", most)?;
-        bad.gave(1, "", "bad line 1 of s.txt\n")?;
+        has_left(alloc, played.left(), left.unwrap_or(""))?;
     }
     Ok(())
 }

@@ -1,14 +1,13 @@
 //! Plays over images.
 use fsck::{Verdict, check};
-use inline::local::LocalDriver;
 use modeldisk::{FaultKind, ScriptedDriver};
 use policy::Setup;
 use samples::{supply_at, whole};
 use std::alloc::{AllocError, Global};
-use std::io::Write;
+use std::io::{self, Write};
 use std::sync::Wait;
 use std::test::Fail;
-pub use tools::play::{Ended, Status, Told, finish};
+pub use tools::play::{Status, Told, finish};
 use tools::play::{File, play};
 
 /// Drivers, each with its fault once so many of a request's sectors were moved, or with none.
@@ -48,16 +47,6 @@ impl Played {
     pub fn is_clean(&self, alloc: Global) -> bool {
         matches!(check(alloc, self.left()), Ok(Verdict::Clean(_)))
     }
-
-    /// Looks at whether these bytes stand at these places of the image; it is an error where they don't.
-    pub fn holds(&self, parts: &[(usize, &[u8])]) -> Result<(), Fail> {
-        for (at, bytes) in parts {
-            if self.left().get(*at..at.saturating_add(bytes.len())) != Some(*bytes) {
-                return Err(Fail::new(format_args!("other bytes from {at} on")));
-            }
-        }
-        Ok(())
-    }
 }
 
 /// The names of the scripts' files, in their order; further ones have the last.
@@ -78,23 +67,73 @@ fn files<'b>(
     Ok(files)
 }
 
-/// Plays the scripts of files on an image, of each the bytes if it can be read, with these writers as standard output and standard error.
-pub fn play_into<R: Wait + Copy, D: LocalDriver, W: Write, E: Write>(
+/// How many bytes writers take: at a call, and in all on standard output and on standard error.
+#[derive(Clone, Copy)]
+pub struct Room {
+    pub most: usize,
+    pub out: usize,
+    pub err: usize,
+}
+
+/// Room for all.
+pub const FREE: Room = Room {
+    most: usize::MAX,
+    out: usize::MAX,
+    err: usize::MAX,
+};
+
+/// What was written, how many bytes are taken at a call, and how many in all.
+#[derive(Drop)]
+struct Sink(Vec<u8>, usize, usize);
+
+impl Write for Sink {
+    fn write(&mut self, bytes: &[u8]) -> io::Result<usize> {
+        let left = self.2.saturating_sub(self.0.len());
+        let count = bytes.len().min(self.1).min(left);
+        self.0.extend_from_slice(&bytes[..count])?;
+        Ok(count)
+    }
+
+    fn flush(&mut self) -> io::Result<()> {
+        Ok(())
+    }
+}
+
+/// Plays the scripts of files on an image, of each the bytes if it can be read, into writers with this room; and how it ended.
+pub fn play_into<R: Wait + Copy>(
     alloc: Global,
     rt: R,
     image: Option<&[u8]>,
     scripts: &[Option<&[u8]>],
     setup: &Setup,
-    supply: Vec<D>,
-    out: &mut W,
-    err: &mut E,
-) -> Result<Ended, AllocError> {
+    supply: Vec<ScriptedDriver>,
+    room: Room,
+) -> Result<(Played, Status), AllocError> {
     let files = files(alloc, scripts)?;
     let image = File {
         name: "v.img",
         bytes: image,
     };
-    Ok(play(alloc, rt, image, files.as_slice(), setup, supply, out, err))
+    let mut out = Sink(Vec::new(alloc), room.most, room.out);
+    let mut err = Sink(Vec::new(alloc), room.most, room.err);
+    let came = play(
+        alloc,
+        rt,
+        image,
+        files.as_slice(),
+        setup,
+        supply,
+        &mut out,
+        &mut err,
+    );
+    let (Sink(out, _, _), Sink(err, _, _)) = (out, err);
+    let played = Played {
+        status: came.status.number(),
+        out,
+        err,
+        image: came.image,
+    };
+    Ok((played, came.status))
 }
 
 /// Scripts to be played on an image, over drivers that may have faults.
@@ -134,15 +173,9 @@ impl<'p> Play<'p> {
         rt: R,
         supply: Vec<ScriptedDriver>,
     ) -> Result<Played, AllocError> {
-        let (mut out, mut err) = (Vec::new(alloc), Vec::new(alloc));
         let (image, scripts, setup) = (self.image, self.scripts, &self.setup);
-        let came = play_into(alloc, rt, image, scripts, setup, supply, &mut out, &mut err)?;
-        Ok(Played {
-            status: came.status.number(),
-            out,
-            err,
-            image: came.image,
-        })
+        let (played, _) = play_into(alloc, rt, image, scripts, setup, supply, FREE)?;
+        Ok(played)
     }
 
     /// What it gives.
