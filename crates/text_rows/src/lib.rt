@@ -1,8 +1,12 @@
-//! Rows of calls and schedules as text: every kind of line, and lines that can't be read. Each expected value is the format's, or
-//! worked out by hand.
+//! Rows of calls, schedules, scripts and transcripts as text: every kind of line, lines that can't be read, and writers that fail. Each expected
+//! value is the format's, or worked out by hand.
 #![tactic(auto)]
 
 #[cfg(test)]
 mod calls;
 #[cfg(test)]
 mod schedules;
+#[cfg(test)]
+mod scripts;
+#[cfg(test)]
+mod transcripts;
