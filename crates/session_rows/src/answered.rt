@@ -36,11 +36,10 @@ pub(crate) fn reads_of(
 ) -> Result<Vec<Incoming>, AllocError> {
     let mut messages = vec![in alloc; started(1); 1]?;
     let (head, rest) = image.split_at(2048.min(image.len()));
-    let mut pieces = vec![in alloc; head; 1]?;
-    for piece in rest.chunks(4096) {
-        pieces.push(piece)?;
+    if count != 0 {
+        messages.push(gives(1, head))?;
     }
-    for piece in pieces.iter().take(count) {
+    for piece in rest.chunks(4096).take(count.saturating_sub(1)) {
         let id = messages.len() as u64;
         messages.push(gives(id, piece))?;
     }

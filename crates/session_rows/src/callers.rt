@@ -6,7 +6,6 @@ use keeping::recorder::Recorder;
 use keeping::room::Room;
 use serve::service::Shared;
 use serve::session::Session;
-use std::alloc::Global;
 use std::sync::Wait;
 use tree::{Call, Outcome};
 
@@ -58,17 +57,15 @@ fn told_marks<C: Caller>(one: &C, two: &C, lines: &mut String) {
 
 /// Two sessions ask for the root three times each in turn, meet, and ask for the device: a line for each answer, how many marks each had
 /// seen before they met and after, and the device, as each saw it at last.
-pub(crate) fn in_turn<C: Caller>(alloc: Global, one: &mut C, two: &mut C) -> String {
+pub(crate) fn in_turn<C: Caller>(one: &mut C, two: &mut C, lines: &mut String) {
     let stat = Call::Stat { path: b"/" };
-    let mut lines = String::new(alloc);
     for now in [100, 101, 102] {
-        told(one, now, &stat, &mut lines);
-        told(two, now, &stat, &mut lines);
+        told(one, now, &stat, lines);
+        told(two, now, &stat, lines);
     }
-    told_marks(one, two, &mut lines);
+    told_marks(one, two, lines);
     one.meets(two);
-    told_marks(one, two, &mut lines);
+    told_marks(one, two, lines);
     let (first, second) = (one.looks(), two.looks());
     let _ = writeln!(lines, "{first:?} {second:?}");
-    lines
 }

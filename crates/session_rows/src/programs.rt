@@ -1,7 +1,7 @@
 //! What is done with a service on the small volume.
 ghost use Rattle.std.specs.Prelude.{◌≡◌};
 
-use crate::services::{Came, many, stopped, two_in_turn};
+use crate::services::{many, stopped, two_in_turn};
 use file_server::FileServer;
 use keeping::recorder::Recorder;
 use keeping::room::Room;
@@ -26,6 +26,15 @@ pub(crate) enum What {
     Stops(Call<'static>, bool),
 }
 
+/// What came of it: lines, where there was memory for them, and the image of a service that was stopped, or no bytes.
+#[derive(Drop)]
+pub(crate) struct Came {
+    /// The lines.
+    pub(crate) lines: String,
+    /// The image.
+    pub(crate) image: Vec<u8>,
+}
+
 /// One of these is done.
 #[derive(Drop)]
 struct Does {
@@ -44,11 +53,16 @@ impl<R: Wait + Copy> Program<R> for Does {
     ) -> Option<Came>
         ensures { Unit {0} }
     {
-        match self.what {
-            What::InTurn => two_in_turn(self.alloc, service),
-            What::Many => many(self.alloc, service),
-            What::Stops(call, has_ended) => stopped(self.alloc, service, call, *has_ended),
-        }
+        let alloc = self.alloc;
+        let mut lines = String::new(alloc);
+        let image = match self.what {
+            What::InTurn => two_in_turn(alloc, service, &mut lines)?,
+            What::Many => many(alloc, service, &mut lines)?,
+            What::Stops(call, has_ended) => {
+                stopped(alloc, service, call, *has_ended, &mut lines)?
+            }
+        };
+        Some(Came { lines, image })
     }
 }
 

@@ -13,29 +13,18 @@ use std::sync::Wait;
 use std::thread::{Threads, join};
 use tree::Call;
 
-/// What came of it: lines, where there was memory for them, and the image of a service that was stopped, or no bytes.
-#[derive(Drop)]
-pub(crate) struct Came {
-    /// The lines.
-    pub(crate) lines: String,
-    /// The image.
-    pub(crate) image: Vec<u8>,
-}
-
-/// Two sessions, of user 0 and of user 7, call in turn, and end.
+/// Two sessions, of user 0 and of user 7, call in turn, and end. No image.
 pub(crate) fn two_in_turn<N: Room, R: Wait + Copy, L: Recorder<N>, S: FileServer<L>>(
     alloc: Global,
     service: Service<N, Shared<N, R, L, S>>,
-) -> Option<Came> {
+    lines: &mut String,
+) -> Option<Vec<u8>> {
     let mut one = service.session(0, 0).ok()?;
     let mut two = service.session(7, 8).ok()?;
-    let lines = in_turn(alloc, &mut one, &mut two);
+    in_turn(&mut one, &mut two, lines);
     one.end();
     two.end();
-    Some(Came {
-        lines,
-        image: Vec::new(alloc),
-    })
+    Some(Vec::new(alloc))
 }
 
 /// A session asks for the root three times, and ends. A line for each answer.
@@ -67,47 +56,65 @@ pub(crate) fn two_in_threads<
     ))
 }
 
-/// As many sessions are made as there are numbers, and one more is asked for before and after one of them ends: why there was none more,
-/// before and after, and how many are left.
-pub(crate) fn many<N: Room, R: Wait + Copy, L: Recorder<N>, S: FileServer<L>>(
-    alloc: Global,
-    service: Service<N, Shared<N, R, L, S>>,
-) -> Option<Came> {
-    let mut sessions: Vec<Session<N, Shared<N, R, L, S>>> = Vec::new(alloc);
+/// Makes as many sessions as there are numbers.
+fn fill<N: Room, R: Wait + Copy, L: Recorder<N>, S: FileServer<L>>(
+    service: &Service<N, Shared<N, R, L, S>>,
+    sessions: &mut Vec<Session<N, Shared<N, R, L, S>>>,
+) -> Option<()> {
     for _ in 0..64 {
         sessions.push(service.session(0, 0).ok()?).ok()?;
     }
+    Some(())
+}
+
+/// As many sessions are made as there are numbers, and one more is asked for before and after one of them ends: why there was none more,
+/// before and after, and how many are left. No image.
+pub(crate) fn many<N: Room, R: Wait + Copy, L: Recorder<N>, S: FileServer<L>>(
+    alloc: Global,
+    service: Service<N, Shared<N, R, L, S>>,
+    lines: &mut String,
+) -> Option<Vec<u8>> {
+    let mut sessions: Vec<Session<N, Shared<N, R, L, S>>> = Vec::new(alloc);
+    fill(&service, &mut sessions)?;
     let before = service.session(0, 0).err();
     sessions.pop()?.end();
     let after = service.session(0, 0).err();
     let left = sessions.len();
-    Some(Came {
-        lines: format!(in alloc; "{before:?} {after:?} {left}\n").ok()?,
-        image: Vec::new(alloc),
-    })
+    let _ = writeln!(lines, "{before:?} {after:?} {left}");
+    Some(Vec::new(alloc))
+}
+
+/// Stops a service with the end of a session, and at once, which are both refused since another session is left.
+fn refused<N: Room, R: Wait + Copy, L: Recorder<N> + OnMedia, S: FileServer<L>>(
+    alloc: Global,
+    service: Service<N, Shared<N, R, L, S>>,
+    session: Session<N, Shared<N, R, L, S>>,
+) -> Option<Service<N, Shared<N, R, L, S>>> {
+    let Err(StopRefusal::SessionsLeft(service)) = service.stop_after(alloc, session) else {
+        return None;
+    };
+    match service.stop(alloc) {
+        Err(StopRefusal::SessionsLeft(service)) => Some(service),
+        _ => None,
+    }
 }
 
 /// Makes a call in one of two sessions, and stops the service three times: with the end of the other session, at once, which are refused
-/// since the first session is left, and when that one has ended, or with its end.
+/// since the first session is left, and when that one has ended, or with its end. The image.
 pub(crate) fn stopped<N: Room, R: Wait + Copy, L: Recorder<N> + OnMedia, S: FileServer<L>>(
     alloc: Global,
     service: Service<N, Shared<N, R, L, S>>,
     call: &Call<'_>,
     has_ended: bool,
-) -> Option<Came> {
+    lines: &mut String,
+) -> Option<Vec<u8>> {
     let mut one = service.session(0, 0).ok()?;
     let two = service.session(0, 0).ok()?;
-    let mut lines = String::new(alloc);
-    told(&mut one, 100, call, &mut lines);
-    let Err(StopRefusal::SessionsLeft(service)) = service.stop_after(alloc, two) else {
-        return None;
-    };
-    let Err(StopRefusal::SessionsLeft(service)) = service.stop(alloc) else {
-        return None;
-    };
+    told(&mut one, 100, call, lines);
+    let service = refused(alloc, service, two)?;
     let (synced, image) = stopped_at_last(alloc, service, one, has_ended)?;
     let _ = writeln!(lines, "{synced}");
-    Some(Came { lines, image })
+    Some(image)
 }
 
 /// Stops a service when its last session has ended, or with its end. Whether the last sync was made, and the image.
@@ -130,21 +137,20 @@ fn stopped_at_last<N: Room, R: Wait + Copy, L: Recorder<N> + OnMedia, S: FileSer
     }
 }
 
-/// A session calls, another one is asked for, and the service is stopped, whose link has ended.
+/// A session calls, another one is asked for, and the service is stopped, whose link has ended. The image.
 pub(crate) fn asked_and_stopped<
     N: Room,
     R: Wait + Copy,
     L: Recorder<N> + OnMedia,
     S: FileServer<L>,
->(alloc: Global, service: Service<N, Shared<N, R, L, S>>) -> Option<Came> {
+>(alloc: Global, service: Service<N, Shared<N, R, L, S>>, lines: &mut String) -> Option<Vec<u8>> {
     let mut session = service.session(0, 0).ok()?;
-    let mut lines = String::new(alloc);
-    told(&mut session, 100, &Call::Stat { path: b"/" }, &mut lines);
+    told(&mut session, 100, &Call::Stat { path: b"/" }, lines);
     let refusal = service.session(0, 0).err();
     let _ = writeln!(lines, "{refusal:?}");
     session.end();
-    let Err(StopRefusal::LinkEnded(image)) = service.stop(alloc) else {
-        return None;
-    };
-    Some(Came { lines, image })
+    match service.stop(alloc) {
+        Err(StopRefusal::LinkEnded(image)) => Some(image),
+        _ => None,
+    }
 }

@@ -1,15 +1,18 @@
 //! What is read and written of a volume that was mounted, and why it isn't unmounted.
+ghost use Rattle.stored.specs.World.{stored_caching};
 ghost use Rattle.vfs.specs.Server.{IsOpen};
 
 use crate::answered::{gives, mounted_over, reads_of};
 use crate::lines::is_told;
 use file_server::FileServer;
 use frame_samples::lists::{moved, told};
+use list_link::ListLink;
 use message::Incoming;
+use reissue::link::Link;
 use samples::new_volume;
 use std::alloc::{AllocError, Global};
 use std::test::Fail;
-use stored::Caches;
+use stored::{Caches, Stored};
 use tree::{Call, OpenFlags, Who};
 use vfs::Server;
 
@@ -176,9 +179,10 @@ fn first_other<B: Caches>(
     Ok(None)
 }
 
-/// The messages of a mount and of the first call, and what comes then.
-fn messages(alloc: Global, image: &[u8], then: &Then) -> Result<Vec<Incoming>, AllocError> {
-    let mut messages = reads_of(alloc, image, 17)?;
+/// The messages of a mount of a new volume and of the first call, and what comes then.
+fn messages(alloc: Global, then: &Then) -> Result<Vec<Incoming>, AllocError> {
+    let image = new_volume(alloc, 1024)?;
+    let mut messages = reads_of(alloc, &image, 17)?;
     messages.push(gives(18, image.get(4096..5120).unwrap_or(&[])))?;
     match then {
         Then::Answers => messages.push(moved(1, 19, 1024, 0))?,
@@ -188,31 +192,44 @@ fn messages(alloc: Global, image: &[u8], then: &Then) -> Result<Vec<Incoming>, A
     Ok(messages)
 }
 
+/// These things are done with a volume: it is an error where something else comes of one, or the link was told something else.
+fn is_used(
+    alloc: Global,
+    row: usize,
+    server: &mut Server<Stored<ListLink>>,
+    steps: &[(Step, &'static str)],
+    lines: &str,
+) -> Result<(), Fail>
+    requires { IsOpen (stored_caching ⟦<ListLink as Link>⟧) server.old }
+{
+    if let Some(step) = first_other(alloc, server, steps)? {
+        return Err(Fail::new(format_args!("step {step} of row {row}")));
+    }
+    let told = told(alloc, server.link())?;
+    is_told(
+        told.as_str().strip_prefix(READS).unwrap_or("not read"),
+        lines,
+    )
+}
+
 /// A row comes out as it says.
 fn comes_out(
     alloc: Global,
-    number: usize,
+    row: usize,
     then: &Then,
     steps: &[(Step, &'static str)],
     lines: &str,
 ) -> Result<(), Fail> {
-    let image = new_volume(alloc, 1024)?;
-    let messages = messages(alloc, &image, then)?;
-    let Ok(mut server) = mounted_over(alloc, messages, 16)? else {
-        return Err(Fail::new(format_args!("row {number}: not mounted")));
-    };
-    if let Some(step) = first_other(alloc, &mut server, steps)? {
-        return Err(Fail::new(format_args!("step {step} of row {number}")));
+    match mounted_over(alloc, messages(alloc, then)?, 16)? {
+        Ok(mut server) => is_used(alloc, row, &mut server, steps, lines),
+        Err(_) => Err(Fail::new(format_args!("row {row}: not mounted"))),
     }
-    let told = told(alloc, server.link())?;
-    let later = told.as_str().strip_prefix(READS).unwrap_or("not read");
-    is_told(later, lines)
 }
 
 #[test]
 fn volumes_are_used_and_unmounted(rt: HostRuntime) -> Result<(), Fail> {
-    for (number, (then, steps, lines)) in ROWS.iter().enumerate() {
-        comes_out(rt.alloc(), number, then, steps, lines)?;
+    for (row, (then, steps, lines)) in ROWS.iter().enumerate() {
+        comes_out(rt.alloc(), row, then, steps, lines)?;
     }
     Ok(())
 }
