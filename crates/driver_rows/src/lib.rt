@@ -1,5 +1,20 @@
-//! Rows that run: what media, partition tables and the drivers in memory answer, each expected value worked out by hand.
+//! Rows of drivers: what media, partition tables and drivers answer, when drivers are started again, requests over links, and what is
+//! written back. Each expected value is worked out by hand.
 #![tactic(auto)]
 
 #[cfg(test)]
 mod drivers;
+#[cfg(test)]
+mod faults;
+#[cfg(test)]
+mod restarts;
+#[cfg(test)]
+mod rows;
+#[cfg(test)]
+mod sectors;
+#[cfg(test)]
+mod transfers;
+#[cfg(test)]
+mod waits;
+#[cfg(test)]
+mod writes;

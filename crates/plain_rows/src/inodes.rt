@@ -1,6 +1,7 @@
 //! The root's inode of a new volume, from its bytes and back.
+use crate::rows::came;
 use inode::{Inode, attributes, decode, decode_in, encode};
-use std::alloc::AllocError;
+use std::test::Fail;
 use tree::Attributes;
 
 /// A root of two links and one zone, number 6, made at time 50.
@@ -11,6 +12,7 @@ const ROOT: [u8; 64] = [
     0x00, 0x00, 0x00, 0x00, 0x00, 0x00, 0x00, 0x00, 0x00, 0x00, 0x00, 0x00, 0x00, 0x00, 0x00, 0x00,
 ];
 
+/// The same, decoded.
 fn root() -> Inode {
     Inode {
         mode: 0o040755,
@@ -25,25 +27,9 @@ fn root() -> Inode {
     }
 }
 
-#[test]
-fn reads_and_writes_the_root(rt: HostRuntime) -> Result<(), AllocError> {
-    assert_eq!(rt; decode(&ROOT), root());
-    assert_eq!(rt; encode(&root()), ROOT);
-    Ok(())
-}
-
-#[test]
-fn reads_an_inode_in_a_block(rt: HostRuntime) -> Result<(), AllocError> {
-    let mut block = [0xff; 4096];
-    block[128..192].copy_from_slice(&ROOT);
-    assert_eq!(rt; decode_in(&block, 128), root());
-    assert_eq!(rt; decode_in(&block, 4032).gid, 0xffff);
-    Ok(())
-}
-
-#[test]
-fn tells_what_stat_tells(rt: HostRuntime) -> Result<(), AllocError> {
-    let told = Attributes {
+/// What stat tells of it, where it is inode 3.
+fn told() -> Attributes {
+    Attributes {
         inode: 3,
         mode: 0o040755,
         links: 2,
@@ -53,7 +39,22 @@ fn tells_what_stat_tells(rt: HostRuntime) -> Result<(), AllocError> {
         atime: 50,
         mtime: 50,
         ctime: 50,
-    };
-    assert_eq!(rt; attributes(&decode(&ROOT), 3), told);
-    Ok(())
+    }
+}
+
+#[test]
+fn the_root_is_read_and_written(rt: HostRuntime) -> Result<(), Fail> {
+    let mut block = [0xff; 4096];
+    block[128..192].copy_from_slice(&ROOT);
+    let rows = [
+        decode(&ROOT) == root(),
+        encode(&root()) == ROOT,
+        decode_in(&block, 128) == root(),
+        decode_in(&block, 4032).gid == 0xffff,
+        attributes(&decode(&ROOT), 3) == told(),
+    ];
+    came(
+        format!(in rt.alloc(); "{rows:?}")?.as_str(),
+        "[true, true, true, true, true]",
+    )
 }

@@ -1,60 +1,51 @@
-//! The texts of replies, and the flags by their letters: expected values are the format's.
+//! The numbers and texts of errors, the texts of replies, and the flags by their letters: expected values are the format's.
+use crate::rows::came;
 use bitflags::Flags;
 use errno::Errno;
-use std::alloc::AllocError;
+use std::alloc::Global;
+use std::test::Fail;
 use tree::{Attributes, Entry, OpenFlags, Outcome, Reply, Room};
 
-#[test]
-fn writes_plain_replies(rt: HostRuntime) -> Result<(), AllocError> {
-    let alloc = rt.alloc();
-    let cases = [
-        (Reply::Refused(Errno::ENAMETOOLONG), "ENAMETOOLONG"),
-        (Reply::Done, "ok"),
-        (Reply::Descriptor(31), "fd 31"),
-        (Reply::Wrote(57344), "wrote 57344"),
-        (Reply::At(67378176), "at 67378176"),
-    ];
-    for (reply, text) in &cases {
-        assert_eq!(rt; format!(in alloc; "{reply}")?.as_str(), *text);
+/// Each error with its number and its name.
+static ERRORS: [(Errno, &str); 19] = [
+    (Errno::EPERM, "1 EPERM"),
+    (Errno::ENOENT, "2 ENOENT"),
+    (Errno::EIO, "5 EIO"),
+    (Errno::EBADF, "9 EBADF"),
+    (Errno::ENOMEM, "12 ENOMEM"),
+    (Errno::EACCES, "13 EACCES"),
+    (Errno::EBUSY, "16 EBUSY"),
+    (Errno::EEXIST, "17 EEXIST"),
+    (Errno::ENOTDIR, "20 ENOTDIR"),
+    (Errno::EISDIR, "21 EISDIR"),
+    (Errno::EINVAL, "22 EINVAL"),
+    (Errno::ENFILE, "23 ENFILE"),
+    (Errno::EMFILE, "24 EMFILE"),
+    (Errno::EFBIG, "27 EFBIG"),
+    (Errno::ENOSPC, "28 ENOSPC"),
+    (Errno::EMLINK, "31 EMLINK"),
+    (Errno::ENAMETOOLONG, "36 ENAMETOOLONG"),
+    (Errno::ENOTEMPTY, "39 ENOTEMPTY"),
+    (Errno::ELOOP, "40 ELOOP"),
+];
+
+/// Errors have these numbers and names.
+fn errors_are_named(alloc: Global) -> Result<(), Fail> {
+    for (errno, wanted) in &ERRORS {
+        let given = format!(in alloc; "{} {errno}", errno.number())?;
+        came(given.as_str(), wanted)?;
     }
     Ok(())
 }
 
-#[test]
-fn writes_bytes(rt: HostRuntime) -> Result<(), AllocError> {
-    let alloc = rt.alloc();
-    let none = Reply::Bytes(Vec::new(alloc));
-    assert_eq!(rt; format!(in alloc; "{none}")?.as_str(), "bytes -");
-    let some = Reply::Bytes(vec![in alloc; 0, 10, 0xab, 0xff]?);
-    assert_eq!(rt; format!(in alloc; "{some}")?.as_str(), "bytes 000aabff");
-    Ok(())
+/// A reply has this text.
+fn is_written(alloc: Global, reply: &Reply, wanted: &str) -> Result<(), Fail> {
+    came(format!(in alloc; "{reply}")?.as_str(), wanted)
 }
 
-#[test]
-fn writes_names(rt: HostRuntime) -> Result<(), AllocError> {
-    let alloc = rt.alloc();
-    let none = Reply::Names(Vec::new(alloc));
-    assert_eq!(rt; format!(in alloc; "{none}")?.as_str(), "names 0");
-    let first = Entry {
-        name: vec![in alloc; b'a']?,
-        inode: 2,
-    };
-    let second = Entry {
-        name: vec![in alloc; b'n', b'1', b'5']?,
-        inode: 16,
-    };
-    let two = Reply::Names(vec![in alloc; first, second]?);
-    assert_eq!(rt;
-        format!(in alloc; "{two}")?.as_str(),
-        "names 2 61:2 6e3135:16"
-    );
-    Ok(())
-}
-
-#[test]
-fn writes_records(rt: HostRuntime) -> Result<(), AllocError> {
-    let alloc = rt.alloc();
-    let root = Reply::Inode(Attributes {
+/// Replies that own nothing.
+fn plain_replies_are_written(alloc: Global) -> Result<(), Fail> {
+    let root = Attributes {
         inode: 1,
         mode: 0o40755,
         links: 2,
@@ -64,39 +55,69 @@ fn writes_records(rt: HostRuntime) -> Result<(), AllocError> {
         atime: 50,
         mtime: 51,
         ctime: u32::MAX,
-    });
-    assert_eq!(rt;
-        format!(in alloc; "{root}")?.as_str(),
-        "inode 1 mode 0040755 links 2 uid 0 gid 7 size 128 times 50 51 4294967295"
-    );
-    let room = Reply::Space(Room {
+    };
+    let room = Room {
         block_size: 1024,
         zones: 58,
         free_zones: 53,
         inodes: 32,
         free_inodes: 30,
-    });
-    assert_eq!(rt;
-        format!(in alloc; "{room}")?.as_str(),
-        "block 1024 zones 58 free 53 inodes 32 free 30"
-    );
+    };
+    let cases = [
+        (Reply::Refused(Errno::ENAMETOOLONG), "ENAMETOOLONG"),
+        (Reply::Done, "ok"),
+        (Reply::Descriptor(31), "fd 31"),
+        (Reply::Wrote(57344), "wrote 57344"),
+        (Reply::At(67378176), "at 67378176"),
+        (
+            Reply::Inode(root),
+            "inode 1 mode 0040755 links 2 uid 0 gid 7 size 128 times 50 51 4294967295",
+        ),
+        (
+            Reply::Space(room),
+            "block 1024 zones 58 free 53 inodes 32 free 30",
+        ),
+    ];
+    for (reply, wanted) in &cases {
+        is_written(alloc, reply, wanted)?;
+    }
     Ok(())
 }
 
-#[test]
-fn writes_outcomes(rt: HostRuntime) -> Result<(), AllocError> {
-    let alloc = rt.alloc();
-    assert_eq!(rt; format!(in alloc; "{}", Outcome::Cut)?.as_str(), "cut");
-    assert_eq!(rt;
-        format!(in alloc; "{}", Outcome::Reply(Reply::Done))?.as_str(),
-        "ok"
-    );
-    Ok(())
+/// Replies of bytes and of names.
+fn lists_are_written(alloc: Global) -> Result<(), Fail> {
+    let bytes = Reply::Bytes(vec![in alloc; 0, 10, 0xab, 0xff]?);
+    is_written(alloc, &Reply::Bytes(Vec::new(alloc)), "bytes -")?;
+    is_written(alloc, &bytes, "bytes 000aabff")?;
+    let first = Entry {
+        name: vec![in alloc; b'a']?,
+        inode: 2,
+    };
+    let second = Entry {
+        name: vec![in alloc; b'n', b'1', b'5']?,
+        inode: 16,
+    };
+    let names = Reply::Names(vec![in alloc; first, second]?);
+    is_written(alloc, &Reply::Names(Vec::new(alloc)), "names 0")?;
+    is_written(alloc, &names, "names 2 61:2 6e3135:16")
+}
+
+/// Outcomes, and any flags.
+fn outcomes_and_flags(alloc: Global) -> Result<(), Fail> {
+    let (cut, done) = (Outcome::Cut, Outcome::Reply(Reply::Done));
+    let given = format!(in alloc;
+        "{cut} {done} {} {} {}",
+        OpenFlags::READ.union(OpenFlags::CREATE).bits(),
+        OpenFlags::from_bits_retain(0xff).contains(OpenFlags::TRUNCATE),
+        OpenFlags::from_bits_retain(0xc0).bits()
+    )?;
+    came(given.as_str(), "cut ok 9 true 192")
 }
 
 #[test]
-fn holds_any_flags(rt: HostRuntime) {
-    assert_eq!(rt; OpenFlags::READ.union(OpenFlags::CREATE).bits(), 9);
-    assert!(rt; OpenFlags::from_bits_retain(0xff).contains(OpenFlags::TRUNCATE));
-    assert_eq!(rt; OpenFlags::from_bits_retain(0xc0).bits(), 0xc0);
+fn texts_are_the_formats(rt: HostRuntime) -> Result<(), Fail> {
+    errors_are_named(rt.alloc())?;
+    plain_replies_are_written(rt.alloc())?;
+    lists_are_written(rt.alloc())?;
+    outcomes_and_flags(rt.alloc())
 }

@@ -5,7 +5,8 @@ ghost use Rattle.reissue.specs.Posts.{HasRoom};
 ghost use Rattle.reissue.specs.Moves.{Begun};
 ghost use Rattle.frame_samples.specs.cache.Frames.{IsOfBlock};
 
-use frame_samples::lists::{driver, moved, started, told};
+use crate::rows::came;
+use frame_samples::lists::{moved, started, told};
 use list_link::ListLink;
 use message::Incoming;
 use reissue::{Ask, BeginRefusal, Link, Settled, Transfers};
@@ -70,22 +71,52 @@ fn begin_first<L: Link>(transfers: &mut Transfers<L>, count: u8) -> u32
     begun
 }
 
-#[test]
-fn sixteen_are_pending(rt: HostRuntime) -> Result<(), Fail> {
-    let alloc = rt.alloc();
+/// Sixteen are pending at most, and one for each block.
+fn sixteen_are_pending(alloc: Global) -> Result<(), Fail> {
     let mut one = over(alloc, &[])?;
-    assert_eq!(rt; begin_first(&mut one, 1), 1);
-    assert!(rt; begin(&mut one, 0) == Some(BeginRefusal::BlockPending));
+    let begun = begin_first(&mut one, 1);
+    let again = begin(&mut one, 0);
     let mut all = over(alloc, &[])?;
-    assert_eq!(rt; begin_first(&mut all, 16), 16);
-    assert!(rt; begin(&mut all, 16) == Some(BeginRefusal::TableFull));
-    assert!(rt; begin(&mut all, 0) == Some(BeginRefusal::TableFull));
+    let sixteen = begin_first(&mut all, 16);
+    let (new, old) = (begin(&mut all, 16), begin(&mut all, 0));
+    let given = format!(in alloc; "{begun} {again:?} {sixteen} {new:?} {old:?}")?;
+    let wanted = "1 Some(BlockPending) 16 Some(TableFull) Some(TableFull)";
+    came(0, 0, given.as_str(), wanted)
+}
+
+/// A place of a block, and the byte that is read there.
+static BYTES: [(usize, u8); 8] = [
+    (0, 1),
+    (511, 1),
+    (512, 2),
+    (1023, 2),
+    (1024, 3),
+    (2047, 3),
+    (2048, 4),
+    (4095, 4),
+];
+
+/// The bytes of a block that was read are those.
+fn is_read(bytes: &[u8; 4096]) -> Result<(), Fail> {
+    for (at, byte) in &BYTES {
+        if bytes.get(*at) != Some(byte) {
+            return Err(Fail::new(format_args!("another byte at {at}")));
+        }
+    }
     Ok(())
 }
 
-#[test]
-fn a_rest_goes_on_under_a_new_id(rt: HostRuntime) -> Result<(), Fail> {
-    let alloc = rt.alloc();
+/// What a link is told in parts, and when a driver that moved nothing is complained about.
+const RESTS: &str = "read 1 16384 4096
+read 2 16896 3584
+read 3 17408 3072
+read 4 18432 2048
+complaint 1
+read 4 18432 2048
+";
+
+/// A rest goes on under a new id.
+fn a_rest_goes_on(alloc: Global) -> Result<(), Fail> {
     let messages = [
         started(1),
         moved(1, 1, 512, 1),
@@ -98,47 +129,38 @@ fn a_rest_goes_on_under_a_new_id(rt: HostRuntime) -> Result<(), Fail> {
     let mut transfers = over(alloc, &messages)?;
     let ticket = transfers.begin(&Ask::read(0, 16384, 4096));
     let settled = take(&mut transfers, 7);
-    let told = told(alloc, transfers.link())?;
-    assert_eq!(rt;
-        told.as_str(),
-        "read 1 16384 4096\nread 2 16896 3584\nread 3 17408 3072\nread 4 18432 2048\ncomplaint 1\nread 4 18432 2048\n"
-    );
+    came(1, 0, told(alloc, transfers.link())?.as_str(), RESTS)?;
     let (read, bytes) = match settled {
         Settled::Read(read, bytes) => (Some(read), bytes),
         _ => (None, [0; 4096]),
     };
-    assert!(rt; ticket.ok() == read);
-    for (at, byte) in [
-        (0, 1),
-        (511, 1),
-        (512, 2),
-        (1023, 2),
-        (1024, 3),
-        (2047, 3),
-        (2048, 4),
-        (4095, 4),
-    ] {
-        assert_eq!(rt; bytes[at], byte);
+    if ticket.ok() != read {
+        return Err(Fail::from("another ticket was read"));
     }
-    Ok(())
+    is_read(&bytes)
 }
 
-#[test]
-fn a_whole_write_again(rt: HostRuntime) -> Result<(), Fail> {
-    let alloc = rt.alloc();
+/// A write goes on as a whole.
+fn a_whole_write_again(alloc: Global) -> Result<(), Fail> {
     let messages = [started(1), started(2), moved(2, 1, 4096, 0)];
     let mut transfers = over(alloc, &messages)?;
     let ticket = transfers.begin(&Ask::write(0, 40960, 4096, &[49; 4096]));
     let settled = take(&mut transfers, 3);
-    let told = told(alloc, transfers.link())?;
-    assert_eq!(rt;
-        told.as_str(),
-        "write 1 40960 4096 49\nwrite 1 40960 4096 49\n"
-    );
+    let lines = "write 1 40960 4096 49\nwrite 1 40960 4096 49\n";
+    came(2, 0, told(alloc, transfers.link())?.as_str(), lines)?;
     let written = match settled {
         Settled::Written(written) => Some(written),
         _ => None,
     };
-    assert!(rt; ticket.ok() == written);
-    Ok(())
+    if ticket.ok() == written {
+        return Ok(());
+    }
+    Err(Fail::from("another ticket was written"))
+}
+
+#[test]
+fn requests_are_issued_again(rt: HostRuntime) -> Result<(), Fail> {
+    sixteen_are_pending(rt.alloc())?;
+    a_rest_goes_on(rt.alloc())?;
+    a_whole_write_again(rt.alloc())
 }

@@ -1,11 +1,12 @@
 ghost use Rattle.std.specs.Prelude.{◌≡◌, ◌∷◌, [], IfOk};
 ghost use Rattle.board.specs.marks.Marks.{Flush, GaveUp};
 
-use board::{Board, Device, Seat};
+use crate::rows::came;
+use board::{Board, Seat};
 use endpoint::Endpoint;
 use message::{BlockRequest, Incoming, Kind};
 use std::alloc::{AllocError, Global};
-use std::process::Abort;
+use std::test::Fail;
 use std::thread::join;
 use tree::{Call, Reply, Who};
 
@@ -18,13 +19,36 @@ fn beaten(board: &Board, seat: &mut Seat, generation: u32, count: u32) -> (u32, 
     board.pulse(seat)
 }
 
-#[test]
-fn old_beats_change_nothing(rt: HostRuntime) -> Result<(), AllocError> {
-    let (board, mut seat) = Board::new(rt.alloc())?;
-    assert_eq!(rt; beaten(&board, &mut seat, 1, 5), (1, 5));
-    assert_eq!(rt; beaten(&board, &mut seat, 1, 4), (1, 5));
-    assert_eq!(rt; beaten(&board, &mut seat, 2, 0), (2, 0));
-    assert_eq!(rt; beaten(&board, &mut seat, 1, 9), (2, 0));
+/// The pulses after each of four beats, each of a generation and a count.
+fn pulses(alloc: Global, beats: &[(u32, u32); 4]) -> Result<[(u32, u32); 4], AllocError> {
+    let (board, mut seat) = Board::new(alloc)?;
+    let [first, second, third, fourth] = *beats;
+    Ok([
+        beaten(&board, &mut seat, first.0, first.1),
+        beaten(&board, &mut seat, second.0, second.1),
+        beaten(&board, &mut seat, third.0, third.1),
+        beaten(&board, &mut seat, fourth.0, fourth.1),
+    ])
+}
+
+/// Four beats, each of a generation and a count, and the pulses then: old ones change nothing, and a full count stays.
+static BEATS: [([(u32, u32); 4], &str); 2] = [
+    (
+        [(1, 5), (1, 4), (2, 0), (1, 9)],
+        "[(1, 5), (1, 5), (2, 0), (2, 0)]",
+    ),
+    (
+        [(1, 4294967295), (1, 4294967295), (2, 0), (4294967295, 1)],
+        "[(1, 4294967295), (1, 4294967295), (2, 0), (4294967295, 1)]",
+    ),
+];
+
+/// Beats leave these pulses.
+fn beats_are_felt(alloc: Global) -> Result<(), Fail> {
+    for (beats, wanted) in &BEATS {
+        let given = format!(in alloc; "{:?}", pulses(alloc, beats)?)?;
+        came(given.as_str(), wanted)?;
+    }
     Ok(())
 }
 
@@ -36,7 +60,7 @@ fn beats_once(board: &Board, mut seat: Seat, generation: u32, count: u32)
 }
 
 #[test]
-fn seats_beat_in_two_threads(rt: HostRuntime) -> Result<(), AllocError> {
+fn seats_beat_in_two_threads(rt: HostRuntime) -> Result<(), Fail> {
     let (board, mut keeper) = Board::new(rt.alloc())?;
     let old = board.split(&mut keeper, None)?;
     let new = board.split(&mut keeper, None)?;
@@ -50,18 +74,11 @@ fn seats_beat_in_two_threads(rt: HostRuntime) -> Result<(), AllocError> {
             requires { new.table ≡ words.now }
         { beats_once(words, new, 2, 0) },
     );
-    assert_eq!(rt; board.pulse(&mut keeper), (2, 0));
-    Ok(())
-}
-
-#[test]
-fn a_full_count_stays(rt: HostRuntime) -> Result<(), AllocError> {
-    let (board, mut seat) = Board::new(rt.alloc())?;
-    assert_eq!(rt; beaten(&board, &mut seat, 1, 4294967295), (1, 4294967295));
-    assert_eq!(rt; beaten(&board, &mut seat, 1, 4294967295), (1, 4294967295));
-    assert_eq!(rt; beaten(&board, &mut seat, 2, 0), (2, 0));
-    assert_eq!(rt; beaten(&board, &mut seat, 4294967295, 1), (4294967295, 1));
-    Ok(())
+    let (generation, count) = board.pulse(&mut keeper);
+    came(
+        format!(in rt.alloc(); "{generation} {count}")?.as_str(),
+        "2 0",
+    )
 }
 
 /// One seat has seen nothing and another two marks more, and they meet. Both have then seen the longer record.
@@ -77,12 +94,6 @@ fn met(alloc: Global) -> Result<(Seat, Seat), AllocError>
     Ok((early, late))
 }
 
-#[test]
-fn two_seats_meet(rt: HostRuntime) -> Result<(), AllocError> {
-    let (_early, _late) = met(rt.alloc())?;
-    Ok(())
-}
-
 /// A request of the first sector.
 fn request() -> BlockRequest {
     BlockRequest {
@@ -95,21 +106,21 @@ fn request() -> BlockRequest {
     }
 }
 
-#[test]
-fn a_session_from_its_start_to_its_end(rt: HostRuntime) -> Result<(), AllocError> {
-    let (board, mut keeper) = Board::new(rt.alloc())?;
+/// A session from its start to its end: the generation, the tallies, whether the device was given up, and the tallies after that.
+fn session(alloc: Global) -> Result<String, AllocError> {
+    let (board, mut keeper) = Board::new(alloc)?;
     let mut driver = board.split(&mut keeper, None)?;
     let mut client = board.split(&mut keeper, Some(7))?;
     board.started(&mut driver, 3);
     board.started(&mut driver, 2);
-    assert_eq!(rt; board.current(&mut client), 3);
+    let current = board.current(&mut client);
     let endpoint = Endpoint {
         slot: 1,
         generation: 3,
     };
     board.note(&mut keeper, &Incoming::Started(endpoint));
     board.issue(&mut keeper, &request(), endpoint);
-    assert_eq!(rt; board.tally(&mut driver), 1);
+    let noted = board.tally(&mut driver);
     let who = Who {
         session: 7,
         uid: 0,
@@ -123,14 +134,21 @@ fn a_session_from_its_start_to_its_end(rt: HostRuntime) -> Result<(), AllocError
         &Call::Sync,
         &Reply::Done,
     );
-    assert_eq!(rt; board.tally(&mut driver), 2);
-    assert!(rt; board.device(&mut client) == Device::Live);
+    let called = board.tally(&mut driver);
+    let before = board.device(&mut client);
     board.note(&mut keeper, &Incoming::GaveUp);
     board.give_up(&mut keeper);
-    assert!(rt; board.device(&mut client) == Device::GivenUp);
-    assert_eq!(rt; board.tally(&mut client), 3);
+    let after = board.device(&mut client);
+    let ended = board.tally(&mut client);
     board.spend(&mut keeper, client);
     let mut again = board.split(&mut keeper, Some(7))?;
-    assert_eq!(rt; board.tally(&mut again), 3);
-    Ok(())
+    let found = board.tally(&mut again);
+    format!(in alloc; "{current} {noted} {called} {before:?} {after:?} {ended} {found}")
+}
+
+#[test]
+fn seats_see_the_record(rt: HostRuntime) -> Result<(), Fail> {
+    beats_are_felt(rt.alloc())?;
+    let (_early, _late) = met(rt.alloc())?;
+    came(session(rt.alloc())?.as_str(), "3 1 2 Live GivenUp 3 3")
 }
