@@ -1,5 +1,5 @@
 //! What blocks give, and when they are read and written.
-ghost use Rattle.std.specs.Prelude.{◌≡◌, ◌≤◌, ◌<◌};
+ghost use Rattle.std.specs.Prelude.{◌≡◌};
 ghost use Rattle.cache.specs.Calls.{IsReady};
 ghost use Rattle.stored.specs.World.{stored_caching};
 

@@ -1,6 +1,4 @@
 //! Superblocks by the format's table: a whole one, each field at the ends of its range, and which of several refusals is answered.
-ghost use Rattle.std.specs.Prelude.{◌≡◌};
-
 use crate::images::{image_of, is_told, put, read_of};
 use layout::{Geometry, LayoutRefusal};
 use std::alloc::{AllocError, Global};
