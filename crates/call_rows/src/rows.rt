@@ -1,6 +1,6 @@
 //! Opens, and a rename. Flags: read 1, write 2, append 4, create 8, exclusive 16, truncate 32.
 
-use crate::volumes::{Open, Volume};
+use crate::volumes::{DONE, Open, Volume};
 use errno::Errno;
 use std::process::Abort;
 use std::test::Fail;
@@ -67,7 +67,7 @@ fn descriptors_and_open_files(rt: HostRuntime) -> Result<(), Fail> {
     look(&rt, &mut volume, &rows);
     // the lowest that is free again is taken
     for fd in [7, 3] {
-        assert_eq!(rt; volume.call(ROOT, &Call::Close { fd }), Ok(0));
+        assert_eq!(rt; volume.call(ROOT, &Call::Close { fd }), Ok(DONE));
     }
     let again: [(Open<'_>, Result<u32, Errno>); 2] = [
         ((0, (0, 0), b"/d", 1, 0), Ok(3)),

@@ -89,6 +89,9 @@ fn image(alloc: Global) -> Result<Vec<u8>, AllocError> {
 /// An open: its session, its user and group, the path, the bits of the flags, and the mode.
 pub(crate) type Open<'a> = (u8, (u16, u16), &'a [u8], u8, u16);
 
+/// What is told of a call that is done and has nothing more to tell: no descriptor.
+pub(crate) const DONE: u32 = 32;
+
 /// A volume in memory, and what is open.
 #[derive(Drop)]
 pub(crate) struct Volume {
@@ -112,15 +115,15 @@ impl Volume {
         })
     }
 
-    /// Does a call at 60: the error that it is refused with, or a descriptor, or 0 for another answer. A call that is cut, as none is here,
-    /// is answered EIO.
+    /// Does a call at 60: the error that it is refused with, a descriptor, or `DONE`. Another answer, or a call that is cut, of which there is
+    /// none here, is EIO.
     pub(crate) fn call(&mut self, who: Who, call: &Call) -> Result<u32, Errno> {
         let (blocks, opens) = (&mut self.blocks, &mut self.opens);
         match done(self.alloc, blocks, opens, &self.geometry, who, call) {
             Ok(Reply::Descriptor(fd)) => Ok(fd),
             Ok(Reply::Refused(errno)) => Err(errno),
-            Ok(_) => Ok(0),
-            Err(_) => Err(Errno::EIO),
+            Ok(Reply::Done) => Ok(DONE),
+            Ok(_) | Err(_) => Err(Errno::EIO),
         }
     }
 

@@ -123,7 +123,8 @@ fn last_from<B: Blocks>(
 }
 
 /// Lets go all pages from this one on, and each indirect block that has no number then. The work is that of the pages that are let
-/// go: from the last one down, holes aren't looked at. Unsound where the rules are broken, or the number is no inode's.
+/// go: from the last one down, holes aren't looked at. Unsound only where the rules are broken, or the number is no marked inode's;
+/// nothing more is said of these.
 pub fn detach_from<B: Blocks>(
     blocks: &mut B,
     geometry: &Geometry,

@@ -1,7 +1,8 @@
 //! The bytes of files, written.
 
-ghost use Rattle.std.specs.Prelude.{◌≤◌, ◌+◌, ℕ, length, IfErr};
+ghost use Rattle.std.specs.Prelude.{◌≡◌, ◌≤◌, ◌+◌, ◌↔◌, ℕ, length, IfErr, IsErrOf, false};
 ghost use Rattle.store.specs.volume.Pieces.{pieces};
+ghost use Rattle.store.specs.volume.Reading.{is_data_zone};
 ghost use Rattle.store.specs.World.{Turns};
 ghost use Rattle.store.specs.Halts.{Ends, IsHalt};
 ghost use Rattle.store.specs.Volume.{IsOn};
@@ -12,7 +13,8 @@ use store::{Blocks, Halt};
 use zone::numbers::write_zone;
 
 /// Writes these bytes into the zone of a page, from an offset of the page on: the file whose page lies there has them then, up to
-/// its end, and all else stays. Unsound only where no page of a marked inode lies in the zone, or the rules are broken.
+/// its end, and all else stays. Unsound exactly where it is no data zone, and nothing is changed then. Where no page of a marked inode lies in
+/// the zone, or the rules are broken, nothing more is said.
 pub fn write_page<B: Blocks>(
     blocks: &mut B,
     geometry: &Geometry,
@@ -24,6 +26,8 @@ pub fn write_page<B: Blocks>(
     requires within { from + length bytes.now ≤ geometry.now.block_size }
     ensures turns { Turns B.world blocks.old blocks.new (λ d e. Ends result
         (λ x. (n p : ℕ) → WritesPage geometry.now n p zone from bytes.now d e) (IsPageZone geometry.now (pieces geometry.now d) zone)) }
+    ensures unsound { IsErrOf result Halt.Unsound ↔ (is_data_zone geometry.now zone ≡ false) }
+    ensures untouched { is_data_zone geometry.now zone ≡ false → blocks.new ≡ blocks.old }
     ensures halt { IfErr result (λ h. IsHalt B.world blocks.new h) }
 {
     write_zone(blocks, geometry, zone, from, bytes)

@@ -53,13 +53,13 @@ fn which(inode: &Inode) -> u32 {
     if *inode == OTHER { 2 } else { 0 }
 }
 
-/// Does a step; the number that comes of it, 0 where it says of none.
+/// Does a step; the number that comes of it, the greatest where a number was looked for and there is none, 0 where it says of none.
 pub(crate) fn does<B: Blocks>(blocks: &mut B, geometry: &Geometry, step: &Step) -> Result<u32, Halt>
     requires { IsOn B.world geometry.now blocks.old }
     ensures { IsOn B.world geometry.now blocks.new }
 {
     match step {
-        Step::Lowest(map) => Ok(lowest_free(blocks, geometry, *map)?.unwrap_or(0)),
+        Step::Lowest(map) => Ok(lowest_free(blocks, geometry, *map)?.unwrap_or(u32::MAX)),
         Step::Count(map) => Ok(count_free(blocks, geometry, *map)?),
         Step::Mark(map, number, inside) => mark(blocks, geometry, *map, *number, *inside),
         Step::Load(number) => Ok(which(&load(blocks, geometry, *number)?)),

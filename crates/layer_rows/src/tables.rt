@@ -158,7 +158,7 @@ static ROWS: [(Sizes, Image, Steps); 12] = [
         Sizes::Small,
         (65536, &[(2048, b"\xff\xff\xff\xff\x01", 0)]),
         &[
-            (Step::Lowest(Map::Inodes), Ok(0), 0, b""),
+            (Step::Lowest(Map::Inodes), Ok(u32::MAX), 0, b""),
             (Step::Count(Map::Inodes), Ok(0), 0, b""),
         ],
     ),

@@ -85,11 +85,12 @@ fn named(inode: Option<u16>) -> Option<(u32, u32)> {
     Some((u32::from(inode?), 0))
 }
 
-/// The inode and the position of an open file, if it is open for reading alone.
+/// The inode and the position of an open file; no inode's number where it is open for more than reading.
 fn read_by(file: Option<(u16, u32, OpenFlags)>) -> Option<(u32, u32)> {
     match file {
         Some((inode, position, OpenFlags::READ)) => Some((u32::from(inode), position)),
-        _ => None,
+        Some(_) => Some((u32::MAX, 0)),
+        None => None,
     }
 }
 

@@ -1,6 +1,6 @@
 //! The numbers that stand in indirect blocks, and the bytes of zones.
 
-ghost use Rattle.std.specs.Prelude.{◌≡◌, ◌<◌, ◌≤◌, ◌+◌, ◌*◌, ◌/◌, IfOk, IfErr, IfSome, OnOk, OnErr, IsTrue, length, ℕ};
+ghost use Rattle.std.specs.Prelude.{◌≡◌, ◌<◌, ◌≤◌, ◌+◌, ◌*◌, ◌/◌, ◌↔◌, IfOk, IfErr, IfSome, OnOk, OnErr, IsErrOf, IsTrue, false, length, ℕ};
 ghost use Rattle.volume.specs.tree.Space.{numbers_in_zone};
 ghost use Rattle.layout.specs.Bytes.{u32_at};
 ghost use Rattle.volume.specs.Pieces.{pieces};
@@ -129,6 +129,8 @@ pub fn write_zone<B: Blocks>(
     ensures turns { Turns B.world blocks.old blocks.new (λ d e. Ends result
         (λ x. Alters geometry.now (let v = pieces geometry.now d in with_zone v zone (with_bytes from bytes.now (v.zones zone))) d e)
         (IsTrue (is_data_zone geometry.now zone))) }
+    ensures unsound { IsErrOf result Halt.Unsound ↔ (is_data_zone geometry.now zone ≡ false) }
+    ensures untouched { is_data_zone geometry.now zone ≡ false → blocks.new ≡ blocks.old }
     ensures halt { IfErr result (λ h. IsHalt B.world blocks.new h) }
 {
     if !is_data_zone(geometry, zone) {
@@ -151,6 +153,8 @@ pub fn set_number<B: Blocks>(
     ensures turns { Turns B.world blocks.old blocks.new (λ d e. Ends result
         (λ x. Alters geometry.now (with_number (pieces geometry.now d) block index number) d e)
         (IsTrue (is_data_zone geometry.now block))) }
+    ensures unsound { IsErrOf result Halt.Unsound ↔ (is_data_zone geometry.now block ≡ false) }
+    ensures untouched { is_data_zone geometry.now block ≡ false → blocks.new ≡ blocks.old }
     ensures halt { IfErr result (λ h. IsHalt B.world blocks.new h) }
 {
     write_zone(
@@ -168,6 +172,8 @@ pub fn clear_zone<B: Blocks>(blocks: &mut B, geometry: &Geometry, zone: u32) -> 
     ensures turns { Turns B.world blocks.old blocks.new (λ d e. Ends result
         (λ x. Alters geometry.now (with_zone (pieces geometry.now d) zone (λ o. 0)) d e)
         (IsTrue (is_data_zone geometry.now zone))) }
+    ensures unsound { IsErrOf result Halt.Unsound ↔ (is_data_zone geometry.now zone ≡ false) }
+    ensures untouched { is_data_zone geometry.now zone ≡ false → blocks.new ≡ blocks.old }
     ensures halt { IfErr result (λ h. IsHalt B.world blocks.new h) }
 {
     if !is_data_zone(geometry, zone) {

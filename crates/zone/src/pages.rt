@@ -13,8 +13,8 @@ use layout::Geometry;
 use store::{Blocks, Halt};
 
 /// The zone of a page, which gets one if it has none, and so do the indirect blocks on the way to it. A zone that it gets is
-/// filled with zeros before its number is put anywhere. Unsound where the rules are broken, no zone is free, or the inode has no
-/// such page.
+/// filled with zeros before its number is put anywhere. Unsound only where the rules are broken, fewer zones are free than the page
+/// lacks, or the number is no marked inode's, or the page none that a file may have; nothing more is said of these.
 pub fn attach<B: Blocks>(
     blocks: &mut B,
     geometry: &Geometry,

@@ -3,7 +3,7 @@
 //! A zone that is taken is marked and filled with zeros before its number is put anywhere, so nothing hangs below it, and no file
 //! shows what it held before. A number that is removed is removed before its zone is given back.
 
-ghost use Rattle.std.specs.Prelude.{◌≡◌, ◌<◌, IfErr, IsTrue, false};
+ghost use Rattle.std.specs.Prelude.{◌≡◌, ◌<◌, ◌↔◌, IfErr, IsErrOf, IsTrue, false};
 ghost use Rattle.volume.specs.tree.Space.{numbers_in_zone};
 ghost use Rattle.volume.specs.Pieces.{pieces};
 ghost use Rattle.volume.specs.Reading.{is_data_zone};
@@ -52,6 +52,8 @@ pub fn give<B: Blocks>(blocks: &mut B, geometry: &Geometry, zone: u32) -> Result
     requires on { IsOn B.world geometry.now blocks.old }
     ensures turns { Turns B.world blocks.old blocks.new (λ d e. Ends result
         (λ x. Alters geometry.now (with_mark geometry.now (pieces geometry.now d) zone false) d e) (IsTrue (is_data_zone geometry.now zone))) }
+    ensures unsound { IsErrOf result Halt.Unsound ↔ (is_data_zone geometry.now zone ≡ false) }
+    ensures untouched { is_data_zone geometry.now zone ≡ false → blocks.new ≡ blocks.old }
     ensures halt { IfErr result (λ h. IsHalt B.world blocks.new h) }
 {
     if !is_data_zone(geometry, zone) {
