@@ -35,7 +35,7 @@ fn mark_free<B: Blocks>(blocks: &mut B, geometry: &Geometry) -> Result<u32, Halt
     }
 }
 
-/// Takes the lowest free zone: it is marked, and its bytes are zeros. Where none is free the answer is Unsound.
+/// Takes a free zone: it is marked, and its bytes are zeros. Which one isn't promised. Unsound only where none is free.
 pub fn take<B: Blocks>(blocks: &mut B, geometry: &Geometry) -> Result<u32, Halt>
     requires on { IsOn B.world geometry.now blocks.old }
     ensures turns { Turns B.world blocks.old blocks.new

@@ -1,4 +1,4 @@
-use Rattle.std.proofs.Common.{◌≡◌, ℕ, ◌*◌, refl, sym, ap, ◌∙◌, Option, Some, Result, Ok, Err}
+use Rattle.std.proofs.Common.{◌≡◌, ℕ, ◌*◌, sym, ap, ◌∙◌, Option, Some, Result, Ok, Err}
 use mathlib.Core.Logic.{inl, inr}
 use Rattle.reissue.specs.declared.ask.BeginRefusal.{BeginRefusal}
 use Rattle.reissue.specs.Moves.{Begun, Opens}
