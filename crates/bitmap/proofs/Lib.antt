@@ -1,4 +1,3 @@
-pub use Rattle.regions.proofs as regions
 pub mod Counting
 mod Bytes
 pub mod Maps

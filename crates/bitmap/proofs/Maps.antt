@@ -14,8 +14,8 @@ use Rattle.store.specs.volume.Pieces.{pieces}
 use Rattle.store.specs.Rows.{with_bytes, written}
 use Rattle.store.specs.Volume.{Alters}
 use Rattle.store.proofs.Rows.{row_new, row_old}
-use Rattle.regions.specs.Regions.{zone_map_start}
-use Rattle.regions.proofs.Regions.{in_inode_map, in_zone_map}
+use Rattle.store.specs.Regions.{zone_map_start}
+use Rattle.store.proofs.Alone.{in_inode_map, in_zone_map}
 use Rattle.bitmap.specs.declared.Map.{Map}
 use Rattle.bitmap.specs.declared.Map.TheVariants as map
 use Rattle.bitmap.specs.Maps.{numbers_in, with_number, last_number, first_block}

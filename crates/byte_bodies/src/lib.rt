@@ -6,5 +6,7 @@ mod truncating;
 mod writing;
 
 pub use dated::set_size_at;
+// passed on: the calls on one node
+pub use node_bodies;
 pub use truncating::truncate;
 pub use writing::write;

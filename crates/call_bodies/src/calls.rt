@@ -19,7 +19,7 @@ use descriptors::Descriptors;
 use errno::Errno;
 use layout::Geometry;
 use listing::readdir;
-use node_bodies::{chmod, chown, stat, utime};
+use open_body::byte_bodies::node_bodies::{chmod, chown, stat, utime};
 use open_body::byte_bodies::{truncate, write};
 use open_body::make_bodies::mkdir;
 use open_body::open;

@@ -14,8 +14,8 @@ use Rattle.store.specs.volume.declared.Inode.{Inode}
 use Rattle.store.specs.volume.Reading.{Disk, is_inode}
 use Rattle.store.specs.volume.Pieces.{Pieces, pieces}
 use Rattle.store.specs.volume.Nodes.{file_of, file_byte, page_byte, page_zone, is_marked}
-use Rattle.inode_table.proofs.volume_laws.Bridge.{no_index}
-use Rattle.inode_table.proofs.volume_laws.Volumes.{numbers_sized}
+use Rattle.zone.proofs.zone_laws.volume_laws.Bridge.{no_index}
+use Rattle.zone.proofs.zone_laws.volume_laws.Volumes.{numbers_sized}
 use Rattle.zone.specs.zone_laws.Steps.{SameInodes, IsSoundBut, without_page}
 use Rattle.zone.specs.zone_laws.Composite.{Detached}
 use Rattle.zone.proofs.zone_laws.Agree.{marked_on}

@@ -14,7 +14,7 @@ use Rattle.store.specs.volume.declared.Inode.{Inode}
 use Rattle.store.specs.volume.Pieces.{Pieces}
 use Rattle.store.specs.volume.Nodes.{slot, word, number}
 use Rattle.store.specs.volume.Places.{zone_at}
-use Rattle.inode_table.proofs.volume_laws.Sums.{some_witness}
+use Rattle.zone.proofs.zone_laws.volume_laws.Sums.{some_witness}
 use Rattle.zone.specs.zone_laws.Steps.{first_places, slot_of, above, beside}
 use Rattle.zone.specs.Parts.{IsLastNumber}
 use Rattle.zone.specs.Pages.{child_at, place_count}

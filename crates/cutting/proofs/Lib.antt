@@ -1,2 +1,3 @@
+pub use Rattle.zone.proofs as zone
 pub mod Last
 pub mod Cutting

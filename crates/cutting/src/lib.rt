@@ -2,5 +2,7 @@
 #![tactic(auto)]
 
 pub mod pages;
+pub mod zones;
 
 pub use pages::detach_from;
+pub use zone::inodes;

@@ -11,10 +11,10 @@ ghost use Rattle.zone.specs.Pages.{place_count, child_at};
 ghost use Rattle.cutting.specs.Files.{IsLastAt, IsFull, IsLastHeld, IsLastFrom, MayDetach, DetachesFrom};
 ghost use Rattle.cutting.specs.Slots.{IsLastSlot};
 
-use inode_table::{Inode, load};
 use layout::Geometry;
 use store::{Blocks, Halt};
 use zone::holding::release;
+use zone::inodes::{Inode, load};
 use zone::numbers::{last_number, numbers_in_zone};
 use zone::places::{find, first_places};
 

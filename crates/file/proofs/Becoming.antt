@@ -15,13 +15,13 @@ use Rattle.store.specs.volume.Pieces.{Pieces}
 use Rattle.store.specs.volume.Nodes.{file_of, is_marked, is_mode, is_directory_mode, node_of, nodes_of}
 use Rattle.store.specs.volume.Entries.{is_directory_inode}
 use Rattle.store.specs.volume.Holds.{IsSound}
-use Rattle.inode_table.proofs.volume_laws.Ranges.{marked_below}
-use Rattle.zone.specs.zone_laws.Steps.{IsSoundBut, node_from, marked_in}
-use Rattle.zone.specs.zone_laws.Raw.{Resizes}
-use Rattle.zone.proofs.zone_laws.Keeps.{sound_but_is_sound}
-use Rattle.zone.proofs.zone_laws.Stay.{resize_keeps}
-use Rattle.zone.proofs.zone_laws.Files.{nodes_change_with}
-use Rattle.zone.proofs.zone_laws.Counts.{marked_as_needed}
+use Rattle.cutting.proofs.zone.zone_laws.volume_laws.Ranges.{marked_below}
+use Rattle.cutting.specs.zone.zone_laws.Steps.{IsSoundBut, node_from, marked_in}
+use Rattle.cutting.specs.zone.zone_laws.Raw.{Resizes}
+use Rattle.cutting.proofs.zone.zone_laws.Keeps.{sound_but_is_sound}
+use Rattle.cutting.proofs.zone.zone_laws.Stay.{resize_keeps}
+use Rattle.cutting.proofs.zone.zone_laws.Files.{nodes_change_with}
+use Rattle.cutting.proofs.zone.zone_laws.Counts.{marked_as_needed}
 use Rattle.file.specs.Changing.{MayChange, BecomesFile, file_at}
 
 -- The pieces with inode n a file, whatever it was: then its zones are those of its held pages.

@@ -18,17 +18,17 @@ use Rattle.store.specs.volume.Pieces.{Pieces, pieces}
 use Rattle.store.specs.volume.Nodes.{file_byte, page_byte, page_zone}
 use Rattle.store.specs.Rows.{with_bytes}
 use Rattle.store.proofs.Rows.{row_new, row_old}
-use Rattle.zone.specs.zone_laws.Steps.{with_page}
-use Rattle.zone.specs.zone_laws.Raw.{with_bytes as with_page_bytes}
-use Rattle.zone.specs.zone_laws.Chunks.{grown, resized, Replaces}
-use Rattle.zone.specs.zone_laws.Composite.{Attached}
-use Rattle.zone.proofs.zone_laws.Chunks.{chunk_is_written}
-use Rattle.zone.proofs.zone_laws.Fewer.{need_less}
-use Rattle.zone.proofs.zone_laws.Missing.{page_takes_missing}
-use Rattle.zone.proofs.zone_laws.Keeps.{weaker}
-use Rattle.zone.proofs.zone_laws.Files.{same_file}
-use Rattle.zone.specs.Pages.{MayHold}
-use Rattle.zone.specs.Files.{AttachesPage}
+use Rattle.cutting.specs.zone.zone_laws.Steps.{with_page}
+use Rattle.cutting.specs.zone.zone_laws.Raw.{with_bytes as with_page_bytes}
+use Rattle.cutting.specs.zone.zone_laws.Chunks.{grown, resized, Replaces}
+use Rattle.cutting.specs.zone.zone_laws.Composite.{Attached}
+use Rattle.cutting.proofs.zone.zone_laws.Chunks.{chunk_is_written}
+use Rattle.cutting.proofs.zone.zone_laws.Fewer.{need_less}
+use Rattle.cutting.proofs.zone.zone_laws.Missing.{page_takes_missing}
+use Rattle.cutting.proofs.zone.zone_laws.Keeps.{weaker}
+use Rattle.cutting.proofs.zone.zone_laws.Files.{same_file}
+use Rattle.cutting.specs.zone.Pages.{MayHold}
+use Rattle.cutting.specs.zone.Files.{AttachesPage}
 use Rattle.file.specs.Writing.{MayWrite, IsPageZone, PageIsWritten, WritesPage, with_chunk}
 use Rattle.file.specs.Changing.{MayChange, BecomesFile, file_at, written_at, MayWriteInside, WritesInside}
 use Rattle.file.proofs.Becoming.{becomes, becomes_again, may_change_after}

@@ -14,17 +14,17 @@ use Rattle.store.specs.volume.Reading.{Disk}
 use Rattle.store.specs.volume.Pieces.{Pieces, pieces}
 use Rattle.store.specs.volume.Nodes.{file_of, page_zone}
 use Rattle.store.specs.Volume.{SameHead}
-use Rattle.zone.specs.zone_laws.Steps.{with_page}
-use Rattle.zone.specs.zone_laws.Composite.{Attached}
-use Rattle.zone.proofs.zone_laws.Raw.{no_attributes}
-use Rattle.zone.proofs.zone_laws.Stay.{places_stay, write_keeps_numbers}
-use Rattle.zone.proofs.zone_laws.Files.{same_file}
-use Rattle.zone.proofs.zone_laws.Keeps.{weaker}
-use Rattle.zone.proofs.zone_laws.Missing.{page_takes_missing}
-use Rattle.zone.specs.Pages.{MayHold}
-use Rattle.zone.specs.Files.{AttachesPage}
-use Rattle.zone.specs.Parts.{HasZones}
-use Rattle.zone.proofs.Attaching.{page_attached}
+use Rattle.cutting.specs.zone.zone_laws.Steps.{with_page}
+use Rattle.cutting.specs.zone.zone_laws.Composite.{Attached}
+use Rattle.cutting.proofs.zone.zone_laws.Raw.{no_attributes}
+use Rattle.cutting.proofs.zone.zone_laws.Stay.{places_stay, write_keeps_numbers}
+use Rattle.cutting.proofs.zone.zone_laws.Files.{same_file}
+use Rattle.cutting.proofs.zone.zone_laws.Keeps.{weaker}
+use Rattle.cutting.proofs.zone.zone_laws.Missing.{page_takes_missing}
+use Rattle.cutting.specs.zone.Pages.{MayHold}
+use Rattle.cutting.specs.zone.Files.{AttachesPage}
+use Rattle.cutting.specs.zone.Parts.{HasZones}
+use Rattle.cutting.proofs.zone.Attaching.{page_attached}
 use Rattle.file.specs.Writing.{MayWrite, IsPageZone, WritesPage}
 use Rattle.file.specs.Changing.{MayWriteInside, WritesInside, IsHeldRow}
 use Rattle.file.proofs.Chunk.{may_write, writes_chunk, chunk_zone}

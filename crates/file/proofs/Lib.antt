@@ -1,5 +1,5 @@
 pub use Rattle.cutting.proofs as cutting
-pub use Rattle.zone.proofs.zone_laws as zone_laws
+pub use Rattle.cutting.proofs.zone.zone_laws as zone_laws
 pub mod Pages
 pub mod Parts
 pub mod Joined

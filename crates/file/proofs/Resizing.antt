@@ -13,14 +13,14 @@ use Rattle.store.specs.volume.Reading.{Disk, is_inode}
 use Rattle.store.specs.volume.Pieces.{Pieces, pieces}
 use Rattle.store.specs.volume.Nodes.{file_of, page_zone, is_mode}
 use Rattle.store.specs.Volume.{Alters}
-use Rattle.inode_table.specs.Table.{with_inode}
-use Rattle.zone.specs.zone_laws.Raw.{Resizes}
-use Rattle.zone.specs.zone_laws.Chunks.{resized}
-use Rattle.zone.proofs.zone_laws.Full.{not_zero}
-use Rattle.zone.proofs.zone_laws.Stay.{resized_file, resize_keeps}
-use Rattle.zone.proofs.zone_laws.Files.{same_file}
+use Rattle.cutting.specs.zone.inode_table.Table.{with_inode}
+use Rattle.cutting.specs.zone.zone_laws.Raw.{Resizes}
+use Rattle.cutting.specs.zone.zone_laws.Chunks.{resized}
+use Rattle.cutting.proofs.zone.zone_laws.Full.{not_zero}
+use Rattle.cutting.proofs.zone.zone_laws.Stay.{resized_file, resize_keeps}
+use Rattle.cutting.proofs.zone.zone_laws.Files.{same_file}
 use Rattle.cutting.specs.Files.{MayDetach, LetGo, DetachesFrom, cut_at}
-use Rattle.zone.proofs.zone_laws.Inodes.{inode_is}
+use Rattle.cutting.proofs.zone.zone_laws.Inodes.{inode_is}
 use Rattle.file.specs.Changing.{MayChange, BecomesFile, file_at, IsPadded, PadsRest, MayResize, Resized, SetsSize, Stamps, stamped}
 use Rattle.file.proofs.Becoming.{becomes, becomes_again, may_change_after}
 use Rattle.file.proofs.Rest.{wide}

@@ -15,7 +15,7 @@ use Rattle.store.specs.volume.Pieces.{Pieces, pieces}
 use Rattle.store.specs.volume.Nodes.{file_byte, page_byte, page_zone, is_marked}
 use Rattle.store.specs.Rows.{with_bytes}
 use Rattle.store.proofs.Rows.{row_new, row_old}
-use Rattle.zone.proofs.zone_laws.Files.{same_file}
+use Rattle.cutting.proofs.zone.zone_laws.Files.{same_file}
 use Rattle.file.specs.Writing.{MayWrite, IsPageZone, PageIsWritten, WritesPage, with_chunk}
 use Rattle.file.specs.Changing.{MayChange, BecomesFile, file_at, IsPadded, PadsRest}
 use Rattle.file.proofs.Becoming.{becomes}

@@ -14,10 +14,10 @@ use Rattle.store.specs.tree.ZonesNeeded.{zones_needed}
 use Rattle.store.specs.volume.declared.Inode.{Inode}
 use Rattle.store.specs.volume.Reading.{Disk}
 use Rattle.store.specs.volume.Pieces.{Pieces, pieces}
-use Rattle.zone.specs.zone_laws.Chunks.{grown, resized}
-use Rattle.zone.proofs.zone_laws.Chunks.{writes_join}
-use Rattle.zone.proofs.zone_laws.Fewer.{need_less}
-use Rattle.zone.proofs.zone_laws.Files.{same_file}
+use Rattle.cutting.specs.zone.zone_laws.Chunks.{grown, resized}
+use Rattle.cutting.proofs.zone.zone_laws.Chunks.{writes_join}
+use Rattle.cutting.proofs.zone.zone_laws.Fewer.{need_less}
+use Rattle.cutting.proofs.zone.zone_laws.Files.{same_file}
 use Rattle.file.specs.Changing.{MayChange, BecomesFile, file_at, written_at, MayWriteAt, MayWriteInside, WritesInside, WritesAt, MayResize, Resized, Grows}
 use Rattle.file.proofs.Becoming.{becomes_again, may_change_after}
 use Rattle.file.proofs.Rest.{wide, becomes_none}

@@ -9,11 +9,11 @@ use Rattle.store.specs.volume.Pieces.{Pieces, pieces}
 use Rattle.store.specs.volume.Nodes.{file_of, is_marked, nodes_of}
 use Rattle.store.specs.Rows.{with_bytes}
 use Rattle.store.specs.Volume.{Alters}
-use Rattle.inode_table.specs.regions.Regions.{with_zone}
-use Rattle.zone.specs.zone_laws.Steps.{SameInodes, node_from}
-use Rattle.zone.specs.zone_laws.Raw.{Writes, with_bytes as with_page_bytes}
-use Rattle.zone.proofs.zone_laws.Stay.{written_file, write_keeps, write_keeps_files, write_keeps_numbers, places_stay}
-use Rattle.zone.proofs.zone_laws.Files.{nodes_change_at}
+use Rattle.store.specs.Regions.{with_zone}
+use Rattle.cutting.specs.zone.zone_laws.Steps.{SameInodes, node_from}
+use Rattle.cutting.specs.zone.zone_laws.Raw.{Writes, with_bytes as with_page_bytes}
+use Rattle.cutting.proofs.zone.zone_laws.Stay.{written_file, write_keeps, write_keeps_files, write_keeps_numbers, places_stay}
+use Rattle.cutting.proofs.zone.zone_laws.Files.{nodes_change_at}
 use Rattle.file.specs.Writing.{MayWrite, IsPageZone, with_chunk, PageIsWritten, WritesPage}
 
 -- a zone in which a page lies is a data zone

@@ -10,7 +10,7 @@ use Rattle.store.specs.tree.Space.{numbers_in_zone, data_zones, zones_of, held_o
 use Rattle.store.specs.volume.Pieces.{Pieces}
 use Rattle.store.specs.volume.Nodes.{is_marked, nodes_of}
 use Rattle.store.specs.volume.Holds.{IsSound}
-use Rattle.zone.specs.zone_laws.Room.{taken_by}
+use Rattle.cutting.specs.zone.zone_laws.Room.{taken_by}
 use Rattle.file.specs.Reading.{HasFileBytes, read_count}
 use Rattle.file.specs.Changing.{file_at, HasZonesFor}
 

@@ -1,6 +1,6 @@
 -- What reading and writing files means.
 pub use Rattle.cutting.specs as cutting
-pub use Rattle.zone.specs.zone_laws as zone_laws
+pub use Rattle.cutting.specs.zone.zone_laws as zone_laws
 pub mod Reading
 pub mod Writing
 pub mod Changing

@@ -8,8 +8,8 @@ use Rattle.store.specs.volume.Reading.{Disk}
 use Rattle.store.specs.volume.Pieces.{Pieces, pieces}
 use Rattle.store.specs.volume.Nodes.{file_of, is_marked, nodes_of, page_zone}
 use Rattle.store.specs.Rows.{with_bytes}
-use Rattle.zone.specs.zone_laws.Steps.{IsSoundBut, node_from}
-use Rattle.zone.specs.zone_laws.Raw.{Writes, with_bytes as with_page_bytes}
+use Rattle.cutting.specs.zone.zone_laws.Steps.{IsSoundBut, node_from}
+use Rattle.cutting.specs.zone.zone_laws.Raw.{Writes, with_bytes as with_page_bytes}
 use Rattle.store.specs.Volume.{SameHead}
 
 -- page p of a marked inode lies in this zone, of a volume of which directory n may be out of order

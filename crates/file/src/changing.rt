@@ -13,11 +13,10 @@ ghost use Rattle.file.specs.Changing.{MayChange, MayWriteAt, WritesAt, MayWriteI
 use crate::rows::{find_row, held_before};
 use crate::writing::write_page;
 use cutting::detach_from;
-use inode_table::{load, store};
+use cutting::inodes::{load, store};
+use cutting::zones::{attach, lookup};
 use layout::Geometry;
 use store::{Blocks, Halt};
-use zone::pages::attach;
-use zone::places::lookup;
 
 /// Makes the bytes zeros that stand in the last page behind the end of a file.
 fn pad_rest<B: Blocks>(blocks: &mut B, geometry: &Geometry, number: u32) -> Result<(), Halt>

@@ -8,5 +8,6 @@ mod rows;
 pub mod writing;
 
 pub use changing::{set_size, stamp, write_at};
+pub use cutting::{inodes, zones};
 pub use reading::read_at;
 pub use writing::write_page;

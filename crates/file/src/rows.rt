@@ -4,12 +4,12 @@ ghost use Rattle.std.specs.Prelude.{◌≡◌, ◌≢◌, ◌<◌, ◌≤◌, �
 ghost use Rattle.store.specs.volume.Pieces.{pieces};
 ghost use Rattle.store.specs.World.{Reads};
 ghost use Rattle.store.specs.Volume.{IsOn};
-ghost use Rattle.zone.specs.Parts.{HasZones};
+ghost use Rattle.cutting.specs.zone.Parts.{HasZones};
 
-use inode_table::Inode;
+use cutting::inodes::Inode;
+use cutting::zones::lookup_row;
 use layout::Geometry;
 use store::{Blocks, Cut};
-use zone::places::lookup_row;
 
 /// Fills the slice with the zones of the pages that so many bytes of a file touch, from a place on, and says of how many: at least of
 /// the first one, and of no more than the bytes touch.

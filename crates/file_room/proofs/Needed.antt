@@ -5,23 +5,23 @@ use Rattle.std.specs.Prelude.{◌==◌, ◌&&◌, ◌||◌, not, nat_le, nat_lt}
 use Rattle.std.proofs.lemmas.Bool.{cases_eq, cases_lt, cases_Bool, and_from, and_parts, or_cases, eq-eqb, ne_eqb, lt-ltb, le-ltb, le-leb, lt-leb, leb-true, ltb-true, both_ways, not_from_false}
 use Rattle.std.proofs.lemmas.Nat.{div-add-mod', mul-add-lt}
 use Rattle.std.proofs.Math.Nat.{mul_comm, mod-lt}
-use Rattle.zone.proofs.Filling.{above_place}
+use Rattle.file.proofs.cutting.zone.Filling.{above_place}
 use Rattle.layout.specs.declared.Geometry.{Geometry}
-use Rattle.volume.specs.tree.Sums.{put, count_below, sum_below, one_if}
-use Rattle.volume.specs.tree.ZonesNeeded.{zones_needed}
-use Rattle.volume.specs.tree.Space.{numbers_in_zone}
-use Rattle.volume.proofs.tree.Maps.{put-same, put-other}
-use Rattle.volume.specs.declared.Inode.{Inode}
-use Rattle.volume.specs.Pieces.{Pieces}
-use Rattle.volume.specs.Nodes.{word, number}
-use Rattle.volume.specs.Places.{zone_at}
-use Rattle.inode_table.proofs.volume_laws.Sums.{some_from, some_witness, same_some, none_from}
-use Rattle.inode_table.proofs.volume_laws.Bridge.{limit_at}
-use Rattle.zone.specs.zone_laws.Steps.{first_places}
-use Rattle.zone.specs.zone_laws.Missing.{group, needed_from}
-use Rattle.zone.proofs.zone_laws.Missing.{count_put, needed_all}
-use Rattle.zone.proofs.zone_laws.Full.{not_zero}
-use Rattle.zone.specs.Pages.{child_at, place_count}
+use Rattle.store.specs.tree.Sums.{put, count_below, sum_below, one_if}
+use Rattle.store.specs.tree.ZonesNeeded.{zones_needed}
+use Rattle.store.specs.tree.Space.{numbers_in_zone}
+use Rattle.store.proofs.tree.Maps.{put-same, put-other}
+use Rattle.store.specs.volume.declared.Inode.{Inode}
+use Rattle.store.specs.volume.Pieces.{Pieces}
+use Rattle.store.specs.volume.Nodes.{word, number}
+use Rattle.store.specs.volume.Places.{zone_at}
+use Rattle.file.proofs.cutting.zone.zone_laws.volume_laws.Sums.{some_from, some_witness, same_some, none_from}
+use Rattle.file.proofs.cutting.zone.zone_laws.volume_laws.Bridge.{limit_at}
+use Rattle.file.specs.cutting.zone.zone_laws.Steps.{first_places}
+use Rattle.file.specs.cutting.zone.zone_laws.Missing.{group, needed_from}
+use Rattle.file.proofs.cutting.zone.zone_laws.Missing.{count_put, needed_all}
+use Rattle.file.proofs.cutting.zone.zone_laws.Full.{not_zero}
+use Rattle.file.specs.cutting.zone.Pages.{child_at, place_count}
 use Rattle.file.specs.cutting.Files.{IsFull}
 use Rattle.file_room.specs.Need.{or_from, is_taken, holes, NeedsAt, NeedsMore}
 use Rattle.file.proofs.cutting.Last.{child_zone}

@@ -1,10 +1,10 @@
 -- Room for a write and for other zones beside, in the words of the client calls.
 use Rattle.std.proofs.Common.{◌≡◌, ◌≤◌, ◌+◌, ap, arith}
 use Rattle.std.specs.Prelude.{Some}
-use Rattle.volume.specs.tree.ZonesNeeded.{zones_needed}
-use Rattle.volume.specs.tree.Space.{numbers_in_zone, zones_of}
-use Rattle.inode_table.proofs.volume_laws.Ranges.{marked_below}
-use Rattle.zone.proofs.zone_laws.Room.{nodes_take_marked}
+use Rattle.store.specs.tree.ZonesNeeded.{zones_needed}
+use Rattle.store.specs.tree.Space.{numbers_in_zone, zones_of}
+use Rattle.file.proofs.cutting.zone.zone_laws.volume_laws.Ranges.{marked_below}
+use Rattle.file.proofs.cutting.zone.zone_laws.Room.{nodes_take_marked}
 use Rattle.file.proofs.Spaces.{node_takes_held, put_taken}
 use Rattle.file_room.specs.Laws.{RoomBesideIsSpace}
 

@@ -5,11 +5,11 @@ use Rattle.std.specs.Prelude.{nat_lt, nat_le, ◌&&◌, ◌||◌}
 use Rattle.std.proofs.lemmas.Bool.{cases_lt, lt-ltb, le-ltb, le-leb, lt-leb, leb-true}
 use Rattle.std.proofs.lemmas.Nat.{le-div}
 use Rattle.layout.specs.declared.Geometry.{Geometry}
-use Rattle.volume.specs.tree.Space.{numbers_in_zone, data_zones}
-use Rattle.volume.specs.tree.ZonesNeeded.{zones_needed}
-use Rattle.volume.specs.Pieces.{Pieces, pieces}
-use Rattle.volume.specs.Reading.{Disk}
-use Rattle.volume.specs.declared.Inode.{Inode}
+use Rattle.store.specs.tree.Space.{numbers_in_zone, data_zones}
+use Rattle.store.specs.tree.ZonesNeeded.{zones_needed}
+use Rattle.store.specs.volume.Pieces.{Pieces, pieces}
+use Rattle.store.specs.volume.Reading.{Disk}
+use Rattle.store.specs.volume.declared.Inode.{Inode}
 use Rattle.bitmap.specs.Numbers.{count_free_in}
 use Rattle.bitmap.proofs.Counting.{free_taken}
 use Rattle.file_room.specs.Need.{or_from, NeedsMore}

@@ -2,13 +2,13 @@
 use Rattle.std.specs.Prelude.{◌↔◌, ◌≤◌, ◌≡◌, ℕ, ◌+◌, Bool, Some, IsTrue}
 use Rattle.layout.specs.declared.Geometry.{Geometry}
 use Rattle.layout.specs.Places.{IsGeometry}
-use Rattle.volume.specs.tree.Sums.{put}
-use Rattle.volume.specs.tree.Tree.{Node}
-use Rattle.volume.specs.tree.Space.{data_zones, held_of}
-use Rattle.volume.specs.Pieces.{Pieces}
-use Rattle.volume.specs.Nodes.{is_marked, nodes_of}
-use Rattle.volume.specs.Holds.{IsSound}
-use Rattle.zone.specs.zone_laws.Room.{taken_by}
+use Rattle.store.specs.tree.Sums.{put}
+use Rattle.store.specs.tree.Tree.{Node}
+use Rattle.store.specs.tree.Space.{data_zones, held_of}
+use Rattle.store.specs.volume.Pieces.{Pieces}
+use Rattle.store.specs.volume.Nodes.{is_marked, nodes_of}
+use Rattle.store.specs.volume.Holds.{IsSound}
+use Rattle.file.specs.cutting.zone.zone_laws.Room.{taken_by}
 use Rattle.file_room.specs.Room.{HasZonesBeside}
 
 -- The nodes with another at n fit with other zones beside exactly where there are zones enough for that node's pages and for those.

@@ -1,14 +1,14 @@
 -- How many zones more a file takes when a row of its pages is held.
 use Rattle.std.specs.Prelude.{◌≡◌, ℕ, ◌+◌, ◌-◌, Bool, not, ◌&&◌, ◌||◌, ◌==◌, nat_le, nat_lt}
 use Rattle.layout.specs.declared.Geometry.{Geometry}
-use Rattle.volume.specs.tree.Sums.{count_below}
-use Rattle.volume.specs.tree.Space.{numbers_in_zone}
-use Rattle.volume.specs.tree.ZonesNeeded.{zones_needed}
-use Rattle.volume.specs.declared.Inode.{Inode}
-use Rattle.volume.specs.Pieces.{Pieces}
-use Rattle.volume.specs.Nodes.{file_of}
-use Rattle.volume.specs.Places.{zone_at}
-use Rattle.zone.specs.zone_laws.Missing.{needed_from}
+use Rattle.store.specs.tree.Sums.{count_below}
+use Rattle.store.specs.tree.Space.{numbers_in_zone}
+use Rattle.store.specs.tree.ZonesNeeded.{zones_needed}
+use Rattle.store.specs.volume.declared.Inode.{Inode}
+use Rattle.store.specs.volume.Pieces.{Pieces}
+use Rattle.store.specs.volume.Nodes.{file_of}
+use Rattle.store.specs.volume.Places.{zone_at}
+use Rattle.file.specs.cutting.zone.zone_laws.Missing.{needed_from}
 use Rattle.file.specs.cutting.Files.{IsFull}
 
 -- a test, and the numbers from one up to another beside

@@ -1,10 +1,10 @@
 -- Whether there are zones enough for a write, and for something else beside.
 use Rattle.std.specs.Prelude.{◌≡◌, ◌↔◌, ◌≤◌, ℕ, ◌+◌, List, length, Bool, true}
 use Rattle.layout.specs.declared.Geometry.{Geometry}
-use Rattle.volume.specs.tree.ZonesNeeded.{zones_needed}
-use Rattle.volume.specs.tree.Space.{numbers_in_zone, data_zones}
-use Rattle.volume.specs.Pieces.{Pieces}
-use Rattle.zone.specs.zone_laws.Steps.{marked_in}
+use Rattle.store.specs.tree.ZonesNeeded.{zones_needed}
+use Rattle.store.specs.tree.Space.{numbers_in_zone, data_zones}
+use Rattle.store.specs.volume.Pieces.{Pieces}
+use Rattle.file.specs.cutting.zone.zone_laws.Steps.{marked_in}
 use Rattle.file.specs.Changing.{MayChange, file_at, written_at, HasZonesFor}
 
 -- The file of inode n takes x zones more when so many bytes are written from a place on.

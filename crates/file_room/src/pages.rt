@@ -1,18 +1,17 @@
 //! How many zones a row of pages takes.
 
 ghost use Rattle.std.specs.Prelude.{◌≡◌, ◌==◌, ◌<◌, ◌≤◌, ◌+◌, ◌-◌, ◌*◌, ◌/◌, ◌%◌, IfOk, IfErr};
-ghost use Rattle.volume.specs.tree.Sums.{one_if};
-ghost use Rattle.volume.specs.Pieces.{pieces};
+ghost use Rattle.store.specs.tree.Sums.{one_if};
+ghost use Rattle.store.specs.volume.Pieces.{pieces};
 ghost use Rattle.store.specs.World.{Reads};
 ghost use Rattle.store.specs.Volume.{IsOn};
-ghost use Rattle.zone.specs.Pages.{place_count};
+ghost use Rattle.file.specs.cutting.zone.Pages.{place_count};
 ghost use Rattle.file_room.specs.Need.{holes, NeedsAt, NeedsMore};
 
+use file::inodes::Inode;
+use file::zones::{find, first_places, numbers_in_zone};
 use layout::Geometry;
 use store::{Blocks, Cut};
-use volume::Inode;
-use zone::numbers::numbers_in_zone;
-use zone::places::{find, first_places};
 
 /// 1 where no zone stands, else 0.
 fn count_of(zone: u32) -> u32

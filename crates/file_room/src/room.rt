@@ -1,8 +1,8 @@
 //! Whether a volume has zones enough for a write.
 
 ghost use Rattle.std.specs.Prelude.{◌≤◌, ◌<◌, ◌+◌, IfErr, IsTrue};
-ghost use Rattle.volume.specs.Pieces.{pieces};
-ghost use Rattle.volume.specs.Reading.{is_inode};
+ghost use Rattle.store.specs.volume.Pieces.{pieces};
+ghost use Rattle.store.specs.volume.Reading.{is_inode};
 ghost use Rattle.store.specs.World.{Reads};
 ghost use Rattle.store.specs.Halts.{Ends, IsHalt};
 ghost use Rattle.store.specs.Volume.{IsOn};
@@ -10,7 +10,7 @@ ghost use Rattle.file_room.specs.Room.{TakesMore, IsRoom, IsRoomBeside};
 
 use crate::pages::need;
 use bitmap::{Map, count_free};
-use inode_table::load;
+use file::inodes::load;
 use layout::Geometry;
 use store::{Blocks, Halt};
 

@@ -13,8 +13,8 @@ use Rattle.store.specs.volume.Pieces.{pieces, blank}
 use Rattle.store.specs.Rows.{with_bytes, written}
 use Rattle.store.specs.Volume.{Alters}
 use Rattle.store.proofs.Rows.{row_new, row_old}
-use Rattle.regions.proofs.Places.{after_maps, before_zones, apart}
-use Rattle.regions.proofs.Regions.{in_table}
+use Rattle.store.proofs.Places.{after_maps, before_zones, apart}
+use Rattle.store.proofs.Alone.{in_table}
 use Rattle.inode_table.specs.Table.{with_inode}
 
 module _ (f h : ℕ → ℕ) (p q : ℕ) (same : (k : ℕ) → k < 64 → f (p + k) ≡ h (q + k)) where

@@ -4,7 +4,7 @@ use Rattle.board.specs.marks.Marks.{Mark, Started, Answered, Flush, GaveUp, Took
 use Rattle.board.specs.legal.Session.{tally_of, IsLonger, DeviceKeeps}
 use Rattle.board.specs.View.{View, session_for}
 use Rattle.board.specs.Steps.{SeesMore, SessionAsks}
-use Rattle.keeping.specs.Keeper.{begins_further}
+use Rattle.shared_server.specs.keeping.Keeper.{begins_further}
 use Rattle.serve.specs.Counts.{Counts}
 
 -- the tally of fewer than 2^64 marks is their number

@@ -11,13 +11,11 @@ ghost use Rattle.shared_server.specs.Held.{IsAdmitted, IsGood, IsGuaranteed, IsH
 use crate::session::Session;
 use board::Board;
 use file_server::FileServer;
-use keeping::recorder::Recorder;
-use keeping::room::Room;
-use keeping::steady::OnMedia;
 use shared_server::left_open::LeftOpen;
 use shared_server::locked::Locked;
 use shared_server::refusal::SessionRefusal;
 use shared_server::stopping::{StopRefusal, Stopped};
+use shared_server::{OnMedia, Recorder, Room};
 use std::alloc::{AllocError, Global};
 use std::marker::PhantomData;
 use std::sync::{Arc, Mutex, Wait};

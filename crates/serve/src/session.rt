@@ -16,9 +16,8 @@ ghost use Rattle.shared_server.specs.Held.{HasEnded, IsCutAtEnd, IsEioOnceGivenU
 use crate::service::Shared;
 use board::{Board, Device, Seat};
 use file_server::FileServer;
-use keeping::recorder::Recorder;
-use keeping::room::Room;
 use shared_server::left_open::{LeftOpen, is_cut};
+use shared_server::{Recorder, Room};
 use std::marker::{Model, PhantomData};
 use std::sync::{Arc, Wait};
 use tree::{Call, MAX_DESCRIPTORS, Outcome, Who};

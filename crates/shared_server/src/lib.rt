@@ -6,3 +6,8 @@ pub mod locked;
 pub mod refusal;
 mod sharing;
 pub mod stopping;
+
+// passed on: what a server's link is made of
+pub use keeping::recorder::Recorder;
+pub use keeping::room::Room;
+pub use keeping::steady::OnMedia;

@@ -5,5 +5,6 @@ pub use Rattle.volume.specs as volume
 pub mod World
 pub mod Rows
 pub mod Volume
+pub mod Regions
 pub mod Halts
 pub mod Laws

@@ -3,6 +3,7 @@
 
 pub mod blocks;
 pub mod laws;
+pub mod regions;
 pub mod words;
 
 ghost use Rattle.std.specs.Prelude.{◌≡◌};

@@ -3,6 +3,8 @@
 
 ghost use Rattle.volume_laws.specs.Laws.{CleanIsATree, UsedZonesAreMarked, HeldLeavesRoom, ImageLeavesRoom};
 
+pub use volume::Inode;
+
 /// The verdict on an image is Clean exactly where the image holds a tree without open files, whatever its bytes.
 pub fn clean_is_a_tree()
     ensures { CleanIsATree }

@@ -1,1 +1,10 @@
+pub mod CallLaws
+pub mod ActLaws
+pub mod LeavingLaws
+pub mod IssuedMarks
+pub mod StepCounts
+pub mod SlotWork
+pub mod DisksWork
+pub mod SendLaws
+pub mod RunLaws
 pub mod WholeLaws

@@ -1,39 +1,39 @@
 -- All that justifies a run, put together.
 use Rattle.std.proofs.Common.{◌≡◌, ℕ, ◌+◌, ◌≤◌, List, [], ◌∷◌, ◌++◌, length, Bool, true, false, cond, inl, inr, refl, sym, ◌∙◌, ap, subst, arith}
 use Rattle.std.specs.Prelude.{◌⊎◌, ◌&&◌, not, ◌==◌, Option, Some, None, IfSome}
-use Rattle.acting_runs.specs.endpoint.declared.Endpoint.{Endpoint}
-use Rattle.acting_runs.specs.message.declared.BlockRequest.{BlockRequest}
-use Rattle.acting_runs.specs.bdev.DriverState.{DriverState, Work}
-use Rattle.acting_runs.specs.bdev.Promises.{requests_in_work}
-use Rattle.acting_runs.specs.policy.declared.Policy.{Policy}
-use Rattle.acting_runs.specs.marks.Marks.{Mark}
-use Rattle.acting_runs.specs.marks.Open.{IsWellFormed}
-use Rattle.acting_runs.specs.marks.Acts.{Outbox, MayPost}
-use Rattle.acting_runs.specs.schedule.declared.Sent.{Sent}
-use Rattle.acting_runs.specs.schedule.declared.Event.{Event}
-use Rattle.acting_runs.specs.schedule.Groups.{Group, marks_of, running, generation, Each, EachGroup}
-use Rattle.acting_runs.specs.schedule.Faults.{ExitsOfGroup, HasNotFailed}
-use Rattle.acting_runs.specs.schedule.Starts.{GivingUpOfGroup}
-use Rattle.acting_runs.specs.schedule.Calls.{CallsSoFar, taken}
-use Rattle.acting_runs.specs.schedule.Justified.{AnswersAndFlushes, GroupKeeps}
-use Rattle.acting_runs.specs.driver_events.Disks.{is_at}
-use Rattle.acting_runs.specs.playing.Moments.{Moment, Resting, Runs, record_of}
-use Rattle.acting_runs.specs.run_log.Noted.{marks_in}
-use Rattle.acting_runs.specs.justifying.Steady.{StartsAsDue, HungAsDue, drivers_of}
-use Rattle.acting_runs.specs.justified_runs.Complaining.{ComplaintsAsDue}
-use Rattle.acting_runs.specs.justified_runs.Shown.{EventsJustified}
-use Rattle.acting_runs.proofs.justified_runs.ShownLaws.{runs_show_events}
-use Rattle.acting_runs.specs.justified_runs.Said.{PlacedAsDue}
+use Rattle.justified_runs.specs.endpoint.declared.Endpoint.{Endpoint}
+use Rattle.justified_runs.specs.message.declared.BlockRequest.{BlockRequest}
+use Rattle.justified_runs.specs.bdev.DriverState.{DriverState, Work}
+use Rattle.justified_runs.specs.bdev.Promises.{requests_in_work}
+use Rattle.justified_runs.specs.policy.declared.Policy.{Policy}
+use Rattle.justified_runs.specs.marks.Marks.{Mark}
+use Rattle.justified_runs.specs.marks.Open.{IsWellFormed}
+use Rattle.justified_runs.specs.marks.Acts.{Outbox, MayPost}
+use Rattle.justified_runs.specs.schedule.declared.Sent.{Sent}
+use Rattle.justified_runs.specs.schedule.declared.Event.{Event}
+use Rattle.justified_runs.specs.schedule.Groups.{Group, marks_of, running, generation, Each, EachGroup}
+use Rattle.justified_runs.specs.schedule.Faults.{ExitsOfGroup, HasNotFailed}
+use Rattle.justified_runs.specs.schedule.Starts.{GivingUpOfGroup}
+use Rattle.justified_runs.specs.schedule.Calls.{CallsSoFar, taken}
+use Rattle.justified_runs.specs.schedule.Justified.{AnswersAndFlushes, GroupKeeps}
+use Rattle.justified_runs.specs.driver_events.Disks.{is_at}
+use Rattle.justified_runs.specs.playing.Moments.{Moment, Resting, Runs, record_of}
+use Rattle.justified_runs.specs.run_log.Noted.{marks_in}
+use Rattle.justified_runs.specs.justifying.Steady.{StartsAsDue, HungAsDue, drivers_of}
+use Rattle.justified_runs.specs.Complaining.{ComplaintsAsDue}
+use Rattle.justified_runs.specs.Shown.{EventsJustified}
+use Rattle.justified_runs.proofs.ShownLaws.{runs_show_events}
+use Rattle.justified_runs.specs.Said.{PlacedAsDue}
 use Rattle.issuing_runs.specs.Issuing.{FollowedAsDue, HasNoWork}
 use Rattle.issuing_runs.proofs.PlaceLaws.{runs_keep_places, runs_end_followed}
 use Rattle.issuing_runs.proofs.RoomLaws.{runs_keep_room}
-use Rattle.acting_runs.specs.Acting.{ActsAsDue}
-use Rattle.acting_runs.proofs.ActLaws.{runs_keep_acts}
-use Rattle.acting_runs.proofs.LeavingLaws.{runs_keep_waits}
+use Rattle.whole_runs.specs.Acting.{ActsAsDue}
+use Rattle.whole_runs.proofs.ActLaws.{runs_keep_acts}
+use Rattle.whole_runs.proofs.LeavingLaws.{runs_keep_waits}
 use Rattle.taking_runs.specs.Took.{TookNothing}
 use Rattle.taking_runs.proofs.TakingLaws.{runs_keep_took}
 use Rattle.taking_runs.proofs.ReplyLaws.{runs_keep_replies}
-use Rattle.sending_runs.proofs.RunLaws.{runs_keep_steps}
+use Rattle.whole_runs.proofs.RunLaws.{runs_keep_steps}
 use Rattle.whole_runs.specs.Whole.{IsUnused, IsAtEnd, RunsAreWhole}
 
 -- each of these keeps what follows from what it keeps

@@ -1,2 +1,5 @@
-pub use Rattle.acting_runs.specs.justifying as justifying
+pub use Rattle.justified_runs.specs.justifying as justifying
+pub mod Acting
+pub mod Leaving
+pub mod Sending
 pub mod Whole

@@ -1,20 +1,20 @@
 -- What justifies a run that was played out.
 use Rattle.std.specs.Prelude.{◌≡◌, ◌⊎◌, ℕ, List, [], ◌++◌, length, true, false, None}
-use Rattle.acting_runs.specs.bdev.DriverState.{DriverState, is_fresh}
-use Rattle.acting_runs.specs.bdev.Promises.{IsDriver}
-use Rattle.acting_runs.specs.media.Contents.{MediaState}
-use Rattle.acting_runs.specs.policy.declared.Policy.{Policy}
-use Rattle.acting_runs.specs.policy.Watch.{new_watch}
-use Rattle.acting_runs.specs.marks.Open.{IsWellFormed}
-use Rattle.acting_runs.specs.marks.Acts.{empty_outbox}
-use Rattle.acting_runs.specs.schedule.declared.Event.{Event}
-use Rattle.acting_runs.specs.schedule.Groups.{marks_of, Each}
-use Rattle.acting_runs.specs.schedule.Calls.{Arrival, arrived, taken}
-use Rattle.acting_runs.specs.schedule.Justified.{Justified}
-use Rattle.acting_runs.specs.run_log.Noted.{marks_in}
-use Rattle.acting_runs.specs.playing.PlayView.{Play, IsOpened}
-use Rattle.acting_runs.specs.playing.Moments.{Moment, Resting, Runs}
-use Rattle.acting_runs.specs.justifying.Steady.{drivers_of}
+use Rattle.justified_runs.specs.bdev.DriverState.{DriverState, is_fresh}
+use Rattle.justified_runs.specs.bdev.Promises.{IsDriver}
+use Rattle.justified_runs.specs.media.Contents.{MediaState}
+use Rattle.justified_runs.specs.policy.declared.Policy.{Policy}
+use Rattle.justified_runs.specs.policy.Watch.{new_watch}
+use Rattle.justified_runs.specs.marks.Open.{IsWellFormed}
+use Rattle.justified_runs.specs.marks.Acts.{empty_outbox}
+use Rattle.justified_runs.specs.schedule.declared.Event.{Event}
+use Rattle.justified_runs.specs.schedule.Groups.{marks_of, Each}
+use Rattle.justified_runs.specs.schedule.Calls.{Arrival, arrived, taken}
+use Rattle.justified_runs.specs.schedule.Justified.{Justified}
+use Rattle.justified_runs.specs.run_log.Noted.{marks_in}
+use Rattle.justified_runs.specs.playing.PlayView.{Play, IsOpened}
+use Rattle.justified_runs.specs.playing.Moments.{Moment, Resting, Runs}
+use Rattle.justified_runs.specs.justifying.Steady.{drivers_of}
 
 -- a driver that was never handed a request, and hasn't failed
 pub record IsUnused (d : DriverState) : Type 0 where

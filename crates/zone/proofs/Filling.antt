@@ -8,15 +8,15 @@ use Rattle.std.proofs.lemmas.Nat.{div_below}
 use Rattle.std.proofs.lemmas.List.{get_or-set_same, get_or-set_other}
 use Rattle.layout.specs.declared.Geometry.{Geometry}
 use Rattle.layout.specs.Places.{IsGeometry}
-use Rattle.volume.specs.tree.Sums.{put, one_if}
-use Rattle.volume.proofs.tree.Maps.{put-same, put-other}
-use Rattle.volume.specs.tree.Space.{numbers_in_zone, data_zones}
-use Rattle.volume.specs.declared.Inode.{Inode}
-use Rattle.volume.specs.Reading.{Disk, is_data_zone, is_inode, u32_in, inode_of_disk}
-use Rattle.volume.specs.Pieces.{Pieces, pieces, blank}
-use Rattle.volume.specs.Nodes.{word, slot, number, is_marked}
-use Rattle.volume.specs.Places.{zone_at, has_number}
-use Rattle.volume.specs.Holds.{ZonesAgree}
+use Rattle.store.specs.tree.Sums.{put, one_if}
+use Rattle.store.proofs.tree.Maps.{put-same, put-other}
+use Rattle.store.specs.tree.Space.{numbers_in_zone, data_zones}
+use Rattle.store.specs.volume.declared.Inode.{Inode}
+use Rattle.store.specs.volume.Reading.{Disk, is_data_zone, is_inode, u32_in, inode_of_disk}
+use Rattle.store.specs.volume.Pieces.{Pieces, pieces, blank}
+use Rattle.store.specs.volume.Nodes.{word, slot, number, is_marked}
+use Rattle.store.specs.volume.Places.{zone_at, has_number}
+use Rattle.store.specs.volume.Holds.{ZonesAgree}
 use Rattle.zone_laws.proofs.volume_laws.Volumes.{numbers_sized}
 use Rattle.store.specs.Rows.{with_bytes}
 use Rattle.store.proofs.Rows.{row_new, row_old}

@@ -4,18 +4,18 @@ use Rattle.std.specs.Prelude.{IsTrue, ◌==◌, nat_le, nat_lt, if◌then◌else
 use Rattle.std.proofs.lemmas.Bool.{and_parts, leb-true, ltb-true, cond-true, cond-false, ne_eqb}
 use Rattle.layout.specs.declared.Geometry.{Geometry}
 use Rattle.layout.specs.Places.{IsGeometry}
-use Rattle.volume.specs.tree.Sums.{put}
-use Rattle.volume.specs.Reading.{Disk, is_data_zone, u32_in}
-use Rattle.volume.specs.Pieces.{pieces}
-use Rattle.volume.specs.Nodes.{number}
+use Rattle.store.specs.tree.Sums.{put}
+use Rattle.store.specs.volume.Reading.{Disk, is_data_zone, u32_in}
+use Rattle.store.specs.volume.Pieces.{pieces}
+use Rattle.store.specs.volume.Nodes.{number}
 use Rattle.layout.specs.Bytes.{u32_at}
-use Rattle.volume.specs.tree.Space.{numbers_in_zone}
+use Rattle.store.specs.tree.Space.{numbers_in_zone}
 use Rattle.store.specs.Rows.{with_bytes, written, cleared}
 use Rattle.store.specs.Volume.{Alters}
 use Rattle.zone.specs.Parts.{IsLastNumber}
 use Rattle.zone.specs.Words.{IsLastWord}
-use Rattle.bitmap.specs.regions.Regions.{with_zone}
-use Rattle.bitmap.proofs.regions.Regions.{in_zone}
+use Rattle.store.specs.Regions.{with_zone}
+use Rattle.store.proofs.Alone.{in_zone}
 
 -- the bounds of a data zone
 pub zone_bounds : (g : Geometry) (z : ℕ) → IsTrue (is_data_zone g z) → (g.first_zone ≤ z) × (z < g.zones)

@@ -6,11 +6,11 @@ use Rattle.std.proofs.lemmas.Bool.{cases_eq, cond-false, ne_eqb, not_from_false}
 use Rattle.zone_laws.proofs.volume_laws.Sums.{some_from}
 use Rattle.zone_laws.proofs.volume_laws.Volumes.{numbers_sized}
 use Rattle.layout.specs.declared.Geometry.{Geometry}
-use Rattle.volume.specs.tree.Space.{numbers_in_zone}
-use Rattle.volume.specs.Reading.{Disk}
-use Rattle.volume.specs.Pieces.{Pieces, pieces}
-use Rattle.volume.specs.Nodes.{word, slot, number}
-use Rattle.volume.specs.Places.{zone_at}
+use Rattle.store.specs.tree.Space.{numbers_in_zone}
+use Rattle.store.specs.volume.Reading.{Disk}
+use Rattle.store.specs.volume.Pieces.{Pieces, pieces}
+use Rattle.store.specs.volume.Nodes.{word, slot, number}
+use Rattle.store.specs.volume.Places.{zone_at}
 use Rattle.zone_laws.specs.Steps.{first_places, slot_of, IsBare, Links, Unlinks}
 use Rattle.zone_laws.specs.Composite.{Attached, Detached}
 use Rattle.zone_laws.proofs.Inodes.{inode_is}

@@ -4,11 +4,11 @@ use mathlib.Core.Logic.{inl, inr}
 use Rattle.std.specs.Prelude.{◌==◌, nat_lt, nat_le}
 use Rattle.std.proofs.lemmas.Bool.{cond-true, cond-false, cases_lt, eq-eqb, ne_eqb, lt-ltb, le-ltb, le-leb, lt-leb}
 use Rattle.layout.specs.declared.Geometry.{Geometry}
-use Rattle.volume.specs.tree.Space.{numbers_in_zone}
-use Rattle.volume.specs.declared.Inode.{Inode}
-use Rattle.volume.specs.Pieces.{Pieces}
-use Rattle.volume.specs.Nodes.{number, slot}
-use Rattle.volume.specs.Places.{zone_at}
+use Rattle.store.specs.tree.Space.{numbers_in_zone}
+use Rattle.store.specs.volume.declared.Inode.{Inode}
+use Rattle.store.specs.volume.Pieces.{Pieces}
+use Rattle.store.specs.volume.Nodes.{number, slot}
+use Rattle.store.specs.volume.Places.{zone_at}
 use Rattle.zone_laws.proofs.volume_laws.Bridge.{div_none, mod_all, div_some}
 use Rattle.zone_laws.specs.Steps.{first_places, slot_of, above, beside}
 

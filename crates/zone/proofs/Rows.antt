@@ -6,12 +6,12 @@ use Rattle.std.proofs.lemmas.Nat.{div-add-mod', div-mul-add, mod-mul-add}
 use Rattle.std.proofs.Math.ListN.{get_or-append, take, drop, length-take, length-drop}
 use Rattle.layout.specs.declared.Geometry.{Geometry}
 use Rattle.layout.specs.Places.{IsGeometry}
-use Rattle.volume.specs.tree.Space.{numbers_in_zone}
-use Rattle.volume.specs.declared.Inode.{Inode}
-use Rattle.volume.specs.Reading.{Disk, is_data_zone, u32_in}
-use Rattle.volume.specs.Pieces.{Pieces, pieces}
-use Rattle.volume.specs.Nodes.{number}
-use Rattle.volume.specs.Places.{zone_at}
+use Rattle.store.specs.tree.Space.{numbers_in_zone}
+use Rattle.store.specs.volume.declared.Inode.{Inode}
+use Rattle.store.specs.volume.Reading.{Disk, is_data_zone, u32_in}
+use Rattle.store.specs.volume.Pieces.{Pieces, pieces}
+use Rattle.store.specs.volume.Nodes.{number}
+use Rattle.store.specs.volume.Places.{zone_at}
 use Rattle.zone_laws.specs.Steps.{first_places}
 use Rattle.zone.specs.Parts.{HasNumbers, HasZones}
 use Rattle.zone.specs.Words.{HasWords}

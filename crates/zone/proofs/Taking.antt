@@ -3,16 +3,16 @@ use Rattle.std.proofs.Common.{◌≡◌, ◌≢◌, ◌<◌, ◌≤◌, ◌+◌,
 use Rattle.std.specs.Prelude.{nat_le, nat_lt, Option, None, Some, slice_set}
 use Rattle.std.proofs.lemmas.Bool.{and_from, le-leb, lt-ltb}
 use Rattle.layout.specs.declared.Geometry.{Geometry}
-use Rattle.volume.specs.tree.Sums.{put, sum_below, count_below, one_if}
-use Rattle.volume.specs.declared.Inode.{Inode}
-use Rattle.volume.specs.Reading.{Disk}
-use Rattle.volume.specs.Pieces.{Pieces, pieces}
-use Rattle.volume.specs.Nodes.{slot, number}
+use Rattle.store.specs.tree.Sums.{put, sum_below, count_below, one_if}
+use Rattle.store.specs.volume.declared.Inode.{Inode}
+use Rattle.store.specs.volume.Reading.{Disk}
+use Rattle.store.specs.volume.Pieces.{Pieces, pieces}
+use Rattle.store.specs.volume.Nodes.{slot, number}
 use Rattle.bitmap.specs.Numbers.{IsLowestFree}
 use Rattle.inode_table.specs.Table.{with_inode}
 use Rattle.store.specs.Volume.{Alters}
 use Rattle.zone_laws.specs.Steps.{bit_of}
-use Rattle.bitmap.specs.regions.Regions.{with_zone}
+use Rattle.store.specs.Regions.{with_zone}
 use Rattle.zone.specs.Parts.{IsLastNumber, with_mark, with_fresh, with_slot, with_number}
 use Rattle.zone.specs.Steps.{MarksZone, TakesZone, HasRoom, HoldsSlot, HoldsNumber, DropsSlot, DropsNumber}
 use Rattle.store.proofs.Ending.{alters_over, alters_read}

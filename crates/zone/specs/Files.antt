@@ -1,11 +1,11 @@
 -- What attaching does to a file, and to the nodes.
 use Rattle.std.specs.Prelude.{◌≡◌, ℕ, true, Some}
 use Rattle.layout.specs.declared.Geometry.{Geometry}
-use Rattle.volume.specs.tree.Sums.{put}
-use Rattle.volume.specs.Reading.{Disk}
-use Rattle.volume.specs.Pieces.{pieces}
-use Rattle.volume.specs.Nodes.{file_of, nodes_of}
-use Rattle.volume.specs.Places.{zone_at}
+use Rattle.store.specs.tree.Sums.{put}
+use Rattle.store.specs.volume.Reading.{Disk}
+use Rattle.store.specs.volume.Pieces.{pieces}
+use Rattle.store.specs.volume.Nodes.{file_of, nodes_of}
+use Rattle.store.specs.volume.Places.{zone_at}
 use Rattle.zone_laws.specs.Steps.{with_page, node_from}
 use Rattle.zone_laws.specs.Composite.{Attached}
 use Rattle.store.specs.Volume.{SameHead}

@@ -2,13 +2,13 @@
 use Rattle.std.specs.Prelude.{◌≡◌, ◌≢◌, ℕ, ◌+◌, ◌*◌, ◌<◌, List, length, slice_index, Bool, true, slice_set, Option, None, Some}
 use Rattle.std.specs.Int.{w32, to_le_bytes}
 use Rattle.layout.specs.declared.Geometry.{Geometry}
-use Rattle.volume.specs.tree.Sums.{put}
-use Rattle.volume.specs.tree.Space.{numbers_in_zone}
-use Rattle.volume.specs.declared.Inode.{Inode}
-use Rattle.volume.specs.Pieces.{Pieces}
-use Rattle.volume.specs.Nodes.{number, page_zone}
+use Rattle.store.specs.tree.Sums.{put}
+use Rattle.store.specs.tree.Space.{numbers_in_zone}
+use Rattle.store.specs.volume.declared.Inode.{Inode}
+use Rattle.store.specs.volume.Pieces.{Pieces}
+use Rattle.store.specs.volume.Nodes.{number, page_zone}
 use Rattle.store.specs.Rows.{with_bytes}
-use Rattle.bitmap.specs.regions.Regions.{with_zone}
+use Rattle.store.specs.Regions.{with_zone}
 use Rattle.zone_laws.specs.Steps.{bit_of, IsBare}
 
 -- pieces in which number j of a block is x

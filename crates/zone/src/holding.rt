@@ -1,9 +1,9 @@
 //! Places that get a zone, and places that are let go.
 
 ghost use Rattle.std.specs.Prelude.{◌≡◌, ◌<◌, ◌≤◌, ◌+◌, ◌-◌, ◌*◌, ◌/◌, ◌%◌, IfErr, IsTrue};
-ghost use Rattle.volume.specs.Reading.{is_inode};
-ghost use Rattle.volume.specs.Places.{zone_at};
-ghost use Rattle.volume.specs.Pieces.{pieces};
+ghost use Rattle.store.specs.volume.Reading.{is_inode};
+ghost use Rattle.store.specs.volume.Places.{zone_at};
+ghost use Rattle.store.specs.volume.Pieces.{pieces};
 ghost use Rattle.store.specs.World.{Turns, Reads};
 ghost use Rattle.store.specs.Halts.{Ends, IsHalt};
 ghost use Rattle.store.specs.Volume.{IsOn};

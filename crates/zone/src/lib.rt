@@ -2,6 +2,7 @@
 #![tactic(auto)]
 
 pub mod holding;
+pub mod inodes;
 pub mod numbers;
 pub mod pages;
 pub mod places;

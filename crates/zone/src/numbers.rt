@@ -1,16 +1,16 @@
 //! The numbers that stand in indirect blocks, and the bytes of zones.
 
 ghost use Rattle.std.specs.Prelude.{◌≡◌, ◌<◌, ◌≤◌, ◌+◌, ◌*◌, ◌/◌, ◌↔◌, IfOk, IfErr, IfSome, OnOk, OnErr, IsErrOf, IsTrue, false, length, ℕ};
-ghost use Rattle.volume.specs.tree.Space.{numbers_in_zone};
+ghost use Rattle.store.specs.tree.Space.{numbers_in_zone};
 ghost use Rattle.layout.specs.Bytes.{u32_at};
-ghost use Rattle.volume.specs.Pieces.{pieces};
-ghost use Rattle.volume.specs.Nodes.{number};
-ghost use Rattle.volume.specs.Reading.{is_data_zone};
+ghost use Rattle.store.specs.volume.Pieces.{pieces};
+ghost use Rattle.store.specs.volume.Nodes.{number};
+ghost use Rattle.store.specs.volume.Reading.{is_data_zone};
 ghost use Rattle.store.specs.World.{Turns, Reads};
 ghost use Rattle.store.specs.Rows.{with_bytes};
 ghost use Rattle.store.specs.Halts.{Ends, IsHalt};
 ghost use Rattle.store.specs.Volume.{IsOn, Alters};
-ghost use Rattle.bitmap.specs.regions.Regions.{with_zone};
+ghost use Rattle.store.specs.Regions.{with_zone};
 ghost use Rattle.zone.specs.Parts.{with_number, HasNumbers, IsLastNumber};
 ghost use Rattle.zone.specs.Words.{HasWords, IsLastWord};
 

@@ -3,18 +3,18 @@
 //! block of each level; each other place is a number of a block one level above.
 
 ghost use Rattle.std.specs.Prelude.{◌≡◌, ◌<◌, ◌≤◌, ◌+◌, ◌-◌, ◌*◌, ◌/◌, ◌%◌, IfOk, IfErr, length};
-ghost use Rattle.volume.specs.Pieces.{pieces};
-ghost use Rattle.volume.specs.Nodes.{page_zone};
-ghost use Rattle.volume.specs.Places.{zone_at};
+ghost use Rattle.store.specs.volume.Pieces.{pieces};
+ghost use Rattle.store.specs.volume.Nodes.{page_zone};
+ghost use Rattle.store.specs.volume.Places.{zone_at};
 ghost use Rattle.store.specs.World.{Reads};
 ghost use Rattle.store.specs.Volume.{IsOn};
 ghost use Rattle.zone_laws.specs.Steps.{first_places, slot_of};
 ghost use Rattle.zone.specs.Parts.{HasZones};
 
 use crate::numbers::{number, numbers, numbers_in_zone};
+use inode_table::Inode;
 use layout::Geometry;
 use store::{Blocks, Cut};
-use volume::Inode;
 
 /// How many places of a level stand in the inode itself.
 pub fn first_places(level: u32) -> u32

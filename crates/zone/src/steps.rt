@@ -4,9 +4,9 @@
 //! shows what it held before. A number that is removed is removed before its zone is given back.
 
 ghost use Rattle.std.specs.Prelude.{◌≡◌, ◌<◌, ◌↔◌, IfErr, IsErrOf, IsTrue, false};
-ghost use Rattle.volume.specs.tree.Space.{numbers_in_zone};
-ghost use Rattle.volume.specs.Pieces.{pieces};
-ghost use Rattle.volume.specs.Reading.{is_data_zone};
+ghost use Rattle.store.specs.tree.Space.{numbers_in_zone};
+ghost use Rattle.store.specs.volume.Pieces.{pieces};
+ghost use Rattle.store.specs.volume.Reading.{is_data_zone};
 ghost use Rattle.store.specs.World.{Turns};
 ghost use Rattle.store.specs.Halts.{Ends, IsHalt};
 ghost use Rattle.store.specs.Volume.{IsOn, Alters};

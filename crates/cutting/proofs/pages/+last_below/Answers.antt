@@ -1,5 +1,5 @@
 use Rattle.store.specs.volume.Pieces.{pieces}
-use Rattle.inode_table.proofs.volume_laws.Volumes.{numbers_sized}
+use Rattle.zone.proofs.zone_laws.volume_laws.Volumes.{numbers_sized}
 use Rattle.store.proofs.Turns.{reads_then, ends_as}
 use Rattle.store.proofs.Ending.{ends_cut_exit, reads_three}
 use Rattle.cutting.proofs.Last.{last_down, bare_down}

@@ -1,7 +1,7 @@
 use Rattle.std.proofs.Common.{sym, subst}
 use Rattle.store.specs.volume.declared.Inode.{Inode}
 use Rattle.store.specs.volume.Pieces.{pieces}
-use Rattle.inode_table.proofs.volume_laws.Volumes.{numbers_sized}
+use Rattle.zone.proofs.zone_laws.volume_laws.Volumes.{numbers_sized}
 use Rattle.store.proofs.Turns.{reads_then, reads_as}
 use Rattle.cutting.specs.Files.{IsFull}
 use Rattle.cutting.specs.Slots.{IsLastSlot}

@@ -1,6 +1,6 @@
 use Rattle.store.specs.volume.Pieces.{pieces}
 use Rattle.store.proofs.Turns.{turns_then, ends_as}
-use Rattle.zone.proofs.zone_laws.Inodes.{inode_is}
+use Rattle.cutting.proofs.zone.zone_laws.Inodes.{inode_is}
 use Rattle.file.proofs.Resizing.{stamps}
 use Rattle.file.proofs.changing.stamp.Goals as goal
 

@@ -1,5 +1,5 @@
-use Rattle.volume.specs.Pieces.{pieces}
-use Rattle.inode_table.proofs.volume_laws.Volumes.{numbers_sized}
+use Rattle.store.specs.volume.Pieces.{pieces}
+use Rattle.file.proofs.cutting.zone.zone_laws.volume_laws.Volumes.{numbers_sized}
 use Rattle.store.proofs.Turns.{reads_as, reads_then, if_cut}
 use Rattle.file_room.proofs.Needed.{need_near, need_up}
 use Rattle.std.proofs.Common.{arith}

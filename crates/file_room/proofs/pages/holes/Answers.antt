@@ -1,7 +1,7 @@
 use Rattle.std.proofs.Common.{◌+◌, ◌∙◌, ap, sym, arith}
 use Rattle.std.specs.Prelude.{◌==◌}
-use Rattle.volume.specs.tree.Sums.{one_if}
-use Rattle.volume.specs.Pieces.{pieces}
+use Rattle.store.specs.tree.Sums.{one_if}
+use Rattle.store.specs.volume.Pieces.{pieces}
 use Rattle.store.proofs.Turns.{reads_none, reads_then, if_cut}
 use Rattle.file_room.proofs.Needed.{holes_none, holes_more}
 use Rattle.file_room.proofs.pages.holes.Goals as goal

@@ -1,5 +1,5 @@
 use Rattle.std.proofs.Common.{◌≡◌, ◌≤◌, ◌-◌}
-use Rattle.volume.specs.Pieces.{pieces}
+use Rattle.store.specs.volume.Pieces.{pieces}
 use Rattle.store.specs.World.{Reads}
 use Rattle.file_room.specs.Need.{holes}
 use Rattle.file_room.proofs.pages.holes.Given as goal

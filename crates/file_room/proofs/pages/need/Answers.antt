@@ -1,5 +1,5 @@
 use Rattle.std.proofs.Common.{arith}
-use Rattle.volume.specs.Pieces.{pieces}
+use Rattle.store.specs.volume.Pieces.{pieces}
 use Rattle.store.proofs.Turns.{reads_none, reads_as, if_ok}
 use Rattle.file_room.proofs.Needed.{need_none, need_whole}
 use Rattle.file_room.proofs.pages.need.Goals as goal

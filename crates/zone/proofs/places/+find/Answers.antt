@@ -1,4 +1,4 @@
-use Rattle.volume.specs.Pieces.{pieces}
+use Rattle.store.specs.volume.Pieces.{pieces}
 use Rattle.zone_laws.proofs.volume_laws.Volumes.{numbers_sized}
 use Rattle.store.proofs.Turns.{reads_then, if_ok}
 use Rattle.zone.proofs.Levels.{found_outer}

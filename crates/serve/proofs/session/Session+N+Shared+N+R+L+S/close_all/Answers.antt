@@ -3,7 +3,7 @@ use Rattle.std.specs.Bool.{OnTrue, OnFalse}
 use Rattle.tree.specs.declared.Who.{Who}
 use Rattle.board.specs.marks.Marks.{Mark}
 use Rattle.board.specs.legal.Session.{caller_of}
-use Rattle.keeping.specs.Keeper.{begins_further}
+use Rattle.shared_server.specs.keeping.Keeper.{begins_further}
 use Rattle.serve.specs.Closing.{ClosesBelow, ClosesOne}
 use Rattle.shared_server.specs.Descriptors.{leaves_open}
 use Rattle.shared_server.specs.Held.{HasEnded}

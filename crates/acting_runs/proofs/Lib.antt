@@ -1,4 +1,0 @@
-pub use Rattle.justified_runs.proofs as justified_runs
-pub mod CallLaws
-pub mod ActLaws
-pub mod LeavingLaws

@@ -1,5 +1,0 @@
-use Rattle.regions.proofs.Regions.{in_table}
-use Rattle.regions.proofs.table_alone.Goals as goal
-
-pub returns : goal.returns
-returns c = λ g d block row geometry low high. in_table g geometry d block row low high

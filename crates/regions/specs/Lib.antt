@@ -1,2 +1,0 @@
--- What a write to one block of a volume changes.
-pub mod Regions
