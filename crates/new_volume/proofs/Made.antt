@@ -10,7 +10,7 @@ use Rattle.inode.specs.volume.Pieces.{pieces}
 use Rattle.inode.specs.volume.Fresh.{fresh_pieces}
 use Rattle.inode.specs.volume.Holds.{HoldsNodes}
 use Rattle.inode.specs.volume.Verdict.{HoldsClosed}
-use Rattle.inode.proofs.volume.FreshHolds.{fresh_holds}
+use Rattle.volume.proofs.FreshHolds.{fresh_holds}
 use Rattle.inode.proofs.volume_laws.CleanTree.{clean_is_a_tree}
 use Rattle.new_volume.specs.declared.MkfsRefusal.{MkfsRefusal}
 use Rattle.new_volume.specs.declared.MkfsRefusal.TheVariants.{BadBlockSize, BadInodes, TooManyBlocks, TooFewBlocks}
