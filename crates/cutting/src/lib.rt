@@ -5,4 +5,5 @@ pub mod pages;
 pub mod zones;
 
 pub use pages::detach_from;
+// passed on: the inodes of a volume
 pub use zone::inodes;

@@ -3,6 +3,7 @@
 
 ghost use Rattle.volume_laws.specs.Laws.{CleanIsATree, UsedZonesAreMarked, HeldLeavesRoom, ImageLeavesRoom};
 
+// passed on: an inode as it lies on the disk
 pub use volume::Inode;
 
 /// The verdict on an image is Clean exactly where the image holds a tree without open files, whatever its bytes.
