@@ -7,6 +7,6 @@ mod writing;
 
 pub use dated::set_size_at;
 // passed on: the calls on one node
-pub use node_bodies;
+pub use node_bodies::{chmod, chown, stat, utime};
 pub use truncating::truncate;
 pub use writing::write;
