@@ -1,5 +1,5 @@
 //! Rows of mounting and unmounting, over a link that answers from a list, and of a service's sessions: in turn, in two threads, given up,
-//! refused and ended, and of a service that is stopped. Each expected value is worked out by hand.
+//! refused and ended, of a service that is stopped, and of the board that its seats share. Each expected value is worked out by hand.
 #![tactic(auto)]
 
 #[cfg(test)]
@@ -20,6 +20,8 @@ mod services;
 mod sessions;
 #[cfg(test)]
 mod silent;
+#[cfg(test)]
+mod status_words;
 #[cfg(test)]
 mod threads;
 #[cfg(test)]

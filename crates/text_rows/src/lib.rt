@@ -1,9 +1,13 @@
-//! Rows of calls, schedules, scripts and transcripts as text: every kind of line, lines that can't be read, and writers that fail. Each expected
-//! value is the format's, or worked out by hand.
+//! Rows of errors, replies, calls, schedules, scripts and transcripts as text: every kind of line, lines that can't be read, and writers that
+//! fail. Each expected value is the format's, or worked out by hand.
 #![tactic(auto)]
 
 #[cfg(test)]
 mod calls;
+#[cfg(test)]
+mod replies;
+#[cfg(test)]
+mod rows;
 #[cfg(test)]
 mod schedules;
 #[cfg(test)]

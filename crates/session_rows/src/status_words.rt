@@ -1,7 +1,8 @@
+//! Seats of a service's board: beats, in two threads too, what is seen when seats meet, and tallies from a session's start to its end.
 ghost use Rattle.std.specs.Prelude.{◌≡◌, ◌∷◌, [], IfOk};
 ghost use Rattle.board.specs.marks.Marks.{Flush, GaveUp};
 
-use crate::rows::came;
+use crate::lines::is_told;
 use board::{Board, Seat};
 use endpoint::Endpoint;
 use message::{BlockRequest, Incoming, Kind};
@@ -47,7 +48,7 @@ static BEATS: [([(u32, u32); 4], &str); 2] = [
 fn beats_are_felt(alloc: Global) -> Result<(), Fail> {
     for (beats, wanted) in &BEATS {
         let given = format!(in alloc; "{:?}", pulses(alloc, beats)?)?;
-        came(given.as_str(), wanted)?;
+        is_told(given.as_str(), wanted)?;
     }
     Ok(())
 }
@@ -75,7 +76,7 @@ fn seats_beat_in_two_threads(rt: HostRuntime) -> Result<(), Fail> {
         { beats_once(words, new, 2, 0) },
     );
     let (generation, count) = board.pulse(&mut keeper);
-    came(
+    is_told(
         format!(in rt.alloc(); "{generation} {count}")?.as_str(),
         "2 0",
     )
@@ -150,5 +151,5 @@ fn session(alloc: Global) -> Result<String, AllocError> {
 fn seats_see_the_record(rt: HostRuntime) -> Result<(), Fail> {
     beats_are_felt(rt.alloc())?;
     let (_early, _late) = met(rt.alloc())?;
-    came(session(rt.alloc())?.as_str(), "3 1 2 Live GivenUp 3 3")
+    is_told(session(rt.alloc())?.as_str(), "3 1 2 Live GivenUp 3 3")
 }
