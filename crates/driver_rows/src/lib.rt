@@ -1,5 +1,4 @@
-//! Rows of drivers: what media, partition tables and drivers answer, when drivers are started again, requests over links, and what is
-//! written back. Each expected value is worked out by hand.
+//! Rows of drivers: what media, partition tables and drivers answer, when drivers are started again, and what is written back. Each expected value is worked out by hand.
 #![tactic(auto)]
 
 #[cfg(test)]
@@ -12,8 +11,6 @@ mod restarts;
 mod rows;
 #[cfg(test)]
 mod sectors;
-#[cfg(test)]
-mod transfers;
 #[cfg(test)]
 mod waits;
 #[cfg(test)]

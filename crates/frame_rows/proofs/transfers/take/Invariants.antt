@@ -1,6 +1,6 @@
 use Rattle.std.proofs.Common.{◌≤◌, ◌+◌}
 use Rattle.reissue.specs.Transfers.{table_of}
-use Rattle.driver_rows.proofs.transfers.take.Given as goal
+use Rattle.frame_rows.proofs.transfers.take.Given as goal
 
 abbrev pub invariant-messages : goal.invariant-messages
 invariant-messages g l = record {

@@ -5,7 +5,7 @@ use Rattle.reissue.specs.Moves.{Begun, Opens}
 use Rattle.reissue.proofs.Maps.{put_cases}
 use Rattle.frame_samples.specs.cache.Frames.{IsOfBlock}
 use Rattle.frame_samples.proofs.cache.Beginning.{free_block}
-use Rattle.driver_rows.proofs.transfers.begin.Goals as goal
+use Rattle.frame_rows.proofs.transfers.begin.Goals as goal
 
 -- a request for a block is begun, or none
 on_blocks : (result : Result ℕ BeginRefusal) (one : Begun) (old new : ℕ → Option Begun) (block : ℕ) → one.start ≡ block * 4096 → one.size ≡ 4096

@@ -3,7 +3,7 @@ use Rattle.reissue.specs.Transfers.{table_of, link_of, begun_in}
 use Rattle.reissue.specs.Posts.{HasRoom}
 use Rattle.reissue.specs.Moves.{Begun}
 use Rattle.frame_samples.specs.cache.Frames.{IsOfBlock}
-use Rattle.driver_rows.proofs.transfers.begin_first.Given as goal
+use Rattle.frame_rows.proofs.transfers.begin_first.Given as goal
 
 abbrev pub invariant-reads : goal.invariant-reads
 invariant-reads g l = record {
