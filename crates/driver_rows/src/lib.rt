@@ -1,4 +1,5 @@
-//! Rows of drivers: what media, partition tables and drivers answer, when drivers are started again, and what is written back. Each expected value is worked out by hand.
+//! Rows of drivers: what media, partition tables and drivers answer, when drivers are started again, and what is written back. Each
+//! expected value is worked out by hand.
 #![tactic(auto)]
 
 #[cfg(test)]
