@@ -3,3 +3,6 @@
 
 pub mod opened;
 pub mod start;
+
+pub use vfs::Server;
+pub use vfs::mounted::mount;

@@ -1,4 +1,4 @@
-use Rattle.vfs.specs.Server.{IsOpen}
+use Rattle.launch.specs.vfs.Server.{IsOpen}
 use Rattle.session_rows.proofs.unmounts.first_other.Given as goal
 
 abbrev pub invariant-loop-step : goal.invariant-loop-step
