@@ -4,5 +4,6 @@
 pub mod opened;
 pub mod start;
 
+// passed on: the server, and how one is mounted
 pub use vfs::Server;
 pub use vfs::mounted::mount;
