@@ -7,6 +7,8 @@ mod drivers;
 #[cfg(test)]
 mod faults;
 #[cfg(test)]
+mod links;
+#[cfg(test)]
 mod restarts;
 #[cfg(test)]
 mod rows;

@@ -1,13 +1,12 @@
 //! Drivers that fail under a link which waits between restarts: the ticks are worked out by hand from the restart policy.
+use crate::links::{Fault, link_to};
 use crate::rows::came;
 use driven::Driven;
 use frame_samples::lists::driver;
-use media::Media;
 use message::{BlockRequest, Incoming, Kind};
 use modeldisk::{FaultKind, ScriptedDriver};
-use reincarnate::{Policy, Reincarnation};
+use policy::Policy;
 use reissue::link::Link;
-use samples::supply_of;
 use std::alloc::{AllocError, Global};
 use std::test::Fail;
 
@@ -21,9 +20,6 @@ enum Act {
     /// The driver of this generation is complained about.
     Complain(u32),
 }
-
-/// What a driver does in its first step.
-type Fault = Option<(u32, FaultKind)>;
 
 /// It fails.
 const FAILS: Fault = Some((0, FaultKind::Die));
@@ -142,25 +138,19 @@ fn does(alloc: Global, link: &mut Driven<ScriptedDriver>, act: &Act) -> Result<S
     }
 }
 
-/// A link to drivers of one sector, which fail in their first step or never.
-fn link_to(
-    alloc: Global,
-    most: Option<u32>,
-    faults: &[Fault],
-) -> Result<Driven<ScriptedDriver>, Fail> {
+/// The default policy, but for the greatest number of a fault after which a driver is started, where one is told.
+fn policy_with(most: Option<u32>) -> Policy {
     let mut policy = Policy::default();
     if let Some(most) = most {
         policy.max_faults = most;
     }
-    let media = Media::from_bytes(alloc, &[7; 512])?;
-    let reincarnation = Reincarnation::new(alloc, policy, supply_of(alloc, 1, faults)?)?;
-    Ok(Driven::new(alloc, media, reincarnation)?)
+    policy
 }
 
 /// It is an error where a row comes out otherwise.
 fn comes_out(alloc: Global, row: usize, told: &Row) -> Result<(), Fail> {
     let (faults, most, acts) = told;
-    let mut link = link_to(alloc, *most, faults)?;
+    let mut link = link_to(alloc, 1, 7, policy_with(*most), faults)?;
     for (step, (act, wanted)) in acts.iter().enumerate() {
         let given = does(alloc, &mut link, act)?;
         came(row, step, given.as_str(), wanted)?;

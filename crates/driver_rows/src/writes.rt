@@ -2,16 +2,14 @@
 ghost use Rattle.std.specs.Prelude.{◌≡◌, IfOk};
 ghost use Rattle.cache.specs.Calls.{caching, IsReady};
 
+use crate::links::link_to;
 use cache::Cache;
 use driven::Driven;
 use flusher::{flush_some, sync};
 use frame_samples::frames::{VOLUME, fetch_run, fill, fill_fresh, is_filled};
-use media::Media;
 use modeldisk::{FaultKind, ScriptedDriver};
 use policy::Policy;
-use reincarnate::Reincarnation;
 use reissue::{Link, Transfers};
-use samples::supply_of;
 use std::alloc::Global;
 use std::test::Fail;
 
@@ -21,16 +19,12 @@ fn cache_over(alloc: Global, dies: Option<u32>) -> Result<Cache<Driven<ScriptedD
     ensures ready { IfOk result (λ c. IsReady (caching ⟦<Driven<ScriptedDriver> as Link>⟧ c)) }
     ensures size { IfOk result (λ c. c.shape.block_size ≡ 4096) }
 {
-    let zeros = vec![in alloc; 0; 524288]?;
-    let media = Media::from_bytes(alloc, &zeros)?;
     let fault = match dies {
         Some(after) => Some((after, FaultKind::Die)),
         None => None,
     };
-    let supply = supply_of(alloc, 1024, &[fault, None])?;
-    let reincarnation = Reincarnation::new(alloc, Policy::default(), supply)?;
-    let transfers = Transfers::new(alloc, Driven::new(alloc, media, reincarnation)?)?;
-    Ok(Cache::new(alloc, transfers, 0, &VOLUME, 16)?)
+    let link = link_to(alloc, 1024, 0, Policy::default(), &[fault, None])?;
+    Ok(Cache::new(alloc, Transfers::new(alloc, link)?, 0, &VOLUME, 16)?)
 }
 
 /// Changes a block twice, the second time while the first change is being written, and fetches so many others; false where one wasn't
