@@ -1,5 +1,5 @@
-//! Rows of a directory's names, of walks and the places that paths mean, of paths and of access: each expected value is worked out by hand from
-//! the format and from the rules of client calls.
+//! Rows of a directory's names, of walks and the places that paths mean, of paths and of access: each expected value is worked out by
+//! hand from the format and from the rules of client calls.
 #![tactic(auto)]
 
 #[cfg(test)]
