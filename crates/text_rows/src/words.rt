@@ -6,8 +6,8 @@ use program_words::{mfs, mfssim};
 use std::alloc::{AllocError, Global};
 use std::test::Fail;
 
-/// Words of a line, and what they say: the files, the minor, how many drivers stand by, and whether they move an arm; or, of words that aren't
-/// taken or ask for help, the status.
+/// Words of a line, and what they say: the files, the minor, how many drivers stand by, and whether they move an arm; or, of words that
+/// aren't taken or ask for help, the status.
 const ROWS: &str = "\
 mfs v.img s.txt : v.img [s.txt] out none minor 0 spares 5
 mfs v.img s.txt --minor 5 : v.img [s.txt] out none minor 5 spares 5
