@@ -23,7 +23,7 @@ fn set(image: &mut [u8], at: usize, byte: u8) {
 }
 
 /// What the volume holds but for zeros: it was made at time 50, and its root is empty.
-const SMALL: [Put; 9] = [
+static SMALL: [Put; 9] = [
     (1024, &[32, 0, 0, 0, 0, 0, 1, 0, 1, 0, 6]),
     (1040, &[0xff, 0xff, 0xff, 0x7f, 64, 0, 0, 0, 0x5a, 0x4d]),
     (1053, &[4]),
@@ -55,7 +55,7 @@ fn said(alloc: Global, image: &[u8]) -> Result<(u32, u32), Fail> {
 /// Bytes that are changed, and the finding's number and place.
 type Row = (&'static [Put], (u32, u32));
 
-const ROWS: [Row; 23] = [
+static ROWS: [Row; 23] = [
     // a single and a double indirect block that name themselves
     (&[(4148, &[7]), (7168, &[7]), (3072, &[7])], (8, 7)),
     (&[(4156, &[7]), (7168, &[7]), (3072, &[7])], (8, 7)),

@@ -1,8 +1,8 @@
 //! Texts and statuses of checking a volume.
+use crate::writers::{Writer, taker, writer};
 use new_volume::mkfs;
 use output::Told;
 use std::alloc::Global;
-use std::io::{self, ErrorKind, Write};
 use std::process::Abort;
 use std::str;
 use std::test::Fail;
@@ -36,7 +36,7 @@ const REFUSED: Verified = Verified::Refused(Told::Whole);
 /// A file, the minor, what `verify` writes on standard output and on standard error, its answer, and the status.
 type Row = (File, u8, &'static str, &'static str, Verified, u8);
 
-const ROWS: [Row; 30] = [
+static ROWS: [Row; 30] = [
     // new volumes
     (File::New(64, 1024, 32), 0, "clean\n", "", CLEAN, 0),
     (File::New(64, 2048, 32), 0, "clean\n", "", CLEAN, 0),
@@ -195,7 +195,7 @@ fn bytes_of(alloc: Global, file: &File) -> Result<Option<Vec<u8>>, Fail> {
     Ok(Some(bytes))
 }
 
-/// What `verify` wrote on standard output and on standard error, its answer, and the status.
+/// What `verify` writes on standard output and on standard error, its answer, and the status.
 type Said<'a> = (&'a str, &'a str, Verified, u8);
 
 /// Looks at what was written and answered. (A function that owns nothing: elsewhere each comparison costs its proof some seconds more.)
@@ -205,45 +205,27 @@ fn is_said(rt: &impl Abort, out: &[u8], err: &[u8], verified: Verified, wanted: 
     assert_eq!(rt; (verified, verified.number()), (wanted.2, wanted.3));
 }
 
+/// What `verify` answers on a file and a minor.
+fn answer(
+    alloc: Global,
+    file: &File,
+    minor: u8,
+    out: &mut Writer,
+    err: &mut Writer,
+) -> Result<Verified, Fail> {
+    let bytes = bytes_of(alloc, file)?;
+    Ok(verify(alloc, "v.img", bytes.as_deref(), minor, out, err))
+}
+
 #[test]
 fn volumes_are_verified(rt: HostRuntime) -> Result<(), Fail> {
     for (file, minor, out, err, verified, status) in &ROWS {
-        let bytes = bytes_of(rt.alloc(), file)?;
-        let (mut written, mut told) = (Vec::new(rt.alloc()), Vec::new(rt.alloc()));
-        let answer = verify(
-            rt.alloc(),
-            "v.img",
-            bytes.as_deref(),
-            *minor,
-            &mut written,
-            &mut told,
-        );
-        is_said(&rt, &written, &told, answer, (out, err, *verified, *status));
+        let (mut written, mut told) = (taker(rt.alloc()), taker(rt.alloc()));
+        let answer = answer(rt.alloc(), file, *minor, &mut written, &mut told)?;
+        let wanted = (*out, *err, *verified, *status);
+        is_said(&rt, &written.taken, &told.taken, answer, wanted);
     }
     Ok(())
-}
-
-/// A writer that takes up to 4 bytes at each of some calls, and fails at the next.
-#[derive(Drop)]
-struct Failing {
-    calls: u32,
-    taken: Vec<u8>,
-}
-
-impl Write for Failing {
-    fn write(&mut self, bytes: &[u8]) -> io::Result<usize> {
-        if self.calls == 0 {
-            return Err(io::Error::from(ErrorKind::WriteZero));
-        }
-        self.calls -= 1;
-        let count = bytes.len().min(4);
-        self.taken.extend_from_slice(&bytes[..count])?;
-        Ok(count)
-    }
-
-    fn flush(&mut self) -> io::Result<()> {
-        Ok(())
-    }
 }
 
 /// More calls than any line takes.
@@ -252,7 +234,7 @@ const ALL: u32 = 100;
 /// A file, how many calls each of both writers takes, what they hold then, the answer, and the status.
 type Cut = (File, u32, u32, &'static str, &'static str, Verified, u8);
 
-const CUTS: [Cut; 6] = [
+static CUTS: [Cut; 6] = [
     // The line has 6 bytes, so two calls take it.
     (
         File::Short(65536),
@@ -295,27 +277,12 @@ const CUTS: [Cut; 6] = [
     (File::None, ALL, 5, "", "cannot read v.img\n", REFUSED, 1),
 ];
 
-/// A writer of so many calls.
-fn writer_of(alloc: Global, calls: u32) -> Failing {
-    Failing {
-        calls,
-        taken: Vec::new(alloc),
-    }
-}
-
 #[test]
 fn writers_fail(rt: HostRuntime) -> Result<(), Fail> {
     for (file, calls, more, out, err, verified, status) in &CUTS {
-        let bytes = bytes_of(rt.alloc(), file)?;
-        let (mut written, mut told) = (writer_of(rt.alloc(), *calls), writer_of(rt.alloc(), *more));
-        let answer = verify(
-            rt.alloc(),
-            "v.img",
-            bytes.as_deref(),
-            0,
-            &mut written,
-            &mut told,
-        );
+        let mut written = writer(rt.alloc(), *calls, 4);
+        let mut told = writer(rt.alloc(), *more, 4);
+        let answer = answer(rt.alloc(), file, 0, &mut written, &mut told)?;
         let wanted = (*out, *err, *verified, *status);
         is_said(&rt, &written.taken, &told.taken, answer, wanted);
     }

@@ -2,7 +2,7 @@
 #![tactic(auto)]
 
 use command_line::{line_of, status_for};
-use mfs_words::{Words, command, scripts_of};
+use program_words::mfs::read;
 use std::alloc::AllocError;
 use std::process::ExitCode;
 use std::rt::Files;
@@ -36,18 +36,17 @@ fn main(rt: HostRuntime) -> io::Result<ExitCode> {
     let Some(line) = line_of(&rt)? else {
         return Ok(ExitCode::from(2));
     };
-    let matches = match command(alloc)?.try_get_matches_from(line.as_slice()) {
-        Ok(matches) => matches,
+    let words = match read(alloc, line.as_slice()) {
+        Ok(words) => words,
         Err(error) => {
             error.print(&rt)?;
             return Ok(ExitCode::from(status_for(&error)));
         }
     };
-    let (words, names) = (Words::of(&matches), scripts_of(alloc, &matches)?);
     let image = fs::read(&rt, words.image).ok();
-    let texts = read_all(&rt, names.as_slice())?;
+    let texts = read_all(&rt, &words.scripts)?;
     let mut scripts = Vec::new(alloc);
-    for (name, text) in names.iter().zip(&texts) {
+    for (name, text) in words.scripts.iter().zip(&texts) {
         scripts.push(file(name, text))?;
     }
     let table = table_in(image.as_deref().unwrap_or(&[]));

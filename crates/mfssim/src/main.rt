@@ -2,7 +2,7 @@
 #![tactic(auto)]
 
 use command_line::{line_of, status_for};
-use mfs_words::schedules::{Words, command};
+use program_words::mfssim::read;
 use simulation::inputs::File;
 use simulation::simulate::simulate;
 use std::process::ExitCode;
@@ -22,14 +22,13 @@ fn main(rt: HostRuntime) -> io::Result<ExitCode> {
     let Some(line) = line_of(&rt)? else {
         return Ok(ExitCode::from(2));
     };
-    let matches = match command(alloc)?.try_get_matches_from(line.as_slice()) {
-        Ok(matches) => matches,
+    let words = match read(alloc, line.as_slice()) {
+        Ok(words) => words,
         Err(error) => {
             error.print(&rt)?;
             return Ok(ExitCode::from(status_for(&error)));
         }
     };
-    let words = Words::of(&matches);
     let image = fs::read(&rt, words.image).ok();
     let schedule = fs::read(&rt, words.schedule).ok();
     let table = table_in(image.as_deref().unwrap_or(&[]));

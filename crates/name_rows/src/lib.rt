@@ -1,5 +1,5 @@
-//! Rows of a directory's names, of walks and the places that paths mean, of paths, access and open files, and of volumes that are made: each
-//! expected value is worked out by hand from the format and from the rules of client calls.
+//! Rows of a directory's names, of walks and the places that paths mean, of paths and of access: each expected value is worked out by
+//! hand from the format and from the rules of client calls.
 #![tactic(auto)]
 
 #[cfg(test)]
@@ -7,11 +7,7 @@ mod access;
 #[cfg(test)]
 mod images;
 #[cfg(test)]
-mod made;
-#[cfg(test)]
 mod names;
-#[cfg(test)]
-mod opens;
 #[cfg(test)]
 mod paths;
 #[cfg(test)]

@@ -15,7 +15,7 @@ const NEW: &[u8] = b"/g";
 const LAST: u32 = 4294967295;
 
 /// Words, and the call that they are.
-const CALLS: [(&[u8], Call<'static>); 24] = [
+static CALLS: [(&[u8], Call<'static>); 24] = [
     // descriptors, paths and numbers
     (b"close 0", Call::Close { fd: 0 }),
     (b"dup 31", Call::Dup { fd: 31 }),
@@ -133,7 +133,7 @@ const CALLS: [(&[u8], Call<'static>); 24] = [
 ];
 
 /// Flags by their letters, each at most once and in any order: words of an open of `/` with mode 644, and the bits of its flags.
-const FLAGS: [(&[u8], u8); 6] = [
+static FLAGS: [(&[u8], u8); 6] = [
     (b"open / - 644", 0),
     (b"open / r 644", 1),
     (b"open / rwc 644", 11),
@@ -143,7 +143,7 @@ const FLAGS: [(&[u8], u8); 6] = [
 ];
 
 /// Words that are no call.
-const REFUSED: [&[u8]; 47] = [
+static REFUSED: [&[u8]; 47] = [
     // offsets
     b"seek 0 cur 9223372036854775808",
     b"seek 0 cur -9223372036854775809",

@@ -1,5 +1,6 @@
-//! Rows of errors, replies, calls, schedules, scripts and transcripts as text: every kind of line, lines that can't be read, and writers that
-//! fail. Each expected value is the format's, or worked out by hand.
+//! Rows of errors, replies, calls, schedules, scripts and transcripts as text: every kind of line, lines that can't be read, and
+//! writers that fail; and of the words of `mfs` and `mfssim`: those that are taken, with what they say, those that aren't, and what the
+//! help lists. Each expected value is the format's or docs/PROGRAMS.md's, or worked out by hand.
 #![tactic(auto)]
 
 #[cfg(test)]
@@ -14,3 +15,5 @@ mod schedules;
 mod scripts;
 #[cfg(test)]
 mod transcripts;
+#[cfg(test)]
+mod words;

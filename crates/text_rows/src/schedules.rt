@@ -44,7 +44,7 @@ const ROOT: Who = Who {
 };
 
 /// Schedules, and the events of their lines.
-const SCHEDULES: [(&[u8], &[Event<'static>]); 15] = [
+static SCHEDULES: [(&[u8], &[Event<'static>]); 15] = [
     // each kind of line
     (b"flush\n", &[Event::Flush]),
     (b"tick\n", &[Event::Tick]),
@@ -121,7 +121,7 @@ const SCHEDULES: [(&[u8], &[Event<'static>]); 15] = [
 const DEATH: &[u8] = b"call 0 0 0 100 stat /\nstep 1\ndie 1\ntick\nstep 2\nstep 2\ndeliver 0\n";
 
 /// Texts, and the first bad line of each; 0 where it is read.
-const BAD_LINES: [(&[u8], u64); 46] = [
+static BAD_LINES: [(&[u8], u64); 46] = [
     (b"", 0),
     (b"\n", 1),
     (b"tick", 1),

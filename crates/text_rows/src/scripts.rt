@@ -12,7 +12,7 @@ const PATH: &[u8] = b"/f";
 type Timed = (u32, Call<'static>);
 
 /// Scripts, the user and group of each, and its calls.
-const SCRIPTS: [(&[u8], (u16, u16), &[Timed]); 8] = [
+static SCRIPTS: [(&[u8], (u16, u16), &[Timed]); 8] = [
     (b"user 0 0\n", (0, 0), &[]),
     // A path holds any bytes but a space and a newline.
     (
@@ -106,7 +106,7 @@ const SCRIPTS: [(&[u8], (u16, u16), &[Timed]); 8] = [
 ];
 
 /// Texts, and the first bad line of each; 0 where it is read. The user's is line 1, and each line ends with a newline.
-const BAD_LINES: [(&[u8], u64); 39] = [
+static BAD_LINES: [(&[u8], u64); 39] = [
     (b"user 0 0\n100 stat /\n", 0),
     (b"user 0 0\n", 0),
     (b"", 1),

@@ -1,10 +1,7 @@
-//! The words that `mfs` takes, and what they say; those of `mfssim` are in [`schedules`].
-#![tactic(auto)]
+//! The words that `mfs` takes, and what they say.
 
-pub mod schedules;
-
-use clap::builder::ValueParser;
-use clap::{Arg, ArgAction, ArgMatches, Command};
+use crate::{image, minor, spares};
+use clap::{Arg, ArgAction, ArgMatches, Command, Error};
 use std::alloc::{AllocError, Global};
 
 /// What the help says of scripts: their lines, and each call.
@@ -36,82 +33,54 @@ const SCRIPTS: &str =
 Modes are octal, bytes lower-case hexadecimal, other numbers decimal. One space stands between two words, and a newline ends each line.";
 
 /// The words that `mfs` knows.
-pub fn command<'a>(alloc: Global) -> Result<Command<'a>, AllocError> {
-    let files = files(alloc)?;
-    let model = Arg::new(alloc, "model")
-        .long("model")
-        .action(ArgAction::SetTrue)
-        .help("The drivers move an arm over the sectors, from sector 0 on");
-    files
-        .arg(minor_word(alloc))?
-        .arg(spares_word(alloc))?
-        .arg(model)
-}
-
-/// The words that name files.
-fn files<'a>(alloc: Global) -> Result<Command<'a>, AllocError> {
-    let image = Arg::new(alloc, "IMAGE").required(true).help(
-        "The file of a MINIX 3 volume; it is read only, unless --out names it",
-    );
-    let scripts = Arg::new(alloc, "SCRIPT")
-        .required(true)
-        .num_args(1..)
-        .action(ArgAction::Append)
-        .help("The files of scripts, 64 at most; they are played one after the other");
-    let out = Arg::new(alloc, "out")
-        .long("out")
-        .value_name("FILE")
-        .help("Writes the image as it is after the calls to this file");
+fn command<'a>(alloc: Global) -> Result<Command<'a>, AllocError> {
+    let file = "The file of a MINIX 3 volume; it is read only, unless --out names it";
     Command::new(alloc, "mfs")
         .version("0.1.0")
         .about(
             "Plays scripts of client calls against a file server over the image of a volume, and prints the replies",
         )
         .after_help(SCRIPTS)
-        .arg(image)?
-        .arg(scripts)?
-        .arg(out)
+        .arg(image(alloc, file))?
+        .arg(scripts(alloc))?
+        .arg(out(alloc))?
+        .arg(minor(alloc))?
+        .arg(spares(alloc))?
+        .arg(model(alloc))
 }
 
-/// The word that says where the volume lies.
-pub(crate) fn minor_word<'a>(alloc: Global) -> Arg<'a> {
-    Arg::new(alloc, "minor")
-        .long("minor")
-        .value_name("M")
-        .value_parser(ValueParser::Unsigned(0, 255))
-        .default_value("0")
-        .help("Where the volume lies: 0 is the whole image, 1 to 4 are the partitions of its table")
+/// The word that names the scripts' files.
+fn scripts<'a>(alloc: Global) -> Arg<'a> {
+    Arg::new(alloc, "SCRIPT")
+        .required(true)
+        .num_args(1..)
+        .action(ArgAction::Append)
+        .help("The files of scripts, 64 at most; they are played one after the other")
 }
 
-/// The word that says how many drivers stand by.
-pub(crate) fn spares_word<'a>(alloc: Global) -> Arg<'a> {
-    Arg::new(alloc, "spares")
-        .long("spares")
-        .value_name("K")
-        .value_parser(ValueParser::Unsigned(0, MOST_SPARES))
-        .default_value("5")
-        .help("How many drivers stand by to take the place of one that fails")
+/// The word that names the file of the image that is left.
+fn out<'a>(alloc: Global) -> Arg<'a> {
+    Arg::new(alloc, "out")
+        .long("out")
+        .value_name("FILE")
+        .help("Writes the image as it is after the calls to this file")
 }
 
-/// The most drivers that stand by (own).
-const MOST_SPARES: u64 = 63;
-
-/// The scripts' files, in the order of the words.
-pub fn scripts_of<'a>(alloc: Global, matches: &ArgMatches<'a>) -> Result<Vec<&'a str>, AllocError> {
-    let mut scripts = Vec::new(alloc);
-    if let Some(names) = matches.get_strs("SCRIPT") {
-        for name in names {
-            scripts.push(*name)?;
-        }
-    }
-    Ok(scripts)
+/// The word by which drivers move an arm.
+fn model<'a>(alloc: Global) -> Arg<'a> {
+    Arg::new(alloc, "model")
+        .long("model")
+        .action(ArgAction::SetTrue)
+        .help("The drivers move an arm over the sectors, from sector 0 on")
 }
 
-/// What the words say but for the scripts.
-#[derive(Clone, Copy)]
+/// What the words say.
+#[derive(Drop)]
 pub struct Words<'a> {
     /// The image's file.
     pub image: &'a str,
+    /// The scripts' files, in the order of the words.
+    pub scripts: Vec<&'a str>,
     /// The file that the image is written to in the end, if one is named.
     pub out: Option<&'a str>,
     /// Where the volume lies: 0 is the whole image.
@@ -123,14 +92,21 @@ pub struct Words<'a> {
 }
 
 impl<'a> Words<'a> {
-    /// All but `out` are there where the words were taken.
-    pub fn of(matches: &ArgMatches<'a>) -> Words<'a> {
-        Words {
+    /// What words that were taken say.
+    fn of(alloc: Global, matches: &ArgMatches<'a>) -> Result<Words<'a>, AllocError> {
+        Ok(Words {
             image: matches.get_str("IMAGE").unwrap_or(""),
+            scripts: matches.get_strs("SCRIPT").unwrap_or(&[]).to_vec(alloc)?,
             out: matches.get_str("out"),
             minor: matches.get_one::<u8>("minor").unwrap_or(0),
             spares: matches.get_one::<u8>("spares").unwrap_or(0),
             model: matches.get_flag("model"),
-        }
+        })
     }
+}
+
+/// What the words of a line say, or why they aren't taken.
+pub fn read<'a>(alloc: Global, line: &'a [String]) -> Result<Words<'a>, Error> {
+    let matches = command(alloc)?.try_get_matches_from(line)?;
+    Ok(Words::of(alloc, &matches)?)
 }

@@ -1,13 +1,13 @@
 //! Words that are taken, and others.
 
-use clap::{ArgMatches, Error};
+use clap::Error;
 use command_line::status_for;
-use mfs_words::{Words, command, schedules, scripts_of};
+use program_words::{mfs, mfssim};
 use std::alloc::{AllocError, Global};
 use std::test::Fail;
 
-/// Words of a line, and what they say: the files, the minor, how many drivers stand by, and whether they move an arm; or, of words that aren't
-/// taken or ask for help, the status.
+/// Words of a line, and what they say: the files, the minor, how many drivers stand by, and whether they move an arm; or, of words that
+/// aren't taken or ask for help, the status.
 const ROWS: &str = "\
 mfs v.img s.txt : v.img [s.txt] out none minor 0 spares 5
 mfs v.img s.txt --minor 5 : v.img [s.txt] out none minor 5 spares 5
@@ -48,9 +48,8 @@ mfssim v.img --version : status 0
 ";
 
 /// What words of `mfs` say that are taken.
-fn of_calls(alloc: Global, matches: &ArgMatches<'_>) -> Result<String, AllocError> {
-    let words = Words::of(matches);
-    let scripts = scripts_of(alloc, matches)?.join(alloc, " ")?;
+fn of_calls(alloc: Global, words: &mfs::Words<'_>) -> Result<String, AllocError> {
+    let scripts = words.scripts.join(alloc, " ")?;
     let out = words.out.unwrap_or("none");
     let model = if words.model { " model" } else { "" };
     format!(in alloc;
@@ -60,8 +59,7 @@ fn of_calls(alloc: Global, matches: &ArgMatches<'_>) -> Result<String, AllocErro
 }
 
 /// What words of `mfssim` say that are taken.
-fn of_schedules(alloc: Global, matches: &ArgMatches<'_>) -> Result<String, AllocError> {
-    let words = schedules::Words::of(matches);
+fn of_schedules(alloc: Global, words: &mfssim::Words<'_>) -> Result<String, AllocError> {
     format!(in alloc;
         "{} {} minor {} spares {}",
         words.image, words.schedule, words.minor, words.spares
@@ -74,24 +72,27 @@ fn of_others(alloc: Global, error: &Error) -> Result<String, AllocError> {
 }
 
 /// What these words of `mfs` say.
-fn calls_said(alloc: Global, words: &[&str]) -> Result<String, AllocError> {
-    match command(alloc)?.try_get_matches_from(words) {
-        Ok(matches) => of_calls(alloc, &matches),
+fn calls_said(alloc: Global, words: &[String]) -> Result<String, AllocError> {
+    match mfs::read(alloc, words) {
+        Ok(words) => of_calls(alloc, &words),
         Err(error) => of_others(alloc, &error),
     }
 }
 
 /// What these words of `mfssim` say.
-fn schedules_said(alloc: Global, words: &[&str]) -> Result<String, AllocError> {
-    match schedules::command(alloc)?.try_get_matches_from(words) {
-        Ok(matches) => of_schedules(alloc, &matches),
+fn schedules_said(alloc: Global, words: &[String]) -> Result<String, AllocError> {
+    match mfssim::read(alloc, words) {
+        Ok(words) => of_schedules(alloc, &words),
         Err(error) => of_others(alloc, &error),
     }
 }
 
 /// What the words of a line say.
 fn said(alloc: Global, line: &str) -> Result<String, AllocError> {
-    let words: Vec<&str> = line.split_whitespace().collect(alloc)?;
+    let mut words = Vec::new(alloc);
+    for word in line.split_whitespace() {
+        words.push(word.to_string(alloc)?)?;
+    }
     if line.starts_with("mfssim") {
         schedules_said(alloc, &words)
     } else {

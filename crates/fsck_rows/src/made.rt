@@ -1,43 +1,10 @@
-//! Texts and statuses of making a volume, and writers that fail.
+//! Texts and statuses of making a volume.
 
+use crate::writers::{Writer, taker, writer};
 use output::Told;
 use std::alloc::Global;
-use std::io::{self, ErrorKind, Write};
 use std::test::Fail;
 use volume_tools::make::{Status, Wanted, finish, make};
-
-/// A writer that takes up to so many bytes at each of some calls, and fails at the next.
-#[derive(Drop)]
-struct Writer {
-    calls: u32,
-    most: usize,
-    taken: Vec<u8>,
-}
-
-impl Write for Writer {
-    fn write(&mut self, bytes: &[u8]) -> io::Result<usize> {
-        if self.calls == 0 {
-            return Err(io::Error::from(ErrorKind::WriteZero));
-        }
-        self.calls -= 1;
-        let count = bytes.len().min(self.most);
-        self.taken.extend_from_slice(&bytes[..count])?;
-        Ok(count)
-    }
-
-    fn flush(&mut self) -> io::Result<()> {
-        Ok(())
-    }
-}
-
-/// A writer that takes all.
-fn taker(alloc: Global) -> Writer {
-    Writer {
-        calls: u32::MAX,
-        most: usize::MAX,
-        taken: Vec::new(alloc),
-    }
-}
 
 /// What `make` writes on standard output and on standard error, the status, and how long the image is, if there is one.
 type Said = (&'static str, &'static str, Status, Option<usize>);
@@ -123,9 +90,7 @@ fn writers_fail(rt: HostRuntime) -> Result<(), Fail> {
         now: 50,
     };
     for (calls, said) in &FAILING {
-        let mut out = taker(rt.alloc());
-        out.calls = *calls;
-        out.most = 5;
+        let mut out = writer(rt.alloc(), *calls, 5);
         if !is_said(rt.alloc(), &wanted, &mut out, said) {
             return Err(Fail::new(format_args!("after {calls} calls")));
         }

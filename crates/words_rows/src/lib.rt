@@ -1,6 +1,0 @@
-//! Rows of words: those of `mfs` and `mfssim` that are taken, with what they say, those that aren't, and what the help lists. Each expected
-//! value is docs/PROGRAMS.md's.
-#![tactic(auto)]
-
-#[cfg(test)]
-mod words;
