@@ -1,10 +1,9 @@
 //! Seats of a service's board: beats, in two threads too, what is seen when seats meet, and tallies from a session's start to its end.
-ghost use Rattle.std.specs.Prelude.{◌≡◌, ◌∷◌, [], IfOk, false};
+ghost use Rattle.std.specs.Prelude.{◌≡◌, ◌∷◌, [], IfOk};
 ghost use Rattle.board.specs.marks.Marks.{Flush, GaveUp};
-ghost use Rattle.board.specs.View.{IsKeeper, is_used};
 
 use crate::lines::is_told;
-use board::{Board, Device, Seat};
+use board::{Board, Seat};
 use endpoint::Endpoint;
 use message::{BlockRequest, Incoming, Kind};
 use std::alloc::{AllocError, Global};
@@ -108,32 +107,13 @@ fn request() -> BlockRequest {
     }
 }
 
-/// Generations 3 and 2 are started, in this order.
-fn start(board: &Board, driver: &mut Seat)
-    requires { driver.old.table ≡ board.now }
-    ensures { driver.new.table ≡ board.now }
-{
-    board.started(driver, 3);
-    board.started(driver, 2);
-}
-
-/// The tally that a further session 7 finds.
-fn found_again(board: &Board, keeper: &mut Seat) -> Result<u64, AllocError>
-    requires { IsKeeper board.now keeper.old × (is_used 7 keeper.old.view.used ≡ false) }
-{
-    let mut again = board.split(keeper, Some(7))?;
-    Ok(board.tally(&mut again))
-}
-
-/// A generation, tallies, whether the device was given up before and after, and tallies after that.
-type Seen = (u32, (u64, u64), (Device, Device), (u64, u64));
-
-/// A session from its start to its end: what is seen in it.
-fn session(alloc: Global) -> Result<Seen, AllocError> {
+/// A session from its start to its end: the generation, the tallies, whether the device was given up, and the tallies after that.
+fn session(alloc: Global) -> Result<String, AllocError> {
     let (board, mut keeper) = Board::new(alloc)?;
     let mut driver = board.split(&mut keeper, None)?;
     let mut client = board.split(&mut keeper, Some(7))?;
-    start(&board, &mut driver);
+    board.started(&mut driver, 3);
+    board.started(&mut driver, 2);
     let current = board.current(&mut client);
     let endpoint = Endpoint {
         slot: 1,
@@ -162,13 +142,8 @@ fn session(alloc: Global) -> Result<Seen, AllocError> {
     let after = board.device(&mut client);
     let ended = board.tally(&mut client);
     board.spend(&mut keeper, client);
-    let found = found_again(&board, &mut keeper)?;
-    Ok((current, (noted, called), (before, after), (ended, found)))
-}
-
-/// The same as a text.
-fn session_told(alloc: Global) -> Result<String, AllocError> {
-    let (current, (noted, called), (before, after), (ended, found)) = session(alloc)?;
+    let mut again = board.split(&mut keeper, Some(7))?;
+    let found = board.tally(&mut again);
     format!(in alloc; "{current} {noted} {called} {before:?} {after:?} {ended} {found}")
 }
 
@@ -176,5 +151,5 @@ fn session_told(alloc: Global) -> Result<String, AllocError> {
 fn seats_see_the_record(rt: HostRuntime) -> Result<(), Fail> {
     beats_are_felt(rt.alloc())?;
     let (_early, _late) = met(rt.alloc())?;
-    is_told(session_told(rt.alloc())?.as_str(), "3 1 2 Live GivenUp 3 3")
+    is_told(session(rt.alloc())?.as_str(), "3 1 2 Live GivenUp 3 3")
 }
