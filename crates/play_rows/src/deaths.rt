@@ -1,8 +1,8 @@
 //! Drivers that die, hang or answer wrongly in the middle of a read, and what they leave.
+use crate::plays::{Faults, HONEST, Play};
 use endpoint::{SlotRefusal, Slots};
 use errno::Errno;
 use modeldisk::FaultKind;
-use play_samples::volumes::{Faults, HONEST, Play};
 use policy::{Policy, Setup};
 use samples::{new_volume, whole};
 use std::test::Fail;

@@ -1,5 +1,5 @@
 //! What is refused, and which fault is told first.
-use play_samples::volumes::{Faults, HONEST, Play};
+use crate::plays::{Faults, HONEST, Play};
 use samples::{changed, new_volume};
 use std::alloc::{AllocError, Global};
 use std::test::Fail;

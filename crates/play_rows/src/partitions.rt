@@ -1,6 +1,6 @@
 //! Volumes in a partition of an image: a new volume of 128 sectors behind a sector with a table, from sector 1 on.
+use crate::disks::played_on;
 use crate::writers::{STAT, TOLD};
-use play_samples::disks::played_on;
 use std::test::Fail;
 
 /// The type and the size of the table's second entry and the table's last byte, the minor that is asked for, and what comes of it: the

@@ -17,7 +17,7 @@ use crate::renames::{
     NEW_PARENT, NO_ZONE, NO_ZONE_NEEDED, NOT_RENAMED, ONE_NAME_LESS, OVER_DIRECTORY, OVER_FILES,
     SAME_INODE, TREE,
 };
-use play_samples::sessions::{are_played, volume_of};
+use crate::scripted::{are_played, volume_of};
 use samples::new_volume;
 use std::test::Fail;
 

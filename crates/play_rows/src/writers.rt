@@ -1,9 +1,11 @@
 //! Writers that fail, and writers that take little at a time; plays whose answers are lost, or whose image can't be written.
-use play_samples::sessions::has_left;
-use play_samples::volumes::{Room, Status, Told, finish};
-use play_samples::writers::narrow;
-use samples::new_volume;
+use crate::plays::{HONEST, Played, Room, play_into};
+use crate::scripted::has_left;
+use samples::{new_volume, supply_of, whole};
+use std::alloc::{AllocError, Global};
+use std::sync::Wait;
 use std::test::Fail;
+use tools::play::{Status, Told, finish};
 
 /// A script, and what is printed of it on a new volume.
 pub(crate) const STAT: &[u8] = b"user 0 0\n100 stat /\n";
@@ -94,6 +96,18 @@ const ROOMS: [Row; 13] = [
     (true, BAD, (3, 99, 99), CUT_OFF, ("", BAD_LINE), None),
     (true, BAD, (64, 99, 99), CUT_OFF, ("", BAD_LINE), None),
 ];
+
+/// What a play of a script gives to writers with this room, and how it ended.
+fn narrow<R: Wait + Copy>(
+    alloc: Global,
+    rt: R,
+    image: Option<&[u8]>,
+    script: &[u8],
+    room: Room,
+) -> Result<(Played, Status), AllocError> {
+    let supply = supply_of(alloc, 128, HONEST)?;
+    play_into(alloc, rt, image, &[Some(script)], &whole(), supply, room)
+}
 
 #[test]
 fn writers_take_some(rt: HostRuntime) -> Result<(), Fail> {
