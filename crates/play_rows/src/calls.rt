@@ -1,7 +1,7 @@
 //! Scripts of all calls, each on a new volume of 64 blocks of 1024 bytes with 32 inodes: what its calls are answered.
 
 /// One session each, and then several: a session sees what the one before it wrote.
-pub(crate) const CALLS: [&str; 17] = [
+pub(crate) static CALLS: [&str; 17] = [
     // No call.
     "user 0 0
 ",

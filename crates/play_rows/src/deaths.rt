@@ -1,10 +1,12 @@
 //! Drivers that die, hang or answer wrongly in the middle of a read, and what they leave.
+use crate::plays::{Faults, HONEST, Play};
 use endpoint::{SlotRefusal, Slots};
 use errno::Errno;
 use modeldisk::FaultKind;
-use play_samples::volumes::{Faults, HONEST, Play};
 use policy::{Policy, Setup};
 use samples::{new_volume, whole};
+use std::alloc::Global;
+use std::sync::Wait;
 use std::test::Fail;
 
 /// What is played.
@@ -45,7 +47,7 @@ type Row = (Numbers, u32, Faults<'static>, &'static [u8], Told);
 
 /// Requests 1 to 17 are the mount's; request 18 is the first call's read. Each number of a policy is the one that was handed in, and so are
 /// all drivers, in their order.
-const ROWS: [Row; 29] = [
+static ROWS: [Row; 29] = [
     (None, 1, &[DIES_LATER, None], TWICE, SERVED),
     (None, 18, &[DIES_LATER, None], TWICE, SERVED),
     (None, 1, &[DIES, DIES, None], TWICE, SERVED),
@@ -153,42 +155,42 @@ names 0
 
 /// The default setup, but for these numbers of its policy.
 fn setup(numbers: Numbers) -> Setup {
-    let Setup {
-        minor,
-        frames,
-        policy,
-    } = whole();
     let Some((max_faults, cap, calm)) = numbers else {
         return whole();
     };
-    Setup {
-        minor,
-        frames,
-        policy: Policy {
-            max_faults,
-            cap,
-            calm,
-            misses: policy.misses,
-        },
+    let policy = Policy {
+        max_faults,
+        cap,
+        calm,
+        ..whole().policy
+    };
+    Setup { policy, ..whole() }
+}
+
+/// A row comes out as it says on a new volume, and leaves the image as it is.
+fn comes_out<R: Wait + Copy>(alloc: Global, rt: R, image: &[u8], row: &Row) -> Result<(), Fail> {
+    let (numbers, request, faults, script, (status, out, err)) = *row;
+    let scripts = [Some(script)];
+    let play = Play {
+        setup: setup(numbers),
+        request,
+        faults,
+        ..Play::new(image, &scripts)
+    };
+    let played = play.played(alloc, rt)?;
+    played.gave(status, out, err)?;
+    if status == 1 || played.is_clean(alloc) && played.left() == image {
+        return Ok(());
     }
+    Err(Fail::from("another image"))
 }
 
 /// Nothing that these plays do reaches the image, which stays a sound volume.
 #[test]
 fn replies_outlive_drivers(rt: HostRuntime) -> Result<(), Fail> {
-    let alloc = rt.alloc();
-    let image = new_volume(alloc, 1024)?;
-    for (numbers, request, faults, script, (status, out, err)) in ROWS {
-        let scripts = [Some(script)];
-        let play = Play {
-            setup: setup(numbers),
-            request,
-            faults,
-            ..Play::new(image.as_slice(), &scripts)
-        };
-        let played = play.played(alloc, rt)?;
-        played.gave(status, out, err)?;
-        assert!(rt; status == 1 || played.is_clean(alloc) && played.left() == image.as_slice());
+    let image = new_volume(rt.alloc(), 1024)?;
+    for row in &ROWS {
+        comes_out(rt.alloc(), rt, &image, row)?;
     }
     let mut slots = Slots::new();
     assert!(rt; matches!(slots.start(16), Err(SlotRefusal::NoSuchSlot)));

@@ -1,7 +1,8 @@
 //! What is refused, and which fault is told first.
-use play_samples::volumes::{Faults, HONEST, Play};
+use crate::plays::{Faults, HONEST, Play};
 use samples::{changed, new_volume};
 use std::alloc::{AllocError, Global};
+use std::sync::Wait;
 use std::test::Fail;
 
 /// A script.
@@ -34,7 +35,7 @@ type Row = (
 );
 
 /// Files, lines and images.
-const ROWS: [Row; 33] = [
+static ROWS: [Row; 33] = [
     (Image::Unread, 128, &[], HONEST, "cannot read v.img\n"),
     (Image::Unread, 128, &[None], HONEST, "cannot read v.img\n"),
     (
@@ -250,18 +251,23 @@ fn bytes_of(alloc: Global, image: Image) -> Result<Option<Vec<u8>>, AllocError> 
     })
 }
 
+/// The fault of a row is told first.
+fn is_told<R: Wait + Copy>(alloc: Global, rt: R, row: &Row) -> Result<(), Fail> {
+    let (image, sectors, scripts, faults, line) = *row;
+    let image = bytes_of(alloc, image)?;
+    let play = Play {
+        image: image.as_deref(),
+        sectors,
+        faults,
+        ..Play::new(&[], scripts)
+    };
+    play.gives(alloc, rt, 1, "", line)
+}
+
 #[test]
 fn the_first_fault_is_told(rt: HostRuntime) -> Result<(), Fail> {
-    let alloc = rt.alloc();
-    for (image, sectors, scripts, faults, line) in ROWS {
-        let image = bytes_of(alloc, image)?;
-        let play = Play {
-            image: image.as_deref(),
-            sectors,
-            faults,
-            ..Play::new(&[], scripts)
-        };
-        play.gives(alloc, rt, 1, "", line)?;
+    for row in &ROWS {
+        is_told(rt.alloc(), rt, row)?;
     }
     Ok(())
 }
@@ -279,8 +285,10 @@ fn many(
     Ok(scripts)
 }
 
-/// A play of so many scripts; the last one may be bad.
-const COUNTS: [(usize, &[u8], &str); 4] = [
+/// How many scripts are played, the last one, which may be bad, and what is told.
+type Count = (usize, &'static [u8], &'static str);
+
+static COUNTS: [Count; 4] = [
     (64, STAT, "BadSetup\n"),
     (65, STAT, "TooMany\n"),
     (65, BAD, "bad line 2 of w.txt\n"),
@@ -296,23 +304,33 @@ fn synced(alloc: Global) -> Result<String, AllocError> {
     Ok(out)
 }
 
+/// A play of so many scripts over a driver of other media is refused.
+fn is_refused<R: Wait + Copy>(alloc: Global, rt: R, image: &[u8], row: &Count) -> Result<(), Fail> {
+    let (count, last, line) = *row;
+    let scripts = many(alloc, count, last)?;
+    let play = Play {
+        sectors: 127,
+        ..Play::new(image, scripts.as_slice())
+    };
+    play.gives(alloc, rt, 1, "", line)
+}
+
+/// Each of 64 scripts has its session.
+fn all_are_synced<R: Wait + Copy>(alloc: Global, rt: R, image: &[u8]) -> Result<(), Fail> {
+    let script: &[u8] = b"user 0 0\n100 sync\n";
+    let scripts = [Some(script); 64];
+    let out = synced(alloc)?;
+    Play::new(image, &scripts).gives(alloc, rt, 0, out.as_str(), "")
+}
+
 /// More scripts than sessions are refused once each line is read, and before anything starts: the driver is one of other media than the
 /// image's. Each of 64 scripts has its session, and none is no fault.
 #[test]
 fn scripts_are_sixty_four(rt: HostRuntime) -> Result<(), Fail> {
-    let alloc = rt.alloc();
-    let image = new_volume(alloc, 1024)?;
-    for (count, last, line) in COUNTS {
-        let scripts = many(alloc, count, last)?;
-        let play = Play {
-            sectors: 127,
-            ..Play::new(image.as_slice(), scripts.as_slice())
-        };
-        play.gives(alloc, rt, 1, "", line)?;
+    let image = new_volume(rt.alloc(), 1024)?;
+    for row in &COUNTS {
+        is_refused(rt.alloc(), rt, &image, row)?;
     }
-    let script: &[u8] = b"user 0 0\n100 sync\n";
-    let scripts = [Some(script); 64];
-    let out = synced(alloc)?;
-    Play::new(image.as_slice(), &scripts).gives(alloc, rt, 0, out.as_str(), "")?;
-    Play::new(image.as_slice(), &[]).gives(alloc, rt, 0, "", "")
+    all_are_synced(rt.alloc(), rt, &image)?;
+    Play::new(&image, &[]).gives(rt.alloc(), rt, 0, "", "")
 }

@@ -17,12 +17,14 @@ use crate::renames::{
     NEW_PARENT, NO_ZONE, NO_ZONE_NEEDED, NOT_RENAMED, ONE_NAME_LESS, OVER_DIRECTORY, OVER_FILES,
     SAME_INODE, TREE,
 };
-use play_samples::sessions::{are_played, volume_of};
+use crate::scripted::{are_played, volume_of};
 use samples::new_volume;
+use std::alloc::Global;
+use std::sync::Wait;
 use std::test::Fail;
 
 /// What is played on volumes of 64 blocks of 1024 bytes.
-const PLAYS: [&str; 44] = [
+static PLAYS: [&str; 44] = [
     OPENS,
     DESCRIPTORS,
     CLOSED,
@@ -75,7 +77,7 @@ const ROOT: &str = "user 0 0
 ";
 
 /// What is played on other volumes, or leaves an image of which more is said: how many bytes a block has, and how many blocks there are.
-const OTHERS: [(usize, u8, &str); 13] = [
+static OTHERS: [(usize, u8, &str); 13] = [
     (1024, 64, ROOT),
     (2048, 64, ROOT),
     (4096, 64, ROOT),
@@ -91,18 +93,30 @@ const OTHERS: [(usize, u8, &str); 13] = [
     (1024, 10, ROOM),
 ];
 
+/// Each of these texts is played on the volume in an image.
+fn all_are_played<R: Wait + Copy>(
+    alloc: Global,
+    rt: R,
+    image: &[u8],
+    texts: &[&str],
+) -> Result<(), Fail> {
+    for text in texts {
+        are_played(alloc, rt, image, text)?;
+    }
+    Ok(())
+}
+
 /// Each is played, and at last one that another service reads from the image that is left.
 #[test]
 fn each_call_is_answered(rt: HostRuntime) -> Result<(), Fail> {
-    let alloc = rt.alloc();
-    let image = new_volume(alloc, 1024)?;
-    for text in PLAYS.iter().chain(&CALLS) {
-        are_played(alloc, rt, image.as_slice(), text)?;
+    let image = new_volume(rt.alloc(), 1024)?;
+    all_are_played(rt.alloc(), rt, &image, &PLAYS)?;
+    all_are_played(rt.alloc(), rt, &image, &CALLS)?;
+    for (block, blocks, text) in &OTHERS {
+        let image = volume_of(rt.alloc(), *block, *blocks)?;
+        are_played(rt.alloc(), rt, &image, text)?;
     }
-    for (block, blocks, text) in OTHERS {
-        are_played(alloc, rt, volume_of(alloc, block, blocks)?.as_slice(), text)?;
-    }
-    let filled = are_played(alloc, rt, image.as_slice(), FILLS)?;
-    are_played(alloc, rt, filled.left(), READS)?;
+    let filled = are_played(rt.alloc(), rt, &image, FILLS)?;
+    are_played(rt.alloc(), rt, filled.left(), READS)?;
     Ok(())
 }

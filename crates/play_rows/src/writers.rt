@@ -1,9 +1,11 @@
 //! Writers that fail, and writers that take little at a time; plays whose answers are lost, or whose image can't be written.
-use play_samples::sessions::has_left;
-use play_samples::volumes::{Room, Status, Told, finish};
-use play_samples::writers::narrow;
-use samples::new_volume;
+use crate::plays::{HONEST, Played, Room, play_into};
+use crate::scripted::has_left;
+use samples::{new_volume, supply_of, whole};
+use std::alloc::{AllocError, Global};
+use std::sync::Wait;
 use std::test::Fail;
+use tools::play::{Status, Told, finish};
 
 /// A script, and what is printed of it on a new volume.
 pub(crate) const STAT: &[u8] = b"user 0 0\n100 stat /\n";
@@ -38,7 +40,7 @@ type Row = (
 );
 
 /// Writers that fail, and then writers that go on.
-const ROOMS: [Row; 13] = [
+static ROOMS: [Row; 13] = [
     // The text is cut off, which a line says, and the image is there all the same.
     (true, STAT, (99, 0, 99), CUT_OFF, ("", LOST), Some("")),
     (true, STAT, (99, 3, 99), CUT_OFF, ("ses", LOST), Some("")),
@@ -95,22 +97,44 @@ const ROOMS: [Row; 13] = [
     (true, BAD, (64, 99, 99), CUT_OFF, ("", BAD_LINE), None),
 ];
 
+/// What a play of a script gives to writers with this room, and how it ended.
+fn narrow<R: Wait + Copy>(
+    alloc: Global,
+    rt: R,
+    image: Option<&[u8]>,
+    script: &[u8],
+    room: Room,
+) -> Result<(Played, Status), AllocError> {
+    let supply = supply_of(alloc, 128, HONEST)?;
+    play_into(alloc, rt, image, &[Some(script)], &whole(), supply, room)
+}
+
+/// Looks at what a play gave, and at how it ended, which is an error where it is something else than a row says.
+fn is_as_said(alloc: Global, played: &Played, status: Status, row: &Row) -> Result<(), Fail> {
+    let (_, _, _, ended, (told, line), left) = *row;
+    let is_told = played.out.as_slice() == told.as_bytes()
+        && played.err.as_slice() == line.as_bytes();
+    let number = if ended == Status::Done { 0 } else { 1 };
+    let is_ended = status == ended && played.status == number;
+    if is_told && is_ended && played.image.is_some() == left.is_some() {
+        return has_left(alloc, played.left(), left.unwrap_or(""));
+    }
+    Err(Fail::from(told))
+}
+
+/// A row comes out as it says, on a new volume.
+fn comes_out<R: Wait + Copy>(alloc: Global, rt: R, image: &[u8], row: &Row) -> Result<(), Fail> {
+    let (has_image, script, (most, out, err), _, _, _) = *row;
+    let given = has_image.then_some(image);
+    let (played, status) = narrow(alloc, rt, given, script, Room { most, out, err })?;
+    is_as_said(alloc, &played, status, row)
+}
+
 #[test]
 fn writers_take_some(rt: HostRuntime) -> Result<(), Fail> {
-    let alloc = rt.alloc();
-    let image = new_volume(alloc, 1024)?;
-    for (has_image, script, (most, out, err), ended, (told, line), left) in ROOMS {
-        let given = has_image.then_some(image.as_slice());
-        let (played, status) = narrow(alloc, rt, given, script, Room { most, out, err })?;
-        let is_told = played.out.as_slice() == told.as_bytes()
-            && played.err.as_slice() == line.as_bytes();
-        let number = if ended == Status::Done { 0 } else { 1 };
-        let is_ended = (status, played.status) == (ended, number);
-        assert!(rt;
-            is_told && is_ended && played.image.is_some() == left.is_some(),
-            "{told}"
-        );
-        has_left(alloc, played.left(), left.unwrap_or(""))?;
+    let image = new_volume(rt.alloc(), 1024)?;
+    for row in &ROOMS {
+        comes_out(rt.alloc(), rt, &image, row)?;
     }
     Ok(())
 }

@@ -8,7 +8,7 @@ use std::test::Fail;
 /// A schedule, what is shown of it, and the status.
 type Row = (&'static str, &'static str, u8);
 
-const ROWS: [Row; 12] = [
+static ROWS: [Row; 12] = [
     // The call waits: nothing was done.
     (
         "\
@@ -292,8 +292,8 @@ unanswered 0
 #[test]
 fn the_root_is_read(rt: HostRuntime) -> Result<(), Fail> {
     let image = new_volume(rt.alloc(), 1024)?;
-    for (schedule, transcript, status) in ROWS {
-        shows(&rt, rt.alloc(), &image, schedule, transcript, status)?;
+    for (schedule, transcript, status) in &ROWS {
+        shows(&rt, rt.alloc(), &image, schedule, transcript, *status)?;
     }
     Ok(())
 }

@@ -6,7 +6,7 @@ use media::MediaRefusal;
 use message::{BlockRequest, Kind};
 use modeldisk::RamDriver;
 use partition::Table;
-use policy::Setup;
+use policy::{Policy, Setup};
 use samples::{changed, whole};
 use simulation::world::{RunRefusal, World};
 use std::alloc::{AllocError, Global};
@@ -43,11 +43,15 @@ fn drivers(alloc: Global, wanted: &[(u32, bool)]) -> Result<Vec<Driver>, AllocEr
 
 /// A setup with this number of missed heartbeats, of frames and of the minor.
 fn setup_of(misses: u32, frames: usize, minor: u8) -> Setup {
-    let mut setup = whole();
-    setup.policy.misses = misses;
-    setup.frames = frames;
-    setup.minor = minor;
-    setup
+    let policy = Policy {
+        misses,
+        ..whole().policy
+    };
+    Setup {
+        minor,
+        frames,
+        policy,
+    }
 }
 
 /// A driver of the volume's 128 sectors that is new.

@@ -3,7 +3,7 @@
 use bdev::Driver;
 use policy::Setup;
 use samples::whole;
-use schedule_text::reading::read_schedule;
+use schedule_text::reading::{Schedule, read_schedule};
 use simulation::inputs::File;
 use simulation::simulate::simulate;
 use simulation::world::World;
@@ -66,11 +66,18 @@ pub fn shows(
     Ok(())
 }
 
+/// The bytes of the media after a run of a schedule that was read, with six drivers under the default policy.
+fn image_after(alloc: Global, image: &[u8], schedule: &Schedule<'_>) -> Result<Vec<u8>, Fail> {
+    let supply = six(alloc, image)?;
+    let events = schedule.events(alloc)?;
+    match World::run(alloc, image, &whole(), supply, events.as_slice()) {
+        Ok(transcript) => Ok(transcript.image(alloc)?),
+        Err(refusal) => Err(Fail::new(format_args!("{refusal}"))),
+    }
+}
+
 /// The bytes of the media after such a run.
 pub fn media_after(alloc: Global, image: &[u8], schedule: &str) -> Result<Vec<u8>, Fail> {
     let schedule = read_schedule(alloc, schedule.as_bytes())?;
-    let events = schedule.events(alloc)?;
-    let supply = six(alloc, image)?;
-    let transcript = World::run(alloc, image, &whole(), supply, events.as_slice())?;
-    Ok(transcript.image(alloc)?)
+    image_after(alloc, image, &schedule)
 }

@@ -3,7 +3,9 @@
 use crate::runs::{file, is_said, six};
 use samples::{new_volume, whole};
 use simulation::simulate::simulate;
+use std::alloc::{AllocError, Global};
 use std::io::{self, ErrorKind, Write};
+use std::process::Abort;
 use std::test::Fail;
 
 /// A writer that takes up to 5 bytes at each of some calls, and fails at the next.
@@ -29,8 +31,11 @@ impl Write for Failing {
     }
 }
 
+/// How many calls each writer takes, what each has then, and the status.
+type Row = (u32, u32, &'static str, &'static str, u8);
+
 /// The transcript has lines of 12, 30 and 13 bytes, which take 3, 6 and 3 calls; the line on the other writer has 29, which take 6.
-const ROWS: [(u32, u32, &str, &str, u8); 6] = [
+static ROWS: [Row; 6] = [
     (0, 6, "", "cannot write standard output\n", 1),
     (2, 6, "started 1.", "cannot write standard output\n", 1),
     (3, 6, "started 1.1\n", "cannot write standard output\n", 1),
@@ -57,30 +62,40 @@ const ROWS: [(u32, u32, &str, &str, u8); 6] = [
     ),
 ];
 
+/// The status of a run on this image, over these writers.
+fn run_over(
+    alloc: Global,
+    image: &[u8],
+    out: &mut Failing,
+    err: &mut Failing,
+) -> Result<u8, AllocError> {
+    let supply = six(alloc, image)?;
+    let image = file("v.img", Some(image));
+    let schedule = file("s.txt", Some(b"call 0 0 0 100 stat /\n"));
+    Ok(simulate(alloc, image, schedule, &whole(), supply, out, err).number())
+}
+
+/// A row comes out as it says.
+fn comes_out(rt: &impl Abort, alloc: Global, image: &[u8], row: &Row) -> Result<(), AllocError> {
+    let (calls, more, text, line, number) = *row;
+    let mut out = Failing {
+        calls,
+        taken: Vec::new(alloc),
+    };
+    let mut err = Failing {
+        calls: more,
+        taken: Vec::new(alloc),
+    };
+    let status = run_over(alloc, image, &mut out, &mut err)?;
+    is_said(rt, status, &out.taken, &err.taken, (number, text, line));
+    Ok(())
+}
+
 #[test]
 fn writers_fail(rt: HostRuntime) -> Result<(), Fail> {
-    let alloc = rt.alloc();
-    let image = new_volume(alloc, 1024)?;
-    for (calls, more, text, line, number) in ROWS {
-        let mut out = Failing {
-            calls,
-            taken: Vec::new(alloc),
-        };
-        let mut err = Failing {
-            calls: more,
-            taken: Vec::new(alloc),
-        };
-        let supply = six(alloc, image.as_slice())?;
-        let image = file("v.img", Some(image.as_slice()));
-        let schedule = file("s.txt", Some(b"call 0 0 0 100 stat /\n"));
-        let status = simulate(alloc, image, schedule, &whole(), supply, &mut out, &mut err);
-        is_said(
-            &rt,
-            status.number(),
-            &out.taken,
-            &err.taken,
-            (number, text, line),
-        );
+    let image = new_volume(rt.alloc(), 1024)?;
+    for row in &ROWS {
+        comes_out(&rt, rt.alloc(), &image, row)?;
     }
     Ok(())
 }

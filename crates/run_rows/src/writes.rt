@@ -322,7 +322,7 @@ die 1 ee
 ";
 
 /// Runs on a volume of blocks of 1024: the parts of each schedule, and what is shown.
-const SHOWN: [(&[&str], &str); 3] = [
+static SHOWN: [(&[&str], &str); 3] = [
     (&[FILLED], ALL_WROTE),
     (&[REFILLED], WRITTEN_AGAIN),
     (&[HUNG, REVOKED], REPLACED),
@@ -344,7 +344,7 @@ fn parts_show(
 
 #[test]
 fn writes_are_shown(rt: HostRuntime) -> Result<(), Fail> {
-    for (schedule, transcript) in SHOWN {
+    for (schedule, transcript) in &SHOWN {
         parts_show(&rt, rt.alloc(), 1024, schedule, &[transcript])?;
     }
     let read = "aa".repeat(rt.alloc(), 2048)?;
@@ -359,7 +359,7 @@ type Place = (usize, usize, Option<u8>);
 /// The size of blocks, the parts of a schedule, what the media hold afterwards, and whether all was synced, so that the volume is clean.
 type Left = (usize, &'static [&'static str], &'static [Place], bool);
 
-const LEFT: [Left; 6] = [
+static LEFT: [Left; 6] = [
     // A page that changed is written again.
     (1024, &[REFILLED], &[(7168, 8192, Some(0x32))], true),
     // A driver that was replaced writes nothing.
@@ -433,14 +433,24 @@ fn is_clean(alloc: Global, image: &[u8]) -> Result<bool, Fail> {
     Ok(matches!(check(alloc, image)?, Verdict::Clean(_)))
 }
 
+/// The media hold what a row says after a run of this schedule.
+fn is_left(alloc: Global, row: &Left, schedule: &str) -> Result<(), Fail> {
+    let (block, _, places, synced) = *row;
+    let image = new_volume(alloc, block)?;
+    let media = media_after(alloc, &image, schedule)?;
+    if let Some(place) = misheld(&media, &image, places) {
+        return Err(Fail::new(format_args!("place {place}: {schedule}")));
+    }
+    if synced && !is_clean(alloc, &media)? {
+        return Err(Fail::new(format_args!("not clean: {schedule}")));
+    }
+    Ok(())
+}
+
 #[test]
 fn writes_are_left(rt: HostRuntime) -> Result<(), Fail> {
-    for (block, schedule, places, synced) in LEFT {
-        let image = new_volume(rt.alloc(), block)?;
-        let schedule = schedule.concat(rt.alloc())?;
-        let media = media_after(rt.alloc(), &image, &schedule)?;
-        assert_eq!(rt; misheld(&media, &image, places), None, "{schedule}");
-        assert!(rt; !synced || is_clean(rt.alloc(), &media)?, "{schedule}");
+    for row in &LEFT {
+        is_left(rt.alloc(), row, &row.1.concat(rt.alloc())?)?;
     }
     Ok(())
 }

@@ -46,7 +46,7 @@ pub(crate) fn two_in_threads<
     R: Threads + Wait + Copy + Send + Sync,
     L: Recorder<N> + Send,
     S: FileServer<L> + Send,
->(alloc: Global, rt: R, service: &Service<N, Shared<N, R, L, S>>) -> Option<(String, String)> {
+>(alloc: Global, rt: R, service: Service<N, Shared<N, R, L, S>>) -> Option<(String, String)> {
     let one = service.session(0, 0).ok()?;
     let two = service.session(7, 8).ok()?;
     Some(join(
@@ -84,19 +84,41 @@ pub(crate) fn many<N: Room, R: Wait + Copy, L: Recorder<N>, S: FileServer<L>>(
     Some(Vec::new(alloc))
 }
 
+/// The service that wasn't stopped since a session is left.
+fn still_open<S: Drop, T: Drop>(stopped: Result<Vec<u8>, StopRefusal<S, T>>) -> Option<S> {
+    match stopped {
+        Err(StopRefusal::SessionsLeft(service)) => Some(service),
+        _ => None,
+    }
+}
+
+/// Whether the last sync of a service that was stopped was made, and the image.
+fn last_sync<S: Drop, T: Drop>(
+    stopped: Result<Vec<u8>, StopRefusal<S, T>>,
+) -> Option<(&'static str, Vec<u8>)> {
+    match stopped {
+        Ok(image) => Some(("synced", image)),
+        Err(StopRefusal::GivenUp(image)) => Some(("given up", image)),
+        Err(_) => None,
+    }
+}
+
+/// The image of a service that was stopped, whose link has ended.
+fn cut_off<S: Drop, T: Drop>(stopped: Result<Vec<u8>, StopRefusal<S, T>>) -> Option<Vec<u8>> {
+    match stopped {
+        Err(StopRefusal::LinkEnded(image)) => Some(image),
+        _ => None,
+    }
+}
+
 /// Stops a service with the end of a session, and at once, which are both refused since another session is left.
 fn refused<N: Room, R: Wait + Copy, L: Recorder<N> + OnMedia, S: FileServer<L>>(
     alloc: Global,
     service: Service<N, Shared<N, R, L, S>>,
     session: Session<N, Shared<N, R, L, S>>,
 ) -> Option<Service<N, Shared<N, R, L, S>>> {
-    let Err(StopRefusal::SessionsLeft(service)) = service.stop_after(alloc, session) else {
-        return None;
-    };
-    match service.stop(alloc) {
-        Err(StopRefusal::SessionsLeft(service)) => Some(service),
-        _ => None,
-    }
+    let service = still_open(service.stop_after(alloc, session))?;
+    still_open(service.stop(alloc))
 }
 
 /// Makes a call in one of two sessions, and stops the service three times: with the end of the other session, at once, which are refused
@@ -124,16 +146,11 @@ fn stopped_at_last<N: Room, R: Wait + Copy, L: Recorder<N> + OnMedia, S: FileSer
     last: Session<N, Shared<N, R, L, S>>,
     has_ended: bool,
 ) -> Option<(&'static str, Vec<u8>)> {
-    let stopped = if has_ended {
+    if has_ended {
         last.end();
-        service.stop(alloc)
+        last_sync(service.stop(alloc))
     } else {
-        service.stop_after(alloc, last)
-    };
-    match stopped {
-        Ok(image) => Some(("synced", image)),
-        Err(StopRefusal::GivenUp(image)) => Some(("given up", image)),
-        Err(_) => None,
+        last_sync(service.stop_after(alloc, last))
     }
 }
 
@@ -149,8 +166,5 @@ pub(crate) fn asked_and_stopped<
     let refusal = service.session(0, 0).err();
     let _ = writeln!(lines, "{refusal:?}");
     session.end();
-    match service.stop(alloc) {
-        Err(StopRefusal::LinkEnded(image)) => Some(image),
-        _ => None,
-    }
+    cut_off(service.stop(alloc))
 }

@@ -58,8 +58,10 @@ fn over_threads<
     requires truth { L.Link.truth link N.opening [] }
     requires drivers { L.runs_on link N.policy N.supply }
 {
-    let service = mounted(alloc, rt, board, link, minor, frames).ok()?;
-    two_in_threads(alloc, rt, &service)
+    match mounted(alloc, rt, board, link, minor, frames) {
+        Ok(service) => two_in_threads(alloc, rt, service),
+        Err(_) => None,
+    }
 }
 
 /// The same, over a service that is started on drivers.

@@ -1,5 +1,5 @@
 //! Volumes in a partition of an image.
-use crate::volumes::{Play, Played};
+use crate::plays::{Play, Played};
 use modeldisk::{Inner, RamDriver, ScriptedDriver};
 use partition::{Table, parse};
 use policy::Setup;
@@ -37,7 +37,7 @@ fn table_of(image: &[u8]) -> Table {
 
 /// What a script gives on the volume of this minor of such an image, whose table's entry has this type and size, and which ends in this
 /// byte; over a driver of its ranges.
-pub fn played_on<R: Wait + Copy>(
+pub(crate) fn played_on<R: Wait + Copy>(
     alloc: Global,
     rt: R,
     (kind, count, last): (u8, u8, u8),

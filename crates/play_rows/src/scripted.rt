@@ -3,7 +3,7 @@
 //! A line `user U G` begins a session. Each line behind it is a call, after its time, with ` -> ` and its reply behind it. Three kinds of
 //! lines are none of these: one that begins with `#` is a remark; behind `unchanged` nothing changes the image; and `left AT HEX` are bytes
 //! of the image that is left, from a place on.
-use crate::volumes::{Play, Played};
+use crate::plays::{Play, Played};
 use samples::new_volume;
 use std::alloc::{AllocError, Global};
 use std::sync::Wait;
@@ -83,7 +83,7 @@ fn shown(alloc: Global, image: &[u8], at: usize, count: usize) -> Result<String,
 }
 
 /// Looks at whether an image has the bytes that a text's lines `left` say; it is an error where it hasn't.
-pub fn has_left(alloc: Global, image: &[u8], text: &str) -> Result<(), Fail> {
+pub(crate) fn has_left(alloc: Global, image: &[u8], text: &str) -> Result<(), Fail> {
     for line in text.lines() {
         let Some(rest) = line.strip_prefix("left ") else {
             continue;
@@ -155,7 +155,7 @@ fn first_other<'p>(wanted: &'p str, got: &'p str) -> (&'p str, &'p str) {
 
 /// Plays a text on an image: the replies are those of the text, nothing is complained of, and the image that is left is as it says, and clean;
 /// another server reads from it what a further session reads. It is an error where that isn't so.
-pub fn are_played<R: Wait + Copy>(
+pub(crate) fn are_played<R: Wait + Copy>(
     alloc: Global,
     rt: R,
     image: &[u8],
@@ -179,7 +179,7 @@ pub fn are_played<R: Wait + Copy>(
 }
 
 /// A new volume of so many blocks: 64 of these bytes, or 9 or 10 of 1024.
-pub fn volume_of(alloc: Global, block: usize, blocks: u8) -> Result<Vec<u8>, AllocError> {
+pub(crate) fn volume_of(alloc: Global, block: usize, blocks: u8) -> Result<Vec<u8>, AllocError> {
     let mut image = new_volume(alloc, block)?;
     if blocks < 64 {
         // The map's bits behind those of the 3 or 4 zones are set.

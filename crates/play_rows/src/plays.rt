@@ -7,27 +7,26 @@ use std::alloc::{AllocError, Global};
 use std::io::{self, Write};
 use std::sync::Wait;
 use std::test::Fail;
-pub use tools::play::{Status, Told, finish};
-use tools::play::{File, play};
+use tools::play::{File, Status, play};
 
 /// Drivers, each with its fault once so many of a request's sectors were moved, or with none.
-pub type Faults<'f> = &'f [Option<(u32, FaultKind)>];
+pub(crate) type Faults<'f> = &'f [Option<(u32, FaultKind)>];
 
 /// One driver without a fault.
-pub const HONEST: Faults<'static> = &[None];
+pub(crate) const HONEST: Faults<'static> = &[None];
 
 /// What a play gave: the status of the process, what stands on standard output and on standard error, and the image.
 #[derive(Drop)]
-pub struct Played {
-    pub status: u8,
-    pub out: Vec<u8>,
-    pub err: Vec<u8>,
-    pub image: Option<Vec<u8>>,
+pub(crate) struct Played {
+    pub(crate) status: u8,
+    pub(crate) out: Vec<u8>,
+    pub(crate) err: Vec<u8>,
+    pub(crate) image: Option<Vec<u8>>,
 }
 
 impl Played {
     /// Looks at what a play gave, which is an error where it is something else: the image is there exactly where nothing was refused.
-    pub fn gave(&self, status: u8, out: &str, err: &str) -> Result<(), Fail> {
+    pub(crate) fn gave(&self, status: u8, out: &str, err: &str) -> Result<(), Fail> {
         let is_told = self.out.as_slice() == out.as_bytes()
             && self.err.as_slice() == err.as_bytes();
         if is_told && self.status == status && self.image.is_some() == (status != 1) {
@@ -39,12 +38,12 @@ impl Played {
     }
 
     /// The image, or no bytes.
-    pub fn left(&self) -> &[u8] {
+    pub(crate) fn left(&self) -> &[u8] {
         self.image.as_deref().unwrap_or(&[])
     }
 
     /// Whether the image is that of a sound volume.
-    pub fn is_clean(&self, alloc: Global) -> bool {
+    pub(crate) fn is_clean(&self, alloc: Global) -> bool {
         matches!(check(alloc, self.left()), Ok(Verdict::Clean(_)))
     }
 }
@@ -69,14 +68,14 @@ fn files<'b>(
 
 /// How many bytes writers take: at a call, and in all on standard output and on standard error.
 #[derive(Clone, Copy)]
-pub struct Room {
-    pub most: usize,
-    pub out: usize,
-    pub err: usize,
+pub(crate) struct Room {
+    pub(crate) most: usize,
+    pub(crate) out: usize,
+    pub(crate) err: usize,
 }
 
 /// Room for all.
-pub const FREE: Room = Room {
+pub(crate) const FREE: Room = Room {
     most: usize::MAX,
     out: usize::MAX,
     err: usize::MAX,
@@ -100,7 +99,7 @@ impl Write for Sink {
 }
 
 /// Plays the scripts of files on an image, of each the bytes if it can be read, into writers with this room; and how it ended.
-pub fn play_into<R: Wait + Copy>(
+pub(crate) fn play_into<R: Wait + Copy>(
     alloc: Global,
     rt: R,
     image: Option<&[u8]>,
@@ -138,24 +137,24 @@ pub fn play_into<R: Wait + Copy>(
 
 /// Scripts to be played on an image, over drivers that may have faults.
 #[derive(Clone, Copy)]
-pub struct Play<'p> {
+pub(crate) struct Play<'p> {
     /// The bytes of the image, if it can be read.
-    pub image: Option<&'p [u8]>,
+    pub(crate) image: Option<&'p [u8]>,
     /// The bytes of each script's file, if it can be read.
-    pub scripts: &'p [Option<&'p [u8]>],
+    pub(crate) scripts: &'p [Option<&'p [u8]>],
     /// Where the volume lies, and how it is served.
-    pub setup: Setup,
+    pub(crate) setup: Setup,
     /// How many sectors each driver serves.
-    pub sectors: usize,
+    pub(crate) sectors: usize,
     /// The request of each driver in which its fault comes, counted from 1.
-    pub request: u32,
+    pub(crate) request: u32,
     /// The drivers.
-    pub faults: Faults<'p>,
+    pub(crate) faults: Faults<'p>,
 }
 
 impl<'p> Play<'p> {
     /// Scripts on an image that is a volume, over one driver of it without a fault, under the default policy.
-    pub fn new(image: &'p [u8], scripts: &'p [Option<&'p [u8]>]) -> Play<'p> {
+    pub(crate) fn new(image: &'p [u8], scripts: &'p [Option<&'p [u8]>]) -> Play<'p> {
         Play {
             image: Some(image),
             scripts,
@@ -167,7 +166,7 @@ impl<'p> Play<'p> {
     }
 
     /// What it gives over other drivers.
-    pub fn played_over<R: Wait + Copy>(
+    pub(crate) fn played_over<R: Wait + Copy>(
         &self,
         alloc: Global,
         rt: R,
@@ -179,13 +178,17 @@ impl<'p> Play<'p> {
     }
 
     /// What it gives.
-    pub fn played<R: Wait + Copy>(&self, alloc: Global, rt: R) -> Result<Played, AllocError> {
+    pub(crate) fn played<R: Wait + Copy>(
+        &self,
+        alloc: Global,
+        rt: R,
+    ) -> Result<Played, AllocError> {
         let supply = supply_at(alloc, self.sectors, self.request, self.faults)?;
         self.played_over(alloc, rt, supply)
     }
 
     /// Looks at what it gives, which is an error where it is something else.
-    pub fn gives<R: Wait + Copy>(
+    pub(crate) fn gives<R: Wait + Copy>(
         &self,
         alloc: Global,
         rt: R,
