@@ -26,16 +26,17 @@ const ALL: [Work; 5] = [
     Work::Calls,
 ];
 
+/// The words of all of it.
+const WORDS: [&str; 5] = ["drivers", "volumes", "names", "bytes", "calls"];
+
 /// The work of a word.
 fn work_of(word: &str) -> Option<Work> {
-    match word {
-        "drivers" => Some(Work::Drivers),
-        "volumes" => Some(Work::Volumes),
-        "names" => Some(Work::Names),
-        "bytes" => Some(Work::Bytes),
-        "calls" => Some(Work::Calls),
-        _ => None,
+    for (name, work) in WORDS.iter().zip(ALL) {
+        if *name == word {
+            return Some(work);
+        }
     }
+    None
 }
 
 /// The work that the words name, in their order, and all of it where there is no word; none where one of them names no work.
