@@ -26,13 +26,23 @@ const ALL: [Work; 5] = [
     Work::Calls,
 ];
 
-/// The words of all of it.
-const WORDS: [&str; 5] = ["drivers", "volumes", "names", "bytes", "calls"];
+impl Work {
+    /// Its word.
+    fn word(self) -> &'static str {
+        match self {
+            Work::Drivers => "drivers",
+            Work::Volumes => "volumes",
+            Work::Names => "names",
+            Work::Bytes => "bytes",
+            Work::Calls => "calls",
+        }
+    }
+}
 
 /// The work of a word.
 fn work_of(word: &str) -> Option<Work> {
-    for (name, work) in WORDS.iter().zip(ALL) {
-        if *name == word {
+    for work in ALL {
+        if work.word() == word {
             return Some(work);
         }
     }

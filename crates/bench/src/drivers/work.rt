@@ -8,12 +8,12 @@ use bdev::{Accept, BlockDriver};
 use cache::Cache;
 use driven::Driven;
 use flusher::{flush_some, sync};
+use launch::start::drivers_on;
 use media::Media;
 use message::{BlockRequest, Kind};
 use modeldisk::RamDriver;
 use partition::Table;
 use policy::Policy;
-use reincarnate::Reincarnation;
 use reissue::{Link, Transfers};
 use std::alloc::Global;
 
@@ -39,8 +39,7 @@ fn link(alloc: Global) -> Option<Driven<RamDriver>>
     ensures { IfSome result (λ link. ⟦<Driven<RamDriver> as Link>⟧.budget_left link ≡ 1099511627776) }
 {
     let supply = vec![in alloc; driver()].ok()?;
-    let reincarnation = Reincarnation::new(alloc, Policy::default(), supply).ok()?;
-    Driven::new(alloc, zeros(alloc)?, reincarnation).ok()
+    drivers_on(alloc, zeros(alloc)?, Policy::default(), supply).ok()
 }
 
 /// A cache of so many frames over a driver.
