@@ -8,7 +8,7 @@ ghost use Rattle.layout.specs.Places.{IsGeometry};
 ghost use Rattle.store.specs.Volume.{IsOn};
 
 use crate::sizes::{large_blocks, middle_blocks, small_blocks};
-use crate::timing::micros_since;
+use crate::timing::{micros_since, say};
 use at_hand::{fill, frames, memory};
 use layout::Geometry;
 use std::io;
@@ -115,11 +115,11 @@ fn measure_volume(
     for at in places {
         let at = (*at).min(2147000000);
         let Some(mut blocks) = frames(rt.alloc(), geometry, count) else {
-            return eprintln!(*rt; "no memory");
+            return say(rt, "no memory");
         };
         measure(rt, "frames", &mut blocks, geometry, at, from, to)?;
         let Some(mut blocks) = memory(rt.alloc(), geometry) else {
-            return eprintln!(*rt; "no memory");
+            return say(rt, "no memory");
         };
         measure(rt, "memory", &mut blocks, geometry, at, from, to)?;
     }

@@ -3,6 +3,7 @@
 mod measures;
 mod work;
 
+use crate::timing::say;
 use launch::start::serve;
 use measures::Measures;
 use new_volume::mkfs;
@@ -15,7 +16,7 @@ use supply::{drivers_for, setup_for, table_in};
 pub(crate) fn run<R: Wait + Copy>(rt: &HostRuntime, waits: R) -> io::Result<()> {
     let alloc = rt.alloc();
     let Ok(image) = mkfs(alloc, 4096, 4096, 4096, 50) else {
-        return eprintln!(*rt; "no volume");
+        return say(rt, "no volume");
     };
     let supply = drivers_for(alloc, 0, false, table_in(image.as_slice()))?;
     let setup = setup_for(0);

@@ -2,8 +2,13 @@
 
 mod work;
 
-use crate::timing::{micros_since, tell};
+ghost use Rattle.cache.specs.Calls.{caching, IsReady};
+
+use crate::timing::{copy, micros_since, say, tell};
+use cache::Cache;
+use media::Media;
 use message::Kind;
+use reissue::Link;
 use std::io;
 use std::time::Instant;
 use work::{cache_over, drive, fetch_again, fetch_run, write_run, zeros};
@@ -17,15 +22,20 @@ const ROUNDS: u32 = 3;
 /// Measures a driver alone.
 fn measure_driver(rt: &HostRuntime) -> io::Result<()> {
     let Some(mut media) = zeros(rt.alloc()) else {
-        return eprintln!(*rt; "no memory");
+        return say(rt, "no memory");
     };
     media.adopt(1);
+    measure_on(rt, &mut media)
+}
+
+/// The same, on these media.
+fn measure_on(rt: &HostRuntime, media: &mut Media) -> io::Result<()> {
     for (what, kind) in [
         ("driver, writes", Kind::Write),
         ("driver, reads", Kind::Read),
     ] {
         let start = Instant::now(rt)?;
-        let blocks = drive(&mut media, kind, BLOCKS);
+        let blocks = drive(media, kind, BLOCKS);
         tell(rt, what, blocks, "blocks", start)?;
     }
     Ok(())
@@ -34,28 +44,34 @@ fn measure_driver(rt: &HostRuntime) -> io::Result<()> {
 /// Measures a cache of so many frames.
 fn measure_frames(rt: &HostRuntime, frames: u32) -> io::Result<()> {
     let Some(mut cache) = cache_over(rt.alloc(), frames) else {
-        return eprintln!(*rt; "no memory");
+        return say(rt, "no memory");
     };
     eprintln!(*rt; "{frames} frames")?;
+    measure_cache(rt, &mut cache)
+}
+
+/// The same, of a cache.
+fn measure_cache<L: Link>(rt: &HostRuntime, cache: &mut Cache<L>) -> io::Result<()>
+    requires { IsReady (caching L.Link cache.old) }
+{
     let start = Instant::now(rt)?;
-    let missed = fetch_run(&mut cache, 16, BLOCKS);
+    let missed = fetch_run(cache, 16, BLOCKS);
     tell(rt, "fetches that miss", missed, "blocks", start)?;
-    let _ = fetch_run(&mut cache, 0, 16);
+    let _ = fetch_run(cache, 0, 16);
     let start = Instant::now(rt)?;
-    let hit = fetch_again(&mut cache, BLOCKS);
+    let hit = fetch_again(cache, BLOCKS);
     tell(rt, "fetches that hit", hit, "blocks", start)?;
     let start = Instant::now(rt)?;
-    let written = write_run(&mut cache, BLOCKS / 16);
+    let written = write_run(cache, BLOCKS / 16);
     tell(rt, "made anew and written back", written, "blocks", start)
 }
 
 /// Measures a plain copy of as many bytes, into memory that was used before, and tells the last byte that was copied.
 fn measure_copy(rt: &HostRuntime, from: &[u8], to: &mut [u8]) -> io::Result<()> {
-    let count = from.len().min(to.len());
     let start = Instant::now(rt)?;
-    to[..count].copy_from_slice(&from[..count]);
+    let count = copy(from, to);
     let took = micros_since(rt, start)?;
-    let last = to.last();
+    let last = to.last().copied();
     eprintln!(*rt; "a plain copy of {count} bytes: {took} microseconds, last {last:?}")
 }
 

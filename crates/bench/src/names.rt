@@ -70,11 +70,15 @@ fn measure(rt: &HostRuntime, geometry: Geometry) -> io::Result<()>
     let block = geometry.block_size;
     for (what, first) in [("names that are there", 0), ("missing names", 1000)] {
         let times = measured(rt, &mut directory, first)?;
-        for (work, Least { micros, found }) in WORK.iter().zip(times) {
-            eprintln!(*rt;
-                "blocks of {block}, {what}, {work}: {micros} microseconds, {found} found"
-            )?;
-        }
+        tell_each(rt, block, what, times)?;
+    }
+    Ok(())
+}
+
+/// Tells the times of the three ways.
+fn tell_each(rt: &HostRuntime, block: u32, what: &str, times: [Least; 3]) -> io::Result<()> {
+    for (work, Least { micros, found }) in WORK.iter().zip(times) {
+        eprintln!(*rt; "blocks of {block}, {what}, {work}: {micros} microseconds, {found} found")?;
     }
     Ok(())
 }

@@ -1,9 +1,14 @@
-//! The sizes of volumes of 32 inodes and so many blocks, at most 4096.
+//! The sizes of volumes of 32 inodes and so many blocks, at most 4096, and where a block begins.
 
 ghost use Rattle.std.specs.Prelude.{◌≤◌, ◌<◌};
 ghost use Rattle.layout.specs.Places.{IsGeometry};
 
 use layout::Geometry;
+
+/// The first byte of a block.
+pub(crate) fn place_of(geometry: &Geometry, block: u32) -> usize {
+    (block as usize).saturating_mul(geometry.block_size as usize)
+}
 
 /// A volume of so many blocks of 1024 bytes, more than 6.
 pub(crate) fn small_blocks(zones: u32) -> Geometry

@@ -66,8 +66,8 @@ fn measure_mkfs(rt: &HostRuntime) -> io::Result<()> {
     let start = Instant::now(rt)?;
     let made = mkfs(rt.alloc(), 16384, 4096, 16384, 50);
     let took = micros_since(rt, start)?;
-    let last = (zeros.last().copied(), made.is_ok());
-    eprintln!(*rt; "mkfs: {took} microseconds; as many zeros: {plain}; {last:?}")
+    let (last, made) = (zeros.last().copied(), made.is_ok());
+    eprintln!(*rt; "mkfs: {took} microseconds; as many zeros: {plain}; ({last:?}, {made})")
 }
 
 /// Measures a check, and a sum of the same bytes.

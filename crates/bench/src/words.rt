@@ -26,16 +26,27 @@ const ALL: [Work; 5] = [
     Work::Calls,
 ];
 
+impl Work {
+    /// Its word.
+    fn word(self) -> &'static str {
+        match self {
+            Work::Drivers => "drivers",
+            Work::Volumes => "volumes",
+            Work::Names => "names",
+            Work::Bytes => "bytes",
+            Work::Calls => "calls",
+        }
+    }
+}
+
 /// The work of a word.
 fn work_of(word: &str) -> Option<Work> {
-    match word {
-        "drivers" => Some(Work::Drivers),
-        "volumes" => Some(Work::Volumes),
-        "names" => Some(Work::Names),
-        "bytes" => Some(Work::Bytes),
-        "calls" => Some(Work::Calls),
-        _ => None,
+    for work in ALL {
+        if work.word() == word {
+            return Some(work);
+        }
     }
+    None
 }
 
 /// The work that the words name, in their order, and all of it where there is no word; none where one of them names no work.

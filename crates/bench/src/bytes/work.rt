@@ -56,15 +56,20 @@ pub(crate) fn write_again<B: Blocks>(
     moved
 }
 
-/// Copies as many bytes as the second slice has so often, each time turned by another number of them, so that no copy can be left out.
+/// Copies as many bytes as both slices have so often, each time turned by another number of them, so that no copy can be left out.
 pub(crate) fn copy_again(from: &[u8], to: &mut [u8]) -> usize {
     let mut moved = 0usize;
     for turn in 0..TIMES {
-        let count = from.len().min(to.len());
-        let first = (64 * (turn % 8) as usize).min(count);
-        to[first..count].copy_from_slice(&from[..count - first]);
-        to[..first].copy_from_slice(&from[count - first..count]);
-        moved = moved.saturating_add(count);
+        moved = moved.saturating_add(copy_turned(from, to, 64 * (turn % 8) as usize));
     }
     moved
+}
+
+/// Copies as many bytes as both slices have, turned by so many of them, and tells how many.
+fn copy_turned(from: &[u8], to: &mut [u8], turn: usize) -> usize {
+    let count = from.len().min(to.len());
+    let first = turn.min(count);
+    to[first..count].copy_from_slice(&from[..count - first]);
+    to[..first].copy_from_slice(&from[count - first..count]);
+    count
 }

@@ -1,6 +1,7 @@
 //! What is measured, in a session.
 
-use crate::calls::work::{Caller, at_start, copies, measure, repeat, rewind};
+use crate::calls::work::{Caller, at_start, copies, measure, once, rewind};
+use crate::timing::say;
 use file_server::FileServer;
 use keeping::recorder::Recorder;
 use keeping::room::Room;
@@ -31,15 +32,21 @@ impl<R: Wait + Copy> Program<R> for Measures {
         ensures { Unit {0} }
     {
         let Ok(mut session) = service.session(0, 0) else {
-            return eprintln!(self.rt; "no session");
+            return say(&self.rt, "no session");
         };
-        small_calls(&self.rt, &mut session)?;
-        bytes_at_hand(&self.rt, &mut session)?;
-        bytes_of_drivers(&self.rt, &mut session)?;
-        names(&self.rt, &mut session)?;
+        let measured = all(&self.rt, &mut session);
         session.end();
-        Ok(())
+        measured
     }
+}
+
+/// All that is measured.
+fn all<C: Caller>(rt: &HostRuntime, caller: &mut C) -> io::Result<()> {
+    small_calls(rt, caller)?;
+    let mut to = vec![in rt.alloc(); 0u8; 65536]?;
+    bytes_at_hand(rt, caller, &vec![in rt.alloc(); 7u8; 65536]?, &mut to)?;
+    bytes_of_drivers(rt, caller, &vec![in rt.alloc(); 8u8; 65536]?)?;
+    names(rt, caller)
 }
 
 /// The flags of an open: to read and write, a file that is made where none is there.
@@ -65,7 +72,7 @@ fn small_calls<C: Caller>(rt: &HostRuntime, caller: &mut C) -> io::Result<()> {
         40000,
         &[Call::Stat { path: b"/" }],
     )?;
-    let _ = repeat(caller, 1, &[opened(b"/f"), Call::Close { fd: 0 }]);
+    let _ = once(caller, &[opened(b"/f"), Call::Close { fd: 0 }]);
     measure(
         rt,
         caller,
@@ -100,15 +107,17 @@ fn reading<'a>(count: u32) -> Call<'a> {
 }
 
 /// Reads and writes of bytes that stand in frames.
-fn bytes_at_hand<C: Caller>(rt: &HostRuntime, caller: &mut C) -> io::Result<()> {
-    let bytes = vec![in rt.alloc(); 7u8; 65536]?;
-    let mut to = vec![in rt.alloc(); 0u8; 65536]?;
-    let whole = bytes.as_slice();
+fn bytes_at_hand<C: Caller>(
+    rt: &HostRuntime,
+    caller: &mut C,
+    whole: &[u8],
+    to: &mut [u8],
+) -> io::Result<()> {
     let page = whole.get(..4096).unwrap_or(&[]);
-    let _ = repeat(caller, 1, &[opened(b"/f")]);
-    let _ = repeat(caller, 1, &[writing(whole)]);
-    let _ = repeat(caller, 1, &[Call::Sync]);
-    copies(rt, page, to.as_mut_slice(), 20000)?;
+    let _ = once(caller, &[opened(b"/f")]);
+    let _ = once(caller, &[writing(whole)]);
+    let _ = once(caller, &[Call::Sync]);
+    copies(rt, page, to, 20000)?;
     at_start(
         rt,
         caller,
@@ -123,7 +132,7 @@ fn bytes_at_hand<C: Caller>(rt: &HostRuntime, caller: &mut C) -> io::Result<()> 
         20000,
         &writing(page),
     )?;
-    copies(rt, whole, to.as_mut_slice(), 2000)?;
+    copies(rt, whole, to, 2000)?;
     at_start(
         rt,
         caller,
@@ -138,15 +147,13 @@ fn bytes_at_hand<C: Caller>(rt: &HostRuntime, caller: &mut C) -> io::Result<()> 
         2000,
         &writing(whole),
     )?;
-    let _ = repeat(caller, 1, &[Call::Sync, Call::Close { fd: 0 }]);
+    let _ = once(caller, &[Call::Sync, Call::Close { fd: 0 }]);
     Ok(())
 }
 
 /// Reads and writes that go to the drivers: a file of 8 MiB, written, synced and read.
-fn bytes_of_drivers<C: Caller>(rt: &HostRuntime, caller: &mut C) -> io::Result<()> {
-    let bytes = vec![in rt.alloc(); 8u8; 65536]?;
-    let whole = bytes.as_slice();
-    let _ = repeat(caller, 1, &[opened(b"/big")]);
+fn bytes_of_drivers<C: Caller>(rt: &HostRuntime, caller: &mut C, whole: &[u8]) -> io::Result<()> {
+    let _ = once(caller, &[opened(b"/big")]);
     measure(
         rt,
         caller,
@@ -155,7 +162,7 @@ fn bytes_of_drivers<C: Caller>(rt: &HostRuntime, caller: &mut C) -> io::Result<(
         &[writing(whole)],
     )?;
     measure(rt, caller, "sync", 1, &[Call::Sync])?;
-    let _ = repeat(caller, 1, &[rewind()]);
+    let _ = once(caller, &[rewind()]);
     measure(
         rt,
         caller,
@@ -163,7 +170,7 @@ fn bytes_of_drivers<C: Caller>(rt: &HostRuntime, caller: &mut C) -> io::Result<(
         128,
         &[reading(65536)],
     )?;
-    let _ = repeat(caller, 1, &[rewind()]);
+    let _ = once(caller, &[rewind()]);
     measure(
         rt,
         caller,
@@ -172,25 +179,23 @@ fn bytes_of_drivers<C: Caller>(rt: &HostRuntime, caller: &mut C) -> io::Result<(
         &[writing(whole)],
     )?;
     measure(rt, caller, "sync", 1, &[Call::Sync])?;
-    let _ = repeat(caller, 1, &[Call::Close { fd: 0 }]);
+    let _ = once(caller, &[Call::Close { fd: 0 }]);
     Ok(())
 }
 
 /// A directory of 1,000 names: made, listed, looked up.
 fn names<C: Caller>(rt: &HostRuntime, caller: &mut C) -> io::Result<()> {
     let alloc = rt.alloc();
-    let _ = repeat(
+    let _ = once(
         caller,
-        1,
         &[Call::Mkdir {
             path: b"/d",
             mode: 0o755,
         }],
     );
     make_names(alloc, caller, 1000)?;
-    let _ = repeat(
+    let _ = once(
         caller,
-        1,
         &[Call::Open {
             path: b"/d",
             flags: OpenFlags::READ,
@@ -212,7 +217,7 @@ fn names<C: Caller>(rt: &HostRuntime, caller: &mut C) -> io::Result<()> {
 fn make_names<C: Caller>(alloc: Global, caller: &mut C, count: u32) -> io::Result<()> {
     for number in 0..count {
         let path = format!(in alloc; "/d/{number}")?;
-        let _ = repeat(caller, 1, &[opened(path.as_bytes()), Call::Close { fd: 0 }]);
+        let _ = once(caller, &[opened(path.as_bytes()), Call::Close { fd: 0 }]);
     }
     Ok(())
 }

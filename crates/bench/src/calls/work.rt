@@ -1,6 +1,6 @@
 //! Work that is measured: calls, made again and again.
 
-use crate::timing::{micros_since, tell};
+use crate::timing::{copy, micros_since, tell};
 use file_server::FileServer;
 use keeping::recorder::Recorder;
 use keeping::room::Room;
@@ -27,13 +27,20 @@ impl<N: Room, R: Wait + Copy, L: Recorder<N>, S: FileServer<L>> Caller
     }
 }
 
-/// Makes these calls so many times, one after the other; how many were done.
-pub(crate) fn repeat<C: Caller>(caller: &mut C, times: u32, calls: &[Call<'_>]) -> u32 {
+/// Makes these calls, one after the other; how many were done.
+pub(crate) fn once<C: Caller>(caller: &mut C, calls: &[Call<'_>]) -> u32 {
+    let mut done = 0u32;
+    for call in calls {
+        done = done.wrapping_add(u32::from(caller.make(call)));
+    }
+    done
+}
+
+/// Makes these calls so many times; how many were done.
+fn repeat<C: Caller>(caller: &mut C, times: u32, calls: &[Call<'_>]) -> u32 {
     let mut done = 0u32;
     for _ in 0..times {
-        for call in calls {
-            done = done.wrapping_add(u32::from(caller.make(call)));
-        }
+        done = done.wrapping_add(once(caller, calls));
     }
     done
 }
@@ -85,11 +92,11 @@ pub(crate) fn at_start<C: Caller>(
 
 /// Measures a plain copy of these bytes, so many times.
 pub(crate) fn copies(rt: &HostRuntime, from: &[u8], to: &mut [u8], times: u32) -> io::Result<()> {
-    let count = from.len().min(to.len());
+    let mut count = 0usize;
     let start = Instant::now(rt)?;
     let mut last = 0u8;
     for _ in 0..times {
-        to[..count].copy_from_slice(&from[..count]);
+        count = copy(from, to);
         last ^= to.last().copied().unwrap_or(0);
     }
     let micros = micros_since(rt, start)?;

@@ -8,12 +8,12 @@ use bdev::{Accept, BlockDriver};
 use cache::Cache;
 use driven::Driven;
 use flusher::{flush_some, sync};
+use launch::start::drivers_on;
 use media::Media;
 use message::{BlockRequest, Kind};
 use modeldisk::RamDriver;
 use partition::Table;
 use policy::Policy;
-use reincarnate::Reincarnation;
 use reissue::{Link, Transfers};
 use std::alloc::Global;
 
@@ -34,15 +34,19 @@ pub(crate) fn driver() -> RamDriver {
     RamDriver::new(Table::whole(SECTORS))
 }
 
+/// A link to a driver of the whole volume.
+fn link(alloc: Global) -> Option<Driven<RamDriver>>
+    ensures { IfSome result (λ link. ⟦<Driven<RamDriver> as Link>⟧.budget_left link ≡ 1099511627776) }
+{
+    let supply = vec![in alloc; driver()].ok()?;
+    drivers_on(alloc, zeros(alloc)?, Policy::default(), supply).ok()
+}
+
 /// A cache of so many frames over a driver.
 pub(crate) fn cache_over(alloc: Global, frames: u32) -> Option<Cache<Driven<RamDriver>>>
     ensures { IfSome result (λ c. IsReady (caching ⟦<Driven<RamDriver> as Link>⟧ c)) }
 {
-    let mut supply = Vec::new(alloc);
-    supply.push(driver()).ok()?;
-    let reincarnation = Reincarnation::new(alloc, Policy::default(), supply).ok()?;
-    let link = Driven::new(alloc, zeros(alloc)?, reincarnation).ok()?;
-    let transfers = Transfers::new(alloc, link).ok()?;
+    let transfers = Transfers::new(alloc, link(alloc)?).ok()?;
     Cache::new(alloc, transfers, 0, &large_blocks(ZONES), frames).ok()
 }
 

@@ -4,6 +4,7 @@ ghost use Rattle.std.specs.Prelude.{◌≡◌};
 ghost use Rattle.layout.specs.Places.{IsGeometry};
 
 use crate::names::scans::{NAMES, name_of};
+use crate::sizes::place_of;
 use inode_table::Inode;
 use layout::Geometry;
 use memory::Memory;
@@ -19,32 +20,28 @@ pub(crate) struct Directory {
     ghost same: { blocks.block_size ≡ geometry.block_size },
 }
 
-/// Puts bytes at a place.
+/// Puts bytes at a place of the image.
 fn put(image: &mut Vec<u8>, at: usize, bytes: &[u8]) {
-    for (place, byte) in image.iter_mut().skip(at).zip(bytes) {
-        *place = *byte;
+    let end = at.saturating_add(bytes.len());
+    if end <= image.len() && end - at == bytes.len() {
+        image[at..end].copy_from_slice(bytes);
     }
 }
 
 /// The size of the directory, in bytes.
 const SIZE: u32 = 64 * (NAMES + 2);
 
-/// The place of the first data zone in an image.
-fn first_place(geometry: &Geometry) -> usize {
-    geometry.first_zone as usize * geometry.block_size as usize
-}
-
 /// The image of a volume with the directory's entries, and its indirect block, which the zone of a number is.
 fn image_of(alloc: Global, geometry: &Geometry, indirect: u32) -> Result<Vec<u8>, AllocError> {
     let size = geometry.block_size as usize;
     let mut image = vec![in alloc; 0u8; size.saturating_mul(geometry.zones as usize)]?;
-    let first = first_place(geometry);
+    let first = place_of(geometry, geometry.first_zone);
     for number in 0..NAMES {
         let at = first.saturating_add(64 * (number as usize + 2));
         put(&mut image, at, &[2]);
         put(&mut image, at.saturating_add(4), &name_of(number));
     }
-    let numbers = size.saturating_mul(indirect as usize);
+    let numbers = place_of(geometry, indirect);
     for page in 7u32..64 {
         let zone = geometry.first_zone.saturating_add(page);
         let at = numbers.saturating_add(4 * (page as usize - 7));
@@ -94,7 +91,7 @@ impl Directory {
     /// The bytes of all its entries.
     pub(crate) fn entries(&self) -> &[u8] {
         let image = self.blocks.image();
-        let first = first_place(&self.geometry).min(image.len());
+        let first = place_of(&self.geometry, self.geometry.first_zone).min(image.len());
         let end = first.saturating_add(SIZE as usize).min(image.len());
         &image[first..end]
     }

@@ -1,5 +1,6 @@
 //! Full volumes, to be measured. Nothing is proved of them but that making them is safe; the check says whether they are clean.
 
+use crate::sizes::place_of;
 use layout::Geometry;
 use new_volume::mkfs;
 use std::alloc::Global;
@@ -43,7 +44,7 @@ impl Filling {
 
     /// The first byte of a block.
     fn place(&self, block: u32) -> usize {
-        block as usize * self.volume.block_size as usize
+        place_of(&self.volume, block)
     }
 
     /// The first byte of an inode.
