@@ -1,6 +1,6 @@
 //! Texts and statuses of making a volume.
 
-use crate::writers::{Writer, taker, writer};
+use crate::writers::{Writer, taker, writer_of};
 use output::Told;
 use std::alloc::Global;
 use std::test::Fail;
@@ -90,7 +90,7 @@ fn writers_fail(rt: HostRuntime) -> Result<(), Fail> {
         now: 50,
     };
     for (calls, said) in &FAILING {
-        let mut out = writer(rt.alloc(), *calls, 5);
+        let mut out = writer_of(rt.alloc(), *calls, 5);
         if !is_said(rt.alloc(), &wanted, &mut out, said) {
             return Err(Fail::new(format_args!("after {calls} calls")));
         }

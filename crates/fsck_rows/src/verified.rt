@@ -1,5 +1,5 @@
 //! Texts and statuses of checking a volume.
-use crate::writers::{Writer, taker, writer};
+use crate::writers::{Writer, taker, writer_of};
 use new_volume::mkfs;
 use output::Told;
 use std::alloc::Global;
@@ -280,8 +280,8 @@ static CUTS: [Cut; 6] = [
 #[test]
 fn writers_fail(rt: HostRuntime) -> Result<(), Fail> {
     for (file, calls, more, out, err, verified, status) in &CUTS {
-        let mut written = writer(rt.alloc(), *calls, 4);
-        let mut told = writer(rt.alloc(), *more, 4);
+        let mut written = writer_of(rt.alloc(), *calls, 4);
+        let mut told = writer_of(rt.alloc(), *more, 4);
         let answer = answer(rt.alloc(), file, 0, &mut written, &mut told)?;
         let wanted = (*out, *err, *verified, *status);
         is_said(&rt, &written.taken, &told.taken, answer, wanted);

@@ -29,7 +29,7 @@ impl Write for Writer {
 }
 
 /// A writer that takes up to so many bytes at each of so many calls.
-pub(crate) fn writer(alloc: Global, calls: u32, most: usize) -> Writer {
+pub(crate) fn writer_of(alloc: Global, calls: u32, most: usize) -> Writer {
     Writer {
         calls,
         most,
@@ -39,5 +39,5 @@ pub(crate) fn writer(alloc: Global, calls: u32, most: usize) -> Writer {
 
 /// A writer that takes all.
 pub(crate) fn taker(alloc: Global) -> Writer {
-    writer(alloc, u32::MAX, usize::MAX)
+    writer_of(alloc, u32::MAX, usize::MAX)
 }
