@@ -35,7 +35,7 @@ type Row = (
 );
 
 /// Files, lines and images.
-static ROWS: [Row; 33] = [
+const ROWS: [Row; 33] = [
     (Image::Unread, 128, &[], HONEST, "cannot read v.img\n"),
     (Image::Unread, 128, &[None], HONEST, "cannot read v.img\n"),
     (
@@ -251,23 +251,18 @@ fn bytes_of(alloc: Global, image: Image) -> Result<Option<Vec<u8>>, AllocError> 
     })
 }
 
-/// The fault of a row is told first.
-fn is_told<R: Wait + Copy>(alloc: Global, rt: R, row: &Row) -> Result<(), Fail> {
-    let (image, sectors, scripts, faults, line) = *row;
-    let image = bytes_of(alloc, image)?;
-    let play = Play {
-        image: image.as_deref(),
-        sectors,
-        faults,
-        ..Play::new(&[], scripts)
-    };
-    play.gives(alloc, rt, 1, "", line)
-}
-
 #[test]
 fn the_first_fault_is_told(rt: HostRuntime) -> Result<(), Fail> {
-    for row in &ROWS {
-        is_told(rt.alloc(), rt, row)?;
+    let alloc = rt.alloc();
+    for (image, sectors, scripts, faults, line) in ROWS {
+        let image = bytes_of(alloc, image)?;
+        let play = Play {
+            image: image.as_deref(),
+            sectors,
+            faults,
+            ..Play::new(&[], scripts)
+        };
+        play.gives(alloc, rt, 1, "", line)?;
     }
     Ok(())
 }
