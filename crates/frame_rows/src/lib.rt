@@ -1,4 +1,4 @@
-//! Rows of requests, of frames, and of blocks in them, over a link that answers from a list: each expected value is worked out by hand.
+//! Rows of frames, and of blocks in them, over a link that answers from a list: each expected value is worked out by hand.
 #![tactic(auto)]
 
 #[cfg(test)]
@@ -7,5 +7,3 @@ mod blocks;
 mod caches;
 #[cfg(test)]
 mod frames;
-#[cfg(test)]
-mod transfers;

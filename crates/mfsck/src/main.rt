@@ -2,24 +2,15 @@
 #![tactic(auto)]
 
 use command_line::{line_of, status_for};
-use program_words::mfsck::read as read_words;
 use std::io;
 use std::process::ExitCode;
 use volume_tools::verify::verify;
+use volume_words::mfsck::{Words, read as read_words};
 use whole_file::read;
 
-fn main(rt: HostRuntime) -> io::Result<ExitCode> {
+/// Checks the volume in the file that the words name.
+fn check_file(rt: HostRuntime, words: &Words<'_>) -> io::Result<ExitCode> {
     let alloc = rt.alloc();
-    let Some(line) = line_of(&rt)? else {
-        return Ok(ExitCode::from(2));
-    };
-    let words = match read_words(alloc, line.as_slice()) {
-        Ok(words) => words,
-        Err(error) => {
-            error.print(&rt)?;
-            return Ok(ExitCode::from(status_for(&error)));
-        }
-    };
     let image = read(&rt, words.image).ok();
     let (mut out, mut err) = (io::writer(&rt), rt.stderr());
     let verified = verify(
@@ -31,4 +22,17 @@ fn main(rt: HostRuntime) -> io::Result<ExitCode> {
         &mut err,
     );
     Ok(ExitCode::from(verified.number()))
+}
+
+fn main(rt: HostRuntime) -> io::Result<ExitCode> {
+    let Some(line) = line_of(&rt)? else {
+        return Ok(ExitCode::from(2));
+    };
+    match read_words(rt.alloc(), line.as_slice()) {
+        Ok(words) => check_file(rt, &words),
+        Err(error) => {
+            error.print(&rt)?;
+            Ok(ExitCode::from(status_for(&error)))
+        }
+    }
 }

@@ -2,24 +2,15 @@
 #![tactic(auto)]
 
 use command_line::{line_of, status_for};
-use program_words::mkmfs::read;
 use std::io;
 use std::process::ExitCode;
 use volume_tools::make::{Wanted, finish, make};
+use volume_words::mkmfs::{Words, read};
 use whole_file::replace;
 
-fn main(rt: HostRuntime) -> io::Result<ExitCode> {
+/// Makes the volume that the words say, and writes it to its file.
+fn make_file(rt: HostRuntime, words: &Words<'_>) -> io::Result<ExitCode> {
     let alloc = rt.alloc();
-    let Some(line) = line_of(&rt)? else {
-        return Ok(ExitCode::from(2));
-    };
-    let words = match read(alloc, line.as_slice()) {
-        Ok(words) => words,
-        Err(error) => {
-            error.print(&rt)?;
-            return Ok(ExitCode::from(status_for(&error)));
-        }
-    };
     let (mut out, mut err) = (io::writer(&rt), rt.stderr());
     let wanted = Wanted {
         blocks: words.blocks,
@@ -36,4 +27,17 @@ fn main(rt: HostRuntime) -> io::Result<ExitCode> {
         None => made.status,
     };
     Ok(ExitCode::from(status.number()))
+}
+
+fn main(rt: HostRuntime) -> io::Result<ExitCode> {
+    let Some(line) = line_of(&rt)? else {
+        return Ok(ExitCode::from(2));
+    };
+    match read(rt.alloc(), line.as_slice()) {
+        Ok(words) => make_file(rt, &words),
+        Err(error) => {
+            error.print(&rt)?;
+            Ok(ExitCode::from(status_for(&error)))
+        }
+    }
 }

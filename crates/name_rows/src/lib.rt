@@ -1,15 +1,11 @@
-//! Rows of a directory's names, of walks and the places that paths mean, of paths and of access: each expected value is worked out by
-//! hand from the format and from the rules of client calls.
+//! Rows of a directory's names, of walks and the places that paths mean: each expected value is worked out by hand from the format and
+//! from the rules of client calls.
 #![tactic(auto)]
 
-#[cfg(test)]
-mod access;
 #[cfg(test)]
 mod images;
 #[cfg(test)]
 mod names;
-#[cfg(test)]
-mod paths;
 #[cfg(test)]
 mod volumes;
 #[cfg(test)]

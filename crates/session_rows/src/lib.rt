@@ -1,17 +1,13 @@
-//! Rows of mounting and unmounting, over a link that answers from a list, and of a service's sessions: in turn, in two threads, given up,
-//! refused and ended, of a service that is stopped, and of the board that its seats share. Each expected value is worked out by hand.
+//! Rows of a service's sessions: in turn, in two threads, given up, refused and ended, and of a service that is stopped. Each expected value
+//! is worked out by hand.
 #![tactic(auto)]
 
-#[cfg(test)]
-mod answered;
 #[cfg(test)]
 mod callers;
 #[cfg(test)]
 mod ended;
 #[cfg(test)]
 mod lines;
-#[cfg(test)]
-mod mounts;
 #[cfg(test)]
 mod programs;
 #[cfg(test)]
@@ -21,8 +17,4 @@ mod sessions;
 #[cfg(test)]
 mod silent;
 #[cfg(test)]
-mod status_words;
-#[cfg(test)]
 mod threads;
-#[cfg(test)]
-mod unmounts;

@@ -3,9 +3,6 @@ mod PathRows
 mod OpenRows
 mod ByteRows
 mod NodeRows
-mod LinkRows
-mod DirectoryRows
-mod RenameRows
 pub mod TriplePage
 mod ZoneRows
 mod BuiltRows

@@ -1,6 +1,4 @@
 pub mod Small
 mod LayoutRows
-mod RootRows
-mod TreeRows
 mod ReadRows
 mod FreshRows

@@ -1,5 +1,5 @@
-//! Rows of the maps, of the zones of files, of their bytes and of the room that writes need, over blocks in memory and over a link that
-//! answers from a list: each expected value is worked out by hand from the format.
+//! Rows of the zones of files, of their bytes and of the room that writes need, over blocks in memory: each expected value is worked out by
+//! hand from the format.
 #![tactic(auto)]
 
 #[cfg(test)]
@@ -8,8 +8,6 @@ mod bytes;
 mod calls;
 #[cfg(test)]
 mod images;
-#[cfg(test)]
-mod links;
 #[cfg(test)]
 mod pages;
 #[cfg(test)]

@@ -1,0 +1,2 @@
+mod RootRows
+mod TreeRows

@@ -1,0 +1,10 @@
+//! Rows of errors, replies and transcripts as text: every kind of line, and writers that fail. Each expected value is the format's or
+//! docs/PROGRAMS.md's, or worked out by hand.
+#![tactic(auto)]
+
+#[cfg(test)]
+mod replies;
+#[cfg(test)]
+mod rows;
+#[cfg(test)]
+mod transcripts;

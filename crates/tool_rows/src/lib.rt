@@ -1,0 +1,10 @@
+//! Rows of what is written of volumes that are made and checked, with which status: verdicts, partitions, and writers that fail. Each
+//! expected value is the format's or docs/PROGRAMS.md's.
+#![tactic(auto)]
+
+#[cfg(test)]
+mod made;
+#[cfg(test)]
+mod verified;
+#[cfg(test)]
+mod writers;

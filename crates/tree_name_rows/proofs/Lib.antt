@@ -1,0 +1,3 @@
+mod LinkRows
+mod DirectoryRows
+mod RenameRows
