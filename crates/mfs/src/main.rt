@@ -2,8 +2,8 @@
 #![tactic(auto)]
 
 use command_line::{line_of, status_for};
-use play_words::mfs::{Words, read};
-use std::alloc::{AllocError, Global};
+use play_words::mfs::read;
+use std::alloc::AllocError;
 use std::process::ExitCode;
 use std::rt::Files;
 use std::{fs, io};
@@ -31,27 +31,24 @@ fn read_all<R: Files + AllocGlobal>(
     Ok(texts)
 }
 
-/// Files of these names, with their bytes.
-fn files<'a>(
-    alloc: Global,
-    names: &'a [&'a str],
-    texts: &'a [Option<Vec<u8>>],
-) -> Result<Vec<File<'a, 'a>>, AllocError> {
-    let mut files = Vec::new(alloc);
-    for (name, text) in names.iter().zip(texts) {
-        files.push(file(name, text))?;
-    }
-    Ok(files)
-}
-
-/// Plays these scripts as the words say, and writes the image that is left where they ask for it.
-fn play_on(
-    rt: HostRuntime,
-    words: &Words<'_>,
-    image: &Option<Vec<u8>>,
-    scripts: &[File<'_, '_>],
-) -> io::Result<ExitCode> {
+fn main(rt: HostRuntime) -> io::Result<ExitCode> {
     let alloc = rt.alloc();
+    let Some(line) = line_of(&rt)? else {
+        return Ok(ExitCode::from(2));
+    };
+    let words = match read(alloc, line.as_slice()) {
+        Ok(words) => words,
+        Err(error) => {
+            error.print(&rt)?;
+            return Ok(ExitCode::from(status_for(&error)));
+        }
+    };
+    let image = fs::read(&rt, words.image).ok();
+    let texts = read_all(&rt, &words.scripts)?;
+    let mut scripts = Vec::new(alloc);
+    for (name, text) in words.scripts.iter().zip(&texts) {
+        scripts.push(file(name, text))?;
+    }
     let table = table_in(image.as_deref().unwrap_or(&[]));
     let supply = drivers_for(alloc, words.spares, words.model, table)?;
     let setup = setup_for(words.minor);
@@ -59,8 +56,8 @@ fn play_on(
     let played = play(
         alloc,
         rt,
-        file(words.image, image),
-        scripts,
+        file(words.image, &image),
+        scripts.as_slice(),
         &setup,
         supply,
         &mut out,
@@ -74,25 +71,4 @@ fn play_on(
         _ => played.status,
     };
     Ok(ExitCode::from(status.number()))
-}
-
-/// Reads the files that the words name, and plays the scripts.
-fn play_files(rt: HostRuntime, words: &Words<'_>) -> io::Result<ExitCode> {
-    let image = fs::read(&rt, words.image).ok();
-    let texts = read_all(&rt, &words.scripts)?;
-    let scripts = files(rt.alloc(), &words.scripts, &texts)?;
-    play_on(rt, words, &image, &scripts)
-}
-
-fn main(rt: HostRuntime) -> io::Result<ExitCode> {
-    let Some(line) = line_of(&rt)? else {
-        return Ok(ExitCode::from(2));
-    };
-    match read(rt.alloc(), line.as_slice()) {
-        Ok(words) => play_files(rt, &words),
-        Err(error) => {
-            error.print(&rt)?;
-            Ok(ExitCode::from(status_for(&error)))
-        }
-    }
 }

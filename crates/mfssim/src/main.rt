@@ -2,7 +2,7 @@
 #![tactic(auto)]
 
 use command_line::{line_of, status_for};
-use play_words::mfssim::{Words, read};
+use play_words::mfssim::read;
 use simulation::inputs::File;
 use simulation::simulate::simulate;
 use std::process::ExitCode;
@@ -17,9 +17,18 @@ fn file<'n, 'b>(name: &'n str, bytes: &'b Option<Vec<u8>>) -> File<'n, 'b> {
     }
 }
 
-/// Reads the files that the words name, and runs the schedule.
-fn simulate_files(rt: HostRuntime, words: &Words<'_>) -> io::Result<ExitCode> {
+fn main(rt: HostRuntime) -> io::Result<ExitCode> {
     let alloc = rt.alloc();
+    let Some(line) = line_of(&rt)? else {
+        return Ok(ExitCode::from(2));
+    };
+    let words = match read(alloc, line.as_slice()) {
+        Ok(words) => words,
+        Err(error) => {
+            error.print(&rt)?;
+            return Ok(ExitCode::from(status_for(&error)));
+        }
+    };
     let image = fs::read(&rt, words.image).ok();
     let schedule = fs::read(&rt, words.schedule).ok();
     let table = table_in(image.as_deref().unwrap_or(&[]));
@@ -29,17 +38,4 @@ fn simulate_files(rt: HostRuntime, words: &Words<'_>) -> io::Result<ExitCode> {
     let (mut out, mut err) = (io::writer(&rt), rt.stderr());
     let status = simulate(alloc, image, schedule, &setup, supply, &mut out, &mut err);
     Ok(ExitCode::from(status.number()))
-}
-
-fn main(rt: HostRuntime) -> io::Result<ExitCode> {
-    let Some(line) = line_of(&rt)? else {
-        return Ok(ExitCode::from(2));
-    };
-    match read(rt.alloc(), line.as_slice()) {
-        Ok(words) => simulate_files(rt, &words),
-        Err(error) => {
-            error.print(&rt)?;
-            Ok(ExitCode::from(status_for(&error)))
-        }
-    }
 }
