@@ -1,17 +1,16 @@
 //! A link that answers the requests of a mount, and servers over it.
 ghost use Rattle.std.specs.Prelude.{IfOk};
 ghost use Rattle.stored.specs.World.{stored_caching};
-ghost use Rattle.vfs.specs.Server.{IsOpen};
+ghost use Rattle.launch.specs.vfs.Server.{IsOpen};
 
 use frame_samples::lists::{driver, started};
+use launch::{Server, mount};
 use list_link::ListLink;
 use message::{BlockReply, Incoming};
 use mounting::MountRefusal;
 use reissue::link::Link;
 use std::alloc::{AllocError, Global};
 use stored::Stored;
-use vfs::Server;
-use vfs::mounted::mount;
 
 /// The first driver's answer to this request: all these bytes, 4096 at most, were moved.
 pub(crate) fn gives(id: u64, piece: &[u8]) -> Incoming {

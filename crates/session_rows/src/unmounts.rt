@@ -1,11 +1,12 @@
 //! What is read and written of a volume that was mounted, and why it isn't unmounted.
 ghost use Rattle.stored.specs.World.{stored_caching};
-ghost use Rattle.vfs.specs.Server.{IsOpen};
+ghost use Rattle.launch.specs.vfs.Server.{IsOpen};
 
 use crate::answered::{gives, mounted_over, reads_of};
 use crate::lines::is_told;
 use file_server::FileServer;
 use frame_samples::lists::{moved, told};
+use launch::Server;
 use list_link::ListLink;
 use message::Incoming;
 use reissue::link::Link;
@@ -14,7 +15,6 @@ use std::alloc::{AllocError, Global};
 use std::test::Fail;
 use stored::{Caches, Stored};
 use tree::{Call, OpenFlags, Who};
-use vfs::Server;
 
 /// What is done with a volume.
 enum Step {
