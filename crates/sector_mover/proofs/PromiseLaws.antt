@@ -7,7 +7,7 @@ use Rattle.message.specs.declared.Kind.TheVariants.{Read, Write}
 use Rattle.bdev.specs.declared.Step.{Step}
 use Rattle.bdev.specs.DriverState.{DriverState, Work}
 use Rattle.bdev.specs.Promises.{StepKeeps, StepsAt, MovesBytes, MovesSector, Says, BearsBytes}
-use Rattle.modeldisk.specs.Transfer.{Transfers}
+use Rattle.sector_mover.specs.Transfer.{Transfers}
 
 -- a step with a request in work that moved nothing
 pub StepKeeps-still : (b : DriverState) (m : MediaState) (g : ℕ) (step : Step) (a : DriverState) (w : Work)

@@ -2,7 +2,7 @@
 use Rattle.std.specs.Prelude.{ℕ, ◌≡◌, ◌++◌, filter, nat_le, nat_lt}
 use Rattle.std.specs.List.{range_with_len}
 use Rattle.bdev.specs.declared.Run.{Run}
-use Rattle.modeldisk.specs.Order.{order_of}
+use Rattle.sector_mover.specs.Order.{order_of}
 
 -- an arm moves a run's sectors not below it, rising, then those below it, rising; from sector 0 that is all in rising order
 pub record IsSweep : Type 0 where

@@ -9,7 +9,7 @@ use Rattle.std.proofs.lemmas.List.{get_or_append_left, get_or-append_right, take
 use Rattle.std.proofs.lemmas.List.Folds.{list_any-append, list_any_at}
 use Rattle.std.proofs.lemmas.List.FromFn.{length-range_with_len, get_or-range_with_len}
 use Rattle.bdev.specs.declared.Run.{Run}
-use Rattle.modeldisk.specs.Order.{below, order_of}
+use Rattle.sector_mover.specs.Order.{below, order_of}
 
 -- a sweep moves each sector once
 pub length-order_of : (arm : ℕ) (run : Run) → length (order_of arm run) ≡ run.count

@@ -1,8 +1,8 @@
 -- Worked rows of the order of a sweep, by computation: sectors 8 to 11.
 use Rattle.std.specs.Prelude.{◌≡◌, [], ◌∷◌, Some, true, false, refl}
 use Rattle.bdev.specs.declared.Run.{Run}
-use Rattle.modeldisk.specs.Order.{arm_after, order_of}
-use Rattle.modeldisk.specs.Mover.{moved_in}
+use Rattle.sector_mover.specs.Order.{arm_after, order_of}
+use Rattle.sector_mover.specs.Mover.{moved_in}
 
 -- the run
 abbrev run : Run

@@ -2,13 +2,11 @@ ghost use Rattle.std.specs.Prelude.{◌≡◌, ◌+◌, ◌*◌, ◌<◌, ◌≤
 ghost use Rattle.partition.specs.Table.{ranges_of};
 ghost use Rattle.bdev.specs.DriverState.{fresh, plan, range_while_fresh};
 ghost use Rattle.bdev.specs.Promises.{AcceptKeeps, IsDriver, StepKeeps};
-ghost use Rattle.modeldisk.specs.Order.{arm_after, order_in, order_of, StepsInOrder};
-ghost use Rattle.modeldisk.specs.Transfer.{TransfersIf};
-ghost use Rattle.modeldisk.specs.Faults.{IsLeading, StepsBy};
-ghost use Rattle.modeldisk.specs.Mover.{IsFew, MovesNext, ended, left_of, order, outcome_of, state_of};
+ghost use Rattle.sector_mover.specs.Order.{arm_after, order_in, order_of, StepsInOrder};
+ghost use Rattle.sector_mover.specs.Transfer.{TransfersIf};
+ghost use Rattle.sector_mover.specs.Mover.{IsFew, MovesNext, ended, left_of, order, outcome_of, state_of};
 
 use crate::chunks::{chunk_at, put_chunk};
-use crate::fault::FaultKind;
 use bdev::{Accept, Answer, Run, Step};
 use errno::Errno;
 use media::Media;
@@ -193,51 +191,6 @@ impl Mover {
             return Step::Working;
         }
         self.end(Ok(512 * run.count))
-    }
-
-    /// Plays a fault on the request in work; a step without one is idle.
-    pub fn fault(&mut self, kind: FaultKind, media: &mut Media, generation: u32) -> Step
-        requires { IsFew self.old }
-        ensures keeps { StepKeeps (state_of self.old) media.old generation result (state_of self.new) media.new }
-        ensures fault { StepsBy self.old.busy (Some kind) self.old media.old generation result self.new }
-        ensures arm { self.new.arm ≡ self.old.arm }
-        ensures last { self.new.last ≡ self.old.last }
-        ensures few { IsFew self.new }
-    {
-        if !self.busy {
-            return Step::Idle;
-        }
-        match kind {
-            FaultKind::Die => {
-                self.failed = true;
-                Step::Failed
-            }
-            FaultKind::Hang => Step::Working,
-            FaultKind::Short => match plan(&self.table, &self.request) {
-                None => self.step(media, generation),
-                Some(run) => self.end(Ok(512 * self.leading(run))),
-            },
-            FaultKind::Error(errno) => match plan(&self.table, &self.request) {
-                None => self.step(media, generation),
-                Some(_) => self.end(Err(errno)),
-            },
-        }
-    }
-
-    /// How many leading sectors of the run were moved.
-    fn leading(&self, run: Run) -> u32
-        requires { run.count ≤ 8 }
-        ensures leading { IsLeading self.now run result }
-        ensures within { result ≤ run.count }
-    {
-        if self.done >= run.count {
-            return run.count;
-        }
-        let below = self.from.saturating_sub(run.first).min(run.count);
-        if below == 0 {
-            return self.done;
-        }
-        (below + self.done).saturating_sub(run.count)
     }
 
     /// Moves the next sector of the run; false where the media refused it.

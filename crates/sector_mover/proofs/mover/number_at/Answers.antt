@@ -1,7 +1,7 @@
 use Rattle.std.proofs.Common.{◌≡◌, ◌∙◌, arith}
-use Rattle.modeldisk.specs.Order.{below}
-use Rattle.modeldisk.proofs.OrderLaws.{order_high, order_low}
-use Rattle.modeldisk.proofs.mover.number_at.Goals as goal
+use Rattle.sector_mover.specs.Order.{below}
+use Rattle.sector_mover.proofs.OrderLaws.{order_high, order_low}
+use Rattle.sector_mover.proofs.mover.number_at.Goals as goal
 
 pub returns-then-number-run-clause-at : goal.returns-then-number-run-clause-at
 returns-then-number-run-clause-at c =

@@ -16,12 +16,12 @@ use Rattle.bdev.specs.declared.Run.{Run}
 use Rattle.bdev.specs.declared.Step.TheVariants.{Working, Done}
 use Rattle.bdev.specs.DriverState.{Work, Ranges, plan}
 use Rattle.bdev.specs.Promises.{IsDriver, IsOfAWrite, StepKeeps, MovesSector, MayAnswer, EndsBy, requests_in_work}
-use Rattle.modeldisk.specs.declared.mover.Mover.{Mover}
-use Rattle.modeldisk.specs.Order.{order_of, order_in}
-use Rattle.modeldisk.specs.Transfer.{TransfersIf}
-use Rattle.modeldisk.specs.Mover.{IsFew, MovesNext, ended, moved_in, order, run_of, state_of, work_of}
-use Rattle.modeldisk.proofs.OrderLaws.{length-order_of, in_run, all_moved, moved_more}
-use Rattle.modeldisk.proofs.PromiseLaws.{StepKeeps-still, StepKeeps-moved, moves_bytes, bears_own}
+use Rattle.sector_mover.specs.declared.mover.Mover.{Mover}
+use Rattle.sector_mover.specs.Order.{order_of, order_in}
+use Rattle.sector_mover.specs.Transfer.{TransfersIf}
+use Rattle.sector_mover.specs.Mover.{IsFew, MovesNext, ended, moved_in, order, run_of, state_of, work_of}
+use Rattle.sector_mover.proofs.OrderLaws.{length-order_of, in_run, all_moved, moved_more}
+use Rattle.sector_mover.proofs.PromiseLaws.{StepKeeps-still, StepKeeps-moved, moves_bytes, bears_own}
 
 -- past the last sector there is no next one
 pub next_past : (from : ℕ) (o : Option Run) (run : Run) (i : ℕ) → o ≡ Some run → run.count ≤ i → slice_get (order_in from o) i ≡ None

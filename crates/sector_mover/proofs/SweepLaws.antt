@@ -9,10 +9,10 @@ use Rattle.media.specs.Contents.{MediaState, accepts}
 use Rattle.bdev.specs.declared.Run.{Run}
 use Rattle.bdev.specs.declared.Step.{Step}
 use Rattle.bdev.specs.declared.Step.TheVariants.{Working, Done, Failed}
-use Rattle.modeldisk.specs.declared.mover.Mover.{Mover}
-use Rattle.modeldisk.specs.Order.{order_of, arm_after, AnswersWith, GoesOnWith, StepsInOrder}
-use Rattle.modeldisk.specs.Mover.{MovesNext, ended, left_of, outcome_of, run_of}
-use Rattle.modeldisk.proofs.OrderLaws.{length-order_of}
+use Rattle.sector_mover.specs.declared.mover.Mover.{Mover}
+use Rattle.sector_mover.specs.Order.{order_of, arm_after, AnswersWith, GoesOnWith, StepsInOrder}
+use Rattle.sector_mover.specs.Mover.{MovesNext, ended, left_of, outcome_of, run_of}
+use Rattle.sector_mover.proofs.OrderLaws.{length-order_of}
 
 -- where none is left, the step answers
 steps_ended : (busy : Bool) (left : List ℕ) (outcome : Result ℕ Errno) (m : MediaState) (g : ℕ) (step : Step) (left' : List ℕ)

@@ -1,8 +1,8 @@
 use Rattle.std.proofs.Common.{◌≡◌, sym, ◌∙◌, ap}
 use Rattle.std.specs.Prelude.{Some}
-use Rattle.modeldisk.specs.Mover.{run_of}
-use Rattle.modeldisk.proofs.MoverLaws.{next_past, next_some}
-use Rattle.modeldisk.proofs.mover.Mover.next_sector.Goals as goal
+use Rattle.sector_mover.specs.Mover.{run_of}
+use Rattle.sector_mover.proofs.MoverLaws.{next_past, next_some}
+use Rattle.sector_mover.proofs.mover.Mover.next_sector.Goals as goal
 
 pub returns-then-self-run : goal.returns-then-self-run
 returns-then-self-run c =

@@ -7,9 +7,9 @@ use Rattle.media.specs.Contents.{MediaState}
 use Rattle.partition.specs.Table.{ranges_of}
 use Rattle.bdev.specs.declared.Run.{Run}
 use Rattle.bdev.specs.DriverState.{DriverState, Work, plan}
-use Rattle.modeldisk.specs.declared.mover.Mover.{Mover}
-use Rattle.modeldisk.specs.Transfer.{TransfersIf}
-use Rattle.modeldisk.specs.Order.{order_of, order_in, whole_outcome}
+use Rattle.sector_mover.specs.declared.mover.Mover.{Mover}
+use Rattle.sector_mover.specs.Transfer.{TransfersIf}
+use Rattle.sector_mover.specs.Order.{order_of, order_in, whole_outcome}
 
 -- the run of the request in work
 abbrev pub run_of : Mover → Option Run

@@ -6,8 +6,8 @@ use Rattle.std.proofs.lemmas.Bool.{cases_lt}
 use Rattle.std.proofs.lemmas.Bool.Decides.{nat_tests}
 use Rattle.std.proofs.lemmas.List.{append-nil}
 use Rattle.bdev.specs.declared.Run.{Run}
-use Rattle.modeldisk.specs.Order.{below, order_of}
-use Rattle.modeldisk.specs.Laws.{IsSweep}
+use Rattle.sector_mover.specs.Order.{below, order_of}
+use Rattle.sector_mover.specs.Laws.{IsSweep}
 
 -- numbers from the arm on are all kept
 all_high : (arm a n : ℕ) → arm ≤ a → filter (nat_le arm) (range_with_len a n) ≡ range_with_len a n
