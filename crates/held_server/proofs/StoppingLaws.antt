@@ -28,13 +28,13 @@ use Rattle.file_server.specs.Over.{CallsOver}
 use Rattle.file_server.specs.Leaving.{IsEndLast}
 use Rattle.keeping.specs.declared.room.Room.{Ghosts as RoomWords}
 use Rattle.keeping.specs.Keeper.{begins_itself, begins_before, begins_further}
-use Rattle.shared_server.specs.declared.stopping.Stopped.{Stopped}
-use Rattle.shared_server.specs.declared.stopping.StopRefusal.{StopRefusal}
-use Rattle.shared_server.specs.declared.stopping.StopRefusal.TheVariants.{SessionsLeft, GivenUp, OutOfMemory, LinkEnded}
-use Rattle.shared_server.specs.Descriptors.{is_done, was_cut, succeeded}
-use Rattle.shared_server.specs.Held.{IsHeld}
-use Rattle.shared_server.specs.Stopping.{syncer, SyncEnd, Went, WasGivenUp, WasCut, sync_end, has_ended, SyncTells, IsLastRecord, IsLastLine, IsLastImage, WhyNotSynced}
-use Rattle.shared_server.proofs.HeldLaws.{Kept, ends_called, kept_if_cut, not_given_up, done_is}
+use Rattle.held_server.specs.declared.stopping.Stopped.{Stopped}
+use Rattle.held_server.specs.declared.stopping.StopRefusal.{StopRefusal}
+use Rattle.held_server.specs.declared.stopping.StopRefusal.TheVariants.{SessionsLeft, GivenUp, OutOfMemory, LinkEnded}
+use Rattle.held_server.specs.Descriptors.{is_done, was_cut, succeeded}
+use Rattle.held_server.specs.Held.{IsHeld}
+use Rattle.held_server.specs.Stopping.{syncer, SyncEnd, Went, WasGivenUp, WasCut, sync_end, has_ended, SyncTells, IsLastRecord, IsLastLine, IsLastImage, WhyNotSynced}
+use Rattle.held_server.proofs.HeldLaws.{Kept, ends_called, kept_if_cut, not_given_up, done_is}
 
 -- a record goes on with a message, and with each act
 counted_goes_on : (b : Bool) (a : BlockReply) (marks : List Mark) → IsBeginning marks (if b then Answered a ∷ marks else marks)

@@ -9,7 +9,7 @@ ghost use Rattle.board.specs.View.{without};
 ghost use Rattle.board.specs.Steps.{SessionLearns, SessionIsNew};
 ghost use Rattle.keeping.specs.Keeper.{AreAllUsed, IsLowestFree, IsOneFree};
 ghost use Rattle.board.specs.legal.Session.{tally_of};
-ghost use Rattle.shared_server.specs.Recorder.{SameServer};
+ghost use Rattle.held_server.specs.Recorder.{SameServer};
 
 use crate::refusal::SessionRefusal;
 use board::Seat;
@@ -20,7 +20,7 @@ use tree::{Call, Reply, Who};
 
 /// A call of the caller's session was answered. The caller has then seen the whole record, its call last. Gives how many counted marks
 /// it has, modulo 2^64.
-pub(crate) fn count_call<N: Room, L: Recorder<N>, S: FileServer<L>>(
+pub fn count_call<N: Room, L: Recorder<N>, S: FileServer<L>>(
     server: &mut S,
     caller: &mut Seat,
     who: Who,
@@ -43,10 +43,7 @@ pub(crate) fn count_call<N: Room, L: Recorder<N>, S: FileServer<L>>(
 }
 
 /// The caller has then seen the whole record. Gives how many counted marks it has, modulo 2^64.
-pub(crate) fn show<N: Room, L: Recorder<N>, S: FileServer<L>>(
-    server: &mut S,
-    caller: &mut Seat,
-) -> u64
+pub fn show<N: Room, L: Recorder<N>, S: FileServer<L>>(server: &mut S, caller: &mut Seat) -> u64
     requires { caller.old.table ≡ N.table }
     ensures same { SameServer L.Link S.Serve.serving S.line S.is_ready server.old server.new }
     ensures truth { (v : Opening) (older : List Mark) → L.truth (S.line server.old) v older → L.truth (S.line server.new) v older }
@@ -62,7 +59,7 @@ pub(crate) fn show<N: Room, L: Recorder<N>, S: FileServer<L>>(
 
 /// A seat for a new session, with the lowest number that is free: 1 TooMany where 64 are in use, 2 Stopped where a take gave End. A refusal
 /// changes nothing.
-pub(crate) fn admit<N: Room, L: Recorder<N>, S: FileServer<L>>(
+pub fn admit<N: Room, L: Recorder<N>, S: FileServer<L>>(
     server: &mut S,
 ) -> Result<(u8, Seat, u64), SessionRefusal>
     ensures same { SameServer L.Link S.Serve.serving S.line S.is_ready server.old server.new }
@@ -87,11 +84,7 @@ pub(crate) fn admit<N: Room, L: Recorder<N>, S: FileServer<L>>(
 }
 
 /// A session ends: its number is free again.
-pub(crate) fn release<N: Room, L: Recorder<N>, S: FileServer<L>>(
-    server: &mut S,
-    number: u8,
-    caller: Seat,
-)
+pub fn release<N: Room, L: Recorder<N>, S: FileServer<L>>(server: &mut S, number: u8, caller: Seat)
     requires { (caller.table ≡ N.table) × (caller.view.number ≡ Some number) × (number < 64) }
     ensures same { SameServer L.Link S.Serve.serving S.line S.is_ready server.old server.new }
     ensures truth { (v : Opening) (older : List Mark) → L.truth (S.line server.old) v older → L.truth (S.line server.new) v older }

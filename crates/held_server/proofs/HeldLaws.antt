@@ -38,12 +38,12 @@ use Rattle.file_server.proofs.Standing.{serves_same, same_stands}
 use Rattle.board.specs.View.{View, SeatState, session_for, is_used}
 use Rattle.board.specs.Steps.{SessionLearns, SessionIsNew}
 use Rattle.keeping.specs.declared.room.Room.{Ghosts as RoomWords}
-use Rattle.shared_server.specs.Recorder.{SameServer}
-use Rattle.shared_server.specs.Descriptors.{is_done, succeeded}
-use Rattle.shared_server.specs.Stopping.{IsSyncedImage, syncer}
-use Rattle.shared_server.specs.declared.refusal.SessionRefusal.{SessionRefusal}
-use Rattle.shared_server.specs.declared.refusal.SessionRefusal.TheVariants.{TooMany, Stopped, OutOfMemory}
-use Rattle.shared_server.specs.Held.{IsHeld, IsGood, IsGuaranteed, IsNotAdmitted, IsSound}
+use Rattle.held_server.specs.Recorder.{SameServer}
+use Rattle.held_server.specs.Descriptors.{is_done, succeeded}
+use Rattle.held_server.specs.Stopping.{IsSyncedImage, syncer}
+use Rattle.held_server.specs.declared.refusal.SessionRefusal.{SessionRefusal}
+use Rattle.held_server.specs.declared.refusal.SessionRefusal.TheVariants.{TooMany, Stopped, OutOfMemory}
+use Rattle.held_server.specs.Held.{IsHeld, IsGood, IsGuaranteed, IsNotAdmitted, IsSound}
 
 -- what servers and links keep, whichever they are
 pub record Kept {N S L : Type 0} (room : RoomWords N) (link : LinkWords L) (serving : S → Serving) (line : S → L)
