@@ -16,7 +16,7 @@ use Rattle.board.specs.legal.Mount.{MountRefused}
 use Rattle.reissue.specs.declared.link.Link.{Ghosts as LinkWords}
 use Rattle.file_server.specs.Over.{Stands}
 use Rattle.keeping.specs.declared.room.Room.{Ghosts as RoomWords}
-use Rattle.shared_server.specs.Held.{IsHeld}
+use Rattle.shared_server.specs.held_server.Held.{IsHeld}
 use Rattle.stored.specs.declared.Stored.{Stored}
 use Rattle.mounting.specs.declared.whole.MountRefusal.{MountRefusal}
 use Rattle.mounting.specs.declared.whole.MountRefusal.TheVariants as mount

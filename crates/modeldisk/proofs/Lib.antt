@@ -1,8 +1,1 @@
-pub mod ChunkLaws
-pub mod OrderLaws
-pub mod PromiseLaws
-pub mod MoverLaws
-pub mod SweepLaws
 pub mod FaultLaws
-pub mod FilterLaws
-mod Rows

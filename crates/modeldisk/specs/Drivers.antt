@@ -5,7 +5,7 @@ use Rattle.partition.specs.Table.{ranges_of}
 use Rattle.bdev.specs.DriverState.{DriverState, Ranges}
 use Rattle.modeldisk.specs.declared.ram.RamDriver.{RamDriver}
 use Rattle.modeldisk.specs.declared.model.ModelDriver.{ModelDriver}
-use Rattle.modeldisk.specs.Mover.{left_of, outcome_of, state_of}
+use Rattle.sector_mover.specs.Mover.{left_of, outcome_of, state_of}
 
 -- the state of a RAM driver
 abbrev pub ram_state : RamDriver → DriverState

@@ -1,4 +1,12 @@
+ghost use Rattle.std.specs.Prelude.{◌≡◌, ◌≤◌, Some};
+ghost use Rattle.bdev.specs.Promises.{StepKeeps};
+ghost use Rattle.sector_mover.specs.Mover.{IsFew, state_of};
+ghost use Rattle.modeldisk.specs.Faults.{IsLeading, StepsBy};
+
+use bdev::{Run, Step};
 use errno::Errno;
+use media::Media;
+use sector_mover::mover::{Mover, plan};
 
 /// What goes wrong.
 #[derive(Clone, Copy, Debug, PartialEq, Eq)]
@@ -22,4 +30,49 @@ pub struct Fault {
     pub after: u32,
     /// What the next step then does.
     pub kind: FaultKind,
+}
+
+/// Plays a fault on the request in work; a step without one is idle.
+pub(crate) fn play(mover: &mut Mover, kind: FaultKind, media: &mut Media, generation: u32) -> Step
+    requires { IsFew mover.old }
+    ensures keeps { StepKeeps (state_of mover.old) media.old generation result (state_of mover.new) media.new }
+    ensures fault { StepsBy mover.old.busy (Some kind) mover.old media.old generation result mover.new }
+    ensures arm { mover.new.arm ≡ mover.old.arm }
+    ensures last { mover.new.last ≡ mover.old.last }
+    ensures few { IsFew mover.new }
+{
+    if !mover.busy {
+        return Step::Idle;
+    }
+    match kind {
+        FaultKind::Die => {
+            mover.failed = true;
+            Step::Failed
+        }
+        FaultKind::Hang => Step::Working,
+        FaultKind::Short => match plan(&mover.table, &mover.request) {
+            None => mover.step(media, generation),
+            Some(run) => mover.end(Ok(512 * leading(mover, run))),
+        },
+        FaultKind::Error(errno) => match plan(&mover.table, &mover.request) {
+            None => mover.step(media, generation),
+            Some(_) => mover.end(Err(errno)),
+        },
+    }
+}
+
+/// How many leading sectors of the run were moved.
+fn leading(mover: &Mover, run: Run) -> u32
+    requires { run.count ≤ 8 }
+    ensures leading { IsLeading mover.now run result }
+    ensures within { result ≤ run.count }
+{
+    if mover.done >= run.count {
+        return run.count;
+    }
+    let below = mover.from.saturating_sub(run.first).min(run.count);
+    if below == 0 {
+        return mover.done;
+    }
+    (below + mover.done).saturating_sub(run.count)
 }

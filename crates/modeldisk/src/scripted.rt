@@ -2,16 +2,16 @@ ghost use Rattle.std.specs.Prelude.{◌≡◌, ◌+◌, ◌≤◌, if◌then◌e
 ghost use Rattle.partition.specs.Table.{ranges_of};
 ghost use Rattle.bdev.specs.DriverState.{plan};
 ghost use Rattle.bdev.specs.Promises.{AcceptKeeps, IsDriver, StepKeeps};
-ghost use Rattle.modeldisk.specs.Order.{order_in};
-ghost use Rattle.modeldisk.specs.Mover.{left_of};
+ghost use Rattle.sector_mover.specs.Order.{order_in};
+ghost use Rattle.sector_mover.specs.Mover.{left_of};
 
-use crate::fault::{Fault, FaultKind};
+use crate::fault::{Fault, FaultKind, play};
 use crate::model::ModelDriver;
-use crate::mover::Mover;
 use crate::ram::RamDriver;
 use bdev::{Accept, BlockDriver, Step};
 use media::Media;
 use message::BlockRequest;
+use sector_mover::mover::Mover;
 
 /// The driver that a script is played on.
 #[derive(Drop)]
@@ -108,7 +108,7 @@ impl BlockDriver for ScriptedDriver {
     {
         match self.due() {
             None => self.mover.step(media, generation),
-            Some(kind) => self.mover.fault(kind, media, generation),
+            Some(kind) => play(&mut self.mover, kind, media, generation),
         }
     }
 }

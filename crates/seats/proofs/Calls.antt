@@ -12,7 +12,7 @@ use Rattle.file_server.specs.legal.Legal.{IsAtFirst}
 use Rattle.file_server.specs.legal.Session.{Seen, SessionState, SessionCallKeeps, EndsWith, IsMadeFor, calls_of}
 use Rattle.file_server.specs.Over.{outcome_of}
 use Rattle.file_server.specs.reissue.Calls.{Truth}
-use Rattle.shared_server.specs.Held.{IsGood, IsGuaranteed, IsSound}
+use Rattle.shared_server.specs.held_server.Held.{IsGood, IsGuaranteed, IsSound}
 use Rattle.script_play.specs.Made.{call_made}
 use Rattle.script_play.specs.Turns.{IsUnplayed}
 use Rattle.seats.specs.Vouched.{Vouched}

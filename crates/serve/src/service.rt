@@ -5,8 +5,8 @@ ghost use Rattle.std.specs.Arc.{arc_value};
 ghost use Rattle.board.specs.marks.Opening.{contents_at};
 ghost use Rattle.tree.specs.Tree.{Tree};
 ghost use Rattle.board.specs.legal.Legal.{IsAtFirst};
-ghost use Rattle.shared_server.specs.Stopping.{IsLastImage, IsSyncedImage, Went, WhyNotSynced};
-ghost use Rattle.shared_server.specs.Held.{IsAdmitted, IsGood, IsGuaranteed, IsHeld, IsNotAdmitted};
+ghost use Rattle.shared_server.specs.held_server.Stopping.{IsLastImage, IsSyncedImage, Went, WhyNotSynced};
+ghost use Rattle.shared_server.specs.held_server.Held.{IsAdmitted, IsGood, IsGuaranteed, IsHeld, IsNotAdmitted};
 
 use crate::session::Session;
 use board::Board;

@@ -10,8 +10,8 @@ ghost use Rattle.board.specs.legal.Session.{caller_of, SessionCallKeeps, DeviceK
 ghost use Rattle.board.specs.Words.{is_given_up};
 ghost use Rattle.file_server.specs.Over.{outcome_of};
 ghost use Rattle.serve.specs.Closing.{ClosesBelow, ClosesOne};
-ghost use Rattle.shared_server.specs.Descriptors.{leaves_open};
-ghost use Rattle.shared_server.specs.Held.{HasEnded, IsCutAtEnd, IsEioOnceGivenUp, IsGuaranteed, IsSound};
+ghost use Rattle.shared_server.specs.held_server.Descriptors.{leaves_open};
+ghost use Rattle.shared_server.specs.held_server.Held.{HasEnded, IsCutAtEnd, IsEioOnceGivenUp, IsGuaranteed, IsSound};
 
 use crate::service::Shared;
 use board::{Board, Device, Seat};
@@ -45,7 +45,7 @@ impl<N: Room, S> Model for Session<N, S> {
     ghost use Rattle.std.specs.Arc.{arc_value};
     ghost use Rattle.board.specs.legal.Session.{SessionState};
     ghost use Rattle.board.specs.View.{session_for};
-    ghost use Rattle.shared_server.specs.Descriptors.{AreLeftOpen};
+    ghost use Rattle.shared_server.specs.held_server.Descriptors.{AreLeftOpen};
 
     ghost Value = { SessionState };
 

@@ -8,10 +8,10 @@ use Rattle.reissue.specs.marks.Disk.{HasTrueReplies}
 use Rattle.reissue.specs.marks.Opening.{Opening, contents_at}
 use Rattle.file_server.specs.legal.Session.{SessionState}
 use Rattle.reissue.specs.declared.link.Link.{Ghosts as LinkWords}
-use Rattle.shared_server.specs.Stopping.{IsLastImage, Went, WhyNotSynced}
-use Rattle.shared_server.specs.declared.stopping.Stopped.{Stopped}
-use Rattle.shared_server.specs.declared.stopping.StopRefusal.{StopRefusal}
-use Rattle.shared_server.specs.declared.stopping.StopRefusal.TheVariants as stop
+use Rattle.shared_server.specs.held_server.Stopping.{IsLastImage, Went, WhyNotSynced}
+use Rattle.shared_server.specs.held_server.declared.stopping.Stopped.{Stopped}
+use Rattle.shared_server.specs.held_server.declared.stopping.StopRefusal.{StopRefusal}
+use Rattle.shared_server.specs.held_server.declared.stopping.StopRefusal.TheVariants as stop
 use Rattle.script_text.specs.declared.timed.TimedCall.{TimedCall}
 use Rattle.session_text.specs.declared.answers.Played.{Played}
 use Rattle.script_play.specs.Turns.{ArePlayed, InTurn, IsTurn}

@@ -9,11 +9,11 @@ use Rattle.reissue.specs.marks.Marks.{Mark, IsBeginning}
 use Rattle.reissue.specs.marks.Disk.{HasTrueReplies}
 use Rattle.reissue.specs.marks.Opening.{Opening, contents_at}
 use Rattle.file_server.specs.legal.Legal.{IsAtFirst}
-use Rattle.shared_server.specs.Held.{IsGood}
-use Rattle.shared_server.specs.Refusals.{session_refusal_name}
-use Rattle.shared_server.specs.Stopping.{SyncEnd, Went, WasGivenUp, WasCut, SyncTells}
-use Rattle.shared_server.specs.declared.stopping.StopRefusal.{StopRefusal}
-use Rattle.shared_server.specs.declared.stopping.StopRefusal.TheVariants as stop
+use Rattle.shared_server.specs.held_server.Held.{IsGood}
+use Rattle.shared_server.specs.held_server.Refusals.{session_refusal_name}
+use Rattle.shared_server.specs.held_server.Stopping.{SyncEnd, Went, WasGivenUp, WasCut, SyncTells}
+use Rattle.shared_server.specs.held_server.declared.stopping.StopRefusal.{StopRefusal}
+use Rattle.shared_server.specs.held_server.declared.stopping.StopRefusal.TheVariants as stop
 use Rattle.script_text.specs.declared.timed.TimedCall.{TimedCall}
 use Rattle.session_text.specs.declared.answers.Played.{Played}
 use Rattle.script_play.specs.Turns.{ArePlayed}

@@ -2,7 +2,7 @@
 
 ghost use Rattle.std.specs.Prelude.{◌≡◌, Some, IfErr, IfOk, map};
 ghost use Rattle.std.specs.Option.{option_map};
-ghost use Rattle.shared_server.specs.Stopping.{IsLastImage};
+ghost use Rattle.shared_server.specs.held_server.Stopping.{IsLastImage};
 ghost use Rattle.script_text.specs.Said.{said};
 ghost use Rattle.script_play.specs.Turns.{ArePlayed, seen_by};
 ghost use Rattle.seats.specs.Vouched.{Vouched};

@@ -9,19 +9,17 @@ ghost use Rattle.board.specs.legal.Session.{tally_of};
 ghost use Rattle.board.specs.View.{without};
 ghost use Rattle.board.specs.Steps.{SessionIsNew, SessionLearns};
 ghost use Rattle.file_server.specs.Over.{outcome_of};
-ghost use Rattle.shared_server.specs.Held.{IsEioOnceGivenUp, IsGood, IsGuaranteed, IsHeld, IsNotAdmitted, IsServedCall, IsSound};
-ghost use Rattle.shared_server.specs.Stopping.{IsLastImage, IsSyncedImage, Went, WhyNotSynced};
-ghost use Rattle.keeping.specs.Keeper.{AreAllUsed, IsLowestFree, IsOneFree};
+ghost use Rattle.held_server.specs.Held.{IsEioOnceGivenUp, IsGood, IsGuaranteed, IsHeld, IsNotAdmitted, IsServedCall, IsSound};
+ghost use Rattle.held_server.specs.Stopping.{IsLastImage, IsSyncedImage, Went, WhyNotSynced};
+ghost use Rattle.held_server.specs.keeping.Keeper.{AreAllUsed, IsLowestFree, IsOneFree};
 
-use crate::left_open::{is_cut, was_done};
-use crate::refusal::SessionRefusal;
-use crate::sharing::{admit, count_call, release, show};
-use crate::stopping::{StopRefusal, Stopped};
 use board::Seat;
 use file_server::FileServer;
-use keeping::recorder::Recorder;
-use keeping::room::Room;
-use keeping::steady::OnMedia;
+use held_server::left_open::{is_cut, was_done};
+use held_server::refusal::SessionRefusal;
+use held_server::sharing::{admit, count_call, release, show};
+use held_server::stopping::{StopRefusal, Stopped};
+use held_server::{OnMedia, Recorder, Room};
 use std::alloc::Global;
 use std::marker::{Model, PhantomData};
 use tree::{Call, Outcome, Who};
@@ -35,7 +33,7 @@ pub struct Locked<N: Room, L: Recorder<N>, S: FileServer<L>> {
 }
 
 impl<N: Room, L: Recorder<N>, S: FileServer<L>> Model for Locked<N, L, S> {
-    ghost use Rattle.shared_server.specs.Held.{IsHeld as IsHeldFor};
+    ghost use Rattle.held_server.specs.Held.{IsHeld as IsHeldFor};
 
     ghost Value = { L };
 

@@ -3,7 +3,7 @@ use Rattle.tree.specs.Answers.{answer_of}
 use Rattle.board.specs.marks.Opening.{contents_at}
 use Rattle.board.specs.legal.Legal.{IsAtFirst}
 use Rattle.file_server.specs.Over.{outcome_of}
-use Rattle.shared_server.proofs.HeldLaws.{cut_given, eio_after, eio_given, held_after, held_sound, held_guaranteed, session_answered, session_cut}
+use Rattle.held_server.proofs.HeldLaws.{cut_given, eio_after, eio_given, held_after, held_sound, held_guaranteed, session_answered, session_cut}
 use Rattle.shared_server.proofs.locked.Locked.call.Goals as goal
 
 pub invariant_of-self : goal.invariant_of-self

@@ -1,0 +1,4 @@
+pub mod Order
+pub mod Transfer
+pub mod Mover
+pub mod Laws
