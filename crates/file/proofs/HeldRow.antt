@@ -23,7 +23,7 @@ use Rattle.cutting.proofs.zone.zone_laws.Keeps.{weaker}
 use Rattle.cutting.proofs.zone.zone_laws.Missing.{page_takes_missing}
 use Rattle.cutting.specs.zone.Pages.{MayHold}
 use Rattle.cutting.specs.zone.Files.{AttachesPage}
-use Rattle.cutting.specs.zone.Parts.{HasZones}
+use Rattle.cutting.specs.zone.zone_places.Parts.{HasZones}
 use Rattle.cutting.proofs.zone.Attaching.{page_attached}
 use Rattle.file.specs.Writing.{MayWrite, IsPageZone, WritesPage}
 use Rattle.file.specs.Changing.{MayWriteInside, WritesInside, IsHeldRow}

@@ -12,7 +12,7 @@ use Rattle.store.specs.volume.Pieces.{Pieces}
 use Rattle.store.specs.volume.Nodes.{file_of, file_byte, page_byte, page_zone}
 use Rattle.store.specs.declared.Cut.{Cut}
 use Rattle.store.specs.Rows.{HasBytes}
-use Rattle.cutting.specs.zone.Parts.{HasZones}
+use Rattle.cutting.specs.zone.zone_places.Parts.{HasZones}
 use Rattle.file.specs.Reading.{HasFileBytes}
 use Rattle.file.proofs.Parts.{index_before, index_inside}
 use borrow.Rule.Slice.PartMut.{put_mid}

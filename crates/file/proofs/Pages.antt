@@ -8,7 +8,7 @@ use Rattle.store.specs.volume.Reading.{Disk, is_data_zone}
 use Rattle.store.specs.volume.Pieces.{pieces}
 use Rattle.store.specs.volume.Nodes.{page_byte}
 use Rattle.store.specs.Rows.{HasBytes}
-use Rattle.cutting.proofs.zone.Frames.{zone_bounds, zone_row}
+use Rattle.cutting.proofs.zone.zone_places.Frames.{zone_bounds, zone_row}
 
 -- a page that lies in a data zone has the bytes that stand there
 pub bytes_inside : (g : Geometry) → IsGeometry g → (d : Disk) (z w from : ℕ) (bytes : List ℕ) → IsTrue (is_data_zone g z) → z ≡ w

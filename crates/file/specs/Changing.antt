@@ -13,7 +13,7 @@ use Rattle.store.specs.volume.Pieces.{Pieces, pieces}
 use Rattle.store.specs.volume.Nodes.{file_of, is_marked, nodes_of, page_zone}
 use Rattle.cutting.specs.zone.zone_laws.Steps.{IsSoundBut, node_from, marked_in}
 use Rattle.cutting.specs.zone.zone_laws.Chunks.{grown, resized}
-use Rattle.cutting.specs.zone.Parts.{HasZones}
+use Rattle.cutting.specs.zone.zone_places.Parts.{HasZones}
 use Rattle.store.specs.Volume.{SameHead}
 
 -- a marked inode of a volume of which directory n may be out of order

@@ -4,7 +4,7 @@ ghost use Rattle.std.specs.Prelude.{◌≡◌, ◌≢◌, ◌<◌, ◌≤◌, �
 ghost use Rattle.store.specs.volume.Pieces.{pieces};
 ghost use Rattle.store.specs.World.{Reads};
 ghost use Rattle.store.specs.Volume.{IsOn};
-ghost use Rattle.cutting.specs.zone.Parts.{HasZones};
+ghost use Rattle.cutting.specs.zone.zone_places.Parts.{HasZones};
 
 use cutting::inodes::Inode;
 use cutting::zones::lookup_row;

@@ -2,7 +2,7 @@ use Rattle.std.proofs.Common.{◌≡◌, ◌<◌, ◌≤◌, ◌+◌, ◌-◌, �
 use Rattle.store.specs.volume.Pieces.{pieces}
 use Rattle.store.specs.volume.Nodes.{file_of}
 use Rattle.store.specs.World.{Reads}
-use Rattle.cutting.specs.zone.Parts.{HasZones}
+use Rattle.cutting.specs.zone.zone_places.Parts.{HasZones}
 use Rattle.file.specs.Reading.{HasFileBytes}
 use Rattle.file.proofs.reading.read_row.Given as goal
 

@@ -2,8 +2,8 @@ use Rattle.std.proofs.Common.{rules, ◌≡◌, ◌≤◌, ◌+◌, ◌-◌, ◌
 use Rattle.store.specs.volume.Pieces.{pieces}
 use Rattle.zone_laws.proofs.volume_laws.Volumes.{numbers_sized}
 use Rattle.store.proofs.Turns.{reads_none, reads_then, if_cut}
-use Rattle.zone.proofs.Rows.{direct_row, row_found}
-use Rattle.zone.proofs.places.lookup_row.Goals as goal
+use Rattle.zone_places.proofs.Rows.{direct_row, row_found}
+use Rattle.zone_places.proofs.places.lookup_row.Goals as goal
 
 pub returns-then-page-first-clause-reads : goal.returns-then-page-first-clause-reads
 returns-then-page-first-clause-reads g c =

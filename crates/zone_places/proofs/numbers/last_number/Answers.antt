@@ -2,8 +2,8 @@ use Rattle.std.proofs.Common.{rules}
 use Rattle.std.specs.Prelude.{IsTrue}
 use Rattle.store.specs.volume.Reading.{is_data_zone}
 use Rattle.store.proofs.Turns.{turns_as, turns_seen}
-use Rattle.zone.proofs.Frames.{last_number_is}
-use Rattle.zone.proofs.numbers.last_number.Goals as goal
+use Rattle.zone_places.proofs.Frames.{last_number_is}
+use Rattle.zone_places.proofs.numbers.last_number.Goals as goal
 
 pub returns-clause-reads : goal.returns-clause-reads
 returns-clause-reads g c =

@@ -13,10 +13,10 @@ use Rattle.store.specs.volume.Pieces.{Pieces, pieces}
 use Rattle.store.specs.volume.Nodes.{number}
 use Rattle.store.specs.volume.Places.{zone_at}
 use Rattle.zone_laws.specs.Steps.{first_places}
-use Rattle.zone.specs.Parts.{HasNumbers, HasZones}
-use Rattle.zone.specs.Words.{HasWords}
-use Rattle.zone.proofs.Frames.{number_outside, number_inside}
-use Rattle.zone.proofs.Levels.{zone_inner, found_outer}
+use Rattle.zone_places.specs.Parts.{HasNumbers, HasZones}
+use Rattle.zone_places.specs.Words.{HasWords}
+use Rattle.zone_places.proofs.Frames.{number_outside, number_inside}
+use Rattle.zone_places.proofs.Levels.{zone_inner, found_outer}
 
 -- the numbers in a block's bytes are the block's
 pub numbers_inside : (g : Geometry) → IsGeometry g → (d : Disk) (z from : ℕ) (bytes words : List ℕ) → IsTrue (is_data_zone g z) → d z ≡ slice_index bytes

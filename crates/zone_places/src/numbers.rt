@@ -11,8 +11,8 @@ ghost use Rattle.store.specs.Rows.{with_bytes};
 ghost use Rattle.store.specs.Halts.{Ends, IsHalt};
 ghost use Rattle.store.specs.Volume.{IsOn, Alters};
 ghost use Rattle.store.specs.Regions.{with_zone};
-ghost use Rattle.zone.specs.Parts.{with_number, HasNumbers, IsLastNumber};
-ghost use Rattle.zone.specs.Words.{HasWords, IsLastWord};
+ghost use Rattle.zone_places.specs.Parts.{with_number, HasNumbers, IsLastNumber};
+ghost use Rattle.zone_places.specs.Words.{HasWords, IsLastWord};
 
 use layout::{Geometry, u32_at};
 use store::words::{clear, read_u32, write_bytes, write_u32};

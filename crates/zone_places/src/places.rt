@@ -9,7 +9,7 @@ ghost use Rattle.store.specs.volume.Places.{zone_at};
 ghost use Rattle.store.specs.World.{Reads};
 ghost use Rattle.store.specs.Volume.{IsOn};
 ghost use Rattle.zone_laws.specs.Steps.{first_places, slot_of};
-ghost use Rattle.zone.specs.Parts.{HasZones};
+ghost use Rattle.zone_places.specs.Parts.{HasZones};
 
 use crate::numbers::{number, numbers, numbers_in_zone};
 use inode_table::Inode;

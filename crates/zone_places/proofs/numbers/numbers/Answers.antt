@@ -2,8 +2,8 @@ use Rattle.std.proofs.Common.{rules, ◌≡◌, ◌<◌, ℕ, length, false}
 use Rattle.std.specs.Prelude.{IsTrue, slice_index}
 use Rattle.store.specs.volume.Reading.{is_data_zone}
 use Rattle.store.proofs.Turns.{turns_as, turns_seen, reads_none}
-use Rattle.zone.proofs.Rows.{numbers_inside, numbers_outside}
-use Rattle.zone.proofs.numbers.numbers.Goals as goal
+use Rattle.zone_places.proofs.Rows.{numbers_inside, numbers_outside}
+use Rattle.zone_places.proofs.numbers.numbers.Goals as goal
 
 pub returns-then-not-is_data_zone-clause-reads : goal.returns-then-not-is_data_zone-clause-reads
 returns-then-not-is_data_zone-clause-reads g c =

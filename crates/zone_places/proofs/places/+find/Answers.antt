@@ -1,8 +1,8 @@
 use Rattle.store.specs.volume.Pieces.{pieces}
 use Rattle.zone_laws.proofs.volume_laws.Volumes.{numbers_sized}
 use Rattle.store.proofs.Turns.{reads_then, if_ok}
-use Rattle.zone.proofs.Levels.{found_outer}
-use Rattle.zone.proofs.places.+find.Goals as goal
+use Rattle.zone_places.proofs.Levels.{found_outer}
+use Rattle.zone_places.proofs.places.+find.Goals as goal
 
 pub returns-clause-reads : goal.returns-clause-reads
 returns-clause-reads g t c =

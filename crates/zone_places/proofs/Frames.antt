@@ -12,8 +12,8 @@ use Rattle.layout.specs.Bytes.{u32_at}
 use Rattle.store.specs.tree.Space.{numbers_in_zone}
 use Rattle.store.specs.Rows.{with_bytes, written, cleared}
 use Rattle.store.specs.Volume.{Alters}
-use Rattle.zone.specs.Parts.{IsLastNumber}
-use Rattle.zone.specs.Words.{IsLastWord}
+use Rattle.zone_places.specs.Parts.{IsLastNumber}
+use Rattle.zone_places.specs.Words.{IsLastWord}
 use Rattle.store.specs.Regions.{with_zone}
 use Rattle.store.proofs.Alone.{in_zone}
 
