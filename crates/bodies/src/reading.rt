@@ -6,7 +6,7 @@ ghost use Rattle.tree.specs.FileCalls.{read, bytes_read};
 ghost use Rattle.tree.specs.Answers.{answer_of, refused};
 ghost use Rattle.store.specs.volume.Nodes.{file_of};
 ghost use Rattle.store.specs.volume.Pieces.{pieces};
-ghost use Rattle.file.specs.Reading.{read_count};
+ghost use Rattle.file.specs.file_pages.Reading.{read_count};
 ghost use Rattle.descriptors.specs.Files.{HasFiles};
 ghost use Rattle.descriptors.specs.Table.{files_of};
 ghost use Rattle.store.specs.World.{Turns, Reads};

@@ -4,9 +4,10 @@ use Rattle.layout.specs.declared.Geometry.{Geometry}
 use Rattle.tree.specs.Tree.{File}
 use Rattle.store.specs.volume.Reading.{Disk}
 use Rattle.store.specs.volume.Pieces.{Pieces, pieces}
-use Rattle.file.specs.Changing.{MayChange, BecomesFile, MayWriteAt, WritesAt, SetsSize, Stamps, file_at, written_at, stamped}
+use Rattle.file.specs.file_pages.Changing.{MayChange, BecomesFile, SetsSize, Stamps, file_at, stamped}
+use Rattle.file.specs.Changing.{MayWriteAt, WritesAt, written_at}
 use Rattle.file_room.specs.Room.{IsRoom}
-use Rattle.file.proofs.Becoming.{becomes, becomes_then, may_change_after}
+use Rattle.file.proofs.file_pages.Becoming.{becomes, becomes_then, may_change_after}
 use Rattle.byte_bodies.specs.Dated.{WritesIfRoom, SetsSizeAt}
 
 -- a change that keeps the attributes, and then the times

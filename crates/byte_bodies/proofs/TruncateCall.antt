@@ -23,7 +23,7 @@ use Rattle.store.specs.volume.Holds.{HoldsVolume}
 use Rattle.file.specs.zone_laws.Steps.{node_from}
 use Rattle.path.specs.Wishes.{IsWhose}
 use Rattle.descriptors.specs.Files.{Files, HasFiles}
-use Rattle.file.specs.Changing.{MayChange, file_at, stamped}
+use Rattle.file.specs.file_pages.Changing.{MayChange, file_at, stamped}
 use Rattle.bodies.specs.Does.{IsHeld, Does}
 use Rattle.bodies.proofs.Made.{refused_made, granted_made}
 use Rattle.node_bodies.specs.Named.{Finds}

@@ -28,8 +28,9 @@ use Rattle.store.specs.volume.Holds.{HoldsVolume}
 use Rattle.file.specs.zone_laws.Steps.{node_from}
 use Rattle.file.specs.zone_laws.Room.{taken_by}
 use Rattle.descriptors.specs.Files.{Files, HasFiles, file_at as open_at, moved}
-use Rattle.file.specs.Changing.{MayChange, HasZonesFor, file_at, written_at, stamped}
-use Rattle.file.proofs.Rest.{wide}
+use Rattle.file.specs.file_pages.Changing.{MayChange, file_at, stamped}
+use Rattle.file.specs.Changing.{HasZonesFor, written_at}
+use Rattle.file.proofs.file_pages.Rest.{wide}
 use Rattle.file.proofs.Spaces.{room_is_space}
 use Rattle.bodies.specs.declared.found.Found.{Found}
 use Rattle.bodies.specs.Found.{file_of as open_file}

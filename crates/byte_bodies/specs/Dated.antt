@@ -5,7 +5,8 @@ use Rattle.tree.specs.Changes.{file_after_resize}
 use Rattle.store.specs.volume.Reading.{Disk}
 use Rattle.store.specs.volume.Pieces.{pieces}
 use Rattle.store.specs.Volume.{SameHead}
-use Rattle.file.specs.Changing.{MayChange, BecomesFile, HasZonesFor, file_at, written_at, stamped}
+use Rattle.file.specs.file_pages.Changing.{MayChange, BecomesFile, file_at, stamped}
+use Rattle.file.specs.Changing.{HasZonesFor, written_at}
 
 -- Where there are zones enough, these bytes are written into the file of inode n at `now`; where not, nothing is changed. x says which.
 pub record WritesIfRoom (g : Geometry) (n at : ℕ) (bytes : List ℕ) (now : ℕ) (x : Bool) (d e : Disk) : Type 0 where

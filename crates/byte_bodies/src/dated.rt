@@ -5,7 +5,7 @@ ghost use Rattle.store.specs.volume.Pieces.{pieces};
 ghost use Rattle.store.specs.World.{Turns};
 ghost use Rattle.store.specs.Volume.{IsOn};
 ghost use Rattle.store.specs.Halts.{Ends, IsHalt};
-ghost use Rattle.file.specs.Changing.{MayChange};
+ghost use Rattle.file.specs.file_pages.Changing.{MayChange};
 ghost use Rattle.byte_bodies.specs.Dated.{WritesIfRoom, SetsSizeAt};
 
 use file::{set_size, stamp, write_at};

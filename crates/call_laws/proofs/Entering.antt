@@ -17,7 +17,8 @@ use Rattle.node_steps.specs.volume.Pieces.{Pieces, pieces}
 use Rattle.node_steps.specs.volume.Nodes.{directory_of, file_of, is_directory_mode, is_marked, nodes_of, page_zone}
 use Rattle.node_steps.specs.zone_laws.Room.{taken_by}
 use Rattle.entries.specs.entry_laws.Directories.{before}
-use Rattle.node_steps.specs.file.Changing.{HasZonesFor, MayChange, written_at}
+use Rattle.node_steps.specs.file.file_pages.Changing.{MayChange}
+use Rattle.node_steps.specs.file.Changing.{HasZonesFor, written_at}
 use Rattle.node_steps.proofs.file.Spaces.{room_is_space}
 use Rattle.entries.proofs.directory.Pages.{each_size}
 use Rattle.entries.specs.Names.{IsOfDirectory}

@@ -10,7 +10,8 @@ use Rattle.entries.specs.tree.Space.{data_zones}
 use Rattle.node_steps.specs.volume.Reading.{Disk}
 use Rattle.node_steps.specs.volume.Pieces.{Pieces, pieces}
 use Rattle.node_steps.specs.zone_laws.Room.{taken_by}
-use Rattle.node_steps.specs.file.Changing.{HasZonesFor, MayChange, written_at}
+use Rattle.node_steps.specs.file.file_pages.Changing.{MayChange}
+use Rattle.node_steps.specs.file.Changing.{HasZonesFor, written_at}
 use Rattle.entries.specs.Names.{HasName, MayInsert}
 use Rattle.call_laws.specs.Stands.{Stands}
 

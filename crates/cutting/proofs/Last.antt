@@ -16,11 +16,11 @@ use Rattle.store.specs.volume.Nodes.{slot, word, number}
 use Rattle.store.specs.volume.Places.{zone_at}
 use Rattle.zone.proofs.zone_laws.volume_laws.Sums.{some_witness}
 use Rattle.zone.specs.zone_laws.Steps.{first_places, slot_of, above, beside}
-use Rattle.zone.specs.Parts.{IsLastNumber}
+use Rattle.zone.specs.zone_places.Parts.{IsLastNumber}
 use Rattle.zone.specs.Pages.{child_at, place_count}
 use Rattle.cutting.specs.Slots.{IsLastSlot}
 use Rattle.cutting.specs.Files.{IsLastAt, IsFull, IsLastHeld}
-use Rattle.zone.proofs.Levels.{zone_inner, zone_outer, zone_top}
+use Rattle.zone.proofs.zone_places.Levels.{zone_inner, zone_outer, zone_top}
 
 -- a child of a level's place is a place of the next level
 pub child_within : (g : Geometry) (l k j : ℕ) → l < 3 → k < place_count g (l + 1) → j < numbers_in_zone g → child_at g l k j < place_count g l

@@ -1,6 +1,6 @@
 pub use Rattle.entry_laws.proofs as entry_laws
 pub use Rattle.entry_laws.proofs.tree_laws as tree_laws
-pub use Rattle.zone.proofs.zone_laws as zone_laws
+pub use Rattle.zone_places.proofs.zone_laws as zone_laws
 pub mod Names
 pub mod Scans
 pub mod Pages

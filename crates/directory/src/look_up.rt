@@ -15,8 +15,8 @@ use inode::Inode;
 use layout::Geometry;
 use store::words::read_bytes;
 use store::{Blocks, Cut, Halt};
-use zone::numbers::is_data_zone;
-use zone::places::lookup;
+use zone_places::numbers::is_data_zone;
+use zone_places::places::lookup;
 
 /// The inode number of the last entry of a page, from one entry on to another, that has a name. In a page without a data zone no entry
 /// has one.

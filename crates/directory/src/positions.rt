@@ -11,8 +11,8 @@ use crate::entries::is_named;
 use inode::Inode;
 use layout::Geometry;
 use store::{Blocks, Cut};
-use zone::numbers::is_data_zone;
-use zone::places::lookup;
+use zone_places::numbers::is_data_zone;
+use zone_places::places::lookup;
 
 /// The first of the entries of some bytes, from one on to another, that has a name.
 fn position_in(bytes: &[u8], from: usize, to: usize, name: &[u8]) -> Option<usize>

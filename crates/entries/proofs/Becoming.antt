@@ -22,8 +22,9 @@ use Rattle.file.proofs.zone_laws.Keeps.{sound_but_is_sound, sound_is_sound_but}
 use Rattle.directory.specs.entry_laws.Directories.{IsDirectoryOf, before}
 use Rattle.directory.specs.entry_laws.Files.{IsEntryBytes}
 use Rattle.directory.proofs.entry_laws.Writes.{file_inserted, file_reparented}
-use Rattle.file.specs.Changing.{MayChange, BecomesFile, HasZonesFor, MayWriteAt, WritesAt, Stamps, stamped, file_at, written_at}
-use Rattle.file.proofs.Becoming.{becomes_then, may_change_after}
+use Rattle.file.specs.file_pages.Changing.{MayChange, BecomesFile, Stamps, stamped, file_at}
+use Rattle.file.specs.Changing.{HasZonesFor, MayWriteAt, WritesAt, written_at}
+use Rattle.file.proofs.file_pages.Becoming.{becomes_then, may_change_after}
 use Rattle.directory.proofs.Pages.{each_size}
 use Rattle.entries.proofs.Standing.{stands_last, dots_set}
 use Rattle.entries.specs.Names.{IsOfDirectory, BecomesNode, NamesBecome, node_at, MayInsert, Inserts, MaySetParent, SetsParent}

@@ -15,7 +15,8 @@ use Rattle.directory.proofs.entry_laws.Rows.{entry_of_name}
 use Rattle.directory.proofs.entry_laws.Text.{field_is_name}
 use Rattle.directory.proofs.entry_laws.Writes.{file_retargeted}
 use Rattle.directory.specs.Standing.{NoneNamed, IsNamed}
-use Rattle.file.specs.Changing.{MayWriteAt, WritesAt, Stamps, written_at}
+use Rattle.file.specs.file_pages.Changing.{Stamps}
+use Rattle.file.specs.Changing.{MayWriteAt, WritesAt, written_at}
 use Rattle.entries.specs.Places.{IsPlaced}
 use Rattle.entries.specs.Names.{HasName, MayReplace, Replaces}
 use Rattle.entries.proofs.Standing.{number_set}

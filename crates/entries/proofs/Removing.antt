@@ -11,8 +11,9 @@ use Rattle.store.specs.volume.Nodes.{file_byte}
 use Rattle.store.specs.Rows.{HasBytes}
 use Rattle.directory.specs.entry_laws.Directories.{IsDirectoryOf, before}
 use Rattle.directory.proofs.entry_laws.Writes.{file_removed}
-use Rattle.file.specs.Changing.{BecomesFile, MayChange, MayWriteAt, WritesAt, SetsSize, Stamps, written_at}
-use Rattle.file.proofs.Becoming.{may_change_after, becomes_again}
+use Rattle.file.specs.file_pages.Changing.{BecomesFile, MayChange, SetsSize, Stamps}
+use Rattle.file.specs.Changing.{MayWriteAt, WritesAt, written_at}
+use Rattle.file.proofs.file_pages.Becoming.{may_change_after, becomes_again}
 use Rattle.entries.specs.Places.{IsPlaced}
 use Rattle.entries.specs.Names.{HasName}
 use Rattle.entries.specs.Removal.{MayDrop, CopiesLast, Drops, Removes}

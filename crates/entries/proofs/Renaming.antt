@@ -13,7 +13,8 @@ use Rattle.directory.specs.entry_laws.Rows.{has_field}
 use Rattle.directory.proofs.entry_laws.Directories.{directory_is_row, renamed}
 use Rattle.directory.proofs.entry_laws.Rows.{found_at}
 use Rattle.directory.proofs.entry_laws.Text.{name_is_field}
-use Rattle.file.specs.Changing.{MayWriteAt, WritesAt, Stamps, written_at}
+use Rattle.file.specs.file_pages.Changing.{Stamps}
+use Rattle.file.specs.Changing.{MayWriteAt, WritesAt, written_at}
 use Rattle.entries.specs.Places.{IsPlaced, IsNameBytes}
 use Rattle.entries.specs.Names.{IsOfDirectory, HasName, MayRename, Renames}
 use Rattle.entries.proofs.Standing.{name_set, name_entry, name_size}

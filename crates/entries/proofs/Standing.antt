@@ -18,7 +18,7 @@ use Rattle.directory.specs.entry_laws.Files.{IsEntryBytes, IsCopy}
 use Rattle.directory.specs.entry_laws.Rows.{SetsEntry, DropsEntry}
 use Rattle.directory.proofs.entry_laws.Files.{write_sets_entry, write_sets_number, write_drops_entry}
 use Rattle.directory.proofs.entry_laws.Text.{bytes_of_good, bytes_of_field}
-use Rattle.file.specs.Changing.{file_at}
+use Rattle.file.specs.file_pages.Changing.{file_at}
 use Rattle.entries.specs.Places.{IsPlaced, IsNameBytes, StandsLast, KeepsPlace, LastTakesPlace}
 
 -- the bytes that a write leaves as they are

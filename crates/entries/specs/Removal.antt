@@ -10,7 +10,8 @@ use Rattle.store.specs.volume.Entries.{entry_count}
 use Rattle.store.specs.Volume.{SameHead}
 use Rattle.directory.specs.entry_laws.Directories.{row_of}
 use Rattle.directory.specs.entry_laws.Files.{IsCopy}
-use Rattle.file.specs.Changing.{BecomesFile, written_at}
+use Rattle.file.specs.file_pages.Changing.{BecomesFile}
+use Rattle.file.specs.Changing.{written_at}
 use Rattle.entries.specs.Places.{LastTakesPlace}
 use Rattle.entries.specs.Names.{IsOfDirectory, HasName, NamesBecome}
 

@@ -18,22 +18,23 @@ use Rattle.store.specs.volume.Pieces.{Pieces, pieces}
 use Rattle.store.specs.volume.Nodes.{file_byte, page_byte, page_zone}
 use Rattle.store.specs.Rows.{with_bytes}
 use Rattle.store.proofs.Rows.{row_new, row_old}
-use Rattle.cutting.specs.zone.zone_laws.Steps.{with_page}
-use Rattle.cutting.specs.zone.zone_laws.Raw.{with_bytes as with_page_bytes}
-use Rattle.cutting.specs.zone.zone_laws.Chunks.{grown, resized, Replaces}
-use Rattle.cutting.specs.zone.zone_laws.Composite.{Attached}
-use Rattle.cutting.proofs.zone.zone_laws.Chunks.{chunk_is_written}
-use Rattle.cutting.proofs.zone.zone_laws.Fewer.{need_less}
-use Rattle.cutting.proofs.zone.zone_laws.Missing.{page_takes_missing}
-use Rattle.cutting.proofs.zone.zone_laws.Keeps.{weaker}
-use Rattle.cutting.proofs.zone.zone_laws.Files.{same_file}
-use Rattle.cutting.specs.zone.Pages.{MayHold}
-use Rattle.cutting.specs.zone.Files.{AttachesPage}
-use Rattle.file.specs.Writing.{MayWrite, IsPageZone, PageIsWritten, WritesPage, with_chunk}
-use Rattle.file.specs.Changing.{MayChange, BecomesFile, file_at, written_at, MayWriteInside, WritesInside}
-use Rattle.file.proofs.Becoming.{becomes, becomes_again, may_change_after}
-use Rattle.file.proofs.Rest.{wide}
-use Rattle.file.proofs.Sizes.{covered, page_begins}
+use Rattle.file_pages.specs.cutting.zone.zone_laws.Steps.{with_page}
+use Rattle.file_pages.specs.cutting.zone.zone_laws.Raw.{with_bytes as with_page_bytes}
+use Rattle.file_pages.specs.cutting.zone.zone_laws.Chunks.{grown, resized, Replaces}
+use Rattle.file_pages.specs.cutting.zone.zone_laws.Composite.{Attached}
+use Rattle.file_pages.proofs.cutting.zone.zone_laws.Chunks.{chunk_is_written}
+use Rattle.file_pages.proofs.cutting.zone.zone_laws.Fewer.{need_less}
+use Rattle.file_pages.proofs.cutting.zone.zone_laws.Missing.{page_takes_missing}
+use Rattle.file_pages.proofs.cutting.zone.zone_laws.Keeps.{weaker}
+use Rattle.file_pages.proofs.cutting.zone.zone_laws.Files.{same_file}
+use Rattle.file_pages.specs.cutting.zone.Pages.{MayHold}
+use Rattle.file_pages.specs.cutting.zone.Files.{AttachesPage}
+use Rattle.file_pages.specs.Writing.{MayWrite, IsPageZone, PageIsWritten, WritesPage, with_chunk}
+use Rattle.file_pages.specs.Changing.{MayChange, BecomesFile, file_at}
+use Rattle.file.specs.Changing.{written_at, MayWriteInside, WritesInside}
+use Rattle.file_pages.proofs.Becoming.{becomes, becomes_again, may_change_after}
+use Rattle.file_pages.proofs.Rest.{wide}
+use Rattle.file_pages.proofs.Sizes.{covered, page_begins}
 
 -- The bytes of a file past its end are 0.
 pub past_end : (g : Geometry) (v : Pieces) (i : Inode) (q : ℕ) → i.size ≤ q → file_byte g v i q ≡ 0

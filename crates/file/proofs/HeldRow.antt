@@ -14,18 +14,18 @@ use Rattle.store.specs.volume.Reading.{Disk}
 use Rattle.store.specs.volume.Pieces.{Pieces, pieces}
 use Rattle.store.specs.volume.Nodes.{file_of, page_zone}
 use Rattle.store.specs.Volume.{SameHead}
-use Rattle.cutting.specs.zone.zone_laws.Steps.{with_page}
-use Rattle.cutting.specs.zone.zone_laws.Composite.{Attached}
-use Rattle.cutting.proofs.zone.zone_laws.Raw.{no_attributes}
-use Rattle.cutting.proofs.zone.zone_laws.Stay.{places_stay, write_keeps_numbers}
-use Rattle.cutting.proofs.zone.zone_laws.Files.{same_file}
-use Rattle.cutting.proofs.zone.zone_laws.Keeps.{weaker}
-use Rattle.cutting.proofs.zone.zone_laws.Missing.{page_takes_missing}
-use Rattle.cutting.specs.zone.Pages.{MayHold}
-use Rattle.cutting.specs.zone.Files.{AttachesPage}
-use Rattle.cutting.specs.zone.Parts.{HasZones}
-use Rattle.cutting.proofs.zone.Attaching.{page_attached}
-use Rattle.file.specs.Writing.{MayWrite, IsPageZone, WritesPage}
+use Rattle.file_pages.specs.cutting.zone.zone_laws.Steps.{with_page}
+use Rattle.file_pages.specs.cutting.zone.zone_laws.Composite.{Attached}
+use Rattle.file_pages.proofs.cutting.zone.zone_laws.Raw.{no_attributes}
+use Rattle.file_pages.proofs.cutting.zone.zone_laws.Stay.{places_stay, write_keeps_numbers}
+use Rattle.file_pages.proofs.cutting.zone.zone_laws.Files.{same_file}
+use Rattle.file_pages.proofs.cutting.zone.zone_laws.Keeps.{weaker}
+use Rattle.file_pages.proofs.cutting.zone.zone_laws.Missing.{page_takes_missing}
+use Rattle.file_pages.specs.cutting.zone.Pages.{MayHold}
+use Rattle.file_pages.specs.cutting.zone.Files.{AttachesPage}
+use Rattle.file_pages.specs.cutting.zone.zone_places.Parts.{HasZones}
+use Rattle.file_pages.proofs.cutting.zone.Attaching.{page_attached}
+use Rattle.file_pages.specs.Writing.{MayWrite, IsPageZone, WritesPage}
 use Rattle.file.specs.Changing.{MayWriteInside, WritesInside, IsHeldRow}
 use Rattle.file.proofs.Chunk.{may_write, writes_chunk, chunk_zone}
 use Rattle.file.proofs.SoFar.{SoFar, so_far_none, may_front, may_go_on, goes_on, all_written}

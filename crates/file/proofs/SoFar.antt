@@ -14,14 +14,15 @@ use Rattle.store.specs.tree.ZonesNeeded.{zones_needed}
 use Rattle.store.specs.volume.declared.Inode.{Inode}
 use Rattle.store.specs.volume.Reading.{Disk}
 use Rattle.store.specs.volume.Pieces.{Pieces, pieces}
-use Rattle.cutting.specs.zone.zone_laws.Chunks.{grown, resized}
-use Rattle.cutting.proofs.zone.zone_laws.Chunks.{writes_join}
-use Rattle.cutting.proofs.zone.zone_laws.Fewer.{need_less}
-use Rattle.cutting.proofs.zone.zone_laws.Files.{same_file}
-use Rattle.file.specs.Changing.{MayChange, BecomesFile, file_at, written_at, MayWriteAt, MayWriteInside, WritesInside, WritesAt, MayResize, Resized, Grows}
-use Rattle.file.proofs.Becoming.{becomes_again, may_change_after}
-use Rattle.file.proofs.Rest.{wide, becomes_none}
-use Rattle.file.proofs.Sizes.{begins, covered}
+use Rattle.file_pages.specs.cutting.zone.zone_laws.Chunks.{grown, resized}
+use Rattle.file_pages.proofs.cutting.zone.zone_laws.Chunks.{writes_join}
+use Rattle.file_pages.proofs.cutting.zone.zone_laws.Fewer.{need_less}
+use Rattle.file_pages.proofs.cutting.zone.zone_laws.Files.{same_file}
+use Rattle.file_pages.specs.Changing.{MayChange, BecomesFile, file_at, MayResize, Resized}
+use Rattle.file.specs.Changing.{written_at, MayWriteAt, MayWriteInside, WritesInside, WritesAt, Grows}
+use Rattle.file_pages.proofs.Becoming.{becomes_again, may_change_after}
+use Rattle.file_pages.proofs.Rest.{wide, becomes_none}
+use Rattle.file_pages.proofs.Sizes.{begins, covered}
 use Rattle.file.proofs.Chunk.{past_end}
 
 -- Two writes, the second where the first ends.

@@ -13,15 +13,15 @@ use Rattle.store.proofs.tree.Maps.{put-same, put-other, same_sum, sum_put}
 use Rattle.store.specs.volume.Pieces.{Pieces}
 use Rattle.store.specs.volume.declared.Inode.{Inode}
 use Rattle.store.specs.volume.Nodes.{file_of, nodes_of}
-use Rattle.cutting.proofs.zone.zone_laws.volume_laws.Ranges.{marked_below}
-use Rattle.cutting.specs.zone.zone_laws.Steps.{node_from, marked_in}
-use Rattle.cutting.specs.zone.zone_laws.Room.{taken_by}
-use Rattle.cutting.proofs.zone.zone_laws.Room.{nodes_take_marked}
-use Rattle.cutting.proofs.zone.zone_laws.Files.{nodes_change_with}
-use Rattle.cutting.proofs.zone.zone_laws.Keeps.{sound_is_sound_but}
+use Rattle.file_pages.proofs.cutting.zone.zone_laws.volume_laws.Ranges.{marked_below}
+use Rattle.file_pages.specs.cutting.zone.zone_laws.Steps.{node_from, marked_in}
+use Rattle.file_pages.specs.cutting.zone.zone_laws.Room.{taken_by}
+use Rattle.file_pages.proofs.cutting.zone.zone_laws.Room.{nodes_take_marked}
+use Rattle.file_pages.proofs.cutting.zone.zone_laws.Files.{nodes_change_with}
+use Rattle.file_pages.proofs.cutting.zone.zone_laws.Keeps.{sound_is_sound_but}
 use Rattle.file.specs.Laws.{BytesAreRead, NodeTakesHeld, RoomIsSpace}
-use Rattle.file.specs.Reading.{read_count}
-use Rattle.file.proofs.Becoming.{plain, plain_inode, plain_sound, plain_takes}
+use Rattle.file_pages.specs.Reading.{read_count}
+use Rattle.file_pages.proofs.Becoming.{plain, plain_inode, plain_sound, plain_takes}
 
 -- the first bytes of a row, one by one
 firsts : (byte : ℕ → ℕ) (n at : ℕ) (bytes : List ℕ) → n ≤ length bytes → ((k : ℕ) → k < n → slice_index bytes k ≡ byte (at + k)) → take n bytes ≡ bytes_from byte at n

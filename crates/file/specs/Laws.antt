@@ -10,9 +10,10 @@ use Rattle.store.specs.tree.Space.{numbers_in_zone, data_zones, zones_of, held_o
 use Rattle.store.specs.volume.Pieces.{Pieces}
 use Rattle.store.specs.volume.Nodes.{is_marked, nodes_of}
 use Rattle.store.specs.volume.Holds.{IsSound}
-use Rattle.cutting.specs.zone.zone_laws.Room.{taken_by}
-use Rattle.file.specs.Reading.{HasFileBytes, read_count}
-use Rattle.file.specs.Changing.{file_at, HasZonesFor}
+use Rattle.file_pages.specs.cutting.zone.zone_laws.Room.{taken_by}
+use Rattle.file_pages.specs.Reading.{HasFileBytes, read_count}
+use Rattle.file_pages.specs.Changing.{file_at}
+use Rattle.file.specs.Changing.{HasZonesFor}
 
 -- The bytes that were read into a slice are those that a read of as many bytes as it is long gives.
 abbrev pub BytesAreRead : Type 0

@@ -1,7 +1,6 @@
--- What reading and writing files means.
-pub use Rattle.cutting.specs as cutting
-pub use Rattle.cutting.specs.zone.zone_laws as zone_laws
-pub mod Reading
-pub mod Writing
+-- What writing files means.
+pub use Rattle.file_pages.specs as file_pages
+pub use Rattle.file_pages.specs.cutting as cutting
+pub use Rattle.file_pages.specs.zone_laws as zone_laws
 pub mod Changing
 pub mod Laws

@@ -3,12 +3,10 @@
 
 pub mod changing;
 pub mod laws;
-pub mod reading;
-mod rows;
-pub mod writing;
 
-pub use changing::{set_size, stamp, write_at};
-// passed on: the inodes of a volume, and the zones of files
-pub use cutting::{inodes, zones};
-pub use reading::read_at;
-pub use writing::write_page;
+pub use changing::write_at;
+pub use file_pages::changing::{set_size, stamp};
+pub use file_pages::reading::read_at;
+pub use file_pages::writing::write_page;
+// passed on: reading, writing to one page, the inodes of a volume, and the zones of files
+pub use file_pages::{inodes, reading, writing, zones};

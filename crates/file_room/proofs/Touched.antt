@@ -14,10 +14,11 @@ use Rattle.bitmap.specs.Numbers.{count_free_in}
 use Rattle.bitmap.proofs.Counting.{free_taken}
 use Rattle.file_room.specs.Need.{or_from, NeedsMore}
 use Rattle.file.specs.cutting.Files.{IsFull}
-use Rattle.file.specs.Changing.{file_at, written_at}
+use Rattle.file.specs.file_pages.Changing.{file_at}
+use Rattle.file.specs.Changing.{written_at}
 use Rattle.file_room.specs.Room.{TakesMore, IsRoom, IsRoomBeside}
-use Rattle.file.proofs.Rest.{wide}
-use Rattle.file.proofs.Sizes.{in_order, ends_after}
+use Rattle.file.proofs.file_pages.Rest.{wide}
+use Rattle.file.proofs.file_pages.Sizes.{in_order, ends_after}
 
 -- the pages that some bytes touch
 module _ (w : ℕ) (fit : 0 < w) (at count : ℕ) (some : 0 < count) where

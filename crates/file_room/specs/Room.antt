@@ -5,7 +5,8 @@ use Rattle.store.specs.tree.ZonesNeeded.{zones_needed}
 use Rattle.store.specs.tree.Space.{numbers_in_zone, data_zones}
 use Rattle.store.specs.volume.Pieces.{Pieces}
 use Rattle.file.specs.cutting.zone.zone_laws.Steps.{marked_in}
-use Rattle.file.specs.Changing.{MayChange, file_at, written_at, HasZonesFor}
+use Rattle.file.specs.file_pages.Changing.{MayChange, file_at}
+use Rattle.file.specs.Changing.{written_at, HasZonesFor}
 
 -- The file of inode n takes x zones more when so many bytes are written from a place on.
 abbrev pub TakesMore : Geometry → Pieces → ℕ → ℕ → ℕ → ℕ → Type 0

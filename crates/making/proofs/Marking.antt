@@ -23,7 +23,7 @@ use Rattle.file.proofs.zone_laws.Inodes.{change_keeps, changed_nodes, no_slots_n
 use Rattle.file.proofs.zone_laws.Keeps.{sound_but_is_sound, sound_is_sound_but}
 use Rattle.file.proofs.zone_laws.Files.{same_file}
 use Rattle.entries.proofs.EntryBytes.{zero_at}
-use Rattle.file.specs.Changing.{MayChange, file_at}
+use Rattle.file.specs.file_pages.Changing.{MayChange, file_at}
 use Rattle.node_steps.specs.Steps.{BecomesAt}
 use Rattle.making.specs.NewNodes.{MakesFile, MayMakeFile, new_inode, with_new_inode}
 

@@ -28,7 +28,8 @@ use Rattle.entries.specs.entry_laws.Rows.{IsEntry}
 use Rattle.entries.specs.entry_laws.Directories.{IsDirectoryOf, IsWhole, row_of}
 use Rattle.entries.proofs.entry_laws.Directories.{new_directory}
 use Rattle.entries.proofs.directory.Pages.{each_size}
-use Rattle.file.specs.Changing.{BecomesFile, HasZonesFor, MayWriteAt, WritesAt, file_at, written_at}
+use Rattle.file.specs.file_pages.Changing.{BecomesFile, file_at}
+use Rattle.file.specs.Changing.{HasZonesFor, MayWriteAt, WritesAt, written_at}
 use Rattle.entries.specs.First.{AreFirstEntries}
 use Rattle.entries.proofs.Becoming.{body_is}
 use Rattle.entries.proofs.EntryBytes.{past}

@@ -15,7 +15,7 @@ use Rattle.store.specs.volume.Nodes.{node_of}
 use Rattle.store.specs.volume.Entries.{is_directory_inode}
 use Rattle.store.specs.volume.Holds.{HoldsVolume}
 use Rattle.walk.specs.entry_laws.Directories.{before}
-use Rattle.file_room.specs.file.Changing.{MayChange}
+use Rattle.file_room.specs.file.file_pages.Changing.{MayChange}
 use Rattle.call_laws.specs.Naming.{IsRoomForEntry}
 use Rattle.name_bodies.specs.declared.linking.Free.{Free}
 

@@ -24,7 +24,7 @@ use Rattle.walk.specs.zone_laws.Steps.{node_from}
 use Rattle.walk.proofs.zone_laws.Inodes.{inode_is}
 use Rattle.bodies.specs.Does.{Does, IsHeld}
 use Rattle.bodies.proofs.Made.{refused_made, granted_made}
-use Rattle.bodies.specs.file.Changing.{file_at}
+use Rattle.bodies.specs.file.file_pages.Changing.{file_at}
 use Rattle.node_bodies.specs.Named.{IsVolume, Finds}
 use Rattle.node_bodies.proofs.Volumes.{attributes_changed}
 

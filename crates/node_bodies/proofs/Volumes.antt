@@ -22,8 +22,8 @@ use Rattle.inode_table.specs.Table.{with_inode}
 use Rattle.walk.specs.zone_laws.Steps.{node_from}
 use Rattle.walk.proofs.zone_laws.Keeps.{sound_is_sound_but, sound_but_is_sound}
 use Rattle.walk.proofs.zone_laws.Files.{directory_kept}
-use Rattle.bodies.specs.file.Changing.{MayChange, BecomesFile, file_at}
-use Rattle.bodies.proofs.file.Resizing.{stored_becomes}
+use Rattle.bodies.specs.file.file_pages.Changing.{MayChange, BecomesFile, file_at}
+use Rattle.bodies.proofs.file.file_pages.Resizing.{stored_becomes}
 
 -- the superblock lies before the maps
 wide : (w : ℕ) → IsTrue (is_block_size w) → 1024 ≤ w

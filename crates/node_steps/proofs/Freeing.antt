@@ -25,7 +25,7 @@ use Rattle.file.specs.zone_laws.Steps.{IsSoundBut}
 use Rattle.file.specs.zone_laws.Inodes.{ChangesInode}
 use Rattle.file.proofs.zone_laws.Inodes.{change_keeps, changed_nodes}
 use Rattle.file.proofs.zone_laws.Keeps.{sound_but_is_sound}
-use Rattle.file.specs.Changing.{BecomesFile, SetsSize, file_at}
+use Rattle.file.specs.file_pages.Changing.{BecomesFile, SetsSize, file_at}
 use Rattle.node_steps.specs.Steps.{BecomesAt, FreesNode, IsOfNode}
 use Rattle.node_steps.proofs.Nodes.{put_twice}
 use Rattle.node_steps.proofs.Storing.{may_change}

@@ -17,8 +17,8 @@ use Rattle.file.specs.zone_laws.Steps.{node_from}
 use Rattle.file.proofs.zone_laws.Keeps.{sound_is_sound_but, sound_but_is_sound}
 use Rattle.file.proofs.zone_laws.Files.{directory_kept}
 use Rattle.file.proofs.zone_laws.Inodes.{inode_is}
-use Rattle.file.specs.Changing.{MayChange, BecomesFile, file_at}
-use Rattle.file.proofs.Resizing.{stored_becomes}
+use Rattle.file.specs.file_pages.Changing.{MayChange, BecomesFile, file_at}
+use Rattle.file.proofs.file_pages.Resizing.{stored_becomes}
 use Rattle.node_steps.specs.Steps.{AddsLink, BecomesAt, DropsLink, IsOfNode, MaySetAttributes, SetsAttributes, node_at}
 
 -- the file of a node may change

@@ -13,7 +13,7 @@ use Rattle.store.specs.volume.Holds.{IsSound}
 use Rattle.descriptors.specs.Files.{Files, tree_with}
 use Rattle.file.specs.zone_laws.Steps.{node_from}
 use Rattle.store.specs.Volume.{SameHead}
-use Rattle.file.specs.Changing.{file_at}
+use Rattle.file.specs.file_pages.Changing.{file_at}
 
 -- a marked inode of a sound volume
 pub record IsOfNode (g : Geometry) (v : Pieces) (n : ℕ) : Type 0 where

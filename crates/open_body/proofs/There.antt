@@ -23,7 +23,7 @@ use Rattle.store.specs.volume.Nodes.{directory_of, entry_inode, is_directory_mod
 use Rattle.store.specs.volume.Holds.{HoldsVolume}
 use Rattle.walk.specs.zone_laws.Steps.{node_from}
 use Rattle.path.specs.Wishes.{IsWhose}
-use Rattle.bodies.specs.file.Changing.{MayChange, file_at, stamped}
+use Rattle.bodies.specs.file.file_pages.Changing.{MayChange, file_at, stamped}
 use Rattle.bodies.proofs.Made.{node_there}
 use Rattle.byte_bodies.proofs.node_bodies.Volumes.{may_change, no_directory, volume_changed}
 use Rattle.byte_bodies.specs.Dated.{SetsSizeAt}

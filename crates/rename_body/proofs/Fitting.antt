@@ -28,7 +28,7 @@ use Rattle.inode_table.proofs.volume_laws.Sums.{count_most}
 use Rattle.file_room.specs.zone_laws.Room.{taken_by}
 use Rattle.file_room.specs.zone_laws.Steps.{marked_in}
 use Rattle.file_room.proofs.zone_laws.Room.{nodes_take_marked}
-use Rattle.file_room.proofs.file.Rest.{wide}
+use Rattle.file_room.proofs.file.file_pages.Rest.{wide}
 use Rattle.moving.specs.declared.moves.Move.{Move}
 use Rattle.moving.specs.Replaced.{without_it}
 use Rattle.moving.specs.Whole.{links_of, moved, moved_within, out_of, within}

@@ -17,7 +17,8 @@ use Rattle.store.specs.volume.Reading.{Disk}
 use Rattle.store.specs.volume.Pieces.{Pieces, pieces}
 use Rattle.store.specs.volume.Holds.{HoldsVolume}
 use Rattle.ancestors.specs.entry_laws.Directories.{before}
-use Rattle.file_room.specs.file.Changing.{file_at, written_at}
+use Rattle.file_room.specs.file.file_pages.Changing.{file_at}
+use Rattle.file_room.specs.file.Changing.{written_at}
 use Rattle.file_room.specs.Room.{TakesMore}
 use Rattle.file_room.proofs.file.Spaces.{node_takes_held}
 use Rattle.moving.specs.entries.Names.{IsOfDirectory}

@@ -17,20 +17,21 @@ use Rattle.store.specs.volume.Pieces.{Pieces, pieces, blank}
 use Rattle.store.specs.volume.Nodes.{word, slot, number, is_marked}
 use Rattle.store.specs.volume.Places.{zone_at, has_number}
 use Rattle.store.specs.volume.Holds.{ZonesAgree}
-use Rattle.zone_laws.proofs.volume_laws.Volumes.{numbers_sized}
+use Rattle.zone_places.proofs.zone_laws.volume_laws.Volumes.{numbers_sized}
 use Rattle.store.specs.Rows.{with_bytes}
 use Rattle.store.proofs.Rows.{row_new, row_old}
-use Rattle.zone_laws.specs.Steps.{first_places, slot_of, above, beside, bit_of, Links, Unlinks, IsSoundBut, IsBare, marked_in}
-use Rattle.zone_laws.specs.Raw.{Takes, SetsInode, SetsBlock}
-use Rattle.zone_laws.specs.Missing.{missing}
-use Rattle.zone_laws.specs.Composite.{Attached, Detached}
-use Rattle.zone_laws.proofs.Raw.{free_unused, filled_slot_links, filled_word_links, cleared_slot_unlinks, cleared_word_unlinks}
-use Rattle.zone_laws.proofs.OnePlaces.{slot_zone, slot_cases}
-use Rattle.zone_laws.proofs.Full.{zone_child, hole_child, child_is}
-use Rattle.zone_laws.proofs.Composite.{missing_inner, missing_outer, attached_inner, attaches_inner, attached_outer, attaches_outer, detaches_inner, detaches_outer, detaches_on, unlinked_above}
-use Rattle.zone_laws.proofs.Agree.{marked_on}
-use Rattle.zone_laws.proofs.Inodes.{four_bytes}
-use Rattle.zone.specs.Parts.{with_number, with_slot, with_mark, with_fresh}
+use Rattle.zone_places.specs.zone_laws.Steps.{first_places, slot_of, above, beside, bit_of, Links, Unlinks, IsSoundBut, IsBare, marked_in}
+use Rattle.zone_places.specs.zone_laws.Raw.{Takes, SetsInode, SetsBlock}
+use Rattle.zone_places.specs.zone_laws.Missing.{missing}
+use Rattle.zone_places.specs.zone_laws.Composite.{Attached, Detached}
+use Rattle.zone_places.proofs.zone_laws.Raw.{free_unused, filled_slot_links, filled_word_links, cleared_slot_unlinks, cleared_word_unlinks}
+use Rattle.zone_places.proofs.zone_laws.OnePlaces.{slot_zone, slot_cases}
+use Rattle.zone_places.proofs.zone_laws.Full.{zone_child, hole_child, child_is}
+use Rattle.zone_places.proofs.zone_laws.Composite.{missing_inner, missing_outer, attached_inner, attaches_inner, attached_outer, attaches_outer, detaches_inner, detaches_outer, detaches_on, unlinked_above}
+use Rattle.zone_places.proofs.zone_laws.Agree.{marked_on}
+use Rattle.zone_places.proofs.zone_laws.Inodes.{four_bytes}
+use Rattle.zone_places.specs.Parts.{with_number}
+use Rattle.zone.specs.Parts.{with_slot, with_mark, with_fresh}
 use Rattle.zone.specs.Pages.{MayHold, MayRelease, place_count}
 
 -- a place of a marked inode

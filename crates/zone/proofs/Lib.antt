@@ -1,7 +1,5 @@
-pub use Rattle.zone_laws.proofs as zone_laws
-pub mod Frames
-pub mod Levels
-pub mod Rows
+pub use Rattle.zone_places.proofs as zone_places
+pub use Rattle.zone_places.proofs.zone_laws as zone_laws
 pub mod Taking
 pub mod Filling
 pub mod Held

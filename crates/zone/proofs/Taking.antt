@@ -9,11 +9,12 @@ use Rattle.store.specs.volume.Reading.{Disk}
 use Rattle.store.specs.volume.Pieces.{Pieces, pieces}
 use Rattle.store.specs.volume.Nodes.{slot, number}
 use Rattle.bitmap.specs.Numbers.{IsLowestFree}
-use Rattle.inode_table.specs.Table.{with_inode}
+use Rattle.zone_places.specs.inode_table.Table.{with_inode}
 use Rattle.store.specs.Volume.{Alters}
-use Rattle.zone_laws.specs.Steps.{bit_of}
+use Rattle.zone_places.specs.zone_laws.Steps.{bit_of}
 use Rattle.store.specs.Regions.{with_zone}
-use Rattle.zone.specs.Parts.{IsLastNumber, with_mark, with_fresh, with_slot, with_number}
+use Rattle.zone_places.specs.Parts.{IsLastNumber, with_number}
+use Rattle.zone.specs.Parts.{with_mark, with_fresh, with_slot}
 use Rattle.zone.specs.Steps.{MarksZone, TakesZone, HasRoom, HoldsSlot, HoldsNumber, DropsSlot, DropsNumber}
 use Rattle.store.proofs.Ending.{alters_over, alters_read}
 

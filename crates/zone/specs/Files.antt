@@ -6,8 +6,8 @@ use Rattle.store.specs.volume.Reading.{Disk}
 use Rattle.store.specs.volume.Pieces.{pieces}
 use Rattle.store.specs.volume.Nodes.{file_of, nodes_of}
 use Rattle.store.specs.volume.Places.{zone_at}
-use Rattle.zone_laws.specs.Steps.{with_page, node_from}
-use Rattle.zone_laws.specs.Composite.{Attached}
+use Rattle.zone_places.specs.zone_laws.Steps.{with_page, node_from}
+use Rattle.zone_places.specs.zone_laws.Composite.{Attached}
 use Rattle.store.specs.Volume.{SameHead}
 use Rattle.zone.specs.Pages.{MayHold}
 

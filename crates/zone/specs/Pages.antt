@@ -8,10 +8,10 @@ use Rattle.store.specs.volume.Reading.{Disk}
 use Rattle.store.specs.volume.Pieces.{Pieces, pieces}
 use Rattle.store.specs.volume.Nodes.{is_marked}
 use Rattle.store.specs.volume.Places.{zone_at}
-use Rattle.zone_laws.specs.Steps.{first_places, IsBare, IsSoundBut, marked_in}
-use Rattle.zone_laws.specs.Missing.{missing}
+use Rattle.zone_places.specs.zone_laws.Steps.{first_places, IsBare, IsSoundBut, marked_in}
+use Rattle.zone_places.specs.zone_laws.Missing.{missing}
 use Rattle.store.specs.Volume.{SameHead}
-use Rattle.zone_laws.specs.Composite.{Attached, Detached}
+use Rattle.zone_places.specs.zone_laws.Composite.{Attached, Detached}
 
 -- how many places a level has
 abbrev pub place_count : Geometry → ℕ → ℕ

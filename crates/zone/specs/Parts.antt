@@ -1,19 +1,10 @@
--- The changes of a volume's pieces that zones need: a number of a block, a slot of an inode, a zone that is taken or given back.
-use Rattle.std.specs.Prelude.{◌≡◌, ◌≢◌, ℕ, ◌+◌, ◌*◌, ◌<◌, List, length, slice_index, Bool, true, slice_set, Option, None, Some}
-use Rattle.std.specs.Int.{w32, to_le_bytes}
+-- The changes of a volume's pieces that zones need: a slot of an inode, a zone that is taken or given back.
+use Rattle.std.specs.Prelude.{ℕ, Bool, true, slice_set}
 use Rattle.layout.specs.declared.Geometry.{Geometry}
 use Rattle.store.specs.tree.Sums.{put}
-use Rattle.store.specs.tree.Space.{numbers_in_zone}
-use Rattle.store.specs.volume.declared.Inode.{Inode}
 use Rattle.store.specs.volume.Pieces.{Pieces}
-use Rattle.store.specs.volume.Nodes.{number, page_zone}
-use Rattle.store.specs.Rows.{with_bytes}
 use Rattle.store.specs.Regions.{with_zone}
-use Rattle.zone_laws.specs.Steps.{bit_of, IsBare}
-
--- pieces in which number j of a block is x
-abbrev pub with_number : Pieces → ℕ → ℕ → ℕ → Pieces
-with_number v block j x = with_zone v block (with_bytes (4 * j) (to_le_bytes w32 x) (v.zones block))
+use Rattle.zone_places.specs.zone_laws.Steps.{bit_of}
 
 -- pieces in which slot s of inode n is x
 abbrev pub with_slot : Pieces → ℕ → ℕ → ℕ → Pieces
@@ -26,17 +17,3 @@ with_mark g v z b = record v { zone_map = put v.zone_map (bit_of g z) b }
 -- pieces in which a zone is marked, and its bytes are zeros
 abbrev pub with_fresh : Geometry → Pieces → ℕ → Pieces
 with_fresh g v z = with_zone (with_mark g v z true) z (λ o. 0)
-
--- the last number of a block that isn't 0, or there is none
-abbrev pub IsLastNumber : Geometry → Pieces → ℕ → Option ℕ → Type 0
-IsLastNumber g v block None = IsBare g v block
-IsLastNumber g v block (Some j) =
-    (j < numbers_in_zone g) × (number v block j ≢ 0) × ((i : ℕ) → j < i → i < numbers_in_zone g → number v block i ≡ 0)
-
--- these are the numbers of a block that stand side by side, from one of them on
-abbrev pub HasNumbers : Pieces → ℕ → ℕ → List ℕ → Type 0
-HasNumbers v block from words = (k : ℕ) → k < length words → slice_index words k ≡ number v block (from + k)
-
--- the first n of these are the zones of an inode's pages side by side, from a page on
-abbrev pub HasZones : Geometry → Pieces → Inode → ℕ → ℕ → List ℕ → Type 0
-HasZones g v i page n zones = (k : ℕ) → k < n → slice_index zones k ≡ page_zone g v i (page + k)

@@ -6,8 +6,9 @@ use Rattle.store.specs.volume.Reading.{Disk, is_inode, is_data_zone}
 use Rattle.store.specs.volume.Pieces.{Pieces, pieces}
 use Rattle.store.specs.volume.Nodes.{slot, number}
 use Rattle.store.specs.Volume.{Alters}
-use Rattle.zone_laws.specs.Steps.{bit_of, marked_in}
-use Rattle.zone.specs.Parts.{with_mark, with_fresh, with_slot, with_number}
+use Rattle.zone_places.specs.zone_laws.Steps.{bit_of, marked_in}
+use Rattle.zone_places.specs.Parts.{with_number}
+use Rattle.zone.specs.Parts.{with_mark, with_fresh, with_slot}
 
 -- a free data zone, and what the volume becomes
 pub record TakesFree (g : Geometry) (z : ℕ) (after : Pieces) (d e : Disk) : Type 0 where

@@ -10,14 +10,15 @@ ghost use Rattle.store.specs.volume.Reading.{is_data_zone};
 ghost use Rattle.store.specs.World.{Turns};
 ghost use Rattle.store.specs.Halts.{Ends, IsHalt};
 ghost use Rattle.store.specs.Volume.{IsOn, Alters};
-ghost use Rattle.zone.specs.Parts.{with_mark, IsLastNumber};
+ghost use Rattle.zone_places.specs.Parts.{IsLastNumber};
+ghost use Rattle.zone.specs.Parts.{with_mark};
 ghost use Rattle.zone.specs.Steps.{MarksZone, TakesZone, HasRoom, HoldsSlot, MayHoldSlot, HoldsNumber, MayHoldNumber, DropsSlot, MayDropSlot, DropsNumber, MayDropNumber};
 
-use crate::numbers::{clear_zone, is_data_zone, last_number, number, set_number};
 use bitmap::{Map, clear, lowest_free, set};
-use inode_table::{load, store};
 use layout::Geometry;
 use store::{Blocks, Halt};
+use zone_places::inodes::{load, store};
+use zone_places::numbers::{clear_zone, is_data_zone, last_number, number, set_number};
 
 /// Marks the lowest free zone.
 fn mark_free<B: Blocks>(blocks: &mut B, geometry: &Geometry) -> Result<u32, Halt>

@@ -1,7 +1,7 @@
 use Rattle.std.proofs.Common.{◌≡◌, ◌+◌, ◌<◌, length, refl, sym, subst, ◌∙◌, arith, rules}
 use Rattle.store.specs.volume.Pieces.{pieces}
 use Rattle.descriptors.specs.Table.{files_of}
-use Rattle.file.specs.Changing.{MayChange}
+use Rattle.file.specs.file_pages.Changing.{MayChange}
 use Rattle.store.proofs.Turns.{turns_as, turns_then}
 use Rattle.bodies.proofs.Exits.{ends_exit}
 use Rattle.bodies.proofs.Looks.{found_some, found_none, said_of}

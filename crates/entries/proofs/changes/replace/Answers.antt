@@ -5,7 +5,7 @@ use Rattle.store.specs.volume.Pieces.{pieces}
 use Rattle.store.proofs.Turns.{turns_as, turns_then, ends_as}
 use Rattle.store.proofs.Ending.{ends_exit, turns_three}
 use Rattle.file.specs.Changing.{MayWriteAt, WritesAt}
-use Rattle.file.proofs.Becoming.{may_change_after}
+use Rattle.file.proofs.file_pages.Becoming.{may_change_after}
 use Rattle.entries.proofs.Becoming.{may_change}
 use Rattle.entries.proofs.EntryBytes.{number_in_bytes}
 use Rattle.entries.proofs.Placing.{replaced, may_replace}

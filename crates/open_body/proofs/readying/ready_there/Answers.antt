@@ -3,7 +3,7 @@ use Rattle.store.specs.volume.Pieces.{pieces}
 use Rattle.store.specs.volume.Reading.{Disk}
 use Rattle.store.proofs.Turns.{turns_as, turns_then}
 use Rattle.walk.proofs.zone_laws.Inodes.{inode_is}
-use Rattle.bodies.specs.file.Changing.{MayChange}
+use Rattle.bodies.specs.file.file_pages.Changing.{MayChange}
 use Rattle.bodies.proofs.Made.{node_there}
 use Rattle.byte_bodies.specs.Dated.{SetsSizeAt}
 use Rattle.make_bodies.proofs.Ending.{answers_halted}

@@ -1,0 +1,11 @@
+//! The pages of files: their zones found side by side, their bytes read, and written one page at a time; and the size and the times
+//! of an inode.
+#![tactic(auto)]
+
+pub mod changing;
+pub mod reading;
+pub mod rows;
+pub mod writing;
+
+// passed on: the inodes of a volume, and the zones of files
+pub use cutting::{inodes, zones};
