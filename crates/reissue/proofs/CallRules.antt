@@ -7,11 +7,11 @@ use Rattle.endpoint.specs.declared.Endpoint.{Endpoint}
 use Rattle.message.specs.declared.BlockRequest.{BlockRequest}
 use Rattle.message.specs.declared.Incoming.{Incoming}
 use Rattle.message.specs.declared.Incoming.TheVariants as incoming
-use Rattle.pending_table.specs.marks.Marks.{Mark}
-use Rattle.pending_table.specs.marks.Open.{open_requests}
-use Rattle.pending_table.specs.marks.Told.{heard as taken, took_end, Told, Received, received, grown, with_told}
-use Rattle.pending_table.specs.marks.Acts.{Act, Began, Absorbed, AtLink, Outbox, KeepsRules, MayAct, outbox_after, marks_after, told_of}
-use Rattle.pending_table.proofs.marks.ActLaws.{acts_compose}
+use Rattle.marks.specs.Marks.{Mark}
+use Rattle.marks.specs.Open.{open_requests}
+use Rattle.marks.specs.Told.{heard as taken, took_end, Told, Received, received, grown, with_told}
+use Rattle.marks.specs.Acts.{Act, Began, Absorbed, AtLink, Outbox, KeepsRules, MayAct, outbox_after, marks_after, told_of}
+use Rattle.marks.proofs.ActLaws.{acts_compose}
 use Rattle.pending_table.specs.declared.pending.Pending.{Pending}
 use Rattle.pending_table.specs.declared.table.Table.{Table}
 use Rattle.pending_table.specs.Moves.{IsBusy}

@@ -6,16 +6,16 @@ use Rattle.endpoint.specs.declared.Endpoint.{Endpoint}
 use Rattle.message.specs.declared.BlockRequest.{BlockRequest}
 use Rattle.message.specs.declared.Incoming.{Incoming}
 use Rattle.message.specs.declared.Incoming.TheVariants as incoming
-use Rattle.pending_table.specs.marks.Marks.{Mark, Issued}
-use Rattle.pending_table.specs.marks.Disk.{Contents, HasTrueReplies}
-use Rattle.pending_table.specs.marks.Told.{Told, Posted, Complained, Received, grown, received, heard, took_end}
-use Rattle.pending_table.specs.marks.Acts.{Act, Began, AtLink, told_of, has_absorbed}
+use Rattle.marks.specs.Marks.{Mark, Issued}
+use Rattle.marks.specs.Disk.{Contents, HasTrueReplies}
+use Rattle.marks.specs.Told.{Told, Posted, Complained, Received, grown, received, heard, took_end}
+use Rattle.marks.specs.Acts.{Act, Began, AtLink, told_of, has_absorbed}
 use Rattle.pending_table.specs.declared.ask.Ask.{Ask}
 use Rattle.pending_table.specs.declared.ask.Settled.{Settled}
 use Rattle.pending_table.specs.declared.ask.Settled.TheVariants as settled
 use Rattle.pending_table.specs.declared.pending.Pending.{Pending}
 use Rattle.pending_table.specs.declared.table.Table.{Table}
-use Rattle.pending_table.specs.marks.Opening.{Opening}
+use Rattle.marks.specs.Opening.{Opening}
 use Rattle.reissue.specs.Room.{room_needed}
 use Rattle.pending_table.specs.Moves.{Closes, IsFree, Spares, state_after}
 use Rattle.pending_table.specs.Entries.{pending_of, begun_of, request_of, AllOfMinor, MissesOrSame, AreDistinct, IsAmong}

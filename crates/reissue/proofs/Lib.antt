@@ -1,5 +1,5 @@
 pub use Rattle.pending_table.proofs as pending_table
-pub use Rattle.pending_table.proofs.marks as marks
+pub use Rattle.marks.proofs as marks
 mod Steps
 mod Messages
 pub mod Taking

@@ -5,21 +5,21 @@ use Rattle.endpoint.specs.declared.Endpoint.{Endpoint}
 use Rattle.message.specs.declared.BlockReply.{BlockReply}
 use Rattle.message.specs.declared.Incoming.{Incoming}
 use Rattle.message.specs.declared.Incoming.TheVariants as incoming
-use Rattle.pending_table.specs.marks.Marks.{Mark, Started, Flush, GaveUp, gave_up}
-use Rattle.pending_table.specs.marks.Disk.{Contents, unsure, disk_after}
-use Rattle.pending_table.specs.marks.Told.{Told, Complained, received, grown, took_end, took_nothing}
+use Rattle.marks.specs.Marks.{Mark, Started, Flush, GaveUp, gave_up}
+use Rattle.marks.specs.Disk.{Contents, unsure, disk_after}
+use Rattle.marks.specs.Told.{Told, Complained, received, grown, took_end, took_nothing}
 use Rattle.pending_table.specs.declared.pending.Pending.{Pending}
 use Rattle.pending_table.specs.declared.table.Table.{Table}
 use Rattle.pending_table.specs.declared.table.Answer.{Answer}
 use Rattle.pending_table.specs.declared.table.Answer.TheVariants as answer
 use Rattle.pending_table.specs.declared.ask.Settled.{Settled}
 use Rattle.pending_table.specs.declared.ask.Settled.TheVariants as settled
-use Rattle.pending_table.specs.marks.Opening.{Opening}
+use Rattle.marks.specs.Opening.{Opening}
 use Rattle.pending_table.specs.Moves.{Closes}
 use Rattle.pending_table.specs.Entries.{pending_of, AllOfMinor}
 use Rattle.pending_table.specs.Agrees.{Agrees, AllReadDisk}
 use Rattle.pending_table.specs.Hears.{HearsStart, HearsAnswer, counted_move}
-use Rattle.pending_table.specs.marks.Acts.{complaint_due, target}
+use Rattle.marks.specs.Acts.{complaint_due, target}
 use Rattle.pending_table.specs.Answers.{complaints_about}
 use Rattle.pending_table.specs.Closing.{Closing, ReadsOn}
 use Rattle.reissue.specs.Calls.{Truth, TakesIn, gives_up}

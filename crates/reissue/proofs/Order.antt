@@ -5,7 +5,7 @@ use Rattle.std.proofs.lemmas.Bool.Decides.{leb_tells, nat_tests}
 use Rattle.std.proofs.lemmas.List.{length-append}
 use Rattle.std.specs.Prelude.{nat_lt, remove, ◌==◌}
 use Rattle.message.specs.declared.BlockRequest.{BlockRequest}
-use Rattle.pending_table.specs.marks.Open.{without_id}
+use Rattle.marks.specs.Open.{without_id}
 use Rattle.pending_table.specs.declared.pending.Pending.{Pending}
 use Rattle.pending_table.specs.Entries.{AreRising, request_of}
 use Rattle.pending_table.proofs.Tickets.{rising_lower}

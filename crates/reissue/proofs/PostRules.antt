@@ -5,12 +5,12 @@ use Rattle.std.proofs.lemmas.Bool.Decides.{leb_tells, nat_tests}
 use Rattle.std.specs.Prelude.{nat_lt, ◌==◌}
 use Rattle.endpoint.specs.declared.Endpoint.{Endpoint}
 use Rattle.message.specs.declared.BlockRequest.{BlockRequest}
-use Rattle.pending_table.specs.marks.Marks.{Mark, Issued}
-use Rattle.pending_table.specs.marks.Open.{without_id}
-use Rattle.pending_table.specs.marks.Told.{Told, Posted, Complained, Received}
-use Rattle.pending_table.specs.marks.Acts.{Act, AtLink, Outbox, KeepsRules, outbox_after, target, told_of}
-use Rattle.pending_table.specs.marks.Opening.{FitsMinor}
-use Rattle.pending_table.proofs.marks.ActLaws.{acts_compose}
+use Rattle.marks.specs.Marks.{Mark, Issued}
+use Rattle.marks.specs.Open.{without_id}
+use Rattle.marks.specs.Told.{Told, Posted, Complained, Received}
+use Rattle.marks.specs.Acts.{Act, AtLink, Outbox, KeepsRules, outbox_after, target, told_of}
+use Rattle.marks.specs.Opening.{FitsMinor}
+use Rattle.marks.proofs.ActLaws.{acts_compose}
 use Rattle.pending_table.specs.declared.pending.Pending.{Pending}
 use Rattle.pending_table.specs.Entries.{AreRising, AllOfMinor, request_of}
 use Rattle.reissue.specs.Posts.{ArePostedTo, accepted_of}

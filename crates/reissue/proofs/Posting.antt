@@ -9,12 +9,12 @@ use Rattle.pending_table.proofs.Writes.{spares_then}
 use Rattle.pending_table.proofs.Tickets.{pending_here}
 use Rattle.std.proofs.Common.{length}
 use Rattle.std.specs.List.{list_any}
-use Rattle.pending_table.specs.marks.Disk.{Contents, HasTrueReplies, disk_after, unsure}
-use Rattle.pending_table.specs.marks.Marks.{Mark}
-use Rattle.pending_table.specs.marks.Told.{Complained, Posted, Received, Told, grown}
+use Rattle.marks.specs.Disk.{Contents, HasTrueReplies, disk_after, unsure}
+use Rattle.marks.specs.Marks.{Mark}
+use Rattle.marks.specs.Told.{Complained, Posted, Received, Told, grown}
 use Rattle.pending_table.specs.Closing.{Closing, LeavesQuiet, ReadsOn}
 use Rattle.pending_table.specs.Entries.{AllAsk, IsLeft, begun_of, pending_of}
-use Rattle.pending_table.specs.marks.Disk.{bytes_read, is_read}
+use Rattle.marks.specs.Disk.{bytes_read, is_read}
 use Rattle.pending_table.specs.Moves.{Begun, Closes, Joins, IsBusy, IsQuiet, Spares, Tells, put, state_after}
 use Rattle.reissue.specs.Posts.{OnlyPosts}
 

@@ -10,15 +10,15 @@ use Rattle.pending_table.proofs.Writes.{all_wrote_issued, one_among, spares_issu
 use Rattle.pending_table.proofs.Tickets.{among_at}
 use Rattle.pending_table.proofs.Answering.{started_at}
 use Rattle.pending_table.proofs.Joined.{joined_like}
-use Rattle.pending_table.proofs.marks.OpenRequests.{open_below, open_again, open_new}
-use Rattle.pending_table.specs.marks.Disk.{Contents}
-use Rattle.pending_table.specs.marks.Marks.{Issued, Mark}
-use Rattle.pending_table.specs.marks.Open.{IsIn, IsNew, Misses, MissesAll, greatest, open_requests}
-use Rattle.pending_table.specs.marks.Told.{Posted, Told, grown}
+use Rattle.marks.proofs.OpenRequests.{open_below, open_again, open_new}
+use Rattle.marks.specs.Disk.{Contents}
+use Rattle.marks.specs.Marks.{Issued, Mark}
+use Rattle.marks.specs.Open.{IsIn, IsNew, Misses, MissesAll, greatest, open_requests}
+use Rattle.marks.specs.Told.{Posted, Told, grown}
 use Rattle.pending_table.specs.Agrees.{AreNumbered, Agrees, AllApart, AllReadDisk, AllWrote, Apart, ApartFromAll, Holds, unposted}
-use Rattle.pending_table.specs.marks.Open.{MayFollow}
+use Rattle.marks.specs.Open.{MayFollow}
 use Rattle.reissue.specs.Calls.{Leads, Truth}
-use Rattle.pending_table.specs.marks.Opening.{Opening, Fits, FitsMinor}
+use Rattle.marks.specs.Opening.{Opening, Fits, FitsMinor}
 use Rattle.pending_table.specs.Entries.{AllOfMinor, IsAmong, pending_of, request_of}
 use Rattle.pending_table.specs.Moves.{Spares, state_after}
 use Rattle.reissue.specs.Posts.{ArePostedTo}

@@ -4,10 +4,10 @@ use Rattle.std.proofs.lemmas.Bool.Decides.{leb_tells, nat_tests}
 use Rattle.std.proofs.lemmas.List.{take-append-drop, length-drop, length-append}
 use Rattle.std.specs.Prelude.{nat_lt, is_some, ◌&&◌, not, ◌||◌, IsTrue}
 use Rattle.endpoint.specs.declared.Endpoint.{Endpoint}
-use Rattle.pending_table.specs.marks.Marks.{Mark, last_started, gave_up}
-use Rattle.pending_table.specs.marks.Open.{open_requests, has_none}
-use Rattle.pending_table.specs.marks.Told.{Told}
-use Rattle.pending_table.specs.marks.Acts.{Outbox, KeepsRules, outbox_after, IsAtRest, needs_message, target}
+use Rattle.marks.specs.Marks.{Mark, last_started, gave_up}
+use Rattle.marks.specs.Open.{open_requests, has_none}
+use Rattle.marks.specs.Told.{Told}
+use Rattle.marks.specs.Acts.{Outbox, KeepsRules, outbox_after, IsAtRest, needs_message, target}
 use Rattle.pending_table.specs.declared.pending.Pending.{Pending}
 use Rattle.pending_table.specs.declared.table.Table.{Table}
 use Rattle.pending_table.specs.Entries.{AreRising, AllOfMinor, request_of, pending_of}

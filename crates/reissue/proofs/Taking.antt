@@ -1,9 +1,9 @@
 -- What a client call's mark leaves of agreement with the record.
 use Rattle.std.proofs.Common.{ℕ, List, ◌∷◌, ◌++◌, refl}
-use Rattle.pending_table.specs.marks.tree.declared.Who.{Who}
-use Rattle.pending_table.specs.marks.tree.declared.Call.{Call}
-use Rattle.pending_table.specs.marks.tree.Answers.{Answer}
-use Rattle.pending_table.specs.marks.Marks.{Mark, Took}
+use Rattle.marks.specs.tree.declared.Who.{Who}
+use Rattle.marks.specs.tree.declared.Call.{Call}
+use Rattle.marks.specs.tree.Answers.{Answer}
+use Rattle.marks.specs.Marks.{Mark, Took}
 use Rattle.pending_table.specs.declared.table.Table.{Table}
 use Rattle.pending_table.specs.Agrees.{Agrees}
 use Rattle.pending_table.proofs.Writes.{wrote_like}

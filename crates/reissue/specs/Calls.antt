@@ -3,19 +3,19 @@ use Rattle.std.specs.Prelude.{◌≡◌, ℕ, ◌+◌, List, [], ◌∷◌, ◌+
 use Rattle.message.specs.declared.BlockRequest.{BlockRequest}
 use Rattle.message.specs.declared.Incoming.{Incoming}
 use Rattle.message.specs.declared.Incoming.TheVariants as incoming
-use Rattle.pending_table.specs.marks.Marks.{Mark}
-use Rattle.pending_table.specs.marks.Disk.{Contents}
-use Rattle.pending_table.specs.marks.Told.{Told, Received, grown, received, heard, took_end, took_nothing}
+use Rattle.marks.specs.Marks.{Mark}
+use Rattle.marks.specs.Disk.{Contents}
+use Rattle.marks.specs.Told.{Told, Received, grown, received, heard, took_end, took_nothing}
 use Rattle.pending_table.specs.declared.ask.Ask.{Ask}
 use Rattle.pending_table.specs.declared.ask.Settled.{Settled}
 use Rattle.pending_table.specs.declared.ask.Settled.TheVariants as settled
 use Rattle.pending_table.specs.declared.pending.Pending.{Pending}
 use Rattle.pending_table.specs.declared.table.Table.{Table}
-use Rattle.pending_table.specs.marks.Opening.{Opening}
+use Rattle.marks.specs.Opening.{Opening}
 use Rattle.pending_table.specs.Moves.{IsBusy, Spares, Closes, state_after, request_for, begun_by}
 use Rattle.pending_table.specs.Entries.{pending_of, begun_of, AllOfMinor}
 use Rattle.pending_table.specs.Agrees.{Agrees}
-use Rattle.pending_table.specs.marks.Acts.{Act, Absorbed, told_of, has_absorbed}
+use Rattle.marks.specs.Acts.{Act, Absorbed, told_of, has_absorbed}
 use Rattle.reissue.specs.Rules.{KeepsRulesBy, BeganAmong, acts_on}
 use Rattle.pending_table.specs.Hears.{Hears}
 use Rattle.pending_table.specs.Answers.{complaints_about}

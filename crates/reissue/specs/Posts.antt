@@ -4,9 +4,9 @@ use Rattle.endpoint.specs.declared.Endpoint.{Endpoint}
 use Rattle.message.specs.declared.BlockRequest.{BlockRequest}
 use Rattle.message.specs.declared.Incoming.{Incoming}
 use Rattle.message.specs.declared.Incoming.TheVariants as incoming
-use Rattle.pending_table.specs.marks.Told.{Told, Posted, Complained, Received}
-use Rattle.pending_table.specs.marks.Marks.{Mark}
-use Rattle.pending_table.specs.marks.Acts.{complaint_due}
+use Rattle.marks.specs.Told.{Told, Posted, Complained, Received}
+use Rattle.marks.specs.Marks.{Mark}
+use Rattle.marks.specs.Acts.{complaint_due}
 use Rattle.pending_table.specs.declared.table.Table.{Table}
 use Rattle.pending_table.specs.Agrees.{unposted}
 

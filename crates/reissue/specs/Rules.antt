@@ -1,8 +1,8 @@
 -- What transfers do at their link, as acts, and what they owe it between two calls.
 use Rattle.std.specs.Prelude.{◌≡◌, ℕ, ◌-◌, List, [], ◌∷◌, ◌++◌, length, drop, ◌&&◌, nat_lt, is_some, None, if◌then◌else◌}
-use Rattle.pending_table.specs.marks.Marks.{Mark}
-use Rattle.pending_table.specs.marks.Told.{Told}
-use Rattle.pending_table.specs.marks.Acts.{Act, Began, Absorbed, AtLink, Outbox, KeepsRules, outbox_after, marks_after, told_of}
+use Rattle.marks.specs.Marks.{Mark}
+use Rattle.marks.specs.Told.{Told}
+use Rattle.marks.specs.Acts.{Act, Began, Absorbed, AtLink, Outbox, KeepsRules, outbox_after, marks_after, told_of}
 use Rattle.pending_table.specs.declared.pending.Pending.{Pending}
 use Rattle.pending_table.specs.declared.table.Table.{Table}
 use Rattle.pending_table.specs.Entries.{IsAmong}

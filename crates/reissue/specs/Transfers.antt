@@ -1,6 +1,6 @@
 -- The parts of transfers: their link, and their table of pending requests; what a call does to both.
 use Rattle.std.specs.Prelude.{ℕ, List, Option}
-use Rattle.pending_table.specs.marks.Told.{Told}
+use Rattle.marks.specs.Told.{Told}
 use Rattle.reissue.specs.declared.link.Link.{Ghosts as LinkWords}
 use Rattle.pending_table.specs.declared.table.Table.{Table}
 use Rattle.reissue.specs.declared.transfers.Transfers.{Transfers}

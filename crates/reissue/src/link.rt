@@ -1,11 +1,11 @@
 //! What a file server sees of its drivers: a line to post to, to complain on, and to take messages from.
 
 ghost use Rattle.std.specs.Prelude.{◌≡◌, ◌<◌, ◌≤◌, ◌+◌, ◌∷◌, List, ℕ, is_ok, OnOk, OnErr};
-ghost use Rattle.pending_table.specs.marks.Marks.{Mark, Issued};
-ghost use Rattle.pending_table.specs.marks.Open.{MayFollow};
-ghost use Rattle.pending_table.specs.marks.Disk.{HasTrueReplies};
-ghost use Rattle.pending_table.specs.marks.Told.{Told, Posted, Complained, received, heard};
-ghost use Rattle.pending_table.specs.marks.Opening.{Opening, contents_at, Fits};
+ghost use Rattle.marks.specs.Marks.{Mark, Issued};
+ghost use Rattle.marks.specs.Open.{MayFollow};
+ghost use Rattle.marks.specs.Disk.{HasTrueReplies};
+ghost use Rattle.marks.specs.Told.{Told, Posted, Complained, received, heard};
+ghost use Rattle.marks.specs.Opening.{Opening, contents_at, Fits};
 ghost use Rattle.reissue.specs.Refusals.{link_refusal_number};
 ghost use Rattle.reissue.specs.Room.{room_needed};
 

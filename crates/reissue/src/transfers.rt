@@ -43,8 +43,8 @@ fn posts_after(message: &Incoming) -> bool
 }
 
 impl<L: Link> Transfers<L> {
-    ghost use Rattle.pending_table.specs.marks.Marks.{Mark};
-    ghost use Rattle.pending_table.specs.marks.Acts.{empty_outbox};
+    ghost use Rattle.marks.specs.Marks.{Mark};
+    ghost use Rattle.marks.specs.Acts.{empty_outbox};
     ghost use Rattle.reissue.specs.Rules.{outbox_of};
     ghost use Rattle.pending_table.specs.Agrees.{Agrees, unposted};
     ghost use Rattle.reissue.specs.Posts.{PostsInOrder, IsTried, HasRoom, CanPost, TakesRoom};

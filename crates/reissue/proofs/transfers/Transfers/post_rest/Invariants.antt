@@ -1,5 +1,5 @@
 use Rattle.std.proofs.Common.{◌≡◌, ◌+◌, ◌≤◌, ◌-◌, length, Some, List}
-use Rattle.pending_table.specs.marks.Told.{Told}
+use Rattle.marks.specs.Told.{Told}
 use Rattle.pending_table.specs.Agrees.{unposted}
 use Rattle.reissue.specs.Posts.{ArePostedTo}
 use Rattle.reissue.specs.Calls.{Leads}
