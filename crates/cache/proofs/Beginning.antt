@@ -9,15 +9,15 @@ use Rattle.std.proofs.lemmas.Bool.{cases_eq, cases_lt}
 use Rattle.std.proofs.Math.Nat.{mul-le-mul_right, suc-mul}
 use Rattle.message.specs.declared.Kind.{Kind}
 use Rattle.message.specs.declared.Kind.TheVariants as kind
-use Rattle.reissue.specs.declared.ask.Ask.{Ask}
-use Rattle.reissue.specs.declared.ask.BeginRefusal.{BeginRefusal}
-use Rattle.reissue.specs.declared.ask.BeginRefusal.TheVariants.{TableFull, BlockPending}
-use Rattle.reissue.specs.declared.pending.Pending.{Pending}
-use Rattle.reissue.specs.Moves.{Begun, put, Opens, IsBusy, IsFree, begun_by, written_by}
-use Rattle.reissue.specs.Entries.{pending_of, AllOfMinor}
+use Rattle.reissue.specs.pending_table.declared.ask.Ask.{Ask}
+use Rattle.reissue.specs.pending_table.declared.ask.BeginRefusal.{BeginRefusal}
+use Rattle.reissue.specs.pending_table.declared.ask.BeginRefusal.TheVariants.{TableFull, BlockPending}
+use Rattle.reissue.specs.pending_table.declared.pending.Pending.{Pending}
+use Rattle.reissue.specs.pending_table.Moves.{Begun, put, Opens, IsBusy, IsFree, begun_by, written_by}
+use Rattle.reissue.specs.pending_table.Entries.{pending_of, AllOfMinor}
 use Rattle.reissue.specs.Posts.{HasRoom}
 use Rattle.reissue.specs.Calls.{Begins, Adds}
-use Rattle.reissue.proofs.Maps.{put-same}
+use Rattle.reissue.proofs.pending_table.Maps.{put-same}
 use Rattle.slots.specs.declared.slot.Slot.{Slot}
 use Rattle.slots.specs.declared.state.State.TheVariants.{Clean, Dirty, Writing}
 use Rattle.slots.specs.Slots.{held, ticket_of, IsDistinct}

@@ -1,7 +1,7 @@
 -- Which frame goes for a block that is fetched.
 use Rattle.std.proofs.Common.{◌≡◌, ℕ, List, sym, ap, subst, ◌∙◌, Option, Some, None, Result, Ok, Err, IsErr, IfOk}
 use mathlib.Core.Logic.{inl, inr}
-use Rattle.reissue.proofs.Maps.{put_cases}
+use Rattle.reissue.proofs.pending_table.Maps.{put_cases}
 use Rattle.slots.specs.declared.slot.Slot.{Slot}
 use Rattle.slots.specs.declared.table.Slots.{Slots}
 use Rattle.cache.specs.declared.frame.Frame.{Frame}

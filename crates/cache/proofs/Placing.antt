@@ -5,9 +5,9 @@ use Rattle.std.specs.Prelude.{◌&&◌, is_some, not, slice_index, slice_get, na
 use Rattle.std.proofs.lemmas.Bool.{cases_lt, cond-true, cond-false}
 use Rattle.std.proofs.lemmas.Bool.Decides.{nat_tests}
 use Rattle.legal.specs.View.{frame_or}
-use Rattle.reissue.specs.Moves.{DiskState, Begun, put}
-use Rattle.reissue.specs.Entries.{pending_of}
-use Rattle.reissue.proofs.Maps.{is_put}
+use Rattle.reissue.specs.pending_table.Moves.{DiskState, Begun, put}
+use Rattle.reissue.specs.pending_table.Entries.{pending_of}
+use Rattle.reissue.proofs.pending_table.Maps.{is_put}
 use Rattle.slots.specs.declared.slot.Slot.{Slot}
 use Rattle.slots.specs.declared.state.State.{State}
 use Rattle.slots.specs.declared.state.State.TheVariants.{Clean, Dirty, Writing, Changed}

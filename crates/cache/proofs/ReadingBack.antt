@@ -6,7 +6,7 @@ use Rattle.layout.specs.declared.Geometry.{Geometry}
 use Rattle.reissue.specs.marks.Marks.{Mark}
 use Rattle.reissue.specs.marks.Disk.{Contents, unsure}
 use Rattle.legal.specs.View.{IsCovered}
-use Rattle.reissue.specs.Moves.{state_after}
+use Rattle.reissue.specs.pending_table.Moves.{state_after}
 use Rattle.slots.specs.declared.slot.Slot.{Slot}
 use Rattle.cache.specs.Frames.{CacheAgrees, frames_of, frame_of}
 use Rattle.cache.specs.Laws.{FramesReadBack}

@@ -9,14 +9,15 @@ use Rattle.reissue.specs.marks.Disk.{Contents, HasTrueReplies}
 use Rattle.reissue.specs.marks.Told.{Told, Posted, Complained, Received, grown, received, heard, took_end}
 use Rattle.reissue.specs.marks.Acts.{Act, Absorbed, Outbox, KeepsRules, told_of, marks_after, outbox_after}
 use Rattle.marks.proofs.ActLaws.{acts_compose}
-use Rattle.reissue.specs.declared.ask.Ask.{Ask}
-use Rattle.reissue.specs.declared.ask.Settled.{Settled}
-use Rattle.reissue.specs.declared.ask.Settled.TheVariants as settled
-use Rattle.reissue.specs.declared.table.Table.{Table}
-use Rattle.reissue.specs.Moves.{DiskState, Spares, Moves, state_after, IsBusy}
-use Rattle.reissue.specs.Entries.{pending_of, AllOfMinor}
-use Rattle.reissue.specs.Agrees.{Agrees}
-use Rattle.reissue.specs.Posts.{complaints_about, due_after}
+use Rattle.reissue.specs.pending_table.declared.ask.Ask.{Ask}
+use Rattle.reissue.specs.pending_table.declared.ask.Settled.{Settled}
+use Rattle.reissue.specs.pending_table.declared.ask.Settled.TheVariants as settled
+use Rattle.reissue.specs.pending_table.declared.table.Table.{Table}
+use Rattle.reissue.specs.pending_table.Moves.{DiskState, Spares, Moves, state_after, IsBusy}
+use Rattle.reissue.specs.pending_table.Entries.{pending_of, AllOfMinor}
+use Rattle.reissue.specs.pending_table.Agrees.{Agrees}
+use Rattle.reissue.specs.pending_table.Answers.{complaints_about}
+use Rattle.reissue.specs.Posts.{due_after}
 use Rattle.reissue.specs.Rules.{KeepsRulesBy, outbox_of}
 use Rattle.message.specs.endpoint.declared.Endpoint.{Endpoint}
 use Rattle.reissue.specs.Calls.{Begins, Steps, Absorbs, more_may_come}

@@ -3,15 +3,15 @@ use Rattle.std.proofs.Common.{◌≡◌, ◌≢◌, ℕ, ◌+◌, ◌^◌, ◌<�
 use mathlib.Core.Logic.{inl, inr}
 use Rattle.std.specs.Prelude.{slice_index}
 use Rattle.std.proofs.lemmas.Bool.{eq-eqb}
-use Rattle.reissue.specs.declared.ask.Settled.{Settled}
-use Rattle.reissue.specs.declared.ask.Settled.TheVariants as settled
-use Rattle.reissue.specs.Moves.{DiskState, Begun, put, Closes, Moves, Tells, IsBusy}
-use Rattle.reissue.specs.Entries.{pending_of, AllOfMinor}
+use Rattle.reissue.specs.pending_table.declared.ask.Settled.{Settled}
+use Rattle.reissue.specs.pending_table.declared.ask.Settled.TheVariants as settled
+use Rattle.reissue.specs.pending_table.Moves.{DiskState, Begun, put, Closes, Moves, Tells, IsBusy}
+use Rattle.reissue.specs.pending_table.Entries.{pending_of, AllOfMinor}
 use Rattle.message.specs.declared.Incoming.{Incoming}
 use Rattle.message.specs.declared.Incoming.TheVariants as incoming
 use Rattle.reissue.specs.Posts.{HasRoom, is_message}
 use Rattle.reissue.specs.Calls.{Steps, Absorbs, more_may_come}
-use Rattle.reissue.proofs.Maps.{put-other, put_cases}
+use Rattle.reissue.proofs.pending_table.Maps.{put-other, put_cases}
 use Rattle.slots.specs.declared.slot.Slot.{Slot}
 use Rattle.cache.specs.declared.cache.Took.{Took}
 use Rattle.cache.specs.declared.refusals.Cut.{Cut}

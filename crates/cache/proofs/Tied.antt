@@ -3,8 +3,8 @@ use Rattle.std.proofs.Common.{◌≡◌, ◌≢◌, ℕ, ◌<◌, ◌≤◌, ◌
 use mathlib.Core.Logic.{inl, inr}
 use Rattle.std.specs.Prelude.{slice_index}
 use Rattle.std.proofs.lemmas.Nat.{same_from_place}
-use Rattle.reissue.specs.Moves.{Begun, put, IsQuiet}
-use Rattle.reissue.proofs.Maps.{put-same, put-other, put_cases}
+use Rattle.reissue.specs.pending_table.Moves.{Begun, put, IsQuiet}
+use Rattle.reissue.proofs.pending_table.Maps.{put-same, put-other, put_cases}
 use Rattle.slots.specs.Slots.{ticket_of, dirtied, written}
 use Rattle.cache.specs.Frames.{IsUnderWay, HasSlot, IsOfBlock, Tied}
 use Rattle.slots.specs.declared.slot.Slot.{Slot}

@@ -10,10 +10,10 @@ use Rattle.reissue.specs.marks.Told.{Told, Received, grown, received, took_end, 
 use Rattle.reissue.specs.marks.Acts.{Act, Absorbed, told_of, has_absorbed}
 use Rattle.reissue.specs.marks.Opening.{Opening}
 use Rattle.reissue.specs.declared.link.Link.{Ghosts as LinkWords}
-use Rattle.reissue.specs.declared.table.Table.{Table}
-use Rattle.reissue.specs.Moves.{DiskState, state_after, put, IsBusy}
-use Rattle.reissue.specs.Entries.{pending_of, AllOfMinor}
-use Rattle.reissue.specs.Agrees.{Agrees}
+use Rattle.reissue.specs.pending_table.declared.table.Table.{Table}
+use Rattle.reissue.specs.pending_table.Moves.{DiskState, state_after, put, IsBusy}
+use Rattle.reissue.specs.pending_table.Entries.{pending_of, AllOfMinor}
+use Rattle.reissue.specs.pending_table.Agrees.{Agrees}
 use Rattle.reissue.specs.Posts.{HasRoom, OnlyPosts}
 use Rattle.reissue.specs.Rules.{KeepsRulesBy}
 use Rattle.reissue.specs.Calls.{Truth}

@@ -2,7 +2,7 @@
 use Rattle.std.specs.Prelude.{◌≡◌, ◌⊎◌, ℕ, ◌+◌, ◌*◌, ◌<◌, ◌-◌, ◌&&◌, nat_lt, nat_le, List, length, take, Option, Some, None, false, if◌then◌else◌, slice_index}
 use Rattle.legal.specs.volume.Reading.{Disk}
 use Rattle.legal.specs.View.{Frames, frame_or}
-use Rattle.reissue.specs.Moves.{DiskState, Begun}
+use Rattle.reissue.specs.pending_table.Moves.{DiskState, Begun}
 use Rattle.slots.specs.declared.state.State.TheVariants.{Clean, Writing, Changed}
 use Rattle.slots.specs.declared.slot.Slot.{Slot}
 use Rattle.slots.specs.Slots.{ticket_of}

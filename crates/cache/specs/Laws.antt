@@ -8,8 +8,8 @@ use Rattle.reissue.specs.marks.Told.{took_end}
 use Rattle.reissue.specs.marks.Acts.{Act}
 use Rattle.legal.specs.View.{server_view, IsCovered}
 use Rattle.legal.specs.ServerCall.{Serving, Leads, Rules}
-use Rattle.reissue.specs.Agrees.{Agrees}
-use Rattle.reissue.specs.Moves.{state_after}
+use Rattle.reissue.specs.pending_table.Agrees.{Agrees}
+use Rattle.reissue.specs.pending_table.Moves.{state_after}
 use Rattle.reissue.specs.Rules.{outbox_of}
 use Rattle.cache.specs.Calls.{Caching, Runs, with_handed}
 use Rattle.slots.specs.declared.slot.Slot.{Slot}

@@ -1,9 +1,9 @@
 -- What a message taken does to the frames, and what a block that was read reads as.
 use Rattle.std.specs.Prelude.{◌≡◌, ℕ, ◌+◌, ◌*◌, ◌<◌, List, Bool, true, false, Option, Some, None, Result, Ok, Err, slice_index, ◌==◌}
-use Rattle.reissue.specs.declared.ask.Settled.{Settled}
-use Rattle.reissue.specs.declared.ask.Settled.TheVariants as settled
-use Rattle.reissue.specs.Moves.{DiskState, Begun}
-use Rattle.reissue.specs.Entries.{pending_of}
+use Rattle.reissue.specs.pending_table.declared.ask.Settled.{Settled}
+use Rattle.reissue.specs.pending_table.declared.ask.Settled.TheVariants as settled
+use Rattle.reissue.specs.pending_table.Moves.{DiskState, Begun}
+use Rattle.reissue.specs.pending_table.Entries.{pending_of}
 use Rattle.slots.specs.declared.slot.Slot.{Slot}
 use Rattle.cache.specs.declared.cache.Took.{Took}
 use Rattle.cache.specs.declared.cache.Took.TheVariants as took

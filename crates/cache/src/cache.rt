@@ -10,7 +10,7 @@ ghost use Rattle.reissue.specs.Transfers.{table_of, link_of, begun_in};
 ghost use Rattle.legal.specs.Mount.{is_frame_count};
 ghost use Rattle.reissue.specs.Room.{room_needed};
 ghost use Rattle.reissue.specs.Posts.{is_message, HasRoom};
-ghost use Rattle.reissue.specs.Moves.{IsBusy};
+ghost use Rattle.reissue.specs.pending_table.Moves.{IsBusy};
 ghost use Rattle.cache.specs.Takes.{is_ended_by};
 
 use crate::frame::Frame;

@@ -2,8 +2,8 @@
 use Rattle.std.proofs.Common.{◌≡◌, ℕ, zero, suc, ◌+◌, ◌*◌, ◌/◌, ◌%◌, ◌<◌, ◌≤◌, List, [], ◌∷◌, ◌++◌, append_assoc, refl, sym, ap, subst, ◌∙◌, arith, true, false, Option, Some, None, Result, Ok, Err, IsErr}
 use Rattle.std.proofs.Math.Nat.{div-add-mod, mod-lt, mul_comm}
 use mathlib.Core.Logic.{inl, inr}
-use Rattle.reissue.specs.Moves.{DiskState, IsBusy}
-use Rattle.reissue.specs.Entries.{pending_of}
+use Rattle.reissue.specs.pending_table.Moves.{DiskState, IsBusy}
+use Rattle.reissue.specs.pending_table.Entries.{pending_of}
 use Rattle.cache.specs.slots.declared.slot.Slot.{Slot}
 use Rattle.cache.specs.slots.declared.state.State.{State}
 use Rattle.cache.specs.slots.declared.state.State.TheVariants.{Clean, Dirty, Writing, Changed}

@@ -21,8 +21,8 @@ use Rattle.reissue.specs.marks.Disk.{Contents, HasTrueReplies, bytes_read, is_re
 use Rattle.reissue.specs.marks.Told.{Told, Posted, Complained, Received, took_end}
 use Rattle.reissue.specs.marks.Acts.{Act, told_of, marks_after}
 use Rattle.legal.specs.Mount.{AreRead, first_bytes, IsHeadRefused, IsVolumeRefused, NothingIsRefused, geometry_read, head_read, is_frame_count, volume_read, volume_size}
-use Rattle.reissue.specs.declared.table.Table.{Table}
-use Rattle.reissue.specs.Agrees.{Agrees}
+use Rattle.reissue.specs.pending_table.declared.table.Table.{Table}
+use Rattle.reissue.specs.pending_table.Agrees.{Agrees}
 use Rattle.reissue.specs.Calls.{Truth}
 use Rattle.fsck.specs.declared.verdict.Clean.{Clean}
 use Rattle.mounting.specs.declared.reading.Stop.{Stop}

@@ -5,8 +5,8 @@ use Rattle.std.specs.Prelude.{◌==◌, remove}
 use Rattle.std.specs.List.{position_from}
 use Rattle.std.proofs.lemmas.Iterator.Adapters.{position_from-zero}
 use Rattle.std.specs.Prelude.{position}
-use Rattle.reissue.specs.Moves.{Begun, put}
-use Rattle.reissue.proofs.Maps.{is_put}
+use Rattle.reissue.specs.pending_table.Moves.{Begun, put}
+use Rattle.reissue.proofs.pending_table.Maps.{is_put}
 use Rattle.mounting.specs.declared.sought.Sought.{Sought}
 use Rattle.mounting.specs.Sought.{is_for, piece, piece_at, piece_size, pieces_of, place_of, without_ticket, AreDistinct, AreBefore}
 

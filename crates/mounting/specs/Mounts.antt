@@ -11,8 +11,8 @@ use Rattle.legal.specs.Legal.{IsAtFirst}
 use Rattle.legal.specs.Mount.{AreRead, IsWhyNotMounted, geometry_read, is_frame_count, volume_read, volume_size}
 use Rattle.legal.specs.Mount as words
 use Rattle.layout.specs.Places.{IsGeometry, geometry_of}
-use Rattle.reissue.specs.declared.table.Table.{Table}
-use Rattle.reissue.specs.Agrees.{Agrees}
+use Rattle.reissue.specs.pending_table.declared.table.Table.{Table}
+use Rattle.reissue.specs.pending_table.Agrees.{Agrees}
 use Rattle.reissue.specs.Calls.{Truth}
 use Rattle.fsck.specs.declared.verdict.Clean.{Clean}
 use Rattle.mounting.specs.declared.whole.MountRefusal.{MountRefusal}

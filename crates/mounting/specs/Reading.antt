@@ -6,16 +6,16 @@ use Rattle.reissue.specs.marks.Opening.{Opening}
 use Rattle.reissue.specs.marks.Told.{Told, took_end}
 use Rattle.reissue.specs.marks.Acts.{Act, told_of, has_absorbed, marks_after, outbox_after, KeepsRules}
 use Rattle.legal.specs.Mount.{OnlyReads}
-use Rattle.reissue.specs.declared.table.Table.{Table}
-use Rattle.reissue.specs.declared.pending.Pending.{Pending}
-use Rattle.reissue.specs.Agrees.{Agrees}
-use Rattle.reissue.specs.Entries.{pending_of, AllOfMinor, AllAsk, IsLeft}
+use Rattle.reissue.specs.pending_table.declared.table.Table.{Table}
+use Rattle.reissue.specs.pending_table.declared.pending.Pending.{Pending}
+use Rattle.reissue.specs.pending_table.Agrees.{Agrees}
+use Rattle.reissue.specs.pending_table.Entries.{pending_of, AllOfMinor, AllAsk, IsLeft}
 use Rattle.message.specs.declared.Kind.TheVariants.{Read}
-use Rattle.reissue.specs.declared.ask.Ask.{Ask}
+use Rattle.reissue.specs.pending_table.declared.ask.Ask.{Ask}
 use Rattle.reissue.specs.declared.link.Link.{Ghosts as LinkWords}
 use Rattle.reissue.specs.declared.transfers.Transfers.{Transfers}
 use Rattle.reissue.specs.Transfers.{table_of, link_of, begun_in, Between}
-use Rattle.reissue.specs.Moves.{Begun, Touches, WasRead, IsBusy, begun_by, put}
+use Rattle.reissue.specs.pending_table.Moves.{Begun, Touches, WasRead, IsBusy, begun_by, put}
 use Rattle.reissue.specs.Rules.{outbox_of}
 use Rattle.reissue.specs.Calls.{Truth, Adds, Begins}
 use Rattle.mounting.specs.declared.sought.Sought.{Sought}

@@ -11,12 +11,12 @@ use Rattle.marks.specs.Told.{Told, Posted, Complained, Received}
 use Rattle.marks.specs.Acts.{Act, AtLink, Outbox, KeepsRules, outbox_after, target, told_of}
 use Rattle.marks.specs.Opening.{FitsMinor}
 use Rattle.marks.proofs.ActLaws.{acts_compose}
-use Rattle.reissue.specs.declared.pending.Pending.{Pending}
-use Rattle.reissue.specs.Entries.{AreRising, AllOfMinor, request_of}
+use Rattle.pending_table.specs.declared.pending.Pending.{Pending}
+use Rattle.pending_table.specs.Entries.{AreRising, AllOfMinor, request_of}
 use Rattle.reissue.specs.Posts.{ArePostedTo, accepted_of}
 use Rattle.reissue.specs.Rules.{at_link}
 use Rattle.reissue.proofs.Steps.{fits_minor}
-use Rattle.reissue.proofs.Tickets.{rising_lower}
+use Rattle.pending_table.proofs.Tickets.{rising_lower}
 use Rattle.reissue.proofs.Order.{without_lower}
 
 -- both one after the other

@@ -1,26 +1,26 @@
 -- What one step at the link or the table does to agreement with the record.
-use Rattle.std.proofs.Common.{◌≡◌, ℕ, suc, zero, ◌+◌, ◌<◌, ◌≤◌, List, [], ◌∷◌, ◌++◌, length, drop, map, get_or, Bool, true, false, cond, refl, sym, ◌∙◌, ap, subst, inl, inr, arith, append_assoc, max, Option, Some, None}
+use Rattle.std.proofs.Common.{◌≡◌, ℕ, suc, zero, ◌+◌, ◌<◌, ◌≤◌, List, [], ◌∷◌, ◌++◌, length, drop, map, get_or, true, false, refl, sym, ◌∙◌, ap, subst, inl, inr, arith, append_assoc, max, Some}
 use Rattle.std.proofs.lemmas.List.{drop_more, map-append, length-append, get_or_append_left, length-map, get_or_at}
 use Rattle.std.proofs.lemmas.Bool.Decides.{leb_tells}
 use Rattle.endpoint.specs.declared.Endpoint.{Endpoint}
 use Rattle.message.specs.declared.BlockRequest.{BlockRequest}
-use Rattle.reissue.specs.declared.pending.Pending.{Pending}
-use Rattle.reissue.specs.declared.table.Table.{Table}
-use Rattle.reissue.proofs.Writes.{all_wrote_issued, one_among, spares_issued, spares_then}
-use Rattle.reissue.proofs.Tickets.{among_at}
-use Rattle.reissue.proofs.Joined.{joined_like}
+use Rattle.pending_table.specs.declared.pending.Pending.{Pending}
+use Rattle.pending_table.specs.declared.table.Table.{Table}
+use Rattle.pending_table.proofs.Writes.{all_wrote_issued, one_among, spares_issued, spares_then}
+use Rattle.pending_table.proofs.Tickets.{among_at}
+use Rattle.pending_table.proofs.Answering.{started_at}
+use Rattle.pending_table.proofs.Joined.{joined_like}
 use Rattle.marks.proofs.OpenRequests.{open_below, open_again, open_new}
 use Rattle.marks.specs.Disk.{Contents}
-use Rattle.marks.specs.Marks.{last_started, gave_up, Issued, Mark}
+use Rattle.marks.specs.Marks.{Issued, Mark}
 use Rattle.marks.specs.Open.{IsIn, IsNew, Misses, MissesAll, greatest, open_requests}
 use Rattle.marks.specs.Told.{Posted, Told, grown}
-use Rattle.marks.specs.Acts.{target}
-use Rattle.reissue.specs.Agrees.{AreNumbered, Agrees, AllApart, AllReadDisk, AllWrote, Apart, ApartFromAll, Holds, unposted}
+use Rattle.pending_table.specs.Agrees.{AreNumbered, Agrees, AllApart, AllReadDisk, AllWrote, Apart, ApartFromAll, Holds, unposted}
 use Rattle.marks.specs.Open.{MayFollow}
 use Rattle.reissue.specs.Calls.{Leads, Truth}
 use Rattle.marks.specs.Opening.{Opening, Fits, FitsMinor}
-use Rattle.reissue.specs.Entries.{AllOfMinor, IsAmong, pending_of, request_of}
-use Rattle.reissue.specs.Moves.{Spares, state_after}
+use Rattle.pending_table.specs.Entries.{AllOfMinor, IsAmong, pending_of, request_of}
+use Rattle.pending_table.specs.Moves.{Spares, state_after}
 use Rattle.reissue.specs.Posts.{ArePostedTo}
 
 -- the request of an entry is one of theirs
@@ -41,13 +41,6 @@ reads_issued image marks r to (p ∷ ps) h = (
 -- the same numbers
 pub numbered_at : (n m : ℕ) (rs : List BlockRequest) → n ≡ m → AreNumbered n rs → AreNumbered m rs
 numbered_at n m rs e h = let P : ℕ → Type 0 = λ k. AreNumbered k rs in subst P e h
-
--- an endpoint to post to is that of the last start
-pub started_at : (marks : List Mark) (o : Option Endpoint) (to : Endpoint) → o ≡ target marks → o ≡ Some to → last_started marks ≡ Some to
-started_at marks o to e f = by (gave_up marks) (sym e ∙ f) where
-  by : (b : Bool) → cond b None (last_started marks) ≡ Some to → last_started marks ≡ Some to
-  by true h = cc
-  by false h = h
 
 -- a request that stands in front of another's place misses it
 misses : (p q : Pending) → Apart p q → Misses p.request q.request

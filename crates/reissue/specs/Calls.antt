@@ -1,24 +1,26 @@
 -- What each call of transfers adds to the record, and what it does to the disk, to those that are pending, and to what the link guarantees.
-use Rattle.std.specs.Prelude.{◌≡◌, ℕ, ◌+◌, List, [], ◌∷◌, ◌++◌, length, max, Bool, true, false, not, ◌||◌, ◌==◌, MatchBool, Option, Some}
+use Rattle.std.specs.Prelude.{◌≡◌, ℕ, ◌+◌, List, [], ◌∷◌, ◌++◌, length, max, Bool, true, false, not, ◌||◌, ◌==◌, MatchBool}
 use Rattle.message.specs.declared.BlockRequest.{BlockRequest}
 use Rattle.message.specs.declared.Incoming.{Incoming}
 use Rattle.message.specs.declared.Incoming.TheVariants as incoming
 use Rattle.marks.specs.Marks.{Mark}
-use Rattle.marks.specs.Disk.{Contents, HasTrueReplies, bytes_read, is_read}
+use Rattle.marks.specs.Disk.{Contents}
 use Rattle.marks.specs.Told.{Told, Received, grown, received, heard, took_end, took_nothing}
-use Rattle.reissue.specs.declared.ask.Ask.{Ask}
-use Rattle.reissue.specs.declared.ask.Settled.{Settled}
-use Rattle.reissue.specs.declared.ask.Settled.TheVariants as settled
-use Rattle.reissue.specs.declared.pending.Pending.{Pending}
-use Rattle.reissue.specs.declared.table.Table.{Table}
+use Rattle.pending_table.specs.declared.ask.Ask.{Ask}
+use Rattle.pending_table.specs.declared.ask.Settled.{Settled}
+use Rattle.pending_table.specs.declared.ask.Settled.TheVariants as settled
+use Rattle.pending_table.specs.declared.pending.Pending.{Pending}
+use Rattle.pending_table.specs.declared.table.Table.{Table}
 use Rattle.marks.specs.Opening.{Opening}
-use Rattle.reissue.specs.Moves.{Begun, Touches, IsQuiet, IsBusy, Spares, Moves, Closes, Joins, state_after, request_for, begun_by}
-use Rattle.reissue.specs.Entries.{pending_of, begun_of, AllOfMinor, AllAsk, IsLeft}
-use Rattle.reissue.specs.Agrees.{Agrees}
+use Rattle.pending_table.specs.Moves.{IsBusy, Spares, Closes, state_after, request_for, begun_by}
+use Rattle.pending_table.specs.Entries.{pending_of, begun_of, AllOfMinor}
+use Rattle.pending_table.specs.Agrees.{Agrees}
 use Rattle.marks.specs.Acts.{Act, Absorbed, told_of, has_absorbed}
 use Rattle.reissue.specs.Rules.{KeepsRulesBy, BeganAmong, acts_on}
-use Rattle.reissue.specs.Hears.{Hears}
-use Rattle.reissue.specs.Posts.{OnlyPosts, accepted_of, PostsInOrder, PostsAfter, due_after, complaints_about}
+use Rattle.pending_table.specs.Hears.{Hears}
+use Rattle.pending_table.specs.Answers.{complaints_about}
+use Rattle.pending_table.specs.Closing.{Closing}
+use Rattle.reissue.specs.Posts.{OnlyPosts, accepted_of, PostsInOrder, PostsAfter, due_after}
 
 -- what a link guarantees of a record, for a run from an opening
 abbrev pub Truth : Type 1
@@ -39,15 +41,6 @@ pub record Leads (old new : Table) (before after : List Told) (was is : Truth) :
   pub truth : (opening : Opening) (marks : List Mark) → Agrees old marks → AllOfMinor opening.minor old.pending
       → was opening marks → is opening (grown posts marks)
 
--- no pending write has a place of a write that was settled
-abbrev pub LeavesQuiet : Settled → (ℕ → Option Begun) → (ℕ → Option Begun) → Type 0
-LeavesQuiet (settled.Written t) old new = (r : Begun) → old t ≡ Some r → (place : ℕ) → Touches r place → IsQuiet new place
-LeavesQuiet (settled.Read t bytes) old new = Unit {0}
-LeavesQuiet settled.Nothing old new = Unit {0}
-LeavesQuiet settled.Flush old new = Unit {0}
-LeavesQuiet settled.GaveUp old new = Unit {0}
-LeavesQuiet settled.End old new = Unit {0}
-
 -- the device was given up by it
 abbrev pub gives_up : Settled → Bool
 gives_up settled.GaveUp = true
@@ -56,22 +49,6 @@ gives_up (settled.Written t) = false
 gives_up settled.Nothing = false
 gives_up settled.Flush = false
 gives_up settled.End = false
-
--- What a message does to what was read: outside what was left of the pending requests it stays, and so does in what is left of them
--- whether it was read; each goes on asking for something.
-pub record ReadsOn (old new : List Pending) (marks more : List Mark) : Type 0 where
-  pub others : (place : ℕ) → (IsLeft old place → ⊥)
-      → (bytes_read more place ≡ bytes_read marks place) × (is_read more place ≡ is_read marks place)
-  pub left : (place : ℕ) → IsLeft new place → IsLeft old place × (is_read more place ≡ is_read marks place)
-  pub ask : AllAsk old → AllAsk new
-
--- what a message does to the disk and to what was read, from the one record to the other
-pub record Closing (result : Settled) (old new : List Pending) (marks more : List Mark) : Type 0 where
-  pub moves : (image : Contents) → HasTrueReplies image more
-      → Moves result (pending_of old) (state_after image marks) (state_after image more)
-  pub joins : Joins result (pending_of old) more
-  pub leaves : LeavesQuiet result (pending_of old) (pending_of new)
-  pub reads : ReadsOn old new marks more
 
 -- what is done on a message before anything is posted: the complaint that is due
 pub record TakesIn (message : Incoming) (result : Settled) (old mid : Table) (before after : List Told) (was is : Truth) : Type 0 where

@@ -1,14 +1,9 @@
--- Links, pending requests, and what transfers do.
+-- Links, and what transfers do over them.
+pub use Rattle.pending_table.specs as pending_table
 pub use Rattle.marks.specs as marks
 pub mod Refusals
 pub mod Room
-pub mod Queue
-pub mod Entries
-pub mod Moves
-pub mod Agrees
-pub mod Hears
 pub mod Posts
 pub mod Calls
-pub mod Answers
 pub mod Transfers
 pub mod Rules

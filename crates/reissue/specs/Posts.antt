@@ -7,8 +7,8 @@ use Rattle.message.specs.declared.Incoming.TheVariants as incoming
 use Rattle.marks.specs.Told.{Told, Posted, Complained, Received}
 use Rattle.marks.specs.Marks.{Mark}
 use Rattle.marks.specs.Acts.{complaint_due}
-use Rattle.reissue.specs.declared.table.Table.{Table}
-use Rattle.reissue.specs.Agrees.{unposted}
+use Rattle.pending_table.specs.declared.table.Table.{Table}
+use Rattle.pending_table.specs.Agrees.{unposted}
 
 -- these are all posts
 abbrev pub OnlyPosts : List Told → Type 0
@@ -47,11 +47,6 @@ is_message incoming.Flush = true
 -- what is posted after a message: all that isn't posted yet; nothing after End
 abbrev pub PostsAfter : Incoming → Table → List Told → List Told → Type 0
 PostsAfter message mid before after = MatchBool (is_message message) (PostsInOrder mid.current (unposted mid) before after) (after ≡ before)
-
--- the complaint about this endpoint, if one is due
-abbrev pub complaints_about : Option Endpoint → List Told
-complaints_about None = []
-complaints_about (Some e) = Complained e ∷ []
 
 -- the complaint that a message asks for
 abbrev pub due_after : Incoming → List Mark → Option Endpoint

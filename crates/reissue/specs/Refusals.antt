@@ -2,15 +2,8 @@
 use Rattle.std.specs.Prelude.{ℕ}
 use Rattle.reissue.specs.declared.link.LinkRefusal.{LinkRefusal}
 use Rattle.reissue.specs.declared.link.LinkRefusal.TheVariants as link
-use Rattle.reissue.specs.declared.ask.BeginRefusal.{BeginRefusal}
-use Rattle.reissue.specs.declared.ask.BeginRefusal.TheVariants as begin
 
 -- why a request wasn't posted
 abbrev pub link_refusal_number : LinkRefusal → ℕ
 link_refusal_number link.DeadEndpoint = 1
 link_refusal_number link.Full = 2
-
--- why a request wasn't begun
-abbrev pub begin_refusal_number : BeginRefusal → ℕ
-begin_refusal_number begin.TableFull = 1
-begin_refusal_number begin.BlockPending = 2

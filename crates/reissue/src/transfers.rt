@@ -6,14 +6,14 @@ ghost use Rattle.std.specs.Borrow.{Lends, sem};
 ghost use Rattle.std.specs.List.{list_any};
 ghost use Rattle.reissue.specs.Room.{room_needed};
 ghost use Rattle.reissue.specs.Posts.{is_message};
-ghost use Rattle.reissue.specs.Moves.{Opens, IsFree, begun_by};
-ghost use Rattle.reissue.specs.Entries.{pending_of};
+ghost use Rattle.pending_table.specs.Moves.{Opens, IsFree, begun_by};
+ghost use Rattle.pending_table.specs.Entries.{pending_of};
 
-use crate::ask::{Ask, BeginRefusal, Settled, Ticket};
 use crate::link::Link;
-use crate::table::{Answer, Table};
 use endpoint::Endpoint;
 use message::Incoming;
+use pending_table::ask::{Ask, BeginRefusal, Settled, Ticket};
+use pending_table::table::{Answer, Table};
 use std::alloc::{AllocError, Global};
 
 /// The pending requests of a file server, and the link that they go over.
@@ -46,7 +46,7 @@ impl<L: Link> Transfers<L> {
     ghost use Rattle.marks.specs.Marks.{Mark};
     ghost use Rattle.marks.specs.Acts.{empty_outbox};
     ghost use Rattle.reissue.specs.Rules.{outbox_of};
-    ghost use Rattle.reissue.specs.Agrees.{Agrees, unposted};
+    ghost use Rattle.pending_table.specs.Agrees.{Agrees, unposted};
     ghost use Rattle.reissue.specs.Posts.{PostsInOrder, IsTried, HasRoom, CanPost, TakesRoom};
     ghost use Rattle.reissue.specs.Calls.{Leads, TakesIn, Absorbs, Steps, Begins, Adds, IsAnswerTo, more_may_come};
     ghost use Rattle.reissue.specs.Transfers.{link_of, table_of, begun_in, with_link, Between};

@@ -2,7 +2,7 @@
 ghost use Rattle.std.specs.Prelude.{◌≡◌, ◌<◌, ◌≤◌, ◌+◌, ◌^◌, ℕ, IfOk, [], Some};
 ghost use Rattle.reissue.specs.Transfers.{table_of, link_of, begun_in};
 ghost use Rattle.reissue.specs.Posts.{HasRoom};
-ghost use Rattle.reissue.specs.Moves.{Begun};
+ghost use Rattle.reissue.specs.pending_table.Moves.{Begun};
 ghost use Rattle.frame_samples.specs.cache.Frames.{IsOfBlock};
 
 use frame_samples::lists::{moved, started, told};

@@ -4,8 +4,8 @@ use Rattle.std.proofs.lemmas.List.{length-set}
 use mathlib.Core.Logic.{inl, inr}
 use Rattle.std.specs.Prelude.{◌&&◌, is_some, slice_get, position}
 use Rattle.std.proofs.lemmas.Bool.{cases_eq}
-use Rattle.reissue.specs.Moves.{put}
-use Rattle.reissue.proofs.Maps.{put_cases}
+use Rattle.reissue.specs.pending_table.Moves.{put}
+use Rattle.reissue.proofs.pending_table.Maps.{put_cases}
 use Rattle.slots.specs.declared.slot.Slot.{Slot}
 use Rattle.slots.specs.declared.state.State.{State}
 use Rattle.slots.specs.Slots.{held, is_number, ticket_of, written, is_under, IsDistinct}

@@ -2,8 +2,8 @@
 use Rattle.std.proofs.Common.{◌≡◌, ℕ, List, set, refl, ap, ◌∙◌, Option, Some, None}
 use mathlib.Core.Logic.{inl, inr, ◌⊎◌}
 use Rattle.std.specs.Prelude.{slice_get}
-use Rattle.reissue.specs.Moves.{put}
-use Rattle.reissue.proofs.Maps.{put_cases}
+use Rattle.reissue.specs.pending_table.Moves.{put}
+use Rattle.reissue.proofs.pending_table.Maps.{put_cases}
 use Rattle.slots.specs.declared.slot.Slot.{Slot}
 use Rattle.slots.specs.declared.state.State.{State}
 use Rattle.slots.specs.Slots.{held, IsDistinct}

@@ -3,8 +3,8 @@ use Rattle.std.proofs.Common.{◌≡◌, ◌≢◌, ℕ, zero, suc, ◌<◌, Lis
 use mathlib.Core.Logic.{inl, inr, ◌⊎◌}
 use Rattle.std.specs.Prelude.{cond, slice_get}
 use Rattle.std.proofs.lemmas.Bool.{cond-true, cond-false, eq-eqb, ne_eqb, cases_eq}
-use Rattle.reissue.specs.Moves.{put}
-use Rattle.reissue.proofs.Maps.{is_put}
+use Rattle.reissue.specs.pending_table.Moves.{put}
+use Rattle.reissue.proofs.pending_table.Maps.{is_put}
 use Rattle.slots.specs.Slots.{is_number, held, IsDistinct}
 use Rattle.slots.specs.Edits.{IsAt}
 use Rattle.slots.specs.declared.slot.Slot.{Slot}

@@ -1,6 +1,6 @@
 -- One slot changed, and what such changes leave.
 use Rattle.std.specs.Prelude.{◌≡◌, ◌⊎◌, ℕ, ◌+◌, ◌-◌, List, Option, Some, None, Bool, true, false, ◌≤◌, ◌&&◌, slice_get, slice_set, slice_index, if◌then◌else◌, nat_le, nat_lt, length}
-use Rattle.reissue.specs.Moves.{put}
+use Rattle.reissue.specs.pending_table.Moves.{put}
 use Rattle.slots.specs.declared.slot.Slot.{Slot}
 use Rattle.slots.specs.declared.table.Slots.{Slots}
 use Rattle.slots.specs.declared.state.State.{State}

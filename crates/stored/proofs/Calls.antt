@@ -4,7 +4,7 @@ use Rattle.std.specs.Prelude.{Result, Ok, Err}
 use Rattle.store.specs.volume.Reading.{Disk}
 use Rattle.reissue.specs.marks.Told.{Told, grown}
 use Rattle.reissue.specs.marks.Disk.{HasTrueReplies}
-use Rattle.reissue.specs.Moves.{DiskState, state_after}
+use Rattle.reissue.specs.pending_table.Moves.{DiskState, state_after}
 use Rattle.cache.specs.Calls.{Caching, Runs, Keeps, Serves, Blanks, Rewrites}
 use Rattle.cache.specs.Frames.{view, with_bytes}
 use Rattle.cache.proofs.Runs.{runs_as}

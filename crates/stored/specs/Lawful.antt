@@ -8,7 +8,7 @@ use Rattle.store.specs.volume.Reading.{Disk}
 use Rattle.reissue.specs.marks.Marks.{Mark}
 use Rattle.reissue.specs.marks.Told.{Told, grown}
 use Rattle.reissue.specs.marks.Disk.{Contents, HasTrueReplies}
-use Rattle.reissue.specs.Moves.{DiskState, state_after}
+use Rattle.reissue.specs.pending_table.Moves.{DiskState, state_after}
 use Rattle.reissue.proofs.Joining.{grown_append}
 use Rattle.cache.specs.slots.declared.slot.Slot.{Slot}
 use Rattle.cache.specs.legal.View.{frame_or}

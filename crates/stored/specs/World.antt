@@ -5,8 +5,8 @@ use Rattle.store.specs.volume.Reading.{Disk}
 use Rattle.reissue.specs.marks.Marks.{Mark}
 use Rattle.reissue.specs.marks.Told.{Told, grown}
 use Rattle.reissue.specs.marks.Disk.{Contents, HasTrueReplies}
-use Rattle.reissue.specs.Agrees.{Agrees}
-use Rattle.reissue.specs.Moves.{state_after}
+use Rattle.reissue.specs.pending_table.Agrees.{Agrees}
+use Rattle.reissue.specs.pending_table.Moves.{state_after}
 use Rattle.reissue.specs.declared.link.Link.{Ghosts as LinkWords}
 use Rattle.reissue.specs.Transfers.{link_of}
 use Rattle.cache.specs.declared.refusals.Cut as old_cut

@@ -14,8 +14,8 @@ use Rattle.reissue.specs.marks.Acts.{Absorbed, marks_after}
 use Rattle.legal.specs.Legal.{tree_after}
 use Rattle.legal.specs.View.{server_view}
 use Rattle.legal.specs.ServerCall.{Serving, Serves, AbsorbKeeps}
-use Rattle.reissue.specs.Agrees.{Agrees}
-use Rattle.reissue.specs.Moves.{state_after}
+use Rattle.reissue.specs.pending_table.Agrees.{Agrees}
+use Rattle.reissue.specs.pending_table.Moves.{state_after}
 use Rattle.reissue.proofs.TableRules.{at_rest}
 use Rattle.cache.specs.Calls.{Caching, Runs, Serves as Stays, HandsOver}
 use Rattle.cache.specs.Laws.{LeadsBy}

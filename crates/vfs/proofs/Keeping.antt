@@ -21,8 +21,8 @@ use Rattle.legal.specs.Legal.{IsLegal, IsLegalTook, is_sync, tree_after, tree_af
 use Rattle.legal.specs.View.{server_view, IsCovered}
 use Rattle.legal.specs.ServerCall.{Serving, Serves, Replied, Cut, CallKeeps}
 use Rattle.legal.specs.Unmount.{Unmounting, Unmounted, unmounting_of}
-use Rattle.reissue.specs.Agrees.{Agrees}
-use Rattle.reissue.specs.Moves.{state_after}
+use Rattle.reissue.specs.pending_table.Agrees.{Agrees}
+use Rattle.reissue.specs.pending_table.Moves.{state_after}
 use Rattle.reissue.proofs.TableRules.{at_rest}
 use Rattle.reissue.proofs.Taking.{agrees_took}
 use Rattle.cache.specs.Calls.{Caching, Runs}

@@ -12,10 +12,10 @@ use Rattle.legal.specs.Mount.{IsWhyNotMounted, MountKeeps, MountRefused, Mountin
 use Rattle.legal.specs.Mount as words
 use Rattle.legal.specs.ServerCall.{Serves}
 use Rattle.reissue.specs.declared.link.Link.{Ghosts as LinkWords}
-use Rattle.reissue.specs.declared.table.Table.{Table}
+use Rattle.reissue.specs.pending_table.declared.table.Table.{Table}
 use Rattle.reissue.specs.declared.transfers.Transfers.{Transfers}
 use Rattle.reissue.specs.Transfers.{link_of, table_of}
-use Rattle.reissue.specs.Agrees.{Agrees}
+use Rattle.reissue.specs.pending_table.Agrees.{Agrees}
 use Rattle.reissue.specs.Calls.{Truth}
 use Rattle.reissue.specs.Rules.{outbox_of}
 use Rattle.reissue.proofs.TableRules.{at_rest}

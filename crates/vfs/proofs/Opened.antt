@@ -18,8 +18,8 @@ use Rattle.legal.specs.ServerCall.{Serves}
 use Rattle.reissue.specs.declared.link.Link.{Ghosts as LinkWords}
 use Rattle.reissue.specs.declared.transfers.Transfers.{Transfers}
 use Rattle.reissue.specs.Transfers.{link_of, table_of}
-use Rattle.reissue.specs.Agrees.{Agrees}
-use Rattle.reissue.specs.Moves.{state_after}
+use Rattle.reissue.specs.pending_table.Agrees.{Agrees}
+use Rattle.reissue.specs.pending_table.Moves.{state_after}
 use Rattle.reissue.specs.Rules.{outbox_of}
 use Rattle.reissue.proofs.TableRules.{at_rest}
 use Rattle.cache.specs.slots.declared.slot.Slot.{Slot}

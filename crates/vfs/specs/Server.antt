@@ -12,8 +12,8 @@ use Rattle.message.specs.declared.Incoming.{Incoming}
 use Rattle.legal.specs.Legal.{tree_after}
 use Rattle.legal.specs.ServerCall.{Serving, Outcome}
 use Rattle.file_server.specs.Over.{CallsOver, AbsorbsOver}
-use Rattle.reissue.specs.Agrees.{Agrees}
-use Rattle.reissue.specs.Moves.{state_after}
+use Rattle.reissue.specs.pending_table.Agrees.{Agrees}
+use Rattle.reissue.specs.pending_table.Moves.{state_after}
 use Rattle.reissue.specs.Rules.{outbox_of}
 use Rattle.cache.specs.Calls.{Caching, IsReady, messages_left}
 use Rattle.cache.specs.Frames.{CacheAgrees, frames_of}

@@ -1,6 +1,6 @@
 use Rattle.std.proofs.Common.{◌≡◌, ◌<◌, ◌≤◌, ◌+◌, length}
-use Rattle.reissue.specs.Moves.{IsBusy}
-use Rattle.reissue.specs.Entries.{pending_of}
+use Rattle.reissue.specs.pending_table.Moves.{IsBusy}
+use Rattle.reissue.specs.pending_table.Entries.{pending_of}
 use Rattle.cache.specs.declared.frame.Frame.{Frame}
 use Rattle.cache.specs.Calls.{caching, frame_count, Keeps, PostsAlone, IsFrame, LinkGoesOn}
 use Rattle.cache.specs.Calls.{messages_left}

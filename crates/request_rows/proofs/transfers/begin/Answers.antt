@@ -1,8 +1,8 @@
 use Rattle.std.proofs.Common.{◌≡◌, ℕ, ◌*◌, sym, ap, ◌∙◌, Option, Some, Result, Ok, Err}
 use mathlib.Core.Logic.{inl, inr}
-use Rattle.reissue.specs.declared.ask.BeginRefusal.{BeginRefusal}
-use Rattle.reissue.specs.Moves.{Begun, Opens}
-use Rattle.reissue.proofs.Maps.{put_cases}
+use Rattle.reissue.specs.pending_table.declared.ask.BeginRefusal.{BeginRefusal}
+use Rattle.reissue.specs.pending_table.Moves.{Begun, Opens}
+use Rattle.reissue.proofs.pending_table.Maps.{put_cases}
 use Rattle.frame_samples.specs.cache.Frames.{IsOfBlock}
 use Rattle.frame_samples.proofs.cache.Beginning.{free_block}
 use Rattle.request_rows.proofs.transfers.begin.Goals as goal

@@ -1,7 +1,7 @@
 use Rattle.std.proofs.Common.{◌≡◌, ◌≤◌, ◌+◌, ℕ, Some}
 use Rattle.reissue.specs.Transfers.{table_of, link_of, begun_in}
 use Rattle.reissue.specs.Posts.{HasRoom}
-use Rattle.reissue.specs.Moves.{Begun}
+use Rattle.reissue.specs.pending_table.Moves.{Begun}
 use Rattle.frame_samples.specs.cache.Frames.{IsOfBlock}
 use Rattle.request_rows.proofs.transfers.begin_first.Given as goal
 

@@ -8,8 +8,8 @@ use Rattle.cache.proofs.Silent.{silent}
 use Rattle.cache.proofs.Taking.{absorbs_one, room_after, leaves_settled, none_begun}
 use Rattle.message.specs.declared.Incoming.{Incoming}
 use Rattle.reissue.specs.Calls.{IsAnswerTo}
-use Rattle.reissue.specs.declared.ask.Settled.TheVariants as settled
-use Rattle.reissue.specs.Entries.{pending_of}
+use Rattle.reissue.specs.pending_table.declared.ask.Settled.TheVariants as settled
+use Rattle.reissue.specs.pending_table.Entries.{pending_of}
 use Rattle.cache.specs.Takes.{NoReadBegun}
 use Rattle.cache.proofs.cache.Cache.absorb.Goals as goal
 

@@ -1,0 +1,10 @@
+-- Pending requests, and what a message does to them.
+pub use Rattle.marks.specs as marks
+pub mod Refusals
+pub mod Queue
+pub mod Entries
+pub mod Moves
+pub mod Agrees
+pub mod Hears
+pub mod Answers
+pub mod Closing
