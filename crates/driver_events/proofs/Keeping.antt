@@ -42,10 +42,10 @@ use Rattle.run_log.specs.Noted.{Noted, grouped, with_mark, with_entry}
 use Rattle.run_log.proofs.NotedLaws.{mark_in, one_more}
 use Rattle.driver_events.specs.declared.ruling.Ruling.{Ruling}
 use Rattle.driver_events.specs.declared.ruling.Ruling.TheVariants as ruling
-use Rattle.driver_events.specs.Disks.{Disks, seen, reply_in, sent_at, Steps, NoStep, CurrentSteps, OlderSteps, torn_media, Dies, NoneDies, CurrentDies, OlderDies, Hangs, NoneHangs, CurrentHangs, OlderHangs, LinesUpAgain, NoneLinesUp, CurrentLinesUp, OlderLinesUp, Repeats, started, opened_disks}
+use Rattle.run_drivers.specs.Disks.{Disks, seen, reply_in, sent_at, Steps, NoStep, CurrentSteps, OlderSteps, torn_media, Dies, NoneDies, CurrentDies, OlderDies, Hangs, NoneHangs, CurrentHangs, OlderHangs, LinesUpAgain, NoneLinesUp, CurrentLinesUp, OlderLinesUp, Repeats, started, opened_disks}
 use Rattle.driver_events.specs.Scene.{Scene, faulted, told_of_ruling, ruled, Exits, beaten, acted, told_of_action, tick_event, next_started, Ticks, AfterStep, AfterDeath, delivered}
 use Rattle.driver_events.specs.Kept.{DisksKept, IsPost, PostsKept, SceneKept, NotesAside, with_next, IsLatest, EventsKeep, EventsNoteAside, OpeningKeeps}
-use Rattle.driver_events.proofs.DisksLaws.{map_push}
+use Rattle.run_drivers.proofs.DisksLaws.{map_push}
 use Rattle.driver_events.proofs.Decided.{start_is_next}
 
 sent_same : (place g : ℕ) (step : Step) (sent : List Sent) → map reply_in (sent_at place g step sent) ≡ sent_after g step (map reply_in sent)

@@ -19,7 +19,7 @@ use Rattle.schedule.specs.declared.Event.TheVariants as event
 use Rattle.run_log.specs.declared.log.Post.{Post}
 use Rattle.driver_events.specs.declared.ruling.Ruling.{Ruling}
 use Rattle.driver_events.specs.declared.ruling.Ruling.TheVariants as ruling
-use Rattle.driver_events.specs.Disks.{Disks, Steps, NoStep, CurrentSteps, OlderSteps, torn_media, Dies, NoneDies, CurrentDies, OlderDies, Hangs, NoneHangs, CurrentHangs, OlderHangs, LinesUpAgain, NoneLinesUp, CurrentLinesUp, OlderLinesUp, Repeats}
+use Rattle.run_drivers.specs.Disks.{Disks, Steps, NoStep, CurrentSteps, OlderSteps, torn_media, Dies, NoneDies, CurrentDies, OlderDies, Hangs, NoneHangs, CurrentHangs, OlderHangs, LinesUpAgain, NoneLinesUp, CurrentLinesUp, OlderLinesUp, Repeats}
 use Rattle.driver_events.specs.Scene.{Scene, Quietly, faulted, ruled, Exits, ActsAt, acted, tick_event, next_started, beaten, AfterStep, AfterDeath}
 use Rattle.driver_events.specs.Kept.{EventsKeepSectors}
 

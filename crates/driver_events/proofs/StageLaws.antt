@@ -13,7 +13,7 @@ use Rattle.reincarnate.specs.Supply.{ReincarnationState, Decides}
 use Rattle.run_log.specs.Noted.{Noted, with_entry}
 use Rattle.run_log.specs.declared.log.Entry.TheVariants as entry
 use Rattle.driver_events.specs.declared.ruling.Ruling.TheVariants as ruling
-use Rattle.driver_events.specs.Disks.{Disks, started}
+use Rattle.run_drivers.specs.Disks.{Disks, started}
 use Rattle.driver_events.specs.Scene.{Scene, beaten, faulted, ActsAt, Ticks, next_started}
 
 -- a scene by its parts

@@ -17,7 +17,7 @@ use Rattle.inline.specs.Inline.{IsReady}
 use Rattle.faultless.specs.Faultless.{without_faults}
 use Rattle.run_log.specs.declared.log.Post.{Post}
 use Rattle.run_log.specs.Noted.{Noted, marks_in}
-use Rattle.driver_events.specs.Disks.{Disks, seen}
+use Rattle.run_drivers.specs.Disks.{Disks, seen}
 use Rattle.driver_events.specs.Scene.{Scene, Opens, Plays}
 
 -- what holds of the media, the drivers and the server's record, since an opening

@@ -22,7 +22,7 @@ use Rattle.run_log.specs.declared.log.Entry.TheVariants as entry
 use Rattle.driver_events.specs.declared.ruling.Ruling.{Ruling}
 use Rattle.driver_events.specs.declared.ruling.Ruling.TheVariants.{Ignored, Fault, GivesUp}
 use Rattle.driver_events.specs.Ruling.{ruling_of}
-use Rattle.driver_events.specs.Disks.{Disks, Steps, Dies, Hangs, Repeats, started, opened_disks}
+use Rattle.run_drivers.specs.Disks.{Disks, Steps, Dies, Hangs, Repeats, started, opened_disks}
 
 -- the media and the drivers; those that weren't started, the next one first; the policy and what the reincarnation server knows; the tick,
 -- the last beat (its driver's generation and its tick), and what was noted

@@ -3,7 +3,7 @@ use Rattle.std.specs.Prelude.{map}
 use Rattle.bdev.specs.DriverState.{DriverState}
 use Rattle.run_log.specs.Noted.{Noted}
 use Rattle.driver_events.specs.Scene.{Scene}
-use Rattle.driver_events.specs.View.{disks_of}
+use Rattle.run_drivers.specs.View.{disks_of}
 use Rattle.driver_events.specs.declared.stage.Stage.{Stage}
 
 -- with what was noted

@@ -5,7 +5,6 @@ ghost use Rattle.policy.specs.declared.Event.TheVariants.{Tick};
 ghost use Rattle.policy.specs.Watch.{driver as driver_of, new_watch, on};
 ghost use Rattle.run_log.specs.Noted.{Noted};
 
-use crate::drivers::Drivers;
 use crate::ruling::{Ruling, exit};
 use bdev::Step;
 use endpoint::{DISK_DRIVER, Endpoint};
@@ -15,6 +14,7 @@ use media::Media;
 use message::Incoming;
 use policy::Event as PolicyEvent;
 use reincarnate::{Action, Reincarnation};
+use run_drivers::drivers::Drivers;
 use run_log::log::{Entry, Log};
 use schedule::Event;
 use std::alloc::{AllocError, Global};
@@ -59,10 +59,10 @@ fn first_driver<D: Drop>(reincarnation: &mut Reincarnation<D>) -> D
 impl<D: LocalDriver> Stage<D> {
     ghost use Rattle.driver_events.specs.Scene.{Opens, Exits, Ticks, StepsAt, DiesAt, Quietly, Plays, beaten, delivered};
     ghost use Rattle.driver_events.specs.StageView.{scene_of};
-    ghost use Rattle.driver_events.specs.View.{HasRoom};
+    ghost use Rattle.run_drivers.specs.View.{HasRoom};
     ghost use Rattle.std.specs.Prelude.{slice_get};
     ghost use Rattle.run_log.specs.LogView.{said, room_in};
-    ghost use Rattle.driver_events.specs.Disks.{Hangs, Repeats};
+    ghost use Rattle.run_drivers.specs.Disks.{Hangs, Repeats};
 
     /// Before the first event, at tick 0: the first driver of the supply of a reincarnation server that was told nothing yet is started on
     /// the media, as generation 1. An error: no memory was found.

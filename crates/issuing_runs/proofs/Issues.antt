@@ -16,7 +16,7 @@ use Rattle.justified_runs.specs.schedule.Groups.{Group, marks_of, generation, Ea
 use Rattle.justified_runs.specs.schedule.Drivers.{has_ended}
 use Rattle.justified_runs.specs.schedule.Starts.{IssuesFollow, is_among_first, may_issue}
 use Rattle.justified_runs.specs.reissue.declared.link.LinkRefusal.{LinkRefusal}
-use Rattle.justified_runs.specs.driver_events.Disks.{Disks, LinesUp, NoneIsThere, LineIsFull, IsLinedUp, is_at, lined_up}
+use Rattle.justified_runs.specs.driver_events.run_drivers.Disks.{Disks, LinesUp, NoneIsThere, LineIsFull, IsLinedUp, is_at, lined_up}
 use Rattle.justified_runs.specs.justifying.Core.{Core}
 use Rattle.justified_runs.specs.justifying.Happens.{Adds, Posts}
 use Rattle.justified_runs.specs.justifying.Steady.{SlotsSoFar}

@@ -21,7 +21,7 @@ use Rattle.justified_runs.specs.schedule.declared.Sent.{Sent}
 use Rattle.justified_runs.specs.schedule.Groups.{Each}
 use Rattle.justified_runs.specs.inline.Steps.{HandsOver}
 use Rattle.justified_runs.specs.run_log.declared.log.Post.{Post}
-use Rattle.justified_runs.specs.driver_events.Disks.{Disks, sent_at, Steps, NoStep, CurrentSteps, OlderSteps, Dies, NoneDies, CurrentDies, OlderDies, Hangs, NoneHangs, CurrentHangs, OlderHangs, LinesUpAgain, NoneLinesUp, CurrentLinesUp, OlderLinesUp, Repeats, lined_up, started}
+use Rattle.justified_runs.specs.driver_events.run_drivers.Disks.{Disks, sent_at, Steps, NoStep, CurrentSteps, OlderSteps, Dies, NoneDies, CurrentDies, OlderDies, Hangs, NoneHangs, CurrentHangs, OlderHangs, LinesUpAgain, NoneLinesUp, CurrentLinesUp, OlderLinesUp, Repeats, lined_up, started}
 use Rattle.justified_runs.proofs.justifying.DiskMoves.{steps_generation, dies_generation}
 use Rattle.issuing_runs.proofs.NumberLaws.{IsFrom, length_push}
 use Rattle.issuing_runs.proofs.Issues.{AllOpen}

@@ -23,7 +23,7 @@ use Rattle.justified_runs.specs.run_log.declared.log.Post.{Post}
 use Rattle.justified_runs.specs.run_log.declared.log.Entry.TheVariants as entry
 use Rattle.justified_runs.proofs.run_log.NotedLaws.{message_in}
 use Rattle.justified_runs.specs.driver_events.declared.ruling.Ruling.{Ruling}
-use Rattle.justified_runs.specs.driver_events.Disks.{Disks, LinesUp}
+use Rattle.justified_runs.specs.driver_events.run_drivers.Disks.{Disks, LinesUp}
 use Rattle.justified_runs.specs.driver_events.Kept.{with_next}
 use Rattle.justified_runs.proofs.driver_events.Keeping.{events_note_aside}
 use Rattle.justified_runs.specs.playing.PlayView.{Play, begun, PlaysNext, Advances, Stays, Goes, Turn, Takes, TakesOwed, TakesEnd, Posts, Complains, ComesToEnd, IsPlayedOut, IsStarved, noting, paid, ended, posted, complained}

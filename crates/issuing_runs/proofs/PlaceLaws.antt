@@ -20,7 +20,7 @@ use Rattle.justified_runs.proofs.faultless.FaultlessLaws.{faults_change_nothing}
 use Rattle.justified_runs.specs.schedule.declared.Event.{Event}
 use Rattle.justified_runs.specs.schedule.Groups.{Group, marks_of, started_in, Each, EachGroup}
 use Rattle.justified_runs.specs.schedule.Starts.{IssuesFollow, is_among_first, are_issued_in_place}
-use Rattle.justified_runs.specs.driver_events.Disks.{Disks, is_at, started}
+use Rattle.justified_runs.specs.driver_events.run_drivers.Disks.{Disks, is_at, started}
 use Rattle.justified_runs.specs.driver_events.Kept.{with_next}
 use Rattle.justified_runs.specs.playing.PlayView.{Play, IsOpened}
 use Rattle.justified_runs.specs.playing.Moments.{Doing, Moment, Resting, is_busy, Runs}

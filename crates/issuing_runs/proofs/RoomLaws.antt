@@ -17,7 +17,7 @@ use Rattle.justified_runs.specs.schedule.declared.Event.{Event}
 use Rattle.justified_runs.specs.schedule.Groups.{Group, marks_of, started_in, Each}
 use Rattle.justified_runs.specs.reissue.declared.link.LinkRefusal.{LinkRefusal}
 use Rattle.justified_runs.specs.run_log.declared.log.Post.{Post}
-use Rattle.justified_runs.specs.driver_events.Disks.{Disks, LinesUp, IsLinedUp, lined_up, started}
+use Rattle.justified_runs.specs.driver_events.run_drivers.Disks.{Disks, LinesUp, IsLinedUp, lined_up, started}
 use Rattle.justified_runs.specs.driver_events.Kept.{with_next}
 use Rattle.justified_runs.specs.justifying.Core.{Core}
 use Rattle.justified_runs.specs.justifying.Seen.{core_at}

@@ -18,7 +18,7 @@ use Rattle.justified_runs.specs.schedule.declared.Event.{Event}
 use Rattle.justified_runs.specs.schedule.Groups.{Group, marks_of, started_in, Each}
 use Rattle.justified_runs.specs.reissue.declared.link.LinkRefusal.{LinkRefusal}
 use Rattle.justified_runs.specs.run_log.declared.log.Post.{Post}
-use Rattle.justified_runs.specs.driver_events.Disks.{Disks, LinesUp, NoneIsThere, LineIsFull}
+use Rattle.justified_runs.specs.driver_events.run_drivers.Disks.{Disks, LinesUp, NoneIsThere, LineIsFull}
 use Rattle.justified_runs.specs.driver_events.Kept.{with_next}
 use Rattle.justified_runs.specs.justifying.Core.{Core}
 use Rattle.justified_runs.specs.justifying.Happens.{fault_marks, exit_marks, beaten_core, TicksTo, Beats, MissesOne, FoundHung, WaitsOn, StartsNext, IsOver, Begins, Arrives, Flushes, Answers, Drops, Delivers, LinesAgain, HangsOne, StepsOne, FailsOne, DiesNone, DiesOne, Ticks}

@@ -16,7 +16,7 @@ use Rattle.justified_runs.specs.schedule.declared.Event.TheVariants as event
 use Rattle.justified_runs.specs.schedule.Groups.{Group, marks_of, started_in, generation}
 use Rattle.justified_runs.specs.schedule.Drivers.{has_exit, has_started, has_ended, is_live}
 use Rattle.justified_runs.specs.schedule.Starts.{IsFollowedByIssues, IssuesFollow, is_among_first, may_issue, are_issued_in_place}
-use Rattle.justified_runs.specs.driver_events.Disks.{started}
+use Rattle.justified_runs.specs.driver_events.run_drivers.Disks.{started}
 use Rattle.justified_runs.specs.driver_events.Kept.{with_next}
 use Rattle.justified_runs.specs.justifying.Core.{Core}
 use Rattle.justified_runs.specs.justifying.Happens.{fault_marks, exit_marks, beaten_core, TicksTo, Beats, MissesOne, FoundHung, WaitsOn, StartsNext, IsOver, Begins, Arrives, Flushes, Answers, Drops, Delivers, LinesAgain, HangsOne, StepsOne, FailsOne, DiesNone, DiesOne, Ticks, Adds, AddsNothing, Posts, Replies, Complains, Pays}

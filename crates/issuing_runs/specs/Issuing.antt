@@ -11,7 +11,7 @@ use Rattle.justified_runs.specs.marks.Acts.{MayPost, is_post_due, empty_outbox}
 use Rattle.justified_runs.specs.schedule.declared.Event.{Event}
 use Rattle.justified_runs.specs.schedule.Groups.{Group, marks_of, Each, EachGroup}
 use Rattle.justified_runs.specs.schedule.Starts.{IssuesFollow}
-use Rattle.justified_runs.specs.driver_events.Disks.{is_at}
+use Rattle.justified_runs.specs.driver_events.run_drivers.Disks.{is_at}
 use Rattle.justified_runs.specs.playing.PlayView.{IsOpened}
 use Rattle.justified_runs.specs.playing.Moments.{Moment, Resting, Runs, record_of}
 use Rattle.justified_runs.specs.Said.{PlacedAsDue}

@@ -32,7 +32,7 @@ use Rattle.playing.specs.run_log.declared.log.Entry.{Entry}
 use Rattle.playing.specs.run_log.declared.log.Entry.TheVariants as entry
 use Rattle.justifying.specs.driver_events.declared.ruling.Ruling.{Ruling}
 use Rattle.justifying.specs.driver_events.Ruling.{is_fault, gives_up}
-use Rattle.justifying.specs.driver_events.Disks.{Disks, LinesUp, NoneIsThere, LineIsFull, IsLinedUp}
+use Rattle.justifying.specs.driver_events.run_drivers.Disks.{Disks, LinesUp, NoneIsThere, LineIsFull, IsLinedUp}
 use Rattle.justifying.specs.driver_events.Scene.{Scene, ruled}
 use Rattle.justifying.specs.driver_events.Kept.{NotesAside}
 use Rattle.justifying.proofs.driver_events.Keeping.{events_note_aside}

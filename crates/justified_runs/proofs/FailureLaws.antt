@@ -9,7 +9,7 @@ use Rattle.playing.specs.schedule.declared.Event.{Event}
 use Rattle.playing.specs.schedule.Groups.{Group, Each}
 use Rattle.playing.specs.schedule.Drivers.{state_of}
 use Rattle.playing.specs.schedule.Faults.{FailsAtItsStep}
-use Rattle.justifying.specs.driver_events.Disks.{Disks, Slot}
+use Rattle.justifying.specs.driver_events.run_drivers.Disks.{Disks, Slot}
 use Rattle.playing.specs.PlayView.{IsOpened}
 use Rattle.playing.specs.Moments.{Moment, Resting, Runs}
 use Rattle.justifying.specs.Core.{Core}

@@ -13,7 +13,7 @@ use Rattle.playing.specs.schedule.Groups.{Group, marks_of, running, generation, 
 use Rattle.playing.specs.schedule.Drivers.{state_of}
 use Rattle.playing.specs.schedule.Faults.{HasNotFailed}
 use Rattle.playing.specs.run_log.Noted.{marks_in}
-use Rattle.justifying.specs.driver_events.Disks.{Disks, Slot, opened_disks}
+use Rattle.justifying.specs.driver_events.run_drivers.Disks.{Disks, Slot, opened_disks}
 use Rattle.justifying.specs.driver_events.Scene.{Scene}
 use Rattle.playing.specs.PlayView.{Play, IsOpened, first_noted}
 use Rattle.playing.specs.Moments.{Moment, Resting, Runs}

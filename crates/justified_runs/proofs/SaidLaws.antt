@@ -22,7 +22,7 @@ use Rattle.playing.specs.run_log.declared.log.Entry.{Entry}
 use Rattle.playing.specs.run_log.declared.log.Entry.TheVariants as entry
 use Rattle.justifying.specs.driver_events.declared.ruling.Ruling.{Ruling}
 use Rattle.justifying.specs.driver_events.Ruling.{is_fault, gives_up}
-use Rattle.justifying.specs.driver_events.Disks.{Disks, LinesUp, NoneIsThere, LineIsFull, IsLinedUp}
+use Rattle.justifying.specs.driver_events.run_drivers.Disks.{Disks, LinesUp, NoneIsThere, LineIsFull, IsLinedUp}
 use Rattle.justifying.specs.driver_events.Scene.{ruled}
 use Rattle.playing.specs.declared.arrived.Arrived.{Arrived}
 use Rattle.playing.specs.PlayView.{Play, PlaysNext, Advances, Stays, Goes, Turn, Takes, TakesOwed, TakesEnd, Posts, Complains, ComesToEnd, IsPlayedOut, IsStarved, HandsOut, noting, paid, ended, posted, complained, ruling_at}

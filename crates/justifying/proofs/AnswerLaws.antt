@@ -20,7 +20,7 @@ use Rattle.driver_events.specs.schedule.Replies.{answers_in, answer_to, answers_
 use Rattle.driver_events.specs.true_replies.Events.{reply_of}
 use Rattle.driver_events.specs.reissue.declared.link.LinkRefusal.{LinkRefusal}
 use Rattle.driver_events.specs.run_log.declared.log.Post.{Post}
-use Rattle.driver_events.specs.Disks.{Disks, sent_at, Steps, NoStep, CurrentSteps, OlderSteps, Dies, NoneDies, CurrentDies, OlderDies, Hangs, NoneHangs, CurrentHangs, OlderHangs, LinesUp, NoneIsThere, LineIsFull, IsLinedUp, LinesUpAgain, NoneLinesUp, CurrentLinesUp, OlderLinesUp, Repeats}
+use Rattle.driver_events.specs.run_drivers.Disks.{Disks, sent_at, Steps, NoStep, CurrentSteps, OlderSteps, Dies, NoneDies, CurrentDies, OlderDies, Hangs, NoneHangs, CurrentHangs, OlderHangs, LinesUp, NoneIsThere, LineIsFull, IsLinedUp, LinesUpAgain, NoneLinesUp, CurrentLinesUp, OlderLinesUp, Repeats}
 use Rattle.justifying.specs.Core.{Core}
 use Rattle.justifying.specs.Happens.{fault_marks, exit_marks, beaten_core, TicksTo, Beats, MissesOne, FoundHung, WaitsOn, StartsNext, IsOver, Begins, Arrives, Flushes, Answers, Drops, Delivers, LinesAgain, HangsOne, StepsOne, FailsOne, DiesNone, DiesOne, Ticks, Adds, AddsNothing, Posts, Replies, Complains, Pays}
 use Rattle.justifying.specs.Steady.{IsKept, AnsweredSoFar}

@@ -12,7 +12,7 @@ use Rattle.driver_events.specs.bdev.DriverState.{DriverState, Work, chunk}
 use Rattle.driver_events.specs.bdev.Promises.{StepKeeps, StepsAt as DriverStepsAt, MovesAtMostOne, MovesBytes}
 use Rattle.driver_events.specs.reissue.declared.link.LinkRefusal.{LinkRefusal}
 use Rattle.driver_events.specs.run_log.declared.log.Post.{Post}
-use Rattle.driver_events.specs.Disks.{Disks, Slot, torn_media, Steps, NoStep, CurrentSteps, OlderSteps, Dies, NoneDies, CurrentDies, OlderDies, Hangs, NoneHangs, CurrentHangs, OlderHangs, LinesUp, NoneIsThere, LineIsFull, IsLinedUp, LinesUpAgain, NoneLinesUp, CurrentLinesUp, OlderLinesUp, Repeats}
+use Rattle.driver_events.specs.run_drivers.Disks.{Disks, Slot, torn_media, Steps, NoStep, CurrentSteps, OlderSteps, Dies, NoneDies, CurrentDies, OlderDies, Hangs, NoneHangs, CurrentHangs, OlderHangs, LinesUp, NoneIsThere, LineIsFull, IsLinedUp, LinesUpAgain, NoneLinesUp, CurrentLinesUp, OlderLinesUp, Repeats}
 use Rattle.justifying.specs.Happens.{GoesWell}
 
 written_generation : (m : MediaState) (g n : ℕ) (bytes : List ℕ) → (written m g n bytes).generation ≡ m.generation

@@ -18,7 +18,7 @@ use Rattle.driver_events.specs.schedule.declared.Event.{Event}
 use Rattle.driver_events.specs.schedule.Groups.{Group, Each}
 use Rattle.driver_events.specs.reissue.declared.link.LinkRefusal.{LinkRefusal}
 use Rattle.driver_events.specs.run_log.declared.log.Post.{Post}
-use Rattle.driver_events.specs.Disks.{Disks, Slot, SlotSteps, started, Steps, NoStep, CurrentSteps, OlderSteps, Dies, NoneDies, CurrentDies, OlderDies, Hangs, NoneHangs, CurrentHangs, OlderHangs, LinesUp, NoneIsThere, LineIsFull, IsLinedUp, LinesUpAgain, NoneLinesUp, CurrentLinesUp, OlderLinesUp, Repeats}
+use Rattle.driver_events.specs.run_drivers.Disks.{Disks, Slot, SlotSteps, started, Steps, NoStep, CurrentSteps, OlderSteps, Dies, NoneDies, CurrentDies, OlderDies, Hangs, NoneHangs, CurrentHangs, OlderHangs, LinesUp, NoneIsThere, LineIsFull, IsLinedUp, LinesUpAgain, NoneLinesUp, CurrentLinesUp, OlderLinesUp, Repeats}
 use Rattle.justifying.specs.Core.{Core, Story, story, FollowsGroups}
 use Rattle.justifying.specs.Happens.{AtFault, Replaces, GivesUp, AtReport, OfNone, OfRunning, GoesWell, beaten_core, TicksTo, Beats, MissesOne, FoundHung, WaitsOn, StartsNext, IsOver, Begins, Arrives, Flushes, Answers, Drops, Delivers, LinesAgain, HangsOne, StepsOne, FailsOne, DiesNone, DiesOne, Ticks, Adds, AddsNothing, Posts, Replies, Complains, Pays}
 use Rattle.justifying.specs.Steady.{IsKept, state_in, drivers_of, ranges_in, DriversSoFar}

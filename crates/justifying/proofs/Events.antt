@@ -25,7 +25,7 @@ use Rattle.driver_events.specs.run_log.Noted.{Noted, marks_from, marks_in, with_
 use Rattle.driver_events.specs.declared.ruling.Ruling.{Ruling}
 use Rattle.driver_events.specs.declared.ruling.Ruling.TheVariants as ruling
 use Rattle.driver_events.specs.Ruling.{ruling_of}
-use Rattle.driver_events.specs.Disks.{Disks, Steps, Dies, started}
+use Rattle.driver_events.specs.run_drivers.Disks.{Disks, Steps, Dies, started}
 use Rattle.driver_events.specs.Scene.{Scene, faulted, told_of_ruling, ruled, Exits, beaten, acted, told_of_action, tick_event, next_started, ActsAt, AfterStep, AfterDeath, StepsAt, DiesAt, delivered, Quietly, Plays}
 use Rattle.justifying.specs.Core.{Core}
 use Rattle.justifying.specs.Seen.{core_at, with_brought, Brought, NoMessage, Counted, Uncounted, NoReply, EventDone, begun_scene}

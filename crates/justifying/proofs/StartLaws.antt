@@ -16,7 +16,7 @@ use Rattle.driver_events.specs.schedule.Drivers.{is_hung, missed, exits_in, driv
 use Rattle.driver_events.specs.schedule.Faults.{hung_in, hung_by, hung_due, exits_due}
 use Rattle.driver_events.specs.schedule.Starts.{fault_of, has_come, starts_due}
 use Rattle.driver_events.specs.schedule.Calls.{flushes_in, flushes_due}
-use Rattle.driver_events.specs.Disks.{Disks, NoneLives, NotStarted, CurrentIsDead, OlderIsDead, Dies, NoneDies, CurrentDies, OlderDies}
+use Rattle.driver_events.specs.run_drivers.Disks.{Disks, NoneLives, NotStarted, CurrentIsDead, OlderIsDead, Dies, NoneDies, CurrentDies, OlderDies}
 use Rattle.justifying.specs.Core.{Core, Story, story, RunsNow, WaitsNow, IsGivenUp, PhaseIs, Follows, FollowsGroups}
 use Rattle.justifying.specs.Happens.{IsNotRunning, AtReport, OfNone, OfRunning, fault_marks, exit_marks, blame_marks, beaten_core, TicksTo, Beats, MissesOne, FoundHung, WaitsOn, StartsNext, IsOver, Begins, Arrives, Flushes, Answers, Drops, Delivers, LinesAgain, HangsOne, StepsOne, FailsOne, DiesNone, DiesOne, Ticks, Adds, AddsNothing, Posts, Replies, Complains, Pays}
 use Rattle.justifying.proofs.FollowLaws.{same_number, other_number, runs_now}

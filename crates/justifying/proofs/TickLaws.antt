@@ -15,7 +15,7 @@ use Rattle.driver_events.specs.schedule.Groups.{Group, marks_of, ticks_so_far, r
 use Rattle.driver_events.specs.schedule.Drivers.{is_hung, missed, has_started}
 use Rattle.driver_events.specs.schedule.Starts.{fault_of, ticks_of_faults, ticks_of_faults_in}
 use Rattle.driver_events.specs.run_log.declared.log.Post.{Post}
-use Rattle.driver_events.specs.Disks.{Disks, started}
+use Rattle.driver_events.specs.run_drivers.Disks.{Disks, started}
 use Rattle.justifying.specs.Core.{Core, Story, story, RunsNow, WaitsNow, IsGivenUp, PhaseIs, Follows, FollowsGroups}
 use Rattle.justifying.specs.Happens.{fault_at, AtFault, Replaces, GivesUp, AtReport, OfNone, OfRunning, fault_marks, exit_marks, blame_marks, is_end, beaten_core, TicksTo, Beats, MissesOne, FoundHung, WaitsOn, StartsNext, IsOver, Begins, Arrives, Flushes, Answers, Drops, Delivers, LinesAgain, HangsOne, StepsOne, FailsOne, DiesNone, DiesOne, Ticks, Adds, AddsNothing, Posts, Replies, Complains, Pays}
 use Rattle.justifying.proofs.DiskMoves.{SameCurrent, steps_well, dies_none, repeats_same, lines_same}

@@ -13,7 +13,7 @@ use Rattle.driver_events.specs.schedule.declared.Event.{Event}
 use Rattle.driver_events.specs.schedule.declared.Event.TheVariants as event
 use Rattle.driver_events.specs.schedule.Groups.{Group, marks_of, generation, EachGroup}
 use Rattle.driver_events.specs.schedule.Starts.{fault_of, times_gave_up, times_due, has_fault, gives_up_at}
-use Rattle.driver_events.specs.Disks.{Disks}
+use Rattle.driver_events.specs.run_drivers.Disks.{Disks}
 use Rattle.justifying.specs.Core.{Core, Story, story, WaitsNow, IsGivenUp, PhaseIs, Follows, FollowsGroups}
 use Rattle.justifying.specs.Happens.{AtFault, Replaces, GivesUp, AtReport, OfNone, OfRunning, fault_marks, exit_marks, blame_marks, is_end, beaten_core, TicksTo, Beats, MissesOne, FoundHung, WaitsOn, StartsNext, IsOver, Begins, Arrives, Flushes, Answers, Drops, Delivers, LinesAgain, HangsOne, StepsOne, FailsOne, DiesNone, DiesOne, Ticks, Adds, AddsNothing, Posts, Replies, Complains, Pays}
 use Rattle.justifying.specs.Steady.{IsKept, owes, LastGivesUp, GivesUpAsDue, AllGiveUp, GivesUpSoFar}

@@ -10,7 +10,7 @@ use Rattle.driver_events.specs.schedule.Groups.{Group, marks_of, ticks_so_far, r
 use Rattle.driver_events.specs.schedule.Drivers.{is_hung, missed}
 use Rattle.driver_events.specs.schedule.Starts.{fault_of}
 use Rattle.driver_events.specs.run_log.declared.log.Post.{Post}
-use Rattle.driver_events.specs.Disks.{Disks}
+use Rattle.driver_events.specs.run_drivers.Disks.{Disks}
 
 -- the drivers, those not started yet, the policy and what the reincarnation server knows, the tick, the last beat, the accepted posts, and
 -- whether that the device was given up is owed or was told

@@ -20,7 +20,7 @@ use Rattle.driver_events.specs.schedule.declared.Event.{Event}
 use Rattle.driver_events.specs.schedule.declared.Event.TheVariants as event
 use Rattle.driver_events.specs.schedule.Groups.{Group, marks_of}
 use Rattle.driver_events.specs.run_log.declared.log.Post.{Post}
-use Rattle.driver_events.specs.Disks.{Disks, Steps, Dies, Hangs, LinesUp, Repeats, started}
+use Rattle.driver_events.specs.run_drivers.Disks.{Disks, Steps, Dies, Hangs, LinesUp, Repeats, started}
 use Rattle.justifying.specs.Core.{Core}
 
 -- a fault at this tick, numbered

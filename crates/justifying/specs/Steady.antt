@@ -12,7 +12,7 @@ use Rattle.driver_events.specs.schedule.Faults.{hung_in, hung_due, ExitsOfGroup,
 use Rattle.driver_events.specs.schedule.Starts.{starts_due, times_gave_up, times_due, has_fault}
 use Rattle.driver_events.specs.schedule.Calls.{flushes_in, flushes_due}
 use Rattle.driver_events.specs.schedule.Replies.{answers_in, answers_due, are_in_order}
-use Rattle.driver_events.specs.Disks.{Disks, Slot}
+use Rattle.driver_events.specs.run_drivers.Disks.{Disks, Slot}
 use Rattle.justifying.specs.Core.{Core, FollowsGroups}
 use Rattle.justifying.specs.Happens.{Begins, Adds}
 

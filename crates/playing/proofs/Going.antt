@@ -17,7 +17,7 @@ use Rattle.reincarnate.specs.policy.declared.Event.TheVariants as policy
 use Rattle.reincarnate.specs.policy.Watch.{on}
 use Rattle.reincarnate.specs.Supply.{ReincarnationState}
 use Rattle.reissue.specs.declared.link.LinkRefusal.{LinkRefusal}
-use Rattle.driver_events.specs.Disks.{Disks, LinesUp, NoneIsThere, LineIsFull, IsLinedUp}
+use Rattle.driver_events.specs.run_drivers.Disks.{Disks, LinesUp, NoneIsThere, LineIsFull, IsLinedUp}
 use Rattle.driver_events.specs.Ruling.{is_fault, gives_up}
 use Rattle.schedule.specs.declared.Event.{Event}
 use Rattle.schedule.specs.declared.Event.TheVariants as event

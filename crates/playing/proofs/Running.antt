@@ -16,7 +16,7 @@ use Rattle.run_log.specs.declared.log.Entry.TheVariants as entry
 use Rattle.run_log.specs.Noted.{Noted, marks_in, with_entry}
 use Rattle.run_log.proofs.NotedLaws.{mark_in, message_in}
 use Rattle.driver_events.specs.Kept.{NotesAside}
-use Rattle.driver_events.specs.Disks.{Disks}
+use Rattle.driver_events.specs.run_drivers.Disks.{Disks}
 use Rattle.driver_events.specs.Ruling.{is_fault, gives_up}
 use Rattle.driver_events.proofs.Keeping.{events_note_aside, history_same}
 use Rattle.playing.specs.declared.arrived.Arrived.{Arrived}

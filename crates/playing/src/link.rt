@@ -16,7 +16,7 @@ use run_log::Entry;
 
 impl<'a, D: LocalDriver> Playing<'a, D> {
     ghost use Rattle.run_log.specs.LogView.{said, room_in};
-    ghost use Rattle.driver_events.specs.View.{HasRoom};
+    ghost use Rattle.driver_events.specs.run_drivers.View.{HasRoom};
     ghost use Rattle.driver_events.specs.Kept.{with_next};
     ghost use Rattle.playing.specs.PlayView.{play_of, PlaysNext, Advances, ComesToEnd, PlayTrue, GoesOn, left_of};
 

@@ -4,7 +4,7 @@ ghost use Rattle.std.specs.Prelude.{◌≡◌, ◌<◌, ◌≤◌, ◌++◌, Som
 ghost use Rattle.std.specs.Bool.{OnTrue};
 ghost use Rattle.std.specs.VecDeque.{deque_len, deque_capacity};
 ghost use Rattle.run_log.specs.LogView.{said, room_in};
-ghost use Rattle.driver_events.specs.View.{HasRoom};
+ghost use Rattle.driver_events.specs.run_drivers.View.{HasRoom};
 ghost use Rattle.driver_events.specs.StageView.{scene_of};
 ghost use Rattle.playing.specs.PlayView.{calls_of};
 

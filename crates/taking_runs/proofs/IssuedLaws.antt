@@ -11,7 +11,7 @@ use Rattle.justified_runs.specs.schedule.Groups.{Each}
 use Rattle.justified_runs.specs.schedule.Drivers.{requests_issued_to}
 use Rattle.justified_runs.specs.true_replies.Posted.{since_start}
 use Rattle.justified_runs.specs.run_log.declared.log.Post.{Post}
-use Rattle.justified_runs.specs.driver_events.Disks.{Disks, Slot, started, is_at, lined_up}
+use Rattle.justified_runs.specs.driver_events.run_drivers.Disks.{Disks, Slot, started, is_at, lined_up}
 use Rattle.justified_runs.specs.justifying.Core.{Core}
 use Rattle.justified_runs.proofs.justifying.FollowLaws.{same_number, other_number}
 use Rattle.justified_runs.proofs.justifying.ExitLaws.{length_more}

@@ -20,7 +20,7 @@ use Rattle.justified_runs.specs.true_replies.Posted.{since_start}
 use Rattle.justified_runs.specs.true_replies.Events.{reply_of}
 use Rattle.justified_runs.specs.reissue.declared.link.LinkRefusal.{LinkRefusal}
 use Rattle.justified_runs.specs.run_log.declared.log.Post.{Post}
-use Rattle.justified_runs.specs.driver_events.Disks.{Disks, Slot, SlotSteps, IsOlder, started, sent_at, is_at, lined_up, Steps, NoStep, CurrentSteps, OlderSteps, Dies, NoneDies, CurrentDies, OlderDies, Hangs, NoneHangs, CurrentHangs, OlderHangs, LinesUp, NoneIsThere, LineIsFull, IsLinedUp, LinesUpAgain, NoneLinesUp, CurrentLinesUp, OlderLinesUp, Repeats}
+use Rattle.justified_runs.specs.driver_events.run_drivers.Disks.{Disks, Slot, SlotSteps, IsOlder, started, sent_at, is_at, lined_up, Steps, NoStep, CurrentSteps, OlderSteps, Dies, NoneDies, CurrentDies, OlderDies, Hangs, NoneHangs, CurrentHangs, OlderHangs, LinesUp, NoneIsThere, LineIsFull, IsLinedUp, LinesUpAgain, NoneLinesUp, CurrentLinesUp, OlderLinesUp, Repeats}
 use Rattle.justified_runs.specs.justifying.Core.{Core}
 use Rattle.justified_runs.specs.justifying.Happens.{fault_marks, exit_marks, blame_marks, beaten_core, TicksTo, Beats, MissesOne, FoundHung, WaitsOn, StartsNext, IsOver, Begins, Arrives, Flushes, Answers, Drops, Delivers, LinesAgain, HangsOne, StepsOne, FailsOne, DiesNone, DiesOne, Ticks, Adds, AddsNothing, Posts, Replies, Complains, Pays}
 use Rattle.justified_runs.proofs.justifying.DiskMoves.{steps_generation, dies_generation}

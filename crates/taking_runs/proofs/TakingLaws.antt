@@ -14,7 +14,7 @@ use Rattle.justified_runs.specs.schedule.declared.Sent.{Sent}
 use Rattle.justified_runs.specs.schedule.declared.Event.{Event}
 use Rattle.justified_runs.specs.schedule.Groups.{Group, marks_of, Each}
 use Rattle.justified_runs.specs.schedule.Drivers.{state_of, is_issued_to, requests_issued_to, TookItsOwn}
-use Rattle.justified_runs.specs.driver_events.Disks.{Disks, Slot}
+use Rattle.justified_runs.specs.driver_events.run_drivers.Disks.{Disks, Slot}
 use Rattle.justified_runs.specs.playing.PlayView.{IsOpened}
 use Rattle.justified_runs.specs.playing.Moments.{Moment, Resting, Runs}
 use Rattle.justified_runs.specs.justifying.Core.{Core}

@@ -8,7 +8,7 @@ use Rattle.justified_runs.specs.schedule.declared.Sent.{Sent}
 use Rattle.justified_runs.specs.schedule.Groups.{Group, marks_of, Each}
 use Rattle.justified_runs.specs.schedule.Drivers.{requests_issued_to, TookItsOwn}
 use Rattle.justified_runs.specs.true_replies.Posted.{since_start}
-use Rattle.justified_runs.specs.driver_events.Disks.{Slot}
+use Rattle.justified_runs.specs.driver_events.run_drivers.Disks.{Slot}
 use Rattle.justified_runs.specs.justifying.Core.{Core, FollowsGroups}
 use Rattle.justified_runs.specs.justifying.Steady.{AllSlots}
 

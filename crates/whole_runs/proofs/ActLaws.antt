@@ -27,7 +27,7 @@ use Rattle.justified_runs.specs.run_log.declared.log.Entry.TheVariants as entry
 use Rattle.justified_runs.specs.driver_events.declared.ruling.Ruling.{Ruling}
 use Rattle.justified_runs.specs.driver_events.declared.ruling.Ruling.TheVariants as ruling
 use Rattle.justified_runs.specs.driver_events.Ruling.{is_fault}
-use Rattle.justified_runs.specs.driver_events.Disks.{Disks, LinesUp, NoneIsThere, LineIsFull, IsLinedUp}
+use Rattle.justified_runs.specs.driver_events.run_drivers.Disks.{Disks, LinesUp, NoneIsThere, LineIsFull, IsLinedUp}
 use Rattle.justified_runs.specs.driver_events.Scene.{Scene, Plays, told_of_ruling, told_of_action, delivered, AfterStep, AfterDeath}
 use Rattle.justified_runs.specs.playing.declared.arrived.Arrived.{Arrived}
 use Rattle.justified_runs.specs.playing.PlayView.{Play, calls_of, PlaysNext, Advances, Stays, Goes, Turn, Takes, TakesOwed, TakesEnd, Posts, Complains, ComesToEnd, IsPlayedOut, IsStarved, HandsOut, noting, posted, ruling_at}

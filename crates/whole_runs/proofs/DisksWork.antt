@@ -12,7 +12,7 @@ use Rattle.justified_runs.specs.bdev.DriverState.{DriverState}
 use Rattle.justified_runs.specs.schedule.declared.Sent.{Sent}
 use Rattle.justified_runs.specs.schedule.Replies.{has_sent_at}
 use Rattle.justified_runs.specs.reissue.declared.link.LinkRefusal.{LinkRefusal}
-use Rattle.justified_runs.specs.driver_events.Disks.{Disks, Slot, SlotSteps, IsOlder, sent_at, lined, dead_slot, hung_slot, started, Steps, NoStep, CurrentSteps, OlderSteps, Dies, NoneDies, CurrentDies, OlderDies, Hangs, NoneHangs, CurrentHangs, OlderHangs, LinesUp, NoneIsThere, LineIsFull, IsLinedUp, LinesUpAgain, NoneLinesUp, CurrentLinesUp, OlderLinesUp}
+use Rattle.justified_runs.specs.driver_events.run_drivers.Disks.{Disks, Slot, SlotSteps, IsOlder, sent_at, lined, dead_slot, hung_slot, started, Steps, NoStep, CurrentSteps, OlderSteps, Dies, NoneDies, CurrentDies, OlderDies, Hangs, NoneHangs, CurrentHangs, OlderHangs, LinesUp, NoneIsThere, LineIsFull, IsLinedUp, LinesUpAgain, NoneLinesUp, CurrentLinesUp, OlderLinesUp}
 use Rattle.justified_runs.specs.justifying.Steady.{AllSlots}
 use Rattle.justified_runs.proofs.justifying.DiskMoves.{steps_generation, dies_generation}
 use Rattle.justified_runs.proofs.justifying.FollowLaws.{other_number}

@@ -15,7 +15,7 @@ use Rattle.justified_runs.specs.schedule.Groups.{Group, marks_of, EachGroup}
 use Rattle.justified_runs.specs.schedule.Drivers.{is_live, is_issued_to}
 use Rattle.justified_runs.specs.schedule.Starts.{is_among_first, may_issue, are_issued_in_place}
 use Rattle.justified_runs.specs.reissue.declared.link.LinkRefusal.{LinkRefusal}
-use Rattle.justified_runs.specs.driver_events.Disks.{Disks, LinesUp, NoneIsThere, LineIsFull, IsLinedUp}
+use Rattle.justified_runs.specs.driver_events.run_drivers.Disks.{Disks, LinesUp, NoneIsThere, LineIsFull, IsLinedUp}
 use Rattle.justified_runs.specs.justifying.Core.{Core}
 use Rattle.justified_runs.specs.justifying.Happens.{AtReport, OfNone, OfRunning, fault_marks, exit_marks, blame_marks, beaten_core, TicksTo, Beats, MissesOne, FoundHung, WaitsOn, StartsNext, IsOver, Begins, Arrives, Flushes, Answers, Drops, Delivers, LinesAgain, HangsOne, StepsOne, FailsOne, DiesNone, DiesOne, Ticks, Adds, AddsNothing, Posts, Replies, Complains, Pays}
 use Rattle.justified_runs.proofs.justifying.FollowLaws.{same_generation, same_number}

@@ -21,7 +21,7 @@ use Rattle.justified_runs.specs.reissue.declared.link.LinkRefusal.{LinkRefusal}
 use Rattle.justified_runs.specs.run_log.Noted.{Noted, with_mark, with_entry}
 use Rattle.justified_runs.specs.run_log.declared.log.Entry.TheVariants as entry
 use Rattle.justified_runs.specs.driver_events.Ruling.{is_fault}
-use Rattle.justified_runs.specs.driver_events.Disks.{Disks, is_at, LinesUp, NoneIsThere, LineIsFull, IsLinedUp}
+use Rattle.justified_runs.specs.driver_events.run_drivers.Disks.{Disks, is_at, LinesUp, NoneIsThere, LineIsFull, IsLinedUp}
 use Rattle.justified_runs.specs.driver_events.Scene.{Scene}
 use Rattle.justified_runs.specs.playing.declared.arrived.Arrived.{Arrived}
 use Rattle.justified_runs.specs.playing.PlayView.{Play, PlaysNext, Advances, Stays, Goes, Turn, Takes, TakesOwed, TakesEnd, Posts, Complains, ComesToEnd, IsPlayedOut, IsStarved, noting, ruling_at}

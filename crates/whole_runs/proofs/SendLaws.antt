@@ -17,7 +17,7 @@ use Rattle.justified_runs.specs.schedule.Drivers.{is_issued_to, has_started, has
 use Rattle.justified_runs.specs.schedule.Replies.{has_sent_at, steps_for, bytes_of, IsSentAtItsStep}
 use Rattle.justified_runs.proofs.schedule.GoingOn.{replies_stay}
 use Rattle.justified_runs.specs.run_log.declared.log.Post.{Post}
-use Rattle.justified_runs.specs.driver_events.Disks.{Disks, Slot, started, Steps, Repeats}
+use Rattle.justified_runs.specs.driver_events.run_drivers.Disks.{Disks, Slot, started, Steps, Repeats}
 use Rattle.justified_runs.specs.justifying.Core.{Core}
 use Rattle.justified_runs.specs.justifying.Happens.{beaten_core, TicksTo, Beats, MissesOne, FoundHung, WaitsOn, StartsNext, IsOver, Begins, Arrives, Flushes, Answers, Drops, Delivers, LinesAgain, HangsOne, StepsOne, FailsOne, DiesNone, DiesOne, Ticks, Adds, AddsNothing, Posts, Replies, Complains, Pays}
 use Rattle.justified_runs.specs.justifying.Steady.{IsKept, AnsweredSoFar, SlotStands, AllSlots, SlotsSoFar}

@@ -17,7 +17,7 @@ use Rattle.justified_runs.specs.schedule.Drivers.{is_issued_to, is_live}
 use Rattle.justified_runs.specs.schedule.Replies.{has_sent_at, steps_for, bytes_of, IsSentAtItsStep}
 use Rattle.justified_runs.specs.true_replies.Events.{line_after, live_after, reply_of}
 use Rattle.justified_runs.specs.inline.Steps.{HandsOver}
-use Rattle.justified_runs.specs.driver_events.Disks.{Slot, SlotSteps, lined}
+use Rattle.justified_runs.specs.driver_events.run_drivers.Disks.{Slot, SlotSteps, lined}
 use Rattle.whole_runs.proofs.StepCounts.{moved_below, none_moved, one_moved, few_bytes, steps_append, steps_one_more, event_there, groups_there}
 
 -- a request was issued to this driver

@@ -11,7 +11,7 @@ use Rattle.justified_runs.specs.marks.Acts.{MayPost, empty_outbox}
 use Rattle.justified_runs.specs.schedule.declared.Event.{Event}
 use Rattle.justified_runs.specs.schedule.Groups.{Group, EachGroup}
 use Rattle.justified_runs.specs.schedule.Calls.{CallsSoFar}
-use Rattle.justified_runs.specs.driver_events.Disks.{is_at}
+use Rattle.justified_runs.specs.driver_events.run_drivers.Disks.{is_at}
 use Rattle.justified_runs.specs.playing.PlayView.{IsOpened}
 use Rattle.justified_runs.specs.playing.Moments.{Moment, Resting, Runs, record_of}
 

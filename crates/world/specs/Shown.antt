@@ -9,8 +9,8 @@ use Rattle.stored.specs.cache.Calls.{frame_count}
 use Rattle.schedule.specs.Headline as schedule
 use Rattle.transcript.specs.run_log.Noted.{marks_in}
 use Rattle.transcript.specs.run_log.LogView.{said}
-use Rattle.driver_events.specs.Disks.{Disks}
-use Rattle.driver_events.specs.View.{disks_of}
+use Rattle.driver_events.specs.run_drivers.Disks.{Disks}
+use Rattle.driver_events.specs.run_drivers.View.{disks_of}
 use Rattle.stored.specs.declared.Stored.{Stored}
 use Rattle.vfs.specs.declared.server.Server.{Server}
 use Rattle.vfs.specs.OverLink.{line_of}

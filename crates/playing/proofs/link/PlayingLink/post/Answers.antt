@@ -1,5 +1,5 @@
 use Rattle.run_log.proofs.NotedLaws.{has_room}
-use Rattle.driver_events.proofs.DisksLaws.{lines_up}
+use Rattle.driver_events.proofs.run_drivers.DisksLaws.{lines_up}
 use Rattle.playing.proofs.PlayLaws.{posted_true, accepted_at}
 use Rattle.playing.proofs.Going.{posts}
 use Rattle.playing.proofs.link.PlayingLink.post.Goals as goal

@@ -1,7 +1,7 @@
 use Rattle.std.proofs.Common.{refl, arith}
-use Rattle.driver_events.specs.Disks.{NoneHangs}
-use Rattle.driver_events.proofs.DisksLaws.{older_hangs}
-use Rattle.driver_events.proofs.drivers.Drivers.older_hangs.Goals as goal
+use Rattle.run_drivers.specs.Disks.{NoneHangs}
+use Rattle.run_drivers.proofs.DisksLaws.{older_hangs}
+use Rattle.run_drivers.proofs.drivers.Drivers.older_hangs.Goals as goal
 
 pub returns-in_default : goal.returns-in_default
 returns-in_default g c = NoneHangs c.in_default.ensures.none

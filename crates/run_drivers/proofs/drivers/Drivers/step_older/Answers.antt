@@ -1,7 +1,7 @@
 use Rattle.std.proofs.Common.{refl, arith}
-use Rattle.driver_events.specs.Disks.{NoStep, NotStarted, OlderIsDead}
-use Rattle.driver_events.proofs.DisksLaws.{is_older, older_steps}
-use Rattle.driver_events.proofs.drivers.Drivers.step_older.Goals as goal
+use Rattle.run_drivers.specs.Disks.{NoStep, NotStarted, OlderIsDead}
+use Rattle.run_drivers.proofs.DisksLaws.{is_older, older_steps}
+use Rattle.run_drivers.proofs.drivers.Drivers.step_older.Goals as goal
 
 pub returns-in_default : goal.returns-in_default
 returns-in_default g c = NoStep (NotStarted c.in_default.ensures.none)

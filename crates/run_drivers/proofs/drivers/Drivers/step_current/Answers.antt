@@ -1,7 +1,7 @@
 use Rattle.std.proofs.Common.{sym}
-use Rattle.driver_events.specs.Disks.{NoStep, CurrentIsDead}
-use Rattle.driver_events.proofs.DisksLaws.{current_steps}
-use Rattle.driver_events.proofs.drivers.Drivers.step_current.Goals as goal
+use Rattle.run_drivers.specs.Disks.{NoStep, CurrentIsDead}
+use Rattle.run_drivers.proofs.DisksLaws.{current_steps}
+use Rattle.run_drivers.proofs.drivers.Drivers.step_current.Goals as goal
 
 pub returns-then-not-self : goal.returns-then-not-self
 returns-then-not-self g c = NoStep (CurrentIsDead (sym c.args.self.now.current_is) c.if-not-self.true)

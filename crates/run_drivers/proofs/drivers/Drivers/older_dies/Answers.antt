@@ -1,7 +1,7 @@
 use Rattle.std.proofs.Common.{refl, arith}
-use Rattle.driver_events.specs.Disks.{NoneDies, NotStarted, OlderIsDead}
-use Rattle.driver_events.proofs.DisksLaws.{is_older, older_dies}
-use Rattle.driver_events.proofs.drivers.Drivers.older_dies.Goals as goal
+use Rattle.run_drivers.specs.Disks.{NoneDies, NotStarted, OlderIsDead}
+use Rattle.run_drivers.proofs.DisksLaws.{is_older, older_dies}
+use Rattle.run_drivers.proofs.drivers.Drivers.older_dies.Goals as goal
 
 pub returns-in_default : goal.returns-in_default
 returns-in_default g c = NoneDies (NotStarted c.in_default.ensures.none)

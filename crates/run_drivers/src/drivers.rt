@@ -1,7 +1,7 @@
 //! The media and the drivers of a run.
 
 ghost use Rattle.std.specs.Prelude.{◌≡◌, ◌≢◌, ◌↔◌, ◌⊎◌, ◌<◌, ◌≤◌, ◌+◌, IfSome, IfNone, IfOk, OnOk, OnErr, Err, length, true, false, vec_len, vec_capacity};
-ghost use Rattle.driver_events.specs.Disks.{torn_media};
+ghost use Rattle.run_drivers.specs.Disks.{torn_media};
 
 use crate::moves::{send, step_unit};
 use crate::unit::{LINE, Unit};
@@ -11,7 +11,6 @@ use inline::local::LocalDriver;
 use media::Media;
 use message::BlockRequest;
 use reissue::link::LinkRefusal;
-use run_log::log::Post;
 use schedule::Sent;
 use std::alloc::{AllocError, Global};
 use std::collections::VecDeque;
@@ -35,11 +34,11 @@ pub struct Drivers<D> {
 }
 
 impl<D: LocalDriver> Drivers<D> {
-    ghost use Rattle.driver_events.specs.Disks.{Steps, Dies, Hangs, LinesUpAgain, is_at, lined_up, started, opened_disks};
-    ghost use Rattle.driver_events.specs.View.{disks_of, HasRoom};
+    ghost use Rattle.run_drivers.specs.Disks.{Steps, Dies, Hangs, LinesUpAgain, is_at, lined_up, started, opened_disks};
+    ghost use Rattle.run_drivers.specs.View.{disks_of, HasRoom};
 
-    /// The first driver, on media that had none: it runs, as generation 1.
-    pub(crate) fn first(alloc: Global, media: Media, driver: D) -> Result<Drivers<D>, AllocError>
+    /// The first driver, on media that had none: it runs, as generation 1. An error: no memory was found.
+    pub fn first(alloc: Global, media: Media, driver: D) -> Result<Drivers<D>, AllocError>
         requires { media.generation ≡ 0 }
         ensures disks { IfOk result (λ d. disks_of D.state d ≡ opened_disks media (D.state driver)) }
         ensures generation { IfOk result (λ d. d.media.generation ≡ 1) }

@@ -8,7 +8,7 @@ use Rattle.bdev.specs.declared.Step.{Step}
 use Rattle.bdev.specs.declared.Step.TheVariants.{Working, Idle, Done, Failed}
 use Rattle.bdev.specs.DriverState.{DriverState}
 use Rattle.bdev.specs.Promises.{StepKeeps, IsDriver}
-use Rattle.marks.specs.Marks.{Mark}
+use Rattle.inline.specs.marks.Marks.{Mark}
 use Rattle.schedule.specs.declared.Sent.{Sent}
 use Rattle.inline.specs.Steps.{HandsOver}
 use Rattle.inline.specs.true_replies.State.{State, state_of}

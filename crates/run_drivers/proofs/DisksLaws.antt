@@ -8,7 +8,7 @@ use Rattle.bdev.specs.declared.Step.{Step}
 use Rattle.schedule.specs.declared.Sent.{Sent}
 use Rattle.reissue.specs.declared.link.LinkRefusal.{LinkRefusal}
 use Rattle.reissue.specs.declared.link.LinkRefusal.TheVariants.{DeadEndpoint, Full}
-use Rattle.driver_events.specs.Disks.{is_at, LinesUp, NoneIsThere, LineIsFull, IsLinedUp, lined_up, Slot, Disks, SlotSteps, Steps, CurrentSteps, OlderSteps, IsOlder, sent_at, torn_media, dead_slot, Dies, CurrentDies, OlderDies, hung_slot, Hangs, OlderHangs, lined, LinesUpAgain, CurrentLinesUp, OlderLinesUp}
+use Rattle.run_drivers.specs.Disks.{is_at, LinesUp, NoneIsThere, LineIsFull, IsLinedUp, lined_up, Slot, Disks, SlotSteps, Steps, CurrentSteps, OlderSteps, IsOlder, sent_at, torn_media, dead_slot, Dies, CurrentDies, OlderDies, hung_slot, Hangs, OlderHangs, lined, LinesUpAgain, CurrentLinesUp, OlderLinesUp}
 
 pub map_push : {A B : Type 0} (f : A → B) (xs : List A) (x : A) → map f (xs ++ x ∷ []) ≡ map f xs ++ f x ∷ []
 map_push f [] x = refl

@@ -1,8 +1,8 @@
 use Rattle.std.proofs.Common.{refl, arith}
-use Rattle.driver_events.specs.Disks.{NoneLinesUp, Dead, OlderIsFull, NotStarted, OlderIsDead}
-use Rattle.driver_events.proofs.DisksLaws.{is_older, older_lines, lined_slot}
-use Rattle.driver_events.proofs.drivers.Drivers.older_lines_up.Goals as goal
-use Rattle.driver_events.proofs.drivers.Drivers.older_lines_up.Goals.{then-not-index-via-then-not-index, then-not-index-via-else-not-index+then-len-ge-FEW}
+use Rattle.run_drivers.specs.Disks.{NoneLinesUp, Dead, OlderIsFull, NotStarted, OlderIsDead}
+use Rattle.run_drivers.proofs.DisksLaws.{is_older, older_lines, lined_slot}
+use Rattle.run_drivers.proofs.drivers.Drivers.older_lines_up.Goals as goal
+use Rattle.run_drivers.proofs.drivers.Drivers.older_lines_up.Goals.{then-not-index-via-then-not-index, then-not-index-via-else-not-index+then-len-ge-FEW}
 
 pub returns-in_default : goal.returns-in_default
 returns-in_default g c = NoneLinesUp (Dead (NotStarted c.in_default.ensures.none))

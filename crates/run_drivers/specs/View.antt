@@ -2,9 +2,9 @@
 use Rattle.std.specs.Prelude.{◌≡◌, ◌<◌, ◌≤◌, [], map, vec_len, vec_capacity}
 use Rattle.std.specs.VecDeque.{deque_capacity}
 use Rattle.bdev.specs.DriverState.{DriverState}
-use Rattle.driver_events.specs.Disks.{Disks}
-use Rattle.driver_events.specs.UnitView.{slot_of}
-use Rattle.driver_events.specs.declared.drivers.Drivers.{Drivers}
+use Rattle.run_drivers.specs.Disks.{Disks}
+use Rattle.run_drivers.specs.UnitView.{slot_of}
+use Rattle.run_drivers.specs.declared.drivers.Drivers.{Drivers}
 
 abbrev pub disks_of : {D : Type 0} → (D → DriverState) → Drivers D → Disks
 disks_of state d = record { media = d.media; current = slot_of state d.current; older = map (slot_of state) d.older.items; sent = d.sent.items }

@@ -1,7 +1,7 @@
 use Rattle.std.proofs.Common.{sym}
-use Rattle.driver_events.specs.Disks.{NoneDies, CurrentIsDead}
-use Rattle.driver_events.proofs.DisksLaws.{current_dies}
-use Rattle.driver_events.proofs.drivers.Drivers.current_dies.Goals as goal
+use Rattle.run_drivers.specs.Disks.{NoneDies, CurrentIsDead}
+use Rattle.run_drivers.proofs.DisksLaws.{current_dies}
+use Rattle.run_drivers.proofs.drivers.Drivers.current_dies.Goals as goal
 
 pub returns-then-not-self : goal.returns-then-not-self
 returns-then-not-self g c = NoneDies (CurrentIsDead (sym c.args.self.now.current_is) c.if-not-self.true)

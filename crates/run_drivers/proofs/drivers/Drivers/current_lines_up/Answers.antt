@@ -1,8 +1,8 @@
 use Rattle.std.proofs.Common.{sym, arith}
-use Rattle.driver_events.specs.Disks.{NoneLinesUp, Dead, CurrentIsFull, CurrentIsDead}
-use Rattle.driver_events.proofs.DisksLaws.{current_lines}
-use Rattle.driver_events.proofs.drivers.Drivers.current_lines_up.Goals as goal
-use Rattle.driver_events.proofs.drivers.Drivers.current_lines_up.Goals.{then-not-self-via-then-not-self, then-not-self-via-else-not-self+then-len-ge-FEW}
+use Rattle.run_drivers.specs.Disks.{NoneLinesUp, Dead, CurrentIsFull, CurrentIsDead}
+use Rattle.run_drivers.proofs.DisksLaws.{current_lines}
+use Rattle.run_drivers.proofs.drivers.Drivers.current_lines_up.Goals as goal
+use Rattle.run_drivers.proofs.drivers.Drivers.current_lines_up.Goals.{then-not-self-via-then-not-self, then-not-self-via-else-not-self+then-len-ge-FEW}
 
 pub returns-then-not-self : goal.returns-then-not-self
 returns-then-not-self g c = elim c.then-not-self.branch [

@@ -5,8 +5,8 @@ ghost use Rattle.std.specs.VecDeque.{deque_capacity};
 ghost use Rattle.inline.specs.Steps.{HandsOver};
 ghost use Rattle.bdev.specs.Promises.{IsDriver};
 ghost use Rattle.inline.specs.true_replies.Events.{reply_of};
-ghost use Rattle.driver_events.specs.Disks.{SlotSteps, sent_at};
-ghost use Rattle.driver_events.specs.UnitView.{slot_of};
+ghost use Rattle.run_drivers.specs.Disks.{SlotSteps, sent_at};
+ghost use Rattle.run_drivers.specs.UnitView.{slot_of};
 
 use crate::unit::Unit;
 use bdev::{Accept, Answer, Step};
