@@ -7,7 +7,7 @@ use Rattle.slots.specs.declared.table.Slots.{Slots}
 use Rattle.cache.specs.declared.frame.Frame.{Frame}
 use Rattle.slots.specs.declared.state.State.{State}
 use Rattle.cache.specs.declared.cache.Cache.{Cache}
-use Rattle.cache.specs.declared.refusals.Cut.{Cut}
+use Rattle.block_transfers.specs.declared.refusals.Cut.{Cut}
 use Rattle.slots.specs.Slots.{held}
 use Rattle.slots.specs.Uses.{IsUsedLast}
 use Rattle.slots.specs.Order.{IsVictim}

@@ -11,7 +11,8 @@ use Rattle.reissue.specs.pending_table.declared.ask.Settled.{Settled}
 use Rattle.reissue.specs.pending_table.declared.ask.Settled.TheVariants as settled
 use Rattle.reissue.specs.Posts.{OnlyPosts}
 use Rattle.reissue.specs.Calls.{IsAnswerTo, IsOfReply}
-use Rattle.cache.specs.Calls.{flushes_in, some_of, FlushFollows, IsWantedFor}
+use Rattle.cache.specs.Calls.{flushes_in, some_of, FlushFollows}
+use Rattle.block_transfers.specs.Settling.{IsWantedFor}
 
 -- whether a flush is wanted for a message is so as for what it came to
 pub wanted_for : (m : Incoming) (r : Settled) (old new : Bool) → IsAnswerTo m r → IsWantedFor (r ≡ settled.Flush) old new

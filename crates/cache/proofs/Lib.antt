@@ -1,4 +1,3 @@
-mod Sizes
 pub mod Tied
 pub mod Agreeing
 pub mod Handing

@@ -11,13 +11,13 @@ use Rattle.reissue.proofs.pending_table.Maps.{is_put}
 use Rattle.slots.specs.declared.slot.Slot.{Slot}
 use Rattle.slots.specs.declared.state.State.{State}
 use Rattle.slots.specs.declared.state.State.TheVariants.{Clean, Dirty, Writing, Changed}
-use Rattle.cache.specs.declared.refusals.Cut.{Cut}
+use Rattle.block_transfers.specs.declared.refusals.Cut.{Cut}
 use Rattle.slots.specs.Slots.{held, ticket_of, dirtied, is_clean, is_unclean_slot, IsDistinct}
 use Rattle.slots.specs.Edits.{IsSetAt, IsFilledAt, IsSlotAt, IsFreeAt, IsAt}
 use Rattle.cache.specs.Frames.{Tied, CacheAgrees, HasSure, view, frame_of, disk_block, with_bytes}
 use Rattle.cache.specs.Calls.{Caching, IsReady, Runs, Serves, Keeps, Rewrites, Blanks, unless_clean, forgotten}
-use Rattle.cache.specs.declared.cache.Took.{Took}
-use Rattle.cache.specs.declared.cache.Took.TheVariants as took
+use Rattle.block_transfers.specs.declared.settling.Took.{Took}
+use Rattle.block_transfers.specs.declared.settling.Took.TheVariants as took
 use Rattle.cache.specs.Takes.{Reads, AreDisk, BytesOf, Takes, ReadTells, ReadsStay, is_read_of, IsReadAt}
 use Rattle.slots.proofs.Held.{place_of, held_at, held_set, held_vacated}
 use Rattle.slots.proofs.Filling.{vacated_held, filled_held}

@@ -24,7 +24,7 @@ use Rattle.reissue.specs.Calls.{Begins, Steps, Absorbs, more_may_come}
 use Rattle.reissue.proofs.Joining.{grown_append}
 use Rattle.cache.proofs.Handing.{Done, told_both, none_of_both}
 use Rattle.cache.specs.Calls.{Caching, IsReady, Runs, after_message, with_handed, messages_left}
-use Rattle.cache.specs.Takes.{is_ended_by}
+use Rattle.block_transfers.specs.Settling.{is_ended_by}
 
 -- ---- true replies
 

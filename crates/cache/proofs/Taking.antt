@@ -13,8 +13,8 @@ use Rattle.reissue.specs.Posts.{HasRoom, is_message}
 use Rattle.reissue.specs.Calls.{Steps, Absorbs, more_may_come}
 use Rattle.reissue.proofs.pending_table.Maps.{put-other, put_cases}
 use Rattle.slots.specs.declared.slot.Slot.{Slot}
-use Rattle.cache.specs.declared.cache.Took.{Took}
-use Rattle.cache.specs.declared.refusals.Cut.{Cut}
+use Rattle.block_transfers.specs.declared.settling.Took.{Took}
+use Rattle.block_transfers.specs.declared.refusals.Cut.{Cut}
 use Rattle.slots.specs.Slots.{held}
 use Rattle.slots.specs.Edits.{IsWritten, IsWrittenSlot, Leaves}
 use Rattle.cache.specs.Frames.{Tied, CacheAgrees, view}
@@ -22,7 +22,8 @@ use Rattle.cache.specs.Calls.{Caching, IsReady, Serves, Runs, HandsOver}
 use Rattle.reissue.specs.marks.Told.{took_nothing}
 use Rattle.reissue.specs.marks.Acts.{Act, told_of}
 use Rattle.cache.proofs.Handing.{Done, done_on}
-use Rattle.cache.specs.Takes.{Settles, took_of, is_ended_by, Takes, ReadTells, ReadsStay, NoReadBegun, IsHandedOut, is_read_of}
+use Rattle.block_transfers.specs.Settling.{Settles, took_of, is_ended_by}
+use Rattle.cache.specs.Takes.{Takes, ReadTells, ReadsStay, NoReadBegun, IsHandedOut, is_read_of}
 use Rattle.cache.proofs.Tied.{way_ticket, tied_read_settled, tied_written, same_begun}
 use Rattle.cache.proofs.Agreeing.{agrees_moved, view_moved, agrees_written, view_put}
 use Rattle.slots.proofs.Edits.{leaves_none}

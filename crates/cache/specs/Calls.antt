@@ -22,10 +22,10 @@ use Rattle.slots.specs.declared.slot.Slot.{Slot}
 use Rattle.slots.specs.declared.state.State.TheVariants.{Dirty}
 use Rattle.cache.specs.declared.frame.Frame.{Frame}
 use Rattle.reissue.specs.declared.transfers.Transfers.{Transfers}
-use Rattle.cache.specs.declared.shape.Shape.{Shape}
+use Rattle.block_transfers.specs.declared.shape.Shape.{Shape}
 use Rattle.cache.specs.declared.cache.Cache.{Cache}
-use Rattle.cache.specs.declared.refusals.Cut.{Cut}
-use Rattle.cache.specs.declared.refusals.Cut.TheVariants.{Eio, LinkEnded}
+use Rattle.block_transfers.specs.declared.refusals.Cut.{Cut}
+use Rattle.block_transfers.specs.declared.refusals.Cut.TheVariants.{Eio, LinkEnded}
 use Rattle.slots.specs.Slots.{held, is_clean}
 use Rattle.slots.specs.Edits.{IsAt, NoneDirty}
 use Rattle.cache.specs.Frames.{Tied, CacheAgrees, view}
@@ -239,10 +239,6 @@ pub record FlushFollows (was : Bool) (before : List Told) (is : Bool) (after : L
 abbrev pub WantsFlush : {L : Type 0} → LinkWords L → Cache L → Cache L → Type 0
 WantsFlush words old new =
     FlushFollows old.flush (words.history (link_of old.transfers)) new.flush (words.history (link_of new.transfers))
-
--- a flush is wanted if this is so, and else as before
-abbrev pub IsWantedFor : Type 0 → Bool → Bool → Type 0
-IsWantedFor IsSo old new = (IsSo → new ≡ true) × ((IsSo → ⊥) → new ≡ old)
 
 -- a cache for which no flush is wanted
 abbrev pub without_flush : {L : Type 0} → Cache L → Cache L

@@ -1,7 +1,7 @@
 -- Frames of a volume's blocks.
 pub use Rattle.slots.specs as slots
+pub use Rattle.block_transfers.specs as block_transfers
 pub use Rattle.legal.specs as legal
-pub mod Refusals
 pub mod Frames
 pub mod Calls
 pub mod Takes

@@ -1,42 +1,12 @@
 -- What a message taken does to the frames, and what a block that was read reads as.
 use Rattle.std.specs.Prelude.{◌≡◌, ℕ, ◌+◌, ◌*◌, ◌<◌, List, Bool, true, false, Option, Some, None, Result, Ok, Err, slice_index, ◌==◌}
-use Rattle.reissue.specs.pending_table.declared.ask.Settled.{Settled}
-use Rattle.reissue.specs.pending_table.declared.ask.Settled.TheVariants as settled
 use Rattle.reissue.specs.pending_table.Moves.{DiskState, Begun}
 use Rattle.reissue.specs.pending_table.Entries.{pending_of}
 use Rattle.slots.specs.declared.slot.Slot.{Slot}
-use Rattle.cache.specs.declared.cache.Took.{Took}
-use Rattle.cache.specs.declared.cache.Took.TheVariants as took
-use Rattle.cache.specs.declared.refusals.Cut.{Cut}
-use Rattle.slots.specs.Edits.{IsWritten}
+use Rattle.block_transfers.specs.declared.settling.Took.{Took}
+use Rattle.block_transfers.specs.declared.settling.Took.TheVariants as took
+use Rattle.block_transfers.specs.declared.refusals.Cut.{Cut}
 use Rattle.cache.specs.Calls.{Caching, Serves}
-
--- what each message does to the slots
-abbrev pub Settles : Settled → List Slot → List Slot → Type 0
-Settles (settled.Written t) old new = IsWritten t old new
-Settles (settled.Read t bytes) old new = new ≡ old
-Settles settled.Nothing old new = new ≡ old
-Settles settled.Flush old new = new ≡ old
-Settles settled.GaveUp old new = new ≡ old
-Settles settled.End old new = new ≡ old
-
--- what comes of it
-abbrev pub took_of : Settled → Took
-took_of (settled.Read t bytes) = took.Read t bytes
-took_of (settled.Written t) = took.Nothing
-took_of settled.Nothing = took.Nothing
-took_of settled.Flush = took.Nothing
-took_of settled.GaveUp = took.Nothing
-took_of settled.End = took.Nothing
-
--- the link gives no message any more
-abbrev pub is_ended_by : Settled → Bool
-is_ended_by settled.End = true
-is_ended_by (settled.Read t bytes) = false
-is_ended_by (settled.Written t) = false
-is_ended_by settled.Nothing = false
-is_ended_by settled.Flush = false
-is_ended_by settled.GaveUp = false
 
 -- these bytes are the disk's from the place on, where it is sure
 pub record AreDisk (start size : ℕ) (bytes : List ℕ) (v : DiskState) : Type 0 where

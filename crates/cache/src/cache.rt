@@ -11,25 +11,14 @@ ghost use Rattle.legal.specs.Mount.{is_frame_count};
 ghost use Rattle.reissue.specs.Room.{room_needed};
 ghost use Rattle.reissue.specs.Posts.{is_message, HasRoom};
 ghost use Rattle.reissue.specs.pending_table.Moves.{IsBusy};
-ghost use Rattle.cache.specs.Takes.{is_ended_by};
 
 use crate::frame::Frame;
-use crate::refusals::{CacheRefusal, Cut};
-use crate::shape::Shape;
+use block_transfers::{CacheRefusal, Cut, Shape, Took, is_end, settle};
 use layout::Geometry;
 use message::Incoming;
-use reissue::{Link, Settled, Ticket, Transfers};
+use reissue::{Link, Ticket, Transfers};
 use slots::{Slots, State, zeros};
 use std::alloc::Global;
-
-/// What came of a message.
-#[derive(Clone, Copy)]
-pub enum Took {
-    /// No read was settled by it.
-    Nothing,
-    /// This read was settled: its bytes.
-    Read(Ticket, [u8; 4096]),
-}
 
 /// A read of a block that isn't settled.
 #[derive(Clone, Copy)]
@@ -62,13 +51,14 @@ impl<L: Link> Cache<L> {
     ghost use Rattle.cache.specs.Frames.{frames_of, view, with_bytes};
     ghost use Rattle.cache.specs.Calls.{caching, held_by, frame_count, IsReady, IsIdle, IsLive, IsWhyCut, IsFrame, IsMade, IsStuck, IsRefusing};
     ghost use Rattle.cache.specs.Calls.{PostsAlone, messages_left};
-    ghost use Rattle.cache.specs.Calls.{Does, Keeps, HandsOver, Blanks, Rewrites, LinkGoesOn, WantsFlush, IsWantedFor};
+    ghost use Rattle.cache.specs.Calls.{Does, Keeps, HandsOver, Blanks, Rewrites, LinkGoesOn, WantsFlush};
+    ghost use Rattle.block_transfers.specs.Settling.{IsWantedFor};
     ghost use Rattle.cache.specs.Calls.{forgotten, with_cache_link, without_flush};
     ghost use Rattle.cache.specs.contracts.cache.Cache.{the_row};
     ghost use Rattle.cache.specs.declared.frame.Frame.{Frame as FrameValue};
     ghost use Rattle.slots.specs.declared.slot.Slot.{Slot};
     ghost use Rattle.cache.specs.Fetches.{Hits, Misses, BlanksFrame, MakesRoom, IsAtOnce};
-    ghost use Rattle.cache.specs.Takes.{Settles, took_of, Takes, ReadsStay, NoReadBegun, IsBlockRead, Reads};
+    ghost use Rattle.cache.specs.Takes.{Takes, ReadsStay, NoReadBegun, IsBlockRead, Reads};
 
     /// A cache with so many frames, none of them in use, over transfers with nothing pending: 1 BadFrames unless they are 16 to
     /// 4096, looked at first; 2 OutOfMemory.
@@ -154,33 +144,6 @@ impl<L: Link> Cache<L> {
         Ok(())
     }
 
-    /// Does with the frames what a message came to.
-    fn settle(&mut self, settled: Settled) -> Took
-        ensures slots { Settles settled self.old.slots.items.items self.new.slots.items.items }
-        ensures took { result ≡ took_of settled }
-        ensures transfers { self.new.transfers ≡ self.old.transfers }
-        ensures shape { self.new.shape ≡ self.old.shape }
-        ensures ended { self.new.ended ≡ self.old.ended }
-        ensures stay { AllStay self.old.slots self.new.slots }
-        ensures wanted { IsWantedFor (settled ≡ Settled.Flush) self.old.flush self.new.flush }
-        ensures end { settled ≡ Settled.End → self.new ≡ self.old }
-    {
-        match settled {
-            Settled::Nothing => Took::Nothing,
-            Settled::Read(ticket, bytes) => Took::Read(ticket, bytes),
-            Settled::Written(ticket) => {
-                self.slots.settle(ticket);
-                Took::Nothing
-            }
-            Settled::Flush => {
-                self.flush = true;
-                Took::Nothing
-            }
-            Settled::GaveUp => Took::Nothing,
-            Settled::End => Took::Nothing,
-        }
-    }
-
     /// Takes a message and does what it asks for; a settled read is handed out.
     pub fn take(&mut self) -> Result<Took, Cut>
         requires ready { IsReady (caching L.Link self.old) }
@@ -198,7 +161,7 @@ impl<L: Link> Cache<L> {
         self.live()?;
         let settled = self.transfers.step();
         self.ended = is_end(&settled);
-        Ok(self.settle(settled))
+        Ok(settle(&mut self.slots, &mut self.flush, settled))
     }
 
     /// Begins the write of a dirty slot; false where it was refused.
@@ -581,20 +544,6 @@ impl<L: Link> Cache<L> {
         ensures reads { NoReadBegun (begun_in self.old.transfers) (begun_in self.new.transfers) }
     {
         let settled = self.transfers.absorb(message);
-        self.settle(settled);
-    }
-}
-
-/// Whether the link gives no message any more.
-fn is_end(settled: &Settled) -> bool
-    ensures { result ≡ is_ended_by settled.now }
-{
-    match settled {
-        Settled::End => true,
-        Settled::Nothing => false,
-        Settled::Read(_, _) => false,
-        Settled::Written(_) => false,
-        Settled::Flush => false,
-        Settled::GaveUp => false,
+        settle(&mut self.slots, &mut self.flush, settled);
     }
 }

@@ -4,9 +4,8 @@
 pub mod cache;
 mod frame;
 pub mod laws;
-pub mod refusals;
-mod shape;
 
-pub use cache::{Cache, Took};
+pub use block_transfers::refusals;
+pub use block_transfers::{CacheRefusal, Cut, Took};
+pub use cache::Cache;
 pub use frame::Frame;
-pub use refusals::{CacheRefusal, Cut};

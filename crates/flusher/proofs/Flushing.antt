@@ -7,7 +7,7 @@ use Rattle.reissue.specs.pending_table.Entries.{pending_of}
 use Rattle.cache.specs.slots.declared.slot.Slot.{Slot}
 use Rattle.cache.specs.slots.declared.state.State.{State}
 use Rattle.cache.specs.slots.declared.state.State.TheVariants.{Clean, Dirty, Writing, Changed}
-use Rattle.cache.specs.declared.refusals.Cut.{Cut}
+use Rattle.cache.specs.block_transfers.declared.refusals.Cut.{Cut}
 use Rattle.cache.specs.slots.Slots.{ticket_of, is_clean, is_dirty}
 use Rattle.cache.specs.slots.Edits.{AllClean, SomeUnclean, IssuesLowest}
 use Rattle.cache.specs.Frames.{CacheAgrees}

@@ -9,8 +9,8 @@ use Rattle.reissue.specs.pending_table.Agrees.{Agrees}
 use Rattle.reissue.specs.pending_table.Moves.{state_after}
 use Rattle.reissue.specs.declared.link.Link.{Ghosts as LinkWords}
 use Rattle.reissue.specs.Transfers.{link_of}
-use Rattle.cache.specs.declared.refusals.Cut as old_cut
-use Rattle.cache.specs.declared.refusals.Cut.TheVariants as cached
+use Rattle.cache.specs.block_transfers.declared.refusals.Cut as old_cut
+use Rattle.cache.specs.block_transfers.declared.refusals.Cut.TheVariants as cached
 use Rattle.cache.specs.Calls.{Caching, caching, frame_count, with_cache_link, Runs, IsReady, IsLive, IsWhyCut, LinkGoesOn}
 use Rattle.cache.specs.slots.Edits.{AllClean}
 use Rattle.cache.specs.Frames.{CacheAgrees, frames_of, view}

@@ -1,8 +1,8 @@
 -- A server over a cache that was just made.
 use Rattle.std.proofs.Common.{◌≡◌, ℕ, ◌<◌, List, [], Bool, true, false, refl, sym, ◌∙◌, ap, subst, Option, Some, None}
 use Rattle.std.specs.Prelude.{is_some, Result, Ok, Err, IfOk, IsErrOf, ◌↔◌}
-use Rattle.cache.specs.declared.refusals.CacheRefusal.{CacheRefusal}
-use Rattle.cache.specs.declared.refusals.CacheRefusal.TheVariants.{BadFrames, OutOfMemory}
+use Rattle.cache.specs.block_transfers.declared.refusals.CacheRefusal.{CacheRefusal}
+use Rattle.cache.specs.block_transfers.declared.refusals.CacheRefusal.TheVariants.{BadFrames, OutOfMemory}
 use Rattle.layout.specs.declared.Geometry.{Geometry}
 use Rattle.tree.specs.Sums.{some_below}
 use Rattle.tree.specs.Tree.{Tree, OpenFile, most_open_files}

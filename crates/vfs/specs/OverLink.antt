@@ -7,8 +7,8 @@ use Rattle.legal.specs.ServerCall.{Serving}
 use Rattle.reissue.specs.declared.link.Link.{Ghosts as LinkWords}
 use Rattle.reissue.specs.declared.transfers.Transfers.{Transfers}
 use Rattle.reissue.specs.Transfers.{link_of}
-use Rattle.cache.specs.declared.refusals.CacheRefusal.{CacheRefusal}
-use Rattle.cache.specs.declared.refusals.CacheRefusal.TheVariants.{BadFrames, OutOfMemory}
+use Rattle.cache.specs.block_transfers.declared.refusals.CacheRefusal.{CacheRefusal}
+use Rattle.cache.specs.block_transfers.declared.refusals.CacheRefusal.TheVariants.{BadFrames, OutOfMemory}
 use Rattle.cache.specs.Calls.{Caching, IsIdle, IsMade, frame_count, messages_left}
 use Rattle.descriptors.specs.Made.{no_files}
 use Rattle.descriptors.specs.Table.{files_of}

@@ -1,12 +1,11 @@
-use Rattle.std.proofs.Common.{◌≡◌, refl, sym, subst, ◌∙◌, arith, None, Ok}
-use Rattle.cache.specs.Calls.{Caching, caching, caching_of, Runs, FlushFollows}
-use Rattle.cache.specs.Takes.{Takes, took_of, is_ended_by}
+use Rattle.std.proofs.Common.{◌≡◌, refl, sym, subst, arith, None, Ok}
+use Rattle.cache.specs.Calls.{Caching, caching, caching_of, Runs}
+use Rattle.cache.specs.Takes.{Takes}
+use Rattle.block_transfers.specs.Settling.{took_of, is_ended_by}
 use Rattle.cache.proofs.Runs.{runs_none}
 use Rattle.slots.proofs.Staying.{all_none}
 use Rattle.cache.proofs.Taking.{takes_none, takes_one}
 use Rattle.cache.proofs.Flushes.{follows_none, follows_take, wanted_for}
-use Rattle.reissue.specs.declared.transfers.Transfers.{Transfers}
-use Rattle.reissue.specs.Transfers.{link_of}
 use Rattle.cache.proofs.cache.Cache.take.Goals as goal
 
 pub returns-in_err-live-clause-runs : goal.returns-in_err-live-clause-runs
@@ -18,14 +17,15 @@ returns-clause-runs g c =
     let s = c.step-settled.ensures in
     let l = c.in_ok-live.ensures.live in
     let old = caching g.L.Link c.args.self.now in
-    let items = c.settle.new.self.slots.items.items in
-    let mid = caching_of g.L.Link c.step-settled.new.self c.args.self.now.shape items (is_ended_by c.step-settled.result) in
-    let same : caching g.L.Link c.settle.new.self ≡ mid =
-    λ i. caching_of g.L.Link (e.transfers i) (e.shape i) items ((e.ended ∙ c.is_end-self.ensures) i) in
+    let items = c.settle.new.slots.items.items in
+    let as_it_ends = caching_of g.L.Link c.step-settled.new.self c.args.self.now.shape items in
+    let mid = as_it_ends (is_ended_by c.step-settled.result) in
+    let same : as_it_ends c.is_end-self.result ≡ mid = λ i. as_it_ends (c.is_end-self.ensures i) in
     let one : Runs None old mid (λ w v. Takes (Ok (took_of c.step-settled.result)) old mid w v) =
     takes_one c.step-settled.result old mid c.args.self.now.slots.items.items items s.steps e.slots refl refl c.requires.ready
     (c.requires.busy l) l.not_ended l.not_given_up (omega (arith, c.args.self.now.shape.least)) refl refl refl s.falls s.room s.closed in
-    let both : Runs None old (caching g.L.Link c.settle.new.self) (λ w v. Takes (Ok (took_of c.step-settled.result)) old (caching g.L.Link c.settle.new.self) w v) =
+    let new = as_it_ends c.is_end-self.result in
+    let both : Runs None old new (λ w v. Takes (Ok (took_of c.step-settled.result)) old new w v) =
     subst (λ (n : Caching). Runs None old n (λ w v. Takes (Ok (took_of c.step-settled.result)) old n w v)) (sym same) one in
     rw e.took both
 
@@ -35,11 +35,8 @@ returns-in_err-live-clause-stay g c = all_none _
 pub returns-clause-flush : goal.returns-clause-flush
 returns-clause-flush g c =
     let s = c.step-settled.ensures.steps in
-    let e = c.settle.ensures in
-    let was = c.args.self.now.flush in
-    let before = g.L.Link.history (link_of c.args.self.now.transfers) in
-    subst (λ (t : Transfers _). FlushFollows was before c.settle.new.self.flush (g.L.Link.history (link_of t))) (sym e.transfers)
-    (follows_take s.message s.posts s.complaints _ _ _ _ s.history s.only_posts s.grows (wanted_for s.message c.step-settled.result _ _ s.answer e.wanted))
+    follows_take s.message s.posts s.complaints _ _ _ _ s.history s.only_posts s.grows
+    (wanted_for s.message c.step-settled.result _ _ s.answer c.settle.ensures.wanted)
 
 pub returns-in_err-live-clause-flush : goal.returns-in_err-live-clause-flush
 returns-in_err-live-clause-flush g c = follows_none _ _

@@ -8,7 +8,7 @@ use reissue::Ask;
 
 /// The range of the media that a volume takes, and the size of its blocks.
 #[derive(Clone, Copy)]
-pub(crate) struct Shape {
+pub struct Shape {
     /// The range of the media: 0 is the whole, 1 to 4 are the entries of the partition table.
     pub minor: u8,
     /// Bytes of a block: 1024, 2048 or 4096.
@@ -20,7 +20,7 @@ pub(crate) struct Shape {
 
 impl Shape {
     /// The shape of a volume with blocks of this size.
-    pub(crate) fn new(minor: u8, block_size: u32) -> Shape
+    pub fn new(minor: u8, block_size: u32) -> Shape
         requires { IsTrue (is_block_size block_size) }
         ensures minor { result.minor ≡ minor }
         ensures block_size { result.block_size ≡ block_size }
@@ -29,7 +29,7 @@ impl Shape {
     }
 
     /// A request to read a block.
-    pub(crate) fn read(&self, block: u32) -> Ask
+    pub fn read(&self, block: u32) -> Ask
         ensures kind { result.kind ≡ Read }
         ensures minor { result.minor ≡ self.now.minor }
         ensures position { result.position ≡ block * self.now.block_size }
@@ -39,7 +39,7 @@ impl Shape {
     }
 
     /// A request to write these bytes of a block.
-    pub(crate) fn write(&self, block: u32, bytes: &[u8; 4096]) -> Ask
+    pub fn write(&self, block: u32, bytes: &[u8; 4096]) -> Ask
         ensures kind { result.kind ≡ Write }
         ensures minor { result.minor ≡ self.now.minor }
         ensures position { result.position ≡ block * self.now.block_size }

@@ -1,9 +1,9 @@
 -- The numbers of cuts and refusals.
 use Rattle.std.specs.Prelude.{ℕ}
-use Rattle.cache.specs.declared.refusals.Cut.{Cut}
-use Rattle.cache.specs.declared.refusals.Cut.TheVariants as cut
-use Rattle.cache.specs.declared.refusals.CacheRefusal.{CacheRefusal}
-use Rattle.cache.specs.declared.refusals.CacheRefusal.TheVariants as cache
+use Rattle.block_transfers.specs.declared.refusals.Cut.{Cut}
+use Rattle.block_transfers.specs.declared.refusals.Cut.TheVariants as cut
+use Rattle.block_transfers.specs.declared.refusals.CacheRefusal.{CacheRefusal}
+use Rattle.block_transfers.specs.declared.refusals.CacheRefusal.TheVariants as cache
 
 -- why a call was cut
 abbrev pub cut_number : Cut → ℕ

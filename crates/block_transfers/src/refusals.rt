@@ -1,7 +1,7 @@
 //! Why a call was cut, and why no cache was made.
 
 ghost use Rattle.std.specs.Prelude.{◌≡◌};
-ghost use Rattle.cache.specs.Refusals.{cache_refusal_number, cut_number};
+ghost use Rattle.block_transfers.specs.Refusals.{cache_refusal_number, cut_number};
 
 use thiserror::Error;
 

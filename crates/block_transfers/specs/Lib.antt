@@ -1,0 +1,3 @@
+-- Requests for blocks, and what becomes of them.
+pub mod Refusals
+pub mod Settling
