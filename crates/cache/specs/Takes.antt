@@ -1,8 +1,7 @@
 -- What a message taken does to the frames, and what a block that was read reads as.
-use Rattle.std.specs.Prelude.{◌≡◌, ℕ, ◌+◌, ◌*◌, ◌<◌, List, Bool, true, false, Option, Some, None, Result, Ok, Err, slice_index, ◌==◌}
+use Rattle.std.specs.Prelude.{◌≡◌, ℕ, ◌+◌, ◌*◌, ◌<◌, List, Bool, false, Option, Some, None, Result, Ok, Err, slice_index, ◌==◌}
 use Rattle.reissue.specs.pending_table.Moves.{DiskState, Begun}
 use Rattle.reissue.specs.pending_table.Entries.{pending_of}
-use Rattle.slots.specs.declared.slot.Slot.{Slot}
 use Rattle.block_transfers.specs.declared.settling.Took.{Took}
 use Rattle.block_transfers.specs.declared.settling.Took.TheVariants as took
 use Rattle.block_transfers.specs.declared.refusals.Cut.{Cut}

@@ -39,3 +39,18 @@ returns-in-Some-clause-flush g c = follows_then _ _ _ _ _ _ c.tries.invariant.fl
 pub returns-in_err-take-clause-flush : goal.returns-in_err-take-clause-flush
 returns-in_err-take-clause-flush g c =
     follows_then _ _ _ _ _ _ (follows_then _ _ _ _ _ _ c.tries.invariant.flush c.try_read.ensures.flush) c.take.ensures.flush
+
+pub returns-in-Some-clause-goes : goal.returns-in-Some-clause-goes
+returns-in-Some-clause-goes g c = g.met.L.Link.joins _ _ _ c.tries.invariant.goes c.try_read.ensures.goes
+
+pub returns-in_err-take-clause-goes : goal.returns-in_err-take-clause-goes
+returns-in_err-take-clause-goes g c = g.met.L.Link.joins _ _ _ (g.met.L.Link.joins _ _ _ c.tries.invariant.goes c.try_read.ensures.goes) c.take.ensures.goes
+
+pub returns-in-Some-clause-leaves : goal.returns-in-Some-clause-leaves
+returns-in-Some-clause-leaves g c =
+    subst (λ (s : Slots). Leaves c.args.self.now.slots.items.items s.items.items) (sym c.try_read.ensures.slots) c.tries.invariant.leaves
+
+pub returns-in_err-take-clause-leaves : goal.returns-in_err-take-clause-leaves
+returns-in_err-take-clause-leaves g c =
+    leaves_then _ _ _ c.tries.invariant.leaves
+    (subst (λ (s : Slots). Leaves s.items.items c.take.new.self.slots.items.items) c.try_read.ensures.slots c.take.ensures.leaves)

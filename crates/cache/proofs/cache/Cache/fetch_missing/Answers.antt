@@ -62,3 +62,9 @@ returns-in_err-bytes-clause-flush g c = follows_then _ _ _ _ _ _ c.make_room.ens
 
 pub returns-clause-flush : goal.returns-clause-flush
 returns-clause-flush g c = follows_then _ _ _ _ _ _ c.make_room.ensures.flush c.read.ensures.flush
+
+pub returns-in_err-bytes-clause-goes : goal.returns-in_err-bytes-clause-goes
+returns-in_err-bytes-clause-goes g c = g.met.L.Link.joins _ _ _ c.make_room.ensures.goes c.read.ensures.goes
+
+pub returns-clause-goes : goal.returns-clause-goes
+returns-clause-goes g c = g.met.L.Link.joins _ _ _ c.make_room.ensures.goes c.read.ensures.goes

@@ -1,6 +1,7 @@
 use Rattle.cache.proofs.Placing.{reads_cut, reads_after}
 use Rattle.slots.proofs.Staying.{all_then}
 use Rattle.cache.proofs.Flushes.{follows_then}
+use Rattle.slots.proofs.Edits.{leaves_then}
 use Rattle.cache.proofs.cache.Cache.read.Goals as goal
 
 pub returns-in_err-reading-clause-runs : goal.returns-in_err-reading-clause-runs
@@ -15,3 +16,9 @@ returns-clause-stay g c = all_then _ _ _ c.begin_read.ensures.stay c.wait.ensure
 
 pub returns-clause-flush : goal.returns-clause-flush
 returns-clause-flush g c = follows_then _ _ _ _ _ _ c.begin_read.ensures.flush c.wait.ensures.flush
+
+pub returns-clause-goes : goal.returns-clause-goes
+returns-clause-goes g c = g.met.L.Link.joins _ _ _ c.begin_read.ensures.goes c.wait.ensures.goes
+
+pub returns-clause-leaves : goal.returns-clause-leaves
+returns-clause-leaves g c = leaves_then _ _ _ c.begin_read.ensures.leaves c.wait.ensures.leaves

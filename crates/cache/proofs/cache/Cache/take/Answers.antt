@@ -4,7 +4,7 @@ use Rattle.cache.specs.Takes.{Takes}
 use Rattle.block_transfers.specs.Settling.{took_of, is_ended_by}
 use Rattle.cache.proofs.Runs.{runs_none}
 use Rattle.slots.proofs.Staying.{all_none}
-use Rattle.cache.proofs.Taking.{takes_none, takes_one}
+use Rattle.cache.proofs.Taking.{takes_none, takes_one, leaves_settled}
 use Rattle.cache.proofs.Flushes.{follows_none, follows_take, wanted_for}
 use Rattle.cache.proofs.cache.Cache.take.Goals as goal
 
@@ -40,3 +40,6 @@ returns-clause-flush g c =
 
 pub returns-in_err-live-clause-flush : goal.returns-in_err-live-clause-flush
 returns-in_err-live-clause-flush g c = follows_none _ _
+
+pub returns-clause-leaves : goal.returns-clause-leaves
+returns-clause-leaves g c = leaves_settled c.step-settled.result _ _ c.settle.ensures.slots

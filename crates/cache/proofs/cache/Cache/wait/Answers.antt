@@ -59,3 +59,18 @@ returns-in_err-settled-clause-flush g c = follows_then _ _ _ _ _ _ c.messages.in
 
 pub returns-then-eq-clause-flush : goal.returns-then-eq-clause-flush
 returns-then-eq-clause-flush g c = follows_then _ _ _ _ _ _ c.messages.invariant.flush c.take.ensures.flush
+
+pub returns-in_err-settled-clause-goes : goal.returns-in_err-settled-clause-goes
+returns-in_err-settled-clause-goes g c = g.met.L.Link.joins _ _ _ c.messages.invariant.goes c.take.ensures.goes
+
+pub returns-then-eq-clause-goes : goal.returns-then-eq-clause-goes
+returns-then-eq-clause-goes g c = g.met.L.Link.joins _ _ _ c.messages.invariant.goes c.take.ensures.goes
+
+pub returns-in_err-settled-clause-leaves : goal.returns-in_err-settled-clause-leaves
+returns-in_err-settled-clause-leaves g c = leaves_then _ _ _ c.messages.invariant.leaves c.take.ensures.leaves
+
+pub returns-then-eq-clause-leaves : goal.returns-then-eq-clause-leaves
+returns-then-eq-clause-leaves g c = leaves_then _ _ _ c.messages.invariant.leaves c.take.ensures.leaves
+
+pub returns-in_err-settled-clause-stay : goal.returns-in_err-settled-clause-stay
+returns-in_err-settled-clause-stay g c = all_then _ _ _ c.messages.invariant.stay c.take.ensures.stay

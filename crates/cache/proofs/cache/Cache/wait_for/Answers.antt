@@ -26,3 +26,11 @@ returns-in_err-take-clause-others g c =
 pub returns-in_err-take-clause-flush : goal.returns-in_err-take-clause-flush
 returns-in_err-take-clause-flush g c =
     follows_then _ _ _ _ _ _ (follows_then _ _ _ _ _ _ c.tries.invariant.flush c.write_out.ensures.flush) c.take.ensures.flush
+
+pub returns-in_err-take-clause-goes : goal.returns-in_err-take-clause-goes
+returns-in_err-take-clause-goes g c =
+    g.met.L.Link.joins _ _ _ (g.met.L.Link.joins _ _ _ c.tries.invariant.goes c.write_out.ensures.goes) c.take.ensures.goes
+
+pub returns-in_err-take-clause-leaves : goal.returns-in_err-take-clause-leaves
+returns-in_err-take-clause-leaves g c =
+    leaves_then _ _ _ (leaves_then _ _ _ c.tries.invariant.leaves c.write_out.ensures.leaves) c.take.ensures.leaves
