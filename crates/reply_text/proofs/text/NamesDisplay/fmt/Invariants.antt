@@ -1,8 +1,8 @@
 use Rattle.std.proofs.Common.{take, map, flat_map}
 use Rattle.std.specs.Fmt.{HasWritten, IsPlainFormatter}
 use Rattle.tree.specs.Answers.{entry_of}
-use Rattle.tree.specs.Text.{entry_text}
-use Rattle.tree.proofs.text.NamesDisplay.fmt.Given as goal
+use Rattle.reply_text.specs.Text.{entry_text}
+use Rattle.reply_text.proofs.text.NamesDisplay.fmt.Given as goal
 
 -- the names so far are written
 abbrev pub invariant-loop-name : goal.invariant-loop-name

@@ -1,7 +1,7 @@
 use Rattle.std.proofs.Common.{take}
 use Rattle.std.specs.Fmt.{HasWritten, IsPlainFormatter}
-use Rattle.tree.specs.Text.{hex_text}
-use Rattle.tree.proofs.text.HexDisplay.fmt.Given as goal
+use Rattle.reply_text.specs.Text.{hex_text}
+use Rattle.reply_text.proofs.text.HexDisplay.fmt.Given as goal
 
 -- the bytes so far are written
 abbrev pub invariant-loop-byte : goal.invariant-loop-byte

@@ -2,10 +2,10 @@
 
 ghost use Rattle.std.specs.Prelude.{Some, map};
 ghost use Rattle.tree.specs.Answers.{answer_of, entry_of};
-ghost use Rattle.tree.specs.Text.{answer_text, attributes_text, bytes_text, details_text, entry_text, free_text, hex_text, names_text, octal_text, outcome_text, owner_text, room_text, times_text};
+ghost use Rattle.reply_text.specs.Text.{answer_text, attributes_text, bytes_text, details_text, entry_text, free_text, hex_text, names_text, octal_text, outcome_text, owner_text, room_text, times_text};
 
-use super::{Attributes, Entry, Outcome, Reply, Room};
 use std::fmt;
+use tree::{Attributes, Entry, Outcome, Reply, Room};
 
 /// A number of 16 bits in seven octal digits.
 #[derive(Clone, Copy)]
@@ -102,17 +102,17 @@ impl fmt::Display for Details {
     }
 }
 
+/// What is told of a node.
+#[derive(Clone, Copy)]
+struct Node<'a>(&'a Attributes);
+
 /// Writes `inode N mode OOOOOOO links N uid N gid N size N times A M C`.
-impl fmt::Display for Attributes {
-    ghost output = { λ a. Some (attributes_text a) };
+impl fmt::Display for Node<'_> {
+    ghost output = { λ n. Some (attributes_text n.0.now) };
 
     fn fmt<W: fmt::Write>(&self, f: &mut fmt::Formatter<W>) -> fmt::Result {
-        let (inode, mode, links, details) = (
-            self.inode,
-            Octal(self.mode),
-            self.links,
-            Details(*self),
-        );
+        let a = *self.0;
+        let (inode, mode, links, details) = (a.inode, Octal(a.mode), a.links, Details(a));
         write!(f, "inode {inode} mode {mode} links {links} {details}")
     }
 }
@@ -131,24 +131,33 @@ impl fmt::Display for Free {
     }
 }
 
+/// What is told of a volume.
+#[derive(Clone, Copy)]
+struct Volume<'a>(&'a Room);
+
 /// Writes `block B zones Z free F inodes I free J`.
-impl fmt::Display for Room {
-    ghost output = { λ r. Some (room_text r) };
+impl fmt::Display for Volume<'_> {
+    ghost output = { λ v. Some (room_text v.0.now) };
 
     fn fmt<W: fmt::Write>(&self, f: &mut fmt::Formatter<W>) -> fmt::Result {
-        let (block_size, zones) = (self.block_size, self.zones);
-        let free = Free(self.free_zones, self.inodes, self.free_inodes);
+        let room = *self.0;
+        let (block_size, zones) = (room.block_size, room.zones);
+        let free = Free(room.free_zones, room.inodes, room.free_inodes);
         write!(f, "block {block_size} zones {zones} {free}")
     }
 }
 
+/// A name and its inode.
+#[derive(Clone, Copy)]
+struct Named<'a>(&'a Entry);
+
 /// Writes a space, the name in hexadecimal, a colon and the inode.
-impl fmt::Display for Entry {
-    ghost output = { λ e. Some (entry_text (entry_of e)) };
+impl fmt::Display for Named<'_> {
+    ghost output = { λ n. Some (entry_text (entry_of n.0.now)) };
 
     fn fmt<W: fmt::Write>(&self, f: &mut fmt::Formatter<W>) -> fmt::Result {
-        let name = Hex(self.name.as_slice());
-        let inode = self.inode;
+        let name = Hex(self.0.name.as_slice());
+        let inode = self.0.inode;
         write!(f, " {name}:{inode}")
     }
 }
@@ -164,19 +173,24 @@ impl fmt::Display for Names<'_> {
         let count = self.0.len();
         write!(f, "{count}")?;
         for name in self.0 {
-            write!(f, "{name}")?;
+            let shown = Named(name);
+            write!(f, "{shown}")?;
         }
         Ok(())
     }
 }
 
+/// A reply, to be shown.
+#[derive(Clone, Copy)]
+pub struct ReplyText<'a>(pub &'a Reply);
+
 /// Writes a refusal's name; `ok`; `fd N`; `bytes` with the bytes in hexadecimal, or with `-` for none;
 /// `wrote N`; `at N`; a node's attributes; `names K` and the entries; or a volume's room.
-impl fmt::Display for Reply {
-    ghost output = { λ r. Some (answer_text (answer_of r)) };
+impl fmt::Display for ReplyText<'_> {
+    ghost output = { λ r. Some (answer_text (answer_of r.0.now)) };
 
     fn fmt<W: fmt::Write>(&self, f: &mut fmt::Formatter<W>) -> fmt::Result {
-        match self {
+        match self.0 {
             Reply::Refused(errno) => write!(f, "{errno}"),
             Reply::Done => f.write_str("ok"),
             Reply::Descriptor(fd) => write!(f, "fd {fd}"),
@@ -186,23 +200,36 @@ impl fmt::Display for Reply {
             }
             Reply::Wrote(count) => write!(f, "wrote {count}"),
             Reply::At(position) => write!(f, "at {position}"),
-            Reply::Inode(attributes) => write!(f, "{attributes}"),
+            Reply::Inode(attributes) => {
+                let shown = Node(attributes);
+                write!(f, "{shown}")
+            }
             Reply::Names(names) => {
                 let shown = Names(names.as_slice());
                 write!(f, "names {shown}")
             }
-            Reply::Space(room) => write!(f, "{room}"),
+            Reply::Space(room) => {
+                let shown = Volume(room);
+                write!(f, "{shown}")
+            }
         }
     }
 }
 
+/// What came of a call, to be shown.
+#[derive(Clone, Copy)]
+pub struct OutcomeText<'a>(pub &'a Outcome);
+
 /// Writes the reply, or `cut`.
-impl fmt::Display for Outcome {
-    ghost output = { λ outcome. Some (outcome_text outcome) };
+impl fmt::Display for OutcomeText<'_> {
+    ghost output = { λ outcome. Some (outcome_text outcome.0.now) };
 
     fn fmt<W: fmt::Write>(&self, f: &mut fmt::Formatter<W>) -> fmt::Result {
-        match self {
-            Outcome::Reply(reply) => write!(f, "{reply}"),
+        match self.0 {
+            Outcome::Reply(reply) => {
+                let shown = ReplyText(reply);
+                write!(f, "{shown}")
+            }
             Outcome::Cut => f.write_str("cut"),
         }
     }
