@@ -1,17 +1,8 @@
--- Bytes that digits write, and calls of too many words.
-use Rattle.std.proofs.Common.{◌≡◌, ℕ, ◌+◌, ◌/◌, ◌<◌, List, [], ◌∷◌, length, refl, sym, ap, ◌∙◌, arith, Some, None}
-use Rattle.std.specs.Prelude.{Option}
-use Rattle.text_words.specs.Bytes.{hex_bytes}
+-- Calls of too many words.
+use Rattle.std.proofs.Common.{◌≡◌, ℕ, ◌<◌, List, [], ◌∷◌, length, ap, ◌∙◌, arith, None}
 use Rattle.text_words.specs.Words.{words_of}
 use Rattle.call_text.specs.Calls.{call_of}
 use Rattle.text_words.proofs.Reading.{some_part}
-use Rattle.tree.specs.declared.Call.{Call}
-
--- two digits write a byte
-pub half_as_long : (digits : List ℕ) → length (hex_bytes digits) ≡ length digits / 2
-half_as_long [] = refl
-half_as_long (high ∷ []) = refl
-half_as_long (high ∷ low ∷ more) = let shorter = half_as_long more in omega arith
 
 -- no call has more than three words behind its name
 too_many : (words more : List (List ℕ)) (name a b c : List ℕ) → words ≡ name ∷ a ∷ b ∷ c ∷ more → 0 < length more → call_of words ≡ None
