@@ -9,9 +9,8 @@ ghost use Rattle.call_text.specs.Calls.{call_of, call_of_three, whence_of};
 use text_words::bytes::{byte, flags};
 use text_words::words::{cut, decimal, half, mode, offset, path};
 use tree::{Call, Whence};
-use written_call::short::{call_of_none, call_of_one, call_of_two, count_of};
-
 pub use written_call::call::WrittenCall;
+use written_call::short::{call_of_none, call_of_one, call_of_two, count_of};
 
 /// Where a seek counts from: `set`, `cur` or `end`.
 fn whence(word: &[u8]) -> Option<Whence>
