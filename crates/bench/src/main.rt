@@ -1,13 +1,6 @@
 //! Measures how long work takes: the words of the command line say which. What it measured goes to standard error.
 #![tactic(auto)]
 
-mod bytes;
-mod calls;
-mod drivers;
-mod names;
-mod sizes;
-mod timing;
-mod volumes;
 mod words;
 
 use command_line::line_of;
@@ -26,11 +19,11 @@ fn main(rt: HostRuntime) -> io::Result<ExitCode> {
     };
     for work in named {
         match work {
-            Work::Drivers => drivers::run(&rt)?,
-            Work::Volumes => volumes::run(&rt)?,
-            Work::Names => names::run(&rt)?,
-            Work::Bytes => bytes::run(&rt)?,
-            Work::Calls => calls::run(&rt, rt)?,
+            Work::Drivers => bench_frames::run(&rt)?,
+            Work::Volumes => bench_volumes::run(&rt)?,
+            Work::Names => bench_names::run(&rt)?,
+            Work::Bytes => bench_bytes::run(&rt)?,
+            Work::Calls => bench_calls::run(&rt, rt)?,
         }
     }
     Ok(ExitCode::SUCCESS)

@@ -1,1 +1,2 @@
-pub mod Decoded
+pub use Rattle.written_call.proofs as written_call
+pub mod TooLong

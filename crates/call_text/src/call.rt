@@ -1,33 +1,16 @@
 //! Calls by their words.
 
-ghost use Rattle.std.specs.Prelude.{◌≡◌, ◌++◌, OnOk, length, replicate};
+ghost use Rattle.std.specs.Prelude.{◌≡◌};
 ghost use Rattle.std.specs.Option.{option_map};
 ghost use Rattle.text_words.specs.Words.{words_of};
-ghost use Rattle.call_text.specs.Calls.{call_of, call_of_none, call_of_one, call_of_two, call_of_three, count, decoded, meant, plain, whence_of};
+ghost use Rattle.written_call.specs.Calls.{meant};
+ghost use Rattle.call_text.specs.Calls.{call_of, call_of_three, whence_of};
 
-use std::alloc::AllocError;
-use text_words::bytes::{byte, digits, flags, push_hex};
+use text_words::bytes::{byte, flags};
 use text_words::words::{cut, decimal, half, mode, offset, path};
 use tree::{Call, Whence};
-
-/// A call as words write it: the bytes of a write are still to be decoded.
-#[derive(Clone, Copy)]
-pub enum WrittenCall<'t> {
-    /// A call that has no bytes but its paths, which stand in the text.
-    Whole(Call<'t>),
-    /// `write FD HEX`: a write of the bytes that pairs of hexadecimal digits write.
-    Hex { fd: u32, digits: &'t [u8] },
-    /// `fill FD COUNT HH`: a write of so many equal bytes, at most 131072.
-    Fill { fd: u32, count: u32, byte: u8 },
-}
-
-/// How many bytes to read or to fill, at most 131072.
-fn count_of(word: &[u8]) -> Option<u32>
-    ensures { result ≡ count word.now }
-{
-    let count = decimal(word)?;
-    if count <= 131_072 { Some(count) } else { None }
-}
+pub use written_call::call::WrittenCall;
+use written_call::short::{call_of_none, call_of_one, call_of_two, count_of};
 
 /// Where a seek counts from: `set`, `cur` or `end`.
 fn whence(word: &[u8]) -> Option<Whence>
@@ -39,73 +22,6 @@ fn whence(word: &[u8]) -> Option<Whence>
         Some(Whence::Cur)
     } else if word == b"end".as_slice() {
         Some(Whence::End)
-    } else {
-        None
-    }
-}
-
-/// A call of no words but its name.
-fn call_of_none<'t>(name: &[u8]) -> Option<WrittenCall<'t>>
-    ensures { option_map meant result ≡ call_of_none name.now }
-{
-    if name == b"sync".as_slice() {
-        Some(WrittenCall::Whole(Call::Sync))
-    } else if name == b"statfs".as_slice() {
-        Some(WrittenCall::Whole(Call::Statfs))
-    } else {
-        None
-    }
-}
-
-/// A call of a descriptor or of a path.
-fn call_of_one<'t>(name: &[u8], word: &'t [u8]) -> Option<WrittenCall<'t>>
-    ensures { option_map meant result ≡ call_of_one name.now word.now }
-{
-    let call = if name == b"close".as_slice() {
-        Call::Close { fd: decimal(word)? }
-    } else if name == b"dup".as_slice() {
-        Call::Dup { fd: decimal(word)? }
-    } else if name == b"fstat".as_slice() {
-        Call::Fstat { fd: decimal(word)? }
-    } else if name == b"readdir".as_slice() {
-        Call::Readdir { fd: decimal(word)? }
-    } else if name == b"stat".as_slice() {
-        Call::Stat { path: path(word)? }
-    } else if name == b"unlink".as_slice() {
-        Call::Unlink { path: path(word)? }
-    } else if name == b"rmdir".as_slice() {
-        Call::Rmdir { path: path(word)? }
-    } else {
-        return None;
-    };
-    Some(WrittenCall::Whole(call))
-}
-
-/// A call of two words.
-fn call_of_two<'t>(name: &[u8], first: &'t [u8], second: &'t [u8]) -> Option<WrittenCall<'t>>
-    ensures { option_map meant result ≡ call_of_two name.now first.now second.now }
-{
-    if name == b"read".as_slice() {
-        let (fd, count) = (decimal(first)?, count_of(second)?);
-        Some(WrittenCall::Whole(Call::Read { fd, count }))
-    } else if name == b"write".as_slice() {
-        let (fd, digits) = (decimal(first)?, digits(second)?);
-        Some(WrittenCall::Hex { fd, digits })
-    } else if name == b"link".as_slice() {
-        let (old, new) = (path(first)?, path(second)?);
-        Some(WrittenCall::Whole(Call::Link { old, new }))
-    } else if name == b"rename".as_slice() {
-        let (old, new) = (path(first)?, path(second)?);
-        Some(WrittenCall::Whole(Call::Rename { old, new }))
-    } else if name == b"mkdir".as_slice() {
-        let (path, mode) = (path(first)?, mode(second)?);
-        Some(WrittenCall::Whole(Call::Mkdir { path, mode }))
-    } else if name == b"chmod".as_slice() {
-        let (path, mode) = (path(first)?, mode(second)?);
-        Some(WrittenCall::Whole(Call::Chmod { path, mode }))
-    } else if name == b"truncate".as_slice() {
-        let (path, size) = (path(first)?, decimal(second)?);
-        Some(WrittenCall::Whole(Call::Truncate { path, size }))
     } else {
         None
     }
@@ -156,59 +72,5 @@ pub fn read_call(words: &[u8]) -> Option<WrittenCall<'_>>
     match cut(third, b' ') {
         Some(_) => None,
         None => call_of_three(name, first, second, third),
-    }
-}
-
-impl WrittenCall<'_> {
-    /// How many bytes are decoded for it.
-    #[tactic(auto, using(crate::proofs::Decoded::half_as_long))]
-    pub fn decoded_len(&self) -> usize
-        ensures { result ≡ length (decoded self.now) }
-    {
-        match self {
-            WrittenCall::Whole(_) => 0,
-            WrittenCall::Hex { fd: _, digits } => digits.len() / 2,
-            WrittenCall::Fill {
-                fd: _,
-                count,
-                byte: _,
-            } => *count as usize,
-        }
-    }
-
-    /// Adds the bytes that are decoded for it. Where no memory is found, some may have been added.
-    pub fn decode(&self, to: &mut Vec<u8>) -> Result<(), AllocError>
-        ensures { OnOk result (to.new.items ≡ to.old.items ++ decoded self.now) }
-    {
-        match self {
-            WrittenCall::Whole(_) => Ok(()),
-            WrittenCall::Hex { fd: _, digits } => push_hex(to, digits),
-            WrittenCall::Fill { fd: _, count, byte } => push_equal(to, *count, *byte),
-        }
-    }
-}
-
-/// Adds so many equal bytes. Where no memory is found, some may have been added.
-fn push_equal(to: &mut Vec<u8>, count: u32, byte: u8) -> Result<(), AllocError>
-    ensures { OnOk result (to.new.items ≡ to.old.items ++ replicate count byte) }
-{
-    to.resize(to.len() + count as usize, byte)
-}
-
-impl<'t> WrittenCall<'t> {
-    /// The call, with the bytes that were decoded for it.
-    pub fn call(&self, bytes: &'t [u8]) -> Call<'t>
-        requires { bytes.now ≡ decoded self.now }
-        ensures { plain result ≡ meant self.now }
-    {
-        match *self {
-            WrittenCall::Whole(call) => call,
-            WrittenCall::Hex { fd, digits: _ } => Call::Write { fd, bytes },
-            WrittenCall::Fill {
-                fd,
-                count: _,
-                byte: _,
-            } => Call::Write { fd, bytes },
-        }
     }
 }

@@ -2,6 +2,7 @@
 use crate::rows::came;
 use bitflags::Flags;
 use errno::Errno;
+use reply_text::text::{OutcomeText, ReplyText};
 use std::alloc::Global;
 use std::test::Fail;
 use tree::{Attributes, Entry, OpenFlags, Outcome, Reply, Room};
@@ -40,7 +41,8 @@ fn errors_are_named(alloc: Global) -> Result<(), Fail> {
 
 /// A reply has this text.
 fn is_written(alloc: Global, reply: &Reply, wanted: &str) -> Result<(), Fail> {
-    came(format!(in alloc; "{reply}")?.as_str(), wanted)
+    let shown = ReplyText(reply);
+    came(format!(in alloc; "{shown}")?.as_str(), wanted)
 }
 
 /// Replies that own nothing.
@@ -105,6 +107,7 @@ fn lists_are_written(alloc: Global) -> Result<(), Fail> {
 /// Outcomes, and any flags.
 fn outcomes_and_flags(alloc: Global) -> Result<(), Fail> {
     let (cut, done) = (Outcome::Cut, Outcome::Reply(Reply::Done));
+    let (cut, done) = (OutcomeText(&cut), OutcomeText(&done));
     let given = format!(in alloc;
         "{cut} {done} {} {} {}",
         OpenFlags::READ.union(OpenFlags::CREATE).bits(),

@@ -4,6 +4,7 @@ use board::Device;
 use file_server::FileServer;
 use keeping::recorder::Recorder;
 use keeping::room::Room;
+use reply_text::text::OutcomeText;
 use serve::service::Shared;
 use serve::session::Session;
 use std::sync::Wait;
@@ -46,7 +47,8 @@ impl<N: Room, R: Wait + Copy, L: Recorder<N>, S: FileServer<L>> Caller
 /// Makes a call at this time, and adds a line with what it is answered, where there is memory for it.
 pub(crate) fn told<C: Caller>(caller: &mut C, now: u32, call: &Call<'_>, lines: &mut String) {
     let outcome = caller.make(now, call);
-    let _ = writeln!(lines, "{outcome}");
+    let shown = OutcomeText(&outcome);
+    let _ = writeln!(lines, "{shown}");
 }
 
 /// Adds a line with how many marks each of two sessions has seen.

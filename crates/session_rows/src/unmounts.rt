@@ -10,6 +10,7 @@ use launch::Server;
 use list_link::ListLink;
 use message::Incoming;
 use reissue::link::Link;
+use reply_text::text::OutcomeText;
 use samples::new_volume;
 use std::alloc::{AllocError, Global};
 use std::test::Fail;
@@ -149,7 +150,8 @@ fn does<B: Caches>(alloc: Global, server: &mut Server<B>, step: &Step) -> Result
     match step {
         Step::Call(now, call) => {
             let outcome = server.call(who, *now, call);
-            format!(in alloc; "{outcome}")
+            let shown = OutcomeText(&outcome);
+            format!(in alloc; "{shown}")
         }
         Step::Unmount => match server.unmount() {
             Ok(()) => "unmounted".to_string(alloc),

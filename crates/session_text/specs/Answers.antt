@@ -1,7 +1,7 @@
 -- The texts of sessions.
 use Rattle.std.specs.Prelude.{ℕ, List, ◌∷◌, [], ◌++◌, codes, decimal, flat_map}
 use Rattle.tree.specs.declared.Outcome.{Outcome}
-use Rattle.tree.specs.Text.{outcome_text}
+use Rattle.reply_text.specs.Text.{outcome_text}
 use Rattle.session_text.specs.declared.answers.Played.{Played}
 
 -- an answer and a newline

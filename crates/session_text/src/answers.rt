@@ -6,6 +6,7 @@ ghost use Rattle.output.specs.Output.{AppendsPart};
 ghost use Rattle.session_text.specs.Answers.{number_text, outcomes_text, session_text, sessions_text};
 
 use output::{OutputRefusal, write_text};
+use reply_text::text::OutcomeText;
 use std::alloc::Global;
 use std::io::Write;
 use tree::Outcome;
@@ -66,6 +67,7 @@ fn write_outcomes<W: Write>(
     ensures err { OnErr result (AppendsPart (W.contents to.old) (W.contents to.new) (outcomes_text outcomes.now)) }
 {
     for outcome in outcomes {
+        let outcome = OutcomeText(outcome);
         let line = format!(in alloc; "{outcome}\n")?;
         write_text(to, line.as_bytes())?;
     }

@@ -8,7 +8,7 @@ use Rattle.message.specs.declared.Kind.TheVariants.{Read, Write}
 use Rattle.message.specs.declared.BlockRequest.{BlockRequest}
 use Rattle.message.specs.declared.BlockReply.{BlockReply}
 use Rattle.tree.specs.Answers.{Answer, answer_of}
-use Rattle.tree.specs.Text.{answer_text}
+use Rattle.reply_text.specs.Text.{answer_text}
 use Rattle.marks.specs.declared.Cause.{Cause}
 use Rattle.marks.specs.declared.Cause.TheVariants.{Exit, Hung, Complaint}
 use Rattle.marks.specs.Marks.{Mark, Started, Answered, Flush, GaveUp, Took, Issued, Fault}

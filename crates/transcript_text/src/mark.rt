@@ -8,6 +8,7 @@ use endpoint::Endpoint;
 use errno::Errno;
 use marks::Cause;
 use message::{BlockReply, BlockRequest, Kind};
+use reply_text::text::ReplyText;
 use std::fmt;
 use tree::{Call, Reply, Who};
 
@@ -100,6 +101,7 @@ impl fmt::Display for MarkRef<'_> {
             MarkRef::GaveUp => f.write_str("given up"),
             MarkRef::Took(who, _, _, reply) => {
                 let session = who.session;
+                let reply = ReplyText(reply);
                 write!(f, "reply {session} {reply}")
             }
             MarkRef::Issued(request, to) => {

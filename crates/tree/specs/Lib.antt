@@ -16,7 +16,6 @@ pub mod Answers
 pub mod NodeCalls
 pub mod NameCalls
 pub mod FileCalls
-pub mod Text
 pub mod Effects
 pub mod IsCall
 pub mod Laws

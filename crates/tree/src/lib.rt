@@ -3,7 +3,6 @@
 #![tactic(auto)]
 
 pub mod laws;
-mod text;
 
 ghost use Rattle.std.specs.Prelude.{⊤, ◌≡◌, [], ◌∷◌, codes};
 

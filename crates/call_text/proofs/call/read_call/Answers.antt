@@ -1,5 +1,5 @@
 use Rattle.std.proofs.Common.{sym}
-use Rattle.call_text.proofs.Decoded.{line_too_long}
+use Rattle.call_text.proofs.TooLong.{line_too_long}
 use Rattle.call_text.proofs.call.read_call.Goals as goal
 
 pub returns-in-Some-cut-3 : goal.returns-in-Some-cut-3

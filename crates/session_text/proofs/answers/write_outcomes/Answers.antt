@@ -1,6 +1,6 @@
 use Rattle.std.proofs.Common.{◌∙◌, ◌∷◌, [], arith, length-append}
 use Rattle.output.proofs.Writes.{appends_more, part_of_more, on_err}
-use Rattle.tree.specs.Text.{outcome_text}
+use Rattle.reply_text.specs.Text.{outcome_text}
 use Rattle.session_text.specs.Answers.{line_text}
 use Rattle.session_text.proofs.Parts.{part_before, text_next, text_split}
 use Rattle.session_text.proofs.answers.write_outcomes.Goals as goal

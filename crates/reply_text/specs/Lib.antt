@@ -1,0 +1,2 @@
+-- How replies are shown.
+pub mod Text

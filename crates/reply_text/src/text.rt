@@ -1,0 +1,236 @@
+//! The texts of replies: numbers are decimal, modes octal in seven digits, bytes lower-case hexadecimal.
+
+ghost use Rattle.std.specs.Prelude.{Some, map};
+ghost use Rattle.tree.specs.Answers.{answer_of, entry_of};
+ghost use Rattle.reply_text.specs.Text.{answer_text, attributes_text, bytes_text, details_text, entry_text, free_text, hex_text, names_text, octal_text, outcome_text, owner_text, room_text, times_text};
+
+use std::fmt;
+use tree::{Attributes, Entry, Outcome, Reply, Room};
+
+/// A number of 16 bits in seven octal digits.
+#[derive(Clone, Copy)]
+struct Octal(u16);
+
+impl fmt::Display for Octal {
+    ghost output = { λ o. Some (octal_text o.0) };
+
+    #[tactic(auto, unfolding(crate::specs::Text::octal_text))]
+    fn fmt<W: fmt::Write>(&self, f: &mut fmt::Formatter<W>) -> fmt::Result {
+        let n = self.0;
+        let (a, b, c) = (n / 0o100000 % 8, n / 0o10000 % 8, n / 0o1000 % 8);
+        let (d, e, g) = (n / 0o100 % 8, n / 0o10 % 8, n % 8);
+        write!(f, "0{a}{b}{c}{d}{e}{g}")
+    }
+}
+
+/// Bytes in hexadecimal.
+#[derive(Clone, Copy)]
+struct Hex<'a>(&'a [u8]);
+
+impl fmt::Display for Hex<'_> {
+    ghost output = { λ h. Some (hex_text h.0.now) };
+
+    fn fmt<W: fmt::Write>(&self, f: &mut fmt::Formatter<W>) -> fmt::Result {
+        for byte in self.0 {
+            let (high, low) = (*byte / 16, *byte % 16);
+            write!(f, "{high:x}{low:x}")?;
+        }
+        Ok(())
+    }
+}
+
+/// Bytes in hexadecimal, or `-` for none.
+#[derive(Clone, Copy)]
+struct Bytes<'a>(&'a [u8]);
+
+impl fmt::Display for Bytes<'_> {
+    ghost output = { λ b. Some (bytes_text b.0.now) };
+
+    fn fmt<W: fmt::Write>(&self, f: &mut fmt::Formatter<W>) -> fmt::Result {
+        if self.0.is_empty() {
+            return f.write_str("-");
+        }
+        let hex = Hex(self.0);
+        write!(f, "{hex}")
+    }
+}
+
+/// The owner's user and group.
+#[derive(Clone, Copy)]
+struct Owner(u16, u16);
+
+impl fmt::Display for Owner {
+    ghost output = { λ o. Some (owner_text o.0 o.1) };
+
+    #[tactic(auto, unfolding(crate::specs::Text::owner_text))]
+    fn fmt<W: fmt::Write>(&self, f: &mut fmt::Formatter<W>) -> fmt::Result {
+        let Owner(uid, gid) = *self;
+        write!(f, "uid {uid} gid {gid}")
+    }
+}
+
+/// The times of access, of modification and of status change.
+#[derive(Clone, Copy)]
+struct Times(u32, u32, u32);
+
+impl fmt::Display for Times {
+    ghost output = { λ t. Some (times_text t.0 t.1 t.2) };
+
+    #[tactic(auto, unfolding(crate::specs::Text::times_text))]
+    fn fmt<W: fmt::Write>(&self, f: &mut fmt::Formatter<W>) -> fmt::Result {
+        let Times(atime, mtime, ctime) = *self;
+        write!(f, "{atime} {mtime} {ctime}")
+    }
+}
+
+/// What stands after a node's links.
+#[derive(Clone, Copy)]
+struct Details(Attributes);
+
+impl fmt::Display for Details {
+    ghost output = { λ d. Some (details_text d.0) };
+
+    #[tactic(auto, unfolding(crate::specs::Text::details_text))]
+    fn fmt<W: fmt::Write>(&self, f: &mut fmt::Formatter<W>) -> fmt::Result {
+        let Details(a) = *self;
+        let (owner, size, times) = (
+            Owner(a.uid, a.gid),
+            a.size,
+            Times(a.atime, a.mtime, a.ctime),
+        );
+        write!(f, "{owner} size {size} times {times}")
+    }
+}
+
+/// What is told of a node.
+#[derive(Clone, Copy)]
+struct Node<'a>(&'a Attributes);
+
+/// Writes `inode N mode OOOOOOO links N uid N gid N size N times A M C`.
+impl fmt::Display for Node<'_> {
+    ghost output = { λ n. Some (attributes_text n.0.now) };
+
+    fn fmt<W: fmt::Write>(&self, f: &mut fmt::Formatter<W>) -> fmt::Result {
+        let a = *self.0;
+        let (inode, mode, links, details) = (a.inode, Octal(a.mode), a.links, Details(a));
+        write!(f, "inode {inode} mode {mode} links {links} {details}")
+    }
+}
+
+/// What is free of a volume's zones, and of its inodes.
+#[derive(Clone, Copy)]
+struct Free(u32, u32, u32);
+
+impl fmt::Display for Free {
+    ghost output = { λ f. Some (free_text f.0 f.1 f.2) };
+
+    #[tactic(auto, unfolding(crate::specs::Text::free_text))]
+    fn fmt<W: fmt::Write>(&self, f: &mut fmt::Formatter<W>) -> fmt::Result {
+        let Free(zones, inodes, free_inodes) = *self;
+        write!(f, "free {zones} inodes {inodes} free {free_inodes}")
+    }
+}
+
+/// What is told of a volume.
+#[derive(Clone, Copy)]
+struct Volume<'a>(&'a Room);
+
+/// Writes `block B zones Z free F inodes I free J`.
+impl fmt::Display for Volume<'_> {
+    ghost output = { λ v. Some (room_text v.0.now) };
+
+    fn fmt<W: fmt::Write>(&self, f: &mut fmt::Formatter<W>) -> fmt::Result {
+        let room = *self.0;
+        let (block_size, zones) = (room.block_size, room.zones);
+        let free = Free(room.free_zones, room.inodes, room.free_inodes);
+        write!(f, "block {block_size} zones {zones} {free}")
+    }
+}
+
+/// A name and its inode.
+#[derive(Clone, Copy)]
+struct Named<'a>(&'a Entry);
+
+/// Writes a space, the name in hexadecimal, a colon and the inode.
+impl fmt::Display for Named<'_> {
+    ghost output = { λ n. Some (entry_text (entry_of n.0.now)) };
+
+    fn fmt<W: fmt::Write>(&self, f: &mut fmt::Formatter<W>) -> fmt::Result {
+        let name = Hex(self.0.name.as_slice());
+        let inode = self.0.inode;
+        write!(f, " {name}:{inode}")
+    }
+}
+
+/// How many names there are, and each.
+#[derive(Clone, Copy)]
+struct Names<'a>(&'a [Entry]);
+
+impl fmt::Display for Names<'_> {
+    ghost output = { λ n. Some (names_text (map entry_of n.0.now)) };
+
+    fn fmt<W: fmt::Write>(&self, f: &mut fmt::Formatter<W>) -> fmt::Result {
+        let count = self.0.len();
+        write!(f, "{count}")?;
+        for name in self.0 {
+            let shown = Named(name);
+            write!(f, "{shown}")?;
+        }
+        Ok(())
+    }
+}
+
+/// A reply, to be shown.
+#[derive(Clone, Copy)]
+pub struct ReplyText<'a>(pub &'a Reply);
+
+/// Writes a refusal's name; `ok`; `fd N`; `bytes` with the bytes in hexadecimal, or with `-` for none;
+/// `wrote N`; `at N`; a node's attributes; `names K` and the entries; or a volume's room.
+impl fmt::Display for ReplyText<'_> {
+    ghost output = { λ r. Some (answer_text (answer_of r.0.now)) };
+
+    fn fmt<W: fmt::Write>(&self, f: &mut fmt::Formatter<W>) -> fmt::Result {
+        match self.0 {
+            Reply::Refused(errno) => write!(f, "{errno}"),
+            Reply::Done => f.write_str("ok"),
+            Reply::Descriptor(fd) => write!(f, "fd {fd}"),
+            Reply::Bytes(bytes) => {
+                let shown = Bytes(bytes.as_slice());
+                write!(f, "bytes {shown}")
+            }
+            Reply::Wrote(count) => write!(f, "wrote {count}"),
+            Reply::At(position) => write!(f, "at {position}"),
+            Reply::Inode(attributes) => {
+                let shown = Node(attributes);
+                write!(f, "{shown}")
+            }
+            Reply::Names(names) => {
+                let shown = Names(names.as_slice());
+                write!(f, "names {shown}")
+            }
+            Reply::Space(room) => {
+                let shown = Volume(room);
+                write!(f, "{shown}")
+            }
+        }
+    }
+}
+
+/// What came of a call, to be shown.
+#[derive(Clone, Copy)]
+pub struct OutcomeText<'a>(pub &'a Outcome);
+
+/// Writes the reply, or `cut`.
+impl fmt::Display for OutcomeText<'_> {
+    ghost output = { λ outcome. Some (outcome_text outcome.0.now) };
+
+    fn fmt<W: fmt::Write>(&self, f: &mut fmt::Formatter<W>) -> fmt::Result {
+        match self.0 {
+            Outcome::Reply(reply) => {
+                let shown = ReplyText(reply);
+                write!(f, "{shown}")
+            }
+            Outcome::Cut => f.write_str("cut"),
+        }
+    }
+}
