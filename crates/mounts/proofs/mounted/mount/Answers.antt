@@ -1,10 +1,10 @@
 use Rattle.std.proofs.Common.{◌∙◌, ap, refl, subst}
 use Rattle.layout.specs.declared.Geometry.{Geometry}
 use Rattle.reissue.specs.marks.Told.{took_end}
-use Rattle.vfs.specs.OverLink.{IsNewOver}
-use Rattle.vfs.proofs.Mounting.{lacking_later, mounted, refused_later, refused_now, unended}
+use Rattle.mounts.specs.Opening.{IsNewOver}
+use Rattle.mounts.proofs.Mounting.{lacking_later, mounted, refused_later, refused_now, unended}
 use Rattle.mounting.specs.declared.whole.MountRefusal.TheVariants as refusal
-use Rattle.vfs.proofs.mounted.mount.Goals as goal
+use Rattle.mounts.proofs.mounted.mount.Goals as goal
 
 pub returns-then-not-is_allowed-clause-refused : goal.returns-then-not-is_allowed-clause-refused
 returns-then-not-is_allowed-clause-refused g c =

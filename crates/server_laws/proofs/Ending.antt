@@ -1,28 +1,28 @@
 -- How calls end.
 use Rattle.std.proofs.Common.{◌≡◌, ◌≢◌, ℕ, [], Bool, true, false, refl, sym, ◌∙◌, subst}
-use Rattle.errno.specs.declared.Errno.TheVariants.{EIO}
-use Rattle.layout.specs.declared.Geometry.{Geometry}
-use Rattle.tree.specs.declared.Who.{Who}
-use Rattle.tree.specs.declared.Call.{Call}
-use Rattle.tree.specs.declared.Outcome.{Outcome as TreeOutcome}
-use Rattle.tree.specs.Answers.{Answer, refused}
+use Rattle.store.specs.tree.errno.declared.Errno.TheVariants.{EIO}
+use Rattle.store.specs.layout.declared.Geometry.{Geometry}
+use Rattle.store.specs.tree.declared.Who.{Who}
+use Rattle.store.specs.tree.declared.Call.{Call}
+use Rattle.store.specs.tree.declared.Outcome.{Outcome as TreeOutcome}
+use Rattle.store.specs.tree.Answers.{Answer, refused}
 use Rattle.store.specs.volume.Reading.{Disk}
-use Rattle.legal.specs.Legal.{is_sync}
-use Rattle.legal.specs.ServerCall.{Replied}
+use Rattle.file_server.specs.legal.Legal.{is_sync}
+use Rattle.file_server.specs.legal.ServerCall.{Replied}
 use Rattle.cache.specs.Calls.{Caching, IsReady, IsLive, IsWhyCut}
 use Rattle.cache.proofs.Runs.{same_left, ids_kept}
 use Rattle.store.specs.declared.Cut.{Cut as Why}
 use Rattle.store.specs.declared.Cut.TheVariants.{Eio, LinkEnded}
 use Rattle.stored.specs.World.{Leads, Sees, reason}
 use Rattle.cache.specs.slots.Edits.{AllClean}
-use Rattle.legal.specs.Legal.{is_success}
+use Rattle.file_server.specs.legal.Legal.{is_success}
 use Rattle.std.specs.Prelude.{IsTrue}
 use Rattle.descriptors.specs.Files.{Files}
 use Rattle.call_bodies.specs.Calls.{DoesCall}
-use Rattle.vfs.specs.Outcomes.{stopped}
+use Rattle.server_laws.specs.Outcomes.{stopped}
 use Rattle.file_server.specs.Over.{CallsOver, outcome_of}
-use Rattle.vfs.specs.Server.{MayServe, server_of}
-use Rattle.vfs.proofs.Keeping.{calls_answered, calls_cut, calls_eio}
+use Rattle.server_laws.specs.Serving.{MayServe, server_of}
+use Rattle.server_laws.proofs.Keeping.{calls_answered, calls_cut, calls_eio}
 
 -- nothing happened
 abbrev pub none : (a : Caching) → IsReady a → Leads a a

@@ -2,20 +2,22 @@
 
 ghost use Rattle.std.specs.Prelude.{◌≡◌, ◌≤◌, ◌^◌, IfOk, IfErr, true, false};
 ghost use Rattle.std.specs.Bool.{OnTrue, OnFalse};
-ghost use Rattle.legal.specs.Mount.{is_frame_count};
+ghost use Rattle.cache.specs.legal.Mount.{is_frame_count};
 ghost use Rattle.layout.specs.Places.{IsGeometry};
 ghost use Rattle.reissue.specs.marks.Told.{took_end};
 ghost use Rattle.mounting.specs.Mounts.{in_words};
-ghost use Rattle.vfs.specs.OverLink.{IsIdleOver, IsReadyOver, line_of, refusal_of};
-ghost use Rattle.vfs.specs.Mounted.{IsMounted, IsNotMounted, OpensClean};
+ghost use Rattle.vfs.specs.OverLink.{IsIdleOver, IsReadyOver, line_of};
+ghost use Rattle.mounts.specs.Opening.{refusal_of};
+ghost use Rattle.mounts.specs.Mounted.{IsMounted, IsNotMounted, OpensClean};
 
-use crate::server::Server;
+use crate::opening::{open as open_over, over};
 use cache::CacheRefusal;
 use fsck::Clean;
 use mounting::{MountRefusal, read_volume};
 use reissue::{Link, Transfers};
 use std::alloc::Global;
 use stored::Stored;
+use vfs::Server;
 
 /// Whether a cache may have so many frames: 16 to 4096.
 fn is_allowed(frames: u32) -> bool
@@ -56,7 +58,7 @@ where
     ensures idle { IfOk result (IsIdleOver L.Link) }
     ensures none_absorbed { IfOk result (λ s. s.absorbed ≡ 0) }
 {
-    match Server::open(alloc, link, minor, clean.geometry(), frames) {
+    match open_over(alloc, link, minor, clean.geometry(), frames) {
         Ok(server) => Ok(server),
         Err(refusal) => Err(refused_by(refusal)),
     }
@@ -93,7 +95,7 @@ where
         Ok(clean) => clean,
         Err(refusal) => return Err(refusal),
     };
-    match Server::over(alloc, transfers, minor, clean.geometry(), frames) {
+    match over(alloc, transfers, minor, clean.geometry(), frames) {
         Ok(server) => Ok(server),
         Err(_) => Err(MountRefusal::OutOfMemory),
     }

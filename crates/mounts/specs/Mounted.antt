@@ -3,7 +3,7 @@ use Rattle.std.specs.Prelude.{◌≡◌, ℕ, [], Result, Ok, Err}
 use Rattle.layout.specs.declared.Geometry.{Geometry}
 use Rattle.reissue.specs.marks.Opening.{Opening}
 use Rattle.reissue.specs.marks.Acts.{marks_after}
-use Rattle.legal.specs.Mount.{MountKeeps, MountRefused, OpenKeeps, OpenRefused}
+use Rattle.cache.specs.legal.Mount.{MountKeeps, MountRefused, OpenKeeps, OpenRefused}
 use Rattle.reissue.specs.declared.link.Link.{Ghosts as LinkWords}
 use Rattle.stored.specs.declared.Stored.{Stored}
 use Rattle.mounting.specs.declared.whole.MountRefusal.{MountRefusal}

@@ -1,9 +1,9 @@
 -- Messages that are left, and ids for them.
-use Rattle.message.specs.declared.Incoming.{Incoming}
+use Rattle.file_server.specs.legal.message.declared.Incoming.{Incoming}
 use Rattle.cache.specs.Calls.{Caching, HandsOver}
 use Rattle.cache.proofs.Runs.{same_left, ids_kept}
 use Rattle.stored.specs.World.{Leads}
-use Rattle.vfs.specs.Server.{Spends}
+use Rattle.server_laws.specs.Serving.{Spends}
 
 -- where nothing happened
 pub spends_none : (a : Caching) → Spends 0 a a

@@ -1,15 +1,15 @@
 -- What a call of a server over a cache keeps.
 use Rattle.std.proofs.Common.{◌≡◌, ◌≢◌, ℕ, ◌<◌, List, [], ◌∷◌, Bool, true, false, cond, refl, sym, ◌∙◌, ap, subst, inl, inr, None}
 use Rattle.std.specs.Prelude.{IsTrue, Option, is_some}
-use Rattle.errno.specs.declared.Errno.TheVariants.{EIO}
-use Rattle.layout.specs.declared.Geometry.{Geometry}
-use Rattle.message.specs.declared.Incoming.{Incoming}
-use Rattle.message.specs.declared.Incoming.TheVariants as incoming
-use Rattle.tree.specs.declared.Who.{Who}
-use Rattle.tree.specs.declared.Call.{Call}
-use Rattle.tree.specs.Sums.{some_below}
-use Rattle.tree.specs.Tree.{Tree, OpenFile, most_open_files}
-use Rattle.tree.specs.Answers.{Answer, refused}
+use Rattle.store.specs.tree.errno.declared.Errno.TheVariants.{EIO}
+use Rattle.store.specs.layout.declared.Geometry.{Geometry}
+use Rattle.file_server.specs.legal.message.declared.Incoming.{Incoming}
+use Rattle.file_server.specs.legal.message.declared.Incoming.TheVariants as incoming
+use Rattle.store.specs.tree.declared.Who.{Who}
+use Rattle.store.specs.tree.declared.Call.{Call}
+use Rattle.store.specs.tree.Sums.{some_below}
+use Rattle.store.specs.tree.Tree.{Tree, OpenFile, most_open_files}
+use Rattle.store.specs.tree.Answers.{Answer, refused}
 use Rattle.store.specs.volume.Reading.{Disk}
 use Rattle.store.specs.volume.Holds.{HoldsVolume}
 use Rattle.reissue.specs.marks.Marks.{Mark, Answered, Took, gave_up}
@@ -17,10 +17,10 @@ use Rattle.reissue.specs.marks.Open.{counts}
 use Rattle.reissue.specs.marks.Disk.{Contents, HasTrueReplies}
 use Rattle.reissue.specs.marks.Told.{Posted, Complained, Received, received, grown, took_end}
 use Rattle.reissue.specs.marks.Acts.{Act, Began, Absorbed, AtLink, marks_after}
-use Rattle.legal.specs.Legal.{IsLegal, IsLegalTook, is_sync, tree_after, tree_after_answer}
-use Rattle.legal.specs.View.{server_view, IsCovered}
-use Rattle.legal.specs.ServerCall.{Serving, Serves, Replied, Cut, CallKeeps}
-use Rattle.legal.specs.Unmount.{Unmounting, Unmounted, unmounting_of}
+use Rattle.file_server.specs.legal.Legal.{IsLegal, IsLegalTook, is_sync, tree_after, tree_after_answer}
+use Rattle.file_server.specs.legal.View.{server_view, IsCovered}
+use Rattle.file_server.specs.legal.ServerCall.{Serving, Serves, Replied, Cut, CallKeeps}
+use Rattle.file_server.specs.legal.Unmount.{Unmounting, Unmounted, unmounting_of}
 use Rattle.reissue.specs.Agrees.{Agrees}
 use Rattle.reissue.specs.Moves.{state_after}
 use Rattle.reissue.proofs.TableRules.{at_rest}
@@ -34,13 +34,13 @@ use Rattle.cache.proofs.ReadingBack.{frames_read_back}
 use Rattle.stored.specs.World.{Leads, Sees}
 use Rattle.stored.proofs.flusher.Flushing.{synced}
 use Rattle.cache.specs.slots.Edits.{AllClean}
-use Rattle.legal.specs.Legal.{is_success, IsSynced}
+use Rattle.file_server.specs.legal.Legal.{is_success, IsSynced}
 use Rattle.descriptors.specs.Files.{Files, HasFiles}
 use Rattle.call_bodies.specs.Calls.{IsDone, DoesCall, is_busy}
 use Rattle.reissue.specs.marks.Opening.{Opening, contents_at}
 use Rattle.file_server.specs.Over.{CallsOver}
-use Rattle.vfs.specs.Server.{IsServer, server_of}
-use Rattle.vfs.specs.Unmounting.{UnmountsOver}
+use Rattle.server_laws.specs.Serving.{IsServer, server_of}
+use Rattle.server_laws.specs.Unmounting.{UnmountsOver}
 
 -- ---- acts leave the tree and a legal record (as in the crate `serve`)
 

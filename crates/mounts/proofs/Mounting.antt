@@ -1,16 +1,16 @@
 -- From a volume that was read to a server that is mounted, or why not.
 use Rattle.std.proofs.Common.{◌≡◌, ℕ, List, [], ◌∷◌, ◌++◌, Bool, true, false, refl, sym, ◌∙◌, ap, subst}
 use Rattle.std.specs.Prelude.{Ok, Err, ◌||◌}
-use Rattle.message.specs.declared.Incoming.TheVariants as incoming
+use Rattle.cache.specs.legal.message.declared.Incoming.TheVariants as incoming
 use Rattle.layout.specs.declared.Geometry.{Geometry}
 use Rattle.reissue.specs.marks.Marks.{Mark}
 use Rattle.reissue.specs.marks.Disk.{Contents, HasTrueReplies}
 use Rattle.reissue.specs.marks.Told.{Told, Posted, Complained, Received, took_end}
 use Rattle.reissue.specs.marks.Acts.{Act, Outbox, IsAtRest, KeepsRules, empty_outbox, marks_after, outbox_after, told_of}
-use Rattle.legal.specs.Legal.{IsAtFirst}
-use Rattle.legal.specs.Mount.{IsWhyNotMounted, MountKeeps, MountRefused, Mounting, is_frame_count}
-use Rattle.legal.specs.Mount as words
-use Rattle.legal.specs.ServerCall.{Serves}
+use Rattle.cache.specs.legal.Legal.{IsAtFirst}
+use Rattle.cache.specs.legal.Mount.{IsWhyNotMounted, MountKeeps, MountRefused, Mounting, is_frame_count}
+use Rattle.cache.specs.legal.Mount as words
+use Rattle.cache.specs.legal.ServerCall.{Serves}
 use Rattle.reissue.specs.declared.link.Link.{Ghosts as LinkWords}
 use Rattle.reissue.specs.declared.table.Table.{Table}
 use Rattle.reissue.specs.declared.transfers.Transfers.{Transfers}
@@ -28,11 +28,12 @@ use Rattle.mounting.specs.declared.whole.MountRefusal.TheVariants as refusal
 use Rattle.mounting.specs.Reading.{Went}
 use Rattle.mounting.specs.Mounts.{ReadsVolume, in_words}
 use Rattle.vfs.specs.declared.server.Server.{Server}
-use Rattle.vfs.specs.Server.{server_of}
-use Rattle.vfs.specs.OverLink.{IsNewOver, caching_of, serving_over, transfers_of}
-use Rattle.vfs.proofs.Keeping.{legal_acts, tree_acts}
-use Rattle.vfs.proofs.Opened.{just_made, serves_new}
-use Rattle.vfs.specs.Mounted.{IsMounted, IsNotMounted}
+use Rattle.vfs.specs.server_laws.Serving.{server_of}
+use Rattle.vfs.specs.OverLink.{caching_of, serving_over, transfers_of}
+use Rattle.mounts.specs.Opening.{IsNewOver}
+use Rattle.vfs.proofs.server_laws.Keeping.{legal_acts, tree_acts}
+use Rattle.mounts.proofs.Opened.{just_made, serves_new}
+use Rattle.mounts.specs.Mounted.{IsMounted, IsNotMounted}
 
 never : {X : Type 0} → true ≡ false → X
 never e = absurd (let y : ⊥ = cc in y)

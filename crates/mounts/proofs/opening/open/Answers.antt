@@ -1,5 +1,5 @@
-use Rattle.vfs.proofs.Opened.{idle_over, opens_over}
-use Rattle.vfs.proofs.opening.Server+Stored+L.open.Goals as goal
+use Rattle.mounts.proofs.Opened.{idle_over, opens_over}
+use Rattle.mounts.proofs.opening.open.Goals as goal
 
 pub returns-in-Ok-clause-opens : goal.returns-in-Ok-clause-opens
 returns-in-Ok-clause-opens g c =

@@ -1,19 +1,19 @@
 -- What a message that is handed over to a server over a cache keeps.
 use Rattle.std.proofs.Common.{◌≡◌, ℕ, ◌<◌, List, [], ◌∷◌, ◌++◌, false, refl, sym, ◌∙◌, ap, subst, Some}
 use Rattle.std.specs.Prelude.{is_some, Option}
-use Rattle.layout.specs.declared.Geometry.{Geometry}
-use Rattle.message.specs.declared.Incoming.{Incoming}
-use Rattle.tree.specs.Sums.{some_below}
-use Rattle.tree.specs.Tree.{Tree, OpenFile, most_open_files}
+use Rattle.store.specs.layout.declared.Geometry.{Geometry}
+use Rattle.file_server.specs.legal.message.declared.Incoming.{Incoming}
+use Rattle.store.specs.tree.Sums.{some_below}
+use Rattle.store.specs.tree.Tree.{Tree, OpenFile, most_open_files}
 use Rattle.store.specs.volume.Reading.{Disk}
 use Rattle.store.specs.volume.Holds.{HoldsVolume}
 use Rattle.reissue.specs.marks.Marks.{Mark, gave_up}
 use Rattle.reissue.specs.marks.Disk.{Contents, HasTrueReplies}
 use Rattle.reissue.specs.marks.Told.{Received, received, grown, took_end}
 use Rattle.reissue.specs.marks.Acts.{Absorbed, marks_after}
-use Rattle.legal.specs.Legal.{tree_after}
-use Rattle.legal.specs.View.{server_view}
-use Rattle.legal.specs.ServerCall.{Serving, Serves, AbsorbKeeps}
+use Rattle.file_server.specs.legal.Legal.{tree_after}
+use Rattle.file_server.specs.legal.View.{server_view}
+use Rattle.file_server.specs.legal.ServerCall.{Serving, Serves, AbsorbKeeps}
 use Rattle.reissue.specs.Agrees.{Agrees}
 use Rattle.reissue.specs.Moves.{state_after}
 use Rattle.reissue.proofs.TableRules.{at_rest}
@@ -24,8 +24,8 @@ use Rattle.cache.proofs.Runs.{true_before}
 use Rattle.cache.proofs.Leading.{leads_by}
 use Rattle.descriptors.specs.Files.{Files, HasFiles}
 use Rattle.file_server.specs.Over.{AbsorbsOver}
-use Rattle.vfs.specs.Server.{IsServer, server_of}
-use Rattle.vfs.proofs.Keeping.{tree_acts, legal_acts, gone_acts, not_true, never, view_of, covers_of}
+use Rattle.server_laws.specs.Serving.{IsServer, server_of}
+use Rattle.server_laws.proofs.Keeping.{tree_acts, legal_acts, gone_acts, not_true, never, view_of, covers_of}
 
 module _ (g : Geometry) (a b : Caching) (n k : ℕ) (many : k ≡ n) (f : Files) (m : Incoming) (sized : a.size ≡ g.block_size) (some : 0 < g.block_size)
     (ends : a.ended ≡ took_end a.told) (h : HandsOver m a b) where

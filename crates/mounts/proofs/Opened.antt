@@ -4,17 +4,17 @@ use Rattle.std.specs.Prelude.{is_some, Result, Ok, Err, IfOk, IsErrOf, ◌↔◌
 use Rattle.cache.specs.declared.refusals.CacheRefusal.{CacheRefusal}
 use Rattle.cache.specs.declared.refusals.CacheRefusal.TheVariants.{BadFrames, OutOfMemory}
 use Rattle.layout.specs.declared.Geometry.{Geometry}
-use Rattle.tree.specs.Sums.{some_below}
-use Rattle.tree.specs.Tree.{Tree, OpenFile, most_open_files}
-use Rattle.store.specs.volume.Reading.{Disk, blocks_of}
-use Rattle.store.specs.volume.Holds.{HoldsVolume}
+use Rattle.descriptors.specs.tree.Sums.{some_below}
+use Rattle.descriptors.specs.tree.Tree.{Tree, OpenFile, most_open_files}
+use Rattle.cache.specs.legal.volume.Reading.{Disk, blocks_of}
+use Rattle.cache.specs.legal.volume.Holds.{HoldsVolume}
 use Rattle.reissue.specs.marks.Marks.{Mark}
 use Rattle.reissue.specs.marks.Disk.{Contents, HasTrueReplies, disk_after, unsure}
 use Rattle.reissue.specs.marks.Acts.{empty_outbox}
-use Rattle.legal.specs.Legal.{IsAtFirst, IsLegal, tree_after}
-use Rattle.legal.specs.View.{Frames, server_view}
-use Rattle.legal.specs.Mount.{IsJustMade, OpenKeeps, is_frame_count}
-use Rattle.legal.specs.ServerCall.{Serves}
+use Rattle.cache.specs.legal.Legal.{IsAtFirst, IsLegal, tree_after}
+use Rattle.cache.specs.legal.View.{Frames, server_view}
+use Rattle.cache.specs.legal.Mount.{IsJustMade, OpenKeeps, is_frame_count}
+use Rattle.cache.specs.legal.ServerCall.{Serves}
 use Rattle.reissue.specs.declared.link.Link.{Ghosts as LinkWords}
 use Rattle.reissue.specs.declared.transfers.Transfers.{Transfers}
 use Rattle.reissue.specs.Transfers.{link_of, table_of}
@@ -28,12 +28,13 @@ use Rattle.cache.specs.Frames.{CacheAgrees, frame_of, frames_of}
 use Rattle.descriptors.specs.Files.{Files, HasFiles}
 use Rattle.descriptors.specs.Made.{no_files}
 use Rattle.descriptors.specs.Table.{files_of}
-use Rattle.call_bodies.specs.Calls.{is_busy}
+use Rattle.vfs.specs.server_laws.call_bodies.Calls.{is_busy}
 use Rattle.stored.specs.declared.Stored.{Stored}
 use Rattle.vfs.specs.declared.server.Server.{Server}
-use Rattle.vfs.specs.Server.{server_of}
-use Rattle.vfs.specs.OverLink.{IsIdleOver, IsNewOver, Opens, caching_of, serving_over}
-use Rattle.vfs.proofs.Keeping.{covers_of}
+use Rattle.vfs.specs.server_laws.Serving.{server_of}
+use Rattle.vfs.specs.OverLink.{IsIdleOver, caching_of, serving_over}
+use Rattle.mounts.specs.Opening.{IsNewOver, Opens}
+use Rattle.vfs.proofs.server_laws.Keeping.{covers_of}
 
 -- the image is what was handed in, and each place of it is sure
 pub record IsUnchanged (image : Contents) (marks : List Mark) : Type 0 where
