@@ -1,13 +1,14 @@
 //! A link that answers the requests of a mount, and servers over it.
 ghost use Rattle.std.specs.Prelude.{IfOk};
 ghost use Rattle.stored.specs.World.{stored_caching};
-ghost use Rattle.launch.specs.vfs.Server.{IsOpen};
+ghost use Rattle.mounts.specs.vfs.Server.{IsOpen};
 
 use frame_samples::lists::{driver, started};
-use launch::{Server, mount};
 use list_link::ListLink;
 use message::{BlockReply, Incoming};
 use mounting::MountRefusal;
+use mounts::Server;
+use mounts::mounted::mount;
 use reissue::link::Link;
 use std::alloc::{AllocError, Global};
 use stored::Stored;

@@ -1,5 +1,5 @@
-use Rattle.launch.specs.vfs.Server.{IsOpen}
-use Rattle.session_rows.proofs.unmounts.first_other.Given as goal
+use Rattle.mounts.specs.vfs.Server.{IsOpen}
+use Rattle.mount_rows.proofs.unmounts.first_other.Given as goal
 
 abbrev pub invariant-loop-step : goal.invariant-loop-step
 invariant-loop-step g l = IsOpen g.B.Caches.caching l.server

@@ -1,14 +1,14 @@
 //! What is read and written of a volume that was mounted, and why it isn't unmounted.
 ghost use Rattle.stored.specs.World.{stored_caching};
-ghost use Rattle.launch.specs.vfs.Server.{IsOpen};
+ghost use Rattle.mounts.specs.vfs.Server.{IsOpen};
 
 use crate::answered::{gives, mounted_over, reads_of};
 use crate::lines::is_told;
 use file_server::FileServer;
 use frame_samples::lists::{moved, told};
-use launch::Server;
 use list_link::ListLink;
 use message::Incoming;
+use mounts::Server;
 use reissue::link::Link;
 use samples::new_volume;
 use std::alloc::{AllocError, Global};
