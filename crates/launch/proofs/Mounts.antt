@@ -27,9 +27,9 @@ use Rattle.startup.specs.declared.refusal.StartRefusal.{StartRefusal}
 use Rattle.startup.specs.declared.refusal.StartRefusal.TheVariants.{Media, Partition, NoPartition, Mount, BadSetup, NoDriver, OutOfMemory}
 use Rattle.startup.specs.Starting.{opening_of, IsPrepared, IsRefused}
 use Rattle.policy.specs.declared.Setup.{Setup}
-use Rattle.vfs.specs.declared.server.Server.{Server}
-use Rattle.vfs.specs.Mounted.{IsMounted, IsNotMounted}
-use Rattle.vfs.specs.OverLink.{IsReadyOver, line_of, serving_over}
+use Rattle.mounts.specs.vfs.declared.server.Server.{Server}
+use Rattle.mounts.specs.Mounted.{IsMounted, IsNotMounted}
+use Rattle.mounts.specs.vfs.OverLink.{IsReadyOver, line_of, serving_over}
 use Rattle.launch.specs.Ran.{HasRun, IsMountRefused, IsNotStarted, IsStopped, refusal_of}
 
 -- ---- one tree

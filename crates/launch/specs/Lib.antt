@@ -1,3 +1,3 @@
 pub use Rattle.layout.specs as layout
-pub use Rattle.vfs.specs as vfs
+pub use Rattle.mounts.specs.vfs as vfs
 pub mod Ran

@@ -5,5 +5,5 @@ pub mod opened;
 pub mod start;
 
 // passed on: the server, and how one is mounted
-pub use vfs::Server;
-pub use vfs::mounted::mount;
+pub use mounts::Server;
+pub use mounts::mounted::mount;

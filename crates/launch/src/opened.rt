@@ -15,14 +15,15 @@ use keeping::recorder::Recorder;
 use keeping::room::Room;
 use layout::Geometry;
 use mounting::MountRefusal;
+use mounts::Server;
+use mounts::mounted::mount;
+use mounts::opening::open;
 use reissue::link::TrueLink;
 use serve::service::{Service, Shared};
 use startup::StartRefusal;
 use std::alloc::{AllocError, Global};
 use std::sync::{Arc, Wait};
 use stored::Stored;
-use vfs::Server;
-use vfs::mounted::mount;
 
 /// A service of a server of all calls, with so many frames, for its volume in a range of the media, over a link that was told nothing yet,
 /// keeps an empty record on the service's board, and runs on the service's drivers under its policy. The link gives at most 2^58 messages.
@@ -46,7 +47,7 @@ pub fn over<N: Room, R: Wait + Copy, L: Recorder<N>>(
     requires truth { L.Link.truth link N.opening [] }
     requires drivers { L.runs_on link N.policy N.supply }
 {
-    match Server::open(alloc, link, minor, geometry, frames) {
+    match open(alloc, link, minor, geometry, frames) {
         Ok(server) => Service::over(alloc, rt, board, server),
         Err(_) => Err(AllocError),
     }

@@ -1,17 +1,13 @@
-//! Rows of mounting and unmounting, over a link that answers from a list, and of a service's sessions: in turn, in two threads, given up,
-//! refused and ended, and of a service that is stopped. Each expected value is worked out by hand.
+//! Rows of a service's sessions: in turn, in two threads, given up, refused and ended, and of a service that is stopped. Each expected value
+//! is worked out by hand.
 #![tactic(auto)]
 
-#[cfg(test)]
-mod answered;
 #[cfg(test)]
 mod callers;
 #[cfg(test)]
 mod ended;
 #[cfg(test)]
 mod lines;
-#[cfg(test)]
-mod mounts;
 #[cfg(test)]
 mod programs;
 #[cfg(test)]
@@ -22,5 +18,3 @@ mod sessions;
 mod silent;
 #[cfg(test)]
 mod threads;
-#[cfg(test)]
-mod unmounts;

@@ -1,16 +1,11 @@
--- What unmounting a server over a cache promises.
-use Rattle.std.specs.Prelude.{◌≡◌, ℕ, List, Result, Ok, Err}
-use Rattle.tree.specs.Tree.{Tree}
-use Rattle.reissue.specs.marks.Marks.{Mark}
-use Rattle.reissue.specs.marks.Opening.{Opening, contents_at}
-use Rattle.reissue.specs.marks.Acts.{marks_after}
-use Rattle.legal.specs.ServerCall.{Serving}
-use Rattle.legal.specs.Unmount.{UnmountKeeps, Unmounting}
+-- What unmounting a server over a cache promises, and why one is refused.
+use Rattle.std.specs.Prelude.{ℕ, Result, Ok, Err}
+use Rattle.legal.specs.Unmount.{Unmounting}
 use Rattle.legal.specs.Unmount as legal
-use Rattle.reissue.specs.Calls.{Truth}
-use Rattle.cache.specs.Calls.{Caching}
+use Rattle.stored.specs.cache.Calls.{Caching}
 use Rattle.store.specs.declared.Cut.{Cut}
 use Rattle.store.specs.declared.Cut.TheVariants as cut
+use Rattle.server_laws.specs.Unmounting.{UnmountsOver}
 use Rattle.vfs.specs.declared.server.Server.{Server}
 use Rattle.vfs.specs.declared.unmounting.UnmountRefusal.{UnmountRefusal}
 use Rattle.vfs.specs.declared.unmounting.UnmountRefusal.TheVariants.{LinkEnded, Eio, Busy}
@@ -37,12 +32,6 @@ in_words Busy = legal.Busy
 abbrev pub unmounting_as : Result (Unit {0}) UnmountRefusal → Unmounting
 unmounting_as (Ok u) = legal.Unmounted
 unmounting_as (Err refusal) = in_words refusal
-
--- A server over a link is unmounted: what the link guarantees of a record that the server agrees with it guarantees afterwards.
-pub record UnmountsOver (old new : Serving) (was is : Truth) (result : Unmounting) : Type 0 where
-  pub keeps : UnmountKeeps old result new
-  pub truth : (v : Opening) (tree : Tree) (marks : List Mark) → v.minor ≡ old.minor → old.Agrees (contents_at v) tree marks
-      → was v marks → is v (marks_after keeps.acts marks)
 
 -- unmounting a server over the blocks of a cache
 abbrev pub Unmounts : {B : Type 0} → (B → Caching) → (B → ℕ) → Server B → Server B → Unmounting → Type 0

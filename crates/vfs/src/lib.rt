@@ -1,8 +1,6 @@
 //! The file server of one volume, over the frames of a cache.
 #![tactic(auto)]
 
-pub mod mounted;
-pub mod opening;
 pub mod over_link;
 pub mod server;
 pub mod unmounting;

@@ -1,7 +1,7 @@
 //! A file server: what is common to all calls.
 
 ghost use Rattle.std.specs.Prelude.{◌≡◌, ◌≢◌, ◌<◌, ◌+◌, ◌^◌, false};
-ghost use Rattle.vfs.specs.Outcomes.{stopped};
+ghost use Rattle.server_laws.specs.Outcomes.{stopped};
 
 use call_bodies::body;
 use descriptors::Descriptors;
@@ -38,12 +38,31 @@ fn stop(cut: Cut) -> Outcome
     }
 }
 
+impl<B> Server<B> {
+    /// A server over these blocks, with these open files, for a volume of these sizes: it was handed no message yet.
+    pub fn new(alloc: Global, blocks: B, geometry: Geometry, opens: Descriptors) -> Server<B>
+        ensures blocks { result.blocks ≡ blocks }
+        ensures geometry { result.geometry ≡ geometry }
+        ensures opens { result.opens ≡ opens }
+        ensures none_absorbed { result.absorbed ≡ 0 }
+    {
+        Server {
+            alloc,
+            blocks,
+            geometry,
+            opens,
+            absorbed: 0,
+        }
+    }
+}
+
 impl<B: Caches> Server<B> {
-    ghost use Rattle.cache.specs.Calls.{IsIdle};
+    ghost use Rattle.stored.specs.cache.Calls.{IsIdle};
     ghost use Rattle.stored.specs.Cached.{MayAbsorb};
     ghost use Rattle.file_server.specs.Over.{outcome_of};
-    ghost use Rattle.vfs.specs.Outcomes.{OnAnswered};
-    ghost use Rattle.vfs.specs.Server.{IsOpen, Answers, Absorbs, Spends};
+    ghost use Rattle.server_laws.specs.Outcomes.{OnAnswered};
+    ghost use Rattle.server_laws.specs.Serving.{Spends};
+    ghost use Rattle.vfs.specs.Server.{IsOpen, Answers, Absorbs};
 
     /// Answers a client call, with the time in seconds since 1970. Cut once a take gave End, else EIO once the device was given up. No
     /// Flush is left undone where the call is answered otherwise.

@@ -47,7 +47,8 @@ impl From<Cut> for UnmountRefusal {
 }
 
 impl<B: Caches> Server<B> {
-    ghost use Rattle.vfs.specs.Server.{IsOpen, Spends};
+    ghost use Rattle.server_laws.specs.Serving.{Spends};
+    ghost use Rattle.vfs.specs.Server.{IsOpen};
     ghost use Rattle.vfs.specs.Unmounting.{Unmounts, unmounting_as};
 
     /// Writes all that was changed, and says whether the volume may be let go: then nothing is unsure, and the disk alone holds the tree.

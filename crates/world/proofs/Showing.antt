@@ -41,8 +41,8 @@ use Rattle.rounds.specs.Runs.{moment}
 use Rattle.run_shown.specs.Shows.{Shows}
 use Rattle.run_shown.proofs.Showing.{runs_are_shown}
 use Rattle.stored.specs.declared.Stored.{Stored}
-use Rattle.vfs.specs.declared.server.Server.{Server}
-use Rattle.vfs.specs.OverLink.{line_of, serving_over}
+use Rattle.mounts.specs.vfs.declared.server.Server.{Server}
+use Rattle.mounts.specs.vfs.OverLink.{line_of, serving_over}
 use Rattle.run_start.specs.declared.run_refusal.RunRefusal.TheVariants.{OutOfMemory}
 use Rattle.run_start.specs.Beginning.{IsBegun, IsNotBegun, range_of}
 use Rattle.world.specs.Shown.{frames_in}

@@ -12,8 +12,8 @@ use Rattle.schedule.specs.Headline.{Transcript, Headline}
 use Rattle.playing.specs.PlayView.{Play}
 use Rattle.rounds.specs.Starts.{IsBeforeFirst, PlaysAll}
 use Rattle.stored.specs.declared.Stored.{Stored}
-use Rattle.vfs.specs.declared.server.Server.{Server}
-use Rattle.vfs.specs.OverLink.{line_of, serving_over}
+use Rattle.mounts.specs.vfs.declared.server.Server.{Server}
+use Rattle.mounts.specs.vfs.OverLink.{line_of, serving_over}
 use Rattle.run_start.specs.Beginning.{IsBegun}
 
 -- A run that was begun on an image: the volume in this range was checked, and held this tree at first, without an open file. The headline

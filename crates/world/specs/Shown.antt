@@ -12,8 +12,8 @@ use Rattle.transcript.specs.run_log.LogView.{said}
 use Rattle.driver_events.specs.run_drivers.Disks.{Disks}
 use Rattle.driver_events.specs.run_drivers.View.{disks_of}
 use Rattle.stored.specs.declared.Stored.{Stored}
-use Rattle.vfs.specs.declared.server.Server.{Server}
-use Rattle.vfs.specs.OverLink.{line_of}
+use Rattle.mounts.specs.vfs.declared.server.Server.{Server}
+use Rattle.mounts.specs.vfs.OverLink.{line_of}
 use Rattle.world.specs.declared.run_transcript.Transcript.{Transcript}
 
 -- the drivers that were started, in the order of their starts

@@ -21,6 +21,8 @@ use file_server::FileServer;
 use fsck::Clean;
 use inline::local::LocalDriver;
 use media::Media;
+use mounts::Server;
+use mounts::mounted::open;
 use playing::Playing;
 use policy::Setup;
 use reincarnate::Reincarnation;
@@ -30,8 +32,6 @@ use run_start::{PreparedRun, RunRefusal, prepare_run};
 use schedule::Event;
 use std::alloc::{AllocError, Global};
 use stored::Stored;
-use vfs::Server;
-use vfs::mounted::open;
 
 /// A server is opened over this link, which has noted the first start alone, and plays the schedule out: the server then, and how many calls
 /// have no answer. An error: no memory was found.

@@ -1,7 +1,7 @@
 use Rattle.std.proofs.Common.{sym, subst}
 use Rattle.layout.specs.declared.Geometry.{Geometry}
 use Rattle.board.specs.legal.Mount.{OpenKeeps}
-use Rattle.vfs.specs.OverLink.{serving_over}
+use Rattle.mounts.specs.vfs.OverLink.{serving_over}
 use Rattle.serve.proofs.shared_server.held_server.HeldLaws.{held_at_first}
 use Rattle.launch.proofs.opened.over.Goals as goal
 

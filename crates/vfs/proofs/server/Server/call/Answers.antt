@@ -4,8 +4,8 @@ use Rattle.tree.specs.Answers.{answer_of}
 use Rattle.store.proofs.Turns.{turns_then}
 use Rattle.descriptors.specs.Table.{files_of}
 use Rattle.call_bodies.specs.Calls.{DoesCall}
-use Rattle.vfs.proofs.Spending.{spends_none, spends_on}
-use Rattle.vfs.proofs.Ending.{stopped_at_once, stopped_later, ends_well}
+use Rattle.server_laws.proofs.Spending.{spends_none, spends_on}
+use Rattle.server_laws.proofs.Ending.{stopped_at_once, stopped_later, ends_well}
 use Rattle.vfs.proofs.server.Server.call.Goals as goal
 
 pub returns-in-Err-clause-calls : goal.returns-in-Err-clause-calls

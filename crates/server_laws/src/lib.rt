@@ -1,0 +1,30 @@
+//! Laws of a server over the frames of a cache: what each call, each message that is handed over to it and each unmount keeps, by what
+//! they do to the cache.
+#![tactic(auto)]
+
+ghost use Rattle.server_laws.specs.Laws.{AnsweredKeeps, CutKeeps, StoppedKeeps, HandedKeeps, BusyKeeps, UnmountedKeeps};
+ghost use Rattle.server_laws.specs.Laws.{CallSpends, HandedSpends};
+
+use stored::Caches;
+
+/// A call keeps what a server promises, over blocks that have a cache: one that is cut off where it begins, one that is cut off on its
+/// way, and one that is answered, where the blocks say that the tree's call was done and, where it syncs, that each frame is clean. It
+/// spends no more ids than it takes messages.
+pub fn calls_keep<B: Caches>()
+    ensures stopped { StoppedKeeps B B.caching }
+    ensures cut { CutKeeps B B.caching }
+    ensures answered { AnsweredKeeps B B.caching }
+    ensures spends { CallSpends B B.caching }
+{}
+
+/// So does a message that is handed over to it, and it spends one id at most besides.
+pub fn messages_keep<B: Caches>()
+    ensures handed { HandedKeeps B B.caching }
+    ensures spends { HandedSpends B B.caching }
+{}
+
+/// So does an unmount: one that is refused since a file is open, and one after which each frame is clean.
+pub fn unmounts_keep<B: Caches>()
+    ensures busy { BusyKeeps B B.caching }
+    ensures unmounted { UnmountedKeeps B B.caching }
+{}
