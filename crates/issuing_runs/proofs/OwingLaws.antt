@@ -27,7 +27,7 @@ use Rattle.justified_runs.specs.driver_events.run_drivers.Disks.{Disks, LinesUp}
 use Rattle.justified_runs.specs.driver_events.Kept.{with_next}
 use Rattle.justified_runs.proofs.driver_events.Keeping.{events_note_aside}
 use Rattle.justified_runs.specs.playing.PlayView.{Play, begun, PlaysNext, Advances, Stays, Goes, Turn, Takes, TakesOwed, TakesEnd, Posts, Complains, ComesToEnd, IsPlayedOut, IsStarved, noting, paid, ended, posted, complained}
-use Rattle.justified_runs.specs.playing.Moments.{is_busy, Moment, record_of, Step, Begins as StepBegins, Tells, Takes as StepTakes, Settles, Brings, BringsNone, Pays as StepPays, HandsCall, Replies as StepReplies, Runs, Starts, Then}
+use Rattle.justified_runs.specs.playing_laws.Moments.{is_busy, Moment, record_of, Step, Begins as StepBegins, Tells, Takes as StepTakes, Settles, Brings, BringsNone, Pays as StepPays, HandsCall, Replies as StepReplies, Runs, Starts, Then}
 use Rattle.justified_runs.specs.justifying.Core.{Core}
 use Rattle.justified_runs.specs.justifying.Seen.{core_at, with_brought, EventDone}
 use Rattle.justified_runs.specs.justifying.Happens.{AtReport, Begins, Adds, Replies, Complains as AddsComplaint, Pays}

@@ -23,7 +23,7 @@ use Rattle.justified_runs.specs.schedule.Starts.{IssuesFollow, is_among_first, a
 use Rattle.justified_runs.specs.driver_events.run_drivers.Disks.{Disks, is_at, started}
 use Rattle.justified_runs.specs.driver_events.Kept.{with_next}
 use Rattle.justified_runs.specs.playing.PlayView.{Play, IsOpened}
-use Rattle.justified_runs.specs.playing.Moments.{Doing, Moment, Resting, is_busy, Runs}
+use Rattle.justified_runs.specs.playing_laws.Moments.{Doing, Moment, Resting, is_busy, Runs}
 use Rattle.justified_runs.specs.justifying.Core.{Core, story, PhaseIs, WaitsNow, FollowsGroups}
 use Rattle.justified_runs.specs.justifying.Seen.{core_at}
 use Rattle.justified_runs.specs.justifying.Happens.{Begins}

@@ -13,7 +13,7 @@ use Rattle.justified_runs.specs.schedule.Groups.{Group, marks_of, Each, EachGrou
 use Rattle.justified_runs.specs.schedule.Starts.{IssuesFollow}
 use Rattle.justified_runs.specs.driver_events.run_drivers.Disks.{is_at}
 use Rattle.justified_runs.specs.playing.PlayView.{IsOpened}
-use Rattle.justified_runs.specs.playing.Moments.{Moment, Resting, Runs, record_of}
+use Rattle.justified_runs.specs.playing_laws.Moments.{Moment, Resting, Runs, record_of}
 use Rattle.justified_runs.specs.Said.{PlacedAsDue}
 
 -- right after a start all open requests are issued to the new driver, in rising order

@@ -2,14 +2,14 @@
 use Rattle.std.proofs.Common.{◌≡◌, ℕ, zero, suc, ◌+◌, ◌≤◌, List, [], ◌∷◌, ◌++◌, Bool, true, false, cond, refl, sym, ◌∙◌, ap, subst, arith}
 use Rattle.std.proofs.lemmas.Bool.Decides.{nat_tests}
 use Rattle.std.specs.Prelude.{◌&&◌, ◌||◌, not, nat_le, length, Option, Some, None, Result, Ok, Err, is_ok, if◌then◌else◌}
-use Rattle.playing.specs.endpoint.declared.Endpoint.{Endpoint}
-use Rattle.playing.specs.message.declared.BlockRequest.{BlockRequest}
-use Rattle.playing.specs.message.declared.BlockReply.{BlockReply}
-use Rattle.playing.specs.message.declared.Incoming.{Incoming}
-use Rattle.playing.specs.message.declared.Incoming.TheVariants as incoming
-use Rattle.playing.specs.tree.Answers.{answer_of}
+use Rattle.playing_laws.specs.playing.endpoint.declared.Endpoint.{Endpoint}
+use Rattle.playing_laws.specs.playing.message.declared.BlockRequest.{BlockRequest}
+use Rattle.playing_laws.specs.playing.message.declared.BlockReply.{BlockReply}
+use Rattle.playing_laws.specs.playing.message.declared.Incoming.{Incoming}
+use Rattle.playing_laws.specs.playing.message.declared.Incoming.TheVariants as incoming
+use Rattle.playing_laws.specs.playing.tree.Answers.{answer_of}
 use Rattle.justifying.specs.bdev.DriverState.{DriverState}
-use Rattle.playing.specs.media.Contents.{MediaState}
+use Rattle.playing_laws.specs.playing.media.Contents.{MediaState}
 use Rattle.justifying.specs.policy.declared.Policy.{Policy}
 use Rattle.justifying.specs.policy.declared.Event.TheVariants as policy
 use Rattle.justifying.specs.policy.Watch.{Watch, Phase, Running, Waiting, GivenUp, driver, new_watch, on}
@@ -18,22 +18,22 @@ use Rattle.justifying.specs.marks.declared.Cause.{Cause}
 use Rattle.justifying.specs.marks.declared.Cause.TheVariants.{Exit, Hung, Complaint}
 use Rattle.justifying.specs.marks.Told.{Told, Complained, Received, took_nothing}
 use Rattle.justifying.specs.marks.Acts.{AtLink, MayAct}
-use Rattle.playing.specs.schedule.declared.Sent.{Sent}
-use Rattle.playing.specs.schedule.declared.Event.{Event}
-use Rattle.playing.specs.schedule.declared.Event.TheVariants as event
-use Rattle.playing.specs.schedule.Groups.{Group, marks_of, running, EachGroup}
-use Rattle.playing.specs.schedule.Faults.{complaint_after}
-use Rattle.playing.specs.schedule.Replies.{answers_in, answers_due}
-use Rattle.playing.specs.schedule.Starts.{calls_since_fault, may_give_up, is_given_up_after_fault}
-use Rattle.playing.specs.reissue.declared.link.LinkRefusal.{LinkRefusal}
-use Rattle.playing.specs.run_log.Noted.{Noted, grouped, with_mark, with_entry}
-use Rattle.playing.specs.run_log.declared.log.Entry.TheVariants as entry
+use Rattle.playing_laws.specs.playing.schedule.declared.Sent.{Sent}
+use Rattle.playing_laws.specs.playing.schedule.declared.Event.{Event}
+use Rattle.playing_laws.specs.playing.schedule.declared.Event.TheVariants as event
+use Rattle.playing_laws.specs.playing.schedule.Groups.{Group, marks_of, running, EachGroup}
+use Rattle.playing_laws.specs.playing.schedule.Faults.{complaint_after}
+use Rattle.playing_laws.specs.playing.schedule.Replies.{answers_in, answers_due}
+use Rattle.playing_laws.specs.playing.schedule.Starts.{calls_since_fault, may_give_up, is_given_up_after_fault}
+use Rattle.playing_laws.specs.playing.reissue.declared.link.LinkRefusal.{LinkRefusal}
+use Rattle.playing_laws.specs.playing.run_log.Noted.{Noted, grouped, with_mark, with_entry}
+use Rattle.playing_laws.specs.playing.run_log.declared.log.Entry.TheVariants as entry
 use Rattle.justifying.specs.driver_events.declared.ruling.Ruling.{Ruling}
 use Rattle.justifying.specs.driver_events.run_drivers.Disks.{Disks, LinesUp, NoneIsThere, LineIsFull, IsLinedUp}
 use Rattle.justifying.specs.driver_events.Scene.{Scene}
-use Rattle.playing.specs.declared.arrived.Arrived.{Arrived}
-use Rattle.playing.specs.PlayView.{Play, IsOpened, PlaysNext, Advances, Stays, Goes, Turn, Takes, TakesOwed, TakesEnd, Posts, Complains, ComesToEnd, IsPlayedOut, IsStarved, noting, paid, posted, complained, ruling_at}
-use Rattle.playing.specs.Moments.{Doing, Resting, Hearing, Answering, is_busy, Moment, record_of, IsBetween, Step, Begins as StepBegins, Tells, Takes as StepTakes, Settles, Brings, BringsNone, Pays as StepPays, HandsCall, Replies as StepReplies, Runs, Starts, Then}
+use Rattle.playing_laws.specs.playing.declared.arrived.Arrived.{Arrived}
+use Rattle.playing_laws.specs.playing.PlayView.{Play, IsOpened, PlaysNext, Advances, Stays, Goes, Turn, Takes, TakesOwed, TakesEnd, Posts, Complains, ComesToEnd, IsPlayedOut, IsStarved, noting, paid, posted, complained, ruling_at}
+use Rattle.playing_laws.specs.Moments.{Doing, Resting, Hearing, Answering, is_busy, Moment, record_of, IsBetween, Step, Begins as StepBegins, Tells, Takes as StepTakes, Settles, Brings, BringsNone, Pays as StepPays, HandsCall, Replies as StepReplies, Runs, Starts, Then}
 use Rattle.justifying.specs.Core.{Core, Story, story, RunsNow, WaitsNow, IsGivenUp, PhaseIs, FollowsGroups}
 use Rattle.justifying.specs.Seen.{core_at, with_brought, EventDone}
 use Rattle.justifying.specs.Happens.{AtReport, OfNone, OfRunning, fault_marks, exit_marks, beaten_core, TicksTo, Beats, MissesOne, FoundHung, WaitsOn, StartsNext, IsOver, Begins, Arrives, Flushes, Answers, Drops, Delivers, LinesAgain, HangsOne, StepsOne, FailsOne, DiesNone, DiesOne, Ticks}

@@ -2,15 +2,15 @@
 use Rattle.std.proofs.Common.{◌≡◌, ℕ, zero, suc, ◌+◌, List, [], ◌∷◌, ◌++◌, Bool, true, false, cond, refl, sym, ◌∙◌, ap, subst, arith}
 use Rattle.std.proofs.lemmas.Bool.Decides.{nat_tests}
 use Rattle.std.specs.Prelude.{◌&&◌, ◌||◌, not, ◌==◌, length, Option, Some, None, Result, Ok, Err, is_ok, is_some, if◌then◌else◌, slice_get}
-use Rattle.playing.specs.endpoint.declared.Endpoint.{Endpoint}
-use Rattle.playing.specs.message.declared.BlockRequest.{BlockRequest}
-use Rattle.playing.specs.message.declared.BlockReply.{BlockReply}
-use Rattle.playing.specs.message.declared.Incoming.{Incoming}
-use Rattle.playing.specs.message.declared.Incoming.TheVariants as incoming
-use Rattle.playing.specs.tree.declared.Reply.{Reply}
-use Rattle.playing.specs.tree.Answers.{answer_of}
+use Rattle.playing_laws.specs.playing.endpoint.declared.Endpoint.{Endpoint}
+use Rattle.playing_laws.specs.playing.message.declared.BlockRequest.{BlockRequest}
+use Rattle.playing_laws.specs.playing.message.declared.BlockReply.{BlockReply}
+use Rattle.playing_laws.specs.playing.message.declared.Incoming.{Incoming}
+use Rattle.playing_laws.specs.playing.message.declared.Incoming.TheVariants as incoming
+use Rattle.playing_laws.specs.playing.tree.declared.Reply.{Reply}
+use Rattle.playing_laws.specs.playing.tree.Answers.{answer_of}
 use Rattle.justifying.specs.bdev.DriverState.{DriverState}
-use Rattle.playing.specs.media.Contents.{MediaState}
+use Rattle.playing_laws.specs.playing.media.Contents.{MediaState}
 use Rattle.justifying.specs.policy.declared.Policy.{Policy}
 use Rattle.justifying.specs.policy.declared.Event.TheVariants as policy
 use Rattle.justifying.specs.policy.Watch.{Watch, Phase, Running, Waiting, GivenUp, driver, new_watch, is_last_started, on}
@@ -22,23 +22,23 @@ use Rattle.justifying.specs.marks.Told.{Told, Posted, Complained, Received, took
 use Rattle.justifying.specs.marks.Acts.{AtLink, Outbox, MayAct, complaint_due, owed_after_message, owed_after_act}
 use Rattle.justifying.specs.faultless.Faultless.{without_faults}
 use Rattle.justifying.proofs.faultless.FaultlessLaws.{faults_change_nothing, counts_same}
-use Rattle.playing.specs.schedule.declared.Event.{Event}
-use Rattle.playing.specs.schedule.Groups.{Group, marks_of, running, EachGroup}
-use Rattle.playing.specs.schedule.Faults.{complaint_after, complaint_of, ComplaintsFollow}
-use Rattle.playing.specs.schedule.Replies.{answers_in}
-use Rattle.playing.specs.reissue.declared.link.LinkRefusal.{LinkRefusal}
-use Rattle.playing.specs.run_log.Noted.{Noted, marks_in, grouped, with_mark, with_entry}
-use Rattle.playing.specs.run_log.declared.log.Entry.{Entry}
-use Rattle.playing.specs.run_log.declared.log.Entry.TheVariants as entry
+use Rattle.playing_laws.specs.playing.schedule.declared.Event.{Event}
+use Rattle.playing_laws.specs.playing.schedule.Groups.{Group, marks_of, running, EachGroup}
+use Rattle.playing_laws.specs.playing.schedule.Faults.{complaint_after, complaint_of, ComplaintsFollow}
+use Rattle.playing_laws.specs.playing.schedule.Replies.{answers_in}
+use Rattle.playing_laws.specs.playing.reissue.declared.link.LinkRefusal.{LinkRefusal}
+use Rattle.playing_laws.specs.playing.run_log.Noted.{Noted, marks_in, grouped, with_mark, with_entry}
+use Rattle.playing_laws.specs.playing.run_log.declared.log.Entry.{Entry}
+use Rattle.playing_laws.specs.playing.run_log.declared.log.Entry.TheVariants as entry
 use Rattle.justifying.specs.driver_events.declared.ruling.Ruling.{Ruling}
 use Rattle.justifying.specs.driver_events.Ruling.{is_fault, gives_up}
 use Rattle.justifying.specs.driver_events.run_drivers.Disks.{Disks, LinesUp, NoneIsThere, LineIsFull, IsLinedUp}
 use Rattle.justifying.specs.driver_events.Scene.{Scene, ruled}
 use Rattle.justifying.specs.driver_events.Kept.{NotesAside}
 use Rattle.justifying.proofs.driver_events.Keeping.{events_note_aside}
-use Rattle.playing.specs.declared.arrived.Arrived.{Arrived}
-use Rattle.playing.specs.PlayView.{Play, IsOpened, begun, PlaysNext, Advances, Stays, Goes, Turn, Takes, TakesOwed, TakesEnd, Posts, Complains, ComesToEnd, IsPlayedOut, IsStarved, HandsOut, noting, paid, ended, starving, posted, complained}
-use Rattle.playing.specs.Moments.{Doing, Resting, Hearing, Answering, is_busy, Moment, record_of, IsBetween, hearing, at_link, Step, Begins as StepBegins, Tells, Takes as StepTakes, Settles, Brings, BringsNone, Pays as StepPays, HandsCall, Replies as StepReplies, Runs, Starts, Then}
+use Rattle.playing_laws.specs.playing.declared.arrived.Arrived.{Arrived}
+use Rattle.playing_laws.specs.playing.PlayView.{Play, IsOpened, begun, PlaysNext, Advances, Stays, Goes, Turn, Takes, TakesOwed, TakesEnd, Posts, Complains, ComesToEnd, IsPlayedOut, IsStarved, HandsOut, noting, paid, ended, starving, posted, complained}
+use Rattle.playing_laws.specs.Moments.{Doing, Resting, Hearing, Answering, is_busy, Moment, record_of, IsBetween, hearing, at_link, Step, Begins as StepBegins, Tells, Takes as StepTakes, Settles, Brings, BringsNone, Pays as StepPays, HandsCall, Replies as StepReplies, Runs, Starts, Then}
 use Rattle.justifying.specs.Core.{Core, Story, story, RunsNow, PhaseIs, FollowsGroups}
 use Rattle.justifying.specs.Seen.{core_at, with_brought, Brought, NoMessage, Counted, Uncounted, NoReply, EventDone, is_reply}
 use Rattle.justifying.specs.Happens.{IsNotRunning, AtReport, OfNone, OfRunning, fault_marks, exit_marks, beaten_core, TicksTo, Beats, MissesOne, FoundHung, WaitsOn, StartsNext, IsOver, Begins, Arrives, Flushes, Answers, Drops, Delivers, LinesAgain, HangsOne, StepsOne, FailsOne, DiesNone, DiesOne, Ticks}

@@ -2,16 +2,16 @@
 use Rattle.std.proofs.Common.{◌≡◌, ℕ, zero, suc, ◌+◌, List, [], ◌∷◌, ◌++◌, length, Bool, true, false, refl, sym, ◌∙◌, ap, subst, arith, ◌⊎◌, inl, inr}
 use Rattle.std.specs.Prelude.{map, Option, Some, None, IfSome, slice_get}
 use Rattle.justifying.specs.bdev.DriverState.{DriverState}
-use Rattle.playing.specs.media.Contents.{MediaState}
+use Rattle.playing_laws.specs.playing.media.Contents.{MediaState}
 use Rattle.justifying.specs.policy.declared.Policy.{Policy}
 use Rattle.justifying.specs.policy.Watch.{new_watch}
-use Rattle.playing.specs.schedule.declared.Event.{Event}
-use Rattle.playing.specs.schedule.Groups.{Group, Each}
-use Rattle.playing.specs.schedule.Drivers.{state_of}
-use Rattle.playing.specs.schedule.Faults.{FailsAtItsStep}
+use Rattle.playing_laws.specs.playing.schedule.declared.Event.{Event}
+use Rattle.playing_laws.specs.playing.schedule.Groups.{Group, Each}
+use Rattle.playing_laws.specs.playing.schedule.Drivers.{state_of}
+use Rattle.playing_laws.specs.playing.schedule.Faults.{FailsAtItsStep}
 use Rattle.justifying.specs.driver_events.run_drivers.Disks.{Disks, Slot}
-use Rattle.playing.specs.PlayView.{IsOpened}
-use Rattle.playing.specs.Moments.{Moment, Resting, Runs}
+use Rattle.playing_laws.specs.playing.PlayView.{IsOpened}
+use Rattle.playing_laws.specs.Moments.{Moment, Resting, Runs}
 use Rattle.justifying.specs.Core.{Core}
 use Rattle.justifying.specs.Steady.{state_in, drivers_of, SlotStands, AllSlots, SlotsSoFar}
 use Rattle.justifying.proofs.SlotLaws.{push_get, same_slot, slots_kept}

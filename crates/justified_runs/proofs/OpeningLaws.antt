@@ -1,22 +1,22 @@
 -- Before the first event all is said that a run keeps; so at each of its moments what was said is justified.
 use Rattle.std.proofs.Common.{◌≡◌, ℕ, zero, suc, ◌+◌, ◌-◌, ◌<◌, ◌≤◌, List, [], ◌∷◌, ◌++◌, length, Bool, true, false, refl, sym, ◌∙◌, ap, subst, arith}
 use Rattle.std.specs.Prelude.{map, max, take, Option, None, Some, IsSomeAnd, slice_get}
-use Rattle.playing.specs.endpoint.declared.Endpoint.{Endpoint}
+use Rattle.playing_laws.specs.playing.endpoint.declared.Endpoint.{Endpoint}
 use Rattle.justifying.specs.bdev.DriverState.{DriverState, Ranges}
-use Rattle.playing.specs.media.Contents.{MediaState}
+use Rattle.playing_laws.specs.playing.media.Contents.{MediaState}
 use Rattle.justifying.specs.policy.declared.Policy.{Policy}
 use Rattle.justifying.specs.policy.declared.Event.TheVariants as policy
 use Rattle.justifying.specs.policy.Watch.{Watch, Phase, Running, Waiting, GivenUp, driver, new_watch, on}
 use Rattle.justifying.specs.marks.Marks.{Mark, Started}
-use Rattle.playing.specs.schedule.declared.Event.{Event}
-use Rattle.playing.specs.schedule.Groups.{Group, marks_of, running, generation, Each, EachGroup}
-use Rattle.playing.specs.schedule.Drivers.{state_of}
-use Rattle.playing.specs.schedule.Faults.{HasNotFailed}
-use Rattle.playing.specs.run_log.Noted.{marks_in}
+use Rattle.playing_laws.specs.playing.schedule.declared.Event.{Event}
+use Rattle.playing_laws.specs.playing.schedule.Groups.{Group, marks_of, running, generation, Each, EachGroup}
+use Rattle.playing_laws.specs.playing.schedule.Drivers.{state_of}
+use Rattle.playing_laws.specs.playing.schedule.Faults.{HasNotFailed}
+use Rattle.playing_laws.specs.playing.run_log.Noted.{marks_in}
 use Rattle.justifying.specs.driver_events.run_drivers.Disks.{Disks, Slot, opened_disks}
 use Rattle.justifying.specs.driver_events.Scene.{Scene}
-use Rattle.playing.specs.PlayView.{Play, IsOpened, first_noted}
-use Rattle.playing.specs.Moments.{Moment, Resting, Runs}
+use Rattle.playing_laws.specs.playing.PlayView.{Play, IsOpened, first_noted}
+use Rattle.playing_laws.specs.Moments.{Moment, Resting, Runs}
 use Rattle.justifying.specs.Core.{Core, Story, story, PhaseIs, FollowsGroups}
 use Rattle.justifying.specs.Seen.{core_at}
 use Rattle.justifying.specs.Steady.{IsKept, EachSoFar, StartsAsDue, HungAsDue, FlushesAsDue, GivesUpAsDue, GivesUpSoFar, AnsweredSoFar, ExitsSoFar, DriversSoFar, ranges_in, state_in, drivers_of}

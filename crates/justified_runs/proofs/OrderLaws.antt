@@ -1,33 +1,33 @@
 -- At each event the calls taken are the first that arrived, in their order.
 use Rattle.std.proofs.Common.{◌≡◌, ℕ, List, [], ◌∷◌, ◌++◌, append_assoc, Bool, true, false, refl, sym, ◌∙◌, ap, subst}
 use Rattle.std.specs.Prelude.{map, reverse, length, Option, Some, None, Result, Ok, Err, is_ok}
-use Rattle.playing.specs.endpoint.declared.Endpoint.{Endpoint}
-use Rattle.playing.specs.message.declared.BlockRequest.{BlockRequest}
-use Rattle.playing.specs.message.declared.Incoming.{Incoming}
-use Rattle.playing.specs.message.declared.Incoming.TheVariants as incoming
-use Rattle.playing.specs.tree.Answers.{answer_of}
+use Rattle.playing_laws.specs.playing.endpoint.declared.Endpoint.{Endpoint}
+use Rattle.playing_laws.specs.playing.message.declared.BlockRequest.{BlockRequest}
+use Rattle.playing_laws.specs.playing.message.declared.Incoming.{Incoming}
+use Rattle.playing_laws.specs.playing.message.declared.Incoming.TheVariants as incoming
+use Rattle.playing_laws.specs.playing.tree.Answers.{answer_of}
 use Rattle.justifying.specs.bdev.DriverState.{DriverState}
-use Rattle.playing.specs.media.Contents.{MediaState}
+use Rattle.playing_laws.specs.playing.media.Contents.{MediaState}
 use Rattle.justifying.specs.policy.declared.Policy.{Policy}
 use Rattle.justifying.specs.policy.Watch.{driver, new_watch}
 use Rattle.justifying.specs.marks.Marks.{Mark, Started, GaveUp, Took, Issued, Fault}
 use Rattle.justifying.specs.marks.declared.Cause.TheVariants.{Complaint}
 use Rattle.justifying.specs.marks.Told.{Told, Complained, Received}
-use Rattle.playing.specs.schedule.declared.Event.{Event}
-use Rattle.playing.specs.schedule.Groups.{Group, marks_of, EachGroup}
-use Rattle.playing.specs.schedule.Calls.{Arrival, arrived, taken}
-use Rattle.playing.specs.reissue.declared.link.LinkRefusal.{LinkRefusal}
-use Rattle.playing.specs.run_log.Noted.{Noted, marks_in, grouped, with_mark, with_entry}
-use Rattle.playing.specs.run_log.declared.log.Entry.TheVariants as entry
+use Rattle.playing_laws.specs.playing.schedule.declared.Event.{Event}
+use Rattle.playing_laws.specs.playing.schedule.Groups.{Group, marks_of, EachGroup}
+use Rattle.playing_laws.specs.playing.schedule.Calls.{Arrival, arrived, taken}
+use Rattle.playing_laws.specs.playing.reissue.declared.link.LinkRefusal.{LinkRefusal}
+use Rattle.playing_laws.specs.playing.run_log.Noted.{Noted, marks_in, grouped, with_mark, with_entry}
+use Rattle.playing_laws.specs.playing.run_log.declared.log.Entry.TheVariants as entry
 use Rattle.justifying.specs.driver_events.declared.ruling.Ruling.{Ruling}
 use Rattle.justifying.specs.driver_events.declared.ruling.Ruling.TheVariants as ruling
 use Rattle.justifying.specs.driver_events.run_drivers.Disks.{Disks, LinesUp, NoneIsThere, LineIsFull, IsLinedUp}
 use Rattle.justifying.specs.driver_events.Scene.{Scene}
-use Rattle.playing.specs.declared.arrived.Arrived.{Arrived}
-use Rattle.playing.specs.PlayView.{Play, IsOpened, first_noted, PlaysNext, Advances, Stays, Goes, Turn, Takes, TakesOwed, TakesEnd, Posts, Complains, ComesToEnd, IsPlayedOut, IsStarved, Still, Further, HandsEvent, HandsNone, HandsOwed, noting, paid, posted, complained, ruling_at}
-use Rattle.playing.specs.Waiting.{HasCalls, arrival_of}
-use Rattle.playing.specs.Moments.{Doing, Resting, Hearing, Answering, is_busy, Moment, Step, Begins as StepBegins, Tells, Takes as StepTakes, Settles, Brings, BringsNone, Pays as StepPays, HandsCall, Replies as StepReplies, Runs, Starts, Then}
-use Rattle.playing.proofs.Waits.{servers_hand_none, asides_hand_none, one_is_handed_out, it_is_answered}
+use Rattle.playing_laws.specs.playing.declared.arrived.Arrived.{Arrived}
+use Rattle.playing_laws.specs.playing.PlayView.{Play, IsOpened, first_noted, PlaysNext, Advances, Stays, Goes, Turn, Takes, TakesOwed, TakesEnd, Posts, Complains, ComesToEnd, IsPlayedOut, IsStarved, Still, Further, HandsEvent, HandsNone, HandsOwed, noting, paid, posted, complained, ruling_at}
+use Rattle.playing_laws.specs.Waiting.{HasCalls, arrival_of}
+use Rattle.playing_laws.specs.Moments.{Doing, Resting, Hearing, Answering, is_busy, Moment, Step, Begins as StepBegins, Tells, Takes as StepTakes, Settles, Brings, BringsNone, Pays as StepPays, HandsCall, Replies as StepReplies, Runs, Starts, Then}
+use Rattle.playing_laws.proofs.Waits.{servers_hand_none, asides_hand_none, one_is_handed_out, it_is_answered}
 use Rattle.justifying.specs.Seen.{with_brought, EventDone}
 use Rattle.justifying.proofs.Events.{event_done, record_of_groups}
 use Rattle.justified_runs.specs.Said.{IsBegun, HasBegun, StandsBefore, OverCalm}

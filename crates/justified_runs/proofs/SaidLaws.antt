@@ -1,32 +1,32 @@
 -- What each event and what is done within one keep, each step of a run keeps.
 use Rattle.std.proofs.Common.{◌≡◌, ℕ, zero, suc, ◌+◌, List, [], ◌∷◌, ◌++◌, Bool, true, false, refl, sym, ◌∙◌, ap, subst}
 use Rattle.std.specs.Prelude.{◌||◌, ◌&&◌, not, Option, Some, None, Result, Ok, Err, is_ok, slice_get}
-use Rattle.playing.specs.endpoint.declared.Endpoint.{Endpoint}
-use Rattle.playing.specs.message.declared.BlockRequest.{BlockRequest}
-use Rattle.playing.specs.message.declared.Incoming.{Incoming}
-use Rattle.playing.specs.message.declared.Incoming.TheVariants as incoming
-use Rattle.playing.specs.tree.declared.Reply.{Reply}
-use Rattle.playing.specs.tree.Answers.{answer_of}
+use Rattle.playing_laws.specs.playing.endpoint.declared.Endpoint.{Endpoint}
+use Rattle.playing_laws.specs.playing.message.declared.BlockRequest.{BlockRequest}
+use Rattle.playing_laws.specs.playing.message.declared.Incoming.{Incoming}
+use Rattle.playing_laws.specs.playing.message.declared.Incoming.TheVariants as incoming
+use Rattle.playing_laws.specs.playing.tree.declared.Reply.{Reply}
+use Rattle.playing_laws.specs.playing.tree.Answers.{answer_of}
 use Rattle.justifying.specs.policy.declared.Event.TheVariants as policy
 use Rattle.justifying.specs.policy.Watch.{driver, on}
 use Rattle.justifying.specs.marks.Marks.{Mark, Started, GaveUp, Issued, Fault, Took}
 use Rattle.justifying.specs.marks.declared.Cause.TheVariants.{Complaint}
 use Rattle.justifying.specs.marks.Told.{Told, Posted, Complained, Received, took_nothing}
 use Rattle.justifying.specs.marks.Acts.{AtLink, Outbox, MayAct, owed_after_act, owed_after_message}
-use Rattle.playing.specs.schedule.declared.Event.{Event}
-use Rattle.playing.specs.schedule.Groups.{Group}
-use Rattle.playing.specs.reissue.declared.link.LinkRefusal.{LinkRefusal}
-use Rattle.playing.specs.run_log.Noted.{Noted, grouped, with_mark, with_message, with_entry}
-use Rattle.playing.specs.run_log.declared.log.Post.{Post}
-use Rattle.playing.specs.run_log.declared.log.Entry.{Entry}
-use Rattle.playing.specs.run_log.declared.log.Entry.TheVariants as entry
+use Rattle.playing_laws.specs.playing.schedule.declared.Event.{Event}
+use Rattle.playing_laws.specs.playing.schedule.Groups.{Group}
+use Rattle.playing_laws.specs.playing.reissue.declared.link.LinkRefusal.{LinkRefusal}
+use Rattle.playing_laws.specs.playing.run_log.Noted.{Noted, grouped, with_mark, with_message, with_entry}
+use Rattle.playing_laws.specs.playing.run_log.declared.log.Post.{Post}
+use Rattle.playing_laws.specs.playing.run_log.declared.log.Entry.{Entry}
+use Rattle.playing_laws.specs.playing.run_log.declared.log.Entry.TheVariants as entry
 use Rattle.justifying.specs.driver_events.declared.ruling.Ruling.{Ruling}
 use Rattle.justifying.specs.driver_events.Ruling.{is_fault, gives_up}
 use Rattle.justifying.specs.driver_events.run_drivers.Disks.{Disks, LinesUp, NoneIsThere, LineIsFull, IsLinedUp}
 use Rattle.justifying.specs.driver_events.Scene.{ruled}
-use Rattle.playing.specs.declared.arrived.Arrived.{Arrived}
-use Rattle.playing.specs.PlayView.{Play, PlaysNext, Advances, Stays, Goes, Turn, Takes, TakesOwed, TakesEnd, Posts, Complains, ComesToEnd, IsPlayedOut, IsStarved, HandsOut, noting, paid, ended, posted, complained, ruling_at}
-use Rattle.playing.specs.Moments.{Doing, Resting, Hearing, Answering, is_busy, Moment, record_of, Step, Begins as StepBegins, Tells, Takes as StepTakes, Settles, Brings, BringsNone, Pays as StepPays, HandsCall, Replies as StepReplies, Runs, Starts, Then}
+use Rattle.playing_laws.specs.playing.declared.arrived.Arrived.{Arrived}
+use Rattle.playing_laws.specs.playing.PlayView.{Play, PlaysNext, Advances, Stays, Goes, Turn, Takes, TakesOwed, TakesEnd, Posts, Complains, ComesToEnd, IsPlayedOut, IsStarved, HandsOut, noting, paid, ended, posted, complained, ruling_at}
+use Rattle.playing_laws.specs.Moments.{Doing, Resting, Hearing, Answering, is_busy, Moment, record_of, Step, Begins as StepBegins, Tells, Takes as StepTakes, Settles, Brings, BringsNone, Pays as StepPays, HandsCall, Replies as StepReplies, Runs, Starts, Then}
 use Rattle.justifying.specs.Core.{Core}
 use Rattle.justifying.specs.Seen.{core_at, with_brought, EventDone}
 use Rattle.justifying.specs.Happens.{AtReport, Begins, Adds, AddsNothing, Posts as AddsPost, Replies, Complains as AddsComplaint, Pays}

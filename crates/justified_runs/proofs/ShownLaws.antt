@@ -1,17 +1,17 @@
 -- What justifies a run that was played out, put together.
 use Rattle.std.proofs.Common.{◌≡◌, ℕ, List, [], ◌∷◌, length, false, refl, sym, ◌∙◌, subst}
 use Rattle.std.specs.Prelude.{None}
-use Rattle.playing.specs.endpoint.declared.Endpoint.{Endpoint}
+use Rattle.playing_laws.specs.playing.endpoint.declared.Endpoint.{Endpoint}
 use Rattle.justifying.specs.bdev.DriverState.{DriverState}
 use Rattle.justifying.specs.policy.declared.Policy.{Policy}
 use Rattle.justifying.specs.marks.Marks.{Mark}
-use Rattle.playing.specs.schedule.declared.Event.{Event}
-use Rattle.playing.specs.schedule.Groups.{Group, running, generation, EachGroup}
-use Rattle.playing.specs.schedule.Faults.{HasNotFailed}
+use Rattle.playing_laws.specs.playing.schedule.declared.Event.{Event}
+use Rattle.playing_laws.specs.playing.schedule.Groups.{Group, running, generation, EachGroup}
+use Rattle.playing_laws.specs.playing.schedule.Faults.{HasNotFailed}
 use Rattle.justifying.specs.Core.{Core}
 use Rattle.justifying.specs.Steady.{IsKept, StartsAsDue, HungAsDue, GivesUpAsDue, FlushesAsDue, drivers_of}
 use Rattle.justifying.proofs.SteadyLaws.{begins_policy, adds_policy}
-use Rattle.playing.specs.PlayView.{IsOpened}
+use Rattle.playing_laws.specs.playing.PlayView.{IsOpened}
 use Rattle.justified_runs.specs.Said.{IsSaid}
 use Rattle.justified_runs.specs.RunLaws.{RunJustified}
 use Rattle.justified_runs.specs.Shown.{RunsShowEvents}

@@ -1,10 +1,10 @@
 -- Complaints, while one may be due.
 use Rattle.std.specs.Prelude.{◌≡◌, List, [], ◌∷◌, ◌++◌, Option, Some, None, if◌then◌else◌}
-use Rattle.playing.specs.endpoint.declared.Endpoint.{Endpoint}
+use Rattle.playing_laws.specs.playing.endpoint.declared.Endpoint.{Endpoint}
 use Rattle.justifying.specs.marks.Marks.{Mark, is_endpoint}
-use Rattle.playing.specs.schedule.declared.Event.{Event}
-use Rattle.playing.specs.schedule.Groups.{Group, marks_of, running, EachGroup}
-use Rattle.playing.specs.schedule.Faults.{complaint_after, ComplaintsFollow}
+use Rattle.playing_laws.specs.playing.schedule.declared.Event.{Event}
+use Rattle.playing_laws.specs.playing.schedule.Groups.{Group, marks_of, running, EachGroup}
+use Rattle.playing_laws.specs.playing.schedule.Faults.{complaint_after, ComplaintsFollow}
 
 -- the complaint that is due is a fault where it is of the running driver
 abbrev pub fault_due : Option Endpoint → Option Endpoint → Option Endpoint

@@ -1,11 +1,11 @@
 -- The calls taken, at each event.
 use Rattle.std.specs.Prelude.{◌≡◌, List, [], ◌∷◌, ◌++◌}
 use Rattle.justifying.specs.marks.Marks.{Mark}
-use Rattle.playing.specs.schedule.declared.Event.{Event}
-use Rattle.playing.specs.schedule.Groups.{Group, marks_of, EachGroup}
-use Rattle.playing.specs.schedule.Calls.{Arrival, arrived, taken}
-use Rattle.playing.specs.Waiting.{arrival_of}
-use Rattle.playing.specs.Moments.{Doing, Resting, Hearing, Answering}
+use Rattle.playing_laws.specs.playing.schedule.declared.Event.{Event}
+use Rattle.playing_laws.specs.playing.schedule.Groups.{Group, marks_of, EachGroup}
+use Rattle.playing_laws.specs.playing.schedule.Calls.{Arrival, arrived, taken}
+use Rattle.playing_laws.specs.Waiting.{arrival_of}
+use Rattle.playing_laws.specs.Moments.{Doing, Resting, Hearing, Answering}
 
 -- the calls taken so far are the first that arrived, in their order
 pub record IsOrdered (groups : List Group) : Type 0 where

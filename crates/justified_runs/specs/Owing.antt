@@ -1,11 +1,11 @@
 -- That the device was given up, while it is owed.
 use Rattle.std.specs.Prelude.{◌≡◌, ◌≤◌, ℕ, List, [], ◌∷◌, Bool, true}
 use Rattle.justifying.specs.marks.Marks.{Mark}
-use Rattle.playing.specs.schedule.declared.Event.{Event}
-use Rattle.playing.specs.schedule.declared.Event.TheVariants as event
-use Rattle.playing.specs.schedule.Groups.{Group, marks_of}
-use Rattle.playing.specs.schedule.Starts.{calls_since_fault, is_given_up_after_fault}
-use Rattle.playing.specs.Moments.{Doing, Resting, Hearing, Answering}
+use Rattle.playing_laws.specs.playing.schedule.declared.Event.{Event}
+use Rattle.playing_laws.specs.playing.schedule.declared.Event.TheVariants as event
+use Rattle.playing_laws.specs.playing.schedule.Groups.{Group, marks_of}
+use Rattle.playing_laws.specs.playing.schedule.Starts.{calls_since_fault, is_given_up_after_fault}
+use Rattle.playing_laws.specs.Moments.{Doing, Resting, Hearing, Answering}
 
 -- how many calls were finished since the fault: none while the server is at work, at most one after that
 abbrev pub FewCalls : Doing → ℕ → Type 0

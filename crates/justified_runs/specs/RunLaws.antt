@@ -1,18 +1,18 @@
 -- What a whole run keeps.
 use Rattle.std.specs.Prelude.{◌≡◌, ℕ, List, [], ◌∷◌, length, map, take, true, false, None, IfSome}
 use Rattle.justifying.specs.bdev.DriverState.{DriverState}
-use Rattle.playing.specs.media.Contents.{MediaState}
+use Rattle.playing_laws.specs.playing.media.Contents.{MediaState}
 use Rattle.justifying.specs.policy.declared.Policy.{Policy}
 use Rattle.justifying.specs.policy.Watch.{driver, new_watch}
 use Rattle.justifying.specs.marks.Marks.{Started}
-use Rattle.playing.specs.schedule.declared.Event.{Event}
-use Rattle.playing.specs.schedule.Groups.{Group, marks_of, running, generation, Each, EachGroup}
-use Rattle.playing.specs.schedule.Faults.{ExitsOfGroup, HasNotFailed, FailsAtItsStep}
-use Rattle.playing.specs.schedule.Drivers.{state_of}
-use Rattle.playing.specs.schedule.Replies.{answers_in, answers_due, are_in_order}
-use Rattle.playing.specs.run_log.Noted.{marks_in}
-use Rattle.playing.specs.PlayView.{Play, IsOpened}
-use Rattle.playing.specs.Moments.{Moment, Resting, Runs}
+use Rattle.playing_laws.specs.playing.schedule.declared.Event.{Event}
+use Rattle.playing_laws.specs.playing.schedule.Groups.{Group, marks_of, running, generation, Each, EachGroup}
+use Rattle.playing_laws.specs.playing.schedule.Faults.{ExitsOfGroup, HasNotFailed, FailsAtItsStep}
+use Rattle.playing_laws.specs.playing.schedule.Drivers.{state_of}
+use Rattle.playing_laws.specs.playing.schedule.Replies.{answers_in, answers_due, are_in_order}
+use Rattle.playing_laws.specs.playing.run_log.Noted.{marks_in}
+use Rattle.playing_laws.specs.playing.PlayView.{Play, IsOpened}
+use Rattle.playing_laws.specs.Moments.{Moment, Resting, Runs}
 use Rattle.justifying.specs.Core.{Core}
 use Rattle.justifying.specs.Steady.{EachSoFar, StartsAsDue, HungAsDue, FlushesAsDue, GivesUpAsDue, GivesUpSoFar, AnsweredSoFar, ExitsSoFar, drivers_of}
 use Rattle.justified_runs.specs.Said.{IsSaid, HasBegun, OverCalm}

@@ -2,11 +2,11 @@
 use Rattle.std.specs.Prelude.{◌≡◌, ℕ, List, [], ◌∷◌, true, false, None}
 use Rattle.justifying.specs.policy.Watch.{driver}
 use Rattle.justifying.specs.marks.Marks.{Mark, Started}
-use Rattle.playing.specs.schedule.declared.Event.{Event}
-use Rattle.playing.specs.schedule.Groups.{Group, marks_of}
-use Rattle.playing.specs.schedule.Starts.{are_issued_in_place}
-use Rattle.playing.specs.PlayView.{Play}
-use Rattle.playing.specs.Moments.{Moment, Resting}
+use Rattle.playing_laws.specs.playing.schedule.declared.Event.{Event}
+use Rattle.playing_laws.specs.playing.schedule.Groups.{Group, marks_of}
+use Rattle.playing_laws.specs.playing.schedule.Starts.{are_issued_in_place}
+use Rattle.playing_laws.specs.playing.PlayView.{Play}
+use Rattle.playing_laws.specs.Moments.{Moment, Resting}
 use Rattle.justifying.specs.Core.{Core}
 use Rattle.justifying.specs.Seen.{core_at}
 

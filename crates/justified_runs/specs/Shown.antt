@@ -1,21 +1,21 @@
 -- What justifies a run that was played out.
 use Rattle.std.specs.Prelude.{◌≡◌, ℕ, List, length, map, take, true, false, None, IfSome}
 use Rattle.justifying.specs.bdev.DriverState.{DriverState}
-use Rattle.playing.specs.media.Contents.{MediaState}
+use Rattle.playing_laws.specs.playing.media.Contents.{MediaState}
 use Rattle.justifying.specs.policy.declared.Policy.{Policy}
 use Rattle.justifying.specs.policy.Watch.{new_watch}
 use Rattle.justifying.specs.marks.Marks.{Mark}
-use Rattle.playing.specs.schedule.declared.Sent.{Sent}
-use Rattle.playing.specs.schedule.declared.Event.{Event}
-use Rattle.playing.specs.schedule.Groups.{Group, marks_of, running, generation, Each, EachGroup}
-use Rattle.playing.specs.schedule.Drivers.{state_of}
-use Rattle.playing.specs.schedule.Faults.{ExitsOfGroup, FailsAtItsStep, HasNotFailed}
-use Rattle.playing.specs.schedule.Starts.{GivingUpOfGroup}
-use Rattle.playing.specs.schedule.Replies.{are_in_order}
-use Rattle.playing.specs.schedule.Justified.{AnswersAndFlushes}
-use Rattle.playing.specs.run_log.Noted.{marks_in}
-use Rattle.playing.specs.PlayView.{IsOpened}
-use Rattle.playing.specs.Moments.{Moment, Resting, Runs}
+use Rattle.playing_laws.specs.playing.schedule.declared.Sent.{Sent}
+use Rattle.playing_laws.specs.playing.schedule.declared.Event.{Event}
+use Rattle.playing_laws.specs.playing.schedule.Groups.{Group, marks_of, running, generation, Each, EachGroup}
+use Rattle.playing_laws.specs.playing.schedule.Drivers.{state_of}
+use Rattle.playing_laws.specs.playing.schedule.Faults.{ExitsOfGroup, FailsAtItsStep, HasNotFailed}
+use Rattle.playing_laws.specs.playing.schedule.Starts.{GivingUpOfGroup}
+use Rattle.playing_laws.specs.playing.schedule.Replies.{are_in_order}
+use Rattle.playing_laws.specs.playing.schedule.Justified.{AnswersAndFlushes}
+use Rattle.playing_laws.specs.playing.run_log.Noted.{marks_in}
+use Rattle.playing_laws.specs.playing.PlayView.{IsOpened}
+use Rattle.playing_laws.specs.Moments.{Moment, Resting, Runs}
 use Rattle.justifying.specs.Steady.{StartsAsDue, HungAsDue, drivers_of}
 use Rattle.justified_runs.specs.Complaining.{ComplaintsAsDue}
 use Rattle.justified_runs.specs.Ordered.{OrderedAsDue}

@@ -21,11 +21,11 @@ use Rattle.playing.specs.run_log.Noted.{marks_in}
 use Rattle.playing.specs.driver_events.Scene.{Scene}
 use Rattle.playing.specs.declared.arrived.Arrived.{Arrived}
 use Rattle.playing.specs.PlayView.{Play, PlayTrue, IsSpent, work_left}
-use Rattle.playing.specs.Laws.{IsSound, MediaHeld}
-use Rattle.playing.specs.Waiting.{arrival_of}
-use Rattle.playing.specs.Moments.{Doing, Resting, Answering}
-use Rattle.playing.proofs.PlayLaws.{media_held}
-use Rattle.playing.proofs.Needing.{runs_end_needing}
+use Rattle.playing_laws.specs.Laws.{IsSound, MediaHeld}
+use Rattle.playing_laws.specs.Waiting.{arrival_of}
+use Rattle.playing_laws.specs.Moments.{Doing, Resting, Answering}
+use Rattle.playing_laws.proofs.Guarantee.{media_held}
+use Rattle.playing_laws.proofs.Needing.{runs_end_needing}
 use Rattle.file_server.specs.Over.{Stands}
 use Rattle.rounds.specs.Runs.{moment, RunsOn, StandsAfter, EndsAs}
 use Rattle.rounds.specs.Ends.{RunStands, RunsOut}

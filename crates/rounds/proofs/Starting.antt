@@ -20,11 +20,11 @@ use Rattle.playing.specs.schedule.Calls.{arrived, taken}
 use Rattle.playing.specs.run_log.Noted.{Noted, marks_in}
 use Rattle.playing.specs.declared.arrived.Arrived.{Arrived}
 use Rattle.playing.specs.PlayView.{Play, GoesOn, work_left}
-use Rattle.playing.specs.Laws.{IsSound, LeadsOn, IsToldOfEnd}
-use Rattle.playing.specs.Waiting.{arrival_of, HasCalls}
-use Rattle.playing.specs.Moments.{Resting}
-use Rattle.playing.proofs.Going.{servers_lead_on}
-use Rattle.playing.proofs.Running.{history_of, none_told}
+use Rattle.playing_laws.specs.Laws.{IsSound, LeadsOn, IsToldOfEnd}
+use Rattle.playing_laws.specs.Waiting.{arrival_of, HasCalls}
+use Rattle.playing_laws.specs.Moments.{Resting}
+use Rattle.playing_laws.proofs.Leading.{servers_lead_on}
+use Rattle.playing_laws.proofs.Running.{history_of, none_told}
 use Rattle.file_server.specs.Over.{AbsorbsOver, Stands}
 use Rattle.rounds.proofs.Standing.{absorbed_live}
 use Rattle.rounds.specs.Runs.{IsIdle, moment}

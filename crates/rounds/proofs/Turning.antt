@@ -5,8 +5,8 @@ use Rattle.file_server.specs.legal.ServerCall.{Serving}
 use Rattle.reissue.specs.Calls.{Truth}
 use Rattle.playing.specs.declared.arrived.Arrived.{Arrived}
 use Rattle.playing.specs.PlayView.{Play, HandsOut, work_left}
-use Rattle.playing.specs.Moments.{Resting, Answering}
-use Rattle.playing.proofs.Going.{calls_lead_on}
+use Rattle.playing_laws.specs.Moments.{Resting, Answering}
+use Rattle.playing_laws.proofs.Leading.{calls_lead_on}
 use Rattle.rounds.specs.declared.course.Course.{Course}
 use Rattle.rounds.specs.declared.course.Course.TheVariants.{More, Done, Cut}
 use Rattle.rounds.specs.Runs.{RunsOn, IsLive, IsIdle, IsNext, PlaysOne, AnswersTo, GoesFurther, IsDone, IsCut, ComesTo, EndsAs, doing_of, doing_after}

@@ -13,9 +13,9 @@ use Rattle.playing.specs.schedule.Headline.{Transcript, RepliesHold}
 use Rattle.playing.specs.run_log.Noted.{marks_in}
 use Rattle.playing.specs.driver_events.Scene.{Scene}
 use Rattle.playing.specs.PlayView.{Play, IsSpent}
-use Rattle.playing.specs.Laws.{MediaHeld}
-use Rattle.playing.specs.Waiting.{arrival_of}
-use Rattle.playing.specs.Moments.{Doing, Resting, Hearing, Answering, Moment, Runs, Needs}
+use Rattle.playing_laws.specs.Laws.{MediaHeld}
+use Rattle.playing_laws.specs.Waiting.{arrival_of}
+use Rattle.playing_laws.specs.Moments.{Doing, Resting, Hearing, Answering, Moment, Runs, Needs}
 use Rattle.file_server.specs.Over.{Stands}
 use Rattle.rounds.specs.Runs.{moment, out_in}
 

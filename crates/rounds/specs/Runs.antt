@@ -12,9 +12,9 @@ use Rattle.playing.specs.driver_events.Kept.{with_next}
 use Rattle.playing.specs.schedule.Calls.{Arrival}
 use Rattle.playing.specs.declared.arrived.Arrived.{Arrived}
 use Rattle.playing.specs.PlayView.{Play, IsSpent, Asides, Answers, work_left}
-use Rattle.playing.specs.Laws.{LeadsOn, IsToldOfEnd}
-use Rattle.playing.specs.Waiting.{HasCalls, arrival_of}
-use Rattle.playing.specs.Moments.{Doing, Resting, Hearing, Answering, Moment, Runs}
+use Rattle.playing_laws.specs.Laws.{LeadsOn, IsToldOfEnd}
+use Rattle.playing_laws.specs.Waiting.{HasCalls, arrival_of}
+use Rattle.playing_laws.specs.Moments.{Doing, Resting, Hearing, Answering, Moment, Runs}
 use Rattle.file_server.specs.Over.{Stands, SameServing}
 use Rattle.rounds.specs.declared.course.Course.{Course}
 use Rattle.rounds.specs.declared.course.Course.TheVariants.{More, Done, Cut}

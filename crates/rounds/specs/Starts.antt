@@ -11,8 +11,8 @@ use Rattle.playing.specs.schedule.Groups.{schedule_of}
 use Rattle.playing.specs.schedule.Calls.{Arrival, arrived, taken}
 use Rattle.playing.specs.run_log.Noted.{marks_in}
 use Rattle.playing.specs.PlayView.{Play, IsSpent, first_noted}
-use Rattle.playing.specs.Waiting.{arrival_of}
-use Rattle.playing.specs.Moments.{Doing, Resting, Moment}
+use Rattle.playing_laws.specs.Waiting.{arrival_of}
+use Rattle.playing_laws.specs.Moments.{Doing, Resting, Moment}
 use Rattle.file_server.specs.Over.{Hears}
 use Rattle.rounds.specs.Runs.{moment, out_in}
 use Rattle.rounds.specs.Ends.{EndsIn, RunStands}

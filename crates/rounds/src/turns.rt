@@ -2,9 +2,9 @@
 
 ghost use Rattle.std.specs.Prelude.{◌≡◌, ◌⊎◌, ◌≤◌, ◌<◌, ◌+◌, ◌^◌, length, if◌then◌else◌, IfOk, IfSome, OnOk, OnErr, None, option_map, true, false};
 ghost use Rattle.playing.specs.PlayView.{work_left, HandsOut, IsSpent};
-ghost use Rattle.playing.specs.Moments.{Resting, Answering};
+ghost use Rattle.playing_laws.specs.Moments.{Resting, Answering};
 ghost use Rattle.tree.specs.declared.Call.{Call};
-ghost use Rattle.playing.specs.Laws.{IsSound};
+ghost use Rattle.playing_laws.specs.Laws.{IsSound};
 ghost use Rattle.rounds.specs.Runs.{RunsOn, Awaits, Notes, IsLive, IsIdle, IsNext, PlaysOne, AnswersTo, ComesTo, EndsAs, doing_of, doing_after};
 ghost use Rattle.rounds.specs.Ends.{RunsOut};
 

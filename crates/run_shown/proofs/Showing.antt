@@ -3,7 +3,7 @@ use Rattle.std.proofs.Common.{List, refl, sym, subst}
 use Rattle.transcript.specs.marks.Marks.{Mark}
 use Rattle.transcript.specs.marks.Opening.{contents_at}
 use Rattle.transcript.specs.schedule.Headline.{RepliesHold}
-use Rattle.rounds.specs.playing.Laws.{MediaHeld}
+use Rattle.rounds.specs.playing_laws.Laws.{MediaHeld}
 use Rattle.transcript.proofs.Image.{image_shows}
 use Rattle.run_shown.specs.Shows.{RunsAreShown}
 

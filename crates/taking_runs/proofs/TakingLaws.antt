@@ -16,7 +16,7 @@ use Rattle.justified_runs.specs.schedule.Groups.{Group, marks_of, Each}
 use Rattle.justified_runs.specs.schedule.Drivers.{state_of, is_issued_to, requests_issued_to, TookItsOwn}
 use Rattle.justified_runs.specs.driver_events.run_drivers.Disks.{Disks, Slot}
 use Rattle.justified_runs.specs.playing.PlayView.{IsOpened}
-use Rattle.justified_runs.specs.playing.Moments.{Moment, Resting, Runs}
+use Rattle.justified_runs.specs.playing_laws.Moments.{Moment, Resting, Runs}
 use Rattle.justified_runs.specs.justifying.Core.{Core}
 use Rattle.justified_runs.specs.justifying.Seen.{core_at}
 use Rattle.justified_runs.specs.justifying.Steady.{IsKept, AllSlots, state_in, drivers_of}

@@ -13,7 +13,7 @@ use Rattle.justified_runs.specs.schedule.Drivers.{state_of, TookItsOwn}
 use Rattle.justified_runs.specs.schedule.Replies.{RepliesOf}
 use Rattle.justified_runs.specs.inline.Inline.{IsReady}
 use Rattle.justified_runs.specs.playing.PlayView.{IsOpened}
-use Rattle.justified_runs.specs.playing.Moments.{Moment, Resting, Runs}
+use Rattle.justified_runs.specs.playing_laws.Moments.{Moment, Resting, Runs}
 use Rattle.justified_runs.specs.justifying.Steady.{IsKept, drivers_of}
 use Rattle.justified_runs.specs.Said.{core_of, PlacedAsDue}
 use Rattle.taking_runs.specs.Took.{TookNothing, TookSoFar}

@@ -16,9 +16,9 @@ use Rattle.justified_runs.specs.run_log.declared.log.Entry.TheVariants as entry
 use Rattle.justified_runs.specs.driver_events.Scene.{Scene}
 use Rattle.justified_runs.specs.playing.declared.arrived.Arrived.{Arrived}
 use Rattle.justified_runs.specs.playing.PlayView.{Play, IsOpened, first_noted, PlaysNext, Further, Still, HandsEvent, HandsNone, HandsOwed, noting, paid}
-use Rattle.justified_runs.specs.playing.Waiting.{HasCalls, arrival_of}
-use Rattle.justified_runs.specs.playing.Moments.{Doing, Resting, Answering, Moment, Step, Begins as StepBegins, Tells, Takes as StepTakes, Settles, Brings, BringsNone, Pays as StepPays, HandsCall, Replies as StepReplies}
-use Rattle.justified_runs.proofs.playing.Waits.{servers_hand_none, asides_hand_none, one_is_handed_out, it_is_answered}
+use Rattle.justified_runs.specs.playing_laws.Waiting.{HasCalls, arrival_of}
+use Rattle.justified_runs.specs.playing_laws.Moments.{Doing, Resting, Answering, Moment, Step, Begins as StepBegins, Tells, Takes as StepTakes, Settles, Brings, BringsNone, Pays as StepPays, HandsCall, Replies as StepReplies}
+use Rattle.justified_runs.proofs.playing_laws.Waits.{servers_hand_none, asides_hand_none, one_is_handed_out, it_is_answered}
 use Rattle.justified_runs.specs.Said.{IsBegun}
 use Rattle.justified_runs.specs.Ordered.{answering}
 

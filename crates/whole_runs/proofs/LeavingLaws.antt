@@ -25,11 +25,11 @@ use Rattle.justified_runs.specs.driver_events.run_drivers.Disks.{Disks, is_at, L
 use Rattle.justified_runs.specs.driver_events.Scene.{Scene}
 use Rattle.justified_runs.specs.playing.declared.arrived.Arrived.{Arrived}
 use Rattle.justified_runs.specs.playing.PlayView.{Play, PlaysNext, Advances, Stays, Goes, Turn, Takes, TakesOwed, TakesEnd, Posts, Complains, ComesToEnd, IsPlayedOut, IsStarved, noting, ruling_at}
-use Rattle.justified_runs.specs.playing.Waiting.{HasCalls, arrival_of}
-use Rattle.justified_runs.specs.playing.Moments.{Resting, Moment, record_of, Step, Begins as StepBegins, Tells, Takes as StepTakes, Settles, Brings, BringsNone, Pays as StepPays, HandsCall, Replies as StepReplies, Runs, Starts, Then, Needs}
-use Rattle.justified_runs.proofs.playing.Needing.{runs_end_needing}
+use Rattle.justified_runs.specs.playing_laws.Waiting.{HasCalls, arrival_of}
+use Rattle.justified_runs.specs.playing_laws.Moments.{Resting, Moment, record_of, Step, Begins as StepBegins, Tells, Takes as StepTakes, Settles, Brings, BringsNone, Pays as StepPays, HandsCall, Replies as StepReplies, Runs, Starts, Then, Needs}
+use Rattle.justified_runs.proofs.playing_laws.Needing.{runs_end_needing}
 use Rattle.justified_runs.proofs.playing.PlayLaws.{IsNoEnd, far_no_end}
-use Rattle.justified_runs.proofs.playing.Running.{next_record}
+use Rattle.justified_runs.proofs.playing_laws.Running.{next_record}
 use Rattle.justified_runs.specs.justifying.Core.{Core, story, PhaseIs, FollowsGroups}
 use Rattle.justified_runs.specs.justifying.Seen.{with_brought, EventDone}
 use Rattle.justified_runs.proofs.justifying.Events.{event_done, record_of_groups}

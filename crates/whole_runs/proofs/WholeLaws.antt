@@ -17,7 +17,7 @@ use Rattle.justified_runs.specs.schedule.Starts.{GivingUpOfGroup}
 use Rattle.justified_runs.specs.schedule.Calls.{CallsSoFar, taken}
 use Rattle.justified_runs.specs.schedule.Justified.{AnswersAndFlushes, GroupKeeps}
 use Rattle.justified_runs.specs.driver_events.run_drivers.Disks.{is_at}
-use Rattle.justified_runs.specs.playing.Moments.{Moment, Resting, Runs, record_of}
+use Rattle.justified_runs.specs.playing_laws.Moments.{Moment, Resting, Runs, record_of}
 use Rattle.justified_runs.specs.run_log.Noted.{marks_in}
 use Rattle.justified_runs.specs.justifying.Steady.{StartsAsDue, HungAsDue, drivers_of}
 use Rattle.justified_runs.specs.Complaining.{ComplaintsAsDue}

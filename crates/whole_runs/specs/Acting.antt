@@ -11,7 +11,7 @@ use Rattle.justified_runs.specs.schedule.Groups.{Group, EachGroup}
 use Rattle.justified_runs.specs.schedule.Handed.{is_handed, is_told, acts_when_handed}
 use Rattle.justified_runs.specs.playing.declared.arrived.Arrived.{Arrived}
 use Rattle.justified_runs.specs.playing.PlayView.{IsOpened}
-use Rattle.justified_runs.specs.playing.Moments.{Doing, Resting, Moment, Runs}
+use Rattle.justified_runs.specs.playing_laws.Moments.{Doing, Resting, Moment, Runs}
 
 -- a call is finished and a request is issued only where the event, or an earlier mark of its group, handed the server something
 abbrev pub ActsAsDue : List Sent → Event → List Mark → List Group → Type 0

@@ -13,7 +13,7 @@ use Rattle.justified_runs.specs.schedule.Groups.{Group, EachGroup}
 use Rattle.justified_runs.specs.schedule.Calls.{CallsSoFar}
 use Rattle.justified_runs.specs.driver_events.run_drivers.Disks.{is_at}
 use Rattle.justified_runs.specs.playing.PlayView.{IsOpened}
-use Rattle.justified_runs.specs.playing.Moments.{Moment, Resting, Runs, record_of}
+use Rattle.justified_runs.specs.playing_laws.Moments.{Moment, Resting, Runs, record_of}
 
 -- the calls taken so far are the first that arrived, in their order, and the others wait only where they may
 abbrev pub CallsAsDue : Event → List Mark → List Group → Type 0

@@ -9,7 +9,7 @@ use Rattle.justified_runs.specs.schedule.declared.Event.{Event}
 use Rattle.justified_runs.specs.schedule.Groups.{Group, marks_of, Each, EachGroup}
 use Rattle.justified_runs.specs.schedule.Replies.{IsSentAtItsStep}
 use Rattle.justified_runs.specs.playing.PlayView.{IsOpened}
-use Rattle.justified_runs.specs.playing.Moments.{Moment, Resting, Runs}
+use Rattle.justified_runs.specs.playing_laws.Moments.{Moment, Resting, Runs}
 use Rattle.justified_runs.specs.Said.{PlacedAsDue}
 
 -- where the drivers that were handed in are new, and each request was issued where it may be, each reply stands at a step of its driver

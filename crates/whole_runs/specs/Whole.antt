@@ -13,7 +13,7 @@ use Rattle.justified_runs.specs.schedule.Calls.{Arrival, arrived, taken}
 use Rattle.justified_runs.specs.schedule.Justified.{Justified}
 use Rattle.justified_runs.specs.run_log.Noted.{marks_in}
 use Rattle.justified_runs.specs.playing.PlayView.{Play, IsOpened}
-use Rattle.justified_runs.specs.playing.Moments.{Moment, Resting, Runs}
+use Rattle.justified_runs.specs.playing_laws.Moments.{Moment, Resting, Runs}
 use Rattle.justified_runs.specs.justifying.Steady.{drivers_of}
 
 -- a driver that was never handed a request, and hasn't failed

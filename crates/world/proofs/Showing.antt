@@ -27,7 +27,7 @@ use Rattle.transcript.specs.run_log.Noted.{Noted, marks_in}
 use Rattle.driver_events.specs.Scene.{Scene}
 use Rattle.playing.specs.declared.playing.Playing.{Playing}
 use Rattle.playing.specs.PlayView.{Play, IsOpened, left_of, unless_told, work_left}
-use Rattle.playing.specs.Moments.{Doing, Resting, Hearing, Answering}
+use Rattle.rounds.specs.playing_laws.Moments.{Doing, Resting, Hearing, Answering}
 use Rattle.whole_runs.specs.justifying.Steady.{drivers_of}
 use Rattle.whole_runs.specs.Whole.{IsUnused, IsAtEnd}
 use Rattle.whole_runs.specs.Whole.{IsWhole as IsWholeRun}

@@ -1,17 +1,17 @@
 -- What the link's guarantee says of replies and of the media, and what is the same or less after anything that is done at the link.
 use Rattle.std.specs.Prelude.{true, ◌≡◌, ◌⊎◌, ◌<◌, ◌≤◌, List, length, take, Option, Result, OnOk, OnSome}
 use Rattle.std.specs.declared.alloc.AllocError.{AllocError}
-use Rattle.message.specs.declared.Incoming.{Incoming}
-use Rattle.tree.specs.declared.Reply.{Reply}
-use Rattle.schedule.specs.Groups.{schedule_of}
-use Rattle.run_log.specs.Noted.{marks_in}
-use Rattle.reissue.specs.marks.Marks.{Mark, gave_up}
-use Rattle.reissue.specs.marks.Disk.{HasTrueReplies}
-use Rattle.reissue.specs.marks.Opening.{Opening, contents_at}
-use Rattle.reissue.specs.marks.Told.{took_end}
-use Rattle.inline.specs.true_replies.State.{MediaHold, OutsideHolds}
-use Rattle.inline.specs.true_replies.Events.{opening_media}
-use Rattle.driver_events.specs.Scene.{Scene}
+use Rattle.playing.specs.message.declared.Incoming.{Incoming}
+use Rattle.playing.specs.tree.declared.Reply.{Reply}
+use Rattle.playing.specs.schedule.Groups.{schedule_of}
+use Rattle.playing.specs.run_log.Noted.{marks_in}
+use Rattle.playing.specs.reissue.marks.Marks.{Mark, gave_up}
+use Rattle.playing.specs.reissue.marks.Disk.{HasTrueReplies}
+use Rattle.playing.specs.reissue.marks.Opening.{Opening, contents_at}
+use Rattle.playing.specs.reissue.marks.Told.{took_end}
+use Rattle.playing.specs.inline.true_replies.State.{MediaHold, OutsideHolds}
+use Rattle.playing.specs.inline.true_replies.Events.{opening_media}
+use Rattle.playing.specs.driver_events.Scene.{Scene}
 use Rattle.playing.specs.declared.arrived.Arrived.{Arrived}
 use Rattle.playing.specs.PlayView.{Play, PlayTrue, IsSpent, GoesOn, Asides, HandsOut, Answers, work_left}
 

@@ -2,28 +2,28 @@
 use Rattle.std.proofs.Common.{◌≡◌, ◌⊎◌, inl, inr, ℕ, suc, ◌+◌, ◌≤◌, List, [], ◌∷◌, ◌++◌, Bool, true, false, cond, refl, sym, ◌∙◌, ap, subst, arith, length}
 use Rattle.std.specs.Prelude.{Option, Some, None, is_ok, not, ◌||◌, ◌&&◌}
 use Rattle.std.proofs.lemmas.List.{length-append}
-use Rattle.message.specs.declared.BlockRequest.{BlockRequest}
-use Rattle.message.specs.declared.Incoming.{Incoming}
-use Rattle.message.specs.declared.Incoming.TheVariants as incoming
-use Rattle.endpoint.specs.declared.Endpoint.{Endpoint}
-use Rattle.reissue.specs.marks.Marks.{Mark, Issued, Fault}
-use Rattle.reissue.specs.marks.declared.Cause.TheVariants.{Complaint}
-use Rattle.reissue.specs.marks.Told.{Told, Posted, Complained, Received, received, with_told, took_end, took_nothing, heard}
-use Rattle.reissue.specs.marks.Acts.{Act, Began, Absorbed, AtLink, Outbox, told_of, has_absorbed, marks_after, outbox_after, owed_after_act, owed_after_message, IsAtRest, MayBegin, MayTake, MayAct, KeepsRules}
-use Rattle.driver_events.specs.faultless.Faultless.{without_faults}
-use Rattle.driver_events.proofs.faultless.FaultlessLaws.{leave_same_mark}
-use Rattle.run_log.specs.declared.log.Entry.TheVariants as entry
-use Rattle.run_log.specs.Noted.{Noted, marks_in, with_entry}
-use Rattle.run_log.proofs.NotedLaws.{mark_in, message_in}
-use Rattle.driver_events.specs.Kept.{NotesAside}
-use Rattle.driver_events.specs.run_drivers.Disks.{Disks}
-use Rattle.driver_events.specs.Ruling.{is_fault, gives_up}
-use Rattle.driver_events.proofs.Keeping.{events_note_aside, history_same}
+use Rattle.playing.specs.message.declared.BlockRequest.{BlockRequest}
+use Rattle.playing.specs.message.declared.Incoming.{Incoming}
+use Rattle.playing.specs.message.declared.Incoming.TheVariants as incoming
+use Rattle.playing.specs.endpoint.declared.Endpoint.{Endpoint}
+use Rattle.playing.specs.reissue.marks.Marks.{Mark, Issued, Fault}
+use Rattle.playing.specs.reissue.marks.declared.Cause.TheVariants.{Complaint}
+use Rattle.playing.specs.reissue.marks.Told.{Told, Posted, Complained, Received, received, with_told, took_end, took_nothing, heard}
+use Rattle.playing.specs.reissue.marks.Acts.{Act, Began, Absorbed, AtLink, Outbox, told_of, has_absorbed, marks_after, outbox_after, owed_after_act, owed_after_message, IsAtRest, MayBegin, MayTake, MayAct, KeepsRules}
+use Rattle.playing.specs.driver_events.faultless.Faultless.{without_faults}
+use Rattle.playing.proofs.driver_events.faultless.FaultlessLaws.{leave_same_mark}
+use Rattle.playing.specs.run_log.declared.log.Entry.TheVariants as entry
+use Rattle.playing.specs.run_log.Noted.{Noted, marks_in, with_entry}
+use Rattle.playing.proofs.run_log.NotedLaws.{mark_in, message_in}
+use Rattle.playing.specs.driver_events.Kept.{NotesAside}
+use Rattle.playing.specs.driver_events.run_drivers.Disks.{Disks}
+use Rattle.playing.specs.driver_events.Ruling.{is_fault, gives_up}
+use Rattle.playing.proofs.driver_events.Keeping.{events_note_aside, history_same}
 use Rattle.playing.specs.declared.arrived.Arrived.{Arrived}
 use Rattle.playing.specs.PlayView as link
 use Rattle.playing.specs.PlayView.{Play, begun, noting, paid, ended, starving, posted, complained, ruling_at, PlaysNext, Advances, Stays, Goes, ComesToEnd, IsPlayedOut, IsStarved, IsSpent, Turn, GoesOn, Still, Further}
-use Rattle.playing.specs.Laws.{IsToldOfEnd, IsEndedRightly, ServersEndRightly}
-use Rattle.playing.specs.Moments.{Doing, Resting, Hearing, Answering, is_busy, Moment, record_of, at_link, Step, Begins, Tells, Takes, Runs, Starts, Then}
+use Rattle.playing_laws.specs.Laws.{IsToldOfEnd, IsEndedRightly, ServersEndRightly}
+use Rattle.playing_laws.specs.Moments.{Doing, Resting, Hearing, Answering, is_busy, Moment, record_of, at_link, Step, Begins, Tells, Takes, Runs, Starts, Then}
 use Rattle.playing.proofs.PlayLaws.{far_history, far_no_end, IsNoEnd, message_history, to_end_history, complaint_marks}
 
 -- the history of a link

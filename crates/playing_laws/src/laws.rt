@@ -1,42 +1,42 @@
 //! What the link's guarantee goes on through, each a law of the definitions.
 
-ghost use Rattle.playing.specs.Moments.{RunsEndNeeding};
-ghost use Rattle.playing.specs.Waiting.{ServersHandNone, AsidesHandNone, OneIsHandedOut, ItIsAnswered};
-ghost use Rattle.playing.specs.Laws.{RepliesAreTrue, MediaAreHeld, ServersLeadOn, AsidesLeadOn, CallsLeadOn, AnswersLeadOn, ServersTellTruly, AsidesTellTruly, ServersEndRightly};
+ghost use Rattle.playing_laws.specs.Moments.{RunsEndNeeding};
+ghost use Rattle.playing_laws.specs.Waiting.{ServersHandNone, AsidesHandNone, OneIsHandedOut, ItIsAnswered};
+ghost use Rattle.playing_laws.specs.Laws.{RepliesAreTrue, MediaAreHeld, ServersLeadOn, AsidesLeadOn, CallsLeadOn, AnswersLeadOn, ServersTellTruly, AsidesTellTruly, ServersEndRightly};
 
 /// In each record of which the guarantee holds the replies are true.
-#[tactic(auto, using(crate::proofs::PlayLaws::replies_true))]
+#[tactic(auto, using(crate::proofs::Guarantee::replies_true))]
 pub fn replies_are_true()
     ensures { RepliesAreTrue }
 {}
 
 /// The media hold what the record says of the disk, at each sector of the volume that isn't unsure, and what was handed in outside of it.
-#[tactic(auto, using(crate::proofs::PlayLaws::media_held))]
+#[tactic(auto, using(crate::proofs::Guarantee::media_held))]
 pub fn media_are_held()
     ensures { MediaAreHeld }
 {}
 
 /// After whatever a server does at the link: the schedule stays, no event is played twice, no more is left to do, and the events that were
 /// noted are still those of the schedule.
-#[tactic(auto, using(crate::proofs::Going::servers_lead_on))]
+#[tactic(auto, using(crate::proofs::Leading::servers_lead_on))]
 pub fn servers_lead_on()
     ensures { ServersLeadOn }
 {}
 
 /// So it is after what is done between two calls; where something is done, less is left to do.
-#[tactic(auto, using(crate::proofs::Going::asides_lead_on))]
+#[tactic(auto, using(crate::proofs::Leading::asides_lead_on))]
 pub fn asides_lead_on()
     ensures { AsidesLeadOn }
 {}
 
 /// And after a call is handed out.
-#[tactic(auto, using(crate::proofs::Going::calls_lead_on))]
+#[tactic(auto, using(crate::proofs::Leading::calls_lead_on))]
 pub fn calls_lead_on()
     ensures { CallsLeadOn }
 {}
 
 /// And after its answer is noted.
-#[tactic(auto, using(crate::proofs::Going::answers_lead_on))]
+#[tactic(auto, using(crate::proofs::Leading::answers_lead_on))]
 pub fn answers_lead_on()
     ensures { AnswersLeadOn }
 {}

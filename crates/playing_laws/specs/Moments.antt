@@ -1,15 +1,15 @@
 -- A whole run of a file server over drivers that a schedule moves, step by step: what is done, and what holds when it is.
 use Rattle.std.specs.Prelude.{◌≡◌, ℕ, List, [], ◌∷◌, Bool, true, false, Option, Some, None}
-use Rattle.message.specs.declared.BlockRequest.{BlockRequest}
-use Rattle.message.specs.declared.Incoming.{Incoming}
-use Rattle.message.specs.declared.Incoming.TheVariants as incoming
-use Rattle.tree.specs.declared.Reply.{Reply}
-use Rattle.reissue.specs.marks.Marks.{Mark, gave_up}
-use Rattle.reissue.specs.marks.Told.{Told, Received, took_nothing}
-use Rattle.reissue.specs.marks.Acts.{Began, AtLink, Outbox, owed_after_act, owed_after_message, IsAtRest, MayBegin, MayTake, MayAct, needs_message}
-use Rattle.driver_events.specs.faultless.Faultless.{without_faults}
-use Rattle.run_log.specs.Noted.{marks_in}
-use Rattle.run_log.specs.declared.log.Entry.TheVariants as entry
+use Rattle.playing.specs.message.declared.BlockRequest.{BlockRequest}
+use Rattle.playing.specs.message.declared.Incoming.{Incoming}
+use Rattle.playing.specs.message.declared.Incoming.TheVariants as incoming
+use Rattle.playing.specs.tree.declared.Reply.{Reply}
+use Rattle.playing.specs.reissue.marks.Marks.{Mark, gave_up}
+use Rattle.playing.specs.reissue.marks.Told.{Told, Received, took_nothing}
+use Rattle.playing.specs.reissue.marks.Acts.{Began, AtLink, Outbox, owed_after_act, owed_after_message, IsAtRest, MayBegin, MayTake, MayAct, needs_message}
+use Rattle.playing.specs.driver_events.faultless.Faultless.{without_faults}
+use Rattle.playing.specs.run_log.Noted.{marks_in}
+use Rattle.playing.specs.run_log.declared.log.Entry.TheVariants as entry
 use Rattle.playing.specs.declared.arrived.Arrived.{Arrived}
 use Rattle.playing.specs.PlayView.{Play, PlaysNext, Turn, HandsOut, noting, paid}
 

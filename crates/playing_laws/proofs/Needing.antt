@@ -1,19 +1,19 @@
 -- Where the link has ended in a run, the server needs a message.
 use Rattle.std.proofs.Common.{◌≡◌, ℕ, ◌+◌, List, [], ◌∷◌, ◌++◌, Bool, true, false, cond, refl, sym, ◌∙◌, ap, subst}
 use Rattle.std.specs.Prelude.{Option, Some, None, is_some, not, ◌||◌, ◌&&◌, nat_lt}
-use Rattle.endpoint.specs.declared.Endpoint.{Endpoint}
-use Rattle.message.specs.declared.BlockRequest.{BlockRequest}
-use Rattle.message.specs.declared.Incoming.{Incoming}
-use Rattle.message.specs.declared.Incoming.TheVariants as incoming
-use Rattle.reissue.specs.marks.Marks.{Mark, Issued, last_started, gave_up}
-use Rattle.reissue.specs.marks.Open.{open_requests, greatest, has_none}
-use Rattle.reissue.specs.marks.Told.{Told, Posted, Complained, Received, with_told, took_nothing}
-use Rattle.reissue.specs.marks.Acts.{Began, AtLink, Outbox, owed_after_act, owed_after_post, target, needs_message, MayPost, MayTake, MayAct}
+use Rattle.playing.specs.endpoint.declared.Endpoint.{Endpoint}
+use Rattle.playing.specs.message.declared.BlockRequest.{BlockRequest}
+use Rattle.playing.specs.message.declared.Incoming.{Incoming}
+use Rattle.playing.specs.message.declared.Incoming.TheVariants as incoming
+use Rattle.playing.specs.reissue.marks.Marks.{Mark, Issued, last_started, gave_up}
+use Rattle.playing.specs.reissue.marks.Open.{open_requests, greatest, has_none}
+use Rattle.playing.specs.reissue.marks.Told.{Told, Posted, Complained, Received, with_told, took_nothing}
+use Rattle.playing.specs.reissue.marks.Acts.{Began, AtLink, Outbox, owed_after_act, owed_after_post, target, needs_message, MayPost, MayTake, MayAct}
 use Rattle.playing.specs.declared.arrived.Arrived.{Arrived}
 use Rattle.playing.specs.PlayView as link
 use Rattle.playing.specs.PlayView.{Play, PlaysNext, Turn}
-use Rattle.playing.specs.Moments.{Doing, Resting, Hearing, Answering, is_busy, Moment, record_of, at_link, Step, Begins, Tells, Takes, Settles, Brings, BringsNone, Pays, HandsCall, Replies, Runs, Starts, Then, Needs, RunsEndNeeding}
-use Rattle.playing.proofs.Running.{turn_record, came_live, no_true}
+use Rattle.playing_laws.specs.Moments.{Doing, Resting, Hearing, Answering, is_busy, Moment, record_of, at_link, Step, Begins, Tells, Takes, Settles, Brings, BringsNone, Pays, HandsCall, Replies, Runs, Starts, Then, Needs, RunsEndNeeding}
+use Rattle.playing_laws.proofs.Running.{turn_record, came_live, no_true}
 
 one_more : (rs : List BlockRequest) (r : BlockRequest) → has_none (rs ++ r ∷ []) ≡ false
 one_more [] r = refl

@@ -2,29 +2,29 @@
 use Rattle.std.proofs.Common.{◌≡◌, List, [], ◌∷◌, ◌++◌, Bool, true, false, cond, refl, sym, ◌∙◌, ap, subst}
 use Rattle.std.specs.Prelude.{map, reverse, drop, Option, Some, None, is_ok, slice_get}
 use Rattle.std.proofs.lemmas.List.{append_assoc, map-append, reverse-append}
-use Rattle.message.specs.declared.Incoming.{Incoming}
-use Rattle.message.specs.declared.Incoming.TheVariants as incoming
-use Rattle.tree.specs.Answers.{answer_of}
-use Rattle.reissue.specs.marks.Marks.{Mark, Issued, Fault, Answered, Started, GaveUp, Flush, Took}
-use Rattle.reissue.specs.marks.declared.Cause.TheVariants.{Complaint}
-use Rattle.reissue.specs.marks.Open.{counts}
-use Rattle.reissue.specs.marks.Told.{Told, received}
-use Rattle.schedule.specs.declared.Event.{Event}
-use Rattle.schedule.specs.declared.Event.TheVariants as event
-use Rattle.schedule.specs.Groups.{Group, event_of}
-use Rattle.schedule.specs.Calls.{Arrival, arrived, taken}
-use Rattle.driver_events.specs.faultless.Faultless.{without_faults}
-use Rattle.run_log.specs.declared.log.Entry.{Entry}
-use Rattle.run_log.specs.declared.log.Entry.TheVariants as entry
-use Rattle.run_log.specs.Noted.{Noted, marks_in, with_entry}
-use Rattle.run_log.proofs.NotedLaws.{mark_in, message_in}
-use Rattle.driver_events.specs.Kept.{NotesAside}
-use Rattle.driver_events.specs.Ruling.{is_fault}
-use Rattle.driver_events.proofs.Keeping.{events_note_aside}
+use Rattle.playing.specs.message.declared.Incoming.{Incoming}
+use Rattle.playing.specs.message.declared.Incoming.TheVariants as incoming
+use Rattle.playing.specs.tree.Answers.{answer_of}
+use Rattle.playing.specs.reissue.marks.Marks.{Mark, Issued, Fault, Answered, Started, GaveUp, Flush, Took}
+use Rattle.playing.specs.reissue.marks.declared.Cause.TheVariants.{Complaint}
+use Rattle.playing.specs.reissue.marks.Open.{counts}
+use Rattle.playing.specs.reissue.marks.Told.{Told, received}
+use Rattle.playing.specs.schedule.declared.Event.{Event}
+use Rattle.playing.specs.schedule.declared.Event.TheVariants as event
+use Rattle.playing.specs.schedule.Groups.{Group, event_of}
+use Rattle.playing.specs.schedule.Calls.{Arrival, arrived, taken}
+use Rattle.playing.specs.driver_events.faultless.Faultless.{without_faults}
+use Rattle.playing.specs.run_log.declared.log.Entry.{Entry}
+use Rattle.playing.specs.run_log.declared.log.Entry.TheVariants as entry
+use Rattle.playing.specs.run_log.Noted.{Noted, marks_in, with_entry}
+use Rattle.playing.proofs.run_log.NotedLaws.{mark_in, message_in}
+use Rattle.playing.specs.driver_events.Kept.{NotesAside}
+use Rattle.playing.specs.driver_events.Ruling.{is_fault}
+use Rattle.playing.proofs.driver_events.Keeping.{events_note_aside}
 use Rattle.playing.specs.declared.arrived.Arrived.{Arrived}
 use Rattle.playing.specs.PlayView.{Play, calls_of, begun, noting, paid, ended, starving, posted, complained, ruling_at, PlaysNext, Advances, Stays, Goes, ComesToEnd, IsPlayedOut, IsStarved, Turn, Takes, TakesOwed, TakesEnd, Posts, Complains, Still, Further, HandsEvent, HandsNone, HandsOwed, HandsNothing}
-use Rattle.playing.specs.Waiting.{arrival_of, HasCalls, ServersHandNone, AsidesHandNone, OneIsHandedOut, ItIsAnswered}
-use Rattle.playing.proofs.Going.{is_beginning, entry_events}
+use Rattle.playing_laws.specs.Waiting.{arrival_of, HasCalls, ServersHandNone, AsidesHandNone, OneIsHandedOut, ItIsAnswered}
+use Rattle.playing_laws.proofs.Leading.{is_beginning, entry_events}
 
 -- the calls that these events bring, newest first
 abbrev brought : List Event → List Arrival

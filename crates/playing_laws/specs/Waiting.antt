@@ -2,10 +2,10 @@
 use Rattle.std.specs.Prelude.{◌≡◌, List, [], ◌∷◌, ◌++◌, map, reverse}
 use Rattle.std.specs.declared.alloc.AllocError.{AllocError}
 use Rattle.std.specs.Prelude.{Option, Some, Result, Ok}
-use Rattle.message.specs.declared.Incoming.{Incoming}
-use Rattle.tree.specs.declared.Reply.{Reply}
-use Rattle.schedule.specs.Calls.{Arrival, arrived, taken}
-use Rattle.run_log.specs.Noted.{marks_in}
+use Rattle.playing.specs.message.declared.Incoming.{Incoming}
+use Rattle.playing.specs.tree.declared.Reply.{Reply}
+use Rattle.playing.specs.schedule.Calls.{Arrival, arrived, taken}
+use Rattle.playing.specs.run_log.Noted.{marks_in}
 use Rattle.playing.specs.declared.arrived.Arrived.{Arrived}
 use Rattle.playing.specs.PlayView.{Play, GoesOn, Asides, HandsOut, Answers}
 

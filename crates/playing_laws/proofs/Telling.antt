@@ -1,23 +1,23 @@
 -- That the device was given up is told only where the record says so.
 use Rattle.std.proofs.Common.{◌≡◌, List, ◌∷◌, Bool, true, false, cond, refl, sym, ◌∙◌, ap}
 use Rattle.std.specs.Prelude.{Option, Some, None, is_ok}
-use Rattle.message.specs.declared.Incoming.{Incoming}
-use Rattle.message.specs.declared.Incoming.TheVariants as incoming
-use Rattle.tree.specs.Answers.{answer_of}
-use Rattle.reissue.specs.marks.Marks.{Mark, Issued, Fault, Answered, Started, GaveUp, Flush, Took, gave_up}
-use Rattle.reissue.specs.marks.declared.Cause.TheVariants.{Complaint}
-use Rattle.reissue.specs.marks.Open.{counts}
-use Rattle.reissue.specs.marks.Told.{Told, received}
-use Rattle.driver_events.proofs.faultless.FaultlessLaws.{faults_change_nothing}
-use Rattle.run_log.specs.declared.log.Entry.{Entry}
-use Rattle.run_log.specs.declared.log.Entry.TheVariants as entry
-use Rattle.run_log.specs.Noted.{Noted, marks_in, with_entry}
-use Rattle.run_log.proofs.NotedLaws.{mark_in, message_in}
-use Rattle.driver_events.specs.Kept.{NotesAside}
-use Rattle.driver_events.specs.Ruling.{is_fault}
-use Rattle.driver_events.proofs.Keeping.{events_note_aside}
+use Rattle.playing.specs.message.declared.Incoming.{Incoming}
+use Rattle.playing.specs.message.declared.Incoming.TheVariants as incoming
+use Rattle.playing.specs.tree.Answers.{answer_of}
+use Rattle.playing.specs.reissue.marks.Marks.{Mark, Issued, Fault, Answered, Started, GaveUp, Flush, Took, gave_up}
+use Rattle.playing.specs.reissue.marks.declared.Cause.TheVariants.{Complaint}
+use Rattle.playing.specs.reissue.marks.Open.{counts}
+use Rattle.playing.specs.reissue.marks.Told.{Told, received}
+use Rattle.playing.proofs.driver_events.faultless.FaultlessLaws.{faults_change_nothing}
+use Rattle.playing.specs.run_log.declared.log.Entry.{Entry}
+use Rattle.playing.specs.run_log.declared.log.Entry.TheVariants as entry
+use Rattle.playing.specs.run_log.Noted.{Noted, marks_in, with_entry}
+use Rattle.playing.proofs.run_log.NotedLaws.{mark_in, message_in}
+use Rattle.playing.specs.driver_events.Kept.{NotesAside}
+use Rattle.playing.specs.driver_events.Ruling.{is_fault}
+use Rattle.playing.proofs.driver_events.Keeping.{events_note_aside}
 use Rattle.playing.specs.PlayView.{Play, begun, noting, ended, starving, posted, complained, ruling_at, PlaysNext, Advances, Stays, Goes, ComesToEnd, IsPlayedOut, IsStarved, Turn, Takes, TakesOwed, TakesEnd, Posts, Complains, Still, Further, HandsEvent, HandsNone, HandsOwed, HandsNothing}
-use Rattle.playing.specs.Laws.{IsToldTruly, ServersTellTruly, AsidesTellTruly}
+use Rattle.playing_laws.specs.Laws.{IsToldTruly, ServersTellTruly, AsidesTellTruly}
 
 -- a device stays given up
 given_mark : (m : Mark) (marks : List Mark) → gave_up marks ≡ true → gave_up (m ∷ marks) ≡ true
