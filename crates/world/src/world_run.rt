@@ -3,20 +3,19 @@
 ghost use Rattle.std.specs.Prelude.{◌≡◌, ◌≤◌, ◌<◌, ◌+◌, ◌^◌, ◌∷◌, [], All, IfErr, IfOk, false, length, map};
 ghost use Rattle.fsck.specs.layout.Places.{IsGeometry};
 ghost use Rattle.policy.specs.Watch.{driver, new_watch};
-ghost use Rattle.transcript_text.specs.marks.Marks.{Started};
-ghost use Rattle.transcript_text.specs.marks.Opening.{Opening};
-ghost use Rattle.transcript_text.specs.marks.Told.{took_end};
+ghost use Rattle.file_server.specs.marks.Marks.{Started};
+ghost use Rattle.file_server.specs.marks.Opening.{Opening};
+ghost use Rattle.file_server.specs.marks.Told.{took_end};
 ghost use Rattle.media.specs.Contents.{IsWhole};
 ghost use Rattle.inline.specs.Inline.{IsReady};
 ghost use Rattle.inline.specs.true_replies.Events.{IsOnMedia, opening_media};
-ghost use Rattle.transcript.specs.run_log.LogView.{room_in};
+ghost use Rattle.playing.specs.run_log.LogView.{room_in};
 ghost use Rattle.playing.specs.PlayView.{IsOpened, PlayTrue, play_of, work_left};
 ghost use Rattle.rounds.specs.Starts.{IsBeforeFirst};
 ghost use Rattle.run_start.specs.Beginning.{IsNotBegun};
-ghost use Rattle.world.specs.Shown.{frame_count_of, transcript_of};
+ghost use Rattle.run_transcript.specs.Shown.{frame_count_of, transcript_of};
 ghost use Rattle.world.specs.Plays.{IsFresh, PlaysFrom, RunShows};
 
-use crate::run_transcript::Transcript;
 use file_server::FileServer;
 use fsck::Clean;
 use inline::local::LocalDriver;
@@ -27,11 +26,10 @@ use reincarnate::Reincarnation;
 use rounds::WorldLink;
 use rounds::run::play_all;
 use run_start::{PreparedRun, RunRefusal, prepare_run};
+use run_transcript::{Server, Transcript, open};
 use schedule::Event;
 use std::alloc::{AllocError, Global};
 use stored::Stored;
-use vfs::Server;
-use vfs::mounted::open;
 
 /// A server is opened over this link, which has noted the first start alone, and plays the schedule out: the server then, and how many calls
 /// have no answer. An error: no memory was found.

@@ -1,9 +1,9 @@
 //! What a run came to.
 
-use driver_events::unit::Unit;
 use file_server::FileServer;
 use inline::local::LocalDriver;
 use playing::Playing;
+use run_drivers::unit::Unit;
 use schedule::Sent;
 use std::alloc::{AllocError, Global};
 use stored::Stored;
@@ -24,7 +24,7 @@ impl<'a, D: LocalDriver> Transcript<'a, D> {
     ghost use Rattle.std.specs.Prelude.{◌≡◌, ◌++◌, ◌∷◌, [], IfOk, map, reverse};
     ghost use Rattle.transcript_text.specs.Text.{mark_of};
     ghost use Rattle.vfs.specs.OverLink.{line_of};
-    ghost use Rattle.world.specs.Shown.{transcript_of};
+    ghost use Rattle.run_transcript.specs.Shown.{transcript_of};
 
     /// The link, as it stands.
     fn link(&self) -> &Playing<'a, D>
