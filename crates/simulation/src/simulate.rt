@@ -1,7 +1,7 @@
 //! A run of a schedule, from the bytes of its two files to the lines of its transcript.
 
 ghost use Rattle.std.specs.Prelude.{◌≡◌, ◌<◌, ◌^◌, length, map};
-ghost use Rattle.world.specs.Shown.{transcript_of};
+ghost use Rattle.world.specs.run_transcript.Shown.{transcript_of};
 ghost use Rattle.simulation.specs.Simulated.{Runs, ShowsRun, Simulates};
 
 use inline::local::LocalDriver;

@@ -2,17 +2,17 @@
 use Rattle.std.proofs.Common.{◌≡◌, cond, inl, inr, ℕ, suc, ◌+◌, ◌-◌, ◌<◌, ◌≤◌, List, [], ◌∷◌, ◌++◌, Bool, true, false, length, refl, sym, ◌∙◌, ap, subst, arith, Result, Ok, Err, IfOk}
 use Rattle.std.specs.List.{concat}
 use Rattle.fsck.specs.layout.declared.Geometry.{Geometry}
-use Rattle.transcript_text.specs.tree.Tree.{Tree}
+use Rattle.rounds.specs.tree.Tree.{Tree}
 use Rattle.std.specs.Prelude.{map, All, ◌⊎◌, None, Some}
 use Rattle.reincarnate.specs.bdev.DriverState.{DriverState, is_fresh, range_while_fresh, range_of as range_of_driver}
 use Rattle.media.specs.Contents.{IsWhole, MediaState, sectors_of}
 use Rattle.policy.specs.declared.Policy.{Policy}
 use Rattle.policy.specs.declared.Setup.{Setup}
 use Rattle.policy.specs.Watch.{Watch, driver, new_watch}
-use Rattle.transcript_text.specs.marks.Marks.{Mark, Started}
-use Rattle.transcript_text.specs.marks.Opening.{Opening, Range, contents_at}
-use Rattle.transcript_text.specs.marks.Open.{IsWellFormed}
-use Rattle.transcript_text.specs.marks.Told.{took_end}
+use Rattle.file_server.specs.marks.Marks.{Mark, Started}
+use Rattle.file_server.specs.marks.Opening.{Opening, Range, contents_at}
+use Rattle.file_server.specs.marks.Open.{IsWellFormed}
+use Rattle.file_server.specs.marks.Told.{took_end}
 use Rattle.file_server.specs.legal.ServerCall.{Serving}
 use Rattle.inline.specs.Inline.{IsReady}
 use Rattle.inline.specs.true_replies.Events.{IsOnMedia}
@@ -23,8 +23,8 @@ use Rattle.schedule.specs.declared.Sent.{Sent}
 use Rattle.schedule.specs.Groups.{Each}
 use Rattle.schedule.specs.Justified.{Justified}
 use Rattle.schedule.specs.Headline.{Transcript}
-use Rattle.transcript.specs.run_log.Noted.{Noted, marks_in}
-use Rattle.driver_events.specs.Scene.{Scene}
+use Rattle.playing.specs.run_log.Noted.{Noted, marks_in}
+use Rattle.playing.specs.driver_events.Scene.{Scene}
 use Rattle.playing.specs.declared.playing.Playing.{Playing}
 use Rattle.playing.specs.PlayView.{Play, IsOpened, left_of, unless_told, work_left}
 use Rattle.rounds.specs.playing_laws.Moments.{Doing, Resting, Hearing, Answering}
@@ -41,11 +41,11 @@ use Rattle.rounds.specs.Runs.{moment}
 use Rattle.run_shown.specs.Shows.{Shows}
 use Rattle.run_shown.proofs.Showing.{runs_are_shown}
 use Rattle.stored.specs.declared.Stored.{Stored}
-use Rattle.mounts.specs.vfs.declared.server.Server.{Server}
-use Rattle.mounts.specs.vfs.OverLink.{line_of, serving_over}
+use Rattle.run_transcript.specs.vfs.declared.server.Server.{Server}
+use Rattle.run_transcript.specs.vfs.OverLink.{line_of, serving_over}
 use Rattle.run_start.specs.declared.run_refusal.RunRefusal.TheVariants.{OutOfMemory}
 use Rattle.run_start.specs.Beginning.{IsBegun, IsNotBegun, range_of}
-use Rattle.world.specs.Shown.{frames_in}
+use Rattle.run_transcript.specs.Shown.{frames_in}
 use Rattle.world.specs.Plays.{IsFresh, PlaysFrom, RunShows}
 
 -- ---- before the first event

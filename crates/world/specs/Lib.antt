@@ -1,3 +1,3 @@
 pub use Rattle.run_start.specs as run_start
-pub mod Shown
+pub use Rattle.run_transcript.specs as run_transcript
 pub mod Plays

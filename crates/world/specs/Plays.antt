@@ -1,10 +1,10 @@
 -- What a run shows, and what it shows over any link.
 use Rattle.std.specs.Prelude.{◌≡◌, ℕ, List, ◌++◌, length, false}
 use Rattle.fsck.specs.layout.declared.Geometry.{Geometry}
-use Rattle.transcript_text.specs.tree.Tree.{Tree}
+use Rattle.rounds.specs.tree.Tree.{Tree}
 use Rattle.reincarnate.specs.bdev.DriverState.{DriverState}
 use Rattle.policy.specs.declared.Setup.{Setup}
-use Rattle.transcript_text.specs.marks.Opening.{Range}
+use Rattle.file_server.specs.marks.Opening.{Range}
 use Rattle.file_server.specs.legal.Mount.{OpenKeeps}
 use Rattle.file_server.specs.reissue.declared.link.Link.{Ghosts as LinkWords}
 use Rattle.schedule.specs.declared.Event.{Event}
@@ -12,8 +12,8 @@ use Rattle.schedule.specs.Headline.{Transcript, Headline}
 use Rattle.playing.specs.PlayView.{Play}
 use Rattle.rounds.specs.Starts.{IsBeforeFirst, PlaysAll}
 use Rattle.stored.specs.declared.Stored.{Stored}
-use Rattle.mounts.specs.vfs.declared.server.Server.{Server}
-use Rattle.mounts.specs.vfs.OverLink.{line_of, serving_over}
+use Rattle.run_transcript.specs.vfs.declared.server.Server.{Server}
+use Rattle.run_transcript.specs.vfs.OverLink.{line_of, serving_over}
 use Rattle.run_start.specs.Beginning.{IsBegun}
 
 -- A run that was begun on an image: the volume in this range was checked, and held this tree at first, without an open file. The headline

@@ -1,7 +1,6 @@
 //! A run of a schedule: an image is checked, a file server is opened on it, drivers are started, and the schedule moves them all.
 #![tactic(auto)]
 
-pub mod run_transcript;
 pub mod world_run;
 
 pub use run_start::RunRefusal;

@@ -1,6 +1,6 @@
 use Rattle.std.proofs.Common.{◌≤◌, subst, sym}
 use Rattle.rounds.specs.Starts.{IsBeforeFirst, PlaysAll}
-use Rattle.mounts.specs.vfs.OverLink.{line_of, serving_over}
+use Rattle.run_transcript.specs.vfs.OverLink.{line_of, serving_over}
 use Rattle.world.proofs.Showing.{few_here}
 use Rattle.world.proofs.world_run.play_over.Goals as goal
 

@@ -1,9 +1,9 @@
 -- The drivers of a run, as they stand.
 use Rattle.std.proofs.Common.{◌≡◌, List, [], ◌∷◌, ◌++◌, refl, ap}
 use Rattle.std.specs.Prelude.{map}
-use Rattle.reincarnate.specs.bdev.DriverState.{DriverState}
-use Rattle.driver_events.specs.run_drivers.UnitView.{slot_of}
-use Rattle.driver_events.specs.run_drivers.declared.unit.Unit.{Unit as Driven}
+use Rattle.inline.specs.bdev.DriverState.{DriverState}
+use Rattle.run_drivers.specs.UnitView.{slot_of}
+use Rattle.run_drivers.specs.declared.unit.Unit.{Unit as Driven}
 
 -- those before the last one, and the last one, are those of the transcript
 pub drivers_stand : {D : Type 0} (state : D → DriverState) (older : List (Driven D)) (current : Driven D)

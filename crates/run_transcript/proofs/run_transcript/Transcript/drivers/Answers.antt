@@ -1,9 +1,9 @@
 use Rattle.std.proofs.Common.{◌≡◌, ◌++◌, ◌∷◌, [], map, sym, subst}
-use Rattle.driver_events.specs.run_drivers.View.{disks_of}
-use Rattle.mounts.specs.vfs.OverLink.{line_of}
-use Rattle.world.specs.Shown.{states_of}
-use Rattle.world.proofs.Standing.{drivers_stand}
-use Rattle.world.proofs.run_transcript.Transcript.drivers.Goals as goal
+use Rattle.run_drivers.specs.View.{disks_of}
+use Rattle.vfs.specs.OverLink.{line_of}
+use Rattle.run_transcript.specs.Shown.{states_of}
+use Rattle.run_transcript.proofs.Standing.{drivers_stand}
+use Rattle.run_transcript.proofs.run_transcript.Transcript.drivers.Goals as goal
 
 pub returns : goal.returns
 returns g c =

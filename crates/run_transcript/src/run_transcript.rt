@@ -1,15 +1,15 @@
 //! What a run came to.
 
-use driver_events::unit::Unit;
 use file_server::FileServer;
 use inline::local::LocalDriver;
-use mounts::Server;
 use playing::Playing;
+use run_drivers::unit::Unit;
 use schedule::Sent;
 use std::alloc::{AllocError, Global};
 use stored::Stored;
 use transcript::shown::shown_marks;
 use transcript_text::mark::MarkRef;
+use vfs::Server;
 
 /// What a run came to: its record, the replies that drivers sent, the drivers and the server as they stand, and the calls that wait.
 #[derive(Drop)]
@@ -23,8 +23,8 @@ pub struct Transcript<'a, D> {
 impl<'a, D: LocalDriver> Transcript<'a, D> {
     ghost use Rattle.std.specs.Prelude.{◌≡◌, ◌++◌, ◌∷◌, [], IfOk, map, reverse};
     ghost use Rattle.transcript_text.specs.Text.{mark_of};
-    ghost use Rattle.mounts.specs.vfs.OverLink.{line_of};
-    ghost use Rattle.world.specs.Shown.{transcript_of};
+    ghost use Rattle.vfs.specs.OverLink.{line_of};
+    ghost use Rattle.run_transcript.specs.Shown.{transcript_of};
 
     /// The link, as it stands.
     fn link(&self) -> &Playing<'a, D>

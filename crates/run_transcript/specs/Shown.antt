@@ -1,7 +1,7 @@
 -- What a run came to, in the words of schedules.
 use Rattle.std.specs.Prelude.{ℕ, List, [], ◌∷◌, ◌++◌, map}
 use Rattle.std.specs.List.{concat}
-use Rattle.reincarnate.specs.bdev.DriverState.{DriverState}
+use Rattle.inline.specs.bdev.DriverState.{DriverState}
 use Rattle.file_server.specs.legal.View.{Frames}
 use Rattle.stored.specs.slots.Slots.{held}
 use Rattle.stored.specs.cache.Frames.{frames_of}
@@ -9,12 +9,12 @@ use Rattle.stored.specs.cache.Calls.{frame_count}
 use Rattle.schedule.specs.Headline as schedule
 use Rattle.transcript.specs.run_log.Noted.{marks_in}
 use Rattle.transcript.specs.run_log.LogView.{said}
-use Rattle.driver_events.specs.run_drivers.Disks.{Disks}
-use Rattle.driver_events.specs.run_drivers.View.{disks_of}
+use Rattle.run_drivers.specs.Disks.{Disks}
+use Rattle.run_drivers.specs.View.{disks_of}
 use Rattle.stored.specs.declared.Stored.{Stored}
-use Rattle.mounts.specs.vfs.declared.server.Server.{Server}
-use Rattle.mounts.specs.vfs.OverLink.{line_of}
-use Rattle.world.specs.declared.run_transcript.Transcript.{Transcript}
+use Rattle.vfs.specs.declared.server.Server.{Server}
+use Rattle.vfs.specs.OverLink.{line_of}
+use Rattle.run_transcript.specs.declared.run_transcript.Transcript.{Transcript}
 
 -- the drivers that were started, in the order of their starts
 abbrev pub states_of : Disks → List DriverState
