@@ -8,8 +8,8 @@ ghost use Rattle.server_laws.specs.Laws.{CallSpends, HandedSpends};
 use stored::Caches;
 
 /// A call keeps what a server promises, over blocks that have a cache: one that is cut off where it begins, one that is cut off on its
-/// way, and one that is answered, where the blocks say that the tree's call was done and, where it syncs, that each frame is clean. It
-/// spends no more ids than it takes messages.
+/// way, and one that is answered, where the blocks say that the tree's call was done and, where it syncs, that each frame is clean. Each
+/// message that it takes spends one id at most.
 pub fn calls_keep<B: Caches>()
     ensures stopped { StoppedKeeps B B.caching }
     ensures cut { CutKeeps B B.caching }
@@ -17,7 +17,7 @@ pub fn calls_keep<B: Caches>()
     ensures spends { CallSpends B B.caching }
 {}
 
-/// So does a message that is handed over to it, and it spends one id at most besides.
+/// So does a message that is handed over to it, which spends one id at most, as do those that are taken then.
 pub fn messages_keep<B: Caches>()
     ensures handed { HandedKeeps B B.caching }
     ensures spends { HandedSpends B B.caching }
