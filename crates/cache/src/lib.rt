@@ -5,7 +5,6 @@ pub mod cache;
 mod frame;
 pub mod laws;
 
-pub use block_transfers::refusals;
-pub use block_transfers::{CacheRefusal, Cut, Took};
+pub use block_transfers::{CacheRefusal, Cut, Took, refusals};
 pub use cache::Cache;
 pub use frame::Frame;
