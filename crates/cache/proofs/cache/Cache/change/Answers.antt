@@ -27,3 +27,6 @@ returns-clause-frames g c = λ f is.
     let same = one_slot items c.args.frame.at k.slot e.slot k.is e.is in
     (leaves_set items c.change.new.self.items.items c.args.frame.at c.args.frame.block e.slot e.after s.slots.distinct e.is
     (ap (λ (y : Slot). y.block) (sym same) ∙ k.block_is) e.block e.all).at f.at f.block is
+
+pub returns-clause-goes : goal.returns-clause-goes
+returns-clause-goes g c = g.met.L.Link.stays _

@@ -32,3 +32,6 @@ returns-in-Some-clause-flush g c = follows_none _ _
 
 pub returns-in-None-clause-hit : goal.returns-in-None-clause-hit
 returns-in-None-clause-hit g c = λ s some. has_none c.args.self.now.slots.items.items c.args.block s c.in-None.ensures some
+
+pub returns-in-Some-clause-goes : goal.returns-in-Some-clause-goes
+returns-in-Some-clause-goes g c = g.met.L.Link.stays _

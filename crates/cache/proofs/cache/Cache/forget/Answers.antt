@@ -40,3 +40,12 @@ returns-then-is_clean-clause-frames g c = λ f ne is.
     let items = c.args.self.now.slots.items.items in
     frame_stays items c.vacate.new.self.items.items c.in-Some.at c.args.block f.at f.block _
     c.in-Some.ensures ne c.vacate.ensures.set is
+
+pub returns-then-is_clean-clause-goes : goal.returns-then-is_clean-clause-goes
+returns-then-is_clean-clause-goes g c = g.met.L.Link.stays _
+
+pub returns-else-is_clean-clause-goes : goal.returns-else-is_clean-clause-goes
+returns-else-is_clean-clause-goes g c = g.met.L.Link.stays _
+
+pub returns-in-None-clause-goes : goal.returns-in-None-clause-goes
+returns-in-None-clause-goes g c = g.met.L.Link.stays _

@@ -47,3 +47,6 @@ returns-in-Some-clause-at_once g c = λ none. has_one c.args.self.now.slots.item
 
 pub returns-in-None-clause-hit : goal.returns-in-None-clause-hit
 returns-in-None-clause-hit g c = λ s some. has_none c.args.self.now.slots.items.items c.args.block s c.in-None.ensures some
+
+pub returns-in-Some-clause-goes : goal.returns-in-Some-clause-goes
+returns-in-Some-clause-goes g c = g.met.L.Link.stays _

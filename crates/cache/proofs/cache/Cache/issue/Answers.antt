@@ -3,7 +3,7 @@ use Rattle.cache.specs.Calls.{Caching, caching, caching_of, Keeps}
 use Rattle.slots.specs.declared.slot.Slot.{Slot}
 use Rattle.slots.proofs.Issuing.{issued_at, write_leaves, dirty_parts}
 use Rattle.cache.proofs.Beginning.{longer, refusing, free_block, write_one, busy_begun}
-use Rattle.slots.proofs.Edits.{one_slot}
+use Rattle.slots.proofs.Edits.{one_slot, leaves_none}
 use Rattle.slots.proofs.Held.{in_range, held_at}
 use Rattle.cache.proofs.Placing.{keeps_none}
 use Rattle.slots.proofs.Staying.{but_none, set_others}
@@ -87,3 +87,12 @@ returns-in-Err-clause-refusing g c =
     refusing (caching g.L.Link s) (Err c.in-Err.field-0) _ _ c.in-Some.block c.get-slot.result.now refl x.full x.pending
     a.position a.count (held_at items c.args.at c.in-Some.block c.get-slot.result.now s.slots.distinct c.get-slot.ensures c.in-Some.is)
     (ap (λ (y : Slot). y.state) (sym same) ∙ (dirty_parts d.slot d.passes).2)
+
+pub returns-in-Ok-clause-goes : goal.returns-in-Ok-clause-goes
+returns-in-Ok-clause-goes g c = c.in-Ok.ensures.goes
+
+pub returns-in-Err-clause-goes : goal.returns-in-Err-clause-goes
+returns-in-Err-clause-goes g c = c.in-Err.ensures.goes
+
+pub returns-in-Err-clause-leaves : goal.returns-in-Err-clause-leaves
+returns-in-Err-clause-leaves g c = leaves_none _

@@ -1,3 +1,4 @@
+use Rattle.std.proofs.Common.{[], refl}
 use mathlib.Core.Logic.{inl}
 use Rattle.cache.specs.Calls.{caching}
 use Rattle.slots.proofs.Issuing.{issued_lowest, lowest_is_dirty}
@@ -26,3 +27,18 @@ pub returns-in-Some-clause-stuck : goal.returns-in-Some-clause-stuck
 returns-in-Some-clause-stuck g c =
     stuck_for (λ k. caching g.L.Link k) c.issue.result c.args.self.now c.issue.new.self
     c.issue.ensures.refused c.issue.ensures.refusing c.issue.ensures.busy
+
+pub returns-then-is_err-clause-goes : goal.returns-then-is_err-clause-goes
+returns-then-is_err-clause-goes g c = g.met.L.Link.stays _
+
+pub returns-in-None-clause-goes : goal.returns-in-None-clause-goes
+returns-in-None-clause-goes g c = g.met.L.Link.stays _
+
+pub returns-then-is_err-clause-posts : goal.returns-then-is_err-clause-posts
+returns-then-is_err-clause-posts g c = record { posts = []; history = refl; only_posts = tt }
+
+pub returns-in-None-clause-posts : goal.returns-in-None-clause-posts
+returns-in-None-clause-posts g c = record { posts = []; history = refl; only_posts = tt }
+
+pub returns-in-Some-clause-frames : goal.returns-in-Some-clause-frames
+returns-in-Some-clause-frames g c = λ f is. c.issue.ensures.leaves.at f.at f.block is

@@ -6,6 +6,7 @@ use Rattle.slots.proofs.Edits.{one_slot}
 use Rattle.cache.proofs.Placing.{keeps_none}
 use Rattle.slots.proofs.Staying.{but_none}
 use Rattle.cache.proofs.Flushes.{follows_none, follows_posts}
+use Rattle.slots.proofs.Edits.{leaves_none}
 use Rattle.cache.proofs.cache.Cache.write_out.Goals as goal
 
 pub returns-else-is_dirty-clause-keeps : goal.returns-else-is_dirty-clause-keeps
@@ -30,3 +31,9 @@ returns-then-is_dirty-clause-flush g c =
 
 pub returns-else-is_dirty-clause-flush : goal.returns-else-is_dirty-clause-flush
 returns-else-is_dirty-clause-flush g c = follows_none _ _
+
+pub returns-else-is_dirty-clause-goes : goal.returns-else-is_dirty-clause-goes
+returns-else-is_dirty-clause-goes g c = g.met.L.Link.stays _
+
+pub returns-else-is_dirty-clause-leaves : goal.returns-else-is_dirty-clause-leaves
+returns-else-is_dirty-clause-leaves g c = leaves_none _
