@@ -4,6 +4,3 @@
 pub mod run_transcript;
 
 pub use run_transcript::Transcript;
-// passed on: the server that a run is played over, and how it is opened
-pub use vfs::Server;
-pub use vfs::mounted::open;
