@@ -28,7 +28,7 @@ use reincarnate::Reincarnation;
 use rounds::WorldLink;
 use rounds::run::play_all;
 use run_start::{PreparedRun, RunRefusal, prepare_run};
-use run_transcript::{Server, Transcript, open};
+use run_transcript::Transcript;
 use schedule::Event;
 use std::alloc::{AllocError, Global};
 use stored::Stored;
