@@ -1,5 +1,5 @@
 -- From a schedule that was played out to what is shown of the run.
-use Rattle.std.proofs.Common.{◌≡◌, cond, inl, inr, ℕ, suc, ◌+◌, ◌-◌, ◌<◌, ◌≤◌, List, [], ◌∷◌, ◌++◌, Bool, true, false, length, refl, sym, ◌∙◌, ap, subst, arith, Result, Ok, Err, IfOk}
+use Rattle.std.proofs.Common.{◌≡◌, cond, inl, inr, ℕ, suc, ◌+◌, ◌-◌, ◌<◌, ◌≤◌, List, [], ◌∷◌, Bool, true, false, length, refl, sym, ◌∙◌, ap, subst, arith, Result, Ok, Err, IfOk}
 use Rattle.std.specs.List.{concat}
 use Rattle.fsck.specs.layout.declared.Geometry.{Geometry}
 use Rattle.rounds.specs.tree.Tree.{Tree}
@@ -9,7 +9,7 @@ use Rattle.media.specs.Contents.{IsWhole, MediaState, sectors_of}
 use Rattle.policy.specs.declared.Policy.{Policy}
 use Rattle.policy.specs.declared.Setup.{Setup}
 use Rattle.policy.specs.Watch.{Watch, driver, new_watch}
-use Rattle.file_server.specs.marks.Marks.{Mark, Started}
+use Rattle.file_server.specs.marks.Marks.{Started}
 use Rattle.file_server.specs.marks.Opening.{Opening, Range, contents_at}
 use Rattle.file_server.specs.marks.Open.{IsWellFormed}
 use Rattle.file_server.specs.marks.Told.{took_end}

@@ -1,5 +1,5 @@
 -- What a run shows, and what it shows over any link.
-use Rattle.std.specs.Prelude.{◌≡◌, ℕ, List, ◌++◌, length, false}
+use Rattle.std.specs.Prelude.{◌≡◌, ℕ, List, length, false}
 use Rattle.fsck.specs.layout.declared.Geometry.{Geometry}
 use Rattle.rounds.specs.tree.Tree.{Tree}
 use Rattle.reincarnate.specs.bdev.DriverState.{DriverState}
