@@ -1,4 +1,5 @@
-//! Measures client calls in a session of a service, on a volume of 4096 blocks of 4096 bytes (16 MiB) with 64 frames, over a driver in memory.
+//! Measures client calls in a session of a service, on a volume of 4096 blocks of 4096 bytes (16 MiB) with 64 frames, over a driver in
+//! memory.
 #![tactic(auto)]
 
 mod measures;

@@ -5,8 +5,10 @@ ghost use Rattle.tree.specs.declared.Call.{Call};
 ghost use Rattle.tree.specs.Answers.{answer_of};
 ghost use Rattle.legal.specs.marks.Marks.{Took, Issued, gave_up, IsBeginning};
 ghost use Rattle.legal.specs.Session.{tally_of, went_on, IsLonger};
-ghost use Rattle.board.specs.View.{opener, is_used, other_of, new_caller, with_used, hosting, alone, guest_of, IsKeeper, noted, called, keeper_after, caller_after, spending, telling};
-ghost use Rattle.board.specs.Steps.{SessionLearns, SeesMore, IsCallOf, OwnsCalls, LearnsTold, Meets, SessionsMeet, SessionAsks, SessionIsNew};
+ghost use Rattle.board.specs.View.{opener, is_used, other_of, new_caller, with_used, hosting, alone, guest_of, IsKeeper, noted, called};
+ghost use Rattle.board.specs.View.{keeper_after, caller_after, spending, telling};
+ghost use Rattle.board.specs.Steps.{SessionLearns, SeesMore, IsCallOf, OwnsCalls, LearnsTold, Meets, SessionsMeet, SessionAsks};
+ghost use Rattle.board.specs.Steps.{SessionIsNew};
 ghost use Rattle.board.specs.Words.{pulse_word, is_given_up, mark_of};
 
 use crate::mark::{NewCall, NewMark, NewNumber};
@@ -77,8 +79,10 @@ impl Board {
         requires table { seat.old.table ≡ self.now }
         requires number { IfSome number (λ n. IsKeeper self.now seat.old × (is_used n seat.old.view.used ≡ false)) }
         ensures made { IsOk result }
-        ensures seat { (seat.new.table ≡ self.now) × MatchOption number (seat.new.view ≡ seat.old.view) (λ n. seat.new.view ≡ with_used n seat.old.view) }
-        ensures other { IfOk result (λ s. (s.table ≡ self.now) × MatchOption number (s.view ≡ other_of seat.old.view) (λ n. s.view ≡ new_caller n seat.old.view)) }
+        ensures seat { (seat.new.table ≡ self.now)
+            × MatchOption number (seat.new.view ≡ seat.old.view) (λ n. seat.new.view ≡ with_used n seat.old.view) }
+        ensures other { IfOk result (λ s. (s.table ≡ self.now) × MatchOption number (s.view ≡ other_of seat.old.view)
+            (λ n. s.view ≡ new_caller n seat.old.view)) }
         ensures session { IfOk result (λ s. IfSome number (λ n. SessionIsNew n s.view seat.old.view.seen)) }
     {
         match number {
@@ -123,7 +127,8 @@ impl Board {
     pub fn started(&self, seat: &mut Seat, generation: u32)
         requires { seat.old.table ≡ self.now }
         ensures table { seat.new.table ≡ self.now }
-        ensures seen { (found : ℕ) × (seat.old.view.generation ≤ found) × (seat.new.view ≡ record seat.old.view { generation = max found generation }) }
+        ensures seen { (found : ℕ) × (seat.old.view.generation ≤ found)
+            × (seat.new.view ≡ record seat.old.view { generation = max found generation }) }
     {
         self.table
             .shared
@@ -178,7 +183,8 @@ impl Board {
     pub fn beat(&self, seat: &mut Seat, generation: u32, count: u32)
         requires { seat.old.table ≡ self.now }
         ensures table { seat.new.table ≡ self.now }
-        ensures seen { (found : ℕ) × (seat.old.view.pulse ≤ found) × (seat.new.view ≡ record seat.old.view { pulse = max found (pulse_word generation count) }) }
+        ensures seen { (found : ℕ) × (seat.old.view.pulse ≤ found)
+            × (seat.new.view ≡ record seat.old.view { pulse = max found (pulse_word generation count) }) }
     {
         let word = generation as u64 * ONE_GENERATION + count as u64;
         self.table
@@ -221,7 +227,8 @@ impl Board {
         requires told { gave_up keeper.old.view.seen ≡ true → keeper.old.view.given_up ≡ true }
         ensures keeper { IsKeeper self.now keeper.new }
         ensures seen { keeper.new.view ≡ keeper_after (Took who now call.now (answer_of reply.now)) keeper.old.view caller.old.view }
-        ensures caller { (caller.new.table ≡ self.now) × (caller.new.view ≡ caller_after (Took who now call.now (answer_of reply.now)) keeper.old.view caller.old.view) }
+        ensures caller { (caller.new.table ≡ self.now)
+            × (caller.new.view ≡ caller_after (Took who now call.now (answer_of reply.now)) keeper.old.view caller.old.view) }
         ensures beginning { IsBeginning caller.old.view.seen keeper.old.view.seen }
         ensures session { SessionLearns caller.old.view caller.new.view }
     {
@@ -242,7 +249,8 @@ impl Board {
         requires told { gave_up keeper.old.view.seen ≡ true → keeper.old.view.given_up ≡ true }
         ensures keeper { IsKeeper self.now keeper.new }
         ensures seen { keeper.new.view ≡ keeper_after (Took who now C.call (answer_of reply.now)) keeper.old.view caller.old.view }
-        ensures caller { (caller.new.table ≡ self.now) × (caller.new.view ≡ caller_after (Took who now C.call (answer_of reply.now)) keeper.old.view caller.old.view) }
+        ensures caller { (caller.new.table ≡ self.now)
+            × (caller.new.view ≡ caller_after (Took who now C.call (answer_of reply.now)) keeper.old.view caller.old.view) }
         ensures beginning { IsBeginning caller.old.view.seen keeper.old.view.seen }
         ensures session { SessionLearns caller.old.view caller.new.view }
     {

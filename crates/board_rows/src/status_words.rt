@@ -2,10 +2,10 @@
 ghost use Rattle.std.specs.Prelude.{◌≡◌, ◌∷◌, [], IfOk};
 ghost use Rattle.board.specs.marks.Marks.{Flush, GaveUp};
 
-use crate::lines::is_told;
 use board::{Board, Seat};
 use endpoint::Endpoint;
 use message::{BlockRequest, Incoming, Kind};
+use row_texts::is_told;
 use std::alloc::{AllocError, Global};
 use std::test::Fail;
 use std::thread::join;

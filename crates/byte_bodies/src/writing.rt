@@ -63,8 +63,8 @@ pub fn write<B: Blocks>(
 ) -> Result<Reply, Halt>
     requires on { IsOn B.world geometry.now blocks.old }
     requires session { session < most_sessions }
-    ensures turns { Turns B.world blocks.old blocks.new (λ d e. Meets geometry.now (λ t. write geometry.now t now session fd bytes.now) result
-        (HasFiles (files_of opens.old)) (HasFiles (files_of opens.new)) d e) }
+    ensures turns { Turns B.world blocks.old blocks.new (λ d e. Meets geometry.now (λ t. write geometry.now t now session fd bytes.now)
+        result (HasFiles (files_of opens.old)) (HasFiles (files_of opens.new)) d e) }
     ensures halt { IfErr result (λ h. IsHalt B.world blocks.new h) }
     ensures proper { IfOk result (λ r. answer_of r ≢ refused Errno.EIO) }
 {

@@ -49,7 +49,8 @@ impl<L: Link> Cache<L> {
     ghost use Rattle.slots.specs.Edits.{AllClean, SomeUnclean, IsIssued, IssuesLowest, IsWritten, IsSlotAt, IsFreeAt, IsAt, Leaves};
     ghost use Rattle.slots.specs.Edits.{AllStay, StayBut, IsChangedAt};
     ghost use Rattle.cache.specs.Frames.{frames_of, view, with_bytes};
-    ghost use Rattle.cache.specs.Calls.{caching, held_by, frame_count, IsReady, IsIdle, IsLive, IsWhyCut, IsFrame, IsMade, IsStuck, IsRefusing};
+    ghost use Rattle.cache.specs.Calls.{caching, held_by, frame_count, IsReady, IsIdle, IsLive, IsWhyCut, IsFrame, IsMade, IsStuck};
+    ghost use Rattle.cache.specs.Calls.{IsRefusing};
     ghost use Rattle.cache.specs.Calls.{PostsAlone, messages_left};
     ghost use Rattle.cache.specs.Calls.{Does, Keeps, HandsOver, Blanks, Rewrites, LinkGoesOn, WantsFlush};
     ghost use Rattle.block_transfers.specs.Settling.{IsWantedFor};

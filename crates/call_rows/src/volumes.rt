@@ -115,8 +115,8 @@ impl Volume {
         })
     }
 
-    /// Does a call at 60: the error that it is refused with, a descriptor, or `DONE`. Another answer, or a call that is cut, of which there is
-    /// none here, is EIO.
+    /// Does a call at 60: the error that it is refused with, a descriptor, or `DONE`. Another answer, or a call that is cut, of which there
+    /// is none here, is EIO.
     pub(crate) fn call(&mut self, who: Who, call: &Call) -> Result<u32, Errno> {
         let (blocks, opens) = (&mut self.blocks, &mut self.opens);
         match done(self.alloc, blocks, opens, &self.geometry, who, call) {

@@ -27,8 +27,8 @@ use std::sync::Arc;
 use tree::{Call, Reply, Who};
 
 /// A link that has the record's seat of the service's board. Over it goes what goes over the link in it. Each request that is issued it
-/// adds to the board's record, and each message that leaves a mark, which is counted. After an End it takes nothing from the link in it: its
-/// budget is spent. It takes no memory but when it is made.
+/// adds to the board's record, and each message that leaves a mark, which is counted. After an End it takes nothing from the link in it:
+/// its budget is spent. It takes no memory but when it is made.
 ///
 /// What it guarantees of a record is what the link in it does, that the record is what the seat has seen, and that nothing was taken after
 /// an End.
@@ -43,8 +43,8 @@ pub struct Noting<N: Room, L: Link> {
 }
 
 impl<N: Room, L: Link> Noting<N, L> {
-    /// A link over this one, which was told nothing and gave nothing yet, that counts on the service's board, with the record's seat of that
-    /// board, which is new. Where no memory was found, the link and the seat are let go.
+    /// A link over this one, which was told nothing and gave nothing yet, that counts on the service's board, with the record's seat of
+    /// that board, which is new. Where no memory was found, the link and the seat are let go.
     pub fn new(
         alloc: Global,
         link: L,

@@ -87,7 +87,8 @@ fn last_held<B: Blocks>(
 ) -> Result<Option<u32>, Halt>
     requires on { IsOn B.world geometry.now blocks.old }
     ensures reads { Reads B.world blocks.old blocks.new (λ d. let v = pieces geometry.now d in Ends result
-        (λ x. IsLastHeld geometry.now v (v.inodes inode) x) (IsTrue (is_inode geometry.now inode) × IsFull geometry.now v (v.inodes inode))) }
+        (λ x. IsLastHeld geometry.now v (v.inodes inode) x) (IsTrue (is_inode geometry.now inode)
+        × IsFull geometry.now v (v.inodes inode))) }
     ensures halt { IfErr result (λ h. IsHalt B.world blocks.new h) }
 {
     let loaded = load(blocks, geometry, inode)?;
@@ -109,7 +110,8 @@ fn last_from<B: Blocks>(
 ) -> Result<Option<u32>, Halt>
     requires on { IsOn B.world geometry.now blocks.old }
     ensures reads { Reads B.world blocks.old blocks.new (λ d. let v = pieces geometry.now d in Ends result
-        (λ x. IsLastFrom geometry.now v (v.inodes inode) page x) (IsTrue (is_inode geometry.now inode) × IsFull geometry.now v (v.inodes inode))) }
+        (λ x. IsLastFrom geometry.now v (v.inodes inode) page x) (IsTrue (is_inode geometry.now inode)
+        × IsFull geometry.now v (v.inodes inode))) }
     ensures within { IfOk result (λ x. IfSome x (λ p. page ≤ p)) }
     ensures halt { IfErr result (λ h. IsHalt B.world blocks.new h) }
 {

@@ -1,6 +1,7 @@
 //! Open files at numbers of their own.
 
-ghost use Rattle.std.specs.Prelude.{◌≡◌, ◌<◌, IfOk, None, Some, IsSome, is_none, is_some, length, option_map, position, replicate, slice_index_or, slice_set};
+ghost use Rattle.std.specs.Prelude.{◌≡◌, ◌<◌, IfOk, None, Some, IsSome, is_none, is_some, length, option_map, position, replicate};
+ghost use Rattle.std.specs.Prelude.{slice_index_or, slice_set};
 ghost use Rattle.std.specs.List.{list_any};
 ghost use Rattle.tree.specs.Tree.{most_open_files, opens};
 

@@ -1,6 +1,7 @@
 //! The open files of all sessions, and their descriptors.
 
-ghost use Rattle.std.specs.Prelude.{◌≡◌, ◌<◌, ◌≤◌, IfOk, IsSome, OnErr, None, Some, is_none, is_some, length, position, option_map, slice_index_or};
+ghost use Rattle.std.specs.Prelude.{◌≡◌, ◌<◌, ◌≤◌, IfOk, IsSome, OnErr, None, Some, is_none, is_some, length, position, option_map};
+ghost use Rattle.std.specs.Prelude.{slice_index_or};
 ghost use Rattle.tree.specs.Tree.{is_open, leads_to, most_open_files, most_sessions, most_size};
 ghost use Rattle.tree.specs.Sums.{some_below};
 

@@ -1,6 +1,7 @@
 //! The drivers of a media, run by whoever waits for them, and started when the reincarnation server says.
 
-ghost use Rattle.std.specs.Prelude.{◌≡◌, ◌≢◌, ◌≤◌, ◌<◌, ◌+◌, ◌^◌, ◌⊎◌, ◌↔◌, ◌||◌, ◌==◌, true, false, List, [], ◌∷◌, ◌++◌, length, is_some, None, Err, OnOk, OnErr, IfOk};
+ghost use Rattle.std.specs.Prelude.{◌≡◌, ◌≢◌, ◌≤◌, ◌<◌, ◌+◌, ◌^◌, ◌⊎◌, ◌↔◌, ◌||◌, ◌==◌, true, false, List, [], ◌∷◌, ◌++◌, length, is_some};
+ghost use Rattle.std.specs.Prelude.{None, Err, OnOk, OnErr, IfOk};
 ghost use Rattle.std.specs.VecDeque.{deque_capacity};
 ghost use Rattle.history.specs.marks.Marks.{Mark};
 ghost use Rattle.history.specs.marks.Opening.{Opening};
@@ -228,8 +229,10 @@ impl<D: LocalDriver> Drivers<D> {
         request: &BlockRequest,
     ) -> Result<(), LinkRefusal>
         ensures dead { (result ≡ Err LinkRefusal.DeadEndpoint) ↔ ((self.old.running ≡ None) ⊎ (to ≢ self.old.endpoint)) }
-        ensures full { (result ≡ Err LinkRefusal.Full) ↔ ((self.old.running ≢ None) × (to ≡ self.old.endpoint) × (32 ≤ length self.old.line.items)) }
-        ensures on_line { OnOk result (guarded_of self.new ≡ record (guarded_of self.old) { line = self.old.line.items ++ request.now ∷ [] }) }
+        ensures full { (result ≡ Err LinkRefusal.Full) ↔ ((self.old.running ≢ None) × (to ≡ self.old.endpoint)
+            × (32 ≤ length self.old.line.items)) }
+        ensures on_line { OnOk result
+            (guarded_of self.new ≡ record (guarded_of self.old) { line = self.old.line.items ++ request.now ∷ [] }) }
         ensures refused { OnErr result (self.new ≡ self.old) }
         ensures over { self.new.over ≡ self.old.over }
     {
@@ -245,7 +248,8 @@ impl<D: LocalDriver> Drivers<D> {
 
     /// Lets the driver of this endpoint go, if it runs, and tells the reincarnation server of the complaint.
     pub(crate) fn let_go(&mut self, about: Endpoint)
-        ensures kept { (v : Opening) (marks : List Mark) → DriversKept D.state v (guarded_of self.old) marks → DriversKept D.state v (guarded_of self.new) marks }
+        ensures kept { (v : Opening) (marks : List Mark) → DriversKept D.state v (guarded_of self.old) marks
+            → DriversKept D.state v (guarded_of self.new) marks }
         ensures told { self.old.running ≢ None → about ≡ self.old.endpoint
             → IsTold (guarded_of self.old) (Complaint about (last_tick self.old.ticks)) (guarded_of self.new) }
         ensures leaves { (self.old.running ≡ None) ⊎ (about ≢ self.old.endpoint) → self.new ≡ self.old }

@@ -73,8 +73,8 @@ impl<D: LocalDriver> Stage<D> {
     ) -> Result<Stage<D>, AllocError>
         requires media { media.generation ≡ 0 }
         requires untold { reincarnation.watch ≡ new_watch (length reincarnation.supply) }
-        ensures opens { IfOk result (λ s. (n : Noted) → Opens media reincarnation.policy reincarnation.watch (map D.state reincarnation.supply) n
-            (scene_of D.state s n)) }
+        ensures opens { IfOk result (λ s. (n : Noted) → Opens media reincarnation.policy reincarnation.watch
+            (map D.state reincarnation.supply) n (scene_of D.state s n)) }
         ensures tick { IfOk result (λ s. s.tick ≡ 0) }
     {
         let mut reincarnation = reincarnation;
@@ -113,7 +113,8 @@ impl<D: LocalDriver> Stage<D> {
     pub fn step(&mut self, log: &mut Log, place: u32, generation: u32) -> Option<Incoming>
         requires log { 0 < room_in log.old }
         requires sent { vec_len self.old.drivers.sent < vec_capacity self.old.drivers.sent }
-        ensures steps { StepsAt place generation (scene_of D.state self.old (said log.old)) result (scene_of D.state self.new (said log.new)) }
+        ensures steps { StepsAt place generation (scene_of D.state self.old (said log.old)) result (scene_of D.state self.new
+            (said log.new)) }
         ensures room { room_in log.old ≤ room_in log.new + 1 }
         ensures over { log.new.over ≡ log.old.over }
         ensures tick { self.new.tick ≡ self.old.tick }
@@ -133,7 +134,8 @@ impl<D: LocalDriver> Stage<D> {
         bytes: Option<[u8; 512]>,
     ) -> Option<Incoming>
         requires log { 0 < room_in log.old }
-        ensures dies { DiesAt generation bytes (scene_of D.state self.old (said log.old)) result (scene_of D.state self.new (said log.new)) }
+        ensures dies { DiesAt generation bytes (scene_of D.state self.old (said log.old)) result (scene_of D.state self.new
+            (said log.new)) }
         ensures room { room_in log.old ≤ room_in log.new + 1 }
         ensures over { log.new.over ≡ log.old.over }
         ensures tick { self.new.tick ≡ self.old.tick }
@@ -251,7 +253,8 @@ impl<D: LocalDriver> Stage<D> {
 
     /// The driver of this generation hangs.
     fn hang(&mut self, log: &Log, generation: u32)
-        ensures quietly { Quietly (scene_of D.state self.old (said log.now)) None (scene_of D.state self.new (said log.now)) (Hangs generation) }
+        ensures quietly { Quietly (scene_of D.state self.old (said log.now)) None (scene_of D.state self.new (said log.now))
+            (Hangs generation) }
         ensures tick { self.new.tick ≡ self.old.tick }
     {
         self.drivers.hang(generation);

@@ -1,11 +1,11 @@
 //! What drivers answer, step by step.
-use crate::rows::came;
 use bdev::{BlockDriver, Driver, Step};
 use errno::Errno;
 use media::{Media, MediaRefusal};
 use message::{BlockRequest, Kind};
 use modeldisk::{ModelDriver, RamDriver};
 use partition::{Table, parse};
+use row_texts::step_is_told;
 use std::alloc::{AllocError, Global};
 use std::test::Fail;
 
@@ -44,12 +44,12 @@ pub(crate) fn numbered(alloc: Global, sectors: u8) -> Result<Media, MediaRefusal
     Media::from_bytes(alloc, bytes.as_slice())
 }
 
-/// The first sector of a disk with one entry, of type 0x81 from sector 1 on.
-pub(crate) fn table_sector(count: u8) -> [u8; 512] {
+/// The first sector of a disk with one entry, of type 0x81, which is said to have 128 sectors from sector 1 on.
+fn table_sector() -> [u8; 512] {
     let mut sector = [0; 512];
     sector[450] = 0x81;
     sector[454] = 1;
-    sector[458] = count;
+    sector[458] = 128;
     sector[510] = 0x55;
     sector[511] = 0xaa;
     sector
@@ -148,7 +148,7 @@ pub(crate) fn acts<D: BlockDriver>(
 ) -> Result<(), Fail> {
     for (step, (act, wanted)) in acts.iter().enumerate() {
         let given = does(alloc, driver, media, act)?;
-        came(row, step, given.as_str(), wanted)?;
+        step_is_told(row, step, given.as_str(), wanted)?;
     }
     Ok(())
 }
@@ -251,7 +251,7 @@ fn sweeps(alloc: Global) -> Result<(), Fail> {
 fn drivers_answer(rt: HostRuntime) -> Result<(), Fail> {
     let alloc = rt.alloc();
     sweeps(alloc)?;
-    let mut bounded = RamDriver::new(parse(&table_sector(128), 129)?);
+    let mut bounded = RamDriver::new(parse(&table_sector(), 129)?);
     acts(alloc, 2, &mut bounded, &mut numbered(alloc, 129)?, BOUNDED)?;
     let mut boxed: Driver = Box::new(alloc, RamDriver::new(Table::whole(16)))?;
     acts(alloc, 3, &mut boxed, &mut numbered(alloc, 16)?, TURNED_AWAY)?;

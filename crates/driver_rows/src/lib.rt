@@ -1,11 +1,7 @@
-//! Rows of drivers: what media, partition tables and drivers answer. Each expected value is worked out by hand.
+//! Rows of drivers: what they answer, and what a script of faults makes of it. Each expected value is worked out by hand.
 #![tactic(auto)]
 
 #[cfg(test)]
 mod drivers;
 #[cfg(test)]
 mod faults;
-#[cfg(test)]
-mod rows;
-#[cfg(test)]
-mod sectors;

@@ -44,7 +44,8 @@ fn write_chunk<B: Blocks>(
     requires end { at + length bytes.now ≤ 2147483647 }
     requires within { at % geometry.now.block_size + length bytes.now ≤ geometry.now.block_size }
     ensures turns { Turns B.world blocks.old blocks.new (λ d e. Ends result
-        (λ x. WritesInside geometry.now number at bytes.now d e) (MayWriteInside geometry.now (pieces geometry.now d) number at bytes.now)) }
+        (λ x. WritesInside geometry.now number at bytes.now d e) (MayWriteInside geometry.now (pieces geometry.now d) number at
+        bytes.now)) }
     ensures halt { IfErr result (λ h. IsHalt B.world blocks.new h) }
 {
     let width = geometry.block_size;
@@ -64,7 +65,8 @@ fn write_chunks<B: Blocks>(
     requires some { 0 < length bytes.now }
     requires end { at + length bytes.now ≤ 2147483647 }
     ensures turns { Turns B.world blocks.old blocks.new (λ d e. Ends result
-        (λ x. WritesInside geometry.now number at bytes.now d e) (MayWriteInside geometry.now (pieces geometry.now d) number at bytes.now)) }
+        (λ x. WritesInside geometry.now number at bytes.now d e) (MayWriteInside geometry.now (pieces geometry.now d) number at
+        bytes.now)) }
     ensures halt { IfErr result (λ h. IsHalt B.world blocks.new h) }
 {
     let width = geometry.block_size as usize;
@@ -160,7 +162,8 @@ fn write_inside<B: Blocks>(
     requires some { 0 < length bytes.now }
     requires end { at + length bytes.now ≤ 2147483647 }
     ensures turns { Turns B.world blocks.old blocks.new (λ d e. Ends result
-        (λ x. WritesInside geometry.now number at bytes.now d e) (MayWriteInside geometry.now (pieces geometry.now d) number at bytes.now)) }
+        (λ x. WritesInside geometry.now number at bytes.now d e) (MayWriteInside geometry.now (pieces geometry.now d) number at
+        bytes.now)) }
     ensures halt { IfErr result (λ h. IsHalt B.world blocks.new h) }
 {
     let mut done = 0;

@@ -13,8 +13,8 @@ use layout::Geometry;
 use store::{Blocks, Halt};
 
 /// Writes these bytes into the zone of a page, from an offset of the page on: the file whose page lies there has them then, up to
-/// its end, and all else stays. Unsound exactly where it is no data zone, and nothing is changed then. Where no page of a marked inode lies in
-/// the zone, or the rules are broken, nothing more is said.
+/// its end, and all else stays. Unsound exactly where it is no data zone, and nothing is changed then. Where no page of a marked inode lies
+/// in the zone, or the rules are broken, nothing more is said.
 pub fn write_page<B: Blocks>(
     blocks: &mut B,
     geometry: &Geometry,

@@ -55,7 +55,8 @@ pub trait FileServer<L: Link + Drop>: Serve + Drop {
         requires few { absorbed self.old < 2 ^ 48 }
         requires room { room_needed message ≤ L.room (line self.old) }
         ensures ready { is_ready self.new }
-        ensures keeps { AbsorbsOver (Self.serving self.old) (Self.serving self.new) (L.truth (line self.old)) (L.truth (line self.new)) message }
+        ensures keeps { AbsorbsOver (Self.serving self.old) (Self.serving self.new) (L.truth (line self.old)) (L.truth (line self.new))
+            message }
         ensures silent { message ≢ Incoming.Flush → is_idle self.old → L.history (line self.new) ≡ L.history (line self.old) }
         ensures goes { L.goes_on (line self.old) (line self.new) }
         ensures budget { (Self.serving self.new).ended ≡ false → L.budget_left (line self.new) ≤ L.budget_left (line self.old) }

@@ -1,2 +1,1 @@
 mod RootRows
-mod TreeRows

@@ -1,7 +1,6 @@
 //! Images, byte by byte, and texts that are looked at.
 use layout::Geometry;
 use std::alloc::{AllocError, Global};
-use std::test::Fail;
 
 /// An image: how many bytes it has, and what isn't zero: from a place on these bytes, and behind them all bits up to another place.
 pub(crate) type Image = (usize, &'static [(usize, &'static [u8], usize)]);
@@ -46,12 +45,4 @@ pub(crate) fn read_of(alloc: Global, image: &[u8]) -> Result<String, AllocError>
             format!(in alloc; "{number} {refusal}")
         }
     }
-}
-
-/// It is an error where a row of this number gives another text than it says.
-pub(crate) fn is_told(number: usize, text: &str, wanted: &str) -> Result<(), Fail> {
-    if text == wanted {
-        return Ok(());
-    }
-    Err(Fail::new(format_args!("row {number}: {text}")))
 }

@@ -1,6 +1,6 @@
 //! The root's inode of a new volume, from its bytes and back.
-use crate::images::is_told;
 use inode::{Inode, attributes, decode, decode_in, encode};
+use row_texts::row_is_told;
 use std::test::Fail;
 use tree::Attributes;
 
@@ -53,7 +53,7 @@ fn the_root_is_read_and_written(rt: HostRuntime) -> Result<(), Fail> {
         decode_in(&block, 4032).gid == 0xffff,
         attributes(&decode(&ROOT), 3) == told(),
     ];
-    is_told(
+    row_is_told(
         1,
         format!(in rt.alloc(); "{rows:?}")?.as_str(),
         "[true, true, true, true, true]",

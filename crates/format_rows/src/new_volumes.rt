@@ -1,6 +1,7 @@
 //! New volumes by the format's tables, byte by byte, and when none is made.
-use crate::images::{Image, image_of, is_told, read_of};
+use crate::images::{Image, image_of, read_of};
 use new_volume::{MkfsRefusal, mkfs};
+use row_texts::row_is_told;
 use std::alloc::{AllocError, Global};
 use std::test::Fail;
 
@@ -121,7 +122,7 @@ fn holds(image: &[u8], at: usize, bytes: &[u8]) -> bool {
 fn are_made(alloc: Global) -> Result<(), Fail> {
     for (number, (blocks, block_size, inodes, text, at, bytes)) in MADE.iter().enumerate() {
         let image = mkfs(alloc, *blocks, *block_size, *inodes, 0)?;
-        is_told(number, read_of(alloc, &image)?.as_str(), text)?;
+        row_is_told(number, read_of(alloc, &image)?.as_str(), text)?;
         if !holds(&image, *at, bytes) {
             return Err(Fail::new(format_args!("row {number}: other bytes")));
         }
@@ -145,7 +146,7 @@ fn are_refused(alloc: Global) -> Result<(), Fail> {
     for (number, (blocks, block_size, inodes, text)) in REFUSED.iter().enumerate() {
         match mkfs(alloc, *blocks, *block_size, *inodes, 0) {
             Ok(_) => return Err(Fail::new(format_args!("row {number}: made"))),
-            Err(refusal) => is_told(number, told(alloc, &refusal)?.as_str(), text)?,
+            Err(refusal) => row_is_told(number, told(alloc, &refusal)?.as_str(), text)?,
         }
     }
     Ok(())
@@ -154,7 +155,7 @@ fn are_refused(alloc: Global) -> Result<(), Fail> {
 /// The refusals have these numbers and names.
 fn are_named(alloc: Global) -> Result<(), Fail> {
     for (number, (refusal, text)) in NAMES.iter().enumerate() {
-        is_told(number, told(alloc, refusal)?.as_str(), text)?;
+        row_is_told(number, told(alloc, refusal)?.as_str(), text)?;
     }
     Ok(())
 }

@@ -1,6 +1,7 @@
 //! Superblocks by the format's table: a whole one, each field at the ends of its range, and which of several refusals is answered.
-use crate::images::{image_of, is_told, put, read_of};
+use crate::images::{image_of, put, read_of};
 use layout::{Geometry, LayoutRefusal};
+use row_texts::row_is_told;
 use std::alloc::{AllocError, Global};
 use std::test::Fail;
 
@@ -91,7 +92,7 @@ fn read_with(alloc: Global, changes: &[(usize, u8)], length: usize) -> Result<St
 /// Superblocks are read so, or refused.
 fn are_read(alloc: Global) -> Result<(), Fail> {
     for (number, (changes, length, text)) in ROWS.iter().enumerate() {
-        is_told(number, read_with(alloc, changes, *length)?.as_str(), text)?;
+        row_is_told(number, read_with(alloc, changes, *length)?.as_str(), text)?;
     }
     Ok(())
 }
@@ -100,7 +101,7 @@ fn are_read(alloc: Global) -> Result<(), Fail> {
 fn are_named(alloc: Global) -> Result<(), Fail> {
     for (row, (refusal, text)) in NAMES.iter().enumerate() {
         let number = refusal.number();
-        is_told(row, format!(in alloc; "{number} {refusal}")?.as_str(), text)?;
+        row_is_told(row, format!(in alloc; "{number} {refusal}")?.as_str(), text)?;
     }
     Ok(())
 }

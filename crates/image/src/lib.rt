@@ -33,7 +33,8 @@ impl<'a> Image<'a> {
 
     /// The volume that the bytes begin with, or why its superblock is refused.
     pub fn parse(bytes: &'a [u8]) -> Result<Image<'a>, LayoutRefusal>
-        ensures { MatchResult result (λ i. (i.bytes.now ≡ bytes.now) × (geometry_of bytes.now ≡ Ok i.geometry)) (λ e. geometry_of bytes.now ≡ Err e) }
+        ensures { MatchResult result (λ i. (i.bytes.now ≡ bytes.now) × (geometry_of bytes.now ≡ Ok i.geometry))
+            (λ e. geometry_of bytes.now ≡ Err e) }
     {
         let geometry = Geometry::parse(bytes)?;
         Ok(Image { bytes, geometry })
@@ -97,7 +98,8 @@ impl<'a> Image<'a> {
     /// The byte at which inode n begins.
     fn inode_place(&self, n: u32) -> usize
         requires { is_inode self.now.geometry n ≡ true }
-        ensures value { result ≡ (2 + self.now.geometry.inode_map_blocks + self.now.geometry.zone_map_blocks) * self.now.geometry.block_size + 64 * (n - 1) }
+        ensures value { result ≡ (2 + self.now.geometry.inode_map_blocks + self.now.geometry.zone_map_blocks)
+            * self.now.geometry.block_size + 64 * (n - 1) }
         ensures inside { result + 64 ≤ length self.now.bytes.now }
     {
         let g = self.geometry;
@@ -245,7 +247,8 @@ impl<'a> Image<'a> {
     pub fn entry(&self, inode: &Inode, number: u32) -> &'a [u8]
         requires { number < entry_count_of inode.now }
         ensures len { length result.now ≡ 64 }
-        ensures bytes { (a : ℕ) → a < 64 → slice_index result.now a ≡ file_byte self.now.geometry (contents self.now) inode.now (64 * number + a) }
+        ensures bytes { (a : ℕ) → a < 64 → slice_index result.now a ≡ file_byte self.now.geometry (contents self.now) inode.now
+            (64 * number + a) }
     {
         let (page, offset) = self.parts_of_byte(64 * number as usize);
         let zone = self.page_zone(inode, page);

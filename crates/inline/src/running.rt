@@ -73,7 +73,8 @@ fn step_once<D: LocalDriver>(
     media: &mut Media,
     generation: u32,
 ) -> Step
-    ensures leaves { (v : Opening) (marks : List Mark) → generation ≡ media.old.generation → Kept v media.old (D.state driver.old) true line.old.items marks
+    ensures leaves { (v : Opening) (marks : List Mark) → generation ≡ media.old.generation
+        → Kept v media.old (D.state driver.old) true line.old.items marks
         → StepLeaves v generation result media.new (D.state driver.new) line.new.items marks }
     ensures steps { StepsOnce generation (record { driver = D.state driver.old; line = line.old.items; media = media.old }) result
         (record { driver = D.state driver.new; line = line.new.items; media = media.new }) }
@@ -93,7 +94,8 @@ pub fn run<D: LocalDriver>(
     generation: u32,
     budget: &mut u64,
 ) -> Ran
-    ensures leaves { (v : Opening) (marks : List Mark) → generation ≡ media.old.generation → Kept v media.old (D.state driver.old) true line.old.items marks
+    ensures leaves { (v : Opening) (marks : List Mark) → generation ≡ media.old.generation
+        → Kept v media.old (D.state driver.old) true line.old.items marks
         → RunLeaves v generation result media.new (D.state driver.new) line.new.items marks }
     ensures runs { RunsTo generation (record { driver = D.state driver.old; line = line.old.items; media = media.old }) budget.old result
         (record { driver = D.state driver.new; line = line.new.items; media = media.new }) budget.new }

@@ -31,7 +31,7 @@ use Rattle.playing_laws.specs.playing.run_log.declared.log.Entry.TheVariants as 
 use Rattle.justifying.specs.driver_events.declared.ruling.Ruling.{Ruling}
 use Rattle.justifying.specs.driver_events.run_drivers.Disks.{Disks, LinesUp, NoneIsThere, LineIsFull, IsLinedUp}
 use Rattle.justifying.specs.driver_events.Scene.{Scene}
-use Rattle.playing_laws.specs.playing.declared.arrived.Arrived.{Arrived}
+use Rattle.playing_laws.specs.playing.arrivals.declared.arrived.Arrived.{Arrived}
 use Rattle.playing_laws.specs.playing.PlayView.{Play, IsOpened, PlaysNext, Advances, Stays, Goes, Turn, Takes, TakesOwed, TakesEnd, Posts, Complains, ComesToEnd, IsPlayedOut, IsStarved, noting, paid, posted, complained, ruling_at}
 use Rattle.playing_laws.specs.Moments.{Doing, Resting, Hearing, Answering, is_busy, Moment, record_of, IsBetween, Step, Begins as StepBegins, Tells, Takes as StepTakes, Settles, Brings, BringsNone, Pays as StepPays, HandsCall, Replies as StepReplies, Runs, Starts, Then}
 use Rattle.justifying.specs.Core.{Core, Story, story, RunsNow, WaitsNow, IsGivenUp, PhaseIs, FollowsGroups}

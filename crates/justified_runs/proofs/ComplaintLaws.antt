@@ -36,7 +36,7 @@ use Rattle.justifying.specs.driver_events.run_drivers.Disks.{Disks, LinesUp, Non
 use Rattle.justifying.specs.driver_events.Scene.{Scene, ruled}
 use Rattle.justifying.specs.driver_events.Kept.{NotesAside}
 use Rattle.justifying.proofs.driver_events.Keeping.{events_note_aside}
-use Rattle.playing_laws.specs.playing.declared.arrived.Arrived.{Arrived}
+use Rattle.playing_laws.specs.playing.arrivals.declared.arrived.Arrived.{Arrived}
 use Rattle.playing_laws.specs.playing.PlayView.{Play, IsOpened, begun, PlaysNext, Advances, Stays, Goes, Turn, Takes, TakesOwed, TakesEnd, Posts, Complains, ComesToEnd, IsPlayedOut, IsStarved, HandsOut, noting, paid, ended, starving, posted, complained}
 use Rattle.playing_laws.specs.Moments.{Doing, Resting, Hearing, Answering, is_busy, Moment, record_of, IsBetween, hearing, at_link, Step, Begins as StepBegins, Tells, Takes as StepTakes, Settles, Brings, BringsNone, Pays as StepPays, HandsCall, Replies as StepReplies, Runs, Starts, Then}
 use Rattle.justifying.specs.Core.{Core, Story, story, RunsNow, PhaseIs, FollowsGroups}

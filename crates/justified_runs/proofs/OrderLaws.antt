@@ -23,7 +23,7 @@ use Rattle.justifying.specs.driver_events.declared.ruling.Ruling.{Ruling}
 use Rattle.justifying.specs.driver_events.declared.ruling.Ruling.TheVariants as ruling
 use Rattle.justifying.specs.driver_events.run_drivers.Disks.{Disks, LinesUp, NoneIsThere, LineIsFull, IsLinedUp}
 use Rattle.justifying.specs.driver_events.Scene.{Scene}
-use Rattle.playing_laws.specs.playing.declared.arrived.Arrived.{Arrived}
+use Rattle.playing_laws.specs.playing.arrivals.declared.arrived.Arrived.{Arrived}
 use Rattle.playing_laws.specs.playing.PlayView.{Play, IsOpened, first_noted, PlaysNext, Advances, Stays, Goes, Turn, Takes, TakesOwed, TakesEnd, Posts, Complains, ComesToEnd, IsPlayedOut, IsStarved, Still, Further, HandsEvent, HandsNone, HandsOwed, noting, paid, posted, complained, ruling_at}
 use Rattle.playing_laws.specs.Waiting.{HasCalls, arrival_of}
 use Rattle.playing_laws.specs.Moments.{Doing, Resting, Hearing, Answering, is_busy, Moment, Step, Begins as StepBegins, Tells, Takes as StepTakes, Settles, Brings, BringsNone, Pays as StepPays, HandsCall, Replies as StepReplies, Runs, Starts, Then}

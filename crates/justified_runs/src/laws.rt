@@ -1,6 +1,8 @@
 //! What a whole run keeps, each a law of the definitions.
 
-ghost use Rattle.justified_runs.specs.RunLaws.{RunsKeepStarts, RunsKeepHung, RunsKeepFlushes, RunsKeepGivingUp, RunsKeepAnswers, RunsKeepExits, RunsAreJustified, RunsKeepComplaints, RunsKeepAfterFault, RunsKeepOrder, RunsKeepAll, RunsKeepFailures};
+ghost use Rattle.justified_runs.specs.RunLaws.{RunsKeepStarts, RunsKeepHung, RunsKeepFlushes, RunsKeepGivingUp, RunsKeepAnswers};
+ghost use Rattle.justified_runs.specs.RunLaws.{RunsKeepExits, RunsAreJustified, RunsKeepComplaints, RunsKeepAfterFault, RunsKeepOrder};
+ghost use Rattle.justified_runs.specs.RunLaws.{RunsKeepAll, RunsKeepFailures};
 ghost use Rattle.justified_runs.specs.Shown.{RunsShowEvents};
 
 /// At each event of a run drivers are started exactly where the policy and the events before say.
@@ -43,8 +45,8 @@ pub fn runs_keep_complaints()
     ensures { RunsKeepComplaints }
 {}
 
-/// The device is given up only after its fault: right after an exit or missed heartbeats; after a complaint while a start is awaited, and at
-/// most one call was finished.
+/// The device is given up only after its fault: right after an exit or missed heartbeats; after a complaint while a start is awaited, and
+/// at most one call was finished.
 pub fn runs_keep_after_fault()
     ensures { RunsKeepAfterFault }
 {}

@@ -83,7 +83,8 @@ impl Notes {
 
     /// Notes that the link has ended, once.
     pub fn end(&mut self)
-        ensures history { history_of self.new.ended self.new.items.items ≡ heard Incoming.End (history_of self.old.ended self.old.items.items) }
+        ensures history { history_of self.new.ended self.new.items.items ≡ heard Incoming.End
+            (history_of self.old.ended self.old.items.items) }
     {
         self.ended = true;
     }

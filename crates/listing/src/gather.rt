@@ -50,7 +50,8 @@ fn names_of<B: Blocks>(
 ) -> Result<Result<NameMap, AllocError>, Halt>
     requires on { IsOn B.world geometry.now blocks.old }
     ensures reads { Reads B.world blocks.old blocks.new (λ d. let v = pieces geometry.now d in Ends result
-        (λ r. IfOk r (λ names. names ≡ (directory_of geometry.now v inode.now).names)) (HasInodes (file_byte geometry.now v inode.now) (entry_count_of inode.now))) }
+        (λ r. IfOk r (λ names. names ≡ (directory_of geometry.now v inode.now).names)) (HasInodes (file_byte geometry.now v inode.now)
+        (entry_count_of inode.now))) }
     ensures halt { IfErr result (λ h. IsHalt B.world blocks.new h) }
 {
     let mut names = NameMap::new(alloc);
@@ -62,8 +63,8 @@ fn names_of<B: Blocks>(
     Ok(Ok(names))
 }
 
-/// All names of a directory in the order of their bytes, with their inodes, if there is memory for them. Unsound only where a number is none
-/// of an inode. Any bytes may stand in the directory: each entry is read once.
+/// All names of a directory in the order of their bytes, with their inodes, if there is memory for them. Unsound only where a number is
+/// none of an inode. Any bytes may stand in the directory: each entry is read once.
 pub(crate) fn entries_of<B: Blocks>(
     alloc: Global,
     blocks: &mut B,

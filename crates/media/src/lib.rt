@@ -9,7 +9,8 @@ ghost use Rattle.std.specs.Prelude.{◌≡◌, ◌≢◌, ◌≤◌, ◌<◌, �
 ghost use Rattle.std.specs.List.{concat};
 ghost use Rattle.media.specs.Contents.{IsWhole, Adopt, Write, Tear, accepts, media_after, sectors_of, written};
 ghost use Rattle.media.specs.Laws.{ContentsFollow, RevokedForEver, ChangesOneSector, IsSameImage};
-ghost use Rattle.media.specs.Answers.{media_refusal_name, media_refusal_number, sector_refusal_number, refusal_of, read_answer, write_answer};
+ghost use Rattle.media.specs.Answers.{media_refusal_name, media_refusal_number, sector_refusal_number, refusal_of, read_answer};
+ghost use Rattle.media.specs.Answers.{write_answer};
 
 use std::alloc::{AllocError, Global};
 use std::marker::Model;

@@ -71,7 +71,8 @@ impl BlockDriver for ModelDriver {
     fn step(&mut self, media: &mut Media, generation: u32) -> Step
         ensures keeps { StepKeeps (model_state self.old) media.old generation result (model_state self.new) media.new }
         ensures driver { IsDriver (model_state self.new) }
-        ensures order { StepsInOrder (model_busy self.old) (model_left self.old) (model_outcome self.old) media.old generation result (model_left self.new) }
+        ensures order { StepsInOrder (model_busy self.old) (model_left self.old) (model_outcome self.old) media.old generation result
+            (model_left self.new) }
         ensures arm { arm_of self.new ≡ arm_after (model_left self.old) media.old generation (arm_of self.old) }
     {
         self.mover.step(media, generation)

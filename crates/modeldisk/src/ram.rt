@@ -60,7 +60,8 @@ impl BlockDriver for RamDriver {
     fn step(&mut self, media: &mut Media, generation: u32) -> Step
         ensures keeps { StepKeeps (ram_state self.old) media.old generation result (ram_state self.new) media.new }
         ensures driver { IsDriver (ram_state self.new) }
-        ensures order { StepsInOrder (ram_busy self.old) (ram_left self.old) (ram_outcome self.old) media.old generation result (ram_left self.new) }
+        ensures order { StepsInOrder (ram_busy self.old) (ram_left self.old) (ram_outcome self.old) media.old generation result
+            (ram_left self.new) }
     {
         self.mover.step(media, generation)
     }

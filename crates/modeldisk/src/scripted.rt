@@ -65,7 +65,8 @@ impl ScriptedDriver {
 }
 
 impl BlockDriver for ScriptedDriver {
-    ghost use Rattle.modeldisk.specs.Script.{arm_with, counted, due_at, due_of, mover_of, script_of, scripted_arm, scripted_state, sweep_start, FollowsScript};
+    ghost use Rattle.modeldisk.specs.Script.{arm_with, counted, due_at, due_of, mover_of, script_of, scripted_arm, scripted_state};
+    ghost use Rattle.modeldisk.specs.Script.{sweep_start, FollowsScript};
 
     ghost state = { scripted_state };
 
@@ -73,7 +74,8 @@ impl BlockDriver for ScriptedDriver {
     fn accept(&mut self, request: BlockRequest) -> Accept
         ensures keeps { AcceptKeeps (scripted_state self.old) request result (scripted_state self.new) }
         ensures driver { IsDriver (scripted_state self.new) }
-        ensures order { result ≡ Accept.Taken → left_of (mover_of self.new) ≡ order_in (sweep_start self.old) (plan (ranges_of (mover_of self.old).table) request) }
+        ensures order { result ≡ Accept.Taken → left_of (mover_of self.new) ≡ order_in (sweep_start self.old)
+            (plan (ranges_of (mover_of self.old).table) request) }
         ensures script { script_of self.new ≡ counted result (script_of self.old) }
         ensures due { result ≡ Accept.Taken → due_of self.new ≡ due_at (script_of self.new) 0 }
         ensures arm { scripted_arm self.new ≡ scripted_arm self.old }

@@ -5,8 +5,6 @@
 #[cfg(test)]
 mod answered;
 #[cfg(test)]
-mod lines;
-#[cfg(test)]
 mod refusals;
 #[cfg(test)]
 mod unmounts;

@@ -1,9 +1,9 @@
 //! Why a mount is refused.
 use crate::answered::{mounted_over, reads_of};
-use crate::lines::is_told;
 use layout::LayoutRefusal;
 use message::Incoming;
 use mounting::MountRefusal;
+use row_texts::is_told;
 use samples::changed;
 use std::alloc::{AllocError, Global};
 use std::test::Fail;

@@ -3,7 +3,6 @@ ghost use Rattle.stored.specs.World.{stored_caching};
 ghost use Rattle.mounts.specs.vfs.Server.{IsOpen};
 
 use crate::answered::{gives, mounted_over, reads_of};
-use crate::lines::is_told;
 use file_server::FileServer;
 use frame_samples::lists::{moved, told};
 use list_link::ListLink;
@@ -11,6 +10,7 @@ use message::Incoming;
 use mounts::Server;
 use reissue::link::Link;
 use reply_text::text::OutcomeText;
+use row_texts::is_told;
 use samples::new_volume;
 use std::alloc::{AllocError, Global};
 use std::test::Fail;

@@ -62,7 +62,8 @@ fn read_rest<L: Link>(
     requires ids { (table_of transfers.old).ids + 2 * L.budget_left (link_of transfers.old) ≤ 2 ^ 59 + 4096 }
     ensures same_length { length bytes.new ≡ length bytes.old }
     ensures reads { ReadsRest result minor (length bytes.old - 2048) bytes.old bytes.new (table_of transfers.old) (table_of transfers.new)
-        (L.history (link_of transfers.old)) (L.history (link_of transfers.new)) (L.truth (link_of transfers.old)) (L.truth (link_of transfers.new)) }
+        (L.history (link_of transfers.old)) (L.history (link_of transfers.new)) (L.truth (link_of transfers.old))
+        (L.truth (link_of transfers.new)) }
     ensures goes { L.goes_on (link_of transfers.old) (link_of transfers.new) }
     ensures room { OnOk result (HasRoom (table_of transfers.new) (L.room (link_of transfers.new))) }
     ensures ids { OnOk result ((table_of transfers.new).ids + 2 * L.budget_left (link_of transfers.new)
@@ -90,7 +91,8 @@ fn read_behind<L: Link>(
     requires ids { (table_of transfers.old).ids + 2 * L.budget_left (link_of transfers.old) ≤ 2 ^ 59 + 4096 }
     ensures same_length { length bytes.new ≡ length bytes.old }
     ensures reads { ReadsRest result minor (length bytes.old - 2048) head.now bytes.new (table_of transfers.old) (table_of transfers.new)
-        (L.history (link_of transfers.old)) (L.history (link_of transfers.new)) (L.truth (link_of transfers.old)) (L.truth (link_of transfers.new)) }
+        (L.history (link_of transfers.old)) (L.history (link_of transfers.new)) (L.truth (link_of transfers.old))
+        (L.truth (link_of transfers.new)) }
     ensures goes { L.goes_on (link_of transfers.old) (link_of transfers.new) }
     ensures room { OnOk result (HasRoom (table_of transfers.new) (L.room (link_of transfers.new))) }
     ensures ids { OnOk result ((table_of transfers.new).ids + 2 * L.budget_left (link_of transfers.new)
@@ -114,7 +116,8 @@ pub fn read_volume<L: Link>(
     requires room { HasRoom (table_of transfers.old) (L.room (link_of transfers.old)) }
     requires ids { (table_of transfers.old).ids + 2 * L.budget_left (link_of transfers.old) ≤ 2 ^ 59 }
     ensures reads { ReadsVolume result minor (table_of transfers.old) (table_of transfers.new)
-        (L.history (link_of transfers.old)) (L.history (link_of transfers.new)) (L.truth (link_of transfers.old)) (L.truth (link_of transfers.new)) }
+        (L.history (link_of transfers.old)) (L.history (link_of transfers.new)) (L.truth (link_of transfers.old))
+        (L.truth (link_of transfers.new)) }
     ensures goes { L.goes_on (link_of transfers.old) (link_of transfers.new) }
     ensures room { OnOk result (HasRoom (table_of transfers.new) (L.room (link_of transfers.new))) }
     ensures ids { OnOk result ((table_of transfers.new).ids + 2 * L.budget_left (link_of transfers.new)

@@ -60,7 +60,8 @@ fn begin_next<L: Link>(
     requires ids { (table_of transfers.old).ids < 2 ^ 60 }
     requires room { HasRoom (table_of transfers.old) (L.room (link_of transfers.old)) }
     requires free { next < size → IsFree (start + next) (piece_size size next) (begun_in transfers.old) }
-    ensures begun { IfSome result (λ after. BeginsNext L.Link minor start size next after asked.old.items asked.new.items transfers.old transfers.new) }
+    ensures begun { IfSome result (λ after. BeginsNext L.Link minor start size next after asked.old.items asked.new.items transfers.old
+        transfers.new) }
     ensures none { IfNone result (BeginsNothing size next asked.old.items asked.new.items transfers.old transfers.new) }
     ensures capacity { vec_capacity asked.new ≡ vec_capacity asked.old }
     ensures budget { L.budget_left (link_of transfers.new) ≤ L.budget_left (link_of transfers.old) }
@@ -79,9 +80,9 @@ fn begin_next<L: Link>(
     }
 }
 
-/// Reads the bytes of a range of the media that begins at `start`, as many as there is room for, a multiple of 512: so many reads are pending
-/// at once as may be, each of at most 4096 bytes. It takes messages until all have come, the device is given up or the link ends. A Flush
-/// asks for nothing here. Where it stops early, some byte of the range wasn't read.
+/// Reads the bytes of a range of the media that begins at `start`, as many as there is room for, a multiple of 512: so many reads are
+/// pending at once as may be, each of at most 4096 bytes. It takes messages until all have come, the device is given up or the link ends. A
+/// Flush asks for nothing here. Where it stops early, some byte of the range wasn't read.
 pub fn read_range<L: Link>(
     alloc: Global,
     transfers: &mut Transfers<L>,
@@ -98,7 +99,8 @@ pub fn read_range<L: Link>(
     requires room { HasRoom (table_of transfers.old) (L.room (link_of transfers.old)) }
     requires ids { (table_of transfers.old).ids + 2 * L.budget_left (link_of transfers.old) + length into.old ≤ 2 ^ 60 - 4096 }
     ensures reads { ReadsRange result minor start (length into.old) into.new (table_of transfers.old) (table_of transfers.new)
-        (L.history (link_of transfers.old)) (L.history (link_of transfers.new)) (L.truth (link_of transfers.old)) (L.truth (link_of transfers.new)) }
+        (L.history (link_of transfers.old)) (L.history (link_of transfers.new)) (L.truth (link_of transfers.old))
+        (L.truth (link_of transfers.new)) }
     ensures same_length { length into.new ≡ length into.old }
     ensures goes { L.goes_on (link_of transfers.old) (link_of transfers.new) }
     ensures room { OnOk result (HasRoom (table_of transfers.new) (L.room (link_of transfers.new))) }

@@ -28,8 +28,8 @@ pub fn set_attributes<B: Blocks>(
     store(blocks, geometry, number, inode)
 }
 
-/// Gives a node a link more; the time of its attributes becomes `now`, in seconds. Unsound only where the volume isn't sound, the node has more
-/// links than there may be, or the number is no inode's.
+/// Gives a node a link more; the time of its attributes becomes `now`, in seconds. Unsound only where the volume isn't sound, the node has
+/// more links than there may be, or the number is no inode's.
 pub fn add_link<B: Blocks>(
     blocks: &mut B,
     geometry: &Geometry,

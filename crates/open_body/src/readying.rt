@@ -30,7 +30,8 @@ fn ready_there<B: Blocks>(
     flags: OpenFlags,
 ) -> Result<(), Stop>
     requires on { IsOn B.world geometry.now blocks.old }
-    ensures turns { Turns B.world blocks.old blocks.new (λ d e. (t : Tree) → HoldsVolume geometry.now d t → IsTrue (is_some (t.nodes number))
+    ensures turns { Turns B.world blocks.old blocks.new (λ d e. (t : Tree) → HoldsVolume geometry.now d t
+        → IsTrue (is_some (t.nodes number))
         → Answers result (ReadiesThere geometry.now t user now number flags.0 d e)) }
     ensures stop { IfErr result (λ s. IsStop B.world blocks.new s) }
     ensures proper { IfErr result (λ s. IfRefused s (λ e. e ≢ Errno.EIO)) }

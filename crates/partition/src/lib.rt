@@ -5,7 +5,8 @@ pub mod place;
 
 ghost use Rattle.std.specs.Prelude.{◌≡◌, ◌+◌, ◌≤◌, [], ◌∷◌, IfOk, IfSome, Some, get_or};
 ghost use Rattle.std.specs.List.{list_any};
-ghost use Rattle.partition.specs.Entries.{entry_at, unless_empty, entries_of, has_overlap, has_signature, holds_sector_0, meets, overlap, passes};
+ghost use Rattle.partition.specs.Entries.{entry_at, unless_empty, entries_of, has_overlap, has_signature, holds_sector_0, meets, overlap};
+ghost use Rattle.partition.specs.Entries.{passes};
 ghost use Rattle.partition.specs.Table.{IsTable, kind_at, range_at, range_of_entry};
 ghost use Rattle.partition.specs.Refusals.{partition_refusal_name, partition_refusal_number, checked, table_of};
 

@@ -72,7 +72,8 @@ fn count_level(image: &Image, entered: &[bool], level: usize, uses: &mut [u8])
     requires rows { length entered.now ≡ 4 * image.now.geometry.zones }
     requires small { AreSmall uses.old }
     ensures small { AreSmall uses.new }
-    ensures counted { AreCountedTo (λ z. sum_below (named_by_entered image.now entered.now level z) image.now.geometry.zones) uses.old uses.new }
+    ensures counted { AreCountedTo (λ z. sum_below (named_by_entered image.now entered.now level z) image.now.geometry.zones) uses.old
+        uses.new }
 {
     let zones = image.geometry().zones;
     for above in 0..zones {

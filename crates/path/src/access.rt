@@ -32,7 +32,8 @@ fn bit_of(wish: Wish) -> u16
 
 /// The three bits that speak for a user: the owner's where it is the owner, else the group's where it is of the group, else the others'.
 fn bits_for(user: User, permissions: u16, uid: u16, gid: u16) -> u16
-    ensures { result ≡ (if user.uid == uid then permissions / 64 % 8 else if user.gid == gid then permissions / 8 % 8 else permissions % 8) }
+    ensures { result ≡ (if user.uid == uid then permissions / 64 % 8 else if user.gid == gid then permissions / 8 % 8
+        else permissions % 8) }
 {
     if user.uid == uid {
         permissions / 64 % 8

@@ -35,7 +35,7 @@ type Row = (
 );
 
 /// Files, lines and images.
-const ROWS: [Row; 33] = [
+static ROWS: [Row; 33] = [
     (Image::Unread, 128, &[], HONEST, "cannot read v.img\n"),
     (Image::Unread, 128, &[None], HONEST, "cannot read v.img\n"),
     (
@@ -251,18 +251,28 @@ fn bytes_of(alloc: Global, image: Image) -> Result<Option<Vec<u8>>, AllocError> 
     })
 }
 
+/// The fault of a row is told, of an image whose bytes are these.
+fn is_first<R: Wait + Copy>(
+    alloc: Global,
+    rt: R,
+    image: Option<&[u8]>,
+    row: &Row,
+) -> Result<(), Fail> {
+    let (_, sectors, scripts, faults, line) = *row;
+    let play = Play {
+        image,
+        sectors,
+        faults,
+        ..Play::new(&[], scripts)
+    };
+    play.gives(alloc, rt, 1, "", line)
+}
+
 #[test]
 fn the_first_fault_is_told(rt: HostRuntime) -> Result<(), Fail> {
-    let alloc = rt.alloc();
-    for (image, sectors, scripts, faults, line) in ROWS {
-        let image = bytes_of(alloc, image)?;
-        let play = Play {
-            image: image.as_deref(),
-            sectors,
-            faults,
-            ..Play::new(&[], scripts)
-        };
-        play.gives(alloc, rt, 1, "", line)?;
+    for row in &ROWS {
+        let image = bytes_of(rt.alloc(), row.0)?;
+        is_first(rt.alloc(), rt, image.as_deref(), row)?;
     }
     Ok(())
 }

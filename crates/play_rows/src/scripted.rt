@@ -153,8 +153,8 @@ fn first_other<'p>(wanted: &'p str, got: &'p str) -> (&'p str, &'p str) {
     ("", "")
 }
 
-/// Plays a text on an image: the replies are those of the text, nothing is complained of, and the image that is left is as it says, and clean;
-/// another server reads from it what a further session reads. It is an error where that isn't so.
+/// Plays a text on an image: the replies are those of the text, nothing is complained of, and the image that is left is as it says, and
+/// clean; another server reads from it what a further session reads. It is an error where that isn't so.
 pub(crate) fn are_played<R: Wait + Copy>(
     alloc: Global,
     rt: R,

@@ -5,9 +5,10 @@ ghost use Rattle.reissue.specs.marks.Opening.{Opening};
 ghost use Rattle.reissue.specs.marks.Marks.{Mark, Took};
 ghost use Rattle.tree.specs.Answers.{answer_of};
 
-use crate::arrived::Arrived;
 use crate::playing::Playing;
 use crate::room::make_room;
+use arrivals::Arrived;
+use arrivals::queue::take_first;
 use inline::local::LocalDriver;
 use message::Incoming;
 use run_log::Entry;
@@ -20,8 +21,8 @@ impl<'a, D: LocalDriver> Playing<'a, D> {
     ghost use Rattle.driver_events.specs.Kept.{with_next};
     ghost use Rattle.playing.specs.PlayView.{play_of, PlayTrue, Asides, Answers, HandsOut, left_of};
 
-    /// Plays the next event between two calls, or tells that a complaint gave the device up, if that is owed: the message that the server is
-    /// to be handed, if there is one. An error: no memory was found, and nothing was done.
+    /// Plays the next event between two calls, or tells that a complaint gave the device up, if that is owed: the message that the server
+    /// is to be handed, if there is one. An error: no memory was found, and nothing was done.
     pub fn aside(&mut self) -> Result<Option<Incoming>, AllocError>
         requires left { (self.old.owed ≡ true) ⊎ (self.old.next < length self.old.events.now) }
         requires live { self.old.log.over ≡ false }
@@ -77,6 +78,6 @@ impl<'a, D: LocalDriver> Playing<'a, D> {
         ensures stage { self.new.stage ≡ self.old.stage }
         ensures log { self.new.log ≡ self.old.log }
     {
-        self.queue.pop_front()
+        take_first(&mut self.queue)
     }
 }

@@ -6,7 +6,8 @@ ghost use Rattle.reissue.specs.marks.Opening.{Opening};
 ghost use Rattle.reissue.specs.marks.Marks.{Mark};
 
 use crate::playing::Playing;
-use crate::room::{event_at, make_room, wait};
+use crate::room::{event_at, make_room};
+use arrivals::queue::wait;
 use driver_events::ruling::complain;
 use endpoint::Endpoint;
 use inline::local::LocalDriver;

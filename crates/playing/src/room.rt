@@ -1,14 +1,13 @@
 //! Room for what the next event and the server's doings after it add.
 
-ghost use Rattle.std.specs.Prelude.{◌≡◌, ◌<◌, ◌≤◌, ◌++◌, Some, length, slice_get, false};
+ghost use Rattle.std.specs.Prelude.{◌≡◌, ◌<◌, ◌≤◌, Some, length, slice_get, false};
 ghost use Rattle.std.specs.Bool.{OnTrue};
 ghost use Rattle.std.specs.VecDeque.{deque_len, deque_capacity};
 ghost use Rattle.run_log.specs.LogView.{said, room_in};
 ghost use Rattle.driver_events.specs.run_drivers.View.{HasRoom};
 ghost use Rattle.driver_events.specs.StageView.{scene_of};
-ghost use Rattle.playing.specs.PlayView.{calls_of};
 
-use crate::arrived::Arrived;
+use arrivals::Arrived;
 use driver_events::stage::Stage;
 use inline::local::LocalDriver;
 use run_log::Log;
@@ -51,18 +50,4 @@ pub(crate) fn event_at<'a>(events: &[Event<'a>], next: usize) -> Event<'a>
     ensures { slice_get events.now next ≡ Some result }
 {
     events[next]
-}
-
-/// The call that an event brings waits behind the others.
-pub(crate) fn wait<'a>(queue: &mut VecDeque<Arrived<'a>>, event: &Event<'a>)
-    requires { deque_len queue.old < deque_capacity queue.old }
-    ensures { queue.new.items ≡ queue.old.items ++ calls_of event.now }
-{
-    if let Event::Arrive(who, now, call) = event {
-        queue.push_back_reserved(Arrived {
-            who: *who,
-            now: *now,
-            call: *call,
-        });
-    }
 }

@@ -25,8 +25,9 @@ use Rattle.playing.specs.run_log.Noted.{Noted, marks_in, with_mark, with_message
 use Rattle.playing.specs.driver_events.Kept.{NotesAside}
 use Rattle.playing.proofs.driver_events.Keeping.{events_same, events_note_aside}
 use Rattle.playing.proofs.driver_events.Sectors.{events_keep_sectors}
-use Rattle.playing.specs.declared.arrived.Arrived.{Arrived}
-use Rattle.playing.specs.PlayView.{Play, calls_of, unless_told, work_left, begun, noting, paid, ended, starving, posted, complained, ruling_at, PlaysNext, Advances, Stays, Goes, ComesToEnd, IsPlayedOut, IsStarved, Turn, Takes, TakesOwed, TakesEnd, Posts, Complains, Still, Further, HandsEvent, HandsNone, HandsOwed, HandsNothing}
+use Rattle.playing.specs.arrivals.declared.arrived.Arrived.{Arrived}
+use Rattle.playing.specs.PlayView.{Play, unless_told, work_left, begun, noting, paid, ended, starving, posted, complained, ruling_at, PlaysNext, Advances, Stays, Goes, ComesToEnd, IsPlayedOut, IsStarved, Turn, Takes, TakesOwed, TakesEnd, Posts, Complains, Still, Further, HandsEvent, HandsNone, HandsOwed, HandsNothing}
+use Rattle.playing.specs.arrivals.Calls.{calls_of}
 use Rattle.playing_laws.specs.Laws.{LeadsOn, CallLeads, ServersLeadOn, AsidesLeadOn, CallsLeadOn, AnswersLeadOn}
 
 -- whether a note begins an event

@@ -9,7 +9,7 @@ use Rattle.playing.specs.reissue.marks.Marks.{Mark, Issued, last_started, gave_u
 use Rattle.playing.specs.reissue.marks.Open.{open_requests, greatest, has_none}
 use Rattle.playing.specs.reissue.marks.Told.{Told, Posted, Complained, Received, with_told, took_nothing}
 use Rattle.playing.specs.reissue.marks.Acts.{Began, AtLink, Outbox, owed_after_act, owed_after_post, target, needs_message, MayPost, MayTake, MayAct}
-use Rattle.playing.specs.declared.arrived.Arrived.{Arrived}
+use Rattle.playing.specs.arrivals.declared.arrived.Arrived.{Arrived}
 use Rattle.playing.specs.PlayView as link
 use Rattle.playing.specs.PlayView.{Play, PlaysNext, Turn}
 use Rattle.playing_laws.specs.Moments.{Doing, Resting, Hearing, Answering, is_busy, Moment, record_of, at_link, Step, Begins, Tells, Takes, Settles, Brings, BringsNone, Pays, HandsCall, Replies, Runs, Starts, Then, Needs, RunsEndNeeding}

@@ -19,7 +19,7 @@ use Rattle.playing.specs.driver_events.Kept.{NotesAside}
 use Rattle.playing.specs.driver_events.run_drivers.Disks.{Disks}
 use Rattle.playing.specs.driver_events.Ruling.{is_fault, gives_up}
 use Rattle.playing.proofs.driver_events.Keeping.{events_note_aside, history_same}
-use Rattle.playing.specs.declared.arrived.Arrived.{Arrived}
+use Rattle.playing.specs.arrivals.declared.arrived.Arrived.{Arrived}
 use Rattle.playing.specs.PlayView as link
 use Rattle.playing.specs.PlayView.{Play, begun, noting, paid, ended, starving, posted, complained, ruling_at, PlaysNext, Advances, Stays, Goes, ComesToEnd, IsPlayedOut, IsStarved, IsSpent, Turn, GoesOn, Still, Further}
 use Rattle.playing_laws.specs.Laws.{IsToldOfEnd, IsEndedRightly, ServersEndRightly}

@@ -21,8 +21,9 @@ use Rattle.playing.proofs.run_log.NotedLaws.{mark_in, message_in}
 use Rattle.playing.specs.driver_events.Kept.{NotesAside}
 use Rattle.playing.specs.driver_events.Ruling.{is_fault}
 use Rattle.playing.proofs.driver_events.Keeping.{events_note_aside}
-use Rattle.playing.specs.declared.arrived.Arrived.{Arrived}
-use Rattle.playing.specs.PlayView.{Play, calls_of, begun, noting, paid, ended, starving, posted, complained, ruling_at, PlaysNext, Advances, Stays, Goes, ComesToEnd, IsPlayedOut, IsStarved, Turn, Takes, TakesOwed, TakesEnd, Posts, Complains, Still, Further, HandsEvent, HandsNone, HandsOwed, HandsNothing}
+use Rattle.playing.specs.arrivals.declared.arrived.Arrived.{Arrived}
+use Rattle.playing.specs.PlayView.{Play, begun, noting, paid, ended, starving, posted, complained, ruling_at, PlaysNext, Advances, Stays, Goes, ComesToEnd, IsPlayedOut, IsStarved, Turn, Takes, TakesOwed, TakesEnd, Posts, Complains, Still, Further, HandsEvent, HandsNone, HandsOwed, HandsNothing}
+use Rattle.playing.specs.arrivals.Calls.{calls_of}
 use Rattle.playing_laws.specs.Waiting.{arrival_of, HasCalls, ServersHandNone, AsidesHandNone, OneIsHandedOut, ItIsAnswered}
 use Rattle.playing_laws.proofs.Leading.{is_beginning, entry_events}
 

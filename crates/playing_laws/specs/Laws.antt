@@ -12,7 +12,7 @@ use Rattle.playing.specs.reissue.marks.Told.{took_end}
 use Rattle.playing.specs.inline.true_replies.State.{MediaHold, OutsideHolds}
 use Rattle.playing.specs.inline.true_replies.Events.{opening_media}
 use Rattle.playing.specs.driver_events.Scene.{Scene}
-use Rattle.playing.specs.declared.arrived.Arrived.{Arrived}
+use Rattle.playing.specs.arrivals.declared.arrived.Arrived.{Arrived}
 use Rattle.playing.specs.PlayView.{Play, PlayTrue, IsSpent, GoesOn, Asides, HandsOut, Answers, work_left}
 
 -- in each record of which it holds the replies are true

@@ -10,7 +10,7 @@ use Rattle.playing.specs.reissue.marks.Acts.{Began, AtLink, Outbox, owed_after_a
 use Rattle.playing.specs.driver_events.faultless.Faultless.{without_faults}
 use Rattle.playing.specs.run_log.Noted.{marks_in}
 use Rattle.playing.specs.run_log.declared.log.Entry.TheVariants as entry
-use Rattle.playing.specs.declared.arrived.Arrived.{Arrived}
+use Rattle.playing.specs.arrivals.declared.arrived.Arrived.{Arrived}
 use Rattle.playing.specs.PlayView.{Play, PlaysNext, Turn, HandsOut, noting, paid}
 
 -- the server's record: the run's without its faults

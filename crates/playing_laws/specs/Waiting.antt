@@ -6,7 +6,7 @@ use Rattle.playing.specs.message.declared.Incoming.{Incoming}
 use Rattle.playing.specs.tree.declared.Reply.{Reply}
 use Rattle.playing.specs.schedule.Calls.{Arrival, arrived, taken}
 use Rattle.playing.specs.run_log.Noted.{marks_in}
-use Rattle.playing.specs.declared.arrived.Arrived.{Arrived}
+use Rattle.playing.specs.arrivals.declared.arrived.Arrived.{Arrived}
 use Rattle.playing.specs.PlayView.{Play, GoesOn, Asides, HandsOut, Answers}
 
 -- a call that arrived, as definitions see it

@@ -2,7 +2,8 @@
 
 ghost use Rattle.playing_laws.specs.Moments.{RunsEndNeeding};
 ghost use Rattle.playing_laws.specs.Waiting.{ServersHandNone, AsidesHandNone, OneIsHandedOut, ItIsAnswered};
-ghost use Rattle.playing_laws.specs.Laws.{RepliesAreTrue, MediaAreHeld, ServersLeadOn, AsidesLeadOn, CallsLeadOn, AnswersLeadOn, ServersTellTruly, AsidesTellTruly, ServersEndRightly};
+ghost use Rattle.playing_laws.specs.Laws.{RepliesAreTrue, MediaAreHeld, ServersLeadOn, AsidesLeadOn, CallsLeadOn, AnswersLeadOn};
+ghost use Rattle.playing_laws.specs.Laws.{ServersTellTruly, AsidesTellTruly, ServersEndRightly};
 
 /// In each record of which the guarantee holds the replies are true.
 #[tactic(auto, using(crate::proofs::Guarantee::replies_true))]
@@ -66,7 +67,8 @@ pub fn it_is_answered()
     ensures { ItIsAnswered }
 {}
 
-/// That a complaint gave the device up was told only where the record says that it was given up; so it stays, whatever a server does at the link.
+/// That a complaint gave the device up was told only where the record says that it was given up; so it stays, whatever a server does at the
+/// link.
 #[tactic(auto, using(crate::proofs::Telling::servers_tell_truly))]
 pub fn servers_tell_truly()
     ensures { ServersTellTruly }

@@ -92,7 +92,8 @@ impl Watch {
     fn report(&mut self, about: Endpoint, tick: u64, spares: usize) -> Decision
         requires spare { HasSpare self.old.phase spares }
         requires tick { tick < 2 ^ 48 }
-        ensures { Makes (on_report self.old.policy (watch_with self.old spares) self.old.phase about tick) self.old.policy spares result self.new }
+        ensures { Makes (on_report self.old.policy (watch_with self.old spares) self.old.phase about tick) self.old.policy spares result
+            self.new }
     {
         let Phase::Running { endpoint, .. } = self.phase else {
             return Decision::Nothing;
@@ -107,7 +108,8 @@ impl Watch {
     fn tick(&mut self, tick: u64, pulse: (u32, u32), spares: usize) -> Decision
         requires spare { HasSpare self.old.phase spares }
         requires tick { tick < 2 ^ 48 }
-        ensures { Makes (on_tick self.old.policy (watch_with self.old spares) self.old.phase tick pulse) self.old.policy spares result self.new }
+        ensures { Makes (on_tick self.old.policy (watch_with self.old spares) self.old.phase tick pulse) self.old.policy spares result
+            self.new }
     {
         match self.phase {
             Phase::Waiting(until) => {

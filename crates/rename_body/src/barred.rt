@@ -68,8 +68,8 @@ fn why_kept(opens: &Descriptors, moves: bool, number: u32, inode: &Inode) -> Opt
 
 /// Why what was asked may not move, where it isn't the node at the new name already. In this order: EINVAL of a directory that would lie in
 /// itself; where nothing has the new name, EMLINK of a directory that comes to another parent with as many links as may be; where a node
-/// has it, ENOTDIR of a directory over a file, EISDIR of a file over a directory, ENOTEMPTY over a directory with names, EBUSY over one that
-/// is open. Nothing is changed.
+/// has it, ENOTDIR of a directory over a file, EISDIR of a file over a directory, ENOTEMPTY over a directory with names, EBUSY over one
+/// that is open. Nothing is changed.
 pub fn why_barred<B: Blocks>(
     blocks: &mut B,
     opens: &Descriptors,

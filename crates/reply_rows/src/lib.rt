@@ -5,6 +5,4 @@
 #[cfg(test)]
 mod replies;
 #[cfg(test)]
-mod rows;
-#[cfg(test)]
 mod transcripts;

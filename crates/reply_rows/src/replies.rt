@@ -1,8 +1,8 @@
 //! The numbers and texts of errors, the texts of replies, and the flags by their letters: expected values are the format's.
-use crate::rows::came;
 use bitflags::Flags;
 use errno::Errno;
 use reply_text::text::{OutcomeText, ReplyText};
+use row_texts::is_told;
 use std::alloc::Global;
 use std::test::Fail;
 use tree::{Attributes, Entry, OpenFlags, Outcome, Reply, Room};
@@ -34,7 +34,7 @@ static ERRORS: [(Errno, &str); 19] = [
 fn errors_are_named(alloc: Global) -> Result<(), Fail> {
     for (errno, wanted) in &ERRORS {
         let given = format!(in alloc; "{} {errno}", errno.number())?;
-        came(given.as_str(), wanted)?;
+        is_told(given.as_str(), wanted)?;
     }
     Ok(())
 }
@@ -42,7 +42,7 @@ fn errors_are_named(alloc: Global) -> Result<(), Fail> {
 /// A reply has this text.
 fn is_written(alloc: Global, reply: &Reply, wanted: &str) -> Result<(), Fail> {
     let shown = ReplyText(reply);
-    came(format!(in alloc; "{shown}")?.as_str(), wanted)
+    is_told(format!(in alloc; "{shown}")?.as_str(), wanted)
 }
 
 /// Replies that own nothing.
@@ -114,7 +114,7 @@ fn outcomes_and_flags(alloc: Global) -> Result<(), Fail> {
         OpenFlags::from_bits_retain(0xff).contains(OpenFlags::TRUNCATE),
         OpenFlags::from_bits_retain(0xc0).bits()
     )?;
-    came(given.as_str(), "cut ok 9 true 192")
+    is_told(given.as_str(), "cut ok 9 true 192")
 }
 
 #[test]

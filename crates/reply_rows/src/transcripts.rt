@@ -93,7 +93,8 @@ fn writes_a_death(rt: HostRuntime) -> Result<(), Fail> {
         MarkRef::Took(WHO, 100, &call, &root),
     ];
     let text =
-        b"started 1.1\nissue 1 read 4096 1024 to 1.1\nfault 1.1 exit\nstarted 1.2\nissue 1 read 4096 1024 to 1.2\nanswer 1 1024 from 1.2\nreply 0 inode 1 mode 0040755 links 2 uid 0 gid 0 size 128 times 50 50 50\nunanswered 0\n";
+        b"started 1.1\nissue 1 read 4096 1024 to 1.1\nfault 1.1 exit\nstarted 1.2\nissue 1 read 4096 1024 to 1.2\nanswer 1 1024 from 1.2\n\
+        reply 0 inode 1 mode 0040755 links 2 uid 0 gid 0 size 128 times 50 50 50\nunanswered 0\n";
     is_text(&rt, &written(rt.alloc(), &marks, 0)?, text);
     Ok(())
 }
@@ -118,7 +119,8 @@ fn writes_other_marks(rt: HostRuntime) -> Result<(), Fail> {
         MarkRef::Took(who, 100, &call, &refused),
     ];
     let text =
-        b"flush\nissue 12 write 4096 512 to 1.4294967295\nanswer 1 EIO from 1.2\nfault 1.2 complaint\nfault 1.3 hung\ngiven up\nreply 63 EIO\nunanswered 2\n";
+        b"flush\nissue 12 write 4096 512 to 1.4294967295\nanswer 1 EIO from 1.2\nfault 1.2 complaint\nfault 1.3 hung\n\
+        given up\nreply 63 EIO\nunanswered 2\n";
     is_text(&rt, &written(rt.alloc(), &marks, 2)?, text);
     Ok(())
 }

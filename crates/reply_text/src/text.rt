@@ -2,7 +2,8 @@
 
 ghost use Rattle.std.specs.Prelude.{Some, map};
 ghost use Rattle.tree.specs.Answers.{answer_of, entry_of};
-ghost use Rattle.reply_text.specs.Text.{answer_text, attributes_text, bytes_text, details_text, entry_text, free_text, hex_text, names_text, octal_text, outcome_text, owner_text, room_text, times_text};
+ghost use Rattle.reply_text.specs.Text.{answer_text, attributes_text, bytes_text, details_text, entry_text, free_text, hex_text};
+ghost use Rattle.reply_text.specs.Text.{names_text, octal_text, outcome_text, owner_text, room_text, times_text};
 
 use std::fmt;
 use tree::{Attributes, Entry, Outcome, Reply, Room};

@@ -9,16 +9,9 @@ use frame_samples::lists::{moved, started, told};
 use list_link::ListLink;
 use message::Incoming;
 use reissue::{Ask, BeginRefusal, Link, Settled, Transfers};
+use row_texts::row_is_told;
 use std::alloc::{AllocError, Global};
 use std::test::Fail;
-
-/// It is an error where a row of this number gives another text than it says.
-fn is_told(row: usize, text: &str, wanted: &str) -> Result<(), Fail> {
-    if text == wanted {
-        return Ok(());
-    }
-    Err(Fail::new(format_args!("row {row}: {text}")))
-}
 
 /// Transfers over a link that gives these messages.
 fn over(alloc: Global, messages: &[Incoming]) -> Result<Transfers<ListLink>, AllocError>
@@ -88,7 +81,7 @@ fn sixteen_are_pending(alloc: Global) -> Result<(), Fail> {
     let (new, old) = (begin(&mut all, 16), begin(&mut all, 0));
     let given = format!(in alloc; "{begun} {again:?} {sixteen} {new:?} {old:?}")?;
     let wanted = "1 Some(BlockPending) 16 Some(TableFull) Some(TableFull)";
-    is_told(0, given.as_str(), wanted)
+    row_is_told(0, given.as_str(), wanted)
 }
 
 /// A place of a block, and the byte that is read there.
@@ -136,7 +129,7 @@ fn a_rest_goes_on(alloc: Global) -> Result<(), Fail> {
     let mut transfers = over(alloc, &messages)?;
     let ticket = transfers.begin(&Ask::read(0, 16384, 4096));
     let settled = take(&mut transfers, 7);
-    is_told(1, told(alloc, transfers.link())?.as_str(), RESTS)?;
+    row_is_told(1, told(alloc, transfers.link())?.as_str(), RESTS)?;
     let (read, bytes) = match settled {
         Settled::Read(read, bytes) => (Some(read), bytes),
         _ => (None, [0; 4096]),
@@ -154,7 +147,7 @@ fn a_whole_write_again(alloc: Global) -> Result<(), Fail> {
     let ticket = transfers.begin(&Ask::write(0, 40960, 4096, &[49; 4096]));
     let settled = take(&mut transfers, 3);
     let lines = "write 1 40960 4096 49\nwrite 1 40960 4096 49\n";
-    is_told(2, told(alloc, transfers.link())?.as_str(), lines)?;
+    row_is_told(2, told(alloc, transfers.link())?.as_str(), lines)?;
     let written = match settled {
         Settled::Written(written) => Some(written),
         _ => None,

@@ -1,10 +1,10 @@
 //! When drivers are started and given up: the ticks are worked out by hand from the default policy.
-use crate::rows::came;
 use bdev::{BlockDriver, Driver};
 use endpoint::{DISK_DRIVER, Endpoint};
 use modeldisk::{Inner, ModelDriver, RamDriver, ScriptedDriver};
 use partition::Table;
 use reincarnate::{Action, Event, Policy, Reincarnation};
+use row_texts::step_is_told;
 use std::alloc::{AllocError, Global};
 use std::test::Fail;
 
@@ -72,7 +72,7 @@ fn answers<D: BlockDriver>(
 ) -> Result<(), Fail> {
     for (step, (happens, wanted)) in story.iter().enumerate() {
         let given = answer(alloc, reincarnation, happens)?;
-        came(row, step, given.as_str(), wanted)?;
+        step_is_told(row, step, given.as_str(), wanted)?;
     }
     Ok(())
 }
@@ -195,7 +195,7 @@ fn refusals(alloc: Global) -> Result<(), Fail> {
     };
     let refused = Reincarnation::new(alloc, no_cap, drivers(alloc, 0)?);
     let given = format!(in alloc; "{:?} {:?}", none.err(), refused.err())?;
-    came(7, 0, given.as_str(), "Some(NoDriver) Some(BadPolicy)")
+    step_is_told(7, 0, given.as_str(), "Some(NoDriver) Some(BadPolicy)")
 }
 
 /// It is an error where a row comes out otherwise.

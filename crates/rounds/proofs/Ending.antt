@@ -19,7 +19,7 @@ use Rattle.playing.specs.schedule.Calls.{taken}
 use Rattle.playing.specs.schedule.Headline.{Transcript, RepliesHold}
 use Rattle.playing.specs.run_log.Noted.{marks_in}
 use Rattle.playing.specs.driver_events.Scene.{Scene}
-use Rattle.playing.specs.declared.arrived.Arrived.{Arrived}
+use Rattle.playing.specs.arrivals.declared.arrived.Arrived.{Arrived}
 use Rattle.playing.specs.PlayView.{Play, PlayTrue, IsSpent, work_left}
 use Rattle.playing_laws.specs.Laws.{IsSound, MediaHeld}
 use Rattle.playing_laws.specs.Waiting.{arrival_of}

@@ -13,7 +13,7 @@ use Rattle.reissue.specs.marks.Acts.{Absorbed, told_of, marks_after, owed_after_
 use Rattle.file_server.specs.legal.ServerCall.{Serving, Serves, Outcome, Replied, Cut as WasCutOff}
 use Rattle.reissue.specs.Calls.{Truth}
 use Rattle.playing.specs.driver_events.Kept.{with_next}
-use Rattle.playing.specs.declared.arrived.Arrived.{Arrived}
+use Rattle.playing.specs.arrivals.declared.arrived.Arrived.{Arrived}
 use Rattle.playing.specs.PlayView.{Play, PlayTrue, GoesOn, Asides, HandsEvent, HandsNone, HandsOwed, HandsNothing, Answers, HandsOut, work_left}
 use Rattle.playing_laws.specs.Laws.{LeadsOn, IsToldOfEnd}
 use Rattle.playing_laws.specs.Waiting.{arrival_of, HasCalls}

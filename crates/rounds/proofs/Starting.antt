@@ -18,7 +18,7 @@ use Rattle.playing.specs.schedule.declared.Event.{Event}
 use Rattle.playing.specs.schedule.Groups.{schedule_of}
 use Rattle.playing.specs.schedule.Calls.{arrived, taken}
 use Rattle.playing.specs.run_log.Noted.{Noted, marks_in}
-use Rattle.playing.specs.declared.arrived.Arrived.{Arrived}
+use Rattle.playing.specs.arrivals.declared.arrived.Arrived.{Arrived}
 use Rattle.playing.specs.PlayView.{Play, GoesOn, work_left}
 use Rattle.playing_laws.specs.Laws.{IsSound, LeadsOn, IsToldOfEnd}
 use Rattle.playing_laws.specs.Waiting.{arrival_of, HasCalls}

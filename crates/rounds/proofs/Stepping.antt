@@ -13,7 +13,7 @@ use Rattle.reissue.specs.marks.Acts.{Act, Began, Absorbed, AtLink, Outbox, told_
 use Rattle.file_server.specs.legal.ServerCall.{Serving, Serves, Outcome, Rules}
 use Rattle.reissue.specs.Calls.{Truth}
 use Rattle.playing.specs.run_log.declared.log.Entry.TheVariants as entry
-use Rattle.playing.specs.declared.arrived.Arrived.{Arrived}
+use Rattle.playing.specs.arrivals.declared.arrived.Arrived.{Arrived}
 use Rattle.playing.specs.PlayView.{Play, noting, paid, PlaysNext, GoesOn, Asides, HandsEvent, HandsNone, HandsOwed, HandsOut}
 use Rattle.playing_laws.specs.Laws.{IsToldOfEnd}
 use Rattle.playing_laws.specs.Moments.{Doing, Resting, Hearing, Answering, Moment, record_of, Step, Settles, Brings, BringsNone, Pays, HandsCall, Replies, Runs, Starts, Then}

@@ -10,7 +10,7 @@ use Rattle.file_server.specs.legal.ServerCall.{Serving}
 use Rattle.reissue.specs.Calls.{Truth}
 use Rattle.playing.specs.driver_events.Kept.{with_next}
 use Rattle.playing.specs.schedule.Calls.{Arrival}
-use Rattle.playing.specs.declared.arrived.Arrived.{Arrived}
+use Rattle.playing.specs.arrivals.declared.arrived.Arrived.{Arrived}
 use Rattle.playing.specs.PlayView.{Play, IsSpent, Asides, Answers, work_left}
 use Rattle.playing_laws.specs.Laws.{LeadsOn, IsToldOfEnd}
 use Rattle.playing_laws.specs.Waiting.{HasCalls, arrival_of}

@@ -6,7 +6,7 @@ ghost use Rattle.reissue.specs.marks.Opening.{Opening};
 ghost use Rattle.tree.specs.Answers.{answer_of};
 ghost use Rattle.playing.specs.driver_events.Kept.{with_next};
 ghost use Rattle.playing.specs.PlayView.{Play, PlayTrue, GoesOn, Asides, HandsOut, Answers};
-ghost use Rattle.playing.specs.declared.arrived.Arrived.{Arrived as OfCall};
+ghost use Rattle.playing.specs.arrivals.declared.arrived.Arrived.{Arrived as OfCall};
 
 use inline::local::LocalDriver;
 use message::Incoming;
@@ -81,7 +81,8 @@ pub trait WorldLink: Played + Drop {
     /// A call was answered. An error: no memory was found, and nothing was noted.
     fn took(&mut self, arrived: Self::Waiting, reply: Reply) -> Result<(), AllocError>
         requires { (Self.Played.play self.old).over ≡ false }
-        ensures answers { Answers (Self.Played.play self.old) (Self.Waiting.Arrival.arrived arrived) reply result (Self.Played.play self.new) }
+        ensures answers { Answers (Self.Played.play self.old) (Self.Waiting.Arrival.arrived arrived) reply result
+            (Self.Played.play self.new) }
         ensures history { Self.Link.history self.new ≡ Self.Link.history self.old }
         ensures truth { (v : Opening) (marks : List Mark) → Self.Link.truth self.old v marks
             → let call = Self.Waiting.Arrival.arrived arrived in OnOk result (Self.Link.truth self.new v

@@ -18,8 +18,8 @@ const FIRST: Endpoint = Endpoint {
     generation: 1,
 };
 
-/// A whole run: the server, which was asked nothing yet, is handed the start of the first driver, which its link has noted, and then plays the
-/// schedule out; how many calls of those that arrived have no answer. An error: no memory was found.
+/// A whole run: the server, which was asked nothing yet, is handed the start of the first driver, which its link has noted, and then plays
+/// the schedule out; how many calls of those that arrived have no answer. An error: no memory was found.
 pub fn play_all<L: WorldLink, S: FileServer<L>>(server: &mut S) -> Result<u64, AllocError>
     requires ready { S.is_ready server.old }
     requires few { S.absorbed server.old + work_left (L.Played.play (S.line server.old)) + 1 < 2 ^ 48 }

@@ -1,11 +1,13 @@
 //! Turns between two calls, until nothing is left to do or a call is cut.
 
-ghost use Rattle.std.specs.Prelude.{◌≡◌, ◌⊎◌, ◌≤◌, ◌<◌, ◌+◌, ◌^◌, length, if◌then◌else◌, IfOk, IfSome, OnOk, OnErr, None, option_map, true, false};
+ghost use Rattle.std.specs.Prelude.{◌≡◌, ◌⊎◌, ◌≤◌, ◌<◌, ◌+◌, ◌^◌, length, if◌then◌else◌, IfOk, IfSome, OnOk, OnErr, None, option_map, true};
+ghost use Rattle.std.specs.Prelude.{false};
 ghost use Rattle.playing.specs.PlayView.{work_left, HandsOut, IsSpent};
 ghost use Rattle.playing_laws.specs.Moments.{Resting, Answering};
 ghost use Rattle.tree.specs.declared.Call.{Call};
 ghost use Rattle.playing_laws.specs.Laws.{IsSound};
-ghost use Rattle.rounds.specs.Runs.{RunsOn, Awaits, Notes, IsLive, IsIdle, IsNext, PlaysOne, AnswersTo, ComesTo, EndsAs, doing_of, doing_after};
+ghost use Rattle.rounds.specs.Runs.{RunsOn, Awaits, Notes, IsLive, IsIdle, IsNext, PlaysOne, AnswersTo, ComesTo, EndsAs, doing_of};
+ghost use Rattle.rounds.specs.Runs.{doing_after};
 ghost use Rattle.rounds.specs.Ends.{RunsOut};
 
 use crate::course::Course;
@@ -79,12 +81,15 @@ pub fn answer<L: WorldLink, S: FileServer<L>>(
 ) -> Result<Course, AllocError>
     requires ready { S.is_ready server.old }
     requires knows { S.knows (L.Waiting.Arrival.arrived arrived).call }
-    requires handed { IsLive (Answering (L.Waiting.Arrival.arrived arrived)) (S.Serve.serving server.old) (L.Played.play (S.line server.old)) }
+    requires handed { IsLive (Answering (L.Waiting.Arrival.arrived arrived)) (S.Serve.serving server.old)
+        (L.Played.play (S.line server.old)) }
     ensures ready { OnOk result (S.is_ready server.new) }
     ensures runs { IfOk result (λ c. RunsOn (S.Serve.serving server.old) (S.Serve.serving server.new)
         (L.Link.truth (S.line server.old)) (L.Link.truth (S.line server.new)) (L.Played.play (S.line server.old))
-        (L.Played.play (S.line server.new)) (Answering (L.Waiting.Arrival.arrived arrived)) (doing_after c (L.Waiting.Arrival.arrived arrived))) }
-    ensures course { IfOk result (λ c. AnswersTo c (L.Waiting.Arrival.arrived arrived) (S.Serve.serving server.new) (L.Played.play (S.line server.new))) }
+        (L.Played.play (S.line server.new)) (Answering (L.Waiting.Arrival.arrived arrived))
+        (doing_after c (L.Waiting.Arrival.arrived arrived))) }
+    ensures course { IfOk result (λ c. AnswersTo c (L.Waiting.Arrival.arrived arrived) (S.Serve.serving server.new)
+        (L.Played.play (S.line server.new))) }
     ensures absorbed { OnOk result (S.absorbed server.new ≡ S.absorbed server.old) }
     ensures starved { OnErr result ((L.Played.play (S.line server.new)).starved ≡ true) }
 {
@@ -107,8 +112,10 @@ fn next_call<L: WorldLink, S: FileServer<L>>(server: &mut S) -> Option<L::Waitin
     ensures runs { RunsOn (S.Serve.serving server.old) (S.Serve.serving server.new)
         (L.Link.truth (S.line server.old)) (L.Link.truth (S.line server.new)) (L.Played.play (S.line server.old))
         (L.Played.play (S.line server.new)) Resting (doing_of (option_map L.Waiting.Arrival.arrived result)) }
-    ensures hands { HandsOut (L.Played.play (S.line server.old)) (option_map L.Waiting.Arrival.arrived result) (L.Played.play (S.line server.new)) }
-    ensures live { IsLive (doing_of (option_map L.Waiting.Arrival.arrived result)) (S.Serve.serving server.new) (L.Played.play (S.line server.new)) }
+    ensures hands { HandsOut (L.Played.play (S.line server.old)) (option_map L.Waiting.Arrival.arrived result)
+        (L.Played.play (S.line server.new)) }
+    ensures live { IsLive (doing_of (option_map L.Waiting.Arrival.arrived result)) (S.Serve.serving server.new)
+        (L.Played.play (S.line server.new)) }
     ensures absorbed { S.absorbed server.new ≡ S.absorbed server.old }
 {
     server.link_mut().next_call()
@@ -190,8 +197,8 @@ fn unanswered_calls(cut: bool, waiting: u64) -> u64
 /// Plays a run out, from before its first event: how many calls of those that arrived have no answer. An error: no memory was found.
 ///
 /// Each event is played, in its order, and each call that arrives is begun, in its order, once the one before it was answered and what was
-/// owed was told, before the next event; the last one may be cut, where the link has ended. Then the replies are those of the file tree, and
-/// the media hold what the record says.
+/// owed was told, before the next event; the last one may be cut, where the link has ended. Then the replies are those of the file tree,
+/// and the media hold what the record says.
 pub fn play_out<L: WorldLink, S: FileServer<L>>(server: &mut S) -> Result<u64, AllocError>
     requires ready { S.is_ready server.old }
     requires few { S.absorbed server.old + work_left (L.Played.play (S.line server.old)) < 2 ^ 48 }

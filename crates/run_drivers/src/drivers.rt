@@ -1,6 +1,7 @@
 //! The media and the drivers of a run.
 
-ghost use Rattle.std.specs.Prelude.{◌≡◌, ◌≢◌, ◌↔◌, ◌⊎◌, ◌<◌, ◌≤◌, ◌+◌, IfSome, IfNone, IfOk, OnOk, OnErr, Err, length, true, false, vec_len, vec_capacity};
+ghost use Rattle.std.specs.Prelude.{◌≡◌, ◌≢◌, ◌↔◌, ◌⊎◌, ◌<◌, ◌≤◌, ◌+◌, IfSome, IfNone, IfOk, OnOk, OnErr, Err, length, true, false};
+ghost use Rattle.std.specs.Prelude.{vec_len, vec_capacity};
 ghost use Rattle.run_drivers.specs.Disks.{torn_media};
 
 use crate::moves::{send, step_unit};
@@ -117,7 +118,8 @@ impl<D: LocalDriver> Drivers<D> {
         Some(step)
     }
 
-    /// The driver of this generation dies, if it lives: whether one did. With bytes, the sector that the current one was writing is torn to them.
+    /// The driver of this generation dies, if it lives: whether one did. With bytes, the sector that the current one was writing is torn to
+    /// them.
     pub fn die(&mut self, generation: u32, bytes: Option<[u8; 512]>) -> bool
         ensures { Dies generation bytes (disks_of D.state self.old) result (disks_of D.state self.new) }
     {

@@ -14,7 +14,7 @@ type Faults = &'static [Option<(u32, FaultKind)>];
 /// The drivers' faults, a schedule, what is shown of it, and the status.
 type Row = (Faults, &'static str, &'static str, u8);
 
-const ROWS: [Row; 4] = [
+static ROWS: [Row; 4] = [
     // An error: the server complains, and asks the next driver.
     (
         &[Some((1, FaultKind::Error(Errno::EIO))), None],
@@ -118,14 +118,19 @@ fn boxed(alloc: Global, faults: Faults) -> Result<Vec<Driver>, AllocError> {
     Ok(supply)
 }
 
+/// A row comes out as it says on a new volume.
+fn comes_out(alloc: Global, image: &[u8], row: &Row) -> Result<(), Fail> {
+    let (faults, schedule, transcript, status) = *row;
+    let supply = boxed(alloc, faults)?;
+    let files = (Some(image), Some(schedule.as_bytes()));
+    says(alloc, files, &whole(), supply, (status, transcript, ""))
+}
+
 #[test]
 fn drivers_fail(rt: HostRuntime) -> Result<(), Fail> {
     let image = new_volume(rt.alloc(), 1024)?;
-    for (faults, schedule, transcript, status) in ROWS {
-        let files = (Some(image.as_slice()), Some(schedule.as_bytes()));
-        let supply = boxed(rt.alloc(), faults)?;
-        let wanted = (status, transcript, "");
-        says(&rt, rt.alloc(), files, &whole(), supply, wanted);
+    for row in &ROWS {
+        comes_out(rt.alloc(), &image, row)?;
     }
     Ok(())
 }

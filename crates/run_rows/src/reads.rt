@@ -293,13 +293,13 @@ unanswered 0
 fn the_root_is_read(rt: HostRuntime) -> Result<(), Fail> {
     let image = new_volume(rt.alloc(), 1024)?;
     for (schedule, transcript, status) in &ROWS {
-        shows(&rt, rt.alloc(), &image, schedule, transcript, *status)?;
+        shows(rt.alloc(), &image, schedule, transcript, *status)?;
     }
     Ok(())
 }
 
 /// How many lines are played, the ticks after them, which are one too few for the next start, and how many lines are shown until then.
-const EARLY: [(usize, usize, usize); 5] = [
+static EARLY: [(usize, usize, usize); 5] = [
     (2, 0, 3),
     (4, 1, 6),
     (7, 3, 9),
@@ -324,14 +324,20 @@ fn begun(
     Ok(begun)
 }
 
+/// A row comes out as it says.
+fn is_early(alloc: Global, image: &[u8], row: &(usize, usize, usize)) -> Result<(), Fail> {
+    let (lines, ticks, shown) = *row;
+    let schedule = begun(alloc, DEATHS, lines, "tick\n", ticks)?;
+    let transcript = begun(alloc, GIVEN_UP, shown, "unanswered 1\n", 1)?;
+    shows(alloc, image, &schedule, &transcript, 0)
+}
+
 /// A tick earlier the next driver isn't started.
 #[test]
 fn starts_are_backed_off(rt: HostRuntime) -> Result<(), Fail> {
     let image = new_volume(rt.alloc(), 1024)?;
-    for (lines, ticks, shown) in EARLY {
-        let schedule = begun(rt.alloc(), DEATHS, lines, "tick\n", ticks)?;
-        let transcript = begun(rt.alloc(), GIVEN_UP, shown, "unanswered 1\n", 1)?;
-        shows(&rt, rt.alloc(), &image, &schedule, &transcript, 0)?;
+    for row in &EARLY {
+        is_early(rt.alloc(), &image, row)?;
     }
     Ok(())
 }

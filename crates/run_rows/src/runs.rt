@@ -8,7 +8,6 @@ use simulation::inputs::File;
 use simulation::simulate::simulate;
 use simulation::world::World;
 use std::alloc::{AllocError, Global};
-use std::process::Abort;
 use std::str;
 use std::test::Fail;
 use supply::{drivers_for, table_in};
@@ -30,40 +29,41 @@ pub fn file<'n, 'b>(name: &'n str, bytes: Option<&'b [u8]>) -> File<'n, 'b> {
     File { name, bytes }
 }
 
-/// Looks at what was printed, and at the status.
-pub fn is_said(rt: &impl Abort, status: u8, out: &[u8], err: &[u8], wanted: Said<'_>) {
-    let said = (status, str::from_utf8(out).ok(), str::from_utf8(err).ok());
-    assert_eq!(rt; said, (wanted.0, Some(wanted.1), Some(wanted.2)));
+/// Looks at the status and at what was printed, and is an error where they are others.
+pub fn is_said(status: u8, out: &[u8], err: &[u8], wanted: Said<'_>) -> Result<(), Fail> {
+    if status == wanted.0 && out == wanted.1.as_bytes() && err == wanted.2.as_bytes() {
+        return Ok(());
+    }
+    let out = str::from_utf8(out).unwrap_or("no text");
+    let err = str::from_utf8(err).unwrap_or("no text");
+    Err(Fail::new(format_args!("status {status}, {err}, {out}")))
 }
 
 /// Looks at what the run of a schedule on an image says under a setup, with these drivers.
 pub fn says(
-    rt: &impl Abort,
     alloc: Global,
     files: (Option<&[u8]>, Option<&[u8]>),
     setup: &Setup,
     supply: Vec<Driver>,
     wanted: Said<'_>,
-) {
+) -> Result<(), Fail> {
     let (mut out, mut err) = (Vec::new(alloc), Vec::new(alloc));
     let (image, schedule) = (file("v.img", files.0), file("s.txt", files.1));
     let status = simulate(alloc, image, schedule, setup, supply, &mut out, &mut err);
-    is_said(rt, status.number(), &out, &err, wanted);
+    is_said(status.number(), &out, &err, wanted)
 }
 
 /// Looks at the transcript of a schedule on an image with six drivers under the default policy, and at the status.
 pub fn shows(
-    rt: &impl Abort,
     alloc: Global,
     image: &[u8],
     schedule: &str,
     transcript: &str,
     status: u8,
-) -> Result<(), AllocError> {
+) -> Result<(), Fail> {
     let supply = six(alloc, image)?;
     let files = (Some(image), Some(schedule.as_bytes()));
-    says(rt, alloc, files, &whole(), supply, (status, transcript, ""));
-    Ok(())
+    says(alloc, files, &whole(), supply, (status, transcript, ""))
 }
 
 /// The bytes of the media after a run of a schedule that was read, with six drivers under the default policy.

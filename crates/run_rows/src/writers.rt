@@ -5,7 +5,6 @@ use samples::{new_volume, whole};
 use simulation::simulate::simulate;
 use std::alloc::{AllocError, Global};
 use std::io::{self, ErrorKind, Write};
-use std::process::Abort;
 use std::test::Fail;
 
 /// A writer that takes up to 5 bytes at each of some calls, and fails at the next.
@@ -76,7 +75,7 @@ fn run_over(
 }
 
 /// A row comes out as it says.
-fn comes_out(rt: &impl Abort, alloc: Global, image: &[u8], row: &Row) -> Result<(), AllocError> {
+fn comes_out(alloc: Global, image: &[u8], row: &Row) -> Result<(), Fail> {
     let (calls, more, text, line, number) = *row;
     let mut out = Failing {
         calls,
@@ -87,15 +86,14 @@ fn comes_out(rt: &impl Abort, alloc: Global, image: &[u8], row: &Row) -> Result<
         taken: Vec::new(alloc),
     };
     let status = run_over(alloc, image, &mut out, &mut err)?;
-    is_said(rt, status, &out.taken, &err.taken, (number, text, line));
-    Ok(())
+    is_said(status, &out.taken, &err.taken, (number, text, line))
 }
 
 #[test]
 fn writers_fail(rt: HostRuntime) -> Result<(), Fail> {
     let image = new_volume(rt.alloc(), 1024)?;
     for row in &ROWS {
-        comes_out(&rt, rt.alloc(), &image, row)?;
+        comes_out(rt.alloc(), &image, row)?;
     }
     Ok(())
 }

@@ -3,13 +3,12 @@
 use crate::runs::{media_after, shows};
 use fsck::{Verdict, check};
 use samples::new_volume;
-use std::alloc::{AllocError, Global};
-use std::process::Abort;
+use std::alloc::Global;
 use std::test::Fail;
 
-/// Twenty pages are changed, and 25 blocks with what leads to them: under the setup's 64 frames nothing is written yet. The reads are those that
-/// making a file takes on a new volume of 64 blocks of 1024: the root's inode, both maps, and the root's entries. In which order a call reads
-/// what it needs is the server's own choice; so is it here, and nothing else is.
+/// Twenty pages are changed, and 25 blocks with what leads to them: under the setup's 64 frames nothing is written yet. The reads are those
+/// that making a file takes on a new volume of 64 blocks of 1024: the root's inode, both maps, and the root's entries. In which order a
+/// call reads what it needs is the server's own choice; so is it here, and nothing else is.
 const FILLED: &str = "\
 call 0 0 0 100 open /f rwc 644
 call 0 0 0 100 fill 0 20480 31
@@ -330,27 +329,25 @@ static SHOWN: [(&[&str], &str); 3] = [
 
 /// Looks at the transcript of a schedule in parts, on a volume of such blocks.
 fn parts_show(
-    rt: &impl Abort,
     alloc: Global,
     block: usize,
     schedule: &[&str],
     transcript: &[&str],
-) -> Result<(), AllocError> {
+) -> Result<(), Fail> {
     let image = new_volume(alloc, block)?;
     let schedule = schedule.concat(alloc)?;
     let transcript = transcript.concat(alloc)?;
-    shows(rt, alloc, &image, &schedule, &transcript, 0)
+    shows(alloc, &image, &schedule, &transcript, 0)
 }
 
 #[test]
 fn writes_are_shown(rt: HostRuntime) -> Result<(), Fail> {
     for (schedule, transcript) in &SHOWN {
-        parts_show(&rt, rt.alloc(), 1024, schedule, &[transcript])?;
+        parts_show(rt.alloc(), 1024, schedule, &[transcript])?;
     }
     let read = "aa".repeat(rt.alloc(), 2048)?;
     let transcript = [MENDING, "reply 0 bytes ", &read, "\nunanswered 0\n"];
-    parts_show(&rt, rt.alloc(), 2048, &[BEGUN, TORN, MENDED], &transcript)?;
-    Ok(())
+    parts_show(rt.alloc(), 2048, &[BEGUN, TORN, MENDED], &transcript)
 }
 
 /// From where to where the media are looked at, and which byte each is there; with none, as they were.

@@ -105,7 +105,8 @@ pub fn prepare_run<D: LocalDriver>(
     supply: &[D],
 ) -> Result<PreparedRun, RunRefusal>
     ensures refusal { IfErr result (IsNotBegun image.now setup.now (map D.state supply.now)) }
-    ensures begun { IfOk result (λ p. (tree : Tree) × IsBegun image.now setup.now (map D.state supply.now) (range_of p.range) p.clean.geometry tree) }
+    ensures begun { IfOk result (λ p. (tree : Tree) × IsBegun image.now setup.now (map D.state supply.now)
+        (range_of p.range) p.clean.geometry tree) }
     ensures contents { IfOk result (λ p. p.media ≡ opening_media (opening_of image.now setup.now.minor p.range)) }
     ensures sizes { IfOk result (λ p. IsGeometry p.clean.geometry) }
     ensures ready { IfOk result (λ p. All (IsReady (opening_of image.now setup.now.minor p.range)) (map D.state supply.now)) }

@@ -71,7 +71,8 @@ pub fn read_inputs<'n, 'b>(
     image: File<'n, 'b>,
     schedule: File<'n, 'b>,
 ) -> Result<(&'b [u8], Schedule<'b>), InputRefusal<'n>>
-    ensures ok { IfOk result (λ inputs. (image.entry.bytes ≡ Some inputs.0) × HasSchedule schedule.entry (map line_event inputs.1.lines.items)) }
+    ensures ok { IfOk result (λ inputs. (image.entry.bytes ≡ Some inputs.0)
+        × HasSchedule schedule.entry (map line_event inputs.1.lines.items)) }
     ensures err { IfErr result (IsNoInput image.entry schedule.entry) }
 {
     let image = readable(image)?;

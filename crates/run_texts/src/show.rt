@@ -55,7 +55,8 @@ impl fmt::Display for NotShown {
 
 /// Says on `err` why nothing was run.
 pub fn refuse<T: fmt::Display, E: Write>(alloc: Global, refusal: &T, err: &mut E) -> Status
-    ensures told { (told : Told) × (result ≡ Status.Refused told) × Tells (T.output refusal.now) told (E.contents err.old) (E.contents err.new) }
+    ensures told { (told : Told) × (result ≡ Status.Refused told) × Tells (T.output refusal.now) told (E.contents err.old)
+        (E.contents err.new) }
 {
     Status::Refused(tell(alloc, err, refusal))
 }

@@ -31,7 +31,8 @@ fn mark_names(
     seen: &mut [bool],
     waiting: &mut Vec<u32>,
 ) -> Result<(), AllocError>
-    ensures { OnOk result (GoesOn (names_in_of image.now.geometry (contents image.now) n) seen.old waiting.old.items seen.new waiting.new.items) }
+    ensures { OnOk result (GoesOn (names_in_of image.now.geometry (contents image.now) n) seen.old waiting.old.items seen.new
+        waiting.new.items) }
 {
     if !image.is_directory(n) {
         return Ok(());

@@ -3,8 +3,8 @@
 //! A run starts driver 1 at tick 0, opens the server, and plays the events one by one; a call plays events itself while it
 //! waits. A driver is live from its start until it dies or fails; a post to one that isn't is refused, and so is one to a line
 //! that holds 32. A start is taken by the server at once, and so is giving up, but for one that a complaint caused: that is
-//! taken by the call's next take, or right after the call or the message, always before the next event. After the last event nothing comes any
-//! more. An event that names nothing has no effect. The server finishes a call or issues a request only where it was handed
+//! taken by the call's next take, or right after the call or the message, always before the next event. After the last event nothing comes
+//! any more. An event that names nothing has no effect. The server finishes a call or issues a request only where it was handed
 //! something: a call, a flush, a reply, a start, or giving up.
 #![tactic(auto)]
 

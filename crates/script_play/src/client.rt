@@ -25,7 +25,8 @@ pub trait Client: Drop {
     /// comes once the link to the drivers has ended, leaves none.
     fn call(&mut self, now: u32, call: &Call<'_>) -> Outcome
         ensures goes_on { SessionGoesOn (state self.old) (state self.new) }
-        ensures mine { (state self.new).knows.mine ≡ call_made (caller_of (state self.old)) now call.now result (state self.old).knows.mine }
+        ensures mine { (state self.new).knows.mine ≡ call_made (caller_of (state self.old)) now call.now result
+            (state self.old).knows.mine }
         ensures vouched { vouches (state self.new).knows.seen };
 
     /// Two sessions of one service meet: both have then seen what either had seen.

@@ -23,8 +23,8 @@ pub struct Turn<'t, C: Client> {
     pub calls: Vec<TimedCall<'t>>,
 }
 
-/// Makes the calls of each session, one session after the other. Before its first call a session meets the one before it, which then ends. Gives
-/// what came of them, and the last session, which goes on.
+/// Makes the calls of each session, one session after the other. Before its first call a session meets the one before it, which then ends.
+/// Gives what came of them, and the last session, which goes on.
 ///
 /// From the first call of a session that is cut on all its calls are. Without memory for the outcomes of a session none of its calls is
 /// made, nor one of those after it.
@@ -33,7 +33,8 @@ pub fn play_in_turn<C: Client>(
     turns: VecDeque<Turn<'_, C>>,
 ) -> Result<(Vec<Played>, Option<C>), AllocError>
     requires { All (λ turn. IsUnplayed C.vouches (C.state turn.client)) turns.items }
-    ensures { IfOk result (λ came. ArePlayed C.vouches (map (asked C.state) turns.entry.items) came.0.items (seen_by (option_map C.state came.1))) }
+    ensures { IfOk result (λ came. ArePlayed C.vouches (map (asked C.state) turns.entry.items) came.0.items
+        (seen_by (option_map C.state came.1))) }
 {
     let mut played = Vec::new(alloc);
     let mut left = turns;
@@ -56,7 +57,8 @@ fn play_next<C: Client>(
 ) -> Result<(Played, C), AllocError>
     requires new { IsUnplayed C.vouches (C.state turn.client) }
     requires earlier { IsVouched C.vouches (option_map C.state earlier) }
-    ensures { IfOk result (λ came. IsTurn C.vouches (seen_by (option_map C.state earlier)) (asked C.state turn.entry) came.0 (C.state came.1)) }
+    ensures { IfOk result (λ came. IsTurn C.vouches (seen_by (option_map C.state earlier)) (asked C.state turn.entry) came.0
+        (C.state came.1)) }
 {
     let Turn { mut client, calls } = turn;
     follow(&mut client, earlier);
@@ -93,7 +95,8 @@ fn play_turn<C: Client>(
     Ok(Played { number, outcomes })
 }
 
-/// Makes these calls in a session, one after the other; from the first that is cut on all are. Without memory for the outcomes none is made.
+/// Makes these calls in a session, one after the other; from the first that is cut on all are. Without memory for the outcomes none is
+/// made.
 pub fn make_calls<C: Client>(
     alloc: Global,
     client: &mut C,

@@ -1,4 +1,5 @@
-//! What drivers of media in memory have in common: it moves the sectors of a request, one a step, in the order of an arm that sweeps over the disk.
+//! What drivers of media in memory have in common: it moves the sectors of a request, one a step, in the order of an arm that sweeps over
+//! the disk.
 //!
 //! It takes no memory once it is made.
 #![tactic(auto)]

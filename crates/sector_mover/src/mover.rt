@@ -214,7 +214,8 @@ impl Mover {
     fn transfer(&mut self, k: usize, at: u32, media: &mut Media, generation: u32) -> bool
         requires { k < 8 }
         ensures rest { self.new ≡ record self.old { got = self.new.got } }
-        ensures moved { TransfersIf result self.old.request.kind self.old.request.bytes self.old.got media.old generation at k self.new.got media.new }
+        ensures moved { TransfersIf result self.old.request.kind self.old.request.bytes self.old.got media.old generation at k self.new.got
+            media.new }
     {
         match self.request.kind {
             Kind::Read => match media.read_sector(generation, at) {

@@ -1,4 +1,5 @@
-//! Scripts played on a service that is started for them: a session for each, one after the other, and the image once the service was stopped.
+//! Scripts played on a service that is started for them: a session for each, one after the other, and the image once the service was
+//! stopped.
 #![tactic(auto)]
 
 pub mod players;

@@ -125,8 +125,8 @@ pub fn play_scripts<R: Wait + Copy, D: LocalDriver>(
     serve(alloc, rt, image, setup, supply, Open, players)
 }
 
-/// Plays scripts one after the other, each in a session of its own; all sessions are made before a call is. What came of them, and the last session,
-/// which goes on.
+/// Plays scripts one after the other, each in a session of its own; all sessions are made before a call is. What came of them, and the last
+/// session, which goes on.
 fn play_all<N: Room, R: Wait + Copy, L: Recorder<N>, S: FileServer<L>>(
     alloc: Global,
     service: &Service<N, Shared<N, R, L, S>>,

@@ -3,7 +3,6 @@ ghost use Rattle.std.specs.Prelude.{◌≡◌};
 ghost use Rattle.layout.specs.Places.{IsGeometry};
 ghost use Rattle.board.specs.View.{IsKeeper, opener};
 
-use crate::lines::is_told;
 use crate::services::asked_and_stopped;
 use crate::silent::Silent;
 use board::{Board, Seat};
@@ -12,6 +11,7 @@ use keeping::room::Room;
 use launch::opened::over;
 use layout::Geometry;
 use media::Media;
+use row_texts::is_told;
 use samples::new_volume;
 use std::alloc::{AllocError, Global};
 use std::marker::Brand;

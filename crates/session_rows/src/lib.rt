@@ -1,13 +1,11 @@
-//! Rows of a service's sessions: in turn, in two threads, given up, refused and ended, and of a service that is stopped. Each expected value
-//! is worked out by hand.
+//! Rows of a service's sessions: in turn, in two threads, given up, refused and ended, and of a service that is stopped. Each expected
+//! value is worked out by hand.
 #![tactic(auto)]
 
 #[cfg(test)]
 mod callers;
 #[cfg(test)]
 mod ended;
-#[cfg(test)]
-mod lines;
 #[cfg(test)]
 mod programs;
 #[cfg(test)]

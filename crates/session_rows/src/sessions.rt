@@ -1,8 +1,8 @@
 //! Sessions of one service: their replies, their numbers, and what they have seen; and services that are stopped.
 
-use crate::lines::is_told;
 use crate::programs::{What, served};
 use modeldisk::FaultKind;
+use row_texts::is_told;
 use samples::new_volume;
 use std::alloc::Global;
 use std::sync::Wait;

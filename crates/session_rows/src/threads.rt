@@ -9,7 +9,6 @@ ghost use Rattle.inline.specs.Inline.{IsReady};
 ghost use Rattle.board.specs.View.{IsKeeper, opener};
 ghost use Rattle.startup.specs.Starting.{opening_of, IsPrepared};
 
-use crate::lines::is_told;
 use crate::services::two_in_threads;
 use board::{Board, Seat};
 use counting_link::Noting;
@@ -21,6 +20,7 @@ use launch::opened::mounted;
 use launch::start::drivers_on;
 use policy::Setup;
 use reissue::link::TrueLink;
+use row_texts::is_told;
 use samples::{new_volume, supply_of, whole};
 use startup::{Prepared, prepare};
 use std::alloc::{AllocError, Global};

@@ -17,9 +17,9 @@ use world::{Transcript, World};
 /// Runs the schedule in a file on the image in another, and writes the transcript on `out`: a line for each mark, the oldest first, and
 /// last `unanswered N`.
 ///
-/// Faults are looked for in this order: reading the image, reading the schedule, its lines, and what the run is refused for. For the first of
-/// them a line goes to `err`, nothing is run and nothing goes out. Where the transcript can't be written, or no memory is found for it, a beginning
-/// of it went out, and a line on `err` says why.
+/// Faults are looked for in this order: reading the image, reading the schedule, its lines, and what the run is refused for. For the first
+/// of them a line goes to `err`, nothing is run and nothing goes out. Where the transcript can't be written, or no memory is found for it,
+/// a beginning of it went out, and a line on `err` says why.
 pub fn simulate<D: LocalDriver, W: Write, E: Write>(
     alloc: Global,
     image: File<'_, '_>,
@@ -69,7 +69,8 @@ fn show_run<D: LocalDriver, W: Write, E: Write>(
     out: &mut W,
     err: &mut E,
 ) -> Status
-    ensures { ShowsRun (transcript_of D.state transcript.now) result (W.contents out.old) (W.contents out.new) (E.contents err.old) (E.contents err.new) }
+    ensures { ShowsRun (transcript_of D.state transcript.now) result (W.contents out.old) (W.contents out.new) (E.contents err.old)
+        (E.contents err.new) }
 {
     match transcript.marks(alloc) {
         Ok(marks) => show(alloc, marks.as_slice(), transcript.unanswered, out, err),

@@ -182,7 +182,8 @@ impl<L: Link> Blocks for Stored<L> {
         self.cache.block_size()
     }
 
-    // Within its caller's code a frame is handed on in registers: by way of the stack it would wait for all bytes that were written before it.
+    // Within its caller's code a frame is handed on in registers: by way of the stack it would wait for all bytes that were written before
+    // it.
     #[inline(always)]
     fn fetch(&mut self, block: u32) -> Result<Frame, Cut> {
         match self.cache.fetch(block) {

@@ -49,7 +49,8 @@ fn table_for(sectors: &[[u8; 512]]) -> Table
     }
 }
 
-/// So many drivers and one more, each new, with the ranges of this table: in memory, or with an arm over the sectors that stands at sector 0.
+/// So many drivers and one more, each new, with the ranges of this table: in memory, or with an arm over the sectors that stands at sector
+/// 0.
 pub fn drivers_for(
     alloc: Global,
     spares: u8,

@@ -59,7 +59,8 @@ impl Status {
 pub struct Ended {
     /// How it ended.
     pub status: Status,
-    /// The bytes of the image as the media stand after the last sync, also where not all of the text was written; none where nothing was played.
+    /// The bytes of the image as the media stand after the last sync, also where not all of the text was written; none where nothing was
+    /// played.
     pub image: Option<Vec<u8>>,
 }
 
@@ -92,12 +93,13 @@ impl fmt::Display for PlayRefusal<'_> {
     }
 }
 
-/// Plays scripts one after the other, each in a session of its own of a service on the volume in an image, stops the service, and writes the
-/// answers on `out`: for each script a line with its session's number, as `session 0`, and then a line for each call.
+/// Plays scripts one after the other, each in a session of its own of a service on the volume in an image, stops the service, and writes
+/// the answers on `out`: for each script a line with its session's number, as `session 0`, and then a line for each call.
 ///
-/// Faults are looked for in this order: reading the image, reading the scripts in their order, their lines file by file, more than 64 scripts, the
-/// start of the service, its sessions, the image. For the first of them a line goes to `err`, nothing goes out, and no image is left. Where the
-/// answers can't be written, a line goes to `err` too, and the image is there all the same. The status says how that line went out.
+/// Faults are looked for in this order: reading the image, reading the scripts in their order, their lines file by file, more than 64
+/// scripts, the start of the service, its sessions, the image. For the first of them a line goes to `err`, nothing goes out, and no image
+/// is left. Where the answers can't be written, a line goes to `err` too, and the image is there all the same. The status says how that
+/// line went out.
 pub fn play<R: Wait + Copy, D: LocalDriver, W: Write, E: Write>(
     alloc: Global,
     rt: R,

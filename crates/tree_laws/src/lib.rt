@@ -2,7 +2,9 @@
 //! clients may rest on from call to call. Each law is the contract of a function that does nothing.
 #![tactic(auto)]
 
-ghost use Rattle.tree_laws.specs.Keeps.{ChmodKeeps, ChownKeeps, UtimeKeeps, SeekKeeps, ReadKeeps, DupKeeps, CloseKeeps, WriteKeeps, TruncateKeeps, UnlinkKeeps, LinkKeeps, MkdirKeeps, RmdirKeeps, OpenKeeps, RenameKeeps, EveryCallKeeps};
+ghost use Rattle.tree_laws.specs.Keeps.{ChmodKeeps, ChownKeeps, UtimeKeeps, SeekKeeps, ReadKeeps, DupKeeps, CloseKeeps, WriteKeeps};
+ghost use Rattle.tree_laws.specs.Keeps.{TruncateKeeps, UnlinkKeeps, LinkKeeps, MkdirKeeps, RmdirKeeps, OpenKeeps, RenameKeeps};
+ghost use Rattle.tree_laws.specs.Keeps.{EveryCallKeeps};
 ghost use Rattle.tree_laws.specs.Room.{EveryCallFits, TooBigIsRefused, FullIsRefused, EnospcMeans, FullMakesNone, OthersHaveRoom};
 ghost use Rattle.tree_laws.specs.Sessions.{OtherSessionsStay, RenameOfSameStays, ReaddirLists, ReadGivesWritten};
 ghost use Rattle.tree_laws.specs.Order.{LinkOrder, OpenOrder, FoundOrder, RenameOrder};

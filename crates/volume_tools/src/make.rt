@@ -77,8 +77,8 @@ pub struct Made {
 }
 
 /// Makes the image of a new volume, and writes on `out` a line with its first data zone, how many data zones it has and how many of
-/// them are free. Where it is refused, or the line can't be written, a line on `err` says why, and there is no image; how that line went out
-/// is handed back.
+/// them are free. Where it is refused, or the line can't be written, a line on `err` says why, and there is no image; how that line went
+/// out is handed back.
 pub fn make<W: Write, E: Write>(alloc: Global, wanted: &Wanted, out: &mut W, err: &mut E) -> Made
     ensures made { IfSome result.image (λ image. (result.status ≡ Status.Done) × (err.new ≡ err.old)
         × IsMade wanted.entry.now image.items (Appends (W.contents out.old) (W.contents out.new))) }
@@ -101,7 +101,8 @@ pub fn make<W: Write, E: Write>(alloc: Global, wanted: &Wanted, out: &mut W, err
 /// The image, once the line about it was written.
 fn try_make<W: Write>(alloc: Global, wanted: &Wanted, out: &mut W) -> Result<Vec<u8>, MakeRefusal>
     ensures made { IfOk result (λ image. IsMade wanted.entry.now image.items (Appends (W.contents out.old) (W.contents out.new))) }
-    ensures refused { IfErr result (λ refusal. IsUnmade wanted.entry.now refusal (out.new ≡ out.old) (AppendsPart (W.contents out.old) (W.contents out.new))) }
+    ensures refused { IfErr result (λ refusal. IsUnmade wanted.entry.now refusal (out.new ≡ out.old) (AppendsPart (W.contents out.old)
+        (W.contents out.new))) }
 {
     let image = match mkfs(
         alloc,
@@ -138,7 +139,8 @@ fn line_of(alloc: Global, first: u32, zones: u32, free: u32) -> Result<String, A
 /// How a making ended whose image was handed out: it was written under this name, or it wasn't, and then a line on `err` says so.
 pub fn finish<E: Write>(alloc: Global, name: &str, written: bool, err: &mut E) -> Status
     ensures written { OnTrue written ((result ≡ Status.Done) × (err.new ≡ err.old)) }
-    ensures unwritten { OnFalse written ((told : Told) × (result ≡ Status.Refused told) × Tells (Some (unwritten_text name.now)) told (E.contents err.old) (E.contents err.new)) }
+    ensures unwritten { OnFalse written ((told : Told) × (result ≡ Status.Refused told)
+        × Tells (Some (unwritten_text name.now)) told (E.contents err.old) (E.contents err.new)) }
 {
     if written {
         return Status::Done;

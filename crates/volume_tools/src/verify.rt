@@ -5,7 +5,8 @@ ghost use Rattle.std.specs.Io.KnownBytes.{Appends};
 ghost use Rattle.fsck.specs.volume.Verdict.{Verdict as OfVolume};
 ghost use Rattle.fsck.specs.Shown.{shown};
 ghost use Rattle.output.specs.Output.{AppendsPart, Tells};
-ghost use Rattle.volume_tools.specs.Verifying.{IsToldWhole, IsVerdictOn, IsUnverified, IsUntold, missing_text, partition_text, verdict_text, verified_as, verified_number, verify_text, volume_at};
+ghost use Rattle.volume_tools.specs.Verifying.{IsToldWhole, IsVerdictOn, IsUnverified, IsUntold, missing_text, partition_text};
+ghost use Rattle.volume_tools.specs.Verifying.{verdict_text, verified_as, verified_number, verify_text, volume_at};
 
 use fsck::{Verdict, check};
 use media::{MOST_BYTES, SECTOR};
@@ -130,9 +131,11 @@ fn try_verify<'n, W: Write>(
     minor: u8,
     out: &mut W,
 ) -> Result<Verified, VerifyRefusal<'n>>
-    ensures told { IfOk result (λ verified. IsToldWhole verified × ((verdict : OfVolume) × IsVerdictOn file.entry minor verdict × (verified ≡ verified_as verdict)
+    ensures told { IfOk result (λ verified. IsToldWhole verified × ((verdict : OfVolume) × IsVerdictOn file.entry minor verdict
+        × (verified ≡ verified_as verdict)
         × Appends (W.contents out.old) (W.contents out.new) (verdict_text verdict))) }
-    ensures refused { IfErr result (λ refusal. IsUntold file.entry name.entry minor refusal (out.new ≡ out.old) (AppendsPart (W.contents out.old) (W.contents out.new))) }
+    ensures refused { IfErr result (λ refusal. IsUntold file.entry name.entry minor refusal (out.new ≡ out.old)
+        (AppendsPart (W.contents out.old) (W.contents out.new))) }
 {
     let verdict = verdict_on(alloc, name, file, minor)?;
     let Ok(line) = line_of(alloc, &verdict) else {

@@ -29,8 +29,9 @@ use Rattle.justified_runs.specs.driver_events.declared.ruling.Ruling.TheVariants
 use Rattle.justified_runs.specs.driver_events.Ruling.{is_fault}
 use Rattle.justified_runs.specs.driver_events.run_drivers.Disks.{Disks, LinesUp, NoneIsThere, LineIsFull, IsLinedUp}
 use Rattle.justified_runs.specs.driver_events.Scene.{Scene, Plays, told_of_ruling, told_of_action, delivered, AfterStep, AfterDeath}
-use Rattle.justified_runs.specs.playing.declared.arrived.Arrived.{Arrived}
-use Rattle.justified_runs.specs.playing.PlayView.{Play, calls_of, PlaysNext, Advances, Stays, Goes, Turn, Takes, TakesOwed, TakesEnd, Posts, Complains, ComesToEnd, IsPlayedOut, IsStarved, HandsOut, noting, posted, ruling_at}
+use Rattle.justified_runs.specs.playing.arrivals.declared.arrived.Arrived.{Arrived}
+use Rattle.justified_runs.specs.playing.PlayView.{Play, PlaysNext, Advances, Stays, Goes, Turn, Takes, TakesOwed, TakesEnd, Posts, Complains, ComesToEnd, IsPlayedOut, IsStarved, HandsOut, noting, posted, ruling_at}
+use Rattle.justified_runs.specs.playing.arrivals.Calls.{calls_of}
 use Rattle.justified_runs.specs.playing_laws.Waiting.{HasCalls, arrival_of}
 use Rattle.justified_runs.specs.playing_laws.Moments.{Doing, Resting, Answering, is_busy, Moment, Step, Begins as StepBegins, Tells, Takes as StepTakes, Settles, Brings, BringsNone, Pays as StepPays, HandsCall, Replies as StepReplies, Runs, Starts, Then}
 use Rattle.justified_runs.specs.justifying.Core.{Core}

@@ -14,7 +14,7 @@ use Rattle.justified_runs.specs.schedule.Calls.{Arrival, arrived, taken}
 use Rattle.justified_runs.specs.run_log.Noted.{Noted, marks_in, grouped, with_mark}
 use Rattle.justified_runs.specs.run_log.declared.log.Entry.TheVariants as entry
 use Rattle.justified_runs.specs.driver_events.Scene.{Scene}
-use Rattle.justified_runs.specs.playing.declared.arrived.Arrived.{Arrived}
+use Rattle.justified_runs.specs.playing.arrivals.declared.arrived.Arrived.{Arrived}
 use Rattle.justified_runs.specs.playing.PlayView.{Play, IsOpened, first_noted, PlaysNext, Further, Still, HandsEvent, HandsNone, HandsOwed, noting, paid}
 use Rattle.justified_runs.specs.playing_laws.Waiting.{HasCalls, arrival_of}
 use Rattle.justified_runs.specs.playing_laws.Moments.{Doing, Resting, Answering, Moment, Step, Begins as StepBegins, Tells, Takes as StepTakes, Settles, Brings, BringsNone, Pays as StepPays, HandsCall, Replies as StepReplies}

@@ -23,7 +23,7 @@ use Rattle.justified_runs.specs.run_log.declared.log.Entry.TheVariants as entry
 use Rattle.justified_runs.specs.driver_events.Ruling.{is_fault}
 use Rattle.justified_runs.specs.driver_events.run_drivers.Disks.{Disks, is_at, LinesUp, NoneIsThere, LineIsFull, IsLinedUp}
 use Rattle.justified_runs.specs.driver_events.Scene.{Scene}
-use Rattle.justified_runs.specs.playing.declared.arrived.Arrived.{Arrived}
+use Rattle.justified_runs.specs.playing.arrivals.declared.arrived.Arrived.{Arrived}
 use Rattle.justified_runs.specs.playing.PlayView.{Play, PlaysNext, Advances, Stays, Goes, Turn, Takes, TakesOwed, TakesEnd, Posts, Complains, ComesToEnd, IsPlayedOut, IsStarved, noting, ruling_at}
 use Rattle.justified_runs.specs.playing_laws.Waiting.{HasCalls, arrival_of}
 use Rattle.justified_runs.specs.playing_laws.Moments.{Resting, Moment, record_of, Step, Begins as StepBegins, Tells, Takes as StepTakes, Settles, Brings, BringsNone, Pays as StepPays, HandsCall, Replies as StepReplies, Runs, Starts, Then, Needs}

@@ -9,7 +9,7 @@ use Rattle.justified_runs.specs.schedule.declared.Sent.{Sent}
 use Rattle.justified_runs.specs.schedule.declared.Event.{Event}
 use Rattle.justified_runs.specs.schedule.Groups.{Group, EachGroup}
 use Rattle.justified_runs.specs.schedule.Handed.{is_handed, is_told, acts_when_handed}
-use Rattle.justified_runs.specs.playing.declared.arrived.Arrived.{Arrived}
+use Rattle.justified_runs.specs.playing.arrivals.declared.arrived.Arrived.{Arrived}
 use Rattle.justified_runs.specs.playing.PlayView.{IsOpened}
 use Rattle.justified_runs.specs.playing_laws.Moments.{Doing, Resting, Moment, Runs}
 

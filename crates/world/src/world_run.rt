@@ -33,8 +33,8 @@ use schedule::Event;
 use std::alloc::{AllocError, Global};
 use stored::Stored;
 
-/// A server is opened over this link, which has noted the first start alone, and plays the schedule out: the server then, and how many calls
-/// have no answer. An error: no memory was found.
+/// A server is opened over this link, which has noted the first start alone, and plays the schedule out: the server then, and how many
+/// calls have no answer. An error: no memory was found.
 fn play_over<L: WorldLink>(
     alloc: Global,
     link: L,
@@ -69,9 +69,11 @@ fn link_of<'a, D: LocalDriver>(
     requires media { prepared.media.generation ≡ 0 }
     requires few { length events.now < 2 ^ 32 }
     ensures fresh { IfOk result (λ p. IsFresh events.now (length prepared.media.sectors) (play_of D.state p)) }
-    ensures opened { IfOk result (λ p. IsOpened prepared.media setup.now.policy (new_watch (length (map D.state supply.items))) (map D.state supply.items)
+    ensures opened { IfOk result (λ p. IsOpened prepared.media setup.now.policy (new_watch (length (map D.state supply.items)))
+        (map D.state supply.items)
         events.now (play_of D.state p)) }
-    ensures truth { IfOk result (λ p. (v : Opening) → IsOnMedia v → prepared.media ≡ opening_media v → All (IsReady v) (map D.state supply.items)
+    ensures truth { IfOk result (λ p. (v : Opening) → IsOnMedia v → prepared.media ≡ opening_media v
+        → All (IsReady v) (map D.state supply.items)
         → PlayTrue v (play_of D.state p).scene (Started (driver 1) ∷ [])) }
     ensures room { IfOk result (λ p. 33 ≤ room_in p.log) }
 {
@@ -97,8 +99,8 @@ impl World {
     /// 1 at tick 0, opens a server on the volume, with as many frames as the setup asks for, and plays the events.
     ///
     /// It is refused where the image makes no media; where there is no such partition; where the volume breaks a rule of the format; where
-    /// a number of the setup isn't in its range, or a driver isn't ready for the volume's sectors; and where there is no driver. The first of
-    /// these that holds is answered, and nothing was played. Where the image makes media, it may also be refused for want of memory.
+    /// a number of the setup isn't in its range, or a driver isn't ready for the volume's sectors; and where there is no driver. The first
+    /// of these that holds is answered, and nothing was played. Where the image makes media, it may also be refused for want of memory.
     pub fn run<'a, D: LocalDriver>(
         alloc: Global,
         image: &[u8],

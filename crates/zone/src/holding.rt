@@ -55,7 +55,8 @@ fn zone_at<B: Blocks>(
     requires on { IsOn B.world geometry.now blocks.old }
     requires level { level < 4 }
     ensures reads { Reads B.world blocks.old blocks.new (λ d. Ends result
-        (λ x. let v = pieces geometry.now d in x ≡ zone_at geometry.now v (v.inodes inode) level place) (IsTrue (is_inode geometry.now inode))) }
+        (λ x. let v = pieces geometry.now d in x ≡ zone_at geometry.now v (v.inodes inode) level place)
+        (IsTrue (is_inode geometry.now inode))) }
     ensures halt { IfErr result (λ h. IsHalt B.world blocks.new h) }
 {
     let loaded = load(blocks, geometry, inode)?;

@@ -12,7 +12,8 @@ ghost use Rattle.store.specs.Halts.{Ends, IsHalt};
 ghost use Rattle.store.specs.Volume.{IsOn, Alters};
 ghost use Rattle.zone_places.specs.Parts.{IsLastNumber};
 ghost use Rattle.zone.specs.Parts.{with_mark};
-ghost use Rattle.zone.specs.Steps.{MarksZone, TakesZone, HasRoom, HoldsSlot, MayHoldSlot, HoldsNumber, MayHoldNumber, DropsSlot, MayDropSlot, DropsNumber, MayDropNumber};
+ghost use Rattle.zone.specs.Steps.{MarksZone, TakesZone, HasRoom, HoldsSlot, MayHoldSlot, HoldsNumber, MayHoldNumber, DropsSlot};
+ghost use Rattle.zone.specs.Steps.{MayDropSlot, DropsNumber, MayDropNumber};
 
 use bitmap::{Map, clear, lowest_free, set};
 use layout::Geometry;
@@ -52,7 +53,8 @@ pub fn take<B: Blocks>(blocks: &mut B, geometry: &Geometry) -> Result<u32, Halt>
 pub fn give<B: Blocks>(blocks: &mut B, geometry: &Geometry, zone: u32) -> Result<(), Halt>
     requires on { IsOn B.world geometry.now blocks.old }
     ensures turns { Turns B.world blocks.old blocks.new (λ d e. Ends result
-        (λ x. Alters geometry.now (with_mark geometry.now (pieces geometry.now d) zone false) d e) (IsTrue (is_data_zone geometry.now zone))) }
+        (λ x. Alters geometry.now (with_mark geometry.now (pieces geometry.now d) zone false) d e)
+        (IsTrue (is_data_zone geometry.now zone))) }
     ensures unsound { IsErrOf result Halt.Unsound ↔ (is_data_zone geometry.now zone ≡ false) }
     ensures untouched { is_data_zone geometry.now zone ≡ false → blocks.new ≡ blocks.old }
     ensures halt { IfErr result (λ h. IsHalt B.world blocks.new h) }

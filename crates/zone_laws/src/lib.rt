@@ -2,10 +2,14 @@
 //! to the nodes and to the count of zones. A change is stated on the volume's pieces: no block is read or written here.
 #![tactic(auto)]
 
-ghost use Rattle.zone_laws.specs.Steps.{OnePlaceOfSlot, OnePlaceOfWord, SoundIsSoundBut, SoundButIsSound, FullAgain, Weaker, LinkKeeps, UnlinkKeeps, LinkedPageIsHeld, LinkKeepsFiles, UnlinkedPageIsHole, UnlinkKeepsFiles, NodesChangeAt, LinkMarksOne, UnlinkFreesOne, MarkedAsNeeded, NodesChangeWith};
-ghost use Rattle.zone_laws.specs.Raw.{FilledSlotLinks, FilledWordLinks, ClearedSlotUnlinks, ClearedWordUnlinks, PlacesStay, NumbersKeep, WriteKeepsNumbers, WrittenFile, WriteKeepsFiles, WriteKeeps, ResizedFile, ResizeKeeps};
+ghost use Rattle.zone_laws.specs.Steps.{OnePlaceOfSlot, OnePlaceOfWord, SoundIsSoundBut, SoundButIsSound, FullAgain, Weaker, LinkKeeps};
+ghost use Rattle.zone_laws.specs.Steps.{UnlinkKeeps, LinkedPageIsHeld, LinkKeepsFiles, UnlinkedPageIsHole, UnlinkKeepsFiles, NodesChangeAt};
+ghost use Rattle.zone_laws.specs.Steps.{LinkMarksOne, UnlinkFreesOne, MarkedAsNeeded, NodesChangeWith};
+ghost use Rattle.zone_laws.specs.Raw.{FilledSlotLinks, FilledWordLinks, ClearedSlotUnlinks, ClearedWordUnlinks, PlacesStay, NumbersKeep};
+ghost use Rattle.zone_laws.specs.Raw.{WriteKeepsNumbers, WrittenFile, WriteKeepsFiles, WriteKeeps, ResizedFile, ResizeKeeps};
 ghost use Rattle.zone_laws.specs.Missing.{PageTakesMissing};
-ghost use Rattle.zone_laws.specs.Composite.{AttachedInner, AttachesInner, AttachedOuter, AttachesOuter, DetachesInner, DetachesOuter, DetachesOn, UnlinkedAbove, AttachedNodes, DetachedNodes};
+ghost use Rattle.zone_laws.specs.Composite.{AttachedInner, AttachesInner, AttachedOuter, AttachesOuter, DetachesInner, DetachesOuter};
+ghost use Rattle.zone_laws.specs.Composite.{DetachesOn, UnlinkedAbove, AttachedNodes, DetachedNodes};
 ghost use Rattle.zone_laws.specs.Room.{NodesTakeMarked, PageHasRoom};
 ghost use Rattle.zone_laws.specs.Chunks.{ChunkIsWritten, WritesJoin};
 ghost use Rattle.zone_laws.specs.Inodes.{ChangeKeeps, ChangedNodes, NoSlotsNoPlaces, FourBytes};

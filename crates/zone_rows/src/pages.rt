@@ -1,11 +1,14 @@
 //! Pages and the zones that they take. A zone of 1024 bytes holds 256 numbers, so pages 0 to 6 are direct, 7 to 262 single, 263 to
 //! 65798 double, and the others triple; of 2048 bytes the last are 518 and 262662, of 4096 bytes 1030 and 1049606.
 
-use crate::calls::{Call, DONE, Step};
-use crate::images::{HOLE, HOLE_LARGE, HOLE_MIDDLE, LARGE, MIDDLE, Part, SMALL, Size, volume};
 use std::alloc::Global;
 use std::test::Fail;
 use store::Halt;
+use zone_samples::calls::{Call, DONE, Step};
+use zone_samples::images::{
+    HOLE, HOLE_LARGE, HOLE_MIDDLE, LARGE, MIDDLE, MIDDLE_PAGES, Part, SMALL, SMALL_PAGES, Size,
+    volume,
+};
 
 /// Pages, and how many zones they take.
 static TAKEN: [(&[u32], u32); 11] = [
@@ -22,30 +25,7 @@ static TAKEN: [(&[u32], u32); 11] = [
     (&[2097151], 4),
 ];
 
-/// A page, and how many zones it takes and gives back, where blocks have 1024 bytes.
-pub(crate) static SMALL_PAGES: [(u32, u32); 8] = [
-    (0, 1),
-    (6, 1),
-    (7, 2),
-    (262, 2),
-    (263, 3),
-    (65798, 3),
-    (65799, 4),
-    (2097151, 4),
-];
-
-/// The same of 2048 bytes.
-pub(crate) static MIDDLE_PAGES: [(u32, u32); 7] = [
-    (6, 1),
-    (7, 2),
-    (518, 2),
-    (519, 3),
-    (262662, 3),
-    (262663, 4),
-    (1048575, 4),
-];
-
-/// And of 4096 bytes.
+/// A page, and how many zones it takes and gives back, where blocks have 4096 bytes.
 static LARGE_PAGES: [(u32, u32); 7] = [
     (6, 1),
     (7, 2),

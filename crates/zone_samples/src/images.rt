@@ -9,11 +9,11 @@ use std::alloc::{AllocError, Global};
 use std::test::Fail;
 
 /// Bytes at a place of an image.
-pub(crate) type Part = (usize, &'static [u8]);
+pub type Part = (usize, &'static [u8]);
 
 /// How large a volume of 64 blocks with 32 inodes is.
 #[derive(Clone, Copy)]
-pub(crate) struct Size {
+pub struct Size {
     /// The bytes of its image.
     length: usize,
     /// Where its data zones begin.
@@ -23,45 +23,37 @@ pub(crate) struct Size {
 }
 
 /// With blocks of 1024 bytes: 58 data zones, from 6 on.
-pub(crate) const SMALL: Size = Size {
+pub const SMALL: Size = Size {
     length: 65536,
     zones: 6144,
     superblock: b"\x20\0\0\0\0\0\x01\0\x01\0\x06\0\0\0\0\0\xff\xff\xff\x7f\x40\0\0\0\x5a\x4d\0\0\0\x04\0",
 };
 
 /// With blocks of 2048 bytes: the table takes one block, so there is a data zone more.
-pub(crate) const MIDDLE: Size = Size {
+pub const MIDDLE: Size = Size {
     length: 131072,
     zones: 10240,
     superblock: b"\x20\0\0\0\0\0\x01\0\x01\0\x05\0\0\0\0\0\xff\xff\xff\x7f\x40\0\0\0\x5a\x4d\0\0\0\x08\0",
 };
 
 /// And with blocks of 4096 bytes.
-pub(crate) const LARGE: Size = Size {
+pub const LARGE: Size = Size {
     length: 262144,
     zones: 20480,
     superblock: b"\x20\0\0\0\0\0\x01\0\x01\0\x05\0\0\0\0\0\xff\xff\xff\x7f\x40\0\0\0\x5a\x4d\0\0\0\x10\0",
 };
 
 /// A volume of blocks of 1024 bytes whose inode 1 is an empty file. Number 0 is in both maps, inode 1 in the inode map.
-pub(crate) static EMPTY: [Part; 3] = [(2048, &[3]), (3072, &[1]), (4096, &[0xa4, 0x81, 1, 0])];
+pub static EMPTY: [Part; 3] = [(2048, &[3]), (3072, &[1]), (4096, &[0xa4, 0x81, 1, 0])];
 
 /// The same with blocks of 2048 bytes.
-pub(crate) static EMPTY_MIDDLE: [Part; 3] = [
-    (4096, &[3]),
-    (6144, &[1]),
-    (8192, &[0xa4, 0x81, 1, 0]),
-];
+pub static EMPTY_MIDDLE: [Part; 3] = [(4096, &[3]), (6144, &[1]), (8192, &[0xa4, 0x81, 1, 0])];
 
 /// And with blocks of 4096 bytes.
-pub(crate) static EMPTY_LARGE: [Part; 3] = [
-    (8192, &[3]),
-    (12288, &[1]),
-    (16384, &[0xa4, 0x81, 1, 0]),
-];
+pub static EMPTY_LARGE: [Part; 3] = [(8192, &[3]), (12288, &[1]), (16384, &[0xa4, 0x81, 1, 0])];
 
 /// A volume of blocks of 1024 bytes whose inode 1 is a file of the greatest size without a zone.
-pub(crate) static HOLE: [Part; 3] = [
+pub static HOLE: [Part; 3] = [
     (2048, &[3]),
     (3072, &[1]),
     (
@@ -71,7 +63,7 @@ pub(crate) static HOLE: [Part; 3] = [
 ];
 
 /// The same with blocks of 2048 bytes.
-pub(crate) static HOLE_MIDDLE: [Part; 3] = [
+pub static HOLE_MIDDLE: [Part; 3] = [
     (4096, &[3]),
     (6144, &[1]),
     (
@@ -81,13 +73,36 @@ pub(crate) static HOLE_MIDDLE: [Part; 3] = [
 ];
 
 /// And with blocks of 4096 bytes.
-pub(crate) static HOLE_LARGE: [Part; 3] = [
+pub static HOLE_LARGE: [Part; 3] = [
     (8192, &[3]),
     (12288, &[1]),
     (
         16384,
         &[0xa4, 0x81, 1, 0, 0, 0, 0, 0, 0xff, 0xff, 0xff, 0x7f],
     ),
+];
+
+/// A page, and how many zones it takes and gives back, where blocks have 1024 bytes.
+pub static SMALL_PAGES: [(u32, u32); 8] = [
+    (0, 1),
+    (6, 1),
+    (7, 2),
+    (262, 2),
+    (263, 3),
+    (65798, 3),
+    (65799, 4),
+    (2097151, 4),
+];
+
+/// The same of 2048 bytes.
+pub static MIDDLE_PAGES: [(u32, u32); 7] = [
+    (6, 1),
+    (7, 2),
+    (518, 2),
+    (519, 3),
+    (262662, 3),
+    (262663, 4),
+    (1048575, 4),
 ];
 
 /// Sets bytes from a place on.
@@ -99,7 +114,7 @@ fn put_bytes(image: &mut Vec<u8>, from: usize, bytes: &[u8]) {
 
 /// An image of this size with its superblock and these parts. Each other byte of its data zones is 0x5a, as if other files had lain there,
 /// and each other one before them 0.
-pub(crate) fn image(alloc: Global, size: Size, parts: &[Part]) -> Result<Vec<u8>, AllocError> {
+pub fn image(alloc: Global, size: Size, parts: &[Part]) -> Result<Vec<u8>, AllocError> {
     let mut image = vec![in alloc; 0u8; size.zones]?;
     image.resize(size.length, 0x5a)?;
     put_bytes(&mut image, 1024, size.superblock);
@@ -110,7 +125,7 @@ pub(crate) fn image(alloc: Global, size: Size, parts: &[Part]) -> Result<Vec<u8>
 }
 
 /// The sizes that an image's superblock has.
-pub(crate) fn sizes(image: &[u8]) -> Result<Geometry, LayoutRefusal>
+pub fn sizes(image: &[u8]) -> Result<Geometry, LayoutRefusal>
     ensures { IfOk result (λ geometry. IsGeometry geometry) }
 {
     match Geometry::parse(image) {
@@ -120,7 +135,7 @@ pub(crate) fn sizes(image: &[u8]) -> Result<Geometry, LayoutRefusal>
 }
 
 /// The volume in memory of this size with these parts.
-pub(crate) fn volume(alloc: Global, size: Size, parts: &[Part]) -> Result<Volume, Fail> {
+pub fn volume(alloc: Global, size: Size, parts: &[Part]) -> Result<Volume, Fail> {
     let image = image(alloc, size, parts)?;
     let geometry = sizes(&image)?;
     Ok(Volume::new(geometry, image))

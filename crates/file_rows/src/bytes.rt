@@ -1,9 +1,9 @@
 //! Writes of many pages at once.
 
-use crate::calls::{Call, DONE};
-use crate::images::{EMPTY, SMALL, volume};
 use std::test::Fail;
 use store::Halt;
+use zone_samples::calls::{Call, DONE};
+use zone_samples::images::{EMPTY, SMALL, volume};
 
 #[test]
 fn many_pages_at_once(rt: HostRuntime) -> Result<(), Fail> {

@@ -18,7 +18,7 @@ use zone::places::{lookup, lookup_row};
 
 /// A volume in memory.
 #[derive(Drop)]
-pub(crate) struct Volume {
+pub struct Volume {
     blocks: Memory,
     geometry: Geometry,
     ghost sizes: { IsGeometry geometry },
@@ -27,7 +27,7 @@ pub(crate) struct Volume {
 
 impl Volume {
     /// The volume of these sizes whose bytes the image has.
-    pub(crate) fn new(geometry: Geometry, image: Vec<u8>) -> Volume
+    pub fn new(geometry: Geometry, image: Vec<u8>) -> Volume
         requires { IsGeometry geometry }
     {
         Volume {
@@ -37,7 +37,7 @@ impl Volume {
     }
 
     /// Makes the calls of a row one after the other: each gives what stands beside it.
-    pub(crate) fn gives(&mut self, row: &str, number: u32, steps: &[Step]) -> Result<(), Fail> {
+    pub fn gives(&mut self, row: &str, number: u32, steps: &[Step]) -> Result<(), Fail> {
         for (step, (call, wanted)) in steps.iter().enumerate() {
             let got = self.call(call);
             if !is_wanted(got, *wanted) {

@@ -1,12 +1,15 @@
-//! Writes and sizes of files that are empty at first, in zones where other bytes stood, and zones that pages need. A zone of 1024 bytes holds 256
-//! numbers, so pages 0 to 6 are direct, 7 to 262 single, 263 to 65798 double, and the others triple; of 2048 bytes the last are 518 and
+//! Writes and sizes of files that are empty at first, in zones where other bytes stood, and zones that pages need. A zone of 1024 bytes
+//! holds 256 numbers, so pages 0 to 6 are direct, 7 to 262 single, 263 to 65798 double, and the others triple; of 2048 bytes the last are
+//! 518 and
 //! 262662, of 4096 bytes 1030 and 1049606.
 
-use crate::calls::{Call, DONE, Field, SIZE, Step};
-use crate::images::{EMPTY, EMPTY_LARGE, EMPTY_MIDDLE, LARGE, MIDDLE, Part, SMALL, Size, volume};
-use crate::pages::{MIDDLE_PAGES, SMALL_PAGES};
 use std::alloc::Global;
 use std::test::Fail;
+use zone_samples::calls::{Call, DONE, Field, SIZE, Step};
+use zone_samples::images::{
+    EMPTY, EMPTY_LARGE, EMPTY_MIDDLE, LARGE, MIDDLE, MIDDLE_PAGES, Part, SMALL, SMALL_PAGES, Size,
+    volume,
+};
 
 /// A page, and how many zones its bytes take, where blocks have 4096 bytes.
 static LARGE_PAGES: [(u32, u32); 5] = [(6, 1), (7, 2), (1030, 2), (1031, 3), (524287, 3)];

@@ -4,7 +4,7 @@ use store::Halt;
 
 /// A field of inode 1.
 #[derive(Clone, Copy)]
-pub(crate) enum Field {
+pub enum Field {
     Mode,
     Links,
     Size,
@@ -17,7 +17,7 @@ pub(crate) enum Field {
 
 /// A call on a volume. Where no inode is named it is inode 1.
 #[derive(Clone, Copy)]
-pub(crate) enum Call<'a> {
+pub enum Call<'a> {
     /// How many zones are free.
     Free,
     /// Attaches pages of an inode.
@@ -49,19 +49,19 @@ pub(crate) enum Call<'a> {
 }
 
 /// What a call gives: a number, which is 0 where it gives none; or none, where it isn't so, or can't be tried.
-pub(crate) type Answer = Result<Option<u32>, Halt>;
+pub type Answer = Result<Option<u32>, Halt>;
 
 /// A call, and the number or the halt that it is to give.
-pub(crate) type Step<'a> = (Call<'a>, Result<u32, Halt>);
+pub type Step<'a> = (Call<'a>, Result<u32, Halt>);
 
 /// How long the file is.
-pub(crate) const SIZE: Call<'static> = Call::Field(Field::Size);
+pub const SIZE: Call<'static> = Call::Field(Field::Size);
 
 /// It was done, or it is so.
-pub(crate) const DONE: Result<u32, Halt> = Ok(0);
+pub const DONE: Result<u32, Halt> = Ok(0);
 
 /// Whether a call gave what it was to give.
-pub(crate) fn is_wanted(got: Answer, wanted: Result<u32, Halt>) -> bool {
+pub fn is_wanted(got: Answer, wanted: Result<u32, Halt>) -> bool {
     match (got, wanted) {
         (Ok(Some(got)), Ok(wanted)) => got == wanted,
         (Err(got), Err(wanted)) => got == wanted,

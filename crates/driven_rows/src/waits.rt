@@ -1,12 +1,12 @@
 //! Drivers that fail under a link which waits between restarts: the ticks are worked out by hand from the restart policy.
 use crate::links::{Fault, link_to};
-use crate::rows::came;
 use driven::Driven;
 use frame_samples::lists::driver;
 use message::{BlockRequest, Incoming, Kind};
 use modeldisk::{FaultKind, ScriptedDriver};
 use policy::Policy;
 use reissue::link::Link;
+use row_texts::step_is_told;
 use std::alloc::{AllocError, Global};
 use std::test::Fail;
 
@@ -153,7 +153,7 @@ fn comes_out(alloc: Global, row: usize, told: &Row) -> Result<(), Fail> {
     let mut link = link_to(alloc, 1, 7, policy_with(*most), faults)?;
     for (step, (act, wanted)) in acts.iter().enumerate() {
         let given = does(alloc, &mut link, act)?;
-        came(row, step, given.as_str(), wanted)?;
+        step_is_told(row, step, given.as_str(), wanted)?;
     }
     Ok(())
 }

@@ -1,10 +1,29 @@
 //! What media and partition tables answer.
-use crate::drivers::{numbered, table_sector};
-use crate::rows::came;
 use media::{Media, MediaRefusal, SectorRefusal};
 use partition::{PartitionRefusal, parse};
+use row_texts::step_is_told;
 use std::alloc::{AllocError, Global};
 use std::test::Fail;
+
+/// Media of three sectors, whose k-th one holds 512 times the byte k.
+fn numbered(alloc: Global) -> Result<Media, MediaRefusal> {
+    let mut bytes = Vec::new(alloc);
+    for sector in 0..3u8 {
+        bytes.extend_from_slice(&[sector; 512])?;
+    }
+    Media::from_bytes(alloc, bytes.as_slice())
+}
+
+/// The first sector of a disk with one entry, of type 0x81, from sector 1 on for so many sectors.
+fn table_sector(count: u8) -> [u8; 512] {
+    let mut sector = [0; 512];
+    sector[450] = 0x81;
+    sector[454] = 1;
+    sector[458] = count;
+    sector[510] = 0x55;
+    sector[511] = 0xaa;
+    sector
+}
 
 /// So many zeros.
 fn zeros(alloc: Global, count: usize) -> Result<Vec<u8>, AllocError> {
@@ -17,7 +36,7 @@ fn partitions_are_within(alloc: Global) -> Result<(), Fail> {
     let refused = parse(&table_sector(129), 129).err();
     let (range, none) = (table.range(1), table.range(2));
     let given = format!(in alloc; "{range:?} {none:?} {:?} {refused:?}", table.kind(1))?;
-    came(
+    step_is_told(
         0,
         0,
         given.as_str(),
@@ -27,7 +46,7 @@ fn partitions_are_within(alloc: Global) -> Result<(), Fail> {
 
 /// A generation that was revoked moves nothing.
 fn generations_fence(alloc: Global) -> Result<(), Fail> {
-    let mut media = numbered(alloc, 3)?;
+    let mut media = numbered(alloc)?;
     let sectors = media.sectors();
     media.adopt(2);
     let revoked = media.write_sector(1, 999999, &[9; 512]);
@@ -36,7 +55,7 @@ fn generations_fence(alloc: Global) -> Result<(), Fail> {
     let wrote = media.write_sector(2, 0, &[9; 512]);
     let tore = media.tear(2, 2, &[8; 512]);
     let given = format!(in alloc; "{sectors} {revoked:?} {past:?} {wrote:?} {tore:?}")?;
-    came(
+    step_is_told(
         1,
         0,
         given.as_str(),
@@ -45,7 +64,7 @@ fn generations_fence(alloc: Global) -> Result<(), Fail> {
     let image = media.image(alloc)?;
     let (last, next, torn) = (image.get(511), image.get(512), image.get(1024));
     let given = format!(in alloc; "{} {last:?} {next:?} {torn:?}", image.len())?;
-    came(1, 1, given.as_str(), "1536 Some(9) Some(1) Some(8)")
+    step_is_told(1, 1, given.as_str(), "1536 Some(9) Some(1) Some(8)")
 }
 
 /// How many bytes of an image there are, and why they are refused, if they are.
@@ -66,7 +85,7 @@ fn images_are_refused(alloc: Global) -> Result<(), Fail> {
         };
         let refusal = Media::from_bytes(alloc, bytes).err();
         let given = format!(in alloc; "{refusal:?}")?;
-        came(2, step, given.as_str(), wanted)?;
+        step_is_told(2, step, given.as_str(), wanted)?;
     }
     Ok(())
 }
@@ -82,7 +101,7 @@ fn refusals(alloc: Global) -> Result<(), Fail> {
             + SectorRefusal::PastEnd.number()
             + PartitionRefusal::Overlap.number()
     )?;
-    came(3, 0, given.as_str(), "TooLarge PastEnd NoSignature 8")
+    step_is_told(3, 0, given.as_str(), "TooLarge PastEnd NoSignature 8")
 }
 
 #[test]

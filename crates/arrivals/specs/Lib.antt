@@ -1,0 +1,3 @@
+pub use Rattle.tree.specs as tree
+pub use Rattle.schedule.specs as schedule
+pub mod Calls
