@@ -46,8 +46,8 @@ pub trait Program<R: Wait + Copy>: Drop {
 
     ghost gives: { Self → Sizes → Opening → Self.Output → Type 0 };
 
-    /// Does it. What it doesn't stop ends with it.
-    fn run<N: Room, L: Recorder<N> + TrueLink + OnMedia, S: FileServer<L>>(
+    /// Does it, on one thread or on several: all of the service may go to another thread. What it doesn't stop ends with it.
+    fn run<N: Room + Send + Sync, L: Recorder<N> + TrueLink + OnMedia + Send, S: FileServer<L> + Send>(
         self,
         service: Service<N, Shared<N, R, L, S>>,
     ) -> Self::Output
@@ -77,7 +77,7 @@ pub fn drivers_on<D: LocalDriver>(
 }
 
 // Mounts the volume over this link, and runs a program over the service of it.
-fn run_over<N: Room, R: Wait + Copy, L: Recorder<N> + TrueLink + OnMedia, P: Program<R>>(
+fn run_over<N: Room + Send + Sync, R: Wait + Copy, L: Recorder<N> + TrueLink + OnMedia + Send, P: Program<R>>(
     alloc: Global,
     rt: R,
     board: Arc<Board>,
@@ -106,7 +106,7 @@ fn run_over<N: Room, R: Wait + Copy, L: Recorder<N> + TrueLink + OnMedia, P: Pro
 }
 
 // The caller picks `N` from what it hands over.
-fn start_and_run<N: Room, R: Wait + Copy, D: LocalDriver, G: Gate, P: Program<R>>(
+fn start_and_run<N: Room + Send + Sync, R: Wait + Copy, D: LocalDriver + Send, G: Gate, P: Program<R>>(
     alloc: Global,
     rt: R,
     board: Board,
@@ -153,7 +153,7 @@ fn start_and_run<N: Room, R: Wait + Copy, D: LocalDriver, G: Gate, P: Program<R>
 ///
 /// It is refused as `prepare` is, which is looked at first; and `Mount` as a mount is, by the volume as the drivers give it, or since
 /// the device was given up or the link to the drivers ended before all of it was read. Then nothing runs.
-pub fn serve<R: Wait + Copy, D: LocalDriver, G: Gate, P: Program<R>>(
+pub fn serve<R: Wait + Copy, D: LocalDriver + Send, G: Gate, P: Program<R>>(
     alloc: Global,
     rt: R,
     image: &[u8],
