@@ -10,11 +10,9 @@ mod moves;
 mod renamed;
 mod room;
 
-// passed on: a rename drops what it replaces
 pub use asked::{Asked, find_asked};
 pub use barred::why_barred;
 pub use laws::{found_is_asked, moves_that_fit};
 pub use moves::{a_move_takes_zones, moves_are_possible};
-pub use name_bodies;
 pub use renamed::rename;
 pub use room::has_room;

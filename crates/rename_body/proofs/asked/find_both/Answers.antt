@@ -2,7 +2,7 @@ use Rattle.std.proofs.Common.{◌≡◌, ◌∙◌, true, false, sym, subst, ref
 use Rattle.store.proofs.Turns.{reads_as, reads_then}
 use Rattle.store.proofs.Ending.{ends_exit}
 use Rattle.name_bodies.specs.Names.{MeansPlace}
-use Rattle.name_bodies.proofs.Linked.{reads_both}
+use Rattle.name_bodies.proofs.Both.{reads_both}
 use Rattle.rename_body.proofs.Finding.{both_found, its_number, new_not_walked, new_not_writable, old_missing, old_not_walked, old_not_writable}
 use Rattle.rename_body.proofs.asked.find_both.Goals as goal
 

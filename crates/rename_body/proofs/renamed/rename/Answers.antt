@@ -6,7 +6,7 @@ use Rattle.tree.specs.NameCalls.{is_same}
 use Rattle.descriptors.specs.Table.{files_of}
 use Rattle.store.proofs.Turns.{turns_as, turns_then}
 use Rattle.store.proofs.Ending.{ends_exit}
-use Rattle.name_bodies.proofs.Linked.{reads_both}
+use Rattle.name_bodies.proofs.Both.{reads_both}
 use Rattle.rename_body.specs.declared.asked.Asked.{Asked}
 use Rattle.rename_body.specs.Asked.{FindsAsked, IsNamed}
 use Rattle.rename_body.specs.Barred.{SaysBarred}

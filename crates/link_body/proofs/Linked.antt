@@ -33,22 +33,20 @@ use Rattle.store.specs.volume.Pieces.{Pieces, pieces}
 use Rattle.store.specs.volume.Nodes.{is_directory_mode, is_marked}
 use Rattle.store.specs.volume.Holds.{HoldsVolume}
 use Rattle.inode_table.proofs.volume_laws.Ranges.{marked_below}
-use Rattle.store.specs.World.{IsWorld, Reads, World}
-use Rattle.store.proofs.Turns.{reads_then}
 use Rattle.file_room.specs.zone_laws.Room.{taken_by}
 use Rattle.file_room.proofs.zone_laws.Inodes.{inode_is}
 use Rattle.walk.specs.entry_laws.Directories.{before}
 use Rattle.entries.specs.Names.{Inserts, IsOfDirectory, MayInsert}
-use Rattle.descriptors.specs.Files.{Files, HasFiles}
+use Rattle.bodies.specs.descriptors.Files.{Files, HasFiles}
 use Rattle.bodies.specs.Does.{Does, IsHeld, tree_in}
 use Rattle.bodies.proofs.Made.{granted_made, refused_made}
 use Rattle.node_steps.specs.Steps.{AddsLink, BecomesAt, MayAddLink, node_at}
-use Rattle.call_laws.specs.Naming.{named}
-use Rattle.call_laws.specs.Stands.{Stands}
-use Rattle.call_laws.proofs.Between.{holds_at_end, kind_is, node_stands, nothing_is_done, step_is_done}
-use Rattle.call_laws.proofs.Entering.{body_is, name_may_be_put, names_are, room_is_for_name}
-use Rattle.name_bodies.specs.declared.linking.Free.{Free}
-use Rattle.name_bodies.specs.Linking.{FindsFile, FindsFree, IsFree, IsLast, IsRoomFor, free_at, on_file, on_free}
+use Rattle.name_bodies.specs.call_laws.Naming.{named}
+use Rattle.name_bodies.specs.call_laws.Stands.{Stands}
+use Rattle.name_bodies.proofs.call_laws.Between.{holds_at_end, kind_is, node_stands, nothing_is_done, step_is_done}
+use Rattle.name_bodies.proofs.call_laws.Entering.{body_is, name_may_be_put, names_are, room_is_for_name}
+use Rattle.link_body.specs.declared.linking.Free.{Free}
+use Rattle.link_body.specs.Linking.{FindsFile, FindsFree, IsFree, IsLast, IsRoomFor, free_at, on_file, on_free}
 
 -- a last name is within its limit, and is a name
 pub name_of : (path : List ℕ) (parts : List Name) (name : Name) → All (λ b. b < 256) path → read_path path ≡ Ok parts → IsLast parts name → IsTrue (is_name name)
@@ -288,7 +286,3 @@ module _ (g : Geometry) (user : User) (now : ℕ) (old new : Bor (List ℕ)) (f 
                         (holds_at_end g d e (put (first t holds) x.directory (Some longer)) t (after t holds) ok holds (at_last t holds) refl (is_tree t holds))
                         (record { opened = files.opened; descriptors = files.descriptors });
                   }
-
--- two reads, of one disk
-pub reads_both : {B : Type 0} (w : World B) → IsWorld w → (a b c : B) (P Q : Disk → Type 0) → Reads w a b P → Reads w b c Q → Reads w a c (λ d. P d × Q d)
-reads_both w law a b c P Q x y = reads_then w law a b c P Q (λ d. P d × Q d) (λ d p q. (p, q)) x y

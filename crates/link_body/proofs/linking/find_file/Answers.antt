@@ -4,9 +4,9 @@ use Rattle.tree.specs.Tree.{most_links}
 use Rattle.store.specs.volume.Nodes.{is_directory_mode}
 use Rattle.store.proofs.Turns.{reads_then, turns_as}
 use Rattle.store.proofs.Ending.{ends_exit}
-use Rattle.name_bodies.specs.Linking.{FindsFile}
-use Rattle.name_bodies.proofs.Asking.{file_found, file_halted, file_has_links, file_is_directory, file_not_walked, number_of_file}
-use Rattle.name_bodies.proofs.linking.find_file.Goals as goal
+use Rattle.link_body.specs.Linking.{FindsFile}
+use Rattle.link_body.proofs.Asking.{file_found, file_halted, file_has_links, file_is_directory, file_not_walked, number_of_file}
+use Rattle.link_body.proofs.linking.find_file.Goals as goal
 
 pub returns-in-Err-Refused-clause-reads : goal.returns-in-Err-Refused-clause-reads
 returns-in-Err-Refused-clause-reads g c =

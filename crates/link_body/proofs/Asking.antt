@@ -31,9 +31,9 @@ use Rattle.walk.specs.Walking.{Walks}
 use Rattle.walk.specs.Places.{place_of}
 use Rattle.bodies.proofs.Made.{node_there}
 use Rattle.node_steps.specs.Steps.{node_at}
-use Rattle.call_laws.proofs.Between.{kind_is}
+use Rattle.name_bodies.proofs.call_laws.Between.{kind_is}
 use Rattle.name_bodies.specs.Names.{IsOfInode, IsVolume, MeansPlace}
-use Rattle.name_bodies.specs.Linking.{FindsFile, FindsFree, on_file, on_free}
+use Rattle.link_body.specs.Linking.{FindsFile, FindsFree, on_file, on_free}
 
 -- The file.
 abbrev to_file : (ℕ → Node → Effect) → ℕ → Node → Effect

@@ -16,8 +16,8 @@ use Rattle.store.specs.volume.Entries.{is_directory_inode}
 use Rattle.store.specs.volume.Holds.{HoldsVolume}
 use Rattle.walk.specs.entry_laws.Directories.{before}
 use Rattle.file_room.specs.file.file_pages.Changing.{MayChange}
-use Rattle.call_laws.specs.Naming.{IsRoomForEntry}
-use Rattle.name_bodies.specs.declared.linking.Free.{Free}
+use Rattle.name_bodies.specs.call_laws.Naming.{IsRoomForEntry}
+use Rattle.link_body.specs.declared.linking.Free.{Free}
 
 -- Link, from where the paths are read up to where it looks for the new place.
 abbrev pub on_file : Tree → User → List Name → (ℕ → Node → Effect) → Effect

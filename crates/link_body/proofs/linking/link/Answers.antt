@@ -6,11 +6,12 @@ use Rattle.tree.specs.Names.{is_name}
 use Rattle.tree.specs.Walk.{read_path}
 use Rattle.store.proofs.Turns.{turns_as, turns_none, turns_then}
 use Rattle.store.proofs.Ending.{ends_exit, turns_three}
-use Rattle.name_bodies.specs.declared.linking.Free.{Free}
-use Rattle.name_bodies.specs.Linking.{FindsFile, FindsFree, IsLast}
+use Rattle.link_body.specs.declared.linking.Free.{Free}
+use Rattle.link_body.specs.Linking.{FindsFile, FindsFree, IsLast}
+use Rattle.name_bodies.proofs.Both.{reads_both}
 use Rattle.name_bodies.proofs.Standing.{volume_of}
-use Rattle.name_bodies.proofs.Linked.{file_refused, is_number, linked, may_add, may_insert, name_of, name_short, new_refused, no_room, old_refused, place_refused, reads_both}
-use Rattle.name_bodies.proofs.linking.link.Goals as goal
+use Rattle.link_body.proofs.Linked.{file_refused, is_number, linked, may_add, may_insert, name_of, name_short, new_refused, no_room, old_refused, place_refused}
+use Rattle.link_body.proofs.linking.link.Goals as goal
 
 pub returns-in-Err-clause-turns : goal.returns-in-Err-clause-turns
 returns-in-Err-clause-turns g c =

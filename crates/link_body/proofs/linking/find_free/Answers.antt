@@ -3,8 +3,8 @@ use Rattle.std.specs.Prelude.{is_some}
 use Rattle.tree.specs.Walk.{has_last_name}
 use Rattle.store.proofs.Turns.{reads_as}
 use Rattle.name_bodies.specs.Names.{MeansPlace}
-use Rattle.name_bodies.proofs.Asking.{place_barred, place_found, place_not_walked, place_taken, place_unnamed}
-use Rattle.name_bodies.proofs.linking.find_free.Goals as goal
+use Rattle.link_body.proofs.Asking.{place_barred, place_found, place_not_walked, place_taken, place_unnamed}
+use Rattle.link_body.proofs.linking.find_free.Goals as goal
 
 pub returns-in-Err-clause-reads : goal.returns-in-Err-clause-reads
 returns-in-Err-clause-reads g c =
