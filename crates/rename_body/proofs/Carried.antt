@@ -18,7 +18,7 @@ use Rattle.moving.specs.Replaced.{MayDropReplaced, without_it}
 use Rattle.moving.specs.Whole.{MayMoveOver, MayMoveTo, MayMoveWithin, moved, moved_within}
 use Rattle.moving.proofs.Leading.{can_then, leads_then}
 use Rattle.rename_body.specs.MoveAsked.{IsAsked}
-use Rattle.rename_body.specs.declared.asked.Asked.{Asked}
+use Rattle.rename_asked.specs.declared.asked.Asked.{Asked}
 use Rattle.rename_body.specs.Elsewhere.{CanMove, IsElsewhere, TellsRoom}
 use Rattle.rename_body.proofs.Fitting.{fits_dropped, fits_within}
 use Rattle.rename_body.specs.Carrying.{IsReady, IsSomeReady, MayCarry, MayMoveAside, MayMoveOnto, SaysFits, carried, moved_onto}

@@ -27,8 +27,8 @@ use Rattle.store.specs.volume.Pieces.{pieces}
 use Rattle.store.specs.volume.Nodes.{node_of}
 use Rattle.store.specs.volume.Holds.{HoldsVolume}
 use Rattle.descriptors.specs.Files.{Files, HasFiles}
-use Rattle.bodies.specs.Does.{Does, IsHeld, tree_in}
-use Rattle.bodies.proofs.Made.{granted_made, looked_made, refused_made}
+use Rattle.rename_asked.specs.bodies.Does.{Does, IsHeld, tree_in}
+use Rattle.rename_asked.proofs.bodies.Made.{granted_made, looked_made, refused_made}
 use Rattle.moving.proofs.call_laws.Between.{holds_at_end, nothing_is_done}
 use Rattle.moving.specs.declared.moves.Move.{Move}
 use Rattle.moving.specs.Leads.{CanLead, Leads}
@@ -38,11 +38,11 @@ use Rattle.moving.proofs.Whole.{moved_is_moved}
 use Rattle.rename_body.specs.MoveAsked.{IsAsked}
 use Rattle.rename_body.proofs.Between.{open_stay}
 use Rattle.rename_body.proofs.Possible.{may_drop_other, may_move_in_directory, may_move_onto, may_move_where_it_fits}
-use Rattle.name_bodies.specs.Names.{IsVolume}
-use Rattle.rename_body.specs.declared.asked.Asked.{Asked}
-use Rattle.rename_body.specs.Asked.{AreFound, FindsAsked, IsNamed, Rest, moving_at, new_at, old_at, on_paths}
-use Rattle.rename_body.specs.Barred.{IsFound, MayMove, SaysBarred, Then, on_move, other_at}
-use Rattle.rename_body.proofs.Standing.{moving_kind}
+use Rattle.rename_asked.specs.name_bodies.Names.{IsVolume}
+use Rattle.rename_asked.specs.declared.asked.Asked.{Asked}
+use Rattle.rename_asked.specs.Asked.{AreFound, FindsAsked, IsNamed, Rest, moving_at, new_at, old_at, on_paths}
+use Rattle.rename_asked.specs.Barred.{IsFound, MayMove, SaysBarred, Then, on_move, other_at}
+use Rattle.rename_asked.proofs.Standing.{moving_kind}
 use Rattle.rename_body.proofs.Found.{found_is_asked}
 use Rattle.rename_body.specs.Carrying.{IsReady, IsSomeReady, MayCarry, SaysFits, carried, moved_onto}
 

@@ -3,8 +3,8 @@ use Rattle.store.proofs.Turns.{reads_as, reads_then}
 use Rattle.store.proofs.Ending.{ends_exit}
 use Rattle.name_bodies.specs.Names.{MeansPlace}
 use Rattle.name_bodies.proofs.Both.{reads_both}
-use Rattle.rename_body.proofs.Finding.{both_found, its_number, new_not_walked, new_not_writable, old_missing, old_not_walked, old_not_writable}
-use Rattle.rename_body.proofs.asked.find_both.Goals as goal
+use Rattle.rename_asked.proofs.Finding.{both_found, its_number, new_not_walked, new_not_writable, old_missing, old_not_walked, old_not_writable}
+use Rattle.rename_asked.proofs.asked.find_both.Goals as goal
 
 pub returns-in-Err-clause-reads : goal.returns-in-Err-clause-reads
 returns-in-Err-clause-reads g c =

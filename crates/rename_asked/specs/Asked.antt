@@ -15,7 +15,7 @@ use Rattle.store.specs.volume.Nodes.{directory_of, is_directory_mode, node_of}
 use Rattle.store.specs.volume.Entries.{is_directory_inode}
 use Rattle.store.specs.volume.Holds.{HoldsVolume}
 use Rattle.moving.specs.declared.moves.Move.{Move}
-use Rattle.rename_body.specs.declared.asked.Asked.{Asked}
+use Rattle.rename_asked.specs.declared.asked.Asked.{Asked}
 
 -- what a rename does with its places and the node that moves
 abbrev pub Rest : Type 0

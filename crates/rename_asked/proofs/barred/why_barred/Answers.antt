@@ -2,10 +2,10 @@ use Rattle.std.proofs.Common.{◌≡◌, ◌∙◌, true, false, sym, subst}
 use Rattle.descriptors.specs.Table.{files_of}
 use Rattle.store.proofs.Turns.{reads_as, reads_then}
 use Rattle.store.proofs.Ending.{ends_exit}
-use Rattle.rename_body.specs.Barred.{SaysInside}
-use Rattle.rename_body.proofs.Standing.{directory_held, number_held}
-use Rattle.rename_body.proofs.Barring.{at_free_name, at_taken_name, in_itself}
-use Rattle.rename_body.proofs.barred.why_barred.Goals as goal
+use Rattle.rename_asked.specs.Barred.{SaysInside}
+use Rattle.rename_asked.proofs.Standing.{directory_held, number_held}
+use Rattle.rename_asked.proofs.Barring.{at_free_name, at_taken_name, in_itself}
+use Rattle.rename_asked.proofs.barred.why_barred.Goals as goal
 
 pub returns-in_err-is_inside-clause-reads : goal.returns-in_err-is_inside-clause-reads
 returns-in_err-is_inside-clause-reads g c =

@@ -13,22 +13,22 @@ use Rattle.tree.specs.Tree.{Node, Tree}
 use Rattle.tree.specs.Refusals.{◌>>=◌, or_refuse, refuse_if}
 use Rattle.tree.specs.Walk.{Place, has_last_name, last_part, may_access, node_at, parent_walk, read_path, to_write}
 use Rattle.tree.specs.Answers.{Effect}
-use Rattle.last_page.proofs.tree_laws.PathNames.{last_is_name}
+use Rattle.bodies.proofs.tree_laws.PathNames.{last_is_name}
 use Rattle.store.specs.volume.declared.Inode.{Inode}
 use Rattle.store.specs.volume.Reading.{Disk, is_inode}
 use Rattle.store.specs.volume.Pieces.{Pieces, pieces}
 use Rattle.store.specs.volume.Nodes.{directory_of, is_directory_mode, is_marked, node_of}
 use Rattle.store.specs.volume.Holds.{HoldsVolume}
 use Rattle.store.specs.declared.Halt.{Halt}
-use Rattle.file_room.proofs.zone_laws.Inodes.{inode_is}
+use Rattle.ancestors.proofs.walk.zone_laws.Inodes.{inode_is}
 use Rattle.ancestors.specs.walk.declared.place.Place.{Place as Found}
 use Rattle.ancestors.specs.walk.Places.{place_of}
 use Rattle.ancestors.proofs.walk.Going.{has_entries}
 use Rattle.bodies.proofs.Made.{node_there}
 use Rattle.name_bodies.specs.Names.{IsOfInode, IsVolume, MeansPlace}
 use Rattle.moving.specs.declared.moves.Move.{Move}
-use Rattle.rename_body.specs.declared.asked.Asked.{Asked}
-use Rattle.rename_body.specs.Asked.{AreFound, FindsAsked, FindsBoth, IsBetween, IsNamed, Rest, on_paths, on_places}
+use Rattle.rename_asked.specs.declared.asked.Asked.{Asked}
+use Rattle.rename_asked.specs.Asked.{AreFound, FindsAsked, FindsBoth, IsBetween, IsNamed, Rest, on_paths, on_places}
 
 -- The steps of a rename.
 abbrev from_node : Tree → Rest → Place → Place → ℕ → Effect

@@ -4,8 +4,8 @@ use Rattle.std.specs.Prelude.{Ok, Err, IfOk}
 use Rattle.std.proofs.lemmas.List.Elements.{All-from_get_or}
 use Rattle.tree.specs.Walk.{has_last_name, read_path}
 use Rattle.store.proofs.Turns.{ends_as, reads_as, turns_as, turns_none}
-use Rattle.rename_body.proofs.Finding.{asked_as_found, named_in_asked, new_not_read, new_unnamed, old_not_read, old_unnamed}
-use Rattle.rename_body.proofs.asked.find_asked.Goals as goal
+use Rattle.rename_asked.proofs.Finding.{asked_as_found, named_in_asked, new_not_read, new_unnamed, old_not_read, old_unnamed}
+use Rattle.rename_asked.proofs.asked.find_asked.Goals as goal
 
 pub returns-in-Err-clause-reads : goal.returns-in-Err-clause-reads
 returns-in-Err-clause-reads g c =

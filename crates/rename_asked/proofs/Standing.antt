@@ -15,14 +15,14 @@ use Rattle.store.specs.volume.Reading.{Disk, is_inode}
 use Rattle.store.specs.volume.Pieces.{Pieces, pieces}
 use Rattle.store.specs.volume.Nodes.{is_directory_mode, is_marked, node_of}
 use Rattle.store.specs.volume.Holds.{HoldsVolume}
-use Rattle.file_room.proofs.zone_laws.Inodes.{inode_is}
+use Rattle.ancestors.proofs.walk.zone_laws.Inodes.{inode_is}
 use Rattle.ancestors.proofs.walk.Going.{has_entries}
 use Rattle.ancestors.specs.Within.{HoldsDirectory}
 use Rattle.bodies.proofs.Made.{node_there}
 use Rattle.moving.proofs.call_laws.Between.{kind_is, node_stands, nothing_is_done}
-use Rattle.rename_body.specs.declared.asked.Asked.{Asked}
-use Rattle.rename_body.specs.Asked.{AreFound, Rest, moving_at}
-use Rattle.rename_body.specs.Barred.{IsFound, other_at}
+use Rattle.rename_asked.specs.declared.asked.Asked.{Asked}
+use Rattle.rename_asked.specs.Asked.{AreFound, Rest, moving_at}
+use Rattle.rename_asked.specs.Barred.{IsFound, other_at}
 
 -- a directory has no names where its size is that of two entries
 no_names_by_size : (node : Node) (body : Body) (size : ℕ) → node.body ≡ body → is_dir node ≡ true → size ≡ size_of node.body → is_empty node ≡ (size == 128)

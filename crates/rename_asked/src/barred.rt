@@ -6,7 +6,7 @@ ghost use Rattle.store.specs.Halts.{Ends, IsHalt};
 ghost use Rattle.store.specs.Volume.{IsOn};
 ghost use Rattle.store.specs.World.{Reads};
 ghost use Rattle.ancestors.specs.Within.{HoldsDirectory};
-ghost use Rattle.rename_body.specs.Barred.{IsFound, SaysBarred, SaysInside, why_full, why_kept};
+ghost use Rattle.rename_asked.specs.Barred.{IsFound, SaysBarred, SaysInside, why_full, why_kept};
 
 use crate::asked::Asked;
 use ancestors::is_within;

@@ -20,10 +20,10 @@ use Rattle.descriptors.specs.Files.{Files, HasFiles, tree_with}
 use Rattle.moving.proofs.call_laws.Between.{kind_is}
 use Rattle.moving.proofs.call_laws.Ending.{open_by_files}
 use Rattle.moving.specs.declared.moves.Move.{Move}
-use Rattle.rename_body.specs.declared.asked.Asked.{Asked}
-use Rattle.rename_body.specs.Asked.{AreFound, Rest, moving_at, new_at, old_at}
-use Rattle.rename_body.specs.Barred.{MayMove, MayMoveOr, SaysBarred, SaysInside, Then, on_move, onto, other_at, why_full, why_kept}
-use Rattle.rename_body.proofs.Standing.{moving_kind, other_empty, other_low, other_there, to_is_dir}
+use Rattle.rename_asked.specs.declared.asked.Asked.{Asked}
+use Rattle.rename_asked.specs.Asked.{AreFound, Rest, moving_at, new_at, old_at}
+use Rattle.rename_asked.specs.Barred.{MayMove, MayMoveOr, SaysBarred, SaysInside, Then, on_move, onto, other_at, why_full, why_kept}
+use Rattle.rename_asked.proofs.Standing.{moving_kind, other_empty, other_low, other_there, to_is_dir}
 
 -- Whether it would lie in itself.
 pub file_inside : (g : Geometry) (d : Disk) (m : Move) → m.is_directory ≡ false → SaysInside g d m false

@@ -6,7 +6,7 @@ ghost use Rattle.store.specs.World.{Reads};
 ghost use Rattle.store.specs.Volume.{IsOn};
 ghost use Rattle.store.specs.Halts.{Ends, IsHalt};
 ghost use Rattle.name_bodies.specs.Names.{IsVolume};
-ghost use Rattle.rename_body.specs.Asked.{FindsAsked, FindsBoth, IsBetween, IsNamed};
+ghost use Rattle.rename_asked.specs.Asked.{FindsAsked, FindsBoth, IsBetween, IsNamed};
 
 use bodies::found::is_directory;
 use errno::Errno;

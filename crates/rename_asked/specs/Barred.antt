@@ -15,8 +15,8 @@ use Rattle.store.specs.volume.Nodes.{is_directory_mode, node_of}
 use Rattle.store.specs.volume.Holds.{Holds, HoldsVolume}
 use Rattle.descriptors.specs.Files.{Files, HasFiles, tree_with}
 use Rattle.moving.specs.declared.moves.Move.{Move}
-use Rattle.rename_body.specs.declared.asked.Asked.{Asked}
-use Rattle.rename_body.specs.Asked.{AreFound, Rest, moving_at, new_at, old_at}
+use Rattle.rename_asked.specs.declared.asked.Asked.{Asked}
+use Rattle.rename_asked.specs.Asked.{AreFound, Rest, moving_at, new_at, old_at}
 
 -- what a rename does once nothing stands against it, with the node that loses its name, if one does
 abbrev pub Then : Type 0

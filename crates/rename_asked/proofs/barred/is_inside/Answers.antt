@@ -1,6 +1,6 @@
 use Rattle.store.proofs.Turns.{ends_as, reads_as, reads_none}
-use Rattle.rename_body.proofs.Barring.{asked_inside, file_inside}
-use Rattle.rename_body.proofs.barred.is_inside.Goals as goal
+use Rattle.rename_asked.proofs.Barring.{asked_inside, file_inside}
+use Rattle.rename_asked.proofs.barred.is_inside.Goals as goal
 
 pub returns-then-not-what-clause-reads : goal.returns-then-not-what-clause-reads
 returns-then-not-what-clause-reads g c =
