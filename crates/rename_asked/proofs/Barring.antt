@@ -22,7 +22,7 @@ use Rattle.moving.proofs.call_laws.Ending.{open_by_files}
 use Rattle.moving.specs.declared.moves.Move.{Move}
 use Rattle.rename_asked.specs.declared.asked.Asked.{Asked}
 use Rattle.rename_asked.specs.Asked.{AreFound, Rest, moving_at, new_at, old_at}
-use Rattle.rename_asked.specs.Barred.{MayMove, MayMoveOr, SaysBarred, SaysInside, Then, on_move, onto, other_at, why_full, why_kept}
+use Rattle.rename_asked.specs.Barred.{MayMoveOr, SaysBarred, SaysInside, Then, on_move, onto, other_at, why_full, why_kept}
 use Rattle.rename_asked.proofs.Standing.{moving_kind, other_empty, other_low, other_there, to_is_dir}
 
 -- Whether it would lie in itself.

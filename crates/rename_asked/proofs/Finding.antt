@@ -17,7 +17,7 @@ use Rattle.bodies.proofs.tree_laws.PathNames.{last_is_name}
 use Rattle.store.specs.volume.declared.Inode.{Inode}
 use Rattle.store.specs.volume.Reading.{Disk, is_inode}
 use Rattle.store.specs.volume.Pieces.{Pieces, pieces}
-use Rattle.store.specs.volume.Nodes.{directory_of, is_directory_mode, is_marked, node_of}
+use Rattle.store.specs.volume.Nodes.{is_directory_mode, is_marked, node_of}
 use Rattle.store.specs.volume.Holds.{HoldsVolume}
 use Rattle.store.specs.declared.Halt.{Halt}
 use Rattle.ancestors.proofs.walk.zone_laws.Inodes.{inode_is}
@@ -28,7 +28,7 @@ use Rattle.bodies.proofs.Made.{node_there}
 use Rattle.name_bodies.specs.Names.{IsOfInode, IsVolume, MeansPlace}
 use Rattle.moving.specs.declared.moves.Move.{Move}
 use Rattle.rename_asked.specs.declared.asked.Asked.{Asked}
-use Rattle.rename_asked.specs.Asked.{AreFound, FindsAsked, FindsBoth, IsBetween, IsNamed, Rest, on_paths, on_places}
+use Rattle.rename_asked.specs.Asked.{FindsAsked, FindsBoth, IsBetween, IsNamed, Rest, on_paths, on_places}
 
 -- The steps of a rename.
 abbrev from_node : Tree → Rest → Place → Place → ℕ → Effect

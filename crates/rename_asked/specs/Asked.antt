@@ -1,5 +1,5 @@
 -- What a rename asks of its two paths.
-use Rattle.std.specs.Prelude.{◌≡◌, ◌||◌, ℕ, List, not, Bool, true, Option, Some, Result, Ok, Err, IsTrue}
+use Rattle.std.specs.Prelude.{◌≡◌, ◌||◌, ℕ, List, not, Some, Result, Ok, Err, IsTrue}
 use Rattle.errno.specs.declared.Errno.{Errno}
 use Rattle.errno.specs.declared.Errno.TheVariants.{EACCES, EINVAL, ENOENT}
 use Rattle.layout.specs.declared.Geometry.{Geometry}

@@ -1,6 +1,6 @@
-use Rattle.std.proofs.Common.{◌≡◌, ◌<◌, ◌∙◌, true, false, sym, subst, arith}
+use Rattle.std.proofs.Common.{◌≡◌, ◌<◌, ◌∙◌, true, false, sym, arith}
 use Rattle.std.specs.List.{All}
-use Rattle.std.specs.Prelude.{Ok, Err, IfOk}
+use Rattle.std.specs.Prelude.{Ok}
 use Rattle.std.proofs.lemmas.List.Elements.{All-from_get_or}
 use Rattle.tree.specs.Walk.{has_last_name, read_path}
 use Rattle.store.proofs.Turns.{ends_as, reads_as, turns_as, turns_none}

@@ -1,4 +1,4 @@
-use Rattle.std.proofs.Common.{◌≡◌, ◌∙◌, true, false, sym, subst, refl}
+use Rattle.std.proofs.Common.{true, false, subst}
 use Rattle.store.proofs.Turns.{reads_as, reads_then}
 use Rattle.store.proofs.Ending.{ends_exit}
 use Rattle.name_bodies.specs.Names.{MeansPlace}
