@@ -32,7 +32,7 @@ use Rattle.entries.specs.Removal.{Removes}
 use Rattle.store.specs.World.{IsWorld, Turns, World}
 use Rattle.store.proofs.Turns.{turns_then}
 use Rattle.store.proofs.Ending.{turns_three}
-use Rattle.file_room.proofs.zone_laws.Inodes.{inode_is}
+use Rattle.walk.proofs.zone_laws.Inodes.{inode_is}
 use Rattle.descriptors.specs.Files.{Files, HasFiles, tree_with}
 use Rattle.bodies.specs.Does.{Does, IsHeld, tree_in}
 use Rattle.bodies.proofs.Made.{granted_made, refused_made}

@@ -22,7 +22,7 @@ use Rattle.store.specs.volume.Holds.{Holds, HoldsVolume}
 use Rattle.store.specs.declared.Halt.{Halt}
 use Rattle.store.specs.declared.Halt.TheVariants as halt
 use Rattle.store.specs.Halts.{Ends}
-use Rattle.file_room.proofs.zone_laws.Inodes.{inode_is}
+use Rattle.walk.proofs.zone_laws.Inodes.{inode_is}
 use Rattle.walk.specs.declared.stop.Stop.{Stop}
 use Rattle.walk.specs.declared.stop.Stop.TheVariants as stop
 use Rattle.walk.specs.declared.place.Place.{Place as Found}

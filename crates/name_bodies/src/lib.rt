@@ -1,9 +1,8 @@
-//! The bodies of client calls on names: `link`, `unlink` and `rmdir`, over any blocks.
+//! The bodies of client calls that take a name away, `unlink` and `rmdir`, over any blocks, and the name at the end of a path. No memory is
+//! taken.
 #![tactic(auto)]
 
-mod linking;
 pub mod named;
 mod removing;
 
-pub use linking::link;
 pub use removing::{rmdir, unlink};

@@ -6,7 +6,6 @@ ghost use Rattle.store.specs.Volume.{IsOn};
 ghost use Rattle.store.specs.Halts.{IsHalt, Ends};
 ghost use Rattle.tree.specs.Tree.{Node};
 ghost use Rattle.tree.specs.Walk.{may_access, to_write};
-ghost use Rattle.store.specs.volume.Nodes.{is_directory_mode};
 ghost use Rattle.name_bodies.specs.Names.{FindsName, IsOfInode, IsVolume, MeansPlace};
 
 use errno::Errno;
@@ -27,13 +26,6 @@ pub(crate) struct Named<'a> {
     pub number: u32,
     /// And its inode.
     pub inode: Inode,
-}
-
-/// Whether an inode is a directory's.
-pub(crate) fn is_directory(inode: &Inode) -> bool
-    ensures { result ≡ is_directory_mode inode.now.mode }
-{
-    inode.mode / 4096 == 4
 }
 
 /// Whether a user may change the names of the directory of an inode.

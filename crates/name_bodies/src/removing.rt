@@ -11,7 +11,8 @@ ghost use Rattle.store.specs.Halts.{Ends, IsHalt};
 ghost use Rattle.bodies.specs.Does.{Meets};
 ghost use Rattle.name_bodies.specs.Names.{why_kept};
 
-use crate::named::{Named, find_name, is_directory};
+use crate::named::{Named, find_name};
+use bodies::found::is_directory;
 use descriptors::Descriptors;
 use entries::remove;
 use errno::Errno;

@@ -16,7 +16,7 @@ use Rattle.last_page.proofs.tree_laws.Totals.{one_for, one_for_itself, two_parts
 use Rattle.last_page.proofs.tree_laws.Shapes.{IsShape, kind_of, shape_of, total, weight}
 use Rattle.last_page.proofs.tree_laws.NewDirectory.{directory_inside}
 use Rattle.last_page.proofs.tree_laws.Pigeonhole.{never_above}
-use Rattle.inode_table.proofs.volume_laws.Entries.{same_by_cmp}
+use Rattle.rename_asked.proofs.volume_laws.Entries.{same_by_cmp}
 
 -- a name that is found among names is one
 pub found_is_name : (name : Name) (es : Names) → list_all (λ e. is_name e.0) es ≡ true → is_some (inode_of es name) ≡ true → is_name name ≡ true

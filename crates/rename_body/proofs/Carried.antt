@@ -6,7 +6,7 @@ use Rattle.std.proofs.lemmas.Bool.{and_parts, le-leb, leb-true}
 use Rattle.layout.specs.declared.Geometry.{Geometry}
 use Rattle.layout.specs.Places.{IsGeometry}
 use Rattle.tree.specs.Names.{Name, is_dots, is_name, most_name}
-use Rattle.tree.specs.Tree.{Node, Tree}
+use Rattle.tree.specs.Tree.{Tree}
 use Rattle.tree.specs.Space.{data_zones, zones_used}
 use Rattle.tree.proofs.Maps.{not_true}
 use Rattle.store.specs.volume.Reading.{Disk}
@@ -18,10 +18,10 @@ use Rattle.moving.specs.Replaced.{MayDropReplaced, without_it}
 use Rattle.moving.specs.Whole.{MayMoveOver, MayMoveTo, MayMoveWithin, moved, moved_within}
 use Rattle.moving.proofs.Leading.{can_then, leads_then}
 use Rattle.rename_body.specs.MoveAsked.{IsAsked}
-use Rattle.rename_body.specs.declared.asked.Asked.{Asked}
+use Rattle.rename_asked.specs.declared.asked.Asked.{Asked}
 use Rattle.rename_body.specs.Elsewhere.{CanMove, IsElsewhere, TellsRoom}
 use Rattle.rename_body.proofs.Fitting.{fits_dropped, fits_within}
-use Rattle.rename_body.specs.Carrying.{IsReady, IsSomeReady, MayCarry, MayMoveAside, MayMoveOnto, SaysFits, carried, moved_onto}
+use Rattle.rename_body.specs.Carrying.{IsReady, IsSomeReady, MayMoveAside, MayMoveOnto, SaysFits, carried, moved_onto}
 
 -- A name's length.
 within_name : (name : Name) → IsTrue (is_name name) → (nat_le 1 (length name) && nat_le (length name) most_name) ≡ true

@@ -23,8 +23,8 @@ use Rattle.last_page.proofs.tree_laws.Weights.{weigh_with_name, weigh_without_na
 use Rattle.store.specs.volume.Reading.{Disk}
 use Rattle.store.specs.volume.Pieces.{pieces}
 use Rattle.store.specs.volume.Holds.{HoldsVolume}
-use Rattle.inode_table.proofs.volume_laws.Entries.{same_by_cmp}
-use Rattle.inode_table.proofs.volume_laws.Sums.{count_most}
+use Rattle.rename_asked.proofs.volume_laws.Entries.{same_by_cmp}
+use Rattle.rename_asked.proofs.volume_laws.Sums.{count_most}
 use Rattle.file_room.specs.zone_laws.Room.{taken_by}
 use Rattle.file_room.specs.zone_laws.Steps.{marked_in}
 use Rattle.file_room.proofs.zone_laws.Room.{nodes_take_marked}

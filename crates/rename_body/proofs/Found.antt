@@ -10,7 +10,7 @@ use Rattle.store.specs.volume.Pieces.{Pieces, pieces}
 use Rattle.store.specs.volume.Nodes.{directory_of, file_of, is_directory_mode, node_of}
 use Rattle.store.specs.volume.Entries.{is_directory_inode}
 use Rattle.store.specs.volume.Holds.{HoldsVolume}
-use Rattle.ancestors.proofs.walk.Going.{has_entries}
+use Rattle.rename_asked.proofs.ancestors.walk.Going.{has_entries}
 use Rattle.rename_body.specs.Laws.{FoundIsAsked}
 
 -- the kind of a node is its mode's

@@ -1,7 +1,7 @@
 -- The call, from what is found to the tree after it.
-use Rattle.std.proofs.Common.{◌≡◌, ◌≢◌, ◌≤◌, ◌<◌, ◌^◌, ℕ, List, Bool, true, false, Option, Some, None, Ok, Err, refl, sym, ap, subst, ◌∙◌, arith}
+use Rattle.std.proofs.Common.{◌≡◌, ◌≤◌, ◌<◌, ◌^◌, ℕ, List, Bool, true, false, Option, Some, None, Ok, Err, refl, sym, ap, subst, ◌∙◌}
 use mathlib.Core.Logic.{inl, inr}
-use Rattle.std.specs.Prelude.{IsTrue, ◌&&◌, nat_le, nat_lt, option_map, if◌then◌else◌}
+use Rattle.std.specs.Prelude.{◌&&◌, nat_le, nat_lt, option_map, if◌then◌else◌}
 use Rattle.std.specs.Borrow.{Bor}
 use Rattle.std.specs.List.{All}
 use Rattle.std.proofs.lemmas.Bool.{cases_lt, le-leb, le-ltb, leb-true, lt-ltb}
@@ -27,8 +27,8 @@ use Rattle.store.specs.volume.Pieces.{pieces}
 use Rattle.store.specs.volume.Nodes.{node_of}
 use Rattle.store.specs.volume.Holds.{HoldsVolume}
 use Rattle.descriptors.specs.Files.{Files, HasFiles}
-use Rattle.bodies.specs.Does.{Does, IsHeld, tree_in}
-use Rattle.bodies.proofs.Made.{granted_made, looked_made, refused_made}
+use Rattle.rename_asked.specs.bodies.Does.{Does, IsHeld, tree_in}
+use Rattle.rename_asked.proofs.bodies.Made.{granted_made, looked_made, refused_made}
 use Rattle.moving.proofs.call_laws.Between.{holds_at_end, nothing_is_done}
 use Rattle.moving.specs.declared.moves.Move.{Move}
 use Rattle.moving.specs.Leads.{CanLead, Leads}
@@ -38,13 +38,13 @@ use Rattle.moving.proofs.Whole.{moved_is_moved}
 use Rattle.rename_body.specs.MoveAsked.{IsAsked}
 use Rattle.rename_body.proofs.Between.{open_stay}
 use Rattle.rename_body.proofs.Possible.{may_drop_other, may_move_in_directory, may_move_onto, may_move_where_it_fits}
-use Rattle.name_bodies.specs.Names.{IsVolume}
-use Rattle.rename_body.specs.declared.asked.Asked.{Asked}
-use Rattle.rename_body.specs.Asked.{AreFound, FindsAsked, IsNamed, Rest, moving_at, new_at, old_at, on_paths}
-use Rattle.rename_body.specs.Barred.{IsFound, MayMove, SaysBarred, Then, on_move, other_at}
-use Rattle.rename_body.proofs.Standing.{moving_kind}
+use Rattle.rename_asked.specs.name_bodies.Names.{IsVolume}
+use Rattle.rename_asked.specs.declared.asked.Asked.{Asked}
+use Rattle.rename_asked.specs.Asked.{FindsAsked, IsNamed, Rest, moving_at, new_at, old_at, on_paths}
+use Rattle.rename_asked.specs.Barred.{IsFound, MayMove, SaysBarred, Then, on_move, other_at}
+use Rattle.rename_asked.proofs.Standing.{moving_kind}
 use Rattle.rename_body.proofs.Found.{found_is_asked}
-use Rattle.rename_body.specs.Carrying.{IsReady, IsSomeReady, MayCarry, SaysFits, carried, moved_onto}
+use Rattle.rename_body.specs.Carrying.{IsReady, IsSomeReady, MayCarry, SaysFits, carried}
 
 -- what is open stays
 over_it : (now q parent : ℕ) (directory : Bool) (t u : Tree) → IsOver t u → IsOver t (without_it now q parent directory u)

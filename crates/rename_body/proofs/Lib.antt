@@ -1,10 +1,7 @@
-pub mod Finding
 pub mod Apart
 pub mod Between
 pub mod Possible
 pub mod Zones
-pub mod Standing
-pub mod Barring
 pub mod Fitting
 pub mod Found
 pub mod Telling

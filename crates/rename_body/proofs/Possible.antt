@@ -18,7 +18,7 @@ use Rattle.last_page.proofs.tree_laws.Shapes.{kind_of}
 use Rattle.last_page.proofs.tree_laws.Totals.{weigh_one}
 use Rattle.last_page.proofs.tree_laws.Views.{on_node_there}
 use Rattle.last_page.proofs.tree_laws.Weights.{weigh}
-use Rattle.inode_table.proofs.volume_laws.Entries.{same_by_cmp}
+use Rattle.rename_asked.proofs.volume_laws.Entries.{same_by_cmp}
 use Rattle.file_room.specs.zone_laws.Room.{taken_by}
 use Rattle.descriptors.specs.Files.{Files, HasFiles}
 use Rattle.moving.specs.declared.moves.Move.{Move}

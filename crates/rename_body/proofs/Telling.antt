@@ -19,7 +19,7 @@ use Rattle.moving.specs.call_laws.Stands.{NodeIs, Stands}
 use Rattle.moving.proofs.call_laws.Between.{node_stands, nothing_is_done}
 use Rattle.last_page.specs.Sizes.{zones_of_size}
 use Rattle.moving.specs.Whole.{moved}
-use Rattle.rename_body.specs.declared.asked.Asked.{Asked}
+use Rattle.rename_asked.specs.declared.asked.Asked.{Asked}
 use Rattle.rename_body.proofs.Apart.{size_fits}
 use Rattle.rename_body.proofs.Between.{out_other}
 use Rattle.rename_body.proofs.Possible.{may_move_where_it_fits}

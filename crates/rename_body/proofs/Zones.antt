@@ -16,7 +16,7 @@ use Rattle.last_page.proofs.tree_laws.Weights.{weigh_without_name}
 use Rattle.store.specs.volume.Reading.{Disk}
 use Rattle.store.specs.volume.Pieces.{Pieces, pieces}
 use Rattle.store.specs.volume.Holds.{HoldsVolume}
-use Rattle.ancestors.specs.entry_laws.Directories.{before}
+use Rattle.moving.specs.entries.entry_laws.Directories.{before}
 use Rattle.file_room.specs.file.file_pages.Changing.{file_at}
 use Rattle.file_room.specs.file.Changing.{written_at}
 use Rattle.file_room.specs.Room.{TakesMore}

@@ -11,7 +11,7 @@ use Rattle.moving.specs.declared.moves.Move.{Move}
 use Rattle.moving.specs.Whole.{MayMoveOver, MayMoveTo, MayMoveWithin, moved}
 use Rattle.moving.specs.Replaced.{MayDropReplaced, without_it}
 use Rattle.rename_body.specs.MoveAsked.{IsAsked}
-use Rattle.rename_body.specs.declared.asked.Asked.{Asked}
+use Rattle.rename_asked.specs.declared.asked.Asked.{Asked}
 
 -- the tree after a move over node q, and without what is left of that
 abbrev pub moved_onto : Move → ℕ → Tree → Tree

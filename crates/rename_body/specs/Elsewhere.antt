@@ -7,7 +7,7 @@ use Rattle.store.specs.volume.Reading.{Disk}
 use Rattle.store.specs.volume.Pieces.{pieces}
 use Rattle.store.specs.volume.Holds.{HoldsVolume}
 use Rattle.moving.specs.Whole.{moved}
-use Rattle.rename_body.specs.declared.asked.Asked.{Asked}
+use Rattle.rename_asked.specs.declared.asked.Asked.{Asked}
 use Rattle.rename_body.specs.MoveAsked.{IsAsked}
 
 -- A tree is held of which the move is asked, to a name that another directory hasn't, and the inodes are those of the two directories.

@@ -14,8 +14,8 @@ use Rattle.store.specs.volume.Holds.{HoldsVolume}
 use Rattle.moving.specs.declared.moves.Move.{Move}
 use Rattle.moving.specs.Replaced.{without_it}
 use Rattle.moving.specs.Whole.{moved, moved_within}
-use Rattle.rename_body.specs.declared.asked.Asked.{Asked}
-use Rattle.rename_body.specs.Asked.{AreFound, Rest, moving_at}
+use Rattle.rename_asked.specs.declared.asked.Asked.{Asked}
+use Rattle.rename_asked.specs.Asked.{AreFound, Rest, moving_at}
 use Rattle.rename_body.specs.MoveAsked.{IsAsked}
 
 -- the tree after a move within a directory

@@ -7,14 +7,14 @@ ghost use Rattle.store.specs.Volume.{IsOn};
 ghost use Rattle.store.specs.World.{Reads, Turns};
 ghost use Rattle.moving.specs.Leads.{Makes};
 ghost use Rattle.moving.specs.Whole.{moved};
-ghost use Rattle.rename_body.specs.Asked.{IsNamed};
+ghost use Rattle.rename_asked.specs.Asked.{IsNamed};
 ghost use Rattle.rename_body.specs.Carrying.{IsSomeReady, MayCarry, MayMoveAside, MayMoveOnto, SaysFits, carried, moved_onto};
 
-use crate::asked::Asked;
 use crate::room::has_room;
 use descriptors::Descriptors;
 use layout::Geometry;
 use moving::{Move, drop_replaced, move_over, move_to, move_within};
+use rename_asked::Asked;
 use store::{Blocks, Halt};
 
 /// Whether the tree after the move fits. Room is asked for a new name of another directory alone: no other move takes a zone more.

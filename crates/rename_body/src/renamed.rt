@@ -8,14 +8,13 @@ ghost use Rattle.descriptors.specs.Table.{files_of};
 ghost use Rattle.store.specs.World.{Turns};
 ghost use Rattle.store.specs.Volume.{IsOn};
 ghost use Rattle.store.specs.Halts.{IsHalt};
-ghost use Rattle.bodies.specs.Does.{Meets};
+ghost use Rattle.rename_asked.specs.bodies.Does.{Meets};
 
-use crate::asked::{Asked, find_asked};
-use crate::barred::why_barred;
 use crate::carrying::{carry, fits};
 use descriptors::Descriptors;
 use errno::Errno;
 use layout::Geometry;
+use rename_asked::{Asked, find_asked, why_barred};
 use store::{Blocks, Halt};
 use tree::{Reply, User};
 

@@ -6,11 +6,11 @@ ghost use Rattle.store.specs.Volume.{IsOn};
 ghost use Rattle.store.specs.World.{Reads};
 ghost use Rattle.rename_body.specs.Elsewhere.{CanMove, TellsRoom};
 
-use crate::asked::Asked;
 use bitmap::{Map, count_free};
 use file_room::zones_for;
 use last_page::let_go;
 use layout::Geometry;
+use rename_asked::Asked;
 use store::{Blocks, Halt};
 use tree::MAX_SIZE;
 

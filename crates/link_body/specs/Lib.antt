@@ -1,0 +1,2 @@
+-- The call that gives a file a name more.
+pub mod Linking
