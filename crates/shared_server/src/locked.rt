@@ -17,9 +17,10 @@ use board::Seat;
 use file_server::FileServer;
 use held_server::left_open::{is_cut, was_done};
 use held_server::refusal::SessionRefusal;
-use held_server::sharing::{admit, count_call, release, show};
+use held_server::sharing::{admit, release, show};
 use held_server::stopping::{StopRefusal, Stopped};
 use held_server::{OnMedia, Recorder, Room};
+use session_call::calling::make_call;
 use std::alloc::Global;
 use std::marker::{Model, PhantomData};
 use tree::{Call, Outcome, Who};
@@ -70,14 +71,7 @@ impl<N: Room, L: Recorder<N>, S: FileServer<L>> Locked<N, L, S> {
         ensures eio { (tree : Tree) → IsAtFirst N.geometry (contents_at N.opening) tree
             → IsEioOnceGivenUp result.0 seat.new.view.seen }
     {
-        let outcome = self.server.call(who, now, call);
-        match outcome {
-            Outcome::Reply(reply) => {
-                let count = count_call(&mut self.server, seat, who, now, call, &reply);
-                (Outcome::Reply(reply), count)
-            }
-            Outcome::Cut => (Outcome::Cut, show(&mut self.server, seat)),
-        }
+        make_call(&mut self.server, seat, who, now, call)
     }
 
     /// A seat for a new session, with the lowest number that is free: 1 TooMany where 64 are in use, 2 Stopped where a take gave End.

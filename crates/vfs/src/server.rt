@@ -1,18 +1,15 @@
-//! A file server: what is common to all calls.
+//! A file server of one volume, over blocks that have a cache.
 
 ghost use Rattle.std.specs.Prelude.{◌≡◌, ◌≢◌, ◌<◌, ◌+◌, ◌^◌, false};
-ghost use Rattle.server_laws.specs.Outcomes.{stopped};
 
-use call_bodies::body;
+use answering::answer;
 use descriptors::Descriptors;
-use errno::Errno;
 use layout::Geometry;
 use legal::Serve;
 use message::Incoming;
 use std::alloc::Global;
-use store::Cut;
 use stored::Caches;
-use tree::{Call, Outcome, Reply, Who};
+use tree::{Call, Outcome, Who};
 
 /// A file server of one volume, over blocks that have a cache, and the memory that it takes for answers of read and readdir.
 ///
@@ -26,16 +23,6 @@ pub struct Server<B> {
     pub(crate) opens: Descriptors,
     // How many messages it was handed between two calls.
     pub(crate) absorbed: u64,
-}
-
-/// What a call that is cut off gives back.
-fn stop(cut: Cut) -> Outcome
-    ensures { result ≡ stopped cut }
-{
-    match cut {
-        Cut::Eio => Outcome::Reply(Reply::Refused(Errno::EIO)),
-        Cut::LinkEnded => Outcome::Cut,
-    }
 }
 
 impl<B> Server<B> {
@@ -75,10 +62,7 @@ impl<B: Caches> Server<B> {
         ensures spends { Spends 0 (B.caching self.old.blocks) (B.caching self.new.blocks) }
         ensures absorbed { self.new.absorbed ≡ self.old.absorbed }
     {
-        if let Err(cut) = self.blocks.live() {
-            return stop(cut);
-        }
-        let reply = match body(
+        answer(
             self.alloc,
             &mut self.blocks,
             &mut self.opens,
@@ -86,15 +70,7 @@ impl<B: Caches> Server<B> {
             who,
             now,
             call,
-        ) {
-            Ok(reply) => reply,
-            Err(cut) => return stop(cut),
-        };
-        self.blocks.flush_wanted();
-        if let Err(cut) = self.blocks.live() {
-            return stop(cut);
-        }
-        Outcome::Reply(reply)
+        )
     }
 
     /// Takes a message between two calls, which the link has noted: a Flush is done at once, and so is one that a call which was cut left

@@ -4,15 +4,15 @@ use Rattle.board.specs.marks.Opening.{contents_at}
 use Rattle.board.specs.legal.Legal.{IsAtFirst}
 use Rattle.file_server.specs.Over.{outcome_of}
 use Rattle.held_server.proofs.HeldLaws.{cut_given, eio_after, eio_given, held_after, held_sound, held_guaranteed, session_answered, session_cut}
-use Rattle.shared_server.proofs.locked.Locked.call.Goals as goal
+use Rattle.session_call.proofs.calling.make_call.Goals as goal
 
-pub invariant_of-self : goal.invariant_of-self
-invariant_of-self g c =
+pub returns-in-Reply-clause-held : goal.returns-in-Reply-clause-held
+returns-in-Reply-clause-held g c =
     held_after
     g.N.Room g.L.Link g.S.Serve.serving g.S.FileServer.line g.S.FileServer.is_ready g.S.FileServer.knows
     g.L.Supplied.runs_on g.L.Recorder.marks
     c.args.who c.args.now c.args.call.now (outcome_of c.call-outcome.result)
-    c.self.inside.server c.call-outcome.new.self c.count_call-count.new.server
+    c.args.server.now c.call-outcome.new.self c.count_call-count.new.server
     (record {
       tells = g.met.S.FileServer.tells;
       is_record = λ l older truth. g.met.L.Recorder.is_record l g.N.Room.opening older truth;
@@ -26,15 +26,15 @@ invariant_of-self g c =
       same = c.count_call-count.ensures.same;
       counted = λ older truth. rw c.in-Reply.is (c.count_call-count.ensures.truth g.N.Room.opening older truth);
     })
-    c.self.invariant
+    c.requires.held
 
-pub invariant_of-self-in-Cut : goal.invariant_of-self-in-Cut
-invariant_of-self-in-Cut g c =
+pub returns-in-Cut-clause-held : goal.returns-in-Cut-clause-held
+returns-in-Cut-clause-held g c =
     held_after
     g.N.Room g.L.Link g.S.Serve.serving g.S.FileServer.line g.S.FileServer.is_ready g.S.FileServer.knows
     g.L.Supplied.runs_on g.L.Recorder.marks
     c.args.who c.args.now c.args.call.now (outcome_of c.call-outcome.result)
-    c.self.inside.server c.call-outcome.new.self c.show.new.server
+    c.args.server.now c.call-outcome.new.self c.show.new.server
     (record {
       tells = g.met.S.FileServer.tells;
       is_record = λ l older truth. g.met.L.Recorder.is_record l g.N.Room.opening older truth;
@@ -48,7 +48,7 @@ invariant_of-self-in-Cut g c =
       same = c.show.ensures.same;
       counted = λ older truth. rw c.in-Cut.is (c.show.ensures.truth g.N.Room.opening older truth);
     })
-    c.self.invariant
+    c.requires.held
 
 pub returns-in-Reply-clause-call : goal.returns-in-Reply-clause-call
 returns-in-Reply-clause-call g c =
@@ -58,19 +58,19 @@ returns-in-Reply-clause-call g c =
     g.L.Supplied.runs_on g.L.Recorder.marks
     c.count_call-count.new.server (g.L.Recorder.marks (g.S.FileServer.line c.call-outcome.new.self))
     c.args.who c.args.now c.args.call.now (answer_of c.in-Reply.reply) c.args.seat.now.view c.count_call-count.new.caller.view
-    (invariant_of-self g c) c.requires.seat.1 e.session e.seen e.marks e.mine
+    (returns-in-Reply-clause-held g c) c.requires.seat.1 e.session e.seen e.marks e.mine
 
 pub returns-in-Reply-clause-sound : goal.returns-in-Reply-clause-sound
 returns-in-Reply-clause-sound g c = held_sound
     g.N.Room g.L.Link g.S.Serve.serving g.S.FileServer.line g.S.FileServer.is_ready g.S.FileServer.knows
     g.L.Supplied.runs_on g.L.Recorder.marks
-    c.count_call-count.new.server c.count_call-count.new.caller.view.seen c.count_call-count.ensures.seen (invariant_of-self g c)
+    c.count_call-count.new.server c.count_call-count.new.caller.view.seen c.count_call-count.ensures.seen (returns-in-Reply-clause-held g c)
 
 pub returns-in-Reply-clause-guaranteed : goal.returns-in-Reply-clause-guaranteed
 returns-in-Reply-clause-guaranteed g c = held_guaranteed
     g.N.Room g.L.Link g.S.Serve.serving g.S.FileServer.line g.S.FileServer.is_ready g.S.FileServer.knows
     g.L.Supplied.runs_on g.L.Recorder.marks
-    c.count_call-count.new.server c.count_call-count.new.caller.view.seen c.count_call-count.ensures.seen (invariant_of-self g c)
+    c.count_call-count.new.server c.count_call-count.new.caller.view.seen c.count_call-count.ensures.seen (returns-in-Reply-clause-held g c)
 
 pub returns-in-Reply-clause-cut : goal.returns-in-Reply-clause-cut
 returns-in-Reply-clause-cut g c =
@@ -78,7 +78,7 @@ returns-in-Reply-clause-cut g c =
     g.N.Room g.L.Link g.S.Serve.serving g.S.FileServer.line g.S.FileServer.is_ready g.S.FileServer.knows
     g.L.Supplied.runs_on g.L.Recorder.marks
     c.args.who c.args.now c.args.call.now c.call-outcome.result _
-    c.self.inside.server c.call-outcome.new.self c.count_call-count.new.server c.in-Reply.is
+    c.args.server.now c.call-outcome.new.self c.count_call-count.new.server c.in-Reply.is
     (record {
       tells = g.met.S.FileServer.tells;
       is_record = λ l older truth. g.met.L.Recorder.is_record l g.N.Room.opening older truth;
@@ -92,7 +92,7 @@ returns-in-Reply-clause-cut g c =
       same = c.count_call-count.ensures.same;
       counted = λ older truth. rw c.in-Reply.is (c.count_call-count.ensures.truth g.N.Room.opening older truth);
     })
-    c.self.invariant
+    c.requires.held
 
 pub returns-in-Reply-clause-eio : goal.returns-in-Reply-clause-eio
 returns-in-Reply-clause-eio g c =
@@ -101,7 +101,7 @@ returns-in-Reply-clause-eio g c =
     g.N.Room g.L.Link g.S.Serve.serving g.S.FileServer.line g.S.FileServer.is_ready g.S.FileServer.knows
     g.L.Supplied.runs_on g.L.Recorder.marks
     c.args.who c.args.now c.args.call.now c.call-outcome.result
-    c.self.inside.server c.call-outcome.new.self c.count_call-count.new.server c.count_call-count.new.caller.view.seen c.count_call-count.ensures.seen
+    c.args.server.now c.call-outcome.new.self c.count_call-count.new.server c.count_call-count.new.caller.view.seen c.count_call-count.ensures.seen
     (record {
       tells = g.met.S.FileServer.tells;
       is_record = λ l older truth. g.met.L.Recorder.is_record l g.N.Room.opening older truth;
@@ -115,7 +115,7 @@ returns-in-Reply-clause-eio g c =
       same = c.count_call-count.ensures.same;
       counted = λ older truth. rw c.in-Reply.is (c.count_call-count.ensures.truth g.N.Room.opening older truth);
     })
-    c.self.invariant)
+    c.requires.held)
 
 pub returns-in-Cut-clause-call : goal.returns-in-Cut-clause-call
 returns-in-Cut-clause-call g c =
@@ -125,19 +125,19 @@ returns-in-Cut-clause-call g c =
     g.L.Supplied.runs_on g.L.Recorder.marks
     c.show.new.server
     c.args.who c.args.now c.args.call.now c.args.seat.now.view c.show.new.caller.view
-    (invariant_of-self-in-Cut g c) c.requires.seat.1 e.session e.seen e.mine
+    (returns-in-Cut-clause-held g c) c.requires.seat.1 e.session e.seen e.mine
 
 pub returns-in-Cut-clause-sound : goal.returns-in-Cut-clause-sound
 returns-in-Cut-clause-sound g c = held_sound
     g.N.Room g.L.Link g.S.Serve.serving g.S.FileServer.line g.S.FileServer.is_ready g.S.FileServer.knows
     g.L.Supplied.runs_on g.L.Recorder.marks
-    c.show.new.server c.show.new.caller.view.seen c.show.ensures.seen (invariant_of-self-in-Cut g c)
+    c.show.new.server c.show.new.caller.view.seen c.show.ensures.seen (returns-in-Cut-clause-held g c)
 
 pub returns-in-Cut-clause-guaranteed : goal.returns-in-Cut-clause-guaranteed
 returns-in-Cut-clause-guaranteed g c = held_guaranteed
     g.N.Room g.L.Link g.S.Serve.serving g.S.FileServer.line g.S.FileServer.is_ready g.S.FileServer.knows
     g.L.Supplied.runs_on g.L.Recorder.marks
-    c.show.new.server c.show.new.caller.view.seen c.show.ensures.seen (invariant_of-self-in-Cut g c)
+    c.show.new.server c.show.new.caller.view.seen c.show.ensures.seen (returns-in-Cut-clause-held g c)
 
 pub returns-in-Cut-clause-cut : goal.returns-in-Cut-clause-cut
 returns-in-Cut-clause-cut g c =
@@ -145,7 +145,7 @@ returns-in-Cut-clause-cut g c =
     g.N.Room g.L.Link g.S.Serve.serving g.S.FileServer.line g.S.FileServer.is_ready g.S.FileServer.knows
     g.L.Supplied.runs_on g.L.Recorder.marks
     c.args.who c.args.now c.args.call.now c.call-outcome.result _
-    c.self.inside.server c.call-outcome.new.self c.show.new.server c.in-Cut.is
+    c.args.server.now c.call-outcome.new.self c.show.new.server c.in-Cut.is
     (record {
       tells = g.met.S.FileServer.tells;
       is_record = λ l older truth. g.met.L.Recorder.is_record l g.N.Room.opening older truth;
@@ -159,7 +159,7 @@ returns-in-Cut-clause-cut g c =
       same = c.show.ensures.same;
       counted = λ older truth. rw c.in-Cut.is (c.show.ensures.truth g.N.Room.opening older truth);
     })
-    c.self.invariant
+    c.requires.held
 
 pub returns-in-Cut-clause-eio : goal.returns-in-Cut-clause-eio
 returns-in-Cut-clause-eio g c =
@@ -168,7 +168,7 @@ returns-in-Cut-clause-eio g c =
     g.N.Room g.L.Link g.S.Serve.serving g.S.FileServer.line g.S.FileServer.is_ready g.S.FileServer.knows
     g.L.Supplied.runs_on g.L.Recorder.marks
     c.args.who c.args.now c.args.call.now c.call-outcome.result
-    c.self.inside.server c.call-outcome.new.self c.show.new.server c.show.new.caller.view.seen c.show.ensures.seen
+    c.args.server.now c.call-outcome.new.self c.show.new.server c.show.new.caller.view.seen c.show.ensures.seen
     (record {
       tells = g.met.S.FileServer.tells;
       is_record = λ l older truth. g.met.L.Recorder.is_record l g.N.Room.opening older truth;
@@ -182,4 +182,4 @@ returns-in-Cut-clause-eio g c =
       same = c.show.ensures.same;
       counted = λ older truth. rw c.in-Cut.is (c.show.ensures.truth g.N.Room.opening older truth);
     })
-    c.self.invariant)
+    c.requires.held)
