@@ -1,7 +1,7 @@
 -- What a message taken does to the slots of blocks.
 use Rattle.std.specs.Prelude.{◌≡◌, List, Bool, true, false}
-use Rattle.reissue.specs.pending_table.declared.ask.Settled.{Settled}
-use Rattle.reissue.specs.pending_table.declared.ask.Settled.TheVariants as settled
+use Rattle.reissue.specs.pending_table.pending_queue.declared.ask.Settled.{Settled}
+use Rattle.reissue.specs.pending_table.pending_queue.declared.ask.Settled.TheVariants as settled
 use Rattle.slots.specs.declared.slot.Slot.{Slot}
 use Rattle.slots.specs.Edits.{IsWritten}
 use Rattle.block_transfers.specs.declared.settling.Took.{Took}

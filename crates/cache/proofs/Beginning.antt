@@ -9,10 +9,10 @@ use Rattle.std.proofs.lemmas.Bool.{cases_eq, cases_lt}
 use Rattle.std.proofs.Math.Nat.{mul-le-mul_right, suc-mul}
 use Rattle.message.specs.declared.Kind.{Kind}
 use Rattle.message.specs.declared.Kind.TheVariants as kind
-use Rattle.reissue.specs.pending_table.declared.ask.Ask.{Ask}
-use Rattle.reissue.specs.pending_table.declared.ask.BeginRefusal.{BeginRefusal}
-use Rattle.reissue.specs.pending_table.declared.ask.BeginRefusal.TheVariants.{TableFull, BlockPending}
-use Rattle.reissue.specs.pending_table.declared.pending.Pending.{Pending}
+use Rattle.reissue.specs.pending_table.pending_queue.declared.ask.Ask.{Ask}
+use Rattle.reissue.specs.pending_table.pending_queue.declared.ask.BeginRefusal.{BeginRefusal}
+use Rattle.reissue.specs.pending_table.pending_queue.declared.ask.BeginRefusal.TheVariants.{TableFull, BlockPending}
+use Rattle.reissue.specs.pending_table.pending_queue.declared.pending.Pending.{Pending}
 use Rattle.reissue.specs.pending_table.Moves.{Begun, put, Opens, IsBusy, IsFree, begun_by, written_by}
 use Rattle.reissue.specs.pending_table.Entries.{pending_of, AllOfMinor}
 use Rattle.reissue.specs.Posts.{HasRoom}

@@ -7,8 +7,8 @@ use Rattle.reissue.specs.marks.Marks.{Mark}
 use Rattle.reissue.specs.marks.Marks as marks
 use Rattle.reissue.specs.marks.Open.{counts}
 use Rattle.reissue.specs.marks.Told.{Told, Posted, Complained, Received, grown, received, heard, took_end}
-use Rattle.reissue.specs.pending_table.declared.ask.Settled.{Settled}
-use Rattle.reissue.specs.pending_table.declared.ask.Settled.TheVariants as settled
+use Rattle.reissue.specs.pending_table.pending_queue.declared.ask.Settled.{Settled}
+use Rattle.reissue.specs.pending_table.pending_queue.declared.ask.Settled.TheVariants as settled
 use Rattle.reissue.specs.Posts.{OnlyPosts}
 use Rattle.reissue.specs.Calls.{IsAnswerTo, IsOfReply}
 use Rattle.cache.specs.Calls.{flushes_in, some_of, FlushFollows}

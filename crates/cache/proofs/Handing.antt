@@ -7,8 +7,8 @@ use Rattle.message.specs.declared.Incoming.TheVariants as incoming
 use Rattle.reissue.specs.marks.Marks.{Mark}
 use Rattle.reissue.specs.marks.Told.{Told, Posted, Complained, Received, received, grown, took_nothing}
 use Rattle.reissue.specs.marks.Acts.{Act, Began, Absorbed, AtLink, told_of, has_absorbed}
-use Rattle.reissue.specs.pending_table.declared.ask.Settled.{Settled}
-use Rattle.reissue.specs.pending_table.declared.pending.Pending.{Pending}
+use Rattle.reissue.specs.pending_table.pending_queue.declared.ask.Settled.{Settled}
+use Rattle.reissue.specs.pending_table.pending_queue.declared.pending.Pending.{Pending}
 use Rattle.reissue.specs.pending_table.declared.table.Table.{Table}
 use Rattle.reissue.specs.pending_table.Entries.{AllOfMinor}
 use Rattle.reissue.specs.pending_table.Agrees.{Agrees}

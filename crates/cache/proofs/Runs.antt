@@ -9,9 +9,9 @@ use Rattle.reissue.specs.marks.Disk.{Contents, HasTrueReplies}
 use Rattle.reissue.specs.marks.Told.{Told, Posted, Complained, Received, grown, received, heard, took_end}
 use Rattle.reissue.specs.marks.Acts.{Act, Absorbed, Outbox, KeepsRules, told_of, marks_after, outbox_after}
 use Rattle.marks.proofs.ActLaws.{acts_compose}
-use Rattle.reissue.specs.pending_table.declared.ask.Ask.{Ask}
-use Rattle.reissue.specs.pending_table.declared.ask.Settled.{Settled}
-use Rattle.reissue.specs.pending_table.declared.ask.Settled.TheVariants as settled
+use Rattle.reissue.specs.pending_table.pending_queue.declared.ask.Ask.{Ask}
+use Rattle.reissue.specs.pending_table.pending_queue.declared.ask.Settled.{Settled}
+use Rattle.reissue.specs.pending_table.pending_queue.declared.ask.Settled.TheVariants as settled
 use Rattle.reissue.specs.pending_table.declared.table.Table.{Table}
 use Rattle.reissue.specs.pending_table.Moves.{DiskState, Spares, Moves, state_after, IsBusy}
 use Rattle.reissue.specs.pending_table.Entries.{pending_of, AllOfMinor}

@@ -9,9 +9,9 @@ use Rattle.message.specs.declared.Incoming.TheVariants as incoming
 use Rattle.reissue.specs.marks.Marks.{Mark, gave_up, last_started, is_endpoint}
 use Rattle.reissue.specs.marks.Open.{open_requests, with_id, moved_by}
 use Rattle.reissue.specs.marks.Told.{Told}
-use Rattle.reissue.specs.pending_table.declared.ask.Settled.{Settled}
-use Rattle.reissue.specs.pending_table.declared.ask.Settled.TheVariants as settled
-use Rattle.reissue.specs.pending_table.declared.pending.Pending.{Pending}
+use Rattle.reissue.specs.pending_table.pending_queue.declared.ask.Settled.{Settled}
+use Rattle.reissue.specs.pending_table.pending_queue.declared.ask.Settled.TheVariants as settled
+use Rattle.reissue.specs.pending_table.pending_queue.declared.pending.Pending.{Pending}
 use Rattle.reissue.specs.pending_table.declared.table.Table.{Table}
 use Rattle.reissue.specs.pending_table.Moves.{Begun, Closes}
 use Rattle.reissue.specs.pending_table.Entries.{pending_of, begun_of, request_of}

@@ -3,8 +3,8 @@ use Rattle.std.proofs.Common.{◌≡◌, ◌≢◌, ℕ, ◌+◌, ◌^◌, ◌<�
 use mathlib.Core.Logic.{inl, inr}
 use Rattle.std.specs.Prelude.{slice_index}
 use Rattle.std.proofs.lemmas.Bool.{eq-eqb}
-use Rattle.reissue.specs.pending_table.declared.ask.Settled.{Settled}
-use Rattle.reissue.specs.pending_table.declared.ask.Settled.TheVariants as settled
+use Rattle.reissue.specs.pending_table.pending_queue.declared.ask.Settled.{Settled}
+use Rattle.reissue.specs.pending_table.pending_queue.declared.ask.Settled.TheVariants as settled
 use Rattle.reissue.specs.pending_table.Moves.{DiskState, Begun, put, Closes, Moves, Tells, IsBusy}
 use Rattle.reissue.specs.pending_table.Entries.{pending_of, AllOfMinor}
 use Rattle.message.specs.declared.Incoming.{Incoming}

@@ -14,7 +14,7 @@ use Rattle.reissue.specs.marks.Told.{Told, Posted, Complained, Received, receive
 use Rattle.reissue.specs.marks.Acts.{Act, Began, Absorbed, AtLink, Outbox, told_of, has_absorbed, marks_after, outbox_after, KeepsRules}
 use Rattle.reissue.proofs.marks.ActLaws.{acts_compose}
 use Rattle.legal.specs.Mount.{OnlyReads}
-use Rattle.reissue.specs.pending_table.declared.pending.Pending.{Pending}
+use Rattle.reissue.specs.pending_table.pending_queue.declared.pending.Pending.{Pending}
 use Rattle.reissue.specs.pending_table.declared.table.Table.{Table}
 use Rattle.reissue.specs.pending_table.Entries.{AreDistinct as HaveTickets, IsAmong, IsLeft, pending_of, begun_of, AllOfMinor}
 use Rattle.reissue.specs.pending_table.Agrees.{Agrees}

@@ -10,11 +10,11 @@ use Rattle.reissue.specs.marks.Marks.{Mark}
 use Rattle.reissue.specs.marks.Disk.{Contents, HasTrueReplies, disk_after, unsure}
 use Rattle.reissue.specs.marks.Told.{Told, received, grown, took_end}
 use Rattle.reissue.specs.marks.Acts.{marks_after}
-use Rattle.reissue.specs.pending_table.declared.ask.Ask.{Ask}
-use Rattle.reissue.specs.pending_table.declared.ask.Settled.{Settled}
-use Rattle.reissue.specs.pending_table.declared.ask.Settled.TheVariants as settled
+use Rattle.reissue.specs.pending_table.pending_queue.declared.ask.Ask.{Ask}
+use Rattle.reissue.specs.pending_table.pending_queue.declared.ask.Settled.{Settled}
+use Rattle.reissue.specs.pending_table.pending_queue.declared.ask.Settled.TheVariants as settled
 use Rattle.reissue.specs.declared.link.Link.{Ghosts as LinkWords}
-use Rattle.reissue.specs.pending_table.declared.pending.Pending.{Pending}
+use Rattle.reissue.specs.pending_table.pending_queue.declared.pending.Pending.{Pending}
 use Rattle.reissue.specs.pending_table.declared.table.Table.{Table}
 use Rattle.reissue.specs.declared.transfers.Transfers.{Transfers}
 use Rattle.reissue.specs.pending_table.Entries.{AllAsk, AllOfMinor, IsLeft, pending_of}

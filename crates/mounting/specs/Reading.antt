@@ -7,11 +7,11 @@ use Rattle.reissue.specs.marks.Told.{Told, took_end}
 use Rattle.reissue.specs.marks.Acts.{Act, told_of, has_absorbed, marks_after, outbox_after, KeepsRules}
 use Rattle.legal.specs.Mount.{OnlyReads}
 use Rattle.reissue.specs.pending_table.declared.table.Table.{Table}
-use Rattle.reissue.specs.pending_table.declared.pending.Pending.{Pending}
+use Rattle.reissue.specs.pending_table.pending_queue.declared.pending.Pending.{Pending}
 use Rattle.reissue.specs.pending_table.Agrees.{Agrees}
 use Rattle.reissue.specs.pending_table.Entries.{pending_of, AllOfMinor, AllAsk, IsLeft}
 use Rattle.message.specs.declared.Kind.TheVariants.{Read}
-use Rattle.reissue.specs.pending_table.declared.ask.Ask.{Ask}
+use Rattle.reissue.specs.pending_table.pending_queue.declared.ask.Ask.{Ask}
 use Rattle.reissue.specs.declared.link.Link.{Ghosts as LinkWords}
 use Rattle.reissue.specs.declared.transfers.Transfers.{Transfers}
 use Rattle.reissue.specs.Transfers.{table_of, link_of, begun_in, Between}

@@ -10,7 +10,7 @@ use Rattle.message.specs.errno.declared.Errno.{Errno}
 use Rattle.message.specs.declared.BlockRequest.{BlockRequest}
 use Rattle.message.specs.declared.BlockReply.{BlockReply}
 use Rattle.message.specs.declared.Incoming.TheVariants as incoming
-use Rattle.pending_table.specs.declared.pending.Pending.{Pending}
+use Rattle.pending_queue.specs.declared.pending.Pending.{Pending}
 use Rattle.pending_table.specs.declared.table.Table.{Table}
 use Rattle.pending_table.specs.Hears.{counted_move}
 use Rattle.pending_table.proofs.Joined.{joined_like, joined_answered, joined_rest, joined_push, joined_out}

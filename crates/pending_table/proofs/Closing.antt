@@ -5,8 +5,8 @@ use Rattle.message.specs.declared.Kind.{Kind}
 use Rattle.message.specs.declared.Kind.TheVariants as kind
 use Rattle.message.specs.declared.BlockRequest.{BlockRequest}
 use Rattle.message.specs.declared.BlockReply.{BlockReply}
-use Rattle.pending_table.specs.declared.ask.Settled.TheVariants as settled
-use Rattle.pending_table.specs.declared.pending.Pending.{Pending}
+use Rattle.pending_queue.specs.declared.ask.Settled.TheVariants as settled
+use Rattle.pending_queue.specs.declared.pending.Pending.{Pending}
 use Rattle.pending_table.specs.declared.table.Table.{Table}
 use Rattle.pending_table.proofs.Answering.{Taken, AreDisk}
 use Rattle.pending_table.proofs.Writes.{AreWritten, spares_same, is_written, wrote_rest, wrote_all}

@@ -8,7 +8,7 @@ use Rattle.message.specs.declared.BlockRequest.{BlockRequest}
 use Rattle.message.specs.declared.BlockReply.{BlockReply}
 use Rattle.marks.specs.Marks.{Mark, Answered}
 use Rattle.marks.specs.Open.{asked_by, moved_by}
-use Rattle.pending_table.specs.declared.pending.Pending.{Pending}
+use Rattle.pending_queue.specs.declared.pending.Pending.{Pending}
 use Rattle.marks.specs.Disk.{fetches, bytes_read, is_read}
 use Rattle.pending_table.specs.Agrees.{ApartFromAll, IsJoined, AllJoined}
 use Rattle.pending_table.specs.Moves.{WasRead}

@@ -8,7 +8,7 @@ use Rattle.message.specs.declared.BlockReply.{BlockReply}
 use Rattle.marks.specs.Marks.{Mark, Answered}
 use Rattle.marks.specs.Open.{asked_by, moved_by}
 use Rattle.marks.specs.Disk.{bytes_read, is_read, fetches}
-use Rattle.pending_table.specs.declared.pending.Pending.{Pending}
+use Rattle.pending_queue.specs.declared.pending.Pending.{Pending}
 use Rattle.pending_table.specs.Entries.{AllAsk, IsLeft}
 use Rattle.pending_table.specs.Agrees.{ApartFromAll}
 use Rattle.pending_table.specs.Closing.{ReadsOn}

@@ -1,7 +1,5 @@
 pub use Rattle.marks.proofs as marks
 pub mod Maps
-mod Places
-mod Finding
 pub mod Tickets
 pub mod Writes
 pub mod Joined

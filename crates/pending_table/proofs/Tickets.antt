@@ -3,7 +3,7 @@ use Rattle.std.proofs.Common.{◌≡◌, ◌≢◌, ℕ, suc, zero, ◌+◌, ◌
 use Rattle.std.proofs.lemmas.Bool.{cond-true, cond-false, eq-eqb, ne_eqb, cases_eq}
 use Rattle.std.specs.Prelude.{◌==◌, remove}
 use Rattle.pending_table.proofs.Maps.{is_put}
-use Rattle.pending_table.specs.declared.pending.Pending.{Pending}
+use Rattle.pending_queue.specs.declared.pending.Pending.{Pending}
 use Rattle.pending_table.specs.Entries.{AreRising, AreDistinct, AreUpTo, IsAmong, IsFresh, begun_of, pending_of}
 use Rattle.pending_table.specs.Moves.{Begun, put}
 

@@ -8,7 +8,7 @@ use Rattle.message.specs.declared.Kind.{Kind}
 use Rattle.message.specs.declared.Kind.TheVariants as kind
 use Rattle.message.specs.declared.BlockRequest.{BlockRequest}
 use Rattle.message.specs.declared.BlockReply.{BlockReply}
-use Rattle.pending_table.specs.declared.pending.Pending.{Pending}
+use Rattle.pending_queue.specs.declared.pending.Pending.{Pending}
 use Rattle.pending_table.proofs.Tickets.{pending_among}
 use Rattle.marks.specs.Disk.{Contents, covers, disk_after, settles, unsure}
 use Rattle.marks.specs.Marks.{Answered, Issued, Mark}

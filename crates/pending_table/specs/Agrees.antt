@@ -6,7 +6,7 @@ use Rattle.marks.specs.Marks.{Mark, gave_up}
 use Rattle.marks.specs.Acts.{target}
 use Rattle.marks.specs.Open.{greatest, open_requests, IsWellFormed}
 use Rattle.marks.specs.Disk.{Contents, disk_after, unsure, HasTrueReplies}
-use Rattle.pending_table.specs.declared.pending.Pending.{Pending}
+use Rattle.pending_queue.specs.declared.pending.Pending.{Pending}
 use Rattle.pending_table.specs.declared.table.Table.{Table}
 use Rattle.pending_table.specs.Entries.{request_of}
 use Rattle.pending_table.specs.Moves.{WasRead}

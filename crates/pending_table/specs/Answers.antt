@@ -5,8 +5,8 @@ use Rattle.message.specs.declared.BlockReply.{BlockReply}
 use Rattle.marks.specs.Told.{Told, Complained}
 use Rattle.pending_table.specs.declared.table.Answer.{Answer}
 use Rattle.pending_table.specs.declared.table.Answer.TheVariants as answer
-use Rattle.pending_table.specs.declared.ask.Settled.{Settled}
-use Rattle.pending_table.specs.declared.ask.Settled.TheVariants as settled
+use Rattle.pending_queue.specs.declared.ask.Settled.{Settled}
+use Rattle.pending_queue.specs.declared.ask.Settled.TheVariants as settled
 
 -- the answer counts and isn't good
 abbrev pub is_bad : Answer → Bool

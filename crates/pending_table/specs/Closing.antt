@@ -2,9 +2,9 @@
 use Rattle.std.specs.Prelude.{◌≡◌, ℕ, List, Option, Some}
 use Rattle.marks.specs.Marks.{Mark}
 use Rattle.marks.specs.Disk.{Contents, HasTrueReplies, bytes_read, is_read}
-use Rattle.pending_table.specs.declared.ask.Settled.{Settled}
-use Rattle.pending_table.specs.declared.ask.Settled.TheVariants as settled
-use Rattle.pending_table.specs.declared.pending.Pending.{Pending}
+use Rattle.pending_queue.specs.declared.ask.Settled.{Settled}
+use Rattle.pending_queue.specs.declared.ask.Settled.TheVariants as settled
+use Rattle.pending_queue.specs.declared.pending.Pending.{Pending}
 use Rattle.pending_table.specs.Moves.{Begun, Touches, IsQuiet, Moves, Joins, state_after}
 use Rattle.pending_table.specs.Entries.{pending_of, AllAsk, IsLeft}
 

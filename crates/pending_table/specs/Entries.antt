@@ -4,7 +4,7 @@ use Rattle.std.proofs.Common.{refl}
 use Rattle.std.proofs.Math.Bridge.{le_prop}
 use Rattle.message.specs.declared.BlockRequest.{BlockRequest}
 use Rattle.pending_table.specs.Moves.{Begun, written_by}
-use Rattle.pending_table.specs.declared.pending.Pending.{Pending}
+use Rattle.pending_queue.specs.declared.pending.Pending.{Pending}
 
 -- the request as it was begun
 abbrev pub begun_of : Pending → Begun

@@ -7,7 +7,7 @@ use Rattle.message.specs.declared.Incoming.{Incoming}
 use Rattle.message.specs.declared.Incoming.TheVariants as incoming
 use Rattle.marks.specs.Marks.{Mark}
 use Rattle.marks.specs.Open.{counts, moved_by}
-use Rattle.pending_table.specs.declared.pending.Pending.{Pending}
+use Rattle.pending_queue.specs.declared.pending.Pending.{Pending}
 use Rattle.pending_table.specs.declared.table.Table.{Table}
 
 -- what is left of a request after an answer that moved n bytes, under this id: a write's request has the bytes that are left

@@ -1,7 +1,6 @@
 -- Pending requests, and what a message does to them.
 pub use Rattle.marks.specs as marks
-pub mod Refusals
-pub mod Queue
+pub use Rattle.pending_queue.specs as pending_queue
 pub mod Entries
 pub mod Moves
 pub mod Agrees

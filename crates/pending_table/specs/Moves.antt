@@ -5,10 +5,10 @@ use Rattle.message.specs.declared.Kind.TheVariants.{Read, Write}
 use Rattle.message.specs.declared.BlockRequest.{BlockRequest}
 use Rattle.marks.specs.Marks.{Mark}
 use Rattle.marks.specs.Disk.{Contents, disk_after, bytes_read, is_read, unsure}
-use Rattle.pending_table.specs.declared.ask.Ask.{Ask}
-use Rattle.pending_table.specs.declared.ask.BeginRefusal.{BeginRefusal}
-use Rattle.pending_table.specs.declared.ask.Settled.{Settled}
-use Rattle.pending_table.specs.declared.ask.Settled.TheVariants as settled
+use Rattle.pending_queue.specs.declared.ask.Ask.{Ask}
+use Rattle.pending_queue.specs.declared.ask.BeginRefusal.{BeginRefusal}
+use Rattle.pending_queue.specs.declared.ask.Settled.{Settled}
+use Rattle.pending_queue.specs.declared.ask.Settled.TheVariants as settled
 
 -- the bytes of the disk, and the places that are unsure
 pub record DiskState : Type 0 where

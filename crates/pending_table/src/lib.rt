@@ -2,10 +2,6 @@
 //! range.
 #![tactic(auto)]
 
-pub mod ask;
-pub mod pending;
-pub mod queue;
-
-pub use ask::{Ask, BeginRefusal, Settled, Ticket};
+pub use pending_queue::{Ask, BeginRefusal, Settled, Ticket, ask, pending, queue};
 
 pub mod table;

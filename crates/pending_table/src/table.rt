@@ -8,11 +8,11 @@ ghost use Rattle.message.specs.Good.{is_write};
 ghost use Rattle.marks.specs.Marks.{is_endpoint};
 ghost use Rattle.pending_table.specs.Entries.{HasNumbers, prop_numbers, IsFresh, pending_of};
 
-use crate::ask::{Ask, Ticket};
-use crate::pending::Pending;
-use crate::queue::{PLACES, Queue};
 use endpoint::Endpoint;
 use message::{BlockReply, BlockRequest, Kind, moved_bytes};
+use pending_queue::ask::{Ask, Ticket};
+use pending_queue::pending::Pending;
+use pending_queue::queue::{PLACES, Queue};
 use std::alloc::{AllocError, Global};
 
 /// What an answer did.
@@ -53,7 +53,7 @@ pub struct Table {
 }
 
 impl Table {
-    ghost use Rattle.pending_table.specs.declared.pending.Pending.{Pending};
+    ghost use Rattle.pending_queue.specs.declared.pending.Pending.{Pending};
 
     /// A table with nothing pending.
     pub fn new(alloc: Global) -> Result<Table, AllocError>
@@ -214,7 +214,7 @@ impl Table {
     ghost use Rattle.marks.specs.Open.{asked_by, moved_by};
     ghost use Rattle.marks.specs.Told.{Received, received};
     ghost use Rattle.marks.specs.Acts.{complaint_due};
-    ghost use Rattle.pending_table.specs.declared.pending.Pending.{Pending};
+    ghost use Rattle.pending_queue.specs.declared.pending.Pending.{Pending};
     ghost use Rattle.pending_table.specs.Moves.{Closes, begun_by, put, request_for};
     ghost use Rattle.pending_table.specs.Entries.{AllOfMinor, MissesOrSame, begun_of};
     ghost use Rattle.pending_table.specs.Agrees.{Agrees};

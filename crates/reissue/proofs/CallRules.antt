@@ -12,7 +12,7 @@ use Rattle.marks.specs.Open.{open_requests}
 use Rattle.marks.specs.Told.{heard as taken, took_end, Told, Received, received, grown, with_told}
 use Rattle.marks.specs.Acts.{Act, Began, Absorbed, AtLink, Outbox, KeepsRules, MayAct, outbox_after, marks_after, told_of}
 use Rattle.marks.proofs.ActLaws.{acts_compose}
-use Rattle.pending_table.specs.declared.pending.Pending.{Pending}
+use Rattle.pending_table.specs.pending_queue.declared.pending.Pending.{Pending}
 use Rattle.pending_table.specs.declared.table.Table.{Table}
 use Rattle.pending_table.specs.Moves.{IsBusy}
 use Rattle.pending_table.specs.Entries.{AllOfMinor, request_of, pending_of}

@@ -10,10 +10,10 @@ use Rattle.marks.specs.Marks.{Mark, Issued}
 use Rattle.marks.specs.Disk.{Contents, HasTrueReplies}
 use Rattle.marks.specs.Told.{Told, Posted, Complained, Received, grown, received, heard, took_end}
 use Rattle.marks.specs.Acts.{Act, Began, AtLink, told_of, has_absorbed}
-use Rattle.pending_table.specs.declared.ask.Ask.{Ask}
-use Rattle.pending_table.specs.declared.ask.Settled.{Settled}
-use Rattle.pending_table.specs.declared.ask.Settled.TheVariants as settled
-use Rattle.pending_table.specs.declared.pending.Pending.{Pending}
+use Rattle.pending_table.specs.pending_queue.declared.ask.Ask.{Ask}
+use Rattle.pending_table.specs.pending_queue.declared.ask.Settled.{Settled}
+use Rattle.pending_table.specs.pending_queue.declared.ask.Settled.TheVariants as settled
+use Rattle.pending_table.specs.pending_queue.declared.pending.Pending.{Pending}
 use Rattle.pending_table.specs.declared.table.Table.{Table}
 use Rattle.marks.specs.Opening.{Opening}
 use Rattle.reissue.specs.Room.{room_needed}

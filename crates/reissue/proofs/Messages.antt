@@ -8,12 +8,12 @@ use Rattle.message.specs.declared.Incoming.TheVariants as incoming
 use Rattle.marks.specs.Marks.{Mark, Started, Flush, GaveUp, gave_up}
 use Rattle.marks.specs.Disk.{Contents, unsure, disk_after}
 use Rattle.marks.specs.Told.{Told, Complained, received, grown, took_end, took_nothing}
-use Rattle.pending_table.specs.declared.pending.Pending.{Pending}
+use Rattle.pending_table.specs.pending_queue.declared.pending.Pending.{Pending}
 use Rattle.pending_table.specs.declared.table.Table.{Table}
 use Rattle.pending_table.specs.declared.table.Answer.{Answer}
 use Rattle.pending_table.specs.declared.table.Answer.TheVariants as answer
-use Rattle.pending_table.specs.declared.ask.Settled.{Settled}
-use Rattle.pending_table.specs.declared.ask.Settled.TheVariants as settled
+use Rattle.pending_table.specs.pending_queue.declared.ask.Settled.{Settled}
+use Rattle.pending_table.specs.pending_queue.declared.ask.Settled.TheVariants as settled
 use Rattle.marks.specs.Opening.{Opening}
 use Rattle.pending_table.specs.Moves.{Closes}
 use Rattle.pending_table.specs.Entries.{pending_of, AllOfMinor}

@@ -6,7 +6,7 @@ use Rattle.std.proofs.lemmas.List.{length-append}
 use Rattle.std.specs.Prelude.{nat_lt, remove, ◌==◌}
 use Rattle.message.specs.declared.BlockRequest.{BlockRequest}
 use Rattle.marks.specs.Open.{without_id}
-use Rattle.pending_table.specs.declared.pending.Pending.{Pending}
+use Rattle.pending_table.specs.pending_queue.declared.pending.Pending.{Pending}
 use Rattle.pending_table.specs.Entries.{AreRising, request_of}
 use Rattle.pending_table.proofs.Tickets.{rising_lower}
 

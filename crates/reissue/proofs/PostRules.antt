@@ -11,7 +11,7 @@ use Rattle.marks.specs.Told.{Told, Posted, Complained, Received}
 use Rattle.marks.specs.Acts.{Act, AtLink, Outbox, KeepsRules, outbox_after, target, told_of}
 use Rattle.marks.specs.Opening.{FitsMinor}
 use Rattle.marks.proofs.ActLaws.{acts_compose}
-use Rattle.pending_table.specs.declared.pending.Pending.{Pending}
+use Rattle.pending_table.specs.pending_queue.declared.pending.Pending.{Pending}
 use Rattle.pending_table.specs.Entries.{AreRising, AllOfMinor, request_of}
 use Rattle.reissue.specs.Posts.{ArePostedTo, accepted_of}
 use Rattle.reissue.specs.Rules.{at_link}

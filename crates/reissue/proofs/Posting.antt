@@ -1,10 +1,10 @@
 -- What posts leave of what an answer told.
 use Rattle.std.proofs.Common.{◌≡◌, ℕ, ◌+◌, ◌<◌, List, [], ◌∷◌, Bool, true, false, refl, sym, ◌∙◌, subst, inl, inr, Option, Some, None, arith}
 use Rattle.std.specs.Prelude.{◌||◌}
-use Rattle.pending_table.specs.declared.ask.Settled.{Settled}
-use Rattle.pending_table.specs.declared.ask.Settled.TheVariants as settled
+use Rattle.pending_table.specs.pending_queue.declared.ask.Settled.{Settled}
+use Rattle.pending_table.specs.pending_queue.declared.ask.Settled.TheVariants as settled
 use Rattle.pending_table.proofs.Maps.{put_cases}
-use Rattle.pending_table.specs.declared.pending.Pending.{Pending}
+use Rattle.pending_table.specs.pending_queue.declared.pending.Pending.{Pending}
 use Rattle.pending_table.proofs.Writes.{spares_then}
 use Rattle.pending_table.proofs.Tickets.{pending_here}
 use Rattle.std.proofs.Common.{length}

@@ -13,7 +13,7 @@ use Rattle.marks.specs.Marks.{Mark, gave_up}
 use Rattle.marks.specs.Open.{open_requests, greatest, counts, moved_by, without_id}
 use Rattle.marks.specs.Told.{Told, Complained, Received, received, took_end}
 use Rattle.marks.specs.Acts.{Act, Began, AtLink, Outbox, KeepsRules, MayAct, outbox_after, marks_after, told_of, with_act, owed_after_act, owed_after_message, complaint_due, without_answered}
-use Rattle.pending_table.specs.declared.pending.Pending.{Pending}
+use Rattle.pending_table.specs.pending_queue.declared.pending.Pending.{Pending}
 use Rattle.pending_table.specs.declared.table.Table.{Table}
 use Rattle.pending_table.specs.Entries.{request_of}
 use Rattle.pending_table.specs.Agrees.{Agrees, unposted, never_issued}

@@ -4,7 +4,7 @@ use Rattle.std.proofs.lemmas.List.{drop_more, map-append, length-append, get_or_
 use Rattle.std.proofs.lemmas.Bool.Decides.{leb_tells}
 use Rattle.endpoint.specs.declared.Endpoint.{Endpoint}
 use Rattle.message.specs.declared.BlockRequest.{BlockRequest}
-use Rattle.pending_table.specs.declared.pending.Pending.{Pending}
+use Rattle.pending_table.specs.pending_queue.declared.pending.Pending.{Pending}
 use Rattle.pending_table.specs.declared.table.Table.{Table}
 use Rattle.pending_table.proofs.Writes.{all_wrote_issued, one_among, spares_issued, spares_then}
 use Rattle.pending_table.proofs.Tickets.{among_at}

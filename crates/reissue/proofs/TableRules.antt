@@ -8,7 +8,7 @@ use Rattle.marks.specs.Marks.{Mark, last_started, gave_up}
 use Rattle.marks.specs.Open.{open_requests, has_none}
 use Rattle.marks.specs.Told.{Told}
 use Rattle.marks.specs.Acts.{Outbox, KeepsRules, outbox_after, IsAtRest, needs_message, target}
-use Rattle.pending_table.specs.declared.pending.Pending.{Pending}
+use Rattle.pending_table.specs.pending_queue.declared.pending.Pending.{Pending}
 use Rattle.pending_table.specs.declared.table.Table.{Table}
 use Rattle.pending_table.specs.Entries.{AreRising, AllOfMinor, request_of, pending_of}
 use Rattle.pending_table.specs.Moves.{Begun, IsBusy}

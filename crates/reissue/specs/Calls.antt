@@ -6,10 +6,10 @@ use Rattle.message.specs.declared.Incoming.TheVariants as incoming
 use Rattle.marks.specs.Marks.{Mark}
 use Rattle.marks.specs.Disk.{Contents}
 use Rattle.marks.specs.Told.{Told, Received, grown, received, heard, took_end, took_nothing}
-use Rattle.pending_table.specs.declared.ask.Ask.{Ask}
-use Rattle.pending_table.specs.declared.ask.Settled.{Settled}
-use Rattle.pending_table.specs.declared.ask.Settled.TheVariants as settled
-use Rattle.pending_table.specs.declared.pending.Pending.{Pending}
+use Rattle.pending_table.specs.pending_queue.declared.ask.Ask.{Ask}
+use Rattle.pending_table.specs.pending_queue.declared.ask.Settled.{Settled}
+use Rattle.pending_table.specs.pending_queue.declared.ask.Settled.TheVariants as settled
+use Rattle.pending_table.specs.pending_queue.declared.pending.Pending.{Pending}
 use Rattle.pending_table.specs.declared.table.Table.{Table}
 use Rattle.marks.specs.Opening.{Opening}
 use Rattle.pending_table.specs.Moves.{IsBusy, Spares, Closes, state_after, request_for, begun_by}

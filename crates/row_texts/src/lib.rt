@@ -1,23 +1,25 @@
 //! Texts that rows of tests give, beside those that they say.
 #![tactic(auto)]
 
-ghost use Rattle.std.specs.Prelude.{◌≡◌, IfOk};
+ghost use Rattle.std.specs.Prelude.{◌≡◌, ◌↔◌, IfOk, IsOk};
 
 use std::test::Fail;
 
 /// It is an error, with both texts, where a row gives another text than it says.
 pub fn is_told(text: &str, wanted: &str) -> Result<(), Fail>
-    ensures { IfOk result (λ _. text.now ≡ wanted.now) }
+    ensures same { IfOk result (λ _. text.now ≡ wanted.now) }
+    ensures honest { IsOk result ↔ (text.now ≡ wanted.now) }
 {
-    if text == wanted {
-        return Ok(());
+    if text != wanted {
+        return Err(Fail::new(format_args!("{text}, and not {wanted}")));
     }
-    Err(Fail::new(format_args!("{text}, and not {wanted}")))
+    Ok(())
 }
 
 /// It is an error, with the text, where the row of this number gives another one than it says.
 pub fn row_is_told(row: usize, text: &str, wanted: &str) -> Result<(), Fail>
-    ensures { IfOk result (λ _. text.now ≡ wanted.now) }
+    ensures same { IfOk result (λ _. text.now ≡ wanted.now) }
+    ensures honest { IsOk result ↔ (text.now ≡ wanted.now) }
 {
     if text == wanted {
         return Ok(());
@@ -27,7 +29,8 @@ pub fn row_is_told(row: usize, text: &str, wanted: &str) -> Result<(), Fail>
 
 /// It is an error, with the text, where a step of the row of this number gives another one than it says. Both count from 0.
 pub fn step_is_told(row: usize, step: usize, text: &str, wanted: &str) -> Result<(), Fail>
-    ensures { IfOk result (λ _. text.now ≡ wanted.now) }
+    ensures same { IfOk result (λ _. text.now ≡ wanted.now) }
+    ensures honest { IsOk result ↔ (text.now ≡ wanted.now) }
 {
     if text == wanted {
         return Ok(());

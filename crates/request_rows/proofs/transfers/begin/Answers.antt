@@ -1,6 +1,6 @@
 use Rattle.std.proofs.Common.{◌≡◌, ℕ, ◌*◌, sym, ap, ◌∙◌, Option, Some, Result, Ok, Err}
 use mathlib.Core.Logic.{inl, inr}
-use Rattle.reissue.specs.pending_table.declared.ask.BeginRefusal.{BeginRefusal}
+use Rattle.reissue.specs.pending_table.pending_queue.declared.ask.BeginRefusal.{BeginRefusal}
 use Rattle.reissue.specs.pending_table.Moves.{Begun, Opens}
 use Rattle.reissue.proofs.pending_table.Maps.{put_cases}
 use Rattle.frame_samples.specs.cache.Frames.{IsOfBlock}

@@ -3,12 +3,12 @@ use Rattle.std.specs.Prelude.{◌==◌}
 use Rattle.std.proofs.lemmas.Bool.Decides.{nat_tests}
 use Rattle.message.specs.Good.{moved}
 use Rattle.marks.specs.Marks.{Mark}
-use Rattle.pending_table.specs.declared.pending.Pending.{Pending}
+use Rattle.pending_queue.specs.declared.pending.Pending.{Pending}
 use Rattle.pending_table.specs.Agrees.{Agrees}
 use Rattle.pending_table.specs.Answers.{complaints_about}
 use Rattle.pending_table.proofs.Answering.{dropped_unknown, counted, Counted, agrees_bad, entry_found}
 use Rattle.pending_table.proofs.Closing.{closing_dropped, closing_bad}
-use Rattle.pending_table.proofs.Finding.{position_passes}
+use Rattle.pending_queue.proofs.Finding.{position_passes}
 use Rattle.pending_table.proofs.table.Table.answer.Goals as goal
 
 bad_here : (c : goal.In_default-moved_bytes) (marks : List Mark) → Agrees c.args.self.now marks → Counted marks c.args.reply.now None

@@ -1,7 +1,7 @@
 use Rattle.std.proofs.Common.{◌≡◌, arith, List, refl, sym, ◌∙◌, ap, [], ◌∷◌, ◌++◌, true, false}
 use Rattle.message.specs.Good.{is_write}
 use Rattle.marks.specs.Marks.{Answered}
-use Rattle.pending_table.specs.declared.pending.Pending.{Pending}
+use Rattle.pending_queue.specs.declared.pending.Pending.{Pending}
 use Rattle.pending_table.proofs.Answering.{taken, agrees_rest, agrees_done, done_reads, done_joined}
 use Rattle.pending_table.proofs.Writes.{spares_answered}
 use Rattle.pending_table.proofs.Closing.{tickets_out, closes_rest, closes_read, closes_written, closing_nothing, closing_read, closing_written, among_here, done_writes}

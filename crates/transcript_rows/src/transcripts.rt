@@ -4,9 +4,9 @@ use errno::Errno;
 use marks::Cause;
 use message::{BlockReply, BlockRequest, Kind};
 use output::OutputRefusal;
+use row_texts::{is_told, row_is_told};
 use std::alloc::Global;
 use std::io::{self, ErrorKind, Write};
-use std::process::Abort;
 use std::test::Fail;
 use transcript_text::mark::MarkRef;
 use transcript_text::write::write_transcript;
@@ -62,25 +62,20 @@ const ROOT: Attributes = Attributes {
     ctime: 50,
 };
 
-/// The text of marks.
-fn written(
+/// Marks, of so many calls without a reply, have this text.
+fn is_written(
     alloc: Global,
     marks: &[MarkRef<'_>],
     unanswered: u64,
-) -> Result<Vec<u8>, OutputRefusal> {
+    wanted: &str,
+) -> Result<(), Fail> {
     let mut out = Vec::new(alloc);
     write_transcript(alloc, &mut out, marks, unanswered)?;
-    Ok(out)
-}
-
-/// They are the same text.
-fn is_text(rt: &impl Abort, got: &[u8], wanted: &[u8]) {
-    assert_eq!(rt; got, wanted);
+    is_told(str::from_utf8(out.as_slice()).unwrap_or("no text"), wanted)
 }
 
 /// A driver dies in a read, and the next one answers it.
-#[test]
-fn writes_a_death(rt: HostRuntime) -> Result<(), Fail> {
+fn a_death(alloc: Global) -> Result<(), Fail> {
     let (asked, answer) = (request(1, Kind::Read, 1024), reply(Ok(1024)));
     let (call, root) = (Call::Stat { path: b"/" }, Reply::Inode(ROOT));
     let marks = [
@@ -93,15 +88,13 @@ fn writes_a_death(rt: HostRuntime) -> Result<(), Fail> {
         MarkRef::Took(WHO, 100, &call, &root),
     ];
     let text =
-        b"started 1.1\nissue 1 read 4096 1024 to 1.1\nfault 1.1 exit\nstarted 1.2\nissue 1 read 4096 1024 to 1.2\nanswer 1 1024 from 1.2\n\
+        "started 1.1\nissue 1 read 4096 1024 to 1.1\nfault 1.1 exit\nstarted 1.2\nissue 1 read 4096 1024 to 1.2\nanswer 1 1024 from 1.2\n\
         reply 0 inode 1 mode 0040755 links 2 uid 0 gid 0 size 128 times 50 50 50\nunanswered 0\n";
-    is_text(&rt, &written(rt.alloc(), &marks, 0)?, text);
-    Ok(())
+    is_written(alloc, &marks, 0, text)
 }
 
 /// The other marks.
-#[test]
-fn writes_other_marks(rt: HostRuntime) -> Result<(), Fail> {
+fn other_marks(alloc: Global) -> Result<(), Fail> {
     let (asked, answer) = (request(12, Kind::Write, 512), reply(Err(Errno::EIO)));
     let (call, refused) = (Call::Sync, Reply::Refused(Errno::EIO));
     let who = Who {
@@ -119,18 +112,15 @@ fn writes_other_marks(rt: HostRuntime) -> Result<(), Fail> {
         MarkRef::Took(who, 100, &call, &refused),
     ];
     let text =
-        b"flush\nissue 12 write 4096 512 to 1.4294967295\nanswer 1 EIO from 1.2\nfault 1.2 complaint\nfault 1.3 hung\n\
+        "flush\nissue 12 write 4096 512 to 1.4294967295\nanswer 1 EIO from 1.2\nfault 1.2 complaint\nfault 1.3 hung\n\
         given up\nreply 63 EIO\nunanswered 2\n";
-    is_text(&rt, &written(rt.alloc(), &marks, 2)?, text);
-    Ok(())
+    is_written(alloc, &marks, 2, text)
 }
 
 /// No marks at all.
-#[test]
-fn writes_no_marks(rt: HostRuntime) -> Result<(), Fail> {
-    let text = b"unanswered 18446744073709551615\n";
-    is_text(&rt, &written(rt.alloc(), &[], 18446744073709551615)?, text);
-    Ok(())
+fn no_marks(alloc: Global) -> Result<(), Fail> {
+    let text = "unanswered 18446744073709551615\n";
+    is_written(alloc, &[], 18446744073709551615, text)
 }
 
 /// A writer with room for so many bytes.
@@ -160,27 +150,48 @@ impl Write for Narrow {
     }
 }
 
+/// Two marks, and no call without a reply.
+const SHORT: &str = "started 1.1\nflush\nunanswered 0\n";
+
+/// How a writing ended.
+fn ending(told: Result<(), OutputRefusal>) -> &'static str {
+    match told {
+        Ok(()) => "written",
+        Err(OutputRefusal::NotWritten) => "not written",
+        Err(OutputRefusal::OutOfMemory) => "no memory",
+    }
+}
+
+/// A writer with room for so many bytes took the text's first ones.
+fn is_beginning(room: usize, taken: &[u8]) -> Result<(), Fail> {
+    let wanted = SHORT.as_bytes().get(..room).unwrap_or(b"no such room");
+    row_is_told(
+        room,
+        str::from_utf8(taken).unwrap_or("no text"),
+        str::from_utf8(wanted).unwrap_or("none is wanted"),
+    )
+}
+
 /// Where a write fails, what went out is a beginning of the text.
-#[test]
-fn writes_a_beginning(rt: HostRuntime) -> Result<(), Fail> {
+fn beginnings(alloc: Global) -> Result<(), Fail> {
     let marks = [MarkRef::Started(driver(1)), MarkRef::Flush];
-    let text = b"started 1.1\nflush\nunanswered 0\n";
     for room in 0..32 {
         let mut out = Narrow {
-            taken: Vec::new(rt.alloc()),
+            taken: Vec::new(alloc),
             room,
         };
-        let told = write_transcript(rt.alloc(), &mut out, &marks, 0);
-        let whole = room == text.len();
-        assert_eq!(rt;
-            told,
-            if whole {
-                Ok(())
-            } else {
-                Err(OutputRefusal::NotWritten)
-            }
-        );
-        assert_eq!(rt; Some(out.taken.as_slice()), text.get(..room));
+        let told = ending(write_transcript(alloc, &mut out, &marks, 0));
+        let is_whole = room == SHORT.len();
+        row_is_told(room, told, if is_whole { "written" } else { "not written" })?;
+        is_beginning(room, out.taken.as_slice())?;
     }
     Ok(())
+}
+
+#[test]
+fn transcripts_are_the_formats(rt: HostRuntime) -> Result<(), Fail> {
+    a_death(rt.alloc())?;
+    other_marks(rt.alloc())?;
+    no_marks(rt.alloc())?;
+    beginnings(rt.alloc())
 }

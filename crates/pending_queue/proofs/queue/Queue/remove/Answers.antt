@@ -1,6 +1,6 @@
 use Rattle.std.proofs.Common.{rules, arith}
-use Rattle.pending_table.proofs.Places.{place_below, entry_at, held_at, entries_remove, holds_remove, length_rest}
-use Rattle.pending_table.proofs.queue.Queue.remove.Goals as goal
+use Rattle.pending_queue.proofs.Places.{place_below, entry_at, held_at, entries_remove, holds_remove, length_rest}
+use Rattle.pending_queue.proofs.queue.Queue.remove.Goals as goal
 
 pub remove-key-requires : goal.remove-key-requires
 remove-key-requires c =

@@ -1,8 +1,8 @@
 use Rattle.std.proofs.Common.{◌≡◌, sym, ◌∙◌, ap, arith, Some, None}
 use Rattle.std.specs.Option.{option_copied}
 use Rattle.slab.specs.Slab.{get}
-use Rattle.pending_table.proofs.Places.{place_below, entry_at, held_at}
-use Rattle.pending_table.proofs.queue.Queue.get.Goals as goal
+use Rattle.pending_queue.proofs.Places.{place_below, entry_at, held_at}
+use Rattle.pending_queue.proofs.queue.Queue.get.Goals as goal
 
 pub index-requires : goal.index-requires
 index-requires c =

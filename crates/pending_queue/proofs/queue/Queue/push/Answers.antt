@@ -1,7 +1,7 @@
 use Rattle.std.proofs.Common.{List, ◌∙◌, ap, arith, length-append, ℕ, ◌++◌, ◌∷◌, []}
-use Rattle.pending_table.specs.declared.pending.Pending.{Pending}
-use Rattle.pending_table.proofs.Places.{keys_below, entries_push, holds_push}
-use Rattle.pending_table.proofs.queue.Queue.push.Goals as goal
+use Rattle.pending_queue.specs.declared.pending.Pending.{Pending}
+use Rattle.pending_queue.proofs.Places.{keys_below, entries_push, holds_push}
+use Rattle.pending_queue.proofs.queue.Queue.push.Goals as goal
 
 pub insert_reserved-key-requires : goal.insert_reserved-key-requires
 insert_reserved-key-requires c =

@@ -22,11 +22,11 @@ pub struct Queue {
 
 impl Model for Queue {
     ghost use Rattle.std.specs.Prelude.{List, vec_capacity};
-    ghost use Rattle.pending_table.specs.declared.pending.Pending.{Pending};
+    ghost use Rattle.pending_queue.specs.declared.pending.Pending.{Pending};
 
     ghost Value = { List Pending };
 
-    ghost use Rattle.pending_table.specs.Queue.{entries_at, IsQueue};
+    ghost use Rattle.pending_queue.specs.Queue.{entries_at, IsQueue};
 
     ghost view = { λ q. entries_at q.entries q.keys.items };
 

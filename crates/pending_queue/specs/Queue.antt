@@ -1,7 +1,7 @@
 -- The entries of a slab in the order of a list of keys.
 use Rattle.std.specs.Prelude.{◌≡◌, ◌≢◌, ℕ, ◌≤◌, List, [], ◌∷◌, length, Option, Some, None}
 use Rattle.slab.specs.Slab.{Slab, get, slab_len}
-use Rattle.pending_table.specs.declared.pending.Pending.{Pending}
+use Rattle.pending_queue.specs.declared.pending.Pending.{Pending}
 
 -- these after the entry, if there is one
 abbrev pub with_entry : Option Pending → List Pending → List Pending

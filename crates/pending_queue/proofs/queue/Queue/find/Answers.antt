@@ -1,8 +1,8 @@
 use Rattle.std.proofs.Common.{rules, sym, ap, ◌∙◌, arith}
 use Rattle.std.specs.Prelude.{◌==◌}
-use Rattle.pending_table.specs.declared.pending.Pending.{Pending}
-use Rattle.pending_table.proofs.Finding.{position_here}
-use Rattle.pending_table.proofs.queue.Queue.find.Goals as goal
+use Rattle.pending_queue.specs.declared.pending.Pending.{Pending}
+use Rattle.pending_queue.proofs.Finding.{position_here}
+use Rattle.pending_queue.proofs.queue.Queue.find.Goals as goal
 
 pub returns-then-get-id : goal.returns-then-get-id
 returns-then-get-id c =

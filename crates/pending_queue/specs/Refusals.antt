@@ -1,7 +1,7 @@
 -- The numbers of refusals.
 use Rattle.std.specs.Prelude.{ℕ}
-use Rattle.pending_table.specs.declared.ask.BeginRefusal.{BeginRefusal}
-use Rattle.pending_table.specs.declared.ask.BeginRefusal.TheVariants as begin
+use Rattle.pending_queue.specs.declared.ask.BeginRefusal.{BeginRefusal}
+use Rattle.pending_queue.specs.declared.ask.BeginRefusal.TheVariants as begin
 
 -- why a request wasn't begun
 abbrev pub begin_refusal_number : BeginRefusal → ℕ

@@ -2,8 +2,8 @@
 use Rattle.std.proofs.Common.{◌≡◌, ◌≢◌, ℕ, suc, zero, ◌+◌, ◌<◌, List, [], ◌∷◌, ◌++◌, length, get_or, refl, sym, ◌∙◌, ap, subst, arith, Option, Some, None}
 use Rattle.std.specs.Prelude.{remove}
 use Rattle.slab.specs.Slab.{Slab, get, Updates}
-use Rattle.pending_table.specs.declared.pending.Pending.{Pending}
-use Rattle.pending_table.specs.Queue.{with_entry, entries_at, IsOtherKey, HoldsKeys}
+use Rattle.pending_queue.specs.declared.pending.Pending.{Pending}
+use Rattle.pending_queue.specs.Queue.{with_entry, entries_at, IsOtherKey, HoldsKeys}
 
 -- an entry that is there stands first
 entries_cons : (slab : Slab Pending) (key : ℕ) (keys : List ℕ) (p : Pending) → get slab key ≡ Some p

@@ -1,6 +1,6 @@
 use Rattle.std.proofs.Common.{arith}
-use Rattle.pending_table.proofs.Places.{length_entries}
-use Rattle.pending_table.proofs.queue.Queue.len.Goals as goal
+use Rattle.pending_queue.proofs.Places.{length_entries}
+use Rattle.pending_queue.proofs.queue.Queue.len.Goals as goal
 
 pub returns : goal.returns
 returns c =

@@ -1,7 +1,7 @@
 //! What is asked of transfers, and what they answer.
 
 ghost use Rattle.std.specs.Prelude.{◌≡◌, ◌+◌, ◌<◌, ◌≤◌, ◌^◌, ◌%◌, ℕ, slice_index, true};
-ghost use Rattle.pending_table.specs.Refusals.{begin_refusal_number};
+ghost use Rattle.pending_queue.specs.Refusals.{begin_refusal_number};
 
 use message::Kind;
 use std::marker::Model;
@@ -88,7 +88,7 @@ impl Model for Ticket {
 
 impl Ticket {
     /// The ticket of the request that was begun under this id.
-    pub(crate) fn of_id(id: u64) -> Ticket
+    pub fn of_id(id: u64) -> Ticket
         ensures { result ≡ id }
     {
         Ticket { number: id }

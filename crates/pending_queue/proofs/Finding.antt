@@ -3,7 +3,7 @@ use Rattle.std.proofs.Common.{◌≡◌, ℕ, suc, zero, ◌+◌, ◌<◌, ◌�
 use Rattle.std.proofs.lemmas.Iterator.Adapters.{position_from-zero}
 use Rattle.std.specs.List.{position_from}
 use Rattle.std.specs.Prelude.{position}
-use Rattle.pending_table.specs.declared.pending.Pending.{Pending}
+use Rattle.pending_queue.specs.declared.pending.Pending.{Pending}
 
 -- nothing stands only where the test fails
 cond_none : (b : Bool) (n : ℕ) (o : Option ℕ) → cond b (Some n) o ≡ None → (b ≡ false) × (o ≡ None)

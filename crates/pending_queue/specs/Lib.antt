@@ -1,0 +1,3 @@
+-- Pending requests in a fixed order, and the numbers of refusals.
+pub mod Refusals
+pub mod Queue
