@@ -6,7 +6,7 @@ ghost use Rattle.reissue.specs.marks.Marks.{Mark, Took};
 ghost use Rattle.tree.specs.Answers.{answer_of};
 
 use crate::playing::Playing;
-use crate::room::make_room;
+use play_turns::room::make_room;
 use arrivals::Arrived;
 use arrivals::queue::take_first;
 use inline::local::LocalDriver;
