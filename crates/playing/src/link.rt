@@ -22,7 +22,7 @@ impl<'a, D: LocalDriver> Playing<'a, D> {
     ghost use Rattle.playing.specs.PlayView.{play_of, PlaysNext, Advances, ComesToEnd, PlayTrue, GoesOn, left_of};
 
     /// Plays the next event: what message it brings, if any.
-    pub(crate) fn play(&mut self) -> Option<Incoming>
+    pub fn play(&mut self) -> Option<Incoming>
         requires left { self.old.next < length self.old.events.now }
         requires live { self.old.log.over ≡ false }
         requires paid { self.old.owed ≡ false }

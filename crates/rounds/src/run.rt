@@ -5,7 +5,7 @@ ghost use Rattle.tree.specs.declared.Call.{Call};
 ghost use Rattle.playing.specs.PlayView.{work_left};
 ghost use Rattle.rounds.specs.Starts.{IsBeforeFirst, PlaysAll};
 
-use crate::link::WorldLink;
+use played_link::WorldLink;
 use crate::turns::play_out;
 use endpoint::{DISK_DRIVER, Endpoint};
 use file_server::FileServer;
