@@ -50,7 +50,11 @@ pub fn aside<D: LocalDriver>(link: &mut Playing<'_, D>) -> Result<Option<Incomin
 }
 
 /// A call was answered. An error: no memory was found, and nothing was noted.
-pub fn took<'a, D: LocalDriver>(link: &mut Playing<'a, D>, arrived: Arrived<'a>, reply: Reply) -> Result<(), AllocError>
+pub fn took<'a, D: LocalDriver>(
+    link: &mut Playing<'a, D>,
+    arrived: Arrived<'a>,
+    reply: Reply,
+) -> Result<(), AllocError>
     requires { link.old.log.over ≡ false }
     ensures answers { Answers (play_of D.state link.old) arrived.entry reply result (play_of D.state link.new) }
     ensures history { (said link.new.log).history ≡ (said link.old.log).history }

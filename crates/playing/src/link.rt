@@ -6,12 +6,12 @@ ghost use Rattle.reissue.specs.marks.Opening.{Opening};
 ghost use Rattle.reissue.specs.marks.Marks.{Mark};
 
 use crate::playing::Playing;
-use play_turns::room::{event_at, make_room};
 use arrivals::queue::wait;
 use driver_events::ruling::complain;
 use endpoint::Endpoint;
 use inline::local::LocalDriver;
 use message::{BlockRequest, Incoming};
+use play_turns::room::{event_at, make_room};
 use reissue::link::{Link, LinkRefusal, TrueLink};
 use run_log::Entry;
 
