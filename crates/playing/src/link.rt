@@ -6,12 +6,12 @@ ghost use Rattle.reissue.specs.marks.Opening.{Opening};
 ghost use Rattle.reissue.specs.marks.Marks.{Mark};
 
 use crate::playing::Playing;
-use crate::room::{event_at, make_room};
 use arrivals::queue::wait;
 use driver_events::ruling::complain;
 use endpoint::Endpoint;
 use inline::local::LocalDriver;
 use message::{BlockRequest, Incoming};
+use play_turns::room::{event_at, make_room};
 use reissue::link::{Link, LinkRefusal, TrueLink};
 use run_log::Entry;
 
@@ -22,7 +22,7 @@ impl<'a, D: LocalDriver> Playing<'a, D> {
     ghost use Rattle.playing.specs.PlayView.{play_of, PlaysNext, Advances, ComesToEnd, PlayTrue, GoesOn, left_of};
 
     /// Plays the next event: what message it brings, if any.
-    pub(crate) fn play(&mut self) -> Option<Incoming>
+    pub fn play(&mut self) -> Option<Incoming>
         requires left { self.old.next < length self.old.events.now }
         requires live { self.old.log.over ≡ false }
         requires paid { self.old.owed ≡ false }
@@ -41,7 +41,7 @@ impl<'a, D: LocalDriver> Playing<'a, D> {
         self.stage.play(self.alloc, &mut self.log, place, &event)
     }
 
-    #[tactic(auto, using(crate::proofs::PlayLaws::advanced, crate::proofs::PlayLaws::advanced_more))]
+    #[tactic(auto, using(play_turns::proofs::PlayLaws::advanced, play_turns::proofs::PlayLaws::advanced_more))]
     /// Plays events until one brings a message; none, if each was played or no memory was found.
     fn advance(&mut self) -> Option<Incoming>
         requires live { self.old.log.over ≡ false }
@@ -79,7 +79,7 @@ impl<'a, D: LocalDriver> Link for Playing<'a, D> {
     ghost use Rattle.run_log.specs.LogView.{said as said_in, room_in as room_left};
     ghost use Rattle.driver_events.specs.StageView.{scene_of};
     ghost use Rattle.playing.specs.PlayView.{PlayTrue as IsPlayTrue, left_of as left_by, GoesOn as HasGoneOn, play_of as played};
-    ghost use Rattle.playing.specs.Goes.{goes_stays, goes_joins};
+    ghost use Rattle.play_turns.specs.Goes.{goes_stays, goes_joins};
 
     ghost history = { λ l. (said_in l.log).history };
 
@@ -110,7 +110,7 @@ impl<'a, D: LocalDriver> Link for Playing<'a, D> {
         self.log.note(Entry::Complained(about, ruling.is_fault()));
     }
 
-    #[tactic(auto, using(crate::proofs::PlayLaws::ended_true, crate::proofs::PlayLaws::true_of))]
+    #[tactic(auto, using(play_turns::proofs::PlayLaws::ended_true, play_turns::proofs::PlayLaws::true_of))]
     fn take(&mut self) -> Incoming {
         let over = self.log.over;
         if over {
@@ -153,7 +153,7 @@ impl<'a, D: LocalDriver> Link for Playing<'a, D> {
 }
 
 impl<'a, D: LocalDriver> TrueLink for Playing<'a, D> {
-    ghost use Rattle.playing.specs.Goes.{replies_of_play};
+    ghost use Rattle.play_turns.specs.Goes.{replies_of_play};
 
     ghost replies_are_true = { λ l v marks kept. replies_of_play v _ marks kept };
 }

@@ -24,7 +24,7 @@ use Rattle.playing.specs.PlayView as link
 use Rattle.playing.specs.PlayView.{Play, begun, noting, paid, ended, starving, posted, complained, ruling_at, PlaysNext, Advances, Stays, Goes, ComesToEnd, IsPlayedOut, IsStarved, IsSpent, Turn, GoesOn, Still, Further}
 use Rattle.playing_laws.specs.Laws.{IsToldOfEnd, IsEndedRightly, ServersEndRightly}
 use Rattle.playing_laws.specs.Moments.{Doing, Resting, Hearing, Answering, is_busy, Moment, record_of, at_link, Step, Begins, Tells, Takes, Runs, Starts, Then}
-use Rattle.playing.proofs.PlayLaws.{far_history, far_no_end, IsNoEnd, message_history, to_end_history, complaint_marks}
+use Rattle.playing.proofs.play_turns.PlayLaws.{far_history, far_no_end, IsNoEnd, message_history, to_end_history, complaint_marks}
 
 -- the history of a link
 abbrev pub history_of : Play → List Told

@@ -17,7 +17,7 @@ use Rattle.playing.specs.arrivals.declared.arrived.Arrived.{Arrived}
 use Rattle.playing.specs.PlayView.{Play, noting, paid, PlaysNext, GoesOn, Asides, HandsEvent, HandsNone, HandsOwed, HandsOut}
 use Rattle.playing_laws.specs.Laws.{IsToldOfEnd}
 use Rattle.playing_laws.specs.Moments.{Doing, Resting, Hearing, Answering, Moment, record_of, Step, Settles, Brings, BringsNone, Pays, HandsCall, Replies, Runs, Starts, Then}
-use Rattle.playing.proofs.PlayLaws.{message_history}
+use Rattle.playing.proofs.play_turns.PlayLaws.{message_history}
 use Rattle.playing_laws.proofs.Running.{history_of, next_record, next_history, handed_record, Reaches, acts_run, acts_after, ActsAfter, marks_after_message}
 use Rattle.file_server.specs.Over.{AbsorbsOver, CallsOver}
 use Rattle.rounds.specs.Runs.{moment, IsNext, doing_of}

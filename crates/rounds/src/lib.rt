@@ -2,8 +2,8 @@
 #![tactic(auto)]
 
 pub mod course;
-pub mod link;
 pub mod run;
 pub mod turns;
 
-pub use link::{Arrival, Played, WorldLink};
+// passed on: the link
+pub use played_link::{Arrival, Played, WorldLink};

@@ -5,11 +5,11 @@ ghost use Rattle.tree.specs.declared.Call.{Call};
 ghost use Rattle.playing.specs.PlayView.{work_left};
 ghost use Rattle.rounds.specs.Starts.{IsBeforeFirst, PlaysAll};
 
-use crate::link::WorldLink;
 use crate::turns::play_out;
 use endpoint::{DISK_DRIVER, Endpoint};
 use file_server::FileServer;
 use message::Incoming;
+use played_link::WorldLink;
 use std::alloc::AllocError;
 
 /// The driver that is started before the first event.

@@ -11,9 +11,9 @@ ghost use Rattle.rounds.specs.Runs.{doing_after};
 ghost use Rattle.rounds.specs.Ends.{RunsOut};
 
 use crate::course::Course;
-use crate::link::{Arrival, WorldLink};
 use file_server::FileServer;
 use message::Incoming;
+use played_link::{Arrival, WorldLink};
 use std::alloc::AllocError;
 use tree::{Outcome, Reply};
 

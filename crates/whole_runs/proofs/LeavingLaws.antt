@@ -28,7 +28,7 @@ use Rattle.justified_runs.specs.playing.PlayView.{Play, PlaysNext, Advances, Sta
 use Rattle.justified_runs.specs.playing_laws.Waiting.{HasCalls, arrival_of}
 use Rattle.justified_runs.specs.playing_laws.Moments.{Resting, Moment, record_of, Step, Begins as StepBegins, Tells, Takes as StepTakes, Settles, Brings, BringsNone, Pays as StepPays, HandsCall, Replies as StepReplies, Runs, Starts, Then, Needs}
 use Rattle.justified_runs.proofs.playing_laws.Needing.{runs_end_needing}
-use Rattle.justified_runs.proofs.playing.PlayLaws.{IsNoEnd, far_no_end}
+use Rattle.justified_runs.proofs.playing.play_turns.PlayLaws.{IsNoEnd, far_no_end}
 use Rattle.justified_runs.proofs.playing_laws.Running.{next_record}
 use Rattle.justified_runs.specs.justifying.Core.{Core, story, PhaseIs, FollowsGroups}
 use Rattle.justified_runs.specs.justifying.Seen.{with_brought, EventDone}

@@ -4,7 +4,7 @@ use Rattle.reincarnate.specs.policy.Watch.{driver}
 use Rattle.run_log.specs.LogView.{said}
 use Rattle.run_log.specs.Noted.{with_entry}
 use Rattle.run_log.specs.declared.log.Entry.TheVariants as entry
-use Rattle.playing.proofs.PlayLaws.{opened_true}
+use Rattle.play_turns.proofs.PlayLaws.{opened_true}
 use Rattle.playing.proofs.playing.Playing.new.Goals as goal
 
 pub returns-clause-truth : goal.returns-clause-truth

@@ -2,11 +2,12 @@ use Rattle.std.proofs.Common.{refl, ap, arith, subst, length, map, ◌∙◌}
 use Rattle.std.specs.Prelude.{All}
 use Rattle.inline.specs.Inline.{IsReady}
 use Rattle.run_start.specs.Beginning.{IsBegun, range_of}
-use Rattle.world.specs.Plays.{IsFresh}
+use Rattle.run_server.specs.Plays.{IsFresh}
 use Rattle.media.specs.Contents.{MediaState}
 use Rattle.run_start.specs.startup.Starting.{opening_of}
 use Rattle.playing.specs.PlayView.{play_of}
-use Rattle.world.proofs.Showing.{all_unused, little_work, none_ended, run_shows, small_budget, whole_there}
+use Rattle.run_server.proofs.Opened.{little_work, none_ended, small_budget}
+use Rattle.world.proofs.Showing.{all_unused, run_shows, whole_there}
 use Rattle.world.proofs.world_run.World.run.Goals as goal
 
 pub overflow_cast-frames : goal.overflow_cast-frames

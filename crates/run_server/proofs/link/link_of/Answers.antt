@@ -1,5 +1,5 @@
-use Rattle.world.proofs.Showing.{fresh, if_ok, opened_on}
-use Rattle.world.proofs.world_run.link_of.Goals as goal
+use Rattle.run_server.proofs.Opened.{fresh, if_ok, opened_on}
+use Rattle.run_server.proofs.link.link_of.Goals as goal
 
 pub returns-clause-fresh : goal.returns-clause-fresh
 returns-clause-fresh g c = if_ok _ _ _ (λ p opened. fresh _ _ _ _ _ _ opened) c.new-2.ensures.opens

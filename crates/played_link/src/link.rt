@@ -8,6 +8,7 @@ ghost use Rattle.playing.specs.driver_events.Kept.{with_next};
 ghost use Rattle.playing.specs.PlayView.{Play, PlayTrue, GoesOn, Asides, HandsOut, Answers};
 ghost use Rattle.playing.specs.arrivals.declared.arrived.Arrived.{Arrived as OfCall};
 
+use crate::aside;
 use inline::local::LocalDriver;
 use message::Incoming;
 use playing::{Arrived, Playing};
@@ -128,14 +129,14 @@ impl<'a, D: LocalDriver> WorldLink for Playing<'a, D> {
     }
 
     fn aside(&mut self) -> Result<Option<Incoming>, AllocError> {
-        Playing::aside(self)
+        aside::aside(self)
     }
 
     fn next_call(&mut self) -> Option<Arrived<'a>> {
-        Playing::next_call(self)
+        aside::next_call(self)
     }
 
     fn took(&mut self, arrived: Arrived<'a>, reply: Reply) -> Result<(), AllocError> {
-        Playing::took(self, arrived, reply)
+        aside::took(self, arrived, reply)
     }
 }

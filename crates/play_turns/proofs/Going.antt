@@ -17,8 +17,8 @@ use Rattle.driver_events.specs.Ruling.{is_fault, gives_up}
 use Rattle.run_log.specs.declared.log.Entry.TheVariants as entry
 use Rattle.run_log.specs.Noted.{Noted, with_entry, with_end}
 use Rattle.driver_events.specs.Scene.{Scene}
-use Rattle.playing.specs.arrivals.declared.arrived.Arrived.{Arrived}
-use Rattle.playing.specs.PlayView.{Play, noting, paid, ended, starving, posted, complained, ruling_at, PlaysNext, Advances, Goes, ComesToEnd, IsStarved, Takes, TakesOwed, TakesEnd, Posts, Complains, GoesOn, Still, Further, Asides, HandsEvent, HandsNone, HandsOwed, HandsNothing}
+use Rattle.arrivals.specs.declared.arrived.Arrived.{Arrived}
+use Rattle.play_turns.specs.Play.{Play, noting, paid, ended, starving, posted, complained, ruling_at, PlaysNext, Advances, Goes, ComesToEnd, IsStarved, Takes, TakesOwed, TakesEnd, Posts, Complains, GoesOn, Still, Further, Asides, HandsEvent, HandsNone, HandsOwed, HandsNothing}
 
 -- A play by its parts is the one that it was.
 pub same_play : (m b : Play) → m.scene ≡ b.scene → m.events ≡ b.events → m.next ≡ b.next → m.queue ≡ b.queue → m.owed ≡ b.owed → m.told ≡ b.told

@@ -16,7 +16,7 @@ use std::alloc::Global;
 use std::collections::VecDeque;
 
 /// Makes room for an event and what follows it; false where no memory was found, or the link has ended.
-pub(crate) fn make_room<'a, D: LocalDriver>(
+pub fn make_room<'a, D: LocalDriver>(
     stage: &mut Stage<D>,
     log: &mut Log<'a>,
     queue: &mut VecDeque<Arrived<'a>>,
@@ -45,7 +45,7 @@ pub(crate) fn make_room<'a, D: LocalDriver>(
 
 /// The event with this number.
 #[tactic(auto, using(crate::proofs::PlayLaws::there))]
-pub(crate) fn event_at<'a>(events: &[Event<'a>], next: usize) -> Event<'a>
+pub fn event_at<'a>(events: &[Event<'a>], next: usize) -> Event<'a>
     requires { next < length events.now }
     ensures { slice_get events.now next ≡ Some result }
 {

@@ -4,7 +4,7 @@ use Rattle.reissue.specs.marks.Marks.{Mark}
 use Rattle.reissue.specs.marks.Disk.{HasTrueReplies}
 use Rattle.reissue.specs.marks.Opening.{Opening, contents_at}
 use Rattle.driver_events.specs.Scene.{Scene}
-use Rattle.playing.specs.PlayView.{Play, PlayTrue, GoesOn, Still, Further}
+use Rattle.play_turns.specs.Play.{Play, PlayTrue, GoesOn, Still, Further}
 
 pub goes_stays : (p : Play) → GoesOn p p
 goes_stays p = Still

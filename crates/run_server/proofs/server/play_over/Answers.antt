@@ -1,8 +1,8 @@
 use Rattle.std.proofs.Common.{◌≤◌, subst, sym}
 use Rattle.rounds.specs.Starts.{IsBeforeFirst, PlaysAll}
-use Rattle.run_transcript.specs.vfs.OverLink.{line_of, serving_over}
-use Rattle.world.proofs.Showing.{few_here}
-use Rattle.world.proofs.world_run.play_over.Goals as goal
+use Rattle.mounts.specs.vfs.OverLink.{line_of, serving_over}
+use Rattle.run_server.proofs.Opened.{few_here}
+use Rattle.run_server.proofs.server.play_over.Goals as goal
 
 pub play_all-requires-clause-few : goal.play_all-requires-clause-few
 play_all-requires-clause-few g c =
