@@ -6,10 +6,10 @@ ghost use Rattle.file_server.specs.Over.{CallsOver, outcome_of};
 ghost use Rattle.server_laws.specs.Outcomes.{OnAnswered, stopped};
 ghost use Rattle.server_laws.specs.Serving.{MayServe, Spends, server_of};
 
-use call_bodies::body;
 use descriptors::Descriptors;
 use errno::Errno;
 use layout::Geometry;
+use server_laws::body;
 use std::alloc::Global;
 use store::Cut;
 use stored::Caches;

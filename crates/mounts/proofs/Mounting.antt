@@ -28,10 +28,10 @@ use Rattle.mounting.specs.declared.whole.MountRefusal.TheVariants as refusal
 use Rattle.mounting.specs.Reading.{Went}
 use Rattle.mounting.specs.Mounts.{ReadsVolume, in_words}
 use Rattle.vfs.specs.declared.server.Server.{Server}
-use Rattle.vfs.specs.server_laws.Serving.{server_of}
+use Rattle.vfs.specs.answering.server_laws.Serving.{server_of}
 use Rattle.vfs.specs.OverLink.{caching_of, serving_over, transfers_of}
 use Rattle.mounts.specs.Opening.{IsNewOver}
-use Rattle.vfs.proofs.server_laws.Keeping.{legal_acts, tree_acts}
+use Rattle.vfs.proofs.answering.server_laws.Keeping.{legal_acts, tree_acts}
 use Rattle.mounts.proofs.Opened.{just_made, serves_new}
 use Rattle.mounts.specs.Mounted.{IsMounted, IsNotMounted}
 

@@ -28,13 +28,13 @@ use Rattle.cache.specs.Frames.{CacheAgrees, frame_of, frames_of}
 use Rattle.descriptors.specs.Files.{Files, HasFiles}
 use Rattle.descriptors.specs.Made.{no_files}
 use Rattle.descriptors.specs.Table.{files_of}
-use Rattle.vfs.specs.server_laws.call_bodies.Calls.{is_busy}
+use Rattle.vfs.specs.answering.server_laws.call_bodies.Calls.{is_busy}
 use Rattle.stored.specs.declared.Stored.{Stored}
 use Rattle.vfs.specs.declared.server.Server.{Server}
-use Rattle.vfs.specs.server_laws.Serving.{server_of}
+use Rattle.vfs.specs.answering.server_laws.Serving.{server_of}
 use Rattle.vfs.specs.OverLink.{IsIdleOver, caching_of, serving_over}
 use Rattle.mounts.specs.Opening.{IsNewOver, Opens}
-use Rattle.vfs.proofs.server_laws.Keeping.{covers_of}
+use Rattle.vfs.proofs.answering.server_laws.Keeping.{covers_of}
 
 -- the image is what was handed in, and each place of it is sure
 pub record IsUnchanged (image : Contents) (marks : List Mark) : Type 0 where

@@ -9,14 +9,14 @@ use Rattle.store.specs.declared.Cut.{Cut as Why}
 use Rattle.store.specs.declared.Cut.TheVariants.{Eio, LinkEnded}
 use Rattle.stored.specs.World.{Leads, Sees, reason}
 use Rattle.descriptors.specs.Files.{Files}
-use Rattle.server_laws.specs.call_bodies.Calls.{is_busy}
+use Rattle.answering.specs.server_laws.call_bodies.Calls.{is_busy}
 use Rattle.vfs.specs.declared.unmounting.UnmountRefusal.{UnmountRefusal}
 use Rattle.vfs.specs.declared.unmounting.UnmountRefusal.TheVariants as refusal
-use Rattle.server_laws.specs.Serving.{MayServe, server_of}
-use Rattle.server_laws.specs.Unmounting.{UnmountsOver}
+use Rattle.answering.specs.server_laws.Serving.{MayServe, server_of}
+use Rattle.answering.specs.server_laws.Unmounting.{UnmountsOver}
 use Rattle.vfs.specs.Unmounting.{in_words, refused_by}
-use Rattle.server_laws.proofs.Ending.{none, false_true}
-use Rattle.server_laws.proofs.Keeping.{unmounts}
+use Rattle.answering.proofs.server_laws.Ending.{none, false_true}
+use Rattle.answering.proofs.server_laws.Keeping.{unmounts}
 
 -- which it is
 pub is_cut : (a : Caching) (why : Why) (busy : Bool) → IsWhyCut a (reason why) → in_words (refused_by why) ≡ unmounting_of a.ended a.table.given_up busy

@@ -1,5 +1,5 @@
 -- A file server over the frames of a cache.
-pub use Rattle.server_laws.specs as server_laws
+pub use Rattle.answering.specs as answering
 pub mod Server
 pub mod OverLink
 pub mod LineLaws

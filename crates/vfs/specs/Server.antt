@@ -7,7 +7,7 @@ use Rattle.legal.specs.ServerCall.{Serving, Outcome}
 use Rattle.file_server.specs.Over.{CallsOver, AbsorbsOver}
 use Rattle.stored.specs.cache.Calls.{Caching}
 use Rattle.descriptors.specs.Table.{files_of}
-use Rattle.server_laws.specs.Serving.{MayServe, server_of}
+use Rattle.answering.specs.server_laws.Serving.{MayServe, server_of}
 use Rattle.vfs.specs.declared.server.Server.{Server}
 
 -- a server as contracts see it, by what is said of its blocks

@@ -5,7 +5,7 @@ use Rattle.legal.specs.Unmount as legal
 use Rattle.stored.specs.cache.Calls.{Caching}
 use Rattle.store.specs.declared.Cut.{Cut}
 use Rattle.store.specs.declared.Cut.TheVariants as cut
-use Rattle.server_laws.specs.Unmounting.{UnmountsOver}
+use Rattle.answering.specs.server_laws.Unmounting.{UnmountsOver}
 use Rattle.vfs.specs.declared.server.Server.{Server}
 use Rattle.vfs.specs.declared.unmounting.UnmountRefusal.{UnmountRefusal}
 use Rattle.vfs.specs.declared.unmounting.UnmountRefusal.TheVariants.{LinkEnded, Eio, Busy}

@@ -47,8 +47,8 @@ impl<B: Caches> Server<B> {
     ghost use Rattle.stored.specs.cache.Calls.{IsIdle};
     ghost use Rattle.stored.specs.Cached.{MayAbsorb};
     ghost use Rattle.file_server.specs.Over.{outcome_of};
-    ghost use Rattle.server_laws.specs.Outcomes.{OnAnswered};
-    ghost use Rattle.server_laws.specs.Serving.{Spends};
+    ghost use Rattle.answering.specs.server_laws.Outcomes.{OnAnswered};
+    ghost use Rattle.answering.specs.server_laws.Serving.{Spends};
     ghost use Rattle.vfs.specs.Server.{IsOpen, Answers, Absorbs};
 
     /// Answers a client call, with the time in seconds since 1970. Cut once a take gave End, else EIO once the device was given up. No

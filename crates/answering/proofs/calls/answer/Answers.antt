@@ -3,7 +3,7 @@ use Rattle.store.specs.volume.Reading.{Disk}
 use Rattle.tree.specs.Answers.{answer_of}
 use Rattle.store.proofs.Turns.{turns_then}
 use Rattle.descriptors.specs.Table.{files_of}
-use Rattle.call_bodies.specs.Calls.{DoesCall}
+use Rattle.server_laws.specs.call_bodies.Calls.{DoesCall}
 use Rattle.server_laws.proofs.Spending.{spends_none, spends_on}
 use Rattle.server_laws.proofs.Ending.{stopped_at_once, stopped_later, ends_well}
 use Rattle.answering.proofs.calls.answer.Goals as goal

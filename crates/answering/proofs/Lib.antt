@@ -1,0 +1,1 @@
+pub use Rattle.server_laws.proofs as server_laws
