@@ -5,7 +5,7 @@ use Rattle.inline.specs.Inline.{IsReady}
 use Rattle.mounting.specs.Laws.{sizes_in}
 use Rattle.inline.specs.true_replies.Events.{IsOnMedia, opening_media}
 use Rattle.launch.proofs.Frames.{frames_fit}
-use Rattle.launch.proofs.Mounts.{has_run, stopped_on}
+use Rattle.launch.proofs.Runs.{has_run, stopped_on}
 use Rattle.launch.proofs.start.start_and_run.Goals as goal
 
 pub run_over-requires-clause-truth : goal.run_over-requires-clause-truth
