@@ -3,7 +3,5 @@
 
 pub mod start;
 
-// passed on: a service over a link, the server, and how one is mounted
-pub use mounts::Server;
-pub use mounts::mounted::mount;
+// passed on: a service over a link
 pub use opened_service::opened;

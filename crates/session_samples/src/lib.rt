@@ -6,3 +6,6 @@ pub mod callers;
 pub mod programs;
 pub mod services;
 pub mod stops;
+
+// passed on: a service over a link
+pub use launch::opened;

@@ -112,7 +112,15 @@ pub fn served_in_threads<R: Threads + Wait + Copy + Send + Sync + Drop>(
     image: &[u8],
 ) -> Result<Option<(String, String)>, AllocError> {
     let supply = supply_of(alloc, 128, &[None])?;
-    match serve(alloc, rt, image, &whole(), supply, Open, InThreads { alloc, rt }) {
+    match serve(
+        alloc,
+        rt,
+        image,
+        &whole(),
+        supply,
+        Open,
+        InThreads { alloc, rt },
+    ) {
         Ok(lines) => Ok(lines),
         Err(_) => Ok(None),
     }

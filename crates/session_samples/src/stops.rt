@@ -83,12 +83,11 @@ fn stopped_at_last<N: Room, R: Wait + Copy, L: Recorder<N> + OnMedia, S: FileSer
 }
 
 /// A session calls, another one is asked for, and the service is stopped, whose link has ended. The image.
-pub fn asked_and_stopped<
-    N: Room,
-    R: Wait + Copy,
-    L: Recorder<N> + OnMedia,
-    S: FileServer<L>,
->(alloc: Global, service: Service<N, Shared<N, R, L, S>>, lines: &mut String) -> Option<Vec<u8>> {
+pub fn asked_and_stopped<N: Room, R: Wait + Copy, L: Recorder<N> + OnMedia, S: FileServer<L>>(
+    alloc: Global,
+    service: Service<N, Shared<N, R, L, S>>,
+    lines: &mut String,
+) -> Option<Vec<u8>> {
     let mut session = service.session(0, 0).ok()?;
     told(&mut session, 100, &Call::Stat { path: b"/" }, lines);
     let refusal = service.session(0, 0).err();

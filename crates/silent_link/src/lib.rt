@@ -1,5 +1,6 @@
-//! A link to no driver, which has ended, and a service of the volume in an image over it.
+//! A link to no driver, which has ended.
 #![tactic(auto)]
 
-pub mod ended;
-pub mod silent;
+mod silent;
+
+pub use silent::Silent;
