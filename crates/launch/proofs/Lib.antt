@@ -1,2 +1,2 @@
 pub mod Frames
-pub mod Mounts
+pub mod Runs

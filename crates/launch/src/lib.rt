@@ -1,9 +1,7 @@
 //! Starting a service of the file server on the volume of an image, whose drivers it runs itself.
 #![tactic(auto)]
 
-pub mod opened;
 pub mod start;
 
-// passed on: the server, and how one is mounted
-pub use mounts::Server;
-pub use mounts::mounted::mount;
+// passed on: a service over a link
+pub use opened_service::opened;

@@ -3,16 +3,8 @@
 #![tactic(auto)]
 
 #[cfg(test)]
-mod callers;
-#[cfg(test)]
 mod ended;
 #[cfg(test)]
-mod programs;
-#[cfg(test)]
-mod services;
-#[cfg(test)]
 mod sessions;
-#[cfg(test)]
-mod silent;
 #[cfg(test)]
 mod threads;

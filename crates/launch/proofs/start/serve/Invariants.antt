@@ -1,6 +1,6 @@
 use Rattle.std.specs.Prelude.{map}
 use Rattle.reissue.specs.marks.Opening.{contents_at}
-use Rattle.mounting.specs.Laws.{sizes_in}
+use Rattle.startup.specs.mounting.Laws.{sizes_in}
 use Rattle.startup.specs.Starting.{opening_of}
 use Rattle.launch.proofs.start.serve.Given as goal
 

@@ -2,14 +2,14 @@ use Rattle.std.proofs.Common.{◌≡◌, sym, subst, map}
 use Rattle.std.specs.Prelude.{All}
 use Rattle.reissue.specs.marks.Opening.{Opening, contents_at}
 use Rattle.inline.specs.Inline.{IsReady}
-use Rattle.mounting.specs.Laws.{sizes_in}
+use Rattle.startup.specs.mounting.Laws.{sizes_in}
 use Rattle.inline.specs.true_replies.Events.{IsOnMedia, opening_media}
 use Rattle.launch.proofs.Frames.{frames_fit}
-use Rattle.launch.proofs.Mounts.{has_run, stopped_on}
+use Rattle.launch.proofs.Runs.{has_run, stopped_on}
 use Rattle.launch.proofs.start.start_and_run.Goals as goal
 
 pub run_over-requires-clause-truth : goal.run_over-requires-clause-truth
-run_over-requires-clause-truth g c =
+run_over-requires-clause-truth g c = λ _ _.
     c.in_ok-noting.ensures.truth g.N.Room.opening
     (c.in_ok-link.ensures.truth g.N.Room.opening
     (subst (λ (v : Opening). IsOnMedia v) (sym c.requires.opening) c.requires.on_media)
@@ -17,11 +17,11 @@ run_over-requires-clause-truth g c =
     (subst (λ (v : Opening). All (IsReady v) (map g.D.LocalDriver.state c.args.supply.items)) (sym c.requires.opening) c.requires.ready))
 
 pub run_over-requires-clause-frames : goal.run_over-requires-clause-frames
-run_over-requires-clause-frames g c =
+run_over-requires-clause-frames g c = λ _ _.
     frames_fit c.args.setup.now.frames c.requires.prepared.set_up.0.0 c.requires.prepared.set_up.0.1
 
 pub run_over-requires-clause-geometry : goal.run_over-requires-clause-geometry
-run_over-requires-clause-geometry g c =
+run_over-requires-clause-geometry g c = λ _ _.
     subst (λ (v : Opening). g.N.Room.geometry ≡ sizes_in (contents_at v)) (sym c.requires.opening) c.requires.geometry
 
 pub returns-clause-ran : goal.returns-clause-ran

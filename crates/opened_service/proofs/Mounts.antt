@@ -1,6 +1,5 @@
 -- From a volume that was mounted to what a service holds, or why it doesn't start.
 use Rattle.std.proofs.Common.{◌≡◌, ℕ, List, [], ◌++◌, Bool, true, false, sym, ap, ◌∙◌, subst}
-use Rattle.std.specs.Prelude.{IfErr, IfOk, OnOk, Result, Ok, Err}
 use Rattle.layout.specs.declared.Geometry.{Geometry}
 use Rattle.board.specs.tree.declared.Call.{Call}
 use Rattle.board.specs.tree.Tree.{Tree}
@@ -9,8 +8,8 @@ use Rattle.reissue.specs.marks.Disk.{Contents, HasTrueReplies}
 use Rattle.reissue.specs.marks.Acts.{KeepsRules, empty_outbox, marks_after, told_of}
 use Rattle.reissue.specs.marks.Opening.{Opening, contents_at}
 use Rattle.reissue.specs.marks.Told.{Told}
-use Rattle.reincarnate.specs.bdev.DriverState.{DriverState}
-use Rattle.policy.specs.declared.Policy.{Policy}
+use Rattle.keeping.specs.bdev.DriverState.{DriverState}
+use Rattle.keeping.specs.policy.declared.Policy.{Policy}
 use Rattle.board.specs.legal.Legal.{IsAtFirst}
 use Rattle.board.specs.legal.Mount.{MountRefused}
 use Rattle.reissue.specs.declared.link.Link.{Ghosts as LinkWords}
@@ -23,14 +22,11 @@ use Rattle.mounting.specs.declared.whole.MountRefusal.TheVariants as mount
 use Rattle.mounting.specs.Laws.{sizes_in}
 use Rattle.mounting.specs.Mounts.{in_words}
 use Rattle.mounting.proofs.OfImage.{mounted_on_image, refused_by_image}
-use Rattle.startup.specs.declared.refusal.StartRefusal.{StartRefusal}
-use Rattle.startup.specs.declared.refusal.StartRefusal.TheVariants.{Media, Partition, NoPartition, Mount, BadSetup, NoDriver, OutOfMemory}
-use Rattle.startup.specs.Starting.{opening_of, IsPrepared, IsRefused}
-use Rattle.policy.specs.declared.Setup.{Setup}
+use Rattle.startup.specs.declared.refusal.StartRefusal.TheVariants.{OutOfMemory}
 use Rattle.mounts.specs.vfs.declared.server.Server.{Server}
 use Rattle.mounts.specs.Mounted.{IsMounted, IsNotMounted}
 use Rattle.mounts.specs.vfs.OverLink.{IsReadyOver, line_of, serving_over}
-use Rattle.launch.specs.Ran.{HasRun, IsMountRefused, IsNotStarted, IsStopped, refusal_of}
+use Rattle.opened_service.specs.Stopped.{IsMountRefused, IsStopped, refusal_of}
 
 -- ---- one tree
 
@@ -141,50 +137,3 @@ pub mount_stopped : {L : Type 0} (words : LinkWords L)
 mount_stopped words are_true v link minor frames e same none truth m =
     as_start v frames e (refused_over v frames minor (words.history link) (words.history m.last) e none same m.refused
     (are_true m.last v (marks_after m.refused.acts []) (m.truth v (sym same) truth)))
-
--- the same of the opening that is another's name
-pub stopped_on : {O : Type 0} (v w : Opening) (frames : ℕ) (result : Result O StartRefusal) → v ≡ w → IfErr result (IsStopped v frames)
-    → IfErr result (IsStopped w frames)
-stopped_on v w frames result same h = subst (λ (x : Opening). IfErr result (IsStopped x frames)) same h
-
--- ---- what was run
-
--- a program that ran over a service of a volume that was mounted
-pub has_run : {O : Type 0} (image : List ℕ) (setup : Setup) (supply : List DriverState) (range : ℕ × ℕ) (v : Opening) (g : Geometry)
-    (gives : Geometry → Opening → O → Type 0) (result : Result O StartRefusal) → v ≡ opening_of image setup.minor range → IsPrepared image setup supply range
-    → IfOk result (λ o. gives g v o) → OnOk result ((tree : Tree) × IsAtFirst g (contents_at v) tree)
-    → IfOk result (λ o. HasRun image setup supply (λ h opening. gives h opening o))
-has_run image setup supply range v g gives (Err e) same prepared given held = tt
-has_run image setup supply range v g gives (Ok o) same prepared given held = (
-  g,
-  range,
-  record {
-    prepared = prepared;
-    tree = held.0;
-    at_first = subst (λ (x : Opening). IsAtFirst g (contents_at x) held.0) same held.1;
-  },
-  subst (λ (x : Opening). gives g x o) same given,
-)
-
--- ---- the start
-
-pub never_prepared : (image : List ℕ) (setup : Setup) (supply : List DriverState) (e : StartRefusal) → IsRefused image setup supply e
-    → IsNotStarted image setup supply e
-never_prepared image setup supply (Media refusal) h = h
-never_prepared image setup supply (Partition refusal) h = h
-never_prepared image setup supply NoPartition h = h
-never_prepared image setup supply (Mount refusal) h = absurd h
-never_prepared image setup supply BadSetup h = h
-never_prepared image setup supply NoDriver h = h
-never_prepared image setup supply OutOfMemory h = h
-
--- why no service starts where all stands ready
-pub never_started : (image : List ℕ) (setup : Setup) (supply : List DriverState) (range : ℕ × ℕ) (e : StartRefusal) → IsPrepared image setup supply range
-    → IsStopped (opening_of image setup.minor range) setup.frames e → IsNotStarted image setup supply e
-never_started image setup supply range (Mount refusal) p h = (range, p, h)
-never_started image setup supply range OutOfMemory p h = p.place.0
-never_started image setup supply range (Media refusal) p h = absurd h
-never_started image setup supply range (Partition refusal) p h = absurd h
-never_started image setup supply range NoPartition p h = absurd h
-never_started image setup supply range BadSetup p h = absurd h
-never_started image setup supply range NoDriver p h = absurd h

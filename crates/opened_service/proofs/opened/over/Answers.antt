@@ -3,7 +3,7 @@ use Rattle.layout.specs.declared.Geometry.{Geometry}
 use Rattle.board.specs.legal.Mount.{OpenKeeps}
 use Rattle.mounts.specs.vfs.OverLink.{serving_over}
 use Rattle.serve.proofs.shared_server.held_server.HeldLaws.{held_at_first}
-use Rattle.launch.proofs.opened.over.Goals as goal
+use Rattle.opened_service.proofs.opened.over.Goals as goal
 
 pub over-requires-clause-held : goal.over-requires-clause-held
 over-requires-clause-held g c =

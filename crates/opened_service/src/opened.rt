@@ -8,7 +8,7 @@ ghost use Rattle.reissue.specs.marks.Opening.{contents_at};
 ghost use Rattle.board.specs.legal.Legal.{IsAtFirst};
 ghost use Rattle.board.specs.legal.Mount.{is_frame_count};
 ghost use Rattle.mounting.specs.Laws.{sizes_in};
-ghost use Rattle.launch.specs.Ran.{IsStopped, refusal_of as start_refusal_of};
+ghost use Rattle.opened_service.specs.Stopped.{IsStopped, refusal_of as start_refusal_of};
 
 use board::Board;
 use keeping::recorder::Recorder;

@@ -1,7 +1,7 @@
 use Rattle.std.proofs.Common.{subst, sym}
-use Rattle.launch.specs.Ran.{IsStopped}
-use Rattle.launch.proofs.Mounts.{holds, mount_stopped, mounted_held}
-use Rattle.launch.proofs.opened.mounted.Goals as goal
+use Rattle.opened_service.specs.Stopped.{IsStopped}
+use Rattle.opened_service.proofs.Mounts.{holds, mount_stopped, mounted_held}
+use Rattle.opened_service.proofs.opened.mounted.Goals as goal
 
 pub over-requires-clause-held : goal.over-requires-clause-held
 over-requires-clause-held g c =

@@ -1,0 +1,61 @@
+-- What a program came to over a service, or why none is started.
+use Rattle.std.proofs.Common.{◌≡◌, ℕ, List, subst}
+use Rattle.std.specs.Prelude.{IfErr, IfOk, OnOk, Result, Ok, Err}
+use Rattle.layout.specs.declared.Geometry.{Geometry}
+use Rattle.board.specs.tree.Tree.{Tree}
+use Rattle.reissue.specs.marks.Opening.{Opening, contents_at}
+use Rattle.reincarnate.specs.bdev.DriverState.{DriverState}
+use Rattle.board.specs.legal.Legal.{IsAtFirst}
+use Rattle.startup.specs.declared.refusal.StartRefusal.{StartRefusal}
+use Rattle.startup.specs.declared.refusal.StartRefusal.TheVariants.{Media, Partition, NoPartition, Mount, BadSetup, NoDriver, OutOfMemory}
+use Rattle.startup.specs.Starting.{opening_of, IsPrepared, IsRefused}
+use Rattle.policy.specs.declared.Setup.{Setup}
+use Rattle.opened_service.specs.Stopped.{IsStopped}
+use Rattle.launch.specs.Ran.{HasRun, IsNotStarted}
+
+-- the same of the opening that is another's name
+pub stopped_on : {O : Type 0} (v w : Opening) (frames : ℕ) (result : Result O StartRefusal) → v ≡ w → IfErr result (IsStopped v frames)
+    → IfErr result (IsStopped w frames)
+stopped_on v w frames result same h = subst (λ (x : Opening). IfErr result (IsStopped x frames)) same h
+
+-- ---- what was run
+
+-- a program that ran over a service of a volume that was mounted
+pub has_run : {O : Type 0} (image : List ℕ) (setup : Setup) (supply : List DriverState) (range : ℕ × ℕ) (v : Opening) (g : Geometry)
+    (gives : Geometry → Opening → O → Type 0) (result : Result O StartRefusal) → v ≡ opening_of image setup.minor range → IsPrepared image setup supply range
+    → IfOk result (λ o. gives g v o) → OnOk result ((tree : Tree) × IsAtFirst g (contents_at v) tree)
+    → IfOk result (λ o. HasRun image setup supply (λ h opening. gives h opening o))
+has_run image setup supply range v g gives (Err e) same prepared given held = tt
+has_run image setup supply range v g gives (Ok o) same prepared given held = (
+  g,
+  range,
+  record {
+    prepared = prepared;
+    tree = held.0;
+    at_first = subst (λ (x : Opening). IsAtFirst g (contents_at x) held.0) same held.1;
+  },
+  subst (λ (x : Opening). gives g x o) same given,
+)
+
+-- ---- the start
+
+pub never_prepared : (image : List ℕ) (setup : Setup) (supply : List DriverState) (e : StartRefusal) → IsRefused image setup supply e
+    → IsNotStarted image setup supply e
+never_prepared image setup supply (Media refusal) h = h
+never_prepared image setup supply (Partition refusal) h = h
+never_prepared image setup supply NoPartition h = h
+never_prepared image setup supply (Mount refusal) h = absurd h
+never_prepared image setup supply BadSetup h = h
+never_prepared image setup supply NoDriver h = h
+never_prepared image setup supply OutOfMemory h = h
+
+-- why no service starts where all stands ready
+pub never_started : (image : List ℕ) (setup : Setup) (supply : List DriverState) (range : ℕ × ℕ) (e : StartRefusal) → IsPrepared image setup supply range
+    → IsStopped (opening_of image setup.minor range) setup.frames e → IsNotStarted image setup supply e
+never_started image setup supply range (Mount refusal) p h = (range, p, h)
+never_started image setup supply range OutOfMemory p h = p.place.0
+never_started image setup supply range (Media refusal) p h = absurd h
+never_started image setup supply range (Partition refusal) p h = absurd h
+never_started image setup supply range NoPartition p h = absurd h
+never_started image setup supply range BadSetup p h = absurd h
+never_started image setup supply range NoDriver p h = absurd h

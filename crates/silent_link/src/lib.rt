@@ -1,0 +1,6 @@
+//! A link to no driver, which has ended.
+#![tactic(auto)]
+
+mod silent;
+
+pub use silent::Silent;
