@@ -57,13 +57,7 @@ pub fn drivers_on<D: LocalDriver>(
 }
 
 // The caller picks `N` from what it hands over.
-fn start_and_run<
-    N: Room + Send + Sync,
-    R: Wait + Copy,
-    D: LocalDriver + Send,
-    G: Gate,
-    P: Program<R>,
->(
+fn start_and_run<N: Room, R: Wait + Copy, D: LocalDriver, G: Gate, P: Program<R>>(
     alloc: Global,
     rt: R,
     board: Board,
@@ -110,7 +104,7 @@ fn start_and_run<
 ///
 /// It is refused as `prepare` is, which is looked at first; and `Mount` as a mount is, by the volume as the drivers give it, or since
 /// the device was given up or the link to the drivers ended before all of it was read. Then nothing runs.
-pub fn serve<R: Wait + Copy, D: LocalDriver + Send, G: Gate, P: Program<R>>(
+pub fn serve<R: Wait + Copy, D: LocalDriver, G: Gate, P: Program<R>>(
     alloc: Global,
     rt: R,
     image: &[u8],

@@ -31,22 +31,16 @@ pub trait Program<R: Wait + Copy>: Drop {
 
     ghost gives: { Self → Sizes → Opening → Self.Output → Type 0 };
 
-    /// Does it, on one thread or on several: all of the service may go to another thread. What it doesn't stop ends with it.
-    fn run<
-        N: Room + Send + Sync,
-        L: Recorder<N> + TrueLink + OnMedia + Send,
-        S: FileServer<L> + Send,
-    >(self, service: Service<N, Shared<N, R, L, S>>) -> Self::Output
+    /// Does it. What it doesn't stop ends with it.
+    fn run<N: Room, L: Recorder<N> + TrueLink + OnMedia, S: FileServer<L>>(
+        self,
+        service: Service<N, Shared<N, R, L, S>>,
+    ) -> Self::Output
         ensures { gives self N.geometry N.opening result };
 }
 
 /// Mounts the volume over this link, and runs a program over the service of it. It is refused as `mounted` is, and then nothing runs.
-pub fn run_over<
-    N: Room + Send + Sync,
-    R: Wait + Copy,
-    L: Recorder<N> + TrueLink + OnMedia + Send,
-    P: Program<R>,
->(
+pub fn run_over<N: Room, R: Wait + Copy, L: Recorder<N> + TrueLink + OnMedia, P: Program<R>>(
     alloc: Global,
     rt: R,
     board: Arc<Board>,

@@ -109,7 +109,7 @@ impl<R: Wait + Copy> Program<R> for Players<'_> {
 /// Starts a service on the volume in an image, plays scripts one after the other, each in a session of its own, and stops the service.
 ///
 /// The service is refused as `launch::start::serve` refuses it, and then nothing is played; of a service that started no image may come.
-pub fn play_scripts<R: Wait + Copy, D: LocalDriver + Send>(
+pub fn play_scripts<R: Wait + Copy, D: LocalDriver>(
     alloc: Global,
     rt: R,
     image: &[u8],

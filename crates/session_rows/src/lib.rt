@@ -3,8 +3,16 @@
 #![tactic(auto)]
 
 #[cfg(test)]
+mod callers;
+#[cfg(test)]
 mod ended;
 #[cfg(test)]
+mod programs;
+#[cfg(test)]
+mod services;
+#[cfg(test)]
 mod sessions;
+#[cfg(test)]
+mod silent;
 #[cfg(test)]
 mod threads;

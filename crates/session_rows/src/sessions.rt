@@ -1,9 +1,9 @@
 //! Sessions of one service: their replies, their numbers, and what they have seen; and services that are stopped.
 
+use crate::programs::{What, served};
 use modeldisk::FaultKind;
 use row_texts::is_told;
 use samples::new_volume;
-use session_samples::programs::{What, served};
 use std::alloc::Global;
 use std::sync::Wait;
 use std::test::Fail;

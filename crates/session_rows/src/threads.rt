@@ -1,8 +1,33 @@
 //! Two sessions of one service call, in threads of their own.
+ghost use Rattle.std.specs.Prelude.{◌≡◌, ◌≤◌, ◌^◌, [], true, All, map};
+ghost use Rattle.std.specs.Arc.{arc_value};
+ghost use Rattle.board.specs.legal.Mount.{is_frame_count};
+ghost use Rattle.history.specs.marks.Opening.{contents_at};
+ghost use Rattle.startup.specs.mounting.Laws.{sizes_in};
+ghost use Rattle.inline.specs.true_replies.Events.{IsOnMedia, opening_media};
+ghost use Rattle.inline.specs.Inline.{IsReady};
+ghost use Rattle.board.specs.View.{IsKeeper, opener};
+ghost use Rattle.startup.specs.Starting.{opening_of, IsPrepared};
+
+use crate::services::two_in_threads;
+use board::{Board, Seat};
+use counting_link::Noting;
+use driven::Driven;
+use inline::local::LocalDriver;
+use keeping::recorder::Recorder;
+use keeping::room::Room;
+use launch::opened::mounted;
+use launch::start::drivers_on;
+use policy::Setup;
+use reissue::link::TrueLink;
 use row_texts::is_told;
-use samples::new_volume;
-use session_samples::programs::served_in_threads;
+use samples::{new_volume, supply_of, whole};
+use startup::{Prepared, prepare};
+use std::alloc::{AllocError, Global};
+use std::marker::Brand;
+use std::sync::{Arc, Wait};
 use std::test::Fail;
+use std::thread::Threads;
 
 /// What each of them is answered.
 const LINES: &str = "inode 1 mode 0040755 links 2 uid 0 gid 0 size 128 times 50 50 50
@@ -10,10 +35,84 @@ inode 1 mode 0040755 links 2 uid 0 gid 0 size 128 times 50 50 50
 inode 1 mode 0040755 links 2 uid 0 gid 0 size 128 times 50 50 50
 ";
 
+/// Two sessions call in threads of their own, over a service on a link.
+fn over_threads<
+    N: Room + Send + Sync,
+    R: Threads + Wait + Copy + Send + Sync,
+    L: Recorder<N> + TrueLink + Send,
+>(
+    alloc: Global,
+    rt: R,
+    board: Arc<Board>,
+    link: L,
+    minor: u8,
+    frames: u32,
+) -> Option<(String, String)>
+    requires board { arc_value board ≡ N.table }
+    requires marks { L.marks link ≡ [] }
+    requires told { L.Link.history link ≡ [] }
+    requires geometry { N.geometry ≡ sizes_in (contents_at N.opening) }
+    requires minor { minor ≡ N.opening.minor }
+    requires frames { is_frame_count frames ≡ true }
+    requires budget { L.Link.budget_left link ≤ 2 ^ 57 }
+    requires truth { L.Link.truth link N.opening [] }
+    requires drivers { L.runs_on link N.policy N.supply }
+{
+    match mounted(alloc, rt, board, link, minor, frames) {
+        Ok(service) => two_in_threads(alloc, rt, service),
+        Err(_) => None,
+    }
+}
+
+/// The same, over a service that is started on drivers.
+fn on_threads<N: Room + Send + Sync, R: Threads + Wait + Copy + Send + Sync, D: LocalDriver + Send>(
+    alloc: Global,
+    rt: R,
+    board: Board,
+    seat: Seat,
+    prepared: Prepared,
+    image: &[u8],
+    setup: &Setup,
+    supply: Vec<D>,
+) -> Result<Option<(String, String)>, AllocError>
+    requires board { board ≡ N.table }
+    requires seat { IsKeeper N.table seat × (seat.view ≡ opener) }
+    requires opening { N.opening ≡ opening_of image.now setup.now.minor prepared.range }
+    requires geometry { N.geometry ≡ sizes_in (contents_at (opening_of image.now setup.now.minor prepared.range)) }
+    requires policy { N.policy ≡ setup.now.policy }
+    requires drivers { N.supply ≡ map D.state supply.items }
+    requires prepared { IsPrepared image.now setup.now (map D.state supply.items) prepared.range }
+    requires contents { prepared.media ≡ opening_media (opening_of image.now setup.now.minor prepared.range) }
+    requires on_media { IsOnMedia (opening_of image.now setup.now.minor prepared.range) }
+    requires ready { All (IsReady (opening_of image.now setup.now.minor prepared.range)) (map D.state supply.items) }
+{
+    let Prepared { media, .. } = prepared;
+    let link = drivers_on(alloc, media, setup.policy, supply)?;
+    let board = Arc::new(alloc, board)?;
+    let noting = Noting::<N, Driven<D>>::new(alloc, link, Arc::try_clone(&board)?, seat)?;
+    Ok(over_threads(alloc, rt, board, noting, setup.minor, setup.frames as u32))
+}
+
+/// The same, over a service on the volume in an image.
+fn called_on_threads<R: Threads + Wait + Copy + Send + Sync, D: LocalDriver + Send>(
+    alloc: Global,
+    rt: R,
+    image: &[u8],
+    setup: &Setup,
+    supply: Vec<D>,
+) -> Option<(String, String)> {
+    let Ok(prepared) = prepare(alloc, image, setup, &supply) else {
+        return None;
+    };
+    let (board, seat) = Board::new(alloc).ok()?;
+    on_threads::<Brand, R, D>(alloc, rt, board, seat, prepared, image, setup, supply).ok()?
+}
+
 #[test]
 fn two_threads_call(rt: HostRuntime) -> Result<(), Fail> {
     let image = new_volume(rt.alloc(), 1024)?;
-    let Some((one, two)) = served_in_threads(rt.alloc(), rt, &image)? else {
+    let supply = supply_of(rt.alloc(), 128, &[None])?;
+    let Some((one, two)) = called_on_threads(rt.alloc(), rt, &image, &whole(), supply) else {
         return Err(Fail::from("not served"));
     };
     is_told(one.as_str(), LINES)?;

@@ -100,7 +100,7 @@ impl fmt::Display for PlayRefusal<'_> {
 /// scripts, the start of the service, its sessions, the image. For the first of them a line goes to `err`, nothing goes out, and no image
 /// is left. Where the answers can't be written, a line goes to `err` too, and the image is there all the same. The status says how that
 /// line went out.
-pub fn play<R: Wait + Copy, D: LocalDriver + Send, W: Write, E: Write>(
+pub fn play<R: Wait + Copy, D: LocalDriver, W: Write, E: Write>(
     alloc: Global,
     rt: R,
     image: File<'_, '_>,
@@ -152,7 +152,7 @@ pub fn finish<E: Write>(
 }
 
 /// Reads, starts, plays and stops, in this order.
-fn run<'n, R: Wait + Copy, D: LocalDriver + Send>(
+fn run<'n, R: Wait + Copy, D: LocalDriver>(
     alloc: Global,
     rt: R,
     image: File<'n, '_>,

@@ -9,7 +9,7 @@ use Rattle.launch.proofs.Runs.{has_run, stopped_on}
 use Rattle.launch.proofs.start.start_and_run.Goals as goal
 
 pub run_over-requires-clause-truth : goal.run_over-requires-clause-truth
-run_over-requires-clause-truth g c = λ _ _.
+run_over-requires-clause-truth g c =
     c.in_ok-noting.ensures.truth g.N.Room.opening
     (c.in_ok-link.ensures.truth g.N.Room.opening
     (subst (λ (v : Opening). IsOnMedia v) (sym c.requires.opening) c.requires.on_media)
@@ -17,11 +17,11 @@ run_over-requires-clause-truth g c = λ _ _.
     (subst (λ (v : Opening). All (IsReady v) (map g.D.LocalDriver.state c.args.supply.items)) (sym c.requires.opening) c.requires.ready))
 
 pub run_over-requires-clause-frames : goal.run_over-requires-clause-frames
-run_over-requires-clause-frames g c = λ _ _.
+run_over-requires-clause-frames g c =
     frames_fit c.args.setup.now.frames c.requires.prepared.set_up.0.0 c.requires.prepared.set_up.0.1
 
 pub run_over-requires-clause-geometry : goal.run_over-requires-clause-geometry
-run_over-requires-clause-geometry g c = λ _ _.
+run_over-requires-clause-geometry g c =
     subst (λ (v : Opening). g.N.Room.geometry ≡ sizes_in (contents_at v)) (sym c.requires.opening) c.requires.geometry
 
 pub returns-clause-ran : goal.returns-clause-ran

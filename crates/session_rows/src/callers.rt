@@ -11,7 +11,7 @@ use std::sync::Wait;
 use tree::{Call, Outcome};
 
 /// A session, whichever service it is of.
-pub trait Caller {
+pub(crate) trait Caller {
     /// Makes a call at this time.
     fn make(&mut self, now: u32, call: &Call<'_>) -> Outcome;
 
@@ -45,7 +45,7 @@ impl<N: Room, R: Wait + Copy, L: Recorder<N>, S: FileServer<L>> Caller
 }
 
 /// Makes a call at this time, and adds a line with what it is answered, where there is memory for it.
-pub fn told<C: Caller>(caller: &mut C, now: u32, call: &Call<'_>, lines: &mut String) {
+pub(crate) fn told<C: Caller>(caller: &mut C, now: u32, call: &Call<'_>, lines: &mut String) {
     let outcome = caller.make(now, call);
     let shown = OutcomeText(&outcome);
     let _ = writeln!(lines, "{shown}");
@@ -59,7 +59,7 @@ fn told_marks<C: Caller>(one: &C, two: &C, lines: &mut String) {
 
 /// Two sessions ask for the root three times each in turn, meet, and ask for the device: a line for each answer, how many marks each had
 /// seen before they met and after, and the device, as each saw it at last.
-pub fn in_turn<C: Caller>(one: &mut C, two: &mut C, lines: &mut String) {
+pub(crate) fn in_turn<C: Caller>(one: &mut C, two: &mut C, lines: &mut String) {
     let stat = Call::Stat { path: b"/" };
     for now in [100, 101, 102] {
         told(one, now, &stat, lines);

@@ -1,6 +1,7 @@
 //! What is done with a service on the small volume.
-use crate::services::{many, two_in_threads, two_in_turn};
-use crate::stops::stopped;
+ghost use Rattle.std.specs.Prelude.{◌≡◌};
+
+use crate::services::{many, stopped, two_in_turn};
 use file_server::FileServer;
 use keeping::recorder::Recorder;
 use keeping::room::Room;
@@ -8,16 +9,15 @@ use keeping::steady::OnMedia;
 use launch::start::{Program, serve};
 use modeldisk::FaultKind;
 use reissue::link::TrueLink;
-use samples::{MOUNT_READS, supply_at, supply_of, whole};
+use samples::{MOUNT_READS, supply_at, whole};
 use serve::gate::Open;
 use serve::service::{Service, Shared};
 use std::alloc::{AllocError, Global};
 use std::sync::Wait;
-use std::thread::Threads;
 use tree::Call;
 
 /// What is done.
-pub enum What {
+pub(crate) enum What {
     /// Two sessions call in turn.
     InTurn,
     /// As many sessions are made as there are numbers, and one more.
@@ -28,11 +28,11 @@ pub enum What {
 
 /// What came of it: lines, where there was memory for them, and the image of a service that was stopped, or no bytes.
 #[derive(Drop)]
-pub struct Came {
+pub(crate) struct Came {
     /// The lines.
-    pub lines: String,
+    pub(crate) lines: String,
     /// The image.
-    pub image: Vec<u8>,
+    pub(crate) image: Vec<u8>,
 }
 
 /// One of these is done.
@@ -67,7 +67,7 @@ impl<R: Wait + Copy> Program<R> for Does {
 }
 
 /// What comes of it over a service of the volume in an image, whose driver has this fault in its first request after those of the mount.
-pub fn served<R: Wait + Copy>(
+pub(crate) fn served<R: Wait + Copy>(
     alloc: Global,
     rt: R,
     image: &[u8],
@@ -78,50 +78,6 @@ pub fn served<R: Wait + Copy>(
     let does = Does { alloc, what };
     match serve(alloc, rt, image, &whole(), supply, Open, does) {
         Ok(came) => Ok(came),
-        Err(_) => Ok(None),
-    }
-}
-
-/// Two sessions call in threads of their own. The lines of each.
-#[derive(Drop)]
-struct InThreads<R: Drop> {
-    alloc: Global,
-    rt: R,
-}
-
-impl<R: Threads + Wait + Copy + Send + Sync + Drop> Program<R> for InThreads<R> {
-    type Output = Option<(String, String)>;
-
-    ghost gives = { λ program geometry opening output. Unit {0} };
-
-    fn run<
-        N: Room + Send + Sync,
-        L: Recorder<N> + TrueLink + OnMedia + Send,
-        S: FileServer<L> + Send,
-    >(self, service: Service<N, Shared<N, R, L, S>>) -> Option<(String, String)>
-        ensures { Unit {0} }
-    {
-        two_in_threads(self.alloc, self.rt, service)
-    }
-}
-
-/// The lines of two sessions that call in threads of their own, of a service of the volume in an image.
-pub fn served_in_threads<R: Threads + Wait + Copy + Send + Sync + Drop>(
-    alloc: Global,
-    rt: R,
-    image: &[u8],
-) -> Result<Option<(String, String)>, AllocError> {
-    let supply = supply_of(alloc, 128, &[None])?;
-    match serve(
-        alloc,
-        rt,
-        image,
-        &whole(),
-        supply,
-        Open,
-        InThreads { alloc, rt },
-    ) {
-        Ok(lines) => Ok(lines),
         Err(_) => Ok(None),
     }
 }
