@@ -8,18 +8,13 @@ use run_samples::places::{Place, misheld};
 use samples::{new_volume, whole};
 use schedule::Event;
 use schedule_text::reading::{Schedule, read_schedule};
-use simulation::world::{RunRefusal, Transcript, World};
+use simulation::world::{Transcript, World};
 use std::alloc::{AllocError, Global};
 use std::test::Fail;
 use supply::{drivers_for, table_in};
 
 /// The size of blocks, the parts of a schedule, what the media hold afterwards, and whether all was synced, so that the volume is clean.
 pub type Left = (usize, &'static [&'static str], &'static [Place], bool);
-
-/// A run that should have begun wasn't, and why.
-fn not_begun(refusal: RunRefusal) -> Fail {
-    Fail::new(format_args!("{refusal}"))
-}
 
 /// The bytes of the media after a run.
 fn bytes_after(alloc: Global, transcript: &Transcript<'_, Driver>) -> Result<Vec<u8>, AllocError> {
@@ -37,7 +32,7 @@ fn image_of(
 {
     match World::run(alloc, image, &whole(), supply, events) {
         Ok(transcript) => Ok(bytes_after(alloc, &transcript)?),
-        Err(refusal) => Err(not_begun(refusal)),
+        Err(_) => Err(Fail::from("no run was begun")),
     }
 }
 
