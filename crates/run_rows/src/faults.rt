@@ -1,18 +1,12 @@
 //! Drivers that fail, or answer an error or too little, in runs of a call that reads the root's inode.
 
-use crate::runs::says;
-use bdev::Driver;
+use boxed_runs::shown::{Faults, faults_show};
 use errno::Errno;
 use modeldisk::FaultKind;
-use samples::{new_volume, supply_of, whole};
-use std::alloc::{AllocError, Global};
 use std::test::Fail;
 
-/// What goes wrong in a driver's first request, once so many of its sectors were moved.
-type Faults = &'static [Option<(u32, FaultKind)>];
-
 /// The drivers' faults, a schedule, what is shown of it, and the status.
-type Row = (Faults, &'static str, &'static str, u8);
+type Row = (Faults<'static>, &'static str, &'static str, u8);
 
 static ROWS: [Row; 4] = [
     // An error: the server complains, and asks the next driver.
@@ -109,28 +103,10 @@ unanswered 0
     ),
 ];
 
-/// Boxed drivers of the volume's 128 sectors, with these faults.
-fn boxed(alloc: Global, faults: Faults) -> Result<Vec<Driver>, AllocError> {
-    let mut supply: Vec<Driver> = Vec::new(alloc);
-    for driver in supply_of(alloc, 128, faults)? {
-        supply.push(Box::new(alloc, driver)?)?;
-    }
-    Ok(supply)
-}
-
-/// A row comes out as it says on a new volume.
-fn comes_out(alloc: Global, image: &[u8], row: &Row) -> Result<(), Fail> {
-    let (faults, schedule, transcript, status) = *row;
-    let supply = boxed(alloc, faults)?;
-    let files = (Some(image), Some(schedule.as_bytes()));
-    says(alloc, files, &whole(), supply, (status, transcript, ""))
-}
-
 #[test]
 fn drivers_fail(rt: HostRuntime) -> Result<(), Fail> {
-    let image = new_volume(rt.alloc(), 1024)?;
-    for row in &ROWS {
-        comes_out(rt.alloc(), &image, row)?;
+    for (faults, schedule, transcript, status) in &ROWS {
+        faults_show(rt.alloc(), faults, schedule, transcript, *status)?;
     }
     Ok(())
 }

@@ -10,8 +10,6 @@ mod reads;
 #[cfg(test)]
 mod refusals;
 #[cfg(test)]
-mod runs;
-#[cfg(test)]
 mod writers;
 #[cfg(test)]
 mod writes;

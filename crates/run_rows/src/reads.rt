@@ -1,8 +1,6 @@
 //! A call that reads the root's inode, while drivers die, hang, answer late and are given up.
 
-use crate::runs::shows;
-use samples::new_volume;
-use std::alloc::{AllocError, Global};
+use boxed_runs::shown::{cut_shows, shows};
 use std::test::Fail;
 
 /// A schedule, what is shown of it, and the status.
@@ -291,9 +289,8 @@ unanswered 0
 
 #[test]
 fn the_root_is_read(rt: HostRuntime) -> Result<(), Fail> {
-    let image = new_volume(rt.alloc(), 1024)?;
     for (schedule, transcript, status) in &ROWS {
-        shows(rt.alloc(), &image, schedule, transcript, *status)?;
+        shows(rt.alloc(), 1024, schedule, transcript, *status)?;
     }
     Ok(())
 }
@@ -307,37 +304,12 @@ static EARLY: [(usize, usize, usize); 5] = [
     (21, 15, 15),
 ];
 
-/// The first lines of a text, then another text so many times.
-fn begun(
-    alloc: Global,
-    text: &str,
-    lines: usize,
-    end: &str,
-    times: usize,
-) -> Result<String, AllocError> {
-    let mut begun = String::new(alloc);
-    for line in text.lines().take(lines) {
-        begun.push_str(line)?;
-        begun.push_str("\n")?;
-    }
-    begun.push_str(&end.repeat(alloc, times)?)?;
-    Ok(begun)
-}
-
-/// A row comes out as it says.
-fn is_early(alloc: Global, image: &[u8], row: &(usize, usize, usize)) -> Result<(), Fail> {
-    let (lines, ticks, shown) = *row;
-    let schedule = begun(alloc, DEATHS, lines, "tick\n", ticks)?;
-    let transcript = begun(alloc, GIVEN_UP, shown, "unanswered 1\n", 1)?;
-    shows(alloc, image, &schedule, &transcript, 0)
-}
-
 /// A tick earlier the next driver isn't started.
 #[test]
 fn starts_are_backed_off(rt: HostRuntime) -> Result<(), Fail> {
-    let image = new_volume(rt.alloc(), 1024)?;
-    for row in &EARLY {
-        is_early(rt.alloc(), &image, row)?;
+    for (lines, ticks, shown) in &EARLY {
+        let schedule = (DEATHS, *lines, "tick\n", *ticks);
+        cut_shows(rt.alloc(), schedule, (GIVEN_UP, *shown, "unanswered 1\n", 1))?;
     }
     Ok(())
 }

@@ -1,9 +1,7 @@
 //! Writes that drivers leave half done, and what the media hold afterwards.
 
-use crate::runs::{media_after, shows};
-use fsck::{Verdict, check};
-use samples::new_volume;
-use std::alloc::Global;
+use boxed_runs::left::{Left, is_left};
+use boxed_runs::shown::{parts_show, repeats_show};
 use std::test::Fail;
 
 /// Twenty pages are changed, and 25 blocks with what leads to them: under the setup's 64 frames nothing is written yet. The reads are those
@@ -321,40 +319,28 @@ die 1 ee
 ";
 
 /// Runs on a volume of blocks of 1024: the parts of each schedule, and what is shown.
-static SHOWN: [(&[&str], &str); 3] = [
-    (&[FILLED], ALL_WROTE),
-    (&[REFILLED], WRITTEN_AGAIN),
-    (&[HUNG, REVOKED], REPLACED),
+static SHOWN: [(&[&str], &[&str]); 3] = [
+    (&[FILLED], &[ALL_WROTE]),
+    (&[REFILLED], &[WRITTEN_AGAIN]),
+    (&[HUNG, REVOKED], &[REPLACED]),
 ];
 
-/// Looks at the transcript of a schedule in parts, on a volume of such blocks.
-fn parts_show(
-    alloc: Global,
-    block: usize,
-    schedule: &[&str],
-    transcript: &[&str],
-) -> Result<(), Fail> {
-    let image = new_volume(alloc, block)?;
-    let schedule = schedule.concat(alloc)?;
-    let transcript = transcript.concat(alloc)?;
-    shows(alloc, &image, &schedule, &transcript, 0)
-}
+/// A run on a volume of blocks of 2048: the parts of its schedule, and what is shown, with the file's bytes before the last line.
+static READ_BACK: (&[&str], &[&str], (&str, usize), &str) = (
+    &[BEGUN, TORN, MENDED],
+    &[MENDING, "reply 0 bytes "],
+    ("aa", 2048),
+    "\nunanswered 0\n",
+);
 
 #[test]
 fn writes_are_shown(rt: HostRuntime) -> Result<(), Fail> {
     for (schedule, transcript) in &SHOWN {
-        parts_show(rt.alloc(), 1024, schedule, &[transcript])?;
+        parts_show(rt.alloc(), 1024, schedule, transcript)?;
     }
-    let read = "aa".repeat(rt.alloc(), 2048)?;
-    let transcript = [MENDING, "reply 0 bytes ", &read, "\nunanswered 0\n"];
-    parts_show(rt.alloc(), 2048, &[BEGUN, TORN, MENDED], &transcript)
+    let (schedule, begin, repeated, end) = READ_BACK;
+    repeats_show(rt.alloc(), 2048, schedule, begin, repeated, end)
 }
-
-/// From where to where the media are looked at, and which byte each is there; with none, as they were.
-type Place = (usize, usize, Option<u8>);
-
-/// The size of blocks, the parts of a schedule, what the media hold afterwards, and whether all was synced, so that the volume is clean.
-type Left = (usize, &'static [&'static str], &'static [Place], bool);
 
 static LEFT: [Left; 6] = [
     // A page that changed is written again.
@@ -395,59 +381,10 @@ static LEFT: [Left; 6] = [
     ),
 ];
 
-/// Whether there are bytes, and each is this one.
-fn are_all(bytes: Option<&[u8]>, byte: u8) -> bool {
-    for each in bytes.unwrap_or(&[]) {
-        if *each != byte {
-            return false;
-        }
-    }
-    bytes.is_some()
-}
-
-/// Whether the media, which held this image, hold such bytes.
-fn hold(media: &[u8], image: &[u8], place: &Place) -> bool {
-    let (from, to, byte) = *place;
-    let part = media.get(from..to);
-    match byte {
-        Some(byte) => are_all(part, byte),
-        None => part.is_some() && part == image.get(from..to),
-    }
-}
-
-/// The first of the places where the media hold something else.
-fn misheld(media: &[u8], image: &[u8], places: &[Place]) -> Option<usize> {
-    for (number, place) in places.iter().enumerate() {
-        if !hold(media, image, place) {
-            return Some(number);
-        }
-    }
-    None
-}
-
-/// Whether the volume in an image is clean.
-fn is_clean(alloc: Global, image: &[u8]) -> Result<bool, Fail> {
-    Ok(matches!(check(alloc, image)?, Verdict::Clean(_)))
-}
-
-/// The media hold what a row says after a run of this schedule.
-fn is_left(alloc: Global, row: &Left, schedule: &str) -> Result<(), Fail> {
-    let (block, _, places, synced) = *row;
-    let image = new_volume(alloc, block)?;
-    let media = media_after(alloc, &image, schedule)?;
-    if let Some(place) = misheld(&media, &image, places) {
-        return Err(Fail::new(format_args!("place {place}: {schedule}")));
-    }
-    if synced && !is_clean(alloc, &media)? {
-        return Err(Fail::new(format_args!("not clean: {schedule}")));
-    }
-    Ok(())
-}
-
 #[test]
 fn writes_are_left(rt: HostRuntime) -> Result<(), Fail> {
     for row in &LEFT {
-        is_left(rt.alloc(), row, &row.1.concat(rt.alloc())?)?;
+        is_left(rt.alloc(), row)?;
     }
     Ok(())
 }
