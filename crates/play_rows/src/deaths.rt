@@ -1,19 +1,13 @@
 //! Drivers that die, hang or answer wrongly in the middle of a read, and what they leave.
-use crate::plays::{Faults, HONEST, Play};
 use endpoint::{SlotRefusal, Slots};
 use errno::Errno;
 use modeldisk::FaultKind;
-use policy::{Policy, Setup};
-use samples::{new_volume, whole};
-use std::alloc::Global;
-use std::sync::Wait;
+use play_samples::deaths::{OverDrivers, Told, all_come_out};
+use play_samples::plays::HONEST;
 use std::test::Fail;
 
 /// What is played.
 const TWICE: &[u8] = b"user 0 0\n100 stat /\n101 stat /\n";
-
-/// What comes of a play: the status, what is printed, and what is said of a refusal.
-type Told = (u8, &'static str, &'static str);
 
 const SERVED: Told = (
     0,
@@ -38,16 +32,9 @@ const GIVES_HALF: Option<(u32, FaultKind)> = Some((1, FaultKind::Short));
 
 const ERRS: Option<(u32, FaultKind)> = Some((0, FaultKind::Error(Errno::EIO)));
 
-/// The most faults, the cap and the calm of a policy, if it isn't the default one.
-type Numbers = Option<(u32, u32, u32)>;
-
-/// A policy's numbers, in which request the drivers' faults come, the drivers that are started one after the other, the script, and what
-/// comes of it.
-type Row = (Numbers, u32, Faults<'static>, &'static [u8], Told);
-
 /// Requests 1 to 17 are the mount's; request 18 is the first call's read. Each number of a policy is the one that was handed in, and so are
 /// all drivers, in their order.
-static ROWS: [Row; 29] = [
+static ROWS: [OverDrivers; 29] = [
     (None, 1, &[DIES_LATER, None], TWICE, SERVED),
     (None, 18, &[DIES_LATER, None], TWICE, SERVED),
     (None, 1, &[DIES, DIES, None], TWICE, SERVED),
@@ -153,45 +140,10 @@ names 0
     ),
 ];
 
-/// The default setup, but for these numbers of its policy.
-fn setup(numbers: Numbers) -> Setup {
-    let Some((max_faults, cap, calm)) = numbers else {
-        return whole();
-    };
-    let policy = Policy {
-        max_faults,
-        cap,
-        calm,
-        ..whole().policy
-    };
-    Setup { policy, ..whole() }
-}
-
-/// A row comes out as it says on a new volume, and leaves the image as it is.
-fn comes_out<R: Wait + Copy>(alloc: Global, rt: R, image: &[u8], row: &Row) -> Result<(), Fail> {
-    let (numbers, request, faults, script, (status, out, err)) = *row;
-    let scripts = [Some(script)];
-    let play = Play {
-        setup: setup(numbers),
-        request,
-        faults,
-        ..Play::new(image, &scripts)
-    };
-    let played = play.played(alloc, rt)?;
-    played.gave(status, out, err)?;
-    if status == 1 || played.is_clean(alloc) && played.left() == image {
-        return Ok(());
-    }
-    Err(Fail::from("another image"))
-}
-
 /// Nothing that these plays do reaches the image, which stays a sound volume.
 #[test]
 fn replies_outlive_drivers(rt: HostRuntime) -> Result<(), Fail> {
-    let image = new_volume(rt.alloc(), 1024)?;
-    for row in &ROWS {
-        comes_out(rt.alloc(), rt, &image, row)?;
-    }
+    all_come_out(rt.alloc(), rt, &ROWS)?;
     let mut slots = Slots::new();
     assert!(rt; matches!(slots.start(16), Err(SlotRefusal::NoSuchSlot)));
     Ok(())

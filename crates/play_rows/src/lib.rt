@@ -14,8 +14,6 @@ mod calls;
 #[cfg(test)]
 mod deaths;
 #[cfg(test)]
-mod disks;
-#[cfg(test)]
 mod faults;
 #[cfg(test)]
 mod full;
@@ -32,11 +30,7 @@ mod partitions;
 #[cfg(test)]
 mod places;
 #[cfg(test)]
-mod plays;
-#[cfg(test)]
 mod renames;
-#[cfg(test)]
-mod scripted;
 #[cfg(test)]
 mod table;
 #[cfg(test)]

@@ -17,10 +17,7 @@ use crate::renames::{
     NEW_PARENT, NO_ZONE, NO_ZONE_NEEDED, NOT_RENAMED, ONE_NAME_LESS, OVER_DIRECTORY, OVER_FILES,
     SAME_INODE, TREE,
 };
-use crate::scripted::{are_played, volume_of};
-use samples::new_volume;
-use std::alloc::Global;
-use std::sync::Wait;
+use scripted_plays::texts::{OnVolume, all_are_played, are_played_on, both_are_played};
 use std::test::Fail;
 
 /// What is played on volumes of 64 blocks of 1024 bytes.
@@ -76,8 +73,8 @@ const ROOT: &str = "user 0 0
 100 stat / -> inode 1 mode 0040755 links 2 uid 0 gid 0 size 128 times 50 50 50
 ";
 
-/// What is played on other volumes, or leaves an image of which more is said: how many bytes a block has, and how many blocks there are.
-static OTHERS: [(usize, u8, &str); 13] = [
+/// What is played on other volumes, or leaves an image of which more is said.
+static OTHERS: [OnVolume; 13] = [
     (1024, 64, ROOT),
     (2048, 64, ROOT),
     (4096, 64, ROOT),
@@ -93,30 +90,11 @@ static OTHERS: [(usize, u8, &str); 13] = [
     (1024, 10, ROOM),
 ];
 
-/// Each of these texts is played on the volume in an image.
-fn all_are_played<R: Wait + Copy>(
-    alloc: Global,
-    rt: R,
-    image: &[u8],
-    texts: &[&str],
-) -> Result<(), Fail> {
-    for text in texts {
-        are_played(alloc, rt, image, text)?;
-    }
-    Ok(())
-}
-
 /// Each is played, and at last one that another service reads from the image that is left.
 #[test]
 fn each_call_is_answered(rt: HostRuntime) -> Result<(), Fail> {
-    let image = new_volume(rt.alloc(), 1024)?;
-    all_are_played(rt.alloc(), rt, &image, &PLAYS)?;
-    all_are_played(rt.alloc(), rt, &image, &CALLS)?;
-    for (block, blocks, text) in &OTHERS {
-        let image = volume_of(rt.alloc(), *block, *blocks)?;
-        are_played(rt.alloc(), rt, &image, text)?;
-    }
-    let filled = are_played(rt.alloc(), rt, &image, FILLS)?;
-    are_played(rt.alloc(), rt, filled.left(), READS)?;
-    Ok(())
+    all_are_played(rt.alloc(), rt, &PLAYS)?;
+    all_are_played(rt.alloc(), rt, &CALLS)?;
+    are_played_on(rt.alloc(), rt, &OTHERS)?;
+    both_are_played(rt.alloc(), rt, FILLS, READS)
 }

@@ -1,11 +1,7 @@
 //! Writers that fail, and writers that take little at a time; plays whose answers are lost, or whose image can't be written.
-use crate::plays::{HONEST, Played, Room, play_into};
-use crate::scripted::has_left;
-use samples::{new_volume, supply_of, whole};
-use std::alloc::{AllocError, Global};
-use std::sync::Wait;
+use play_samples::writers::{Finished, Narrow, all_come_out, are_finished};
 use std::test::Fail;
-use tools::play::{Status, Told, finish};
+use tools::play::{Status, Told};
 
 /// A script, and what is printed of it on a new volume.
 pub(crate) const STAT: &[u8] = b"user 0 0\n100 stat /\n";
@@ -28,19 +24,8 @@ const LOST: &str = "cannot write standard output\n";
 /// A script whose first line is bad.
 const BAD: &[u8] = b"user 0\n";
 
-/// Whether there is an image, a script, how many bytes are taken at a call, on standard output and on standard error, how the play ends,
-/// what is written, and what bytes the image has then, if it is there.
-type Row = (
-    bool,
-    &'static [u8],
-    (usize, usize, usize),
-    Status,
-    (&'static str, &'static str),
-    Option<&'static str>,
-);
-
 /// Writers that fail, and then writers that go on.
-static ROOMS: [Row; 13] = [
+static ROOMS: [Narrow; 13] = [
     // The text is cut off, which a line says, and the image is there all the same.
     (true, STAT, (99, 0, 99), CUT_OFF, ("", LOST), Some("")),
     (true, STAT, (99, 3, 99), CUT_OFF, ("ses", LOST), Some("")),
@@ -97,50 +82,13 @@ static ROOMS: [Row; 13] = [
     (true, BAD, (64, 99, 99), CUT_OFF, ("", BAD_LINE), None),
 ];
 
-/// What a play of a script gives to writers with this room, and how it ended.
-fn narrow<R: Wait + Copy>(
-    alloc: Global,
-    rt: R,
-    image: Option<&[u8]>,
-    script: &[u8],
-    room: Room,
-) -> Result<(Played, Status), AllocError> {
-    let supply = supply_of(alloc, 128, HONEST)?;
-    play_into(alloc, rt, image, &[Some(script)], &whole(), supply, room)
-}
-
-/// Looks at what a play gave, and at how it ended, which is an error where it is something else than a row says.
-fn is_as_said(alloc: Global, played: &Played, status: Status, row: &Row) -> Result<(), Fail> {
-    let (_, _, _, ended, (told, line), left) = *row;
-    let is_told = played.out.as_slice() == told.as_bytes()
-        && played.err.as_slice() == line.as_bytes();
-    let number = if ended == Status::Done { 0 } else { 1 };
-    let is_ended = status == ended && played.status == number;
-    if is_told && is_ended && played.image.is_some() == left.is_some() {
-        return has_left(alloc, played.left(), left.unwrap_or(""));
-    }
-    Err(Fail::from(told))
-}
-
-/// A row comes out as it says, on a new volume.
-fn comes_out<R: Wait + Copy>(alloc: Global, rt: R, image: &[u8], row: &Row) -> Result<(), Fail> {
-    let (has_image, script, (most, out, err), _, _, _) = *row;
-    let given = has_image.then_some(image);
-    let (played, status) = narrow(alloc, rt, given, script, Room { most, out, err })?;
-    is_as_said(alloc, &played, status, row)
-}
-
 #[test]
 fn writers_take_some(rt: HostRuntime) -> Result<(), Fail> {
-    let image = new_volume(rt.alloc(), 1024)?;
-    for row in &ROOMS {
-        comes_out(rt.alloc(), rt, &image, row)?;
-    }
-    Ok(())
+    all_come_out(rt.alloc(), rt, &ROOMS)
 }
 
-/// How a play ended, whether its image was written, how it ended then, and what was told of that.
-static ROWS: [(Status, bool, Status, &str); 4] = [
+/// Plays that were whole or given up, and whose image was written or not.
+static ROWS: [Finished; 4] = [
     (Status::Done, true, Status::Done, ""),
     (Status::GivenUp, true, Status::GivenUp, ""),
     (
@@ -157,21 +105,8 @@ static ROWS: [(Status, bool, Status, &str); 4] = [
     ),
 ];
 
-/// Looks at how a row ended, and at what was told.
-fn has_ended(ended: Status, told: &[u8], status: Status, line: &str) -> Result<(), Fail> {
-    if ended == status && told == line.as_bytes() {
-        return Ok(());
-    }
-    Err(Fail::new(format_args!("no line as this: {line}")))
-}
-
 /// A file that can't be written is told, whatever came before.
 #[test]
 fn a_file_that_cannot_be_written_is_told(rt: HostRuntime) -> Result<(), Fail> {
-    for (played, written, status, line) in &ROWS {
-        let mut err = Vec::new(rt.alloc());
-        let ended = finish(rt.alloc(), *played, "w.img", *written, &mut err);
-        has_ended(ended, err.as_slice(), *status, line)?;
-    }
-    Ok(())
+    are_finished(rt.alloc(), "w.img", &ROWS)
 }

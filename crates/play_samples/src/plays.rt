@@ -1,4 +1,7 @@
 //! Plays over images.
+
+ghost use Rattle.std.specs.Prelude.{◌≡◌, IfOk, is_some, not, ◌==◌};
+
 use fsck::{Verdict, check};
 use modeldisk::{FaultKind, ScriptedDriver};
 use policy::Setup;
@@ -10,23 +13,32 @@ use std::test::Fail;
 use tools::play::{File, Status, play};
 
 /// Drivers, each with its fault once so many of a request's sectors were moved, or with none.
-pub(crate) type Faults<'f> = &'f [Option<(u32, FaultKind)>];
+pub type Faults<'f> = &'f [Option<(u32, FaultKind)>];
 
 /// One driver without a fault.
-pub(crate) const HONEST: Faults<'static> = &[None];
+pub const HONEST: Faults<'static> = &[None];
 
-/// What a play gave: the status of the process, what stands on standard output and on standard error, and the image.
+/// What a play gave.
 #[derive(Drop)]
-pub(crate) struct Played {
-    pub(crate) status: u8,
-    pub(crate) out: Vec<u8>,
-    pub(crate) err: Vec<u8>,
-    pub(crate) image: Option<Vec<u8>>,
+pub struct Played {
+    /// The status of the process.
+    pub status: u8,
+    /// What stands on standard output.
+    pub out: Vec<u8>,
+    /// What stands on standard error.
+    pub err: Vec<u8>,
+    /// The image that is left, if one is.
+    pub image: Option<Vec<u8>>,
 }
 
 impl Played {
     /// Looks at what a play gave, which is an error where it is something else: the image is there exactly where nothing was refused.
-    pub(crate) fn gave(&self, status: u8, out: &str, err: &str) -> Result<(), Fail> {
+    pub fn gave(&self, status: u8, out: &str, err: &str) -> Result<(), Fail>
+        ensures status { IfOk result (λ _. self.now.status ≡ status) }
+        ensures out { IfOk result (λ _. self.now.out.items ≡ out.now) }
+        ensures err { IfOk result (λ _. self.now.err.items ≡ err.now) }
+        ensures image { IfOk result (λ _. is_some self.now.image ≡ not (status == 1)) }
+    {
         let is_told = self.out.as_slice() == out.as_bytes()
             && self.err.as_slice() == err.as_bytes();
         if is_told && self.status == status && self.image.is_some() == (status != 1) {
@@ -38,12 +50,12 @@ impl Played {
     }
 
     /// The image, or no bytes.
-    pub(crate) fn left(&self) -> &[u8] {
+    pub fn left(&self) -> &[u8] {
         self.image.as_deref().unwrap_or(&[])
     }
 
     /// Whether the image is that of a sound volume.
-    pub(crate) fn is_clean(&self, alloc: Global) -> bool {
+    pub fn is_clean(&self, alloc: Global) -> bool {
         matches!(check(alloc, self.left()), Ok(Verdict::Clean(_)))
     }
 }
@@ -66,16 +78,19 @@ fn files<'b>(
     Ok(files)
 }
 
-/// How many bytes writers take: at a call, and in all on standard output and on standard error.
+/// How many bytes writers take.
 #[derive(Clone, Copy)]
-pub(crate) struct Room {
-    pub(crate) most: usize,
-    pub(crate) out: usize,
-    pub(crate) err: usize,
+pub struct Room {
+    /// At a call.
+    pub most: usize,
+    /// In all on standard output.
+    pub out: usize,
+    /// In all on standard error.
+    pub err: usize,
 }
 
 /// Room for all.
-pub(crate) const FREE: Room = Room {
+const FREE: Room = Room {
     most: usize::MAX,
     out: usize::MAX,
     err: usize::MAX,
@@ -99,7 +114,7 @@ impl Write for Sink {
 }
 
 /// Plays the scripts of files on an image, of each the bytes if it can be read, into writers with this room; and how it ended.
-pub(crate) fn play_into<R: Wait + Copy>(
+fn play_into<R: Wait + Copy>(
     alloc: Global,
     rt: R,
     image: Option<&[u8]>,
@@ -137,24 +152,24 @@ pub(crate) fn play_into<R: Wait + Copy>(
 
 /// Scripts to be played on an image, over drivers that may have faults.
 #[derive(Clone, Copy)]
-pub(crate) struct Play<'p> {
+pub struct Play<'p> {
     /// The bytes of the image, if it can be read.
-    pub(crate) image: Option<&'p [u8]>,
+    pub image: Option<&'p [u8]>,
     /// The bytes of each script's file, if it can be read.
-    pub(crate) scripts: &'p [Option<&'p [u8]>],
+    pub scripts: &'p [Option<&'p [u8]>],
     /// Where the volume lies, and how it is served.
-    pub(crate) setup: Setup,
+    pub setup: Setup,
     /// How many sectors each driver serves.
-    pub(crate) sectors: usize,
+    pub sectors: usize,
     /// The request of each driver in which its fault comes, counted from 1.
-    pub(crate) request: u32,
+    pub request: u32,
     /// The drivers.
-    pub(crate) faults: Faults<'p>,
+    pub faults: Faults<'p>,
 }
 
 impl<'p> Play<'p> {
     /// Scripts on an image that is a volume, over one driver of it without a fault, under the default policy.
-    pub(crate) fn new(image: &'p [u8], scripts: &'p [Option<&'p [u8]>]) -> Play<'p> {
+    pub fn new(image: &'p [u8], scripts: &'p [Option<&'p [u8]>]) -> Play<'p> {
         Play {
             image: Some(image),
             scripts,
@@ -177,18 +192,33 @@ impl<'p> Play<'p> {
         Ok(played)
     }
 
-    /// What it gives.
-    pub(crate) fn played<R: Wait + Copy>(
+    /// What it gives to writers with this room, and how it ended.
+    pub fn played_into<R: Wait + Copy>(
         &self,
         alloc: Global,
         rt: R,
-    ) -> Result<Played, AllocError> {
+        room: Room,
+    ) -> Result<(Played, Status), AllocError> {
         let supply = supply_at(alloc, self.sectors, self.request, self.faults)?;
-        self.played_over(alloc, rt, supply)
+        play_into(
+            alloc,
+            rt,
+            self.image,
+            self.scripts,
+            &self.setup,
+            supply,
+            room,
+        )
+    }
+
+    /// What it gives.
+    pub fn played<R: Wait + Copy>(&self, alloc: Global, rt: R) -> Result<Played, AllocError> {
+        let (played, _) = self.played_into(alloc, rt, FREE)?;
+        Ok(played)
     }
 
     /// Looks at what it gives, which is an error where it is something else.
-    pub(crate) fn gives<R: Wait + Copy>(
+    pub fn gives<R: Wait + Copy>(
         &self,
         alloc: Global,
         rt: R,

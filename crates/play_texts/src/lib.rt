@@ -1,0 +1,9 @@
+//! Plays that are written as text: sessions, one after the other, whose calls have their replies.
+//!
+//! A line `user U G` begins a session. Each line behind it is a call, after its time, with ` -> ` and its reply behind it. Three kinds of
+//! lines are none of these: one that begins with `#` is a remark; behind `unchanged` nothing changes the image; and `left AT HEX` are bytes
+//! of the image that is left, from a place on.
+#![tactic(auto)]
+
+pub mod left;
+pub mod said;
