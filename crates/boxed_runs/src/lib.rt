@@ -5,3 +5,6 @@ pub mod failing;
 pub mod left;
 pub mod refused;
 pub mod shown;
+
+// passed on: why a run isn't begun
+pub use simulation::world::RunRefusal;

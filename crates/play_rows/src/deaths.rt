@@ -2,8 +2,8 @@
 use endpoint::{SlotRefusal, Slots};
 use errno::Errno;
 use modeldisk::FaultKind;
-use play_samples::deaths::{OverDrivers, Told, all_come_out};
-use play_samples::plays::HONEST;
+use scripted_plays::play_samples::deaths::{OverDrivers, Told, all_come_out};
+use scripted_plays::play_samples::plays::HONEST;
 use std::test::Fail;
 
 /// What is played.

@@ -1,6 +1,6 @@
 //! What is refused, and which fault is told first.
-use play_samples::plays::HONEST;
-use play_samples::refusals::{Count, Image, Refused, are_first, are_refused};
+use scripted_plays::play_samples::plays::HONEST;
+use scripted_plays::play_samples::refusals::{Count, Image, Refused, are_first, are_refused};
 use scripted_plays::texts::are_answered;
 use std::test::Fail;
 

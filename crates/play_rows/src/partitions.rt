@@ -1,6 +1,6 @@
 //! Volumes in a partition of an image: a new volume of 128 sectors behind a sector with a table, from sector 1 on.
 use crate::writers::{STAT, TOLD};
-use play_samples::disks::{OnDisk, are_served};
+use scripted_plays::play_samples::disks::{OnDisk, are_served};
 use std::test::Fail;
 
 /// Tables with one entry, minors, and what comes of a script there.

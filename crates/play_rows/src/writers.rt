@@ -1,7 +1,7 @@
 //! Writers that fail, and writers that take little at a time; plays whose answers are lost, or whose image can't be written.
-use play_samples::writers::{Finished, Narrow, all_come_out, are_finished};
+use scripted_plays::play_samples::writers::{Finished, Narrow, all_come_out, are_finished};
+use scripted_plays::play_samples::{Status, Told};
 use std::test::Fail;
-use tools::play::{Status, Told};
 
 /// A script, and what is printed of it on a new volume.
 pub(crate) const STAT: &[u8] = b"user 0 0\n100 stat /\n";

@@ -6,3 +6,6 @@ pub mod disks;
 pub mod plays;
 pub mod refusals;
 pub mod writers;
+
+// passed on: how a play ends
+pub use tools::play::{Status, Told};

@@ -309,7 +309,11 @@ static EARLY: [(usize, usize, usize); 5] = [
 fn starts_are_backed_off(rt: HostRuntime) -> Result<(), Fail> {
     for (lines, ticks, shown) in &EARLY {
         let schedule = (DEATHS, *lines, "tick\n", *ticks);
-        cut_shows(rt.alloc(), schedule, (GIVEN_UP, *shown, "unanswered 1\n", 1))?;
+        cut_shows(
+            rt.alloc(),
+            schedule,
+            (GIVEN_UP, *shown, "unanswered 1\n", 1),
+        )?;
     }
     Ok(())
 }

@@ -3,3 +3,6 @@
 #![tactic(auto)]
 
 pub mod texts;
+
+// passed on: plays without a text
+pub use play_samples;
