@@ -1,6 +1,7 @@
 //! Starting a service on the volume of an image, whose drivers it runs itself.
 
 ghost use Rattle.std.specs.Prelude.{◌≡◌, ◌≢◌, ◌≤◌, ℕ, [], All, IfErr, IfOk, length, map};
+ghost use Rattle.std.specs.Arc.{arc_value};
 ghost use Rattle.board.specs.tree.Tree.{Tree};
 ghost use Rattle.board.specs.legal.Legal.{IsAtFirst};
 ghost use Rattle.reissue.specs.marks.Opening.{Opening, contents_at};
@@ -19,7 +20,9 @@ use board::{Board, Seat};
 use counting_link::Noting;
 use driven::Driven;
 use inline::local::LocalDriver;
+use keeping::recorder::Recorder;
 use keeping::room::Room;
+use keeping::steady::Supplied;
 use media::Media;
 use opened_service::program::run_over;
 use policy::{Policy, Setup};
@@ -56,8 +59,36 @@ pub fn drivers_on<D: LocalDriver>(
     }
 }
 
+/// The link of a service to the drivers of an allowed policy over these media, none of which is started yet, and the service's board, on
+/// which it counts: it has the record's seat of that board, which is new. Where no memory was found, all of it is let go.
+pub fn counted_drivers<N: Room, D: LocalDriver>(
+    alloc: Global,
+    board: Board,
+    seat: Seat,
+    media: Media,
+    policy: Policy,
+    supply: Vec<D>,
+) -> Result<(Arc<Board>, Noting<N, Driven<D>>), AllocError>
+    requires allowed { IsAllowed policy }
+    requires some { supply.items ≢ [] }
+    requires board { board ≡ N.table }
+    requires seat { IsKeeper N.table seat × (seat.view ≡ opener) }
+    ensures board { IfOk result (λ made. arc_value made.0 ≡ N.table) }
+    ensures marks { IfOk result (λ made. ⟦<Noting<N, Driven<D>> as Recorder<N>>⟧.marks made.1 ≡ []) }
+    ensures history { IfOk result (λ made. ⟦<Noting<N, Driven<D>> as Link>⟧.history made.1 ≡ []) }
+    ensures budget { IfOk result (λ made. ⟦<Noting<N, Driven<D>> as Link>⟧.budget_left made.1 ≡ 1099511627776) }
+    ensures truth { IfOk result (λ made. (v : Opening) → IsOnMedia v → media ≡ opening_media v
+        → All (IsReady v) (map D.state supply.items) → ⟦<Noting<N, Driven<D>> as Link>⟧.truth made.1 v []) }
+    ensures drivers { IfOk result (λ made. ⟦<Noting<N, Driven<D>> as Supplied>⟧.runs_on made.1 policy (map D.state supply.items)) }
+{
+    let link = drivers_on(alloc, media, policy, supply)?;
+    let board = Arc::new(alloc, board)?;
+    let noting = Noting::new(alloc, link, Arc::try_clone(&board)?, seat)?;
+    Ok((board, noting))
+}
+
 // The caller picks `N` from what it hands over.
-fn start_and_run<N: Room, R: Wait + Copy, D: LocalDriver, G: Gate, P: Program<R>>(
+fn start_and_run<N: Room, R: Wait + Copy, D: LocalDriver, P: Program<R>>(
     alloc: Global,
     rt: R,
     board: Board,
@@ -66,7 +97,6 @@ fn start_and_run<N: Room, R: Wait + Copy, D: LocalDriver, G: Gate, P: Program<R>
     image: &[u8],
     setup: &Setup,
     supply: Vec<D>,
-    gate: G,
     program: P,
 ) -> Result<Result<P::Output, StartRefusal>, AllocError>
     requires board { board ≡ N.table }
@@ -83,16 +113,13 @@ fn start_and_run<N: Room, R: Wait + Copy, D: LocalDriver, G: Gate, P: Program<R>
         HasRun image.now setup.now (map D.state supply.items) (λ g opening. P.gives program g opening o))) }
     ensures refused { IfOk result (λ came. IfErr came (IsStopped (opening_of image.now setup.now.minor prepared.range) setup.now.frames)) }
 {
-    let _gate = Arc::new(alloc, gate)?;
     let Prepared { media, .. } = prepared;
-    let link = drivers_on(alloc, media, setup.policy, supply)?;
-    let board = Arc::new(alloc, board)?;
-    let noting = Noting::<N, Driven<D>>::new(alloc, link, Arc::try_clone(&board)?, seat)?;
+    let (board, link) = counted_drivers::<N, D>(alloc, board, seat, media, setup.policy, supply)?;
     Ok(run_over(
         alloc,
         rt,
         board,
-        noting,
+        link,
         setup.minor,
         setup.frames as u32,
         program,
@@ -116,9 +143,10 @@ pub fn serve<R: Wait + Copy, D: LocalDriver, G: Gate, P: Program<R>>(
     ensures refusal { IfErr result (IsNotStarted image.now setup.now (map D.state supply.items)) }
     ensures ran { IfOk result (λ o. HasRun image.now setup.now (map D.state supply.items) (λ g opening. P.gives program g opening o)) }
 {
+    let _gate = gate;
     let prepared = prepare(alloc, image, setup, &supply)?;
     let (board, seat) = Board::new(alloc)?;
-    start_and_run::<Brand, R, D, G, P>(
-        alloc, rt, board, seat, prepared, image, setup, supply, gate, program,
+    start_and_run::<Brand, R, D, P>(
+        alloc, rt, board, seat, prepared, image, setup, supply, program,
     )?
 }

@@ -2,8 +2,8 @@
 #![tactic(auto)]
 
 use command_line::{line_of, status_for};
-use play_words::mfs::read;
-use std::alloc::AllocError;
+use play_words::mfs::{Words, read};
+use std::alloc::{AllocError, Global};
 use std::process::ExitCode;
 use std::rt::Files;
 use std::{fs, io};
@@ -31,24 +31,25 @@ fn read_all<R: Files + AllocGlobal>(
     Ok(texts)
 }
 
-fn main(rt: HostRuntime) -> io::Result<ExitCode> {
+/// The files of these names, with their bytes.
+fn files<'n, 'b>(
+    alloc: Global,
+    names: &[&'n str],
+    texts: &'b [Option<Vec<u8>>],
+) -> Result<Vec<File<'n, 'b>>, AllocError> {
+    let mut files = Vec::new(alloc);
+    for (name, text) in names.iter().zip(texts) {
+        files.push(file(name, text))?;
+    }
+    Ok(files)
+}
+
+/// Plays the scripts that the words name on the image that they name, and writes the image that is left, where they name a file for it.
+fn play_files(rt: HostRuntime, words: &Words<'_>) -> io::Result<ExitCode> {
     let alloc = rt.alloc();
-    let Some(line) = line_of(&rt)? else {
-        return Ok(ExitCode::from(2));
-    };
-    let words = match read(alloc, line.as_slice()) {
-        Ok(words) => words,
-        Err(error) => {
-            error.print(&rt)?;
-            return Ok(ExitCode::from(status_for(&error)));
-        }
-    };
     let image = fs::read(&rt, words.image).ok();
     let texts = read_all(&rt, &words.scripts)?;
-    let mut scripts = Vec::new(alloc);
-    for (name, text) in words.scripts.iter().zip(&texts) {
-        scripts.push(file(name, text))?;
-    }
+    let scripts = files(alloc, &words.scripts, &texts)?;
     let table = table_in(image.as_deref().unwrap_or(&[]));
     let supply = drivers_for(alloc, words.spares, words.model, table)?;
     let setup = setup_for(words.minor);
@@ -71,4 +72,17 @@ fn main(rt: HostRuntime) -> io::Result<ExitCode> {
         _ => played.status,
     };
     Ok(ExitCode::from(status.number()))
+}
+
+fn main(rt: HostRuntime) -> io::Result<ExitCode> {
+    let Some(line) = line_of(&rt)? else {
+        return Ok(ExitCode::from(2));
+    };
+    match read(rt.alloc(), line.as_slice()) {
+        Ok(words) => play_files(rt, &words),
+        Err(error) => {
+            error.print(&rt)?;
+            Ok(ExitCode::from(status_for(&error)))
+        }
+    }
 }

@@ -2,7 +2,7 @@
 #![tactic(auto)]
 
 use command_line::{line_of, status_for};
-use play_words::mfssim::read;
+use play_words::mfssim::{Words, read};
 use simulation::inputs::File;
 use simulation::simulate::simulate;
 use std::process::ExitCode;
@@ -17,18 +17,9 @@ fn file<'n, 'b>(name: &'n str, bytes: &'b Option<Vec<u8>>) -> File<'n, 'b> {
     }
 }
 
-fn main(rt: HostRuntime) -> io::Result<ExitCode> {
+/// Runs the schedule that the words name on the image that they name.
+fn run_files(rt: HostRuntime, words: &Words<'_>) -> io::Result<ExitCode> {
     let alloc = rt.alloc();
-    let Some(line) = line_of(&rt)? else {
-        return Ok(ExitCode::from(2));
-    };
-    let words = match read(alloc, line.as_slice()) {
-        Ok(words) => words,
-        Err(error) => {
-            error.print(&rt)?;
-            return Ok(ExitCode::from(status_for(&error)));
-        }
-    };
     let image = fs::read(&rt, words.image).ok();
     let schedule = fs::read(&rt, words.schedule).ok();
     let table = table_in(image.as_deref().unwrap_or(&[]));
@@ -38,4 +29,17 @@ fn main(rt: HostRuntime) -> io::Result<ExitCode> {
     let (mut out, mut err) = (io::writer(&rt), rt.stderr());
     let status = simulate(alloc, image, schedule, &setup, supply, &mut out, &mut err);
     Ok(ExitCode::from(status.number()))
+}
+
+fn main(rt: HostRuntime) -> io::Result<ExitCode> {
+    let Some(line) = line_of(&rt)? else {
+        return Ok(ExitCode::from(2));
+    };
+    match read(rt.alloc(), line.as_slice()) {
+        Ok(words) => run_files(rt, &words),
+        Err(error) => {
+            error.print(&rt)?;
+            Ok(ExitCode::from(status_for(&error)))
+        }
+    }
 }

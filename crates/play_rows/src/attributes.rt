@@ -1,7 +1,9 @@
 //! Attributes, sizes and the volume's numbers.
 
-/// Paths that stat refuses, by a user who may search each directory and by one who may not.
-pub(crate) const STATS: &str = "user 0 0
+/// The plays.
+pub(crate) const PLAYS: &str = "volume 1024 64
+# Paths that stat refuses, by a user who may search each directory and by one who may not.
+user 0 0
 100 stat f -> EINVAL
 100 stat /f -> ENOENT
 100 open /f wc 604 -> fd 0
@@ -19,10 +21,10 @@ user 5 7
 100 stat /p/n -> EACCES
 100 stat /p/.. -> EACCES
 100 stat /f/x -> ENOTDIR
-";
 
-/// chmod, chown and utime: by user 0, by the owner, and by another user of the file's group.
-pub(crate) const OWNERS: &str = "user 0 0
+volume 1024 64
+# chmod, chown and utime: by user 0, by the owner, and by another user of the file's group.
+user 0 0
 100 chmod /n 1000 -> EINVAL
 100 chmod /n 644 -> ENOENT
 100 chown /n 5 7 -> ENOENT
@@ -48,10 +50,10 @@ user 9 7
 170 chown /f 9 7 -> EPERM
 170 utime /f 0 0 -> EPERM
 170 stat /f -> inode 2 mode 0100666 links 1 uid 5 gid 7 size 0 times 3 4 160
-";
 
-/// Whose permissions are looked at: the owner's, the group's, the others'; user 0 has all.
-pub(crate) const GRANTED: &str = "user 0 0
+volume 1024 64
+# Whose permissions are looked at: the owner's, the group's, the others'; user 0 has all.
+user 0 0
 100 open /f wc 640 -> fd 0
 100 chown /f 5 7 -> ok
 100 open /g wc 604 -> fd 1
@@ -73,10 +75,10 @@ user 9 8
 user 0 8
 100 open /f rw 0 -> fd 0
 100 open /g rw 0 -> fd 1
-";
 
-/// Sizes up and down across the ranges of pages, and what they need of the volume.
-pub(crate) const SIZES: &str = "user 0 0
+volume 1024 64
+# Sizes up and down across the ranges of pages, and what they need of the volume.
+user 0 0
 100 statfs -> block 1024 zones 58 free 57 inodes 32 free 31
 100 truncate /n 2147483648 -> EFBIG
 100 truncate /n 0 -> ENOENT

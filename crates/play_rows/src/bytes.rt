@@ -1,8 +1,10 @@
 //! Bytes and sizes of an empty file `/f`, inode 2 of user 5 and group 7 with permissions 644, made at 50. A zone of 1024 bytes holds 256
 //! numbers, so pages 0 to 6 are direct, and page 7 takes an indirect block. The free zones have other bytes: a file `/z` was there before.
 
-/// Zones 7 to 13, which `/z` had, are full of 0x5a.
-pub(crate) const USED: &str = "user 0 0
+/// The plays.
+pub(crate) const PLAYS: &str = "volume 1024 64
+# Zones 7 to 13, which `/z` had, are full of 0x5a.
+user 0 0
 50 open /z rwc 600 -> fd 0
 50 fill 0 57344 5a -> wrote 57344
 50 unlink /z -> ok
@@ -18,10 +20,10 @@ left 7168 5a5a5a5a5a5a5a5a5a5a5a5a5a5a5a5a
 left 8192 5a5a5a5a5a5a5a5a5a5a5a5a5a5a5a5a
 left 9216 5a5a5a5a5a5a5a5a5a5a5a5a5a5a5a5a
 left 14320 5a5a5a5a5a5a5a5a5a5a5a5a5a5a5a5a
-";
 
-/// A write over the end of the direct pages.
-pub(crate) const DIRECT_END: &str = "user 0 0
+volume 1024 64
+# A write over the end of the direct pages.
+user 0 0
 50 open /z rwc 600 -> fd 0
 50 fill 0 57344 5a -> wrote 57344
 50 unlink /z -> ok
@@ -40,10 +42,10 @@ user 5 7
 60 read 1 6 -> bytes 00007778797a
 60 seek 0 cur 0 -> at 7170
 60 fstat 0 -> inode 2 mode 0100644 links 1 uid 5 gid 7 size 7170 times 50 60 60
-";
 
-/// A write at the place of a descriptor, and one at the end of the file.
-pub(crate) const AT_END: &str = "user 0 0
+volume 1024 64
+# A write at the place of a descriptor, and one at the end of the file.
+user 0 0
 50 open /z rwc 600 -> fd 0
 50 fill 0 57344 5a -> wrote 57344
 50 unlink /z -> ok
@@ -60,10 +62,10 @@ user 5 7
 61 read 2 5 -> bytes 6162636465
 61 seek 0 cur 0 -> at 3
 61 seek 1 cur 0 -> at 5
-";
 
-/// Writes that are refused, in their order, and one of no bytes: no byte changes.
-pub(crate) const NOT_WRITTEN: &str = "user 0 0
+volume 1024 64
+# Writes that are refused, in their order, and one of no bytes: no byte changes.
+user 0 0
 50 open /z rwc 600 -> fd 0
 50 fill 0 57344 5a -> wrote 57344
 50 unlink /z -> ok
@@ -81,10 +83,10 @@ user 5 7
 60 write 1 61 -> EFBIG
 60 write 0 - -> EBADF
 60 write 1 - -> wrote 0
-";
 
-/// Sizes down and up, by the owner and by user 0.
-pub(crate) const DOWN_AND_UP: &str = "user 0 0
+volume 1024 64
+# Sizes down and up, by the owner and by user 0.
+user 0 0
 50 open /z rwc 600 -> fd 0
 50 fill 0 57344 5a -> wrote 57344
 50 unlink /z -> ok
@@ -107,10 +109,10 @@ user 5 9
 72 stat /f -> inode 2 mode 0100644 links 1 uid 5 gid 7 size 2048 times 50 72 72
 73 truncate /f 0 -> ok
 73 statfs -> block 1024 zones 58 free 57 inodes 32 free 30
-";
 
-/// The position stays when the size changes.
-pub(crate) const POSITION: &str = "user 0 0
+volume 1024 64
+# The position stays when the size changes.
+user 0 0
 50 open /z rwc 600 -> fd 0
 50 fill 0 57344 5a -> wrote 57344
 50 unlink /z -> ok
@@ -125,10 +127,10 @@ user 5 9
 72 truncate /f 2048 -> ok
 73 truncate /f 0 -> ok
 73 seek 0 cur 0 -> at 3
-";
 
-/// Sizes that are refused, in their order: no byte changes.
-pub(crate) const NOT_SIZED: &str = "user 0 0
+volume 1024 64
+# Sizes that are refused, in their order: no byte changes.
+user 0 0
 50 open /z rwc 600 -> fd 0
 50 fill 0 57344 5a -> wrote 57344
 50 unlink /z -> ok
@@ -144,10 +146,10 @@ user 0 9
 60 truncate /. 0 -> EISDIR
 user 6 9
 60 truncate /f 0 -> EACCES
-";
 
-/// Of ten blocks three are free for bytes, and then two, which a write would need three of: no byte changes.
-pub(crate) const NO_ROOM: &str = "user 0 0
+volume 1024 10
+# Of ten blocks three are free for bytes, and then two, which a write would need three of: no byte changes.
+user 0 0
 50 open /z rwc 600 -> fd 0
 50 fill 0 3072 5a -> wrote 3072
 50 unlink /z -> ok
@@ -165,10 +167,10 @@ unchanged
 70 write 1 7778797a -> ENOSPC
 70 seek 1 cur 0 -> at 7166
 70 statfs -> block 1024 zones 4 free 2 inodes 32 free 30
-";
 
-/// The first of the two pages alone has room.
-pub(crate) const ROOM: &str = "user 0 0
+volume 1024 10
+# The first of the two pages alone has room.
+user 0 0
 50 open /z rwc 600 -> fd 0
 50 fill 0 3072 5a -> wrote 3072
 50 unlink /z -> ok
@@ -184,11 +186,11 @@ user 5 7
 70 seek 1 cur 0 -> at 7166
 70 write 1 7778 -> wrote 2
 70 statfs -> block 1024 zones 4 free 1 inodes 32 free 30
-";
 
-/// Names in their order, seeks, and a file without a name that goes with its last descriptor, on a volume with the files `/f` of 5 bytes
-/// and `/b`.
-pub(crate) const HELD: &str = "user 0 0
+volume 1024 64
+# Names in their order, seeks, and a file without a name that goes with its last descriptor, on a volume with the files `/f` of 5 bytes
+# and `/b`.
+user 0 0
 0 open /f wc 644 -> fd 0
 0 chown /f 5 7 -> ok
 0 truncate /f 5 -> ok

@@ -1,7 +1,9 @@
 //! A volume is filled to its last inode and its last zone, and emptied again.
 
-/// 31 directories take all inodes, a zone each, and two more of the root; then a file takes the place of the last of them, and all zones.
-pub(crate) const FULL: &str = "user 0 0
+/// The plays.
+pub(crate) const PLAYS: &str = "volume 1024 64
+# 31 directories take all inodes, a zone each, and two more of the root; then a file takes the place of the last of them, and all zones.
+user 0 0
 100 mkdir /1 755 -> ok
 100 mkdir /2 755 -> ok
 100 mkdir /3 755 -> ok

@@ -2,8 +2,10 @@
 //! `/f` and `/b` of user 5, inodes 6 and 7 without a zone. The maps begin at bytes 2048 and 3072, the inode table at 4096, the root's zone
 //! at 6144. All times are 0.
 
-/// What is made.
-pub(crate) const DIRECTORY_TREE: &str = "user 0 0
+/// The plays.
+pub(crate) const PLAYS: &str = "volume 1024 64
+# What is made.
+user 0 0
 0 mkdir /d 755 -> ok
 0 mkdir /d/e 755 -> ok
 0 mkdir /g 755 -> ok
@@ -44,10 +46,10 @@ left 9280 010000002e2e
 left 9344 0500000068
 left 10240 050000002e
 left 10304 040000002e2e
-";
 
-/// Refusals change no byte.
-pub(crate) const NOT_MOVED: &str = "user 0 0
+volume 1024 64
+# Refusals change no byte.
+user 0 0
 0 mkdir /d 755 -> ok
 0 mkdir /d/e 755 -> ok
 0 mkdir /g 755 -> ok
@@ -82,11 +84,11 @@ user 5 7
 user 0 0
 60 open /g/h r 0 -> fd 0
 60 rename /d/e /g/h -> EBUSY
-";
 
-/// A name keeps its place within a directory. The root has its links and its size, and times 0, 60, 60; the file changed, and its bytes
-/// didn't.
-pub(crate) const KEPT_PLACE: &str = "user 0 0
+volume 1024 64
+# A name keeps its place within a directory. The root has its links and its size, and times 0, 60, 60; the file changed, and its bytes
+# didn't.
+user 0 0
 0 mkdir /d 755 -> ok
 0 mkdir /d/e 755 -> ok
 0 mkdir /g 755 -> ok
@@ -103,11 +105,11 @@ user 0 0
 left 6400 060000006b00
 left 4098 04000000000080010000000000003c0000003c000000
 left 4428 00000000000000003c000000
-";
 
-/// A file takes the name of another: the last entry took the place of the name that went, and leads to the file that moved; the other is
-/// gone.
-pub(crate) const TAKEN_NAME: &str = "user 0 0
+volume 1024 64
+# A file takes the name of another: the last entry took the place of the name that went, and leads to the file that moved; the other is
+# gone.
+user 0 0
 0 mkdir /d 755 -> ok
 0 mkdir /d/e 755 -> ok
 0 mkdir /g 755 -> ok
@@ -123,10 +125,10 @@ user 0 0
 left 4104 4001
 left 6400 060000006200
 left 2048 7f
-";
 
-/// One that is open stays, without a link: its inode isn't free.
-pub(crate) const TAKEN_OPEN: &str = "user 0 0
+volume 1024 64
+# One that is open stays, without a link: its inode isn't free.
+user 0 0
 0 mkdir /d 755 -> ok
 0 mkdir /d/e 755 -> ok
 0 mkdir /g 755 -> ok
@@ -142,11 +144,11 @@ user 0 0
 60 rename /f /b -> ok
 60 statfs -> block 1024 zones 58 free 53 inodes 32 free 25
 60 fstat 0 -> inode 7 mode 0100644 links 0 uid 5 gid 7 size 0 times 0 0 60
-";
 
-/// A directory moves to another: a link goes from the root to `g`, in which the name stands last, and `..` leads there; what moved changed,
-/// and its names didn't.
-pub(crate) const MOVED: &str = "user 0 0
+volume 1024 64
+# A directory moves to another: a link goes from the root to `g`, in which the name stands last, and `..` leads there; what moved changed,
+# and its names didn't.
+user 0 0
 0 mkdir /d 755 -> ok
 0 mkdir /d/e 755 -> ok
 0 mkdir /g 755 -> ok
@@ -165,10 +167,10 @@ left 4296 0001
 left 9408 020000006400
 left 7232 040000002e2e
 left 4172 00000000000000003c000000
-";
 
-/// And another one moves out of it.
-pub(crate) const MOVED_ON: &str = "user 0 0
+volume 1024 64
+# And another one moves out of it.
+user 0 0
 0 mkdir /d 755 -> ok
 0 mkdir /d/e 755 -> ok
 0 mkdir /g 755 -> ok
@@ -184,10 +186,10 @@ user 0 0
 60 rename /g /g/d/e/x -> EINVAL
 60 rename /g/d/../d/e /g/d/../../e -> ok
 left 8256 010000002e2e
-";
 
-/// A directory takes the name of an empty one: `d` has a link less, `g` as many as before; inode 5 and zone 10 are free.
-pub(crate) const TAKEN_DIRECTORY: &str = "user 0 0
+volume 1024 64
+# A directory takes the name of an empty one: `d` has a link less, `g` as many as before; inode 5 and zone 10 are free.
+user 0 0
 0 mkdir /d 755 -> ok
 0 mkdir /d/e 755 -> ok
 0 mkdir /g 755 -> ok
@@ -206,12 +208,12 @@ left 2048 df
 left 3072 1f
 left 9344 030000006800
 left 8256 040000002e2e
-";
 
-/// Nine blocks whose three zones are taken. The root has `s`, `q` and `a` to `n`, 18 entries in zones 6 and 7, of which the last two stand
-/// in zone 7; `s`, inode 2, has `a` to `n` too, 16 entries that fill zone 8. All these names are of inode 3, a file with 28 links, and `q`
-/// is of inode 4, a file with one: neither has a zone.
-pub(crate) const FULL_TREE: &str = "user 0 0
+volume 1024 9
+# Nine blocks whose three zones are taken. The root has `s`, `q` and `a` to `n`, 18 entries in zones 6 and 7, of which the last two stand
+# in zone 7; `s`, inode 2, has `a` to `n` too, 16 entries that fill zone 8. All these names are of inode 3, a file with 28 links, and `q`
+# is of inode 4, a file with one: neither has a zone.
+user 0 0
 # a file takes inode 2 while names take their places; `/s` takes it then, and the place of `/p`
 0 open /1 wc 644 -> fd 0
 0 open /2 wc 644 -> fd 1
@@ -295,11 +297,11 @@ left 8960 030000006b
 left 9024 030000006c
 left 9088 030000006d
 left 9152 030000006e
-";
 
-/// There the root keeps its second zone with 17 entries, and `s` has none for a 17th. Within a directory, over a name, and to another name
-/// of the same inode no zone is taken.
-pub(crate) const NO_ZONE_BACK: &str = "user 0 0
+volume 1024 9
+# There the root keeps its second zone with 17 entries, and `s` has none for a 17th. Within a directory, over a name, and to another name
+# of the same inode no zone is taken.
+user 0 0
 # a file takes inode 2 while names take their places; `/s` takes it then, and the place of `/p`
 0 open /1 wc 644 -> fd 0
 0 open /2 wc 644 -> fd 1
@@ -348,10 +350,10 @@ user 0 0
 60 rename /z /q -> ok
 left 2048 0f
 left 4104 4004
-";
 
-/// With 16 entries the root gives back zone 7, which `s` takes.
-pub(crate) const ZONE_BACK: &str = "user 0 0
+volume 1024 9
+# With 16 entries the root gives back zone 7, which `s` takes.
+user 0 0
 # a file takes inode 2 while names take their places; `/s` takes it then, and the place of `/p`
 0 open /1 wc 644 -> fd 0
 0 open /2 wc 644 -> fd 1

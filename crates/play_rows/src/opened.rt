@@ -1,8 +1,10 @@
 //! Opens on a volume with a file `/f` of 5 bytes without a zone, inode 2 with permissions 640, and an empty directory `/d`, inode 3 with
 //! permissions 755, both of user 5 and group 7 and made at 50; the root's times are 0.
 
-/// Who may open it: its owner, its group, others, user 0.
-pub(crate) const PERMITTED: &str = "user 0 0
+/// The plays.
+pub(crate) const PLAYS: &str = "volume 1024 64
+# Who may open it: its owner, its group, others, user 0.
+user 0 0
 50 open /f wc 640 -> fd 0
 50 chown /f 5 7 -> ok
 50 truncate /f 5 -> ok
@@ -25,10 +27,10 @@ user 0 9
 60 open /f rw 0 -> fd 0
 user 0 7
 60 open /f wat 0 -> fd 0
-";
 
-/// Files that are made, and found then.
-pub(crate) const MADE: &str = "user 0 0
+volume 1024 64
+# Files that are made, and found then.
+user 0 0
 50 open /f wc 640 -> fd 0
 50 chown /f 5 7 -> ok
 50 truncate /f 5 -> ok
@@ -57,10 +59,10 @@ user 0 0
 60 seek 2 cur 0 -> at 0
 60 fstat 2 -> inode 5 mode 0100000 links 1 uid 0 gid 0 size 0 times 60 60 60
 60 stat /m -> inode 5 mode 0100000 links 1 uid 0 gid 0 size 0 times 60 60 60
-";
 
-/// A file that is emptied, and isn't without the permission or the flag.
-pub(crate) const EMPTIED: &str = "user 0 0
+volume 1024 64
+# A file that is emptied, and isn't without the permission or the flag.
+user 0 0
 50 open /f wc 640 -> fd 0
 50 chown /f 5 7 -> ok
 50 truncate /f 5 -> ok
@@ -77,10 +79,10 @@ user 5 7
 60 stat /f -> inode 2 mode 0100640 links 1 uid 5 gid 7 size 0 times 50 60 60
 60 fstat 1 -> inode 2 mode 0100640 links 1 uid 5 gid 7 size 0 times 50 60 60
 60 seek 1 cur 0 -> at 0
-";
 
-/// Directories.
-pub(crate) const OPEN_DIRECTORIES: &str = "user 0 0
+volume 1024 64
+# Directories.
+user 0 0
 50 open /f wc 640 -> fd 0
 50 chown /f 5 7 -> ok
 50 truncate /f 5 -> ok
@@ -95,10 +97,10 @@ user 9 9
 60 fstat 1 -> inode 3 mode 0040755 links 2 uid 5 gid 7 size 128 times 50 50 50
 60 open /d/.. r 0 -> fd 2
 60 fstat 2 -> inode 1 mode 0040755 links 3 uid 0 gid 0 size 256 times 0 0 0
-";
 
-/// Refusals, in their order: no byte changes, and no descriptor is given.
-pub(crate) const NOT_OPENED: &str = "user 0 0
+volume 1024 64
+# Refusals, in their order: no byte changes, and no descriptor is given.
+user 0 0
 50 open /f wc 640 -> fd 0
 50 chown /f 5 7 -> ok
 50 truncate /f 5 -> ok

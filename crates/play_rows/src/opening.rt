@@ -1,7 +1,9 @@
 //! Opens, and what descriptors are used for.
 
-/// Opens, refused in their order, by the owner and by another user.
-pub(crate) const OPENS: &str = "user 0 0
+/// The plays.
+pub(crate) const PLAYS: &str = "volume 1024 64
+# Opens, refused in their order, by the owner and by another user.
+user 0 0
 100 open /f - 644 -> EINVAL
 100 open /f c 644 -> EINVAL
 100 open /f rac 644 -> EINVAL
@@ -32,10 +34,10 @@ user 5 7
 100 open /f rwt 0 -> EACCES
 100 open /n r 0 -> ENOENT
 100 open /n rwc 644 -> EACCES
-";
 
-/// A session has 32 descriptors.
-pub(crate) const DESCRIPTORS: &str = "user 0 0
+volume 1024 64
+# A session has 32 descriptors.
+user 0 0
 100 open / r 0 -> fd 0
 100 dup 0 -> fd 1
 100 dup 0 -> fd 2
@@ -78,10 +80,10 @@ user 0 0
 # what was left open is closed with its session
 100 open / r 0 -> fd 0
 100 close 0 -> ok
-";
 
-/// No descriptor is open.
-pub(crate) const CLOSED: &str = "user 0 0
+volume 1024 64
+# No descriptor is open.
+user 0 0
 100 close 0 -> EBADF
 100 dup 0 -> EBADF
 100 read 0 65537 -> EBADF
@@ -90,10 +92,10 @@ pub(crate) const CLOSED: &str = "user 0 0
 100 fstat 0 -> EBADF
 100 readdir 0 -> EBADF
 100 close 4294967295 -> EBADF
-";
 
-/// Reads, writes and seeks.
-pub(crate) const BYTES: &str = "user 0 0
+volume 1024 64
+# Reads, writes and seeks.
+user 0 0
 100 open /f rwc 644 -> fd 0
 110 write 0 616263 -> wrote 3
 120 seek 0 cur 0 -> at 3
@@ -125,10 +127,10 @@ pub(crate) const BYTES: &str = "user 0 0
 120 seek 3 set -1 -> EISDIR
 120 write 3 61 -> EBADF
 120 readdir 3 -> names 1 66:2
-";
 
-/// A copy of a descriptor shares its position; another open file has its own.
-pub(crate) const SHARED: &str = "user 0 0
+volume 1024 64
+# A copy of a descriptor shares its position; another open file has its own.
+user 0 0
 100 open /f rwc 644 -> fd 0
 100 write 0 616263 -> wrote 3
 100 dup 0 -> fd 1
@@ -143,10 +145,10 @@ pub(crate) const SHARED: &str = "user 0 0
 100 dup 1 -> fd 0
 100 read 0 9 -> bytes 63
 100 read 2 9 -> bytes 616263
-";
 
-/// Two descriptors append to one file.
-pub(crate) const APPENDED: &str = "user 0 0
+volume 1024 64
+# Two descriptors append to one file.
+user 0 0
 100 open /g rwac 644 -> fd 0
 100 open /g wa 0 -> fd 1
 100 write 0 61 -> wrote 1

@@ -1,7 +1,9 @@
 //! Names: made, linked, taken away and moved.
 
-/// A second name.
-pub(crate) const LINKS: &str = "user 0 0
+/// The plays.
+pub(crate) const PLAYS: &str = "volume 1024 64
+# A second name.
+user 0 0
 100 open /f wc 644 -> fd 0
 100 mkdir /d 755 -> ok
 100 link n /g -> EINVAL
@@ -22,10 +24,10 @@ user 5 7
 100 link /f /d/g -> EEXIST
 100 link /f /h -> EACCES
 100 link /d /h -> EPERM
-";
 
-/// A name goes; the node goes with its last name, or, where it is open, with its last descriptor.
-pub(crate) const UNLINKS: &str = "user 0 0
+volume 1024 64
+# A name goes; the node goes with its last name, or, where it is open, with its last descriptor.
+user 0 0
 100 open /f rwc 644 -> fd 0
 100 link /f /g -> ok
 100 mkdir /d 755 -> ok
@@ -52,10 +54,10 @@ user 5 7
 100 unlink /n -> ENOENT
 100 unlink /k -> EACCES
 100 unlink /d -> EACCES
-";
 
-/// Directories.
-pub(crate) const DIRECTORIES: &str = "user 0 0
+volume 1024 64
+# Directories.
+user 0 0
 100 mkdir /n/x 1000 -> EINVAL
 100 mkdir /n/x 755 -> ENOENT
 100 mkdir / 755 -> EEXIST
@@ -88,10 +90,10 @@ user 5 7
 100 rmdir /n -> ENOENT
 100 rmdir /f -> EACCES
 100 rmdir /d -> EACCES
-";
 
-/// Renames that are refused, in their order.
-pub(crate) const RENAMES_REFUSED: &str = "user 0 0
+volume 1024 64
+# Renames that are refused, in their order.
+user 0 0
 100 mkdir /d 755 -> ok
 100 mkdir /d/e 755 -> ok
 100 mkdir /g 755 -> ok
@@ -120,10 +122,10 @@ user 5 7
 100 rename /f /n/x -> ENOENT
 100 rename /f /f -> EACCES
 100 rename /d /d/x -> EACCES
-";
 
-/// Renames that are done.
-pub(crate) const RENAMES: &str = "user 0 0
+volume 1024 64
+# Renames that are done.
+user 0 0
 100 mkdir /d 755 -> ok
 100 mkdir /d/e 755 -> ok
 100 mkdir /g 755 -> ok

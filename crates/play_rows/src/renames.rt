@@ -1,8 +1,10 @@
 //! Renames where `/f` and `/l` are inode 2, of 5 bytes without a zone, `/g` is inode 3, `/d` inode 4 in zone 7, `/e` inode 5 in zone 8, and
 //! `/d/x` inode 6. The maps begin at bytes 2048 and 3072, the inode table at 4096, the root's zone at 6144. All times are 0.
 
-/// What is made.
-pub(crate) const TREE: &str = "user 0 0
+/// The plays.
+pub(crate) const PLAYS: &str = "volume 1024 64
+# What is made.
+user 0 0
 0 open /f wc 644 -> fd 0
 0 truncate /f 5 -> ok
 0 open /g wc 644 -> fd 1
@@ -35,10 +37,10 @@ left 7232 010000002e2e
 left 7296 0600000078
 left 8192 050000002e
 left 8256 010000002e2e
-";
 
-/// Refusals change no byte.
-pub(crate) const NOT_RENAMED: &str = "user 0 0
+volume 1024 64
+# Refusals change no byte.
+user 0 0
 0 open /f wc 644 -> fd 0
 0 truncate /f 5 -> ok
 0 open /g wc 644 -> fd 1
@@ -59,10 +61,10 @@ user 0 0
 60 rename /h /f -> ENOENT
 60 rename /f /h/f -> ENOENT
 60 rename /f /e/.. -> EINVAL
-";
 
-/// Names of one inode stay, and so does each byte.
-pub(crate) const SAME_INODE: &str = "user 0 0
+volume 1024 64
+# Names of one inode stay, and so does each byte.
+user 0 0
 0 open /f wc 644 -> fd 0
 0 truncate /f 5 -> ok
 0 open /g wc 644 -> fd 1
@@ -77,10 +79,10 @@ user 0 0
 60 rename /l /f -> ok
 60 rename /g /g -> ok
 60 rename /d /d -> ok
-";
 
-/// Over a file, over one that is open, and from one of two names.
-pub(crate) const OVER_FILES: &str = "user 0 0
+volume 1024 64
+# Over a file, over one that is open, and from one of two names.
+user 0 0
 0 open /f wc 644 -> fd 0
 0 truncate /f 5 -> ok
 0 open /g wc 644 -> fd 1
@@ -100,10 +102,10 @@ user 0 0
 60 rename /g /d/x -> ok
 60 stat /d/x -> inode 2 mode 0100644 links 2 uid 0 gid 0 size 5 times 0 0 60
 60 statfs -> block 1024 zones 58 free 55 inodes 32 free 27
-";
 
-/// A file loses one of its names.
-pub(crate) const ONE_NAME_LESS: &str = "user 0 0
+volume 1024 64
+# A file loses one of its names.
+user 0 0
 0 open /f wc 644 -> fd 0
 0 truncate /f 5 -> ok
 0 open /g wc 644 -> fd 1
@@ -117,10 +119,10 @@ user 0 0
 60 stat /f -> inode 3 mode 0100644 links 1 uid 0 gid 0 size 0 times 0 0 60
 60 stat /l -> inode 2 mode 0100644 links 1 uid 0 gid 0 size 5 times 0 0 60
 60 statfs -> block 1024 zones 58 free 55 inodes 32 free 26
-";
 
-/// A directory has its new parent.
-pub(crate) const NEW_PARENT: &str = "user 0 0
+volume 1024 64
+# A directory has its new parent.
+user 0 0
 0 open /f wc 644 -> fd 0
 0 truncate /f 5 -> ok
 0 open /g wc 644 -> fd 1
@@ -137,10 +139,10 @@ user 0 0
 60 stat /e/k/x -> inode 6 mode 0100644 links 1 uid 0 gid 0 size 0 times 0 0 0
 60 stat / -> inode 1 mode 0040755 links 3 uid 0 gid 0 size 384 times 0 60 60
 60 stat /d -> ENOENT
-";
 
-/// Over an empty directory.
-pub(crate) const OVER_DIRECTORY: &str = "user 0 0
+volume 1024 64
+# Over an empty directory.
+user 0 0
 0 open /f wc 644 -> fd 0
 0 truncate /f 5 -> ok
 0 open /g wc 644 -> fd 1
@@ -155,10 +157,10 @@ user 0 0
 60 stat /e/x -> inode 6 mode 0100644 links 1 uid 0 gid 0 size 0 times 0 0 0
 60 stat / -> inode 1 mode 0040755 links 3 uid 0 gid 0 size 384 times 0 60 60
 60 statfs -> block 1024 zones 58 free 56 inodes 32 free 27
-";
 
-/// On nine blocks, with nine names more of `/g`, the root's 16 entries fill its zone, and no zone is free: what is refused changes no byte.
-pub(crate) const NO_ZONE: &str = "user 0 0
+volume 1024 9
+# On nine blocks, with nine names more of `/g`, the root's 16 entries fill its zone, and no zone is free: what is refused changes no byte.
+user 0 0
 0 open /f wc 644 -> fd 0
 0 truncate /f 5 -> ok
 0 open /g wc 644 -> fd 1
@@ -212,10 +214,10 @@ left 6912 0300000035
 left 6976 0300000036
 left 7040 0300000037
 left 7104 0300000038
-";
 
-/// The same volume: within a directory, over a name, and to where the last zone has room.
-pub(crate) const NO_ZONE_NEEDED: &str = "user 0 0
+volume 1024 9
+# The same volume: within a directory, over a name, and to where the last zone has room.
+user 0 0
 0 open /f wc 644 -> fd 0
 0 truncate /f 5 -> ok
 0 open /g wc 644 -> fd 1

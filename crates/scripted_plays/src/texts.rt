@@ -66,42 +66,8 @@ fn are_played<R: Wait + Copy>(
     Ok(first)
 }
 
-/// Each of these texts is played on a new volume of 64 blocks of 1024 bytes.
-pub fn all_are_played<R: Wait + Copy>(alloc: Global, rt: R, texts: &[&str]) -> Result<(), Fail> {
-    let image = new_volume(alloc, 1024)?;
-    for text in texts {
-        are_played(alloc, rt, &image, text)?;
-    }
-    Ok(())
-}
-
-/// A text is played on such a volume, and then another one by another service on the image that is left.
-pub fn both_are_played<R: Wait + Copy>(
-    alloc: Global,
-    rt: R,
-    text: &str,
-    then: &str,
-) -> Result<(), Fail> {
-    let image = new_volume(alloc, 1024)?;
-    let played = are_played(alloc, rt, &image, text)?;
-    are_played(alloc, rt, played.left(), then)?;
-    Ok(())
-}
-
-/// How many bytes each block of a new volume has, how many blocks there are, and a text that is played on it.
-pub type OnVolume = (usize, u8, &'static str);
-
-/// Each of these texts is played on its volume.
-pub fn are_played_on<R: Wait + Copy>(alloc: Global, rt: R, rows: &[OnVolume]) -> Result<(), Fail> {
-    for (block, blocks, text) in rows {
-        let image = volume_of(alloc, *block, *blocks)?;
-        are_played(alloc, rt, &image, text)?;
-    }
-    Ok(())
-}
-
 /// A new volume of so many blocks: 64 of these bytes, or 9 or 10 of 1024.
-fn volume_of(alloc: Global, block: usize, blocks: u8) -> Result<Vec<u8>, AllocError> {
+fn volume(alloc: Global, block: usize, blocks: u8) -> Result<Vec<u8>, AllocError> {
     let mut image = new_volume(alloc, block)?;
     if blocks < 64 {
         // The map's bits behind those of the 3 or 4 zones are set.
@@ -119,6 +85,39 @@ fn volume_of(alloc: Global, block: usize, blocks: u8) -> Result<Vec<u8>, AllocEr
         image.truncate(usize::from(blocks).saturating_mul(1024));
     }
     Ok(image)
+}
+
+/// The image of a new volume, as the first line of a play says it: `volume B N`, of N blocks of B bytes each, 64 blocks, or 9 or 10 of 1024.
+fn volume_of(alloc: Global, line: &str) -> Result<Vec<u8>, Fail> {
+    let sizes = line.strip_prefix("volume ").unwrap_or("");
+    let (block, blocks) = sizes.split_once(" ").unwrap_or(("", ""));
+    match (block.parse::<usize>(), blocks.parse::<u8>()) {
+        (Ok(block), Ok(blocks)) => Ok(volume(alloc, block, blocks)?),
+        _ => Err(Fail::new(format_args!("no volume: {line}"))),
+    }
+}
+
+/// Each play of a text is played on the volume that its first line says; a blank line stands between two of them.
+pub fn all_are_played<R: Wait + Copy>(alloc: Global, rt: R, text: &str) -> Result<(), Fail> {
+    for play in text.split("\n\n") {
+        let (first, rest) = play.split_once("\n").unwrap_or((play, ""));
+        let image = volume_of(alloc, first)?;
+        are_played(alloc, rt, &image, rest)?;
+    }
+    Ok(())
+}
+
+/// A text is played on a new volume of 64 blocks of 1024 bytes, and then another one by another service on the image that is left.
+pub fn both_are_played<R: Wait + Copy>(
+    alloc: Global,
+    rt: R,
+    text: &str,
+    then: &str,
+) -> Result<(), Fail> {
+    let image = new_volume(alloc, 1024)?;
+    let played = are_played(alloc, rt, &image, text)?;
+    are_played(alloc, rt, played.left(), then)?;
+    Ok(())
 }
 
 /// Scripts of one call on a new volume: each has its session, and is answered by this line.

@@ -1,7 +1,6 @@
 //! What is done with a service on the small volume.
 ghost use Rattle.std.specs.Prelude.{◌≡◌};
 
-use crate::services::{many, stopped, two_in_turn};
 use file_server::FileServer;
 use keeping::recorder::Recorder;
 use keeping::room::Room;
@@ -12,6 +11,7 @@ use reissue::link::TrueLink;
 use samples::{MOUNT_READS, supply_at, whole};
 use serve::gate::Open;
 use serve::service::{Service, Shared};
+use session_samples::services::{many, stopped, two_in_turn};
 use std::alloc::{AllocError, Global};
 use std::sync::Wait;
 use tree::Call;

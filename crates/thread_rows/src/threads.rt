@@ -9,19 +9,17 @@ ghost use Rattle.inline.specs.Inline.{IsReady};
 ghost use Rattle.board.specs.View.{IsKeeper, opener};
 ghost use Rattle.startup.specs.Starting.{opening_of, IsPrepared};
 
-use crate::services::two_in_threads;
 use board::{Board, Seat};
-use counting_link::Noting;
-use driven::Driven;
 use inline::local::LocalDriver;
 use keeping::recorder::Recorder;
 use keeping::room::Room;
 use launch::opened::mounted;
-use launch::start::drivers_on;
+use launch::start::counted_drivers;
 use policy::Setup;
 use reissue::link::TrueLink;
 use row_texts::is_told;
 use samples::{new_volume, supply_of, whole};
+use session_samples::services::two_in_threads;
 use startup::{Prepared, prepare};
 use std::alloc::{AllocError, Global};
 use std::marker::Brand;
@@ -64,7 +62,7 @@ fn over_threads<
     }
 }
 
-/// The same, over a service that is started on drivers.
+/// Two sessions call in threads of their own, over a service that is started on drivers.
 fn on_threads<N: Room + Send + Sync, R: Threads + Wait + Copy + Send + Sync, D: LocalDriver + Send>(
     alloc: Global,
     rt: R,
@@ -87,10 +85,8 @@ fn on_threads<N: Room + Send + Sync, R: Threads + Wait + Copy + Send + Sync, D: 
     requires ready { All (IsReady (opening_of image.now setup.now.minor prepared.range)) (map D.state supply.items) }
 {
     let Prepared { media, .. } = prepared;
-    let link = drivers_on(alloc, media, setup.policy, supply)?;
-    let board = Arc::new(alloc, board)?;
-    let noting = Noting::<N, Driven<D>>::new(alloc, link, Arc::try_clone(&board)?, seat)?;
-    Ok(over_threads(alloc, rt, board, noting, setup.minor, setup.frames as u32))
+    let (board, link) = counted_drivers::<N, D>(alloc, board, seat, media, setup.policy, supply)?;
+    Ok(over_threads(alloc, rt, board, link, setup.minor, setup.frames as u32))
 }
 
 /// The same, over a service on the volume in an image.

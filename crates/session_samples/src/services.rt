@@ -14,7 +14,7 @@ use std::thread::{Threads, join};
 use tree::Call;
 
 /// Two sessions, of user 0 and of user 7, call in turn, and end. No image.
-pub(crate) fn two_in_turn<N: Room, R: Wait + Copy, L: Recorder<N>, S: FileServer<L>>(
+pub fn two_in_turn<N: Room, R: Wait + Copy, L: Recorder<N>, S: FileServer<L>>(
     alloc: Global,
     service: Service<N, Shared<N, R, L, S>>,
     lines: &mut String,
@@ -41,7 +41,7 @@ fn three_calls<N: Room, R: Wait + Copy, L: Recorder<N>, S: FileServer<L>>(
 }
 
 /// Two sessions call in threads of their own. The lines of each.
-pub(crate) fn two_in_threads<
+pub fn two_in_threads<
     N: Room + Send + Sync,
     R: Threads + Wait + Copy + Send + Sync,
     L: Recorder<N> + Send,
@@ -69,7 +69,7 @@ fn fill<N: Room, R: Wait + Copy, L: Recorder<N>, S: FileServer<L>>(
 
 /// As many sessions are made as there are numbers, and one more is asked for before and after one of them ends: why there was none more,
 /// before and after, and how many are left. No image.
-pub(crate) fn many<N: Room, R: Wait + Copy, L: Recorder<N>, S: FileServer<L>>(
+pub fn many<N: Room, R: Wait + Copy, L: Recorder<N>, S: FileServer<L>>(
     alloc: Global,
     service: Service<N, Shared<N, R, L, S>>,
     lines: &mut String,
@@ -123,7 +123,7 @@ fn refused<N: Room, R: Wait + Copy, L: Recorder<N> + OnMedia, S: FileServer<L>>(
 
 /// Makes a call in one of two sessions, and stops the service three times: with the end of the other session, at once, which are refused
 /// since the first session is left, and when that one has ended, or with its end. The image.
-pub(crate) fn stopped<N: Room, R: Wait + Copy, L: Recorder<N> + OnMedia, S: FileServer<L>>(
+pub fn stopped<N: Room, R: Wait + Copy, L: Recorder<N> + OnMedia, S: FileServer<L>>(
     alloc: Global,
     service: Service<N, Shared<N, R, L, S>>,
     call: &Call<'_>,
@@ -155,12 +155,11 @@ fn stopped_at_last<N: Room, R: Wait + Copy, L: Recorder<N> + OnMedia, S: FileSer
 }
 
 /// A session calls, another one is asked for, and the service is stopped, whose link has ended. The image.
-pub(crate) fn asked_and_stopped<
-    N: Room,
-    R: Wait + Copy,
-    L: Recorder<N> + OnMedia,
-    S: FileServer<L>,
->(alloc: Global, service: Service<N, Shared<N, R, L, S>>, lines: &mut String) -> Option<Vec<u8>> {
+pub fn asked_and_stopped<N: Room, R: Wait + Copy, L: Recorder<N> + OnMedia, S: FileServer<L>>(
+    alloc: Global,
+    service: Service<N, Shared<N, R, L, S>>,
+    lines: &mut String,
+) -> Option<Vec<u8>> {
     let mut session = service.session(0, 0).ok()?;
     told(&mut session, 100, &Call::Stat { path: b"/" }, lines);
     let refusal = service.session(0, 0).err();

@@ -2,7 +2,7 @@ use Rattle.std.proofs.Common.{subst, map, List}
 use Rattle.std.specs.Prelude.{All}
 use Rattle.inline.specs.Inline.{IsReady}
 use Rattle.startup.specs.Starting.{opening_of}
-use Rattle.session_rows.proofs.threads.called_on_threads.Goals as goal
+use Rattle.thread_rows.proofs.threads.called_on_threads.Goals as goal
 
 pub on_threads-requires-clause-ready : goal.on_threads-requires-clause-ready
 on_threads-requires-clause-ready g c = λ _ _.

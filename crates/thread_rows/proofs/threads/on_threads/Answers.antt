@@ -5,15 +5,14 @@ use Rattle.inline.specs.Inline.{IsReady}
 use Rattle.startup.specs.mounting.Laws.{sizes_in}
 use Rattle.inline.specs.true_replies.Events.{IsOnMedia, opening_media}
 use Rattle.launch.proofs.Frames.{frames_fit}
-use Rattle.session_rows.proofs.threads.on_threads.Goals as goal
+use Rattle.thread_rows.proofs.threads.on_threads.Goals as goal
 
 pub over_threads-requires-clause-truth : goal.over_threads-requires-clause-truth
 over_threads-requires-clause-truth g c = λ _ _.
-    c.in_ok-noting.ensures.truth g.N.Room.opening
-    (c.in_ok-link.ensures.truth g.N.Room.opening
+    c.in_ok-board.ensures.truth g.N.Room.opening
     (subst (λ (v : Opening). IsOnMedia v) (sym c.requires.opening) c.requires.on_media)
     (subst (λ (v : Opening). c.args.prepared.media ≡ opening_media v) (sym c.requires.opening) c.requires.contents)
-    (subst (λ (v : Opening). All (IsReady v) (map g.D.LocalDriver.state c.args.supply.items)) (sym c.requires.opening) c.requires.ready))
+    (subst (λ (v : Opening). All (IsReady v) (map g.D.LocalDriver.state c.args.supply.items)) (sym c.requires.opening) c.requires.ready)
 
 pub over_threads-requires-clause-frames : goal.over_threads-requires-clause-frames
 over_threads-requires-clause-frames g c = λ _ _.

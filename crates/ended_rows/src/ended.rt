@@ -3,8 +3,6 @@ ghost use Rattle.std.specs.Prelude.{◌≡◌};
 ghost use Rattle.layout.specs.Places.{IsGeometry};
 ghost use Rattle.board.specs.View.{IsKeeper, opener};
 
-use crate::services::asked_and_stopped;
-use crate::silent::Silent;
 use board::{Board, Seat};
 use counting_link::Noting;
 use keeping::room::Room;
@@ -13,6 +11,8 @@ use layout::Geometry;
 use media::Media;
 use row_texts::is_told;
 use samples::new_volume;
+use session_samples::services::asked_and_stopped;
+use session_samples::silent::Silent;
 use std::alloc::{AllocError, Global};
 use std::marker::Brand;
 use std::sync::{Arc, Wait};

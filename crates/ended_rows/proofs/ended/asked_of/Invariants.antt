@@ -1,6 +1,6 @@
 use Rattle.std.specs.Prelude.{[]}
 use Rattle.policy.specs.Policy.{default_policy}
-use Rattle.session_rows.proofs.ended.asked_of.Given as goal
+use Rattle.ended_rows.proofs.ended.asked_of.Given as goal
 
 abbrev pub ghosts-ask_and_stop : goal.ghosts-ask_and_stop
 ghosts-ask_and_stop g a = record {

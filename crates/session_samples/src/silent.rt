@@ -12,14 +12,14 @@ use std::alloc::{AllocError, Global};
 /// A link that has ended, beside media that nobody moves: it refuses each post, and each take gives End. Of any record it guarantees
 /// nothing, and it says nothing of drivers.
 #[derive(Drop)]
-pub(crate) struct Silent {
+pub struct Silent {
     history: History,
     media: Media,
 }
 
 impl Silent {
     /// It was told nothing yet.
-    pub(crate) fn new(alloc: Global, media: Media) -> Result<Silent, AllocError>
+    pub fn new(alloc: Global, media: Media) -> Result<Silent, AllocError>
         ensures history { IfOk result (λ link. ⟦<Silent as Link>⟧.history link ≡ []) }
     {
         Ok(Silent {

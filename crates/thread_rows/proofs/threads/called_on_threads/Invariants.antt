@@ -2,7 +2,7 @@ use Rattle.std.specs.Prelude.{map}
 use Rattle.history.specs.marks.Opening.{contents_at}
 use Rattle.startup.specs.mounting.Laws.{sizes_in}
 use Rattle.startup.specs.Starting.{opening_of}
-use Rattle.session_rows.proofs.threads.called_on_threads.Given as goal
+use Rattle.thread_rows.proofs.threads.called_on_threads.Given as goal
 
 abbrev pub ghosts-on_threads : goal.ghosts-on_threads
 ghosts-on_threads g a = record {

@@ -1,0 +1,5 @@
+//! Rows of a service whose link has ended. Each expected value is worked out by hand.
+#![tactic(auto)]
+
+#[cfg(test)]
+mod ended;

@@ -1,0 +1,5 @@
+//! Rows of a service's sessions in threads of their own. Each expected value is worked out by hand.
+#![tactic(auto)]
+
+#[cfg(test)]
+mod threads;
