@@ -6,6 +6,7 @@ use play_words::mfs::{Words, read};
 use std::alloc::{AllocError, Global};
 use std::process::ExitCode;
 use std::rt::Files;
+use std::sync::Wait;
 use std::{fs, io};
 use supply::{drivers_for, setup_for, table_in};
 use tools::play::{File, finish, play};
@@ -44,8 +45,13 @@ fn files<'n, 'b>(
     Ok(files)
 }
 
-/// Plays the scripts that the words name on the image that they name, and writes the image that is left, where they name a file for it.
-fn play_files(rt: HostRuntime, words: &Words<'_>) -> io::Result<ExitCode> {
+/// Plays the scripts that the words name on the image that they name, and writes the image that is left, where they name a file for it. The
+/// service may wait for its lock.
+fn play_files<W: Wait + Copy>(
+    rt: HostRuntime,
+    waits: W,
+    words: &Words<'_>,
+) -> io::Result<ExitCode> {
     let alloc = rt.alloc();
     let image = fs::read(&rt, words.image).ok();
     let texts = read_all(&rt, &words.scripts)?;
@@ -56,7 +62,7 @@ fn play_files(rt: HostRuntime, words: &Words<'_>) -> io::Result<ExitCode> {
     let (mut out, mut err) = (io::writer(&rt), rt.stderr());
     let played = play(
         alloc,
-        rt,
+        waits,
         file(words.image, &image),
         scripts.as_slice(),
         &setup,
@@ -79,7 +85,7 @@ fn main(rt: HostRuntime) -> io::Result<ExitCode> {
         return Ok(ExitCode::from(2));
     };
     match read(rt.alloc(), line.as_slice()) {
-        Ok(words) => play_files(rt, &words),
+        Ok(words) => play_files(rt, rt, &words),
         Err(error) => {
             error.print(&rt)?;
             Ok(ExitCode::from(status_for(&error)))

@@ -1,6 +1,6 @@
 //! Plays over images.
 
-ghost use Rattle.std.specs.Prelude.{◌≡◌, IfOk, is_some, not, ◌==◌};
+ghost use Rattle.std.specs.Prelude.{◌≡◌, ◌↔◌, IsOk, is_some, not, ◌==◌};
 
 use fsck::{Verdict, check};
 use modeldisk::{FaultKind, ScriptedDriver};
@@ -34,10 +34,8 @@ pub struct Played {
 impl Played {
     /// Looks at what a play gave, which is an error where it is something else: the image is there exactly where nothing was refused.
     pub fn gave(&self, status: u8, out: &str, err: &str) -> Result<(), Fail>
-        ensures status { IfOk result (λ _. self.now.status ≡ status) }
-        ensures out { IfOk result (λ _. self.now.out.items ≡ out.now) }
-        ensures err { IfOk result (λ _. self.now.err.items ≡ err.now) }
-        ensures image { IfOk result (λ _. is_some self.now.image ≡ not (status == 1)) }
+        ensures { IsOk result ↔ ((self.now.status ≡ status) × (self.now.out.items ≡ out.now) × (self.now.err.items ≡ err.now)
+            × (is_some self.now.image ≡ not (status == 1))) }
     {
         let is_told = self.out.as_slice() == out.as_bytes()
             && self.err.as_slice() == err.as_bytes();

@@ -1,6 +1,6 @@
 //! Plays into writers that fail, or take little at a time.
 
-ghost use Rattle.std.specs.Prelude.{◌≡◌, IfOk};
+ghost use Rattle.std.specs.Prelude.{◌≡◌, ◌↔◌, IsOk};
 
 use crate::plays::{Play, Played, Room};
 use play_texts::left::has_left;
@@ -60,8 +60,7 @@ pub type Finished = (Status, bool, Status, &'static str);
 
 /// Looks at how a row ended, and at what was told.
 fn has_ended(ended: Status, told: &[u8], status: Status, line: &str) -> Result<(), Fail>
-    ensures status { IfOk result (λ _. ended ≡ status) }
-    ensures told { IfOk result (λ _. told.now ≡ line.now) }
+    ensures { IsOk result ↔ ((ended ≡ status) × (told.now ≡ line.now)) }
 {
     if ended == status && told == line.as_bytes() {
         return Ok(());

@@ -1,6 +1,6 @@
 //! What a run says: its status, and what it printed.
 
-ghost use Rattle.std.specs.Prelude.{◌≡◌, IfOk};
+ghost use Rattle.std.specs.Prelude.{◌≡◌, ◌↔◌, IsOk};
 
 use std::alloc::{AllocError, Global};
 use std::str;
@@ -14,9 +14,7 @@ pub type Cut<'t> = (&'t str, usize, &'t str, usize);
 
 /// Looks at the status and at what was printed, and is an error where they are others.
 pub fn is_said(status: u8, out: &[u8], err: &[u8], wanted: Said<'_>) -> Result<(), Fail>
-    ensures status { IfOk result (λ _. status ≡ wanted.entry.0) }
-    ensures out { IfOk result (λ _. out.now ≡ wanted.entry.1.now) }
-    ensures err { IfOk result (λ _. err.now ≡ wanted.entry.2.now) }
+    ensures { IsOk result ↔ ((status ≡ wanted.entry.0) × (out.now ≡ wanted.entry.1.now) × (err.now ≡ wanted.entry.2.now)) }
 {
     if status == wanted.0 && out == wanted.1.as_bytes() && err == wanted.2.as_bytes() {
         return Ok(());
