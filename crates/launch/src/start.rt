@@ -1,9 +1,7 @@
 //! Starting a service on the volume of an image, whose drivers it runs itself.
 
-ghost use Rattle.std.specs.Prelude.{◌≡◌, ◌≢◌, ◌≤◌, ℕ, [], All, IfErr, IfOk, length, map};
+ghost use Rattle.std.specs.Prelude.{◌≡◌, ◌≢◌, [], All, IfErr, IfOk, map};
 ghost use Rattle.std.specs.Arc.{arc_value};
-ghost use Rattle.board.specs.tree.Tree.{Tree};
-ghost use Rattle.board.specs.legal.Legal.{IsAtFirst};
 ghost use Rattle.reissue.specs.marks.Opening.{Opening, contents_at};
 ghost use Rattle.startup.specs.mounting.Laws.{sizes_in};
 ghost use Rattle.policy.specs.Policy.{IsAllowed};
@@ -75,6 +73,7 @@ pub fn counted_drivers<N: Room, D: LocalDriver>(
     requires seat { IsKeeper N.table seat × (seat.view ≡ opener) }
     ensures board { IfOk result (λ made. arc_value made.0 ≡ N.table) }
     ensures marks { IfOk result (λ made. ⟦<Noting<N, Driven<D>> as Recorder<N>>⟧.marks made.1 ≡ []) }
+    ensures numbers { IfOk result (λ made. ⟦<Noting<N, Driven<D>> as Recorder<N>>⟧.numbers made.1 ≡ []) }
     ensures history { IfOk result (λ made. ⟦<Noting<N, Driven<D>> as Link>⟧.history made.1 ≡ []) }
     ensures budget { IfOk result (λ made. ⟦<Noting<N, Driven<D>> as Link>⟧.budget_left made.1 ≡ 1099511627776) }
     ensures truth { IfOk result (λ made. (v : Opening) → IsOnMedia v → media ≡ opening_media v
@@ -102,13 +101,13 @@ fn start_and_run<N: Room, R: Wait + Copy, D: LocalDriver, P: Program<R>>(
     requires board { board ≡ N.table }
     requires seat { IsKeeper N.table seat × (seat.view ≡ opener) }
     requires opening { N.opening ≡ opening_of image.now setup.now.minor prepared.range }
-    requires geometry { N.geometry ≡ sizes_in (contents_at (opening_of image.now setup.now.minor prepared.range)) }
+    requires geometry { N.geometry ≡ sizes_in (contents_at N.opening) }
     requires policy { N.policy ≡ setup.now.policy }
     requires drivers { N.supply ≡ map D.state supply.items }
     requires prepared { IsPrepared image.now setup.now (map D.state supply.items) prepared.range }
-    requires contents { prepared.media ≡ opening_media (opening_of image.now setup.now.minor prepared.range) }
-    requires on_media { IsOnMedia (opening_of image.now setup.now.minor prepared.range) }
-    requires ready { All (IsReady (opening_of image.now setup.now.minor prepared.range)) (map D.state supply.items) }
+    requires contents { prepared.media ≡ opening_media N.opening }
+    requires on_media { IsOnMedia N.opening }
+    requires ready { All (IsReady N.opening) (map D.state supply.items) }
     ensures ran { IfOk result (λ came. IfOk came (λ o.
         HasRun image.now setup.now (map D.state supply.items) (λ g opening. P.gives program g opening o))) }
     ensures refused { IfOk result (λ came. IfErr came (IsStopped (opening_of image.now setup.now.minor prepared.range) setup.now.frames)) }

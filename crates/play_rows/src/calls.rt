@@ -1,6 +1,6 @@
-//! Scripts of all calls, each on a new volume of 64 blocks of 1024 bytes with 32 inodes: what its calls are answered.
+//! Scripts of all calls, each on a new volume of 64 blocks with 32 inodes: what its calls are answered.
 
-/// One session each, and then several: a session sees what the one before it wrote.
+/// One session each, and then several, of which each sees what the one before it wrote; at last the root and the numbers of each new volume.
 pub(crate) const PLAYS: &str = "volume 1024 64
 # No call.
 user 0 0
@@ -212,17 +212,20 @@ user 0 0
 100 statfs -> block 1024 zones 58 free 57 inodes 32 free 31
 
 volume 1024 64
-# The root of a new volume.
+# A new volume.
 user 0 0
 100 stat / -> inode 1 mode 0040755 links 2 uid 0 gid 0 size 128 times 50 50 50
+100 statfs -> block 1024 zones 58 free 57 inodes 32 free 31
 
 volume 2048 64
-# The root of a new volume.
+# A new volume.
 user 0 0
 100 stat / -> inode 1 mode 0040755 links 2 uid 0 gid 0 size 128 times 50 50 50
+100 statfs -> block 2048 zones 59 free 58 inodes 32 free 31
 
 volume 4096 64
-# The root of a new volume.
+# A new volume.
 user 0 0
 100 stat / -> inode 1 mode 0040755 links 2 uid 0 gid 0 size 128 times 50 50 50
+100 statfs -> block 4096 zones 59 free 58 inodes 32 free 31
 ";

@@ -60,7 +60,7 @@ left 6276 6161616161616161616161616161616161616161616161616161616161616161616161
 left 6336 00
 
 volume 1024 64
-# The same in two sessions of one service.
+# What `FILLS` and `READS` do, in two sessions of one service.
 user 0 0
 100 mkdir /d 755 -> ok
 100 open /d/f rwc 644 -> fd 0

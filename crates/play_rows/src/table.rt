@@ -3,25 +3,25 @@ use crate::{attributes, bytes, calls, full, images, moves, opened, opening, plac
 use scripted_plays::texts::{all_are_played, both_are_played};
 use std::test::Fail;
 
-/// The texts of plays.
-static PLAYS: [&str; 10] = [
-    opening::PLAYS,
-    opened::PLAYS,
-    attributes::PLAYS,
-    bytes::PLAYS,
-    places::PLAYS,
-    renames::PLAYS,
-    moves::PLAYS,
-    full::PLAYS,
-    calls::PLAYS,
-    images::PLAYS,
+/// The texts of plays, and how many plays each has.
+static PLAYS: [(&str, usize); 10] = [
+    (opening::PLAYS, 6),
+    (opened::PLAYS, 5),
+    (attributes::PLAYS, 4),
+    (bytes::PLAYS, 10),
+    (places::PLAYS, 5),
+    (renames::PLAYS, 9),
+    (moves::PLAYS, 11),
+    (full::PLAYS, 1),
+    (calls::PLAYS, 20),
+    (images::PLAYS, 3),
 ];
 
 /// Each is played, and at last one that another service reads from the image that is left.
 #[test]
 fn each_call_is_answered(rt: HostRuntime) -> Result<(), Fail> {
-    for text in &PLAYS {
-        all_are_played(rt.alloc(), rt, text)?;
+    for (text, count) in &PLAYS {
+        all_are_played(rt.alloc(), rt, text, *count)?;
     }
     both_are_played(rt.alloc(), rt, images::FILLS, images::READS)
 }

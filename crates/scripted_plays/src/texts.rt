@@ -87,22 +87,38 @@ fn volume(alloc: Global, block: usize, blocks: u8) -> Result<Vec<u8>, AllocError
     Ok(image)
 }
 
-/// The image of a new volume, as the first line of a play says it: `volume B N`, of N blocks of B bytes each, 64 blocks, or 9 or 10 of 1024.
+/// The image of a new volume, as the first line of a play says it: `volume B N`, of N blocks of B bytes each. There are volumes of 64 blocks,
+/// and of 9 and of 10 blocks of 1024 bytes.
 fn volume_of(alloc: Global, line: &str) -> Result<Vec<u8>, Fail> {
     let sizes = line.strip_prefix("volume ").unwrap_or("");
     let (block, blocks) = sizes.split_once(" ").unwrap_or(("", ""));
     match (block.parse::<usize>(), blocks.parse::<u8>()) {
-        (Ok(block), Ok(blocks)) => Ok(volume(alloc, block, blocks)?),
+        (Ok(block), Ok(64)) => Ok(volume(alloc, block, 64)?),
+        (Ok(1024), Ok(blocks)) if blocks == 9 || blocks == 10 => Ok(volume(alloc, 1024, blocks)?),
         _ => Err(Fail::new(format_args!("no volume: {line}"))),
     }
 }
 
-/// Each play of a text is played on the volume that its first line says; a blank line stands between two of them.
-pub fn all_are_played<R: Wait + Copy>(alloc: Global, rt: R, text: &str) -> Result<(), Fail> {
+/// Each play of a text is played on the volume that its first line says; a blank line stands between two of them. It is an error where there
+/// are more or fewer of them than this.
+pub fn all_are_played<R: Wait + Copy>(
+    alloc: Global,
+    rt: R,
+    text: &str,
+    count: usize,
+) -> Result<(), Fail> {
+    let mut left = count;
     for play in text.split("\n\n") {
+        if left == 0 {
+            return Err(Fail::new(format_args!("more than {count} plays")));
+        }
+        left -= 1;
         let (first, rest) = play.split_once("\n").unwrap_or((play, ""));
         let image = volume_of(alloc, first)?;
         are_played(alloc, rt, &image, rest)?;
+    }
+    if left > 0 {
+        return Err(Fail::new(format_args!("fewer than {count} plays")));
     }
     Ok(())
 }

@@ -1,5 +1,4 @@
 //! What is done with a service on the small volume.
-ghost use Rattle.std.specs.Prelude.{◌≡◌};
 
 use file_server::FileServer;
 use keeping::recorder::Recorder;

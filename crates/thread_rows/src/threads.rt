@@ -76,13 +76,13 @@ fn on_threads<N: Room + Send + Sync, R: Threads + Wait + Copy + Send + Sync, D: 
     requires board { board ≡ N.table }
     requires seat { IsKeeper N.table seat × (seat.view ≡ opener) }
     requires opening { N.opening ≡ opening_of image.now setup.now.minor prepared.range }
-    requires geometry { N.geometry ≡ sizes_in (contents_at (opening_of image.now setup.now.minor prepared.range)) }
+    requires geometry { N.geometry ≡ sizes_in (contents_at N.opening) }
     requires policy { N.policy ≡ setup.now.policy }
     requires drivers { N.supply ≡ map D.state supply.items }
     requires prepared { IsPrepared image.now setup.now (map D.state supply.items) prepared.range }
-    requires contents { prepared.media ≡ opening_media (opening_of image.now setup.now.minor prepared.range) }
-    requires on_media { IsOnMedia (opening_of image.now setup.now.minor prepared.range) }
-    requires ready { All (IsReady (opening_of image.now setup.now.minor prepared.range)) (map D.state supply.items) }
+    requires contents { prepared.media ≡ opening_media N.opening }
+    requires on_media { IsOnMedia N.opening }
+    requires ready { All (IsReady N.opening) (map D.state supply.items) }
 {
     let Prepared { media, .. } = prepared;
     let (board, link) = counted_drivers::<N, D>(alloc, board, seat, media, setup.policy, supply)?;
