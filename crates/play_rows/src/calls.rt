@@ -1,6 +1,7 @@
 //! Scripts of all calls, each on a new volume of 64 blocks with 32 inodes: what its calls are answered.
 
-/// One session each, and then several, of which each sees what the one before it wrote; at last the root and the numbers of each new volume.
+/// One session each, and then several, of which each sees what the one before it wrote; at last the root and the numbers of each new
+/// volume.
 pub(crate) const PLAYS: &str = "volume 1024 64
 # No call.
 user 0 0

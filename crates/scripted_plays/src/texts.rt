@@ -87,8 +87,8 @@ fn volume(alloc: Global, block: usize, blocks: u8) -> Result<Vec<u8>, AllocError
     Ok(image)
 }
 
-/// The image of a new volume, as the first line of a play says it: `volume B N`, of N blocks of B bytes each. There are volumes of 64 blocks,
-/// and of 9 and of 10 blocks of 1024 bytes.
+/// The image of a new volume, as the first line of a play says it: `volume B N`, of N blocks of B bytes each. There are volumes of 64
+/// blocks, and of 9 and of 10 blocks of 1024 bytes.
 fn volume_of(alloc: Global, line: &str) -> Result<Vec<u8>, Fail> {
     let sizes = line.strip_prefix("volume ").unwrap_or("");
     let (block, blocks) = sizes.split_once(" ").unwrap_or(("", ""));
@@ -99,8 +99,8 @@ fn volume_of(alloc: Global, line: &str) -> Result<Vec<u8>, Fail> {
     }
 }
 
-/// Each play of a text is played on the volume that its first line says; a blank line stands between two of them. It is an error where there
-/// are more or fewer of them than this.
+/// Each play of a text is played on the volume that its first line says; a blank line stands between two of them. It is an error where
+/// there are more or fewer of them than this.
 pub fn all_are_played<R: Wait + Copy>(
     alloc: Global,
     rt: R,
