@@ -3,7 +3,7 @@
 
 mod words;
 
-use command_line::line_of;
+use host::command_line::line_of;
 use std::io;
 use std::process::ExitCode;
 use words::{Work, named};
@@ -19,11 +19,11 @@ fn main(rt: HostRuntime) -> io::Result<ExitCode> {
     };
     for work in named {
         match work {
-            Work::Drivers => bench_frames::run(&rt)?,
-            Work::Volumes => bench_volumes::run(&rt)?,
-            Work::Names => bench_names::run(&rt)?,
-            Work::Bytes => bench_bytes::run(&rt)?,
-            Work::Calls => bench_calls::run(&rt, rt)?,
+            Work::Drivers => bench_service::bench_frames::run(&rt)?,
+            Work::Volumes => bench_layers::bench_volumes::run(&rt)?,
+            Work::Names => bench_layers::bench_names::run(&rt)?,
+            Work::Bytes => bench_layers::bench_bytes::run(&rt)?,
+            Work::Calls => bench_service::bench_calls::run(&rt, rt)?,
         }
     }
     Ok(ExitCode::SUCCESS)

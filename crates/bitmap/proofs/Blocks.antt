@@ -3,9 +3,9 @@ use Rattle.std.proofs.Common.{◌≡◌, ◌<◌, ◌≤◌, ◌+◌, ◌-◌, �
 use Rattle.std.specs.Prelude.{not, Some, None, slice_index}
 use Rattle.std.proofs.lemmas.Nat.{div-mul-add, mod-mul-add}
 use Rattle.layout.specs.declared.Geometry.{Geometry}
-use Rattle.store.specs.tree.Sums.{count_below, sum_below, one_if}
-use Rattle.store.specs.volume.Reading.{Disk, bit_in}
-use Rattle.store.specs.volume.Pieces.{pieces}
+use Rattle.tree.specs.Sums.{count_below, sum_below, one_if}
+use Rattle.volume.specs.Reading.{Disk, bit_in}
+use Rattle.volume.specs.Pieces.{pieces}
 use Rattle.bitmap.specs.declared.Map.{Map}
 use Rattle.bitmap.specs.Numbers.{AllIn, IsLowestFree, count_free_in}
 use Rattle.bitmap.specs.Maps.{numbers_in, last_number, first_block, reach}

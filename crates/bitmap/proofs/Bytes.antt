@@ -3,9 +3,9 @@ use Rattle.std.proofs.Common.{◌≡◌, ◌<◌, ◌+◌, ◌-◌, ◌*◌, ◌
 use Rattle.std.specs.Prelude.{not, ◌==◌, count_ones}
 use lib.Count.{ones, ones_step}
 use native.Mathlib.Nat as nat
-use Rattle.store.specs.tree.Sums.{count_below, sum_below, one_if}
-use Rattle.store.proofs.tree.Maps.{same_sum}
-use Rattle.store.specs.volume.Reading.{bit_in}
+use Rattle.tree.specs.Sums.{count_below, sum_below, one_if}
+use Rattle.tree.proofs.Maps.{same_sum}
+use Rattle.volume.specs.Reading.{bit_in}
 use Rattle.bitmap.specs.Numbers.{count_free_in}
 
 -- a digit is 0 or 1

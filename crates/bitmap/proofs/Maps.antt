@@ -7,10 +7,10 @@ use Rattle.std.proofs.lemmas.Nat.{div_below, div-add-mod'}
 use Rattle.std.proofs.lemmas.Bool.{cases_eq, cases_lt, le-leb}
 use Rattle.layout.specs.declared.Geometry.{Geometry}
 use Rattle.layout.specs.Places.{IsGeometry}
-use Rattle.store.specs.tree.Sums.{put}
-use Rattle.store.proofs.tree.Maps.{put-same, put-other, is_put}
-use Rattle.store.specs.volume.Reading.{Disk, bit_in, map_bit}
-use Rattle.store.specs.volume.Pieces.{pieces}
+use Rattle.tree.specs.Sums.{put}
+use Rattle.tree.proofs.Maps.{put-same, put-other, is_put}
+use Rattle.volume.specs.Reading.{Disk, bit_in, map_bit}
+use Rattle.volume.specs.Pieces.{pieces}
 use Rattle.store.specs.Rows.{with_bytes, written}
 use Rattle.store.specs.Volume.{Alters}
 use Rattle.store.proofs.Rows.{row_new, row_old}

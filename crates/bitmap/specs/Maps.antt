@@ -2,8 +2,8 @@
 -- and number 0 of either for nothing.
 use Rattle.std.specs.Prelude.{ℕ, ◌+◌, ◌-◌, ◌*◌, Bool, min, max}
 use Rattle.layout.specs.declared.Geometry.{Geometry}
-use Rattle.store.specs.tree.Sums.{put}
-use Rattle.store.specs.volume.Pieces.{Pieces}
+use Rattle.tree.specs.Sums.{put}
+use Rattle.volume.specs.Pieces.{Pieces}
 use Rattle.store.specs.Regions.{zone_map_start}
 use Rattle.bitmap.specs.declared.Map.{Map}
 use Rattle.bitmap.specs.declared.Map.TheVariants as map

@@ -7,7 +7,7 @@ mod row;
 
 ghost use Rattle.std.specs.Prelude.{◌≡◌, ◌≤◌, ◌<◌, ◌+◌, ◌-◌, ◌*◌, ◌/◌, ◌%◌, OnOk, IfOk, IfErr, IfSome, true, false};
 ghost use Rattle.layout.specs.Places.{IsGeometry};
-ghost use Rattle.store.specs.volume.Pieces.{pieces};
+ghost use Rattle.volume.specs.Pieces.{pieces};
 ghost use Rattle.store.specs.World.{Turns, Reads};
 ghost use Rattle.store.specs.Volume.{IsOn, Alters};
 ghost use Rattle.bitmap.specs.Numbers.{IsLowestFree, count_free_in};

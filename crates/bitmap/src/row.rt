@@ -1,7 +1,7 @@
 //! Bits in a row of bytes: bit b is bit b mod 8 of byte b div 8.
 
 ghost use Rattle.std.specs.Prelude.{◌≡◌, ◌≢◌, ◌≤◌, ◌<◌, ◌+◌, ◌*◌, ◌/◌, ◌%◌, ◌^◌, ◌==◌, ℕ, length, slice_index};
-ghost use Rattle.store.specs.volume.Reading.{bit_in};
+ghost use Rattle.volume.specs.Reading.{bit_in};
 ghost use Rattle.bitmap.specs.Numbers.{IsLowestFree, count_free_in};
 
 /// A byte where one bit is set or not, and the others are as they were.

@@ -6,8 +6,8 @@ use mathlib.Core.Option.{some, some-injective}
 use lib.ListN.{get_elem?}
 use Rattle.atomic_table.specs.Table.{Splits, Joins}
 use Rattle.atomic_table.proofs.Lists.{set_else, at_longer, at_last}
-use Rattle.legal.specs.marks.Marks.{Mark, IsBeginning}
-use Rattle.legal.specs.Session.{calls_of, IsNewSession, LearnsMore, IsLonger}
+use Rattle.records.specs.Marks.{Mark, IsBeginning}
+use Rattle.records.specs.Session.{calls_of, IsNewSession, LearnsMore, IsLonger}
 use Rattle.board.specs.View.{View, session_of, nobody, is_used, without, other_of, new_caller, with_used, hosting, alone, guest_of, spending, telling, called, caller_after}
 use Rattle.board.specs.Rule.{BoardState, HasNumber, Fits, Kept}
 use Rattle.message.specs.declared.Incoming.{Incoming}

@@ -1,4 +1,3 @@
-pub use Rattle.legal.proofs as legal
 pub mod Records
 pub mod Lists
 pub mod Moves

@@ -5,9 +5,9 @@ use mathlib.Core.Option.{some, none, some-injective, some-ne-none}
 use lib.ListN.{get_elem?}
 use Rattle.atomic_table.specs.Table.{State, Me, keeps, step, Allows}
 use Rattle.atomic_table.proofs.Lists.{at_set}
-use Rattle.legal.specs.marks.Marks.{Mark, is_counted, counted, gave_up, IsBeginning}
-use Rattle.legal.specs.Laws.{is_call}
-use Rattle.legal.specs.Session.{calls_of, tally_of, went_on}
+use Rattle.records.specs.Marks.{Mark, is_counted, counted, gave_up, IsBeginning}
+use Rattle.records.specs.LegalLaws.{is_call}
+use Rattle.records.specs.Session.{calls_of, tally_of, went_on}
 use Rattle.board.specs.View.{View, opener, is_used}
 use Rattle.board.specs.Rule.{BoardState, words_of, DeviceIs, KeepsRecord, HasNumber, Fits, Kept}
 use Rattle.board.specs.Steps.{SessionLearns, SeesMore, Looked, IsEvent, IsCallOf, OwnsCalls, Noted, Called}

@@ -2,11 +2,11 @@
 use Rattle.std.proofs.Common.{◌≡◌, ◌≢◌, ◌⊎◌, ℕ, ◌+◌, ◌≤◌, List, [], ◌∷◌, ◌++◌, length, Bool, true, false, ◌&&◌, ◌||◌, ◌==◌, nat_le, if◌then◌else◌, Option, Some, refl, ap, sym, ◌∙◌, subst, inl, inr, ⊎_elim, arith, append_assoc, eq-eqb, ne_eqb}
 use Rattle.std.proofs.lemmas.List.{append-nil, length-append}
 use Rattle.std.proofs.lemmas.Bool.Decides.{nat_tests}
-use Rattle.legal.specs.marks.Marks.{Mark, Started, Answered, Flush, GaveUp, Took, Issued, Fault, is_counted, counted, gave_up, IsBeginning}
-use Rattle.legal.proofs.marks.Growing.{counted_one}
-use Rattle.legal.specs.Laws.{is_call}
-use Rattle.legal.specs.Session.{calls_of, went_on, IsLonger}
-use Rattle.legal.proofs.Sessions.{own_calls_grow}
+use Rattle.records.specs.Marks.{Mark, Started, Answered, Flush, GaveUp, Took, Issued, Fault, is_counted, counted, gave_up, IsBeginning}
+use Rattle.records.proofs.Growing.{counted_one}
+use Rattle.records.specs.LegalLaws.{is_call}
+use Rattle.records.specs.Session.{calls_of, went_on, IsLonger}
+use Rattle.records.proofs.Sessions.{own_calls_grow}
 use Rattle.board.specs.Steps.{IsCallOf}
 
 pub begins_self : (a : List Mark) → IsBeginning a a

@@ -1,7 +1,7 @@
 -- The rule, sentence by sentence.
 use Rattle.std.proofs.Common.{◌≡◌, ℕ, ◌≤◌, List, slice_index, ap, sym, ◌∙◌, subst}
-use Rattle.legal.specs.marks.Marks.{Mark, gave_up, IsBeginning}
-use Rattle.legal.specs.Session.{calls_of, tally_of, IsSession}
+use Rattle.records.specs.Marks.{Mark, gave_up, IsBeginning}
+use Rattle.records.specs.Session.{calls_of, tally_of, IsSession}
 use Rattle.board.specs.View.{View, session_of, is_used}
 use Rattle.board.specs.Rule.{words_of, Kept}
 use Rattle.board.specs.Laws.{Knows, IsRecords, RecordSays, RuleSaysSo}

@@ -5,8 +5,8 @@ use mathlib.Core.Option.{some, none}
 use native.Mathlib.Decide.{dec_le}
 use lib.ListN.{get_elem?}
 use Rattle.atomic_table.specs.Table.{State, Me, keeps, step, Allows}
-use Rattle.legal.specs.marks.Marks.{Mark, gave_up, IsBeginning}
-use Rattle.legal.specs.Session.{tally_of, IsLonger}
+use Rattle.records.specs.Marks.{Mark, gave_up, IsBeginning}
+use Rattle.records.specs.Session.{tally_of, IsLonger}
 use Rattle.board.specs.View.{View}
 use Rattle.board.specs.Rule.{BoardState, DeviceIs, Fits, Kept}
 use Rattle.board.specs.Steps.{SessionLearns, Found, Started, Felt, Beaten, Asked, GivenUp, Learned}

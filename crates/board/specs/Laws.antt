@@ -2,8 +2,8 @@
 use Rattle.std.specs.Prelude.{◌≡◌, ℕ, ◌≤◌, List, true, Some, slice_index}
 use mathlib.Core.Option.{some}
 use lib.ListN.{get_elem?}
-use Rattle.legal.specs.marks.Marks.{gave_up, IsBeginning}
-use Rattle.legal.specs.Session.{calls_of, tally_of, went_on, IsSession}
+use Rattle.records.specs.Marks.{gave_up, IsBeginning}
+use Rattle.records.specs.Session.{calls_of, tally_of, went_on, IsSession}
 use Rattle.board.specs.View.{View, session_of, is_used}
 use Rattle.board.specs.Rule.{Kept}
 

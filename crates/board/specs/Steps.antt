@@ -1,8 +1,8 @@
 -- What each step on a word tells its seat, and what a meeting tells two.
 use Rattle.std.specs.Prelude.{◌≡◌, ℕ, ◌^◌, ◌<◌, ◌≤◌, max, Bool, true, false, List, [], Option, Some}
-use Rattle.legal.specs.marks.Marks.{Mark, Took, is_counted, gave_up, IsBeginning}
-use Rattle.legal.specs.Laws.{is_call}
-use Rattle.legal.specs.Session.{calls_of, tally_of, went_on, LearnsMore, IsNewSession, MeetKeeps, DeviceKeeps, IsLonger}
+use Rattle.records.specs.Marks.{Mark, Took, is_counted, gave_up, IsBeginning}
+use Rattle.records.specs.LegalLaws.{is_call}
+use Rattle.records.specs.Session.{calls_of, tally_of, went_on, LearnsMore, IsNewSession, MeetKeeps, DeviceKeeps, IsLonger}
 use Rattle.atomic_table.specs.Table.{Me, Step}
 use Rattle.board.specs.View.{View, session_of, session_for, noted, called}
 

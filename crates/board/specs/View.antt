@@ -2,8 +2,8 @@
 use Rattle.std.specs.Prelude.{◌≡◌, ℕ, List, [], ◌∷◌, length, Bool, true, false, not, ◌==◌, max, Option, Some, None}
 use Rattle.std.specs.List.{filter, list_any}
 use Rattle.atomic_table.specs.Seated.{TableId}
-use Rattle.legal.specs.marks.Marks.{Mark}
-use Rattle.legal.specs.Session.{Seen, SessionState}
+use Rattle.records.specs.Marks.{Mark}
+use Rattle.records.specs.Session.{Seen, SessionState}
 
 -- What a seat knows. The record is a list of marks, newest first.
 pub record View : Type 0 where

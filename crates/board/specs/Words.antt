@@ -2,7 +2,7 @@
 use Rattle.std.specs.Prelude.{ℕ, ◌+◌, ◌*◌, Bool, true, false}
 use Rattle.message.specs.declared.Incoming.{Incoming}
 use Rattle.message.specs.declared.Incoming.TheVariants as incoming
-use Rattle.legal.specs.marks.Marks.{Mark, Answered, Started, GaveUp, Flush}
+use Rattle.records.specs.Marks.{Mark, Answered, Started, GaveUp, Flush}
 use Rattle.board.specs.declared.board.Device.{Device}
 use Rattle.board.specs.declared.board.Device.TheVariants.{Live, GivenUp}
 

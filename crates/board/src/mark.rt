@@ -4,13 +4,13 @@ use std::marker::Brand;
 
 /// The mark that a step adds to the record. `note`, `issue` and `count` pick it from what they are given.
 pub trait NewMark {
-    ghost use Rattle.legal.specs.marks.Marks.{Mark};
+    ghost use Rattle.records.specs.Marks.{Mark};
 
     ghost mark: { Mark };
 }
 
 impl NewMark for Brand {
-    ghost use Rattle.legal.specs.marks.Marks.{Flush};
+    ghost use Rattle.records.specs.Marks.{Flush};
 
     ghost mark = { Flush };
 }

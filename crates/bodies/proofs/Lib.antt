@@ -1,5 +1,3 @@
-pub use Rattle.tree_laws.proofs as tree_laws
-pub use Rattle.file.proofs as file
 pub mod Made
 pub mod Exits
 pub mod Looks
@@ -8,3 +6,10 @@ pub mod OpenFiles
 mod ReadBytes
 mod ReadCall
 mod SeekCall
+pub mod Volumes
+pub mod Effects
+pub mod Naming
+pub mod Calls
+mod Stamped
+mod WriteCall
+mod TruncateCall

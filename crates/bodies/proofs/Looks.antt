@@ -13,13 +13,13 @@ use Rattle.tree.specs.Changes.{open_file_of}
 use Rattle.tree.specs.NodeCalls.{attributes_of}
 use Rattle.tree.specs.FileCalls.{fstat}
 use Rattle.tree.specs.Answers.{Answer, Effect, refused, node_is}
-use Rattle.store.specs.volume.declared.Inode.{Inode}
-use Rattle.store.specs.volume.Reading.{Disk, is_inode, inode_of_disk}
-use Rattle.store.specs.volume.Pieces.{pieces, blank}
-use Rattle.store.specs.volume.Nodes.{is_marked, node_of}
-use Rattle.store.specs.volume.Holds.{HoldsVolume}
-use Rattle.inode_table.specs.inode.Bytes.{attributes_in}
-use Rattle.inode_table.proofs.inode.Stat.{held_attributes}
+use Rattle.volume.specs.declared.Inode.{Inode}
+use Rattle.volume.specs.Reading.{Disk, is_inode, inode_of_disk}
+use Rattle.volume.specs.Pieces.{pieces, blank}
+use Rattle.volume.specs.Nodes.{is_marked, node_of}
+use Rattle.volume.specs.Holds.{HoldsVolume}
+use Rattle.inode.specs.Bytes.{attributes_in}
+use Rattle.inode.proofs.Stat.{held_attributes}
 use Rattle.descriptors.specs.Files.{Files, HasFiles, file_at, tree_with}
 use Rattle.descriptors.specs.Made.{shown}
 use Rattle.bodies.specs.Does.{Does, IsHeld}

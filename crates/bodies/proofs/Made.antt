@@ -5,10 +5,10 @@ use Rattle.errno.specs.declared.Errno.{Errno}
 use Rattle.layout.specs.declared.Geometry.{Geometry}
 use Rattle.tree.specs.Tree.{Tree, Node, OpenFile}
 use Rattle.tree.specs.Answers.{Answer, Effect, refused}
-use Rattle.store.specs.volume.Reading.{Disk}
-use Rattle.store.specs.volume.Pieces.{pieces}
-use Rattle.store.specs.volume.Nodes.{is_marked, node_of, nodes_of}
-use Rattle.store.specs.volume.Holds.{HoldsVolume}
+use Rattle.volume.specs.Reading.{Disk}
+use Rattle.volume.specs.Pieces.{pieces}
+use Rattle.volume.specs.Nodes.{is_marked, node_of, nodes_of}
+use Rattle.volume.specs.Holds.{HoldsVolume}
 use Rattle.bodies.specs.Does.{answer_in, tree_in, IsMade}
 
 -- what is refused leaves the disk

@@ -16,9 +16,9 @@ use Rattle.tree.specs.Effects.{effect_in_session, tree_after_call}
 use Rattle.tree.specs.Changes.{open_file_of, at_position}
 use Rattle.tree.specs.FileCalls.{dup}
 use Rattle.tree.specs.Answers.{Answer, Effect, refused, descriptor}
-use Rattle.tree_laws.proofs.OpenFileCalls.{dup_keeps}
-use Rattle.store.specs.volume.Reading.{Disk}
-use Rattle.store.specs.volume.Holds.{HoldsVolume}
+use Rattle.tree.proofs.OpenFileCalls.{dup_keeps}
+use Rattle.volume.specs.Reading.{Disk}
+use Rattle.volume.specs.Holds.{HoldsVolume}
 use Rattle.descriptors.specs.Files.{Files, HasFiles, files_in, tree_with, with_files, dup_file, moved}
 use Rattle.descriptors.specs.Table.{Table, files_of, told}
 use Rattle.descriptors.proofs.TreeCalls.{dup_is_dup}

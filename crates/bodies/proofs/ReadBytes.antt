@@ -6,7 +6,7 @@ use Rattle.std.specs.Prelude.{take, ◌++◌, slice_index, nat_lt, if◌then◌e
 use Rattle.std.proofs.lemmas.Bool.{cases_lt, lt-ltb, le-ltb, cond-true, cond-false}
 use Rattle.tree.specs.Tree.{File}
 use Rattle.tree.specs.FileCalls.{bytes_from, bytes_read}
-use Rattle.file.specs.file_pages.Reading.{HasFileBytes, read_count}
+use Rattle.file.specs.Reading.{HasFileBytes, read_count}
 
 -- a list whose places have these bytes
 from_list : (byte : ℕ → ℕ) (at : ℕ) (xs : List ℕ) → ((k : ℕ) → k < length xs → slice_index xs k ≡ byte (at + k)) → xs ≡ bytes_from byte at (length xs)

@@ -17,13 +17,13 @@ use Rattle.tree.specs.NodeCalls.{file_or}
 use Rattle.tree.specs.FileCalls.{bytes_read, read}
 use Rattle.tree.specs.Flags.{reads}
 use Rattle.tree.specs.Answers.{Effect, refused, some_bytes}
-use Rattle.legal.specs.Legal.{is_success}
-use Rattle.tree_laws.proofs.OpenFileCalls.{read_keeps}
-use Rattle.store.specs.volume.Reading.{Disk}
-use Rattle.store.specs.volume.declared.Inode.{Inode}
-use Rattle.store.specs.volume.Pieces.{Pieces, pieces}
-use Rattle.store.specs.volume.Nodes.{node_of, file_of, directory_of, is_directory_mode}
-use Rattle.store.specs.volume.Holds.{HoldsVolume}
+use Rattle.records.specs.Legal.{is_success}
+use Rattle.tree.proofs.OpenFileCalls.{read_keeps}
+use Rattle.volume.specs.Reading.{Disk}
+use Rattle.volume.specs.declared.Inode.{Inode}
+use Rattle.volume.specs.Pieces.{Pieces, pieces}
+use Rattle.volume.specs.Nodes.{node_of, file_of, directory_of, is_directory_mode}
+use Rattle.volume.specs.Holds.{HoldsVolume}
 use Rattle.descriptors.specs.Files.{Files, HasFiles, file_at, files_in, tree_with, moved}
 use Rattle.descriptors.proofs.TreeCalls.{moved_is_moved}
 use Rattle.bodies.specs.declared.found.Found.{Found}

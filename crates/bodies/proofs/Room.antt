@@ -11,11 +11,11 @@ use Rattle.tree.specs.NodeCalls.{statfs}
 use Rattle.tree.specs.Answers.{room_is}
 use Rattle.tree.proofs.Maps.{same_sum}
 use Rattle.tree.proofs.Needs.{sum_add}
-use Rattle.store.specs.volume.Reading.{Disk}
-use Rattle.store.specs.volume.Pieces.{Pieces, pieces}
-use Rattle.store.specs.volume.Nodes.{nodes_of, node_of, is_marked}
-use Rattle.store.specs.volume.Holds.{HoldsVolume}
-use Rattle.inode_table.proofs.volume_laws.LeavesRoom.{used_zones_are_marked}
+use Rattle.volume.specs.Reading.{Disk}
+use Rattle.volume.specs.Pieces.{Pieces, pieces}
+use Rattle.volume.specs.Nodes.{nodes_of, node_of, is_marked}
+use Rattle.volume.specs.Holds.{HoldsVolume}
+use Rattle.volume.proofs.LeavesRoom.{used_zones_are_marked}
 use Rattle.bitmap.specs.Numbers.{count_free_in}
 use Rattle.bitmap.proofs.Counting.{free_taken}
 use Rattle.descriptors.specs.Files.{Files, HasFiles}

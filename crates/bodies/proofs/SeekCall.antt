@@ -14,11 +14,11 @@ use Rattle.tree.specs.Changes.{open_file_of, at_position}
 use Rattle.tree.specs.NodeCalls.{file_or}
 use Rattle.tree.specs.FileCalls.{seek, seek_base, seek_place}
 use Rattle.tree.specs.Answers.{Effect, refused, position}
-use Rattle.tree_laws.proofs.OpenFileCalls.{seek_keeps}
-use Rattle.store.specs.volume.Reading.{Disk}
-use Rattle.store.specs.volume.Pieces.{Pieces, pieces}
-use Rattle.store.specs.volume.Nodes.{node_of, file_of, directory_of, is_directory_mode}
-use Rattle.store.specs.volume.Holds.{HoldsVolume}
+use Rattle.tree.proofs.OpenFileCalls.{seek_keeps}
+use Rattle.volume.specs.Reading.{Disk}
+use Rattle.volume.specs.Pieces.{Pieces, pieces}
+use Rattle.volume.specs.Nodes.{node_of, file_of, directory_of, is_directory_mode}
+use Rattle.volume.specs.Holds.{HoldsVolume}
 use Rattle.descriptors.specs.Files.{Files, HasFiles, file_at, moved}
 use Rattle.bodies.specs.declared.found.Found.{Found}
 use Rattle.bodies.specs.Found.{file_of as open_file}

@@ -5,9 +5,9 @@ use Rattle.layout.specs.declared.Geometry.{Geometry}
 use Rattle.tree.specs.declared.Reply.{Reply}
 use Rattle.tree.specs.Tree.{Tree}
 use Rattle.tree.specs.Answers.{Answer, Effect, refused, answer_of}
-use Rattle.store.specs.volume.Reading.{Disk}
-use Rattle.store.specs.volume.Holds.{HoldsVolume}
-use Rattle.legal.specs.Legal.{is_success}
+use Rattle.volume.specs.Reading.{Disk}
+use Rattle.volume.specs.Holds.{HoldsVolume}
+use Rattle.records.specs.Legal.{is_success}
 use Rattle.store.specs.declared.Halt.{Halt}
 use Rattle.store.specs.Halts.{Ends}
 

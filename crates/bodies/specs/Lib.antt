@@ -1,8 +1,10 @@
 -- What the bodies of client calls do.
-pub use Rattle.legal.specs as legal
-pub use Rattle.descriptors.specs as descriptors
-pub use Rattle.file.specs as file
+-- What the paths of calls on one node lead to.
+-- What the calls that change the bytes of files do.
 pub mod Does
 pub mod Found
 pub mod Reading
 pub mod Seeking
+pub mod Named
+pub mod Dated
+pub mod Writing

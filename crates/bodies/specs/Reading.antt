@@ -4,7 +4,7 @@ use Rattle.errno.specs.declared.Errno.{Errno}
 use Rattle.errno.specs.declared.Errno.TheVariants.{EBADF, EISDIR, EINVAL}
 use Rattle.tree.specs.Tree.{most_bytes}
 use Rattle.tree.specs.Flags.{reads}
-use Rattle.store.specs.volume.Nodes.{is_directory_mode}
+use Rattle.volume.specs.Nodes.{is_directory_mode}
 use Rattle.bodies.specs.declared.found.Found.{Found}
 
 -- the first of the reasons against a read

@@ -2,8 +2,8 @@
 
 ghost use Rattle.std.specs.Prelude.{◌≡◌, ◌<◌, ◌≤◌, IfOk, IfErr, IfSome, option_map};
 ghost use Rattle.tree.specs.Tree.{most_sessions, most_size};
-ghost use Rattle.store.specs.volume.Nodes.{is_directory_mode};
-ghost use Rattle.store.specs.volume.Pieces.{pieces};
+ghost use Rattle.volume.specs.Nodes.{is_directory_mode};
+ghost use Rattle.volume.specs.Pieces.{pieces};
 ghost use Rattle.descriptors.specs.Files.{HasFiles, file_at};
 ghost use Rattle.descriptors.specs.Table.{files_of};
 ghost use Rattle.store.specs.World.{Reads};
@@ -13,7 +13,8 @@ ghost use Rattle.bodies.specs.Does.{IsHeld};
 ghost use Rattle.bodies.specs.Found.{file_of};
 
 use descriptors::Descriptors;
-use inode_table::{Inode, load};
+use volume::Inode;
+use inode::inode_table::load;
 use layout::Geometry;
 use store::{Blocks, Halt};
 use tree::OpenFlags;

@@ -2,10 +2,24 @@
 //!
 //! A body asks the refusals of its call in their order before it changes anything. It may be cut off; what would be read back then isn't
 //! known. It answers `Unsound` only where the volume holds no tree.
+//!
+//! The bodies of client calls that look at one node of a path, or change it, over any blocks.
+//!
+//! The bodies of the client calls that change the bytes of files, over any blocks.
 #![tactic(auto)]
 
+mod attributes;
+mod dated;
 pub mod found;
+pub mod named;
 pub mod open_files;
 pub mod reading;
 pub mod seeking;
+mod truncating;
 pub mod whole;
+mod writing;
+
+pub use attributes::{chmod, chown, stat, utime};
+pub use dated::set_size_at;
+pub use truncating::truncate;
+pub use writing::write;

@@ -10,13 +10,13 @@ ghost use Rattle.store.specs.World.{Turns};
 ghost use Rattle.store.specs.Volume.{IsOn};
 ghost use Rattle.store.specs.Halts.{IsHalt};
 ghost use Rattle.layout.specs.declared.Geometry.{Geometry};
-ghost use Rattle.store.specs.volume.Reading.{Disk};
+ghost use Rattle.volume.specs.Reading.{Disk};
 ghost use Rattle.bodies.specs.Does.{Does, Meets};
 
 use crate::found::find;
 use descriptors::Descriptors;
 use errno::Errno;
-use inode_table::attributes;
+use inode::attributes;
 use layout::Geometry;
 use store::{Blocks, Halt};
 use tree::Reply;

@@ -4,15 +4,15 @@ use mathlib.Core.Logic.{inl, inr, ◌⊎◌}
 use Rattle.std.specs.Prelude.{slice_index, nat_lt}
 use Rattle.std.proofs.lemmas.Bool.{cond-true, cases_lt, lt-ltb}
 use Rattle.std.proofs.lemmas.Bool.Decides.{nat_tests}
-use Rattle.legal.specs.View.{frame_or}
-use Rattle.reissue.specs.pending_table.Moves.{DiskState, Begun, put, Spares}
-use Rattle.reissue.proofs.pending_table.Maps.{put-same, put-other, put_cases}
-use Rattle.slots.specs.Slots.{ticket_of, dirtied, written}
+use Rattle.records.specs.View.{frame_or}
+use Rattle.reissue.specs.Moves.{DiskState, Begun, put, Spares}
+use Rattle.reissue.proofs.Maps.{put-same, put-other, put_cases}
+use Rattle.cache.specs.Slots.{ticket_of, dirtied, written}
 use Rattle.cache.specs.Frames.{HasSure, Tied, CacheAgrees, frame_of, disk_block, view}
 use Rattle.cache.proofs.Tied.{same_slot, same_start, quiet, no_ticket, its_start}
-use Rattle.slots.specs.declared.slot.Slot.{Slot}
-use Rattle.slots.specs.declared.state.State.{State}
-use Rattle.slots.specs.declared.state.State.TheVariants.{Clean, Dirty, Writing, Changed}
+use Rattle.cache.specs.declared.slot.Slot.{Slot}
+use Rattle.cache.specs.declared.state.State.{State}
+use Rattle.cache.specs.declared.state.State.TheVariants.{Clean, Dirty, Writing, Changed}
 
 -- ---- bytes of a block
 

@@ -9,26 +9,26 @@ use Rattle.std.proofs.lemmas.Bool.{cases_eq, cases_lt}
 use Rattle.std.proofs.Math.Nat.{mul-le-mul_right, suc-mul}
 use Rattle.message.specs.declared.Kind.{Kind}
 use Rattle.message.specs.declared.Kind.TheVariants as kind
-use Rattle.reissue.specs.pending_table.pending_queue.declared.ask.Ask.{Ask}
-use Rattle.reissue.specs.pending_table.pending_queue.declared.ask.BeginRefusal.{BeginRefusal}
-use Rattle.reissue.specs.pending_table.pending_queue.declared.ask.BeginRefusal.TheVariants.{TableFull, BlockPending}
-use Rattle.reissue.specs.pending_table.pending_queue.declared.pending.Pending.{Pending}
-use Rattle.reissue.specs.pending_table.Moves.{Begun, put, Opens, IsBusy, IsFree, begun_by, written_by}
-use Rattle.reissue.specs.pending_table.Entries.{pending_of, AllOfMinor}
+use Rattle.reissue.specs.declared.ask.Ask.{Ask}
+use Rattle.reissue.specs.declared.ask.BeginRefusal.{BeginRefusal}
+use Rattle.reissue.specs.declared.ask.BeginRefusal.TheVariants.{TableFull, BlockPending}
+use Rattle.reissue.specs.declared.pending.Pending.{Pending}
+use Rattle.reissue.specs.Moves.{Begun, put, Opens, IsBusy, IsFree, begun_by, written_by}
+use Rattle.reissue.specs.Entries.{pending_of, AllOfMinor}
 use Rattle.reissue.specs.Posts.{HasRoom}
 use Rattle.reissue.specs.Calls.{Begins, Adds}
-use Rattle.reissue.proofs.pending_table.Maps.{put-same}
-use Rattle.slots.specs.declared.slot.Slot.{Slot}
-use Rattle.slots.specs.declared.state.State.TheVariants.{Clean, Dirty, Writing}
-use Rattle.slots.specs.Slots.{held, ticket_of, IsDistinct}
-use Rattle.slots.specs.Edits.{IsSetAt}
+use Rattle.reissue.proofs.Maps.{put-same}
+use Rattle.cache.specs.declared.slot.Slot.{Slot}
+use Rattle.cache.specs.declared.state.State.TheVariants.{Clean, Dirty, Writing}
+use Rattle.cache.specs.Slots.{held, ticket_of, IsDistinct}
+use Rattle.cache.specs.Edits.{IsSetAt}
 use Rattle.cache.specs.Frames.{Tied, IsOfBlock, CacheAgrees, view}
 use Rattle.cache.specs.Calls.{Caching, IsReady, IsLive, IsStuck, IsRefusing, Serves, Keeps}
 use Rattle.cache.specs.Takes.{IsReadAt}
-use Rattle.slots.proofs.Held.{held_at, held_set}
+use Rattle.cache.proofs.Held.{held_at, held_set}
 use Rattle.cache.proofs.Tied.{tied_write, tied_read}
 use Rattle.cache.proofs.Agreeing.{agrees_moved, view_moved, agrees_put, view_put}
-use Rattle.slots.proofs.Edits.{one_slot}
+use Rattle.cache.proofs.Edits.{one_slot}
 use Rattle.cache.proofs.Runs.{begin_runs}
 
 -- a slot with a write under way has a pending request

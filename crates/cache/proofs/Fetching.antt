@@ -1,20 +1,20 @@
 -- Which frame goes for a block that is fetched.
 use Rattle.std.proofs.Common.{◌≡◌, ℕ, List, sym, ap, subst, ◌∙◌, Option, Some, None, Result, Ok, Err, IsErr, IfOk}
 use mathlib.Core.Logic.{inl, inr}
-use Rattle.reissue.proofs.pending_table.Maps.{put_cases}
-use Rattle.slots.specs.declared.slot.Slot.{Slot}
-use Rattle.slots.specs.declared.table.Slots.{Slots}
+use Rattle.reissue.proofs.Maps.{put_cases}
+use Rattle.cache.specs.declared.slot.Slot.{Slot}
+use Rattle.cache.specs.declared.table.Slots.{Slots}
 use Rattle.cache.specs.declared.frame.Frame.{Frame}
-use Rattle.slots.specs.declared.state.State.{State}
+use Rattle.cache.specs.declared.state.State.{State}
 use Rattle.cache.specs.declared.cache.Cache.{Cache}
-use Rattle.block_transfers.specs.declared.refusals.Cut.{Cut}
-use Rattle.slots.specs.Slots.{held}
-use Rattle.slots.specs.Uses.{IsUsedLast}
-use Rattle.slots.specs.Order.{IsVictim}
-use Rattle.slots.specs.Edits.{IsFilledAt, IsFreeAt, StayBut}
+use Rattle.cache.specs.declared.refusals.Cut.{Cut}
+use Rattle.cache.specs.Slots.{held}
+use Rattle.cache.specs.Uses.{IsUsedLast}
+use Rattle.cache.specs.Order.{IsVictim}
+use Rattle.cache.specs.Edits.{IsFilledAt, IsFreeAt, StayBut}
 use Rattle.cache.specs.Fetches.{Misses}
-use Rattle.slots.proofs.Filling.{filled_held, filled_slot}
-use Rattle.slots.proofs.Staying.{put_others, others_then}
+use Rattle.cache.proofs.Filling.{filled_held, filled_slot}
+use Rattle.cache.proofs.Staying.{put_others, others_then}
 
 -- a cut gives no place
 pub no_place : {X : Type 0} (r : Result X Cut) (P : X → Type 0) → IsErr r → IfOk r P

@@ -3,16 +3,16 @@ use Rattle.std.proofs.Common.{◌≡◌, ℕ, zero, suc, ◌+◌, List, [], ◌�
 use Rattle.std.specs.Prelude.{if◌then◌else◌}
 use Rattle.message.specs.declared.Incoming.{Incoming}
 use Rattle.message.specs.declared.Incoming.TheVariants as incoming
-use Rattle.reissue.specs.marks.Marks.{Mark}
-use Rattle.reissue.specs.marks.Marks as marks
-use Rattle.reissue.specs.marks.Open.{counts}
-use Rattle.reissue.specs.marks.Told.{Told, Posted, Complained, Received, grown, received, heard, took_end}
-use Rattle.reissue.specs.pending_table.pending_queue.declared.ask.Settled.{Settled}
-use Rattle.reissue.specs.pending_table.pending_queue.declared.ask.Settled.TheVariants as settled
+use Rattle.records.specs.Marks.{Mark}
+use Rattle.records.specs.Marks as marks
+use Rattle.records.specs.Open.{counts}
+use Rattle.records.specs.Told.{Told, Posted, Complained, Received, grown, received, heard, took_end}
+use Rattle.reissue.specs.declared.ask.Settled.{Settled}
+use Rattle.reissue.specs.declared.ask.Settled.TheVariants as settled
 use Rattle.reissue.specs.Posts.{OnlyPosts}
 use Rattle.reissue.specs.Calls.{IsAnswerTo, IsOfReply}
 use Rattle.cache.specs.Calls.{flushes_in, some_of, FlushFollows}
-use Rattle.block_transfers.specs.Settling.{IsWantedFor}
+use Rattle.cache.specs.Settling.{IsWantedFor}
 
 -- whether a flush is wanted for a message is so as for what it came to
 pub wanted_for : (m : Incoming) (r : Settled) (old new : Bool) → IsAnswerTo m r → IsWantedFor (r ≡ settled.Flush) old new

@@ -4,14 +4,14 @@ use Rattle.std.specs.Prelude.{nat_lt}
 use Rattle.std.proofs.lemmas.Bool.Decides.{nat_tests}
 use Rattle.message.specs.declared.Incoming.{Incoming}
 use Rattle.message.specs.declared.Incoming.TheVariants as incoming
-use Rattle.reissue.specs.marks.Marks.{Mark}
-use Rattle.reissue.specs.marks.Told.{Told, Posted, Complained, Received, received, grown, took_nothing}
-use Rattle.reissue.specs.marks.Acts.{Act, Began, Absorbed, AtLink, told_of, has_absorbed}
-use Rattle.reissue.specs.pending_table.pending_queue.declared.ask.Settled.{Settled}
-use Rattle.reissue.specs.pending_table.pending_queue.declared.pending.Pending.{Pending}
-use Rattle.reissue.specs.pending_table.declared.table.Table.{Table}
-use Rattle.reissue.specs.pending_table.Entries.{AllOfMinor}
-use Rattle.reissue.specs.pending_table.Agrees.{Agrees}
+use Rattle.records.specs.Marks.{Mark}
+use Rattle.records.specs.Told.{Told, Posted, Complained, Received, received, grown, took_nothing}
+use Rattle.records.specs.Acts.{Act, Began, Absorbed, AtLink, told_of, has_absorbed}
+use Rattle.reissue.specs.declared.ask.Settled.{Settled}
+use Rattle.reissue.specs.declared.pending.Pending.{Pending}
+use Rattle.reissue.specs.declared.table.Table.{Table}
+use Rattle.reissue.specs.Entries.{AllOfMinor}
+use Rattle.reissue.specs.Agrees.{Agrees}
 use Rattle.reissue.specs.Posts.{OnlyPosts}
 use Rattle.reissue.specs.Rules.{KeepsRulesBy, at_link, all_began, began_on, acts_on}
 use Rattle.reissue.specs.Calls.{Absorbs, Truth}

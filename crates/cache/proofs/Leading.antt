@@ -3,9 +3,9 @@ use Rattle.std.specs.Prelude.{◌||◌}
 use Rattle.std.proofs.Common.{◌≡◌, List, [], ◌∷◌, ◌++◌, Bool, refl, sym, ◌∙◌, ap, subst, Option, Some, None}
 use Rattle.message.specs.declared.Incoming.{Incoming}
 use Rattle.message.specs.declared.Incoming.TheVariants as incoming
-use Rattle.reissue.specs.marks.Told.{Told, Posted, Complained, Received, took_end}
-use Rattle.reissue.specs.marks.Acts.{Act, Absorbed, told_of, Outbox, KeepsRules, outbox_after}
-use Rattle.legal.specs.ServerCall.{Serving}
+use Rattle.records.specs.Told.{Told, Posted, Complained, Received, took_end}
+use Rattle.records.specs.Acts.{Act, Absorbed, told_of, Outbox, KeepsRules, outbox_after}
+use Rattle.records.specs.ServerCall.{Serving}
 use Rattle.cache.specs.Calls.{Caching, Runs, with_handed}
 use Rattle.cache.specs.Laws.{IsOver, LeadsBy}
 use Rattle.cache.proofs.Handing.{told_both}

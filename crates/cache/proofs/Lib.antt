@@ -1,3 +1,13 @@
+pub mod Held
+mod Places
+pub mod Edits
+pub mod Staying
+pub mod Filling
+pub mod Issuing
+mod Order
+mod Choosing
+mod Making
+pub mod Sizes
 pub mod Tied
 pub mod Agreeing
 pub mod Handing

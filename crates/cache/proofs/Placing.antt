@@ -4,26 +4,26 @@ use mathlib.Core.Logic.{inl, inr, ◌⊎◌}
 use Rattle.std.specs.Prelude.{◌&&◌, is_some, not, slice_index, slice_get, nat_le, nat_lt}
 use Rattle.std.proofs.lemmas.Bool.{cases_lt, cond-true, cond-false}
 use Rattle.std.proofs.lemmas.Bool.Decides.{nat_tests}
-use Rattle.legal.specs.View.{frame_or}
-use Rattle.reissue.specs.pending_table.Moves.{DiskState, Begun, put}
-use Rattle.reissue.specs.pending_table.Entries.{pending_of}
-use Rattle.reissue.proofs.pending_table.Maps.{is_put}
-use Rattle.slots.specs.declared.slot.Slot.{Slot}
-use Rattle.slots.specs.declared.state.State.{State}
-use Rattle.slots.specs.declared.state.State.TheVariants.{Clean, Dirty, Writing, Changed}
-use Rattle.block_transfers.specs.declared.refusals.Cut.{Cut}
-use Rattle.slots.specs.Slots.{held, ticket_of, dirtied, is_clean, is_unclean_slot, IsDistinct}
-use Rattle.slots.specs.Edits.{IsSetAt, IsFilledAt, IsSlotAt, IsFreeAt, IsAt}
+use Rattle.records.specs.View.{frame_or}
+use Rattle.reissue.specs.Moves.{DiskState, Begun, put}
+use Rattle.reissue.specs.Entries.{pending_of}
+use Rattle.reissue.proofs.Maps.{is_put}
+use Rattle.cache.specs.declared.slot.Slot.{Slot}
+use Rattle.cache.specs.declared.state.State.{State}
+use Rattle.cache.specs.declared.state.State.TheVariants.{Clean, Dirty, Writing, Changed}
+use Rattle.cache.specs.declared.refusals.Cut.{Cut}
+use Rattle.cache.specs.Slots.{held, ticket_of, dirtied, is_clean, is_unclean_slot, IsDistinct}
+use Rattle.cache.specs.Edits.{IsSetAt, IsFilledAt, IsSlotAt, IsFreeAt, IsAt}
 use Rattle.cache.specs.Frames.{Tied, CacheAgrees, HasSure, view, frame_of, disk_block, with_bytes}
 use Rattle.cache.specs.Calls.{Caching, IsReady, Runs, Serves, Keeps, Rewrites, Blanks, unless_clean, forgotten}
-use Rattle.block_transfers.specs.declared.settling.Took.{Took}
-use Rattle.block_transfers.specs.declared.settling.Took.TheVariants as took
+use Rattle.cache.specs.declared.settling.Took.{Took}
+use Rattle.cache.specs.declared.settling.Took.TheVariants as took
 use Rattle.cache.specs.Takes.{Reads, AreDisk, BytesOf, Takes, ReadTells, ReadsStay, is_read_of, IsReadAt}
-use Rattle.slots.proofs.Held.{place_of, held_at, held_set, held_vacated}
-use Rattle.slots.proofs.Filling.{vacated_held, filled_held}
+use Rattle.cache.proofs.Held.{place_of, held_at, held_set, held_vacated}
+use Rattle.cache.proofs.Filling.{vacated_held, filled_held}
 use Rattle.cache.proofs.Tied.{tied_idle, tied_changed, no_ticket}
 use Rattle.cache.proofs.Agreeing.{agrees_put, agrees_given_up, view_given_up, view_put, view_row, not_clean, seen_within, seen_past}
-use Rattle.slots.proofs.Edits.{one_slot}
+use Rattle.cache.proofs.Edits.{one_slot}
 use Rattle.cache.proofs.Runs.{runs_none, runs_as, runs_then, same_left, ids_kept}
 
 -- ---- calls at the link between changes of frames

@@ -3,11 +3,11 @@ use Rattle.std.proofs.Common.{◌≡◌, ℕ, ◌+◌, ◌*◌, ◌/◌, ◌%◌
 use Rattle.std.specs.Prelude.{IsTrue, IsSome}
 use Rattle.std.proofs.Math.Nat.{div-add-mod, mod-lt, mul_comm}
 use Rattle.layout.specs.declared.Geometry.{Geometry}
-use Rattle.reissue.specs.marks.Marks.{Mark}
-use Rattle.reissue.specs.marks.Disk.{Contents, unsure}
-use Rattle.legal.specs.View.{IsCovered}
-use Rattle.reissue.specs.pending_table.Moves.{state_after}
-use Rattle.slots.specs.declared.slot.Slot.{Slot}
+use Rattle.records.specs.Marks.{Mark}
+use Rattle.records.specs.Disk.{Contents, unsure}
+use Rattle.records.specs.View.{IsCovered}
+use Rattle.reissue.specs.Moves.{state_after}
+use Rattle.cache.specs.declared.slot.Slot.{Slot}
 use Rattle.cache.specs.Frames.{CacheAgrees, frames_of, frame_of}
 use Rattle.cache.specs.Laws.{FramesReadBack}
 

@@ -3,28 +3,28 @@ use Rattle.std.specs.Prelude.{not, ◌||◌}
 use Rattle.std.proofs.Common.{◌≡◌, ℕ, ◌+◌, ◌<◌, ◌≤◌, List, [], ◌∷◌, ◌++◌, length, Bool, true, false, cond, refl, sym, ◌∙◌, ap, subst, arith, append_assoc, Option, Some, None}
 use Rattle.message.specs.declared.Incoming.{Incoming}
 use Rattle.message.specs.declared.Incoming.TheVariants as incoming
-use Rattle.reissue.specs.marks.Marks.{Mark, Answered}
-use Rattle.reissue.specs.marks.Open.{counts}
-use Rattle.reissue.specs.marks.Disk.{Contents, HasTrueReplies}
-use Rattle.reissue.specs.marks.Told.{Told, Posted, Complained, Received, grown, received, heard, took_end}
-use Rattle.reissue.specs.marks.Acts.{Act, Absorbed, Outbox, KeepsRules, told_of, marks_after, outbox_after}
-use Rattle.marks.proofs.ActLaws.{acts_compose}
-use Rattle.reissue.specs.pending_table.pending_queue.declared.ask.Ask.{Ask}
-use Rattle.reissue.specs.pending_table.pending_queue.declared.ask.Settled.{Settled}
-use Rattle.reissue.specs.pending_table.pending_queue.declared.ask.Settled.TheVariants as settled
-use Rattle.reissue.specs.pending_table.declared.table.Table.{Table}
-use Rattle.reissue.specs.pending_table.Moves.{DiskState, Spares, Moves, state_after, IsBusy}
-use Rattle.reissue.specs.pending_table.Entries.{pending_of, AllOfMinor}
-use Rattle.reissue.specs.pending_table.Agrees.{Agrees}
-use Rattle.reissue.specs.pending_table.Answers.{complaints_about}
+use Rattle.records.specs.Marks.{Mark, Answered}
+use Rattle.records.specs.Open.{counts}
+use Rattle.records.specs.Disk.{Contents, HasTrueReplies}
+use Rattle.records.specs.Told.{Told, Posted, Complained, Received, grown, received, heard, took_end}
+use Rattle.records.specs.Acts.{Act, Absorbed, Outbox, KeepsRules, told_of, marks_after, outbox_after}
+use Rattle.records.proofs.ActLaws.{acts_compose}
+use Rattle.reissue.specs.declared.ask.Ask.{Ask}
+use Rattle.reissue.specs.declared.ask.Settled.{Settled}
+use Rattle.reissue.specs.declared.ask.Settled.TheVariants as settled
+use Rattle.reissue.specs.declared.table.Table.{Table}
+use Rattle.reissue.specs.Moves.{DiskState, Spares, Moves, state_after, IsBusy}
+use Rattle.reissue.specs.Entries.{pending_of, AllOfMinor}
+use Rattle.reissue.specs.Agrees.{Agrees}
+use Rattle.reissue.specs.Answers.{complaints_about}
 use Rattle.reissue.specs.Posts.{due_after}
 use Rattle.reissue.specs.Rules.{KeepsRulesBy, outbox_of}
-use Rattle.message.specs.endpoint.declared.Endpoint.{Endpoint}
+use Rattle.message.specs.declared.endpoint.Endpoint.{Endpoint}
 use Rattle.reissue.specs.Calls.{Begins, Steps, Absorbs, more_may_come}
 use Rattle.reissue.proofs.Joining.{grown_append}
 use Rattle.cache.proofs.Handing.{Done, told_both, none_of_both}
 use Rattle.cache.specs.Calls.{Caching, IsReady, Runs, after_message, with_handed, messages_left}
-use Rattle.block_transfers.specs.Settling.{is_ended_by}
+use Rattle.cache.specs.Settling.{is_ended_by}
 
 -- ---- true replies
 

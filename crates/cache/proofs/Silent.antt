@@ -2,21 +2,21 @@
 use Rattle.std.proofs.Common.{◌≡◌, ℕ, zero, suc, List, [], ◌∷◌, ◌++◌, Bool, true, false, refl, sym, ap, subst, ◌∙◌, arith, Option, Some, None}
 use Rattle.std.proofs.lemmas.Bool.Decides.{nat_tests}
 use Rattle.std.specs.Prelude.{map, drop, not, ◌&&◌, is_some, MatchBool, if◌then◌else◌}
-use Rattle.message.specs.endpoint.declared.Endpoint.{Endpoint}
+use Rattle.message.specs.declared.endpoint.Endpoint.{Endpoint}
 use Rattle.message.specs.declared.BlockRequest.{BlockRequest}
 use Rattle.message.specs.declared.Incoming.{Incoming}
 use Rattle.message.specs.declared.Incoming.TheVariants as incoming
-use Rattle.reissue.specs.marks.Marks.{Mark, gave_up, last_started, is_endpoint}
-use Rattle.reissue.specs.marks.Open.{open_requests, with_id, moved_by}
-use Rattle.reissue.specs.marks.Told.{Told}
-use Rattle.reissue.specs.pending_table.pending_queue.declared.ask.Settled.{Settled}
-use Rattle.reissue.specs.pending_table.pending_queue.declared.ask.Settled.TheVariants as settled
-use Rattle.reissue.specs.pending_table.pending_queue.declared.pending.Pending.{Pending}
-use Rattle.reissue.specs.pending_table.declared.table.Table.{Table}
-use Rattle.reissue.specs.pending_table.Moves.{Begun, Closes}
-use Rattle.reissue.specs.pending_table.Entries.{pending_of, begun_of, request_of}
-use Rattle.reissue.specs.pending_table.Agrees.{Agrees, unposted}
-use Rattle.reissue.specs.pending_table.Answers.{complaints_about}
+use Rattle.records.specs.Marks.{Mark, gave_up, last_started, is_endpoint}
+use Rattle.records.specs.Open.{open_requests, with_id, moved_by}
+use Rattle.records.specs.Told.{Told}
+use Rattle.reissue.specs.declared.ask.Settled.{Settled}
+use Rattle.reissue.specs.declared.ask.Settled.TheVariants as settled
+use Rattle.reissue.specs.declared.pending.Pending.{Pending}
+use Rattle.reissue.specs.declared.table.Table.{Table}
+use Rattle.reissue.specs.Moves.{Begun, Closes}
+use Rattle.reissue.specs.Entries.{pending_of, begun_of, request_of}
+use Rattle.reissue.specs.Agrees.{Agrees, unposted}
+use Rattle.reissue.specs.Answers.{complaints_about}
 use Rattle.reissue.specs.Posts.{PostsInOrder, is_message, due_after}
 use Rattle.reissue.specs.Calls.{Absorbs}
 use Rattle.cache.specs.Calls.{Caching, IsIdle}

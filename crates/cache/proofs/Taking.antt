@@ -3,30 +3,30 @@ use Rattle.std.proofs.Common.{◌≡◌, ◌≢◌, ℕ, ◌+◌, ◌^◌, ◌<�
 use mathlib.Core.Logic.{inl, inr}
 use Rattle.std.specs.Prelude.{slice_index}
 use Rattle.std.proofs.lemmas.Bool.{eq-eqb}
-use Rattle.reissue.specs.pending_table.pending_queue.declared.ask.Settled.{Settled}
-use Rattle.reissue.specs.pending_table.pending_queue.declared.ask.Settled.TheVariants as settled
-use Rattle.reissue.specs.pending_table.Moves.{DiskState, Begun, put, Closes, Moves, Tells, IsBusy}
-use Rattle.reissue.specs.pending_table.Entries.{pending_of, AllOfMinor}
+use Rattle.reissue.specs.declared.ask.Settled.{Settled}
+use Rattle.reissue.specs.declared.ask.Settled.TheVariants as settled
+use Rattle.reissue.specs.Moves.{DiskState, Begun, put, Closes, Moves, Tells, IsBusy}
+use Rattle.reissue.specs.Entries.{pending_of, AllOfMinor}
 use Rattle.message.specs.declared.Incoming.{Incoming}
 use Rattle.message.specs.declared.Incoming.TheVariants as incoming
 use Rattle.reissue.specs.Posts.{HasRoom, is_message}
 use Rattle.reissue.specs.Calls.{Steps, Absorbs, more_may_come}
-use Rattle.reissue.proofs.pending_table.Maps.{put-other, put_cases}
-use Rattle.slots.specs.declared.slot.Slot.{Slot}
-use Rattle.block_transfers.specs.declared.settling.Took.{Took}
-use Rattle.block_transfers.specs.declared.refusals.Cut.{Cut}
-use Rattle.slots.specs.Slots.{held}
-use Rattle.slots.specs.Edits.{IsWritten, IsWrittenSlot, Leaves}
+use Rattle.reissue.proofs.Maps.{put-other, put_cases}
+use Rattle.cache.specs.declared.slot.Slot.{Slot}
+use Rattle.cache.specs.declared.settling.Took.{Took}
+use Rattle.cache.specs.declared.refusals.Cut.{Cut}
+use Rattle.cache.specs.Slots.{held}
+use Rattle.cache.specs.Edits.{IsWritten, IsWrittenSlot, Leaves}
 use Rattle.cache.specs.Frames.{Tied, CacheAgrees, view}
 use Rattle.cache.specs.Calls.{Caching, IsReady, Serves, Runs, HandsOver}
-use Rattle.reissue.specs.marks.Told.{took_nothing}
-use Rattle.reissue.specs.marks.Acts.{Act, told_of}
+use Rattle.records.specs.Told.{took_nothing}
+use Rattle.records.specs.Acts.{Act, told_of}
 use Rattle.cache.proofs.Handing.{Done, done_on}
-use Rattle.block_transfers.specs.Settling.{Settles, took_of, is_ended_by}
+use Rattle.cache.specs.Settling.{Settles, took_of, is_ended_by}
 use Rattle.cache.specs.Takes.{Takes, ReadTells, ReadsStay, NoReadBegun, IsHandedOut, is_read_of}
 use Rattle.cache.proofs.Tied.{way_ticket, tied_read_settled, tied_written, same_begun}
 use Rattle.cache.proofs.Agreeing.{agrees_moved, view_moved, agrees_written, view_put}
-use Rattle.slots.proofs.Edits.{leaves_none}
+use Rattle.cache.proofs.Edits.{leaves_none}
 use Rattle.cache.proofs.Runs.{step_runs, absorb_runs}
 
 -- the slot of a settled write

@@ -3,13 +3,13 @@ use Rattle.std.proofs.Common.{◌≡◌, ◌≢◌, ℕ, ◌<◌, ◌≤◌, ◌
 use mathlib.Core.Logic.{inl, inr}
 use Rattle.std.specs.Prelude.{slice_index}
 use Rattle.std.proofs.lemmas.Nat.{same_from_place}
-use Rattle.reissue.specs.pending_table.Moves.{Begun, put, IsQuiet}
-use Rattle.reissue.proofs.pending_table.Maps.{put-same, put-other, put_cases}
-use Rattle.slots.specs.Slots.{ticket_of, dirtied, written}
+use Rattle.reissue.specs.Moves.{Begun, put, IsQuiet}
+use Rattle.reissue.proofs.Maps.{put-same, put-other, put_cases}
+use Rattle.cache.specs.Slots.{ticket_of, dirtied, written}
 use Rattle.cache.specs.Frames.{IsUnderWay, HasSlot, IsOfBlock, Tied}
-use Rattle.slots.specs.declared.slot.Slot.{Slot}
-use Rattle.slots.specs.declared.state.State.{State}
-use Rattle.slots.specs.declared.state.State.TheVariants.{Clean, Dirty, Writing, Changed}
+use Rattle.cache.specs.declared.slot.Slot.{Slot}
+use Rattle.cache.specs.declared.state.State.{State}
+use Rattle.cache.specs.declared.state.State.TheVariants.{Clean, Dirty, Writing, Changed}
 
 -- what is there is one slot
 pub same_slot : (o : Option Slot) (s t : Slot) → o ≡ Some s → o ≡ Some t → s ≡ t

@@ -4,30 +4,30 @@ use Rattle.std.specs.List.{list_any}
 use Rattle.message.specs.declared.Incoming.{Incoming}
 use Rattle.message.specs.declared.Incoming.TheVariants.{End}
 use Rattle.message.specs.declared.Incoming.TheVariants as incoming
-use Rattle.reissue.specs.marks.Marks.{Mark}
-use Rattle.reissue.specs.marks.Disk.{Contents, HasTrueReplies}
-use Rattle.reissue.specs.marks.Told.{Told, Received, grown, received, took_end, took_nothing}
-use Rattle.reissue.specs.marks.Acts.{Act, Absorbed, told_of, has_absorbed}
-use Rattle.reissue.specs.marks.Opening.{Opening}
+use Rattle.records.specs.Marks.{Mark}
+use Rattle.records.specs.Disk.{Contents, HasTrueReplies}
+use Rattle.records.specs.Told.{Told, Received, grown, received, took_end, took_nothing}
+use Rattle.records.specs.Acts.{Act, Absorbed, told_of, has_absorbed}
+use Rattle.records.specs.Opening.{Opening}
 use Rattle.reissue.specs.declared.link.Link.{Ghosts as LinkWords}
-use Rattle.reissue.specs.pending_table.declared.table.Table.{Table}
-use Rattle.reissue.specs.pending_table.Moves.{DiskState, state_after, put, IsBusy}
-use Rattle.reissue.specs.pending_table.Entries.{pending_of, AllOfMinor}
-use Rattle.reissue.specs.pending_table.Agrees.{Agrees}
+use Rattle.reissue.specs.declared.table.Table.{Table}
+use Rattle.reissue.specs.Moves.{DiskState, state_after, put, IsBusy}
+use Rattle.reissue.specs.Entries.{pending_of, AllOfMinor}
+use Rattle.reissue.specs.Agrees.{Agrees}
 use Rattle.reissue.specs.Posts.{HasRoom, OnlyPosts}
 use Rattle.reissue.specs.Rules.{KeepsRulesBy}
 use Rattle.reissue.specs.Calls.{Truth}
 use Rattle.reissue.specs.Transfers.{table_of, link_of, with_link}
-use Rattle.slots.specs.declared.slot.Slot.{Slot}
-use Rattle.slots.specs.declared.state.State.TheVariants.{Dirty}
+use Rattle.cache.specs.declared.slot.Slot.{Slot}
+use Rattle.cache.specs.declared.state.State.TheVariants.{Dirty}
 use Rattle.cache.specs.declared.frame.Frame.{Frame}
 use Rattle.reissue.specs.declared.transfers.Transfers.{Transfers}
-use Rattle.block_transfers.specs.declared.shape.Shape.{Shape}
+use Rattle.cache.specs.declared.shape.Shape.{Shape}
 use Rattle.cache.specs.declared.cache.Cache.{Cache}
-use Rattle.block_transfers.specs.declared.refusals.Cut.{Cut}
-use Rattle.block_transfers.specs.declared.refusals.Cut.TheVariants.{Eio, LinkEnded}
-use Rattle.slots.specs.Slots.{held, is_clean}
-use Rattle.slots.specs.Edits.{IsAt, NoneDirty}
+use Rattle.cache.specs.declared.refusals.Cut.{Cut}
+use Rattle.cache.specs.declared.refusals.Cut.TheVariants.{Eio, LinkEnded}
+use Rattle.cache.specs.Slots.{held, is_clean}
+use Rattle.cache.specs.Edits.{IsAt, NoneDirty}
 use Rattle.cache.specs.Frames.{Tied, CacheAgrees, view}
 
 -- What is said of a cache.

@@ -1,15 +1,15 @@
 -- Where the frame of a block stands that was fetched, and which frame goes for it.
 use Rattle.std.specs.Prelude.{◌≡◌, ℕ, List, Result, Ok, Err, IsOk, IfOk, Some, None, not, slice_get}
 use Rattle.cache.specs.declared.frame.Frame.{Frame}
-use Rattle.slots.specs.declared.slot.Slot.{Slot}
-use Rattle.slots.specs.declared.table.Slots.{Slots}
-use Rattle.slots.specs.declared.state.State.{State}
+use Rattle.cache.specs.declared.slot.Slot.{Slot}
+use Rattle.cache.specs.declared.table.Slots.{Slots}
+use Rattle.cache.specs.declared.state.State.{State}
 use Rattle.cache.specs.declared.cache.Cache.{Cache}
-use Rattle.block_transfers.specs.declared.refusals.Cut.{Cut}
-use Rattle.slots.specs.Slots.{held, is_unclean_slot}
-use Rattle.slots.specs.Uses.{IsUsedLast}
-use Rattle.slots.specs.Order.{IsVictim}
-use Rattle.slots.specs.Edits.{IsBlankedAt, IsSlotAt, OthersStay, StayBut}
+use Rattle.cache.specs.declared.refusals.Cut.{Cut}
+use Rattle.cache.specs.Slots.{held, is_unclean_slot}
+use Rattle.cache.specs.Uses.{IsUsedLast}
+use Rattle.cache.specs.Order.{IsVictim}
+use Rattle.cache.specs.Edits.{IsBlankedAt, IsSlotAt, OthersStay, StayBut}
 
 -- a slot is used now, and nothing else is changed: the link was told nothing, and no message was taken
 pub record IsUsed {L : Type 0} (old new : Cache L) (at : ℕ) : Type 0 where

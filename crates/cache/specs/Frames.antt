@@ -1,11 +1,11 @@
 -- What a cache keeps true of its slots, of the pending requests and of the disk, and what would be read back.
 use Rattle.std.specs.Prelude.{◌≡◌, ◌⊎◌, ℕ, ◌+◌, ◌*◌, ◌<◌, ◌-◌, ◌&&◌, nat_lt, nat_le, List, length, take, Option, Some, None, false, if◌then◌else◌, slice_index}
-use Rattle.legal.specs.volume.Reading.{Disk}
-use Rattle.legal.specs.View.{Frames, frame_or}
-use Rattle.reissue.specs.pending_table.Moves.{DiskState, Begun}
-use Rattle.slots.specs.declared.state.State.TheVariants.{Clean, Writing, Changed}
-use Rattle.slots.specs.declared.slot.Slot.{Slot}
-use Rattle.slots.specs.Slots.{ticket_of}
+use Rattle.volume.specs.Reading.{Disk}
+use Rattle.records.specs.View.{Frames, frame_or}
+use Rattle.reissue.specs.Moves.{DiskState, Begun}
+use Rattle.cache.specs.declared.state.State.TheVariants.{Clean, Writing, Changed}
+use Rattle.cache.specs.declared.slot.Slot.{Slot}
+use Rattle.cache.specs.Slots.{ticket_of}
 
 -- the bytes of the write that is under way are the slot's, unless they were changed since it was issued
 pub record IsUnderWay (size : ℕ) (slot : Slot) (ticket : ℕ) (bytes : List ℕ) : Type 0 where

@@ -1,18 +1,18 @@
 -- What a cache keeps, as said of a server.
 use Rattle.std.specs.Prelude.{◌≡◌, ℕ, ◌<◌, List, Option}
 use Rattle.layout.specs.declared.Geometry.{Geometry}
-use Rattle.reissue.specs.marks.Marks.{Mark}
-use Rattle.reissue.specs.marks.Disk.{Contents}
+use Rattle.records.specs.Marks.{Mark}
+use Rattle.records.specs.Disk.{Contents}
 use Rattle.message.specs.declared.Incoming.{Incoming}
-use Rattle.reissue.specs.marks.Told.{took_end}
-use Rattle.reissue.specs.marks.Acts.{Act}
-use Rattle.legal.specs.View.{server_view, IsCovered}
-use Rattle.legal.specs.ServerCall.{Serving, Leads, Rules}
-use Rattle.reissue.specs.pending_table.Agrees.{Agrees}
-use Rattle.reissue.specs.pending_table.Moves.{state_after}
+use Rattle.records.specs.Told.{took_end}
+use Rattle.records.specs.Acts.{Act}
+use Rattle.records.specs.View.{server_view, IsCovered}
+use Rattle.records.specs.ServerCall.{Serving, Leads, Rules}
+use Rattle.reissue.specs.Agrees.{Agrees}
+use Rattle.reissue.specs.Moves.{state_after}
 use Rattle.reissue.specs.Rules.{outbox_of}
 use Rattle.cache.specs.Calls.{Caching, Runs, with_handed}
-use Rattle.slots.specs.declared.slot.Slot.{Slot}
+use Rattle.cache.specs.declared.slot.Slot.{Slot}
 use Rattle.cache.specs.Frames.{CacheAgrees, frames_of, view}
 
 -- a server with the frames of a cache reads back what the cache would, and where the cache agrees with the disk it is covered

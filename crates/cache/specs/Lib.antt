@@ -1,7 +1,12 @@
+-- Slots that hold blocks.
+-- Requests for blocks, and what becomes of them.
 -- Frames of a volume's blocks.
-pub use Rattle.slots.specs as slots
-pub use Rattle.block_transfers.specs as block_transfers
-pub use Rattle.legal.specs as legal
+pub mod Slots
+pub mod Edits
+pub mod Uses
+pub mod Order
+pub mod Refusals
+pub mod Settling
 pub mod Frames
 pub mod Calls
 pub mod Takes

@@ -1,10 +1,10 @@
 -- What a message taken does to the frames, and what a block that was read reads as.
 use Rattle.std.specs.Prelude.{◌≡◌, ℕ, ◌+◌, ◌*◌, ◌<◌, List, Bool, false, Option, Some, None, Result, Ok, Err, slice_index, ◌==◌}
-use Rattle.reissue.specs.pending_table.Moves.{DiskState, Begun}
-use Rattle.reissue.specs.pending_table.Entries.{pending_of}
-use Rattle.block_transfers.specs.declared.settling.Took.{Took}
-use Rattle.block_transfers.specs.declared.settling.Took.TheVariants as took
-use Rattle.block_transfers.specs.declared.refusals.Cut.{Cut}
+use Rattle.reissue.specs.Moves.{DiskState, Begun}
+use Rattle.reissue.specs.Entries.{pending_of}
+use Rattle.cache.specs.declared.settling.Took.{Took}
+use Rattle.cache.specs.declared.settling.Took.TheVariants as took
+use Rattle.cache.specs.declared.refusals.Cut.{Cut}
 use Rattle.cache.specs.Calls.{Caching, Serves}
 
 -- these bytes are the disk's from the place on, where it is sure

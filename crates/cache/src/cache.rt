@@ -1,23 +1,21 @@
 //! Frames of a volume's blocks, over transfers.
 
-ghost use Rattle.std.specs.Prelude.{◌≡◌, ◌<◌, ◌≤◌, ◌+◌, ◌*◌, ◌-◌, ◌^◌, ℕ, List, [], Option, Some, None, Result, Ok, Err, Bool, true, false};
-ghost use Rattle.std.specs.Prelude.{IsTrue, IsErrOf, ◌↔◌, length, take, slice_get, slice_index, IfOk, IfErr, OnOk, OnErr, IfSome, not, ◌≢◌};
-ghost use Rattle.std.specs.Prelude.{MatchBool};
+ghost use Rattle.std.specs.Prelude.{◌≡◌, ◌<◌, ◌≤◌, ◌+◌, ◌*◌, ◌-◌, ◌^◌, ℕ, List, [], Option, Some, None, Result, Ok, Err, Bool, true, false, IsTrue, IsErrOf, ◌↔◌, length, take, slice_get, slice_index, IfOk, IfErr, OnOk, OnErr, IfSome, not, ◌≢◌, MatchBool};
 ghost use Rattle.std.specs.Bool.{OnTrue, OnFalse};
 ghost use Rattle.std.specs.Borrow.{Lends, sem};
 ghost use Rattle.layout.specs.Places.{is_block_size};
 ghost use Rattle.reissue.specs.Transfers.{table_of, link_of, begun_in};
-ghost use Rattle.legal.specs.Mount.{is_frame_count};
+ghost use Rattle.records.specs.Mount.{is_frame_count};
 ghost use Rattle.reissue.specs.Room.{room_needed};
 ghost use Rattle.reissue.specs.Posts.{is_message, HasRoom};
-ghost use Rattle.reissue.specs.pending_table.Moves.{IsBusy};
+ghost use Rattle.reissue.specs.Moves.{IsBusy};
 
 use crate::frame::Frame;
-use block_transfers::{CacheRefusal, Cut, Shape, Took, is_end, settle};
+use crate::{CacheRefusal, Cut, Shape, Took, is_end, settle};
 use layout::Geometry;
 use message::Incoming;
 use reissue::{Link, Ticket, Transfers};
-use slots::{Slots, State, zeros};
+use crate::{Slots, State, zeros};
 use std::alloc::Global;
 
 /// A read of a block that isn't settled.
@@ -45,19 +43,14 @@ pub struct Cache<L> {
 }
 
 impl<L: Link> Cache<L> {
-    ghost use Rattle.slots.specs.Slots.{held, is_dirty_slot, is_unclean_slot};
-    ghost use Rattle.slots.specs.Edits.{AllClean, SomeUnclean, IsIssued, IssuesLowest, IsWritten, IsSlotAt, IsFreeAt, IsAt, Leaves};
-    ghost use Rattle.slots.specs.Edits.{AllStay, StayBut, IsChangedAt};
+    ghost use Rattle.cache.specs.Slots.{held, is_dirty_slot, is_unclean_slot};
+    ghost use Rattle.cache.specs.Edits.{AllClean, SomeUnclean, IsIssued, IssuesLowest, IsWritten, IsSlotAt, IsFreeAt, IsAt, Leaves, AllStay, StayBut, IsChangedAt};
     ghost use Rattle.cache.specs.Frames.{frames_of, view, with_bytes};
-    ghost use Rattle.cache.specs.Calls.{caching, held_by, frame_count, IsReady, IsIdle, IsLive, IsWhyCut, IsFrame, IsMade, IsStuck};
-    ghost use Rattle.cache.specs.Calls.{IsRefusing};
-    ghost use Rattle.cache.specs.Calls.{PostsAlone, messages_left};
-    ghost use Rattle.cache.specs.Calls.{Does, Keeps, HandsOver, Blanks, Rewrites, LinkGoesOn, WantsFlush};
-    ghost use Rattle.block_transfers.specs.Settling.{IsWantedFor};
-    ghost use Rattle.cache.specs.Calls.{forgotten, with_cache_link, without_flush};
+    ghost use Rattle.cache.specs.Calls.{caching, held_by, frame_count, IsReady, IsIdle, IsLive, IsWhyCut, IsFrame, IsMade, IsStuck, IsRefusing, PostsAlone, messages_left, Does, Keeps, HandsOver, Blanks, Rewrites, LinkGoesOn, WantsFlush, forgotten, with_cache_link, without_flush};
+    ghost use Rattle.cache.specs.Settling.{IsWantedFor};
     ghost use Rattle.cache.specs.contracts.cache.Cache.{the_row};
     ghost use Rattle.cache.specs.declared.frame.Frame.{Frame as FrameValue};
-    ghost use Rattle.slots.specs.declared.slot.Slot.{Slot};
+    ghost use Rattle.cache.specs.declared.slot.Slot.{Slot};
     ghost use Rattle.cache.specs.Fetches.{Hits, Misses, BlanksFrame, MakesRoom, IsAtOnce};
     ghost use Rattle.cache.specs.Takes.{Takes, ReadsStay, NoReadBegun, IsBlockRead, Reads};
 

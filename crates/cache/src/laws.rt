@@ -4,7 +4,7 @@ ghost use Rattle.cache.specs.Laws.{CallsLead, FramesReadBack};
 ghost use Rattle.cache.specs.Calls.{caching};
 ghost use Rattle.cache.specs.declared.cache.Cache.{Cache};
 
-use legal::Serve;
+use records::legal::Serve;
 use reissue::Link;
 
 /// What would be read back is what is said of a server with these frames, and what a cache keeps covers each unsure place.

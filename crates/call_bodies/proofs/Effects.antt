@@ -13,9 +13,9 @@ use Rattle.tree.specs.Tree.{Tree}
 use Rattle.tree.specs.Refusals.{◌>>=◌, refuse_if}
 use Rattle.tree.specs.Answers.{Answer, Effect, refused, done, descriptor, some_bytes, wrote, position, node_is, names_are, room_is, answer_of}
 use Rattle.tree.specs.Effects.{effect_of, effect_in_session, reply_to, tree_after_call, may_want_memory}
-use Rattle.store.specs.volume.Reading.{Disk}
-use Rattle.store.specs.volume.Holds.{HoldsVolume}
-use Rattle.bodies.specs.legal.Legal.{is_success, is_no_memory, may_lack_memory, tree_after_answer}
+use Rattle.volume.specs.Reading.{Disk}
+use Rattle.volume.specs.Holds.{HoldsVolume}
+use Rattle.records.specs.Legal.{is_success, is_no_memory, may_lack_memory, tree_after_answer}
 use Rattle.descriptors.specs.Files.{Files, HasFiles}
 use Rattle.store.specs.declared.Halt.{Halt}
 use Rattle.store.specs.declared.Halt.TheVariants as halt

@@ -1,1 +1,5 @@
+pub mod Putting
+pub mod Gathering
+pub mod ReaddirCall
+pub mod CloseCall
 pub mod Effects

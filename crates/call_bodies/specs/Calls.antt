@@ -7,9 +7,9 @@ use Rattle.tree.specs.declared.Reply.{Reply}
 use Rattle.tree.specs.Sums.{some_below}
 use Rattle.tree.specs.Tree.{Tree, most_open_files}
 use Rattle.tree.specs.Answers.{Answer, answer_of}
-use Rattle.store.specs.volume.Reading.{Disk}
-use Rattle.store.specs.volume.Holds.{HoldsVolume}
-use Rattle.bodies.specs.legal.Legal.{IsReplyOf, tree_after_answer}
+use Rattle.volume.specs.Reading.{Disk}
+use Rattle.volume.specs.Holds.{HoldsVolume}
+use Rattle.records.specs.Legal.{IsReplyOf, tree_after_answer}
 use Rattle.descriptors.specs.Files.{Files, HasFiles}
 use Rattle.store.specs.declared.Halt.{Halt}
 use Rattle.store.specs.Halts.{Ends}

@@ -2,5 +2,7 @@
 #![tactic(auto)]
 
 mod calls;
+pub mod closing;
+pub mod listing;
 
 pub use calls::body;

@@ -1,2 +1,4 @@
-pub use Rattle.written_call.proofs as written_call
+pub mod Numbers
+pub mod Reading
+pub mod Decoded
 pub mod TooLong

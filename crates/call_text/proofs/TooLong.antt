@@ -1,8 +1,8 @@
 -- Calls of too many words.
 use Rattle.std.proofs.Common.{◌≡◌, ℕ, ◌<◌, List, [], ◌∷◌, length, ap, ◌∙◌, arith, None}
-use Rattle.text_words.specs.Words.{words_of}
+use Rattle.call_text.specs.Words.{words_of}
 use Rattle.call_text.specs.Calls.{call_of}
-use Rattle.text_words.proofs.Reading.{some_part}
+use Rattle.call_text.proofs.Reading.{some_part}
 
 -- no call has more than three words behind its name
 too_many : (words more : List (List ℕ)) (name a b c : List ℕ) → words ≡ name ∷ a ∷ b ∷ c ∷ more → 0 < length more → call_of words ≡ None

@@ -6,9 +6,9 @@ use Rattle.tree.specs.declared.Call.{Call}
 use Rattle.tree.specs.declared.Call.TheVariants.{Open, Write, Seek, Chown, Utime}
 use Rattle.tree.specs.declared.Whence.{Whence}
 use Rattle.tree.specs.declared.Whence.TheVariants.{Set, Cur, End}
-use Rattle.text_words.specs.Words.{number_of, mode_of, offset_of, path_of}
-use Rattle.text_words.specs.Bytes.{byte_of, flags_of}
-use Rattle.written_call.specs.Calls.{at, call_of_none, call_of_one, call_of_two, count, word}
+use Rattle.call_text.specs.Words.{number_of, mode_of, offset_of, path_of}
+use Rattle.call_text.specs.Bytes.{byte_of, flags_of}
+use Rattle.call_text.specs.WrittenCalls.{at, call_of_none, call_of_one, call_of_two, count, word}
 
 -- a user or a group
 abbrev pub id : List ℕ → Option ℕ

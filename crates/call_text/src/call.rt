@@ -2,15 +2,15 @@
 
 ghost use Rattle.std.specs.Prelude.{◌≡◌};
 ghost use Rattle.std.specs.Option.{option_map};
-ghost use Rattle.text_words.specs.Words.{words_of};
-ghost use Rattle.written_call.specs.Calls.{meant};
+ghost use Rattle.call_text.specs.Words.{words_of};
+ghost use Rattle.call_text.specs.WrittenCalls.{meant};
 ghost use Rattle.call_text.specs.Calls.{call_of, call_of_three, whence_of};
 
-use text_words::bytes::{byte, flags};
-use text_words::words::{cut, decimal, half, mode, offset, path};
+use crate::bytes::{byte, flags};
+use crate::words::{cut, decimal, half, mode, offset, path};
 use tree::{Call, Whence};
-pub use written_call::call::WrittenCall;
-use written_call::short::{call_of_none, call_of_one, call_of_two, count_of};
+use crate::written_call::call::WrittenCall;
+use crate::written_call::short::{call_of_none, call_of_one, call_of_two, count_of};
 
 /// Where a seek counts from: `set`, `cur` or `end`.
 fn whence(word: &[u8]) -> Option<Whence>

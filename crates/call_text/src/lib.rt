@@ -1,4 +1,9 @@
 //! Client calls as lines of text have them: which words are a call.
+//!
+//! Lines of text: how a text falls into lines and words, and which words are numbers, bytes and flags.
 #![tactic(auto)]
 
+pub mod bytes;
 pub mod call;
+pub mod words;
+pub mod written_call;

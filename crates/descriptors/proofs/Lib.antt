@@ -1,4 +1,3 @@
-pub use Rattle.tree.proofs as tree
 pub mod Keys
 pub mod Searches
 pub mod Tables

@@ -1,4 +1,3 @@
-pub use Rattle.tree.specs as tree
 pub mod Files
 pub mod Keys
 pub mod Made

@@ -1,8 +1,17 @@
-pub use Rattle.entry_laws.proofs as entry_laws
-pub use Rattle.entry_laws.proofs.tree_laws as tree_laws
-pub use Rattle.zone_places.proofs.zone_laws as zone_laws
+pub mod Text
+pub mod Maps
+pub mod Rows
+pub mod Directories
+pub mod Files
+pub mod Writes
 pub mod Names
 pub mod Scans
 pub mod Pages
 pub mod Turning
 pub mod Standing
+pub mod EntryBytes
+pub mod EntriesStanding
+pub mod Becoming
+pub mod Placing
+pub mod Renaming
+pub mod Removing

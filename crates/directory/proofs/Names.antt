@@ -5,9 +5,9 @@ use Rattle.std.specs.Bool.{Decides}
 use Rattle.std.specs.Ordering.{eq_by_cmp}
 use Rattle.std.proofs.lemmas.Bool.{cond-true, cond-false, eq-eqb}
 use Rattle.std.proofs.lemmas.List.{drop_more}
-use Rattle.inode.specs.tree.Names.{Name, name_cmp}
-use Rattle.inode.proofs.volume_laws.Entries.{same_by_cmp, cmp_itself}
-use Rattle.store.specs.volume.Nodes.{entry_name, text_in}
+use Rattle.tree.specs.Names.{Name, name_cmp}
+use Rattle.volume.proofs.Entries.{same_by_cmp, cmp_itself}
+use Rattle.volume.specs.Nodes.{entry_name, text_in}
 
 -- names compare as equal exactly where they are the same
 pub same_decides : (x y : Name) → Decides (eq_by_cmp name_cmp x y) (x ≡ y)

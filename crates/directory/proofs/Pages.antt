@@ -4,11 +4,11 @@ use Rattle.std.specs.Prelude.{◌==◌, ◌||◌, IsTrue, nat_lt, nat_le, slice_
 use Rattle.std.proofs.lemmas.Bool.{cond-true, cond-false, cases_Bool, or_cases, and_parts, eqb-true, ne_eqb, leb-true, lt-ltb}
 use Rattle.layout.specs.declared.Geometry.{Geometry}
 use Rattle.layout.specs.Places.{IsGeometry, is_block_size}
-use Rattle.inode.specs.tree.Names.{Name}
-use Rattle.store.specs.volume.declared.Inode.{Inode}
-use Rattle.store.specs.volume.Reading.{Disk, is_data_zone}
-use Rattle.store.specs.volume.Pieces.{Pieces, pieces}
-use Rattle.store.specs.volume.Nodes.{page_zone, page_byte, file_byte}
+use Rattle.tree.specs.Names.{Name}
+use Rattle.volume.specs.declared.Inode.{Inode}
+use Rattle.volume.specs.Reading.{Disk, is_data_zone}
+use Rattle.volume.specs.Pieces.{Pieces, pieces}
+use Rattle.volume.specs.Nodes.{page_zone, page_byte, file_byte}
 use Rattle.store.specs.Rows.{HasBytes}
 use Rattle.directory.specs.Scan.{last_named}
 use Rattle.directory.proofs.Scans.{scan_moved, scan_zeros}

@@ -4,12 +4,12 @@ use Rattle.std.specs.Prelude.{◌==◌, if◌then◌else◌}
 use Rattle.std.specs.Option.{option_or}
 use Rattle.std.specs.Ordering.{eq_by_cmp}
 use Rattle.std.proofs.lemmas.Bool.{cond-true, cond-false}
-use Rattle.inode.specs.tree.Names.{Name, name_cmp, inode_of}
-use Rattle.entry_laws.proofs.tree_laws.Names.{inode_of-with_name}
-use Rattle.store.specs.volume.Nodes.{entry_name, entry_inode, names_in}
-use Rattle.inode.proofs.volume_laws.Entries.{cmp_apart}
-use Rattle.entry_laws.specs.Rows.{SameEntry}
-use Rattle.entry_laws.proofs.Rows.{same_target, same_name_there}
+use Rattle.tree.specs.Names.{Name, name_cmp, inode_of}
+use Rattle.tree.proofs.Names.{inode_of-with_name}
+use Rattle.volume.specs.Nodes.{entry_name, entry_inode, names_in}
+use Rattle.volume.proofs.Entries.{cmp_apart}
+use Rattle.directory.specs.Rows.{SameEntry}
+use Rattle.directory.proofs.Rows.{same_target, same_name_there}
 use Rattle.directory.specs.Scan.{last_named}
 
 -- one entry of a scan, by the number of the entry

@@ -4,13 +4,13 @@ use Rattle.std.specs.Prelude.{◌==◌, nat_lt, IsTrue, slice_index}
 use Rattle.std.proofs.lemmas.Bool.{cond-true, cases_Bool, eqb-true, eqb-false, ltb-true, ltb-false}
 use Rattle.layout.specs.declared.Geometry.{Geometry}
 use Rattle.layout.specs.Places.{IsGeometry}
-use Rattle.inode.specs.tree.Names.{Name}
-use Rattle.store.specs.volume.declared.Inode.{Inode}
-use Rattle.store.specs.volume.Reading.{Disk, is_data_zone}
-use Rattle.store.specs.volume.Pieces.{pieces}
-use Rattle.store.specs.volume.Nodes.{page_zone, file_byte, entry_name}
-use Rattle.entry_laws.specs.Rows.{SameEntry}
-use Rattle.entry_laws.proofs.Rows.{same_name_there}
+use Rattle.tree.specs.Names.{Name}
+use Rattle.volume.specs.declared.Inode.{Inode}
+use Rattle.volume.specs.Reading.{Disk, is_data_zone}
+use Rattle.volume.specs.Pieces.{pieces}
+use Rattle.volume.specs.Nodes.{page_zone, file_byte, entry_name}
+use Rattle.directory.specs.Rows.{SameEntry}
+use Rattle.directory.proofs.Rows.{same_name_there}
 use Rattle.directory.specs.Standing.{NoneNamed, IsNamed, StandsAt}
 use Rattle.directory.proofs.Pages.{page_same, page_zeros, entries_whole, entries_begin}
 

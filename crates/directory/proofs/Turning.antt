@@ -1,11 +1,11 @@
 -- A scan from the last page to the first, over blocks.
 use Rattle.std.proofs.Common.{◌≡◌, ◌<◌, ◌≤◌, ◌-◌, ◌*◌, ◌/◌, ℕ, max, Option, None, Some, sym, ◌∙◌, arith}
 use Rattle.layout.specs.declared.Geometry.{Geometry}
-use Rattle.inode.specs.tree.Names.{Name, inode_of}
-use Rattle.store.specs.volume.declared.Inode.{Inode}
-use Rattle.store.specs.volume.Reading.{Disk}
-use Rattle.store.specs.volume.Pieces.{pieces}
-use Rattle.store.specs.volume.Nodes.{directory_of, file_byte}
+use Rattle.tree.specs.Names.{Name, inode_of}
+use Rattle.volume.specs.declared.Inode.{Inode}
+use Rattle.volume.specs.Reading.{Disk}
+use Rattle.volume.specs.Pieces.{pieces}
+use Rattle.volume.specs.Nodes.{directory_of, file_byte}
 use Rattle.store.specs.World.{World, IsWorld, Reads}
 use Rattle.store.proofs.Turns.{reads_then}
 use Rattle.directory.specs.Scan.{last_named}

@@ -1,4 +1,11 @@
-pub use Rattle.entry_laws.specs as entry_laws
-pub use Rattle.zone_places.specs.zone_laws as zone_laws
+-- Changes of a directory's names.
+pub mod Rows
+pub mod Directories
+pub mod Files
+pub mod Writes
 pub mod Scan
 pub mod Standing
+pub mod Places
+pub mod First
+pub mod Names
+pub mod Removal

@@ -1,8 +1,8 @@
 -- The last of some entries that has a name.
 use Rattle.std.specs.Prelude.{ℕ, zero, suc, ◌+◌, Option, None, Some, if◌then◌else◌}
 use Rattle.std.specs.Ordering.{eq_by_cmp}
-use Rattle.inode.specs.tree.Names.{Name, name_cmp}
-use Rattle.store.specs.volume.Nodes.{entry_name, entry_inode}
+use Rattle.tree.specs.Names.{Name, name_cmp}
+use Rattle.volume.specs.Nodes.{entry_name, entry_inode}
 
 -- the inode number of the last of k entries, from one on, that has the name
 abbrev pub last_named : (ℕ → ℕ) → Name → ℕ → ℕ → Option ℕ

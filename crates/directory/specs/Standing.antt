@@ -1,7 +1,7 @@
 -- Where a name stands among entries.
 use Rattle.std.specs.Prelude.{◌≡◌, ◌≢◌, ℕ, ◌<◌, ◌≤◌, Option, None, Some}
-use Rattle.inode.specs.tree.Names.{Name}
-use Rattle.store.specs.volume.Nodes.{entry_name}
+use Rattle.tree.specs.Names.{Name}
+use Rattle.volume.specs.Nodes.{entry_name}
 
 -- no entry from one on to another has the name
 pub record NoneNamed (f : ℕ → ℕ) (name : Name) (from to : ℕ) : Type 0 where

@@ -2,8 +2,8 @@
 
 ghost use Rattle.std.specs.Prelude.{◌≡◌, ◌<◌, ◌≤◌, ◌+◌, ◌-◌, ◌*◌, drop, length, slice_index, take};
 ghost use Rattle.std.specs.Ordering.{eq_by_cmp};
-ghost use Rattle.inode.specs.tree.Names.{name_cmp};
-ghost use Rattle.store.specs.volume.Nodes.{entry_inode, entry_name, text_in};
+ghost use Rattle.tree.specs.Names.{name_cmp};
+ghost use Rattle.volume.specs.Nodes.{entry_inode, entry_name, text_in};
 ghost use Rattle.directory.specs.Scan.{last_named};
 
 use layout::u32_at;

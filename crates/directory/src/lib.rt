@@ -1,10 +1,20 @@
 //! Directories: rows of entries of 64 bytes in the zones of a volume, seen as names that lead to inodes.
+//!
+//! Changes of a directory's names, over any blocks: its rows of 64 bytes are written, and it grows and shrinks with them. No memory is
+//! taken.
 #![tactic(auto)]
 
+mod bytes;
+mod changes;
 mod entries;
+pub mod entry_laws;
 mod look_up;
 mod positions;
+mod removal;
 
 pub use entries::{ENTRY_SIZE, entry_inode, entry_name};
 pub use look_up::{entry, find, parent};
 pub use positions::position;
+pub use bytes::first_entries;
+pub use changes::{insert, rename, replace, set_parent};
+pub use removal::remove;

@@ -6,17 +6,17 @@ ghost use Rattle.directory.specs.Scan.{last_named};
 ghost use Rattle.store.specs.Halts.{Ends, IsHalt};
 ghost use Rattle.store.specs.Volume.{IsOn};
 ghost use Rattle.store.specs.World.{Reads};
-ghost use Rattle.inode.specs.tree.Names.{inode_of};
-ghost use Rattle.store.specs.volume.Nodes.{directory_of, file_byte};
-ghost use Rattle.store.specs.volume.Pieces.{pieces};
+ghost use Rattle.tree.specs.Names.{inode_of};
+ghost use Rattle.volume.specs.Nodes.{directory_of, file_byte};
+ghost use Rattle.volume.specs.Pieces.{pieces};
 
 use crate::entries::{entry_inode, last_named};
-use inode::Inode;
+use volume::Inode;
 use layout::Geometry;
 use store::words::read_bytes;
 use store::{Blocks, Cut, Halt};
-use zone_places::numbers::is_data_zone;
-use zone_places::places::lookup;
+use zone::numbers::is_data_zone;
+use zone::places::lookup;
 
 /// The inode number of the last entry of a page, from one entry on to another, that has a name. In a page without a data zone no entry
 /// has one.

@@ -4,15 +4,15 @@ ghost use Rattle.std.specs.Prelude.{◌≡◌, ◌<◌, ◌≤◌, ◌+◌, ◌-
 ghost use Rattle.directory.specs.Standing.{StandsAt};
 ghost use Rattle.store.specs.Volume.{IsOn};
 ghost use Rattle.store.specs.World.{Reads};
-ghost use Rattle.store.specs.volume.Nodes.{entry_count_of, file_byte};
-ghost use Rattle.store.specs.volume.Pieces.{pieces};
+ghost use Rattle.volume.specs.Nodes.{entry_count_of, file_byte};
+ghost use Rattle.volume.specs.Pieces.{pieces};
 
 use crate::entries::is_named;
-use inode::Inode;
+use volume::Inode;
 use layout::Geometry;
 use store::{Blocks, Cut};
-use zone_places::numbers::is_data_zone;
-use zone_places::places::lookup;
+use zone::numbers::is_data_zone;
+use zone::places::lookup;
 
 /// The first of the entries of some bytes, from one on to another, that has a name.
 fn position_in(bytes: &[u8], from: usize, to: usize, name: &[u8]) -> Option<usize>

@@ -2,8 +2,8 @@
 use Rattle.std.proofs.Common.{◌≡◌, ℕ, refl, ap, subst, Option, Some, None, inr}
 use Rattle.message.specs.declared.Incoming.{Incoming}
 use Rattle.message.specs.declared.Incoming.TheVariants as incoming
-use Rattle.reincarnate.specs.bdev.DriverState.{DriverState}
-use Rattle.policy.specs.declared.Event.TheVariants.{Exit}
+use Rattle.bdev.specs.DriverState.{DriverState}
+use Rattle.reincarnate.specs.declared.policy.Event.TheVariants.{Exit}
 use Rattle.reincarnate.specs.declared.Action.{Action}
 use Rattle.reincarnate.specs.Supply.{ReincarnationState, Decides}
 use Rattle.inline.specs.declared.running.Ran.{Ran}

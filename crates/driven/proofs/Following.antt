@@ -1,10 +1,9 @@
 -- Over every run of the link's drivers the reincarnation server follows the restart policy.
-use Rattle.std.proofs.Common.{◌≡◌, List, [], ◌++◌, refl, sym, ◌∙◌, ap, subst, max, inl, inr}
-use Rattle.std.proofs.Common.{append_assoc}
+use Rattle.std.proofs.Common.{◌≡◌, List, [], ◌++◌, refl, sym, ◌∙◌, ap, subst, max, inl, inr, append_assoc}
 use Rattle.message.specs.declared.Incoming.{Incoming}
 use Rattle.message.specs.declared.Incoming.TheVariants as incoming
-use Rattle.reincarnate.specs.bdev.DriverState.{DriverState}
-use Rattle.policy.specs.declared.Event.TheVariants.{Exit, Tick, Complaint}
+use Rattle.bdev.specs.DriverState.{DriverState}
+use Rattle.reincarnate.specs.declared.policy.Event.TheVariants.{Exit, Tick, Complaint}
 use Rattle.reincarnate.specs.declared.Action.TheVariants.{Start}
 use Rattle.reincarnate.specs.Runs.{Turn}
 use Rattle.reincarnate.specs.Supply.{ReincarnationState}

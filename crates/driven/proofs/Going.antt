@@ -2,13 +2,13 @@
 use Rattle.std.proofs.Common.{◌≡◌, List, [], ◌∷◌, ◌++◌, Bool, true, false, refl, sym, ◌∙◌, ap, subst}
 use Rattle.std.specs.Prelude.{Result, Ok, Err, OnOk, OnErr}
 use Rattle.reissue.specs.declared.link.LinkRefusal.{LinkRefusal}
-use Rattle.endpoint.specs.declared.Endpoint.{Endpoint}
+use Rattle.message.specs.declared.endpoint.Endpoint.{Endpoint}
 use Rattle.message.specs.declared.BlockRequest.{BlockRequest}
 use Rattle.message.specs.declared.Incoming.{Incoming}
 use Rattle.message.specs.declared.Incoming.TheVariants as incoming
-use Rattle.history.specs.marks.Told.{Told, Received, heard, took_end}
-use Rattle.reincarnate.specs.bdev.DriverState.{DriverState}
-use Rattle.policy.specs.declared.Event.TheVariants.{Complaint}
+use Rattle.records.specs.Told.{Told, Received, heard, took_end}
+use Rattle.bdev.specs.DriverState.{DriverState}
+use Rattle.reincarnate.specs.declared.policy.Event.TheVariants.{Complaint}
 use Rattle.driven.specs.Waits.{Guarded, last_tick, IsTold}
 use Rattle.driven.specs.Comes.{ComesTo}
 use Rattle.driven.specs.Runs.{Begins, Comes, Complained, Posted, Ended}

@@ -1,24 +1,23 @@
 -- What posts, faults, ticks and starts leave of what a link has of its drivers.
 use Rattle.std.proofs.Common.{◌≡◌, ℕ, List, [], ◌∷◌, ◌++◌, Bool, true, refl, sym, ◌∙◌, ap, subst, Option, Some, None}
-use Rattle.std.specs.Prelude.{map, All, IfSome, is_some, length}
-use Rattle.std.specs.Prelude.{Result, Ok, Err, OnOk}
+use Rattle.std.specs.Prelude.{map, All, IfSome, is_some, length, Result, Ok, Err, OnOk}
 use Rattle.std.specs.Option.{option_map}
 use Rattle.reissue.specs.declared.link.LinkRefusal.{LinkRefusal}
-use Rattle.endpoint.specs.declared.Endpoint.{Endpoint}
+use Rattle.message.specs.declared.endpoint.Endpoint.{Endpoint}
 use Rattle.message.specs.declared.BlockRequest.{BlockRequest}
 use Rattle.message.specs.declared.Incoming.{Incoming}
 use Rattle.message.specs.declared.Incoming.TheVariants as incoming
-use Rattle.history.specs.marks.Marks.{Mark, Started, GaveUp, Issued}
-use Rattle.history.specs.marks.Open.{MayFollow}
-use Rattle.history.specs.marks.Opening.{Opening, Fits}
-use Rattle.history.specs.marks.Told.{received}
+use Rattle.records.specs.Marks.{Mark, Started, GaveUp, Issued}
+use Rattle.records.specs.Open.{MayFollow}
+use Rattle.records.specs.Opening.{Opening, Fits}
+use Rattle.records.specs.Told.{received}
 use Rattle.media.specs.Contents.{MediaState, adopted}
-use Rattle.reincarnate.specs.bdev.DriverState.{DriverState}
-use Rattle.policy.specs.declared.Event.TheVariants.{Exit, Complaint}
-use Rattle.policy.specs.Watch.{Watch, new_watch}
+use Rattle.bdev.specs.DriverState.{DriverState}
+use Rattle.reincarnate.specs.declared.policy.Event.TheVariants.{Exit, Complaint}
+use Rattle.reincarnate.specs.Watch.{Watch, new_watch}
 use Rattle.reincarnate.specs.Supply.{ReincarnationState}
-use Rattle.inline.specs.true_replies.Events.{IsOnMedia, opening_media}
-use Rattle.inline.specs.true_replies.Posted.{driver_at}
+use Rattle.true_replies.specs.Events.{IsOnMedia, opening_media}
+use Rattle.true_replies.specs.Posted.{driver_at}
 use Rattle.inline.specs.declared.running.Ran.{Ran}
 use Rattle.inline.specs.declared.running.Ran.TheVariants as ran
 use Rattle.inline.specs.Running.{Kept, RunLeaves}

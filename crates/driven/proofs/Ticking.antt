@@ -1,9 +1,9 @@
 -- Ticks that pass one after the other.
 use Rattle.std.proofs.Common.{◌≡◌, ℕ, ◌+◌, ◌-◌, ◌≤◌, max, false, refl, sym, ◌∙◌, ap, subst, arith, None}
-use Rattle.endpoint.specs.declared.Endpoint.{Endpoint}
-use Rattle.policy.specs.Watch.{Phase, Running, Waiting, GivenUp}
-use Rattle.policy.specs.Laws.{is_running}
-use Rattle.policy.specs.declared.Event.TheVariants.{Tick}
+use Rattle.message.specs.declared.endpoint.Endpoint.{Endpoint}
+use Rattle.reincarnate.specs.Watch.{Phase, Running, Waiting, GivenUp}
+use Rattle.reincarnate.specs.Laws.{is_running}
+use Rattle.reincarnate.specs.declared.policy.Event.TheVariants.{Tick}
 use Rattle.reincarnate.specs.declared.Action.TheVariants.{Start}
 use Rattle.reincarnate.specs.Supply.{ReincarnationState, Decides}
 use Rattle.media.specs.Contents.{adopted}

@@ -2,10 +2,10 @@
 use Rattle.std.specs.Prelude.{◌≡◌, ◌⊎◌, ℕ, ◌-◌, Bool, true, Some, None}
 use Rattle.message.specs.declared.Incoming.{Incoming}
 use Rattle.message.specs.declared.Incoming.TheVariants as incoming
-use Rattle.reincarnate.specs.bdev.declared.Step.TheVariants.{Failed}
-use Rattle.reincarnate.specs.bdev.DriverState.{DriverState}
-use Rattle.policy.specs.declared.Event.TheVariants.{Exit}
-use Rattle.policy.specs.Watch.{GivenUp}
+use Rattle.bdev.specs.declared.Step.TheVariants.{Failed}
+use Rattle.bdev.specs.DriverState.{DriverState}
+use Rattle.reincarnate.specs.declared.policy.Event.TheVariants.{Exit}
+use Rattle.reincarnate.specs.Watch.{GivenUp}
 use Rattle.inline.specs.Steps.{Machine, EndsIn}
 use Rattle.inline.specs.Comes.{machine_of, Replies, Spends}
 use Rattle.driven.specs.Waits.{Guarded, what_runs, last_tick, Waits, Starts, IsTold}

@@ -1,7 +1,7 @@
 -- What goes on in a link through all that it is told and gives.
 use Rattle.std.proofs.Common.{◌≡◌, List, [], ◌++◌, refl, sym, ◌∙◌, ap, subst, append_assoc}
-use Rattle.history.specs.marks.Told.{Told}
-use Rattle.reincarnate.specs.bdev.DriverState.{DriverState}
+use Rattle.records.specs.Told.{Told}
+use Rattle.bdev.specs.DriverState.{DriverState}
 use Rattle.reincarnate.specs.Runs.{Turn}
 use Rattle.driven.specs.Waits.{Guarded}
 use Rattle.driven.specs.Runs.{turns_until, Run, Begins, Comes, Complained, Posted, Ended}

@@ -1,9 +1,9 @@
 -- What a link has of its drivers, it has of a record with a mark more that changes nothing.
 use Rattle.std.specs.Prelude.{List, ◌∷◌, map}
 use Rattle.std.specs.Option.{option_map}
-use Rattle.history.specs.marks.Marks.{Mark, ChangesNothing}
-use Rattle.history.specs.marks.Opening.{Opening}
-use Rattle.reincarnate.specs.bdev.DriverState.{DriverState}
+use Rattle.records.specs.Marks.{Mark, ChangesNothing}
+use Rattle.records.specs.Opening.{Opening}
+use Rattle.bdev.specs.DriverState.{DriverState}
 use Rattle.inline.specs.InlineLaws.{noted_kept}
 use Rattle.driven.specs.Waits.{Guarded, DriversKept}
 

@@ -1,6 +1,4 @@
 -- A link whose drivers are replaced as the restart policy says.
-pub use Rattle.policy.specs as policy
-pub use Rattle.reincarnate.specs as reincarnate
 pub mod Step
 pub mod Waits
 pub mod Comes

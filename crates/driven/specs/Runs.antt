@@ -4,8 +4,8 @@ use Rattle.std.specs.Prelude.{◌≡◌, max, List, [], ◌∷◌, ◌++◌}
 use Rattle.message.specs.declared.BlockRequest.{BlockRequest}
 use Rattle.message.specs.declared.Incoming.{Incoming}
 use Rattle.message.specs.declared.Incoming.TheVariants as incoming
-use Rattle.reincarnate.specs.bdev.DriverState.{DriverState}
-use Rattle.policy.specs.declared.Event.TheVariants.{Exit, Tick, Complaint}
+use Rattle.bdev.specs.DriverState.{DriverState}
+use Rattle.reincarnate.specs.declared.policy.Event.TheVariants.{Exit, Tick, Complaint}
 use Rattle.reincarnate.specs.declared.Action.TheVariants.{Start}
 use Rattle.reincarnate.specs.Runs.{Turn, Met}
 use Rattle.reincarnate.specs.Follows.{Follows}

@@ -1,6 +1,6 @@
 -- What the reincarnation server knows of what goes on.
 use Rattle.std.specs.Prelude.{Bool, true, false}
-use Rattle.policy.specs.Watch.{Phase, Running, Waiting, GivenUp}
+use Rattle.reincarnate.specs.Watch.{Phase, Running, Waiting, GivenUp}
 
 -- the device was given up
 abbrev pub is_given_up : Phase → Bool

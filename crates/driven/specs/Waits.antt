@@ -1,15 +1,15 @@
 -- Drivers under a reincarnation server, and the ticks that pass while a start is awaited.
 use Rattle.std.specs.Prelude.{◌≡◌, ℕ, ◌+◌, ◌-◌, ◌≤◌, max, List, [], map, Option, Some, None}
 use Rattle.std.specs.Option.{option_map}
-use Rattle.endpoint.specs.declared.Endpoint.{Endpoint}
+use Rattle.message.specs.declared.endpoint.Endpoint.{Endpoint}
 use Rattle.message.specs.declared.BlockRequest.{BlockRequest}
-use Rattle.history.specs.marks.Marks.{Mark}
-use Rattle.history.specs.marks.Opening.{Opening}
+use Rattle.records.specs.Marks.{Mark}
+use Rattle.records.specs.Opening.{Opening}
 use Rattle.media.specs.Contents.{MediaState, adopted}
-use Rattle.reincarnate.specs.bdev.DriverState.{DriverState}
-use Rattle.policy.specs.declared.Event.{Event}
-use Rattle.policy.specs.declared.Event.TheVariants.{Tick}
-use Rattle.policy.specs.Watch.{Waiting, driver}
+use Rattle.bdev.specs.DriverState.{DriverState}
+use Rattle.reincarnate.specs.declared.policy.Event.{Event}
+use Rattle.reincarnate.specs.declared.policy.Event.TheVariants.{Tick}
+use Rattle.reincarnate.specs.Watch.{Waiting, driver}
 use Rattle.reincarnate.specs.declared.Action.{Action}
 use Rattle.reincarnate.specs.declared.Action.TheVariants.{Start}
 use Rattle.reincarnate.specs.Supply.{ReincarnationState, Decides}

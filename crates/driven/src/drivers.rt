@@ -1,14 +1,13 @@
 //! The drivers of a media, run by whoever waits for them, and started when the reincarnation server says.
 
-ghost use Rattle.std.specs.Prelude.{◌≡◌, ◌≢◌, ◌≤◌, ◌<◌, ◌+◌, ◌^◌, ◌⊎◌, ◌↔◌, ◌||◌, ◌==◌, true, false, List, [], ◌∷◌, ◌++◌, length, is_some};
-ghost use Rattle.std.specs.Prelude.{None, Err, OnOk, OnErr, IfOk};
+ghost use Rattle.std.specs.Prelude.{◌≡◌, ◌≢◌, ◌≤◌, ◌<◌, ◌+◌, ◌^◌, ◌⊎◌, ◌↔◌, ◌||◌, ◌==◌, true, false, List, [], ◌∷◌, ◌++◌, length, is_some, None, Err, OnOk, OnErr, IfOk};
 ghost use Rattle.std.specs.VecDeque.{deque_capacity};
-ghost use Rattle.history.specs.marks.Marks.{Mark};
-ghost use Rattle.history.specs.marks.Opening.{Opening};
-ghost use Rattle.history.specs.marks.Told.{received};
-ghost use Rattle.policy.specs.declared.Event.TheVariants.{Complaint};
-ghost use Rattle.policy.specs.Watch.{driver, new_watch, on, on_fault};
-ghost use Rattle.policy.specs.Laws.{is_running, tick_of};
+ghost use Rattle.records.specs.Marks.{Mark};
+ghost use Rattle.records.specs.Opening.{Opening};
+ghost use Rattle.records.specs.Told.{received};
+ghost use Rattle.reincarnate.specs.declared.policy.Event.TheVariants.{Complaint};
+ghost use Rattle.reincarnate.specs.Watch.{driver, new_watch, on, on_fault};
+ghost use Rattle.reincarnate.specs.Laws.{is_running, tick_of};
 ghost use Rattle.reincarnate.specs.declared.Action.{Action};
 ghost use Rattle.reincarnate.specs.Supply.{Decides};
 ghost use Rattle.driven.specs.Step.{is_given_up};
@@ -16,12 +15,12 @@ ghost use Rattle.driven.specs.Waits.{DriversKept, IsTold, Ticks, last_tick, unst
 ghost use Rattle.driven.specs.Comes.{ComesTo, WaitsFor};
 ghost use Rattle.driven.specs.Goes.{Leads};
 
-use endpoint::{DISK_DRIVER, Endpoint};
+use message::endpoint::{DISK_DRIVER, Endpoint};
 use inline::local::LocalDriver;
 use inline::running::{Ran, run, stamped};
 use media::Media;
 use message::{BlockRequest, Incoming};
-use policy::Event;
+use reincarnate::policy::Event;
 use reincarnate::{Action, Reincarnation};
 use reissue::link::LinkRefusal;
 use std::alloc::{AllocError, Global};

@@ -1,15 +1,14 @@
 //! A link whose drivers are replaced as the restart policy says.
 
-ghost use Rattle.std.specs.Prelude.{◌≡◌, ◌≢◌, ◌⊎◌, ◌↔◌, ◌≤◌, ◌<◌, ◌+◌, ◌++◌, ◌∷◌, true, false, List, [], length, All, None, Err, IfOk};
-ghost use Rattle.std.specs.Prelude.{OnOk, OnErr, is_ok, map};
-ghost use Rattle.history.specs.marks.Marks.{Mark, Issued};
-ghost use Rattle.history.specs.marks.Open.{MayFollow};
-ghost use Rattle.history.specs.marks.Opening.{Opening, Fits};
-ghost use Rattle.history.specs.marks.Told.{Posted, Complained, heard, received, took_end};
-ghost use Rattle.policy.specs.declared.Event.TheVariants.{Complaint};
-ghost use Rattle.policy.specs.Watch.{new_watch};
+ghost use Rattle.std.specs.Prelude.{◌≡◌, ◌≢◌, ◌⊎◌, ◌↔◌, ◌≤◌, ◌<◌, ◌+◌, ◌++◌, ◌∷◌, true, false, List, [], length, All, None, Err, IfOk, OnOk, OnErr, is_ok, map};
+ghost use Rattle.records.specs.Marks.{Mark, Issued};
+ghost use Rattle.records.specs.Open.{MayFollow};
+ghost use Rattle.records.specs.Opening.{Opening, Fits};
+ghost use Rattle.records.specs.Told.{Posted, Complained, heard, received, took_end};
+ghost use Rattle.reincarnate.specs.declared.policy.Event.TheVariants.{Complaint};
+ghost use Rattle.reincarnate.specs.Watch.{new_watch};
 ghost use Rattle.reissue.specs.Room.{room_needed};
-ghost use Rattle.inline.specs.true_replies.Events.{IsOnMedia, opening_media};
+ghost use Rattle.true_replies.specs.Events.{IsOnMedia, opening_media};
 ghost use Rattle.inline.specs.Inline.{IsReady};
 ghost use Rattle.driven.specs.Waits.{DriversKept, IsTold, last_tick, unstarted};
 ghost use Rattle.driven.specs.Comes.{Takes, IsOver};
@@ -17,8 +16,8 @@ ghost use Rattle.driven.specs.View.{guarded_of};
 ghost use Rattle.driven.specs.Goes.{GoesOn, goes_nowhere, goes_then};
 
 use crate::drivers::Drivers;
-use endpoint::Endpoint;
-use history::History;
+use message::endpoint::Endpoint;
+use board::History;
 use inline::local::LocalDriver;
 use media::Media;
 use message::{BlockRequest, Incoming};

@@ -1,13 +1,13 @@
 -- What the reincarnation server leaves when it is told of an exit or a complaint, and when it starts a driver.
 use Rattle.std.proofs.Common.{◌≡◌, ◌≢◌, ℕ, ◌+◌, List, ◌++◌, Bool, true, false, refl, sym, ◌∙◌, ap, ◌⊎◌, inl, inr}
 use Rattle.std.specs.Prelude.{nat_le, if◌then◌else◌, Some, ◌==◌}
-use Rattle.endpoint.specs.declared.Endpoint.{Endpoint}
-use Rattle.policy.specs.declared.Policy.{Policy}
-use Rattle.policy.specs.declared.Event.{Event}
-use Rattle.policy.specs.declared.Event.TheVariants.{Exit, Tick, Complaint}
-use Rattle.policy.specs.Faults.{LastFault, next_fault, gives_up, restart_tick}
-use Rattle.policy.specs.Watch as restart
-use Rattle.policy.specs.Watch.{Watch, Phase, Running, Waiting, GivenUp, driver, is_last_started, is_same_pulse, on, on_fault, on_report, on_start, on_tick}
+use Rattle.message.specs.declared.endpoint.Endpoint.{Endpoint}
+use Rattle.reincarnate.specs.declared.policy.Policy.{Policy}
+use Rattle.reincarnate.specs.declared.policy.Event.{Event}
+use Rattle.reincarnate.specs.declared.policy.Event.TheVariants.{Exit, Tick, Complaint}
+use Rattle.reincarnate.specs.Faults.{LastFault, next_fault, gives_up, restart_tick}
+use Rattle.reincarnate.specs.Watch as restart
+use Rattle.reincarnate.specs.Watch.{Watch, Phase, Running, Waiting, GivenUp, driver, is_last_started, is_same_pulse, on, on_fault, on_report, on_start, on_tick}
 use Rattle.reincarnate.specs.declared.Action.{Action}
 use Rattle.reincarnate.specs.declared.Action.TheVariants.{Nothing, WaitUntil, Start, GiveUp}
 use Rattle.reincarnate.specs.Supply.{ReincarnationState, Decides, action_of, handed_over}

@@ -1,7 +1,7 @@
 -- What events keep of the drivers and of the server's record.
 use Rattle.std.proofs.Common.{◌≡◌, ℕ, zero, suc, ◌+◌, ◌<◌, ◌≤◌, List, [], ◌∷◌, ◌++◌, Bool, true, false, cond, refl, sym, ◌∙◌, ap, subst, inl, inr, arith}
 use Rattle.std.specs.Prelude.{All, map, Option, Some, None, slice_get, slice_set, max}
-use Rattle.endpoint.specs.declared.Endpoint.{Endpoint}
+use Rattle.message.specs.declared.endpoint.Endpoint.{Endpoint}
 use Rattle.message.specs.declared.BlockRequest.{BlockRequest}
 use Rattle.message.specs.declared.BlockReply.{BlockReply}
 use Rattle.message.specs.declared.Incoming.{Incoming}
@@ -13,33 +13,33 @@ use Rattle.message.specs.declared.Kind.{Kind}
 use Rattle.message.specs.declared.Kind.TheVariants.{Read, Write}
 use Rattle.bdev.specs.DriverState.{DriverState, Work, chunk, fresh}
 use Rattle.bdev.specs.Promises.{StepKeeps, StepsAt as DriverStepsAt, MovesAtMostOne, MovesBytes, IsDriver}
-use Rattle.policy.specs.declared.Event.{Event as PolicyEvent}
-use Rattle.policy.specs.declared.Event.TheVariants as policy
-use Rattle.policy.specs.Watch as restart
-use Rattle.policy.specs.Watch.{driver, on}
-use Rattle.marks.specs.Marks.{Mark, Started, Answered, Flush, GaveUp, Fault, ChangesNothing}
-use Rattle.marks.specs.declared.Cause.{Cause}
-use Rattle.marks.specs.declared.Cause.TheVariants.{Exit, Hung}
-use Rattle.marks.specs.Open.{IsIn, counts}
-use Rattle.marks.specs.Opening.{Opening, contents_at}
-use Rattle.marks.specs.Told.{received}
+use Rattle.reincarnate.specs.declared.policy.Event.{Event as PolicyEvent}
+use Rattle.reincarnate.specs.declared.policy.Event.TheVariants as policy
+use Rattle.reincarnate.specs.Watch as restart
+use Rattle.reincarnate.specs.Watch.{driver, on}
+use Rattle.records.specs.Marks.{Mark, Started, Answered, Flush, GaveUp, Fault, ChangesNothing}
+use Rattle.records.specs.declared.marks.Cause.{Cause}
+use Rattle.records.specs.declared.marks.Cause.TheVariants.{Exit, Hung}
+use Rattle.records.specs.Open.{IsIn, counts}
+use Rattle.records.specs.Opening.{Opening, contents_at}
+use Rattle.records.specs.Told.{received}
 use Rattle.schedule.specs.declared.Sent.{Sent}
 use Rattle.schedule.specs.declared.Event.TheVariants as event
 use Rattle.schedule.specs.Groups.{Group, event_of}
 use Rattle.inline.specs.Inline.{IsReady}
 use Rattle.inline.specs.Steps.{HandsOver}
-use Rattle.inline.specs.true_replies.State.{State, state_of, Invariant}
-use Rattle.inline.specs.true_replies.Posted.{IsSent, since_start}
-use Rattle.inline.specs.true_replies.Events.{opening_media, IsOnMedia, sent_after, live_after, reply_of, Stepped, SteppedOlder, Torn, Dead, Replaced, Repeated, Delivered, Noted as AlsoNoted}
-use Rattle.inline.proofs.true_replies.Keeps.{next_keeps, opening_holds}
-use Rattle.inline.proofs.true_replies.Others.{handed_keeps}
-use Rattle.faultless.specs.Faultless.{without_faults}
-use Rattle.run_log.specs.declared.log.Entry.{Entry}
-use Rattle.run_log.specs.declared.log.Entry.TheVariants as entry
-use Rattle.run_log.specs.declared.log.Post.{Post}
-use Rattle.run_log.specs.Posts.{post_of}
-use Rattle.run_log.specs.Noted.{Noted, grouped, with_mark, with_entry}
-use Rattle.run_log.proofs.NotedLaws.{mark_in, one_more}
+use Rattle.true_replies.specs.State.{State, state_of, Invariant}
+use Rattle.true_replies.specs.Posted.{IsSent, since_start}
+use Rattle.true_replies.specs.Events.{opening_media, IsOnMedia, sent_after, live_after, reply_of, Stepped, SteppedOlder, Torn, Dead, Replaced, Repeated, Delivered, Noted as AlsoNoted}
+use Rattle.true_replies.proofs.Keeps.{next_keeps, opening_holds}
+use Rattle.true_replies.proofs.Others.{handed_keeps}
+use Rattle.schedule.specs.Faultless.{without_faults}
+use Rattle.schedule.specs.declared.log.Entry.{Entry}
+use Rattle.schedule.specs.declared.log.Entry.TheVariants as entry
+use Rattle.schedule.specs.declared.log.Post.{Post}
+use Rattle.schedule.specs.Posts.{post_of}
+use Rattle.schedule.specs.Noted.{Noted, grouped, with_mark, with_entry}
+use Rattle.schedule.proofs.NotedLaws.{mark_in, one_more}
 use Rattle.driver_events.specs.declared.ruling.Ruling.{Ruling}
 use Rattle.driver_events.specs.declared.ruling.Ruling.TheVariants as ruling
 use Rattle.run_drivers.specs.Disks.{Disks, seen, reply_in, sent_at, Steps, NoStep, CurrentSteps, OlderSteps, torn_media, Dies, NoneDies, CurrentDies, OlderDies, Hangs, NoneHangs, CurrentHangs, OlderHangs, LinesUpAgain, NoneLinesUp, CurrentLinesUp, OlderLinesUp, Repeats, started, opened_disks}

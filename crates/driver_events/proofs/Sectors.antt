@@ -11,12 +11,12 @@ use Rattle.bdev.specs.declared.Step.{Step}
 use Rattle.bdev.specs.declared.Step.TheVariants.{Working, Idle, Done, Failed}
 use Rattle.bdev.specs.DriverState.{DriverState, Work}
 use Rattle.bdev.specs.Promises.{StepKeeps, StepsAt as DriverStepsAt, MovesBytes}
-use Rattle.policy.specs.Watch as restart
-use Rattle.marks.specs.declared.Cause.{Cause}
-use Rattle.endpoint.specs.declared.Endpoint.{Endpoint}
+use Rattle.reincarnate.specs.Watch as restart
+use Rattle.records.specs.declared.marks.Cause.{Cause}
+use Rattle.message.specs.declared.endpoint.Endpoint.{Endpoint}
 use Rattle.schedule.specs.declared.Event.{Event}
 use Rattle.schedule.specs.declared.Event.TheVariants as event
-use Rattle.run_log.specs.declared.log.Post.{Post}
+use Rattle.schedule.specs.declared.log.Post.{Post}
 use Rattle.driver_events.specs.declared.ruling.Ruling.{Ruling}
 use Rattle.driver_events.specs.declared.ruling.Ruling.TheVariants as ruling
 use Rattle.run_drivers.specs.Disks.{Disks, Steps, NoStep, CurrentSteps, OlderSteps, torn_media, Dies, NoneDies, CurrentDies, OlderDies, Hangs, NoneHangs, CurrentHangs, OlderHangs, LinesUpAgain, NoneLinesUp, CurrentLinesUp, OlderLinesUp, Repeats}

@@ -1,17 +1,17 @@
 -- The scene after a tick, by what the code did.
 use Rattle.std.proofs.Common.{◌≡◌, ℕ, List, ◌∷◌, Some, None, refl, sym, ◌∙◌, ap, subst}
 use Rattle.std.specs.Prelude.{map}
-use Rattle.endpoint.specs.declared.Endpoint.{Endpoint}
+use Rattle.message.specs.declared.endpoint.Endpoint.{Endpoint}
 use Rattle.message.specs.declared.Incoming.TheVariants as incoming
 use Rattle.bdev.specs.DriverState.{DriverState}
-use Rattle.policy.specs.declared.Event.TheVariants.{Tick}
-use Rattle.policy.specs.Watch as restart
-use Rattle.policy.specs.Watch.{Watch, driver, on}
-use Rattle.marks.specs.declared.Cause.TheVariants.{Hung}
+use Rattle.reincarnate.specs.declared.policy.Event.TheVariants.{Tick}
+use Rattle.reincarnate.specs.Watch as restart
+use Rattle.reincarnate.specs.Watch.{Watch, driver, on}
+use Rattle.records.specs.declared.marks.Cause.TheVariants.{Hung}
 use Rattle.reincarnate.specs.declared.Action.TheVariants.{Nothing, WaitUntil, Start, GiveUp}
 use Rattle.reincarnate.specs.Supply.{ReincarnationState, Decides}
-use Rattle.run_log.specs.Noted.{Noted, with_entry}
-use Rattle.run_log.specs.declared.log.Entry.TheVariants as entry
+use Rattle.schedule.specs.Noted.{Noted, with_entry}
+use Rattle.schedule.specs.declared.log.Entry.TheVariants as entry
 use Rattle.driver_events.specs.declared.ruling.Ruling.TheVariants as ruling
 use Rattle.run_drivers.specs.Disks.{Disks, started}
 use Rattle.driver_events.specs.Scene.{Scene, beaten, faulted, ActsAt, Ticks, next_started}

@@ -2,21 +2,21 @@
 use Rattle.std.specs.Prelude.{◌≡◌, ◌⊎◌, ◌≤◌, ℕ, List, [], ◌∷◌, length, map, All, Option, Some, None}
 use Rattle.message.specs.declared.Incoming.{Incoming}
 use Rattle.bdev.specs.DriverState.{DriverState}
-use Rattle.policy.specs.declared.Policy.{Policy}
-use Rattle.policy.specs.Watch.{Watch, driver}
-use Rattle.marks.specs.Marks.{Mark, Started}
-use Rattle.marks.specs.Open.{IsIn}
-use Rattle.marks.specs.Opening.{Opening, contents_at}
-use Rattle.marks.specs.Told.{received}
+use Rattle.reincarnate.specs.declared.policy.Policy.{Policy}
+use Rattle.reincarnate.specs.Watch.{Watch, driver}
+use Rattle.records.specs.Marks.{Mark, Started}
+use Rattle.records.specs.Open.{IsIn}
+use Rattle.records.specs.Opening.{Opening, contents_at}
+use Rattle.records.specs.Told.{received}
 use Rattle.schedule.specs.declared.Event.{Event}
 use Rattle.schedule.specs.Groups.{event_of}
-use Rattle.inline.specs.true_replies.Posted.{since_start}
-use Rattle.inline.specs.true_replies.State.{Invariant}
-use Rattle.inline.specs.true_replies.Events.{opening_media, IsOnMedia}
+use Rattle.true_replies.specs.Posted.{since_start}
+use Rattle.true_replies.specs.State.{Invariant}
+use Rattle.true_replies.specs.Events.{opening_media, IsOnMedia}
 use Rattle.inline.specs.Inline.{IsReady}
-use Rattle.faultless.specs.Faultless.{without_faults}
-use Rattle.run_log.specs.declared.log.Post.{Post}
-use Rattle.run_log.specs.Noted.{Noted, marks_in}
+use Rattle.schedule.specs.Faultless.{without_faults}
+use Rattle.schedule.specs.declared.log.Post.{Post}
+use Rattle.schedule.specs.Noted.{Noted, marks_in}
 use Rattle.run_drivers.specs.Disks.{Disks, seen}
 use Rattle.driver_events.specs.Scene.{Scene, Opens, Plays}
 

@@ -1,6 +1,6 @@
 -- What the reincarnation server rules at a fault.
 use Rattle.std.specs.Prelude.{Bool, true, false}
-use Rattle.policy.specs.Watch as restart
+use Rattle.reincarnate.specs.Watch as restart
 use Rattle.driver_events.specs.declared.ruling.Ruling.{Ruling}
 use Rattle.driver_events.specs.declared.ruling.Ruling.TheVariants.{Ignored, Fault, GivesUp}
 

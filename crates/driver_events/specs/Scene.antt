@@ -1,24 +1,24 @@
 -- A run between two events, but for the calls that wait, and what each event does to it.
 use Rattle.std.specs.Prelude.{◌≡◌, ℕ, ◌+◌, List, [], ◌∷◌, Bool, true, false, not, ◌&&◌, Option, Some, None, if◌then◌else◌, slice_get}
-use Rattle.endpoint.specs.declared.Endpoint.{Endpoint}
+use Rattle.message.specs.declared.endpoint.Endpoint.{Endpoint}
 use Rattle.message.specs.declared.Incoming.{Incoming}
 use Rattle.message.specs.declared.Incoming.TheVariants as incoming
 use Rattle.media.specs.Contents.{MediaState}
 use Rattle.bdev.specs.declared.Step.{Step}
 use Rattle.bdev.specs.declared.Step.TheVariants.{Working, Idle, Done, Failed}
 use Rattle.bdev.specs.DriverState.{DriverState}
-use Rattle.policy.specs.declared.Policy.{Policy}
-use Rattle.policy.specs.declared.Event.{Event as PolicyEvent}
-use Rattle.policy.specs.declared.Event.TheVariants as policy
-use Rattle.policy.specs.Watch as restart
-use Rattle.policy.specs.Watch.{Watch, driver, on}
-use Rattle.marks.specs.declared.Cause.{Cause}
-use Rattle.marks.specs.declared.Cause.TheVariants.{Exit, Hung}
+use Rattle.reincarnate.specs.declared.policy.Policy.{Policy}
+use Rattle.reincarnate.specs.declared.policy.Event.{Event as PolicyEvent}
+use Rattle.reincarnate.specs.declared.policy.Event.TheVariants as policy
+use Rattle.reincarnate.specs.Watch as restart
+use Rattle.reincarnate.specs.Watch.{Watch, driver, on}
+use Rattle.records.specs.declared.marks.Cause.{Cause}
+use Rattle.records.specs.declared.marks.Cause.TheVariants.{Exit, Hung}
 use Rattle.schedule.specs.declared.Sent.{Sent}
 use Rattle.schedule.specs.declared.Event.{Event}
 use Rattle.schedule.specs.declared.Event.TheVariants as event
-use Rattle.run_log.specs.Noted.{Noted, with_entry}
-use Rattle.run_log.specs.declared.log.Entry.TheVariants as entry
+use Rattle.schedule.specs.Noted.{Noted, with_entry}
+use Rattle.schedule.specs.declared.log.Entry.TheVariants as entry
 use Rattle.driver_events.specs.declared.ruling.Ruling.{Ruling}
 use Rattle.driver_events.specs.declared.ruling.Ruling.TheVariants.{Ignored, Fault, GivesUp}
 use Rattle.driver_events.specs.Ruling.{ruling_of}

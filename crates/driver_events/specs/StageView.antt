@@ -1,7 +1,7 @@
 -- The drivers under the reincarnation server, as contracts see them.
 use Rattle.std.specs.Prelude.{map}
 use Rattle.bdev.specs.DriverState.{DriverState}
-use Rattle.run_log.specs.Noted.{Noted}
+use Rattle.schedule.specs.Noted.{Noted}
 use Rattle.driver_events.specs.Scene.{Scene}
 use Rattle.run_drivers.specs.View.{disks_of}
 use Rattle.driver_events.specs.declared.stage.Stage.{Stage}

@@ -5,5 +5,3 @@ pub mod laws;
 pub mod ruling;
 pub mod stage;
 
-// passed on: the drivers of a run
-pub use run_drivers::{drivers, unit};

@@ -1,12 +1,12 @@
 //! What the reincarnation server rules at a fault.
 
 ghost use Rattle.std.specs.Prelude.{◌≡◌, ◌<◌, ◌^◌};
-ghost use Rattle.policy.specs.declared.Event.TheVariants.{Exit, Complaint};
-ghost use Rattle.policy.specs.Watch.{on};
+ghost use Rattle.reincarnate.specs.declared.policy.Event.TheVariants.{Exit, Complaint};
+ghost use Rattle.reincarnate.specs.Watch.{on};
 ghost use Rattle.driver_events.specs.Ruling.{ruling_of};
 
-use endpoint::Endpoint;
-use policy::Event;
+use message::endpoint::Endpoint;
+use reincarnate::policy::Event;
 use reincarnate::{Action, Reincarnation};
 
 /// What follows an exit or a complaint.

@@ -1,21 +1,21 @@
 //! The drivers under the reincarnation server, and what each event of a schedule does.
 
 ghost use Rattle.std.specs.Prelude.{◌≡◌, ◌<◌, ◌≤◌, ◌+◌, ◌^◌, ◌∷◌, None, IfOk, length, map, vec_len, vec_capacity};
-ghost use Rattle.policy.specs.declared.Event.TheVariants.{Tick};
-ghost use Rattle.policy.specs.Watch.{driver as driver_of, new_watch, on};
-ghost use Rattle.run_log.specs.Noted.{Noted};
+ghost use Rattle.reincarnate.specs.declared.policy.Event.TheVariants.{Tick};
+ghost use Rattle.reincarnate.specs.Watch.{driver as driver_of, new_watch, on};
+ghost use Rattle.schedule.specs.Noted.{Noted};
 
 use crate::ruling::{Ruling, exit};
 use bdev::Step;
-use endpoint::{DISK_DRIVER, Endpoint};
+use message::endpoint::{DISK_DRIVER, Endpoint};
 use inline::local::LocalDriver;
-use marks::Cause;
+use records::marks::Cause;
 use media::Media;
 use message::Incoming;
-use policy::Event as PolicyEvent;
+use reincarnate::policy::Event as PolicyEvent;
 use reincarnate::{Action, Reincarnation};
 use run_drivers::drivers::Drivers;
-use run_log::log::{Entry, Log};
+use schedule::log::{Entry, Log};
 use schedule::Event;
 use std::alloc::{AllocError, Global};
 
@@ -61,7 +61,7 @@ impl<D: LocalDriver> Stage<D> {
     ghost use Rattle.driver_events.specs.StageView.{scene_of};
     ghost use Rattle.run_drivers.specs.View.{HasRoom};
     ghost use Rattle.std.specs.Prelude.{slice_get};
-    ghost use Rattle.run_log.specs.LogView.{said, room_in};
+    ghost use Rattle.schedule.specs.LogView.{said, room_in};
     ghost use Rattle.run_drivers.specs.Disks.{Hangs, Repeats};
 
     /// Before the first event, at tick 0: the first driver of the supply of a reincarnation server that was told nothing yet is started on

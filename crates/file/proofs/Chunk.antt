@@ -5,36 +5,36 @@ use Rattle.std.specs.Prelude.{nat_lt, ◌&&◌, ◌==◌, if◌then◌else◌}
 use Rattle.std.proofs.lemmas.Bool.{cases_eq, cases_lt, cond-true, cond-false, lt-ltb, le-ltb, ne_eqb, and_from, or_left, or_right}
 use Rattle.std.proofs.lemmas.Nat.{div-add-mod', div-mul-add, mod-mul-add}
 use Rattle.layout.specs.declared.Geometry.{Geometry}
-use Rattle.store.specs.tree.Tree.{File}
-use Rattle.store.specs.tree.Sums.{put}
-use Rattle.store.specs.tree.Changes.{file_after_write}
-use Rattle.store.specs.tree.Space.{numbers_in_zone}
-use Rattle.store.specs.tree.ZonesNeeded.{page_limit}
-use Rattle.store.proofs.tree.Maps.{put-other}
-use Rattle.store.proofs.tree.Pages.{pages_fit}
-use Rattle.store.specs.volume.declared.Inode.{Inode}
-use Rattle.store.specs.volume.Reading.{Disk}
-use Rattle.store.specs.volume.Pieces.{Pieces, pieces}
-use Rattle.store.specs.volume.Nodes.{file_byte, page_byte, page_zone}
+use Rattle.tree.specs.Tree.{File}
+use Rattle.tree.specs.Sums.{put}
+use Rattle.tree.specs.Changes.{file_after_write}
+use Rattle.tree.specs.Space.{numbers_in_zone}
+use Rattle.tree.specs.ZonesNeeded.{page_limit}
+use Rattle.tree.proofs.Maps.{put-other}
+use Rattle.tree.proofs.Pages.{pages_fit}
+use Rattle.volume.specs.declared.Inode.{Inode}
+use Rattle.volume.specs.Reading.{Disk}
+use Rattle.volume.specs.Pieces.{Pieces, pieces}
+use Rattle.volume.specs.Nodes.{file_byte, page_byte, page_zone}
 use Rattle.store.specs.Rows.{with_bytes}
 use Rattle.store.proofs.Rows.{row_new, row_old}
-use Rattle.file_pages.specs.cutting.zone.zone_laws.Steps.{with_page}
-use Rattle.file_pages.specs.cutting.zone.zone_laws.Raw.{with_bytes as with_page_bytes}
-use Rattle.file_pages.specs.cutting.zone.zone_laws.Chunks.{grown, resized, Replaces}
-use Rattle.file_pages.specs.cutting.zone.zone_laws.Composite.{Attached}
-use Rattle.file_pages.proofs.cutting.zone.zone_laws.Chunks.{chunk_is_written}
-use Rattle.file_pages.proofs.cutting.zone.zone_laws.Fewer.{need_less}
-use Rattle.file_pages.proofs.cutting.zone.zone_laws.Missing.{page_takes_missing}
-use Rattle.file_pages.proofs.cutting.zone.zone_laws.Keeps.{weaker}
-use Rattle.file_pages.proofs.cutting.zone.zone_laws.Files.{same_file}
-use Rattle.file_pages.specs.cutting.zone.Pages.{MayHold}
-use Rattle.file_pages.specs.cutting.zone.Files.{AttachesPage}
-use Rattle.file_pages.specs.Writing.{MayWrite, IsPageZone, PageIsWritten, WritesPage, with_chunk}
-use Rattle.file_pages.specs.Changing.{MayChange, BecomesFile, file_at}
+use Rattle.zone.specs.ZoneSteps.{with_page}
+use Rattle.zone.specs.Raw.{with_bytes as with_page_bytes}
+use Rattle.zone.specs.Chunks.{grown, resized, Replaces}
+use Rattle.zone.specs.Composite.{Attached}
+use Rattle.zone.proofs.Chunks.{chunk_is_written}
+use Rattle.zone.proofs.Fewer.{need_less}
+use Rattle.zone.proofs.Missing.{page_takes_missing}
+use Rattle.zone.proofs.Keeps.{weaker}
+use Rattle.zone.proofs.Files.{same_file}
+use Rattle.zone.specs.Pages.{MayHold}
+use Rattle.zone.specs.Files.{AttachesPage}
+use Rattle.file.specs.Writing.{MayWrite, IsPageZone, PageIsWritten, WritesPage, with_chunk}
+use Rattle.file.specs.PageChanges.{MayChange, BecomesFile, file_at}
 use Rattle.file.specs.Changing.{written_at, MayWriteInside, WritesInside}
-use Rattle.file_pages.proofs.Becoming.{becomes, becomes_again, may_change_after}
-use Rattle.file_pages.proofs.Rest.{wide}
-use Rattle.file_pages.proofs.Sizes.{covered, page_begins}
+use Rattle.file.proofs.Becoming.{becomes, becomes_again, may_change_after}
+use Rattle.file.proofs.Rest.{wide}
+use Rattle.file.proofs.Sizes.{covered, page_begins}
 
 -- The bytes of a file past its end are 0.
 pub past_end : (g : Geometry) (v : Pieces) (i : Inode) (q : ℕ) → i.size ≤ q → file_byte g v i q ≡ 0

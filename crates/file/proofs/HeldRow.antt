@@ -5,27 +5,27 @@ use Rattle.std.proofs.lemmas.Bool.{ne_eqb}
 use Rattle.std.proofs.lemmas.List.{get_or-take, take-append-drop}
 use Rattle.std.proofs.Math.ListN.{take, drop, length-take, length-drop}
 use Rattle.layout.specs.declared.Geometry.{Geometry}
-use Rattle.store.specs.tree.Sums.{put}
-use Rattle.store.specs.tree.Space.{numbers_in_zone}
-use Rattle.store.specs.tree.ZonesNeeded.{zones_needed}
-use Rattle.store.proofs.tree.Maps.{is_put}
-use Rattle.store.specs.volume.declared.Inode.{Inode}
-use Rattle.store.specs.volume.Reading.{Disk}
-use Rattle.store.specs.volume.Pieces.{Pieces, pieces}
-use Rattle.store.specs.volume.Nodes.{file_of, page_zone}
+use Rattle.tree.specs.Sums.{put}
+use Rattle.tree.specs.Space.{numbers_in_zone}
+use Rattle.tree.specs.ZonesNeeded.{zones_needed}
+use Rattle.tree.proofs.Maps.{is_put}
+use Rattle.volume.specs.declared.Inode.{Inode}
+use Rattle.volume.specs.Reading.{Disk}
+use Rattle.volume.specs.Pieces.{Pieces, pieces}
+use Rattle.volume.specs.Nodes.{file_of, page_zone}
 use Rattle.store.specs.Volume.{SameHead}
-use Rattle.file_pages.specs.cutting.zone.zone_laws.Steps.{with_page}
-use Rattle.file_pages.specs.cutting.zone.zone_laws.Composite.{Attached}
-use Rattle.file_pages.proofs.cutting.zone.zone_laws.Raw.{no_attributes}
-use Rattle.file_pages.proofs.cutting.zone.zone_laws.Stay.{places_stay, write_keeps_numbers}
-use Rattle.file_pages.proofs.cutting.zone.zone_laws.Files.{same_file}
-use Rattle.file_pages.proofs.cutting.zone.zone_laws.Keeps.{weaker}
-use Rattle.file_pages.proofs.cutting.zone.zone_laws.Missing.{page_takes_missing}
-use Rattle.file_pages.specs.cutting.zone.Pages.{MayHold}
-use Rattle.file_pages.specs.cutting.zone.Files.{AttachesPage}
-use Rattle.file_pages.specs.cutting.zone.zone_places.Parts.{HasZones}
-use Rattle.file_pages.proofs.cutting.zone.Attaching.{page_attached}
-use Rattle.file_pages.specs.Writing.{MayWrite, IsPageZone, WritesPage}
+use Rattle.zone.specs.ZoneSteps.{with_page}
+use Rattle.zone.specs.Composite.{Attached}
+use Rattle.zone.proofs.Raw.{no_attributes}
+use Rattle.zone.proofs.Stay.{places_stay, write_keeps_numbers}
+use Rattle.zone.proofs.Files.{same_file}
+use Rattle.zone.proofs.Keeps.{weaker}
+use Rattle.zone.proofs.Missing.{page_takes_missing}
+use Rattle.zone.specs.Pages.{MayHold}
+use Rattle.zone.specs.Files.{AttachesPage}
+use Rattle.zone.specs.PlaceParts.{HasZones}
+use Rattle.zone.proofs.Attaching.{page_attached}
+use Rattle.file.specs.Writing.{MayWrite, IsPageZone, WritesPage}
 use Rattle.file.specs.Changing.{MayWriteInside, WritesInside, IsHeldRow}
 use Rattle.file.proofs.Chunk.{may_write, writes_chunk, chunk_zone}
 use Rattle.file.proofs.SoFar.{SoFar, so_far_none, may_front, may_go_on, goes_on, all_written}

@@ -1,7 +1,15 @@
-pub use Rattle.file_pages.proofs as file_pages
-pub use Rattle.file_pages.proofs.cutting as cutting
-pub use Rattle.file_pages.proofs.zone_laws as zone_laws
+pub mod Pages
+pub mod Parts
+pub mod Joined
+pub mod Written
+pub mod Becoming
+pub mod Sizes
+pub mod Rest
+pub mod Resizing
 pub mod Chunk
 pub mod SoFar
 pub mod HeldRow
 pub mod Spaces
+pub mod Needed
+pub mod Touched
+pub mod RoomSpaces

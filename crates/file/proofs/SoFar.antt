@@ -6,23 +6,23 @@ use Rattle.std.proofs.lemmas.Bool.{cases_eq, cases_lt, cond-true, cond-false, lt
 use Rattle.std.proofs.lemmas.List.{take-append-drop, take_all}
 use Rattle.std.proofs.Math.ListN.{take, drop, length-take, length-drop}
 use Rattle.layout.specs.declared.Geometry.{Geometry}
-use Rattle.store.specs.tree.Tree.{File}
-use Rattle.store.specs.tree.Changes.{file_after_write}
+use Rattle.tree.specs.Tree.{File}
+use Rattle.tree.specs.Changes.{file_after_write}
 use Rattle.std.proofs.Math.Seq.{take-add}
-use Rattle.store.specs.tree.Space.{numbers_in_zone}
-use Rattle.store.specs.tree.ZonesNeeded.{zones_needed}
-use Rattle.store.specs.volume.declared.Inode.{Inode}
-use Rattle.store.specs.volume.Reading.{Disk}
-use Rattle.store.specs.volume.Pieces.{Pieces, pieces}
-use Rattle.file_pages.specs.cutting.zone.zone_laws.Chunks.{grown, resized}
-use Rattle.file_pages.proofs.cutting.zone.zone_laws.Chunks.{writes_join}
-use Rattle.file_pages.proofs.cutting.zone.zone_laws.Fewer.{need_less}
-use Rattle.file_pages.proofs.cutting.zone.zone_laws.Files.{same_file}
-use Rattle.file_pages.specs.Changing.{MayChange, BecomesFile, file_at, MayResize, Resized}
+use Rattle.tree.specs.Space.{numbers_in_zone}
+use Rattle.tree.specs.ZonesNeeded.{zones_needed}
+use Rattle.volume.specs.declared.Inode.{Inode}
+use Rattle.volume.specs.Reading.{Disk}
+use Rattle.volume.specs.Pieces.{Pieces, pieces}
+use Rattle.zone.specs.Chunks.{grown, resized}
+use Rattle.zone.proofs.Chunks.{writes_join}
+use Rattle.zone.proofs.Fewer.{need_less}
+use Rattle.zone.proofs.Files.{same_file}
+use Rattle.file.specs.PageChanges.{MayChange, BecomesFile, file_at, MayResize, Resized}
 use Rattle.file.specs.Changing.{written_at, MayWriteAt, MayWriteInside, WritesInside, WritesAt, Grows}
-use Rattle.file_pages.proofs.Becoming.{becomes_again, may_change_after}
-use Rattle.file_pages.proofs.Rest.{wide, becomes_none}
-use Rattle.file_pages.proofs.Sizes.{begins, covered}
+use Rattle.file.proofs.Becoming.{becomes_again, may_change_after}
+use Rattle.file.proofs.Rest.{wide, becomes_none}
+use Rattle.file.proofs.Sizes.{begins, covered}
 use Rattle.file.proofs.Chunk.{past_end}
 
 -- Two writes, the second where the first ends.

@@ -4,24 +4,24 @@ use mathlib.Core.Logic.{inl, inr}
 use Rattle.std.specs.Prelude.{slice_index, Some, take}
 use Rattle.std.proofs.lemmas.Bool.{cases_eq, cases_lt, cond-true, cond-false, lt-ltb, le-ltb}
 use Rattle.layout.specs.declared.Geometry.{Geometry}
-use Rattle.store.specs.tree.Sums.{put, sum_below}
-use Rattle.store.specs.tree.Tree.{Node}
-use Rattle.store.specs.tree.FileCalls.{bytes_from}
-use Rattle.store.specs.tree.ZonesNeeded.{zones_needed}
-use Rattle.store.specs.tree.Space.{numbers_in_zone, zones_of}
-use Rattle.store.proofs.tree.Maps.{put-same, put-other, same_sum, sum_put}
-use Rattle.store.specs.volume.Pieces.{Pieces}
-use Rattle.store.specs.volume.declared.Inode.{Inode}
-use Rattle.store.specs.volume.Nodes.{file_of, nodes_of}
-use Rattle.file_pages.proofs.cutting.zone.zone_laws.volume_laws.Ranges.{marked_below}
-use Rattle.file_pages.specs.cutting.zone.zone_laws.Steps.{node_from, marked_in}
-use Rattle.file_pages.specs.cutting.zone.zone_laws.Room.{taken_by}
-use Rattle.file_pages.proofs.cutting.zone.zone_laws.Room.{nodes_take_marked}
-use Rattle.file_pages.proofs.cutting.zone.zone_laws.Files.{nodes_change_with}
-use Rattle.file_pages.proofs.cutting.zone.zone_laws.Keeps.{sound_is_sound_but}
+use Rattle.tree.specs.Sums.{put, sum_below}
+use Rattle.tree.specs.Tree.{Node}
+use Rattle.tree.specs.FileCalls.{bytes_from}
+use Rattle.tree.specs.ZonesNeeded.{zones_needed}
+use Rattle.tree.specs.Space.{numbers_in_zone, zones_of}
+use Rattle.tree.proofs.Maps.{put-same, put-other, same_sum, sum_put}
+use Rattle.volume.specs.Pieces.{Pieces}
+use Rattle.volume.specs.declared.Inode.{Inode}
+use Rattle.volume.specs.Nodes.{file_of, nodes_of}
+use Rattle.volume.proofs.Ranges.{marked_below}
+use Rattle.zone.specs.ZoneSteps.{node_from, marked_in}
+use Rattle.zone.specs.Room.{taken_by}
+use Rattle.zone.proofs.Room.{nodes_take_marked}
+use Rattle.zone.proofs.Files.{nodes_change_with}
+use Rattle.zone.proofs.Keeps.{sound_is_sound_but}
 use Rattle.file.specs.Laws.{BytesAreRead, NodeTakesHeld, RoomIsSpace}
-use Rattle.file_pages.specs.Reading.{read_count}
-use Rattle.file_pages.proofs.Becoming.{plain, plain_inode, plain_sound, plain_takes}
+use Rattle.file.specs.Reading.{read_count}
+use Rattle.file.proofs.Becoming.{plain, plain_inode, plain_sound, plain_takes}
 
 -- the first bytes of a row, one by one
 firsts : (byte : ℕ → ℕ) (n at : ℕ) (bytes : List ℕ) → n ≤ length bytes → ((k : ℕ) → k < n → slice_index bytes k ≡ byte (at + k)) → take n bytes ≡ bytes_from byte at n

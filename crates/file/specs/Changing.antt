@@ -1,17 +1,17 @@
 -- What a write of any length to one inode's file leaves.
 use Rattle.std.specs.Prelude.{◌≢◌, ◌≤◌, ◌<◌, ℕ, ◌+◌, List, length, slice_index, Bool}
 use Rattle.layout.specs.declared.Geometry.{Geometry}
-use Rattle.store.specs.tree.Tree.{File}
-use Rattle.store.specs.tree.Changes.{file_after_write}
-use Rattle.store.specs.tree.ZonesNeeded.{zones_needed}
-use Rattle.store.specs.tree.Space.{numbers_in_zone, data_zones}
-use Rattle.store.specs.volume.Reading.{Disk}
-use Rattle.store.specs.volume.Pieces.{Pieces, pieces}
-use Rattle.file_pages.specs.cutting.zone.zone_laws.Steps.{marked_in}
-use Rattle.file_pages.specs.cutting.zone.zone_laws.Chunks.{grown, resized}
-use Rattle.file_pages.specs.cutting.zone.zone_places.Parts.{HasZones}
+use Rattle.tree.specs.Tree.{File}
+use Rattle.tree.specs.Changes.{file_after_write}
+use Rattle.tree.specs.ZonesNeeded.{zones_needed}
+use Rattle.tree.specs.Space.{numbers_in_zone, data_zones}
+use Rattle.volume.specs.Reading.{Disk}
+use Rattle.volume.specs.Pieces.{Pieces, pieces}
+use Rattle.zone.specs.ZoneSteps.{marked_in}
+use Rattle.zone.specs.Chunks.{grown, resized}
+use Rattle.zone.specs.PlaceParts.{HasZones}
 use Rattle.store.specs.Volume.{SameHead}
-use Rattle.file_pages.specs.Changing.{MayChange, BecomesFile, file_at}
+use Rattle.file.specs.PageChanges.{MayChange, BecomesFile, file_at}
 
 -- that file after a write
 abbrev pub written_at : Geometry → Pieces → ℕ → ℕ → List ℕ → File

@@ -2,17 +2,17 @@
 use Rattle.std.specs.Prelude.{◌≡◌, ◌↔◌, ◌≤◌, ℕ, List, length, take, Bool, Some, IsTrue}
 use Rattle.layout.specs.declared.Geometry.{Geometry}
 use Rattle.layout.specs.Places.{IsGeometry}
-use Rattle.store.specs.tree.Sums.{put}
-use Rattle.store.specs.tree.Tree.{File, Node}
-use Rattle.store.specs.tree.FileCalls.{bytes_read}
-use Rattle.store.specs.tree.ZonesNeeded.{zones_needed}
-use Rattle.store.specs.tree.Space.{numbers_in_zone, data_zones, zones_of, held_of}
-use Rattle.store.specs.volume.Pieces.{Pieces}
-use Rattle.store.specs.volume.Nodes.{is_marked, nodes_of}
-use Rattle.store.specs.volume.Holds.{IsSound}
-use Rattle.file_pages.specs.cutting.zone.zone_laws.Room.{taken_by}
-use Rattle.file_pages.specs.Reading.{HasFileBytes, read_count}
-use Rattle.file_pages.specs.Changing.{file_at}
+use Rattle.tree.specs.Sums.{put}
+use Rattle.tree.specs.Tree.{File, Node}
+use Rattle.tree.specs.FileCalls.{bytes_read}
+use Rattle.tree.specs.ZonesNeeded.{zones_needed}
+use Rattle.tree.specs.Space.{numbers_in_zone, data_zones, zones_of, held_of}
+use Rattle.volume.specs.Pieces.{Pieces}
+use Rattle.volume.specs.Nodes.{is_marked, nodes_of}
+use Rattle.volume.specs.Holds.{IsSound}
+use Rattle.zone.specs.Room.{taken_by}
+use Rattle.file.specs.Reading.{HasFileBytes, read_count}
+use Rattle.file.specs.PageChanges.{file_at}
 use Rattle.file.specs.Changing.{HasZonesFor}
 
 -- The bytes that were read into a slice are those that a read of as many bytes as it is long gives.

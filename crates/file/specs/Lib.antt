@@ -1,6 +1,11 @@
+-- What reading files means, writing to one page, and setting sizes and times.
 -- What writing files means.
-pub use Rattle.file_pages.specs as file_pages
-pub use Rattle.file_pages.specs.cutting as cutting
-pub use Rattle.file_pages.specs.zone_laws as zone_laws
+-- How many zones a write takes, and whether there are zones enough for it.
+pub mod Reading
+pub mod Writing
+pub mod PageChanges
 pub mod Changing
 pub mod Laws
+pub mod Need
+pub mod Room
+pub mod RoomLaws

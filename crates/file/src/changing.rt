@@ -1,18 +1,18 @@
 //! The bytes of files, changed: writes of any length.
 
 ghost use Rattle.std.specs.Prelude.{◌≡◌, ◌≤◌, ◌<◌, ◌+◌, ◌*◌, ◌/◌, ◌%◌, ℕ, length, take, IfErr, IfOk};
-ghost use Rattle.store.specs.volume.Pieces.{pieces};
+ghost use Rattle.volume.specs.Pieces.{pieces};
 ghost use Rattle.store.specs.World.{Turns};
 ghost use Rattle.store.specs.Halts.{Ends, IsHalt};
 ghost use Rattle.store.specs.Volume.{IsOn};
-ghost use Rattle.file_pages.specs.Changing.{MayChange};
+ghost use Rattle.file.specs.PageChanges.{MayChange};
 ghost use Rattle.file.specs.Changing.{MayWriteAt, WritesAt, MayWriteInside, WritesInside, IsHeldRow, Grows};
 
-use file_pages::changing::resize;
-use file_pages::inodes::load;
-use file_pages::rows::{find_row, held_before};
-use file_pages::writing::write_page;
-use file_pages::zones::attach;
+use crate::file_pages::changing::resize;
+use inode::inode_table::load;
+use crate::file_pages::rows::{find_row, held_before};
+use crate::file_pages::writing::write_page;
+use zone::pages::attach;
 use layout::Geometry;
 use store::{Blocks, Halt};
 

@@ -2,15 +2,15 @@
 use Rattle.std.proofs.Common.{◌≡◌, ◌∙◌, sym, subst, refl, ap, arith, ℕ, List, [], ◌∷◌, ◌++◌, Bool, true, false, not, ◌&&◌, ◌||◌, IsTrue, Option, Some, None, is_some, if◌then◌else◌, nat_lt}
 use Rattle.tree.specs.declared.Who.{Who}
 use Rattle.tree.specs.declared.Call.{Call}
-use Rattle.message.specs.endpoint.declared.Endpoint.{Endpoint}
+use Rattle.message.specs.declared.endpoint.Endpoint.{Endpoint}
 use Rattle.message.specs.declared.BlockRequest.{BlockRequest}
 use Rattle.message.specs.declared.Incoming.TheVariants as incoming
-use Rattle.reissue.specs.marks.Marks.{Mark, last_started, gave_up}
-use Rattle.reissue.specs.marks.Open.{open_requests, greatest, has_none}
-use Rattle.reissue.specs.marks.Opening.{contents_at}
-use Rattle.reissue.specs.marks.Told.{Told, Posted, Complained, Received, took_end}
-use Rattle.reissue.specs.marks.Acts.{Act, Began, Absorbed, AtLink, Outbox, told_of, marks_after, has_absorbed, outbox_after, owed_after_act, with_act, needs_message, target, MayPost, KeepsRules}
-use Rattle.legal.specs.ServerCall.{Serving, Rules}
+use Rattle.records.specs.Marks.{Mark, last_started, gave_up}
+use Rattle.records.specs.Open.{open_requests, greatest, has_none}
+use Rattle.records.specs.Opening.{contents_at}
+use Rattle.records.specs.Told.{Told, Posted, Complained, Received, took_end}
+use Rattle.records.specs.Acts.{Act, Began, Absorbed, AtLink, Outbox, told_of, marks_after, has_absorbed, outbox_after, owed_after_act, with_act, needs_message, target, MayPost, KeepsRules}
+use Rattle.records.specs.ServerCall.{Serving, Rules}
 use Rattle.reissue.specs.Calls.{Truth}
 use Rattle.file_server.specs.Leaving.{IsEndLast, CutLeaves}
 

@@ -1,14 +1,14 @@
 -- A server stands through what is done at its link between two calls, through messages and calls.
 use Rattle.std.proofs.Common.{◌≡◌, ◌∙◌, sym, subst, List, ◌∷◌}
-use Rattle.tree.specs.layout.declared.Geometry.{Geometry}
+use Rattle.layout.specs.declared.Geometry.{Geometry}
 use Rattle.tree.specs.Tree.{Tree}
-use Rattle.reissue.specs.marks.Marks.{Mark, Took}
-use Rattle.reissue.specs.marks.Disk.{Contents}
-use Rattle.reissue.specs.marks.Opening.{contents_at}
-use Rattle.reissue.specs.marks.Acts.{Outbox, IsAtRest, marks_after}
-use Rattle.legal.specs.Legal.{IsLegal, tree_after}
-use Rattle.legal.specs.View.{Frames, ReadsBack}
-use Rattle.legal.specs.ServerCall.{Serving, Serves, HasTree, has_open_file}
+use Rattle.records.specs.Marks.{Mark, Took}
+use Rattle.records.specs.Disk.{Contents}
+use Rattle.records.specs.Opening.{contents_at}
+use Rattle.records.specs.Acts.{Outbox, IsAtRest, marks_after}
+use Rattle.records.specs.Legal.{IsLegal, tree_after}
+use Rattle.records.specs.View.{Frames, ReadsBack}
+use Rattle.records.specs.ServerCall.{Serving, Serves, HasTree, has_open_file}
 use Rattle.reissue.specs.Calls.{Truth}
 use Rattle.file_server.specs.Over.{SameServing}
 use Rattle.file_server.specs.Laws.{SameStands, MessageStands, AnswerStands, CutStands}

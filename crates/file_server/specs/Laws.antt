@@ -5,11 +5,11 @@ use Rattle.tree.specs.declared.Who.{Who}
 use Rattle.tree.specs.declared.Call.{Call}
 use Rattle.tree.specs.Tree.{Tree}
 use Rattle.tree.specs.Answers.{Answer}
-use Rattle.reissue.specs.marks.Marks.{Mark, Took}
-use Rattle.reissue.specs.marks.Opening.{Opening}
-use Rattle.reissue.specs.marks.Told.{received}
-use Rattle.reissue.specs.marks.Acts.{Absorbed, marks_after}
-use Rattle.legal.specs.ServerCall.{Serving, Replied, Cut}
+use Rattle.records.specs.Marks.{Mark, Took}
+use Rattle.records.specs.Opening.{Opening}
+use Rattle.records.specs.Told.{received}
+use Rattle.records.specs.Acts.{Absorbed, marks_after}
+use Rattle.records.specs.ServerCall.{Serving, Replied, Cut}
 use Rattle.reissue.specs.Calls.{Truth}
 use Rattle.file_server.specs.Over.{CallsOver, AbsorbsOver, SameServing, Stands, Hears}
 

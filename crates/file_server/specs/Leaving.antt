@@ -3,11 +3,11 @@ use Rattle.std.specs.Prelude.{◌≡◌, ℕ, List, [], ◌∷◌, false, IsTrue
 use Rattle.tree.specs.declared.Who.{Who}
 use Rattle.tree.specs.declared.Call.{Call}
 use Rattle.tree.specs.Tree.{Tree}
-use Rattle.reissue.specs.marks.Marks.{Mark, gave_up}
-use Rattle.reissue.specs.marks.Opening.{Opening}
-use Rattle.reissue.specs.marks.Told.{Told, Received, took_end}
-use Rattle.reissue.specs.marks.Acts.{marks_after, needs_message}
-use Rattle.legal.specs.ServerCall.{Serving, Cut}
+use Rattle.records.specs.Marks.{Mark, gave_up}
+use Rattle.records.specs.Opening.{Opening}
+use Rattle.records.specs.Told.{Told, Received, took_end}
+use Rattle.records.specs.Acts.{marks_after, needs_message}
+use Rattle.records.specs.ServerCall.{Serving, Cut}
 use Rattle.reissue.specs.Calls.{Truth}
 use Rattle.file_server.specs.Over.{CallsOver, Stands}
 

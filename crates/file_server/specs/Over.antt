@@ -7,12 +7,12 @@ use Rattle.tree.specs.declared.Outcome.{Outcome as TreeOutcome}
 use Rattle.tree.specs.declared.Outcome.TheVariants as tree
 use Rattle.tree.specs.Tree.{Tree}
 use Rattle.tree.specs.Answers.{answer_of}
-use Rattle.reissue.specs.marks.Marks.{Mark}
-use Rattle.reissue.specs.marks.Disk.{Contents}
-use Rattle.reissue.specs.marks.Opening.{Opening, contents_at}
-use Rattle.reissue.specs.marks.Told.{received}
-use Rattle.reissue.specs.marks.Acts.{Absorbed, marks_after}
-use Rattle.legal.specs.ServerCall.{Serving, Serves, Outcome, Replied, Cut, CallKeeps, AbsorbKeeps}
+use Rattle.records.specs.Marks.{Mark}
+use Rattle.records.specs.Disk.{Contents}
+use Rattle.records.specs.Opening.{Opening, contents_at}
+use Rattle.records.specs.Told.{received}
+use Rattle.records.specs.Acts.{Absorbed, marks_after}
+use Rattle.records.specs.ServerCall.{Serving, Serves, Outcome, Replied, Cut, CallKeeps, AbsorbKeeps}
 use Rattle.reissue.specs.Calls.{Truth}
 
 -- what a call gave back

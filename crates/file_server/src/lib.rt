@@ -9,7 +9,7 @@ ghost use Rattle.file_server.specs.Over.{CallsOver, AbsorbsOver, SameServing, ou
 
 pub mod laws;
 
-use legal::Serve;
+use records::legal::Serve;
 use message::Incoming;
 use reissue::Link;
 use tree::{Call, Outcome, Who};

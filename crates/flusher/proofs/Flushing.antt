@@ -2,17 +2,17 @@
 use Rattle.std.proofs.Common.{◌≡◌, ℕ, zero, suc, ◌+◌, ◌*◌, ◌/◌, ◌%◌, ◌<◌, ◌≤◌, List, [], ◌∷◌, ◌++◌, append_assoc, refl, sym, ap, subst, ◌∙◌, arith, true, false, Option, Some, None, Result, Ok, Err, IsErr}
 use Rattle.std.proofs.Math.Nat.{div-add-mod, mod-lt, mul_comm}
 use mathlib.Core.Logic.{inl, inr}
-use Rattle.reissue.specs.pending_table.Moves.{DiskState, IsBusy}
-use Rattle.reissue.specs.pending_table.Entries.{pending_of}
-use Rattle.cache.specs.slots.declared.slot.Slot.{Slot}
-use Rattle.cache.specs.slots.declared.state.State.{State}
-use Rattle.cache.specs.slots.declared.state.State.TheVariants.{Clean, Dirty, Writing, Changed}
-use Rattle.cache.specs.block_transfers.declared.refusals.Cut.{Cut}
-use Rattle.cache.specs.slots.Slots.{ticket_of, is_clean, is_dirty}
-use Rattle.cache.specs.slots.Edits.{AllClean, SomeUnclean, IssuesLowest}
+use Rattle.reissue.specs.Moves.{DiskState, IsBusy}
+use Rattle.reissue.specs.Entries.{pending_of}
+use Rattle.cache.specs.declared.slot.Slot.{Slot}
+use Rattle.cache.specs.declared.state.State.{State}
+use Rattle.cache.specs.declared.state.State.TheVariants.{Clean, Dirty, Writing, Changed}
+use Rattle.cache.specs.declared.refusals.Cut.{Cut}
+use Rattle.cache.specs.Slots.{ticket_of, is_clean, is_dirty}
+use Rattle.cache.specs.Edits.{AllClean, SomeUnclean, IssuesLowest}
 use Rattle.cache.specs.Frames.{CacheAgrees}
 use Rattle.cache.specs.Calls.{Caching, IsReady, IsStuck, PostsAlone, Runs, Keeps, Serves}
-use Rattle.reissue.specs.marks.Told.{Told, Posted, Complained, Received}
+use Rattle.records.specs.Told.{Told, Posted, Complained, Received}
 use Rattle.reissue.specs.Posts.{OnlyPosts}
 use Rattle.cache.proofs.Tied.{way_ticket, no_ticket}
 use Rattle.cache.proofs.Agreeing.{same_view, byte_or}

@@ -1,10 +1,10 @@
 -- What flushing and syncing do.
 use Rattle.std.specs.Prelude.{◌≡◌, ◌⊎◌, ℕ, zero, suc, List, Option, Some, None, Result, Ok, Err, false}
-use Rattle.reissue.specs.pending_table.Moves.{DiskState, Begun}
-use Rattle.reissue.specs.pending_table.Entries.{pending_of}
-use Rattle.cache.specs.slots.declared.slot.Slot.{Slot}
-use Rattle.cache.specs.block_transfers.declared.refusals.Cut.{Cut}
-use Rattle.cache.specs.slots.Edits.{AllClean, IssuesLowest}
+use Rattle.reissue.specs.Moves.{DiskState, Begun}
+use Rattle.reissue.specs.Entries.{pending_of}
+use Rattle.cache.specs.declared.slot.Slot.{Slot}
+use Rattle.cache.specs.declared.refusals.Cut.{Cut}
+use Rattle.cache.specs.Edits.{AllClean, IssuesLowest}
 use Rattle.cache.specs.Frames.{CacheAgrees, view}
 use Rattle.cache.specs.Calls.{Caching, Serves}
 

@@ -2,12 +2,10 @@
 #![tactic(auto)]
 
 ghost use Rattle.std.specs.Prelude.{◌≡◌, ◌<◌, ◌≤◌, Ok, IfErr, OnOk};
-ghost use Rattle.cache.specs.Calls.{caching, held_by, frame_count, IsReady, IsLive, IsStuck, IsWhyCut, IsFrame, PostsAlone, Does, Keeps};
-ghost use Rattle.cache.specs.Calls.{LinkGoesOn, WantsFlush};
+ghost use Rattle.cache.specs.Calls.{caching, held_by, frame_count, IsReady, IsLive, IsStuck, IsWhyCut, IsFrame, PostsAlone, Does, Keeps, LinkGoesOn, WantsFlush, messages_left};
 ghost use Rattle.reissue.specs.Transfers.{begun_in};
-ghost use Rattle.cache.specs.Calls.{messages_left};
 ghost use Rattle.cache.specs.Takes.{NoReadBegun};
-ghost use Rattle.cache.specs.slots.Edits.{AllClean, SomeUnclean};
+ghost use Rattle.cache.specs.Edits.{AllClean, SomeUnclean};
 ghost use Rattle.cache.specs.declared.frame.Frame.{Frame};
 ghost use Rattle.flusher.specs.Flushing.{WritesLowest, IsIdle, Syncs};
 

@@ -11,10 +11,10 @@ use Rattle.image.specs.Contents.{contents}
 use Rattle.std.proofs.lemmas.Bool.{cases_Bool, cases_lt, and_left, cond-true, cond-false}
 use Rattle.volume.specs.Nodes.{is_marked}
 use Rattle.volume.specs.Findings.{lacks_inode_bit, lacks_zone_bit, lacks_root, has_bad_mode, has_bad_size}
-use Rattle.image.proofs.volume_laws.Sums.{none_below}
+use Rattle.volume.proofs.Sums.{none_below}
 use Rattle.image.specs.declared.Image.{Image}
-use Rattle.passes.proofs.Contents.{g, v, out_of_range}
-use Rattle.volume.specs.tree.Sums.{some_below, least_below}
+use Rattle.image.proofs.Contents.{g, v, out_of_range}
+use Rattle.tree.specs.Sums.{some_below, least_below}
 use Rattle.volume.specs.declared.Finding.{Finding}
 use Rattle.volume.specs.Verdict.{Verdict, Clean, Found, Test, found, first_found, place_limit, tests, verdict_of, verdict_of_pieces}
 use Rattle.image.specs.Least.{least_of}

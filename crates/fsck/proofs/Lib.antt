@@ -1,3 +1,7 @@
-pub use Rattle.layout.proofs as layout
+pub mod Entries
+pub mod Doubles
+pub mod Counts
+pub mod Walks
+pub mod Standing
 pub mod Firsts
 pub mod Trees

@@ -2,10 +2,10 @@
 use Rattle.std.proofs.Common.{◌≡◌, ◌<◌, ℕ, List, get_or, sym, subst, ◌∙◌, arith, w8, Fits}
 use Rattle.std.specs.Prelude.{All}
 use Rattle.std.proofs.lemmas.List.{get_or_default}
-use Rattle.volume.specs.tree.Tree.{Tree}
+use Rattle.tree.specs.Tree.{Tree}
 use Rattle.volume.specs.declared.Finding.{Finding}
 use Rattle.volume.specs.Verdict.{Clean, Found, HoldsClosed, verdict_of}
-use Rattle.image.proofs.volume_laws.CleanTree.{clean_is_a_tree}
+use Rattle.volume.proofs.CleanTree.{clean_is_a_tree}
 
 -- each byte of an image is one
 bytes_low : (image : List ℕ) → ((i : ℕ) → Fits w8 (get_or image i 0)) → All (λ b. b < 256) image

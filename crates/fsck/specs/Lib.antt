@@ -1,5 +1,6 @@
+-- The passes over directories.
 -- The check of a volume.
-pub use Rattle.volume.specs as volume
-pub use Rattle.layout.specs as layout
+pub mod Named
+pub mod Reached
 pub mod Parts
 pub mod Shown

@@ -1,7 +1,7 @@
 -- What a verdict says.
 use Rattle.std.specs.Prelude.{◌≡◌, ℕ, List, Ok}
 use Rattle.layout.specs.Places.{geometry_of}
-use Rattle.volume.specs.tree.Tree.{Tree}
+use Rattle.tree.specs.Tree.{Tree}
 use Rattle.volume.specs.Verdict as volume
 use Rattle.volume.specs.Verdict.{HoldsClosed}
 use Rattle.fsck.specs.declared.verdict.Verdict.{Verdict}

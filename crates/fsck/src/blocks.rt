@@ -6,8 +6,8 @@ ghost use Rattle.image.specs.Contents.{contents};
 ghost use Rattle.fsck.specs.Parts.{block_tests, first_of};
 
 use image::Image;
-use passes::spare_zone;
-use scan::hole;
+use image::spare_zone;
+use crate::scan::hole;
 use volume::Finding;
 
 /// The first of these findings.

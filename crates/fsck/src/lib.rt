@@ -3,6 +3,7 @@
 
 mod blocks;
 mod names;
+pub mod scan;
 mod structure;
 mod verdict;
 mod zones;
@@ -14,7 +15,6 @@ ghost use Rattle.fsck.specs.Shown.{HasItsGeometry, TellsWhetherTree, shown};
 ghost use Rattle.fsck.specs.Parts.{first_of};
 
 use image::Image;
-pub use new_volume::{MkfsRefusal, mkfs};
 use std::alloc::Global;
 pub use verdict::{Clean, OutOfMemory, Verdict};
 use volume::Finding;

@@ -7,7 +7,7 @@ ghost use Rattle.image.specs.Contents.{contents};
 ghost use Rattle.fsck.specs.Parts.{entry_tests, first_of, tree_tests};
 
 use image::Image;
-use scan::{bad_dots, bad_entry, bad_links, bad_target, count_names, mark_reached, misplaced};
+use crate::scan::{bad_dots, bad_entry, bad_links, bad_target, count_names, mark_reached, misplaced};
 use std::alloc::{AllocError, Global};
 use volume::Finding;
 

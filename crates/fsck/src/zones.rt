@@ -6,7 +6,7 @@ ghost use Rattle.image.specs.Contents.{contents};
 ghost use Rattle.fsck.specs.Parts.{first_of, zone_tests};
 
 use image::Image;
-use passes::{bad_bit, bad_number, count_uses, used_twice};
+use image::{bad_bit, bad_number, count_uses, used_twice};
 use std::alloc::{AllocError, Global};
 use volume::Finding;
 

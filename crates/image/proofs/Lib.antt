@@ -1,5 +1,8 @@
-pub use Rattle.volume.proofs.tree as tree
-pub use Rattle.inode.proofs.volume_laws as volume_laws
 pub mod Places
 pub mod Texts
 pub mod Leasts
+pub mod Contents
+pub mod Sweep
+pub mod Steps
+pub mod Counting
+pub mod Spares

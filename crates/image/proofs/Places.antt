@@ -9,7 +9,7 @@ use Rattle.layout.specs.declared.Geometry.{Geometry}
 use Rattle.layout.specs.Bytes.{u32_at}
 use Rattle.layout.specs.Places.{IsGeometry, geometry_of, table_blocks}
 use Rattle.layout.proofs.Parsed.{block_sizes, geometry_fits}
-use Rattle.volume.specs.tree.Space.{numbers_in_zone}
+use Rattle.tree.specs.Space.{numbers_in_zone}
 use Rattle.volume.specs.declared.Inode.{Inode}
 use Rattle.volume.specs.Reading.{disk_of, u16_in, u32_in, bit_in, map_bit, inode_bit, zone_bit, is_inode, is_data_zone, inode_in, inode_block, inode_offset, inode_of_disk}
 use Rattle.volume.specs.Pieces.{Pieces, pieces}

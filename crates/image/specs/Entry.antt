@@ -1,7 +1,7 @@
 -- An entry by its 64 bytes.
 use Rattle.std.specs.Prelude.{ℕ, ◌+◌, slice_index, Bool, not, ◌&&◌, ◌==◌}
-use Rattle.volume.specs.tree.Sums.{some_below}
-use Rattle.volume.specs.tree.Names.{Name, is_name}
+use Rattle.tree.specs.Sums.{some_below}
+use Rattle.tree.specs.Names.{Name, is_name}
 use Rattle.volume.specs.Nodes.{text_in}
 
 -- all 60 bytes of the field are this name's, filled with zeros

@@ -1,7 +1,8 @@
 -- What the bytes of an image say of its volume.
-pub use Rattle.layout.specs as layout
-pub use Rattle.volume.specs.tree as tree
-pub use Rattle.volume.specs as volume
+-- The passes over zones.
 pub mod Contents
 pub mod Entry
 pub mod Least
+pub mod Entered
+pub mod Counts
+pub mod Spare

@@ -1,8 +1,18 @@
 //! A volume in the bytes of an image: its bits, its inodes, the numbers in its zones and the entries of its directories.
+//!
+//! The passes of a check over the zones that inodes name: which numbers are bad, how often a zone is named, and which zones are spare.
+//! Each indirect zone is entered once a level.
 #![tactic(auto)]
 
+mod enter;
 mod entry;
 mod least;
+mod spare;
+mod uses;
+
+pub use enter::bad_number;
+pub use spare::spare_zone;
+pub use uses::{bad_bit, count_uses, used_twice};
 
 ghost use Rattle.std.specs.Prelude.{◌≡◌, ◌≤◌, ◌<◌, ◌+◌, ◌-◌, ◌*◌, ◌/◌, ◌%◌, ℕ, Ok, Err, MatchResult, length, slice_index, true};
 ghost use Rattle.layout.specs.Places.{geometry_of};
@@ -25,7 +35,7 @@ pub struct Image<'a> {
 static BLANK: [u8; 64] = [0; 64];
 
 impl<'a> Image<'a> {
-    ghost use Rattle.volume.specs.tree.Space.{numbers_in_zone, pages_of};
+    ghost use Rattle.tree.specs.Space.{numbers_in_zone, pages_of};
     ghost use Rattle.volume.specs.Reading.{bit_in, is_data_zone, is_inode};
     ghost use Rattle.volume.specs.Nodes.{entry_count_of, file_byte, is_marked, last_block, number, page_zone, second_block};
     ghost use Rattle.volume.specs.Entries.{is_directory_inode};

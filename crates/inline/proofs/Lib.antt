@@ -1,4 +1,3 @@
-pub use Rattle.true_replies.proofs as true_replies
 pub mod Runs
 pub mod Going
 pub mod Opens

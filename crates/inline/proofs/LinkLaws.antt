@@ -2,14 +2,14 @@
 use Rattle.std.proofs.Common.{◌≡◌, ℕ, ◌+◌, ◌<◌, List, [], ◌∷◌, ◌++◌, Bool, true, refl, sym, ◌∙◌, ap, subst, arith, max, Option, Some, None}
 use Rattle.std.specs.Prelude.{All, is_some, IfSome}
 use Rattle.std.proofs.lemmas.List.Elements.{All-head, All-tail}
-use Rattle.endpoint.specs.declared.Endpoint.{Endpoint}
+use Rattle.message.specs.declared.endpoint.Endpoint.{Endpoint}
 use Rattle.message.specs.declared.BlockRequest.{BlockRequest}
 use Rattle.message.specs.declared.BlockReply.{BlockReply}
 use Rattle.message.specs.declared.Incoming.TheVariants as incoming
-use Rattle.true_replies.specs.marks.Marks.{Mark, Started, Issued}
-use Rattle.true_replies.specs.marks.Open.{MayFollow}
-use Rattle.true_replies.specs.marks.Opening.{Opening, Fits, contents_at}
-use Rattle.true_replies.specs.marks.Told.{received}
+use Rattle.records.specs.Marks.{Mark, Started, Issued}
+use Rattle.records.specs.Open.{MayFollow}
+use Rattle.records.specs.Opening.{Opening, Fits, contents_at}
+use Rattle.records.specs.Told.{received}
 use Rattle.media.specs.Contents.{MediaState, adopted}
 use Rattle.bdev.specs.DriverState.{DriverState}
 use Rattle.true_replies.specs.Posted.{driver_at}

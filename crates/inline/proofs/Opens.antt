@@ -1,8 +1,8 @@
 -- What a link that was just made has.
 use Rattle.std.proofs.Common.{◌≡◌, ℕ, List, [], false, refl, arith, None}
 use Rattle.std.specs.Prelude.{All}
-use Rattle.endpoint.specs.declared.Endpoint.{Endpoint}
-use Rattle.true_replies.specs.marks.Opening.{Opening}
+use Rattle.message.specs.declared.endpoint.Endpoint.{Endpoint}
+use Rattle.records.specs.Opening.{Opening}
 use Rattle.media.specs.Contents.{MediaState}
 use Rattle.bdev.specs.DriverState.{DriverState, fresh}
 use Rattle.bdev.specs.Promises.{IsDriver}

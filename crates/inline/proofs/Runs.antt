@@ -1,8 +1,8 @@
 -- Handing over a request and a step, as events.
 use Rattle.std.proofs.Common.{◌≡◌, ℕ, ◌<◌, List, [], ◌∷◌, length, drop, get_or, true, refl, sym, ap, subst, arith}
 use Rattle.message.specs.declared.BlockRequest.{BlockRequest}
-use Rattle.true_replies.specs.marks.Marks.{Mark}
-use Rattle.true_replies.specs.marks.Opening.{Opening, contents_at}
+use Rattle.records.specs.Marks.{Mark}
+use Rattle.records.specs.Opening.{Opening, contents_at}
 use Rattle.media.specs.Contents.{MediaState}
 use Rattle.bdev.specs.declared.Accept.{Accept}
 use Rattle.bdev.specs.declared.Step.{Step}

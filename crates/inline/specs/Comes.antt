@@ -1,6 +1,6 @@
 -- What a running driver comes to, and when nothing comes any more.
 use Rattle.std.specs.Prelude.{◌≡◌, ℕ, List, Option, Some}
-use Rattle.endpoint.specs.declared.Endpoint.{Endpoint}
+use Rattle.message.specs.declared.endpoint.Endpoint.{Endpoint}
 use Rattle.message.specs.declared.BlockRequest.{BlockRequest}
 use Rattle.message.specs.declared.BlockReply.{BlockReply}
 use Rattle.media.specs.Contents.{MediaState}

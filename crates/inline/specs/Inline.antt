@@ -1,9 +1,9 @@
 -- What a link that runs its drivers has of them.
 use Rattle.std.specs.Prelude.{◌≡◌, ℕ, List, All, Option, Some, is_some, IfSome}
-use Rattle.endpoint.specs.declared.Endpoint.{Endpoint}
+use Rattle.message.specs.declared.endpoint.Endpoint.{Endpoint}
 use Rattle.message.specs.declared.BlockRequest.{BlockRequest}
-use Rattle.true_replies.specs.marks.Marks.{Mark}
-use Rattle.true_replies.specs.marks.Opening.{Opening}
+use Rattle.records.specs.Marks.{Mark}
+use Rattle.records.specs.Opening.{Opening}
 use Rattle.media.specs.Contents.{MediaState}
 use Rattle.bdev.specs.DriverState.{DriverState, range_while_fresh}
 use Rattle.bdev.specs.Promises.{IsDriver}

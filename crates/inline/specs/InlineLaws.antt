@@ -1,15 +1,14 @@
 -- What a link's drivers and media have of a record, they have of it with a mark more that changes nothing.
-use Rattle.std.specs.Prelude.{ℕ, List, ◌∷◌, Option}
-use Rattle.endpoint.specs.declared.Endpoint.{Endpoint}
+use Rattle.std.specs.Prelude.{ℕ, List, ◌∷◌, Option, [], is_some}
+use Rattle.message.specs.declared.endpoint.Endpoint.{Endpoint}
 use Rattle.message.specs.declared.BlockRequest.{BlockRequest}
-use Rattle.true_replies.specs.marks.Marks.{Mark, ChangesNothing}
-use Rattle.true_replies.specs.marks.Opening.{Opening, contents_at}
+use Rattle.records.specs.Marks.{Mark, ChangesNothing}
+use Rattle.records.specs.Opening.{Opening, contents_at}
 use Rattle.media.specs.Contents.{MediaState}
 use Rattle.bdev.specs.DriverState.{DriverState}
 use Rattle.true_replies.specs.State.{state_of}
 use Rattle.true_replies.specs.Events.{opening_media, Noted}
 use Rattle.true_replies.proofs.Keeps.{next_keeps}
-use Rattle.std.specs.Prelude.{[], is_some}
 use Rattle.inline.specs.Inline.{LinkKept}
 
 pub noted_kept : (v : Opening) (media : MediaState) (generation : ℕ) (endpoint : Endpoint) (running : Option DriverState)

@@ -2,9 +2,9 @@
 use Rattle.std.specs.Prelude.{ℕ, List, [], Bool, true, false}
 use Rattle.message.specs.declared.BlockRequest.{BlockRequest}
 use Rattle.message.specs.declared.Incoming.TheVariants as incoming
-use Rattle.true_replies.specs.marks.Marks.{Mark}
-use Rattle.true_replies.specs.marks.Opening.{Opening, contents_at}
-use Rattle.true_replies.specs.marks.Told.{received}
+use Rattle.records.specs.Marks.{Mark}
+use Rattle.records.specs.Opening.{Opening, contents_at}
+use Rattle.records.specs.Told.{received}
 use Rattle.media.specs.Contents.{MediaState}
 use Rattle.bdev.specs.declared.Step.{Step}
 use Rattle.bdev.specs.declared.Step.TheVariants.{Working, Idle, Done, Failed}

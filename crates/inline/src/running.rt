@@ -2,8 +2,8 @@
 
 ghost use Rattle.std.specs.Prelude.{◌≡◌, ◌<◌, ◌≤◌, List, drop, true};
 ghost use Rattle.std.specs.VecDeque.{deque_capacity};
-ghost use Rattle.true_replies.specs.marks.Marks.{Mark};
-ghost use Rattle.true_replies.specs.marks.Opening.{Opening};
+ghost use Rattle.records.specs.Marks.{Mark};
+ghost use Rattle.records.specs.Opening.{Opening};
 ghost use Rattle.media.specs.Contents.{MediaState};
 ghost use Rattle.inline.specs.Running.{Kept, StepLeaves, RunLeaves};
 ghost use Rattle.inline.specs.Steps.{Machine, HandsOver, StepsOnce, RunsTo};
@@ -11,7 +11,7 @@ ghost use Rattle.inline.specs.Comes.{stamp};
 
 use crate::local::LocalDriver;
 use bdev::{Accept, Answer, Step};
-use endpoint::Endpoint;
+use message::endpoint::Endpoint;
 use media::Media;
 use message::{BlockReply, BlockRequest};
 use std::collections::VecDeque;

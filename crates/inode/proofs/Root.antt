@@ -6,7 +6,7 @@ use Rattle.std.proofs.lemmas.Bool.{cases_lt}
 use Rattle.layout.specs.declared.Geometry.{Geometry}
 use Rattle.layout.specs.Places.{IsGeometry, table_blocks}
 use Rattle.layout.proofs.Parsed.{block_sizes}
-use Rattle.volume_laws.specs.volume.Reading.{inode_block, inode_offset}
+use Rattle.volume.specs.Reading.{inode_block, inode_offset}
 use Rattle.inode.specs.Laws.{root_place, RootIsPlaced}
 
 module _ (g : Geometry) where

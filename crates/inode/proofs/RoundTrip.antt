@@ -1,8 +1,8 @@
 -- The bytes of an inode say it, and no other bytes do.
 use Rattle.std.proofs.Common.{◌≡◌, ◌<◌, ◌+◌, ◌*◌, ◌/◌, ◌%◌, ℕ, zero, suc, List, [], ◌∷◌, ◌++◌, length, slice_index, refl, sym, ap, ◌∙◌, arith}
 use Rattle.std.specs.Int.{w16, w32, to_le_bytes}
-use Rattle.volume_laws.specs.volume.declared.Inode.{Inode}
-use Rattle.volume_laws.specs.volume.Reading.{u16_in, u32_in, inode_in}
+use Rattle.volume.specs.declared.Inode.{Inode}
+use Rattle.volume.specs.Reading.{u16_in, u32_in, inode_in}
 use Rattle.inode.specs.Bytes.{bytes_of}
 
 -- the first numbers of a row

@@ -7,7 +7,7 @@ use Rattle.std.proofs.lemmas.Bool.{cases_Bool, and_parts, eqb-true, ltb-true, lt
 use Rattle.std.proofs.Math.Nat.{zero-add}
 use Rattle.layout.specs.declared.Geometry.{Geometry}
 use Rattle.layout.proofs.Parsed.{block_sizes, geometry_fits}
-use Rattle.tree.specs.errno.declared.Errno.TheVariants.{EINVAL, ENOENT}
+use Rattle.errno.specs.declared.Errno.TheVariants.{EINVAL, ENOENT}
 use Rattle.tree.specs.declared.Who.{Who}
 use Rattle.tree.specs.declared.Call.TheVariants.{Stat}
 use Rattle.tree.specs.Tree.{Body, is_file, is_directory, Node, Tree, file_type, directory_type, mode_of, size_of, is_dir, most_sessions}
@@ -17,12 +17,12 @@ use Rattle.tree.specs.NodeCalls.{stat, attributes_of}
 use Rattle.tree.specs.Effects.{reply_to, user_of}
 use Rattle.tree.proofs.Leaves.{looks_leave}
 use Rattle.tree.proofs.Maps.{not_true}
-use Rattle.volume_laws.specs.volume.declared.Inode.{Inode}
-use Rattle.volume_laws.specs.volume.Reading.{Disk, u16_in, u32_in, inode_in, blocks_of, is_inode, inode_block, inode_offset, inode_of_disk}
-use Rattle.volume_laws.specs.volume.Pieces.{Pieces, pieces, blank}
-use Rattle.volume_laws.specs.volume.Nodes.{type_in, permissions_in, is_directory_mode, is_marked, body_of, file_of, node_of, directory_of}
-use Rattle.volume_laws.specs.volume.Holds.{IsSound, HoldsVolume}
-use Rattle.volume_laws.proofs.NodesAs.{names_differ, node_is as node_from, length_node}
+use Rattle.volume.specs.declared.Inode.{Inode}
+use Rattle.volume.specs.Reading.{Disk, u16_in, u32_in, inode_in, blocks_of, is_inode, inode_block, inode_offset, inode_of_disk}
+use Rattle.volume.specs.Pieces.{Pieces, pieces, blank}
+use Rattle.volume.specs.Nodes.{type_in, permissions_in, is_directory_mode, is_marked, body_of, file_of, node_of, directory_of}
+use Rattle.volume.specs.Holds.{IsSound, HoldsVolume}
+use Rattle.volume.proofs.NodesAs.{names_differ, node_is as node_from, length_node}
 use Rattle.inode.specs.Bytes.{attributes_in}
 use Rattle.inode.proofs.Root.{block, offset}
 use Rattle.inode.specs.Laws.{root_place, HeldAttributes, RootReply}

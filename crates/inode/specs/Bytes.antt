@@ -3,7 +3,7 @@ use Rattle.std.specs.Prelude.{ℕ, List, ◌++◌}
 use Rattle.std.specs.List.{flat_map}
 use Rattle.std.specs.Int.{w16, w32, to_le_bytes}
 use Rattle.tree.specs.declared.Attributes.{Attributes}
-use Rattle.volume_laws.specs.volume.declared.Inode.{Inode}
+use Rattle.volume.specs.declared.Inode.{Inode}
 
 -- the fields in their order, each a little-endian number of two or four bytes
 abbrev pub bytes_of : Inode → List ℕ

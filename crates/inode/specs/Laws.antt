@@ -3,7 +3,7 @@ use Rattle.std.specs.Prelude.{◌≡◌, ◌≤◌, ◌<◌, ℕ, ◌+◌, ◌*�
 use Rattle.std.specs.Borrow.{Bor}
 use Rattle.layout.specs.declared.Geometry.{Geometry}
 use Rattle.layout.specs.Places.{IsGeometry}
-use Rattle.tree.specs.errno.declared.Errno.TheVariants.{EINVAL}
+use Rattle.errno.specs.declared.Errno.TheVariants.{EINVAL}
 use Rattle.tree.specs.declared.Who.{Who}
 use Rattle.tree.specs.declared.Attributes.{Attributes}
 use Rattle.tree.specs.declared.Call.TheVariants.{Stat}
@@ -11,8 +11,8 @@ use Rattle.tree.specs.Tree.{Node, Tree, most_sessions}
 use Rattle.tree.specs.NodeCalls.{attributes_of}
 use Rattle.tree.specs.Answers.{refused, node_is}
 use Rattle.tree.specs.Effects.{reply_to, tree_after_call, may_want_memory}
-use Rattle.volume_laws.specs.volume.Reading.{Disk, blocks_of, inode_in, inode_block, inode_offset, inode_of_disk}
-use Rattle.volume_laws.specs.volume.Holds.{Holds, HoldsVolume}
+use Rattle.volume.specs.Reading.{Disk, blocks_of, inode_in, inode_block, inode_offset, inode_of_disk}
+use Rattle.volume.specs.Holds.{Holds, HoldsVolume}
 use Rattle.inode.specs.Bytes.{attributes_in}
 
 -- the byte at which the root begins: behind two blocks, of the boot block and the superblock, and both maps

@@ -1,4 +1,4 @@
-pub use Rattle.tree.specs as tree
-pub use Rattle.volume_laws.specs.volume as volume
+-- The inode table of a volume.
 pub mod Bytes
 pub mod Laws
+pub mod Table

@@ -1,17 +1,18 @@
 //! The 64 bytes of an inode of a volume (MINIX version 3), and what stat tells by them.
 #![tactic(auto)]
 
+pub mod inode_table;
 pub mod laws;
 
 ghost use Rattle.std.specs.Prelude.{◌≡◌, ◌≤◌, ◌+◌, ◌++◌, take, slice_index, length};
 ghost use Rattle.std.specs.Int.{w16, w32, to_le_bytes};
-ghost use Rattle.volume_laws.specs.volume.Reading.{inode_in};
+ghost use Rattle.volume.specs.Reading.{inode_in};
 ghost use Rattle.inode.specs.Bytes.{attributes_in, bytes_of};
 
 use byteorder::{ByteOrder, LittleEndian};
 use layout::{u16_at, u32_at};
 use tree::Attributes;
-pub use volume_laws::Inode;
+use volume::Inode;
 
 /// How many bytes an inode has on the disk.
 pub const INODE_SIZE: usize = 64;

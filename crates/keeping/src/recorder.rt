@@ -2,10 +2,10 @@
 
 ghost use Rattle.std.specs.Prelude.{◌≡◌, ◌↔◌, ◌<◌, ◌∷◌, List, ℕ, true, Some, IfSome, IfNone};
 ghost use Rattle.tree.specs.Answers.{answer_of};
-ghost use Rattle.reissue.specs.marks.Marks.{Mark, Took};
-ghost use Rattle.reissue.specs.marks.Opening.{Opening};
-ghost use Rattle.reissue.specs.marks.Told.{took_end};
-ghost use Rattle.board.specs.legal.Session.{tally_of};
+ghost use Rattle.records.specs.Marks.{Mark, Took};
+ghost use Rattle.records.specs.Opening.{Opening};
+ghost use Rattle.records.specs.Told.{took_end};
+ghost use Rattle.records.specs.Session.{tally_of};
 ghost use Rattle.board.specs.View.{without};
 ghost use Rattle.board.specs.Steps.{SessionLearns, SessionIsNew};
 ghost use Rattle.keeping.specs.Keeper.{AreAllUsed, IsLowestFree};

@@ -1,10 +1,10 @@
 //! What a service asks of the link to its drivers.
 
 ghost use Rattle.std.specs.Prelude.{◌≡◌, List};
-ghost use Rattle.reissue.specs.marks.Marks.{Took};
-ghost use Rattle.driven.specs.policy.declared.Policy.{Policy};
+ghost use Rattle.records.specs.Marks.{Took};
+ghost use Rattle.reincarnate.specs.declared.policy.Policy.{Policy};
 ghost use Rattle.media.specs.Contents.{MediaState};
-ghost use Rattle.inline.specs.bdev.DriverState.{DriverState};
+ghost use Rattle.bdev.specs.DriverState.{DriverState};
 ghost use Rattle.driven.specs.KeptLaws.{noted_drivers_kept};
 ghost use Rattle.driven.specs.View.{guarded_of};
 ghost use Rattle.keeping.specs.Steady.{RestsNotOnCalls};

@@ -1,2 +1,3 @@
+pub mod Mounts
 pub mod Frames
 pub mod Runs

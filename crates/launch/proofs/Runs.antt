@@ -2,15 +2,15 @@
 use Rattle.std.proofs.Common.{◌≡◌, ℕ, List, subst}
 use Rattle.std.specs.Prelude.{IfErr, IfOk, OnOk, Result, Ok, Err}
 use Rattle.layout.specs.declared.Geometry.{Geometry}
-use Rattle.board.specs.tree.Tree.{Tree}
-use Rattle.reissue.specs.marks.Opening.{Opening, contents_at}
-use Rattle.reincarnate.specs.bdev.DriverState.{DriverState}
-use Rattle.board.specs.legal.Legal.{IsAtFirst}
-use Rattle.startup.specs.declared.refusal.StartRefusal.{StartRefusal}
-use Rattle.startup.specs.declared.refusal.StartRefusal.TheVariants.{Media, Partition, NoPartition, Mount, BadSetup, NoDriver, OutOfMemory}
-use Rattle.startup.specs.Starting.{opening_of, IsPrepared, IsRefused}
-use Rattle.policy.specs.declared.Setup.{Setup}
-use Rattle.opened_service.specs.Stopped.{IsStopped}
+use Rattle.tree.specs.Tree.{Tree}
+use Rattle.records.specs.Opening.{Opening, contents_at}
+use Rattle.bdev.specs.DriverState.{DriverState}
+use Rattle.records.specs.Legal.{IsAtFirst}
+use Rattle.mounting.specs.declared.refusal.StartRefusal.{StartRefusal}
+use Rattle.mounting.specs.declared.refusal.StartRefusal.TheVariants.{Media, Partition, NoPartition, Mount, BadSetup, NoDriver, OutOfMemory}
+use Rattle.mounting.specs.Starting.{opening_of, IsPrepared, IsRefused}
+use Rattle.reincarnate.specs.declared.policy.Setup.{Setup}
+use Rattle.launch.specs.Stopped.{IsStopped}
 use Rattle.launch.specs.Ran.{HasRun, IsNotStarted}
 
 -- the same of the opening that is another's name

@@ -1,2 +1,2 @@
-pub use Rattle.layout.specs as layout
+pub mod Stopped
 pub mod Ran

@@ -1,15 +1,15 @@
 -- When a service starts on an image, when it doesn't, and what is said of a program that ran over one.
 use Rattle.std.specs.Prelude.{ℕ, List}
 use Rattle.layout.specs.declared.Geometry.{Geometry}
-use Rattle.board.specs.tree.Tree.{Tree}
-use Rattle.policy.specs.declared.Setup.{Setup}
-use Rattle.reincarnate.specs.bdev.DriverState.{DriverState}
-use Rattle.reissue.specs.marks.Opening.{Opening, contents_at}
-use Rattle.board.specs.legal.Legal.{IsAtFirst}
-use Rattle.startup.specs.declared.refusal.StartRefusal.{StartRefusal}
-use Rattle.startup.specs.declared.refusal.StartRefusal.TheVariants.{Mount}
-use Rattle.startup.specs.Starting.{opening_of, IsPrepared, IsRefused}
-use Rattle.opened_service.specs.Stopped.{IsStopped}
+use Rattle.tree.specs.Tree.{Tree}
+use Rattle.reincarnate.specs.declared.policy.Setup.{Setup}
+use Rattle.bdev.specs.DriverState.{DriverState}
+use Rattle.records.specs.Opening.{Opening, contents_at}
+use Rattle.records.specs.Legal.{IsAtFirst}
+use Rattle.mounting.specs.declared.refusal.StartRefusal.{StartRefusal}
+use Rattle.mounting.specs.declared.refusal.StartRefusal.TheVariants.{Mount}
+use Rattle.mounting.specs.Starting.{opening_of, IsPrepared, IsRefused}
+use Rattle.launch.specs.Stopped.{IsStopped}
 
 -- why no service starts, the first reason that holds: all that is looked at before the volume; or that it isn't mounted
 abbrev pub IsNotStarted : List ℕ → Setup → List DriverState → StartRefusal → Type 0

@@ -2,38 +2,38 @@
 
 ghost use Rattle.std.specs.Prelude.{◌≡◌, ◌≢◌, [], All, IfErr, IfOk, map};
 ghost use Rattle.std.specs.Arc.{arc_value};
-ghost use Rattle.reissue.specs.marks.Opening.{Opening, contents_at};
-ghost use Rattle.startup.specs.mounting.Laws.{sizes_in};
-ghost use Rattle.policy.specs.Policy.{IsAllowed};
+ghost use Rattle.records.specs.Opening.{Opening, contents_at};
+ghost use Rattle.mounting.specs.Laws.{sizes_in};
+ghost use Rattle.reincarnate.specs.Policy.{IsAllowed};
 ghost use Rattle.inline.specs.Inline.{IsReady};
 ghost use Rattle.driven.specs.View.{guarded_of};
-ghost use Rattle.inline.specs.true_replies.Events.{IsOnMedia, opening_media};
+ghost use Rattle.true_replies.specs.Events.{IsOnMedia, opening_media};
 ghost use Rattle.board.specs.View.{IsKeeper, opener};
-ghost use Rattle.startup.specs.Starting.{opening_of, IsPrepared};
+ghost use Rattle.mounting.specs.Starting.{opening_of, IsPrepared};
 ghost use Rattle.keeping.specs.Supplied.{IsSupplied};
-ghost use Rattle.opened_service.specs.Stopped.{IsStopped};
+ghost use Rattle.launch.specs.Stopped.{IsStopped};
 ghost use Rattle.launch.specs.Ran.{HasRun, IsNotStarted};
 
 use board::{Board, Seat};
-use counting_link::Noting;
+use keeping::Noting;
 use driven::Driven;
 use inline::local::LocalDriver;
 use keeping::recorder::Recorder;
 use keeping::room::Room;
 use keeping::steady::Supplied;
 use media::Media;
-use opened_service::program::run_over;
-use policy::{Policy, Setup};
+use crate::program::run_over;
+use reincarnate::policy::{Policy, Setup};
 use reincarnate::{Reincarnation, SupplyRefusal};
 use reissue::link::Link;
 use serve::gate::Gate;
-use startup::{Prepared, StartRefusal, prepare};
+use mounting::{Prepared, StartRefusal, prepare};
 use std::alloc::{AllocError, Global};
 use std::marker::Brand;
 use std::sync::{Arc, Wait};
 
 // passed on: what is done with a service
-pub use opened_service::program::Program;
+use crate::program::Program;
 
 /// The drivers of an allowed policy over these media, with none started yet.
 pub fn drivers_on<D: LocalDriver>(

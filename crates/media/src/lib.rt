@@ -5,6 +5,8 @@
 //! replaced can't write any more, however late it wakes up.
 #![tactic(auto)]
 
+pub mod partition;
+
 ghost use Rattle.std.specs.Prelude.{◌≡◌, ◌≢◌, ◌≤◌, ◌<◌, ◌*◌, ◌%◌, ◌/◌, ◌↔◌, length, IsTrue, IsNone, IfSome, IfOk, IfErr, Some};
 ghost use Rattle.std.specs.List.{concat};
 ghost use Rattle.media.specs.Contents.{IsWhole, Adopt, Write, Tear, accepts, media_after, sectors_of, written};

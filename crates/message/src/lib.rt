@@ -1,10 +1,12 @@
 //! Messages of fixed size between the file server, its drivers and the reincarnation server.
 #![tactic(auto)]
 
+pub mod endpoint;
+
 ghost use Rattle.std.specs.Prelude.{◌≡◌};
 ghost use Rattle.message.specs.Good.{moved};
 
-use endpoint::Endpoint;
+use crate::endpoint::Endpoint;
 use errno::Errno;
 
 /// What a block request does.

@@ -1,16 +1,17 @@
 //! Plays scripts of client calls against a file server over the image of a volume.
 #![tactic(auto)]
 
-use command_line::{line_of, status_for};
-use play_words::mfs::{Words, read};
+use host::command_line::{line_of, status_for};
+use host::play_words::mfs::{Words, read};
 use std::alloc::{AllocError, Global};
 use std::process::ExitCode;
 use std::rt::Files;
 use std::sync::Wait;
 use std::{fs, io};
-use supply::{drivers_for, setup_for, table_in};
-use tools::play::{File, finish, play};
-use whole_file::replace;
+use modeldisk::supply::{drivers_for, setup_for, table_in};
+use script_text::script_files::File;
+use tools::play::{finish, play};
+use host::whole_file::replace;
 
 /// A file of this name, with its bytes if it could be read.
 fn file<'n, 'b>(name: &'n str, bytes: &'b Option<Vec<u8>>) -> File<'n, 'b> {

@@ -1,13 +1,13 @@
 //! Runs a file server over the image of a volume while a schedule moves its drivers, and prints the transcript.
 #![tactic(auto)]
 
-use command_line::{line_of, status_for};
-use play_words::mfssim::{Words, read};
+use host::command_line::{line_of, status_for};
+use host::play_words::mfssim::{Words, read};
 use simulation::inputs::File;
 use simulation::simulate::simulate;
 use std::process::ExitCode;
 use std::{fs, io};
-use supply::{drivers_for, setup_for, table_in};
+use modeldisk::supply::{drivers_for, setup_for, table_in};
 
 /// A file of this name, with its bytes if it could be read.
 fn file<'n, 'b>(name: &'n str, bytes: &'b Option<Vec<u8>>) -> File<'n, 'b> {

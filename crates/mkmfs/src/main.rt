@@ -1,12 +1,12 @@
 //! Makes the image of a new MINIX 3 volume.
 #![tactic(auto)]
 
-use command_line::{line_of, status_for};
+use host::command_line::{line_of, status_for};
 use std::io;
 use std::process::ExitCode;
 use volume_tools::make::{Wanted, finish, make};
-use volume_words::mkmfs::{Words, read};
-use whole_file::replace;
+use host::volume_words::mkmfs::{Words, read};
+use host::whole_file::replace;
 
 /// Makes the volume that the words say, and writes it to its file.
 fn make_file(rt: HostRuntime, words: &Words<'_>) -> io::Result<ExitCode> {

@@ -12,13 +12,13 @@ use Rattle.media.specs.Contents.{MediaState}
 use Rattle.bdev.specs.declared.Run.{Run}
 use Rattle.bdev.specs.declared.Step.TheVariants.{Done}
 use Rattle.bdev.specs.Promises.{StepKeeps, MayAnswer}
-use Rattle.sector_mover.specs.declared.mover.Mover.{Mover}
-use Rattle.sector_mover.specs.Order.{below, order_of}
-use Rattle.sector_mover.specs.Mover.{ended, moved_in, run_of, state_of, work_of}
+use Rattle.modeldisk.specs.declared.sector_mover.mover.Mover.{Mover}
+use Rattle.modeldisk.specs.Order.{below, order_of}
+use Rattle.modeldisk.specs.Mover.{ended, moved_in, run_of, state_of, work_of}
 use Rattle.modeldisk.specs.Faults.{IsLeading}
-use Rattle.sector_mover.proofs.OrderLaws.{length-order_of, order_high, order_low, all_moved}
-use Rattle.sector_mover.proofs.PromiseLaws.{bears_own}
-use Rattle.sector_mover.proofs.MoverLaws.{keeps_answer}
+use Rattle.modeldisk.proofs.OrderLaws.{length-order_of, order_high, order_low, all_moved}
+use Rattle.modeldisk.proofs.PromiseLaws.{bears_own}
+use Rattle.modeldisk.proofs.MoverLaws.{keeps_answer}
 
 -- a sector that has a place among the first n was moved
 moved_at : (arm : ℕ) (run : Run) (n i k : ℕ) → i < n → i < run.count → get_or (order_of arm run) i 0 ≡ run.first + k

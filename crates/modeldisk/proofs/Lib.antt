@@ -1,1 +1,9 @@
+pub mod ChunkLaws
+pub mod OrderLaws
+pub mod PromiseLaws
+pub mod MoverLaws
+pub mod SweepLaws
+pub mod FilterLaws
+mod Rows
 pub mod FaultLaws
+pub mod Tables

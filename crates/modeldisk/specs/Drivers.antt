@@ -1,11 +1,11 @@
 -- What the drivers show of their movers.
 use Rattle.std.specs.Prelude.{ℕ, Bool, List, Result}
 use Rattle.errno.specs.declared.Errno.{Errno}
-use Rattle.partition.specs.Table.{ranges_of}
+use Rattle.media.specs.Table.{ranges_of}
 use Rattle.bdev.specs.DriverState.{DriverState, Ranges}
 use Rattle.modeldisk.specs.declared.ram.RamDriver.{RamDriver}
 use Rattle.modeldisk.specs.declared.model.ModelDriver.{ModelDriver}
-use Rattle.sector_mover.specs.Mover.{left_of, outcome_of, state_of}
+use Rattle.modeldisk.specs.Mover.{left_of, outcome_of, state_of}
 
 -- the state of a RAM driver
 abbrev pub ram_state : RamDriver → DriverState

@@ -4,11 +4,11 @@ use Rattle.media.specs.Contents.{MediaState}
 use Rattle.bdev.specs.declared.Run.{Run}
 use Rattle.bdev.specs.declared.Step.{Step}
 use Rattle.bdev.specs.declared.Step.TheVariants.{Working, Failed}
-use Rattle.sector_mover.specs.declared.mover.Mover.{Mover}
+use Rattle.modeldisk.specs.declared.sector_mover.mover.Mover.{Mover}
 use Rattle.modeldisk.specs.declared.fault.FaultKind.{FaultKind}
 use Rattle.modeldisk.specs.declared.fault.FaultKind.TheVariants.{Die, Hang, Short, Error}
-use Rattle.sector_mover.specs.Order.{AnswersWith, StepsInOrder}
-use Rattle.sector_mover.specs.Mover.{left_of, moved_in, outcome_of, run_of}
+use Rattle.modeldisk.specs.Order.{AnswersWith, StepsInOrder}
+use Rattle.modeldisk.specs.Mover.{left_of, moved_in, outcome_of, run_of}
 
 -- the step is that of a driver without faults
 abbrev pub StepsOn : Mover → MediaState → ℕ → Step → Mover → Type 0

@@ -1,3 +1,9 @@
+pub mod Order
+pub mod Transfer
+pub mod Mover
+pub mod Laws
 pub mod Drivers
 pub mod Faults
 pub mod Script
+pub mod Kinds
+pub mod Supply

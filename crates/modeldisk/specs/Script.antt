@@ -5,14 +5,14 @@ use Rattle.bdev.specs.declared.Accept.{Accept}
 use Rattle.bdev.specs.declared.Accept.TheVariants.{Taken, Busy, Old}
 use Rattle.bdev.specs.declared.Step.{Step}
 use Rattle.bdev.specs.DriverState.{DriverState}
-use Rattle.sector_mover.specs.declared.mover.Mover.{Mover}
+use Rattle.modeldisk.specs.declared.sector_mover.mover.Mover.{Mover}
 use Rattle.modeldisk.specs.declared.fault.Fault.{Fault}
 use Rattle.modeldisk.specs.declared.fault.FaultKind.{FaultKind}
 use Rattle.modeldisk.specs.declared.scripted.Inner.{Inner}
 use Rattle.modeldisk.specs.declared.scripted.Inner.TheVariants.{Ram, Model}
 use Rattle.modeldisk.specs.declared.scripted.ScriptedDriver.{ScriptedDriver}
-use Rattle.sector_mover.specs.Mover.{left_of, state_of}
-use Rattle.sector_mover.specs.Order.{arm_after}
+use Rattle.modeldisk.specs.Mover.{left_of, state_of}
+use Rattle.modeldisk.specs.Order.{arm_after}
 use Rattle.modeldisk.specs.Faults.{StepsBy}
 
 -- the state of the inner driver

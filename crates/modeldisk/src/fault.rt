@@ -1,12 +1,12 @@
 ghost use Rattle.std.specs.Prelude.{◌≡◌, ◌≤◌, Some};
 ghost use Rattle.bdev.specs.Promises.{StepKeeps};
-ghost use Rattle.sector_mover.specs.Mover.{IsFew, state_of};
+ghost use Rattle.modeldisk.specs.Mover.{IsFew, state_of};
 ghost use Rattle.modeldisk.specs.Faults.{IsLeading, StepsBy};
 
 use bdev::{Run, Step};
 use errno::Errno;
 use media::Media;
-use sector_mover::mover::{Mover, plan};
+use crate::sector_mover::mover::{Mover, plan};
 
 /// What goes wrong.
 #[derive(Clone, Copy, Debug, PartialEq, Eq)]

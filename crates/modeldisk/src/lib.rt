@@ -8,10 +8,10 @@ mod fault;
 mod model;
 mod ram;
 mod scripted;
+pub mod sector_mover;
+pub mod supply;
 
 pub use fault::{Fault, FaultKind};
 pub use model::ModelDriver;
 pub use ram::RamDriver;
 pub use scripted::{Inner, ScriptedDriver};
-// passed on: the law of the order
-pub use sector_mover::sweeps_in_order;

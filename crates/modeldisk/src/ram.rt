@@ -1,14 +1,14 @@
 ghost use Rattle.std.specs.Prelude.{◌≡◌, ◌+◌, ◌≤◌, if◌then◌else◌};
-ghost use Rattle.partition.specs.Table.{ranges_of};
+ghost use Rattle.media.specs.Table.{ranges_of};
 ghost use Rattle.bdev.specs.DriverState.{fresh, plan};
 ghost use Rattle.bdev.specs.Promises.{AcceptKeeps, IsDriver, StepKeeps};
-ghost use Rattle.sector_mover.specs.Order.{order_in, StepsInOrder};
+ghost use Rattle.modeldisk.specs.Order.{order_in, StepsInOrder};
 
 use bdev::{Accept, BlockDriver, Step};
 use media::Media;
 use message::BlockRequest;
-use partition::Table;
-use sector_mover::mover::Mover;
+use media::partition::Table;
+use crate::sector_mover::mover::Mover;
 
 /// A driver that moves the sectors of a request in rising order.
 #[derive(Drop)]

@@ -1,9 +1,9 @@
 ghost use Rattle.std.specs.Prelude.{◌≡◌, ◌+◌, ◌≤◌, if◌then◌else◌};
-ghost use Rattle.partition.specs.Table.{ranges_of};
+ghost use Rattle.media.specs.Table.{ranges_of};
 ghost use Rattle.bdev.specs.DriverState.{plan};
 ghost use Rattle.bdev.specs.Promises.{AcceptKeeps, IsDriver, StepKeeps};
-ghost use Rattle.sector_mover.specs.Order.{order_in};
-ghost use Rattle.sector_mover.specs.Mover.{left_of};
+ghost use Rattle.modeldisk.specs.Order.{order_in};
+ghost use Rattle.modeldisk.specs.Mover.{left_of};
 
 use crate::fault::{Fault, FaultKind, play};
 use crate::model::ModelDriver;
@@ -11,7 +11,7 @@ use crate::ram::RamDriver;
 use bdev::{Accept, BlockDriver, Step};
 use media::Media;
 use message::BlockRequest;
-use sector_mover::mover::Mover;
+use crate::sector_mover::mover::Mover;
 
 /// The driver that a script is played on.
 #[derive(Drop)]
@@ -65,8 +65,7 @@ impl ScriptedDriver {
 }
 
 impl BlockDriver for ScriptedDriver {
-    ghost use Rattle.modeldisk.specs.Script.{arm_with, counted, due_at, due_of, mover_of, script_of, scripted_arm, scripted_state};
-    ghost use Rattle.modeldisk.specs.Script.{sweep_start, FollowsScript};
+    ghost use Rattle.modeldisk.specs.Script.{arm_with, counted, due_at, due_of, mover_of, script_of, scripted_arm, scripted_state, sweep_start, FollowsScript};
 
     ghost state = { scripted_state };
 

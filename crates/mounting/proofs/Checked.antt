@@ -8,8 +8,8 @@ use Rattle.layout.specs.declared.Geometry.{Geometry}
 use Rattle.layout.specs.declared.LayoutRefusal.{LayoutRefusal}
 use Rattle.layout.specs.declared.LayoutRefusal.TheVariants.{DoesNotFit}
 use Rattle.layout.specs.Places.{geometry_of, superblock_geometry}
-use Rattle.reissue.specs.marks.Told.{Told, took_end}
-use Rattle.reissue.specs.pending_table.declared.table.Table.{Table}
+use Rattle.records.specs.Told.{Told, took_end}
+use Rattle.reissue.specs.declared.table.Table.{Table}
 use Rattle.reissue.specs.Calls.{Truth}
 use Rattle.fsck.specs.declared.verdict.Clean.{Clean}
 use Rattle.mounting.specs.declared.reading.Stop.{Stop}

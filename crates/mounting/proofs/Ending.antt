@@ -9,20 +9,20 @@ use Rattle.layout.specs.Bytes.{u16_at, u32_at}
 use Rattle.layout.specs.Places.{IsGeometry, geometry_of, superblock_geometry}
 use Rattle.layout.proofs.Parsed.{geometry_fits}
 use Rattle.message.specs.declared.Incoming.TheVariants as incoming
-use Rattle.volume.specs.tree.Tree.{Tree}
+use Rattle.tree.specs.Tree.{Tree}
 use Rattle.volume.specs.Reading.{blocks_of, disk_of}
 use Rattle.volume.specs.Pieces.{Pieces, pieces}
 use Rattle.volume.specs.Holds.{HoldsNodes}
 use Rattle.volume.specs.Verdict.{verdict_of, HoldsClosed}
 use Rattle.volume.specs.Verdict as volume
 use Rattle.volume.specs.declared.Finding.{Finding}
-use Rattle.reissue.specs.marks.Marks.{Mark, gave_up}
-use Rattle.reissue.specs.marks.Disk.{Contents, HasTrueReplies, bytes_read, is_read}
-use Rattle.reissue.specs.marks.Told.{Told, Posted, Complained, Received, took_end}
-use Rattle.reissue.specs.marks.Acts.{Act, told_of, marks_after}
-use Rattle.legal.specs.Mount.{AreRead, first_bytes, IsHeadRefused, IsVolumeRefused, NothingIsRefused, geometry_read, head_read, is_frame_count, volume_read, volume_size}
-use Rattle.reissue.specs.pending_table.declared.table.Table.{Table}
-use Rattle.reissue.specs.pending_table.Agrees.{Agrees}
+use Rattle.records.specs.Marks.{Mark, gave_up}
+use Rattle.records.specs.Disk.{Contents, HasTrueReplies, bytes_read, is_read}
+use Rattle.records.specs.Told.{Told, Posted, Complained, Received, took_end}
+use Rattle.records.specs.Acts.{Act, told_of, marks_after}
+use Rattle.records.specs.Mount.{AreRead, first_bytes, IsHeadRefused, IsVolumeRefused, NothingIsRefused, geometry_read, head_read, is_frame_count, volume_read, volume_size}
+use Rattle.reissue.specs.declared.table.Table.{Table}
+use Rattle.reissue.specs.Agrees.{Agrees}
 use Rattle.reissue.specs.Calls.{Truth}
 use Rattle.fsck.specs.declared.verdict.Clean.{Clean}
 use Rattle.mounting.specs.declared.reading.Stop.{Stop}

@@ -6,24 +6,24 @@ use Rattle.message.specs.Good.{is_write}
 use Rattle.message.specs.declared.BlockRequest.{BlockRequest}
 use Rattle.message.specs.declared.Incoming.{Incoming}
 use Rattle.message.specs.declared.Incoming.TheVariants as incoming
-use Rattle.reissue.specs.marks.Marks.{Mark, Answered}
-use Rattle.reissue.specs.marks.Open.{counts}
-use Rattle.reissue.specs.marks.Disk.{Contents, HasTrueReplies, bytes_read, is_read}
-use Rattle.reissue.specs.marks.Opening.{Opening}
-use Rattle.reissue.specs.marks.Told.{Told, Posted, Complained, Received, received, grown}
-use Rattle.reissue.specs.marks.Acts.{Act, Began, Absorbed, AtLink, Outbox, told_of, has_absorbed, marks_after, outbox_after, KeepsRules}
-use Rattle.reissue.proofs.marks.ActLaws.{acts_compose}
-use Rattle.legal.specs.Mount.{OnlyReads}
-use Rattle.reissue.specs.pending_table.pending_queue.declared.pending.Pending.{Pending}
-use Rattle.reissue.specs.pending_table.declared.table.Table.{Table}
-use Rattle.reissue.specs.pending_table.Entries.{AreDistinct as HaveTickets, IsAmong, IsLeft, pending_of, begun_of, AllOfMinor}
-use Rattle.reissue.specs.pending_table.Agrees.{Agrees}
-use Rattle.reissue.specs.pending_table.Moves.{Begun, IsQuiet, Spares, Touches, state_after, written_by}
+use Rattle.records.specs.Marks.{Mark, Answered}
+use Rattle.records.specs.Open.{counts}
+use Rattle.records.specs.Disk.{Contents, HasTrueReplies, bytes_read, is_read}
+use Rattle.records.specs.Opening.{Opening}
+use Rattle.records.specs.Told.{Told, Posted, Complained, Received, received, grown}
+use Rattle.records.specs.Acts.{Act, Began, Absorbed, AtLink, Outbox, told_of, has_absorbed, marks_after, outbox_after, KeepsRules}
+use Rattle.records.proofs.ActLaws.{acts_compose}
+use Rattle.records.specs.Mount.{OnlyReads}
+use Rattle.reissue.specs.declared.pending.Pending.{Pending}
+use Rattle.reissue.specs.declared.table.Table.{Table}
+use Rattle.reissue.specs.Entries.{AreDistinct as HaveTickets, IsAmong, IsLeft, pending_of, begun_of, AllOfMinor}
+use Rattle.reissue.specs.Agrees.{Agrees}
+use Rattle.reissue.specs.Moves.{Begun, IsQuiet, Spares, Touches, state_after, written_by}
 use Rattle.reissue.specs.Posts.{OnlyPosts}
 use Rattle.reissue.specs.Rules.{BeganAmong, KeepsRulesBy, outbox_of}
-use Rattle.reissue.specs.pending_table.Closing.{ReadsOn}
+use Rattle.reissue.specs.Closing.{ReadsOn}
 use Rattle.reissue.specs.Calls.{Truth}
-use Rattle.reissue.proofs.pending_table.Tickets.{pending_among}
+use Rattle.reissue.proofs.Tickets.{pending_among}
 use Rattle.mounting.specs.declared.sought.Sought.{Sought}
 use Rattle.mounting.specs.Sought.{piece, piece_size, pieces_of, AreBefore}
 use Rattle.mounting.specs.Reading.{LeavesDisk, Went, IsFilled, IsUntouched, GoesUpTo}

@@ -1,3 +1,4 @@
+pub mod Starts
 pub mod Searching
 pub mod Going
 pub mod Parts
@@ -8,3 +9,5 @@ pub mod Ending
 pub mod Checked
 pub mod ReadAlone
 pub mod OfImage
+pub mod Opened
+pub mod Mounting

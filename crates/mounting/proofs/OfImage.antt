@@ -5,12 +5,12 @@ use Rattle.layout.specs.declared.LayoutRefusal.{LayoutRefusal}
 use Rattle.layout.specs.Places.{IsGeometry, geometry_of, superblock_geometry}
 use Rattle.layout.proofs.Parsed.{block_sizes, geometry_fits}
 use Rattle.volume.specs.Verdict.{verdict_of}
-use Rattle.reissue.specs.marks.Marks.{Mark}
-use Rattle.reissue.specs.marks.Disk.{Contents, HasTrueReplies, bytes_read}
-use Rattle.reissue.specs.marks.Told.{Told}
-use Rattle.reissue.specs.marks.Acts.{Act, marks_after}
-use Rattle.legal.specs.Mount.{AreRead, IsHeadRefused, MountKeeps, MountRefused, MountRefusal, Layout, Inconsistent, OutOfMemory, Eio, LinkEnded, BadFrames, Mounting, first_bytes, geometry_read, head_read, volume_read, volume_size}
-use Rattle.legal.specs.ServerCall.{Serving}
+use Rattle.records.specs.Marks.{Mark}
+use Rattle.records.specs.Disk.{Contents, HasTrueReplies, bytes_read}
+use Rattle.records.specs.Told.{Told}
+use Rattle.records.specs.Acts.{Act, marks_after}
+use Rattle.records.specs.Mount.{AreRead, IsHeadRefused, MountKeeps, MountRefused, MountRefusal, Layout, Inconsistent, OutOfMemory, Eio, LinkEnded, BadFrames, Mounting, first_bytes, geometry_read, head_read, volume_read, volume_size}
+use Rattle.records.specs.ServerCall.{Serving}
 use Rattle.mounting.specs.Laws.{IsSaidOf, sizes_in, volume_of}
 use Rattle.mounting.proofs.Volumes.{first_alike, first_length}
 use Rattle.mounting.proofs.ReadAlone.{reads_alone}

@@ -7,12 +7,12 @@ use Rattle.message.specs.declared.BlockRequest.{BlockRequest}
 use Rattle.message.specs.declared.BlockReply.{BlockReply}
 use Rattle.message.specs.declared.Incoming.{Incoming}
 use Rattle.message.specs.declared.Incoming.TheVariants as incoming
-use Rattle.reissue.specs.marks.Marks.{Mark, Started, Answered, Flush, GaveUp, Took, Issued, Fault, gave_up}
-use Rattle.reissue.specs.marks.Open.{asked_by, counts, greatest, moved_by, open_requests, with_id, without_id}
-use Rattle.reissue.specs.marks.Disk.{Contents, HasTrueReplies, IsTrueAnswer, byte_of, bytes_read, covers, disk_after, fetches, is_read, settles, unsure}
-use Rattle.reissue.specs.marks.Told.{Posted, Complained, Received, received}
-use Rattle.reissue.specs.marks.Acts.{Act, Began, Absorbed, AtLink, KeepsRules, Outbox, empty_outbox, first_of, marks_after, outbox_after, owed_after_message}
-use Rattle.legal.specs.Mount.{OnlyReads}
+use Rattle.records.specs.Marks.{Mark, Started, Answered, Flush, GaveUp, Took, Issued, Fault, gave_up}
+use Rattle.records.specs.Open.{asked_by, counts, greatest, moved_by, open_requests, with_id, without_id}
+use Rattle.records.specs.Disk.{Contents, HasTrueReplies, IsTrueAnswer, byte_of, bytes_read, covers, disk_after, fetches, is_read, settles, unsure}
+use Rattle.records.specs.Told.{Posted, Complained, Received, received}
+use Rattle.records.specs.Acts.{Act, Began, Absorbed, AtLink, KeepsRules, Outbox, empty_outbox, first_of, marks_after, outbox_after, owed_after_message}
+use Rattle.records.specs.Mount.{OnlyReads}
 
 -- what both are one of them is
 one_of : {X : Type 0} (P : X → Type 0) (b : Bool) (x y : X) → P x → P y → P (if b then x else y)

@@ -1,12 +1,11 @@
 -- The reads that are pending, by their tickets. Lists alone.
 use Rattle.std.proofs.Common.{◌≡◌, ◌≢◌, ◌⊎◌, ℕ, suc, ◌+◌, ◌<◌, ◌≤◌, List, [], ◌∷◌, ◌++◌, length, get_or, Bool, true, false, cond, refl, sym, ◌∙◌, ap, subst, inl, inr, arith, Option, Some, None}
 use Rattle.std.proofs.lemmas.Bool.{cond-true, cond-false, eq-eqb, ne_eqb, cases_eq}
-use Rattle.std.specs.Prelude.{◌==◌, remove}
+use Rattle.std.specs.Prelude.{◌==◌, remove, position}
 use Rattle.std.specs.List.{position_from}
 use Rattle.std.proofs.lemmas.Iterator.Adapters.{position_from-zero}
-use Rattle.std.specs.Prelude.{position}
-use Rattle.reissue.specs.pending_table.Moves.{Begun, put}
-use Rattle.reissue.proofs.pending_table.Maps.{is_put}
+use Rattle.reissue.specs.Moves.{Begun, put}
+use Rattle.reissue.proofs.Maps.{is_put}
 use Rattle.mounting.specs.declared.sought.Sought.{Sought}
 use Rattle.mounting.specs.Sought.{is_for, piece, piece_at, piece_size, pieces_of, place_of, without_ticket, AreDistinct, AreBefore}
 

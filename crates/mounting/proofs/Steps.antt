@@ -6,26 +6,26 @@ use Rattle.std.proofs.lemmas.Bool.{cases_eq}
 use Rattle.message.specs.declared.BlockRequest.{BlockRequest}
 use Rattle.message.specs.declared.Kind.{Kind}
 use Rattle.message.specs.declared.Kind.TheVariants.{Read}
-use Rattle.reissue.specs.marks.Marks.{Mark}
-use Rattle.reissue.specs.marks.Disk.{Contents, HasTrueReplies, disk_after, unsure}
-use Rattle.reissue.specs.marks.Told.{Told, received, grown, took_end}
-use Rattle.reissue.specs.marks.Acts.{marks_after}
-use Rattle.reissue.specs.pending_table.pending_queue.declared.ask.Ask.{Ask}
-use Rattle.reissue.specs.pending_table.pending_queue.declared.ask.Settled.{Settled}
-use Rattle.reissue.specs.pending_table.pending_queue.declared.ask.Settled.TheVariants as settled
+use Rattle.records.specs.Marks.{Mark}
+use Rattle.records.specs.Disk.{Contents, HasTrueReplies, disk_after, unsure}
+use Rattle.records.specs.Told.{Told, received, grown, took_end}
+use Rattle.records.specs.Acts.{marks_after}
+use Rattle.reissue.specs.declared.ask.Ask.{Ask}
+use Rattle.reissue.specs.declared.ask.Settled.{Settled}
+use Rattle.reissue.specs.declared.ask.Settled.TheVariants as settled
 use Rattle.reissue.specs.declared.link.Link.{Ghosts as LinkWords}
-use Rattle.reissue.specs.pending_table.pending_queue.declared.pending.Pending.{Pending}
-use Rattle.reissue.specs.pending_table.declared.table.Table.{Table}
+use Rattle.reissue.specs.declared.pending.Pending.{Pending}
+use Rattle.reissue.specs.declared.table.Table.{Table}
 use Rattle.reissue.specs.declared.transfers.Transfers.{Transfers}
-use Rattle.reissue.specs.pending_table.Entries.{AllAsk, AllOfMinor, IsLeft, pending_of}
-use Rattle.reissue.specs.pending_table.Agrees.{Agrees}
-use Rattle.reissue.specs.pending_table.Moves.{Begun, IsBusy, IsFree, WasRead, begun_by, written_by, put}
-use Rattle.reissue.specs.pending_table.Closing.{Closing}
+use Rattle.reissue.specs.Entries.{AllAsk, AllOfMinor, IsLeft, pending_of}
+use Rattle.reissue.specs.Agrees.{Agrees}
+use Rattle.reissue.specs.Moves.{Begun, IsBusy, IsFree, WasRead, begun_by, written_by, put}
+use Rattle.reissue.specs.Closing.{Closing}
 use Rattle.reissue.specs.Calls.{Truth, Begins, Steps}
 use Rattle.reissue.specs.Transfers.{table_of, link_of}
-use Rattle.reissue.proofs.pending_table.Maps.{put-same, put_cases}
-use Rattle.reissue.proofs.pending_table.Tickets.{pending_here}
-use Rattle.reissue.proofs.pending_table.Left.{ask_push, left_back}
+use Rattle.reissue.proofs.Maps.{put-same, put_cases}
+use Rattle.reissue.proofs.Tickets.{pending_here}
+use Rattle.reissue.proofs.Left.{ask_push, left_back}
 use Rattle.mounting.specs.declared.sought.Sought.{Sought}
 use Rattle.mounting.specs.declared.reading.Stop.TheVariants.{OutOfMemory, GaveUp, Ended}
 use Rattle.mounting.specs.Sought.{piece, piece_at, piece_size, pieces_of, place_of, without_ticket, AreBefore, AreDistinct as SoughtDistinct, PutsAt, PutsPiece}

@@ -14,8 +14,8 @@ use Rattle.layout.proofs.Parsed.{block_sizes}
 use Rattle.volume.specs.declared.Inode.{Inode}
 use Rattle.volume.specs.Reading.{Disk, blocks_of, is_inode, is_data_zone, inode_in, inode_block, inode_offset, inode_of_disk, inode_bit, zone_bit, bit_in}
 use Rattle.volume.specs.Pieces.{pieces, blank}
-use Rattle.reissue.specs.marks.Disk.{Contents}
-use Rattle.legal.specs.Mount.{first_bytes}
+use Rattle.records.specs.Disk.{Contents}
+use Rattle.records.specs.Mount.{first_bytes}
 
 -- ---- the first bytes
 

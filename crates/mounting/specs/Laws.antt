@@ -5,10 +5,10 @@ use Rattle.layout.specs.declared.LayoutRefusal.{LayoutRefusal}
 use Rattle.layout.specs.declared.LayoutRefusal.TheVariants.{DoesNotFit}
 use Rattle.layout.specs.Places.{geometry_of, superblock_geometry}
 use Rattle.volume.specs.Verdict.{Found, verdict_of}
-use Rattle.reissue.specs.marks.Disk.{Contents, HasTrueReplies, bytes_read, is_read}
-use Rattle.reissue.specs.marks.Told.{Told}
-use Rattle.reissue.specs.marks.Acts.{Act, KeepsRules, empty_outbox, marks_after}
-use Rattle.legal.specs.Mount.{AreRead, MountRefused, MountRefusal, Mounting, Layout, Inconsistent, OnlyReads, first_bytes, geometry_read}
+use Rattle.records.specs.Disk.{Contents, HasTrueReplies, bytes_read, is_read}
+use Rattle.records.specs.Told.{Told}
+use Rattle.records.specs.Acts.{Act, KeepsRules, empty_outbox, marks_after}
+use Rattle.records.specs.Mount.{AreRead, MountRefused, MountRefusal, Mounting, Layout, Inconsistent, OnlyReads, first_bytes, geometry_read}
 
 -- where only reads became pending, what was read with true replies are the image's bytes
 abbrev pub ReadsAlone : Type 0

@@ -1,18 +1,18 @@
 -- Reading a volume through a link and checking it.
 use Rattle.std.specs.Prelude.{◌≡◌, ◌<◌, ◌+◌, ℕ, List, [], length, slice_index, Bool, true, false, Result, Ok, Err}
-use Rattle.volume.specs.tree.Tree.{Tree}
+use Rattle.tree.specs.Tree.{Tree}
 use Rattle.volume.specs.Verdict.{verdict_of, HoldsClosed}
 use Rattle.volume.specs.Verdict as volume
-use Rattle.reissue.specs.marks.Marks.{Mark}
-use Rattle.reissue.specs.marks.Disk.{Contents, HasTrueReplies}
-use Rattle.reissue.specs.marks.Told.{Told, took_end}
-use Rattle.reissue.specs.marks.Acts.{told_of, marks_after}
-use Rattle.legal.specs.Legal.{IsAtFirst}
-use Rattle.legal.specs.Mount.{AreRead, IsWhyNotMounted, geometry_read, is_frame_count, volume_read, volume_size}
-use Rattle.legal.specs.Mount as words
+use Rattle.records.specs.Marks.{Mark}
+use Rattle.records.specs.Disk.{Contents, HasTrueReplies}
+use Rattle.records.specs.Told.{Told, took_end}
+use Rattle.records.specs.Acts.{told_of, marks_after}
+use Rattle.records.specs.Legal.{IsAtFirst}
+use Rattle.records.specs.Mount.{AreRead, IsWhyNotMounted, geometry_read, is_frame_count, volume_read, volume_size}
+use Rattle.records.specs.Mount as words
 use Rattle.layout.specs.Places.{IsGeometry, geometry_of}
-use Rattle.reissue.specs.pending_table.declared.table.Table.{Table}
-use Rattle.reissue.specs.pending_table.Agrees.{Agrees}
+use Rattle.reissue.specs.declared.table.Table.{Table}
+use Rattle.reissue.specs.Agrees.{Agrees}
 use Rattle.reissue.specs.Calls.{Truth}
 use Rattle.fsck.specs.declared.verdict.Clean.{Clean}
 use Rattle.mounting.specs.declared.whole.MountRefusal.{MountRefusal}

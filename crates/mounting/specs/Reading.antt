@@ -1,21 +1,21 @@
 -- What reading a range of a volume through a link does.
 use Rattle.std.specs.Prelude.{◌≡◌, ℕ, ◌+◌, ◌<◌, ◌≤◌, List, [], ◌∷◌, ◌++◌, length, ◌⊎◌, Option, Some, None, true, false, Result, Ok, Err, slice_index}
-use Rattle.reissue.specs.marks.Marks.{Mark}
-use Rattle.reissue.specs.marks.Disk.{Contents, HasTrueReplies, bytes_read, is_read, disk_after, unsure}
-use Rattle.reissue.specs.marks.Opening.{Opening}
-use Rattle.reissue.specs.marks.Told.{Told, took_end}
-use Rattle.reissue.specs.marks.Acts.{Act, told_of, has_absorbed, marks_after, outbox_after, KeepsRules}
-use Rattle.legal.specs.Mount.{OnlyReads}
-use Rattle.reissue.specs.pending_table.declared.table.Table.{Table}
-use Rattle.reissue.specs.pending_table.pending_queue.declared.pending.Pending.{Pending}
-use Rattle.reissue.specs.pending_table.Agrees.{Agrees}
-use Rattle.reissue.specs.pending_table.Entries.{pending_of, AllOfMinor, AllAsk, IsLeft}
+use Rattle.records.specs.Marks.{Mark}
+use Rattle.records.specs.Disk.{Contents, HasTrueReplies, bytes_read, is_read, disk_after, unsure}
+use Rattle.records.specs.Opening.{Opening}
+use Rattle.records.specs.Told.{Told, took_end}
+use Rattle.records.specs.Acts.{Act, told_of, has_absorbed, marks_after, outbox_after, KeepsRules}
+use Rattle.records.specs.Mount.{OnlyReads}
+use Rattle.reissue.specs.declared.table.Table.{Table}
+use Rattle.reissue.specs.declared.pending.Pending.{Pending}
+use Rattle.reissue.specs.Agrees.{Agrees}
+use Rattle.reissue.specs.Entries.{pending_of, AllOfMinor, AllAsk, IsLeft}
 use Rattle.message.specs.declared.Kind.TheVariants.{Read}
-use Rattle.reissue.specs.pending_table.pending_queue.declared.ask.Ask.{Ask}
+use Rattle.reissue.specs.declared.ask.Ask.{Ask}
 use Rattle.reissue.specs.declared.link.Link.{Ghosts as LinkWords}
 use Rattle.reissue.specs.declared.transfers.Transfers.{Transfers}
 use Rattle.reissue.specs.Transfers.{table_of, link_of, begun_in, Between}
-use Rattle.reissue.specs.pending_table.Moves.{Begun, Touches, WasRead, IsBusy, begun_by, put}
+use Rattle.reissue.specs.Moves.{Begun, Touches, WasRead, IsBusy, begun_by, put}
 use Rattle.reissue.specs.Rules.{outbox_of}
 use Rattle.reissue.specs.Calls.{Truth, Adds, Begins}
 use Rattle.mounting.specs.declared.sought.Sought.{Sought}

@@ -1,6 +1,6 @@
 -- The reads of a range that are pending, and where their bytes go.
 use Rattle.std.specs.Prelude.{◌≡◌, ◌⊎◌, ℕ, ◌+◌, ◌-◌, ◌<◌, ◌≤◌, ◌==◌, min, List, [], ◌∷◌, length, Option, Some, None, Bool, if◌then◌else◌, slice_index}
-use Rattle.reissue.specs.pending_table.Moves.{Begun}
+use Rattle.reissue.specs.Moves.{Begun}
 use Rattle.mounting.specs.declared.sought.Sought.{Sought}
 
 -- how many bytes are asked for from this place of a range of so many on

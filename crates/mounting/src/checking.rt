@@ -1,7 +1,7 @@
 //! Reading a whole volume through a link, and checking it.
 
 ghost use Rattle.std.specs.Prelude.{◌≡◌, ◌+◌, ◌-◌, ◌*◌, ◌<◌, ◌≤◌, ◌^◌, ◌%◌, ℕ, [], false, length, slice_index, OnOk};
-ghost use Rattle.reissue.specs.marks.Told.{took_end};
+ghost use Rattle.records.specs.Told.{took_end};
 ghost use Rattle.reissue.specs.Posts.{HasRoom};
 ghost use Rattle.reissue.specs.Transfers.{link_of, table_of};
 ghost use Rattle.mounting.specs.Whole.{HasSizes};

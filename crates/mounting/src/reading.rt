@@ -1,8 +1,8 @@
 //! Reading a range of a volume through a link.
 
 ghost use Rattle.std.specs.Prelude.{◌≡◌, ◌+◌, ◌-◌, ◌*◌, ◌<◌, ◌≤◌, ◌^◌, ◌%◌, [], false, length, vec_capacity, IfSome, IfNone, OnOk};
-ghost use Rattle.reissue.specs.marks.Told.{took_end};
-ghost use Rattle.reissue.specs.pending_table.Moves.{IsFree};
+ghost use Rattle.records.specs.Told.{took_end};
+ghost use Rattle.reissue.specs.Moves.{IsFree};
 ghost use Rattle.reissue.specs.Posts.{HasRoom};
 ghost use Rattle.reissue.specs.Transfers.{link_of, table_of, begun_in};
 ghost use Rattle.mounting.specs.Sought.{piece_size};

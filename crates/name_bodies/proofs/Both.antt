@@ -1,5 +1,5 @@
 -- Two reads, of one disk.
-use Rattle.store.specs.volume.Reading.{Disk}
+use Rattle.volume.specs.Reading.{Disk}
 use Rattle.store.specs.World.{IsWorld, Reads, World}
 use Rattle.store.proofs.Turns.{reads_then}
 

@@ -19,27 +19,27 @@ use Rattle.tree.specs.Changes.{fewer_links, with_link_lost, with_names}
 use Rattle.tree.specs.Answers.{Effect, done, refused}
 use Rattle.tree.specs.NameCalls.{is_empty, rmdir, without_entry}
 use Rattle.tree.proofs.Maps.{not_nothing, not_true, put-other, put-same}
-use Rattle.bodies.proofs.tree_laws.CallsKeep.{rmdir_keeps}
-use Rattle.bodies.proofs.tree_laws.Gone.{empty_weighs, gone_apart}
-use Rattle.bodies.proofs.tree_laws.Shapes.{kind_of}
-use Rattle.bodies.proofs.tree_laws.Views.{on_node_there}
-use Rattle.store.specs.volume.declared.Inode.{Inode}
-use Rattle.store.specs.volume.Reading.{Disk}
-use Rattle.store.specs.volume.Pieces.{pieces}
-use Rattle.store.specs.volume.Nodes.{is_directory_mode, node_of}
-use Rattle.store.specs.volume.Holds.{HoldsVolume}
-use Rattle.entries.specs.Removal.{Removes}
+use Rattle.tree.proofs.CallsKeep.{rmdir_keeps}
+use Rattle.tree.proofs.Gone.{empty_weighs, gone_apart}
+use Rattle.tree.proofs.Shapes.{kind_of}
+use Rattle.tree.proofs.Views.{on_node_there}
+use Rattle.volume.specs.declared.Inode.{Inode}
+use Rattle.volume.specs.Reading.{Disk}
+use Rattle.volume.specs.Pieces.{pieces}
+use Rattle.volume.specs.Nodes.{is_directory_mode, node_of}
+use Rattle.volume.specs.Holds.{HoldsVolume}
+use Rattle.directory.specs.Removal.{Removes}
 use Rattle.store.specs.World.{IsWorld, Turns, World}
 use Rattle.store.proofs.Turns.{turns_then}
 use Rattle.store.proofs.Ending.{turns_three}
-use Rattle.walk.proofs.zone_laws.Inodes.{inode_is}
+use Rattle.zone.proofs.ZoneInodes.{inode_is}
 use Rattle.descriptors.specs.Files.{Files, HasFiles, tree_with}
 use Rattle.bodies.specs.Does.{Does, IsHeld, tree_in}
 use Rattle.bodies.proofs.Made.{granted_made, refused_made}
 use Rattle.node_steps.specs.Steps.{BecomesAt, DropsLink, FreesNode, IsOfNode}
-use Rattle.call_laws.specs.Stands.{NodeIs, Stands}
-use Rattle.call_laws.proofs.Between.{holds_at_end, node_stands, nothing_is_done, step_is_done}
-use Rattle.call_laws.proofs.Ending.{open_by_files}
+use Rattle.node_steps.specs.Stands.{NodeIs, Stands}
+use Rattle.node_steps.proofs.Between.{holds_at_end, node_stands, nothing_is_done, step_is_done}
+use Rattle.node_steps.proofs.CallLawsEnding.{open_by_files}
 use Rattle.name_bodies.specs.declared.named.Named.{Named}
 use Rattle.name_bodies.specs.Names.{FindsName, place_at, why_kept}
 use Rattle.name_bodies.proofs.Standing.{less, name_gone, parent, parent_kind, parent_there, placed, target, target_kind, target_there}

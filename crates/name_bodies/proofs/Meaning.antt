@@ -13,22 +13,22 @@ use Rattle.tree.specs.Tree.{Node, Tree}
 use Rattle.tree.specs.Refusals.{◌>>=◌, or_refuse, refuse_if}
 use Rattle.tree.specs.Walk.{Place, has_last_name, last_part, may_access, node_at, parent_walk, read_path, to_write}
 use Rattle.tree.specs.Answers.{Effect}
-use Rattle.bodies.proofs.tree_laws.PathNames.{last_is_name}
-use Rattle.store.specs.volume.declared.Inode.{Inode}
-use Rattle.store.specs.volume.Reading.{Disk, is_inode}
-use Rattle.store.specs.volume.Pieces.{Pieces, pieces}
-use Rattle.store.specs.volume.Nodes.{directory_of, is_directory_mode, is_marked, node_of}
-use Rattle.store.specs.volume.Holds.{Holds, HoldsVolume}
+use Rattle.tree.proofs.PathNames.{last_is_name}
+use Rattle.volume.specs.declared.Inode.{Inode}
+use Rattle.volume.specs.Reading.{Disk, is_inode}
+use Rattle.volume.specs.Pieces.{Pieces, pieces}
+use Rattle.volume.specs.Nodes.{directory_of, is_directory_mode, is_marked, node_of}
+use Rattle.volume.specs.Holds.{Holds, HoldsVolume}
 use Rattle.store.specs.declared.Halt.{Halt}
 use Rattle.store.specs.declared.Halt.TheVariants as halt
 use Rattle.store.specs.Halts.{Ends}
-use Rattle.walk.proofs.zone_laws.Inodes.{inode_is}
-use Rattle.walk.specs.declared.stop.Stop.{Stop}
-use Rattle.walk.specs.declared.stop.Stop.TheVariants as stop
-use Rattle.walk.specs.declared.place.Place.{Place as Found}
-use Rattle.walk.specs.Stops.{Answers}
-use Rattle.walk.specs.Places.{FindsPlace, place_of}
-use Rattle.walk.proofs.Going.{has_entries}
+use Rattle.zone.proofs.ZoneInodes.{inode_is}
+use Rattle.path.specs.declared.stop.Stop.{Stop}
+use Rattle.path.specs.declared.stop.Stop.TheVariants as stop
+use Rattle.path.specs.declared.place.Place.{Place as Found}
+use Rattle.path.specs.Stops.{Answers}
+use Rattle.path.specs.Places.{FindsPlace, place_of}
+use Rattle.path.proofs.Going.{has_entries}
 use Rattle.bodies.proofs.Made.{node_there}
 use Rattle.name_bodies.specs.Names.{FindsName, IsOfInode, IsVolume, MeansPlace, on_name}
 

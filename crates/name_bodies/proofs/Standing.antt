@@ -10,21 +10,21 @@ use Rattle.tree.specs.Names.{Names, inode_of, without_name}
 use Rattle.tree.specs.Tree.{Body, Node, Tree, is_dir, is_directory, most_size, names_of, size_of}
 use Rattle.tree.specs.IsTree.{IsBody}
 use Rattle.tree.specs.Changes.{with_names}
-use Rattle.bodies.proofs.tree_laws.Places.{IsPlace}
-use Rattle.store.specs.volume.Reading.{Disk}
-use Rattle.store.specs.volume.Pieces.{Pieces, pieces}
-use Rattle.store.specs.volume.Nodes.{is_directory_mode, is_marked}
-use Rattle.store.specs.volume.Holds.{HoldsVolume}
-use Rattle.walk.specs.entry_laws.Directories.{before}
-use Rattle.entries.specs.Names.{HasName, IsOfDirectory}
-use Rattle.entries.specs.Removal.{Removes}
+use Rattle.tree.proofs.Places.{IsPlace}
+use Rattle.volume.specs.Reading.{Disk}
+use Rattle.volume.specs.Pieces.{Pieces, pieces}
+use Rattle.volume.specs.Nodes.{is_directory_mode, is_marked}
+use Rattle.volume.specs.Holds.{HoldsVolume}
+use Rattle.directory.specs.Directories.{before}
+use Rattle.directory.specs.Names.{HasName, IsOfDirectory}
+use Rattle.directory.specs.Removal.{Removes}
 use Rattle.bodies.specs.Does.{IsHeld}
 use Rattle.bodies.proofs.Made.{node_there}
 use Rattle.descriptors.specs.Files.{Files, HasFiles}
 use Rattle.node_steps.specs.Steps.{node_at}
-use Rattle.call_laws.specs.Stands.{Stands}
-use Rattle.call_laws.proofs.Between.{kind_is, nothing_is_done, step_is_done}
-use Rattle.call_laws.proofs.Entering.{body_is, name_is_there, names_are}
+use Rattle.node_steps.specs.Stands.{Stands}
+use Rattle.node_steps.proofs.Between.{kind_is, nothing_is_done, step_is_done}
+use Rattle.node_steps.proofs.Entering.{body_is, name_is_there, names_are}
 use Rattle.name_bodies.specs.declared.named.Named.{Named}
 use Rattle.name_bodies.specs.Names.{FindsName, IsNamed, IsVolume, place_at}
 
@@ -90,7 +90,7 @@ module _ (g : Geometry) (ok : IsGeometry g) (user : User) (path : List ℕ) (now
 
     -- its kind is the inode's
     pub target_kind : is_dir target ≡ is_directory_mode x.inode.mode
-    target_kind = kind_is g v x.number ∙ sym (ap (λ (i : Rattle.store.specs.volume.declared.Inode.Inode). is_directory_mode i.mode) y.loaded)
+    target_kind = kind_is g v x.number ∙ sym (ap (λ (i : Rattle.volume.specs.declared.Inode.Inode). is_directory_mode i.mode) y.loaded)
 
     -- the name may be taken away
     pub may_remove : HasName g v x.directory x.name.now

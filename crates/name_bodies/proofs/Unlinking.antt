@@ -15,20 +15,20 @@ use Rattle.tree.specs.Changes.{with_link_lost, with_names, without_nameless}
 use Rattle.tree.specs.Answers.{Effect, done, refused}
 use Rattle.tree.specs.NameCalls.{unlink, with_name_lost, without_entry}
 use Rattle.tree.proofs.Maps.{not_true, put-other}
-use Rattle.bodies.proofs.tree_laws.Unlinked.{unlink_keeps}
-use Rattle.bodies.proofs.tree_laws.Views.{on_node_there}
-use Rattle.store.specs.volume.Reading.{Disk}
-use Rattle.store.specs.volume.Pieces.{pieces}
-use Rattle.store.specs.volume.Nodes.{is_directory_mode}
-use Rattle.store.specs.volume.Holds.{HoldsVolume}
-use Rattle.entries.specs.Removal.{Removes}
+use Rattle.tree.proofs.Unlinked.{unlink_keeps}
+use Rattle.tree.proofs.Views.{on_node_there}
+use Rattle.volume.specs.Reading.{Disk}
+use Rattle.volume.specs.Pieces.{pieces}
+use Rattle.volume.specs.Nodes.{is_directory_mode}
+use Rattle.volume.specs.Holds.{HoldsVolume}
+use Rattle.directory.specs.Removal.{Removes}
 use Rattle.descriptors.specs.Files.{Files, HasFiles}
 use Rattle.bodies.specs.Does.{Does, IsHeld, tree_in}
 use Rattle.bodies.proofs.Made.{granted_made, refused_made}
 use Rattle.node_steps.specs.Steps.{BecomesAt, IsOfNode, LosesName, left_of, node_at}
-use Rattle.call_laws.specs.Stands.{NodeIs, Stands}
-use Rattle.call_laws.proofs.Between.{holds_at_end, node_stands, step_is_done}
-use Rattle.call_laws.proofs.Ending.{put_is_left}
+use Rattle.node_steps.specs.Stands.{NodeIs, Stands}
+use Rattle.node_steps.proofs.Between.{holds_at_end, node_stands, step_is_done}
+use Rattle.node_steps.proofs.CallLawsEnding.{put_is_left}
 use Rattle.name_bodies.specs.declared.named.Named.{Named}
 use Rattle.name_bodies.specs.Names.{FindsName, place_at}
 use Rattle.name_bodies.proofs.Standing.{less, name_gone, parent, parent_kind, parent_there, target, target_kind, target_there}
@@ -50,7 +50,7 @@ module _ (g : Geometry) (user : User) (path : Bor (List ℕ)) (now : ℕ) (f : F
         → unlink t user now path.now ≡ (refuse_if b EPERM >>= λ _. Ok (done, with_name_lost (without_entry t now (place_at g d x)) now x.number))
     effect_is t holds b is =
         (finds t holds).goes_on (takes t now)
-        ∙ ap (λ (i : Rattle.store.specs.volume.declared.Inode.Inode). takes t now (place_at g d x) x.number (Rattle.store.specs.volume.Nodes.node_of g (pieces g d) i)) (finds t holds).loaded
+        ∙ ap (λ (i : Rattle.volume.specs.declared.Inode.Inode). takes t now (place_at g d x) x.number (Rattle.volume.specs.Nodes.node_of g (pieces g d) i)) (finds t holds).loaded
         ∙ ap (λ c. refuse_if c EPERM >>= λ _. Ok (done, with_name_lost (without_entry t now (place_at g d x)) now x.number)) (target_kind g ok user path.now now d x finds t holds ∙ is)
 
     -- it is a directory's

@@ -1,3 +1,4 @@
 -- Client calls that take a name away.
-pub use Rattle.call_laws.specs as call_laws
+-- The call that gives a file a name more.
 pub mod Names
+pub mod Linking

@@ -9,16 +9,16 @@ use Rattle.tree.specs.Tree.{Node, Tree, is_open}
 use Rattle.tree.specs.Refusals.{◌>>=◌, or_refuse, refuse_if}
 use Rattle.tree.specs.Walk.{Place, has_last_name, may_access, node_at, parent_walk, read_path, to_write}
 use Rattle.tree.specs.Answers.{Effect}
-use Rattle.store.specs.volume.declared.Inode.{Inode}
-use Rattle.store.specs.volume.Reading.{Disk}
-use Rattle.store.specs.volume.Pieces.{pieces}
-use Rattle.store.specs.volume.Nodes.{is_directory_mode, node_of, permissions_in}
-use Rattle.store.specs.volume.Entries.{is_directory_inode}
-use Rattle.store.specs.volume.Holds.{HoldsVolume}
-use Rattle.walk.specs.entry_laws.Directories.{before}
+use Rattle.volume.specs.declared.Inode.{Inode}
+use Rattle.volume.specs.Reading.{Disk}
+use Rattle.volume.specs.Pieces.{pieces}
+use Rattle.volume.specs.Nodes.{is_directory_mode, node_of, permissions_in}
+use Rattle.volume.specs.Entries.{is_directory_inode}
+use Rattle.volume.specs.Holds.{HoldsVolume}
+use Rattle.directory.specs.Directories.{before}
 use Rattle.descriptors.specs.Files.{Files, tree_with}
-use Rattle.walk.specs.declared.place.Place.{Place as Found}
-use Rattle.walk.specs.Places.{FindsPlace}
+use Rattle.path.specs.declared.place.Place.{Place as Found}
+use Rattle.path.specs.Places.{FindsPlace}
 use Rattle.name_bodies.specs.declared.named.Named.{Named}
 
 -- some tree is held

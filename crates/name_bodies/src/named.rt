@@ -9,12 +9,13 @@ ghost use Rattle.tree.specs.Walk.{may_access, to_write};
 ghost use Rattle.name_bodies.specs.Names.{FindsName, IsOfInode, IsVolume, MeansPlace};
 
 use errno::Errno;
-use inode_table::{Inode, load};
+use volume::Inode;
+use inode::inode_table::load;
 use layout::Geometry;
 use path::{Path, Wish, may};
 use store::{Blocks, Halt};
 use tree::User;
-use walk::{Place, Stop, find_place};
+use path::{Place, Stop, find_place};
 
 /// A name that leads to a node.
 #[derive(Drop)]

@@ -14,7 +14,7 @@ ghost use Rattle.name_bodies.specs.Names.{why_kept};
 use crate::named::{Named, find_name};
 use bodies::found::is_directory;
 use descriptors::Descriptors;
-use entries::remove;
+use directory::remove;
 use errno::Errno;
 use layout::Geometry;
 use node_steps::{drop_link, free_node, lose_name};

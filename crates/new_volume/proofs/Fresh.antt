@@ -7,11 +7,11 @@ use Rattle.std.proofs.lemmas.List.{get_or_past}
 use Rattle.std.proofs.Math.Bool.{or-false}
 use Rattle.layout.specs.declared.Geometry.{Geometry}
 use Rattle.layout.specs.Places.{IsGeometry, table_blocks}
-use Rattle.inode.specs.tree.Space.{data_zones}
-use Rattle.inode.specs.volume.declared.Inode.{Inode}
-use Rattle.inode.specs.volume.Reading.{Disk, disk_of, map_bit, inode_bit, zone_bit, inode_in, inode_of_disk, is_inode, is_data_zone}
-use Rattle.inode.specs.volume.Pieces.{pieces, blank}
-use Rattle.inode.specs.volume.Fresh.{fresh_inode, fresh_entries, fresh_pieces}
+use Rattle.tree.specs.Space.{data_zones}
+use Rattle.volume.specs.declared.Inode.{Inode}
+use Rattle.volume.specs.Reading.{Disk, disk_of, map_bit, inode_bit, zone_bit, inode_in, inode_of_disk, is_inode, is_data_zone}
+use Rattle.volume.specs.Pieces.{pieces, blank}
+use Rattle.volume.specs.Fresh.{fresh_inode, fresh_entries, fresh_pieces}
 use Rattle.inode.specs.Bytes.{bytes_of}
 use Rattle.inode.proofs.RoundTrip.{Fits, read_back}
 use Rattle.inode.proofs.Stat.{same_inode}

@@ -4,14 +4,14 @@ use Rattle.std.specs.Prelude.{All, Result, Ok, Err, T, not, is_ok, ◌==◌, ◌
 use Rattle.std.proofs.lemmas.Bool.{ltb-false, leb-false, eqb-false}
 use Rattle.layout.specs.declared.Geometry.{Geometry}
 use Rattle.layout.specs.Places.{IsGeometry, is_block_size, geometry_of}
-use Rattle.inode.specs.tree.Laws.{fresh_tree}
-use Rattle.inode.specs.volume.Reading.{disk_of}
-use Rattle.inode.specs.volume.Pieces.{pieces}
-use Rattle.inode.specs.volume.Fresh.{fresh_pieces}
-use Rattle.inode.specs.volume.Holds.{HoldsNodes}
-use Rattle.inode.specs.volume.Verdict.{HoldsClosed}
+use Rattle.tree.specs.Laws.{fresh_tree}
+use Rattle.volume.specs.Reading.{disk_of}
+use Rattle.volume.specs.Pieces.{pieces}
+use Rattle.volume.specs.Fresh.{fresh_pieces}
+use Rattle.volume.specs.Holds.{HoldsNodes}
+use Rattle.volume.specs.Verdict.{HoldsClosed}
 use Rattle.volume.proofs.FreshHolds.{fresh_holds}
-use Rattle.inode.proofs.volume_laws.CleanTree.{clean_is_a_tree}
+use Rattle.volume.proofs.CleanTree.{clean_is_a_tree}
 use Rattle.new_volume.specs.declared.MkfsRefusal.{MkfsRefusal}
 use Rattle.new_volume.specs.declared.MkfsRefusal.TheVariants.{BadBlockSize, BadInodes, TooManyBlocks, TooFewBlocks}
 use Rattle.new_volume.specs.Sizes.{new_geometry, sizes_of}

@@ -7,9 +7,9 @@ use Rattle.std.proofs.lemmas.List.Elements.{All-append, All-cons, All-replicate,
 use Rattle.layout.specs.declared.Geometry.{Geometry}
 use Rattle.layout.specs.Places.{table_blocks}
 use Rattle.layout.specs.Superblock.{superblock_bytes, with_superblock}
-use Rattle.inode.specs.tree.Space.{data_zones}
-use Rattle.inode.specs.volume.declared.Inode.{Inode}
-use Rattle.inode.specs.volume.Fresh.{fresh_inode, fresh_entries}
+use Rattle.tree.specs.Space.{data_zones}
+use Rattle.volume.specs.declared.Inode.{Inode}
+use Rattle.volume.specs.Fresh.{fresh_inode, fresh_entries}
 use Rattle.inode.specs.Bytes.{bytes_of}
 use Rattle.new_volume.specs.Image.{map_byte, map_bytes, filled, new_image}
 use Rattle.new_volume.proofs.Bits.{map_byte_small}

@@ -7,8 +7,8 @@ use Rattle.layout.specs.declared.Geometry.{Geometry}
 use Rattle.layout.specs.Places.{IsGeometry, geometry_of, table_blocks}
 use Rattle.layout.specs.Superblock.{superblock_bytes, with_superblock}
 use Rattle.layout.proofs.Written.{reads_back}
-use Rattle.inode.specs.tree.Space.{data_zones}
-use Rattle.inode.specs.volume.Fresh.{fresh_inode, fresh_entries}
+use Rattle.tree.specs.Space.{data_zones}
+use Rattle.volume.specs.Fresh.{fresh_inode, fresh_entries}
 use Rattle.inode.specs.Bytes.{bytes_of}
 use Rattle.new_volume.specs.Image.{map_byte, map_bytes, filled, new_image}
 use Rattle.new_volume.proofs.Widths.{large, some_block, one_block, parts}

@@ -4,9 +4,9 @@ use Rattle.std.specs.List.{range_with_len}
 use Rattle.layout.specs.declared.Geometry.{Geometry}
 use Rattle.layout.specs.Places.{table_blocks}
 use Rattle.layout.specs.Superblock.{with_superblock}
-use Rattle.inode.specs.tree.Sums.{sum_below}
-use Rattle.inode.specs.tree.Space.{data_zones}
-use Rattle.inode.specs.volume.Fresh.{fresh_inode, fresh_entries}
+use Rattle.tree.specs.Sums.{sum_below}
+use Rattle.tree.specs.Space.{data_zones}
+use Rattle.volume.specs.Fresh.{fresh_inode, fresh_entries}
 use Rattle.inode.specs.Bytes.{bytes_of}
 
 -- Whether bit b of a new map is set, the last of whose bits that say something is this: bit 0, that of the root or its zone,

@@ -2,11 +2,11 @@
 use Rattle.std.specs.Prelude.{◌≡◌, ℕ, ◌*◌, List, length, Ok, Err, IsOk}
 use Rattle.layout.specs.declared.Geometry.{Geometry}
 use Rattle.layout.specs.Places.{geometry_of}
-use Rattle.inode.specs.tree.Laws.{fresh_tree}
-use Rattle.inode.specs.volume.Reading.{disk_of}
-use Rattle.inode.specs.volume.Pieces.{pieces}
-use Rattle.inode.specs.volume.Fresh.{fresh_pieces}
-use Rattle.inode.specs.volume.Verdict.{verdict_of, Clean, HoldsClosed}
+use Rattle.tree.specs.Laws.{fresh_tree}
+use Rattle.volume.specs.Reading.{disk_of}
+use Rattle.volume.specs.Pieces.{pieces}
+use Rattle.volume.specs.Fresh.{fresh_pieces}
+use Rattle.volume.specs.Verdict.{verdict_of, Clean, HoldsClosed}
 use Rattle.new_volume.specs.declared.MkfsRefusal.{MkfsRefusal}
 use Rattle.new_volume.specs.declared.MkfsRefusal.TheVariants.{OutOfMemory}
 use Rattle.new_volume.specs.Sizes.{sizes_of}

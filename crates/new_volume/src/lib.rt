@@ -3,13 +3,14 @@
 
 ghost use Rattle.std.specs.Prelude.{◌≡◌, ◌≤◌, ◌<◌, ◌+◌, ◌-◌, ◌*◌, ◌++◌, ◌^◌, IfOk, IfErr, OnOk, length};
 ghost use Rattle.layout.specs.Places.{IsGeometry, table_blocks};
-ghost use Rattle.inode.specs.tree.Space.{data_zones};
-ghost use Rattle.inode.specs.volume.Fresh.{fresh_inode};
+ghost use Rattle.tree.specs.Space.{data_zones};
+ghost use Rattle.volume.specs.Fresh.{fresh_inode};
 ghost use Rattle.new_volume.specs.Sizes.{blocks_for, new_geometry, refusal_name, refusal_number, sizes_of};
 ghost use Rattle.new_volume.specs.Image.{filled, is_set, map_byte, map_bytes, new_image};
 ghost use Rattle.new_volume.specs.Made.{IsNewVolume, IsRefused};
 
-use inode::{Inode, encode};
+use volume::Inode;
+use inode::encode;
 use layout::Geometry;
 use std::alloc::{AllocError, Global};
 use std::error::Error;

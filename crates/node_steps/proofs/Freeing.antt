@@ -5,27 +5,27 @@ use Rattle.std.specs.Prelude.{IsTrue, None, Some, Option, not, ◌==◌, ◌&&�
 use Rattle.std.proofs.lemmas.Bool.{and_parts, cases_eq, cases_lt, leb-true}
 use Rattle.layout.specs.declared.Geometry.{Geometry}
 use Rattle.layout.specs.Places.{IsGeometry}
-use Rattle.descriptors.specs.tree.Sums.{put}
-use Rattle.descriptors.specs.tree.Tree.{Node}
-use Rattle.descriptors.specs.tree.Space.{numbers_in_zone, pages_of}
-use Rattle.descriptors.specs.tree.Changes.{file_after_resize}
-use Rattle.descriptors.proofs.tree.Maps.{put-same, put-other}
-use Rattle.store.specs.volume.declared.Inode.{Inode}
-use Rattle.store.specs.volume.Reading.{Disk, is_inode}
-use Rattle.store.specs.volume.Pieces.{Pieces, pieces}
-use Rattle.store.specs.volume.Nodes.{is_marked, nodes_of, page_zone, word}
-use Rattle.store.specs.volume.Places.{zone_at}
-use Rattle.inode_table.proofs.volume_laws.Bridge.{naming, zone_spot, no_level}
-use Rattle.inode_table.proofs.volume_laws.Naming.{room, spot}
-use Rattle.inode_table.proofs.volume_laws.Spots.{spot_word}
-use Rattle.inode_table.proofs.volume_laws.Sums.{some_witness}
-use Rattle.inode_table.proofs.volume_laws.Volumes.{numbers_sized}
+use Rattle.tree.specs.Sums.{put}
+use Rattle.tree.specs.Tree.{Node}
+use Rattle.tree.specs.Space.{numbers_in_zone, pages_of}
+use Rattle.tree.specs.Changes.{file_after_resize}
+use Rattle.tree.proofs.Maps.{put-same, put-other}
+use Rattle.volume.specs.declared.Inode.{Inode}
+use Rattle.volume.specs.Reading.{Disk, is_inode}
+use Rattle.volume.specs.Pieces.{Pieces, pieces}
+use Rattle.volume.specs.Nodes.{is_marked, nodes_of, page_zone, word}
+use Rattle.volume.specs.Places.{zone_at}
+use Rattle.volume.proofs.Bridge.{naming, zone_spot, no_level}
+use Rattle.volume.proofs.Naming.{room, spot}
+use Rattle.volume.proofs.Spots.{spot_word}
+use Rattle.volume.proofs.Sums.{some_witness}
+use Rattle.volume.proofs.Volumes.{numbers_sized}
 use Rattle.store.specs.Volume.{Alters}
-use Rattle.file.specs.zone_laws.Steps.{IsSoundBut}
-use Rattle.file.specs.zone_laws.Inodes.{ChangesInode}
-use Rattle.file.proofs.zone_laws.Inodes.{change_keeps, changed_nodes}
-use Rattle.file.proofs.zone_laws.Keeps.{sound_but_is_sound}
-use Rattle.file.specs.file_pages.Changing.{BecomesFile, SetsSize, file_at}
+use Rattle.zone.specs.ZoneSteps.{IsSoundBut}
+use Rattle.zone.specs.Inodes.{ChangesInode}
+use Rattle.zone.proofs.ZoneInodes.{change_keeps, changed_nodes}
+use Rattle.zone.proofs.Keeps.{sound_but_is_sound}
+use Rattle.file.specs.PageChanges.{BecomesFile, SetsSize, file_at}
 use Rattle.node_steps.specs.Steps.{BecomesAt, FreesNode, IsOfNode}
 use Rattle.node_steps.proofs.Nodes.{put_twice}
 use Rattle.node_steps.proofs.Storing.{may_change}
@@ -85,7 +85,7 @@ module _ (g : Geometry) (v u : Pieces) (n : ℕ) (of : IsOfNode g v n) (b : Beco
       no_pages : (w : ℕ) → (0 + w - 1) / w ≡ 0
       no_pages w = elim (cases_eq w 0) [
         | inl e ↦ ap (λ x. (0 + x - 1) / x) e
-        | inr some ↦ Rattle.inode_table.proofs.volume_laws.Bridge.div_none (0 + w - 1) w (omega (arith, some))
+        | inr some ↦ Rattle.volume.proofs.Bridge.div_none (0 + w - 1) w (omega (arith, some))
       ]
 
   gone : is_marked g (unmarked u n) n ≡ false
@@ -111,7 +111,7 @@ module _ (g : Geometry) (v u : Pieces) (n : ℕ) (of : IsOfNode g v n) (b : Beco
   }
 
   nothing : nodes_of g (unmarked u n) n ≡ None
-  nothing = ap (λ x. if x then Some (Rattle.store.specs.volume.Nodes.node_of g (unmarked u n) (u.inodes n)) else None) gone
+  nothing = ap (λ x. if x then Some (Rattle.volume.specs.Nodes.node_of g (unmarked u n) (u.inodes n)) else None) gone
 
   pub freed : BecomesAt g v (unmarked u n) n None
   freed = record {

@@ -1,9 +1,17 @@
-pub use Rattle.layout.proofs as layout
-pub use Rattle.inode_table.proofs.volume_laws as volume_laws
-pub use Rattle.file.proofs as file
-pub use Rattle.descriptors.proofs as descriptors
-pub use Rattle.file.proofs.zone_laws as zone_laws
 pub mod Nodes
 pub mod Storing
 pub mod Freeing
 pub mod Losing
+pub mod Between
+pub mod Entering
+pub mod CallLawsEnding
+pub mod Marking
+pub mod Lowest
+pub mod NewRows
+pub mod Leading
+pub mod Parents
+pub mod Putting
+pub mod Settling
+pub mod Whole
+pub mod Dropping
+pub mod Asked

@@ -3,14 +3,14 @@ use Rattle.std.proofs.Common.{◌≡◌, ◌≢◌, ℕ, Bool, true, false, refl
 use Rattle.std.specs.Prelude.{Option, not, ◌==◌, ◌&&◌, if◌then◌else◌}
 use Rattle.std.proofs.lemmas.Bool.{eq-eqb, ne_eqb}
 use Rattle.layout.specs.declared.Geometry.{Geometry}
-use Rattle.descriptors.specs.tree.Sums.{put}
-use Rattle.descriptors.specs.tree.Tree.{Node, is_open}
-use Rattle.descriptors.specs.tree.Changes.{with_link_lost}
-use Rattle.descriptors.proofs.tree.Maps.{put-same}
-use Rattle.store.specs.volume.declared.Inode.{Inode}
-use Rattle.store.specs.volume.Reading.{Disk}
-use Rattle.store.specs.volume.Pieces.{Pieces, pieces}
-use Rattle.store.specs.volume.Nodes.{nodes_of}
+use Rattle.tree.specs.Sums.{put}
+use Rattle.tree.specs.Tree.{Node, is_open}
+use Rattle.tree.specs.Changes.{with_link_lost}
+use Rattle.tree.proofs.Maps.{put-same}
+use Rattle.volume.specs.declared.Inode.{Inode}
+use Rattle.volume.specs.Reading.{Disk}
+use Rattle.volume.specs.Pieces.{Pieces, pieces}
+use Rattle.volume.specs.Nodes.{nodes_of}
 use Rattle.descriptors.specs.Files.{Files, tree_with}
 use Rattle.node_steps.specs.Steps.{BecomesAt, DropsLink, FreesNode, IsOfNode, LosesName, LosesNode, left_of, node_at}
 use Rattle.node_steps.proofs.Nodes.{node_is, node_there, put_back, put_twice}

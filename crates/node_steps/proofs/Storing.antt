@@ -3,22 +3,22 @@ use Rattle.std.proofs.Common.{◌≡◌, ◌+◌, ◌-◌, ◌≤◌, ℕ, Bool,
 use Rattle.std.specs.Prelude.{IsTrue}
 use Rattle.std.proofs.lemmas.Bool.{and_parts, and_from}
 use Rattle.layout.specs.declared.Geometry.{Geometry}
-use Rattle.descriptors.specs.tree.Changes.{with_ctime}
-use Rattle.descriptors.proofs.tree.Maps.{put-same}
-use Rattle.store.specs.volume.declared.Inode.{Inode}
-use Rattle.store.specs.volume.Reading.{Disk, is_inode}
-use Rattle.store.specs.volume.Pieces.{Pieces, pieces}
-use Rattle.store.specs.volume.Nodes.{file_of, is_directory_mode, is_marked}
-use Rattle.store.specs.volume.Entries.{is_directory_inode}
-use Rattle.store.specs.volume.Holds.{IsSoundDirectory}
+use Rattle.tree.specs.Changes.{with_ctime}
+use Rattle.tree.proofs.Maps.{put-same}
+use Rattle.volume.specs.declared.Inode.{Inode}
+use Rattle.volume.specs.Reading.{Disk, is_inode}
+use Rattle.volume.specs.Pieces.{Pieces, pieces}
+use Rattle.volume.specs.Nodes.{file_of, is_directory_mode, is_marked}
+use Rattle.volume.specs.Entries.{is_directory_inode}
+use Rattle.volume.specs.Holds.{IsSoundDirectory}
 use Rattle.store.specs.Volume.{Alters}
-use Rattle.inode_table.specs.Table.{with_inode}
-use Rattle.file.specs.zone_laws.Steps.{node_from}
-use Rattle.file.proofs.zone_laws.Keeps.{sound_is_sound_but, sound_but_is_sound}
-use Rattle.file.proofs.zone_laws.Files.{directory_kept}
-use Rattle.file.proofs.zone_laws.Inodes.{inode_is}
-use Rattle.file.specs.file_pages.Changing.{MayChange, BecomesFile, file_at}
-use Rattle.file.proofs.file_pages.Resizing.{stored_becomes}
+use Rattle.inode.specs.Table.{with_inode}
+use Rattle.zone.specs.ZoneSteps.{node_from}
+use Rattle.zone.proofs.Keeps.{sound_is_sound_but, sound_but_is_sound}
+use Rattle.zone.proofs.Files.{directory_kept}
+use Rattle.zone.proofs.ZoneInodes.{inode_is}
+use Rattle.file.specs.PageChanges.{MayChange, BecomesFile, file_at}
+use Rattle.file.proofs.Resizing.{stored_becomes}
 use Rattle.node_steps.specs.Steps.{AddsLink, BecomesAt, DropsLink, IsOfNode, MaySetAttributes, SetsAttributes, node_at}
 
 -- the file of a node may change
@@ -33,7 +33,7 @@ number_is g v n of = inode_is g v n of.marked
 module _ (g : Geometry) (v : Pieces) (n : ℕ) (i : Inode) (may : MaySetAttributes g v n i) where
   stored : BecomesFile g v (with_inode v n i) n i (file_at g v n)
   stored = stored_becomes g v n i (may_change g v n may.of) may.zones may.mode
-      (λ p some. let low = (may.of.sound.inodes n may.of.marked).inside p some in let s = ap (Rattle.descriptors.specs.tree.Space.pages_of g) may.size in omega (Rattle.std.proofs.Common.arith, low, s))
+      (λ p some. let low = (may.of.sound.inodes n may.of.marked).inside p some in let s = ap (Rattle.tree.specs.Space.pages_of g) may.size in omega (Rattle.std.proofs.Common.arith, low, s))
       i (file_at g v n) (λ k. record i { size = may.size k })
       (ap (file_of g v) (put-same v.inodes n i) ∙ (λ k. file_of g v (record i { size = may.size k; zones = may.zones k })))
 

@@ -1,8 +1,14 @@
 -- Steps of client calls that change one node of a volume.
-pub use Rattle.layout.specs as layout
-pub use Rattle.store.specs.volume as volume
-pub use Rattle.file.specs.zone_laws as zone_laws
-pub use Rattle.descriptors.specs as descriptors
-pub use Rattle.file.specs as file
-pub use Rattle.store.specs as store
+-- Laws of client calls that go by steps.
+-- New nodes.
+-- The steps of a rename.
 pub mod Steps
+pub mod Stands
+pub mod Naming
+pub mod Ending
+pub mod NewNodes
+pub mod Leads
+pub mod Moves
+pub mod Whole
+pub mod Replaced
+pub mod Asking

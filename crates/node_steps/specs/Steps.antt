@@ -2,18 +2,18 @@
 use Rattle.std.specs.Prelude.{◌≡◌, ◌≤◌, ◌==◌, ◌&&◌, ℕ, not, Option, None, Some, IsTrue, if◌then◌else◌}
 use Rattle.layout.specs.declared.Geometry.{Geometry}
 use Rattle.layout.specs.Places.{IsGeometry}
-use Rattle.descriptors.specs.tree.Sums.{put}
-use Rattle.descriptors.specs.tree.Tree.{Node, is_open, most_links}
-use Rattle.descriptors.specs.tree.Changes.{more_links, with_ctime, with_link_lost}
-use Rattle.store.specs.volume.declared.Inode.{Inode}
-use Rattle.store.specs.volume.Reading.{Disk}
-use Rattle.store.specs.volume.Pieces.{Pieces, pieces}
-use Rattle.store.specs.volume.Nodes.{is_directory_mode, is_marked, is_mode, node_of, nodes_of}
-use Rattle.store.specs.volume.Holds.{IsSound}
+use Rattle.tree.specs.Sums.{put}
+use Rattle.tree.specs.Tree.{Node, is_open, most_links}
+use Rattle.tree.specs.Changes.{more_links, with_ctime, with_link_lost}
+use Rattle.volume.specs.declared.Inode.{Inode}
+use Rattle.volume.specs.Reading.{Disk}
+use Rattle.volume.specs.Pieces.{Pieces, pieces}
+use Rattle.volume.specs.Nodes.{is_directory_mode, is_marked, is_mode, node_of, nodes_of}
+use Rattle.volume.specs.Holds.{IsSound}
 use Rattle.descriptors.specs.Files.{Files, tree_with}
-use Rattle.file.specs.zone_laws.Steps.{node_from}
+use Rattle.zone.specs.ZoneSteps.{node_from}
 use Rattle.store.specs.Volume.{SameHead}
-use Rattle.file.specs.file_pages.Changing.{file_at}
+use Rattle.file.specs.PageChanges.{file_at}
 
 -- a marked inode of a sound volume
 pub record IsOfNode (g : Geometry) (v : Pieces) (n : ℕ) : Type 0 where

@@ -4,10 +4,11 @@ ghost use Rattle.std.specs.Prelude.{IfErr};
 ghost use Rattle.store.specs.Halts.{Ends, IsHalt};
 ghost use Rattle.store.specs.Volume.{IsOn};
 ghost use Rattle.store.specs.World.{Turns};
-ghost use Rattle.store.specs.volume.Pieces.{pieces};
+ghost use Rattle.volume.specs.Pieces.{pieces};
 ghost use Rattle.node_steps.specs.Steps.{AddsLink, DropsLink, IsOfNode, MayAddLink, MaySetAttributes, SetsAttributes};
 
-use inode_table::{Inode, load, store};
+use volume::Inode;
+use inode::inode_table::{load, store};
 use layout::Geometry;
 use store::{Blocks, Halt};
 

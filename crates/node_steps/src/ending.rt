@@ -5,14 +5,14 @@ ghost use Rattle.descriptors.specs.Table.{files_of};
 ghost use Rattle.store.specs.Halts.{Ends, IsHalt};
 ghost use Rattle.store.specs.Volume.{IsOn};
 ghost use Rattle.store.specs.World.{Turns};
-ghost use Rattle.store.specs.volume.Pieces.{pieces};
+ghost use Rattle.volume.specs.Pieces.{pieces};
 ghost use Rattle.node_steps.specs.Steps.{FreesNode, IsOfNode, LosesName, LosesNode};
 
 use crate::attributes::drop_link;
 use bitmap::{Map, clear};
 use descriptors::Descriptors;
-use file::set_size;
-use inode_table::load;
+use file::file_pages::changing::set_size;
+use inode::inode_table::load;
 use layout::Geometry;
 use store::{Blocks, Halt};
 

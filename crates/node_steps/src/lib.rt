@@ -1,8 +1,24 @@
 //! Steps of client calls that change one node of a volume, over any blocks: its attributes, its links, its end. No memory is taken.
+//!
+//! New nodes of a volume, over any blocks: a free inode becomes an empty file, or a directory without names. No memory is taken.
+//!
+//! The steps of a rename, over any blocks: a name is taken out of a directory, a name is put into one, and what it leads to has its new
+//! parent. No memory is taken.
 #![tactic(auto)]
 
 mod attributes;
+pub mod call_laws;
 mod ending;
+mod fresh;
+mod laws;
+mod moves;
+mod replaced;
+mod steps;
 
 pub use attributes::{add_link, drop_link, set_attributes};
 pub use ending::{free_node, lose_name, lose_node};
+pub use fresh::{free_inode, new_directory, new_file};
+pub use laws::{moves_are_the_trees, moves_may_be_made};
+pub use moves::{Move, move_over, move_to, move_within};
+pub use replaced::drop_replaced;
+pub use steps::{put_in, put_over, settle, take_out};

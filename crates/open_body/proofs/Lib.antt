@@ -1,3 +1,11 @@
+pub mod Zones
+pub mod Vacancies
+pub mod Trees
+pub mod Numbers
+pub mod Putting
+pub mod Ending
+pub mod NewDirectories
+pub mod NewFiles
 pub mod Slots
 pub mod There
 pub mod Missing

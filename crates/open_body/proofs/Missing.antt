@@ -17,17 +17,17 @@ use Rattle.tree.specs.Walk as tree
 use Rattle.tree.specs.Answers.{Effect, descriptor, if_it_fits}
 use Rattle.tree.specs.FileCalls.{Slot, open_found, with_open}
 use Rattle.tree.specs.Space.{data_zones, zones_used}
-use Rattle.bodies.proofs.tree_laws.OpenCall.{missing_at}
-use Rattle.store.specs.volume.Reading.{Disk}
-use Rattle.store.specs.volume.Holds.{HoldsVolume}
+use Rattle.tree.proofs.OpenCall.{missing_at}
+use Rattle.volume.specs.Reading.{Disk}
+use Rattle.volume.specs.Holds.{HoldsVolume}
 use Rattle.descriptors.specs.Files.{files_in}
-use Rattle.walk.specs.declared.place.Place.{Place}
-use Rattle.walk.specs.Places.{IsPlace, place_of}
-use Rattle.make_bodies.specs.Making.{IsFileMade, IsFileRefused, MakesFileOr, with_new_file}
-use Rattle.make_bodies.specs.Vacant.{IsVacant}
-use Rattle.make_bodies.proofs.Putting.{is_free}
-use Rattle.make_bodies.proofs.Trees.{file_files}
-use Rattle.make_bodies.proofs.Vacancies.{is_vacant, parent_node}
+use Rattle.path.specs.declared.place.Place.{Place}
+use Rattle.path.specs.Places.{IsPlace, place_of}
+use Rattle.open_body.specs.Making.{IsFileMade, IsFileRefused, MakesFileOr, with_new_file}
+use Rattle.open_body.specs.Vacant.{IsVacant}
+use Rattle.open_body.proofs.Putting.{is_free}
+use Rattle.open_body.proofs.Trees.{file_files}
+use Rattle.open_body.proofs.Vacancies.{is_vacant, parent_node}
 use Rattle.open_body.specs.Opening.{IsReady, IsRefused, Readies, open_named}
 
 module _ (g : Geometry) (t : Tree) (user : User) (now : ℕ) (path : List ℕ) (flags mode : ℕ) (d e : Disk) where

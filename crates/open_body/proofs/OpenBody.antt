@@ -15,18 +15,18 @@ use Rattle.tree.specs.Sums.{put}
 use Rattle.tree.specs.Tree.{OpenFile, Tree}
 use Rattle.tree.specs.Answers.{Answer, Effect, descriptor, refused}
 use Rattle.tree.specs.FileCalls.{Slot, open_path, with_open}
-use Rattle.bodies.proofs.tree_laws.OpenCall.{open_keeps}
-use Rattle.store.specs.volume.Reading.{Disk}
-use Rattle.store.specs.volume.Holds.{HoldsVolume}
+use Rattle.tree.proofs.OpenCall.{open_keeps}
+use Rattle.volume.specs.Reading.{Disk}
+use Rattle.volume.specs.Holds.{HoldsVolume}
 use Rattle.descriptors.specs.Files.{Files, HasFiles, files_in, tree_with}
 use Rattle.store.specs.declared.Halt.{Halt}
 use Rattle.store.specs.declared.Halt.TheVariants as halt
 use Rattle.store.specs.Halts.{Ends}
-use Rattle.walk.specs.Stops.{Answers, halted}
+use Rattle.path.specs.Stops.{Answers, halted}
 use Rattle.bodies.specs.Does.{Does, IsHeld}
 use Rattle.bodies.proofs.Made.{granted_made, refused_made}
 use Rattle.bodies.proofs.OpenFiles.{tree_kept}
-use Rattle.make_bodies.proofs.call_laws.Between.{holds_at_end}
+use Rattle.node_steps.proofs.Between.{holds_at_end}
 use Rattle.open_body.specs.Asking.{may_begin}
 use Rattle.open_body.specs.Opening.{IsPut, IsReady, Readies, open_named}
 use Rattle.open_body.proofs.Slots.{HasSlot, IsBegun, goes_on, has_slot, not_begun, put_there, slot_of}

@@ -14,21 +14,21 @@ use Rattle.tree.specs.Walk.{is_there}
 use Rattle.tree.specs.Changes.{file_after_resize, with_body}
 use Rattle.tree.specs.Answers.{Answer, Effect, descriptor}
 use Rattle.tree.specs.FileCalls.{Slot, after_truncate_flag, open_found, with_open}
-use Rattle.bodies.proofs.tree_laws.ByteCalls.{file_changed, file_fits}
-use Rattle.bodies.proofs.tree_laws.FileBodies.{resized_fits}
-use Rattle.store.specs.volume.declared.Inode.{Inode}
-use Rattle.store.specs.volume.Reading.{Disk, is_inode}
-use Rattle.store.specs.volume.Pieces.{Pieces, pieces}
-use Rattle.store.specs.volume.Nodes.{directory_of, entry_inode, is_directory_mode, is_marked, names_in, node_of, permissions_in}
-use Rattle.store.specs.volume.Holds.{HoldsVolume}
-use Rattle.walk.specs.zone_laws.Steps.{node_from}
+use Rattle.tree.proofs.ByteCalls.{file_changed, file_fits}
+use Rattle.tree.proofs.FileBodies.{resized_fits}
+use Rattle.volume.specs.declared.Inode.{Inode}
+use Rattle.volume.specs.Reading.{Disk, is_inode}
+use Rattle.volume.specs.Pieces.{Pieces, pieces}
+use Rattle.volume.specs.Nodes.{directory_of, entry_inode, is_directory_mode, is_marked, names_in, node_of, permissions_in}
+use Rattle.volume.specs.Holds.{HoldsVolume}
+use Rattle.zone.specs.ZoneSteps.{node_from}
 use Rattle.path.specs.Wishes.{IsWhose}
-use Rattle.bodies.specs.file.file_pages.Changing.{MayChange, file_at, stamped}
+use Rattle.file.specs.PageChanges.{MayChange, file_at, stamped}
 use Rattle.bodies.proofs.Made.{node_there}
-use Rattle.byte_bodies.proofs.node_bodies.Volumes.{may_change, no_directory, volume_changed}
-use Rattle.byte_bodies.specs.Dated.{SetsSizeAt}
-use Rattle.make_bodies.specs.call_laws.Stands.{Stands}
-use Rattle.make_bodies.proofs.call_laws.Between.{kind_is, nothing_is_done}
+use Rattle.bodies.proofs.Volumes.{may_change, no_directory, volume_changed}
+use Rattle.bodies.specs.Dated.{SetsSizeAt}
+use Rattle.node_steps.specs.Stands.{Stands}
+use Rattle.node_steps.proofs.Between.{kind_is, nothing_is_done}
 use Rattle.open_body.specs.Asking.{lacks_permission, why_barred}
 use Rattle.open_body.specs.Opening.{IsReady, IsRefused}
 

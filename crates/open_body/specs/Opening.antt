@@ -8,9 +8,9 @@ use Rattle.tree.specs.Refusals.{◌>>=◌}
 use Rattle.tree.specs.Walk.{is_there, look_up, read_path}
 use Rattle.tree.specs.Answers.{Answer, Effect, descriptor}
 use Rattle.tree.specs.FileCalls.{Slot, open_found, with_open}
-use Rattle.store.specs.volume.Reading.{Disk}
+use Rattle.volume.specs.Reading.{Disk}
 use Rattle.descriptors.specs.Files.{Files, HasFiles, files_in, put_file}
-use Rattle.make_bodies.specs.call_laws.Stands.{Stands}
+use Rattle.node_steps.specs.Stands.{Stands}
 
 -- open from the path on, where the slot of the open file is known
 abbrev pub open_named : Geometry → Tree → User → ℕ → List ℕ → ℕ → ℕ → Slot → Effect

@@ -3,7 +3,7 @@
 ghost use Rattle.std.specs.Prelude.{◌≡◌, ◌≢◌, ◌<◌, ◌&&◌, IfErr, IfSome, not};
 ghost use Rattle.tree.specs.Flags.{bad_flags, truncates};
 ghost use Rattle.tree.specs.Tree.{Node, most_sessions};
-ghost use Rattle.store.specs.volume.Nodes.{is_directory_mode, permissions_in};
+ghost use Rattle.volume.specs.Nodes.{is_directory_mode, permissions_in};
 ghost use Rattle.descriptors.specs.Table.{files_of};
 ghost use Rattle.path.specs.Wishes.{IsWhose};
 ghost use Rattle.open_body.specs.Asking.{lacks_permission, may_begin, why_barred};
@@ -12,7 +12,7 @@ use bitflags::Flags;
 use bodies::found::is_directory;
 use descriptors::Descriptors;
 use errno::Errno;
-use inode_table::Inode;
+use volume::Inode;
 use path::{Wish, may};
 use tree::{MAX_PERMISSIONS, OpenFlags, User};
 

@@ -19,7 +19,7 @@ use errno::Errno;
 use layout::Geometry;
 use store::{Blocks, Halt};
 use tree::{OpenFlags, Reply, User};
-use walk::Stop;
+use path::Stop;
 
 /// Opens a node at position 0, under the lowest free descriptor of a session that has one.
 fn put(opens: &mut Descriptors, session: u8, inode: u16, flags: OpenFlags) -> Reply

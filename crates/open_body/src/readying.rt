@@ -2,22 +2,22 @@
 
 ghost use Rattle.std.specs.Prelude.{◌≢◌, ◌≤◌, IfErr, IsTrue, is_some};
 ghost use Rattle.tree.specs.Tree.{Tree, most_permissions};
-ghost use Rattle.store.specs.volume.Holds.{HoldsVolume};
+ghost use Rattle.volume.specs.Holds.{HoldsVolume};
 ghost use Rattle.store.specs.Volume.{IsOn};
 ghost use Rattle.store.specs.World.{Turns};
-ghost use Rattle.walk.specs.Stops.{Answers, IfRefused, IsStop};
+ghost use Rattle.path.specs.Stops.{Answers, IfRefused, IsStop};
 ghost use Rattle.open_body.specs.Opening.{Readies, ReadiesThere, open_named};
 
 use crate::asking::{is_emptied, refusal};
-use byte_bodies::set_size_at;
+use bodies::set_size_at;
 use errno::Errno;
-use inode_table::load;
+use inode::inode_table::load;
 use layout::Geometry;
-use make_bodies::make_file;
+use crate::make_file;
 use path::Path;
 use store::Blocks;
 use tree::{OpenFlags, User};
-use walk::{Found, Stop, look_up};
+use path::{Found, Stop, look_up};
 
 /// Readies a node that is there: with the truncate flag its file is emptied, changed at `now` (seconds). EEXIST where the call makes files
 /// and takes no others, EISDIR of a directory to be written, EACCES where the user lacks a permission; then nothing is changed.

@@ -1,2 +1,6 @@
+-- How walks end, and what they find.
 pub mod Lasts
 pub mod Wishes
+pub mod Stops
+pub mod Walking
+pub mod Places

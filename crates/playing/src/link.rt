@@ -2,22 +2,22 @@
 
 ghost use Rattle.std.specs.Prelude.{◌≡◌, ◌<◌, ◌≤◌, ◌+◌, ◌-◌, List, Some, None, IfSome, length, false, not, ◌||◌, ◌&&◌};
 ghost use Rattle.std.specs.VecDeque.{deque_len, deque_capacity};
-ghost use Rattle.reissue.specs.marks.Opening.{Opening};
-ghost use Rattle.reissue.specs.marks.Marks.{Mark};
+ghost use Rattle.records.specs.Opening.{Opening};
+ghost use Rattle.records.specs.Marks.{Mark};
 
 use crate::playing::Playing;
-use arrivals::queue::wait;
+use schedule::queue::wait;
 use driver_events::ruling::complain;
-use endpoint::Endpoint;
+use message::endpoint::Endpoint;
 use inline::local::LocalDriver;
 use message::{BlockRequest, Incoming};
-use play_turns::room::{event_at, make_room};
+use crate::room::{event_at, make_room};
 use reissue::link::{Link, LinkRefusal, TrueLink};
-use run_log::Entry;
+use schedule::Entry;
 
 impl<'a, D: LocalDriver> Playing<'a, D> {
-    ghost use Rattle.run_log.specs.LogView.{said, room_in};
-    ghost use Rattle.driver_events.specs.run_drivers.View.{HasRoom};
+    ghost use Rattle.schedule.specs.LogView.{said, room_in};
+    ghost use Rattle.run_drivers.specs.View.{HasRoom};
     ghost use Rattle.driver_events.specs.Kept.{with_next};
     ghost use Rattle.playing.specs.PlayView.{play_of, PlaysNext, Advances, ComesToEnd, PlayTrue, GoesOn, left_of};
 
@@ -41,7 +41,7 @@ impl<'a, D: LocalDriver> Playing<'a, D> {
         self.stage.play(self.alloc, &mut self.log, place, &event)
     }
 
-    #[tactic(auto, using(play_turns::proofs::PlayLaws::advanced, play_turns::proofs::PlayLaws::advanced_more))]
+    #[tactic(auto, using(crate::proofs::PlayLaws::advanced, crate::proofs::PlayLaws::advanced_more))]
     /// Plays events until one brings a message; none, if each was played or no memory was found.
     fn advance(&mut self) -> Option<Incoming>
         requires live { self.old.log.over ≡ false }
@@ -76,10 +76,10 @@ fn owes(owed: bool, gives_up: bool, told: bool, over: bool) -> bool
 }
 
 impl<'a, D: LocalDriver> Link for Playing<'a, D> {
-    ghost use Rattle.run_log.specs.LogView.{said as said_in, room_in as room_left};
+    ghost use Rattle.schedule.specs.LogView.{said as said_in, room_in as room_left};
     ghost use Rattle.driver_events.specs.StageView.{scene_of};
     ghost use Rattle.playing.specs.PlayView.{PlayTrue as IsPlayTrue, left_of as left_by, GoesOn as HasGoneOn, play_of as played};
-    ghost use Rattle.play_turns.specs.Goes.{goes_stays, goes_joins};
+    ghost use Rattle.playing.specs.Goes.{goes_stays, goes_joins};
 
     ghost history = { λ l. (said_in l.log).history };
 
@@ -110,7 +110,7 @@ impl<'a, D: LocalDriver> Link for Playing<'a, D> {
         self.log.note(Entry::Complained(about, ruling.is_fault()));
     }
 
-    #[tactic(auto, using(play_turns::proofs::PlayLaws::ended_true, play_turns::proofs::PlayLaws::true_of))]
+    #[tactic(auto, using(crate::proofs::PlayLaws::ended_true, crate::proofs::PlayLaws::true_of))]
     fn take(&mut self) -> Incoming {
         let over = self.log.over;
         if over {
@@ -153,7 +153,7 @@ impl<'a, D: LocalDriver> Link for Playing<'a, D> {
 }
 
 impl<'a, D: LocalDriver> TrueLink for Playing<'a, D> {
-    ghost use Rattle.play_turns.specs.Goes.{replies_of_play};
+    ghost use Rattle.playing.specs.Goes.{replies_of_play};
 
     ghost replies_are_true = { λ l v marks kept. replies_of_play v _ marks kept };
 }

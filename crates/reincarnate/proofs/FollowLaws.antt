@@ -4,14 +4,14 @@ use Rattle.std.specs.List.{flat_map}
 use Rattle.std.proofs.Common.{arith, append_assoc, length-append, ap, sym, subst, ◌∙◌}
 use Rattle.std.proofs.lemmas.Bool.Decides.{nat_tests}
 use Rattle.std.proofs.lemmas.List.{append-nil}
-use Rattle.endpoint.specs.declared.Endpoint.{Endpoint}
-use Rattle.policy.specs.declared.Policy.{Policy}
-use Rattle.policy.specs.declared.Event.{Event}
-use Rattle.policy.specs.declared.Event.TheVariants.{Exit, Tick, Complaint}
-use Rattle.policy.specs.Policy.{IsAllowed}
-use Rattle.policy.specs.Faults.{next_fault, last_fault, gives_up, restart_tick}
-use Rattle.policy.specs.Watch.{Action, Nothing, WaitUntil, Start, GiveUp, Phase, Running, Waiting, GivenUp, Watch, driver, is_last_started, is_same_pulse, on, on_fault, on_report, on_start, on_tick}
-use Rattle.policy.specs.Laws.{tick_of, misses_in, with_pulse}
+use Rattle.message.specs.declared.endpoint.Endpoint.{Endpoint}
+use Rattle.reincarnate.specs.declared.policy.Policy.{Policy}
+use Rattle.reincarnate.specs.declared.policy.Event.{Event}
+use Rattle.reincarnate.specs.declared.policy.Event.TheVariants.{Exit, Tick, Complaint}
+use Rattle.reincarnate.specs.Policy.{IsAllowed}
+use Rattle.reincarnate.specs.Faults.{next_fault, last_fault, gives_up, restart_tick}
+use Rattle.reincarnate.specs.Watch.{Action, Nothing, WaitUntil, Start, GiveUp, Phase, Running, Waiting, GivenUp, Watch, driver, is_last_started, is_same_pulse, on, on_fault, on_report, on_start, on_tick}
+use Rattle.reincarnate.specs.Laws.{tick_of, misses_in, with_pulse}
 use Rattle.reincarnate.specs.declared.Action.{Action as Answer}
 use Rattle.reincarnate.specs.declared.Action.TheVariants as answers
 use Rattle.reincarnate.specs.Known.{HasSpare}

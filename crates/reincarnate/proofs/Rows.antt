@@ -1,11 +1,11 @@
 -- Worked rows, by computation. The drivers are numbers, and turns stand newest first.
 use Rattle.std.specs.Prelude.{◌≡◌, ℕ, List, [], ◌∷◌, ◌++◌, Err, refl}
 use Rattle.std.proofs.Common.{arith}
-use Rattle.policy.specs.declared.Policy.{Policy}
-use Rattle.policy.specs.declared.Event.TheVariants.{Exit, Tick, Complaint}
-use Rattle.policy.specs.Policy.{IsAllowed, default_policy}
-use Rattle.policy.specs.Watch as restart
-use Rattle.policy.specs.Watch.{driver}
+use Rattle.reincarnate.specs.declared.policy.Policy.{Policy}
+use Rattle.reincarnate.specs.declared.policy.Event.TheVariants.{Exit, Tick, Complaint}
+use Rattle.reincarnate.specs.Policy.{IsAllowed, default_policy}
+use Rattle.reincarnate.specs.Watch as restart
+use Rattle.reincarnate.specs.Watch.{driver}
 use Rattle.reincarnate.specs.declared.Action.TheVariants.{Nothing, WaitUntil, Start, GiveUp}
 use Rattle.reincarnate.specs.declared.SupplyRefusal.TheVariants.{BadPolicy, NoDriver}
 use Rattle.reincarnate.specs.Supply.{NewAnswers}

@@ -1,12 +1,12 @@
 -- A reincarnation server follows the restart policy over a whole run.
 use Rattle.std.specs.Prelude.{◌≡◌, ℕ, ◌+◌, List, [], ◌∷◌, ◌++◌, length, map}
 use Rattle.std.specs.List.{flat_map}
-use Rattle.policy.specs.declared.Policy.{Policy}
-use Rattle.policy.specs.declared.Event.{Event}
-use Rattle.policy.specs.Policy.{IsAllowed}
-use Rattle.policy.specs.Faults.{last_fault}
-use Rattle.policy.specs.Watch.{Action, WaitUntil, Start, GiveUp, Phase, Running, Waiting, GivenUp, Watch, driver, watch_after, actions}
-use Rattle.policy.specs.Laws.{misses_in}
+use Rattle.reincarnate.specs.declared.policy.Policy.{Policy}
+use Rattle.reincarnate.specs.declared.policy.Event.{Event}
+use Rattle.reincarnate.specs.Policy.{IsAllowed}
+use Rattle.reincarnate.specs.Faults.{last_fault}
+use Rattle.reincarnate.specs.Watch.{Action, WaitUntil, Start, GiveUp, Phase, Running, Waiting, GivenUp, Watch, driver, watch_after, actions}
+use Rattle.reincarnate.specs.Laws.{misses_in}
 use Rattle.reincarnate.specs.Known.{HasSpare}
 use Rattle.reincarnate.specs.declared.Action.{Action as Answer}
 use Rattle.reincarnate.specs.Supply.{ReincarnationState, Decides, action_of, handed_over}

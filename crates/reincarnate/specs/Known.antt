@@ -1,10 +1,10 @@
 -- What is remembered between events, against what the restart policy knows.
 use Rattle.std.specs.Prelude.{◌≡◌, ℕ, ◌+◌, ◌-◌, ◌^◌, ◌<◌, ◌≤◌, List, slice_index, Bool, true, false, Option, Some, None}
 use Rattle.std.specs.Option.{option_map}
-use Rattle.policy.specs.declared.Policy.{Policy}
-use Rattle.policy.specs.Policy.{IsAllowed}
-use Rattle.policy.specs.Faults.{LastFault}
-use Rattle.policy.specs.Watch as restart
+use Rattle.reincarnate.specs.declared.policy.Policy.{Policy}
+use Rattle.reincarnate.specs.Policy.{IsAllowed}
+use Rattle.reincarnate.specs.Faults.{LastFault}
+use Rattle.reincarnate.specs.Watch as restart
 use Rattle.reincarnate.specs.declared.watch.Fault.{Fault}
 use Rattle.reincarnate.specs.declared.watch.Phase.{Phase}
 use Rattle.reincarnate.specs.declared.watch.Phase.TheVariants.{Waiting, Running, GivenUp}

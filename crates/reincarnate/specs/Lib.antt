@@ -1,6 +1,9 @@
+-- When a driver is replaced.
 -- The reincarnation server against the restart policy.
-pub use Rattle.bdev.specs as bdev
-pub use Rattle.policy.specs as policy
+pub mod Policy
+pub mod Faults
+pub mod Watch
+pub mod Laws
 pub mod Known
 pub mod Supply
 pub mod Runs

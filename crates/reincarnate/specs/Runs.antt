@@ -1,12 +1,12 @@
 -- What a reincarnation server met and did, and what the restart policy says of it: no state, only what happened.
 use Rattle.std.specs.Prelude.{ℕ, ◌+◌, ◌-◌, List, [], ◌∷◌, ◌++◌, length, Bool, false, ◌&&◌, ◌==◌, nat_le, if◌then◌else◌}
-use Rattle.endpoint.specs.declared.Endpoint.{Endpoint}
-use Rattle.policy.specs.declared.Policy.{Policy}
-use Rattle.policy.specs.declared.Event.{Event}
-use Rattle.policy.specs.declared.Event.TheVariants.{Exit, Tick, Complaint}
-use Rattle.policy.specs.Faults.{LastFault, next_fault, last_fault, gives_up, restart_tick}
-use Rattle.policy.specs.Watch.{Action, Nothing, WaitUntil, Start, GiveUp, driver}
-use Rattle.policy.specs.Laws.{is_of_fault, tick_of, misses_in, with_pulse}
+use Rattle.message.specs.declared.endpoint.Endpoint.{Endpoint}
+use Rattle.reincarnate.specs.declared.policy.Policy.{Policy}
+use Rattle.reincarnate.specs.declared.policy.Event.{Event}
+use Rattle.reincarnate.specs.declared.policy.Event.TheVariants.{Exit, Tick, Complaint}
+use Rattle.reincarnate.specs.Faults.{LastFault, next_fault, last_fault, gives_up, restart_tick}
+use Rattle.reincarnate.specs.Watch.{Action, Nothing, WaitUntil, Start, GiveUp, driver}
+use Rattle.reincarnate.specs.Laws.{is_of_fault, tick_of, misses_in, with_pulse}
 use Rattle.reincarnate.specs.declared.Action.{Action as Answer}
 use Rattle.reincarnate.specs.Supply.{action_of, handed_over}
 

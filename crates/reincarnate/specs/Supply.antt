@@ -1,9 +1,9 @@
 -- The reincarnation server with its supply of drivers.
 use Rattle.std.specs.Prelude.{◌≡◌, ◌≢◌, ℕ, List, [], ◌∷◌, ◌++◌, length, Result, Ok, Err}
-use Rattle.policy.specs.declared.Policy.{Policy}
-use Rattle.policy.specs.Policy.{IsAllowed}
-use Rattle.policy.specs.declared.Event.{Event}
-use Rattle.policy.specs.Watch as restart
+use Rattle.reincarnate.specs.declared.policy.Policy.{Policy}
+use Rattle.reincarnate.specs.Policy.{IsAllowed}
+use Rattle.reincarnate.specs.declared.policy.Event.{Event}
+use Rattle.reincarnate.specs.Watch as restart
 use Rattle.reincarnate.specs.declared.Action.{Action}
 use Rattle.reincarnate.specs.declared.Action.TheVariants.{Nothing, WaitUntil, Start, GiveUp}
 use Rattle.reincarnate.specs.declared.SupplyRefusal.{SupplyRefusal}

@@ -3,15 +3,16 @@
 //! It decides and does nothing else: whoever runs it tells it each exit, tick and complaint, and does what it answers.
 #![tactic(auto)]
 
+pub mod policy;
+mod reincarnation;
+mod watch;
+
 ghost use Rattle.std.specs.Prelude.{◌≡◌};
 ghost use Rattle.reincarnate.specs.Follows.{EveryListIsDecided};
 ghost use Rattle.reincarnate.specs.Supply.{refusal_number};
 
-mod reincarnation;
-mod watch;
 
-use endpoint::Endpoint;
-pub use policy::{Event, Policy, Setup};
+use message::endpoint::Endpoint;
 pub use reincarnation::Reincarnation;
 use thiserror::Error;
 

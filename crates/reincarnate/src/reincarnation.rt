@@ -1,7 +1,7 @@
 //! The reincarnation server over its supply of drivers.
 
 ghost use Rattle.std.specs.Prelude.{◌≡◌, ◌<◌, ◌^◌, List, [], ◌∷◌, IfErr, IfOk, OnOk};
-ghost use Rattle.policy.specs.Laws.{tick_of};
+ghost use Rattle.reincarnate.specs.Laws.{tick_of};
 ghost use Rattle.reincarnate.specs.Follows.{Follows};
 ghost use Rattle.reincarnate.specs.Runs.{Added, Met, Turn};
 ghost use Rattle.reincarnate.specs.Supply.{Decides, NewAnswers, with_driver};
@@ -9,7 +9,7 @@ ghost use Rattle.reincarnate.specs.Supply.{Decides, NewAnswers, with_driver};
 use crate::watch::{Decision, Watch};
 use crate::{Action, SupplyRefusal};
 use bdev::Driver;
-use policy::{Event, Policy};
+use crate::policy::{Event, Policy};
 use std::alloc::{AllocError, Global};
 use std::collections::VecDeque;
 use std::marker::Model;

@@ -1,14 +1,14 @@
 //! What is remembered of the driver that runs and of its faults, and what is decided by it.
 
 ghost use Rattle.std.specs.Prelude.{◌≡◌, ◌≤◌, ◌<◌, ◌-◌, ◌^◌, ℕ, min, true};
-ghost use Rattle.policy.specs.Policy.{IsAllowed};
-ghost use Rattle.policy.specs.Faults.{fault_number};
-ghost use Rattle.policy.specs.Watch.{on, on_fault, on_report, on_start, on_tick};
-ghost use Rattle.policy.specs.Laws.{is_running, tick_of};
+ghost use Rattle.reincarnate.specs.Policy.{IsAllowed};
+ghost use Rattle.reincarnate.specs.Faults.{fault_number};
+ghost use Rattle.reincarnate.specs.Watch.{on, on_fault, on_report, on_start, on_tick};
+ghost use Rattle.reincarnate.specs.Laws.{is_running, tick_of};
 ghost use Rattle.reincarnate.specs.Known.{HasSpare, Makes, is_waiting, known_at_first, watch_with};
 
-use endpoint::{DISK_DRIVER, Endpoint, Slots};
-use policy::{Event, Policy};
+use message::endpoint::{DISK_DRIVER, Endpoint, Slots};
+use crate::policy::{Event, Policy};
 use std::marker::Model;
 
 /// What is decided at an event: an action without its driver.

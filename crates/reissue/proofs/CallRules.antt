@@ -3,26 +3,26 @@ use Rattle.std.proofs.Common.{◌≡◌, ℕ, ◌+◌, ◌-◌, ◌<◌, ◌≤�
 use Rattle.std.proofs.lemmas.Bool.Decides.{nat_tests}
 use Rattle.std.proofs.lemmas.List.{length-append, length-drop, length-map, map-append}
 use Rattle.std.specs.Prelude.{nat_lt, is_some, ◌&&◌, ◌==◌, MatchBool}
-use Rattle.endpoint.specs.declared.Endpoint.{Endpoint}
+use Rattle.message.specs.declared.endpoint.Endpoint.{Endpoint}
 use Rattle.message.specs.declared.BlockRequest.{BlockRequest}
 use Rattle.message.specs.declared.Incoming.{Incoming}
 use Rattle.message.specs.declared.Incoming.TheVariants as incoming
-use Rattle.marks.specs.Marks.{Mark}
-use Rattle.marks.specs.Open.{open_requests}
-use Rattle.marks.specs.Told.{heard as taken, took_end, Told, Received, received, grown, with_told}
-use Rattle.marks.specs.Acts.{Act, Began, Absorbed, AtLink, Outbox, KeepsRules, MayAct, outbox_after, marks_after, told_of}
-use Rattle.marks.proofs.ActLaws.{acts_compose}
-use Rattle.pending_table.specs.pending_queue.declared.pending.Pending.{Pending}
-use Rattle.pending_table.specs.declared.table.Table.{Table}
-use Rattle.pending_table.specs.Moves.{IsBusy}
-use Rattle.pending_table.specs.Entries.{AllOfMinor, request_of, pending_of}
-use Rattle.pending_table.specs.Agrees.{Agrees, unposted, never_issued}
-use Rattle.pending_table.specs.Hears.{Hears, IsUnanswered}
-use Rattle.pending_table.specs.Answers.{complaints_about}
+use Rattle.records.specs.Marks.{Mark}
+use Rattle.records.specs.Open.{open_requests}
+use Rattle.records.specs.Told.{heard as taken, took_end, Told, Received, received, grown, with_told}
+use Rattle.records.specs.Acts.{Act, Began, Absorbed, AtLink, Outbox, KeepsRules, MayAct, outbox_after, marks_after, told_of}
+use Rattle.records.proofs.ActLaws.{acts_compose}
+use Rattle.reissue.specs.declared.pending.Pending.{Pending}
+use Rattle.reissue.specs.declared.table.Table.{Table}
+use Rattle.reissue.specs.Moves.{IsBusy}
+use Rattle.reissue.specs.Entries.{AllOfMinor, request_of, pending_of}
+use Rattle.reissue.specs.Agrees.{Agrees, unposted, never_issued}
+use Rattle.reissue.specs.Hears.{Hears, IsUnanswered}
+use Rattle.reissue.specs.Answers.{complaints_about}
 use Rattle.reissue.specs.Posts.{PostsInOrder, PostsAfter, accepted_of, due_after, is_message}
 use Rattle.reissue.specs.Rules.{outbox_of, KeepsRulesBy, at_link, acts_on}
 use Rattle.reissue.proofs.Order.{append_cancel, drop_push}
-use Rattle.pending_table.proofs.Settling.{minors_push}
+use Rattle.reissue.proofs.Settling.{minors_push}
 use Rattle.reissue.proofs.PostRules.{told_at_link, box, box_same}
 use Rattle.reissue.proofs.TableRules.{loose, ends_same, table_posts, PostsKeep, at_rest, needed}
 use Rattle.reissue.proofs.StepRules.{arrival, Arrives, heard, began_none}

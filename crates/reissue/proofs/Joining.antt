@@ -2,32 +2,32 @@
 use Rattle.std.proofs.Common.{◌≡◌, ℕ, ◌+◌, ◌-◌, ◌<◌, List, [], ◌∷◌, ◌++◌, length, drop, map, Bool, true, false, refl, sym, ◌∙◌, ap, subst, arith, append_assoc, inl, inr, Option, zero, suc}
 use Rattle.std.proofs.lemmas.Bool.Decides.{nat_tests}
 use Rattle.std.specs.Prelude.{MatchBool, ◌==◌, ◌||◌, not, nat_lt, cond}
-use Rattle.endpoint.specs.declared.Endpoint.{Endpoint}
+use Rattle.message.specs.declared.endpoint.Endpoint.{Endpoint}
 use Rattle.message.specs.declared.BlockRequest.{BlockRequest}
 use Rattle.message.specs.declared.Incoming.{Incoming}
 use Rattle.message.specs.declared.Incoming.TheVariants as incoming
-use Rattle.marks.specs.Marks.{Mark, Issued}
-use Rattle.marks.specs.Disk.{Contents, HasTrueReplies}
-use Rattle.marks.specs.Told.{Told, Posted, Complained, Received, grown, received, heard, took_end}
-use Rattle.marks.specs.Acts.{Act, Began, AtLink, told_of, has_absorbed}
-use Rattle.pending_table.specs.pending_queue.declared.ask.Ask.{Ask}
-use Rattle.pending_table.specs.pending_queue.declared.ask.Settled.{Settled}
-use Rattle.pending_table.specs.pending_queue.declared.ask.Settled.TheVariants as settled
-use Rattle.pending_table.specs.pending_queue.declared.pending.Pending.{Pending}
-use Rattle.pending_table.specs.declared.table.Table.{Table}
-use Rattle.marks.specs.Opening.{Opening}
+use Rattle.records.specs.Marks.{Mark, Issued}
+use Rattle.records.specs.Disk.{Contents, HasTrueReplies}
+use Rattle.records.specs.Told.{Told, Posted, Complained, Received, grown, received, heard, took_end}
+use Rattle.records.specs.Acts.{Act, Began, AtLink, told_of, has_absorbed}
+use Rattle.reissue.specs.declared.ask.Ask.{Ask}
+use Rattle.reissue.specs.declared.ask.Settled.{Settled}
+use Rattle.reissue.specs.declared.ask.Settled.TheVariants as settled
+use Rattle.reissue.specs.declared.pending.Pending.{Pending}
+use Rattle.reissue.specs.declared.table.Table.{Table}
+use Rattle.records.specs.Opening.{Opening}
 use Rattle.reissue.specs.Room.{room_needed}
-use Rattle.pending_table.specs.Moves.{Closes, IsFree, Spares, state_after}
-use Rattle.pending_table.specs.Entries.{pending_of, begun_of, request_of, AllOfMinor, MissesOrSame, AreDistinct, IsAmong}
-use Rattle.pending_table.specs.Agrees.{Agrees, unposted}
+use Rattle.reissue.specs.Moves.{Closes, IsFree, Spares, state_after}
+use Rattle.reissue.specs.Entries.{pending_of, begun_of, request_of, AllOfMinor, MissesOrSame, AreDistinct, IsAmong}
+use Rattle.reissue.specs.Agrees.{Agrees, unposted}
 use Rattle.reissue.specs.Posts.{OnlyPosts, PostsInOrder, PostsAfter, is_message}
 use Rattle.reissue.specs.Calls.{Truth, Leads, TakesIn, Absorbs, Steps, Begins, PostsNew, IsAnswerTo, more_may_come}
 use Rattle.reissue.proofs.Posting.{closing_posted}
 use Rattle.reissue.specs.Rules.{BeganAmong, at_link, all_began, began_on, acts_on}
 use Rattle.reissue.proofs.StepRules.{arrival}
 use Rattle.reissue.proofs.CallRules.{absorb_rules, step_rules, begin_rules}
-use Rattle.pending_table.proofs.Settling.{minors_push}
-use Rattle.pending_table.proofs.Tickets.{pending_among}
+use Rattle.reissue.proofs.Settling.{minors_push}
+use Rattle.reissue.proofs.Tickets.{pending_among}
 
 -- the record after both
 pub grown_append : (es fs : List Told) (marks : List Mark) → grown (es ++ fs) marks ≡ grown es (grown fs marks)

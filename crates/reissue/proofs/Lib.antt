@@ -1,5 +1,13 @@
-pub use Rattle.pending_table.proofs as pending_table
-pub use Rattle.marks.proofs as marks
+mod Places
+pub mod Finding
+pub mod Maps
+pub mod Tickets
+pub mod Writes
+pub mod Joined
+pub mod Left
+pub mod Answering
+mod Closing
+pub mod Settling
 mod Steps
 mod Messages
 pub mod Taking
@@ -10,3 +18,4 @@ mod StepRules
 mod CallRules
 pub mod Joining
 mod Posting
+pub mod NotesLaws

@@ -1,32 +1,31 @@
 -- What a message does to agreement with the record.
 use Rattle.std.proofs.Common.{◌≡◌, ℕ, ◌+◌, List, [], ◌∷◌, ◌++◌, Bool, true, false, cond, refl, sym, ◌∙◌, ap, Some, None}
 use Rattle.std.specs.Prelude.{◌||◌}
-use Rattle.endpoint.specs.declared.Endpoint.{Endpoint}
+use Rattle.message.specs.declared.endpoint.Endpoint.{Endpoint}
 use Rattle.message.specs.declared.BlockReply.{BlockReply}
 use Rattle.message.specs.declared.Incoming.{Incoming}
 use Rattle.message.specs.declared.Incoming.TheVariants as incoming
-use Rattle.marks.specs.Marks.{Mark, Started, Flush, GaveUp, gave_up}
-use Rattle.marks.specs.Disk.{Contents, unsure, disk_after}
-use Rattle.marks.specs.Told.{Told, Complained, received, grown, took_end, took_nothing}
-use Rattle.pending_table.specs.pending_queue.declared.pending.Pending.{Pending}
-use Rattle.pending_table.specs.declared.table.Table.{Table}
-use Rattle.pending_table.specs.declared.table.Answer.{Answer}
-use Rattle.pending_table.specs.declared.table.Answer.TheVariants as answer
-use Rattle.pending_table.specs.pending_queue.declared.ask.Settled.{Settled}
-use Rattle.pending_table.specs.pending_queue.declared.ask.Settled.TheVariants as settled
-use Rattle.marks.specs.Opening.{Opening}
-use Rattle.pending_table.specs.Moves.{Closes}
-use Rattle.pending_table.specs.Entries.{pending_of, AllOfMinor}
-use Rattle.pending_table.specs.Agrees.{Agrees, AllReadDisk}
-use Rattle.pending_table.specs.Hears.{HearsStart, HearsAnswer, counted_move}
-use Rattle.marks.specs.Acts.{complaint_due, target}
-use Rattle.pending_table.specs.Answers.{complaints_about}
-use Rattle.pending_table.specs.Closing.{Closing, ReadsOn}
+use Rattle.records.specs.Marks.{Mark, Started, Flush, GaveUp, gave_up}
+use Rattle.records.specs.Disk.{Contents, unsure, disk_after}
+use Rattle.records.specs.Told.{Told, Complained, received, grown, took_end, took_nothing}
+use Rattle.reissue.specs.declared.pending.Pending.{Pending}
+use Rattle.reissue.specs.declared.table.Table.{Table}
+use Rattle.reissue.specs.declared.table.Answer.{Answer}
+use Rattle.reissue.specs.declared.table.Answer.TheVariants as answer
+use Rattle.reissue.specs.declared.ask.Settled.{Settled}
+use Rattle.reissue.specs.declared.ask.Settled.TheVariants as settled
+use Rattle.records.specs.Opening.{Opening}
+use Rattle.reissue.specs.Moves.{Closes}
+use Rattle.reissue.specs.Entries.{pending_of, AllOfMinor}
+use Rattle.reissue.specs.Agrees.{Agrees, AllReadDisk}
+use Rattle.reissue.specs.Hears.{HearsStart, HearsAnswer, counted_move}
+use Rattle.records.specs.Acts.{complaint_due, target}
+use Rattle.reissue.specs.Answers.{complaints_about, is_bad, settled_of, complained}
+use Rattle.reissue.specs.Closing.{Closing, ReadsOn}
 use Rattle.reissue.specs.Calls.{Truth, TakesIn, gives_up}
-use Rattle.pending_table.specs.Answers.{is_bad, settled_of, complained}
-use Rattle.pending_table.proofs.Writes.{wrote_like}
-use Rattle.pending_table.proofs.Joined.{joined_like}
-use Rattle.pending_table.proofs.Left.{reads_none}
+use Rattle.reissue.proofs.Writes.{wrote_like}
+use Rattle.reissue.proofs.Joined.{joined_like}
+use Rattle.reissue.proofs.Left.{reads_none}
 
 -- marks that leave the disk and what is sure of it leave what was read true
 pub reads_like : (image : Contents) (marks more : List Mark) (ps : List Pending)

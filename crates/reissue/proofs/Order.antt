@@ -5,10 +5,10 @@ use Rattle.std.proofs.lemmas.Bool.Decides.{leb_tells, nat_tests}
 use Rattle.std.proofs.lemmas.List.{length-append}
 use Rattle.std.specs.Prelude.{nat_lt, remove, ◌==◌}
 use Rattle.message.specs.declared.BlockRequest.{BlockRequest}
-use Rattle.marks.specs.Open.{without_id}
-use Rattle.pending_table.specs.pending_queue.declared.pending.Pending.{Pending}
-use Rattle.pending_table.specs.Entries.{AreRising, request_of}
-use Rattle.pending_table.proofs.Tickets.{rising_lower}
+use Rattle.records.specs.Open.{without_id}
+use Rattle.reissue.specs.declared.pending.Pending.{Pending}
+use Rattle.reissue.specs.Entries.{AreRising, request_of}
+use Rattle.reissue.proofs.Tickets.{rising_lower}
 
 -- the end of a rising list rises
 pub rising_drop : (low ids n : ℕ) (ps : List Pending) → AreRising low ids ps → AreRising low ids (drop n ps)

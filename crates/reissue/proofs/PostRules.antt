@@ -3,20 +3,20 @@ use Rattle.std.proofs.Common.{◌≡◌, ℕ, suc, ◌+◌, ◌-◌, List, [], �
 use Rattle.std.proofs.lemmas.Bool.{cond-true, eq-eqb}
 use Rattle.std.proofs.lemmas.Bool.Decides.{leb_tells, nat_tests}
 use Rattle.std.specs.Prelude.{nat_lt, ◌==◌}
-use Rattle.endpoint.specs.declared.Endpoint.{Endpoint}
+use Rattle.message.specs.declared.endpoint.Endpoint.{Endpoint}
 use Rattle.message.specs.declared.BlockRequest.{BlockRequest}
-use Rattle.marks.specs.Marks.{Mark, Issued}
-use Rattle.marks.specs.Open.{without_id}
-use Rattle.marks.specs.Told.{Told, Posted, Complained, Received}
-use Rattle.marks.specs.Acts.{Act, AtLink, Outbox, KeepsRules, outbox_after, target, told_of}
-use Rattle.marks.specs.Opening.{FitsMinor}
-use Rattle.marks.proofs.ActLaws.{acts_compose}
-use Rattle.pending_table.specs.pending_queue.declared.pending.Pending.{Pending}
-use Rattle.pending_table.specs.Entries.{AreRising, AllOfMinor, request_of}
+use Rattle.records.specs.Marks.{Mark, Issued}
+use Rattle.records.specs.Open.{without_id}
+use Rattle.records.specs.Told.{Told, Posted, Complained, Received}
+use Rattle.records.specs.Acts.{Act, AtLink, Outbox, KeepsRules, outbox_after, target, told_of}
+use Rattle.records.specs.Opening.{FitsMinor}
+use Rattle.records.proofs.ActLaws.{acts_compose}
+use Rattle.reissue.specs.declared.pending.Pending.{Pending}
+use Rattle.reissue.specs.Entries.{AreRising, AllOfMinor, request_of}
 use Rattle.reissue.specs.Posts.{ArePostedTo, accepted_of}
 use Rattle.reissue.specs.Rules.{at_link}
 use Rattle.reissue.proofs.Steps.{fits_minor}
-use Rattle.pending_table.proofs.Tickets.{rising_lower}
+use Rattle.reissue.proofs.Tickets.{rising_lower}
 use Rattle.reissue.proofs.Order.{without_lower}
 
 -- both one after the other

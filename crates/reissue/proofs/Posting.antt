@@ -1,21 +1,19 @@
 -- What posts leave of what an answer told.
-use Rattle.std.proofs.Common.{◌≡◌, ℕ, ◌+◌, ◌<◌, List, [], ◌∷◌, Bool, true, false, refl, sym, ◌∙◌, subst, inl, inr, Option, Some, None, arith}
+use Rattle.std.proofs.Common.{◌≡◌, ℕ, ◌+◌, ◌<◌, List, [], ◌∷◌, Bool, true, false, refl, sym, ◌∙◌, subst, inl, inr, Option, Some, None, arith, length}
 use Rattle.std.specs.Prelude.{◌||◌}
-use Rattle.pending_table.specs.pending_queue.declared.ask.Settled.{Settled}
-use Rattle.pending_table.specs.pending_queue.declared.ask.Settled.TheVariants as settled
-use Rattle.pending_table.proofs.Maps.{put_cases}
-use Rattle.pending_table.specs.pending_queue.declared.pending.Pending.{Pending}
-use Rattle.pending_table.proofs.Writes.{spares_then}
-use Rattle.pending_table.proofs.Tickets.{pending_here}
-use Rattle.std.proofs.Common.{length}
+use Rattle.reissue.specs.declared.ask.Settled.{Settled}
+use Rattle.reissue.specs.declared.ask.Settled.TheVariants as settled
+use Rattle.reissue.proofs.Maps.{put_cases}
+use Rattle.reissue.specs.declared.pending.Pending.{Pending}
+use Rattle.reissue.proofs.Writes.{spares_then}
+use Rattle.reissue.proofs.Tickets.{pending_here}
 use Rattle.std.specs.List.{list_any}
-use Rattle.marks.specs.Disk.{Contents, HasTrueReplies, disk_after, unsure}
-use Rattle.marks.specs.Marks.{Mark}
-use Rattle.marks.specs.Told.{Complained, Posted, Received, Told, grown}
-use Rattle.pending_table.specs.Closing.{Closing, LeavesQuiet, ReadsOn}
-use Rattle.pending_table.specs.Entries.{AllAsk, IsLeft, begun_of, pending_of}
-use Rattle.marks.specs.Disk.{bytes_read, is_read}
-use Rattle.pending_table.specs.Moves.{Begun, Closes, Joins, IsBusy, IsQuiet, Spares, Tells, put, state_after}
+use Rattle.records.specs.Disk.{Contents, HasTrueReplies, disk_after, unsure, bytes_read, is_read}
+use Rattle.records.specs.Marks.{Mark}
+use Rattle.records.specs.Told.{Complained, Posted, Received, Told, grown}
+use Rattle.reissue.specs.Closing.{Closing, LeavesQuiet, ReadsOn}
+use Rattle.reissue.specs.Entries.{AllAsk, IsLeft, begun_of, pending_of}
+use Rattle.reissue.specs.Moves.{Begun, Closes, Joins, IsBusy, IsQuiet, Spares, Tells, put, state_after}
 use Rattle.reissue.specs.Posts.{OnlyPosts}
 
 -- a place stays quiet when a request is settled

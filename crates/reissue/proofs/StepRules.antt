@@ -4,21 +4,21 @@ use Rattle.std.proofs.lemmas.List.{length-append, length-drop, length-map, map-a
 use Rattle.std.proofs.lemmas.Bool.Decides.{nat_tests}
 use Rattle.std.proofs.Math.Seq.{drop-append_seam}
 use Rattle.std.specs.Prelude.{nat_lt, is_some, ◌&&◌, not, remove}
-use Rattle.endpoint.specs.declared.Endpoint.{Endpoint}
+use Rattle.message.specs.declared.endpoint.Endpoint.{Endpoint}
 use Rattle.message.specs.declared.BlockRequest.{BlockRequest}
 use Rattle.message.specs.declared.BlockReply.{BlockReply}
 use Rattle.message.specs.declared.Incoming.{Incoming}
 use Rattle.message.specs.declared.Incoming.TheVariants as incoming
-use Rattle.marks.specs.Marks.{Mark, gave_up}
-use Rattle.marks.specs.Open.{open_requests, greatest, counts, moved_by, without_id}
-use Rattle.marks.specs.Told.{Told, Complained, Received, received, took_end}
-use Rattle.marks.specs.Acts.{Act, Began, AtLink, Outbox, KeepsRules, MayAct, outbox_after, marks_after, told_of, with_act, owed_after_act, owed_after_message, complaint_due, without_answered}
-use Rattle.pending_table.specs.pending_queue.declared.pending.Pending.{Pending}
-use Rattle.pending_table.specs.declared.table.Table.{Table}
-use Rattle.pending_table.specs.Entries.{request_of}
-use Rattle.pending_table.specs.Agrees.{Agrees, unposted, never_issued}
-use Rattle.pending_table.specs.Hears.{Hears, HearsAnswer, HearsStart, IsAnswered, IsUnanswered, LeavesRest, counted_move}
-use Rattle.pending_table.specs.Answers.{complaints_about}
+use Rattle.records.specs.Marks.{Mark, gave_up}
+use Rattle.records.specs.Open.{open_requests, greatest, counts, moved_by, without_id}
+use Rattle.records.specs.Told.{Told, Complained, Received, received, took_end}
+use Rattle.records.specs.Acts.{Act, Began, AtLink, Outbox, KeepsRules, MayAct, outbox_after, marks_after, told_of, with_act, owed_after_act, owed_after_message, complaint_due, without_answered}
+use Rattle.reissue.specs.declared.pending.Pending.{Pending}
+use Rattle.reissue.specs.declared.table.Table.{Table}
+use Rattle.reissue.specs.Entries.{request_of}
+use Rattle.reissue.specs.Agrees.{Agrees, unposted, never_issued}
+use Rattle.reissue.specs.Hears.{Hears, HearsAnswer, HearsStart, IsAnswered, IsUnanswered, LeavesRest, counted_move}
+use Rattle.reissue.specs.Answers.{complaints_about}
 use Rattle.reissue.specs.Posts.{due_after, is_message}
 use Rattle.reissue.specs.Rules.{outbox_of, at_link, all_began, began_on}
 use Rattle.reissue.proofs.Order.{without_posted, drop_removed, drop_push}

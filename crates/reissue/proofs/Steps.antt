@@ -2,25 +2,24 @@
 use Rattle.std.proofs.Common.{◌≡◌, ℕ, suc, zero, ◌+◌, ◌<◌, ◌≤◌, List, [], ◌∷◌, ◌++◌, length, drop, map, get_or, true, false, refl, sym, ◌∙◌, ap, subst, inl, inr, arith, append_assoc, max, Some}
 use Rattle.std.proofs.lemmas.List.{drop_more, map-append, length-append, get_or_append_left, length-map, get_or_at}
 use Rattle.std.proofs.lemmas.Bool.Decides.{leb_tells}
-use Rattle.endpoint.specs.declared.Endpoint.{Endpoint}
+use Rattle.message.specs.declared.endpoint.Endpoint.{Endpoint}
 use Rattle.message.specs.declared.BlockRequest.{BlockRequest}
-use Rattle.pending_table.specs.pending_queue.declared.pending.Pending.{Pending}
-use Rattle.pending_table.specs.declared.table.Table.{Table}
-use Rattle.pending_table.proofs.Writes.{all_wrote_issued, one_among, spares_issued, spares_then}
-use Rattle.pending_table.proofs.Tickets.{among_at}
-use Rattle.pending_table.proofs.Answering.{started_at}
-use Rattle.pending_table.proofs.Joined.{joined_like}
-use Rattle.marks.proofs.OpenRequests.{open_below, open_again, open_new}
-use Rattle.marks.specs.Disk.{Contents}
-use Rattle.marks.specs.Marks.{Issued, Mark}
-use Rattle.marks.specs.Open.{IsIn, IsNew, Misses, MissesAll, greatest, open_requests}
-use Rattle.marks.specs.Told.{Posted, Told, grown}
-use Rattle.pending_table.specs.Agrees.{AreNumbered, Agrees, AllApart, AllReadDisk, AllWrote, Apart, ApartFromAll, Holds, unposted}
-use Rattle.marks.specs.Open.{MayFollow}
+use Rattle.reissue.specs.declared.pending.Pending.{Pending}
+use Rattle.reissue.specs.declared.table.Table.{Table}
+use Rattle.reissue.proofs.Writes.{all_wrote_issued, one_among, spares_issued, spares_then}
+use Rattle.reissue.proofs.Tickets.{among_at}
+use Rattle.reissue.proofs.Answering.{started_at}
+use Rattle.reissue.proofs.Joined.{joined_like}
+use Rattle.records.proofs.OpenRequests.{open_below, open_again, open_new}
+use Rattle.records.specs.Disk.{Contents}
+use Rattle.records.specs.Marks.{Issued, Mark}
+use Rattle.records.specs.Open.{IsIn, IsNew, Misses, MissesAll, greatest, open_requests, MayFollow}
+use Rattle.records.specs.Told.{Posted, Told, grown}
+use Rattle.reissue.specs.Agrees.{AreNumbered, Agrees, AllApart, AllReadDisk, AllWrote, Apart, ApartFromAll, Holds, unposted}
 use Rattle.reissue.specs.Calls.{Leads, Truth}
-use Rattle.marks.specs.Opening.{Opening, Fits, FitsMinor}
-use Rattle.pending_table.specs.Entries.{AllOfMinor, IsAmong, pending_of, request_of}
-use Rattle.pending_table.specs.Moves.{Spares, state_after}
+use Rattle.records.specs.Opening.{Opening, Fits, FitsMinor}
+use Rattle.reissue.specs.Entries.{AllOfMinor, IsAmong, pending_of, request_of}
+use Rattle.reissue.specs.Moves.{Spares, state_after}
 use Rattle.reissue.specs.Posts.{ArePostedTo}
 
 -- the request of an entry is one of theirs

@@ -3,16 +3,16 @@ use Rattle.std.proofs.Common.{◌≡◌, ℕ, suc, zero, ◌+◌, ◌-◌, ◌<�
 use Rattle.std.proofs.lemmas.Bool.Decides.{leb_tells, nat_tests}
 use Rattle.std.proofs.lemmas.List.{take-append-drop, length-drop, length-append}
 use Rattle.std.specs.Prelude.{nat_lt, is_some, ◌&&◌, not, ◌||◌, IsTrue}
-use Rattle.endpoint.specs.declared.Endpoint.{Endpoint}
-use Rattle.marks.specs.Marks.{Mark, last_started, gave_up}
-use Rattle.marks.specs.Open.{open_requests, has_none}
-use Rattle.marks.specs.Told.{Told}
-use Rattle.marks.specs.Acts.{Outbox, KeepsRules, outbox_after, IsAtRest, needs_message, target}
-use Rattle.pending_table.specs.pending_queue.declared.pending.Pending.{Pending}
-use Rattle.pending_table.specs.declared.table.Table.{Table}
-use Rattle.pending_table.specs.Entries.{AreRising, AllOfMinor, request_of, pending_of}
-use Rattle.pending_table.specs.Moves.{Begun, IsBusy}
-use Rattle.pending_table.specs.Agrees.{Agrees, unposted, never_issued}
+use Rattle.message.specs.declared.endpoint.Endpoint.{Endpoint}
+use Rattle.records.specs.Marks.{Mark, last_started, gave_up}
+use Rattle.records.specs.Open.{open_requests, has_none}
+use Rattle.records.specs.Told.{Told}
+use Rattle.records.specs.Acts.{Outbox, KeepsRules, outbox_after, IsAtRest, needs_message, target}
+use Rattle.reissue.specs.declared.pending.Pending.{Pending}
+use Rattle.reissue.specs.declared.table.Table.{Table}
+use Rattle.reissue.specs.Entries.{AreRising, AllOfMinor, request_of, pending_of}
+use Rattle.reissue.specs.Moves.{Begun, IsBusy}
+use Rattle.reissue.specs.Agrees.{Agrees, unposted, never_issued}
 use Rattle.reissue.specs.Posts.{ArePostedTo, PostsInOrder, accepted_of}
 use Rattle.reissue.specs.Rules.{outbox_of, at_link}
 use Rattle.reissue.proofs.Order.{drop_twice, append_cancel, rising_drop}

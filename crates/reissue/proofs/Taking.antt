@@ -1,13 +1,13 @@
 -- What a client call's mark leaves of agreement with the record.
 use Rattle.std.proofs.Common.{ℕ, List, ◌∷◌, ◌++◌, refl}
-use Rattle.marks.specs.tree.declared.Who.{Who}
-use Rattle.marks.specs.tree.declared.Call.{Call}
-use Rattle.marks.specs.tree.Answers.{Answer}
-use Rattle.marks.specs.Marks.{Mark, Took}
-use Rattle.pending_table.specs.declared.table.Table.{Table}
-use Rattle.pending_table.specs.Agrees.{Agrees}
-use Rattle.pending_table.proofs.Writes.{wrote_like}
-use Rattle.pending_table.proofs.Joined.{joined_like}
+use Rattle.tree.specs.declared.Who.{Who}
+use Rattle.tree.specs.declared.Call.{Call}
+use Rattle.tree.specs.Answers.{Answer}
+use Rattle.records.specs.Marks.{Mark, Took}
+use Rattle.reissue.specs.declared.table.Table.{Table}
+use Rattle.reissue.specs.Agrees.{Agrees}
+use Rattle.reissue.proofs.Writes.{wrote_like}
+use Rattle.reissue.proofs.Joined.{joined_like}
 use Rattle.reissue.proofs.Messages.{reads_like}
 
 -- the table agrees as before

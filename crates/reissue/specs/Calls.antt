@@ -3,23 +3,23 @@ use Rattle.std.specs.Prelude.{◌≡◌, ℕ, ◌+◌, List, [], ◌∷◌, ◌+
 use Rattle.message.specs.declared.BlockRequest.{BlockRequest}
 use Rattle.message.specs.declared.Incoming.{Incoming}
 use Rattle.message.specs.declared.Incoming.TheVariants as incoming
-use Rattle.marks.specs.Marks.{Mark}
-use Rattle.marks.specs.Disk.{Contents}
-use Rattle.marks.specs.Told.{Told, Received, grown, received, heard, took_end, took_nothing}
-use Rattle.pending_table.specs.pending_queue.declared.ask.Ask.{Ask}
-use Rattle.pending_table.specs.pending_queue.declared.ask.Settled.{Settled}
-use Rattle.pending_table.specs.pending_queue.declared.ask.Settled.TheVariants as settled
-use Rattle.pending_table.specs.pending_queue.declared.pending.Pending.{Pending}
-use Rattle.pending_table.specs.declared.table.Table.{Table}
-use Rattle.marks.specs.Opening.{Opening}
-use Rattle.pending_table.specs.Moves.{IsBusy, Spares, Closes, state_after, request_for, begun_by}
-use Rattle.pending_table.specs.Entries.{pending_of, begun_of, AllOfMinor}
-use Rattle.pending_table.specs.Agrees.{Agrees}
-use Rattle.marks.specs.Acts.{Act, Absorbed, told_of, has_absorbed}
+use Rattle.records.specs.Marks.{Mark}
+use Rattle.records.specs.Disk.{Contents}
+use Rattle.records.specs.Told.{Told, Received, grown, received, heard, took_end, took_nothing}
+use Rattle.reissue.specs.declared.ask.Ask.{Ask}
+use Rattle.reissue.specs.declared.ask.Settled.{Settled}
+use Rattle.reissue.specs.declared.ask.Settled.TheVariants as settled
+use Rattle.reissue.specs.declared.pending.Pending.{Pending}
+use Rattle.reissue.specs.declared.table.Table.{Table}
+use Rattle.records.specs.Opening.{Opening}
+use Rattle.reissue.specs.Moves.{IsBusy, Spares, Closes, state_after, request_for, begun_by}
+use Rattle.reissue.specs.Entries.{pending_of, begun_of, AllOfMinor}
+use Rattle.reissue.specs.Agrees.{Agrees}
+use Rattle.records.specs.Acts.{Act, Absorbed, told_of, has_absorbed}
 use Rattle.reissue.specs.Rules.{KeepsRulesBy, BeganAmong, acts_on}
-use Rattle.pending_table.specs.Hears.{Hears}
-use Rattle.pending_table.specs.Answers.{complaints_about}
-use Rattle.pending_table.specs.Closing.{Closing}
+use Rattle.reissue.specs.Hears.{Hears}
+use Rattle.reissue.specs.Answers.{complaints_about}
+use Rattle.reissue.specs.Closing.{Closing}
 use Rattle.reissue.specs.Posts.{OnlyPosts, accepted_of, PostsInOrder, PostsAfter, due_after}
 
 -- what a link guarantees of a record, for a run from an opening

@@ -1,14 +1,14 @@
 -- What a link is told: posts in order, complaints that are due, and the room that they need.
 use Rattle.std.specs.Prelude.{◌≡◌, ◌⊎◌, ℕ, ◌+◌, ◌<◌, ◌≤◌, List, [], ◌∷◌, length, Option, Some, None, IsSome, Bool, true, false, not, MatchBool}
-use Rattle.endpoint.specs.declared.Endpoint.{Endpoint}
+use Rattle.message.specs.declared.endpoint.Endpoint.{Endpoint}
 use Rattle.message.specs.declared.BlockRequest.{BlockRequest}
 use Rattle.message.specs.declared.Incoming.{Incoming}
 use Rattle.message.specs.declared.Incoming.TheVariants as incoming
-use Rattle.marks.specs.Told.{Told, Posted, Complained, Received}
-use Rattle.marks.specs.Marks.{Mark}
-use Rattle.marks.specs.Acts.{complaint_due}
-use Rattle.pending_table.specs.declared.table.Table.{Table}
-use Rattle.pending_table.specs.Agrees.{unposted}
+use Rattle.records.specs.Told.{Told, Posted, Complained, Received}
+use Rattle.records.specs.Marks.{Mark}
+use Rattle.records.specs.Acts.{complaint_due}
+use Rattle.reissue.specs.declared.table.Table.{Table}
+use Rattle.reissue.specs.Agrees.{unposted}
 
 -- these are all posts
 abbrev pub OnlyPosts : List Told → Type 0

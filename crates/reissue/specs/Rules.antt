@@ -1,12 +1,12 @@
 -- What transfers do at their link, as acts, and what they owe it between two calls.
 use Rattle.std.specs.Prelude.{◌≡◌, ℕ, ◌-◌, List, [], ◌∷◌, ◌++◌, length, drop, ◌&&◌, nat_lt, is_some, None, if◌then◌else◌}
-use Rattle.marks.specs.Marks.{Mark}
-use Rattle.marks.specs.Told.{Told}
-use Rattle.marks.specs.Acts.{Act, Began, Absorbed, AtLink, Outbox, KeepsRules, outbox_after, marks_after, told_of}
-use Rattle.pending_table.specs.pending_queue.declared.pending.Pending.{Pending}
-use Rattle.pending_table.specs.declared.table.Table.{Table}
-use Rattle.pending_table.specs.Entries.{IsAmong}
-use Rattle.pending_table.specs.Agrees.{unposted, never_issued}
+use Rattle.records.specs.Marks.{Mark}
+use Rattle.records.specs.Told.{Told}
+use Rattle.records.specs.Acts.{Act, Began, Absorbed, AtLink, Outbox, KeepsRules, outbox_after, marks_after, told_of}
+use Rattle.reissue.specs.declared.pending.Pending.{Pending}
+use Rattle.reissue.specs.declared.table.Table.{Table}
+use Rattle.reissue.specs.Entries.{IsAmong}
+use Rattle.reissue.specs.Agrees.{unposted, never_issued}
 
 -- what a table owes its link between two calls
 abbrev pub outbox_of : Table → Outbox

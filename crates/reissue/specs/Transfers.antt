@@ -1,11 +1,11 @@
 -- The parts of transfers: their link, and their table of pending requests; what a call does to both.
 use Rattle.std.specs.Prelude.{ℕ, List, Option}
-use Rattle.marks.specs.Told.{Told}
+use Rattle.records.specs.Told.{Told}
 use Rattle.reissue.specs.declared.link.Link.{Ghosts as LinkWords}
-use Rattle.pending_table.specs.declared.table.Table.{Table}
+use Rattle.reissue.specs.declared.table.Table.{Table}
 use Rattle.reissue.specs.declared.transfers.Transfers.{Transfers}
-use Rattle.pending_table.specs.Entries.{pending_of}
-use Rattle.pending_table.specs.Moves.{Begun}
+use Rattle.reissue.specs.Entries.{pending_of}
+use Rattle.reissue.specs.Moves.{Begun}
 use Rattle.reissue.specs.Calls.{Truth}
 
 -- the link that they go over

@@ -1,15 +1,15 @@
 //! What a file server sees of its drivers: a line to post to, to complain on, and to take messages from.
 
 ghost use Rattle.std.specs.Prelude.{◌≡◌, ◌<◌, ◌≤◌, ◌+◌, ◌∷◌, List, ℕ, is_ok, OnOk, OnErr};
-ghost use Rattle.marks.specs.Marks.{Mark, Issued};
-ghost use Rattle.marks.specs.Open.{MayFollow};
-ghost use Rattle.marks.specs.Disk.{HasTrueReplies};
-ghost use Rattle.marks.specs.Told.{Told, Posted, Complained, received, heard};
-ghost use Rattle.marks.specs.Opening.{Opening, contents_at, Fits};
+ghost use Rattle.records.specs.Marks.{Mark, Issued};
+ghost use Rattle.records.specs.Open.{MayFollow};
+ghost use Rattle.records.specs.Disk.{HasTrueReplies};
+ghost use Rattle.records.specs.Told.{Told, Posted, Complained, received, heard};
+ghost use Rattle.records.specs.Opening.{Opening, contents_at, Fits};
 ghost use Rattle.reissue.specs.Refusals.{link_refusal_number};
 ghost use Rattle.reissue.specs.Room.{room_needed};
 
-use endpoint::Endpoint;
+use message::endpoint::Endpoint;
 use message::{BlockRequest, Incoming};
 use thiserror::Error;
 

@@ -1,19 +1,18 @@
 //! Requests over a link, each pending until it is answered good over its whole range.
 
-ghost use Rattle.std.specs.Prelude.{◌≡◌, ◌+◌, ◌<◌, ◌≤◌, ◌^◌, ◌==◌, ◌&&◌, ◌↔◌, ◌∷◌, [], List, ℕ, length, IsOk, IsTrue, IfOk, OnOk, OnErr};
-ghost use Rattle.std.specs.Prelude.{IsErrOf, IsSome, true, false, Option, MatchBool};
+ghost use Rattle.std.specs.Prelude.{◌≡◌, ◌+◌, ◌<◌, ◌≤◌, ◌^◌, ◌==◌, ◌&&◌, ◌↔◌, ◌∷◌, [], List, ℕ, length, IsOk, IsTrue, IfOk, OnOk, OnErr, IsErrOf, IsSome, true, false, Option, MatchBool};
 ghost use Rattle.std.specs.Borrow.{Lends, sem};
 ghost use Rattle.std.specs.List.{list_any};
 ghost use Rattle.reissue.specs.Room.{room_needed};
 ghost use Rattle.reissue.specs.Posts.{is_message};
-ghost use Rattle.pending_table.specs.Moves.{Opens, IsFree, begun_by};
-ghost use Rattle.pending_table.specs.Entries.{pending_of};
+ghost use Rattle.reissue.specs.Moves.{Opens, IsFree, begun_by};
+ghost use Rattle.reissue.specs.Entries.{pending_of};
 
 use crate::link::Link;
-use endpoint::Endpoint;
+use message::endpoint::Endpoint;
 use message::Incoming;
-use pending_table::ask::{Ask, BeginRefusal, Settled, Ticket};
-use pending_table::table::{Answer, Table};
+use crate::ask::{Ask, BeginRefusal, Settled, Ticket};
+use crate::table::{Answer, Table};
 use std::alloc::{AllocError, Global};
 
 /// The pending requests of a file server, and the link that they go over.
@@ -43,10 +42,10 @@ fn posts_after(message: &Incoming) -> bool
 }
 
 impl<L: Link> Transfers<L> {
-    ghost use Rattle.marks.specs.Marks.{Mark};
-    ghost use Rattle.marks.specs.Acts.{empty_outbox};
+    ghost use Rattle.records.specs.Marks.{Mark};
+    ghost use Rattle.records.specs.Acts.{empty_outbox};
     ghost use Rattle.reissue.specs.Rules.{outbox_of};
-    ghost use Rattle.pending_table.specs.Agrees.{Agrees, unposted};
+    ghost use Rattle.reissue.specs.Agrees.{Agrees, unposted};
     ghost use Rattle.reissue.specs.Posts.{PostsInOrder, IsTried, HasRoom, CanPost, TakesRoom};
     ghost use Rattle.reissue.specs.Calls.{Leads, TakesIn, Absorbs, Steps, Begins, Adds, IsAnswerTo, more_may_come};
     ghost use Rattle.reissue.specs.Transfers.{link_of, table_of, begun_in, with_link, Between};

@@ -11,12 +11,12 @@ use Rattle.tree.specs.Tree.{Body, Node, Tree, is_dir, is_directory, is_file, mos
 use Rattle.tree.specs.IsTree.{IsBody, IsTree, above}
 use Rattle.tree.specs.NameCalls.{is_within}
 use Rattle.tree.proofs.Maps.{not_true}
-use Rattle.last_page.proofs.tree_laws.Freed.{part_below}
-use Rattle.last_page.proofs.tree_laws.Totals.{one_for, one_for_itself, two_parts, weigh_found}
-use Rattle.last_page.proofs.tree_laws.Shapes.{IsShape, kind_of, shape_of, total, weight}
-use Rattle.last_page.proofs.tree_laws.NewDirectory.{directory_inside}
-use Rattle.last_page.proofs.tree_laws.Pigeonhole.{never_above}
-use Rattle.rename_asked.proofs.volume_laws.Entries.{same_by_cmp}
+use Rattle.tree.proofs.Freed.{part_below}
+use Rattle.tree.proofs.Totals.{one_for, one_for_itself, two_parts, weigh_found}
+use Rattle.tree.proofs.Shapes.{IsShape, kind_of, shape_of, total, weight}
+use Rattle.tree.proofs.NewDirectory.{directory_inside}
+use Rattle.tree.proofs.Pigeonhole.{never_above}
+use Rattle.volume.proofs.Entries.{same_by_cmp}
 
 -- a name that is found among names is one
 pub found_is_name : (name : Name) (es : Names) → list_all (λ e. is_name e.0) es ≡ true → is_some (inode_of es name) ≡ true → is_name name ≡ true
@@ -68,7 +68,7 @@ module _ (g : Geometry) (t : Tree) (tree : IsTree g t) where
               | inl e ↦ let up = shape.reached n directory in absurd (other (sym (stays n up.0 e) ∙ up.1))
               | inr e ↦
                   let up = parent_of (t.nodes n) in
-                  let up_directory = Rattle.last_page.proofs.tree_laws.Shapes.has_names (one_for n) (t.nodes up) (omega (arith, in_parent)) in
+                  let up_directory = Rattle.tree.proofs.Shapes.has_names (one_for n) (t.nodes up) (omega (arith, in_parent)) in
                   let both = two_parts (λ a. weight t.nodes (one_for n) a) (g.inodes + 1) up n (directory_inside g t.nodes shape up up_directory) inside e in
                   absurd (omega (arith, both, all, in_parent, here))
             ]

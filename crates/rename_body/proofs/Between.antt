@@ -8,13 +8,13 @@ use Rattle.tree.specs.IsTree.{IsBody}
 use Rattle.tree.specs.Changes.{fewer_links, more_links, with_ctime, with_names, with_parent}
 use Rattle.tree.specs.Space.{zones_of}
 use Rattle.tree.proofs.Maps.{not_true}
-use Rattle.last_page.proofs.tree_laws.Places.{without_name_fits}
-use Rattle.last_page.proofs.tree_laws.Totals.{weigh_one}
-use Rattle.last_page.proofs.tree_laws.Views.{on_node_at, on_node_elsewhere, view_kept}
-use Rattle.last_page.proofs.tree_laws.Weights.{weigh_with_name}
-use Rattle.last_page.proofs.tree_laws.TreeOver.{IsOver, over_itself, over_on_node}
-use Rattle.moving.specs.declared.moves.Move.{Move}
-use Rattle.moving.specs.Whole.{into, links_of, moved, out_of}
+use Rattle.tree.proofs.Places.{without_name_fits}
+use Rattle.tree.proofs.Totals.{weigh_one}
+use Rattle.tree.proofs.Views.{on_node_at, on_node_elsewhere, view_kept}
+use Rattle.tree.proofs.Weights.{weigh_with_name}
+use Rattle.tree.proofs.TreeOver.{IsOver, over_itself, over_on_node}
+use Rattle.node_steps.specs.declared.moves.Move.{Move}
+use Rattle.node_steps.specs.Whole.{into, links_of, moved, out_of}
 
 -- A directory with a name less.
 pub record IsLess (x y : Node) (name : Name) : Type 0 where

@@ -9,16 +9,16 @@ use Rattle.tree.specs.Names.{Name, is_dots, is_name, most_name}
 use Rattle.tree.specs.Tree.{Tree}
 use Rattle.tree.specs.Space.{data_zones, zones_used}
 use Rattle.tree.proofs.Maps.{not_true}
-use Rattle.store.specs.volume.Reading.{Disk}
+use Rattle.volume.specs.Reading.{Disk}
 use Rattle.descriptors.specs.Files.{Files}
-use Rattle.moving.specs.call_laws.Stands.{Stands}
-use Rattle.moving.specs.declared.moves.Move.{Move}
-use Rattle.moving.specs.Leads.{CanLead, Leads}
-use Rattle.moving.specs.Replaced.{MayDropReplaced, without_it}
-use Rattle.moving.specs.Whole.{MayMoveOver, MayMoveTo, MayMoveWithin, moved, moved_within}
-use Rattle.moving.proofs.Leading.{can_then, leads_then}
+use Rattle.node_steps.specs.Stands.{Stands}
+use Rattle.node_steps.specs.declared.moves.Move.{Move}
+use Rattle.node_steps.specs.Leads.{CanLead, Leads}
+use Rattle.node_steps.specs.Replaced.{MayDropReplaced, without_it}
+use Rattle.node_steps.specs.Whole.{MayMoveOver, MayMoveTo, MayMoveWithin, moved, moved_within}
+use Rattle.node_steps.proofs.Leading.{can_then, leads_then}
 use Rattle.rename_body.specs.MoveAsked.{IsAsked}
-use Rattle.rename_asked.specs.declared.asked.Asked.{Asked}
+use Rattle.rename_body.specs.declared.asked.Asked.{Asked}
 use Rattle.rename_body.specs.Elsewhere.{CanMove, IsElsewhere, TellsRoom}
 use Rattle.rename_body.proofs.Fitting.{fits_dropped, fits_within}
 use Rattle.rename_body.specs.Carrying.{IsReady, IsSomeReady, MayMoveAside, MayMoveOnto, SaysFits, carried, moved_onto}

@@ -14,24 +14,24 @@ use Rattle.tree.specs.Changes.{fewer_links, with_link_lost, with_names}
 use Rattle.tree.specs.Space.{data_zones, numbers_in_zone, pages_of, zones_of, zones_used}
 use Rattle.tree.specs.ZonesNeeded.{zones_needed}
 use Rattle.tree.proofs.Maps.{is_the_one, not_true}
-use Rattle.last_page.proofs.tree_laws.Entries.{gone_name, other_name, weigh_with_name_over}
-use Rattle.last_page.proofs.tree_laws.Fewer.{nameless_less, nodes_less, on_node_less, with_node_less, without_entry_less}
-use Rattle.last_page.proofs.tree_laws.Places.{from_true, without_name_fits}
-use Rattle.last_page.proofs.tree_laws.Totals.{only_nothing, weigh_one}
-use Rattle.last_page.proofs.tree_laws.Views.{on_node_at, on_node_elsewhere, view_gained}
-use Rattle.last_page.proofs.tree_laws.Weights.{weigh_with_name, weigh_without_name}
-use Rattle.store.specs.volume.Reading.{Disk}
-use Rattle.store.specs.volume.Pieces.{pieces}
-use Rattle.store.specs.volume.Holds.{HoldsVolume}
-use Rattle.rename_asked.proofs.volume_laws.Entries.{same_by_cmp}
-use Rattle.rename_asked.proofs.volume_laws.Sums.{count_most}
-use Rattle.file_room.specs.zone_laws.Room.{taken_by}
-use Rattle.file_room.specs.zone_laws.Steps.{marked_in}
-use Rattle.file_room.proofs.zone_laws.Room.{nodes_take_marked}
-use Rattle.file_room.proofs.file.file_pages.Rest.{wide}
-use Rattle.moving.specs.declared.moves.Move.{Move}
-use Rattle.moving.specs.Replaced.{without_it}
-use Rattle.moving.specs.Whole.{links_of, moved, moved_within, out_of, within}
+use Rattle.tree.proofs.Entries.{gone_name, other_name, weigh_with_name_over}
+use Rattle.tree.proofs.Fewer.{nameless_less, nodes_less, on_node_less, with_node_less, without_entry_less}
+use Rattle.tree.proofs.Places.{from_true, without_name_fits}
+use Rattle.tree.proofs.Totals.{only_nothing, weigh_one}
+use Rattle.tree.proofs.Views.{on_node_at, on_node_elsewhere, view_gained}
+use Rattle.tree.proofs.Weights.{weigh_with_name, weigh_without_name}
+use Rattle.volume.specs.Reading.{Disk}
+use Rattle.volume.specs.Pieces.{pieces}
+use Rattle.volume.specs.Holds.{HoldsVolume}
+use Rattle.volume.proofs.Entries.{same_by_cmp}
+use Rattle.volume.proofs.Sums.{count_most}
+use Rattle.zone.specs.Room.{taken_by}
+use Rattle.zone.specs.ZoneSteps.{marked_in}
+use Rattle.zone.proofs.Room.{nodes_take_marked}
+use Rattle.file.proofs.Rest.{wide}
+use Rattle.node_steps.specs.declared.moves.Move.{Move}
+use Rattle.node_steps.specs.Replaced.{without_it}
+use Rattle.node_steps.specs.Whole.{links_of, moved, moved_within, out_of, within}
 use Rattle.rename_body.specs.MoveAsked.{IsAsked}
 use Rattle.rename_body.proofs.Between.{in_names, less, out_here, out_names, out_other, zones_are, zones_out}
 use Rattle.rename_body.proofs.Possible.{may_move_onto}

@@ -4,13 +4,13 @@ use Rattle.std.specs.Prelude.{if◌then◌else◌}
 use Rattle.layout.specs.declared.Geometry.{Geometry}
 use Rattle.tree.specs.Names.{Name, Names, inode_of}
 use Rattle.tree.specs.Tree.{Directory, File, Node, Tree, is_dir, is_directory, is_file, names_of}
-use Rattle.store.specs.volume.declared.Inode.{Inode}
-use Rattle.store.specs.volume.Reading.{Disk}
-use Rattle.store.specs.volume.Pieces.{Pieces, pieces}
-use Rattle.store.specs.volume.Nodes.{directory_of, file_of, is_directory_mode, node_of}
-use Rattle.store.specs.volume.Entries.{is_directory_inode}
-use Rattle.store.specs.volume.Holds.{HoldsVolume}
-use Rattle.rename_asked.proofs.ancestors.walk.Going.{has_entries}
+use Rattle.volume.specs.declared.Inode.{Inode}
+use Rattle.volume.specs.Reading.{Disk}
+use Rattle.volume.specs.Pieces.{Pieces, pieces}
+use Rattle.volume.specs.Nodes.{directory_of, file_of, is_directory_mode, node_of}
+use Rattle.volume.specs.Entries.{is_directory_inode}
+use Rattle.volume.specs.Holds.{HoldsVolume}
+use Rattle.path.proofs.Going.{has_entries}
 use Rattle.rename_body.specs.Laws.{FoundIsAsked}
 
 -- the kind of a node is its mode's

@@ -20,29 +20,29 @@ use Rattle.tree.specs.Space.{data_zones, zones_used}
 use Rattle.tree.specs.Answers.{Effect, done, if_it_fits, refused}
 use Rattle.tree.specs.NameCalls.{is_same, is_within, rename, rename_onto, with_moved, without_moved, without_replaced}
 use Rattle.tree.proofs.Maps.{not_true}
-use Rattle.last_page.proofs.tree_laws.RenameCall.{rename_keeps}
-use Rattle.last_page.proofs.tree_laws.TreeOver.{IsOver, over_on_node, over_with_node}
-use Rattle.store.specs.volume.Reading.{Disk}
-use Rattle.store.specs.volume.Pieces.{pieces}
-use Rattle.store.specs.volume.Nodes.{node_of}
-use Rattle.store.specs.volume.Holds.{HoldsVolume}
+use Rattle.tree.proofs.RenameCall.{rename_keeps}
+use Rattle.tree.proofs.TreeOver.{IsOver, over_on_node, over_with_node}
+use Rattle.volume.specs.Reading.{Disk}
+use Rattle.volume.specs.Pieces.{pieces}
+use Rattle.volume.specs.Nodes.{node_of}
+use Rattle.volume.specs.Holds.{HoldsVolume}
 use Rattle.descriptors.specs.Files.{Files, HasFiles}
-use Rattle.rename_asked.specs.bodies.Does.{Does, IsHeld, tree_in}
-use Rattle.rename_asked.proofs.bodies.Made.{granted_made, looked_made, refused_made}
-use Rattle.moving.proofs.call_laws.Between.{holds_at_end, nothing_is_done}
-use Rattle.moving.specs.declared.moves.Move.{Move}
-use Rattle.moving.specs.Leads.{CanLead, Leads}
-use Rattle.moving.specs.Replaced.{without_it}
-use Rattle.moving.specs.Whole.{moved}
-use Rattle.moving.proofs.Whole.{moved_is_moved}
+use Rattle.bodies.specs.Does.{Does, IsHeld, tree_in}
+use Rattle.bodies.proofs.Made.{granted_made, looked_made, refused_made}
+use Rattle.node_steps.proofs.Between.{holds_at_end, nothing_is_done}
+use Rattle.node_steps.specs.declared.moves.Move.{Move}
+use Rattle.node_steps.specs.Leads.{CanLead, Leads}
+use Rattle.node_steps.specs.Replaced.{without_it}
+use Rattle.node_steps.specs.Whole.{moved}
+use Rattle.node_steps.proofs.Whole.{moved_is_moved}
 use Rattle.rename_body.specs.MoveAsked.{IsAsked}
 use Rattle.rename_body.proofs.Between.{open_stay}
 use Rattle.rename_body.proofs.Possible.{may_drop_other, may_move_in_directory, may_move_onto, may_move_where_it_fits}
-use Rattle.rename_asked.specs.name_bodies.Names.{IsVolume}
-use Rattle.rename_asked.specs.declared.asked.Asked.{Asked}
-use Rattle.rename_asked.specs.Asked.{FindsAsked, IsNamed, Rest, moving_at, new_at, old_at, on_paths}
-use Rattle.rename_asked.specs.Barred.{IsFound, MayMove, SaysBarred, Then, on_move, other_at}
-use Rattle.rename_asked.proofs.Standing.{moving_kind}
+use Rattle.name_bodies.specs.Names.{IsVolume}
+use Rattle.rename_body.specs.declared.asked.Asked.{Asked}
+use Rattle.rename_body.specs.Asked.{FindsAsked, IsNamed, Rest, moving_at, new_at, old_at, on_paths}
+use Rattle.rename_body.specs.Barred.{IsFound, MayMove, SaysBarred, Then, on_move, other_at}
+use Rattle.rename_body.proofs.Standing.{moving_kind}
 use Rattle.rename_body.proofs.Found.{found_is_asked}
 use Rattle.rename_body.specs.Carrying.{IsReady, IsSomeReady, MayCarry, SaysFits, carried}
 

@@ -1,3 +1,6 @@
+pub mod Finding
+pub mod Standing
+pub mod Barring
 pub mod Apart
 pub mod Between
 pub mod Possible
@@ -7,3 +10,5 @@ pub mod Found
 pub mod Telling
 pub mod Carried
 pub mod Going
+pub mod Climbing
+pub mod Pages

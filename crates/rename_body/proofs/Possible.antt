@@ -12,20 +12,20 @@ use Rattle.tree.specs.Tree.{Node, Tree, is_dir, most_size, names_of, size_of}
 use Rattle.tree.specs.Changes.{with_names}
 use Rattle.tree.specs.Space.{data_zones, zones_used}
 use Rattle.tree.proofs.Maps.{is_the_one, not_true}
-use Rattle.last_page.proofs.tree_laws.Entries.{other_name}
-use Rattle.last_page.proofs.tree_laws.Growth.{grown_fits}
-use Rattle.last_page.proofs.tree_laws.Shapes.{kind_of}
-use Rattle.last_page.proofs.tree_laws.Totals.{weigh_one}
-use Rattle.last_page.proofs.tree_laws.Views.{on_node_there}
-use Rattle.last_page.proofs.tree_laws.Weights.{weigh}
-use Rattle.rename_asked.proofs.volume_laws.Entries.{same_by_cmp}
-use Rattle.file_room.specs.zone_laws.Room.{taken_by}
+use Rattle.tree.proofs.Entries.{other_name}
+use Rattle.tree.proofs.Growth.{grown_fits}
+use Rattle.tree.proofs.Shapes.{kind_of}
+use Rattle.tree.proofs.Totals.{weigh_one}
+use Rattle.tree.proofs.Views.{on_node_there}
+use Rattle.tree.proofs.Weights.{weigh}
+use Rattle.volume.proofs.Entries.{same_by_cmp}
+use Rattle.zone.specs.Room.{taken_by}
 use Rattle.descriptors.specs.Files.{Files, HasFiles}
-use Rattle.moving.specs.declared.moves.Move.{Move}
-use Rattle.moving.specs.Moves.{IsParent, MaySettle, MayTakeOut}
-use Rattle.moving.specs.Replaced.{MayDropReplaced}
-use Rattle.moving.specs.Whole.{MayMoveOver, MayMoveTo, MayMoveWithin, into, links_of, moved, out_of, within}
-use Rattle.moving.proofs.Asked.{move_to_may_be_made}
+use Rattle.node_steps.specs.declared.moves.Move.{Move}
+use Rattle.node_steps.specs.Moves.{IsParent, MaySettle, MayTakeOut}
+use Rattle.node_steps.specs.Replaced.{MayDropReplaced}
+use Rattle.node_steps.specs.Whole.{MayMoveOver, MayMoveTo, MayMoveWithin, into, links_of, moved, out_of, within}
+use Rattle.node_steps.proofs.Asked.{move_to_may_be_made}
 use Rattle.rename_body.specs.MoveAsked.{IsAsked}
 use Rattle.rename_body.specs.MoveLaws.{MayDropOther, MayMoveInDirectory, MayMoveOnto, MayMoveWhereItFits}
 use Rattle.rename_body.proofs.Apart.{name_in, not_its_goal, not_its_place, size_fits}

@@ -8,18 +8,18 @@ use Rattle.layout.specs.Places.{IsGeometry}
 use Rattle.tree.specs.Tree.{Body, Node, Tree, is_dir, is_directory, is_file, size_of}
 use Rattle.tree.specs.Space.{data_zones, zones_used}
 use Rattle.tree.proofs.Maps.{is_the_one, not_true}
-use Rattle.store.specs.volume.declared.Inode.{Inode}
-use Rattle.store.specs.volume.Reading.{Disk, is_inode}
-use Rattle.store.specs.volume.Pieces.{Pieces, pieces}
+use Rattle.volume.specs.declared.Inode.{Inode}
+use Rattle.volume.specs.Reading.{Disk, is_inode}
+use Rattle.volume.specs.Pieces.{Pieces, pieces}
 use Rattle.bitmap.specs.Numbers.{count_free_in}
 use Rattle.bitmap.proofs.Counting.{free_taken}
-use Rattle.file_room.proofs.zone_laws.Inodes.{inode_is}
-use Rattle.file_room.specs.Room.{TakesMore}
-use Rattle.moving.specs.call_laws.Stands.{NodeIs, Stands}
-use Rattle.moving.proofs.call_laws.Between.{node_stands, nothing_is_done}
-use Rattle.last_page.specs.Sizes.{zones_of_size}
-use Rattle.moving.specs.Whole.{moved}
-use Rattle.rename_asked.specs.declared.asked.Asked.{Asked}
+use Rattle.zone.proofs.ZoneInodes.{inode_is}
+use Rattle.file.specs.Room.{TakesMore}
+use Rattle.node_steps.specs.Stands.{NodeIs, Stands}
+use Rattle.node_steps.proofs.Between.{node_stands, nothing_is_done}
+use Rattle.rename_body.specs.Sizes.{zones_of_size}
+use Rattle.node_steps.specs.Whole.{moved}
+use Rattle.rename_body.specs.declared.asked.Asked.{Asked}
 use Rattle.rename_body.proofs.Apart.{size_fits}
 use Rattle.rename_body.proofs.Between.{out_other}
 use Rattle.rename_body.proofs.Possible.{may_move_where_it_fits}

@@ -10,27 +10,27 @@ use Rattle.tree.specs.Changes.{with_names}
 use Rattle.tree.specs.Space.{numbers_in_zone, zones_of, zones_used}
 use Rattle.tree.specs.ZonesNeeded.{zones_needed}
 use Rattle.tree.proofs.Maps.{is_the_one, not_true}
-use Rattle.last_page.proofs.tree_laws.Totals.{only_at, sum_moved, weigh_one}
-use Rattle.last_page.proofs.tree_laws.Views.{view_gained, view_lost}
-use Rattle.last_page.proofs.tree_laws.Weights.{weigh_without_name}
-use Rattle.store.specs.volume.Reading.{Disk}
-use Rattle.store.specs.volume.Pieces.{Pieces, pieces}
-use Rattle.store.specs.volume.Holds.{HoldsVolume}
-use Rattle.moving.specs.entries.entry_laws.Directories.{before}
-use Rattle.file_room.specs.file.file_pages.Changing.{file_at}
-use Rattle.file_room.specs.file.Changing.{written_at}
-use Rattle.file_room.specs.Room.{TakesMore}
-use Rattle.file_room.proofs.file.Spaces.{node_takes_held}
-use Rattle.moving.specs.entries.Names.{IsOfDirectory}
-use Rattle.moving.proofs.entries.Becoming.{may_change}
-use Rattle.moving.specs.node_steps.Steps.{node_at}
-use Rattle.moving.specs.call_laws.Stands.{NodeIs, Stands}
-use Rattle.moving.specs.call_laws.Naming.{named}
-use Rattle.moving.proofs.call_laws.Between.{directory_stands, node_stands, nothing_is_done}
-use Rattle.moving.proofs.call_laws.Entering.{held_with_name, names_are}
-use Rattle.last_page.specs.Sizes.{zones_of_size}
-use Rattle.moving.specs.declared.moves.Move.{Move}
-use Rattle.moving.specs.Whole.{moved, out_of}
+use Rattle.tree.proofs.Totals.{only_at, sum_moved, weigh_one}
+use Rattle.tree.proofs.Views.{view_gained, view_lost}
+use Rattle.tree.proofs.Weights.{weigh_without_name}
+use Rattle.volume.specs.Reading.{Disk}
+use Rattle.volume.specs.Pieces.{Pieces, pieces}
+use Rattle.volume.specs.Holds.{HoldsVolume}
+use Rattle.directory.specs.Directories.{before}
+use Rattle.file.specs.PageChanges.{file_at}
+use Rattle.file.specs.Changing.{written_at}
+use Rattle.file.specs.Room.{TakesMore}
+use Rattle.file.proofs.Spaces.{node_takes_held}
+use Rattle.directory.specs.Names.{IsOfDirectory}
+use Rattle.directory.proofs.Becoming.{may_change}
+use Rattle.node_steps.specs.Steps.{node_at}
+use Rattle.node_steps.specs.Stands.{NodeIs, Stands}
+use Rattle.node_steps.specs.Naming.{named}
+use Rattle.node_steps.proofs.Between.{directory_stands, node_stands, nothing_is_done}
+use Rattle.node_steps.proofs.Entering.{held_with_name, names_are}
+use Rattle.rename_body.specs.Sizes.{zones_of_size}
+use Rattle.node_steps.specs.declared.moves.Move.{Move}
+use Rattle.node_steps.specs.Whole.{moved, out_of}
 use Rattle.rename_body.specs.MoveAsked.{IsAsked}
 use Rattle.rename_body.specs.MoveZones.{MoveTakes}
 use Rattle.rename_body.proofs.Between.{in_names, out_names, out_other, zones_are, zones_out}

@@ -3,15 +3,15 @@ use Rattle.std.specs.Prelude.{◌≡◌, ◌≢◌, ℕ, Bool, Option, None, Som
 use Rattle.layout.specs.declared.Geometry.{Geometry}
 use Rattle.tree.specs.Tree.{Node, Tree}
 use Rattle.tree.specs.Space.{data_zones, zones_used}
-use Rattle.store.specs.volume.Reading.{Disk}
-use Rattle.store.specs.volume.Pieces.{pieces}
-use Rattle.store.specs.volume.Holds.{HoldsVolume}
+use Rattle.volume.specs.Reading.{Disk}
+use Rattle.volume.specs.Pieces.{pieces}
+use Rattle.volume.specs.Holds.{HoldsVolume}
 use Rattle.descriptors.specs.Files.{Files}
-use Rattle.moving.specs.declared.moves.Move.{Move}
-use Rattle.moving.specs.Whole.{MayMoveOver, MayMoveTo, MayMoveWithin, moved}
-use Rattle.moving.specs.Replaced.{MayDropReplaced, without_it}
+use Rattle.node_steps.specs.declared.moves.Move.{Move}
+use Rattle.node_steps.specs.Whole.{MayMoveOver, MayMoveTo, MayMoveWithin, moved}
+use Rattle.node_steps.specs.Replaced.{MayDropReplaced, without_it}
 use Rattle.rename_body.specs.MoveAsked.{IsAsked}
-use Rattle.rename_asked.specs.declared.asked.Asked.{Asked}
+use Rattle.rename_body.specs.declared.asked.Asked.{Asked}
 
 -- the tree after a move over node q, and without what is left of that
 abbrev pub moved_onto : Move → ℕ → Tree → Tree

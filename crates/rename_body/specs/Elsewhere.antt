@@ -3,11 +3,11 @@ use Rattle.std.specs.Prelude.{◌≡◌, ◌≢◌, Bool, None, nat_le}
 use Rattle.layout.specs.declared.Geometry.{Geometry}
 use Rattle.tree.specs.Tree.{Node, Tree}
 use Rattle.tree.specs.Space.{data_zones, zones_used}
-use Rattle.store.specs.volume.Reading.{Disk}
-use Rattle.store.specs.volume.Pieces.{pieces}
-use Rattle.store.specs.volume.Holds.{HoldsVolume}
-use Rattle.moving.specs.Whole.{moved}
-use Rattle.rename_asked.specs.declared.asked.Asked.{Asked}
+use Rattle.volume.specs.Reading.{Disk}
+use Rattle.volume.specs.Pieces.{pieces}
+use Rattle.volume.specs.Holds.{HoldsVolume}
+use Rattle.node_steps.specs.Whole.{moved}
+use Rattle.rename_body.specs.declared.asked.Asked.{Asked}
 use Rattle.rename_body.specs.MoveAsked.{IsAsked}
 
 -- A tree is held of which the move is asked, to a name that another directory hasn't, and the inodes are those of the two directories.

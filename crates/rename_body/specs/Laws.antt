@@ -7,15 +7,15 @@ use Rattle.tree.specs.Tree.{Node, Tree, is_dir}
 use Rattle.tree.specs.Answers.{Effect}
 use Rattle.tree.specs.NameCalls.{is_same, is_within}
 use Rattle.tree.specs.Space.{data_zones, zones_used}
-use Rattle.store.specs.volume.Reading.{Disk}
-use Rattle.store.specs.volume.Pieces.{pieces}
-use Rattle.store.specs.volume.Nodes.{node_of}
-use Rattle.store.specs.volume.Holds.{HoldsVolume}
-use Rattle.moving.specs.declared.moves.Move.{Move}
-use Rattle.moving.specs.Replaced.{without_it}
-use Rattle.moving.specs.Whole.{moved, moved_within}
-use Rattle.rename_asked.specs.declared.asked.Asked.{Asked}
-use Rattle.rename_asked.specs.Asked.{AreFound, Rest, moving_at}
+use Rattle.volume.specs.Reading.{Disk}
+use Rattle.volume.specs.Pieces.{pieces}
+use Rattle.volume.specs.Nodes.{node_of}
+use Rattle.volume.specs.Holds.{HoldsVolume}
+use Rattle.node_steps.specs.declared.moves.Move.{Move}
+use Rattle.node_steps.specs.Replaced.{without_it}
+use Rattle.node_steps.specs.Whole.{moved, moved_within}
+use Rattle.rename_body.specs.declared.asked.Asked.{Asked}
+use Rattle.rename_body.specs.Asked.{AreFound, Rest, moving_at}
 use Rattle.rename_body.specs.MoveAsked.{IsAsked}
 
 -- the tree after a move within a directory

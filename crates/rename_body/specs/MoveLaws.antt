@@ -5,9 +5,9 @@ use Rattle.layout.specs.Places.{IsGeometry}
 use Rattle.tree.specs.Tree.{Node, Tree}
 use Rattle.tree.specs.Space.{data_zones, zones_used}
 use Rattle.descriptors.specs.Files.{Files, HasFiles}
-use Rattle.moving.specs.declared.moves.Move.{Move}
-use Rattle.moving.specs.Whole.{MayMoveOver, MayMoveTo, MayMoveWithin, moved}
-use Rattle.moving.specs.Replaced.{MayDropReplaced}
+use Rattle.node_steps.specs.declared.moves.Move.{Move}
+use Rattle.node_steps.specs.Whole.{MayMoveOver, MayMoveTo, MayMoveWithin, moved}
+use Rattle.node_steps.specs.Replaced.{MayDropReplaced}
 use Rattle.rename_body.specs.MoveAsked.{IsAsked}
 
 -- to a new name of the same directory

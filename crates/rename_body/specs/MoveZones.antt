@@ -4,13 +4,13 @@ use Rattle.layout.specs.declared.Geometry.{Geometry}
 use Rattle.layout.specs.Places.{IsGeometry}
 use Rattle.tree.specs.Tree.{Node, Tree, size_of}
 use Rattle.tree.specs.Space.{zones_used}
-use Rattle.store.specs.volume.Reading.{Disk}
-use Rattle.store.specs.volume.Pieces.{pieces}
-use Rattle.store.specs.volume.Holds.{HoldsVolume}
-use Rattle.file_room.specs.Room.{TakesMore}
-use Rattle.last_page.specs.Sizes.{zones_of_size}
-use Rattle.moving.specs.declared.moves.Move.{Move}
-use Rattle.moving.specs.Whole.{moved}
+use Rattle.volume.specs.Reading.{Disk}
+use Rattle.volume.specs.Pieces.{pieces}
+use Rattle.volume.specs.Holds.{HoldsVolume}
+use Rattle.file.specs.Room.{TakesMore}
+use Rattle.rename_body.specs.Sizes.{zones_of_size}
+use Rattle.node_steps.specs.declared.moves.Move.{Move}
+use Rattle.node_steps.specs.Whole.{moved}
 use Rattle.rename_body.specs.MoveAsked.{IsAsked}
 
 -- `more` zones are taken for an entry's bytes at the end of the one, and `less` given back with the last 64 bytes of the other.

@@ -5,16 +5,16 @@ ghost use Rattle.descriptors.specs.Table.{files_of};
 ghost use Rattle.store.specs.Halts.{Ends, IsHalt};
 ghost use Rattle.store.specs.Volume.{IsOn};
 ghost use Rattle.store.specs.World.{Reads, Turns};
-ghost use Rattle.moving.specs.Leads.{Makes};
-ghost use Rattle.moving.specs.Whole.{moved};
-ghost use Rattle.rename_asked.specs.Asked.{IsNamed};
+ghost use Rattle.node_steps.specs.Leads.{Makes};
+ghost use Rattle.node_steps.specs.Whole.{moved};
+ghost use Rattle.rename_body.specs.Asked.{IsNamed};
 ghost use Rattle.rename_body.specs.Carrying.{IsSomeReady, MayCarry, MayMoveAside, MayMoveOnto, SaysFits, carried, moved_onto};
 
 use crate::room::has_room;
 use descriptors::Descriptors;
 use layout::Geometry;
-use moving::{Move, drop_replaced, move_over, move_to, move_within};
-use rename_asked::Asked;
+use node_steps::{Move, drop_replaced, move_over, move_to, move_within};
+use crate::Asked;
 use store::{Blocks, Halt};
 
 /// Whether the tree after the move fits. Room is asked for a new name of another directory alone: no other move takes a zone more.

@@ -1,7 +1,14 @@
 //! The call `rename`, over any blocks: what its moves need of the tree, whether there is room for them, and the call. No memory is taken.
+//!
+//! What a rename asks before it moves, over any blocks: what its two paths name, and what bars the move. Nothing is changed, and no memory
+//! is taken.
 #![tactic(auto)]
 
+pub mod ancestors;
+mod asked;
+mod barred;
 mod carrying;
+pub mod last_page;
 mod laws;
 mod moves;
 mod renamed;
@@ -11,3 +18,5 @@ pub use laws::{found_is_asked, moves_that_fit};
 pub use moves::{a_move_takes_zones, moves_are_possible};
 pub use renamed::rename;
 pub use room::has_room;
+pub use asked::{Asked, find_asked};
+pub use barred::why_barred;

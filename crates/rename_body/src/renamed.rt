@@ -8,13 +8,13 @@ ghost use Rattle.descriptors.specs.Table.{files_of};
 ghost use Rattle.store.specs.World.{Turns};
 ghost use Rattle.store.specs.Volume.{IsOn};
 ghost use Rattle.store.specs.Halts.{IsHalt};
-ghost use Rattle.rename_asked.specs.bodies.Does.{Meets};
+ghost use Rattle.bodies.specs.Does.{Meets};
 
 use crate::carrying::{carry, fits};
 use descriptors::Descriptors;
 use errno::Errno;
 use layout::Geometry;
-use rename_asked::{Asked, find_asked, why_barred};
+use crate::{Asked, find_asked, why_barred};
 use store::{Blocks, Halt};
 use tree::{Reply, User};
 

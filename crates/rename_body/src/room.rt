@@ -7,10 +7,10 @@ ghost use Rattle.store.specs.World.{Reads};
 ghost use Rattle.rename_body.specs.Elsewhere.{CanMove, TellsRoom};
 
 use bitmap::{Map, count_free};
-use file_room::zones_for;
-use last_page::let_go;
+use file::file_room::zones_for;
+use crate::last_page::let_go;
 use layout::Geometry;
-use rename_asked::Asked;
+use crate::Asked;
 use store::{Blocks, Halt};
 use tree::MAX_SIZE;
 

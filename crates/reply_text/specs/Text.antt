@@ -1,7 +1,7 @@
 -- The texts of answers.
 use Rattle.std.specs.Prelude.{ℕ, ◌/◌, ◌%◌, ◌++◌, [], ◌∷◌, List, codes, flat_map, length, decimal, false}
 use Rattle.std.specs.Fmt.{digits}
-use Rattle.tree.specs.errno.Errors.{errno_name}
+use Rattle.errno.specs.Errors.{errno_name}
 use Rattle.tree.specs.declared.Attributes.{Attributes}
 use Rattle.tree.specs.declared.Room.{Room}
 use Rattle.tree.specs.declared.Outcome.{Outcome}

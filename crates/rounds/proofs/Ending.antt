@@ -2,30 +2,30 @@
 use Rattle.std.proofs.Common.{◌≡◌, ◌⊎◌, inl, inr, ℕ, zero, suc, ◌+◌, ◌*◌, ◌<◌, ◌≤◌, List, [], ◌∷◌, ◌++◌, Bool, true, false, refl, sym, ◌∙◌, ap, subst, arith, length}
 use Rattle.std.specs.Prelude.{if◌then◌else◌, map, reverse, take}
 use Rattle.std.proofs.lemmas.List.{append_assoc, length-append, length-reverse}
-use Rattle.tree.specs.layout.declared.Geometry.{Geometry}
+use Rattle.layout.specs.declared.Geometry.{Geometry}
 use Rattle.tree.specs.Tree.{Tree}
-use Rattle.reissue.specs.marks.Marks.{Mark, gave_up}
-use Rattle.reissue.specs.marks.Open.{IsWellFormed}
-use Rattle.reissue.specs.marks.Disk.{HasTrueReplies}
-use Rattle.reissue.specs.marks.Opening.{Opening, contents_at}
-use Rattle.file_server.specs.legal.Legal.{IsLegal}
-use Rattle.file_server.specs.legal.View.{Frames, ReadsBack}
-use Rattle.file_server.specs.legal.ServerCall.{Serving, HasTree}
+use Rattle.records.specs.Marks.{Mark, gave_up}
+use Rattle.records.specs.Open.{IsWellFormed}
+use Rattle.records.specs.Disk.{HasTrueReplies}
+use Rattle.records.specs.Opening.{Opening, contents_at}
+use Rattle.records.specs.Legal.{IsLegal}
+use Rattle.records.specs.View.{Frames, ReadsBack}
+use Rattle.records.specs.ServerCall.{Serving, HasTree}
 use Rattle.reissue.specs.Calls.{Truth}
-use Rattle.playing.specs.faultless.Faultless.{without_faults, FaultsChangeNothing}
-use Rattle.playing.proofs.faultless.FaultlessLaws.{faults_change_nothing}
-use Rattle.playing.specs.schedule.declared.Event.{Event}
-use Rattle.playing.specs.schedule.Calls.{taken}
-use Rattle.playing.specs.schedule.Headline.{Transcript, RepliesHold}
-use Rattle.playing.specs.run_log.Noted.{marks_in}
-use Rattle.playing.specs.driver_events.Scene.{Scene}
-use Rattle.playing.specs.arrivals.declared.arrived.Arrived.{Arrived}
+use Rattle.schedule.specs.Faultless.{without_faults, FaultsChangeNothing}
+use Rattle.schedule.proofs.FaultlessLaws.{faults_change_nothing}
+use Rattle.schedule.specs.declared.Event.{Event}
+use Rattle.schedule.specs.Calls.{taken}
+use Rattle.schedule.specs.Headline.{Transcript, RepliesHold}
+use Rattle.schedule.specs.Noted.{marks_in}
+use Rattle.driver_events.specs.Scene.{Scene}
+use Rattle.schedule.specs.declared.arrived.Arrived.{Arrived}
 use Rattle.playing.specs.PlayView.{Play, PlayTrue, IsSpent, work_left}
-use Rattle.playing_laws.specs.Laws.{IsSound, MediaHeld}
-use Rattle.playing_laws.specs.Waiting.{arrival_of}
-use Rattle.playing_laws.specs.Moments.{Doing, Resting, Answering}
-use Rattle.playing_laws.proofs.Guarantee.{media_held}
-use Rattle.playing_laws.proofs.Needing.{runs_end_needing}
+use Rattle.playing.specs.Laws.{IsSound, MediaHeld}
+use Rattle.playing.specs.Waiting.{arrival_of}
+use Rattle.playing.specs.Moments.{Doing, Resting, Answering}
+use Rattle.playing.proofs.Guarantee.{media_held}
+use Rattle.playing.proofs.Needing.{runs_end_needing}
 use Rattle.file_server.specs.Over.{Stands}
 use Rattle.rounds.specs.Runs.{moment, RunsOn, StandsAfter, EndsAs}
 use Rattle.rounds.specs.Ends.{RunStands, RunsOut}

@@ -6,21 +6,21 @@ use Rattle.message.specs.declared.Incoming.{Incoming}
 use Rattle.tree.specs.Tree.{Tree}
 use Rattle.tree.specs.declared.Reply.{Reply}
 use Rattle.tree.specs.Answers.{Answer, answer_of}
-use Rattle.reissue.specs.marks.Marks.{Mark, Took}
-use Rattle.reissue.specs.marks.Opening.{Opening, contents_at}
-use Rattle.reissue.specs.marks.Told.{received, took_end}
-use Rattle.reissue.specs.marks.Acts.{Absorbed, told_of, marks_after, owed_after_message, IsAtRest}
-use Rattle.file_server.specs.legal.ServerCall.{Serving, Serves, Outcome, Replied, Cut as WasCutOff}
+use Rattle.records.specs.Marks.{Mark, Took}
+use Rattle.records.specs.Opening.{Opening, contents_at}
+use Rattle.records.specs.Told.{received, took_end}
+use Rattle.records.specs.Acts.{Absorbed, told_of, marks_after, owed_after_message, IsAtRest}
+use Rattle.records.specs.ServerCall.{Serving, Serves, Outcome, Replied, Cut as WasCutOff}
 use Rattle.reissue.specs.Calls.{Truth}
-use Rattle.playing.specs.driver_events.Kept.{with_next}
-use Rattle.playing.specs.arrivals.declared.arrived.Arrived.{Arrived}
+use Rattle.driver_events.specs.Kept.{with_next}
+use Rattle.schedule.specs.declared.arrived.Arrived.{Arrived}
 use Rattle.playing.specs.PlayView.{Play, PlayTrue, GoesOn, Asides, HandsEvent, HandsNone, HandsOwed, HandsNothing, Answers, HandsOut, work_left}
-use Rattle.playing_laws.specs.Laws.{LeadsOn, IsToldOfEnd}
-use Rattle.playing_laws.specs.Waiting.{arrival_of, HasCalls}
-use Rattle.playing_laws.specs.Moments.{Doing, Resting, Hearing, Answering, record_of, Step, Runs, Starts, Then}
-use Rattle.playing_laws.proofs.Leading.{leads_stays, leads_joins, servers_lead_on, asides_lead_on, calls_lead_on, answers_lead_on}
-use Rattle.playing_laws.proofs.Waits.{servers_hand_none, asides_hand_none, one_is_handed_out, it_is_answered}
-use Rattle.playing_laws.proofs.Running.{history_of, goes_told_of_end, quiet_next, runs_join, runs_at, servers_end_rightly}
+use Rattle.playing.specs.Laws.{LeadsOn, IsToldOfEnd}
+use Rattle.playing.specs.Waiting.{arrival_of, HasCalls}
+use Rattle.playing.specs.Moments.{Doing, Resting, Hearing, Answering, record_of, Step, Runs, Starts, Then}
+use Rattle.playing.proofs.Leading.{leads_stays, leads_joins, servers_lead_on, asides_lead_on, calls_lead_on, answers_lead_on}
+use Rattle.playing.proofs.Waits.{servers_hand_none, asides_hand_none, one_is_handed_out, it_is_answered}
+use Rattle.playing.proofs.Running.{history_of, goes_told_of_end, quiet_next, runs_join, runs_at, servers_end_rightly}
 use Rattle.file_server.specs.Over.{SameServing, Hears, AbsorbsOver, CallsOver}
 use Rattle.file_server.proofs.Standing.{serves_same}
 use Rattle.rounds.specs.declared.course.Course.TheVariants.{More, Cut}

@@ -1,30 +1,30 @@
 -- A run from its start.
 use Rattle.std.proofs.Common.{◌≡◌, ℕ, suc, ◌+◌, ◌<◌, List, [], ◌∷◌, ◌++◌, length, Bool, true, false, refl, sym, ◌∙◌, ap, subst, arith}
 use Rattle.std.specs.Prelude.{take, map, reverse, not, ◌&&◌, is_some}
-use Rattle.tree.specs.layout.declared.Geometry.{Geometry}
+use Rattle.layout.specs.declared.Geometry.{Geometry}
 use Rattle.tree.specs.Tree.{Tree}
 use Rattle.message.specs.declared.BlockRequest.{BlockRequest}
 use Rattle.message.specs.declared.Incoming.TheVariants as incoming
-use Rattle.playing.specs.policy.Watch.{driver}
-use Rattle.reissue.specs.marks.Marks.{Mark, Started}
-use Rattle.reissue.specs.marks.Disk.{Contents}
-use Rattle.reissue.specs.marks.Opening.{contents_at}
-use Rattle.reissue.specs.marks.Open.{has_none}
-use Rattle.reissue.specs.marks.Told.{Told, took_end}
-use Rattle.reissue.specs.marks.Acts.{Act, Began, Absorbed, AtLink, Outbox, told_of, has_absorbed, marks_after, empty_outbox, outbox_after, target, is_post_due, IsAtRest}
-use Rattle.file_server.specs.legal.ServerCall.{Serving, AbsorbKeeps}
+use Rattle.reincarnate.specs.Watch.{driver}
+use Rattle.records.specs.Marks.{Mark, Started}
+use Rattle.records.specs.Disk.{Contents}
+use Rattle.records.specs.Opening.{contents_at}
+use Rattle.records.specs.Open.{has_none}
+use Rattle.records.specs.Told.{Told, took_end}
+use Rattle.records.specs.Acts.{Act, Began, Absorbed, AtLink, Outbox, told_of, has_absorbed, marks_after, empty_outbox, outbox_after, target, is_post_due, IsAtRest}
+use Rattle.records.specs.ServerCall.{Serving, AbsorbKeeps}
 use Rattle.reissue.specs.Calls.{Truth}
-use Rattle.playing.specs.schedule.declared.Event.{Event}
-use Rattle.playing.specs.schedule.Groups.{schedule_of}
-use Rattle.playing.specs.schedule.Calls.{arrived, taken}
-use Rattle.playing.specs.run_log.Noted.{Noted, marks_in}
-use Rattle.playing.specs.arrivals.declared.arrived.Arrived.{Arrived}
+use Rattle.schedule.specs.declared.Event.{Event}
+use Rattle.schedule.specs.Groups.{schedule_of}
+use Rattle.schedule.specs.Calls.{arrived, taken}
+use Rattle.schedule.specs.Noted.{Noted, marks_in}
+use Rattle.schedule.specs.declared.arrived.Arrived.{Arrived}
 use Rattle.playing.specs.PlayView.{Play, GoesOn, work_left}
-use Rattle.playing_laws.specs.Laws.{IsSound, LeadsOn, IsToldOfEnd}
-use Rattle.playing_laws.specs.Waiting.{arrival_of, HasCalls}
-use Rattle.playing_laws.specs.Moments.{Resting}
-use Rattle.playing_laws.proofs.Leading.{servers_lead_on}
-use Rattle.playing_laws.proofs.Running.{history_of, none_told}
+use Rattle.playing.specs.Laws.{IsSound, LeadsOn, IsToldOfEnd}
+use Rattle.playing.specs.Waiting.{arrival_of, HasCalls}
+use Rattle.playing.specs.Moments.{Resting}
+use Rattle.playing.proofs.Leading.{servers_lead_on}
+use Rattle.playing.proofs.Running.{history_of, none_told}
 use Rattle.file_server.specs.Over.{AbsorbsOver, Stands}
 use Rattle.rounds.proofs.Standing.{absorbed_live}
 use Rattle.rounds.specs.Runs.{IsIdle, moment}

@@ -6,19 +6,19 @@ use Rattle.message.specs.declared.Incoming.TheVariants as incoming
 use Rattle.tree.specs.Tree.{Tree}
 use Rattle.tree.specs.declared.Reply.{Reply}
 use Rattle.tree.specs.Answers.{answer_of}
-use Rattle.reissue.specs.marks.Marks.{Mark, Took}
-use Rattle.reissue.specs.marks.Opening.{Opening, contents_at}
-use Rattle.reissue.specs.marks.Told.{Told, Posted, Complained, Received, received, took_end, took_nothing}
-use Rattle.reissue.specs.marks.Acts.{Act, Began, Absorbed, AtLink, Outbox, told_of, marks_after, outbox_after, owed_after_message, IsAtRest}
-use Rattle.file_server.specs.legal.ServerCall.{Serving, Serves, Outcome, Rules}
+use Rattle.records.specs.Marks.{Mark, Took}
+use Rattle.records.specs.Opening.{Opening, contents_at}
+use Rattle.records.specs.Told.{Told, Posted, Complained, Received, received, took_end, took_nothing}
+use Rattle.records.specs.Acts.{Act, Began, Absorbed, AtLink, Outbox, told_of, marks_after, outbox_after, owed_after_message, IsAtRest}
+use Rattle.records.specs.ServerCall.{Serving, Serves, Outcome, Rules}
 use Rattle.reissue.specs.Calls.{Truth}
-use Rattle.playing.specs.run_log.declared.log.Entry.TheVariants as entry
-use Rattle.playing.specs.arrivals.declared.arrived.Arrived.{Arrived}
+use Rattle.schedule.specs.declared.log.Entry.TheVariants as entry
+use Rattle.schedule.specs.declared.arrived.Arrived.{Arrived}
 use Rattle.playing.specs.PlayView.{Play, noting, paid, PlaysNext, GoesOn, Asides, HandsEvent, HandsNone, HandsOwed, HandsOut}
-use Rattle.playing_laws.specs.Laws.{IsToldOfEnd}
-use Rattle.playing_laws.specs.Moments.{Doing, Resting, Hearing, Answering, Moment, record_of, Step, Settles, Brings, BringsNone, Pays, HandsCall, Replies, Runs, Starts, Then}
-use Rattle.playing.proofs.play_turns.PlayLaws.{message_history}
-use Rattle.playing_laws.proofs.Running.{history_of, next_record, next_history, handed_record, Reaches, acts_run, acts_after, ActsAfter, marks_after_message}
+use Rattle.playing.specs.Laws.{IsToldOfEnd}
+use Rattle.playing.specs.Moments.{Doing, Resting, Hearing, Answering, Moment, record_of, Step, Settles, Brings, BringsNone, Pays, HandsCall, Replies, Runs, Starts, Then}
+use Rattle.playing.proofs.PlayLaws.{message_history}
+use Rattle.playing.proofs.Running.{history_of, next_record, next_history, handed_record, Reaches, acts_run, acts_after, ActsAfter, marks_after_message}
 use Rattle.file_server.specs.Over.{AbsorbsOver, CallsOver}
 use Rattle.rounds.specs.Runs.{moment, IsNext, doing_of}
 

@@ -1,12 +1,12 @@
 -- What a turn comes to, and a run.
 use Rattle.std.proofs.Common.{◌≡◌, ℕ, ◌+◌, ◌<◌, ◌≤◌, true, false, ◌∙◌, ap, subst, arith}
 use Rattle.std.specs.Prelude.{Option, Some, None, length}
-use Rattle.file_server.specs.legal.ServerCall.{Serving}
+use Rattle.records.specs.ServerCall.{Serving}
 use Rattle.reissue.specs.Calls.{Truth}
-use Rattle.playing.specs.arrivals.declared.arrived.Arrived.{Arrived}
+use Rattle.schedule.specs.declared.arrived.Arrived.{Arrived}
 use Rattle.playing.specs.PlayView.{Play, HandsOut, work_left}
-use Rattle.playing_laws.specs.Moments.{Resting, Answering}
-use Rattle.playing_laws.proofs.Leading.{calls_lead_on}
+use Rattle.playing.specs.Moments.{Resting, Answering}
+use Rattle.playing.proofs.Leading.{calls_lead_on}
 use Rattle.rounds.specs.declared.course.Course.{Course}
 use Rattle.rounds.specs.declared.course.Course.TheVariants.{More, Done, Cut}
 use Rattle.rounds.specs.Runs.{RunsOn, IsLive, IsIdle, IsNext, PlaysOne, AnswersTo, GoesFurther, IsDone, IsCut, ComesTo, EndsAs, doing_of, doing_after}

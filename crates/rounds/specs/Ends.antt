@@ -1,21 +1,21 @@
 -- How a run of a server over a schedule ends.
 use Rattle.std.specs.Prelude.{◌≡◌, ◌≢◌, ℕ, List, [], ◌++◌, length, map, reverse, true, false, None}
-use Rattle.tree.specs.layout.declared.Geometry.{Geometry}
+use Rattle.layout.specs.declared.Geometry.{Geometry}
 use Rattle.tree.specs.Tree.{Tree}
-use Rattle.reissue.specs.marks.Marks.{Mark}
-use Rattle.reissue.specs.marks.Opening.{Opening, contents_at}
-use Rattle.file_server.specs.legal.View.{Frames}
-use Rattle.file_server.specs.legal.ServerCall.{Serving}
+use Rattle.records.specs.Marks.{Mark}
+use Rattle.records.specs.Opening.{Opening, contents_at}
+use Rattle.records.specs.View.{Frames}
+use Rattle.records.specs.ServerCall.{Serving}
 use Rattle.reissue.specs.Calls.{Truth}
-use Rattle.playing.specs.schedule.Groups.{schedule_of}
-use Rattle.playing.specs.schedule.Calls.{Arrival, arrived, taken}
-use Rattle.playing.specs.schedule.Headline.{Transcript, RepliesHold}
-use Rattle.playing.specs.run_log.Noted.{marks_in}
-use Rattle.playing.specs.driver_events.Scene.{Scene}
+use Rattle.schedule.specs.Groups.{schedule_of}
+use Rattle.schedule.specs.Calls.{Arrival, arrived, taken}
+use Rattle.schedule.specs.Headline.{Transcript, RepliesHold}
+use Rattle.schedule.specs.Noted.{marks_in}
+use Rattle.driver_events.specs.Scene.{Scene}
 use Rattle.playing.specs.PlayView.{Play, IsSpent}
-use Rattle.playing_laws.specs.Laws.{MediaHeld}
-use Rattle.playing_laws.specs.Waiting.{arrival_of}
-use Rattle.playing_laws.specs.Moments.{Doing, Resting, Hearing, Answering, Moment, Runs, Needs}
+use Rattle.playing.specs.Laws.{MediaHeld}
+use Rattle.playing.specs.Waiting.{arrival_of}
+use Rattle.playing.specs.Moments.{Doing, Resting, Hearing, Answering, Moment, Runs, Needs}
 use Rattle.file_server.specs.Over.{Stands}
 use Rattle.rounds.specs.Runs.{moment, out_in}
 

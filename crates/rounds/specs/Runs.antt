@@ -4,17 +4,17 @@ use Rattle.message.specs.declared.Incoming.{Incoming}
 use Rattle.tree.specs.Tree.{Tree}
 use Rattle.tree.specs.declared.Reply.{Reply}
 use Rattle.tree.specs.Answers.{answer_of}
-use Rattle.reissue.specs.marks.Marks.{Mark, Took}
-use Rattle.reissue.specs.marks.Opening.{Opening}
-use Rattle.file_server.specs.legal.ServerCall.{Serving}
+use Rattle.records.specs.Marks.{Mark, Took}
+use Rattle.records.specs.Opening.{Opening}
+use Rattle.records.specs.ServerCall.{Serving}
 use Rattle.reissue.specs.Calls.{Truth}
-use Rattle.playing.specs.driver_events.Kept.{with_next}
-use Rattle.playing.specs.schedule.Calls.{Arrival}
-use Rattle.playing.specs.arrivals.declared.arrived.Arrived.{Arrived}
+use Rattle.driver_events.specs.Kept.{with_next}
+use Rattle.schedule.specs.Calls.{Arrival}
+use Rattle.schedule.specs.declared.arrived.Arrived.{Arrived}
 use Rattle.playing.specs.PlayView.{Play, IsSpent, Asides, Answers, work_left}
-use Rattle.playing_laws.specs.Laws.{LeadsOn, IsToldOfEnd}
-use Rattle.playing_laws.specs.Waiting.{HasCalls, arrival_of}
-use Rattle.playing_laws.specs.Moments.{Doing, Resting, Hearing, Answering, Moment, Runs}
+use Rattle.playing.specs.Laws.{LeadsOn, IsToldOfEnd}
+use Rattle.playing.specs.Waiting.{HasCalls, arrival_of}
+use Rattle.playing.specs.Moments.{Doing, Resting, Hearing, Answering, Moment, Runs}
 use Rattle.file_server.specs.Over.{Stands, SameServing}
 use Rattle.rounds.specs.declared.course.Course.{Course}
 use Rattle.rounds.specs.declared.course.Course.TheVariants.{More, Done, Cut}

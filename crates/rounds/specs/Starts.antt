@@ -1,18 +1,18 @@
 -- How a run of a server over a schedule starts, and what it comes to.
 use Rattle.std.specs.Prelude.{◌≡◌, ◌≢◌, ℕ, List, [], ◌∷◌, ◌++◌, length, map, reverse, true, false}
 use Rattle.tree.specs.Tree.{Tree}
-use Rattle.playing.specs.policy.Watch.{driver}
-use Rattle.reissue.specs.marks.Marks.{Started}
-use Rattle.reissue.specs.marks.Opening.{Opening}
-use Rattle.reissue.specs.marks.Acts.{empty_outbox}
-use Rattle.file_server.specs.legal.ServerCall.{Serving}
+use Rattle.reincarnate.specs.Watch.{driver}
+use Rattle.records.specs.Marks.{Started}
+use Rattle.records.specs.Opening.{Opening}
+use Rattle.records.specs.Acts.{empty_outbox}
+use Rattle.records.specs.ServerCall.{Serving}
 use Rattle.reissue.specs.Calls.{Truth}
-use Rattle.playing.specs.schedule.Groups.{schedule_of}
-use Rattle.playing.specs.schedule.Calls.{Arrival, arrived, taken}
-use Rattle.playing.specs.run_log.Noted.{marks_in}
+use Rattle.schedule.specs.Groups.{schedule_of}
+use Rattle.schedule.specs.Calls.{Arrival, arrived, taken}
+use Rattle.schedule.specs.Noted.{marks_in}
 use Rattle.playing.specs.PlayView.{Play, IsSpent, first_noted}
-use Rattle.playing_laws.specs.Waiting.{arrival_of}
-use Rattle.playing_laws.specs.Moments.{Doing, Resting, Moment}
+use Rattle.playing.specs.Waiting.{arrival_of}
+use Rattle.playing.specs.Moments.{Doing, Resting, Moment}
 use Rattle.file_server.specs.Over.{Hears}
 use Rattle.rounds.specs.Runs.{moment, out_in}
 use Rattle.rounds.specs.Ends.{EndsIn, RunStands}

@@ -1,9 +1,12 @@
 //! A file server over drivers that a schedule moves: events are played and calls answered, until the schedule's end.
+//!
+//! A link that a schedule moves, as whoever plays the schedule sees it: what is done at it between two calls.
 #![tactic(auto)]
 
+pub mod aside;
 pub mod course;
+pub mod link;
 pub mod run;
 pub mod turns;
 
-// passed on: the link
-pub use played_link::{Arrival, Played, WorldLink};
+pub use link::{Arrival, Played, WorldLink};

@@ -6,10 +6,10 @@ ghost use Rattle.playing.specs.PlayView.{work_left};
 ghost use Rattle.rounds.specs.Starts.{IsBeforeFirst, PlaysAll};
 
 use crate::turns::play_out;
-use endpoint::{DISK_DRIVER, Endpoint};
+use message::endpoint::{DISK_DRIVER, Endpoint};
 use file_server::FileServer;
 use message::Incoming;
-use played_link::WorldLink;
+use crate::WorldLink;
 use std::alloc::AllocError;
 
 /// The driver that is started before the first event.

@@ -1,19 +1,17 @@
 //! Turns between two calls, until nothing is left to do or a call is cut.
 
-ghost use Rattle.std.specs.Prelude.{◌≡◌, ◌⊎◌, ◌≤◌, ◌<◌, ◌+◌, ◌^◌, length, if◌then◌else◌, IfOk, IfSome, OnOk, OnErr, None, option_map, true};
-ghost use Rattle.std.specs.Prelude.{false};
+ghost use Rattle.std.specs.Prelude.{◌≡◌, ◌⊎◌, ◌≤◌, ◌<◌, ◌+◌, ◌^◌, length, if◌then◌else◌, IfOk, IfSome, OnOk, OnErr, None, option_map, true, false};
 ghost use Rattle.playing.specs.PlayView.{work_left, HandsOut, IsSpent};
-ghost use Rattle.playing_laws.specs.Moments.{Resting, Answering};
+ghost use Rattle.playing.specs.Moments.{Resting, Answering};
 ghost use Rattle.tree.specs.declared.Call.{Call};
-ghost use Rattle.playing_laws.specs.Laws.{IsSound};
-ghost use Rattle.rounds.specs.Runs.{RunsOn, Awaits, Notes, IsLive, IsIdle, IsNext, PlaysOne, AnswersTo, ComesTo, EndsAs, doing_of};
-ghost use Rattle.rounds.specs.Runs.{doing_after};
+ghost use Rattle.playing.specs.Laws.{IsSound};
+ghost use Rattle.rounds.specs.Runs.{RunsOn, Awaits, Notes, IsLive, IsIdle, IsNext, PlaysOne, AnswersTo, ComesTo, EndsAs, doing_of, doing_after};
 ghost use Rattle.rounds.specs.Ends.{RunsOut};
 
 use crate::course::Course;
 use file_server::FileServer;
 use message::Incoming;
-use played_link::{Arrival, WorldLink};
+use crate::{Arrival, WorldLink};
 use std::alloc::AllocError;
 use tree::{Outcome, Reply};
 

@@ -1,7 +1,7 @@
 -- The media and drivers as lists and slots, against the code's fields.
 use Rattle.std.proofs.Common.{◌≡◌, ℕ, zero, suc, ◌+◌, ◌<◌, List, [], ◌∷◌, ◌++◌, Bool, true, false, Option, Some, refl, sym, ◌∙◌, ap, subst, arith, length}
 use Rattle.std.specs.Prelude.{◌≤◌, ◌↔◌, map, slice_get, slice_set, slice_index_or, Result, Ok, Err, OnOk, OnErr}
-use Rattle.endpoint.specs.declared.Endpoint.{Endpoint}
+use Rattle.message.specs.declared.endpoint.Endpoint.{Endpoint}
 use Rattle.message.specs.declared.BlockRequest.{BlockRequest}
 use Rattle.media.specs.Contents.{MediaState}
 use Rattle.bdev.specs.declared.Step.{Step}

@@ -1,6 +1,6 @@
 -- The media and the drivers of a run, and what each event does to them.
 use Rattle.std.specs.Prelude.{◌≡◌, ◌⊎◌, ℕ, ◌+◌, ◌<◌, ◌≤◌, List, [], ◌∷◌, ◌++◌, length, map, Bool, true, false, ◌&&◌, ◌==◌, Option, Some, None, Result, Ok, Err, slice_get, slice_set}
-use Rattle.endpoint.specs.declared.Endpoint.{Endpoint}
+use Rattle.message.specs.declared.endpoint.Endpoint.{Endpoint}
 use Rattle.message.specs.declared.BlockRequest.{BlockRequest}
 use Rattle.message.specs.declared.BlockReply.{BlockReply}
 use Rattle.media.specs.Contents.{MediaState, written, adopted}
@@ -8,14 +8,14 @@ use Rattle.bdev.specs.declared.Step.{Step}
 use Rattle.bdev.specs.declared.Step.TheVariants.{Working, Idle, Done, Failed}
 use Rattle.bdev.specs.DriverState.{DriverState}
 use Rattle.bdev.specs.Promises.{StepKeeps, IsDriver}
-use Rattle.inline.specs.marks.Marks.{Mark}
+use Rattle.records.specs.Marks.{Mark}
 use Rattle.schedule.specs.declared.Sent.{Sent}
 use Rattle.inline.specs.Steps.{HandsOver}
-use Rattle.inline.specs.true_replies.State.{State, state_of}
-use Rattle.inline.specs.true_replies.Events.{reply_of, live_after}
+use Rattle.true_replies.specs.State.{State, state_of}
+use Rattle.true_replies.specs.Events.{reply_of, live_after}
 use Rattle.reissue.specs.declared.link.LinkRefusal.{LinkRefusal}
 use Rattle.reissue.specs.declared.link.LinkRefusal.TheVariants.{DeadEndpoint, Full}
-use Rattle.run_log.specs.declared.log.Post.{Post}
+use Rattle.schedule.specs.declared.log.Post.{Post}
 
 -- a driver that was started, as it stands: what is known of it, whether it lives, whether it hangs, and its line
 pub record Slot : Type 0 where

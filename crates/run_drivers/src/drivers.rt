@@ -7,7 +7,7 @@ ghost use Rattle.run_drivers.specs.Disks.{torn_media};
 use crate::moves::{send, step_unit};
 use crate::unit::{LINE, Unit};
 use bdev::Step;
-use endpoint::{DISK_DRIVER, Endpoint};
+use message::endpoint::{DISK_DRIVER, Endpoint};
 use inline::local::LocalDriver;
 use media::Media;
 use message::BlockRequest;

@@ -4,13 +4,13 @@ ghost use Rattle.std.specs.Prelude.{◌≡◌, ◌<◌, ◌≤◌, length, vec_l
 ghost use Rattle.std.specs.VecDeque.{deque_capacity};
 ghost use Rattle.inline.specs.Steps.{HandsOver};
 ghost use Rattle.bdev.specs.Promises.{IsDriver};
-ghost use Rattle.inline.specs.true_replies.Events.{reply_of};
+ghost use Rattle.true_replies.specs.Events.{reply_of};
 ghost use Rattle.run_drivers.specs.Disks.{SlotSteps, sent_at};
 ghost use Rattle.run_drivers.specs.UnitView.{slot_of};
 
 use crate::unit::Unit;
 use bdev::{Accept, Answer, Step};
-use endpoint::{DISK_DRIVER, Endpoint};
+use message::endpoint::{DISK_DRIVER, Endpoint};
 use inline::local::LocalDriver;
 use media::Media;
 use message::{BlockReply, BlockRequest};

@@ -1,9 +1,14 @@
 //! What rows begin with: images of new volumes, byte by byte as the format says, and supplies of drivers with faults.
+//!
+//! What rows of the storage core share: messages for a link that answers from a list, a volume, and calls of a cache over any link.
 #![tactic(auto)]
 
+pub mod frames;
+pub mod lists;
+
 use modeldisk::{Fault, FaultKind, Inner, RamDriver, ScriptedDriver};
-use partition::Table;
-use policy::{Policy, Setup};
+use media::partition::Table;
+use reincarnate::policy::{Policy, Setup};
 use std::alloc::{AllocError, Global};
 
 /// The reply to `stat /` on a new volume.

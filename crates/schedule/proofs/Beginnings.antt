@@ -3,7 +3,7 @@ use Rattle.std.specs.Prelude.{zero, suc, ◌≡◌, ℕ, List, [], ◌∷◌, �
 use Rattle.std.proofs.Common.{ap, sym, ◌∙◌}
 use Rattle.std.proofs.Math.Seq.{drop-append_seam}
 use Rattle.std.proofs.lemmas.List.{append_assoc, drop-map, length-reverse, reverse-append, reverse-reverse}
-use Rattle.legal.specs.marks.Marks.{Mark, IsBeginning}
+use Rattle.records.specs.Marks.{Mark, IsBeginning}
 use Rattle.schedule.specs.declared.Event.{Event}
 use Rattle.schedule.specs.Groups.{Group, marks_of, event_of, schedule_of, EachGroup}
 use Rattle.schedule.specs.Laws.{BeginningKeeps}

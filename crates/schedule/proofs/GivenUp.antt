@@ -1,14 +1,14 @@
 -- Each driver dies as soon as it is started: starts at ticks 1, 3, 7, 15, 31, and then the device is given up.
 use Rattle.std.specs.Prelude.{zero, suc, ℕ, List, [], ◌∷◌, pos, None, IfSome, refl}
-use Rattle.message.specs.errno.declared.Errno.TheVariants.{EIO}
+use Rattle.errno.specs.declared.Errno.TheVariants.{EIO}
 use Rattle.tree.specs.declared.Call.{Call}
 use Rattle.tree.specs.declared.Call.TheVariants.{Seek}
 use Rattle.tree.specs.declared.Whence.TheVariants.{Set}
 use Rattle.tree.specs.Answers.{refused}
-use Rattle.policy.specs.Policy.{default_policy}
-use Rattle.policy.specs.Watch.{driver}
-use Rattle.legal.specs.marks.declared.Cause.TheVariants.{Exit}
-use Rattle.legal.specs.marks.Marks.{Started, GaveUp, Took, Fault}
+use Rattle.reincarnate.specs.Policy.{default_policy}
+use Rattle.reincarnate.specs.Watch.{driver}
+use Rattle.records.specs.declared.marks.Cause.TheVariants.{Exit}
+use Rattle.records.specs.Marks.{Started, GaveUp, Took, Fault}
 use Rattle.schedule.specs.declared.Event.TheVariants as event
 use Rattle.schedule.specs.Groups.{Group, marks_of}
 use Rattle.schedule.specs.Drivers.{state_of, TookItsOwn}

@@ -5,9 +5,9 @@ use Rattle.std.proofs.lemmas.Bool.Decides.{nat_tests}
 use Rattle.std.proofs.lemmas.List.{length-drop, length-map, length-reverse, reverse-append}
 use Rattle.std.proofs.lemmas.Option.{slice_get_within}
 use Rattle.bdev.specs.DriverState.{DriverState}
-use Rattle.policy.specs.declared.Policy.{Policy}
-use Rattle.legal.specs.marks.Marks.{Mark}
-use Rattle.legal.specs.marks.Open.{counts}
+use Rattle.reincarnate.specs.declared.policy.Policy.{Policy}
+use Rattle.records.specs.Marks.{Mark}
+use Rattle.records.specs.Open.{counts}
 use Rattle.schedule.specs.declared.Sent.{Sent}
 use Rattle.schedule.specs.declared.Event.{Event}
 use Rattle.schedule.specs.declared.Event.TheVariants as event

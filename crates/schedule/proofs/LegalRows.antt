@@ -2,9 +2,9 @@
 use Rattle.std.specs.Prelude.{◌≡◌, [], ◌∷◌, refl}
 use Rattle.std.proofs.Common.{arith, inl, inr}
 use Rattle.tree.specs.Laws.{fresh_tree}
-use Rattle.legal.specs.marks.Open.{open_requests, IsWellFormed}
-use Rattle.legal.specs.marks.Disk.{Contents, HasTrueReplies}
-use Rattle.legal.specs.Legal.{IsLegal, tree_after}
+use Rattle.records.specs.Open.{open_requests, IsWellFormed}
+use Rattle.records.specs.Disk.{Contents, HasTrueReplies}
+use Rattle.records.specs.Legal.{IsLegal, tree_after}
 use Rattle.schedule.specs.Groups.{marks_of}
 use Rattle.schedule.proofs.Small.{small, inode_block}
 use Rattle.schedule.proofs.WorkedRuns.{waits, replaced}

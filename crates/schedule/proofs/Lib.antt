@@ -16,3 +16,5 @@ mod RightTransfers
 mod WrongDrivers
 mod WrongActs
 mod RefusalRows
+pub mod FaultlessLaws
+pub mod NotedLaws

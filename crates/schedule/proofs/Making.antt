@@ -1,12 +1,12 @@
 -- How the proofs of worked runs are put together.
 use Rattle.std.specs.Prelude.{◌≡◌, ℕ, List, [], ◌∷◌, ◌++◌, Bool, ◌&&◌, true, false, None, refl}
 use Rattle.std.proofs.Common.{arith, ap}
-use Rattle.policy.specs.endpoint.declared.Endpoint.{Endpoint}
+use Rattle.message.specs.declared.endpoint.Endpoint.{Endpoint}
 use Rattle.bdev.specs.DriverState.{DriverState}
-use Rattle.policy.specs.declared.Policy.{Policy}
-use Rattle.policy.specs.Watch.{driver}
-use Rattle.legal.specs.marks.Marks.{Mark, gave_up}
-use Rattle.legal.specs.marks.Open.{is_unfinished}
+use Rattle.reincarnate.specs.declared.policy.Policy.{Policy}
+use Rattle.reincarnate.specs.Watch.{driver}
+use Rattle.records.specs.Marks.{Mark, gave_up}
+use Rattle.records.specs.Open.{is_unfinished}
 use Rattle.schedule.specs.declared.Sent.{Sent}
 use Rattle.schedule.specs.declared.Event.{Event}
 use Rattle.schedule.specs.Groups.{Group, marks_of, started_in}

@@ -1,9 +1,9 @@
 -- A run is refused for one reason alone.
 use Rattle.std.specs.Prelude.{◌≡◌, Option, Some, None, Result, Ok, Err, refl}
 use Rattle.std.proofs.Common.{ap, sym, subst, ◌∙◌}
-use Rattle.legal.specs.volume.declared.Finding.{Finding}
-use Rattle.legal.specs.volume.Verdict.{Verdict, Clean, Found}
-use Rattle.legal.specs.marks.Opening.{Range}
+use Rattle.volume.specs.declared.Finding.{Finding}
+use Rattle.volume.specs.Verdict.{Verdict, Clean, Found}
+use Rattle.records.specs.Opening.{Range}
 use Rattle.schedule.specs.Refusals.{Start, NotMedia, Partition, NotClean, BadSetup, NoDriver, IsGoodSetup, HasVolume}
 use Rattle.schedule.specs.Laws.{RefusedForOne, RefusedOrAccepted}
 

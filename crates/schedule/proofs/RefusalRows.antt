@@ -1,12 +1,12 @@
 -- Worked rows of the refusals of a run.
 use Rattle.std.specs.Prelude.{◌≡◌, ℕ, [], ◌∷◌, Option, Some, None, Ok, Err, refl}
 use Rattle.std.proofs.Common.{arith, ap}
-use Rattle.bdev.specs.media.declared.MediaRefusal.TheVariants.{NotWholeSectors}
-use Rattle.partition.specs.declared.PartitionRefusal.TheVariants.{PastMedia}
-use Rattle.legal.specs.volume.Verdict.{Clean, Found}
-use Rattle.policy.specs.declared.Setup.{Setup}
-use Rattle.policy.specs.Policy.{IsAllowed, default_policy}
-use Rattle.legal.specs.marks.Opening.{Range}
+use Rattle.media.specs.declared.MediaRefusal.TheVariants.{NotWholeSectors}
+use Rattle.media.specs.declared.partition.PartitionRefusal.TheVariants.{PastMedia}
+use Rattle.volume.specs.Verdict.{Clean, Found}
+use Rattle.reincarnate.specs.declared.policy.Setup.{Setup}
+use Rattle.reincarnate.specs.Policy.{IsAllowed, default_policy}
+use Rattle.records.specs.Opening.{Range}
 use Rattle.schedule.specs.Refusals.{Start, NoPlace, BadTable, NoPartition, NotMedia, Partition, NotClean, BadSetup, NoDriver, IsRefusedFor, IsAccepted, start_of}
 use Rattle.schedule.proofs.OneRefusal.{same_err}
 use Rattle.schedule.proofs.Small.{idle, done}

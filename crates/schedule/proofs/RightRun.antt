@@ -2,14 +2,14 @@
 -- name nothing, a hang, and giving up for want of a spare.
 use Rattle.std.specs.Prelude.{zero, suc, ℕ, List, [], ◌∷◌, None, IfSome, refl, Err}
 use Rattle.std.proofs.Common.{inl, lit≤}
-use Rattle.message.specs.errno.declared.Errno.TheVariants.{EIO}
+use Rattle.errno.specs.declared.Errno.TheVariants.{EIO}
 use Rattle.message.specs.declared.BlockReply.{BlockReply}
 use Rattle.tree.specs.Answers.{refused}
 use Rattle.bdev.specs.DriverState.{DriverState}
-use Rattle.policy.specs.Policy.{default_policy}
-use Rattle.policy.specs.Watch.{driver}
-use Rattle.legal.specs.marks.declared.Cause.TheVariants.{Exit, Hung}
-use Rattle.legal.specs.marks.Marks.{Started, Answered, Flush, GaveUp, Took, Fault}
+use Rattle.reincarnate.specs.Policy.{default_policy}
+use Rattle.reincarnate.specs.Watch.{driver}
+use Rattle.records.specs.declared.marks.Cause.TheVariants.{Exit, Hung}
+use Rattle.records.specs.Marks.{Started, Answered, Flush, GaveUp, Took, Fault}
 use Rattle.schedule.specs.declared.Sent.{Sent}
 use Rattle.schedule.specs.declared.Event.TheVariants as event
 use Rattle.schedule.specs.Groups.{Group, marks_of}

@@ -1,17 +1,17 @@
 -- Runs at the borders of what drivers can do and of when the server is told: each is justified.
 use Rattle.std.specs.Prelude.{zero, suc, ℕ, List, [], ◌∷◌, IfSome, Ok, refl}
 use Rattle.std.proofs.Common.{inl, lit≤}
-use Rattle.message.specs.errno.declared.Errno.TheVariants.{EIO}
+use Rattle.errno.specs.declared.Errno.TheVariants.{EIO}
 use Rattle.message.specs.declared.BlockReply.{BlockReply}
 use Rattle.message.specs.declared.BlockRequest.{BlockRequest}
 use Rattle.message.specs.declared.Kind.TheVariants.{Write}
 use Rattle.tree.specs.Answers.{refused}
 use Rattle.bdev.specs.DriverState.{DriverState}
-use Rattle.policy.specs.declared.Policy.{Policy}
-use Rattle.policy.specs.Policy.{default_policy}
-use Rattle.policy.specs.Watch.{driver}
-use Rattle.legal.specs.marks.declared.Cause.TheVariants.{Complaint}
-use Rattle.legal.specs.marks.Marks.{Mark, Answered, Flush, GaveUp, Took, Issued, Fault}
+use Rattle.reincarnate.specs.declared.policy.Policy.{Policy}
+use Rattle.reincarnate.specs.Policy.{default_policy}
+use Rattle.reincarnate.specs.Watch.{driver}
+use Rattle.records.specs.declared.marks.Cause.TheVariants.{Complaint}
+use Rattle.records.specs.Marks.{Mark, Answered, Flush, GaveUp, Took, Issued, Fault}
 use Rattle.schedule.specs.declared.Sent.{Sent}
 use Rattle.schedule.specs.declared.Event.TheVariants as event
 use Rattle.schedule.specs.Groups.{Group, marks_of}

@@ -1,6 +1,6 @@
 -- A small volume with a root alone, and a call on it: what the worked runs are made of.
 use Rattle.std.specs.Prelude.{List, ◌≡◌, ℕ, [], ◌∷◌, true, false, codes, Some, None, Ok, refl, replicate}
-use Rattle.tree.specs.layout.declared.Geometry.{Geometry}
+use Rattle.layout.specs.declared.Geometry.{Geometry}
 use Rattle.message.specs.declared.BlockReply.{BlockReply}
 use Rattle.message.specs.declared.BlockRequest.{BlockRequest}
 use Rattle.message.specs.declared.Kind.TheVariants.{Read}
@@ -11,9 +11,9 @@ use Rattle.tree.specs.Answers.{Answer, node_is}
 use Rattle.tree.specs.Effects.{reply_to}
 use Rattle.tree.specs.Laws.{fresh_tree}
 use Rattle.bdev.specs.DriverState.{DriverState}
-use Rattle.policy.specs.Watch.{driver}
+use Rattle.reincarnate.specs.Watch.{driver}
 use Rattle.schedule.specs.Calls.{Arrival}
-use Rattle.legal.specs.marks.Marks.{Mark, Took, Issued}
+use Rattle.records.specs.Marks.{Mark, Took, Issued}
 
 -- 64 blocks of 1024 bytes with 32 inodes
 abbrev pub small : Geometry

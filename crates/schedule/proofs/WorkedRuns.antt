@@ -1,10 +1,10 @@
 -- Worked runs of one `stat` that are justified as a whole.
 use Rattle.std.specs.Prelude.{zero, suc, ◌≡◌, ℕ, List, [], ◌∷◌, None, IfSome, refl}
 use Rattle.std.proofs.Common.{inl, inr, lit≤}
-use Rattle.policy.specs.Policy.{default_policy}
-use Rattle.policy.specs.Watch.{driver}
-use Rattle.legal.specs.marks.declared.Cause.TheVariants.{Exit, Hung}
-use Rattle.legal.specs.marks.Marks.{Started, Answered, Fault}
+use Rattle.reincarnate.specs.Policy.{default_policy}
+use Rattle.reincarnate.specs.Watch.{driver}
+use Rattle.records.specs.declared.marks.Cause.TheVariants.{Exit, Hung}
+use Rattle.records.specs.Marks.{Started, Answered, Fault}
 use Rattle.schedule.specs.declared.Sent.{Sent}
 use Rattle.schedule.specs.declared.Event.TheVariants as event
 use Rattle.schedule.specs.Groups.{Group, marks_of, schedule_of}

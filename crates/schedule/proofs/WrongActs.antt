@@ -1,12 +1,12 @@
 -- Runs in which the server acts where it is handed nothing, or is told too late: each is refused by the clause that its proof names.
 use Rattle.std.specs.Prelude.{◌≡◌, ℕ, List, [], ◌∷◌, true, false, None}
 use Rattle.bdev.specs.DriverState.{DriverState}
-use Rattle.policy.specs.declared.Policy.{Policy}
-use Rattle.policy.specs.Policy.{default_policy}
-use Rattle.policy.specs.Watch.{driver}
+use Rattle.reincarnate.specs.declared.policy.Policy.{Policy}
+use Rattle.reincarnate.specs.Policy.{default_policy}
+use Rattle.reincarnate.specs.Watch.{driver}
 use Rattle.message.specs.declared.Kind.TheVariants.{Write}
-use Rattle.legal.specs.marks.declared.Cause.TheVariants.{Exit, Complaint}
-use Rattle.legal.specs.marks.Marks.{Mark, Started, Answered, Issued, GaveUp, Fault}
+use Rattle.records.specs.declared.marks.Cause.TheVariants.{Exit, Complaint}
+use Rattle.records.specs.Marks.{Mark, Started, Answered, Issued, GaveUp, Fault}
 use Rattle.schedule.specs.declared.Sent.{Sent}
 use Rattle.schedule.specs.declared.Event.{Event}
 use Rattle.schedule.specs.declared.Event.TheVariants as event

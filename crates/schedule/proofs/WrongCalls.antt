@@ -2,12 +2,12 @@
 use Rattle.std.specs.Prelude.{◌≡◌, ◌≢◌, ℕ, List, [], ◌∷◌, ◌++◌, length, drop, true, false, None, refl}
 use Rattle.std.proofs.Common.{ap}
 use Rattle.bdev.specs.DriverState.{DriverState}
-use Rattle.policy.specs.declared.Policy.{Policy}
-use Rattle.policy.specs.Policy.{default_policy}
-use Rattle.policy.specs.Watch.{driver}
-use Rattle.legal.specs.marks.Open.{is_unfinished}
-use Rattle.legal.specs.marks.Marks.{gave_up, Answered, Flush, GaveUp, Fault}
-use Rattle.legal.specs.marks.declared.Cause.TheVariants.{Exit}
+use Rattle.reincarnate.specs.declared.policy.Policy.{Policy}
+use Rattle.reincarnate.specs.Policy.{default_policy}
+use Rattle.reincarnate.specs.Watch.{driver}
+use Rattle.records.specs.Open.{is_unfinished}
+use Rattle.records.specs.Marks.{gave_up, Answered, Flush, GaveUp, Fault}
+use Rattle.records.specs.declared.marks.Cause.TheVariants.{Exit}
 use Rattle.schedule.specs.declared.Sent.{Sent}
 use Rattle.schedule.specs.declared.Event.TheVariants as event
 use Rattle.schedule.specs.Groups.{Group, marks_of}

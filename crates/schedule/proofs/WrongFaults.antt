@@ -1,12 +1,12 @@
 -- Runs with wrong exits, missed heartbeats and complaints: each is refused by the clause that its proof names.
 use Rattle.std.specs.Prelude.{◌≡◌, ◌⊎◌, ℕ, List, [], ◌∷◌, true, false, Option, Some, None, refl}
 use Rattle.std.proofs.Common.{inl, inr}
-use Rattle.policy.specs.endpoint.declared.Endpoint.{Endpoint}
+use Rattle.message.specs.declared.endpoint.Endpoint.{Endpoint}
 use Rattle.bdev.specs.DriverState.{DriverState}
-use Rattle.policy.specs.Policy.{default_policy}
-use Rattle.policy.specs.Watch.{driver}
-use Rattle.legal.specs.marks.Marks.{Mark, Started, Answered, Flush, Fault}
-use Rattle.legal.specs.marks.declared.Cause.TheVariants.{Exit, Hung, Complaint}
+use Rattle.reincarnate.specs.Policy.{default_policy}
+use Rattle.reincarnate.specs.Watch.{driver}
+use Rattle.records.specs.Marks.{Mark, Started, Answered, Flush, Fault}
+use Rattle.records.specs.declared.marks.Cause.TheVariants.{Exit, Hung, Complaint}
 use Rattle.schedule.specs.declared.Sent.{Sent}
 use Rattle.schedule.specs.declared.Event.TheVariants as event
 use Rattle.schedule.specs.Groups.{Group}

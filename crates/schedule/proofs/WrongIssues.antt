@@ -1,10 +1,10 @@
 -- Wrong runs, each refused: requests issued to a driver again, to one that is dead, and after giving up; and giving up told too late.
 use Rattle.std.specs.Prelude.{◌≡◌, ℕ, List, [], ◌∷◌, false, true, None}
 use Rattle.bdev.specs.DriverState.{DriverState}
-use Rattle.policy.specs.Policy.{default_policy}
-use Rattle.policy.specs.Watch.{driver}
-use Rattle.legal.specs.marks.declared.Cause.TheVariants.{Exit}
-use Rattle.legal.specs.marks.Marks.{Flush, GaveUp, Fault}
+use Rattle.reincarnate.specs.Policy.{default_policy}
+use Rattle.reincarnate.specs.Watch.{driver}
+use Rattle.records.specs.declared.marks.Cause.TheVariants.{Exit}
+use Rattle.records.specs.Marks.{Flush, GaveUp, Fault}
 use Rattle.schedule.specs.declared.Sent.{Sent}
 use Rattle.schedule.specs.declared.Event.TheVariants as event
 use Rattle.schedule.specs.Justified.{Justified}

@@ -1,14 +1,14 @@
 -- Runs with wrong replies and answers: each is refused by the clause that its proof names.
 use Rattle.std.specs.Prelude.{◌≡◌, ℕ, List, [], ◌∷◌, drop, true, false, Some, None, refl}
-use Rattle.message.specs.errno.declared.Errno.TheVariants.{EIO}
+use Rattle.errno.specs.declared.Errno.TheVariants.{EIO}
 use Rattle.message.specs.declared.BlockReply.{BlockReply}
 use Rattle.bdev.specs.DriverState.{DriverState}
 use Rattle.tree.specs.Answers.{refused}
-use Rattle.policy.specs.declared.Policy.{Policy}
-use Rattle.policy.specs.Policy.{default_policy}
-use Rattle.policy.specs.Watch.{driver}
-use Rattle.legal.specs.marks.Marks.{Started, Answered, GaveUp, Took, Fault}
-use Rattle.legal.specs.marks.declared.Cause.TheVariants.{Exit, Complaint}
+use Rattle.reincarnate.specs.declared.policy.Policy.{Policy}
+use Rattle.reincarnate.specs.Policy.{default_policy}
+use Rattle.reincarnate.specs.Watch.{driver}
+use Rattle.records.specs.Marks.{Started, Answered, GaveUp, Took, Fault}
+use Rattle.records.specs.declared.marks.Cause.TheVariants.{Exit, Complaint}
 use Rattle.schedule.specs.declared.Sent.{Sent}
 use Rattle.schedule.specs.declared.Event.TheVariants as event
 use Rattle.schedule.specs.Groups.{Group, marks_of}

@@ -2,8 +2,8 @@
 use Rattle.std.specs.Prelude.{◌≡◌, ◌≢◌, ℕ, ◌+◌, List, [], ◌∷◌, ◌++◌, length, true, false}
 use Rattle.tree.specs.declared.Who.{Who}
 use Rattle.tree.specs.declared.Call.{Call}
-use Rattle.legal.specs.marks.Marks.{Mark, Took, Flush, gave_up}
-use Rattle.legal.specs.marks.Open.{is_unfinished}
+use Rattle.records.specs.Marks.{Mark, Took, Flush, gave_up}
+use Rattle.records.specs.Open.{is_unfinished}
 use Rattle.schedule.specs.declared.Event.{Event}
 use Rattle.schedule.specs.declared.Event.TheVariants as event
 use Rattle.schedule.specs.Groups.{Group, marks_of}

@@ -1,12 +1,12 @@
 -- Which drivers were started, died, hang, and run.
 use Rattle.std.specs.Prelude.{◌≡◌, zero, suc, ℕ, ◌+◌, List, [], ◌∷◌, Bool, true, false, not, ◌&&◌, ◌||◌, ◌==◌, nat_lt, nat_le, Option, None, IfSome, if◌then◌else◌, slice_get}
-use Rattle.policy.specs.endpoint.declared.Endpoint.{Endpoint}
+use Rattle.message.specs.declared.endpoint.Endpoint.{Endpoint}
 use Rattle.message.specs.declared.BlockRequest.{BlockRequest}
 use Rattle.bdev.specs.DriverState.{DriverState}
-use Rattle.policy.specs.Watch.{driver}
-use Rattle.legal.specs.marks.Marks.{Mark, Issued, Fault, is_endpoint}
-use Rattle.legal.specs.marks.Open.{IsIn}
-use Rattle.legal.specs.marks.declared.Cause.TheVariants.{Exit}
+use Rattle.reincarnate.specs.Watch.{driver}
+use Rattle.records.specs.Marks.{Mark, Issued, Fault, is_endpoint}
+use Rattle.records.specs.Open.{IsIn}
+use Rattle.records.specs.declared.marks.Cause.TheVariants.{Exit}
 use Rattle.schedule.specs.declared.Event.TheVariants as event
 use Rattle.schedule.specs.Groups.{Group, marks_of, running, generation}
 

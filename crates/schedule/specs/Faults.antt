@@ -1,12 +1,12 @@
 -- The faults that a run must show: exits, missed heartbeats, complaints.
 use Rattle.std.specs.Prelude.{◌≡◌, ◌⊎◌, ℕ, ◌+◌, List, [], ◌∷◌, ◌++◌, Bool, true, false, not, ◌&&◌, ◌||◌, ◌==◌, Option, Some, None, is_some, IsSomeAnd, if◌then◌else◌}
-use Rattle.policy.specs.endpoint.declared.Endpoint.{Endpoint}
+use Rattle.message.specs.declared.endpoint.Endpoint.{Endpoint}
 use Rattle.bdev.specs.DriverState.{DriverState}
-use Rattle.policy.specs.declared.Policy.{Policy}
-use Rattle.policy.specs.Watch.{driver}
-use Rattle.legal.specs.marks.Marks.{Mark, Answered, Fault, is_endpoint}
-use Rattle.legal.specs.marks.Open.{moved_by}
-use Rattle.legal.specs.marks.declared.Cause.TheVariants.{Hung, Complaint}
+use Rattle.reincarnate.specs.declared.policy.Policy.{Policy}
+use Rattle.reincarnate.specs.Watch.{driver}
+use Rattle.records.specs.Marks.{Mark, Answered, Fault, is_endpoint}
+use Rattle.records.specs.Open.{moved_by}
+use Rattle.records.specs.declared.marks.Cause.TheVariants.{Hung, Complaint}
 use Rattle.schedule.specs.declared.Event.{Event}
 use Rattle.schedule.specs.declared.Event.TheVariants as event
 use Rattle.schedule.specs.Groups.{Group, marks_of, running}

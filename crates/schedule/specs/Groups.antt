@@ -1,9 +1,9 @@
 -- The record of a run, cut into groups: the marks before the first event, then those of each event.
 -- Groups stand newest first, and so do the marks in each: what stood before a group is the list behind it.
 use Rattle.std.specs.Prelude.{ℕ, ◌+◌, ◌-◌, List, [], ◌∷◌, ◌++◌, length, drop, map, reverse, Option, Some, None, if◌then◌else◌}
-use Rattle.policy.specs.endpoint.declared.Endpoint.{Endpoint}
-use Rattle.policy.specs.Watch.{driver}
-use Rattle.legal.specs.marks.Marks.{Mark, Started, Fault, is_endpoint}
+use Rattle.message.specs.declared.endpoint.Endpoint.{Endpoint}
+use Rattle.reincarnate.specs.Watch.{driver}
+use Rattle.records.specs.Marks.{Mark, Started, Fault, is_endpoint}
 use Rattle.schedule.specs.declared.Event.{Event}
 use Rattle.schedule.specs.declared.Event.TheVariants as event
 

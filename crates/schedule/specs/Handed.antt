@@ -1,6 +1,6 @@
 -- When the server acts: only once it is handed something.
 use Rattle.std.specs.Prelude.{ℕ, List, [], ◌∷◌, length, Bool, true, false, ◌&&◌, ◌||◌, nat_lt, nat_le, Option, Some, None, slice_get}
-use Rattle.legal.specs.marks.Marks.{Mark, Started, GaveUp, Took, Issued}
+use Rattle.records.specs.Marks.{Mark, Started, GaveUp, Took, Issued}
 use Rattle.schedule.specs.declared.Sent.{Sent}
 use Rattle.schedule.specs.declared.Event.{Event}
 use Rattle.schedule.specs.declared.Event.TheVariants as event

@@ -1,16 +1,16 @@
 -- What a run of the server over a schedule promises.
 use Rattle.std.specs.Prelude.{◌≡◌, ℕ, ◌+◌, ◌*◌, ◌<◌, ◌≤◌, ◌⊎◌, List, length, false, Ok, slice_index}
-use Rattle.tree.specs.layout.declared.Geometry.{Geometry}
-use Rattle.tree.specs.layout.Places.{geometry_of}
+use Rattle.layout.specs.declared.Geometry.{Geometry}
+use Rattle.layout.specs.Places.{geometry_of}
 use Rattle.tree.specs.Tree.{Tree}
 use Rattle.bdev.specs.DriverState.{DriverState}
-use Rattle.policy.specs.declared.Policy.{Policy}
-use Rattle.legal.specs.marks.Marks.{Mark, gave_up}
-use Rattle.legal.specs.marks.Open.{IsWellFormed}
-use Rattle.legal.specs.marks.Disk.{Contents, disk_after, is_unsure, HasTrueReplies}
-use Rattle.legal.specs.marks.Opening.{Range, volume_bytes, volume_in}
-use Rattle.legal.specs.Legal.{IsAtFirst, IsLegal}
-use Rattle.legal.specs.View.{Frames, ReadsBack}
+use Rattle.reincarnate.specs.declared.policy.Policy.{Policy}
+use Rattle.records.specs.Marks.{Mark, gave_up}
+use Rattle.records.specs.Open.{IsWellFormed}
+use Rattle.records.specs.Disk.{Contents, disk_after, is_unsure, HasTrueReplies}
+use Rattle.records.specs.Opening.{Range, volume_bytes, volume_in}
+use Rattle.records.specs.Legal.{IsAtFirst, IsLegal}
+use Rattle.records.specs.View.{Frames, ReadsBack}
 use Rattle.schedule.specs.declared.Sent.{Sent}
 use Rattle.schedule.specs.declared.Event.{Event}
 use Rattle.schedule.specs.Groups.{Group, marks_of, schedule_of}

@@ -1,8 +1,8 @@
 -- When a run's record, replies, drivers and calls left are those that its schedule gives.
 use Rattle.std.specs.Prelude.{◌≡◌, ℕ, List, [], ◌∷◌, length, map, take, true, None, IfSome}
 use Rattle.bdev.specs.DriverState.{DriverState}
-use Rattle.policy.specs.declared.Policy.{Policy}
-use Rattle.legal.specs.marks.Marks.{Mark}
+use Rattle.reincarnate.specs.declared.policy.Policy.{Policy}
+use Rattle.records.specs.Marks.{Mark}
 use Rattle.schedule.specs.declared.Sent.{Sent}
 use Rattle.schedule.specs.declared.Event.{Event}
 use Rattle.schedule.specs.Groups.{Group, marks_of, started_in, generation, running, Each, EachGroup}

@@ -1,15 +1,15 @@
 -- What holds of each beginning of a schedule, of a run that goes on, and of the refusals of a run.
 use Rattle.std.specs.Prelude.{◌≡◌, ◌≤◌, ℕ, List, ◌∷◌, ◌++◌, length, true, IsSomeAnd}
 use Rattle.bdev.specs.DriverState.{DriverState}
-use Rattle.policy.specs.declared.Policy.{Policy}
-use Rattle.legal.specs.marks.Marks.{IsBeginning}
+use Rattle.reincarnate.specs.declared.policy.Policy.{Policy}
+use Rattle.records.specs.Marks.{IsBeginning}
 use Rattle.schedule.specs.declared.Sent.{Sent}
 use Rattle.schedule.specs.declared.Event.{Event}
 use Rattle.schedule.specs.Groups.{Group, marks_of, schedule_of, Each, EachGroup}
 use Rattle.schedule.specs.Drivers.{state_of}
 use Rattle.schedule.specs.Replies.{IsSentAtItsStep}
 use Rattle.schedule.specs.Justified.{GroupKeeps}
-use Rattle.legal.specs.marks.Opening.{Range}
+use Rattle.records.specs.Opening.{Range}
 use Rattle.schedule.specs.Refusals.{Start, Refusal, IsRefusedFor, IsAccepted}
 
 -- the run over these events, the first of those of these groups: its record is a beginning of theirs, and each event keeps what it must

@@ -1,5 +1,4 @@
 -- What a run over a schedule must show.
-pub use Rattle.legal.specs as legal
 pub mod Groups
 pub mod Drivers
 pub mod Faults
@@ -11,3 +10,9 @@ pub mod Justified
 pub mod Headline
 pub mod Refusals
 pub mod Laws
+pub mod Faultless
+pub mod Posts
+pub mod Noted
+pub mod LogView
+pub mod MarkView
+pub mod ArrivingCalls

@@ -1,15 +1,15 @@
 -- When a run is refused before its first event, and why.
 use Rattle.std.specs.Prelude.{◌≡◌, ◌≢◌, ◌≤◌, ◌%◌, ℕ, List, [], length, nat_lt, if◌then◌else◌, Option, Some, None, Result, Ok, Err}
-use Rattle.bdev.specs.media.declared.MediaRefusal.{MediaRefusal}
-use Rattle.bdev.specs.media.declared.MediaRefusal.TheVariants.{NotWholeSectors, TooLarge}
-use Rattle.partition.specs.declared.PartitionRefusal.{PartitionRefusal}
-use Rattle.legal.specs.volume.declared.Finding.{Finding}
-use Rattle.legal.specs.volume.Verdict.{Verdict, Clean, Found, verdict_of}
+use Rattle.media.specs.declared.MediaRefusal.{MediaRefusal}
+use Rattle.media.specs.declared.MediaRefusal.TheVariants.{NotWholeSectors, TooLarge}
+use Rattle.media.specs.declared.partition.PartitionRefusal.{PartitionRefusal}
+use Rattle.volume.specs.declared.Finding.{Finding}
+use Rattle.volume.specs.Verdict.{Verdict, Clean, Found, verdict_of}
 use Rattle.bdev.specs.DriverState.{DriverState, range_while_fresh}
-use Rattle.policy.specs.declared.Setup.{Setup}
-use Rattle.policy.specs.Policy.{IsAllowed}
+use Rattle.reincarnate.specs.declared.policy.Setup.{Setup}
+use Rattle.reincarnate.specs.Policy.{IsAllowed}
 use Rattle.schedule.specs.Groups.{Each}
-use Rattle.legal.specs.marks.Opening.{Range, volume_bytes}
+use Rattle.records.specs.Opening.{Range, volume_bytes}
 
 -- why a minor has no volume: the partition table is refused, or it has no partition of MINIX's type there
 pub data NoPlace : Type 0 where

@@ -1,12 +1,12 @@
 -- The starts that a run must show, the requests that follow each, and giving up.
 use Rattle.std.specs.Prelude.{◌≡◌, ℕ, ◌+◌, ◌-◌, List, [], ◌∷◌, ◌++◌, map, Bool, true, false, not, ◌&&◌, ◌||◌, nat_le, nat_lt, Option, Some, None, if◌then◌else◌}
-use Rattle.policy.specs.endpoint.declared.Endpoint.{Endpoint}
+use Rattle.message.specs.declared.endpoint.Endpoint.{Endpoint}
 use Rattle.message.specs.declared.BlockRequest.{BlockRequest}
-use Rattle.policy.specs.declared.Policy.{Policy}
-use Rattle.policy.specs.Faults.{LastFault, last_fault, gives_up, restart_tick}
-use Rattle.policy.specs.Watch.{driver}
-use Rattle.legal.specs.marks.Marks.{Mark, Started, GaveUp, Took, Issued, Fault, gave_up, awaits_start}
-use Rattle.legal.specs.marks.Open.{open_requests, greatest}
+use Rattle.reincarnate.specs.declared.policy.Policy.{Policy}
+use Rattle.reincarnate.specs.Faults.{LastFault, last_fault, gives_up, restart_tick}
+use Rattle.reincarnate.specs.Watch.{driver}
+use Rattle.records.specs.Marks.{Mark, Started, GaveUp, Took, Issued, Fault, gave_up, awaits_start}
+use Rattle.records.specs.Open.{open_requests, greatest}
 use Rattle.schedule.specs.declared.Event.{Event}
 use Rattle.schedule.specs.declared.Event.TheVariants as event
 use Rattle.schedule.specs.Groups.{Group, marks_of, ticks_so_far, generation}

@@ -6,7 +6,24 @@
 //! taken by the call's next take, or right after the call or the message, always before the next event. After the last event nothing comes
 //! any more. An event that names nothing has no effect. The server finishes a call or issues a request only where it was handed
 //! something: a call, a flush, a reply, a start, or giving up.
+//!
+//! What a run of the server over a schedule notes, and the marks of its record.
+//!
+//! Everything that the server's link was told and gave is noted in one list, with the events, their faults and the calls that were
+//! answered: what the link's history is, and which marks each event led to, are read off it.
+//!
+//! The calls that a schedule brings and that weren't begun: each waits behind those that arrived before it.
 #![tactic(auto)]
+
+pub mod arrived;
+pub mod faultless;
+pub mod log;
+pub mod mark;
+pub mod queue;
+
+pub use log::{Entry, Log};
+pub use mark::RunMark;
+pub use arrived::Arrived;
 
 ghost use Rattle.schedule.specs.Laws.{BeginningKeeps, GroupsStay, RefusedForOne, RefusedOrAccepted, RepliesStay};
 

@@ -5,10 +5,10 @@ use Rattle.std.specs.Str.{bytes_eq}
 use Rattle.std.proofs.lemmas.List.{drop_more, flat_map_more, length-map, map-append, map_more, take_more}
 use Rattle.std.proofs.Math.Seq.{take-append_seam, drop-append_seam}
 use Rattle.schedule.specs.declared.Event.{Event}
-use Rattle.text_words.specs.Words.{words_of, lines_of}
-use Rattle.text_words.specs.Lines.{said_by_lines, has_first}
+use Rattle.call_text.specs.Words.{words_of, lines_of}
+use Rattle.call_text.specs.Lines.{said_by_lines, has_first}
 use Rattle.std.proofs.lemmas.Bool.Decides.{nat_tests}
-use Rattle.text_words.proofs.Reading.{some_part, said_after, said_after-nil, said_by-end, lines_go_on, line_bad, has_first_read}
+use Rattle.call_text.proofs.Reading.{some_part, said_after, said_after-nil, said_by-end, lines_go_on, line_bad, has_first_read}
 use Rattle.schedule_text.specs.Events.{arrival_of, event_at, event_of, event_but_call, has_event, line_bytes, line_event, plain_event, schedule_in}
 use Rattle.schedule_text.specs.declared.line.Line.{Line}
 

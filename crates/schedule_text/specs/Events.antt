@@ -5,11 +5,11 @@ use Rattle.std.specs.Str.{bytes_eq}
 use Rattle.tree.specs.declared.Who.{Who}
 use Rattle.schedule.specs.declared.Event.{Event}
 use Rattle.schedule.specs.declared.Event.TheVariants.{Arrive, Flush, Tick, Step, Die, Hang, Deliver, Repeat}
-use Rattle.text_words.specs.Bytes.{byte_of}
-use Rattle.text_words.specs.Words.{words_of, number_of}
-use Rattle.call_text.specs.written_call.Calls.{decoded, meant, plain, word}
+use Rattle.call_text.specs.Bytes.{byte_of}
+use Rattle.call_text.specs.Words.{words_of, number_of}
+use Rattle.call_text.specs.WrittenCalls.{decoded, meant, plain, word}
 use Rattle.call_text.specs.Calls.{call_of, id}
-use Rattle.text_words.specs.Lines.{said_by, has_first}
+use Rattle.call_text.specs.Lines.{said_by, has_first}
 use Rattle.schedule_text.specs.declared.line.Line.{Line}
 use Rattle.schedule_text.specs.declared.line.Line.TheVariants as line
 

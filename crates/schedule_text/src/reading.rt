@@ -7,7 +7,7 @@ ghost use Rattle.schedule_text.specs.Refusals.{IsRefused};
 use crate::line::{Line, read_numbered};
 use schedule::Event;
 use std::alloc::{AllocError, Global};
-use text_words::words::cut;
+use call_text::words::cut;
 use thiserror::Error;
 
 /// Why a schedule isn't read.

@@ -5,8 +5,8 @@ use Rattle.std.proofs.lemmas.Bool.Decides.{nat_tests}
 use Rattle.std.proofs.lemmas.List.{length-map, map-append}
 use Rattle.std.proofs.lemmas.List.Splits.{length-slice_split}
 use Rattle.std.specs.Prelude.{◌==◌}
-use Rattle.text_words.specs.Words.{words_of, lines_of}
-use Rattle.text_words.proofs.Reading.{some_part, said_after, said_after-nil, said_by-end, lines_go_on, line_bad, lines_are_from, IsFrom}
+use Rattle.call_text.specs.Words.{words_of, lines_of}
+use Rattle.call_text.proofs.Reading.{some_part, said_after, said_after-nil, said_by-end, lines_go_on, line_bad, lines_are_from, IsFrom}
 use Rattle.script_text.specs.Scripts.{user_of, timed_of, timed_at, calls_in, with_user, script_of, script_of_lines, has_call, line_call}
 use Rattle.script_text.specs.declared.timed.TimedCall.{TimedCall}
 use Rattle.script_text.specs.declared.timed.TimedLine.{TimedLine}

@@ -1,3 +1,4 @@
 pub mod Refusals
 pub mod Said
 pub mod Scripts
+pub mod Files

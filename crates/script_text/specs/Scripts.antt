@@ -2,10 +2,10 @@
 use Rattle.std.specs.Prelude.{◌≡◌, ℕ, Bool, List, ◌∷◌, [], nat_lt, length, cond, Option, Some, None, Result, Ok, Err, codes}
 use Rattle.std.specs.Option.{option_map, option_zip}
 use Rattle.std.specs.Str.{bytes_eq}
-use Rattle.text_words.specs.Words.{words_of, lines_of}
-use Rattle.call_text.specs.written_call.Calls.{decoded, meant, plain, word}
+use Rattle.call_text.specs.Words.{words_of, lines_of}
+use Rattle.call_text.specs.WrittenCalls.{decoded, meant, plain, word}
 use Rattle.call_text.specs.Calls.{call_of, id}
-use Rattle.text_words.specs.Lines.{said_by_lines}
+use Rattle.call_text.specs.Lines.{said_by_lines}
 use Rattle.script_text.specs.declared.timed.TimedCall.{TimedCall}
 use Rattle.script_text.specs.declared.timed.TimedLine.{TimedLine}
 

@@ -3,4 +3,5 @@
 
 pub mod reading;
 pub mod script;
+pub mod script_files;
 pub mod timed;

@@ -2,11 +2,11 @@
 
 ghost use Rattle.std.specs.Prelude.{◌≡◌, [], IfErr, IfOk};
 ghost use Rattle.std.specs.Arc.{arc_value};
-ghost use Rattle.board.specs.marks.Opening.{contents_at};
+ghost use Rattle.records.specs.Opening.{contents_at};
 ghost use Rattle.tree.specs.Tree.{Tree};
-ghost use Rattle.board.specs.legal.Legal.{IsAtFirst};
-ghost use Rattle.shared_server.specs.held_server.Stopping.{IsLastImage, IsSyncedImage, Went, WhyNotSynced};
-ghost use Rattle.shared_server.specs.held_server.Held.{IsAdmitted, IsGood, IsGuaranteed, IsHeld, IsNotAdmitted};
+ghost use Rattle.records.specs.Legal.{IsAtFirst};
+ghost use Rattle.shared_server.specs.Stopping.{IsLastImage, IsSyncedImage, Went, WhyNotSynced};
+ghost use Rattle.shared_server.specs.Held.{IsAdmitted, IsGood, IsGuaranteed, IsHeld, IsNotAdmitted};
 
 use crate::session::Session;
 use board::Board;
@@ -15,7 +15,9 @@ use shared_server::left_open::LeftOpen;
 use shared_server::locked::Locked;
 use shared_server::refusal::SessionRefusal;
 use shared_server::stopping::{StopRefusal, Stopped};
-use shared_server::{OnMedia, Recorder, Room};
+use keeping::steady::OnMedia;
+use keeping::recorder::Recorder;
+use keeping::room::Room;
 use std::alloc::{AllocError, Global};
 use std::marker::PhantomData;
 use std::sync::{Arc, Mutex, Wait};

@@ -3,21 +3,22 @@
 ghost use Rattle.std.specs.Prelude.{◌≡◌, ◌<◌, ◌≤◌, ◌^◌, true};
 ghost use Rattle.std.specs.Bool.{OnTrue, OnFalse};
 ghost use Rattle.tree.specs.Tree.{Tree};
-ghost use Rattle.board.specs.marks.Marks.{counted, IsBeginning};
-ghost use Rattle.board.specs.marks.Opening.{contents_at};
-ghost use Rattle.board.specs.legal.Legal.{IsAtFirst};
-ghost use Rattle.board.specs.legal.Session.{caller_of, SessionCallKeeps, DeviceKeeps, MeetKeeps};
+ghost use Rattle.records.specs.Marks.{counted, IsBeginning};
+ghost use Rattle.records.specs.Opening.{contents_at};
+ghost use Rattle.records.specs.Legal.{IsAtFirst};
+ghost use Rattle.records.specs.Session.{caller_of, SessionCallKeeps, DeviceKeeps, MeetKeeps};
 ghost use Rattle.board.specs.Words.{is_given_up};
 ghost use Rattle.file_server.specs.Over.{outcome_of};
 ghost use Rattle.serve.specs.Closing.{ClosesBelow, ClosesOne};
-ghost use Rattle.shared_server.specs.held_server.Descriptors.{leaves_open};
-ghost use Rattle.shared_server.specs.held_server.Held.{HasEnded, IsCutAtEnd, IsEioOnceGivenUp, IsGuaranteed, IsSound};
+ghost use Rattle.shared_server.specs.Descriptors.{leaves_open};
+ghost use Rattle.shared_server.specs.Held.{HasEnded, IsCutAtEnd, IsEioOnceGivenUp, IsGuaranteed, IsSound};
 
 use crate::service::Shared;
 use board::{Board, Device, Seat};
 use file_server::FileServer;
 use shared_server::left_open::{LeftOpen, is_cut};
-use shared_server::{Recorder, Room};
+use keeping::recorder::Recorder;
+use keeping::room::Room;
 use std::marker::{Model, PhantomData};
 use std::sync::{Arc, Wait};
 use tree::{Call, MAX_DESCRIPTORS, Outcome, Who};
@@ -43,9 +44,9 @@ impl<N: Room, S> Model for Session<N, S> {
     ghost use Rattle.std.specs.Prelude.{◌≡◌, ◌<◌, Some};
     ghost use Rattle.serve.specs.Counts.{Counts};
     ghost use Rattle.std.specs.Arc.{arc_value};
-    ghost use Rattle.board.specs.legal.Session.{SessionState};
+    ghost use Rattle.records.specs.Session.{SessionState};
     ghost use Rattle.board.specs.View.{session_for};
-    ghost use Rattle.shared_server.specs.held_server.Descriptors.{AreLeftOpen};
+    ghost use Rattle.shared_server.specs.Descriptors.{AreLeftOpen};
 
     ghost Value = { SessionState };
 

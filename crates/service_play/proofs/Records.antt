@@ -1,21 +1,21 @@
 -- What a service vouches for, without its link.
 use Rattle.std.proofs.Common.{ℕ, List, [], ◌∷◌, Result, Ok, Err, IfOk, IfErr}
 use Rattle.std.specs.Global.{Vec}
-use Rattle.launch.specs.layout.declared.Geometry.{Geometry}
-use Rattle.inline.specs.media.Contents.{MediaState}
-use Rattle.reissue.specs.marks.Marks.{Mark}
-use Rattle.reissue.specs.marks.Disk.{HasTrueReplies}
-use Rattle.reissue.specs.marks.Opening.{Opening, contents_at}
-use Rattle.file_server.specs.legal.Session.{SessionState}
+use Rattle.layout.specs.declared.Geometry.{Geometry}
+use Rattle.media.specs.Contents.{MediaState}
+use Rattle.records.specs.Marks.{Mark}
+use Rattle.records.specs.Disk.{HasTrueReplies}
+use Rattle.records.specs.Opening.{Opening, contents_at}
+use Rattle.records.specs.Session.{SessionState}
 use Rattle.reissue.specs.declared.link.Link.{Ghosts as LinkWords}
-use Rattle.shared_server.specs.held_server.Stopping.{IsLastImage, Went, WhyNotSynced}
-use Rattle.shared_server.specs.held_server.declared.stopping.Stopped.{Stopped}
-use Rattle.shared_server.specs.held_server.declared.stopping.StopRefusal.{StopRefusal}
-use Rattle.shared_server.specs.held_server.declared.stopping.StopRefusal.TheVariants as stop
+use Rattle.shared_server.specs.Stopping.{IsLastImage, Went, WhyNotSynced}
+use Rattle.shared_server.specs.declared.stopping.Stopped.{Stopped}
+use Rattle.shared_server.specs.declared.stopping.StopRefusal.{StopRefusal}
+use Rattle.shared_server.specs.declared.stopping.StopRefusal.TheVariants as stop
 use Rattle.script_text.specs.declared.timed.TimedCall.{TimedCall}
-use Rattle.session_text.specs.declared.answers.Played.{Played}
-use Rattle.script_play.specs.Turns.{ArePlayed, InTurn, IsTurn}
-use Rattle.seats.specs.Vouched.{Vouched}
+use Rattle.reply_text.specs.declared.answers.Played.{Played}
+use Rattle.service_play.specs.Turns.{ArePlayed, InTurn, IsTurn}
+use Rattle.service_play.specs.Vouched.{Vouched}
 use Rattle.service_play.specs.Served.{AreServed, IsImageOf, IsTrueRecord, sync_of}
 use Rattle.service_play.specs.declared.players.LastSync.{LastSync}
 use Rattle.service_play.specs.declared.players.LastSync.TheVariants.{Done, GivenUp, Cut}

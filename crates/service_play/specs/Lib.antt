@@ -1,3 +1,6 @@
 -- Scripts played on a service.
-pub use Rattle.launch.specs as launch
+pub mod Made
+pub mod Turns
+pub mod Admitted
+pub mod Vouched
 pub mod Served

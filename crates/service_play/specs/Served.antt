@@ -2,21 +2,21 @@
 use Rattle.std.specs.Prelude.{◌≡◌, ℕ, List, Result, Ok, Err, codes}
 use Rattle.std.specs.List.{concat}
 use Rattle.std.specs.Global.{Vec}
-use Rattle.launch.specs.layout.declared.Geometry.{Geometry}
-use Rattle.session_text.specs.tree.Tree.{Tree}
-use Rattle.inline.specs.media.Contents.{MediaState}
-use Rattle.reissue.specs.marks.Marks.{Mark, IsBeginning}
-use Rattle.reissue.specs.marks.Disk.{HasTrueReplies}
-use Rattle.reissue.specs.marks.Opening.{Opening, contents_at}
-use Rattle.file_server.specs.legal.Legal.{IsAtFirst}
-use Rattle.shared_server.specs.held_server.Held.{IsGood}
-use Rattle.shared_server.specs.held_server.Refusals.{session_refusal_name}
-use Rattle.shared_server.specs.held_server.Stopping.{SyncEnd, Went, WasGivenUp, WasCut, SyncTells}
-use Rattle.shared_server.specs.held_server.declared.stopping.StopRefusal.{StopRefusal}
-use Rattle.shared_server.specs.held_server.declared.stopping.StopRefusal.TheVariants as stop
+use Rattle.layout.specs.declared.Geometry.{Geometry}
+use Rattle.tree.specs.Tree.{Tree}
+use Rattle.media.specs.Contents.{MediaState}
+use Rattle.records.specs.Marks.{Mark, IsBeginning}
+use Rattle.records.specs.Disk.{HasTrueReplies}
+use Rattle.records.specs.Opening.{Opening, contents_at}
+use Rattle.records.specs.Legal.{IsAtFirst}
+use Rattle.shared_server.specs.Held.{IsGood}
+use Rattle.shared_server.specs.Refusals.{session_refusal_name}
+use Rattle.shared_server.specs.Stopping.{SyncEnd, Went, WasGivenUp, WasCut, SyncTells}
+use Rattle.shared_server.specs.declared.stopping.StopRefusal.{StopRefusal}
+use Rattle.shared_server.specs.declared.stopping.StopRefusal.TheVariants as stop
 use Rattle.script_text.specs.declared.timed.TimedCall.{TimedCall}
-use Rattle.session_text.specs.declared.answers.Played.{Played}
-use Rattle.script_play.specs.Turns.{ArePlayed}
+use Rattle.reply_text.specs.declared.answers.Played.{Played}
+use Rattle.service_play.specs.Turns.{ArePlayed}
 use Rattle.service_play.specs.declared.players.LastSync.{LastSync}
 use Rattle.service_play.specs.declared.players.LastSync.TheVariants.{Done, GivenUp, Cut}
 use Rattle.service_play.specs.declared.players.ServiceRefusal.{ServiceRefusal}

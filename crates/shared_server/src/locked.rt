@@ -1,26 +1,28 @@
 //! What lies under the lock of a service.
 
 ghost use Rattle.std.specs.Prelude.{◌≡◌, ◌↔◌, ◌∷◌, ◌<◌, true, Some, IsErrOf, IfErr, IfOk, OnErr};
-ghost use Rattle.board.specs.marks.Opening.{contents_at};
-ghost use Rattle.board.specs.marks.Told.{took_end};
+ghost use Rattle.records.specs.Opening.{contents_at};
+ghost use Rattle.records.specs.Told.{took_end};
 ghost use Rattle.tree.specs.Tree.{Tree};
-ghost use Rattle.board.specs.legal.Legal.{IsAtFirst};
-ghost use Rattle.board.specs.legal.Session.{tally_of};
+ghost use Rattle.records.specs.Legal.{IsAtFirst};
+ghost use Rattle.records.specs.Session.{tally_of};
 ghost use Rattle.board.specs.View.{without};
 ghost use Rattle.board.specs.Steps.{SessionIsNew, SessionLearns};
 ghost use Rattle.file_server.specs.Over.{outcome_of};
-ghost use Rattle.held_server.specs.Held.{IsEioOnceGivenUp, IsGood, IsGuaranteed, IsHeld, IsNotAdmitted, IsServedCall, IsSound};
-ghost use Rattle.held_server.specs.Stopping.{IsLastImage, IsSyncedImage, Went, WhyNotSynced};
-ghost use Rattle.held_server.specs.keeping.Keeper.{AreAllUsed, IsLowestFree, IsOneFree};
+ghost use Rattle.shared_server.specs.Held.{IsEioOnceGivenUp, IsGood, IsGuaranteed, IsHeld, IsNotAdmitted, IsServedCall, IsSound};
+ghost use Rattle.shared_server.specs.Stopping.{IsLastImage, IsSyncedImage, Went, WhyNotSynced};
+ghost use Rattle.keeping.specs.Keeper.{AreAllUsed, IsLowestFree, IsOneFree};
 
 use board::Seat;
 use file_server::FileServer;
-use held_server::left_open::{is_cut, was_done};
-use held_server::refusal::SessionRefusal;
-use held_server::sharing::{admit, release, show};
-use held_server::stopping::{StopRefusal, Stopped};
-use held_server::{OnMedia, Recorder, Room};
-use session_call::calling::make_call;
+use crate::left_open::{is_cut, was_done};
+use crate::refusal::SessionRefusal;
+use crate::sharing::{admit, release, show};
+use crate::stopping::{StopRefusal, Stopped};
+use keeping::steady::OnMedia;
+use keeping::recorder::Recorder;
+use keeping::room::Room;
+use crate::calling::make_call;
 use std::alloc::Global;
 use std::marker::{Model, PhantomData};
 use tree::{Call, Outcome, Who};
@@ -34,7 +36,7 @@ pub struct Locked<N: Room, L: Recorder<N>, S: FileServer<L>> {
 }
 
 impl<N: Room, L: Recorder<N>, S: FileServer<L>> Model for Locked<N, L, S> {
-    ghost use Rattle.held_server.specs.Held.{IsHeld as IsHeldFor};
+    ghost use Rattle.shared_server.specs.Held.{IsHeld as IsHeldFor};
 
     ghost Value = { L };
 

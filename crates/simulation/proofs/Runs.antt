@@ -4,20 +4,20 @@ use Rattle.std.specs.Prelude.{Option, ◌||◌}
 use Rattle.std.specs.List.{list_any}
 use Rattle.std.proofs.lemmas.List.Folds.{flat_map-map}
 use Rattle.std.proofs.lemmas.List.Sorted.{IsPermutation-reverse, list_any-IsPermutation}
-use Rattle.inline.specs.marks.Marks.{Mark, Started, Answered, Flush, GaveUp, Took, Issued, Fault, gave_up}
+use Rattle.records.specs.Marks.{Mark, Started, Answered, Flush, GaveUp, Took, Issued, Fault, gave_up}
 use Rattle.output.specs.declared.OutputRefusal.TheVariants.{OutOfMemory}
 use Rattle.schedule.specs.Headline.{Transcript}
-use Rattle.run_texts.specs.schedule_text.Events.{line_event}
-use Rattle.run_texts.specs.schedule_text.declared.line.Line.{Line}
-use Rattle.run_texts.proofs.schedule_text.Events.{event_kept}
-use Rattle.run_texts.specs.transcript_text.declared.mark.MarkRef.{MarkRef}
-use Rattle.run_texts.specs.transcript_text.Text.{mark_line, mark_of, marks_text, transcript_text, unanswered_text}
-use Rattle.run_texts.proofs.transcript_text.Lines.{nothing_written, unanswered_some}
-use Rattle.run_texts.specs.Inputs.{HasEvent, HasSchedule}
-use Rattle.run_texts.specs.Shown.{Shows, is_giving_up, output_text}
+use Rattle.schedule_text.specs.Events.{line_event}
+use Rattle.schedule_text.specs.declared.line.Line.{Line}
+use Rattle.schedule_text.proofs.Events.{event_kept}
+use Rattle.reply_text.specs.declared.mark.MarkRef.{MarkRef}
+use Rattle.reply_text.specs.TranscriptText.{mark_line, mark_of, marks_text, transcript_text, unanswered_text}
+use Rattle.reply_text.proofs.Lines.{nothing_written, unanswered_some}
+use Rattle.simulation.specs.Inputs.{HasEvent, HasSchedule}
+use Rattle.simulation.specs.Shown.{Shows, is_giving_up, output_text}
 use Rattle.simulation.specs.Simulated.{IsRefusedAs, ShowsRun, text_of}
-use Rattle.run_texts.specs.declared.inputs.File.{File}
-use Rattle.run_texts.specs.declared.show.Status.{Status}
+use Rattle.simulation.specs.declared.inputs.File.{File}
+use Rattle.simulation.specs.declared.show.Status.{Status}
 
 -- the text of marks that stand elsewhere is that of the marks
 same_text : (shown : List MarkRef) (t : Transcript) → map mark_of shown ≡ reverse t.marks → transcript_text mark_of shown t.unanswered ≡ text_of t

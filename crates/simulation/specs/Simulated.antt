@@ -1,26 +1,26 @@
 -- What a run from two files comes to.
 use Rattle.std.specs.Prelude.{◌≡◌, ◌⊎◌, ℕ, List, Option, Some, map, reverse}
 use Rattle.std.specs.Borrow.{Bor}
-use Rattle.inline.specs.bdev.DriverState.{DriverState}
-use Rattle.policy.specs.declared.Setup.{Setup}
-use Rattle.inline.specs.marks.Marks.{gave_up}
+use Rattle.bdev.specs.DriverState.{DriverState}
+use Rattle.reincarnate.specs.declared.policy.Setup.{Setup}
+use Rattle.records.specs.Marks.{gave_up}
 use Rattle.output.specs.Output.{Tells}
 use Rattle.output.specs.declared.Told.{Told}
 use Rattle.schedule.specs.declared.Event.{Event}
 use Rattle.schedule.specs.Headline.{Transcript}
-use Rattle.run_texts.specs.schedule_text.Events.{plain_event}
-use Rattle.run_texts.specs.transcript_text.Text.{transcript_text}
-use Rattle.world.specs.run_start.Beginning.{IsNotBegun}
-use Rattle.world.specs.run_start.Reasons as run
-use Rattle.world.specs.run_start.declared.run_refusal.RunRefusal.{RunRefusal}
+use Rattle.schedule_text.specs.Events.{plain_event}
+use Rattle.reply_text.specs.TranscriptText.{transcript_text}
+use Rattle.world.specs.Beginning.{IsNotBegun}
+use Rattle.world.specs.Reasons as run
+use Rattle.world.specs.declared.run_refusal.RunRefusal.{RunRefusal}
 use Rattle.world.specs.Plays.{RunShows}
-use Rattle.run_texts.specs.Inputs.{HasSchedule, IsNoInput}
-use Rattle.run_texts.specs.Inputs as inputs
-use Rattle.run_texts.specs.Shown.{Shows}
-use Rattle.run_texts.specs.declared.inputs.File.{File}
-use Rattle.run_texts.specs.declared.inputs.InputRefusal.{InputRefusal}
-use Rattle.run_texts.specs.declared.show.Status.{Status}
-use Rattle.run_texts.specs.declared.show.Status.TheVariants.{Refused}
+use Rattle.simulation.specs.Inputs.{HasSchedule, IsNoInput}
+use Rattle.simulation.specs.Inputs as inputs
+use Rattle.simulation.specs.Shown.{Shows}
+use Rattle.simulation.specs.declared.inputs.File.{File}
+use Rattle.simulation.specs.declared.inputs.InputRefusal.{InputRefusal}
+use Rattle.simulation.specs.declared.show.Status.{Status}
+use Rattle.simulation.specs.declared.show.Status.TheVariants.{Refused}
 
 -- the text of a run's transcript: its marks, oldest first
 abbrev pub text_of : Transcript → List ℕ

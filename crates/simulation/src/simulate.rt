@@ -1,18 +1,19 @@
 //! A run of a schedule, from the bytes of its two files to the lines of its transcript.
 
 ghost use Rattle.std.specs.Prelude.{◌≡◌, ◌<◌, ◌^◌, length, map};
-ghost use Rattle.world.specs.run_transcript.Shown.{transcript_of};
+ghost use Rattle.transcript.specs.ShownTranscript.{transcript_of};
 ghost use Rattle.simulation.specs.Simulated.{Runs, ShowsRun, Simulates};
 
 use inline::local::LocalDriver;
 use output::OutputRefusal;
-use policy::Setup;
-use run_texts::inputs::{File, InputRefusal, read_inputs};
-use run_texts::show::{NotShown, Status, refuse, show};
+use reincarnate::policy::Setup;
+use crate::inputs::{File, InputRefusal, read_inputs};
+use crate::show::{NotShown, Status, refuse, show};
 use schedule::Event;
 use std::alloc::Global;
 use std::io::Write;
-use world::{Transcript, World};
+use transcript::Transcript;
+use world::World;
 
 /// Runs the schedule in a file on the image in another, and writes the transcript on `out`: a line for each mark, the oldest first, and
 /// last `unanswered N`.

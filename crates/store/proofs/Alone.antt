@@ -5,13 +5,13 @@ use Rattle.std.specs.Prelude.{IsTrue, ◌⊎◌, nat_le, nat_lt, ◌&&◌, if◌
 use Rattle.std.proofs.Math.Nat.{mul_comm}
 use Rattle.std.proofs.lemmas.Nat.{div_below}
 use Rattle.std.proofs.lemmas.Bool.{and_parts, leb-true, lt-leb, cond-true, cond-false, cases_lt, cases_Bool}
-use Rattle.store.specs.layout.declared.Geometry.{Geometry}
-use Rattle.store.specs.layout.Places.{IsGeometry}
-use Rattle.store.specs.tree.Sums.{put}
-use Rattle.store.proofs.tree.Maps.{put-same, put-other, is_put}
-use Rattle.store.specs.volume.declared.Inode.{Inode}
-use Rattle.store.specs.volume.Reading.{Disk, is_inode, is_data_zone, inode_in, inode_block, inode_offset, inode_of_disk, inode_bit, zone_bit, bit_in}
-use Rattle.store.specs.volume.Pieces.{pieces, blank}
+use Rattle.layout.specs.declared.Geometry.{Geometry}
+use Rattle.layout.specs.Places.{IsGeometry}
+use Rattle.tree.specs.Sums.{put}
+use Rattle.tree.proofs.Maps.{put-same, put-other, is_put}
+use Rattle.volume.specs.declared.Inode.{Inode}
+use Rattle.volume.specs.Reading.{Disk, is_inode, is_data_zone, inode_in, inode_block, inode_offset, inode_of_disk, inode_bit, zone_bit, bit_in}
+use Rattle.volume.specs.Pieces.{pieces, blank}
 use Rattle.store.specs.Volume.{Alters}
 use Rattle.store.specs.Regions.{zone_map_start, table_start, with_inode_map, with_zone_map, with_inodes, with_zone}
 use Rattle.store.proofs.Places.{after_maps, before_zones}

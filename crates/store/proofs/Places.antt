@@ -4,10 +4,10 @@ use mathlib.Core.Logic.{inl, inr}
 use Rattle.std.specs.Prelude.{IsTrue, ◌⊎◌, nat_le}
 use Rattle.std.proofs.Math.Nat.{div-add-mod', mod-lt}
 use Rattle.std.proofs.lemmas.Bool.{and_parts, leb-true, cases_lt}
-use Rattle.store.specs.layout.declared.Geometry.{Geometry}
-use Rattle.store.specs.layout.Places.{IsGeometry, table_blocks}
-use Rattle.store.proofs.layout.Parsed.{block_sizes}
-use Rattle.store.specs.volume.Reading.{is_inode, inode_block, inode_offset}
+use Rattle.layout.specs.declared.Geometry.{Geometry}
+use Rattle.layout.specs.Places.{IsGeometry, table_blocks}
+use Rattle.layout.proofs.Parsed.{block_sizes}
+use Rattle.volume.specs.Reading.{is_inode, inode_block, inode_offset}
 
 -- a number's bounds
 pub inode_bounds : (g : Geometry) (n : ℕ) → IsTrue (is_inode g n) → (1 ≤ n) × (n ≤ g.inodes)

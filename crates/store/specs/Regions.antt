@@ -1,10 +1,10 @@
 -- What a write to one block of a volume changes: the piece in whose region the block lies, and no other.
 use Rattle.std.specs.Prelude.{◌≤◌, ◌<◌, ℕ, ◌+◌, IsTrue}
-use Rattle.store.specs.layout.declared.Geometry.{Geometry}
-use Rattle.store.specs.layout.Places.{IsGeometry}
-use Rattle.store.specs.tree.Sums.{put}
-use Rattle.store.specs.volume.Reading.{Disk, is_data_zone}
-use Rattle.store.specs.volume.Pieces.{Pieces, pieces}
+use Rattle.layout.specs.declared.Geometry.{Geometry}
+use Rattle.layout.specs.Places.{IsGeometry}
+use Rattle.tree.specs.Sums.{put}
+use Rattle.volume.specs.Reading.{Disk, is_data_zone}
+use Rattle.volume.specs.Pieces.{Pieces, pieces}
 use Rattle.store.specs.Volume.{Alters}
 
 -- the block in which the zone map begins, and that in which the inode table does; the inode map begins at block 2

@@ -3,6 +3,7 @@
 
 pub mod blocks;
 pub mod laws;
+pub mod memory;
 pub mod regions;
 pub mod words;
 

@@ -1,14 +1,14 @@
 -- Calls of a cache, as blocks have them.
 use Rattle.std.proofs.Common.{◌≡◌, ℕ, List, sym, ap, subst, ◌∙◌, None}
 use Rattle.std.specs.Prelude.{Result, Ok, Err}
-use Rattle.store.specs.volume.Reading.{Disk}
-use Rattle.reissue.specs.marks.Told.{Told, grown}
-use Rattle.reissue.specs.marks.Disk.{HasTrueReplies}
-use Rattle.reissue.specs.pending_table.Moves.{DiskState, state_after}
+use Rattle.volume.specs.Reading.{Disk}
+use Rattle.records.specs.Told.{Told, grown}
+use Rattle.records.specs.Disk.{HasTrueReplies}
+use Rattle.reissue.specs.Moves.{DiskState, state_after}
 use Rattle.cache.specs.Calls.{Caching, Runs, Keeps, Serves, Blanks, Rewrites}
 use Rattle.cache.specs.Frames.{view, with_bytes}
 use Rattle.cache.proofs.Runs.{runs_as}
-use Rattle.cache.specs.block_transfers.declared.refusals.Cut.{Cut}
+use Rattle.cache.specs.declared.refusals.Cut.{Cut}
 use Rattle.store.specs.World.{Turns}
 use Rattle.store.specs.Rows.{written, cleared}
 use Rattle.stored.specs.World.{world_by}

@@ -1,7 +1,7 @@
 -- Blocks over another link.
 use Rattle.std.proofs.Common.{ℕ, ◌≤◌, min, arith}
 use Rattle.reissue.specs.declared.link.Link.{Ghosts as LinkWords}
-use Rattle.reissue.specs.pending_table.declared.table.Table.{Table}
+use Rattle.reissue.specs.declared.table.Table.{Table}
 use Rattle.reissue.specs.Posts.{HasRoom}
 use Rattle.stored.specs.Laws.{ReadyOverLink}
 

@@ -2,9 +2,9 @@
 use Rattle.std.specs.Prelude.{◌≡◌, ◌+◌, ◌<◌, ◌≤◌, ◌^◌, length, false}
 use Rattle.std.proofs.Common.{refl}
 use Rattle.message.specs.declared.Incoming.{Incoming}
-use Rattle.store.specs.volume.Reading.{Disk}
+use Rattle.volume.specs.Reading.{Disk}
 use Rattle.reissue.specs.Room.{room_needed}
-use Rattle.cache.specs.slots.Edits.{AllClean}
+use Rattle.cache.specs.Edits.{AllClean}
 use Rattle.cache.specs.Calls.{Caching, IsReady, IsLive, IsWhyCut, IsStuck}
 use Rattle.flusher.specs.Flushing.{WritesLowest}
 use Rattle.store.specs.declared.Cut.{Cut}

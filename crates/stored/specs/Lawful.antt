@@ -4,14 +4,14 @@ use Rattle.std.specs.Prelude.{◌+◌, ◌*◌, take, if◌then◌else◌}
 use Rattle.std.proofs.lemmas.List.{append_cancel_right, get_or_past, length-take}
 use Rattle.std.proofs.lemmas.Bool.{le-ltb}
 use Rattle.std.proofs.Math.Nat.{le_trans, min-le_left}
-use Rattle.store.specs.volume.Reading.{Disk}
-use Rattle.reissue.specs.marks.Marks.{Mark}
-use Rattle.reissue.specs.marks.Told.{Told, grown}
-use Rattle.reissue.specs.marks.Disk.{Contents, HasTrueReplies}
-use Rattle.reissue.specs.pending_table.Moves.{DiskState, state_after}
+use Rattle.volume.specs.Reading.{Disk}
+use Rattle.records.specs.Marks.{Mark}
+use Rattle.records.specs.Told.{Told, grown}
+use Rattle.records.specs.Disk.{Contents, HasTrueReplies}
+use Rattle.reissue.specs.Moves.{DiskState, state_after}
 use Rattle.reissue.proofs.Joining.{grown_append}
-use Rattle.cache.specs.slots.declared.slot.Slot.{Slot}
-use Rattle.cache.specs.legal.View.{frame_or}
+use Rattle.cache.specs.declared.slot.Slot.{Slot}
+use Rattle.records.specs.View.{frame_or}
 use Rattle.cache.specs.Calls.{Caching, IsReady}
 use Rattle.cache.specs.Frames.{CacheAgrees, frames_of, frame_of, view, disk_block}
 use Rattle.cache.proofs.Runs.{runs_none, runs_then, true_before}

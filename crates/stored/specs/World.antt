@@ -1,18 +1,18 @@
 -- What is said of the frames of a cache as blocks.
 use Rattle.std.specs.Prelude.{◌≡◌, ◌++◌, List, None}
 use Rattle.std.proofs.Common.{◌∙◌}
-use Rattle.store.specs.volume.Reading.{Disk}
-use Rattle.reissue.specs.marks.Marks.{Mark}
-use Rattle.reissue.specs.marks.Told.{Told, grown}
-use Rattle.reissue.specs.marks.Disk.{Contents, HasTrueReplies}
-use Rattle.reissue.specs.pending_table.Agrees.{Agrees}
-use Rattle.reissue.specs.pending_table.Moves.{state_after}
+use Rattle.volume.specs.Reading.{Disk}
+use Rattle.records.specs.Marks.{Mark}
+use Rattle.records.specs.Told.{Told, grown}
+use Rattle.records.specs.Disk.{Contents, HasTrueReplies}
+use Rattle.reissue.specs.Agrees.{Agrees}
+use Rattle.reissue.specs.Moves.{state_after}
 use Rattle.reissue.specs.declared.link.Link.{Ghosts as LinkWords}
 use Rattle.reissue.specs.Transfers.{link_of}
-use Rattle.cache.specs.block_transfers.declared.refusals.Cut as old_cut
-use Rattle.cache.specs.block_transfers.declared.refusals.Cut.TheVariants as cached
+use Rattle.cache.specs.declared.refusals.Cut as old_cut
+use Rattle.cache.specs.declared.refusals.Cut.TheVariants as cached
 use Rattle.cache.specs.Calls.{Caching, caching, frame_count, with_cache_link, Runs, IsReady, IsLive, IsWhyCut, LinkGoesOn}
-use Rattle.cache.specs.slots.Edits.{AllClean}
+use Rattle.cache.specs.Edits.{AllClean}
 use Rattle.cache.specs.Frames.{CacheAgrees, frames_of, view}
 use Rattle.store.specs.declared.Cut.{Cut}
 use Rattle.store.specs.declared.Cut.TheVariants.{Eio, LinkEnded}

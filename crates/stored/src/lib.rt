@@ -75,7 +75,7 @@ impl<L: Link> Stored<L> {
 pub trait Caches: Blocks {
     ghost use Rattle.std.specs.Prelude.{◌≡◌, ◌≢◌, ℕ, Bool, true, false};
     ghost use Rattle.cache.specs.Calls.{Caching, IsReady, IsIdle, IsLive, IsStuck, Keeps, PostsAlone, HandsOver};
-    ghost use Rattle.cache.specs.slots.Edits.{AllClean};
+    ghost use Rattle.cache.specs.Edits.{AllClean};
     ghost use Rattle.store.specs.World.{Turns};
     ghost use Rattle.stored.specs.Cached.{IsCached, MayAbsorb, Flushes};
 

@@ -2,20 +2,20 @@
 use Rattle.std.specs.Prelude.{◌≡◌, ◌⊎◌, ℕ, List, Bool, true, false, ◌||◌, codes, Option, Some, None}
 use Rattle.std.specs.Borrow.{Bor}
 use Rattle.std.specs.List.{list_any}
-use Rattle.volume_tools.specs.layout.declared.Geometry.{Geometry}
-use Rattle.inline.specs.bdev.DriverState.{DriverState}
-use Rattle.policy.specs.declared.Setup.{Setup}
-use Rattle.startup.specs.Refusals.{start_refusal_text}
-use Rattle.startup.specs.Starting.{opening_of}
-use Rattle.service_play.specs.launch.Ran.{IsNotStarted, IsStartable}
+use Rattle.layout.specs.declared.Geometry.{Geometry}
+use Rattle.bdev.specs.DriverState.{DriverState}
+use Rattle.reincarnate.specs.declared.policy.Setup.{Setup}
+use Rattle.mounting.specs.StartupRefusals.{start_refusal_text}
+use Rattle.mounting.specs.Starting.{opening_of}
+use Rattle.launch.specs.Ran.{IsNotStarted, IsStartable}
 use Rattle.script_text.specs.declared.timed.TimedCall.{TimedCall}
-use Rattle.script_files.specs.declared.File.{File}
-use Rattle.script_files.specs.declared.FileRefusal.{FileRefusal}
-use Rattle.script_files.specs.declared.FileRefusal.TheVariants.{CannotRead}
-use Rattle.script_files.specs.Files as files
-use Rattle.session_text.specs.declared.answers.Played.{Played}
-use Rattle.session_text.specs.Answers.{sessions_text}
-use Rattle.script_play.specs.Made.{has_eio}
+use Rattle.script_text.specs.declared.script_files.File.{File}
+use Rattle.script_text.specs.declared.script_files.FileRefusal.{FileRefusal}
+use Rattle.script_text.specs.declared.script_files.FileRefusal.TheVariants.{CannotRead}
+use Rattle.script_text.specs.Files as files
+use Rattle.reply_text.specs.declared.answers.Played.{Played}
+use Rattle.reply_text.specs.Answers.{sessions_text}
+use Rattle.service_play.specs.Made.{has_eio}
 use Rattle.service_play.specs.Served.{AreServed, service_text}
 use Rattle.tools.specs.Status.{is_given_up}
 use Rattle.service_play.specs.declared.players.LastSync.{LastSync}

@@ -3,5 +3,3 @@
 
 pub mod play;
 
-pub use output;
-pub use volume_tools::{make, verify};

@@ -6,8 +6,8 @@ use Rattle.std.proofs.lemmas.Iterator.Adapters.{position_from-zero}
 use Rattle.message.specs.declared.BlockRequest.{BlockRequest}
 use Rattle.message.specs.declared.BlockReply.{BlockReply}
 use Rattle.message.specs.Good.{moved}
-use Rattle.marks.specs.Marks.{Mark, Answered, last_started, is_endpoint}
-use Rattle.marks.specs.Open.{greatest, open_requests, with_id, without_id, moved_of, asked_by, counts}
+use Rattle.records.specs.Marks.{Mark, Answered, last_started, is_endpoint}
+use Rattle.records.specs.Open.{greatest, open_requests, with_id, without_id, moved_of, asked_by, counts}
 use Rattle.transcript.specs.declared.heard.Asked.{Asked}
 use Rattle.transcript.specs.declared.heard.Heard.{Heard}
 use Rattle.transcript.specs.Heard.{asked_for, IsHeard}

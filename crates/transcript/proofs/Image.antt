@@ -3,10 +3,10 @@ use Rattle.std.proofs.Common.{◌≡◌, ℕ, zero, suc, ◌⊎◌, ◌+◌, ◌
 use Rattle.std.specs.Prelude.{slice_index}
 use Rattle.std.specs.List.{concat}
 use Rattle.std.proofs.lemmas.List.{get_or_past}
-use Rattle.marks.specs.Opening.{Opening}
-use Rattle.marks.proofs.Sectors.{unsure_by_sector}
-use Rattle.true_replies.specs.media.Contents.{IsWhole, sectors_of}
-use Rattle.true_replies.proofs.media.SectorLaws.{is_same_image, length-first_chunks, IsWhole-first_chunks}
+use Rattle.records.specs.Opening.{Opening}
+use Rattle.records.proofs.Sectors.{unsure_by_sector}
+use Rattle.media.specs.Contents.{IsWhole, sectors_of}
+use Rattle.media.proofs.SectorLaws.{is_same_image, length-first_chunks, IsWhole-first_chunks}
 use Rattle.true_replies.specs.Events.{IsOnMedia}
 use Rattle.transcript.specs.Shown.{ImageShows}
 

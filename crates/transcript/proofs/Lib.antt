@@ -1,3 +1,4 @@
 pub mod HeardLaws
 pub mod Notes
 pub mod Image
+mod Standing

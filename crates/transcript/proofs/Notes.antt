@@ -4,13 +4,13 @@ use Rattle.std.specs.Prelude.{map, reverse}
 use Rattle.std.proofs.lemmas.List.{map-append, reverse-append}
 use Rattle.std.proofs.lemmas.Grind.{common_steps}
 use Rattle.message.specs.declared.Incoming.{Incoming}
-use Rattle.marks.specs.Marks.{Mark}
-use Rattle.marks.specs.Told.{received}
-use Rattle.run_log.specs.Noted.{Noted, marks_in, with_mark, with_message, with_entry, all_noted, nothing_noted}
-use Rattle.run_log.specs.declared.log.Entry.{Entry}
-use Rattle.run_log.proofs.NotedLaws.{mark_in, message_in, all_push}
-use Rattle.transcript_text.specs.Text.{mark_of}
-use Rattle.transcript_text.specs.declared.mark.MarkRef.{MarkRef}
+use Rattle.records.specs.Marks.{Mark}
+use Rattle.records.specs.Told.{received}
+use Rattle.schedule.specs.Noted.{Noted, marks_in, with_mark, with_message, with_entry, all_noted, nothing_noted}
+use Rattle.schedule.specs.declared.log.Entry.{Entry}
+use Rattle.schedule.proofs.NotedLaws.{mark_in, message_in, all_push}
+use Rattle.reply_text.specs.TranscriptText.{mark_of}
+use Rattle.reply_text.specs.declared.mark.MarkRef.{MarkRef}
 use Rattle.transcript.specs.declared.heard.Heard.{Heard}
 use Rattle.transcript.specs.Heard.{IsHeard, Leaves, with_ref}
 

@@ -1,10 +1,10 @@
 -- What is kept of a record while its marks are read off a log.
 use Rattle.std.specs.Prelude.{◌≡◌, List, ◌∷◌, map, Option, Some, None}
 use Rattle.message.specs.declared.BlockRequest.{BlockRequest}
-use Rattle.marks.specs.Marks.{Mark, last_started, gave_up}
-use Rattle.marks.specs.Open.{open_requests, greatest}
-use Rattle.transcript_text.specs.Text.{mark_of}
-use Rattle.transcript_text.specs.declared.mark.MarkRef.{MarkRef}
+use Rattle.records.specs.Marks.{Mark, last_started, gave_up}
+use Rattle.records.specs.Open.{open_requests, greatest}
+use Rattle.reply_text.specs.TranscriptText.{mark_of}
+use Rattle.reply_text.specs.declared.mark.MarkRef.{MarkRef}
 use Rattle.transcript.specs.declared.heard.Asked.{Asked}
 use Rattle.transcript.specs.declared.heard.Heard.{Heard}
 

@@ -1,11 +1,11 @@
 //! What a record says so far, by which it is known which notes leave a mark.
 
-use endpoint::Endpoint;
-use marks::Cause;
+use message::endpoint::Endpoint;
+use records::marks::Cause;
 use message::{BlockReply, BlockRequest, Incoming, moved_bytes};
-use run_log::Entry;
+use schedule::Entry;
 use std::alloc::{AllocError, Global};
-use transcript_text::mark::MarkRef;
+use reply_text::mark::MarkRef;
 
 /// What is kept of a request while it is open.
 #[derive(Clone, Copy)]
@@ -27,11 +27,11 @@ pub struct Heard {
 
 impl Heard {
     ghost use Rattle.std.specs.Prelude.{◌≡◌, ◌∷◌, ◌==◌, [], List, IfOk, position};
-    ghost use Rattle.marks.specs.Marks.{Mark, Issued, Answered, is_endpoint};
-    ghost use Rattle.marks.specs.Open.{counts};
-    ghost use Rattle.marks.specs.Told.{received};
-    ghost use Rattle.endpoint.specs.declared.Endpoint.{Endpoint as To};
-    ghost use Rattle.run_log.specs.Noted.{Noted, marks_in, with_entry};
+    ghost use Rattle.records.specs.Marks.{Mark, Issued, Answered, is_endpoint};
+    ghost use Rattle.records.specs.Open.{counts};
+    ghost use Rattle.records.specs.Told.{received};
+    ghost use Rattle.message.specs.declared.endpoint.Endpoint.{Endpoint as To};
+    ghost use Rattle.schedule.specs.Noted.{Noted, marks_in, with_entry};
     ghost use Rattle.transcript.specs.Heard.{IsHeard, Leaves};
 
     /// Nothing was heard.

@@ -2,8 +2,13 @@
 //!
 //! A record's marks are read off what the run's link was told and gave: a message leaves a mark unless it is a reply that doesn't
 //! count, and a post or a complaint unless it was of no effect.
+//!
+//! What a run of a schedule came to: its record, the replies that drivers sent, and the drivers and the server as they stand.
 #![tactic(auto)]
 
 pub mod bytes;
 pub mod heard;
+pub mod run_transcript;
 pub mod shown;
+
+pub use run_transcript::Transcript;

@@ -1,14 +1,14 @@
 //! The marks of a run's record.
 
 ghost use Rattle.std.specs.Prelude.{◌≡◌, IfOk, map, reverse};
-ghost use Rattle.run_log.specs.LogView.{said};
-ghost use Rattle.run_log.specs.Noted.{marks_in};
-ghost use Rattle.transcript_text.specs.Text.{mark_of};
+ghost use Rattle.schedule.specs.LogView.{said};
+ghost use Rattle.schedule.specs.Noted.{marks_in};
+ghost use Rattle.reply_text.specs.TranscriptText.{mark_of};
 
 use crate::heard::Heard;
-use run_log::Log;
+use schedule::Log;
 use std::alloc::{AllocError, Global};
-use transcript_text::mark::MarkRef;
+use reply_text::mark::MarkRef;
 
 /// The marks of the record that a run has noted, oldest first. An error: no memory was found.
 pub fn shown_marks<'l>(alloc: Global, log: &'l Log<'l>) -> Result<Vec<MarkRef<'l>>, AllocError>

@@ -1,6 +1,4 @@
 -- The file tree of a volume, and the client calls on it.
-pub use Rattle.layout.specs as layout
-pub use Rattle.errno.specs as errno
 pub mod Sums
 pub mod ZonesNeeded
 pub mod ZonesNeededByPlace
@@ -19,3 +17,8 @@ pub mod FileCalls
 pub mod Effects
 pub mod IsCall
 pub mod Laws
+pub mod Keeps
+pub mod Room
+pub mod Zones
+pub mod Sessions
+pub mod Order

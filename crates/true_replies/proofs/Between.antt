@@ -1,13 +1,13 @@
 -- What a runner of drivers uses of the invariant: one step, one hand-over, one start, at its parts.
 use Rattle.std.proofs.Common.{◌≡◌, ℕ, ◌+◌, List, [], ◌∷◌, ◌++◌, true, refl, sym, ◌∙◌, ap, subst, inl, inr, Option, Some, None}
-use Rattle.bdev.specs.message.declared.BlockReply.{BlockReply}
-use Rattle.bdev.specs.message.declared.Kind.{Kind}
-use Rattle.bdev.specs.message.declared.Kind.TheVariants.{Read, Write}
-use Rattle.bdev.specs.message.declared.Incoming.TheVariants as incoming
-use Rattle.marks.specs.Disk.{Contents}
-use Rattle.marks.specs.Opening.{Opening}
-use Rattle.marks.specs.Told.{received}
-use Rattle.bdev.specs.media.Contents.{MediaState}
+use Rattle.message.specs.declared.BlockReply.{BlockReply}
+use Rattle.message.specs.declared.Kind.{Kind}
+use Rattle.message.specs.declared.Kind.TheVariants.{Read, Write}
+use Rattle.message.specs.declared.Incoming.TheVariants as incoming
+use Rattle.records.specs.Disk.{Contents}
+use Rattle.records.specs.Opening.{Opening}
+use Rattle.records.specs.Told.{received}
+use Rattle.media.specs.Contents.{MediaState}
 use Rattle.bdev.specs.declared.Answer.{Answer}
 use Rattle.bdev.specs.declared.Step.{Step}
 use Rattle.bdev.specs.declared.Step.TheVariants.{Done}

@@ -2,24 +2,24 @@
 use Rattle.std.proofs.Common.{◌≡◌, ◌⊎◌, ℕ, suc, zero, ◌+◌, ◌-◌, ◌*◌, ◌/◌, ◌%◌, ◌<◌, ◌≤◌, List, ◌∷◌, Bool, true, false, cond, refl, sym, ◌∙◌, ap, inl, inr, arith, Option, Some, None}
 use Rattle.std.proofs.lemmas.Bool.Decides.{leb_tells, nat_tests}
 use Rattle.std.specs.Prelude.{slice_index, ◌&&◌, ◌==◌, not, nat_le, nat_lt, is_some}
-use Rattle.bdev.specs.endpoint.declared.Endpoint.{Endpoint}
-use Rattle.bdev.specs.message.declared.Kind.{Kind}
-use Rattle.bdev.specs.message.declared.Kind.TheVariants.{Read, Write}
-use Rattle.bdev.specs.message.declared.BlockRequest.{BlockRequest}
-use Rattle.bdev.specs.message.declared.BlockReply.{BlockReply}
-use Rattle.marks.specs.Marks.{Mark, Answered, last_started, is_endpoint, gave_up}
-use Rattle.marks.specs.Open.{open_requests, with_id, moved_of, counts}
-use Rattle.marks.specs.Disk.{unsure, disk_after, IsTrueOf, IsTrueAnswer, Contents}
-use Rattle.bdev.specs.message.Good.{is_write, moved}
-use Rattle.bdev.specs.media.Contents.{MediaState, sector}
+use Rattle.message.specs.declared.endpoint.Endpoint.{Endpoint}
+use Rattle.message.specs.declared.Kind.{Kind}
+use Rattle.message.specs.declared.Kind.TheVariants.{Read, Write}
+use Rattle.message.specs.declared.BlockRequest.{BlockRequest}
+use Rattle.message.specs.declared.BlockReply.{BlockReply}
+use Rattle.records.specs.Marks.{Mark, Answered, last_started, is_endpoint, gave_up}
+use Rattle.records.specs.Open.{open_requests, with_id, moved_of, counts}
+use Rattle.records.specs.Disk.{unsure, disk_after, IsTrueOf, IsTrueAnswer, Contents}
+use Rattle.message.specs.Good.{is_write, moved}
+use Rattle.media.specs.Contents.{MediaState, sector}
 use Rattle.bdev.specs.DriverState.{Work}
 use Rattle.bdev.specs.Promises.{requests_in_work}
-use Rattle.marks.specs.Opening.{Opening, Fits}
+use Rattle.records.specs.Opening.{Opening, Fits}
 use Rattle.true_replies.specs.State.{State, Moved, AnyWorkHolds, ReplyHolds, MediaHold, Invariant, payload}
 use Rattle.true_replies.specs.Posted.{IsSent, driver_at, started_at}
 use Rattle.true_replies.specs.Events.{delivered}
-use Rattle.marks.proofs.OpenRequests.{with_id_in, open_answered, open_stays}
-use Rattle.marks.proofs.Unsure.{moved_le}
+use Rattle.records.proofs.OpenRequests.{with_id_in, open_answered, open_stays}
+use Rattle.records.proofs.Unsure.{moved_le}
 
 -- the request and the good answer that a delivery is about
 pub record Good (v : Opening) (media : MediaState) (marks : List Mark) (a : BlockReply) (r : BlockRequest) (n : ℕ) : Type 0 where

@@ -1,16 +1,15 @@
 -- Each event keeps the invariant, and so does a run.
 use Rattle.std.specs.Prelude.{slice_index, ◌/◌}
 use Rattle.std.specs.Simd.{first_chunks}
-use Rattle.bdev.specs.DriverState.{chunk}
+use Rattle.bdev.specs.DriverState.{chunk, Work}
 use Rattle.true_replies.proofs.Places.{chunk_at}
 use Rattle.std.proofs.Common.{get_or, drop-drop, zero, suc, take, drop, get_or-take, get_or-drop, ◌≡◌, ℕ, ◌+◌, ◌*◌, ◌<◌, List, [], ◌∷◌, length, Bool, true, false, refl, sym, ◌∙◌, ap, subst, arith, Option, Some, None}
-use Rattle.marks.specs.Marks.{Mark, Started, Answered, Issued, Flush, GaveUp, Took, Fault, ChangesNothing}
-use Rattle.marks.specs.Disk.{Contents}
-use Rattle.bdev.specs.media.Contents.{MediaState, sector}
-use Rattle.bdev.specs.DriverState.{Work}
-use Rattle.bdev.specs.message.declared.BlockRequest.{BlockRequest}
-use Rattle.bdev.specs.message.declared.BlockReply.{BlockReply}
-use Rattle.marks.specs.Opening.{Opening, contents_at}
+use Rattle.records.specs.Marks.{Mark, Started, Answered, Issued, Flush, GaveUp, Took, Fault, ChangesNothing}
+use Rattle.records.specs.Disk.{Contents}
+use Rattle.media.specs.Contents.{MediaState, sector}
+use Rattle.message.specs.declared.BlockRequest.{BlockRequest}
+use Rattle.message.specs.declared.BlockReply.{BlockReply}
+use Rattle.records.specs.Opening.{Opening, contents_at}
 use Rattle.true_replies.specs.State.{State, state_of, Invariant, AnyWorkHolds}
 use Rattle.true_replies.specs.Events.{RunIsTrue, IsOnMedia, opening_media, Next, Stepped, SteppedOlder, Handed, Torn, Dead, Replaced, IssuedNow, Repeated, Delivered, Noted, noted, Run, Start, Then, IsOpening}
 use Rattle.true_replies.proofs.Stepping.{step_keeps}

@@ -1,4 +1,3 @@
-pub use Rattle.bdev.proofs.media as media
 pub mod Since
 pub mod Places
 pub mod Delivering

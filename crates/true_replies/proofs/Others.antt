@@ -2,14 +2,14 @@
 use Rattle.std.proofs.Common.{◌≡◌, ◌⊎◌, ℕ, suc, zero, ◌+◌, ◌-◌, ◌*◌, ◌<◌, ◌≤◌, List, ◌∷◌, Bool, true, false, cond, refl, sym, ◌∙◌, ap, subst, inl, inr, arith, max, Option, Some, None}
 use Rattle.std.proofs.lemmas.Bool.Decides.{nat_tests}
 use Rattle.std.specs.Prelude.{◌||◌, ◌&&◌, ◌==◌, not, IsSomeAnd, IfSome}
-use Rattle.bdev.specs.endpoint.declared.Endpoint.{Endpoint}
-use Rattle.bdev.specs.message.declared.BlockRequest.{BlockRequest}
-use Rattle.bdev.specs.message.declared.BlockReply.{BlockReply}
-use Rattle.marks.specs.Marks.{Mark, Issued, Started}
-use Rattle.marks.specs.Open.{MayFollow, open_requests, IsIn}
-use Rattle.marks.specs.Disk.{unsure, covers, Contents}
-use Rattle.bdev.specs.message.Good.{is_write}
-use Rattle.bdev.specs.media.Contents.{MediaState, written, adopted, accepts}
+use Rattle.message.specs.declared.endpoint.Endpoint.{Endpoint}
+use Rattle.message.specs.declared.BlockRequest.{BlockRequest}
+use Rattle.message.specs.declared.BlockReply.{BlockReply}
+use Rattle.records.specs.Marks.{Mark, Issued, Started}
+use Rattle.records.specs.Open.{MayFollow, open_requests, IsIn}
+use Rattle.records.specs.Disk.{unsure, covers, Contents}
+use Rattle.message.specs.Good.{is_write}
+use Rattle.media.specs.Contents.{MediaState, written, adopted, accepts}
 use Rattle.media.proofs.WrittenLaws.{generation-written}
 use Rattle.bdev.specs.declared.Run.{Run}
 use Rattle.bdev.specs.declared.Accept.{Accept}
@@ -18,11 +18,11 @@ use Rattle.bdev.specs.declared.Step.{Step}
 use Rattle.bdev.specs.declared.Step.TheVariants.{Working, Idle, Done, Failed}
 use Rattle.bdev.specs.DriverState.{DriverState, Work, Ranges, range_of, plan, range_while_fresh}
 use Rattle.bdev.specs.Promises.{requests_in_work, IsDriver, IsOfAWrite, StepKeeps, StepsAt, AcceptKeeps, Takes, MovesAtMostOne}
-use Rattle.marks.specs.Opening.{Opening, Fits}
+use Rattle.records.specs.Opening.{Opening, Fits}
 use Rattle.true_replies.specs.State.{State, Place, Moved, WorkHolds, AnyWorkHolds, ReplyHolds, Invariant, payload}
 use Rattle.true_replies.specs.Posted.{IsSent, driver_at, started_at, since_start}
 use Rattle.true_replies.specs.Events.{sent_after, reply_of, stepped_older, handed, torn, dead, replaced, issued, repeated}
-use Rattle.marks.proofs.OpenRequests.{two_open, open_after_issue, OpenAfterIssue, in_push}
+use Rattle.records.proofs.OpenRequests.{two_open, open_after_issue, OpenAfterIssue, in_push}
 use Rattle.true_replies.proofs.Since.{since_below}
 use Rattle.true_replies.proofs.Places.{Planned, planned, misses_place, moved_elsewhere, written_media, written_outside}
 use Rattle.true_replies.proofs.Stepping.{sent_push}

@@ -3,18 +3,18 @@ use Rattle.std.proofs.Common.{◌≡◌, ◌≢◌, ℕ, ◌+◌, ◌-◌, ◌*�
 use Rattle.std.proofs.lemmas.Bool.{cases_eq}
 use Rattle.std.proofs.lemmas.Bool.Decides.{nat_tests}
 use Rattle.std.specs.Prelude.{slice_index}
-use Rattle.bdev.specs.message.declared.BlockRequest.{BlockRequest}
-use Rattle.marks.specs.Marks.{Mark}
-use Rattle.marks.specs.Open.{open_requests, Misses, IsIn, IsWellFormed}
-use Rattle.marks.specs.Disk.{unsure, Contents}
-use Rattle.bdev.specs.message.Good.{is_write}
-use Rattle.bdev.specs.media.Contents.{MediaState, written}
+use Rattle.message.specs.declared.BlockRequest.{BlockRequest}
+use Rattle.records.specs.Marks.{Mark}
+use Rattle.records.specs.Open.{open_requests, Misses, IsIn, IsWellFormed}
+use Rattle.records.specs.Disk.{unsure, Contents}
+use Rattle.message.specs.Good.{is_write}
+use Rattle.media.specs.Contents.{MediaState, written}
 use Rattle.media.proofs.WrittenLaws.{sector-written_other}
 use Rattle.bdev.specs.declared.Run.{Run}
 use Rattle.bdev.specs.DriverState.{Ranges, range_of, plan, plan_in, cut, is_on_sectors, chunk}
-use Rattle.marks.specs.Opening.{Opening}
+use Rattle.records.specs.Opening.{Opening}
 use Rattle.true_replies.specs.State.{Place, Moved, MediaHold, OutsideHolds}
-use Rattle.marks.proofs.Unsure.{unsure_open}
+use Rattle.records.proofs.Unsure.{unsure_open}
 
 -- the j-th sector of the plan is the j-th of the request
 pub record Planned (v : Opening) (q : BlockRequest) (run : Run) (j : ℕ) : Type 0 where

@@ -1,8 +1,8 @@
 -- The requests that were issued since the last start.
 use Rattle.std.proofs.Common.{◌≡◌, ◌≤◌, List, [], ◌∷◌, inl, inr, ap, arith}
-use Rattle.bdev.specs.message.declared.BlockRequest.{BlockRequest}
-use Rattle.marks.specs.Marks.{Mark, Issued, Started, Answered, Flush, GaveUp, Took, Fault}
-use Rattle.marks.specs.Open.{greatest, IsIn}
+use Rattle.message.specs.declared.BlockRequest.{BlockRequest}
+use Rattle.records.specs.Marks.{Mark, Issued, Started, Answered, Flush, GaveUp, Took, Fault}
+use Rattle.records.specs.Open.{greatest, IsIn}
 use Rattle.true_replies.specs.Posted.{since_start}
 
 -- each of their ids is at most the greatest

@@ -3,15 +3,15 @@ use Rattle.std.proofs.Common.{◌≡◌, ◌⊎◌, ℕ, ◌+◌, ◌*◌, ◌<�
 use Rattle.std.proofs.lemmas.Bool.{cases_eq}
 use Rattle.std.proofs.lemmas.Bool.Decides.{nat_tests}
 use Rattle.std.specs.Prelude.{slice_index, ◌||◌, ◌==◌}
-use Rattle.bdev.specs.errno.declared.Errno.{Errno}
-use Rattle.bdev.specs.message.declared.Kind.{Kind}
-use Rattle.bdev.specs.message.declared.Kind.TheVariants.{Read, Write}
-use Rattle.bdev.specs.message.declared.BlockRequest.{BlockRequest}
-use Rattle.bdev.specs.message.declared.BlockReply.{BlockReply}
-use Rattle.marks.specs.Open.{open_requests, IsIn}
-use Rattle.marks.specs.Disk.{Contents}
-use Rattle.bdev.specs.message.Good.{is_write, moved}
-use Rattle.bdev.specs.media.Contents.{MediaState, sector, written, accepts}
+use Rattle.errno.specs.declared.Errno.{Errno}
+use Rattle.message.specs.declared.Kind.{Kind}
+use Rattle.message.specs.declared.Kind.TheVariants.{Read, Write}
+use Rattle.message.specs.declared.BlockRequest.{BlockRequest}
+use Rattle.message.specs.declared.BlockReply.{BlockReply}
+use Rattle.records.specs.Open.{open_requests, IsIn}
+use Rattle.records.specs.Disk.{Contents}
+use Rattle.message.specs.Good.{is_write, moved}
+use Rattle.media.specs.Contents.{MediaState, sector, written, accepts}
 use Rattle.media.proofs.WrittenLaws.{accepts-true, sector-written_same, generation-written}
 use Rattle.bdev.specs.declared.Run.{Run}
 use Rattle.bdev.specs.declared.Answer.{Answer}
@@ -19,12 +19,12 @@ use Rattle.bdev.specs.declared.Step.{Step}
 use Rattle.bdev.specs.declared.Step.TheVariants.{Working, Idle, Done, Failed}
 use Rattle.bdev.specs.DriverState.{DriverState, Work, Ranges, range_of, plan, chunk}
 use Rattle.bdev.specs.Promises.{requests_in_work, IsDriver, StepKeeps, StepsAt, Says, SaysIdle, MovesNothing, MovesSector, MovesAtMostOne, MovesBytes, MayAnswer, BearsBytes, EndsBy, GoesOn}
-use Rattle.marks.specs.Opening.{Opening}
+use Rattle.records.specs.Opening.{Opening}
 use Rattle.true_replies.specs.State.{State, Moved, WorkHolds, AnyWorkHolds, AnswerHolds, ReplyHolds, MediaHold, OutsideHolds, Invariant, payload}
 use Rattle.true_replies.specs.Posted.{IsSent, driver_at, started_at}
 use Rattle.true_replies.specs.Events.{stepped, reply_of}
-use Rattle.marks.proofs.OpenRequests.{one_id, two_open}
-use Rattle.marks.proofs.Unsure.{moved_is}
+use Rattle.records.proofs.OpenRequests.{one_id, two_open}
+use Rattle.records.proofs.Unsure.{moved_is}
 use Rattle.true_replies.proofs.Places.{Planned, planned, chunk_at, misses_place, other_place, moved_elsewhere, written_media, written_outside}
 
 was_moved : (a b : Bool) → IsTrue (a || b) → b ≡ false → IsTrue a

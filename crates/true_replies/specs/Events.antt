@@ -1,14 +1,14 @@
 -- What the events of a schedule do to the state of a run.
 use Rattle.std.specs.Prelude.{◌≡◌, ℕ, ◌<◌, ◌+◌, ◌*◌, ◌%◌, ◌≤◌, length, List, [], ◌∷◌, ◌++◌, Bool, true, false, Some}
-use Rattle.bdev.specs.endpoint.declared.Endpoint.{Endpoint}
-use Rattle.bdev.specs.message.declared.BlockRequest.{BlockRequest}
-use Rattle.bdev.specs.message.declared.BlockReply.{BlockReply}
-use Rattle.bdev.specs.message.declared.Incoming.TheVariants as incoming
-use Rattle.marks.specs.Marks.{Mark, Issued, Started, ChangesNothing}
-use Rattle.marks.specs.Open.{IsIn, MayFollow, IsWellFormed}
-use Rattle.marks.specs.Disk.{HasTrueReplies}
-use Rattle.marks.specs.Told.{received}
-use Rattle.bdev.specs.media.Contents.{MediaState, sector, written, adopted, sectors_of}
+use Rattle.message.specs.declared.endpoint.Endpoint.{Endpoint}
+use Rattle.message.specs.declared.BlockRequest.{BlockRequest}
+use Rattle.message.specs.declared.BlockReply.{BlockReply}
+use Rattle.message.specs.declared.Incoming.TheVariants as incoming
+use Rattle.records.specs.Marks.{Mark, Issued, Started, ChangesNothing}
+use Rattle.records.specs.Open.{IsIn, MayFollow, IsWellFormed}
+use Rattle.records.specs.Disk.{HasTrueReplies}
+use Rattle.records.specs.Told.{received}
+use Rattle.media.specs.Contents.{MediaState, sector, written, adopted, sectors_of}
 use Rattle.bdev.specs.declared.Accept.{Accept}
 use Rattle.bdev.specs.declared.Accept.TheVariants.{Taken, Busy, Old}
 use Rattle.bdev.specs.declared.Answer.{Answer}
@@ -16,7 +16,7 @@ use Rattle.bdev.specs.declared.Step.{Step}
 use Rattle.bdev.specs.declared.Step.TheVariants.{Working, Idle, Done, Failed}
 use Rattle.bdev.specs.DriverState.{DriverState, range_while_fresh}
 use Rattle.bdev.specs.Promises.{AcceptKeeps, StepKeeps, IsDriver}
-use Rattle.marks.specs.Opening.{Opening, Fits, contents_at}
+use Rattle.records.specs.Opening.{Opening, Fits, contents_at}
 use Rattle.true_replies.specs.State.{State, MediaHold, OutsideHolds}
 use Rattle.true_replies.specs.Posted.{IsSent, driver_at, since_start}
 

@@ -1,9 +1,9 @@
 -- What was posted to the last driver, and the replies that drivers sent.
 use Rattle.std.specs.Prelude.{◌≡◌, ◌⊎◌, ℕ, zero, suc, Option, Some, None, List, [], ◌∷◌}
-use Rattle.bdev.specs.endpoint.declared.Endpoint.{Endpoint}
-use Rattle.bdev.specs.message.declared.BlockRequest.{BlockRequest}
-use Rattle.bdev.specs.message.declared.BlockReply.{BlockReply}
-use Rattle.marks.specs.Marks.{Mark, Issued, Started}
+use Rattle.message.specs.declared.endpoint.Endpoint.{Endpoint}
+use Rattle.message.specs.declared.BlockRequest.{BlockRequest}
+use Rattle.message.specs.declared.BlockReply.{BlockReply}
+use Rattle.records.specs.Marks.{Mark, Issued, Started}
 
 abbrev pub driver_at : ℕ → Endpoint
 driver_at generation = record { slot = 1; generation = generation }

@@ -1,15 +1,15 @@
 -- The state of a run and what holds of it between events.
 use Rattle.std.specs.Prelude.{◌≡◌, ◌⊎◌, ℕ, ◌+◌, ◌*◌, ◌<◌, ◌≤◌, List, Bool, true, false, Option, Some, None, IsTrue, slice_index}
-use Rattle.bdev.specs.message.Good.{moved}
-use Rattle.bdev.specs.message.declared.Kind.{Kind}
-use Rattle.bdev.specs.message.declared.Kind.TheVariants.{Read, Write}
-use Rattle.bdev.specs.message.declared.BlockRequest.{BlockRequest}
-use Rattle.bdev.specs.message.declared.BlockReply.{BlockReply}
-use Rattle.marks.specs.Marks.{Mark, last_started}
-use Rattle.marks.specs.Open.{open_requests, greatest, IsIn, IsWellFormed}
-use Rattle.marks.specs.Disk.{disk_after, unsure, HasTrueReplies, Contents}
-use Rattle.marks.specs.Opening.{Opening, Fits}
-use Rattle.bdev.specs.media.Contents.{MediaState, sector}
+use Rattle.message.specs.Good.{moved}
+use Rattle.message.specs.declared.Kind.{Kind}
+use Rattle.message.specs.declared.Kind.TheVariants.{Read, Write}
+use Rattle.message.specs.declared.BlockRequest.{BlockRequest}
+use Rattle.message.specs.declared.BlockReply.{BlockReply}
+use Rattle.records.specs.Marks.{Mark, last_started}
+use Rattle.records.specs.Open.{open_requests, greatest, IsIn, IsWellFormed}
+use Rattle.records.specs.Disk.{disk_after, unsure, HasTrueReplies, Contents}
+use Rattle.records.specs.Opening.{Opening, Fits}
+use Rattle.media.specs.Contents.{MediaState, sector}
 use Rattle.bdev.specs.DriverState.{DriverState, Work, range_of}
 use Rattle.bdev.specs.Promises.{requests_in_work, IsDriver}
 use Rattle.true_replies.specs.Posted.{driver_at, started_at, since_start, IsSent}

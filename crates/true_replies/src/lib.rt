@@ -7,7 +7,7 @@
 //! no more than its interface promises.
 #![tactic(auto)]
 
-ghost use Rattle.marks.specs.Opening.{Opening, contents_at};
+ghost use Rattle.records.specs.Opening.{Opening, contents_at};
 ghost use Rattle.true_replies.specs.State.{State, Invariant};
 ghost use Rattle.true_replies.specs.Events.{IsOnMedia, IsOpening, Next, Run, RunIsTrue, opening_media};
 

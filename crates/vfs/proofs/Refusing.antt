@@ -1,22 +1,22 @@
 -- Why an unmount is refused where calls are cut.
 use Rattle.std.proofs.Common.{◌≡◌, ℕ, Bool, false, refl, sym, ◌∙◌, ap}
 use Rattle.layout.specs.declared.Geometry.{Geometry}
-use Rattle.store.specs.volume.Reading.{Disk}
-use Rattle.legal.specs.Unmount.{unmounting_of}
-use Rattle.legal.specs.Unmount as legal
-use Rattle.stored.specs.cache.Calls.{Caching, IsLive, IsWhyCut}
+use Rattle.volume.specs.Reading.{Disk}
+use Rattle.records.specs.Unmount.{unmounting_of}
+use Rattle.records.specs.Unmount as legal
+use Rattle.cache.specs.Calls.{Caching, IsLive, IsWhyCut}
 use Rattle.store.specs.declared.Cut.{Cut as Why}
 use Rattle.store.specs.declared.Cut.TheVariants.{Eio, LinkEnded}
 use Rattle.stored.specs.World.{Leads, Sees, reason}
 use Rattle.descriptors.specs.Files.{Files}
-use Rattle.answering.specs.server_laws.call_bodies.Calls.{is_busy}
+use Rattle.call_bodies.specs.Calls.{is_busy}
 use Rattle.vfs.specs.declared.unmounting.UnmountRefusal.{UnmountRefusal}
 use Rattle.vfs.specs.declared.unmounting.UnmountRefusal.TheVariants as refusal
-use Rattle.answering.specs.server_laws.Serving.{MayServe, server_of}
-use Rattle.answering.specs.server_laws.Unmounting.{UnmountsOver}
+use Rattle.vfs.specs.Serving.{MayServe, server_of}
+use Rattle.vfs.specs.UnmountingLaws.{UnmountsOver}
 use Rattle.vfs.specs.Unmounting.{in_words, refused_by}
-use Rattle.answering.proofs.server_laws.Ending.{none, false_true}
-use Rattle.answering.proofs.server_laws.Keeping.{unmounts}
+use Rattle.vfs.proofs.Ending.{none, false_true}
+use Rattle.vfs.proofs.Keeping.{unmounts}
 
 -- which it is
 pub is_cut : (a : Caching) (why : Why) (busy : Bool) → IsWhyCut a (reason why) → in_words (refused_by why) ≡ unmounting_of a.ended a.table.given_up busy

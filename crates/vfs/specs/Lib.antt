@@ -1,5 +1,10 @@
+-- A server over the frames of a cache.
+-- How a server over the frames of a cache answers a call.
 -- A file server over the frames of a cache.
-pub use Rattle.answering.specs as answering
+pub mod Serving
+pub mod Outcomes
+pub mod UnmountingLaws
+pub mod Laws
 pub mod Server
 pub mod OverLink
 pub mod LineLaws

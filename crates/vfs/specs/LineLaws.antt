@@ -1,6 +1,6 @@
 -- What stays of a server with another link in its place.
 use Rattle.std.proofs.Common.{◌≡◌, ◌≤◌, ℕ, ◌+◌, min, Bool, List, cond, true, false, refl, sym, ap, ◌∙◌, arith}
-use Rattle.reissue.specs.marks.Told.{Told, took_end}
+use Rattle.records.specs.Told.{Told, took_end}
 use Rattle.reissue.specs.declared.link.Link.{Ghosts as LinkWords}
 use Rattle.stored.specs.declared.Stored.{Stored}
 use Rattle.stored.proofs.Links.{ready_over}

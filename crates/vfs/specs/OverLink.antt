@@ -1,10 +1,10 @@
 -- A server over the frames of a cache, and its link.
 use Rattle.std.specs.Prelude.{◌≡◌, ◌≤◌, ◌^◌, ℕ, ◌+◌, length, false}
-use Rattle.legal.specs.ServerCall.{Serving}
+use Rattle.records.specs.ServerCall.{Serving}
 use Rattle.reissue.specs.declared.link.Link.{Ghosts as LinkWords}
 use Rattle.reissue.specs.declared.transfers.Transfers.{Transfers}
 use Rattle.reissue.specs.Transfers.{link_of}
-use Rattle.stored.specs.cache.Calls.{Caching, IsIdle, frame_count, messages_left}
+use Rattle.cache.specs.Calls.{Caching, IsIdle, frame_count, messages_left}
 use Rattle.stored.specs.declared.Stored.{Stored}
 use Rattle.stored.specs.World.{stored_caching, with_stored_link}
 use Rattle.vfs.specs.declared.server.Server.{Server}

@@ -3,11 +3,11 @@ use Rattle.std.specs.Prelude.{ℕ}
 use Rattle.tree.specs.declared.Who.{Who}
 use Rattle.tree.specs.declared.Call.{Call}
 use Rattle.message.specs.declared.Incoming.{Incoming}
-use Rattle.legal.specs.ServerCall.{Serving, Outcome}
+use Rattle.records.specs.ServerCall.{Serving, Outcome}
 use Rattle.file_server.specs.Over.{CallsOver, AbsorbsOver}
-use Rattle.stored.specs.cache.Calls.{Caching}
+use Rattle.cache.specs.Calls.{Caching}
 use Rattle.descriptors.specs.Table.{files_of}
-use Rattle.answering.specs.server_laws.Serving.{MayServe, server_of}
+use Rattle.vfs.specs.Serving.{MayServe, server_of}
 use Rattle.vfs.specs.declared.server.Server.{Server}
 
 -- a server as contracts see it, by what is said of its blocks

@@ -1,11 +1,11 @@
 -- What unmounting a server over a cache promises, and why one is refused.
 use Rattle.std.specs.Prelude.{ℕ, Result, Ok, Err}
-use Rattle.legal.specs.Unmount.{Unmounting}
-use Rattle.legal.specs.Unmount as legal
-use Rattle.stored.specs.cache.Calls.{Caching}
+use Rattle.records.specs.Unmount.{Unmounting}
+use Rattle.records.specs.Unmount as legal
+use Rattle.cache.specs.Calls.{Caching}
 use Rattle.store.specs.declared.Cut.{Cut}
 use Rattle.store.specs.declared.Cut.TheVariants as cut
-use Rattle.answering.specs.server_laws.Unmounting.{UnmountsOver}
+use Rattle.vfs.specs.UnmountingLaws.{UnmountsOver}
 use Rattle.vfs.specs.declared.server.Server.{Server}
 use Rattle.vfs.specs.declared.unmounting.UnmountRefusal.{UnmountRefusal}
 use Rattle.vfs.specs.declared.unmounting.UnmountRefusal.TheVariants.{LinkEnded, Eio, Busy}

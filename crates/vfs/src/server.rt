@@ -2,10 +2,10 @@
 
 ghost use Rattle.std.specs.Prelude.{◌≡◌, ◌≢◌, ◌<◌, ◌+◌, ◌^◌, false};
 
-use answering::answer;
+use crate::answer;
 use descriptors::Descriptors;
 use layout::Geometry;
-use legal::Serve;
+use records::legal::Serve;
 use message::Incoming;
 use std::alloc::Global;
 use stored::Caches;
@@ -44,11 +44,11 @@ impl<B> Server<B> {
 }
 
 impl<B: Caches> Server<B> {
-    ghost use Rattle.stored.specs.cache.Calls.{IsIdle};
+    ghost use Rattle.cache.specs.Calls.{IsIdle};
     ghost use Rattle.stored.specs.Cached.{MayAbsorb};
     ghost use Rattle.file_server.specs.Over.{outcome_of};
-    ghost use Rattle.answering.specs.server_laws.Outcomes.{OnAnswered};
-    ghost use Rattle.answering.specs.server_laws.Serving.{Spends};
+    ghost use Rattle.vfs.specs.Outcomes.{OnAnswered};
+    ghost use Rattle.vfs.specs.Serving.{Spends};
     ghost use Rattle.vfs.specs.Server.{IsOpen, Answers, Absorbs};
 
     /// Answers a client call, with the time in seconds since 1970. Cut once a take gave End, else EIO once the device was given up. No

@@ -47,7 +47,7 @@ impl From<Cut> for UnmountRefusal {
 }
 
 impl<B: Caches> Server<B> {
-    ghost use Rattle.answering.specs.server_laws.Serving.{Spends};
+    ghost use Rattle.vfs.specs.Serving.{Spends};
     ghost use Rattle.vfs.specs.Server.{IsOpen};
     ghost use Rattle.vfs.specs.Unmounting.{Unmounts, unmounting_as};
 

@@ -4,8 +4,8 @@ use mathlib.Core.Logic.{inl, inr}
 use Rattle.std.specs.Prelude.{◌==◌, ◌&&◌, ◌||◌, not, nat_le, nat_lt, slice_index, None, Some, IsTrue, if◌then◌else◌}
 use Rattle.std.proofs.lemmas.Bool.{cases_eq, cond-true, cond-false, eq-eqb, ne_eqb, and_from, and_parts, leb-true, le-leb, lt-ltb, eqb-true, or_cases, false_from_ne_true}
 use Rattle.std.proofs.Math.Nat.{div-eq_of_lt, div-eq_of_lt-le, mod-eq_of_lt}
-use Rattle.tree.specs.layout.declared.Geometry.{Geometry}
-use Rattle.tree.specs.layout.Places.{IsGeometry}
+use Rattle.layout.specs.declared.Geometry.{Geometry}
+use Rattle.layout.specs.Places.{IsGeometry}
 use Rattle.tree.specs.Sums.{some_below}
 use Rattle.tree.specs.Names.{Name, dot, dot_dot}
 use Rattle.tree.specs.Tree.{is_directory}

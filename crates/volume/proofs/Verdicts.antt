@@ -3,10 +3,10 @@ use Rattle.std.proofs.Common.{◌≡◌, ◌≤◌, ℕ, List, Bool, false, refl
 use mathlib.Core.Logic.{◌⊎◌, inl, inr}
 use Rattle.std.specs.Prelude.{◌==◌, ◌&&◌, nat_le, nat_lt, Result, Ok, Err}
 use Rattle.std.proofs.lemmas.Bool.{ne_eqb, eq-eqb, and_left, and_right, leb-true, ltb-true, false_from_ne_true}
-use Rattle.tree.specs.layout.declared.Geometry.{Geometry}
-use Rattle.tree.specs.layout.declared.LayoutRefusal.{LayoutRefusal}
-use Rattle.tree.specs.layout.Places.{geometry_of, refusal_number}
-use Rattle.tree.proofs.layout.Parsed.{geometry_fits}
+use Rattle.layout.specs.declared.Geometry.{Geometry}
+use Rattle.layout.specs.declared.LayoutRefusal.{LayoutRefusal}
+use Rattle.layout.specs.Places.{geometry_of, refusal_number}
+use Rattle.layout.proofs.Parsed.{geometry_fits}
 use Rattle.volume.specs.Reading.{disk_of, is_inode, is_data_zone}
 use Rattle.volume.specs.Pieces.{Pieces, pieces}
 use Rattle.volume.specs.Nodes.{is_marked, is_directory_mode}

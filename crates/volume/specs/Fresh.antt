@@ -1,7 +1,7 @@
 -- A new volume: a root alone, in the first data zone.
 use Rattle.std.specs.Prelude.{◌<◌, ◌^◌, ◌+◌, ◌==◌, ℕ, List, ◌∷◌, ◌++◌, replicate, slice_index, nat_le, if◌then◌else◌}
-use Rattle.tree.specs.layout.declared.Geometry.{Geometry}
-use Rattle.tree.specs.layout.Places.{IsGeometry}
+use Rattle.layout.specs.declared.Geometry.{Geometry}
+use Rattle.layout.specs.Places.{IsGeometry}
 use Rattle.tree.specs.Names.{dot, dot_dot}
 use Rattle.tree.specs.Tree.{directory_type}
 use Rattle.tree.specs.Laws.{fresh_tree}

@@ -1,7 +1,7 @@
 -- When a volume's bytes hold a tree.
 use Rattle.std.specs.Prelude.{◌≡◌, ◌≢◌, ◌↔◌, ℕ, suc, ◌+◌, ◌-◌, ◌/◌, ◌%◌, ◌<◌, ◌≤◌, List, slice_index, Result, Ok, true, IsTrue}
-use Rattle.tree.specs.layout.declared.Geometry.{Geometry}
-use Rattle.tree.specs.layout.Places.{geometry_of}
+use Rattle.layout.specs.declared.Geometry.{Geometry}
+use Rattle.layout.specs.Places.{geometry_of}
 use Rattle.volume.specs.declared.Inode.{Inode}
 use Rattle.tree.specs.Names.{dot, dot_dot}
 use Rattle.tree.specs.Tree.{Tree}

@@ -1,6 +1,6 @@
 -- What the verdict is, apart from how it is looked for: of the findings that are true of an image, the least.
 use Rattle.std.specs.Prelude.{◌≡◌, ◌<◌, ℕ, ◌+◌, List, [], ◌∷◌, Bool, true, false, ◌&&◌, ◌==◌, Ok, Err, if◌then◌else◌}
-use Rattle.tree.specs.layout.Places.{geometry_of, refusal_number}
+use Rattle.layout.specs.Places.{geometry_of, refusal_number}
 use Rattle.volume.specs.declared.Finding.{Finding}
 use Rattle.volume.specs.Reading.{disk_of}
 use Rattle.volume.specs.Pieces.{pieces}

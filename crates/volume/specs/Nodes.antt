@@ -1,6 +1,6 @@
 -- What the pieces of a volume say: the zone of each page, the bytes of a file, the names of a directory, the nodes.
 use Rattle.std.specs.Prelude.{ℕ, zero, suc, ◌+◌, ◌-◌, ◌*◌, ◌/◌, ◌%◌, ◌^◌, List, [], ◌∷◌, slice_index, Bool, not, ◌&&◌, ◌||◌, ◌==◌, nat_lt, nat_le, if◌then◌else◌, Option, None, Some}
-use Rattle.tree.specs.layout.declared.Geometry.{Geometry}
+use Rattle.layout.specs.declared.Geometry.{Geometry}
 use Rattle.volume.specs.declared.Inode.{Inode}
 use Rattle.tree.specs.Names.{Name, Names, with_name}
 use Rattle.tree.specs.Tree.{File, Directory, Body, is_file, is_directory, Node}

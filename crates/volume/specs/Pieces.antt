@@ -1,6 +1,6 @@
 -- A volume's bytes as four pieces that share no byte, so that each layer changes one of them at one key.
 use Rattle.std.specs.Prelude.{ℕ, ◌-◌, [], Bool, ◌&&◌, nat_le, if◌then◌else◌}
-use Rattle.tree.specs.layout.declared.Geometry.{Geometry}
+use Rattle.layout.specs.declared.Geometry.{Geometry}
 use Rattle.volume.specs.declared.Inode.{Inode}
 use Rattle.volume.specs.Reading.{Disk, is_inode, is_data_zone, inode_bit, zone_bit, inode_of_disk}
 

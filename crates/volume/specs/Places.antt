@@ -1,6 +1,6 @@
 -- The places of a volume that name zones, and how often a zone is named.
 use Rattle.std.specs.Prelude.{◌≡◌, ℕ, zero, suc, ◌+◌, ◌-◌, Bool, not, ◌&&◌, ◌||◌, ◌==◌, if◌then◌else◌, IsTrue}
-use Rattle.tree.specs.layout.declared.Geometry.{Geometry}
+use Rattle.layout.specs.declared.Geometry.{Geometry}
 use Rattle.volume.specs.declared.Inode.{Inode}
 use Rattle.tree.specs.Sums.{sum_below, count_below, some_below}
 use Rattle.tree.specs.Space.{numbers_in_zone}

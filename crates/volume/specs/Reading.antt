@@ -1,6 +1,6 @@
 -- The bytes of a volume by block and offset, and the numbers, bits and inodes that stand in them.
 use Rattle.std.specs.Prelude.{ℕ, ◌+◌, ◌-◌, ◌*◌, ◌/◌, ◌%◌, ◌^◌, List, [], ◌∷◌, slice_index, Bool, ◌&&◌, ◌==◌, nat_lt, nat_le, if◌then◌else◌}
-use Rattle.tree.specs.layout.declared.Geometry.{Geometry}
+use Rattle.layout.specs.declared.Geometry.{Geometry}
 use Rattle.volume.specs.declared.Inode.{Inode}
 
 -- The byte at each offset of each block, and 0 past a block's end: an image, or what a server would read back.

@@ -1,6 +1,8 @@
 //! What the bytes of a volume say: the tree that an image holds, and the findings of the check.
 #![tactic(auto)]
 
+pub mod volume_laws;
+
 ghost use Rattle.volume.specs.Fresh.{FreshHolds};
 ghost use Rattle.volume.specs.Holds.{OneMapOfNodes};
 ghost use Rattle.volume.specs.IsVerdict.{VerdictIsLeast};

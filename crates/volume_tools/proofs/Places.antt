@@ -3,7 +3,7 @@ use Rattle.std.proofs.Common.{◌≡◌, ◌≢◌, ◌≤◌, ◌%◌, ℕ, zer
 use Rattle.std.specs.Prelude.{Result, Err, not, nat_lt, if◌then◌else◌}
 use Rattle.std.proofs.lemmas.Bool.{ne_eqb, eq-eqb, le-ltb}
 use Rattle.media.specs.Contents.{sectors_of}
-use Rattle.partition.specs.Places.{volume_place}
+use Rattle.media.specs.Places.{volume_place}
 use Rattle.volume_tools.specs.declared.verify.NoVolume.{NoVolume}
 use Rattle.volume_tools.specs.declared.verify.NoVolume.TheVariants.{NotSectors, TooManySectors}
 use Rattle.volume_tools.specs.Verifying.{sectors_or, volume_at}

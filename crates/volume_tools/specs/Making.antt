@@ -1,7 +1,7 @@
 -- What a making comes to.
 use Rattle.std.specs.Prelude.{◌≡◌, ℕ, ◌-◌, List, ◌++◌, Ok, codes, decimal}
 use Rattle.layout.specs.declared.Geometry.{Geometry}
-use Rattle.new_volume.specs.tree.Space.{data_zones}
+use Rattle.tree.specs.Space.{data_zones}
 use Rattle.new_volume.specs.Sizes.{sizes_of, refusal_name}
 use Rattle.new_volume.specs.Made.{IsNewVolume, IsRefused}
 use Rattle.volume_tools.specs.declared.make.Wanted.{Wanted}

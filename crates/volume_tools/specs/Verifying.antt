@@ -1,14 +1,14 @@
 -- What a verifying comes to.
 use Rattle.std.specs.Prelude.{◌≡◌, ◌⊎◌, ℕ, zero, suc, ◌*◌, ◌%◌, List, ◌++◌, length, take, drop, not, ◌==◌, nat_lt, if◌then◌else◌, Option, Some, None, Result, Ok, Err, codes}
 use Rattle.std.specs.Borrow.{Bor}
-use Rattle.fsck.specs.volume.Text.{finding_text}
-use Rattle.fsck.specs.volume.Verdict.{Verdict, Clean, Found, verdict_of}
+use Rattle.volume.specs.Text.{finding_text}
+use Rattle.volume.specs.Verdict.{Verdict, Clean, Found, verdict_of}
 use Rattle.media.specs.Contents.{sectors_of}
-use Rattle.partition.specs.declared.PartitionRefusal.{PartitionRefusal}
-use Rattle.partition.specs.declared.PartitionRefusal.TheVariants.{NoSignature, PastMedia, Overlap}
-use Rattle.partition.specs.declared.place.PlaceRefusal.{PlaceRefusal}
-use Rattle.partition.specs.declared.place.PlaceRefusal.TheVariants.{Table, NoPartition}
-use Rattle.partition.specs.Places.{volume_place}
+use Rattle.media.specs.declared.partition.PartitionRefusal.{PartitionRefusal}
+use Rattle.media.specs.declared.partition.PartitionRefusal.TheVariants.{NoSignature, PastMedia, Overlap}
+use Rattle.media.specs.declared.partition.place.PlaceRefusal.{PlaceRefusal}
+use Rattle.media.specs.declared.partition.place.PlaceRefusal.TheVariants.{Table, NoPartition}
+use Rattle.media.specs.Places.{volume_place}
 use Rattle.volume_tools.specs.declared.verify.NoVolume.{NoVolume}
 use Rattle.volume_tools.specs.declared.verify.NoVolume.TheVariants.{NotSectors, TooManySectors, Place}
 use Rattle.volume_tools.specs.declared.verify.VerifyRefusal.{VerifyRefusal}

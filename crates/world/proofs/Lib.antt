@@ -1,1 +1,4 @@
 pub mod Showing
+pub mod RunShowing
+pub mod Begun
+pub mod Opened

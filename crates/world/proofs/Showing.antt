@@ -1,47 +1,46 @@
 -- From a schedule that was played out to what is shown of the run.
 use Rattle.std.proofs.Common.{◌≡◌, cond, inl, inr, ℕ, suc, ◌-◌, List, [], ◌∷◌, Bool, true, false, length, refl, sym, ◌∙◌, subst, arith}
 use Rattle.std.specs.List.{concat}
-use Rattle.fsck.specs.layout.declared.Geometry.{Geometry}
-use Rattle.rounds.specs.tree.Tree.{Tree}
+use Rattle.layout.specs.declared.Geometry.{Geometry}
+use Rattle.tree.specs.Tree.{Tree}
 use Rattle.std.specs.Prelude.{All, ◌⊎◌, None, Some}
-use Rattle.reincarnate.specs.bdev.DriverState.{DriverState, is_fresh, range_while_fresh, range_of as range_of_driver}
+use Rattle.bdev.specs.DriverState.{DriverState, is_fresh, range_while_fresh, range_of as range_of_driver}
 use Rattle.media.specs.Contents.{IsWhole, MediaState, sectors_of}
-use Rattle.policy.specs.declared.Setup.{Setup}
-use Rattle.policy.specs.Watch.{driver, new_watch}
-use Rattle.file_server.specs.marks.Marks.{Started}
-use Rattle.file_server.specs.marks.Opening.{Opening, Range, contents_at}
-use Rattle.file_server.specs.marks.Open.{IsWellFormed}
-use Rattle.file_server.specs.legal.ServerCall.{Serving}
+use Rattle.reincarnate.specs.declared.policy.Setup.{Setup}
+use Rattle.reincarnate.specs.Watch.{driver, new_watch}
+use Rattle.records.specs.Marks.{Started}
+use Rattle.records.specs.Opening.{Opening, Range, contents_at}
+use Rattle.records.specs.Open.{IsWellFormed}
+use Rattle.records.specs.ServerCall.{Serving}
 use Rattle.inline.specs.Inline.{IsReady}
-use Rattle.inline.specs.true_replies.Events.{IsOnMedia}
-use Rattle.run_start.specs.startup.Starting.{opening_of}
-use Rattle.file_server.specs.reissue.declared.link.Link.{Ghosts as LinkWords}
+use Rattle.true_replies.specs.Events.{IsOnMedia}
+use Rattle.mounting.specs.Starting.{opening_of}
+use Rattle.reissue.specs.declared.link.Link.{Ghosts as LinkWords}
 use Rattle.schedule.specs.declared.Event.{Event}
 use Rattle.schedule.specs.declared.Sent.{Sent}
 use Rattle.schedule.specs.Groups.{Each}
 use Rattle.schedule.specs.Justified.{Justified}
 use Rattle.schedule.specs.Headline.{Transcript}
-use Rattle.playing.specs.run_log.Noted.{marks_in}
+use Rattle.schedule.specs.Noted.{marks_in}
 use Rattle.playing.specs.declared.playing.Playing.{Playing}
 use Rattle.playing.specs.PlayView.{Play, IsOpened}
-use Rattle.rounds.specs.playing_laws.Moments.{Doing, Resting, Hearing, Answering}
-use Rattle.whole_runs.specs.justifying.Steady.{drivers_of}
-use Rattle.whole_runs.specs.Whole.{IsUnused, IsAtEnd}
-use Rattle.whole_runs.specs.Whole.{IsWhole as IsWholeRun}
-use Rattle.whole_runs.proofs.WholeLaws.{runs_are_whole}
+use Rattle.playing.specs.Moments.{Doing, Resting, Hearing, Answering}
+use Rattle.justified.specs.Steady.{drivers_of}
+use Rattle.justified.specs.Whole.{IsUnused, IsAtEnd, IsWhole as IsWholeRun}
+use Rattle.justified.proofs.WholeLaws.{runs_are_whole}
 use Rattle.file_server.specs.Over.{Hears}
 use Rattle.rounds.specs.Ends.{RunHolds, RunStands, EndsIn}
 use Rattle.rounds.specs.Starts.{at_first}
 use Rattle.rounds.specs.Runs.{moment}
-use Rattle.run_shown.specs.Shows.{Shows}
-use Rattle.run_shown.proofs.Showing.{runs_are_shown}
+use Rattle.world.specs.Shows.{Shows}
+use Rattle.world.proofs.RunShowing.{runs_are_shown}
 use Rattle.stored.specs.declared.Stored.{Stored}
-use Rattle.run_transcript.specs.vfs.declared.server.Server.{Server}
-use Rattle.run_transcript.specs.vfs.OverLink.{line_of, serving_over}
-use Rattle.run_start.specs.declared.run_refusal.RunRefusal.TheVariants.{OutOfMemory}
-use Rattle.run_start.specs.Beginning.{IsBegun, IsNotBegun, range_of}
-use Rattle.run_transcript.specs.Shown.{frames_in}
-use Rattle.run_server.specs.Plays.{IsFresh, PlaysFrom}
+use Rattle.vfs.specs.declared.server.Server.{Server}
+use Rattle.vfs.specs.OverLink.{line_of, serving_over}
+use Rattle.world.specs.declared.run_refusal.RunRefusal.TheVariants.{OutOfMemory}
+use Rattle.world.specs.Beginning.{IsBegun, IsNotBegun, range_of}
+use Rattle.transcript.specs.ShownTranscript.{frames_in}
+use Rattle.world.specs.ServerPlays.{IsFresh, PlaysFrom}
 use Rattle.world.specs.Plays.{RunShows}
 
 -- ---- before the first event

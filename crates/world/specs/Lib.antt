@@ -1,3 +1,5 @@
-pub use Rattle.run_start.specs as run_start
-pub use Rattle.run_transcript.specs as run_transcript
 pub mod Plays
+pub mod Shows
+pub mod Reasons
+pub mod Beginning
+pub mod ServerPlays

@@ -1,13 +1,13 @@
 -- What a run shows.
 use Rattle.std.specs.Prelude.{ℕ, List}
-use Rattle.fsck.specs.layout.declared.Geometry.{Geometry}
-use Rattle.rounds.specs.tree.Tree.{Tree}
-use Rattle.reincarnate.specs.bdev.DriverState.{DriverState}
-use Rattle.policy.specs.declared.Setup.{Setup}
-use Rattle.file_server.specs.marks.Opening.{Range}
+use Rattle.layout.specs.declared.Geometry.{Geometry}
+use Rattle.tree.specs.Tree.{Tree}
+use Rattle.bdev.specs.DriverState.{DriverState}
+use Rattle.reincarnate.specs.declared.policy.Setup.{Setup}
+use Rattle.records.specs.Opening.{Range}
 use Rattle.schedule.specs.declared.Event.{Event}
 use Rattle.schedule.specs.Headline.{Transcript, Headline}
-use Rattle.run_start.specs.Beginning.{IsBegun}
+use Rattle.world.specs.Beginning.{IsBegun}
 
 -- A run that was begun on an image: the volume in this range was checked, and held this tree at first, without an open file. The headline
 -- holds of it: its replies are those of that tree, the media hold what the record says, and the schedule justifies it, event by event.

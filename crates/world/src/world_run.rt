@@ -2,18 +2,18 @@
 
 ghost use Rattle.std.specs.Prelude.{◌≡◌, ◌<◌, ◌^◌, IfErr, IfOk, length, map};
 ghost use Rattle.media.specs.Contents.{IsWhole};
-ghost use Rattle.run_start.specs.Beginning.{IsNotBegun};
-ghost use Rattle.run_transcript.specs.Shown.{frame_count_of, transcript_of};
+ghost use Rattle.world.specs.Beginning.{IsNotBegun};
+ghost use Rattle.transcript.specs.ShownTranscript.{frame_count_of, transcript_of};
 ghost use Rattle.world.specs.Plays.{RunShows};
 
 use file_server::FileServer;
 use inline::local::LocalDriver;
 use media::Media;
-use policy::Setup;
-use run_server::link::link_of;
-use run_server::server::play_over;
-use run_start::{RunRefusal, prepare_run};
-use run_transcript::Transcript;
+use reincarnate::policy::Setup;
+use crate::link::link_of;
+use crate::server::play_over;
+use crate::{RunRefusal, prepare_run};
+use transcript::Transcript;
 use schedule::Event;
 use std::alloc::Global;
 

@@ -1,9 +1,9 @@
 -- Pages that are held.
 use Rattle.std.proofs.Common.{ℕ}
 use Rattle.layout.specs.declared.Geometry.{Geometry}
-use Rattle.store.specs.volume.Reading.{Disk}
-use Rattle.store.specs.volume.Pieces.{pieces}
-use Rattle.zone_places.proofs.zone_laws.Composite.{attached_nodes}
+use Rattle.volume.specs.Reading.{Disk}
+use Rattle.volume.specs.Pieces.{pieces}
+use Rattle.zone.proofs.Composite.{attached_nodes}
 use Rattle.zone.specs.Pages.{HoldsPlace}
 use Rattle.zone.specs.Files.{AttachesPage}
 

@@ -8,29 +8,29 @@ use Rattle.std.proofs.lemmas.Nat.{div_below}
 use Rattle.std.proofs.lemmas.List.{get_or-set_same, get_or-set_other}
 use Rattle.layout.specs.declared.Geometry.{Geometry}
 use Rattle.layout.specs.Places.{IsGeometry}
-use Rattle.store.specs.tree.Sums.{put, one_if}
-use Rattle.store.proofs.tree.Maps.{put-same, put-other}
-use Rattle.store.specs.tree.Space.{numbers_in_zone, data_zones}
-use Rattle.store.specs.volume.declared.Inode.{Inode}
-use Rattle.store.specs.volume.Reading.{Disk, is_data_zone, is_inode, u32_in, inode_of_disk}
-use Rattle.store.specs.volume.Pieces.{Pieces, pieces, blank}
-use Rattle.store.specs.volume.Nodes.{word, slot, number, is_marked}
-use Rattle.store.specs.volume.Places.{zone_at, has_number}
-use Rattle.store.specs.volume.Holds.{ZonesAgree}
-use Rattle.zone_places.proofs.zone_laws.volume_laws.Volumes.{numbers_sized}
+use Rattle.tree.specs.Sums.{put, one_if}
+use Rattle.tree.proofs.Maps.{put-same, put-other}
+use Rattle.tree.specs.Space.{numbers_in_zone, data_zones}
+use Rattle.volume.specs.declared.Inode.{Inode}
+use Rattle.volume.specs.Reading.{Disk, is_data_zone, is_inode, u32_in, inode_of_disk}
+use Rattle.volume.specs.Pieces.{Pieces, pieces, blank}
+use Rattle.volume.specs.Nodes.{word, slot, number, is_marked}
+use Rattle.volume.specs.Places.{zone_at, has_number}
+use Rattle.volume.specs.Holds.{ZonesAgree}
+use Rattle.volume.proofs.Volumes.{numbers_sized}
 use Rattle.store.specs.Rows.{with_bytes}
 use Rattle.store.proofs.Rows.{row_new, row_old}
-use Rattle.zone_places.specs.zone_laws.Steps.{first_places, slot_of, above, beside, bit_of, Links, Unlinks, IsSoundBut, IsBare, marked_in}
-use Rattle.zone_places.specs.zone_laws.Raw.{Takes, SetsInode, SetsBlock}
-use Rattle.zone_places.specs.zone_laws.Missing.{missing}
-use Rattle.zone_places.specs.zone_laws.Composite.{Attached, Detached}
-use Rattle.zone_places.proofs.zone_laws.Raw.{free_unused, filled_slot_links, filled_word_links, cleared_slot_unlinks, cleared_word_unlinks}
-use Rattle.zone_places.proofs.zone_laws.OnePlaces.{slot_zone, slot_cases}
-use Rattle.zone_places.proofs.zone_laws.Full.{zone_child, hole_child, child_is}
-use Rattle.zone_places.proofs.zone_laws.Composite.{missing_inner, missing_outer, attached_inner, attaches_inner, attached_outer, attaches_outer, detaches_inner, detaches_outer, detaches_on, unlinked_above}
-use Rattle.zone_places.proofs.zone_laws.Agree.{marked_on}
-use Rattle.zone_places.proofs.zone_laws.Inodes.{four_bytes}
-use Rattle.zone_places.specs.Parts.{with_number}
+use Rattle.zone.specs.ZoneSteps.{first_places, slot_of, above, beside, bit_of, Links, Unlinks, IsSoundBut, IsBare, marked_in}
+use Rattle.zone.specs.Raw.{Takes, SetsInode, SetsBlock}
+use Rattle.zone.specs.Missing.{missing}
+use Rattle.zone.specs.Composite.{Attached, Detached}
+use Rattle.zone.proofs.Raw.{free_unused, filled_slot_links, filled_word_links, cleared_slot_unlinks, cleared_word_unlinks}
+use Rattle.zone.proofs.OnePlaces.{slot_zone, slot_cases}
+use Rattle.zone.proofs.Full.{zone_child, hole_child, child_is}
+use Rattle.zone.proofs.Composite.{missing_inner, missing_outer, attached_inner, attaches_inner, attached_outer, attaches_outer, detaches_inner, detaches_outer, detaches_on, unlinked_above}
+use Rattle.zone.proofs.Agree.{marked_on}
+use Rattle.zone.proofs.ZoneInodes.{four_bytes}
+use Rattle.zone.specs.PlaceParts.{with_number}
 use Rattle.zone.specs.Parts.{with_slot, with_mark, with_fresh}
 use Rattle.zone.specs.Pages.{MayHold, MayRelease, place_count}
 

@@ -3,21 +3,21 @@ use Rattle.std.proofs.Common.{◌≡◌, ◌≢◌, ◌<◌, ◌≤◌, ◌+◌,
 use mathlib.Core.Logic.{inl, inr}
 use Rattle.std.specs.Prelude.{◌==◌, not, Option, None, Some}
 use Rattle.std.proofs.lemmas.Bool.{cases_eq, cond-false, ne_eqb, not_from_false}
-use Rattle.zone_places.proofs.zone_laws.volume_laws.Sums.{some_from}
-use Rattle.zone_places.proofs.zone_laws.volume_laws.Volumes.{numbers_sized}
+use Rattle.volume.proofs.Sums.{some_from}
+use Rattle.volume.proofs.Volumes.{numbers_sized}
 use Rattle.layout.specs.declared.Geometry.{Geometry}
-use Rattle.store.specs.tree.Space.{numbers_in_zone}
-use Rattle.store.specs.volume.Reading.{Disk}
-use Rattle.store.specs.volume.Pieces.{Pieces, pieces}
-use Rattle.store.specs.volume.Nodes.{word, slot, number}
-use Rattle.store.specs.volume.Places.{zone_at}
-use Rattle.zone_places.specs.zone_laws.Steps.{first_places, slot_of, IsBare, Links, Unlinks}
-use Rattle.zone_places.specs.zone_laws.Composite.{Attached, Detached}
-use Rattle.zone_places.proofs.zone_laws.Inodes.{inode_is}
-use Rattle.zone_places.specs.Parts.{IsLastNumber}
+use Rattle.tree.specs.Space.{numbers_in_zone}
+use Rattle.volume.specs.Reading.{Disk}
+use Rattle.volume.specs.Pieces.{Pieces, pieces}
+use Rattle.volume.specs.Nodes.{word, slot, number}
+use Rattle.volume.specs.Places.{zone_at}
+use Rattle.zone.specs.ZoneSteps.{first_places, slot_of, IsBare, Links, Unlinks}
+use Rattle.zone.specs.Composite.{Attached, Detached}
+use Rattle.zone.proofs.ZoneInodes.{inode_is}
+use Rattle.zone.specs.PlaceParts.{IsLastNumber}
 use Rattle.zone.specs.Steps.{HoldsSlot, MayHoldSlot, HoldsNumber, MayHoldNumber, DropsSlot, MayDropSlot, DropsNumber, MayDropNumber}
 use Rattle.zone.specs.Pages.{MayHold, HoldsPlace, MayRelease, Releases}
-use Rattle.zone_places.proofs.Levels.{zone_inner, found_outer}
+use Rattle.zone.proofs.Levels.{zone_inner, found_outer}
 use Rattle.zone.proofs.Filling.{ten, slot_filled_links, word_filled_links, inner_zone, inner_done, inner_room, inner_filled, here_above, outer_level, block_is, block_some, is_low, nth_is, marked_u, outer_zone, outer_done, outer_room, outer_filled, slot_cleared_unlinks, word_cleared_unlinks, released_inner, released_outer, released_on, may_release_above, block_there, its_place, walk_block}
 
 module _ (g : Geometry) (d e : Disk) (n l k f s z : ℕ) (first : f ≡ first_places l) (near : k < f) (at : s ≡ slot_of l k) where

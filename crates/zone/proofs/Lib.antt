@@ -1,6 +1,24 @@
-pub use Rattle.zone_places.proofs as zone_places
-pub use Rattle.zone_places.proofs.zone_laws as zone_laws
+pub mod Change
+pub mod OnePlaces
+pub mod Agree
+pub mod Full
+pub mod Files
+pub mod Keeps
+pub mod Counts
+pub mod Raw
+pub mod Stay
+pub mod Missing
+pub mod Composite
+pub mod Fewer
+pub mod Room
+pub mod Chunks
+pub mod ZoneInodes
+pub mod Frames
+pub mod Levels
+pub mod Rows
 pub mod Taking
 pub mod Filling
 pub mod Held
 pub mod Attaching
+pub mod Last
+pub mod CuttingLaws

@@ -3,17 +3,17 @@ use Rattle.std.proofs.Common.{◌≡◌, ◌≢◌, ◌<◌, ◌≤◌, ◌+◌,
 use Rattle.std.specs.Prelude.{nat_le, nat_lt, Option, None, Some, slice_set}
 use Rattle.std.proofs.lemmas.Bool.{and_from, le-leb, lt-ltb}
 use Rattle.layout.specs.declared.Geometry.{Geometry}
-use Rattle.store.specs.tree.Sums.{put, sum_below, count_below, one_if}
-use Rattle.store.specs.volume.declared.Inode.{Inode}
-use Rattle.store.specs.volume.Reading.{Disk}
-use Rattle.store.specs.volume.Pieces.{Pieces, pieces}
-use Rattle.store.specs.volume.Nodes.{slot, number}
+use Rattle.tree.specs.Sums.{put, sum_below, count_below, one_if}
+use Rattle.volume.specs.declared.Inode.{Inode}
+use Rattle.volume.specs.Reading.{Disk}
+use Rattle.volume.specs.Pieces.{Pieces, pieces}
+use Rattle.volume.specs.Nodes.{slot, number}
 use Rattle.bitmap.specs.Numbers.{IsLowestFree}
-use Rattle.zone_places.specs.inode_table.Table.{with_inode}
+use Rattle.inode.specs.Table.{with_inode}
 use Rattle.store.specs.Volume.{Alters}
-use Rattle.zone_places.specs.zone_laws.Steps.{bit_of}
+use Rattle.zone.specs.ZoneSteps.{bit_of}
 use Rattle.store.specs.Regions.{with_zone}
-use Rattle.zone_places.specs.Parts.{IsLastNumber, with_number}
+use Rattle.zone.specs.PlaceParts.{IsLastNumber, with_number}
 use Rattle.zone.specs.Parts.{with_mark, with_fresh, with_slot}
 use Rattle.zone.specs.Steps.{MarksZone, TakesZone, HasRoom, HoldsSlot, HoldsNumber, DropsSlot, DropsNumber}
 use Rattle.store.proofs.Ending.{alters_over, alters_read}

@@ -1,13 +1,13 @@
 -- What attaching does to a file, and to the nodes.
 use Rattle.std.specs.Prelude.{◌≡◌, ℕ, true, Some}
 use Rattle.layout.specs.declared.Geometry.{Geometry}
-use Rattle.store.specs.tree.Sums.{put}
-use Rattle.store.specs.volume.Reading.{Disk}
-use Rattle.store.specs.volume.Pieces.{pieces}
-use Rattle.store.specs.volume.Nodes.{file_of, nodes_of}
-use Rattle.store.specs.volume.Places.{zone_at}
-use Rattle.zone_places.specs.zone_laws.Steps.{with_page, node_from}
-use Rattle.zone_places.specs.zone_laws.Composite.{Attached}
+use Rattle.tree.specs.Sums.{put}
+use Rattle.volume.specs.Reading.{Disk}
+use Rattle.volume.specs.Pieces.{pieces}
+use Rattle.volume.specs.Nodes.{file_of, nodes_of}
+use Rattle.volume.specs.Places.{zone_at}
+use Rattle.zone.specs.ZoneSteps.{with_page, node_from}
+use Rattle.zone.specs.Composite.{Attached}
 use Rattle.store.specs.Volume.{SameHead}
 use Rattle.zone.specs.Pages.{MayHold}
 

@@ -2,16 +2,16 @@
 use Rattle.std.specs.Prelude.{◌≡◌, ◌≢◌, ℕ, zero, suc, ◌+◌, ◌*◌, ◌-◌, ◌<◌, ◌≤◌, IsTrue}
 use Rattle.layout.specs.declared.Geometry.{Geometry}
 use Rattle.layout.specs.Places.{IsGeometry}
-use Rattle.store.specs.tree.ZonesNeeded.{page_limit}
-use Rattle.store.specs.tree.Space.{numbers_in_zone, data_zones, pages_of}
-use Rattle.store.specs.volume.Reading.{Disk}
-use Rattle.store.specs.volume.Pieces.{Pieces, pieces}
-use Rattle.store.specs.volume.Nodes.{is_marked}
-use Rattle.store.specs.volume.Places.{zone_at}
-use Rattle.zone_places.specs.zone_laws.Steps.{first_places, IsBare, IsSoundBut, marked_in}
-use Rattle.zone_places.specs.zone_laws.Missing.{missing}
+use Rattle.tree.specs.ZonesNeeded.{page_limit}
+use Rattle.tree.specs.Space.{numbers_in_zone, data_zones, pages_of}
+use Rattle.volume.specs.Reading.{Disk}
+use Rattle.volume.specs.Pieces.{Pieces, pieces}
+use Rattle.volume.specs.Nodes.{is_marked}
+use Rattle.volume.specs.Places.{zone_at}
+use Rattle.zone.specs.ZoneSteps.{first_places, IsBare, IsSoundBut, marked_in}
+use Rattle.zone.specs.Missing.{missing}
 use Rattle.store.specs.Volume.{SameHead}
-use Rattle.zone_places.specs.zone_laws.Composite.{Attached, Detached}
+use Rattle.zone.specs.Composite.{Attached, Detached}
 
 -- how many places a level has
 abbrev pub place_count : Geometry → ℕ → ℕ

@@ -1,10 +1,10 @@
 -- The changes of a volume's pieces that zones need: a slot of an inode, a zone that is taken or given back.
 use Rattle.std.specs.Prelude.{ℕ, Bool, true, slice_set}
 use Rattle.layout.specs.declared.Geometry.{Geometry}
-use Rattle.store.specs.tree.Sums.{put}
-use Rattle.store.specs.volume.Pieces.{Pieces}
+use Rattle.tree.specs.Sums.{put}
+use Rattle.volume.specs.Pieces.{Pieces}
 use Rattle.store.specs.Regions.{with_zone}
-use Rattle.zone_places.specs.zone_laws.Steps.{bit_of}
+use Rattle.zone.specs.ZoneSteps.{bit_of}
 
 -- pieces in which slot s of inode n is x
 abbrev pub with_slot : Pieces → ℕ → ℕ → ℕ → Pieces

@@ -1,13 +1,13 @@
 -- The steps of which the calls on zones are made: a zone comes to stand in a slot of an inode or in a block, or is let go there.
 use Rattle.std.specs.Prelude.{◌≡◌, ◌≢◌, ℕ, ◌<◌, true, false, IsTrue}
 use Rattle.layout.specs.declared.Geometry.{Geometry}
-use Rattle.store.specs.tree.Space.{data_zones}
-use Rattle.store.specs.volume.Reading.{Disk, is_inode, is_data_zone}
-use Rattle.store.specs.volume.Pieces.{Pieces, pieces}
-use Rattle.store.specs.volume.Nodes.{slot, number}
+use Rattle.tree.specs.Space.{data_zones}
+use Rattle.volume.specs.Reading.{Disk, is_inode, is_data_zone}
+use Rattle.volume.specs.Pieces.{Pieces, pieces}
+use Rattle.volume.specs.Nodes.{slot, number}
 use Rattle.store.specs.Volume.{Alters}
-use Rattle.zone_places.specs.zone_laws.Steps.{bit_of, marked_in}
-use Rattle.zone_places.specs.Parts.{with_number}
+use Rattle.zone.specs.ZoneSteps.{bit_of, marked_in}
+use Rattle.zone.specs.PlaceParts.{with_number}
 use Rattle.zone.specs.Parts.{with_mark, with_fresh, with_slot}
 
 -- a free data zone, and what the volume becomes

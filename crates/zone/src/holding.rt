@@ -1,9 +1,9 @@
 //! Places that get a zone, and places that are let go.
 
 ghost use Rattle.std.specs.Prelude.{◌≡◌, ◌<◌, ◌≤◌, ◌+◌, ◌-◌, ◌*◌, ◌/◌, ◌%◌, IfErr, IsTrue};
-ghost use Rattle.store.specs.volume.Reading.{is_inode};
-ghost use Rattle.store.specs.volume.Places.{zone_at};
-ghost use Rattle.store.specs.volume.Pieces.{pieces};
+ghost use Rattle.volume.specs.Reading.{is_inode};
+ghost use Rattle.volume.specs.Places.{zone_at};
+ghost use Rattle.volume.specs.Pieces.{pieces};
 ghost use Rattle.store.specs.World.{Turns, Reads};
 ghost use Rattle.store.specs.Halts.{Ends, IsHalt};
 ghost use Rattle.store.specs.Volume.{IsOn};
@@ -12,9 +12,9 @@ ghost use Rattle.zone.specs.Pages.{MayHold, HoldsPlace, MayRelease, Releases};
 use crate::steps::{drop_in_block, drop_slot, hold_number, hold_slot};
 use layout::Geometry;
 use store::{Blocks, Halt};
-use zone_places::inodes::load;
-use zone_places::numbers::numbers_in_zone;
-use zone_places::places::{find, first_places, slot_of};
+use inode::inode_table::load;
+use crate::numbers::numbers_in_zone;
+use crate::places::{find, first_places, slot_of};
 
 /// The zone of a place, where it and the blocks on the way to it get one if they have none: the blocks first, so that at no time
 /// a zone hangs below a place that has none.

@@ -1,7 +1,7 @@
 //! The pages of a file, attached to zones.
 
 ghost use Rattle.std.specs.Prelude.{IfErr};
-ghost use Rattle.store.specs.volume.Pieces.{pieces};
+ghost use Rattle.volume.specs.Pieces.{pieces};
 ghost use Rattle.store.specs.World.{Turns};
 ghost use Rattle.store.specs.Halts.{Ends, IsHalt};
 ghost use Rattle.store.specs.Volume.{IsOn};

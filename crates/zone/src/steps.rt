@@ -4,22 +4,21 @@
 //! shows what it held before. A number that is removed is removed before its zone is given back.
 
 ghost use Rattle.std.specs.Prelude.{◌≡◌, ◌<◌, ◌↔◌, IfErr, IsErrOf, IsTrue, false};
-ghost use Rattle.store.specs.tree.Space.{numbers_in_zone};
-ghost use Rattle.store.specs.volume.Pieces.{pieces};
-ghost use Rattle.store.specs.volume.Reading.{is_data_zone};
+ghost use Rattle.tree.specs.Space.{numbers_in_zone};
+ghost use Rattle.volume.specs.Pieces.{pieces};
+ghost use Rattle.volume.specs.Reading.{is_data_zone};
 ghost use Rattle.store.specs.World.{Turns};
 ghost use Rattle.store.specs.Halts.{Ends, IsHalt};
 ghost use Rattle.store.specs.Volume.{IsOn, Alters};
-ghost use Rattle.zone_places.specs.Parts.{IsLastNumber};
+ghost use Rattle.zone.specs.PlaceParts.{IsLastNumber};
 ghost use Rattle.zone.specs.Parts.{with_mark};
-ghost use Rattle.zone.specs.Steps.{MarksZone, TakesZone, HasRoom, HoldsSlot, MayHoldSlot, HoldsNumber, MayHoldNumber, DropsSlot};
-ghost use Rattle.zone.specs.Steps.{MayDropSlot, DropsNumber, MayDropNumber};
+ghost use Rattle.zone.specs.Steps.{MarksZone, TakesZone, HasRoom, HoldsSlot, MayHoldSlot, HoldsNumber, MayHoldNumber, DropsSlot, MayDropSlot, DropsNumber, MayDropNumber};
 
 use bitmap::{Map, clear, lowest_free, set};
 use layout::Geometry;
 use store::{Blocks, Halt};
-use zone_places::inodes::{load, store};
-use zone_places::numbers::{clear_zone, is_data_zone, last_number, number, set_number};
+use inode::inode_table::{load, store};
+use crate::numbers::{clear_zone, is_data_zone, last_number, number, set_number};
 
 /// Marks the lowest free zone.
 fn mark_free<B: Blocks>(blocks: &mut B, geometry: &Geometry) -> Result<u32, Halt>

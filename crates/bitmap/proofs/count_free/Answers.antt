@@ -1,5 +1,5 @@
 use Rattle.std.proofs.Common.{◌≡◌, ◌+◌, ap, sym, ◌∙◌, arith}
-use Rattle.store.specs.volume.Pieces.{pieces}
+use Rattle.volume.specs.Pieces.{pieces}
 use Rattle.store.proofs.Turns.{reads_none, reads_then, if_cut}
 use Rattle.bitmap.specs.Numbers.{count_free_in}
 use Rattle.bitmap.specs.Maps.{numbers_in, reach}

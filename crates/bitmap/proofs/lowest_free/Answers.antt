@@ -1,5 +1,5 @@
 use Rattle.std.proofs.Common.{◌+◌, subst, arith}
-use Rattle.store.specs.volume.Pieces.{pieces}
+use Rattle.volume.specs.Pieces.{pieces}
 use Rattle.store.proofs.Turns.{reads_then, if_cut}
 use Rattle.bitmap.specs.Numbers.{IsLowestFree}
 use Rattle.bitmap.specs.Maps.{numbers_in, last_number, reach}

@@ -1,4 +1,4 @@
-use Rattle.store.specs.volume.Pieces.{pieces}
+use Rattle.volume.specs.Pieces.{pieces}
 use Rattle.store.specs.World.{Reads}
 use Rattle.bitmap.specs.Numbers.{AllIn}
 use Rattle.bitmap.specs.Maps.{numbers_in, reach}

@@ -1,6 +1,6 @@
 use Rattle.std.specs.Prelude.{slice_index}
-use Rattle.store.specs.volume.Reading.{bit_in}
-use Rattle.store.specs.volume.Pieces.{pieces}
+use Rattle.volume.specs.Reading.{bit_in}
+use Rattle.volume.specs.Pieces.{pieces}
 use Rattle.store.proofs.Turns.{turns_as, turns_seen}
 use Rattle.bitmap.specs.Maps.{numbers_in}
 use Rattle.bitmap.proofs.Blocks.{in_block, lowest_moved, none_moved}

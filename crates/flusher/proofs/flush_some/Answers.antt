@@ -1,6 +1,6 @@
 use Rattle.std.proofs.Common.{◌≡◌, ℕ, suc, ◌+◌, refl, sym, subst, ◌∙◌, arith, Option}
 use mathlib.Core.Logic.{inl, inr}
-use Rattle.cache.specs.slots.declared.slot.Slot.{Slot}
+use Rattle.cache.specs.declared.slot.Slot.{Slot}
 use Rattle.cache.specs.Calls.{caching}
 use Rattle.cache.proofs.Placing.{keeps_none, keeps_then}
 use Rattle.flusher.specs.Flushing.{WritesLowest}

@@ -1,9 +1,8 @@
 use Rattle.std.proofs.Common.{◌≡◌, ◌<◌, ◌≤◌, ◌+◌, length}
-use Rattle.reissue.specs.pending_table.Moves.{IsBusy}
-use Rattle.reissue.specs.pending_table.Entries.{pending_of}
+use Rattle.reissue.specs.Moves.{IsBusy}
+use Rattle.reissue.specs.Entries.{pending_of}
 use Rattle.cache.specs.declared.frame.Frame.{Frame}
-use Rattle.cache.specs.Calls.{caching, frame_count, Keeps, PostsAlone, IsFrame, LinkGoesOn}
-use Rattle.cache.specs.Calls.{messages_left}
+use Rattle.cache.specs.Calls.{caching, frame_count, Keeps, PostsAlone, IsFrame, LinkGoesOn, messages_left}
 use Rattle.cache.specs.Takes.{NoReadBegun}
 use Rattle.flusher.specs.Flushing.{WritesLowest}
 use Rattle.flusher.proofs.flush_some.Given as goal

@@ -1,8 +1,7 @@
 use Rattle.std.proofs.Common.{◌≡◌}
-use Rattle.reissue.specs.pending_table.Entries.{pending_of}
+use Rattle.reissue.specs.Entries.{pending_of}
 use Rattle.cache.specs.declared.frame.Frame.{Frame}
-use Rattle.cache.specs.Calls.{caching, frame_count, Keeps, IsFrame, LinkGoesOn, WantsFlush}
-use Rattle.cache.specs.Calls.{messages_left}
+use Rattle.cache.specs.Calls.{caching, frame_count, Keeps, IsFrame, LinkGoesOn, WantsFlush, messages_left}
 use Rattle.cache.specs.Takes.{NoReadBegun}
 use Rattle.flusher.proofs.write_all.Given as goal
 

@@ -2,7 +2,7 @@ use Rattle.std.proofs.Common.{◌≡◌, ◌+◌, ◌*◌, take, drop, [], arith
 use mathlib.Core.Logic.{inl, inr}
 use Rattle.std.proofs.lemmas.Bool.{cases_lt}
 use Rattle.std.proofs.lemmas.List.{take_all, drop_all, append-nil, get_or_past}
-use Rattle.volume_laws.specs.volume.Reading.{inode_in}
+use Rattle.volume.specs.Reading.{inode_in}
 use Rattle.inode.proofs.RoundTrip.{Fits, read_back}
 use Rattle.inode.proofs.encode.Goals as goal
 

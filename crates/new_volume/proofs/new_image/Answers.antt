@@ -1,8 +1,8 @@
 use Rattle.std.proofs.Common.{◌≡◌, ◌*◌, ◌++◌, ℕ, length, replicate, ◌≤◌, arith, sym, ap, ◌∙◌}
 use Rattle.layout.specs.Places.{table_blocks}
 use Rattle.layout.specs.Superblock.{with_superblock}
-use Rattle.inode.specs.tree.Space.{data_zones}
-use Rattle.inode.specs.volume.Fresh.{fresh_inode, fresh_entries}
+use Rattle.tree.specs.Space.{data_zones}
+use Rattle.volume.specs.Fresh.{fresh_inode, fresh_entries}
 use Rattle.inode.specs.Bytes.{bytes_of}
 use Rattle.new_volume.specs.Image.{map_bytes, filled}
 use Rattle.new_volume.proofs.Parts.{all_zeros, put_back, front_length}

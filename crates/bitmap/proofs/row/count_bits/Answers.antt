@@ -1,7 +1,7 @@
 use Rattle.std.proofs.Common.{◌≡◌, ◌+◌, ap, sym, arith}
 use Rattle.std.specs.Prelude.{not, slice_index}
-use Rattle.store.specs.tree.Sums.{one_if}
-use Rattle.store.specs.volume.Reading.{bit_in}
+use Rattle.tree.specs.Sums.{one_if}
+use Rattle.volume.specs.Reading.{bit_in}
 use Rattle.bitmap.specs.Numbers.{count_free_in}
 use Rattle.bitmap.proofs.Counting.{counted_none, counted_one}
 use Rattle.bitmap.proofs.row.count_bits.Goals.{then-not-is_set, else-not-is_set}

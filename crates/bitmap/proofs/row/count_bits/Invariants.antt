@@ -1,6 +1,6 @@
 use Rattle.std.proofs.Common.{◌≡◌, ◌+◌, ◌≤◌}
 use Rattle.std.specs.Prelude.{slice_index}
-use Rattle.store.specs.volume.Reading.{bit_in}
+use Rattle.volume.specs.Reading.{bit_in}
 use Rattle.bitmap.specs.Numbers.{count_free_in}
 use Rattle.bitmap.proofs.row.count_bits.Given as goal
 

@@ -1,6 +1,6 @@
 use Rattle.std.proofs.Common.{◌+◌, ◌*◌, ◌<◌, sym, arith}
 use Rattle.std.specs.Prelude.{slice_index}
-use Rattle.store.specs.volume.Reading.{bit_in}
+use Rattle.volume.specs.Reading.{bit_in}
 use Rattle.bitmap.proofs.Counting.{counted_none, counted_on}
 use Rattle.bitmap.proofs.Bytes.{byte_counted}
 use Rattle.bitmap.proofs.row.count_whole.Goals as goal

@@ -1,5 +1,5 @@
 use Rattle.std.specs.Prelude.{slice_index}
-use Rattle.store.specs.volume.Reading.{bit_in}
+use Rattle.volume.specs.Reading.{bit_in}
 use Rattle.bitmap.specs.Numbers.{AllIn}
 use Rattle.bitmap.proofs.row.first_clear.Given as goal
 

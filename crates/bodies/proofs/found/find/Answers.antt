@@ -1,6 +1,6 @@
 use Rattle.std.proofs.Common.{◌≡◌, sym, ap, subst, ◌∙◌, Option, Some}
 use Rattle.std.specs.Prelude.{IsTrue, option_map, ℕ}
-use Rattle.store.specs.volume.Reading.{is_inode}
+use Rattle.volume.specs.Reading.{is_inode}
 use Rattle.descriptors.specs.Table.{files_of}
 use Rattle.descriptors.specs.Made.{shown}
 use Rattle.tree.specs.declared.OpenFlags.{OpenFlags}

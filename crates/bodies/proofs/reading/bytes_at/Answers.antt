@@ -1,7 +1,7 @@
 use Rattle.std.proofs.Common.{◌≡◌, ◌+◌, ◌-◌, length, rules}
-use Rattle.store.specs.volume.Pieces.{pieces}
-use Rattle.store.specs.volume.Nodes.{file_of}
-use Rattle.file.specs.file_pages.Reading.{read_count}
+use Rattle.volume.specs.Pieces.{pieces}
+use Rattle.volume.specs.Nodes.{file_of}
+use Rattle.file.specs.Reading.{read_count}
 use Rattle.store.proofs.Turns.{turns_as}
 use Rattle.bodies.proofs.ReadBytes.{bytes_are, whole_taken}
 use Rattle.bodies.proofs.reading.bytes_at.Goals as goal

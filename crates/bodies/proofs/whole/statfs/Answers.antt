@@ -1,6 +1,6 @@
 use Rattle.std.proofs.Common.{sym, ap, ◌∙◌, ◌+◌, rules}
-use Rattle.store.specs.volume.Reading.{Disk}
-use Rattle.store.specs.volume.Pieces.{pieces}
+use Rattle.volume.specs.Reading.{Disk}
+use Rattle.volume.specs.Pieces.{pieces}
 use Rattle.bitmap.specs.Numbers.{count_free_in}
 use Rattle.store.proofs.Turns.{turns_then}
 use Rattle.bodies.proofs.Room.{statfs_done}

@@ -1,9 +1,9 @@
 use Rattle.std.proofs.Common.{◌≡◌, ◌*◌, ◌+◌, ◌-◌, ℕ, length, take, drop, ap, sym, ◌∙◌, true, false, arith}
 use Rattle.std.specs.Ordering.{eq_by_cmp}
-use Rattle.inode.specs.tree.Names.{name_cmp}
+use Rattle.tree.specs.Names.{name_cmp}
 use Rattle.std.specs.Prelude.{slice_index}
-use Rattle.store.specs.volume.Nodes.{entry_name}
-use Rattle.inode.proofs.volume_laws.Entries.{cmp_apart}
+use Rattle.volume.specs.Nodes.{entry_name}
+use Rattle.volume.proofs.Entries.{cmp_apart}
 use Rattle.directory.proofs.Names.{names_stand, same_decides}
 use Rattle.directory.proofs.entries.is_named.Goals as goal
 use Rattle.directory.proofs.entries.is_named.Goals.{then-name-gt60-via-then-name-gt60, then-name-gt60-via-else-name-gt60+then-not-is_same}

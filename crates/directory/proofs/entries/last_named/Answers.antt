@@ -1,8 +1,8 @@
 use Rattle.std.proofs.Common.{◌≡◌, ◌-◌, arith, ap, sym, ◌∙◌, true, false, Some}
 use Rattle.std.specs.Prelude.{slice_index}
 use Rattle.std.specs.Ordering.{eq_by_cmp}
-use Rattle.inode.specs.tree.Names.{name_cmp}
-use Rattle.store.specs.volume.Nodes.{entry_name}
+use Rattle.tree.specs.Names.{name_cmp}
+use Rattle.volume.specs.Nodes.{entry_name}
 use Rattle.directory.proofs.Scans.{one_found, one_less}
 use Rattle.directory.proofs.entries.last_named.Goals as goal
 

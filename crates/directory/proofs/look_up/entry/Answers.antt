@@ -1,6 +1,6 @@
 use Rattle.std.proofs.Common.{◌≡◌, rules, false, length}
 use Rattle.std.specs.Prelude.{IsTrue}
-use Rattle.store.specs.volume.Reading.{is_data_zone}
+use Rattle.volume.specs.Reading.{is_data_zone}
 use Rattle.store.proofs.Turns.{reads_then, turns_as, if_cut}
 use Rattle.directory.proofs.Pages.{entry_there, entry_missing}
 use Rattle.directory.proofs.look_up.entry.Goals as goal

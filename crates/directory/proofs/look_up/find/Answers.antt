@@ -1,6 +1,6 @@
 use Rattle.std.proofs.Common.{◌/◌, arith}
-use Rattle.store.specs.volume.Nodes.{file_byte}
-use Rattle.store.specs.volume.Pieces.{pieces}
+use Rattle.volume.specs.Nodes.{file_byte}
+use Rattle.volume.specs.Pieces.{pieces}
 use Rattle.store.proofs.Turns.{reads_none, reads_then, if_cut}
 use Rattle.directory.proofs.Pages.{entries_there}
 use Rattle.directory.proofs.Scans.{look_up_is}

@@ -1,7 +1,7 @@
 use Rattle.std.proofs.Common.{◌≡◌, ◌≤◌, ◌-◌, ◌*◌}
-use Rattle.inode.specs.tree.Names.{inode_of}
-use Rattle.store.specs.volume.Nodes.{directory_of, file_byte}
-use Rattle.store.specs.volume.Pieces.{pieces}
+use Rattle.tree.specs.Names.{inode_of}
+use Rattle.volume.specs.Nodes.{directory_of, file_byte}
+use Rattle.volume.specs.Pieces.{pieces}
 use Rattle.store.specs.World.{Reads}
 use Rattle.directory.specs.Scan.{last_named}
 use Rattle.directory.proofs.look_up.find.Given as goal

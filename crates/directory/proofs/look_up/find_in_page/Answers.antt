@@ -1,6 +1,6 @@
 use Rattle.std.proofs.Common.{◌≡◌, ◌∙◌, rules, false}
 use Rattle.std.specs.Prelude.{IsTrue}
-use Rattle.store.specs.volume.Reading.{is_data_zone}
+use Rattle.volume.specs.Reading.{is_data_zone}
 use Rattle.store.proofs.Turns.{reads_then, turns_as, turns_seen, turns_then, if_cut}
 use Rattle.directory.proofs.Pages.{page_seen, page_missing}
 use Rattle.directory.proofs.look_up.find_in_page.Goals as goal

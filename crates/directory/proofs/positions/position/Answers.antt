@@ -1,6 +1,6 @@
 use Rattle.std.proofs.Common.{◌≤◌, ◌/◌, subst, arith}
-use Rattle.store.specs.volume.Nodes.{file_byte}
-use Rattle.store.specs.volume.Pieces.{pieces}
+use Rattle.volume.specs.Nodes.{file_byte}
+use Rattle.volume.specs.Pieces.{pieces}
 use Rattle.directory.specs.Standing.{StandsAt}
 use Rattle.store.proofs.Turns.{reads_none, reads_then, reads_as, if_cut}
 use Rattle.directory.proofs.Pages.{entries_there, entries_few}

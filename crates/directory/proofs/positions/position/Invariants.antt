@@ -1,6 +1,6 @@
 use Rattle.std.proofs.Common.{◌≤◌, ◌-◌, ◌/◌}
-use Rattle.store.specs.volume.Nodes.{file_byte}
-use Rattle.store.specs.volume.Pieces.{pieces}
+use Rattle.volume.specs.Nodes.{file_byte}
+use Rattle.volume.specs.Pieces.{pieces}
 use Rattle.store.specs.World.{Reads}
 use Rattle.directory.specs.Standing.{NoneNamed}
 use Rattle.directory.proofs.positions.position.Given as goal

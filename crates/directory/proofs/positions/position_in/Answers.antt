@@ -1,8 +1,8 @@
 use Rattle.std.proofs.Common.{◌≡◌, ap, sym, ◌∙◌, true, false, arith}
 use Rattle.std.specs.Ordering.{eq_by_cmp}
 use Rattle.std.specs.Prelude.{slice_index}
-use Rattle.inode.specs.tree.Names.{name_cmp}
-use Rattle.store.specs.volume.Nodes.{entry_name}
+use Rattle.tree.specs.Names.{name_cmp}
+use Rattle.volume.specs.Nodes.{entry_name}
 use Rattle.directory.proofs.Names.{same_decides}
 use Rattle.directory.proofs.Standing.{none_more, none_at_first, none_up_to}
 use Rattle.directory.proofs.positions.position_in.Goals as goal

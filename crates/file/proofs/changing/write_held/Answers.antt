@@ -2,8 +2,8 @@ use Rattle.std.proofs.Common.{rules, ◌≡◌, ◌<◌, ◌≤◌, ◌+◌, ◌
 use Rattle.std.proofs.lemmas.Nat.{mod_below}
 use Rattle.store.proofs.Turns.{turns_as, turns_then, turns_none}
 use Rattle.store.proofs.Ending.{ends_exit}
-use Rattle.file_pages.proofs.Rest.{wide}
-use Rattle.file_pages.proofs.Sizes.{some_pages, index_in_row, next_starts, next_index}
+use Rattle.file.proofs.Rest.{wide}
+use Rattle.file.proofs.Sizes.{some_pages, index_in_row, next_starts, next_index}
 use Rattle.file.proofs.HeldRow.{row_none, row_zone, row_goes_on, row_written}
 use Rattle.file.proofs.changing.write_held.Goals as goal
 

@@ -1,5 +1,5 @@
 use Rattle.std.proofs.Common.{◌≡◌, ◌<◌, ◌≤◌, ◌+◌, ◌-◌, ◌/◌, ◌%◌, ℕ, length}
-use Rattle.store.specs.volume.Pieces.{pieces}
+use Rattle.volume.specs.Pieces.{pieces}
 use Rattle.store.specs.World.{Turns}
 use Rattle.file.specs.Changing.{IsHeldRow}
 use Rattle.file.proofs.HeldRow.{RowSoFar}

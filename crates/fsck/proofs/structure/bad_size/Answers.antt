@@ -5,7 +5,7 @@ use Rattle.volume.specs.Findings.{has_bad_size}
 use Rattle.volume.specs.Verdict.{place_limit}
 use Rattle.image.specs.Contents.{contents}
 use Rattle.image.proofs.Leasts.{first_least}
-use Rattle.passes.proofs.Contents.{out_of_range}
+use Rattle.image.proofs.Contents.{out_of_range}
 use Rattle.fsck.proofs.structure.bad_size.Goals as goal
 
 pub returns : goal.returns

@@ -5,7 +5,7 @@ use Rattle.volume.specs.Findings.{lacks_inode_bit}
 use Rattle.volume.specs.Verdict.{place_limit}
 use Rattle.image.specs.Contents.{contents}
 use Rattle.image.proofs.Leasts.{some_least, none_least}
-use Rattle.passes.proofs.Contents.{is_geometry}
+use Rattle.image.proofs.Contents.{is_geometry}
 use Rattle.fsck.proofs.structure.inode_bit.Goals as goal
 
 pub returns-then-has_inode_bit : goal.returns-then-has_inode_bit

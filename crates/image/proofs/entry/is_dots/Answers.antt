@@ -2,7 +2,7 @@ use Rattle.std.proofs.Common.{◌≡◌, false, sym, ap, ◌∙◌}
 use Rattle.std.specs.Prelude.{◌||◌}
 use lib.Pointwise.{pointwise}
 use lib.Dec.{eqb}
-use Rattle.volume.specs.tree.Names.{same_name, dot, dot_dot}
+use Rattle.tree.specs.Names.{same_name, dot, dot_dot}
 use Rattle.image.proofs.Texts.{same_names}
 use Rattle.image.proofs.entry.is_dots.Goals as goal
 

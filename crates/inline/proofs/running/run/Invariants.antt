@@ -1,7 +1,7 @@
 use Rattle.std.proofs.Common.{◌≡◌, ◌≤◌, List, true}
 use Rattle.std.specs.VecDeque.{deque_capacity}
-use Rattle.true_replies.specs.marks.Marks.{Mark}
-use Rattle.true_replies.specs.marks.Opening.{Opening}
+use Rattle.records.specs.Marks.{Mark}
+use Rattle.records.specs.Opening.{Opening}
 use Rattle.inline.specs.Running.{Kept}
 use Rattle.inline.proofs.Going.{HasGone}
 use Rattle.inline.proofs.running.run.Given as goal

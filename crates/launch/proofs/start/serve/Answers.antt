@@ -1,7 +1,7 @@
 use Rattle.std.proofs.Common.{subst, map, List}
 use Rattle.std.specs.Prelude.{All}
 use Rattle.inline.specs.Inline.{IsReady}
-use Rattle.startup.specs.Starting.{opening_of}
+use Rattle.mounting.specs.Starting.{opening_of}
 use Rattle.launch.proofs.start.serve.Goals as goal
 
 pub start_and_run-requires-clause-ready : goal.start_and_run-requires-clause-ready

@@ -1,7 +1,7 @@
 use Rattle.std.specs.Prelude.{map}
-use Rattle.reissue.specs.marks.Opening.{contents_at}
-use Rattle.startup.specs.mounting.Laws.{sizes_in}
-use Rattle.startup.specs.Starting.{opening_of}
+use Rattle.records.specs.Opening.{contents_at}
+use Rattle.mounting.specs.Laws.{sizes_in}
+use Rattle.mounting.specs.Starting.{opening_of}
 use Rattle.launch.proofs.start.serve.Given as goal
 
 -- the service's board, its volume and the sizes that its superblock gives, the policy and the drivers, from what is handed over

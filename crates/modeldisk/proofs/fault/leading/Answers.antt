@@ -1,5 +1,5 @@
 use Rattle.std.proofs.Common.{◌≡◌, ◌+◌, ◌-◌, arith}
-use Rattle.sector_mover.specs.Order.{below}
+use Rattle.modeldisk.specs.Order.{below}
 use Rattle.modeldisk.proofs.FaultLaws.{leading_all, leading_rising, leading_swept}
 use Rattle.modeldisk.proofs.fault.leading.Goals as goal
 

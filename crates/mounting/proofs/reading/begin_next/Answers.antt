@@ -1,5 +1,5 @@
 use Rattle.std.proofs.Common.{◌≡◌, ◌+◌, ℕ, arith, ◌∙◌, ap, Some}
-use Rattle.reissue.specs.pending_table.Moves.{Begun, begun_by, put}
+use Rattle.reissue.specs.Moves.{Begun, begun_by, put}
 use Rattle.reissue.specs.Transfers.{begun_in}
 use Rattle.mounting.specs.Sought.{piece}
 use Rattle.mounting.proofs.Steps.{begun_piece}

@@ -1,6 +1,6 @@
 use Rattle.std.proofs.Common.{◌≡◌, ◌<◌, ℕ, length, arith, refl, sym, ◌∙◌, ap, rules}
 use Rattle.std.specs.Prelude.{vec_len, ◌==◌}
-use Rattle.reissue.specs.pending_table.pending_queue.declared.ask.Settled.TheVariants as settled
+use Rattle.reissue.specs.declared.ask.Settled.TheVariants as settled
 use Rattle.reissue.specs.Transfers.{link_of, table_of}
 use Rattle.mounting.specs.Sought.{place_of}
 use Rattle.mounting.proofs.Searching.{before_later}

@@ -1,6 +1,6 @@
 use Rattle.std.proofs.Common.{◌≡◌, ◌+◌, ◌-◌, ◌*◌, ◌≤◌, ◌<◌, ◌%◌, length, false}
 use Rattle.std.specs.Prelude.{vec_capacity}
-use Rattle.reissue.specs.marks.Told.{took_end}
+use Rattle.records.specs.Told.{took_end}
 use Rattle.reissue.specs.Posts.{HasRoom}
 use Rattle.reissue.specs.Transfers.{link_of, table_of}
 use Rattle.mounting.specs.Reading.{Midway}

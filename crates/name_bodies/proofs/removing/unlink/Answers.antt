@@ -1,5 +1,5 @@
 use Rattle.std.proofs.Common.{◌≡◌, ◌<◌, ◌^◌, ◌∙◌, true, false, sym, subst, arith}
-use Rattle.store.specs.volume.Nodes.{is_directory_mode}
+use Rattle.volume.specs.Nodes.{is_directory_mode}
 use Rattle.descriptors.specs.Table.{files_of}
 use Rattle.store.proofs.Turns.{turns_as, turns_then}
 use Rattle.store.proofs.Ending.{ends_exit, turns_three}

@@ -1,4 +1,4 @@
-use Rattle.store.specs.volume.Pieces.{pieces}
+use Rattle.volume.specs.Pieces.{pieces}
 use Rattle.store.proofs.Turns.{turns_as, ends_as}
 use Rattle.node_steps.proofs.Storing.{attributes_set, number_is}
 use Rattle.node_steps.proofs.attributes.set_attributes.Goals as goal

@@ -1,4 +1,4 @@
-use Rattle.store.specs.volume.Pieces.{pieces}
+use Rattle.volume.specs.Pieces.{pieces}
 use Rattle.store.proofs.Turns.{turns_as, turns_then}
 use Rattle.store.proofs.Ending.{ends_exit}
 use Rattle.node_steps.proofs.Freeing.{frees_node}

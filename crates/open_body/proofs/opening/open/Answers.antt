@@ -12,8 +12,8 @@ use Rattle.store.specs.Halts.{Ends}
 use Rattle.descriptors.specs.Files.{HasFiles}
 use Rattle.descriptors.specs.Table.{files_of}
 use Rattle.store.proofs.Turns.{turns_as, turns_none}
-use Rattle.walk.specs.declared.stop.Stop.{Stop}
-use Rattle.walk.specs.Stops.{Answers}
+use Rattle.path.specs.declared.stop.Stop.{Stop}
+use Rattle.path.specs.Stops.{Answers}
 use Rattle.open_body.specs.Opening.{IsPut, Readies, open_named}
 use Rattle.open_body.proofs.Slots.{is_begun}
 use Rattle.open_body.proofs.OpenBody.{begin_refused, not_large, open_done, open_halted, ready_refused}

@@ -4,17 +4,17 @@ use Rattle.std.specs.List.{All}
 use Rattle.std.specs.Prelude.{IsTrue, is_some}
 use Rattle.tree.specs.Tree.{Tree}
 use Rattle.tree.specs.Walk.{is_there, read_path}
-use Rattle.store.specs.volume.Holds.{HoldsVolume}
-use Rattle.store.specs.volume.Reading.{Disk}
+use Rattle.volume.specs.Holds.{HoldsVolume}
+use Rattle.volume.specs.Reading.{Disk}
 use Rattle.store.proofs.Turns.{turns_as, turns_none, turns_then}
-use Rattle.walk.specs.declared.place.Found.{Found}
-use Rattle.walk.specs.Places.{Finds}
-use Rattle.walk.specs.Stops.{Answers}
-use Rattle.walk.proofs.Ending.{answers_as, answers_exit}
-use Rattle.make_bodies.specs.Making.{MakesFileOr}
-use Rattle.make_bodies.specs.Vacant.{IsVacant}
-use Rattle.make_bodies.proofs.Ending.{answers_refused}
-use Rattle.make_bodies.proofs.Vacancies.{parent_node}
+use Rattle.path.specs.declared.place.Found.{Found}
+use Rattle.path.specs.Places.{Finds}
+use Rattle.path.specs.Stops.{Answers}
+use Rattle.path.proofs.Ending.{answers_as, answers_exit}
+use Rattle.open_body.specs.Making.{MakesFileOr}
+use Rattle.open_body.specs.Vacant.{IsVacant}
+use Rattle.open_body.proofs.Ending.{answers_refused}
+use Rattle.open_body.proofs.Vacancies.{parent_node}
 use Rattle.open_body.specs.Opening.{Readies, ReadiesThere, open_named}
 use Rattle.open_body.proofs.Missing.{file_readies, missing_vacant, not_looked_up, not_read, ready_as, refused_as}
 use Rattle.open_body.proofs.readying.ready.Goals as goal

@@ -1,12 +1,12 @@
 use Rattle.std.proofs.Common.{◌<◌, ◌^◌, sym, subst, ◌∙◌, arith}
-use Rattle.store.specs.volume.Pieces.{pieces}
-use Rattle.store.specs.volume.Reading.{Disk}
+use Rattle.volume.specs.Pieces.{pieces}
+use Rattle.volume.specs.Reading.{Disk}
 use Rattle.store.proofs.Turns.{turns_as, turns_then}
-use Rattle.walk.proofs.zone_laws.Inodes.{inode_is}
-use Rattle.bodies.specs.file.file_pages.Changing.{MayChange}
+use Rattle.zone.proofs.ZoneInodes.{inode_is}
+use Rattle.file.specs.PageChanges.{MayChange}
 use Rattle.bodies.proofs.Made.{node_there}
-use Rattle.byte_bodies.specs.Dated.{SetsSizeAt}
-use Rattle.make_bodies.proofs.Ending.{answers_halted}
+use Rattle.bodies.specs.Dated.{SetsSizeAt}
+use Rattle.open_body.proofs.Ending.{answers_halted}
 use Rattle.open_body.proofs.There.{there_emptied, there_kept, there_may_change, there_refused}
 use Rattle.open_body.proofs.readying.ready_there.Goals as goal
 

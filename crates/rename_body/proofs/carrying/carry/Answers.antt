@@ -1,7 +1,7 @@
 use Rattle.std.proofs.Common.{sym, subst}
 use Rattle.descriptors.specs.Table.{files_of}
 use Rattle.store.proofs.Turns.{turns_as}
-use Rattle.moving.specs.Leads.{Makes}
+use Rattle.node_steps.specs.Leads.{Makes}
 use Rattle.rename_body.specs.Carrying.{MayCarry, carried}
 use Rattle.rename_body.proofs.carrying.carry.Goals as goal
 

@@ -6,10 +6,10 @@ use Rattle.tree.specs.NameCalls.{is_same}
 use Rattle.descriptors.specs.Table.{files_of}
 use Rattle.store.proofs.Turns.{turns_as, turns_then}
 use Rattle.store.proofs.Ending.{ends_exit}
-use Rattle.rename_asked.proofs.name_bodies.Both.{reads_both}
-use Rattle.rename_asked.specs.declared.asked.Asked.{Asked}
-use Rattle.rename_asked.specs.Asked.{FindsAsked, IsNamed}
-use Rattle.rename_asked.specs.Barred.{SaysBarred}
+use Rattle.name_bodies.proofs.Both.{reads_both}
+use Rattle.rename_body.specs.declared.asked.Asked.{Asked}
+use Rattle.rename_body.specs.Asked.{FindsAsked, IsNamed}
+use Rattle.rename_body.specs.Barred.{SaysBarred}
 use Rattle.rename_body.specs.Carrying.{SaysFits}
 use Rattle.rename_body.proofs.Going.{barred, can_carry, is_found, is_ready, no_room, not_found, renamed, stays, volume_of}
 use Rattle.rename_body.proofs.renamed.rename.Goals as goal

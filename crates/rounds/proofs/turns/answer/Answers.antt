@@ -1,5 +1,5 @@
 use Rattle.std.proofs.Common.{◌∙◌, sym, subst}
-use Rattle.playing.specs.arrivals.declared.arrived.Arrived.{Arrived}
+use Rattle.schedule.specs.declared.arrived.Arrived.{Arrived}
 use Rattle.rounds.proofs.Standing.{of_call, answered, answered_over, answered_to, cut_off, cut_to}
 use Rattle.rounds.proofs.turns.answer.Goals as goal
 

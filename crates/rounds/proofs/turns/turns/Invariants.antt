@@ -1,6 +1,6 @@
 use Rattle.std.proofs.Common.{◌≤◌, ◌+◌}
 use Rattle.playing.specs.PlayView.{work_left}
-use Rattle.playing_laws.specs.Moments.{Resting}
+use Rattle.playing.specs.Moments.{Resting}
 use Rattle.rounds.specs.Runs.{RunsOn, IsIdle}
 use Rattle.rounds.proofs.turns.turns.Given as goal
 

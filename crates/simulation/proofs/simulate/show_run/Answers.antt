@@ -1,4 +1,4 @@
-use Rattle.world.specs.run_transcript.Shown.{transcript_of}
+use Rattle.transcript.specs.ShownTranscript.{transcript_of}
 use Rattle.simulation.proofs.Runs.{run_is_shown, run_is_not_shown}
 use Rattle.simulation.proofs.simulate.show_run.Goals as goal
 

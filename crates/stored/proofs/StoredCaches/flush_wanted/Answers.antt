@@ -1,6 +1,6 @@
 use Rattle.std.proofs.Common.{refl}
-use Rattle.cache.specs.slots.Slots.{held}
-use Rattle.cache.specs.slots.Edits.{AllClean}
+use Rattle.cache.specs.Slots.{held}
+use Rattle.cache.specs.Edits.{AllClean}
 use Rattle.cache.proofs.Placing.{keeps_none}
 use Rattle.stored.specs.World.{stored_caching, GoesOn}
 use Rattle.stored.proofs.Flushes.{stays_clean}

@@ -1,5 +1,5 @@
 use Rattle.std.proofs.Common.{take, refl}
-use Rattle.run_log.specs.Noted.{marks_in, all_noted, nothing_noted}
+use Rattle.schedule.specs.Noted.{marks_in, all_noted, nothing_noted}
 use Rattle.transcript.proofs.Notes.{next_noted, shows_one, shows_same}
 use Rattle.transcript.proofs.shown.shown_marks.Goals as goal
 use Rattle.transcript.proofs.shown.shown_marks.Goals.{in-Some+in_ok-push, in_default}

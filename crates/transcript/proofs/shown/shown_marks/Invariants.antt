@@ -1,7 +1,7 @@
 use Rattle.std.proofs.Common.{◌≡◌, take}
 use Rattle.std.specs.Prelude.{map, reverse}
-use Rattle.run_log.specs.Noted.{marks_in, all_noted, nothing_noted}
-use Rattle.transcript_text.specs.Text.{mark_of}
+use Rattle.schedule.specs.Noted.{marks_in, all_noted, nothing_noted}
+use Rattle.reply_text.specs.TranscriptText.{mark_of}
 use Rattle.transcript.specs.Heard.{IsHeard}
 use Rattle.transcript.proofs.shown.shown_marks.Given as goal
 

@@ -1,5 +1,5 @@
 use Rattle.std.proofs.Common.{refl}
-use Rattle.fsck.specs.volume.Verdict.{verdict_of}
+use Rattle.volume.specs.Verdict.{verdict_of}
 use Rattle.volume_tools.proofs.verify.verdict_on.Goals as goal
 
 pub returns-in-Err-check-clause-refused : goal.returns-in-Err-check-clause-refused

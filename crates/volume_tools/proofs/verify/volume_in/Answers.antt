@@ -1,7 +1,7 @@
 use Rattle.std.proofs.Common.{◌≡◌, ◌+◌, ◌*◌, ◌-◌, ◌%◌, ℕ, length, take, drop, sym, ap, ◌∙◌, arith}
 use Rattle.std.specs.Prelude.{Ok}
 use Rattle.std.proofs.lemmas.Bool.{eqb-true}
-use Rattle.partition.specs.Places.{volume_place}
+use Rattle.media.specs.Places.{volume_place}
 use Rattle.volume_tools.specs.Verifying.{sectors_or}
 use Rattle.volume_tools.proofs.Places.{at_place}
 use Rattle.volume_tools.proofs.verify.volume_in.Goals as goal

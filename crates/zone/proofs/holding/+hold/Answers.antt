@@ -1,4 +1,4 @@
-use Rattle.store.specs.volume.Pieces.{pieces}
+use Rattle.volume.specs.Pieces.{pieces}
 use Rattle.store.proofs.Turns.{turns_none, turns_as, turns_then, ends_as}
 use Rattle.store.proofs.Ending.{ends_exit}
 use Rattle.zone.proofs.Filling.{here_above}

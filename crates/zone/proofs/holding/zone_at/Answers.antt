@@ -1,6 +1,6 @@
 use Rattle.std.proofs.Common.{◌∙◌, ap}
-use Rattle.store.specs.volume.Pieces.{pieces}
-use Rattle.store.specs.volume.Places.{zone_at}
+use Rattle.volume.specs.Pieces.{pieces}
+use Rattle.volume.specs.Places.{zone_at}
 use Rattle.store.proofs.Turns.{reads_then}
 use Rattle.store.proofs.Ending.{ends_cut_exit}
 use Rattle.zone.proofs.holding.zone_at.Goals as goal

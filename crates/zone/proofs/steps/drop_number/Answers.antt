@@ -14,5 +14,5 @@ returns-clause-turns g c =
     let v = c.args.geometry.now in
     turns_three _ g.met.B.Blocks.lawful _ _ _ _ _ _ _ _
     (λ d e f h p a r. ends_as c.give.result _ _ _ _ (λ x b. number_dropped v d e f h c.args.block c.args.index c.in_ok-zone.zone p.0 p.1 a b)
-    (λ t. subst (λ y. Rattle.std.specs.Prelude.IsTrue (Rattle.store.specs.volume.Reading.is_data_zone v y)) (sym p.1) t.zone) r)
+    (λ t. subst (λ y. Rattle.std.specs.Prelude.IsTrue (Rattle.volume.specs.Reading.is_data_zone v y)) (sym p.1) t.zone) r)
     c.in_ok-zone.ensures.reads c.in_ok-set_number.ensures.turns c.give.ensures.turns

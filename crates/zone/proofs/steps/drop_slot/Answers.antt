@@ -1,5 +1,5 @@
 use Rattle.std.proofs.Common.{sym, ap, subst}
-use Rattle.store.specs.volume.Nodes.{slot}
+use Rattle.volume.specs.Nodes.{slot}
 use Rattle.store.proofs.Turns.{turns_then, ends_as}
 use Rattle.store.proofs.Ending.{ends_exit, turns_three}
 use Rattle.zone.proofs.Taking.{slot_dropped}
@@ -15,5 +15,5 @@ returns-clause-turns g c =
     let v = c.args.geometry.now in
     turns_three _ g.met.B.Blocks.lawful _ _ _ _ _ _ _ _
     (λ d e f h p a r. ends_as c.give.result _ _ _ _ (λ x b. slot_dropped v d e f h c.args.inode c.args.slot _ c.in_ok-changed.changed p.0 p.1 (λ _. slot c.in_ok-changed.changed c.args.slot) a b)
-    (λ t. subst (λ y. Rattle.std.specs.Prelude.IsTrue (Rattle.store.specs.volume.Reading.is_data_zone v y)) (sym (ap (λ i. slot i c.args.slot) p.1)) t.zone) r)
+    (λ t. subst (λ y. Rattle.std.specs.Prelude.IsTrue (Rattle.volume.specs.Reading.is_data_zone v y)) (sym (ap (λ i. slot i c.args.slot) p.1)) t.zone) r)
     c.in_ok-changed.ensures.reads c.in_ok-store.ensures.turns c.give.ensures.turns

@@ -1,5 +1,5 @@
 use Rattle.std.proofs.Common.{◌∙◌, sym, subst}
-use Rattle.store.specs.volume.Pieces.{pieces}
+use Rattle.volume.specs.Pieces.{pieces}
 use Rattle.store.proofs.Turns.{turns_then}
 use Rattle.zone.specs.Steps.{HasRoom}
 use Rattle.store.proofs.Ending.{ends_exit, turns_three}

@@ -1,6 +1,6 @@
 use Rattle.std.proofs.Common.{◌∙◌, sym, ap, subst}
-use Rattle.store.specs.volume.Pieces.{pieces}
-use Rattle.store.specs.volume.Nodes.{slot}
+use Rattle.volume.specs.Pieces.{pieces}
+use Rattle.volume.specs.Nodes.{slot}
 use Rattle.store.proofs.Turns.{turns_then}
 use Rattle.zone.specs.Steps.{HasRoom}
 use Rattle.store.proofs.Ending.{ends_exit, turns_three}

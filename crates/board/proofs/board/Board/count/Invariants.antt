@@ -1,4 +1,4 @@
-use Rattle.legal.specs.marks.Marks.{Took}
+use Rattle.records.specs.Marks.{Took}
 use Rattle.tree.specs.Answers.{answer_of}
 use Rattle.board.proofs.board.Board.count.Given as goal
 

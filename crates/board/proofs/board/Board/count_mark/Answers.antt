@@ -1,5 +1,5 @@
 use Rattle.std.proofs.Common.{ap, subst, sym, ◌∙◌, ◌≡◌, Some}
-use Rattle.legal.specs.marks.Marks.{Mark, IsBeginning}
+use Rattle.records.specs.Marks.{Mark, IsBeginning}
 use Rattle.board.specs.View.{View, SeatState, hosting, called, guest_of}
 use Rattle.board.specs.Steps.{IsCallOf, OwnsCalls}
 use Rattle.board.proofs.Joins.{caller_learns}

@@ -1,5 +1,5 @@
 use Rattle.std.proofs.Common.{rules, ap, ◌∙◌}
-use Rattle.legal.specs.marks.Marks.{gave_up}
+use Rattle.records.specs.Marks.{gave_up}
 use Rattle.board.specs.View.{SeatState}
 use Rattle.board.proofs.Steps.{gives_up}
 use Rattle.board.proofs.board.Board.give_up.Goals as goal

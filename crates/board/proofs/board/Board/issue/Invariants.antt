@@ -1,4 +1,4 @@
-use Rattle.legal.specs.marks.Marks.{Issued}
+use Rattle.records.specs.Marks.{Issued}
 use Rattle.board.proofs.board.Board.issue.Given as goal
 
 abbrev pub ghosts-issue_as : goal.ghosts-issue_as

@@ -1,5 +1,5 @@
 use Rattle.std.proofs.Common.{rules, ap, ◌∙◌}
-use Rattle.legal.specs.marks.Marks.{is_counted}
+use Rattle.records.specs.Marks.{is_counted}
 use Rattle.board.specs.View.{SeatState}
 use Rattle.board.proofs.Moves.{notes_uncounted}
 use Rattle.board.proofs.board.Board.issue_as.Goals as goal

@@ -1,6 +1,6 @@
 use Rattle.std.proofs.Common.{ap, sym, subst, ◌∙◌, ◌≡◌, List}
-use Rattle.legal.specs.marks.Marks.{Mark}
-use Rattle.legal.specs.Session.{IsLonger}
+use Rattle.records.specs.Marks.{Mark}
+use Rattle.records.specs.Session.{IsLonger}
 use Rattle.board.specs.View.{SeatState}
 use Rattle.board.specs.Steps.{Meets}
 use Rattle.board.proofs.Records.{longer_met}

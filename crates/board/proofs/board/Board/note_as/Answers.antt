@@ -1,5 +1,5 @@
 use Rattle.std.proofs.Common.{rules, ap, sym, subst, ◌∙◌}
-use Rattle.legal.specs.marks.Marks.{Mark}
+use Rattle.records.specs.Marks.{Mark}
 use Rattle.board.specs.View.{SeatState}
 use Rattle.board.specs.Steps.{IsEvent}
 use Rattle.board.proofs.Moves.{notes}

@@ -1,5 +1,5 @@
 use Rattle.std.proofs.Common.{rules, ap, sym, subst, ◌∙◌, ◌≡◌, true}
-use Rattle.legal.specs.marks.Marks.{gave_up}
+use Rattle.records.specs.Marks.{gave_up}
 use Rattle.board.specs.View.{SeatState}
 use Rattle.board.specs.Steps.{IsCallOf}
 use Rattle.board.proofs.Moves.{calls}

@@ -1,9 +1,9 @@
 use Rattle.std.proofs.Common.{sym, subst}
-use Rattle.slots.specs.declared.table.Slots.{Slots}
-use Rattle.slots.specs.Edits.{Leaves, AllStay}
-use Rattle.slots.proofs.Edits.{leaves_none, leaves_then}
+use Rattle.cache.specs.declared.table.Slots.{Slots}
+use Rattle.cache.specs.Edits.{Leaves, AllStay}
+use Rattle.cache.proofs.Edits.{leaves_none, leaves_then}
 use Rattle.cache.proofs.Placing.{keeps_none, keeps_then, keeps_took}
-use Rattle.slots.proofs.Staying.{all_none, all_then}
+use Rattle.cache.proofs.Staying.{all_none, all_then}
 use Rattle.cache.proofs.Flushes.{follows_none, follows_then}
 use Rattle.cache.proofs.cache.Cache.begin_read.Goals as goal
 

@@ -1,6 +1,5 @@
-use Rattle.cache.specs.Calls.{caching, Keeps, WantsFlush, LinkGoesOn}
-use Rattle.slots.specs.Edits.{Leaves, AllStay}
-use Rattle.cache.specs.Calls.{messages_left}
+use Rattle.cache.specs.Calls.{caching, Keeps, WantsFlush, LinkGoesOn, messages_left}
+use Rattle.cache.specs.Edits.{Leaves, AllStay}
 use Rattle.cache.proofs.cache.Cache.begin_read.Given as goal
 
 abbrev pub invariant-tries : goal.invariant-tries

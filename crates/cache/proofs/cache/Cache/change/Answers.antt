@@ -1,8 +1,8 @@
 use Rattle.std.proofs.Common.{refl, sym, ap, ◌∙◌}
 use Rattle.cache.specs.Calls.{caching, caching_of}
 use Rattle.cache.specs.Frames.{with_bytes}
-use Rattle.slots.specs.declared.slot.Slot.{Slot}
-use Rattle.slots.proofs.Edits.{one_slot, leaves_set}
+use Rattle.cache.specs.declared.slot.Slot.{Slot}
+use Rattle.cache.proofs.Edits.{one_slot, leaves_set}
 use Rattle.cache.proofs.Placing.{rewritten, changed_row}
 use Rattle.cache.proofs.cache.Cache.change.Goals as goal
 

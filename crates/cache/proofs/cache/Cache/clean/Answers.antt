@@ -1,6 +1,6 @@
 use Rattle.cache.proofs.Placing.{keeps_none}
-use Rattle.slots.proofs.Edits.{leaves_none}
-use Rattle.slots.proofs.Staying.{but_none}
+use Rattle.cache.proofs.Edits.{leaves_none}
+use Rattle.cache.proofs.Staying.{but_none}
 use Rattle.cache.proofs.Flushes.{follows_none}
 use Rattle.cache.proofs.cache.Cache.clean.Goals as goal
 

@@ -1,7 +1,7 @@
 use Rattle.std.proofs.Common.{◌≡◌, refl, sym, subst, List}
-use Rattle.slots.specs.declared.slot.Slot.{Slot}
-use Rattle.slots.specs.Edits.{IsAt}
-use Rattle.slots.proofs.Held.{in_range, has_one, has_none}
+use Rattle.cache.specs.declared.slot.Slot.{Slot}
+use Rattle.cache.specs.Edits.{IsAt}
+use Rattle.cache.proofs.Held.{in_range, has_one, has_none}
 use Rattle.cache.specs.Calls.{Caching, caching, caching_of, Keeps}
 use Rattle.cache.proofs.Placing.{keeps_none}
 use Rattle.cache.proofs.Flushes.{follows_none}

@@ -1,10 +1,10 @@
 use Rattle.std.proofs.Common.{ℕ, refl, sym, subst}
-use Rattle.slots.specs.Edits.{StayBut}
-use Rattle.slots.specs.Order.{IsVictim}
-use Rattle.slots.specs.declared.state.State.TheVariants.{Clean}
-use Rattle.slots.proofs.Held.{in_range}
-use Rattle.slots.proofs.Filling.{filled_at}
-use Rattle.slots.proofs.Staying.{but_then, all_but}
+use Rattle.cache.specs.Edits.{StayBut}
+use Rattle.cache.specs.Order.{IsVictim}
+use Rattle.cache.specs.declared.state.State.TheVariants.{Clean}
+use Rattle.cache.proofs.Held.{in_range}
+use Rattle.cache.proofs.Filling.{filled_at}
+use Rattle.cache.proofs.Staying.{but_then, all_but}
 use Rattle.cache.specs.Calls.{caching, caching_of}
 use Rattle.cache.proofs.Placing.{keeps_then, keeps_read, reads_after, placed}
 use Rattle.cache.proofs.Fetching.{misses_cut, misses_filled}

@@ -1,7 +1,7 @@
 use Rattle.std.proofs.Common.{refl, sym, ◌∙◌}
 use Rattle.cache.specs.Calls.{caching, caching_of}
 use Rattle.cache.proofs.Placing.{keeps_none, vacated, clean_passes, forgotten_clean, forgotten_other, forgotten_none}
-use Rattle.slots.proofs.Staying.{frame_stays}
+use Rattle.cache.proofs.Staying.{frame_stays}
 use Rattle.cache.proofs.cache.Cache.forget.Goals as goal
 
 pub returns-then-is_clean-clause-keeps : goal.returns-then-is_clean-clause-keeps

@@ -1,8 +1,8 @@
 use Rattle.std.proofs.Common.{ℕ, List, take, sym, ap, ◌∙◌, Option, Some}
 use Rattle.cache.specs.Frames.{frame_of}
-use Rattle.slots.specs.declared.slot.Slot.{Slot}
-use Rattle.slots.proofs.Edits.{one_slot}
-use Rattle.slots.proofs.Held.{held_at}
+use Rattle.cache.specs.declared.slot.Slot.{Slot}
+use Rattle.cache.proofs.Edits.{one_slot}
+use Rattle.cache.proofs.Held.{held_at}
 use Rattle.cache.proofs.cache.Cache.frame.Goals as goal
 
 pub returns-clause-bytes : goal.returns-clause-bytes

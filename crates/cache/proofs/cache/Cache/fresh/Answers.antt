@@ -1,7 +1,7 @@
 use Rattle.std.proofs.Common.{refl, sym, ap, ◌∙◌}
-use Rattle.slots.specs.declared.slot.Slot.{Slot}
-use Rattle.slots.proofs.Edits.{one_slot, leaves_set}
-use Rattle.slots.proofs.Held.{in_range, has_one, has_none}
+use Rattle.cache.specs.declared.slot.Slot.{Slot}
+use Rattle.cache.proofs.Edits.{one_slot, leaves_set}
+use Rattle.cache.proofs.Held.{in_range, has_one, has_none}
 use Rattle.cache.specs.Calls.{caching, caching_of}
 use Rattle.cache.proofs.Placing.{rewritten, zero_row}
 use Rattle.cache.proofs.Flushes.{follows_none}

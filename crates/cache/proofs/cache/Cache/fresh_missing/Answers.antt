@@ -1,9 +1,9 @@
 use Rattle.std.proofs.Common.{ℕ, subst, refl, sym, ap}
-use Rattle.slots.specs.Edits.{StayBut}
-use Rattle.slots.specs.Order.{IsVictim}
-use Rattle.slots.specs.declared.state.State.TheVariants.{Dirty}
-use Rattle.slots.proofs.Held.{in_range}
-use Rattle.slots.proofs.Filling.{filled_at}
+use Rattle.cache.specs.Edits.{StayBut}
+use Rattle.cache.specs.Order.{IsVictim}
+use Rattle.cache.specs.declared.state.State.TheVariants.{Dirty}
+use Rattle.cache.proofs.Held.{in_range}
+use Rattle.cache.proofs.Filling.{filled_at}
 use Rattle.cache.specs.Calls.{caching, caching_of}
 use Rattle.cache.specs.declared.cache.Cache.{Cache}
 use Rattle.cache.proofs.Placing.{blanked, blanks_cut}

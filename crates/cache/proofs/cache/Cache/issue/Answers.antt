@@ -1,12 +1,12 @@
 use Rattle.std.proofs.Common.{◌≡◌, refl, sym, ap, subst, ◌∙◌, Err}
 use Rattle.cache.specs.Calls.{Caching, caching, caching_of, Keeps}
-use Rattle.slots.specs.declared.slot.Slot.{Slot}
-use Rattle.slots.proofs.Issuing.{issued_at, write_leaves, dirty_parts}
+use Rattle.cache.specs.declared.slot.Slot.{Slot}
+use Rattle.cache.proofs.Issuing.{issued_at, write_leaves, dirty_parts}
 use Rattle.cache.proofs.Beginning.{longer, refusing, free_block, write_one, busy_begun}
-use Rattle.slots.proofs.Edits.{one_slot, leaves_none}
-use Rattle.slots.proofs.Held.{in_range, held_at}
+use Rattle.cache.proofs.Edits.{one_slot, leaves_none}
+use Rattle.cache.proofs.Held.{in_range, held_at}
 use Rattle.cache.proofs.Placing.{keeps_none}
-use Rattle.slots.proofs.Staying.{but_none, set_others}
+use Rattle.cache.proofs.Staying.{but_none, set_others}
 use Rattle.cache.proofs.cache.Cache.issue.Goals as goal
 
 pub begin-requires-clause-free : goal.begin-requires-clause-free

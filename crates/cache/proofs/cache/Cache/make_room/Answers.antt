@@ -1,8 +1,8 @@
 use Rattle.std.proofs.Common.{refl}
 use Rattle.cache.specs.Calls.{caching, caching_of}
-use Rattle.slots.proofs.Filling.{free_at, vacated_none}
+use Rattle.cache.proofs.Filling.{free_at, vacated_none}
 use Rattle.cache.proofs.Placing.{keeps_then, vacated}
-use Rattle.slots.proofs.Staying.{but_then, set_others}
+use Rattle.cache.proofs.Staying.{but_then, set_others}
 use Rattle.cache.proofs.Fetching.{no_place}
 use Rattle.cache.proofs.cache.Cache.make_room.Goals as goal
 

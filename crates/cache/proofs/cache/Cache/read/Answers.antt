@@ -1,7 +1,7 @@
 use Rattle.cache.proofs.Placing.{reads_cut, reads_after}
-use Rattle.slots.proofs.Staying.{all_then}
+use Rattle.cache.proofs.Staying.{all_then}
 use Rattle.cache.proofs.Flushes.{follows_then}
-use Rattle.slots.proofs.Edits.{leaves_then}
+use Rattle.cache.proofs.Edits.{leaves_then}
 use Rattle.cache.proofs.cache.Cache.read.Goals as goal
 
 pub returns-in_err-reading-clause-runs : goal.returns-in_err-reading-clause-runs

@@ -1,9 +1,9 @@
 use Rattle.std.proofs.Common.{◌≡◌, refl, sym, subst, arith, None, Ok}
 use Rattle.cache.specs.Calls.{Caching, caching, caching_of, Runs}
 use Rattle.cache.specs.Takes.{Takes}
-use Rattle.block_transfers.specs.Settling.{took_of, is_ended_by}
+use Rattle.cache.specs.Settling.{took_of, is_ended_by}
 use Rattle.cache.proofs.Runs.{runs_none}
-use Rattle.slots.proofs.Staying.{all_none}
+use Rattle.cache.proofs.Staying.{all_none}
 use Rattle.cache.proofs.Taking.{takes_none, takes_one, leaves_settled}
 use Rattle.cache.proofs.Flushes.{follows_none, follows_take, wanted_for}
 use Rattle.cache.proofs.cache.Cache.take.Goals as goal

@@ -1,11 +1,11 @@
 use Rattle.std.proofs.Common.{sym, ap, ◌∙◌, Ok, Result}
 use Rattle.std.proofs.lemmas.Bool.{eqb-true}
-use Rattle.block_transfers.specs.declared.settling.Took.{Took}
-use Rattle.block_transfers.specs.declared.refusals.Cut.{Cut}
+use Rattle.cache.specs.declared.settling.Took.{Took}
+use Rattle.cache.specs.declared.refusals.Cut.{Cut}
 use Rattle.cache.specs.Takes.{is_read_of}
-use Rattle.slots.proofs.Edits.{leaves_none, leaves_then}
+use Rattle.cache.proofs.Edits.{leaves_none, leaves_then}
 use Rattle.cache.proofs.Placing.{keeps_none, keeps_took, reads_cut, still_reading, reads_done}
-use Rattle.slots.proofs.Staying.{all_none, all_then}
+use Rattle.cache.proofs.Staying.{all_none, all_then}
 use Rattle.cache.proofs.Flushes.{follows_none, follows_then}
 use Rattle.cache.proofs.cache.Cache.wait.Goals as goal
 

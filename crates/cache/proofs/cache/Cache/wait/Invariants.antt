@@ -1,7 +1,6 @@
 use Rattle.reissue.specs.Transfers.{begun_in}
-use Rattle.cache.specs.Calls.{caching, Keeps, WantsFlush, LinkGoesOn}
-use Rattle.slots.specs.Edits.{Leaves, AllStay}
-use Rattle.cache.specs.Calls.{messages_left}
+use Rattle.cache.specs.Calls.{caching, Keeps, WantsFlush, LinkGoesOn, messages_left}
+use Rattle.cache.specs.Edits.{Leaves, AllStay}
 use Rattle.cache.specs.Takes.{IsBlockRead}
 use Rattle.cache.proofs.cache.Cache.wait.Given as goal
 

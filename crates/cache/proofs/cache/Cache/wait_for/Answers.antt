@@ -1,6 +1,6 @@
-use Rattle.slots.proofs.Edits.{leaves_none, leaves_then}
+use Rattle.cache.proofs.Edits.{leaves_none, leaves_then}
 use Rattle.cache.proofs.Placing.{keeps_none, keeps_then, keeps_took}
-use Rattle.slots.proofs.Staying.{but_none, but_then, all_but}
+use Rattle.cache.proofs.Staying.{but_none, but_then, all_but}
 use Rattle.cache.proofs.Flushes.{follows_none, follows_then}
 use Rattle.cache.proofs.cache.Cache.wait_for.Goals as goal
 

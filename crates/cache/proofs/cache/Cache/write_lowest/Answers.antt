@@ -1,7 +1,7 @@
 use Rattle.std.proofs.Common.{[], refl}
 use mathlib.Core.Logic.{inl}
 use Rattle.cache.specs.Calls.{caching}
-use Rattle.slots.proofs.Issuing.{issued_lowest, lowest_is_dirty}
+use Rattle.cache.proofs.Issuing.{issued_lowest, lowest_is_dirty}
 use Rattle.cache.proofs.Beginning.{stuck_for}
 use Rattle.cache.proofs.Placing.{keeps_none}
 use Rattle.cache.proofs.cache.Cache.write_lowest.Goals as goal

@@ -1,12 +1,11 @@
 use Rattle.std.proofs.Common.{sym, ap, ◌∙◌}
-use Rattle.slots.specs.Slots.{is_dirty_slot}
-use Rattle.slots.proofs.Issuing.{under_way}
+use Rattle.cache.specs.Slots.{is_dirty_slot}
+use Rattle.cache.proofs.Issuing.{under_way}
 use Rattle.cache.proofs.Beginning.{busy_under}
-use Rattle.slots.proofs.Edits.{one_slot}
+use Rattle.cache.proofs.Edits.{one_slot, leaves_none}
 use Rattle.cache.proofs.Placing.{keeps_none}
-use Rattle.slots.proofs.Staying.{but_none}
+use Rattle.cache.proofs.Staying.{but_none}
 use Rattle.cache.proofs.Flushes.{follows_none, follows_posts}
-use Rattle.slots.proofs.Edits.{leaves_none}
 use Rattle.cache.proofs.cache.Cache.write_out.Goals as goal
 
 pub returns-else-is_dirty-clause-keeps : goal.returns-else-is_dirty-clause-keeps

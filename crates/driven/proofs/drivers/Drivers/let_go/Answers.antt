@@ -1,5 +1,5 @@
 use Rattle.std.proofs.Common.{ℕ, refl, subst, rules, None}
-use Rattle.policy.specs.declared.Event.TheVariants.{Complaint}
+use Rattle.reincarnate.specs.declared.policy.Event.TheVariants.{Complaint}
 use Rattle.reincarnate.specs.Supply.{Decides}
 use Rattle.driven.specs.View.{guarded_of}
 use Rattle.driven.proofs.Keeping.{drivers_kept-complaint}

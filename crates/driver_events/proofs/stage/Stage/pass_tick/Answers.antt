@@ -1,5 +1,5 @@
 use Rattle.std.proofs.Common.{◌∙◌, sym, ap}
-use Rattle.policy.specs.Watch.{driver}
+use Rattle.reincarnate.specs.Watch.{driver}
 use Rattle.driver_events.proofs.StageLaws.{quiet_tick, fault_tick, give_up_tick, start_tick}
 use Rattle.driver_events.proofs.stage.Stage.pass_tick.Goals as goal
 

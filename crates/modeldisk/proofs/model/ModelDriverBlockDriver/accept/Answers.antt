@@ -1,4 +1,4 @@
-use Rattle.sector_mover.proofs.MoverLaws.{is_driver}
+use Rattle.modeldisk.proofs.MoverLaws.{is_driver}
 use Rattle.modeldisk.proofs.model.ModelDriverBlockDriver.accept.Goals as goal
 
 pub returns-clause-driver : goal.returns-clause-driver

@@ -1,4 +1,4 @@
-use Rattle.sector_mover.proofs.MoverLaws.{is_driver}
+use Rattle.modeldisk.proofs.MoverLaws.{is_driver}
 use Rattle.modeldisk.proofs.scripted.ScriptedDriverBlockDriver.accept.Goals as goal
 
 pub returns-then-eq-clause-driver : goal.returns-then-eq-clause-driver

@@ -1,4 +1,4 @@
-use Rattle.sector_mover.proofs.MoverLaws.{is_driver}
+use Rattle.modeldisk.proofs.MoverLaws.{is_driver}
 use Rattle.modeldisk.proofs.scripted.ScriptedDriverBlockDriver.step.Goals as goal
 
 pub returns-in-None-clause-driver : goal.returns-in-None-clause-driver

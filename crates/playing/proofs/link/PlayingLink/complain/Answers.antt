@@ -1,9 +1,9 @@
 use Rattle.std.proofs.Common.{◌∙◌, refl, ap, Bool, not, ◌||◌, ◌&&◌}
-use Rattle.run_log.specs.declared.log.Entry.TheVariants as entry
-use Rattle.run_log.specs.LogView.{said}
-use Rattle.run_log.specs.Noted.{with_entry}
+use Rattle.schedule.specs.declared.log.Entry.TheVariants as entry
+use Rattle.schedule.specs.LogView.{said}
+use Rattle.schedule.specs.Noted.{with_entry}
 use Rattle.driver_events.specs.Ruling.{is_fault, gives_up}
-use Rattle.play_turns.proofs.Going.{complains}
+use Rattle.playing.proofs.Going.{complains}
 use Rattle.playing.proofs.link.PlayingLink.complain.Goals as goal
 
 pub returns-clause-goes : goal.returns-clause-goes

@@ -1,7 +1,7 @@
-use Rattle.run_log.proofs.NotedLaws.{has_room}
-use Rattle.driver_events.proofs.run_drivers.DisksLaws.{lines_up}
-use Rattle.play_turns.proofs.PlayLaws.{posted_true, accepted_at}
-use Rattle.play_turns.proofs.Going.{posts}
+use Rattle.schedule.proofs.NotedLaws.{has_room}
+use Rattle.run_drivers.proofs.DisksLaws.{lines_up}
+use Rattle.playing.proofs.PlayLaws.{posted_true, accepted_at}
+use Rattle.playing.proofs.Going.{posts}
 use Rattle.playing.proofs.link.PlayingLink.post.Goals as goal
 
 pub returns-in-Ok-clause-accepted : goal.returns-in-Ok-clause-accepted

@@ -1,8 +1,8 @@
 use Rattle.std.proofs.Common.{◌∙◌, refl}
 use Rattle.message.specs.declared.Incoming.TheVariants as incoming
 use Rattle.playing.specs.PlayView.{Stays, IsStarved, Still}
-use Rattle.play_turns.proofs.PlayLaws.{received_true, owed_heard, true_of, take_told, end_told, end_again, take_falls, take_spent, take_true, end_true}
-use Rattle.play_turns.proofs.Going.{same_play, takes, takes_owed, takes_end, not_told}
+use Rattle.playing.proofs.PlayLaws.{received_true, owed_heard, true_of, take_told, end_told, end_again, take_falls, take_spent, take_true, end_true}
+use Rattle.playing.proofs.Going.{same_play, takes, takes_owed, takes_end, not_told}
 use Rattle.playing.proofs.link.PlayingLink.take.Goals as goal
 
 pub returns-then-self-clause-truth : goal.returns-then-self-clause-truth

@@ -1,6 +1,6 @@
 use Rattle.std.proofs.Common.{arith}
 use Rattle.playing.specs.PlayView.{Stays, IsPlayedOut}
-use Rattle.play_turns.proofs.Going.{starves}
+use Rattle.playing.proofs.Going.{starves}
 use Rattle.playing.proofs.playing.Playing.advance.Goals as goal
 
 pub loop-self-init : goal.loop-self-init

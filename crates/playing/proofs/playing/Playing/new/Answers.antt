@@ -1,10 +1,10 @@
 use Rattle.std.proofs.Common.{◌∙◌, refl, ap}
 use Rattle.message.specs.declared.Incoming.TheVariants as incoming
-use Rattle.reincarnate.specs.policy.Watch.{driver}
-use Rattle.run_log.specs.LogView.{said}
-use Rattle.run_log.specs.Noted.{with_entry}
-use Rattle.run_log.specs.declared.log.Entry.TheVariants as entry
-use Rattle.play_turns.proofs.PlayLaws.{opened_true}
+use Rattle.reincarnate.specs.Watch.{driver}
+use Rattle.schedule.specs.LogView.{said}
+use Rattle.schedule.specs.Noted.{with_entry}
+use Rattle.schedule.specs.declared.log.Entry.TheVariants as entry
+use Rattle.playing.proofs.PlayLaws.{opened_true}
 use Rattle.playing.proofs.playing.Playing.new.Goals as goal
 
 pub returns-clause-truth : goal.returns-clause-truth

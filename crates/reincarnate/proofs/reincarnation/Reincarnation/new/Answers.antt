@@ -1,6 +1,6 @@
 use Rattle.std.proofs.Common.{rules}
 use Rattle.std.specs.Prelude.{◌≡◌, ◌≢◌, List, [], refl}
-use Rattle.policy.specs.declared.Policy.{Policy}
+use Rattle.reincarnate.specs.declared.policy.Policy.{Policy}
 use Rattle.reincarnate.specs.Known.{Known, known_at_first}
 use Rattle.reincarnate.specs.Supply.{state_of, new_state}
 use Rattle.reincarnate.proofs.FollowLaws.{follows_at_first}

@@ -1,6 +1,6 @@
 use Rattle.std.proofs.Common.{rules, sym, ◌∙◌, ap, ◌≤◌, arith, refl, length}
 use Rattle.message.specs.declared.BlockRequest.{BlockRequest}
-use Rattle.pending_table.specs.Entries.{pending_of}
+use Rattle.reissue.specs.Entries.{pending_of}
 use Rattle.reissue.proofs.Posting.{busy, busy_any}
 use Rattle.reissue.proofs.Joining.{begins_add, begins_none, posts_new, free_list}
 use Rattle.reissue.proofs.transfers.Transfers.begin.Goals as goal

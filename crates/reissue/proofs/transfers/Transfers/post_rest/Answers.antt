@@ -1,5 +1,5 @@
 use Rattle.std.proofs.Common.{rules, arith, ◌∙◌, ap, length}
-use Rattle.pending_table.specs.pending_queue.declared.pending.Pending.{Pending}
+use Rattle.reissue.specs.declared.pending.Pending.{Pending}
 use Rattle.reissue.proofs.Steps.{leads_post, leads_refused, order_post}
 use Rattle.reissue.proofs.transfers.Transfers.post_rest.Goals as goal
 

@@ -1,6 +1,6 @@
 use Rattle.std.proofs.Common.{◌≡◌, ◌+◌, ◌≤◌, ◌-◌, length, Some, List}
-use Rattle.marks.specs.Told.{Told}
-use Rattle.pending_table.specs.Agrees.{unposted}
+use Rattle.records.specs.Told.{Told}
+use Rattle.reissue.specs.Agrees.{unposted}
 use Rattle.reissue.specs.Posts.{ArePostedTo}
 use Rattle.reissue.specs.Calls.{Leads}
 use Rattle.reissue.proofs.transfers.Transfers.post_rest.Given as goal

@@ -1,4 +1,4 @@
-use Rattle.held_server.proofs.HeldLaws.{held_same}
+use Rattle.shared_server.proofs.HeldLaws.{held_same}
 use Rattle.shared_server.proofs.locked.Locked.release.Goals as goal
 
 pub invariant_of-self : goal.invariant_of-self

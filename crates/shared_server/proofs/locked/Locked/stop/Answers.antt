@@ -2,12 +2,12 @@ use Rattle.std.proofs.Common.{◌≡◌, ◌∙◌, refl, sym, ap, subst}
 use Rattle.std.specs.List.{concat}
 use Rattle.tree.specs.declared.Call.TheVariants.{Sync}
 use Rattle.tree.specs.Answers.{done}
-use Rattle.board.specs.legal.ServerCall.{Outcome, Replied}
+use Rattle.records.specs.ServerCall.{Outcome, Replied}
 use Rattle.file_server.specs.Over.{CallsOver, outcome_of}
-use Rattle.held_server.specs.Descriptors.{was_cut, succeeded}
-use Rattle.held_server.specs.Stopping.{syncer, Went, WasGivenUp, WasCut, sync_end, IsLastLine}
-use Rattle.held_server.proofs.HeldLaws.{done_is, synced_image}
-use Rattle.held_server.proofs.StoppingLaws.{last_line, cut_end, given_up_end, went_end, image_of}
+use Rattle.shared_server.specs.Descriptors.{was_cut, succeeded}
+use Rattle.shared_server.specs.Stopping.{syncer, Went, WasGivenUp, WasCut, sync_end, IsLastLine}
+use Rattle.shared_server.proofs.HeldLaws.{done_is, synced_image}
+use Rattle.shared_server.proofs.StoppingLaws.{last_line, cut_end, given_up_end, went_end, image_of}
 use Rattle.shared_server.proofs.locked.Locked.stop.Goals as goal
 
 pub returns-clause-synced : goal.returns-clause-synced

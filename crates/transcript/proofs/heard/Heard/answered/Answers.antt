@@ -1,7 +1,7 @@
 use Rattle.std.proofs.Common.{refl, sym, ◌∙◌, ap, Option}
 use Rattle.std.specs.Prelude.{is_some}
 use Rattle.message.specs.declared.BlockRequest.{BlockRequest}
-use Rattle.marks.specs.Open.{moved_of}
+use Rattle.records.specs.Open.{moved_of}
 use Rattle.transcript.proofs.HeardLaws.{heard_none, moved_at, closes_none, closes_one}
 use Rattle.transcript.proofs.heard.Heard.answered.Goals as goal
 

@@ -1,6 +1,6 @@
 use Rattle.descriptors.specs.Table.{files_of}
-use Rattle.answering.proofs.server_laws.Handing.{handed}
-use Rattle.answering.proofs.server_laws.Spending.{spends_handed}
+use Rattle.vfs.proofs.Handing.{handed}
+use Rattle.vfs.proofs.Spending.{spends_handed}
 use Rattle.vfs.proofs.server.Server.absorb.Goals as goal
 
 pub returns-clause-absorbs : goal.returns-clause-absorbs

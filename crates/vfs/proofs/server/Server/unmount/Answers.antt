@@ -1,7 +1,7 @@
 use Rattle.std.proofs.Common.{◌≡◌, sym, ◌∙◌}
 use Rattle.store.proofs.Turns.{turns_then}
 use Rattle.descriptors.specs.Table.{files_of}
-use Rattle.answering.proofs.server_laws.Letting.{busy_at_once, unmounted}
+use Rattle.vfs.proofs.Letting.{busy_at_once, unmounted}
 use Rattle.vfs.proofs.Refusing.{refused_at_once, refused_later}
 use Rattle.vfs.proofs.server.Server.unmount.Goals as goal
 

@@ -1,12 +1,12 @@
 use Rattle.std.proofs.Common.{refl, ap, arith, subst, length, map, ◌∙◌}
 use Rattle.std.specs.Prelude.{All}
 use Rattle.inline.specs.Inline.{IsReady}
-use Rattle.run_start.specs.Beginning.{IsBegun, range_of}
-use Rattle.run_server.specs.Plays.{IsFresh}
+use Rattle.world.specs.Beginning.{IsBegun, range_of}
+use Rattle.world.specs.ServerPlays.{IsFresh}
 use Rattle.media.specs.Contents.{MediaState}
-use Rattle.run_start.specs.startup.Starting.{opening_of}
+use Rattle.mounting.specs.Starting.{opening_of}
 use Rattle.playing.specs.PlayView.{play_of}
-use Rattle.run_server.proofs.Opened.{little_work, none_ended, small_budget}
+use Rattle.world.proofs.Opened.{little_work, none_ended, small_budget}
 use Rattle.world.proofs.Showing.{all_unused, run_shows, whole_there}
 use Rattle.world.proofs.world_run.World.run.Goals as goal
 

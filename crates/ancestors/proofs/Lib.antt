@@ -1,2 +1,0 @@
-pub use Rattle.walk.proofs as walk
-pub mod Climbing

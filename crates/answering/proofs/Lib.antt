@@ -1,1 +1,0 @@
-pub use Rattle.server_laws.proofs as server_laws

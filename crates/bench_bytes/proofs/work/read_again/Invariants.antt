@@ -1,5 +1,0 @@
-use Rattle.store.specs.Volume.{IsOn}
-use Rattle.bench_bytes.proofs.work.read_again.Given as goal
-
-abbrev pub invariant-loop : goal.invariant-loop
-invariant-loop g l = IsOn g.B.Blocks.world l.geometry l.blocks

@@ -1,5 +1,0 @@
-use Rattle.cache.specs.Calls.{caching, IsReady}
-use Rattle.bench_frames.proofs.work.write_run.Given as goal
-
-abbrev pub invariant-loop-turn : goal.invariant-loop-turn
-invariant-loop-turn g l = IsReady (caching g.L.Link l.cache)

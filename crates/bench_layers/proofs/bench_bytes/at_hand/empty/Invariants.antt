@@ -1,0 +1,5 @@
+use Rattle.store.specs.Volume.{IsOn}
+use Rattle.bench_layers.proofs.bench_bytes.at_hand.empty.Given as goal
+
+abbrev pub invariant-loop-block : goal.invariant-loop-block
+invariant-loop-block g l = IsOn g.B.Blocks.world l.geometry l.blocks

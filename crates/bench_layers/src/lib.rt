@@ -1,0 +1,8 @@
+//! What all measures share: how long work took, and the sizes of volumes that are measured.
+#![tactic(auto)]
+
+pub mod bench_bytes;
+pub mod bench_names;
+pub mod bench_volumes;
+pub mod sizes;
+pub mod timing;

@@ -1,0 +1,106 @@
+//! Work that is measured: calls, made again and again.
+
+use file_server::FileServer;
+use keeping::recorder::Recorder;
+use keeping::room::Room;
+use bench_layers::timing::{copy, micros_since, tell};
+use serve::service::Shared;
+use serve::session::Session;
+use std::io;
+use std::sync::Wait;
+use std::time::Instant;
+use tree::{Call, Outcome, Reply, Whence};
+
+/// Who makes calls.
+pub(crate) trait Caller {
+    /// Makes a call; whether it was done.
+    fn make(&mut self, call: &Call<'_>) -> bool;
+}
+
+impl<N: Room, R: Wait + Copy, L: Recorder<N>, S: FileServer<L>> Caller
+    for Session<N, Shared<N, R, L, S>> {
+    fn make(&mut self, call: &Call<'_>) -> bool {
+        !matches!(
+            self.call(100, call),
+            Outcome::Cut | Outcome::Reply(Reply::Refused(_))
+        )
+    }
+}
+
+/// Makes these calls, one after the other; how many were done.
+pub(crate) fn once<C: Caller>(caller: &mut C, calls: &[Call<'_>]) -> u32 {
+    let mut done = 0u32;
+    for call in calls {
+        done = done.wrapping_add(u32::from(caller.make(call)));
+    }
+    done
+}
+
+/// Makes these calls so many times; how many were done.
+fn repeat<C: Caller>(caller: &mut C, times: u32, calls: &[Call<'_>]) -> u32 {
+    let mut done = 0u32;
+    for _ in 0..times {
+        done = done.wrapping_add(once(caller, calls));
+    }
+    done
+}
+
+/// Measures these calls, made so many times.
+pub(crate) fn measure<C: Caller>(
+    rt: &HostRuntime,
+    caller: &mut C,
+    what: &str,
+    times: u32,
+    calls: &[Call<'_>],
+) -> io::Result<()> {
+    let start = Instant::now(rt)?;
+    let done = repeat(caller, times, calls);
+    tell(rt, what, done, "calls", start)
+}
+
+/// Back to the first byte.
+pub(crate) fn rewind<'a>() -> Call<'a> {
+    Call::Seek {
+        fd: 0,
+        whence: Whence::Set,
+        offset: 0,
+    }
+}
+
+/// Makes a call so many times, each time after a seek to the first byte; how many calls were done.
+fn repeat_at_start<C: Caller>(caller: &mut C, times: u32, call: &Call<'_>) -> u32 {
+    let mut done = 0u32;
+    for _ in 0..times {
+        done = done.wrapping_add(u32::from(caller.make(&rewind())));
+        done = done.wrapping_add(u32::from(caller.make(call)));
+    }
+    done
+}
+
+/// Measures a call, made so many times, each time after a seek to the first byte.
+pub(crate) fn at_start<C: Caller>(
+    rt: &HostRuntime,
+    caller: &mut C,
+    what: &str,
+    times: u32,
+    call: &Call<'_>,
+) -> io::Result<()> {
+    let start = Instant::now(rt)?;
+    let done = repeat_at_start(caller, times, call);
+    tell(rt, what, done, "calls", start)
+}
+
+/// Measures a plain copy of these bytes, so many times.
+pub(crate) fn copies(rt: &HostRuntime, from: &[u8], to: &mut [u8], times: u32) -> io::Result<()> {
+    let mut count = 0usize;
+    let start = Instant::now(rt)?;
+    let mut last = 0u8;
+    for _ in 0..times {
+        count = copy(from, to);
+        last ^= to.last().copied().unwrap_or(0);
+    }
+    let micros = micros_since(rt, start)?;
+    eprintln!(*rt;
+        "a plain copy of {count} bytes: {times} times in {micros} microseconds, last {last}"
+    )
+}

@@ -1,5 +1,0 @@
-use Rattle.block_transfers.proofs.Sizes.{whole_product}
-use Rattle.block_transfers.proofs.shape.Shape.place.Goals as goal
-
-pub returns-clause-whole : goal.returns-clause-whole
-returns-clause-whole c = whole_product c.args.block c.args.self.now.block_size 512 c.args.self.now.whole

@@ -1,0 +1,176 @@
+-- The order in which places were used last.
+use Rattle.std.proofs.Common.{◌≡◌, ℕ, zero, suc, ◌+◌, ◌<◌, ◌≤◌, List, [], ◌∷◌, length, set, get_or, length-set, Bool, true, false, cond, refl, sym, ap, subst, ◌∙◌, arith}
+use mathlib.Core.Logic.{inl, inr}
+use Rattle.std.specs.Prelude.{slice_index, nat_lt}
+use Rattle.std.specs.List.{filter}
+use Rattle.std.proofs.lemmas.Bool.{cases_eq, cases_lt, lt-ltb}
+use Rattle.std.proofs.lemmas.Bool.Decides.{nat_tests}
+use Rattle.cache.specs.Uses.{AllBelow, rank, KeepsOrder, IsUsedLast}
+
+-- a lower number isn't lower than a higher one
+not_less : (a b : ℕ) → b ≤ a → nat_lt a b ≡ false
+not_less a b le = grind (arith, nat_tests)
+
+-- one where this holds
+abbrev one_if : Bool → ℕ
+one_if true = 1
+one_if false = 0
+
+-- one more number
+rank_more : (x z : ℕ) (xs : List ℕ) → rank x (z ∷ xs) ≡ one_if (nat_lt z x) + rank x xs
+rank_more x z xs = by (nat_lt z x)
+  where
+    by : (b : Bool) → length (cond b (z ∷ filter (λ (o : ℕ). nat_lt o x) xs) (filter (λ (o : ℕ). nat_lt o x) xs)) ≡ one_if b + length (filter (λ (o : ℕ). nat_lt o x) xs)
+    by true = omega arith
+    by false = omega arith
+
+-- a higher number has as many lower ones at least
+rank_le : (x y : ℕ) (xs : List ℕ) → x ≤ y → rank x xs ≤ rank y xs
+rank_le x y [] le = omega arith
+rank_le x y (z ∷ xs) le = elim (cases_lt z x) [
+  | inl lt ↦
+      let a : one_if (nat_lt z x) ≡ 1 = ap one_if (lt-ltb z x lt) in
+      let b : one_if (nat_lt z y) ≡ 1 = ap one_if (lt-ltb z y (omega (arith, lt, le))) in
+      let rest = rank_le x y xs le in
+      omega (arith, a, b, rest, rank_more x z xs, rank_more y z xs)
+  | inr ge ↦
+      let a : one_if (nat_lt z x) ≡ 0 = ap one_if (not_less z x ge) in
+      let rest = rank_le x y xs le in
+      omega (arith, a, rest, rank_more x z xs, rank_more y z xs)
+]
+
+-- and more, if the lower one is among them
+rank_lt : (x y : ℕ) (xs : List ℕ) (i : ℕ) → x < y → i < length xs → get_or xs i 0 ≡ x → rank x xs < rank y xs
+rank_lt x y [] i lt in_range e = absurd (omega (arith, in_range))
+rank_lt x y (z ∷ xs) zero lt in_range e =
+    let a : one_if (nat_lt z x) ≡ 0 = ap one_if (not_less z x (omega (arith, e))) in
+    let b : one_if (nat_lt z y) ≡ 1 = ap one_if (lt-ltb z y (omega (arith, e, lt))) in
+    let rest = rank_le x y xs (omega (arith, lt)) in
+    omega (arith, a, b, rest, rank_more x z xs, rank_more y z xs)
+rank_lt x y (z ∷ xs) (suc i) lt in_range e =
+    let rest = rank_lt x y xs i lt (omega (arith, in_range)) e in
+    elim (cases_lt z x) [
+      | inl less ↦
+          let a : one_if (nat_lt z x) ≡ 1 = ap one_if (lt-ltb z x less) in
+          let b : one_if (nat_lt z y) ≡ 1 = ap one_if (lt-ltb z y (omega (arith, less, lt))) in
+          omega (arith, a, b, rest, rank_more x z xs, rank_more y z xs)
+      | inr ge ↦
+          let a : one_if (nat_lt z x) ≡ 0 = ap one_if (not_less z x ge) in
+          omega (arith, a, rest, rank_more x z xs, rank_more y z xs)
+    ]
+
+-- no number has more lower ones than there are
+pub rank_most : (x : ℕ) (xs : List ℕ) → rank x xs ≤ length xs
+rank_most x [] = omega arith
+rank_most x (z ∷ xs) = by (nat_lt z x) (rank_more x z xs) (rank_most x xs)
+  where
+    by : (b : Bool) → rank x (z ∷ xs) ≡ one_if b + rank x xs → rank x xs ≤ length xs → rank x (z ∷ xs) ≤ length (z ∷ xs)
+    by true e le = omega (arith, e, le)
+    by false e le = omega (arith, e, le)
+
+-- numbers and how many are lower stand in the same order
+pub same_order : (xs : List ℕ) (i j : ℕ) → i < length xs → j < length xs
+    → nat_lt (rank (get_or xs i 0) xs) (rank (get_or xs j 0) xs) ≡ nat_lt (get_or xs i 0) (get_or xs j 0)
+same_order xs i j ini inj = elim (cases_lt (get_or xs i 0) (get_or xs j 0)) [
+  | inl lt ↦ lt-ltb _ _ (rank_lt (get_or xs i 0) (get_or xs j 0) xs i lt ini refl) ∙ sym (lt-ltb _ _ lt)
+  | inr ge ↦ not_less _ _ (rank_le (get_or xs j 0) (get_or xs i 0) xs ge) ∙ sym (not_less _ _ ge)
+]
+
+-- an element of a list after another was set
+set_same : (xs : List ℕ) (i x : ℕ) → i < length xs → get_or (set xs i x) i 0 ≡ x
+set_same [] i x lt = absurd (omega (arith, lt))
+set_same (y ∷ xs) zero x lt = refl
+set_same (y ∷ xs) (suc i) x lt = set_same xs i x (omega (arith, lt))
+
+-- the others stay
+set_other : (xs : List ℕ) (i j x : ℕ) → (j ≡ i → ⊥) → get_or (set xs i x) j 0 ≡ get_or xs j 0
+set_other [] i j x ne = refl
+set_other (y ∷ xs) zero zero x ne = absurd (ne refl)
+set_other (y ∷ xs) zero (suc j) x ne = refl
+set_other (y ∷ xs) (suc i) zero x ne = refl
+set_other (y ∷ xs) (suc i) (suc j) x ne = set_other xs i j x (λ e. ne (ap suc e))
+
+-- a place that gets a number above all others was used last
+pub used_last : (old mid : List ℕ) (at next : ℕ) → KeepsOrder old mid → AllBelow mid next → at < length old → IsUsedLast old (set mid at next) at
+used_last old mid at next keeps below lt = record {
+  count = length-set mid at next ∙ keeps.count;
+  last = λ i ini ne.
+      let less = below.each i (omega (arith, ini, keeps.count)) in
+      let there = set_other mid at i next ne in
+      let here = set_same mid at next (omega (arith, lt, keeps.count)) in
+      omega (arith, less, there, here);
+  order = λ i j ini inj ni nj. rw (set_other mid at i next ni, set_other mid at j next nj) (keeps.order i j ini inj);
+}
+
+-- nothing is numbered anew
+pub keeps_same : (xs : List ℕ) → KeepsOrder xs xs
+keeps_same xs = record { count = refl; order = λ i j ini inj. refl }
+
+-- a number below the next one stays so
+pub below_set : (mid : List ℕ) (at next : ℕ) → AllBelow mid next → AllBelow (set mid at next) (next + 1)
+below_set mid at next below = record {
+  each = λ i ini.
+      elim (cases_eq i at) [
+        | inl e ↦
+            let here = ap (λ k. get_or (set mid at next) k 0) e ∙ set_same mid at next (omega (arith, ini, e, length-set mid at next)) in
+            omega (arith, here)
+        | inr ne ↦
+            let less = below.each i (omega (arith, ini, length-set mid at next)) in
+            let there = set_other mid at i next ne in
+            omega (arith, less, there)
+      ];
+}
+
+-- places that were numbered anew
+pub record Numbered (old new : List ℕ) (n : ℕ) : Type 0 where
+  pub count : length new ≡ length old
+  pub each : (i : ℕ) → i < n → slice_index new i ≡ rank (slice_index old i) old + 1
+
+-- one more
+pub numbered_more : (old new : List ℕ) (at : ℕ) → at < length old → Numbered old new at → Numbered old (set new at (rank (slice_index old at) old + 1)) (at + 1)
+numbered_more old new at lt h = record {
+  count = length-set new at (rank (slice_index old at) old + 1) ∙ h.count;
+  each = λ i ini. elim (cases_eq i at) [
+    | inl e ↦
+        ap (λ k. get_or (set new at (rank (slice_index old at) old + 1)) k 0) e
+        ∙ set_same new at (rank (slice_index old at) old + 1) (omega (arith, lt, h.count)) ∙ ap (λ k. rank (slice_index old k) old + 1) (sym e)
+    | inr ne ↦ set_other new at i (rank (slice_index old at) old + 1) ne ∙ h.each i (less i ini ne)
+  ];
+}
+  where
+    less : (i : ℕ) → i < at + 1 → (i ≡ at → ⊥) → i < at
+    less i ini ne = elim (cases_lt i at) [
+      | inl k ↦ k
+      | inr k ↦ absurd (ne (omega (arith, ini, k)))
+    ]
+
+-- all of them
+pub numbered_all : (old new : List ℕ) (n : ℕ) → n ≤ length old → length old ≤ n → Numbered old new n → Numbered old new (length old)
+numbered_all old new n le ge h = let all : n ≡ length old = omega (arith, le, ge) in subst (λ (k : ℕ). Numbered old new k) all h
+
+-- all of them stand in their order
+pub numbered_order : (old new : List ℕ) → Numbered old new (length old) → KeepsOrder old new
+numbered_order old new h = record {
+  count = h.count;
+  order = λ i j ini inj. rw (h.each i ini, h.each j inj) (both (rank (get_or old i 0) old) (rank (get_or old j 0) old) ∙ same_order old i j ini inj);
+}
+  where
+    both : (a b : ℕ) → nat_lt (a + 1) (b + 1) ≡ nat_lt a b
+    both a b = grind (arith, nat_tests)
+
+-- and below what comes next
+pub numbered_below : (old new : List ℕ) → Numbered old new (length old) → AllBelow new (length old + 1)
+numbered_below old new h = record {
+  each = λ i ini.
+      let lt : i < length old = omega (arith, ini, h.count) in
+      let is = h.each i lt in
+      let lower = rank_lt' old i lt in
+      omega (arith, is, lower);
+}
+  where
+    -- its own number isn't among the lower ones
+    rank_lt' : (xs : List ℕ) (i : ℕ) → i < length xs → rank (get_or xs i 0) xs < length xs
+    rank_lt' xs i lt =
+        let more = rank_lt (get_or xs i 0) (get_or xs i 0 + 1) xs i (omega arith) lt refl in
+        let most = rank_most (get_or xs i 0 + 1) xs in
+        omega (arith, more, most)

@@ -1,0 +1,67 @@
+-- The slots of a cache by their blocks, and the states of their bytes.
+use Rattle.std.specs.Prelude.{◌≡◌, ℕ, ◌==◌, ◌&&◌, List, Option, Some, None, is_some, not, Bool, true, false, slice_get}
+use Rattle.std.specs.List.{find}
+use Rattle.cache.specs.declared.state.State.{State}
+use Rattle.cache.specs.declared.state.State.TheVariants.{Clean, Dirty, Writing, Changed}
+use Rattle.cache.specs.declared.slot.Slot.{Slot}
+
+-- the number is there, and is this one
+abbrev pub is_number : Option ℕ → ℕ → Bool
+is_number None n = false
+is_number (Some m) n = m == n
+
+-- the slot that holds each block
+abbrev pub held : List Slot → ℕ → Option Slot
+held items b = find (λ s. is_number s.block b) items
+
+-- the ticket of the write that is under way
+abbrev pub ticket_of : State → Option ℕ
+ticket_of Clean = None
+ticket_of Dirty = None
+ticket_of (Writing t) = Some t
+ticket_of (Changed t) = Some t
+
+-- the bytes are the disk's
+abbrev pub is_clean : State → Bool
+is_clean Clean = true
+is_clean Dirty = false
+is_clean (Writing t) = false
+is_clean (Changed t) = false
+
+-- the bytes were changed, and no write is under way
+abbrev pub is_dirty : State → Bool
+is_dirty Clean = false
+is_dirty Dirty = true
+is_dirty (Writing t) = false
+is_dirty (Changed t) = false
+
+-- the state after a change of the bytes
+abbrev pub dirtied : State → State
+dirtied Clean = Dirty
+dirtied Dirty = Dirty
+dirtied (Writing t) = Changed t
+dirtied (Changed t) = Changed t
+
+-- the state after the write was answered good
+abbrev pub written : State → State
+written Clean = Clean
+written Dirty = Dirty
+written (Writing t) = Clean
+written (Changed t) = Dirty
+
+-- the slot holds a block whose write has this ticket
+abbrev pub is_under : ℕ → Slot → Bool
+is_under t s = is_some s.block && is_number (ticket_of s.state) t
+
+-- the slot holds a block, and its bytes were changed
+abbrev pub is_dirty_slot : Slot → Bool
+is_dirty_slot s = is_some s.block && is_dirty s.state
+
+-- the slot holds a block, and its bytes may not be the disk's
+abbrev pub is_unclean_slot : Slot → Bool
+is_unclean_slot s = is_some s.block && not (is_clean s.state)
+
+-- no block has two slots
+pub record IsDistinct (items : List Slot) : Type 0 where
+  pub same : (i j b : ℕ) (s t : Slot) → slice_get items i ≡ Some s → slice_get items j ≡ Some t
+      → s.block ≡ Some b → t.block ≡ Some b → i ≡ j

@@ -1,0 +1,121 @@
+//! A slot.
+
+ghost use Rattle.std.specs.Prelude.{◌≡◌, ◌≤◌, ◌+◌, ◌-◌, ◌&&◌, ℕ, IfOk, Some, None, slice_index, length, nat_le, nat_lt, if◌then◌else◌};
+ghost use Rattle.cache.specs.Slots.{is_number, dirtied, is_under, is_dirty, is_dirty_slot, is_unclean_slot};
+
+use crate::state::State;
+use reissue::Ticket;
+use std::alloc::{AllocError, Global};
+
+/// A block of zero bytes.
+pub fn zeros() -> [u8; 4096]
+    ensures { (o : ℕ) → slice_index result o ≡ 0 }
+{
+    [0; 4096]
+}
+
+/// Room for a block.
+#[derive(Drop)]
+pub struct Slot {
+    /// The block that it holds, if it holds one.
+    pub block: Option<u32>,
+    /// Its bytes; those past the block's end have no meaning.
+    pub bytes: Box<[u8; 4096]>,
+    /// What is known of them.
+    pub state: State,
+}
+
+impl Slot {
+    /// A slot that holds no block.
+    pub(crate) fn free(alloc: Global) -> Result<Slot, AllocError>
+        ensures { IfOk result (λ s. s.block ≡ None) }
+    {
+        Ok(Slot {
+            block: None,
+            bytes: Box::new(alloc, zeros())?,
+            state: State::Clean,
+        })
+    }
+
+    /// Whether it holds this block.
+    pub(crate) fn holds(&self, block: u32) -> bool
+        ensures { result ≡ is_number self.now.block block }
+    {
+        match self.block {
+            Some(held) => held == block,
+            None => false,
+        }
+    }
+
+    /// Whether it holds a block whose write has this ticket.
+    pub(crate) fn is_under(&self, ticket: Ticket) -> bool
+        ensures { result ≡ is_under ticket self.now }
+    {
+        let known = self.state.ticket();
+        match self.block {
+            Some(_) => match known {
+                Some(known) => known == ticket,
+                None => false,
+            },
+            None => false,
+        }
+    }
+
+    /// Whether it holds a block whose bytes were changed, and no write of it is under way.
+    pub fn is_dirty(&self) -> bool
+        ensures { result ≡ is_dirty_slot self.now }
+    {
+        self.block.is_some() && self.state.is_dirty()
+    }
+
+    /// Whether it holds a block whose bytes may not be the disk's.
+    pub fn is_unclean(&self) -> bool
+        ensures { result ≡ is_unclean_slot self.now }
+    {
+        self.block.is_some() && !self.state.is_clean()
+    }
+
+    /// Its block, if its bytes were changed and no write of it is under way.
+    pub(crate) fn dirty_block(&self) -> Option<u64>
+        ensures { result ≡ (if is_dirty self.now.state then self.now.block else None) }
+    {
+        match self.block {
+            Some(block) if self.state.is_dirty() => Some(block as u64),
+            _ => None,
+        }
+    }
+
+    /// Holds a block from now on, with these bytes.
+    pub(crate) fn hold(&mut self, block: u32, bytes: &[u8; 4096], state: State)
+        ensures block { self.new.block ≡ Some block }
+        ensures bytes { self.new.bytes.value ≡ bytes.now }
+        ensures state { self.new.state ≡ state }
+    {
+        self.block = Some(block);
+        *self.bytes = *bytes;
+        self.state = state;
+    }
+
+    /// Changes its bytes to zero.
+    pub(crate) fn clear(&mut self)
+        ensures block { self.new.block ≡ self.old.block }
+        ensures state { self.new.state ≡ dirtied self.old.state }
+        ensures bytes { (o : ℕ) → slice_index self.new.bytes.value o ≡ 0 }
+    {
+        self.state = self.state.dirtied();
+        *self.bytes = zeros();
+    }
+
+    /// Changes these bytes from this place on.
+    pub(crate) fn change(&mut self, from: usize, bytes: &[u8])
+        requires { from + length bytes.now ≤ 4096 }
+        ensures block { self.new.block ≡ self.old.block }
+        ensures state { self.new.state ≡ dirtied self.old.state }
+        ensures bytes { (o : ℕ) → slice_index self.new.bytes.value o
+            ≡ (if nat_le from o && nat_lt o (from + length bytes.now) then slice_index bytes.now (o - from)
+            else slice_index self.old.bytes.value o) }
+    {
+        self.state = self.state.dirtied();
+        self.bytes[from..from + bytes.len()].copy_from_slice(bytes);
+    }
+}

@@ -1,0 +1,291 @@
+//! All slots of a cache.
+
+ghost use Rattle.std.specs.Prelude.{◌≡◌, ◌<◌, ◌≤◌, ◌+◌, ℕ, IfOk, IfSome, Option, Some, None, slice_get, position, length, if◌then◌else◌};
+ghost use Rattle.std.specs.Bool.{OnTrue, OnFalse};
+ghost use Rattle.cache.specs.Slots.{is_number, held, is_under, is_unclean_slot, IsDistinct};
+
+use crate::hints::Hints;
+use crate::slot::Slot;
+use crate::state::State;
+use crate::uses::Uses;
+use reissue::Ticket;
+use std::alloc::{AllocError, Global};
+
+/// Which slots are looked among, and in which order.
+#[derive(Clone, Copy)]
+enum Among {
+    /// The free ones, the one used longest ago first.
+    Free,
+    /// Those that aren't unclean, the one used longest ago first.
+    Clean,
+    /// All, the one used longest ago first.
+    All,
+    /// The dirty ones, the lowest block first.
+    Dirty,
+}
+
+/// All slots; no block has two. Their memory is taken when they are made.
+#[derive(Drop)]
+pub struct Slots {
+    items: Vec<Slot>,
+    // When each was used last.
+    uses: Uses,
+    hints: Hints,
+    pub ghost distinct: { IsDistinct items.items },
+    pub ghost some: { 0 < length items.items },
+    pub ghost paired: { length uses.numbers.items ≡ length items.items },
+}
+
+/// The number of a slot's last use, unless the slot is left out.
+fn used_unless(left_out: bool, used: u64) -> Option<u64>
+    ensures { result ≡ (if left_out then None else Some used) }
+{
+    if left_out { None } else { Some(used) }
+}
+
+impl Slots {
+    ghost use Rattle.cache.specs.Uses.{IsUsedLast};
+    ghost use Rattle.cache.specs.Order.{key_of, key_at, is_before, IsFirst, IsVictim};
+    ghost use Rattle.cache.specs.Edits.{IsSetAt, IsFilledAt, IsBlankedAt, IsChangedAt, IsAt, IsPlaceOf, IsWritten, AllStay, AllClean, SomeUnclean, IsLowestOf};
+
+    /// So many slots, all free.
+    pub fn new(alloc: Global, count: usize) -> Result<Slots, AllocError>
+        requires { 0 < count }
+        ensures free { IfOk result (λ s. (b : ℕ) → held s.items.items b ≡ None) }
+        ensures count { IfOk result (λ s. length s.items.items ≡ count) }
+    {
+        let mut items = Vec::new(alloc);
+        'free: for _ in 0..count {
+            items.push(Slot::free(alloc)?)?;
+        }
+        Ok(Slots {
+            items,
+            uses: Uses::new(alloc, count)?,
+            hints: Hints::new(alloc)?,
+        })
+    }
+
+    /// Where this block stands, if it stands where one with its remainder was seen last.
+    #[inline]
+    fn guess(&self, block: u32) -> Option<usize>
+        ensures { IfSome result (λ at. IsAt self.now.items.items at block) }
+    {
+        let at = self.hints.get(block);
+        match self.items.get(at) {
+            Some(slot) if slot.holds(block) => Some(at),
+            _ => None,
+        }
+    }
+
+    /// The first place where this block stands.
+    fn place(&self, block: u32) -> Option<usize>
+        ensures { result ≡ position (λ s. is_number s.block block) self.now.items.items }
+    {
+        self.items.iter().position(|s| s.holds(block))
+    }
+
+    /// Where this block stands, looked for from the front.
+    #[inline(never)]
+    fn search(&self, block: u32) -> Option<usize>
+        ensures { IsPlaceOf result self.now.items.items block }
+    {
+        self.place(block)
+    }
+
+    /// Where this block stands.
+    #[inline]
+    pub fn find(&self, block: u32) -> Option<usize>
+        ensures { IsPlaceOf result self.now.items.items block }
+    {
+        match self.guess(block) {
+            Some(at) => Some(at),
+            None => self.search(block),
+        }
+    }
+
+    /// Where the slot stands whose write has this ticket.
+    fn find_ticket(&self, ticket: Ticket) -> Option<usize>
+        ensures { result ≡ position (is_under ticket) self.now.items.items }
+    {
+        self.items.iter().position(|s| s.is_under(ticket))
+    }
+
+    /// The first slot whose bytes may not be the disk's.
+    fn find_unclean(&self) -> Option<usize>
+        ensures { result ≡ position is_unclean_slot self.now.items.items }
+    {
+        self.items.iter().position(|s| s.is_unclean())
+    }
+
+    /// A slot's number in this order, if it is among them.
+    fn key(&self, among: Among, at: usize) -> Option<u64>
+        requires { at < length self.now.items.items }
+        ensures { result ≡ key_of among self.now.items.items self.now.uses.numbers.items at }
+    {
+        let slot = &self.items[at];
+        let used = self.uses.numbers[at];
+        match among {
+            Among::Free => used_unless(slot.block.is_some(), used),
+            Among::Clean => used_unless(slot.is_unclean(), used),
+            Among::All => Some(used),
+            Among::Dirty => slot.dirty_block(),
+        }
+    }
+
+    /// Whether a slot is among them, and stands before the first one so far.
+    fn stands_before(&self, among: Among, at: usize, first: Option<usize>) -> bool
+        requires at { at < length self.now.items.items }
+        requires first { IfSome first (λ i. i < length self.now.items.items) }
+        ensures { result ≡ is_before (key_of among self.now.items.items self.now.uses.numbers.items at)
+            (key_at (key_of among self.now.items.items self.now.uses.numbers.items) first) }
+    {
+        let Some(key) = self.key(among, at) else {
+            return false;
+        };
+        match first {
+            Some(first) => match self.key(among, first) {
+                Some(lowest) => key < lowest,
+                None => true,
+            },
+            None => true,
+        }
+    }
+
+    /// The first of these slots in their order.
+    fn first(&self, among: Among) -> Option<usize>
+        ensures { IsFirst (key_of among self.now.items.items self.now.uses.numbers.items) (length self.now.items.items) result }
+    {
+        let mut first = None;
+        for at in 0..self.items.len() {
+            if self.stands_before(among, at, first) {
+                first = Some(at);
+            }
+        }
+        first
+    }
+
+    /// The slot that goes next: a free one; where none is free, of the clean ones the one used longest ago; where none is clean, of all.
+    pub fn victim(&self) -> usize
+        ensures in_range { result < length self.now.items.items }
+        ensures chosen { IsVictim self.now.items.items self.now.uses.numbers.items result }
+    {
+        if let Some(at) = self.first(Among::Free) {
+            return at;
+        }
+        if let Some(at) = self.first(Among::Clean) {
+            return at;
+        }
+        match self.first(Among::All) {
+            Some(at) => at,
+            None => unreachable!(),
+        }
+    }
+
+    /// Whether the bytes of each slot with a block are the disk's.
+    pub fn is_clean(&self) -> bool
+        ensures clean { OnTrue result (AllClean (held self.now.items.items)) }
+        ensures unclean { OnFalse result (SomeUnclean (held self.now.items.items)) }
+    {
+        match self.find_unclean() {
+            Some(_) => false,
+            None => true,
+        }
+    }
+
+    /// The dirty slot with the lowest block.
+    pub fn lowest_dirty(&self) -> Option<usize>
+        ensures { IsLowestOf result self.now.items.items }
+    {
+        self.first(Among::Dirty)
+    }
+
+    /// The slot of a block is used now.
+    #[inline]
+    pub fn touch(&mut self, at: usize, block: u32)
+        requires { at < length self.old.items.items }
+        ensures items { self.new.items.items ≡ self.old.items.items }
+        ensures used { IsUsedLast self.old.uses.numbers.items self.new.uses.numbers.items at }
+    {
+        self.hints.set(block, at);
+        self.uses.touch(at);
+    }
+
+    /// The slot at this place.
+    #[inline]
+    pub fn get(&self, at: usize) -> &Slot
+        requires { at < length self.now.items.items }
+        ensures { slice_get self.now.items.items at ≡ Some result.now }
+    {
+        &self.items[at]
+    }
+
+    /// Gives the bytes there another state.
+    pub fn set_state(&mut self, at: usize, state: State)
+        requires { at < length self.old.items.items }
+        ensures set { IsSetAt self.old.items.items self.new.items.items at (λ s. record s { state = state }) }
+        ensures uses { self.new.uses ≡ self.old.uses }
+    {
+        let slot = &mut self.items[at];
+        slot.state = state;
+    }
+
+    /// The write with this ticket was answered good.
+    pub fn settle(&mut self, ticket: Ticket)
+        ensures written { IsWritten ticket self.old.items.items self.new.items.items }
+        ensures stay { AllStay self.old self.new }
+    {
+        if let Some(at) = self.find_ticket(ticket) {
+            let state = self.get(at).state;
+            self.set_state(at, state.written());
+        }
+    }
+
+    /// Takes the block out of a slot.
+    pub fn vacate(&mut self, at: usize)
+        requires { at < length self.old.items.items }
+        ensures set { IsSetAt self.old.items.items self.new.items.items at (λ s. record s { block = None }) }
+        ensures uses { self.new.uses ≡ self.old.uses }
+        ensures count { length self.new.items.items ≡ length self.old.items.items }
+    {
+        let slot = &mut self.items[at];
+        slot.block = None;
+    }
+
+    /// Gives a slot to a block that has none.
+    pub fn fill(&mut self, at: usize, block: u32, bytes: &[u8; 4096], state: State)
+        requires at { at < length self.old.items.items }
+        requires free { held self.old.items.items block ≡ None }
+        ensures filled { IsFilledAt self.old.items.items self.new.items.items at block bytes.now state }
+        ensures used { IsUsedLast self.old.uses.numbers.items self.new.uses.numbers.items at }
+        ensures count { length self.new.items.items ≡ length self.old.items.items }
+    {
+        let slot = &mut self.items[at];
+        slot.hold(block, bytes, state);
+        self.touch(at, block);
+    }
+
+    /// Gives a slot zero bytes.
+    pub fn blank(&mut self, at: usize, block: u32)
+        requires { at < length self.old.items.items }
+        ensures blanked { IsBlankedAt self.old.items.items self.new.items.items at }
+        ensures used { IsUsedLast self.old.uses.numbers.items self.new.uses.numbers.items at }
+        ensures count { length self.new.items.items ≡ length self.old.items.items }
+    {
+        let slot = &mut self.items[at];
+        slot.clear();
+        self.touch(at, block);
+    }
+
+    /// Changes some bytes of a slot.
+    #[inline]
+    pub fn change(&mut self, at: usize, from: usize, bytes: &[u8])
+        requires at { at < length self.old.items.items }
+        requires within { from + length bytes.now ≤ 4096 }
+        ensures changed { IsChangedAt self.old.items.items self.new.items.items at from bytes.now }
+        ensures uses { self.new.uses ≡ self.old.uses }
+        ensures count { length self.new.items.items ≡ length self.old.items.items }
+    {
+        let slot = &mut self.items[at];
+        slot.change(from, bytes);
+    }
+}

@@ -1,3 +1,0 @@
-pub mod Between
-pub mod Entering
-pub mod Ending

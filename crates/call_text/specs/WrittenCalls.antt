@@ -1,0 +1,93 @@
+-- Calls as words write them, and those of up to two words.
+use Rattle.std.specs.Prelude.{ℕ, List, [], if◌then◌else◌, Option, Some, None, codes, replicate}
+use Rattle.std.specs.Borrow.{Bor}
+use Rattle.std.specs.Option.{option_map, option_zip}
+use Rattle.std.specs.Str.{bytes_eq}
+use Rattle.tree.specs.declared.Call.{Call}
+use Rattle.tree.specs.declared.Call.TheVariants.{Open, Close, Dup, Read, Write, Seek, Stat, Fstat, Link, Unlink, Mkdir, Rmdir, Rename, Chmod, Chown, Utime, Truncate, Readdir, Sync, Statfs}
+use Rattle.call_text.specs.Words.{number_of, mode_of, path_of}
+use Rattle.call_text.specs.Bytes.{hex_bytes, digits_in}
+use Rattle.call_text.specs.declared.written_call.call.WrittenCall.{WrittenCall}
+use Rattle.call_text.specs.declared.written_call.call.WrittenCall.TheVariants.{Whole, Hex, Fill}
+
+-- bytes as a call has them, wherever they stand
+abbrev pub at : List ℕ → Bor (List ℕ)
+at bytes = record { ref_ptr = (0, 0); now = bytes }
+
+-- the same bytes, wherever they stand
+abbrev pub anywhere : Bor (List ℕ) → Bor (List ℕ)
+anywhere bytes = at bytes.now
+
+-- the same call, wherever its paths and bytes stand
+abbrev pub plain : Call → Call
+plain (Open path flags mode) = Open (anywhere path) flags mode
+plain (Close fd) = Close fd
+plain (Dup fd) = Dup fd
+plain (Read fd count) = Read fd count
+plain (Write fd bytes) = Write fd (anywhere bytes)
+plain (Seek fd whence offset) = Seek fd whence offset
+plain (Stat path) = Stat (anywhere path)
+plain (Fstat fd) = Fstat fd
+plain (Link old new) = Link (anywhere old) (anywhere new)
+plain (Unlink path) = Unlink (anywhere path)
+plain (Mkdir path mode) = Mkdir (anywhere path) mode
+plain (Rmdir path) = Rmdir (anywhere path)
+plain (Rename old new) = Rename (anywhere old) (anywhere new)
+plain (Chmod path mode) = Chmod (anywhere path) mode
+plain (Chown path uid gid) = Chown (anywhere path) uid gid
+plain (Utime path atime mtime) = Utime (anywhere path) atime mtime
+plain (Truncate path size) = Truncate (anywhere path) size
+plain (Readdir fd) = Readdir fd
+plain Sync = Sync
+plain Statfs = Statfs
+
+-- the call that is written, with its bytes
+abbrev pub meant : WrittenCall → Call
+meant (Whole call) = plain call
+meant (Hex fd digits) = Write fd (at (hex_bytes digits.now))
+meant (Fill fd count byte) = Write fd (at (replicate count byte))
+
+-- a descriptor, a size or a time
+abbrev pub word : List ℕ → Option ℕ
+word w = number_of 4294967295 w
+
+-- how many bytes to read or to fill, at most 131072
+abbrev pub count : List ℕ → Option ℕ
+count w = number_of 131072 w
+
+-- two words that both can be read
+abbrev pub both : {A B : Type 0} → (A → B → Call) → Option A → Option B → Option Call
+both make a b = option_map (λ p. make p.0 p.1) (option_zip a b)
+
+-- a call of no words but its name
+abbrev pub call_of_none : List ℕ → Option Call
+call_of_none name =
+    if bytes_eq name (codes "sync") then Some Sync else if bytes_eq name (codes "statfs") then Some Statfs else None
+
+-- a call of a descriptor or a path
+abbrev pub call_of_one : List ℕ → List ℕ → Option Call
+call_of_one name a =
+    if bytes_eq name (codes "close") then option_map Close (word a)
+    else if bytes_eq name (codes "dup") then option_map Dup (word a)
+    else if bytes_eq name (codes "fstat") then option_map Fstat (word a)
+    else if bytes_eq name (codes "readdir") then option_map Readdir (word a)
+    else if bytes_eq name (codes "stat") then option_map (λ p. Stat (at p)) (path_of a)
+    else if bytes_eq name (codes "unlink") then option_map (λ p. Unlink (at p)) (path_of a)
+    else if bytes_eq name (codes "rmdir") then option_map (λ p. Rmdir (at p)) (path_of a) else None
+
+-- a call of two words
+abbrev pub call_of_two : List ℕ → List ℕ → List ℕ → Option Call
+call_of_two name a b =
+    if bytes_eq name (codes "read") then both Read (word a) (count b)
+    else if bytes_eq name (codes "write") then both (λ fd digits. Write fd (at (hex_bytes digits))) (word a) (digits_in b)
+    else if bytes_eq name (codes "link") then both (λ old new. Link (at old) (at new)) (path_of a) (path_of b)
+    else if bytes_eq name (codes "rename") then both (λ old new. Rename (at old) (at new)) (path_of a) (path_of b)
+    else if bytes_eq name (codes "mkdir") then both (λ p mode. Mkdir (at p) mode) (path_of a) (mode_of b)
+    else if bytes_eq name (codes "chmod") then both (λ p mode. Chmod (at p) mode) (path_of a) (mode_of b)
+    else if bytes_eq name (codes "truncate") then both (λ p size. Truncate (at p) size) (path_of a) (word b) else None
+
+-- the bytes that are decoded of a written call
+abbrev pub decoded : WrittenCall → List ℕ
+decoded (Whole call) = []
+decoded (Hex fd digits) = hex_bytes digits.now
+decoded (Fill fd count byte) = replicate count byte

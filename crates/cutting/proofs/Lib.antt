@@ -1,3 +1,0 @@
-pub use Rattle.zone.proofs as zone
-pub mod Last
-pub mod Cutting

@@ -1,6 +1,0 @@
-use Rattle.std.proofs.Common.{◌≡◌, ℕ, ◌<◌, ◌≤◌}
-use Rattle.store.specs.volume.Nodes.{slot}
-use Rattle.cutting.proofs.pages.last_slot.Given as goal
-
-abbrev pub invariant-loop-slot : goal.invariant-loop-slot
-invariant-loop-slot l = (s : ℕ) → l.slot ≤ s → s < 10 → slot l.inode s ≡ 0

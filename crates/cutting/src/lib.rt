@@ -1,9 +1,0 @@
-//! Files that are cut: the pages from one on are let go, and the indirect blocks that have no number then.
-#![tactic(auto)]
-
-pub mod pages;
-pub mod zones;
-
-pub use pages::detach_from;
-// passed on: the inodes of a volume
-pub use zone::inodes;

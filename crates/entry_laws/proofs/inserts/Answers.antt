@@ -1,8 +1,0 @@
-use Rattle.entry_laws.proofs.Rows.{inserted_names, insert_keeps}
-use Rattle.entry_laws.proofs.inserts.Goals as goal
-
-pub returns-clause-inserted_names : goal.returns-clause-inserted_names
-returns-clause-inserted_names c = inserted_names
-
-pub returns-clause-insert_keeps : goal.returns-clause-insert_keeps
-returns-clause-insert_keeps c = insert_keeps

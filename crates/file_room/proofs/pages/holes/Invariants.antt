@@ -1,9 +1,0 @@
-use Rattle.std.proofs.Common.{◌≡◌, ◌≤◌, ◌-◌}
-use Rattle.store.specs.volume.Pieces.{pieces}
-use Rattle.store.specs.World.{Reads}
-use Rattle.file_room.specs.Need.{holes}
-use Rattle.file_room.proofs.pages.holes.Given as goal
-
-abbrev pub invariant-loop-place : goal.invariant-loop-place
-invariant-loop-place g l =
-    (l.holes ≤ l.place - l.from) × Reads g.B.Blocks.world l.fn.blocks l.blocks (λ d. l.holes ≡ holes l.geometry (pieces l.geometry d) l.inode l.level l.from l.place)

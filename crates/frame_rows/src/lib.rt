@@ -1,9 +1,0 @@
-//! Rows of frames, and of blocks in them, over a link that answers from a list: each expected value is worked out by hand.
-#![tactic(auto)]
-
-#[cfg(test)]
-mod blocks;
-#[cfg(test)]
-mod caches;
-#[cfg(test)]
-mod frames;

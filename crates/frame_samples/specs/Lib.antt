@@ -1,1 +1,0 @@
-pub use Rattle.cache.specs as cache

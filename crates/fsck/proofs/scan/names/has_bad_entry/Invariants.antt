@@ -1,0 +1,11 @@
+use Rattle.std.proofs.Common.{◌≡◌, ◌<◌, ℕ, false}
+use Rattle.volume.specs.Findings.{is_bad_entry}
+use Rattle.image.specs.Contents.{contents}
+use Rattle.fsck.proofs.Doubles.{AreNames}
+use Rattle.fsck.proofs.scan.names.has_bad_entry.Given as goal
+
+abbrev pub invariant-loop-number : goal.invariant-loop-number
+invariant-loop-number l = record {
+  good : (e : ℕ) → e < l.number → is_bad_entry l.image.geometry (contents l.image) l.n e ≡ false;
+  names : AreNames l.image l.n l.names.keys l.number;
+}

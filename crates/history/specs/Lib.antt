@@ -1,1 +1,0 @@
-pub use Rattle.marks.specs as marks

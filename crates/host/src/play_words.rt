@@ -1,0 +1,38 @@
+//! The words of the programs that play against a server, and what they say: a module for each program.
+
+pub mod mfs;
+pub mod mfssim;
+
+use clap::Arg;
+use clap::builder::ValueParser;
+use std::alloc::Global;
+
+/// A word that takes a number up to a most.
+fn number<'a>(alloc: Global, name: &'static str, value: &'static str, most: u64) -> Arg<'a> {
+    Arg::new(alloc, name)
+        .long(name)
+        .value_name(value)
+        .value_parser(ValueParser::Unsigned(0, most))
+}
+
+/// The word that says where the volume lies.
+pub(crate) fn minor<'a>(alloc: Global) -> Arg<'a> {
+    number(alloc, "minor", "M", 255).default_value("0").help(
+        "Where the volume lies: 0 is the whole image, 1 to 4 are the partitions of its table",
+    )
+}
+
+/// The most drivers that stand by (own).
+const MOST_SPARES: u64 = 63;
+
+/// The word that says how many drivers stand by.
+pub(crate) fn spares<'a>(alloc: Global) -> Arg<'a> {
+    number(alloc, "spares", "K", MOST_SPARES)
+        .default_value("5")
+        .help("How many drivers stand by to take the place of one that fails")
+}
+
+/// The word that names the image's file.
+pub(crate) fn image<'a>(alloc: Global, help: &'static str) -> Arg<'a> {
+    Arg::new(alloc, "IMAGE").required(true).help(help)
+}

@@ -1,0 +1,112 @@
+//! The words that `mfs` takes, and what they say.
+
+use crate::play_words::{image, minor, spares};
+use clap::{Arg, ArgAction, ArgMatches, Command, Error};
+use std::alloc::{AllocError, Global};
+
+/// What the help says of scripts: their lines, and each call.
+const SCRIPTS: &str =
+    "A script is a line `user UID GID`, and then a line `NOW CALL` for each call: the time in seconds since 1970, and one of
+
+  open PATH FLAGS MODE        a descriptor; FLAGS are letters of r w a c x t, or - for none
+  close FD                    the descriptor is free again
+  dup FD                      a second descriptor of the same open file
+  read FD COUNT               bytes from the position on, up to the file's end
+  write FD HEX                writes bytes, a pair of digits each, or - for none
+  fill FD COUNT HH            writes COUNT bytes HH
+  seek FD set|cur|end OFFSET  moves the position
+  stat PATH                   the attributes of a file or directory
+  fstat FD                    the same of an open one
+  link OLD NEW                a further name for a file
+  unlink PATH                 takes a file's name away
+  mkdir PATH MODE             makes a directory
+  rmdir PATH                  takes an empty directory away
+  rename OLD NEW              gives a file or directory another name
+  chmod PATH MODE             sets the permissions
+  chown PATH UID GID          sets user and group
+  utime PATH ATIME MTIME      sets both times
+  truncate PATH SIZE          sets a file's size
+  readdir FD                  all names in an open directory
+  sync                        writes what was changed to the disk
+  statfs                      the volume's blocks and inodes, and how many are free
+
+Modes are octal, bytes lower-case hexadecimal, other numbers decimal. One space stands between two words, and a newline ends each line.";
+
+/// The words that `mfs` knows.
+fn command<'a>(alloc: Global) -> Result<Command<'a>, AllocError> {
+    let file = "The file of a MINIX 3 volume; it is read only, unless --out names it";
+    Command::new(alloc, "mfs")
+        .version("0.1.0")
+        .about(
+            "Plays scripts of client calls against a file server over the image of a volume, and prints the replies",
+        )
+        .after_help(SCRIPTS)
+        .arg(image(alloc, file))?
+        .arg(scripts(alloc))?
+        .arg(out(alloc))?
+        .arg(minor(alloc))?
+        .arg(spares(alloc))?
+        .arg(model(alloc))
+}
+
+/// The word that names the scripts' files.
+fn scripts<'a>(alloc: Global) -> Arg<'a> {
+    Arg::new(alloc, "SCRIPT")
+        .required(true)
+        .num_args(1..)
+        .action(ArgAction::Append)
+        .help("The files of scripts, 64 at most; they are played one after the other")
+}
+
+/// The word that names the file of the image that is left.
+fn out<'a>(alloc: Global) -> Arg<'a> {
+    Arg::new(alloc, "out")
+        .long("out")
+        .value_name("FILE")
+        .help("Writes the image as it is after the calls to this file")
+}
+
+/// The word by which drivers move an arm.
+fn model<'a>(alloc: Global) -> Arg<'a> {
+    Arg::new(alloc, "model")
+        .long("model")
+        .action(ArgAction::SetTrue)
+        .help("The drivers move an arm over the sectors, from sector 0 on")
+}
+
+/// What the words say.
+#[derive(Drop)]
+pub struct Words<'a> {
+    /// The image's file.
+    pub image: &'a str,
+    /// The scripts' files, in the order of the words.
+    pub scripts: Vec<&'a str>,
+    /// The file that the image is written to in the end, if one is named.
+    pub out: Option<&'a str>,
+    /// Where the volume lies: 0 is the whole image.
+    pub minor: u8,
+    /// How many drivers stand by, 0 to 63.
+    pub spares: u8,
+    /// The drivers move an arm.
+    pub model: bool,
+}
+
+impl<'a> Words<'a> {
+    /// What words that were taken say.
+    fn of(alloc: Global, matches: &ArgMatches<'a>) -> Result<Words<'a>, AllocError> {
+        Ok(Words {
+            image: matches.get_str("IMAGE").unwrap_or(""),
+            scripts: matches.get_strs("SCRIPT").unwrap_or(&[]).to_vec(alloc)?,
+            out: matches.get_str("out"),
+            minor: matches.get_one::<u8>("minor").unwrap_or(0),
+            spares: matches.get_one::<u8>("spares").unwrap_or(0),
+            model: matches.get_flag("model"),
+        })
+    }
+}
+
+/// What the words of a line say, or why they aren't taken.
+pub fn read<'a>(alloc: Global, line: &'a [String]) -> Result<Words<'a>, Error> {
+    let matches = command(alloc)?.try_get_matches_from(line)?;
+    Ok(Words::of(alloc, &matches)?)
+}

@@ -1,0 +1,26 @@
+//! The words of the programs that make and check a volume, and what they say: a module for each program.
+
+pub mod mfsck;
+pub mod mkmfs;
+
+use clap::Arg;
+use clap::builder::ValueParser;
+use std::alloc::Global;
+
+/// A word that takes a number up to a most.
+pub(crate) fn number<'a>(
+    alloc: Global,
+    name: &'static str,
+    value: &'static str,
+    most: u64,
+) -> Arg<'a> {
+    Arg::new(alloc, name)
+        .long(name)
+        .value_name(value)
+        .value_parser(ValueParser::Unsigned(0, most))
+}
+
+/// The word that names the image's file.
+pub(crate) fn image<'a>(alloc: Global, help: &'static str) -> Arg<'a> {
+    Arg::new(alloc, "IMAGE").required(true).help(help)
+}

@@ -1,0 +1,14 @@
+use Rattle.std.proofs.Common.{◌≡◌, ◌≤◌, ◌+◌, ℕ, Bool, false, ap, sym, rules, arith}
+use Rattle.volume.specs.Findings.{has_bad_bit}
+use Rattle.volume.specs.Verdict.{place_limit}
+use Rattle.image.specs.Contents.{contents}
+use Rattle.image.proofs.Leasts.{first_least}
+use Rattle.image.proofs.Counting.{past_zones}
+use Rattle.image.proofs.uses.bad_bit.Goals as goal
+
+pub returns : goal.returns
+returns c =
+    let i = c.args.image.now in
+    let e : c.geometry.result.zones ≡ i.geometry.zones = ap (λ g. g.zones) c.geometry.ensures in
+    first_least _ _ _ c.least_passing.ensures (has_bad_bit i.geometry (contents i)) (place_limit i.geometry) (omega arith)
+    (λ k b h a. search rules) (λ k h. past_zones i k _ (omega arith))

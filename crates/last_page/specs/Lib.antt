@@ -1,2 +1,0 @@
--- Files without holes.
-pub mod Sizes

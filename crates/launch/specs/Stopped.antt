@@ -1,0 +1,33 @@
+-- Why a service doesn't start where all stands ready.
+use Rattle.std.specs.Prelude.{ℕ, List, []}
+use Rattle.records.specs.Disk.{HasTrueReplies}
+use Rattle.records.specs.Told.{Told}
+use Rattle.records.specs.Acts.{marks_after}
+use Rattle.records.specs.Opening.{Opening, contents_at}
+use Rattle.records.specs.Mount.{MountRefused}
+use Rattle.mounting.specs.declared.whole.MountRefusal.{MountRefusal}
+use Rattle.mounting.specs.declared.whole.MountRefusal.TheVariants as mount
+use Rattle.mounting.specs.Laws.{IsSaidOf}
+use Rattle.mounting.specs.Mounts.{in_words}
+use Rattle.mounting.specs.declared.refusal.StartRefusal.{StartRefusal}
+use Rattle.mounting.specs.declared.refusal.StartRefusal.TheVariants.{Mount, OutOfMemory}
+
+-- The volume isn't mounted. Over some link, whose replies were true of the volume as it was handed in, a mount with so many frames was refused
+-- so, and what the refusal says of the volume is so.
+pub record IsMountRefused (v : Opening) (frames : ℕ) (refusal : MountRefusal) : Type 0 where
+  pub after : List Told
+  pub refused : MountRefused v.minor frames [] (in_words refusal) after
+  pub true_replies : HasTrueReplies (contents_at v) (marks_after refused.acts [])
+  pub said : IsSaidOf (contents_at v) (in_words refusal)
+
+-- the refusal of a mount, as a start has it
+abbrev pub refusal_of : MountRefusal → StartRefusal
+refusal_of mount.OutOfMemory = OutOfMemory
+refusal_of refusal = Mount refusal
+
+-- why no service starts where all stands ready: its volume isn't mounted, or memory is wanting
+abbrev pub IsStopped : Opening → ℕ → StartRefusal → Type 0
+IsStopped v frames (Mount mount.OutOfMemory) = ⊥
+IsStopped v frames (Mount refusal) = IsMountRefused v frames refusal
+IsStopped v frames OutOfMemory = Unit {0}
+IsStopped v frames _ = ⊥

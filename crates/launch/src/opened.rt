@@ -1,0 +1,94 @@
+//! A service of the file server over a link.
+
+ghost use Rattle.std.specs.Prelude.{◌≡◌, ◌≤◌, ◌^◌, [], true, IfErr, OnOk};
+ghost use Rattle.std.specs.Arc.{arc_value};
+ghost use Rattle.layout.specs.Places.{IsGeometry};
+ghost use Rattle.tree.specs.Tree.{Tree};
+ghost use Rattle.records.specs.Opening.{contents_at};
+ghost use Rattle.records.specs.Legal.{IsAtFirst};
+ghost use Rattle.records.specs.Mount.{is_frame_count};
+ghost use Rattle.mounting.specs.Laws.{sizes_in};
+ghost use Rattle.launch.specs.Stopped.{IsStopped, refusal_of as start_refusal_of};
+
+use board::Board;
+use keeping::recorder::Recorder;
+use keeping::room::Room;
+use layout::Geometry;
+use mounting::MountRefusal;
+use vfs::Server;
+use mounting::mounted::mount;
+use mounting::opening::open;
+use reissue::link::TrueLink;
+use serve::service::{Service, Shared};
+use mounting::StartRefusal;
+use std::alloc::{AllocError, Global};
+use std::sync::{Arc, Wait};
+use stored::Stored;
+
+/// A service of a server of all calls, with so many frames, for its volume in a range of the media, over a link that was told nothing yet,
+/// keeps an empty record on the service's board, and runs on the service's drivers under its policy. The link gives at most 2^58 messages.
+/// Where no memory was found, the link is let go.
+pub fn over<N: Room, R: Wait + Copy, L: Recorder<N>>(
+    alloc: Global,
+    rt: R,
+    board: Arc<Board>,
+    link: L,
+    minor: u8,
+    geometry: Geometry,
+    frames: u32,
+) -> Result<Service<N, Shared<N, R, L, Server<Stored<L>>>>, AllocError>
+    requires board { arc_value board ≡ N.table }
+    requires marks { L.marks link ≡ [] }
+    requires told { L.Link.history link ≡ [] }
+    requires geometry { IsGeometry geometry × (geometry ≡ N.geometry) }
+    requires minor { minor ≡ N.opening.minor }
+    requires frames { is_frame_count frames ≡ true }
+    requires budget { L.Link.budget_left link ≤ 2 ^ 58 }
+    requires truth { L.Link.truth link N.opening [] }
+    requires drivers { L.runs_on link N.policy N.supply }
+{
+    match open(alloc, link, minor, geometry, frames) {
+        Ok(server) => Service::over(alloc, rt, board, server),
+        Err(_) => Err(AllocError),
+    }
+}
+
+/// The refusal of a mount, as a start has it: memory that is wanting is wanting to the start.
+fn refusal_of(refusal: MountRefusal) -> StartRefusal
+    ensures { result ≡ start_refusal_of refusal }
+{
+    match refusal {
+        MountRefusal::OutOfMemory => StartRefusal::OutOfMemory,
+        refusal => StartRefusal::Mount(refusal),
+    }
+}
+
+/// A service of a server of all calls, mounted with so many frames on its volume in a range of the media, over a link as `over` takes it,
+/// whose replies are true; it gives at most 2^57 messages. The volume then holds a tree.
+///
+/// It is refused as a mount is; and where no memory was found. The link is let go then.
+pub fn mounted<N: Room, R: Wait + Copy, L: Recorder<N> + TrueLink>(
+    alloc: Global,
+    rt: R,
+    board: Arc<Board>,
+    link: L,
+    minor: u8,
+    frames: u32,
+) -> Result<Service<N, Shared<N, R, L, Server<Stored<L>>>>, StartRefusal>
+    requires board { arc_value board ≡ N.table }
+    requires marks { L.marks link ≡ [] }
+    requires told { L.Link.history link ≡ [] }
+    requires geometry { N.geometry ≡ sizes_in (contents_at N.opening) }
+    requires minor { minor ≡ N.opening.minor }
+    requires frames { is_frame_count frames ≡ true }
+    requires budget { L.Link.budget_left link ≤ 2 ^ 57 }
+    requires truth { L.Link.truth link N.opening [] }
+    requires drivers { L.runs_on link N.policy N.supply }
+    ensures holds { OnOk result ((tree : Tree) × IsAtFirst N.geometry (contents_at N.opening) tree) }
+    ensures refused { IfErr result (IsStopped N.opening frames) }
+{
+    match mount(alloc, link, minor, frames) {
+        Ok(server) => Ok(Service::over(alloc, rt, board, server)?),
+        Err(refusal) => Err(refusal_of(refusal)),
+    }
+}

@@ -1,5 +1,0 @@
-use Rattle.legal.proofs.Living.{still_serves}
-use Rattle.legal.proofs.laws.still_serves.Goals as goal
-
-pub returns : goal.returns
-returns g c = still_serves g.S.Serve.serving

@@ -1,2 +1,0 @@
--- The call that gives a file a name more.
-pub mod Linking

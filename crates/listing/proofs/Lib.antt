@@ -1,3 +1,0 @@
-pub mod Putting
-pub mod Gathering
-pub mod ReaddirCall

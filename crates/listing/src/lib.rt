@@ -1,8 +1,0 @@
-//! readdir: the names of an open directory, in the order of their bytes, over any blocks.
-#![tactic(auto)]
-
-mod call;
-mod gather;
-mod names;
-
-pub use call::readdir;

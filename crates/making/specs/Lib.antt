@@ -1,2 +1,0 @@
--- New nodes.
-pub mod NewNodes

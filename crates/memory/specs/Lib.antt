@@ -1,3 +1,0 @@
--- Blocks in memory.
-pub mod Memory
-pub mod Lawful

@@ -1,0 +1,56 @@
+//! A driver of either kind.
+
+use bdev::{Accept, BlockDriver, Step};
+use media::Media;
+use message::BlockRequest;
+use crate::{ModelDriver, RamDriver};
+
+/// A driver of a disk in memory.
+#[derive(Drop)]
+pub enum DiskDriver {
+    /// It moves sectors in rising order.
+    Ram(RamDriver),
+    /// It moves an arm over the sectors.
+    Arm(ModelDriver),
+}
+
+impl BlockDriver for DiskDriver {
+    ghost use Rattle.modeldisk.specs.Kinds.{disk_state};
+
+    ghost state = { disk_state };
+
+    fn accept(&mut self, request: BlockRequest) -> Accept {
+        match self {
+            DiskDriver::Ram(driver) => driver.accept(request),
+            DiskDriver::Arm(driver) => driver.accept(request),
+        }
+    }
+
+    fn in_work(&self) -> Option<u32> {
+        match self {
+            DiskDriver::Ram(driver) => driver.in_work(),
+            DiskDriver::Arm(driver) => driver.in_work(),
+        }
+    }
+
+    fn ready(&self, minor: u8) -> Option<(u32, u32)> {
+        match self {
+            DiskDriver::Ram(driver) => driver.ready(minor),
+            DiskDriver::Arm(driver) => driver.ready(minor),
+        }
+    }
+
+    fn bad(&self) -> u64 {
+        match self {
+            DiskDriver::Ram(driver) => driver.bad(),
+            DiskDriver::Arm(driver) => driver.bad(),
+        }
+    }
+
+    fn step(&mut self, media: &mut Media, generation: u32) -> Step {
+        match self {
+            DiskDriver::Ram(driver) => driver.step(media, generation),
+            DiskDriver::Arm(driver) => driver.step(media, generation),
+        }
+    }
+}

@@ -1,3 +1,0 @@
-pub use Rattle.vfs.proofs as vfs
-pub mod Opened
-pub mod Mounting

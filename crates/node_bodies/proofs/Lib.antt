@@ -1,4 +1,0 @@
-pub mod Volumes
-pub mod Effects
-pub mod Naming
-pub mod Calls

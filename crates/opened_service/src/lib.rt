@@ -1,5 +1,0 @@
-//! A service of the file server over a link: opened on its volume, or mounted, why it isn't, and a program that runs over it.
-#![tactic(auto)]
-
-pub mod opened;
-pub mod program;

@@ -1,3 +1,0 @@
-pub mod TableLaws
-pub mod Volumes
-mod Rows

@@ -1,4 +1,0 @@
-pub mod Entries
-pub mod Table
-pub mod Refusals
-pub mod Places

@@ -1,5 +1,0 @@
-pub mod Contents
-pub mod Sweep
-pub mod Steps
-pub mod Counting
-pub mod Spares

@@ -1,7 +1,0 @@
-use Rattle.std.proofs.Common.{◌≡◌, ◌<◌, ℕ}
-use Rattle.image.specs.volume.Nodes.{number}
-use Rattle.image.specs.Contents.{contents}
-use Rattle.passes.proofs.spare.has_number.Given as goal
-
-abbrev pub invariant-loop-j : goal.invariant-loop-j
-invariant-loop-j l = (j : ℕ) → j < l.j → number (contents l.image) l.zone j ≡ 0

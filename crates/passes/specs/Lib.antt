@@ -1,4 +1,0 @@
--- The passes over zones.
-pub mod Entered
-pub mod Counts
-pub mod Spare

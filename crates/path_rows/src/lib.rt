@@ -1,7 +1,0 @@
-//! Rows of paths and of access: each expected value is worked out by hand from the rules of client calls.
-#![tactic(auto)]
-
-#[cfg(test)]
-mod access;
-#[cfg(test)]
-mod paths;

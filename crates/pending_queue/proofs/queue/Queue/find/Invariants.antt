@@ -1,7 +1,0 @@
-use Rattle.std.proofs.Common.{◌≡◌, None, take}
-use Rattle.std.specs.Prelude.{position, ◌==◌}
-use Rattle.pending_queue.specs.declared.pending.Pending.{Pending}
-use Rattle.pending_queue.proofs.queue.Queue.find.Given as goal
-
-abbrev pub invariant-loop-at : goal.invariant-loop-at
-invariant-loop-at l = position (λ (p : Pending). p.request.id == l.id) (take l.at l.self) ≡ None

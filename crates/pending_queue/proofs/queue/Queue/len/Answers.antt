@@ -1,8 +1,0 @@
-use Rattle.std.proofs.Common.{arith}
-use Rattle.pending_queue.proofs.Places.{length_entries}
-use Rattle.pending_queue.proofs.queue.Queue.len.Goals as goal
-
-pub returns : goal.returns
-returns c =
-    let e = length_entries c.self.inside.entries c.self.inside.keys.items c.self.invariant.holds in
-    rw (← c.self.view_is) (omega (arith, e, c.self.inside.keys.ok))

@@ -1,6 +1,0 @@
-use Rattle.pending_table.proofs.Closing.{tickets_push}
-use Rattle.pending_table.proofs.table.Table.push.Goals as goal
-
-pub invariant_of-self-clause-numbers : goal.invariant_of-self-clause-numbers
-invariant_of-self-clause-numbers c =
-    rw c.push.ensures (tickets_push c.args.self.now.ids c.args.self.now.pending c.args.entry c.args.self.now.numbers c.requires.fresh c.requires.ticket c.requires.next)

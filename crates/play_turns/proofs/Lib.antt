@@ -1,2 +1,0 @@
-pub mod PlayLaws
-pub mod Going

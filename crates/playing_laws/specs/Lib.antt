@@ -1,4 +1,0 @@
-pub use Rattle.playing.specs as playing
-pub mod Laws
-pub mod Waiting
-pub mod Moments

@@ -1,3 +1,0 @@
-mod Rows
-pub mod WatchLaws
-pub mod PulseLaws

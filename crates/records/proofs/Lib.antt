@@ -1,0 +1,20 @@
+pub mod OpenRequests
+pub mod Rising
+pub mod Unsure
+pub mod Sectors
+pub mod Growing
+pub mod FirstIssue
+pub mod Changes
+pub mod ActLaws
+pub mod Rows
+mod DiskRows
+mod ActRows
+pub mod Legality
+pub mod Sessions
+pub mod Living
+pub mod LegalRows
+mod ViewRows
+mod SessionRows
+mod ServerRows
+mod ServerRight
+mod MountRows

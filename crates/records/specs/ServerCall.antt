@@ -1,0 +1,110 @@
+-- What a call of a server and a message between two calls keep, over any link.
+use Rattle.std.specs.Prelude.{◌≡◌, ◌↔◌, ◌⊎◌, ℕ, List, [], ◌∷◌, ◌++◌, Bool, true, false, ◌||◌, is_some}
+use Rattle.errno.specs.declared.Errno.TheVariants.{EIO}
+use Rattle.layout.specs.declared.Geometry.{Geometry}
+use Rattle.message.specs.declared.Incoming.{Incoming}
+use Rattle.message.specs.declared.Incoming.TheVariants.{End}
+use Rattle.tree.specs.declared.Who.{Who}
+use Rattle.tree.specs.declared.Call.{Call}
+use Rattle.tree.specs.Sums.{some_below}
+use Rattle.tree.specs.Tree.{Tree, most_open_files}
+use Rattle.tree.specs.Answers.{Answer, refused}
+use Rattle.records.specs.Marks.{Mark, Took, gave_up}
+use Rattle.records.specs.Open.{IsWellFormed}
+use Rattle.records.specs.Disk.{Contents, HasTrueReplies}
+use Rattle.records.specs.Told.{Told, took_end, took_nothing}
+use Rattle.records.specs.Acts.{Act, Absorbed, Outbox, told_of, has_absorbed, marks_after, outbox_after, IsAtRest, KeepsRules}
+use Rattle.records.specs.Legal.{IsLegal, tree_after}
+use Rattle.records.specs.View.{Frames, ReadsBack}
+
+-- What is said of a server.
+pub record Serving : Type 1 where
+  pub geometry : Geometry
+  -- the range of the media that its requests name
+  pub minor : ℕ
+  -- what its fields say of an image, of the tree at first and of a record
+  pub Agrees : Contents → Tree → List Mark → Type 0
+  pub frames : Frames
+  -- how many blocks may have a frame at a time
+  pub frame_count : ℕ
+  -- what it owes its link
+  pub outbox : Outbox
+  -- some file is open
+  pub is_busy : Bool
+  -- what its link was told and gave
+  pub told : List Told
+  -- a take gave End
+  pub ended : Bool
+
+-- whether some file is open
+abbrev pub has_open_file : Tree → Bool
+has_open_file tree = some_below (λ k. is_some (tree.open_files k)) most_open_files
+
+-- over true replies, while the link hasn't ended and the device isn't given up: the tree now is what would be read back, with its open files
+pub record HasTree (s : Serving) (image : Contents) (tree : Tree) (marks : List Mark) : Type 0 where
+  pub reads_back : ReadsBack s.geometry s.frames image tree marks
+  pub open_files : s.is_busy ≡ has_open_file (tree_after s.geometry tree marks)
+
+-- A server serves a volume: it agrees with the record, which is well formed whatever the link answered, and owes nothing.
+-- Over true replies the record is legal, and the tree now is there.
+pub record Serves (s : Serving) (image : Contents) (tree : Tree) (marks : List Mark) : Type 0 where
+  pub agrees : s.Agrees image tree marks
+  pub well_formed : IsWellFormed marks
+  pub at_rest : IsAtRest marks s.outbox
+  pub legal : HasTrueReplies image marks → IsLegal s.geometry image tree marks
+  pub has_tree : HasTrueReplies image marks → s.ended ≡ false → gave_up marks ≡ false → HasTree s image tree marks
+
+-- these acts lead from one state of a server to the next, and are all that its link was told
+pub record Leads (old : Serving) (acts : List Act) (new : Serving) : Type 0 where
+  pub geometry : new.geometry ≡ old.geometry
+  pub minor : new.minor ≡ old.minor
+  pub frame_count : new.frame_count ≡ old.frame_count
+  pub told : new.told ≡ told_of acts ++ old.told
+  pub ended : new.ended ≡ (took_end (told_of acts) || old.ended)
+
+-- from a record that the server agrees with, the acts keep the rules on posts, complaints and takes, and give what is owed afterwards
+pub record Rules (old : Serving) (acts : List Act) (new : Serving) (marks : List Mark) : Type 0 where
+  pub keep : KeepsRules old.minor acts marks old.outbox
+  pub outbox : new.outbox ≡ outbox_after acts marks old.outbox
+
+-- What a call gives back: an answer, or that the link ended.
+pub data Outcome : Type 0 where
+  Replied : (answer : Answer) → Outcome
+  Cut : Outcome
+
+-- a call that is answered adds one mark, last, with that answer; a cut adds none
+abbrev pub with_outcome : Who → ℕ → Call → Outcome → List Mark → List Mark
+with_outcome who now call (Replied answer) marks = Took who now call answer ∷ marks
+with_outcome who now call Cut marks = marks
+
+-- One call. Nothing is handed over in it. It is cut exactly where a take gave End, in it or earlier. Else it answers EIO exactly where
+-- the device is given up, in it or earlier. Where either was so earlier, it does nothing.
+pub record CallKeeps (old : Serving) (who : Who) (now : ℕ) (call : Call) (outcome : Outcome) (new : Serving) : Type 0 where
+  pub acts : List Act
+  pub leads : Leads old acts new
+  pub none_absorbed : has_absorbed acts ≡ false
+  pub cut : (outcome ≡ Cut) ↔ (new.ended ≡ true)
+  pub rules : (image : Contents) (tree : Tree) (marks : List Mark) → old.Agrees image tree marks → Rules old acts new marks
+  pub only_given_up : (image : Contents) (tree : Tree) (marks : List Mark) → old.Agrees image tree marks
+      → outcome ≡ Replied (refused EIO) → gave_up (marks_after acts marks) ≡ true
+  pub once_given_up : (image : Contents) (tree : Tree) (marks : List Mark) → old.Agrees image tree marks
+      → gave_up (marks_after acts marks) ≡ true → (outcome ≡ Cut) ⊎ (outcome ≡ Replied (refused EIO))
+  pub after_giving_up : (image : Contents) (tree : Tree) (marks : List Mark) → old.Agrees image tree marks
+      → gave_up marks ≡ true → acts ≡ []
+  pub after_end : old.ended ≡ true → acts ≡ []
+  pub serves : (image : Contents) (tree : Tree) (marks : List Mark) → Serves old image tree marks
+      → Serves new image tree (with_outcome who now call outcome (marks_after acts marks))
+
+-- One message between two calls: its mark, if it leaves one, stands before what the link is told then; no message is taken, no file is
+-- opened or closed, and an End has no effect.
+pub record AbsorbKeeps (old : Serving) (message : Incoming) (new : Serving) : Type 0 where
+  pub later : List Act
+  pub leads : Leads old (later ++ Absorbed message ∷ []) new
+  pub none_absorbed : has_absorbed later ≡ false
+  pub none_taken : took_nothing (told_of later) ≡ true
+  pub same_files : new.is_busy ≡ old.is_busy
+  pub no_effect : message ≡ End → later ≡ []
+  pub rules : (image : Contents) (tree : Tree) (marks : List Mark) → old.Agrees image tree marks
+      → Rules old (later ++ Absorbed message ∷ []) new marks
+  pub serves : (image : Contents) (tree : Tree) (marks : List Mark) → Serves old image tree marks
+      → Serves new image tree (marks_after (later ++ Absorbed message ∷ []) marks)

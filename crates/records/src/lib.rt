@@ -1,0 +1,5 @@
+//! records
+#![tactic(auto)]
+
+pub mod legal;
+pub mod marks;

@@ -1,0 +1,69 @@
+-- What an answer does to the entries, exactly.
+use Rattle.std.proofs.Common.{◌≡◌, ℕ, suc, zero, ◌+◌, ◌-◌, ◌<◌, List, [], ◌∷◌, ◌++◌, length, get_or, Bool, true, false, cond, sym, ◌∙◌, ap, subst, arith}
+use Rattle.std.proofs.lemmas.Bool.Decides.{nat_tests}
+use Rattle.std.specs.Prelude.{nat_lt, remove}
+use Rattle.reissue.specs.declared.pending.Pending.{Pending}
+use Rattle.reissue.specs.declared.table.Table.{Table}
+use Rattle.reissue.specs.Entries.{AllOfMinor}
+use Rattle.reissue.specs.Hears.{IsRest, LeavesRest, IsAnswered}
+
+-- an issued place is a place
+pub issued_within : (t : Table) (at : ℕ) → at < t.issued → at < length t.pending
+issued_within t at lt = omega (arith, lt, t.within)
+
+-- the same isn't less
+not_less : (n m : ℕ) → n ≡ m → nat_lt n m ≡ false
+not_less n m e = grind (arith, nat_tests)
+
+-- what is less passes the test
+is_less : (n m : ℕ) → n < m → nat_lt n m ≡ true
+is_less n m lt = grind (arith, nat_tests)
+
+-- nothing is left of it
+pub answered_whole : (t v : Table) (id at n : ℕ) (e : Pending) → at < t.issued → e ≡ get_or t.pending at e → e.request.id ≡ id
+    → n ≡ e.request.count → v.pending ≡ remove t.pending at → v.ids ≡ t.ids
+    → v.posted ≡ cond (nat_lt at t.posted) (t.posted - 1) t.posted → v.issued + 1 ≡ t.issued → IsAnswered t v id n
+answered_whole t v id at n e lt is same all items ids posted issued = record {
+  at = at;
+  entry = e;
+  issued = lt;
+  there = is;
+  id_is = same;
+  left = subst (λ (b : Bool). LeavesRest t v at e n b) (sym (not_less n e.request.count all)) (items, ids);
+  posted = posted;
+  issued_left = issued;
+}
+
+-- its rest goes to the end
+pub answered_part : (t v : Table) (id at n : ℕ) (e r : Pending) → at < t.issued → e ≡ get_or t.pending at e → e.request.id ≡ id
+    → n < e.request.count → v.pending ≡ remove t.pending at ++ r ∷ [] → v.ids ≡ t.ids + 1 → IsRest e r n (t.ids + 1)
+    → v.posted ≡ cond (nat_lt at t.posted) (t.posted - 1) t.posted → v.issued + 1 ≡ t.issued → IsAnswered t v id n
+answered_part t v id at n e r lt is same part items ids rest posted issued = record {
+  at = at;
+  entry = e;
+  issued = lt;
+  there = is;
+  id_is = same;
+  left = subst (λ (b : Bool). LeavesRest t v at e n b) (sym (is_less n e.request.count part)) (r, items, rest, ids);
+  posted = posted;
+  issued_left = issued;
+}
+
+-- the minors of the others
+pub minors_rest : (minor : ℕ) (ps : List Pending) (at : ℕ) → AllOfMinor minor ps → AllOfMinor minor (remove ps at)
+minors_rest minor [] zero h = tt
+minors_rest minor [] (suc at) h = tt
+minors_rest minor (p ∷ ps) zero h = h.1
+minors_rest minor (p ∷ ps) (suc at) h = (h.0, minors_rest minor ps at h.1)
+
+-- and of one more
+pub minors_push : (minor : ℕ) (ps : List Pending) (q : Pending) → AllOfMinor minor ps → q.request.minor ≡ minor → AllOfMinor minor (ps ++ q ∷ [])
+minors_push minor [] q h e = (e, tt)
+minors_push minor (p ∷ ps) q h e = (h.0, minors_push minor ps q h.1 e)
+
+-- the minor of the entry at a place
+pub minor_there : (minor : ℕ) (ps : List Pending) (at : ℕ) (e : Pending) → at < length ps → e ≡ get_or ps at e → AllOfMinor minor ps
+    → e.request.minor ≡ minor
+minor_there minor [] at e lt is h = absurd (omega arith)
+minor_there minor (p ∷ ps) zero e lt is h = ap (λ (x : Pending). x.request.minor) is ∙ h.0
+minor_there minor (p ∷ ps) (suc at) e lt is h = minor_there minor ps at e (omega arith) is h.1

@@ -1,0 +1,175 @@
+use Rattle.std.proofs.Common.{◌≡◌, arith, List, refl, sym, ◌∙◌, ap, [], ◌∷◌, ◌++◌, true, false}
+use Rattle.message.specs.Good.{is_write}
+use Rattle.records.specs.Marks.{Answered}
+use Rattle.reissue.specs.declared.pending.Pending.{Pending}
+use Rattle.reissue.proofs.Answering.{taken, agrees_rest, agrees_done, done_reads, done_joined}
+use Rattle.reissue.proofs.Writes.{spares_answered}
+use Rattle.reissue.proofs.Closing.{tickets_out, closes_rest, closes_read, closes_written, closing_nothing, closing_read, closing_written, among_here, done_writes}
+use Rattle.reissue.proofs.Left.{reads_out, reads_rest}
+use Rattle.reissue.proofs.Settling.{issued_within, answered_whole, answered_part, minors_rest, minors_push, minor_there}
+use Rattle.reissue.proofs.table.Table.settle.Goals as goal
+
+pub push-requires-clause-fresh : goal.push-requires-clause-fresh
+push-requires-clause-fresh c =
+    let o = c.take_out-entry.ensures in
+    let lt = issued_within c.args.self.now c.args.at c.requires.at in
+    let x = tickets_out c.args.self.now.ids c.args.self.now.pending c.args.at c.take_out-entry.result lt o.value c.args.self.now.numbers in
+    rw (c.with_answer-rest.ensures.ticket, o.items) x.1
+
+pub push-requires-clause-ticket : goal.push-requires-clause-ticket
+push-requires-clause-ticket c =
+    let o = c.take_out-entry.ensures in
+    let lt = issued_within c.args.self.now c.args.at c.requires.at in
+    let x = tickets_out c.args.self.now.ids c.args.self.now.pending c.args.at c.take_out-entry.result lt o.value c.args.self.now.numbers in
+    omega (arith, x.2, c.with_answer-rest.ensures.ticket, o.ids)
+
+pub returns-then-rest-gt0-clause-agrees : goal.returns-then-rest-gt0-clause-agrees
+returns-then-rest-gt0-clause-agrees c = λ marks h place m from.
+    let o = c.take_out-entry.ensures in
+    let w = c.with_answer-rest.ensures in
+    let p = c.push.ensures in
+    let x = taken c.args.self.now c.take_out-entry.new.self marks c.args.reply.now c.take_out-entry.result c.args.at c.args.n
+    h place m from o.value o.items o.issued o.ids o.current o.given_up in
+    agrees_rest c.args.self.now c.take_out-entry.new.self c.push.new.self marks c.args.reply.now
+    c.take_out-entry.result c.with_answer-rest.result c.args.n
+    x m p.items p.ids w.id p.posted p.issued p.current p.given_up w.start w.size w.kind w.position w.before w.moved w.count (λ h k. rw (w.begun h) refl) w.rest
+
+pub returns-then-rest-gt0-clause-hears : goal.returns-then-rest-gt0-clause-hears
+returns-then-rest-gt0-clause-hears c =
+    let o = c.take_out-entry.ensures in
+    let w = c.with_answer-rest.ensures in
+    let p = c.push.ensures in
+    answered_part c.args.self.now _ _ c.args.at c.args.n c.take_out-entry.result c.with_answer-rest.result c.requires.at o.value
+    (c.requires.there c.take_out-entry.result o.value) (omega (arith, w.count, c.if-rest-gt0.true))
+    (p.items ∙ ap (λ (l : List Pending). l ++ c.with_answer-rest.result ∷ []) o.items) (omega (arith, p.ids, o.ids))
+    (record {
+      ticket = w.ticket;
+      start = w.start;
+      size = w.size;
+      number = w.id ∙ omega (arith, o.ids);
+      kind = w.kind;
+      minor = w.minor;
+      position = w.position;
+      count = w.count;
+      left = w.rest;
+    })
+    (p.posted ∙ o.posted) (omega (arith, p.issued, o.issued))
+
+pub returns-then-rest-gt0-clause-closes : goal.returns-then-rest-gt0-clause-closes
+returns-then-rest-gt0-clause-closes c =
+    let o = c.take_out-entry.ensures in
+    let w = c.with_answer-rest.ensures in
+    let lt = issued_within c.args.self.now c.args.at c.requires.at in
+    closes_rest c.args.self.now.pending c.take_out-entry.new.self.pending _ c.args.at c.take_out-entry.result c.with_answer-rest.result c.args.self.now.ids
+    lt o.value c.args.self.now.numbers o.items c.push.ensures.items w.ticket w.start w.size w.kind w.begun
+
+pub returns-then-rest-gt0-clause-closing : goal.returns-then-rest-gt0-clause-closing
+returns-then-rest-gt0-clause-closing c = λ marks h place m from.
+    let o = c.take_out-entry.ensures in
+    let lt = issued_within c.args.self.now c.args.at c.requires.at in
+    let x = taken c.args.self.now c.take_out-entry.new.self marks c.args.reply.now c.take_out-entry.result c.args.at c.args.n
+    h place m from o.value o.items o.issued o.ids o.current o.given_up in
+    let i = among_here c.args.self.now.pending c.args.at c.take_out-entry.result lt o.value in
+    closing_nothing _ _ marks _ (λ image. spares_answered image marks c.args.reply.now c.take_out-entry.result c.args.n c.args.self.now.pending x.there m x.within c.args.self.now.numbers.distinct i)
+    (reads_rest c.args.self.now.pending c.take_out-entry.new.self.pending _ marks c.args.reply.now c.take_out-entry.result c.with_answer-rest.result c.args.at c.args.n
+    x.there m x.within lt o.value o.items c.push.ensures.items (rw x.holds.items x.apart) c.with_answer-rest.ensures.start c.with_answer-rest.ensures.size
+    c.with_answer-rest.ensures.position (omega (arith, c.if-rest-gt0.true)))
+
+pub returns-then-rest-gt0-clause-minors : goal.returns-then-rest-gt0-clause-minors
+returns-then-rest-gt0-clause-minors c = λ minor h.
+    let o = c.take_out-entry.ensures in
+    let w = c.with_answer-rest.ensures in
+    let lt = issued_within c.args.self.now c.args.at c.requires.at in
+    rw (c.push.ensures.items, o.items)
+    (minors_push minor _ c.with_answer-rest.result (minors_rest minor c.args.self.now.pending c.args.at h)
+    (w.minor ∙ minor_there minor c.args.self.now.pending c.args.at c.take_out-entry.result lt o.value h))
+
+pub returns-in-Read-clause-agrees : goal.returns-in-Read-clause-agrees
+returns-in-Read-clause-agrees c = λ marks h place m from.
+    let o = c.take_out-entry.ensures in
+    agrees_done c.args.self.now c.take_out-entry.new.self marks c.args.reply.now c.take_out-entry.result c.args.n
+    (taken c.args.self.now c.take_out-entry.new.self marks c.args.reply.now c.take_out-entry.result c.args.at c.args.n
+    h place m from o.value o.items o.issued o.ids o.current o.given_up)
+
+pub returns-in-Read-clause-hears : goal.returns-in-Read-clause-hears
+returns-in-Read-clause-hears c =
+    let o = c.take_out-entry.ensures in
+    let w = c.with_answer-rest.ensures in
+    answered_whole c.args.self.now _ _ c.args.at c.args.n c.take_out-entry.result c.requires.at o.value
+    (c.requires.there c.take_out-entry.result o.value) (omega (arith, w.count, c.if-rest-gt0.false)) o.items o.ids o.posted o.issued
+
+pub returns-in-Read-clause-closes : goal.returns-in-Read-clause-closes
+returns-in-Read-clause-closes c =
+    let o = c.take_out-entry.ensures in
+    let w = c.with_answer-rest.ensures in
+    let lt = issued_within c.args.self.now c.args.at c.requires.at in
+    let k : is_write c.take_out-entry.result.request.kind ≡ false = ap is_write (sym w.kind ∙ c.in-Read.is) in
+    closes_read c.args.self.now.pending c.take_out-entry.new.self.pending c.args.at c.with_answer-rest.result.ticket c.with_answer-rest.result.bytes c.take_out-entry.result c.args.self.now.ids
+    lt o.value c.args.self.now.numbers o.items w.ticket k
+
+pub returns-in-Read-clause-closing : goal.returns-in-Read-clause-closing
+returns-in-Read-clause-closing c = λ marks h place m from.
+    let o = c.take_out-entry.ensures in
+    let w = c.with_answer-rest.ensures in
+    let lt = issued_within c.args.self.now c.args.at c.requires.at in
+    let k : is_write c.take_out-entry.result.request.kind ≡ false = ap is_write (sym w.kind ∙ c.in-Read.is) in
+    let none : c.with_answer-rest.result.request.count ≡ 0 = omega (arith, c.if-rest-gt0.false) in
+    let x = taken c.args.self.now c.take_out-entry.new.self marks c.args.reply.now c.take_out-entry.result c.args.at c.args.n
+    h place m from o.value o.items o.issued o.ids o.current o.given_up in
+    let i = among_here c.args.self.now.pending c.args.at c.take_out-entry.result lt o.value in
+    let d = c.args.self.now.numbers.distinct in
+    closing_read _ _ marks (Answered c.args.reply.now ∷ marks) c.take_out-entry.result _ _ d i w.ticket
+    (λ image. spares_answered image marks c.args.reply.now c.take_out-entry.result c.args.n c.args.self.now.pending x.there m x.within d i)
+    (λ image tr. done_reads c.args.self.now c.take_out-entry.new.self marks image c.args.reply.now c.take_out-entry.result c.with_answer-rest.result c.args.n
+    x m tr k w.start w.size w.position none (w.before k) (w.moved k))
+    (done_joined c.args.self.now c.take_out-entry.new.self marks c.args.reply.now c.take_out-entry.result c.with_answer-rest.result c.args.n
+    x m k w.start w.size w.position none (w.before k) (w.moved k))
+    (reads_out c.args.self.now.pending c.take_out-entry.new.self.pending marks c.args.reply.now c.take_out-entry.result c.args.at c.args.n
+    x.there m x.within lt o.value o.items (rw x.holds.items x.apart))
+
+pub returns-in-Read-clause-minors : goal.returns-in-Read-clause-minors
+returns-in-Read-clause-minors c = λ minor h. rw c.take_out-entry.ensures.items (minors_rest minor c.args.self.now.pending c.args.at h)
+
+pub returns-in-Write-clause-agrees : goal.returns-in-Write-clause-agrees
+returns-in-Write-clause-agrees c = λ marks h place m from.
+    let o = c.take_out-entry.ensures in
+    agrees_done c.args.self.now c.take_out-entry.new.self marks c.args.reply.now c.take_out-entry.result c.args.n
+    (taken c.args.self.now c.take_out-entry.new.self marks c.args.reply.now c.take_out-entry.result c.args.at c.args.n
+    h place m from o.value o.items o.issued o.ids o.current o.given_up)
+
+pub returns-in-Write-clause-hears : goal.returns-in-Write-clause-hears
+returns-in-Write-clause-hears c =
+    let o = c.take_out-entry.ensures in
+    let w = c.with_answer-rest.ensures in
+    answered_whole c.args.self.now _ _ c.args.at c.args.n c.take_out-entry.result c.requires.at o.value
+    (c.requires.there c.take_out-entry.result o.value) (omega (arith, w.count, c.if-rest-gt0.false)) o.items o.ids o.posted o.issued
+
+pub returns-in-Write-clause-closes : goal.returns-in-Write-clause-closes
+returns-in-Write-clause-closes c =
+    let o = c.take_out-entry.ensures in
+    let w = c.with_answer-rest.ensures in
+    let lt = issued_within c.args.self.now c.args.at c.requires.at in
+    let k : is_write c.take_out-entry.result.request.kind ≡ true = ap is_write (sym w.kind ∙ c.in-Write.is) in
+    closes_written c.args.self.now.pending c.take_out-entry.new.self.pending c.args.at _ c.take_out-entry.result c.args.self.now.ids
+    lt o.value c.args.self.now.numbers o.items w.ticket k
+
+pub returns-in-Write-clause-closing : goal.returns-in-Write-clause-closing
+returns-in-Write-clause-closing c = λ marks h place m from.
+    let o = c.take_out-entry.ensures in
+    let w = c.with_answer-rest.ensures in
+    let lt = issued_within c.args.self.now c.args.at c.requires.at in
+    let k : is_write c.take_out-entry.result.request.kind ≡ true = ap is_write (sym w.kind ∙ c.in-Write.is) in
+    let x = taken c.args.self.now c.take_out-entry.new.self marks c.args.reply.now c.take_out-entry.result c.args.at c.args.n
+    h place m from o.value o.items o.issued o.ids o.current o.given_up in
+    let i = among_here c.args.self.now.pending c.args.at c.take_out-entry.result lt o.value in
+    let d = c.args.self.now.numbers.distinct in
+    closing_written _ _ marks (Answered c.args.reply.now ∷ marks) c.take_out-entry.result _ d i w.ticket k
+    (λ image. spares_answered image marks c.args.reply.now c.take_out-entry.result c.args.n c.args.self.now.pending x.there m x.within d i)
+    (λ image. done_writes c.args.self.now c.take_out-entry.new.self marks image c.args.reply.now c.take_out-entry.result c.with_answer-rest.result c.args.n
+    x m k w.start w.size w.position w.count (omega (arith, c.if-rest-gt0.false)) (w.begun k))
+    (rw x.holds.items x.apart)
+    (reads_out c.args.self.now.pending c.take_out-entry.new.self.pending marks c.args.reply.now c.take_out-entry.result c.args.at c.args.n
+    x.there m x.within lt o.value o.items (rw x.holds.items x.apart))
+
+pub returns-in-Write-clause-minors : goal.returns-in-Write-clause-minors
+returns-in-Write-clause-minors c = λ minor h. rw c.take_out-entry.ensures.items (minors_rest minor c.args.self.now.pending c.args.at h)

@@ -1,0 +1,184 @@
+//! Words that are taken, and others.
+
+use clap::Error;
+use host::command_line::status_for;
+use host::play_words::{mfs, mfssim};
+use std::alloc::{AllocError, Global};
+use std::test::Fail;
+use host::volume_words::{mfsck, mkmfs};
+
+/// Words of a line, and what they say: the files, the minor, how many drivers stand by, and whether they move an arm; of a new volume its
+/// blocks, its inodes, how long a block is and the time; or, of words that aren't taken or ask for help, the status.
+const ROWS: &str = "\
+mkmfs v.img --blocks 64 --inodes 32 : v.img blocks 64 inodes 32 of 4096 at 0
+mkmfs v.img --blocks 64 --inodes 32 --block-size 1024 --now 50 : v.img blocks 64 inodes 32 of 1024 at 50
+mkmfs --now=4294967295 --block-size=0 --inodes=65535 --blocks=65536 v.img : v.img blocks 65536 inodes 65535 of 0 at 4294967295
+mkmfs v.img --inodes 4294967295 --blocks 4294967294 : v.img blocks 4294967294 inodes 4294967295 of 4096 at 0
+mkmfs v.img --blocks 4294967296 --inodes 32 : status 2
+mkmfs v.img --blocks 64 --inodes 4294967296 : status 2
+mkmfs v.img --blocks 64 --inodes 32 --block-size 4294967296 : status 2
+mkmfs v.img --blocks 64 --inodes 32 --now 4294967296 : status 2
+mkmfs v.img --blocks -1 --inodes 32 : status 2
+mkmfs v.img --blocks 64 : status 2
+mkmfs v.img --inodes 32 : status 2
+mkmfs --blocks 64 --inodes 32 : status 2
+mkmfs v.img w.img --blocks 64 --inodes 32 : status 2
+mkmfs v.img --blocks 64 --inodes 32 --blocks 65 : status 2
+mkmfs v.img --blocks 64 --inodes 32 --minor 1 : status 2
+mkmfs : status 2
+mkmfs --help : status 0
+mkmfs v.img --version : status 0
+mfsck v.img : v.img minor 0
+mfsck v.img --minor 255 : v.img minor 255
+mfsck --minor=4 v.img : v.img minor 4
+mfsck v.img --minor 256 : status 2
+mfsck v.img --minor : status 2
+mfsck v.img w.img : status 2
+mfsck v.img --spares 5 : status 2
+mfsck : status 2
+mfsck --help : status 0
+mfsck v.img --version : status 0
+mfs v.img s.txt : v.img [s.txt] out none minor 0 spares 5
+mfs v.img s.txt --minor 5 : v.img [s.txt] out none minor 5 spares 5
+mfs v.img s.txt --minor 255 : v.img [s.txt] out none minor 255 spares 5
+mfs --spares 63 v.img s.txt : v.img [s.txt] out none minor 0 spares 63
+mfs v.img --spares=0 s.txt : v.img [s.txt] out none minor 0 spares 0
+mfs --model v.img s.txt : v.img [s.txt] out none minor 0 spares 5 model
+mfs v.img s.txt t.txt : v.img [s.txt t.txt] out none minor 0 spares 5
+mfs v.img t.txt s.txt t.txt --minor 1 : v.img [t.txt s.txt t.txt] out none minor 1 spares 5
+mfs v.img s.txt --out w.img : v.img [s.txt] out w.img minor 0 spares 5
+mfs --out=v.img v.img s.txt t.txt : v.img [s.txt t.txt] out v.img minor 0 spares 5
+mfs v.img - : v.img [-] out none minor 0 spares 5
+mfs v.img s.txt --minor 256 : status 2
+mfs v.img s.txt --spares 64 : status 2
+mfs v.img s.txt --spares -1 : status 2
+mfs v.img s.txt --model=1 : status 2
+mfs : status 2
+mfs v.img : status 2
+mfs v.img s.txt --minor : status 2
+mfs v.img s.txt --out : status 2
+mfs v.img --out s.txt : status 2
+mfs v.img s.txt --out a --out b : status 2
+mfs --help : status 0
+mfs -h : status 0
+mfs v.img --version : status 0
+mfssim v.img s.txt : v.img s.txt minor 0 spares 5
+mfssim v.img s.txt --minor 255 : v.img s.txt minor 255 spares 5
+mfssim --spares 63 v.img s.txt : v.img s.txt minor 0 spares 63
+mfssim v.img --spares=0 s.txt : v.img s.txt minor 0 spares 0
+mfssim v.img s.txt --minor 256 : status 2
+mfssim v.img s.txt --spares 64 : status 2
+mfssim v.img s.txt --model : status 2
+mfssim : status 2
+mfssim v.img : status 2
+mfssim v.img s.txt t.txt : status 2
+mfssim --help : status 0
+mfssim v.img --version : status 0
+";
+
+/// What words of `mfs` say that are taken.
+fn of_calls(alloc: Global, words: &mfs::Words<'_>) -> Result<String, AllocError> {
+    let scripts = words.scripts.join(alloc, " ")?;
+    let out = words.out.unwrap_or("none");
+    let model = if words.model { " model" } else { "" };
+    format!(in alloc;
+        "{} [{scripts}] out {out} minor {} spares {}{model}",
+        words.image, words.minor, words.spares
+    )
+}
+
+/// What words of `mfssim` say that are taken.
+fn of_schedules(alloc: Global, words: &mfssim::Words<'_>) -> Result<String, AllocError> {
+    format!(in alloc;
+        "{} {} minor {} spares {}",
+        words.image, words.schedule, words.minor, words.spares
+    )
+}
+
+/// What words of `mkmfs` say that are taken.
+fn of_volume(alloc: Global, words: &mkmfs::Words<'_>) -> Result<String, AllocError> {
+    format!(in alloc;
+        "{} blocks {} inodes {} of {} at {}",
+        words.image, words.blocks, words.inodes, words.block_size, words.now
+    )
+}
+
+/// What is said of words that aren't taken: the status, and in further lines what is printed.
+fn of_others(alloc: Global, error: &Error) -> Result<String, AllocError> {
+    format!(in alloc; "status {}\n{error}", status_for(error))
+}
+
+/// What these words of `mfs` say.
+fn calls_said(alloc: Global, words: &[String]) -> Result<String, AllocError> {
+    match mfs::read(alloc, words) {
+        Ok(words) => of_calls(alloc, &words),
+        Err(error) => of_others(alloc, &error),
+    }
+}
+
+/// What these words of `mfssim` say.
+fn schedules_said(alloc: Global, words: &[String]) -> Result<String, AllocError> {
+    match mfssim::read(alloc, words) {
+        Ok(words) => of_schedules(alloc, &words),
+        Err(error) => of_others(alloc, &error),
+    }
+}
+
+/// What these words of `mkmfs` say.
+fn volume_said(alloc: Global, words: &[String]) -> Result<String, AllocError> {
+    match mkmfs::read(alloc, words) {
+        Ok(words) => of_volume(alloc, &words),
+        Err(error) => of_others(alloc, &error),
+    }
+}
+
+/// What these words of `mfsck` say.
+fn check_said(alloc: Global, words: &[String]) -> Result<String, AllocError> {
+    match mfsck::read(alloc, words) {
+        Ok(words) => format!(in alloc; "{} minor {}", words.image, words.minor),
+        Err(error) => of_others(alloc, &error),
+    }
+}
+
+/// What the words of a line say.
+fn said(alloc: Global, line: &str) -> Result<String, AllocError> {
+    let mut words = Vec::new(alloc);
+    for word in line.split_whitespace() {
+        words.push(word.to_string(alloc)?)?;
+    }
+    if line.starts_with("mfssim") {
+        schedules_said(alloc, &words)
+    } else if line.starts_with("mkmfs") {
+        volume_said(alloc, &words)
+    } else if line.starts_with("mfsck") {
+        check_said(alloc, &words)
+    } else {
+        calls_said(alloc, &words)
+    }
+}
+
+#[test]
+fn words_are_taken_or_not(rt: HostRuntime) -> Result<(), Fail> {
+    for row in ROWS.lines() {
+        let Some((line, wanted)) = row.split_once(" : ") else {
+            return Err(Fail::from("no row"));
+        };
+        let said = said(rt.alloc(), line)?;
+        assert_eq!(rt; said.lines().next(), Some(wanted), "{line}");
+    }
+    Ok(())
+}
+
+/// The calls, each of which has its line in the help of `mfs`.
+const CALLS: &str =
+    "open close dup read write fill seek stat fstat link unlink mkdir rmdir rename chmod chown utime truncate readdir sync statfs";
+
+#[test]
+fn the_help_lists_each_call(rt: HostRuntime) -> Result<(), Fail> {
+    let help = said(rt.alloc(), "mfs --help")?;
+    for name in CALLS.split_whitespace() {
+        let line = format!(in rt.alloc(); "\n  {name} ")?;
+        assert!(rt; help.as_str().contains(line.as_str()), "{name}");
+    }
+    Ok(())
+}

@@ -1,0 +1,11 @@
+pub mod Small
+mod PathRows
+mod OpenRows
+mod ByteRows
+mod NodeRows
+pub mod TriplePage
+mod ZoneRows
+mod BuiltRows
+mod LinkRows
+mod DirectoryRows
+mod RenameRows

@@ -1,0 +1,6 @@
+pub mod Small
+mod LayoutRows
+mod ReadRows
+mod FreshRows
+mod RootRows
+mod TreeRows

@@ -1,9 +1,0 @@
-use Rattle.run_server.proofs.Opened.{fresh, if_ok, opened_on}
-use Rattle.run_server.proofs.link.link_of.Goals as goal
-
-pub returns-clause-fresh : goal.returns-clause-fresh
-returns-clause-fresh g c = if_ok _ _ _ (λ p opened. fresh _ _ _ _ _ _ opened) c.new-2.ensures.opens
-
-pub returns-clause-opened : goal.returns-clause-opened
-returns-clause-opened g c =
-    if_ok _ _ _ (λ p opened. opened_on g.D.LocalDriver.state _ _ _ _ _ _ _ c.in-Ok.is c.new.ensures.answers opened) c.new-2.ensures.opens

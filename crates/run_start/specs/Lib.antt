@@ -1,3 +1,0 @@
-pub use Rattle.startup.specs as startup
-pub mod Reasons
-pub mod Beginning

@@ -1,5 +1,0 @@
-pub mod Entries
-pub mod Doubles
-pub mod Counts
-pub mod Walks
-pub mod Standing

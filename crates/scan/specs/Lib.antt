@@ -1,3 +1,0 @@
--- The passes over directories.
-pub mod Named
-pub mod Reached

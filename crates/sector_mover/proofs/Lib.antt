@@ -1,7 +1,0 @@
-pub mod ChunkLaws
-pub mod OrderLaws
-pub mod PromiseLaws
-pub mod MoverLaws
-pub mod SweepLaws
-pub mod FilterLaws
-mod Rows

@@ -1,4 +1,0 @@
-pub mod Order
-pub mod Transfer
-pub mod Mover
-pub mod Laws

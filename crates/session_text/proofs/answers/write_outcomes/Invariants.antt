@@ -1,9 +1,0 @@
-use Rattle.std.proofs.Common.{take}
-use Rattle.std.specs.Io.KnownBytes.{Appends}
-use Rattle.session_text.specs.Answers.{outcomes_text}
-use Rattle.session_text.proofs.answers.write_outcomes.Given as goal
-
--- the answers so far went out
-abbrev pub invariant-loop-outcome : goal.invariant-loop-outcome
-invariant-loop-outcome g l =
-    Appends (g.W.Write.contents l.fn.to) (g.W.Write.contents l.to) (outcomes_text (take l.outcome-index l.outcomes))

@@ -1,0 +1,98 @@
+-- What lies under the lock of a service, as contracts see it.
+use Rattle.std.specs.Prelude.{◌≡◌, ◌≢◌, ◌↔◌, ℕ, List, true, false}
+use Rattle.layout.specs.declared.Geometry.{Geometry}
+use Rattle.errno.specs.declared.Errno.TheVariants.{EIO}
+use Rattle.tree.specs.declared.Who.{Who}
+use Rattle.tree.specs.declared.Call.{Call}
+use Rattle.tree.specs.declared.Reply.TheVariants.{Refused}
+use Rattle.tree.specs.declared.Outcome.{Outcome as TreeOutcome}
+use Rattle.tree.specs.declared.Outcome.TheVariants.{Reply, Cut}
+use Rattle.tree.specs.Tree.{Tree}
+use Rattle.records.specs.Marks.{Mark, gave_up}
+use Rattle.records.specs.Open.{IsWellFormed}
+use Rattle.records.specs.Disk.{HasTrueReplies}
+use Rattle.records.specs.Opening.{Opening, contents_at}
+use Rattle.records.specs.Told.{took_end}
+use Rattle.bdev.specs.DriverState.{DriverState}
+use Rattle.reincarnate.specs.declared.policy.Policy.{Policy}
+use Rattle.records.specs.Legal.{IsAtFirst, IsLegal}
+use Rattle.records.specs.ServerCall.{Serving, Outcome}
+use Rattle.records.specs.Session.{SessionState, SessionCallKeeps, IsMadeFor, went_on}
+use Rattle.reissue.specs.declared.link.Link.{Ghosts as LinkWords}
+use Rattle.reissue.specs.Calls.{Truth}
+use Rattle.file_server.specs.Over.{Stands}
+use Rattle.board.specs.View.{View, session_for}
+use Rattle.keeping.specs.declared.room.Room.{Ghosts as RoomWords}
+use Rattle.shared_server.specs.declared.refusal.SessionRefusal.{SessionRefusal}
+use Rattle.shared_server.specs.declared.refusal.SessionRefusal.TheVariants.{TooMany, Stopped, OutOfMemory}
+use Rattle.keeping.specs.Keeper.{AreAllUsed, IsLowestFree, IsOneFree}
+
+-- a call of a caller that had seen as much as the first of these, and then has seen as much as the second, came to this outcome
+abbrev pub IsServedCall : Geometry → Opening → Who → ℕ → Call → View → Outcome → View → Type 0
+IsServedCall g v who now call before outcome after =
+    SessionCallKeeps g (contents_at v) (session_for who.uid who.gid who.session before) who now call outcome
+    (session_for who.uid who.gid who.session after)
+
+-- the outcome is EIO exactly where it isn't a cut and the caller has then seen that the device was given up
+abbrev pub IsEioOnceGivenUp : TreeOutcome → List Mark → Type 0
+IsEioOnceGivenUp outcome seen = (outcome ≡ Reply (Refused EIO)) ↔ ((outcome ≢ Cut) × (gave_up seen ≡ true))
+
+-- The server may be called, knows each call, and is for the service's volume; it has ended where its link has, which runs on the service's
+-- drivers under the service's policy. Whichever tree the volume held as it was handed in, the server stands on it with the record that the
+-- link keeps, which is legal where its replies were true; in that record a call was answered since the device was given up, if it was; and a
+-- device whose link has ended wasn't given up.
+pub record IsHeld {N S L : Type 0} (room : RoomWords N) (link : LinkWords L) (serving : S → Serving) (line : S → L) (is_ready : S → Type 0)
+    (knows : Call → Type 0) (runs_on : L → Policy → List DriverState → Type 0) (marks : L → List Mark) (s : S) : Type 0 where
+  pub ready : is_ready s
+  pub knows_each : (call : Call) → knows call
+  pub geometry : (serving s).geometry ≡ room.geometry
+  pub ends : (serving s).ended ≡ took_end (link.history (line s))
+  pub drivers : runs_on (line s) room.policy room.supply
+  pub stands : (tree : Tree) → IsAtFirst room.geometry (contents_at room.opening) tree
+      → Stands (serving s) (link.truth (line s)) room.opening tree (marks (line s))
+  pub answered : (tree : Tree) → IsAtFirst room.geometry (contents_at room.opening) tree → gave_up (marks (line s)) ≡ true
+      → went_on (marks (line s)) ≡ true
+  pub either : (tree : Tree) → IsAtFirst room.geometry (contents_at room.opening) tree → (serving s).ended ≡ true
+      → gave_up (marks (line s)) ≡ false
+
+-- a record is well formed, and a call was answered since the device was given up, if it was
+pub record IsSound (marks : List Mark) : Type 0 where
+  pub well_formed : IsWellFormed marks
+  pub answered : gave_up marks ≡ true → went_on marks ≡ true
+
+-- a sound record of the volume is legal from this tree on, where its replies were true
+abbrev pub IsGood : Geometry → Opening → Tree → List Mark → Type 0
+IsGood g v tree marks = IsSound marks × (HasTrueReplies (contents_at v) marks → IsLegal g (contents_at v) tree marks)
+
+-- the service's link, as it was then, guaranteed this record. In a function over every link such a link is one that it had at hand
+abbrev pub IsGuaranteed : {L : Type 0} → (L → Truth) → Opening → List Mark → Type 0
+IsGuaranteed {L} truth v marks = (line : L) × truth line v marks
+
+-- A new session of this user and group was made at the service's link, as it was then: it has the lowest number that was free, has seen the
+-- whole record, and made no call; the link runs on these drivers under this policy.
+pub record IsAdmitted {L : Type 0} (runs_on : L → Policy → List DriverState → Type 0) (marks : L → List Mark) (numbers : L → List ℕ)
+    (policy : Policy) (supply : List DriverState) (uid gid : ℕ) (s : SessionState) : Type 0 where
+  pub line : L
+  pub drivers : runs_on line policy supply
+  pub number : IsLowestFree s.knows.number (numbers line)
+  pub made : IsMadeFor uid gid s (marks line)
+  pub whole : s.knows.seen ≡ marks line
+
+-- why none was made, by the service's link as it was then
+abbrev pub IsNotAdmitted : {L : Type 0} → LinkWords L → (L → List ℕ) → SessionRefusal → Type 0
+IsNotAdmitted {L} link numbers TooMany = (line : L) × AreAllUsed (numbers line)
+IsNotAdmitted {L} link numbers Stopped = (line : L) × (took_end (link.history line) ≡ true) × IsOneFree (numbers line)
+IsNotAdmitted {L} link numbers OutOfMemory = Unit {0}
+
+-- The service's link, as it was when a call of a session was over: the session has seen its record, and the call was cut exactly where the link
+-- has ended.
+pub record IsCutAtEnd {L : Type 0} (link : LinkWords L) (marks : L → List Mark) (outcome : TreeOutcome) (seen : List Mark) : Type 0 where
+  pub line : L
+  pub kept : marks line ≡ seen
+  pub exactly : (outcome ≡ Cut) ↔ (took_end (link.history line) ≡ true)
+
+-- a link of the service had this record and has ended
+pub record HasEnded {L : Type 0} (link : LinkWords L) (marks : L → List Mark) (seen : List Mark) : Type 0 where
+  pub line : L
+  pub kept : marks line ≡ seen
+  pub ended : took_end (link.history line) ≡ true

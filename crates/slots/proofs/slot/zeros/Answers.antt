@@ -1,5 +1,0 @@
-use Rattle.slots.proofs.Making.{zero_at}
-use Rattle.slots.proofs.slot.zeros.Goals as goal
-
-pub returns : goal.returns
-returns c = λ o. zero_at 4096 o

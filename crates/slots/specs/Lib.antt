@@ -1,5 +1,0 @@
--- Slots that hold blocks.
-pub mod Slots
-pub mod Edits
-pub mod Uses
-pub mod Order

@@ -1,0 +1,51 @@
+//! Blocks in memory are blocks.
+
+ghost use Rattle.std.specs.Prelude.{◌≡◌, ◌+◌, ◌*◌, ◌≤◌, length};
+ghost use Rattle.store.specs.Memory.{memory_world};
+ghost use Rattle.store.specs.Lawful.{is_world};
+
+use crate::memory::{Memory, Place, clear, write};
+use crate::{Blocks, Cut};
+
+impl Blocks for Memory {
+    type Frame = Place;
+
+    ghost world = { memory_world };
+
+    ghost names = { λ m f block.
+        (f.block ≡ block) × (f.at ≡ block * m.block_size) × (block * m.block_size + m.block_size ≤ length m.image.items) };
+
+    fn block_size(&self) -> u32 {
+        self.block_size
+    }
+
+    fn fetch(&mut self, block: u32) -> Result<Place, Cut> {
+        self.place(block)
+    }
+
+    fn bytes(&self, frame: Place) -> &[u8] {
+        &self.image[frame.at..frame.at + self.block_size as usize]
+    }
+
+    fn change(&mut self, frame: Place, from: usize, bytes: &[u8]) {
+        write(&mut self.image, frame.at + from, bytes);
+    }
+
+    fn fresh(&mut self, block: u32) -> Result<Place, Cut> {
+        let place = self.place(block)?;
+        clear(&mut self.image, place.at, self.block_size as usize);
+        Ok(place)
+    }
+
+    fn forget(&mut self, _block: u32) {}
+
+    fn sync(&mut self) -> Result<(), Cut> {
+        Ok(())
+    }
+
+    fn live(&self) -> Result<(), Cut> {
+        Ok(())
+    }
+
+    ghost lawful = { is_world };
+}

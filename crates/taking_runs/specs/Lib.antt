@@ -1,2 +1,0 @@
-pub mod Took
-pub mod TookLaws

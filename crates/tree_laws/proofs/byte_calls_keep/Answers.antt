@@ -1,8 +1,0 @@
-use Rattle.tree_laws.proofs.ByteCalls.{write_keeps, truncate_keeps}
-use Rattle.tree_laws.proofs.byte_calls_keep.Goals as goal
-
-pub returns-clause-write : goal.returns-clause-write
-returns-clause-write c = write_keeps
-
-pub returns-clause-truncate : goal.returns-clause-truncate
-returns-clause-truncate c = truncate_keeps

@@ -1,3 +1,0 @@
-mod LinkRows
-mod DirectoryRows
-mod RenameRows

@@ -1,8 +1,0 @@
-pub mod Small
-mod PathRows
-mod OpenRows
-mod ByteRows
-mod NodeRows
-pub mod TriplePage
-mod ZoneRows
-mod BuiltRows

@@ -1,0 +1,82 @@
+use Rattle.std.proofs.Common.{sym, subst}
+use Rattle.volume.specs.Reading.{Disk}
+use Rattle.tree.specs.Answers.{answer_of}
+use Rattle.store.proofs.Turns.{turns_then}
+use Rattle.descriptors.specs.Table.{files_of}
+use Rattle.call_bodies.specs.Calls.{DoesCall}
+use Rattle.vfs.proofs.Spending.{spends_none, spends_on}
+use Rattle.vfs.proofs.Ending.{stopped_at_once, stopped_later, ends_well}
+use Rattle.vfs.proofs.calls.answer.Goals as goal
+
+pub returns-in-Err-clause-calls : goal.returns-in-Err-clause-calls
+returns-in-Err-clause-calls g c =
+    let a = c.args.blocks.now in
+    let F = g.B.Caches.caching in
+    let k = g.met.B.Caches.is_cached in
+    stopped_at_once c.args.geometry.now (F a) (g.B.Caches.frame_count a) (files_of c.args.opens.now) c.requires.may c.args.who c.args.now c.args.call.now c.in-Err.cut c.stop.result
+    c.stop.ensures (k.over a c.in-Err.cut c.in-Err.ensures.cut)
+
+pub returns-in-Err-body-clause-calls : goal.returns-in-Err-body-clause-calls
+returns-in-Err-body-clause-calls g c =
+    let a = c.args.blocks.now in
+    let F = g.B.Caches.caching in
+    let N = g.B.Caches.frame_count in
+    let k = g.met.B.Caches.is_cached in
+    let b = c.body.new.blocks in
+    stopped_later c.args.geometry.now (F a) (F b) (N a) (N b) (g.met.B.Caches.counts a b (k.on a b c.body.ensures.turns.leads))
+    (files_of c.args.opens.now) (files_of c.body.new.opens) c.requires.may (k.live a c.in_default.ensures.live)
+    (k.leads a b c.body.ensures.turns.leads) c.args.who c.args.now c.args.call.now c.in-Err-body.cut c.stop-in-Err-body.result
+    c.stop-in-Err-body.ensures (k.over b c.in-Err-body.cut c.in-Err-body.ensures.cut)
+
+pub returns-in-Err-live-clause-calls : goal.returns-in-Err-live-clause-calls
+returns-in-Err-live-clause-calls g c =
+    let a = c.args.blocks.now in
+    let F = g.B.Caches.caching in
+    let N = g.B.Caches.frame_count in
+    let k = g.met.B.Caches.is_cached in
+    let b = c.flush_wanted.new.self in
+    let leads = g.met.B.Blocks.lawful.chain a c.body.new.blocks b c.body.ensures.turns.leads c.flush_wanted.ensures.turns.leads in
+    stopped_later c.args.geometry.now (F a) (F b) (N a) (N b) (g.met.B.Caches.counts a b (k.on a b leads))
+    (files_of c.args.opens.now) (files_of c.body.new.opens) c.requires.may (k.live a c.in_default.ensures.live)
+    (k.leads a b leads) c.args.who c.args.now c.args.call.now c.in-Err-live.cut c.stop-in-Err-live.result
+    c.stop-in-Err-live.ensures (k.over b c.in-Err-live.cut c.in-Err-live.ensures.cut)
+
+pub returns-clause-calls : goal.returns-clause-calls
+returns-clause-calls g c =
+    let a = c.args.blocks.now in
+    let F = g.B.Caches.caching in
+    let N = g.B.Caches.frame_count in
+    let k = g.met.B.Caches.is_cached in
+    let b = c.flush_wanted.new.self in
+    let f = files_of c.args.opens.now in
+    let h = files_of c.body.new.opens in
+    let answer = answer_of c.in-Ok.reply in
+    let whole = turns_then g.B.Blocks.world g.met.B.Blocks.lawful a c.body.new.blocks b _ _
+    (λ d e. DoesCall c.args.geometry.now c.args.who c.args.now c.args.call.now answer f h d e)
+    (λ d e i p q. subst (λ (z : Disk). DoesCall c.args.geometry.now c.args.who c.args.now c.args.call.now answer f h d z) (sym q) p)
+    c.in-Ok.ensures.turns c.flush_wanted.ensures.turns in
+    ends_well c.args.geometry.now (F a) (F b) (N a) (N b) (g.met.B.Caches.counts a b (k.on a b whole.leads)) f h c.requires.may
+    (k.leads a b whole.leads) (k.live b c.in_default-live.ensures.live) c.args.who c.args.now c.args.call.now answer c.in-Ok.ensures.proper
+    (λ is ok. c.flush_wanted.ensures.clean (k.synced c.body.new.blocks (c.in-Ok.ensures.synced is ok)))
+    (λ d e x. whole.related d e (k.sees a b d e x))
+
+pub returns-in-Err-clause-spends : goal.returns-in-Err-clause-spends
+returns-in-Err-clause-spends g c = spends_none _
+
+pub returns-in-Err-body-clause-spends : goal.returns-in-Err-body-clause-spends
+returns-in-Err-body-clause-spends g c =
+    spends_on _ _ (g.met.B.Caches.is_cached.leads c.args.blocks.now c.body.new.blocks c.body.ensures.turns.leads)
+
+pub returns-in-Err-live-clause-spends : goal.returns-in-Err-live-clause-spends
+returns-in-Err-live-clause-spends g c =
+    let b = c.flush_wanted.new.self in
+    let a = c.args.blocks.now in
+    spends_on _ _ (g.met.B.Caches.is_cached.leads a b
+    (g.met.B.Blocks.lawful.chain a c.body.new.blocks b c.body.ensures.turns.leads c.flush_wanted.ensures.turns.leads))
+
+pub returns-clause-spends : goal.returns-clause-spends
+returns-clause-spends g c =
+    let b = c.flush_wanted.new.self in
+    let a = c.args.blocks.now in
+    spends_on _ _ (g.met.B.Caches.is_cached.leads a b
+    (g.met.B.Blocks.lawful.chain a c.body.new.blocks b c.body.ensures.turns.leads c.flush_wanted.ensures.turns.leads))

@@ -1,4 +1,0 @@
-pub mod Small
-mod LayoutRows
-mod ReadRows
-mod FreshRows

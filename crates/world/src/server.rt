@@ -1,0 +1,41 @@
+//! A file server that is opened over the link of a run.
+
+ghost use Rattle.std.specs.Prelude.{◌≡◌, ◌≤◌, ◌<◌, ◌+◌, ◌^◌, IfOk, false};
+ghost use Rattle.layout.specs.Places.{IsGeometry};
+ghost use Rattle.records.specs.Told.{took_end};
+ghost use Rattle.playing.specs.PlayView.{work_left};
+ghost use Rattle.rounds.specs.Starts.{IsBeforeFirst};
+ghost use Rattle.world.specs.ServerPlays.{PlaysFrom};
+
+use fsck::Clean;
+use vfs::Server;
+use mounting::mounted::open;
+use rounds::WorldLink;
+use rounds::run::play_all;
+use std::alloc::{AllocError, Global};
+use stored::Stored;
+
+/// A server is opened over this link, which has noted the first start alone, and plays the schedule out: the server then, and how many
+/// calls have no answer. An error: no memory was found.
+pub fn play_over<L: WorldLink>(
+    alloc: Global,
+    link: L,
+    minor: u8,
+    clean: Clean,
+    frames: u32,
+) -> Result<(Server<Stored<L>>, u64), AllocError>
+    requires sizes { IsGeometry clean.geometry }
+    requires live { took_end (L.Link.history link) ≡ false }
+    requires budget { L.Link.budget_left link ≤ 2 ^ 58 }
+    requires room { 33 ≤ L.Link.room link }
+    requires few { work_left (L.Played.play link) + 1 < 2 ^ 48 }
+    requires first { IsBeforeFirst (L.Played.play link) }
+    ensures { IfOk result (λ r. PlaysFrom L.Link L.Played.play link minor clean.geometry frames r.0 r.1) }
+{
+    let Ok(opened) = open(alloc, link, minor, clean, frames) else {
+        return Err(AllocError);
+    };
+    let mut server = opened;
+    let unanswered = play_all(&mut server)?;
+    Ok((server, unanswered))
+}

@@ -1,5 +1,0 @@
-//! Client calls as words write them, with the bytes that are still to be decoded, and those of up to two words by their names.
-#![tactic(auto)]
-
-pub mod call;
-pub mod short;

@@ -1,0 +1,2 @@
+//! The zones of files, for those above that stand on this crate.
+
