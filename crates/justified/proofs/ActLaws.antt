@@ -30,10 +30,10 @@ use Rattle.driver_events.specs.Ruling.{is_fault}
 use Rattle.run_drivers.specs.Disks.{Disks, LinesUp, NoneIsThere, LineIsFull, IsLinedUp}
 use Rattle.driver_events.specs.Scene.{Scene, Plays, told_of_ruling, told_of_action, delivered, AfterStep, AfterDeath}
 use Rattle.schedule.specs.declared.arrived.Arrived.{Arrived}
-use Rattle.playing.specs.PlayView.{Play, PlaysNext, Advances, Stays, Goes, Turn, Takes, TakesOwed, TakesEnd, Posts, Complains, ComesToEnd, IsPlayedOut, IsStarved, HandsOut, noting, posted, ruling_at}
+use Rattle.run_link.specs.PlayView.{Play, PlaysNext, Advances, Stays, Goes, Turn, Takes, TakesOwed, TakesEnd, Posts, Complains, ComesToEnd, IsPlayedOut, IsStarved, HandsOut, noting, posted, ruling_at}
 use Rattle.schedule.specs.ArrivingCalls.{calls_of}
-use Rattle.playing.specs.Waiting.{HasCalls, arrival_of}
-use Rattle.playing.specs.Moments.{Doing, Resting, Answering, is_busy, Moment, Step, Begins as StepBegins, Tells, Takes as StepTakes, Settles, Brings, BringsNone, Pays as StepPays, HandsCall, Replies as StepReplies, Runs, Starts, Then}
+use Rattle.run_link.specs.Waiting.{HasCalls, arrival_of}
+use Rattle.run_link.specs.Moments.{Doing, Resting, Answering, is_busy, Moment, Step, Begins as StepBegins, Tells, Takes as StepTakes, Settles, Brings, BringsNone, Pays as StepPays, HandsCall, Replies as StepReplies, Runs, Starts, Then}
 use Rattle.justified.specs.Core.{Core}
 use Rattle.justified.specs.Happens.{fault_marks, exit_marks, TicksTo, Beats, MissesOne, FoundHung, WaitsOn, StartsNext, IsOver, Begins, Arrives, Flushes, Answers, Drops, Delivers, LinesAgain, HangsOne, StepsOne, FailsOne, DiesNone, DiesOne, Ticks}
 use Rattle.justified.specs.Seen.{core_at, with_brought, EventDone, begun_scene}

@@ -32,8 +32,8 @@ use Rattle.driver_events.specs.declared.ruling.Ruling.{Ruling}
 use Rattle.run_drivers.specs.Disks.{Disks, LinesUp, NoneIsThere, LineIsFull, IsLinedUp}
 use Rattle.driver_events.specs.Scene.{Scene}
 use Rattle.schedule.specs.declared.arrived.Arrived.{Arrived}
-use Rattle.playing.specs.PlayView.{Play, IsOpened, PlaysNext, Advances, Stays, Goes, Turn, Takes, TakesOwed, TakesEnd, Posts, Complains, ComesToEnd, IsPlayedOut, IsStarved, noting, paid, posted, complained, ruling_at}
-use Rattle.playing.specs.Moments.{Doing, Resting, Hearing, Answering, is_busy, Moment, record_of, IsBetween, Step, Begins as StepBegins, Tells, Takes as StepTakes, Settles, Brings, BringsNone, Pays as StepPays, HandsCall, Replies as StepReplies, Runs, Starts, Then}
+use Rattle.run_link.specs.PlayView.{Play, IsOpened, PlaysNext, Advances, Stays, Goes, Turn, Takes, TakesOwed, TakesEnd, Posts, Complains, ComesToEnd, IsPlayedOut, IsStarved, noting, paid, posted, complained, ruling_at}
+use Rattle.run_link.specs.Moments.{Doing, Resting, Hearing, Answering, is_busy, Moment, record_of, IsBetween, Step, Begins as StepBegins, Tells, Takes as StepTakes, Settles, Brings, BringsNone, Pays as StepPays, HandsCall, Replies as StepReplies, Runs, Starts, Then}
 use Rattle.justified.specs.Core.{Core, Story, story, RunsNow, WaitsNow, IsGivenUp, PhaseIs, FollowsGroups}
 use Rattle.justified.specs.Seen.{core_at, with_brought, EventDone}
 use Rattle.justified.specs.Happens.{AtReport, OfNone, OfRunning, fault_marks, exit_marks, beaten_core, TicksTo, Beats, MissesOne, FoundHung, WaitsOn, StartsNext, IsOver, Begins, Arrives, Flushes, Answers, Drops, Delivers, LinesAgain, HangsOne, StepsOne, FailsOne, DiesNone, DiesOne, Ticks}

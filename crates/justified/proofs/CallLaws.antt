@@ -15,10 +15,10 @@ use Rattle.schedule.specs.Noted.{Noted, marks_in, grouped, with_mark}
 use Rattle.schedule.specs.declared.log.Entry.TheVariants as entry
 use Rattle.driver_events.specs.Scene.{Scene}
 use Rattle.schedule.specs.declared.arrived.Arrived.{Arrived}
-use Rattle.playing.specs.PlayView.{Play, IsOpened, first_noted, PlaysNext, Further, Still, HandsEvent, HandsNone, HandsOwed, noting, paid}
-use Rattle.playing.specs.Waiting.{HasCalls, arrival_of}
-use Rattle.playing.specs.Moments.{Doing, Resting, Answering, Moment, Step, Begins as StepBegins, Tells, Takes as StepTakes, Settles, Brings, BringsNone, Pays as StepPays, HandsCall, Replies as StepReplies}
-use Rattle.playing.proofs.Waits.{servers_hand_none, asides_hand_none, one_is_handed_out, it_is_answered}
+use Rattle.run_link.specs.PlayView.{Play, IsOpened, first_noted, PlaysNext, Further, Still, HandsEvent, HandsNone, HandsOwed, noting, paid}
+use Rattle.run_link.specs.Waiting.{HasCalls, arrival_of}
+use Rattle.run_link.specs.Moments.{Doing, Resting, Answering, Moment, Step, Begins as StepBegins, Tells, Takes as StepTakes, Settles, Brings, BringsNone, Pays as StepPays, HandsCall, Replies as StepReplies}
+use Rattle.run_link.proofs.Waits.{servers_hand_none, asides_hand_none, one_is_handed_out, it_is_answered}
 use Rattle.justified.specs.Said.{IsBegun}
 use Rattle.justified.specs.Ordered.{answering}
 

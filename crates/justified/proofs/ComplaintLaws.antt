@@ -37,8 +37,8 @@ use Rattle.driver_events.specs.Scene.{Scene, ruled}
 use Rattle.driver_events.specs.Kept.{NotesAside}
 use Rattle.driver_events.proofs.Keeping.{events_note_aside}
 use Rattle.schedule.specs.declared.arrived.Arrived.{Arrived}
-use Rattle.playing.specs.PlayView.{Play, IsOpened, begun, PlaysNext, Advances, Stays, Goes, Turn, Takes, TakesOwed, TakesEnd, Posts, Complains, ComesToEnd, IsPlayedOut, IsStarved, HandsOut, noting, paid, ended, starving, posted, complained}
-use Rattle.playing.specs.Moments.{Doing, Resting, Hearing, Answering, is_busy, Moment, record_of, IsBetween, hearing, at_link, Step, Begins as StepBegins, Tells, Takes as StepTakes, Settles, Brings, BringsNone, Pays as StepPays, HandsCall, Replies as StepReplies, Runs, Starts, Then}
+use Rattle.run_link.specs.PlayView.{Play, IsOpened, begun, PlaysNext, Advances, Stays, Goes, Turn, Takes, TakesOwed, TakesEnd, Posts, Complains, ComesToEnd, IsPlayedOut, IsStarved, HandsOut, noting, paid, ended, starving, posted, complained}
+use Rattle.run_link.specs.Moments.{Doing, Resting, Hearing, Answering, is_busy, Moment, record_of, IsBetween, hearing, at_link, Step, Begins as StepBegins, Tells, Takes as StepTakes, Settles, Brings, BringsNone, Pays as StepPays, HandsCall, Replies as StepReplies, Runs, Starts, Then}
 use Rattle.justified.specs.Core.{Core, Story, story, RunsNow, PhaseIs, FollowsGroups}
 use Rattle.justified.specs.Seen.{core_at, with_brought, Brought, NoMessage, Counted, Uncounted, NoReply, EventDone, is_reply}
 use Rattle.justified.specs.Happens.{IsNotRunning, AtReport, OfNone, OfRunning, fault_marks, exit_marks, beaten_core, TicksTo, Beats, MissesOne, FoundHung, WaitsOn, StartsNext, IsOver, Begins, Arrives, Flushes, Answers, Drops, Delivers, LinesAgain, HangsOne, StepsOne, FailsOne, DiesNone, DiesOne, Ticks}

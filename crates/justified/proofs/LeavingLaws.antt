@@ -24,12 +24,12 @@ use Rattle.driver_events.specs.Ruling.{is_fault}
 use Rattle.run_drivers.specs.Disks.{Disks, is_at, LinesUp, NoneIsThere, LineIsFull, IsLinedUp}
 use Rattle.driver_events.specs.Scene.{Scene}
 use Rattle.schedule.specs.declared.arrived.Arrived.{Arrived}
-use Rattle.playing.specs.PlayView.{Play, PlaysNext, Advances, Stays, Goes, Turn, Takes, TakesOwed, TakesEnd, Posts, Complains, ComesToEnd, IsPlayedOut, IsStarved, noting, ruling_at}
-use Rattle.playing.specs.Waiting.{HasCalls, arrival_of}
-use Rattle.playing.specs.Moments.{Resting, Moment, record_of, Step, Begins as StepBegins, Tells, Takes as StepTakes, Settles, Brings, BringsNone, Pays as StepPays, HandsCall, Replies as StepReplies, Runs, Starts, Then, Needs}
-use Rattle.playing.proofs.Needing.{runs_end_needing}
-use Rattle.playing.proofs.PlayLaws.{IsNoEnd, far_no_end}
-use Rattle.playing.proofs.Running.{next_record}
+use Rattle.run_link.specs.PlayView.{Play, PlaysNext, Advances, Stays, Goes, Turn, Takes, TakesOwed, TakesEnd, Posts, Complains, ComesToEnd, IsPlayedOut, IsStarved, noting, ruling_at}
+use Rattle.run_link.specs.Waiting.{HasCalls, arrival_of}
+use Rattle.run_link.specs.Moments.{Resting, Moment, record_of, Step, Begins as StepBegins, Tells, Takes as StepTakes, Settles, Brings, BringsNone, Pays as StepPays, HandsCall, Replies as StepReplies, Runs, Starts, Then, Needs}
+use Rattle.run_link.proofs.Needing.{runs_end_needing}
+use Rattle.run_link.proofs.PlayLaws.{IsNoEnd, far_no_end}
+use Rattle.run_link.proofs.Running.{next_record}
 use Rattle.justified.specs.Core.{Core, story, PhaseIs, FollowsGroups}
 use Rattle.justified.specs.Seen.{with_brought, EventDone}
 use Rattle.justified.proofs.Events.{event_done, record_of_groups}

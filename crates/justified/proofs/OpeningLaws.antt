@@ -15,8 +15,8 @@ use Rattle.schedule.specs.Faults.{HasNotFailed}
 use Rattle.schedule.specs.Noted.{marks_in}
 use Rattle.run_drivers.specs.Disks.{Disks, Slot, opened_disks}
 use Rattle.driver_events.specs.Scene.{Scene}
-use Rattle.playing.specs.PlayView.{Play, IsOpened, first_noted}
-use Rattle.playing.specs.Moments.{Moment, Resting, Runs}
+use Rattle.run_link.specs.PlayView.{Play, IsOpened, first_noted}
+use Rattle.run_link.specs.Moments.{Moment, Resting, Runs}
 use Rattle.justified.specs.Core.{Core, Story, story, PhaseIs, FollowsGroups}
 use Rattle.justified.specs.Seen.{core_at}
 use Rattle.justified.specs.Steady.{IsKept, EachSoFar, StartsAsDue, HungAsDue, FlushesAsDue, GivesUpAsDue, GivesUpSoFar, AnsweredSoFar, ExitsSoFar, DriversSoFar, ranges_in, state_in, drivers_of}

@@ -24,10 +24,10 @@ use Rattle.driver_events.specs.declared.ruling.Ruling.TheVariants as ruling
 use Rattle.run_drivers.specs.Disks.{Disks, LinesUp, NoneIsThere, LineIsFull, IsLinedUp}
 use Rattle.driver_events.specs.Scene.{Scene}
 use Rattle.schedule.specs.declared.arrived.Arrived.{Arrived}
-use Rattle.playing.specs.PlayView.{Play, IsOpened, first_noted, PlaysNext, Advances, Stays, Goes, Turn, Takes, TakesOwed, TakesEnd, Posts, Complains, ComesToEnd, IsPlayedOut, IsStarved, Still, Further, HandsEvent, HandsNone, HandsOwed, noting, paid, posted, complained, ruling_at}
-use Rattle.playing.specs.Waiting.{HasCalls, arrival_of}
-use Rattle.playing.specs.Moments.{Doing, Resting, Hearing, Answering, is_busy, Moment, Step, Begins as StepBegins, Tells, Takes as StepTakes, Settles, Brings, BringsNone, Pays as StepPays, HandsCall, Replies as StepReplies, Runs, Starts, Then}
-use Rattle.playing.proofs.Waits.{servers_hand_none, asides_hand_none, one_is_handed_out, it_is_answered}
+use Rattle.run_link.specs.PlayView.{Play, IsOpened, first_noted, PlaysNext, Advances, Stays, Goes, Turn, Takes, TakesOwed, TakesEnd, Posts, Complains, ComesToEnd, IsPlayedOut, IsStarved, Still, Further, HandsEvent, HandsNone, HandsOwed, noting, paid, posted, complained, ruling_at}
+use Rattle.run_link.specs.Waiting.{HasCalls, arrival_of}
+use Rattle.run_link.specs.Moments.{Doing, Resting, Hearing, Answering, is_busy, Moment, Step, Begins as StepBegins, Tells, Takes as StepTakes, Settles, Brings, BringsNone, Pays as StepPays, HandsCall, Replies as StepReplies, Runs, Starts, Then}
+use Rattle.run_link.proofs.Waits.{servers_hand_none, asides_hand_none, one_is_handed_out, it_is_answered}
 use Rattle.justified.specs.Seen.{with_brought, EventDone}
 use Rattle.justified.proofs.Events.{event_done, record_of_groups}
 use Rattle.justified.specs.Said.{IsBegun, HasBegun, StandsBefore, OverCalm}

@@ -26,8 +26,8 @@ use Rattle.driver_events.specs.declared.ruling.Ruling.{Ruling}
 use Rattle.run_drivers.specs.Disks.{Disks, LinesUp}
 use Rattle.driver_events.specs.Kept.{with_next}
 use Rattle.driver_events.proofs.Keeping.{events_note_aside}
-use Rattle.playing.specs.PlayView.{Play, begun, PlaysNext, Advances, Stays, Goes, Turn, Takes, TakesOwed, TakesEnd, Posts, Complains, ComesToEnd, IsPlayedOut, IsStarved, noting, paid, ended, posted, complained}
-use Rattle.playing.specs.Moments.{is_busy, Moment, record_of, Step, Begins as StepBegins, Tells, Takes as StepTakes, Settles, Brings, BringsNone, Pays as StepPays, HandsCall, Replies as StepReplies, Runs, Starts, Then}
+use Rattle.run_link.specs.PlayView.{Play, begun, PlaysNext, Advances, Stays, Goes, Turn, Takes, TakesOwed, TakesEnd, Posts, Complains, ComesToEnd, IsPlayedOut, IsStarved, noting, paid, ended, posted, complained}
+use Rattle.run_link.specs.Moments.{is_busy, Moment, record_of, Step, Begins as StepBegins, Tells, Takes as StepTakes, Settles, Brings, BringsNone, Pays as StepPays, HandsCall, Replies as StepReplies, Runs, Starts, Then}
 use Rattle.justified.specs.Core.{Core}
 use Rattle.justified.specs.Seen.{core_at, with_brought, EventDone}
 use Rattle.justified.specs.Happens.{AtReport, Begins, Adds, Replies, Complains as AddsComplaint, Pays}

@@ -22,8 +22,8 @@ use Rattle.schedule.specs.Groups.{Group, marks_of, started_in, Each, EachGroup}
 use Rattle.schedule.specs.Starts.{IssuesFollow, is_among_first, are_issued_in_place}
 use Rattle.run_drivers.specs.Disks.{Disks, is_at, started}
 use Rattle.driver_events.specs.Kept.{with_next}
-use Rattle.playing.specs.PlayView.{Play, IsOpened}
-use Rattle.playing.specs.Moments.{Doing, Moment, Resting, is_busy, Runs}
+use Rattle.run_link.specs.PlayView.{Play, IsOpened}
+use Rattle.run_link.specs.Moments.{Doing, Moment, Resting, is_busy, Runs}
 use Rattle.justified.specs.Core.{Core, story, PhaseIs, WaitsNow, FollowsGroups}
 use Rattle.justified.specs.Seen.{core_at}
 use Rattle.justified.specs.Happens.{Begins}

@@ -25,8 +25,8 @@ use Rattle.driver_events.specs.Ruling.{is_fault, gives_up}
 use Rattle.run_drivers.specs.Disks.{Disks, LinesUp, NoneIsThere, LineIsFull, IsLinedUp}
 use Rattle.driver_events.specs.Scene.{ruled}
 use Rattle.schedule.specs.declared.arrived.Arrived.{Arrived}
-use Rattle.playing.specs.PlayView.{Play, PlaysNext, Advances, Stays, Goes, Turn, Takes, TakesOwed, TakesEnd, Posts, Complains, ComesToEnd, IsPlayedOut, IsStarved, HandsOut, noting, paid, ended, posted, complained, ruling_at}
-use Rattle.playing.specs.Moments.{Doing, Resting, Hearing, Answering, is_busy, Moment, record_of, Step, Begins as StepBegins, Tells, Takes as StepTakes, Settles, Brings, BringsNone, Pays as StepPays, HandsCall, Replies as StepReplies, Runs, Starts, Then}
+use Rattle.run_link.specs.PlayView.{Play, PlaysNext, Advances, Stays, Goes, Turn, Takes, TakesOwed, TakesEnd, Posts, Complains, ComesToEnd, IsPlayedOut, IsStarved, HandsOut, noting, paid, ended, posted, complained, ruling_at}
+use Rattle.run_link.specs.Moments.{Doing, Resting, Hearing, Answering, is_busy, Moment, record_of, Step, Begins as StepBegins, Tells, Takes as StepTakes, Settles, Brings, BringsNone, Pays as StepPays, HandsCall, Replies as StepReplies, Runs, Starts, Then}
 use Rattle.justified.specs.Core.{Core}
 use Rattle.justified.specs.Seen.{core_at, with_brought, EventDone}
 use Rattle.justified.specs.Happens.{AtReport, Begins, Adds, AddsNothing, Posts as AddsPost, Replies, Complains as AddsComplaint, Pays}

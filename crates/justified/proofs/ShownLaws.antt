@@ -11,7 +11,7 @@ use Rattle.schedule.specs.Faults.{HasNotFailed}
 use Rattle.justified.specs.Core.{Core}
 use Rattle.justified.specs.Steady.{IsKept, StartsAsDue, HungAsDue, GivesUpAsDue, FlushesAsDue, drivers_of}
 use Rattle.justified.proofs.SteadyLaws.{begins_policy, adds_policy}
-use Rattle.playing.specs.PlayView.{IsOpened}
+use Rattle.run_link.specs.PlayView.{IsOpened}
 use Rattle.justified.specs.Said.{IsSaid}
 use Rattle.justified.specs.RunLaws.{RunJustified}
 use Rattle.justified.specs.Shown.{RunsShowEvents}

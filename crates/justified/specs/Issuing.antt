@@ -12,8 +12,8 @@ use Rattle.schedule.specs.declared.Event.{Event}
 use Rattle.schedule.specs.Groups.{Group, marks_of, Each, EachGroup}
 use Rattle.schedule.specs.Starts.{IssuesFollow}
 use Rattle.run_drivers.specs.Disks.{is_at}
-use Rattle.playing.specs.PlayView.{IsOpened}
-use Rattle.playing.specs.Moments.{Moment, Resting, Runs, record_of}
+use Rattle.run_link.specs.PlayView.{IsOpened}
+use Rattle.run_link.specs.Moments.{Moment, Resting, Runs, record_of}
 use Rattle.justified.specs.Said.{PlacedAsDue}
 
 -- right after a start all open requests are issued to the new driver, in rising order

@@ -4,8 +4,8 @@ use Rattle.records.specs.Marks.{Mark}
 use Rattle.schedule.specs.declared.Event.{Event}
 use Rattle.schedule.specs.Groups.{Group, marks_of, EachGroup}
 use Rattle.schedule.specs.Calls.{Arrival, arrived, taken}
-use Rattle.playing.specs.Waiting.{arrival_of}
-use Rattle.playing.specs.Moments.{Doing, Resting, Hearing, Answering}
+use Rattle.run_link.specs.Waiting.{arrival_of}
+use Rattle.run_link.specs.Moments.{Doing, Resting, Hearing, Answering}
 
 -- the calls taken so far are the first that arrived, in their order
 pub record IsOrdered (groups : List Group) : Type 0 where

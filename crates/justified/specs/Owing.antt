@@ -5,7 +5,7 @@ use Rattle.schedule.specs.declared.Event.{Event}
 use Rattle.schedule.specs.declared.Event.TheVariants as event
 use Rattle.schedule.specs.Groups.{Group, marks_of}
 use Rattle.schedule.specs.Starts.{calls_since_fault, is_given_up_after_fault}
-use Rattle.playing.specs.Moments.{Doing, Resting, Hearing, Answering}
+use Rattle.run_link.specs.Moments.{Doing, Resting, Hearing, Answering}
 
 -- how many calls were finished since the fault: none while the server is at work, at most one after that
 abbrev pub FewCalls : Doing → ℕ → Type 0

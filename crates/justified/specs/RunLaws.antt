@@ -11,8 +11,8 @@ use Rattle.schedule.specs.Faults.{ExitsOfGroup, HasNotFailed, FailsAtItsStep}
 use Rattle.schedule.specs.Drivers.{state_of}
 use Rattle.schedule.specs.Replies.{answers_in, answers_due, are_in_order}
 use Rattle.schedule.specs.Noted.{marks_in}
-use Rattle.playing.specs.PlayView.{Play, IsOpened}
-use Rattle.playing.specs.Moments.{Moment, Resting, Runs}
+use Rattle.run_link.specs.PlayView.{Play, IsOpened}
+use Rattle.run_link.specs.Moments.{Moment, Resting, Runs}
 use Rattle.justified.specs.Core.{Core}
 use Rattle.justified.specs.Steady.{EachSoFar, StartsAsDue, HungAsDue, FlushesAsDue, GivesUpAsDue, GivesUpSoFar, AnsweredSoFar, ExitsSoFar, drivers_of}
 use Rattle.justified.specs.Said.{IsSaid, HasBegun, OverCalm}

@@ -5,8 +5,8 @@ use Rattle.records.specs.Marks.{Mark, Started}
 use Rattle.schedule.specs.declared.Event.{Event}
 use Rattle.schedule.specs.Groups.{Group, marks_of}
 use Rattle.schedule.specs.Starts.{are_issued_in_place}
-use Rattle.playing.specs.PlayView.{Play}
-use Rattle.playing.specs.Moments.{Moment, Resting}
+use Rattle.run_link.specs.PlayView.{Play}
+use Rattle.run_link.specs.Moments.{Moment, Resting}
 use Rattle.justified.specs.Core.{Core}
 use Rattle.justified.specs.Seen.{core_at}
 

@@ -8,8 +8,8 @@ use Rattle.records.specs.Marks.{Mark}
 use Rattle.schedule.specs.declared.Event.{Event}
 use Rattle.schedule.specs.Groups.{Group, marks_of, Each, EachGroup}
 use Rattle.schedule.specs.Replies.{IsSentAtItsStep}
-use Rattle.playing.specs.PlayView.{IsOpened}
-use Rattle.playing.specs.Moments.{Moment, Resting, Runs}
+use Rattle.run_link.specs.PlayView.{IsOpened}
+use Rattle.run_link.specs.Moments.{Moment, Resting, Runs}
 use Rattle.justified.specs.Said.{PlacedAsDue}
 
 -- where the drivers that were handed in are new, and each request was issued where it may be, each reply stands at a step of its driver

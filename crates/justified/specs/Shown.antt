@@ -14,8 +14,8 @@ use Rattle.schedule.specs.Starts.{GivingUpOfGroup}
 use Rattle.schedule.specs.Replies.{are_in_order}
 use Rattle.schedule.specs.Justified.{AnswersAndFlushes}
 use Rattle.schedule.specs.Noted.{marks_in}
-use Rattle.playing.specs.PlayView.{IsOpened}
-use Rattle.playing.specs.Moments.{Moment, Resting, Runs}
+use Rattle.run_link.specs.PlayView.{IsOpened}
+use Rattle.run_link.specs.Moments.{Moment, Resting, Runs}
 use Rattle.justified.specs.Steady.{StartsAsDue, HungAsDue, drivers_of}
 use Rattle.justified.specs.Complaining.{ComplaintsAsDue}
 use Rattle.justified.specs.Ordered.{OrderedAsDue}

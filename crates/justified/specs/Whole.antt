@@ -12,8 +12,8 @@ use Rattle.schedule.specs.Groups.{marks_of, Each}
 use Rattle.schedule.specs.Calls.{Arrival, arrived, taken}
 use Rattle.schedule.specs.Justified.{Justified}
 use Rattle.schedule.specs.Noted.{marks_in}
-use Rattle.playing.specs.PlayView.{Play, IsOpened}
-use Rattle.playing.specs.Moments.{Moment, Resting, Runs}
+use Rattle.run_link.specs.PlayView.{Play, IsOpened}
+use Rattle.run_link.specs.Moments.{Moment, Resting, Runs}
 use Rattle.justified.specs.Steady.{drivers_of}
 
 -- a driver that was never handed a request, and hasn't failed

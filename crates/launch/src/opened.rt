@@ -11,8 +11,8 @@ ghost use Rattle.mounting.specs.Laws.{sizes_in};
 ghost use Rattle.launch.specs.Stopped.{IsStopped, refusal_of as start_refusal_of};
 
 use board::Board;
-use keeping::recorder::Recorder;
-use keeping::room::Room;
+use counting_link::recorder::Recorder;
+use counting_link::room::Room;
 use layout::Geometry;
 use mounting::MountRefusal;
 use vfs::Server;

@@ -3,7 +3,7 @@ use Rattle.std.proofs.Common.{◌≡◌, ◌≤◌, min, sym, subst, arith}
 use Rattle.records.specs.ServerCall.{Serving}
 use Rattle.reissue.specs.declared.link.Link.{Ghosts as LinkWords}
 use Rattle.file_server.specs.Over.{SameServing}
-use Rattle.keeping.specs.Recorder.{SameLink}
+use Rattle.counting_link.specs.Recorder.{SameLink}
 use Rattle.shared_server.specs.Recorder.{SameServer}
 
 -- a server whose link was lent out, was told nothing and gave nothing, and came back

@@ -26,8 +26,8 @@ use Rattle.records.specs.ServerCall.{Serving, Outcome, Replied, Cut, with_outcom
 use Rattle.reissue.specs.declared.link.Link.{Ghosts as LinkWords}
 use Rattle.file_server.specs.Over.{CallsOver}
 use Rattle.file_server.specs.Leaving.{IsEndLast}
-use Rattle.keeping.specs.declared.room.Room.{Ghosts as RoomWords}
-use Rattle.keeping.specs.Keeper.{begins_itself, begins_before, begins_further}
+use Rattle.counting_link.specs.declared.room.Room.{Ghosts as RoomWords}
+use Rattle.counting_link.specs.Keeper.{begins_itself, begins_before, begins_further}
 use Rattle.shared_server.specs.declared.stopping.Stopped.{Stopped}
 use Rattle.shared_server.specs.declared.stopping.StopRefusal.{StopRefusal}
 use Rattle.shared_server.specs.declared.stopping.StopRefusal.TheVariants.{SessionsLeft, GivenUp, OutOfMemory, LinkEnded}

@@ -12,8 +12,8 @@ ghost use Rattle.shared_server.specs.Held.{IsEioOnceGivenUp, IsGuaranteed, IsHel
 use board::Seat;
 use file_server::FileServer;
 use crate::sharing::{count_call, show};
-use keeping::recorder::Recorder;
-use keeping::room::Room;
+use counting_link::recorder::Recorder;
+use counting_link::room::Room;
 use tree::{Call, Outcome, Who};
 
 /// A call of the session that has this seat, which has then seen the whole record. An answer is a mark of it, the last; a cut isn't. With the

@@ -7,15 +7,15 @@ ghost use Rattle.records.specs.Opening.{Opening};
 ghost use Rattle.records.specs.Told.{took_end};
 ghost use Rattle.board.specs.View.{without};
 ghost use Rattle.board.specs.Steps.{SessionLearns, SessionIsNew};
-ghost use Rattle.keeping.specs.Keeper.{AreAllUsed, IsLowestFree, IsOneFree};
+ghost use Rattle.counting_link.specs.Keeper.{AreAllUsed, IsLowestFree, IsOneFree};
 ghost use Rattle.records.specs.Session.{tally_of};
 ghost use Rattle.shared_server.specs.Recorder.{SameServer};
 
 use crate::refusal::SessionRefusal;
 use board::Seat;
 use file_server::FileServer;
-use keeping::recorder::Recorder;
-use keeping::room::Room;
+use counting_link::recorder::Recorder;
+use counting_link::room::Room;
 use tree::{Call, Reply, Who};
 
 /// A call of the caller's session was answered. The caller has then seen the whole record, its call last. Gives how many counted marks

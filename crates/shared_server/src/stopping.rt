@@ -5,7 +5,7 @@ ghost use Rattle.std.specs.List.{concat};
 ghost use Rattle.shared_server.specs.Stopping.{stop_refusal_number};
 
 use file_server::FileServer;
-use keeping::steady::OnMedia;
+use counting_link::steady::OnMedia;
 use std::alloc::{AllocError, Global};
 use std::marker::PhantomData;
 

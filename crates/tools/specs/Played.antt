@@ -15,10 +15,10 @@ use Rattle.script_text.specs.declared.script_files.FileRefusal.TheVariants.{Cann
 use Rattle.script_text.specs.Files as files
 use Rattle.reply_text.specs.declared.answers.Played.{Played}
 use Rattle.reply_text.specs.Answers.{sessions_text}
-use Rattle.service_play.specs.Made.{has_eio}
-use Rattle.service_play.specs.Served.{AreServed, service_text}
+use Rattle.script_play.specs.Made.{has_eio}
+use Rattle.script_play.specs.Served.{AreServed, service_text}
 use Rattle.tools.specs.Status.{is_given_up}
-use Rattle.service_play.specs.declared.players.LastSync.{LastSync}
+use Rattle.script_play.specs.declared.players.LastSync.{LastSync}
 use Rattle.tools.specs.declared.play.PlayRefusal.{PlayRefusal}
 use Rattle.tools.specs.declared.play.PlayRefusal.TheVariants.{Files, Start, Service, OutOfMemory, NotWritten}
 

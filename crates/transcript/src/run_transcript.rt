@@ -2,7 +2,7 @@
 
 use file_server::FileServer;
 use inline::local::LocalDriver;
-use playing::Playing;
+use run_link::Playing;
 use run_drivers::unit::Unit;
 use schedule::Sent;
 use std::alloc::{AllocError, Global};

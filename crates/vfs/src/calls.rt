@@ -9,7 +9,7 @@ ghost use Rattle.vfs.specs.Serving.{MayServe, Spends, server_of};
 use descriptors::Descriptors;
 use errno::Errno;
 use layout::Geometry;
-use call_bodies::body;
+use calls::body;
 use std::alloc::Global;
 use store::Cut;
 use stored::Caches;

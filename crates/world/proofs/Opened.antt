@@ -9,10 +9,10 @@ use Rattle.records.specs.Told.{took_end}
 use Rattle.schedule.specs.declared.Event.{Event}
 use Rattle.schedule.specs.Noted.{Noted}
 use Rattle.driver_events.specs.Scene.{Scene}
-use Rattle.playing.specs.PlayView.{Play, IsOpened, left_of, unless_told, work_left}
+use Rattle.run_link.specs.PlayView.{Play, IsOpened, left_of, unless_told, work_left}
 use Rattle.reincarnate.specs.declared.SupplyRefusal.{SupplyRefusal}
 use Rattle.reincarnate.specs.Supply.{ReincarnationState, NewAnswers}
-use Rattle.rounds.specs.Starts.{IsBeforeFirst}
+use Rattle.run_loop.specs.Starts.{IsBeforeFirst}
 use Rattle.world.specs.ServerPlays.{IsFresh}
 
 -- a promise of what is there holds of what follows from it

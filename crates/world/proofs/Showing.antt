@@ -22,16 +22,16 @@ use Rattle.schedule.specs.Groups.{Each}
 use Rattle.schedule.specs.Justified.{Justified}
 use Rattle.schedule.specs.Headline.{Transcript}
 use Rattle.schedule.specs.Noted.{marks_in}
-use Rattle.playing.specs.declared.playing.Playing.{Playing}
-use Rattle.playing.specs.PlayView.{Play, IsOpened}
-use Rattle.playing.specs.Moments.{Doing, Resting, Hearing, Answering}
+use Rattle.run_link.specs.declared.playing.Playing.{Playing}
+use Rattle.run_link.specs.PlayView.{Play, IsOpened}
+use Rattle.run_link.specs.Moments.{Doing, Resting, Hearing, Answering}
 use Rattle.justified.specs.Steady.{drivers_of}
 use Rattle.justified.specs.Whole.{IsUnused, IsAtEnd, IsWhole as IsWholeRun}
 use Rattle.justified.proofs.WholeLaws.{runs_are_whole}
 use Rattle.file_server.specs.Over.{Hears}
-use Rattle.rounds.specs.Ends.{RunHolds, RunStands, EndsIn}
-use Rattle.rounds.specs.Starts.{at_first}
-use Rattle.rounds.specs.Runs.{moment}
+use Rattle.run_loop.specs.Ends.{RunHolds, RunStands, EndsIn}
+use Rattle.run_loop.specs.Starts.{at_first}
+use Rattle.run_loop.specs.Runs.{moment}
 use Rattle.world.specs.Shows.{Shows}
 use Rattle.world.proofs.RunShowing.{runs_are_shown}
 use Rattle.stored.specs.declared.Stored.{Stored}

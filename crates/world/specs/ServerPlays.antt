@@ -4,8 +4,8 @@ use Rattle.layout.specs.declared.Geometry.{Geometry}
 use Rattle.records.specs.Mount.{OpenKeeps}
 use Rattle.reissue.specs.declared.link.Link.{Ghosts as LinkWords}
 use Rattle.schedule.specs.declared.Event.{Event}
-use Rattle.playing.specs.PlayView.{Play}
-use Rattle.rounds.specs.Starts.{IsBeforeFirst, PlaysAll}
+use Rattle.run_link.specs.PlayView.{Play}
+use Rattle.run_loop.specs.Starts.{IsBeforeFirst, PlaysAll}
 use Rattle.stored.specs.declared.Stored.{Stored}
 use Rattle.vfs.specs.declared.server.Server.{Server}
 use Rattle.vfs.specs.OverLink.{line_of, serving_over}

@@ -7,12 +7,12 @@ ghost use Rattle.records.specs.Opening.{Opening};
 ghost use Rattle.inline.specs.Inline.{IsReady};
 ghost use Rattle.true_replies.specs.Events.{IsOnMedia, opening_media};
 ghost use Rattle.schedule.specs.LogView.{room_in};
-ghost use Rattle.playing.specs.PlayView.{IsOpened, PlayTrue, play_of};
+ghost use Rattle.run_link.specs.PlayView.{IsOpened, PlayTrue, play_of};
 ghost use Rattle.world.specs.ServerPlays.{IsFresh};
 
 use inline::local::LocalDriver;
 use media::Media;
-use playing::Playing;
+use run_link::Playing;
 use reincarnate::policy::Setup;
 use reincarnate::Reincarnation;
 use schedule::Event;

@@ -3,15 +3,15 @@
 ghost use Rattle.std.specs.Prelude.{◌≡◌, ◌≤◌, ◌<◌, ◌+◌, ◌^◌, IfOk, false};
 ghost use Rattle.layout.specs.Places.{IsGeometry};
 ghost use Rattle.records.specs.Told.{took_end};
-ghost use Rattle.playing.specs.PlayView.{work_left};
-ghost use Rattle.rounds.specs.Starts.{IsBeforeFirst};
+ghost use Rattle.run_link.specs.PlayView.{work_left};
+ghost use Rattle.run_loop.specs.Starts.{IsBeforeFirst};
 ghost use Rattle.world.specs.ServerPlays.{PlaysFrom};
 
 use fsck::Clean;
 use vfs::Server;
 use mounting::mounted::open;
-use rounds::WorldLink;
-use rounds::run::play_all;
+use run_loop::WorldLink;
+use run_loop::run::play_all;
 use std::alloc::{AllocError, Global};
 use stored::Stored;
 

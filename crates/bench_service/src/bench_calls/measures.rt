@@ -2,9 +2,9 @@
 
 use crate::bench_calls::work::{Caller, at_start, copies, measure, once, rewind};
 use file_server::FileServer;
-use keeping::recorder::Recorder;
-use keeping::room::Room;
-use keeping::steady::OnMedia;
+use counting_link::recorder::Recorder;
+use counting_link::room::Room;
+use counting_link::steady::OnMedia;
 use launch::program::Program;
 use bench_layers::timing::say;
 use reissue::link::TrueLink;

@@ -1,8 +1,8 @@
 //! Work that is measured: calls, made again and again.
 
 use file_server::FileServer;
-use keeping::recorder::Recorder;
-use keeping::room::Room;
+use counting_link::recorder::Recorder;
+use counting_link::room::Room;
 use bench_layers::timing::{copy, micros_since, tell};
 use serve::service::Shared;
 use serve::session::Session;

@@ -1,5 +1,5 @@
 use Rattle.std.proofs.Common.{◌≤◌, subst, sym}
-use Rattle.rounds.specs.Starts.{IsBeforeFirst, PlaysAll}
+use Rattle.run_loop.specs.Starts.{IsBeforeFirst, PlaysAll}
 use Rattle.vfs.specs.OverLink.{line_of, serving_over}
 use Rattle.world.proofs.Opened.{few_here}
 use Rattle.world.proofs.server.play_over.Goals as goal

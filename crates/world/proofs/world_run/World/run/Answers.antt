@@ -5,7 +5,7 @@ use Rattle.world.specs.Beginning.{IsBegun, range_of}
 use Rattle.world.specs.ServerPlays.{IsFresh}
 use Rattle.media.specs.Contents.{MediaState}
 use Rattle.mounting.specs.Starting.{opening_of}
-use Rattle.playing.specs.PlayView.{play_of}
+use Rattle.run_link.specs.PlayView.{play_of}
 use Rattle.world.proofs.Opened.{little_work, none_ended, small_budget}
 use Rattle.world.proofs.Showing.{all_unused, run_shows, whole_there}
 use Rattle.world.proofs.world_run.World.run.Goals as goal

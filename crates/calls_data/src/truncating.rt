@@ -1,0 +1,53 @@
+//! Sizes of files, set by their paths.
+
+ghost use Rattle.std.specs.Prelude.{◌≡◌, ◌≢◌, IfOk, IfErr};
+ghost use Rattle.tree.specs.NodeCalls.{truncate};
+ghost use Rattle.tree.specs.Answers.{answer_of, refused};
+ghost use Rattle.descriptors.specs.Files.{Files, HasFiles};
+ghost use Rattle.store.specs.World.{Turns};
+ghost use Rattle.store.specs.Volume.{IsOn};
+ghost use Rattle.store.specs.Halts.{IsHalt};
+ghost use Rattle.calls_data.specs.Does.{Meets};
+
+use crate::dated::set_size_at;
+use crate::found::is_directory;
+use errno::Errno;
+use layout::Geometry;
+use crate::named::find_node;
+use path::{Wish, may};
+use store::{Blocks, Halt};
+use tree::{MAX_SIZE, Reply, User};
+
+/// truncate: the size of a file; what lies past it is gone, and what is new reads as zeros. EFBIG of more than 2147483647 bytes, else the
+/// refusals of the path, else EISDIR of a directory, else EACCES where the user may not write the file.
+pub fn truncate<B: Blocks>(
+    blocks: &mut B,
+    geometry: &Geometry,
+    user: User,
+    now: u32,
+    path: &[u8],
+    size: u32,
+) -> Result<Reply, Halt>
+    requires on { IsOn B.world geometry.now blocks.old }
+    ensures turns { Turns B.world blocks.old blocks.new (λ d e. (f : Files) →
+        Meets geometry.now (λ t. truncate geometry.now t user now path.now size) result (HasFiles f) (HasFiles f) d e) }
+    ensures halt { IfErr result (λ h. IsHalt B.world blocks.new h) }
+    ensures proper { IfOk result (λ r. answer_of r ≢ refused Errno.EIO) }
+{
+    if size > MAX_SIZE {
+        return Ok(Reply::Refused(Errno::EFBIG));
+    }
+    match find_node(blocks, geometry, user, path)? {
+        Ok((number, inode)) => {
+            if is_directory(&inode) {
+                return Ok(Reply::Refused(Errno::EISDIR));
+            }
+            if !may(user, inode.mode % 512, inode.uid, inode.gid, Wish::Write) {
+                return Ok(Reply::Refused(Errno::EACCES));
+            }
+            set_size_at(blocks, geometry, number, size, now)?;
+            Ok(Reply::Done)
+        }
+        Err(errno) => Ok(Reply::Refused(errno)),
+    }
+}

@@ -1,0 +1,77 @@
+//! The node that open opens.
+
+ghost use Rattle.std.specs.Prelude.{◌≢◌, ◌≤◌, IfErr, IsTrue, is_some};
+ghost use Rattle.tree.specs.Tree.{Tree, most_permissions};
+ghost use Rattle.volume.specs.Holds.{HoldsVolume};
+ghost use Rattle.store.specs.Volume.{IsOn};
+ghost use Rattle.store.specs.World.{Turns};
+ghost use Rattle.path.specs.Stops.{Answers, IfRefused, IsStop};
+ghost use Rattle.calls_open.specs.Opening.{Readies, ReadiesThere, open_named};
+
+use crate::asking::{is_emptied, refusal};
+use calls_data::set_size_at;
+use errno::Errno;
+use inode::inode_table::load;
+use layout::Geometry;
+use crate::make_file;
+use path::Path;
+use store::Blocks;
+use tree::{OpenFlags, User};
+use path::{Found, Stop, look_up};
+
+/// Readies a node that is there: with the truncate flag its file is emptied, changed at `now` (seconds). EEXIST where the call makes files
+/// and takes no others, EISDIR of a directory to be written, EACCES where the user lacks a permission; then nothing is changed.
+fn ready_there<B: Blocks>(
+    blocks: &mut B,
+    geometry: &Geometry,
+    user: User,
+    now: u32,
+    number: u32,
+    flags: OpenFlags,
+) -> Result<(), Stop>
+    requires on { IsOn B.world geometry.now blocks.old }
+    ensures turns { Turns B.world blocks.old blocks.new (λ d e. (t : Tree) → HoldsVolume geometry.now d t
+        → IsTrue (is_some (t.nodes number))
+        → Answers result (ReadiesThere geometry.now t user now number flags.0 d e)) }
+    ensures stop { IfErr result (λ s. IsStop B.world blocks.new s) }
+    ensures proper { IfErr result (λ s. IfRefused s (λ e. e ≢ Errno.EIO)) }
+{
+    let inode = load(blocks, geometry, number)?;
+    if let Some(errno) = refusal(user, &inode, flags) {
+        return Err(Stop::Refused(errno));
+    }
+    if is_emptied(&inode, flags) {
+        set_size_at(blocks, geometry, number, 0, now)?;
+    }
+    Ok(())
+}
+
+/// The number of the node that open opens, which is readied or made. The refusals of the path and of the look-up come first, then those of
+/// a node that is there, or of a missing name: ENOENT where the call doesn't create, EACCES, ENOSPC. A refused call has changed nothing.
+pub(crate) fn ready<B: Blocks>(
+    blocks: &mut B,
+    geometry: &Geometry,
+    user: User,
+    now: u32,
+    path: &[u8],
+    flags: OpenFlags,
+    mode: u16,
+) -> Result<u32, Stop>
+    requires on { IsOn B.world geometry.now blocks.old }
+    requires mode { mode ≤ most_permissions }
+    ensures turns { Turns B.world blocks.old blocks.new (λ d e. (t : Tree) → HoldsVolume geometry.now d t
+        → Answers result (Readies geometry.now t (open_named geometry.now t user now path.now flags.0 mode) flags.0 d e)) }
+    ensures stop { IfErr result (λ s. IsStop B.world blocks.new s) }
+    ensures proper { IfErr result (λ s. IfRefused s (λ e. e ≢ Errno.EIO)) }
+{
+    let path = Path::parse(path)?;
+    match look_up(blocks, geometry, user, &path)? {
+        Found::There(number) => {
+            ready_there(blocks, geometry, user, now, number, flags)?;
+            Ok(number)
+        }
+        Found::Missing(place) => {
+            make_file(blocks, geometry, user, now, &place, flags.creates(), mode)
+        }
+    }
+}

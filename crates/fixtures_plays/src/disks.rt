@@ -1,0 +1,71 @@
+//! Volumes in a partition of an image: a new volume of 128 sectors behind a sector with a table, from sector 1 on.
+use crate::plays::{Play, Played};
+use modeldisk::{Inner, RamDriver, ScriptedDriver};
+use media::partition::{Table, parse};
+use reincarnate::policy::Setup;
+use fixtures::{new_volume, whole};
+use std::alloc::{AllocError, Global};
+use std::sync::Wait;
+use std::test::Fail;
+
+/// A new volume of 128 sectors behind a sector with a table, whose second entry has this type, is said to have so many sectors from sector
+/// 1 on, and which ends in 0x55 and this byte.
+fn disk(alloc: Global, kind: u8, count: u8, last: u8) -> Result<Vec<u8>, AllocError> {
+    let mut first = [0; 512];
+    first[466] = kind;
+    first[470] = 1;
+    first[474] = count;
+    first[510] = 0x55;
+    first[511] = last;
+    let mut image = Vec::from_slice(alloc, &first)?;
+    image.extend_from_slice(new_volume(alloc, 1024)?.as_slice())?;
+    Ok(image)
+}
+
+/// The table in the image's first sector, or that of a disk without one.
+fn table_of(image: &[u8]) -> Table {
+    let whole_disk = Table::whole(129);
+    let (sectors, _) = image.as_chunks::<512>();
+    match sectors.first() {
+        Some(first) => parse(first, 129).unwrap_or(whole_disk),
+        None => whole_disk,
+    }
+}
+
+/// What a script gives on the volume of this minor of such an image, whose table's entry has this type and size, and which ends in this
+/// byte; over a driver of its ranges.
+fn played_on<R: Wait + Copy>(
+    alloc: Global,
+    rt: R,
+    (kind, count, last): (u8, u8, u8),
+    minor: u8,
+    script: &[u8],
+) -> Result<Played, AllocError> {
+    let image = disk(alloc, kind, count, last)?;
+    let mut supply = Vec::new(alloc);
+    let inner = Inner::Ram(RamDriver::new(table_of(image.as_slice())));
+    supply.push(ScriptedDriver::new(inner, Vec::new(alloc)))?;
+    let scripts = [Some(script)];
+    let play = Play {
+        setup: Setup { minor, ..whole() },
+        ..Play::new(image.as_slice(), &scripts)
+    };
+    play.played_over(alloc, rt, supply)
+}
+
+/// The type and the size of the table's second entry and the table's last byte, the minor that is asked for, and what comes of it: the
+/// status and both texts.
+pub type OnDisk = ((u8, u8, u8), u8, u8, &'static str, &'static str);
+
+/// A script gives what each of these rows says.
+pub fn are_served<R: Wait + Copy>(
+    alloc: Global,
+    rt: R,
+    script: &[u8],
+    rows: &[OnDisk],
+) -> Result<(), Fail> {
+    for (entry, minor, status, out, err) in rows {
+        played_on(alloc, rt, *entry, *minor, script)?.gave(*status, out, err)?;
+    }
+    Ok(())
+}

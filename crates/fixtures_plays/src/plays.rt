@@ -1,0 +1,230 @@
+//! Plays over images.
+
+ghost use Rattle.std.specs.Prelude.{◌≡◌, ◌↔◌, IsOk, is_some, not, ◌==◌};
+
+use fsck::{Verdict, check};
+use modeldisk::{FaultKind, ScriptedDriver};
+use reincarnate::policy::Setup;
+use fixtures::{supply_at, whole};
+use std::alloc::{AllocError, Global};
+use std::io::{self, Write};
+use std::sync::Wait;
+use std::test::Fail;
+use script_text::script_files::File;
+use tools::play::{Status, play};
+
+/// Drivers, each with its fault once so many of a request's sectors were moved, or with none.
+pub type Faults<'f> = &'f [Option<(u32, FaultKind)>];
+
+/// One driver without a fault.
+pub const HONEST: Faults<'static> = &[None];
+
+/// What a play gave.
+#[derive(Drop)]
+pub struct Played {
+    /// The status of the process.
+    pub status: u8,
+    /// What stands on standard output.
+    pub out: Vec<u8>,
+    /// What stands on standard error.
+    pub err: Vec<u8>,
+    /// The image that is left, if one is.
+    pub image: Option<Vec<u8>>,
+}
+
+impl Played {
+    /// Looks at what a play gave, which is an error where it is something else: the image is there exactly where nothing was refused.
+    pub fn gave(&self, status: u8, out: &str, err: &str) -> Result<(), Fail>
+        ensures { IsOk result ↔ ((self.now.status ≡ status) × (self.now.out.items ≡ out.now) × (self.now.err.items ≡ err.now)
+            × (is_some self.now.image ≡ not (status == 1))) }
+    {
+        let is_told = self.out.as_slice() == out.as_bytes()
+            && self.err.as_slice() == err.as_bytes();
+        if is_told && self.status == status && self.image.is_some() == (status != 1) {
+            return Ok(());
+        }
+        let out = str::from_utf8(self.out.as_slice()).unwrap_or("no text");
+        let err = str::from_utf8(self.err.as_slice()).unwrap_or("no text");
+        Err(Fail::new(format_args!("status {}, {err}, {out}", self.status)))
+    }
+
+    /// The image, or no bytes.
+    pub fn left(&self) -> &[u8] {
+        self.image.as_deref().unwrap_or(&[])
+    }
+
+    /// Whether the image is that of a sound volume.
+    pub fn is_clean(&self, alloc: Global) -> bool {
+        matches!(check(alloc, self.left()), Ok(Verdict::Clean(_)))
+    }
+}
+
+/// The names of the scripts' files, in their order; further ones have the last.
+const NAMES: [&str; 4] = ["s.txt", "t.txt", "u.txt", "w.txt"];
+
+/// Files of scripts.
+fn files<'b>(
+    alloc: Global,
+    scripts: &[Option<&'b [u8]>],
+) -> Result<Vec<File<'static, 'b>>, AllocError> {
+    let mut files = Vec::with_capacity(alloc, scripts.len())?;
+    for (at, bytes) in scripts.iter().enumerate() {
+        files.push(File {
+            name: NAMES.get(at).unwrap_or(&"w.txt"),
+            bytes: *bytes,
+        })?;
+    }
+    Ok(files)
+}
+
+/// How many bytes writers take.
+#[derive(Clone, Copy)]
+pub struct Room {
+    /// At a call.
+    pub most: usize,
+    /// In all on standard output.
+    pub out: usize,
+    /// In all on standard error.
+    pub err: usize,
+}
+
+/// Room for all.
+const FREE: Room = Room {
+    most: usize::MAX,
+    out: usize::MAX,
+    err: usize::MAX,
+};
+
+/// What was written, how many bytes are taken at a call, and how many in all.
+#[derive(Drop)]
+struct Sink(Vec<u8>, usize, usize);
+
+impl Write for Sink {
+    fn write(&mut self, bytes: &[u8]) -> io::Result<usize> {
+        let left = self.2.saturating_sub(self.0.len());
+        let count = bytes.len().min(self.1).min(left);
+        self.0.extend_from_slice(&bytes[..count])?;
+        Ok(count)
+    }
+
+    fn flush(&mut self) -> io::Result<()> {
+        Ok(())
+    }
+}
+
+/// Plays the scripts of files on an image, of each the bytes if it can be read, into writers with this room; and how it ended.
+fn play_into<R: Wait + Copy>(
+    alloc: Global,
+    rt: R,
+    image: Option<&[u8]>,
+    scripts: &[Option<&[u8]>],
+    setup: &Setup,
+    supply: Vec<ScriptedDriver>,
+    room: Room,
+) -> Result<(Played, Status), AllocError> {
+    let files = files(alloc, scripts)?;
+    let image = File {
+        name: "v.img",
+        bytes: image,
+    };
+    let mut out = Sink(Vec::new(alloc), room.most, room.out);
+    let mut err = Sink(Vec::new(alloc), room.most, room.err);
+    let came = play(
+        alloc,
+        rt,
+        image,
+        files.as_slice(),
+        setup,
+        supply,
+        &mut out,
+        &mut err,
+    );
+    let (Sink(out, _, _), Sink(err, _, _)) = (out, err);
+    let played = Played {
+        status: came.status.number(),
+        out,
+        err,
+        image: came.image,
+    };
+    Ok((played, came.status))
+}
+
+/// Scripts to be played on an image, over drivers that may have faults.
+#[derive(Clone, Copy)]
+pub struct Play<'p> {
+    /// The bytes of the image, if it can be read.
+    pub image: Option<&'p [u8]>,
+    /// The bytes of each script's file, if it can be read.
+    pub scripts: &'p [Option<&'p [u8]>],
+    /// Where the volume lies, and how it is served.
+    pub setup: Setup,
+    /// How many sectors each driver serves.
+    pub sectors: usize,
+    /// The request of each driver in which its fault comes, counted from 1.
+    pub request: u32,
+    /// The drivers.
+    pub faults: Faults<'p>,
+}
+
+impl<'p> Play<'p> {
+    /// Scripts on an image that is a volume, over one driver of it without a fault, under the default policy.
+    pub fn new(image: &'p [u8], scripts: &'p [Option<&'p [u8]>]) -> Play<'p> {
+        Play {
+            image: Some(image),
+            scripts,
+            setup: whole(),
+            sectors: image.len() / 512,
+            request: 1,
+            faults: HONEST,
+        }
+    }
+
+    /// What it gives over other drivers.
+    pub(crate) fn played_over<R: Wait + Copy>(
+        &self,
+        alloc: Global,
+        rt: R,
+        supply: Vec<ScriptedDriver>,
+    ) -> Result<Played, AllocError> {
+        let (image, scripts, setup) = (self.image, self.scripts, &self.setup);
+        let (played, _) = play_into(alloc, rt, image, scripts, setup, supply, FREE)?;
+        Ok(played)
+    }
+
+    /// What it gives to writers with this room, and how it ended.
+    pub fn played_into<R: Wait + Copy>(
+        &self,
+        alloc: Global,
+        rt: R,
+        room: Room,
+    ) -> Result<(Played, Status), AllocError> {
+        let supply = supply_at(alloc, self.sectors, self.request, self.faults)?;
+        play_into(
+            alloc,
+            rt,
+            self.image,
+            self.scripts,
+            &self.setup,
+            supply,
+            room,
+        )
+    }
+
+    /// What it gives.
+    pub fn played<R: Wait + Copy>(&self, alloc: Global, rt: R) -> Result<Played, AllocError> {
+        let (played, _) = self.played_into(alloc, rt, FREE)?;
+        Ok(played)
+    }
+
+    /// Looks at what it gives, which is an error where it is something else.
+    pub fn gives<R: Wait + Copy>(
+        &self,
+        alloc: Global,
+        rt: R,
+        status: u8,
+        out: &str,
+        err: &str,
+    ) -> Result<(), Fail> {
+        self.played(alloc, rt)?.gave(status, out, err)
+    }
+}

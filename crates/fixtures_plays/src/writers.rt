@@ -1,0 +1,79 @@
+//! Plays into writers that fail, or take little at a time.
+
+ghost use Rattle.std.specs.Prelude.{◌≡◌, ◌↔◌, IsOk};
+
+use crate::plays::{Play, Played, Room};
+use crate::left::has_left;
+use fixtures::new_volume;
+use std::alloc::Global;
+use std::sync::Wait;
+use std::test::Fail;
+use tools::play::{Status, finish};
+
+/// Whether there is an image, a script, how many bytes are taken at a call, on standard output and on standard error, how the play ends,
+/// what is written, and what bytes the image has then, if it is there.
+pub type Narrow = (
+    bool,
+    &'static [u8],
+    (usize, usize, usize),
+    Status,
+    (&'static str, &'static str),
+    Option<&'static str>,
+);
+
+/// Looks at what a play gave, and at how it ended, which is an error where it is something else than a row says.
+fn is_as_said(alloc: Global, played: &Played, status: Status, row: &Narrow) -> Result<(), Fail> {
+    let (_, _, _, ended, (told, line), left) = *row;
+    let is_told = played.out.as_slice() == told.as_bytes()
+        && played.err.as_slice() == line.as_bytes();
+    let number = if ended == Status::Done { 0 } else { 1 };
+    let is_ended = status == ended && played.status == number;
+    if is_told && is_ended && played.image.is_some() == left.is_some() {
+        return has_left(alloc, played.left(), left.unwrap_or(""));
+    }
+    Err(Fail::from(told))
+}
+
+/// A row comes out as it says, on a new volume.
+fn comes_out<R: Wait + Copy>(alloc: Global, rt: R, image: &[u8], row: &Narrow) -> Result<(), Fail> {
+    let (has_image, script, (most, out, err), _, _, _) = *row;
+    let scripts = [Some(script)];
+    let play = Play {
+        image: has_image.then_some(image),
+        ..Play::new(image, &scripts)
+    };
+    let (played, status) = play.played_into(alloc, rt, Room { most, out, err })?;
+    is_as_said(alloc, &played, status, row)
+}
+
+/// Each row comes out as it says.
+pub fn all_come_out<R: Wait + Copy>(alloc: Global, rt: R, rows: &[Narrow]) -> Result<(), Fail> {
+    let image = new_volume(alloc, 1024)?;
+    for row in rows {
+        comes_out(alloc, rt, &image, row)?;
+    }
+    Ok(())
+}
+
+/// How a play ended, whether its image was written, how it ended then, and what was told of that.
+pub type Finished = (Status, bool, Status, &'static str);
+
+/// Looks at how a row ended, and at what was told.
+fn has_ended(ended: Status, told: &[u8], status: Status, line: &str) -> Result<(), Fail>
+    ensures { IsOk result ↔ ((ended ≡ status) × (told.now ≡ line.now)) }
+{
+    if ended == status && told == line.as_bytes() {
+        return Ok(());
+    }
+    Err(Fail::new(format_args!("no line as this: {line}")))
+}
+
+/// Each row ends as it says, whose image was to be written to a file of this name.
+pub fn are_finished(alloc: Global, name: &str, rows: &[Finished]) -> Result<(), Fail> {
+    for (played, written, status, line) in rows {
+        let mut err = Vec::new(alloc);
+        let ended = finish(alloc, *played, name, *written, &mut err);
+        has_ended(ended, err.as_slice(), *status, line)?;
+    }
+    Ok(())
+}

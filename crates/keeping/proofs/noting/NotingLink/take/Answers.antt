@@ -1,7 +1,0 @@
-use Rattle.board.specs.Words.{mark_of}
-use Rattle.keeping.specs.Keeper.{begins_before}
-use Rattle.keeping.proofs.noting.NotingLink.take.Goals as goal
-
-pub returns-then-leaves_mark-clause-goes : goal.returns-then-leaves_mark-clause-goes
-returns-then-leaves_mark-clause-goes g c =
-    (c.take-message.ensures.goes, begins_before (mark_of c.take-message.result) _ _ c.note.ensures.record_is)

@@ -1,0 +1,20 @@
+use Rattle.schedule.proofs.NotedLaws.{has_room}
+use Rattle.run_drivers.proofs.DisksLaws.{lines_up}
+use Rattle.run_link.proofs.PlayLaws.{posted_true, accepted_at}
+use Rattle.run_link.proofs.Going.{posts}
+use Rattle.run_link.proofs.link.PlayingLink.post.Goals as goal
+
+pub returns-in-Ok-clause-accepted : goal.returns-in-Ok-clause-accepted
+returns-in-Ok-clause-accepted g c =
+    let accepted = accepted_at _ _ _ _ (lines_up _ _ _ _ _ c.in-Ok.ensures.dead c.in-Ok.ensures.full c.in-Ok.ensures.lined c.in-Ok.ensures.refused) in
+    λ v marks h may fits. posted_true v _ _ _ marks _ _ accepted.0 accepted.1 c.note_post.ensures.said h may fits
+
+pub returns-in-Ok-clause-goes : goal.returns-in-Ok-clause-goes
+returns-in-Ok-clause-goes g c =
+    posts _ _ _ _ _ _ _ (has_room _ _ c.requires) (lines_up _ _ _ _ _ c.in-Ok.ensures.dead c.in-Ok.ensures.full c.in-Ok.ensures.lined c.in-Ok.ensures.refused)
+    c.note_post.ensures.said c.note_post.ensures.over
+
+pub returns-in-Err-clause-goes : goal.returns-in-Err-clause-goes
+returns-in-Err-clause-goes g c =
+    posts _ _ _ _ _ _ _ (has_room _ _ c.requires) (lines_up _ _ _ _ _ c.in-Err.ensures.dead c.in-Err.ensures.full c.in-Err.ensures.lined c.in-Err.ensures.refused)
+    c.note.ensures.said c.note.ensures.over

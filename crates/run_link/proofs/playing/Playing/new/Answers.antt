@@ -1,0 +1,13 @@
+use Rattle.std.proofs.Common.{◌∙◌, refl, ap}
+use Rattle.message.specs.declared.Incoming.TheVariants as incoming
+use Rattle.reincarnate.specs.Watch.{driver}
+use Rattle.schedule.specs.LogView.{said}
+use Rattle.schedule.specs.Noted.{with_entry}
+use Rattle.schedule.specs.declared.log.Entry.TheVariants as entry
+use Rattle.run_link.proofs.PlayLaws.{opened_true}
+use Rattle.run_link.proofs.playing.Playing.new.Goals as goal
+
+pub returns-clause-truth : goal.returns-clause-truth
+returns-clause-truth g c = λ v on is ready.
+    opened_true v _ _ _ _ _ _ on is ready (c.note.ensures.said ∙ ap (with_entry (entry.Handed (incoming.Started (driver 1)))) c.in_ok-log.ensures.said) refl
+    (c.in_ok-new.ensures.opens (said c.note.new.self))

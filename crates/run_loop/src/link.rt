@@ -1,0 +1,143 @@
+//! A link that a schedule moves: what is done at it between two calls.
+
+ghost use Rattle.std.specs.Prelude.{◌≡◌, ◌⊎◌, ◌↔◌, ◌≤◌, ◌<◌, ◌∷◌, List, IfOk, OnOk, length, option_map, true, false};
+ghost use Rattle.records.specs.Marks.{Mark, Took};
+ghost use Rattle.records.specs.Opening.{Opening};
+ghost use Rattle.tree.specs.Answers.{answer_of};
+ghost use Rattle.driver_events.specs.Kept.{with_next};
+ghost use Rattle.run_link.specs.PlayView.{Play, PlayTrue, GoesOn, Asides, HandsOut, Answers};
+ghost use Rattle.schedule.specs.declared.arrived.Arrived.{Arrived as OfCall};
+
+use crate::aside;
+use inline::local::LocalDriver;
+use message::Incoming;
+use schedule::Arrived;
+use run_link::Playing;
+use reissue::Link;
+use std::alloc::AllocError;
+use tree::Reply;
+
+/// A link that a schedule moves, as contracts see it: `play` is the run as it stands, with its schedule, the calls that wait, and what was
+/// noted.
+pub trait Played: Link {
+    ghost play: { Self → Play };
+
+    // what was told to the link and what it gave is what was noted
+    ghost tells: { (l : Self) → Self.Link.history l ≡ (play l).scene.noted.history };
+
+    // what goes on in the link is what a server does at it
+    ghost goes: { (a b : Self) → Self.Link.goes_on a b → GoesOn (play a) (play b) };
+
+    // its guarantee is that of the run
+    ghost guarantees: { (l : Self) (v : Opening) (marks : List Mark) → Self.Link.truth l v marks → PlayTrue v (play l).scene marks };
+}
+
+/// A call that arrived, whatever it borrows from.
+pub trait Arrival: Copy + Drop {
+    // in the words of contracts
+    ghost arrived: { Self → OfCall };
+
+    /// Who calls, the time, and the call.
+    fn as_arrived(&self) -> Arrived<'_>
+        ensures { result ≡ arrived self.now };
+}
+
+/// A link that a schedule moves.
+pub trait WorldLink: Played + Drop {
+    /// A call that arrived.
+    type Waiting: Arrival;
+
+    /// Whether a complaint gave the device up, which wasn't told yet.
+    fn owes(&self) -> bool
+        ensures { result ≡ (Self.Played.play self.now).owed };
+
+    /// Whether an event is left.
+    fn has_event(&self) -> bool
+        ensures { (result ≡ true) ↔ ((Self.Played.play self.now).next < length (Self.Played.play self.now).events) };
+
+    /// How many calls wait.
+    fn waiting(&self) -> u64
+        ensures { result ≡ length (Self.Played.play self.now).queue };
+
+    /// Plays the next event between two calls, or tells that a complaint gave the device up, if that is owed: the message that the server
+    /// is to be handed, if there is one. An error: no memory was found, and nothing was done.
+    fn aside(&mut self) -> Result<Option<Incoming>, AllocError>
+        requires left { ((Self.Played.play self.old).owed ≡ true)
+            ⊎ ((Self.Played.play self.old).next < length (Self.Played.play self.old).events) }
+        requires live { (Self.Played.play self.old).over ≡ false }
+        ensures asides { Asides (Self.Played.play self.old) result (Self.Played.play self.new) }
+        ensures history { Self.Link.history self.new ≡ Self.Link.history self.old }
+        ensures truth { (v : Opening) (marks : List Mark) → Self.Link.truth self.old v marks
+            → IfOk result (λ m. Self.Link.truth self.new v (with_next m marks)) }
+        ensures room { OnOk result (33 ≤ Self.Link.room self.new) }
+        ensures budget { Self.Link.budget_left self.new ≤ Self.Link.budget_left self.old };
+
+    /// The call that arrived first of those that wait, which waits no more; none where none waits.
+    fn next_call(&mut self) -> Option<Self::Waiting>
+        ensures hands { HandsOut (Self.Played.play self.old) (option_map Self.Waiting.Arrival.arrived result) (Self.Played.play self.new) }
+        ensures history { Self.Link.history self.new ≡ Self.Link.history self.old }
+        ensures truth { (v : Opening) (marks : List Mark) → Self.Link.truth self.old v marks → Self.Link.truth self.new v marks }
+        ensures room { Self.Link.room self.old ≤ Self.Link.room self.new }
+        ensures budget { Self.Link.budget_left self.new ≤ Self.Link.budget_left self.old };
+
+    /// A call was answered. An error: no memory was found, and nothing was noted.
+    fn took(&mut self, arrived: Self::Waiting, reply: Reply) -> Result<(), AllocError>
+        requires { (Self.Played.play self.old).over ≡ false }
+        ensures answers { Answers (Self.Played.play self.old) (Self.Waiting.Arrival.arrived arrived) reply result
+            (Self.Played.play self.new) }
+        ensures history { Self.Link.history self.new ≡ Self.Link.history self.old }
+        ensures truth { (v : Opening) (marks : List Mark) → Self.Link.truth self.old v marks
+            → let call = Self.Waiting.Arrival.arrived arrived in OnOk result (Self.Link.truth self.new v
+            (Took call.who call.now call.call (answer_of reply) ∷ marks)) }
+        ensures room { OnOk result (33 ≤ Self.Link.room self.new) }
+        ensures budget { Self.Link.budget_left self.new ≤ Self.Link.budget_left self.old };
+}
+
+impl<'a, D: LocalDriver> Played for Playing<'a, D> {
+    ghost use Rattle.run_link.specs.PlayView.{play_of};
+    ghost use Rattle.std.specs.Prelude.{refl};
+
+    ghost play = { λ l. play_of D.state l };
+
+    ghost tells = { λ l. refl };
+
+    ghost goes = { λ a b on. on };
+
+    ghost guarantees = { λ l v marks kept. kept };
+}
+
+impl<'a> Arrival for Arrived<'a> {
+    ghost arrived = { λ a. a };
+
+    fn as_arrived(&self) -> Arrived<'_> {
+        *self
+    }
+}
+
+impl<'a, D: LocalDriver> WorldLink for Playing<'a, D> {
+    type Waiting = Arrived<'a>;
+
+    fn owes(&self) -> bool {
+        self.owed
+    }
+
+    fn has_event(&self) -> bool {
+        self.next < self.events.len()
+    }
+
+    fn waiting(&self) -> u64 {
+        self.queue.len() as u64
+    }
+
+    fn aside(&mut self) -> Result<Option<Incoming>, AllocError> {
+        aside::aside(self)
+    }
+
+    fn next_call(&mut self) -> Option<Arrived<'a>> {
+        aside::next_call(self)
+    }
+
+    fn took(&mut self, arrived: Arrived<'a>, reply: Reply) -> Result<(), AllocError> {
+        aside::took(self, arrived, reply)
+    }
+}

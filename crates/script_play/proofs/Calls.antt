@@ -1,0 +1,42 @@
+-- One call of a session, and a session just made.
+use Rattle.std.proofs.Common.{◌≡◌, ℕ, List, [], ap, sym, subst, ◌∙◌}
+use Rattle.layout.specs.declared.Geometry.{Geometry}
+use Rattle.tree.specs.declared.Who.{Who}
+use Rattle.tree.specs.declared.Call.{Call}
+use Rattle.tree.specs.declared.Outcome.{Outcome}
+use Rattle.tree.specs.declared.Outcome.TheVariants.{Reply, Cut}
+use Rattle.tree.specs.Tree.{Tree}
+use Rattle.records.specs.Marks.{Mark}
+use Rattle.records.specs.Opening.{Opening, contents_at}
+use Rattle.records.specs.Legal.{IsAtFirst}
+use Rattle.records.specs.Session.{Seen, SessionState, SessionCallKeeps, EndsWith, IsMadeFor, calls_of}
+use Rattle.file_server.specs.Over.{outcome_of}
+use Rattle.reissue.specs.Calls.{Truth}
+use Rattle.shared_server.specs.Held.{IsGood, IsGuaranteed, IsSound}
+use Rattle.script_play.specs.Made.{call_made}
+use Rattle.script_play.specs.Turns.{IsUnplayed}
+use Rattle.script_play.specs.Vouched.{Vouched}
+
+-- its own calls grew by this one, unless it was cut
+pub ends_mine : (outcome : Outcome) (who : Who) (now : ℕ) (call : Call) (old new : Seen) → EndsWith (outcome_of outcome) who now call old new
+    → new.mine ≡ call_made who now call outcome old.mine
+ends_mine (Reply r) who now call old new h = h.2
+ends_mine Cut who now call old new h = h
+
+-- what it has seen is vouched for
+pub call_vouched : {L : Type 0} (truth : L → Truth) (g : Geometry) (v : Opening) (old : SessionState) (who : Who) (now : ℕ) (call : Call) (outcome : Outcome) (new : SessionState)
+    → SessionCallKeeps g (contents_at v) old who now call (outcome_of outcome) new
+    → ((tree : Tree) → IsAtFirst g (contents_at v) tree → IsSound new.knows.seen)
+    → ((tree : Tree) → IsAtFirst g (contents_at v) tree → IsGuaranteed truth v new.knows.seen) → Vouched truth g v new.knows.seen
+call_vouched truth g v old who now call outcome new h sound guaranteed = λ tree first. ((sound tree first, h.legal tree first), guaranteed tree first)
+
+-- a session that was made has made no call
+pub made_unplayed : {L : Type 0} (truth : L → Truth) (g : Geometry) (v : Opening) (uid gid : ℕ) (s : SessionState) (marks : List Mark) → IsMadeFor uid gid s marks → s.knows.seen ≡ marks
+    → ((tree : Tree) → IsAtFirst g (contents_at v) tree → IsGood g v tree s.knows.seen)
+    → ((tree : Tree) → IsAtFirst g (contents_at v) tree → IsGuaranteed truth v s.knows.seen) → IsUnplayed (Vouched truth g v) s
+made_unplayed truth g v uid gid s marks made whole good guaranteed = record {
+  low = made.number;
+  none = made.new.none;
+  none_seen = ap (λ (ms : List Mark). calls_of s.knows.number s.knows.place ms) whole ∙ made.new.saw_all;
+  vouched = λ tree first. (good tree first, guaranteed tree first);
+}

@@ -1,0 +1,54 @@
+//! Making the sessions of scripts.
+
+ghost use Rattle.std.specs.Prelude.{◌≡◌, All, IfOk, map};
+ghost use Rattle.script_text.specs.Said.{said};
+ghost use Rattle.script_play.specs.Turns.{IsUnplayed, asked};
+ghost use Rattle.script_play.specs.Vouched.{Vouched};
+ghost use Rattle.script_play.specs.Admitted.{IsAdmittedFor};
+
+use crate::script_session::ScriptSession;
+use file_server::FileServer;
+use counting_link::recorder::Recorder;
+use counting_link::room::Room;
+use crate::turns::Turn;
+use script_text::script::Script;
+use serve::service::{Service, Shared};
+use shared_server::refusal::SessionRefusal;
+use std::alloc::Global;
+use std::collections::VecDeque;
+use std::sync::Wait;
+
+/// A session for the script's user and group, and its calls. It is refused as the service's session is.
+pub fn admit<'s, N: Room, R: Wait + Copy, L: Recorder<N>, S: FileServer<L>>(
+    alloc: Global,
+    service: &Service<N, Shared<N, R, L, S>>,
+    script: &'s Script<'_>,
+) -> Result<Turn<'s, ScriptSession<N, R, L, S>>, SessionRefusal>
+    ensures { IfOk result (λ turn. IsAdmittedFor (Vouched L.truth N.geometry N.opening) (λ s. s.0) (said script.now) turn) }
+{
+    let session = service.session(script.uid, script.gid)?;
+    let calls = script.calls(alloc)?;
+    Ok(Turn {
+        client: ScriptSession(session),
+        calls,
+    })
+}
+
+/// A session for each script, in their order: all are made before a call is. The first that is refused is told.
+pub fn admit_all<'s, N: Room, R: Wait + Copy, L: Recorder<N>, S: FileServer<L>>(
+    alloc: Global,
+    service: &Service<N, Shared<N, R, L, S>>,
+    scripts: &'s [Script<'_>],
+) -> Result<VecDeque<Turn<'s, ScriptSession<N, R, L, S>>>, SessionRefusal>
+    ensures unplayed { IfOk result (λ turns. All (λ turn. IsUnplayed (Vouched L.truth N.geometry N.opening) turn.client.0) turns.items) }
+    ensures asked { IfOk result (λ turns. map (asked (λ s. s.0)) turns.items ≡ map said scripts.now) }
+{
+    let mut turns = VecDeque::new(alloc);
+    for script in scripts {
+        let turn = admit(alloc, service, script)?;
+        if turns.push_back(turn).is_err() {
+            return Err(SessionRefusal::OutOfMemory);
+        }
+    }
+    Ok(turns)
+}

@@ -1,0 +1,54 @@
+//! A session of a service, as one who plays a script needs it.
+
+ghost use Rattle.std.specs.Prelude.{◌≡◌};
+
+use file_server::FileServer;
+use counting_link::recorder::Recorder;
+use counting_link::room::Room;
+use crate::client::Client;
+use serve::service::Shared;
+use serve::session::Session;
+use std::sync::Wait;
+use tree::{Call, Outcome};
+
+/// A session of a service, in which a script is played.
+#[derive(Drop)]
+pub struct ScriptSession<N: Room, R: Wait + Copy, L: Recorder<N>, S: FileServer<L>>(
+    pub(crate) Session<N, Shared<N, R, L, S>>,
+);
+
+impl<N: Room, R: Wait + Copy, L: Recorder<N>, S: FileServer<L>> ScriptSession<N, R, L, S> {
+    /// The session itself.
+    pub fn session(self) -> Session<N, Shared<N, R, L, S>>
+        ensures { result ≡ self.0 }
+    {
+        let ScriptSession(session) = self;
+        session
+    }
+}
+
+impl<N: Room, R: Wait + Copy, L: Recorder<N>, S: FileServer<L>> Client
+    for ScriptSession<N, R, L, S> {
+    ghost use Rattle.script_play.specs.Vouched.{Vouched};
+
+    ghost state = { λ s. s.0 };
+
+    ghost vouches = { λ seen. Vouched L.truth N.geometry N.opening seen };
+
+    fn number(&self) -> u8 {
+        self.0.number()
+    }
+
+    fn call(&mut self, now: u32, call: &Call<'_>) -> Outcome {
+        self.0.call(now, call)
+    }
+
+    fn meet(&mut self, other: &mut Self) {
+        self.0.meet(&mut other.0);
+    }
+
+    fn end(self) {
+        let ScriptSession(session) = self;
+        session.end();
+    }
+}

@@ -1,0 +1,71 @@
+//! Over a link that has ended a session's call is cut, no further session is made, and the service stops with the image as the media stand.
+ghost use Rattle.std.specs.Prelude.{◌≡◌};
+ghost use Rattle.layout.specs.Places.{IsGeometry};
+ghost use Rattle.board.specs.View.{IsKeeper, opener};
+
+use board::{Board, Seat};
+use counting_link::Noting;
+use counting_link::room::Room;
+use launch::opened::over;
+use layout::Geometry;
+use media::Media;
+use tests_texts::is_told;
+use fixtures::new_volume;
+use fixtures_sessions::services::asked_and_stopped;
+use fixtures_sessions::silent::Silent;
+use std::alloc::{AllocError, Global};
+use std::marker::Brand;
+use std::sync::{Arc, Wait};
+use std::test::Fail;
+
+/// A session calls, another one is asked for, and the service is stopped. The image.
+fn ask_and_stop<N: Room, R: Wait + Copy>(
+    alloc: Global,
+    rt: R,
+    board: Board,
+    seat: Seat,
+    media: Media,
+    geometry: Geometry,
+    lines: &mut String,
+) -> Result<Option<Vec<u8>>, AllocError>
+    requires board { board ≡ N.table }
+    requires seat { IsKeeper N.table seat × (seat.view ≡ opener) }
+    requires geometry { IsGeometry geometry × (geometry ≡ N.geometry) }
+    requires minor { 0 ≡ N.opening.minor }
+{
+    let link = Silent::new(alloc, media)?;
+    let board = Arc::new(alloc, board)?;
+    let counted = Arc::try_clone(&board)?;
+    let noting = Noting::<N, Silent>::new(alloc, link, counted, seat)?;
+    let service = over(alloc, rt, board, noting, 0, geometry, 16)?;
+    Ok(asked_and_stopped(alloc, service, lines))
+}
+
+/// The same, over a service on the volume in an image.
+fn asked_of<R: Wait + Copy>(
+    alloc: Global,
+    rt: R,
+    image: &[u8],
+    lines: &mut String,
+) -> Result<Option<Vec<u8>>, AllocError> {
+    let Ok(geometry) = Geometry::parse(image) else {
+        return Ok(None);
+    };
+    let Ok(media) = Media::from_bytes(alloc, image) else {
+        return Ok(None);
+    };
+    let (board, seat) = Board::new(alloc)?;
+    ask_and_stop::<Brand, R>(alloc, rt, board, seat, media, geometry, lines)
+}
+
+#[test]
+fn a_stopped_service_makes_no_session(rt: HostRuntime) -> Result<(), Fail> {
+    let image = new_volume(rt.alloc(), 1024)?;
+    let mut lines = String::new(rt.alloc());
+    let left = asked_of(rt.alloc(), rt, &image, &mut lines)?;
+    is_told(lines.as_str(), "cut\nSome(Stopped)\n")?;
+    if left.as_deref() == Some(image.as_slice()) {
+        return Ok(());
+    }
+    Err(Fail::from("another image"))
+}

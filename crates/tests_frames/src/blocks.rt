@@ -1,0 +1,189 @@
+//! What blocks give, and when they are read and written.
+ghost use Rattle.std.specs.Prelude.{◌≡◌};
+ghost use Rattle.cache.specs.Calls.{IsReady};
+ghost use Rattle.stored.specs.World.{stored_caching};
+
+use crate::caches::{Given, cache_over, is_done};
+use fixtures::lists::started;
+use reissue::Link;
+use std::alloc::Global;
+use std::test::Fail;
+use store::words::{clear, read_byte, write_bytes};
+use store::{Blocks, Cut};
+use stored::{Caches, Stored};
+
+/// What is done with blocks.
+enum Step {
+    /// The byte at a place of a block is read.
+    Read(u32, usize),
+    /// Three bytes are put into a block, from a place on.
+    Put(u32, usize, &'static [u8; 3]),
+    /// So many blocks are made zero, from the first on; how many were.
+    Clear(u32, u32),
+    /// All that was changed is written.
+    Sync,
+    /// It is asked for whether calls go on.
+    Live,
+    /// What a Flush asks for is begun.
+    Flush,
+}
+
+/// Makes so many blocks zero, from the first on; how many were.
+fn clear_run<B: Blocks>(blocks: &mut B, first: u32, count: u32) -> u32
+    requires ready { B.world.ready blocks.old }
+    requires size { B.world.size blocks.old ≡ 4096 }
+    ensures ready { B.world.ready blocks.new }
+    ensures size { B.world.size blocks.new ≡ 4096 }
+{
+    let mut cleared = 0u32;
+    for block in 0..count {
+        if clear(blocks, first.saturating_add(block)).is_ok() {
+            cleared = cleared.saturating_add(1);
+        }
+    }
+    cleared
+}
+
+/// Does a step; the number that it gives. No byte is read or put past a block's end.
+fn does<L: Link>(blocks: &mut Stored<L>, step: &Step) -> Result<u32, Cut>
+    requires ready { IsReady (stored_caching L.Link blocks.old) }
+    requires size { blocks.old.cache.shape.block_size ≡ 4096 }
+    ensures ready { IsReady (stored_caching L.Link blocks.new) }
+    ensures size { blocks.new.cache.shape.block_size ≡ 4096 }
+{
+    match step {
+        Step::Read(block, at) => Ok(read_byte(blocks, *block, at % 4096)? as u32),
+        Step::Put(block, from, bytes) => {
+            write_bytes(blocks, *block, from % 4000, *bytes)?;
+            Ok(0)
+        }
+        Step::Clear(first, count) => Ok(clear_run(blocks, *first, *count)),
+        Step::Sync => {
+            blocks.sync()?;
+            Ok(0)
+        }
+        Step::Live => {
+            blocks.live()?;
+            Ok(0)
+        }
+        Step::Flush => {
+            blocks.flush_wanted();
+            Ok(0)
+        }
+    }
+}
+
+/// Does these steps, up to the first that gives another number than it says.
+fn first_other<L: Link>(blocks: &mut Stored<L>, steps: &[(Step, Result<u32, Cut>)]) -> Option<usize>
+    requires ready { IsReady (stored_caching L.Link blocks.old) }
+    requires size { blocks.old.cache.shape.block_size ≡ 4096 }
+{
+    let mut done = 0usize;
+    for step in steps {
+        if does(blocks, &step.0) != step.1 {
+            return Some(done);
+        }
+        done = done.saturating_add(1);
+    }
+    None
+}
+
+/// Whether the driver's start is handed over at first, what the link gives, what is done with blocks in 32 frames, and what the link was
+/// told.
+type Row = (
+    bool,
+    Given,
+    &'static [(Step, Result<u32, Cut>)],
+    &'static str,
+);
+
+static ROWS: [Row; 4] = [
+    // blocks are read, changed, cleared and written; then the link ends
+    (
+        false,
+        (true, &[Some(7), Some(0), Some(0)]),
+        &[
+            (Step::Read(5, 4095), Ok(7)),
+            (Step::Put(5, 10, b"abc"), Ok(0)),
+            (Step::Clear(6, 1), Ok(1)),
+            (Step::Read(5, 9), Ok(7)),
+            (Step::Read(5, 12), Ok(99)),
+            (Step::Read(5, 13), Ok(7)),
+            (Step::Read(6, 0), Ok(0)),
+            (Step::Sync, Ok(0)),
+            (Step::Live, Ok(0)),
+            (Step::Read(7, 0), Err(Cut::LinkEnded)),
+            (Step::Read(5, 10), Ok(97)),
+        ],
+        "read 1 20480 4096\nwrite 2 20480 4096 7\nwrite 3 24576 4096 0\nread 4 28672 4096\n",
+    ),
+    // no Flush came
+    (
+        false,
+        (true, &[Some(0), None, Some(0)]),
+        &[
+            (Step::Read(5, 0), Ok(0)),
+            (Step::Clear(10, 20), Ok(20)),
+            (Step::Flush, Ok(0)),
+        ],
+        "read 1 20480 4096\n",
+    ),
+    // a Flush that came in the next read begins sixteen writes
+    (
+        false,
+        (true, &[Some(0), None, Some(0)]),
+        &[
+            (Step::Read(5, 0), Ok(0)),
+            (Step::Clear(10, 20), Ok(20)),
+            (Step::Flush, Ok(0)),
+            (Step::Read(6, 0), Ok(0)),
+            (Step::Flush, Ok(0)),
+            (Step::Flush, Ok(0)),
+        ],
+        "read 1 20480 4096
+read 2 24576 4096
+write 3 40960 4096 0
+write 4 45056 4096 0
+write 5 49152 4096 0
+write 6 53248 4096 0
+write 7 57344 4096 0
+write 8 61440 4096 0
+write 9 65536 4096 0
+write 10 69632 4096 0
+write 11 73728 4096 0
+write 12 77824 4096 0
+write 13 81920 4096 0
+write 14 86016 4096 0
+write 15 90112 4096 0
+write 16 94208 4096 0
+write 17 98304 4096 0
+write 18 102400 4096 0
+",
+    ),
+    // a start that was handed over
+    (
+        true,
+        (false, &[Some(9)]),
+        &[(Step::Read(5, 0), Ok(9))],
+        "read 1 20480 4096\n",
+    ),
+];
+
+/// A row comes out as it says.
+fn comes_out(alloc: Global, number: usize, row: &Row) -> Result<(), Fail> {
+    let (is_handed_over, given, steps, lines) = row;
+    let mut blocks = Stored::new(cache_over(alloc, 32, given)??);
+    if *is_handed_over {
+        blocks.absorb(started(1));
+    }
+    let other = first_other(&mut blocks, steps);
+    is_done(alloc, number, other, blocks.link(), lines)
+}
+
+#[test]
+fn blocks_are_read_and_written(rt: HostRuntime) -> Result<(), Fail> {
+    for (number, row) in ROWS.iter().enumerate() {
+        comes_out(rt.alloc(), number, row)?;
+    }
+    Ok(())
+}
