@@ -18,7 +18,7 @@ use Rattle.schedule.specs.Faultless.{without_faults}
 use Rattle.schedule.specs.declared.log.Post.{Post}
 use Rattle.schedule.specs.Noted.{Noted, marks_in}
 use Rattle.run_drivers.specs.Disks.{Disks, seen}
-use Rattle.driver_events.specs.Scene.{Scene, Opens, Plays}
+use Rattle.driver_events.specs.Scene.{Scene, Opens, Occurs}
 
 -- what holds of the media, the drivers and the server's record, since an opening
 abbrev pub DisksKept : Opening → Disks → List Mark → Type 0
@@ -60,16 +60,16 @@ IsLatest s = s.watch.generation ≡ s.disks.media.generation
 abbrev pub EventsKeep : Type 0
 EventsKeep =
     (v : Opening) (place : ℕ) (event : Event) (b a : Scene) (result : Option Incoming) (marks : List Mark) → IsLatest b
-    → Plays place event b result a → SceneKept v b marks → SceneKept v a (with_next result marks)
+    → Occurs place event b result a → SceneKept v b marks → SceneKept v a (with_next result marks)
 
 abbrev pub EventsNoteAside : Type 0
 EventsNoteAside =
-    (place : ℕ) (event : Event) (b a : Scene) (result : Option Incoming) → Plays place event b result a → NotesAside b.noted a.noted
+    (place : ℕ) (event : Event) (b a : Scene) (result : Option Incoming) → Occurs place event b result a → NotesAside b.noted a.noted
 
 -- an event leaves the number of the media's sectors
 abbrev pub EventsKeepSectors : Type 0
 EventsKeepSectors =
-    (place : ℕ) (event : Event) (b a : Scene) (result : Option Incoming) → Plays place event b result a
+    (place : ℕ) (event : Event) (b a : Scene) (result : Option Incoming) → Occurs place event b result a
     → length a.disks.media.sectors ≡ length b.disks.media.sectors
 
 -- before the first event it holds with the record that has the first start alone, where the media are those handed in and the drivers are ready

@@ -140,15 +140,15 @@ pub record Quietly (b : Scene) (result : Option Incoming) (a : Scene) (Does : Di
   pub after : a ≡ record b { disks = disks }
 
 -- what an event does, the one with this number, and what message it brings; the calls that arrive wait elsewhere
-abbrev pub Plays : ℕ → Event → Scene → Option Incoming → Scene → Type 0
-Plays place (event.Arrive who now call) b result a = (result ≡ None) × (a ≡ b)
-Plays place event.Flush b result a = (result ≡ Some incoming.Flush) × (a ≡ b)
-Plays place event.Tick b result a = Ticks b result a
-Plays place (event.Step g) b result a = StepsAt place g b result a
-Plays place (event.Die g bytes) b result a = DiesAt g bytes b result a
-Plays place (event.Hang g) b result a = Quietly b result a (Hangs g)
-Plays place (event.Deliver n) b result a = (result ≡ delivered (slice_get b.disks.sent n)) × (a ≡ b)
-Plays place (event.Repeat n) b result a = Quietly b result a (Repeats (slice_get b.noted.posts n))
+abbrev pub Occurs : ℕ → Event → Scene → Option Incoming → Scene → Type 0
+Occurs place (event.Arrive who now call) b result a = (result ≡ None) × (a ≡ b)
+Occurs place event.Flush b result a = (result ≡ Some incoming.Flush) × (a ≡ b)
+Occurs place event.Tick b result a = Ticks b result a
+Occurs place (event.Step g) b result a = StepsAt place g b result a
+Occurs place (event.Die g bytes) b result a = DiesAt g bytes b result a
+Occurs place (event.Hang g) b result a = Quietly b result a (Hangs g)
+Occurs place (event.Deliver n) b result a = (result ≡ delivered (slice_get b.disks.sent n)) × (a ≡ b)
+Occurs place (event.Repeat n) b result a = Quietly b result a (Repeats (slice_get b.noted.posts n))
 
 -- Before the first event, over these media, by this policy: the first driver of the supply runs, and the tick is 0; the reincarnation server,
 -- which knew this much, was told of that tick.

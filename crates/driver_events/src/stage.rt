@@ -57,7 +57,7 @@ fn first_driver<D: Drop>(reincarnation: &mut Reincarnation<D>) -> D
 }
 
 impl<D: LocalDriver> Stage<D> {
-    ghost use Rattle.driver_events.specs.Scene.{Opens, Exits, Ticks, StepsAt, DiesAt, Quietly, Plays, beaten, delivered};
+    ghost use Rattle.driver_events.specs.Scene.{Opens, Exits, Ticks, StepsAt, DiesAt, Quietly, Occurs, beaten, delivered};
     ghost use Rattle.driver_events.specs.StageView.{scene_of};
     ghost use Rattle.run_drivers.specs.View.{HasRoom};
     ghost use Rattle.std.specs.Prelude.{slice_get};
@@ -228,7 +228,7 @@ impl<D: LocalDriver> Stage<D> {
         requires log { 0 < room_in log.old }
         requires room { HasRoom self.old.drivers }
         requires ticks { self.old.tick + 1 < 2 ^ 32 }
-        ensures plays { Plays place event.now (scene_of D.state self.old (said log.old)) result (scene_of D.state self.new (said log.new)) }
+        ensures plays { Occurs place event.now (scene_of D.state self.old (said log.old)) result (scene_of D.state self.new (said log.new)) }
         ensures room { room_in log.old ≤ room_in log.new + 1 }
         ensures over { log.new.over ≡ log.old.over }
         ensures tick { self.new.tick ≤ self.old.tick + 1 }

@@ -28,9 +28,9 @@ use Rattle.driver_events.specs.declared.ruling.Ruling.{Ruling}
 use Rattle.driver_events.specs.declared.ruling.Ruling.TheVariants as ruling
 use Rattle.driver_events.specs.Ruling.{is_fault}
 use Rattle.run_drivers.specs.Disks.{Disks, LinesUp, NoneIsThere, LineIsFull, IsLinedUp}
-use Rattle.driver_events.specs.Scene.{Scene, Plays, told_of_ruling, told_of_action, delivered, AfterStep, AfterDeath}
+use Rattle.driver_events.specs.Scene.{Scene, Occurs, told_of_ruling, told_of_action, delivered, AfterStep, AfterDeath}
 use Rattle.schedule.specs.declared.arrived.Arrived.{Arrived}
-use Rattle.run_link.specs.PlayView.{Play, PlaysNext, Advances, Stays, Goes, Turn, Takes, TakesOwed, TakesEnd, Posts, Complains, ComesToEnd, IsPlayedOut, IsStarved, HandsOut, noting, posted, ruling_at}
+use Rattle.run_link.specs.StateView.{RunState, RunsEvent, Advances, Stays, Goes, Turn, Takes, TakesOwed, TakesEnd, Posts, Complains, ComesToEnd, IsRunOut, IsStarved, HandsOut, noting, posted, ruling_at}
 use Rattle.schedule.specs.ArrivingCalls.{calls_of}
 use Rattle.run_link.specs.Waiting.{HasCalls, arrival_of}
 use Rattle.run_link.specs.Moments.{Doing, Resting, Answering, is_busy, Moment, Step, Begins as StepBegins, Tells, Takes as StepTakes, Settles, Brings, BringsNone, Pays as StepPays, HandsCall, Replies as StepReplies, Runs, Starts, Then}
@@ -200,39 +200,39 @@ or_told : (handed told : Bool) → told ≡ true → (handed || told) ≡ true
 or_told true told is = refl
 or_told false told is = is
 
-plays_handed : (place : ℕ) (e : Event) (b : Scene) (message : Incoming) (a : Scene) (marks : List Mark)
-    → Plays place e (begun_scene e b) (Some message) a
+runs_handed : (place : ℕ) (e : Event) (b : Scene) (message : Incoming) (a : Scene) (marks : List Mark)
+    → Occurs place e (begun_scene e b) (Some message) a
     → (with_message message a.noted).groups ≡ (e, marks) ∷ b.noted.groups → length b.noted.groups ≡ place
     → Each (λ s. s.place < place) b.disks.sent
     → (is_handed a.disks.sent e b.noted.groups || is_told marks) ≡ true
-plays_handed place (event.Arrive who now call) b message a marks p is at low =
+runs_handed place (event.Arrive who now call) b message a marks p is at low =
     or_told (is_handed a.disks.sent (event.Arrive who now call) b.noted.groups) (is_told marks)
     (told_first message a.noted (event.Arrive who now call) marks b.noted.groups (none_tells message (sym p.0)) is)
-plays_handed place event.Flush b message a marks p is at low = refl
-plays_handed place event.Tick b message a marks p is at low =
+runs_handed place event.Flush b message a marks p is at low = refl
+runs_handed place event.Tick b message a marks p is at low =
     told_first message a.noted event.Tick marks b.noted.groups (action_tells p.action message (sym p.tells)) is
-plays_handed place (event.Step g) b message a marks p is at low =
+runs_handed place (event.Step g) b message a marks p is at low =
     told_first message a.noted (event.Step g) marks b.noted.groups (step_tells p.step g _ a message p.after) is
-plays_handed place (event.Die g bytes) b message a marks p is at low =
+runs_handed place (event.Die g bytes) b message a marks p is at low =
     told_first message a.noted (event.Die g bytes) marks b.noted.groups (death_tells p.died g _ a message p.after) is
-plays_handed place (event.Hang g) b message a marks p is at low =
+runs_handed place (event.Hang g) b message a marks p is at low =
     told_first message a.noted (event.Hang g) marks b.noted.groups (none_tells message (sym p.tells)) is
-plays_handed place (event.Deliver n) b message a marks p is at low =
+runs_handed place (event.Deliver n) b message a marks p is at low =
     let sent : was_sent (slice_get b.disks.sent n) place ≡ true =
     was_there n place b.disks.sent low (delivered_some (slice_get b.disks.sent n) message p.0) in
     ap (λ (x : Scene). was_sent (slice_get x.disks.sent n) (length b.noted.groups) || is_told marks) p.1
     ∙ ap (λ (k : ℕ). was_sent (slice_get b.disks.sent n) k || is_told marks) at
     ∙ ap (λ (t : Bool). t || is_told marks) sent
-plays_handed place (event.Repeat n) b message a marks p is at low =
+runs_handed place (event.Repeat n) b message a marks p is at low =
     told_first message a.noted (event.Repeat n) marks b.noted.groups (none_tells message (sym p.tells)) is
 
 -- at each event so far it is as it must be; the replies so far were sent at events so far
-record Acts (p : Play) : Type 0 where
+record Acts (p : RunState) : Type 0 where
   said : IsSaid AnsweredSoFar p
   acts : EachGroup (ActsAsDue p.scene.disks.sent) p.scene.noted.groups
 
--- an event is played
-next_acts : (b a : Play) (result : Option Incoming) (n : Noted) → PlaysNext b result a
+-- an event is run
+next_acts : (b a : RunState) (result : Option Incoming) (n : Noted) → RunsEvent b result a
     → n.groups ≡ (with_brought result a.scene.noted).groups → Acts b
     → EachGroup (ActsAsDue a.scene.disks.sent) n.groups
 next_acts b a result n p groups h =
@@ -248,37 +248,37 @@ next_acts b a result n p groups h =
     )
 
 -- where it brings a message, the server was handed something
-next_handed : (b a : Play) (message : Incoming) (n : Noted) → PlaysNext b (Some message) a
+next_handed : (b a : RunState) (message : Incoming) (n : Noted) → RunsEvent b (Some message) a
     → n.groups ≡ (with_message message a.scene.noted).groups → Acts b
     → was_handed a.scene.disks.sent n.groups ≡ true
 next_handed b a message n p groups h =
     let done : EventDone b.next b.owed b.told p.event b.scene (Some message) a.scene =
     event_done b.next b.owed b.told p.event b.scene (Some message) a.scene h.said.first p.plays in
     ap (λ (l : List Group). was_handed a.scene.disks.sent l) (groups ∙ done.groups)
-    ∙ plays_handed b.next p.event b.scene message a.scene done.marks p.plays done.groups h.said.said.places h.said.said.sent
+    ∙ runs_handed b.next p.event b.scene message a.scene done.marks p.plays done.groups h.said.said.places h.said.said.sent
 
-next_none_acts : (b a : Play) → PlaysNext b None a → Acts b → Acts a
+next_none_acts : (b a : RunState) → RunsEvent b None a → Acts b → Acts a
 next_none_acts b a p h =
     record { said = next_none AnsweredSoFar answered_kept b a p h.said; acts = next_acts b a None a.scene.noted p refl h }
 
-far_acts : (b a : Play) (result : Option Incoming) → Advances b result a → result ≡ None → Acts b → Acts a
+far_acts : (b a : RunState) (result : Option Incoming) → Advances b result a → result ≡ None → Acts b → Acts a
 far_acts b _ _ Stays is h = h
 far_acts b a _ (Goes m _ result before last) is h =
-    next_none_acts m a (subst (λ (r : Option Incoming). PlaysNext m r a) is last) (far_acts b m None before refl h)
+    next_none_acts m a (subst (λ (r : Option Incoming). RunsEvent m r a) is last) (far_acts b m None before refl h)
 
 -- what stands at the link after what is done
-abbrev ActsOn : Play → Type 0
+abbrev ActsOn : RunState → Type 0
 ActsOn p = EachGroup (ActsAsDue p.scene.disks.sent) p.scene.noted.groups
 
-abbrev HandedOn : Play → Doing → Type 0
+abbrev HandedOn : RunState → Doing → Type 0
 HandedOn p doing = HandedAt p.over (was_handed p.scene.disks.sent p.scene.noted.groups) doing p.queue
 
-far_some_acts : (b a : Play) (result : Option Incoming) (message : Incoming) (doing : Doing) → Advances b result a → result ≡ Some message
+far_some_acts : (b a : RunState) (result : Option Incoming) (message : Incoming) (doing : Doing) → Advances b result a → result ≡ Some message
     → Acts b
     → ActsOn (noting (entry.Received message) a) × HandedOn (noting (entry.Received message) a) doing
 far_some_acts b _ _ message doing Stays is h = cc
 far_some_acts b a _ message doing (Goes m _ result before last) is h =
-    let next : PlaysNext m (Some message) a = subst (λ (r : Option Incoming). PlaysNext m r a) is last in
+    let next : RunsEvent m (Some message) a = subst (λ (r : Option Incoming). RunsEvent m r a) is last in
     let k : Acts m = far_acts b m None before refl h in (
       next_acts m a (Some message) (with_entry (entry.Received message) a.scene.noted) next refl k,
       WasHanded (next_handed m a message (with_entry (entry.Received message) a.scene.noted) next refl k),
@@ -342,7 +342,7 @@ at_work_handed over handed doing queue live busy (HasNoWork rests none) = absurd
   clash : ◌≡◌ {A = Bool} false true → ⊥
   clash e = cc
 
-posts_act : (b : Play) (to : Endpoint) (r : BlockRequest) (result : Result (Unit {0}) LinkRefusal) (d : Disks) (doing : Doing)
+posts_act : (b : RunState) (to : Endpoint) (r : BlockRequest) (result : Result (Unit {0}) LinkRefusal) (d : Disks) (doing : Doing)
     → b.over ≡ false → is_busy doing ≡ true
     → LinesUp to r b.scene.disks result d → IsBegun b.scene.noted.groups → ActsOn b → HandedOn b doing
     → ActsOn (posted to r (is_ok result) d b) × HandedOn (posted to r (is_ok result) d b) doing
@@ -355,7 +355,7 @@ posts_act b to r _ d doing live busy (IsLinedUp there few) begun h handed =
     done_mark b.scene.disks.sent b.scene.noted (Issued r to) begun (λ x group. refl) (λ group. refl) was_so h in
     (k.0, WasHanded k.1)
 
-complaint_acts : (fault : Bool) (b : Play) (about : Endpoint) (doing : Doing) → IsBegun b.scene.noted.groups → ActsOn b → HandedOn b doing
+complaint_acts : (fault : Bool) (b : RunState) (about : Endpoint) (doing : Doing) → IsBegun b.scene.noted.groups → ActsOn b → HandedOn b doing
     → EachGroup (ActsAsDue b.scene.disks.sent) (with_entry (entry.Complained about fault) b.scene.noted).groups
     × HandedAt b.over (was_handed b.scene.disks.sent (with_entry (entry.Complained about fault) b.scene.noted).groups) doing b.queue
 complaint_acts false b about doing begun h handed = (h, handed)
@@ -366,7 +366,7 @@ complaint_acts true b about doing begun h handed = (
 )
 
 -- what a server does at the link
-turn_acts : (b a : Play) (told : Told) (doing : Doing) → Turn b told a → is_busy doing ≡ true → IsBegun b.scene.noted.groups → Acts b
+turn_acts : (b a : RunState) (told : Told) (doing : Doing) → Turn b told a → is_busy doing ≡ true → IsBegun b.scene.noted.groups → Acts b
     → HandedOn b doing
     → ActsOn a × HandedOn a doing
 turn_acts b _ _ doing (Takes message a far) busy begun h handed = far_some_acts b a (Some message) message doing far refl h
@@ -375,8 +375,8 @@ turn_acts b _ _ doing (TakesOwed live owes first) busy begun h handed =
     owed_acts b.scene.disks.sent b.scene.noted begun h.acts in
     (k.0, WasHanded k.1)
 turn_acts b _ _ doing (TakesEnd a live ends) busy begun h handed = (end_acts a ends, HasEnded refl) where
-  end_acts : (x : Play) → ComesToEnd b x → ActsOn x
-  end_acts _ (IsPlayedOut x far spent) = (far_acts b x None far refl h).acts
+  end_acts : (x : RunState) → ComesToEnd b x → ActsOn x
+  end_acts _ (IsRunOut x far spent) = (far_acts b x None far refl h).acts
   end_acts _ (IsStarved x far) = (far_acts b x None far refl h).acts
 turn_acts b _ _ doing (Posts to r result d unended lines) busy begun h handed =
     posts_act b to r result d doing unended busy lines begun h.acts handed
@@ -403,14 +403,14 @@ none_handed (event.Deliver n) sent marks earlier over doing queue rests is calls
 none_handed (event.Repeat n) sent marks earlier over doing queue rests is calls = HasNoWork rests is
 
 -- all calls that arrived were taken
-all_taken : (p : Play) → p.scene.noted.first ≡ Started (driver 1) ∷ [] → p.queue ≡ [] → HasCalls [] p
+all_taken : (p : RunState) → p.scene.noted.first ≡ Started (driver 1) ∷ [] → p.queue ≡ [] → HasCalls [] p
     → arrived p.scene.noted.groups ≡ taken (marks_of p.scene.noted.groups)
 all_taken p first none calls =
     calls.order
     ∙ ap (λ (l : List Arrived). reverse (map arrival_of l) ++ taken (marks_in p.scene.noted)) none
     ∙ ap taken (record_of_groups p.scene.noted.groups p.scene.noted.first first)
 
-next_none_handed : (b a : Play) (doing : Doing) → PlaysNext b None a → Acts b → doing ≡ Resting → b.queue ≡ [] → HasCalls [] b
+next_none_handed : (b a : RunState) (doing : Doing) → RunsEvent b None a → Acts b → doing ≡ Resting → b.queue ≡ [] → HasCalls [] b
     → HandedOn a doing
 next_none_handed b a doing p h rests none calls =
     let done : EventDone b.next b.owed b.told p.event b.scene None a.scene =
@@ -426,13 +426,13 @@ handed_after over handed doing queue (WasHanded was_so) = WasHanded was_so
 handed_after over handed doing queue (HasNoWork rests none) = HasNoWork refl none
 
 -- a call that waits is handed out
-out_handed : (b a : Play) (call : Arrived) (doing : Doing) → b.over ≡ false → HandsOut b (Some call) a → HandedOn b doing
+out_handed : (b a : RunState) (call : Arrived) (doing : Doing) → b.over ≡ false → HandsOut b (Some call) a → HandedOn b doing
     → HandedOn a (Answering call)
 out_handed b a call doing live hands (HasEnded ends) = absurd (clash (sym live ∙ ends)) where
   clash : ◌≡◌ {A = Bool} false true → ⊥
   clash e = cc
 out_handed b a call doing live hands (WasHanded was_so) =
-    WasHanded (ap (λ (p : Play). was_handed p.scene.disks.sent p.scene.noted.groups) hands.after ∙ was_so)
+    WasHanded (ap (λ (p : RunState). was_handed p.scene.disks.sent p.scene.noted.groups) hands.after ∙ was_so)
 out_handed b a call doing live hands (HasNoWork rests none) =
     absurd (clash (hands.first ∙ ap (λ (l : List Arrived). slice_get l 0) none)) where
       clash : Some call ≡ None → ⊥
@@ -468,7 +468,7 @@ step_acts minor m _ (StepPays between owed told) k =
     owed_acts m.play.scene.disks.sent m.play.scene.noted (not_owed_before m owed k.begun) k.acts.acts in
     (x.0, WasHanded x.1)
 step_acts minor m _ (HandsCall call a between paid_so hands) k = (
-  subst (λ (p : Play). ActsOn p) (sym hands.after) k.acts.acts,
+  subst (λ (p : RunState). ActsOn p) (sym hands.after) k.acts.acts,
   out_handed m.play a call m.doing between.live hands k.handed,
 )
 step_acts minor m _ (StepReplies call reply doing live rest) k =

@@ -32,7 +32,7 @@ use Rattle.driver_events.specs.declared.ruling.Ruling.{Ruling}
 use Rattle.run_drivers.specs.Disks.{Disks, LinesUp, NoneIsThere, LineIsFull, IsLinedUp}
 use Rattle.driver_events.specs.Scene.{Scene}
 use Rattle.schedule.specs.declared.arrived.Arrived.{Arrived}
-use Rattle.run_link.specs.PlayView.{Play, IsOpened, PlaysNext, Advances, Stays, Goes, Turn, Takes, TakesOwed, TakesEnd, Posts, Complains, ComesToEnd, IsPlayedOut, IsStarved, noting, paid, posted, complained, ruling_at}
+use Rattle.run_link.specs.StateView.{RunState, IsOpened, RunsEvent, Advances, Stays, Goes, Turn, Takes, TakesOwed, TakesEnd, Posts, Complains, ComesToEnd, IsRunOut, IsStarved, noting, paid, posted, complained, ruling_at}
 use Rattle.run_link.specs.Moments.{Doing, Resting, Hearing, Answering, is_busy, Moment, record_of, IsBetween, Step, Begins as StepBegins, Tells, Takes as StepTakes, Settles, Brings, BringsNone, Pays as StepPays, HandsCall, Replies as StepReplies, Runs, Starts, Then}
 use Rattle.justified.specs.Core.{Core, Story, story, RunsNow, WaitsNow, IsGivenUp, PhaseIs, FollowsGroups}
 use Rattle.justified.specs.Seen.{core_at, with_brought, EventDone}
@@ -85,7 +85,7 @@ begins_after place groups c a _ marks before (Ticks _ _ ticks) = tick_after (bea
 abbrev AllAfter : List Group → Type 0
 AllAfter groups = EachGroup AfterFaultAsDue groups
 
-next_after : (b a : Play) (result : Option Incoming) (n : Noted) → PlaysNext b result a → n.groups ≡ (with_brought result a.scene.noted).groups
+next_after : (b a : RunState) (result : Option Incoming) (n : Noted) → RunsEvent b result a → n.groups ≡ (with_brought result a.scene.noted).groups
     → b.scene.noted.first ≡ Started (driver 1) ∷ [] → AllAfter b.scene.noted.groups → AllAfter n.groups
 next_after b a result n p groups first h =
     let done : EventDone b.next b.owed b.told p.event b.scene result a.scene = event_done b.next b.owed b.told p.event b.scene result a.scene first p.plays in
@@ -157,10 +157,10 @@ busy_few Resting n busy none = cc
 busy_few (Hearing message) n busy none = none
 busy_few (Answering call) n busy none = none
 
-abbrev OwedWell : Play → Doing → Type 0
+abbrev OwedWell : RunState → Doing → Type 0
 OwedWell p doing = p.owed ≡ true → IsOwedAt p.scene.noted.groups doing
 
-none_owed : (p : Play) (doing : Doing) → p.owed ≡ false → OwedWell p doing
+none_owed : (p : RunState) (doing : Doing) → p.owed ≡ false → OwedWell p doing
 none_owed p doing paid is = absurd (clash (sym paid ∙ is)) where
   clash : ◌≡◌ {A = Bool} false true → ⊥
   clash e = cc
@@ -175,7 +175,7 @@ record GivesUpWell (drivers : ℕ) (m : Moment) : Type 0 where
   after : AllAfter m.play.scene.noted.groups
   owed : OwedWell m.play m.doing
 
-awaits_while_owed : (drivers : ℕ) (p : Play) → IsSaid (OnlyFollows drivers) p → p.owed ≡ true → awaits_start (marks_of p.scene.noted.groups) ≡ true
+awaits_while_owed : (drivers : ℕ) (p : RunState) → IsSaid (OnlyFollows drivers) p → p.owed ≡ true → awaits_start (marks_of p.scene.noted.groups) ≡ true
 awaits_while_owed drivers p h owed = by p.scene.watch.phase h.said.phase_is where
   clash : (o : Bool) → o ≡ true → o ≡ false → ⊥
   clash o is not_so = cc
@@ -186,7 +186,7 @@ awaits_while_owed drivers p h owed = by p.scene.watch.phase h.said.phase_is wher
   by GivenUp k = k.awaited owed
 
 -- a complaint
-complaint_after_fault : (drivers : ℕ) (b : Play) (doing : Doing) (about : Endpoint) (ends : Option Bool) (w : Watch)
+complaint_after_fault : (drivers : ℕ) (b : RunState) (doing : Doing) (about : Endpoint) (ends : Option Bool) (w : Watch)
     → AtReport b.scene.policy b.scene.watch about b.scene.tick ends w → is_busy doing ≡ true → IsBegun b.scene.noted.groups
     → FollowsGroups drivers b.scene.noted.groups (core_of b) → LastFollows b.scene.noted.groups (Some about) → IsSaid AnsweredSoFar b
     → AllAfter b.scene.noted.groups → OwedWell b doing
@@ -232,13 +232,13 @@ complaint_after_fault drivers b doing about _ _ (OfRunning l count ends w is at 
   by : (ends' : Bool) → AllAfter (complained_as (ruling_for (Some ends')) about b).scene.noted.groups × OwedWell (complained_as (ruling_for (Some ends')) about b) doing
   by ends' = (after_now ends', λ is. owed_now ends')
 
-complains_after : (drivers : ℕ) (b : Play) (doing : Doing) (about : Endpoint) → b.over ≡ false → is_busy doing ≡ true → IsBegun b.scene.noted.groups
+complains_after : (drivers : ℕ) (b : RunState) (doing : Doing) (about : Endpoint) → b.over ≡ false → is_busy doing ≡ true → IsBegun b.scene.noted.groups
     → FollowsGroups drivers b.scene.noted.groups (core_of b) → LastFollows b.scene.noted.groups (Some about) → IsSaid AnsweredSoFar b
     → AllAfter b.scene.noted.groups → OwedWell b doing → AllAfter (complained about b).scene.noted.groups × OwedWell (complained about b) doing
 complains_after drivers b doing about live busy begun follows last answered h owed =
     let r : Reported b.scene.policy b.scene.watch about b.scene.tick (on b.scene.policy b.scene.watch (policy.Complaint about b.scene.tick)) =
     reported b.scene.policy b.scene.watch about b.scene.tick in
-    subst (λ (p : Play). AllAfter p.scene.noted.groups × OwedWell p doing) (sym (complained_is b about live))
+    subst (λ (p : RunState). AllAfter p.scene.noted.groups × OwedWell p doing) (sym (complained_is b about live))
     (subst (λ (u : Ruling). AllAfter (complained_as u about b).scene.noted.groups × OwedWell (complained_as u about b) doing) (sym r.ruled)
     (complaint_after_fault drivers b doing about r.ends _ r.report busy begun follows last answered h owed))
 
@@ -259,7 +259,7 @@ same_few groups after doing m n at is same owed =
           (subst (λ (k : ℕ). FewCalls doing k) (sym (same (owed.group ++ marks_of owed.earlier))) was);
     }
 
-posts_after : (b : Play) (doing : Doing) (to : Endpoint) (r : BlockRequest) (result : Result (Unit {0}) LinkRefusal) (d : Disks) → LinesUp to r b.scene.disks result d
+posts_after : (b : RunState) (doing : Doing) (to : Endpoint) (r : BlockRequest) (result : Result (Unit {0}) LinkRefusal) (d : Disks) → LinesUp to r b.scene.disks result d
     → IsBegun b.scene.noted.groups → AllAfter b.scene.noted.groups → OwedWell b doing
     → AllAfter (posted to r (is_ok result) d b).scene.noted.groups × OwedWell (posted to r (is_ok result) d b) doing
 posts_after b doing to r _ _ (NoneIsThere none) begun h owed = (h, owed)
@@ -269,39 +269,39 @@ posts_after b doing to r _ d (IsLinedUp there few) begun h owed = (
   λ is. same_few b.scene.noted.groups _ doing (Issued r to) b.scene.noted refl refl (λ marks. refl) (owed is),
 )
 
--- events that are played
-far_after : (b a : Play) (result : Option Incoming) → Advances b result a → result ≡ None → b.scene.noted.first ≡ Started (driver 1) ∷ []
+-- events that are run
+far_after : (b a : RunState) (result : Option Incoming) → Advances b result a → result ≡ None → b.scene.noted.first ≡ Started (driver 1) ∷ []
     → AllAfter b.scene.noted.groups → (a.scene.noted.first ≡ Started (driver 1) ∷ []) × AllAfter a.scene.noted.groups
 far_after b _ _ Stays is first h = (first, h)
 far_after b a _ (Goes m _ result before last) is first h =
-    let next : PlaysNext m None a = subst (λ (r : Option Incoming). PlaysNext m r a) is last in
+    let next : RunsEvent m None a = subst (λ (r : Option Incoming). RunsEvent m r a) is last in
     let k : (m.scene.noted.first ≡ Started (driver 1) ∷ []) × AllAfter m.scene.noted.groups = far_after b m None before refl first h in
     let done : EventDone m.next m.owed m.told next.event m.scene None a.scene = event_done m.next m.owed m.told next.event m.scene None a.scene k.0 next.plays in
     (done.first ∙ k.0, next_after m a None a.scene.noted next refl k.0 k.1)
 
-far_after_some : (b a : Play) (result : Option Incoming) (message : Incoming) → Advances b result a → result ≡ Some message
+far_after_some : (b a : RunState) (result : Option Incoming) (message : Incoming) → Advances b result a → result ≡ Some message
     → b.scene.noted.first ≡ Started (driver 1) ∷ [] → AllAfter b.scene.noted.groups → AllAfter (noting (entry.Received message) a).scene.noted.groups
 far_after_some b _ _ message Stays is first h = cc
 far_after_some b a _ message (Goes m _ result before last) is first h =
-    let next : PlaysNext m (Some message) a = subst (λ (r : Option Incoming). PlaysNext m r a) is last in
+    let next : RunsEvent m (Some message) a = subst (λ (r : Option Incoming). RunsEvent m r a) is last in
     let k : (m.scene.noted.first ≡ Started (driver 1) ∷ []) × AllAfter m.scene.noted.groups = far_after b m None before refl first h in
     next_after m a (Some message) (with_entry (entry.Received message) a.scene.noted) next refl k.0 k.1
 
-far_owed : (b a : Play) (result : Option Incoming) (doing : Doing) → Advances b result a → result ≡ None → OwedWell b doing → OwedWell a doing
+far_owed : (b a : RunState) (result : Option Incoming) (doing : Doing) → Advances b result a → result ≡ None → OwedWell b doing → OwedWell a doing
 far_owed b _ _ doing Stays is owed = owed
 far_owed b a _ doing (Goes m _ result before last) is owed = none_owed a doing (last.owed ∙ last.paid)
 
-some_owed : (b a : Play) (result : Option Incoming) (message : Incoming) → Advances b result a → result ≡ Some message → a.owed ≡ false
+some_owed : (b a : RunState) (result : Option Incoming) (message : Incoming) → Advances b result a → result ≡ Some message → a.owed ≡ false
 some_owed b _ _ message Stays is = cc
 some_owed b a _ message (Goes m _ result before last) is = last.owed ∙ last.paid
 
-end_after : (b a : Play) (doing : Doing) → ComesToEnd b a → b.scene.noted.first ≡ Started (driver 1) ∷ [] → AllAfter b.scene.noted.groups → OwedWell b doing
+end_after : (b a : RunState) (doing : Doing) → ComesToEnd b a → b.scene.noted.first ≡ Started (driver 1) ∷ [] → AllAfter b.scene.noted.groups → OwedWell b doing
     → AllAfter a.scene.noted.groups × OwedWell a doing
-end_after b _ doing (IsPlayedOut a far spent) first h owed = ((far_after b a None far refl first h).1, far_owed b a None doing far refl owed)
+end_after b _ doing (IsRunOut a far spent) first h owed = ((far_after b a None far refl first h).1, far_owed b a None doing far refl owed)
 end_after b _ doing (IsStarved a far) first h owed = ((far_after b a None far refl first h).1, far_owed b a None doing far refl owed)
 
 -- a turn
-turn_after : (drivers : ℕ) (b a : Play) (told : Told) (doing : Doing) (due : Option Endpoint) → Turn b told a
+turn_after : (drivers : ℕ) (b a : RunState) (told : Told) (doing : Doing) (due : Option Endpoint) → Turn b told a
     → ((about : Endpoint) → told ≡ Complained about → (b.over ≡ false) × (due ≡ Some about)) → is_busy doing ≡ true
     → IsBegun b.scene.noted.groups → IsSaid (OnlyFollows drivers) b → LastFollows b.scene.noted.groups due → IsSaid AnsweredSoFar b
     → AllAfter b.scene.noted.groups → OwedWell b doing → AllAfter a.scene.noted.groups × OwedWell a doing
@@ -360,7 +360,7 @@ step_after minor drivers m _ (StepPays between owed told) k = (
   none_owed (noting (entry.Handed incoming.GaveUp) (paid m.play)) (Hearing incoming.GaveUp) refl,
 )
 step_after minor drivers m _ (HandsCall call a between paid_so hands) k =
-    subst (λ (p : Play). AllAfter p.scene.noted.groups × OwedWell p (Answering call)) (sym hands.after) (k.after, λ is. absurd (clash (sym paid_so ∙ is))) where
+    subst (λ (p : RunState). AllAfter p.scene.noted.groups × OwedWell p (Answering call)) (sym hands.after) (k.after, λ is. absurd (clash (sym paid_so ∙ is))) where
       clash : ◌≡◌ {A = Bool} false true → ⊥
       clash e = cc
 step_after minor drivers m _ (StepReplies call reply doing live rest) k =

@@ -15,7 +15,7 @@ use Rattle.schedule.specs.Noted.{Noted, marks_in, grouped, with_mark}
 use Rattle.schedule.specs.declared.log.Entry.TheVariants as entry
 use Rattle.driver_events.specs.Scene.{Scene}
 use Rattle.schedule.specs.declared.arrived.Arrived.{Arrived}
-use Rattle.run_link.specs.PlayView.{Play, IsOpened, first_noted, PlaysNext, Further, Still, HandsEvent, HandsNone, HandsOwed, noting, paid}
+use Rattle.run_link.specs.StateView.{RunState, IsOpened, first_noted, RunsEvent, Further, Still, HandsEvent, HandsNone, HandsOwed, noting, paid}
 use Rattle.run_link.specs.Waiting.{HasCalls, arrival_of}
 use Rattle.run_link.specs.Moments.{Doing, Resting, Answering, Moment, Step, Begins as StepBegins, Tells, Takes as StepTakes, Settles, Brings, BringsNone, Pays as StepPays, HandsCall, Replies as StepReplies}
 use Rattle.run_link.proofs.Waits.{servers_hand_none, asides_hand_none, one_is_handed_out, it_is_answered}
@@ -29,8 +29,8 @@ pub at_work : (m : Moment) (call : Arrived) → m.doing ≡ Answering call → H
     → HasCalls (arrival_of call ∷ []) m.play
 at_work m call works h = subst (λ (l : List Arrival). HasCalls l m.play) (ap answering works) h
 
--- events are played
-pub next_calls : (out : List Arrival) (b a : Play) → PlaysNext b None a → HasCalls out b → HasCalls out a
+-- events are run
+pub next_calls : (out : List Arrival) (b a : RunState) → RunsEvent b None a → HasCalls out b → HasCalls out a
 next_calls out b a next h = asides_hand_none out b a (Ok None) (HandsNone a next) h
 
 -- a step

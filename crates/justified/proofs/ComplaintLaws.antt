@@ -37,7 +37,7 @@ use Rattle.driver_events.specs.Scene.{Scene, ruled}
 use Rattle.driver_events.specs.Kept.{NotesAside}
 use Rattle.driver_events.proofs.Keeping.{events_note_aside}
 use Rattle.schedule.specs.declared.arrived.Arrived.{Arrived}
-use Rattle.run_link.specs.PlayView.{Play, IsOpened, begun, PlaysNext, Advances, Stays, Goes, Turn, Takes, TakesOwed, TakesEnd, Posts, Complains, ComesToEnd, IsPlayedOut, IsStarved, HandsOut, noting, paid, ended, starving, posted, complained}
+use Rattle.run_link.specs.StateView.{RunState, IsOpened, begun, RunsEvent, Advances, Stays, Goes, Turn, Takes, TakesOwed, TakesEnd, Posts, Complains, ComesToEnd, IsRunOut, IsStarved, HandsOut, noting, paid, ended, starving, posted, complained}
 use Rattle.run_link.specs.Moments.{Doing, Resting, Hearing, Answering, is_busy, Moment, record_of, IsBetween, hearing, at_link, Step, Begins as StepBegins, Tells, Takes as StepTakes, Settles, Brings, BringsNone, Pays as StepPays, HandsCall, Replies as StepReplies, Runs, Starts, Then}
 use Rattle.justified.specs.Core.{Core, Story, story, RunsNow, PhaseIs, FollowsGroups}
 use Rattle.justified.specs.Seen.{core_at, with_brought, Brought, NoMessage, Counted, Uncounted, NoReply, EventDone, is_reply}
@@ -159,8 +159,8 @@ brought_follows groups _ _ (Uncounted a counted) calm =
 brought_follows groups _ _ (NoReply message marks is none) calm =
     subst (λ (o : Option Endpoint). HeadFollows marks (marks_of groups) (fault_due o (running (marks ++ marks_of groups)))) (sym (none_by message (marks_of groups) is)) (calm none)
 
--- an event is played
-next_follows : (b a : Play) (result : Option Incoming) (n : Noted) → PlaysNext b result a → n.groups ≡ (with_brought result a.scene.noted).groups
+-- an event is run
+next_follows : (b a : RunState) (result : Option Incoming) (n : Noted) → RunsEvent b result a → n.groups ≡ (with_brought result a.scene.noted).groups
     → b.scene.noted.first ≡ Started (driver 1) ∷ [] → LastFollows b.scene.noted.groups None → LastFollows n.groups (owed_by result (marks_of b.scene.noted.groups))
 next_follows b a result n p groups first h =
     let old : List Group = b.scene.noted.groups in
@@ -172,7 +172,7 @@ next_follows b a result n p groups first h =
     )
 
 -- what the server was told of the record stays, while events bring no message
-next_record : (b a : Play) → PlaysNext b None a → record_of a ≡ record_of b
+next_record : (b a : RunState) → RunsEvent b None a → record_of a ≡ record_of b
 next_record b a p = (events_note_aside b.next p.event (begun p.event b.scene) a.scene None p.plays).marks
 
 abbrev pub OnlyFollows : ℕ → ℕ → List Group → Core → Type 0
@@ -184,17 +184,17 @@ follows_kept drivers = record {
   adds = λ place event group earlier c a marks adds h. follows_adds drivers event group earlier c a marks h adds;
 }
 
--- what holds while events are played
-record Far (drivers : ℕ) (b a : Play) : Type 0 where
+-- what holds while events are run
+record Far (drivers : ℕ) (b a : RunState) : Type 0 where
   said : IsSaid (OnlyFollows drivers) a
   follow : LastFollows a.scene.noted.groups None
   same : record_of a ≡ record_of b
 
-far_none : (drivers : ℕ) (b a : Play) (result : Option Incoming) → Advances b result a → result ≡ None → IsSaid (OnlyFollows drivers) b
+far_none : (drivers : ℕ) (b a : RunState) (result : Option Incoming) → Advances b result a → result ≡ None → IsSaid (OnlyFollows drivers) b
     → LastFollows b.scene.noted.groups None → Far drivers b a
 far_none drivers b _ _ Stays is said h = record { said = said; follow = h; same = refl }
 far_none drivers b a _ (Goes m _ result before last) is said h =
-    let next : PlaysNext m None a = subst (λ (r : Option Incoming). PlaysNext m r a) is last in
+    let next : RunsEvent m None a = subst (λ (r : Option Incoming). RunsEvent m r a) is last in
     let k : Far drivers b m = far_none drivers b m None before refl said h in
     record {
       said = next_none (OnlyFollows drivers) (follows_kept drivers) m a next k.said;
@@ -202,19 +202,19 @@ far_none drivers b a _ (Goes m _ result before last) is said h =
       same = next_record m a next ∙ k.same;
     }
 
-record_is : (p : Play) → p.scene.noted.first ≡ Started (driver 1) ∷ [] → record_of p ≡ without_faults (marks_of p.scene.noted.groups)
+record_is : (p : RunState) → p.scene.noted.first ≡ Started (driver 1) ∷ [] → record_of p ≡ without_faults (marks_of p.scene.noted.groups)
 record_is p first = ap without_faults (record_of_groups p.scene.noted.groups p.scene.noted.first first)
 
-owed_here : (message : Option Incoming) (b x : Play) → record_of x ≡ record_of b → x.scene.noted.first ≡ Started (driver 1) ∷ []
+owed_here : (message : Option Incoming) (b x : RunState) → record_of x ≡ record_of b → x.scene.noted.first ≡ Started (driver 1) ∷ []
     → owed_by message (record_of b) ≡ owed_by message (marks_of x.scene.noted.groups)
 owed_here message b x same first =
     ap (λ (l : List Mark). owed_by message l) (sym same ∙ record_is x first) ∙ owed_same message (marks_of x.scene.noted.groups)
 
-far_some : (drivers : ℕ) (b a : Play) (result : Option Incoming) (message : Incoming) → Advances b result a → result ≡ Some message → IsSaid (OnlyFollows drivers) b
+far_some : (drivers : ℕ) (b a : RunState) (result : Option Incoming) (message : Incoming) → Advances b result a → result ≡ Some message → IsSaid (OnlyFollows drivers) b
     → LastFollows b.scene.noted.groups None → LastFollows (noting (entry.Received message) a).scene.noted.groups (owed_by (Some message) (record_of b))
 far_some drivers b _ _ message Stays is said h = cc
 far_some drivers b a _ message (Goes m _ result before last) is said h =
-    let next : PlaysNext m (Some message) a = subst (λ (r : Option Incoming). PlaysNext m r a) is last in
+    let next : RunsEvent m (Some message) a = subst (λ (r : Option Incoming). RunsEvent m r a) is last in
     let k : Far drivers b m = far_none drivers b m None before refl said h in
     subst (λ (o : Option Endpoint). LastFollows (noting (entry.Received message) a).scene.noted.groups o) (sym (owed_here (Some message) b m k.same k.said.first))
     (next_follows m a (Some message) (with_entry (entry.Received message) a.scene.noted) next refl k.said.first k.follow)
@@ -242,7 +242,7 @@ owing : (groups : List Group) (owed next : Option Endpoint) → owed ≡ next �
 owing groups owed next is h = subst (λ (o : Option Endpoint). LastFollows groups o) is h
 
 -- a mark that neither is a complaint nor asks for one
-calm_mark : (p : Play) (after : List Group) (m : Mark) (owed next : Option Endpoint) → IsBegun p.scene.noted.groups → after ≡ (with_mark m p.scene.noted).groups
+calm_mark : (p : RunState) (after : List Group) (m : Mark) (owed next : Option Endpoint) → IsBegun p.scene.noted.groups → after ≡ (with_mark m p.scene.noted).groups
     → owed ≡ None → next ≡ None → complaint_of (Some m) ≡ None → complaint_after m (marks_of p.scene.noted.groups) ≡ None
     → LastFollows p.scene.noted.groups owed → LastFollows after next
 calm_mark p after m owed next begun is none none_next no_complaint asks_none h =
@@ -278,7 +278,7 @@ runs_this drivers groups c e last count h is at =
     ap (λ (o : Option Endpoint). is_endpoint e o) now.runs_is
     ∙ ap (λ (d : Endpoint). is_endpoint d (Some (driver c.watch.generation))) at ∙ same_number c.watch.generation
 
-complaint_follows : (drivers : ℕ) (b : Play) (about : Endpoint) (ends : Option Bool) (after : Watch) → AtReport b.scene.policy b.scene.watch about b.scene.tick ends after
+complaint_follows : (drivers : ℕ) (b : RunState) (about : Endpoint) (ends : Option Bool) (after : Watch) → AtReport b.scene.policy b.scene.watch about b.scene.tick ends after
     → IsBegun b.scene.noted.groups → FollowsGroups drivers b.scene.noted.groups (core_of b) → LastFollows b.scene.noted.groups (Some about)
     → LastFollows (complained_as (ruling_for ends) about b).scene.noted.groups None
 complaint_follows drivers b about _ _ (OfNone other) begun follows h =
@@ -296,24 +296,24 @@ complaint_follows drivers b about _ _ (OfRunning last count false after is at fa
     marks_follow b.scene.noted.groups _ (Fault about Complaint) b.scene.noted (Some about) None begun refl refl
     (sym (ap (λ (t : Bool). if t then Some about else None) (runs_this drivers b.scene.noted.groups (core_of b) about last count follows is at))) refl h
 
-complains_follow : (drivers : ℕ) (b : Play) (about : Endpoint) → b.over ≡ false → IsBegun b.scene.noted.groups → FollowsGroups drivers b.scene.noted.groups (core_of b)
+complains_follow : (drivers : ℕ) (b : RunState) (about : Endpoint) → b.over ≡ false → IsBegun b.scene.noted.groups → FollowsGroups drivers b.scene.noted.groups (core_of b)
     → LastFollows b.scene.noted.groups (Some about) → LastFollows (complained about b).scene.noted.groups None
 complains_follow drivers b about live begun follows h =
     let r : Reported b.scene.policy b.scene.watch about b.scene.tick (on b.scene.policy b.scene.watch (policy.Complaint about b.scene.tick)) =
     reported b.scene.policy b.scene.watch about b.scene.tick in
-    subst (λ (p : Play). LastFollows p.scene.noted.groups None) (sym (complained_is b about live))
+    subst (λ (p : RunState). LastFollows p.scene.noted.groups None) (sym (complained_is b about live))
     (subst (λ (u : Ruling). LastFollows (complained_as u about b).scene.noted.groups None) (sym r.ruled)
     (complaint_follows drivers b about r.ends _ r.report begun follows h))
 
 -- what a server tells its link
-posts_follow : (b : Play) (o : Option Endpoint) (to : Endpoint) (r : BlockRequest) (result : Result (Unit {0}) LinkRefusal) (d : Disks) → LinesUp to r b.scene.disks result d
+posts_follow : (b : RunState) (o : Option Endpoint) (to : Endpoint) (r : BlockRequest) (result : Result (Unit {0}) LinkRefusal) (d : Disks) → LinesUp to r b.scene.disks result d
     → IsBegun b.scene.noted.groups → o ≡ None → LastFollows b.scene.noted.groups o → LastFollows (posted to r (is_ok result) d b).scene.noted.groups o
 posts_follow b o to r _ _ (NoneIsThere none) begun is h = h
 posts_follow b o to r _ _ (LineIsFull there full) begun is h = h
 posts_follow b o to r _ d (IsLinedUp there few) begun is h = calm_mark b _ (Issued r to) o o begun refl is is refl refl h
 
 -- a take within a call
-take_follows : (drivers : ℕ) (b a : Play) (told : Told) (message : Incoming) (o : Outbox) → Turn b told a → told ≡ Received message → IsBegun b.scene.noted.groups
+take_follows : (drivers : ℕ) (b a : RunState) (told : Told) (message : Incoming) (o : Outbox) → Turn b told a → told ≡ Received message → IsBegun b.scene.noted.groups
     → o.complaint ≡ None → IsSaid (OnlyFollows drivers) b → LastFollows b.scene.noted.groups None
     → LastFollows a.scene.noted.groups (owed_after_message message (record_of b) o).complaint
 take_follows drivers b _ _ message o (Takes m a far) is begun none said h =
@@ -340,8 +340,8 @@ take_follows drivers b _ _ message o (TakesEnd a live ends) is begun none said h
       still incoming.Flush e = cc
       still incoming.End e = none
 
-      end_follows : (x : Play) → ComesToEnd b x → LastFollows x.scene.noted.groups None
-      end_follows _ (IsPlayedOut x far spent) = (far_none drivers b x None far refl said h).follow
+      end_follows : (x : RunState) → ComesToEnd b x → LastFollows x.scene.noted.groups None
+      end_follows _ (IsRunOut x far spent) = (far_none drivers b x None far refl said h).follow
       end_follows _ (IsStarved x far) = (far_none drivers b x None far refl said h).follow
 take_follows drivers b _ _ message o (Posts to r result d unended lines) is begun none said h = cc
 take_follows drivers b _ _ message o (Complains about) is begun none said h = cc
@@ -353,7 +353,7 @@ record ComplaintsStand (drivers : ℕ) (m : Moment) : Type 0 where
   said : IsSaid (OnlyFollows drivers) m.play
   follow : LastFollows m.play.scene.noted.groups m.outbox.complaint
 
-tell_follows : (minor drivers : ℕ) (m : Moment) (told : Told) (a : Play) → Turn m.play told a → took_nothing (told ∷ []) ≡ true → OverCalm m
+tell_follows : (minor drivers : ℕ) (m : Moment) (told : Told) (a : RunState) → Turn m.play told a → took_nothing (told ∷ []) ≡ true → OverCalm m
     → MayAct minor (record_of m.play) m.outbox (AtLink told) → IsBegun m.play.scene.noted.groups → IsSaid (OnlyFollows drivers) m.play
     → LastFollows m.play.scene.noted.groups m.outbox.complaint
     → LastFollows a.scene.noted.groups (owed_after_act (AtLink told) (record_of m.play) m.outbox).complaint
@@ -389,7 +389,7 @@ step_follows minor drivers m _ (BringsNone a between none next) calm begun said 
 step_follows minor drivers m _ (StepPays between owed told) calm begun said h =
     calm_mark m.play _ GaveUp m.outbox.complaint m.outbox.complaint (not_owed_before m owed begun) refl between.at_rest.complaint between.at_rest.complaint refl refl h
 step_follows minor drivers m _ (HandsCall call a between paid_so hands) calm begun said h =
-    subst (λ (p : Play). LastFollows p.scene.noted.groups m.outbox.complaint) (sym hands.after) h
+    subst (λ (p : RunState). LastFollows p.scene.noted.groups m.outbox.complaint) (sym hands.after) h
 step_follows minor drivers m _ (StepReplies call reply doing live rest) calm begun said h =
     calm_mark m.play _ (Took call.who call.now call.call (answer_of reply)) m.outbox.complaint m.outbox.complaint
     (not_before m (busy_answering m.doing call doing) begun) refl rest.complaint rest.complaint refl refl h

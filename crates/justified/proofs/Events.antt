@@ -26,7 +26,7 @@ use Rattle.driver_events.specs.declared.ruling.Ruling.{Ruling}
 use Rattle.driver_events.specs.declared.ruling.Ruling.TheVariants as ruling
 use Rattle.driver_events.specs.Ruling.{ruling_of}
 use Rattle.run_drivers.specs.Disks.{Disks, Steps, Dies, started}
-use Rattle.driver_events.specs.Scene.{Scene, faulted, told_of_ruling, ruled, Exits, beaten, acted, told_of_action, tick_event, next_started, ActsAt, AfterStep, AfterDeath, StepsAt, DiesAt, delivered, Quietly, Plays}
+use Rattle.driver_events.specs.Scene.{Scene, faulted, told_of_ruling, ruled, Exits, beaten, acted, told_of_action, tick_event, next_started, ActsAt, AfterStep, AfterDeath, StepsAt, DiesAt, delivered, Quietly, Occurs}
 use Rattle.justified.specs.Core.{Core}
 use Rattle.justified.specs.Seen.{core_at, with_brought, Brought, NoMessage, Counted, Uncounted, NoReply, EventDone, begun_scene}
 use Rattle.justified.specs.Happens.{fault_at, AtFault, Replaces, GivesUp, IsNotRunning, AtReport, OfNone, OfRunning, exit_marks, fault_marks, beaten_core, TicksTo, Beats, MissesOne, FoundHung, WaitsOn, StartsNext, IsOver, Begins, Arrives, Flushes, Answers, Drops, Delivers, LinesAgain, HangsOne, StepsOne, FailsOne, DiesNone, DiesOne, Ticks}
@@ -240,7 +240,7 @@ tick_done place owed told b result a x =
 
 -- any event
 pub event_done : (place : ℕ) (owed told : Bool) (event : Event) (b : Scene) (result : Option Incoming) (a : Scene) → b.noted.first ≡ Started (driver 1) ∷ []
-    → Plays place event (begun_scene event b) result a → EventDone place owed told event b result a
+    → Occurs place event (begun_scene event b) result a → EventDone place owed told event b result a
 event_done place owed told (event.Arrive who now call) b result a first p =
     done_by place owed told (event.Arrive who now call) b result None a (begun_scene (event.Arrive who now call) b) p.0 p.1
     (record { marks = []; begins = Arrives who now call; brought = NoMessage [] refl; groups = refl; first = refl })

@@ -10,7 +10,7 @@ use Rattle.schedule.specs.Groups.{Group, Each}
 use Rattle.schedule.specs.Drivers.{state_of}
 use Rattle.schedule.specs.Faults.{FailsAtItsStep}
 use Rattle.run_drivers.specs.Disks.{Disks, Slot}
-use Rattle.run_link.specs.PlayView.{IsOpened}
+use Rattle.run_link.specs.StateView.{IsOpened}
 use Rattle.run_link.specs.Moments.{Moment, Resting, Runs}
 use Rattle.justified.specs.Core.{Core}
 use Rattle.justified.specs.Steady.{state_in, drivers_of, SlotStands, AllSlots, SlotsSoFar}

@@ -24,11 +24,11 @@ use Rattle.driver_events.specs.Ruling.{is_fault}
 use Rattle.run_drivers.specs.Disks.{Disks, is_at, LinesUp, NoneIsThere, LineIsFull, IsLinedUp}
 use Rattle.driver_events.specs.Scene.{Scene}
 use Rattle.schedule.specs.declared.arrived.Arrived.{Arrived}
-use Rattle.run_link.specs.PlayView.{Play, PlaysNext, Advances, Stays, Goes, Turn, Takes, TakesOwed, TakesEnd, Posts, Complains, ComesToEnd, IsPlayedOut, IsStarved, noting, ruling_at}
+use Rattle.run_link.specs.StateView.{RunState, RunsEvent, Advances, Stays, Goes, Turn, Takes, TakesOwed, TakesEnd, Posts, Complains, ComesToEnd, IsRunOut, IsStarved, noting, ruling_at}
 use Rattle.run_link.specs.Waiting.{HasCalls, arrival_of}
 use Rattle.run_link.specs.Moments.{Resting, Moment, record_of, Step, Begins as StepBegins, Tells, Takes as StepTakes, Settles, Brings, BringsNone, Pays as StepPays, HandsCall, Replies as StepReplies, Runs, Starts, Then, Needs}
 use Rattle.run_link.proofs.Needing.{runs_end_needing}
-use Rattle.run_link.proofs.PlayLaws.{IsNoEnd, far_no_end}
+use Rattle.run_link.proofs.MovingLaws.{IsNoEnd, far_no_end}
 use Rattle.run_link.proofs.Running.{next_record}
 use Rattle.justified.specs.Core.{Core, story, PhaseIs, FollowsGroups}
 use Rattle.justified.specs.Seen.{with_brought, EventDone}
@@ -106,17 +106,17 @@ still_waits marks more same h =
     }
 
 -- an event that brings no message leaves marks of faults alone
-record Silent (b a : Play) : Type 0 where
+record Silent (b a : RunState) : Type 0 where
   event : Event
   marks : List Mark
   first : a.scene.noted.first ≡ Started (driver 1) ∷ []
   groups : a.scene.noted.groups ≡ (event, marks) ∷ b.scene.noted.groups
   same : without_faults (marks ++ marks_of b.scene.noted.groups) ≡ without_faults (marks_of b.scene.noted.groups)
 
-record_is : (p : Play) → p.scene.noted.first ≡ Started (driver 1) ∷ [] → record_of p ≡ without_faults (marks_of p.scene.noted.groups)
+record_is : (p : RunState) → p.scene.noted.first ≡ Started (driver 1) ∷ [] → record_of p ≡ without_faults (marks_of p.scene.noted.groups)
 record_is p first = ap without_faults (record_of_groups p.scene.noted.groups p.scene.noted.first first)
 
-silent : (b a : Play) → PlaysNext b None a → b.scene.noted.first ≡ Started (driver 1) ∷ [] → Silent b a
+silent : (b a : RunState) → RunsEvent b None a → b.scene.noted.first ≡ Started (driver 1) ∷ [] → Silent b a
 silent b a p first =
     let done : EventDone b.next b.owed b.told p.event b.scene None a.scene =
     event_done b.next b.owed b.told p.event b.scene None a.scene first p.plays in
@@ -129,11 +129,11 @@ silent b a p first =
       same = sym (record_is a first_now ∙ ap (λ (l : List Group). without_faults (marks_of l)) done.groups) ∙ next_record b a None p ∙ record_is b first;
     }
 
-silent_waits : (b a : Play) → Silent b a → MayWait (marks_of b.scene.noted.groups) → MayWait (marks_of a.scene.noted.groups)
+silent_waits : (b a : RunState) → Silent b a → MayWait (marks_of b.scene.noted.groups) → MayWait (marks_of a.scene.noted.groups)
 silent_waits b a s h =
     subst (λ (l : List Group). MayWait (marks_of l)) (sym s.groups) (still_waits s.marks (marks_of b.scene.noted.groups) s.same h)
 
-silent_none : (b a : Play) → Silent b a → running (marks_of b.scene.noted.groups) ≡ None → running (marks_of a.scene.noted.groups) ≡ None
+silent_none : (b a : RunState) → Silent b a → running (marks_of b.scene.noted.groups) ≡ None → running (marks_of a.scene.noted.groups) ≡ None
 silent_none b a s h = ap (λ (l : List Group). running (marks_of l)) s.groups ∙ still_none s.marks (marks_of b.scene.noted.groups) s.same h
 
 -- where no driver runs and the device isn't given up, a start is awaited
@@ -180,7 +180,7 @@ same_endpoint : (x y : Endpoint) → Some x ≡ Some y → x ≡ y
 same_endpoint x y is = cc
 
 -- a post that is refused for want of a driver: none runs
-refused_none : (minor drivers : ℕ) (p : Play) (o : Outbox) (to : Endpoint) (r : BlockRequest) → IsSaid (OnlyFollows drivers) p
+refused_none : (minor drivers : ℕ) (p : RunState) (o : Outbox) (to : Endpoint) (r : BlockRequest) → IsSaid (OnlyFollows drivers) p
     → MayPost minor (record_of p) o to r → is_at to p.scene.disks ≡ false → running (marks_of p.scene.noted.groups) ≡ None
 refused_none minor drivers p o to r said may none = by p.scene.watch.phase said.said.phase_is where
   groups : List Group
@@ -206,10 +206,10 @@ refused_none minor drivers p o to r said may none = by p.scene.watch.phase said.
   by GivenUp k = k.none_runs
 
 -- once a post was refused, until the next message, no driver runs
-abbrev StoppedRight : Outbox → Play → Type 0
+abbrev StoppedRight : Outbox → RunState → Type 0
 StoppedRight o p = o.stopped ≡ true → running (marks_of p.scene.noted.groups) ≡ None
 
-not_stopped : (o : Outbox) (p : Play) → o.stopped ≡ false → StoppedRight o p
+not_stopped : (o : Outbox) (p : RunState) → o.stopped ≡ false → StoppedRight o p
 not_stopped o p none is = absurd (clash (sym none ∙ is)) where
   clash : ◌≡◌ {A = Bool} false true → ⊥
   clash c = cc
@@ -234,20 +234,20 @@ mark_none n m begun still none =
     ap (λ (l : List Group). running (marks_of l)) (mark_groups n m begun)
     ∙ still (begun.group ++ marks_of begun.earlier) (sym (ap (λ (l : List Group). running (marks_of l)) begun.is) ∙ none)
 
--- events are played
-record FarSilent (b a : Play) : Type 0 where
+-- events are run
+record FarSilent (b a : RunState) : Type 0 where
   first : a.scene.noted.first ≡ Started (driver 1) ∷ []
   none : running (marks_of b.scene.noted.groups) ≡ None → running (marks_of a.scene.noted.groups) ≡ None
 
-far_silent : (b a : Play) (result : Option Incoming) → Advances b result a → result ≡ None → b.scene.noted.first ≡ Started (driver 1) ∷ []
+far_silent : (b a : RunState) (result : Option Incoming) → Advances b result a → result ≡ None → b.scene.noted.first ≡ Started (driver 1) ∷ []
     → FarSilent b a
 far_silent b _ _ Stays is first = record { first = first; none = λ h. h }
 far_silent b a _ (Goes m _ result before last) is first =
     let k : FarSilent b m = far_silent b m None before refl first in
-    let s : Silent m a = silent m a (subst (λ (r : Option Incoming). PlaysNext m r a) is last) k.first in
+    let s : Silent m a = silent m a (subst (λ (r : Option Incoming). RunsEvent m r a) is last) k.first in
     record { first = s.first; none = λ h. silent_none m a s (k.none h) }
 
-posts_stopped : (minor drivers : ℕ) (m : Moment) (to : Endpoint) (r : BlockRequest) (result : Result (Unit {0}) LinkRefusal) (d : Disks) (a : Play)
+posts_stopped : (minor drivers : ℕ) (m : Moment) (to : Endpoint) (r : BlockRequest) (result : Result (Unit {0}) LinkRefusal) (d : Disks) (a : RunState)
     → LinesUp to r m.play.scene.disks result d → MayPost minor (record_of m.play) m.outbox to r → HasRoom minor m
     → IsSaid (OnlyFollows drivers) m.play
     → (is_ok result ≡ false → a.scene.noted.groups ≡ m.play.scene.noted.groups)
@@ -258,14 +258,14 @@ posts_stopped minor drivers m to r _ _ a (LineIsFull there full) may room said s
     let few : length m.play.scene.disks.current.line < 32 = room to r may there in absurd (omega (arith, few, full))
 posts_stopped minor drivers m to r _ d a (IsLinedUp there few) may room said same is = not_stopped m.outbox a may.not_stopped is
 
-complaint_stopped : (fault : Bool) (b : Play) (about : Endpoint) → IsBegun b.scene.noted.groups
+complaint_stopped : (fault : Bool) (b : RunState) (about : Endpoint) → IsBegun b.scene.noted.groups
     → running (marks_of b.scene.noted.groups) ≡ None
     → running (marks_of (with_entry (entry.Complained about fault) b.scene.noted).groups) ≡ None
 complaint_stopped false b about begun none = none
 complaint_stopped true b about begun none =
     mark_none b.scene.noted (Fault about Complaint) begun (λ marks h. none_after_fault about (running marks) h) none
 
-tell_stopped : (minor drivers : ℕ) (m : Moment) (told : Told) (a : Play) → Turn m.play told a → took_nothing (told ∷ []) ≡ true
+tell_stopped : (minor drivers : ℕ) (m : Moment) (told : Told) (a : RunState) → Turn m.play told a → took_nothing (told ∷ []) ≡ true
     → MayAct minor (record_of m.play) m.outbox (AtLink told) → HasRoom minor m → IsBegun m.play.scene.noted.groups
     → IsSaid (OnlyFollows drivers) m.play
     → StoppedRight m.outbox m.play → StoppedRight (owed_after_act (AtLink told) (record_of m.play) m.outbox) a
@@ -283,7 +283,7 @@ tell_stopped minor drivers m _ a (Posts to r result d unended lines) nothing may
 tell_stopped minor drivers m _ _ (Complains about) nothing may room begun said h =
     λ is. complaint_stopped (is_fault (ruling_at about m.play.scene)) m.play about begun (h is)
 
-take_stopped : (m : Moment) (message : Incoming) (a : Play) → Turn m.play (Received message) a
+take_stopped : (m : Moment) (message : Incoming) (a : RunState) → Turn m.play (Received message) a
     → m.play.scene.noted.first ≡ Started (driver 1) ∷ []
     → StoppedRight m.outbox m.play → StoppedRight (owed_after_message message (record_of m.play) m.outbox) a
 take_stopped m message _ (Takes _ a far) first h =
@@ -291,8 +291,8 @@ take_stopped m message _ (Takes _ a far) first h =
     (message_lets message (record_of m.play) m.outbox (far_no_end m.play a (Some message) far))
 take_stopped m _ a (TakesOwed live owed told) first h = not_stopped (owed_after_message incoming.GaveUp (record_of m.play) m.outbox) a refl
 take_stopped m _ _ (TakesEnd a live ends) first h = by a ends where
-  by : (x : Play) → ComesToEnd m.play x → StoppedRight m.outbox x
-  by _ (IsPlayedOut x far spent) = λ is. (far_silent m.play x None far refl first).none (h is)
+  by : (x : RunState) → ComesToEnd m.play x → StoppedRight m.outbox x
+  by _ (IsRunOut x far spent) = λ is. (far_silent m.play x None far refl first).none (h is)
   by _ (IsStarved x far) = λ is. (far_silent m.play x None far refl first).none (h is)
 
 step_stopped : (minor drivers : ℕ) (m a : Moment) → Step minor m a → HasBegun m → HasRoom minor m → IsSaid (OnlyFollows drivers) m.play
@@ -309,7 +309,7 @@ step_stopped minor drivers m _ (BringsNone a between none next) begun room said 
     λ is. silent_none m.play a (silent m.play a next said.first) (h is)
 step_stopped minor drivers m a (StepPays between owed told) begun room said h = not_stopped a.outbox a.play refl
 step_stopped minor drivers m _ (HandsCall call a between paid_so hands) begun room said h =
-    λ is. ap (λ (p : Play). running (marks_of p.scene.noted.groups)) hands.after ∙ h is
+    λ is. ap (λ (p : RunState). running (marks_of p.scene.noted.groups)) hands.after ∙ h is
 step_stopped minor drivers m _ (StepReplies call reply doing live rest) begun room said h =
     λ is. mark_none m.play.scene.noted (Took call.who call.now call.call (answer_of reply)) (not_before m (busy_answering m.doing call doing) begun)
     (λ marks none. none) (h is)
@@ -341,7 +341,7 @@ stopped_or_open true false stopped others unissued is needed = absurd (clash is)
 stopped_or_open false started stopped others unissued is needed = refl
 
 -- so calls may wait
-waits_now : (drivers : ℕ) (p : Play) (o : Outbox) → IsSaid (OnlyFollows drivers) p → StoppedRight o p → needs_message (record_of p) o ≡ true
+waits_now : (drivers : ℕ) (p : RunState) (o : Outbox) → IsSaid (OnlyFollows drivers) p → StoppedRight o p → needs_message (record_of p) o ≡ true
     → gave_up (record_of p) ≡ false → MayWait (marks_of p.scene.noted.groups)
 waits_now drivers p o said stopped needed live =
     let marks : List Mark = marks_of p.scene.noted.groups in
@@ -366,7 +366,7 @@ EarlierCalled [] = Unit {0}
 EarlierCalled (g ∷ earlier) = EachGroup CallsAsDue earlier
 
 -- with the last event
-all_called : (out : List Arrival) (p : Play) → p.scene.noted.first ≡ Started (driver 1) ∷ [] → HasCalls out p
+all_called : (out : List Arrival) (p : RunState) → p.scene.noted.first ≡ Started (driver 1) ∷ [] → HasCalls out p
     → (reverse (map arrival_of p.queue) ++ out ≢ [] → MayWait (marks_of p.scene.noted.groups)) → EarlierCalled p.scene.noted.groups
     → EachGroup CallsAsDue p.scene.noted.groups
 all_called out p first calls waits h = by p.scene.noted.groups refl h where
@@ -387,12 +387,12 @@ all_called out p first calls waits h = by p.scene.noted.groups refl h where
   )
 
 -- where no call waits and none is answered, none is left
-none_left : (out : List Arrival) (p : Play) → out ≡ [] → p.queue ≡ [] → reverse (map arrival_of p.queue) ++ out ≢ []
+none_left : (out : List Arrival) (p : RunState) → out ≡ [] → p.queue ≡ [] → reverse (map arrival_of p.queue) ++ out ≢ []
     → MayWait (marks_of p.scene.noted.groups)
 none_left out p is none some = absurd (some (ap (λ (l : List Arrived). reverse (map arrival_of l) ++ out) none ∙ is))
 
--- an event is played
-next_called : (out : List Arrival) (b a : Play) (result : Option Incoming) (n : Noted) → PlaysNext b result a
+-- an event is run
+next_called : (out : List Arrival) (b a : RunState) (result : Option Incoming) (n : Noted) → RunsEvent b result a
     → n.groups ≡ (with_brought result a.scene.noted).groups
     → b.scene.noted.first ≡ Started (driver 1) ∷ [] → HasCalls out b
     → (reverse (map arrival_of b.queue) ++ out ≢ [] → MayWait (marks_of b.scene.noted.groups))
@@ -403,17 +403,17 @@ next_called out b a result n p groups first calls waits h =
     subst (λ (l : List Group). EarlierCalled l) (sym (groups ∙ done.groups)) (all_called out b first calls waits h)
 
 -- while a call is answered, and may wait
-record Called (out : List Arrival) (p : Play) : Type 0 where
+record Called (out : List Arrival) (p : RunState) : Type 0 where
   first : p.scene.noted.first ≡ Started (driver 1) ∷ []
   calls : HasCalls out p
   waits : MayWait (marks_of p.scene.noted.groups)
   earlier : EarlierCalled p.scene.noted.groups
 
-far_called : (out : List Arrival) (b a : Play) (result : Option Incoming) → Advances b result a → result ≡ None → Called out b
+far_called : (out : List Arrival) (b a : RunState) (result : Option Incoming) → Advances b result a → result ≡ None → Called out b
     → Called out a
 far_called out b _ _ Stays is h = h
 far_called out b a _ (Goes m _ result before last) is h =
-    let next : PlaysNext m None a = subst (λ (r : Option Incoming). PlaysNext m r a) is last in
+    let next : RunsEvent m None a = subst (λ (r : Option Incoming). RunsEvent m r a) is last in
     let k : Called out m = far_called out b m None before refl h in
     let s : Silent m a = silent m a next k.first in
     record {
@@ -423,13 +423,13 @@ far_called out b a _ (Goes m _ result before last) is h =
       earlier = next_called out m a None a.scene.noted next refl k.first k.calls (λ some. k.waits) k.earlier;
     }
 
-far_some_called : (out : List Arrival) (b a : Play) (result : Option Incoming) (message : Incoming) → Advances b result a
+far_some_called : (out : List Arrival) (b a : RunState) (result : Option Incoming) (message : Incoming) → Advances b result a
     → result ≡ Some message → Called out b
     → EarlierCalled (noting (entry.Received message) a).scene.noted.groups
 far_some_called out b _ _ message Stays is h = cc
 far_some_called out b a _ message (Goes m _ result before last) is h =
     let k : Called out m = far_called out b m None before refl h in
-    next_called out m a (Some message) (with_entry (entry.Received message) a.scene.noted) (subst (λ (r : Option Incoming). PlaysNext m r a) is last) refl k.first k.calls
+    next_called out m a (Some message) (with_entry (entry.Received message) a.scene.noted) (subst (λ (r : Option Incoming). RunsEvent m r a) is last) refl k.first k.calls
     (λ some. k.waits) k.earlier
 
 -- a mark more in the last group
@@ -447,7 +447,7 @@ complaint_called : (n : Noted) (about : Endpoint) (fault : Bool) → IsBegun n.g
 complaint_called n about true begun h = mark_called n (Fault about Complaint) begun h
 complaint_called n about false begun h = h
 
-tell_called : (b a : Play) (told : Told) → Turn b told a → took_nothing (told ∷ []) ≡ true → IsBegun b.scene.noted.groups
+tell_called : (b a : RunState) (told : Told) → Turn b told a → took_nothing (told ∷ []) ≡ true → IsBegun b.scene.noted.groups
     → EarlierCalled b.scene.noted.groups
     → EarlierCalled a.scene.noted.groups
 tell_called b _ _ (Takes message a far) nothing begun h = cc
@@ -456,14 +456,14 @@ tell_called b _ _ (TakesEnd a live ends) nothing begun h = cc
 tell_called b _ _ (Posts to r result d unended lines) nothing begun h = posts_called b.scene.noted to r (is_ok result) begun h
 tell_called b _ _ (Complains about) nothing begun h = complaint_called b.scene.noted about (is_fault (ruling_at about b.scene)) begun h
 
-take_called : (out : List Arrival) (b a : Play) (message : Incoming) → Turn b (Received message) a → IsBegun b.scene.noted.groups
+take_called : (out : List Arrival) (b a : RunState) (message : Incoming) → Turn b (Received message) a → IsBegun b.scene.noted.groups
     → Called out b
     → EarlierCalled a.scene.noted.groups
 take_called out b _ message (Takes _ a far) begun h = far_some_called out b a (Some message) message far refl h
 take_called out b _ _ (TakesOwed live owed first) begun h = mark_called b.scene.noted GaveUp begun h.earlier
 take_called out b _ _ (TakesEnd a live ends) begun h = by a ends where
-  by : (x : Play) → ComesToEnd b x → EarlierCalled x.scene.noted.groups
-  by _ (IsPlayedOut x far spent) = (far_called out b x None far refl h).earlier
+  by : (x : RunState) → ComesToEnd b x → EarlierCalled x.scene.noted.groups
+  by _ (IsRunOut x far spent) = (far_called out b x None far refl h).earlier
   by _ (IsStarved x far) = (far_called out b x None far refl h).earlier
 
 record LeavesStand (drivers : ℕ) (m : Moment) : Type 0 where
@@ -494,7 +494,7 @@ step_called minor drivers m _ (BringsNone a between none next) k =
 step_called minor drivers m _ (StepPays between owed told) k =
     mark_called m.play.scene.noted GaveUp (not_owed_before m owed k.begun) k.earlier
 step_called minor drivers m _ (HandsCall call a between paid_so hands) k =
-    subst (λ (p : Play). EarlierCalled p.scene.noted.groups) (sym hands.after) k.earlier
+    subst (λ (p : RunState). EarlierCalled p.scene.noted.groups) (sym hands.after) k.earlier
 step_called minor drivers m _ (StepReplies call reply doing live rest) k =
     mark_called m.play.scene.noted (Took call.who call.now call.call (answer_of reply)) (not_before m (busy_answering m.doing call doing) k.begun) k.earlier
 

@@ -15,7 +15,7 @@ use Rattle.schedule.specs.Faults.{HasNotFailed}
 use Rattle.schedule.specs.Noted.{marks_in}
 use Rattle.run_drivers.specs.Disks.{Disks, Slot, opened_disks}
 use Rattle.driver_events.specs.Scene.{Scene}
-use Rattle.run_link.specs.PlayView.{Play, IsOpened, first_noted}
+use Rattle.run_link.specs.StateView.{RunState, IsOpened, first_noted}
 use Rattle.run_link.specs.Moments.{Moment, Resting, Runs}
 use Rattle.justified.specs.Core.{Core, Story, story, PhaseIs, FollowsGroups}
 use Rattle.justified.specs.Seen.{core_at}
@@ -27,7 +27,7 @@ use Rattle.justified.proofs.AnswerLaws.{answered_kept}
 use Rattle.justified.proofs.ExitLaws.{exits_kept, length_more}
 use Rattle.justified.proofs.DriverLaws.{drivers_kept}
 use Rattle.justified.specs.Said.{core_of, IsSaid, HasBegun, StandsBefore, OverCalm}
-use Rattle.justified.specs.RunLaws.{PlayJustified, RunsAreJustified}
+use Rattle.justified.specs.RunLaws.{WholeJustified, RunsAreJustified}
 use Rattle.justified.proofs.SaidLaws.{runs_said}
 
 -- the run before its first event
@@ -42,7 +42,7 @@ opened_scene media rules drivers first rest = record {
   noted = first_noted;
 }
 
-pub opened_said : (Said : ℕ → List Group → Core → Type 0) (media : MediaState) (rules : Policy) (supply : List DriverState) (events : List Event) (p : Play)
+pub opened_said : (Said : ℕ → List Group → Core → Type 0) (media : MediaState) (rules : Policy) (supply : List DriverState) (events : List Event) (p : RunState)
     → (o : IsOpened media rules (new_watch (length supply)) supply events p)
     → Said 0 [] (core_at (opened_scene media rules (length supply) o.scene.first o.scene.rest) false false) → IsSaid Said p
 opened_said Said media rules supply events p o said =

@@ -24,7 +24,7 @@ use Rattle.driver_events.specs.declared.ruling.Ruling.TheVariants as ruling
 use Rattle.run_drivers.specs.Disks.{Disks, LinesUp, NoneIsThere, LineIsFull, IsLinedUp}
 use Rattle.driver_events.specs.Scene.{Scene}
 use Rattle.schedule.specs.declared.arrived.Arrived.{Arrived}
-use Rattle.run_link.specs.PlayView.{Play, IsOpened, first_noted, PlaysNext, Advances, Stays, Goes, Turn, Takes, TakesOwed, TakesEnd, Posts, Complains, ComesToEnd, IsPlayedOut, IsStarved, Still, Further, HandsEvent, HandsNone, HandsOwed, noting, paid, posted, complained, ruling_at}
+use Rattle.run_link.specs.StateView.{RunState, IsOpened, first_noted, RunsEvent, Advances, Stays, Goes, Turn, Takes, TakesOwed, TakesEnd, Posts, Complains, ComesToEnd, IsRunOut, IsStarved, Still, Further, HandsEvent, HandsNone, HandsOwed, noting, paid, posted, complained, ruling_at}
 use Rattle.run_link.specs.Waiting.{HasCalls, arrival_of}
 use Rattle.run_link.specs.Moments.{Doing, Resting, Hearing, Answering, is_busy, Moment, Step, Begins as StepBegins, Tells, Takes as StepTakes, Settles, Brings, BringsNone, Pays as StepPays, HandsCall, Replies as StepReplies, Runs, Starts, Then}
 use Rattle.run_link.proofs.Waits.{servers_hand_none, asides_hand_none, one_is_handed_out, it_is_answered}
@@ -37,7 +37,7 @@ use Rattle.justified.proofs.SaidLaws.{complained_as, complained_is, may_complain
 use Rattle.justified.proofs.OpeningLaws.{calm_before}
 
 -- with the last event
-all_ordered : (out : List Arrival) (p : Play) → p.scene.noted.first ≡ Started (driver 1) ∷ [] → HasCalls out p → EarlierOrdered p.scene.noted.groups
+all_ordered : (out : List Arrival) (p : RunState) → p.scene.noted.first ≡ Started (driver 1) ∷ [] → HasCalls out p → EarlierOrdered p.scene.noted.groups
     → EachGroup OrderedAsDue p.scene.noted.groups
 all_ordered out p first calls h = by p.scene.noted.groups refl h where
   last : arrived p.scene.noted.groups ≡ (reverse (map arrival_of p.queue) ++ out) ++ taken (marks_of p.scene.noted.groups)
@@ -56,13 +56,13 @@ all_ordered out p first calls h = by p.scene.noted.groups refl h where
   )
 
 -- what stands at the link
-record Orders (out : List Arrival) (p : Play) : Type 0 where
+record Orders (out : List Arrival) (p : RunState) : Type 0 where
   first : p.scene.noted.first ≡ Started (driver 1) ∷ []
   calls : HasCalls out p
   earlier : EarlierOrdered p.scene.noted.groups
 
--- an event is played
-next_orders : (out : List Arrival) (b a : Play) (result : Option Incoming) (n : Noted) → PlaysNext b result a → n.groups ≡ (with_brought result a.scene.noted).groups
+-- an event is run
+next_orders : (out : List Arrival) (b a : RunState) (result : Option Incoming) (n : Noted) → RunsEvent b result a → n.groups ≡ (with_brought result a.scene.noted).groups
     → n.first ≡ (with_brought result a.scene.noted).first → Orders out b → (n.first ≡ Started (driver 1) ∷ []) × EarlierOrdered n.groups
 next_orders out b a result n p groups first h =
     let done : EventDone b.next b.owed b.told p.event b.scene result a.scene = event_done b.next b.owed b.told p.event b.scene result a.scene h.first p.plays in (
@@ -70,25 +70,25 @@ next_orders out b a result n p groups first h =
       subst (λ (l : List Group). EarlierOrdered l) (sym (groups ∙ done.groups)) (all_ordered out b h.first h.calls h.earlier),
     )
 
-next_none_orders : (out : List Arrival) (b a : Play) → PlaysNext b None a → Orders out b → Orders out a
+next_none_orders : (out : List Arrival) (b a : RunState) → RunsEvent b None a → Orders out b → Orders out a
 next_none_orders out b a next h =
     let k : (a.scene.noted.first ≡ Started (driver 1) ∷ []) × EarlierOrdered a.scene.noted.groups = next_orders out b a None a.scene.noted next refl refl h in
     record { first = k.0; calls = asides_hand_none out b a (Ok None) (HandsNone a next) h.calls; earlier = k.1 }
 
-far_orders : (out : List Arrival) (b a : Play) (result : Option Incoming) → Advances b result a → result ≡ None → Orders out b → Orders out a
+far_orders : (out : List Arrival) (b a : RunState) (result : Option Incoming) → Advances b result a → result ≡ None → Orders out b → Orders out a
 far_orders out b _ _ Stays is h = h
 far_orders out b a _ (Goes m _ result before last) is h =
-    next_none_orders out m a (subst (λ (r : Option Incoming). PlaysNext m r a) is last) (far_orders out b m None before refl h)
+    next_none_orders out m a (subst (λ (r : Option Incoming). RunsEvent m r a) is last) (far_orders out b m None before refl h)
 
-far_some_orders : (out : List Arrival) (b a : Play) (result : Option Incoming) (message : Incoming) → Advances b result a → result ≡ Some message → Orders out b
+far_some_orders : (out : List Arrival) (b a : RunState) (result : Option Incoming) (message : Incoming) → Advances b result a → result ≡ Some message → Orders out b
     → ((noting (entry.Received message) a).scene.noted.first ≡ Started (driver 1) ∷ []) × EarlierOrdered (noting (entry.Received message) a).scene.noted.groups
 far_some_orders out b _ _ message Stays is h = cc
 far_some_orders out b a _ message (Goes m _ result before last) is h =
-    next_orders out m a (Some message) (with_entry (entry.Received message) a.scene.noted) (subst (λ (r : Option Incoming). PlaysNext m r a) is last) refl refl
+    next_orders out m a (Some message) (with_entry (entry.Received message) a.scene.noted) (subst (λ (r : Option Incoming). RunsEvent m r a) is last) refl refl
     (far_orders out b m None before refl h)
 
 -- a mark more in the last group
-mark_orders : (p : Play) (n : Noted) (m : Mark) → IsBegun p.scene.noted.groups → n.groups ≡ (with_mark m p.scene.noted).groups
+mark_orders : (p : RunState) (n : Noted) (m : Mark) → IsBegun p.scene.noted.groups → n.groups ≡ (with_mark m p.scene.noted).groups
     → n.first ≡ (with_mark m p.scene.noted).first → p.scene.noted.first ≡ Started (driver 1) ∷ [] → EarlierOrdered p.scene.noted.groups
     → (n.first ≡ Started (driver 1) ∷ []) × EarlierOrdered n.groups
 mark_orders p n m begun groups first was h =
@@ -99,35 +99,35 @@ mark_orders p n m begun groups first was h =
       subst (λ (l : List Group). EarlierOrdered l) (sym (groups ∙ g)) (subst (λ (l : List Group). EarlierOrdered l) begun.is h),
     )
 
-abbrev FirstOrdered : Play → Type 0
+abbrev FirstOrdered : RunState → Type 0
 FirstOrdered p = (p.scene.noted.first ≡ Started (driver 1) ∷ []) × EarlierOrdered p.scene.noted.groups
 
-posts_order : (b : Play) (to : Endpoint) (r : BlockRequest) (result : Result (Unit {0}) LinkRefusal) (d : Disks) → LinesUp to r b.scene.disks result d
+posts_order : (b : RunState) (to : Endpoint) (r : BlockRequest) (result : Result (Unit {0}) LinkRefusal) (d : Disks) → LinesUp to r b.scene.disks result d
     → IsBegun b.scene.noted.groups → FirstOrdered b → FirstOrdered (posted to r (is_ok result) d b)
 posts_order b to r _ _ (NoneIsThere none) begun h = h
 posts_order b to r _ _ (LineIsFull there full) begun h = h
 posts_order b to r _ d (IsLinedUp there few) begun h = mark_orders b (posted to r true d b).scene.noted (Issued r to) begun refl refl h.0 h.1
 
-complaint_orders : (b : Play) (about : Endpoint) (u : Ruling) → IsBegun b.scene.noted.groups → FirstOrdered b → FirstOrdered (complained_as u about b)
+complaint_orders : (b : RunState) (about : Endpoint) (u : Ruling) → IsBegun b.scene.noted.groups → FirstOrdered b → FirstOrdered (complained_as u about b)
 complaint_orders b about ruling.Ignored begun h = h
 complaint_orders b about ruling.Fault begun h = mark_orders b (complained_as ruling.Fault about b).scene.noted (Fault about Complaint) begun refl refl h.0 h.1
 complaint_orders b about ruling.GivesUp begun h = mark_orders b (complained_as ruling.GivesUp about b).scene.noted (Fault about Complaint) begun refl refl h.0 h.1
 
 -- a turn
-turn_orders : (out : List Arrival) (b a : Play) (told : Told) → Turn b told a → ((about : Endpoint) → told ≡ Complained about → b.over ≡ false)
+turn_orders : (out : List Arrival) (b a : RunState) (told : Told) → Turn b told a → ((about : Endpoint) → told ≡ Complained about → b.over ≡ false)
     → IsBegun b.scene.noted.groups → Orders out b → FirstOrdered a
 turn_orders out b _ _ (Takes message a far) live begun h = far_some_orders out b a (Some message) message far refl h
 turn_orders out b _ _ (TakesOwed still owes first) live begun h =
     mark_orders b (with_entry (entry.Received incoming.GaveUp) b.scene.noted) GaveUp begun refl refl h.first h.earlier
 turn_orders out b _ _ (TakesEnd a still ends) live begun h = end_orders a ends where
-  end_orders : (x : Play) → ComesToEnd b x → FirstOrdered x
-  end_orders _ (IsPlayedOut x far spent) = let k : Orders out x = far_orders out b x None far refl h in (k.first, k.earlier)
+  end_orders : (x : RunState) → ComesToEnd b x → FirstOrdered x
+  end_orders _ (IsRunOut x far spent) = let k : Orders out x = far_orders out b x None far refl h in (k.first, k.earlier)
   end_orders _ (IsStarved x far) = let k : Orders out x = far_orders out b x None far refl h in (k.first, k.earlier)
 turn_orders out b _ _ (Posts to r result d unended lines) live begun h = posts_order b to r result d lines begun (h.first, h.earlier)
 turn_orders out b _ _ (Complains about) live begun h =
-    subst (λ (p : Play). FirstOrdered p) (sym (complained_is b about (live about refl))) (complaint_orders b about (ruling_at about b.scene) begun (h.first, h.earlier))
+    subst (λ (p : RunState). FirstOrdered p) (sym (complained_is b about (live about refl))) (complaint_orders b about (ruling_at about b.scene) begun (h.first, h.earlier))
 
-turned : (out : List Arrival) (b a : Play) (told : Told) → Turn b told a → ((about : Endpoint) → told ≡ Complained about → b.over ≡ false)
+turned : (out : List Arrival) (b a : RunState) (told : Told) → Turn b told a → ((about : Endpoint) → told ≡ Complained about → b.over ≡ false)
     → IsBegun b.scene.noted.groups → Orders out b → Orders out a
 turned out b a told turn live begun h =
     let k : FirstOrdered a = turn_orders out b a told turn live begun h in
@@ -165,13 +165,13 @@ step_orders minor m _ (StepPays between owed told) calm begun h =
 step_orders minor m _ (HandsCall call a between paid_so hands) calm begun h =
     let k : Orders [] m.play = subst (λ (l : List Arrival). Orders l m.play) (resting m.doing between.rests) h in
     record {
-      first = ap (λ (p : Play). p.scene.noted.first) hands.after ∙ k.first;
+      first = ap (λ (p : RunState). p.scene.noted.first) hands.after ∙ k.first;
       calls = one_is_handed_out m.play a call hands k.calls;
-      earlier = subst (λ (p : Play). EarlierOrdered p.scene.noted.groups) (sym hands.after) k.earlier;
+      earlier = subst (λ (p : RunState). EarlierOrdered p.scene.noted.groups) (sym hands.after) k.earlier;
     }
 step_orders minor m _ (StepReplies call reply doing live rest) calm begun h =
     let k : Orders (arrival_of call ∷ []) m.play = subst (λ (l : List Arrival). Orders l m.play) (ap answering doing) h in
-    let a : Play = noting (entry.Took call.who call.now call.call reply) m.play in
+    let a : RunState = noting (entry.Took call.who call.now call.call reply) m.play in
     let n : FirstOrdered a = mark_orders m.play a.scene.noted (Took call.who call.now call.call (answer_of reply))
     (not_before m (busy_answering m.doing call doing) begun) refl refl k.first k.earlier in
     record { first = n.0; calls = it_is_answered m.play a call reply refl k.calls; earlier = n.1 }

@@ -26,7 +26,7 @@ use Rattle.driver_events.specs.declared.ruling.Ruling.{Ruling}
 use Rattle.run_drivers.specs.Disks.{Disks, LinesUp}
 use Rattle.driver_events.specs.Kept.{with_next}
 use Rattle.driver_events.proofs.Keeping.{events_note_aside}
-use Rattle.run_link.specs.PlayView.{Play, begun, PlaysNext, Advances, Stays, Goes, Turn, Takes, TakesOwed, TakesEnd, Posts, Complains, ComesToEnd, IsPlayedOut, IsStarved, noting, paid, ended, posted, complained}
+use Rattle.run_link.specs.StateView.{RunState, begun, RunsEvent, Advances, Stays, Goes, Turn, Takes, TakesOwed, TakesEnd, Posts, Complains, ComesToEnd, IsRunOut, IsStarved, noting, paid, ended, posted, complained}
 use Rattle.run_link.specs.Moments.{is_busy, Moment, record_of, Step, Begins as StepBegins, Tells, Takes as StepTakes, Settles, Brings, BringsNone, Pays as StepPays, HandsCall, Replies as StepReplies, Runs, Starts, Then}
 use Rattle.justified.specs.Core.{Core}
 use Rattle.justified.specs.Seen.{core_at, with_brought, EventDone}
@@ -94,7 +94,7 @@ pub record IsKeptOwing (Said : ℕ → List Group → Core → Outbox → Bool �
       → o'.never_issued ≡ o.never_issued → Said place ((event, group) ∷ earlier) c o t → Said place ((event, marks ++ group) ∷ earlier) a o' t
 
 -- of what stands at the link, with what is owed
-pub record IsOwed (Said : ℕ → List Group → Core → Outbox → Bool → Type 0) (p : Play) (o : Outbox) (t : Bool) : Type 0 where
+pub record IsOwed (Said : ℕ → List Group → Core → Outbox → Bool → Type 0) (p : RunState) (o : Outbox) (t : Bool) : Type 0 where
   pub first : p.scene.noted.first ≡ Started (driver 1) ∷ []
   pub said : Said p.next p.scene.noted.groups (core_of p) o t
 
@@ -102,7 +102,7 @@ pub record IsOwed (Said : ℕ → List Group → Core → Outbox → Bool → Ty
 abbrev pub at_work : Moment → Bool
 at_work m = is_busy m.doing && not m.play.over
 
-pub served_is : (p : Play) → p.scene.noted.first ≡ Started (driver 1) ∷ [] → record_of p ≡ served p.scene.noted.groups
+pub served_is : (p : RunState) → p.scene.noted.first ≡ Started (driver 1) ∷ [] → record_of p ≡ served p.scene.noted.groups
 served_is p first = ap without_faults (record_of_groups p.scene.noted.groups p.scene.noted.first first)
 
 -- the record with what an event brought
@@ -114,10 +114,10 @@ brought_same : (result : Option Incoming) (marks : List Mark) → without_faults
 brought_same None marks = refl
 brought_same (Some m) marks = leave_same_mark m marks
 
-next_record : (b a : Play) (result : Option Incoming) → PlaysNext b result a → record_of a ≡ record_of b
+next_record : (b a : RunState) (result : Option Incoming) → RunsEvent b result a → record_of a ≡ record_of b
 next_record b a result p = (events_note_aside b.next p.event (begun p.event b.scene) a.scene result p.plays).marks
 
-done_record : (b a : Play) (result : Option Incoming) (p : PlaysNext b result a) → b.scene.noted.first ≡ Started (driver 1) ∷ []
+done_record : (b a : RunState) (result : Option Incoming) (p : RunsEvent b result a) → b.scene.noted.first ≡ Started (driver 1) ∷ []
     → (done : EventDone b.next b.owed b.told p.event b.scene result a.scene)
     → served ((p.event, done.marks) ∷ b.scene.noted.groups) ≡ with_next result (served b.scene.noted.groups)
 done_record b a result p first done =
@@ -128,7 +128,7 @@ done_record b a result p first done =
     ∙ brought_same result (marks_in a.scene.noted)
     ∙ ap (λ (l : List Mark). with_next result l) (next_record b a result p ∙ served_is b first)
 
-rest_there : (p : Play) (o : Outbox) → p.scene.noted.first ≡ Started (driver 1) ∷ [] → IsAtRest (record_of p) o → IsAtRest (served p.scene.noted.groups) o
+rest_there : (p : RunState) (o : Outbox) → p.scene.noted.first ≡ Started (driver 1) ∷ [] → IsAtRest (record_of p) o → IsAtRest (served p.scene.noted.groups) o
 rest_there p o first rest = subst (λ (l : List Mark). IsAtRest l o) (served_is p first) rest
 
 rest_calm : (marks : List Mark) (o : Outbox) → IsAtRest marks o → IsCalm marks o
@@ -139,11 +139,11 @@ due_calm marks o about is = λ none. absurd (clash (sym none ∙ is)) where
   clash : ◌≡◌ {A = Option Endpoint} None (Some about) → ⊥
   clash same = cc
 
-some_live : (b a : Play) (result : Option Incoming) (message : Incoming) → Advances b result a → result ≡ Some message → a.over ≡ false
+some_live : (b a : RunState) (result : Option Incoming) (message : Incoming) → Advances b result a → result ≡ Some message → a.over ≡ false
 some_live b _ _ message Stays is = cc
 some_live b a _ message (Goes m _ result before last) is = last.over ∙ last.live
 
-tells_over : (b a : Play) (told : Told) → Turn b told a → took_nothing (told ∷ []) ≡ true → a.over ≡ b.over
+tells_over : (b a : RunState) (told : Told) → Turn b told a → took_nothing (told ∷ []) ≡ true → a.over ≡ b.over
 tells_over b _ _ (Takes message a far) nothing = cc
 tells_over b _ _ (TakesOwed live owed first) nothing = cc
 tells_over b _ _ (TakesEnd a live ends) nothing = cc
@@ -152,14 +152,14 @@ tells_over b _ _ (Complains about) nothing = refl
 
 module _ (Said : ℕ → List Group → Core → Outbox → Bool → Type 0) (kept : IsKeptOwing Said) where
   -- at rest it doesn't matter what the server does
-  rests_owed : (p : Play) (o : Outbox) (t t' : Bool) → IsAtRest (record_of p) o → IsOwed Said p o t → IsOwed Said p o t'
+  rests_owed : (p : RunState) (o : Outbox) (t t' : Bool) → IsAtRest (record_of p) o → IsOwed Said p o t → IsOwed Said p o t'
   rests_owed p o t t' rest h = record {
     first = h.first;
     said = kept.rests p.next p.scene.noted.groups (core_of p) o t t' (rest_there p o h.first rest) h.said;
   }
 
-  -- an event is played, and the message that it brings is noted
-  next_owed : (b a : Play) (result : Option Incoming) (n : Noted) (o : Outbox) → PlaysNext b result a → n.groups ≡ (with_brought result a.scene.noted).groups
+  -- an event is run, and the message that it brings is noted
+  next_owed : (b a : RunState) (result : Option Incoming) (n : Noted) (o : Outbox) → RunsEvent b result a → n.groups ≡ (with_brought result a.scene.noted).groups
       → n.first ≡ (with_brought result a.scene.noted).first → n.posts ≡ a.scene.noted.posts → IsAtRest (record_of b) o → IsOwed Said b o true
       → IsOwed Said (record a { scene = record (a.scene) { noted = n } }) (owed_with result (record_of b) o) true
   next_owed b a result n o p groups first posts rest h =
@@ -179,33 +179,33 @@ module _ (Said : ℕ → List Group → Core → Outbox → Bool → Type 0) (ke
             (subst (λ (w : Bool). Said (b.next + 1) ((p.event, done.marks) ∷ old) (core_at a.scene b.owed w) now true) (sym p.told) after))));
       }
 
-  -- what holds while events are played
-  record Far (b a : Play) (o : Outbox) : Type 0 where
+  -- what holds while events are run
+  record Far (b a : RunState) (o : Outbox) : Type 0 where
     owed : IsOwed Said a o true
     same : record_of a ≡ record_of b
 
-  far_none : (b a : Play) (result : Option Incoming) (o : Outbox) → Advances b result a → result ≡ None → IsAtRest (record_of b) o → IsOwed Said b o true → Far b a o
+  far_none : (b a : RunState) (result : Option Incoming) (o : Outbox) → Advances b result a → result ≡ None → IsAtRest (record_of b) o → IsOwed Said b o true → Far b a o
   far_none b _ _ o Stays is rest h = record { owed = h; same = refl }
   far_none b a _ o (Goes m _ result before last) is rest h =
-      let next : PlaysNext m None a = subst (λ (r : Option Incoming). PlaysNext m r a) is last in
+      let next : RunsEvent m None a = subst (λ (r : Option Incoming). RunsEvent m r a) is last in
       let k : Far b m o = far_none b m None o before refl rest h in
       record {
         owed = next_owed m a None a.scene.noted o next refl refl refl (subst (λ (l : List Mark). IsAtRest l o) (sym k.same) rest) k.owed;
         same = next_record m a None next ∙ k.same;
       }
 
-  far_some : (b a : Play) (result : Option Incoming) (message : Incoming) (o : Outbox) → Advances b result a → result ≡ Some message → IsAtRest (record_of b) o
+  far_some : (b a : RunState) (result : Option Incoming) (message : Incoming) (o : Outbox) → Advances b result a → result ≡ Some message → IsAtRest (record_of b) o
       → IsOwed Said b o true → IsOwed Said (noting (entry.Received message) a) (owed_after_message message (record_of b) o) true
   far_some b _ _ message o Stays is rest h = cc
   far_some b a _ message o (Goes m _ result before last) is rest h =
-      let next : PlaysNext m (Some message) a = subst (λ (r : Option Incoming). PlaysNext m r a) is last in
+      let next : RunsEvent m (Some message) a = subst (λ (r : Option Incoming). RunsEvent m r a) is last in
       let k : Far b m o = far_none b m None o before refl rest h in
       subst (λ (l : List Mark). IsOwed Said (noting (entry.Received message) a) (owed_after_message message l o) true) k.same
       (next_owed m a (Some message) (with_entry (entry.Received message) a.scene.noted) o next refl refl refl
       (subst (λ (l : List Mark). IsAtRest l o) (sym k.same) rest) k.owed)
 
   -- a mark more in the last group
-  marked : (b : Play) (c : Core) (m : Mark) (n : Noted) (o o' : Outbox) (t : Bool) (begun_is : IsBegun b.scene.noted.groups)
+  marked : (b : RunState) (c : Core) (m : Mark) (n : Noted) (o o' : Outbox) (t : Bool) (begun_is : IsBegun b.scene.noted.groups)
       → n.groups ≡ (with_mark m b.scene.noted).groups → n.first ≡ (with_mark m b.scene.noted).first
       → ((event : Event) (group : List Mark) (earlier : List Group) → record_of b ≡ served ((event, group) ∷ earlier)
       → Said b.next ((event, group) ∷ earlier) (core_of b) o t → Said b.next ((event, m ∷ group) ∷ earlier) c o' t)
@@ -222,7 +222,7 @@ module _ (Said : ℕ → List Group → Core → Outbox → Bool → Type 0) (ke
       )
 
   -- one that no post leaves
-  quietly_marked : (b : Play) (c : Core) (m : Mark) (n : Noted) (o o' : Outbox) (t : Bool) (begun_is : IsBegun b.scene.noted.groups)
+  quietly_marked : (b : RunState) (c : Core) (m : Mark) (n : Noted) (o o' : Outbox) (t : Bool) (begun_is : IsBegun b.scene.noted.groups)
       → n.groups ≡ (with_mark m b.scene.noted).groups → n.first ≡ (with_mark m b.scene.noted).first → Adds (core_of b) (m ∷ []) c → is_quiet (m ∷ []) ≡ true
       → IsCalm (record_of b) o → o'.unposted ≡ o.unposted → o'.never_issued ≡ o.never_issued
       → IsOwed Said b o t → (n.first ≡ Started (driver 1) ∷ []) × Said b.next n.groups c o' t
@@ -231,7 +231,7 @@ module _ (Said : ℕ → List Group → Core → Outbox → Bool → Type 0) (ke
       (subst (λ (l : List Mark). IsCalm l o) same calm) unposted never was) h
 
   -- that the device was given up is told
-  paid_owed : (b : Play) (n : Noted) (o : Outbox) (t : Bool) → n.groups ≡ (with_mark GaveUp b.scene.noted).groups → n.first ≡ (with_mark GaveUp b.scene.noted).first
+  paid_owed : (b : RunState) (n : Noted) (o : Outbox) (t : Bool) → n.groups ≡ (with_mark GaveUp b.scene.noted).groups → n.first ≡ (with_mark GaveUp b.scene.noted).first
       → n.posts ≡ b.scene.noted.posts → b.owed ≡ true → IsAtRest (record_of b) o → IsBegun b.scene.noted.groups → IsOwed Said b o t
       → IsOwed Said (record (paid b) { scene = record (b.scene) { noted = n } }) (record o { stopped = false }) t
   paid_owed b n o t groups first posts owed rest begun h =
@@ -243,11 +243,11 @@ module _ (Said : ℕ → List Group → Core → Outbox → Bool → Type 0) (ke
       }
 
   -- a post
-  posts_owed : (minor : ℕ) (b : Play) (to : Endpoint) (r : BlockRequest) (result : Result (Unit {0}) LinkRefusal) (d : Disks) (o : Outbox) (t : Bool)
+  posts_owed : (minor : ℕ) (b : RunState) (to : Endpoint) (r : BlockRequest) (result : Result (Unit {0}) LinkRefusal) (d : Disks) (o : Outbox) (t : Bool)
       → LinesUp to r b.scene.disks result d → MayPost minor (record_of b) o to r → IsBegun b.scene.noted.groups → IsOwed Said b o t
       → IsOwed Said (posted to r (is_ok result) d b) (owed_after_act (AtLink (Posted to r (is_ok result))) (record_of b) o) t
   posts_owed minor b to r (Ok tt) d o t lines may begun h =
-      let a : Play = posted to r true d b in
+      let a : RunState = posted to r true d b in
       let k : (a.scene.noted.first ≡ Started (driver 1) ∷ []) × Said b.next a.scene.noted.groups (core_of a) (with_posted r o) t =
       marked b (core_of a) (Issued r to) a.scene.noted o (with_posted r o) t begun refl refl
       (λ event group earlier same was. kept.posts b.next event group earlier (core_of b) d to r o t minor
@@ -260,7 +260,7 @@ module _ (Said : ℕ → List Group → Core → Outbox → Bool → Type 0) (ke
   }
 
   -- a complaint
-  complains_as : (b : Play) (about : Endpoint) (ends : Option Bool) (o : Outbox) (t : Bool)
+  complains_as : (b : RunState) (about : Endpoint) (ends : Option Bool) (o : Outbox) (t : Bool)
       → AtReport b.scene.policy b.scene.watch about b.scene.tick ends (on b.scene.policy b.scene.watch (policy.Complaint about b.scene.tick)).0
       → o.complaint ≡ Some about → IsBegun b.scene.noted.groups → IsOwed Said b o t
       → IsOwed Said (complained_as (ruling_for ends) about b) (record o { complaint = None }) t
@@ -274,29 +274,29 @@ module _ (Said : ℕ → List Group → Core → Outbox → Bool → Type 0) (ke
             (due_calm (served ((begun.event, begun.group) ∷ begun.earlier)) o about due) refl refl was);
       }
   complains_as b about (Some true) o t report due begun h =
-      let a : Play = complained_as (ruling_for (Some true)) about b in
+      let a : RunState = complained_as (ruling_for (Some true)) about b in
       let k : (a.scene.noted.first ≡ Started (driver 1) ∷ []) × Said b.next a.scene.noted.groups (core_of a) (record o { complaint = None }) t =
       quietly_marked b (core_of a) (Fault about Complaint) a.scene.noted o (record o { complaint = None }) t begun refl refl
       (AddsComplaint about (Some true) _ report) refl (due_calm (record_of b) o about due) refl refl h in
       record { first = k.0; said = k.1 }
   complains_as b about (Some false) o t report due begun h =
-      let a : Play = complained_as (ruling_for (Some false)) about b in
+      let a : RunState = complained_as (ruling_for (Some false)) about b in
       let k : (a.scene.noted.first ≡ Started (driver 1) ∷ []) × Said b.next a.scene.noted.groups (core_of a) (record o { complaint = None }) t =
       quietly_marked b (core_of a) (Fault about Complaint) a.scene.noted o (record o { complaint = None }) t begun refl refl
       (AddsComplaint about (Some false) _ report) refl (due_calm (record_of b) o about due) refl refl h in
       record { first = k.0; said = k.1 }
 
-  complains_owed : (b : Play) (about : Endpoint) (o : Outbox) (t : Bool) → b.over ≡ false → o.complaint ≡ Some about → IsBegun b.scene.noted.groups
+  complains_owed : (b : RunState) (about : Endpoint) (o : Outbox) (t : Bool) → b.over ≡ false → o.complaint ≡ Some about → IsBegun b.scene.noted.groups
       → IsOwed Said b o t → IsOwed Said (complained about b) (record o { complaint = None }) t
   complains_owed b about o t live due begun h =
       let r : Reported b.scene.policy b.scene.watch about b.scene.tick (on b.scene.policy b.scene.watch (policy.Complaint about b.scene.tick)) =
       reported b.scene.policy b.scene.watch about b.scene.tick in
-      subst (λ (p : Play). IsOwed Said p (record o { complaint = None }) t) (sym (complained_is b about live))
+      subst (λ (p : RunState). IsOwed Said p (record o { complaint = None }) t) (sym (complained_is b about live))
       (subst (λ (u : Ruling). IsOwed Said (complained_as u about b) (record o { complaint = None }) t) (sym r.ruled)
       (complains_as b about r.ends o t r.report due begun h))
 
   -- the link is told something
-  tells_owed : (minor : ℕ) (b a : Play) (told : Told) (o : Outbox) (t : Bool) → Turn b told a → took_nothing (told ∷ []) ≡ true
+  tells_owed : (minor : ℕ) (b a : RunState) (told : Told) (o : Outbox) (t : Bool) → Turn b told a → took_nothing (told ∷ []) ≡ true
       → MayAct minor (record_of b) o (AtLink told) → ((about : Endpoint) → told ≡ Complained about → b.over ≡ false) → IsBegun b.scene.noted.groups
       → IsOwed Said b o t → IsOwed Said a (owed_after_act (AtLink told) (record_of b) o) t
   tells_owed minor b _ _ o t (Takes message a far) nothing may live begun h = cc
@@ -309,8 +309,8 @@ module _ (Said : ℕ → List Group → Core → Outbox → Bool → Type 0) (ke
     by (Err why) l m = posts_owed minor b to r (Err why) d o t l m begun h
   tells_owed minor b _ _ o t (Complains about) nothing may live begun h = complains_owed b about o t (live about refl) may begun h
 
-  end_owed : (b a : Play) (o : Outbox) → ComesToEnd b a → IsAtRest (record_of b) o → IsOwed Said b o true → IsOwed Said (ended a) o false
-  end_owed b _ o (IsPlayedOut a far spent) rest h =
+  end_owed : (b a : RunState) (o : Outbox) → ComesToEnd b a → IsAtRest (record_of b) o → IsOwed Said b o true → IsOwed Said (ended a) o false
+  end_owed b _ o (IsRunOut a far spent) rest h =
       let f : Far b a o = far_none b a None o far refl rest h in
       let k : IsOwed Said a o false = rests_owed a o true false (subst (λ (l : List Mark). IsAtRest l o) (sym f.same) rest) f.owed in
       record { first = k.first; said = k.said }
@@ -320,7 +320,7 @@ module _ (Said : ℕ → List Group → Core → Outbox → Bool → Type 0) (ke
       record { first = k.first; said = k.said }
 
   -- a message is taken
-  takes_owed : (b a : Play) (told : Told) (message : Incoming) (o : Outbox) → Turn b told a → told ≡ Received message → IsAtRest (record_of b) o
+  takes_owed : (b a : RunState) (told : Told) (message : Incoming) (o : Outbox) → Turn b told a → told ≡ Received message → IsAtRest (record_of b) o
       → IsBegun b.scene.noted.groups → IsOwed Said b o true → IsOwed Said a (owed_after_message message (record_of b) o) (not a.over)
   takes_owed b _ _ message o (Takes m a far) is rest begun h = by m message far is where
     by : (x y : Incoming) → Advances b (Some x) a → Received x ≡ Received y
@@ -387,9 +387,9 @@ module _ (Said : ℕ → List Group → Core → Outbox → Bool → Type 0) (ke
       (not_owed_before m owed begun) (rests_owed m.play m.outbox (at_work m) (not m.play.over) between.at_rest h)
   step_owed minor m _ (HandsCall call a between paid_so hands) calm begun h =
       let k : IsOwed Said m.play m.outbox (not a.over) = rests_owed m.play m.outbox (at_work m) (not a.over) between.at_rest h in
-      subst (λ (p : Play). IsOwed Said p m.outbox (not a.over)) (sym hands.after) (record { first = k.first; said = k.said })
+      subst (λ (p : RunState). IsOwed Said p m.outbox (not a.over)) (sym hands.after) (record { first = k.first; said = k.said })
   step_owed minor m _ (StepReplies call reply doing live rest) calm begun h =
-      let a : Play = noting (entry.Took call.who call.now call.call reply) m.play in
+      let a : RunState = noting (entry.Took call.who call.now call.call reply) m.play in
       let k : (a.scene.noted.first ≡ Started (driver 1) ∷ []) × Said m.play.next a.scene.noted.groups (core_of a) m.outbox false =
       quietly_marked m.play (core_of a) (Took call.who call.now call.call (answer_of reply)) a.scene.noted m.outbox m.outbox false
       (not_before m (busy_answering m.doing call doing) begun) refl refl (Replies call.who call.now call.call (answer_of reply)) refl

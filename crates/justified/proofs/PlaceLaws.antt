@@ -22,7 +22,7 @@ use Rattle.schedule.specs.Groups.{Group, marks_of, started_in, Each, EachGroup}
 use Rattle.schedule.specs.Starts.{IssuesFollow, is_among_first, are_issued_in_place}
 use Rattle.run_drivers.specs.Disks.{Disks, is_at, started}
 use Rattle.driver_events.specs.Kept.{with_next}
-use Rattle.run_link.specs.PlayView.{Play, IsOpened}
+use Rattle.run_link.specs.StateView.{RunState, IsOpened}
 use Rattle.run_link.specs.Moments.{Doing, Moment, Resting, is_busy, Runs}
 use Rattle.justified.specs.Core.{Core, story, PhaseIs, WaitsNow, FollowsGroups}
 use Rattle.justified.specs.Seen.{core_at}
@@ -178,7 +178,7 @@ issues_kept drivers = record {
 }
 
 -- before the first event
-pub slots_opened : (media : MediaState) (rules : Policy) (supply : List DriverState) (events : List Event) (p : Play) → media.generation ≡ 0
+pub slots_opened : (media : MediaState) (rules : Policy) (supply : List DriverState) (events : List Event) (p : RunState) → media.generation ≡ 0
     → Each (λ d. d.failed ≡ false) supply → (o : IsOpened media rules (new_watch (length supply)) supply events p)
     → SlotsSoFar (length supply) 0 [] (core_at (opened_scene media rules (length supply) o.scene.first o.scene.rest) false false)
 slots_opened media rules supply events p new ready o =

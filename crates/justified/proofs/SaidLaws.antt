@@ -25,7 +25,7 @@ use Rattle.driver_events.specs.Ruling.{is_fault, gives_up}
 use Rattle.run_drivers.specs.Disks.{Disks, LinesUp, NoneIsThere, LineIsFull, IsLinedUp}
 use Rattle.driver_events.specs.Scene.{ruled}
 use Rattle.schedule.specs.declared.arrived.Arrived.{Arrived}
-use Rattle.run_link.specs.PlayView.{Play, PlaysNext, Advances, Stays, Goes, Turn, Takes, TakesOwed, TakesEnd, Posts, Complains, ComesToEnd, IsPlayedOut, IsStarved, HandsOut, noting, paid, ended, posted, complained, ruling_at}
+use Rattle.run_link.specs.StateView.{RunState, RunsEvent, Advances, Stays, Goes, Turn, Takes, TakesOwed, TakesEnd, Posts, Complains, ComesToEnd, IsRunOut, IsStarved, HandsOut, noting, paid, ended, posted, complained, ruling_at}
 use Rattle.run_link.specs.Moments.{Doing, Resting, Hearing, Answering, is_busy, Moment, record_of, Step, Begins as StepBegins, Tells, Takes as StepTakes, Settles, Brings, BringsNone, Pays as StepPays, HandsCall, Replies as StepReplies, Runs, Starts, Then}
 use Rattle.justified.specs.Core.{Core}
 use Rattle.justified.specs.Seen.{core_at, with_brought, EventDone}
@@ -35,14 +35,14 @@ use Rattle.justified.proofs.Events.{event_done, Reported, reported, ruling_for}
 use Rattle.justified.specs.Said.{core_of, IsSaid, IsBegun, HasBegun, Began, StandsBefore, OverCalm}
 
 -- a complaint, by what is ruled
-abbrev pub complained_as : Ruling → Endpoint → Play → Play
+abbrev pub complained_as : Ruling → Endpoint → RunState → RunState
 complained_as u about b = noting (entry.Complained about (is_fault u)) (record b {
   scene = ruled (policy.Complaint about b.scene.tick) b.scene;
   owed = b.owed || (gives_up u && not b.told);
 })
 
 -- while the link hasn't ended a complaint is that
-pub complained_is : (b : Play) (about : Endpoint) → b.over ≡ false → complained about b ≡ complained_as (ruling_at about b.scene) about b
+pub complained_is : (b : RunState) (about : Endpoint) → b.over ≡ false → complained about b ≡ complained_as (ruling_at about b.scene) about b
 complained_is b about live = ap (λ (o : Bool). record (complained about b) { owed = o })
     (ap (λ (t : Bool). b.owed || (gives_up (ruling_at about b.scene) && not b.told && not t)) live ∙ by b.owed (gives_up (ruling_at about b.scene)) b.told) where
       by : (owed gives told : Bool) → (owed || (gives && not told && not false)) ≡ (owed || (gives && not told))
@@ -52,8 +52,8 @@ complained_is b about live = ap (λ (o : Bool). record (complained about b) { ow
       by false false told = refl
 
 module _ (Said : ℕ → List Group → Core → Type 0) (kept : IsKept Said) where
-  -- an event is played, and the message that it brings is noted
-  next_brought : (b a : Play) (result : Option Incoming) (n : Noted) → PlaysNext b result a → n.groups ≡ (with_brought result a.scene.noted).groups
+  -- an event is run, and the message that it brings is noted
+  next_brought : (b a : RunState) (result : Option Incoming) (n : Noted) → RunsEvent b result a → n.groups ≡ (with_brought result a.scene.noted).groups
       → n.first ≡ (with_brought result a.scene.noted).first → n.posts ≡ a.scene.noted.posts → IsSaid Said b
       → IsSaid Said (record a { scene = record (a.scene) { noted = n } })
   next_brought b a result n p groups first posts h =
@@ -69,29 +69,29 @@ module _ (Said : ℕ → List Group → Core → Type 0) (kept : IsKept Said) wh
             (subst (λ (t : Bool). Said (b.next + 1) ((p.event, done.marks) ∷ b.scene.noted.groups) (core_at a.scene b.owed t)) (sym p.told) after))));
       }
 
-  pub next_none : (b a : Play) → PlaysNext b None a → IsSaid Said b → IsSaid Said a
+  pub next_none : (b a : RunState) → RunsEvent b None a → IsSaid Said b → IsSaid Said a
   next_none b a p h = next_brought b a None a.scene.noted p refl refl refl h
 
-  pub next_received : (b a : Play) (m : Incoming) → PlaysNext b (Some m) a → IsSaid Said b → IsSaid Said (noting (entry.Received m) a)
+  pub next_received : (b a : RunState) (m : Incoming) → RunsEvent b (Some m) a → IsSaid Said b → IsSaid Said (noting (entry.Received m) a)
   next_received b a m p h = next_brought b a (Some m) (with_entry (entry.Received m) a.scene.noted) p refl refl refl h
 
-  pub next_handed : (b a : Play) (m : Incoming) → PlaysNext b (Some m) a → IsSaid Said b → IsSaid Said (noting (entry.Handed m) a)
+  pub next_handed : (b a : RunState) (m : Incoming) → RunsEvent b (Some m) a → IsSaid Said b → IsSaid Said (noting (entry.Handed m) a)
   next_handed b a m p h = next_brought b a (Some m) (with_entry (entry.Handed m) a.scene.noted) p refl refl refl h
 
-  -- events are played
-  advance_none : (b a : Play) (result : Option Incoming) → Advances b result a → result ≡ None → IsSaid Said b → IsSaid Said a
+  -- events are run
+  advance_none : (b a : RunState) (result : Option Incoming) → Advances b result a → result ≡ None → IsSaid Said b → IsSaid Said a
   advance_none b _ _ Stays is h = h
   advance_none b a _ (Goes m _ result before last) is h =
-      next_none m a (subst (λ (r : Option Incoming). PlaysNext m r a) is last) (advance_none b m None before refl h)
+      next_none m a (subst (λ (r : Option Incoming). RunsEvent m r a) is last) (advance_none b m None before refl h)
 
-  advance_some : (b a : Play) (result : Option Incoming) (m : Incoming) → Advances b result a → result ≡ Some m → IsSaid Said b
+  advance_some : (b a : RunState) (result : Option Incoming) (m : Incoming) → Advances b result a → result ≡ Some m → IsSaid Said b
       → IsSaid Said (noting (entry.Received m) a)
   advance_some b _ _ m Stays is h = cc
   advance_some b a _ m (Goes x _ result before last) is h =
-      next_received x a m (subst (λ (r : Option Incoming). PlaysNext x r a) is last) (advance_none b x None before refl h)
+      next_received x a m (subst (λ (r : Option Incoming). RunsEvent x r a) is last) (advance_none b x None before refl h)
 
   -- a mark more in the last group
-  marked : (b : Play) (c : Core) (m : Mark) (n : Noted) (marks : List Mark) (begun : IsBegun b.scene.noted.groups)
+  marked : (b : RunState) (c : Core) (m : Mark) (n : Noted) (marks : List Mark) (begun : IsBegun b.scene.noted.groups)
       → n.groups ≡ (with_mark m b.scene.noted).groups → n.first ≡ (with_mark m b.scene.noted).first → Adds (core_of b) (m ∷ []) c → IsSaid Said b
       → (n.first ≡ Started (driver 1) ∷ []) × Said b.next n.groups c
   marked b c m n marks begun groups first adds h =
@@ -104,7 +104,7 @@ module _ (Said : ℕ → List Group → Core → Type 0) (kept : IsKept Said) wh
         subst (λ (l : List Group). Said b.next l c) (sym (groups ∙ g)) (kept.adds b.next begun.event begun.group begun.earlier (core_of b) c (m ∷ []) adds was),
       )
 
-  owed_told : (b : Play) (e : Entry) → (with_entry e b.scene.noted).groups ≡ (with_mark GaveUp b.scene.noted).groups
+  owed_told : (b : RunState) (e : Entry) → (with_entry e b.scene.noted).groups ≡ (with_mark GaveUp b.scene.noted).groups
       → (with_entry e b.scene.noted).first ≡ (with_mark GaveUp b.scene.noted).first → (with_entry e b.scene.noted).posts ≡ b.scene.noted.posts
       → b.owed ≡ true → IsBegun b.scene.noted.groups → IsSaid Said b → IsSaid Said (noting e (paid b))
   owed_told b e groups first posts owed begun h =
@@ -115,7 +115,7 @@ module _ (Said : ℕ → List Group → Core → Type 0) (kept : IsKept Said) wh
         said = subst (λ (l : List Post). Said b.next (with_entry e b.scene.noted).groups (record (core_of (paid b)) { posts = l })) (sym posts) k.1;
       }
 
-  posts_said : (b : Play) (to : Endpoint) (r : BlockRequest) (result : Result (Unit {0}) LinkRefusal) (d : Disks) → LinesUp to r b.scene.disks result d
+  posts_said : (b : RunState) (to : Endpoint) (r : BlockRequest) (result : Result (Unit {0}) LinkRefusal) (d : Disks) → LinesUp to r b.scene.disks result d
       → IsBegun b.scene.noted.groups → IsSaid Said b → IsSaid Said (posted to r (is_ok result) d b)
   posts_said b to r _ _ (NoneIsThere none) begun h = record { first = h.first; said = h.said }
   posts_said b to r _ _ (LineIsFull there full) begun h = record { first = h.first; said = h.said }
@@ -125,7 +125,7 @@ module _ (Said : ℕ → List Group → Core → Type 0) (kept : IsKept Said) wh
       marked b (core_of (posted to r true d b)) (Issued r to) n [] begun refl refl (AddsPost r to d (IsLinedUp there few)) h in
       record { first = k.0; said = k.1 }
 
-  complains_as : (b : Play) (about : Endpoint) (ends : Option Bool)
+  complains_as : (b : RunState) (about : Endpoint) (ends : Option Bool)
       → AtReport b.scene.policy b.scene.watch about b.scene.tick ends (on b.scene.policy b.scene.watch (policy.Complaint about b.scene.tick)).0
       → IsBegun b.scene.noted.groups → IsSaid Said b → IsSaid Said (complained_as (ruling_for ends) about b)
   complains_as b about None report begun h =
@@ -137,29 +137,29 @@ module _ (Said : ℕ → List Group → Core → Type 0) (kept : IsKept Said) wh
             (kept.adds b.next begun.event begun.group begun.earlier (core_of b) c [] (AddsComplaint about None _ report) was);
       }
   complains_as b about (Some true) report begun h =
-      let a : Play = complained_as (ruling_for (Some true)) about b in
+      let a : RunState = complained_as (ruling_for (Some true)) about b in
       let k : (a.scene.noted.first ≡ Started (driver 1) ∷ []) × Said b.next a.scene.noted.groups (core_of a) =
       marked b (core_of a) (Fault about Complaint) a.scene.noted [] begun refl refl (AddsComplaint about (Some true) _ report) h in
       record { first = k.0; said = k.1 }
   complains_as b about (Some false) report begun h =
-      let a : Play = complained_as (ruling_for (Some false)) about b in
+      let a : RunState = complained_as (ruling_for (Some false)) about b in
       let k : (a.scene.noted.first ≡ Started (driver 1) ∷ []) × Said b.next a.scene.noted.groups (core_of a) =
       marked b (core_of a) (Fault about Complaint) a.scene.noted [] begun refl refl (AddsComplaint about (Some false) _ report) h in
       record { first = k.0; said = k.1 }
 
-  complains_said : (b : Play) (about : Endpoint) → b.over ≡ false → IsBegun b.scene.noted.groups → IsSaid Said b → IsSaid Said (complained about b)
+  complains_said : (b : RunState) (about : Endpoint) → b.over ≡ false → IsBegun b.scene.noted.groups → IsSaid Said b → IsSaid Said (complained about b)
   complains_said b about live begun h =
       let r : Reported b.scene.policy b.scene.watch about b.scene.tick (on b.scene.policy b.scene.watch (policy.Complaint about b.scene.tick)) =
       reported b.scene.policy b.scene.watch about b.scene.tick in
-      subst (λ (p : Play). IsSaid Said p) (sym (complained_is b about live))
+      subst (λ (p : RunState). IsSaid Said p) (sym (complained_is b about live))
       (subst (λ (u : Ruling). IsSaid Said (complained_as u about b)) (sym r.ruled) (complains_as b about r.ends r.report begun h))
 
-  end_said : (b a : Play) → ComesToEnd b a → IsSaid Said b → IsSaid Said (ended a)
-  end_said b _ (IsPlayedOut a far spent) h = let k : IsSaid Said a = advance_none b a None far refl h in record { first = k.first; said = k.said }
+  end_said : (b a : RunState) → ComesToEnd b a → IsSaid Said b → IsSaid Said (ended a)
+  end_said b _ (IsRunOut a far spent) h = let k : IsSaid Said a = advance_none b a None far refl h in record { first = k.first; said = k.said }
   end_said b _ (IsStarved a far) h = let k : IsSaid Said a = advance_none b a None far refl h in record { first = k.first; said = k.said }
 
   -- a turn of the server at its link
-  pub turn_said : (b a : Play) (told : Told) → Turn b told a → ((about : Endpoint) → told ≡ Complained about → b.over ≡ false)
+  pub turn_said : (b a : RunState) (told : Told) → Turn b told a → ((about : Endpoint) → told ≡ Complained about → b.over ≡ false)
       → IsBegun b.scene.noted.groups → IsSaid Said b → IsSaid Said a
   turn_said b _ _ (Takes message a far) live begun h = advance_some b a (Some message) message far refl h
   turn_said b _ _ (TakesOwed still owed first) live begun h = owed_told b (entry.Received incoming.GaveUp) refl refl refl owed begun h
@@ -167,17 +167,17 @@ module _ (Said : ℕ → List Group → Core → Type 0) (kept : IsKept Said) wh
   turn_said b _ _ (Posts to r result d unended lines) live begun h = posts_said b to r result d lines begun h
   turn_said b _ _ (Complains about) live begun h = complains_said b about (live about refl) begun h
 
-  replied_said : (b : Play) (call : Arrived) (reply : Reply) → IsBegun b.scene.noted.groups → IsSaid Said b
+  replied_said : (b : RunState) (call : Arrived) (reply : Reply) → IsBegun b.scene.noted.groups → IsSaid Said b
       → IsSaid Said (noting (entry.Took call.who call.now call.call reply) b)
   replied_said b call reply begun h =
-      let a : Play = noting (entry.Took call.who call.now call.call reply) b in
+      let a : RunState = noting (entry.Took call.who call.now call.call reply) b in
       let k : (a.scene.noted.first ≡ Started (driver 1) ∷ []) × Said b.next a.scene.noted.groups (core_of a) =
       marked b (core_of a) (Took call.who call.now call.call (answer_of reply)) a.scene.noted [] begun refl refl
       (Replies call.who call.now call.call (answer_of reply)) h in
       record { first = k.0; said = k.1 }
 
-  out_said : (b a : Play) (result : Option Arrived) → HandsOut b result a → IsSaid Said b → IsSaid Said a
-  out_said b a result hands h = subst (λ (p : Play). IsSaid Said p) (sym hands.after) (record { first = h.first; said = h.said })
+  out_said : (b a : RunState) (result : Option Arrived) → HandsOut b result a → IsSaid Said b → IsSaid Said a
+  out_said b a result hands h = subst (λ (p : RunState). IsSaid Said p) (sym hands.after) (record { first = h.first; said = h.said })
 
 -- before the first event nothing is done at the link
 pub not_before : (m : Moment) → is_busy m.doing ≡ true → HasBegun m → IsBegun m.play.scene.noted.groups
@@ -192,7 +192,7 @@ not_owed_before m owed (StandsBefore rests queue paid_so) = absurd (clash (sym p
   clash : ◌≡◌ {A = Bool} false true → ⊥
   clash e = cc
 
-pub none_waits_before : (m : Moment) (call : Arrived) (a : Play) → HandsOut m.play (Some call) a → HasBegun m → IsBegun m.play.scene.noted.groups
+pub none_waits_before : (m : Moment) (call : Arrived) (a : RunState) → HandsOut m.play (Some call) a → HasBegun m → IsBegun m.play.scene.noted.groups
 none_waits_before m call a hands (Began begun) = begun
 none_waits_before m call a hands (StandsBefore rests queue owed) = absurd (clash (hands.first ∙ ap (λ (l : List Arrived). slice_get l 0) queue)) where
   clash : Some call ≡ None → ⊥
@@ -217,18 +217,18 @@ may_complain minor m told calm may about is = by m.play.over refl where
     clash e = cc
   by false live = live
 
-far_over : (b a : Play) (result : Option Incoming) → Advances b result a → a.over ≡ b.over
+far_over : (b a : RunState) (result : Option Incoming) → Advances b result a → a.over ≡ b.over
 far_over b _ _ Stays = refl
 far_over b a _ (Goes m _ result before last) = last.over ∙ far_over b m None before
 
-some_live : (b a : Play) (result : Option Incoming) (message : Incoming) → Advances b result a → result ≡ Some message → a.over ≡ false
+some_live : (b a : RunState) (result : Option Incoming) (message : Incoming) → Advances b result a → result ≡ Some message → a.over ≡ false
 some_live b _ _ message Stays is = cc
 some_live b a _ message (Goes m _ result before last) is = last.over ∙ last.live
 
 live_calm : (over : Bool) (owed : Option Endpoint) → over ≡ false → over ≡ true → owed ≡ None
 live_calm over owed live is = cc
 
-turn_calm : (minor : ℕ) (b a : Play) (told : Told) (o : Outbox) → Turn b told a → took_nothing (told ∷ []) ≡ true → MayAct minor (record_of b) o (AtLink told)
+turn_calm : (minor : ℕ) (b a : RunState) (told : Told) (o : Outbox) → Turn b told a → took_nothing (told ∷ []) ≡ true → MayAct minor (record_of b) o (AtLink told)
     → (b.over ≡ true → o.complaint ≡ None) → a.over ≡ true → (owed_after_act (AtLink told) (record_of b) o).complaint ≡ None
 turn_calm minor b _ _ o (Takes message a far) nothing may calm over = cc
 turn_calm minor b _ _ o (TakesOwed live owed first) nothing may calm over = cc
@@ -239,7 +239,7 @@ turn_calm minor b _ _ o (Posts to r result d unended lines) nothing may calm ove
   by false = calm over
 turn_calm minor b _ _ o (Complains about) nothing may calm over = refl
 
-take_calm : (b a : Play) (told : Told) (message : Incoming) (o : Outbox) → Turn b told a → told ≡ Received message → o.complaint ≡ None → a.over ≡ true
+take_calm : (b a : RunState) (told : Told) (message : Incoming) (o : Outbox) → Turn b told a → told ≡ Received message → o.complaint ≡ None → a.over ≡ true
     → (owed_after_message message (record_of b) o).complaint ≡ None
 take_calm b _ _ message o (Takes m a far) is none over = live_calm a.over _ (some_live b a (Some m) m far refl) over
 take_calm b _ _ message o (TakesOwed live owed first) is none over = live_calm b.over _ live over
@@ -294,7 +294,7 @@ began_kept = record {
   adds = λ place event group earlier c a marks adds h. record { event = event; group = marks ++ group; earlier = earlier; is = refl };
 }
 
-next_began : (b a : Play) (result : Option Incoming) (e : Entry) → b.scene.noted.first ≡ Started (driver 1) ∷ [] → PlaysNext b result a
+next_began : (b a : RunState) (result : Option Incoming) (e : Entry) → b.scene.noted.first ≡ Started (driver 1) ∷ [] → RunsEvent b result a
     → (n : Noted) → n.groups ≡ (with_brought result a.scene.noted).groups → IsBegun n.groups
 next_began b a result e first p n groups =
     let done : EventDone b.next b.owed b.told p.event b.scene result a.scene = event_done b.next b.owed b.told p.event b.scene result a.scene first p.plays in

@@ -1,4 +1,4 @@
--- What justifies a run that was played out, put together.
+-- What justifies a run that was run out, put together.
 use Rattle.std.proofs.Common.{◌≡◌, ℕ, List, [], ◌∷◌, length, false, refl, sym, ◌∙◌, subst}
 use Rattle.std.specs.Prelude.{None}
 use Rattle.message.specs.declared.endpoint.Endpoint.{Endpoint}
@@ -11,7 +11,7 @@ use Rattle.schedule.specs.Faults.{HasNotFailed}
 use Rattle.justified.specs.Core.{Core}
 use Rattle.justified.specs.Steady.{IsKept, StartsAsDue, HungAsDue, GivesUpAsDue, FlushesAsDue, drivers_of}
 use Rattle.justified.proofs.SteadyLaws.{begins_policy, adds_policy}
-use Rattle.run_link.specs.PlayView.{IsOpened}
+use Rattle.run_link.specs.StateView.{IsOpened}
 use Rattle.justified.specs.Said.{IsSaid}
 use Rattle.justified.specs.RunLaws.{RunJustified}
 use Rattle.justified.specs.Shown.{RunsShowEvents}

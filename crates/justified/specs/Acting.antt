@@ -10,7 +10,7 @@ use Rattle.schedule.specs.declared.Event.{Event}
 use Rattle.schedule.specs.Groups.{Group, EachGroup}
 use Rattle.schedule.specs.Handed.{is_handed, is_told, acts_when_handed}
 use Rattle.schedule.specs.declared.arrived.Arrived.{Arrived}
-use Rattle.run_link.specs.PlayView.{IsOpened}
+use Rattle.run_link.specs.StateView.{IsOpened}
 use Rattle.run_link.specs.Moments.{Doing, Resting, Moment, Runs}
 
 -- a call is finished and a request is issued only where the event, or an earlier mark of its group, handed the server something

@@ -5,7 +5,7 @@ use Rattle.bdev.specs.DriverState.{DriverState}
 use Rattle.reincarnate.specs.Watch.{driver}
 use Rattle.records.specs.Marks.{Mark, Started}
 use Rattle.schedule.specs.declared.Event.{Event}
-use Rattle.driver_events.specs.Scene.{Scene, Plays}
+use Rattle.driver_events.specs.Scene.{Scene, Occurs}
 use Rattle.justified.specs.Steady.{IsKept, EachSoFar, StartsAsDue, HungAsDue, FlushesAsDue, GivesUpSoFar, AnsweredSoFar, ExitsSoFar, DriversSoFar, SlotsSoFar}
 use Rattle.justified.specs.Seen.{EventDone, begun_scene}
 
@@ -13,7 +13,7 @@ use Rattle.justified.specs.Seen.{EventDone, begun_scene}
 abbrev pub EventsAreDone : Type 0
 EventsAreDone =
     (place : ℕ) (owed told : Bool) (event : Event) (b : Scene) (result : Option Incoming) (a : Scene) → b.noted.first ≡ Started (driver 1) ∷ []
-    → Plays place event (begun_scene event b) result a → EventDone place owed told event b result a
+    → Occurs place event (begun_scene event b) result a → EventDone place owed told event b result a
 
 -- at each event drivers are started exactly where the policy and the events before say
 abbrev pub StartsAreKept : Type 0

@@ -12,7 +12,7 @@ use Rattle.schedule.specs.declared.Event.{Event}
 use Rattle.schedule.specs.Groups.{Group, marks_of, Each, EachGroup}
 use Rattle.schedule.specs.Starts.{IssuesFollow}
 use Rattle.run_drivers.specs.Disks.{is_at}
-use Rattle.run_link.specs.PlayView.{IsOpened}
+use Rattle.run_link.specs.StateView.{IsOpened}
 use Rattle.run_link.specs.Moments.{Moment, Resting, Runs, record_of}
 use Rattle.justified.specs.Said.{PlacedAsDue}
 

@@ -12,7 +12,7 @@ use Rattle.schedule.specs.declared.Event.{Event}
 use Rattle.schedule.specs.Groups.{Group, EachGroup}
 use Rattle.schedule.specs.Calls.{CallsSoFar}
 use Rattle.run_drivers.specs.Disks.{is_at}
-use Rattle.run_link.specs.PlayView.{IsOpened}
+use Rattle.run_link.specs.StateView.{IsOpened}
 use Rattle.run_link.specs.Moments.{Moment, Resting, Runs, record_of}
 
 -- the calls taken so far are the first that arrived, in their order, and the others wait only where they may

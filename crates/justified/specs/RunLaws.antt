@@ -11,7 +11,7 @@ use Rattle.schedule.specs.Faults.{ExitsOfGroup, HasNotFailed, FailsAtItsStep}
 use Rattle.schedule.specs.Drivers.{state_of}
 use Rattle.schedule.specs.Replies.{answers_in, answers_due, are_in_order}
 use Rattle.schedule.specs.Noted.{marks_in}
-use Rattle.run_link.specs.PlayView.{Play, IsOpened}
+use Rattle.run_link.specs.StateView.{RunState, IsOpened}
 use Rattle.run_link.specs.Moments.{Moment, Resting, Runs}
 use Rattle.justified.specs.Core.{Core}
 use Rattle.justified.specs.Steady.{EachSoFar, StartsAsDue, HungAsDue, FlushesAsDue, GivesUpAsDue, GivesUpSoFar, AnsweredSoFar, ExitsSoFar, drivers_of}
@@ -51,7 +51,7 @@ RunsKeepExits = (drivers : ℕ) → RunsKeep (ExitsSoFar drivers)
 -- What of a run so far is justified: the record is that of the groups, and at each event there are the exits, the hung drivers, the starts,
 -- the answers and the flushes that must be; the device is given up as often as it must be, where that isn't owed; and the drivers are those
 -- of the supply that were started, of which the one that runs hasn't failed.
-pub record PlayJustified (supply : List DriverState) (p : Play) : Type 0 where
+pub record WholeJustified (supply : List DriverState) (p : RunState) : Type 0 where
   pub record_is : marks_of p.scene.noted.groups ≡ marks_in p.scene.noted
   pub exits : EachGroup (λ event group earlier. ExitsOfGroup (drivers_of p.scene.disks) event group earlier) p.scene.noted.groups
   pub hung : EachGroup (HungAsDue p.scene.policy) p.scene.noted.groups
@@ -69,7 +69,7 @@ abbrev pub RunsAreJustified : Type 0
 RunsAreJustified =
     (media : MediaState) (rules : Policy) (supply : List DriverState) (events : List Event) (minor : ℕ) (b a : Moment)
     → media.generation ≡ 0 → Each (λ d. d.failed ≡ false) supply → IsOpened media rules (new_watch (length supply)) supply events b.play → b.doing ≡ Resting
-    → Runs minor b a → PlayJustified supply a.play
+    → Runs minor b a → WholeJustified supply a.play
 
 -- a complaint follows exactly each answer of the running driver that isn't good, once the server owes none
 abbrev pub RunsKeepComplaints : Type 0
@@ -95,7 +95,7 @@ RunsKeepOrder =
 -- All that is justified of a run so far, with what the server owes: complaints follow once it owes none, the device is given up after its
 -- fault, and calls are taken in the order in which they arrived.
 pub record RunJustified (supply : List DriverState) (m : Moment) : Type 0 where
-  pub events : PlayJustified supply m.play
+  pub events : WholeJustified supply m.play
   pub complaints : m.outbox.complaint ≡ None → EachGroup ComplaintsAsDue m.play.scene.noted.groups
   pub after_fault : EachGroup AfterFaultAsDue m.play.scene.noted.groups
   pub ordered : EachGroup OrderedAsDue m.play.scene.noted.groups

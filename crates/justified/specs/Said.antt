@@ -5,16 +5,16 @@ use Rattle.records.specs.Marks.{Mark, Started}
 use Rattle.schedule.specs.declared.Event.{Event}
 use Rattle.schedule.specs.Groups.{Group, marks_of}
 use Rattle.schedule.specs.Starts.{are_issued_in_place}
-use Rattle.run_link.specs.PlayView.{Play}
+use Rattle.run_link.specs.StateView.{RunState}
 use Rattle.run_link.specs.Moments.{Moment, Resting}
 use Rattle.justified.specs.Core.{Core}
 use Rattle.justified.specs.Seen.{core_at}
 
-abbrev pub core_of : Play → Core
+abbrev pub core_of : RunState → Core
 core_of p = core_at p.scene p.owed p.told
 
 -- of the number of the next event, the groups and what stands; before the first event the first start alone was noted
-pub record IsSaid (Said : ℕ → List Group → Core → Type 0) (p : Play) : Type 0 where
+pub record IsSaid (Said : ℕ → List Group → Core → Type 0) (p : RunState) : Type 0 where
   pub first : p.scene.noted.first ≡ Started (driver 1) ∷ []
   pub said : Said p.next p.scene.noted.groups (core_of p)
 

@@ -8,7 +8,7 @@ use Rattle.records.specs.Marks.{Mark}
 use Rattle.schedule.specs.declared.Event.{Event}
 use Rattle.schedule.specs.Groups.{Group, marks_of, Each, EachGroup}
 use Rattle.schedule.specs.Replies.{IsSentAtItsStep}
-use Rattle.run_link.specs.PlayView.{IsOpened}
+use Rattle.run_link.specs.StateView.{IsOpened}
 use Rattle.run_link.specs.Moments.{Moment, Resting, Runs}
 use Rattle.justified.specs.Said.{PlacedAsDue}
 

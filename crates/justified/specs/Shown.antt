@@ -1,4 +1,4 @@
--- What justifies a run that was played out.
+-- What justifies a run that was run out.
 use Rattle.std.specs.Prelude.{◌≡◌, ℕ, List, length, map, take, true, false, None, IfSome}
 use Rattle.bdev.specs.DriverState.{DriverState}
 use Rattle.media.specs.Contents.{MediaState}
@@ -14,7 +14,7 @@ use Rattle.schedule.specs.Starts.{GivingUpOfGroup}
 use Rattle.schedule.specs.Replies.{are_in_order}
 use Rattle.schedule.specs.Justified.{AnswersAndFlushes}
 use Rattle.schedule.specs.Noted.{marks_in}
-use Rattle.run_link.specs.PlayView.{IsOpened}
+use Rattle.run_link.specs.StateView.{IsOpened}
 use Rattle.run_link.specs.Moments.{Moment, Resting, Runs}
 use Rattle.justified.specs.Steady.{StartsAsDue, HungAsDue, drivers_of}
 use Rattle.justified.specs.Complaining.{ComplaintsAsDue}

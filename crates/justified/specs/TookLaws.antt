@@ -12,7 +12,7 @@ use Rattle.schedule.specs.Groups.{Group, marks_of, Each, EachGroup}
 use Rattle.schedule.specs.Drivers.{state_of, TookItsOwn}
 use Rattle.schedule.specs.Replies.{RepliesOf}
 use Rattle.inline.specs.Inline.{IsReady}
-use Rattle.run_link.specs.PlayView.{IsOpened}
+use Rattle.run_link.specs.StateView.{IsOpened}
 use Rattle.run_link.specs.Moments.{Moment, Resting, Runs}
 use Rattle.justified.specs.Steady.{IsKept, drivers_of}
 use Rattle.justified.specs.Said.{core_of, PlacedAsDue}

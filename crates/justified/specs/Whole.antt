@@ -1,4 +1,4 @@
--- What justifies a run that was played out.
+-- What justifies a run that was run out.
 use Rattle.std.specs.Prelude.{◌≡◌, ◌⊎◌, ℕ, List, [], ◌++◌, length, true, false, None}
 use Rattle.bdev.specs.DriverState.{DriverState, is_fresh}
 use Rattle.bdev.specs.Promises.{IsDriver}
@@ -12,7 +12,7 @@ use Rattle.schedule.specs.Groups.{marks_of, Each}
 use Rattle.schedule.specs.Calls.{Arrival, arrived, taken}
 use Rattle.schedule.specs.Justified.{Justified}
 use Rattle.schedule.specs.Noted.{marks_in}
-use Rattle.run_link.specs.PlayView.{Play, IsOpened}
+use Rattle.run_link.specs.StateView.{RunState, IsOpened}
 use Rattle.run_link.specs.Moments.{Moment, Resting, Runs}
 use Rattle.justified.specs.Steady.{drivers_of}
 
@@ -30,7 +30,7 @@ pub record IsAtEnd (m : Moment) : Type 0 where
   pub well_formed : IsWellFormed (marks_in m.play.scene.noted)
 
 -- a run is justified whose record is that of its groups; so many calls are left
-pub record IsWhole (rules : Policy) (supply : List DriverState) (p : Play) (unanswered : ℕ) : Type 0 where
+pub record IsWhole (rules : Policy) (supply : List DriverState) (p : RunState) (unanswered : ℕ) : Type 0 where
   pub record_is : marks_of p.scene.noted.groups ≡ marks_in p.scene.noted
   pub justified : Justified rules supply p.scene.noted.groups p.scene.disks.sent (drivers_of p.scene.disks) unanswered
 

@@ -64,7 +64,7 @@ pub fn runs_keep_failures()
     ensures { RunsKeepFailures }
 {}
 
-/// All that justifies the events of a run that was played out.
+/// All that justifies the events of a run that was run out.
 pub fn runs_show_events()
     ensures { RunsShowEvents }
 {}

@@ -1,4 +1,4 @@
-//! A run of a server over a schedule that was played out is justified, whole.
+//! A run of a server over a schedule that was run out is justified, whole.
 //!
 //! Why the record of a run is justified: what stands between two events carries each clause to the next.
 //!

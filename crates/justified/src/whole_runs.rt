@@ -23,7 +23,7 @@ pub fn runs_keep_steps()
     ensures { RunsKeepSteps }
 {}
 
-/// A run that was played out is justified, at each of its events and by what stands at its end.
+/// A run that was run out is justified, at each of its events and by what stands at its end.
 pub fn runs_are_whole()
     ensures { RunsAreWhole }
 {}

@@ -26,7 +26,7 @@ use Rattle.driver_events.specs.Kept.{NotesAside}
 use Rattle.driver_events.proofs.Keeping.{events_same, events_note_aside}
 use Rattle.driver_events.proofs.Sectors.{events_keep_sectors}
 use Rattle.schedule.specs.declared.arrived.Arrived.{Arrived}
-use Rattle.run_link.specs.PlayView.{Play, unless_told, work_left, begun, noting, paid, ended, starving, posted, complained, ruling_at, PlaysNext, Advances, Stays, Goes, ComesToEnd, IsPlayedOut, IsStarved, Turn, Takes, TakesOwed, TakesEnd, Posts, Complains, Still, Further, HandsEvent, HandsNone, HandsOwed, HandsNothing}
+use Rattle.run_link.specs.StateView.{RunState, unless_told, work_left, begun, noting, paid, ended, starving, posted, complained, ruling_at, RunsEvent, Advances, Stays, Goes, ComesToEnd, IsRunOut, IsStarved, Turn, Takes, TakesOwed, TakesEnd, Posts, Complains, Still, Further, HandsEvent, HandsNone, HandsOwed, HandsNothing}
 use Rattle.schedule.specs.ArrivingCalls.{calls_of}
 use Rattle.run_link.specs.Laws.{LeadsOn, CallLeads, ServersLeadOn, AsidesLeadOn, CallsLeadOn, AnswersLeadOn}
 
@@ -85,8 +85,8 @@ length_joined : (xs ys : List Arrived) → length (xs ++ ys) ≡ length xs + len
 length_joined [] ys = omega arith
 length_joined (x ∷ xs) ys = let h : length (xs ++ ys) ≡ length xs + length ys = length_joined xs ys in omega (arith, h)
 
--- an event that is played is less left to do
-pub next_works : (b a : Play) (result : Option Incoming) → PlaysNext b result a → work_left a < work_left b
+-- an event that is run is less left to do
+pub next_works : (b a : RunState) (result : Option Incoming) → RunsEvent b result a → work_left a < work_left b
 next_works b a result p =
     let below : b.next < length b.events = there_below b.events b.next p.event p.is in
     let same : length a.events ≡ length b.events = ap length p.events in
@@ -103,10 +103,10 @@ take_more (x ∷ events) zero e is = ap (λ (o : Option Event). first_of o x ∷
   first_of None d = d
 take_more (x ∷ events) (suc n) e is = ap (λ (l : List Event). x ∷ l) (take_more events n e is)
 
-pub leads_stays : (p : Play) → LeadsOn p p
+pub leads_stays : (p : RunState) → LeadsOn p p
 leads_stays p = record { events = refl; sectors = refl; next = omega arith; work = omega arith; sound = λ s. s }
 
-pub leads_joins : (a b c : Play) → LeadsOn a b → LeadsOn b c → LeadsOn a c
+pub leads_joins : (a b c : RunState) → LeadsOn a b → LeadsOn b c → LeadsOn a c
 leads_joins a b c first next = record {
   events = next.events ∙ first.events;
   sectors = next.sectors ∙ first.sectors;
@@ -116,7 +116,7 @@ leads_joins a b c first next = record {
 }
 
 -- with as many sectors, the same events begun, and no call more that waits
-leads_same : (b a : Play) → length a.scene.disks.media.sectors ≡ length b.scene.disks.media.sectors → a.events ≡ b.events → a.next ≡ b.next → length a.queue ≤ length b.queue → unless_told a.told ≤ unless_told b.told
+leads_same : (b a : RunState) → length a.scene.disks.media.sectors ≡ length b.scene.disks.media.sectors → a.events ≡ b.events → a.next ≡ b.next → length a.queue ≤ length b.queue → unless_told a.told ≤ unless_told b.told
     → map event_of a.scene.noted.groups ≡ map event_of b.scene.noted.groups → LeadsOn b a
 leads_same b a sectors events next queue told same = record {
   events = events;
@@ -128,8 +128,8 @@ leads_same b a sectors events next queue told same = record {
   };
 }
 
--- an event is played
-leads_next : (b a : Play) (result : Option Incoming) → PlaysNext b result a → LeadsOn b a
+-- an event is run
+leads_next : (b a : RunState) (result : Option Incoming) → RunsEvent b result a → LeadsOn b a
 leads_next b a result p =
     let aside : NotesAside (begun p.event b.scene).noted a.scene.noted = events_note_aside b.next p.event (begun p.event b.scene) a.scene result p.plays in
     record {
@@ -145,29 +145,29 @@ leads_next b a result p =
       };
     }
 
-leads_far : (b a : Play) (result : Option Incoming) → Advances b result a → LeadsOn b a
+leads_far : (b a : RunState) (result : Option Incoming) → Advances b result a → LeadsOn b a
 leads_far b _ _ Stays = leads_stays b
 leads_far b a _ (Goes m _ result before last) = leads_joins b m a (leads_far b m None before) (leads_next m a result last)
 
 -- a note within an event
-leads_noted : (b : Play) (e : Entry) → is_beginning e ≡ false → LeadsOn b (noting e b)
+leads_noted : (b : RunState) (e : Entry) → is_beginning e ≡ false → LeadsOn b (noting e b)
 leads_noted b e within = leads_same b (noting e b) refl refl refl (omega arith) (omega arith) (entry_events e b.scene.noted within)
 
 -- that the device was given up is told
-leads_paid : (b : Play) → LeadsOn b (paid b)
+leads_paid : (b : RunState) → LeadsOn b (paid b)
 leads_paid b = leads_same b (paid b) refl refl refl (omega arith) (omega arith) refl
 
 -- the link ends
-leads_ended : (b : Play) → LeadsOn b (ended b)
+leads_ended : (b : RunState) → LeadsOn b (ended b)
 leads_ended b = leads_same b (ended b) refl refl refl (omega arith) (omega arith) refl
 
 -- memory is wanted
-leads_starving : (b : Play) → LeadsOn b (starving b)
+leads_starving : (b : RunState) → LeadsOn b (starving b)
 leads_starving b = leads_same b (starving b) refl refl refl (omega arith) (omega arith) refl
 
 -- nothing comes any more
-leads_to_end : (b a : Play) → ComesToEnd b a → LeadsOn b a
-leads_to_end b a (IsPlayedOut _ far spent) = leads_far b a None far
+leads_to_end : (b a : RunState) → ComesToEnd b a → LeadsOn b a
+leads_to_end b a (IsRunOut _ far spent) = leads_far b a None far
 leads_to_end b _ (IsStarved a far) = leads_joins b a (starving a) (leads_far b a None far) (leads_starving a)
 
 lines_keep_sectors : (to : Endpoint) (r : BlockRequest) (b d : Disks) (result : Result (Unit {0}) LinkRefusal) → LinesUp to r b result d
@@ -176,7 +176,7 @@ lines_keep_sectors to r b _ _ (NoneIsThere none) = refl
 lines_keep_sectors to r b _ _ (LineIsFull there full) = refl
 lines_keep_sectors to r b _ _ (IsLinedUp there few) = refl
 
-pub turns_lead_on : (b a : Play) (told : Told) → Turn b told a → LeadsOn b a
+pub turns_lead_on : (b a : RunState) (told : Told) → Turn b told a → LeadsOn b a
 turns_lead_on b _ _ (Takes message a far) = leads_joins b a (noting (entry.Received message) a) (leads_far b a (Some message) far) (leads_noted a (entry.Received message) refl)
 turns_lead_on b _ _ (TakesOwed live owed first) =
     leads_joins b (paid b) (noting (entry.Received incoming.GaveUp) (paid b)) (leads_paid b) (leads_noted (paid b) (entry.Received incoming.GaveUp) refl)
@@ -210,7 +210,7 @@ less_waits (x ∷ queue) first rest told is =
     subst (λ (o : Option Arrived). OnSome o (rest + length queue + told < rest + length (x ∷ queue) + told)) (sym is) (omega arith)
 
 pub calls_lead_on : CallsLeadOn
-calls_lead_on b a result hands = subst (λ (p : Play). CallLeads b result p) (sym hands.after) (record {
+calls_lead_on b a result hands = subst (λ (p : RunState). CallLeads b result p) (sym hands.after) (record {
   leads = leads_same b (record b { queue = drop 1 b.queue }) refl refl refl (fewer b.queue) (omega arith) refl;
   less = less_waits b.queue result (2 * (length b.events - b.next)) (unless_told b.told) hands.first;
 }) where
@@ -220,5 +220,5 @@ calls_lead_on b a result hands = subst (λ (p : Play). CallLeads b result p) (sy
 
 pub answers_lead_on : AnswersLeadOn
 answers_lead_on b a arrived reply (Ok done) is =
-    subst (λ (p : Play). LeadsOn b p) (sym is) (leads_noted b (entry.Took arrived.who arrived.now arrived.call reply) refl)
-answers_lead_on b a arrived reply (Err error) is = subst (λ (p : Play). LeadsOn b p) (sym is) (leads_starving b)
+    subst (λ (p : RunState). LeadsOn b p) (sym is) (leads_noted b (entry.Took arrived.who arrived.now arrived.call reply) refl)
+answers_lead_on b a arrived reply (Err error) is = subst (λ (p : RunState). LeadsOn b p) (sym is) (leads_starving b)

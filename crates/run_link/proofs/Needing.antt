@@ -10,8 +10,8 @@ use Rattle.records.specs.Open.{open_requests, greatest, has_none}
 use Rattle.records.specs.Told.{Told, Posted, Complained, Received, with_told, took_nothing}
 use Rattle.records.specs.Acts.{Began, AtLink, Outbox, owed_after_act, owed_after_post, target, needs_message, MayPost, MayTake, MayAct}
 use Rattle.schedule.specs.declared.arrived.Arrived.{Arrived}
-use Rattle.run_link.specs.PlayView as link
-use Rattle.run_link.specs.PlayView.{Play, PlaysNext, Turn}
+use Rattle.run_link.specs.StateView as link
+use Rattle.run_link.specs.StateView.{RunState, RunsEvent, Turn}
 use Rattle.run_link.specs.Moments.{Doing, Resting, Hearing, Answering, is_busy, Moment, record_of, at_link, Step, Begins, Tells, Takes, Settles, Brings, BringsNone, Pays, HandsCall, Replies, Runs, Starts, Then, Needs, RunsEndNeeding}
 use Rattle.run_link.proofs.Running.{turn_record, came_live, no_true}
 
@@ -86,7 +86,7 @@ told_wants minor (Complained about) marks o quiet may w = record { needed = w.ne
 told_wants minor (Received message) marks o quiet may w = cc
 
 -- where the link ends
-ended_wants : (m : Moment) (message : Incoming) (a : Play) → MayTake (record_of m.play) m.outbox → Turn m.play (Received message) a → a.over ≡ true
+ended_wants : (m : Moment) (message : Incoming) (a : RunState) → MayTake (record_of m.play) m.outbox → Turn m.play (Received message) a → a.over ≡ true
     → Wants (record_of a) (owed_after_act (AtLink (Received message)) (record_of m.play) m.outbox)
 ended_wants m message _ may (link.Takes _ a far) over = absurd (no_true (sym over ∙ came_live m.play a message far))
 ended_wants m _ _ may (link.TakesOwed live owed first) over = absurd (no_true (sym over ∙ live))
@@ -95,14 +95,14 @@ ended_wants m _ _ may (link.TakesEnd a live ends) over =
     (record { needed = may.needed; not_given_up = may.live })
 
 -- what is not a take doesn't end the link
-told_over : (b a : Play) (told : Told) → Turn b told a → took_nothing (told ∷ []) ≡ true → a.over ≡ b.over
+told_over : (b a : RunState) (told : Told) → Turn b told a → took_nothing (told ∷ []) ≡ true → a.over ≡ b.over
 told_over b _ _ (link.Takes message a far) quiet = cc
 told_over b _ _ (link.TakesOwed live owed first) quiet = cc
 told_over b _ _ (link.TakesEnd a live ends) quiet = cc
 told_over b _ _ (link.Posts to r result d unended lines) quiet = refl
 told_over b _ _ (link.Complains about) quiet = refl
 
-not_ended : {A : Type 0} (b a : Play) → a.over ≡ b.over → b.over ≡ false → a.over ≡ true → A
+not_ended : {A : Type 0} (b a : RunState) → a.over ≡ b.over → b.over ≡ false → a.over ≡ true → A
 not_ended b a same live over = absurd (no_true (sym over ∙ same ∙ live))
 
 not_hearing : {A : Type 0} (doing : Doing) (message : Incoming) (call : Arrived) → doing ≡ Hearing message → doing ≡ Answering call → A
@@ -134,7 +134,7 @@ step_needs minor m _ before (Brings message a between none next) over = not_ende
 step_needs minor m _ before (BringsNone a between none next) over = not_ended m.play a next.over between.live over
 step_needs minor m _ before (Pays between owed first) over = absurd (no_true (sym over ∙ between.live))
 step_needs minor m _ before (HandsCall call a between paid hands) over =
-    not_ended m.play a (ap (λ (p : Play). p.over) hands.after) between.live over
+    not_ended m.play a (ap (λ (p : RunState). p.over) hands.after) between.live over
 step_needs minor m _ before (Replies call reply answers live rest) over = absurd (no_true (sym over ∙ live))
 
 pub runs_end_needing : RunsEndNeeding

@@ -20,36 +20,36 @@ use Rattle.run_drivers.specs.Disks.{Disks}
 use Rattle.driver_events.specs.Ruling.{is_fault, gives_up}
 use Rattle.driver_events.proofs.Keeping.{events_note_aside, history_same}
 use Rattle.schedule.specs.declared.arrived.Arrived.{Arrived}
-use Rattle.run_link.specs.PlayView as link
-use Rattle.run_link.specs.PlayView.{Play, begun, noting, paid, ended, starving, posted, complained, ruling_at, PlaysNext, Advances, Stays, Goes, ComesToEnd, IsPlayedOut, IsStarved, IsSpent, Turn, GoesOn, Still, Further}
+use Rattle.run_link.specs.StateView as link
+use Rattle.run_link.specs.StateView.{RunState, begun, noting, paid, ended, starving, posted, complained, ruling_at, RunsEvent, Advances, Stays, Goes, ComesToEnd, IsRunOut, IsStarved, IsSpent, Turn, GoesOn, Still, Further}
 use Rattle.run_link.specs.Laws.{IsToldOfEnd, IsEndedRightly, ServersEndRightly}
 use Rattle.run_link.specs.Moments.{Doing, Resting, Hearing, Answering, is_busy, Moment, record_of, at_link, Step, Begins, Tells, Takes, Runs, Starts, Then}
-use Rattle.run_link.proofs.PlayLaws.{far_history, far_no_end, IsNoEnd, message_history, to_end_history, complaint_marks}
+use Rattle.run_link.proofs.MovingLaws.{far_history, far_no_end, IsNoEnd, message_history, to_end_history, complaint_marks}
 
 -- the history of a link
-abbrev pub history_of : Play → List Told
+abbrev pub history_of : RunState → List Told
 history_of p = p.scene.noted.history
 
 pub no_true : ◌≡◌ {A = Bool} true false → ⊥
 no_true h = cc
 
 -- an event changes neither the server's record nor whether the link has ended
-pub next_record : (b a : Play) (result : Option Incoming) → PlaysNext b result a → record_of a ≡ record_of b
+pub next_record : (b a : RunState) (result : Option Incoming) → RunsEvent b result a → record_of a ≡ record_of b
 next_record b a result p = (events_note_aside b.next p.event (begun p.event b.scene) a.scene result p.plays).marks
 
-pub next_history : (b a : Play) (result : Option Incoming) → PlaysNext b result a → history_of a ≡ history_of b
+pub next_history : (b a : RunState) (result : Option Incoming) → RunsEvent b result a → history_of a ≡ history_of b
 next_history b a result p = (events_note_aside b.next p.event (begun p.event b.scene) a.scene result p.plays).history
 
-pub far_record : (b a : Play) (result : Option Incoming) → Advances b result a → record_of a ≡ record_of b
+pub far_record : (b a : RunState) (result : Option Incoming) → Advances b result a → record_of a ≡ record_of b
 far_record b _ _ Stays = refl
 far_record b a _ (Goes m _ result before last) = next_record m a result last ∙ far_record b m None before
 
-far_over : (b a : Play) (result : Option Incoming) → Advances b result a → a.over ≡ b.over
+far_over : (b a : RunState) (result : Option Incoming) → Advances b result a → a.over ≡ b.over
 far_over b _ _ Stays = refl
 far_over b a _ (Goes m _ result before last) = last.over ∙ far_over b m None before
 
-to_end_record : (b a : Play) → ComesToEnd b a → record_of a ≡ record_of b
-to_end_record b a (IsPlayedOut _ far spent) = far_record b a None far
+to_end_record : (b a : RunState) → ComesToEnd b a → record_of a ≡ record_of b
+to_end_record b a (IsRunOut _ far spent) = far_record b a None far
 to_end_record b _ (IsStarved a far) = far_record b a None far
 
 -- a turn adds what it tells to the history
@@ -65,7 +65,7 @@ complained_history : (fault : Bool) (about : Endpoint) (n : Noted) → (with_ent
 complained_history true about n = ap (λ (l : List Told). Complained about ∷ l) (history_same (Fault about Complaint) n)
 complained_history false about n = refl
 
-turn_tells : (b a : Play) (told : Told) → Turn b told a → IsToldOfEnd b → history_of a ≡ told ∷ history_of b
+turn_tells : (b a : RunState) (told : Told) → Turn b told a → IsToldOfEnd b → history_of a ≡ told ∷ history_of b
 turn_tells b _ _ (link.Takes message a far) told =
     ap (λ (l : List Told). Received message ∷ l) (message_history message a.scene.noted ∙ far_history b a (Some message) far)
 turn_tells b _ _ (link.TakesOwed live owed first) told =
@@ -82,7 +82,7 @@ no_end_more incoming.GaveUp told h = refl
 no_end_more incoming.Flush told h = refl
 no_end_more incoming.End told h = absurd h
 
-turn_told_of_end : (b a : Play) (told : Told) → Turn b told a → IsToldOfEnd b → IsToldOfEnd a
+turn_told_of_end : (b a : RunState) (told : Told) → Turn b told a → IsToldOfEnd b → IsToldOfEnd a
 turn_told_of_end b _ _ (link.Takes message a far) told = record {
   is = ap took_end (turn_tells b (noting (entry.Received message) a) (Received message) (link.Takes message a far) told)
       ∙ no_end_more message (history_of b) (far_no_end b a (Some message) far) ∙ told.is ∙ sym (far_over b a (Some message) far);
@@ -100,12 +100,12 @@ turn_told_of_end b _ _ (link.Complains about) told = record {
   is = ap took_end (turn_tells b (complained about b) (Complained about) (link.Complains about) told) ∙ told.is;
 }
 
-pub goes_told_of_end : (b a : Play) → GoesOn b a → IsToldOfEnd b → IsToldOfEnd a
+pub goes_told_of_end : (b a : RunState) → GoesOn b a → IsToldOfEnd b → IsToldOfEnd a
 goes_told_of_end b _ Still told = told
 goes_told_of_end b a (Further m _ t before last) told = turn_told_of_end m a t last (goes_told_of_end b m before told)
 
 -- what goes on adds to the history
-goes_longer : (b a : Play) → GoesOn b a → IsToldOfEnd b → length (history_of b) ≤ length (history_of a)
+goes_longer : (b a : RunState) → GoesOn b a → IsToldOfEnd b → length (history_of b) ≤ length (history_of a)
 goes_longer b _ Still told = omega arith
 goes_longer b a (Further m _ t before last) told =
     let h : length (history_of b) ≤ length (history_of m) = goes_longer b m before told in
@@ -113,7 +113,7 @@ goes_longer b a (Further m _ t before last) told =
     omega (arith, h, e)
 
 -- where nothing was told, nothing went on
-pub none_told : (b a : Play) → GoesOn b a → IsToldOfEnd b → history_of a ≡ history_of b → a ≡ b
+pub none_told : (b a : RunState) → GoesOn b a → IsToldOfEnd b → history_of a ≡ history_of b → a ≡ b
 none_told b _ Still told same = refl
 none_told b a (Further m _ t before last) told same =
     let h : length (history_of b) ≤ length (history_of m) = goes_longer b m before told in
@@ -122,8 +122,8 @@ none_told b a (Further m _ t before last) told same =
     absurd (omega (arith, h, e, s))
 
 -- the last thing that was told is the last turn
-record LastTurn (b a : Play) (t : Told) (rest : List Told) : Type 0 where
-  between : Play
+record LastTurn (b a : RunState) (t : Told) (rest : List Told) : Type 0 where
+  between : RunState
   before : GoesOn b between
   told_before : history_of between ≡ rest ++ history_of b
   turn : Turn between t a
@@ -134,7 +134,7 @@ first_told t u k l h = cc
 later_told : (t u : Told) (k l : List Told) → t ∷ k ≡ u ∷ l → k ≡ l
 later_told t u k l h = cc
 
-last_turn : (b a : Play) (t : Told) (rest : List Told) → GoesOn b a → IsToldOfEnd b → history_of a ≡ t ∷ (rest ++ history_of b) → LastTurn b a t rest
+last_turn : (b a : RunState) (t : Told) (rest : List Told) → GoesOn b a → IsToldOfEnd b → history_of a ≡ t ∷ (rest ++ history_of b) → LastTurn b a t rest
 last_turn b _ t rest Still told is =
     let e : length (history_of b) ≡ suc (length (rest ++ history_of b)) = ap length is in
     let l : length (rest ++ history_of b) ≡ length rest + length (history_of b) = length-append rest (history_of b) in
@@ -149,10 +149,10 @@ last_turn b a t rest (Further m _ u before last) told is =
     }
 
 -- a turn leaves the mark of what it tells in the server's record
-received_record : (m : Incoming) (p : Play) → record_of (noting (entry.Received m) p) ≡ received m (record_of p)
+received_record : (m : Incoming) (p : RunState) → record_of (noting (entry.Received m) p) ≡ received m (record_of p)
 received_record m p = ap without_faults (message_in m p.scene.noted) ∙ leave_same_mark m (marks_in p.scene.noted)
 
-pub handed_record : (m : Incoming) (p : Play) → record_of (noting (entry.Handed m) p) ≡ received m (record_of p)
+pub handed_record : (m : Incoming) (p : RunState) → record_of (noting (entry.Handed m) p) ≡ received m (record_of p)
 handed_record m p = ap without_faults (message_in m p.scene.noted) ∙ leave_same_mark m (marks_in p.scene.noted)
 
 posted_record : (accepted : Bool) (to : Endpoint) (r : BlockRequest) (n : Noted)
@@ -160,7 +160,7 @@ posted_record : (accepted : Bool) (to : Endpoint) (r : BlockRequest) (n : Noted)
 posted_record true to r n = ap without_faults (mark_in (Issued r to) n)
 posted_record false to r n = refl
 
-pub turn_record : (b a : Play) (told : Told) → Turn b told a → record_of a ≡ with_told told (record_of b)
+pub turn_record : (b a : RunState) (told : Told) → Turn b told a → record_of a ≡ with_told told (record_of b)
 turn_record b _ _ (link.Takes message a far) = received_record message a ∙ ap (received message) (far_record b a (Some message) far)
 turn_record b _ _ (link.TakesOwed live owed first) = received_record incoming.GaveUp (paid b)
 turn_record b _ _ (link.TakesEnd a live ends) = to_end_record b a ends
@@ -183,12 +183,12 @@ may_take_before (Hearing message) (Received m) told may = cc
 may_take_before (Answering call) t told may = tt
 
 -- the run led there from here by these acts of the server
-pub record Reaches (minor : ℕ) (doing : Doing) (b : Play) (o : Outbox) (acts : List Act) (marks : List Mark) (a : Play) : Type 0 where
+pub record Reaches (minor : ℕ) (doing : Doing) (b : RunState) (o : Outbox) (acts : List Act) (marks : List Mark) (a : RunState) : Type 0 where
   pub runs : Runs minor (record { play = b; outbox = o; doing = doing }) (record { play = a; outbox = outbox_after acts marks o; doing = doing })
   pub record_is : record_of a ≡ marks_after acts marks
 
 -- one turn of a server that may act so
-turn_step : (minor : ℕ) (doing : Doing) (told : Told) (more : List Told) (m a : Play) (o : Outbox) → is_busy doing ≡ true → MayTakeIn doing (told ∷ more)
+turn_step : (minor : ℕ) (doing : Doing) (told : Told) (more : List Told) (m a : RunState) (o : Outbox) → is_busy doing ≡ true → MayTakeIn doing (told ∷ more)
     → MayAct minor (record_of m) o (AtLink told) → Turn m told a
     → Step minor (record { play = m; outbox = o; doing = doing }) (at_link told a (record { play = m; outbox = o; doing = doing }))
 turn_step minor doing (Posted to r accepted) more m a o busy take may turn = Tells (Posted to r accepted) a busy refl may turn
@@ -198,13 +198,13 @@ turn_step minor (Hearing x) (Received message) more m a o busy take may turn = c
 turn_step minor (Answering call) (Received message) more m a o busy take may turn = Takes message call a refl may turn
 
 -- what a server does at its link by the rules
-pub acts_run : (minor : ℕ) (doing : Doing) (b : Play) (o : Outbox) (marks : List Mark) → is_busy doing ≡ true → IsToldOfEnd b → record_of b ≡ marks
-    → (acts : List Act) (a : Play) → GoesOn b a → history_of a ≡ told_of acts ++ history_of b → has_absorbed acts ≡ false → MayTakeIn doing (told_of acts)
+pub acts_run : (minor : ℕ) (doing : Doing) (b : RunState) (o : Outbox) (marks : List Mark) → is_busy doing ≡ true → IsToldOfEnd b → record_of b ≡ marks
+    → (acts : List Act) (a : RunState) → GoesOn b a → history_of a ≡ told_of acts ++ history_of b → has_absorbed acts ≡ false → MayTakeIn doing (told_of acts)
     → KeepsRules minor acts marks o → Reaches minor doing b o acts marks a
 acts_run minor doing b o marks busy told is [] a on history none take keeps =
     let same : a ≡ b = none_told b a on told history in
     record {
-      runs = subst (λ (p : Play). Runs minor (record { play = b; outbox = o; doing = doing }) (record { play = p; outbox = o; doing = doing })) (sym same) Starts;
+      runs = subst (λ (p : RunState). Runs minor (record { play = b; outbox = o; doing = doing }) (record { play = p; outbox = o; doing = doing })) (sym same) Starts;
       record_is = ap record_of same ∙ is;
     }
 acts_run minor doing b o marks busy told is (Began r ∷ acts) a on history none take keeps =
@@ -269,8 +269,8 @@ acts_after minor (act ∷ acts) message marks o keeps =
           ∙ ap (λ (l : List Mark). owed_after_act act l (outbox_after acts (received message marks) (owed_after_message message marks o))) at;
     }
 
--- where no message was taken, no event was played
-quiet_turn : (b a : Play) (told : Told) (rest : List Told) → Turn b told a → took_nothing (told ∷ rest) ≡ true → a.next ≡ b.next
+-- where no message was taken, no event was run
+quiet_turn : (b a : RunState) (told : Told) (rest : List Told) → Turn b told a → took_nothing (told ∷ rest) ≡ true → a.next ≡ b.next
 quiet_turn b _ _ rest (link.Takes message a far) quiet = cc
 quiet_turn b _ _ rest (link.TakesOwed live owed first) quiet = cc
 quiet_turn b _ _ rest (link.TakesEnd a live ends) quiet = cc
@@ -282,14 +282,14 @@ quiet_before (Posted to r accepted) told quiet = quiet
 quiet_before (Complained e) told quiet = quiet
 quiet_before (Received m) told quiet = cc
 
-pub quiet_next : (b a : Play) (told : List Told) → GoesOn b a → IsToldOfEnd b → history_of a ≡ told ++ history_of b → took_nothing told ≡ true → a.next ≡ b.next
-quiet_next b a [] on end history quiet = ap (λ (p : Play). p.next) (none_told b a on end history)
+pub quiet_next : (b a : RunState) (told : List Told) → GoesOn b a → IsToldOfEnd b → history_of a ≡ told ++ history_of b → took_nothing told ≡ true → a.next ≡ b.next
+quiet_next b a [] on end history quiet = ap (λ (p : RunState). p.next) (none_told b a on end history)
 quiet_next b a (t ∷ rest) on end history quiet =
     let last : LastTurn b a t rest = last_turn b a t rest on end history in
     quiet_turn last.between a t rest last.turn quiet ∙ quiet_next b last.between rest last.before end last.told_before (quiet_before t rest quiet)
 
 -- the link ends rightly
-pub came_live : (b a : Play) (message : Incoming) → Advances b (Some message) a → a.over ≡ false
+pub came_live : (b a : RunState) (message : Incoming) → Advances b (Some message) a → a.over ≡ false
 came_live b a message (Goes m _ _ before last) = last.over ∙ last.live
 
 spent_still : (owed gives told over : Bool) → owed ≡ false → over ≡ true → (owed || (gives && not told && not over)) ≡ false
@@ -299,26 +299,26 @@ spent_still false true false true paid ended = refl
 spent_still false false told true paid ended = refl
 spent_still false gives told false paid ended = absurd (no_true (sym ended))
 
-to_end_rightly : (b a : Play) → ComesToEnd b a → (a.starved ≡ true) ⊎ IsSpent a
-to_end_rightly b a (IsPlayedOut _ far spent) = inr spent
+to_end_rightly : (b a : RunState) → ComesToEnd b a → (a.starved ≡ true) ⊎ IsSpent a
+to_end_rightly b a (IsRunOut _ far spent) = inr spent
 to_end_rightly b _ (IsStarved a far) = inl refl
 
-ended_spent : (a : Play) → (a.starved ≡ true) ⊎ IsSpent a → ((ended a).starved ≡ true) ⊎ IsSpent (ended a)
+ended_spent : (a : RunState) → (a.starved ≡ true) ⊎ IsSpent a → ((ended a).starved ≡ true) ⊎ IsSpent (ended a)
 ended_spent a (inl starved) = inl starved
 ended_spent a (inr spent) = inr (record { events = spent.events; paid = spent.paid })
 
-posted_spent : (to : Endpoint) (r : BlockRequest) (accepted : Bool) (d : Disks) (b : Play) → (b.starved ≡ true) ⊎ IsSpent b
+posted_spent : (to : Endpoint) (r : BlockRequest) (accepted : Bool) (d : Disks) (b : RunState) → (b.starved ≡ true) ⊎ IsSpent b
     → ((posted to r accepted d b).starved ≡ true) ⊎ IsSpent (posted to r accepted d b)
 posted_spent to r accepted d b (inl starved) = inl starved
 posted_spent to r accepted d b (inr spent) = inr (record { events = spent.events; paid = spent.paid })
 
-complained_spent : (about : Endpoint) (b : Play) → b.over ≡ true → (b.starved ≡ true) ⊎ IsSpent b
+complained_spent : (about : Endpoint) (b : RunState) → b.over ≡ true → (b.starved ≡ true) ⊎ IsSpent b
     → ((complained about b).starved ≡ true) ⊎ IsSpent (complained about b)
 complained_spent about b over (inl starved) = inl starved
 complained_spent about b over (inr spent) =
     inr (record { events = spent.events; paid = spent_still b.owed (gives_up (ruling_at about b.scene)) b.told b.over spent.paid over })
 
-turn_ends_rightly : (b a : Play) (told : Told) → Turn b told a → IsEndedRightly b → IsEndedRightly a
+turn_ends_rightly : (b a : RunState) (told : Told) → Turn b told a → IsEndedRightly b → IsEndedRightly a
 turn_ends_rightly b _ _ (link.Takes message a far) h = record { why = λ over. absurd (no_true (sym over ∙ came_live b a message far)) }
 turn_ends_rightly b _ _ (link.TakesOwed live owed first) h = record { why = λ over. absurd (no_true (sym over ∙ live)) }
 turn_ends_rightly b _ _ (link.TakesEnd a live ends) h = record { why = λ over. ended_spent a (to_end_rightly b a ends) }

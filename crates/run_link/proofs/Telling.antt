@@ -16,7 +16,7 @@ use Rattle.schedule.proofs.NotedLaws.{mark_in, message_in}
 use Rattle.driver_events.specs.Kept.{NotesAside}
 use Rattle.driver_events.specs.Ruling.{is_fault}
 use Rattle.driver_events.proofs.Keeping.{events_note_aside}
-use Rattle.run_link.specs.PlayView.{Play, begun, noting, ended, starving, posted, complained, ruling_at, PlaysNext, Advances, Stays, Goes, ComesToEnd, IsPlayedOut, IsStarved, Turn, Takes, TakesOwed, TakesEnd, Posts, Complains, Still, Further, HandsEvent, HandsNone, HandsOwed, HandsNothing}
+use Rattle.run_link.specs.StateView.{RunState, begun, noting, ended, starving, posted, complained, ruling_at, RunsEvent, Advances, Stays, Goes, ComesToEnd, IsRunOut, IsStarved, Turn, Takes, TakesOwed, TakesEnd, Posts, Complains, Still, Further, HandsEvent, HandsNone, HandsOwed, HandsNothing}
 use Rattle.run_link.specs.Laws.{IsToldTruly, ServersTellTruly, AsidesTellTruly}
 
 -- a device stays given up
@@ -55,25 +55,25 @@ given_aside : (b a : Noted) → NotesAside b a → gave_up (marks_in b) ≡ true
 given_aside b a aside h =
     sym (faults_change_nothing (marks_in a)).given_up ∙ ap gave_up aside.marks ∙ (faults_change_nothing (marks_in b)).given_up ∙ h
 
-truly_same : (b a : Play) → a.told ≡ b.told → (gave_up (marks_in b.scene.noted) ≡ true → gave_up (marks_in a.scene.noted) ≡ true) → IsToldTruly b → IsToldTruly a
+truly_same : (b a : RunState) → a.told ≡ b.told → (gave_up (marks_in b.scene.noted) ≡ true → gave_up (marks_in a.scene.noted) ≡ true) → IsToldTruly b → IsToldTruly a
 truly_same b a same given h = record { told = λ is. given (h.told (sym same ∙ is)) }
 
-truly_noted : (b : Play) (e : Entry) → IsToldTruly b → IsToldTruly (noting e b)
+truly_noted : (b : RunState) (e : Entry) → IsToldTruly b → IsToldTruly (noting e b)
 truly_noted b e h = truly_same b (noting e b) refl (given_entry e b.scene.noted) h
 
-truly_next : (b a : Play) (result : Option Incoming) → PlaysNext b result a → IsToldTruly b → IsToldTruly a
+truly_next : (b a : RunState) (result : Option Incoming) → RunsEvent b result a → IsToldTruly b → IsToldTruly a
 truly_next b a result p h = truly_same b a p.told
     (given_aside (begun p.event b.scene).noted a.scene.noted (events_note_aside b.next p.event (begun p.event b.scene) a.scene result p.plays)) h
 
-truly_far : (b a : Play) (result : Option Incoming) → Advances b result a → IsToldTruly b → IsToldTruly a
+truly_far : (b a : RunState) (result : Option Incoming) → Advances b result a → IsToldTruly b → IsToldTruly a
 truly_far b _ _ Stays h = h
 truly_far b a _ (Goes m _ result before last) h = truly_next m a result last (truly_far b m None before h)
 
-truly_to_end : (b a : Play) → ComesToEnd b a → IsToldTruly b → IsToldTruly a
-truly_to_end b a (IsPlayedOut _ far spent) h = truly_far b a None far h
+truly_to_end : (b a : RunState) → ComesToEnd b a → IsToldTruly b → IsToldTruly a
+truly_to_end b a (IsRunOut _ far spent) h = truly_far b a None far h
 truly_to_end b _ (IsStarved a far) h = truly_same a (starving a) refl (λ given. given) (truly_far b a None far h)
 
-truly_turn : (b a : Play) (told : Told) → Turn b told a → IsToldTruly b → IsToldTruly a
+truly_turn : (b a : RunState) (told : Told) → Turn b told a → IsToldTruly b → IsToldTruly a
 truly_turn b _ _ (Takes message a far) h = truly_noted a (entry.Received message) (truly_far b a (Some message) far h)
 truly_turn b _ _ (TakesOwed live owed first) h = record { told = λ is. ap gave_up (message_in incoming.GaveUp b.scene.noted) }
 truly_turn b _ _ (TakesEnd a live ends) h = truly_same a (ended a) refl (λ given. given) (truly_to_end b a ends h)

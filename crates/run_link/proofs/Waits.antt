@@ -22,7 +22,7 @@ use Rattle.driver_events.specs.Kept.{NotesAside}
 use Rattle.driver_events.specs.Ruling.{is_fault}
 use Rattle.driver_events.proofs.Keeping.{events_note_aside}
 use Rattle.schedule.specs.declared.arrived.Arrived.{Arrived}
-use Rattle.run_link.specs.PlayView.{Play, begun, noting, paid, ended, starving, posted, complained, ruling_at, PlaysNext, Advances, Stays, Goes, ComesToEnd, IsPlayedOut, IsStarved, Turn, Takes, TakesOwed, TakesEnd, Posts, Complains, Still, Further, HandsEvent, HandsNone, HandsOwed, HandsNothing}
+use Rattle.run_link.specs.StateView.{RunState, begun, noting, paid, ended, starving, posted, complained, ruling_at, RunsEvent, Advances, Stays, Goes, ComesToEnd, IsRunOut, IsStarved, Turn, Takes, TakesOwed, TakesEnd, Posts, Complains, Still, Further, HandsEvent, HandsNone, HandsOwed, HandsNothing}
 use Rattle.schedule.specs.ArrivingCalls.{calls_of}
 use Rattle.run_link.specs.Waiting.{arrival_of, HasCalls, ServersHandNone, AsidesHandNone, OneIsHandedOut, ItIsAnswered}
 use Rattle.run_link.proofs.Leading.{is_beginning, entry_events}
@@ -110,7 +110,7 @@ taken_entry (entry.Faulted e cause) n other = ap taken (mark_in (Fault e cause) 
 taken_entry (entry.Took who now call reply) n other = cc
 
 -- with the same calls that arrived, that wait and that were answered
-calls_same : (out : List Arrival) (b a : Play) → map event_of a.scene.noted.groups ≡ map event_of b.scene.noted.groups → a.queue ≡ b.queue
+calls_same : (out : List Arrival) (b a : RunState) → map event_of a.scene.noted.groups ≡ map event_of b.scene.noted.groups → a.queue ≡ b.queue
     → taken (marks_in a.scene.noted) ≡ taken (marks_in b.scene.noted) → HasCalls out b → HasCalls out a
 calls_same out b a events queue answered h = record {
   order = same_arrived b.scene.noted.groups a.scene.noted.groups events ∙ h.order
@@ -127,12 +127,12 @@ other_is_within (entry.Handed m) other = refl
 other_is_within (entry.Faulted e cause) other = refl
 other_is_within (entry.Took who now call reply) other = refl
 
-calls_noted : (out : List Arrival) (b : Play) (e : Entry) → is_other e ≡ true → HasCalls out b → HasCalls out (noting e b)
+calls_noted : (out : List Arrival) (b : RunState) (e : Entry) → is_other e ≡ true → HasCalls out b → HasCalls out (noting e b)
 calls_noted out b e other h =
     calls_same out b (noting e b) (entry_events e b.scene.noted (other_is_within e other)) refl (taken_entry e b.scene.noted other) h
 
--- an event is played: the call that it brings waits
-calls_next : (out : List Arrival) (b a : Play) (result : Option Incoming) → PlaysNext b result a → HasCalls out b → HasCalls out a
+-- an event is run: the call that it brings waits
+calls_next : (out : List Arrival) (b a : RunState) (result : Option Incoming) → RunsEvent b result a → HasCalls out b → HasCalls out a
 calls_next out b a result p h =
     let aside : NotesAside (begun p.event b.scene).noted a.scene.noted = events_note_aside b.next p.event (begun p.event b.scene) a.scene result p.plays in
     let rest : List Arrival = out ++ taken (marks_in b.scene.noted) in
@@ -147,15 +147,15 @@ calls_next out b a result p h =
           (sym (same_taken (marks_in b.scene.noted) (marks_in a.scene.noted) aside.marks));
     }
 
-calls_far : (out : List Arrival) (b a : Play) (result : Option Incoming) → Advances b result a → HasCalls out b → HasCalls out a
+calls_far : (out : List Arrival) (b a : RunState) (result : Option Incoming) → Advances b result a → HasCalls out b → HasCalls out a
 calls_far out b _ _ Stays h = h
 calls_far out b a _ (Goes m _ result before last) h = calls_next out m a result last (calls_far out b m None before h)
 
-calls_to_end : (out : List Arrival) (b a : Play) → ComesToEnd b a → HasCalls out b → HasCalls out a
-calls_to_end out b a (IsPlayedOut _ far spent) h = calls_far out b a None far h
+calls_to_end : (out : List Arrival) (b a : RunState) → ComesToEnd b a → HasCalls out b → HasCalls out a
+calls_to_end out b a (IsRunOut _ far spent) h = calls_far out b a None far h
 calls_to_end out b _ (IsStarved a far) h = calls_same out a (starving a) refl refl refl (calls_far out b a None far h)
 
-calls_turn : (out : List Arrival) (b a : Play) (told : Told) → Turn b told a → HasCalls out b → HasCalls out a
+calls_turn : (out : List Arrival) (b a : RunState) (told : Told) → Turn b told a → HasCalls out b → HasCalls out a
 calls_turn out b _ _ (Takes message a far) h = calls_noted out a (entry.Received message) refl (calls_far out b a (Some message) far h)
 calls_turn out b _ _ (TakesOwed live owed first) h = calls_noted out (paid b) (entry.Received incoming.GaveUp) refl (calls_same out b (paid b) refl refl refl h)
 calls_turn out b _ _ (TakesEnd a live ends) h = calls_same out a (ended a) refl refl refl (calls_to_end out b a ends h)
@@ -188,13 +188,13 @@ first_out (x ∷ queue) call rest is =
       one c d h = cc
 
 pub one_is_handed_out : OneIsHandedOut
-one_is_handed_out b a call hands h = subst (λ (p : Play). HasCalls (arrival_of call ∷ []) p) (sym hands.after)
+one_is_handed_out b a call hands h = subst (λ (p : RunState). HasCalls (arrival_of call ∷ []) p) (sym hands.after)
     (record { order = h.order ∙ first_out b.queue call (taken (marks_in b.scene.noted)) hands.first })
 
 pub it_is_answered : ItIsAnswered
 it_is_answered b a call reply is h =
     let e : Entry = entry.Took call.who call.now call.call reply in
-    subst (λ (p : Play). HasCalls [] p) (sym is) (record {
+    subst (λ (p : RunState). HasCalls [] p) (sym is) (record {
       order = same_arrived b.scene.noted.groups (noting e b).scene.noted.groups (entry_events e b.scene.noted refl) ∙ h.order
           ∙ ap (λ (l : List Arrival). reverse (map arrival_of b.queue) ++ l)
           (sym (ap taken (mark_in (Took call.who call.now call.call (answer_of reply)) b.scene.noted)));

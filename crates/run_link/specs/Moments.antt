@@ -11,10 +11,10 @@ use Rattle.schedule.specs.Faultless.{without_faults}
 use Rattle.schedule.specs.Noted.{marks_in}
 use Rattle.schedule.specs.declared.log.Entry.TheVariants as entry
 use Rattle.schedule.specs.declared.arrived.Arrived.{Arrived}
-use Rattle.run_link.specs.PlayView.{Play, PlaysNext, Turn, HandsOut, noting, paid}
+use Rattle.run_link.specs.StateView.{RunState, RunsEvent, Turn, HandsOut, noting, paid}
 
 -- the server's record: the run's without its faults
-abbrev pub record_of : Play → List Mark
+abbrev pub record_of : RunState → List Mark
 record_of p = without_faults (marks_in p.scene.noted)
 
 -- The server does nothing; it hears a message between two calls; it answers a call.
@@ -30,7 +30,7 @@ is_busy (Answering call) = true
 
 -- what stands at the link, what the server owes it, and what the server is doing
 pub record Moment : Type 0 where
-  pub play : Play
+  pub play : RunState
   pub outbox : Outbox
   pub doing : Doing
 
@@ -41,7 +41,7 @@ pub record IsBetween (m : Moment) : Type 0 where
   pub at_rest : IsAtRest (record_of m.play) m.outbox
 
 -- a message is handed over, which is noted here
-abbrev pub hearing : Incoming → Play → Moment → Moment
+abbrev pub hearing : Incoming → RunState → Moment → Moment
 hearing message a m = record {
   play = noting (entry.Handed message) a;
   outbox = owed_after_message message (record_of m.play) m.outbox;
@@ -49,26 +49,26 @@ hearing message a m = record {
 }
 
 -- the link is told something, or gives it
-abbrev pub at_link : Told → Play → Moment → Moment
+abbrev pub at_link : Told → RunState → Moment → Moment
 at_link told a m = record m { play = a; outbox = owed_after_act (AtLink told) (record_of m.play) m.outbox }
 
 -- One step of a run, by the rules of what a server may do. While it hears a message or answers a call, a request becomes pending, or the link
 -- is told something; a message is taken within a call alone. A message was heard. Between two calls, where none waits, the next event is
--- played, and the message that it brings, if there is one, is handed over. That the device was given up is handed over, if it is owed; where
+-- run, and the message that it brings, if there is one, is handed over. That the device was given up is handed over, if it is owed; where
 -- it isn't, the first call that waits is handed out. A call is answered, while the link hasn't ended.
 pub data Step (minor : ℕ) (m : Moment) : Moment → Type 0 where
   Begins : (r : BlockRequest) → is_busy m.doing ≡ true → MayBegin (record_of m.play) m.outbox r
       → Step minor m (record m { outbox = owed_after_act (Began r) (record_of m.play) m.outbox })
-  Tells : (told : Told) (a : Play) → is_busy m.doing ≡ true → took_nothing (told ∷ []) ≡ true
+  Tells : (told : Told) (a : RunState) → is_busy m.doing ≡ true → took_nothing (told ∷ []) ≡ true
       → MayAct minor (record_of m.play) m.outbox (AtLink told) → Turn m.play told a → Step minor m (at_link told a m)
-  Takes : (message : Incoming) (call : Arrived) (a : Play) → m.doing ≡ Answering call → MayTake (record_of m.play) m.outbox
+  Takes : (message : Incoming) (call : Arrived) (a : RunState) → m.doing ≡ Answering call → MayTake (record_of m.play) m.outbox
       → Turn m.play (Received message) a → Step minor m (at_link (Received message) a m)
   Settles : (message : Incoming) → m.doing ≡ Hearing message → IsAtRest (record_of m.play) m.outbox → Step minor m (record m { doing = Resting })
-  Brings : (message : Incoming) (a : Play) → IsBetween m → m.play.queue ≡ [] → PlaysNext m.play (Some message) a
+  Brings : (message : Incoming) (a : RunState) → IsBetween m → m.play.queue ≡ [] → RunsEvent m.play (Some message) a
       → Step minor m (hearing message a m)
-  BringsNone : (a : Play) → IsBetween m → m.play.queue ≡ [] → PlaysNext m.play None a → Step minor m (record m { play = a })
+  BringsNone : (a : RunState) → IsBetween m → m.play.queue ≡ [] → RunsEvent m.play None a → Step minor m (record m { play = a })
   Pays : IsBetween m → m.play.owed ≡ true → m.play.told ≡ false → Step minor m (hearing incoming.GaveUp (paid m.play) m)
-  HandsCall : (call : Arrived) (a : Play) → IsBetween m → m.play.owed ≡ false → HandsOut m.play (Some call) a
+  HandsCall : (call : Arrived) (a : RunState) → IsBetween m → m.play.owed ≡ false → HandsOut m.play (Some call) a
       → Step minor m (record m { play = a; doing = Answering call })
   Replies : (call : Arrived) (reply : Reply) → m.doing ≡ Answering call → m.play.over ≡ false → IsAtRest (record_of m.play) m.outbox
       → Step minor m (record m { play = noting (entry.Took call.who call.now call.call reply) m.play; doing = Resting })

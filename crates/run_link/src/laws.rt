@@ -16,7 +16,7 @@ pub fn media_are_held()
     ensures { MediaAreHeld }
 {}
 
-/// After whatever a server does at the link: the schedule stays, no event is played twice, no more is left to do, and the events that were
+/// After whatever a server does at the link: the schedule stays, no event is run twice, no more is left to do, and the events that were
 /// noted are still those of the schedule.
 #[tactic(auto, using(crate::proofs::Leading::servers_lead_on))]
 pub fn servers_lead_on()
@@ -73,7 +73,7 @@ pub fn servers_tell_truly()
     ensures { ServersTellTruly }
 {}
 
-/// The link ends only once each event was played and nothing is owed, or for want of memory.
+/// The link ends only once each event was run and nothing is owed, or for want of memory.
 #[tactic(auto, using(crate::proofs::Running::servers_end_rightly))]
 pub fn servers_end_rightly()
     ensures { ServersEndRightly }

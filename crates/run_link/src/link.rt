@@ -5,7 +5,7 @@ ghost use Rattle.std.specs.VecDeque.{deque_len, deque_capacity};
 ghost use Rattle.records.specs.Opening.{Opening};
 ghost use Rattle.records.specs.Marks.{Mark};
 
-use crate::playing::Playing;
+use crate::run::RunLink;
 use schedule::queue::wait;
 use driver_events::ruling::complain;
 use message::endpoint::Endpoint;
@@ -15,13 +15,13 @@ use crate::room::{event_at, make_room};
 use reissue::link::{Link, LinkRefusal, TrueLink};
 use schedule::Entry;
 
-impl<'a, D: LocalDriver> Playing<'a, D> {
+impl<'a, D: LocalDriver> RunLink<'a, D> {
     ghost use Rattle.schedule.specs.LogView.{said, room_in};
     ghost use Rattle.run_drivers.specs.View.{HasRoom};
     ghost use Rattle.driver_events.specs.Kept.{with_next};
-    ghost use Rattle.run_link.specs.PlayView.{play_of, PlaysNext, Advances, ComesToEnd, PlayTrue, GoesOn, left_of};
+    ghost use Rattle.run_link.specs.StateView.{run_of, RunsEvent, Advances, ComesToEnd, RunTruth, GoesOn, left_of};
 
-    /// Plays the next event: what message it brings, if any.
+    /// Occurs the next event: what message it brings, if any.
     pub fn play(&mut self) -> Option<Incoming>
         requires left { self.old.next < length self.old.events.now }
         requires live { self.old.log.over ≡ false }
@@ -29,7 +29,7 @@ impl<'a, D: LocalDriver> Playing<'a, D> {
         requires log { 1 < room_in self.old.log }
         requires drivers { HasRoom self.old.stage.drivers }
         requires queue { deque_len self.old.queue < deque_capacity self.old.queue }
-        ensures plays { PlaysNext (play_of D.state self.old) result (play_of D.state self.new) }
+        ensures plays { RunsEvent (run_of D.state self.old) result (run_of D.state self.new) }
         ensures room { room_in self.old.log ≤ room_in self.new.log + 2 }
         ensures over { self.new.log.over ≡ self.old.log.over }
     {
@@ -41,16 +41,16 @@ impl<'a, D: LocalDriver> Playing<'a, D> {
         self.stage.play(self.alloc, &mut self.log, place, &event)
     }
 
-    #[tactic(auto, using(crate::proofs::PlayLaws::advanced, crate::proofs::PlayLaws::advanced_more))]
-    /// Plays events until one brings a message; none, if each was played or no memory was found.
+    #[tactic(auto, using(crate::proofs::MovingLaws::advanced, crate::proofs::MovingLaws::advanced_more))]
+    /// Occurs events until one brings a message; none, if each was run or no memory was found.
     fn advance(&mut self) -> Option<Incoming>
         requires live { self.old.log.over ≡ false }
         requires paid { self.old.owed ≡ false }
         requires log { 36 ≤ room_in self.old.log }
         requires drivers { HasRoom self.old.stage.drivers }
         requires queue { deque_len self.old.queue < deque_capacity self.old.queue }
-        ensures came { IfSome result (λ m. Advances (play_of D.state self.old) (Some m) (play_of D.state self.new)) }
-        ensures ends { result ≡ None → ComesToEnd (play_of D.state self.old) (play_of D.state self.new) }
+        ensures came { IfSome result (λ m. Advances (run_of D.state self.old) (Some m) (run_of D.state self.new)) }
+        ensures ends { result ≡ None → ComesToEnd (run_of D.state self.old) (run_of D.state self.new) }
         ensures room { IfSome result (λ m. 34 ≤ room_in self.new.log) }
         ensures next { IfSome result (λ m. self.old.next < self.new.next) }
         ensures over { self.new.log.over ≡ false }
@@ -75,10 +75,10 @@ fn owes(owed: bool, gives_up: bool, told: bool, over: bool) -> bool
     owed || (gives_up && !told && !over)
 }
 
-impl<'a, D: LocalDriver> Link for Playing<'a, D> {
+impl<'a, D: LocalDriver> Link for RunLink<'a, D> {
     ghost use Rattle.schedule.specs.LogView.{said as said_in, room_in as room_left};
     ghost use Rattle.driver_events.specs.StageView.{scene_of};
-    ghost use Rattle.run_link.specs.PlayView.{PlayTrue as IsPlayTrue, left_of as left_by, GoesOn as HasGoneOn, play_of as played};
+    ghost use Rattle.run_link.specs.StateView.{RunTruth as IsRunTruth, left_of as left_by, GoesOn as HasGoneOn, run_of as played};
     ghost use Rattle.run_link.specs.Goes.{goes_stays, goes_joins};
 
     ghost history = { λ l. (said_in l.log).history };
@@ -87,7 +87,7 @@ impl<'a, D: LocalDriver> Link for Playing<'a, D> {
 
     ghost room = { λ l. room_left l.log };
 
-    ghost truth = { λ l v marks. IsPlayTrue v (scene_of D.state l.stage (said_in l.log)) marks };
+    ghost truth = { λ l v marks. IsRunTruth v (scene_of D.state l.stage (said_in l.log)) marks };
 
     ghost goes_on = { λ l m. HasGoneOn (played D.state l) (played D.state m) };
 
@@ -110,7 +110,7 @@ impl<'a, D: LocalDriver> Link for Playing<'a, D> {
         self.log.note(Entry::Complained(about, ruling.is_fault()));
     }
 
-    #[tactic(auto, using(crate::proofs::PlayLaws::ended_true, crate::proofs::PlayLaws::true_of))]
+    #[tactic(auto, using(crate::proofs::MovingLaws::ended_true, crate::proofs::MovingLaws::true_of))]
     fn take(&mut self) -> Incoming {
         let over = self.log.over;
         if over {
@@ -152,8 +152,8 @@ impl<'a, D: LocalDriver> Link for Playing<'a, D> {
     ghost joins = { λ a b c first next. goes_joins (played D.state a) (played D.state b) (played D.state c) first next };
 }
 
-impl<'a, D: LocalDriver> TrueLink for Playing<'a, D> {
-    ghost use Rattle.run_link.specs.Goes.{replies_of_play};
+impl<'a, D: LocalDriver> TrueLink for RunLink<'a, D> {
+    ghost use Rattle.run_link.specs.Goes.{replies_of_run};
 
-    ghost replies_are_true = { λ l v marks kept. replies_of_play v _ marks kept };
+    ghost replies_are_true = { λ l v marks kept. replies_of_run v _ marks kept };
 }

@@ -44,7 +44,7 @@ pub fn make_room<'a, D: LocalDriver>(
 }
 
 /// The event with this number.
-#[tactic(auto, using(crate::proofs::PlayLaws::there))]
+#[tactic(auto, using(crate::proofs::MovingLaws::there))]
 pub fn event_at<'a>(events: &[Event<'a>], next: usize) -> Event<'a>
     requires { next < length events.now }
     ensures { slice_get events.now next ≡ Some result }

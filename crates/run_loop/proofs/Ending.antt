@@ -1,4 +1,4 @@
--- A run that was played out holds.
+-- A run that was run out holds.
 use Rattle.std.proofs.Common.{◌≡◌, ◌⊎◌, inl, inr, ℕ, zero, suc, ◌+◌, ◌*◌, ◌<◌, ◌≤◌, List, [], ◌∷◌, ◌++◌, Bool, true, false, refl, sym, ◌∙◌, ap, subst, arith, length}
 use Rattle.std.specs.Prelude.{if◌then◌else◌, map, reverse, take}
 use Rattle.std.proofs.lemmas.List.{append_assoc, length-append, length-reverse}
@@ -20,7 +20,7 @@ use Rattle.schedule.specs.Headline.{Transcript, RepliesHold}
 use Rattle.schedule.specs.Noted.{marks_in}
 use Rattle.driver_events.specs.Scene.{Scene}
 use Rattle.schedule.specs.declared.arrived.Arrived.{Arrived}
-use Rattle.run_link.specs.PlayView.{Play, PlayTrue, IsSpent, work_left}
+use Rattle.run_link.specs.StateView.{RunState, RunTruth, IsSpent, work_left}
 use Rattle.run_link.specs.Laws.{IsSound, MediaHeld}
 use Rattle.run_link.specs.Waiting.{arrival_of}
 use Rattle.run_link.specs.Moments.{Doing, Resting, Answering}
@@ -32,7 +32,7 @@ use Rattle.run_loop.specs.Ends.{RunStands, RunsOut}
 
 -- the record of the run is well formed, its replies are true, it is legal, and the tree would be read back
 replies_hold : (s : Serving) (is : Truth) (v : Opening) (tree : Tree) (marks : List Mark) (c : Scene) (t : Transcript) → t.marks ≡ marks_in c.noted
-    → t.frames ≡ s.frames → (t.unanswered ≡ 0 → s.ended ≡ false) → Stands s is v tree marks → PlayTrue v c marks
+    → t.frames ≡ s.frames → (t.unanswered ≡ 0 → s.ended ≡ false) → Stands s is v tree marks → RunTruth v c marks
     → RepliesHold s.geometry (contents_at v) tree t
 replies_hold s is v tree marks c t noted frames answered stood kept =
     let f : FaultsChangeNothing t.marks = faults_change_nothing t.marks in
@@ -51,7 +51,7 @@ replies_hold s is v tree marks c t noted frames answered stood kept =
     }
 
 -- the media hold what the record of the run says of the disk
-media_hold : (v : Opening) (c : Scene) (marks : List Mark) → PlayTrue v c marks → MediaHeld v c (marks_in c.noted)
+media_hold : (v : Opening) (c : Scene) (marks : List Mark) → RunTruth v c marks → MediaHeld v c (marks_in c.noted)
 media_hold v c marks kept =
     let f : FaultsChangeNothing (marks_in c.noted) = faults_change_nothing (marks_in c.noted) in
     let held : MediaHeld v c (without_faults (marks_in c.noted)) =
@@ -77,13 +77,13 @@ waiting_is : (queue : List Arrived) → length (reverse (map arrival_of queue)) 
 waiting_is queue = length-reverse (map arrival_of queue) ∙ mapped queue
 
 -- over a volume that the server stood with at first
-holds : (s t : Serving) (was is : Truth) (b a : Play) (last : Doing) (unanswered : ℕ) → RunsOn s t was is b a Resting last → b.over ≡ false
-    → ((v : Opening) (marks : List Mark) → is v marks → PlayTrue v a.scene marks) → (unanswered ≡ 0 → t.ended ≡ false)
+holds : (s t : Serving) (was is : Truth) (b a : RunState) (last : Doing) (unanswered : ℕ) → RunsOn s t was is b a Resting last → b.over ≡ false
+    → ((v : Opening) (marks : List Mark) → is v marks → RunTruth v a.scene marks) → (unanswered ≡ 0 → t.ended ≡ false)
     → (v : Opening) (tree : Tree) (marks : List Mark) → Stands s was v tree marks
     → RunStands s.geometry t.frames s.minor v tree (moment s b Resting) (moment t a last) unanswered
 holds s t was is b a last unanswered runs live guarantees answered v tree marks stood =
     let later : StandsAfter s.minor t is v tree (moment s b Resting) (moment t a last) = runs.stands v tree marks stood in
-    let kept : PlayTrue v a.scene later.marks = guarantees v later.marks later.stands.truth in
+    let kept : RunTruth v a.scene later.marks = guarantees v later.marks later.stands.truth in
     record {
       holds = record {
         replies = λ x noted frames number.
@@ -96,9 +96,9 @@ holds s t was is b a last unanswered runs live guarantees answered v tree marks 
       needs = λ over. runs_end_needing s.minor (moment s b Resting) (moment t a last) later.runs live over;
     }
 
-pub runs_out : (cut : Bool) (s t : Serving) (was is : Truth) (b a : Play) (waiting unanswered : ℕ) → EndsAs cut s t was is b a
+pub runs_out : (cut : Bool) (s t : Serving) (was is : Truth) (b a : RunState) (waiting unanswered : ℕ) → EndsAs cut s t was is b a
     → IsSound b → b.over ≡ false → IsSpent a → waiting ≡ length a.queue → unanswered ≡ (if cut then waiting + 1 else waiting)
-    → ((v : Opening) (marks : List Mark) → is v marks → PlayTrue v a.scene marks) → RunsOut s t was b a unanswered
+    → ((v : Opening) (marks : List Mark) → is v marks → RunTruth v a.scene marks) → RunsOut s t was b a unanswered
 runs_out false s t was is b a waiting unanswered ends sound live spent length_is number guarantees =
     let none : reverse (map arrival_of a.queue) ++ [] ≡ [] = ap (λ (q : List Arrived). reverse (map arrival_of q) ++ []) ends.out.queue in
     record {
@@ -137,13 +137,13 @@ runs_out true s t was is b a waiting unanswered ends sound live spent length_is 
       some : (n m : ℕ) → m ≡ n + 1 → m ≡ 0 → ⊥
       some n m is none = omega (arith, is, none)
 
-pub few_wait : (cut : Bool) (s t : Serving) (was is : Truth) (b a : Play) (n waiting : ℕ) → EndsAs cut s t was is b a → waiting ≡ length a.queue
+pub few_wait : (cut : Bool) (s t : Serving) (was is : Truth) (b a : RunState) (n waiting : ℕ) → EndsAs cut s t was is b a → waiting ≡ length a.queue
     → n + work_left b < 281474976710656 → waiting < 281474976710656
 few_wait false s t was is b a n waiting ends same few = omega (arith, ends.runs.leads.work, same, few)
 few_wait true s t was is b a n waiting ends same few = omega (arith, ends.runs.leads.work, same, few)
 
 -- where something is left, memory was wanted
-pub left_starved : (cut : Bool) (s t : Serving) (was is : Truth) (b a : Play) → EndsAs cut s t was is b a → (IsSpent a → ⊥) → a.starved ≡ true
+pub left_starved : (cut : Bool) (s t : Serving) (was is : Truth) (b a : RunState) → EndsAs cut s t was is b a → (IsSpent a → ⊥) → a.starved ≡ true
 left_starved false s t was is b a ends some = absurd (some (record { events = ends.out.events; paid = ends.out.paid }))
 left_starved true s t was is b a ends some = by ends.cut.why where
   by : (a.starved ≡ true) ⊎ IsSpent a → a.starved ≡ true

@@ -14,7 +14,7 @@ use Rattle.records.specs.ServerCall.{Serving, Serves, Outcome, Replied, Cut as W
 use Rattle.reissue.specs.Calls.{Truth}
 use Rattle.driver_events.specs.Kept.{with_next}
 use Rattle.schedule.specs.declared.arrived.Arrived.{Arrived}
-use Rattle.run_link.specs.PlayView.{Play, PlayTrue, GoesOn, Asides, HandsEvent, HandsNone, HandsOwed, HandsNothing, Answers, HandsOut, work_left}
+use Rattle.run_link.specs.StateView.{RunState, RunTruth, GoesOn, Asides, HandsEvent, HandsNone, HandsOwed, HandsNothing, Answers, HandsOut, work_left}
 use Rattle.run_link.specs.Laws.{LeadsOn, IsToldOfEnd}
 use Rattle.run_link.specs.Waiting.{arrival_of, HasCalls}
 use Rattle.run_link.specs.Moments.{Doing, Resting, Hearing, Answering, record_of, Step, Runs, Starts, Then}
@@ -24,14 +24,14 @@ use Rattle.run_link.proofs.Running.{history_of, goes_told_of_end, quiet_next, ru
 use Rattle.file_server.specs.Over.{SameServing, Hears, AbsorbsOver, CallsOver}
 use Rattle.file_server.proofs.Standing.{serves_same}
 use Rattle.run_loop.specs.declared.course.Course.TheVariants.{More, Cut}
-use Rattle.run_loop.specs.Runs.{moment, RunsOn, StandsAfter, Awaits, Notes, IsLive, IsIdle, IsNext, PlaysOne, AnswersTo, doing_of}
+use Rattle.run_loop.specs.Runs.{moment, RunsOn, StandsAfter, Awaits, Notes, IsLive, IsIdle, IsNext, RunsOne, AnswersTo, doing_of}
 use Rattle.run_loop.proofs.Stepping.{no_end, told_absorbed, over_is_ended, asides_over, asides_told, asides_record, aside_step, quiet_step, asides_next, owing, owing_first, absorbed_history, absorb_runs, CallRuns, call_history, call_runs, replied, same_left, hands_run}
 
 -- the guarantee of a link is that of its run
-abbrev pub IsGuarantee : Truth → Play → Type 0
-IsGuarantee was p = (v : Opening) (marks : List Mark) → was v marks → PlayTrue v p.scene marks
+abbrev pub IsGuarantee : Truth → RunState → Type 0
+IsGuarantee was p = (v : Opening) (marks : List Mark) → was v marks → RunTruth v p.scene marks
 
-pub runs_stays : (s : Serving) (was : Truth) (b : Play) (x : Doing) → RunsOn s s was was b b x x
+pub runs_stays : (s : Serving) (was : Truth) (b : RunState) (x : Doing) → RunsOn s s was was b b x x
 runs_stays s was b x = record {
   geometry = refl;
   minor = refl;
@@ -40,7 +40,7 @@ runs_stays s was b x = record {
   stands = λ v tree marks stood. record { marks = marks; stands = stood; runs = Starts };
 }
 
-pub runs_joins : (s t u : Serving) (was then is : Truth) (b m a : Play) (x y z : Doing) → RunsOn s t was then b m x y → RunsOn t u then is m a y z
+pub runs_joins : (s t u : Serving) (was then is : Truth) (b m a : RunState) (x y z : Doing) → RunsOn s t was then b m x y → RunsOn t u then is m a y z
     → RunsOn s u was is b a x z
 runs_joins s t u was then is b m a x y z first next = record {
   geometry = next.geometry ∙ first.geometry;
@@ -59,12 +59,12 @@ runs_joins s t u was then is b m a x y z first next = record {
 }
 
 -- something was done at the link that was lent, and the link was put back
-awaits_there : (s t : Serving) (was is : Truth) (b a : Play) (r : Result (Option Incoming) AllocError) → SameServing s t → Asides b r a
+awaits_there : (s t : Serving) (was is : Truth) (b a : RunState) (r : Result (Option Incoming) AllocError) → SameServing s t → Asides b r a
     → ((v : Opening) (marks : List Mark) → was v marks → IfOk r (λ m. is v (with_next m marks))) → IfOk r (λ m. Awaits s t was is b a m)
 awaits_there s t was is b a (Ok message) same asides truth = record { same = same; asides = asides; truth = truth }
 awaits_there s t was is b a (Err error) same asides truth = tt
 
-pub advanced : {Line : Type 0} (truth : Line → Truth) (play : Line → Play) (s t : Serving) (before lent after there : Line)
+pub advanced : {Line : Type 0} (truth : Line → Truth) (play : Line → RunState) (s t : Serving) (before lent after there : Line)
     (r : Result (Option Incoming) AllocError) → lent ≡ before → there ≡ after → SameServing s t → Asides (play lent) r (play after)
     → ((v : Opening) (marks : List Mark) → truth lent v marks → IfOk r (λ m. truth after v (with_next m marks)))
     → IfOk r (λ m. Awaits s t (truth before) (truth there) (play before) (play there) m)
@@ -82,12 +82,12 @@ still_serves s t was is v tree marks noted same stood truth = record {
   truth = truth;
 }
 
-rests : (s : Serving) (was : Truth) (b : Play) (v : Opening) (tree : Tree) (marks : List Mark) → IsGuarantee was b → Hears s was v tree marks marks
+rests : (s : Serving) (was : Truth) (b : RunState) (v : Opening) (tree : Tree) (marks : List Mark) → IsGuarantee was b → Hears s was v tree marks marks
     → IsAtRest (record_of b) s.outbox
 rests s was b v tree marks guarantees stood = subst (λ (l : List Mark). IsAtRest l s.outbox) (sym (guarantees v marks stood.truth).is) stood.serves.at_rest
 
 -- no message came
-pub none_came : (s t : Serving) (was is : Truth) (b a : Play) (r : Option Incoming) → r ≡ None → Awaits s t was is b a r → IsIdle s b
+pub none_came : (s t : Serving) (was is : Truth) (b a : RunState) (r : Option Incoming) → r ≡ None → Awaits s t was is b a r → IsIdle s b
     → (b.owed ≡ true) ⊎ IsNext b → IsGuarantee was b → RunsOn s t was is b a Resting Resting
 none_came s t was is b a r none w idle left guarantees = by (subst (λ (o : Option Incoming). Awaits s t was is b a o) none w) where
   by : Awaits s t was is b a None → RunsOn s t was is b a Resting Resting
@@ -105,7 +105,7 @@ none_came s t was is b a r none w idle left guarantees = by (subst (λ (o : Opti
     };
   }
 
-pub none_came_idle : (s t : Serving) (was is : Truth) (b a : Play) (r : Option Incoming) → Awaits s t was is b a r → IsIdle s b → IsIdle t a
+pub none_came_idle : (s t : Serving) (was is : Truth) (b a : RunState) (r : Option Incoming) → Awaits s t was is b a r → IsIdle s b → IsIdle t a
 none_came_idle s t was is b a r w idle = record {
   ended = w.same.ended ∙ idle.ended;
   live = asides_over b a r w.asides ∙ idle.live;
@@ -113,11 +113,11 @@ none_came_idle s t was is b a r w idle = record {
   calls = asides_hand_none [] b a (Ok r) w.asides idle.calls;
 }
 
-pub none_came_one : (s t : Serving) (was is : Truth) (b a : Play) (r : Option Incoming) → Awaits s t was is b a r → PlaysOne b a
+pub none_came_one : (s t : Serving) (was is : Truth) (b a : RunState) (r : Option Incoming) → Awaits s t was is b a r → RunsOne b a
 none_came_one s t was is b a r w = record { next = asides_next b a r w.asides; less = (asides_lead_on b a (Ok r) w.asides).less }
 
 -- the message is handed over
-pub handed : (s t u : Serving) (was noted is : Truth) (b m a : Play) (r : Option Incoming) (message : Incoming) → r ≡ Some message
+pub handed : (s t u : Serving) (was noted is : Truth) (b m a : RunState) (r : Option Incoming) (message : Incoming) → r ≡ Some message
     → AbsorbsOver t u noted is message → GoesOn m a → Awaits s t was noted b m r → IsIdle s b → (b.owed ≡ true) ⊎ IsNext b → IsGuarantee was b
     → t.told ≡ history_of m → u.told ≡ history_of a → RunsOn s u was is b a Resting Resting
 handed s t u was noted is b m a r message came absorbs on w idle left guarantees first last =
@@ -159,7 +159,7 @@ absorbed_ended s t was is message absorbs =
     ∙ ap (λ (b : Bool). b || s.ended) (ap took_end (told_absorbed absorbs.keeps.later message) ∙ no_end (told_of absorbs.keeps.later) absorbs.keeps.none_taken)
 
 -- and so the link still hasn't ended
-pub absorbed_live : (s t : Serving) (was is : Truth) (b a : Play) (message : Incoming) → AbsorbsOver s t was is message → GoesOn b a → IsToldOfEnd b
+pub absorbed_live : (s t : Serving) (was is : Truth) (b a : RunState) (message : Incoming) → AbsorbsOver s t was is message → GoesOn b a → IsToldOfEnd b
     → s.ended ≡ false → b.over ≡ false → HasCalls [] b → s.told ≡ history_of b → t.told ≡ history_of a → IsIdle t a
 absorbed_live s t was is b a message absorbs on told ended live calls first last =
     let over : t.ended ≡ false = absorbed_ended s t was is message absorbs ∙ ended in
@@ -172,14 +172,14 @@ absorbed_live s t was is b a message absorbs on told ended live calls first last
       calls = servers_hand_none [] b a on calls;
     }
 
-pub handed_idle : (s t u : Serving) (was noted is : Truth) (b m a : Play) (r : Option Incoming) (message : Incoming)
+pub handed_idle : (s t u : Serving) (was noted is : Truth) (b m a : RunState) (r : Option Incoming) (message : Incoming)
     → AbsorbsOver t u noted is message → GoesOn m a → Awaits s t was noted b m r → IsIdle s b → t.told ≡ history_of m → u.told ≡ history_of a → IsIdle u a
 handed_idle s t u was noted is b m a r message absorbs on w idle first last =
     absorbed_live t u noted is m a message absorbs on (asides_told b m r w.asides idle.told_of_end) (w.same.ended ∙ idle.ended)
     (asides_over b m r w.asides ∙ idle.live) (asides_hand_none [] b m (Ok r) w.asides idle.calls) first last
 
-pub handed_one : (s t u : Serving) (was noted is : Truth) (b m a : Play) (r : Option Incoming) (message : Incoming)
-    → AbsorbsOver t u noted is message → GoesOn m a → Awaits s t was noted b m r → IsIdle s b → t.told ≡ history_of m → u.told ≡ history_of a → PlaysOne b a
+pub handed_one : (s t u : Serving) (was noted is : Truth) (b m a : RunState) (r : Option Incoming) (message : Incoming)
+    → AbsorbsOver t u noted is message → GoesOn m a → Awaits s t was noted b m r → IsIdle s b → t.told ≡ history_of m → u.told ≡ history_of a → RunsOne b a
 handed_one s t u was noted is b m a r message absorbs on w idle first last =
     let on_leads : LeadsOn m a = servers_lead_on m a on in
     let less : work_left m < work_left b = (asides_lead_on b m (Ok r) w.asides).less in
@@ -195,14 +195,14 @@ pub of_call : (s t : Serving) (was is : Truth) (asked arrived : Arrived) (outcom
 of_call s t was is asked arrived outcome same calls = subst (λ (x : Arrived). CallsOver s t was is x.who x.now x.call outcome) same calls
 
 -- an answer is noted at the link that was lent
-noted_there : (s t : Serving) (was is : Truth) (b a : Play) (arrived : Arrived) (reply : Reply) (r : Result (Unit {0}) AllocError) → SameServing s t
+noted_there : (s t : Serving) (was is : Truth) (b a : RunState) (arrived : Arrived) (reply : Reply) (r : Result (Unit {0}) AllocError) → SameServing s t
     → Answers b arrived reply r a
     → ((v : Opening) (marks : List Mark) → was v marks → OnOk r (is v (Took arrived.who arrived.now arrived.call (answer_of reply) ∷ marks)))
     → OnOk r (Notes s t was is b a arrived reply)
 noted_there s t was is b a arrived reply (Ok done) same answers truth = record { same = same; answers = answers; truth = truth }
 noted_there s t was is b a arrived reply (Err error) same answers truth = tt
 
-pub noted : {Line : Type 0} (truth : Line → Truth) (play : Line → Play) (s t : Serving) (before lent after there : Line) (arrived : Arrived) (reply : Reply)
+pub noted : {Line : Type 0} (truth : Line → Truth) (play : Line → RunState) (s t : Serving) (before lent after there : Line) (arrived : Arrived) (reply : Reply)
     (r : Result (Unit {0}) AllocError) → lent ≡ before → there ≡ after → SameServing s t → Answers (play lent) arrived reply r (play after)
     → ((v : Opening) (marks : List Mark) → truth lent v marks
     → OnOk r (truth after v (Took arrived.who arrived.now arrived.call (answer_of reply) ∷ marks)))
@@ -223,7 +223,7 @@ answered_ended : (s t : Serving) (was is : Truth) (arrived : Arrived) (reply : R
     → CallsOver s t was is arrived.who arrived.now arrived.call (Replied (answer_of reply)) → t.ended ≡ false
 answered_ended s t was is arrived reply calls = goes_unended t.ended (λ over. not_cut (answer_of reply) (calls.keeps.cut.1 over))
 
-pub answered_over : (s t : Serving) (was is : Truth) (b a : Play) (arrived : Arrived) (reply : Reply)
+pub answered_over : (s t : Serving) (was is : Truth) (b a : RunState) (arrived : Arrived) (reply : Reply)
     → CallsOver s t was is arrived.who arrived.now arrived.call (Replied (answer_of reply)) → GoesOn b a → IsLive (Answering arrived) s b
     → s.told ≡ history_of b → t.told ≡ history_of a → a.over ≡ false
 answered_over s t was is b a arrived reply calls on handed first last =
@@ -232,7 +232,7 @@ answered_over s t was is b a arrived reply calls on handed first last =
     ∙ answered_ended s t was is arrived reply calls
 
 -- a call was answered, and its answer noted
-pub answered : (s t u : Serving) (was is after : Truth) (b m a : Play) (arrived : Arrived) (reply : Reply)
+pub answered : (s t u : Serving) (was is after : Truth) (b m a : RunState) (arrived : Arrived) (reply : Reply)
     → CallsOver s t was is arrived.who arrived.now arrived.call (Replied (answer_of reply)) → GoesOn b m → Notes t u is after m a arrived reply
     → IsLive (Answering arrived) s b → IsGuarantee was b → s.told ≡ history_of b → t.told ≡ history_of m → RunsOn s u was after b a (Answering arrived) Resting
 answered s t u was is after b m a arrived reply calls on n live guarantees first last = record {
@@ -255,18 +255,18 @@ answered s t u was is after b m a arrived reply calls on n live guarantees first
           truth = n.truth v (marks_after calls.keeps.acts marks) (calls.truth v tree marks stood.minor stood.serves.agrees stood.truth);
         };
         runs = owing s.minor (moment s b (Answering arrived)) a t.outbox u.outbox Resting (sym n.same.outbox)
-            (subst (λ (p : Play). Runs s.minor (moment s b (Answering arrived)) (record { play = p; outbox = t.outbox; doing = Resting })) (sym n.answers)
+            (subst (λ (p : RunState). Runs s.minor (moment s b (Answering arrived)) (record { play = p; outbox = t.outbox; doing = Resting })) (sym n.answers)
             (replied s.minor (moment s b (Answering arrived)) m t.outbox arrived reply (marks_after calls.keeps.acts marks) runs.runs
             (answered_over s t was is b m arrived reply calls on live first last) runs.record_is done.at_rest));
       };
 }
 
-pub answered_to : (s t u : Serving) (was is after : Truth) (b m a : Play) (arrived : Arrived) (reply : Reply)
+pub answered_to : (s t u : Serving) (was is after : Truth) (b m a : RunState) (arrived : Arrived) (reply : Reply)
     → CallsOver s t was is arrived.who arrived.now arrived.call (Replied (answer_of reply)) → GoesOn b m → Notes t u is after m a arrived reply
     → IsLive (Answering arrived) s b → s.told ≡ history_of b → t.told ≡ history_of m → u.told ≡ history_of a → AnswersTo More arrived u a
 answered_to s t u was is after b m a arrived reply calls on n live first last then =
     let over : m.over ≡ false = answered_over s t was is b m arrived reply calls on live first last in
-    let same : a.over ≡ m.over = ap (λ (p : Play). p.over) n.answers in
+    let same : a.over ≡ m.over = ap (λ (p : RunState). p.over) n.answers in
     let told : IsToldOfEnd m = goes_told_of_end b m on live.told_of_end in
     record {
       ended = n.same.ended ∙ answered_ended s t was is arrived reply calls;
@@ -279,7 +279,7 @@ not_over : ◌≡◌ {A = Bool} true false → ⊥
 not_over h = cc
 
 -- a call was cut
-pub cut_off : (s t : Serving) (was is : Truth) (b a : Play) (arrived : Arrived) → CallsOver s t was is arrived.who arrived.now arrived.call WasCutOff
+pub cut_off : (s t : Serving) (was is : Truth) (b a : RunState) (arrived : Arrived) → CallsOver s t was is arrived.who arrived.now arrived.call WasCutOff
     → GoesOn b a → IsLive (Answering arrived) s b → IsGuarantee was b → s.told ≡ history_of b → t.told ≡ history_of a
     → RunsOn s t was is b a (Answering arrived) (Answering arrived)
 cut_off s t was is b a arrived calls on live guarantees first last = record {
@@ -298,7 +298,7 @@ cut_off s t was is b a arrived calls on live guarantees first last = record {
   };
 }
 
-pub cut_to : (s t : Serving) (was is : Truth) (b a : Play) (arrived : Arrived) → CallsOver s t was is arrived.who arrived.now arrived.call WasCutOff
+pub cut_to : (s t : Serving) (was is : Truth) (b a : RunState) (arrived : Arrived) → CallsOver s t was is arrived.who arrived.now arrived.call WasCutOff
     → GoesOn b a → IsLive (Answering arrived) s b → s.told ≡ history_of b → t.told ≡ history_of a → AnswersTo Cut arrived t a
 cut_to s t was is b a arrived calls on live first last =
     let ended : t.ended ≡ true = calls.keeps.cut.0 refl in
@@ -313,7 +313,7 @@ cut_to s t was is b a arrived calls on live first last =
     }
 
 -- a call is handed out by the link that was lent
-hands_there : (s t : Serving) (was is : Truth) (b a : Play) (first : Option Arrived) → SameServing s t → HandsOut b first a → b.over ≡ false → b.owed ≡ false
+hands_there : (s t : Serving) (was is : Truth) (b a : RunState) (first : Option Arrived) → SameServing s t → HandsOut b first a → b.over ≡ false → b.owed ≡ false
     → IsGuarantee was b → ((v : Opening) (marks : List Mark) → was v marks → is v marks) → RunsOn s t was is b a Resting (doing_of first)
 hands_there s t was is b a first same hands live paid guarantees truth = record {
   geometry = same.geometry;
@@ -328,7 +328,7 @@ hands_there s t was is b a first same hands live paid guarantees truth = record 
   };
 }
 
-pub handed_out : {Line : Type 0} (truth : Line → Truth) (play : Line → Play) (s t : Serving) (before lent after there : Line) (first : Option Arrived)
+pub handed_out : {Line : Type 0} (truth : Line → Truth) (play : Line → RunState) (s t : Serving) (before lent after there : Line) (first : Option Arrived)
     → lent ≡ before → there ≡ after → SameServing s t → HandsOut (play lent) first (play after) → (play before).over ≡ false → (play before).owed ≡ false
     → ((l : Line) → IsGuarantee (truth l) (play l)) → ((v : Opening) (marks : List Mark) → truth lent v marks → truth after v marks)
     → RunsOn s t (truth before) (truth there) (play before) (play there) Resting (doing_of first)
@@ -338,15 +338,15 @@ handed_out {Line} truth play s t before lent after there first value put same ha
     (hands_there s t (truth lent) (truth after) (play lent) (play after) first same hands (ap (λ (l : Line). (play l).over) value ∙ live)
     (ap (λ (l : Line). (play l).owed) value ∙ paid) (guarantees lent) keeps))
 
-pub hands : {Line : Type 0} (play : Line → Play) (before lent after there : Line) (first : Option Arrived) → lent ≡ before → there ≡ after
+pub hands : {Line : Type 0} (play : Line → RunState) (before lent after there : Line) (first : Option Arrived) → lent ≡ before → there ≡ after
     → HandsOut (play lent) first (play after) → HandsOut (play before) first (play there)
 hands {Line} play before lent after there first value put h =
     subst (λ (l : Line). HandsOut (play before) first (play l)) (sym put) (subst (λ (l : Line). HandsOut (play l) first (play after)) value h)
 
 -- the server answers the call that was handed out, if one was
-pub out_live : (s t : Serving) (b a : Play) (first : Option Arrived) → SameServing s t → HandsOut b first a → IsIdle s b → IsLive (doing_of first) t a
+pub out_live : (s t : Serving) (b a : RunState) (first : Option Arrived) → SameServing s t → HandsOut b first a → IsIdle s b → IsLive (doing_of first) t a
 out_live s t b a None same hands idle =
-    subst (λ (p : Play). IsIdle t p) (sym (same_left b a hands)) (record {
+    subst (λ (p : RunState). IsIdle t p) (sym (same_left b a hands)) (record {
       ended = same.ended ∙ idle.ended;
       live = idle.live;
       told_of_end = idle.told_of_end;
@@ -354,28 +354,28 @@ out_live s t b a None same hands idle =
     })
 out_live s t b a (Some call) same hands idle = record {
   ended = same.ended ∙ idle.ended;
-  live = ap (λ (p : Play). p.over) hands.after ∙ idle.live;
-  told_of_end = subst (λ (p : Play). IsToldOfEnd p) (sym hands.after) (record { is = idle.told_of_end.is });
+  live = ap (λ (p : RunState). p.over) hands.after ∙ idle.live;
+  told_of_end = subst (λ (p : RunState). IsToldOfEnd p) (sym hands.after) (record { is = idle.told_of_end.is });
   calls = one_is_handed_out b a call hands idle.calls;
 }
 
 -- nothing was done for want of memory
-asides_starved : (b a : Play) (r : Result (Option Incoming) AllocError) → Asides b r a → OnErr r (a.starved ≡ true)
+asides_starved : (b a : RunState) (r : Result (Option Incoming) AllocError) → Asides b r a → OnErr r (a.starved ≡ true)
 asides_starved b _ _ (HandsEvent message a next) = tt
 asides_starved b _ _ (HandsNone a next) = tt
 asides_starved b _ _ (HandsOwed live owed first) = tt
 asides_starved b _ _ (HandsNothing error) = refl
 
-pub starved_aside : {Line : Type 0} (play : Line → Play) (lent after there : Line) (r : Result (Option Incoming) AllocError) → there ≡ after
+pub starved_aside : {Line : Type 0} (play : Line → RunState) (lent after there : Line) (r : Result (Option Incoming) AllocError) → there ≡ after
     → Asides (play lent) r (play after) → OnErr r ((play there).starved ≡ true)
 starved_aside {Line} play lent after there r put asides =
     subst (λ (l : Line). OnErr r ((play l).starved ≡ true)) (sym put) (asides_starved (play lent) (play after) r asides)
 
-answers_starved : (b a : Play) (arrived : Arrived) (reply : Reply) (r : Result (Unit {0}) AllocError) → Answers b arrived reply r a → OnErr r (a.starved ≡ true)
+answers_starved : (b a : RunState) (arrived : Arrived) (reply : Reply) (r : Result (Unit {0}) AllocError) → Answers b arrived reply r a → OnErr r (a.starved ≡ true)
 answers_starved b a arrived reply (Ok done) answers = tt
-answers_starved b a arrived reply (Err error) answers = ap (λ (p : Play). p.starved) answers
+answers_starved b a arrived reply (Err error) answers = ap (λ (p : RunState). p.starved) answers
 
-pub starved_took : {Line : Type 0} (play : Line → Play) (lent after there : Line) (arrived : Arrived) (reply : Reply) (r : Result (Unit {0}) AllocError)
+pub starved_took : {Line : Type 0} (play : Line → RunState) (lent after there : Line) (arrived : Arrived) (reply : Reply) (r : Result (Unit {0}) AllocError)
     → there ≡ after → Answers (play lent) arrived reply r (play after) → OnErr r ((play there).starved ≡ true)
 starved_took {Line} play lent after there arrived reply r put answers =
     subst (λ (l : Line). OnErr r ((play l).starved ≡ true)) (sym put) (answers_starved (play lent) (play after) arrived reply r answers)

@@ -19,7 +19,7 @@ use Rattle.schedule.specs.Groups.{schedule_of}
 use Rattle.schedule.specs.Calls.{arrived, taken}
 use Rattle.schedule.specs.Noted.{Noted, marks_in}
 use Rattle.schedule.specs.declared.arrived.Arrived.{Arrived}
-use Rattle.run_link.specs.PlayView.{Play, GoesOn, work_left}
+use Rattle.run_link.specs.StateView.{RunState, GoesOn, work_left}
 use Rattle.run_link.specs.Laws.{IsSound, LeadsOn, IsToldOfEnd}
 use Rattle.run_link.specs.Waiting.{arrival_of, HasCalls}
 use Rattle.run_link.specs.Moments.{Resting}
@@ -29,37 +29,37 @@ use Rattle.file_server.specs.Over.{AbsorbsOver, Stands}
 use Rattle.run_loop.proofs.Standing.{absorbed_live}
 use Rattle.run_loop.specs.Runs.{IsIdle, moment}
 use Rattle.run_loop.specs.Ends.{RunStands, RunsOut}
-use Rattle.run_loop.specs.Starts.{IsBeforeFirst, at_first, PlaysAll}
+use Rattle.run_loop.specs.Starts.{IsBeforeFirst, at_first, RunsAll}
 
 none_taken : (events : List Event) → take 0 events ≡ []
 none_taken [] = refl
 none_taken (e ∷ events) = refl
 
-pub sound_at_first : (p : Play) → IsBeforeFirst p → IsSound p
+pub sound_at_first : (p : RunState) → IsBeforeFirst p → IsSound p
 sound_at_first p first = record {
   schedule = ap (λ (n : Noted). schedule_of n.groups) first.noted ∙ sym (none_taken p.events) ∙ ap (λ (n : ℕ). take n p.events) (sym first.next);
 }
 
-calls_at_first : (p : Play) → IsBeforeFirst p → HasCalls [] p
+calls_at_first : (p : RunState) → IsBeforeFirst p → HasCalls [] p
 calls_at_first p first = record {
   order = ap (λ (n : Noted). arrived n.groups) first.noted
       ∙ sym (ap (λ (n : Noted). taken (marks_in n)) first.noted)
       ∙ ap (λ (q : List Arrived). reverse (map arrival_of q) ++ taken (marks_in p.scene.noted)) (sym first.queue);
 }
 
-told_at_first : (p : Play) → IsBeforeFirst p → IsToldOfEnd p
+told_at_first : (p : RunState) → IsBeforeFirst p → IsToldOfEnd p
 told_at_first p first = record { is = ap (λ (n : Noted). took_end n.history) first.noted ∙ sym first.live }
 
 -- the first start was handed over
-pub idle_at_first : (s t : Serving) (was is : Truth) (b a : Play) → AbsorbsOver s t was is (incoming.Started (driver 1)) → GoesOn b a → s.ended ≡ false
+pub idle_at_first : (s t : Serving) (was is : Truth) (b a : RunState) → AbsorbsOver s t was is (incoming.Started (driver 1)) → GoesOn b a → s.ended ≡ false
     → IsBeforeFirst b → s.told ≡ history_of b → t.told ≡ history_of a → IsIdle t a
 idle_at_first s t was is b a absorbs on live first before after =
     absorbed_live s t was is b a (incoming.Started (driver 1)) absorbs on (told_at_first b first) live first.live (calls_at_first b first) before after
 
-pub sound_after : (b a : Play) → GoesOn b a → IsBeforeFirst b → IsSound a
+pub sound_after : (b a : RunState) → GoesOn b a → IsBeforeFirst b → IsSound a
 sound_after b a on first = (servers_lead_on b a on).sound (sound_at_first b first)
 
-pub work_after : (b a : Play) (n m : ℕ) → GoesOn b a → m < n + 2 → n + work_left b + 1 < 281474976710656 → m + work_left a < 281474976710656
+pub work_after : (b a : RunState) (n m : ℕ) → GoesOn b a → m < n + 2 → n + work_left b + 1 < 281474976710656 → m + work_left a < 281474976710656
 work_after b a n m on few bound = let h : LeadsOn b a = servers_lead_on b a on in omega (arith, h.work, few, bound)
 
 -- what is heard of the first start, and acts after it
@@ -127,11 +127,11 @@ owes_none s m absorbs empty same image tree agrees rest =
     is ∙ ap (λ (l : List Act). outbox_after (heard l) [] empty_outbox)
     (none_begun absorbs.later told absorbs.none_absorbed (subst (λ (o : Outbox). IsAtRest (marks_after (heard absorbs.later) []) o) is rest))
 
--- nothing was done at the link; and then the run was played out
-pub plays_all : (s m t : Serving) (was then : Truth) (b c a : Play) (unanswered : ℕ) → AbsorbsOver s m was then (incoming.Started (driver 1)) → GoesOn b c
+-- nothing was done at the link; and then the run was run out
+pub runs_all : (s m t : Serving) (was then : Truth) (b c a : RunState) (unanswered : ℕ) → AbsorbsOver s m was then (incoming.Started (driver 1)) → GoesOn b c
     → IsBeforeFirst b → history_of c ≡ history_of b → s.told ≡ history_of b → m.told ≡ history_of c → RunsOut m t then c a unanswered
-    → PlaysAll s t was b a unanswered
-plays_all s m t was then b c a unanswered absorbs on first silent before after out =
+    → RunsAll s t was b a unanswered
+runs_all s m t was then b c a unanswered absorbs on first silent before after out =
     let same : c ≡ b = none_told b c on (told_at_first b first) silent in
     record {
       schedule = out.schedule ∙ (servers_lead_on b c on).events;
@@ -157,7 +157,7 @@ plays_all s m t was then b c a unanswered absorbs on first silent before after o
           owes_none s m absorbs.keeps empty (after ∙ silent ∙ sym before) (contents_at v) tree hears.serves.agrees stands.serves.at_rest in
           subst (λ (g : Geometry). RunStands g t.frames s.minor v tree (at_first b) (moment t a out.last) unanswered) absorbs.keeps.leads.geometry
           (subst (λ (n : ℕ). RunStands m.geometry t.frames n v tree (at_first b) (moment t a out.last) unanswered) absorbs.keeps.leads.minor
-          (subst (λ (p : Play). RunStands m.geometry t.frames m.minor v tree (at_first p) (moment t a out.last) unanswered) same
+          (subst (λ (p : RunState). RunStands m.geometry t.frames m.minor v tree (at_first p) (moment t a out.last) unanswered) same
           (subst (λ (o : Outbox). RunStands m.geometry t.frames m.minor v tree (record { play = c; outbox = o; doing = Resting }) (moment t a out.last) unanswered)
           none x)));
     }

@@ -12,7 +12,7 @@ use Rattle.schedule.specs.Calls.{Arrival, arrived, taken}
 use Rattle.schedule.specs.Headline.{Transcript, RepliesHold}
 use Rattle.schedule.specs.Noted.{marks_in}
 use Rattle.driver_events.specs.Scene.{Scene}
-use Rattle.run_link.specs.PlayView.{Play, IsSpent}
+use Rattle.run_link.specs.StateView.{RunState, IsSpent}
 use Rattle.run_link.specs.Laws.{MediaHeld}
 use Rattle.run_link.specs.Waiting.{arrival_of}
 use Rattle.run_link.specs.Moments.{Doing, Resting, Hearing, Answering, Moment, Runs, Needs}
@@ -27,7 +27,7 @@ pub record RunHolds (g : Geometry) (frames : Frames) (v : Opening) (tree : Tree)
   pub media : MediaHeld v s (marks_in s.noted)
 
 -- how a run ends: the server does nothing, and no call waits; or its link has ended, within a call
-abbrev pub EndsIn : Doing → Serving → Play → Type 0
+abbrev pub EndsIn : Doing → Serving → RunState → Type 0
 EndsIn Resting t a = (t.ended ≡ false) × (a.over ≡ false) × (a.queue ≡ [])
 EndsIn (Hearing message) t a = ⊥
 EndsIn (Answering call) t a = (t.ended ≡ true) × (a.over ≡ true)
@@ -44,7 +44,7 @@ pub record RunStands (g : Geometry) (frames : Frames) (minor : ℕ) (v : Opening
 -- and so many that came later: the one that is being answered, if the run ends in it, and those that wait. A call is left only where the last
 -- one was cut. The media have as many sectors as before, and the server has as many frames. Where it stood with a record at first, the run
 -- holds, by the rules.
-pub record RunsOut (s t : Serving) (was : Truth) (b a : Play) (unanswered : ℕ) : Type 0 where
+pub record RunsOut (s t : Serving) (was : Truth) (b a : RunState) (unanswered : ℕ) : Type 0 where
   pub schedule : schedule_of a.scene.noted.groups ≡ b.events
   pub spent : IsSpent a
   pub last : Doing

@@ -10,22 +10,22 @@ use Rattle.reissue.specs.Calls.{Truth}
 use Rattle.schedule.specs.Groups.{schedule_of}
 use Rattle.schedule.specs.Calls.{Arrival, arrived, taken}
 use Rattle.schedule.specs.Noted.{marks_in}
-use Rattle.run_link.specs.PlayView.{Play, IsSpent, first_noted}
+use Rattle.run_link.specs.StateView.{RunState, IsSpent, first_noted}
 use Rattle.run_link.specs.Waiting.{arrival_of}
 use Rattle.run_link.specs.Moments.{Doing, Resting, Moment}
 use Rattle.file_server.specs.Over.{Hears}
 use Rattle.run_loop.specs.Runs.{moment, out_in}
 use Rattle.run_loop.specs.Ends.{EndsIn, RunStands}
 
--- no event was played and no call waits; the start of driver 1 was noted alone, and the link hasn't ended
-pub record IsBeforeFirst (p : Play) : Type 0 where
+-- no event was run and no call waits; the start of driver 1 was noted alone, and the link hasn't ended
+pub record IsBeforeFirst (p : RunState) : Type 0 where
   pub noted : p.scene.noted ≡ first_noted
   pub next : p.next ≡ 0
   pub queue : p.queue ≡ []
   pub live : p.over ≡ false
 
 -- the server does nothing at its link, and owes it nothing
-abbrev pub at_first : Play → Moment
+abbrev pub at_first : RunState → Moment
 at_first p = record { play = p; outbox = empty_outbox; doing = Resting }
 
 -- A run from its start: the events that were noted are the schedule, and nothing is owed. The calls that arrived in them are those that were
@@ -33,7 +33,7 @@ at_first p = record { play = p; outbox = empty_outbox; doing = Resting }
 -- left only where the last one was cut. The media have as many sectors as before, and the server has as many frames. Where it served a volume
 -- that held a tree, with nothing in its record and nothing owed, and its link gave its guarantee of the record that has the first start alone,
 -- the run stands: the server hears of that start, and does nothing about it.
-pub record PlaysAll (s t : Serving) (was : Truth) (b a : Play) (unanswered : ℕ) : Type 0 where
+pub record RunsAll (s t : Serving) (was : Truth) (b a : RunState) (unanswered : ℕ) : Type 0 where
   pub schedule : schedule_of a.scene.noted.groups ≡ b.events
   pub spent : IsSpent a
   pub last : Doing

@@ -7,27 +7,27 @@ ghost use Rattle.tree.specs.Answers.{answer_of};
 ghost use Rattle.schedule.specs.LogView.{said, room_in};
 ghost use Rattle.driver_events.specs.StageView.{scene_of};
 ghost use Rattle.driver_events.specs.Kept.{with_next};
-ghost use Rattle.run_link.specs.PlayView.{play_of, PlayTrue, Asides, Answers, HandsOut, left_of};
+ghost use Rattle.run_link.specs.StateView.{run_of, RunTruth, Asides, Answers, HandsOut, left_of};
 
 use schedule::Arrived;
 use schedule::queue::take_first;
 use inline::local::LocalDriver;
 use message::Incoming;
 use run_link::room::make_room;
-use run_link::Playing;
+use run_link::RunLink;
 use schedule::Entry;
 use std::alloc::AllocError;
 use tree::Reply;
 
-/// Plays the next event between two calls, or tells that a complaint gave the device up, if that is owed: the message that the server
+/// Occurs the next event between two calls, or tells that a complaint gave the device up, if that is owed: the message that the server
 /// is to be handed, if there is one. An error: no memory was found, and nothing was done.
-pub fn aside<D: LocalDriver>(link: &mut Playing<'_, D>) -> Result<Option<Incoming>, AllocError>
+pub fn aside<D: LocalDriver>(link: &mut RunLink<'_, D>) -> Result<Option<Incoming>, AllocError>
     requires left { (link.old.owed ≡ true) ⊎ (link.old.next < length link.old.events.now) }
     requires live { link.old.log.over ≡ false }
-    ensures asides { Asides (play_of D.state link.old) result (play_of D.state link.new) }
+    ensures asides { Asides (run_of D.state link.old) result (run_of D.state link.new) }
     ensures history { (said link.new.log).history ≡ (said link.old.log).history }
-    ensures truth { (v : Opening) (marks : List Mark) → PlayTrue v (scene_of D.state link.old.stage (said link.old.log)) marks
-        → IfOk result (λ m. PlayTrue v (scene_of D.state link.new.stage (said link.new.log)) (with_next m marks)) }
+    ensures truth { (v : Opening) (marks : List Mark) → RunTruth v (scene_of D.state link.old.stage (said link.old.log)) marks
+        → IfOk result (λ m. RunTruth v (scene_of D.state link.new.stage (said link.new.log)) (with_next m marks)) }
     ensures room { OnOk result (33 ≤ room_in link.new.log) }
     ensures budget { left_of link.new.log.over (length link.new.events.now - link.new.next) link.new.told
         ≤ left_of link.old.log.over (length link.old.events.now - link.old.next) link.old.told }
@@ -51,15 +51,15 @@ pub fn aside<D: LocalDriver>(link: &mut Playing<'_, D>) -> Result<Option<Incomin
 
 /// A call was answered. An error: no memory was found, and nothing was noted.
 pub fn took<'a, D: LocalDriver>(
-    link: &mut Playing<'a, D>,
+    link: &mut RunLink<'a, D>,
     arrived: Arrived<'a>,
     reply: Reply,
 ) -> Result<(), AllocError>
     requires { link.old.log.over ≡ false }
-    ensures answers { Answers (play_of D.state link.old) arrived.entry reply result (play_of D.state link.new) }
+    ensures answers { Answers (run_of D.state link.old) arrived.entry reply result (run_of D.state link.new) }
     ensures history { (said link.new.log).history ≡ (said link.old.log).history }
-    ensures truth { (v : Opening) (marks : List Mark) → PlayTrue v (scene_of D.state link.old.stage (said link.old.log)) marks
-        → OnOk result (PlayTrue v (scene_of D.state link.new.stage (said link.new.log))
+    ensures truth { (v : Opening) (marks : List Mark) → RunTruth v (scene_of D.state link.old.stage (said link.old.log)) marks
+        → OnOk result (RunTruth v (scene_of D.state link.new.stage (said link.new.log))
         (Took arrived.entry.who arrived.entry.now arrived.entry.call (answer_of reply) ∷ marks)) }
     ensures room { OnOk result (33 ≤ room_in link.new.log) }
     ensures budget { left_of link.new.log.over (length link.new.events.now - link.new.next) link.new.told
@@ -75,8 +75,8 @@ pub fn took<'a, D: LocalDriver>(
 }
 
 /// The call that arrived first of those that wait, which waits no more; none where none waits.
-pub fn next_call<'a, D: LocalDriver>(link: &mut Playing<'a, D>) -> Option<Arrived<'a>>
-    ensures hands { HandsOut (play_of D.state link.old) result (play_of D.state link.new) }
+pub fn next_call<'a, D: LocalDriver>(link: &mut RunLink<'a, D>) -> Option<Arrived<'a>>
+    ensures hands { HandsOut (run_of D.state link.old) result (run_of D.state link.new) }
     ensures stage { link.new.stage ≡ link.old.stage }
     ensures log { link.new.log ≡ link.old.log }
 {

@@ -5,7 +5,7 @@
 pub enum Course {
     /// Something was done, and more may be left.
     More,
-    /// Nothing was left to do: each event was played, and no call waits.
+    /// Nothing was left to do: each event was run, and no call waits.
     Done,
     /// A call was cut: the schedule ended in it.
     Cut,

@@ -1,6 +1,6 @@
-//! A file server over drivers that a schedule moves: events are played and calls answered, until the schedule's end.
+//! A file server over drivers that a schedule moves: events are run and calls answered, until the schedule's end.
 //!
-//! A link that a schedule moves, as whoever plays the schedule sees it: what is done at it between two calls.
+//! A link that a schedule moves, as whoever runs the schedule sees it: what is done at it between two calls.
 #![tactic(auto)]
 
 pub mod aside;
@@ -9,4 +9,4 @@ pub mod link;
 pub mod run;
 pub mod turns;
 
-pub use link::{Arrival, Played, WorldLink};
+pub use link::{Arrival, Ran, WorldLink};

@@ -5,22 +5,22 @@ ghost use Rattle.records.specs.Marks.{Mark, Took};
 ghost use Rattle.records.specs.Opening.{Opening};
 ghost use Rattle.tree.specs.Answers.{answer_of};
 ghost use Rattle.driver_events.specs.Kept.{with_next};
-ghost use Rattle.run_link.specs.PlayView.{Play, PlayTrue, GoesOn, Asides, HandsOut, Answers};
+ghost use Rattle.run_link.specs.StateView.{RunState, RunTruth, GoesOn, Asides, HandsOut, Answers};
 ghost use Rattle.schedule.specs.declared.arrived.Arrived.{Arrived as OfCall};
 
 use crate::aside;
 use inline::local::LocalDriver;
 use message::Incoming;
 use schedule::Arrived;
-use run_link::Playing;
+use run_link::RunLink;
 use reissue::Link;
 use std::alloc::AllocError;
 use tree::Reply;
 
-/// A link that a schedule moves, as contracts see it: `play` is the run as it stands, with its schedule, the calls that wait, and what was
+/// A link that a schedule moves, as contracts see it: `run` is the run as it stands, with its schedule, the calls that wait, and what was
 /// noted.
-pub trait Played: Link {
-    ghost play: { Self → Play };
+pub trait Ran: Link {
+    ghost play: { Self → RunState };
 
     // what was told to the link and what it gave is what was noted
     ghost tells: { (l : Self) → Self.Link.history l ≡ (play l).scene.noted.history };
@@ -29,7 +29,7 @@ pub trait Played: Link {
     ghost goes: { (a b : Self) → Self.Link.goes_on a b → GoesOn (play a) (play b) };
 
     // its guarantee is that of the run
-    ghost guarantees: { (l : Self) (v : Opening) (marks : List Mark) → Self.Link.truth l v marks → PlayTrue v (play l).scene marks };
+    ghost guarantees: { (l : Self) (v : Opening) (marks : List Mark) → Self.Link.truth l v marks → RunTruth v (play l).scene marks };
 }
 
 /// A call that arrived, whatever it borrows from.
@@ -43,29 +43,29 @@ pub trait Arrival: Copy + Drop {
 }
 
 /// A link that a schedule moves.
-pub trait WorldLink: Played + Drop {
+pub trait WorldLink: Ran + Drop {
     /// A call that arrived.
     type Waiting: Arrival;
 
     /// Whether a complaint gave the device up, which wasn't told yet.
     fn owes(&self) -> bool
-        ensures { result ≡ (Self.Played.play self.now).owed };
+        ensures { result ≡ (Self.Ran.play self.now).owed };
 
     /// Whether an event is left.
     fn has_event(&self) -> bool
-        ensures { (result ≡ true) ↔ ((Self.Played.play self.now).next < length (Self.Played.play self.now).events) };
+        ensures { (result ≡ true) ↔ ((Self.Ran.play self.now).next < length (Self.Ran.play self.now).events) };
 
     /// How many calls wait.
     fn waiting(&self) -> u64
-        ensures { result ≡ length (Self.Played.play self.now).queue };
+        ensures { result ≡ length (Self.Ran.play self.now).queue };
 
-    /// Plays the next event between two calls, or tells that a complaint gave the device up, if that is owed: the message that the server
+    /// Occurs the next event between two calls, or tells that a complaint gave the device up, if that is owed: the message that the server
     /// is to be handed, if there is one. An error: no memory was found, and nothing was done.
     fn aside(&mut self) -> Result<Option<Incoming>, AllocError>
-        requires left { ((Self.Played.play self.old).owed ≡ true)
-            ⊎ ((Self.Played.play self.old).next < length (Self.Played.play self.old).events) }
-        requires live { (Self.Played.play self.old).over ≡ false }
-        ensures asides { Asides (Self.Played.play self.old) result (Self.Played.play self.new) }
+        requires left { ((Self.Ran.play self.old).owed ≡ true)
+            ⊎ ((Self.Ran.play self.old).next < length (Self.Ran.play self.old).events) }
+        requires live { (Self.Ran.play self.old).over ≡ false }
+        ensures asides { Asides (Self.Ran.play self.old) result (Self.Ran.play self.new) }
         ensures history { Self.Link.history self.new ≡ Self.Link.history self.old }
         ensures truth { (v : Opening) (marks : List Mark) → Self.Link.truth self.old v marks
             → IfOk result (λ m. Self.Link.truth self.new v (with_next m marks)) }
@@ -74,7 +74,7 @@ pub trait WorldLink: Played + Drop {
 
     /// The call that arrived first of those that wait, which waits no more; none where none waits.
     fn next_call(&mut self) -> Option<Self::Waiting>
-        ensures hands { HandsOut (Self.Played.play self.old) (option_map Self.Waiting.Arrival.arrived result) (Self.Played.play self.new) }
+        ensures hands { HandsOut (Self.Ran.play self.old) (option_map Self.Waiting.Arrival.arrived result) (Self.Ran.play self.new) }
         ensures history { Self.Link.history self.new ≡ Self.Link.history self.old }
         ensures truth { (v : Opening) (marks : List Mark) → Self.Link.truth self.old v marks → Self.Link.truth self.new v marks }
         ensures room { Self.Link.room self.old ≤ Self.Link.room self.new }
@@ -82,9 +82,9 @@ pub trait WorldLink: Played + Drop {
 
     /// A call was answered. An error: no memory was found, and nothing was noted.
     fn took(&mut self, arrived: Self::Waiting, reply: Reply) -> Result<(), AllocError>
-        requires { (Self.Played.play self.old).over ≡ false }
-        ensures answers { Answers (Self.Played.play self.old) (Self.Waiting.Arrival.arrived arrived) reply result
-            (Self.Played.play self.new) }
+        requires { (Self.Ran.play self.old).over ≡ false }
+        ensures answers { Answers (Self.Ran.play self.old) (Self.Waiting.Arrival.arrived arrived) reply result
+            (Self.Ran.play self.new) }
         ensures history { Self.Link.history self.new ≡ Self.Link.history self.old }
         ensures truth { (v : Opening) (marks : List Mark) → Self.Link.truth self.old v marks
             → let call = Self.Waiting.Arrival.arrived arrived in OnOk result (Self.Link.truth self.new v
@@ -93,11 +93,11 @@ pub trait WorldLink: Played + Drop {
         ensures budget { Self.Link.budget_left self.new ≤ Self.Link.budget_left self.old };
 }
 
-impl<'a, D: LocalDriver> Played for Playing<'a, D> {
-    ghost use Rattle.run_link.specs.PlayView.{play_of};
+impl<'a, D: LocalDriver> Ran for RunLink<'a, D> {
+    ghost use Rattle.run_link.specs.StateView.{run_of};
     ghost use Rattle.std.specs.Prelude.{refl};
 
-    ghost play = { λ l. play_of D.state l };
+    ghost play = { λ l. run_of D.state l };
 
     ghost tells = { λ l. refl };
 
@@ -114,7 +114,7 @@ impl<'a> Arrival for Arrived<'a> {
     }
 }
 
-impl<'a, D: LocalDriver> WorldLink for Playing<'a, D> {
+impl<'a, D: LocalDriver> WorldLink for RunLink<'a, D> {
     type Waiting = Arrived<'a>;
 
     fn owes(&self) -> bool {

@@ -1,11 +1,11 @@
 //! Turns between two calls, until nothing is left to do or a call is cut.
 
 ghost use Rattle.std.specs.Prelude.{◌≡◌, ◌⊎◌, ◌≤◌, ◌<◌, ◌+◌, ◌^◌, length, if◌then◌else◌, IfOk, IfSome, OnOk, OnErr, None, option_map, true, false};
-ghost use Rattle.run_link.specs.PlayView.{work_left, HandsOut, IsSpent};
+ghost use Rattle.run_link.specs.StateView.{work_left, HandsOut, IsSpent};
 ghost use Rattle.run_link.specs.Moments.{Resting, Answering};
 ghost use Rattle.tree.specs.declared.Call.{Call};
 ghost use Rattle.run_link.specs.Laws.{IsSound};
-ghost use Rattle.run_loop.specs.Runs.{RunsOn, Awaits, Notes, IsLive, IsIdle, IsNext, PlaysOne, AnswersTo, ComesTo, EndsAs, doing_of, doing_after};
+ghost use Rattle.run_loop.specs.Runs.{RunsOn, Awaits, Notes, IsLive, IsIdle, IsNext, RunsOne, AnswersTo, ComesTo, EndsAs, doing_of, doing_after};
 ghost use Rattle.run_loop.specs.Ends.{RunsOut};
 
 use crate::course::Course;
@@ -15,38 +15,38 @@ use crate::{Arrival, WorldLink};
 use std::alloc::AllocError;
 use tree::{Outcome, Reply};
 
-/// The next event is played at the link of a server, or what is owed is told.
+/// The next event is run at the link of a server, or what is owed is told.
 fn advance<L: WorldLink, S: FileServer<L>>(server: &mut S) -> Result<Option<Incoming>, AllocError>
-    requires left { ((L.Played.play (S.line server.old)).owed ≡ true)
-        ⊎ ((L.Played.play (S.line server.old)).next < length (L.Played.play (S.line server.old)).events) }
-    requires live { (L.Played.play (S.line server.old)).over ≡ false }
+    requires left { ((L.Ran.play (S.line server.old)).owed ≡ true)
+        ⊎ ((L.Ran.play (S.line server.old)).next < length (L.Ran.play (S.line server.old)).events) }
+    requires live { (L.Ran.play (S.line server.old)).over ≡ false }
     requires ready { S.is_ready server.old }
     ensures awaits { IfOk result (λ m. Awaits (S.Serve.serving server.old) (S.Serve.serving server.new)
-        (L.Link.truth (S.line server.old)) (L.Link.truth (S.line server.new)) (L.Played.play (S.line server.old))
-        (L.Played.play (S.line server.new)) m) }
+        (L.Link.truth (S.line server.old)) (L.Link.truth (S.line server.new)) (L.Ran.play (S.line server.old))
+        (L.Ran.play (S.line server.new)) m) }
     ensures ready { OnOk result (S.is_ready server.new) }
     ensures room { OnOk result (33 ≤ L.Link.room (S.line server.new)) }
     ensures absorbed { S.absorbed server.new ≡ S.absorbed server.old }
-    ensures starved { OnErr result ((L.Played.play (S.line server.new)).starved ≡ true) }
+    ensures starved { OnErr result ((L.Ran.play (S.line server.new)).starved ≡ true) }
 {
     server.link_mut().aside()
 }
 
-/// The next event between two calls is played, or what is owed is told, and the server is handed the message that came. An error: no memory
+/// The next event between two calls is run, or what is owed is told, and the server is handed the message that came. An error: no memory
 /// was found.
-pub fn play_event<L: WorldLink, S: FileServer<L>>(server: &mut S) -> Result<(), AllocError>
-    requires left { ((L.Played.play (S.line server.old)).owed ≡ true) ⊎ IsNext (L.Played.play (S.line server.old)) }
-    requires idle { IsIdle (S.Serve.serving server.old) (L.Played.play (S.line server.old)) }
+pub fn run_event<L: WorldLink, S: FileServer<L>>(server: &mut S) -> Result<(), AllocError>
+    requires left { ((L.Ran.play (S.line server.old)).owed ≡ true) ⊎ IsNext (L.Ran.play (S.line server.old)) }
+    requires idle { IsIdle (S.Serve.serving server.old) (L.Ran.play (S.line server.old)) }
     requires ready { S.is_ready server.old }
     requires few { S.absorbed server.old < 2 ^ 48 }
     ensures ready { OnOk result (S.is_ready server.new) }
     ensures runs { OnOk result (RunsOn (S.Serve.serving server.old) (S.Serve.serving server.new)
-        (L.Link.truth (S.line server.old)) (L.Link.truth (S.line server.new)) (L.Played.play (S.line server.old))
-        (L.Played.play (S.line server.new)) Resting Resting) }
-    ensures idle { OnOk result (IsIdle (S.Serve.serving server.new) (L.Played.play (S.line server.new))) }
-    ensures one { OnOk result (PlaysOne (L.Played.play (S.line server.old)) (L.Played.play (S.line server.new))) }
+        (L.Link.truth (S.line server.old)) (L.Link.truth (S.line server.new)) (L.Ran.play (S.line server.old))
+        (L.Ran.play (S.line server.new)) Resting Resting) }
+    ensures idle { OnOk result (IsIdle (S.Serve.serving server.new) (L.Ran.play (S.line server.new))) }
+    ensures one { OnOk result (RunsOne (L.Ran.play (S.line server.old)) (L.Ran.play (S.line server.new))) }
     ensures absorbed { OnOk result (S.absorbed server.new ≤ S.absorbed server.old + 1) }
-    ensures starved { OnErr result ((L.Played.play (S.line server.new)).starved ≡ true) }
+    ensures starved { OnErr result ((L.Ran.play (S.line server.new)).starved ≡ true) }
 {
     if let Some(message) = advance(server)? {
         server.absorb(message);
@@ -61,13 +61,13 @@ fn note_answer<L: WorldLink, S: FileServer<L>>(
     reply: Reply,
 ) -> Result<(), AllocError>
     requires ready { S.is_ready server.old }
-    requires live { (L.Played.play (S.line server.old)).over ≡ false }
+    requires live { (L.Ran.play (S.line server.old)).over ≡ false }
     ensures ready { OnOk result (S.is_ready server.new) }
     ensures noted { OnOk result (Notes (S.Serve.serving server.old) (S.Serve.serving server.new)
-        (L.Link.truth (S.line server.old)) (L.Link.truth (S.line server.new)) (L.Played.play (S.line server.old))
-        (L.Played.play (S.line server.new)) (L.Waiting.Arrival.arrived arrived) reply) }
+        (L.Link.truth (S.line server.old)) (L.Link.truth (S.line server.new)) (L.Ran.play (S.line server.old))
+        (L.Ran.play (S.line server.new)) (L.Waiting.Arrival.arrived arrived) reply) }
     ensures absorbed { S.absorbed server.new ≡ S.absorbed server.old }
-    ensures starved { OnErr result ((L.Played.play (S.line server.new)).starved ≡ true) }
+    ensures starved { OnErr result ((L.Ran.play (S.line server.new)).starved ≡ true) }
 {
     server.link_mut().took(arrived, reply)
 }
@@ -80,16 +80,16 @@ pub fn answer<L: WorldLink, S: FileServer<L>>(
     requires ready { S.is_ready server.old }
     requires knows { S.knows (L.Waiting.Arrival.arrived arrived).call }
     requires handed { IsLive (Answering (L.Waiting.Arrival.arrived arrived)) (S.Serve.serving server.old)
-        (L.Played.play (S.line server.old)) }
+        (L.Ran.play (S.line server.old)) }
     ensures ready { OnOk result (S.is_ready server.new) }
     ensures runs { IfOk result (λ c. RunsOn (S.Serve.serving server.old) (S.Serve.serving server.new)
-        (L.Link.truth (S.line server.old)) (L.Link.truth (S.line server.new)) (L.Played.play (S.line server.old))
-        (L.Played.play (S.line server.new)) (Answering (L.Waiting.Arrival.arrived arrived))
+        (L.Link.truth (S.line server.old)) (L.Link.truth (S.line server.new)) (L.Ran.play (S.line server.old))
+        (L.Ran.play (S.line server.new)) (Answering (L.Waiting.Arrival.arrived arrived))
         (doing_after c (L.Waiting.Arrival.arrived arrived))) }
     ensures course { IfOk result (λ c. AnswersTo c (L.Waiting.Arrival.arrived arrived) (S.Serve.serving server.new)
-        (L.Played.play (S.line server.new))) }
+        (L.Ran.play (S.line server.new))) }
     ensures absorbed { OnOk result (S.absorbed server.new ≡ S.absorbed server.old) }
-    ensures starved { OnErr result ((L.Played.play (S.line server.new)).starved ≡ true) }
+    ensures starved { OnErr result ((L.Ran.play (S.line server.new)).starved ≡ true) }
 {
     let asked = arrived.as_arrived();
     match server.call(asked.who, asked.now, &asked.call) {
@@ -104,36 +104,36 @@ pub fn answer<L: WorldLink, S: FileServer<L>>(
 /// The call that arrived first of those that wait, if one does, where nothing is owed.
 fn next_call<L: WorldLink, S: FileServer<L>>(server: &mut S) -> Option<L::Waiting>
     requires ready { S.is_ready server.old }
-    requires idle { IsIdle (S.Serve.serving server.old) (L.Played.play (S.line server.old)) }
-    requires paid { (L.Played.play (S.line server.old)).owed ≡ false }
+    requires idle { IsIdle (S.Serve.serving server.old) (L.Ran.play (S.line server.old)) }
+    requires paid { (L.Ran.play (S.line server.old)).owed ≡ false }
     ensures ready { S.is_ready server.new }
     ensures runs { RunsOn (S.Serve.serving server.old) (S.Serve.serving server.new)
-        (L.Link.truth (S.line server.old)) (L.Link.truth (S.line server.new)) (L.Played.play (S.line server.old))
-        (L.Played.play (S.line server.new)) Resting (doing_of (option_map L.Waiting.Arrival.arrived result)) }
-    ensures hands { HandsOut (L.Played.play (S.line server.old)) (option_map L.Waiting.Arrival.arrived result)
-        (L.Played.play (S.line server.new)) }
+        (L.Link.truth (S.line server.old)) (L.Link.truth (S.line server.new)) (L.Ran.play (S.line server.old))
+        (L.Ran.play (S.line server.new)) Resting (doing_of (option_map L.Waiting.Arrival.arrived result)) }
+    ensures hands { HandsOut (L.Ran.play (S.line server.old)) (option_map L.Waiting.Arrival.arrived result)
+        (L.Ran.play (S.line server.new)) }
     ensures live { IsLive (doing_of (option_map L.Waiting.Arrival.arrived result)) (S.Serve.serving server.new)
-        (L.Played.play (S.line server.new)) }
+        (L.Ran.play (S.line server.new)) }
     ensures absorbed { S.absorbed server.new ≡ S.absorbed server.old }
 {
     server.link_mut().next_call()
 }
 
-/// One turn between two calls: what is owed is told, or a call that waits is answered, or, where none does, the next event is played.
+/// One turn between two calls: what is owed is told, or a call that waits is answered, or, where none does, the next event is run.
 fn turn<L: WorldLink, S: FileServer<L>>(server: &mut S) -> Result<Course, AllocError>
     requires ready { S.is_ready server.old }
     requires few { S.absorbed server.old < 2 ^ 48 }
     requires knows { (call : Call) → S.knows call }
-    requires idle { IsIdle (S.Serve.serving server.old) (L.Played.play (S.line server.old)) }
+    requires idle { IsIdle (S.Serve.serving server.old) (L.Ran.play (S.line server.old)) }
     ensures ready { OnOk result (S.is_ready server.new) }
     ensures course { IfOk result (λ c. ComesTo c (S.Serve.serving server.old) (S.Serve.serving server.new)
-        (L.Link.truth (S.line server.old)) (L.Link.truth (S.line server.new)) (L.Played.play (S.line server.old))
-        (L.Played.play (S.line server.new))) }
+        (L.Link.truth (S.line server.old)) (L.Link.truth (S.line server.new)) (L.Ran.play (S.line server.old))
+        (L.Ran.play (S.line server.new))) }
     ensures absorbed { OnOk result (S.absorbed server.new ≤ S.absorbed server.old + 1) }
-    ensures starved { OnErr result ((L.Played.play (S.line server.new)).starved ≡ true) }
+    ensures starved { OnErr result ((L.Ran.play (S.line server.new)).starved ≡ true) }
 {
     if server.link().owes() {
-        play_event(server)?;
+        run_event(server)?;
         return Ok(Course::More);
     }
     if let Some(arrived) = next_call(server) {
@@ -141,23 +141,23 @@ fn turn<L: WorldLink, S: FileServer<L>>(server: &mut S) -> Result<Course, AllocE
         return Ok(course);
     }
     if server.link().has_event() {
-        play_event(server)?;
+        run_event(server)?;
         return Ok(Course::More);
     }
     Ok(Course::Done)
 }
 
-/// A run to its end: the schedule is played, and the calls that arrive in it are answered in their order, each once the one before it is;
+/// A run to its end: the schedule is run, and the calls that arrive in it are answered in their order, each once the one before it is;
 /// whether a call was cut. An error: no memory was found.
 pub fn turns<L: WorldLink, S: FileServer<L>>(server: &mut S) -> Result<bool, AllocError>
     requires ready { S.is_ready server.old }
-    requires few { S.absorbed server.old + work_left (L.Played.play (S.line server.old)) < 2 ^ 48 }
+    requires few { S.absorbed server.old + work_left (L.Ran.play (S.line server.old)) < 2 ^ 48 }
     requires knows { (call : Call) → S.knows call }
-    requires idle { IsIdle (S.Serve.serving server.old) (L.Played.play (S.line server.old)) }
+    requires idle { IsIdle (S.Serve.serving server.old) (L.Ran.play (S.line server.old)) }
     ensures ends { IfOk result (λ cut. EndsAs cut (S.Serve.serving server.old) (S.Serve.serving server.new)
-        (L.Link.truth (S.line server.old)) (L.Link.truth (S.line server.new)) (L.Played.play (S.line server.old))
-        (L.Played.play (S.line server.new))) }
-    ensures starved { OnErr result ((L.Played.play (S.line server.new)).starved ≡ true) }
+        (L.Link.truth (S.line server.old)) (L.Link.truth (S.line server.new)) (L.Ran.play (S.line server.old))
+        (L.Ran.play (S.line server.new))) }
+    ensures starved { OnErr result ((L.Ran.play (S.line server.new)).starved ≡ true) }
 {
     loop {
         match turn(server)? {
@@ -168,11 +168,11 @@ pub fn turns<L: WorldLink, S: FileServer<L>>(server: &mut S) -> Result<bool, All
     }
 }
 
-/// How many calls wait, where each event was played and nothing is owed.
+/// How many calls wait, where each event was run and nothing is owed.
 fn left_waiting<L: WorldLink, S: FileServer<L>>(server: &S) -> Option<u64>
-    ensures spent { IfSome result (λ n. IsSpent (L.Played.play (S.line server.now))) }
-    ensures waiting { IfSome result (λ n. n ≡ length (L.Played.play (S.line server.now)).queue) }
-    ensures none { result ≡ None → IsSpent (L.Played.play (S.line server.now)) → ⊥ }
+    ensures spent { IfSome result (λ n. IsSpent (L.Ran.play (S.line server.now))) }
+    ensures waiting { IfSome result (λ n. n ≡ length (L.Ran.play (S.line server.now)).queue) }
+    ensures none { result ≡ None → IsSpent (L.Ran.play (S.line server.now)) → ⊥ }
 {
     let link = server.link();
     if link.has_event() {
@@ -192,20 +192,20 @@ fn unanswered_calls(cut: bool, waiting: u64) -> u64
     if cut { waiting + 1 } else { waiting }
 }
 
-/// Plays a run out, from before its first event: how many calls of those that arrived have no answer. An error: no memory was found.
+/// Occurs a run out, from before its first event: how many calls of those that arrived have no answer. An error: no memory was found.
 ///
-/// Each event is played, in its order, and each call that arrives is begun, in its order, once the one before it was answered and what was
+/// Each event is run, in its order, and each call that arrives is begun, in its order, once the one before it was answered and what was
 /// owed was told, before the next event; the last one may be cut, where the link has ended. Then the replies are those of the file tree,
 /// and the media hold what the record says.
-pub fn play_out<L: WorldLink, S: FileServer<L>>(server: &mut S) -> Result<u64, AllocError>
+pub fn run_out<L: WorldLink, S: FileServer<L>>(server: &mut S) -> Result<u64, AllocError>
     requires ready { S.is_ready server.old }
-    requires few { S.absorbed server.old + work_left (L.Played.play (S.line server.old)) < 2 ^ 48 }
+    requires few { S.absorbed server.old + work_left (L.Ran.play (S.line server.old)) < 2 ^ 48 }
     requires knows { (call : Call) → S.knows call }
-    requires idle { IsIdle (S.Serve.serving server.old) (L.Played.play (S.line server.old)) }
-    requires sound { IsSound (L.Played.play (S.line server.old)) }
+    requires idle { IsIdle (S.Serve.serving server.old) (L.Ran.play (S.line server.old)) }
+    requires sound { IsSound (L.Ran.play (S.line server.old)) }
     ensures out { IfOk result (λ unanswered. RunsOut (S.Serve.serving server.old) (S.Serve.serving server.new)
-        (L.Link.truth (S.line server.old)) (L.Played.play (S.line server.old)) (L.Played.play (S.line server.new)) unanswered) }
-    ensures starved { OnErr result ((L.Played.play (S.line server.new)).starved ≡ true) }
+        (L.Link.truth (S.line server.old)) (L.Ran.play (S.line server.old)) (L.Ran.play (S.line server.new)) unanswered) }
+    ensures starved { OnErr result ((L.Ran.play (S.line server.new)).starved ≡ true) }
 {
     let cut = turns(server)?;
     let Some(waiting) = left_waiting(server) else {

@@ -1,6 +1,6 @@
-//! Schedules: the events that a run of the server and its drivers plays, and what a run over them must show.
+//! Schedules: the events that a run of the server and its drivers runs, and what a run over them must show.
 //!
-//! A run starts driver 1 at tick 0, opens the server, and plays the events one by one; a call plays events itself while it
+//! A run starts driver 1 at tick 0, opens the server, and runs the events one by one; a call runs events itself while it
 //! waits. A driver is live from its start until it dies or fails; a post to one that isn't is refused, and so is one to a line
 //! that holds 32. A start is taken by the server at once, and so is giving up, but for one that a complaint caused: that is
 //! taken by the call's next take, or right after the call or the message, always before the next event. After the last event nothing comes
@@ -34,7 +34,7 @@ use tree::{Call, Who};
 #[derive(Clone, Copy)]
 pub enum Event<'a> {
     /// A client's call, with the time, arrives. Outside a call it begins; inside one it is queued, and begins, first in first
-    /// out, before the next event is played.
+    /// out, before the next event is run.
     Arrive(Who, u32, Call<'a>),
     /// The server takes Flush: dirty frames are to be written.
     Flush,

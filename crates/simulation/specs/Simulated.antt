@@ -13,7 +13,7 @@ use Rattle.reply_text.specs.TranscriptText.{transcript_text}
 use Rattle.world.specs.Beginning.{IsNotBegun}
 use Rattle.world.specs.Reasons as run
 use Rattle.world.specs.declared.run_refusal.RunRefusal.{RunRefusal}
-use Rattle.world.specs.Plays.{RunShows}
+use Rattle.world.specs.Occurs.{RunShows}
 use Rattle.simulation.specs.Inputs.{HasSchedule, IsNoInput}
 use Rattle.simulation.specs.Inputs as inputs
 use Rattle.simulation.specs.Shown.{Shows}

@@ -295,7 +295,7 @@ fn the_root_is_read(rt: HostRuntime) -> Result<(), Fail> {
     Ok(())
 }
 
-/// How many lines are played, the ticks after them, which are one too few for the next start, and how many lines are shown until then.
+/// How many lines are run, the ticks after them, which are one too few for the next start, and how many lines are shown until then.
 static EARLY: [(usize, usize, usize); 5] = [
     (2, 0, 3),
     (4, 1, 6),

@@ -1,4 +1,4 @@
-//! What is shown of a run that was played out: the marks of its record, and the bytes of its media.
+//! What is shown of a run that was run out: the marks of its record, and the bytes of its media.
 //!
 //! A record's marks are read off what the run's link was told and gave: a message leaves a mark unless it is a reply that doesn't
 //! count, and a post or a complaint unless it was of no effect.

@@ -2,7 +2,7 @@
 
 use file_server::FileServer;
 use inline::local::LocalDriver;
-use run_link::Playing;
+use run_link::RunLink;
 use run_drivers::unit::Unit;
 use schedule::Sent;
 use std::alloc::{AllocError, Global};
@@ -14,8 +14,8 @@ use vfs::Server;
 /// What a run came to: its record, the replies that drivers sent, the drivers and the server as they stand, and the calls that wait.
 #[derive(Drop)]
 pub struct Transcript<'a, D> {
-    /// The server as it stands, over the link that played the schedule.
-    pub server: Server<Stored<Playing<'a, D>>>,
+    /// The server as it stands, over the link that run the schedule.
+    pub server: Server<Stored<RunLink<'a, D>>>,
     /// How many calls arrived and have no reply.
     pub unanswered: u64,
 }
@@ -27,7 +27,7 @@ impl<'a, D: LocalDriver> Transcript<'a, D> {
     ghost use Rattle.transcript.specs.ShownTranscript.{transcript_of};
 
     /// The link, as it stands.
-    fn link(&self) -> &Playing<'a, D>
+    fn link(&self) -> &RunLink<'a, D>
         ensures { result.now ≡ line_of self.now.server }
     {
         self.server.link()

@@ -9,11 +9,11 @@ use Rattle.records.specs.Told.{took_end}
 use Rattle.schedule.specs.declared.Event.{Event}
 use Rattle.schedule.specs.Noted.{Noted}
 use Rattle.driver_events.specs.Scene.{Scene}
-use Rattle.run_link.specs.PlayView.{Play, IsOpened, left_of, unless_told, work_left}
+use Rattle.run_link.specs.StateView.{RunState, IsOpened, left_of, unless_told, work_left}
 use Rattle.reincarnate.specs.declared.SupplyRefusal.{SupplyRefusal}
 use Rattle.reincarnate.specs.Supply.{ReincarnationState, NewAnswers}
 use Rattle.run_loop.specs.Starts.{IsBeforeFirst}
-use Rattle.world.specs.ServerPlays.{IsFresh}
+use Rattle.world.specs.ServerRuns.{IsFresh}
 
 -- a promise of what is there holds of what follows from it
 pub if_ok : {A E : Type 0} (P Q : A → Type 0) (r : Result A E) → ((a : A) → P a → Q a) → IfOk r P → IfOk r Q
@@ -21,7 +21,7 @@ if_ok P Q (Ok a) f h = f a h
 if_ok P Q (Err e) f h = tt
 
 -- a link that was just made is one that waits for its first event
-pub fresh : (media : MediaState) (rules : Policy) (watch : Watch) (supply : List DriverState) (events : List Event) (p : Play)
+pub fresh : (media : MediaState) (rules : Policy) (watch : Watch) (supply : List DriverState) (events : List Event) (p : RunState)
     → IsOpened media rules watch supply events p → IsFresh events (length media.sectors) p
 fresh media rules watch supply events p opened = record {
   first = record {
@@ -41,7 +41,7 @@ as_many state (d ∷ drivers) = ap suc (as_many state drivers)
 
 -- a reincarnation server that was just made of these drivers
 pub opened_on : {D : Type 0} (state : D → DriverState) (media : MediaState) (rules : Policy) (drivers : List D)
-    (made : Result (ReincarnationState D) SupplyRefusal) (r : ReincarnationState D) (events : List Event) (p : Play) → made ≡ Ok r → NewAnswers rules drivers made
+    (made : Result (ReincarnationState D) SupplyRefusal) (r : ReincarnationState D) (events : List Event) (p : RunState) → made ≡ Ok r → NewAnswers rules drivers made
     → IsOpened media r.policy r.watch (map state r.supply) events p
     → IsOpened media rules (new_watch (length (map state drivers))) (map state drivers) events p
 opened_on {D} state media rules drivers made r events p is answers opened =
@@ -50,7 +50,7 @@ opened_on {D} state media rules drivers made r events p is answers opened =
     (subst (λ (x : ReincarnationState D). IsOpened media x.policy x.watch (map state x.supply) events p) new.2 opened)
 
 -- nothing was taken, so no End
-pub none_ended : (p : Play) → IsBeforeFirst p → took_end p.scene.noted.history ≡ false
+pub none_ended : (p : RunState) → IsBeforeFirst p → took_end p.scene.noted.history ≡ false
 none_ended p first = ap (λ (n : Noted). took_end n.history) first.noted
 
 -- a message for each event, and one more
@@ -60,14 +60,14 @@ few_left false true n o t few = absurd (let y : ⊥ = cc in y)
 few_left false false n o t few = omega (arith, few)
 
 -- so few messages come in a schedule of fewer than 2^32 events
-pub small_budget : (events : List Event) (sectors : ℕ) (p : Play) → IsFresh events sectors p → length events < 4294967296
+pub small_budget : (events : List Event) (sectors : ℕ) (p : RunState) → IsFresh events sectors p → length events < 4294967296
     → left_of p.over (length p.events - p.next) p.told ≤ 288230376151711744
 small_budget events sectors p new few =
     let all : length p.events ≡ length events = ap length new.events_are in
     few_left p.over p.told (length p.events - p.next) new.first.live new.untold (omega (arith, all, few))
 
 -- a schedule of fewer than 2^32 events leaves little to do
-pub little_work : (events : List Event) (sectors : ℕ) (p : Play) → IsFresh events sectors p → length events < 4294967296 → work_left p + 1 < 281474976710656
+pub little_work : (events : List Event) (sectors : ℕ) (p : RunState) → IsFresh events sectors p → length events < 4294967296 → work_left p + 1 < 281474976710656
 little_work events sectors p new few =
     let all : length p.events ≡ length events = ap length new.events_are in
     let none : length p.queue ≡ 0 = ap length new.first.queue in
@@ -75,7 +75,7 @@ little_work events sectors p new few =
     omega (arith, all, none, one, few)
 
 -- over the link that a server was opened on as little is left to do
-pub few_here : {L : Type 0} (play : L → Play) (a b : L) (n : ℕ) → a ≡ b → n ≡ 0 → work_left (play b) + 1 < 281474976710656
+pub few_here : {L : Type 0} (play : L → RunState) (a b : L) (n : ℕ) → a ≡ b → n ≡ 0 → work_left (play b) + 1 < 281474976710656
     → n + work_left (play a) + 1 < 281474976710656
 few_here {L} play a b n same none few =
     let e : work_left (play a) ≡ work_left (play b) = ap (λ (l : L). work_left (play l)) same in omega (arith, e, none, few)

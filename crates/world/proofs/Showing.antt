@@ -1,4 +1,4 @@
--- From a schedule that was played out to what is shown of the run.
+-- From a schedule that was run out to what is shown of the run.
 use Rattle.std.proofs.Common.{◌≡◌, cond, inl, inr, ℕ, suc, ◌-◌, List, [], ◌∷◌, Bool, true, false, length, refl, sym, ◌∙◌, subst, arith}
 use Rattle.std.specs.List.{concat}
 use Rattle.layout.specs.declared.Geometry.{Geometry}
@@ -22,8 +22,8 @@ use Rattle.schedule.specs.Groups.{Each}
 use Rattle.schedule.specs.Justified.{Justified}
 use Rattle.schedule.specs.Headline.{Transcript}
 use Rattle.schedule.specs.Noted.{marks_in}
-use Rattle.run_link.specs.declared.playing.Playing.{Playing}
-use Rattle.run_link.specs.PlayView.{Play, IsOpened}
+use Rattle.run_link.specs.declared.run.RunLink.{RunLink}
+use Rattle.run_link.specs.StateView.{RunState, IsOpened}
 use Rattle.run_link.specs.Moments.{Doing, Resting, Hearing, Answering}
 use Rattle.justified.specs.Steady.{drivers_of}
 use Rattle.justified.specs.Whole.{IsUnused, IsAtEnd, IsWhole as IsWholeRun}
@@ -40,8 +40,8 @@ use Rattle.vfs.specs.OverLink.{line_of, serving_over}
 use Rattle.world.specs.declared.run_refusal.RunRefusal.TheVariants.{OutOfMemory}
 use Rattle.world.specs.Beginning.{IsBegun, IsNotBegun, range_of}
 use Rattle.transcript.specs.ShownTranscript.{frames_in}
-use Rattle.world.specs.ServerPlays.{IsFresh, PlaysFrom}
-use Rattle.world.specs.Plays.{RunShows}
+use Rattle.world.specs.ServerRuns.{IsFresh, RunsFrom}
+use Rattle.world.specs.Occurs.{RunShows}
 
 -- ---- before the first event
 
@@ -63,24 +63,24 @@ all_unused v (d ∷ supply) ready =
 -- ---- at the end
 
 -- the server rests and no call waits, or its link has ended
-ends_so : (s : Serving) (p : Play) (last : Doing) → EndsIn last s p
+ends_so : (s : Serving) (p : RunState) (last : Doing) → EndsIn last s p
     → (((moment s p last).doing ≡ Resting) × (p.queue ≡ [])) ⊎ (p.over ≡ true)
 ends_so s p Resting ends = inl (refl, ends.2)
 ends_so s p (Hearing message) ends = absurd ends
 ends_so s p (Answering call) ends = inr ends.1
 
-module _ {L : Type 0} (words : LinkWords L) (play : L → Play) (link : L) (image : List ℕ) (setup : Setup) (supply : List DriverState) (events : List Event)
+module _ {L : Type 0} (words : LinkWords L) (play : L → RunState) (link : L) (image : List ℕ) (setup : Setup) (supply : List DriverState) (events : List Event)
     (range : ℕ × ℕ) (g : Geometry) (tree : Tree) (frames : ℕ) (s : Server (Stored L)) (t : Transcript) where
   abbrev v : Opening
   v = opening_of image setup.minor range
 
-  abbrev last : Play
+  abbrev last : RunState
   last = play (line_of s)
 
   -- what is shown of it
   pub run_shows : (media : MediaState) → media.generation ≡ 0 → IsOpened media setup.policy (new_watch (length supply)) supply events (play link)
       → IsBegun image setup supply (range_of range) g tree → Each IsUnused supply → IsOnMedia v → words.truth link v (Started (driver 1) ∷ [])
-      → IsFresh events (length (sectors_of image)) (play link) → PlaysFrom words play link setup.minor g frames s t.unanswered
+      → IsFresh events (length (sectors_of image)) (play link) → RunsFrom words play link setup.minor g frames s t.unanswered
       → IsWhole last.scene.disks.media.sectors → t.marks ≡ marks_in last.scene.noted → t.frames ≡ frames_in s
       → t.sent ≡ last.scene.disks.sent → t.drivers ≡ drivers_of last.scene.disks → t.image ≡ concat last.scene.disks.media.sectors → RunShows image setup supply events t
   run_shows media none_started opened begun unused on truth new from whole marks frames_are sent drivers bytes =
@@ -133,5 +133,5 @@ pub lacking : (image : List ℕ) (setup : Setup) (supply : List DriverState) (ra
     → IsNotBegun image setup supply OutOfMemory
 lacking image setup supply range g begun = begun.1.accepted.volume.media
 
-pub whole_there : {D : Type 0} (a b : Playing D) → a ≡ b → IsWhole a.stage.drivers.media.sectors → IsWhole b.stage.drivers.media.sectors
-whole_there {D} a b same whole = subst (λ (l : Playing D). IsWhole l.stage.drivers.media.sectors) same whole
+pub whole_there : {D : Type 0} (a b : RunLink D) → a ≡ b → IsWhole a.stage.drivers.media.sectors → IsWhole b.stage.drivers.media.sectors
+whole_there {D} a b same whole = subst (λ (l : RunLink D). IsWhole l.stage.drivers.media.sectors) same whole

@@ -1,5 +1,5 @@
-pub mod Plays
+pub mod Occurs
 pub mod Shows
 pub mod Reasons
 pub mod Beginning
-pub mod ServerPlays
+pub mod ServerRuns

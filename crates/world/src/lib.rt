@@ -2,7 +2,7 @@
 //!
 //! What a run of a schedule starts on: media, a volume that was checked, drivers that are ready for it; or why no run is begun.
 //!
-//! The link of a run before its first event, and a file server that is opened over such a link and plays the schedule out.
+//! The link of a run before its first event, and a file server that is opened over such a link and runs the schedule out.
 #![tactic(auto)]
 
 pub mod link;

@@ -7,12 +7,12 @@ ghost use Rattle.records.specs.Opening.{Opening};
 ghost use Rattle.inline.specs.Inline.{IsReady};
 ghost use Rattle.true_replies.specs.Events.{IsOnMedia, opening_media};
 ghost use Rattle.schedule.specs.LogView.{room_in};
-ghost use Rattle.run_link.specs.PlayView.{IsOpened, PlayTrue, play_of};
-ghost use Rattle.world.specs.ServerPlays.{IsFresh};
+ghost use Rattle.run_link.specs.StateView.{IsOpened, RunTruth, run_of};
+ghost use Rattle.world.specs.ServerRuns.{IsFresh};
 
 use inline::local::LocalDriver;
 use media::Media;
-use run_link::Playing;
+use run_link::RunLink;
 use reincarnate::policy::Setup;
 use reincarnate::Reincarnation;
 use schedule::Event;
@@ -25,20 +25,20 @@ pub fn link_of<'a, D: LocalDriver>(
     setup: &Setup,
     supply: Vec<D>,
     events: &'a [Event<'a>],
-) -> Result<Playing<'a, D>, AllocError>
+) -> Result<RunLink<'a, D>, AllocError>
     requires media { media.generation ≡ 0 }
     requires few { length events.now < 2 ^ 32 }
-    ensures fresh { IfOk result (λ p. IsFresh events.now (length media.sectors) (play_of D.state p)) }
+    ensures fresh { IfOk result (λ p. IsFresh events.now (length media.sectors) (run_of D.state p)) }
     ensures opened { IfOk result (λ p. IsOpened media setup.now.policy (new_watch (length (map D.state supply.items)))
         (map D.state supply.items)
-        events.now (play_of D.state p)) }
+        events.now (run_of D.state p)) }
     ensures truth { IfOk result (λ p. (v : Opening) → IsOnMedia v → media ≡ opening_media v
         → All (IsReady v) (map D.state supply.items)
-        → PlayTrue v (play_of D.state p).scene (Started (driver 1) ∷ [])) }
+        → RunTruth v (run_of D.state p).scene (Started (driver 1) ∷ [])) }
     ensures room { IfOk result (λ p. 33 ≤ room_in p.log) }
 {
     let Ok(reincarnation) = Reincarnation::new(alloc, setup.policy, supply) else {
         return Err(AllocError);
     };
-    Playing::new(alloc, media, reincarnation, events)
+    RunLink::new(alloc, media, reincarnation, events)
 }

@@ -1,4 +1,4 @@
-//! What a transcript of a run that was played out promises.
+//! What a transcript of a run that was run out promises.
 
 ghost use Rattle.world.specs.Shows.{RunsAreShown};
 

@@ -3,21 +3,21 @@
 ghost use Rattle.std.specs.Prelude.{◌≡◌, ◌≤◌, ◌<◌, ◌+◌, ◌^◌, IfOk, false};
 ghost use Rattle.layout.specs.Places.{IsGeometry};
 ghost use Rattle.records.specs.Told.{took_end};
-ghost use Rattle.run_link.specs.PlayView.{work_left};
+ghost use Rattle.run_link.specs.StateView.{work_left};
 ghost use Rattle.run_loop.specs.Starts.{IsBeforeFirst};
-ghost use Rattle.world.specs.ServerPlays.{PlaysFrom};
+ghost use Rattle.world.specs.ServerRuns.{RunsFrom};
 
 use fsck::Clean;
 use vfs::Server;
 use mounting::mounted::open;
 use run_loop::WorldLink;
-use run_loop::run::play_all;
+use run_loop::run::run_all;
 use std::alloc::{AllocError, Global};
 use stored::Stored;
 
-/// A server is opened over this link, which has noted the first start alone, and plays the schedule out: the server then, and how many
+/// A server is opened over this link, which has noted the first start alone, and runs the schedule out: the server then, and how many
 /// calls have no answer. An error: no memory was found.
-pub fn play_over<L: WorldLink>(
+pub fn run_over<L: WorldLink>(
     alloc: Global,
     link: L,
     minor: u8,
@@ -28,14 +28,14 @@ pub fn play_over<L: WorldLink>(
     requires live { took_end (L.Link.history link) ≡ false }
     requires budget { L.Link.budget_left link ≤ 2 ^ 58 }
     requires room { 33 ≤ L.Link.room link }
-    requires few { work_left (L.Played.play link) + 1 < 2 ^ 48 }
-    requires first { IsBeforeFirst (L.Played.play link) }
-    ensures { IfOk result (λ r. PlaysFrom L.Link L.Played.play link minor clean.geometry frames r.0 r.1) }
+    requires few { work_left (L.Ran.play link) + 1 < 2 ^ 48 }
+    requires first { IsBeforeFirst (L.Ran.play link) }
+    ensures { IfOk result (λ r. RunsFrom L.Link L.Ran.play link minor clean.geometry frames r.0 r.1) }
 {
     let Ok(opened) = open(alloc, link, minor, clean, frames) else {
         return Err(AllocError);
     };
     let mut server = opened;
-    let unanswered = play_all(&mut server)?;
+    let unanswered = run_all(&mut server)?;
     Ok((server, unanswered))
 }

@@ -4,14 +4,14 @@ ghost use Rattle.std.specs.Prelude.{◌≡◌, ◌<◌, ◌^◌, IfErr, IfOk, le
 ghost use Rattle.media.specs.Contents.{IsWhole};
 ghost use Rattle.world.specs.Beginning.{IsNotBegun};
 ghost use Rattle.transcript.specs.ShownTranscript.{frame_count_of, transcript_of};
-ghost use Rattle.world.specs.Plays.{RunShows};
+ghost use Rattle.world.specs.Occurs.{RunShows};
 
 use file_server::FileServer;
 use inline::local::LocalDriver;
 use media::Media;
 use reincarnate::policy::Setup;
 use crate::link::link_of;
-use crate::server::play_over;
+use crate::server::run_over;
 use crate::{RunRefusal, prepare_run};
 use transcript::Transcript;
 use schedule::Event;
@@ -30,11 +30,11 @@ pub struct World;
 
 impl World {
     /// Runs a schedule of fewer than 2^32 events on an image: checks the volume of the setup's minor, starts the first driver as generation
-    /// 1 at tick 0, opens a server on the volume, with as many frames as the setup asks for, and plays the events.
+    /// 1 at tick 0, opens a server on the volume, with as many frames as the setup asks for, and runs the events.
     ///
     /// It is refused where the image makes no media; where there is no such partition; where the volume breaks a rule of the format; where
     /// a number of the setup isn't in its range, or a driver isn't ready for the volume's sectors; and where there is no driver. The first
-    /// of these that holds is answered, and nothing was played. Where the image makes media, it may also be refused for want of memory.
+    /// of these that holds is answered, and nothing was run. Where the image makes media, it may also be refused for want of memory.
     pub fn run<'a, D: LocalDriver>(
         alloc: Global,
         image: &[u8],
@@ -53,7 +53,7 @@ impl World {
         let Ok(link) = link_of(alloc, prepared.media, setup, supply, events) else {
             return Err(RunRefusal::OutOfMemory);
         };
-        let Ok((server, unanswered)) = play_over(alloc, link, setup.minor, clean, frames) else {
+        let Ok((server, unanswered)) = run_over(alloc, link, setup.minor, clean, frames) else {
             return Err(RunRefusal::OutOfMemory);
         };
         are_whole(&server.link().stage.drivers.media);

@@ -1,7 +1,7 @@
 use Rattle.std.proofs.Common.{◌∙◌, refl}
 use Rattle.message.specs.declared.Incoming.TheVariants as incoming
-use Rattle.run_link.proofs.PlayLaws.{handed_true, owed_heard, true_of, aside_true, quiet_true}
-use Rattle.run_link.proofs.Going.{same_play, hands_event, hands_none, hands_owed, hands_nothing, not_told}
+use Rattle.run_link.proofs.MovingLaws.{handed_true, owed_heard, true_of, aside_true, quiet_true}
+use Rattle.run_link.proofs.Going.{same_run, hands_event, hands_none, hands_owed, hands_nothing, not_told}
 use Rattle.run_loop.proofs.aside.aside.Goals as goal
 
 pub returns-then-link-clause-truth : goal.returns-then-link-clause-truth
@@ -18,20 +18,20 @@ returns-in_default-clause-truth g c = λ v marks h.
 
 pub returns-then-not-make_room-clause-asides : goal.returns-then-not-make_room-clause-asides
 returns-then-not-make_room-clause-asides g c =
-    hands_nothing _ _ _ (same_play _ _ c.make_room.ensures.scene refl refl c.make_room.ensures.waiting refl refl c.make_room.ensures.over refl)
+    hands_nothing _ _ _ (same_run _ _ c.make_room.ensures.scene refl refl c.make_room.ensures.waiting refl refl c.make_room.ensures.over refl)
 
 pub returns-then-link-clause-asides : goal.returns-then-link-clause-asides
 returns-then-link-clause-asides g c =
-    hands_owed _ _ _ _ (same_play _ _ c.make_room.ensures.scene refl refl c.make_room.ensures.waiting refl refl c.make_room.ensures.over refl)
+    hands_owed _ _ _ _ (same_run _ _ c.make_room.ensures.scene refl refl c.make_room.ensures.waiting refl refl c.make_room.ensures.over refl)
     (c.make_room.ensures.over ∙ c.if-not-make_room.ensures.live) c.if-link.true (not_told _ _ c.args.link.now.once c.if-link.true)
     c.note.ensures.said c.note.ensures.over
 
 pub returns-in-Some-clause-asides : goal.returns-in-Some-clause-asides
 returns-in-Some-clause-asides g c =
-    hands_event _ _ _ _ _ _ _ (same_play _ _ c.make_room.ensures.scene refl refl c.make_room.ensures.waiting refl refl c.make_room.ensures.over refl)
+    hands_event _ _ _ _ _ _ _ (same_run _ _ c.make_room.ensures.scene refl refl c.make_room.ensures.waiting refl refl c.make_room.ensures.over refl)
     c.play-message.ensures.plays c.in-Some.is c.note-in-Some.ensures.said c.note-in-Some.ensures.over
 
 pub returns-in_default-clause-asides : goal.returns-in_default-clause-asides
 returns-in_default-clause-asides g c =
-    hands_none _ _ _ _ (same_play _ _ c.make_room.ensures.scene refl refl c.make_room.ensures.waiting refl refl c.make_room.ensures.over refl)
+    hands_none _ _ _ _ (same_run _ _ c.make_room.ensures.scene refl refl c.make_room.ensures.waiting refl refl c.make_room.ensures.over refl)
     c.play-message.ensures.plays c.in_default.is

@@ -11,4 +11,4 @@ returns-in-Some-clause-course g c =
 pub returns-then-has_event-clause-course : goal.returns-then-has_event-clause-course
 returns-then-has_event-clause-course g c =
     event_comes _ _ _ _ _ _ _ _ _ (option_map g.L.Waiting.Arrival.arrived c.next_call.result) (ap (option_map g.L.Waiting.Arrival.arrived) c.in_default.is)
-    c.next_call.ensures.runs c.in_ok-play_event-2.ensures.runs c.in_ok-play_event-2.ensures.idle c.in_ok-play_event-2.ensures.one
+    c.next_call.ensures.runs c.in_ok-run_event-2.ensures.runs c.in_ok-run_event-2.ensures.idle c.in_ok-run_event-2.ensures.one

@@ -2,12 +2,12 @@ use Rattle.std.proofs.Common.{length, ◌-◌, ◌≡◌, ◌<◌, ◌≤◌, No
 use Rattle.std.specs.VecDeque.{deque_len, deque_capacity}
 use Rattle.schedule.specs.LogView.{room_in}
 use Rattle.run_drivers.specs.View.{HasRoom}
-use Rattle.run_link.specs.PlayView.{play_of, Advances}
-use Rattle.run_link.proofs.playing.Playing.advance.Given as goal
+use Rattle.run_link.specs.StateView.{run_of, Advances}
+use Rattle.run_link.proofs.run.RunLink.advance.Given as goal
 
 abbrev pub invariant-loop-self : goal.invariant-loop-self
 invariant-loop-self g l =
-    Advances (play_of g.D.LocalDriver.state l.initial.self) None (play_of g.D.LocalDriver.state l.self)
+    Advances (run_of g.D.LocalDriver.state l.initial.self) None (run_of g.D.LocalDriver.state l.self)
     × (l.self.log.over ≡ false)
     × (l.self.owed ≡ false)
     × (36 ≤ room_in l.self.log)

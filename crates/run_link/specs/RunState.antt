@@ -23,14 +23,14 @@ use Rattle.schedule.specs.declared.log.Entry.TheVariants as entry
 use Rattle.driver_events.specs.declared.ruling.Ruling.{Ruling}
 use Rattle.driver_events.specs.Ruling.{ruling_of, is_fault, gives_up}
 use Rattle.run_drivers.specs.Disks.{Disks, LinesUp}
-use Rattle.driver_events.specs.Scene.{Scene, Opens, Plays, ruled}
+use Rattle.driver_events.specs.Scene.{Scene, Opens, Occurs, ruled}
 use Rattle.driver_events.specs.Kept.{SceneKept, IsLatest}
 use Rattle.schedule.specs.declared.arrived.Arrived.{Arrived}
 use Rattle.schedule.specs.ArrivingCalls.{calls_of}
 
 -- the drivers and what was noted; the schedule and the number of its next event; the calls that wait; whether that the device was given up
 -- is owed or was told; whether the link has ended; whether memory was wanted, so that not all may have been done
-pub record Play : Type 0 where
+pub record RunState : Type 0 where
   pub scene : Scene
   pub events : List Event
   pub next : ℕ
@@ -44,14 +44,14 @@ pub record Play : Type 0 where
 abbrev pub begun : Event → Scene → Scene
 begun event b = record b { noted = with_entry (entry.Begun event) b.noted }
 
--- the next event is played, while the link hasn't ended and nothing is owed; a call that it brings waits
-pub record PlaysNext (b : Play) (result : Option Incoming) (a : Play) : Type 0 where
+-- the next event is run, while the link hasn't ended and nothing is owed; a call that it brings waits
+pub record RunsEvent (b : RunState) (result : Option Incoming) (a : RunState) : Type 0 where
   pub event : Event
   pub live : b.over ≡ false
   pub paid : b.owed ≡ false
   pub is : slice_get b.events b.next ≡ Some event
   pub latest : IsLatest b.scene
-  pub plays : Plays b.next event (begun event b.scene) result a.scene
+  pub plays : Occurs b.next event (begun event b.scene) result a.scene
   pub queue : a.queue ≡ b.queue ++ calls_of event
   pub events : a.events ≡ b.events
   pub next : a.next ≡ b.next + 1
@@ -60,10 +60,10 @@ pub record PlaysNext (b : Play) (result : Option Incoming) (a : Play) : Type 0 w
   pub over : a.over ≡ b.over
   pub starved : a.starved ≡ b.starved
 
--- events are played, of which the last alone may bring a message
-pub data Advances (b : Play) : Option Incoming → Play → Type 0 where
+-- events are run, of which the last alone may bring a message
+pub data Advances (b : RunState) : Option Incoming → RunState → Type 0 where
   Stays : Advances b None b
-  Goes : (m a : Play) (result : Option Incoming) → Advances b None m → PlaysNext m result a → Advances b result a
+  Goes : (m a : RunState) (result : Option Incoming) → Advances b None m → RunsEvent m result a → Advances b result a
 
 -- the server's record is the run's without its faults, and the drivers fit this one
 pub record Heard (v : Opening) (s : Scene) (marks next : List Mark) : Type 0 where
@@ -71,37 +71,37 @@ pub record Heard (v : Opening) (s : Scene) (marks next : List Mark) : Type 0 whe
   pub kept : SceneKept v s next
 
 -- both are the same
-abbrev pub PlayTrue : Opening → Scene → List Mark → Type 0
-PlayTrue v s marks = Heard v s marks marks
+abbrev pub RunTruth : Opening → Scene → List Mark → Type 0
+RunTruth v s marks = Heard v s marks marks
 
 -- one thing more is noted
-abbrev pub noting : Entry → Play → Play
+abbrev pub noting : Entry → RunState → RunState
 noting e p = record p { scene = record (p.scene) { noted = with_entry e p.scene.noted } }
 
 -- that the device was given up is told, and no longer owed
-abbrev pub paid : Play → Play
+abbrev pub paid : RunState → RunState
 paid p = record p { owed = false; told = true }
 
 -- the link has ended
-abbrev pub ended : Play → Play
+abbrev pub ended : RunState → RunState
 ended p = record p { scene = record (p.scene) { noted = with_end p.scene.noted }; over = true }
 
 -- memory was wanted
-abbrev pub starving : Play → Play
+abbrev pub starving : RunState → RunState
 starving p = record p { starved = true }
 
--- each event was played, and nothing is owed
-pub record IsSpent (p : Play) : Type 0 where
+-- each event was run, and nothing is owed
+pub record IsSpent (p : RunState) : Type 0 where
   pub events : length p.events ≤ p.next
   pub paid : p.owed ≡ false
 
--- nothing comes any more, after some events: each was played, and nothing is owed; or memory was wanted
-pub data ComesToEnd (b : Play) : Play → Type 0 where
-  IsPlayedOut : (a : Play) → Advances b None a → IsSpent a → ComesToEnd b a
-  IsStarved : (a : Play) → Advances b None a → ComesToEnd b (starving a)
+-- nothing comes any more, after some events: each was run, and nothing is owed; or memory was wanted
+pub data ComesToEnd (b : RunState) : RunState → Type 0 where
+  IsRunOut : (a : RunState) → Advances b None a → IsSpent a → ComesToEnd b a
+  IsStarved : (a : RunState) → Advances b None a → ComesToEnd b (starving a)
 
 -- a post to an endpoint, accepted or not
-abbrev pub posted : Endpoint → BlockRequest → Bool → Disks → Play → Play
+abbrev pub posted : Endpoint → BlockRequest → Bool → Disks → RunState → RunState
 posted to r accepted d p = noting (entry.Posted to r accepted) (record p { scene = record (p.scene) { disks = d } })
 
 -- what the reincarnation server rules at a complaint of a driver
@@ -109,7 +109,7 @@ abbrev pub ruling_at : Endpoint → Scene → Ruling
 ruling_at about s = ruling_of (on s.policy s.watch (policy.Complaint about s.tick)).1
 
 -- a complaint: where it gives the device up, that is owed from now on, unless the link has ended
-abbrev pub complained : Endpoint → Play → Play
+abbrev pub complained : Endpoint → RunState → RunState
 complained about p = noting (entry.Complained about (is_fault (ruling_at about p.scene))) (record p {
   scene = ruled (policy.Complaint about p.scene.tick) p.scene;
   owed = p.owed || (gives_up (ruling_at about p.scene) && not p.told && not p.over);
@@ -118,34 +118,34 @@ complained about p = noting (entry.Complained about (is_fault (ruling_at about p
 -- One thing that a server does at the link, and what the link was told by it or gave: it takes a message, which events bring or which is owed;
 -- it takes End, where nothing comes any more; it posts, while the link hasn't ended; it complains. A link that has ended gives End again
 -- without a turn.
-pub data Turn (b : Play) : Told → Play → Type 0 where
-  Takes : (message : Incoming) (a : Play) → Advances b (Some message) a → Turn b (Received message) (noting (entry.Received message) a)
+pub data Turn (b : RunState) : Told → RunState → Type 0 where
+  Takes : (message : Incoming) (a : RunState) → Advances b (Some message) a → Turn b (Received message) (noting (entry.Received message) a)
   TakesOwed : b.over ≡ false → b.owed ≡ true → b.told ≡ false → Turn b (Received incoming.GaveUp) (noting (entry.Received incoming.GaveUp) (paid b))
-  TakesEnd : (a : Play) → b.over ≡ false → ComesToEnd b a → Turn b (Received incoming.End) (ended a)
+  TakesEnd : (a : RunState) → b.over ≡ false → ComesToEnd b a → Turn b (Received incoming.End) (ended a)
   Posts : (to : Endpoint) (r : BlockRequest) (result : Result (Unit {0}) LinkRefusal) (d : Disks) → b.over ≡ false → LinesUp to r b.scene.disks result d
       → Turn b (Posted to r (is_ok result)) (posted to r (is_ok result) d b)
   Complains : (about : Endpoint) → Turn b (Complained about) (complained about b)
 
 -- one after the other
-pub data GoesOn (b : Play) : Play → Type 0 where
+pub data GoesOn (b : RunState) : RunState → Type 0 where
   Still : GoesOn b b
-  Further : (m a : Play) (told : Told) → GoesOn b m → Turn m told a → GoesOn b a
+  Further : (m a : RunState) (told : Told) → GoesOn b m → Turn m told a → GoesOn b a
 
--- What is done between two calls: the next event is played, and the message that it brings is handed over; or that the device was given
+-- What is done between two calls: the next event is run, and the message that it brings is handed over; or that the device was given
 -- up is, if it is owed; or nothing, for want of memory.
-pub data Asides (b : Play) : Result (Option Incoming) AllocError → Play → Type 0 where
-  HandsEvent : (message : Incoming) (a : Play) → PlaysNext b (Some message) a → Asides b (Ok (Some message)) (noting (entry.Handed message) a)
-  HandsNone : (a : Play) → PlaysNext b None a → Asides b (Ok None) a
+pub data Asides (b : RunState) : Result (Option Incoming) AllocError → RunState → Type 0 where
+  HandsEvent : (message : Incoming) (a : RunState) → RunsEvent b (Some message) a → Asides b (Ok (Some message)) (noting (entry.Handed message) a)
+  HandsNone : (a : RunState) → RunsEvent b None a → Asides b (Ok None) a
   HandsOwed : b.over ≡ false → b.owed ≡ true → b.told ≡ false → Asides b (Ok (Some incoming.GaveUp)) (noting (entry.Handed incoming.GaveUp) (paid b))
   HandsNothing : (error : AllocError) → Asides b (Err error) (starving b)
 
 -- the first of the calls that wait is handed out, if one waits
-pub record HandsOut (b : Play) (result : Option Arrived) (a : Play) : Type 0 where
+pub record HandsOut (b : RunState) (result : Option Arrived) (a : RunState) : Type 0 where
   pub first : result ≡ slice_get b.queue 0
   pub after : a ≡ record b { queue = drop 1 b.queue }
 
 -- the answer of a call is noted, or nothing is, for want of memory
-abbrev pub Answers : Play → Arrived → Reply → Result (Unit {0}) AllocError → Play → Type 0
+abbrev pub Answers : RunState → Arrived → Reply → Result (Unit {0}) AllocError → RunState → Type 0
 Answers b arrived reply (Ok done) a = a ≡ noting (entry.Took arrived.who arrived.now arrived.call reply) b
 Answers b arrived reply (Err error) a = a ≡ starving b
 
@@ -155,7 +155,7 @@ unless_told true = 0
 unless_told false = 1
 
 -- how much is left to do, at most: each event may bring a call, and that the device was given up may be told once
-abbrev pub work_left : Play → ℕ
+abbrev pub work_left : RunState → ℕ
 work_left p = 2 * (length p.events - p.next) + length p.queue + unless_told p.told
 
 -- before the first event the server is handed the start of driver 1
@@ -163,7 +163,7 @@ abbrev pub first_noted : Noted
 first_noted = with_entry (entry.Handed (incoming.Started (driver 1))) nothing_noted
 
 -- Before the first event, over these media, by this policy: the first driver of the supply runs, and no call waits.
-pub record IsOpened (media : MediaState) (rules : Policy) (watch : Watch) (supply : List DriverState) (events : List Event) (p : Play) : Type 0 where
+pub record IsOpened (media : MediaState) (rules : Policy) (watch : Watch) (supply : List DriverState) (events : List Event) (p : RunState) : Type 0 where
   pub scene : Opens media rules watch supply first_noted p.scene
   pub events_are : p.events ≡ events
   pub next : p.next ≡ 0

@@ -19,9 +19,9 @@ use schedule::Event;
 use std::alloc::{AllocError, Global};
 use std::collections::VecDeque;
 
-/// The link: it plays the events of a schedule until one brings a message.
+/// The link: it runs the events of a schedule until one brings a message.
 #[derive(Drop)]
-pub struct Playing<'a, D> {
+pub struct RunLink<'a, D> {
     pub stage: Stage<D>,
     pub log: Log<'a>,
     pub events: &'a [Event<'a>],
@@ -42,10 +42,10 @@ pub struct Playing<'a, D> {
     pub ghost ticks: { stage.tick ≤ next },
 }
 
-impl<'a, D: LocalDriver> Playing<'a, D> {
+impl<'a, D: LocalDriver> RunLink<'a, D> {
     ghost use Rattle.schedule.specs.LogView.{said, room_in};
     ghost use Rattle.driver_events.specs.StageView.{scene_of};
-    ghost use Rattle.run_link.specs.PlayView.{play_of, PlayTrue, IsOpened};
+    ghost use Rattle.run_link.specs.StateView.{run_of, RunTruth, IsOpened};
 
     /// A run of this schedule before its first event: on these media the first driver of the reincarnation server, which was told nothing
     /// yet, is started as generation 1, at tick 0, and the server is to be handed its start. An error: no memory was found.
@@ -56,15 +56,15 @@ impl<'a, D: LocalDriver> Playing<'a, D> {
         media: Media,
         reincarnation: Reincarnation<D>,
         events: &'a [Event<'a>],
-    ) -> Result<Playing<'a, D>, AllocError>
+    ) -> Result<RunLink<'a, D>, AllocError>
         requires media { media.generation ≡ 0 }
         requires untold { reincarnation.watch ≡ new_watch (length reincarnation.supply) }
         requires few { length events.now < 2 ^ 32 }
         ensures opens { IfOk result (λ p. IsOpened media reincarnation.policy reincarnation.watch (map D.state reincarnation.supply)
-            events.now (play_of D.state p)) }
+            events.now (run_of D.state p)) }
         ensures truth { IfOk result (λ p. (v : Opening) → IsOnMedia v → media ≡ opening_media v
             → All (IsReady v) (map D.state reincarnation.supply)
-            → PlayTrue v (scene_of D.state p.stage (said p.log)) (Started (driver 1) ∷ [])) }
+            → RunTruth v (scene_of D.state p.stage (said p.log)) (Started (driver 1) ∷ [])) }
         ensures room { IfOk result (λ p. 33 ≤ room_in p.log) }
     {
         let mut log = Log::new(alloc)?;
@@ -73,7 +73,7 @@ impl<'a, D: LocalDriver> Playing<'a, D> {
             generation: 1,
         };
         log.note(Entry::Handed(Incoming::Started(first)));
-        Ok(Playing {
+        Ok(RunLink {
             stage: Stage::new(alloc, media, reincarnation)?,
             log,
             events,

@@ -1,8 +1,8 @@
 use Rattle.schedule.proofs.NotedLaws.{has_room}
 use Rattle.run_drivers.proofs.DisksLaws.{lines_up}
-use Rattle.run_link.proofs.PlayLaws.{posted_true, accepted_at}
+use Rattle.run_link.proofs.MovingLaws.{posted_true, accepted_at}
 use Rattle.run_link.proofs.Going.{posts}
-use Rattle.run_link.proofs.link.PlayingLink.post.Goals as goal
+use Rattle.run_link.proofs.link.RunLinkLink.post.Goals as goal
 
 pub returns-in-Ok-clause-accepted : goal.returns-in-Ok-clause-accepted
 returns-in-Ok-clause-accepted g c =

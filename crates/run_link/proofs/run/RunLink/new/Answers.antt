@@ -4,8 +4,8 @@ use Rattle.reincarnate.specs.Watch.{driver}
 use Rattle.schedule.specs.LogView.{said}
 use Rattle.schedule.specs.Noted.{with_entry}
 use Rattle.schedule.specs.declared.log.Entry.TheVariants as entry
-use Rattle.run_link.proofs.PlayLaws.{opened_true}
-use Rattle.run_link.proofs.playing.Playing.new.Goals as goal
+use Rattle.run_link.proofs.MovingLaws.{opened_true}
+use Rattle.run_link.proofs.run.RunLink.new.Goals as goal
 
 pub returns-clause-truth : goal.returns-clause-truth
 returns-clause-truth g c = λ v on is ready.

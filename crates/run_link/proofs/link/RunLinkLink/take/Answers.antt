@@ -1,9 +1,9 @@
 use Rattle.std.proofs.Common.{◌∙◌, refl}
 use Rattle.message.specs.declared.Incoming.TheVariants as incoming
-use Rattle.run_link.specs.PlayView.{Stays, IsStarved, Still}
-use Rattle.run_link.proofs.PlayLaws.{received_true, owed_heard, true_of, take_told, end_told, end_again, take_falls, take_spent, take_true, end_true}
-use Rattle.run_link.proofs.Going.{same_play, takes, takes_owed, takes_end, not_told}
-use Rattle.run_link.proofs.link.PlayingLink.take.Goals as goal
+use Rattle.run_link.specs.StateView.{Stays, IsStarved, Still}
+use Rattle.run_link.proofs.MovingLaws.{received_true, owed_heard, true_of, take_told, end_told, end_again, take_falls, take_spent, take_true, end_true}
+use Rattle.run_link.proofs.Going.{same_run, takes, takes_owed, takes_end, not_told}
+use Rattle.run_link.proofs.link.RunLinkLink.take.Goals as goal
 
 pub returns-then-self-clause-truth : goal.returns-then-self-clause-truth
 returns-then-self-clause-truth g c = λ v marks h.
@@ -24,13 +24,13 @@ returns-in-Some-clause-spent g c =
 
 pub returns-then-self-clause-goes : goal.returns-then-self-clause-goes
 returns-then-self-clause-goes g c =
-    takes_owed _ _ _ _ (same_play _ _ c.make_room.ensures.scene refl refl c.make_room.ensures.waiting refl refl c.make_room.ensures.over refl)
+    takes_owed _ _ _ _ (same_run _ _ c.make_room.ensures.scene refl refl c.make_room.ensures.waiting refl refl c.make_room.ensures.over refl)
     (c.make_room.ensures.over ∙ c.if-not-make_room.ensures.live) c.if-self.true
     (not_told _ _ c.args.self.now.once c.if-self.true) c.note.ensures.said c.note.ensures.over
 
 pub returns-in-Some-clause-goes : goal.returns-in-Some-clause-goes
 returns-in-Some-clause-goes g c =
-    takes _ _ _ _ _ _ (same_play _ _ c.make_room.ensures.scene refl refl c.make_room.ensures.waiting refl refl c.make_room.ensures.over refl)
+    takes _ _ _ _ _ _ (same_run _ _ c.make_room.ensures.scene refl refl c.make_room.ensures.waiting refl refl c.make_room.ensures.over refl)
     c.in-Some.ensures.came c.note-in-Some.ensures.said c.note-in-Some.ensures.over
 
 pub returns-in-Some-clause-truth : goal.returns-in-Some-clause-truth
@@ -42,7 +42,7 @@ returns-in-None-clause-told g c = end_told _ _ _ _ (c.in-None.ensures.ends refl)
 
 pub returns-in-None-clause-goes : goal.returns-in-None-clause-goes
 returns-in-None-clause-goes g c =
-    takes_end _ _ _ _ _ (same_play _ _ c.make_room.ensures.scene refl refl c.make_room.ensures.waiting refl refl c.make_room.ensures.over refl)
+    takes_end _ _ _ _ _ (same_run _ _ c.make_room.ensures.scene refl refl c.make_room.ensures.waiting refl refl c.make_room.ensures.over refl)
     c.if-over.false (c.in-None.ensures.ends refl) c.end-in-None.ensures.said c.end-in-None.ensures.over
 
 pub returns-in-None-clause-truth : goal.returns-in-None-clause-truth
@@ -51,7 +51,7 @@ returns-in-None-clause-truth g c = λ v marks h.
 
 pub returns-then-not-make_room-clause-goes : goal.returns-then-not-make_room-clause-goes
 returns-then-not-make_room-clause-goes g c =
-    takes_end _ _ _ _ _ (same_play _ _ c.make_room.ensures.scene refl refl c.make_room.ensures.waiting refl refl c.make_room.ensures.over refl)
+    takes_end _ _ _ _ _ (same_run _ _ c.make_room.ensures.scene refl refl c.make_room.ensures.waiting refl refl c.make_room.ensures.over refl)
     c.if-over.false (IsStarved _ Stays) c.end.ensures.said c.end.ensures.over
 
 pub returns-then-over-clause-goes : goal.returns-then-over-clause-goes

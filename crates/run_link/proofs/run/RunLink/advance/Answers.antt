@@ -1,7 +1,7 @@
 use Rattle.std.proofs.Common.{arith}
-use Rattle.run_link.specs.PlayView.{Stays, IsPlayedOut}
+use Rattle.run_link.specs.StateView.{Stays, IsRunOut}
 use Rattle.run_link.proofs.Going.{starves}
-use Rattle.run_link.proofs.playing.Playing.advance.Goals as goal
+use Rattle.run_link.proofs.run.RunLink.advance.Goals as goal
 
 pub loop-self-init : goal.loop-self-init
 loop-self-init g c = (Stays, c.requires.live, c.requires.paid, c.requires.log, c.requires.drivers, c.requires.queue, omega arith)
@@ -12,4 +12,4 @@ returns-then-not-make_room-clause-ends g c = λ none.
     c.make_room.ensures.over
 
 pub returns-clause-ends : goal.returns-clause-ends
-returns-clause-ends g c = λ none. IsPlayedOut _ c.loop-self.invariant.0 (record { events = c.loop-self-test.false; paid = c.loop-self.invariant.2 })
+returns-clause-ends g c = λ none. IsRunOut _ c.loop-self.invariant.0 (record { events = c.loop-self-test.false; paid = c.loop-self.invariant.2 })

@@ -4,7 +4,7 @@ use Rattle.schedule.specs.LogView.{said}
 use Rattle.schedule.specs.Noted.{with_entry}
 use Rattle.driver_events.specs.Ruling.{is_fault, gives_up}
 use Rattle.run_link.proofs.Going.{complains}
-use Rattle.run_link.proofs.link.PlayingLink.complain.Goals as goal
+use Rattle.run_link.proofs.link.RunLinkLink.complain.Goals as goal
 
 pub returns-clause-goes : goal.returns-clause-goes
 returns-clause-goes g c =
