@@ -7,10 +7,10 @@ ghost use Rattle.std.specs.Prelude.{◌≡◌, ◌≤◌, ◌<◌, ◌+◌, leng
 ghost use Rattle.layout.specs.Places.{IsGeometry};
 ghost use Rattle.store.specs.Volume.{IsOn};
 
-use at_hand::{fill, frames, memory};
-use layout::Geometry;
 use crate::sizes::{large_blocks, middle_blocks, small_blocks};
 use crate::timing::{micros_since, say};
+use at_hand::{fill, frames, memory};
+use layout::Geometry;
 use std::io;
 use std::time::Instant;
 use store::Blocks;

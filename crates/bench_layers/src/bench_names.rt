@@ -5,10 +5,10 @@ mod scans;
 
 ghost use Rattle.layout.specs.Places.{IsGeometry};
 
-use directories::Directory;
-use layout::Geometry;
 use crate::sizes::{large_blocks, small_blocks};
 use crate::timing::micros_since;
+use directories::Directory;
+use layout::Geometry;
 use scans::{look_ups, scans, scans_of_fields};
 use std::io;
 use std::time::Instant;

@@ -3,9 +3,9 @@
 
 mod filled;
 
+use crate::timing::micros_since;
 use filled::{Kind, filled};
 use fsck::{Verdict, check};
-use crate::timing::micros_since;
 use new_volume::mkfs;
 use std::io;
 use std::time::Instant;

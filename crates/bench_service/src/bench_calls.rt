@@ -4,14 +4,14 @@
 mod measures;
 mod work;
 
+use bench_layers::timing::say;
 use launch::start::serve;
 use measures::Measures;
-use bench_layers::timing::say;
+use modeldisk::supply::{drivers_for, setup_for, table_in};
 use new_volume::mkfs;
 use serve::gate::Open;
 use std::io;
 use std::sync::Wait;
-use modeldisk::supply::{drivers_for, setup_for, table_in};
 
 /// Starts the service, whose sessions wait by a handle, and measures calls in one of them.
 pub fn run<R: Wait + Copy>(rt: &HostRuntime, waits: R) -> io::Result<()> {

@@ -4,8 +4,8 @@ mod work;
 
 ghost use Rattle.cache.specs.Calls.{caching, IsReady};
 
-use cache::Cache;
 use bench_layers::timing::{copy, micros_since, say, tell};
+use cache::Cache;
 use media::Media;
 use message::Kind;
 use reissue::Link;

@@ -11,11 +11,10 @@ ghost use Rattle.reissue.specs.Posts.{is_message, HasRoom};
 ghost use Rattle.reissue.specs.Moves.{IsBusy};
 
 use crate::frame::Frame;
-use crate::{CacheRefusal, Cut, Shape, Took, is_end, settle};
+use crate::{CacheRefusal, Cut, Shape, Slots, State, Took, is_end, settle, zeros};
 use layout::Geometry;
 use message::Incoming;
 use reissue::{Link, Ticket, Transfers};
-use crate::{Slots, State, zeros};
 use std::alloc::Global;
 
 /// A read of a block that isn't settled.

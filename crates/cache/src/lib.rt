@@ -20,9 +20,9 @@ mod uses;
 
 pub use cache::Cache;
 pub use frame::Frame;
-pub use slot::{Slot, zeros};
-pub use state::State;
-pub use table::Slots;
 pub use refusals::{CacheRefusal, Cut};
 pub use settling::{Took, is_end, settle};
 pub use shape::Shape;
+pub use slot::{Slot, zeros};
+pub use state::State;
+pub use table::Slots;

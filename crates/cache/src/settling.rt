@@ -4,8 +4,8 @@ ghost use Rattle.std.specs.Prelude.{◌≡◌};
 ghost use Rattle.cache.specs.Edits.{AllStay};
 ghost use Rattle.cache.specs.Settling.{Settles, took_of, is_ended_by, IsWantedFor};
 
-use reissue::{Settled, Ticket};
 use crate::Slots;
+use reissue::{Settled, Ticket};
 
 /// What came of a message.
 #[derive(Clone, Copy)]

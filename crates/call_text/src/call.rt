@@ -8,9 +8,9 @@ ghost use Rattle.call_text.specs.Calls.{call_of, call_of_three, whence_of};
 
 use crate::bytes::{byte, flags};
 use crate::words::{cut, decimal, half, mode, offset, path};
-use tree::{Call, Whence};
 use crate::written_call::call::WrittenCall;
 use crate::written_call::short::{call_of_none, call_of_one, call_of_two, count_of};
+use tree::{Call, Whence};
 
 /// Where a seek counts from: `set`, `cur` or `end`.
 fn whence(word: &[u8]) -> Option<Whence>

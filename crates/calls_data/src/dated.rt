@@ -9,8 +9,8 @@ ghost use Rattle.file.specs.PageChanges.{MayChange};
 ghost use Rattle.calls_data.specs.Dated.{WritesIfRoom, SetsSizeAt};
 
 use file::file_pages::changing::{set_size, stamp};
-use file::write_at;
 use file::file_room::has_room;
+use file::write_at;
 use layout::Geometry;
 use store::{Blocks, Halt};
 

@@ -13,11 +13,11 @@ ghost use Rattle.calls_data.specs.Does.{IsHeld};
 ghost use Rattle.calls_data.specs.Found.{file_of};
 
 use descriptors::Descriptors;
-use volume::Inode;
 use inode::inode_table::load;
 use layout::Geometry;
 use store::{Blocks, Halt};
 use tree::OpenFlags;
+use volume::Inode;
 
 /// An open file, and the inode of its node.
 #[derive(Clone, Copy)]

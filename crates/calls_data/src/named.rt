@@ -7,13 +7,12 @@ ghost use Rattle.store.specs.Halts.{IsHalt, Ends};
 ghost use Rattle.calls_data.specs.Named.{IsVolume, Names, Finds};
 
 use errno::Errno;
-use volume::Inode;
 use inode::inode_table::load;
 use layout::Geometry;
-use path::Path;
+use path::{Path, Stop, walk};
 use store::{Blocks, Halt};
 use tree::User;
-use path::{Stop, walk};
+use volume::Inode;
 
 /// The number of the inode to which a path leads, or the refusal of the path or of the walk.
 fn named<B: Blocks>(

@@ -19,11 +19,11 @@ use crate::found::{Found, find, is_directory};
 use descriptors::Descriptors;
 use errno::Errno;
 use file::file_pages::reading::read_at;
-use volume::Inode;
 use layout::Geometry;
 use std::alloc::{AllocError, Global};
 use store::{Blocks, Cut, Halt};
 use tree::{MAX_SIZE, MAX_TRANSFER, Reply};
+use volume::Inode;
 
 /// Why an open file can't be read, if it can't.
 fn refusal(file: &Found, count: u32) -> Option<Errno>

@@ -11,9 +11,9 @@ ghost use Rattle.calls_data.specs.Does.{Meets};
 
 use crate::dated::set_size_at;
 use crate::found::is_directory;
+use crate::named::find_node;
 use errno::Errno;
 use layout::Geometry;
-use crate::named::find_node;
 use path::{Wish, may};
 use store::{Blocks, Halt};
 use tree::{MAX_SIZE, Reply, User};

@@ -8,5 +8,5 @@ mod linking;
 pub mod named;
 mod removing;
 
-pub use removing::{rmdir, unlink};
 pub use linking::link;
+pub use removing::{rmdir, unlink};

@@ -14,18 +14,17 @@ ghost use Rattle.calls_data.specs.Does.{Meets};
 ghost use Rattle.calls_link.specs.Names.{IsVolume};
 ghost use Rattle.calls_link.specs.Linking.{FindsFile, FindsFree, IsLast, IsRoomFor};
 
+use crate::named::{may_write, place_of};
 use calls_data::found::is_directory;
 use directory::insert;
 use errno::Errno;
 use file::file_room::has_room;
 use inode::inode_table::load;
 use layout::Geometry;
-use crate::named::{may_write, place_of};
 use node_steps::add_link;
-use path::Path;
+use path::{Path, Stop, walk};
 use store::{Blocks, Halt};
 use tree::{MAX_LINKS, MAX_SIZE, Reply, User};
-use path::{Stop, walk};
 
 /// A place for a name more.
 #[derive(Drop)]

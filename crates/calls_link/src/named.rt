@@ -9,13 +9,12 @@ ghost use Rattle.tree.specs.Walk.{may_access, to_write};
 ghost use Rattle.calls_link.specs.Names.{FindsName, IsOfInode, IsVolume, MeansPlace};
 
 use errno::Errno;
-use volume::Inode;
 use inode::inode_table::load;
 use layout::Geometry;
-use path::{Path, Wish, may};
+use path::{Path, Place, Stop, Wish, find_place, may};
 use store::{Blocks, Halt};
 use tree::User;
-use path::{Place, Stop, find_place};
+use volume::Inode;
 
 /// A name that leads to a node.
 #[derive(Drop)]

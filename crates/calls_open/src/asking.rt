@@ -12,9 +12,9 @@ use bitflags::Flags;
 use calls_data::found::is_directory;
 use descriptors::Descriptors;
 use errno::Errno;
-use volume::Inode;
 use path::{Wish, may};
 use tree::{MAX_PERMISSIONS, OpenFlags, User};
+use volume::Inode;
 
 /// Whether these are flags that open doesn't take: neither for reading nor for writing, append or truncate without write, exclusive
 /// without create, or other bits.

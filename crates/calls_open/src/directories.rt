@@ -17,11 +17,10 @@ use crate::vacant::{free_number, vacant_place};
 use directory::insert;
 use errno::Errno;
 use layout::Geometry;
-use node_steps::new_directory;
-use node_steps::add_link;
+use node_steps::{add_link, new_directory};
+use path::{Place, Stop};
 use store::{Blocks, Halt};
 use tree::{MAX_LINKS, MAX_NAME, MAX_PERMISSIONS, Reply, User};
-use path::{Place, Stop};
 
 /// Makes a directory at a vacant place: its node, its name, and the link that its `..` is of its parent.
 fn put_directory<B: Blocks>(

@@ -15,9 +15,9 @@ use directory::insert;
 use errno::Errno;
 use layout::Geometry;
 use node_steps::new_file;
+use path::{Place, Stop};
 use store::{Blocks, Halt};
 use tree::{MAX_NAME, User};
-use path::{Place, Stop};
 
 /// Makes a file of no bytes at a vacant place, with a number that `free_number` gave for no zones beside: its node, and its name. Its
 /// times and those of the directory are `now`, in seconds. Unsound only where the volume isn't sound.

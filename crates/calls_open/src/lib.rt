@@ -10,7 +10,7 @@ mod opening;
 mod readying;
 mod vacant;
 
-pub use opening::open;
 pub use directories::mkdir;
 pub use files::{make_file, put_file};
+pub use opening::open;
 pub use vacant::{free_number, may_write};

@@ -17,9 +17,9 @@ use crate::readying::ready;
 use descriptors::Descriptors;
 use errno::Errno;
 use layout::Geometry;
+use path::Stop;
 use store::{Blocks, Halt};
 use tree::{OpenFlags, Reply, User};
-use path::Stop;
 
 /// Opens a node at position 0, under the lowest free descriptor of a session that has one.
 fn put(opens: &mut Descriptors, session: u8, inode: u16, flags: OpenFlags) -> Reply

@@ -9,15 +9,14 @@ ghost use Rattle.path.specs.Stops.{Answers, IfRefused, IsStop};
 ghost use Rattle.calls_open.specs.Opening.{Readies, ReadiesThere, open_named};
 
 use crate::asking::{is_emptied, refusal};
+use crate::make_file;
 use calls_data::set_size_at;
 use errno::Errno;
 use inode::inode_table::load;
 use layout::Geometry;
-use crate::make_file;
-use path::Path;
+use path::{Found, Path, Stop, look_up};
 use store::Blocks;
 use tree::{OpenFlags, User};
-use path::{Found, Stop, look_up};
 
 /// Readies a node that is there: with the truncate flag its file is emptied, changed at `now` (seconds). EEXIST where the call makes files
 /// and takes no others, EISDIR of a directory to be written, EACCES where the user lacks a permission; then nothing is changed.

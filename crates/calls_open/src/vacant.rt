@@ -12,13 +12,12 @@ ghost use Rattle.calls_open.specs.Vacant.{FindsNewPlace, FindsNumber, IsVacant};
 
 use errno::Errno;
 use file::file_room::has_room_beside;
-use volume::Inode;
 use layout::Geometry;
 use node_steps::free_inode;
-use path::{Path, Wish, may};
+use path::{Path, Place, Stop, Wish, find_place, may};
 use store::{Blocks, Halt};
 use tree::{MAX_SIZE, User};
-use path::{Place, Stop, find_place};
+use volume::Inode;
 
 /// Whether a user may change the names of a directory.
 pub fn may_write(user: User, inode: &Inode) -> bool

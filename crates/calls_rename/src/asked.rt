@@ -9,15 +9,15 @@ ghost use Rattle.calls_link.specs.Names.{IsVolume};
 ghost use Rattle.calls_rename.specs.Asked.{FindsAsked, FindsBoth, IsBetween, IsNamed};
 
 use calls_data::found::is_directory;
+use calls_link::named::{may_write, place_of};
 use errno::Errno;
-use volume::Inode;
 use inode::inode_table::load;
 use layout::Geometry;
 use node_steps::Move;
-use calls_link::named::{may_write, place_of};
 use path::Path;
 use store::{Blocks, Halt};
 use tree::User;
+use volume::Inode;
 
 /// What a rename is asked to move, once both places are found.
 #[derive(Drop)]

@@ -8,17 +8,17 @@ ghost use Rattle.store.specs.World.{Reads};
 ghost use Rattle.calls_rename.specs.Within.{HoldsDirectory};
 ghost use Rattle.calls_rename.specs.Barred.{IsFound, SaysBarred, SaysInside, why_full, why_kept};
 
-use crate::asked::Asked;
 use crate::ancestors::is_within;
+use crate::asked::Asked;
 use calls_data::found::is_directory;
 use descriptors::Descriptors;
 use errno::Errno;
-use volume::Inode;
 use inode::inode_table::load;
 use layout::Geometry;
 use node_steps::Move;
 use store::{Blocks, Halt};
 use tree::MAX_LINKS;
+use volume::Inode;
 
 /// Whether what moves is a directory that is the new directory, or that the new directory lies below.
 fn is_inside<B: Blocks>(blocks: &mut B, geometry: &Geometry, what: &Move) -> Result<bool, Halt>

@@ -10,11 +10,11 @@ ghost use Rattle.node_steps.specs.Whole.{moved};
 ghost use Rattle.calls_rename.specs.Asked.{IsNamed};
 ghost use Rattle.calls_rename.specs.Carrying.{IsSomeReady, MayCarry, MayMoveAside, MayMoveOnto, SaysFits, carried, moved_onto};
 
+use crate::Asked;
 use crate::room::has_room;
 use descriptors::Descriptors;
 use layout::Geometry;
 use node_steps::{Move, drop_replaced, move_over, move_to, move_within};
-use crate::Asked;
 use store::{Blocks, Halt};
 
 /// Whether the tree after the move fits. Room is asked for a new name of another directory alone: no other move takes a zone more.

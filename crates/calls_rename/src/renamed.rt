@@ -11,10 +11,10 @@ ghost use Rattle.store.specs.Halts.{IsHalt};
 ghost use Rattle.calls_data.specs.Does.{Meets};
 
 use crate::carrying::{carry, fits};
+use crate::{Asked, find_asked, why_barred};
 use descriptors::Descriptors;
 use errno::Errno;
 use layout::Geometry;
-use crate::{Asked, find_asked, why_barred};
 use store::{Blocks, Halt};
 use tree::{Reply, User};
 

@@ -6,11 +6,11 @@ ghost use Rattle.store.specs.Volume.{IsOn};
 ghost use Rattle.store.specs.World.{Reads};
 ghost use Rattle.calls_rename.specs.Elsewhere.{CanMove, TellsRoom};
 
+use crate::Asked;
+use crate::last_page::let_go;
 use bitmap::{Map, count_free};
 use file::file_room::zones_for;
-use crate::last_page::let_go;
 use layout::Geometry;
-use crate::Asked;
 use store::{Blocks, Halt};
 use tree::MAX_SIZE;
 

@@ -12,14 +12,14 @@ ghost use Rattle.file_server.specs.Leaving.{IsEndLast};
 ghost use Rattle.counting_link.specs.Heard.{IsHeard};
 ghost use Rattle.counting_link.specs.Keeper.{record_of, numbers_of, begins_itself, begins_further};
 
-use board::{Board, Seat};
-use message::endpoint::Endpoint;
 use crate::heard::Heard;
 use crate::keeper::Keeper;
 use crate::recorder::Recorder;
 use crate::room::Room;
 use crate::steady::{OnMedia, Steady, Supplied};
+use board::{Board, Seat};
 use media::Media;
+use message::endpoint::Endpoint;
 use message::{BlockRequest, Incoming};
 use reissue::link::{Link, LinkRefusal, TrueLink};
 use std::alloc::{AllocError, Global};

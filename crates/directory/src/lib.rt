@@ -12,9 +12,9 @@ mod look_up;
 mod positions;
 mod removal;
 
+pub use bytes::first_entries;
+pub use changes::{insert, rename, replace, set_parent};
 pub use entries::{ENTRY_SIZE, entry_inode, entry_name};
 pub use look_up::{entry, find, parent};
 pub use positions::position;
-pub use bytes::first_entries;
-pub use changes::{insert, rename, replace, set_parent};
 pub use removal::remove;

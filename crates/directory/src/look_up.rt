@@ -11,10 +11,10 @@ ghost use Rattle.volume.specs.Nodes.{directory_of, file_byte};
 ghost use Rattle.volume.specs.Pieces.{pieces};
 
 use crate::entries::{entry_inode, last_named};
-use volume::Inode;
 use layout::Geometry;
 use store::words::read_bytes;
 use store::{Blocks, Cut, Halt};
+use volume::Inode;
 use zone::numbers::is_data_zone;
 use zone::places::lookup;
 

@@ -8,9 +8,9 @@ ghost use Rattle.volume.specs.Nodes.{entry_count_of, file_byte};
 ghost use Rattle.volume.specs.Pieces.{pieces};
 
 use crate::entries::is_named;
-use volume::Inode;
 use layout::Geometry;
 use store::{Blocks, Cut};
+use volume::Inode;
 use zone::numbers::is_data_zone;
 use zone::places::lookup;
 

@@ -15,10 +15,10 @@ ghost use Rattle.driven.specs.Waits.{DriversKept, IsTold, Ticks, last_tick, unst
 ghost use Rattle.driven.specs.Comes.{ComesTo, WaitsFor};
 ghost use Rattle.driven.specs.Goes.{Leads};
 
-use message::endpoint::{DISK_DRIVER, Endpoint};
 use inline::local::LocalDriver;
 use inline::running::{Ran, run, stamped};
 use media::Media;
+use message::endpoint::{DISK_DRIVER, Endpoint};
 use message::{BlockRequest, Incoming};
 use reincarnate::policy::Event;
 use reincarnate::{Action, Reincarnation};

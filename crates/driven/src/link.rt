@@ -16,10 +16,10 @@ ghost use Rattle.driven.specs.View.{guarded_of};
 ghost use Rattle.driven.specs.Goes.{GoesOn, goes_nowhere, goes_then};
 
 use crate::drivers::Drivers;
-use message::endpoint::Endpoint;
 use board::History;
 use inline::local::LocalDriver;
 use media::Media;
+use message::endpoint::Endpoint;
 use message::{BlockRequest, Incoming};
 use reincarnate::Reincarnation;
 use reissue::link::{Link, LinkRefusal, TrueLink};

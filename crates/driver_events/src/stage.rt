@@ -7,16 +7,16 @@ ghost use Rattle.schedule.specs.Noted.{Noted};
 
 use crate::ruling::{Ruling, exit};
 use bdev::Step;
-use message::endpoint::{DISK_DRIVER, Endpoint};
 use inline::local::LocalDriver;
-use records::marks::Cause;
 use media::Media;
 use message::Incoming;
+use message::endpoint::{DISK_DRIVER, Endpoint};
+use records::marks::Cause;
 use reincarnate::policy::Event as PolicyEvent;
 use reincarnate::{Action, Reincarnation};
 use run_drivers::drivers::Drivers;
-use schedule::log::{Entry, Log};
 use schedule::Event;
+use schedule::log::{Entry, Log};
 use std::alloc::{AllocError, Global};
 
 /// The drivers, the reincarnation server that has the others, the tick, and the last beat: its driver's generation and its tick.

@@ -9,12 +9,12 @@ ghost use Rattle.file.specs.PageChanges.{MayChange};
 ghost use Rattle.file.specs.Changing.{MayWriteAt, WritesAt, MayWriteInside, WritesInside, IsHeldRow, Grows};
 
 use crate::file_pages::changing::resize;
-use inode::inode_table::load;
 use crate::file_pages::rows::{find_row, held_before};
 use crate::file_pages::writing::write_page;
-use zone::pages::attach;
+use inode::inode_table::load;
 use layout::Geometry;
 use store::{Blocks, Halt};
+use zone::pages::attach;
 
 /// Makes the file of an inode that long where it is shorter.
 fn grow<B: Blocks>(blocks: &mut B, geometry: &Geometry, number: u32, size: u32) -> Result<(), Halt>

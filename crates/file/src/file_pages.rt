@@ -5,4 +5,3 @@ pub mod changing;
 pub mod reading;
 pub mod rows;
 pub mod writing;
-

@@ -9,8 +9,8 @@ ghost use Rattle.file_server.specs.Over.{CallsOver, AbsorbsOver, SameServing, ou
 
 pub mod laws;
 
-use records::legal::Serve;
 use message::Incoming;
+use records::legal::Serve;
 use reissue::Link;
 use tree::{Call, Outcome, Who};
 

@@ -1,7 +1,7 @@
 //! Plays over drivers that die, hang or answer wrongly.
 use crate::plays::{Faults, Play};
-use reincarnate::policy::{Policy, Setup};
 use fixtures::{new_volume, whole};
+use reincarnate::policy::{Policy, Setup};
 use std::alloc::Global;
 use std::sync::Wait;
 use std::test::Fail;

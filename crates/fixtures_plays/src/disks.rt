@@ -1,9 +1,9 @@
 //! Volumes in a partition of an image: a new volume of 128 sectors behind a sector with a table, from sector 1 on.
 use crate::plays::{Play, Played};
-use modeldisk::{Inner, RamDriver, ScriptedDriver};
-use media::partition::{Table, parse};
-use reincarnate::policy::Setup;
 use fixtures::{new_volume, whole};
+use media::partition::{Table, parse};
+use modeldisk::{Inner, RamDriver, ScriptedDriver};
+use reincarnate::policy::Setup;
 use std::alloc::{AllocError, Global};
 use std::sync::Wait;
 use std::test::Fail;

@@ -2,15 +2,15 @@
 
 ghost use Rattle.std.specs.Prelude.{◌≡◌, ◌↔◌, IsOk, is_some, not, ◌==◌};
 
+use fixtures::{supply_at, whole};
 use fsck::{Verdict, check};
 use modeldisk::{FaultKind, ScriptedDriver};
 use reincarnate::policy::Setup;
-use fixtures::{supply_at, whole};
+use script_text::script_files::File;
 use std::alloc::{AllocError, Global};
 use std::io::{self, Write};
 use std::sync::Wait;
 use std::test::Fail;
-use script_text::script_files::File;
 use tools::play::{Status, play};
 
 /// Drivers, each with its fault once so many of a request's sectors were moved, or with none.

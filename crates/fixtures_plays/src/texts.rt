@@ -1,6 +1,6 @@
 //! Plays of texts: the replies are those of the text, and so is the image that is left.
-use crate::plays::{Play, Played};
 use crate::left::{has_left, other};
+use crate::plays::{Play, Played};
 use crate::said::{read, read_unchanged, repeated};
 use fixtures::new_volume;
 use std::alloc::{AllocError, Global};

@@ -2,8 +2,8 @@
 
 ghost use Rattle.std.specs.Prelude.{◌≡◌, ◌↔◌, IsOk};
 
-use crate::plays::{Play, Played, Room};
 use crate::left::has_left;
+use crate::plays::{Play, Played, Room};
 use fixtures::new_volume;
 use std::alloc::Global;
 use std::sync::Wait;

@@ -1,14 +1,14 @@
 //! Runs that print over writers that fail.
 
-use crate::shown::named;
-use bdev::Driver;
 use crate::said::is_said;
+use crate::shown::named;
 use crate::writer::Failing;
+use bdev::Driver;
 use fixtures::{new_volume, whole};
+use modeldisk::supply::{drivers_for, table_in};
 use simulation::simulate::simulate;
 use std::alloc::{AllocError, Global};
 use std::test::Fail;
-use modeldisk::supply::{drivers_for, table_in};
 
 /// How many calls each writer takes, what each has then, and the status.
 pub type Printed = (u32, u32, &'static str, &'static str, u8);

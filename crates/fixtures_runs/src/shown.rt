@@ -1,15 +1,15 @@
 //! What runs say.
 
-use bdev::Driver;
-use modeldisk::FaultKind;
-use reincarnate::policy::Setup;
 use crate::said::{Cut, Said, cut, is_said};
+use bdev::Driver;
 use fixtures::{new_volume, supply_of, whole};
+use modeldisk::FaultKind;
+use modeldisk::supply::{drivers_for, table_in};
+use reincarnate::policy::Setup;
 use simulation::inputs::File;
 use simulation::simulate::simulate;
 use std::alloc::Global;
 use std::test::Fail;
-use modeldisk::supply::{drivers_for, table_in};
 
 /// What goes wrong in each driver's first request, once so many of its sectors were moved.
 pub type Faults<'f> = &'f [Option<(u32, FaultKind)>];

@@ -1,11 +1,11 @@
 //! Drivers that took a request before, and setups.
 
 use bdev::BlockDriver;
+use fixtures::whole;
+use media::partition::Table;
 use message::{BlockRequest, Kind};
 use modeldisk::RamDriver;
-use media::partition::Table;
 use reincarnate::policy::{Policy, Setup};
-use fixtures::whole;
 use std::alloc::{AllocError, Global};
 
 /// A driver of so many sectors that took a request before.

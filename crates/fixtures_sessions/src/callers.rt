@@ -1,9 +1,9 @@
 //! Sessions that call.
 
 use board::Device;
-use file_server::FileServer;
 use counting_link::recorder::Recorder;
 use counting_link::room::Room;
+use file_server::FileServer;
 use reply_text::text::OutcomeText;
 use serve::service::Shared;
 use serve::session::Session;

@@ -1,10 +1,10 @@
 //! Services, and what is done in their sessions.
 
 use crate::callers::{in_turn, told};
-use file_server::FileServer;
 use counting_link::recorder::Recorder;
 use counting_link::room::Room;
 use counting_link::steady::OnMedia;
+use file_server::FileServer;
 use serve::service::{Service, Shared};
 use serve::session::Session;
 use shared_server::stopping::StopRefusal;

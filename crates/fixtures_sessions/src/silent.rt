@@ -1,10 +1,10 @@
 //! A link to no driver.
 ghost use Rattle.std.specs.Prelude.{◌≡◌, [], IfOk};
 
-use message::endpoint::Endpoint;
 use board::History;
 use counting_link::steady::{OnMedia, Steady, Supplied};
 use media::Media;
+use message::endpoint::Endpoint;
 use message::{BlockRequest, Incoming};
 use reissue::link::{Link, LinkRefusal};
 use std::alloc::{AllocError, Global};

@@ -5,16 +5,16 @@ ghost use Rattle.layout.specs.Places.{IsGeometry};
 
 use crate::calls::{Answer, Call, Field, Step, is_wanted};
 use bitmap::{Map, count_free};
-use zone::cutting::detach_from;
-use file::file_pages::reading::read_at;
 use file::file_pages::changing::{set_size, stamp};
-use file::write_at;
+use file::file_pages::reading::read_at;
 use file::file_room::{has_room, need};
+use file::write_at;
 use inode::inode_table::load;
 use layout::Geometry;
-use store::memory::Memory;
 use std::test::Fail;
 use store::Halt;
+use store::memory::Memory;
+use zone::cutting::detach_from;
 use zone::pages::attach;
 use zone::places::{lookup, lookup_row};
 

@@ -5,9 +5,8 @@ ghost use Rattle.volume.specs.Verdict.{place_limit};
 ghost use Rattle.image.specs.Contents.{contents};
 ghost use Rattle.fsck.specs.Parts.{block_tests, first_of};
 
-use image::Image;
-use image::spare_zone;
 use crate::scan::hole;
+use image::{Image, spare_zone};
 use volume::Finding;
 
 /// The first of these findings.

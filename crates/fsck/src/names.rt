@@ -6,8 +6,10 @@ ghost use Rattle.volume.specs.Verdict.{place_limit};
 ghost use Rattle.image.specs.Contents.{contents};
 ghost use Rattle.fsck.specs.Parts.{entry_tests, first_of, tree_tests};
 
+use crate::scan::{
+    bad_dots, bad_entry, bad_links, bad_target, count_names, mark_reached, misplaced,
+};
 use image::Image;
-use crate::scan::{bad_dots, bad_entry, bad_links, bad_target, count_names, mark_reached, misplaced};
 use std::alloc::{AllocError, Global};
 use volume::Finding;
 

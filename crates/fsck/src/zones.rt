@@ -5,8 +5,7 @@ ghost use Rattle.volume.specs.Verdict.{place_limit};
 ghost use Rattle.image.specs.Contents.{contents};
 ghost use Rattle.fsck.specs.Parts.{first_of, zone_tests};
 
-use image::Image;
-use image::{bad_bit, bad_number, count_uses, used_twice};
+use image::{Image, bad_bit, bad_number, count_uses, used_twice};
 use std::alloc::{AllocError, Global};
 use volume::Finding;
 

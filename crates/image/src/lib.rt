@@ -10,17 +10,16 @@ mod least;
 mod spare;
 mod uses;
 
-pub use enter::bad_number;
-pub use spare::spare_zone;
-pub use uses::{bad_bit, count_uses, used_twice};
-
 ghost use Rattle.std.specs.Prelude.{◌≡◌, ◌≤◌, ◌<◌, ◌+◌, ◌-◌, ◌*◌, ◌/◌, ◌%◌, ℕ, Ok, Err, MatchResult, length, slice_index, true};
 ghost use Rattle.layout.specs.Places.{geometry_of};
 
+pub use enter::bad_number;
 pub use entry::{is_field, is_name_field, name_of};
 use inode::decode_in;
 use layout::{Geometry, LayoutRefusal, u16_at, u32_at};
 pub use least::least_passing;
+pub use spare::spare_zone;
+pub use uses::{bad_bit, count_uses, used_twice};
 use volume::Inode;
 
 /// The bytes of an image that begins with a volume, and the volume's sizes.

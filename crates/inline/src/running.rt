@@ -11,8 +11,8 @@ ghost use Rattle.inline.specs.Comes.{stamp};
 
 use crate::local::LocalDriver;
 use bdev::{Accept, Answer, Step};
-use message::endpoint::Endpoint;
 use media::Media;
+use message::endpoint::Endpoint;
 use message::{BlockReply, BlockRequest};
 use std::collections::VecDeque;
 

@@ -9,11 +9,11 @@ ghost use Rattle.store.specs.Volume.{IsOn, Alters};
 ghost use Rattle.store.specs.Halts.{IsHalt, Ends};
 ghost use Rattle.inode.specs.Table.{with_inode};
 
-use volume::Inode;
 use crate::{decode_in, encode};
 use layout::Geometry;
 use store::words::write_bytes;
 use store::{Blocks, Halt};
+use volume::Inode;
 
 /// Where an inode begins.
 #[derive(Clone, Copy)]

@@ -23,9 +23,9 @@ use Rattle.mounting.specs.Laws.{sizes_in}
 use Rattle.mounting.specs.Mounts.{in_words}
 use Rattle.mounting.proofs.OfImage.{mounted_on_image, refused_by_image}
 use Rattle.mounting.specs.declared.refusal.StartRefusal.TheVariants.{OutOfMemory}
-use Rattle.vfs.specs.declared.server.Server.{Server}
+use Rattle.mounting.specs.vfs.declared.server.Server.{Server}
 use Rattle.mounting.specs.Mounted.{IsMounted, IsNotMounted}
-use Rattle.vfs.specs.OverLink.{IsReadyOver, line_of, serving_over}
+use Rattle.mounting.specs.vfs.OverLink.{IsReadyOver, line_of, serving_over}
 use Rattle.launch.specs.Stopped.{IsMountRefused, IsStopped, refusal_of}
 
 -- ---- one tree

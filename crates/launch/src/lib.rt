@@ -6,3 +6,6 @@
 pub mod opened;
 pub mod program;
 pub mod start;
+
+// passed on, for what starts a service
+pub use mounting::StartRefusal;

@@ -12,13 +12,13 @@ ghost use Rattle.launch.specs.Stopped.{IsStopped};
 
 use crate::opened::mounted;
 use board::Board;
-use file_server::FileServer;
 use counting_link::recorder::Recorder;
 use counting_link::room::Room;
 use counting_link::steady::OnMedia;
+use file_server::FileServer;
+use mounting::StartRefusal;
 use reissue::link::TrueLink;
 use serve::service::{Service, Shared};
-use mounting::StartRefusal;
 use std::alloc::Global;
 use std::sync::{Arc, Wait};
 

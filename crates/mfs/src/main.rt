@@ -3,15 +3,15 @@
 
 use host::command_line::{line_of, status_for};
 use host::play_words::mfs::{Words, read};
+use host::whole_file::replace;
+use modeldisk::supply::{drivers_for, setup_for, table_in};
+use script_text::script_files::File;
 use std::alloc::{AllocError, Global};
 use std::process::ExitCode;
 use std::rt::Files;
 use std::sync::Wait;
 use std::{fs, io};
-use modeldisk::supply::{drivers_for, setup_for, table_in};
-use script_text::script_files::File;
 use tools::play::{finish, play};
-use host::whole_file::replace;
 
 /// A file of this name, with its bytes if it could be read.
 fn file<'n, 'b>(name: &'n str, bytes: &'b Option<Vec<u8>>) -> File<'n, 'b> {

@@ -2,11 +2,11 @@
 #![tactic(auto)]
 
 use host::command_line::{line_of, status_for};
+use host::volume_words::mfsck::{Words, read as read_words};
+use host::whole_file::read;
 use std::io;
 use std::process::ExitCode;
 use volume_tools::verify::verify;
-use host::volume_words::mfsck::{Words, read as read_words};
-use host::whole_file::read;
 
 /// Checks the volume in the file that the words name.
 fn check_file(rt: HostRuntime, words: &Words<'_>) -> io::Result<ExitCode> {

@@ -3,11 +3,11 @@
 
 use host::command_line::{line_of, status_for};
 use host::play_words::mfssim::{Words, read};
+use modeldisk::supply::{drivers_for, setup_for, table_in};
 use simulation::inputs::File;
 use simulation::simulate::simulate;
 use std::process::ExitCode;
 use std::{fs, io};
-use modeldisk::supply::{drivers_for, setup_for, table_in};
 
 /// A file of this name, with its bytes if it could be read.
 fn file<'n, 'b>(name: &'n str, bytes: &'b Option<Vec<u8>>) -> File<'n, 'b> {

@@ -2,11 +2,11 @@
 #![tactic(auto)]
 
 use host::command_line::{line_of, status_for};
+use host::volume_words::mkmfs::{Words, read};
+use host::whole_file::replace;
 use std::io;
 use std::process::ExitCode;
 use volume_tools::make::{Wanted, finish, make};
-use host::volume_words::mkmfs::{Words, read};
-use host::whole_file::replace;
 
 /// Makes the volume that the words say, and writes it to its file.
 fn make_file(rt: HostRuntime, words: &Words<'_>) -> io::Result<ExitCode> {

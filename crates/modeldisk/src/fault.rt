@@ -3,10 +3,10 @@ ghost use Rattle.bdev.specs.Promises.{StepKeeps};
 ghost use Rattle.modeldisk.specs.Mover.{IsFew, state_of};
 ghost use Rattle.modeldisk.specs.Faults.{IsLeading, StepsBy};
 
+use crate::sector_mover::mover::{Mover, plan};
 use bdev::{Run, Step};
 use errno::Errno;
 use media::Media;
-use crate::sector_mover::mover::{Mover, plan};
 
 /// What goes wrong.
 #[derive(Clone, Copy, Debug, PartialEq, Eq)]

@@ -4,11 +4,11 @@ ghost use Rattle.bdev.specs.DriverState.{fresh, plan};
 ghost use Rattle.bdev.specs.Promises.{AcceptKeeps, IsDriver, StepKeeps};
 ghost use Rattle.modeldisk.specs.Order.{arm_after, order_in, StepsInOrder};
 
+use crate::sector_mover::mover::Mover;
 use bdev::{Accept, BlockDriver, Step};
 use media::Media;
-use message::BlockRequest;
 use media::partition::Table;
-use crate::sector_mover::mover::Mover;
+use message::BlockRequest;
 
 /// A driver with an arm over the sectors. It moves a request's sectors not below the arm first, rising,
 /// then those below it, rising. The arm stands after the last sector that was moved.

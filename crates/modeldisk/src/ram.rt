@@ -4,11 +4,11 @@ ghost use Rattle.bdev.specs.DriverState.{fresh, plan};
 ghost use Rattle.bdev.specs.Promises.{AcceptKeeps, IsDriver, StepKeeps};
 ghost use Rattle.modeldisk.specs.Order.{order_in, StepsInOrder};
 
+use crate::sector_mover::mover::Mover;
 use bdev::{Accept, BlockDriver, Step};
 use media::Media;
-use message::BlockRequest;
 use media::partition::Table;
-use crate::sector_mover::mover::Mover;
+use message::BlockRequest;
 
 /// A driver that moves the sectors of a request in rising order.
 #[derive(Drop)]

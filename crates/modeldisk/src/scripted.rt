@@ -8,10 +8,10 @@ ghost use Rattle.modeldisk.specs.Mover.{left_of};
 use crate::fault::{Fault, FaultKind, play};
 use crate::model::ModelDriver;
 use crate::ram::RamDriver;
+use crate::sector_mover::mover::Mover;
 use bdev::{Accept, BlockDriver, Step};
 use media::Media;
 use message::BlockRequest;
-use crate::sector_mover::mover::Mover;
 
 /// The driver that a script is played on.
 #[derive(Drop)]

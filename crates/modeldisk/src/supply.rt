@@ -6,8 +6,8 @@ ghost use Rattle.std.specs.Prelude.{◌≡◌, ◌+◌, All, IfOk, length};
 ghost use Rattle.reincarnate.specs.Policy.{default_policy};
 ghost use Rattle.modeldisk.specs.Supply.{count_of, table_of_image, table_by, IsNew};
 
-pub use driver::DiskDriver;
 use crate::{ModelDriver, RamDriver};
+pub use driver::DiskDriver;
 use media::partition::{Table, parse};
 use reincarnate::policy::{Policy, Setup};
 use std::alloc::{AllocError, Global};

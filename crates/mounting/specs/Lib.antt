@@ -10,3 +10,4 @@ pub mod Mounts
 pub mod Laws
 pub mod Opening
 pub mod Mounted
+pub use Rattle.vfs.specs as vfs

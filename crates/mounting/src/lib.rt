@@ -17,7 +17,9 @@ pub mod sought;
 pub mod whole;
 
 pub use checking::read_volume;
-pub use reading::{Stop, read_range};
-pub use whole::{MountRefusal, sizes};
 pub use prepared::{Prepared, prepare};
+pub use reading::{Stop, read_range};
 pub use refusal::StartRefusal;
+pub use whole::{MountRefusal, sizes};
+// passed on, for what stands over the whole server
+pub use vfs::Server;

@@ -11,9 +11,9 @@ ghost use Rattle.mounting.specs.Opening.{refusal_of};
 ghost use Rattle.mounting.specs.Mounted.{IsMounted, IsNotMounted, OpensClean};
 
 use crate::opening::{open as open_over, over};
+use crate::{MountRefusal, read_volume};
 use cache::CacheRefusal;
 use fsck::Clean;
-use crate::{MountRefusal, read_volume};
 use reissue::{Link, Transfers};
 use std::alloc::Global;
 use stored::Stored;

@@ -11,8 +11,8 @@ ghost use Rattle.mounting.specs.Starting.{opening_of, place_in as place_by, is_r
 
 use crate::refusal::StartRefusal;
 use inline::local::LocalDriver;
-use media::{Media, MediaRefusal, SECTOR};
 use media::partition::volume_place;
+use media::{Media, MediaRefusal, SECTOR};
 use reincarnate::policy::Setup;
 use std::alloc::Global;
 

@@ -3,8 +3,8 @@
 ghost use Rattle.std.specs.Prelude.{◌≡◌, Some};
 ghost use Rattle.mounting.specs.StartupRefusals.{start_refusal_number, start_refusal_text};
 
-use media::MediaRefusal;
 use crate::MountRefusal;
+use media::MediaRefusal;
 use media::partition::{PartitionRefusal, PlaceRefusal};
 use std::alloc::AllocError;
 use std::{error, fmt};

@@ -9,12 +9,12 @@ ghost use Rattle.new_volume.specs.Sizes.{blocks_for, new_geometry, refusal_name,
 ghost use Rattle.new_volume.specs.Image.{filled, is_set, map_byte, map_bytes, new_image};
 ghost use Rattle.new_volume.specs.Made.{IsNewVolume, IsRefused};
 
-use volume::Inode;
 use inode::encode;
 use layout::Geometry;
 use std::alloc::{AllocError, Global};
 use std::error::Error;
 use std::fmt;
+use volume::Inode;
 
 /// Why no volume is made: the first of these that holds, in this order.
 #[derive(Clone, Copy, Debug, PartialEq, Eq)]

@@ -7,10 +7,10 @@ ghost use Rattle.store.specs.World.{Turns};
 ghost use Rattle.volume.specs.Pieces.{pieces};
 ghost use Rattle.node_steps.specs.Steps.{AddsLink, DropsLink, IsOfNode, MayAddLink, MaySetAttributes, SetsAttributes};
 
-use volume::Inode;
 use inode::inode_table::{load, store};
 use layout::Geometry;
 use store::{Blocks, Halt};
+use volume::Inode;
 
 /// Gives a node other attributes: its links, its owner, its permissions, its times. The inode's size, zones and type have to be those that
 /// it has. Unsound only where the volume isn't sound, or the number is no inode's.

@@ -12,11 +12,11 @@ ghost use Rattle.node_steps.specs.NewNodes.{new_inode, with_new_inode, IsLeastFr
 use bitmap::{Map, lowest_free, set};
 use directory::first_entries;
 use file::write_at;
-use volume::Inode;
 use inode::inode_table::store;
 use layout::Geometry;
 use store::{Blocks, Cut, Halt};
 use tree::User;
+use volume::Inode;
 
 /// The type bits of a file's mode.
 const FILE: u16 = 0o100000;

@@ -8,9 +8,9 @@ ghost use Rattle.store.specs.World.{Turns};
 ghost use Rattle.node_steps.specs.Leads.{Makes};
 ghost use Rattle.node_steps.specs.Replaced.{MayDropReplaced, without_it};
 
+use crate::{drop_link, free_node, lose_name};
 use descriptors::Descriptors;
 use layout::Geometry;
-use crate::{drop_link, free_node, lose_name};
 use store::{Blocks, Halt};
 
 /// Drops what lost its name to another, at `now`, in seconds. A file has a link less, and is gone where that was the last and it isn't

@@ -8,10 +8,10 @@ ghost use Rattle.store.specs.World.{Turns};
 ghost use Rattle.node_steps.specs.Leads.{Makes};
 ghost use Rattle.node_steps.specs.Moves.{IsThere, MayPutIn, MayPutOver, MaySettle, MayTakeOut, settled, taken_out, touched, with_entry_and_links};
 
+use crate::{add_link, drop_link, set_attributes};
 use directory::{insert, remove, replace, set_parent};
 use inode::inode_table::load;
 use layout::Geometry;
-use crate::{add_link, drop_link, set_attributes};
 use store::{Blocks, Halt};
 
 /// Takes a name out of a directory at `now`, in seconds; where it led to a directory, the parent has a link less.

@@ -12,7 +12,7 @@ mod stop;
 
 pub use access::{Wish, is_owner, may};
 pub use parts::Parts;
-pub use read::{Path, is_dot, is_dot_dot};
 pub use place::{Found, Place, find_place, look_up};
+pub use read::{Path, is_dot, is_dot_dot};
 pub use step::walk;
 pub use stop::Stop;

@@ -10,15 +10,15 @@ ghost use Rattle.volume.specs.Pieces.{pieces};
 ghost use Rattle.path.specs.Stops.{Answers, IsStop, IfRefused};
 ghost use Rattle.path.specs.Places.{Finds, FindsPlace, last_leads_to};
 
+use crate::Path;
 use crate::step::{enter, walk};
 use crate::stop::Stop;
 use directory::find;
 use errno::Errno;
-use volume::Inode;
 use layout::Geometry;
-use crate::Path;
 use store::{Blocks, Cut};
 use tree::User;
+use volume::Inode;
 
 /// A place for a name: a directory that the user may search, and the last part of a path.
 #[derive(Drop)]

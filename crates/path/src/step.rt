@@ -11,14 +11,14 @@ ghost use Rattle.path.specs.Stops.{Answers, IsStop, IfRefused};
 ghost use Rattle.path.specs.Walking.{entries_in, Enters, StepsTo, Walks};
 
 use crate::stop::Stop;
+use crate::{Parts, Wish, is_dot, is_dot_dot, may};
 use directory::{find, parent};
 use errno::Errno;
-use volume::Inode;
 use inode::inode_table::load;
 use layout::Geometry;
-use crate::{Parts, Wish, is_dot, is_dot_dot, may};
 use store::Blocks;
 use tree::User;
+use volume::Inode;
 
 /// The number of the root's inode.
 const ROOT: u32 = 1;

@@ -11,7 +11,6 @@ ghost use Rattle.std.specs.Prelude.{◌≡◌};
 ghost use Rattle.reincarnate.specs.Follows.{EveryListIsDecided};
 ghost use Rattle.reincarnate.specs.Supply.{refusal_number};
 
-
 use message::endpoint::Endpoint;
 pub use reincarnation::Reincarnation;
 use thiserror::Error;

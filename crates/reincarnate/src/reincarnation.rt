@@ -6,10 +6,10 @@ ghost use Rattle.reincarnate.specs.Follows.{Follows};
 ghost use Rattle.reincarnate.specs.Runs.{Added, Met, Turn};
 ghost use Rattle.reincarnate.specs.Supply.{Decides, NewAnswers, with_driver};
 
+use crate::policy::{Event, Policy};
 use crate::watch::{Decision, Watch};
 use crate::{Action, SupplyRefusal};
 use bdev::Driver;
-use crate::policy::{Event, Policy};
 use std::alloc::{AllocError, Global};
 use std::collections::VecDeque;
 use std::marker::Model;

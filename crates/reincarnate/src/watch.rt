@@ -7,8 +7,8 @@ ghost use Rattle.reincarnate.specs.Watch.{on, on_fault, on_report, on_start, on_
 ghost use Rattle.reincarnate.specs.Laws.{is_running, tick_of};
 ghost use Rattle.reincarnate.specs.Known.{HasSpare, Makes, is_waiting, known_at_first, watch_with};
 
-use message::endpoint::{DISK_DRIVER, Endpoint, Slots};
 use crate::policy::{Event, Policy};
+use message::endpoint::{DISK_DRIVER, Endpoint, Slots};
 use std::marker::Model;
 
 /// What is decided at an event: an action without its driver.

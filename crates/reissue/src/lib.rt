@@ -14,6 +14,6 @@ pub mod queue;
 pub mod table;
 pub mod transfers;
 
+pub use ask::{Ask, BeginRefusal, Settled, Ticket};
 pub use link::{Link, LinkRefusal};
 pub use transfers::Transfers;
-pub use ask::{Ask, BeginRefusal, Settled, Ticket};

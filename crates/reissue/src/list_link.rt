@@ -8,10 +8,10 @@ ghost use Rattle.reissue.specs.Grows.{Grows, grows_not, grows_then};
 
 pub mod note;
 
+use crate::link::{Link, LinkRefusal};
 use crate::list_link::note::{Note, Notes};
 use message::endpoint::Endpoint;
 use message::{BlockRequest, Incoming};
-use crate::link::{Link, LinkRefusal};
 use std::alloc::{AllocError, Global};
 
 /// A link that gives the messages of a list in their order, and then End. It runs no driver, accepts each post, and guarantees

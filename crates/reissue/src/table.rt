@@ -6,11 +6,11 @@ ghost use Rattle.message.specs.Good.{is_write};
 ghost use Rattle.records.specs.Marks.{is_endpoint};
 ghost use Rattle.reissue.specs.Entries.{HasNumbers, prop_numbers, IsFresh, pending_of};
 
-use message::endpoint::Endpoint;
-use message::{BlockReply, BlockRequest, Kind, moved_bytes};
 use crate::ask::{Ask, Ticket};
 use crate::pending::Pending;
 use crate::queue::{PLACES, Queue};
+use message::endpoint::Endpoint;
+use message::{BlockReply, BlockRequest, Kind, moved_bytes};
 use std::alloc::{AllocError, Global};
 
 /// What an answer did.

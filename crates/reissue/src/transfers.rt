@@ -8,11 +8,11 @@ ghost use Rattle.reissue.specs.Posts.{is_message};
 ghost use Rattle.reissue.specs.Moves.{Opens, IsFree, begun_by};
 ghost use Rattle.reissue.specs.Entries.{pending_of};
 
-use crate::link::Link;
-use message::endpoint::Endpoint;
-use message::Incoming;
 use crate::ask::{Ask, BeginRefusal, Settled, Ticket};
+use crate::link::Link;
 use crate::table::{Answer, Table};
+use message::Incoming;
+use message::endpoint::Endpoint;
 use std::alloc::{AllocError, Global};
 
 /// The pending requests of a file server, and the link that they go over.

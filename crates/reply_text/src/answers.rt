@@ -5,8 +5,8 @@ ghost use Rattle.std.specs.Io.KnownBytes.{Appends};
 ghost use Rattle.output.specs.Output.{AppendsPart};
 ghost use Rattle.reply_text.specs.Answers.{number_text, outcomes_text, session_text, sessions_text};
 
-use output::{OutputRefusal, write_text};
 use crate::text::OutcomeText;
+use output::{OutputRefusal, write_text};
 use std::alloc::Global;
 use std::io::Write;
 use tree::Outcome;

@@ -4,11 +4,11 @@ ghost use Rattle.std.specs.Prelude.{◌≡◌, Some};
 ghost use Rattle.records.specs.Marks.{Mark};
 ghost use Rattle.reply_text.specs.TranscriptText.{cause_text, kind_text, mark_of, mark_text, moved_text};
 
-use message::endpoint::Endpoint;
-use errno::Errno;
-use records::marks::Cause;
-use message::{BlockReply, BlockRequest, Kind};
 use crate::text::ReplyText;
+use errno::Errno;
+use message::endpoint::Endpoint;
+use message::{BlockReply, BlockRequest, Kind};
+use records::marks::Cause;
 use std::fmt;
 use tree::{Call, Reply, Who};
 

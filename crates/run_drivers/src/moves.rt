@@ -10,9 +10,9 @@ ghost use Rattle.run_drivers.specs.UnitView.{slot_of};
 
 use crate::unit::Unit;
 use bdev::{Accept, Answer, Step};
-use message::endpoint::{DISK_DRIVER, Endpoint};
 use inline::local::LocalDriver;
 use media::Media;
+use message::endpoint::{DISK_DRIVER, Endpoint};
 use message::{BlockReply, BlockRequest};
 use schedule::Sent;
 use std::collections::VecDeque;

@@ -5,15 +5,15 @@ ghost use Rattle.std.specs.VecDeque.{deque_len, deque_capacity};
 ghost use Rattle.records.specs.Opening.{Opening};
 ghost use Rattle.records.specs.Marks.{Mark};
 
-use crate::run::RunLink;
-use schedule::queue::wait;
-use driver_events::ruling::complain;
-use message::endpoint::Endpoint;
-use inline::local::LocalDriver;
-use message::{BlockRequest, Incoming};
 use crate::room::{event_at, make_room};
+use crate::run::RunLink;
+use driver_events::ruling::complain;
+use inline::local::LocalDriver;
+use message::endpoint::Endpoint;
+use message::{BlockRequest, Incoming};
 use reissue::link::{Link, LinkRefusal, TrueLink};
 use schedule::Entry;
+use schedule::queue::wait;
 
 impl<'a, D: LocalDriver> RunLink<'a, D> {
     ghost use Rattle.schedule.specs.LogView.{said, room_in};

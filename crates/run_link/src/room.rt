@@ -7,11 +7,9 @@ ghost use Rattle.schedule.specs.LogView.{said, room_in};
 ghost use Rattle.run_drivers.specs.View.{HasRoom};
 ghost use Rattle.driver_events.specs.StageView.{scene_of};
 
-use schedule::Arrived;
 use driver_events::stage::Stage;
 use inline::local::LocalDriver;
-use schedule::Log;
-use schedule::Event;
+use schedule::{Arrived, Event, Log};
 use std::alloc::Global;
 use std::collections::VecDeque;
 

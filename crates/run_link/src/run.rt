@@ -7,15 +7,13 @@ ghost use Rattle.reincarnate.specs.Watch.{driver, new_watch};
 ghost use Rattle.true_replies.specs.Events.{IsOnMedia, opening_media};
 ghost use Rattle.inline.specs.Inline.{IsReady};
 
-use schedule::Arrived;
 use driver_events::stage::Stage;
-use message::endpoint::{DISK_DRIVER, Endpoint};
 use inline::local::LocalDriver;
 use media::Media;
 use message::Incoming;
+use message::endpoint::{DISK_DRIVER, Endpoint};
 use reincarnate::Reincarnation;
-use schedule::{Entry, Log};
-use schedule::Event;
+use schedule::{Arrived, Entry, Event, Log};
 use std::alloc::{AllocError, Global};
 use std::collections::VecDeque;
 

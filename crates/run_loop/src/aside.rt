@@ -9,13 +9,12 @@ ghost use Rattle.driver_events.specs.StageView.{scene_of};
 ghost use Rattle.driver_events.specs.Kept.{with_next};
 ghost use Rattle.run_link.specs.StateView.{run_of, RunTruth, Asides, Answers, HandsOut, left_of};
 
-use schedule::Arrived;
-use schedule::queue::take_first;
 use inline::local::LocalDriver;
 use message::Incoming;
-use run_link::room::make_room;
 use run_link::RunLink;
-use schedule::Entry;
+use run_link::room::make_room;
+use schedule::queue::take_first;
+use schedule::{Arrived, Entry};
 use std::alloc::AllocError;
 use tree::Reply;
 

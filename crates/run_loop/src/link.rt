@@ -11,9 +11,9 @@ ghost use Rattle.schedule.specs.declared.arrived.Arrived.{Arrived as OfCall};
 use crate::aside;
 use inline::local::LocalDriver;
 use message::Incoming;
-use schedule::Arrived;
-use run_link::RunLink;
 use reissue::Link;
+use run_link::RunLink;
+use schedule::Arrived;
 use std::alloc::AllocError;
 use tree::Reply;
 

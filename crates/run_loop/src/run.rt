@@ -5,11 +5,11 @@ ghost use Rattle.tree.specs.declared.Call.{Call};
 ghost use Rattle.run_link.specs.StateView.{work_left};
 ghost use Rattle.run_loop.specs.Starts.{IsBeforeFirst, RunsAll};
 
+use crate::WorldLink;
 use crate::turns::run_out;
-use message::endpoint::{DISK_DRIVER, Endpoint};
 use file_server::FileServer;
 use message::Incoming;
-use crate::WorldLink;
+use message::endpoint::{DISK_DRIVER, Endpoint};
 use std::alloc::AllocError;
 
 /// The driver that is started before the first event.

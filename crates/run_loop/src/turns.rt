@@ -9,9 +9,9 @@ ghost use Rattle.run_loop.specs.Runs.{RunsOn, Awaits, Notes, IsLive, IsIdle, IsN
 ghost use Rattle.run_loop.specs.Ends.{RunsOut};
 
 use crate::course::Course;
+use crate::{Arrival, WorldLink};
 use file_server::FileServer;
 use message::Incoming;
-use crate::{Arrival, WorldLink};
 use std::alloc::AllocError;
 use tree::{Outcome, Reply};
 

@@ -21,12 +21,11 @@ pub mod log;
 pub mod mark;
 pub mod queue;
 
-pub use log::{Entry, Log};
-pub use mark::RunMark;
-pub use arrived::Arrived;
-
 ghost use Rattle.schedule.specs.Laws.{BeginningKeeps, GroupsStay, RefusedForOne, RefusedOrAccepted, RepliesStay};
 
+pub use arrived::Arrived;
+pub use log::{Entry, Log};
+pub use mark::RunMark;
 use message::BlockReply;
 use tree::{Call, Who};
 

@@ -3,10 +3,10 @@
 ghost use Rattle.std.specs.Prelude.{◌≡◌};
 ghost use Rattle.schedule.specs.Posts.{posts_in};
 
-use message::endpoint::Endpoint;
-use records::marks::Cause;
-use message::{BlockRequest, Incoming};
 use crate::Event;
+use message::endpoint::Endpoint;
+use message::{BlockRequest, Incoming};
+use records::marks::Cause;
 use std::alloc::{AllocError, Global};
 use tree::{Call, Reply, Who};
 

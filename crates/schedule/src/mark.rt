@@ -1,8 +1,8 @@
 //! The marks of a run's record.
 
 use message::endpoint::Endpoint;
-use records::marks::Cause;
 use message::{BlockReply, BlockRequest};
+use records::marks::Cause;
 use tree::{Call, Reply, Who};
 
 /// A mark of a run's record. Issued requests and faults aren't counted as events of the file server.

@@ -4,8 +4,8 @@ ghost use Rattle.std.specs.Prelude.{◌≡◌, ◌<◌, ◌++◌, drop, slice_ge
 ghost use Rattle.std.specs.VecDeque.{deque_len, deque_capacity};
 ghost use Rattle.schedule.specs.ArrivingCalls.{calls_of};
 
-use crate::arrived::Arrived;
 use crate::Event;
+use crate::arrived::Arrived;
 use std::collections::VecDeque;
 
 /// The call that an event brings waits behind the others; an event that brings none leaves the queue as it is.

@@ -5,12 +5,12 @@ ghost use Rattle.std.specs.Option.{option_map};
 ghost use Rattle.call_text.specs.Words.{words_of};
 ghost use Rattle.schedule_text.specs.Events.{arrival_of, caller_of, event_at, event_of, event_of_none, event_of_one, event_of_two, line_bytes, line_event, plain_event};
 
-use call_text::written_call::call::WrittenCall;
+use call_text::bytes::byte;
 use call_text::call::read_call;
+use call_text::words::{cut, decimal, half, small};
+use call_text::written_call::call::WrittenCall;
 use schedule::Event;
 use std::alloc::AllocError;
-use call_text::bytes::byte;
-use call_text::words::{cut, decimal, half, small};
 use tree::Who;
 
 /// The greatest number of a line, from 1: a schedule has fewer events than 2 to the 32nd.

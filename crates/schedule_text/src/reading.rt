@@ -5,9 +5,9 @@ ghost use Rattle.schedule_text.specs.Events.{line_bytes, line_event, plain_event
 ghost use Rattle.schedule_text.specs.Refusals.{IsRefused};
 
 use crate::line::{Line, read_numbered};
+use call_text::words::cut;
 use schedule::Event;
 use std::alloc::{AllocError, Global};
-use call_text::words::cut;
 use thiserror::Error;
 
 /// Why a schedule isn't read.

@@ -4,3 +4,4 @@ pub mod Turns
 pub mod Admitted
 pub mod Vouched
 pub mod Served
+pub use Rattle.launch.specs as launch

@@ -7,10 +7,10 @@ ghost use Rattle.script_play.specs.Vouched.{Vouched};
 ghost use Rattle.script_play.specs.Admitted.{IsAdmittedFor};
 
 use crate::script_session::ScriptSession;
-use file_server::FileServer;
+use crate::turns::Turn;
 use counting_link::recorder::Recorder;
 use counting_link::room::Room;
-use crate::turns::Turn;
+use file_server::FileServer;
 use script_text::script::Script;
 use serve::service::{Service, Shared};
 use shared_server::refusal::SessionRefusal;

@@ -2,10 +2,10 @@
 
 ghost use Rattle.std.specs.Prelude.{◌≡◌};
 
-use file_server::FileServer;
+use crate::client::Client;
 use counting_link::recorder::Recorder;
 use counting_link::room::Room;
-use crate::client::Client;
+use file_server::FileServer;
 use serve::service::Shared;
 use serve::session::Session;
 use std::sync::Wait;

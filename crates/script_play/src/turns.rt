@@ -8,8 +8,8 @@ ghost use Rattle.script_play.specs.Turns.{ArePlayed, Follows, IsTurn, IsUnplayed
 
 use crate::client::Client;
 use errno::Errno;
-use script_text::timed::TimedCall;
 use reply_text::answers::Played;
+use script_text::timed::TimedCall;
 use std::alloc::{AllocError, Global};
 use std::collections::VecDeque;
 use tree::{Outcome, Reply};

@@ -7,8 +7,8 @@ ghost use Rattle.script_text.specs.Refusals.{IsRefused};
 
 use crate::script::Script;
 use crate::timed::{TimedLine, read_timed, read_user};
-use std::alloc::{AllocError, Global};
 use call_text::words::cut;
+use std::alloc::{AllocError, Global};
 use thiserror::Error;
 
 /// Why a script isn't read. Nothing was played.

@@ -5,10 +5,10 @@ ghost use Rattle.std.specs.Option.{option_map};
 ghost use Rattle.call_text.specs.Words.{words_of};
 ghost use Rattle.script_text.specs.Scripts.{line_bytes, line_call, plain_timed, timed_of, user_of};
 
-use call_text::written_call::call::WrittenCall;
 use call_text::call::read_call;
-use std::alloc::AllocError;
 use call_text::words::{cut, decimal, half};
+use call_text::written_call::call::WrittenCall;
+use std::alloc::AllocError;
 use tree::Call;
 
 /// A call, and when it is made.

@@ -10,14 +10,14 @@ ghost use Rattle.shared_server.specs.Held.{IsAdmitted, IsGood, IsGuaranteed, IsH
 
 use crate::session::Session;
 use board::Board;
+use counting_link::recorder::Recorder;
+use counting_link::room::Room;
+use counting_link::steady::OnMedia;
 use file_server::FileServer;
 use shared_server::left_open::LeftOpen;
 use shared_server::locked::Locked;
 use shared_server::refusal::SessionRefusal;
 use shared_server::stopping::{StopRefusal, Stopped};
-use counting_link::steady::OnMedia;
-use counting_link::recorder::Recorder;
-use counting_link::room::Room;
 use std::alloc::{AllocError, Global};
 use std::marker::PhantomData;
 use std::sync::{Arc, Mutex, Wait};

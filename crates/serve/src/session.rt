@@ -15,10 +15,10 @@ ghost use Rattle.shared_server.specs.Held.{HasEnded, IsCutAtEnd, IsEioOnceGivenU
 
 use crate::service::Shared;
 use board::{Board, Device, Seat};
-use file_server::FileServer;
-use shared_server::left_open::{LeftOpen, is_cut};
 use counting_link::recorder::Recorder;
 use counting_link::room::Room;
+use file_server::FileServer;
+use shared_server::left_open::{LeftOpen, is_cut};
 use std::marker::{Model, PhantomData};
 use std::sync::{Arc, Wait};
 use tree::{Call, MAX_DESCRIPTORS, Outcome, Who};

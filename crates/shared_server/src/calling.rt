@@ -9,11 +9,11 @@ ghost use Rattle.records.specs.Session.{tally_of};
 ghost use Rattle.file_server.specs.Over.{outcome_of};
 ghost use Rattle.shared_server.specs.Held.{IsEioOnceGivenUp, IsGuaranteed, IsHeld, IsServedCall, IsSound};
 
-use board::Seat;
-use file_server::FileServer;
 use crate::sharing::{count_call, show};
+use board::Seat;
 use counting_link::recorder::Recorder;
 use counting_link::room::Room;
+use file_server::FileServer;
 use tree::{Call, Outcome, Who};
 
 /// A call of the session that has this seat, which has then seen the whole record. An answer is a mark of it, the last; a cut isn't. With the

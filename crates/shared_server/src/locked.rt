@@ -13,16 +13,16 @@ ghost use Rattle.shared_server.specs.Held.{IsEioOnceGivenUp, IsGood, IsGuarantee
 ghost use Rattle.shared_server.specs.Stopping.{IsLastImage, IsSyncedImage, Went, WhyNotSynced};
 ghost use Rattle.counting_link.specs.Keeper.{AreAllUsed, IsLowestFree, IsOneFree};
 
-use board::Seat;
-use file_server::FileServer;
+use crate::calling::make_call;
 use crate::left_open::{is_cut, was_done};
 use crate::refusal::SessionRefusal;
 use crate::sharing::{admit, release, show};
 use crate::stopping::{StopRefusal, Stopped};
-use counting_link::steady::OnMedia;
+use board::Seat;
 use counting_link::recorder::Recorder;
 use counting_link::room::Room;
-use crate::calling::make_call;
+use counting_link::steady::OnMedia;
+use file_server::FileServer;
 use std::alloc::Global;
 use std::marker::{Model, PhantomData};
 use tree::{Call, Outcome, Who};

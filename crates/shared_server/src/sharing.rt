@@ -13,9 +13,9 @@ ghost use Rattle.shared_server.specs.Recorder.{SameServer};
 
 use crate::refusal::SessionRefusal;
 use board::Seat;
-use file_server::FileServer;
 use counting_link::recorder::Recorder;
 use counting_link::room::Room;
+use file_server::FileServer;
 use tree::{Call, Reply, Who};
 
 /// A call of the caller's session was answered. The caller has then seen the whole record, its call last. Gives how many counted marks

@@ -4,8 +4,8 @@ ghost use Rattle.std.specs.Prelude.{◌≡◌, IfOk};
 ghost use Rattle.std.specs.List.{concat};
 ghost use Rattle.shared_server.specs.Stopping.{stop_refusal_number};
 
-use file_server::FileServer;
 use counting_link::steady::OnMedia;
+use file_server::FileServer;
 use std::alloc::{AllocError, Global};
 use std::marker::PhantomData;
 

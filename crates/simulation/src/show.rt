@@ -8,11 +8,11 @@ ghost use Rattle.reply_text.specs.TranscriptText.{transcript_text};
 ghost use Rattle.simulation.specs.Shown.{Shows, is_giving_up, output_text, status_number};
 
 use output::{OutputRefusal, Told, tell};
+use reply_text::mark::{AsMark, MarkRef};
+use reply_text::write::write_transcript;
 use std::alloc::Global;
 use std::fmt;
 use std::io::Write;
-use reply_text::mark::{AsMark, MarkRef};
-use reply_text::write::write_transcript;
 
 /// How a run ended.
 #[derive(Clone, Copy, Debug, PartialEq, Eq)]

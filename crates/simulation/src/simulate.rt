@@ -4,11 +4,11 @@ ghost use Rattle.std.specs.Prelude.{◌≡◌, ◌<◌, ◌^◌, length, map};
 ghost use Rattle.transcript.specs.ShownTranscript.{transcript_of};
 ghost use Rattle.simulation.specs.Simulated.{Runs, ShowsRun, Simulates};
 
+use crate::inputs::{File, InputRefusal, read_inputs};
+use crate::show::{NotShown, Status, refuse, show};
 use inline::local::LocalDriver;
 use output::OutputRefusal;
 use reincarnate::policy::Setup;
-use crate::inputs::{File, InputRefusal, read_inputs};
-use crate::show::{NotShown, Status, refuse, show};
 use schedule::Event;
 use std::alloc::Global;
 use std::io::Write;

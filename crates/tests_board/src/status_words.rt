@@ -5,10 +5,10 @@ ghost use Rattle.records.specs.Marks.{Flush, GaveUp};
 use board::{Board, Seat};
 use message::endpoint::Endpoint;
 use message::{BlockRequest, Incoming, Kind};
-use tests_texts::is_told;
 use std::alloc::{AllocError, Global};
 use std::test::Fail;
 use std::thread::join;
+use tests_texts::is_told;
 use tree::{Call, Reply, Who};
 
 /// The pulse after one beat.

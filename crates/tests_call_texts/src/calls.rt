@@ -1,7 +1,7 @@
 //! Calls by their words.
 use bitflags::Flags;
-use call_text::written_call::call::WrittenCall;
 use call_text::call::read_call;
+use call_text::written_call::call::WrittenCall;
 use tree::{Call, OpenFlags, Whence};
 
 /// The path of most calls.

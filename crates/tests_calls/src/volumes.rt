@@ -9,8 +9,8 @@ use calls::body;
 use descriptors::Descriptors;
 use errno::Errno;
 use layout::Geometry;
-use store::memory::Memory;
 use std::alloc::{AllocError, Global};
+use store::memory::Memory;
 use store::{Blocks, Cut};
 use tree::{Call, OpenFlags, Reply, Who};
 

@@ -2,12 +2,12 @@
 ghost use Rattle.std.specs.Prelude.{◌≡◌, IfOk};
 
 use driven::Driven;
+use fixtures::supply_of;
 use media::Media;
 use modeldisk::{FaultKind, ScriptedDriver};
-use reincarnate::policy::Policy;
 use reincarnate::Reincarnation;
+use reincarnate::policy::Policy;
 use reissue::Link;
-use fixtures::supply_of;
 use std::alloc::Global;
 use std::test::Fail;
 

@@ -6,9 +6,9 @@ use message::{BlockRequest, Incoming, Kind};
 use modeldisk::{FaultKind, ScriptedDriver};
 use reincarnate::policy::Policy;
 use reissue::link::Link;
-use tests_texts::step_is_told;
 use std::alloc::{AllocError, Global};
 use std::test::Fail;
+use tests_texts::step_is_told;
 
 /// What is done with a link.
 enum Act {

@@ -1,13 +1,13 @@
 //! What drivers answer, step by step.
 use bdev::{BlockDriver, Driver, Step};
 use errno::Errno;
+use media::partition::{Table, parse};
 use media::{Media, MediaRefusal};
 use message::{BlockRequest, Kind};
 use modeldisk::{ModelDriver, RamDriver};
-use media::partition::{Table, parse};
-use tests_texts::step_is_told;
 use std::alloc::{AllocError, Global};
 use std::test::Fail;
+use tests_texts::step_is_told;
 
 /// What is done with a driver, or asked of it or of its media.
 #[derive(Clone, Copy)]

@@ -1,9 +1,9 @@
 //! What a script of faults makes of a driver's answers, what is moved before a fault, and what a script leaves as it is.
 use crate::drivers::{Act, Acts, acts, numbered};
 use errno::Errno;
+use media::partition::Table;
 use message::Kind;
 use modeldisk::{Fault, FaultKind, Inner, ModelDriver, RamDriver, ScriptedDriver};
-use media::partition::Table;
 use std::alloc::{AllocError, Global};
 use std::test::Fail;
 

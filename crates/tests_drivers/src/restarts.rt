@@ -1,13 +1,13 @@
 //! When drivers are started and given up: the ticks are worked out by hand from the default policy.
 use bdev::{BlockDriver, Driver};
+use media::partition::Table;
 use message::endpoint::{DISK_DRIVER, Endpoint};
 use modeldisk::{Inner, ModelDriver, RamDriver, ScriptedDriver};
-use media::partition::Table;
-use reincarnate::{Action, Reincarnation};
 use reincarnate::policy::{Event, Policy};
-use tests_texts::step_is_told;
+use reincarnate::{Action, Reincarnation};
 use std::alloc::{AllocError, Global};
 use std::test::Fail;
+use tests_texts::step_is_told;
 
 /// What happens at a tick.
 enum Happens {

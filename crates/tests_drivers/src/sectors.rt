@@ -1,9 +1,9 @@
 //! What media and partition tables answer.
-use media::{Media, MediaRefusal, SectorRefusal};
 use media::partition::{PartitionRefusal, parse};
-use tests_texts::step_is_told;
+use media::{Media, MediaRefusal, SectorRefusal};
 use std::alloc::{AllocError, Global};
 use std::test::Fail;
+use tests_texts::step_is_told;
 
 /// Media of three sectors, whose k-th one holds 512 times the byte k.
 fn numbered(alloc: Global) -> Result<Media, MediaRefusal> {

@@ -6,17 +6,17 @@ ghost use Rattle.board.specs.View.{IsKeeper, opener};
 use board::{Board, Seat};
 use counting_link::Noting;
 use counting_link::room::Room;
-use launch::opened::over;
-use layout::Geometry;
-use media::Media;
-use tests_texts::is_told;
 use fixtures::new_volume;
 use fixtures_sessions::services::asked_and_stopped;
 use fixtures_sessions::silent::Silent;
+use launch::opened::over;
+use layout::Geometry;
+use media::Media;
 use std::alloc::{AllocError, Global};
 use std::marker::Brand;
 use std::sync::{Arc, Wait};
 use std::test::Fail;
+use tests_texts::is_told;
 
 /// A session calls, another one is asked for, and the service is stopped. The image.
 fn ask_and_stop<N: Room, R: Wait + Copy>(

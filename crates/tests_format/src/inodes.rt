@@ -1,9 +1,9 @@
 //! The root's inode of a new volume, from its bytes and back.
-use volume::Inode;
 use inode::{attributes, decode, decode_in, encode};
-use tests_texts::row_is_told;
 use std::test::Fail;
+use tests_texts::row_is_told;
 use tree::Attributes;
+use volume::Inode;
 
 /// A root of two links and one zone, number 6, made at time 50.
 const ROOT: [u8; 64] = [

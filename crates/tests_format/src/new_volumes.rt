@@ -1,9 +1,9 @@
 //! New volumes by the format's tables, byte by byte, and when none is made.
 use crate::images::{Image, image_of, read_of};
 use new_volume::{MkfsRefusal, mkfs};
-use tests_texts::row_is_told;
 use std::alloc::{AllocError, Global};
 use std::test::Fail;
+use tests_texts::row_is_told;
 
 /// A volume of 64 blocks of 1024 bytes with 32 inodes, made at 50.
 static SMALL: Image = (

@@ -1,9 +1,9 @@
 //! Superblocks by the format's table: a whole one, each field at the ends of its range, and which of several refusals is answered.
 use crate::images::{image_of, put, read_of};
 use layout::{Geometry, LayoutRefusal};
-use tests_texts::row_is_told;
 use std::alloc::{AllocError, Global};
 use std::test::Fail;
+use tests_texts::row_is_told;
 
 /// A volume of 64 blocks of 1024 bytes with 32 inodes: 1 block for each map, 2 for the inodes.
 const SUPERBLOCK: &[u8] =

@@ -4,9 +4,9 @@ ghost use Rattle.cache.specs.Calls.{caching, IsReady};
 
 use crate::caches::{Given, cache_over, is_done};
 use cache::{Cache, CacheRefusal};
-use flusher::{flush_some, sync};
 use fixtures::frames::{fetch_each, fill, fresh_each};
 use fixtures::lists::{posts_at_first, started};
+use flusher::{flush_some, sync};
 use reissue::Link;
 use std::alloc::Global;
 use std::test::Fail;

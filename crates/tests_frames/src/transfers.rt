@@ -6,12 +6,12 @@ ghost use Rattle.reissue.specs.Moves.{Begun};
 ghost use Rattle.cache.specs.Frames.{IsOfBlock};
 
 use fixtures::lists::{moved, started, told};
-use reissue::list_link::ListLink;
 use message::Incoming;
+use reissue::list_link::ListLink;
 use reissue::{Ask, BeginRefusal, Link, Settled, Transfers};
-use tests_texts::row_is_told;
 use std::alloc::{AllocError, Global};
 use std::test::Fail;
+use tests_texts::row_is_told;
 
 /// Transfers over a link that gives these messages.
 fn over(alloc: Global, messages: &[Incoming]) -> Result<Transfers<ListLink>, AllocError>

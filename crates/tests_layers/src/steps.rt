@@ -3,10 +3,10 @@ ghost use Rattle.store.specs.Volume.{IsOn};
 
 use crate::tables::{OTHER, ROOT};
 use bitmap::{Map, clear, count_free, lowest_free, set};
-use volume::Inode;
 use inode::inode_table::{load, store};
 use layout::Geometry;
 use store::{Blocks, Halt};
+use volume::Inode;
 
 /// What is done.
 pub(crate) enum Step {

@@ -4,10 +4,10 @@ use crate::images::{Image, image_of, put};
 use crate::steps::Step;
 use crate::volumes::{Sizes, Volume};
 use bitmap::Map;
-use volume::Inode;
 use std::alloc::Global;
 use std::test::Fail;
 use store::{Cut, Halt};
+use volume::Inode;
 
 /// The root of a fresh volume made at time 50, in zone 6.
 pub(crate) const ROOT: Inode = Inode {

@@ -5,8 +5,8 @@ ghost use Rattle.layout.specs.Places.{IsGeometry};
 
 use crate::steps::{Step, does};
 use layout::Geometry;
-use store::memory::Memory;
 use store::Halt;
+use store::memory::Memory;
 
 /// The sizes of a volume.
 pub(crate) enum Sizes {

@@ -3,9 +3,9 @@
 ghost use Rattle.std.specs.Prelude.{◌≡◌};
 
 use crate::images::image_of;
-use store::memory::Memory;
 use std::alloc::Global;
 use std::test::Fail;
+use store::memory::Memory;
 use store::words::{clear, read_byte, read_bytes, read_u32, write_bytes, write_u32};
 use store::{Blocks, Cut};
 

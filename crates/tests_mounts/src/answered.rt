@@ -4,14 +4,14 @@ ghost use Rattle.stored.specs.World.{stored_caching};
 ghost use Rattle.vfs.specs.Server.{IsOpen};
 
 use fixtures::lists::{driver, started};
-use reissue::list_link::ListLink;
 use message::{BlockReply, Incoming};
 use mounting::MountRefusal;
-use vfs::Server;
 use mounting::mounted::mount;
 use reissue::link::Link;
+use reissue::list_link::ListLink;
 use std::alloc::{AllocError, Global};
 use stored::Stored;
+use vfs::Server;
 
 /// The first driver's answer to this request: all these bytes, 4096 at most, were moved.
 pub(crate) fn gives(id: u64, piece: &[u8]) -> Incoming {

@@ -1,12 +1,12 @@
 //! Why a mount is refused.
 use crate::answered::{mounted_over, reads_of};
+use fixtures::changed;
 use layout::LayoutRefusal;
 use message::Incoming;
 use mounting::MountRefusal;
-use tests_texts::is_told;
-use fixtures::changed;
 use std::alloc::{AllocError, Global};
 use std::test::Fail;
+use tests_texts::is_told;
 use volume::Finding;
 
 /// A new volume with a byte that is changed, how many of its reads the driver answers once it is started, or that none is started,

@@ -5,17 +5,17 @@ ghost use Rattle.vfs.specs.Server.{IsOpen};
 use crate::answered::{gives, mounted_over, reads_of};
 use file_server::FileServer;
 use fixtures::lists::{moved, told};
-use reissue::list_link::ListLink;
-use message::Incoming;
-use vfs::Server;
-use reissue::link::Link;
-use reply_text::text::OutcomeText;
-use tests_texts::is_told;
 use fixtures::new_volume;
+use message::Incoming;
+use reissue::link::Link;
+use reissue::list_link::ListLink;
+use reply_text::text::OutcomeText;
 use std::alloc::{AllocError, Global};
 use std::test::Fail;
 use stored::{Caches, Stored};
+use tests_texts::is_told;
 use tree::{Call, OpenFlags, Who};
+use vfs::Server;
 
 /// What is done with a volume.
 enum Step {

@@ -3,16 +3,14 @@
 ghost use Rattle.std.specs.Prelude.{◌≡◌};
 ghost use Rattle.layout.specs.Places.{IsGeometry};
 
-use directory::{find, parent};
-use directory::{insert, remove, replace, set_parent};
+use directory::{find, insert, parent, remove, replace, set_parent};
 use inode::inode_table::load;
 use layout::Geometry;
-use store::memory::Memory;
-use path::Path;
+use path::{Found, Path, Stop, find_place, look_up, walk};
 use std::test::Fail;
 use store::Halt;
+use store::memory::Memory;
 use tree::User;
-use path::{Found, Stop, find_place, look_up, walk};
 
 /// The number of the root's inode.
 const ROOT: u32 = 1;

@@ -3,10 +3,10 @@
 use crate::images::{CUT_TREE, TREE, volume};
 use crate::volumes::{Call, Seen, Step, UNSOUND};
 use errno::Errno;
+use path::Stop;
 use std::test::Fail;
 use store::{Cut, Halt};
 use tree::User;
-use path::Stop;
 
 /// User 0 may do all.
 const ROOT: User = User { uid: 0, gid: 0 };

@@ -1,9 +1,9 @@
 //! Drivers that die, hang or answer wrongly in the middle of a read, and what they leave.
-use message::endpoint::{SlotRefusal, Slots};
 use errno::Errno;
-use modeldisk::FaultKind;
 use fixtures_plays::deaths::{OverDrivers, Told, all_come_out};
 use fixtures_plays::plays::HONEST;
+use message::endpoint::{SlotRefusal, Slots};
+use modeldisk::FaultKind;
 use std::test::Fail;
 
 /// What is played.

@@ -1,8 +1,8 @@
 //! Writers that fail, and writers that take little at a time; plays whose answers are lost, or whose image can't be written.
 use fixtures_plays::writers::{Finished, Narrow, all_come_out, are_finished};
-use tools::play::Status;
 use output::Told;
 use std::test::Fail;
+use tools::play::Status;
 
 /// A script, and what is printed of it on a new volume.
 pub(crate) const STAT: &[u8] = b"user 0 0\n100 stat /\n";

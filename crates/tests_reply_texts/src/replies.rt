@@ -2,9 +2,9 @@
 use bitflags::Flags;
 use errno::Errno;
 use reply_text::text::{OutcomeText, ReplyText};
-use tests_texts::is_told;
 use std::alloc::Global;
 use std::test::Fail;
+use tests_texts::is_told;
 use tree::{Attributes, Entry, OpenFlags, Outcome, Reply, Room};
 
 /// Each error with its number and its name.

@@ -1,15 +1,15 @@
 //! Transcripts, line by line.
-use message::endpoint::Endpoint;
 use errno::Errno;
-use records::marks::Cause;
+use message::endpoint::Endpoint;
 use message::{BlockReply, BlockRequest, Kind};
 use output::OutputRefusal;
-use tests_texts::{is_told, row_is_told};
+use records::marks::Cause;
+use reply_text::mark::MarkRef;
+use reply_text::write::write_transcript;
 use std::alloc::Global;
 use std::io::{self, ErrorKind, Write};
 use std::test::Fail;
-use reply_text::mark::MarkRef;
-use reply_text::write::write_transcript;
+use tests_texts::{is_told, row_is_told};
 use tree::{Attributes, Call, Reply, Who};
 
 /// Driver 1 of this generation.

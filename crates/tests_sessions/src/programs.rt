@@ -1,17 +1,17 @@
 //! What is done with a service on the small volume.
 
-use file_server::FileServer;
 use counting_link::recorder::Recorder;
 use counting_link::room::Room;
 use counting_link::steady::OnMedia;
+use file_server::FileServer;
+use fixtures::{MOUNT_READS, supply_at, whole};
+use fixtures_sessions::services::{many, stopped, two_in_turn};
 use launch::program::Program;
 use launch::start::serve;
 use modeldisk::FaultKind;
 use reissue::link::TrueLink;
-use fixtures::{MOUNT_READS, supply_at, whole};
 use serve::gate::Open;
 use serve::service::{Service, Shared};
-use fixtures_sessions::services::{many, stopped, two_in_turn};
 use std::alloc::{AllocError, Global};
 use std::sync::Wait;
 use tree::Call;

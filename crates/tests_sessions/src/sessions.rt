@@ -1,12 +1,12 @@
 //! Sessions of one service: their replies, their numbers, and what they have seen; and services that are stopped.
 
 use crate::programs::{What, served};
-use modeldisk::FaultKind;
-use tests_texts::is_told;
 use fixtures::new_volume;
+use modeldisk::FaultKind;
 use std::alloc::Global;
 use std::sync::Wait;
 use std::test::Fail;
+use tests_texts::is_told;
 use tree::Call;
 
 /// What is done, whether the driver dies in its first request after those of the mount, the lines that come of it, and whether a service

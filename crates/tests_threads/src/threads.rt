@@ -10,22 +10,22 @@ ghost use Rattle.board.specs.View.{IsKeeper, opener};
 ghost use Rattle.mounting.specs.Starting.{opening_of, IsPrepared};
 
 use board::{Board, Seat};
-use inline::local::LocalDriver;
 use counting_link::recorder::Recorder;
 use counting_link::room::Room;
-use launch::opened::mounted;
-use launch::start::counted_drivers;
-use reincarnate::policy::Setup;
-use reissue::link::TrueLink;
-use tests_texts::is_told;
 use fixtures::{new_volume, supply_of, whole};
 use fixtures_sessions::services::two_in_threads;
+use inline::local::LocalDriver;
+use launch::opened::mounted;
+use launch::start::counted_drivers;
 use mounting::{Prepared, prepare};
+use reincarnate::policy::Setup;
+use reissue::link::TrueLink;
 use std::alloc::{AllocError, Global};
 use std::marker::Brand;
 use std::sync::{Arc, Wait};
 use std::test::Fail;
 use std::thread::Threads;
+use tests_texts::is_told;
 
 /// What each of them is answered.
 const LINES: &str = "inode 1 mode 0040755 links 2 uid 0 gid 0 size 128 times 50 50 50

@@ -3,9 +3,9 @@
 use clap::Error;
 use host::command_line::status_for;
 use host::play_words::{mfs, mfssim};
+use host::volume_words::{mfsck, mkmfs};
 use std::alloc::{AllocError, Global};
 use std::test::Fail;
-use host::volume_words::{mfsck, mkmfs};
 
 /// Words of a line, and what they say: the files, the minor, how many drivers stand by, and whether they move an arm; of a new volume its
 /// blocks, its inodes, how long a block is and the time; or, of words that aren't taken or ask for help, the status.

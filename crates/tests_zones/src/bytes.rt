@@ -1,9 +1,9 @@
 //! Writes of many pages at once.
 
-use std::test::Fail;
-use store::Halt;
 use fixtures_zones::calls::{Call, DONE};
 use fixtures_zones::images::{EMPTY, SMALL, volume};
+use std::test::Fail;
+use store::Halt;
 
 #[test]
 fn many_pages_at_once(rt: HostRuntime) -> Result<(), Fail> {

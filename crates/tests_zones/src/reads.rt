@@ -1,8 +1,8 @@
 //! Reads of files, with slices that hold 0x2e before.
 
-use std::test::Fail;
 use fixtures_zones::calls::{Call, Step};
 use fixtures_zones::images::{Part, SMALL, volume};
+use std::test::Fail;
 
 /// The first bytes of inode 1: a file, one link, its size.
 const FILE_OF_3: [u8; 12] = [0xa4, 0x81, 1, 0, 0, 0, 0, 0, 3, 0, 0, 0];

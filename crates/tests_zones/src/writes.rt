@@ -3,10 +3,13 @@
 //! 518 and
 //! 262662, of 4096 bytes 1030 and 1049606.
 
+use fixtures_zones::calls::{Call, DONE, Field, SIZE, Step};
+use fixtures_zones::images::{
+    EMPTY, EMPTY_LARGE, EMPTY_MIDDLE, LARGE, MIDDLE, MIDDLE_PAGES, Part, SMALL, SMALL_PAGES, Size,
+    volume,
+};
 use std::alloc::Global;
 use std::test::Fail;
-use fixtures_zones::calls::{Call, DONE, Field, SIZE, Step};
-use fixtures_zones::images::{EMPTY, EMPTY_LARGE, EMPTY_MIDDLE, LARGE, MIDDLE, MIDDLE_PAGES, Part, SMALL, SMALL_PAGES, Size, volume};
 
 /// A page, and how many zones its bytes take, where blocks have 4096 bytes.
 static LARGE_PAGES: [(u32, u32); 5] = [(6, 1), (7, 2), (1030, 2), (1031, 3), (524287, 3)];

@@ -7,7 +7,7 @@ use Rattle.bdev.specs.DriverState.{DriverState}
 use Rattle.reincarnate.specs.declared.policy.Setup.{Setup}
 use Rattle.mounting.specs.StartupRefusals.{start_refusal_text}
 use Rattle.mounting.specs.Starting.{opening_of}
-use Rattle.launch.specs.Ran.{IsNotStarted, IsStartable}
+use Rattle.script_play.specs.launch.Ran.{IsNotStarted, IsStartable}
 use Rattle.script_text.specs.declared.timed.TimedCall.{TimedCall}
 use Rattle.script_text.specs.declared.script_files.File.{File}
 use Rattle.script_text.specs.declared.script_files.FileRefusal.{FileRefusal}

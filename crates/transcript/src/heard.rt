@@ -1,11 +1,11 @@
 //! What a record says so far, by which it is known which notes leave a mark.
 
 use message::endpoint::Endpoint;
-use records::marks::Cause;
 use message::{BlockReply, BlockRequest, Incoming, moved_bytes};
+use records::marks::Cause;
+use reply_text::mark::MarkRef;
 use schedule::Entry;
 use std::alloc::{AllocError, Global};
-use reply_text::mark::MarkRef;
 
 /// What is kept of a request while it is open.
 #[derive(Clone, Copy)]

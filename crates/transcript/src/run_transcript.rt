@@ -1,14 +1,14 @@
 //! What a run came to.
 
+use crate::shown::shown_marks;
 use file_server::FileServer;
 use inline::local::LocalDriver;
-use run_link::RunLink;
+use reply_text::mark::MarkRef;
 use run_drivers::unit::Unit;
+use run_link::RunLink;
 use schedule::Sent;
 use std::alloc::{AllocError, Global};
 use stored::Stored;
-use crate::shown::shown_marks;
-use reply_text::mark::MarkRef;
 use vfs::Server;
 
 /// What a run came to: its record, the replies that drivers sent, the drivers and the server as they stand, and the calls that wait.

@@ -6,9 +6,9 @@ ghost use Rattle.schedule.specs.Noted.{marks_in};
 ghost use Rattle.reply_text.specs.TranscriptText.{mark_of};
 
 use crate::heard::Heard;
+use reply_text::mark::MarkRef;
 use schedule::Log;
 use std::alloc::{AllocError, Global};
-use reply_text::mark::MarkRef;
 
 /// The marks of the record that a run has noted, oldest first. An error: no memory was found.
 pub fn shown_marks<'l>(alloc: Global, log: &'l Log<'l>) -> Result<Vec<MarkRef<'l>>, AllocError>

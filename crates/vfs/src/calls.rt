@@ -6,10 +6,10 @@ ghost use Rattle.file_server.specs.Over.{CallsOver, outcome_of};
 ghost use Rattle.vfs.specs.Outcomes.{OnAnswered, stopped};
 ghost use Rattle.vfs.specs.Serving.{MayServe, Spends, server_of};
 
+use calls::body;
 use descriptors::Descriptors;
 use errno::Errno;
 use layout::Geometry;
-use calls::body;
 use std::alloc::Global;
 use store::Cut;
 use stored::Caches;

@@ -9,5 +9,5 @@ pub mod server;
 pub mod server_laws;
 pub mod unmounting;
 
-pub use server::Server;
 pub use calls::answer;
+pub use server::Server;

@@ -5,8 +5,8 @@ ghost use Rattle.std.specs.Prelude.{◌≡◌, ◌≢◌, ◌<◌, ◌+◌, ◌^
 use crate::answer;
 use descriptors::Descriptors;
 use layout::Geometry;
-use records::legal::Serve;
 use message::Incoming;
+use records::legal::Serve;
 use std::alloc::Global;
 use stored::Caches;
 use tree::{Call, Outcome, Who};

@@ -2,7 +2,6 @@
 
 ghost use Rattle.volume.specs.Laws.{CleanIsATree, UsedZonesAreMarked, HeldLeavesRoom, ImageLeavesRoom};
 
-
 /// The verdict on an image is Clean exactly where the image holds a tree without open files, whatever its bytes.
 pub fn clean_is_a_tree()
     ensures { CleanIsATree }

@@ -8,9 +8,9 @@ ghost use Rattle.output.specs.Output.{AppendsPart, Tells};
 ghost use Rattle.volume_tools.specs.Verifying.{IsToldWhole, IsVerdictOn, IsUnverified, IsUntold, missing_text, partition_text, verdict_text, verified_as, verified_number, verify_text, volume_at};
 
 use fsck::{Verdict, check};
+use media::partition::{PartitionRefusal, PlaceRefusal, volume_place};
 use media::{MOST_BYTES, SECTOR};
 use output::{Told, tell, write_text};
-use media::partition::{PartitionRefusal, PlaceRefusal, volume_place};
 use std::alloc::{AllocError, Global};
 use std::fmt;
 use std::io::Write;

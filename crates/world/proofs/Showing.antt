@@ -35,8 +35,8 @@ use Rattle.run_loop.specs.Runs.{moment}
 use Rattle.world.specs.Shows.{Shows}
 use Rattle.world.proofs.RunShowing.{runs_are_shown}
 use Rattle.stored.specs.declared.Stored.{Stored}
-use Rattle.vfs.specs.declared.server.Server.{Server}
-use Rattle.vfs.specs.OverLink.{line_of, serving_over}
+use Rattle.mounting.specs.vfs.declared.server.Server.{Server}
+use Rattle.mounting.specs.vfs.OverLink.{line_of, serving_over}
 use Rattle.world.specs.declared.run_refusal.RunRefusal.TheVariants.{OutOfMemory}
 use Rattle.world.specs.Beginning.{IsBegun, IsNotBegun, range_of}
 use Rattle.transcript.specs.ShownTranscript.{frames_in}

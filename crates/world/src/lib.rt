@@ -12,6 +12,6 @@ pub mod run_shown;
 pub mod server;
 pub mod world_run;
 
-pub use world_run::World;
 pub use preparing::{PreparedRun, prepare_run};
 pub use run_refusal::RunRefusal;
+pub use world_run::World;

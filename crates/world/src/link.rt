@@ -12,9 +12,9 @@ ghost use Rattle.world.specs.ServerRuns.{IsFresh};
 
 use inline::local::LocalDriver;
 use media::Media;
-use run_link::RunLink;
-use reincarnate::policy::Setup;
 use reincarnate::Reincarnation;
+use reincarnate::policy::Setup;
+use run_link::RunLink;
 use schedule::Event;
 use std::alloc::{AllocError, Global};
 

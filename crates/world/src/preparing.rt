@@ -15,11 +15,11 @@ ghost use Rattle.world.specs.Beginning.{IsBegun, IsChecked, IsNoMedia, IsNoPlace
 use crate::run_refusal::RunRefusal;
 use fsck::{Clean, Verdict, check};
 use inline::local::LocalDriver;
-use media::{Media, MediaRefusal, SECTOR};
 use media::partition::volume_place;
-use reincarnate::policy::Setup;
+use media::{Media, MediaRefusal, SECTOR};
 use mounting::StartRefusal;
 use mounting::prepared::check_setup;
+use reincarnate::policy::Setup;
 use std::alloc::Global;
 
 /// What a run starts on: media on which no driver was started, and the volume on them, which was checked.

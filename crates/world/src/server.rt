@@ -8,7 +8,7 @@ ghost use Rattle.run_loop.specs.Starts.{IsBeforeFirst};
 ghost use Rattle.world.specs.ServerRuns.{RunsFrom};
 
 use fsck::Clean;
-use vfs::Server;
+use mounting::Server;
 use mounting::mounted::open;
 use run_loop::WorldLink;
 use run_loop::run::run_all;

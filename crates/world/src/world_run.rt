@@ -6,16 +6,16 @@ ghost use Rattle.world.specs.Beginning.{IsNotBegun};
 ghost use Rattle.transcript.specs.ShownTranscript.{frame_count_of, transcript_of};
 ghost use Rattle.world.specs.Occurs.{RunShows};
 
+use crate::link::link_of;
+use crate::server::run_over;
+use crate::{RunRefusal, prepare_run};
 use file_server::FileServer;
 use inline::local::LocalDriver;
 use media::Media;
 use reincarnate::policy::Setup;
-use crate::link::link_of;
-use crate::server::run_over;
-use crate::{RunRefusal, prepare_run};
-use transcript::Transcript;
 use schedule::Event;
 use std::alloc::Global;
+use transcript::Transcript;
 
 /// Media are whole sectors.
 fn are_whole(media: &Media)

@@ -9,12 +9,12 @@ ghost use Rattle.store.specs.Halts.{Ends, IsHalt};
 ghost use Rattle.store.specs.Volume.{IsOn};
 ghost use Rattle.zone.specs.Pages.{MayHold, HoldsPlace, MayRelease, Releases};
 
-use crate::steps::{drop_in_block, drop_slot, hold_number, hold_slot};
-use layout::Geometry;
-use store::{Blocks, Halt};
-use inode::inode_table::load;
 use crate::numbers::numbers_in_zone;
 use crate::places::{find, first_places, slot_of};
+use crate::steps::{drop_in_block, drop_slot, hold_number, hold_slot};
+use inode::inode_table::load;
+use layout::Geometry;
+use store::{Blocks, Halt};
 
 /// The zone of a place, where it and the blocks on the way to it get one if they have none: the blocks first, so that at no time
 /// a zone hangs below a place that has none.

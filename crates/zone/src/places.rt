@@ -12,9 +12,9 @@ ghost use Rattle.zone.specs.ZoneSteps.{first_places, slot_of};
 ghost use Rattle.zone.specs.PlaceParts.{HasZones};
 
 use crate::numbers::{number, numbers, numbers_in_zone};
-use volume::Inode;
 use layout::Geometry;
 use store::{Blocks, Cut};
+use volume::Inode;
 
 /// How many places of a level stand in the inode itself.
 pub fn first_places(level: u32) -> u32

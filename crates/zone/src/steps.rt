@@ -14,11 +14,11 @@ ghost use Rattle.zone.specs.PlaceParts.{IsLastNumber};
 ghost use Rattle.zone.specs.Parts.{with_mark};
 ghost use Rattle.zone.specs.Steps.{MarksZone, TakesZone, HasRoom, HoldsSlot, MayHoldSlot, HoldsNumber, MayHoldNumber, DropsSlot, MayDropSlot, DropsNumber, MayDropNumber};
 
+use crate::numbers::{clear_zone, is_data_zone, last_number, number, set_number};
 use bitmap::{Map, clear, lowest_free, set};
+use inode::inode_table::{load, store};
 use layout::Geometry;
 use store::{Blocks, Halt};
-use inode::inode_table::{load, store};
-use crate::numbers::{clear_zone, is_data_zone, last_number, number, set_number};
 
 /// Marks the lowest free zone.
 fn mark_free<B: Blocks>(blocks: &mut B, geometry: &Geometry) -> Result<u32, Halt>

@@ -8,16 +8,16 @@ ghost use Rattle.stored.specs.World.{stored_caching};
 
 use cache::Cache;
 use file::write_at;
-use volume::Inode;
 use inode::inode_table::store;
 use layout::Geometry;
 use reissue::list_link::ListLink;
-use store::memory::Memory;
 use reissue::{Link, Transfers};
 use std::alloc::Global;
+use store::memory::Memory;
 use store::words::clear;
 use store::{Blocks, Halt};
 use stored::Stored;
+use volume::Inode;
 
 /// An empty file.
 const EMPTY: Inode = Inode {

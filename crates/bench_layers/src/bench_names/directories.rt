@@ -4,11 +4,11 @@ ghost use Rattle.std.specs.Prelude.{◌≡◌};
 ghost use Rattle.layout.specs.Places.{IsGeometry};
 
 use crate::bench_names::scans::{NAMES, name_of};
-use volume::Inode;
-use layout::Geometry;
 use crate::sizes::place_of;
-use store::memory::Memory;
+use layout::Geometry;
 use std::alloc::{AllocError, Global};
+use store::memory::Memory;
+use volume::Inode;
 
 /// A directory, its zones one after the other from the first data zone on, and behind them its single indirect block.
 #[derive(Drop)]

@@ -5,9 +5,9 @@ ghost use Rattle.store.specs.Volume.{IsOn};
 
 use crate::bench_names::directories::Directory;
 use directory::find;
-use volume::Inode;
 use layout::Geometry;
 use store::Blocks;
+use volume::Inode;
 
 /// How many names the directory has.
 pub(crate) const NAMES: u32 = 1000;

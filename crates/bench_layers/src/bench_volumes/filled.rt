@@ -1,7 +1,7 @@
 //! Full volumes, to be measured. Nothing is proved of them but that making them is safe; the check says whether they are clean.
 
-use layout::Geometry;
 use crate::sizes::place_of;
+use layout::Geometry;
 use new_volume::mkfs;
 use std::alloc::Global;
 

@@ -1,12 +1,12 @@
 //! What is measured, in a session.
 
 use crate::bench_calls::work::{Caller, at_start, copies, measure, once, rewind};
-use file_server::FileServer;
+use bench_layers::timing::say;
 use counting_link::recorder::Recorder;
 use counting_link::room::Room;
 use counting_link::steady::OnMedia;
+use file_server::FileServer;
 use launch::program::Program;
-use bench_layers::timing::say;
 use reissue::link::TrueLink;
 use serve::service::{Service, Shared};
 use std::alloc::Global;

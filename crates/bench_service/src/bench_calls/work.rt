@@ -1,9 +1,9 @@
 //! Work that is measured: calls, made again and again.
 
-use file_server::FileServer;
+use bench_layers::timing::{copy, micros_since, tell};
 use counting_link::recorder::Recorder;
 use counting_link::room::Room;
-use bench_layers::timing::{copy, micros_since, tell};
+use file_server::FileServer;
 use serve::service::Shared;
 use serve::session::Session;
 use std::io;

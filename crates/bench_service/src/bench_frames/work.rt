@@ -4,15 +4,15 @@ ghost use Rattle.std.specs.Prelude.{◌≡◌, IfSome};
 ghost use Rattle.cache.specs.Calls.{caching, IsReady};
 
 use bdev::{Accept, BlockDriver};
+use bench_layers::sizes::large_blocks;
 use cache::Cache;
 use driven::Driven;
 use flusher::{flush_some, sync};
 use launch::start::drivers_on;
-use bench_layers::sizes::large_blocks;
 use media::Media;
+use media::partition::Table;
 use message::{BlockRequest, Kind};
 use modeldisk::RamDriver;
-use media::partition::Table;
 use reincarnate::policy::Policy;
 use reissue::{Link, Transfers};
 use std::alloc::Global;

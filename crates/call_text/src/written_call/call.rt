@@ -3,8 +3,8 @@
 ghost use Rattle.std.specs.Prelude.{◌≡◌, ◌++◌, OnOk, length, replicate};
 ghost use Rattle.call_text.specs.WrittenCalls.{decoded, meant, plain};
 
-use std::alloc::AllocError;
 use crate::bytes::push_hex;
+use std::alloc::AllocError;
 use tree::Call;
 
 /// A call as words write it: the bytes of a write are still to be decoded.

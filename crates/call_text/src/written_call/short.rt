@@ -4,9 +4,9 @@ ghost use Rattle.std.specs.Prelude.{◌≡◌};
 ghost use Rattle.std.specs.Option.{option_map};
 ghost use Rattle.call_text.specs.WrittenCalls.{call_of_none, call_of_one, call_of_two, count, meant};
 
-use crate::written_call::call::WrittenCall;
 use crate::bytes::digits;
 use crate::words::{decimal, mode, path};
+use crate::written_call::call::WrittenCall;
 use tree::Call;
 
 /// How many bytes to read or to fill, at most 131072; none where the word is no such number.

@@ -12,11 +12,11 @@ ghost use Rattle.calls.specs.Numbers.{HasInodes};
 
 use crate::listing::names::NameMap;
 use directory::{entry, entry_inode, entry_name};
-use volume::Inode;
 use layout::Geometry;
 use std::alloc::{AllocError, Global};
 use store::{Blocks, Halt};
 use tree::Entry;
+use volume::Inode;
 
 /// Puts the name of entry k of a directory among others, if there is memory for it. Unsound only where its number is none of an inode.
 fn put_entry<B: Blocks>(

@@ -8,11 +8,11 @@ ghost use Rattle.store.specs.Volume.{IsOn};
 ghost use Rattle.file.specs.PageChanges.{MayChange, MayResize, Resized, SetsSize, PadsRest, Stamps};
 
 use crate::file_pages::writing::write_page;
-use zone::cutting::detach_from;
 use inode::inode_table::{load, store};
-use zone::places::lookup;
 use layout::Geometry;
 use store::{Blocks, Halt};
+use zone::cutting::detach_from;
+use zone::places::lookup;
 
 /// Makes the bytes zeros that stand in the last page behind the end of a file.
 fn pad_rest<B: Blocks>(blocks: &mut B, geometry: &Geometry, number: u32) -> Result<(), Halt>

@@ -9,11 +9,11 @@ ghost use Rattle.store.specs.Volume.{IsOn};
 ghost use Rattle.file.specs.Reading.{HasFileBytes, read_count};
 
 use crate::file_pages::rows::find_row;
-use volume::Inode;
-use zone::numbers::is_data_zone;
 use layout::Geometry;
 use store::words::read_bytes;
 use store::{Blocks, Cut};
+use volume::Inode;
+use zone::numbers::is_data_zone;
 
 /// Fills the slice with bytes of the page in a zone, from an offset of the page on. A page without a zone, which is zone 0, has zeros,
 /// and so has one whose number is no data zone's. Where the call is cut, the slice stays.

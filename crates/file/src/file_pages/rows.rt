@@ -6,10 +6,10 @@ ghost use Rattle.store.specs.World.{Reads};
 ghost use Rattle.store.specs.Volume.{IsOn};
 ghost use Rattle.zone.specs.PlaceParts.{HasZones};
 
-use volume::Inode;
-use zone::places::lookup_row;
 use layout::Geometry;
 use store::{Blocks, Cut};
+use volume::Inode;
+use zone::places::lookup_row;
 
 /// Fills the slice with the zones of the pages that so many bytes of a file touch, from a place (in bytes) on, and says of how many: at
 /// least of the first one, and of no more than the bytes touch. A hole's zone is 0 (MINIX format); to find several at once is our own.

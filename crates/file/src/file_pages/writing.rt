@@ -8,9 +8,9 @@ ghost use Rattle.store.specs.Halts.{Ends, IsHalt};
 ghost use Rattle.store.specs.Volume.{IsOn};
 ghost use Rattle.file.specs.Writing.{WritesPage, IsPageZone};
 
-use zone::numbers::write_zone;
 use layout::Geometry;
 use store::{Blocks, Halt};
+use zone::numbers::write_zone;
 
 /// Writes these bytes into the zone of a page, from an offset of the page on: the file whose page lies there has them then, up to
 /// its end, and all else stays. Unsound exactly where it is no data zone, and nothing is changed then. Where no page of a marked inode lies

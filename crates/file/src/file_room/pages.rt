@@ -8,11 +8,11 @@ ghost use Rattle.store.specs.Volume.{IsOn};
 ghost use Rattle.zone.specs.Pages.{place_count};
 ghost use Rattle.file.specs.Need.{holes, NeedsAt, NeedsMore};
 
-use volume::Inode;
-use zone::places::{find, first_places};
-use zone::numbers::numbers_in_zone;
 use layout::Geometry;
 use store::{Blocks, Cut};
+use volume::Inode;
+use zone::numbers::numbers_in_zone;
+use zone::places::{find, first_places};
 
 /// 1 where no zone stands, else 0.
 fn count_of(zone: u32) -> u32

@@ -10,8 +10,8 @@ use crate::sector_mover::chunks::{chunk_at, put_chunk};
 use bdev::{Accept, Answer, Run, Step};
 use errno::Errno;
 use media::Media;
-use message::{BlockRequest, Kind, moved_bytes};
 use media::partition::Table;
+use message::{BlockRequest, Kind, moved_bytes};
 
 /// Moves the sectors of one request at a time, in the order of a sweep.
 #[derive(Clone, Copy)]

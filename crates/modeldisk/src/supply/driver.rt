@@ -1,9 +1,9 @@
 //! A driver of either kind.
 
+use crate::{ModelDriver, RamDriver};
 use bdev::{Accept, BlockDriver, Step};
 use media::Media;
 use message::BlockRequest;
-use crate::{ModelDriver, RamDriver};
 
 /// A driver of a disk in memory.
 #[derive(Drop)]

@@ -11,13 +11,13 @@ ghost use Rattle.zone.specs.Pages.{place_count, child_at};
 ghost use Rattle.zone.specs.CutFiles.{IsLastAt, IsFull, IsLastHeld, IsLastFrom, MayDetach, DetachesFrom};
 ghost use Rattle.zone.specs.Slots.{IsLastSlot};
 
-use layout::Geometry;
-use store::{Blocks, Halt};
 use crate::holding::release;
-use volume::Inode;
-use inode::inode_table::load;
 use crate::numbers::{last_number, numbers_in_zone};
 use crate::places::{find, first_places};
+use inode::inode_table::load;
+use layout::Geometry;
+use store::{Blocks, Halt};
+use volume::Inode;
 
 /// The last slot of an inode that isn't 0.
 fn last_slot(inode: &Inode) -> Option<u32>

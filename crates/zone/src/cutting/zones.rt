@@ -1,2 +1,1 @@
 //! The zones of files, for those above that stand on this crate.
-

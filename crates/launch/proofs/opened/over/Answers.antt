@@ -1,7 +1,7 @@
 use Rattle.std.proofs.Common.{sym, subst}
 use Rattle.layout.specs.declared.Geometry.{Geometry}
 use Rattle.records.specs.Mount.{OpenKeeps}
-use Rattle.vfs.specs.OverLink.{serving_over}
+use Rattle.mounting.specs.vfs.OverLink.{serving_over}
 use Rattle.shared_server.proofs.HeldLaws.{held_at_first}
 use Rattle.launch.proofs.opened.over.Goals as goal
 
