@@ -28,7 +28,7 @@ use Rattle.cache.specs.Frames.{CacheAgrees, frame_of, frames_of}
 use Rattle.descriptors.specs.Files.{Files, HasFiles}
 use Rattle.descriptors.specs.Made.{no_files}
 use Rattle.descriptors.specs.Table.{files_of}
-use Rattle.vfs.specs.calls.Calls.{is_busy}
+use Rattle.vfs.specs.client_calls.Calls.{is_busy}
 use Rattle.stored.specs.declared.Stored.{Stored}
 use Rattle.vfs.specs.declared.server.Server.{Server}
 use Rattle.vfs.specs.Serving.{server_of}

@@ -5,7 +5,7 @@ ghost use Rattle.layout.specs.Places.{IsGeometry};
 ghost use Rattle.store.specs.Volume.{IsOn};
 
 use bitflags::Flags;
-use calls::body;
+use client_calls::body;
 use descriptors::Descriptors;
 use errno::Errno;
 use layout::Geometry;

@@ -17,7 +17,7 @@ use Rattle.stored.specs.World.{Leads, Sees, reason}
 use Rattle.cache.specs.Edits.{AllClean}
 use Rattle.std.specs.Prelude.{IsTrue}
 use Rattle.descriptors.specs.Files.{Files}
-use Rattle.calls.specs.Calls.{DoesCall}
+use Rattle.client_calls.specs.Calls.{DoesCall}
 use Rattle.vfs.specs.Outcomes.{stopped}
 use Rattle.file_server.specs.Over.{CallsOver, outcome_of}
 use Rattle.vfs.specs.Serving.{MayServe, server_of}

@@ -35,7 +35,7 @@ use Rattle.stored.specs.World.{Leads, Sees}
 use Rattle.flusher.proofs.Flushing.{synced}
 use Rattle.cache.specs.Edits.{AllClean}
 use Rattle.descriptors.specs.Files.{Files, HasFiles}
-use Rattle.calls.specs.Calls.{IsDone, DoesCall, is_busy}
+use Rattle.client_calls.specs.Calls.{IsDone, DoesCall, is_busy}
 use Rattle.records.specs.Opening.{Opening, contents_at}
 use Rattle.file_server.specs.Over.{CallsOver}
 use Rattle.vfs.specs.Serving.{IsServer, server_of}

@@ -8,7 +8,7 @@ use Rattle.cache.specs.Calls.{Caching, IsLive}
 use Rattle.cache.specs.Edits.{AllClean}
 use Rattle.stored.specs.World.{Leads, Sees}
 use Rattle.descriptors.specs.Files.{Files}
-use Rattle.calls.specs.Calls.{is_busy}
+use Rattle.client_calls.specs.Calls.{is_busy}
 use Rattle.vfs.specs.Serving.{MayServe, server_of}
 use Rattle.vfs.specs.UnmountingLaws.{UnmountsOver}
 use Rattle.vfs.proofs.Ending.{none, false_true}

@@ -9,7 +9,7 @@ use Rattle.store.specs.declared.Cut.{Cut as Why}
 use Rattle.store.specs.declared.Cut.TheVariants.{Eio, LinkEnded}
 use Rattle.stored.specs.World.{Leads, Sees, reason}
 use Rattle.descriptors.specs.Files.{Files}
-use Rattle.calls.specs.Calls.{is_busy}
+use Rattle.client_calls.specs.Calls.{is_busy}
 use Rattle.vfs.specs.declared.unmounting.UnmountRefusal.{UnmountRefusal}
 use Rattle.vfs.specs.declared.unmounting.UnmountRefusal.TheVariants as refusal
 use Rattle.vfs.specs.Serving.{MayServe, server_of}

@@ -15,7 +15,7 @@ use Rattle.cache.specs.Calls.{Caching, HandsOver, IsLive, IsWhyCut}
 use Rattle.cache.specs.Edits.{AllClean}
 use Rattle.stored.specs.World.{Leads, Sees, reason}
 use Rattle.descriptors.specs.Files.{Files}
-use Rattle.calls.specs.Calls.{DoesCall, is_busy}
+use Rattle.client_calls.specs.Calls.{DoesCall, is_busy}
 use Rattle.file_server.specs.Over.{AbsorbsOver, CallsOver, outcome_of}
 use Rattle.vfs.specs.Serving.{MayServe, Spends, server_of}
 use Rattle.vfs.specs.Outcomes.{stopped}

@@ -9,4 +9,4 @@ pub mod Server
 pub mod OverLink
 pub mod LineLaws
 pub mod Unmounting
-pub use Rattle.calls.specs as calls
+pub use Rattle.client_calls.specs as client_calls

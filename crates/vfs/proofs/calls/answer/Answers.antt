@@ -3,7 +3,7 @@ use Rattle.volume.specs.Reading.{Disk}
 use Rattle.tree.specs.Answers.{answer_of}
 use Rattle.store.proofs.Turns.{turns_then}
 use Rattle.descriptors.specs.Table.{files_of}
-use Rattle.calls.specs.Calls.{DoesCall}
+use Rattle.client_calls.specs.Calls.{DoesCall}
 use Rattle.vfs.proofs.Spending.{spends_none, spends_on}
 use Rattle.vfs.proofs.Ending.{stopped_at_once, stopped_later, ends_well}
 use Rattle.vfs.proofs.calls.answer.Goals as goal

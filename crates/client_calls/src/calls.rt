@@ -1,0 +1,118 @@
+//! The body of each call.
+
+ghost use Rattle.std.specs.Prelude.{◌≡◌, ◌≢◌, IfOk, IfErr, IsTrue};
+ghost use Rattle.tree.specs.Answers.{answer_of, refused};
+ghost use Rattle.records.specs.Legal.{is_success, is_sync};
+ghost use Rattle.descriptors.specs.Table.{files_of};
+ghost use Rattle.store.specs.World.{Turns};
+ghost use Rattle.store.specs.Volume.{IsOn};
+ghost use Rattle.store.specs.Halts.{IsHalt};
+ghost use Rattle.tree.specs.Effects.{user_of};
+ghost use Rattle.client_calls.specs.Calls.{DoesCall, MeetsCall};
+
+use crate::closing::close;
+use crate::listing::readdir;
+use calls_data::open_files::{dup, fstat};
+use calls_data::reading::read;
+use calls_data::seeking::seek;
+use calls_data::whole::{statfs, sync};
+use calls_data::{chmod, chown, stat, truncate, utime, write};
+use calls_open::{mkdir, open};
+use calls_rename::calls_link::{link, rmdir, unlink};
+use calls_rename::rename;
+use descriptors::Descriptors;
+use errno::Errno;
+use layout::Geometry;
+use std::alloc::Global;
+use store::{Blocks, Cut, Halt};
+use tree::{Call, MAX_SESSIONS, Reply, User, Who};
+
+/// The user who calls.
+fn user_of(who: Who) -> User
+    ensures { result ≡ user_of who }
+{
+    User {
+        uid: who.uid,
+        gid: who.gid,
+    }
+}
+
+/// The call by its kind.
+fn perform<B: Blocks>(
+    alloc: Global,
+    blocks: &mut B,
+    opens: &mut Descriptors,
+    geometry: &Geometry,
+    who: Who,
+    now: u32,
+    call: &Call,
+) -> Result<Reply, Halt>
+    requires on { IsOn B.world geometry.now blocks.old }
+    ensures turns { Turns B.world blocks.old blocks.new (λ d e.
+        MeetsCall geometry.now who now call.now result (files_of opens.old) (files_of opens.new) d e) }
+    ensures synced { IfOk result (λ r. IsTrue (is_sync call.now) → IsTrue (is_success (answer_of r)) → B.world.synced blocks.new) }
+    ensures halt { IfErr result (λ h. IsHalt B.world blocks.new h) }
+    ensures proper { IfOk result (λ r. answer_of r ≢ refused Errno.EIO) }
+{
+    if who.session >= MAX_SESSIONS {
+        return Ok(Reply::Refused(Errno::EINVAL));
+    }
+    let session = who.session;
+    let user = user_of(who);
+    match *call {
+        Call::Open { path, flags, mode } => {
+            open(
+                blocks, opens, geometry, user, now, session, path, flags, mode,
+            )
+        }
+        Call::Close { fd } => close(blocks, opens, geometry, session, fd),
+        Call::Dup { fd } => Ok(dup(opens, session, fd)),
+        Call::Read { fd, count } => read(alloc, blocks, opens, geometry, session, fd, count),
+        Call::Seek { fd, whence, offset } => {
+            seek(blocks, opens, geometry, session, fd, whence, offset)
+        }
+        Call::Stat { path } => stat(blocks, geometry, user, path),
+        Call::Fstat { fd } => fstat(blocks, opens, geometry, session, fd),
+        Call::Unlink { path } => unlink(blocks, opens, geometry, user, now, path),
+        Call::Rmdir { path } => rmdir(blocks, opens, geometry, user, now, path),
+        Call::Chmod { path, mode } => chmod(blocks, geometry, user, now, path, mode),
+        Call::Chown { path, uid, gid } => chown(blocks, geometry, user, now, path, uid, gid),
+        Call::Utime { path, atime, mtime } => {
+            utime(blocks, geometry, user, now, path, atime, mtime)
+        }
+        Call::Readdir { fd } => readdir(alloc, blocks, opens, geometry, session, fd),
+        Call::Sync => sync(blocks, geometry),
+        Call::Statfs => statfs(blocks, geometry),
+        Call::Write { fd, bytes } => write(blocks, opens, geometry, now, session, fd, bytes),
+        Call::Truncate { path, size } => truncate(blocks, geometry, user, now, path, size),
+        Call::Link { old, new } => link(blocks, geometry, user, now, old, new),
+        Call::Mkdir { path, mode } => mkdir(blocks, geometry, user, now, path, mode),
+        Call::Rename { old, new } => rename(blocks, opens, geometry, user, now, old, new),
+    }
+}
+
+/// Does a client call. EINVAL where the session isn't one that may be, before anything else is looked at. EIO is never answered, and
+/// after a sync that succeeded all that was changed is written. A volume that turns out not to be sound holds no tree; the call is
+/// refused with EINVAL then. Read and readdir take memory for their answer, and no other call takes any.
+pub fn body<B: Blocks>(
+    alloc: Global,
+    blocks: &mut B,
+    opens: &mut Descriptors,
+    geometry: &Geometry,
+    who: Who,
+    now: u32,
+    call: &Call,
+) -> Result<Reply, Cut>
+    requires on { IsOn B.world geometry.now blocks.old }
+    ensures turns { Turns B.world blocks.old blocks.new (λ d e. IfOk result (λ r.
+        DoesCall geometry.now who now call.now (answer_of r) (files_of opens.old) (files_of opens.new) d e)) }
+    ensures synced { IfOk result (λ r. IsTrue (is_sync call.now) → IsTrue (is_success (answer_of r)) → B.world.synced blocks.new) }
+    ensures cut { IfErr result (λ c. B.world.over blocks.new c) }
+    ensures proper { IfOk result (λ r. answer_of r ≢ refused Errno.EIO) }
+{
+    match perform(alloc, blocks, opens, geometry, who, now, call) {
+        Ok(reply) => Ok(reply),
+        Err(Halt::Cut(cut)) => Err(cut),
+        Err(Halt::Unsound) => Ok(Reply::Refused(Errno::EINVAL)),
+    }
+}
