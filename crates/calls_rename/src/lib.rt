@@ -1,6 +1,4 @@
-//! The call `rename`, over any blocks: what its moves need of the tree, whether there is room for them, and the call. No memory is taken.
-//!
-//! What a rename asks before it moves, over any blocks: what its two paths name, and what bars the move. Nothing is changed, and no memory
+//! The client call `rename`, over any blocks: what its two paths name, what bars the move, whether there is room, and the move. No memory
 //! is taken.
 #![tactic(auto)]
 

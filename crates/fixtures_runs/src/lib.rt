@@ -1,6 +1,4 @@
-//! Runs of schedules on new volumes, over boxed drivers, and whether they come out as a row says.
-//!
-//! What rows of runs begin with beside images, and how what came of a run is compared with what a row says.
+//! Runs of schedules on new volumes, over boxed drivers, and whether they come out as a test says.
 #![tactic(auto)]
 
 pub mod failing;

@@ -2,6 +2,7 @@
 use Rattle.std.proofs.Common.{◌≡◌, ℕ, zero, suc, ◌<◌, ◌≤◌, List, [], ◌∷◌, ◌++◌, length, Bool, true, false, refl, sym, ◌∙◌, ap, subst, arith}
 use Rattle.std.proofs.lemmas.Bool.Decides.{nat_tests}
 use Rattle.std.specs.Prelude.{◌&&◌, ◌||◌, nat_le, map, reverse, Option, Some, None, Result, is_ok, is_some, slice_get}
+use Rattle.lemmas.proofs.Bools.{and_both, or_right}
 use Rattle.message.specs.declared.endpoint.Endpoint.{Endpoint}
 use Rattle.message.specs.declared.BlockRequest.{BlockRequest}
 use Rattle.message.specs.declared.Incoming.{Incoming}
@@ -196,17 +197,13 @@ delivered_some : (o : Option Sent) (message : Incoming) → Some message ≡ del
 delivered_some None message is = cc
 delivered_some (Some s) message is = refl
 
-or_told : (handed told : Bool) → told ≡ true → (handed || told) ≡ true
-or_told true told is = refl
-or_told false told is = is
-
 runs_handed : (place : ℕ) (e : Event) (b : Scene) (message : Incoming) (a : Scene) (marks : List Mark)
     → Occurs place e (begun_scene e b) (Some message) a
     → (with_message message a.noted).groups ≡ (e, marks) ∷ b.noted.groups → length b.noted.groups ≡ place
     → Each (λ s. s.place < place) b.disks.sent
     → (is_handed a.disks.sent e b.noted.groups || is_told marks) ≡ true
 runs_handed place (event.Arrive who now call) b message a marks p is at low =
-    or_told (is_handed a.disks.sent (event.Arrive who now call) b.noted.groups) (is_told marks)
+    or_right (is_handed a.disks.sent (event.Arrive who now call) b.noted.groups) (is_told marks)
     (told_first message a.noted (event.Arrive who now call) marks b.noted.groups (none_tells message (sym p.0)) is)
 runs_handed place event.Flush b message a marks p is at low = refl
 runs_handed place event.Tick b message a marks p is at low =
@@ -297,10 +294,6 @@ last_acts : (sent : List Sent) (groups : List Group) (begun : IsBegun groups) �
     → acts_when_handed (is_handed sent begun.event begun.earlier) begun.group ≡ true
 last_acts sent groups begun each = (subst (λ (l : List Group). EachGroup (ActsAsDue sent) l) begun.is each).0
 
-both_true : (x y : Bool) → x ≡ true → y ≡ true → (x && y) ≡ true
-both_true true y was_so also = also
-both_true false y was_so also = cc
-
 -- whether the server was handed something, in the last group
 handed_last : (sent : List Sent) (groups : List Group) (begun : IsBegun groups)
     → was_handed sent groups ≡ (is_handed sent begun.event begun.earlier || is_told begun.group)
@@ -319,7 +312,7 @@ done_mark sent n m begun asks tells_not handed each =
     let now : (is_handed sent begun.event begun.earlier || is_told begun.group) ≡ true = sym (handed_last sent n.groups begun) ∙ handed in (
       mark_acts sent n m begun
           (asks (is_handed sent begun.event begun.earlier) begun.group
-          ∙ both_true (is_handed sent begun.event begun.earlier || is_told begun.group) _ now (last_acts sent n.groups begun each)) each,
+          ∙ and_both (is_handed sent begun.event begun.earlier || is_told begun.group) _ now (last_acts sent n.groups begun each)) each,
       handed_mark sent n m begun ∙ ap (λ (t : Bool). is_handed sent begun.event begun.earlier || t) (tells_not begun.group) ∙ now,
     )
 
@@ -328,7 +321,7 @@ owed_acts : (sent : List Sent) (n : Noted) (begun : IsBegun n.groups) → EachGr
     → EachGroup (ActsAsDue sent) (with_mark GaveUp n).groups × (was_handed sent (with_mark GaveUp n).groups ≡ true)
 owed_acts sent n begun each = (
   mark_acts sent n GaveUp begun (last_acts sent n.groups begun each) each,
-  handed_mark sent n GaveUp begun ∙ or_told (is_handed sent begun.event begun.earlier) true refl,
+  handed_mark sent n GaveUp begun ∙ or_right (is_handed sent begun.event begun.earlier) true refl,
 )
 
 -- the server is at work, and the link hasn't ended: it was handed something

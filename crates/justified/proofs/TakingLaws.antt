@@ -1,6 +1,7 @@
 -- What stands with a driver was issued to it.
 use Rattle.std.proofs.Common.{◌≡◌, ℕ, zero, suc, ◌+◌, ◌≤◌, List, [], ◌∷◌, ◌++◌, length, Bool, true, false, refl, sym, ◌∙◌, ap, subst, arith, ◌⊎◌, inl, inr}
 use Rattle.std.specs.Prelude.{◌&&◌, ◌||◌, ◌==◌, if◌then◌else◌, map, Option, Some, None, IfSome, IsSomeAnd, slice_get}
+use Rattle.lemmas.proofs.Bools.{or_right}
 use Rattle.message.specs.declared.BlockRequest.{BlockRequest}
 use Rattle.message.specs.declared.BlockReply.{BlockReply}
 use Rattle.media.specs.Contents.{MediaState}
@@ -27,7 +28,7 @@ use Rattle.justified.proofs.SaidLaws.{runs_said}
 use Rattle.justified.proofs.OpeningLaws.{opened_scene, opened_said, opened_follows, begins_before, calm_before}
 use Rattle.justified.specs.Took.{TookNothing, replies_from, IssuedSoFar, SlotTook, TookSoFar}
 use Rattle.justified.specs.TookLaws.{TookIsKept, RunsGiveTook, RunsKeepTook}
-use Rattle.justified.proofs.Small.{or_right, each_push, each_on}
+use Rattle.justified.proofs.Small.{each_push, each_on}
 use Rattle.justified.proofs.Moves.{answers_of}
 use Rattle.justified.proofs.DriverMoves.{Handing, Leaves, IsOld, IsTaken, handing, Stepping, Idles, GoesOn, Ends, stepping}
 use Rattle.justified.proofs.EachDriver.{Keeps, HoldsOf, slots_as}

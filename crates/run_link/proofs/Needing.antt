@@ -1,6 +1,7 @@
 -- Where the link has ended in a run, the server needs a message.
 use Rattle.std.proofs.Common.{◌≡◌, ℕ, ◌+◌, List, [], ◌∷◌, ◌++◌, Bool, true, false, cond, refl, sym, ◌∙◌, ap, subst}
 use Rattle.std.specs.Prelude.{Option, Some, None, is_some, not, ◌||◌, ◌&&◌, nat_lt}
+use Rattle.lemmas.proofs.Bools.{true_not_false}
 use Rattle.message.specs.declared.endpoint.Endpoint.{Endpoint}
 use Rattle.message.specs.declared.BlockRequest.{BlockRequest}
 use Rattle.message.specs.declared.Incoming.{Incoming}
@@ -13,7 +14,7 @@ use Rattle.schedule.specs.declared.arrived.Arrived.{Arrived}
 use Rattle.run_link.specs.StateView as link
 use Rattle.run_link.specs.StateView.{RunState, RunsEvent, Turn}
 use Rattle.run_link.specs.Moments.{Doing, Resting, Hearing, Answering, is_busy, Moment, record_of, at_link, Step, Begins, Tells, Takes, Settles, Brings, BringsNone, Pays, HandsCall, Replies, Runs, Starts, Then, Needs, RunsEndNeeding}
-use Rattle.run_link.proofs.Running.{turn_record, came_live, no_true}
+use Rattle.run_link.proofs.Running.{turn_record, came_live}
 
 one_more : (rs : List BlockRequest) (r : BlockRequest) → has_none (rs ++ r ∷ []) ≡ false
 one_more [] r = refl
@@ -88,8 +89,8 @@ told_wants minor (Received message) marks o quiet may w = cc
 -- where the link ends
 ended_wants : (m : Moment) (message : Incoming) (a : RunState) → MayTake (record_of m.play) m.outbox → Turn m.play (Received message) a → a.over ≡ true
     → Wants (record_of a) (owed_after_act (AtLink (Received message)) (record_of m.play) m.outbox)
-ended_wants m message _ may (link.Takes _ a far) over = absurd (no_true (sym over ∙ came_live m.play a message far))
-ended_wants m _ _ may (link.TakesOwed live owed first) over = absurd (no_true (sym over ∙ live))
+ended_wants m message _ may (link.Takes _ a far) over = absurd (true_not_false (sym over ∙ came_live m.play a message far))
+ended_wants m _ _ may (link.TakesOwed live owed first) over = absurd (true_not_false (sym over ∙ live))
 ended_wants m _ _ may (link.TakesEnd a live ends) over =
     subst (λ (l : List Mark). Wants l m.outbox) (sym (turn_record m.play (link.ended a) (Received incoming.End) (link.TakesEnd a live ends)))
     (record { needed = may.needed; not_given_up = may.live })
@@ -103,7 +104,7 @@ told_over b _ _ (link.Posts to r result d unended lines) quiet = refl
 told_over b _ _ (link.Complains about) quiet = refl
 
 not_ended : {A : Type 0} (b a : RunState) → a.over ≡ b.over → b.over ≡ false → a.over ≡ true → A
-not_ended b a same live over = absurd (no_true (sym over ∙ same ∙ live))
+not_ended b a same live over = absurd (true_not_false (sym over ∙ same ∙ live))
 
 not_hearing : {A : Type 0} (doing : Doing) (message : Incoming) (call : Arrived) → doing ≡ Hearing message → doing ≡ Answering call → A
 not_hearing doing message call hears answers = cc
@@ -132,11 +133,11 @@ step_needs minor m _ before (Settles message hears rest) over =
     let n : Needs m = before over in not_hearing m.doing message n.call hears n.answers
 step_needs minor m _ before (Brings message a between none next) over = not_ended m.play a next.over between.live over
 step_needs minor m _ before (BringsNone a between none next) over = not_ended m.play a next.over between.live over
-step_needs minor m _ before (Pays between owed first) over = absurd (no_true (sym over ∙ between.live))
+step_needs minor m _ before (Pays between owed first) over = absurd (true_not_false (sym over ∙ between.live))
 step_needs minor m _ before (HandsCall call a between paid hands) over =
     not_ended m.play a (ap (λ (p : RunState). p.over) hands.after) between.live over
-step_needs minor m _ before (Replies call reply answers live rest) over = absurd (no_true (sym over ∙ live))
+step_needs minor m _ before (Replies call reply answers live rest) over = absurd (true_not_false (sym over ∙ live))
 
 pub runs_end_needing : RunsEndNeeding
-runs_end_needing minor b _ Starts live over = absurd (no_true (sym over ∙ live))
+runs_end_needing minor b _ Starts live over = absurd (true_not_false (sym over ∙ live))
 runs_end_needing minor b a (Then m _ before last) live over = step_needs minor m a (λ over_before. runs_end_needing minor b m before live over_before) last over

@@ -2,6 +2,7 @@
 use Rattle.std.proofs.Common.{◌≡◌, ◌⊎◌, inl, inr, ℕ, suc, ◌+◌, ◌≤◌, List, [], ◌∷◌, ◌++◌, Bool, true, false, cond, refl, sym, ◌∙◌, ap, subst, arith, length}
 use Rattle.std.specs.Prelude.{Option, Some, None, is_ok, not, ◌||◌, ◌&&◌}
 use Rattle.std.proofs.lemmas.List.{length-append}
+use Rattle.lemmas.proofs.Bools.{true_not_false}
 use Rattle.message.specs.declared.BlockRequest.{BlockRequest}
 use Rattle.message.specs.declared.Incoming.{Incoming}
 use Rattle.message.specs.declared.Incoming.TheVariants as incoming
@@ -29,9 +30,6 @@ use Rattle.run_link.proofs.MovingLaws.{far_history, far_no_end, IsNoEnd, message
 -- the history of a link
 abbrev pub history_of : RunState → List Told
 history_of p = p.scene.noted.history
-
-pub no_true : ◌≡◌ {A = Bool} true false → ⊥
-no_true h = cc
 
 -- an event changes neither the server's record nor whether the link has ended
 pub next_record : (b a : RunState) (result : Option Incoming) → RunsEvent b result a → record_of a ≡ record_of b
@@ -297,7 +295,7 @@ spent_still true gives told over paid ended = paid
 spent_still false true true true paid ended = refl
 spent_still false true false true paid ended = refl
 spent_still false false told true paid ended = refl
-spent_still false gives told false paid ended = absurd (no_true (sym ended))
+spent_still false gives told false paid ended = absurd (true_not_false (sym ended))
 
 to_end_rightly : (b a : RunState) → ComesToEnd b a → (a.starved ≡ true) ⊎ IsSpent a
 to_end_rightly b a (IsRunOut _ far spent) = inr spent
@@ -319,8 +317,8 @@ complained_spent about b over (inr spent) =
     inr (record { events = spent.events; paid = spent_still b.owed (gives_up (ruling_at about b.scene)) b.told b.over spent.paid over })
 
 turn_ends_rightly : (b a : RunState) (told : Told) → Turn b told a → IsEndedRightly b → IsEndedRightly a
-turn_ends_rightly b _ _ (link.Takes message a far) h = record { why = λ over. absurd (no_true (sym over ∙ came_live b a message far)) }
-turn_ends_rightly b _ _ (link.TakesOwed live owed first) h = record { why = λ over. absurd (no_true (sym over ∙ live)) }
+turn_ends_rightly b _ _ (link.Takes message a far) h = record { why = λ over. absurd (true_not_false (sym over ∙ came_live b a message far)) }
+turn_ends_rightly b _ _ (link.TakesOwed live owed first) h = record { why = λ over. absurd (true_not_false (sym over ∙ live)) }
 turn_ends_rightly b _ _ (link.TakesEnd a live ends) h = record { why = λ over. ended_spent a (to_end_rightly b a ends) }
 turn_ends_rightly b _ _ (link.Posts to r result d unended lines) h = record { why = λ over. posted_spent to r (is_ok result) d b (h.why over) }
 turn_ends_rightly b _ _ (link.Complains about) h = record { why = λ over. complained_spent about b over (h.why over) }

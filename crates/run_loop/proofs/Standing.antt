@@ -2,6 +2,7 @@
 use Rattle.std.proofs.Common.{◌≡◌, ◌⊎◌, ◌<◌, List, [], ◌∷◌, ◌++◌, Bool, true, false, refl, sym, ◌∙◌, ap, subst, arith}
 use Rattle.std.specs.Prelude.{◌||◌, Option, Some, None, Result, Ok, Err, IfOk, OnOk, OnErr}
 use Rattle.std.specs.declared.alloc.AllocError.{AllocError}
+use Rattle.lemmas.proofs.Bools.{is_false, true_not_false}
 use Rattle.message.specs.declared.Incoming.{Incoming}
 use Rattle.tree.specs.Tree.{Tree}
 use Rattle.tree.specs.declared.Reply.{Reply}
@@ -215,13 +216,9 @@ noted {Line} truth play s t before lent after there arrived reply r value put sa
 not_cut : (answer : Answer) → ◌≡◌ (Replied answer) WasCutOff → ⊥
 not_cut answer h = cc
 
-goes_unended : (ended : Bool) → (ended ≡ true → ⊥) → ended ≡ false
-goes_unended true none = absurd (none refl)
-goes_unended false none = refl
-
 answered_ended : (s t : Serving) (was is : Truth) (arrived : Arrived) (reply : Reply)
     → CallsOver s t was is arrived.who arrived.now arrived.call (Replied (answer_of reply)) → t.ended ≡ false
-answered_ended s t was is arrived reply calls = goes_unended t.ended (λ over. not_cut (answer_of reply) (calls.keeps.cut.1 over))
+answered_ended s t was is arrived reply calls = is_false t.ended (λ over. not_cut (answer_of reply) (calls.keeps.cut.1 over))
 
 pub answered_over : (s t : Serving) (was is : Truth) (b a : RunState) (arrived : Arrived) (reply : Reply)
     → CallsOver s t was is arrived.who arrived.now arrived.call (Replied (answer_of reply)) → GoesOn b a → IsLive (Answering arrived) s b
@@ -275,9 +272,6 @@ answered_to s t u was is after b m a arrived reply calls on n live first last th
       calls = it_is_answered m a arrived reply n.answers (servers_hand_none (arrival_of arrived ∷ []) b m on live.calls);
     }
 
-not_over : ◌≡◌ {A = Bool} true false → ⊥
-not_over h = cc
-
 -- a call was cut
 pub cut_off : (s t : Serving) (was is : Truth) (b a : RunState) (arrived : Arrived) → CallsOver s t was is arrived.who arrived.now arrived.call WasCutOff
     → GoesOn b a → IsLive (Answering arrived) s b → IsGuarantee was b → s.told ≡ history_of b → t.told ≡ history_of a
@@ -306,7 +300,7 @@ cut_to s t was is b a arrived calls on live first last =
       ended = ended;
       over = over_is_ended s t b a (told_of calls.keeps.acts) live.told_of_end (goes_told_of_end b a on live.told_of_end)
           (call_history s t was is b a arrived WasCutOff calls first last) calls.keeps.leads.ended (live.ended ∙ sym live.live) ∙ ended;
-      why = (servers_end_rightly b a on (record { why = λ over. absurd (not_over (sym over ∙ live.live)) })).why
+      why = (servers_end_rightly b a on (record { why = λ over. absurd (true_not_false (sym over ∙ live.live)) })).why
           (over_is_ended s t b a (told_of calls.keeps.acts) live.told_of_end (goes_told_of_end b a on live.told_of_end)
           (call_history s t was is b a arrived WasCutOff calls first last) calls.keeps.leads.ended (live.ended ∙ sym live.live) ∙ ended);
       calls = servers_hand_none (arrival_of arrived ∷ []) b a on live.calls;

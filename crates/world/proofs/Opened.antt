@@ -15,11 +15,6 @@ use Rattle.reincarnate.specs.Supply.{ReincarnationState, NewAnswers}
 use Rattle.run_loop.specs.Starts.{IsBeforeFirst}
 use Rattle.world.specs.ServerRuns.{IsFresh}
 
--- a promise of what is there holds of what follows from it
-pub if_ok : {A E : Type 0} (P Q : A → Type 0) (r : Result A E) → ((a : A) → P a → Q a) → IfOk r P → IfOk r Q
-if_ok P Q (Ok a) f h = f a h
-if_ok P Q (Err e) f h = tt
-
 -- a link that was just made is one that waits for its first event
 pub fresh : (media : MediaState) (rules : Policy) (watch : Watch) (supply : List DriverState) (events : List Event) (p : RunState)
     → IsOpened media rules watch supply events p → IsFresh events (length media.sectors) p
