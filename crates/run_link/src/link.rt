@@ -21,7 +21,7 @@ impl<'a, D: LocalDriver> RunLink<'a, D> {
     ghost use Rattle.driver_events.specs.Kept.{with_next};
     ghost use Rattle.run_link.specs.StateView.{run_of, RunsEvent, Advances, ComesToEnd, RunTruth, GoesOn, left_of};
 
-    /// Occurs the next event: what message it brings, if any.
+    /// Runs the next event: what message it brings, if any.
     pub fn play(&mut self) -> Option<Incoming>
         requires left { self.old.next < length self.old.events.now }
         requires live { self.old.log.over ≡ false }
@@ -42,7 +42,7 @@ impl<'a, D: LocalDriver> RunLink<'a, D> {
     }
 
     #[tactic(auto, using(crate::proofs::MovingLaws::advanced, crate::proofs::MovingLaws::advanced_more))]
-    /// Occurs events until one brings a message; none, if each was run or no memory was found.
+    /// Runs events until one brings a message; none, if each was run or no memory was found.
     fn advance(&mut self) -> Option<Incoming>
         requires live { self.old.log.over ≡ false }
         requires paid { self.old.owed ≡ false }

@@ -59,7 +59,7 @@ pub trait WorldLink: Ran + Drop {
     fn waiting(&self) -> u64
         ensures { result ≡ length (Self.Ran.play self.now).queue };
 
-    /// Occurs the next event between two calls, or tells that a complaint gave the device up, if that is owed: the message that the server
+    /// Runs the next event between two calls, or tells that a complaint gave the device up, if that is owed: the message that the server
     /// is to be handed, if there is one. An error: no memory was found, and nothing was done.
     fn aside(&mut self) -> Result<Option<Incoming>, AllocError>
         requires left { ((Self.Ran.play self.old).owed ≡ true)

@@ -192,7 +192,7 @@ fn unanswered_calls(cut: bool, waiting: u64) -> u64
     if cut { waiting + 1 } else { waiting }
 }
 
-/// Occurs a run out, from before its first event: how many calls of those that arrived have no answer. An error: no memory was found.
+/// Runs a schedule out, from before its first event: how many calls of those that arrived have no answer. An error: no memory was found.
 ///
 /// Each event is run, in its order, and each call that arrives is begun, in its order, once the one before it was answered and what was
 /// owed was told, before the next event; the last one may be cut, where the link has ended. Then the replies are those of the file tree,
