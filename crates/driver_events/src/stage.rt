@@ -218,7 +218,7 @@ impl<D: LocalDriver> Stage<D> {
     }
 
     /// What an event does to the drivers, the one with this number, and what message it brings. The calls that arrive wait elsewhere.
-    pub fn play(
+    pub fn run(
         &mut self,
         alloc: Global,
         log: &mut Log,

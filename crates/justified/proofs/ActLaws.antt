@@ -434,50 +434,50 @@ out_handed b a call doing live hands (HasNoWork rests none) =
 record ActsStand (m : Moment) : Type 0 where
   calm : OverCalm m
   begun : HasBegun m
-  calls : HasCalls (answering m.doing) m.play
-  acts : Acts m.play
-  handed : HandedOn m.play m.doing
+  calls : HasCalls (answering m.doing) m.run
+  acts : Acts m.run
+  handed : HandedOn m.run m.doing
 
 -- a step
-step_acts : (minor : ℕ) (m a : Moment) → Step minor m a → ActsStand m → ActsOn a.play × HandedOn a.play a.doing
+step_acts : (minor : ℕ) (m a : Moment) → Step minor m a → ActsStand m → ActsOn a.run × HandedOn a.run a.doing
 step_acts minor m _ (StepBegins r busy may) k = (k.acts.acts, k.handed)
 step_acts minor m _ (Tells told a busy nothing may turn) k =
-    turn_acts m.play a told m.doing turn busy (not_before m busy k.begun) k.acts k.handed
+    turn_acts m.run a told m.doing turn busy (not_before m busy k.begun) k.acts k.handed
 step_acts minor m _ (StepTakes message call a doing may turn) k =
     let busy : is_busy m.doing ≡ true = busy_answering m.doing call doing in
-    turn_acts m.play a (Received message) m.doing turn busy (not_before m busy k.begun) k.acts k.handed
-step_acts minor m _ (Settles message doing rest) k = (k.acts.acts, handed_after m.play.over _ m.doing m.play.queue k.handed)
+    turn_acts m.run a (Received message) m.doing turn busy (not_before m busy k.begun) k.acts k.handed
+step_acts minor m _ (Settles message doing rest) k = (k.acts.acts, handed_after m.run.over _ m.doing m.run.queue k.handed)
 step_acts minor m _ (Brings message a between none next) k = (
-  next_acts m.play a (Some message) (with_entry (entry.Handed message) a.scene.noted) next refl k.acts,
-  WasHanded (next_handed m.play a message (with_entry (entry.Handed message) a.scene.noted) next refl k.acts),
+  next_acts m.run a (Some message) (with_entry (entry.Handed message) a.scene.noted) next refl k.acts,
+  WasHanded (next_handed m.run a message (with_entry (entry.Handed message) a.scene.noted) next refl k.acts),
 )
 step_acts minor m _ (BringsNone a between none next) k = (
-  next_acts m.play a None a.scene.noted next refl k.acts,
-  next_none_handed m.play a m.doing next k.acts between.rests none (at_rest m between.rests k.calls),
+  next_acts m.run a None a.scene.noted next refl k.acts,
+  next_none_handed m.run a m.doing next k.acts between.rests none (at_rest m between.rests k.calls),
 )
 step_acts minor m _ (StepPays between owed told) k =
-    let x : EachGroup (ActsAsDue m.play.scene.disks.sent) (with_mark GaveUp m.play.scene.noted).groups
-    × (was_handed m.play.scene.disks.sent (with_mark GaveUp m.play.scene.noted).groups ≡ true) =
-    owed_acts m.play.scene.disks.sent m.play.scene.noted (not_owed_before m owed k.begun) k.acts.acts in
+    let x : EachGroup (ActsAsDue m.run.scene.disks.sent) (with_mark GaveUp m.run.scene.noted).groups
+    × (was_handed m.run.scene.disks.sent (with_mark GaveUp m.run.scene.noted).groups ≡ true) =
+    owed_acts m.run.scene.disks.sent m.run.scene.noted (not_owed_before m owed k.begun) k.acts.acts in
     (x.0, WasHanded x.1)
 step_acts minor m _ (HandsCall call a between paid_so hands) k = (
   subst (λ (p : RunState). ActsOn p) (sym hands.after) k.acts.acts,
-  out_handed m.play a call m.doing between.live hands k.handed,
+  out_handed m.run a call m.doing between.live hands k.handed,
 )
 step_acts minor m _ (StepReplies call reply doing live rest) k =
     let busy : is_busy m.doing ≡ true = busy_answering m.doing call doing in
     let t : Mark = Took call.who call.now call.call (answer_of reply) in
-    let x : EachGroup (ActsAsDue m.play.scene.disks.sent) (with_mark t m.play.scene.noted).groups
-    × (was_handed m.play.scene.disks.sent (with_mark t m.play.scene.noted).groups ≡ true) =
-    done_mark m.play.scene.disks.sent m.play.scene.noted t (not_before m busy k.begun) (λ h group. refl) (λ group. refl)
-    (at_work_handed m.play.over _ m.doing m.play.queue live busy k.handed) k.acts.acts in
+    let x : EachGroup (ActsAsDue m.run.scene.disks.sent) (with_mark t m.run.scene.noted).groups
+    × (was_handed m.run.scene.disks.sent (with_mark t m.run.scene.noted).groups ≡ true) =
+    done_mark m.run.scene.disks.sent m.run.scene.noted t (not_before m busy k.begun) (λ h group. refl) (λ group. refl)
+    (at_work_handed m.run.over _ m.doing m.run.queue live busy k.handed) k.acts.acts in
     (x.0, WasHanded x.1)
 
 acts_stand : (minor : ℕ) (b a : Moment) → Runs minor b a → ActsStand b → ActsStand a
 acts_stand minor b _ Starts h = h
 acts_stand minor b a (Then m _ before last) h =
     let k : ActsStand m = acts_stand minor b m before h in
-    let x : ActsOn a.play × HandedOn a.play a.doing = step_acts minor m a last k in
+    let x : ActsOn a.run × HandedOn a.run a.doing = step_acts minor m a last k in
     record {
       calm = step_calm minor m a last k.calm;
       begun = step_begun minor m a last k.calm k.acts.said.first k.begun;
@@ -488,14 +488,14 @@ acts_stand minor b a (Then m _ before last) h =
 
 pub runs_keep_acts : RunsKeepActs
 runs_keep_acts media rules supply events minor b a o rests runs =
-    let no_groups : b.play.scene.noted.groups ≡ [] = ap (λ (x : Scene). x.noted.groups) o.scene.is in
+    let no_groups : b.run.scene.noted.groups ≡ [] = ap (λ (x : Scene). x.noted.groups) o.scene.is in
     (acts_stand minor b a runs (record {
       calm = calm_before media rules supply events b o;
       begun = StandsBefore rests o.queue o.owed;
       calls = opened_calls media rules supply events b o rests;
       acts = record {
-        said = opened_said AnsweredSoFar media rules supply events b.play o (record { places = refl; sent = tt; order = refl; each = tt });
-        acts = subst (λ (l : List Group). EachGroup (ActsAsDue b.play.scene.disks.sent) l) (sym no_groups) tt;
+        said = opened_said AnsweredSoFar media rules supply events b.run o (record { places = refl; sent = tt; order = refl; each = tt });
+        acts = subst (λ (l : List Group). EachGroup (ActsAsDue b.run.scene.disks.sent) l) (sym no_groups) tt;
       };
       handed = HasNoWork rests o.queue;
     })).acts.acts

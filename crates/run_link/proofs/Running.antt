@@ -182,13 +182,13 @@ may_take_before (Answering call) t told may = tt
 
 -- the run led there from here by these acts of the server
 pub record Reaches (minor : ℕ) (doing : Doing) (b : RunState) (o : Outbox) (acts : List Act) (marks : List Mark) (a : RunState) : Type 0 where
-  pub runs : Runs minor (record { play = b; outbox = o; doing = doing }) (record { play = a; outbox = outbox_after acts marks o; doing = doing })
+  pub runs : Runs minor (record { run = b; outbox = o; doing = doing }) (record { run = a; outbox = outbox_after acts marks o; doing = doing })
   pub record_is : record_of a ≡ marks_after acts marks
 
 -- one turn of a server that may act so
 turn_step : (minor : ℕ) (doing : Doing) (told : Told) (more : List Told) (m a : RunState) (o : Outbox) → is_busy doing ≡ true → MayTakeIn doing (told ∷ more)
     → MayAct minor (record_of m) o (AtLink told) → Turn m told a
-    → Step minor (record { play = m; outbox = o; doing = doing }) (at_link told a (record { play = m; outbox = o; doing = doing }))
+    → Step minor (record { run = m; outbox = o; doing = doing }) (at_link told a (record { run = m; outbox = o; doing = doing }))
 turn_step minor doing (Posted to r accepted) more m a o busy take may turn = Tells (Posted to r accepted) a busy refl may turn
 turn_step minor doing (Complained e) more m a o busy take may turn = Tells (Complained e) a busy refl may turn
 turn_step minor Resting (Received message) more m a o busy take may turn = cc
@@ -202,14 +202,14 @@ pub acts_run : (minor : ℕ) (doing : Doing) (b : RunState) (o : Outbox) (marks 
 acts_run minor doing b o marks busy told is [] a on history none take keeps =
     let same : a ≡ b = none_told b a on told history in
     record {
-      runs = subst (λ (p : RunState). Runs minor (record { play = b; outbox = o; doing = doing }) (record { play = p; outbox = o; doing = doing })) (sym same) Starts;
+      runs = subst (λ (p : RunState). Runs minor (record { run = b; outbox = o; doing = doing }) (record { run = p; outbox = o; doing = doing })) (sym same) Starts;
       record_is = ap record_of same ∙ is;
     }
 acts_run minor doing b o marks busy told is (Began r ∷ acts) a on history none take keeps =
     let x : Reaches minor doing b o acts marks a = acts_run minor doing b o marks busy told is acts a on history none take keeps.0 in
     record {
-      runs = Then (record { play = a; outbox = outbox_after acts marks o; doing = doing })
-          (record { play = a; outbox = outbox_after (Began r ∷ acts) marks o; doing = doing }) x.runs
+      runs = Then (record { run = a; outbox = outbox_after acts marks o; doing = doing })
+          (record { run = a; outbox = outbox_after (Began r ∷ acts) marks o; doing = doing }) x.runs
           (Begins r busy (subst (λ (l : List Mark). MayBegin l (outbox_after acts marks o) r) (sym x.record_is) keeps.1));
       record_is = x.record_is;
     }
@@ -221,10 +221,10 @@ acts_run minor doing b o marks busy told is (AtLink t ∷ acts) a on history non
     let may : MayAct minor (record_of last.between) (outbox_after acts marks o) (AtLink t) =
     subst (λ (l : List Mark). MayAct minor l (outbox_after acts marks o) (AtLink t)) (sym x.record_is) keeps.1 in
     record {
-      runs = subst (λ (l : List Mark). Runs minor (record { play = b; outbox = o; doing = doing })
-          (record { play = a; outbox = owed_after_act (AtLink t) l (outbox_after acts marks o); doing = doing })) x.record_is
-          (Then (record { play = last.between; outbox = outbox_after acts marks o; doing = doing })
-          (at_link t a (record { play = last.between; outbox = outbox_after acts marks o; doing = doing })) x.runs
+      runs = subst (λ (l : List Mark). Runs minor (record { run = b; outbox = o; doing = doing })
+          (record { run = a; outbox = owed_after_act (AtLink t) l (outbox_after acts marks o); doing = doing })) x.record_is
+          (Then (record { run = last.between; outbox = outbox_after acts marks o; doing = doing })
+          (at_link t a (record { run = last.between; outbox = outbox_after acts marks o; doing = doing })) x.runs
           (turn_step minor doing t (told_of acts) last.between a (outbox_after acts marks o) busy take may last.turn));
       record_is = turn_record last.between a t last.turn ∙ ap (with_told t) x.record_is;
     }

@@ -41,7 +41,7 @@ pub fn aside<D: LocalDriver>(link: &mut RunLink<'_, D>) -> Result<Option<Incomin
         link.log.note(Entry::Handed(Incoming::GaveUp));
         return Ok(Some(Incoming::GaveUp));
     }
-    let message = link.play();
+    let message = link.run();
     if let Some(message) = &message {
         link.log.note(Entry::Handed(*message));
     }

@@ -70,7 +70,7 @@ little_work events sectors p new few =
     omega (arith, all, none, one, few)
 
 -- over the link that a server was opened on as little is left to do
-pub few_here : {L : Type 0} (play : L → RunState) (a b : L) (n : ℕ) → a ≡ b → n ≡ 0 → work_left (play b) + 1 < 281474976710656
-    → n + work_left (play a) + 1 < 281474976710656
-few_here {L} play a b n same none few =
-    let e : work_left (play a) ≡ work_left (play b) = ap (λ (l : L). work_left (play l)) same in omega (arith, e, none, few)
+pub few_here : {L : Type 0} (run : L → RunState) (a b : L) (n : ℕ) → a ≡ b → n ≡ 0 → work_left (run b) + 1 < 281474976710656
+    → n + work_left (run a) + 1 < 281474976710656
+few_here {L} run a b n same none few =
+    let e : work_left (run a) ≡ work_left (run b) = ap (λ (l : L). work_left (run l)) same in omega (arith, e, none, few)
