@@ -12,11 +12,12 @@ mod moves;
 mod renamed;
 mod room;
 
+pub use asked::{Asked, find_asked};
+pub use barred::why_barred;
 pub use laws::{found_is_asked, moves_that_fit};
 pub use moves::{a_move_takes_zones, moves_are_possible};
 pub use renamed::rename;
-// passed on, for what tells calls apart
-pub use asked::{Asked, find_asked};
-pub use barred::why_barred;
-pub use calls_link;
 pub use room::has_room;
+
+// passed on, for what tells calls apart
+pub use calls_link;

@@ -4,3 +4,7 @@
 pub mod inputs;
 pub mod show;
 pub mod simulate;
+
+// passed on, for tests of runs
+pub use transcript;
+pub use world;

@@ -2,9 +2,9 @@
 
 use fixtures_runs::refused::{Refused, Told, is_refused, is_told_first};
 use media::MediaRefusal;
+use simulation::world::RunRefusal;
 use std::test::Fail;
 use volume::Finding;
-use world::RunRefusal;
 
 /// A driver of the volume's 128 sectors that is new.
 const NEW: (u32, bool) = (128, true);
