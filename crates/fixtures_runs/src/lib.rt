@@ -9,3 +9,6 @@ pub mod said;
 pub mod shown;
 pub mod supplies;
 pub mod writer;
+
+// passed on, for tests of runs
+pub use simulation::world::RunRefusal;
