@@ -69,7 +69,7 @@ pub struct Run {
 ///    the count, and the first `n` bytes were moved, each sector by a step that the media accepted.
 /// 4. A position or count that is no multiple of 512, a count of 0 or over 4096, and a minor without a
 ///    range are answered `Err(EINVAL)`. A count that passes the end of the range is cut there.
-/// 5. A failed driver keeps its request in work and stays failed. A driver whose step the media refused is to
+/// 5. A step that fails keeps its request in work, and a failed driver stays failed. A driver whose step the media refused is to
 ///    answer `Failed`; no contract here says so, since from outside such a step looks like one that moved nothing.
 ///
 /// A driver may also fail while no request is in work.

@@ -1,4 +1,4 @@
-//! bench_service
+//! Measures of drivers and frames, and of client calls on a service.
 #![tactic(auto)]
 
 pub mod bench_calls;

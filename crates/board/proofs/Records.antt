@@ -2,6 +2,7 @@
 use Rattle.std.proofs.Common.{◌≡◌, ◌≢◌, ◌⊎◌, ℕ, ◌+◌, ◌≤◌, List, [], ◌∷◌, ◌++◌, length, Bool, true, false, ◌&&◌, ◌||◌, ◌==◌, nat_le, if◌then◌else◌, Option, Some, refl, ap, sym, ◌∙◌, subst, inl, inr, ⊎_elim, arith, append_assoc, eq-eqb, ne_eqb}
 use Rattle.std.proofs.lemmas.List.{append-nil, length-append}
 use Rattle.std.proofs.lemmas.Bool.Decides.{nat_tests}
+use Rattle.lemmas.proofs.Bools.{or_cases, or_right}
 use Rattle.records.specs.Marks.{Mark, Started, Answered, Flush, GaveUp, Took, Issued, Fault, is_counted, counted, gave_up, IsBeginning}
 use Rattle.records.proofs.Growing.{counted_one}
 use Rattle.records.specs.LegalLaws.{is_call}
@@ -138,14 +139,6 @@ call_is_no_other GaveUp number is n place marks ne = absurd is
 call_is_no_other (Issued r x) number is n place marks ne = absurd is
 call_is_no_other (Fault x cause) number is n place marks ne = absurd is
 
-or_cases : (a b : Bool) → (a || b) ≡ true → (a ≡ true) ⊎ (b ≡ true)
-or_cases true b h = inl refl
-or_cases false b h = inr h
-
-or_true : (a b : Bool) → b ≡ true → (a || b) ≡ true
-or_true true b h = refl
-or_true false b h = h
-
 pub gave_up_with : (m : Mark) (marks : List Mark) → gave_up marks ≡ true → gave_up (m ∷ marks) ≡ true
 gave_up_with (Started e) marks h = h
 gave_up_with (Answered a) marks h = h
@@ -181,7 +174,7 @@ went_on_with (Started e) marks h = h
 went_on_with (Answered a) marks h = h
 went_on_with Flush marks h = h
 went_on_with GaveUp marks h = h
-went_on_with (Took who now call answer) marks h = or_true (gave_up marks) (went_on marks) h
+went_on_with (Took who now call answer) marks h = or_right (gave_up marks) (went_on marks) h
 went_on_with (Issued r e) marks h = h
 went_on_with (Fault e cause) marks h = h
 

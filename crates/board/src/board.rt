@@ -5,8 +5,10 @@ ghost use Rattle.tree.specs.declared.Call.{Call};
 ghost use Rattle.tree.specs.Answers.{answer_of};
 ghost use Rattle.records.specs.Marks.{Took, Issued, gave_up, IsBeginning};
 ghost use Rattle.records.specs.Session.{tally_of, went_on, IsLonger};
-ghost use Rattle.board.specs.View.{opener, is_used, other_of, new_caller, with_used, hosting, alone, guest_of, IsKeeper, noted, called, keeper_after, caller_after, spending, telling};
-ghost use Rattle.board.specs.Steps.{SessionLearns, SeesMore, IsCallOf, OwnsCalls, LearnsTold, Meets, SessionsMeet, SessionAsks, SessionIsNew};
+ghost use Rattle.board.specs.View.{opener, is_used, other_of, new_caller, with_used, hosting, alone, guest_of, IsKeeper, noted, called};
+ghost use Rattle.board.specs.View.{keeper_after, caller_after, spending, telling};
+ghost use Rattle.board.specs.Steps.{SessionLearns, SeesMore, IsCallOf, OwnsCalls, LearnsTold, Meets, SessionsMeet, SessionAsks};
+ghost use Rattle.board.specs.Steps.{SessionIsNew};
 ghost use Rattle.board.specs.Words.{pulse_word, is_given_up, mark_of};
 
 use crate::mark::{NewCall, NewMark, NewNumber};

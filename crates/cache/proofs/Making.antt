@@ -5,12 +5,6 @@ use Rattle.std.proofs.lemmas.Bool.{cond-false}
 use Rattle.cache.specs.declared.slot.Slot.{Slot}
 use Rattle.cache.specs.Slots.{is_number, held, IsDistinct}
 
--- a row of zeros
-pub zero_at : (n o : ℕ) → get_or (replicate n zero) o zero ≡ zero
-zero_at zero o = refl
-zero_at (suc n) zero = refl
-zero_at (suc n) (suc o) = zero_at n o
-
 -- no slot holds a block
 pub record AllFree (items : List Slot) : Type 0 where
   pub each : (i : ℕ) (s : Slot) → slice_get items i ≡ Some s → s.block ≡ None

@@ -5,11 +5,8 @@ use Rattle.std.specs.Prelude.{slice_index, nat_lt}
 use Rattle.std.specs.List.{filter}
 use Rattle.std.proofs.lemmas.Bool.{cases_eq, cases_lt, lt-ltb}
 use Rattle.std.proofs.lemmas.Bool.Decides.{nat_tests}
+use Rattle.lemmas.proofs.Numbers.{less_fails}
 use Rattle.cache.specs.Uses.{AllBelow, rank, KeepsOrder, IsUsedLast}
-
--- a lower number isn't lower than a higher one
-not_less : (a b : ℕ) → b ≤ a → nat_lt a b ≡ false
-not_less a b le = grind (arith, nat_tests)
 
 -- one where this holds
 abbrev one_if : Bool → ℕ
@@ -34,7 +31,7 @@ rank_le x y (z ∷ xs) le = elim (cases_lt z x) [
       let rest = rank_le x y xs le in
       omega (arith, a, b, rest, rank_more x z xs, rank_more y z xs)
   | inr ge ↦
-      let a : one_if (nat_lt z x) ≡ 0 = ap one_if (not_less z x ge) in
+      let a : one_if (nat_lt z x) ≡ 0 = ap one_if (less_fails z x ge) in
       let rest = rank_le x y xs le in
       omega (arith, a, rest, rank_more x z xs, rank_more y z xs)
 ]
@@ -43,7 +40,7 @@ rank_le x y (z ∷ xs) le = elim (cases_lt z x) [
 rank_lt : (x y : ℕ) (xs : List ℕ) (i : ℕ) → x < y → i < length xs → get_or xs i 0 ≡ x → rank x xs < rank y xs
 rank_lt x y [] i lt in_range e = absurd (omega (arith, in_range))
 rank_lt x y (z ∷ xs) zero lt in_range e =
-    let a : one_if (nat_lt z x) ≡ 0 = ap one_if (not_less z x (omega (arith, e))) in
+    let a : one_if (nat_lt z x) ≡ 0 = ap one_if (less_fails z x (omega (arith, e))) in
     let b : one_if (nat_lt z y) ≡ 1 = ap one_if (lt-ltb z y (omega (arith, e, lt))) in
     let rest = rank_le x y xs (omega (arith, lt)) in
     omega (arith, a, b, rest, rank_more x z xs, rank_more y z xs)
@@ -55,7 +52,7 @@ rank_lt x y (z ∷ xs) (suc i) lt in_range e =
           let b : one_if (nat_lt z y) ≡ 1 = ap one_if (lt-ltb z y (omega (arith, less, lt))) in
           omega (arith, a, b, rest, rank_more x z xs, rank_more y z xs)
       | inr ge ↦
-          let a : one_if (nat_lt z x) ≡ 0 = ap one_if (not_less z x ge) in
+          let a : one_if (nat_lt z x) ≡ 0 = ap one_if (less_fails z x ge) in
           omega (arith, a, rest, rank_more x z xs, rank_more y z xs)
     ]
 
@@ -73,7 +70,7 @@ pub same_order : (xs : List ℕ) (i j : ℕ) → i < length xs → j < length xs
     → nat_lt (rank (get_or xs i 0) xs) (rank (get_or xs j 0) xs) ≡ nat_lt (get_or xs i 0) (get_or xs j 0)
 same_order xs i j ini inj = elim (cases_lt (get_or xs i 0) (get_or xs j 0)) [
   | inl lt ↦ lt-ltb _ _ (rank_lt (get_or xs i 0) (get_or xs j 0) xs i lt ini refl) ∙ sym (lt-ltb _ _ lt)
-  | inr ge ↦ not_less _ _ (rank_le (get_or xs j 0) (get_or xs i 0) xs ge) ∙ sym (not_less _ _ ge)
+  | inr ge ↦ less_fails _ _ (rank_le (get_or xs j 0) (get_or xs i 0) xs ge) ∙ sym (less_fails _ _ ge)
 ]
 
 -- an element of a list after another was set

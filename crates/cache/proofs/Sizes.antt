@@ -9,9 +9,3 @@ whole_product a b n h = sym (mul-mod_second a b n) ∙ ap (λ (k : ℕ). a * k %
   where
     none : (a n : ℕ) → a * 0 % n ≡ 0
     none a n = ap (λ (k : ℕ). k % n) (let e : a * 0 ≡ 0 * n = omega arith in e) ∙ mul-mod_left 0 n
-
--- a row of zeros
-pub zero_at : (n o : ℕ) → get_or (replicate n zero) o zero ≡ zero
-zero_at zero o = refl
-zero_at (suc n) zero = refl
-zero_at (suc n) (suc o) = zero_at n o

@@ -1,9 +1,7 @@
-//! Frames of a volume's blocks in memory, over transfers.
+//! Frames: the blocks of a volume in memory, read and written by requests of one block each.
 //!
-//! Slots that hold the blocks of a volume in memory: which block stands where, which bytes are the disk's, and which slot goes next.
-//!
-//! What goes between the blocks of a volume and its media: requests for one block each, what a message does to the slots of the blocks, and
-//! why a call is cut.
+//! Slots say which block stands where, which of its bytes are the disk's, and which slot goes next. A call ends early, cut, where the
+//! link ends or the device is given up.
 #![tactic(auto)]
 
 pub mod cache;

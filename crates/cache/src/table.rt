@@ -46,7 +46,8 @@ fn used_unless(left_out: bool, used: u64) -> Option<u64>
 impl Slots {
     ghost use Rattle.cache.specs.Uses.{IsUsedLast};
     ghost use Rattle.cache.specs.Order.{key_of, key_at, is_before, IsFirst, IsVictim};
-    ghost use Rattle.cache.specs.Edits.{IsSetAt, IsFilledAt, IsBlankedAt, IsChangedAt, IsAt, IsPlaceOf, IsWritten, AllStay, AllClean, SomeUnclean, IsLowestOf};
+    ghost use Rattle.cache.specs.Edits.{IsSetAt, IsFilledAt, IsBlankedAt, IsChangedAt, IsAt, IsPlaceOf, IsWritten, AllStay, AllClean};
+    ghost use Rattle.cache.specs.Edits.{SomeUnclean, IsLowestOf};
 
     /// So many slots, all free.
     pub fn new(alloc: Global, count: usize) -> Result<Slots, AllocError>

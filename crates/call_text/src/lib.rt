@@ -1,6 +1,5 @@
-//! Client calls as lines of text have them: which words are a call.
-//!
-//! Lines of text: how a text falls into lines and words, and which words are numbers, bytes and flags.
+//! Client calls as lines of text: which words are which call. Below it: how a text falls into lines and words, and which words are
+//! numbers, bytes and flags.
 #![tactic(auto)]
 
 pub mod bytes;

@@ -105,10 +105,6 @@ plain_kind true false true big h = cc
 plain_kind true true true big h = cc
 plain_kind false wide true big h = cc
 
--- bytes of a slice are below 256
-pub bytes_low : (bytes : List ℕ) → ((i : ℕ) → Fits w8 (get_or bytes i 0)) → All (λ b. b < 256) bytes
-bytes_low bytes fits = λ k d within. subst (λ b. b < 256) (get_or_default bytes k 0 d within) (omega (arith, fits k))
-
 -- what was written where the volume was read before
 pub from_start : (g : Geometry) (m n at : ℕ) (bytes : List ℕ) (now : ℕ) (x y : Bool) (z d e : Disk) → m ≡ n → x ≡ y → z ≡ d
     → WritesIfRoom g m at bytes now x z e → WritesIfRoom g n at bytes now y d e

@@ -1,11 +1,8 @@
-//! The bodies of client calls, over any blocks: what each does to a volume is what it does to the file tree that the volume holds.
+//! Client calls that look at one node or change it, and those that read and write the bytes of files, over any blocks: what each does to
+//! a volume is what it does to the file tree that the volume holds.
 //!
 //! A body asks the refusals of its call in their order before it changes anything. It may be cut off; what would be read back then isn't
 //! known. It answers `Unsound` only where the volume holds no tree.
-//!
-//! The bodies of client calls that look at one node of a path, or change it, over any blocks.
-//!
-//! The bodies of the client calls that change the bytes of files, over any blocks.
 #![tactic(auto)]
 
 mod attributes;

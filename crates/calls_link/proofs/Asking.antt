@@ -3,6 +3,7 @@ use Rattle.std.proofs.Common.{◌≡◌, ◌<◌, ◌≤◌, ℕ, List, Bool, tr
 use Rattle.std.specs.Prelude.{IsTrue, Result, is_some, not, nat_le, ◌||◌}
 use Rattle.std.specs.Borrow.{Bor}
 use Rattle.std.proofs.lemmas.Bool.{and_parts, cond-true, le-leb, lt-leb}
+use Rattle.lemmas.proofs.Bools.{false_not_true}
 use Rattle.errno.specs.declared.Errno.{Errno}
 use Rattle.errno.specs.declared.Errno.TheVariants.{EACCES, EEXIST, EMLINK, ENOENT, EPERM}
 use Rattle.layout.specs.declared.Geometry.{Geometry}
@@ -13,7 +14,6 @@ use Rattle.tree.specs.Refusals.{◌>>=◌, or_refuse, refuse_if}
 use Rattle.tree.specs.Walk.{Place, has_last_name, is_taken, last_part, may_access, parent_walk, read_path, to_write, walk_parts}
 use Rattle.tree.specs.Walk as tree
 use Rattle.tree.specs.Answers.{Effect}
-use Rattle.tree.proofs.Maps.{not_true}
 use Rattle.volume.specs.declared.Inode.{Inode}
 use Rattle.volume.specs.Reading.{Disk, is_inode}
 use Rattle.volume.specs.Pieces.{Pieces, pieces}
@@ -166,4 +166,4 @@ module _ (g : Geometry) (d : Disk) (user : User) (parts : List Name) (p : Found)
         where
           nothing : (o : Option ℕ) → is_some o ≡ false → o ≡ None
           nothing None e = refl
-          nothing (Some n) e = absurd (not_true (sym e))
+          nothing (Some n) e = absurd (false_not_true (sym e))

@@ -4,6 +4,7 @@ use mathlib.Core.Logic.{inl, inr}
 use Rattle.std.specs.Prelude.{nat_le, not, ◌==◌, if◌then◌else◌}
 use Rattle.std.specs.Borrow.{Bor}
 use Rattle.std.proofs.lemmas.Bool.{and_parts, cases_eq, eq-eqb, leb-true, ne_eqb}
+use Rattle.lemmas.proofs.Bools.{false_not_true}
 use Rattle.errno.specs.declared.Errno.{Errno}
 use Rattle.errno.specs.declared.Errno.TheVariants.{EBUSY, ENOTDIR, ENOTEMPTY}
 use Rattle.layout.specs.declared.Geometry.{Geometry}
@@ -18,7 +19,7 @@ use Rattle.tree.specs.Walk.{Place}
 use Rattle.tree.specs.Changes.{fewer_links, with_link_lost, with_names}
 use Rattle.tree.specs.Answers.{Effect, done, refused}
 use Rattle.tree.specs.NameCalls.{is_empty, rmdir, without_entry}
-use Rattle.tree.proofs.Maps.{not_nothing, not_true, put-other, put-same}
+use Rattle.tree.proofs.Maps.{not_nothing, put-other, put-same}
 use Rattle.tree.proofs.CallsKeep.{rmdir_keeps}
 use Rattle.tree.proofs.Gone.{empty_weighs, gone_apart}
 use Rattle.tree.proofs.Shapes.{kind_of}
@@ -88,7 +89,7 @@ passed true true false e = record { first = refl; next = refl; third = refl }
 
 -- a directory has no names where its size is that of two entries
 no_names_by_size : (node : Node) (body : Body) (size : ℕ) → node.body ≡ body → is_dir node ≡ true → size ≡ size_of node.body → is_empty node ≡ (size == 128)
-no_names_by_size node (is_file f) size is dir sized = absurd (not_true (sym (ap (λ (b : Body). is_dir (record node { body = b })) is) ∙ dir))
+no_names_by_size node (is_file f) size is dir sized = absurd (false_not_true (sym (ap (λ (b : Body). is_dir (record node { body = b })) is) ∙ dir))
 no_names_by_size node (is_directory d) size is dir sized =
     let names : length (names_of (Some node)) ≡ length d.names = ap (λ (b : Body). length (names_of (Some (record node { body = b })))) is in
     let wide : size ≡ 64 * (length d.names + 2) = sized ∙ ap size_of is in
@@ -100,7 +101,7 @@ no_names_by_size node (is_directory d) size is dir sized =
 -- a link less, where the times are set already
 link_less : (now : ℕ) (change : Names → Names) (node : Node) (body : Body) → node.body ≡ body → is_dir node ≡ true
     → with_link_lost now (with_names now change node) ≡ fewer_links 1 (with_names now change node)
-link_less now change node (is_file f) is dir = absurd (not_true (sym (ap (λ (b : Body). is_dir (record node { body = b })) is) ∙ dir))
+link_less now change node (is_file f) is dir = absurd (false_not_true (sym (ap (λ (b : Body). is_dir (record node { body = b })) is) ∙ dir))
 link_less now change node (is_directory d) is dir =
     let known : with_names now change node ≡ with_names now change (record node { body = is_directory d }) = ap (λ (b : Body). with_names now change (record node { body = b })) is in
     ap (with_link_lost now) known ∙ sym (ap (fewer_links 1) known)

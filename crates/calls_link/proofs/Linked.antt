@@ -5,6 +5,7 @@ use Rattle.std.specs.Prelude.{IsTrue, Result, not, nat_le, nat_lt, ◌==◌, ◌
 use Rattle.std.specs.Borrow.{Bor}
 use Rattle.std.specs.List.{All, list_any}
 use Rattle.std.proofs.lemmas.Bool.{and_parts, cases_eq, cases_lt, cond-true, le-ltb, leb-true, lt-ltb}
+use Rattle.lemmas.proofs.Bools.{false_not_true}
 use Rattle.errno.specs.declared.Errno.{Errno}
 use Rattle.errno.specs.declared.Errno.TheVariants.{ENOSPC}
 use Rattle.layout.specs.declared.Geometry.{Geometry}
@@ -20,7 +21,7 @@ use Rattle.tree.specs.Changes.{more_links, with_ctime, with_names}
 use Rattle.tree.specs.Space.{data_zones, zones_of, zones_used}
 use Rattle.tree.specs.Answers.{Effect, done, if_it_fits, refused}
 use Rattle.tree.specs.NameCalls.{link, with_entry}
-use Rattle.tree.proofs.Maps.{not_true, put-other, put-same, same_sum}
+use Rattle.tree.proofs.Maps.{put-other, put-same, same_sum}
 use Rattle.tree.proofs.CallsKeep.{link_keeps}
 use Rattle.tree.proofs.Growth.{grown_fits}
 use Rattle.tree.proofs.PathNames.{last_is_name}
@@ -165,7 +166,7 @@ module _ (g : Geometry) (user : User) (now : ℕ) (old new : Bor (List ℕ)) (f 
             start = nothing_is_done g d t holds
 
             apart : n ≢ x.directory
-            apart e = not_true (sym (file t holds).file ∙ ap (λ k. is_dir (node_at g v k)) e ∙ parent_kind)
+            apart e = false_not_true (sym (file t holds).file ∙ ap (λ k. is_dir (node_at g v k)) e ∙ parent_kind)
 
             abbrev first : ℕ → Option Node
             first = put t.nodes n (Some more)
@@ -235,7 +236,7 @@ module _ (g : Geometry) (user : User) (now : ℕ) (old new : Bor (List ℕ)) (f 
                 too_big : (t : Tree) (holds : HoldsVolume g d t) → nat_lt (data_zones g) (zones_used g (after t holds)) ≡ true
                 too_big t holds = elim (cases_lt (data_zones g) (zones_used g (after t holds))) [
                   | inl big ↦ lt-ltb _ _ big
-                  | inr fits ↦ absurd (not_true (sym is ∙ (room_is t holds (short_if t holds fits)).1 fits))
+                  | inr fits ↦ absurd (false_not_true (sym is ∙ (room_is t holds (short_if t holds fits)).1 fits))
                 ]
 
             module _ (yes : room ≡ true) (m0 m : Disk) (same : m0 ≡ d) (adds : AddsLink g n now m0 m) where

@@ -1,6 +1,7 @@
 -- A file loses a name.
 use Rattle.std.proofs.Common.{◌≡◌, ◌≢◌, ◌<◌, ◌^◌, ℕ, List, Bool, true, false, Option, Some, Ok, Err, refl, sym, ap, subst, ◌∙◌}
 use Rattle.std.specs.Borrow.{Bor}
+use Rattle.lemmas.proofs.Bools.{false_not_true}
 use Rattle.errno.specs.declared.Errno.{Errno}
 use Rattle.errno.specs.declared.Errno.TheVariants.{EPERM}
 use Rattle.layout.specs.declared.Geometry.{Geometry}
@@ -14,7 +15,7 @@ use Rattle.tree.specs.Walk.{Place}
 use Rattle.tree.specs.Changes.{with_link_lost, with_names, without_nameless}
 use Rattle.tree.specs.Answers.{Effect, done, refused}
 use Rattle.tree.specs.NameCalls.{unlink, with_name_lost, without_entry}
-use Rattle.tree.proofs.Maps.{not_true, put-other}
+use Rattle.tree.proofs.Maps.{put-other}
 use Rattle.tree.proofs.Unlinked.{unlink_keeps}
 use Rattle.tree.proofs.Views.{on_node_there}
 use Rattle.volume.specs.Reading.{Disk}
@@ -71,7 +72,7 @@ module _ (g : Geometry) (user : User) (path : Bor (List ℕ)) (now : ℕ) (f : F
         first = put t.nodes x.directory (Some shorter)
 
         apart : x.number ≢ x.directory
-        apart e = not_true (
+        apart e = false_not_true (
             sym (target_kind g ok user path.now now d x finds t holds ∙ file)
             ∙ ap (λ n. is_dir (node_at g (pieces g d) n)) e ∙ parent_kind g ok user path.now now d x finds t holds)
 

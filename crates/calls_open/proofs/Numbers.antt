@@ -3,6 +3,7 @@ use Rattle.std.proofs.Common.{◌≡◌, ◌≢◌, ◌<◌, ◌≤◌, ◌+◌,
 use mathlib.Core.Logic.{inl, inr, ◌↔◌}
 use Rattle.std.specs.Prelude.{IsTrue, is_some}
 use Rattle.std.proofs.lemmas.Bool.{and_parts, cases_lt}
+use Rattle.lemmas.proofs.Bools.{false_not_true}
 use Rattle.errno.specs.declared.Errno.TheVariants.{ENOSPC}
 use Rattle.layout.specs.declared.Geometry.{Geometry}
 use Rattle.layout.specs.Places.{IsGeometry}
@@ -10,7 +11,6 @@ use Rattle.tree.specs.Sums.{put}
 use Rattle.tree.specs.Names.{Names, inode_of}
 use Rattle.tree.specs.Tree.{Node, Tree, names_of, size_of}
 use Rattle.tree.specs.Space.{data_zones, zones_of}
-use Rattle.tree.proofs.Maps.{not_true}
 use Rattle.tree.proofs.Steps.{not_refused}
 use Rattle.volume.specs.declared.Inode.{Inode}
 use Rattle.volume.specs.Holds.{HoldsVolume}
@@ -108,7 +108,7 @@ module _ (g : Geometry) (ok : IsGeometry g) (d : Disk) (t : Tree) (p : Place) (p
     errno = refl;
     none = λ m is now. elim (cases_lt (data_zones g) (zones_with_name g t n parent p.name.now now m + others)) [
       | inl more ↦ more
-      | inr fits ↦ absurd (not_true ((room_is others false asked m now).1 fits))
+      | inr fits ↦ absurd (false_not_true ((room_is others false asked m now).1 fits))
     ];
   }
 

@@ -3,6 +3,7 @@ use Rattle.std.proofs.Common.{◌≡◌, ◌<◌, ℕ, List, true, false, sym, a
 use mathlib.Core.Logic.{inl, inr}
 use Rattle.std.specs.Prelude.{◌||◌, is_some, not, All}
 use Rattle.std.proofs.lemmas.Bool.{cases_Bool, cond-true, not-false, or_parts}
+use Rattle.lemmas.proofs.Options.{some_same}
 use Rattle.errno.specs.declared.Errno.{Errno}
 use Rattle.errno.specs.declared.Errno.TheVariants.{EACCES, EEXIST, ENOENT}
 use Rattle.layout.specs.declared.Geometry.{Geometry}
@@ -13,7 +14,6 @@ use Rattle.tree.specs.Refusals.{◌>>=◌, or_refuse, refuse_if}
 use Rattle.tree.specs.Walk.{has_last_name, is_taken, last_part, may_access, node_at, parent_walk, read_path, to_write}
 use Rattle.tree.specs.Walk as tree
 use Rattle.tree.specs.Answers.{Effect}
-use Rattle.tree.proofs.Maps.{is_the_one}
 use Rattle.tree.proofs.NewPlaces.{last_named, none_there}
 use Rattle.tree.proofs.Places.{is_place}
 use Rattle.volume.specs.declared.Inode.{Inode}
@@ -93,7 +93,7 @@ module _ (g : Geometry) (d : Disk) (t : Tree) (user : User) (parts : List Name) 
       there.1 ∙ ap (λ (i : Inode). Some (node_of g (pieces g d) i)) (sym at.inode)
 
   is_node : stands.node ≡ parent_node
-  is_node = is_the_one stands.node parent_node (sym stands.there ∙ parent_there)
+  is_node = some_same stands.node parent_node (sym stands.there ∙ parent_there)
 
   -- is a directory
   is_directory_node : is_dir parent_node ≡ true

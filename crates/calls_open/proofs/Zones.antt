@@ -3,6 +3,7 @@ use Rattle.std.proofs.Common.{◌≡◌, ◌<◌, ◌≤◌, ◌+◌, ◌*◌, �
 use mathlib.Core.Logic.{inl, inr}
 use Rattle.std.specs.Prelude.{IsTrue, None, Option, Some, nat_lt}
 use Rattle.std.proofs.lemmas.Bool.{cases_eq, cases_lt, cond-false, le-ltb, lt-ltb, ltb-true}
+use Rattle.lemmas.proofs.Bools.{false_not_true}
 use Rattle.layout.specs.declared.Geometry.{Geometry}
 use Rattle.layout.specs.Places.{IsGeometry, is_block_size}
 use Rattle.tree.specs.declared.User.{User}
@@ -12,7 +13,7 @@ use Rattle.tree.specs.Tree.{Body, Directory, Node, is_dir, is_directory, is_file
 use Rattle.tree.specs.Changes.{empty_directory, empty_file, new_node, with_names}
 use Rattle.tree.specs.Space.{numbers_in_zone, pages_of, zones_of}
 use Rattle.tree.specs.ZonesNeeded.{double_blocks, from_page, page_limit, single_blocks, triple_blocks, zones_needed}
-use Rattle.tree.proofs.Maps.{not_true, put-other, put-same, same_sum, sum_put}
+use Rattle.tree.proofs.Maps.{put-other, put-same, same_sum, sum_put}
 use Rattle.tree.proofs.Needs.{none_counted}
 use Rattle.tree.proofs.Freed.{part_below}
 use Rattle.tree.proofs.NeedGrows.{need_grows}
@@ -84,7 +85,7 @@ pub by_directory : (P : Node → Type 0) (node : Node) → is_dir node ≡ true 
 by_directory P node kind each = by node.body refl
   where
     by : (body : Body) → node.body ≡ body → P node
-    by (is_file f) e = absurd (not_true (sym (ap (λ b. is_dir (record node { body = b })) e) ∙ kind))
+    by (is_file f) e = absurd (false_not_true (sym (ap (λ b. is_dir (record node { body = b })) e) ∙ kind))
     by (is_directory d) e = subst (λ (b : Body). P (record node { body = b })) (sym e) (each d)
 
 -- a name more takes no zone less

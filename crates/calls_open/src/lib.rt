@@ -1,6 +1,5 @@
-//! open: a descriptor more, for a node that is there or for a file that is made, over any blocks. No memory is taken.
-//!
-//! The bodies of client calls that make a node, over any blocks: mkdir, and the steps of open where it makes a file. No memory is taken.
+//! The client calls `open` and `mkdir`, over any blocks: a descriptor more, for a node that is there or for a file that is made; a new
+//! directory. No memory is taken.
 #![tactic(auto)]
 
 mod asking;

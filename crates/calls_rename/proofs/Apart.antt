@@ -5,12 +5,12 @@ use Rattle.std.specs.Prelude.{is_some, ◌&&◌}
 use Rattle.std.specs.List.{list_all}
 use Rattle.std.specs.Ordering.{eq_by_cmp}
 use Rattle.std.proofs.lemmas.Bool.{and_cases, and_parts, cases_Bool, cases_eq, cond-false}
+use Rattle.lemmas.proofs.Bools.{false_not_true}
 use Rattle.layout.specs.declared.Geometry.{Geometry}
 use Rattle.tree.specs.Names.{Name, Names, inode_of, is_name, name_cmp}
 use Rattle.tree.specs.Tree.{Body, Node, Tree, is_dir, is_directory, is_file, most_size, names_of, parent_of, size_of}
 use Rattle.tree.specs.IsTree.{IsBody, IsTree, above}
 use Rattle.tree.specs.NameCalls.{is_within}
-use Rattle.tree.proofs.Maps.{not_true}
 use Rattle.tree.proofs.Freed.{part_below}
 use Rattle.tree.proofs.Totals.{one_for, one_for_itself, two_parts, weigh_found}
 use Rattle.tree.proofs.Shapes.{IsShape, kind_of, shape_of, total, weight}
@@ -20,7 +20,7 @@ use Rattle.volume.proofs.Entries.{same_by_cmp}
 
 -- a name that is found among names is one
 pub found_is_name : (name : Name) (es : Names) → list_all (λ e. is_name e.0) es ≡ true → is_some (inode_of es name) ≡ true → is_name name ≡ true
-found_is_name name [] all found = absurd (not_true found)
+found_is_name name [] all found = absurd (false_not_true found)
 found_is_name name (e ∷ es) all found =
     let parts = and_parts (is_name e.0) (list_all (λ x. is_name x.0) es) all in
     elim (cases_Bool (eq_by_cmp name_cmp name e.0)) [
@@ -30,7 +30,7 @@ found_is_name name (e ∷ es) all found =
 
 -- of a directory too
 pub name_in : (g : Geometry) (x : Node) (b : Body) (name : Name) → IsBody g b → is_some (inode_of (names_of (Some (record x { body = b }))) name) ≡ true → is_name name ≡ true
-name_in g x (is_file f) name is found = absurd (not_true found)
+name_in g x (is_file f) name is found = absurd (false_not_true found)
 name_in g x (is_directory d) name is found = found_is_name name d.names is.names found
 
 -- a body's size is within the limit
@@ -84,6 +84,6 @@ module _ (g : Geometry) (t : Tree) (tree : IsTree g t) where
       let same : Some y ≡ Some x = sym n_there ∙ ap t.nodes e ∙ there in
       let y_kind : is_dir y ≡ true = ap kind_of same ∙ kind in
       elim (and_cases (is_dir y) (is_within g t d n) apart) [
-        | inl file ↦ not_true (sym file ∙ y_kind)
+        | inl file ↦ false_not_true (sym file ∙ y_kind)
         | inr out ↦ never_above g t shape d n (ap kind_of there ∙ kind) out 0 (sym e)
       ]

@@ -1,6 +1,7 @@
 -- What stands against a move.
 use Rattle.std.proofs.Common.{◌≡◌, ◌≤◌, ℕ, Bool, true, false, Option, Some, None, Err, refl, sym, ap, subst, ◌∙◌}
 use Rattle.std.specs.Prelude.{not, ◌&&◌, ◌==◌, nat_le, option_map, if◌then◌else◌}
+use Rattle.lemmas.proofs.Options.{some_same}
 use Rattle.errno.specs.declared.Errno.{Errno}
 use Rattle.errno.specs.declared.Errno.TheVariants.{EBUSY, EINVAL, EISDIR, EMLINK, ENOENT, ENOTDIR, ENOTEMPTY}
 use Rattle.layout.specs.declared.Geometry.{Geometry}
@@ -9,7 +10,7 @@ use Rattle.tree.specs.Tree.{Node, Tree, is_dir, is_open, most_links}
 use Rattle.tree.specs.Refusals.{◌>>=◌, or_refuse, refuse_if}
 use Rattle.tree.specs.Answers.{Effect}
 use Rattle.tree.specs.NameCalls.{can_replace, has_room_for_link, is_empty, is_within}
-use Rattle.tree.proofs.Maps.{is_the_one, not_nothing}
+use Rattle.tree.proofs.Maps.{not_nothing}
 use Rattle.volume.specs.declared.Inode.{Inode}
 use Rattle.volume.specs.Reading.{Disk}
 use Rattle.volume.specs.Pieces.{Pieces, pieces}
@@ -143,7 +144,7 @@ module _ (g : Geometry) (f : Files) (d : Disk) (x : Asked) where
       by_kept t on holds files y None why = record {
         apart = inside false says t on holds y;
         kind = λ p there.
-            subst (λ (n : ℕ). is_dir (other_at g d n) ≡ x.what.is_directory) (is_the_one q p (sym is ∙ there))
+            subst (λ (n : ℕ). is_dir (other_at g d n) ≡ x.what.is_directory) (some_same q p (sym is ∙ there))
             (other_kind ∙ alike x.what.is_directory (is_directory_mode i.mode) (i.size == 128) (is_open (tree_with f) q) why);
         goes_on = λ rest.
             at_taken t on holds files y rest ∙ ap (or_else (rest (Some other))) why ∙ sym (ap (λ (o : Option ℕ). rest (option_map (other_at g d) o)) is);

@@ -1,13 +1,13 @@
 -- The nodes between the steps of a move.
 use Rattle.std.proofs.Common.{◌≡◌, ◌≢◌, ◌≤◌, ◌+◌, ◌*◌, ℕ, true, Some, None, length, refl, ◌∙◌, arith}
 use Rattle.std.specs.Prelude.{is_some}
+use Rattle.lemmas.proofs.Bools.{false_not_true}
 use Rattle.layout.specs.declared.Geometry.{Geometry}
 use Rattle.tree.specs.Names.{Name, Names, inode_of, with_name, without_name}
 use Rattle.tree.specs.Tree.{Body, Node, Tree, is_dir, is_directory, is_file, most_size, names_of, on_node, size_of}
 use Rattle.tree.specs.IsTree.{IsBody}
 use Rattle.tree.specs.Changes.{fewer_links, more_links, with_ctime, with_names, with_parent}
 use Rattle.tree.specs.Space.{zones_of}
-use Rattle.tree.proofs.Maps.{not_true}
 use Rattle.tree.proofs.Places.{without_name_fits}
 use Rattle.tree.proofs.Totals.{weigh_one}
 use Rattle.tree.proofs.Views.{on_node_at, on_node_elsewhere, view_kept}
@@ -28,7 +28,7 @@ less now name k x = fewer_links k (with_names now (λ names. without_name names 
 
 pub is_less : (g : Geometry) (now : ℕ) (name : Name) (k : ℕ) (x : Node) (b : Body) → IsBody g b → is_dir (record x { body = b }) ≡ true
     → IsLess (record x { body = b }) (less now name k (record x { body = b })) name
-is_less g now name k x (is_file f) fits kind = absurd (not_true kind)
+is_less g now name k x (is_file f) fits kind = absurd (false_not_true kind)
 is_less g now name k x (is_directory d) fits kind = record {
   kind = refl;
   size = (without_name_fits d name fits).size;
@@ -39,19 +39,19 @@ is_less g now name k x (is_directory d) fits kind = record {
 -- and one with names changed changed at that time
 pub changed_then : (now k : ℕ) (f : Names → Names) (x : Node) (b : Body) → is_dir (record x { body = b }) ≡ true
     → (more_links k (with_names now f (record x { body = b }))).ctime ≡ now
-changed_then now k f x (is_file file) kind = absurd (not_true kind)
+changed_then now k f x (is_file file) kind = absurd (false_not_true kind)
 changed_then now k f x (is_directory d) kind = refl
 
 -- is one still
 pub is_one_still : (now k : ℕ) (f : Names → Names) (x : Node) (b : Body) → is_dir (record x { body = b }) ≡ true
     → is_dir (more_links k (with_names now f (record x { body = b }))) ≡ true
-is_one_still now k f x (is_file file) kind = absurd (not_true kind)
+is_one_still now k f x (is_file file) kind = absurd (false_not_true kind)
 is_one_still now k f x (is_directory d) kind = refl
 
 -- its size with a name more
 pub size_with : (now k : ℕ) (name : Name) (n : ℕ) (x : Node) (b : Body) → is_dir (record x { body = b }) ≡ true → inode_of (names_of (Some (record x { body = b }))) name ≡ None
     → length (names_of (Some (more_links k (with_names now (λ names. with_name names name n) (record x { body = b }))))) * 64 + 128 ≡ size_of b + 64
-size_with now k name n x (is_file file) kind free = absurd (not_true kind)
+size_with now k name n x (is_file file) kind free = absurd (false_not_true kind)
 size_with now k name n x (is_directory d) kind free =
     let more = weigh_with_name (λ _. 1) name n d.names free in
     let a = weigh_one (with_name d.names name n) in

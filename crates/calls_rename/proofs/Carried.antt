@@ -3,12 +3,12 @@ use Rattle.std.proofs.Common.{◌≡◌, ◌≢◌, ◌≤◌, ◌<◌, ℕ, Boo
 use Rattle.std.specs.Prelude.{IsTrue, ◌&&◌, ◌==◌, ◌||◌, is_some, nat_le, nat_lt, not}
 use Rattle.std.specs.List.{list_any}
 use Rattle.std.proofs.lemmas.Bool.{and_parts, le-leb, leb-true}
+use Rattle.lemmas.proofs.Bools.{false_not_true}
 use Rattle.layout.specs.declared.Geometry.{Geometry}
 use Rattle.layout.specs.Places.{IsGeometry}
 use Rattle.tree.specs.Names.{Name, is_dots, is_name, most_name}
 use Rattle.tree.specs.Tree.{Tree}
 use Rattle.tree.specs.Space.{data_zones, zones_used}
-use Rattle.tree.proofs.Maps.{not_true}
 use Rattle.volume.specs.Reading.{Disk}
 use Rattle.descriptors.specs.Files.{Files}
 use Rattle.node_steps.specs.Stands.{Stands}
@@ -49,7 +49,7 @@ module _ (g : Geometry) (ok : IsGeometry g) (d : Disk) (x : Asked) where
   says_at b o is says t ready = says t ready ∙ ap (λ (p : Option ℕ). nat_le (zones_used g (carried x.what p t)) (data_zones g)) (sym is)
 
   by_name : (o : Option ℕ) → x.there ≡ o → is_some o ≡ true → SaysFits g d x true
-  by_name None is some = absurd (not_true some)
+  by_name None is some = absurd (false_not_true some)
   by_name (Some q) is some = says_at true (Some q) is (λ t ready. sym (le-leb _ _
       (fits_dropped g d t x.what q x.what.is_directory ready.from_node ready.to_node ready.node ok ready.holds (asked_at t (Some q) is ready))))
 
@@ -59,7 +59,7 @@ module _ (g : Geometry) (ok : IsGeometry g) (d : Disk) (x : Asked) where
 
   nothing : (o : Option ℕ) → is_some o ≡ false → o ≡ None
   nothing None h = refl
-  nothing (Some q) h = absurd (not_true (sym h))
+  nothing (Some q) h = absurd (false_not_true (sym h))
 
   module _ (free : is_some x.there ≡ false) where
     none : x.there ≡ None

@@ -4,6 +4,8 @@ use mathlib.Core.Logic.{inl, inr}
 use Rattle.std.specs.Prelude.{Option, is_some, nat_lt}
 use Rattle.std.specs.Ordering.{eq_by_cmp}
 use Rattle.std.proofs.lemmas.Bool.{cases_Bool, cases_eq}
+use Rattle.lemmas.proofs.Bools.{false_not_true, to_T}
+use Rattle.lemmas.proofs.Options.{some_same}
 use Rattle.layout.specs.declared.Geometry.{Geometry}
 use Rattle.layout.specs.Places.{IsGeometry}
 use Rattle.tree.specs.Names.{Name, inode_of, name_cmp, with_name, without_name}
@@ -13,10 +15,9 @@ use Rattle.tree.specs.Walk.{Place}
 use Rattle.tree.specs.Changes.{fewer_links, with_link_lost, with_names}
 use Rattle.tree.specs.Space.{data_zones, numbers_in_zone, pages_of, zones_of, zones_used}
 use Rattle.tree.specs.ZonesNeeded.{zones_needed}
-use Rattle.tree.proofs.Maps.{is_the_one, not_true}
 use Rattle.tree.proofs.Entries.{gone_name, other_name, weigh_with_name_over}
 use Rattle.tree.proofs.Fewer.{nameless_less, nodes_less, on_node_less, with_node_less, without_entry_less}
-use Rattle.tree.proofs.Places.{from_true, without_name_fits}
+use Rattle.tree.proofs.Places.{without_name_fits}
 use Rattle.tree.proofs.Totals.{only_nothing, weigh_one}
 use Rattle.tree.proofs.Views.{on_node_at, on_node_elsewhere, view_gained}
 use Rattle.tree.proofs.Weights.{weigh_with_name, weigh_without_name}
@@ -59,9 +60,9 @@ as_many g k l same = ap (λ n. zones_needed (numbers_in_zone g) (λ q. nat_lt q 
 name_over : (g : Geometry) (now : ℕ) (name : Name) (n : ℕ) (x : Node) (b : Body) (q : ℕ) → IsBody g b → is_dir (record x { body = b }) ≡ true
     → inode_of (names_of (Some (record x { body = b }))) name ≡ Some q
     → zones_of g (Some (with_names now (λ names. with_name names name n) (record x { body = b }))) ≡ zones_of g (Some (record x { body = b }))
-name_over g now name n x (is_file f) q fits kind found = absurd (not_true kind)
+name_over g now name n x (is_file f) q fits kind found = absurd (false_not_true kind)
 name_over g now name n x (is_directory d) q fits kind found =
-    let over = weigh_with_name_over (λ _. 1) name n q d.names (from_true _ fits.sorted) found in
+    let over = weigh_with_name_over (λ _. 1) name n q d.names (to_T _ fits.sorted) found in
     let a = weigh_one (with_name d.names name n) in
     let b = weigh_one d.names in
     as_many g (length (with_name d.names name n)) (length d.names) (omega (arith, over, a, b))
@@ -70,7 +71,7 @@ name_over g now name n x (is_directory d) q fits kind found =
 name_changed : (g : Geometry) (now k : ℕ) (old new : Name) (n m : ℕ) (x : Node) (b : Body) → IsBody g b → is_dir (record x { body = b }) ≡ true
     → inode_of (names_of (Some (record x { body = b }))) old ≡ Some m → inode_of (names_of (Some (record x { body = b }))) new ≡ None
     → zones_of g (Some (with_names now (λ names. with_name names new n) (less now old k (record x { body = b })))) ≡ zones_of g (Some (record x { body = b }))
-name_changed g now k old new n m x (is_file f) fits kind found free = absurd (not_true kind)
+name_changed g now k old new n m x (is_file f) fits kind found free = absurd (false_not_true kind)
 name_changed g now k old new n m x (is_directory d) fits kind found free =
     let gone : inode_of (without_name d.names old) new ≡ None = elim (cases_Bool (eq_by_cmp name_cmp old new)) [
       | inl tie ↦ ap (inode_of (without_name d.names old)) (sym (same_by_cmp old new tie)) ∙ gone_name d.names old
@@ -94,7 +95,7 @@ module _ (g : Geometry) (d : Disk) (t : Tree) (m : Move) (there : Option ℕ) (f
   out_fits : (k : ℕ) (x : Node) → (out_of m t).nodes k ≡ Some x → IsBody g x.body
   out_fits k x is = elim (cases_eq k m.from) [
     | inl e ↦
-        let same : less m.now m.old.now (links_of m) from ≡ x = is_the_one _ _ (sym (out_here t m from a.from_there) ∙ sym (ap (out_of m t).nodes e) ∙ is) in
+        let same : less m.now m.old.now (links_of m) from ≡ x = some_same _ _ (sym (out_here t m from a.from_there) ∙ sym (ap (out_of m t).nodes e) ∙ is) in
         subst (λ (y : Node). IsBody g y.body) same
         (less_fits g m.now m.old.now (links_of m) from from.body (a.tree.nodes.each m.from from a.from_there).body)
     | inr apart ↦ (a.tree.nodes.each k x (sym (out_other t m k apart) ∙ is)).body
@@ -110,7 +111,7 @@ module _ (g : Geometry) (d : Disk) (t : Tree) (m : Move) (there : Option ℕ) (f
 
 -- what is there
 some_number : (o : Option ℕ) → is_some o ≡ true → (n : ℕ) × (o ≡ Some n)
-some_number None h = absurd (not_true h)
+some_number None h = absurd (false_not_true h)
 some_number (Some n) h = (n, refl)
 
 -- over a name
@@ -125,7 +126,7 @@ module _ (g : Geometry) (d : Disk) (t : Tree) (m : Move) (q : ℕ) (from to node
       let one : zones_of g (Some (with_names m.now (in_names t m) y)) ≡ zones_of g (Some y) + 0 =
       (let same = name_over g m.now m.new.now m.number y y.body found.0 (out_fits g d t m (Some q) from to node ok holds a m.to y y_there) goal.parent.kind found.1 in omega (arith, same)) in
       let all = view_gained (zones_of g) (out_of m t) m.to (with_names m.now (in_names t m)) 0 (ap is_some y_there)
-      (λ x e. subst (λ (z : Node). zones_of g (Some (with_names m.now (in_names t m) z)) ≡ zones_of g (Some z) + 0) (is_the_one y x (sym y_there ∙ e)) one) k in
+      (λ x e. subst (λ (z : Node). zones_of g (Some (with_names m.now (in_names t m) z)) ≡ zones_of g (Some z) + 0) (some_same y x (sym y_there ∙ e)) one) k in
       let none = only_nothing m.to 0 k refl in
       let last = zones_are t m g k in
       omega (arith, all, none, last)
@@ -150,7 +151,7 @@ dropped_less g now n parent false t =
 -- within a directory
 module _ (g : Geometry) (t : Tree) (m : Move) (from to node : Node) (a : IsAsked g t m None from to node) (e : m.from ≡ m.to) where
   free : inode_of (names_of (Some from)) m.new.now ≡ None
-  free = ap (λ (x : Node). inode_of (names_of (Some x)) m.new.now) (is_the_one from to (sym a.from_there ∙ ap t.nodes e ∙ a.to_there)) ∙ a.finds
+  free = ap (λ (x : Node). inode_of (names_of (Some x)) m.new.now) (some_same from to (sym a.from_there ∙ ap t.nodes e ∙ a.to_there)) ∙ a.finds
 
   here : zones_of g ((on_node (out_of m t) m.from (with_names m.now (in_names t m))).nodes m.from) ≡ zones_of g (t.nodes m.from)
   here =

@@ -5,6 +5,7 @@ use Rattle.std.specs.Prelude.{◌&&◌, nat_le, nat_lt, option_map, if◌then◌
 use Rattle.std.specs.Borrow.{Bor}
 use Rattle.std.specs.List.{All}
 use Rattle.std.proofs.lemmas.Bool.{cases_lt, le-leb, le-ltb, leb-true, lt-ltb}
+use Rattle.lemmas.proofs.Bools.{false_not_true}
 use Rattle.errno.specs.declared.Errno.{Errno}
 use Rattle.errno.specs.declared.Errno.TheVariants.{EINVAL, ENOENT, ENOSPC}
 use Rattle.layout.specs.declared.Geometry.{Geometry}
@@ -19,7 +20,6 @@ use Rattle.tree.specs.Changes.{fewer_links, has_no_link, with_link_lost, without
 use Rattle.tree.specs.Space.{data_zones, zones_used}
 use Rattle.tree.specs.Answers.{Effect, done, if_it_fits, refused}
 use Rattle.tree.specs.NameCalls.{is_same, is_within, rename, rename_onto, with_moved, without_moved, without_replaced}
-use Rattle.tree.proofs.Maps.{not_true}
 use Rattle.tree.proofs.RenameCall.{rename_keeps}
 use Rattle.tree.proofs.TreeOver.{IsOver, over_on_node, over_with_node}
 use Rattle.volume.specs.Reading.{Disk}
@@ -95,7 +95,7 @@ if_too_big g u lacking = ap (λ b. if b then Err ENOSPC else Ok (done, u)) big
     big : nat_lt (data_zones g) (zones_used g u) ≡ true
     big = elim (cases_lt (data_zones g) (zones_used g u)) [
       | inl more ↦ lt-ltb _ _ more
-      | inr few ↦ absurd (not_true (lacking ∙ le-leb _ _ few))
+      | inr few ↦ absurd (false_not_true (lacking ∙ le-leb _ _ few))
     ]
 
 pub volume_of : (g : Geometry) (d : Disk) (f : Files) → IsHeld g (HasFiles f) d → IsVolume g d

@@ -3,11 +3,11 @@ use Rattle.std.proofs.Common.{◌≡◌, ◌≢◌, ◌<◌, ◌≤◌, ◌+◌,
 use mathlib.Core.Logic.{inl, inr}
 use Rattle.std.specs.Prelude.{◌&&◌, ◌||◌, ◌==◌, nat_lt, nat_le, IsTrue}
 use Rattle.std.proofs.lemmas.Bool.{cases_eq, cases_lt, cases_Bool, eq-eqb, ne_eqb, eqb-true, lt-ltb, le-ltb, le-leb, leb-true, ltb-true, and_parts, and_from, or_cases}
+use Rattle.lemmas.proofs.Bools.{false_not_true}
 use Rattle.layout.specs.Places.{is_block_size}
 use Rattle.tree.specs.Sums.{sum_below, count_below, some_below, one_if}
 use Rattle.tree.specs.ZonesNeeded.{zones_needed, page_limit}
 use Rattle.tree.specs.ZonesNeededByPlace.{last_needed, second_needed, third_needed}
-use Rattle.tree.proofs.Maps.{not_true}
 use Rattle.tree.proofs.Needs.{zones_needed_is_by_place}
 use Rattle.tree.proofs.Search.{found_below, one_below}
 use Rattle.calls_rename.specs.Sizes.{first_pages}
@@ -123,7 +123,7 @@ one_hit f p (suc n) q low at only = elim (cases_eq n q) [
 by_test : (f : ℕ → ℕ) (p n q : ℕ) (b : Bool) → (b ≡ true → (q < n) × (f q ≡ p)) → ((k : ℕ) → f k ≡ p → (k ≡ q) × (b ≡ true)) → hits f p n ≡ one_if b
 by_test f p n q b right only = elim (cases_Bool b) [
   | inl is ↦ one_hit f p n q (right is).0 (right is).1 (λ k e. (only k e).0) ∙ sym (ap one_if is)
-  | inr out ↦ no_hit f p n (λ k few e. not_true (sym out ∙ (only k e).1)) ∙ sym (ap one_if out)
+  | inr out ↦ no_hit f p n (λ k few e. false_not_true (sym out ∙ (only k e).1)) ∙ sym (ap one_if out)
 ]
 
 -- a page is the first of a block that names pages, or of one above

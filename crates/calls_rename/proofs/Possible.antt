@@ -4,6 +4,8 @@ use mathlib.Core.Logic.{inl, inr}
 use Rattle.std.specs.Prelude.{is_some}
 use Rattle.std.specs.Ordering.{eq_by_cmp}
 use Rattle.std.proofs.lemmas.Bool.{cases_Bool, cases_eq, cond-true, eqb-false}
+use Rattle.lemmas.proofs.Bools.{false_not_true}
+use Rattle.lemmas.proofs.Options.{some_same}
 use Rattle.layout.specs.declared.Geometry.{Geometry}
 use Rattle.layout.specs.Places.{IsGeometry}
 use Rattle.tree.specs.Sums.{one_if, put, sum_below}
@@ -11,7 +13,6 @@ use Rattle.tree.specs.Names.{inode_of, name_cmp, with_name}
 use Rattle.tree.specs.Tree.{Node, Tree, is_dir, most_size, names_of, size_of}
 use Rattle.tree.specs.Changes.{with_names}
 use Rattle.tree.specs.Space.{data_zones, zones_used}
-use Rattle.tree.proofs.Maps.{is_the_one, not_true}
 use Rattle.tree.proofs.Entries.{other_name}
 use Rattle.tree.proofs.Growth.{grown_fits}
 use Rattle.tree.proofs.Shapes.{kind_of}
@@ -33,7 +34,7 @@ use Rattle.calls_rename.proofs.Between.{IsLess, changed_then, in_names, into_her
 
 -- what is there
 some_node : (o : Option Node) → is_some o ≡ true → (x : Node) × (o ≡ Some x)
-some_node None h = absurd (not_true h)
+some_node None h = absurd (false_not_true h)
 some_node (Some x) h = (x, refl)
 
 few : (b : Bool) → one_if b ≤ 1
@@ -75,7 +76,7 @@ module _ (g : Geometry) (t : Tree) (m : Move) (there : Option ℕ) (from to node
 
   -- the same node
   same_node : m.to ≡ m.from → to ≡ from
-  same_node e = is_the_one to from (sym a.to_there ∙ ap t.nodes e ∙ a.from_there)
+  same_node e = some_same to from (sym a.to_there ∙ ap t.nodes e ∙ a.from_there)
 
   from_less : IsLess from (less m.now m.old.now (links_of m) from) m.old.now
   from_less = is_less g m.now m.old.now (links_of m) from from.body (a.tree.nodes.each m.from from a.from_there).body a.from_kind
@@ -90,7 +91,7 @@ module _ (g : Geometry) (t : Tree) (m : Move) (there : Option ℕ) (from to node
     other_names : m.to ≡ m.from → eq_by_cmp name_cmp m.old.now m.new.now ≡ false
     other_names e = elim (cases_Bool (eq_by_cmp name_cmp m.old.now m.new.now)) [
       | inr differ ↦ differ
-      | inl tie ↦ absurd (differs (is_the_one m.number q (
+      | inl tie ↦ absurd (differs (some_same m.number q (
           sym a.leads ∙ ap (inode_of (names_of (Some from))) (same_by_cmp m.old.now m.new.now tie)
           ∙ ap (λ (x : Node). inode_of (names_of (Some x)) m.new.now) (sym (same_node e)) ∙ finds)))
     ]

@@ -3,13 +3,13 @@ use Rattle.std.proofs.Common.{◌≡◌, ◌≤◌, ◌+◌, ◌*◌, ℕ, lengt
 use mathlib.Core.Logic.{inl, inr}
 use Rattle.std.specs.Prelude.{IsTrue, is_some, nat_le, ◌==◌}
 use Rattle.std.proofs.lemmas.Bool.{and_parts, cases_eq, eq-eqb, leb-true, ne_eqb}
+use Rattle.lemmas.proofs.Bools.{false_not_true}
 use Rattle.layout.specs.declared.Geometry.{Geometry}
 use Rattle.layout.specs.Places.{IsGeometry}
 use Rattle.tree.specs.Names.{Names, inode_of}
 use Rattle.tree.specs.Answers.{Effect}
 use Rattle.tree.specs.Tree.{Body, Node, Tree, is_dir, is_dir_at, is_directory, is_file, names_of, size_of}
 use Rattle.tree.specs.NameCalls.{is_empty}
-use Rattle.tree.proofs.Maps.{not_true}
 use Rattle.volume.specs.declared.Inode.{Inode}
 use Rattle.volume.specs.Reading.{Disk, is_inode}
 use Rattle.volume.specs.Pieces.{Pieces, pieces}
@@ -26,7 +26,7 @@ use Rattle.calls_rename.specs.Barred.{IsFound, other_at}
 
 -- a directory has no names where its size is that of two entries
 no_names_by_size : (node : Node) (body : Body) (size : ℕ) → node.body ≡ body → is_dir node ≡ true → size ≡ size_of node.body → is_empty node ≡ (size == 128)
-no_names_by_size node (is_file f) size is dir sized = absurd (not_true (sym (ap (λ (b : Body). is_dir (record node { body = b })) is) ∙ dir))
+no_names_by_size node (is_file f) size is dir sized = absurd (false_not_true (sym (ap (λ (b : Body). is_dir (record node { body = b })) is) ∙ dir))
 no_names_by_size node (is_directory d) size is dir sized =
     let names : length (names_of (Some node)) ≡ length d.names = ap (λ (b : Body). length (names_of (Some (record node { body = b })))) is in
     let wide : size ≡ 64 * (length d.names + 2) = sized ∙ ap size_of is in

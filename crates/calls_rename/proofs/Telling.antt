@@ -3,11 +3,12 @@ use Rattle.std.proofs.Common.{◌≡◌, ◌≤◌, ◌<◌, ◌+◌, ◌-◌, �
 use mathlib.Core.Logic.{inl, inr}
 use Rattle.std.specs.Prelude.{IsTrue, nat_le}
 use Rattle.std.proofs.lemmas.Bool.{cases_lt, le-leb, lt-leb}
+use Rattle.lemmas.proofs.Bools.{false_not_true}
+use Rattle.lemmas.proofs.Options.{some_same}
 use Rattle.layout.specs.declared.Geometry.{Geometry}
 use Rattle.layout.specs.Places.{IsGeometry}
 use Rattle.tree.specs.Tree.{Body, Node, Tree, is_dir, is_directory, is_file, size_of}
 use Rattle.tree.specs.Space.{data_zones, zones_used}
-use Rattle.tree.proofs.Maps.{is_the_one, not_true}
 use Rattle.volume.specs.declared.Inode.{Inode}
 use Rattle.volume.specs.Reading.{Disk, is_inode}
 use Rattle.volume.specs.Pieces.{Pieces, pieces}
@@ -39,7 +40,7 @@ same_order p q r s to from = elim (cases_lt q p) [
 
 -- a directory has its first two entries
 has_two : (x : Node) (b : Body) → is_dir (record x { body = b }) ≡ true → 64 ≤ size_of b
-has_two x (is_file f) kind = absurd (not_true kind)
+has_two x (is_file f) kind = absurd (false_not_true kind)
 has_two x (is_directory d) kind = omega arith
 
 module _ (g : Geometry) (d : Disk) (ok : IsGeometry g) (x : Asked) (t : Tree) (is : IsElsewhere g d t x) where
@@ -76,7 +77,7 @@ module _ (g : Geometry) (d : Disk) (ok : IsGeometry g) (x : Asked) (t : Tree) (i
     | inl over ↦ over
     | inr fits ↦
         let may = may_move_where_it_fits g t x.what is.from_node is.to_node is.node ok is.asked is.apart fits in
-        let same : is.to_node ≡ may.put.node = is_the_one _ _ (sym is.asked.to_there ∙ sym (out_other t x.what x.what.to (λ e. is.apart (sym e))) ∙ may.put.parent.there) in
+        let same : is.to_node ≡ may.put.node = some_same _ _ (sym is.asked.to_there ∙ sym (out_other t x.what x.what.to (λ e. is.apart (sym e))) ∙ may.put.parent.there) in
         let size = may.put.size in
         let e = ap (λ (y : Node). size_of y.body) same in
         let f = new_size in

@@ -1,6 +1,8 @@
 -- The zones of a tree after a move to another directory.
 use Rattle.std.proofs.Common.{◌≡◌, ◌≢◌, ◌-◌, ◌+◌, ℕ, true, Option, Some, None, refl, sym, ap, subst, ◌∙◌, arith, replicate}
 use Rattle.std.specs.Prelude.{is_some}
+use Rattle.lemmas.proofs.Bools.{false_not_true}
+use Rattle.lemmas.proofs.Options.{some_same}
 use Rattle.layout.specs.declared.Geometry.{Geometry}
 use Rattle.layout.specs.Places.{IsGeometry}
 use Rattle.tree.specs.Names.{Name, Names, inode_of, without_name}
@@ -9,7 +11,6 @@ use Rattle.tree.specs.IsTree.{IsBody}
 use Rattle.tree.specs.Changes.{with_names}
 use Rattle.tree.specs.Space.{numbers_in_zone, zones_of, zones_used}
 use Rattle.tree.specs.ZonesNeeded.{zones_needed}
-use Rattle.tree.proofs.Maps.{is_the_one, not_true}
 use Rattle.tree.proofs.Totals.{only_at, sum_moved, weigh_one}
 use Rattle.tree.proofs.Views.{view_gained, view_lost}
 use Rattle.tree.proofs.Weights.{weigh_without_name}
@@ -39,7 +40,7 @@ use Rattle.calls_rename.proofs.Between.{in_names, out_names, out_other, zones_ar
 zones_less : (g : Geometry) (now : ℕ) (name : Name) (n : ℕ) (x : Node) (b : Body) (y : ℕ) → IsBody g b → is_dir (record x { body = b }) ≡ true
     → inode_of (names_of (Some (record x { body = b }))) name ≡ Some n → zones_of_size g (size_of b) ≡ zones_of_size g (size_of b - 64) + y
     → zones_of g (Some (record x { body = b })) ≡ zones_of g (Some (with_names now (λ names. without_name names name) (record x { body = b }))) + y
-zones_less g now name n x (is_file f) y fits kind found more = absurd (not_true kind)
+zones_less g now name n x (is_file f) y fits kind found more = absurd (false_not_true kind)
 zones_less g now name n x (is_directory d) y fits kind found more =
     let less = weigh_without_name (λ _. 1) name n d.names fits.sorted found in
     let a = weigh_one (without_name d.names name) in
@@ -88,12 +89,12 @@ module _ (g : Geometry) (t : Tree) (m : Move) (from to node : Node) (a : IsAsked
 
   gone : (k : ℕ) → zones_of g (t.nodes k) ≡ zones_of g ((on_node t m.from (with_names m.now (out_names t m))).nodes k) + only_at m.from less k
   gone = view_lost (zones_of g) t m.from (with_names m.now (out_names t m)) less (ap is_some a.from_there) (λ x x_there.
-      subst (λ (y : Node). zones_of g (Some y) ≡ zones_of g (Some (with_names m.now (out_names t m) y)) + less) (is_the_one from x (sym a.from_there ∙ x_there))
+      subst (λ (y : Node). zones_of g (Some y) ≡ zones_of g (Some (with_names m.now (out_names t m) y)) + less) (some_same from x (sym a.from_there ∙ x_there))
       (zones_less g m.now m.old.now m.number from from.body less (a.tree.nodes.each m.from from a.from_there).body a.from_kind a.leads goes))
 
   come : (k : ℕ) → zones_of g ((on_node (out_of m t) m.to (with_names m.now (in_names t m))).nodes k) ≡ zones_of g ((out_of m t).nodes k) + only_at m.to more k
   come = view_gained (zones_of g) (out_of m t) m.to (with_names m.now (in_names t m)) more (ap is_some to_there) (λ x x_there.
-      subst (λ (y : Node). zones_of g (Some (with_names m.now (in_names t m) y)) ≡ zones_of g (Some y) + more) (is_the_one to x (sym to_there ∙ x_there)) comes)
+      subst (λ (y : Node). zones_of g (Some (with_names m.now (in_names t m) y)) ≡ zones_of g (Some y) + more) (some_same to x (sym to_there ∙ x_there)) comes)
 
   pub zones_moved : zones_used g (moved m t) + less ≡ zones_used g t + more
   zones_moved =

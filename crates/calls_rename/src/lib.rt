@@ -1,6 +1,4 @@
-//! The call `rename`, over any blocks: what its moves need of the tree, whether there is room for them, and the call. No memory is taken.
-//!
-//! What a rename asks before it moves, over any blocks: what its two paths name, and what bars the move. Nothing is changed, and no memory
+//! The client call `rename`, over any blocks: what its two paths name, what bars the move, whether there is room, and the move. No memory
 //! is taken.
 #![tactic(auto)]
 
@@ -14,11 +12,12 @@ mod moves;
 mod renamed;
 mod room;
 
+pub use asked::{Asked, find_asked};
+pub use barred::why_barred;
 pub use laws::{found_is_asked, moves_that_fit};
 pub use moves::{a_move_takes_zones, moves_are_possible};
 pub use renamed::rename;
-// passed on, for what tells calls apart
-pub use asked::{Asked, find_asked};
-pub use barred::why_barred;
-pub use calls_link;
 pub use room::has_room;
+
+// passed on, for what tells calls apart
+pub use calls_link;

@@ -12,8 +12,8 @@ pub fn moves_are_possible()
     ensures dropped { MayDropOther }
 {}
 
-/// A move to a new name of another directory takes what `file::zones_for` says of 64 bytes at the end of that one, and gives back what
-/// `crate::last_page::let_go` says of the size of the old one.
+/// A move to a new name of another directory takes what `file::file_room::zones_for` says of 64 bytes at the end of that one, and gives
+/// back what `crate::last_page::let_go` says of the size of the old one.
 pub fn a_move_takes_zones()
     ensures { MoveTakes }
 {}

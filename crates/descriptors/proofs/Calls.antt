@@ -6,6 +6,8 @@ use Rattle.std.specs.Option.{ok_or}
 use Rattle.std.proofs.lemmas.Bool.{cases_eq, cases_Bool, eq-eqb, eqb-true, or_cases, or_parts}
 use Rattle.std.proofs.lemmas.List.{length-set, get_or_read, get_or-set_same}
 use Rattle.std.proofs.lemmas.List.Quantifiers.{position-Some}
+use Rattle.lemmas.proofs.Bools.{false_not_true}
+use Rattle.lemmas.proofs.Options.{none_from}
 use Rattle.errno.specs.declared.Errno.{Errno}
 use Rattle.errno.specs.declared.Errno.TheVariants.{EBADF, EMFILE, ENFILE}
 use Rattle.tree.specs.Sums.{some_below}
@@ -13,7 +15,7 @@ use Rattle.tree.specs.Tree.{OpenFile, Tree, leads_to, has_descriptor, with_descr
 use Rattle.tree.specs.Refusals.{◌>>=◌, free_place, or_refuse}
 use Rattle.tree.specs.Changes.{open_file_of, without_unused}
 use Rattle.tree.specs.FileCalls.{with_open}
-use Rattle.tree.proofs.Maps.{not_nothing, not_true}
+use Rattle.tree.proofs.Maps.{not_nothing}
 use Rattle.descriptors.specs.Keys.{at_position}
 use Rattle.descriptors.specs.Files.{Files, AreFiles, files_in, tree_with, put_file, room_for_file, dup_file, close_file, let_go, file_at, moved}
 use Rattle.descriptors.specs.Table.{Table, IsTable, session_at, opened_at, number_at, files_of}
@@ -58,14 +60,9 @@ room_is t s i l =
     ap (λ (a : Result ℕ Errno). a >>= λ x. ok_or (position is_none t.opened) ENFILE >>= λ y. Ok tt) (sym (free_fd t s i l))
     ∙ ap (λ (b : Result ℕ Errno). free_place (number_at t s) most_descriptors EMFILE >>= λ x. b >>= λ y. Ok tt) (sym (free_number t i))
 
--- what is none is nothing
-is_nothing : {X : Type 0} (o : Option X) → is_none o ≡ true → o ≡ None
-is_nothing None h = refl
-is_nothing (Some x) h = absurd (not_true h)
-
 -- a free place is within the list
 first_there : {X : Type 0} (xs : List (Option X)) (n : ℕ) → position is_none xs ≡ Some n → (n < length xs) × (get_or xs n None ≡ None)
-first_there xs n e = let p = position-Some is_none xs n None e in (p.0, is_nothing (get_or xs n None) p.1)
+first_there xs n e = let p = position-Some is_none xs n None e in (p.0, none_from (get_or xs n None) p.1)
 
 -- a free descriptor is within the session
 pub fd_low : (t : Table) (s fd : ℕ) → IsTable t → s < most_sessions → position is_none (session_at t s) ≡ Some fd → (fd < most_descriptors) × (number_at t s fd ≡ None)
@@ -96,7 +93,7 @@ put_done t s inode flags fd k i l h g =
 
 -- a value is there
 pub the_value : {X : Type 0} (o : Option X) → IsTrue (is_some o) → (x : X) × (o ≡ Some x)
-the_value None h = absurd (not_true h)
+the_value None h = absurd (false_not_true h)
 the_value (Some x) h = (x, refl)
 
 -- the open file of a number, by what is found
@@ -143,7 +140,7 @@ session_has t s k = some_below (λ gd. leads_to k (number_at t s gd)) most_descr
 
 -- what leads to it is its number
 leads_is : (k : ℕ) (o : Option ℕ) → leads_to k o ≡ true → o ≡ Some k
-leads_is k None h = absurd (not_true h)
+leads_is k None h = absurd (false_not_true h)
 leads_is k (Some j) h = ap Some (eqb-true j k h)
 
 -- and its number leads to it
@@ -208,7 +205,7 @@ pub last_close_is : (t : Table) (s fd k : ℕ) → IsTable t → s < most_sessio
     → session_has (with_number t s fd None) s k ≡ false → IsTable (with_number (with_file t k None) s fd None)
 last_close_is t s fd k i l m e h = last_close_keeps t s fd k i l m e (λ gd d there.
     let ls : s < length t.sessions = omega (arith, l, i.sessions) in
-    not_true (sym h ∙ found_below (λ gd. leads_to k (number_at (with_number t s fd None) s gd)) most_descriptors gd (within t s gd k i there).1
+    false_not_true (sym h ∙ found_below (λ gd. leads_to k (number_at (with_number t s fd None) s gd)) most_descriptors gd (within t s gd k i there).1
     (is_leads k _ (number-beside t s fd gd None ls d ∙ there))))
 
 -- the open file of a descriptor, by its number
@@ -248,7 +245,7 @@ any_is p xs n e = elim (cases_Bool (list_any p xs)) [
   | inr h ↦ h ∙ sym (none_below (λ k. p (get_or xs k None)) n (λ k l. none xs h k (omega (arith, l, e))))
 ] where
   witness : (ys : List (Option OpenFile)) → list_any p ys ≡ true → (k : ℕ) × (k < length ys) × (p (get_or ys k None) ≡ true)
-  witness [] h = absurd (not_true h)
+  witness [] h = absurd (false_not_true h)
   witness (y ∷ ys) h = elim (or_cases (p y) (list_any p ys) h) [
     | inl a ↦ (zero, omega arith, a)
     | inr a ↦ let w = witness ys a in (suc w.0, omega (arith, w.1), w.2)

@@ -3,8 +3,10 @@ use Rattle.std.proofs.Common.{◌≡◌, ◌≢◌, ◌<◌, ◌≤◌, ℕ, Lis
 use Rattle.std.specs.Prelude.{is_some, IsTrue}
 use Rattle.std.proofs.lemmas.Bool.{cases_eq, cases_lt}
 use Rattle.std.proofs.lemmas.List.{length-set, get_or_past, get_or-set_same, get_or-set_other}
+use Rattle.lemmas.proofs.Bools.{false_not_true}
+use Rattle.lemmas.proofs.Options.{some_same}
 use Rattle.tree.specs.Tree.{OpenFile, most_sessions, most_descriptors, most_open_files, most_size}
-use Rattle.tree.proofs.Maps.{is_the_one, not_nothing, not_true}
+use Rattle.tree.proofs.Maps.{not_nothing}
 use Rattle.descriptors.specs.Table.{Table, IsTable, session_at, opened_at, number_at}
 use Rattle.descriptors.proofs.Tables.{with_number, with_file, number-here, number-beside, number-apart, opened-here, opened-apart}
 
@@ -37,7 +39,7 @@ within t s fd k i e = elim (cases_lt s most_sessions) [
 pub below : (t : Table) (k : ℕ) → IsTable t → IsTrue (is_some (opened_at t k)) → k < most_open_files
 below t k i h = elim (cases_lt k most_open_files) [
   | inl l ↦ l
-  | inr l ↦ absurd (not_true (sym (ap is_some (get_or_past t.opened k None (omega (arith, l, i.files)))) ∙ h))
+  | inr l ↦ absurd (false_not_true (sym (ap is_some (get_or_past t.opened k None (omega (arith, l, i.files)))) ∙ h))
 ]
 
 -- where an old number stands after a change of one descriptor
@@ -81,22 +83,22 @@ pub put_keeps : (t : Table) (s fd k : ℕ) (o : OpenFile) → IsTable t → s < 
 put_keeps t s fd k o i l m n free none fits =
     let lk : k < length t.opened = omega (arith, n, i.files) in
     let new : opened_at (with_file t k (Some o)) k ≡ Some o = opened-here t k (Some o) lk in
-    let other : (j : ℕ) → IsTrue (is_some (opened_at t j)) → j ≢ k = λ j h e. not_true (sym (ap is_some (ap (opened_at t) e ∙ none)) ∙ h) in
+    let other : (j : ℕ) → IsTrue (is_some (opened_at t j)) → j ≢ k = λ j h e. false_not_true (sym (ap is_some (ap (opened_at t) e ∙ none)) ∙ h) in
     let is = was_there t s fd (Some k) i l m in record {
       files = length-set t.opened k (Some o) ∙ i.files;
       sessions = length-set t.sessions s (set (session_at t s) fd (Some k)) ∙ i.sessions;
       each = each_after t s fd (Some k) i l;
       leads = λ r gd j e. elim (is r gd j e) [
-        | inl p ↦ subst (λ (n : ℕ). IsTrue (is_some (opened_at (with_file t k (Some o)) n))) (is_the_one k j p.2) (ap is_some new)
+        | inl p ↦ subst (λ (n : ℕ). IsTrue (is_some (opened_at (with_file t k (Some o)) n))) (some_same k j p.2) (ap is_some new)
         | inr p ↦ let h = i.leads r gd j p.1 in ap is_some (opened-apart t k j (Some o) (other j h)) ∙ h
       ];
       own = λ r q gd hd j e f. elim (is r gd j e) [
         | inl p ↦ elim (is q hd j f) [
           | inl x ↦ p.0 ∙ sym x.0
-          | inr x ↦ absurd (other j (i.leads q hd j x.1) (sym (is_the_one k j p.2)))
+          | inr x ↦ absurd (other j (i.leads q hd j x.1) (sym (some_same k j p.2)))
         ]
         | inr p ↦ elim (is q hd j f) [
-          | inl x ↦ absurd (other j (i.leads r gd j p.1) (sym (is_the_one k j x.2)))
+          | inl x ↦ absurd (other j (i.leads r gd j p.1) (sym (some_same k j x.2)))
           | inr x ↦ i.own r q gd hd j p.1 x.1
         ]
       ];
@@ -107,7 +109,7 @@ put_keeps t s fd k o i l m n free none fits =
             (old.0, old.1, still_there t s fd (Some k) i l old.0 old.1 j (λ p q. not_nothing j (sym (ap (λ (n : ℕ). number_at t n old.1) p ∙ ap (number_at t s) q ∙ free) ∙ old.2)) old.2)
       ];
       positions = λ j p e. elim (cases_eq j k) [
-        | inl x ↦ subst (λ (f : OpenFile). f.position ≤ most_size) (is_the_one o p (sym new ∙ ap (opened_at (with_file t k (Some o))) (sym x) ∙ e)) fits
+        | inl x ↦ subst (λ (f : OpenFile). f.position ≤ most_size) (some_same o p (sym new ∙ ap (opened_at (with_file t k (Some o))) (sym x) ∙ e)) fits
         | inr d ↦ i.positions j p (sym (opened-apart t k j (Some o) d) ∙ e)
       ];
     }
@@ -153,7 +155,7 @@ close_keeps t s fd gd k i l m old d other =
       own = λ r q hd jd j e f. i.own r q hd jd j (is r hd j e) (is q jd j f);
       in_use = λ j h. let was = i.in_use j h in elim (place s fd was.0 was.1) [
         | here p q ↦
-            let same : k ≡ j = is_the_one k j (sym old ∙ ap (λ (n : ℕ). number_at t n fd) (sym p) ∙ ap (number_at t was.0) (sym q) ∙ was.2) in
+            let same : k ≡ j = some_same k j (sym old ∙ ap (λ (n : ℕ). number_at t n fd) (sym p) ∙ ap (number_at t was.0) (sym q) ∙ was.2) in
             (s, gd, still_there t s fd None i l s gd j (λ z. d) (other ∙ ap Some same))
         | beside p x ↦ (was.0, was.1, still_there t s fd None i l was.0 was.1 j (λ z. x) was.2)
         | apart x ↦ (was.0, was.1, still_there t s fd None i l was.0 was.1 j (λ z. absurd (x z)) was.2)
@@ -185,13 +187,13 @@ last_close_keeps t s fd k i l m old last =
       leads = λ r hd j e. let o = other r hd j e in ap is_some (opened-apart t k j None o.1) ∙ i.leads r hd j o.0;
       own = λ r q hd jd j e f. i.own r q hd jd j (other r hd j e).0 (other q jd j f).0;
       in_use = λ j h. elim (cases_eq j k) [
-        | inl x ↦ absurd (not_true (sym (ap is_some (ap (opened_at (with_file t k None)) x ∙ gone)) ∙ h))
+        | inl x ↦ absurd (false_not_true (sym (ap is_some (ap (opened_at (with_file t k None)) x ∙ gone)) ∙ h))
         | inr d ↦
             let was = i.in_use j (sym (ap is_some (opened-apart t k j None d)) ∙ h) in (
               was.0,
               was.1,
               still_there t s fd None i l was.0 was.1 j
-                  (λ p q. d (sym (is_the_one k j (sym old ∙ ap (λ (n : ℕ). number_at t n fd) (sym p) ∙ ap (number_at t was.0) (sym q) ∙ was.2)))) was.2,
+                  (λ p q. d (sym (some_same k j (sym old ∙ ap (λ (n : ℕ). number_at t n fd) (sym p) ∙ ap (number_at t was.0) (sym q) ∙ was.2)))) was.2,
             )
       ];
       positions = λ j p e. elim (cases_eq j k) [
@@ -216,7 +218,7 @@ move_keeps t k o p i old fits =
       own = i.own;
       in_use = λ j h. i.in_use j (sym (same j) ∙ h);
       positions = λ j q e. elim (cases_eq j k) [
-        | inl x ↦ subst (λ (f : OpenFile). f.position ≤ most_size) (is_the_one p q (sym new ∙ ap (opened_at (with_file t k (Some p))) (sym x) ∙ e)) fits
+        | inl x ↦ subst (λ (f : OpenFile). f.position ≤ most_size) (some_same p q (sym new ∙ ap (opened_at (with_file t k (Some p))) (sym x) ∙ e)) fits
         | inr d ↦ i.positions j q (sym (opened-apart t k j (Some p) d) ∙ e)
       ];
     }

@@ -5,8 +5,10 @@ use Rattle.std.specs.List.{position}
 use Rattle.std.proofs.lemmas.Bool.{cases_eq, cases_lt}
 use Rattle.std.proofs.lemmas.List.{get_or-set_same, get_or-set_other, length-map, get_or_past, set-set, set-get_or, map-set, get_or-map}
 use Rattle.std.proofs.lemmas.List.Sums.{sum_by-set, count_by-le-length}
+use Rattle.lemmas.proofs.Bools.{false_not_true}
+use Rattle.lemmas.proofs.Options.{some_same}
 use Rattle.slab.specs.Slab.{with_value, Slab, get, slab_len, HasRoomFor, Updates}
-use Rattle.tree.proofs.Maps.{is_the_one, not_nothing, not_true}
+use Rattle.tree.proofs.Maps.{not_nothing}
 use Rattle.descriptors.specs.declared.opened.Opened.{Opened}
 use Rattle.tree.specs.Tree.{OpenFile}
 use Rattle.descriptors.specs.Keys.{at_position, file_of, file_under, AreKeys}
@@ -14,7 +16,7 @@ use Rattle.descriptors.proofs.Searches.{same_first}
 
 -- nothing stands at a key that isn't there
 pub no_key : (slab : Slab Opened) (key : ℕ) → IsTrue (is_some (get slab key)) → get slab key ≡ None → ⊥
-no_key slab key there none = not_true (sym (ap is_some none) ∙ there)
+no_key slab key there none = false_not_true (sym (ap is_some none) ∙ there)
 
 -- where there is a key there is an open file
 pub some_under : (slab : Slab Opened) (keys : List (Option ℕ)) (o : Option ℕ) → ((key : ℕ) → o ≡ Some key → IsTrue (is_some (get slab key))) → is_some (file_under slab o) ≡ is_some o
@@ -22,7 +24,7 @@ some_under slab keys None h = refl
 some_under slab keys (Some key) h = there (get slab key) (h key refl)
   where
     there : (p : Option Opened) → IsTrue (is_some p) → is_some (option_map file_of p) ≡ true
-    there None t = absurd (not_true t)
+    there None t = absurd (false_not_true t)
     there (Some x) t = refl
 
 -- the first number without a key is the first without an open file
@@ -85,7 +87,7 @@ keys_inserted s t keys n key file a low free was u len capacity = record {
   numbers = length-set keys n (Some key) ∙ a.numbers;
   held = λ k other e. elim (cases_eq k n) [
     | inl is ↦
-        let same : other ≡ key = is_the_one other key (sym e ∙ ap (λ j. get_or (set keys n (Some key)) j None) is ∙ get_or-set_same keys n (Some key) None low) in
+        let same : other ≡ key = some_same other key (sym e ∙ ap (λ j. get_or (set keys n (Some key)) j None) is ∙ get_or-set_same keys n (Some key) None low) in
         subst (λ (x : ℕ). IsTrue (is_some (get t x))) (sym same) (subst (λ (o : Option Opened). IsTrue (is_some o)) (sym u.changed) refl)
     | inr d ↦
         let was_there = sym (get_or-set_other keys n k (Some key) None d) ∙ e in
@@ -96,12 +98,12 @@ keys_inserted s t keys n key file a low free was u len capacity = record {
     | inl is ↦ elim (cases_eq k n) [
       | inl too ↦ is ∙ sym too
       | inr d ↦
-          let same : other ≡ key = is_the_one other key (sym e ∙ ap (λ i. get_or (set keys n (Some key)) i None) is ∙ get_or-set_same keys n (Some key) None low) in
+          let same : other ≡ key = some_same other key (sym e ∙ ap (λ i. get_or (set keys n (Some key)) i None) is ∙ get_or-set_same keys n (Some key) None low) in
           absurd (no_key s key (a.held k key (sym (get_or-set_other keys n k (Some key) None d) ∙ f ∙ ap Some same)) was)
     ]
     | inr d ↦ elim (cases_eq k n) [
       | inl is ↦
-          let same : other ≡ key = is_the_one other key (sym f ∙ ap (λ i. get_or (set keys n (Some key)) i None) is ∙ get_or-set_same keys n (Some key) None low) in
+          let same : other ≡ key = some_same other key (sym f ∙ ap (λ i. get_or (set keys n (Some key)) i None) is ∙ get_or-set_same keys n (Some key) None low) in
           absurd (no_key s key (a.held j key (sym (get_or-set_other keys n j (Some key) None d) ∙ e ∙ ap Some same)) was)
       | inr c ↦ a.apart j k other (sym (get_or-set_other keys n j (Some key) None d) ∙ e) (sym (get_or-set_other keys n k (Some key) None c) ∙ f)
     ]
@@ -195,12 +197,12 @@ free_in s keys now n a e l none =
       | inl is ↦ is
       | inr some ↦
           let seen : file_under s (get_or keys n None) ≡ None = sym (seen_at s keys n low) ∙ ap (λ (os : List (Option OpenFile)). get_or os n None) e ∙ none in
-          absurd (not_true (sym (ap is_some seen) ∙ some_under s keys (get_or keys n None) (λ key is. a.held n key is) ∙ ap is_some some.1))
+          absurd (false_not_true (sym (ap is_some seen) ∙ some_under s keys (get_or keys n None) (λ key is. a.held n key is) ∙ ap is_some some.1))
     ]
 
 -- a number of what is open is within the list
 pub open_in : (now : List (Option OpenFile)) (n : ℕ) → IsSome (get_or now n None) → n < length now
 open_in now n some = elim (cases_lt n (length now)) [
   | inl low ↦ low
-  | inr past ↦ absurd (not_true (sym (ap is_some (get_or_past now n None past)) ∙ some))
+  | inr past ↦ absurd (false_not_true (sym (ap is_some (get_or_past now n None past)) ∙ some))
 ]

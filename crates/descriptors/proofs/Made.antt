@@ -3,8 +3,9 @@ use Rattle.std.proofs.Common.{◌≡◌, ◌<◌, ◌≤◌, ℕ, List, [], leng
 use Rattle.std.specs.Prelude.{is_some}
 use Rattle.std.proofs.lemmas.Bool.{cases_lt}
 use Rattle.std.proofs.lemmas.List.{get_or-replicate, get_or_past, length-replicate}
+use Rattle.lemmas.proofs.Bools.{false_not_true}
 use Rattle.tree.specs.Tree.{OpenFile, most_sessions, most_descriptors, most_open_files}
-use Rattle.tree.proofs.Maps.{not_nothing, not_true}
+use Rattle.tree.proofs.Maps.{not_nothing}
 use Rattle.descriptors.specs.Made.{no_files}
 use Rattle.descriptors.specs.Table.{Table, IsTable, session_at, opened_at, number_at, files_of}
 use Rattle.descriptors.proofs.Tables.{nothing, none_at, same_files}
@@ -43,7 +44,7 @@ is_table = record {
   each = λ s l. ap length (row_is s l) ∙ length-replicate most_descriptors (nothing {X = ℕ});
   leads = λ s fd k e. absurd (not_nothing k (sym (nowhere s fd) ∙ e));
   own = λ s r fd gd k e f. absurd (not_nothing k (sym (nowhere s fd) ∙ e));
-  in_use = λ k h. absurd (not_true (sym (ap is_some (no_file k)) ∙ h));
+  in_use = λ k h. absurd (false_not_true (sym (ap is_some (no_file k)) ∙ h));
   positions = λ k o e. absurd (not_nothing o (sym (no_file k) ∙ e));
 }
 

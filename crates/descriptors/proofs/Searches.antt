@@ -4,10 +4,10 @@ use Rattle.std.specs.Prelude.{◌==◌, is_none, is_some, not, Ok, Err, nat_lt, 
 use Rattle.std.specs.List.{position, position_or_len}
 use Rattle.std.specs.Option.{ok_or}
 use Rattle.std.proofs.lemmas.Bool.{cond-true, cond-false, eq-eqb, ne_eqb, cases_eq, cases_Bool, or_cases, or_left, or_right, lt-ltb, le-ltb, cases_lt}
+use Rattle.lemmas.proofs.Bools.{false_not_true}
 use Rattle.errno.specs.declared.Errno.{Errno}
 use Rattle.tree.specs.Sums.{some_below, least_below}
 use Rattle.tree.specs.Refusals.{free_place}
-use Rattle.tree.proofs.Maps.{not_true}
 
 -- one number that passes is enough
 pub found_below : (p : ℕ → Bool) (n k : ℕ) → k < n → p k ≡ true → some_below p n ≡ true
@@ -21,7 +21,7 @@ found_below p (suc n) k l h = elim (cases_eq k n) [
 -- and there is one
 pub one_below : (p : ℕ → Bool) (n : ℕ) → some_below p n ≡ true → (k : ℕ) × (k < n) × (p k ≡ true)
 unfolding some_below
-one_below p zero h = absurd (not_true h)
+one_below p zero h = absurd (false_not_true h)
 one_below p (suc n) h = elim (or_cases (some_below p n) (p n) h) [
   | inl e ↦ let found = one_below p n e in (found.0, omega (arith, found.1), found.2)
   | inr e ↦ (n, omega arith, e)
@@ -30,7 +30,7 @@ one_below p (suc n) h = elim (or_cases (some_below p n) (p n) h) [
 -- none passes where none below the bound does
 pub none_below : (p : ℕ → Bool) (n : ℕ) → ((k : ℕ) → k < n → p k ≡ false) → some_below p n ≡ false
 none_below p n h = elim (cases_Bool (some_below p n)) [
-  | inl e ↦ let found = one_below p n e in absurd (not_true (sym (h found.0 found.1) ∙ found.2))
+  | inl e ↦ let found = one_below p n e in absurd (false_not_true (sym (h found.0 found.1) ∙ found.2))
   | inr e ↦ e
 ]
 
@@ -39,7 +39,7 @@ pub none_more : (p : ℕ → Bool) (n : ℕ) → some_below p n ≡ false → p 
 none_more p n h e = none_below p (n + 1) (λ k l. elim (cases_eq k n) [
   | inl is ↦ ap p is ∙ e
   | inr d ↦ elim (cases_Bool (p k)) [
-    | inl y ↦ absurd (not_true (sym h ∙ found_below p n k (omega arith) y))
+    | inl y ↦ absurd (false_not_true (sym h ∙ found_below p n k (omega arith) y))
     | inr y ↦ y
   ]
 ])
@@ -52,12 +52,12 @@ least_at p (suc n) k le before here = elim (cases_Bool (some_below p n)) [
   | inl s ↦
       let found = one_below p n s in
       let low : k ≤ n = elim (cases_lt found.0 k) [
-        | inl l ↦ absurd (not_true (sym (before found.0 l) ∙ found.2))
+        | inl l ↦ absurd (false_not_true (sym (before found.0 l) ∙ found.2))
         | inr l ↦ omega (arith, l, found.1)
       ] in
       cond-true (some_below p n) _ _ s ∙ least_at p n k low before (λ l. here (omega (arith, l)))
   | inr s ↦ cond-false (some_below p n) _ _ s ∙ elim (cases_lt k n) [
-    | inl l ↦ absurd (not_true (sym s ∙ found_below p n k l (here (omega (arith, l)))))
+    | inl l ↦ absurd (false_not_true (sym s ∙ found_below p n k l (here (omega (arith, l)))))
     | inr l ↦ elim (cases_eq k n) [
       | inl e ↦ cond-true (p n) n (suc n) (ap p (sym e) ∙ here (omega (arith, e))) ∙ sym e
       | inr d ↦ let is : k ≡ suc n = omega (arith, l, d, le) in cond-false (p n) n (suc n) (before n (omega (arith, is))) ∙ sym is

@@ -44,12 +44,6 @@ number_in_bytes n low = (λ i. (at 0 (omega arith) i + 256 * at 1 (omega arith) 
         let same : 0 + k ≡ k = omega arith in
         sym (ap (with_bytes 0 (to_le_bytes w32 n) (λ o. 0)) (sym same) ∙ row_new 0 (to_le_bytes w32 n) (λ o. 0) k l)
 
--- a list of zeros has a zero at each place
-pub zero_at : (n o : ℕ) → get_or (replicate n zero) o zero ≡ zero
-zero_at zero o = refl
-zero_at (suc n) zero = refl
-zero_at (suc n) (suc o) = zero_at n o
-
 -- a name, put into zeros
 pub is_name_field : (name bytes : List ℕ) (f : ℕ → ℕ) → length bytes ≡ 60 → ((o : ℕ) → f o ≡ 0) → ((o : ℕ) → slice_index bytes o ≡ with_bytes 0 name f o) → IsNameBytes bytes name
 is_name_field name bytes f many zeros written = record {

@@ -5,13 +5,12 @@ use Rattle.std.specs.Prelude.{None, Some, Option, T}
 use Rattle.std.specs.Ordering.{eq_by_cmp}
 use Rattle.std.specs.FinMap.Entries.{is_sorted, is_sorted-where_key}
 use Rattle.std.proofs.lemmas.Bool.{cases_eq, cases_Bool, cond-true, cond-false}
+use Rattle.lemmas.proofs.Options.{some_same}
+use Rattle.lemmas.proofs.Bools.{to_T}
 use Rattle.tree.specs.Names.{Name, Names, name_cmp, inode_of, with_name, without_name}
 use Rattle.tree.proofs.Names.{inode_of-with_name, sorted-with_name, same_names}
 use Rattle.tree.proofs.Entries.{gone_name, other_name}
 use Rattle.volume.proofs.Entries.{collected, found_entry, entry_found, sorted, same_by_cmp, cmp_itself, cmp_apart}
-
-to_T : (b : Bool) → b ≡ true → T b
-to_T b e = subst T (sym e) tt
 
 -- options that hold the same are one
 option_same : (x y : Option ℕ) → ((n : ℕ) → x ≡ Some n → y ≡ Some n) → ((n : ℕ) → y ≡ Some n → x ≡ Some n) → x ≡ y
@@ -49,9 +48,6 @@ some_other es name q x y apart is = inode_of-with_name es name x q ∙ cond-fals
 
 other_some : (es : Names) (name q : Name) (x y : ℕ) → q ≢ name → inode_of (with_name es name x) q ≡ Some y → inode_of es q ≡ Some y
 other_some es name q x y apart is = sym (inode_of-with_name es name x q ∙ cond-false _ (Some x) (inode_of es q) (cmp_apart q name apart)) ∙ is
-
-the_same : (x y : ℕ) → Some x ≡ Some y → x ≡ y
-the_same x y e = cc
 
 -- different entries have different names
 abbrev pub Apart : (ℕ → Name) → ℕ → Type 0
@@ -160,7 +156,7 @@ module _ (a b : ℕ → Name) (t u : ℕ → ℕ) (m e : ℕ) (apart : Apart a m
         ])
         (λ q y is. elim (same_or_not q name) [
           | inl same ↦
-              let value : x ≡ y = the_same x y (sym (some_here left name x) ∙ ap (inode_of (with_name left name x)) (sym same) ∙ is) in
+              let value : x ≡ y = some_same x y (sym (some_here left name x) ∙ ap (inode_of (with_name left name x)) (sym same) ∙ is) in
               leads b u m e y q replaced_apart low (here.0 ∙ sym same) (here.1 ∙ value)
           | inr differ ↦
               let w = without_some old (a e) q y (other_some left name q x y differ is) in

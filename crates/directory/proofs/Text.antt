@@ -4,6 +4,7 @@ use mathlib.Core.Logic.{inl, inr}
 use Rattle.std.specs.Prelude.{not, ◌&&◌, ◌||◌, ◌==◌, nat_lt, nat_le, slice_index}
 use Rattle.std.specs.List.{list_any}
 use Rattle.std.proofs.lemmas.Bool.{cases_eq, cond-true, cond-false, eq-eqb, ne_eqb, eqb-true, leb-true, and_parts, and_from, or_parts, not-true, not-false, not_from_false, not_from_true}
+use Rattle.lemmas.proofs.Bools.{and_false_right}
 use Rattle.tree.specs.Sums.{some_below}
 use Rattle.tree.specs.Names.{Name, is_name, is_dots, most_name, dot, dot_dot}
 use Rattle.volume.specs.Nodes.{text_in, entry_name}
@@ -18,11 +19,6 @@ bad c = (c == 47) || (c == 0) || nat_lt 255 c
 pub record IsPlain (name : Name) : Type 0 where
   pub short : length name ≤ 60
   pub clean : list_any bad name ≡ false
-
--- where both hold and one does so does the other
-pub and_false : (a b : Bool) → (a && b) ≡ false → a ≡ true → b ≡ false
-and_false true b e t = e
-and_false false b e t = absurd (cc)
 
 -- 0 is bad
 bad_zero : (x : ℕ) → x ≡ 0 → bad x ≡ true
@@ -98,7 +94,7 @@ module _ (f : ℕ → ℕ) (e : ℕ) where
   pub bytes_of_good : has_good_field f e ≡ true → (a : ℕ) → a < 60 → f (64 * e + 4 + a) ≡ slice_index (entry_name f e) a
   bytes_of_good good = fills f 60 (64 * e + 4) (λ a low none.
       let out = none_below unpadded 59 (not-true _ (and_parts (not (some_below unpadded 59)) (is_name (entry_name f e)) good).0) a (omega arith) in
-      let next = and_false (f (64 * e + 4 + a) == 0) (not (f (64 * e + 4 + (a + 1)) == 0)) out (eq-eqb _ 0 none) in
+      let next = and_false_right (f (64 * e + 4 + a) == 0) (not (f (64 * e + 4 + (a + 1)) == 0)) out (eq-eqb _ 0 none) in
       let d : 64 * e + 4 + suc a ≡ 64 * e + 4 + (a + 1) = omega arith in
       ap f d ∙ eqb-true _ 0 (not-false _ next))
 

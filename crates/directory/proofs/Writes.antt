@@ -3,6 +3,7 @@ use Rattle.std.proofs.Common.{◌≡◌, ◌≢◌, ◌<◌, ◌≤◌, ◌+◌,
 use mathlib.Core.Logic.{inl, inr}
 use Rattle.std.specs.Prelude.{not, ◌&&◌, ◌||◌, ◌==◌, nat_lt, IsTrue}
 use Rattle.std.proofs.lemmas.Bool.{or_cases, or_left, or_right, eqb-true, eqb-false, not-true, not_from_false, ne_eqb, cond-true, cond-false, lt-ltb, le-ltb, and_from}
+use Rattle.lemmas.proofs.Numbers.{not_zero}
 use Rattle.layout.specs.declared.Geometry.{Geometry}
 use Rattle.layout.specs.Places.{IsGeometry, is_block_size}
 use Rattle.tree.specs.Names.{Name, dot_dot}
@@ -41,10 +42,6 @@ in_page s b size = each_size (In s) b size (omega arith, omega arith) (omega ari
 begins : (t p b : ℕ) → IsTrue (is_block_size b) → p < (t + b - 1) / b → p * b < t
 begins t p b size = each_size (λ w. p < (t + w - 1) / w → p * w < t) b size (λ low. omega arith) (λ low. omega arith) (λ low. omega arith)
 
--- a page that is held
-held_zone : (z : ℕ) → not (z == 0) ≡ true → z ≢ 0
-held_zone z is = eqb-false z 0 (not-true _ is)
-
 zone_held : (z : ℕ) → z ≢ 0 → not (z == 0) ≡ true
 zone_held z some = not_from_false _ (ne_eqb z 0 some)
 
@@ -55,7 +52,7 @@ module _ (g : Geometry) (v w : Pieces) (n : ℕ) (ok : IsGeometry g) (d : IsSoun
   module _ (at : ℕ) (bytes : List ℕ) (e : file_of g w (w.inodes n) ≡ file_after_write g file at bytes) where
     -- a page that was held is
     still_held : (p : ℕ) → page_zone g v (v.inodes n) p ≢ 0 → page_zone g w (w.inodes n) p ≢ 0
-    still_held p some = held_zone _ (ap (λ f. f.held p) e ∙ or_left (file.held p) _ (zone_held _ some))
+    still_held p some = not_zero _ (ap (λ f. f.held p) e ∙ or_left (file.held p) _ (zone_held _ some))
 
     -- a write within the size
     same_size : at + length bytes ≤ (v.inodes n).size → SameSize g v w n
@@ -76,7 +73,7 @@ module _ (g : Geometry) (v w : Pieces) (n : ℕ) (ok : IsGeometry g) (d : IsSoun
         let near = in_page (v.inodes n).size b ok.block_size in
         let n0 : q * b ≤ (v.inodes n).size = near.0 in
         let n1 : (v.inodes n).size < (q + 1) * b = near.1 in
-        held_zone _ (ap (λ f. f.held q) e ∙ or_right (file.held q) (nat_lt (q * b) (at + length bytes) && nat_lt at ((q + 1) * b))
+        not_zero _ (ap (λ f. f.held q) e ∙ or_right (file.held q) (nat_lt (q * b) (at + length bytes) && nat_lt at ((q + 1) * b))
         (and_from (nat_lt (q * b) (at + length bytes)) (nat_lt at ((q + 1) * b))
         (lt-ltb (q * b) (at + length bytes) (omega (arith, n0, some, end))) (lt-ltb at ((q + 1) * b) (omega (arith, n1, end)))))
 
@@ -124,7 +121,7 @@ module _ (g : Geometry) (v w : Pieces) (n size : ℕ) (f : File) (ok : IsGeometr
   resized_held : ((p : ℕ) → page_zone g v (v.inodes n) p ≢ 0 → f.held p ≡ true) → (p : ℕ) → p < pages_of g (w.inodes n).size → page_zone g v (v.inodes n) p ≢ 0 → page_zone g w (w.inodes n) p ≢ 0
   resized_held held p low some =
       let under = begins size p g.block_size ok.block_size (subst (λ s. p < pages_of g s) (ap (λ x. x.size) e) low) in
-      held_zone _ (ap (λ x. x.held p) e ∙ and_from (f.held p) (nat_lt (p * g.block_size) size) (held p some) (lt-ltb (p * g.block_size) size under))
+      not_zero _ (ap (λ x. x.held p) e ∙ and_from (f.held p) (nat_lt (p * g.block_size) size) (held p some) (lt-ltb (p * g.block_size) size under))
 
 pub file_removed : FileRemoved
 file_removed g v w n e bytes ok d past low copy is =

@@ -1,4 +1,4 @@
--- The same of a directory of a volume.
+-- What a change of names does to a directory of a volume.
 use Rattle.std.specs.Prelude.{◌≡◌, ◌≢◌, ℕ, ◌+◌, ◌/◌, ◌%◌, ◌<◌, ◌≤◌, length, None, IsTrue, []}
 use Rattle.layout.specs.declared.Geometry.{Geometry}
 use Rattle.layout.specs.Places.{IsGeometry}

@@ -49,7 +49,7 @@ pub record DropsEntry (f h : ℕ → ℕ) (k e : ℕ) : Type 0 where
 abbrev pub NoneHas : (ℕ → ℕ) → ℕ → Name → Type 0
 NoneHas f k name = (e : ℕ) → 2 ≤ e → e < k → has_field f e name ≡ false
 
--- 5. The field is the name's, filled with zeros, exactly where the entry's name is it.
+-- The field is the name's, filled with zeros, exactly where the entry's name is it.
 abbrev pub FieldIsName : Type 0
 FieldIsName = (f : ℕ → ℕ) (n k e : ℕ) (name : Name) → IsRow f n k → IsTrue (is_name name) → 2 ≤ e → e < k
     → IsTrue (has_field f e name) → entry_name f e ≡ name
@@ -83,7 +83,7 @@ pub record HasEntry (f : ℕ → ℕ) (k x : ℕ) (name : Name) : Type 0 where
 abbrev pub EntryOfName : Type 0
 EntryOfName = (f : ℕ → ℕ) (n k x : ℕ) (name : Name) → IsRow f n k → inode_of (names_of_row f k) name ≡ Some x → HasEntry f k x name
 
--- 1. An entry more is a name more.
+-- An entry more is a name more.
 abbrev pub InsertedNames : Type 0
 InsertedNames = (f h : ℕ → ℕ) (n k x : ℕ) (name : Name) → IsRow f n k → IsTrue (is_name name) → SetsEntry f h k x name
     → names_of_row h (k + 1) ≡ with_name (names_of_row f k) name x
@@ -92,7 +92,7 @@ abbrev pub InsertKeeps : Type 0
 InsertKeeps = (f h : ℕ → ℕ) (n k x : ℕ) (name : Name) → IsRow f n k → IsTrue (is_name name) → x ≢ 0
     → inode_of (names_of_row f k) name ≡ None → SetsEntry f h k x name → IsRow h n (k + 1)
 
--- 2. An entry less is a name less.
+-- An entry less is a name less.
 abbrev pub RemovedNames : Type 0
 RemovedNames = (f h : ℕ → ℕ) (n k e : ℕ) → IsRow f n k → 2 ≤ e → e < k → DropsEntry f h k e
     → names_of_row h (k - 1) ≡ without_name (names_of_row f k) (entry_name f e)
@@ -100,7 +100,7 @@ RemovedNames = (f h : ℕ → ℕ) (n k e : ℕ) → IsRow f n k → 2 ≤ e →
 abbrev pub RemoveKeeps : Type 0
 RemoveKeeps = (f h : ℕ → ℕ) (n k e : ℕ) → IsRow f n k → 2 ≤ e → e < k → DropsEntry f h k e → IsRow h n (k - 1)
 
--- 3 and 4. An entry that changes is its name gone and another there.
+-- An entry that changes is its name gone and another there.
 abbrev pub ReplacedNames : Type 0
 ReplacedNames = (f h : ℕ → ℕ) (n k e x : ℕ) (name : Name) → IsRow f n k → 2 ≤ e → e < k → IsTrue (is_name name)
     → (inode_of (names_of_row f k) name ≡ None) ⊎ (name ≡ entry_name f e) → SetsEntry f h e x name
@@ -122,7 +122,7 @@ ReparentedNames = (f h : ℕ → ℕ) (n k x : ℕ) → IsRow f n k → SetsEntr
 abbrev pub ReparentKeeps : Type 0
 ReparentKeeps = (f h : ℕ → ℕ) (n k x : ℕ) → IsRow f n k → x ≢ 0 → SetsEntry f h 1 x dot_dot → IsRow h n k
 
--- 6. A row has as many names as entries but two, and one entry more is put on the others.
+-- A row has as many names as entries but two, and one entry more is put on the others.
 abbrev pub CountedNames : Type 0
 CountedNames = (f : ℕ → ℕ) (n k : ℕ) → IsRow f n k → length (names_of_row f k) + 2 ≡ k
 

@@ -92,7 +92,7 @@ pub(crate) fn place_of<B: Blocks>(
 }
 
 /// Makes a name of a directory lead to another inode; it stands where it stood. Its times become `now`, in seconds. Unsound only where the
-/// volume isn't sound, the directory hasn't the name, or it is to lead to inode 0.
+/// volume isn't sound, the directory hasn't the name or is longer than a file may be, or it is to lead to inode 0.
 pub fn replace<B: Blocks>(
     blocks: &mut B,
     geometry: &Geometry,
@@ -120,7 +120,8 @@ pub fn replace<B: Blocks>(
 }
 
 /// Gives what has a name in a directory another name, of 1 to 60 bytes, that the directory hasn't: its entry stays where it is. The
-/// directory's times become `now`, in seconds. Unsound only where the volume isn't sound, or the directory hasn't the old name.
+/// directory's times become `now`, in seconds. Unsound only where the volume isn't sound, the
+/// directory hasn't the old name or is longer than a file may be, or the new name is none or stands in it.
 pub fn rename<B: Blocks>(
     blocks: &mut B,
     geometry: &Geometry,

@@ -1,7 +1,11 @@
 //! Laws of the entries of a directory, from bytes to names: what a change of one entry does.
 
-ghost use Rattle.directory.specs.Rows.{AllBytes, CountedNames, EntryOfName, FieldIsName, FoundEntry, InsertKeeps, InsertedNames, NameIsField, NamesCommute, NewRow, NextName, NoEntry, NoneAtFirst, NoneHasIt, NoneSoFar, OtherByte, RemoveKeeps, RemovedNames, RenamedOnto, ReparentKeeps, ReparentedNames, ReplaceKeeps, ReplacedNames, RetargetedNames, SortedNames};
-ghost use Rattle.directory.specs.Directories.{DirectoryIsRow, EmptyIsTwo, Inserted, NewDirectory, Removed, Renamed, Reparented, Retargeted, RowIsDirectory, WholeAgain, WholeStill};
+ghost use Rattle.directory.specs.Rows.{AllBytes, CountedNames, EntryOfName, FieldIsName, FoundEntry, InsertKeeps, InsertedNames};
+ghost use Rattle.directory.specs.Rows.{NameIsField, NamesCommute, NewRow, NextName, NoEntry, NoneAtFirst, NoneHasIt, NoneSoFar, OtherByte};
+ghost use Rattle.directory.specs.Rows.{RemoveKeeps, RemovedNames, RenamedOnto, ReparentKeeps, ReparentedNames, ReplaceKeeps, ReplacedNames};
+ghost use Rattle.directory.specs.Rows.{RetargetedNames, SortedNames};
+ghost use Rattle.directory.specs.Directories.{DirectoryIsRow, EmptyIsTwo, Inserted, NewDirectory, Removed, Renamed, Reparented, Retargeted};
+ghost use Rattle.directory.specs.Directories.{RowIsDirectory, WholeAgain, WholeStill};
 ghost use Rattle.directory.specs.Files.{ResizeDropsLast, WriteDropsEntry, WriteSetsEntry, WriteSetsNumber};
 ghost use Rattle.directory.specs.Writes.{FileInserted, FileLastRemoved, FileRemoved, FileRenamed, FileReparented, FileRetargeted};
 

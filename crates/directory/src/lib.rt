@@ -1,7 +1,5 @@
-//! Directories: rows of entries of 64 bytes in the zones of a volume, seen as names that lead to inodes.
-//!
-//! Changes of a directory's names, over any blocks: its rows of 64 bytes are written, and it grows and shrinks with them. No memory is
-//! taken.
+//! Directories: rows of entries of 64 bytes in the zones of a volume, seen as names that lead to inodes; names are looked up, added,
+//! taken away and changed, over any blocks. No memory is taken.
 #![tactic(auto)]
 
 mod bytes;

@@ -1,6 +1,7 @@
 //! The drivers of a media, run by whoever waits for them, and started when the reincarnation server says.
 
-ghost use Rattle.std.specs.Prelude.{◌≡◌, ◌≢◌, ◌≤◌, ◌<◌, ◌+◌, ◌^◌, ◌⊎◌, ◌↔◌, ◌||◌, ◌==◌, true, false, List, [], ◌∷◌, ◌++◌, length, is_some, None, Err, OnOk, OnErr, IfOk};
+ghost use Rattle.std.specs.Prelude.{◌≡◌, ◌≢◌, ◌≤◌, ◌<◌, ◌+◌, ◌^◌, ◌⊎◌, ◌↔◌, ◌||◌, ◌==◌, true, false, List, [], ◌∷◌, ◌++◌, length, is_some};
+ghost use Rattle.std.specs.Prelude.{None, Err, OnOk, OnErr, IfOk};
 ghost use Rattle.std.specs.VecDeque.{deque_capacity};
 ghost use Rattle.records.specs.Marks.{Mark};
 ghost use Rattle.records.specs.Opening.{Opening};

@@ -1,6 +1,7 @@
 //! A link whose drivers are replaced as the restart policy says.
 
-ghost use Rattle.std.specs.Prelude.{◌≡◌, ◌≢◌, ◌⊎◌, ◌↔◌, ◌≤◌, ◌<◌, ◌+◌, ◌++◌, ◌∷◌, true, false, List, [], length, All, None, Err, IfOk, OnOk, OnErr, is_ok, map};
+ghost use Rattle.std.specs.Prelude.{◌≡◌, ◌≢◌, ◌⊎◌, ◌↔◌, ◌≤◌, ◌<◌, ◌+◌, ◌++◌, ◌∷◌, true, false, List, [], length, All, None, Err, IfOk};
+ghost use Rattle.std.specs.Prelude.{OnOk, OnErr, is_ok, map};
 ghost use Rattle.records.specs.Marks.{Mark, Issued};
 ghost use Rattle.records.specs.Open.{MayFollow};
 ghost use Rattle.records.specs.Opening.{Opening, Fits};

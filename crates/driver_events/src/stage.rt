@@ -218,7 +218,7 @@ impl<D: LocalDriver> Stage<D> {
     }
 
     /// What an event does to the drivers, the one with this number, and what message it brings. The calls that arrive wait elsewhere.
-    pub fn play(
+    pub fn run(
         &mut self,
         alloc: Global,
         log: &mut Log,
@@ -228,7 +228,8 @@ impl<D: LocalDriver> Stage<D> {
         requires log { 0 < room_in log.old }
         requires room { HasRoom self.old.drivers }
         requires ticks { self.old.tick + 1 < 2 ^ 32 }
-        ensures plays { Occurs place event.now (scene_of D.state self.old (said log.old)) result (scene_of D.state self.new (said log.new)) }
+        ensures plays { Occurs place event.now (scene_of D.state self.old (said log.old)) result
+            (scene_of D.state self.new (said log.new)) }
         ensures room { room_in log.old ≤ room_in log.new + 1 }
         ensures over { log.new.over ≡ log.old.over }
         ensures tick { self.new.tick ≤ self.old.tick + 1 }

@@ -5,6 +5,7 @@ use Rattle.std.specs.Prelude.{◌==◌, ◌&&◌, ◌||◌, not, nat_le, nat_lt}
 use Rattle.std.proofs.lemmas.Bool.{cases_eq, cases_lt, cases_Bool, and_from, and_parts, or_cases, eq-eqb, ne_eqb, lt-ltb, le-ltb, le-leb, lt-leb, leb-true, ltb-true, both_ways, not_from_false}
 use Rattle.std.proofs.lemmas.Nat.{div-add-mod', mul-add-lt}
 use Rattle.std.proofs.Math.Nat.{mul_comm, mod-lt}
+use Rattle.lemmas.proofs.Numbers.{not_zero}
 use Rattle.zone.proofs.Filling.{above_place}
 use Rattle.layout.specs.declared.Geometry.{Geometry}
 use Rattle.tree.specs.Sums.{put, count_below, sum_below, one_if}
@@ -20,7 +21,6 @@ use Rattle.volume.proofs.Bridge.{limit_at}
 use Rattle.zone.specs.ZoneSteps.{first_places}
 use Rattle.zone.specs.Missing.{group, needed_from}
 use Rattle.zone.proofs.Missing.{count_put, needed_all}
-use Rattle.zone.proofs.Full.{not_zero}
 use Rattle.zone.specs.Pages.{child_at, place_count}
 use Rattle.zone.specs.CutFiles.{IsFull}
 use Rattle.file.specs.Need.{or_from, is_taken, holes, NeedsAt, NeedsMore}

@@ -3,6 +3,7 @@ use Rattle.std.proofs.Common.{◌≡◌, ◌≢◌, ◌<◌, ◌*◌, ◌/◌, �
 use mathlib.Core.Logic.{inl, inr}
 use Rattle.std.specs.Prelude.{IsTrue, nat_lt, ◌&&◌, ◌==◌, not}
 use Rattle.std.proofs.lemmas.Bool.{cases_lt, cond-true, cond-false, lt-ltb, le-ltb, ne_eqb, not_from_false}
+use Rattle.lemmas.proofs.Numbers.{not_zero}
 use Rattle.layout.specs.declared.Geometry.{Geometry}
 use Rattle.tree.specs.Tree.{File}
 use Rattle.tree.specs.Changes.{file_after_resize}
@@ -16,7 +17,6 @@ use Rattle.store.specs.Volume.{Alters}
 use Rattle.inode.specs.Table.{with_inode}
 use Rattle.zone.specs.Raw.{Resizes}
 use Rattle.zone.specs.Chunks.{resized}
-use Rattle.zone.proofs.Full.{not_zero}
 use Rattle.zone.proofs.Stay.{resized_file, resize_keeps}
 use Rattle.zone.proofs.Files.{same_file}
 use Rattle.zone.specs.CutFiles.{MayDetach, LetGo, DetachesFrom, cut_at}

@@ -1,14 +1,10 @@
-//! Plays that are written as text, each against the whole service on a small volume: the replies are those of the text, and so is the image
-//! that is left.
-//!
-//! Plays that are written as text: sessions, one after the other, whose calls have their replies.
+//! Plays that are written as text, each against the whole service on a small volume: the replies are those of the text, and so is the
+//! image that is left.
 //!
 //! A line `user U G` begins a session. Each line behind it is a call, after its time, with ` -> ` and its reply behind it. Three kinds of
-//! lines are none of these: one that begins with `#` is a remark; behind `unchanged` nothing changes the image; and `left AT HEX` are bytes
-//! of the image that is left, from a place on. Where many plays stand in one text, each has its volume on a line before it
+//! lines are none of these: one that begins with `#` is a remark; behind `unchanged` nothing changes the image; and `left AT HEX` are
+//! bytes of the image that is left, from a place on. Where many plays stand in one text, each has its volume on a line before it
 //! (`scripted_plays`).
-//!
-//! Plays on small volumes, for rows of plays: each is played against the whole service, and is to give what stands in its row.
 #![tactic(auto)]
 
 pub mod deaths;

@@ -9,10 +9,10 @@ use fsck::{Verdict, check};
 use modeldisk::supply::{drivers_for, table_in};
 use schedule::Event;
 use schedule_text::reading::{Schedule, read_schedule};
+use simulation::transcript::Transcript;
+use simulation::world::World;
 use std::alloc::{AllocError, Global};
 use std::test::Fail;
-use transcript::Transcript;
-use world::World;
 
 /// The size of blocks, the parts of a schedule, what the media hold afterwards, and whether all was synced, so that the volume is clean.
 pub type Left = (usize, &'static [&'static str], &'static [Place], bool);

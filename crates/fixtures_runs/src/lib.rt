@@ -1,6 +1,4 @@
-//! Runs of schedules on new volumes, over boxed drivers, and whether they come out as a row says.
-//!
-//! What rows of runs begin with beside images, and how what came of a run is compared with what a row says.
+//! Runs of schedules on new volumes, over boxed drivers, and whether they come out as a test says.
 #![tactic(auto)]
 
 pub mod failing;
@@ -11,3 +9,6 @@ pub mod said;
 pub mod shown;
 pub mod supplies;
 pub mod writer;
+
+// passed on, for tests of runs
+pub use simulation::world::RunRefusal;

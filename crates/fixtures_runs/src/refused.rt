@@ -6,9 +6,9 @@ use bdev::Driver;
 use fixtures::changed;
 use modeldisk::RamDriver;
 use reincarnate::policy::Setup;
+use simulation::world::{RunRefusal, World};
 use std::alloc::{AllocError, Global};
 use std::test::Fail;
-use world::{RunRefusal, World};
 
 /// The missed heartbeats that are a fault, the frames, the zone map's first byte, which is 3 on a new volume, the drivers' sectors and
 /// whether each is new, and why no run is begun.

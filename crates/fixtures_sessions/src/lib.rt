@@ -1,4 +1,4 @@
-//! What is done with services and their sessions, whichever server and link they have, and a link that has ended: for rows of sessions.
+//! What is done with services and their sessions, whichever server and link they have, and a link that has ended: for tests of sessions.
 #![tactic(auto)]
 
 mod callers;

@@ -1,4 +1,4 @@
-//! Small volumes in memory, for rows of zones and of files: calls are made on them, and each is to give what stands beside it.
+//! Small volumes in memory, for tests of zones and of files: calls are made on them, and each is to give what stands beside it.
 #![tactic(auto)]
 
 pub mod calls;

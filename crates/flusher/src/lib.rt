@@ -2,7 +2,8 @@
 #![tactic(auto)]
 
 ghost use Rattle.std.specs.Prelude.{◌≡◌, ◌<◌, ◌≤◌, Ok, IfErr, OnOk};
-ghost use Rattle.cache.specs.Calls.{caching, held_by, frame_count, IsReady, IsLive, IsStuck, IsWhyCut, IsFrame, PostsAlone, Does, Keeps, LinkGoesOn, WantsFlush, messages_left};
+ghost use Rattle.cache.specs.Calls.{caching, held_by, frame_count, IsReady, IsLive, IsStuck, IsWhyCut, IsFrame, PostsAlone, Does, Keeps};
+ghost use Rattle.cache.specs.Calls.{LinkGoesOn, WantsFlush, messages_left};
 ghost use Rattle.reissue.specs.Transfers.{begun_in};
 ghost use Rattle.cache.specs.Takes.{NoReadBegun};
 ghost use Rattle.cache.specs.Edits.{AllClean, SomeUnclean};

@@ -1,4 +1,4 @@
-//! Making and checking volumes: the image of a new one, and the verdict on an image, whatever its bytes are.
+//! Checking volumes: the verdict on an image, whatever its bytes are.
 #![tactic(auto)]
 
 mod blocks;
@@ -20,7 +20,7 @@ pub use verdict::{Clean, OutOfMemory, Verdict};
 use volume::Finding;
 
 /// The verdict on an image: the true finding with the least number, and of these the least place, or clean. It answers for any bytes,
-/// in time in proportion to the image. It is clean exactly where the image holds a tree without an open file. `OutOfMemory` says that no
+/// whatever they are. It is clean exactly where the image holds a tree without an open file. `OutOfMemory` says that no
 /// memory was found, and nothing of the image.
 pub fn check(alloc: Global, image: &[u8]) -> Result<Verdict, OutOfMemory>
     ensures verdict { IfOk result (λ v. shown v ≡ verdict_of image.now) }

@@ -1,4 +1,4 @@
-//! host
+//! What programs ask of the machine they run on: the words of their command lines, files read at once, files replaced whole or not at all.
 #![tactic(auto)]
 
 pub mod command_line;

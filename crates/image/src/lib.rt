@@ -1,7 +1,8 @@
-//! A volume in the bytes of an image: its bits, its inodes, the numbers in its zones and the entries of its directories.
+//! A volume in the bytes of an image, as the check reads it: its bits, its inodes, the numbers in its zones, the entries of its
+//! directories.
 //!
-//! The passes of a check over the zones that inodes name: which numbers are bad, how often a zone is named, and which zones are spare.
-//! Each indirect zone is entered once a level.
+//! Passes over the zones that inodes name say which numbers are bad, how often a zone is named, and which zones are spare. Each indirect
+//! zone is entered once a level.
 #![tactic(auto)]
 
 mod enter;

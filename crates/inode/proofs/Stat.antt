@@ -5,6 +5,7 @@ use Rattle.std.specs.Prelude.{Option, None, Some, Ok, Err, IsTrue, ◌==◌, ◌
 use Rattle.std.specs.Borrow.{Bor}
 use Rattle.std.proofs.lemmas.Bool.{cases_Bool, and_parts, eqb-true, ltb-true, lt-ltb, le-leb, lt-leb, or_cases, and_from, cond-true, cond-false}
 use Rattle.std.proofs.Math.Nat.{zero-add}
+use Rattle.lemmas.proofs.Bools.{false_not_true}
 use Rattle.layout.specs.declared.Geometry.{Geometry}
 use Rattle.layout.proofs.Parsed.{block_sizes, geometry_fits}
 use Rattle.errno.specs.declared.Errno.TheVariants.{EINVAL, ENOENT}
@@ -16,7 +17,6 @@ use Rattle.tree.specs.Answers.{Answer, Effect, refused, node_is}
 use Rattle.tree.specs.NodeCalls.{stat, attributes_of}
 use Rattle.tree.specs.Effects.{reply_to, user_of}
 use Rattle.tree.proofs.Leaves.{looks_leave}
-use Rattle.tree.proofs.Maps.{not_true}
 use Rattle.volume.specs.declared.Inode.{Inode}
 use Rattle.volume.specs.Reading.{Disk, u16_in, u32_in, inode_in, blocks_of, is_inode, inode_block, inode_offset, inode_of_disk}
 use Rattle.volume.specs.Pieces.{Pieces, pieces, blank}
@@ -87,7 +87,7 @@ module _ (g : Geometry) (v : Pieces) (sound : IsSound g v) (n : ℕ) (marked : i
   -- what is no directory is a file
   file_mode : is_directory_mode i.mode ≡ false → type_in i.mode ≡ 8
   file_mode out = elim (or_cases (type_in i.mode == 4) (type_in i.mode == 8) known) [
-    | inl is ↦ absurd (not_true (sym out ∙ is))
+    | inl is ↦ absurd (false_not_true (sym out ∙ is))
     | inr is ↦ eqb-true (type_in i.mode) 8 is
   ]
 
@@ -151,7 +151,7 @@ answer_after effect = elim effect [ Ok made ↦ made.0 | Err e ↦ refused e ]
 
 -- a directory stands where there is one
 there : (o : Option Node) → IsTrue (elim o [ None ↦ false | Some node ↦ is_dir node ]) → (node : Node) × (o ≡ Some node)
-there None is = absurd (not_true is)
+there None is = absurd (false_not_true is)
 there (Some node) is = (node, refl)
 
 module _ (g : Geometry) (image : ℕ → ℕ) (t : Tree) (holds : HoldsVolume g (blocks_of g image) t) where

@@ -2,6 +2,7 @@
 use Rattle.std.proofs.Common.{◌≡◌, ℕ, zero, suc, ◌<◌, ◌≤◌, List, [], ◌∷◌, ◌++◌, length, Bool, true, false, refl, sym, ◌∙◌, ap, subst, arith}
 use Rattle.std.proofs.lemmas.Bool.Decides.{nat_tests}
 use Rattle.std.specs.Prelude.{◌&&◌, ◌||◌, nat_le, map, reverse, Option, Some, None, Result, is_ok, is_some, slice_get}
+use Rattle.lemmas.proofs.Bools.{and_both, or_right}
 use Rattle.message.specs.declared.endpoint.Endpoint.{Endpoint}
 use Rattle.message.specs.declared.BlockRequest.{BlockRequest}
 use Rattle.message.specs.declared.Incoming.{Incoming}
@@ -196,17 +197,13 @@ delivered_some : (o : Option Sent) (message : Incoming) → Some message ≡ del
 delivered_some None message is = cc
 delivered_some (Some s) message is = refl
 
-or_told : (handed told : Bool) → told ≡ true → (handed || told) ≡ true
-or_told true told is = refl
-or_told false told is = is
-
 runs_handed : (place : ℕ) (e : Event) (b : Scene) (message : Incoming) (a : Scene) (marks : List Mark)
     → Occurs place e (begun_scene e b) (Some message) a
     → (with_message message a.noted).groups ≡ (e, marks) ∷ b.noted.groups → length b.noted.groups ≡ place
     → Each (λ s. s.place < place) b.disks.sent
     → (is_handed a.disks.sent e b.noted.groups || is_told marks) ≡ true
 runs_handed place (event.Arrive who now call) b message a marks p is at low =
-    or_told (is_handed a.disks.sent (event.Arrive who now call) b.noted.groups) (is_told marks)
+    or_right (is_handed a.disks.sent (event.Arrive who now call) b.noted.groups) (is_told marks)
     (told_first message a.noted (event.Arrive who now call) marks b.noted.groups (none_tells message (sym p.0)) is)
 runs_handed place event.Flush b message a marks p is at low = refl
 runs_handed place event.Tick b message a marks p is at low =
@@ -297,10 +294,6 @@ last_acts : (sent : List Sent) (groups : List Group) (begun : IsBegun groups) �
     → acts_when_handed (is_handed sent begun.event begun.earlier) begun.group ≡ true
 last_acts sent groups begun each = (subst (λ (l : List Group). EachGroup (ActsAsDue sent) l) begun.is each).0
 
-both_true : (x y : Bool) → x ≡ true → y ≡ true → (x && y) ≡ true
-both_true true y was_so also = also
-both_true false y was_so also = cc
-
 -- whether the server was handed something, in the last group
 handed_last : (sent : List Sent) (groups : List Group) (begun : IsBegun groups)
     → was_handed sent groups ≡ (is_handed sent begun.event begun.earlier || is_told begun.group)
@@ -319,7 +312,7 @@ done_mark sent n m begun asks tells_not handed each =
     let now : (is_handed sent begun.event begun.earlier || is_told begun.group) ≡ true = sym (handed_last sent n.groups begun) ∙ handed in (
       mark_acts sent n m begun
           (asks (is_handed sent begun.event begun.earlier) begun.group
-          ∙ both_true (is_handed sent begun.event begun.earlier || is_told begun.group) _ now (last_acts sent n.groups begun each)) each,
+          ∙ and_both (is_handed sent begun.event begun.earlier || is_told begun.group) _ now (last_acts sent n.groups begun each)) each,
       handed_mark sent n m begun ∙ ap (λ (t : Bool). is_handed sent begun.event begun.earlier || t) (tells_not begun.group) ∙ now,
     )
 
@@ -328,7 +321,7 @@ owed_acts : (sent : List Sent) (n : Noted) (begun : IsBegun n.groups) → EachGr
     → EachGroup (ActsAsDue sent) (with_mark GaveUp n).groups × (was_handed sent (with_mark GaveUp n).groups ≡ true)
 owed_acts sent n begun each = (
   mark_acts sent n GaveUp begun (last_acts sent n.groups begun each) each,
-  handed_mark sent n GaveUp begun ∙ or_told (is_handed sent begun.event begun.earlier) true refl,
+  handed_mark sent n GaveUp begun ∙ or_right (is_handed sent begun.event begun.earlier) true refl,
 )
 
 -- the server is at work, and the link hasn't ended: it was handed something
@@ -441,50 +434,50 @@ out_handed b a call doing live hands (HasNoWork rests none) =
 record ActsStand (m : Moment) : Type 0 where
   calm : OverCalm m
   begun : HasBegun m
-  calls : HasCalls (answering m.doing) m.play
-  acts : Acts m.play
-  handed : HandedOn m.play m.doing
+  calls : HasCalls (answering m.doing) m.run
+  acts : Acts m.run
+  handed : HandedOn m.run m.doing
 
 -- a step
-step_acts : (minor : ℕ) (m a : Moment) → Step minor m a → ActsStand m → ActsOn a.play × HandedOn a.play a.doing
+step_acts : (minor : ℕ) (m a : Moment) → Step minor m a → ActsStand m → ActsOn a.run × HandedOn a.run a.doing
 step_acts minor m _ (StepBegins r busy may) k = (k.acts.acts, k.handed)
 step_acts minor m _ (Tells told a busy nothing may turn) k =
-    turn_acts m.play a told m.doing turn busy (not_before m busy k.begun) k.acts k.handed
+    turn_acts m.run a told m.doing turn busy (not_before m busy k.begun) k.acts k.handed
 step_acts minor m _ (StepTakes message call a doing may turn) k =
     let busy : is_busy m.doing ≡ true = busy_answering m.doing call doing in
-    turn_acts m.play a (Received message) m.doing turn busy (not_before m busy k.begun) k.acts k.handed
-step_acts minor m _ (Settles message doing rest) k = (k.acts.acts, handed_after m.play.over _ m.doing m.play.queue k.handed)
+    turn_acts m.run a (Received message) m.doing turn busy (not_before m busy k.begun) k.acts k.handed
+step_acts minor m _ (Settles message doing rest) k = (k.acts.acts, handed_after m.run.over _ m.doing m.run.queue k.handed)
 step_acts minor m _ (Brings message a between none next) k = (
-  next_acts m.play a (Some message) (with_entry (entry.Handed message) a.scene.noted) next refl k.acts,
-  WasHanded (next_handed m.play a message (with_entry (entry.Handed message) a.scene.noted) next refl k.acts),
+  next_acts m.run a (Some message) (with_entry (entry.Handed message) a.scene.noted) next refl k.acts,
+  WasHanded (next_handed m.run a message (with_entry (entry.Handed message) a.scene.noted) next refl k.acts),
 )
 step_acts minor m _ (BringsNone a between none next) k = (
-  next_acts m.play a None a.scene.noted next refl k.acts,
-  next_none_handed m.play a m.doing next k.acts between.rests none (at_rest m between.rests k.calls),
+  next_acts m.run a None a.scene.noted next refl k.acts,
+  next_none_handed m.run a m.doing next k.acts between.rests none (at_rest m between.rests k.calls),
 )
 step_acts minor m _ (StepPays between owed told) k =
-    let x : EachGroup (ActsAsDue m.play.scene.disks.sent) (with_mark GaveUp m.play.scene.noted).groups
-    × (was_handed m.play.scene.disks.sent (with_mark GaveUp m.play.scene.noted).groups ≡ true) =
-    owed_acts m.play.scene.disks.sent m.play.scene.noted (not_owed_before m owed k.begun) k.acts.acts in
+    let x : EachGroup (ActsAsDue m.run.scene.disks.sent) (with_mark GaveUp m.run.scene.noted).groups
+    × (was_handed m.run.scene.disks.sent (with_mark GaveUp m.run.scene.noted).groups ≡ true) =
+    owed_acts m.run.scene.disks.sent m.run.scene.noted (not_owed_before m owed k.begun) k.acts.acts in
     (x.0, WasHanded x.1)
 step_acts minor m _ (HandsCall call a between paid_so hands) k = (
   subst (λ (p : RunState). ActsOn p) (sym hands.after) k.acts.acts,
-  out_handed m.play a call m.doing between.live hands k.handed,
+  out_handed m.run a call m.doing between.live hands k.handed,
 )
 step_acts minor m _ (StepReplies call reply doing live rest) k =
     let busy : is_busy m.doing ≡ true = busy_answering m.doing call doing in
     let t : Mark = Took call.who call.now call.call (answer_of reply) in
-    let x : EachGroup (ActsAsDue m.play.scene.disks.sent) (with_mark t m.play.scene.noted).groups
-    × (was_handed m.play.scene.disks.sent (with_mark t m.play.scene.noted).groups ≡ true) =
-    done_mark m.play.scene.disks.sent m.play.scene.noted t (not_before m busy k.begun) (λ h group. refl) (λ group. refl)
-    (at_work_handed m.play.over _ m.doing m.play.queue live busy k.handed) k.acts.acts in
+    let x : EachGroup (ActsAsDue m.run.scene.disks.sent) (with_mark t m.run.scene.noted).groups
+    × (was_handed m.run.scene.disks.sent (with_mark t m.run.scene.noted).groups ≡ true) =
+    done_mark m.run.scene.disks.sent m.run.scene.noted t (not_before m busy k.begun) (λ h group. refl) (λ group. refl)
+    (at_work_handed m.run.over _ m.doing m.run.queue live busy k.handed) k.acts.acts in
     (x.0, WasHanded x.1)
 
 acts_stand : (minor : ℕ) (b a : Moment) → Runs minor b a → ActsStand b → ActsStand a
 acts_stand minor b _ Starts h = h
 acts_stand minor b a (Then m _ before last) h =
     let k : ActsStand m = acts_stand minor b m before h in
-    let x : ActsOn a.play × HandedOn a.play a.doing = step_acts minor m a last k in
+    let x : ActsOn a.run × HandedOn a.run a.doing = step_acts minor m a last k in
     record {
       calm = step_calm minor m a last k.calm;
       begun = step_begun minor m a last k.calm k.acts.said.first k.begun;
@@ -495,14 +488,14 @@ acts_stand minor b a (Then m _ before last) h =
 
 pub runs_keep_acts : RunsKeepActs
 runs_keep_acts media rules supply events minor b a o rests runs =
-    let no_groups : b.play.scene.noted.groups ≡ [] = ap (λ (x : Scene). x.noted.groups) o.scene.is in
+    let no_groups : b.run.scene.noted.groups ≡ [] = ap (λ (x : Scene). x.noted.groups) o.scene.is in
     (acts_stand minor b a runs (record {
       calm = calm_before media rules supply events b o;
       begun = StandsBefore rests o.queue o.owed;
       calls = opened_calls media rules supply events b o rests;
       acts = record {
-        said = opened_said AnsweredSoFar media rules supply events b.play o (record { places = refl; sent = tt; order = refl; each = tt });
-        acts = subst (λ (l : List Group). EachGroup (ActsAsDue b.play.scene.disks.sent) l) (sym no_groups) tt;
+        said = opened_said AnsweredSoFar media rules supply events b.run o (record { places = refl; sent = tt; order = refl; each = tt });
+        acts = subst (λ (l : List Group). EachGroup (ActsAsDue b.run.scene.disks.sent) l) (sym no_groups) tt;
       };
       handed = HasNoWork rests o.queue;
     })).acts.acts

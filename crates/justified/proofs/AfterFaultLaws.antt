@@ -169,11 +169,11 @@ none_owed p doing paid is = absurd (clash (sym paid ∙ is)) where
 record GivesUpWell (drivers : ℕ) (m : Moment) : Type 0 where
   calm : OverCalm m
   begun : HasBegun m
-  said : IsSaid (OnlyFollows drivers) m.play
-  follow : LastFollows m.play.scene.noted.groups m.outbox.complaint
-  answered : IsSaid AnsweredSoFar m.play
-  after : AllAfter m.play.scene.noted.groups
-  owed : OwedWell m.play m.doing
+  said : IsSaid (OnlyFollows drivers) m.run
+  follow : LastFollows m.run.scene.noted.groups m.outbox.complaint
+  answered : IsSaid AnsweredSoFar m.run
+  after : AllAfter m.run.scene.noted.groups
+  owed : OwedWell m.run m.doing
 
 awaits_while_owed : (drivers : ℕ) (p : RunState) → IsSaid (OnlyFollows drivers) p → p.owed ≡ true → awaits_start (marks_of p.scene.noted.groups) ≡ true
 awaits_while_owed drivers p h owed = by p.scene.watch.phase h.said.phase_is where
@@ -329,48 +329,48 @@ not_complaint : (message : Incoming) (about : Endpoint) → Received message ≡
 not_complaint message about is = cc
 
 -- a step
-step_after : (minor drivers : ℕ) (m a : Moment) → Step minor m a → GivesUpWell drivers m → AllAfter a.play.scene.noted.groups × OwedWell a.play a.doing
+step_after : (minor drivers : ℕ) (m a : Moment) → Step minor m a → GivesUpWell drivers m → AllAfter a.run.scene.noted.groups × OwedWell a.run a.doing
 step_after minor drivers m _ (StepBegins r busy may) k = (k.after, k.owed)
 step_after minor drivers m _ (Tells told a busy nothing may turn) k =
-    turn_after drivers m.play a told m.doing m.outbox.complaint turn
-    (λ about is. (may_complain minor m told k.calm may about is, subst (λ (t : Told). MayAct minor (record_of m.play) m.outbox (AtLink t)) is may)) busy
+    turn_after drivers m.run a told m.doing m.outbox.complaint turn
+    (λ about is. (may_complain minor m told k.calm may about is, subst (λ (t : Told). MayAct minor (record_of m.run) m.outbox (AtLink t)) is may)) busy
     (not_before m busy k.begun) k.said k.follow k.answered k.after k.owed
 step_after minor drivers m _ (StepTakes message call a doing may turn) k =
     let busy : is_busy m.doing ≡ true = busy_answering m.doing call doing in
-    turn_after drivers m.play a (Received message) m.doing m.outbox.complaint turn (λ about is. absurd (not_complaint message about is)) busy
+    turn_after drivers m.run a (Received message) m.doing m.outbox.complaint turn (λ about is. absurd (not_complaint message about is)) busy
     (not_before m busy k.begun) k.said k.follow k.answered k.after k.owed
 step_after minor drivers m _ (Settles message doing rest) k = (
   k.after,
-  λ is. let o : IsOwedAt m.play.scene.noted.groups m.doing = k.owed is in record {
+  λ is. let o : IsOwedAt m.run.scene.noted.groups m.doing = k.owed is in record {
     number = o.number;
     group = o.group;
     earlier = o.earlier;
     is = o.is;
-    few = settled_few m.doing message (calls_since_fault (marks_of m.play.scene.noted.groups)) doing o.few;
+    few = settled_few m.doing message (calls_since_fault (marks_of m.run.scene.noted.groups)) doing o.few;
   },
 )
 step_after minor drivers m _ (Brings message a between none next) k = (
-  next_after m.play a (Some message) (with_entry (entry.Handed message) a.scene.noted) next refl k.said.first k.after,
+  next_after m.run a (Some message) (with_entry (entry.Handed message) a.scene.noted) next refl k.said.first k.after,
   none_owed (noting (entry.Handed message) a) (Hearing message) (next.owed ∙ next.paid),
 )
 step_after minor drivers m _ (BringsNone a between none next) k =
-    (next_after m.play a None a.scene.noted next refl k.said.first k.after, none_owed a m.doing (next.owed ∙ next.paid))
+    (next_after m.run a None a.scene.noted next refl k.said.first k.after, none_owed a m.doing (next.owed ∙ next.paid))
 step_after minor drivers m _ (StepPays between owed told) k = (
-  told_after m.play.scene.noted.groups _ m.doing m.play.scene.noted (k.owed owed) (awaits_while_owed drivers m.play k.said owed) refl refl k.after,
-  none_owed (noting (entry.Handed incoming.GaveUp) (paid m.play)) (Hearing incoming.GaveUp) refl,
+  told_after m.run.scene.noted.groups _ m.doing m.run.scene.noted (k.owed owed) (awaits_while_owed drivers m.run k.said owed) refl refl k.after,
+  none_owed (noting (entry.Handed incoming.GaveUp) (paid m.run)) (Hearing incoming.GaveUp) refl,
 )
 step_after minor drivers m _ (HandsCall call a between paid_so hands) k =
     subst (λ (p : RunState). AllAfter p.scene.noted.groups × OwedWell p (Answering call)) (sym hands.after) (k.after, λ is. absurd (clash (sym paid_so ∙ is))) where
       clash : ◌≡◌ {A = Bool} false true → ⊥
       clash e = cc
 step_after minor drivers m _ (StepReplies call reply doing live rest) k =
-    let groups : List Group = m.play.scene.noted.groups in
+    let groups : List Group = m.run.scene.noted.groups in
     let t : Mark = Took call.who call.now call.call (answer_of reply) in
     let begun : IsBegun groups = not_before m (busy_answering m.doing call doing) k.begun in (
-      mark_after groups _ t m.play.scene.noted begun refl refl (λ event group before. refl) k.after,
+      mark_after groups _ t m.run.scene.noted begun refl refl (λ event group before. refl) k.after,
       λ is. let o : IsOwedAt groups m.doing = k.owed is in
-          let g : (with_mark t m.play.scene.noted).groups ≡ (event.Deliver o.number, t ∷ o.group) ∷ o.earlier =
-          ap (λ (l : List Group). (grouped t l m.play.scene.noted.first m.play.scene.noted).groups) o.is in
+          let g : (with_mark t m.run.scene.noted).groups ≡ (event.Deliver o.number, t ∷ o.group) ∷ o.earlier =
+          ap (λ (l : List Group). (grouped t l m.run.scene.noted.first m.run.scene.noted).groups) o.is in
           let was : FewCalls m.doing (calls_since_fault (o.group ++ marks_of o.earlier)) =
           subst (λ (l : List Group). FewCalls m.doing (calls_since_fault (marks_of l))) o.is o.few in
           record {
@@ -387,7 +387,7 @@ gives_up_well : (minor drivers : ℕ) (b a : Moment) → Runs minor b a → Give
 gives_up_well minor drivers b _ Starts h = h
 gives_up_well minor drivers b a (Then m _ before last) h =
     let k : GivesUpWell drivers m = gives_up_well minor drivers b m before h in
-    let s : AllAfter a.play.scene.noted.groups × OwedWell a.play a.doing = step_after minor drivers m a last k in
+    let s : AllAfter a.run.scene.noted.groups × OwedWell a.run a.doing = step_after minor drivers m a last k in
     record {
       calm = step_calm minor m a last k.calm;
       begun = step_begun minor m a last k.calm k.said.first k.begun;
@@ -401,13 +401,13 @@ gives_up_well minor drivers b a (Then m _ before last) h =
 pub runs_keep_after_fault : RunsKeepAfterFault
 runs_keep_after_fault media rules supply events minor b a new o rests none runs =
     let n : ℕ = length supply in
-    let no_groups : b.play.scene.noted.groups ≡ [] = ap (λ (x : Scene). x.noted.groups) o.scene.is in
+    let no_groups : b.run.scene.noted.groups ≡ [] = ap (λ (x : Scene). x.noted.groups) o.scene.is in
     (gives_up_well minor n b a runs (record {
       calm = calm_before media rules supply events b o;
       begun = StandsBefore rests o.queue o.owed;
-      said = opened_said (OnlyFollows n) media rules supply events b.play o (opened_follows media rules supply o.scene.first o.scene.rest new o.scene.spare);
+      said = opened_said (OnlyFollows n) media rules supply events b.run o (opened_follows media rules supply o.scene.first o.scene.rest new o.scene.spare);
       follow = subst (λ (l : List Group). LastFollows l b.outbox.complaint) (sym no_groups) none;
-      answered = opened_said AnsweredSoFar media rules supply events b.play o (record { places = refl; sent = tt; order = refl; each = tt });
+      answered = opened_said AnsweredSoFar media rules supply events b.run o (record { places = refl; sent = tt; order = refl; each = tt });
       after = subst (λ (l : List Group). AllAfter l) (sym no_groups) tt;
-      owed = none_owed b.play b.doing o.owed;
+      owed = none_owed b.run b.doing o.owed;
     })).after

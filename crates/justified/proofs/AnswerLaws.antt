@@ -2,6 +2,7 @@
 use Rattle.std.proofs.Common.{◌≡◌, ℕ, zero, suc, ◌+◌, ◌<◌, ◌≤◌, List, [], ◌∷◌, ◌++◌, length, Bool, true, false, cond, refl, sym, ◌∙◌, ap, subst, arith}
 use Rattle.std.proofs.lemmas.Bool.Decides.{nat_tests}
 use Rattle.std.specs.Prelude.{◌&&◌, nat_lt, nat_le, Option, Some, None, Result, Ok, Err, if◌then◌else◌, slice_get}
+use Rattle.lemmas.proofs.Bools.{and_left, and_right}
 use Rattle.message.specs.declared.endpoint.Endpoint.{Endpoint}
 use Rattle.message.specs.declared.BlockRequest.{BlockRequest}
 use Rattle.message.specs.declared.BlockReply.{BlockReply}
@@ -196,15 +197,6 @@ answered_now place groups c _ _ _ (FailsOne g d ends after steps report) at low 
 answered_now place groups c _ _ _ (DiesNone g bytes d dies) at low = refl
 answered_now place groups c _ _ _ (DiesOne g bytes d ends after dies report) at low = no_answer_at_exit ends (driver g)
 answered_now place groups c a _ marks (Ticks _ _ ticks) at low = tick_answers (beaten_core c) a marks ticks
-
--- the replies stay in order with those sent at this event
-and_left : (a b : Bool) → (a && b) ≡ true → a ≡ true
-and_left true b h = refl
-and_left false b h = cc
-
-and_right : (a b : Bool) → (a && b) ≡ true → b ≡ true
-and_right true b h = h
-and_right false b h = cc
 
 order_below : (from place : ℕ) (more : List Sent) → from ≤ place → are_in_order place more ≡ true → are_in_order from more ≡ true
 order_below from place [] low order = refl

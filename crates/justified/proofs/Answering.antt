@@ -2,6 +2,7 @@
 use Rattle.std.proofs.Common.{◌≡◌, ℕ, ◌+◌, ◌<◌, List, [], ◌∷◌, ◌++◌, Bool, true, false, refl, sym, ◌∙◌, ap, subst, arith}
 use Rattle.std.proofs.lemmas.Bool.Decides.{nat_tests}
 use Rattle.std.specs.Prelude.{◌&&◌, nat_lt, Option, Some, None, IfSome, IsSomeAnd}
+use Rattle.lemmas.proofs.Bools.{and_left, and_right}
 use Rattle.message.specs.declared.BlockRequest.{BlockRequest}
 use Rattle.message.specs.declared.BlockReply.{BlockReply}
 use Rattle.bdev.specs.declared.Answer.{Answer}
@@ -11,7 +12,7 @@ use Rattle.records.specs.Open.{IsIn}
 use Rattle.schedule.specs.Groups.{Each}
 use Rattle.true_replies.specs.Events.{reply_of}
 use Rattle.justified.specs.Took.{TookNothing}
-use Rattle.justified.proofs.Small.{and_left, and_right, none_more, each_push, each_on}
+use Rattle.justified.proofs.Small.{none_more, each_push, each_on}
 use Rattle.justified.proofs.DriverMoves.{Handing, Leaves, IsOld, IsTaken, Stepping, Idles, GoesOn, Ends}
 use Rattle.justified.proofs.TakingLaws.{new_idle, Taken, taken_first, taken_hands, taken_steps, taken_again, taken_issues, some_if}
 

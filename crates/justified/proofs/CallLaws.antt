@@ -22,43 +22,43 @@ use Rattle.run_link.proofs.Waits.{servers_hand_none, asides_hand_none, one_is_ha
 use Rattle.justified.specs.Said.{IsBegun}
 use Rattle.justified.specs.Ordered.{answering}
 
-pub at_rest : (m : Moment) → m.doing ≡ Resting → HasCalls (answering m.doing) m.play → HasCalls [] m.play
-at_rest m rests h = subst (λ (l : List Arrival). HasCalls l m.play) (ap answering rests) h
+pub at_rest : (m : Moment) → m.doing ≡ Resting → HasCalls (answering m.doing) m.run → HasCalls [] m.run
+at_rest m rests h = subst (λ (l : List Arrival). HasCalls l m.run) (ap answering rests) h
 
-pub at_work : (m : Moment) (call : Arrived) → m.doing ≡ Answering call → HasCalls (answering m.doing) m.play
-    → HasCalls (arrival_of call ∷ []) m.play
-at_work m call works h = subst (λ (l : List Arrival). HasCalls l m.play) (ap answering works) h
+pub at_work : (m : Moment) (call : Arrived) → m.doing ≡ Answering call → HasCalls (answering m.doing) m.run
+    → HasCalls (arrival_of call ∷ []) m.run
+at_work m call works h = subst (λ (l : List Arrival). HasCalls l m.run) (ap answering works) h
 
 -- events are run
 pub next_calls : (out : List Arrival) (b a : RunState) → RunsEvent b None a → HasCalls out b → HasCalls out a
 next_calls out b a next h = asides_hand_none out b a (Ok None) (HandsNone a next) h
 
 -- a step
-pub step_calls : (minor : ℕ) (m a : Moment) → Step minor m a → HasCalls (answering m.doing) m.play → HasCalls (answering a.doing) a.play
+pub step_calls : (minor : ℕ) (m a : Moment) → Step minor m a → HasCalls (answering m.doing) m.run → HasCalls (answering a.doing) a.run
 step_calls minor m _ (StepBegins r busy may) h = h
 step_calls minor m _ (Tells told a busy nothing may turn) h =
-    servers_hand_none (answering m.doing) m.play a (Further m.play a told Still turn) h
+    servers_hand_none (answering m.doing) m.run a (Further m.run a told Still turn) h
 step_calls minor m _ (StepTakes message call a doing may turn) h =
-    servers_hand_none (answering m.doing) m.play a (Further m.play a (Received message) Still turn) h
-step_calls minor m _ (Settles message doing rest) h = subst (λ (l : List Arrival). HasCalls l m.play) (ap answering doing) h
+    servers_hand_none (answering m.doing) m.run a (Further m.run a (Received message) Still turn) h
+step_calls minor m _ (Settles message doing rest) h = subst (λ (l : List Arrival). HasCalls l m.run) (ap answering doing) h
 step_calls minor m _ (Brings message a between none next) h =
-    asides_hand_none [] m.play (noting (entry.Handed message) a) (Ok (Some message)) (HandsEvent message a next) (at_rest m between.rests h)
-step_calls minor m _ (BringsNone a between none next) h = next_calls (answering m.doing) m.play a next h
+    asides_hand_none [] m.run (noting (entry.Handed message) a) (Ok (Some message)) (HandsEvent message a next) (at_rest m between.rests h)
+step_calls minor m _ (BringsNone a between none next) h = next_calls (answering m.doing) m.run a next h
 step_calls minor m _ (StepPays between owed told) h =
-    asides_hand_none [] m.play (noting (entry.Handed incoming.GaveUp) (paid m.play)) (Ok (Some incoming.GaveUp)) (HandsOwed between.live owed told)
+    asides_hand_none [] m.run (noting (entry.Handed incoming.GaveUp) (paid m.run)) (Ok (Some incoming.GaveUp)) (HandsOwed between.live owed told)
     (at_rest m between.rests h)
-step_calls minor m _ (HandsCall call a between paid_so hands) h = one_is_handed_out m.play a call hands (at_rest m between.rests h)
+step_calls minor m _ (HandsCall call a between paid_so hands) h = one_is_handed_out m.run a call hands (at_rest m between.rests h)
 step_calls minor m _ (StepReplies call reply doing live rest) h =
-    it_is_answered m.play (noting (entry.Took call.who call.now call.call reply) m.play) call reply refl (at_work m call doing h)
+    it_is_answered m.run (noting (entry.Took call.who call.now call.call reply) m.run) call reply refl (at_work m call doing h)
 
 -- before the first event no call arrived
 pub opened_calls : (media : MediaState) (rules : Policy) (supply : List DriverState) (events : List Event) (m : Moment)
-    → IsOpened media rules (new_watch (length supply)) supply events m.play → m.doing ≡ Resting → HasCalls (answering m.doing) m.play
+    → IsOpened media rules (new_watch (length supply)) supply events m.run → m.doing ≡ Resting → HasCalls (answering m.doing) m.run
 opened_calls media rules supply events m o rests =
-    let s : m.play.scene.noted ≡ first_noted = ap (λ (x : Scene). x.noted) o.scene.is in
+    let s : m.run.scene.noted ≡ first_noted = ap (λ (x : Scene). x.noted) o.scene.is in
     record {
       order = ap (λ (n : Noted). arrived n.groups) s
-          ∙ sym (ap (λ (n : Noted). reverse (map arrival_of m.play.queue) ++ (answering m.doing ++ taken (marks_in n))) s
+          ∙ sym (ap (λ (n : Noted). reverse (map arrival_of m.run.queue) ++ (answering m.doing ++ taken (marks_in n))) s
           ∙ ap (λ (l : List Arrived). reverse (map arrival_of l) ++ (answering m.doing ++ [])) o.queue
           ∙ ap (λ (d : Doing). answering d ++ []) rests);
     }

@@ -1,6 +1,7 @@
 -- A driver counts its replies that aren't good.
 use Rattle.std.proofs.Common.{◌≡◌, ℕ, ◌+◌, ◌<◌, List, [], ◌∷◌, ◌++◌, Bool, true, false, refl, sym, ◌∙◌, ap, subst, arith, inl, inr}
 use Rattle.std.specs.Prelude.{◌==◌, not, if◌then◌else◌, Option, Some, None, Result, Ok, Err, IfSome, is_some}
+use Rattle.lemmas.proofs.Bools.{or_right}
 use Rattle.errno.specs.declared.Errno.{Errno}
 use Rattle.message.specs.Good.{is_good, moved}
 use Rattle.message.specs.declared.BlockRequest.{BlockRequest}
@@ -11,7 +12,7 @@ use Rattle.schedule.specs.Groups.{Each}
 use Rattle.true_replies.specs.Events.{reply_of}
 use Rattle.justified.proofs.FollowLaws.{same_number, other_number}
 use Rattle.justified.specs.Took.{TookNothing}
-use Rattle.justified.proofs.Small.{or_right, none_more, each_push, each_on, each_in}
+use Rattle.justified.proofs.Small.{none_more, each_push, each_on, each_in}
 use Rattle.justified.proofs.Moves.{answers_of}
 use Rattle.justified.proofs.DriverMoves.{Handing, Leaves, IsOld, IsTaken, handing, Stepping, Idles, GoesOn, Ends, stepping}
 use Rattle.justified.proofs.EachDriver.{Keeps}

@@ -2,6 +2,7 @@
 use Rattle.std.proofs.Common.{◌≡◌, ℕ, zero, suc, ◌+◌, List, [], ◌∷◌, ◌++◌, Bool, true, false, cond, refl, sym, ◌∙◌, ap, subst, arith}
 use Rattle.std.proofs.lemmas.Bool.Decides.{nat_tests}
 use Rattle.std.specs.Prelude.{◌&&◌, ◌==◌, nat_le, Option, Some, None, if◌then◌else◌, slice_get}
+use Rattle.lemmas.proofs.Bools.{and_left, and_right}
 use Rattle.message.specs.declared.endpoint.Endpoint.{Endpoint}
 use Rattle.message.specs.declared.Incoming.{Incoming}
 use Rattle.message.specs.declared.Incoming.TheVariants as incoming
@@ -35,14 +36,6 @@ use Rattle.justified.specs.Happens.{fault_at, AtFault, Replaces, GivesUp, IsNotR
 pub record_of_groups : (groups : List Group) (first : List Mark) → first ≡ Started (driver 1) ∷ [] → marks_from groups first ≡ marks_of groups
 record_of_groups [] first is = is
 record_of_groups (g ∷ groups) first is = ap (λ (l : List Mark). g.1 ++ l) (record_of_groups groups first is)
-
-and_left : (a b : Bool) → (a && b) ≡ true → a ≡ true
-and_left true b h = refl
-and_left false b h = cc
-
-and_right : (a b : Bool) → (a && b) ≡ true → b ≡ true
-and_right true b h = h
-and_right false b h = cc
 
 equal_of : (n m : ℕ) → (n == m) ≡ true → n ≡ m
 equal_of n m h = grind (arith, nat_tests, h)

@@ -48,9 +48,9 @@ pub runs_keep_failures : RunsKeepFailures
 runs_keep_failures media rules supply events minor b a new ready o rests runs =
     let n : ℕ = length supply in
     let first_ones : Each (λ d. d.failed ≡ false) (o.scene.first ∷ o.scene.rest) = subst (λ (l : List DriverState). Each (λ d. d.failed ≡ false) l) o.scene.spare ready in
-    let owned : IsSaid (SlotsSoFar n) a.play = runs_said (SlotsSoFar n) (slots_kept n) minor b a runs (calm_before media rules supply events b o)
+    let owned : IsSaid (SlotsSoFar n) a.run = runs_said (SlotsSoFar n) (slots_kept n) minor b a runs (calm_before media rules supply events b o)
     (StandsBefore rests o.queue o.owed)
-    (opened_said (SlotsSoFar n) media rules supply events b.play o (record {
+    (opened_said (SlotsSoFar n) media rules supply events b.run o (record {
       follows = opened_follows media rules supply o.scene.first o.scene.rest new o.scene.spare;
       numbered = omega (arith, new);
       fresh = first_ones.1;
@@ -60,6 +60,6 @@ runs_keep_failures media rules supply events minor b a new ready o rests runs =
       };
       unstarted = λ h low. refl;
     })) in
-    λ g. failures_now a.play.scene.noted.groups a.play.scene.disks owned.said.numbered owned.said.slots g where
+    λ g. failures_now a.run.scene.noted.groups a.run.scene.disks owned.said.numbered owned.said.slots g where
       clash : ◌≡◌ {A = Bool} false true → ⊥
       clash is = cc

@@ -2,6 +2,8 @@
 use Rattle.std.proofs.Common.{◌≡◌, ℕ, ◌+◌, ◌<◌, List, [], ◌∷◌, ◌++◌, Bool, true, false, sym, ap, subst, arith, ◌⊎◌, inl, inr}
 use Rattle.std.proofs.lemmas.Bool.Decides.{nat_tests}
 use Rattle.std.specs.Prelude.{◌&&◌, ◌||◌, ◌==◌, not, max, nat_lt, if◌then◌else◌}
+use Rattle.lemmas.proofs.Bools.{and_left, and_right, or_cases}
+use Rattle.lemmas.proofs.Numbers.{less_from}
 use Rattle.message.specs.declared.endpoint.Endpoint.{Endpoint}
 use Rattle.message.specs.declared.BlockRequest.{BlockRequest}
 use Rattle.records.specs.Marks.{Mark, Started, Answered, Flush, GaveUp, Took, Issued, Fault, gave_up}
@@ -11,7 +13,7 @@ use Rattle.schedule.specs.Groups.{Group, marks_of, Each, EachGroup}
 use Rattle.schedule.specs.Drivers.{is_live, requests_issued_to}
 use Rattle.schedule.specs.Starts.{is_among_first, may_issue, are_issued_in_place}
 use Rattle.true_replies.specs.Posted.{since_start}
-use Rattle.justified.proofs.Small.{and_left, and_right, either, each_on}
+use Rattle.justified.proofs.Small.{each_on}
 use Rattle.justified.specs.Said.{PlacedAsDue}
 
 -- each id is above 0, and above all that were issued, or above those issued since the last start, and before it no other mark
@@ -52,9 +54,6 @@ greatest_above g id (Issued r e ∷ marks) above =
       others m n above = omega (arith, above)
 greatest_above g id (Fault e cause ∷ marks) above = greatest_above g id marks above
 
-less_so : (m n : ℕ) → nat_lt m n ≡ true → m < n
-less_so m n h = grind (arith, nat_tests, h)
-
 -- one that is among the first is above those issued since the last start
 first_above : (id : ℕ) (marks : List Mark) → is_among_first id marks ≡ true → Each (λ x. x.id < id) (since_start marks)
 first_above id [] first = cc
@@ -64,7 +63,7 @@ first_above id (Flush ∷ marks) first = cc
 first_above id (GaveUp ∷ marks) first = cc
 first_above id (Took who now call reply ∷ marks) first = cc
 first_above id (Issued r e ∷ marks) first =
-    let low : r.id < id = less_so r.id id (and_left (nat_lt r.id id) (is_among_first r.id marks) first) in (
+    let low : r.id < id = less_from r.id id (and_left (nat_lt r.id id) (is_among_first r.id marks) first) in (
       low,
       each_on (λ x. x.id < r.id) (λ x. x.id < id) (since_start marks) (λ x below. less x.id r.id below low)
           (first_above r.id marks (and_right (nat_lt r.id id) (is_among_first r.id marks) first)),
@@ -76,10 +75,10 @@ first_above id (Fault e cause ∷ marks) first = cc
 -- a request that is issued to the driver of the last start is above all issued to it
 pub issued_above : (r : BlockRequest) (to : Endpoint) (marks : List Mark) → AreInPlace (Issued r to ∷ marks)
     → requests_issued_to to.generation marks ≡ since_start marks → Each (λ x. x.id < r.id) (requests_issued_to to.generation marks)
-issued_above r to marks h since = by (either (nat_lt (greatest marks) r.id) (is_among_first r.id marks) h.1) where
+issued_above r to marks h since = by (or_cases (nat_lt (greatest marks) r.id) (is_among_first r.id marks) h.1) where
   by : (nat_lt (greatest marks) r.id ≡ true) ⊎ (is_among_first r.id marks ≡ true)
       → Each (λ x. x.id < r.id) (requests_issued_to to.generation marks)
-  by (inl new) = greatest_above to.generation r.id marks (less_so (greatest marks) r.id new)
+  by (inl new) = greatest_above to.generation r.id marks (less_from (greatest marks) r.id new)
   by (inr first) = subst (λ (l : List BlockRequest). Each (λ x. x.id < r.id) l) (sym since) (first_above r.id marks first)
 
 -- in a well-formed record the ids are above 0

@@ -1,6 +1,7 @@
 -- What was issued to each driver: each event keeps it, and so does what is done within one.
 use Rattle.std.proofs.Common.{◌≡◌, ℕ, zero, suc, ◌+◌, ◌<◌, ◌≤◌, List, [], ◌∷◌, ◌++◌, length, Bool, true, false, refl, sym, ◌∙◌, ap, subst, arith, inl, inr}
 use Rattle.std.specs.Prelude.{◌&&◌, ◌==◌, max, if◌then◌else◌, slice_set}
+use Rattle.lemmas.proofs.Bools.{and_left, and_right}
 use Rattle.message.specs.declared.endpoint.Endpoint.{Endpoint}
 use Rattle.message.specs.declared.BlockRequest.{BlockRequest}
 use Rattle.message.specs.declared.BlockReply.{BlockReply}
@@ -16,7 +17,7 @@ use Rattle.justified.specs.Core.{Core}
 use Rattle.justified.proofs.FollowLaws.{same_number, other_number}
 use Rattle.justified.proofs.ExitLaws.{length_more}
 use Rattle.justified.specs.Took.{TookNothing, replies_from}
-use Rattle.justified.proofs.Small.{and_left, and_right, number_is}
+use Rattle.justified.proofs.Small.{number_is}
 use Rattle.justified.proofs.Moves.{IsQuiet, Touches, TheLast, AnOlder, SentBy, Move, Stays, OneMoves, Issues, StartsOne}
 
 -- each accepted post was issued to the driver that it names

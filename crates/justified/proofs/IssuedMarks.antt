@@ -2,6 +2,7 @@
 use Rattle.std.proofs.Common.{◌≡◌, ℕ, ◌+◌, ◌<◌, ◌≤◌, List, [], ◌∷◌, ◌++◌, Bool, true, false, refl, sym, ◌∙◌, ap, subst, arith}
 use Rattle.std.proofs.lemmas.Bool.Decides.{nat_tests}
 use Rattle.std.specs.Prelude.{◌&&◌, ◌||◌, ◌==◌, nat_lt, max, not, Option, Some, None, Result, Ok}
+use Rattle.lemmas.proofs.Bools.{and_left, and_right, or_neither, or_right}
 use Rattle.message.specs.declared.endpoint.Endpoint.{Endpoint}
 use Rattle.message.specs.declared.BlockRequest.{BlockRequest}
 use Rattle.reincarnate.specs.declared.policy.Policy.{Policy}
@@ -20,22 +21,6 @@ use Rattle.justified.specs.Core.{Core}
 use Rattle.justified.specs.Happens.{AtReport, OfNone, OfRunning, fault_marks, exit_marks, blame_marks, beaten_core, TicksTo, Beats, MissesOne, FoundHung, WaitsOn, StartsNext, IsOver, Begins, Arrives, Flushes, Answers, Drops, Delivers, LinesAgain, HangsOne, StepsOne, FailsOne, DiesNone, DiesOne, Ticks, Adds, AddsNothing, Posts, Replies, Complains, Pays}
 use Rattle.justified.proofs.FollowLaws.{same_generation, same_number}
 use Rattle.justified.specs.Said.{PlacedAsDue}
-
-or_right : (a b : Bool) → b ≡ true → (a || b) ≡ true
-or_right true b is = refl
-or_right false b is = is
-
-and_left : (a b : Bool) → (a && b) ≡ true → a ≡ true
-and_left true b is = refl
-and_left false b is = cc
-
-and_right : (a b : Bool) → (a && b) ≡ true → b ≡ true
-and_right true b is = is
-and_right false b is = cc
-
-neither : (a b : Bool) → a ≡ false → b ≡ false → (a || b) ≡ false
-neither true b none rest = cc
-neither false b none rest = rest
 
 -- these marks issue nothing
 abbrev pub IssueNone : List Mark → Type 0
@@ -199,7 +184,7 @@ pub adds_stands : (c a : Core) (marks old : List Mark) → Adds c marks a → c.
 adds_stands c _ _ old AddsNothing last h = h
 adds_stands c _ _ old (Posts r to d lines) last h = record {
   new = h.new;
-  yet = λ g id low. neither (is_this g id r to) (is_issued_to g id old)
+  yet = λ g id low. or_neither (is_this g id r to) (is_issued_to g id old)
       (other_driver g id r to (λ same. below c.watch.generation c.disks.media.generation to.generation g last (posted_there to r c.disks d (Ok tt) lines refl).1 same low))
       (h.yet g id low);
 } where
@@ -280,7 +265,7 @@ first_not_issued (Took who now call reply ∷ marks) g k id first low new = cc
 first_not_issued (Issued r e ∷ marks) g k id first low new =
     let less : nat_lt r.id k ≡ true = and_left (nat_lt r.id k) (is_among_first r.id marks) first in
     let lower : r.id < id = grind (arith, nat_tests, less, low) in
-    neither (is_this g id r e) (is_issued_to g id marks) (other_id g id r e (λ same. omega (arith, lower, same)))
+    or_neither (is_this g id r e) (is_issued_to g id marks) (other_id g id r e (λ same. omega (arith, lower, same)))
     (first_not_issued marks g r.id id (and_right (nat_lt r.id k) (is_among_first r.id marks) first) (omega (arith, lower)) new)
 first_not_issued (Fault e cause ∷ marks) g k id first low new = cc
 
@@ -305,7 +290,7 @@ blame_issues (Some ends) e g id = refl
 -- a post issues nothing again
 post_issues : (g id : ℕ) (r : BlockRequest) (to : Endpoint) (old : List Mark) → is_issued_to to.generation r.id old ≡ false → is_issued_to g id old ≡ true
     → is_issued_to g id (Issued r to ∷ []) ≡ false
-post_issues g id r to old new was = neither (is_this g id r to) false (by (to.generation == g) (r.id == id) refl refl) refl where
+post_issues g id r to old new was = or_neither (is_this g id r to) false (by (to.generation == g) (r.id == id) refl refl) refl where
   clash : ◌≡◌ {A = Bool} false true → ⊥
   clash is = cc
 

@@ -2,6 +2,8 @@
 use Rattle.std.proofs.Common.{◌≡◌, ℕ, suc, ◌+◌, ◌<◌, ◌≤◌, List, [], ◌∷◌, ◌++◌, length, map, max, Bool, true, false, cond, refl, sym, ◌∙◌, ap, subst, arith, append_assoc}
 use Rattle.std.proofs.lemmas.Bool.Decides.{nat_tests}
 use Rattle.std.specs.Prelude.{Option, Some, None, Ok, Err, ◌&&◌, ◌||◌, not, ◌==◌, nat_lt, nat_le, is_some}
+use Rattle.lemmas.proofs.Numbers.{less_holds}
+use Rattle.lemmas.proofs.Bools.{and_left, or_left, or_right}
 use Rattle.message.specs.declared.endpoint.Endpoint.{Endpoint}
 use Rattle.message.specs.declared.BlockRequest.{BlockRequest}
 use Rattle.reincarnate.specs.Watch.{driver}
@@ -197,14 +199,6 @@ not_given_up marks to is = by (gave_up marks) is where
 pub target_is : (marks : List Mark) (to : Endpoint) → gave_up marks ≡ false → target marks ≡ Some to → last_started marks ≡ Some to
 target_is marks to goes_on is = sym (ap (λ (b : Bool). cond b None (last_started marks)) goes_on) ∙ is
 
-and_left : (a b : Bool) → (a && b) ≡ true → a ≡ true
-and_left true b h = refl
-and_left false b h = cc
-
-and_right : (a b : Bool) → (a && b) ≡ true → b ≡ true
-and_right true b h = h
-and_right false b h = cc
-
 equal_of : (n m : ℕ) → (n == m) ≡ true → n ≡ m
 equal_of n m h = grind (arith, nat_tests, h)
 
@@ -259,17 +253,6 @@ pub all_open_as : (marks marks' : List Mark) (rs : List BlockRequest) → open_r
 all_open_as marks marks' [] same h = tt
 all_open_as marks marks' (r ∷ rs) same h = (subst (λ (l : List BlockRequest). IsIn r l) (sym same) h.0, all_open_as marks marks' rs same h.1)
 
-less_is : (n m : ℕ) → n < m → nat_lt n m ≡ true
-less_is n m h = grind (arith, nat_tests)
-
-or_right : (a b : Bool) → b ≡ true → (a || b) ≡ true
-or_right true b h = refl
-or_right false b h = h
-
-or_left : (a b : Bool) → a ≡ true → (a || b) ≡ true
-or_left true b h = refl
-or_left false b h = cc
-
 module _ (drivers place : ℕ) (event : Event) (group : List Mark) (earlier : List Group) (c : Core) (to : Endpoint) (r : BlockRequest) (o : Outbox) (t : Bool) (minor : ℕ)
     (may : MayPost minor (served ((event, group) ∷ earlier)) o to r) (there : is_at to c.disks ≡ true) (few : length c.disks.current.line < 32)
     (h : Issues drivers place ((event, group) ∷ earlier) c o t) where
@@ -317,7 +300,7 @@ module _ (drivers place : ℕ) (event : Event) (group : List Mark) (earlier : Li
       ap (λ (l : List BlockRequest). length l) opened ∙ length_push (open_requests s) r in
       let above : greatest marks < r.id = omega (arith, new, same_greatest) in
       let follow : EachGroup FollowedAsDue was = followed h.to h.left was none h.follow in
-      level drivers place now after (with_posted r o) t slots_after (placed_after (or_left _ _ (less_is (greatest marks) r.id above)))
+      level drivers place now after (with_posted r o) t slots_after (placed_after (or_left _ _ (less_holds (greatest marks) r.id above)))
       (record {
         ids = from_same (suc (suc (greatest s))) (suc (max (greatest s) r.id)) (without_id r.id o.never_issued) (omega (arith, out.id)) out.rest;
         few = omega (arith, more, out.fewer, h.numbered.few);
@@ -358,7 +341,7 @@ module _ (drivers place : ℕ) (event : Event) (group : List Mark) (earlier : Li
             let s : List Mark = served was in
             let with_line : length (c.disks.current.line ++ r ∷ []) ≡ suc (length c.disks.current.line) = length_push c.disks.current.line r in
             record {
-              among = ap (λ (b : Bool). b && is_among_first r.id marks) (less_is r.id y.id a.rising.0.0) ∙ a.among;
+              among = ap (λ (b : Bool). b && is_among_first r.id marks) (less_holds r.id y.id a.rising.0.0) ∙ a.among;
               rising = a.rising.1;
               opened = all_open_as s (served now) (y ∷ ys) (open_again s r to (open_below s r a.opened.0)) a.opened.1;
               uncomplained = a.uncomplained;

@@ -248,14 +248,14 @@ far_silent b a _ (Goes m _ result before last) is first =
     record { first = s.first; none = λ h. silent_none m a s (k.none h) }
 
 posts_stopped : (minor drivers : ℕ) (m : Moment) (to : Endpoint) (r : BlockRequest) (result : Result (Unit {0}) LinkRefusal) (d : Disks) (a : RunState)
-    → LinesUp to r m.play.scene.disks result d → MayPost minor (record_of m.play) m.outbox to r → HasRoom minor m
-    → IsSaid (OnlyFollows drivers) m.play
-    → (is_ok result ≡ false → a.scene.noted.groups ≡ m.play.scene.noted.groups)
-    → StoppedRight (owed_after_act (AtLink (Posted to r (is_ok result))) (record_of m.play) m.outbox) a
+    → LinesUp to r m.run.scene.disks result d → MayPost minor (record_of m.run) m.outbox to r → HasRoom minor m
+    → IsSaid (OnlyFollows drivers) m.run
+    → (is_ok result ≡ false → a.scene.noted.groups ≡ m.run.scene.noted.groups)
+    → StoppedRight (owed_after_act (AtLink (Posted to r (is_ok result))) (record_of m.run) m.outbox) a
 posts_stopped minor drivers m to r _ _ a (NoneIsThere none) may room said same is =
-    ap (λ (l : List Group). running (marks_of l)) (same refl) ∙ refused_none minor drivers m.play m.outbox to r said may none
+    ap (λ (l : List Group). running (marks_of l)) (same refl) ∙ refused_none minor drivers m.run m.outbox to r said may none
 posts_stopped minor drivers m to r _ _ a (LineIsFull there full) may room said same is =
-    let few : length m.play.scene.disks.current.line < 32 = room to r may there in absurd (omega (arith, few, full))
+    let few : length m.run.scene.disks.current.line < 32 = room to r may there in absurd (omega (arith, few, full))
 posts_stopped minor drivers m to r _ d a (IsLinedUp there few) may room said same is = not_stopped m.outbox a may.not_stopped is
 
 complaint_stopped : (fault : Bool) (b : RunState) (about : Endpoint) → IsBegun b.scene.noted.groups
@@ -265,53 +265,53 @@ complaint_stopped false b about begun none = none
 complaint_stopped true b about begun none =
     mark_none b.scene.noted (Fault about Complaint) begun (λ marks h. none_after_fault about (running marks) h) none
 
-tell_stopped : (minor drivers : ℕ) (m : Moment) (told : Told) (a : RunState) → Turn m.play told a → took_nothing (told ∷ []) ≡ true
-    → MayAct minor (record_of m.play) m.outbox (AtLink told) → HasRoom minor m → IsBegun m.play.scene.noted.groups
-    → IsSaid (OnlyFollows drivers) m.play
-    → StoppedRight m.outbox m.play → StoppedRight (owed_after_act (AtLink told) (record_of m.play) m.outbox) a
+tell_stopped : (minor drivers : ℕ) (m : Moment) (told : Told) (a : RunState) → Turn m.run told a → took_nothing (told ∷ []) ≡ true
+    → MayAct minor (record_of m.run) m.outbox (AtLink told) → HasRoom minor m → IsBegun m.run.scene.noted.groups
+    → IsSaid (OnlyFollows drivers) m.run
+    → StoppedRight m.outbox m.run → StoppedRight (owed_after_act (AtLink told) (record_of m.run) m.outbox) a
 tell_stopped minor drivers m _ _ (Takes message a far) nothing may room begun said h = cc
 tell_stopped minor drivers m _ _ (TakesOwed live owed first) nothing may room begun said h = cc
 tell_stopped minor drivers m _ _ (TakesEnd a live ends) nothing may room begun said h = cc
 tell_stopped minor drivers m _ a (Posts to r result d unended lines) nothing may room begun said h =
     posts_stopped minor drivers m to r result d a lines may room said (refused_groups result) where
       refused_groups : (x : Result (Unit {0}) LinkRefusal) → is_ok x ≡ false
-          → (with_entry (entry.Posted to r (is_ok x)) m.play.scene.noted).groups ≡ m.play.scene.noted.groups
+          → (with_entry (entry.Posted to r (is_ok x)) m.run.scene.noted).groups ≡ m.run.scene.noted.groups
       refused_groups (Ok done) is = absurd (clash is) where
         clash : ◌≡◌ {A = Bool} true false → ⊥
         clash c = cc
       refused_groups (Err error) is = refl
 tell_stopped minor drivers m _ _ (Complains about) nothing may room begun said h =
-    λ is. complaint_stopped (is_fault (ruling_at about m.play.scene)) m.play about begun (h is)
+    λ is. complaint_stopped (is_fault (ruling_at about m.run.scene)) m.run about begun (h is)
 
-take_stopped : (m : Moment) (message : Incoming) (a : RunState) → Turn m.play (Received message) a
-    → m.play.scene.noted.first ≡ Started (driver 1) ∷ []
-    → StoppedRight m.outbox m.play → StoppedRight (owed_after_message message (record_of m.play) m.outbox) a
+take_stopped : (m : Moment) (message : Incoming) (a : RunState) → Turn m.run (Received message) a
+    → m.run.scene.noted.first ≡ Started (driver 1) ∷ []
+    → StoppedRight m.outbox m.run → StoppedRight (owed_after_message message (record_of m.run) m.outbox) a
 take_stopped m message _ (Takes _ a far) first h =
-    not_stopped (owed_after_message message (record_of m.play) m.outbox) (noting (entry.Received message) a)
-    (message_lets message (record_of m.play) m.outbox (far_no_end m.play a (Some message) far))
-take_stopped m _ a (TakesOwed live owed told) first h = not_stopped (owed_after_message incoming.GaveUp (record_of m.play) m.outbox) a refl
+    not_stopped (owed_after_message message (record_of m.run) m.outbox) (noting (entry.Received message) a)
+    (message_lets message (record_of m.run) m.outbox (far_no_end m.run a (Some message) far))
+take_stopped m _ a (TakesOwed live owed told) first h = not_stopped (owed_after_message incoming.GaveUp (record_of m.run) m.outbox) a refl
 take_stopped m _ _ (TakesEnd a live ends) first h = by a ends where
-  by : (x : RunState) → ComesToEnd m.play x → StoppedRight m.outbox x
-  by _ (IsRunOut x far spent) = λ is. (far_silent m.play x None far refl first).none (h is)
-  by _ (IsStarved x far) = λ is. (far_silent m.play x None far refl first).none (h is)
+  by : (x : RunState) → ComesToEnd m.run x → StoppedRight m.outbox x
+  by _ (IsRunOut x far spent) = λ is. (far_silent m.run x None far refl first).none (h is)
+  by _ (IsStarved x far) = λ is. (far_silent m.run x None far refl first).none (h is)
 
-step_stopped : (minor drivers : ℕ) (m a : Moment) → Step minor m a → HasBegun m → HasRoom minor m → IsSaid (OnlyFollows drivers) m.play
-    → StoppedRight m.outbox m.play → StoppedRight a.outbox a.play
+step_stopped : (minor drivers : ℕ) (m a : Moment) → Step minor m a → HasBegun m → HasRoom minor m → IsSaid (OnlyFollows drivers) m.run
+    → StoppedRight m.outbox m.run → StoppedRight a.outbox a.run
 step_stopped minor drivers m _ (StepBegins r busy may) begun room said h = h
 step_stopped minor drivers m _ (Tells told a busy nothing may turn) begun room said h =
     tell_stopped minor drivers m told a turn nothing may room (not_before m busy begun) said h
 step_stopped minor drivers m _ (StepTakes message call a doing may turn) begun room said h = take_stopped m message a turn said.first h
 step_stopped minor drivers m _ (Settles message doing rest) begun room said h = h
 step_stopped minor drivers m _ (Brings message a between none next) begun room said h =
-    not_stopped (owed_after_message message (record_of m.play) m.outbox) (noting (entry.Handed message) a)
-    (message_lets message (record_of m.play) m.outbox (far_no_end m.play a (Some message) (Goes m.play a (Some message) Stays next)))
+    not_stopped (owed_after_message message (record_of m.run) m.outbox) (noting (entry.Handed message) a)
+    (message_lets message (record_of m.run) m.outbox (far_no_end m.run a (Some message) (Goes m.run a (Some message) Stays next)))
 step_stopped minor drivers m _ (BringsNone a between none next) begun room said h =
-    λ is. silent_none m.play a (silent m.play a next said.first) (h is)
-step_stopped minor drivers m a (StepPays between owed told) begun room said h = not_stopped a.outbox a.play refl
+    λ is. silent_none m.run a (silent m.run a next said.first) (h is)
+step_stopped minor drivers m a (StepPays between owed told) begun room said h = not_stopped a.outbox a.run refl
 step_stopped minor drivers m _ (HandsCall call a between paid_so hands) begun room said h =
     λ is. ap (λ (p : RunState). running (marks_of p.scene.noted.groups)) hands.after ∙ h is
 step_stopped minor drivers m _ (StepReplies call reply doing live rest) begun room said h =
-    λ is. mark_none m.play.scene.noted (Took call.who call.now call.call (answer_of reply)) (not_before m (busy_answering m.doing call doing) begun)
+    λ is. mark_none m.run.scene.noted (Took call.who call.now call.call (answer_of reply)) (not_before m (busy_answering m.doing call doing) begun)
     (λ marks none. none) (h is)
 
 -- a driver was started first of all
@@ -469,34 +469,34 @@ take_called out b _ _ (TakesEnd a live ends) begun h = by a ends where
 record LeavesStand (drivers : ℕ) (m : Moment) : Type 0 where
   calm : OverCalm m
   begun : HasBegun m
-  said : IsSaid (OnlyFollows drivers) m.play
-  calls : HasCalls (answering m.doing) m.play
-  stopped : StoppedRight m.outbox m.play
-  earlier : EarlierCalled m.play.scene.noted.groups
+  said : IsSaid (OnlyFollows drivers) m.run
+  calls : HasCalls (answering m.doing) m.run
+  stopped : StoppedRight m.outbox m.run
+  earlier : EarlierCalled m.run.scene.noted.groups
 
-step_called : (minor drivers : ℕ) (m a : Moment) → Step minor m a → LeavesStand drivers m → EarlierCalled a.play.scene.noted.groups
+step_called : (minor drivers : ℕ) (m a : Moment) → Step minor m a → LeavesStand drivers m → EarlierCalled a.run.scene.noted.groups
 step_called minor drivers m _ (StepBegins r busy may) k = k.earlier
 step_called minor drivers m _ (Tells told a busy nothing may turn) k =
-    tell_called m.play a told turn nothing (not_before m busy k.begun) k.earlier
+    tell_called m.run a told turn nothing (not_before m busy k.begun) k.earlier
 step_called minor drivers m _ (StepTakes message call a doing may turn) k =
-    take_called (arrival_of call ∷ []) m.play a message turn (not_before m (busy_answering m.doing call doing) k.begun) (record {
+    take_called (arrival_of call ∷ []) m.run a message turn (not_before m (busy_answering m.doing call doing) k.begun) (record {
       first = k.said.first;
       calls = at_work m call doing k.calls;
-      waits = waits_now drivers m.play m.outbox k.said k.stopped may.needed may.live;
+      waits = waits_now drivers m.run m.outbox k.said k.stopped may.needed may.live;
       earlier = k.earlier;
     })
 step_called minor drivers m _ (Settles message doing rest) k = k.earlier
 step_called minor drivers m _ (Brings message a between none next) k =
-    next_called [] m.play a (Some message) (with_entry (entry.Handed message) a.scene.noted) next refl k.said.first (at_rest m between.rests k.calls)
-    (none_left [] m.play refl none) k.earlier
+    next_called [] m.run a (Some message) (with_entry (entry.Handed message) a.scene.noted) next refl k.said.first (at_rest m between.rests k.calls)
+    (none_left [] m.run refl none) k.earlier
 step_called minor drivers m _ (BringsNone a between none next) k =
-    next_called [] m.play a None a.scene.noted next refl k.said.first (at_rest m between.rests k.calls) (none_left [] m.play refl none) k.earlier
+    next_called [] m.run a None a.scene.noted next refl k.said.first (at_rest m between.rests k.calls) (none_left [] m.run refl none) k.earlier
 step_called minor drivers m _ (StepPays between owed told) k =
-    mark_called m.play.scene.noted GaveUp (not_owed_before m owed k.begun) k.earlier
+    mark_called m.run.scene.noted GaveUp (not_owed_before m owed k.begun) k.earlier
 step_called minor drivers m _ (HandsCall call a between paid_so hands) k =
     subst (λ (p : RunState). EarlierCalled p.scene.noted.groups) (sym hands.after) k.earlier
 step_called minor drivers m _ (StepReplies call reply doing live rest) k =
-    mark_called m.play.scene.noted (Took call.who call.now call.call (answer_of reply)) (not_before m (busy_answering m.doing call doing) k.begun) k.earlier
+    mark_called m.run.scene.noted (Took call.who call.now call.call (answer_of reply)) (not_before m (busy_answering m.doing call doing) k.begun) k.earlier
 
 leaves_stand : (minor drivers : ℕ) (b a : Moment) → Runs minor b a → ((m : Moment) → Runs minor b m → HasRoom minor m)
     → LeavesStand drivers b
@@ -518,22 +518,22 @@ runs_keep_waits media rules supply events minor b a new o rests empty runs room 
   n : ℕ
   n = length supply
 
-  no_groups : b.play.scene.noted.groups ≡ []
+  no_groups : b.run.scene.noted.groups ≡ []
   no_groups = ap (λ (x : Scene). x.noted.groups) o.scene.is
 
   k : LeavesStand n a
   k = leaves_stand minor n b a runs room (record {
     calm = calm_before media rules supply events b o;
     begun = StandsBefore rests o.queue o.owed;
-    said = opened_said (OnlyFollows n) media rules supply events b.play o (opened_follows media rules supply o.scene.first o.scene.rest new o.scene.spare);
+    said = opened_said (OnlyFollows n) media rules supply events b.run o (opened_follows media rules supply o.scene.first o.scene.rest new o.scene.spare);
     calls = opened_calls media rules supply events b o rests;
-    stopped = not_stopped b.outbox b.play (ap (λ (x : Outbox). x.stopped) empty);
+    stopped = not_stopped b.outbox b.run (ap (λ (x : Outbox). x.stopped) empty);
     earlier = subst (λ (l : List Group). EarlierCalled l) (sym no_groups) tt;
   })
 
-  by : ((a.doing ≡ Resting) × (a.play.queue ≡ [])) ⊎ (a.play.over ≡ true) → EachGroup CallsAsDue a.play.scene.noted.groups
-  by (inl idle) = all_called [] a.play k.said.first (at_rest a idle.0 k.calls) (none_left [] a.play refl idle.1) k.earlier
+  by : ((a.doing ≡ Resting) × (a.run.queue ≡ [])) ⊎ (a.run.over ≡ true) → EachGroup CallsAsDue a.run.scene.noted.groups
+  by (inl idle) = all_called [] a.run k.said.first (at_rest a idle.0 k.calls) (none_left [] a.run refl idle.1) k.earlier
   by (inr over) =
       let need : Needs a = runs_end_needing minor b a runs o.over over in
-      all_called (answering a.doing) a.play k.said.first k.calls
-      (λ some. waits_now n a.play a.outbox k.said k.stopped need.needed need.not_given_up) k.earlier
+      all_called (answering a.doing) a.run k.said.first k.calls
+      (λ some. waits_now n a.run a.outbox k.said k.stopped need.needed need.not_given_up) k.earlier

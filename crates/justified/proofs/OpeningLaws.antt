@@ -83,12 +83,12 @@ opened_follows media rules supply first rest new spare =
       clash e = e
 
 pub begins_before : (media : MediaState) (rules : Policy) (supply : List DriverState) (events : List Event) (m : Moment)
-    → IsOpened media rules (new_watch (length supply)) supply events m.play → m.doing ≡ Resting → HasBegun m
+    → IsOpened media rules (new_watch (length supply)) supply events m.run → m.doing ≡ Resting → HasBegun m
 begins_before media rules supply events m o rests = StandsBefore rests o.queue o.owed
 
 pub calm_before : (media : MediaState) (rules : Policy) (supply : List DriverState) (events : List Event) (m : Moment)
-    → IsOpened media rules (new_watch (length supply)) supply events m.play → OverCalm m
-calm_before media rules supply events m o = record { none = λ over. by m.play.over o.over over } where
+    → IsOpened media rules (new_watch (length supply)) supply events m.run → OverCalm m
+calm_before media rules supply events m o = record { none = λ over. by m.run.over o.over over } where
   by : (b : Bool) → b ≡ false → b ≡ true → m.outbox.complaint ≡ None
   by b live over = cc
 
@@ -138,21 +138,21 @@ runs_are_justified media rules supply events minor b a new ready o rests runs =
     opened_follows media rules supply o.scene.first o.scene.rest new o.scene.spare in
     let begun : HasBegun b = begins_before media rules supply events b o rests in
     let calm : OverCalm b = calm_before media rules supply events b o in
-    let starts : IsSaid (EachSoFar n StartsAsDue) a.play = runs_said (EachSoFar n StartsAsDue) (starts_kept n) minor b a runs calm begun
-    (opened_said (EachSoFar n StartsAsDue) media rules supply events b.play o (record { follows = follows; each = tt })) in
-    let hung : IsSaid (EachSoFar n HungAsDue) a.play = runs_said (EachSoFar n HungAsDue) (hung_kept n) minor b a runs calm begun
-    (opened_said (EachSoFar n HungAsDue) media rules supply events b.play o (record { follows = follows; each = tt })) in
-    let flushes : IsSaid (EachSoFar n FlushesAsDue) a.play = runs_said (EachSoFar n FlushesAsDue) (flushes_kept n) minor b a runs calm begun
-    (opened_said (EachSoFar n FlushesAsDue) media rules supply events b.play o (record { follows = follows; each = tt })) in
-    let given_up : IsSaid (GivesUpSoFar n) a.play = runs_said (GivesUpSoFar n) (gives_up_kept n) minor b a runs calm begun
-    (opened_said (GivesUpSoFar n) media rules supply events b.play o (record { follows = follows; all = tt })) in
-    let answers : IsSaid AnsweredSoFar a.play = runs_said AnsweredSoFar answered_kept minor b a runs calm begun
-    (opened_said AnsweredSoFar media rules supply events b.play o (record { places = refl; sent = tt; order = refl; each = tt })) in
-    let exits : IsSaid (ExitsSoFar n) a.play = runs_said (ExitsSoFar n) (exits_kept n) minor b a runs calm begun
-    (opened_said (ExitsSoFar n) media rules supply events b.play o (record { follows = follows; numbered = omega (arith, new); each = tt })) in
+    let starts : IsSaid (EachSoFar n StartsAsDue) a.run = runs_said (EachSoFar n StartsAsDue) (starts_kept n) minor b a runs calm begun
+    (opened_said (EachSoFar n StartsAsDue) media rules supply events b.run o (record { follows = follows; each = tt })) in
+    let hung : IsSaid (EachSoFar n HungAsDue) a.run = runs_said (EachSoFar n HungAsDue) (hung_kept n) minor b a runs calm begun
+    (opened_said (EachSoFar n HungAsDue) media rules supply events b.run o (record { follows = follows; each = tt })) in
+    let flushes : IsSaid (EachSoFar n FlushesAsDue) a.run = runs_said (EachSoFar n FlushesAsDue) (flushes_kept n) minor b a runs calm begun
+    (opened_said (EachSoFar n FlushesAsDue) media rules supply events b.run o (record { follows = follows; each = tt })) in
+    let given_up : IsSaid (GivesUpSoFar n) a.run = runs_said (GivesUpSoFar n) (gives_up_kept n) minor b a runs calm begun
+    (opened_said (GivesUpSoFar n) media rules supply events b.run o (record { follows = follows; all = tt })) in
+    let answers : IsSaid AnsweredSoFar a.run = runs_said AnsweredSoFar answered_kept minor b a runs calm begun
+    (opened_said AnsweredSoFar media rules supply events b.run o (record { places = refl; sent = tt; order = refl; each = tt })) in
+    let exits : IsSaid (ExitsSoFar n) a.run = runs_said (ExitsSoFar n) (exits_kept n) minor b a runs calm begun
+    (opened_said (ExitsSoFar n) media rules supply events b.run o (record { follows = follows; numbered = omega (arith, new); each = tt })) in
     let first_ones : Each (λ d. d.failed ≡ false) (o.scene.first ∷ o.scene.rest) = subst (λ (l : List DriverState). Each (λ d. d.failed ≡ false) l) o.scene.spare ready in
-    let owned : IsSaid (DriversSoFar n supply) a.play = runs_said (DriversSoFar n supply) (drivers_kept n supply) minor b a runs calm begun
-    (opened_said (DriversSoFar n supply) media rules supply events b.play o (record {
+    let owned : IsSaid (DriversSoFar n supply) a.run = runs_said (DriversSoFar n supply) (drivers_kept n supply) minor b a runs calm begun
+    (opened_said (DriversSoFar n supply) media rules supply events b.run o (record {
       follows = follows;
       numbered = omega (arith, new);
       handed_in = sym (ap (λ (l : List DriverState). map ranges_in l) o.scene.spare);
@@ -160,15 +160,15 @@ runs_are_justified media rules supply events minor b a new ready o rests runs =
       sound = λ last count is. first_ones.0;
     })) in
     record {
-      record_is = sym (record_of_groups a.play.scene.noted.groups a.play.scene.noted.first starts.first);
+      record_is = sym (record_of_groups a.run.scene.noted.groups a.run.scene.noted.first starts.first);
       exits = exits.said.each;
       hung = hung.said.each;
       starts = starts.said.each;
-      given_up = λ paid. earlier_gave_up n a.play.scene.noted.groups (core_of a.play) given_up.said.all paid;
+      given_up = λ paid. earlier_gave_up n a.run.scene.noted.groups (core_of a.run) given_up.said.all paid;
       answered = answers.said.each;
       replies_order = answers.said.order;
       flushed = flushes.said.each;
-      all = as_many a.play.scene.disks exits.said.numbered ∙ exits.said.follows.latest ∙ sym exits.said.follows.started_is;
-      handed_in = first_of_all (drivers_of a.play.scene.disks) (map ranges_in a.play.scene.supply) (map ranges_in supply) owned.said.handed_in;
-      sound = sound_now n supply a.play.next a.play.scene.noted.groups (core_of a.play) owned.said;
+      all = as_many a.run.scene.disks exits.said.numbered ∙ exits.said.follows.latest ∙ sym exits.said.follows.started_is;
+      handed_in = first_of_all (drivers_of a.run.scene.disks) (map ranges_in a.run.scene.supply) (map ranges_in supply) owned.said.handed_in;
+      sound = sound_now n supply a.run.next a.run.scene.noted.groups (core_of a.run) owned.said;
     }

@@ -137,49 +137,49 @@ resting : (d : Doing) → d ≡ Resting → answering d ≡ []
 resting d is = ap answering is
 
 -- a step
-step_orders : (minor : ℕ) (m a : Moment) → Step minor m a → OverCalm m → HasBegun m → Orders (answering m.doing) m.play → Orders (answering a.doing) a.play
+step_orders : (minor : ℕ) (m a : Moment) → Step minor m a → OverCalm m → HasBegun m → Orders (answering m.doing) m.run → Orders (answering a.doing) a.run
 step_orders minor m _ (StepBegins r busy may) calm begun h = h
 step_orders minor m _ (Tells told a busy nothing may turn) calm begun h =
-    turned (answering m.doing) m.play a told turn (may_complain minor m told calm may) (not_before m busy begun) h
+    turned (answering m.doing) m.run a told turn (may_complain minor m told calm may) (not_before m busy begun) h
 step_orders minor m _ (StepTakes message call a doing may turn) calm begun h =
-    turned (answering m.doing) m.play a (Received message) turn (λ about is. cc) (not_before m (busy_answering m.doing call doing) begun) h
-step_orders minor m _ (Settles message doing rest) calm begun h = subst (λ (l : List Arrival). Orders l m.play) (ap answering doing) h
+    turned (answering m.doing) m.run a (Received message) turn (λ about is. cc) (not_before m (busy_answering m.doing call doing) begun) h
+step_orders minor m _ (Settles message doing rest) calm begun h = subst (λ (l : List Arrival). Orders l m.run) (ap answering doing) h
 step_orders minor m _ (Brings message a between none next) calm begun h =
-    let k : Orders [] m.play = subst (λ (l : List Arrival). Orders l m.play) (resting m.doing between.rests) h in
-    let n : FirstOrdered (noting (entry.Handed message) a) = next_orders [] m.play a (Some message) (with_entry (entry.Handed message) a.scene.noted) next refl refl k in
+    let k : Orders [] m.run = subst (λ (l : List Arrival). Orders l m.run) (resting m.doing between.rests) h in
+    let n : FirstOrdered (noting (entry.Handed message) a) = next_orders [] m.run a (Some message) (with_entry (entry.Handed message) a.scene.noted) next refl refl k in
     record {
       first = n.0;
-      calls = asides_hand_none [] m.play (noting (entry.Handed message) a) (Ok (Some message)) (HandsEvent message a next) k.calls;
+      calls = asides_hand_none [] m.run (noting (entry.Handed message) a) (Ok (Some message)) (HandsEvent message a next) k.calls;
       earlier = n.1;
     }
-step_orders minor m _ (BringsNone a between none next) calm begun h = next_none_orders (answering m.doing) m.play a next h
+step_orders minor m _ (BringsNone a between none next) calm begun h = next_none_orders (answering m.doing) m.run a next h
 step_orders minor m _ (StepPays between owed told) calm begun h =
-    let k : Orders [] m.play = subst (λ (l : List Arrival). Orders l m.play) (resting m.doing between.rests) h in
-    let n : FirstOrdered (noting (entry.Handed incoming.GaveUp) (paid m.play)) =
-    mark_orders m.play (with_entry (entry.Handed incoming.GaveUp) m.play.scene.noted) GaveUp (not_owed_before m owed begun) refl refl k.first k.earlier in
+    let k : Orders [] m.run = subst (λ (l : List Arrival). Orders l m.run) (resting m.doing between.rests) h in
+    let n : FirstOrdered (noting (entry.Handed incoming.GaveUp) (paid m.run)) =
+    mark_orders m.run (with_entry (entry.Handed incoming.GaveUp) m.run.scene.noted) GaveUp (not_owed_before m owed begun) refl refl k.first k.earlier in
     record {
       first = n.0;
-      calls = asides_hand_none [] m.play (noting (entry.Handed incoming.GaveUp) (paid m.play)) (Ok (Some incoming.GaveUp)) (HandsOwed between.live owed told) k.calls;
+      calls = asides_hand_none [] m.run (noting (entry.Handed incoming.GaveUp) (paid m.run)) (Ok (Some incoming.GaveUp)) (HandsOwed between.live owed told) k.calls;
       earlier = n.1;
     }
 step_orders minor m _ (HandsCall call a between paid_so hands) calm begun h =
-    let k : Orders [] m.play = subst (λ (l : List Arrival). Orders l m.play) (resting m.doing between.rests) h in
+    let k : Orders [] m.run = subst (λ (l : List Arrival). Orders l m.run) (resting m.doing between.rests) h in
     record {
       first = ap (λ (p : RunState). p.scene.noted.first) hands.after ∙ k.first;
-      calls = one_is_handed_out m.play a call hands k.calls;
+      calls = one_is_handed_out m.run a call hands k.calls;
       earlier = subst (λ (p : RunState). EarlierOrdered p.scene.noted.groups) (sym hands.after) k.earlier;
     }
 step_orders minor m _ (StepReplies call reply doing live rest) calm begun h =
-    let k : Orders (arrival_of call ∷ []) m.play = subst (λ (l : List Arrival). Orders l m.play) (ap answering doing) h in
-    let a : RunState = noting (entry.Took call.who call.now call.call reply) m.play in
-    let n : FirstOrdered a = mark_orders m.play a.scene.noted (Took call.who call.now call.call (answer_of reply))
+    let k : Orders (arrival_of call ∷ []) m.run = subst (λ (l : List Arrival). Orders l m.run) (ap answering doing) h in
+    let a : RunState = noting (entry.Took call.who call.now call.call reply) m.run in
+    let n : FirstOrdered a = mark_orders m.run a.scene.noted (Took call.who call.now call.call (answer_of reply))
     (not_before m (busy_answering m.doing call doing) begun) refl refl k.first k.earlier in
-    record { first = n.0; calls = it_is_answered m.play a call reply refl k.calls; earlier = n.1 }
+    record { first = n.0; calls = it_is_answered m.run a call reply refl k.calls; earlier = n.1 }
 
 record OrdersStand (m : Moment) : Type 0 where
   calm : OverCalm m
   begun : HasBegun m
-  orders : Orders (answering m.doing) m.play
+  orders : Orders (answering m.doing) m.run
 
 orders_stand : (minor : ℕ) (b a : Moment) → Runs minor b a → OrdersStand b → OrdersStand a
 orders_stand minor b _ Starts h = h
@@ -191,7 +191,7 @@ orders_stand minor b a (Then m _ before last) h = let k : OrdersStand m = orders
 
 pub runs_keep_order : RunsKeepOrder
 runs_keep_order media rules supply events minor b a o rests runs =
-    let s : b.play.scene.noted ≡ first_noted = ap (λ (x : Scene). x.noted) o.scene.is in
+    let s : b.run.scene.noted ≡ first_noted = ap (λ (x : Scene). x.noted) o.scene.is in
     let k : OrdersStand a = orders_stand minor b a runs (record {
       calm = calm_before media rules supply events b o;
       begun = StandsBefore rests o.queue o.owed;
@@ -199,11 +199,11 @@ runs_keep_order media rules supply events minor b a o rests runs =
         first = ap (λ (n : Noted). n.first) s;
         calls = record {
           order = ap (λ (n : Noted). arrived n.groups) s
-              ∙ sym (ap (λ (n : Noted). reverse (map arrival_of b.play.queue) ++ (answering b.doing ++ taken (marks_in n))) s
+              ∙ sym (ap (λ (n : Noted). reverse (map arrival_of b.run.queue) ++ (answering b.doing ++ taken (marks_in n))) s
               ∙ ap (λ (l : List Arrived). reverse (map arrival_of l) ++ (answering b.doing ++ [])) o.queue
               ∙ ap (λ (d : Doing). answering d ++ []) rests);
         };
         earlier = subst (λ (n : Noted). EarlierOrdered n.groups) (sym s) tt;
       };
     }) in
-    all_ordered (answering a.doing) a.play k.orders.first k.orders.calls k.orders.earlier
+    all_ordered (answering a.doing) a.run k.orders.first k.orders.calls k.orders.earlier

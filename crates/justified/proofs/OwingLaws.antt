@@ -100,7 +100,7 @@ pub record IsOwed (Said : ℕ → List Group → Core → Outbox → Bool → Ty
 
 -- whether the server is at work, while the link hasn't ended
 abbrev pub at_work : Moment → Bool
-at_work m = is_busy m.doing && not m.play.over
+at_work m = is_busy m.doing && not m.run.over
 
 pub served_is : (p : RunState) → p.scene.noted.first ≡ Started (driver 1) ∷ [] → record_of p ≡ served p.scene.noted.groups
 served_is p first = ap without_faults (record_of_groups p.scene.noted.groups p.scene.noted.first first)
@@ -355,51 +355,51 @@ module _ (Said : ℕ → List Group → Core → Outbox → Bool → Type 0) (ke
   takes_owed b _ _ message o (Complains about) is rest begun h = cc
 
   -- a step of a run
-  pub step_owed : (minor : ℕ) (m a : Moment) → Step minor m a → OverCalm m → HasBegun m → IsOwed Said m.play m.outbox (at_work m)
-      → IsOwed Said a.play a.outbox (at_work a)
+  pub step_owed : (minor : ℕ) (m a : Moment) → Step minor m a → OverCalm m → HasBegun m → IsOwed Said m.run m.outbox (at_work m)
+      → IsOwed Said a.run a.outbox (at_work a)
   step_owed minor m _ (StepBegins r busy may) calm begun h = record {
     first = h.first;
-    said = kept.begins_one m.play.next m.play.scene.noted.groups (core_of m.play) m.outbox (at_work m) r
-        (subst (λ (l : List Mark). MayBegin l m.outbox r) (served_is m.play h.first) may) h.said;
+    said = kept.begins_one m.run.next m.run.scene.noted.groups (core_of m.run) m.outbox (at_work m) r
+        (subst (λ (l : List Mark). MayBegin l m.outbox r) (served_is m.run h.first) may) h.said;
   }
   step_owed minor m _ (Tells told a busy nothing may turn) calm begun h =
-      subst (λ (w : Bool). IsOwed Said a (owed_after_act (AtLink told) (record_of m.play) m.outbox) (is_busy m.doing && not w))
-      (sym (tells_over m.play a told turn nothing))
-      (tells_owed minor m.play a told m.outbox (at_work m) turn nothing may (may_complain minor m told calm may) (not_before m busy begun) h)
+      subst (λ (w : Bool). IsOwed Said a (owed_after_act (AtLink told) (record_of m.run) m.outbox) (is_busy m.doing && not w))
+      (sym (tells_over m.run a told turn nothing))
+      (tells_owed minor m.run a told m.outbox (at_work m) turn nothing may (may_complain minor m told calm may) (not_before m busy begun) h)
   step_owed minor m _ (StepTakes message call a doing may turn) calm begun h =
-      subst (λ (w : Bool). IsOwed Said a (owed_after_message message (record_of m.play) m.outbox) (w && not a.over)) (sym (busy_answering m.doing call doing))
-      (takes_owed m.play a (Received message) message m.outbox turn refl may.at_rest (not_before m (busy_answering m.doing call doing) begun)
-      (rests_owed m.play m.outbox (at_work m) true may.at_rest h))
-  step_owed minor m _ (Settles message doing rest) calm begun h = rests_owed m.play m.outbox (at_work m) false rest h
+      subst (λ (w : Bool). IsOwed Said a (owed_after_message message (record_of m.run) m.outbox) (w && not a.over)) (sym (busy_answering m.doing call doing))
+      (takes_owed m.run a (Received message) message m.outbox turn refl may.at_rest (not_before m (busy_answering m.doing call doing) begun)
+      (rests_owed m.run m.outbox (at_work m) true may.at_rest h))
+  step_owed minor m _ (Settles message doing rest) calm begun h = rests_owed m.run m.outbox (at_work m) false rest h
   step_owed minor m _ (Brings message a between none next) calm begun h =
-      let k : IsOwed Said (noting (entry.Handed message) a) (owed_after_message message (record_of m.play) m.outbox) true =
-      next_owed m.play a (Some message) (with_entry (entry.Handed message) a.scene.noted) m.outbox next refl refl refl between.at_rest
-      (rests_owed m.play m.outbox (at_work m) true between.at_rest h) in
-      subst (λ (w : Bool). IsOwed Said (noting (entry.Handed message) a) (owed_after_message message (record_of m.play) m.outbox) (not w))
+      let k : IsOwed Said (noting (entry.Handed message) a) (owed_after_message message (record_of m.run) m.outbox) true =
+      next_owed m.run a (Some message) (with_entry (entry.Handed message) a.scene.noted) m.outbox next refl refl refl between.at_rest
+      (rests_owed m.run m.outbox (at_work m) true between.at_rest h) in
+      subst (λ (w : Bool). IsOwed Said (noting (entry.Handed message) a) (owed_after_message message (record_of m.run) m.outbox) (not w))
       (sym (next.over ∙ between.live)) k
   step_owed minor m _ (BringsNone a between none next) calm begun h =
-      let k : IsOwed Said a m.outbox true = next_owed m.play a None a.scene.noted m.outbox next refl refl refl between.at_rest
-      (rests_owed m.play m.outbox (at_work m) true between.at_rest h) in
+      let k : IsOwed Said a m.outbox true = next_owed m.run a None a.scene.noted m.outbox next refl refl refl between.at_rest
+      (rests_owed m.run m.outbox (at_work m) true between.at_rest h) in
       rests_owed a m.outbox true (is_busy m.doing && not a.over)
-      (subst (λ (l : List Mark). IsAtRest l m.outbox) (sym (next_record m.play a None next)) between.at_rest) k
+      (subst (λ (l : List Mark). IsAtRest l m.outbox) (sym (next_record m.run a None next)) between.at_rest) k
   step_owed minor m _ (StepPays between owed told) calm begun h =
-      paid_owed m.play (with_entry (entry.Handed incoming.GaveUp) m.play.scene.noted) m.outbox (not m.play.over) refl refl refl owed between.at_rest
-      (not_owed_before m owed begun) (rests_owed m.play m.outbox (at_work m) (not m.play.over) between.at_rest h)
+      paid_owed m.run (with_entry (entry.Handed incoming.GaveUp) m.run.scene.noted) m.outbox (not m.run.over) refl refl refl owed between.at_rest
+      (not_owed_before m owed begun) (rests_owed m.run m.outbox (at_work m) (not m.run.over) between.at_rest h)
   step_owed minor m _ (HandsCall call a between paid_so hands) calm begun h =
-      let k : IsOwed Said m.play m.outbox (not a.over) = rests_owed m.play m.outbox (at_work m) (not a.over) between.at_rest h in
+      let k : IsOwed Said m.run m.outbox (not a.over) = rests_owed m.run m.outbox (at_work m) (not a.over) between.at_rest h in
       subst (λ (p : RunState). IsOwed Said p m.outbox (not a.over)) (sym hands.after) (record { first = k.first; said = k.said })
   step_owed minor m _ (StepReplies call reply doing live rest) calm begun h =
-      let a : RunState = noting (entry.Took call.who call.now call.call reply) m.play in
-      let k : (a.scene.noted.first ≡ Started (driver 1) ∷ []) × Said m.play.next a.scene.noted.groups (core_of a) m.outbox false =
-      quietly_marked m.play (core_of a) (Took call.who call.now call.call (answer_of reply)) a.scene.noted m.outbox m.outbox false
+      let a : RunState = noting (entry.Took call.who call.now call.call reply) m.run in
+      let k : (a.scene.noted.first ≡ Started (driver 1) ∷ []) × Said m.run.next a.scene.noted.groups (core_of a) m.outbox false =
+      quietly_marked m.run (core_of a) (Took call.who call.now call.call (answer_of reply)) a.scene.noted m.outbox m.outbox false
       (not_before m (busy_answering m.doing call doing) begun) refl refl (Replies call.who call.now call.call (answer_of reply)) refl
-      (rest_calm (record_of m.play) m.outbox rest) refl refl (rests_owed m.play m.outbox (at_work m) false rest h) in
+      (rest_calm (record_of m.run) m.outbox rest) refl refl (rests_owed m.run m.outbox (at_work m) false rest h) in
       record { first = k.0; said = k.1 }
 
 record Stands (Said : ℕ → List Group → Core → Outbox → Bool → Type 0) (m : Moment) : Type 0 where
   calm : OverCalm m
   begun_is : HasBegun m
-  owed : IsOwed Said m.play m.outbox (at_work m)
+  owed : IsOwed Said m.run m.outbox (at_work m)
 
 stands_on : (Said : ℕ → List Group → Core → Outbox → Bool → Type 0) → IsKeptOwing Said → (minor : ℕ) (b a : Moment) → Runs minor b a → Stands Said b → Stands Said a
 stands_on Said kept minor b _ Starts h = h
@@ -411,5 +411,5 @@ stands_on Said kept minor b a (Then m _ before last) h = let k : Stands Said m =
 
 -- a whole run
 pub runs_owed : (Said : ℕ → List Group → Core → Outbox → Bool → Type 0) → IsKeptOwing Said → (minor : ℕ) (b a : Moment) → Runs minor b a → OverCalm b → HasBegun b
-    → IsOwed Said b.play b.outbox (at_work b) → IsOwed Said a.play a.outbox (at_work a)
+    → IsOwed Said b.run b.outbox (at_work b) → IsOwed Said a.run a.outbox (at_work a)
 runs_owed Said kept minor b a runs calm begun h = (stands_on Said kept minor b a runs (record { calm = calm; begun_is = begun; owed = h })).owed

@@ -209,17 +209,17 @@ issues_opened drivers c t slots = record {
 }
 
 run_issues : (media : MediaState) (rules : Policy) (supply : List DriverState) (events : List Event) (minor : ℕ) (b a : Moment)
-    → media.generation ≡ 0 → Each (λ d. d.failed ≡ false) supply → IsOpened media rules (new_watch (length supply)) supply events b.play
-    → b.doing ≡ Resting → b.outbox ≡ empty_outbox → Runs minor b a → IsOwed (Issues (length supply)) a.play a.outbox (at_work a)
+    → media.generation ≡ 0 → Each (λ d. d.failed ≡ false) supply → IsOpened media rules (new_watch (length supply)) supply events b.run
+    → b.doing ≡ Resting → b.outbox ≡ empty_outbox → Runs minor b a → IsOwed (Issues (length supply)) a.run a.outbox (at_work a)
 run_issues media rules supply events minor b a new ready o rests empty runs =
     let n : ℕ = length supply in
     let t : Bool = at_work b in
-    let k : IsSaid (λ place groups c. Issues n place groups c empty_outbox t) b.play =
-    opened_said (λ place groups c. Issues n place groups c empty_outbox t) media rules supply events b.play o
-    (issues_opened n (core_at (opened_scene media rules n o.scene.first o.scene.rest) false false) t (slots_opened media rules supply events b.play new ready o)) in
+    let k : IsSaid (λ place groups c. Issues n place groups c empty_outbox t) b.run =
+    opened_said (λ place groups c. Issues n place groups c empty_outbox t) media rules supply events b.run o
+    (issues_opened n (core_at (opened_scene media rules n o.scene.first o.scene.rest) false false) t (slots_opened media rules supply events b.run new ready o)) in
     runs_owed (Issues n) (issues_kept n) minor b a runs (calm_before media rules supply events b o) (StandsBefore rests o.queue o.owed) (record {
       first = k.first;
-      said = subst (λ (x : Outbox). Issues n b.play.next b.play.scene.noted.groups (core_of b.play) x t) (sym empty) k.said;
+      said = subst (λ (x : Outbox). Issues n b.run.next b.run.scene.noted.groups (core_of b.run) x t) (sym empty) k.said;
     })
 
 pub runs_keep_places : RunsKeepPlaces
@@ -228,10 +228,10 @@ runs_keep_places media rules supply events minor b a new ready o rests empty run
 
 pub runs_keep_followed : RunsKeepFollowed
 runs_keep_followed media rules supply events minor b a new ready o rests empty runs none_due =
-    let k : IsOwed (Issues (length supply)) a.play a.outbox (at_work a) = run_issues media rules supply events minor b a new ready o rests empty runs in
-    let groups : List Group = a.play.scene.noted.groups in
-    followed k.said.to k.said.left groups (none_left groups a.play.scene.disks a.outbox (at_work a) k.said.to k.said.left k.said.unposted k.said.again
-    (λ is. subst (λ (l : List Mark). is_post_due l a.outbox ≡ false) (served_is a.play k.first) none_due)) k.said.follow
+    let k : IsOwed (Issues (length supply)) a.run a.outbox (at_work a) = run_issues media rules supply events minor b a new ready o rests empty runs in
+    let groups : List Group = a.run.scene.noted.groups in
+    followed k.said.to k.said.left groups (none_left groups a.run.scene.disks a.outbox (at_work a) k.said.to k.said.left k.said.unposted k.said.again
+    (λ is. subst (λ (l : List Mark). is_post_due l a.outbox ≡ false) (served_is a.run k.first) none_due)) k.said.follow
 
 idle_left : (groups : List Group) (d : Disks) (complaint : Option Endpoint) (stopped t : Bool) (to : Endpoint) (left : List BlockRequest) → t ≡ false
     → AgainNow groups d complaint stopped t to left → left ≡ []
@@ -242,14 +242,14 @@ idle_left groups d complaint stopped t to (r ∷ rest) idle again = absurd (clas
 
 pub runs_end_followed : RunsEndFollowed
 runs_end_followed media rules supply events minor b a new ready o rests empty runs ends =
-    let k : IsOwed (Issues (length supply)) a.play a.outbox (at_work a) = run_issues media rules supply events minor b a new ready o rests empty runs in
-    let groups : List Group = a.play.scene.noted.groups in
-    followed k.said.to k.said.left groups (idle_left groups a.play.scene.disks a.outbox.complaint a.outbox.stopped (at_work a) k.said.to k.said.left (idle ends) k.said.again)
+    let k : IsOwed (Issues (length supply)) a.run a.outbox (at_work a) = run_issues media rules supply events minor b a new ready o rests empty runs in
+    let groups : List Group = a.run.scene.noted.groups in
+    followed k.said.to k.said.left groups (idle_left groups a.run.scene.disks a.outbox.complaint a.outbox.stopped (at_work a) k.said.to k.said.left (idle ends) k.said.again)
     k.said.follow where
       none_and : (x : Bool) → (x && false) ≡ false
       none_and true = refl
       none_and false = refl
 
-      idle : (a.doing ≡ Resting) ⊎ (a.play.over ≡ true) → at_work a ≡ false
-      idle (inl is) = ap (λ (d : Doing). is_busy d && not a.play.over) is
+      idle : (a.doing ≡ Resting) ⊎ (a.run.over ≡ true) → at_work a ≡ false
+      idle (inl is) = ap (λ (d : Doing). is_busy d && not a.run.over) is
       idle (inr is) = ap (λ (x : Bool). is_busy a.doing && not x) is ∙ none_and (is_busy a.doing)

@@ -2,6 +2,7 @@
 use Rattle.std.proofs.Common.{◌≡◌, ℕ, ◌+◌, ◌<◌, ◌≤◌, List, [], ◌∷◌, length, Bool, true, false, refl, sym, ◌∙◌, ap, subst, arith, ◌⊎◌, inl, inr}
 use Rattle.std.proofs.lemmas.Bool.Decides.{nat_tests}
 use Rattle.std.specs.Prelude.{◌&&◌, ◌||◌, ◌==◌, not, max, nat_le, nat_lt, if◌then◌else◌, Option, Some, None, IfSome, is_some}
+use Rattle.lemmas.proofs.Bools.{and_left, and_right, true_not_false}
 use Rattle.message.specs.declared.endpoint.Endpoint.{Endpoint}
 use Rattle.message.specs.declared.BlockRequest.{BlockRequest}
 use Rattle.bdev.specs.DriverState.{DriverState, Work}
@@ -17,7 +18,7 @@ use Rattle.justified.proofs.FollowLaws.{same_number, other_number}
 use Rattle.justified.specs.Said.{core_of}
 use Rattle.justified.specs.Took.{replies_from}
 use Rattle.justified.specs.TookLaws.{RunsKeepReplies}
-use Rattle.justified.proofs.Small.{clash, and_left, and_right, number_is, each_on}
+use Rattle.justified.proofs.Small.{number_is, each_on}
 use Rattle.justified.proofs.EachDriver.{HoldsOf}
 use Rattle.justified.proofs.HoldingLaws.{HoldsSoFar}
 use Rattle.justified.proofs.TakingLaws.{has_id, runs_hold, each_driver}
@@ -34,8 +35,8 @@ done_limit None last id own done = let most : nat_le id last ≡ true = and_left
 done_limit (Some w) last id own done = less (and_left (nat_le id last) (not (w.request.id == id)) done)
     (other (w.request.id == id) refl done) where
       other : (c : Bool) → (w.request.id == id) ≡ c → (nat_le id last && not c) ≡ true → last ≡ id → ⊥
-      other true is h same = clash (sym (and_right (nat_le id last) false h))
-      other false is h same = clash (sym (ap (λ (n : ℕ). n == id) (own ∙ same) ∙ same_number id) ∙ is)
+      other true is h same = true_not_false (sym (and_right (nat_le id last) false h))
+      other false is h same = true_not_false (sym (ap (λ (n : ℕ). n == id) (own ∙ same) ∙ same_number id) ∙ is)
 
       less : nat_le id last ≡ true → (last ≡ id → ⊥) → id < last
       less most different = grind (arith, nat_tests, most, different)
@@ -61,7 +62,7 @@ own_replies : (g : ℕ) (d : DriverState) (sent : List Sent) → Each (λ a. is_
 own_replies g d [] h = tt
 own_replies g d (s ∷ sent) h = by (λ k. own_replies g d sent k) (s.reply.from.generation == g) refl h where
   other : (s.reply.from.generation == g) ≡ false → s.reply.from.generation ≡ g → ⊥
-  other is e = clash (sym (ap (λ (n : ℕ). n == g) e ∙ same_number g) ∙ is)
+  other is e = true_not_false (sym (ap (λ (n : ℕ). n == g) e ∙ same_number g) ∙ is)
 
   by : (Each (λ a. is_done_with d a.id ≡ true) (replies_from g sent) → Each (IsOfItsDriver g d) sent) → (b : Bool)
       → (s.reply.from.generation == g) ≡ b
@@ -107,7 +108,7 @@ one_reply g d sent (Issued r e ∷ marks) h =
       at is = ap (λ (x : Endpoint). (x.slot == 1) && (x.generation == g)) is ∙ ap (λ (b : Bool). b) (same_number g)
 
       other : ((e.slot == 1) && (e.generation == g)) ≡ false → e ≡ driver g → ⊥
-      other none is = clash (sym (at is) ∙ none)
+      other none is = true_not_false (sym (at is) ∙ none)
 
       by : (Each (λ x. is_done_with d x.id ≡ true → replies_of g x.id sent ≡ 1) (requests_issued_to g marks)
           → Each (IsRepliedTo g d sent) marks)
@@ -142,7 +143,7 @@ open_issued (Issued r e ∷ marks) q w is =
           one_id marks w.0 r q (again_where_low marks r low how).same k e
 
       differ : (r.id == q.id) ≡ false → q ≡ r → ⊥
-      differ is e = clash (sym (ap (λ (x : BlockRequest). r.id == x.id) e ∙ same_number r.id) ∙ is)
+      differ is e = true_not_false (sym (ap (λ (x : BlockRequest). r.id == x.id) e ∙ same_number r.id) ∙ is)
 
       by : (IsIn q (open_requests marks) → issued_with q.id marks ≡ Some q) → (b : Bool) → (r.id == q.id) ≡ b
           → IsIn q (open_requests marks) ⊎ ((q ≡ r) × (r.id ≡ greatest marks + 1)) → IsNew marks r ⊎ IsAgain marks r
@@ -246,10 +247,10 @@ replies_stand marks sent g d line w h =
 
 pub runs_keep_replies : RunsKeepReplies
 runs_keep_replies media rules supply events minor b a new fresh o rests runs placed w =
-    let groups : List Group = a.play.scene.noted.groups in
-    let h : HoldsSoFar AreInPlace Counts counts_keeps (length supply) a.play.next groups (core_of a.play) =
+    let groups : List Group = a.run.scene.noted.groups in
+    let h : HoldsSoFar AreInPlace Counts counts_keeps (length supply) a.run.next groups (core_of a.run) =
     runs_hold AreInPlace Counts counts_keeps media rules supply events minor b a new fresh o rests runs in
-    each_driver (HoldsOf AreInPlace Counts counts_keeps (marks_of groups) a.play.scene.disks.sent)
-    (RepliesOf (marks_of groups) a.play.scene.disks.sent)
-    (λ g s k. replies_stand (marks_of groups) a.play.scene.disks.sent g s.state s.line w k) a.play.scene.disks h.issued.numbered
+    each_driver (HoldsOf AreInPlace Counts counts_keeps (marks_of groups) a.run.scene.disks.sent)
+    (RepliesOf (marks_of groups) a.run.scene.disks.sent)
+    (λ g s k. replies_stand (marks_of groups) a.run.scene.disks.sent g s.state s.line w k) a.run.scene.disks h.issued.numbered
     (h.slots (all_in_place groups placed w))

@@ -244,9 +244,9 @@ runs_keep_room media rules supply events minor b a new ready fresh o idle empty 
     let c : Core = core_at (opened_scene media rules n o.scene.first o.scene.rest) false false in
     let ones : Each HasNoWork (o.scene.first ∷ o.scene.rest) = subst (λ (l : List DriverState). Each HasNoWork l) o.scene.spare fresh in
     let before : Disks = record (c.disks) { media = media } in
-    let k : IsSaid (λ place groups c. Roomy n place groups c empty_outbox t) b.play =
-    opened_said (λ place groups c. Roomy n place groups c empty_outbox t) media rules supply events b.play o (record {
-      issues = issues_opened n c t (slots_opened media rules supply events b.play new ready o);
+    let k : IsSaid (λ place groups c. Roomy n place groups c empty_outbox t) b.run =
+    opened_said (λ place groups c. Roomy n place groups c empty_outbox t) media rules supply events b.run o (record {
+      issues = issues_opened n c t (slots_opened media rules supply events b.run new ready o);
       fresh = ones.1;
       last_is = ap (λ (g : ℕ). Some (driver g)) (omega (arith, new));
       bound = 0;
@@ -255,9 +255,9 @@ runs_keep_room media rules supply events minor b a new ready fresh o idle empty 
       posts_low = tt;
       unposted_is = omega arith;
     }) in
-    let now : IsOwed (Roomy n) a.play a.outbox (at_work a) =
+    let now : IsOwed (Roomy n) a.run a.outbox (at_work a) =
     runs_owed (Roomy n) (roomy_kept n) minor b a runs (calm_before media rules supply events b o) (StandsBefore idle o.queue o.owed) (record {
       first = k.first;
-      said = subst (λ (x : Outbox). Roomy n b.play.next b.play.scene.noted.groups (core_of b.play) x t) (sym empty) k.said;
+      said = subst (λ (x : Outbox). Roomy n b.run.next b.run.scene.noted.groups (core_of b.run) x t) (sym empty) k.said;
     }) in
-    room_now n a.play.next a.play.scene.noted.groups (core_of a.play) a.outbox (at_work a) r now.said may.first
+    room_now n a.run.next a.run.scene.noted.groups (core_of a.run) a.outbox (at_work a) r now.said may.first

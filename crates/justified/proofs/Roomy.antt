@@ -2,6 +2,7 @@
 use Rattle.std.proofs.Common.{◌≡◌, ℕ, suc, ◌+◌, ◌<◌, ◌≤◌, List, [], ◌∷◌, ◌++◌, length, max, Bool, true, false, cond, refl, sym, ◌∙◌, ap, subst, arith}
 use Rattle.std.proofs.lemmas.Bool.Decides.{nat_tests}
 use Rattle.std.specs.Prelude.{Option, Some, None, Err, ◌&&◌, not, ◌==◌, is_some}
+use Rattle.lemmas.proofs.Bools.{and_right}
 use Rattle.message.specs.declared.endpoint.Endpoint.{Endpoint}
 use Rattle.message.specs.declared.BlockRequest.{BlockRequest}
 use Rattle.message.specs.declared.BlockReply.{BlockReply}
@@ -60,14 +61,6 @@ open_after_exit : (groups : List Group) (event : Event) (ends : Option Bool) (e 
     → AllOpen (served ((event, exit_marks ends e) ∷ groups)) rs
 open_after_exit groups event None e rs h = h
 open_after_exit groups event (Some ends) e rs h = open_after_fault groups event ends e Exit rs h
-
-and_left : (a b : Bool) → (a && b) ≡ true → a ≡ true
-and_left true b h = refl
-and_left false b h = cc
-
-and_right : (a b : Bool) → (a && b) ≡ true → b ≡ true
-and_right true b h = h
-and_right false b h = cc
 
 -- a reply that counts is from the current driver
 from_current : (marks : List Mark) (g : ℕ) (a : BlockReply) → last_started marks ≡ Some (driver g) → counts marks a ≡ true → a.from.generation ≡ g

@@ -180,19 +180,19 @@ module _ (Said : ℕ → List Group → Core → Type 0) (kept : IsKept Said) wh
   out_said b a result hands h = subst (λ (p : RunState). IsSaid Said p) (sym hands.after) (record { first = h.first; said = h.said })
 
 -- before the first event nothing is done at the link
-pub not_before : (m : Moment) → is_busy m.doing ≡ true → HasBegun m → IsBegun m.play.scene.noted.groups
+pub not_before : (m : Moment) → is_busy m.doing ≡ true → HasBegun m → IsBegun m.run.scene.noted.groups
 not_before m busy (Began begun) = begun
 not_before m busy (StandsBefore rests queue owed) = absurd (clash (sym (ap is_busy rests) ∙ busy)) where
   clash : ◌≡◌ {A = Bool} false true → ⊥
   clash e = cc
 
-pub not_owed_before : (m : Moment) → m.play.owed ≡ true → HasBegun m → IsBegun m.play.scene.noted.groups
+pub not_owed_before : (m : Moment) → m.run.owed ≡ true → HasBegun m → IsBegun m.run.scene.noted.groups
 not_owed_before m owed (Began begun) = begun
 not_owed_before m owed (StandsBefore rests queue paid_so) = absurd (clash (sym paid_so ∙ owed)) where
   clash : ◌≡◌ {A = Bool} false true → ⊥
   clash e = cc
 
-pub none_waits_before : (m : Moment) (call : Arrived) (a : RunState) → HandsOut m.play (Some call) a → HasBegun m → IsBegun m.play.scene.noted.groups
+pub none_waits_before : (m : Moment) (call : Arrived) (a : RunState) → HandsOut m.run (Some call) a → HasBegun m → IsBegun m.run.scene.noted.groups
 none_waits_before m call a hands (Began begun) = begun
 none_waits_before m call a hands (StandsBefore rests queue owed) = absurd (clash (hands.first ∙ ap (λ (l : List Arrived). slice_get l 0) queue)) where
   clash : Some call ≡ None → ⊥
@@ -205,13 +205,13 @@ pub busy_answering : (d : Doing) (call : Arrived) → d ≡ Answering call → i
 busy_answering d call is = ap is_busy is
 
 -- a complaint is made before the link has ended
-pub may_complain : (minor : ℕ) (m : Moment) (told : Told) → OverCalm m → MayAct minor (record_of m.play) m.outbox (AtLink told)
-    → (about : Endpoint) → told ≡ Complained about → m.play.over ≡ false
-may_complain minor m told calm may about is = by m.play.over refl where
+pub may_complain : (minor : ℕ) (m : Moment) (told : Told) → OverCalm m → MayAct minor (record_of m.run) m.outbox (AtLink told)
+    → (about : Endpoint) → told ≡ Complained about → m.run.over ≡ false
+may_complain minor m told calm may about is = by m.run.over refl where
   owed : m.outbox.complaint ≡ Some about
-  owed = subst (λ (t : Told). MayAct minor (record_of m.play) m.outbox (AtLink t)) is may
+  owed = subst (λ (t : Told). MayAct minor (record_of m.run) m.outbox (AtLink t)) is may
 
-  by : (b : Bool) → m.play.over ≡ b → m.play.over ≡ false
+  by : (b : Bool) → m.run.over ≡ b → m.run.over ≡ false
   by true over = absurd (clash (sym (calm.none over) ∙ owed)) where
     clash : None ≡ Some about → ⊥
     clash e = cc
@@ -259,30 +259,30 @@ paid_calm o marks none = none
 -- once the link has ended no complaint is owed
 pub step_calm : (minor : ℕ) (m a : Moment) → Step minor m a → OverCalm m → OverCalm a
 step_calm minor m _ (StepBegins r busy may) calm = record { none = calm.none }
-step_calm minor m _ (Tells told a busy nothing may turn) calm = record { none = turn_calm minor m.play a told m.outbox turn nothing may calm.none }
-step_calm minor m _ (StepTakes message call a doing may turn) calm = record { none = take_calm m.play a (Received message) message m.outbox turn refl may.at_rest.complaint }
+step_calm minor m _ (Tells told a busy nothing may turn) calm = record { none = turn_calm minor m.run a told m.outbox turn nothing may calm.none }
+step_calm minor m _ (StepTakes message call a doing may turn) calm = record { none = take_calm m.run a (Received message) message m.outbox turn refl may.at_rest.complaint }
 step_calm minor m _ (Settles message doing rest) calm = record { none = calm.none }
 step_calm minor m _ (Brings message a between none next) calm = record { none = live_calm a.over _ (next.over ∙ between.live) }
 step_calm minor m _ (BringsNone a between none next) calm = record { none = λ over. between.at_rest.complaint }
-step_calm minor m _ (StepPays between owed told) calm = record { none = λ over. paid_calm m.outbox (record_of m.play) between.at_rest.complaint }
+step_calm minor m _ (StepPays between owed told) calm = record { none = λ over. paid_calm m.outbox (record_of m.run) between.at_rest.complaint }
 step_calm minor m _ (HandsCall call a between paid_so hands) calm = record { none = λ over. between.at_rest.complaint }
 step_calm minor m _ (StepReplies call reply doing live rest) calm = record { none = λ over. rest.complaint }
 
 module _ (Said : ℕ → List Group → Core → Type 0) (kept : IsKept Said) where
   -- a step of a run
-  pub step_said : (minor : ℕ) (m a : Moment) → Step minor m a → OverCalm m → HasBegun m → IsSaid Said m.play → IsSaid Said a.play
+  pub step_said : (minor : ℕ) (m a : Moment) → Step minor m a → OverCalm m → HasBegun m → IsSaid Said m.run → IsSaid Said a.run
   step_said minor m _ (StepBegins r busy may) calm begun h = h
-  step_said minor m _ (Tells told a busy nothing may turn) calm begun h = turn_said Said kept m.play a told turn (may_complain minor m told calm may) (not_before m busy begun) h
+  step_said minor m _ (Tells told a busy nothing may turn) calm begun h = turn_said Said kept m.run a told turn (may_complain minor m told calm may) (not_before m busy begun) h
   step_said minor m _ (StepTakes message call a doing may turn) calm begun h =
-      turn_said Said kept m.play a (Received message) turn (λ about is. cc) (not_before m (busy_answering m.doing call doing) begun) h
+      turn_said Said kept m.run a (Received message) turn (λ about is. cc) (not_before m (busy_answering m.doing call doing) begun) h
   step_said minor m _ (Settles message doing rest) calm begun h = h
-  step_said minor m _ (Brings message a between none next) calm begun h = next_handed Said kept m.play a message next h
-  step_said minor m _ (BringsNone a between none next) calm begun h = next_none Said kept m.play a next h
+  step_said minor m _ (Brings message a between none next) calm begun h = next_handed Said kept m.run a message next h
+  step_said minor m _ (BringsNone a between none next) calm begun h = next_none Said kept m.run a next h
   step_said minor m _ (StepPays between owed told) calm begun h =
-      owed_told Said kept m.play (entry.Handed incoming.GaveUp) refl refl refl owed (not_owed_before m owed begun) h
-  step_said minor m _ (HandsCall call a between paid_so hands) calm begun h = out_said Said kept m.play a (Some call) hands h
+      owed_told Said kept m.run (entry.Handed incoming.GaveUp) refl refl refl owed (not_owed_before m owed begun) h
+  step_said minor m _ (HandsCall call a between paid_so hands) calm begun h = out_said Said kept m.run a (Some call) hands h
   step_said minor m _ (StepReplies call reply doing live rest) calm begun h =
-      replied_said Said kept m.play call reply (not_before m (busy_answering m.doing call doing) begun) h
+      replied_said Said kept m.run call reply (not_before m (busy_answering m.doing call doing) begun) h
 
 -- an event that began stays begun
 abbrev Some_began : ℕ → List Group → Core → Type 0
@@ -300,31 +300,31 @@ next_began b a result e first p n groups =
     let done : EventDone b.next b.owed b.told p.event b.scene result a.scene = event_done b.next b.owed b.told p.event b.scene result a.scene first p.plays in
     record { event = p.event; group = done.marks; earlier = b.scene.noted.groups; is = groups ∙ done.groups }
 
-pub step_begun : (minor : ℕ) (m a : Moment) → Step minor m a → OverCalm m → m.play.scene.noted.first ≡ Started (driver 1) ∷ [] → HasBegun m → HasBegun a
+pub step_begun : (minor : ℕ) (m a : Moment) → Step minor m a → OverCalm m → m.run.scene.noted.first ≡ Started (driver 1) ∷ [] → HasBegun m → HasBegun a
 step_begun minor m _ (StepBegins r busy may) calm first begun = Began (not_before m busy begun)
-step_begun minor m _ (Tells told a busy nothing may turn) calm first begun = let g : IsBegun m.play.scene.noted.groups = not_before m busy begun in
-    Began (turn_said Some_began began_kept m.play a told turn (may_complain minor m told calm may) g (record { first = first; said = g })).said
+step_begun minor m _ (Tells told a busy nothing may turn) calm first begun = let g : IsBegun m.run.scene.noted.groups = not_before m busy begun in
+    Began (turn_said Some_began began_kept m.run a told turn (may_complain minor m told calm may) g (record { first = first; said = g })).said
 step_begun minor m _ (StepTakes message call a doing may turn) calm first begun =
-    let g : IsBegun m.play.scene.noted.groups = not_before m (busy_answering m.doing call doing) begun in
-    Began (turn_said Some_began began_kept m.play a (Received message) turn (λ about is. cc) g (record { first = first; said = g })).said
+    let g : IsBegun m.run.scene.noted.groups = not_before m (busy_answering m.doing call doing) begun in
+    Began (turn_said Some_began began_kept m.run a (Received message) turn (λ about is. cc) g (record { first = first; said = g })).said
 step_begun minor m _ (Settles message doing rest) calm first begun = Began (not_before m (busy_hearing m.doing message doing) begun)
 step_begun minor m _ (Brings message a between none next) calm first begun =
-    Began (next_began m.play a (Some message) (entry.Handed message) first next (with_entry (entry.Handed message) a.scene.noted) refl)
+    Began (next_began m.run a (Some message) (entry.Handed message) first next (with_entry (entry.Handed message) a.scene.noted) refl)
 step_begun minor m _ (BringsNone a between none next) calm first begun =
-    Began (next_began m.play a None (entry.Handed incoming.GaveUp) first next a.scene.noted refl)
-step_begun minor m _ (StepPays between owed told) calm first begun = let g : IsBegun m.play.scene.noted.groups = not_owed_before m owed begun in
-    Began (owed_told Some_began began_kept m.play (entry.Handed incoming.GaveUp) refl refl refl owed g (record { first = first; said = g })).said
+    Began (next_began m.run a None (entry.Handed incoming.GaveUp) first next a.scene.noted refl)
+step_begun minor m _ (StepPays between owed told) calm first begun = let g : IsBegun m.run.scene.noted.groups = not_owed_before m owed begun in
+    Began (owed_told Some_began began_kept m.run (entry.Handed incoming.GaveUp) refl refl refl owed g (record { first = first; said = g })).said
 step_begun minor m _ (HandsCall call a between paid_so hands) calm first begun =
-    let g : IsBegun m.play.scene.noted.groups = none_waits_before m call a hands begun in
-    Began (out_said Some_began began_kept m.play a (Some call) hands (record { first = first; said = g })).said
+    let g : IsBegun m.run.scene.noted.groups = none_waits_before m call a hands begun in
+    Began (out_said Some_began began_kept m.run a (Some call) hands (record { first = first; said = g })).said
 step_begun minor m _ (StepReplies call reply doing live rest) calm first begun =
-    let g : IsBegun m.play.scene.noted.groups = not_before m (busy_answering m.doing call doing) begun in
-    Began (replied_said Some_began began_kept m.play call reply g (record { first = first; said = g })).said
+    let g : IsBegun m.run.scene.noted.groups = not_before m (busy_answering m.doing call doing) begun in
+    Began (replied_said Some_began began_kept m.run call reply g (record { first = first; said = g })).said
 
 record Stands (Said : ℕ → List Group → Core → Type 0) (m : Moment) : Type 0 where
   calm : OverCalm m
   begun : HasBegun m
-  said : IsSaid Said m.play
+  said : IsSaid Said m.run
 
 stands_on : (Said : ℕ → List Group → Core → Type 0) → IsKept Said → (minor : ℕ) (b a : Moment) → Runs minor b a → Stands Said b → Stands Said a
 stands_on Said kept minor b _ Starts h = h
@@ -332,6 +332,6 @@ stands_on Said kept minor b a (Then m _ before last) h = let k : Stands Said m =
     record { calm = step_calm minor m a last k.calm; begun = step_begun minor m a last k.calm k.said.first k.begun; said = step_said Said kept minor m a last k.calm k.begun k.said }
 
 -- a whole run
-pub runs_said : (Said : ℕ → List Group → Core → Type 0) → IsKept Said → (minor : ℕ) (b a : Moment) → Runs minor b a → OverCalm b → HasBegun b → IsSaid Said b.play
-    → IsSaid Said a.play
+pub runs_said : (Said : ℕ → List Group → Core → Type 0) → IsKept Said → (minor : ℕ) (b a : Moment) → Runs minor b a → OverCalm b → HasBegun b → IsSaid Said b.run
+    → IsSaid Said a.run
 runs_said Said kept minor b a runs calm begun h = (stands_on Said kept minor b a runs (record { calm = calm; begun = begun; said = h })).said

@@ -36,11 +36,11 @@ each_both P Q R both (g ∷ groups) p q = (both g.0 g.1 groups p.0 q.0, each_bot
 pub runs_show_events : RunsShowEvents
 runs_show_events media rules supply events minor b a new ready o rests none runs calm paid =
     let x : RunJustified supply a = runs_keep_all media rules supply events minor b a new ready o rests none runs in
-    let kept : IsSaid (λ place groups c. c.policy ≡ rules) a.play = runs_said (λ place groups c. c.policy ≡ rules) (policy_kept rules) minor b a runs
+    let kept : IsSaid (λ place groups c. c.policy ≡ rules) a.run = runs_said (λ place groups c. c.policy ≡ rules) (policy_kept rules) minor b a runs
     (calm_before media rules supply events b o) (begins_before media rules supply events b o rests)
-    (opened_said (λ place groups c. c.policy ≡ rules) media rules supply events b.play o refl) in
-    let groups = a.play.scene.noted.groups in
-    let drivers = drivers_of a.play.scene.disks in
+    (opened_said (λ place groups c. c.policy ≡ rules) media rules supply events b.run o refl) in
+    let groups = a.run.scene.noted.groups in
+    let drivers = drivers_of a.run.scene.disks in
     record {
       record_is = x.events.record_is;
       exits = x.events.exits;

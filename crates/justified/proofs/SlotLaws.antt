@@ -3,6 +3,7 @@ use Rattle.std.proofs.Common.{◌≡◌, ℕ, zero, suc, ◌+◌, ◌<◌, ◌�
 use Rattle.std.proofs.lemmas.Bool.Decides.{nat_tests}
 use Rattle.std.proofs.lemmas.Option.{slice_get_within}
 use Rattle.std.specs.Prelude.{◌&&◌, ◌||◌, ◌==◌, not, nat_lt, nat_le, max, Option, Some, None, Result, Ok, Err, slice_get, slice_set}
+use Rattle.lemmas.proofs.Bools.{or_right}
 use Rattle.message.specs.declared.endpoint.Endpoint.{Endpoint}
 use Rattle.message.specs.declared.BlockRequest.{BlockRequest}
 use Rattle.media.specs.Contents.{MediaState}
@@ -242,10 +243,6 @@ lines_as : (was now : List Group) (to : Endpoint) (r : BlockRequest) (b a : Disk
 lines_as was now to r b _ _ on (NoneIsThere none) h = older_as_was was now b b on refl refl refl refl h
 lines_as was now to r b _ _ on (LineIsFull there full) h = older_as_was was now b b on refl refl refl refl h
 lines_as was now to r b _ _ on (IsLinedUp there few) h = older_as_was was now b _ on refl refl refl refl h
-
-or_right : (a b : Bool) → b ≡ true → (a || b) ≡ true
-or_right true b is = refl
-or_right false b is = is
 
 none_and : (a r : Bool) → ((a && false) || r) ≡ r
 none_and true r = refl

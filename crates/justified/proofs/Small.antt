@@ -6,25 +6,6 @@ use Rattle.message.specs.declared.BlockRequest.{BlockRequest}
 use Rattle.records.specs.Open.{IsIn}
 use Rattle.schedule.specs.Groups.{Each}
 
-pub clash : ◌≡◌ {A = Bool} true false → ⊥
-clash is = cc
-
-pub and_left : (a b : Bool) → (a && b) ≡ true → a ≡ true
-and_left true b h = refl
-and_left false b h = cc
-
-pub and_right : (a b : Bool) → (a && b) ≡ true → b ≡ true
-and_right true b h = h
-and_right false b h = cc
-
-pub or_right : (a b : Bool) → b ≡ true → (a || b) ≡ true
-or_right true b is = refl
-or_right false b is = is
-
-pub either : (a b : Bool) → (a || b) ≡ true → (a ≡ true) ⊎ (b ≡ true)
-either true b h = inl refl
-either false b h = inr h
-
 pub number_is : (n m : ℕ) → (n == m) ≡ true → n ≡ m
 number_is n m h = grind (arith, nat_tests, h)
 

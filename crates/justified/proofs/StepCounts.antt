@@ -3,6 +3,7 @@ use Rattle.std.proofs.Common.{◌≡◌, ℕ, zero, suc, ◌+◌, ◌-◌, ◌*�
 use Rattle.std.proofs.lemmas.Bool.Decides.{nat_tests}
 use Rattle.std.proofs.lemmas.List.{length-map, length-reverse, reverse-append}
 use Rattle.std.specs.Prelude.{◌&&◌, ◌||◌, ◌==◌, drop, map, Option, Some, None, Result, Ok, Err, IsTrue, if◌then◌else◌, slice_get}
+use Rattle.lemmas.proofs.Bools.{and_or_neither}
 use Rattle.errno.specs.declared.Errno.{Errno}
 use Rattle.bdev.specs.declared.Run.{Run}
 use Rattle.bdev.specs.DriverState.{Work}
@@ -24,17 +25,12 @@ later_below : (m n : ℕ) (more : List Sent) → m ≤ n → AreLater n more →
 later_below m n [] below later = tt
 later_below m n (s ∷ more) below later = (omega (arith, below, later.0), later_below m n more below later.1)
 
--- two tests of which one fails, or a third that fails
-neither : (a b r : Bool) → b ≡ false → r ≡ false → ((a && b) || r) ≡ false
-neither true b r none rest = ap (λ (x : Bool). x || r) none ∙ rest
-neither false b r none rest = rest
-
 -- none of the later replies is sent at an earlier event
 none_sent_later : (g place n : ℕ) (more : List Sent) → place < n → AreLater n more → has_sent_at g place more ≡ false
 none_sent_later g place n [] before later = refl
 none_sent_later g place n (s ∷ more) before later =
     let other : (s.place == place) ≡ false = grind (arith, nat_tests, before, later.0) in
-    neither (s.reply.from.generation == g) (s.place == place) (has_sent_at g place more) other (none_sent_later g place n more before later.1)
+    and_or_neither (s.reply.from.generation == g) (s.place == place) (has_sent_at g place more) other (none_sent_later g place n more before later.1)
 
 sent_append : (g place n : ℕ) (sent more : List Sent) → place < n → AreLater n more → has_sent_at g place (sent ++ more) ≡ has_sent_at g place sent
 sent_append g place n [] more before later = none_sent_later g place n more before later

@@ -1,6 +1,7 @@
 -- What stands with a driver was issued to it.
 use Rattle.std.proofs.Common.{◌≡◌, ℕ, zero, suc, ◌+◌, ◌≤◌, List, [], ◌∷◌, ◌++◌, length, Bool, true, false, refl, sym, ◌∙◌, ap, subst, arith, ◌⊎◌, inl, inr}
 use Rattle.std.specs.Prelude.{◌&&◌, ◌||◌, ◌==◌, if◌then◌else◌, map, Option, Some, None, IfSome, IsSomeAnd, slice_get}
+use Rattle.lemmas.proofs.Bools.{or_right}
 use Rattle.message.specs.declared.BlockRequest.{BlockRequest}
 use Rattle.message.specs.declared.BlockReply.{BlockReply}
 use Rattle.media.specs.Contents.{MediaState}
@@ -27,7 +28,7 @@ use Rattle.justified.proofs.SaidLaws.{runs_said}
 use Rattle.justified.proofs.OpeningLaws.{opened_scene, opened_said, opened_follows, begins_before, calm_before}
 use Rattle.justified.specs.Took.{TookNothing, replies_from, IssuedSoFar, SlotTook, TookSoFar}
 use Rattle.justified.specs.TookLaws.{TookIsKept, RunsGiveTook, RunsKeepTook}
-use Rattle.justified.proofs.Small.{or_right, each_push, each_on}
+use Rattle.justified.proofs.Small.{each_push, each_on}
 use Rattle.justified.proofs.Moves.{answers_of}
 use Rattle.justified.proofs.DriverMoves.{Handing, Leaves, IsOld, IsTaken, handing, Stepping, Idles, GoesOn, Ends, stepping}
 use Rattle.justified.proofs.EachDriver.{Keeps, HoldsOf, slots_as}
@@ -249,21 +250,21 @@ opened_issued media rules supply first rest new spare fresh = record {
 module _ (Fit : List Mark → Type 0) (Holds : List BlockRequest → List BlockReply → DriverState → List BlockRequest → Type 0)
     (keeps : Keeps Fit Holds) where
   pub runs_hold : (media : MediaState) (rules : Policy) (supply : List DriverState) (events : List Event) (minor : ℕ) (b a : Moment)
-      → media.generation ≡ 0 → Each TookNothing supply → IsOpened media rules (new_watch (length supply)) supply events b.play → b.doing ≡ Resting
-      → Runs minor b a → HoldsSoFar Fit Holds keeps (length supply) a.play.next a.play.scene.noted.groups (core_of a.play)
+      → media.generation ≡ 0 → Each TookNothing supply → IsOpened media rules (new_watch (length supply)) supply events b.run → b.doing ≡ Resting
+      → Runs minor b a → HoldsSoFar Fit Holds keeps (length supply) a.run.next a.run.scene.noted.groups (core_of a.run)
   runs_hold media rules supply events minor b a new fresh o rests runs =
       let n : ℕ = length supply in
       let all : Each TookNothing (o.scene.first ∷ o.scene.rest) = subst (λ (l : List DriverState). Each TookNothing l) o.scene.spare fresh in
       (runs_said (HoldsSoFar Fit Holds keeps n) (holds_kept Fit Holds keeps n) minor b a runs (calm_before media rules supply events b o)
       (begins_before media rules supply events b o rests)
-      (opened_said (HoldsSoFar Fit Holds keeps n) media rules supply events b.play o (record {
+      (opened_said (HoldsSoFar Fit Holds keeps n) media rules supply events b.run o (record {
         issued = opened_issued media rules supply o.scene.first o.scene.rest new o.scene.spare all.1;
         slots = λ fit. record { older = λ at s there. cc; current = keeps.at_first o.scene.first all.0 };
       }))).said
 
 pub runs_give_took : RunsGiveTook
 runs_give_took media rules supply events minor b a new fresh o rests runs =
-    took_so_far (length supply) a.play.next a.play.scene.noted.groups (core_of a.play)
+    took_so_far (length supply) a.run.next a.run.scene.noted.groups (core_of a.run)
     (runs_hold AnyRecord Taken taken_keeps media rules supply events minor b a new fresh o rests runs)
 
 states_stand : (slots : List Slot) (Good : ℕ → DriverState → Type 0) → ((k : ℕ) (s : Slot) → slice_get slots k ≡ Some s
@@ -292,7 +293,7 @@ each_driver Stands Good on d number h (suc g) =
 
 pub runs_keep_took : RunsKeepTook
 runs_keep_took media rules supply events minor b a new fresh o rests runs =
-    let h : TookSoFar (length supply) a.play.next a.play.scene.noted.groups (core_of a.play) =
+    let h : TookSoFar (length supply) a.run.next a.run.scene.noted.groups (core_of a.run) =
     runs_give_took media rules supply events minor b a new fresh o rests runs in
-    each_driver (SlotTook a.play.scene.noted.groups) (TookItsOwn (marks_of a.play.scene.noted.groups))
-    (λ g s k. k.took) a.play.scene.disks h.issued.numbered h.slots
+    each_driver (SlotTook a.run.scene.noted.groups) (TookItsOwn (marks_of a.run.scene.noted.groups))
+    (λ g s k. k.took) a.run.scene.disks h.issued.numbered h.slots

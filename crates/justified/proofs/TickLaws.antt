@@ -2,6 +2,7 @@
 use Rattle.std.proofs.Common.{◌≡◌, ℕ, zero, suc, ◌+◌, ◌-◌, ◌<◌, ◌≤◌, List, [], ◌∷◌, ◌++◌, Bool, true, false, cond, refl, sym, ◌∙◌, ap, subst, inl, inr, ◌⊎◌, arith, length}
 use Rattle.std.proofs.lemmas.Bool.Decides.{nat_tests}
 use Rattle.std.specs.Prelude.{◌&&◌, ◌||◌, not, ◌==◌, nat_lt, nat_le, max, Option, Some, None, Ok, if◌then◌else◌}
+use Rattle.lemmas.proofs.Bools.{and_false_by_right}
 use Rattle.message.specs.declared.endpoint.Endpoint.{Endpoint}
 use Rattle.bdev.specs.DriverState.{DriverState}
 use Rattle.reincarnate.specs.declared.policy.Policy.{Policy}
@@ -24,16 +25,12 @@ use Rattle.justified.proofs.FollowLaws.{same_number, other_number, or_false, Rea
 same_pulse : (p : ℕ × ℕ) → is_same_pulse p p ≡ true
 same_pulse p = ap (λ (b : Bool). b && (p.1 == p.1)) (same_number p.0) ∙ same_number p.1
 
-and_false : (a b : Bool) → b ≡ false → (a && b) ≡ false
-and_false true b is = is
-and_false false b is = refl
-
 -- the pulse at a tick is that of the one before exactly where the driver hangs
 pulse_tells : (live hung : Bool) (g t : ℕ) (p last : ℕ × ℕ) → live ≡ true → last ≡ p → p.1 ≤ t
     → is_same_pulse (if live && not hung then (g, t + 1) else p) last ≡ hung
 pulse_tells true true g t p last alive is low = ap (λ (q : ℕ × ℕ). is_same_pulse p q) is ∙ same_pulse p
 pulse_tells true false g t p last alive is low =
-    ap (λ (q : ℕ × ℕ). is_same_pulse (g, t + 1) q) is ∙ and_false (g == p.0) (t + 1 == p.1) (other_number (t + 1) p.1 (λ same. omega (arith, low, same)))
+    ap (λ (q : ℕ × ℕ). is_same_pulse (g, t + 1) q) is ∙ and_false_by_right (g == p.0) (t + 1 == p.1) (other_number (t + 1) p.1 (λ same. omega (arith, low, same)))
 pulse_tells false hung g t p last alive is low = cc
 
 beats_low : (b : Bool) (g t : ℕ) (p : ℕ × ℕ) → p.1 ≤ t → (if b then (g, t + 1) else p).1 ≤ t + 1

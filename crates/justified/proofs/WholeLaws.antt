@@ -80,21 +80,21 @@ all_keep policy supply sent drivers (g ∷ groups) exits hung complaints starts 
 )
 
 -- a run that rests, or whose link has ended
-rests_or_over : (m : Moment) → ((m.doing ≡ Resting) × (m.play.queue ≡ [])) ⊎ (m.play.over ≡ true) → (m.doing ≡ Resting) ⊎ (m.play.over ≡ true)
+rests_or_over : (m : Moment) → ((m.doing ≡ Resting) × (m.run.queue ≡ [])) ⊎ (m.run.over ≡ true) → (m.doing ≡ Resting) ⊎ (m.run.over ≡ true)
 rests_or_over m (inl rests) = inl rests.0
 rests_or_over m (inr over) = inr over
 
 pub runs_are_whole : RunsAreWhole
 runs_are_whole media rules supply events minor b a new unused o rests none runs end left order =
-    let groups : List Group = a.play.scene.noted.groups in
-    let drivers : List DriverState = drivers_of a.play.scene.disks in
+    let groups : List Group = a.run.scene.noted.groups in
+    let drivers : List DriverState = drivers_of a.run.scene.disks in
     let unfailed : Each (λ d. d.failed ≡ false) supply =
     each_so IsUnused (λ d. d.failed ≡ false) (λ d h. (unused_fresh d.last d.failed h.fresh).1) supply unused in
     let idle : Each HasNoWork supply = each_so IsUnused HasNoWork
     (λ d h. record { idle = none_in_work d.work d.bad d.last h.driver.bad_is_few (unused_fresh d.last d.failed h.fresh).0 }) supply unused in
     let ready : Each TookNothing supply = each_so IsUnused TookNothing
     (λ d h. record { driver = h.driver; unused = (unused_fresh d.last d.failed h.fresh).0 }) supply unused in
-    let e : EventsJustified rules supply groups (marks_in a.play.scene.noted) a.play.scene.disks.sent drivers =
+    let e : EventsJustified rules supply groups (marks_in a.run.scene.noted) a.run.scene.disks.sent drivers =
     runs_show_events media rules supply events minor b a new unfailed o rests (ap (λ (x : Outbox). x.complaint) none) runs end.calm end.paid in
     let places : EachGroup PlacedAsDue groups = runs_keep_places media rules supply events minor b a new unfailed o rests none runs in
     let calls : EachGroup (λ event group earlier. CallsSoFar ((event, group) ∷ earlier)) groups =
@@ -104,7 +104,7 @@ runs_are_whole media rules supply events minor b a new unused o rests none runs 
     record {
       record_is = e.record_is;
       justified = record {
-        events = all_keep rules (length supply) a.play.scene.disks.sent drivers groups e.exits e.hung e.complaints e.starts e.giving_up
+        events = all_keep rules (length supply) a.run.scene.disks.sent drivers groups e.exits e.hung e.complaints e.starts e.giving_up
             (runs_end_followed media rules supply events minor b a new unfailed o rests none runs (rests_or_over a end.ends)) places e.answers calls
             (runs_keep_acts media rules supply events minor b a o rests runs);
         drivers_stand = record {

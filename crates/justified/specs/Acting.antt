@@ -21,8 +21,8 @@ ActsAsDue sent event group earlier = acts_when_handed (is_handed sent event earl
 abbrev pub RunsKeepActs : Type 0
 RunsKeepActs =
     (media : MediaState) (rules : Policy) (supply : List DriverState) (events : List Event) (minor : ℕ) (b a : Moment)
-    → IsOpened media rules (new_watch (length supply)) supply events b.play → b.doing ≡ Resting → Runs minor b a
-    → EachGroup (ActsAsDue a.play.scene.disks.sent) a.play.scene.noted.groups
+    → IsOpened media rules (new_watch (length supply)) supply events b.run → b.doing ≡ Resting → Runs minor b a
+    → EachGroup (ActsAsDue a.run.scene.disks.sent) a.run.scene.noted.groups
 
 -- whether the last event, or a mark of it, handed the server something
 abbrev pub was_handed : List Sent → List Group → Bool

@@ -28,30 +28,30 @@ pub record HasNoWork (d : DriverState) : Type 0 where
 abbrev pub RunsKeepPlaces : Type 0
 RunsKeepPlaces =
     (media : MediaState) (rules : Policy) (supply : List DriverState) (events : List Event) (minor : ℕ) (b a : Moment)
-    → media.generation ≡ 0 → Each (λ d. d.failed ≡ false) supply → IsOpened media rules (new_watch (length supply)) supply events b.play
-    → b.doing ≡ Resting → b.outbox ≡ empty_outbox → Runs minor b a → EachGroup PlacedAsDue a.play.scene.noted.groups
+    → media.generation ≡ 0 → Each (λ d. d.failed ≡ false) supply → IsOpened media rules (new_watch (length supply)) supply events b.run
+    → b.doing ≡ Resting → b.outbox ≡ empty_outbox → Runs minor b a → EachGroup PlacedAsDue a.run.scene.noted.groups
 
 -- once no post is due, each start was followed by all open requests
 abbrev pub RunsKeepFollowed : Type 0
 RunsKeepFollowed =
     (media : MediaState) (rules : Policy) (supply : List DriverState) (events : List Event) (minor : ℕ) (b a : Moment)
-    → media.generation ≡ 0 → Each (λ d. d.failed ≡ false) supply → IsOpened media rules (new_watch (length supply)) supply events b.play
-    → b.doing ≡ Resting → b.outbox ≡ empty_outbox → Runs minor b a → is_post_due (record_of a.play) a.outbox ≡ false
-    → EachGroup FollowedAsDue a.play.scene.noted.groups
+    → media.generation ≡ 0 → Each (λ d. d.failed ≡ false) supply → IsOpened media rules (new_watch (length supply)) supply events b.run
+    → b.doing ≡ Resting → b.outbox ≡ empty_outbox → Runs minor b a → is_post_due (record_of a.run) a.outbox ≡ false
+    → EachGroup FollowedAsDue a.run.scene.noted.groups
 
 -- so it was where the server rests, and where the link has ended
 abbrev pub RunsEndFollowed : Type 0
 RunsEndFollowed =
     (media : MediaState) (rules : Policy) (supply : List DriverState) (events : List Event) (minor : ℕ) (b a : Moment)
-    → media.generation ≡ 0 → Each (λ d. d.failed ≡ false) supply → IsOpened media rules (new_watch (length supply)) supply events b.play
-    → b.doing ≡ Resting → b.outbox ≡ empty_outbox → Runs minor b a → (a.doing ≡ Resting) ⊎ (a.play.over ≡ true)
-    → EachGroup FollowedAsDue a.play.scene.noted.groups
+    → media.generation ≡ 0 → Each (λ d. d.failed ≡ false) supply → IsOpened media rules (new_watch (length supply)) supply events b.run
+    → b.doing ≡ Resting → b.outbox ≡ empty_outbox → Runs minor b a → (a.doing ≡ Resting) ⊎ (a.run.over ≡ true)
+    → EachGroup FollowedAsDue a.run.scene.noted.groups
 
 -- where a request is to be posted to the driver that lives at its endpoint, that one's line has room
 abbrev pub RunsKeepRoom : Type 0
 RunsKeepRoom =
     (media : MediaState) (rules : Policy) (supply : List DriverState) (events : List Event) (minor : ℕ) (b a : Moment)
     → media.generation ≡ 0 → Each (λ d. d.failed ≡ false) supply → Each HasNoWork supply
-    → IsOpened media rules (new_watch (length supply)) supply events b.play → b.doing ≡ Resting → b.outbox ≡ empty_outbox → Runs minor b a
-    → (to : Endpoint) (r : BlockRequest) → MayPost minor (record_of a.play) a.outbox to r → is_at to a.play.scene.disks ≡ true
-    → length a.play.scene.disks.current.line < 32
+    → IsOpened media rules (new_watch (length supply)) supply events b.run → b.doing ≡ Resting → b.outbox ≡ empty_outbox → Runs minor b a
+    → (to : Endpoint) (r : BlockRequest) → MayPost minor (record_of a.run) a.outbox to r → is_at to a.run.scene.disks ≡ true
+    → length a.run.scene.disks.current.line < 32

@@ -31,9 +31,9 @@ pub record IsBegun (groups : List Group) : Type 0 where
 
 -- an event began; or none, and the server does nothing, no call waits, and nothing is owed
 pub data HasBegun (m : Moment) : Type 0 where
-  Began : IsBegun m.play.scene.noted.groups → HasBegun m
-  StandsBefore : m.doing ≡ Resting → m.play.queue ≡ [] → m.play.owed ≡ false → HasBegun m
+  Began : IsBegun m.run.scene.noted.groups → HasBegun m
+  StandsBefore : m.doing ≡ Resting → m.run.queue ≡ [] → m.run.owed ≡ false → HasBegun m
 
 -- once the link has ended the server owes no complaint
 pub record OverCalm (m : Moment) : Type 0 where
-  pub none : m.play.over ≡ true → m.outbox.complaint ≡ None
+  pub none : m.run.over ≡ true → m.outbox.complaint ≡ None

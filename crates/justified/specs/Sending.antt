@@ -17,6 +17,6 @@ abbrev pub RunsKeepSteps : Type 0
 RunsKeepSteps =
     (media : MediaState) (rules : Policy) (supply : List DriverState) (events : List Event) (minor : ℕ) (b a : Moment)
     → media.generation ≡ 0 → Each (λ d. is_fresh d ≡ true) supply
-    → IsOpened media rules (new_watch (length supply)) supply events b.play → b.doing ≡ Resting → Runs minor b a
-    → EachGroup PlacedAsDue a.play.scene.noted.groups
-    → Each (IsSentAtItsStep a.play.scene.noted.groups a.play.scene.disks.sent) a.play.scene.disks.sent
+    → IsOpened media rules (new_watch (length supply)) supply events b.run → b.doing ≡ Resting → Runs minor b a
+    → EachGroup PlacedAsDue a.run.scene.noted.groups
+    → Each (IsSentAtItsStep a.run.scene.noted.groups a.run.scene.disks.sent) a.run.scene.disks.sent

@@ -43,6 +43,6 @@ pub record EventsJustified (policy : Policy) (supply : List DriverState) (groups
 abbrev pub RunsShowEvents : Type 0
 RunsShowEvents =
     (media : MediaState) (rules : Policy) (supply : List DriverState) (events : List Event) (minor : ℕ) (b a : Moment)
-    → media.generation ≡ 0 → Each (λ d. d.failed ≡ false) supply → IsOpened media rules (new_watch (length supply)) supply events b.play
-    → b.doing ≡ Resting → b.outbox.complaint ≡ None → Runs minor b a → a.outbox.complaint ≡ None → a.play.owed ≡ false
-    → EventsJustified rules supply a.play.scene.noted.groups (marks_in a.play.scene.noted) a.play.scene.disks.sent (drivers_of a.play.scene.disks)
+    → media.generation ≡ 0 → Each (λ d. d.failed ≡ false) supply → IsOpened media rules (new_watch (length supply)) supply events b.run
+    → b.doing ≡ Resting → b.outbox.complaint ≡ None → Runs minor b a → a.outbox.complaint ≡ None → a.run.owed ≡ false
+    → EventsJustified rules supply a.run.scene.noted.groups (marks_in a.run.scene.noted) a.run.scene.disks.sent (drivers_of a.run.scene.disks)

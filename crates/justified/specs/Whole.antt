@@ -25,9 +25,9 @@ pub record IsUnused (d : DriverState) : Type 0 where
 -- record is well formed.
 pub record IsAtEnd (m : Moment) : Type 0 where
   pub calm : m.outbox.complaint ≡ None
-  pub paid : m.play.owed ≡ false
-  pub ends : ((m.doing ≡ Resting) × (m.play.queue ≡ [])) ⊎ (m.play.over ≡ true)
-  pub well_formed : IsWellFormed (marks_in m.play.scene.noted)
+  pub paid : m.run.owed ≡ false
+  pub ends : ((m.doing ≡ Resting) × (m.run.queue ≡ [])) ⊎ (m.run.over ≡ true)
+  pub well_formed : IsWellFormed (marks_in m.run.scene.noted)
 
 -- a run is justified whose record is that of its groups; so many calls are left
 pub record IsWhole (rules : Policy) (supply : List DriverState) (p : RunState) (unanswered : ℕ) : Type 0 where
@@ -39,6 +39,6 @@ pub record IsWhole (rules : Policy) (supply : List DriverState) (p : RunState) (
 abbrev pub RunsAreWhole : Type 0
 RunsAreWhole =
     (media : MediaState) (rules : Policy) (supply : List DriverState) (events : List Event) (minor : ℕ) (b a : Moment)
-    → media.generation ≡ 0 → Each IsUnused supply → IsOpened media rules (new_watch (length supply)) supply events b.play
+    → media.generation ≡ 0 → Each IsUnused supply → IsOpened media rules (new_watch (length supply)) supply events b.run
     → b.doing ≡ Resting → b.outbox ≡ empty_outbox → Runs minor b a → IsAtEnd a
-    → (left : List Arrival) → arrived a.play.scene.noted.groups ≡ left ++ taken (marks_in a.play.scene.noted) → IsWhole rules supply a.play (length left)
+    → (left : List Arrival) → arrived a.run.scene.noted.groups ≡ left ++ taken (marks_in a.run.scene.noted) → IsWhole rules supply a.run (length left)

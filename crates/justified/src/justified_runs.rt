@@ -1,6 +1,8 @@
 //! What a whole run keeps, each a law of the definitions.
 
-ghost use Rattle.justified.specs.RunLaws.{RunsKeepStarts, RunsKeepHung, RunsKeepFlushes, RunsKeepGivingUp, RunsKeepAnswers, RunsKeepExits, RunsAreJustified, RunsKeepComplaints, RunsKeepAfterFault, RunsKeepOrder, RunsKeepAll, RunsKeepFailures};
+ghost use Rattle.justified.specs.RunLaws.{RunsKeepStarts, RunsKeepHung, RunsKeepFlushes, RunsKeepGivingUp, RunsKeepAnswers, RunsKeepExits};
+ghost use Rattle.justified.specs.RunLaws.{RunsAreJustified, RunsKeepComplaints, RunsKeepAfterFault, RunsKeepOrder, RunsKeepAll};
+ghost use Rattle.justified.specs.RunLaws.{RunsKeepFailures};
 ghost use Rattle.justified.specs.Shown.{RunsShowEvents};
 
 /// At each event of a run drivers are started exactly where the policy and the events before say.

@@ -1,6 +1,7 @@
 //! What events keep, and what a server does within them, each a law of the definitions.
 
-ghost use Rattle.justified.specs.EventLaws.{EventsAreDone, StartsAreKept, HungAreKept, FlushesAreKept, GivingUpIsKept, AnswersAreKept, ExitsAreKept, DriversAreKept, SlotsAreKept};
+ghost use Rattle.justified.specs.EventLaws.{EventsAreDone, StartsAreKept, HungAreKept, FlushesAreKept, GivingUpIsKept, AnswersAreKept};
+ghost use Rattle.justified.specs.EventLaws.{ExitsAreKept, DriversAreKept, SlotsAreKept};
 
 /// Each event of a run does one of a few things to the drivers and the reincarnation server, and leaves the marks of that.
 #[tactic(auto, using(crate::proofs::Events::event_done))]

@@ -1,12 +1,5 @@
-//! A run of a server over a schedule that was run out is justified, whole.
-//!
-//! Why the record of a run is justified: what stands between two events carries each clause to the next.
-//!
-//! A whole run of a server over a schedule keeps what justifies its record.
-//!
-//! A whole run of a server over a schedule issues each request in its place, and all open ones again after a start.
-//!
-//! What each driver of a whole run took, and what it answered.
+//! Why the record of a run is justified, event by event: what stands between two events carries each clause to the next; requests are
+//! issued in their places, and all open ones again after a start; drivers took and answered what was issued to them. Laws alone.
 #![tactic(auto)]
 
 pub mod issuing_runs;

@@ -1,6 +1,5 @@
-//! Starting a service of the file server on the volume of an image, whose drivers it runs itself.
-//!
-//! A service of the file server over a link: opened on its volume, or mounted, why it isn't, and a program that runs over it.
+//! Starting a service of the file server on the volume of an image, whose drivers it runs itself: the volume is mounted over that link,
+//! or the start is refused; and a program that runs over the service.
 #![tactic(auto)]
 
 pub mod opened;

@@ -3,6 +3,7 @@ use Rattle.std.proofs.Common.{◌≡◌, ◌<◌, ◌≤◌, ◌+◌, ◌-◌, �
 use mathlib.Core.Logic.{◌⊎◌, inl, inr}
 use Rattle.std.specs.Prelude.{Result, Ok, Err, T, not, is_ok, ◌==◌, ◌&&◌, ◌||◌, nat_lt, if◌then◌else◌}
 use Rattle.std.proofs.lemmas.Bool.{and_parts, eqb-true, leb-true, ltb-true, ltb-false}
+use Rattle.lemmas.proofs.Bools.{not_false}
 use Rattle.layout.specs.declared.Geometry.{Geometry}
 use Rattle.layout.specs.declared.LayoutRefusal.{LayoutRefusal}
 use Rattle.layout.specs.declared.LayoutRefusal.TheVariants.{Truncated, BadMagic, BadBlockSize, BadVersion, BadCounts, DoesNotFit}
@@ -14,11 +15,6 @@ passed : (b : Bool) (refusal : LayoutRefusal) (rest : Result Geometry LayoutRefu
     → (if b then Err refusal else rest) ≡ Ok g → (b ≡ false) × (rest ≡ Ok g)
 passed true refusal rest g h = absurd (subst (λ b. T (not b)) (ap is_ok h) tt)
 passed false refusal rest g h = (refl, h)
-
--- what isn't false holds
-holds : (b : Bool) → not b ≡ false → b ≡ true
-holds true h = refl
-holds false h = sym h
 
 -- a result that is a geometry
 abbrev the_ok : Geometry → Result Geometry LayoutRefusal
@@ -79,7 +75,7 @@ geometry_fits image g h =
     let version = passed (not ((slice_index image 1054 == 0) && (u16_at image 1036 == 0))) BadVersion _ g size.1 in
     let counts = passed (not ((u32_at image 1040 == 2147483647) && counts_agree s)) BadCounts _ g version.1 in
     let fits = passed (nat_lt (length image) (s.zones * s.block_size)) DoesNotFit (Ok s) g counts.1 in
-    let agree = (and_parts (u32_at image 1040 == 2147483647) (counts_agree s) (holds _ counts.0)).1 in
+    let agree = (and_parts (u32_at image 1040 == 2147483647) (counts_agree s) (not_false _ counts.0)).1 in
     let room : s.zones * s.block_size ≤ length image = ltb-false _ _ fits.0 in
     subst (λ x. IsGeometry x × (x.zones * x.block_size ≤ length image)) (read_is s g fits.1)
-    (counts_fit s (holds _ size.0) agree, room)
+    (counts_fit s (not_false _ size.0) agree, room)

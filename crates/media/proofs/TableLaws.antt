@@ -5,6 +5,7 @@ use Rattle.std.specs.List.{list_any}
 use Rattle.std.proofs.lemmas.Bool.Decides.{nat_tests}
 use Rattle.std.proofs.Math.ListN.{get_or-map}
 use Rattle.std.proofs.lemmas.Bool.{cases_lt}
+use Rattle.lemmas.proofs.Bools.{or_false_right}
 use Rattle.media.specs.declared.partition.Entry.{Entry}
 use Rattle.media.specs.Entries.{passes, holds_sector_0, meets, overlap, has_overlap}
 use Rattle.media.specs.Table.{TableState, IsTable, HoldsSector, range_of_entry, range_at}
@@ -62,17 +63,12 @@ left_false : (a b : Bool) → (a || b) ≡ false → a ≡ false
 left_false true b h = h
 left_false false b h = refl
 
--- nor does the right one
-right_false : (a b : Bool) → (a || b) ≡ false → b ≡ false
-right_false true b h = cc
-right_false false b h = h
-
 -- where no two entries overlap, an earlier one doesn't meet a later one
 none_meet : (entries : List (Option Entry)) → overlap entries ≡ false → (i j : ℕ) → i < j → meets (get_or entries i None) (get_or entries j None) ≡ false
 none_meet [] is i j less = refl
 none_meet (e ∷ entries) is i zero less = absurd (omega arith)
 none_meet (e ∷ entries) is zero (suc j) less = none_passes (meets e) entries j (meets_nothing e) (left_false (list_any (meets e) entries) (overlap entries) is)
-none_meet (e ∷ entries) is (suc i) (suc j) less = none_meet entries (right_false (list_any (meets e) entries) (overlap entries) is) i j (omega arith)
+none_meet (e ∷ entries) is (suc i) (suc j) less = none_meet entries (or_false_right (list_any (meets e) entries) (overlap entries) is) i j (omega arith)
 
 -- the facts of one table
 table_inside : (t : TableState) → list_any (passes t.sectors) t.entries ≡ false → (minor : ℕ) → IfSome (range_at t minor) (λ r. r.0 + r.1 ≤ t.sectors)
@@ -105,5 +101,5 @@ is_table t fits four within overlapping = record {
     minors zero n s a b other x y = absurd (omega arith)
     minors (suc m) zero s a b other x y = absurd (omega arith)
     minors (suc m) (suc n) s a b other x y =
-        table_apart t (right_false (list_any holds_sector_0 t.entries) (overlap t.entries) overlapping) m n s (λ e. other (ap suc e))
+        table_apart t (or_false_right (list_any holds_sector_0 t.entries) (overlap t.entries) overlapping) m n s (λ e. other (ap suc e))
         (rw (range_later t m) at x) (rw (range_later t n) at y)

@@ -4,7 +4,8 @@ pub mod place;
 
 ghost use Rattle.std.specs.Prelude.{◌≡◌, ◌+◌, ◌≤◌, [], ◌∷◌, IfOk, IfSome, Some, get_or};
 ghost use Rattle.std.specs.List.{list_any};
-ghost use Rattle.media.specs.Entries.{entry_at, unless_empty, entries_of, has_overlap, has_signature, holds_sector_0, meets, overlap, passes};
+ghost use Rattle.media.specs.Entries.{entry_at, unless_empty, entries_of, has_overlap, has_signature, holds_sector_0, meets, overlap};
+ghost use Rattle.media.specs.Entries.{passes};
 ghost use Rattle.media.specs.Table.{IsTable, kind_at, range_at, range_of_entry};
 ghost use Rattle.media.specs.Refusals.{partition_refusal_name, partition_refusal_number, checked, table_of};
 

@@ -65,7 +65,8 @@ impl ScriptedDriver {
 }
 
 impl BlockDriver for ScriptedDriver {
-    ghost use Rattle.modeldisk.specs.Script.{arm_with, counted, due_at, due_of, mover_of, script_of, scripted_arm, scripted_state, sweep_start, FollowsScript};
+    ghost use Rattle.modeldisk.specs.Script.{arm_with, counted, due_at, due_of, mover_of, script_of, scripted_arm, scripted_state};
+    ghost use Rattle.modeldisk.specs.Script.{sweep_start, FollowsScript};
 
     ghost state = { scripted_state };
 

@@ -2,6 +2,7 @@
 use Rattle.std.proofs.Common.{◌≡◌, ◌≢◌, ◌≤◌, ◌<◌, ◌+◌, ◌-◌, ◌*◌, ℕ, List, [], ◌∷◌, ◌++◌, length, Bool, true, false, refl, sym, ap, ◌∙◌, subst, arith, inl, inr}
 use Rattle.std.specs.Prelude.{slice_index, Result, Ok, Err, ◌||◌, if◌then◌else◌}
 use Rattle.std.proofs.lemmas.Bool.{cases_lt}
+use Rattle.lemmas.proofs.Bools.{from_clash}
 use Rattle.layout.specs.declared.Geometry.{Geometry}
 use Rattle.layout.specs.declared.LayoutRefusal.{LayoutRefusal}
 use Rattle.layout.specs.declared.LayoutRefusal.TheVariants.{Truncated, BadMagic, BadBlockSize, BadVersion, BadCounts, DoesNotFit}
@@ -78,9 +79,6 @@ pub ended_since : (before after : List Told) (acts : List Act) → after ≡ tol
 ended_since before after acts told none =
     sym (ap took_end told ∙ end_both (told_of acts) before ∙ or_none (took_end (told_of acts)) (took_end before) none)
 
-never : {X : Type 0} → true ≡ false → X
-never e = absurd (let y : ⊥ = cc in y)
-
 -- ---- the sizes
 
 -- one result has one geometry
@@ -130,7 +128,7 @@ unread = record { each = λ place le. refl }
 
 -- a head of which a byte wasn't read
 cut_head : (marks : List Mark) → IsCutShort 0 2048 marks → AreRead marks 2048 → ⊥
-cut_head marks c read = never (sym (read.each c.place (omega (arith, c.to))) ∙ c.unread)
+cut_head marks c read = from_clash (sym (read.each c.place (omega (arith, c.to))) ∙ c.unread)
 
 nothing_of_head : (marks : List Mark) → IsCutShort 0 2048 marks → NothingIsRefused marks
 nothing_of_head marks c = record { head = λ refusal h. cut_head marks c h.0; volume = λ finding h. cut_head marks c h.0 }
@@ -210,7 +208,7 @@ module _ (minor : ℕ) (old mid : Table) (before between : List Told) (was mid_t
       nothing2 : IsCutShort 2048 many marks → NothingIsRefused marks
       nothing2 c = record {
         head = λ refusal h. h.2 (fits2 refusal h.1);
-        volume = λ finding h. never (sym (h.2.each c.place (let s = size2 in let t = c.to in omega (arith, s, t))) ∙ c.unread);
+        volume = λ finding h. from_clash (sym (h.2.each c.place (let s = size2 in let t = c.to in omega (arith, s, t))) ∙ c.unread);
       }
 
     -- both, as one

@@ -2,6 +2,7 @@
 use Rattle.std.proofs.Common.{◌≡◌, ◌<◌, ◌≤◌, ◌+◌, ◌-◌, ◌*◌, ℕ, Bool, true, false, refl, sym, ◌∙◌, arith, List}
 use Rattle.std.specs.Prelude.{Result, Ok, Err, not, ◌==◌, ◌&&◌, if◌then◌else◌, nat_lt, nat_le, length, slice_index}
 use Rattle.std.proofs.lemmas.Bool.{and_parts, eqb-true, leb-true, ltb-true}
+use Rattle.lemmas.proofs.Bools.{not_false}
 use Rattle.layout.specs.declared.Geometry.{Geometry}
 use Rattle.layout.specs.declared.LayoutRefusal.{LayoutRefusal}
 use Rattle.layout.specs.declared.LayoutRefusal.TheVariants.{Truncated, BadMagic, BadBlockSize, BadVersion, BadCounts, DoesNotFit}
@@ -15,11 +16,6 @@ passed : (b : Bool) (x : LayoutRefusal) (rest : Result Geometry LayoutRefusal)
     → (b ≡ false) × ((e : LayoutRefusal) → rest ≡ Err e → e ≡ DoesNotFit)
 passed true x rest h n = absurd (n (h x refl))
 passed false x rest h n = (refl, h)
-
--- what isn't false holds
-holds : (b : Bool) → not b ≡ false → b ≡ true
-holds true h = refl
-holds false h = sym h
 
 -- its numbers
 numbers : (g : Geometry) → is_block_size g.block_size ≡ true → counts_agree g ≡ true → HasSizes g
@@ -42,7 +38,7 @@ sizes_of head fit =
     let c = passed (not (is_block_size (superblock_geometry head).block_size)) BadBlockSize _ b.1 (λ e. cc) in
     let d = passed (not ((slice_index head 1054 == 0) && (u16_at head 1036 == 0))) BadVersion _ c.1 (λ e. cc) in
     let f = passed (not ((u32_at head 1040 == 2147483647) && counts_agree (superblock_geometry head))) BadCounts _ d.1 (λ e. cc) in
-    numbers (superblock_geometry head) (holds _ c.0) (and_parts _ _ (holds _ f.0)).1
+    numbers (superblock_geometry head) (not_false _ c.0) (and_parts _ _ (not_false _ f.0)).1
 
 -- a superblock that was read is fit
 pub fit_ok : (head : List ℕ) (g : Geometry) → geometry_of head ≡ Ok g → IsHeadFit head

@@ -1,6 +1,7 @@
 -- From a volume that was read to a server that is mounted, or why not.
 use Rattle.std.proofs.Common.{◌≡◌, ℕ, List, [], ◌∷◌, ◌++◌, Bool, true, false, refl, sym, ◌∙◌, ap, subst}
 use Rattle.std.specs.Prelude.{Ok, Err, ◌||◌}
+use Rattle.lemmas.proofs.Bools.{from_clash}
 use Rattle.message.specs.declared.Incoming.TheVariants as incoming
 use Rattle.layout.specs.declared.Geometry.{Geometry}
 use Rattle.records.specs.Marks.{Mark}
@@ -34,9 +35,6 @@ use Rattle.mounting.specs.Opening.{IsNewOver}
 use Rattle.vfs.proofs.Keeping.{legal_acts, tree_acts}
 use Rattle.mounting.proofs.Opened.{just_made, serves_new}
 use Rattle.mounting.specs.Mounted.{IsMounted, IsNotMounted}
-
-never : {X : Type 0} → true ≡ false → X
-never e = absurd (let y : ⊥ = cc in y)
 
 -- ---- Ends
 
@@ -84,7 +82,7 @@ module _ (minor : ℕ) (old new : Table) (before after : List Told) (was is : Tr
     acts = w.acts;
     mounting = done;
     at_rest = resting;
-    bad_frames = λ same. never (sym ok ∙ (subst (λ (r : words.MountRefusal). IsWhyNotMounted frames marks (took_end (told_of w.acts)) r) same why).0);
+    bad_frames = λ same. from_clash (sym ok ∙ (subst (λ (r : words.MountRefusal). IsWhyNotMounted frames marks (took_end (told_of w.acts)) r) same why).0);
     why = why;
   }
 

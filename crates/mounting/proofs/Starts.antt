@@ -42,11 +42,6 @@ ready_more test P items i x less at one is before =
       All-more P items i x less before.1 (subst P at is),
     )
 
--- a test that isn't false
-pub holds_not : (b : Bool) → not b ≡ false → b ≡ true
-holds_not true h = cc
-holds_not false h = cc
-
 -- drivers that are ready for the sectors of a volume are ready for it
 pub all_ready : {D : Type 0} (state : D → DriverState) (v : Opening) (items : List D)
     → list_all (λ d. is_ready_for v.minor (v.first, v.count) (state d)) items ≡ true → All (λ d. IsDriver (state d)) items → All (IsReady v) (map state items)

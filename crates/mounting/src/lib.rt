@@ -1,9 +1,5 @@
-//! Reading a volume through a link, and checking what was read.
-//!
-//! What a file server starts on: the media that hold an image, where the volume lies on them, and drivers that are ready for it; or why it
-//! doesn't start.
-//!
-//! How a file server comes to stand on a volume: opened on one that was checked, or mounted, which reads and checks it first.
+//! How a file server comes to stand on a volume: what it starts on (media, the volume's place, drivers that are ready), the volume read
+//! through a link and checked, and a server opened on it; or why not.
 #![tactic(auto)]
 
 pub mod checking;

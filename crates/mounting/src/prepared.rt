@@ -1,13 +1,15 @@
 //! The media that hold an image, where the volume lies on them, and drivers that are ready for it.
 
-ghost use Rattle.std.specs.Prelude.{◌≡◌, ◌≢◌, ◌↔◌, ◌/◌, ◌+◌, ◌^◌, ◌<◌, ◌≤◌, [], IfErr, IfOk, OnOk, IsTrue, None, Some, Ok, Err, All, length, map};
+ghost use Rattle.std.specs.Prelude.{◌≡◌, ◌≢◌, ◌↔◌, ◌/◌, ◌+◌, ◌^◌, ◌<◌, ◌≤◌, [], IfErr, IfOk, OnOk, IsTrue, None, Some, Ok, Err, All};
+ghost use Rattle.std.specs.Prelude.{length, map};
 ghost use Rattle.std.specs.Bool.{OnTrue};
 ghost use Rattle.std.specs.List.{list_all};
 ghost use Rattle.media.specs.Contents.{sectors_of};
 ghost use Rattle.bdev.specs.Promises.{IsDriver};
 ghost use Rattle.inline.specs.Inline.{IsReady};
 ghost use Rattle.true_replies.specs.Events.{IsOnMedia, opening_media};
-ghost use Rattle.mounting.specs.Starting.{opening_of, place_in as place_by, is_ready_for, IsInRanges, why_no_media, IsNotSetUp, IsWellSetUp, IsPrepared, IsRefused};
+ghost use Rattle.mounting.specs.Starting.{opening_of, place_in as place_by, is_ready_for, IsInRanges, why_no_media, IsNotSetUp};
+ghost use Rattle.mounting.specs.Starting.{IsWellSetUp, IsPrepared, IsRefused};
 
 use crate::refusal::StartRefusal;
 use inline::local::LocalDriver;

@@ -1,7 +1,8 @@
--- A new volume's image holds the root alone, and is clean.
+-- A new volume's image not_false the root alone, and is clean.
 use Rattle.std.proofs.Common.{◌≡◌, ◌<◌, ◌≤◌, ◌+◌, ◌*◌, ◌^◌, ℕ, List, length, Bool, true, false, refl, sym, ap, subst, ◌∙◌, arith}
 use Rattle.std.specs.Prelude.{All, Result, Ok, Err, T, not, is_ok, ◌==◌, ◌||◌, nat_lt, nat_le, if◌then◌else◌}
 use Rattle.std.proofs.lemmas.Bool.{ltb-false, leb-false, eqb-false}
+use Rattle.lemmas.proofs.Bools.{not_false}
 use Rattle.layout.specs.declared.Geometry.{Geometry}
 use Rattle.layout.specs.Places.{IsGeometry, is_block_size, geometry_of}
 use Rattle.tree.specs.Laws.{fresh_tree}
@@ -34,11 +35,6 @@ neither false false h = (refl, refl)
 neither false true h = absurd (cc)
 neither true b h = absurd (cc)
 
--- what isn't false holds
-holds : (b : Bool) → not b ≡ false → b ≡ true
-holds true h = refl
-holds false h = sym h
-
 -- the sizes of a result
 abbrev the_ok : Geometry → Result Geometry MkfsRefusal
 the_ok g = Ok g
@@ -58,7 +54,7 @@ accepted blocks block_size inodes g h =
     let some = passed ((inodes == 0) || nat_lt 65535 inodes) BadInodes _ g size.1 in
     let many = passed (nat_lt 65536 blocks || nat_lt 67108864 (blocks * block_size)) TooManyBlocks _ g some.1 in
     let few = passed (nat_le blocks v.first_zone) TooFewBlocks (Ok v) g many.1 in
-    let is : is_block_size block_size ≡ true = holds _ size.0 in
+    let is : is_block_size block_size ≡ true = not_false _ size.0 in
     let inode = neither (inodes == 0) (nat_lt 65535 inodes) some.0 in
     let none = eqb-false inodes 0 inode.0 in
     let most : inodes ≤ 65535 = ltb-false 65535 inodes inode.1 in
@@ -98,7 +94,7 @@ made blocks block_size inodes now g bytes sizes early is =
     let tree : HoldsClosed bytes (fresh_tree now) = record {
       geometry = g;
       parsed = parsed;
-      holds = subst (λ v. HoldsNodes g v (fresh_tree now)) (sym piece) (fresh_holds g now ok early);
+      not_false = subst (λ v. HoldsNodes g v (fresh_tree now)) (sym piece) (fresh_holds g now ok early);
       closed = record { open_files = refl; descriptors = refl };
     } in
     record {

@@ -3,13 +3,15 @@ use Rattle.std.proofs.Common.{◌≡◌, ◌≢◌, ◌<◌, ◌≤◌, ◌+◌,
 use mathlib.Core.Logic.{inl, inr}
 use Rattle.std.specs.Prelude.{◌||◌, ◌==◌, nat_lt, nat_le, not, IsTrue, None, Some, slice_index}
 use Rattle.std.proofs.lemmas.Bool.{and_from, and_parts, cases_Bool, cond-false, cond-true, le-ltb, leb-true, lt-ltb}
+use Rattle.lemmas.proofs.Lists.{zero_at}
+use Rattle.lemmas.proofs.Bools.{false_not_true}
 use Rattle.layout.specs.declared.Geometry.{Geometry}
 use Rattle.layout.specs.Places.{IsGeometry}
 use Rattle.tree.specs.declared.User.{User}
 use Rattle.tree.specs.Sums.{put}
 use Rattle.tree.specs.Tree.{File, Node, directory_type, file_type}
 use Rattle.tree.specs.Changes.{empty_file, new_node}
-use Rattle.tree.proofs.Maps.{not_nothing, not_true, put-same, put-other}
+use Rattle.tree.proofs.Maps.{not_nothing, put-same, put-other}
 use Rattle.volume.specs.declared.Inode.{Inode}
 use Rattle.volume.specs.Reading.{Disk, is_inode}
 use Rattle.volume.specs.Pieces.{Pieces, pieces}
@@ -22,7 +24,6 @@ use Rattle.zone.specs.Inodes.{ChangesInode}
 use Rattle.zone.proofs.ZoneInodes.{change_keeps, changed_nodes, no_slots_no_places}
 use Rattle.zone.proofs.Keeps.{sound_but_is_sound, sound_is_sound_but}
 use Rattle.zone.proofs.Files.{same_file}
-use Rattle.directory.proofs.EntryBytes.{zero_at}
 use Rattle.file.specs.PageChanges.{MayChange, file_at}
 use Rattle.node_steps.specs.Steps.{BecomesAt}
 use Rattle.node_steps.specs.NewNodes.{MakesFile, MayMakeFile, new_inode, with_new_inode}
@@ -87,7 +88,7 @@ module _ (g : Geometry) (v : Pieces) (n : ℕ) (i : Inode) (ok : IsGeometry g) (
     map = refl;
     zones = refl;
     others = λ m d. put-other v.inodes n i m d;
-    before = λ is. absurd (not_true (sym unmarked ∙ is));
+    before = λ is. absurd (false_not_true (sym unmarked ∙ is));
     after = λ is a k. no_places a k;
     mode = λ is. ap (λ (x : Inode). is_mode x.mode) its ∙ mode;
   }
@@ -117,7 +118,7 @@ module _ (g : Geometry) (v : Pieces) (n : ℕ) (i : Inode) (ok : IsGeometry g) (
   pub file_sound : is_directory_mode i.mode ≡ false → IsSound g w
   file_sound kind = sound_but_is_sound g w n 0 rules (λ is.
       let d : is_directory_mode (w.inodes n).mode ≡ true = (and_parts (is_marked g w n) (is_directory_mode (w.inodes n).mode) is).1 in
-      absurd (not_true (sym kind ∙ sym (ap (λ (x : Inode). is_directory_mode x.mode) its) ∙ d)))
+      absurd (false_not_true (sym kind ∙ sym (ap (λ (x : Inode). is_directory_mode x.mode) its) ∙ d)))
 
 -- a new file
 pub file_made : (g : Geometry) (v : Pieces) (n now permissions : ℕ) (user : User) → IsGeometry g → permissions ≤ 511 → MayMakeFile g v n

@@ -3,6 +3,7 @@ use Rattle.std.proofs.Common.{◌≡◌, ◌≢◌, ◌<◌, ◌≤◌, ◌+◌,
 use mathlib.Core.Logic.{inl, inr}
 use Rattle.std.specs.Prelude.{◌&&◌, ◌==◌, nat_le, nat_lt, IsTrue, Some, slice_index, []}
 use Rattle.std.proofs.lemmas.Bool.{and_from, cases_eq, cases_lt, cond-false, cond-true, le-leb, le-ltb, lt-ltb}
+use Rattle.lemmas.proofs.Numbers.{not_zero}
 use Rattle.layout.specs.declared.Geometry.{Geometry}
 use Rattle.layout.specs.Places.{IsGeometry, is_block_size}
 use Rattle.tree.specs.declared.User.{User}
@@ -20,7 +21,6 @@ use Rattle.volume.specs.Nodes.{is_directory_mode, nodes_of, page_zone}
 use Rattle.store.specs.Volume.{Alters}
 use Rattle.zone.specs.ZoneSteps.{marked_in, node_from}
 use Rattle.zone.specs.Missing.{missing}
-use Rattle.zone.proofs.Full.{not_zero}
 use Rattle.zone.proofs.Keeps.{sound_but_is_sound}
 use Rattle.zone.proofs.Missing.{page_takes_missing}
 use Rattle.zone.proofs.Room.{nodes_take_marked}

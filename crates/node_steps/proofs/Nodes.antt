@@ -1,17 +1,18 @@
 -- The nodes of a volume, one of them changed.
 use Rattle.std.proofs.Common.{◌≡◌, ℕ, Bool, true, false, refl, ap, ◌∙◌}
 use Rattle.std.specs.Prelude.{None, Some, if◌then◌else◌}
+use Rattle.lemmas.proofs.Options.{some_same}
 use Rattle.layout.specs.declared.Geometry.{Geometry}
 use Rattle.tree.specs.Sums.{put}
 use Rattle.tree.specs.Tree.{Node}
-use Rattle.tree.proofs.Maps.{is_put, is_the_one, put-other, put-same}
+use Rattle.tree.proofs.Maps.{is_put, put-other, put-same}
 use Rattle.volume.specs.Pieces.{Pieces}
 use Rattle.volume.specs.Nodes.{is_marked, nodes_of}
 use Rattle.node_steps.specs.Steps.{node_at}
 
 -- what stands where a test holds
 there : (b : Bool) (x y : Node) → (if b then Some x else None) ≡ Some y → (b ≡ true) × (x ≡ y)
-there true x y e = (refl, is_the_one x y e)
+there true x y e = (refl, some_same x y e)
 there false x y e = absurd (Rattle.tree.proofs.Maps.not_nothing y e)
 
 -- a node is that of a marked inode

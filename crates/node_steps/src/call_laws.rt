@@ -16,7 +16,7 @@ pub fn steps_make_a_call()
 {}
 
 /// A name of a directory that stands at a step may be taken away then. One that it hasn't may be put there exactly where the nodes fit
-/// with it, which is what `file::has_room` of an entry's 64 bytes at the directory's end says.
+/// with it, which is what `file::file_room::has_room` of an entry's 64 bytes at the directory's end says.
 pub fn names_are_put_and_taken()
     ensures taken { NameIsThere }
     ensures put { NameMayBePut }

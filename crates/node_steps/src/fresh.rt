@@ -7,7 +7,8 @@ ghost use Rattle.volume.specs.Reading.{is_inode};
 ghost use Rattle.store.specs.World.{Reads, Turns};
 ghost use Rattle.store.specs.Halts.{Ends, IsHalt};
 ghost use Rattle.store.specs.Volume.{Alters, IsOn};
-ghost use Rattle.node_steps.specs.NewNodes.{new_inode, with_new_inode, IsLeastFree, MakesDirectory, MakesFile, MayMakeDirectory, MayMakeFile};
+ghost use Rattle.node_steps.specs.NewNodes.{new_inode, with_new_inode, IsLeastFree, MakesDirectory, MakesFile, MayMakeDirectory};
+ghost use Rattle.node_steps.specs.NewNodes.{MayMakeFile};
 
 use bitmap::{Map, lowest_free, set};
 use directory::first_entries;

@@ -1,9 +1,5 @@
-//! Steps of client calls that change one node of a volume, over any blocks: its attributes, its links, its end. No memory is taken.
-//!
-//! New nodes of a volume, over any blocks: a free inode becomes an empty file, or a directory without names. No memory is taken.
-//!
-//! The steps of a rename, over any blocks: a name is taken out of a directory, a name is put into one, and what it leads to has its new
-//! parent. No memory is taken.
+//! Steps of client calls that change one node of a volume, over any blocks: its attributes, its links, its end; a free inode that becomes
+//! a file or a directory; the moves of a rename. No memory is taken.
 #![tactic(auto)]
 
 mod attributes;

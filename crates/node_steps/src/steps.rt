@@ -6,7 +6,8 @@ ghost use Rattle.store.specs.Halts.{IsHalt};
 ghost use Rattle.store.specs.Volume.{IsOn};
 ghost use Rattle.store.specs.World.{Turns};
 ghost use Rattle.node_steps.specs.Leads.{Makes};
-ghost use Rattle.node_steps.specs.Moves.{IsThere, MayPutIn, MayPutOver, MaySettle, MayTakeOut, settled, taken_out, touched, with_entry_and_links};
+ghost use Rattle.node_steps.specs.Moves.{IsThere, MayPutIn, MayPutOver, MaySettle, MayTakeOut, settled, taken_out, touched};
+ghost use Rattle.node_steps.specs.Moves.{with_entry_and_links};
 
 use crate::{add_link, drop_link, set_attributes};
 use directory::{insert, remove, replace, set_parent};

@@ -1,6 +1,5 @@
-//! Paths, read once, and access by permissions. No memory is taken.
-//!
-//! From paths to inodes, over any blocks: the walk of a path's parts, and the place that a path means for a name. No memory is taken.
+//! Paths, read once; access by permissions; and the walk from a path to an inode, or to the place that a path means for a name, over any
+//! blocks. No memory is taken.
 #![tactic(auto)]
 
 mod access;

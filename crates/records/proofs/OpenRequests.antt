@@ -2,6 +2,7 @@
 use Rattle.std.proofs.Common.{◌≡◌, ◌⊎◌, ℕ, ◌+◌, ◌<◌, ◌≤◌, List, [], ◌∷◌, ◌++◌, Bool, true, false, cond, refl, sym, ◌∙◌, ap, subst, inl, inr, arith, max, Option, Some}
 use Rattle.std.proofs.lemmas.Bool.Decides.{nat_tests}
 use Rattle.std.specs.Prelude.{nat_lt, is_some, ◌==◌}
+use Rattle.lemmas.proofs.Numbers.{less_fails, less_holds}
 use Rattle.message.specs.declared.endpoint.Endpoint.{Endpoint}
 use Rattle.message.specs.declared.BlockRequest.{BlockRequest}
 use Rattle.message.specs.declared.BlockReply.{BlockReply}
@@ -63,25 +64,17 @@ below_in g (s ∷ rs) r b (inr i) = below_in g rs r b.1 i
 pub open_below : (marks : List Mark) (r : BlockRequest) → IsIn r (open_requests marks) → r.id ≤ greatest marks
 open_below marks r i = below_in (greatest marks) (open_requests marks) r (below_open marks) i
 
--- the test whether an id is new fails up to the greatest
-not_less : (a b : ℕ) → b ≤ a → nat_lt a b ≡ false
-not_less a b h = grind (arith, nat_tests)
-
--- and holds above it
-is_less : (a b : ℕ) → a < b → nat_lt a b ≡ true
-is_less a b h = grind (arith, nat_tests)
-
 -- an issue of an id up to the greatest opens nothing
 pub open_again : (marks : List Mark) (r : BlockRequest) (to : Endpoint) → r.id ≤ greatest marks
     → open_requests (Issued r to ∷ marks) ≡ open_requests marks
 open_again marks r to h =
-    ap (λ (b : Bool). cond b (open_requests marks ++ r ∷ []) (open_requests marks)) (not_less (greatest marks) r.id h)
+    ap (λ (b : Bool). cond b (open_requests marks ++ r ∷ []) (open_requests marks)) (less_fails (greatest marks) r.id h)
 
 -- one of a greater id opens its request, at the end
 pub open_new : (marks : List Mark) (r : BlockRequest) (to : Endpoint) → greatest marks < r.id
     → open_requests (Issued r to ∷ marks) ≡ open_requests marks ++ r ∷ []
 open_new marks r to h =
-    ap (λ (b : Bool). cond b (open_requests marks ++ r ∷ []) (open_requests marks)) (is_less (greatest marks) r.id h)
+    ap (λ (b : Bool). cond b (open_requests marks ++ r ∷ []) (open_requests marks)) (less_holds (greatest marks) r.id h)
 
 -- what is in a list with one more at the end
 pub in_push : (rs : List BlockRequest) (r q : BlockRequest) → IsIn q (rs ++ r ∷ []) → IsIn q rs ⊎ (q ≡ r)

@@ -1,6 +1,7 @@
 -- A server that only tells of a new volume's root: what opening, a call, a cut call and unmounting promise can be met.
 use Rattle.std.specs.Prelude.{◌≡◌, List, [], ◌∷◌, Bool, true, false, not, ◌&&◌, None, is_some, refl}
 use Rattle.std.proofs.Common.{inl, ap, sym, subst, ◌∙◌}
+use Rattle.lemmas.proofs.Bools.{false_not_true}
 use Rattle.errno.specs.declared.Errno.TheVariants.{EIO}
 use Rattle.message.specs.declared.Incoming.TheVariants.{End}
 use Rattle.tree.specs.declared.Call.TheVariants as call
@@ -47,14 +48,10 @@ after_stat : tree_after_answer small fresh user_0 100 stat_root (root_of_size 12
 unfolding sum_below some_below least_below
 after_stat = refl
 
--- false is not true
-false_is_true : false ≡ true → ⊥
-false_is_true e = cc
-
 -- the stat of the root is legal
 legal_stat : (image : Contents) (marks : List Mark) → IsLegalCall small image fresh marks user_0 100 stat_root (root_of_size 128)
 unfolding sum_below some_below least_below
-legal_stat image marks = record { replies = inl refl; syncs = λ sync ok. absurd (false_is_true sync) }
+legal_stat image marks = record { replies = inl refl; syncs = λ sync ok. absurd (false_not_true sync) }
 
 -- the tree after it is the same
 stays_fresh : (tree : Tree) (marks : List Mark) → tree_after small tree marks ≡ fresh → gave_up marks ≡ false
@@ -87,10 +84,10 @@ right_call = record {
   acts = [];
   leads = record { geometry = refl; minor = refl; frame_count = refl; told = refl; ended = refl };
   none_absorbed = refl;
-  cut = (λ e. absurd (replied_cut (root_of_size 128) e), λ e. absurd (false_is_true e));
+  cut = (λ e. absurd (replied_cut (root_of_size 128) e), λ e. absurd (false_not_true e));
   rules = λ image tree marks agrees. record { keep = tt; outbox = refl };
   only_given_up = λ image tree marks agrees e. absurd (replied_eio e);
-  once_given_up = λ image tree marks agrees given_up. absurd (false_is_true (sym agrees.1 ∙ given_up));
+  once_given_up = λ image tree marks agrees given_up. absurd (false_not_true (sym agrees.1 ∙ given_up));
   after_giving_up = λ image tree marks agrees given_up. refl;
   after_end = λ ended. refl;
   serves = λ image tree marks s.
@@ -185,7 +182,7 @@ right_open = record {
     at_rest = record { complaint = refl; post = refl };
     legal = λ true_replies. tt;
     has_tree = λ true_replies live not_given_up. record {
-      reads_back = record { holds = first.holds; covered = record { each = λ place is_unsure. absurd (false_is_true is_unsure) } };
+      reads_back = record { holds = first.holds; covered = record { each = λ place is_unsure. absurd (false_not_true is_unsure) } };
       open_files = sym (no_open_file tree first.closed);
     };
   };

@@ -2,6 +2,9 @@
 use Rattle.std.proofs.Common.{◌≡◌, ◌⊎◌, ℕ, ◌+◌, ◌<◌, ◌≤◌, List, [], ◌∷◌, Bool, true, false, cond, refl, sym, ◌∙◌, ap, subst, inl, inr, arith, Option, Some, None, Result, Ok, Err}
 use Rattle.std.proofs.lemmas.Bool.Decides.{nat_tests}
 use Rattle.std.specs.Prelude.{nat_lt, nat_le, ◌==◌, ◌&&◌, ◌||◌, not, ◌%◌}
+use Rattle.lemmas.proofs.Options.{cond_some}
+use Rattle.lemmas.proofs.Numbers.{outside_fails}
+use Rattle.lemmas.proofs.Bools.{and_both, and_left, and_right, or_left, or_right}
 use Rattle.errno.specs.declared.Errno.{Errno}
 use Rattle.message.specs.Good.{is_write, moved}
 use Rattle.message.specs.declared.BlockRequest.{BlockRequest}
@@ -9,41 +12,6 @@ use Rattle.records.specs.Marks.{Mark, Issued, Started, Answered, Flush, GaveUp, 
 use Rattle.records.specs.Open.{greatest, open_requests, with_id, moved_of, Misses, IsIn, IsWellFormed}
 use Rattle.records.specs.Disk.{unsure, covers, settles}
 use Rattle.records.proofs.OpenRequests.{open_after_issue, open_answered, open_misses}
-
--- a place of an open write is unsure
-or_left : (a b : Bool) → a ≡ true → (a || b) ≡ true
-or_left true b e = refl
-or_left false b e = cc
-
--- one of two is true
-or_right : (a b : Bool) → b ≡ true → (a || b) ≡ true
-or_right true b e = refl
-or_right false b e = e
-
--- one of two is false
-and_false : (a b : Bool) → b ≡ false → (a && b) ≡ false
-and_false true b e = e
-and_false false b e = refl
-
--- both are true
-and_both : (a b : Bool) → a ≡ true → b ≡ true → (a && b) ≡ true
-and_both true b e f = f
-and_both false b e f = cc
-
--- a number that there is only where a test holds
-cond_some : (b : Bool) (m n : ℕ) → cond b (Some m) None ≡ Some n → (b ≡ true) × (m ≡ n)
-cond_some true m n e = (refl, cc)
-cond_some false m n e = cc
-
--- the first of two that are true
-and_left : (a b : Bool) → (a && b) ≡ true → a ≡ true
-and_left true b e = refl
-and_left false b e = cc
-
--- the second
-and_right : (a b : Bool) → (a && b) ≡ true → b ≡ true
-and_right true b e = e
-and_right false b e = cc
 
 -- what was moved is at most the count, and above 0
 pub moved_le : (count n : ℕ) (o : Result ℕ Errno) → moved count o ≡ Some n → (n ≤ count) × (0 < n)
@@ -58,12 +26,6 @@ moved_le count n (Err x) e = cc
 -- a place that a request covers lies between its ends
 covers_bounds : (r : BlockRequest) (p : ℕ) → covers r p ≡ true → (r.position ≤ p) × (p < r.position + r.count)
 covers_bounds r p t = (grind (arith, nat_tests), grind (arith, nat_tests))
-
--- an answer settles no place outside the bytes that it moved
-not_settles : (w : Bool) (position n place : ℕ) → (place < position) ⊎ (position + n ≤ place)
-    → (w && nat_le position place && nat_lt place (position + n)) ≡ false
-not_settles true position n place h = grind (arith, nat_tests)
-not_settles false position n place h = refl
 
 -- each place of an open write is unsure
 pub unsure_open : (marks : List Mark) → IsWellFormed marks → (q : BlockRequest) (p : ℕ) → IsIn q (open_requests marks) → is_write q.kind ≡ true → covers q p ≡ true → unsure marks p ≡ true
@@ -83,7 +45,7 @@ unsure_open (Answered a ∷ marks) w q p i write touch = at (unsure_open marks w
       let bounds = covers_bounds q p touch in
       let few : n ≤ r.count = (moved_le r.count n a.outcome (ap (λ (x : Option BlockRequest). moved_of x a) (sym is) ∙ good)).0 in
       let out : (p < r.position) ⊎ (r.position + n ≤ p) = elim m.apart [ inl h ↦ inl (omega (arith, h, bounds.0, bounds.1)) | inr h ↦ inr (omega (arith, h, few, bounds.0, bounds.1)) ] in
-      rw (good, is, not_settles (is_write r.kind) r.position n p out) before
+      rw (good, is, outside_fails (is_write r.kind) r.position n p out) before
 unsure_open (Started e ∷ marks) w q p i write touch = unsure_open marks w.0 q p i write touch
 unsure_open (Flush ∷ marks) w q p i write touch = unsure_open marks w.0 q p i write touch
 unsure_open (GaveUp ∷ marks) w q p i write touch = unsure_open marks w.0 q p i write touch

@@ -5,6 +5,8 @@ use Rattle.std.proofs.lemmas.Bool.Decides.{leb_tells, nat_tests}
 use Rattle.std.proofs.lemmas.Iterator.Adapters.{position_from-zero}
 use Rattle.std.specs.List.{position_from, list_any}
 use Rattle.std.specs.Prelude.{nat_lt, nat_le, is_some, ◌==◌, ◌&&◌, ◌||◌, not, position, slice_index, remove}
+use Rattle.lemmas.proofs.Options.{cond_some}
+use Rattle.lemmas.proofs.Bools.{and_left, and_right, and_with_false}
 use Rattle.message.specs.declared.endpoint.Endpoint.{Endpoint}
 use Rattle.errno.specs.declared.Errno.{Errno}
 use Rattle.message.specs.declared.BlockRequest.{BlockRequest}
@@ -114,21 +116,6 @@ apart_like q r (x ∷ xs) s z h = (
   record { apart = elim (h.0.apart) [ inl l ↦ inl (omega (arith, l, s, z)) | inr l ↦ inr (omega (arith, l, s, z)) ] },
   apart_like q r xs s z h.1,
 )
-
--- something stands only where the test passes
-cond_some : (b : Bool) (m n : ℕ) → cond b (Some m) None ≡ Some n → (b ≡ true) × (m ≡ n)
-cond_some true m n e = (refl, cc)
-cond_some false m n e = cc
-
--- both hold: the left
-and_left : (a b : Bool) → (a && b) ≡ true → a ≡ true
-and_left true b e = refl
-and_left false b e = cc
-
--- both hold: the right
-and_right : (a b : Bool) → (a && b) ≡ true → b ≡ true
-and_right true b e = e
-and_right false b e = cc
 
 -- a good answer moves something, and no more than was asked for
 pub moved_le : (count n : ℕ) (o : Result ℕ Errno) → moved count o ≡ Some n → (n ≤ count) × (0 < n)
@@ -441,14 +428,9 @@ not_found t marks id h e =
     rw (← h.holds.requests)
     (prefix_none id 0 h.opened (sym (position_from-zero (λ (p : Pending). p.request.id == id) h.opened) ∙ rw (← front) e))
 
--- not both
-and_false : (b : Bool) → (b && false) ≡ false
-and_false true = refl
-and_false false = refl
-
 -- a reply with an id that isn't open doesn't count
 counts_none : (marks : List Mark) (a : BlockReply) → asked_by a marks ≡ None → counts marks a ≡ false
-counts_none marks a e = rw e (and_false (not (gave_up marks) && is_endpoint a.from (last_started marks)))
+counts_none marks a e = rw e (and_with_false (not (gave_up marks) && is_endpoint a.from (last_started marks)))
 
 -- whether a reply is from where requests are posted
 from_target : (t : Table) (marks : List Mark) (e : Endpoint) → Agrees t marks

@@ -8,6 +8,7 @@ use Rattle.reissue.specs.declared.pending.Pending.{Pending}
 use Rattle.reissue.proofs.Writes.{spares_then}
 use Rattle.reissue.proofs.Tickets.{pending_here}
 use Rattle.std.specs.List.{list_any}
+use Rattle.lemmas.proofs.Bools.{or_false_right}
 use Rattle.records.specs.Disk.{Contents, HasTrueReplies, disk_after, unsure, bytes_read, is_read}
 use Rattle.records.specs.Marks.{Mark}
 use Rattle.records.specs.Told.{Complained, Posted, Received, Told, grown}
@@ -44,15 +45,10 @@ disk_posted (Posted to r false ∷ es) image marks p o = disk_posted es image ma
 disk_posted (Complained e ∷ es) image marks p o = absurd o
 disk_posted (Received m ∷ es) image marks p o = absurd o
 
--- neither holds: the right
-or_right : (a b : Bool) → (a || b) ≡ false → b ≡ false
-or_right true b e = cc
-or_right false b e = e
-
 -- what is sure after posts was sure before
 sure_posted : (es : List Told) (marks : List Mark) (p : ℕ) → OnlyPosts es → unsure (grown es marks) p ≡ false → unsure marks p ≡ false
 sure_posted [] marks p o h = h
-sure_posted (Posted to r true ∷ es) marks p o h = sure_posted es marks p o (or_right _ (unsure (grown es marks) p) h)
+sure_posted (Posted to r true ∷ es) marks p o h = sure_posted es marks p o (or_false_right _ (unsure (grown es marks) p) h)
 sure_posted (Posted to r false ∷ es) marks p o h = sure_posted es marks p o h
 sure_posted (Complained e ∷ es) marks p o h = absurd o
 sure_posted (Received m ∷ es) marks p o h = absurd o

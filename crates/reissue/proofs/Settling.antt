@@ -2,6 +2,7 @@
 use Rattle.std.proofs.Common.{◌≡◌, ℕ, suc, zero, ◌+◌, ◌-◌, ◌<◌, List, [], ◌∷◌, ◌++◌, length, get_or, Bool, true, false, cond, sym, ◌∙◌, ap, subst, arith}
 use Rattle.std.proofs.lemmas.Bool.Decides.{nat_tests}
 use Rattle.std.specs.Prelude.{nat_lt, remove}
+use Rattle.lemmas.proofs.Numbers.{less_holds}
 use Rattle.reissue.specs.declared.pending.Pending.{Pending}
 use Rattle.reissue.specs.declared.table.Table.{Table}
 use Rattle.reissue.specs.Entries.{AllOfMinor}
@@ -14,10 +15,6 @@ issued_within t at lt = omega (arith, lt, t.within)
 -- the same isn't less
 not_less : (n m : ℕ) → n ≡ m → nat_lt n m ≡ false
 not_less n m e = grind (arith, nat_tests)
-
--- what is less passes the test
-is_less : (n m : ℕ) → n < m → nat_lt n m ≡ true
-is_less n m lt = grind (arith, nat_tests)
 
 -- nothing is left of it
 pub answered_whole : (t v : Table) (id at n : ℕ) (e : Pending) → at < t.issued → e ≡ get_or t.pending at e → e.request.id ≡ id
@@ -44,7 +41,7 @@ answered_part t v id at n e r lt is same part items ids rest posted issued = rec
   issued = lt;
   there = is;
   id_is = same;
-  left = subst (λ (b : Bool). LeavesRest t v at e n b) (sym (is_less n e.request.count part)) (r, items, rest, ids);
+  left = subst (λ (b : Bool). LeavesRest t v at e n b) (sym (less_holds n e.request.count part)) (r, items, rest, ids);
   posted = posted;
   issued_left = issued;
 }

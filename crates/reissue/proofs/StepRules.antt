@@ -4,6 +4,7 @@ use Rattle.std.proofs.lemmas.List.{length-append, length-drop, length-map, map-a
 use Rattle.std.proofs.lemmas.Bool.Decides.{nat_tests}
 use Rattle.std.proofs.Math.Seq.{drop-append_seam}
 use Rattle.std.specs.Prelude.{nat_lt, is_some, ◌&&◌, not, remove}
+use Rattle.lemmas.proofs.Numbers.{less_from}
 use Rattle.message.specs.declared.endpoint.Endpoint.{Endpoint}
 use Rattle.message.specs.declared.BlockRequest.{BlockRequest}
 use Rattle.message.specs.declared.BlockReply.{BlockReply}
@@ -99,10 +100,6 @@ loose_same old mid x = box_same (never_issued old) (never_issued mid) (unposted 
     (ends_same old.issued mid.issued old.pending mid.pending (sym x.issued) (sym x.pending))
     (ends_same old.posted mid.posted old.pending mid.pending (sym x.posted) (sym x.pending)) refl
 
--- a test that is true
-less_is : (n m : ℕ) → nat_lt n m ≡ true → n < m
-less_is n m e = grind (arith, nat_tests)
-
 -- what stands at the end
 last_is : (rs : List Pending) (r : Pending) → drop (length (rs ++ r ∷ []) - 1) (rs ++ r ∷ []) ≡ r ∷ []
 last_is rs r = let end : length (rs ++ r ∷ []) - 1 ≡ length rs = omega (arith, length-append rs (r ∷ [])) in rw end (drop-append_seam rs (r ∷ []))
@@ -111,7 +108,7 @@ last_is rs r = let end : length (rs ++ r ∷ []) - 1 ≡ length rs = omega (arit
 pub began_none : (old mid : Table) → mid.ids ≡ old.ids → began_on old mid ≡ []
 began_none old mid same = by (nat_lt old.ids mid.ids) refl where
   by : (b : Bool) → nat_lt old.ids mid.ids ≡ b → cond b (all_began (drop (length mid.pending - 1) mid.pending)) [] ≡ []
-  by true e = absurd (omega (arith, same, less_is old.ids mid.ids e))
+  by true e = absurd (omega (arith, same, less_from old.ids mid.ids e))
   by false e = refl
 
 -- where one was given, it is the last request's

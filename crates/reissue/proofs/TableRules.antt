@@ -3,6 +3,7 @@ use Rattle.std.proofs.Common.{◌≡◌, ℕ, suc, zero, ◌+◌, ◌-◌, ◌<�
 use Rattle.std.proofs.lemmas.Bool.Decides.{leb_tells, nat_tests}
 use Rattle.std.proofs.lemmas.List.{take-append-drop, length-drop, length-append}
 use Rattle.std.specs.Prelude.{nat_lt, is_some, ◌&&◌, not, ◌||◌, IsTrue}
+use Rattle.lemmas.proofs.Bools.{or_right}
 use Rattle.message.specs.declared.endpoint.Endpoint.{Endpoint}
 use Rattle.records.specs.Marks.{Mark, last_started, gave_up}
 use Rattle.records.specs.Open.{open_requests, has_none}
@@ -160,11 +161,6 @@ some_left : (n : ℕ) (ps : List Pending) → n < length ps → has_none (map re
 some_left n [] lt = absurd (omega arith)
 some_left zero (p ∷ ps) lt = refl
 some_left (suc n) (p ∷ ps) lt = some_left n ps (omega arith)
-
--- either holds: the right
-or_right : (a b : Bool) → b ≡ true → (a || b) ≡ true
-or_right true b e = refl
-or_right false b e = e
 
 -- while something is pending, a message is needed
 pub needed : (t : Table) (marks : List Mark) → Agrees t marks → gave_up marks ≡ false → IsBusy (pending_of t.pending)

@@ -3,6 +3,8 @@ use Rattle.std.proofs.Common.{◌≡◌, ◌⊎◌, ℕ, ◌+◌, ◌-◌, ◌<�
 use Rattle.std.proofs.lemmas.Bool.{cond-true}
 use Rattle.std.proofs.lemmas.Bool.Decides.{leb_tells, nat_tests}
 use Rattle.std.specs.Prelude.{nat_lt, nat_le, ◌&&◌, ◌||◌, not, slice_index}
+use Rattle.lemmas.proofs.Numbers.{outside_fails, within_holds}
+use Rattle.lemmas.proofs.Bools.{or_neither}
 use Rattle.message.specs.declared.endpoint.Endpoint.{Endpoint}
 use Rattle.message.specs.declared.Kind.{Kind}
 use Rattle.message.specs.declared.Kind.TheVariants as kind
@@ -23,12 +25,6 @@ pub record AreWritten (image : Contents) (marks : List Mark) (start size : ℕ) 
   pub each : (k : ℕ) → k < size
       → (disk_after image marks (start + k) ≡ slice_index bytes k) × (unsure marks (start + k) ≡ false)
 
--- a place outside isn't covered
-not_within : (w : Bool) (position n place : ℕ) → (place < position) ⊎ (position + n ≤ place)
-    → (w && nat_le position place && nat_lt place (position + n)) ≡ false
-not_within true position n place h = grind (arith, nat_tests)
-not_within false position n place h = refl
-
 -- at a place that the answer didn't write, the disk and what is unsure of it stay
 pub same_at : (image : Contents) (marks : List Mark) (a : BlockReply) (r : BlockRequest) (n place : ℕ)
     → asked_by a marks ≡ Some r → moved_by a marks ≡ Some n
@@ -40,13 +36,13 @@ same_at image marks a r n place w m o =
       sure : (is_write r.kind ≡ false) ⊎ ((place < r.position) ⊎ (r.position + n ≤ place))
           → (not (settles (Some r) (Some n) place) && unsure marks place) ≡ unsure marks place
       sure (inl h) = rw h refl
-      sure (inr h) = ap (λ (b : Bool). not b && unsure marks place) (not_within (is_write r.kind) r.position n place h)
+      sure (inr h) = ap (λ (b : Bool). not b && unsure marks place) (outside_fails (is_write r.kind) r.position n place h)
 
       kept : (is_write r.kind ≡ false) ⊎ ((place < r.position) ⊎ (r.position + n ≤ place))
           → cond (settles (Some r) (Some n) place) (slice_index r.bytes (place - r.position)) (disk_after image marks place) ≡ disk_after image marks place
       kept (inl h) = rw h refl
       kept (inr h) = ap (λ (b : Bool). cond b (slice_index r.bytes (place - r.position)) (disk_after image marks place))
-          (not_within (is_write r.kind) r.position n place h)
+          (outside_fails (is_write r.kind) r.position n place h)
 
 -- an issue doesn't cover a place outside
 not_touched : (r : BlockRequest) (place : ℕ) → (place < r.position) ⊎ (r.position + r.count ≤ place)
@@ -133,12 +129,6 @@ all_wrote_answered image marks a q n (p ∷ ps) w m le ap' h = (
   all_wrote_answered image marks a q n ps w m le ap'.1 h.1,
 )
 
--- a place inside is covered
-within : (w : Bool) (position n place : ℕ) → w ≡ true → position ≤ place → place < position + n
-    → (w && nat_le position place && nat_lt place (position + n)) ≡ true
-within true position n place e h k = grind (arith, nat_tests)
-within false position n place e h k = cc
-
 -- at a place that the answer moved
 pub moved_at : (image : Contents) (marks : List Mark) (a : BlockReply) (r : BlockRequest) (n place : ℕ)
     → asked_by a marks ≡ Some r → moved_by a marks ≡ Some n
@@ -146,7 +136,7 @@ pub moved_at : (image : Contents) (marks : List Mark) (a : BlockReply) (r : Bloc
     → (disk_after image (Answered a ∷ marks) place ≡ slice_index r.bytes (place - r.position))
     × (unsure (Answered a ∷ marks) place ≡ false)
 moved_at image marks a r n place w m is_w from to =
-    let t = within (is_write r.kind) r.position n place is_w from to in (
+    let t = within_holds (is_write r.kind) r.position n place is_w from to in (
       rw (m, w) (cond-true (settles (Some r) (Some n) place) (slice_index r.bytes (place - r.position)) (disk_after image marks place) t),
       rw (m, w) (ap (λ (b : Bool). not b && unsure marks place) t),
     )
@@ -206,18 +196,13 @@ quiet_at q ps place d i w h =
       ]
     ]
 
--- neither holds
-or_false : (b c : Bool) → b ≡ false → c ≡ false → (b || c) ≡ false
-or_false true c e f = cc
-or_false false c e f = f
-
 -- an issue spares what isn't pending
 pub spares_issued : (image : Contents) (marks : List Mark) (q : Pending) (to : Endpoint) (ps : List Pending)
     → AreDistinct ps → IsAmong q ps
     → Spares (pending_of ps) (state_after image marks) (state_after image (Issued q.request to ∷ marks))
 spares_issued image marks q to ps d i = record {
   disk = λ p h. refl;
-  sure = λ p h s. or_false (is_write q.request.kind && covers q.request p) (unsure marks p) (stays p h (is_write q.request.kind) refl) s;
+  sure = λ p h s. or_neither (is_write q.request.kind && covers q.request p) (unsure marks p) (stays p h (is_write q.request.kind) refl) s;
 } where
   stays : (p : ℕ) → IsQuiet (pending_of ps) p → (b : Bool) → is_write q.request.kind ≡ b → (is_write q.request.kind && covers q.request p) ≡ false
   stays p h true e = not_touched q.request p

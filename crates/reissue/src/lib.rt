@@ -1,9 +1,6 @@
 //! Requests that are issued again to each new driver until they are answered good over their whole range, over any link.
 //!
-//! Pending requests in a fixed order, up to sixteen of them: what is asked for, what is left of it, and what a request comes to.
-//!
-//! The table of the pending requests of a file server: what is asked for, in the order of ids, until it is answered good over its whole
-//! range.
+//! At most sixteen are pending, in the order of their ids: what is asked for, what is left of it, and what it comes to.
 #![tactic(auto)]
 
 pub mod ask;

@@ -1,6 +1,7 @@
 //! Up to sixteen pending requests in a fixed order.
 
-ghost use Rattle.std.specs.Prelude.{◌≡◌, ◌+◌, ◌<◌, ◌≤◌, ◌∷◌, ◌++◌, [], length, remove, IfOk, slice_get, slice_index_or, Some, position, take, ◌==◌, ◌&&◌};
+ghost use Rattle.std.specs.Prelude.{◌≡◌, ◌+◌, ◌<◌, ◌≤◌, ◌∷◌, ◌++◌, [], length, remove, IfOk, slice_get, slice_index_or, Some, position};
+ghost use Rattle.std.specs.Prelude.{take, ◌==◌, ◌&&◌};
 ghost use Rattle.std.specs.List.{list_any};
 
 use crate::pending::Pending;

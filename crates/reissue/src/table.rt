@@ -1,6 +1,8 @@
 //! The table of pending requests.
 
-ghost use Rattle.std.specs.Prelude.{◌≡◌, ◌+◌, ◌<◌, ◌≤◌, ◌==◌, ◌∷◌, [], ◌++◌, take, length, position, max, slice_index_or, IsSome, IfSome, IfOk, ◌↔◌, ◌^◌, ◌-◌, ◌%◌, ℕ, remove, slice_index, IsTrue, Bool, true, false, Option, Some, if◌then◌else◌, nat_lt, ◌&&◌};
+ghost use Rattle.std.specs.Prelude.{◌≡◌, ◌+◌, ◌<◌, ◌≤◌, ◌==◌, ◌∷◌, [], ◌++◌, take, length, position, max, slice_index_or, IsSome, IfSome};
+ghost use Rattle.std.specs.Prelude.{IfOk, ◌↔◌, ◌^◌, ◌-◌, ◌%◌, ℕ, remove, slice_index, IsTrue, Bool, true, false, Option, Some};
+ghost use Rattle.std.specs.Prelude.{if◌then◌else◌, nat_lt, ◌&&◌};
 ghost use Rattle.std.specs.List.{list_any};
 ghost use Rattle.message.specs.Good.{is_write};
 ghost use Rattle.records.specs.Marks.{is_endpoint};

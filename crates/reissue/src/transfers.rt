@@ -1,6 +1,7 @@
 //! Requests over a link, each pending until it is answered good over its whole range.
 
-ghost use Rattle.std.specs.Prelude.{◌≡◌, ◌+◌, ◌<◌, ◌≤◌, ◌^◌, ◌==◌, ◌&&◌, ◌↔◌, ◌∷◌, [], List, ℕ, length, IsOk, IsTrue, IfOk, OnOk, OnErr, IsErrOf, IsSome, true, false, Option, MatchBool};
+ghost use Rattle.std.specs.Prelude.{◌≡◌, ◌+◌, ◌<◌, ◌≤◌, ◌^◌, ◌==◌, ◌&&◌, ◌↔◌, ◌∷◌, [], List, ℕ, length, IsOk, IsTrue, IfOk, OnOk, OnErr};
+ghost use Rattle.std.specs.Prelude.{IsErrOf, IsSome, true, false, Option, MatchBool};
 ghost use Rattle.std.specs.Borrow.{Lends, sem};
 ghost use Rattle.std.specs.List.{list_any};
 ghost use Rattle.reissue.specs.Room.{room_needed};

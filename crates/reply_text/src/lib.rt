@@ -1,8 +1,5 @@
-//! How replies of the file tree, and what came of calls, are shown.
-//!
-//! What came of sessions, as text: a line with each session's number, and a line for each answer to its calls.
-//!
-//! Transcripts as text: a line for each mark of a record, oldest first, and the number of calls without a reply.
+//! Replies, sessions and transcripts as text: how a reply is shown, a line for each answer of a session, a line for each mark of a
+//! record.
 #![tactic(auto)]
 
 pub mod answers;

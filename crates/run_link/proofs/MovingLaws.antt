@@ -4,6 +4,7 @@ use Rattle.inline.specs.Inline.{IsReady}
 use Rattle.media.specs.Contents.{MediaState}
 use Rattle.std.proofs.Common.{◌≡◌, ◌⊎◌, ℕ, zero, suc, ◌+◌, ◌-◌, ◌<◌, ◌≤◌, List, [], ◌∷◌, ◌++◌, Bool, true, false, cond, refl, sym, ◌∙◌, ap, subst, inl, inr, arith, length, get_or}
 use Rattle.std.specs.Prelude.{All, Option, Some, None, Ok, slice_get, ◌&&◌, ◌==◌}
+use Rattle.lemmas.proofs.Bools.{true_not_false}
 use Rattle.message.specs.declared.endpoint.Endpoint.{Endpoint}
 use Rattle.message.specs.declared.BlockRequest.{BlockRequest}
 use Rattle.message.specs.declared.Incoming.{Incoming}
@@ -330,16 +331,13 @@ end_told m a b n far is same =
     ap (λ (x : Noted). x.history) is
     ∙ ap (λ (l : List Told). heard incoming.End l) (to_end_history m a far ∙ ap (λ (s : Scene). s.noted.history) same)
 
-not_both : ◌≡◌ {A = Bool} true false → ⊥
-not_both h = cc
-
 falls : (o p t u : Bool) (len more n m : ℕ) → o ≡ false → p ≡ false → u ≡ t → more ≡ len → n < m → m ≤ more
     → left_of p (more - m) u < left_of o (len - n) t
-falls true p t u len more n m e f same is low within = absurd (not_both e)
-falls false true t u len more n m e f same is low within = absurd (not_both f)
+falls true p t u len more n m e f same is low within = absurd (true_not_false e)
+falls false true t u len more n m e f same is low within = absurd (true_not_false f)
 falls false false true true len more n m e f same is low within = omega (arith, is, low, within)
-falls false false true false len more n m e f same is low within = absurd (not_both (sym same))
-falls false false false true len more n m e f same is low within = absurd (not_both same)
+falls false false true false len more n m e f same is low within = absurd (true_not_false (sym same))
+falls false false false true len more n m e f same is low within = absurd (true_not_false same)
 falls false false false false len more n m e f same is low within = omega (arith, is, low, within)
 
 -- and how much it still gives

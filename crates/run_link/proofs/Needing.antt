@@ -1,6 +1,7 @@
 -- Where the link has ended in a run, the server needs a message.
 use Rattle.std.proofs.Common.{◌≡◌, ℕ, ◌+◌, List, [], ◌∷◌, ◌++◌, Bool, true, false, cond, refl, sym, ◌∙◌, ap, subst}
 use Rattle.std.specs.Prelude.{Option, Some, None, is_some, not, ◌||◌, ◌&&◌, nat_lt}
+use Rattle.lemmas.proofs.Bools.{true_not_false}
 use Rattle.message.specs.declared.endpoint.Endpoint.{Endpoint}
 use Rattle.message.specs.declared.BlockRequest.{BlockRequest}
 use Rattle.message.specs.declared.Incoming.{Incoming}
@@ -13,7 +14,7 @@ use Rattle.schedule.specs.declared.arrived.Arrived.{Arrived}
 use Rattle.run_link.specs.StateView as link
 use Rattle.run_link.specs.StateView.{RunState, RunsEvent, Turn}
 use Rattle.run_link.specs.Moments.{Doing, Resting, Hearing, Answering, is_busy, Moment, record_of, at_link, Step, Begins, Tells, Takes, Settles, Brings, BringsNone, Pays, HandsCall, Replies, Runs, Starts, Then, Needs, RunsEndNeeding}
-use Rattle.run_link.proofs.Running.{turn_record, came_live, no_true}
+use Rattle.run_link.proofs.Running.{turn_record, came_live}
 
 one_more : (rs : List BlockRequest) (r : BlockRequest) → has_none (rs ++ r ∷ []) ≡ false
 one_more [] r = refl
@@ -86,12 +87,12 @@ told_wants minor (Complained about) marks o quiet may w = record { needed = w.ne
 told_wants minor (Received message) marks o quiet may w = cc
 
 -- where the link ends
-ended_wants : (m : Moment) (message : Incoming) (a : RunState) → MayTake (record_of m.play) m.outbox → Turn m.play (Received message) a → a.over ≡ true
-    → Wants (record_of a) (owed_after_act (AtLink (Received message)) (record_of m.play) m.outbox)
-ended_wants m message _ may (link.Takes _ a far) over = absurd (no_true (sym over ∙ came_live m.play a message far))
-ended_wants m _ _ may (link.TakesOwed live owed first) over = absurd (no_true (sym over ∙ live))
+ended_wants : (m : Moment) (message : Incoming) (a : RunState) → MayTake (record_of m.run) m.outbox → Turn m.run (Received message) a → a.over ≡ true
+    → Wants (record_of a) (owed_after_act (AtLink (Received message)) (record_of m.run) m.outbox)
+ended_wants m message _ may (link.Takes _ a far) over = absurd (true_not_false (sym over ∙ came_live m.run a message far))
+ended_wants m _ _ may (link.TakesOwed live owed first) over = absurd (true_not_false (sym over ∙ live))
 ended_wants m _ _ may (link.TakesEnd a live ends) over =
-    subst (λ (l : List Mark). Wants l m.outbox) (sym (turn_record m.play (link.ended a) (Received incoming.End) (link.TakesEnd a live ends)))
+    subst (λ (l : List Mark). Wants l m.outbox) (sym (turn_record m.run (link.ended a) (Received incoming.End) (link.TakesEnd a live ends)))
     (record { needed = may.needed; not_given_up = may.live })
 
 -- what is not a take doesn't end the link
@@ -103,40 +104,40 @@ told_over b _ _ (link.Posts to r result d unended lines) quiet = refl
 told_over b _ _ (link.Complains about) quiet = refl
 
 not_ended : {A : Type 0} (b a : RunState) → a.over ≡ b.over → b.over ≡ false → a.over ≡ true → A
-not_ended b a same live over = absurd (no_true (sym over ∙ same ∙ live))
+not_ended b a same live over = absurd (true_not_false (sym over ∙ same ∙ live))
 
 not_hearing : {A : Type 0} (doing : Doing) (message : Incoming) (call : Arrived) → doing ≡ Hearing message → doing ≡ Answering call → A
 not_hearing doing message call hears answers = cc
 
-needing : (m : Moment) (call : Arrived) → m.doing ≡ Answering call → Wants (record_of m.play) m.outbox → Needs m
+needing : (m : Moment) (call : Arrived) → m.doing ≡ Answering call → Wants (record_of m.run) m.outbox → Needs m
 needing m call answers w = record { call = call; answers = answers; needed = w.needed; not_given_up = w.not_given_up }
 
-step_needs : (minor : ℕ) (m a : Moment) → (m.play.over ≡ true → Needs m) → Step minor m a → a.play.over ≡ true → Needs a
+step_needs : (minor : ℕ) (m a : Moment) → (m.run.over ≡ true → Needs m) → Step minor m a → a.run.over ≡ true → Needs a
 step_needs minor m _ before (Begins r busy may) over =
     let n : Needs m = before over in
     record {
       call = n.call;
       answers = n.answers;
-      needed = begun_needs (open_requests (record_of m.play)) (is_some (last_started (record_of m.play))) m.outbox.stopped m.outbox.unposted
+      needed = begun_needs (open_requests (record_of m.run)) (is_some (last_started (record_of m.run))) m.outbox.stopped m.outbox.unposted
           m.outbox.never_issued r n.needed;
       not_given_up = n.not_given_up;
     }
 step_needs minor m _ before (Tells told a busy quiet may turn) over =
-    let n : Needs m = before (sym (told_over m.play a told turn quiet) ∙ over) in
+    let n : Needs m = before (sym (told_over m.run a told turn quiet) ∙ over) in
     needing (at_link told a m) n.call n.answers
-    (subst (λ (l : List Mark). Wants l (owed_after_act (AtLink told) (record_of m.play) m.outbox)) (sym (turn_record m.play a told turn))
-    (told_wants minor told (record_of m.play) m.outbox quiet may (record { needed = n.needed; not_given_up = n.not_given_up })))
+    (subst (λ (l : List Mark). Wants l (owed_after_act (AtLink told) (record_of m.run) m.outbox)) (sym (turn_record m.run a told turn))
+    (told_wants minor told (record_of m.run) m.outbox quiet may (record { needed = n.needed; not_given_up = n.not_given_up })))
 step_needs minor m _ before (Takes message call a answers may turn) over =
     needing (at_link (Received message) a m) call answers (ended_wants m message a may turn over)
 step_needs minor m _ before (Settles message hears rest) over =
     let n : Needs m = before over in not_hearing m.doing message n.call hears n.answers
-step_needs minor m _ before (Brings message a between none next) over = not_ended m.play a next.over between.live over
-step_needs minor m _ before (BringsNone a between none next) over = not_ended m.play a next.over between.live over
-step_needs minor m _ before (Pays between owed first) over = absurd (no_true (sym over ∙ between.live))
+step_needs minor m _ before (Brings message a between none next) over = not_ended m.run a next.over between.live over
+step_needs minor m _ before (BringsNone a between none next) over = not_ended m.run a next.over between.live over
+step_needs minor m _ before (Pays between owed first) over = absurd (true_not_false (sym over ∙ between.live))
 step_needs minor m _ before (HandsCall call a between paid hands) over =
-    not_ended m.play a (ap (λ (p : RunState). p.over) hands.after) between.live over
-step_needs minor m _ before (Replies call reply answers live rest) over = absurd (no_true (sym over ∙ live))
+    not_ended m.run a (ap (λ (p : RunState). p.over) hands.after) between.live over
+step_needs minor m _ before (Replies call reply answers live rest) over = absurd (true_not_false (sym over ∙ live))
 
 pub runs_end_needing : RunsEndNeeding
-runs_end_needing minor b _ Starts live over = absurd (no_true (sym over ∙ live))
+runs_end_needing minor b _ Starts live over = absurd (true_not_false (sym over ∙ live))
 runs_end_needing minor b a (Then m _ before last) live over = step_needs minor m a (λ over_before. runs_end_needing minor b m before live over_before) last over

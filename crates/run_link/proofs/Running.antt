@@ -2,6 +2,7 @@
 use Rattle.std.proofs.Common.{◌≡◌, ◌⊎◌, inl, inr, ℕ, suc, ◌+◌, ◌≤◌, List, [], ◌∷◌, ◌++◌, Bool, true, false, cond, refl, sym, ◌∙◌, ap, subst, arith, length}
 use Rattle.std.specs.Prelude.{Option, Some, None, is_ok, not, ◌||◌, ◌&&◌}
 use Rattle.std.proofs.lemmas.List.{length-append}
+use Rattle.lemmas.proofs.Bools.{true_not_false}
 use Rattle.message.specs.declared.BlockRequest.{BlockRequest}
 use Rattle.message.specs.declared.Incoming.{Incoming}
 use Rattle.message.specs.declared.Incoming.TheVariants as incoming
@@ -29,9 +30,6 @@ use Rattle.run_link.proofs.MovingLaws.{far_history, far_no_end, IsNoEnd, message
 -- the history of a link
 abbrev pub history_of : RunState → List Told
 history_of p = p.scene.noted.history
-
-pub no_true : ◌≡◌ {A = Bool} true false → ⊥
-no_true h = cc
 
 -- an event changes neither the server's record nor whether the link has ended
 pub next_record : (b a : RunState) (result : Option Incoming) → RunsEvent b result a → record_of a ≡ record_of b
@@ -184,13 +182,13 @@ may_take_before (Answering call) t told may = tt
 
 -- the run led there from here by these acts of the server
 pub record Reaches (minor : ℕ) (doing : Doing) (b : RunState) (o : Outbox) (acts : List Act) (marks : List Mark) (a : RunState) : Type 0 where
-  pub runs : Runs minor (record { play = b; outbox = o; doing = doing }) (record { play = a; outbox = outbox_after acts marks o; doing = doing })
+  pub runs : Runs minor (record { run = b; outbox = o; doing = doing }) (record { run = a; outbox = outbox_after acts marks o; doing = doing })
   pub record_is : record_of a ≡ marks_after acts marks
 
 -- one turn of a server that may act so
 turn_step : (minor : ℕ) (doing : Doing) (told : Told) (more : List Told) (m a : RunState) (o : Outbox) → is_busy doing ≡ true → MayTakeIn doing (told ∷ more)
     → MayAct minor (record_of m) o (AtLink told) → Turn m told a
-    → Step minor (record { play = m; outbox = o; doing = doing }) (at_link told a (record { play = m; outbox = o; doing = doing }))
+    → Step minor (record { run = m; outbox = o; doing = doing }) (at_link told a (record { run = m; outbox = o; doing = doing }))
 turn_step minor doing (Posted to r accepted) more m a o busy take may turn = Tells (Posted to r accepted) a busy refl may turn
 turn_step minor doing (Complained e) more m a o busy take may turn = Tells (Complained e) a busy refl may turn
 turn_step minor Resting (Received message) more m a o busy take may turn = cc
@@ -204,14 +202,14 @@ pub acts_run : (minor : ℕ) (doing : Doing) (b : RunState) (o : Outbox) (marks 
 acts_run minor doing b o marks busy told is [] a on history none take keeps =
     let same : a ≡ b = none_told b a on told history in
     record {
-      runs = subst (λ (p : RunState). Runs minor (record { play = b; outbox = o; doing = doing }) (record { play = p; outbox = o; doing = doing })) (sym same) Starts;
+      runs = subst (λ (p : RunState). Runs minor (record { run = b; outbox = o; doing = doing }) (record { run = p; outbox = o; doing = doing })) (sym same) Starts;
       record_is = ap record_of same ∙ is;
     }
 acts_run minor doing b o marks busy told is (Began r ∷ acts) a on history none take keeps =
     let x : Reaches minor doing b o acts marks a = acts_run minor doing b o marks busy told is acts a on history none take keeps.0 in
     record {
-      runs = Then (record { play = a; outbox = outbox_after acts marks o; doing = doing })
-          (record { play = a; outbox = outbox_after (Began r ∷ acts) marks o; doing = doing }) x.runs
+      runs = Then (record { run = a; outbox = outbox_after acts marks o; doing = doing })
+          (record { run = a; outbox = outbox_after (Began r ∷ acts) marks o; doing = doing }) x.runs
           (Begins r busy (subst (λ (l : List Mark). MayBegin l (outbox_after acts marks o) r) (sym x.record_is) keeps.1));
       record_is = x.record_is;
     }
@@ -223,10 +221,10 @@ acts_run minor doing b o marks busy told is (AtLink t ∷ acts) a on history non
     let may : MayAct minor (record_of last.between) (outbox_after acts marks o) (AtLink t) =
     subst (λ (l : List Mark). MayAct minor l (outbox_after acts marks o) (AtLink t)) (sym x.record_is) keeps.1 in
     record {
-      runs = subst (λ (l : List Mark). Runs minor (record { play = b; outbox = o; doing = doing })
-          (record { play = a; outbox = owed_after_act (AtLink t) l (outbox_after acts marks o); doing = doing })) x.record_is
-          (Then (record { play = last.between; outbox = outbox_after acts marks o; doing = doing })
-          (at_link t a (record { play = last.between; outbox = outbox_after acts marks o; doing = doing })) x.runs
+      runs = subst (λ (l : List Mark). Runs minor (record { run = b; outbox = o; doing = doing })
+          (record { run = a; outbox = owed_after_act (AtLink t) l (outbox_after acts marks o); doing = doing })) x.record_is
+          (Then (record { run = last.between; outbox = outbox_after acts marks o; doing = doing })
+          (at_link t a (record { run = last.between; outbox = outbox_after acts marks o; doing = doing })) x.runs
           (turn_step minor doing t (told_of acts) last.between a (outbox_after acts marks o) busy take may last.turn));
       record_is = turn_record last.between a t last.turn ∙ ap (with_told t) x.record_is;
     }
@@ -297,7 +295,7 @@ spent_still true gives told over paid ended = paid
 spent_still false true true true paid ended = refl
 spent_still false true false true paid ended = refl
 spent_still false false told true paid ended = refl
-spent_still false gives told false paid ended = absurd (no_true (sym ended))
+spent_still false gives told false paid ended = absurd (true_not_false (sym ended))
 
 to_end_rightly : (b a : RunState) → ComesToEnd b a → (a.starved ≡ true) ⊎ IsSpent a
 to_end_rightly b a (IsRunOut _ far spent) = inr spent
@@ -319,8 +317,8 @@ complained_spent about b over (inr spent) =
     inr (record { events = spent.events; paid = spent_still b.owed (gives_up (ruling_at about b.scene)) b.told b.over spent.paid over })
 
 turn_ends_rightly : (b a : RunState) (told : Told) → Turn b told a → IsEndedRightly b → IsEndedRightly a
-turn_ends_rightly b _ _ (link.Takes message a far) h = record { why = λ over. absurd (no_true (sym over ∙ came_live b a message far)) }
-turn_ends_rightly b _ _ (link.TakesOwed live owed first) h = record { why = λ over. absurd (no_true (sym over ∙ live)) }
+turn_ends_rightly b _ _ (link.Takes message a far) h = record { why = λ over. absurd (true_not_false (sym over ∙ came_live b a message far)) }
+turn_ends_rightly b _ _ (link.TakesOwed live owed first) h = record { why = λ over. absurd (true_not_false (sym over ∙ live)) }
 turn_ends_rightly b _ _ (link.TakesEnd a live ends) h = record { why = λ over. ended_spent a (to_end_rightly b a ends) }
 turn_ends_rightly b _ _ (link.Posts to r result d unended lines) h = record { why = λ over. posted_spent to r (is_ok result) d b (h.why over) }
 turn_ends_rightly b _ _ (link.Complains about) h = record { why = λ over. complained_spent about b over (h.why over) }

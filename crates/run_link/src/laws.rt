@@ -2,7 +2,8 @@
 
 ghost use Rattle.run_link.specs.Moments.{RunsEndNeeding};
 ghost use Rattle.run_link.specs.Waiting.{ServersHandNone, AsidesHandNone, OneIsHandedOut, ItIsAnswered};
-ghost use Rattle.run_link.specs.Laws.{RepliesAreTrue, MediaAreHeld, ServersLeadOn, AsidesLeadOn, CallsLeadOn, AnswersLeadOn, ServersTellTruly, AsidesTellTruly, ServersEndRightly};
+ghost use Rattle.run_link.specs.Laws.{RepliesAreTrue, MediaAreHeld, ServersLeadOn, AsidesLeadOn, CallsLeadOn, AnswersLeadOn};
+ghost use Rattle.run_link.specs.Laws.{ServersTellTruly, AsidesTellTruly, ServersEndRightly};
 
 /// In each record of which the guarantee holds the replies are true.
 #[tactic(auto, using(crate::proofs::Guarantee::replies_true))]

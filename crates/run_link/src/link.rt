@@ -21,8 +21,8 @@ impl<'a, D: LocalDriver> RunLink<'a, D> {
     ghost use Rattle.driver_events.specs.Kept.{with_next};
     ghost use Rattle.run_link.specs.StateView.{run_of, RunsEvent, Advances, ComesToEnd, RunTruth, GoesOn, left_of};
 
-    /// Occurs the next event: what message it brings, if any.
-    pub fn play(&mut self) -> Option<Incoming>
+    /// Runs the next event: what message it brings, if any.
+    pub fn run(&mut self) -> Option<Incoming>
         requires left { self.old.next < length self.old.events.now }
         requires live { self.old.log.over ≡ false }
         requires paid { self.old.owed ≡ false }
@@ -38,11 +38,11 @@ impl<'a, D: LocalDriver> RunLink<'a, D> {
         self.next += 1;
         self.log.note(Entry::Begun(event));
         wait(&mut self.queue, &event);
-        self.stage.play(self.alloc, &mut self.log, place, &event)
+        self.stage.run(self.alloc, &mut self.log, place, &event)
     }
 
     #[tactic(auto, using(crate::proofs::MovingLaws::advanced, crate::proofs::MovingLaws::advanced_more))]
-    /// Occurs events until one brings a message; none, if each was run or no memory was found.
+    /// Runs events until one brings a message; none, if each was run or no memory was found.
     fn advance(&mut self) -> Option<Incoming>
         requires live { self.old.log.over ≡ false }
         requires paid { self.old.owed ≡ false }
@@ -56,7 +56,7 @@ impl<'a, D: LocalDriver> RunLink<'a, D> {
         ensures over { self.new.log.over ≡ false }
     {
         while self.next < self.events.len() {
-            if let Some(message) = self.play() {
+            if let Some(message) = self.run() {
                 return Some(message);
             }
             if !make_room(&mut self.stage, &mut self.log, &mut self.queue, self.alloc) {

@@ -2,6 +2,7 @@
 use Rattle.std.proofs.Common.{◌≡◌, ◌⊎◌, ◌<◌, List, [], ◌∷◌, ◌++◌, Bool, true, false, refl, sym, ◌∙◌, ap, subst, arith}
 use Rattle.std.specs.Prelude.{◌||◌, Option, Some, None, Result, Ok, Err, IfOk, OnOk, OnErr}
 use Rattle.std.specs.declared.alloc.AllocError.{AllocError}
+use Rattle.lemmas.proofs.Bools.{is_false, true_not_false}
 use Rattle.message.specs.declared.Incoming.{Incoming}
 use Rattle.tree.specs.Tree.{Tree}
 use Rattle.tree.specs.declared.Reply.{Reply}
@@ -64,14 +65,14 @@ awaits_there : (s t : Serving) (was is : Truth) (b a : RunState) (r : Result (Op
 awaits_there s t was is b a (Ok message) same asides truth = record { same = same; asides = asides; truth = truth }
 awaits_there s t was is b a (Err error) same asides truth = tt
 
-pub advanced : {Line : Type 0} (truth : Line → Truth) (play : Line → RunState) (s t : Serving) (before lent after there : Line)
-    (r : Result (Option Incoming) AllocError) → lent ≡ before → there ≡ after → SameServing s t → Asides (play lent) r (play after)
+pub advanced : {Line : Type 0} (truth : Line → Truth) (run : Line → RunState) (s t : Serving) (before lent after there : Line)
+    (r : Result (Option Incoming) AllocError) → lent ≡ before → there ≡ after → SameServing s t → Asides (run lent) r (run after)
     → ((v : Opening) (marks : List Mark) → truth lent v marks → IfOk r (λ m. truth after v (with_next m marks)))
-    → IfOk r (λ m. Awaits s t (truth before) (truth there) (play before) (play there) m)
-advanced {Line} truth play s t before lent after there r value put same asides keeps =
-    subst (λ (l : Line). IfOk r (λ m. Awaits s t (truth before) (truth l) (play before) (play l) m)) (sym put)
-    (subst (λ (l : Line). IfOk r (λ m. Awaits s t (truth l) (truth after) (play l) (play after) m)) value
-    (awaits_there s t (truth lent) (truth after) (play lent) (play after) r same asides keeps))
+    → IfOk r (λ m. Awaits s t (truth before) (truth there) (run before) (run there) m)
+advanced {Line} truth run s t before lent after there r value put same asides keeps =
+    subst (λ (l : Line). IfOk r (λ m. Awaits s t (truth before) (truth l) (run before) (run l) m)) (sym put)
+    (subst (λ (l : Line). IfOk r (λ m. Awaits s t (truth l) (truth after) (run l) (run after) m)) value
+    (awaits_there s t (truth lent) (truth after) (run lent) (run after) r same asides keeps))
 
 -- the server and what it owes, after something was done at its link
 still_serves : (s t : Serving) (was is : Truth) (v : Opening) (tree : Tree) (marks noted : List Mark) → SameServing s t → Hears s was v tree marks marks
@@ -100,7 +101,7 @@ none_came s t was is b a r none w idle left guarantees = by (subst (λ (o : Opti
       marks = marks;
       stands = still_serves s t was is v tree marks marks x.same stood (x.truth v marks stood.truth);
       runs = owing s.minor (moment s b Resting) a s.outbox t.outbox Resting (sym x.same.outbox)
-          (Then (moment s b Resting) (record { play = a; outbox = s.outbox; doing = Resting }) Starts
+          (Then (moment s b Resting) (record { run = a; outbox = s.outbox; doing = Resting }) Starts
           (quiet_step s.minor b a s.outbox x.asides idle.live (rests s was b v tree marks guarantees stood) left));
     };
   }
@@ -138,11 +139,11 @@ handed s t u was noted is b m a r message came absorbs on w idle left guarantees
                 serves = absorbs.keeps.serves (contents_at v) tree marks h.serves;
                 truth = absorbs.truth v tree marks h.minor h.serves.agrees h.truth;
               };
-              runs = runs_join s.minor (moment s b Resting) (record { play = m; outbox = owed_after_message message marks s.outbox; doing = Hearing message })
+              runs = runs_join s.minor (moment s b Resting) (record { run = m; outbox = owed_after_message message marks s.outbox; doing = Hearing message })
                   (moment u a Resting)
-                  (Then (moment s b Resting) (record { play = m; outbox = owed_after_message message marks s.outbox; doing = Hearing message }) Starts
+                  (Then (moment s b Resting) (record { run = m; outbox = owed_after_message message marks s.outbox; doing = Hearing message }) Starts
                   (subst (λ (l : List Mark). Step s.minor (moment s b Resting)
-                  (record { play = m; outbox = owed_after_message message l s.outbox; doing = Hearing message })) is_record
+                  (record { run = m; outbox = owed_after_message message l s.outbox; doing = Hearing message })) is_record
                   (aside_step s.minor b m s.outbox message x.asides idle.live (rests s was b v tree marks guarantees stood) left)))
                   (runs_at t.minor s.minor _ _ x.same.minor
                   (owing_first t.minor m (owed_after_message message marks t.outbox) (owed_after_message message marks s.outbox) (Hearing message)
@@ -202,26 +203,22 @@ noted_there : (s t : Serving) (was is : Truth) (b a : RunState) (arrived : Arriv
 noted_there s t was is b a arrived reply (Ok done) same answers truth = record { same = same; answers = answers; truth = truth }
 noted_there s t was is b a arrived reply (Err error) same answers truth = tt
 
-pub noted : {Line : Type 0} (truth : Line → Truth) (play : Line → RunState) (s t : Serving) (before lent after there : Line) (arrived : Arrived) (reply : Reply)
-    (r : Result (Unit {0}) AllocError) → lent ≡ before → there ≡ after → SameServing s t → Answers (play lent) arrived reply r (play after)
+pub noted : {Line : Type 0} (truth : Line → Truth) (run : Line → RunState) (s t : Serving) (before lent after there : Line) (arrived : Arrived) (reply : Reply)
+    (r : Result (Unit {0}) AllocError) → lent ≡ before → there ≡ after → SameServing s t → Answers (run lent) arrived reply r (run after)
     → ((v : Opening) (marks : List Mark) → truth lent v marks
     → OnOk r (truth after v (Took arrived.who arrived.now arrived.call (answer_of reply) ∷ marks)))
-    → OnOk r (Notes s t (truth before) (truth there) (play before) (play there) arrived reply)
-noted {Line} truth play s t before lent after there arrived reply r value put same answers keeps =
-    subst (λ (l : Line). OnOk r (Notes s t (truth before) (truth l) (play before) (play l) arrived reply)) (sym put)
-    (subst (λ (l : Line). OnOk r (Notes s t (truth l) (truth after) (play l) (play after) arrived reply)) value
-    (noted_there s t (truth lent) (truth after) (play lent) (play after) arrived reply r same answers keeps))
+    → OnOk r (Notes s t (truth before) (truth there) (run before) (run there) arrived reply)
+noted {Line} truth run s t before lent after there arrived reply r value put same answers keeps =
+    subst (λ (l : Line). OnOk r (Notes s t (truth before) (truth l) (run before) (run l) arrived reply)) (sym put)
+    (subst (λ (l : Line). OnOk r (Notes s t (truth l) (truth after) (run l) (run after) arrived reply)) value
+    (noted_there s t (truth lent) (truth after) (run lent) (run after) arrived reply r same answers keeps))
 
 not_cut : (answer : Answer) → ◌≡◌ (Replied answer) WasCutOff → ⊥
 not_cut answer h = cc
 
-goes_unended : (ended : Bool) → (ended ≡ true → ⊥) → ended ≡ false
-goes_unended true none = absurd (none refl)
-goes_unended false none = refl
-
 answered_ended : (s t : Serving) (was is : Truth) (arrived : Arrived) (reply : Reply)
     → CallsOver s t was is arrived.who arrived.now arrived.call (Replied (answer_of reply)) → t.ended ≡ false
-answered_ended s t was is arrived reply calls = goes_unended t.ended (λ over. not_cut (answer_of reply) (calls.keeps.cut.1 over))
+answered_ended s t was is arrived reply calls = is_false t.ended (λ over. not_cut (answer_of reply) (calls.keeps.cut.1 over))
 
 pub answered_over : (s t : Serving) (was is : Truth) (b a : RunState) (arrived : Arrived) (reply : Reply)
     → CallsOver s t was is arrived.who arrived.now arrived.call (Replied (answer_of reply)) → GoesOn b a → IsLive (Answering arrived) s b
@@ -255,7 +252,7 @@ answered s t u was is after b m a arrived reply calls on n live guarantees first
           truth = n.truth v (marks_after calls.keeps.acts marks) (calls.truth v tree marks stood.minor stood.serves.agrees stood.truth);
         };
         runs = owing s.minor (moment s b (Answering arrived)) a t.outbox u.outbox Resting (sym n.same.outbox)
-            (subst (λ (p : RunState). Runs s.minor (moment s b (Answering arrived)) (record { play = p; outbox = t.outbox; doing = Resting })) (sym n.answers)
+            (subst (λ (p : RunState). Runs s.minor (moment s b (Answering arrived)) (record { run = p; outbox = t.outbox; doing = Resting })) (sym n.answers)
             (replied s.minor (moment s b (Answering arrived)) m t.outbox arrived reply (marks_after calls.keeps.acts marks) runs.runs
             (answered_over s t was is b m arrived reply calls on live first last) runs.record_is done.at_rest));
       };
@@ -274,9 +271,6 @@ answered_to s t u was is after b m a arrived reply calls on n live first last th
       told_of_end = record { is = ap took_end (sym then ∙ n.same.told ∙ last) ∙ told.is ∙ sym same };
       calls = it_is_answered m a arrived reply n.answers (servers_hand_none (arrival_of arrived ∷ []) b m on live.calls);
     }
-
-not_over : ◌≡◌ {A = Bool} true false → ⊥
-not_over h = cc
 
 -- a call was cut
 pub cut_off : (s t : Serving) (was is : Truth) (b a : RunState) (arrived : Arrived) → CallsOver s t was is arrived.who arrived.now arrived.call WasCutOff
@@ -306,7 +300,7 @@ cut_to s t was is b a arrived calls on live first last =
       ended = ended;
       over = over_is_ended s t b a (told_of calls.keeps.acts) live.told_of_end (goes_told_of_end b a on live.told_of_end)
           (call_history s t was is b a arrived WasCutOff calls first last) calls.keeps.leads.ended (live.ended ∙ sym live.live) ∙ ended;
-      why = (servers_end_rightly b a on (record { why = λ over. absurd (not_over (sym over ∙ live.live)) })).why
+      why = (servers_end_rightly b a on (record { why = λ over. absurd (true_not_false (sym over ∙ live.live)) })).why
           (over_is_ended s t b a (told_of calls.keeps.acts) live.told_of_end (goes_told_of_end b a on live.told_of_end)
           (call_history s t was is b a arrived WasCutOff calls first last) calls.keeps.leads.ended (live.ended ∙ sym live.live) ∙ ended);
       calls = servers_hand_none (arrival_of arrived ∷ []) b a on live.calls;
@@ -328,20 +322,20 @@ hands_there s t was is b a first same hands live paid guarantees truth = record 
   };
 }
 
-pub handed_out : {Line : Type 0} (truth : Line → Truth) (play : Line → RunState) (s t : Serving) (before lent after there : Line) (first : Option Arrived)
-    → lent ≡ before → there ≡ after → SameServing s t → HandsOut (play lent) first (play after) → (play before).over ≡ false → (play before).owed ≡ false
-    → ((l : Line) → IsGuarantee (truth l) (play l)) → ((v : Opening) (marks : List Mark) → truth lent v marks → truth after v marks)
-    → RunsOn s t (truth before) (truth there) (play before) (play there) Resting (doing_of first)
-handed_out {Line} truth play s t before lent after there first value put same hands live paid guarantees keeps =
-    subst (λ (l : Line). RunsOn s t (truth before) (truth l) (play before) (play l) Resting (doing_of first)) (sym put)
-    (subst (λ (l : Line). RunsOn s t (truth l) (truth after) (play l) (play after) Resting (doing_of first)) value
-    (hands_there s t (truth lent) (truth after) (play lent) (play after) first same hands (ap (λ (l : Line). (play l).over) value ∙ live)
-    (ap (λ (l : Line). (play l).owed) value ∙ paid) (guarantees lent) keeps))
+pub handed_out : {Line : Type 0} (truth : Line → Truth) (run : Line → RunState) (s t : Serving) (before lent after there : Line) (first : Option Arrived)
+    → lent ≡ before → there ≡ after → SameServing s t → HandsOut (run lent) first (run after) → (run before).over ≡ false → (run before).owed ≡ false
+    → ((l : Line) → IsGuarantee (truth l) (run l)) → ((v : Opening) (marks : List Mark) → truth lent v marks → truth after v marks)
+    → RunsOn s t (truth before) (truth there) (run before) (run there) Resting (doing_of first)
+handed_out {Line} truth run s t before lent after there first value put same hands live paid guarantees keeps =
+    subst (λ (l : Line). RunsOn s t (truth before) (truth l) (run before) (run l) Resting (doing_of first)) (sym put)
+    (subst (λ (l : Line). RunsOn s t (truth l) (truth after) (run l) (run after) Resting (doing_of first)) value
+    (hands_there s t (truth lent) (truth after) (run lent) (run after) first same hands (ap (λ (l : Line). (run l).over) value ∙ live)
+    (ap (λ (l : Line). (run l).owed) value ∙ paid) (guarantees lent) keeps))
 
-pub hands : {Line : Type 0} (play : Line → RunState) (before lent after there : Line) (first : Option Arrived) → lent ≡ before → there ≡ after
-    → HandsOut (play lent) first (play after) → HandsOut (play before) first (play there)
-hands {Line} play before lent after there first value put h =
-    subst (λ (l : Line). HandsOut (play before) first (play l)) (sym put) (subst (λ (l : Line). HandsOut (play l) first (play after)) value h)
+pub hands : {Line : Type 0} (run : Line → RunState) (before lent after there : Line) (first : Option Arrived) → lent ≡ before → there ≡ after
+    → HandsOut (run lent) first (run after) → HandsOut (run before) first (run there)
+hands {Line} run before lent after there first value put h =
+    subst (λ (l : Line). HandsOut (run before) first (run l)) (sym put) (subst (λ (l : Line). HandsOut (run l) first (run after)) value h)
 
 -- the server answers the call that was handed out, if one was
 pub out_live : (s t : Serving) (b a : RunState) (first : Option Arrived) → SameServing s t → HandsOut b first a → IsIdle s b → IsLive (doing_of first) t a
@@ -366,16 +360,16 @@ asides_starved b _ _ (HandsNone a next) = tt
 asides_starved b _ _ (HandsOwed live owed first) = tt
 asides_starved b _ _ (HandsNothing error) = refl
 
-pub starved_aside : {Line : Type 0} (play : Line → RunState) (lent after there : Line) (r : Result (Option Incoming) AllocError) → there ≡ after
-    → Asides (play lent) r (play after) → OnErr r ((play there).starved ≡ true)
-starved_aside {Line} play lent after there r put asides =
-    subst (λ (l : Line). OnErr r ((play l).starved ≡ true)) (sym put) (asides_starved (play lent) (play after) r asides)
+pub starved_aside : {Line : Type 0} (run : Line → RunState) (lent after there : Line) (r : Result (Option Incoming) AllocError) → there ≡ after
+    → Asides (run lent) r (run after) → OnErr r ((run there).starved ≡ true)
+starved_aside {Line} run lent after there r put asides =
+    subst (λ (l : Line). OnErr r ((run l).starved ≡ true)) (sym put) (asides_starved (run lent) (run after) r asides)
 
 answers_starved : (b a : RunState) (arrived : Arrived) (reply : Reply) (r : Result (Unit {0}) AllocError) → Answers b arrived reply r a → OnErr r (a.starved ≡ true)
 answers_starved b a arrived reply (Ok done) answers = tt
 answers_starved b a arrived reply (Err error) answers = ap (λ (p : RunState). p.starved) answers
 
-pub starved_took : {Line : Type 0} (play : Line → RunState) (lent after there : Line) (arrived : Arrived) (reply : Reply) (r : Result (Unit {0}) AllocError)
-    → there ≡ after → Answers (play lent) arrived reply r (play after) → OnErr r ((play there).starved ≡ true)
-starved_took {Line} play lent after there arrived reply r put answers =
-    subst (λ (l : Line). OnErr r ((play l).starved ≡ true)) (sym put) (answers_starved (play lent) (play after) arrived reply r answers)
+pub starved_took : {Line : Type 0} (run : Line → RunState) (lent after there : Line) (arrived : Arrived) (reply : Reply) (r : Result (Unit {0}) AllocError)
+    → there ≡ after → Answers (run lent) arrived reply r (run after) → OnErr r ((run there).starved ≡ true)
+starved_took {Line} run lent after there arrived reply r put answers =
+    subst (λ (l : Line). OnErr r ((run l).starved ≡ true)) (sym put) (answers_starved (run lent) (run after) arrived reply r answers)

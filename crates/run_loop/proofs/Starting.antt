@@ -158,6 +158,6 @@ runs_all s m t was then b c a unanswered absorbs on first silent before after ou
           subst (λ (g : Geometry). RunStands g t.frames s.minor v tree (at_first b) (moment t a out.last) unanswered) absorbs.keeps.leads.geometry
           (subst (λ (n : ℕ). RunStands m.geometry t.frames n v tree (at_first b) (moment t a out.last) unanswered) absorbs.keeps.leads.minor
           (subst (λ (p : RunState). RunStands m.geometry t.frames m.minor v tree (at_first p) (moment t a out.last) unanswered) same
-          (subst (λ (o : Outbox). RunStands m.geometry t.frames m.minor v tree (record { play = c; outbox = o; doing = Resting }) (moment t a out.last) unanswered)
+          (subst (λ (o : Outbox). RunStands m.geometry t.frames m.minor v tree (record { run = c; outbox = o; doing = Resting }) (moment t a out.last) unanswered)
           none x)));
     }

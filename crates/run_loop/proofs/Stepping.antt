@@ -86,14 +86,14 @@ none_waits b a r next (inr left) = left.queue
 -- it is a step
 pub aside_step : (minor : ℕ) (b a : RunState) (o : Outbox) (message : Incoming) → Asides b (Ok (Some message)) a → b.over ≡ false → IsAtRest (record_of b) o
     → (b.owed ≡ true) ⊎ IsNext b
-    → Step minor (record { play = b; outbox = o; doing = Resting })
-    (record { play = a; outbox = owed_after_message message (record_of b) o; doing = Hearing message })
+    → Step minor (record { run = b; outbox = o; doing = Resting })
+    (record { run = a; outbox = owed_after_message message (record_of b) o; doing = Hearing message })
 aside_step minor b _ o message (HandsEvent _ a next) live rest left =
     Brings message a (record { rests = refl; live = live; at_rest = rest }) (none_waits b a (Some message) next left) next
 aside_step minor b _ o _ (HandsOwed over owed first) live rest left = Pays (record { rests = refl; live = live; at_rest = rest }) owed first
 
 pub quiet_step : (minor : ℕ) (b a : RunState) (o : Outbox) → Asides b (Ok None) a → b.over ≡ false → IsAtRest (record_of b) o → (b.owed ≡ true) ⊎ IsNext b
-    → Step minor (record { play = b; outbox = o; doing = Resting }) (record { play = a; outbox = o; doing = Resting })
+    → Step minor (record { run = b; outbox = o; doing = Resting }) (record { run = a; outbox = o; doing = Resting })
 quiet_step minor b a o (HandsNone _ next) live rest left =
     BringsNone a (record { rests = refl; live = live; at_rest = rest }) (none_waits b a None next left) next
 
@@ -104,13 +104,13 @@ asides_next b a _ (HandsNone _ next) = next.next ∙ sym (ap (λ (x : Bool). con
 asides_next b _ _ (HandsOwed live owed first) = sym (ap (λ (x : Bool). cond x b.next (b.next + 1)) owed)
 
 -- with what the server owes then
-pub owing : (minor : ℕ) (x : Moment) (p : RunState) (o q : Outbox) (doing : Doing) → o ≡ q → Runs minor x (record { play = p; outbox = o; doing = doing })
-    → Runs minor x (record { play = p; outbox = q; doing = doing })
-owing minor x p o q doing same runs = subst (λ (k : Outbox). Runs minor x (record { play = p; outbox = k; doing = doing })) same runs
+pub owing : (minor : ℕ) (x : Moment) (p : RunState) (o q : Outbox) (doing : Doing) → o ≡ q → Runs minor x (record { run = p; outbox = o; doing = doing })
+    → Runs minor x (record { run = p; outbox = q; doing = doing })
+owing minor x p o q doing same runs = subst (λ (k : Outbox). Runs minor x (record { run = p; outbox = k; doing = doing })) same runs
 
-pub owing_first : (minor : ℕ) (p : RunState) (o q : Outbox) (doing : Doing) (x : Moment) → o ≡ q → Runs minor (record { play = p; outbox = o; doing = doing }) x
-    → Runs minor (record { play = p; outbox = q; doing = doing }) x
-owing_first minor p o q doing x same runs = subst (λ (k : Outbox). Runs minor (record { play = p; outbox = k; doing = doing }) x) same runs
+pub owing_first : (minor : ℕ) (p : RunState) (o q : Outbox) (doing : Doing) (x : Moment) → o ≡ q → Runs minor (record { run = p; outbox = o; doing = doing }) x
+    → Runs minor (record { run = p; outbox = q; doing = doing }) x
+owing_first minor p o q doing x same runs = subst (λ (k : Outbox). Runs minor (record { run = p; outbox = k; doing = doing }) x) same runs
 
 -- the server is told what the link notes
 pub knows_more : (s t : Serving) (b a : RunState) (told : List Told) → s.told ≡ history_of b → t.told ≡ history_of a → t.told ≡ told ++ s.told
@@ -127,7 +127,7 @@ absorbed_history s t was is b a message absorbs first last =
 pub absorb_runs : (s t : Serving) (was is : Truth) (b a : RunState) (message : Incoming) (v : Opening) (tree : Tree) (marks : List Mark)
     → AbsorbsOver s t was is message → GoesOn b a → IsToldOfEnd b → s.told ≡ history_of b → t.told ≡ history_of a → record_of b ≡ received message marks
     → Serves s (contents_at v) tree marks
-    → Runs s.minor (record { play = b; outbox = owed_after_message message marks s.outbox; doing = Hearing message }) (moment t a Resting)
+    → Runs s.minor (record { run = b; outbox = owed_after_message message marks s.outbox; doing = Hearing message }) (moment t a Resting)
 absorb_runs s t was is b a message v tree marks absorbs on told first last noted serves =
     let rules : Rules s (absorbs.keeps.later ++ Absorbed message ∷ []) t marks = absorbs.keeps.rules (contents_at v) tree marks serves.agrees in
     let after : ActsAfter s.minor absorbs.keeps.later message marks s.outbox = acts_after s.minor absorbs.keeps.later message marks s.outbox rules.keep in
@@ -138,7 +138,7 @@ absorb_runs s t was is b a message v tree marks absorbs on told first last noted
     let same : marks_after (absorbs.keeps.later ++ Absorbed message ∷ []) marks ≡ record_of a =
     marks_after_message absorbs.keeps.later message marks ∙ sym reaches.record_is in
     Then (moment t a (Hearing message)) (moment t a Resting)
-    (owing s.minor (record { play = b; outbox = o; doing = Hearing message }) a (outbox_after absorbs.keeps.later (received message marks) o) t.outbox
+    (owing s.minor (record { run = b; outbox = o; doing = Hearing message }) a (outbox_after absorbs.keeps.later (received message marks) o) t.outbox
     (Hearing message) (sym (rules.outbox ∙ after.outbox)) reaches.runs)
     (Settles message refl (subst (λ (l : List Mark). IsAtRest l t.outbox) same (absorbs.keeps.serves (contents_at v) tree marks serves).at_rest))
 
@@ -167,12 +167,12 @@ call_runs s t was is b a call outcome v tree marks calls on told first last note
 
 -- its answer is noted
 pub replied : (minor : ℕ) (x : Moment) (p : RunState) (o : Outbox) (call : Arrived) (reply : Reply) (marks : List Mark)
-    → Runs minor x (record { play = p; outbox = o; doing = Answering call }) → p.over ≡ false → record_of p ≡ marks
+    → Runs minor x (record { run = p; outbox = o; doing = Answering call }) → p.over ≡ false → record_of p ≡ marks
     → IsAtRest (Took call.who call.now call.call (answer_of reply) ∷ marks) o
-    → Runs minor x (record { play = noting (entry.Took call.who call.now call.call reply) p; outbox = o; doing = Resting })
+    → Runs minor x (record { run = noting (entry.Took call.who call.now call.call reply) p; outbox = o; doing = Resting })
 replied minor x p o call reply marks runs live noted rest =
-    Then (record { play = p; outbox = o; doing = Answering call })
-    (record { play = noting (entry.Took call.who call.now call.call reply) p; outbox = o; doing = Resting }) runs
+    Then (record { run = p; outbox = o; doing = Answering call })
+    (record { run = noting (entry.Took call.who call.now call.call reply) p; outbox = o; doing = Resting }) runs
     (Replies call reply refl live (subst (λ (l : List Mark). IsAtRest l o) (sym noted) (record { complaint = rest.complaint; post = rest.post })))
 
 no_first : (queue : List Arrived) → ◌≡◌ {A = Option Arrived} None (slice_get queue 0) → queue ≡ []
@@ -191,10 +191,10 @@ none_left b a hands = ap (λ (p : RunState). p.queue) (same_left b a hands) ∙ 
 -- the call that is handed out, if one is
 pub hands_run : (minor : ℕ) (b a : RunState) (o : Outbox) (first : Option Arrived) → HandsOut b first a → b.over ≡ false → b.owed ≡ false
     → IsAtRest (record_of b) o
-    → Runs minor (record { play = b; outbox = o; doing = Resting }) (record { play = a; outbox = o; doing = doing_of first })
+    → Runs minor (record { run = b; outbox = o; doing = Resting }) (record { run = a; outbox = o; doing = doing_of first })
 hands_run minor b a o None hands live paid rest =
-    subst (λ (p : RunState). Runs minor (record { play = b; outbox = o; doing = Resting }) (record { play = p; outbox = o; doing = Resting }))
+    subst (λ (p : RunState). Runs minor (record { run = b; outbox = o; doing = Resting }) (record { run = p; outbox = o; doing = Resting }))
     (sym (same_left b a hands)) Starts
 hands_run minor b a o (Some call) hands live paid rest =
-    Then (record { play = b; outbox = o; doing = Resting }) (record { play = a; outbox = o; doing = Answering call }) Starts
+    Then (record { run = b; outbox = o; doing = Resting }) (record { run = a; outbox = o; doing = Answering call }) Starts
     (HandsCall call a (record { rests = refl; live = live; at_rest = rest }) paid hands)

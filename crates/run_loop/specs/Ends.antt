@@ -35,10 +35,10 @@ EndsIn (Answering call) t a = (t.ended ≡ true) × (a.over ≡ true)
 -- a run over a volume holds, each of its steps was by the rules, and at its end no complaint is owed; where the link has ended, the server needs
 -- a message, and the device isn't given up
 pub record RunStands (g : Geometry) (frames : Frames) (minor : ℕ) (v : Opening) (tree : Tree) (from to : Moment) (unanswered : ℕ) : Type 0 where
-  pub holds : RunHolds g frames v tree to.play.scene unanswered
+  pub holds : RunHolds g frames v tree to.run.scene unanswered
   pub runs : Runs minor from to
   pub calm : to.outbox.complaint ≡ None
-  pub needs : to.play.over ≡ true → Needs to
+  pub needs : to.run.over ≡ true → Needs to
 
 -- The events that were noted are the schedule, and nothing is owed. The calls that arrived in them are those that were answered, in their order,
 -- and so many that came later: the one that is being answered, if the run ends in it, and those that wait. A call is left only where the last

@@ -21,7 +21,7 @@ use Rattle.run_loop.specs.declared.course.Course.TheVariants.{More, Done, Cut}
 
 -- a moment of the run of a server that is doing this
 abbrev pub moment : Serving → RunState → Doing → Moment
-moment s p doing = record { play = p; outbox = s.outbox; doing = doing }
+moment s p doing = record { run = p; outbox = s.outbox; doing = doing }
 
 -- the call that a server is answering, if it is answering one
 abbrev pub out_in : Doing → List Arrival

@@ -26,7 +26,7 @@ pub record IsBeforeFirst (p : RunState) : Type 0 where
 
 -- the server does nothing at its link, and owes it nothing
 abbrev pub at_first : RunState → Moment
-at_first p = record { play = p; outbox = empty_outbox; doing = Resting }
+at_first p = record { run = p; outbox = empty_outbox; doing = Resting }
 
 -- A run from its start: the events that were noted are the schedule, and nothing is owed. The calls that arrived in them are those that were
 -- answered, in their order, and so many that came later: the one that is being answered, if the run ends in it, and those that wait. A call is

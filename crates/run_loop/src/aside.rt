@@ -18,7 +18,7 @@ use schedule::{Arrived, Entry};
 use std::alloc::AllocError;
 use tree::Reply;
 
-/// Occurs the next event between two calls, or tells that a complaint gave the device up, if that is owed: the message that the server
+/// Runs the next event between two calls, or tells that a complaint gave the device up, if that is owed: the message that the server
 /// is to be handed, if there is one. An error: no memory was found, and nothing was done.
 pub fn aside<D: LocalDriver>(link: &mut RunLink<'_, D>) -> Result<Option<Incoming>, AllocError>
     requires left { (link.old.owed ≡ true) ⊎ (link.old.next < length link.old.events.now) }
@@ -41,7 +41,7 @@ pub fn aside<D: LocalDriver>(link: &mut RunLink<'_, D>) -> Result<Option<Incomin
         link.log.note(Entry::Handed(Incoming::GaveUp));
         return Ok(Some(Incoming::GaveUp));
     }
-    let message = link.play();
+    let message = link.run();
     if let Some(message) = &message {
         link.log.note(Entry::Handed(*message));
     }

@@ -1,6 +1,4 @@
 //! A file server over drivers that a schedule moves: events are run and calls answered, until the schedule's end.
-//!
-//! A link that a schedule moves, as whoever runs the schedule sees it: what is done at it between two calls.
 #![tactic(auto)]
 
 pub mod aside;

@@ -20,16 +20,16 @@ use tree::Reply;
 /// A link that a schedule moves, as contracts see it: `run` is the run as it stands, with its schedule, the calls that wait, and what was
 /// noted.
 pub trait Ran: Link {
-    ghost play: { Self → RunState };
+    ghost run: { Self → RunState };
 
     // what was told to the link and what it gave is what was noted
-    ghost tells: { (l : Self) → Self.Link.history l ≡ (play l).scene.noted.history };
+    ghost tells: { (l : Self) → Self.Link.history l ≡ (run l).scene.noted.history };
 
     // what goes on in the link is what a server does at it
-    ghost goes: { (a b : Self) → Self.Link.goes_on a b → GoesOn (play a) (play b) };
+    ghost goes: { (a b : Self) → Self.Link.goes_on a b → GoesOn (run a) (run b) };
 
     // its guarantee is that of the run
-    ghost guarantees: { (l : Self) (v : Opening) (marks : List Mark) → Self.Link.truth l v marks → RunTruth v (play l).scene marks };
+    ghost guarantees: { (l : Self) (v : Opening) (marks : List Mark) → Self.Link.truth l v marks → RunTruth v (run l).scene marks };
 }
 
 /// A call that arrived, whatever it borrows from.
@@ -49,23 +49,23 @@ pub trait WorldLink: Ran + Drop {
 
     /// Whether a complaint gave the device up, which wasn't told yet.
     fn owes(&self) -> bool
-        ensures { result ≡ (Self.Ran.play self.now).owed };
+        ensures { result ≡ (Self.Ran.run self.now).owed };
 
     /// Whether an event is left.
     fn has_event(&self) -> bool
-        ensures { (result ≡ true) ↔ ((Self.Ran.play self.now).next < length (Self.Ran.play self.now).events) };
+        ensures { (result ≡ true) ↔ ((Self.Ran.run self.now).next < length (Self.Ran.run self.now).events) };
 
     /// How many calls wait.
     fn waiting(&self) -> u64
-        ensures { result ≡ length (Self.Ran.play self.now).queue };
+        ensures { result ≡ length (Self.Ran.run self.now).queue };
 
-    /// Occurs the next event between two calls, or tells that a complaint gave the device up, if that is owed: the message that the server
+    /// Runs the next event between two calls, or tells that a complaint gave the device up, if that is owed: the message that the server
     /// is to be handed, if there is one. An error: no memory was found, and nothing was done.
     fn aside(&mut self) -> Result<Option<Incoming>, AllocError>
-        requires left { ((Self.Ran.play self.old).owed ≡ true)
-            ⊎ ((Self.Ran.play self.old).next < length (Self.Ran.play self.old).events) }
-        requires live { (Self.Ran.play self.old).over ≡ false }
-        ensures asides { Asides (Self.Ran.play self.old) result (Self.Ran.play self.new) }
+        requires left { ((Self.Ran.run self.old).owed ≡ true)
+            ⊎ ((Self.Ran.run self.old).next < length (Self.Ran.run self.old).events) }
+        requires live { (Self.Ran.run self.old).over ≡ false }
+        ensures asides { Asides (Self.Ran.run self.old) result (Self.Ran.run self.new) }
         ensures history { Self.Link.history self.new ≡ Self.Link.history self.old }
         ensures truth { (v : Opening) (marks : List Mark) → Self.Link.truth self.old v marks
             → IfOk result (λ m. Self.Link.truth self.new v (with_next m marks)) }
@@ -74,7 +74,7 @@ pub trait WorldLink: Ran + Drop {
 
     /// The call that arrived first of those that wait, which waits no more; none where none waits.
     fn next_call(&mut self) -> Option<Self::Waiting>
-        ensures hands { HandsOut (Self.Ran.play self.old) (option_map Self.Waiting.Arrival.arrived result) (Self.Ran.play self.new) }
+        ensures hands { HandsOut (Self.Ran.run self.old) (option_map Self.Waiting.Arrival.arrived result) (Self.Ran.run self.new) }
         ensures history { Self.Link.history self.new ≡ Self.Link.history self.old }
         ensures truth { (v : Opening) (marks : List Mark) → Self.Link.truth self.old v marks → Self.Link.truth self.new v marks }
         ensures room { Self.Link.room self.old ≤ Self.Link.room self.new }
@@ -82,9 +82,9 @@ pub trait WorldLink: Ran + Drop {
 
     /// A call was answered. An error: no memory was found, and nothing was noted.
     fn took(&mut self, arrived: Self::Waiting, reply: Reply) -> Result<(), AllocError>
-        requires { (Self.Ran.play self.old).over ≡ false }
-        ensures answers { Answers (Self.Ran.play self.old) (Self.Waiting.Arrival.arrived arrived) reply result
-            (Self.Ran.play self.new) }
+        requires { (Self.Ran.run self.old).over ≡ false }
+        ensures answers { Answers (Self.Ran.run self.old) (Self.Waiting.Arrival.arrived arrived) reply result
+            (Self.Ran.run self.new) }
         ensures history { Self.Link.history self.new ≡ Self.Link.history self.old }
         ensures truth { (v : Opening) (marks : List Mark) → Self.Link.truth self.old v marks
             → let call = Self.Waiting.Arrival.arrived arrived in OnOk result (Self.Link.truth self.new v
@@ -97,7 +97,7 @@ impl<'a, D: LocalDriver> Ran for RunLink<'a, D> {
     ghost use Rattle.run_link.specs.StateView.{run_of};
     ghost use Rattle.std.specs.Prelude.{refl};
 
-    ghost play = { λ l. run_of D.state l };
+    ghost run = { λ l. run_of D.state l };
 
     ghost tells = { λ l. refl };
 

@@ -22,15 +22,15 @@ const FIRST: Endpoint = Endpoint {
 /// the schedule out; how many calls of those that arrived have no answer. An error: no memory was found.
 pub fn run_all<L: WorldLink, S: FileServer<L>>(server: &mut S) -> Result<u64, AllocError>
     requires ready { S.is_ready server.old }
-    requires few { S.absorbed server.old + work_left (L.Ran.play (S.line server.old)) + 1 < 2 ^ 48 }
+    requires few { S.absorbed server.old + work_left (L.Ran.run (S.line server.old)) + 1 < 2 ^ 48 }
     requires room { 33 ≤ L.Link.room (S.line server.old) }
     requires knows { (call : Call) → S.knows call }
     requires live { (S.Serve.serving server.old).ended ≡ false }
     requires idle { S.is_idle server.old }
-    requires first { IsBeforeFirst (L.Ran.play (S.line server.old)) }
+    requires first { IsBeforeFirst (L.Ran.run (S.line server.old)) }
     ensures plays { IfOk result (λ unanswered. RunsAll (S.Serve.serving server.old) (S.Serve.serving server.new)
-        (L.Link.truth (S.line server.old)) (L.Ran.play (S.line server.old)) (L.Ran.play (S.line server.new)) unanswered) }
-    ensures starved { OnErr result ((L.Ran.play (S.line server.new)).starved ≡ true) }
+        (L.Link.truth (S.line server.old)) (L.Ran.run (S.line server.old)) (L.Ran.run (S.line server.new)) unanswered) }
+    ensures starved { OnErr result ((L.Ran.run (S.line server.new)).starved ≡ true) }
 {
     server.absorb(Incoming::Started(FIRST));
     let unanswered = run_out(server)?;

@@ -1,11 +1,13 @@
 //! Turns between two calls, until nothing is left to do or a call is cut.
 
-ghost use Rattle.std.specs.Prelude.{◌≡◌, ◌⊎◌, ◌≤◌, ◌<◌, ◌+◌, ◌^◌, length, if◌then◌else◌, IfOk, IfSome, OnOk, OnErr, None, option_map, true, false};
+ghost use Rattle.std.specs.Prelude.{◌≡◌, ◌⊎◌, ◌≤◌, ◌<◌, ◌+◌, ◌^◌, length, if◌then◌else◌, IfOk, IfSome, OnOk, OnErr, None, option_map, true};
+ghost use Rattle.std.specs.Prelude.{false};
 ghost use Rattle.run_link.specs.StateView.{work_left, HandsOut, IsSpent};
 ghost use Rattle.run_link.specs.Moments.{Resting, Answering};
 ghost use Rattle.tree.specs.declared.Call.{Call};
 ghost use Rattle.run_link.specs.Laws.{IsSound};
-ghost use Rattle.run_loop.specs.Runs.{RunsOn, Awaits, Notes, IsLive, IsIdle, IsNext, RunsOne, AnswersTo, ComesTo, EndsAs, doing_of, doing_after};
+ghost use Rattle.run_loop.specs.Runs.{RunsOn, Awaits, Notes, IsLive, IsIdle, IsNext, RunsOne, AnswersTo, ComesTo, EndsAs, doing_of};
+ghost use Rattle.run_loop.specs.Runs.{doing_after};
 ghost use Rattle.run_loop.specs.Ends.{RunsOut};
 
 use crate::course::Course;
@@ -17,17 +19,17 @@ use tree::{Outcome, Reply};
 
 /// The next event is run at the link of a server, or what is owed is told.
 fn advance<L: WorldLink, S: FileServer<L>>(server: &mut S) -> Result<Option<Incoming>, AllocError>
-    requires left { ((L.Ran.play (S.line server.old)).owed ≡ true)
-        ⊎ ((L.Ran.play (S.line server.old)).next < length (L.Ran.play (S.line server.old)).events) }
-    requires live { (L.Ran.play (S.line server.old)).over ≡ false }
+    requires left { ((L.Ran.run (S.line server.old)).owed ≡ true)
+        ⊎ ((L.Ran.run (S.line server.old)).next < length (L.Ran.run (S.line server.old)).events) }
+    requires live { (L.Ran.run (S.line server.old)).over ≡ false }
     requires ready { S.is_ready server.old }
     ensures awaits { IfOk result (λ m. Awaits (S.Serve.serving server.old) (S.Serve.serving server.new)
-        (L.Link.truth (S.line server.old)) (L.Link.truth (S.line server.new)) (L.Ran.play (S.line server.old))
-        (L.Ran.play (S.line server.new)) m) }
+        (L.Link.truth (S.line server.old)) (L.Link.truth (S.line server.new)) (L.Ran.run (S.line server.old))
+        (L.Ran.run (S.line server.new)) m) }
     ensures ready { OnOk result (S.is_ready server.new) }
     ensures room { OnOk result (33 ≤ L.Link.room (S.line server.new)) }
     ensures absorbed { S.absorbed server.new ≡ S.absorbed server.old }
-    ensures starved { OnErr result ((L.Ran.play (S.line server.new)).starved ≡ true) }
+    ensures starved { OnErr result ((L.Ran.run (S.line server.new)).starved ≡ true) }
 {
     server.link_mut().aside()
 }
@@ -35,18 +37,18 @@ fn advance<L: WorldLink, S: FileServer<L>>(server: &mut S) -> Result<Option<Inco
 /// The next event between two calls is run, or what is owed is told, and the server is handed the message that came. An error: no memory
 /// was found.
 pub fn run_event<L: WorldLink, S: FileServer<L>>(server: &mut S) -> Result<(), AllocError>
-    requires left { ((L.Ran.play (S.line server.old)).owed ≡ true) ⊎ IsNext (L.Ran.play (S.line server.old)) }
-    requires idle { IsIdle (S.Serve.serving server.old) (L.Ran.play (S.line server.old)) }
+    requires left { ((L.Ran.run (S.line server.old)).owed ≡ true) ⊎ IsNext (L.Ran.run (S.line server.old)) }
+    requires idle { IsIdle (S.Serve.serving server.old) (L.Ran.run (S.line server.old)) }
     requires ready { S.is_ready server.old }
     requires few { S.absorbed server.old < 2 ^ 48 }
     ensures ready { OnOk result (S.is_ready server.new) }
     ensures runs { OnOk result (RunsOn (S.Serve.serving server.old) (S.Serve.serving server.new)
-        (L.Link.truth (S.line server.old)) (L.Link.truth (S.line server.new)) (L.Ran.play (S.line server.old))
-        (L.Ran.play (S.line server.new)) Resting Resting) }
-    ensures idle { OnOk result (IsIdle (S.Serve.serving server.new) (L.Ran.play (S.line server.new))) }
-    ensures one { OnOk result (RunsOne (L.Ran.play (S.line server.old)) (L.Ran.play (S.line server.new))) }
+        (L.Link.truth (S.line server.old)) (L.Link.truth (S.line server.new)) (L.Ran.run (S.line server.old))
+        (L.Ran.run (S.line server.new)) Resting Resting) }
+    ensures idle { OnOk result (IsIdle (S.Serve.serving server.new) (L.Ran.run (S.line server.new))) }
+    ensures one { OnOk result (RunsOne (L.Ran.run (S.line server.old)) (L.Ran.run (S.line server.new))) }
     ensures absorbed { OnOk result (S.absorbed server.new ≤ S.absorbed server.old + 1) }
-    ensures starved { OnErr result ((L.Ran.play (S.line server.new)).starved ≡ true) }
+    ensures starved { OnErr result ((L.Ran.run (S.line server.new)).starved ≡ true) }
 {
     if let Some(message) = advance(server)? {
         server.absorb(message);
@@ -61,13 +63,13 @@ fn note_answer<L: WorldLink, S: FileServer<L>>(
     reply: Reply,
 ) -> Result<(), AllocError>
     requires ready { S.is_ready server.old }
-    requires live { (L.Ran.play (S.line server.old)).over ≡ false }
+    requires live { (L.Ran.run (S.line server.old)).over ≡ false }
     ensures ready { OnOk result (S.is_ready server.new) }
     ensures noted { OnOk result (Notes (S.Serve.serving server.old) (S.Serve.serving server.new)
-        (L.Link.truth (S.line server.old)) (L.Link.truth (S.line server.new)) (L.Ran.play (S.line server.old))
-        (L.Ran.play (S.line server.new)) (L.Waiting.Arrival.arrived arrived) reply) }
+        (L.Link.truth (S.line server.old)) (L.Link.truth (S.line server.new)) (L.Ran.run (S.line server.old))
+        (L.Ran.run (S.line server.new)) (L.Waiting.Arrival.arrived arrived) reply) }
     ensures absorbed { S.absorbed server.new ≡ S.absorbed server.old }
-    ensures starved { OnErr result ((L.Ran.play (S.line server.new)).starved ≡ true) }
+    ensures starved { OnErr result ((L.Ran.run (S.line server.new)).starved ≡ true) }
 {
     server.link_mut().took(arrived, reply)
 }
@@ -80,16 +82,16 @@ pub fn answer<L: WorldLink, S: FileServer<L>>(
     requires ready { S.is_ready server.old }
     requires knows { S.knows (L.Waiting.Arrival.arrived arrived).call }
     requires handed { IsLive (Answering (L.Waiting.Arrival.arrived arrived)) (S.Serve.serving server.old)
-        (L.Ran.play (S.line server.old)) }
+        (L.Ran.run (S.line server.old)) }
     ensures ready { OnOk result (S.is_ready server.new) }
     ensures runs { IfOk result (λ c. RunsOn (S.Serve.serving server.old) (S.Serve.serving server.new)
-        (L.Link.truth (S.line server.old)) (L.Link.truth (S.line server.new)) (L.Ran.play (S.line server.old))
-        (L.Ran.play (S.line server.new)) (Answering (L.Waiting.Arrival.arrived arrived))
+        (L.Link.truth (S.line server.old)) (L.Link.truth (S.line server.new)) (L.Ran.run (S.line server.old))
+        (L.Ran.run (S.line server.new)) (Answering (L.Waiting.Arrival.arrived arrived))
         (doing_after c (L.Waiting.Arrival.arrived arrived))) }
     ensures course { IfOk result (λ c. AnswersTo c (L.Waiting.Arrival.arrived arrived) (S.Serve.serving server.new)
-        (L.Ran.play (S.line server.new))) }
+        (L.Ran.run (S.line server.new))) }
     ensures absorbed { OnOk result (S.absorbed server.new ≡ S.absorbed server.old) }
-    ensures starved { OnErr result ((L.Ran.play (S.line server.new)).starved ≡ true) }
+    ensures starved { OnErr result ((L.Ran.run (S.line server.new)).starved ≡ true) }
 {
     let asked = arrived.as_arrived();
     match server.call(asked.who, asked.now, &asked.call) {
@@ -104,16 +106,16 @@ pub fn answer<L: WorldLink, S: FileServer<L>>(
 /// The call that arrived first of those that wait, if one does, where nothing is owed.
 fn next_call<L: WorldLink, S: FileServer<L>>(server: &mut S) -> Option<L::Waiting>
     requires ready { S.is_ready server.old }
-    requires idle { IsIdle (S.Serve.serving server.old) (L.Ran.play (S.line server.old)) }
-    requires paid { (L.Ran.play (S.line server.old)).owed ≡ false }
+    requires idle { IsIdle (S.Serve.serving server.old) (L.Ran.run (S.line server.old)) }
+    requires paid { (L.Ran.run (S.line server.old)).owed ≡ false }
     ensures ready { S.is_ready server.new }
     ensures runs { RunsOn (S.Serve.serving server.old) (S.Serve.serving server.new)
-        (L.Link.truth (S.line server.old)) (L.Link.truth (S.line server.new)) (L.Ran.play (S.line server.old))
-        (L.Ran.play (S.line server.new)) Resting (doing_of (option_map L.Waiting.Arrival.arrived result)) }
-    ensures hands { HandsOut (L.Ran.play (S.line server.old)) (option_map L.Waiting.Arrival.arrived result)
-        (L.Ran.play (S.line server.new)) }
+        (L.Link.truth (S.line server.old)) (L.Link.truth (S.line server.new)) (L.Ran.run (S.line server.old))
+        (L.Ran.run (S.line server.new)) Resting (doing_of (option_map L.Waiting.Arrival.arrived result)) }
+    ensures hands { HandsOut (L.Ran.run (S.line server.old)) (option_map L.Waiting.Arrival.arrived result)
+        (L.Ran.run (S.line server.new)) }
     ensures live { IsLive (doing_of (option_map L.Waiting.Arrival.arrived result)) (S.Serve.serving server.new)
-        (L.Ran.play (S.line server.new)) }
+        (L.Ran.run (S.line server.new)) }
     ensures absorbed { S.absorbed server.new ≡ S.absorbed server.old }
 {
     server.link_mut().next_call()
@@ -124,13 +126,13 @@ fn turn<L: WorldLink, S: FileServer<L>>(server: &mut S) -> Result<Course, AllocE
     requires ready { S.is_ready server.old }
     requires few { S.absorbed server.old < 2 ^ 48 }
     requires knows { (call : Call) → S.knows call }
-    requires idle { IsIdle (S.Serve.serving server.old) (L.Ran.play (S.line server.old)) }
+    requires idle { IsIdle (S.Serve.serving server.old) (L.Ran.run (S.line server.old)) }
     ensures ready { OnOk result (S.is_ready server.new) }
     ensures course { IfOk result (λ c. ComesTo c (S.Serve.serving server.old) (S.Serve.serving server.new)
-        (L.Link.truth (S.line server.old)) (L.Link.truth (S.line server.new)) (L.Ran.play (S.line server.old))
-        (L.Ran.play (S.line server.new))) }
+        (L.Link.truth (S.line server.old)) (L.Link.truth (S.line server.new)) (L.Ran.run (S.line server.old))
+        (L.Ran.run (S.line server.new))) }
     ensures absorbed { OnOk result (S.absorbed server.new ≤ S.absorbed server.old + 1) }
-    ensures starved { OnErr result ((L.Ran.play (S.line server.new)).starved ≡ true) }
+    ensures starved { OnErr result ((L.Ran.run (S.line server.new)).starved ≡ true) }
 {
     if server.link().owes() {
         run_event(server)?;
@@ -151,13 +153,13 @@ fn turn<L: WorldLink, S: FileServer<L>>(server: &mut S) -> Result<Course, AllocE
 /// whether a call was cut. An error: no memory was found.
 pub fn turns<L: WorldLink, S: FileServer<L>>(server: &mut S) -> Result<bool, AllocError>
     requires ready { S.is_ready server.old }
-    requires few { S.absorbed server.old + work_left (L.Ran.play (S.line server.old)) < 2 ^ 48 }
+    requires few { S.absorbed server.old + work_left (L.Ran.run (S.line server.old)) < 2 ^ 48 }
     requires knows { (call : Call) → S.knows call }
-    requires idle { IsIdle (S.Serve.serving server.old) (L.Ran.play (S.line server.old)) }
+    requires idle { IsIdle (S.Serve.serving server.old) (L.Ran.run (S.line server.old)) }
     ensures ends { IfOk result (λ cut. EndsAs cut (S.Serve.serving server.old) (S.Serve.serving server.new)
-        (L.Link.truth (S.line server.old)) (L.Link.truth (S.line server.new)) (L.Ran.play (S.line server.old))
-        (L.Ran.play (S.line server.new))) }
-    ensures starved { OnErr result ((L.Ran.play (S.line server.new)).starved ≡ true) }
+        (L.Link.truth (S.line server.old)) (L.Link.truth (S.line server.new)) (L.Ran.run (S.line server.old))
+        (L.Ran.run (S.line server.new))) }
+    ensures starved { OnErr result ((L.Ran.run (S.line server.new)).starved ≡ true) }
 {
     loop {
         match turn(server)? {
@@ -170,9 +172,9 @@ pub fn turns<L: WorldLink, S: FileServer<L>>(server: &mut S) -> Result<bool, All
 
 /// How many calls wait, where each event was run and nothing is owed.
 fn left_waiting<L: WorldLink, S: FileServer<L>>(server: &S) -> Option<u64>
-    ensures spent { IfSome result (λ n. IsSpent (L.Ran.play (S.line server.now))) }
-    ensures waiting { IfSome result (λ n. n ≡ length (L.Ran.play (S.line server.now)).queue) }
-    ensures none { result ≡ None → IsSpent (L.Ran.play (S.line server.now)) → ⊥ }
+    ensures spent { IfSome result (λ n. IsSpent (L.Ran.run (S.line server.now))) }
+    ensures waiting { IfSome result (λ n. n ≡ length (L.Ran.run (S.line server.now)).queue) }
+    ensures none { result ≡ None → IsSpent (L.Ran.run (S.line server.now)) → ⊥ }
 {
     let link = server.link();
     if link.has_event() {
@@ -192,20 +194,20 @@ fn unanswered_calls(cut: bool, waiting: u64) -> u64
     if cut { waiting + 1 } else { waiting }
 }
 
-/// Occurs a run out, from before its first event: how many calls of those that arrived have no answer. An error: no memory was found.
+/// Runs a schedule out, from before its first event: how many calls of those that arrived have no answer. An error: no memory was found.
 ///
 /// Each event is run, in its order, and each call that arrives is begun, in its order, once the one before it was answered and what was
 /// owed was told, before the next event; the last one may be cut, where the link has ended. Then the replies are those of the file tree,
 /// and the media hold what the record says.
 pub fn run_out<L: WorldLink, S: FileServer<L>>(server: &mut S) -> Result<u64, AllocError>
     requires ready { S.is_ready server.old }
-    requires few { S.absorbed server.old + work_left (L.Ran.play (S.line server.old)) < 2 ^ 48 }
+    requires few { S.absorbed server.old + work_left (L.Ran.run (S.line server.old)) < 2 ^ 48 }
     requires knows { (call : Call) → S.knows call }
-    requires idle { IsIdle (S.Serve.serving server.old) (L.Ran.play (S.line server.old)) }
-    requires sound { IsSound (L.Ran.play (S.line server.old)) }
+    requires idle { IsIdle (S.Serve.serving server.old) (L.Ran.run (S.line server.old)) }
+    requires sound { IsSound (L.Ran.run (S.line server.old)) }
     ensures out { IfOk result (λ unanswered. RunsOut (S.Serve.serving server.old) (S.Serve.serving server.new)
-        (L.Link.truth (S.line server.old)) (L.Ran.play (S.line server.old)) (L.Ran.play (S.line server.new)) unanswered) }
-    ensures starved { OnErr result ((L.Ran.play (S.line server.new)).starved ≡ true) }
+        (L.Link.truth (S.line server.old)) (L.Ran.run (S.line server.old)) (L.Ran.run (S.line server.new)) unanswered) }
+    ensures starved { OnErr result ((L.Ran.run (S.line server.new)).starved ≡ true) }
 {
     let cut = turns(server)?;
     let Some(waiting) = left_waiting(server) else {

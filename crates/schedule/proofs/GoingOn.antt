@@ -4,6 +4,7 @@ use Rattle.std.proofs.Common.{ap, arith, inl, inr, subst, sym, ◌∙◌}
 use Rattle.std.proofs.lemmas.Bool.Decides.{nat_tests}
 use Rattle.std.proofs.lemmas.List.{length-drop, length-map, length-reverse, reverse-append}
 use Rattle.std.proofs.lemmas.Option.{slice_get_within}
+use Rattle.lemmas.proofs.Bools.{and_or_neither}
 use Rattle.bdev.specs.DriverState.{DriverState}
 use Rattle.reincarnate.specs.declared.policy.Policy.{Policy}
 use Rattle.records.specs.Marks.{Mark}
@@ -159,20 +160,12 @@ first_groups-next n g groups within =
     let e : length (g ∷ groups) - n ≡ suc (length groups - n) = omega (arith, within) in
     ap (λ k. drop k (g ∷ groups)) e
 
--- two tests of which one fails, or a third that fails
-neither : (a b r : Bool) → b ≡ false → r ≡ false → ((a && b) || r) ≡ false
-neither a true r none rest = cc
-neither true false true none rest = cc
-neither true false false none rest = refl
-neither false false true none rest = cc
-neither false false false none rest = refl
-
 -- none of the later replies is sent at an earlier event
 has_sent_at-later : (g place n : ℕ) (more : List Sent) → place < n → AreLater n more → has_sent_at g place more ≡ false
 has_sent_at-later g place n [] before later = refl
 has_sent_at-later g place n (s ∷ more) before later =
     let other : (s.place == place) ≡ false = grind (arith, nat_tests, before, later.0) in
-    neither (s.reply.from.generation == g) (s.place == place) (has_sent_at g place more) other (has_sent_at-later g place n more before later.1)
+    and_or_neither (s.reply.from.generation == g) (s.place == place) (has_sent_at g place more) other (has_sent_at-later g place n more before later.1)
 
 -- so there they are those that were sent so far
 has_sent_at-append : (g place n : ℕ) (sent more : List Sent) → place < n → AreLater n more → has_sent_at g place (sent ++ more) ≡ has_sent_at g place sent

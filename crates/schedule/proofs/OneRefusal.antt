@@ -1,6 +1,7 @@
 -- A run is refused for one reason alone.
 use Rattle.std.specs.Prelude.{◌≡◌, Option, Some, None, Result, Ok, Err, refl}
 use Rattle.std.proofs.Common.{ap, sym, subst, ◌∙◌}
+use Rattle.lemmas.proofs.Options.{ok_same}
 use Rattle.volume.specs.declared.Finding.{Finding}
 use Rattle.volume.specs.Verdict.{Verdict, Clean, Found}
 use Rattle.records.specs.Opening.{Range}
@@ -19,10 +20,6 @@ ok_or_err h k = cc
 pub same_err : {A E : Type 0} {x y : E} → ◌≡◌ {A = Result A E} (Err x) (Err y) → x ≡ y
 same_err e = cc
 
--- the same value is there
-same_ok : {A E : Type 0} {x y : A} → ◌≡◌ {A = Result A E} (Ok x) (Ok y) → x ≡ y
-same_ok e = cc
-
 -- a verdict isn't both
 found_or_clean : {v : Verdict} {f : Finding} → v ≡ Found f → v ≡ Clean → ⊥
 found_or_clean e f = cc
@@ -37,7 +34,7 @@ same_finding e = cc
 
 -- the volume lies in one range
 same_range : (start : Start) (a b : Range) → HasVolume start a → HasVolume start b → a ≡ b
-same_range start a b at_a at_b = same_ok (sym at_a.range_is ∙ at_b.range_is)
+same_range start a b at_a at_b = ok_same (sym at_a.range_is ∙ at_b.range_is)
 
 -- so the setup is good for one where it is for the other
 same_setup : (start : Start) (a b : Range) → HasVolume start a → HasVolume start b → IsGoodSetup start.setup a start.drivers → IsGoodSetup start.setup b start.drivers

@@ -1,18 +1,14 @@
-//! Schedules: the events that a run of the server and its drivers runs, and what a run over them must show.
+//! Schedules: the events that a run of the server and its drivers goes through, and what a run over them must show.
 //!
-//! A run starts driver 1 at tick 0, opens the server, and runs the events one by one; a call runs events itself while it
-//! waits. A driver is live from its start until it dies or fails; a post to one that isn't is refused, and so is one to a line
-//! that holds 32. A start is taken by the server at once, and so is giving up, but for one that a complaint caused: that is
-//! taken by the call's next take, or right after the call or the message, always before the next event. After the last event nothing comes
-//! any more. An event that names nothing has no effect. The server finishes a call or issues a request only where it was handed
-//! something: a call, a flush, a reply, a start, or giving up.
+//! A run starts driver 1 at tick 0, opens the server, and runs the events one by one; a call runs events itself while it waits. A driver
+//! is live from its start until it dies or fails; a post to one that isn't is refused, and so is one to a line that holds 32. A start is
+//! taken by the server at once, and so is giving up, but for one that a complaint caused: that is taken by the call's next take, or right
+//! after the call or the message, always before the next event. After the last event nothing comes any more. An event that names nothing
+//! has no effect. The server finishes a call or issues a request only where it was handed something: a call, a flush, a reply, a start,
+//! or giving up.
 //!
-//! What a run of the server over a schedule notes, and the marks of its record.
-//!
-//! Everything that the server's link was told and gave is noted in one list, with the events, their faults and the calls that were
-//! answered: what the link's history is, and which marks each event led to, are read off it.
-//!
-//! The calls that a schedule brings and that weren't begun: each waits behind those that arrived before it.
+//! All that the server's link was told and gave is noted in one list, with the events, their faults and the calls that were answered: the
+//! link's history, and which marks each event led to, are read off it. A call that waits stands behind those that arrived before it.
 #![tactic(auto)]
 
 pub mod arrived;

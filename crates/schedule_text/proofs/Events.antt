@@ -8,6 +8,7 @@ use Rattle.schedule.specs.declared.Event.{Event}
 use Rattle.call_text.specs.Words.{words_of, lines_of}
 use Rattle.call_text.specs.Lines.{said_by_lines, has_first}
 use Rattle.std.proofs.lemmas.Bool.Decides.{nat_tests}
+use Rattle.lemmas.proofs.Lists.{front_of}
 use Rattle.call_text.proofs.Reading.{some_part, said_after, said_after-nil, said_by-end, lines_go_on, line_bad, has_first_read}
 use Rattle.schedule_text.specs.Events.{arrival_of, event_at, event_of, event_but_call, has_event, line_bytes, line_event, plain_event, schedule_in}
 use Rattle.schedule_text.specs.declared.line.Line.{Line}
@@ -36,24 +37,20 @@ bytes_more lines i d old new inside h k =
     k ∙ ap (λ b. b ++ line_bytes (get_or lines i d)) h ∙ flat_map_more line_bytes [] (take i lines) (get_or lines i d)
     ∙ ap (flat_map line_bytes) (sym (take_more lines i d inside))
 
--- a line's bytes stand at the front of what is left
-front : (rest own after : List ℕ) (n : ℕ) → rest ≡ own ++ after → n ≡ length own → (n ≤ length rest) × (take n rest ≡ own) × (drop n rest ≡ after)
-front rest own after n h k = (omega (arith, ap length h, length-append own after), rw (h, k) (take-append_seam own after), rw (h, k) (drop-append_seam own after))
-
 -- there are as many bytes left
 pub bytes_left : (lines : List Line) (i : ℕ) (d : Line) (rest : List ℕ) (n : ℕ) → i < length lines → rest ≡ flat_map line_bytes (drop i lines)
     → n ≡ length (line_bytes (get_or lines i d)) → n ≤ length rest
-bytes_left lines i d rest n inside h k = (front rest _ _ n (h ∙ bytes_split lines i d inside) k).0
+bytes_left lines i d rest n inside h k = (front_of rest _ _ n (h ∙ bytes_split lines i d inside) k).0
 
 -- the first are the line's
 pub own_bytes : (lines : List Line) (i : ℕ) (d : Line) (rest own : List ℕ) (n : ℕ) → i < length lines → rest ≡ flat_map line_bytes (drop i lines)
     → n ≡ length (line_bytes (get_or lines i d)) → own ≡ take n rest → own ≡ line_bytes (get_or lines i d)
-own_bytes lines i d rest own n inside h k is = is ∙ (front rest _ _ n (h ∙ bytes_split lines i d inside) k).1
+own_bytes lines i d rest own n inside h k is = is ∙ (front_of rest _ _ n (h ∙ bytes_split lines i d inside) k).1
 
 -- the others are the later lines'
 pub bytes_after : (lines : List Line) (i : ℕ) (d : Line) (rest after : List ℕ) (n : ℕ) → i < length lines → rest ≡ flat_map line_bytes (drop i lines)
     → n ≡ length (line_bytes (get_or lines i d)) → after ≡ drop n rest → after ≡ flat_map line_bytes (drop (i + 1) lines)
-bytes_after lines i d rest after n inside h k is = is ∙ (front rest _ _ n (h ∙ bytes_split lines i d inside) k).2
+bytes_after lines i d rest after n inside h k is = is ∙ (front_of rest _ _ n (h ∙ bytes_split lines i d inside) k).2
 
 -- the events of the lines so far and of one more
 pub events_more : (lines : List Line) (i : ℕ) (d : Line) (old new : List Event) (e : Event) → i < length lines

@@ -3,7 +3,8 @@
 ghost use Rattle.std.specs.Prelude.{◌≡◌, ◌<◌, ◌^◌, ◌++◌, IfSome, OnOk, length};
 ghost use Rattle.std.specs.Option.{option_map};
 ghost use Rattle.call_text.specs.Words.{words_of};
-ghost use Rattle.schedule_text.specs.Events.{arrival_of, caller_of, event_at, event_of, event_of_none, event_of_one, event_of_two, line_bytes, line_event, plain_event};
+ghost use Rattle.schedule_text.specs.Events.{arrival_of, caller_of, event_at, event_of, event_of_none, event_of_one, event_of_two};
+ghost use Rattle.schedule_text.specs.Events.{line_bytes, line_event, plain_event};
 
 use call_text::bytes::byte;
 use call_text::call::read_call;

@@ -1,9 +1,5 @@
 //! Scripts played on a service that is started for them: a session for each, one after the other, and the image once the service was
 //! stopped.
-//!
-//! Scripts played one after the other, each in a session of one service, whichever service that is.
-//!
-//! Sessions of a service, in which scripts are played.
 #![tactic(auto)]
 
 pub mod admitting;

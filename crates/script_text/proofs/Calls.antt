@@ -3,6 +3,7 @@ use Rattle.std.proofs.Common.{◌≡◌, ℕ, ◌+◌, ◌≤◌, ◌<◌, get_o
 use Rattle.std.specs.Prelude.{flat_map}
 use Rattle.std.proofs.lemmas.List.{drop_more, flat_map_more, map-append, map_more, take_more}
 use Rattle.std.proofs.Math.Seq.{take-append_seam, drop-append_seam}
+use Rattle.lemmas.proofs.Lists.{front_of}
 use Rattle.script_text.specs.Scripts.{line_bytes, line_call, plain_timed}
 use Rattle.script_text.specs.declared.timed.TimedCall.{TimedCall}
 use Rattle.script_text.specs.declared.timed.TimedLine.{TimedLine}
@@ -19,24 +20,20 @@ bytes_more lines i d old new inside h k =
     k ∙ ap (λ b. b ++ line_bytes (get_or lines i d)) h ∙ flat_map_more line_bytes [] (take i lines) (get_or lines i d)
     ∙ ap (flat_map line_bytes) (sym (take_more lines i d inside))
 
--- a line's bytes stand at the front of what is left
-front : (rest own after : List ℕ) (n : ℕ) → rest ≡ own ++ after → n ≡ length own → (n ≤ length rest) × (take n rest ≡ own) × (drop n rest ≡ after)
-front rest own after n h k = (omega (arith, ap length h, length-append own after), rw (h, k) (take-append_seam own after), rw (h, k) (drop-append_seam own after))
-
 -- there are as many bytes left
 pub bytes_left : (lines : List TimedLine) (i : ℕ) (d : TimedLine) (rest : List ℕ) (n : ℕ) → i < length lines → rest ≡ flat_map line_bytes (drop i lines)
     → n ≡ length (line_bytes (get_or lines i d)) → n ≤ length rest
-bytes_left lines i d rest n inside h k = (front rest _ _ n (h ∙ bytes_split lines i d inside) k).0
+bytes_left lines i d rest n inside h k = (front_of rest _ _ n (h ∙ bytes_split lines i d inside) k).0
 
 -- the first are the line's
 pub own_bytes : (lines : List TimedLine) (i : ℕ) (d : TimedLine) (rest own : List ℕ) (n : ℕ) → i < length lines → rest ≡ flat_map line_bytes (drop i lines)
     → n ≡ length (line_bytes (get_or lines i d)) → own ≡ take n rest → own ≡ line_bytes (get_or lines i d)
-own_bytes lines i d rest own n inside h k is = is ∙ (front rest _ _ n (h ∙ bytes_split lines i d inside) k).1
+own_bytes lines i d rest own n inside h k is = is ∙ (front_of rest _ _ n (h ∙ bytes_split lines i d inside) k).1
 
 -- the others are the later lines'
 pub bytes_after : (lines : List TimedLine) (i : ℕ) (d : TimedLine) (rest after : List ℕ) (n : ℕ) → i < length lines → rest ≡ flat_map line_bytes (drop i lines)
     → n ≡ length (line_bytes (get_or lines i d)) → after ≡ drop n rest → after ≡ flat_map line_bytes (drop (i + 1) lines)
-bytes_after lines i d rest after n inside h k is = is ∙ (front rest _ _ n (h ∙ bytes_split lines i d inside) k).2
+bytes_after lines i d rest after n inside h k is = is ∙ (front_of rest _ _ n (h ∙ bytes_split lines i d inside) k).2
 
 -- the calls of the lines so far and of one more
 pub calls_more : (lines : List TimedLine) (i : ℕ) (d : TimedLine) (old new : List TimedCall) (e : TimedCall) → i < length lines

@@ -230,11 +230,6 @@ why_from link line lies_on g v earlier seen was is_back (LinkEnded image) so beg
 pub begins_empty : (marks : List Mark) → IsBeginning [] marks
 begins_empty marks = record { later = marks; is = sym (append-nil marks) }
 
--- the same of what is given back
-pub ok_so : {A E : Type 0} (P Q : A → Type 0) (result : Result A E) → ((a : A) → P a → Q a) → IfOk result P → IfOk result Q
-ok_so P Q (Ok a) so is = so a is
-ok_so P Q (Err e) so is = tt
-
 pub err_so : {A E : Type 0} (P Q : E → Type 0) (result : Result A E) → ((e : E) → P e → Q e) → IfErr result P → IfErr result Q
 err_so P Q (Ok a) so is = tt
 err_so P Q (Err e) so is = so e is

@@ -16,8 +16,8 @@ use counting_link::room::Room;
 use file_server::FileServer;
 use tree::{Call, Outcome, Who};
 
-/// A call of the session that has this seat, which has then seen the whole record. An answer is a mark of it, the last; a cut isn't. With the
-/// outcome comes how many counted marks the record has, modulo 2^64. The server stands with its record as before.
+/// A call of the session that has this seat, which has then seen the whole record. An answer is a mark of it, the last; a cut isn't. With
+/// the outcome comes how many counted marks the record has, modulo 2^64. The server stands with its record as before.
 pub fn make_call<N: Room, L: Recorder<N>, S: FileServer<L>>(
     server: &mut S,
     seat: &mut Seat,

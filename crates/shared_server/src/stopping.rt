@@ -41,7 +41,7 @@ impl<L: OnMedia + Drop, S: FileServer<L>> Stopped<L, S> {
 /// Why a service that is stopped gives no image of a synced volume. `S` is the service, and `T` what is left of it.
 #[derive(Drop)]
 pub enum StopRefusal<S, T> {
-    /// A session is left. Nothing was done: the service goes on.
+    /// A session is left: the service goes on, and nothing was done but what the call did before it asked.
     SessionsLeft(S),
     /// The device was given up, so not all may have been written. With it comes the image, as the media stand.
     GivenUp(Vec<u8>),

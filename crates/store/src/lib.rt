@@ -12,7 +12,7 @@ ghost use Rattle.std.specs.Prelude.{◌≡◌};
 pub use blocks::Blocks;
 use thiserror::Error;
 
-/// Why a call was cut. What would be read back after it isn't known.
+/// Why a call was cut. What would be read back after it isn't known, but where a call's own clause says so.
 #[derive(Clone, Copy, Debug, PartialEq, Eq, Error)]
 pub enum Cut {
     /// The device was given up.
@@ -29,8 +29,8 @@ pub enum Halt {
     /// It was cut.
     #[error("{0}")]
     Cut(Cut),
-    /// The volume isn't sound: a number that is no data zone's, an inode out of range, or a map without a free bit where one
-    /// is due.
+    /// The volume isn't sound, or the call's own condition on it doesn't hold: a number that is no data zone's, an inode out of range,
+    /// a map without a free bit where one is due, and what each call names.
     #[error("Unsound")]
     Unsound,
 }

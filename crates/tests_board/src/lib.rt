@@ -1,4 +1,4 @@
-//! Rows of the board that a service's seats share: beats, what is seen when seats meet, and tallies. Each expected value is worked out by
+//! Tests of the board that a service's seats share: beats, what is seen when seats meet, and tallies. Each expected value is worked out by
 //! hand.
 #![tactic(auto)]
 

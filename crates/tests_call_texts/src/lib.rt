@@ -1,4 +1,4 @@
-//! Rows of calls, schedules and scripts as text: every kind of line, and lines that can't be read. Each expected value is
+//! Tests of calls, schedules and scripts as text: every kind of line, and lines that can't be read. Each expected value is
 //! docs/PROGRAMS.md's, or worked out by hand.
 #![tactic(auto)]
 

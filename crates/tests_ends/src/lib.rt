@@ -1,4 +1,4 @@
-//! Rows of a service whose link has ended. Each expected value is worked out by hand.
+//! Tests of a service whose link has ended. Each expected value is worked out by hand.
 #![tactic(auto)]
 
 #[cfg(test)]

@@ -1,6 +1,5 @@
-//! Rows of the check: findings on a small volume, byte by byte as the format says.
-//!
-//! Rows of superblocks, of inodes' bytes and of new volumes. Each expected value is taken from the format's tables or worked out by hand.
+//! Tests of superblocks, of inodes' bytes, of new volumes, and of the check's findings on a small volume. Each expected value is taken
+//! from the format's tables or worked out by hand.
 #![tactic(auto)]
 
 #[cfg(test)]

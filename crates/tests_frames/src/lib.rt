@@ -1,7 +1,5 @@
-//! Rows of frames, and of blocks in them, over a link that answers from a list: each expected value is worked out by hand.
-//!
-//! Rows of requests, over a link that answers from a list: what is begun, told and settled, and what is issued again. Each expected value
-//! is worked out by hand.
+//! Tests of requests and of frames, over a link that answers from a list: what is begun, told and settled, and what is issued again. Each
+//! expected value is worked out by hand.
 #![tactic(auto)]
 
 #[cfg(test)]

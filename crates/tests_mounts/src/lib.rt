@@ -1,5 +1,5 @@
-//! Rows of mounting and unmounting, over a link that answers from a list: why a mount is refused, what is read and written of a volume that
-//! was mounted, and why it isn't unmounted. Each expected value is worked out by hand.
+//! Tests of mounting and unmounting, over a link that answers from a list: why a mount is refused, what is read and written of a volume
+//! that was mounted, and why it isn't unmounted. Each expected value is worked out by hand.
 #![tactic(auto)]
 
 #[cfg(test)]

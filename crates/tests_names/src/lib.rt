@@ -1,4 +1,4 @@
-//! Rows of a directory's names, of walks and the places that paths mean: each expected value is worked out by hand from the format and
+//! Tests of a directory's names, of walks and the places that paths mean: each expected value is worked out by hand from the format and
 //! from the rules of client calls.
 #![tactic(auto)]
 

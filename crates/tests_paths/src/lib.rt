@@ -1,6 +1,4 @@
-//! Rows of open files and descriptors alone: each expected value is worked out by hand from the definitions.
-//!
-//! Rows of paths and of access: each expected value is worked out by hand from the rules of client calls.
+//! Tests of paths, of access, of open files and descriptors: each expected value is worked out by hand from the rules of client calls.
 #![tactic(auto)]
 
 #[cfg(test)]

@@ -1,8 +1,5 @@
-//! Rows of plays: scripts of all calls, sessions of different users, whole images and partitions, drivers that die, plays that are refused,
-//! and the images that are left. Each expected value is taken from a format or worked out by hand.
-//!
-//! They stand in one crate, since each crate of plays has to build the whole service; and most of them as text, which costs next to
-//! nothing.
+//! Tests of plays: scripts of all calls, sessions of different users, whole images and partitions, drivers that die, plays that are
+//! refused, and the images that are left. Each expected value is taken from a format or worked out by hand.
 #![tactic(auto)]
 
 #[cfg(test)]

@@ -1,6 +1,6 @@
-//! Rows of runs of schedules: transcripts, while drivers die, hang, answer late, badly or too little, and are given up; what the media hold
-//! after writes; and runs that aren't begun, or whose transcript can't be written. Each expected value is taken from a format or worked out
-//! by hand.
+//! Tests of runs of schedules: transcripts, while drivers die, hang, answer late, badly or too little, and are given up; what the media
+//! hold after writes; and runs that aren't begun, or whose transcript can't be written. Each expected value is taken from a format or
+//! worked out by hand.
 #![tactic(auto)]
 
 #[cfg(test)]

@@ -1,10 +1,10 @@
 //! What isn't run, and what is said of it.
 
+use fixtures_runs::RunRefusal;
 use fixtures_runs::refused::{Refused, Told, is_refused, is_told_first};
 use media::MediaRefusal;
 use std::test::Fail;
 use volume::Finding;
-use world::RunRefusal;
 
 /// A driver of the volume's 128 sectors that is new.
 const NEW: (u32, bool) = (128, true);

@@ -1,4 +1,4 @@
-//! Rows of a service's sessions: in turn, given up and refused, and of a service that is stopped. Each expected value is worked out by
+//! Tests of a service's sessions: in turn, given up and refused, and of a service that is stopped. Each expected value is worked out by
 //! hand.
 #![tactic(auto)]
 

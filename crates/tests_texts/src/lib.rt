@@ -1,4 +1,4 @@
-//! Texts that rows of tests give, beside those that they say.
+//! Texts that tests give, beside those that they say.
 #![tactic(auto)]
 
 ghost use Rattle.std.specs.Prelude.{◌≡◌, ◌↔◌, IfOk, IsOk};

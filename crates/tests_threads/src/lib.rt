@@ -1,4 +1,4 @@
-//! Rows of a service's sessions in threads of their own. Each expected value is worked out by hand.
+//! Tests of a service's sessions in threads of their own. Each expected value is worked out by hand.
 #![tactic(auto)]
 
 #[cfg(test)]

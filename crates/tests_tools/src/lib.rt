@@ -1,8 +1,5 @@
-//! Rows of the words of the programs: those that are taken, with what they say, those that aren't, and what the help lists. Each
-//! expected value is docs/PROGRAMS.md's.
-//!
-//! Rows of what is written of volumes that are made and checked, with which status: verdicts, partitions, and writers that fail. Each
-//! expected value is the format's or docs/PROGRAMS.md's.
+//! Tests of the programs' words, and of what is written of volumes that are made and checked, with which status. Each expected value is
+//! docs/PROGRAMS.md's or the format's.
 #![tactic(auto)]
 
 #[cfg(test)]

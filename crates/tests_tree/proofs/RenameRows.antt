@@ -64,7 +64,7 @@ new_paths old =
     ∷ (other, Rename old (path "d"), refused EINVAL) ∷ (other, Rename old zero_path, refused EINVAL)
     ∷ (other, Rename old wide_path, refused ENAMETOOLONG) ∷ []
 
--- each refusal of a path; that the first one in the order is answered where several hold is a law of `tree_laws`
+-- each refusal of a path; that the first one in the order is answered where several hold is a law of `tree`
 unreadable_paths : Rows small rooms (old_paths (path "/y") ++ new_paths (path "/f"))
 unfolding rooms sum_below some_below least_below
 unreadable_paths = refl

@@ -2,9 +2,9 @@
 use Rattle.std.proofs.Common.{◌≡◌, ◌≤◌, ◌+◌, ◌-◌, ◌*◌, ℕ, zero, suc, Bool, true, false, refl, sym, ap, arith}
 use Rattle.std.specs.Prelude.{◌||◌, nat_lt, if◌then◌else◌}
 use Rattle.std.proofs.lemmas.Bool.{ne_eqb, le-ltb, or_from}
+use Rattle.lemmas.proofs.Bools.{false_not_true}
 use Rattle.tree.specs.Sums.{sum_below, some_below, count_below}
 use Rattle.tree.specs.ZonesNeeded.{page_limit, from_page, single_blocks, double_blocks, triple_blocks, zones_needed}
-use Rattle.tree.proofs.Maps.{not_true}
 use Rattle.tree.proofs.Needs.{sum_add, none_counted}
 use Rattle.tests_tree.proofs.TriplePage.{only, triple_page}
 
@@ -29,7 +29,7 @@ no_triple n b held low h =
     omega arith
   where
     without : (c : Bool) (x : ℕ) → c ≡ false → (if c then x else 0) ≡ 0
-    without true x e = absurd (not_true (sym e))
+    without true x e = absurd (false_not_true (sym e))
     without false x e = refl
 
 -- past a page that is alone none is held

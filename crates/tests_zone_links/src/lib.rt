@@ -1,5 +1,5 @@
-//! Rows of the maps, of the bytes of a file and of the zones that its pages need, over a link that answers from a list: each expected value
-//! is worked out by hand from the format.
+//! Tests of the maps, of the bytes of a file and of the zones that its pages need, over a link that answers from a list: each expected
+//! value is worked out by hand from the format.
 #![tactic(auto)]
 
 #[cfg(test)]

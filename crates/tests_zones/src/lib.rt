@@ -1,7 +1,5 @@
-//! Rows of the bytes of files and of the room that writes need, over blocks in memory: each expected value is worked out by hand from the
-//! format.
-//!
-//! Rows of the zones of files, over blocks in memory: each expected value is worked out by hand from the format.
+//! Tests of the bytes and zones of files, and of the room that writes need, over blocks in memory: each expected value is worked out by
+//! hand from the format.
 #![tactic(auto)]
 
 #[cfg(test)]

@@ -3,6 +3,7 @@ use Rattle.std.proofs.Common.{◌≡◌, ℕ, suc, ◌+◌, List, [], ◌∷◌,
 use Rattle.std.specs.Prelude.{map, is_some, ◌==◌, ◌&&◌, not, position, remove}
 use Rattle.std.specs.List.{position_from}
 use Rattle.std.proofs.lemmas.Iterator.Adapters.{position_from-zero}
+use Rattle.lemmas.proofs.Options.{cond_none}
 use Rattle.message.specs.declared.BlockRequest.{BlockRequest}
 use Rattle.message.specs.declared.BlockReply.{BlockReply}
 use Rattle.message.specs.Good.{moved}
@@ -16,16 +17,10 @@ use Rattle.transcript.specs.Heard.{asked_for, IsHeard}
 abbrev pub has_id : ℕ → Asked → Bool
 has_id id r = r.id == id
 
--- two searches, of which one finds nothing
-none_at : {X Y : Type 0} (b : Bool) (x : X) (y : Y) (o : Option X) (p : Option Y) → (o ≡ None → p ≡ None) → cond b (Some x) o ≡ None
-    → cond b (Some y) p ≡ None
-none_at true x y o p h e = cc
-none_at false x y o p h e = h e
-
 not_there_from : (id n : ℕ) (rs : List BlockRequest) → position_from (has_id id) n (map asked_for rs) ≡ None → with_id id rs ≡ None
 not_there_from id n [] e = refl
 not_there_from id n (r ∷ rs) e =
-    none_at (r.id == id) n r (position_from (has_id id) (n + 1) (map asked_for rs)) (with_id id rs) (not_there_from id (n + 1) rs) e
+    cond_none (r.id == id) n r (position_from (has_id id) (n + 1) (map asked_for rs)) (with_id id rs) (not_there_from id (n + 1) rs) e
 
 -- no request has the id
 not_there : (id : ℕ) (rs : List BlockRequest) → position (has_id id) (map asked_for rs) ≡ None → with_id id rs ≡ None

@@ -1,9 +1,8 @@
-//! What is shown of a run that was run out: the marks of its record, and the bytes of its media.
+//! What a run came to and what is shown of it: its record, the replies that drivers sent, the drivers and the server as they stand, the
+//! bytes of its media.
 //!
-//! A record's marks are read off what the run's link was told and gave: a message leaves a mark unless it is a reply that doesn't
-//! count, and a post or a complaint unless it was of no effect.
-//!
-//! What a run of a schedule came to: its record, the replies that drivers sent, and the drivers and the server as they stand.
+//! A record's marks are read off what the run's link was told and gave: a message leaves a mark unless it is a reply that doesn't count,
+//! and a post or a complaint unless it was of no effect.
 #![tactic(auto)]
 
 pub mod bytes;

@@ -14,7 +14,7 @@ use vfs::Server;
 /// What a run came to: its record, the replies that drivers sent, the drivers and the server as they stand, and the calls that wait.
 #[derive(Drop)]
 pub struct Transcript<'a, D> {
-    /// The server as it stands, over the link that run the schedule.
+    /// The server as it stands, over the link that ran the schedule.
     pub server: Server<Stored<RunLink<'a, D>>>,
     /// How many calls arrived and have no reply.
     pub unanswered: u64,

@@ -3,13 +3,15 @@ use Rattle.std.proofs.Common.{◌≡◌, ◌≢◌, ℕ, true, false, refl, sym,
 use mathlib.Core.Logic.{inl, inr}
 use Rattle.std.specs.Prelude.{Option, None, Some, is_some, IsTrue}
 use Rattle.std.proofs.lemmas.Bool.{cases_eq, cond_both, eqb-true}
+use Rattle.lemmas.proofs.Options.{some_same}
+use Rattle.lemmas.proofs.Bools.{false_not_true}
 use Rattle.layout.specs.declared.Geometry.{Geometry}
 use Rattle.tree.specs.declared.Call.TheVariants.{Close}
 use Rattle.tree.specs.Tree.{OpenFile, Tree, opens, is_open, has_descriptor, with_open_file, with_descriptor, most_open_files}
 use Rattle.tree.specs.IsTree.{IsTree}
 use Rattle.tree.specs.Changes.{without_unused, without_nameless}
 use Rattle.tree.specs.Keeps.{CloseKeeps}
-use Rattle.tree.proofs.Maps.{put-same, put-other, not_nothing, not_true, is_the_one}
+use Rattle.tree.proofs.Maps.{put-same, put-other, not_nothing}
 use Rattle.tree.proofs.Search.{found_below, one_below}
 use Rattle.tree.proofs.FileOutcomes.{close_each}
 use Rattle.tree.proofs.Keeping.{Keeps, keeps_closed, in_session}
@@ -18,7 +20,7 @@ use Rattle.tree.proofs.Freed.{IsTreeBut, without_nameless_is_tree}
 
 -- an open file that is of a node
 opens_is : (n : ℕ) (o : Option OpenFile) → opens n o ≡ true → (x : OpenFile) × (o ≡ Some x) × (x.inode ≡ n)
-opens_is n None h = absurd (not_true h)
+opens_is n None h = absurd (false_not_true h)
 opens_is n (Some x) h = (x, refl, eqb-true x.inode n h)
 
 module _ (g : Geometry) (t : Tree) (session fd k : ℕ) (o : OpenFile) (led : t.descriptors session fd ≡ Some k) (file : t.open_files k ≡ Some o) (tree : IsTree g t) where
@@ -33,7 +35,7 @@ module _ (g : Geometry) (t : Tree) (session fd k : ℕ) (o : OpenFile) (led : t.
   ]
 
   others_held : (j : ℕ) → j ≢ k → IsTrue (is_some (t.open_files j)) → IsTrue (has_descriptor less j)
-  others_held j d h = held less.descriptors j (still_held t session fd None j (λ e. d (is_the_one _ _ (sym e ∙ led))) (holder t.descriptors j (tree.open_files.in_use j h)))
+  others_held j d h = held less.descriptors j (still_held t session fd None j (λ e. d (some_same _ _ (sym e ∙ led))) (holder t.descriptors j (tree.open_files.in_use j h)))
 
   -- other descriptors are of the open file
   stays : has_descriptor less k ≡ true → IsTreeBut g less o.inode
@@ -59,7 +61,7 @@ module _ (g : Geometry) (t : Tree) (session fd k : ℕ) (o : OpenFile) (led : t.
 
   some_left : (j : ℕ) → IsTrue (is_some (unused.open_files j)) → (j ≢ k) × IsTrue (is_some (t.open_files j))
   some_left j h = elim (cases_eq j k) [
-    | inl e ↦ absurd (not_true (sym (ap (λ q. is_some (unused.open_files q)) e ∙ ap is_some (put-same t.open_files k None)) ∙ h))
+    | inl e ↦ absurd (false_not_true (sym (ap (λ q. is_some (unused.open_files q)) e ∙ ap is_some (put-same t.open_files k None)) ∙ h))
     | inr d ↦ (d, ap is_some (sym (put-other t.open_files k None j d)) ∙ h)
   ]
 
@@ -68,7 +70,7 @@ module _ (g : Geometry) (t : Tree) (session fd k : ℕ) (o : OpenFile) (led : t.
       let one = one_below (λ j. opens m (t.open_files j)) most_open_files h in
       let it = opens_is m (t.open_files one.0) one.2 in
       found_below (λ j. opens m (unused.open_files j)) most_open_files one.0 one.1
-      (ap (opens m) (put-other t.open_files k None one.0 (λ e. d (sym it.2 ∙ ap (λ y. y.inode) (is_the_one _ _ (sym it.1 ∙ ap t.open_files e ∙ file))))) ∙ one.2)
+      (ap (opens m) (put-other t.open_files k None one.0 (λ e. d (sym it.2 ∙ ap (λ y. y.inode) (some_same _ _ (sym it.1 ∙ ap t.open_files e ∙ file))))) ∙ one.2)
 
   goes : has_descriptor less k ≡ false → IsTreeBut g unused o.inode
   goes h = record {
@@ -81,7 +83,7 @@ module _ (g : Geometry) (t : Tree) (session fd k : ℕ) (o : OpenFile) (led : t.
             old.0,
             old.1,
             ap is_some (put-other t.open_files k None j (λ is.
-                not_true (sym h ∙ held less.descriptors k (record { session = s; fd = f; session_in = old.0; fd_in = old.1; leads = e ∙ ap Some is })))) ∙ old.2,
+                false_not_true (sym h ∙ held less.descriptors k (record { session = s; fd = f; session_in = old.0; fd_in = old.1; leads = e ∙ ap Some is })))) ∙ old.2,
           );
       in_use = λ j e. let it = some_left j e in others_held j it.0 it.1;
     };

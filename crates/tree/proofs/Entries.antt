@@ -10,11 +10,11 @@ use Rattle.std.specs.Cmp.Lexicographic.{nat_list_cmp_total}
 use Rattle.std.specs.FinMap.Entries.{by_order, is_sorted, find-where_key, is_sorted-where_key}
 use Rattle.std.proofs.lemmas.Cmp.{eq_by_cmp_equiv}
 use Rattle.std.proofs.lemmas.Bool.{cases_Bool, cond-true, cond-false, and_from, and_parts, not_from_false, not_from_true}
+use Rattle.lemmas.proofs.Bools.{from_T, to_T}
 use Rattle.tree.specs.Names.{Name, Names, name_cmp, is_name, inode_of, with_name, without_name}
 use Rattle.tree.specs.Tree.{Directory, most_size}
 use Rattle.tree.specs.IsTree.{IsDirectory}
 use Rattle.tree.proofs.Names.{inode_of-with_name, sorted-with_name, same_names}
-use Rattle.tree.proofs.Places.{from_true, true_from}
 use Rattle.tree.proofs.Weights.{weigh, weigh_with_name, weigh_without_name}
 
 -- all names can be names, with the new one
@@ -34,7 +34,7 @@ pub with_name_fits : (d : Directory) (name : Name) (n : ℕ) → is_name name �
 with_name_fits d name n named size old = record {
   size = size;
   names = all_with name n d.names named old.names;
-  sorted = true_from _ (sorted-with_name d.names name n (from_true _ old.sorted));
+  sorted = from_T _ (sorted-with_name d.names name n (to_T _ old.sorted));
 }
 
 -- what the names without one answer
@@ -75,5 +75,5 @@ pub weigh_with_name_over : (w : ℕ → ℕ) (name : Name) (n m : ℕ) (es : Nam
 weigh_with_name_over w name n m es s h =
     let a = ap (weigh w) (replaced_is es name n s) in
     let b = weigh_with_name w name n (without_name es name) (gone_name es name) in
-    let c = weigh_without_name w name m es (true_from _ s) h in
+    let c = weigh_without_name w name m es (from_T _ s) h in
     omega (arith, a, b, c)

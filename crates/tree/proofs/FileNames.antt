@@ -1,11 +1,12 @@
 -- Where only names of files change, and their links with them, the shape of a tree stays.
 use Rattle.std.proofs.Common.{◌≡◌, ◌≤◌, ◌+◌, ℕ, zero, suc, true, false, sym, ap, ◌∙◌, refl}
 use Rattle.std.specs.Prelude.{is_some, IsTrue}
+use Rattle.lemmas.proofs.Bools.{false_not_true}
 use Rattle.layout.specs.declared.Geometry.{Geometry}
 use Rattle.tree.specs.Sums.{one_if}
 use Rattle.tree.specs.Tree.{names_of, parent_of}
 use Rattle.tree.specs.IsTree.{above}
-use Rattle.tree.proofs.Maps.{same_sum, not_true}
+use Rattle.tree.proofs.Maps.{same_sum}
 use Rattle.tree.proofs.Totals.{one_for, none_for_other, weigh_same}
 use Rattle.tree.proofs.Shapes.{Nodes, kind_of, links_of, weight, total, one_for_each, IsShape}
 
@@ -17,7 +18,7 @@ module _ (g : Geometry) (old new : Nodes) (shape : IsShape g old)
     (directories : (m : ℕ) → kind_of (old m) ≡ true → links_of (new m) ≡ links_of (old m))
     (files : (m : ℕ) → kind_of (old m) ≡ false → links_of (new m) ≡ total g new (one_for m)) where
   of_directory : (n : ℕ) → kind_of (old n) ≡ true → (m : ℕ) → weight new (one_for n) m ≡ weight old (one_for n) m
-  of_directory n h = weights (one_for n) (λ k f. none_for_other n k (λ e. not_true (sym f ∙ ap (λ j. kind_of (old j)) e ∙ h)))
+  of_directory n h = weights (one_for n) (λ k f. none_for_other n k (λ e. false_not_true (sym f ∙ ap (λ j. kind_of (old j)) e ∙ h)))
 
   total_kept : (n : ℕ) → kind_of (old n) ≡ true → total g new (one_for n) ≡ total g old (one_for n)
   total_kept n h = same_sum (λ a. weight new (one_for n) a) (λ a. weight old (one_for n) a) (g.inodes + 1) (λ k _. of_directory n h k)

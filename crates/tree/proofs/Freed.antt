@@ -4,13 +4,15 @@ use mathlib.Core.Logic.{inl, inr}
 use Rattle.std.specs.Prelude.{Option, None, Some, is_some, not, ◌&&◌, ◌==◌, IsTrue, if◌then◌else◌}
 use Rattle.std.specs.Ordering.{eq_by_cmp}
 use Rattle.std.proofs.lemmas.Bool.{cases_eq, cases_Bool, cond-true, cond-false, cond_both, and_parts, and_cases, eqb-true, eq-eqb, not-true, not-false}
+use Rattle.lemmas.proofs.Bools.{false_not_true}
+use Rattle.lemmas.proofs.Options.{some_same}
 use Rattle.layout.specs.declared.Geometry.{Geometry}
 use Rattle.tree.specs.Sums.{put, sum_below, one_if}
 use Rattle.tree.specs.Names.{Name, Names, name_cmp, inode_of}
 use Rattle.tree.specs.Tree.{Body, is_file, is_directory, Node, Tree, is_dir, is_dir_at, names_of, parent_of, with_node, opens, is_open, most_open_files}
 use Rattle.tree.specs.IsTree.{IsPlaced, NodesAgree, OpenFilesAgree, IsTree, names_to, all_names_to, subdirectories, above, links_due}
 use Rattle.tree.specs.Changes.{has_no_link, without_nameless}
-use Rattle.tree.proofs.Maps.{put-same, put-other, same_sum, is_the_one, not_nothing, not_true}
+use Rattle.tree.proofs.Maps.{put-same, put-other, same_sum, not_nothing}
 use Rattle.tree.proofs.Search.{found_below}
 use Rattle.tree.proofs.OpenFiles.{alike_put}
 
@@ -28,7 +30,7 @@ pub found_counts : (es : Names) (name : Name) (n : ℕ) → inode_of es name ≡
 found_counts [] name n h = absurd (not_nothing n h)
 found_counts (e ∷ es) name n h = elim (cases_Bool (eq_by_cmp name_cmp name e.0)) [
   | inl t ↦
-      let is : e.1 ≡ n = is_the_one _ _ (sym (cond-true (eq_by_cmp name_cmp name e.0) (Some e.1) (inode_of es name) t) ∙ h) in
+      let is : e.1 ≡ n = some_same _ _ (sym (cond-true (eq_by_cmp name_cmp name e.0) (Some e.1) (inode_of es name) t) ∙ h) in
       let one : one_if (e.1 == n) ≡ 1 = cond-true (e.1 == n) 1 0 (eq-eqb e.1 n is) in
       omega arith
   | inr f ↦ let rest = found_counts es name n (sym (cond-false (eq_by_cmp name_cmp name e.0) (Some e.1) (inode_of es name) f) ∙ h) in omega arith
@@ -37,7 +39,7 @@ found_counts (e ∷ es) name n h = elim (cases_Bool (eq_by_cmp name_cmp name e.0
 -- a node that is no directory has no names
 no_names_in : (body : Body) (node : Node) → node.body ≡ body → is_dir node ≡ false → names_of (Some node) ≡ []
 no_names_in (is_file f) node e h = ap (λ b. names_of (Some (record node { body = b }))) e
-no_names_in (is_directory d) node e h = absurd (not_true (sym h ∙ ap (λ b. is_dir (record node { body = b })) e))
+no_names_in (is_directory d) node e h = absurd (false_not_true (sym h ∙ ap (λ b. is_dir (record node { body = b })) e))
 
 -- a file has no names and no parent
 pub no_names : (node : Node) → is_dir node ≡ false → names_of (Some node) ≡ []
@@ -46,7 +48,7 @@ no_names node h = no_names_in node.body node refl h
 -- a node that is no directory has no parent
 no_parent_in : (body : Body) (node : Node) → node.body ≡ body → is_dir node ≡ false → parent_of (Some node) ≡ 0
 no_parent_in (is_file f) node e h = ap (λ b. parent_of (Some (record node { body = b }))) e
-no_parent_in (is_directory d) node e h = absurd (not_true (sym h ∙ ap (λ b. is_dir (record node { body = b })) e))
+no_parent_in (is_directory d) node e h = absurd (false_not_true (sym h ∙ ap (λ b. is_dir (record node { body = b })) e))
 
 -- a file has no parent
 pub no_parent : (node : Node) → is_dir node ≡ false → parent_of (Some node) ≡ 0
@@ -102,7 +104,7 @@ module _ (g : Geometry) (nodes : ℕ → Option Node) (n : ℕ) (node : Node) (t
   -- what is left was there, and isn't n
   pub left : (m : ℕ) → IsTrue (is_some (new m)) → (m ≢ n) × (new m ≡ nodes m)
   left m h = elim (cases_eq m n) [
-    | inl e ↦ absurd (not_true (sym (ap (λ k. is_some (new k)) e ∙ ap is_some (put-same nodes n None)) ∙ h))
+    | inl e ↦ absurd (false_not_true (sym (ap (λ k. is_some (new k)) e ∙ ap is_some (put-same nodes n None)) ∙ h))
     | inr d ↦ (d, put-other nodes n None m d)
   ]
 
@@ -142,7 +144,7 @@ pub record IsTreeBut (g : Geometry) (t : Tree) (n : ℕ) : Type 0 where
 
 -- a node without a link is there
 nameless_node : (o : Option Node) → has_no_link o ≡ true → (node : Node) × (o ≡ Some node) × (node.links ≡ 0)
-nameless_node None h = absurd (not_true h)
+nameless_node None h = absurd (false_not_true h)
 nameless_node (Some node) h = (node, refl, eqb-true node.links 0 h)
 
 -- what is a tree but for a nameless node is one without it
@@ -160,7 +162,7 @@ without_nameless_is_tree g t n tree = cond_both (has_no_link (t.nodes n) && not 
             numbers = tree.open_files.numbers;
             each = λ k o e. let was = tree.open_files.each k o e in record {
               node = ap is_some (put-other t.nodes n None o.inode (λ is.
-                  not_true (sym closed ∙ found_below (λ j. opens n (t.open_files j)) most_open_files k
+                  false_not_true (sym closed ∙ found_below (λ j. opens n (t.open_files j)) most_open_files k
                   (tree.open_files.numbers k (ap is_some e)) (ap (opens n) e ∙ eq-eqb o.inode n is)))) ∙ was.node;
               position = was.position;
               flags = was.flags;
@@ -181,7 +183,7 @@ without_nameless_is_tree g t n tree = cond_both (has_no_link (t.nodes n) && not 
       open_files = tree.open_files;
       nameless = λ m x e l. elim (cases_eq m n) [
         | inl is ↦ elim (and_cases (has_no_link (t.nodes n)) (not (is_open t n)) h) [
-          | inl has ↦ absurd (not_true (sym has ∙ named m x e l is))
+          | inl has ↦ absurd (false_not_true (sym has ∙ named m x e l is))
           | inr opened ↦ ap (is_open t) is ∙ not-false (is_open t n) opened
         ]
         | inr d ↦ tree.nameless m x e l d

@@ -3,6 +3,7 @@ use Rattle.std.proofs.Common.{◌≡◌, ◌≢◌, ◌<◌, ◌≤◌, ◌+◌,
 use mathlib.Core.Logic.{inl, inr}
 use Rattle.std.specs.Prelude.{Option, None, Some, is_some, IsTrue}
 use Rattle.std.proofs.lemmas.Bool.{cases_eq, eqb-true}
+use Rattle.lemmas.proofs.Bools.{false_not_true}
 use Rattle.layout.specs.declared.Geometry.{Geometry}
 use Rattle.tree.specs.Names.{Names, inode_of, without_name}
 use Rattle.tree.specs.Tree.{Node, Tree, names_of, parent_of, with_node, on_node, is_open, most_links}
@@ -10,7 +11,7 @@ use Rattle.tree.specs.IsTree.{NodesAgree, IsTree}
 use Rattle.tree.specs.Walk.{Place}
 use Rattle.tree.specs.Changes.{fewer_links}
 use Rattle.tree.specs.NameCalls.{without_entry, is_empty}
-use Rattle.tree.proofs.Maps.{put-same, put-other, not_true}
+use Rattle.tree.proofs.Maps.{put-same, put-other}
 use Rattle.tree.proofs.Places.{IsPlace}
 use Rattle.tree.proofs.Weights.{weigh}
 use Rattle.tree.proofs.Totals.{one_for, one_for_itself, only_at, only_here, only_elsewhere, weigh_found}
@@ -123,7 +124,7 @@ module _ (g : Geometry) (t : Tree) (tree : IsTree g t) (now : ℕ) (small : now 
   nameless : (m : ℕ) (node : Node) → after.nodes m ≡ Some node → node.links ≡ 0 → IsTrue (is_open t m)
   nameless m node e none =
       let zero : links_of (after.nodes m) ≡ 0 = ap links_of e ∙ none in
-      let q : m ≢ n = λ is. not_true (sym (ap is_some (ap after.nodes is ∙ gone_node)) ∙ ap is_some e) in
+      let q : m ≢ n = λ is. false_not_true (sym (ap is_some (ap after.nodes is ∙ gone_node)) ∙ ap is_some e) in
       let is = gone_links m q in
       nameless_open g t tree m (sym (gone_some m q) ∙ ap is_some e) (elim (cases_eq m d) [
         | inl here ↦
@@ -137,6 +138,6 @@ module _ (g : Geometry) (t : Tree) (tree : IsTree g t) (now : ℕ) (small : now 
   pub gone_is_tree : is_open t n ≡ false → IsTree g after
   gone_is_tree closed = tree_over g t after (over_with_node t lower n None (over_on_node t left d _ (over_on_node t t d _ (over_itself t)))) tree gone_agree
       (λ i there opened.
-      let e : i ≢ n = λ q. not_true (sym (ap (is_open t) q ∙ closed) ∙ opened) in
+      let e : i ≢ n = λ q. false_not_true (sym (ap (is_open t) q ∙ closed) ∙ opened) in
       (gone_some i e ∙ there, gone_kind i e))
       nameless

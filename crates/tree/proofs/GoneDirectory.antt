@@ -3,11 +3,11 @@ use Rattle.std.proofs.Common.{◌≡◌, ◌≢◌, ◌≤◌, ◌<◌, ◌+◌,
 use mathlib.Core.Logic.{inl, inr}
 use Rattle.std.specs.Prelude.{None, is_some}
 use Rattle.std.proofs.lemmas.Bool.{cases_eq}
+use Rattle.lemmas.proofs.Bools.{false_not_true}
 use Rattle.layout.specs.declared.Geometry.{Geometry}
 use Rattle.tree.specs.Sums.{one_if}
 use Rattle.tree.specs.Tree.{names_of, parent_of}
 use Rattle.tree.specs.IsTree.{above}
-use Rattle.tree.proofs.Maps.{not_true}
 use Rattle.tree.proofs.Freed.{part_below}
 use Rattle.tree.proofs.Totals.{one_for, one_for_itself, none_for_other, only_at, only_here, only_elsewhere, only_nothing, weigh_off, sum_gained}
 use Rattle.tree.proofs.Shapes.{Nodes, kind_of, links_of, weight, total, one_for_each, IsShape, has_names}
@@ -59,7 +59,7 @@ module _ (g : Geometry) (old new : Nodes) (shape : IsShape g old) (d n : ℕ)
 
   left : (m : ℕ) → kind_of (new m) ≡ true → (m ≢ n) × (kind_of (old m) ≡ true)
   left m h =
-      let d : m ≢ n = λ e. not_true (sym (ap kind_of (ap new e ∙ gone)) ∙ h) in
+      let d : m ≢ n = λ e. false_not_true (sym (ap kind_of (ap new e ∙ gone)) ∙ h) in
       (d, sym (kind m d) ∙ h)
 
   -- the parent of a directory isn't n, and is a directory
@@ -86,7 +86,7 @@ module _ (g : Geometry) (old new : Nodes) (shape : IsShape g old) (d n : ℕ)
 
   pub gone_directory : IsShape g new
   gone_directory = record {
-    inside = λ m h. shape.inside m (sym (some m (λ e. not_true (sym (ap is_some (ap new e ∙ gone)) ∙ h))) ∙ h);
+    inside = λ m h. shape.inside m (sym (some m (λ e. false_not_true (sym (ap is_some (ap new e ∙ gone)) ∙ h))) ∙ h);
     targets = λ a b l. elim (cases_eq b n) [
       | inl e ↦ let none = no_name_in a in let here = ap (λ k. weight new (one_for k) a) e in absurd (omega (arith, none, here, l))
       | inr e ↦ some b e ∙ shape.targets a b (let same = weight_of_other b a e in omega (arith, same, l))
@@ -109,7 +109,7 @@ module _ (g : Geometry) (old new : Nodes) (shape : IsShape g old) (d n : ℕ)
       | inl e ↦ ap (λ k. links_of (new k)) e ∙ ap links_of gone ∙ sym no_name_left ∙ ap (λ k. total g new (one_for k)) (sym e)
       | inr e ↦
           let file = sym (kind m e) ∙ h in
-          let none = only_elsewhere d 1 m (λ q. not_true (sym file ∙ ap (λ k. kind_of (old k)) q ∙ d_directory)) in
+          let none = only_elsewhere d 1 m (λ q. false_not_true (sym file ∙ ap (λ k. kind_of (old k)) q ∙ d_directory)) in
           let was = shape.file_links m file in
           let is = links m e in
           let same = totals_of_other m e in

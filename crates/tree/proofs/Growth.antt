@@ -4,12 +4,12 @@ use mathlib.Core.Logic.{inl, inr}
 use Rattle.std.specs.Prelude.{Option, None, Some, nat_lt, ◌==◌, ◌||◌}
 use Rattle.std.proofs.Math.Nat.{le-div_iff_mul-le}
 use Rattle.std.proofs.lemmas.Bool.{cases_lt, or_cases, eqb-true}
+use Rattle.lemmas.proofs.Bools.{false_not_true}
 use Rattle.layout.specs.declared.Geometry.{Geometry}
 use Rattle.layout.specs.Places.{IsGeometry, is_block_size}
 use Rattle.tree.specs.ZonesNeeded.{page_limit, zones_needed}
 use Rattle.tree.specs.Tree.{Body, is_file, is_directory, Node, Tree, size_of, most_size}
 use Rattle.tree.specs.Space.{zones_of, zones_used, data_zones, numbers_in_zone, pages_of}
-use Rattle.tree.proofs.Maps.{not_true}
 use Rattle.tree.proofs.Freed.{part_below}
 use Rattle.tree.proofs.Ways.{count_first, count_all}
 use Rattle.tree.proofs.Totals.{weigh_one}
@@ -63,7 +63,7 @@ grown_fits g is t d inside directory fits = by_node (t.nodes d) refl directory
     zones = let part = part_below (λ n. zones_of g (t.nodes n)) (g.inodes + 1) d inside in let most = is.zones in omega (arith, part, most, fits)
 
     by_body : (body : Body) (node : Node) → node.body ≡ body → t.nodes d ≡ Some node → kind_of (Some node) ≡ true → 64 * (weight t.nodes (λ _. 1) d + 2) ≤ most_size
-    by_body (is_file f) node b e k = absurd (not_true (sym (ap (λ x. kind_of (Some (record node { body = x }))) b) ∙ k))
+    by_body (is_file f) node b e k = absurd (false_not_true (sym (ap (λ x. kind_of (Some (record node { body = x }))) b) ∙ k))
     by_body (is_directory x) node b e k =
         let as_directory : t.nodes d ≡ Some (record node { body = is_directory x }) = e ∙ ap (λ y. Some (record node { body = y })) b in
         let size = directory_size g is (size_of (is_directory x)) (subst (λ o. zones_of g o ≤ 65536) as_directory zones) in
@@ -71,5 +71,5 @@ grown_fits g is t d inside directory fits = by_node (t.nodes d) refl directory
         omega (arith, size, count)
 
     by_node : (o : Option Node) → t.nodes d ≡ o → kind_of o ≡ true → 64 * (weight t.nodes (λ _. 1) d + 2) ≤ most_size
-    by_node None e k = absurd (not_true k)
+    by_node None e k = absurd (false_not_true k)
     by_node (Some node) e k = by_body node.body node refl e k

@@ -3,12 +3,13 @@ use Rattle.std.proofs.Common.{◌≡◌, ◌≢◌, ◌+◌, ℕ, zero, suc, ref
 use mathlib.Core.Logic.{inl, inr}
 use Rattle.std.specs.Prelude.{Option, Some, is_some, IsTrue, if◌then◌else◌}
 use Rattle.std.proofs.lemmas.Bool.{cases_eq}
+use Rattle.lemmas.proofs.Options.{some_same}
 use Rattle.layout.specs.declared.Geometry.{Geometry}
 use Rattle.tree.specs.Sums.{put, one_if}
 use Rattle.tree.specs.Names.{Names, inode_of}
 use Rattle.tree.specs.Tree.{Node, Tree, is_dir, is_dir_at, names_of, parent_of, with_node, is_open}
 use Rattle.tree.specs.IsTree.{IsNode, IsPlaced, NodesAgree, IsTree, names_to, all_names_to, subdirectories, above, links_due}
-use Rattle.tree.proofs.Maps.{put-same, put-other, same_sum, is_the_one}
+use Rattle.tree.proofs.Maps.{put-same, put-other, same_sum}
 
 module _ (g : Geometry) (nodes : ℕ → Option Node) (n : ℕ) (node other : Node) (there : nodes n ≡ Some node)
     (same_kind : is_dir other ≡ is_dir node) (same_names : names_of (Some other) ≡ names_of (Some node))
@@ -58,7 +59,7 @@ module _ (g : Geometry) (nodes : ℕ → Option Node) (n : ℕ) (node other : No
   of_each : (P : ℕ → Node → Type 0) → P n other → ((m : ℕ) (x : Node) → nodes m ≡ Some x → P m x)
       → (m : ℕ) (x : Node) → new m ≡ Some x → P m x
   of_each P p old m x e = elim (cases_eq m n) [
-    | inl is ↦ subst (P m) (is_the_one _ _ (sym (at_n m is) ∙ e)) (subst (λ k. P k other) (sym is) p)
+    | inl is ↦ subst (P m) (some_same _ _ (sym (at_n m is) ∙ e)) (subst (λ k. P k other) (sym is) p)
     | inr d ↦ old m x (sym (elsewhere m d) ∙ e)
   ]
 

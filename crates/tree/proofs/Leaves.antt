@@ -1,6 +1,7 @@
 -- Calls that leave the tree.
 use Rattle.std.proofs.Common.{◌≡◌, ℕ, List, refl, ap}
 use Rattle.std.specs.Prelude.{Result, Ok, Err, nat_le, not}
+use Rattle.lemmas.proofs.Bools.{false_not_true}
 use Rattle.errno.specs.declared.Errno.TheVariants.{EINVAL, EBADF, ENOTDIR}
 use Rattle.tree.specs.declared.User.{User}
 use Rattle.tree.specs.declared.Who.{Who}
@@ -9,7 +10,6 @@ use Rattle.tree.specs.declared.Call.TheVariants.{Open, Close, Dup, Read, Write, 
 use Rattle.tree.specs.Tree.{Tree, most_sessions}
 use Rattle.tree.specs.Refusals.{◌>>=◌, refuse_if}
 use Rattle.tree.specs.Answers.{Answer, refused, node_is, names_are, Effect}
-use Rattle.tree.proofs.Maps.{not_true}
 use Rattle.tree.specs.Flags.{reads}
 use Rattle.tree.specs.Walk.{walk, node_at}
 use Rattle.tree.specs.Changes.{open_file_of}
@@ -73,18 +73,18 @@ looks_leave g t who now (Fstat fd) h = (bound t (session_refused who) (λ _. eff
 looks_leave g t who now (Readdir fd) h = (bound t (session_refused who) (λ _. effect_in_session g t who now (Readdir fd)) (λ _. readdir_leaves t who.session fd)).same
 looks_leave g t who now Sync h = (bound t (session_refused who) (λ _. effect_in_session g t who now Sync) (λ _. answered t _)).same
 looks_leave g t who now Statfs h = (bound t (session_refused who) (λ _. effect_in_session g t who now Statfs) (λ _. answered t _)).same
-looks_leave g t who now (Open path flags mode) h = absurd (not_true h)
-looks_leave g t who now (Close fd) h = absurd (not_true h)
-looks_leave g t who now (Dup fd) h = absurd (not_true h)
-looks_leave g t who now (Read fd count) h = absurd (not_true h)
-looks_leave g t who now (Write fd bytes) h = absurd (not_true h)
-looks_leave g t who now (Seek fd whence offset) h = absurd (not_true h)
-looks_leave g t who now (Link old new) h = absurd (not_true h)
-looks_leave g t who now (Unlink path) h = absurd (not_true h)
-looks_leave g t who now (Mkdir path mode) h = absurd (not_true h)
-looks_leave g t who now (Rmdir path) h = absurd (not_true h)
-looks_leave g t who now (Rename old new) h = absurd (not_true h)
-looks_leave g t who now (Chmod path mode) h = absurd (not_true h)
-looks_leave g t who now (Chown path uid gid) h = absurd (not_true h)
-looks_leave g t who now (Utime path atime mtime) h = absurd (not_true h)
-looks_leave g t who now (Truncate path size) h = absurd (not_true h)
+looks_leave g t who now (Open path flags mode) h = absurd (false_not_true h)
+looks_leave g t who now (Close fd) h = absurd (false_not_true h)
+looks_leave g t who now (Dup fd) h = absurd (false_not_true h)
+looks_leave g t who now (Read fd count) h = absurd (false_not_true h)
+looks_leave g t who now (Write fd bytes) h = absurd (false_not_true h)
+looks_leave g t who now (Seek fd whence offset) h = absurd (false_not_true h)
+looks_leave g t who now (Link old new) h = absurd (false_not_true h)
+looks_leave g t who now (Unlink path) h = absurd (false_not_true h)
+looks_leave g t who now (Mkdir path mode) h = absurd (false_not_true h)
+looks_leave g t who now (Rmdir path) h = absurd (false_not_true h)
+looks_leave g t who now (Rename old new) h = absurd (false_not_true h)
+looks_leave g t who now (Chmod path mode) h = absurd (false_not_true h)
+looks_leave g t who now (Chown path uid gid) h = absurd (false_not_true h)
+looks_leave g t who now (Utime path atime mtime) h = absurd (false_not_true h)
+looks_leave g t who now (Truncate path size) h = absurd (false_not_true h)

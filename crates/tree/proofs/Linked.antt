@@ -3,6 +3,7 @@ use Rattle.std.proofs.Common.{◌≡◌, ◌≢◌, ◌<◌, ◌≤◌, ◌+◌,
 use mathlib.Core.Logic.{inl, inr}
 use Rattle.std.specs.Prelude.{Option, None, Some, is_some, IsTrue}
 use Rattle.std.proofs.lemmas.Bool.{cases_eq}
+use Rattle.lemmas.proofs.Bools.{false_not_true}
 use Rattle.layout.specs.declared.Geometry.{Geometry}
 use Rattle.layout.specs.Places.{IsGeometry}
 use Rattle.tree.specs.Names.{is_name, inode_of, with_name}
@@ -11,7 +12,7 @@ use Rattle.tree.specs.IsTree.{IsNode, NodesAgree, IsTree}
 use Rattle.tree.specs.Space.{zones_used, data_zones}
 use Rattle.tree.specs.Walk.{Place}
 use Rattle.tree.specs.NameCalls.{with_entry}
-use Rattle.tree.proofs.Maps.{put-same, put-other, not_true}
+use Rattle.tree.proofs.Maps.{put-same, put-other}
 use Rattle.tree.proofs.Freed.{no_names}
 use Rattle.tree.proofs.Weights.{weigh}
 use Rattle.tree.proofs.OpenFiles.{alike_put}
@@ -96,7 +97,7 @@ module _ (g : Geometry) (is_geometry : IsGeometry g) (t : Tree) (tree : IsTree g
   totals m = sum_gained (λ a. weight t.nodes (one_for m) a) (λ a. weight after.nodes (one_for m) a) d (one_for m n) (g.inodes + 1) d_in (weights (one_for m))
 
   not_n : (m : ℕ) → kind_of (t.nodes m) ≡ true → m ≢ n
-  not_n m h e = not_true (sym file ∙ ap (λ k. kind_of (t.nodes k)) (sym e) ∙ h)
+  not_n m h e = false_not_true (sym file ∙ ap (λ k. kind_of (t.nodes k)) (sym e) ∙ h)
 
   shape : IsShape g after.nodes
   shape = file_names_change g t.nodes after.nodes F

@@ -3,6 +3,7 @@ use Rattle.std.proofs.Common.{◌≡◌, ◌≢◌, ◌<◌, ◌≤◌, ◌+◌,
 use mathlib.Core.Logic.{inl, inr}
 use Rattle.std.specs.Prelude.{Option, Some, is_some, IsTrue}
 use Rattle.std.proofs.lemmas.Bool.{cases_eq}
+use Rattle.lemmas.proofs.Bools.{false_not_true}
 use Rattle.layout.specs.declared.Geometry.{Geometry}
 use Rattle.layout.specs.Places.{IsGeometry}
 use Rattle.tree.specs.declared.User.{User}
@@ -13,7 +14,7 @@ use Rattle.tree.specs.Space.{zones_used, data_zones}
 use Rattle.tree.specs.Walk.{Place}
 use Rattle.tree.specs.Changes.{new_node, empty_directory, more_links}
 use Rattle.tree.specs.NameCalls.{with_entry}
-use Rattle.tree.proofs.Maps.{put-same, put-other, not_true}
+use Rattle.tree.proofs.Maps.{put-same, put-other}
 use Rattle.tree.proofs.OpenFiles.{alike_put}
 use Rattle.tree.proofs.Weights.{weigh}
 use Rattle.tree.proofs.Totals.{only_at, only_here, only_elsewhere}
@@ -56,7 +57,7 @@ module _ (g : Geometry) (is_geometry : IsGeometry g) (t : Tree) (tree : IsTree g
   d_in = directory_inside g t.nodes old d d_directory
 
   apart : d ≢ n
-  apart e = not_true (sym (ap kind_of (ap t.nodes e ∙ inode.nothing)) ∙ d_directory)
+  apart e = false_not_true (sym (ap kind_of (ap t.nodes e ∙ inode.nothing)) ∙ d_directory)
 
   d_in_middle : kind_of (middle.nodes d) ≡ true
   d_in_middle = ap kind_of (put-other t.nodes n (Some N) d apart) ∙ d_directory
@@ -154,6 +155,6 @@ module _ (g : Geometry) (is_geometry : IsGeometry g) (t : Tree) (tree : IsTree g
     made_is_tree = tree_over g t after
         (over_on_node t entered d _ (over_on_node t middle d _ (over_with_node t t n (Some N) (over_itself t)))) tree agree
         (λ i there opened.
-        let e : i ≢ n = λ q. not_true (sym (ap is_some (ap t.nodes q ∙ inode.nothing)) ∙ there) in
+        let e : i ≢ n = λ q. false_not_true (sym (ap is_some (ap t.nodes q ∙ inode.nothing)) ∙ there) in
         (some i ∙ ap is_some (other i e) ∙ there, kind i ∙ ap kind_of (other i e)))
         nameless

@@ -8,6 +8,8 @@ use Rattle.std.specs.declared.cmp.Ordering.TheVariants.{Less, Equal, Greater}
 use Rattle.std.proofs.lemmas.Bool.{cases_eq, cases_Bool}
 use Rattle.std.specs.Cmp.Lexicographic.{nat_list_cmp_total}
 use Rattle.std.specs.FinMap.Entries.{find_tied}
+use Rattle.lemmas.proofs.Options.{some_same}
+use Rattle.lemmas.proofs.Bools.{false_not_true, is_equal}
 use Rattle.layout.specs.declared.Geometry.{Geometry}
 use Rattle.tree.specs.Sums.{one_if}
 use Rattle.tree.specs.Names.{Name, Names, name_cmp, is_name, inode_of, with_name, without_name}
@@ -16,7 +18,7 @@ use Rattle.tree.specs.IsTree.{IsNode, IsTree}
 use Rattle.tree.specs.Walk.{Place}
 use Rattle.tree.specs.Changes.{with_ctime, with_names, with_parent, more_links, fewer_links}
 use Rattle.tree.specs.NameCalls.{with_entry, without_entry, without_moved, with_moved}
-use Rattle.tree.proofs.Maps.{not_true, not_nothing, is_the_one}
+use Rattle.tree.proofs.Maps.{not_nothing}
 use Rattle.tree.proofs.Places.{IsPlace, found_without}
 use Rattle.tree.proofs.Weights.{weigh}
 use Rattle.tree.proofs.Totals.{one_for, one_for_itself, only_at, weigh_found}
@@ -43,7 +45,7 @@ weigh_in w now d node (is_directory x) = refl
 
 -- its parent is the new one
 under : (now d : ℕ) (node : Node) (body : Body) → kind_of (Some (record node { body = body })) ≡ true → parent_of (Some (with_ctime now (with_parent d (record node { body = body })))) ≡ d
-under now d node (is_file f) h = absurd (not_true h)
+under now d node (is_file f) h = absurd (false_not_true h)
 under now d node (is_directory x) h = refl
 
 -- it fits
@@ -75,12 +77,6 @@ names_left : (now : ℕ) (name : Name) (body : Body) (node : Node)
     → names_of (Some (with_names now (λ names. without_name names name) (record node { body = body }))) ≡ without_name (names_of (Some (record node { body = body }))) name
 names_left now name (is_file f) node = refl
 names_left now name (is_directory d) node = refl
-
--- an order that is a tie
-is_equal : (r : Ordering) → is_eq r ≡ true → r ≡ Equal
-is_equal Less h = absurd (not_true h)
-is_equal Equal h = refl
-is_equal Greater h = absurd (not_true h)
 
 module _ (g : Geometry) (t : Tree) (tree : IsTree g t) (now : ℕ) (small : now < 2 ^ 32) (old new : Place) (from : IsPlace t old) (to : IsPlace t new)
     (n : ℕ) (node : Node) (there : t.nodes n ≡ Some node) (found : inode_of old.names old.name ≡ Some n) where
@@ -162,7 +158,7 @@ module _ (g : Geometry) (t : Tree) (tree : IsTree g t) (now : ℕ) (small : now 
   moved_under h = by_node (linked.nodes n) refl (kind_linked n ∙ h)
     where
       by_node : (o : Option Node) → linked.nodes n ≡ o → kind_of o ≡ true → parent_of (after.nodes n) ≡ d
-      by_node None e q = absurd (not_true q)
+      by_node None e q = absurd (false_not_true q)
       by_node (Some x) e q = ap parent_of (on_node_at linked n (λ y. with_ctime now (with_parent d y)) x e) ∙ under now d x x.body q
 
   few_enough : k ≤ links_of (left.nodes p)
@@ -245,7 +241,7 @@ module _ (g : Geometry) (t : Tree) (tree : IsTree g t) (now : ℕ) (small : now 
     other_names : d ≡ p → eq_by_cmp name_cmp old.name new.name ≡ false
     other_names e = elim (cases_Bool (eq_by_cmp name_cmp old.name new.name)) [
       | inr f ↦ f
-      | inl tie ↦ absurd (differs (is_the_one n q (
+      | inl tie ↦ absurd (differs (some_same n q (
           sym is_found ∙ sym (same_found tie) ∙ ap (λ m. inode_of (names_of (t.nodes m)) new.name) (sym e) ∙ was_taken)))
     ]
       where

@@ -3,11 +3,11 @@ use Rattle.std.proofs.Common.{◌≡◌, ◌≢◌, ◌≤◌, ◌<◌, ◌+◌,
 use mathlib.Core.Logic.{inl, inr}
 use Rattle.std.specs.Prelude.{is_some}
 use Rattle.std.proofs.lemmas.Bool.{cases_eq}
+use Rattle.lemmas.proofs.Bools.{false_not_true}
 use Rattle.layout.specs.declared.Geometry.{Geometry}
 use Rattle.tree.specs.Sums.{one_if}
 use Rattle.tree.specs.Tree.{names_of, parent_of}
 use Rattle.tree.specs.IsTree.{above}
-use Rattle.tree.proofs.Maps.{not_true}
 use Rattle.tree.proofs.Freed.{part_below}
 use Rattle.tree.proofs.Totals.{one_for, one_for_itself, none_for_other, only_at, only_here, only_elsewhere, only_nothing, weigh_same, sum_moved, two_parts}
 use Rattle.tree.proofs.Shapes.{Nodes, kind_of, links_of, weight, total, one_for_each, IsShape, is_there, has_names}
@@ -132,8 +132,8 @@ module _ (g : Geometry) (old new : Nodes) (shape : IsShape g old) (p d n : ℕ)
         omega (arith, a, b, c);
     file_links = λ m h.
         let file = sym (kind m) ∙ h in
-        let x = only_elsewhere d 1 m (λ q. not_true (sym file ∙ ap (λ k. kind_of (old k)) q ∙ d_directory)) in
-        let y = only_elsewhere p 1 m (λ q. not_true (sym file ∙ ap (λ k. kind_of (old k)) q ∙ p_directory)) in
+        let x = only_elsewhere d 1 m (λ q. false_not_true (sym file ∙ ap (λ k. kind_of (old k)) q ∙ d_directory)) in
+        let y = only_elsewhere p 1 m (λ q. false_not_true (sym file ∙ ap (λ k. kind_of (old k)) q ∙ p_directory)) in
         let was = shape.file_links m file in
         let is = links m in
         let same = totals m in

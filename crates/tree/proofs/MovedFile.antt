@@ -3,6 +3,7 @@ use Rattle.std.proofs.Common.{◌≡◌, ◌≢◌, ◌<◌, ◌≤◌, ◌+◌,
 use mathlib.Core.Logic.{inl, inr}
 use Rattle.std.specs.Prelude.{None, Some, is_some, IsTrue, not, ◌&&◌}
 use Rattle.std.proofs.lemmas.Bool.{cases_eq, cond_both}
+use Rattle.lemmas.proofs.Bools.{false_not_true}
 use Rattle.layout.specs.declared.Geometry.{Geometry}
 use Rattle.layout.specs.Places.{IsGeometry}
 use Rattle.tree.specs.Sums.{one_if}
@@ -13,7 +14,7 @@ use Rattle.tree.specs.Space.{zones_used, data_zones}
 use Rattle.tree.specs.Walk.{Place}
 use Rattle.tree.specs.Changes.{with_link_lost, has_no_link, without_nameless}
 use Rattle.tree.specs.NameCalls.{without_moved, with_moved}
-use Rattle.tree.proofs.Maps.{put-other, not_true}
+use Rattle.tree.proofs.Maps.{put-other}
 use Rattle.tree.proofs.Places.{IsPlace}
 use Rattle.tree.proofs.Weights.{weigh}
 use Rattle.tree.proofs.Freed.{part_below, without_nameless_is_tree}
@@ -186,7 +187,7 @@ module _ (g : Geometry) (is : IsGeometry g) (t : Tree) (tree : IsTree g t) (now 
         omega (arith, is_moved, x, y, z))
         (λ m h.
         let same = lost_links m in
-        let none = only_elsewhere q 1 m (λ e. not_true (sym q_file ∙ ap (λ x. kind_of (t.nodes x)) (sym e) ∙ h)) in
+        let none = only_elsewhere q 1 m (λ e. false_not_true (sym q_file ∙ ap (λ x. kind_of (t.nodes x)) (sym e) ∙ h)) in
         omega (arith, same, none))
         (λ m h.
         let same = lost_links m in
@@ -196,7 +197,7 @@ module _ (g : Geometry) (is : IsGeometry g) (t : Tree) (tree : IsTree g t) (now 
         omega (arith, same, due, all, one))
 
     d_not_q : d ≢ q
-    d_not_q e = not_true (sym q_file ∙ ap (λ x. kind_of (t.nodes x)) (sym e) ∙ d_is)
+    d_not_q e = false_not_true (sym q_file ∙ ap (λ x. kind_of (t.nodes x)) (sym e) ∙ d_is)
 
     module _ (fits : zones_used g final ≤ data_zones g) where
       size : 64 * (weight after.nodes (λ _. 1) d + 2) ≤ most_size

@@ -3,6 +3,7 @@ use Rattle.std.proofs.Common.{◌≡◌, ◌≢◌, ◌<◌, ◌≤◌, ◌+◌,
 use mathlib.Core.Logic.{inl, inr}
 use Rattle.std.specs.Prelude.{Option, None, Some, is_some, IsTrue, not, ◌&&◌, ◌==◌, nat_le}
 use Rattle.std.proofs.lemmas.Bool.{cases_eq, and_cases, leb-false, eqb-true, not-false}
+use Rattle.lemmas.proofs.Bools.{false_not_true}
 use Rattle.layout.specs.declared.Geometry.{Geometry}
 use Rattle.layout.specs.Places.{IsGeometry}
 use Rattle.tree.specs.Sums.{one_if}
@@ -13,7 +14,7 @@ use Rattle.tree.specs.Space.{zones_used, data_zones}
 use Rattle.tree.specs.Walk.{Place}
 use Rattle.tree.specs.Changes.{fewer_links}
 use Rattle.tree.specs.NameCalls.{without_entry, without_moved, with_moved}
-use Rattle.tree.proofs.Maps.{put-same, put-other, not_true}
+use Rattle.tree.proofs.Maps.{put-same, put-other}
 use Rattle.tree.proofs.Places.{IsPlace}
 use Rattle.tree.proofs.Weights.{weigh}
 use Rattle.tree.proofs.Totals.{one_for, only_few, none_for_other, only_at, only_here, only_elsewhere, only_nothing}
@@ -97,7 +98,7 @@ module _ (g : Geometry) (is : IsGeometry g) (t : Tree) (tree : IsTree g t) (now 
         let few : links_of (t.nodes d) ≡ parent.links = ap links_of parent_there in
         elim (and_cases (is_dir node && not (p == d)) (nat_le most_links parent.links) room) [
           | inl no_move ↦ elim (and_cases (is_dir node) (not (p == d)) no_move) [
-            | inl file ↦ absurd (not_true (sym file ∙ directory))
+            | inl file ↦ absurd (false_not_true (sym file ∙ directory))
             | inr same ↦ absurd (e (eqb-true p d (not-false (p == d) same)))
           ]
           | inr below ↦ let less = leb-false most_links parent.links below in omega (arith, few, less)
@@ -279,8 +280,8 @@ module _ (g : Geometry) (is : IsGeometry g) (t : Tree) (tree : IsTree g t) (now 
       directory_moved_onto = tree_over g t final
           (over_with_node t lower q None (over_on_node t after d _ (moved_over g t tree now small old new from to n node there found))) tree final_agree
           (λ i h opened.
-          let e : i ≢ q = λ x. not_true (sym (ap (is_open t) x ∙ closed) ∙ opened) in
+          let e : i ≢ q = λ x. false_not_true (sym (ap (is_open t) x ∙ closed) ∙ opened) in
           (final_some i e ∙ h, final_kind i e))
           (λ m x at none.
-          let e : m ≢ q = λ s. not_true (sym (ap is_some (ap final.nodes s ∙ at_q)) ∙ ap is_some at) in
+          let e : m ≢ q = λ s. false_not_true (sym (ap is_some (ap final.nodes s ∙ at_q)) ∙ ap is_some at) in
           was_nameless m (links_of (final.nodes m)) (ap links_of at ∙ none) (links_before m e) (sym (final_some m e) ∙ ap is_some at))

@@ -3,9 +3,10 @@ use Rattle.std.proofs.Common.{◌≡◌, ◌<◌, ◌+◌, ◌-◌, ◌*◌, ℕ
 use mathlib.Core.Logic.{inl, inr}
 use Rattle.std.specs.Prelude.{not, ◌&&◌, nat_lt, if◌then◌else◌}
 use Rattle.std.proofs.lemmas.Bool.{cases_eq, cases_Bool, cond-true, cond-false, and_parts}
+use Rattle.lemmas.proofs.Bools.{false_not_true}
 use Rattle.tree.specs.Sums.{sum_below, count_below, some_below, one_if, put}
 use Rattle.tree.specs.ZonesNeeded.{page_limit, from_page, quotients, double_blocks, triple_blocks}
-use Rattle.tree.proofs.Maps.{put-same, put-other, not_true}
+use Rattle.tree.proofs.Maps.{put-same, put-other}
 use Rattle.tree.specs.Zones.{only_in, newly_some, newly_used, new_double, new_triple, pages_below, NeedGrows, OnePageMore, PagesLetGo}
 use Rattle.tree.proofs.Search.{found_below, one_below}
 use Rattle.tree.proofs.Fewer.{some_less}
@@ -26,7 +27,7 @@ same_below f h n same = ap (λ x. sum_below x n) (λ i k. same k i)
 one_split : (more fewer : Bool) → (fewer ≡ true → more ≡ true) → one_if more ≡ one_if fewer + one_if (more && not fewer)
 one_split true true h = refl
 one_split true false h = refl
-one_split false true h = absurd (not_true (h refl))
+one_split false true h = absurd (false_not_true (h refl))
 one_split false false h = refl
 
 -- a count and what it has more
@@ -55,7 +56,7 @@ in_range k n width j l m =
 no_blocks : (held : ℕ → Bool) (width n : ℕ) → some_below held (n * width) ≡ false → quotients held width n ≡ 0
 no_blocks held width n none = none_pass (λ k. some_below (λ j. held (k * width + j)) width) n (λ k l h.
     let one = one_below (λ j. held (k * width + j)) width h in
-    not_true (sym none ∙ found_below held (n * width) (k * width + one.0) (in_range k n width one.0 l one.1) one.2))
+    false_not_true (sym none ∙ found_below held (n * width) (k * width + one.0) (in_range k n width one.0 l one.1) one.2))
 
 -- a test and what it finds more
 some_split : (more fewer : ℕ → Bool) (n : ℕ) → ((k : ℕ) → fewer k ≡ true → more k ≡ true) → one_if (some_below more n) ≡ one_if (some_below fewer n) + one_if (newly_some more fewer n)

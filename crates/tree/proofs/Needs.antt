@@ -1,8 +1,8 @@
 -- Both ways to count a file's zones agree.
 use Rattle.std.proofs.Common.{◌≡◌, ◌+◌, ◌*◌, ℕ, zero, suc, Bool, true, false, refl, sym, ap, ◌∙◌, arith}
 use Rattle.std.specs.Prelude.{◌||◌, if◌then◌else◌}
+use Rattle.lemmas.proofs.Bools.{false_not_true}
 use Rattle.tree.specs.Sums.{sum_below, some_below, count_below, one_if}
-use Rattle.tree.proofs.Maps.{not_true}
 use Rattle.tree.specs.ZonesNeeded.{zones_needed, from_page, quotients, double_blocks, triple_blocks}
 use Rattle.tree.specs.ZonesNeededByPlace.{last_needed, second_needed, third_needed, zones_needed_by_place, ZonesNeededIsByPlace}
 
@@ -48,8 +48,8 @@ none_counted p zero h = refl
 none_counted p (suc n) h = both (some_below p n) (p n) h (none_counted p n)
   where
     both : (a b : Bool) → a || b ≡ false → (a ≡ false → count_below p n ≡ 0) → count_below p n + one_if b ≡ 0
-    both true b h old = absurd (not_true (sym h))
-    both false true h old = absurd (not_true (sym h))
+    both true b h old = absurd (false_not_true (sym h))
+    both false true h old = absurd (false_not_true (sym h))
     both false false h old = let e = old refl in omega arith
 
 -- the top block, and x below it, which is 0 where there is none

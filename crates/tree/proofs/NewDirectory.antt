@@ -3,11 +3,11 @@ use Rattle.std.proofs.Common.{◌≡◌, ◌≢◌, ◌≤◌, ◌<◌, ◌+◌,
 use mathlib.Core.Logic.{inl, inr}
 use Rattle.std.specs.Prelude.{None, is_some}
 use Rattle.std.proofs.lemmas.Bool.{cases_eq, cases_Bool}
+use Rattle.lemmas.proofs.Bools.{false_not_true}
 use Rattle.layout.specs.declared.Geometry.{Geometry}
 use Rattle.tree.specs.Sums.{one_if}
 use Rattle.tree.specs.Tree.{names_of, parent_of}
 use Rattle.tree.specs.IsTree.{above}
-use Rattle.tree.proofs.Maps.{not_true}
 use Rattle.tree.proofs.Weights.{weigh}
 use Rattle.tree.proofs.Ways.{way_kept}
 use Rattle.tree.proofs.Totals.{one_for, one_for_itself, none_for_other, only_at, only_here, only_elsewhere, only_nothing, weigh_off, sum_gained, sum_of_none}
@@ -17,7 +17,7 @@ use Rattle.tree.proofs.Shapes.{Nodes, kind_of, links_of, weight, total, one_for_
 pub unnamed_number : (g : Geometry) (nodes : Nodes) → IsShape g nodes → (n a : ℕ) → nodes n ≡ None → weight nodes (one_for n) a ≡ 0
 unnamed_number g nodes shape n a none = elim (cases_eq (weight nodes (one_for n) a) 0) [
   | inl z ↦ z
-  | inr d ↦ absurd (not_true (sym (ap is_some none) ∙ shape.targets a n (omega (arith, d))))
+  | inr d ↦ absurd (false_not_true (sym (ap is_some none) ∙ shape.targets a n (omega (arith, d))))
 ]
 
 -- number 0 is no directory
@@ -39,7 +39,7 @@ module _ (g : Geometry) (old new : Nodes) (shape : IsShape g old) (d n : ℕ)
     (weights : (w : ℕ → ℕ) (m : ℕ) → weight new w m ≡ weight old w m + only_at d (w n) m)
     (links : (m : ℕ) → m ≢ n → links_of (new m) ≡ links_of (old m) + only_at d 1 m) (links_n : links_of (new n) ≡ 2) where
   is_other : (m : ℕ) → kind_of (old m) ≡ true → m ≢ n
-  is_other m h e = not_true (sym (ap kind_of (ap old e ∙ free)) ∙ h)
+  is_other m h e = false_not_true (sym (ap kind_of (ap old e ∙ free)) ∙ h)
 
   is_new_or_old : (m : ℕ) → m ≢ n → kind_of (new m) ≡ true → kind_of (old m) ≡ true
   is_new_or_old m e h = sym (kind m e) ∙ h
@@ -111,10 +111,10 @@ module _ (g : Geometry) (old new : Nodes) (shape : IsShape g old) (d n : ℕ)
           omega (arith, was, is, more)
     ];
     file_links = λ m h. elim (cases_eq m n) [
-      | inl e ↦ absurd (not_true (sym h ∙ ap (λ k. kind_of (new k)) e ∙ kind_n))
+      | inl e ↦ absurd (false_not_true (sym h ∙ ap (λ k. kind_of (new k)) e ∙ kind_n))
       | inr e ↦
           let file = sym (kind m e) ∙ h in
-          let none = only_elsewhere d 1 m (λ q. not_true (sym file ∙ ap (λ k. kind_of (old k)) q ∙ d_directory)) in
+          let none = only_elsewhere d 1 m (λ q. false_not_true (sym file ∙ ap (λ k. kind_of (old k)) q ∙ d_directory)) in
           let was = shape.file_links m file in
           let is = links m e in
           let same = totals_of_other m e in

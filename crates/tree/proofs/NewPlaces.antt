@@ -3,12 +3,12 @@ use Rattle.std.proofs.Common.{◌≡◌, ◌<◌, ℕ, List, true, false, refl, 
 use Rattle.std.specs.Prelude.{Option, None, Some, is_some, Ok, not}
 use Rattle.std.specs.List.{All}
 use Rattle.std.proofs.lemmas.Bool.{or_parts, not-false}
+use Rattle.lemmas.proofs.Bools.{false_not_true}
 use Rattle.tree.specs.declared.User.{User}
 use Rattle.tree.specs.Names.{Name, is_name, inode_of, has_name}
 use Rattle.tree.specs.Tree.{Tree}
 use Rattle.tree.specs.Refusals.{◌>>=◌}
 use Rattle.tree.specs.Walk.{read_path, enter, walk_parts, parent_walk, all_but_last, last_part, has_last_name, is_taken, Place}
-use Rattle.tree.proofs.Maps.{not_true}
 use Rattle.tree.proofs.Steps.{both_steps, ok_is}
 use Rattle.tree.proofs.Places.{IsPlace, is_place}
 use Rattle.tree.proofs.PathNames.{last_is_name}
@@ -16,7 +16,7 @@ use Rattle.tree.proofs.PathNames.{last_is_name}
 -- what is not there is None
 pub none_there : {A : Type 0} (o : Option A) → is_some o ≡ false → o ≡ None
 none_there None h = refl
-none_there (Some x) h = absurd (not_true (sym h))
+none_there (Some x) h = absurd (false_not_true (sym h))
 
 -- the name of a place is the last part
 place_name : (t : Tree) (user : User) (parts : List Name) (place : Place) → parent_walk t user parts ≡ Ok place → place.name ≡ last_part parts

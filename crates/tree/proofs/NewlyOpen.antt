@@ -3,12 +3,14 @@ use Rattle.std.proofs.Common.{◌≡◌, ◌≢◌, ◌<◌, ℕ, false, sym, ap
 use mathlib.Core.Logic.{inl, inr}
 use Rattle.std.specs.Prelude.{None, Some, is_some, IsTrue, not}
 use Rattle.std.proofs.lemmas.Bool.{cases_eq}
+use Rattle.lemmas.proofs.Bools.{false_not_true}
+use Rattle.lemmas.proofs.Options.{some_same}
 use Rattle.layout.specs.declared.Geometry.{Geometry}
 use Rattle.tree.specs.Tree.{OpenFile, Tree, opens, is_open, with_open_file, most_sessions, most_descriptors, most_open_files}
 use Rattle.tree.specs.Flags.{writes, bad_flags}
 use Rattle.tree.specs.IsTree.{IsOpenFile, IsTree}
 use Rattle.tree.specs.FileCalls.{Slot, with_open}
-use Rattle.tree.proofs.Maps.{put-same, put-other, is_the_one, not_nothing, not_true}
+use Rattle.tree.proofs.Maps.{put-same, put-other, not_nothing}
 use Rattle.tree.proofs.Search.{found_below, one_below}
 use Rattle.tree.proofs.OpenFiles.{of_put, holder, held, descriptor_cases, at_place, is_at_place, still_held}
 use Rattle.tree.proofs.Shapes.{kind_of}
@@ -33,7 +35,7 @@ module _ (g : Geometry) (t : Tree) (tree : IsTree g t) (slot : Slot) (free : IsF
   after = with_open t slot n flags
 
   stays : (k : ℕ) → IsTrue (is_some (t.open_files k)) → IsTrue (is_some (after.open_files k))
-  stays k h = ap is_some (put-other t.open_files slot.number (Some o) k (λ e. not_true (sym (ap is_some (ap t.open_files e ∙ free.no_file)) ∙ h))) ∙ h
+  stays k h = ap is_some (put-other t.open_files slot.number (Some o) k (λ e. false_not_true (sym (ap is_some (ap t.open_files e ∙ free.no_file)) ∙ h))) ∙ h
 
   cases_some : (k : ℕ) → k ≢ slot.number → IsTrue (is_some (after.open_files k)) → IsTrue (is_some (t.open_files k))
   cases_some k d h = sym (ap is_some (put-other t.open_files slot.number (Some o) k d)) ∙ h
@@ -42,7 +44,7 @@ module _ (g : Geometry) (t : Tree) (tree : IsTree g t) (slot : Slot) (free : IsF
   still_open m h =
       let one = one_below (λ k. opens m (t.open_files k)) most_open_files h in
       found_below (λ k. opens m (after.open_files k)) most_open_files one.0 one.1
-      (ap (opens m) (put-other t.open_files slot.number (Some o) one.0 (λ e. not_true (sym (ap (opens m) (ap t.open_files e ∙ free.no_file)) ∙ one.2))) ∙ one.2)
+      (ap (opens m) (put-other t.open_files slot.number (Some o) one.0 (λ e. false_not_true (sym (ap (opens m) (ap t.open_files e ∙ free.no_file)) ∙ one.2))) ∙ one.2)
 
   pub opened_is_tree : IsTree g after
   opened_is_tree = record {
@@ -54,7 +56,7 @@ module _ (g : Geometry) (t : Tree) (tree : IsTree g t) (slot : Slot) (free : IsF
           (λ k x d e. let old = tree.open_files.each k x e in record { node = old.node; position = old.position; flags = old.flags; not_a_directory = old.not_a_directory });
       descriptors = λ s f k h. elim (descriptor_cases put_file slot.session slot.fd (Some slot.number) s f) [
         | inl at ↦
-            let is : slot.number ≡ k = is_the_one _ _ (sym (is_at_place put_file slot.session slot.fd (Some slot.number) s f at.0 at.1) ∙ h) in
+            let is : slot.number ≡ k = some_same _ _ (sym (is_at_place put_file slot.session slot.fd (Some slot.number) s f at.0 at.1) ∙ h) in
             let s_in = free.session in
             let fd_in = free.fd in
             (omega (arith, s_in, at.0), omega (arith, fd_in, at.1), ap (λ q. is_some (after.open_files q)) (sym is) ∙ ap is_some (put-same t.open_files slot.number (Some o)))

@@ -3,6 +3,7 @@ use Rattle.std.proofs.Common.{◌≡◌, ◌+◌, ℕ, zero, suc, false, refl, s
 use mathlib.Core.Logic.{inl, inr}
 use Rattle.std.specs.Prelude.{None, is_some, IsTrue, Ok, Err, nat_lt}
 use Rattle.std.proofs.lemmas.Bool.{cases_Bool, cond-false, ltb-true}
+use Rattle.lemmas.proofs.Bools.{false_not_true}
 use Rattle.layout.specs.declared.Geometry.{Geometry}
 use Rattle.errno.specs.declared.Errno.TheVariants.{ENOSPC}
 use Rattle.tree.specs.Tree.{Tree}
@@ -10,7 +11,6 @@ use Rattle.tree.specs.Space.{zones_used, data_zones}
 use Rattle.tree.specs.Refusals.{◌>>=◌}
 use Rattle.tree.specs.Changes.{free_inode}
 use Rattle.tree.specs.Answers.{Answer, if_it_fits}
-use Rattle.tree.proofs.Maps.{not_true}
 use Rattle.tree.specs.Room.{with_one_inode_more, NoInodeFree}
 use Rattle.tree.proofs.Steps.{not_refused, ok_is}
 use Rattle.tree.proofs.Outcomes.{Effects, IsClosed, IsFree, free_inode_is}
@@ -37,7 +37,7 @@ pub record WantsInode (g : Geometry) (t : Tree) (F : Effects) : Type 0 where
 
 -- a node that wasn't there isn't made where no more are there
 none_new : (t u : Tree) (n : ℕ) → IsNoMore u t → IsTrue (is_some (u.nodes n)) → t.nodes n ≡ None → ⊥
-none_new t u n fewer there new = not_true (sym (ap is_some new) ∙ fewer n there)
+none_new t u n fewer there new = false_not_true (sym (ap is_some new) ∙ fewer n there)
 
 -- a step that asks for no room
 pub wants_closed : (g : Geometry) (t : Tree) → IsClosed (WantsInode g t)
@@ -65,7 +65,7 @@ module _ (g : Geometry) (t : Tree) (full : NoInodeFree g t) (answer : Answer) (a
   refused_here : F 0 ≡ Err ENOSPC
   refused_here = elim (free_inode_is g t) [
     | inl none ↦ ap (λ r. r >>= λ n. if_it_fits g answer (after n)) none.0
-    | inr free ↦ absurd (not_true (sym (ap is_some free.2.nothing) ∙ full free.0 free.2.from free.2.to))
+    | inr free ↦ absurd (false_not_true (sym (ap is_some free.2.nothing) ∙ full free.0 free.2.from free.2.to))
   ]
 
   -- the volume with one inode more, and zones for a tree
@@ -93,7 +93,7 @@ module _ (g : Geometry) (t : Tree) (full : NoInodeFree g t) (answer : Answer) (a
   wants_inode = record {
     refused = λ more. refused_here;
     makes = λ none is. elim (free_inode_is (with_one_inode_more 0 g) t) [
-      | inl no_more ↦ absurd (not_true (sym (ap is_some none) ∙ no_more.1 (g.inodes + 1) (omega arith) (omega arith)))
+      | inl no_more ↦ absurd (false_not_true (sym (ap is_some none) ∙ no_more.1 (g.inodes + 1) (omega arith) (omega arith)))
       | inr free ↦ made_there free.0 free.1 free.2
     ];
   }

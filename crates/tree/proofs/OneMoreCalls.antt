@@ -3,6 +3,7 @@ use Rattle.std.proofs.Common.{◌≡◌, ℕ, true, refl, sym, ap, ◌∙◌}
 use mathlib.Core.Logic.{inl, inr}
 use Rattle.std.specs.Prelude.{Some, is_some, nat_le}
 use Rattle.std.proofs.lemmas.Bool.{cases_Bool}
+use Rattle.lemmas.proofs.Bools.{false_not_true}
 use Rattle.layout.specs.declared.Geometry.{Geometry}
 use Rattle.errno.specs.declared.Errno.TheVariants.{EINVAL}
 use Rattle.tree.specs.declared.Who.{Who}
@@ -17,7 +18,7 @@ use Rattle.tree.specs.Answers.{done, descriptor}
 use Rattle.tree.specs.FileCalls.{Slot, with_open, after_truncate_flag}
 use Rattle.tree.specs.NameCalls.{with_entry}
 use Rattle.tree.specs.Effects.{user_of, effect_in_session, effect_of}
-use Rattle.tree.proofs.Maps.{not_true, put-same}
+use Rattle.tree.proofs.Maps.{put-same}
 use Rattle.tree.specs.Room.{with_one_inode_more, NoInodeFree, may_make, FullIsRefused, EnospcMeans}
 use Rattle.tree.proofs.Outcomes.{plain_refuse}
 use Rattle.tree.proofs.OpenOutcomes.{with_new_file, open_up_to_inode}
@@ -54,24 +55,24 @@ module _ (g : Geometry) (t : Tree) (full : NoInodeFree g t) (who : Who) (now : �
   call_wants (Mkdir path mode) _ =
       mkdir_up_to_inode g t (user_of who) now (WantsInode g t) (wants_closed g t) (volumes g) path.now mode (λ place parent asked.
       wants_inode g t full done (with_new_directory t (user_of who) now mode place) (directory_there mode place))
-  call_wants (Close fd) never = absurd (not_true never)
-  call_wants (Dup fd) never = absurd (not_true never)
-  call_wants (Read fd count) never = absurd (not_true never)
-  call_wants (Write fd bytes) never = absurd (not_true never)
-  call_wants (Seek fd whence offset) never = absurd (not_true never)
-  call_wants (Stat path) never = absurd (not_true never)
-  call_wants (Fstat fd) never = absurd (not_true never)
-  call_wants (Link old new) never = absurd (not_true never)
-  call_wants (Unlink path) never = absurd (not_true never)
-  call_wants (Rmdir path) never = absurd (not_true never)
-  call_wants (Rename old new) never = absurd (not_true never)
-  call_wants (Chmod path mode) never = absurd (not_true never)
-  call_wants (Chown path uid gid) never = absurd (not_true never)
-  call_wants (Utime path atime mtime) never = absurd (not_true never)
-  call_wants (Truncate path size) never = absurd (not_true never)
-  call_wants (Readdir fd) never = absurd (not_true never)
-  call_wants Sync never = absurd (not_true never)
-  call_wants Statfs never = absurd (not_true never)
+  call_wants (Close fd) never = absurd (false_not_true never)
+  call_wants (Dup fd) never = absurd (false_not_true never)
+  call_wants (Read fd count) never = absurd (false_not_true never)
+  call_wants (Write fd bytes) never = absurd (false_not_true never)
+  call_wants (Seek fd whence offset) never = absurd (false_not_true never)
+  call_wants (Stat path) never = absurd (false_not_true never)
+  call_wants (Fstat fd) never = absurd (false_not_true never)
+  call_wants (Link old new) never = absurd (false_not_true never)
+  call_wants (Unlink path) never = absurd (false_not_true never)
+  call_wants (Rmdir path) never = absurd (false_not_true never)
+  call_wants (Rename old new) never = absurd (false_not_true never)
+  call_wants (Chmod path mode) never = absurd (false_not_true never)
+  call_wants (Chown path uid gid) never = absurd (false_not_true never)
+  call_wants (Utime path atime mtime) never = absurd (false_not_true never)
+  call_wants (Truncate path size) never = absurd (false_not_true never)
+  call_wants (Readdir fd) never = absurd (false_not_true never)
+  call_wants Sync never = absurd (false_not_true never)
+  call_wants Statfs never = absurd (false_not_true never)
 
   effect_wants : (call : Call) → may_make call ≡ true → WantsInode g t (λ z. effect_of (volumes g z) t who now call)
   effect_wants call kind =
@@ -91,8 +92,8 @@ full_is_refused g t who now call geometry full more = elim (cases_Bool (may_make
   })
   | inr other ↦
       let spaced = effect_spaced (with_one_inode_more more.zones g) geometry.sized t who now call in
-      let fewer : IsNoMore more.made.1 t = spaced.none_made (λ kind. absurd (not_true (sym other ∙ kind))) more.zones more.made more.is_made in
-      absurd (not_true (sym (ap is_some more.is_new) ∙ fewer more.node more.is_there))
+      let fewer : IsNoMore more.made.1 t = spaced.none_made (λ kind. absurd (false_not_true (sym other ∙ kind))) more.zones more.made more.is_made in
+      absurd (false_not_true (sym (ap is_some more.is_new) ∙ fewer more.node more.is_there))
 ]
 
 -- what ENOSPC means

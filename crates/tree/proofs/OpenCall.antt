@@ -4,6 +4,7 @@ use mathlib.Core.Logic.{inl, inr}
 use Rattle.std.specs.Prelude.{Option, None, Some, is_some, Ok}
 use Rattle.std.specs.List.{All}
 use Rattle.std.proofs.lemmas.Bool.{cases_Bool, cond_both, cond-true, cond-false, and_cases, not_from_false}
+use Rattle.lemmas.proofs.Bools.{false_not_true}
 use Rattle.layout.specs.declared.Geometry.{Geometry}
 use Rattle.layout.specs.Places.{IsGeometry}
 use Rattle.tree.specs.declared.User.{User}
@@ -19,7 +20,7 @@ use Rattle.tree.specs.Answers.{descriptor, if_it_fits}
 use Rattle.tree.specs.NameCalls.{with_entry}
 use Rattle.tree.specs.FileCalls.{Slot, with_open, after_truncate_flag}
 use Rattle.tree.specs.Effects.{user_of}
-use Rattle.tree.proofs.Maps.{put-same, not_true}
+use Rattle.tree.proofs.Maps.{put-same}
 use Rattle.tree.specs.Keeps.{OpenKeeps}
 use Rattle.tree.proofs.Steps.{both_steps, ok_is}
 use Rattle.tree.proofs.Places.{is_place}
@@ -52,7 +53,7 @@ place_or x (is_missing place) = place
 -- a name that is missing is not found
 found_missing : (place other : Place) (o : Option ℕ) → inode_of place.names place.name ≡ o → found_at place ≡ is_missing other → (inode_of place.names place.name ≡ None) × (place ≡ other)
 found_missing place other None e h = (e, ap (place_or place) (sym (ap (λ o. elim o [ None ↦ is_missing place | Some n ↦ is_there n ]) e) ∙ h))
-found_missing place other (Some n) e h = absurd (not_true (ap is_missing_place (sym (ap (λ o. elim o [ None ↦ is_missing place | Some n ↦ is_there n ]) e) ∙ h)))
+found_missing place other (Some n) e h = absurd (false_not_true (ap is_missing_place (sym (ap (λ o. elim o [ None ↦ is_missing place | Some n ↦ is_there n ]) e) ∙ h)))
 
 -- a look-up that finds no name
 pub missing_at : (t : Tree) (user : User) (parts : List Name) (place : Place) → look_up t user parts ≡ Ok (is_missing place) → IsMissingAt t user parts place
@@ -69,7 +70,7 @@ missing_at t user parts place h = elim (cases_Bool (has_last_name parts)) [
   | inr none ↦
       let looked = sym (cond-false (has_last_name parts) (parent_walk t user parts >>= λ x. Ok (found_at x)) (walk_parts t user parts >>= λ n. Ok (is_there n)) none) ∙ h in
       let walked = both_steps (walk_parts t user parts) (λ n. Ok (is_there n)) (is_missing place) looked in
-      absurd (not_true (ap is_missing_place (ok_is (is_there walked.0) (is_missing place) (Ok (is_there walked.0)) refl walked.2)))
+      absurd (false_not_true (ap is_missing_place (ok_is (is_there walked.0) (is_missing place) (Ok (is_there walked.0)) refl walked.2)))
 ]
 
 -- what holds of the tree, and of the tree in which the file is cut, holds after the truncate flag
@@ -98,7 +99,7 @@ module _ (g : Geometry) (t : Tree) (user : User) (now session : ℕ) (path : Lis
       cut_is g t now flags n (λ u. IsTree g (with_open u slot n flags))
       (opened_is_tree g t tree slot (slot_free slot is_it.parts (is_there n) is_it.asked t (record { files = refl; descriptors = refl })) n flags
       (ap is_some is_it.at_inode) good
-      (λ w. ap kind_of is_it.at_inode ∙ elim (and_cases (is_dir node) (writes flags) is_it.not_a_directory) [ inl f ↦ f | inr never ↦ absurd (not_true (sym never ∙ w)) ]))
+      (λ w. ap kind_of is_it.at_inode ∙ elim (and_cases (is_dir node) (writes flags) is_it.not_a_directory) [ inl f ↦ f | inr never ↦ absurd (false_not_true (sym never ∙ w)) ]))
       node.body node (λ f body.
       let new = with_body now (is_file (file_after_resize g f 0)) node in
       let u = with_node t n (Some new) in
@@ -124,7 +125,7 @@ module _ (g : Geometry) (t : Tree) (user : User) (now session : ℕ) (path : Lis
         atime = small;
         mtime = small;
         ctime = small;
-        body = record { size = omega arith; held = λ q h. absurd (not_true h); zeros = λ p h. refl; bytes = λ p. omega arith };
+        body = record { size = omega arith; held = λ q h. absurd (false_not_true h); zeros = λ p h. refl; bytes = λ p. omega arith };
       })
       (ap (λ o. links_of o + 1) (sym free.nothing)) (omega arith) in
       taken_if_it_fits g t (descriptor slot.fd) (with_open (with_entry (with_node t n (Some (new_node now user mode 1 empty_file))) now place n) slot n flags) tree (λ fits.

@@ -3,12 +3,14 @@ use Rattle.std.proofs.Common.{◌≡◌, ◌≢◌, ◌<◌, ◌≤◌, ℕ, Boo
 use mathlib.Core.Logic.{inl, inr, ◌⊎◌}
 use Rattle.std.specs.Prelude.{Option, None, Some, is_some, IsTrue}
 use Rattle.std.proofs.lemmas.Bool.{cases_eq, eqb-true, eq-eqb}
+use Rattle.lemmas.proofs.Bools.{false_not_true}
+use Rattle.lemmas.proofs.Options.{some_same}
 use Rattle.layout.specs.declared.Geometry.{Geometry}
 use Rattle.tree.specs.Sums.{put, some_below}
 use Rattle.tree.specs.Tree.{OpenFile, Tree, opens, is_open, leads_to, with_descriptor, most_sessions, most_descriptors, most_open_files, most_size}
 use Rattle.tree.specs.IsTree.{IsOpenFile, IsTree}
 use Rattle.tree.specs.Changes.{at_position}
-use Rattle.tree.proofs.Maps.{put-same, put-other, is_the_one, not_nothing, not_true}
+use Rattle.tree.proofs.Maps.{put-same, put-other, not_nothing}
 use Rattle.tree.proofs.Search.{found_below, one_below}
 
 -- what f says of what is put and of what was there, it says of both maps
@@ -22,7 +24,7 @@ alike_put f map n x h m = elim (cases_eq m n) [
 pub of_put : {X : Type 0} (map : ℕ → Option X) (n : ℕ) (x : X) (P : ℕ → X → Type 0) → P n x → ((m : ℕ) (y : X) → m ≢ n → map m ≡ Some y → P m y)
     → (m : ℕ) (y : X) → put map n (Some x) m ≡ Some y → P m y
 of_put map n x P here there m y h = elim (cases_eq m n) [
-  | inl e ↦ subst (P m) (is_the_one _ _ (sym (ap (put map n (Some x)) e ∙ put-same map n (Some x)) ∙ h)) (subst (λ k. P k x) (sym e) here)
+  | inl e ↦ subst (P m) (some_same _ _ (sym (ap (put map n (Some x)) e ∙ put-same map n (Some x)) ∙ h)) (subst (λ k. P k x) (sym e) here)
   | inr d ↦ there m y d (sym (put-other map n (Some x) m d) ∙ h)
 ]
 
@@ -64,7 +66,7 @@ holders descriptors k = some_below (λ s. some_below (λ fd. leads_to k (descrip
 
 -- a descriptor that leads to k
 leads_is : (k : ℕ) (o : Option ℕ) → leads_to k o ≡ true → o ≡ Some k
-leads_is k None h = absurd (not_true h)
+leads_is k None h = absurd (false_not_true h)
 leads_is k (Some j) h = ap Some (eqb-true j k h)
 
 -- and back
@@ -133,7 +135,7 @@ descriptor_added g t session fd k s_in fd_in free there tree = record {
     each = λ j o h. let old = tree.open_files.each j o h in record { node = old.node; position = old.position; flags = old.flags; not_a_directory = old.not_a_directory };
     descriptors = λ s f j h. elim (descriptor_cases t session fd (Some k) s f) [
       | inl at ↦
-          let is : k ≡ j = is_the_one _ _ (sym (is_at_place t session fd (Some k) s f at.0 at.1) ∙ h) in
+          let is : k ≡ j = some_same _ _ (sym (is_at_place t session fd (Some k) s f at.0 at.1) ∙ h) in
           (omega (arith, s_in, at.0), omega (arith, fd_in, at.1), ap (λ q. is_some (t.open_files q)) (sym is) ∙ there)
       | inr same ↦ tree.open_files.descriptors s f j (sym same ∙ h)
     ];

@@ -5,6 +5,7 @@ use mathlib.Core.Logic.{inl, inr, ◌⊎◌}
 use Rattle.std.specs.Prelude.{Option, None, Some, is_some, is_none, IsTrue, Result, Ok, Err, not, ◌==◌, ◌||◌, nat_lt}
 use Rattle.std.specs.List.{list_any}
 use Rattle.std.proofs.lemmas.Bool.{cases_Bool, cond_both, cond-true, cond-false, eq-eqb, ne_eqb}
+use Rattle.lemmas.proofs.Bools.{false_not_true}
 use Rattle.layout.specs.declared.Geometry.{Geometry}
 use Rattle.errno.specs.declared.Errno.{Errno}
 use Rattle.errno.specs.declared.Errno.TheVariants.{ENOENT, EACCES, EINVAL, ENAMETOOLONG, ENOSPC}
@@ -17,7 +18,6 @@ use Rattle.tree.specs.Walk.{read_path, parts_of, begins_with_slash, most_path, e
 use Rattle.tree.specs.Changes.{free_inode}
 use Rattle.tree.specs.Answers.{Effect}
 pub use Rattle.tree.specs.Room.{with_zones, NoInodeFree}
-use Rattle.tree.proofs.Maps.{not_true}
 use Rattle.tree.proofs.Search.{found_below, least_is_one, least_is_end, free_place_is}
 
 -- the refusal for want of room
@@ -132,7 +132,7 @@ pub record IsFree (g : Geometry) (t : Tree) (n : ℕ) : Type 0 where
 
 -- what is not None is there
 some_or_none : {A : Type 0} (o : Option A) → is_none o ≡ false → IsTrue (is_some o)
-some_or_none None h = absurd (not_true (sym h))
+some_or_none None h = absurd (false_not_true (sym h))
 some_or_none (Some x) h = refl
 
 -- where no place is free, each is taken
@@ -141,7 +141,7 @@ all_taken g t h n from to = some_or_none (t.nodes n) (elim (cases_Bool (is_none 
   | inr f ↦ f
   | inl none ↦
       let is : 1 + (n - 1) ≡ n = omega (arith, from) in
-      absurd (not_true (sym h ∙ found_below (λ j. is_none (t.nodes (1 + j))) g.inodes (n - 1) (omega (arith, from, to)) (ap (λ k. is_none (t.nodes k)) is ∙ none)))
+      absurd (false_not_true (sym h ∙ found_below (λ j. is_none (t.nodes (1 + j))) g.inodes (n - 1) (omega (arith, from, to)) (ap (λ k. is_none (t.nodes k)) is ∙ none)))
 ])
 
 -- an inode is free, or none is

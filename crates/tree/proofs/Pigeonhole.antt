@@ -3,12 +3,12 @@ use Rattle.std.proofs.Common.{◌≡◌, ◌≢◌, ◌<◌, ◌≤◌, ◌+◌,
 use mathlib.Core.Logic.{inl, inr}
 use Rattle.std.specs.Prelude.{◌==◌}
 use Rattle.std.proofs.lemmas.Bool.{cases_eq, cases_Bool, cases_lt, cond-true, cond-false, eqb-true, eq-eqb, ne_eqb}
+use Rattle.lemmas.proofs.Bools.{false_not_true}
 use Rattle.layout.specs.declared.Geometry.{Geometry}
 use Rattle.tree.specs.Sums.{sum_below, count_below, some_below, one_if}
 use Rattle.tree.specs.Tree.{Tree, parent_of}
 use Rattle.tree.specs.IsTree.{above}
 use Rattle.tree.specs.NameCalls.{is_within}
-use Rattle.tree.proofs.Maps.{not_true}
 use Rattle.tree.proofs.Search.{found_below, one_below}
 use Rattle.tree.proofs.Totals.{only_at, only_here, only_elsewhere, sum_gained, sum_of_none, one_for}
 use Rattle.tree.proofs.Shapes.{Nodes, kind_of, IsShape, is_there, has_names}
@@ -69,7 +69,7 @@ two_alike f n within = elim (cases_Bool (some_below (λ b. some_below (λ a. f a
       let c : ℕ → ℕ = λ v. count_below (λ k. f k == v) (n + 1) in
       let met = all_met f (n + 1) (n + 1) (λ k l. let is = within k l in omega (arith, is.1)) in
       let few : (v : ℕ) → c v ≤ 1 = λ v. few_pass (λ k. f k == v) (n + 1) (λ a b l k p q.
-      not_true (sym none ∙ found_below (λ b. some_below (λ a. f a == f b) b) (n + 1) b k
+      false_not_true (sym none ∙ found_below (λ b. some_below (λ a. f a == f b) b) (n + 1) b k
       (found_below (λ a. f a == f b) b a l (eq-eqb (f a) (f b) (eqb-true (f a) v p ∙ sym (eqb-true (f b) v q)))))) in
       let zero_none : c 0 ≡ 0 = none_pass (λ k. f k == 0) (n + 1) (λ k l h. let is = within k l in let e = eqb-true (f k) 0 h in absurd (omega (arith, is.0, e))) in
       let all = few_in_all c n zero_none few in
@@ -116,4 +116,4 @@ module _ (g : Geometry) (nodes : Nodes) (shape : IsShape g nodes) where
 pub never_above : (g : Geometry) (t : Tree) → IsShape g t.nodes → (d n : ℕ) → kind_of (t.nodes d) ≡ true → is_within g t d n ≡ false → (k : ℕ) → above t.nodes k d ≢ n
 never_above g t shape d n h none k e =
     let few = few_steps g t.nodes shape k k d (omega arith) h in
-    not_true (sym none ∙ found_below (λ i. above t.nodes i d == n) (g.inodes + 1) few.0 few.1 (eq-eqb (above t.nodes few.0 d) n (few.2 ∙ e)))
+    false_not_true (sym none ∙ found_below (λ i. above t.nodes i d == n) (g.inodes + 1) few.0 few.1 (eq-eqb (above t.nodes few.0 d) n (few.2 ∙ e)))

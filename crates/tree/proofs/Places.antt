@@ -8,6 +8,7 @@ use Rattle.std.specs.Cmp.{alike_right}
 use Rattle.std.specs.Cmp.Lexicographic.{nat_list_cmp_total}
 use Rattle.std.specs.FinMap.Entries.{is_sorted-where_key, length_without, find-where_key}
 use Rattle.std.proofs.lemmas.Bool.{cases_Bool, cond-true, cond-false, and_parts, and_from, cond_both}
+use Rattle.lemmas.proofs.Bools.{from_T, to_T}
 use Rattle.errno.specs.declared.Errno.TheVariants.{ENOTDIR, EACCES, ENOENT}
 use Rattle.tree.specs.declared.User.{User}
 use Rattle.tree.specs.Names.{Name, Names, name_cmp, is_name, inode_of, without_name}
@@ -63,15 +64,6 @@ is_place t user parts place h =
     subst (IsPlace t) (ok_is _ place (Ok (record { directory = first.0; names = second.0.1; name = last_part parts })) refl second.2)
     (record { node = found.node; directory = found.directory; there = found.there; body = found.body; names = found.same })
 
--- A directory without a name.
-pub true_from : (b : Bool) → T b → b ≡ true
-true_from true h = refl
-true_from false h = absurd h
-
--- a test that holds
-pub from_true : (b : Bool) → b ≡ true → T b
-from_true b h = subst T (sym h) tt
-
 -- all names that are left can be names
 all_left : (name : Name) (es : Names) → list_all (λ e. is_name e.0) es ≡ true → list_all (λ e. is_name e.0) (without_name es name) ≡ true
 all_left name [] h = refl
@@ -84,9 +76,9 @@ all_left name (e ∷ es) h =
 -- a directory without a name fits
 pub without_name_fits : (d : Directory) (name : Name) → IsDirectory d → IsDirectory (record d { names = without_name d.names name })
 without_name_fits d name old = record {
-  size = let l = length_without name_cmp nat_list_cmp_total name d.names (from_true _ old.sorted) in let s = old.size in omega (arith, l, s);
+  size = let l = length_without name_cmp nat_list_cmp_total name d.names (to_T _ old.sorted) in let s = old.size in omega (arith, l, s);
   names = all_left name d.names old.names;
-  sorted = true_from _ (is_sorted-where_key name_cmp _ d.names (from_true _ old.sorted));
+  sorted = from_T _ (is_sorted-where_key name_cmp _ d.names (to_T _ old.sorted));
 }
 
 -- what is found without a name was found with it

@@ -3,6 +3,7 @@ use Rattle.std.proofs.Common.{◌≡◌, ◌≤◌, ◌<◌, ◌+◌, ◌-◌, �
 use Rattle.std.specs.Prelude.{Some, Result, Ok, Err, nat_le, nat_lt, not, ◌&&◌, slice_index}
 use mathlib.Core.Logic.{inl, inr}
 use Rattle.std.proofs.lemmas.Bool.{cases_Bool, cond-true, cond-false, and_from, le-leb, lt-ltb, ltb-true, ltb-false, not_from_true}
+use Rattle.lemmas.proofs.Numbers.{less_fails}
 use Rattle.layout.specs.declared.Geometry.{Geometry}
 use Rattle.errno.specs.declared.Errno.{Errno}
 use Rattle.errno.specs.declared.Errno.TheVariants.{ENOENT, EISDIR, EBADF, EINVAL, ENOSPC}
@@ -44,10 +45,6 @@ record IsWritten (u : Tree) (session fd : ℕ) (bytes : List ℕ) : Type 0 where
   whole : nat_lt (f.size - first) (length bytes) ≡ false
   each : (j : ℕ) → j < length bytes → f.byte (first + j) ≡ slice_index bytes j
 
--- a number that is no less
-not_below : (a b : ℕ) → b ≤ a → nat_lt a b ≡ false
-not_below a b l = elim (cases_Bool (nat_lt a b)) [ inl t ↦ let less = ltb-true a b t in absurd (omega (arith, l, less)) | inr f ↦ f ]
-
 -- what is written is there
 module _ (g : Geometry) (f : File) (at : ℕ) (bytes : List ℕ) where
   abbrev new : File
@@ -60,7 +57,7 @@ module _ (g : Geometry) (f : File) (at : ℕ) (bytes : List ℕ) where
       cond-true (nat_le at (at + j) && nat_lt (at + j) (at + length bytes)) (slice_index bytes (at + j - at)) (f.byte (at + j)) inside ∙ ap (slice_index bytes) same
 
   whole_is : nat_lt (new.size - at) (length bytes) ≡ false
-  whole_is = not_below (new.size - at) (length bytes) (let l = end_in in omega (arith, l))
+  whole_is = less_fails (new.size - at) (length bytes) (let l = end_in in omega (arith, l))
     where
       end_in : at + length bytes ≤ new.size
       end_in = elim (cases_Bool (nat_lt f.size (at + length bytes))) [
@@ -92,7 +89,7 @@ module _ (g : Geometry) (t : Tree) (tree : IsTree g t) (who : Who) (now fd : ℕ
         place = omega (arith, none);
         fits = omega (arith, none, at_most);
         few = omega (arith, none);
-        whole = not_below (f.size - found.1.position) (length bytes) (omega (arith, none));
+        whole = less_fails (f.size - found.1.position) (length bytes) (omega (arith, none));
         each = λ j l. absurd (omega (arith, none, l));
       }))
       (λ found node f is few fits made made_is.
@@ -161,7 +158,7 @@ module _ (g : Geometry) (u : Tree) (who : Who) (allowed : nat_le most_sessions w
       (w.number, o) (opens_to u who.session fd (w.number, o) w.opened)
       ∙ onward (node_at u o.inode) seek_node w.node (ap (λ x. or_refuse x ENOENT) w.there)
       ∙ onward (file_or w.node EISDIR) seek_in w.f (file_is_it w.node EISDIR w.f w.body)
-      ∙ ap (λ b. refuse_if b EINVAL >>= λ _. Ok (position (0 + at), back)) (not_below most_size (0 + at) (let fits = w.fits in omega (arith, fits, here)))
+      ∙ ap (λ b. refuse_if b EINVAL >>= λ _. Ok (position (0 + at), back)) (less_fails most_size (0 + at) (let fits = w.fits in omega (arith, fits, here)))
 
   -- the read
   abbrev o2 : OpenFile
@@ -187,7 +184,7 @@ module _ (g : Geometry) (u : Tree) (who : Who) (allowed : nat_le most_sessions w
       ∙ ap (λ b. refuse_if b EBADF >>= λ _. node_at back o.inode >>= read_node) (not_from_true _ readable)
       ∙ onward (node_at back o.inode) read_node w.node (ap (λ x. or_refuse x ENOENT) w.there)
       ∙ onward (file_or w.node EISDIR) read_in w.f (file_is_it w.node EISDIR w.f w.body)
-      ∙ ap (λ b. refuse_if b EINVAL >>= λ _. take w.f) (not_below most_bytes n w.few)
+      ∙ ap (λ b. refuse_if b EINVAL >>= λ _. take w.f) (less_fails most_bytes n w.few)
 
   bytes_same : bytes_read w.f (0 + at) n ≡ bytes
   bytes_same =

@@ -4,6 +4,7 @@ use mathlib.Core.Logic.{inl, inr}
 use Rattle.std.specs.Prelude.{None, is_some, not, ◌&&◌}
 use Rattle.std.specs.List.{All}
 use Rattle.std.proofs.lemmas.Bool.{cases_Bool, cond-true, cond-false, and_cases, not-false, not_from_false}
+use Rattle.lemmas.proofs.Bools.{and_false_right, false_not_true}
 use Rattle.layout.specs.declared.Geometry.{Geometry}
 use Rattle.layout.specs.Places.{IsGeometry}
 use Rattle.tree.specs.declared.User.{User}
@@ -16,7 +17,6 @@ use Rattle.tree.specs.Changes.{fewer_links}
 use Rattle.tree.specs.Answers.{done, if_it_fits}
 use Rattle.tree.specs.NameCalls.{is_within, is_empty, with_name_lost, without_moved, with_moved, without_replaced, rename}
 use Rattle.tree.specs.Effects.{user_of}
-use Rattle.tree.proofs.Maps.{not_true}
 use Rattle.tree.specs.Keeps.{RenameKeeps}
 use Rattle.tree.proofs.Steps.{tree_after}
 use Rattle.tree.proofs.Places.{IsPlace, is_place}
@@ -30,10 +30,6 @@ use Rattle.tree.proofs.MovedFile.{file_moved, file_moved_onto}
 use Rattle.tree.proofs.MovedTree.{directory_moved, directory_moved_onto}
 use Rattle.tree.proofs.Keeping.{Keeps, keeps_closed, as_it_is, in_session, taken_if_it_fits}
 
--- the second part of a test that fails, where the first holds
-second_fails : (a b : Bool) → (a && b) ≡ false → a ≡ true → b ≡ false
-second_fails a b h t = elim (and_cases a b h) [ inl f ↦ absurd (not_true (sym f ∙ t)) | inr f ↦ f ]
-
 module _ (g : Geometry) (t : Tree) (user : User) (now : ℕ) (old_path new_path : List ℕ) (is : IsGeometry g) (small : now < 2 ^ 32)
     (bytes : All (λ b. b < 256) new_path) (tree : IsTree g t) where
   is_named : (old new : Place) (n : ℕ) (node : Node) → IsMove g t user now old_path new_path (Keeps g t) (keeps_closed g t tree) old new n node → is_name new.name ≡ true
@@ -42,7 +38,7 @@ module _ (g : Geometry) (t : Tree) (user : User) (now : ℕ) (old_path new_path 
   not_below : (new : Place) → IsPlace t new → (n : ℕ) (node : Node) → (is_dir node && is_within g t new.directory n) ≡ false → is_dir node ≡ true
       → (k : ℕ) → above t.nodes k new.directory ≢ n
   not_below new to n node within directory =
-      never_above g t (shape_of g t.nodes tree.nodes) new.directory n (place_kind t new to) (second_fails (is_dir node) (is_within g t new.directory n) within directory)
+      never_above g t (shape_of g t.nodes tree.nodes) new.directory n (place_kind t new to) (and_false_right (is_dir node) (is_within g t new.directory n) within directory)
 
   to_free : (old new : Place) (n : ℕ) (node : Node) → IsMoveToFree g t user now old_path new_path (Keeps g t) (keeps_closed g t tree) old new n node
       → IsTree g (tree_after t (if_it_fits g done (with_moved (without_moved t now old node) now new n node)))
@@ -69,16 +65,16 @@ module _ (g : Geometry) (t : Tree) (user : User) (now : ℕ) (old_path new_path 
       let lost = with_name_lost moved now q in
       elim (cases_Bool (is_dir node)) [
         | inl directory ↦
-            let other_directory = not-false _ (second_fails (is_dir node) (not (is_dir other)) made.can.directory_onto directory) in
-            let empty = not-false _ (second_fails (is_dir other) (not (is_empty other)) made.can.empty other_directory) in
-            let closed = second_fails (is_dir other) (is_open t q) made.can.closed other_directory in
+            let other_directory = not-false _ (and_false_right (is_dir node) (not (is_dir other)) made.can.directory_onto directory) in
+            let empty = not-false _ (and_false_right (is_dir other) (not (is_empty other)) made.can.empty other_directory) in
+            let closed = and_false_right (is_dir other) (is_open t q) made.can.closed other_directory in
             subst (λ u. IsTree g (tree_after t (if_it_fits g done u))) (sym (cond-true (is_dir other) gone lost other_directory))
             (taken_if_it_fits g t done gone tree
             (directory_moved_onto g is t tree now small old new from to n node move.there move.found directory named
             (not_below new to n node made.not_within directory) q made.differs made.taken (ap kind_of made.other_there ∙ other_directory)
             (empty_weighs t q other made.other_there empty) closed))
         | inr file ↦
-            let other_file = second_fails (not (is_dir node)) (is_dir other) made.can.file_onto (not_from_false _ file) in
+            let other_file = and_false_right (not (is_dir node)) (is_dir other) made.can.file_onto (not_from_false _ file) in
             subst (λ u. IsTree g (tree_after t (if_it_fits g done u))) (sym (cond-false (is_dir other) gone lost other_file))
             (taken_if_it_fits g t done lost tree
             (file_moved_onto g is t tree now small old new from to n node move.there move.found file named q made.differs made.taken

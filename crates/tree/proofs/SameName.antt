@@ -1,6 +1,7 @@
 -- A rename of one name of a node onto another of the same node changes nothing.
 use Rattle.std.proofs.Common.{◌≡◌, ℕ, List, refl, sym, subst, ◌∙◌}
 use Rattle.std.specs.Prelude.{Some, Ok, Err, nat_le}
+use Rattle.lemmas.proofs.Options.{some_same}
 use Rattle.layout.specs.declared.Geometry.{Geometry}
 use Rattle.errno.specs.declared.Errno.TheVariants.{EINVAL}
 use Rattle.tree.specs.declared.User.{User}
@@ -11,7 +12,7 @@ use Rattle.tree.specs.Refusals.{◌>>=◌, refuse_if}
 use Rattle.tree.specs.NameCalls.{rename}
 use Rattle.tree.specs.Walk.{Place, read_path, parent_walk}
 use Rattle.tree.specs.Effects.{user_of}
-use Rattle.tree.proofs.Maps.{is_the_one, not_nothing}
+use Rattle.tree.proofs.Maps.{not_nothing}
 use Rattle.tree.specs.Room.{with_zones}
 use Rattle.tree.specs.Sessions.{IsNameOf, RenameOfSameStays}
 use Rattle.tree.proofs.Steps.{tree_after, ok_is}
@@ -40,8 +41,8 @@ module _ (g : Geometry) (t : Tree) (who : Who) (now n : ℕ) (old new : List ℕ
       rename_each g t (user_of who) now old new Stays closed refl
       (λ from to m node made. absurd (not_nothing n (sym made.free ∙ same_found t (user_of who) new n new_name made.move.new_parts to made.move.read made.move.to)))
       (λ from to m node q other made.
-      let a = is_the_one m n (sym made.move.found ∙ same_found t (user_of who) old n old_name made.move.old_parts from made.move.read_old made.move.from) in
-      let b = is_the_one n q (sym (same_found t (user_of who) new n new_name made.move.new_parts to made.move.read made.move.to) ∙ made.taken) in
+      let a = some_same m n (sym made.move.found ∙ same_found t (user_of who) old n old_name made.move.old_parts from made.move.read_old made.move.from) in
+      let b = some_same n q (sym (same_found t (user_of who) new n new_name made.move.new_parts to made.move.read made.move.to) ∙ made.taken) in
       absurd (made.differs (a ∙ b))))
 
 -- rename

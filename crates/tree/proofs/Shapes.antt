@@ -3,12 +3,13 @@ use Rattle.std.proofs.Common.{◌≡◌, ◌≢◌, ◌≤◌, ◌+◌, ℕ, Boo
 use mathlib.Core.Logic.{inl, inr}
 use Rattle.std.specs.Prelude.{Option, None, Some, is_some, IsTrue}
 use Rattle.std.proofs.lemmas.Bool.{cases_eq, cases_Bool, cond-true, cond-false}
+use Rattle.lemmas.proofs.Bools.{false_not_true}
 use Rattle.layout.specs.declared.Geometry.{Geometry}
 use Rattle.tree.specs.Sums.{sum_below, one_if}
 use Rattle.tree.specs.Names.{Name, inode_of}
 use Rattle.tree.specs.Tree.{Body, is_file, is_directory, Node, is_dir, is_dir_at, names_of, parent_of, most_links}
 use Rattle.tree.specs.IsTree.{IsDirectory, IsBody, IsNode, NodesAgree, names_to, all_names_to, subdirectories, above, links_due}
-use Rattle.tree.proofs.Maps.{same_sum, not_true}
+use Rattle.tree.proofs.Maps.{same_sum}
 use Rattle.tree.proofs.Weights.{weigh, names_weigh, subdirectories_weigh}
 use Rattle.tree.proofs.Freed.{no_names, no_parent}
 use Rattle.tree.proofs.Totals.{one_for, one_for_itself, weigh_found, name_found, sum_of_none}
@@ -98,7 +99,7 @@ no_parent_of (Some node) h = no_parent node h
 
 -- a directory is there
 pub is_there : (o : Option Node) → kind_of o ≡ true → IsTrue (is_some o)
-is_there None h = absurd (not_true h)
+is_there None h = absurd (false_not_true h)
 is_there (Some node) h = refl
 
 -- what has names is a directory
@@ -128,7 +129,7 @@ module _ (g : Geometry) (nodes : Nodes) (agree : NodesAgree g nodes) where
       agree.targets a b found.0 (ap (λ o. inode_of (names_of o) found.0) e ∙ found.1)
 
   links_in : (n : ℕ) (o : Option Node) → nodes n ≡ o → kind_of o ≡ true → links_of o ≡ 2 + weight nodes (one_for_each nodes) n
-  links_in n None e h = absurd (not_true h)
+  links_in n None e h = absurd (false_not_true h)
   links_in n (Some node) e h =
       let due = agree.links n node e ∙ cond-true (is_dir node) _ _ h in
       let a = subdirectories_weigh nodes (names_of (Some node)) in
@@ -136,7 +137,7 @@ module _ (g : Geometry) (nodes : Nodes) (agree : NodesAgree g nodes) where
       omega (arith, due, a, b)
 
   no_name : (n a : ℕ) → nodes n ≡ None → weight nodes (one_for n) a ≡ 0
-  no_name n a e = none_or (weight nodes (one_for n) a) (λ l. not_true (sym (ap is_some e) ∙ target a n (nodes a) refl l))
+  no_name n a e = none_or (weight nodes (one_for n) a) (λ l. false_not_true (sym (ap is_some e) ∙ target a n (nodes a) refl l))
     where
       none_or : (k : ℕ) → (1 ≤ k → ⊥) → k ≡ 0
       none_or k never = elim (cases_eq k 0) [ inl z ↦ z | inr d ↦ absurd (never (omega (arith, d))) ]

@@ -3,6 +3,7 @@ use Rattle.std.proofs.Common.{◌≡◌, ◌≤◌, ◌<◌, ◌+◌, ◌-◌, �
 use mathlib.Core.Logic.{inl, inr, ◌⊎◌}
 use Rattle.std.specs.Prelude.{Option, None, Some, is_some, IsTrue, Ok, Err, nat_lt, not, ◌&&◌}
 use Rattle.std.proofs.lemmas.Bool.{cases_eq, cases_Bool, cond_both, cond-true, cond-false, ltb-true, ltb-false, lt-ltb, not-true}
+use Rattle.lemmas.proofs.Bools.{false_not_true}
 use Rattle.layout.specs.declared.Geometry.{Geometry}
 use Rattle.errno.specs.declared.Errno.{Errno}
 use Rattle.errno.specs.declared.Errno.TheVariants.{ENOSPC}
@@ -10,7 +11,7 @@ use Rattle.tree.specs.Tree.{Node, Tree, is_open, with_node, on_node}
 use Rattle.tree.specs.Space.{zones_used, data_zones}
 use Rattle.tree.specs.Changes.{has_no_link, without_nameless}
 use Rattle.tree.specs.Answers.{Answer, Effect, if_it_fits}
-use Rattle.tree.proofs.Maps.{put-same, put-other, not_true}
+use Rattle.tree.proofs.Maps.{put-same, put-other}
 use Rattle.tree.specs.Room.{with_zones, NoInodeFree}
 use Rattle.tree.proofs.Steps.{not_refused, ok_is}
 use Rattle.tree.proofs.Outcomes.{Effects, IsClosed, is_enospc}
@@ -40,7 +41,7 @@ refusal e = Err e
 
 -- a step that isn't refused for want of room doesn't answer ENOSPC
 pub plain_never : (e : Errno) → not (is_enospc e) ≡ true → refusal e ≡ refusal ENOSPC → ⊥
-plain_never e plain h = not_true (sym (not-true _ plain) ∙ ap lacks_room h)
+plain_never e plain h = false_not_true (sym (not-true _ plain) ∙ ap lacks_room h)
   where
     lacks_room : Effect → Bool
     lacks_room (Ok made) = false
@@ -144,7 +145,7 @@ no_more_on t u n f old m h = old m (sym (view_kept is_some u n f (λ _. refl) m)
 -- a node that goes
 pub no_more_gone : (t u : Tree) (n : ℕ) → IsNoMore u t → IsNoMore (with_node u n None) t
 no_more_gone t u n old m h = elim (cases_eq m n) [
-  | inl e ↦ absurd (not_true (sym (ap is_some (ap (with_node u n None).nodes e ∙ put-same u.nodes n None)) ∙ h))
+  | inl e ↦ absurd (false_not_true (sym (ap is_some (ap (with_node u n None).nodes e ∙ put-same u.nodes n None)) ∙ h))
   | inr d ↦ old m (sym (ap is_some (put-other u.nodes n None m d)) ∙ h)
 ]
 

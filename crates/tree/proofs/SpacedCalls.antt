@@ -2,6 +2,7 @@
 use Rattle.std.proofs.Common.{◌≡◌, ◌≤◌, ◌<◌, ℕ, Bool, true, false, refl, sym, ap, subst, ◌∙◌, arith, length}
 use Rattle.std.specs.Prelude.{Option, None, Some, is_some, IsTrue, Ok, Err, nat_le}
 use Rattle.std.proofs.lemmas.Bool.{cond_both}
+use Rattle.lemmas.proofs.Bools.{false_not_true}
 use Rattle.layout.specs.declared.Geometry.{Geometry}
 use Rattle.errno.specs.declared.Errno.TheVariants.{EINVAL}
 use Rattle.tree.specs.declared.Who.{Who}
@@ -17,7 +18,6 @@ use Rattle.tree.specs.NameCalls.{with_entry, without_entry, with_name_lost, with
 use Rattle.tree.specs.FileCalls.{bytes_read, with_open, after_truncate_flag}
 use Rattle.tree.specs.Answers.{Answer, Effect, done, descriptor, some_bytes, wrote, position, node_is, names_are, room_is}
 use Rattle.tree.specs.Effects.{user_of, effect_in_session, effect_of, tree_after_call}
-use Rattle.tree.proofs.Maps.{not_true}
 use Rattle.tree.specs.Room.{with_zones, NoInodeFree, may_take, may_make, EveryCallFits, TooBigIsRefused, FullMakesNone, OthersHaveRoom}
 use Rattle.tree.proofs.Outcomes.{IsFree, plain_refuse}
 use Rattle.tree.proofs.NodeOutcomes.{stat_each, chmod_each, chown_each, utime_each, truncate_each, unlink_each}
@@ -98,7 +98,7 @@ module _ (g : Geometry) (sized : 0 < g.block_size) (t : Tree) (who : Who) (now :
 
   -- where no inode is free, none is taken
   never_free : {A : Type 0} (n : ℕ) → IsFree g t n → NoInodeFree g t → A
-  never_free n free full = absurd (not_true (sym (ap is_some free.nothing) ∙ full n free.from free.to))
+  never_free n free full = absurd (false_not_true (sym (ap is_some free.nothing) ∙ full n free.from free.to))
 
   call_spaced : (call : Call) → IsSpaced g t (may_take call) (may_make call) (λ z. effect_in_session (with_zones z g) t who now call)
   call_spaced (Open path flags mode) =
@@ -197,4 +197,4 @@ full_makes_none g t who now zones call made geometry full is = (effect_spaced g 
 
 -- the calls that take none
 pub others_have_room : OthersHaveRoom
-others_have_room g t who now call geometry other is = not_true (sym other ∙ ((effect_spaced g geometry.sized t who now call).why is).0)
+others_have_room g t who now call geometry other is = false_not_true (sym other ∙ ((effect_spaced g geometry.sized t who now call).why is).0)

@@ -7,9 +7,11 @@ use Rattle.std.specs.Cmp.{tied_itself}
 use Rattle.std.specs.Cmp.Lexicographic.{nat_list_cmp_total}
 use Rattle.std.specs.FinMap.Entries.{is_sorted, below_all}
 use Rattle.std.proofs.lemmas.Bool.{cases_eq, cases_Bool, cond-true, cond-false, eq-eqb, ne_eqb, and_parts}
+use Rattle.lemmas.proofs.Bools.{false_not_true}
+use Rattle.lemmas.proofs.Options.{some_same}
 use Rattle.tree.specs.Sums.{sum_below, one_if}
 use Rattle.tree.specs.Names.{Name, Names, name_cmp, inode_of}
-use Rattle.tree.proofs.Maps.{is_the_one, not_nothing, not_true}
+use Rattle.tree.proofs.Maps.{not_nothing}
 use Rattle.tree.proofs.Weights.{weigh, once, sum_with_more}
 use Rattle.tree.proofs.Freed.{part_below}
 
@@ -78,7 +80,7 @@ pub weigh_found : (w : ℕ → ℕ) (es : Names) (name : Name) (n : ℕ) → ino
 weigh_found w [] name n h = absurd (not_nothing n h)
 weigh_found w (e ∷ es) name n h = elim (cases_Bool (eq_by_cmp name_cmp name e.0)) [
   | inl t ↦
-      let is : w e.1 ≡ w n = ap w (is_the_one _ _ (sym (cond-true (eq_by_cmp name_cmp name e.0) (Some e.1) (inode_of es name) t) ∙ h)) in
+      let is : w e.1 ≡ w n = ap w (some_same _ _ (sym (cond-true (eq_by_cmp name_cmp name e.0) (Some e.1) (inode_of es name) t) ∙ h)) in
       omega (arith, is)
   | inr f ↦ let rest = weigh_found w es name n (sym (cond-false (eq_by_cmp name_cmp name e.0) (Some e.1) (inode_of es name) f) ∙ h) in omega (arith, rest)
 ]
@@ -96,7 +98,7 @@ name_found (e ∷ es) n s l = elim (cases_eq e.1 n) [
   where
     differs : (q : Name) → inode_of es q ≡ Some n → eq_by_cmp name_cmp q e.0 ≡ false
     differs q h = elim (cases_Bool (eq_by_cmp name_cmp q e.0)) [
-      | inl t ↦ absurd (not_true (sym (once q e es s t) ∙ ap is_some h))
+      | inl t ↦ absurd (false_not_true (sym (once q e es s t) ∙ ap is_some h))
       | inr f ↦ f
     ]
 

@@ -2,11 +2,11 @@
 use Rattle.std.proofs.Common.{◌≡◌, ◌≢◌, ℕ, true, refl, sym, ap, subst, ◌∙◌}
 use Rattle.std.specs.Prelude.{Option, None, Some, is_some, IsTrue}
 use Rattle.std.proofs.lemmas.Bool.{eq-eqb}
+use Rattle.lemmas.proofs.Bools.{false_not_true}
 use Rattle.layout.specs.declared.Geometry.{Geometry}
 use Rattle.tree.specs.Tree.{Node, OpenFile, Tree, names_of, with_node, on_node, opens, is_open, most_open_files}
 use Rattle.tree.specs.IsTree.{NodesAgree, OpenFilesAgree, IsTree}
 use Rattle.tree.specs.Walk.{Place}
-use Rattle.tree.proofs.Maps.{not_true}
 use Rattle.tree.proofs.Search.{found_below}
 use Rattle.tree.proofs.Freed.{IsTreeBut}
 use Rattle.tree.proofs.Places.{IsPlace}
@@ -35,7 +35,7 @@ pub nameless_open : (g : Geometry) (t : Tree) → IsTree g t → (m : ℕ) → I
 nameless_open g t tree m some none = by_node (t.nodes m) refl some none
   where
     by_node : (o : Option Node) → t.nodes m ≡ o → IsTrue (is_some o) → links_of o ≡ 0 → IsTrue (is_open t m)
-    by_node None e some none = absurd (not_true some)
+    by_node None e some none = absurd (false_not_true some)
     by_node (Some node) e some none = tree.nameless m node e none
 
 -- an open file's node is open

@@ -1,6 +1,7 @@
 -- A file that loses a name leaves a tree a tree, whether or not it goes.
 use Rattle.std.proofs.Common.{◌≡◌, ◌≤◌, ◌<◌, ◌+◌, ◌^◌, ℕ, true, false, refl, sym, ap, ◌∙◌, arith}
 use Rattle.std.specs.Prelude.{Some, is_some, IsTrue}
+use Rattle.lemmas.proofs.Bools.{false_not_true}
 use Rattle.layout.specs.declared.Geometry.{Geometry}
 use Rattle.tree.specs.declared.Call.TheVariants.{Unlink}
 use Rattle.tree.specs.Names.{Names, inode_of, without_name}
@@ -10,7 +11,6 @@ use Rattle.tree.specs.Walk.{Place}
 use Rattle.tree.specs.Changes.{with_link_lost, without_nameless}
 use Rattle.tree.specs.NameCalls.{without_entry}
 use Rattle.tree.specs.Effects.{user_of}
-use Rattle.tree.proofs.Maps.{not_true}
 use Rattle.tree.specs.Keeps.{UnlinkKeeps}
 use Rattle.tree.proofs.Places.{IsPlace, is_place}
 use Rattle.tree.proofs.Weights.{weigh}
@@ -94,7 +94,7 @@ module _ (g : Geometry) (t : Tree) (tree : IsTree g t) (now : ℕ) (small : now 
       (λ w vanishes m. let is = weights w m in let none = only_nothing d (w n) m (vanishes n file) in omega (arith, is, none))
       (λ m h.
       let is = links m in
-      let none = only_elsewhere n 1 m (λ e. not_true (sym file ∙ ap (λ k. kind_of (t.nodes k)) (sym e) ∙ h)) in
+      let none = only_elsewhere n 1 m (λ e. false_not_true (sym file ∙ ap (λ k. kind_of (t.nodes k)) (sym e) ∙ h)) in
       omega (arith, is, none))
       (λ m h. let is = links m in let was = old.file_links m h in let one = only_one n m in let all = totals m in omega (arith, is, was, one, all))
 

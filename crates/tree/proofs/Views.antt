@@ -3,6 +3,7 @@ use Rattle.std.proofs.Common.{◌≡◌, ◌≢◌, ◌<◌, ◌≤◌, ◌+◌,
 use mathlib.Core.Logic.{inl, inr}
 use Rattle.std.specs.Prelude.{Option, None, Some, is_some, IsTrue}
 use Rattle.std.proofs.lemmas.Bool.{cases_eq}
+use Rattle.lemmas.proofs.Bools.{false_not_true, to_T}
 use Rattle.layout.specs.declared.Geometry.{Geometry}
 use Rattle.tree.specs.Sums.{put}
 use Rattle.tree.specs.Names.{Names, is_name, inode_of, with_name, without_name}
@@ -11,9 +12,9 @@ use Rattle.tree.specs.IsTree.{IsNode}
 use Rattle.tree.specs.Walk.{Place}
 use Rattle.tree.specs.Changes.{with_names, with_body}
 use Rattle.tree.specs.NameCalls.{with_entry, without_entry}
-use Rattle.tree.proofs.Maps.{put-same, put-other, not_true, not_nothing}
+use Rattle.tree.proofs.Maps.{put-same, put-other, not_nothing}
 use Rattle.tree.proofs.OpenFiles.{alike_put, of_put}
-use Rattle.tree.proofs.Places.{from_true, without_name_fits}
+use Rattle.tree.proofs.Places.{without_name_fits}
 use Rattle.tree.proofs.Weights.{weigh, weigh_with_name, weigh_without_name}
 use Rattle.tree.proofs.Totals.{only_at, only_here, only_elsewhere, weigh_one}
 use Rattle.tree.proofs.Entries.{with_name_fits, weigh_with_name_over}
@@ -73,7 +74,7 @@ pub view_gained : (v : Option Node → ℕ) (t : Tree) (n : ℕ) (f : Node → N
 view_gained v t n f x some more m = by_node (t.nodes n) refl some
   where
     by_node : (o : Option Node) → t.nodes n ≡ o → IsTrue (is_some o) → v ((on_node t n f).nodes m) ≡ v (t.nodes m) + only_at n x m
-    by_node None e some = absurd (not_true some)
+    by_node None e some = absurd (false_not_true some)
     by_node (Some node) e some =
         ap (λ u. v (u.nodes m)) (on_node_there t n f node e)
         ∙ put_gained v t.nodes n (Some (f node)) x (more node e ∙ ap (λ o. v o + x) (sym e)) m
@@ -84,7 +85,7 @@ pub view_lost : (v : Option Node → ℕ) (t : Tree) (n : ℕ) (f : Node → Nod
 view_lost v t n f x some less m = by_node (t.nodes n) refl some
   where
     by_node : (o : Option Node) → t.nodes n ≡ o → IsTrue (is_some o) → v (t.nodes m) ≡ v ((on_node t n f).nodes m) + only_at n x m
-    by_node None e some = absurd (not_true some)
+    by_node None e some = absurd (false_not_true some)
     by_node (Some node) e some =
         put_lost v t.nodes n (Some (f node)) x (ap v e ∙ less node e) m
         ∙ ap (λ u. v (u.nodes m) + only_at n x m) (sym (on_node_there t n f node e))
@@ -144,7 +145,7 @@ module _ (t : Tree) (now : ℕ) (place : Place) (n : ℕ) (directory : kind_of (
 
   more_in : (w : ℕ → ℕ) (body : Body) (node : Node) → kind_of (Some (record node { body = body })) ≡ true → inode_of (names_of (Some (record node { body = body }))) place.name ≡ None
       → weigh w (names_of (Some (with_names now F (record node { body = body })))) ≡ weigh w (names_of (Some (record node { body = body }))) + w n
-  more_in w (is_file f) node k h = absurd (not_true k)
+  more_in w (is_file f) node k h = absurd (false_not_true k)
   more_in w (is_directory d) node k h = weigh_with_name w place.name n d.names h
 
   pub weight_with : inode_of (names_of (t.nodes place.directory)) place.name ≡ None
@@ -177,8 +178,8 @@ module _ (t : Tree) (now : ℕ) (place : Place) (n : ℕ) (directory : kind_of (
   over_in : (g : Geometry) (w : ℕ → ℕ) (q : ℕ) (body : Body) (node : Node) → IsNode g (record node { links = 0; body = body }) → kind_of (Some (record node { body = body })) ≡ true
       → inode_of (names_of (Some (record node { body = body }))) place.name ≡ Some q
       → weigh w (names_of (Some (with_names now F (record node { body = body })))) + w q ≡ weigh w (names_of (Some (record node { body = body }))) + w n
-  over_in g w q (is_file f) node fits k h = absurd (not_true k)
-  over_in g w q (is_directory d) node fits k h = weigh_with_name_over w place.name n q d.names (from_true _ fits.body.sorted) h
+  over_in g w q (is_file f) node fits k h = absurd (false_not_true k)
+  over_in g w q (is_directory d) node fits k h = weigh_with_name_over w place.name n q d.names (to_T _ fits.body.sorted) h
 
   pub weight_over : (g : Geometry) → AllFit g t.nodes → (q : ℕ) → inode_of (names_of (t.nodes place.directory)) place.name ≡ Some q
       → (w : ℕ → ℕ) (m : ℕ) → weight (with_entry t now place n).nodes w m + only_at place.directory (w q) m ≡ weight t.nodes w m + only_at place.directory (w n) m
@@ -186,7 +187,7 @@ module _ (t : Tree) (now : ℕ) (place : Place) (n : ℕ) (directory : kind_of (
     where
       by_node : (o : Option Node) → t.nodes place.directory ≡ o → kind_of o ≡ true
           → weight (with_entry t now place n).nodes w m + only_at place.directory (w q) m ≡ weight t.nodes w m + only_at place.directory (w n) m
-      by_node None e k = absurd (not_true k)
+      by_node None e k = absurd (false_not_true k)
       by_node (Some node) e k =
           let over = over_in g w q node.body node (fits place.directory node e) k (ap (λ o. inode_of (names_of o) place.name) (sym e) ∙ taken) in
           let at_place = ap (λ o. weigh w (names_of o)) (on_node_at t place.directory (with_names now F) node e) in

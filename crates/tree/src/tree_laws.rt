@@ -1,7 +1,8 @@
 //! Laws of the file tree: every client call keeps a tree a tree and keeps to the room on its volume, and what a server and its
 //! clients may rest on from call to call. Each law is the contract of a function that does nothing.
 
-ghost use Rattle.tree.specs.Keeps.{ChmodKeeps, ChownKeeps, UtimeKeeps, SeekKeeps, ReadKeeps, DupKeeps, CloseKeeps, WriteKeeps, TruncateKeeps, UnlinkKeeps, LinkKeeps, MkdirKeeps, RmdirKeeps, OpenKeeps, RenameKeeps, EveryCallKeeps};
+ghost use Rattle.tree.specs.Keeps.{ChmodKeeps, ChownKeeps, UtimeKeeps, SeekKeeps, ReadKeeps, DupKeeps, CloseKeeps, WriteKeeps};
+ghost use Rattle.tree.specs.Keeps.{TruncateKeeps, UnlinkKeeps, LinkKeeps, MkdirKeeps, RmdirKeeps, OpenKeeps, RenameKeeps, EveryCallKeeps};
 ghost use Rattle.tree.specs.Room.{EveryCallFits, TooBigIsRefused, FullIsRefused, EnospcMeans, FullMakesNone, OthersHaveRoom};
 ghost use Rattle.tree.specs.Sessions.{OtherSessionsStay, RenameOfSameStays, ReaddirLists, ReadGivesWritten};
 ghost use Rattle.tree.specs.Order.{LinkOrder, OpenOrder, FoundOrder, RenameOrder};

@@ -2,6 +2,9 @@
 use Rattle.std.proofs.Common.{◌≡◌, ◌⊎◌, ℕ, suc, zero, ◌+◌, ◌-◌, ◌*◌, ◌/◌, ◌%◌, ◌<◌, ◌≤◌, List, ◌∷◌, Bool, true, false, cond, refl, sym, ◌∙◌, ap, inl, inr, arith, Option, Some, None}
 use Rattle.std.proofs.lemmas.Bool.Decides.{leb_tells, nat_tests}
 use Rattle.std.specs.Prelude.{slice_index, ◌&&◌, ◌==◌, not, nat_le, nat_lt, is_some}
+use Rattle.lemmas.proofs.Options.{some_same}
+use Rattle.lemmas.proofs.Numbers.{outside_fails, within_holds}
+use Rattle.lemmas.proofs.Bools.{and_left, and_right}
 use Rattle.message.specs.declared.endpoint.Endpoint.{Endpoint}
 use Rattle.message.specs.declared.Kind.{Kind}
 use Rattle.message.specs.declared.Kind.TheVariants.{Read, Write}
@@ -29,16 +32,6 @@ pub record Good (v : Opening) (media : MediaState) (marks : List Mark) (a : Bloc
   pub some : 0 < n
   pub fits : Fits v r
   pub each : (j : ℕ) → 512 * j < n → Moved v media r (payload r.kind r.bytes a.bytes) j
-
-not_within : (w : Bool) (position n place : ℕ) → (place < position) ⊎ (position + n ≤ place)
-    → (w && nat_le position place && nat_lt place (position + n)) ≡ false
-not_within true position n place h = grind (arith, nat_tests)
-not_within false position n place h = refl
-
-is_within : (w : Bool) (position n place : ℕ) → w ≡ true → position ≤ place → place < position + n
-    → (w && nat_le position place && nat_lt place (position + n)) ≡ true
-is_within true position n place e low high = grind (arith, nat_tests)
-is_within false position n place e low high = cc
 
 -- after the answer
 unsure_is : (marks : List Mark) (a : BlockReply) (r : BlockRequest) (n p : ℕ)
@@ -72,9 +65,9 @@ answered_write v image media marks a r n g kind h = record { each = λ s o insid
       → slice_index (sector media (v.first + s)) o ≡ disk_after image (Answered a ∷ marks) (512 * s + o)
   out s o inside less off sure =
       let u : unsure (Answered a ∷ marks) (512 * s + o) ≡ unsure marks (512 * s + o) =
-      unsure_is marks a r n (512 * s + o) g.there g.good ∙ rw (not_within (is_write r.kind) r.position n (512 * s + o) off) refl in
+      unsure_is marks a r n (512 * s + o) g.there g.good ∙ rw (outside_fails (is_write r.kind) r.position n (512 * s + o) off) refl in
       let d : disk_after image (Answered a ∷ marks) (512 * s + o) ≡ disk_after image marks (512 * s + o) =
-      disk_is image marks a r n (512 * s + o) g.there g.good ∙ rw (not_within (is_write r.kind) r.position n (512 * s + o) off) refl in
+      disk_is image marks a r n (512 * s + o) g.there g.good ∙ rw (outside_fails (is_write r.kind) r.position n (512 * s + o) off) refl in
       h.each s o inside less (sym u ∙ sure) ∙ sym d
 
   within : (s o : ℕ) → s < v.count → o < 512 → r.position ≤ 512 * s + o → 512 * s + o < r.position + n
@@ -92,7 +85,7 @@ answered_write v image media marks a r n g kind h = record { each = λ s o insid
       let place_is : 512 * s + o - r.position ≡ 512 * j + o = omega (arith, start, j_is) in
       let on_disk : disk_after image (Answered a ∷ marks) (512 * s + o) ≡ slice_index r.bytes (512 * j + o) =
       disk_is image marks a r n (512 * s + o) g.there g.good
-      ∙ rw (is_within (is_write r.kind) r.position n (512 * s + o) write low high) (ap (λ (k : ℕ). slice_index r.bytes k) place_is) in
+      ∙ rw (within_holds (is_write r.kind) r.position n (512 * s + o) write low high) (ap (λ (k : ℕ). slice_index r.bytes k) place_is) in
       ap (λ (t : ℕ). slice_index (sector media (v.first + t)) o) (sym same) ∙ sym (here.same o less) ∙ own ∙ sym on_disk
 
   at : (s o : ℕ) → s < v.count → o < 512 → unsure (Answered a ∷ marks) (512 * s + o) ≡ false
@@ -129,15 +122,6 @@ answer_true v image media marks a r n Read g kind read h = record {
       ∙ ap (λ (t : ℕ). disk_after image marks t) place_is;
 }
 
--- what counts
-and_left : (a b : Bool) → (a && b) ≡ true → a ≡ true
-and_left true b e = refl
-and_left false b e = cc
-
-and_right : (a b : Bool) → (a && b) ≡ true → b ≡ true
-and_right true b e = e
-and_right false b e = cc
-
 same_true : (o : Option Endpoint) (e : Endpoint) → is_endpoint e o ≡ true → o ≡ Some e
 same_true None e h = cc
 same_true (Some d) e h =
@@ -147,12 +131,9 @@ same_true (Some d) e h =
     let g' : d.generation ≡ e.generation = grind (arith, nat_tests) in
     ap (λ (x : ℕ). Some (record { slot = x; generation = d.generation })) s' ∙ ap (λ (x : ℕ). Some (record { slot = e.slot; generation = x })) g'
 
-some_is : {A : Type 0} (x y : A) → Some x ≡ Some y → x ≡ y
-some_is x y e = cc
-
 last_is : (g : ℕ) (e : Endpoint) → started_at g ≡ Some e → e ≡ driver_at g
 last_is zero e h = cc
-last_is (suc g) e h = some_is e (driver_at (suc g)) (sym h)
+last_is (suc g) e h = some_same e (driver_at (suc g)) (sym h)
 
 -- an answer that counts, with the request that it is for
 record Counted (x : State) (a : BlockReply) (r : BlockRequest) : Type 0 where

@@ -2,6 +2,7 @@
 use Rattle.std.proofs.Common.{◌≡◌, ◌⊎◌, ℕ, suc, zero, ◌+◌, ◌-◌, ◌*◌, ◌<◌, ◌≤◌, List, ◌∷◌, Bool, true, false, cond, refl, sym, ◌∙◌, ap, subst, inl, inr, arith, max, Option, Some, None}
 use Rattle.std.proofs.lemmas.Bool.Decides.{nat_tests}
 use Rattle.std.specs.Prelude.{◌||◌, ◌&&◌, ◌==◌, not, IsSomeAnd, IfSome}
+use Rattle.lemmas.proofs.Bools.{or_false_right}
 use Rattle.message.specs.declared.endpoint.Endpoint.{Endpoint}
 use Rattle.message.specs.declared.BlockRequest.{BlockRequest}
 use Rattle.message.specs.declared.BlockReply.{BlockReply}
@@ -276,11 +277,6 @@ replaced_keeps v image given x g m inv less driver fresh =
           absurd (omega (arith, inv.older r i, h, top, less));
     }
 
--- a request is issued, or put on the line again
-sure_before : (a b : Bool) → (a || b) ≡ false → b ≡ false
-sure_before true b e = cc
-sure_before false b e = e
-
 work_issued : (v : Opening) (media : MediaState) (marks : List Mark) (r : BlockRequest) (to : Endpoint) (last : ℕ) (o : Option Work) → OpenAfterIssue marks r to
     → AnyWorkHolds v media marks last o → AnyWorkHolds v media (Issued r to ∷ marks) last o
 work_issued v media marks r to last None a h = tt
@@ -296,7 +292,7 @@ issued_keeps v image given x r to inv may fits =
       range = inv.range;
       media = record {
         each = λ s o inside less sure. inv.media.each s o inside less
-            (sure_before (is_write r.kind && covers r (512 * s + o)) (unsure x.marks (512 * s + o)) sure);
+            (or_false_right (is_write r.kind && covers r (512 * s + o)) (unsure x.marks (512 * s + o)) sure);
       };
       outside = inv.outside;
       true_replies = inv.true_replies;

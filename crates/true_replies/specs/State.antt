@@ -14,7 +14,7 @@ use Rattle.bdev.specs.DriverState.{DriverState, Work, range_of}
 use Rattle.bdev.specs.Promises.{requests_in_work, IsDriver}
 use Rattle.true_replies.specs.Posted.{driver_at, started_at, since_start, IsSent}
 
--- a run between two events: of the drivers the last one started alone, since the others can do nothing more
+-- a run between two events: of the drivers the last one started alone, since no reply of the others counts, and the media refuse their writes
 pub record State : Type 0 where
   pub media : MediaState
   pub current : DriverState

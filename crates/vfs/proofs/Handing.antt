@@ -1,6 +1,7 @@
 -- What a message that is handed over to a server over a cache keeps.
 use Rattle.std.proofs.Common.{◌≡◌, ℕ, ◌<◌, List, [], ◌∷◌, ◌++◌, false, refl, sym, ◌∙◌, ap, subst, Some}
 use Rattle.std.specs.Prelude.{is_some, Option}
+use Rattle.lemmas.proofs.Bools.{from_clash, is_false}
 use Rattle.layout.specs.declared.Geometry.{Geometry}
 use Rattle.message.specs.declared.Incoming.{Incoming}
 use Rattle.tree.specs.Sums.{some_below}
@@ -25,7 +26,7 @@ use Rattle.cache.proofs.Leading.{leads_by}
 use Rattle.descriptors.specs.Files.{Files, HasFiles}
 use Rattle.file_server.specs.Over.{AbsorbsOver}
 use Rattle.vfs.specs.Serving.{IsServer, server_of}
-use Rattle.vfs.proofs.Keeping.{tree_acts, legal_acts, gone_acts, not_true, never, view_of, covers_of}
+use Rattle.vfs.proofs.Keeping.{tree_acts, legal_acts, gone_acts, view_of, covers_of}
 
 module _ (g : Geometry) (a b : Caching) (n k : ℕ) (many : k ≡ n) (f : Files) (m : Incoming) (sized : a.size ≡ g.block_size) (some : 0 < g.block_size)
     (ends : a.ended ≡ took_end a.told) (h : HandsOver m a b) where
@@ -84,10 +85,10 @@ module _ (g : Geometry) (a b : Caching) (n k : ℕ) (many : k ≡ n) (f : Files)
       (x.related image marks k (late image marks k tr))
 
   opened : b.ended ≡ false → a.ended ≡ false
-  opened live = not_true a.ended (λ e. never (sym (x.ended e) ∙ live))
+  opened live = is_false a.ended (λ e. from_clash (sym (x.ended e) ∙ live))
 
   going : (marks : List Mark) → gave_up (after marks) ≡ false → gave_up marks ≡ false
-  going marks u = not_true (gave_up marks) (λ e. never (sym (gone_acts (x.acts ++ Absorbed m ∷ []) marks e) ∙ u))
+  going marks u = is_false (gave_up marks) (λ e. from_clash (sym (gone_acts (x.acts ++ Absorbed m ∷ []) marks e) ∙ u))
 
   tree_is : (tree : Tree) (marks : List Mark) → tree_after g tree (after marks) ≡ tree_after g tree marks
   tree_is tree marks = tree_acts g tree (x.acts ++ Absorbed m ∷ []) marks

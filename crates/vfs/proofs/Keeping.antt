@@ -1,6 +1,7 @@
 -- What a call of a server over a cache keeps.
 use Rattle.std.proofs.Common.{◌≡◌, ◌≢◌, ℕ, ◌<◌, List, [], ◌∷◌, Bool, true, false, cond, refl, sym, ◌∙◌, ap, subst, inl, inr, None}
 use Rattle.std.specs.Prelude.{IsTrue, Option, is_some}
+use Rattle.lemmas.proofs.Bools.{from_clash, is_false}
 use Rattle.errno.specs.declared.Errno.TheVariants.{EIO}
 use Rattle.layout.specs.declared.Geometry.{Geometry}
 use Rattle.message.specs.declared.Incoming.{Incoming}
@@ -104,18 +105,11 @@ gone_acts (AtLink (Received m) ∷ acts) marks h = gone_received m (marks_after 
 
 -- ---- small facts
 
-pub never : {X : Type 0} → true ≡ false → X
-never e = absurd (let y : ⊥ = cc in y)
-
 cut_replied : (a : Answer) → Replied a ≡ Cut → ⊥
 cut_replied a e = cc
 
 same_reply : (a b : Answer) → Replied a ≡ Replied b → a ≡ b
 same_reply a b e = cc
-
-pub not_true : (b : Bool) → (b ≡ true → ⊥) → b ≡ false
-not_true true h = absurd (h refl)
-not_true false h = refl
 
 -- a cache's slots at some record
 pub view_of : (g : Geometry) → 0 < g.block_size → (c : Caching) → c.size ≡ g.block_size → (image : Contents) (marks : List Mark)
@@ -213,10 +207,10 @@ module _ (g : Geometry) (a b : Caching) (n m : ℕ) (many : m ≡ n) (p q : File
       (does : (d e : Disk) → Sees a b d e → DoesCall g who now call answer p q d e) where
     -- before it the tree was there
     goes_on : (marks : List Mark) → Agrees a.table marks → gave_up marks ≡ false
-    goes_on marks k = not_true (gave_up marks) (λ e. never (sym (gone_acts x.acts marks e) ∙ sym (given_up marks k) ∙ going))
+    goes_on marks k = is_false (gave_up marks) (λ e. from_clash (sym (gone_acts x.acts marks e) ∙ sym (given_up marks k) ∙ going))
 
     opened : a.ended ≡ false
-    opened = not_true a.ended (λ e. never (sym (x.ended e) ∙ live))
+    opened = is_false a.ended (λ e. from_clash (sym (x.ended e) ∙ live))
 
     abbrev more : List Mark → List Mark
     more marks = Took who now call answer ∷ after marks
@@ -290,12 +284,12 @@ module _ (g : Geometry) (a b : Caching) (n m : ℕ) (many : m ≡ n) (p q : File
       acts = x.acts;
       leads = led.leads;
       none_absorbed = x.none_absorbed;
-      cut = (λ e. absurd (cut_replied answer e), λ e. never (sym e ∙ live));
+      cut = (λ e. absurd (cut_replied answer e), λ e. from_clash (sym e ∙ live));
       rules = λ image tree marks k. led.rules marks k.table;
       only_given_up = λ image tree marks k e. absurd (proper (same_reply answer (refused EIO) e));
-      once_given_up = λ image tree marks k e. never (sym e ∙ sym (given_up marks k.table) ∙ going);
-      after_giving_up = λ image tree marks k e. never (sym e ∙ goes_on marks k.table);
-      after_end = λ e. never (sym e ∙ opened);
+      once_given_up = λ image tree marks k e. from_clash (sym e ∙ sym (given_up marks k.table) ∙ going);
+      after_giving_up = λ image tree marks k e. from_clash (sym e ∙ goes_on marks k.table);
+      after_end = λ e. from_clash (sym e ∙ opened);
       serves = serves;
     }
 
@@ -308,10 +302,10 @@ module _ (g : Geometry) (a b : Caching) (n m : ℕ) (many : m ≡ n) (p q : File
   -- an unmount
   module _ (stays : q ≡ p) (same : (d e : Disk) → Sees a b d e → e ≡ d) (before : a.ended ≡ true → x.acts ≡ []) (over : a.table.given_up ≡ true → x.acts ≡ []) where
     going : (marks : List Mark) → gave_up (after marks) ≡ false → gave_up marks ≡ false
-    going marks u = not_true (gave_up marks) (λ e. never (sym (gone_acts x.acts marks e) ∙ u))
+    going marks u = is_false (gave_up marks) (λ e. from_clash (sym (gone_acts x.acts marks e) ∙ u))
 
     lasts : b.ended ≡ false → a.ended ≡ false
-    lasts live = not_true a.ended (λ e. never (sym (x.ended e) ∙ live))
+    lasts live = is_false a.ended (λ e. from_clash (sym (x.ended e) ∙ live))
 
     tree_stays : (tree : Tree) (marks : List Mark) → tree_after g tree (after marks) ≡ tree_after g tree marks
     tree_stays tree marks = tree_acts g tree x.acts marks
@@ -411,11 +405,11 @@ module _ (g : Geometry) (a b : Caching) (n m : ℕ) (many : m ≡ n) (p q : File
       serves = λ image tree marks k.
           let agrees = table marks k.agrees.table in
           record {
-            agrees = record { table = agrees; slots = λ tr. slots image tree marks k.agrees tr; files = λ tr e u. never (sym end ∙ e) };
+            agrees = record { table = agrees; slots = λ tr. slots image tree marks k.agrees tr; files = λ tr e u. from_clash (sym end ∙ e) };
             well_formed = agrees.holds.well_formed;
             at_rest = at_rest b.table (after marks) agrees;
             legal = λ tr. legal_acts g image tree x.acts marks (k.legal (early image marks k.agrees.table tr));
-            has_tree = λ tr e u. never (sym end ∙ e);
+            has_tree = λ tr e u. from_clash (sym end ∙ e);
           };
     }
 
@@ -424,7 +418,7 @@ module _ (g : Geometry) (a b : Caching) (n m : ℕ) (many : m ≡ n) (p q : File
       acts = x.acts;
       leads = led.leads;
       none_absorbed = x.none_absorbed;
-      cut = (λ e. absurd (cut_replied (refused EIO) e), λ e. never (sym e ∙ live));
+      cut = (λ e. absurd (cut_replied (refused EIO) e), λ e. from_clash (sym e ∙ live));
       rules = λ image tree marks k. led.rules marks k.table;
       only_given_up = λ image tree marks k e. sym (given_up marks k.table) ∙ gone;
       once_given_up = λ image tree marks k e. inr refl;
@@ -435,14 +429,14 @@ module _ (g : Geometry) (a b : Caching) (n m : ℕ) (many : m ≡ n) (p q : File
           let took = agrees_took b.table (after marks) who now call (refused EIO) agrees in
           let up = sym (given_up marks k.agrees.table) ∙ gone in
           record {
-            agrees = record { table = took; slots = λ tr. slots image tree marks k.agrees tr; files = λ tr e u. never (sym up ∙ u) };
+            agrees = record { table = took; slots = λ tr. slots image tree marks k.agrees tr; files = λ tr e u. from_clash (sym up ∙ u) };
             well_formed = took.holds.well_formed;
             at_rest = at_rest b.table (Took who now call (refused EIO) ∷ after marks) took;
             legal = λ tr. (
               legal_acts g image tree x.acts marks (k.legal (early image marks k.agrees.table tr)),
               subst (λ (z : Bool). IsLegalTook g image (tree_after g tree (after marks)) (after marks) z who now call (refused EIO)) (sym up) refl,
             );
-            has_tree = λ tr e u. never (sym up ∙ u);
+            has_tree = λ tr e u. from_clash (sym up ∙ u);
           };
     }
 

@@ -1,6 +1,4 @@
-//! The file server of one volume, over the frames of a cache.
-//!
-//! How a server over the frames of a cache answers a client call: what is common to all calls.
+//! The file server of one volume, over the frames of a cache: how it answers a client call, absorbs messages, and is unmounted.
 #![tactic(auto)]
 
 mod calls;

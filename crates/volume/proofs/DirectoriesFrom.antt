@@ -2,6 +2,7 @@
 use Rattle.std.proofs.Common.{◌≡◌, ◌≢◌, ◌<◌, ◌≤◌, ◌%◌, ℕ, true, false, sym, ap, ◌∙◌, arith}
 use Rattle.std.specs.Prelude.{not, ◌&&◌, ◌||◌, ◌==◌, nat_lt, nat_le}
 use Rattle.std.proofs.lemmas.Bool.{or_parts, eqb-true, eqb-false, ltb-false, le-leb, not-false, both_ways}
+use Rattle.lemmas.proofs.Bools.{and_false_right}
 use Rattle.layout.specs.declared.Geometry.{Geometry}
 use Rattle.tree.specs.Sums.{some_below}
 use Rattle.tree.specs.Names.{same_name, dot, dot_dot}
@@ -13,7 +14,7 @@ use Rattle.volume.specs.Entries.{is_directory_inode, entry_count, name_at, targe
 use Rattle.volume.specs.Findings.{is_bad_entry}
 use Rattle.volume.specs.Holds.{IsSoundDirectory, IsSound}
 use Rattle.volume.proofs.Sums.{none_below}
-use Rattle.volume.proofs.Quiet.{Quiet, guarded_false}
+use Rattle.volume.proofs.Quiet.{Quiet}
 use Rattle.volume.proofs.Volumes.{IsVolume}
 use Rattle.volume.proofs.Ranges.{dir_marked, at_inode, at_dir, same_name_itself}
 use Rattle.volume.proofs.ZonesFrom.{zones_agree, sound_inode}
@@ -26,7 +27,7 @@ module _ (g : Geometry) (v : Pieces) (q : Quiet g v) where
   -- a directory has two entries and whole ones
   dir_size : (n : ℕ) → is_directory_inode g v n ≡ true → (128 ≤ (v.inodes n).size) × ((v.inodes n).size % 64 ≡ 0)
   dir_size n is =
-      let rest = guarded_false (is_directory_inode g v n) _ (or_parts _ _ (at_inode g v _ n q.sizes (dir_marked g v n is))).1 is in
+      let rest = and_false_right (is_directory_inode g v n) _ (or_parts _ _ (at_inode g v _ n q.sizes (dir_marked g v n is))).1 is in
       let both = or_parts (nat_lt (v.inodes n).size 128) _ rest in
       (ltb-false _ 128 both.0, eqb-true _ 0 (not-false _ both.1))
 
@@ -61,7 +62,7 @@ module _ (g : Geometry) (v : Pieces) (q : Quiet g v) where
   -- from the third on they are names
   names_good : (n e : ℕ) → is_directory_inode g v n ≡ true → 2 ≤ e → e < entry_count v n → is_name_field g v n e ≡ true
   names_good n e is two low =
-      not-false (is_name_field g v n e) (guarded_false (nat_le 2 e) (not (is_name_field g v n e)) (entry_parts n e (entry_good n e is low)).1 (le-leb 2 e two))
+      not-false (is_name_field g v n e) (and_false_right (nat_le 2 e) (not (is_name_field g v n e)) (entry_parts n e (entry_good n e is low)).1 (le-leb 2 e two))
 
   -- no name stands twice
   distinct : (n e f : ℕ) → is_directory_inode g v n ≡ true → e < f → f < entry_count v n → name_at g v n e ≢ name_at g v n f

@@ -11,6 +11,8 @@ use Rattle.std.specs.Cmp.Lexicographic.{nat_list_cmp_total}
 use Rattle.std.specs.FinMap.{slice_cmp-IsAntisymmetric, nat_cmp-IsAntisymmetric}
 use Rattle.std.specs.FinMap.Entries.{length-put, find-put, by_order, is_sorted, is_sorted-put}
 use Rattle.std.proofs.lemmas.Bool.{cases_eq, cases_Bool, and_parts, and_from, cond-true, cond-false}
+use Rattle.lemmas.proofs.Options.{some_same}
+use Rattle.lemmas.proofs.Bools.{from_T, is_equal, to_T}
 use Rattle.tree.specs.Sums.{count_below, sum_below, one_if}
 use Rattle.tree.specs.Names.{Name, Names, name_cmp, inode_of, with_name}
 
@@ -23,15 +25,6 @@ collected name target (suc k) = with_name (collected name target k) (name k) (ta
 abbrev pub tally : (ℕ → Bool) → Names → ℕ
 tally p [] = 0
 tally p (e ∷ es) = one_if (p e.1) + tally p es
-
--- a true test as a fact
-to_T : (b : Bool) → b ≡ true → T b
-to_T b e = subst T (sym e) tt
-
--- a fact as a true test
-from_T : (b : Bool) → T b → b ≡ true
-from_T true t = refl
-from_T false t = absurd t
 
 -- what a map answers with one name more
 asked_with_name : (names : Names) (name : Name) (n : ℕ) (q : Name) → inode_of (with_name names name n) q ≡ cond (eq_by_cmp name_cmp q name) (Some n) (inode_of names q)
@@ -53,15 +46,9 @@ all_with_name good name n (e ∷ es) all is =
       | Greater ↦ and_from (good e.0) _ both.0 (all_with_name good name n es both.1 is)
     ]
 
--- only Equal is equal
-same_Equal : (o : Ordering) → is_eq o ≡ true → o ≡ Equal
-same_Equal Less e = absurd (cc)
-same_Equal Equal e = refl
-same_Equal Greater e = absurd (cc)
-
 -- names that compare as equal are one
 pub same_by_cmp : (x y : Name) → eq_by_cmp name_cmp x y ≡ true → x ≡ y
-same_by_cmp x y e = slice_cmp-IsAntisymmetric nat_cmp-IsAntisymmetric x y (same_Equal (name_cmp x y) e)
+same_by_cmp x y e = slice_cmp-IsAntisymmetric nat_cmp-IsAntisymmetric x y (is_equal (name_cmp x y) e)
 
 -- a name compares as equal to itself
 pub cmp_itself : (x : Name) → eq_by_cmp name_cmp x x ≡ true
@@ -73,10 +60,6 @@ cmp_apart x y d = elim (cases_Bool (eq_by_cmp name_cmp x y)) [
   | inl e ↦ absurd (d (same_by_cmp x y e))
   | inr e ↦ e
 ]
-
--- what stands in equal options is equal
-some_same : (x y : ℕ) → Some x ≡ Some y → x ≡ y
-some_same x y e = cc
 
 -- a name that isn't there adds one
 pub tally_put : (p : ℕ → Bool) (q : Name) (v : ℕ) (es : Names) → inode_of es q ≡ None → tally p (with_name es q v) ≡ tally p es + one_if (p v)

@@ -5,12 +5,13 @@ use Rattle.std.specs.Prelude.{◌&&◌, ◌==◌, Option, None, Some, is_some}
 use Rattle.std.specs.List.{list_all}
 use Rattle.std.specs.FinMap.Entries.{is_sorted}
 use Rattle.std.proofs.lemmas.Bool.{cases_Bool, and_parts, and_left, cond-true, cond-false}
+use Rattle.lemmas.proofs.Options.{some_same}
 use Rattle.layout.specs.declared.Geometry.{Geometry}
 use Rattle.tree.specs.Sums.{count_below, one_if}
 use Rattle.tree.specs.Names.{Name, Names, name_cmp, is_name, inode_of, with_name}
 use Rattle.tree.specs.Tree.{Body, is_file, is_directory, Node, is_dir_at, names_of, parent_of}
 use Rattle.tree.specs.IsTree.{names_to, subdirectories, all_names_to}
-use Rattle.tree.proofs.Maps.{same_sum, is_the_one}
+use Rattle.tree.proofs.Maps.{same_sum}
 use Rattle.volume.specs.Pieces.{Pieces}
 use Rattle.volume.specs.Nodes.{file_byte, entry_inode, entry_name, names_in, is_directory_mode, body_of, node_of, nodes_of, directory_of, file_of, is_marked}
 use Rattle.volume.specs.Entries.{is_directory_inode, entry_count, name_at, target_at}
@@ -73,7 +74,7 @@ module _ (g : Geometry) (v : Pieces) where
   pub node_is : (n : ℕ) (node : Node) → nodes n ≡ Some node → (is_marked g v n ≡ true) × (node ≡ node_of g v (v.inodes n))
   node_is n node e =
       let is : is_marked g v n ≡ true = sym (some_node n) ∙ ap is_some e in
-      (is, is_the_one node (node_of g v (v.inodes n)) (sym e ∙ node_marked n is))
+      (is, some_same node (node_of g v (v.inodes n)) (sym e ∙ node_marked n is))
 
   -- the inode of a directory shows a directory
   pub body_directory : (n : ℕ) → is_directory_inode g v n ≡ true → body_of g v (v.inodes n) ≡ is_directory (directory_of g v (v.inodes n))

@@ -82,11 +82,6 @@ unfolding AllNever
 quiet_clean g v q = never_clean g 2 (tests g v)
     (q.inode_bit, (q.zone_bit, (q.root, (q.modes, (q.sizes, (q.numbers, (q.twice, (q.bits, (q.ends, (q.holes, (q.dots, (q.entries, (q.targets, (q.places, (q.links, tt)))))))))))))))
 
--- a test under a guard
-pub guarded_false : (a b : Bool) → (a && b) ≡ false → a ≡ true → b ≡ false
-guarded_false true b e is = e
-guarded_false false b e is = absurd (cc)
-
 -- a guarded test is false where it is false under the guard
 pub guard_false : (a b : Bool) → (a ≡ true → b ≡ false) → (a && b) ≡ false
 guard_false true b h = h refl

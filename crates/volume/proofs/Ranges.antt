@@ -2,6 +2,7 @@
 use Rattle.std.proofs.Common.{◌≡◌, ◌≢◌, ◌<◌, ◌≤◌, ◌+◌, ℕ, List, [], ◌∷◌, Bool, true, false, refl, arith}
 use Rattle.std.specs.Prelude.{◌&&◌, ◌==◌, nat_lt, nat_le}
 use Rattle.std.proofs.lemmas.Bool.{and_parts, and_from, leb-true, ltb-true, eqb-true, eq-eqb}
+use Rattle.lemmas.proofs.Bools.{and_false_right}
 use Rattle.layout.specs.declared.Geometry.{Geometry}
 use Rattle.tree.specs.Names.{same_name}
 use Rattle.tree.specs.Sums.{some_below}
@@ -12,7 +13,6 @@ use Rattle.volume.specs.Nodes.{is_directory_mode, is_marked}
 use Rattle.volume.specs.Entries.{is_directory_inode}
 use Rattle.volume.proofs.Sums.{none_below}
 use Rattle.volume.specs.Verdict.{place_limit}
-use Rattle.volume.proofs.Quiet.{guarded_false}
 
 -- the test of names against equality
 pub same_name_true : (xs ys : List ℕ) → same_name xs ys ≡ true → xs ≡ ys
@@ -56,16 +56,16 @@ module _ (g : Geometry) (v : Pieces) where
   pub at_inode : (p : ℕ → Bool) (n : ℕ) → some_below (λ k. is_marked g v k && p k) (place_limit g) ≡ false → is_marked g v n ≡ true → p n ≡ false
   at_inode p n none is =
       let low = marked_low n is in
-      guarded_false (is_marked g v n) (p n) (none_below (λ k. is_marked g v k && p k) (place_limit g) none n (omega (arith, low.1))) is
+      and_false_right (is_marked g v n) (p n) (none_below (λ k. is_marked g v k && p k) (place_limit g) none n (omega (arith, low.1))) is
 
   -- one that no directory meets
   pub at_dir : (p : ℕ → Bool) (n : ℕ) → some_below (λ k. is_directory_inode g v k && p k) (place_limit g) ≡ false → is_directory_inode g v n ≡ true → p n ≡ false
   at_dir p n none is =
       let low = marked_low n (dir_marked n is) in
-      guarded_false (is_directory_inode g v n) (p n) (none_below (λ k. is_directory_inode g v k && p k) (place_limit g) none n (omega (arith, low.1))) is
+      and_false_right (is_directory_inode g v n) (p n) (none_below (λ k. is_directory_inode g v k && p k) (place_limit g) none n (omega (arith, low.1))) is
 
   -- one that no data zone meets
   pub at_zone : (p : ℕ → Bool) (z : ℕ) → some_below (λ k. is_data_zone g k && p k) (place_limit g) ≡ false → is_data_zone g z ≡ true → p z ≡ false
   at_zone p z none is =
       let low = data_low z is in
-      guarded_false (is_data_zone g z) (p z) (none_below (λ k. is_data_zone g k && p k) (place_limit g) none z (omega (arith, low.1))) is
+      and_false_right (is_data_zone g z) (p z) (none_below (λ k. is_data_zone g k && p k) (place_limit g) none z (omega (arith, low.1))) is

@@ -3,6 +3,7 @@ use Rattle.std.proofs.Common.{◌≡◌, ◌≢◌, ◌<◌, ◌≤◌, ◌+◌,
 use mathlib.Core.Logic.{inl, inr, ◌↔◌}
 use Rattle.std.specs.Prelude.{not, ◌==◌, nat_lt}
 use Rattle.std.proofs.lemmas.Bool.{cases_Bool, cases_lt, or_parts, cond-true, cond-false, ne_eqb, eqb-true, eqb-false, ltb-false, le-leb, not-false, not_from_false}
+use Rattle.lemmas.proofs.Bools.{and_false_right}
 use Rattle.layout.specs.declared.Geometry.{Geometry}
 use Rattle.tree.specs.ZonesNeeded.{page_limit}
 use Rattle.tree.specs.Space.{pages_of, numbers_in_zone}
@@ -15,7 +16,7 @@ use Rattle.volume.specs.Holds.{ZonesAgree, IsSoundInode}
 use Rattle.volume.proofs.Sums.{none_below}
 use Rattle.volume.proofs.Once.{same_place, used_place, place_used}
 use Rattle.volume.proofs.Bridge.{naming, uses_are, zone_spot, no_level, no_index, place_of_use, level_low, use_of_place}
-use Rattle.volume.proofs.Quiet.{Quiet, guarded_false}
+use Rattle.volume.proofs.Quiet.{Quiet}
 use Rattle.volume.proofs.Volumes.{IsVolume}
 use Rattle.volume.proofs.Ranges.{marked_below, data_some, at_inode, at_zone}
 
@@ -30,7 +31,7 @@ module _ (g : Geometry) (v : Pieces) (ok : IsVolume g v) (q : Quiet g v) where
           let all = at_inode g v _ n q.numbers is in
           let level = none_below _ 4 all l low in
           let here = none_below _ (page_limit (numbers_in_zone g)) level k near in
-          not-false _ (guarded_false (not (zone_at g v (v.inodes n) l k == 0)) _ here (not_from_false (zone_at g v (v.inodes n) l k == 0) (ne_eqb _ 0 some)))
+          not-false _ (and_false_right (not (zone_at g v (v.inodes n) l k == 0)) _ here (not_from_false (zone_at g v (v.inodes n) l k == 0) (ne_eqb _ 0 some)))
     ]
   ]
 
@@ -104,7 +105,7 @@ module _ (g : Geometry) (v : Pieces) (ok : IsVolume g v) (q : Quiet g v) where
         elim (cases_lt p (pages_of g (v.inodes n).size)) [
           | inl low ↦ low
           | inr past ↦
-              let f = guarded_false _ _ here (le-leb (pages_of g (v.inodes n).size) p past) in
+              let f = and_false_right _ _ here (le-leb (pages_of g (v.inodes n).size) p past) in
               absurd (some (eqb-true _ 0 (not-false _ f)))
         ]
   ]
@@ -119,7 +120,7 @@ module _ (g : Geometry) (v : Pieces) (ok : IsVolume g v) (q : Quiet g v) where
           let both = or_parts _ _ (at_inode g v _ n q.ends is) in
           let level = none_below _ 3 both.1 l low in
           let here = none_below _ (page_limit (numbers_in_zone g)) level k near in
-          not-false _ (guarded_false (not (zone_at g v (v.inodes n) (suc l) k == 0)) _ here (not_from_false (zone_at g v (v.inodes n) (suc l) k == 0) (ne_eqb _ 0 some)))
+          not-false _ (and_false_right (not (zone_at g v (v.inodes n) (suc l) k == 0)) _ here (not_from_false (zone_at g v (v.inodes n) (suc l) k == 0) (ne_eqb _ 0 some)))
     ]
   ]
 

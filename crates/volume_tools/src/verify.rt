@@ -5,7 +5,8 @@ ghost use Rattle.std.specs.Io.KnownBytes.{Appends};
 ghost use Rattle.volume.specs.Verdict.{Verdict as OfVolume};
 ghost use Rattle.fsck.specs.Shown.{shown};
 ghost use Rattle.output.specs.Output.{AppendsPart, Tells};
-ghost use Rattle.volume_tools.specs.Verifying.{IsToldWhole, IsVerdictOn, IsUnverified, IsUntold, missing_text, partition_text, verdict_text, verified_as, verified_number, verify_text, volume_at};
+ghost use Rattle.volume_tools.specs.Verifying.{IsToldWhole, IsVerdictOn, IsUnverified, IsUntold, missing_text, partition_text};
+ghost use Rattle.volume_tools.specs.Verifying.{verdict_text, verified_as, verified_number, verify_text, volume_at};
 
 use fsck::{Verdict, check};
 use media::partition::{PartitionRefusal, PlaceRefusal, volume_place};

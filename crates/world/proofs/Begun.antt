@@ -4,6 +4,7 @@ use Rattle.std.specs.Prelude.{All, map, ◌&&◌, ◌==◌, nat_lt, if◌then◌
 use Rattle.std.specs.List.{list_all}
 use Rattle.std.proofs.Math.Nat.{div-add-mod', mod-lt}
 use Rattle.std.proofs.lemmas.Bool.{and_parts, lt-ltb, ltb-false, cond-true}
+use Rattle.lemmas.proofs.Options.{ok_same}
 use Rattle.layout.specs.declared.Geometry.{Geometry}
 use Rattle.layout.specs.declared.LayoutRefusal.{LayoutRefusal}
 use Rattle.layout.specs.Places.{geometry_of, IsGeometry}
@@ -43,13 +44,10 @@ byte_at g f p some =
     (lt-ltb (p % g.block_size) g.block_size (mod-lt p some))
     ∙ ap f (div-add-mod' p g.block_size)
 
-same_ok : {A E : Type 0} {x y : A} → ◌≡◌ {A = Result A E} (Ok x) (Ok y) → x ≡ y
-same_ok e = cc
-
 -- bytes that hold a tree without an open file are a volume that holds it at first
 pub at_first : (bytes : List ℕ) (g : Geometry) (tree : Tree) → geometry_of bytes ≡ Ok g → HoldsClosed bytes tree → IsAtFirst g (slice_index bytes) tree
 at_first bytes g tree parsed held =
-    let same : held.geometry ≡ g = same_ok {E = LayoutRefusal} (sym held.parsed ∙ parsed) in
+    let same : held.geometry ≡ g = ok_same {E = LayoutRefusal} (sym held.parsed ∙ parsed) in
     let fits : IsGeometry g = (geometry_fits bytes g parsed).0 in
     record {
       holds = record {

@@ -15,11 +15,6 @@ use Rattle.reincarnate.specs.Supply.{ReincarnationState, NewAnswers}
 use Rattle.run_loop.specs.Starts.{IsBeforeFirst}
 use Rattle.world.specs.ServerRuns.{IsFresh}
 
--- a promise of what is there holds of what follows from it
-pub if_ok : {A E : Type 0} (P Q : A → Type 0) (r : Result A E) → ((a : A) → P a → Q a) → IfOk r P → IfOk r Q
-if_ok P Q (Ok a) f h = f a h
-if_ok P Q (Err e) f h = tt
-
 -- a link that was just made is one that waits for its first event
 pub fresh : (media : MediaState) (rules : Policy) (watch : Watch) (supply : List DriverState) (events : List Event) (p : RunState)
     → IsOpened media rules watch supply events p → IsFresh events (length media.sectors) p
@@ -75,7 +70,7 @@ little_work events sectors p new few =
     omega (arith, all, none, one, few)
 
 -- over the link that a server was opened on as little is left to do
-pub few_here : {L : Type 0} (play : L → RunState) (a b : L) (n : ℕ) → a ≡ b → n ≡ 0 → work_left (play b) + 1 < 281474976710656
-    → n + work_left (play a) + 1 < 281474976710656
-few_here {L} play a b n same none few =
-    let e : work_left (play a) ≡ work_left (play b) = ap (λ (l : L). work_left (play l)) same in omega (arith, e, none, few)
+pub few_here : {L : Type 0} (run : L → RunState) (a b : L) (n : ℕ) → a ≡ b → n ≡ 0 → work_left (run b) + 1 < 281474976710656
+    → n + work_left (run a) + 1 < 281474976710656
+few_here {L} run a b n same none few =
+    let e : work_left (run a) ≡ work_left (run b) = ap (λ (l : L). work_left (run l)) same in omega (arith, e, none, few)

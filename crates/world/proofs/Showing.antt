@@ -69,18 +69,18 @@ ends_so s p Resting ends = inl (refl, ends.2)
 ends_so s p (Hearing message) ends = absurd ends
 ends_so s p (Answering call) ends = inr ends.1
 
-module _ {L : Type 0} (words : LinkWords L) (play : L → RunState) (link : L) (image : List ℕ) (setup : Setup) (supply : List DriverState) (events : List Event)
+module _ {L : Type 0} (words : LinkWords L) (run : L → RunState) (link : L) (image : List ℕ) (setup : Setup) (supply : List DriverState) (events : List Event)
     (range : ℕ × ℕ) (g : Geometry) (tree : Tree) (frames : ℕ) (s : Server (Stored L)) (t : Transcript) where
   abbrev v : Opening
   v = opening_of image setup.minor range
 
   abbrev last : RunState
-  last = play (line_of s)
+  last = run (line_of s)
 
   -- what is shown of it
-  pub run_shows : (media : MediaState) → media.generation ≡ 0 → IsOpened media setup.policy (new_watch (length supply)) supply events (play link)
+  pub run_shows : (media : MediaState) → media.generation ≡ 0 → IsOpened media setup.policy (new_watch (length supply)) supply events (run link)
       → IsBegun image setup supply (range_of range) g tree → Each IsUnused supply → IsOnMedia v → words.truth link v (Started (driver 1) ∷ [])
-      → IsFresh events (length (sectors_of image)) (play link) → RunsFrom words play link setup.minor g frames s t.unanswered
+      → IsFresh events (length (sectors_of image)) (run link) → RunsFrom words run link setup.minor g frames s t.unanswered
       → IsWhole last.scene.disks.media.sectors → t.marks ≡ marks_in last.scene.noted → t.frames ≡ frames_in s
       → t.sent ≡ last.scene.disks.sent → t.drivers ≡ drivers_of last.scene.disks → t.image ≡ concat last.scene.disks.media.sectors → RunShows image setup supply events t
   run_shows media none_started opened begun unused on truth new from whole marks frames_are sent drivers bytes =
@@ -89,7 +89,7 @@ module _ {L : Type 0} (words : LinkWords L) (play : L → RunState) (link : L) (
         serves = from.opened.serves (contents_at v) tree begun.at_first;
         truth = truth;
       } in
-      let x : RunStands (serving_over words from.before).geometry (frames_in s) (serving_over words from.before).minor v tree (at_first (play link))
+      let x : RunStands (serving_over words from.before).geometry (frames_in s) (serving_over words from.before).minor v tree (at_first (run link))
       (moment (serving_over words s) last from.plays.last) t.unanswered = from.plays.holds v tree from.opened.outbox hears in
       let holds : RunHolds g (frames_in s) v tree last.scene t.unanswered =
       subst (λ (h : Geometry). RunHolds h (frames_in s) v tree last.scene t.unanswered) from.opened.geometry x.holds in
@@ -102,7 +102,7 @@ module _ {L : Type 0} (words : LinkWords L) (play : L → RunState) (link : L) (
         well_formed = subst IsWellFormed marks shows.replies.well_formed;
       } in
       let w : IsWholeRun setup.policy supply last (length from.plays.left) =
-      runs_are_whole media setup.policy supply events (serving_over words from.before).minor (at_first (play link))
+      runs_are_whole media setup.policy supply events (serving_over words from.before).minor (at_first (run link))
       (moment (serving_over words s) last from.plays.last) none_started unused opened refl refl x.runs end from.plays.left from.plays.order in
       record {
         range = range_of range;

@@ -11,10 +11,10 @@ use Rattle.mounting.specs.vfs.declared.server.Server.{Server}
 use Rattle.mounting.specs.vfs.OverLink.{line_of, serving_over}
 
 -- A server that was opened over this link, with so many frames, has run the schedule out; so many calls are left.
-pub record RunsFrom {L : Type 0} (words : LinkWords L) (play : L → RunState) (link : L) (minor : ℕ) (g : Geometry) (frames : ℕ) (s : Server (Stored L)) (unanswered : ℕ) : Type 0 where
+pub record RunsFrom {L : Type 0} (words : LinkWords L) (run : L → RunState) (link : L) (minor : ℕ) (g : Geometry) (frames : ℕ) (s : Server (Stored L)) (unanswered : ℕ) : Type 0 where
   pub before : Server (Stored L)
   pub opened : OpenKeeps g minor frames (words.history link) (serving_over words before)
-  pub plays : RunsAll (serving_over words before) (serving_over words s) (words.truth link) (play link) (play (line_of s)) unanswered
+  pub plays : RunsAll (serving_over words before) (serving_over words s) (words.truth link) (run link) (run (line_of s)) unanswered
 
 -- Before the first event of these: the first start was noted alone, and the media have so many sectors.
 pub record IsFresh (events : List Event) (sectors : ℕ) (p : RunState) : Type 0 where

@@ -1,8 +1,5 @@
-//! A run of a schedule: an image is checked, a file server is opened on it, drivers are started, and the schedule moves them all.
-//!
-//! What a run of a schedule starts on: media, a volume that was checked, drivers that are ready for it; or why no run is begun.
-//!
-//! The link of a run before its first event, and a file server that is opened over such a link and runs the schedule out.
+//! A run of a schedule: an image is checked, drivers are started, a file server is opened, and the schedule moves them all; or why no run
+//! is begun.
 #![tactic(auto)]
 
 pub mod link;

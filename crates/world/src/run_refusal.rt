@@ -8,7 +8,7 @@ use media::partition::PlaceRefusal;
 use std::{error, fmt};
 use volume::Finding;
 
-/// Why no run is begun. Nothing was run, the image is as it was, and the drivers are let go.
+/// Why there is no transcript. The image is as it was, and the drivers are let go. Nothing was run, but where memory ended within a run.
 #[derive(Clone, Copy, Debug, Drop, PartialEq, Eq)]
 pub enum RunRefusal {
     /// The image makes no media: it isn't whole sectors, or has too many.

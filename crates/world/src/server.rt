@@ -28,9 +28,9 @@ pub fn run_over<L: WorldLink>(
     requires live { took_end (L.Link.history link) ≡ false }
     requires budget { L.Link.budget_left link ≤ 2 ^ 58 }
     requires room { 33 ≤ L.Link.room link }
-    requires few { work_left (L.Ran.play link) + 1 < 2 ^ 48 }
-    requires first { IsBeforeFirst (L.Ran.play link) }
-    ensures { IfOk result (λ r. RunsFrom L.Link L.Ran.play link minor clean.geometry frames r.0 r.1) }
+    requires few { work_left (L.Ran.run link) + 1 < 2 ^ 48 }
+    requires first { IsBeforeFirst (L.Ran.run link) }
+    ensures { IfOk result (λ r. RunsFrom L.Link L.Ran.run link minor clean.geometry frames r.0 r.1) }
 {
     let Ok(opened) = open(alloc, link, minor, clean, frames) else {
         return Err(AllocError);

@@ -3,6 +3,7 @@ use Rattle.std.proofs.Common.{◌≡◌, ◌≢◌, ◌⊎◌, ◌<◌, ◌≤�
 use mathlib.Core.Logic.{inl, inr}
 use Rattle.std.specs.Prelude.{not, ◌&&◌, ◌==◌, nat_lt, slice_index, IsTrue, Some, None}
 use Rattle.std.proofs.lemmas.Bool.{cases_eq, cases_lt, cond-true, cond-false, eq-eqb, ne_eqb, not_from_false}
+use Rattle.lemmas.proofs.Numbers.{not_zero}
 use Rattle.layout.specs.declared.Geometry.{Geometry}
 use Rattle.layout.specs.Places.{IsGeometry}
 use Rattle.tree.specs.Sums.{put, some_below}
@@ -20,7 +21,6 @@ use Rattle.zone.specs.ZoneSteps.{Same, OnePlace, SameInodes, Links, Unlinks, wit
 use Rattle.zone.proofs.Change.{same_or_not}
 use Rattle.zone.proofs.OnePlaces.{branch, both_same}
 use Rattle.zone.proofs.Agree.{marked_on}
-use Rattle.zone.proofs.Full.{not_zero}
 
 -- a file by its parts
 pub same_file : (f h : File) → f.size ≡ h.size → f.byte ≡ h.byte → f.held ≡ h.held → f ≡ h

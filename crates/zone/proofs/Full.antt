@@ -4,6 +4,7 @@ use mathlib.Core.Logic.{inl, inr}
 use Rattle.std.specs.Prelude.{not, ◌==◌, nat_lt, IsTrue}
 use Rattle.std.proofs.lemmas.Bool.{cases_eq, cases_lt, cond-true, cond-false, eq-eqb, ne_eqb, lt-ltb, le-ltb, not-true, not_from_false}
 use Rattle.std.proofs.lemmas.Nat.{div-add-mod', div-mul-add, mod-mul-add}
+use Rattle.lemmas.proofs.Numbers.{not_zero}
 use Rattle.layout.specs.declared.Geometry.{Geometry}
 use Rattle.layout.specs.Places.{IsGeometry}
 use Rattle.tree.specs.Sums.{some_below}
@@ -25,10 +26,6 @@ use Rattle.zone.proofs.Agree.{marked_back}
 -- place j of those that block i of the level above names
 abbrev pub child : Geometry → ℕ → ℕ → ℕ → ℕ
 child g a i j = first_places a + (i * numbers_in_zone g + j)
-
--- what is not 0 by its test is not 0
-pub not_zero : (z : ℕ) → not (z == 0) ≡ true → z ≢ 0
-not_zero z e o = let t = eq-eqb z 0 o in let f = not-true (z == 0) e in absurd (cc)
 
 module _ (g : Geometry) (sized : 0 < numbers_in_zone g) where
   -- a place below a block is one of the block's numbers

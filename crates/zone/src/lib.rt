@@ -1,6 +1,5 @@
-//! The zones of files, held and let go: a page comes to lie in a zone, through direct, single, double and triple indirect blocks.
-//!
-//! Where the pages of files lie: the places of an inode, level by level, and the numbers that stand in indirect blocks.
+//! The zones of files: where the pages lie, through direct, single, double and triple indirect blocks; a page that comes to lie in a
+//! zone, and pages that are let go.
 #![tactic(auto)]
 
 pub mod cutting;

@@ -12,7 +12,8 @@ ghost use Rattle.store.specs.Halts.{Ends, IsHalt};
 ghost use Rattle.store.specs.Volume.{IsOn, Alters};
 ghost use Rattle.zone.specs.PlaceParts.{IsLastNumber};
 ghost use Rattle.zone.specs.Parts.{with_mark};
-ghost use Rattle.zone.specs.Steps.{MarksZone, TakesZone, HasRoom, HoldsSlot, MayHoldSlot, HoldsNumber, MayHoldNumber, DropsSlot, MayDropSlot, DropsNumber, MayDropNumber};
+ghost use Rattle.zone.specs.Steps.{MarksZone, TakesZone, HasRoom, HoldsSlot, MayHoldSlot, HoldsNumber, MayHoldNumber, DropsSlot};
+ghost use Rattle.zone.specs.Steps.{MayDropSlot, DropsNumber, MayDropNumber};
 
 use crate::numbers::{clear_zone, is_data_zone, last_number, number, set_number};
 use bitmap::{Map, clear, lowest_free, set};

@@ -1,10 +1,14 @@
 //! Laws of the zones of a volume: what a change of one number does to the places of inodes, to files, to the rules of the format,
 //! to the nodes and to the count of zones. A change is stated on the volume's pieces: no block is read or written here.
 
-ghost use Rattle.zone.specs.ZoneSteps.{OnePlaceOfSlot, OnePlaceOfWord, SoundIsSoundBut, SoundButIsSound, FullAgain, Weaker, LinkKeeps, UnlinkKeeps, LinkedPageIsHeld, LinkKeepsFiles, UnlinkedPageIsHole, UnlinkKeepsFiles, NodesChangeAt, LinkMarksOne, UnlinkFreesOne, MarkedAsNeeded, NodesChangeWith};
-ghost use Rattle.zone.specs.Raw.{FilledSlotLinks, FilledWordLinks, ClearedSlotUnlinks, ClearedWordUnlinks, PlacesStay, NumbersKeep, WriteKeepsNumbers, WrittenFile, WriteKeepsFiles, WriteKeeps, ResizedFile, ResizeKeeps};
+ghost use Rattle.zone.specs.ZoneSteps.{OnePlaceOfSlot, OnePlaceOfWord, SoundIsSoundBut, SoundButIsSound, FullAgain, Weaker, LinkKeeps};
+ghost use Rattle.zone.specs.ZoneSteps.{UnlinkKeeps, LinkedPageIsHeld, LinkKeepsFiles, UnlinkedPageIsHole, UnlinkKeepsFiles, NodesChangeAt};
+ghost use Rattle.zone.specs.ZoneSteps.{LinkMarksOne, UnlinkFreesOne, MarkedAsNeeded, NodesChangeWith};
+ghost use Rattle.zone.specs.Raw.{FilledSlotLinks, FilledWordLinks, ClearedSlotUnlinks, ClearedWordUnlinks, PlacesStay, NumbersKeep};
+ghost use Rattle.zone.specs.Raw.{WriteKeepsNumbers, WrittenFile, WriteKeepsFiles, WriteKeeps, ResizedFile, ResizeKeeps};
 ghost use Rattle.zone.specs.Missing.{PageTakesMissing};
-ghost use Rattle.zone.specs.Composite.{AttachedInner, AttachesInner, AttachedOuter, AttachesOuter, DetachesInner, DetachesOuter, DetachesOn, UnlinkedAbove, AttachedNodes, DetachedNodes};
+ghost use Rattle.zone.specs.Composite.{AttachedInner, AttachesInner, AttachedOuter, AttachesOuter, DetachesInner, DetachesOuter};
+ghost use Rattle.zone.specs.Composite.{DetachesOn, UnlinkedAbove, AttachedNodes, DetachedNodes};
 ghost use Rattle.zone.specs.Room.{NodesTakeMarked, PageHasRoom};
 ghost use Rattle.zone.specs.Chunks.{ChunkIsWritten, WritesJoin};
 ghost use Rattle.zone.specs.Inodes.{ChangeKeeps, ChangedNodes, NoSlotsNoPlaces, FourBytes};

@@ -5,7 +5,8 @@ ghost use Rattle.layout.specs.declared.Geometry.{Geometry};
 ghost use Rattle.records.specs.Marks.{Mark};
 ghost use Rattle.records.specs.Disk.{Contents};
 ghost use Rattle.records.specs.Lives.{StillServes};
-ghost use Rattle.records.specs.LegalLaws.{BeginningsAreLegal, OnlyCallsMoveTree, GivenUpStays, NoMemoryLeaves, SyncedIsHeld, WithoutFrames, OwnCallsGrow, OwnCallsAreByItsUser, NewSessionIsSession};
+ghost use Rattle.records.specs.LegalLaws.{BeginningsAreLegal, OnlyCallsMoveTree, GivenUpStays, NoMemoryLeaves, SyncedIsHeld, WithoutFrames};
+ghost use Rattle.records.specs.LegalLaws.{OwnCallsGrow, OwnCallsAreByItsUser, NewSessionIsSession};
 
 use crate::legal::Serve;
 

@@ -3,7 +3,10 @@
 ghost use Rattle.std.specs.Prelude.{ℕ, List};
 ghost use Rattle.records.specs.Marks.{Mark};
 ghost use Rattle.records.specs.Acts.{Act, Outbox};
-ghost use Rattle.records.specs.Laws.{BeginningsAreWellFormed, ReceivedIsWellFormed, EachCountedOnce, OpenedByFirstIssue, OpenAreWhole, OpenAreNumbered, OpenAreRising, OneOpenForEachId, OpenAreApart, OpenWritesAreUnsure, SectorsAreUnsureTogether, NothingIsUnsureAtFirst, MarksChangeDisk, UnwrittenIsImage, ActsCompose, MarksAreTold};
+ghost use Rattle.records.specs.Laws.{BeginningsAreWellFormed, ReceivedIsWellFormed, EachCountedOnce, OpenedByFirstIssue, OpenAreWhole};
+ghost use Rattle.records.specs.Laws.{OpenAreNumbered, OpenAreRising, OneOpenForEachId, OpenAreApart, OpenWritesAreUnsure};
+ghost use Rattle.records.specs.Laws.{SectorsAreUnsureTogether, NothingIsUnsureAtFirst, MarksChangeDisk, UnwrittenIsImage, ActsCompose};
+ghost use Rattle.records.specs.Laws.{MarksAreTold};
 
 /// A well-formed record has well-formed beginnings.
 #[tactic(auto, using(crate::proofs::Growing::well_formed_beginning))]

@@ -1,11 +1,12 @@
 use Rattle.std.proofs.Common.{◌≡◌, ◌+◌, ◌<◌, length, refl, sym, subst, ◌∙◌, arith, rules}
+use Rattle.lemmas.proofs.Lists.{bytes_are_low}
 use Rattle.volume.specs.Pieces.{pieces}
 use Rattle.descriptors.specs.Table.{files_of}
 use Rattle.file.specs.PageChanges.{MayChange}
 use Rattle.store.proofs.Turns.{turns_as, turns_then}
 use Rattle.calls_data.proofs.Exits.{ends_exit}
 use Rattle.calls_data.proofs.Looks.{found_some, found_none, said_of}
-use Rattle.calls_data.proofs.WriteCall.{write_closed, write_refused, write_none, write_full, write_done, may_change_held, bytes_low, from_start}
+use Rattle.calls_data.proofs.WriteCall.{write_closed, write_refused, write_none, write_full, write_done, may_change_held, from_start}
 use Rattle.calls_data.proofs.writing.write.Goals as goal
 
 pub returns-in_default-clause-turns : goal.returns-in_default-clause-turns
@@ -61,6 +62,6 @@ returns-clause-turns g c =
     (λ d e h x y. write_done a.geometry.now c.requires.on.geometry d a.session a.fd a.now a.bytes (files_of a.opens.now) c.in-Some.file
     (found_some _ _ _ c.in-Some.is c.in_ok-file.ensures.file) (said_of _ _ _ c.in-Some.is x.1) (sym c.refusal.ensures ∙ c.in_default-refusal.is)
     some c.write_place-at.result c.write_place-at.ensures h (c.write_place-at.result + length a.bytes.now) (files_of c.set_position.new.self) c.requires.session
-    (let k = c.ranges.now.fits in omega (arith, k)) (bytes_low a.bytes.now c.type_inv.bytes)
+    (let k = c.ranges.now.fits in omega (arith, k)) (bytes_are_low a.bytes.now c.type_inv.bytes)
     (from_start a.geometry.now _ _ _ _ _ _ _ _ _ _ c.from.ensures c.if-not-branch.false x.0 y) refl c.set_position.ensures)
     c.in_ok-file.ensures.reads c.in_ok-write_if_room.ensures.turns

@@ -1,6 +1,7 @@
 use Rattle.std.proofs.Common.{◌≡◌, length, replicate, rules}
 use Rattle.std.specs.Prelude.{slice_index}
-use Rattle.directory.proofs.EntryBytes.{is_name_field, zero_at}
+use Rattle.lemmas.proofs.Lists.{zero_at}
+use Rattle.directory.proofs.EntryBytes.{is_name_field}
 use Rattle.directory.proofs.bytes.name_bytes.Goals as goal
 
 pub returns : goal.returns

@@ -10,11 +10,11 @@ returns-then-link-clause-truth g c = λ v marks h.
 
 pub returns-in-Some-clause-truth : goal.returns-in-Some-clause-truth
 returns-in-Some-clause-truth g c = λ v marks h.
-    aside_true v _ _ _ _ _ _ marks c.play-message.ensures.plays c.in-Some.is c.note-in-Some.ensures.said c.make_room.ensures.scene h
+    aside_true v _ _ _ _ _ _ marks c.run-message.ensures.plays c.in-Some.is c.note-in-Some.ensures.said c.make_room.ensures.scene h
 
 pub returns-in_default-clause-truth : goal.returns-in_default-clause-truth
 returns-in_default-clause-truth g c = λ v marks h.
-    quiet_true v _ _ _ _ marks c.play-message.ensures.plays c.in_default.is c.make_room.ensures.scene h
+    quiet_true v _ _ _ _ marks c.run-message.ensures.plays c.in_default.is c.make_room.ensures.scene h
 
 pub returns-then-not-make_room-clause-asides : goal.returns-then-not-make_room-clause-asides
 returns-then-not-make_room-clause-asides g c =
@@ -29,9 +29,9 @@ returns-then-link-clause-asides g c =
 pub returns-in-Some-clause-asides : goal.returns-in-Some-clause-asides
 returns-in-Some-clause-asides g c =
     hands_event _ _ _ _ _ _ _ (same_run _ _ c.make_room.ensures.scene refl refl c.make_room.ensures.waiting refl refl c.make_room.ensures.over refl)
-    c.play-message.ensures.plays c.in-Some.is c.note-in-Some.ensures.said c.note-in-Some.ensures.over
+    c.run-message.ensures.plays c.in-Some.is c.note-in-Some.ensures.said c.note-in-Some.ensures.over
 
 pub returns-in_default-clause-asides : goal.returns-in_default-clause-asides
 returns-in_default-clause-asides g c =
     hands_none _ _ _ _ (same_run _ _ c.make_room.ensures.scene refl refl c.make_room.ensures.waiting refl refl c.make_room.ensures.over refl)
-    c.play-message.ensures.plays c.in_default.is
+    c.run-message.ensures.plays c.in_default.is

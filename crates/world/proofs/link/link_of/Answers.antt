@@ -1,5 +1,6 @@
-use Rattle.world.proofs.Opened.{fresh, if_ok, opened_on}
+use Rattle.world.proofs.Opened.{fresh, opened_on}
 use Rattle.world.proofs.link.link_of.Goals as goal
+use Rattle.lemmas.proofs.Options.{if_ok}
 
 pub returns-clause-fresh : goal.returns-clause-fresh
 returns-clause-fresh g c = if_ok _ _ _ (λ p opened. fresh _ _ _ _ _ _ opened) c.new-2.ensures.opens

@@ -1,5 +1,6 @@
 use Rattle.std.proofs.Common.{◌≡◌, ap, sym, ◌∙◌, subst, Some, None, Ok, refl, ℕ, arith}
 use Rattle.std.specs.Prelude.{option_map}
+use Rattle.lemmas.proofs.Options.{some_same}
 use Rattle.tree.specs.Tree.{OpenFile}
 use Rattle.descriptors.specs.Table.{Table, IsTable, files_of, number_at, opened_at}
 use Rattle.descriptors.specs.Files.{close_file}
@@ -7,7 +8,6 @@ use Rattle.descriptors.proofs.Tables.{with_number, with_file}
 use Rattle.descriptors.proofs.Kept.{within}
 use Rattle.descriptors.proofs.Calls.{table_is, close_done, last_close_done, close_is, last_close_is}
 use Rattle.descriptors.proofs.Calls.{has_is, the_value}
-use Rattle.tree.proofs.Maps.{is_the_one}
 use Rattle.descriptors.proofs.table.Descriptors.close.Goals as goal
 
 pub invariant_of-self : goal.invariant_of-self
@@ -49,7 +49,7 @@ returns-clause-close c =
     let low = within t c.args.session c.args.fd k c.self.invariant is in
     let has = has_is t c.args.session c.args.fd k c.index_mut.result.now c.index.result.now c.has_number.result c.self.invariant c.requires c.index_mut.ensures.value c.index.ensures c.has_number.ensures in
     let o = the_value (opened_at t k) (c.self.invariant.leads c.args.session c.args.fd k is) in
-    let inode : c.remove.result ≡ o.0.inode = is_the_one _ _ (sym c.remove.ensures.inode ∙ ap (option_map (λ (p : OpenFile). p.inode)) o.1) in
+    let inode : c.remove.result ≡ o.0.inode = some_same _ _ (sym c.remove.ensures.inode ∙ ap (option_map (λ (p : OpenFile). p.inode)) o.1) in
     ap (λ (u : Table). Ok (Some c.remove.result, files_of u))
     (table_is t c.args.session c.args.fd None _ _ _ c.index_mut.ensures.value (omega (arith, c.requires, c.self.invariant.sessions)) c.remove.ensures.after)
     ∙ ap (λ (n : ℕ). Ok (Some n, files_of (with_number (with_file t k None) c.args.session c.args.fd None))) inode

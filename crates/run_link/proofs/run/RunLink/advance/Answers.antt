@@ -8,7 +8,7 @@ loop-self-init g c = (Stays, c.requires.live, c.requires.paid, c.requires.log, c
 
 pub returns-then-not-make_room-clause-ends : goal.returns-then-not-make_room-clause-ends
 returns-then-not-make_room-clause-ends g c = λ none.
-    starves _ _ _ _ _ _ _ c.loop-self.invariant.0 c.play.ensures.plays c.in_default.is c.make_room.ensures.scene c.make_room.ensures.waiting
+    starves _ _ _ _ _ _ _ c.loop-self.invariant.0 c.run.ensures.plays c.in_default.is c.make_room.ensures.scene c.make_room.ensures.waiting
     c.make_room.ensures.over
 
 pub returns-clause-ends : goal.returns-clause-ends

@@ -1,0 +1,5 @@
+-- Small lemmas that several crates use.
+pub mod Bools
+pub mod Numbers
+pub mod Lists
+pub mod Options

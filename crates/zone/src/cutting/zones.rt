@@ -1,1 +1,0 @@
-//! The zones of files, for those above that stand on this crate.
