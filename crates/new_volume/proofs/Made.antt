@@ -1,4 +1,4 @@
--- A new volume's image not_false the root alone, and is clean.
+-- A new volume's image holds the root alone, and is clean.
 use Rattle.std.proofs.Common.{◌≡◌, ◌<◌, ◌≤◌, ◌+◌, ◌*◌, ◌^◌, ℕ, List, length, Bool, true, false, refl, sym, ap, subst, ◌∙◌, arith}
 use Rattle.std.specs.Prelude.{All, Result, Ok, Err, T, not, is_ok, ◌==◌, ◌||◌, nat_lt, nat_le, if◌then◌else◌}
 use Rattle.std.proofs.lemmas.Bool.{ltb-false, leb-false, eqb-false}
@@ -94,7 +94,7 @@ made blocks block_size inodes now g bytes sizes early is =
     let tree : HoldsClosed bytes (fresh_tree now) = record {
       geometry = g;
       parsed = parsed;
-      not_false = subst (λ v. HoldsNodes g v (fresh_tree now)) (sym piece) (fresh_holds g now ok early);
+      holds = subst (λ v. HoldsNodes g v (fresh_tree now)) (sym piece) (fresh_holds g now ok early);
       closed = record { open_files = refl; descriptors = refl };
     } in
     record {
