@@ -9,15 +9,15 @@ ghost use Rattle.tree.specs.Answers.{answer_of};
 ghost use Rattle.board.specs.View.{IsKeeper, opener};
 ghost use Rattle.board.specs.Steps.{SessionLearns};
 ghost use Rattle.file_server.specs.Leaving.{IsEndLast};
-ghost use Rattle.counting_link.specs.Heard.{IsHeard};
+ghost use Rattle.heard.specs.Heard.{IsHeard};
 ghost use Rattle.counting_link.specs.Keeper.{record_of, numbers_of, begins_itself, begins_further};
 
-use crate::heard::Heard;
 use crate::keeper::Keeper;
 use crate::recorder::Recorder;
 use crate::room::Room;
 use crate::steady::{OnMedia, Steady, Supplied};
 use board::{Board, Seat};
+use heard::Heard;
 use media::Media;
 use message::endpoint::Endpoint;
 use message::{BlockRequest, Incoming};

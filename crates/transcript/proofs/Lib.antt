@@ -1,4 +1,3 @@
-pub mod HeardLaws
 pub mod Notes
 pub mod Image
 mod Standing

@@ -11,8 +11,9 @@ use Rattle.schedule.specs.declared.log.Entry.{Entry}
 use Rattle.schedule.proofs.NotedLaws.{mark_in, message_in, all_push}
 use Rattle.reply_text.specs.TranscriptText.{mark_of}
 use Rattle.reply_text.specs.declared.mark.MarkRef.{MarkRef}
-use Rattle.transcript.specs.declared.heard.Heard.{Heard}
-use Rattle.transcript.specs.Heard.{IsHeard, Leaves, with_ref}
+use Rattle.heard.specs.declared.Heard.{Heard}
+use Rattle.heard.specs.Heard.{IsHeard}
+use Rattle.transcript.specs.Leaves.{Leaves, with_ref}
 
 -- a mark more
 pub leaves_one : (h : Heard) (n : Noted) (m : MarkRef) → IsHeard h (mark_of m ∷ marks_in n)

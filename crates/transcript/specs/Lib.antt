@@ -1,4 +1,4 @@
 -- What a run came to.
-pub mod Heard
+pub mod Leaves
 pub mod Shown
 pub mod ShownTranscript

@@ -5,7 +5,8 @@ ghost use Rattle.schedule.specs.LogView.{said};
 ghost use Rattle.schedule.specs.Noted.{marks_in};
 ghost use Rattle.reply_text.specs.TranscriptText.{mark_of};
 
-use crate::heard::Heard;
+use crate::marks::mark_of_note;
+use heard::Heard;
 use reply_text::mark::MarkRef;
 use schedule::Log;
 use std::alloc::{AllocError, Global};
@@ -14,10 +15,10 @@ use std::alloc::{AllocError, Global};
 pub fn shown_marks<'l>(alloc: Global, log: &'l Log<'l>) -> Result<Vec<MarkRef<'l>>, AllocError>
     ensures { IfOk result (λ shown. map mark_of shown.items ≡ reverse (marks_in (said log.now))) }
 {
-    let mut heard = Heard::new(alloc);
+    let mut heard = Heard::new(alloc)?;
     let mut shown = Vec::new(alloc);
     for entry in &log.entries {
-        if let Some(mark) = heard.mark_of(entry)? {
+        if let Some(mark) = mark_of_note(&mut heard, entry)? {
             shown.push(mark)?;
         }
     }

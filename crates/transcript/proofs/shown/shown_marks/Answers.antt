@@ -15,7 +15,7 @@ loop-entry-preserved c =
     let noted = all_noted (take c.loop-entry.entry-index entries) nothing_noted in
     rw next (
       left.heard,
-      elim c.match-branch-2.branch [
+      elim c.match-branch-3.branch [
         | in-Some+in_ok-push w ↦
             shows_one c.loop-entry.shown.items _ c.in_ok-mark.field-0 w.in-Some.mark (marks_in noted) _ w.in-Some.is
             (rw w.shown-is w.in_ok-push.ensures.items) c.loop-entry.invariant.1 left.is

@@ -1,7 +1,7 @@
 use Rattle.std.proofs.Common.{sym, ◌∙◌}
-use Rattle.transcript.proofs.HeardLaws.{heard_counts}
-use Rattle.transcript.proofs.heard.Heard.counts.Goals as goal
-use Rattle.transcript.proofs.heard.Heard.counts.Goals.{then-not-self, else-not-self}
+use Rattle.heard.proofs.HeardLaws.{heard_counts}
+use Rattle.heard.proofs.Heard.counts.Goals as goal
+use Rattle.heard.proofs.Heard.counts.Goals.{then-not-self, else-not-self}
 
 pub returns-then-is_current : goal.returns-then-is_current
 returns-then-is_current c = λ marks is. elim c.if-not-self.branch [

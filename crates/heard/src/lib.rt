@@ -1,4 +1,5 @@
-//! What a link has heard, by which it knows the messages that leave a mark.
+//! What a record says so far, by which it is known which messages leave a mark.
+#![tactic(auto)]
 
 ghost use Rattle.std.specs.Prelude.{◌≤◌, vec_capacity};
 
@@ -6,7 +7,7 @@ use message::endpoint::Endpoint;
 use message::{BlockReply, BlockRequest, Incoming, moved_bytes};
 use std::alloc::{AllocError, Global};
 
-/// How many requests are open at most.
+/// How many requests are open at most, where each was issued as it may be.
 const MOST_OPEN: usize = 16;
 
 /// What is kept of a request while it is open.
@@ -17,8 +18,8 @@ pub struct Asked {
     count: u32,
 }
 
-/// What a link has heard: the driver of the last start, whether the device was given up, the greatest id that was issued, and the open
-/// requests in the order of their first issue. Its memory is taken when it is made.
+/// What a record says: the driver of the last start, whether the device was given up, the greatest id that was issued, and the open
+/// requests in the order of their first issue. Memory for 16 of them is taken when it is made.
 #[derive(Drop)]
 pub struct Heard {
     current: Option<Endpoint>,
@@ -29,15 +30,14 @@ pub struct Heard {
 }
 
 impl Heard {
-    ghost use Rattle.std.specs.Prelude.{◌≡◌, ◌∷◌, ◌==◌, [], List, IfOk, position, if◌then◌else◌, false};
+    ghost use Rattle.std.specs.Prelude.{◌≡◌, ◌∷◌, ◌==◌, [], List, IfOk, IfErr, position, true, false};
     ghost use Rattle.message.specs.declared.endpoint.Endpoint.{Endpoint};
     ghost use Rattle.records.specs.Marks.{Mark, Issued, Answered, is_endpoint};
     ghost use Rattle.records.specs.Open.{MayFollow, counts};
     ghost use Rattle.records.specs.Told.{received};
-    ghost use Rattle.board.specs.Words.{mark_of};
-    ghost use Rattle.counting_link.specs.Heard.{IsHeard};
+    ghost use Rattle.heard.specs.Heard.{IsHeard, leaves_mark};
 
-    /// Nothing was heard.
+    /// Nothing was heard. An error: no memory was found.
     pub fn new(alloc: Global) -> Result<Heard, AllocError>
         ensures { IfOk result (λ h. IsHeard h []) }
     {
@@ -49,7 +49,7 @@ impl Heard {
         })
     }
 
-    /// A request was issued, where it may be.
+    /// A request was issued, where it may be. This takes no memory.
     pub fn issued(&mut self, request: &BlockRequest)
         ensures { (marks : List Mark) (to : Endpoint) → MayFollow (Issued request.now to) marks → IsHeard self.old marks
             → IsHeard self.new (Issued request.now to ∷ marks) }
@@ -66,10 +66,25 @@ impl Heard {
         }
     }
 
+    /// A request was issued, whether it may be or not. An error: no memory was found, and what is kept is as it was.
+    pub fn issued_any(&mut self, request: &BlockRequest) -> Result<(), AllocError>
+        ensures issued { IfOk result (λ _. (marks : List Mark) (to : Endpoint) → IsHeard self.old marks
+            → IsHeard self.new (Issued request.now to ∷ marks)) }
+        ensures no_memory { IfErr result (λ _. (marks : List Mark) → IsHeard self.old marks → IsHeard self.new marks) }
+    {
+        if request.id > self.greatest {
+            self.asked.push(Asked {
+                id: request.id,
+                count: request.count,
+            })?;
+            self.greatest = request.id;
+        }
+        Ok(())
+    }
+
     /// Whether a message leaves a mark: a reply does if it counts, and an End doesn't.
     pub fn leaves_mark(&self, message: &Incoming) -> bool
-        ensures mark { (marks : List Mark) → IsHeard self.now marks
-            → received message.now marks ≡ (if result then mark_of message.now ∷ marks else marks) }
+        ensures mark { (marks : List Mark) → IsHeard self.now marks → result ≡ leaves_mark message.now marks }
         ensures end { message.now ≡ Incoming.End → result ≡ false }
     {
         match message {
@@ -83,7 +98,8 @@ impl Heard {
 
     /// A message was taken that leaves a mark.
     pub fn takes(&mut self, message: &Incoming)
-        ensures { (marks : List Mark) → IsHeard self.old marks → IsHeard self.new (mark_of message.now ∷ marks) }
+        ensures { (marks : List Mark) → leaves_mark message.now marks ≡ true → IsHeard self.old marks
+            → IsHeard self.new (received message.now marks) }
     {
         match message {
             Incoming::Reply(reply) => self.answered(reply),

@@ -2,8 +2,8 @@ use Rattle.std.proofs.Common.{refl, sym, ◌∙◌, ap, Option}
 use Rattle.std.specs.Prelude.{is_some}
 use Rattle.message.specs.declared.BlockRequest.{BlockRequest}
 use Rattle.records.specs.Open.{moved_of}
-use Rattle.transcript.proofs.HeardLaws.{heard_none, moved_at, closes_none, closes_one}
-use Rattle.transcript.proofs.heard.Heard.answered.Goals as goal
+use Rattle.heard.proofs.HeardLaws.{heard_none, moved_at, closes_none, closes_one}
+use Rattle.heard.proofs.Heard.answered.Goals as goal
 
 pub returns-in_default : goal.returns-in_default
 returns-in_default c = λ marks is.

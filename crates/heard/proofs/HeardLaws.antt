@@ -1,17 +1,20 @@
--- What was heard, and what the record says then.
-use Rattle.std.proofs.Common.{◌≡◌, ℕ, suc, ◌+◌, List, [], ◌∷◌, get_or, Bool, true, false, cond, refl, sym, ◌∙◌, ap, subst, arith, Option, Some, None}
+-- What is kept, and what the record says then.
+use Rattle.std.proofs.Common.{◌≡◌, ℕ, suc, ◌+◌, ◌<◌, ◌≤◌, List, [], ◌∷◌, length, get_or, Bool, true, false, cond, refl, sym, ◌∙◌, ap, subst, inl, inr, arith, Option, Some, None}
 use Rattle.std.specs.Prelude.{map, is_some, ◌==◌, ◌&&◌, not, position, remove}
 use Rattle.std.specs.List.{position_from}
 use Rattle.std.proofs.lemmas.Iterator.Adapters.{position_from-zero}
+use Rattle.std.proofs.lemmas.List.{length-map}
 use Rattle.lemmas.proofs.Options.{cond_none}
+use Rattle.message.specs.declared.endpoint.Endpoint.{Endpoint}
 use Rattle.message.specs.declared.BlockRequest.{BlockRequest}
 use Rattle.message.specs.declared.BlockReply.{BlockReply}
 use Rattle.message.specs.Good.{moved}
-use Rattle.records.specs.Marks.{Mark, Answered, last_started, is_endpoint}
-use Rattle.records.specs.Open.{greatest, open_requests, with_id, without_id, moved_of, asked_by, counts}
-use Rattle.transcript.specs.declared.heard.Asked.{Asked}
-use Rattle.transcript.specs.declared.heard.Heard.{Heard}
-use Rattle.transcript.specs.Heard.{asked_for, IsHeard}
+use Rattle.records.specs.Marks.{Mark, Issued, Answered, last_started, is_endpoint}
+use Rattle.records.specs.Open.{greatest, open_requests, with_id, without_id, moved_of, asked_by, counts, MayFollow}
+use Rattle.records.proofs.OpenRequests.{open_below}
+use Rattle.heard.specs.declared.Asked.{Asked}
+use Rattle.heard.specs.declared.Heard.{Heard}
+use Rattle.heard.specs.Heard.{asked_for, IsHeard}
 
 -- it has this id
 abbrev pub has_id : ℕ → Asked → Bool
@@ -59,7 +62,7 @@ found id rs at e =
     let same : f.0 ≡ at = omega (arith, f.1) in
     subst (λ (k : ℕ). FoundAt id rs k) same f.2
 
--- the same of what was heard
+-- the same of what is kept
 pub heard_none : (h : Heard) (marks : List Mark) (id : ℕ) → IsHeard h marks → position (has_id id) h.asked.items ≡ None
     → with_id id (open_requests marks) ≡ None
 heard_none h marks id is e = not_there id (open_requests marks) (ap (position (has_id id)) (sym is.asked) ∙ e)
@@ -110,3 +113,13 @@ moved_at h marks a at x o is e here moves =
     let f = heard_found h marks a.id at is e in
     let same : x ≡ asked_for f.request = here ∙ ap (λ (l : List Asked). get_or l at x) is.asked ∙ f.here x in
     ap (λ (r : Option BlockRequest). moved_of r a) f.there ∙ sym (moves ∙ ap (λ (y : Asked). moved y.count a.outcome) same)
+
+-- a request that may be issued under an id above the greatest is new: there is a place for it
+pub has_place : (h : Heard) (marks : List Mark) (r : BlockRequest) (to : Endpoint) → IsHeard h marks → MayFollow (Issued r to) marks
+    → h.greatest < r.id → length h.asked.items < 16
+has_place h marks r to is may above = elim may.1 [
+  | inl new ↦ omega (arith, ap length is.asked, length-map (open_requests marks) asked_for, new.room)
+  | inr again ↦
+      let le : r.id ≤ greatest marks = open_below marks r again.same in
+      absurd (omega (arith, le, above, is.greatest))
+]

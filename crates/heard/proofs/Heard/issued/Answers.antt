@@ -1,6 +1,6 @@
 use Rattle.std.proofs.Common.{arith}
-use Rattle.counting_link.proofs.HeardLaws.{has_place}
-use Rattle.counting_link.proofs.heard.Heard.issued.Goals as goal
+use Rattle.heard.proofs.HeardLaws.{has_place}
+use Rattle.heard.proofs.Heard.issued.Goals as goal
 
 pub returns-else-len-lt-MOST_OPEN : goal.returns-else-len-lt-MOST_OPEN
 returns-else-len-lt-MOST_OPEN c = λ marks to may is.
