@@ -101,8 +101,9 @@ impl<N: Room, R: Wait + Copy, L: Recorder<N> + OnMedia, S: FileServer<L>> Servic
     N,
     Shared<N, R, L, S>,
 > {
-    /// Stops the service: a last sync is made, and the media are given back as an image. Where the volume held a tree, that image has the
-    /// tree after the calls of all sessions on it.
+    /// Stops the service: a last sync is made, and the media are given back as an image: the sectors of the media on which its link lies,
+    /// as they stand. Where the volume held a tree, the record that this link guarantees has the tree after the calls of all sessions on
+    /// the disk alone; what that says of the media is the link's own.
     ///
     /// It is refused: 1 SessionsLeft, where some session neither ended nor was let go, which hands the service back; 3 OutOfMemory, where
     /// none was found for the image, which hands back what is left; 2 GivenUp and 4 LinkEnded, where the last sync wasn't made, with the
