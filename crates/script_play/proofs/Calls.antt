@@ -1,5 +1,5 @@
 -- One call of a session, and a session just made.
-use Rattle.std.proofs.Common.{◌≡◌, ℕ, List, [], ap, sym, subst, ◌∙◌}
+use Rattle.std.proofs.Common.{◌≡◌, ℕ, List, true, refl, ap, ◌∙◌}
 use Rattle.layout.specs.declared.Geometry.{Geometry}
 use Rattle.tree.specs.declared.Who.{Who}
 use Rattle.tree.specs.declared.Call.{Call}
@@ -11,9 +11,10 @@ use Rattle.records.specs.Opening.{Opening, contents_at}
 use Rattle.records.specs.Legal.{IsAtFirst}
 use Rattle.records.specs.Session.{Seen, SessionState, SessionCallKeeps, EndsWith, IsMadeFor, calls_of}
 use Rattle.file_server.specs.Over.{outcome_of}
+use Rattle.reissue.specs.declared.link.Link.{Ghosts as LinkWords}
 use Rattle.reissue.specs.Calls.{Truth}
-use Rattle.shared_server.specs.Held.{IsGood, IsGuaranteed, IsSound}
-use Rattle.script_play.specs.Made.{call_made}
+use Rattle.shared_server.specs.Held.{HasEnded, IsCutAtEnd, IsGood, IsGuaranteed, IsSound}
+use Rattle.script_play.specs.Made.{call_made, cuts}
 use Rattle.script_play.specs.Turns.{IsUnplayed}
 use Rattle.script_play.specs.Vouched.{Vouched}
 
@@ -29,6 +30,12 @@ pub call_vouched : {L : Type 0} (truth : L → Truth) (g : Geometry) (v : Openin
     → ((tree : Tree) → IsAtFirst g (contents_at v) tree → IsSound new.knows.seen)
     → ((tree : Tree) → IsAtFirst g (contents_at v) tree → IsGuaranteed truth v new.knows.seen) → Vouched truth g v new.knows.seen
 call_vouched truth g v old who now call outcome new h sound guaranteed = λ tree first. ((sound tree first, h.legal tree first), guaranteed tree first)
+
+-- a call that was cut came once the link had ended
+pub cut_ended : {L : Type 0} (link : LinkWords L) (marks : L → List Mark) (outcome : Outcome) (seen : List Mark) → IsCutAtEnd link marks outcome seen → cuts outcome ≡ true
+    → HasEnded link marks seen
+cut_ended link marks Cut seen h is = record { line = h.line; kept = h.kept; ended = h.exactly.0 refl }
+cut_ended link marks (Reply r) seen h is = absurd (cc)
 
 -- a session that was made has made no call
 pub made_unplayed : {L : Type 0} (truth : L → Truth) (g : Geometry) (v : Opening) (uid gid : ℕ) (s : SessionState) (marks : List Mark) → IsMadeFor uid gid s marks → s.knows.seen ≡ marks

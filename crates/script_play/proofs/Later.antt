@@ -1,6 +1,5 @@
 -- A session later.
 use Rattle.std.proofs.Common.{◌≡◌, List, [], ◌++◌, refl, sym, ap, ◌∙◌, append_assoc, append-nil}
-use Rattle.tree.specs.declared.Who.{Who}
 use Rattle.records.specs.Marks.{Mark, IsBeginning}
 use Rattle.records.specs.Session.{SessionState, SessionGoesOn, caller_of}
 use Rattle.script_play.specs.Made.{IsLater}

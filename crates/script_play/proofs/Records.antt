@@ -21,8 +21,8 @@ use Rattle.script_play.specs.declared.players.LastSync.{LastSync}
 use Rattle.script_play.specs.declared.players.LastSync.TheVariants.{Done, GivenUp, Cut}
 
 -- what is vouched for in one way is in another
-module _ (V W : List Mark → Type 0) (weaker : (seen : List Mark) → V seen → W seen) where
-  turn_as : (earlier : List Mark) (script : ℕ × ℕ × List TimedCall) (p : Played) (s : SessionState) → IsTurn V earlier script p s → IsTurn W earlier script p s
+module _ (V W E : List Mark → Type 0) (weaker : (seen : List Mark) → V seen → W seen) where
+  turn_as : (earlier : List Mark) (script : ℕ × ℕ × List TimedCall) (p : Played) (s : SessionState) → IsTurn V E earlier script p s → IsTurn W (λ ended. Unit {0}) earlier script p s
   turn_as earlier script p s t = record {
     user = t.user;
     group = t.group;
@@ -38,10 +38,11 @@ module _ (V W : List Mark → Type 0) (weaker : (seen : List Mark) → V seen �
     goes_on = t.goes_on;
     calls = t.calls;
     vouched = weaker s.knows.seen t.vouched;
+    ended = λ is. tt;
   }
 
   pub in_turn_as : (earlier : List Mark) (scripts : List (ℕ × ℕ × List TimedCall)) (played : List Played) (last : List Mark)
-      → InTurn V earlier scripts played last → InTurn W earlier scripts played last
+      → InTurn V E earlier scripts played last → InTurn W (λ ended. Unit {0}) earlier scripts played last
   in_turn_as earlier [] [] last h = h
   in_turn_as earlier [] (p ∷ played) last h = absurd h
   in_turn_as earlier (script ∷ scripts) [] last h = absurd h
@@ -52,12 +53,12 @@ module _ (V W : List Mark → Type 0) (weaker : (seen : List Mark) → V seen �
 pub are_served : {L : Type 0} (link : LinkWords L) (lies_on : L → MediaState) (g : Geometry) (v : Opening) (scripts : List (ℕ × ℕ × List TimedCall))
     (played : List Played) (seen : List Mark) (last : LastSync) (image : List ℕ)
     → ((line : L) (v : Opening) (older : List Mark) → link.truth line v older → HasTrueReplies (contents_at v) older)
-    → ArePlayed (Vouched link.truth g v) scripts played seen
+    → (E : List Mark → Type 0) → ArePlayed (Vouched link.truth g v) E scripts played seen
     → IsLastImage link lies_on g v seen (sync_of last) image
     → AreServed g v scripts played last image
-are_served link lies_on g v scripts played seen last image are_true turns shown = record {
+are_served link lies_on g v scripts played seen last image are_true E turns shown = record {
   seen = seen;
-  turns = in_turn_as (Vouched link.truth g v) (IsTrueRecord g v) vouched [] scripts played seen turns;
+  turns = in_turn_as (Vouched link.truth g v) (IsTrueRecord g v) E vouched [] scripts played seen turns;
   left = λ tree first.
       let said = shown.last.says tree first in
       record {

@@ -8,10 +8,10 @@ use Rattle.records.specs.Session.{SessionState, MeetKeeps, caller_of, calls_of}
 use Rattle.script_text.specs.declared.timed.TimedCall.{TimedCall}
 use Rattle.script_text.specs.Scripts.{plain_timed}
 use Rattle.reply_text.specs.declared.answers.Played.{Played}
-use Rattle.script_play.specs.Made.{IsLater, Plays, calls_made}
+use Rattle.script_play.specs.Made.{Plays, calls_made}
 use Rattle.script_play.specs.declared.turns.Turn.{Turn}
 use Rattle.script_play.specs.Turns.{ArePlayed, Follows, InTurn, IsTurn, IsUnplayed, IsVouched, asked, seen_by}
-use Rattle.script_play.proofs.Later.{begins_all, begins_self, begins_through, goes_later, later_self}
+use Rattle.script_play.proofs.Later.{begins_all, goes_later, later_self}
 
 -- what was vouched for of both is of the longer
 either : (Vouches : List Mark → Type 0) (a b longer : List Mark) → ((longer ≡ a) × IsBeginning b a) ⊎ ((longer ≡ b) × IsBeginning a b) → Vouches a → Vouches b → Vouches longer
@@ -40,10 +40,10 @@ follows_met Vouches old new earlier later unplayed vouched h =
     }
 
 -- what came of a script
-pub is_turn : (Vouches : List Mark → Type 0) (earlier : List Mark) (first before last : SessionState) (calls : List TimedCall) (played : Played)
-    → Follows Vouches earlier first before → Plays Vouches before calls played.outcomes.items last → played.number ≡ before.knows.number
-    → IsTurn Vouches earlier (first.uid, first.gid, map plain_timed calls) played last
-is_turn Vouches earlier first before last calls played h plays numbered =
+pub is_turn : (Vouches Ended : List Mark → Type 0) (earlier : List Mark) (first before last : SessionState) (calls : List TimedCall) (played : Played)
+    → Follows Vouches earlier first before → Plays Vouches Ended before calls played.outcomes.items last → played.number ≡ before.knows.number
+    → IsTurn Vouches Ended earlier (first.uid, first.gid, map plain_timed calls) played last
+is_turn Vouches Ended earlier first before last calls played h plays numbered =
     let caller : caller_of last ≡ caller_of first = plays.later.caller ∙ h.later.caller in
     let own : last.knows.mine ≡ calls_of last.knows.number last.knows.place last.knows.seen = plays.later.own (h.unplayed.none ∙ sym h.unplayed.none_seen) in
     record {
@@ -65,16 +65,17 @@ is_turn Vouches earlier first before last calls played h plays numbered =
           sym own ∙ plays.mine ∙ ap (λ (older : List Mark). calls_made (caller_of before) calls played.outcomes.items older) h.unplayed.none
           ∙ ap (λ (w : Who). calls_made w calls played.outcomes.items []) (sym plays.later.caller);
       vouched = plays.vouched h.unplayed.vouched;
+      ended = plays.ended;
     }
 
 -- one more turn
-pub turns_more : (Vouches : List Mark → Type 0) (earlier : List Mark) (scripts : List (ℕ × ℕ × List TimedCall)) (played : List Played) (mid : List Mark)
-    (script : ℕ × ℕ × List TimedCall) (p : Played) (s : SessionState) → InTurn Vouches earlier scripts played mid → IsTurn Vouches mid script p s
-    → InTurn Vouches earlier (scripts ++ script ∷ []) (played ++ p ∷ []) s.knows.seen
-turns_more Vouches earlier [] [] mid script p s h turn = (s, subst (λ (seen : List Mark). IsTurn Vouches seen script p s) h turn, refl)
-turns_more Vouches earlier [] (q ∷ played) mid script p s h turn = absurd h
-turns_more Vouches earlier (x ∷ scripts) [] mid script p s h turn = absurd h
-turns_more Vouches earlier (x ∷ scripts) (q ∷ played) mid script p s (t, first, rest) turn = (t, first, turns_more Vouches t.knows.seen scripts played mid script p s rest turn)
+pub turns_more : (Vouches Ended : List Mark → Type 0) (earlier : List Mark) (scripts : List (ℕ × ℕ × List TimedCall)) (played : List Played) (mid : List Mark)
+    (script : ℕ × ℕ × List TimedCall) (p : Played) (s : SessionState) → InTurn Vouches Ended earlier scripts played mid → IsTurn Vouches Ended mid script p s
+    → InTurn Vouches Ended earlier (scripts ++ script ∷ []) (played ++ p ∷ []) s.knows.seen
+turns_more Vouches Ended earlier [] [] mid script p s h turn = (s, subst (λ (seen : List Mark). IsTurn Vouches Ended seen script p s) h turn, refl)
+turns_more Vouches Ended earlier [] (q ∷ played) mid script p s h turn = absurd h
+turns_more Vouches Ended earlier (x ∷ scripts) [] mid script p s h turn = absurd h
+turns_more Vouches Ended earlier (x ∷ scripts) (q ∷ played) mid script p s (t, first, rest) turn = (t, first, turns_more Vouches Ended t.knows.seen scripts played mid script p s rest turn)
 
 all_head : {X : Type 0} (P : X → Type 0) (x : X) (xs : List X) → All P (x ∷ xs) → P x
 all_head P x xs h = h 0 x (omega arith)
@@ -88,43 +89,43 @@ all_tail : {X : Type 0} (P : X → Type 0) (x : X) (xs : List X) → All P (x �
 all_tail P x xs h = λ k d less. h (suc k) d (omega arith)
 
 -- what was played so far, and what is left
-pub record SoFar {C : Type 0} (Vouches : List Mark → Type 0) (state : C → SessionState) (all rest : List (Turn C)) (played : List Played) (last : Option SessionState) : Type 0 where
+pub record SoFar {C : Type 0} (Vouches Ended : List Mark → Type 0) (state : C → SessionState) (all rest : List (Turn C)) (played : List Played) (last : Option SessionState) : Type 0 where
   pub done : List (ℕ × ℕ × List TimedCall)
   pub split : map (asked state) all ≡ done ++ map (asked state) rest
-  pub turns : InTurn Vouches [] done played (seen_by last)
+  pub turns : InTurn Vouches Ended [] done played (seen_by last)
   pub left : All (λ turn. IsUnplayed Vouches (state turn.client)) rest
   pub vouched : IsVouched Vouches last
 
-module _ {C : Type 0} (Vouches : List Mark → Type 0) (state : C → SessionState) (all : List (Turn C)) where
-  pub so_far_none : (played : List Played) → played ≡ [] → All (λ turn. IsUnplayed Vouches (state turn.client)) all → SoFar Vouches state all all played None
+module _ {C : Type 0} (Vouches Ended : List Mark → Type 0) (state : C → SessionState) (all : List (Turn C)) where
+  pub so_far_none : (played : List Played) → played ≡ [] → All (λ turn. IsUnplayed Vouches (state turn.client)) all → SoFar Vouches Ended state all all played None
   so_far_none played none left = record {
     done = [];
     split = refl;
-    turns = subst (λ (p : List Played). InTurn Vouches [] [] p []) (sym none) refl;
+    turns = subst (λ (p : List Played). InTurn Vouches Ended [] [] p []) (sym none) refl;
     left = left;
     vouched = tt;
   }
 
   pub next_unplayed : (rest more : List (Turn C)) (played : List Played) (last : Option SessionState) (turn : Turn C) → rest ≡ turn ∷ more
-      → SoFar Vouches state all rest played last → IsUnplayed Vouches (state turn.client)
+      → SoFar Vouches Ended state all rest played last → IsUnplayed Vouches (state turn.client)
   next_unplayed rest more played last turn is h =
       all_head (λ turn. IsUnplayed Vouches (state turn.client)) turn more (subst (λ (l : List (Turn C)). All (λ turn. IsUnplayed Vouches (state turn.client)) l) is h.left)
 
   pub so_far_more : (rest more : List (Turn C)) (played grown : List Played) (last : Option SessionState) (turn : Turn C) (p : Played) (final : SessionState)
-      → rest ≡ turn ∷ more → grown ≡ played ++ p ∷ [] → SoFar Vouches state all rest played last → IsTurn Vouches (seen_by last) (asked state turn) p final
-      → SoFar Vouches state all more grown (Some final)
+      → rest ≡ turn ∷ more → grown ≡ played ++ p ∷ [] → SoFar Vouches Ended state all rest played last → IsTurn Vouches Ended (seen_by last) (asked state turn) p final
+      → SoFar Vouches Ended state all more grown (Some final)
   so_far_more rest more played grown last turn p final is grows h came = record {
     done = h.done ++ asked state turn ∷ [];
     split = h.split ∙ ap (λ l. h.done ++ map (asked state) l) is ∙ sym (append_assoc h.done (asked state turn ∷ []) (map (asked state) more));
     turns =
-        subst (λ (ps : List Played). InTurn Vouches [] (h.done ++ asked state turn ∷ []) ps final.knows.seen) (sym grows)
-        (turns_more Vouches [] h.done played (seen_by last) (asked state turn) p final h.turns came);
+        subst (λ (ps : List Played). InTurn Vouches Ended [] (h.done ++ asked state turn ∷ []) ps final.knows.seen) (sym grows)
+        (turns_more Vouches Ended [] h.done played (seen_by last) (asked state turn) p final h.turns came);
     left = all_tail (λ turn. IsUnplayed Vouches (state turn.client)) turn more (subst (λ (l : List (Turn C)). All (λ turn. IsUnplayed Vouches (state turn.client)) l) is h.left);
     vouched = came.vouched;
   }
 
-  pub all_played : (rest : List (Turn C)) (played : List Played) (last : Option SessionState) → rest ≡ [] → SoFar Vouches state all rest played last
-      → ArePlayed Vouches (map (asked state) all) played (seen_by last)
+  pub all_played : (rest : List (Turn C)) (played : List Played) (last : Option SessionState) → rest ≡ [] → SoFar Vouches Ended state all rest played last
+      → ArePlayed Vouches Ended (map (asked state) all) played (seen_by last)
   all_played rest played last none h =
       let split : map (asked state) all ≡ h.done = h.split ∙ ap (λ l. h.done ++ map (asked state) l) none ∙ append-nil h.done in
-      subst (λ (scripts : List (ℕ × ℕ × List TimedCall)). InTurn Vouches [] scripts played (seen_by last)) (sym split) h.turns
+      subst (λ (scripts : List (ℕ × ℕ × List TimedCall)). InTurn Vouches Ended [] scripts played (seen_by last)) (sym split) h.turns

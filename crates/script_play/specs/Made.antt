@@ -67,17 +67,19 @@ pub record IsLater (old new : SessionState) : Type 0 where
   pub own : IsOwn old → IsOwn new
 
 -- These calls were made in a session, each in its turn and with its outcome; from the first that is cut on all are. Its own calls grew by those that
--- were answered, and what it has seen is still vouched for.
-pub record Plays (Vouches : List Mark → Type 0) (old : SessionState) (calls : List TimedCall) (outcomes : List Outcome) (new : SessionState) : Type 0 where
+-- were answered, and what it has seen is still vouched for. Where one was cut, the link had ended, by what it has seen.
+pub record Plays (Vouches Ended : List Mark → Type 0) (old : SessionState) (calls : List TimedCall) (outcomes : List Outcome) (new : SessionState) : Type 0 where
   pub later : IsLater old new
   pub each : length outcomes ≡ length calls
   pub cuts_last : cuts_last outcomes ≡ true
   pub mine : new.knows.mine ≡ calls_made (caller_of old) calls outcomes old.knows.mine
   pub vouched : Vouches old.knows.seen → Vouches new.knows.seen
+  pub ended : some_cut outcomes ≡ true → Ended new.knows.seen
 
 -- One call, unless an earlier one was cut.
-pub record Calls (Vouches : List Mark → Type 0) (old : SessionState) (cut : Bool) (timed : TimedCall) (outcome : Outcome) (new : SessionState) : Type 0 where
+pub record Calls (Vouches Ended : List Mark → Type 0) (old : SessionState) (cut : Bool) (timed : TimedCall) (outcome : Outcome) (new : SessionState) : Type 0 where
   pub after_cut : cut ≡ true → (outcome ≡ Cut) × (new ≡ old)
   pub goes_on : cut ≡ false → SessionGoesOn old new
   pub mine : cut ≡ false → new.knows.mine ≡ call_made (caller_of old) timed.time timed.call outcome old.knows.mine
   pub vouched : cut ≡ false → Vouches new.knows.seen
+  pub ended : cut ≡ false → cuts outcome ≡ true → Ended new.knows.seen

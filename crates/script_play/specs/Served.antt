@@ -47,7 +47,7 @@ pub record IsLeft (g : Geometry) (v : Opening) (tree : Tree) (seen : List Mark) 
 pub record AreServed (g : Geometry) (v : Opening) (scripts : List (ℕ × ℕ × List TimedCall)) (played : List Played) (last : LastSync)
     (image : List ℕ) : Type 0 where
   pub seen : List Mark
-  pub turns : ArePlayed (IsTrueRecord g v) scripts played seen
+  pub turns : ArePlayed (IsTrueRecord g v) (λ ended. Unit {0}) scripts played seen
   pub left : (tree : Tree) → IsAtFirst g (contents_at v) tree → IsLeft g v tree seen last image
 
 -- what is handed out of what stopping a service gave

@@ -7,7 +7,7 @@ use Rattle.script_text.specs.declared.timed.TimedCall.{TimedCall}
 use Rattle.script_text.specs.Scripts.{plain_timed}
 use Rattle.reply_text.specs.declared.answers.Played.{Played}
 use Rattle.script_play.specs.declared.turns.Turn.{Turn}
-use Rattle.script_play.specs.Made.{IsLater, calls_made, cuts_last}
+use Rattle.script_play.specs.Made.{IsLater, calls_made, cuts_last, some_cut}
 
 -- what is asked in a turn: the user and group of its session, and its calls, wherever their paths and bytes stand
 abbrev pub asked : {C : Type 0} → (C → SessionState) → Turn C → ℕ × ℕ × List TimedCall
@@ -38,7 +38,8 @@ pub record Follows (Vouches : List Mark → Type 0) (earlier : List Mark) (old n
 
 -- What came of a script, by what its session has seen in the end: its user's calls and no others were made in it, each answered as told or cut,
 -- after all that was seen before it.
-pub record IsTurn (Vouches : List Mark → Type 0) (earlier : List Mark) (script : ℕ × ℕ × List TimedCall) (played : Played) (s : SessionState) : Type 0 where
+pub record IsTurn (Vouches Ended : List Mark → Type 0) (earlier : List Mark) (script : ℕ × ℕ × List TimedCall) (played : Played)
+    (s : SessionState) : Type 0 where
   pub user : s.uid ≡ script.0
   pub group : s.gid ≡ script.1
   pub number : s.knows.number ≡ played.number
@@ -55,14 +56,16 @@ pub record IsTurn (Vouches : List Mark → Type 0) (earlier : List Mark) (script
   pub goes_on : IsBeginning before s.knows.seen
   pub calls : calls_of s.knows.number s.knows.place s.knows.seen ≡ calls_made (caller_of s) made played.outcomes.items []
   pub vouched : Vouches s.knows.seen
+  -- where a call was cut, the link had ended, by what it has seen
+  pub ended : some_cut played.outcomes.items ≡ true → Ended s.knows.seen
 
 -- each script came to what was played of it, one after the other, from what was seen at first to what was seen in the end
-abbrev pub InTurn : (List Mark → Type 0) → List Mark → List (ℕ × ℕ × List TimedCall) → List Played → List Mark → Type 0
-InTurn Vouches earlier [] [] last = last ≡ earlier
-InTurn Vouches earlier (script ∷ scripts) (p ∷ played) last =
-    (s : SessionState) × IsTurn Vouches earlier script p s × InTurn Vouches s.knows.seen scripts played last
-InTurn Vouches earlier _ _ last = ⊥
+abbrev pub InTurn : (List Mark → Type 0) → (List Mark → Type 0) → List Mark → List (ℕ × ℕ × List TimedCall) → List Played → List Mark → Type 0
+InTurn Vouches Ended earlier [] [] last = last ≡ earlier
+InTurn Vouches Ended earlier (script ∷ scripts) (p ∷ played) last =
+    (s : SessionState) × IsTurn Vouches Ended earlier script p s × InTurn Vouches Ended s.knows.seen scripts played last
+InTurn Vouches Ended earlier _ _ last = ⊥
 
 -- the scripts were played one after the other, in sessions of one service; this is what the last of them has seen in the end
-abbrev pub ArePlayed : (List Mark → Type 0) → List (ℕ × ℕ × List TimedCall) → List Played → List Mark → Type 0
-ArePlayed Vouches scripts played last = InTurn Vouches [] scripts played last
+abbrev pub ArePlayed : (List Mark → Type 0) → (List Mark → Type 0) → List (ℕ × ℕ × List TimedCall) → List Played → List Mark → Type 0
+ArePlayed Vouches Ended scripts played last = InTurn Vouches Ended [] scripts played last

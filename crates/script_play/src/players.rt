@@ -2,6 +2,7 @@
 
 ghost use Rattle.std.specs.Prelude.{◌≡◌, Some, IfErr, IfOk, map};
 ghost use Rattle.std.specs.Option.{option_map};
+ghost use Rattle.shared_server.specs.Held.{HasEnded};
 ghost use Rattle.shared_server.specs.Stopping.{IsLastImage};
 ghost use Rattle.script_text.specs.Said.{said};
 ghost use Rattle.script_play.specs.Turns.{ArePlayed, seen_by};
@@ -133,7 +134,7 @@ fn play_all<N: Room, R: Wait + Copy, L: Recorder<N>, S: FileServer<L>>(
     service: &Service<N, Shared<N, R, L, S>>,
     scripts: &[Script<'_>],
 ) -> Result<(Vec<Played>, Option<ScriptSession<N, R, L, S>>), ServiceRefusal>
-    ensures { IfOk result (λ came. ArePlayed (Vouched L.truth N.geometry N.opening) (map said scripts.now) came.0.items
+    ensures { IfOk result (λ came. ArePlayed (Vouched L.truth N.geometry N.opening) (HasEnded L.Link L.marks) (map said scripts.now) came.0.items
         (seen_by (option_map (λ s. s.0) came.1))) }
 {
     let turns = match admit_all(alloc, service, scripts) {

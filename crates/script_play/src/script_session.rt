@@ -30,10 +30,13 @@ impl<N: Room, R: Wait + Copy, L: Recorder<N>, S: FileServer<L>> ScriptSession<N,
 impl<N: Room, R: Wait + Copy, L: Recorder<N>, S: FileServer<L>> Client
     for ScriptSession<N, R, L, S> {
     ghost use Rattle.script_play.specs.Vouched.{Vouched};
+    ghost use Rattle.shared_server.specs.Held.{HasEnded};
 
     ghost state = { λ s. s.0 };
 
     ghost vouches = { λ seen. Vouched L.truth N.geometry N.opening seen };
+
+    ghost ended = { λ seen. HasEnded L.Link L.marks seen };
 
     fn number(&self) -> u8 {
         self.0.number()

@@ -33,7 +33,7 @@ pub fn play_in_turn<C: Client>(
     turns: VecDeque<Turn<'_, C>>,
 ) -> Result<(Vec<Played>, Option<C>), AllocError>
     requires { All (λ turn. IsUnplayed C.vouches (C.state turn.client)) turns.items }
-    ensures { IfOk result (λ came. ArePlayed C.vouches (map (asked C.state) turns.entry.items) came.0.items
+    ensures { IfOk result (λ came. ArePlayed C.vouches C.ended (map (asked C.state) turns.entry.items) came.0.items
         (seen_by (option_map C.state came.1))) }
 {
     let mut played = Vec::new(alloc);
@@ -57,7 +57,7 @@ fn play_next<C: Client>(
 ) -> Result<(Played, C), AllocError>
     requires new { IsUnplayed C.vouches (C.state turn.client) }
     requires earlier { IsVouched C.vouches (option_map C.state earlier) }
-    ensures { IfOk result (λ came. IsTurn C.vouches (seen_by (option_map C.state earlier)) (asked C.state turn.entry) came.0
+    ensures { IfOk result (λ came. IsTurn C.vouches C.ended (seen_by (option_map C.state earlier)) (asked C.state turn.entry) came.0
         (C.state came.1)) }
 {
     let Turn { mut client, calls } = turn;
@@ -87,7 +87,7 @@ fn play_turn<C: Client>(
     client: &mut C,
     calls: &[TimedCall<'_>],
 ) -> Result<Played, AllocError>
-    ensures { IfOk result (λ played. Plays C.vouches (C.state client.old) calls.now played.outcomes.items (C.state client.new)
+    ensures { IfOk result (λ played. Plays C.vouches C.ended (C.state client.old) calls.now played.outcomes.items (C.state client.new)
         × (played.number ≡ (C.state client.old).knows.number)) }
 {
     let number = client.number();
@@ -102,7 +102,7 @@ pub fn make_calls<C: Client>(
     client: &mut C,
     calls: &[TimedCall<'_>],
 ) -> Result<Vec<Outcome>, AllocError>
-    ensures { IfOk result (λ outcomes. Plays C.vouches (C.state client.old) calls.now outcomes.items (C.state client.new)) }
+    ensures { IfOk result (λ outcomes. Plays C.vouches C.ended (C.state client.old) calls.now outcomes.items (C.state client.new)) }
 {
     let mut outcomes = Vec::with_capacity(alloc, calls.len())?;
     let mut cut = false;
@@ -116,7 +116,7 @@ pub fn make_calls<C: Client>(
 
 /// A call, unless an earlier one was cut.
 fn call_unless<C: Client>(cut: bool, client: &mut C, timed: &TimedCall<'_>) -> Outcome
-    ensures { Calls C.vouches (C.state client.old) cut timed.now result (C.state client.new) }
+    ensures { Calls C.vouches C.ended (C.state client.old) cut timed.now result (C.state client.new) }
 {
     if cut {
         Outcome::Cut
