@@ -73,8 +73,8 @@ is_of_output OutOfMemory = true
 is_of_output NotWritten = true
 is_of_output _ = false
 
--- nothing went out, and no image was left, since nothing was played; or the scripts were played, a part of their sessions' text went out, and
--- the image was left
+-- nothing went out, and no image was left: nothing was played, or memory ended before all was; or the scripts were played, a part of their
+-- sessions' text went out, and the image was left
 abbrev pub IsCutShort : File → List File → Setup → List DriverState → PlayRefusal → Type 0 → (List ℕ → Type 0) → Option (List ℕ) → Type 0
 IsCutShort image scripts setup supply refusal Nothing Part left =
     (Nothing × (left ≡ None) × IsUnplayed image scripts setup supply refusal)
