@@ -1,7 +1,7 @@
 //! Volumes in a partition of an image: a new volume of 128 sectors behind a sector with a table, from sector 1 on.
 use crate::plays::{Play, Played};
 use fixtures::{new_volume, whole};
-use media::partition::{Table, parse};
+use modeldisk::supply::table_in;
 use modeldisk::{Inner, RamDriver, ScriptedDriver};
 use reincarnate::policy::Setup;
 use std::alloc::{AllocError, Global};
@@ -22,33 +22,21 @@ fn disk(alloc: Global, kind: u8, count: u8, last: u8) -> Result<Vec<u8>, AllocEr
     Ok(image)
 }
 
-/// The table in the image's first sector, or that of a disk without one.
-fn table_of(image: &[u8]) -> Table {
-    let whole_disk = Table::whole(129);
-    let (sectors, _) = image.as_chunks::<512>();
-    match sectors.first() {
-        Some(first) => parse(first, 129).unwrap_or(whole_disk),
-        None => whole_disk,
-    }
-}
-
-/// What a script gives on the volume of this minor of such an image, whose table's entry has this type and size, and which ends in this
-/// byte; over a driver of its ranges.
-fn played_on<R: Wait + Copy>(
+/// What a script gives on the volume of this minor of an image, over a driver of the image's partitions.
+pub(crate) fn played_on<R: Wait + Copy>(
     alloc: Global,
     rt: R,
-    (kind, count, last): (u8, u8, u8),
+    image: &[u8],
     minor: u8,
     script: &[u8],
 ) -> Result<Played, AllocError> {
-    let image = disk(alloc, kind, count, last)?;
+    let inner = Inner::Ram(RamDriver::new(table_in(image)));
     let mut supply = Vec::new(alloc);
-    let inner = Inner::Ram(RamDriver::new(table_of(image.as_slice())));
     supply.push(ScriptedDriver::new(inner, Vec::new(alloc)))?;
     let scripts = [Some(script)];
     let play = Play {
         setup: Setup { minor, ..whole() },
-        ..Play::new(image.as_slice(), &scripts)
+        ..Play::new(image, &scripts)
     };
     play.played_over(alloc, rt, supply)
 }
@@ -64,8 +52,9 @@ pub fn are_served<R: Wait + Copy>(
     script: &[u8],
     rows: &[OnDisk],
 ) -> Result<(), Fail> {
-    for (entry, minor, status, out, err) in rows {
-        played_on(alloc, rt, *entry, *minor, script)?.gave(*status, out, err)?;
+    for ((kind, count, last), minor, status, out, err) in rows {
+        let image = disk(alloc, *kind, *count, *last)?;
+        played_on(alloc, rt, &image, *minor, script)?.gave(*status, out, err)?;
     }
     Ok(())
 }

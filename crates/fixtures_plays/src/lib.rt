@@ -10,6 +10,7 @@
 pub mod deaths;
 pub mod disks;
 pub mod left;
+pub mod partitions;
 pub mod plays;
 pub mod refusals;
 pub mod said;

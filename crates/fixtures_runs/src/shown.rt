@@ -58,7 +58,19 @@ pub(crate) fn six_say(
     says(alloc, files, setup, supply, wanted)
 }
 
-/// Looks at the transcript of a schedule on a new volume of such blocks, with six drivers under the default policy, and at the status.
+/// Looks at the transcript of a schedule on a volume, with six drivers under the default policy, and at the status.
+pub fn volume_shows(
+    alloc: Global,
+    image: &[u8],
+    schedule: &str,
+    transcript: &str,
+    status: u8,
+) -> Result<(), Fail> {
+    let files = (Some(image), Some(schedule.as_bytes()));
+    six_say(alloc, files, &whole(), (status, transcript, ""))
+}
+
+/// The same on a new volume of 64 such blocks.
 pub fn shows(
     alloc: Global,
     block: usize,
@@ -67,8 +79,7 @@ pub fn shows(
     status: u8,
 ) -> Result<(), Fail> {
     let image = new_volume(alloc, block)?;
-    let files = (Some(image.as_slice()), Some(schedule.as_bytes()));
-    six_say(alloc, files, &whole(), (status, transcript, ""))
+    volume_shows(alloc, &image, schedule, transcript, status)
 }
 
 /// The same on a volume of blocks of 1024, with drivers of its 128 sectors that have these faults.

@@ -5,6 +5,8 @@
 #[cfg(test)]
 mod calls;
 #[cfg(test)]
+mod refusals;
+#[cfg(test)]
 mod schedules;
 #[cfg(test)]
 mod scripts;

@@ -9,3 +9,5 @@ mod faults;
 mod restarts;
 #[cfg(test)]
 mod sectors;
+#[cfg(test)]
+mod texts;

@@ -1,8 +1,9 @@
 //! Findings on a volume of 64 blocks of 1024 bytes and 32 inodes.
-use fsck::{Verdict, check};
+use fsck::{OutOfMemory, Verdict, check};
 use layout::Geometry;
 use std::alloc::{AllocError, Global};
 use std::test::Fail;
+use tests_texts::is_told;
 use volume::Finding;
 
 /// Bytes at a place.
@@ -153,4 +154,13 @@ fn any_byte(rt: HostRuntime) -> Result<(), Fail> {
         set(image.as_mut_slice(), at, old);
     }
     Ok(())
+}
+
+/// Why a check may give no answer.
+#[test]
+fn want_of_memory_is_named(rt: HostRuntime) -> Result<(), Fail> {
+    is_told(
+        format!(in rt.alloc(); "{OutOfMemory}")?.as_str(),
+        "OutOfMemory",
+    )
 }

@@ -9,4 +9,6 @@ mod caches;
 #[cfg(test)]
 mod frames;
 #[cfg(test)]
+mod texts;
+#[cfg(test)]
 mod transfers;

@@ -13,9 +13,10 @@ use reply_text::text::OutcomeText;
 use std::alloc::{AllocError, Global};
 use std::test::Fail;
 use stored::{Caches, Stored};
-use tests_texts::is_told;
+use tests_texts::{are_told, is_told};
 use tree::{Call, OpenFlags, Who};
 use vfs::Server;
+use vfs::unmounting::UnmountRefusal;
 
 /// What is done with a volume.
 enum Step {
@@ -234,4 +235,16 @@ fn volumes_are_used_and_unmounted(rt: HostRuntime) -> Result<(), Fail> {
         comes_out(rt.alloc(), row, then, steps, lines)?;
     }
     Ok(())
+}
+
+/// Why a volume isn't unmounted.
+static NAMES: [(UnmountRefusal, &str); 3] = [
+    (UnmountRefusal::LinkEnded, "LinkEnded"),
+    (UnmountRefusal::Eio, "Eio"),
+    (UnmountRefusal::Busy, "Busy"),
+];
+
+#[test]
+fn refusals_are_named(rt: HostRuntime) -> Result<(), Fail> {
+    are_told(rt.alloc(), &NAMES)
 }

@@ -7,6 +7,8 @@ mod images;
 #[cfg(test)]
 mod names;
 #[cfg(test)]
+mod stops;
+#[cfg(test)]
 mod volumes;
 #[cfg(test)]
 mod walks;

@@ -32,9 +32,12 @@ const GIVES_HALF: Option<(u32, FaultKind)> = Some((1, FaultKind::Short));
 
 const ERRS: Option<(u32, FaultKind)> = Some((0, FaultKind::Error(Errno::EIO)));
 
+/// An error that is an answer to calls too.
+const IS_FULL: Option<(u32, FaultKind)> = Some((0, FaultKind::Error(Errno::ENOSPC)));
+
 /// Requests 1 to 17 are the mount's; request 18 is the first call's read. Each number of a policy is the one that was handed in, and so are
 /// all drivers, in their order.
-static ROWS: [OverDrivers; 29] = [
+static ROWS: [OverDrivers; 31] = [
     (None, 1, &[DIES_LATER, None], TWICE, SERVED),
     (None, 18, &[DIES_LATER, None], TWICE, SERVED),
     (None, 1, &[DIES, DIES, None], TWICE, SERVED),
@@ -49,6 +52,9 @@ static ROWS: [OverDrivers; 29] = [
     (None, 18, &[ERRS, STOPS_SHORT, None], TWICE, SERVED),
     (None, 1, &[ERRS], TWICE, NOT_MOUNTED),
     (None, 18, &[ERRS], TWICE, GIVEN_UP),
+    // No call is answered with a driver's error.
+    (None, 18, &[IS_FULL, IS_FULL, None], TWICE, SERVED),
+    (None, 18, &[IS_FULL], TWICE, GIVEN_UP),
     (None, 1, &[STOPS_SHORT], TWICE, NOT_MOUNTED),
     (None, 18, &[STOPS_SHORT], TWICE, GIVEN_UP),
     // A block that has a frame isn't asked for again: both calls are served by one that would die in its second request after the mount.

@@ -17,6 +17,8 @@ mod full;
 #[cfg(test)]
 mod images;
 #[cfg(test)]
+mod largest;
+#[cfg(test)]
 mod moves;
 #[cfg(test)]
 mod opened;

@@ -9,7 +9,7 @@ use reply_text::write::write_transcript;
 use std::alloc::Global;
 use std::io::{self, ErrorKind, Write};
 use std::test::Fail;
-use tests_texts::{is_told, row_is_told};
+use tests_texts::{are_told, is_told, row_is_told};
 use tree::{Attributes, Call, Reply, Who};
 
 /// Driver 1 of this generation.
@@ -188,10 +188,17 @@ fn beginnings(alloc: Global) -> Result<(), Fail> {
     Ok(())
 }
 
+/// Why a transcript isn't written.
+static REFUSALS: [(OutputRefusal, &str); 2] = [
+    (OutputRefusal::OutOfMemory, "OutOfMemory"),
+    (OutputRefusal::NotWritten, "NotWritten"),
+];
+
 #[test]
 fn transcripts_are_the_formats(rt: HostRuntime) -> Result<(), Fail> {
     a_death(rt.alloc())?;
     other_marks(rt.alloc())?;
     no_marks(rt.alloc())?;
-    beginnings(rt.alloc())
+    beginnings(rt.alloc())?;
+    are_told(rt.alloc(), &REFUSALS)
 }

@@ -3,6 +3,7 @@
 use errno::Errno;
 use fixtures_runs::shown::{Faults, faults_show};
 use modeldisk::FaultKind;
+use std::alloc::Global;
 use std::test::Fail;
 
 /// The drivers' faults, a schedule, what is shown of it, and the status.
@@ -107,6 +108,67 @@ unanswered 0
 fn drivers_fail(rt: HostRuntime) -> Result<(), Fail> {
     for (faults, schedule, transcript, status) in &ROWS {
         faults_show(rt.alloc(), faults, schedule, transcript, *status)?;
+    }
+    Ok(())
+}
+
+/// Each error that a driver may answer, and its name.
+static ERRORS: [(Errno, &str); 19] = [
+    (Errno::EPERM, "EPERM"),
+    (Errno::ENOENT, "ENOENT"),
+    (Errno::EIO, "EIO"),
+    (Errno::EBADF, "EBADF"),
+    (Errno::ENOMEM, "ENOMEM"),
+    (Errno::EACCES, "EACCES"),
+    (Errno::EBUSY, "EBUSY"),
+    (Errno::EEXIST, "EEXIST"),
+    (Errno::ENOTDIR, "ENOTDIR"),
+    (Errno::EISDIR, "EISDIR"),
+    (Errno::EINVAL, "EINVAL"),
+    (Errno::ENFILE, "ENFILE"),
+    (Errno::EMFILE, "EMFILE"),
+    (Errno::EFBIG, "EFBIG"),
+    (Errno::ENOSPC, "ENOSPC"),
+    (Errno::EMLINK, "EMLINK"),
+    (Errno::ENAMETOOLONG, "ENAMETOOLONG"),
+    (Errno::ENOTEMPTY, "ENOTEMPTY"),
+    (Errno::ELOOP, "ELOOP"),
+];
+
+/// A driver answers the read of the root's inode with an error. The next one is asked, and answers with an error too: there is no third.
+const TWO_ERRORS: &str = "\
+call 0 0 0 100 stat /
+step 1
+step 1
+deliver 0
+tick
+step 2
+step 2
+deliver 1
+";
+
+/// The transcript names the errors that two drivers answer, the first and then the last of these. The call itself is answered EIO, as each
+/// is once the device was given up.
+fn are_shown(alloc: Global, first: &(Errno, &str), last: &(Errno, &str)) -> Result<(), Fail> {
+    let faults = [
+        Some((1, FaultKind::Error(first.0))),
+        Some((1, FaultKind::Error(last.0))),
+    ];
+    let transcript = [
+        "started 1.1\nissue 1 read 4096 1024 to 1.1\nanswer 1 ",
+        first.1,
+        " from 1.1\nfault 1.1 complaint\nstarted 1.2\nissue 1 read 4096 1024 to 1.2\nanswer 1 ",
+        last.1,
+        " from 1.2\nfault 1.2 complaint\ngiven up\nreply 0 EIO\nunanswered 0\n",
+    ];
+    let transcript = transcript.concat(alloc)?;
+    faults_show(alloc, &faults, TWO_ERRORS, &transcript, 3)
+}
+
+#[test]
+fn answers_name_their_errors(rt: HostRuntime) -> Result<(), Fail> {
+    for (first, last) in ERRORS.iter().zip(ERRORS.iter().skip(1)) {
+        are_shown(rt.alloc(), first, last)?;
     }
     Ok(())
 }

@@ -6,9 +6,15 @@
 #[cfg(test)]
 mod faults;
 #[cfg(test)]
+mod largest;
+#[cfg(test)]
+mod pauses;
+#[cfg(test)]
 mod reads;
 #[cfg(test)]
 mod refusals;
+#[cfg(test)]
+mod supplies;
 #[cfg(test)]
 mod writers;
 #[cfg(test)]

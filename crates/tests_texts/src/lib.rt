@@ -3,6 +3,8 @@
 
 ghost use Rattle.std.specs.Prelude.{◌≡◌, ◌↔◌, IfOk, IsOk};
 
+use std::alloc::Global;
+use std::fmt;
 use std::test::Fail;
 
 /// It is an error, with both texts, where a row gives another text than it says.
@@ -36,4 +38,13 @@ pub fn step_is_told(row: usize, step: usize, text: &str, wanted: &str) -> Result
         return Ok(());
     }
     Err(Fail::new(format_args!("step {step} of row {row}: {text}, and not {wanted}")))
+}
+
+/// It is an error, with the row's number and the text, where an error has another text than its row says. Rows count from 0.
+pub fn are_told<E: fmt::Display>(alloc: Global, rows: &[(E, &str)]) -> Result<(), Fail> {
+    for (row, (error, wanted)) in rows.iter().enumerate() {
+        let text = format!(in alloc; "{error}")?;
+        row_is_told(row, text.as_str(), wanted)?;
+    }
+    Ok(())
 }

@@ -13,7 +13,7 @@ type Said = (&'static str, &'static str, Status, Option<usize>);
 const REFUSED: Status = Status::Refused(Told::Whole);
 
 /// Blocks, bytes of a block and inodes, the time, and what is said of such a volume.
-static VOLUMES: [((u32, u32, u32), u32, Said); 9] = [
+static VOLUMES: [((u32, u32, u32), u32, Said); 10] = [
     (
         (64, 1024, 32),
         50,
@@ -28,6 +28,17 @@ static VOLUMES: [((u32, u32, u32), u32, Said); 9] = [
         (6, 1024, 16),
         50,
         ("first 5 zones 1 free 0\n", "", Status::Done, Some(6144)),
+    ),
+    // of the most bytes: two blocks in front, one of each map, and one of inodes
+    (
+        (16384, 4096, 64),
+        50,
+        (
+            "first 5 zones 16379 free 16378\n",
+            "",
+            Status::Done,
+            Some(67108864),
+        ),
     ),
     ((64, 512, 32), 0, ("", "BadBlockSize\n", REFUSED, None)),
     ((64, 1024, 0), 0, ("", "BadInodes\n", REFUSED, None)),

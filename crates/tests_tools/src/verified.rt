@@ -36,7 +36,7 @@ const REFUSED: Verified = Verified::Refused(Told::Whole);
 /// A file, the minor, what `verify` writes on standard output and on standard error, its answer, and the status.
 type Row = (File, u8, &'static str, &'static str, Verified, u8);
 
-static ROWS: [Row; 30] = [
+static ROWS: [Row; 31] = [
     // new volumes
     (File::New(64, 1024, 32), 0, "clean\n", "", CLEAN, 0),
     (File::New(64, 2048, 32), 0, "clean\n", "", CLEAN, 0),
@@ -45,6 +45,7 @@ static ROWS: [Row; 30] = [
     (File::New(1024, 1024, 8191), 0, "clean\n", "", CLEAN, 0),
     (File::New(1100, 1024, 8192), 0, "clean\n", "", CLEAN, 0),
     (File::New(8300, 1024, 16), 0, "clean\n", "", CLEAN, 0),
+    (File::New(16384, 4096, 64), 0, "clean\n", "", CLEAN, 0),
     // short images
     (File::Short(0), 0, "finding 1 at 1\n", "", FOUND, 1),
     (File::Short(1023), 0, "finding 1 at 1\n", "", FOUND, 1),
