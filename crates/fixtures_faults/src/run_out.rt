@@ -1,0 +1,165 @@
+//! Schedules that are run out: events are added, and all are run again, until nothing is left to do.
+
+ghost use Rattle.std.specs.Prelude.{◌<◌, ◌^◌, length};
+
+use crate::requests::Requests;
+use crate::schedules::twice;
+use crate::settings::Setting;
+use crate::standing::standing_after;
+use fixtures::whole;
+use modeldisk::supply::{DiskDriver, drivers_for, table_in};
+use reply_text::mark::MarkRef;
+use schedule::Event;
+use simulation::transcript::Transcript;
+use simulation::world::World;
+use std::alloc::{AllocError, Global};
+use tree::Reply;
+
+/// What became of a schedule that was run out: the bytes of the media, or what is wrong.
+#[derive(Drop)]
+pub enum RanOut {
+    Image(Vec<u8>),
+    Wrong(&'static str),
+}
+
+/// What comes after a run.
+#[derive(Drop)]
+enum After {
+    /// More events.
+    More(Vec<Event<'static>>),
+    /// All was done, and these events come once more.
+    Again(Vec<Event<'static>>),
+    End(RanOut),
+}
+
+/// How often a schedule is run, at most.
+const ROUNDS: u32 = 200;
+
+/// How many events a schedule has, at most.
+const EVENTS: usize = 100_000;
+
+/// Whether this is the reply of this number to a client of this session: a file of 2048 bytes of its own is made, synced and read.
+fn is_wanted(session: u8, number: u32, reply: &Reply) -> bool {
+    let own = session.saturating_add(0x61);
+    match (number, reply) {
+        (0, Reply::Descriptor(0)) | (1, Reply::Wrote(2048)) | (2, Reply::Done) => true,
+        (3, Reply::At(0)) => true,
+        (4, Reply::Bytes(bytes)) => bytes.len() == 2048 && bytes.iter().all(|byte| *byte == own),
+        _ => false,
+    }
+}
+
+/// Whether each call of a session has the reply that is wanted, and all five have one.
+fn are_wanted(marks: &[MarkRef<'_>], session: u8) -> bool {
+    let mut number = 0u32;
+    for mark in marks {
+        if let MarkRef::Took(who, _, _, reply) = mark
+            && who.session == session
+        {
+            if !is_wanted(session, number, reply) {
+                return false;
+            }
+            number = number.saturating_add(1);
+        }
+    }
+    number == 5
+}
+
+/// Whether no request was open when a sync was answered, which no other call is as.
+fn are_synced(marks: &[MarkRef<'_>]) -> bool {
+    let mut requests = Requests::NONE;
+    for mark in marks {
+        requests.see(mark);
+        if let MarkRef::Took(_, _, _, Reply::Done) = mark
+            && requests.open() > 0
+        {
+            return false;
+        }
+    }
+    true
+}
+
+/// What became of a run with which all is done.
+fn judged(
+    alloc: Global,
+    setting: &Setting,
+    transcript: &Transcript<'_, DiskDriver>,
+) -> Result<RanOut, AllocError> {
+    let marks = transcript.marks(alloc)?;
+    for session in 0..setting.clients() {
+        if !are_wanted(marks.as_slice(), session) {
+            return Ok(RanOut::Wrong("replies"));
+        }
+    }
+    if !are_synced(marks.as_slice()) {
+        return Ok(RanOut::Wrong("sync"));
+    }
+    if transcript.unanswered != 0 {
+        return Ok(RanOut::Wrong("unanswered"));
+    }
+    Ok(RanOut::Image(transcript.image(alloc)?))
+}
+
+/// Runs events on an image, and says what comes then; `again` where what was done came once more already.
+fn run_once(
+    alloc: Global,
+    setting: &Setting,
+    image: &[u8],
+    events: &[Event<'_>],
+    again: bool,
+) -> Result<After, AllocError>
+    requires few { length events.now < 2 ^ 32 }
+{
+    let supply = drivers_for(alloc, 5, setting.arms, table_in(image))?;
+    let Ok(transcript) = World::run(alloc, image, &whole(), supply, events) else {
+        return Ok(After::End(RanOut::Wrong("no run")));
+    };
+    let standing = standing_after(alloc, &transcript, events)?;
+    let next = standing.next_events(alloc, setting.sectors())?;
+    if !next.is_empty() {
+        return Ok(After::More(next));
+    }
+    let last = standing.last_events(alloc, setting.twice)?;
+    if !last.is_empty() && !again {
+        return Ok(After::Again(last));
+    }
+    Ok(After::End(judged(alloc, setting, &transcript)?))
+}
+
+/// Adds events to a schedule: as they are, or each reply twice.
+fn add<'t>(
+    alloc: Global,
+    setting: &Setting,
+    events: &mut Vec<Event<'t>>,
+    more: &[Event<'t>],
+) -> Result<(), AllocError> {
+    if setting.twice {
+        events.extend_from_slice(twice(alloc, more)?.as_slice())
+    } else {
+        events.extend_from_slice(more)
+    }
+}
+
+/// Runs a schedule out on an image.
+pub fn run_out(
+    alloc: Global,
+    setting: &Setting,
+    image: &[u8],
+    schedule: Vec<Event<'_>>,
+) -> Result<RanOut, AllocError> {
+    let (mut events, mut again) = (schedule, false);
+    for _ in 0..ROUNDS {
+        if events.len() > EVENTS {
+            break;
+        }
+        match run_once(alloc, setting, image, events.as_slice(), again)? {
+            After::End(end) => return Ok(end),
+            After::More(more) => add(alloc, setting, &mut events, more.as_slice())?,
+            After::Again(more) => {
+                again = true;
+                events.extend_from_slice(more.as_slice())?;
+            }
+        }
+    }
+    Ok(RanOut::Wrong("no end"))
+}

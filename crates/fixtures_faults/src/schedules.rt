@@ -1,0 +1,112 @@
+//! Schedules, and faults that are put into them.
+
+use schedule::Event;
+use std::alloc::{AllocError, Global};
+
+/// How a driver ends.
+#[derive(Clone, Copy, Debug, PartialEq, Eq)]
+pub enum End {
+    /// `die`.
+    Dies,
+    /// `die` with bytes `ee`: the sector that it was writing is torn.
+    Tears,
+    /// `hang`.
+    Hangs,
+}
+
+/// A fault that is put into a schedule.
+#[derive(Clone, Copy, Debug, PartialEq, Eq)]
+pub struct Fault {
+    /// Before which event it comes, counted from 0; as many as there are events: behind all of them.
+    pub place: usize,
+    /// The driver at fault: the first one is 1.
+    pub generation: u32,
+    pub end: End,
+    /// How many ticks follow. Where some do, the next driver makes the steps from there on.
+    pub ticks: u32,
+}
+
+/// How many requests the base schedule has steps and a delivery for.
+const REQUESTS: u32 = 11;
+
+/// The base schedule: these calls; for each request as many steps of driver 1 as a block has sectors, and the delivery of its reply; a
+/// flush and a tick.
+pub fn base<'t>(
+    alloc: Global,
+    calls: &[Event<'t>],
+    sectors: usize,
+) -> Result<Vec<Event<'t>>, AllocError> {
+    let mut events = Vec::from_slice(alloc, calls)?;
+    for reply in 0..REQUESTS {
+        for _ in 0..sectors {
+            events.push(Event::Step(1))?;
+        }
+        events.push(Event::Deliver(reply))?;
+    }
+    events.push(Event::Flush)?;
+    events.push(Event::Tick)?;
+    Ok(events)
+}
+
+/// The same schedule, but each reply is delivered twice, and then the request of the same number is repeated.
+pub fn twice<'t>(alloc: Global, events: &[Event<'t>]) -> Result<Vec<Event<'t>>, AllocError> {
+    let mut doubled = Vec::new(alloc);
+    for event in events {
+        doubled.push(*event)?;
+        if let Event::Deliver(number) = *event {
+            doubled.push(*event)?;
+            doubled.push(Event::Repeat(number))?;
+        }
+    }
+    Ok(doubled)
+}
+
+/// Puts a fault behind these events.
+fn strike(events: &mut Vec<Event<'_>>, fault: &Fault) -> Result<(), AllocError> {
+    events.push(match fault.end {
+        End::Dies => Event::Die(fault.generation, None),
+        End::Tears => Event::Die(fault.generation, Some([0xee; 512])),
+        End::Hangs => Event::Hang(fault.generation),
+    })?;
+    for _ in 0..fault.ticks {
+        events.push(Event::Tick)?;
+    }
+    Ok(())
+}
+
+/// The driver that makes the steps of driver 1 at a place.
+fn stepping(faults: &[Fault], place: usize) -> u32 {
+    let last = faults.iter().filter(|fault| fault.place <= place).last();
+    match last {
+        Some(fault) if fault.ticks > 0 => fault.generation.saturating_add(1),
+        _ => 1,
+    }
+}
+
+/// The event, at which this driver makes a step of driver 1.
+fn stepped<'t>(event: &Event<'t>, generation: u32) -> Event<'t> {
+    match *event {
+        Event::Step(1) => Event::Step(generation),
+        other => other,
+    }
+}
+
+/// A schedule with faults put in, which are given in their order.
+pub fn with_faults<'t>(
+    alloc: Global,
+    base: &[Event<'t>],
+    faults: &[Fault],
+) -> Result<Vec<Event<'t>>, AllocError> {
+    let mut events = Vec::new(alloc);
+    for place in 0..=base.len() {
+        for fault in faults {
+            if fault.place == place {
+                strike(&mut events, fault)?;
+            }
+        }
+        if let Some(event) = base.get(place) {
+            events.push(stepped(event, stepping(faults, place)))?;
+        }
+    }
+    Ok(events)
+}
