@@ -17,7 +17,7 @@ use Rattle.tree.specs.NodeCalls.{attributes_of, stat, chmod, chown, utime}
 use Rattle.volume.specs.declared.Inode.{Inode}
 use Rattle.volume.specs.Reading.{Disk, is_inode, inode_of_disk}
 use Rattle.volume.specs.Pieces.{pieces, blank}
-use Rattle.volume.specs.Nodes.{is_mode, is_directory_mode, permissions_in, type_in, node_of}
+use Rattle.volume.specs.Nodes.{is_mode, is_directory_mode, is_link_mode, permissions_in, type_in, node_of}
 use Rattle.inode.specs.Bytes.{attributes_in}
 use Rattle.inode.proofs.Stat.{held_attributes}
 use Rattle.descriptors.specs.Files.{Files, HasFiles}
@@ -88,10 +88,13 @@ module _ (mode : ℕ) (few : mode ≤ 511) (m : ℕ) where
   its_kind : is_directory_mode (m / 4096 * 4096 + mode) ≡ is_directory_mode m
   its_kind = ap (λ x. x == 4) its_type
 
+  its_link : is_link_mode (m / 4096 * 4096 + mode) ≡ is_link_mode m
+  its_link = ap (λ x. x == 10) its_type
+
   still_mode : IsTrue (is_mode m) → IsTrue (is_mode (m / 4096 * 4096 + mode))
   still_mode is =
-      let parts = and_parts ((type_in m == 4) || (type_in m == 8)) (nat_lt (m % 8 ^ 4) (8 ^ 3)) is in
-      and_from _ _ (ap (λ x. (x == 4) || (x == 8)) its_type ∙ parts.0) (ap (λ x. nat_lt x (8 ^ 3)) its_bits ∙ lt-ltb mode (8 ^ 3) (omega (arith, few)))
+      let parts = and_parts ((type_in m == 4) || (type_in m == 8) || (type_in m == 10)) (nat_lt (m % 8 ^ 4) (8 ^ 3)) is in
+      and_from _ _ (ap (λ x. (x == 4) || (x == 8) || (x == 10)) its_type ∙ parts.0) (ap (λ x. nat_lt x (8 ^ 3)) its_bits ∙ lt-ltb mode (8 ^ 3) (omega (arith, few)))
 
 module _ (g : Geometry) (user : User) (path : List ℕ) (now mode : ℕ) where
   pub chmod_mode_refused : (d e : Disk) (f : Files) → e ≡ d → 511 < mode → Does g (λ t. chmod t user now path mode) (refused EINVAL) (HasFiles f) (HasFiles f) d e
@@ -120,12 +123,13 @@ module _ (g : Geometry) (user : User) (path : List ℕ) (now mode : ℕ) where
         atime = j.atime;
         mtime = j.mtime;
         ctime = now;
+        symbolic = its_link mode few j.mode k;
         body = Rattle.std.proofs.Common.cond (its_kind mode few j.mode k) (is_directory (record { parent = Rattle.volume.specs.Nodes.entry_inode b.byte 1; names = Rattle.volume.specs.Nodes.names_in b.byte (b.size / 64 - 2) })) (is_file b);
       }))
       (λ t node tree there.
       let old = tree.nodes.each n node there in
       same_body g t n node (with_mode now mode node) tree there refl refl
-      (record { permissions = few; links = old.links; uid = old.uid; gid = old.gid; atime = old.atime; mtime = old.mtime; ctime = small; body = old.body }))
+      (record { permissions = few; links = old.links; uid = old.uid; gid = old.gid; atime = old.atime; mtime = old.mtime; ctime = small; body = old.body; target = old.target }))
       a)
 
 -- chown
@@ -145,7 +149,7 @@ chown_done g user path now uid gid d x e n i f small u v ok finds same root a =
     (λ t node tree there.
     let old = tree.nodes.each n node there in
     same_body g t n node (with_owner now uid gid node) tree there refl refl
-    (record { permissions = old.permissions; links = old.links; uid = u; gid = v; atime = old.atime; mtime = old.mtime; ctime = small; body = old.body }))
+    (record { permissions = old.permissions; links = old.links; uid = u; gid = v; atime = old.atime; mtime = old.mtime; ctime = small; body = old.body; target = old.target }))
     a
 
 -- utime
@@ -166,5 +170,5 @@ utime_done g user path now atime mtime d x e n i f small u v ok finds same owner
     (λ t node tree there.
     let old = tree.nodes.each n node there in
     same_body g t n node (with_times now atime mtime node) tree there refl refl
-    (record { permissions = old.permissions; links = old.links; uid = old.uid; gid = old.gid; atime = u; mtime = v; ctime = small; body = old.body }))
+    (record { permissions = old.permissions; links = old.links; uid = old.uid; gid = old.gid; atime = u; mtime = v; ctime = small; body = old.body; target = old.target }))
     a

@@ -35,7 +35,7 @@ use Rattle.directory.proofs.Becoming.{body_is}
 use Rattle.directory.proofs.EntryBytes.{past}
 use Rattle.node_steps.specs.Steps.{BecomesAt}
 use Rattle.node_steps.specs.NewNodes.{MayMakeDirectory, MakesDirectory, new_inode, with_new_inode}
-use Rattle.node_steps.proofs.Marking.{directory_kind, directory_mode, directory_permissions, its_file, its_nodes, marked, may_change, no_places, nothing, rules, some}
+use Rattle.node_steps.proofs.Marking.{directory_kind, directory_mode, directory_permissions, directory_no_link, its_file, its_nodes, marked, may_change, no_places, nothing, rules, some}
 
 -- what was put last is there
 pub put_twice : {X : Type 0} (f : ℕ → X) (n : ℕ) (x y : X) → put (put f n x) n y ≡ put f n y
@@ -154,6 +154,7 @@ module _ (g : Geometry) (v : Pieces) (n parent now permissions : ℕ) (user : Us
     node_is : node_from (w.inodes n) (written_at g w n 0 bytes) ≡ new_node now user permissions 2 (empty_directory parent)
     node_is = (λ t. node_from (its t) (written_at g w n 0 bytes)) ∙ (λ t. record {
       permissions = directory_permissions permissions few t;
+      symbolic = directory_no_link permissions few t;
       uid = user.uid;
       gid = user.gid;
       links = 2;

@@ -3,9 +3,10 @@ mod PathRows
 mod OpenRows
 mod ByteRows
 mod NodeRows
+mod LinkRows
 pub mod TriplePage
 mod ZoneRows
 mod BuiltRows
-mod LinkRows
+mod TreeNameRowsLinkRows
 mod DirectoryRows
 mod RenameRows

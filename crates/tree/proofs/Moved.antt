@@ -60,6 +60,7 @@ under_fits g now d small node (is_file f) fit = record {
   mtime = fit.mtime;
   ctime = small;
   body = fit.body;
+  target = fit.target;
 }
 under_fits g now d small node (is_directory x) fit = record {
   permissions = fit.permissions;
@@ -70,6 +71,7 @@ under_fits g now d small node (is_directory x) fit = record {
   mtime = fit.mtime;
   ctime = small;
   body = record { size = fit.body.size; names = fit.body.names; sorted = fit.body.sorted };
+  target = fit.target;
 }
 
 -- a directory without a name has the names without it

@@ -92,7 +92,7 @@ module _ (g : Geometry) (t : Tree) (tree : IsTree g t) (who : Who) (now fd : ℕ
         whole = less_fails (f.size - found.1.position) (length bytes) (omega (arith, none));
         each = λ j l. absurd (omega (arith, none, l));
       }))
-      (λ found node f is few fits made made_is.
+      (λ found node f is _ few fits made made_is.
       let after = after_write t who.session Puts closed g now found node f bytes in
       let new = with_body now (is_file (file_after_write g f (start t who.session Puts closed found.1 f) bytes)) node in
       subst (λ u. IsWritten u who.session fd bytes) (ap (λ x. x.1) (fitted (wrote (length bytes)) after made made_is)) (record {
@@ -118,7 +118,7 @@ module _ (g : Geometry) (t : Tree) (tree : IsTree g t) (who : Who) (now fd : ℕ
       ]
 
 -- bytes that are the list's, one by one, are the list
-bytes_are : (bytes : List ℕ) (byte : ℕ → ℕ) (at : ℕ) → ((j : ℕ) → j < length bytes → byte (at + j) ≡ slice_index bytes j) → bytes_from byte at (length bytes) ≡ bytes
+pub bytes_are : (bytes : List ℕ) (byte : ℕ → ℕ) (at : ℕ) → ((j : ℕ) → j < length bytes → byte (at + j) ≡ slice_index bytes j) → bytes_from byte at (length bytes) ≡ bytes
 bytes_are [] byte at each = refl
 bytes_are (x ∷ xs) byte at each =
     let first : byte at ≡ x = (let e : at ≡ at + 0 = omega arith in ap byte e) ∙ each 0 (omega arith) in
