@@ -3,12 +3,13 @@ use Rattle.std.proofs.Common.{◌≡◌, ◌++◌, ℕ, List, [], ◌∷◌, rep
 use Rattle.layout.specs.declared.Geometry.{Geometry}
 use Rattle.tree.specs.Sums.{sum_below, some_below, least_below}
 use Rattle.tree.specs.Tree.{target_of}
-use Rattle.std.specs.Prelude.{Bool, true, false, None, Some}
+use Rattle.std.specs.Prelude.{None, Some}
 use Rattle.volume.specs.Reading.{Disk}
 use Rattle.volume.specs.Pieces.{pieces}
 use Rattle.volume.specs.Nodes.{names_in, nodes_of}
 use Rattle.volume.specs.Verdict.{Verdict, Clean, found, first_found, place_limit, tests}
-use Rattle.tests_volume.proofs.Small.{Rows, Gives, inode, entry, with_block, with_byte, start, small, small_pieces, verdict, small_verdict_from}
+use Rattle.tests_volume.proofs.Small.{Rows, Gives, inode, entry, with_block, with_byte, start, small, small_pieces, verdict}
+use Rattle.tests_volume.proofs.Small.{small_verdict_from}
 
 -- The root with two links, l and m: inode 2 with the target a in zone 16, and inode 3 with the target bc in zone 17. The root's entries
 -- lie in zones 12 to 15.
@@ -117,5 +118,6 @@ unfolding sum_below some_below least_below names_in
 lengths_rows = refl
 
 -- the targets that the nodes have: a file and a directory have none
-targets : Gives (λ n. target_of (nodes_of small (small_pieces linked) n)) ((1, None) ∷ (2, Some (97 ∷ [])) ∷ (3, Some (98 ∷ 99 ∷ [])) ∷ (4, None) ∷ [])
+targets : Gives (λ n. target_of (nodes_of small (small_pieces linked) n))
+    ((1, None) ∷ (2, Some (97 ∷ [])) ∷ (3, Some (98 ∷ 99 ∷ [])) ∷ (4, None) ∷ [])
 targets = refl
