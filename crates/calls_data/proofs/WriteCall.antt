@@ -98,7 +98,8 @@ module _ (g : Geometry) (now : ℕ) (bytes : List ℕ) where
   last_reason t k o node h false = refl
 
   reasons : (t : Tree) (k : ℕ) (o : OpenFile) (node : Node) (h : File) (c : Directory) (may wide is symbolic : Bool)
-      → asked t k o node h c may wide is symbolic ≡ by_reason t k o node h (first_reason may wide is symbolic (nat_lt most_size (place_in o h + length bytes)))
+      → asked t k o node h c may wide is symbolic
+      ≡ by_reason t k o node h (first_reason may wide is symbolic (nat_lt most_size (place_in o h + length bytes)))
   reasons t k o node h c false wide is symbolic = refl
   reasons t k o node h c true true is symbolic = refl
   reasons t k o node h c true false true symbolic = refl
