@@ -1,6 +1,6 @@
 -- Stat, lstat, chmod, chown and utime.
 use Rattle.std.proofs.Common.{◌≡◌, ◌<◌, ◌≤◌, ◌+◌, ◌-◌, ◌*◌, ◌/◌, ◌%◌, ◌^◌, ℕ, List, Bool, true, false, refl, sym, ap, subst, ◌∙◌, arith, Some, Ok, Err}
-use Rattle.std.specs.Prelude.{IsTrue, Result, not, ◌==◌, ◌||◌, ◌&&◌, nat_le, nat_lt}
+use Rattle.std.specs.Prelude.{IsTrue, Result, not, ◌==◌, ◌||◌, nat_le, nat_lt}
 use Rattle.std.proofs.lemmas.Bool.{cond-true, and_parts, and_from, le-ltb, lt-ltb, leb-true}
 use Rattle.errno.specs.declared.Errno.TheVariants.{EINVAL, ENOENT}
 use Rattle.errno.specs.declared.Errno.{Errno}
