@@ -4,17 +4,17 @@ ghost use Rattle.std.specs.Prelude.{◌≢◌, ◌≤◌, IfErr, IsTrue, is_some
 ghost use Rattle.tree.specs.Tree.{Tree, most_permissions};
 ghost use Rattle.volume.specs.Holds.{HoldsVolume};
 ghost use Rattle.store.specs.Volume.{IsOn};
-ghost use Rattle.store.specs.World.{Turns};
+ghost use Rattle.store.specs.World.{Reads, Turns};
 ghost use Rattle.path.specs.Stops.{Answers, IfRefused, IsStop};
-ghost use Rattle.calls_open.specs.Opening.{Readies, ReadiesThere, open_named};
+ghost use Rattle.calls_open.specs.Opening.{FindsToOpen, Readies, ReadiesThere, open_named};
 
-use crate::asking::{is_emptied, refusal};
+use crate::asking::{is_emptied, is_link, only_makes, refusal};
 use crate::make_file;
 use calls_data::set_size_at;
 use errno::Errno;
 use inode::inode_table::load;
 use layout::Geometry;
-use path::{Found, Path, Stop, look_up};
+use path::{Found, Path, Stop, look_up, walk};
 use store::Blocks;
 use tree::{OpenFlags, User};
 
@@ -45,6 +45,33 @@ fn ready_there<B: Blocks>(
     Ok(())
 }
 
+/// What a path finds for open: where a symbolic link stands last, what the whole path leads to, or the link itself where it is taken as it
+/// is. The refusals of the walk come first; of a link those of the whole path's walk come then, ENOENT and ELOOP among them.
+fn find<'a, B: Blocks>(
+    blocks: &mut B,
+    geometry: &Geometry,
+    user: User,
+    path: &Path<'a>,
+    as_is: bool,
+) -> Result<Found<'a>, Stop>
+    requires on { IsOn B.world geometry.now blocks.old }
+    ensures reads { Reads B.world blocks.old blocks.new (λ d. (t : Tree) → HoldsVolume geometry.now d t
+        → Answers result (FindsToOpen geometry.now d t user as_is path.now)) }
+    ensures stop { IfErr result (λ s. IsStop B.world blocks.new s) }
+    ensures proper { IfErr result (λ s. IfRefused s (λ e. e ≢ Errno.EIO)) }
+{
+    let number = match look_up(blocks, geometry, user, path)? {
+        Found::There(number) => number,
+        Found::Missing(place) => return Ok(Found::Missing(place)),
+    };
+    let inode = load(blocks, geometry, number)?;
+    if as_is || !is_link(&inode) {
+        return Ok(Found::There(number));
+    }
+    let end = walk(blocks, geometry, user, path.parts())?;
+    Ok(Found::There(end))
+}
+
 /// The number of the node that open opens, which is readied or made. The refusals of the path and of the look-up come first, then those of
 /// a node that is there, or of a missing name: ENOENT where the call doesn't create, EACCES, ENOSPC. A refused call has changed nothing.
 pub(crate) fn ready<B: Blocks>(
@@ -64,7 +91,7 @@ pub(crate) fn ready<B: Blocks>(
     ensures proper { IfErr result (λ s. IfRefused s (λ e. e ≢ Errno.EIO)) }
 {
     let path = Path::parse(path)?;
-    match look_up(blocks, geometry, user, &path)? {
+    match find(blocks, geometry, user, &path, only_makes(flags))? {
         Found::There(number) => {
             ready_there(blocks, geometry, user, now, number, flags)?;
             Ok(number)
