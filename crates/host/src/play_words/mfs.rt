@@ -21,6 +21,9 @@ const SCRIPTS: &str =
   unlink PATH                 takes a file's name away
   mkdir PATH MODE             makes a directory
   rmdir PATH                  takes an empty directory away
+  symlink TARGET PATH         makes a symbolic link
+  readlink PATH               the target of a symbolic link
+  lstat PATH                  as stat, but a link that stands last isn't followed
   rename OLD NEW              gives a file or directory another name
   chmod PATH MODE             sets the permissions
   chown PATH UID GID          sets user and group
