@@ -1,4 +1,4 @@
--- Stat, chmod, chown and utime.
+-- Stat, lstat, chmod, chown and utime.
 use Rattle.std.proofs.Common.{◌≡◌, ◌<◌, ◌≤◌, ◌+◌, ◌-◌, ◌*◌, ◌/◌, ◌%◌, ◌^◌, ℕ, List, Bool, true, false, refl, sym, ap, subst, ◌∙◌, arith, Some, Ok, Err}
 use Rattle.std.specs.Prelude.{IsTrue, Result, not, ◌==◌, ◌||◌, ◌&&◌, nat_lt}
 use Rattle.std.proofs.lemmas.Bool.{cond-true, and_parts, and_from, le-ltb, lt-ltb, leb-true}
@@ -10,14 +10,15 @@ use Rattle.tree.specs.declared.User.{User}
 use Rattle.tree.specs.declared.Attributes.{Attributes}
 use Rattle.tree.specs.Tree.{Tree, Node, is_file, is_directory}
 use Rattle.tree.specs.Refusals.{◌>>=◌, or_refuse, refuse_if}
-use Rattle.tree.specs.Walk.{node_at, is_owner}
+use Rattle.tree.specs.Walk.{node_at, is_owner, read_path, walk_to_last}
 use Rattle.tree.specs.Changes.{with_ctime}
 use Rattle.tree.specs.Answers.{Answer, Effect, done, refused, node_is}
-use Rattle.tree.specs.NodeCalls.{attributes_of, stat, chmod, chown, utime}
+use Rattle.tree.specs.NodeCalls.{attributes_of, lstat, chmod, chown, utime}
 use Rattle.volume.specs.declared.Inode.{Inode}
 use Rattle.volume.specs.Reading.{Disk, is_inode, inode_of_disk}
 use Rattle.volume.specs.Pieces.{pieces, blank}
 use Rattle.volume.specs.Nodes.{is_mode, is_directory_mode, is_link_mode, permissions_in, type_in, node_of}
+use Rattle.zone.proofs.ZoneInodes.{inode_is}
 use Rattle.inode.specs.Bytes.{attributes_in}
 use Rattle.inode.proofs.Stat.{held_attributes}
 use Rattle.descriptors.specs.Files.{Files, HasFiles}
@@ -25,8 +26,9 @@ use Rattle.store.specs.Volume.{Alters}
 use Rattle.inode.specs.Table.{with_inode}
 use Rattle.calls_data.specs.Does.{Does, IsHeld}
 use Rattle.calls_data.proofs.Made.{refused_made, looked_made}
-use Rattle.calls_data.specs.Named.{Finds}
-use Rattle.calls_data.proofs.Effects.{changing, node_changed, is_number, same_body}
+use Rattle.calls_data.proofs.Naming.{after_read}
+use Rattle.calls_data.specs.Named.{Finds, FindsBy, last_walk}
+use Rattle.calls_data.proofs.Effects.{changing, node_changed, same_body}
 
 -- the found one, by what was answered
 pub found_ok : (g : Geometry) (d : Disk) (user : User) (path : List ℕ) (r : Result (ℕ × Inode) Errno) (n : ℕ) (i : Inode) → r ≡ Ok (n, i) → Finds g d user path r → Finds g d user path (Ok (n, i))
@@ -35,33 +37,46 @@ found_ok g d user path r n i is h = subst (λ (x : Result (ℕ × Inode) Errno).
 pub found_err : (g : Geometry) (d : Disk) (user : User) (path : List ℕ) (r : Result (ℕ × Inode) Errno) (e : Errno) → r ≡ Err e → Finds g d user path r → Finds g d user path (Err e)
 found_err g d user path r e is h = subst (λ (x : Result (ℕ × Inode) Errno). Finds g d user path x) is h
 
--- stat
+-- stat and lstat
 abbrev told : Tree → ℕ → Node → Effect
 told t n node = Ok (node_is (attributes_of n node), t)
 
-module _ (g : Geometry) (user : User) (path : List ℕ) where
-  pub stat_refused : (d e : Disk) (error : Errno) (f : Files) → e ≡ d → Finds g d user path (Err error) → Does g (λ t. stat t user path) (refused error) (HasFiles f) (HasFiles f) d e
+-- by the walk
+abbrev pub told_by : (Tree → Result ℕ Errno) → Tree → Effect
+told_by walk t = walk t >>= λ n. node_at t n >>= told t n
+
+-- lstat, whose walk reads the path first
+pub lstat_is : (user : User) (path : List ℕ) → told_by (λ t. last_walk t user path) ≡ (λ t. lstat t user path)
+lstat_is user path = λ k t. after_read (read_path path) (walk_to_last t user) (λ n. node_at t n >>= told t n) k
+
+module _ (g : Geometry) (walk : Tree → Result ℕ Errno) where
+  pub stat_refused : (d e : Disk) (error : Errno) (f : Files) → e ≡ d → FindsBy g d walk (Err error)
+      → Does g (told_by walk) (refused error) (HasFiles f) (HasFiles f) d e
   stat_refused d e error f same finds = record {
-    each = λ t holds files. refused_made g t (stat t user path) error (HasFiles f) d e
+    each = λ t holds files. refused_made g t (told_by walk t) error (HasFiles f) d e
         (ap (λ (r : Result ℕ Errno). r >>= λ n. node_at t n >>= told t n) (finds t holds)) same holds files;
   }
 
-  module _ (d : Disk) (n : ℕ) (i : Inode) (finds : Finds g d user path (Ok (n, i))) where
-    pub stat_done : (e : Disk) (f : Files) (a : Attributes) → e ≡ d → a ≡ attributes_in n i → Does g (λ t. stat t user path) (node_is a) (HasFiles f) (HasFiles f) d e
+  module _ (d : Disk) (n : ℕ) (i : Inode) (finds : FindsBy g d walk (Ok (n, i))) where
+    pub stat_done : (e : Disk) (f : Files) (a : Attributes) → e ≡ d → a ≡ attributes_in n i
+        → Does g (told_by walk) (node_is a) (HasFiles f) (HasFiles f) d e
     stat_done e f a same said = record {
       each = λ t holds files.
           let x = finds t holds in
           let number : is_inode g n ≡ true = (and_parts (is_inode g n) ((pieces g d).inode_map n) x.marked).0 in
           let at : i ≡ inode_of_disk g d n = x.loaded ∙ cond-true (is_inode g n) (inode_of_disk g d n) blank number in
-          let all : attributes_of n (node_of g (pieces g d) ((pieces g d).inodes n)) ≡ a = held_attributes g d t n _ holds.nodes x.node ∙ ap (attributes_in n) (sym at) ∙ sym said in
-          looked_made g t (stat t user path) (node_is a) (HasFiles f) d e
-          (ap (λ (r : Result ℕ Errno). r >>= λ n. node_at t n >>= told t n) x.walked ∙ ap (λ o. or_refuse o ENOENT >>= told t n) x.node ∙ ap (λ b. Ok (node_is b, t)) all)
+          let all : attributes_of n (node_of g (pieces g d) ((pieces g d).inodes n)) ≡ a =
+          held_attributes g d t n _ holds.nodes x.node ∙ ap (attributes_in n) (sym at) ∙ sym said in
+          looked_made g t (told_by walk t) (node_is a) (HasFiles f) d e
+          (ap (λ (r : Result ℕ Errno). r >>= λ n. node_at t n >>= told t n) x.walked ∙ ap (λ o. or_refuse o ENOENT >>= told t n) x.node
+          ∙ ap (λ b. Ok (node_is b, t)) all)
           same holds files;
     }
 
     pub small_number : IsGeometry g → 65535 < n → (f : Files) → IsHeld g (HasFiles f) d → ⊥
     small_number ok big f h =
-        let low = leb-true n g.inodes (and_parts (Rattle.std.specs.Prelude.nat_le 1 n) (Rattle.std.specs.Prelude.nat_le n g.inodes) (is_number g user path (λ node. false) (λ node. node) d n i finds f h)).1 in
+        let number = inode_is g (pieces g d) n (finds h.tree h.holds).marked in
+        let low = leb-true n g.inodes (and_parts (Rattle.std.specs.Prelude.nat_le 1 n) (Rattle.std.specs.Prelude.nat_le n g.inodes) number).1 in
         let most = ok.inodes in
         omega (arith, low, most, big)
 

@@ -1,12 +1,12 @@
 //! The targets of symbolic links.
 
-ghost use Rattle.std.specs.Prelude.{◌≡◌, ◌≢◌, IfOk, IfErr};
+ghost use Rattle.std.specs.Prelude.{◌≡◌, ◌≢◌, IfOk, IfErr, length};
 ghost use Rattle.tree.specs.Tree.{most_target};
 ghost use Rattle.tree.specs.NodeCalls.{readlink};
-ghost use Rattle.tree.specs.FileCalls.{bytes_read};
-ghost use Rattle.tree.specs.Answers.{answer_of, bytes_of_target, refused};
+ghost use Rattle.tree.specs.Answers.{answer_of, refused};
 ghost use Rattle.volume.specs.Nodes.{file_of};
 ghost use Rattle.volume.specs.Pieces.{pieces};
+ghost use Rattle.file.specs.Reading.{HasFileBytes, read_count};
 ghost use Rattle.descriptors.specs.Files.{Files, HasFiles};
 ghost use Rattle.store.specs.World.{Reads, Turns};
 ghost use Rattle.store.specs.Volume.{IsOn};
@@ -26,7 +26,9 @@ use volume::Inode;
 fn target<B: Blocks>(blocks: &mut B, geometry: &Geometry, inode: &Inode) -> Result<LinkTarget, Cut>
     requires on { IsOn B.world geometry.now blocks.old }
     ensures reads { Reads B.world blocks.old blocks.new (λ d. IfOk result (λ x.
-        bytes_of_target x ≡ bytes_read (file_of geometry.now (pieces geometry.now d) inode.now) 0 most_target)) }
+        HasFileBytes (file_of geometry.now (pieces geometry.now d) inode.now) 0 x.length x.bytes)) }
+    ensures count { IfOk result (λ x. x.length ≡ read_count inode.now.size 0 most_target) }
+    ensures room { IfOk result (λ x. length x.bytes ≡ most_target) }
     ensures cut { IfErr result (λ c. B.world.over blocks.new c) }
 {
     let mut bytes = [0; MAX_TARGET];
