@@ -6,14 +6,14 @@ use Rattle.tree.specs.declared.User.{User}
 use Rattle.tree.specs.Names.{Name}
 use Rattle.tree.specs.Tree.{Tree}
 use Rattle.tree.specs.Refusals.{◌>>=◌}
-use Rattle.tree.specs.Walk.{is_missing, is_there, open_look_up, read_path}
+use Rattle.tree.specs.Walk.{is_there, open_look_up, read_path}
 use Rattle.tree.specs.Answers.{Answer, Effect, descriptor}
 use Rattle.tree.specs.FileCalls.{Slot, open_found, with_open}
 use Rattle.volume.specs.Reading.{Disk}
 use Rattle.descriptors.specs.Files.{Files, HasFiles, files_in, put_file}
 use Rattle.path.specs.declared.place.Found.{Found}
 use Rattle.path.specs.declared.place.Found.TheVariants as found
-use Rattle.path.specs.Places.{IsPlace, place_of}
+use Rattle.path.specs.Places.{Finds}
 use Rattle.node_steps.specs.Stands.{Stands}
 use Rattle.calls_open.specs.Asking.{only_makes}
 
@@ -24,10 +24,10 @@ open_named g t user now path flags mode slot = do
   found ← open_look_up t user (only_makes flags) parts
   open_found g t user now slot flags mode found
 
--- what a path finds for open, a link as it is or what it leads to, or the refusal of the walk
+-- what a path finds for open, a link as it is or what it leads to, or the refusal of the walk; where a name is missing no link stands
 abbrev pub FindsToOpen : Geometry → Disk → Tree → User → Bool → List Name → Result Found Errno → Type 0
 FindsToOpen g d t user as_is parts (Ok (found.There n)) = (open_look_up t user as_is parts ≡ Ok (is_there n)) × IsTrue (is_some (t.nodes n))
-FindsToOpen g d t user as_is parts (Ok (found.Missing p)) = (open_look_up t user as_is parts ≡ Ok (is_missing (place_of g d p))) × IsPlace g d t user parts p
+FindsToOpen g d t user as_is parts (Ok (found.Missing p)) = Finds g d t user parts (Ok (found.Missing p))
 FindsToOpen g d t user as_is parts (Err e) = open_look_up t user as_is parts ≡ Err e
 
 -- The call opens node n in every slot, in a tree whose nodes the volume has; as yet the same is open as before.

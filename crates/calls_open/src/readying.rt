@@ -64,8 +64,11 @@ fn find<'a, B: Blocks>(
         Found::There(number) => number,
         Found::Missing(place) => return Ok(Found::Missing(place)),
     };
+    if as_is {
+        return Ok(Found::There(number));
+    }
     let inode = load(blocks, geometry, number)?;
-    if as_is || !is_link(&inode) {
+    if !is_link(&inode) {
         return Ok(Found::There(number));
     }
     let end = walk(blocks, geometry, user, path.parts())?;
