@@ -109,10 +109,7 @@ static FOLLOWED: [Step; 17] = [
 
 /// Eight links are followed, wherever they stand, and the ninth isn't looked at.
 static COUNTED: [Step; 9] = [
-    (
-        Call::Walk(ROOT, b"/o/o/o/o/o/o/o/o"),
-        Ok(Seen::There(1)),
-    ),
+    (Call::Walk(ROOT, b"/o/o/o/o/o/o/o/o"), Ok(Seen::There(1))),
     (Call::Walk(ROOT, b"/o/o/o/o/o/o/o/o/d"), Ok(Seen::There(2))),
     (Call::Walk(ROOT, b"/o/o/o/o/o/o/o/o/o"), LOOP),
     (Call::Walk(ROOT, b"/p/d/e"), Ok(Seen::There(4))),

@@ -6,7 +6,8 @@ use Rattle.errno.specs.declared.Errno.{Errno}
 use Rattle.errno.specs.declared.Errno.TheVariants.{EPERM, ENOENT, EACCES, EEXIST, ENOTDIR, EISDIR, EINVAL, ENAMETOOLONG, ELOOP}
 use Rattle.layout.specs.declared.Geometry.{Geometry}
 use Rattle.tree.specs.declared.Call.{Call}
-use Rattle.tree.specs.declared.Call.TheVariants.{Open, Stat, Link, Unlink, Mkdir, Rmdir, Rename, Chmod, Chown, Utime, Truncate, Statfs, Symlink, Readlink, Lstat}
+use Rattle.tree.specs.declared.Call.TheVariants.{Open, Stat, Link, Unlink, Mkdir, Rmdir, Rename, Chmod, Chown, Utime, Truncate, Statfs}
+use Rattle.tree.specs.declared.Call.TheVariants.{Symlink, Readlink, Lstat}
 use Rattle.tree.specs.Sums.{put, sum_below, some_below, least_below}
 use Rattle.tree.specs.Tree.{Node, is_file, Tree}
 use Rattle.tree.specs.Changes.{target_file}
@@ -17,12 +18,30 @@ use Rattle.tests_tree.proofs.Small.{small, start, user0, other, at, path, flags,
 abbrev link_to : List ℕ → Node
 link_to target = record (no_bytes 511) { symbolic = true; body = is_file (target_file target) }
 
+-- the attributes of a link of so many bytes, and of a directory with its links, size and time of access
+abbrev of_link : ℕ → ℕ → Answer
+of_link n size =
+    node_is (record { inode = n; mode = 41471; links = 1; uid = 0; gid = 0; size = size; atime = 100; mtime = 100; ctime = 100 })
+
+abbrev of_folder : ℕ → ℕ → ℕ → ℕ → Answer
+of_folder n links size atime = node_is (record {
+  inode = n;
+  mode = 16877;
+  links = links;
+  uid = 0;
+  gid = 0;
+  size = size;
+  atime = atime;
+  mtime = 100;
+  ctime = 100;
+})
+
 -- a link to nothing
 unfoldable linked : Tree
 linked = after start (Symlink (path "d") (path "/l") ∷ [])
 
 fresh : Rows small linked (
-    (user0, Lstat (path "/l"), node_is (record { inode = 2; mode = 41471; links = 1; uid = 0; gid = 0; size = 1; atime = 100; mtime = 100; ctime = 100 }))
+    (user0, Lstat (path "/l"), of_link 2 1)
     ∷ (user0, Readlink (path "/l"), some_bytes (100 ∷ []))
     ∷ (user0, Stat (path "/l"), refused ENOENT)
     ∷ (user0, Open (path "/l") (flags 11) 420, refused ENOENT)
@@ -38,10 +57,10 @@ unfoldable pointed : Tree
 pointed = after start (Symlink (path "d") (path "/l") ∷ Mkdir (path "/d") 493 ∷ [])
 
 led : Rows small pointed (
-    (user0, Stat (path "/l"), node_is (record { inode = 3; mode = 16877; links = 2; uid = 0; gid = 0; size = 128; atime = 100; mtime = 100; ctime = 100 }))
-    ∷ (user0, Stat (path "/l/.."), node_is (record { inode = 1; mode = 16877; links = 3; uid = 0; gid = 0; size = 256; atime = 50; mtime = 100; ctime = 100 }))
-    ∷ (user0, Lstat (path "/l/."), node_is (record { inode = 3; mode = 16877; links = 2; uid = 0; gid = 0; size = 128; atime = 100; mtime = 100; ctime = 100 }))
-    ∷ (user0, Lstat (path "/l/"), node_is (record { inode = 2; mode = 41471; links = 1; uid = 0; gid = 0; size = 1; atime = 100; mtime = 100; ctime = 100 }))
+    (user0, Stat (path "/l"), of_folder 3 2 128 100)
+    ∷ (user0, Stat (path "/l/.."), of_folder 1 3 256 50)
+    ∷ (user0, Lstat (path "/l/."), of_folder 3 2 128 100)
+    ∷ (user0, Lstat (path "/l/"), of_link 2 1)
     ∷ (user0, Open (path "/l") (flags 3) 0, refused EISDIR)
     ∷ (user0, Rmdir (path "/l"), refused ENOTDIR)
     ∷ (user0, Unlink (path "/l"), done)
@@ -61,8 +80,9 @@ many = record {
   nodes =
       put (put (put (put (put (put (put (put (put (put (put (put (put (put (put (put (put (put (put (λ n. None)
       1 (Some (folder 493 3 50 1 (
-      (codes "a", 2) ∷ (codes "f", 4) ∷ (codes "in", 16) ∷ (codes "s0", 6) ∷ (codes "s1", 7) ∷ (codes "s2", 8) ∷ (codes "s3", 9) ∷ (codes "s4", 10)
-      ∷ (codes "s5", 11) ∷ (codes "s6", 12) ∷ (codes "s7", 13) ∷ (codes "s8", 14) ∷ (codes "up", 17) ∷ (codes "v", 19) ∷ (codes "w", 18) ∷ (codes "x", 15) ∷ []))))
+      (codes "a", 2) ∷ (codes "f", 4) ∷ (codes "in", 16) ∷ (codes "s0", 6) ∷ (codes "s1", 7) ∷ (codes "s2", 8) ∷ (codes "s3", 9)
+      ∷ (codes "s4", 10) ∷ (codes "s5", 11) ∷ (codes "s6", 12) ∷ (codes "s7", 13) ∷ (codes "s8", 14) ∷ (codes "up", 17) ∷ (codes "v", 19)
+      ∷ (codes "w", 18) ∷ (codes "x", 15) ∷ []))))
       2 (Some (folder 448 2 100 1 ((codes "up", 5) ∷ (codes "x", 3) ∷ []))))
       3 (Some (no_bytes 420)))
       4 (Some (no_bytes 420)))
@@ -87,7 +107,7 @@ many = record {
 
 -- the attributes of the root, of /f and of /a/x
 abbrev of_root : Answer
-of_root = node_is (record { inode = 1; mode = 16877; links = 3; uid = 0; gid = 0; size = 1152; atime = 50; mtime = 100; ctime = 100 })
+of_root = of_folder 1 3 1152 50
 
 abbrev of_file : ℕ → Answer
 of_file n = node_is (record { inode = n; mode = 33188; links = 1; uid = 0; gid = 0; size = 0; atime = 100; mtime = 100; ctime = 100 })
@@ -100,7 +120,7 @@ eight : Rows small many (
     ∷ (user0, Stat (path "/s6/in"), of_file 3)
     ∷ (user0, Stat (path "/s7/in"), refused ELOOP)
     ∷ (user0, Stat (path "/s7/w"), refused ELOOP)
-    ∷ (user0, Lstat (path "/s7/w"), node_is (record { inode = 18; mode = 41471; links = 1; uid = 0; gid = 0; size = 61; atime = 100; mtime = 100; ctime = 100 }))
+    ∷ (user0, Lstat (path "/s7/w"), of_link 18 61)
     ∷ (user0, Lstat (path "/s8/w"), refused ELOOP)
     ∷ (user0, Stat (path "/w"), refused ENAMETOOLONG)
     ∷ (user0, Stat (path "/v"), refused ENOENT)
@@ -121,7 +141,7 @@ ways : Rows small many (
     ∷ (user0, Stat (path "/in"), of_file 3)
     ∷ (other, Stat (path "/in"), refused EACCES)
     ∷ (other, Stat (path "/up"), refused EACCES)
-    ∷ (other, Lstat (path "/in"), node_is (record { inode = 16; mode = 41471; links = 1; uid = 0; gid = 0; size = 3; atime = 100; mtime = 100; ctime = 100 }))
+    ∷ (other, Lstat (path "/in"), of_link 16 3)
     ∷ (other, Readlink (path "/in"), some_bytes (codes "a/x"))
     ∷ (other, Readlink (path "/a/up"), refused EACCES)
     ∷ (other, Readlink (path "/f"), refused EINVAL)
