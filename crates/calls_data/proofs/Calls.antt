@@ -1,6 +1,6 @@
 -- Stat, lstat, chmod, chown and utime.
 use Rattle.std.proofs.Common.{◌≡◌, ◌<◌, ◌≤◌, ◌+◌, ◌-◌, ◌*◌, ◌/◌, ◌%◌, ◌^◌, ℕ, List, Bool, true, false, refl, sym, ap, subst, ◌∙◌, arith, Some, Ok, Err}
-use Rattle.std.specs.Prelude.{IsTrue, Result, not, ◌==◌, ◌||◌, ◌&&◌, nat_lt}
+use Rattle.std.specs.Prelude.{IsTrue, Result, not, ◌==◌, ◌||◌, nat_le, nat_lt}
 use Rattle.std.proofs.lemmas.Bool.{cond-true, and_parts, and_from, le-ltb, lt-ltb, leb-true}
 use Rattle.errno.specs.declared.Errno.TheVariants.{EINVAL, ENOENT}
 use Rattle.errno.specs.declared.Errno.{Errno}
@@ -76,7 +76,7 @@ module _ (g : Geometry) (walk : Tree → Result ℕ Errno) where
     pub small_number : IsGeometry g → 65535 < n → (f : Files) → IsHeld g (HasFiles f) d → ⊥
     small_number ok big f h =
         let number = inode_is g (pieces g d) n (finds h.tree h.holds).marked in
-        let low = leb-true n g.inodes (and_parts (Rattle.std.specs.Prelude.nat_le 1 n) (Rattle.std.specs.Prelude.nat_le n g.inodes) number).1 in
+        let low = leb-true n g.inodes (and_parts (nat_le 1 n) (nat_le n g.inodes) number).1 in
         let most = ok.inodes in
         omega (arith, low, most, big)
 

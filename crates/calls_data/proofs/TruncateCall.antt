@@ -1,5 +1,6 @@
 -- truncate, made on a volume.
-use Rattle.std.proofs.Common.{◌≡◌, ℕ, ◌-◌, ◌/◌, ◌<◌, ◌≤◌, ◌^◌, refl, sym, ap, subst, ◌∙◌, arith, Option, None, Some, Ok, Err, Bool, true, false, List}
+use Rattle.std.proofs.Common.{◌≡◌, ℕ, ◌-◌, ◌/◌, ◌<◌, ◌≤◌, ◌^◌, refl, sym, ap, subst, ◌∙◌, arith, Bool, true, false, List}
+use Rattle.std.proofs.Common.{Option, None, Some, Ok, Err}
 use Rattle.std.specs.Prelude.{Result, not, if◌then◌else◌}
 use Rattle.std.proofs.lemmas.Bool.{cond-false, lt-ltb, le-ltb, eqb-true, ne_eqb}
 use Rattle.lemmas.proofs.Bools.{false_not_true}
@@ -21,7 +22,8 @@ use Rattle.tree.proofs.FileBodies.{resized_fits}
 use Rattle.volume.specs.Reading.{Disk}
 use Rattle.volume.specs.declared.Inode.{Inode}
 use Rattle.volume.specs.Pieces.{Pieces, pieces}
-use Rattle.volume.specs.Nodes.{node_of, directory_of, file_of, is_marked, is_directory_mode, is_link_mode, type_in, permissions_in, entry_inode, names_in}
+use Rattle.volume.specs.Nodes.{node_of, directory_of, file_of, is_marked, entry_inode, names_in}
+use Rattle.volume.specs.Nodes.{is_directory_mode, is_link_mode, type_in, permissions_in}
 use Rattle.volume.specs.Holds.{HoldsVolume}
 use Rattle.zone.specs.ZoneSteps.{node_from}
 use Rattle.path.specs.Wishes.{IsWhose}
@@ -43,22 +45,21 @@ is_link o = elim o [ None ↦ false | Some node ↦ node.symbolic ]
 
 -- the root of a volume that holds a tree is none
 root_no_link : (g : Geometry) (d : Disk) (t : Tree) → HoldsVolume g d t → is_link_at t.nodes 1 ≡ false
-root_no_link g d t holds = ap is_link is ∙ by (is_marked g v 1) (v.inodes 1) (sym (ap (λ o. is_dir_at (λ _. o) 1) is) ∙ holds.nodes.tree.nodes.root)
+root_no_link g d t holds =
+    let v = pieces g d in
+    let is : t.nodes 1 ≡ (if is_marked g v 1 then Some (node_of g v (v.inodes 1)) else None) =
+    ap (λ (f : ℕ → Option Node). f 1) holds.nodes.nodes in
+    ap is_link is ∙ by v (is_marked g v 1) (v.inodes 1) (sym (ap (λ o. is_dir_at (λ _. o) 1) is) ∙ holds.nodes.tree.nodes.root)
   where
-    abbrev v : Pieces
-    v = pieces g d
-
-    is : t.nodes 1 ≡ (if is_marked g v 1 then Some (node_of g v (v.inodes 1)) else None)
-    is = ap (λ (f : ℕ → Option Node). f 1) holds.nodes.nodes
-
     other : (m : ℕ) (b : Bool) → is_directory_mode m ≡ b → (c : Directory) (h : File)
         → is_dir_body (if b then is_directory c else is_file h) ≡ true → is_link_mode m ≡ false
     other m true four c h e = ne_eqb (type_in m) 10 (λ ten. let is4 = eqb-true (type_in m) 4 four in absurd (omega (arith, ten, is4)))
     other m false four c h e = absurd (false_not_true e)
 
-    by : (b : Bool) (i : Inode) → is_dir_at (λ _. if b then Some (node_of g v i) else None) 1 ≡ true → is_link (if b then Some (node_of g v i) else None) ≡ false
-    by true i e = other i.mode (is_directory_mode i.mode) refl (directory_of g v i) (file_of g v i) e
-    by false i e = refl
+    by : (v : Pieces) (b : Bool) (i : Inode) → is_dir_at (λ _. if b then Some (node_of g v i) else None) 1 ≡ true
+        → is_link (if b then Some (node_of g v i) else None) ≡ false
+    by v true i e = other i.mode (is_directory_mode i.mode) refl (directory_of g v i) (file_of g v i) e
+    by v false i e = refl
 
 module _ (g : Geometry) (user : User) (path : List ℕ) (now size : ℕ) where
   -- the node with another size
@@ -76,7 +77,8 @@ module _ (g : Geometry) (user : User) (path : List ℕ) (now size : ℕ) where
   -- of a node
   abbrev of_kind : Tree → ℕ → Node → File → Directory → Bool → Effect
   of_kind t n node h c is =
-      elim (if is then is_directory c else is_file h) [ is_file f ↦ Ok f | is_directory d ↦ Err EISDIR ] >>= λ f. of_bytes t n node f node.symbolic
+      elim (if is then is_directory c else is_file h) [ is_file f ↦ Ok f | is_directory d ↦ Err EISDIR ]
+      >>= λ f. of_bytes t n node f node.symbolic
 
   abbrev of_node : Tree → ℕ → Node → Effect
   of_node t n node = file_or node EISDIR >>= λ f. of_bytes t n node f node.symbolic

@@ -1,11 +1,10 @@
 -- write, made on a volume.
-use Rattle.std.proofs.Common.{◌≡◌, ℕ, ◌+◌, ◌-◌, ◌/◌, ◌<◌, ◌≤◌, ◌^◌, refl, sym, ap, subst, ◌∙◌, Option, Some, None, Ok, Err, Bool, true, false, List, length, get_or, Fits, w8, arith}
+use Rattle.std.proofs.Common.{◌≡◌, ℕ, ◌+◌, ◌-◌, ◌/◌, ◌<◌, ◌≤◌, ◌^◌, refl, sym, ap, subst, ◌∙◌, Option, Some, None, Ok, Err, Bool, true, false, List, length, arith}
 use mathlib.Core.Logic.{inl, inr}
 use Rattle.std.specs.Prelude.{Result, not, nat_lt, ◌==◌, ◌||◌, if◌then◌else◌}
 use Rattle.std.specs.Borrow.{Bor}
 use Rattle.std.specs.List.{All}
 use Rattle.std.proofs.lemmas.Bool.{cond-true, cond-false, cases_lt, lt-ltb, le-ltb, eq-eqb, ne_eqb}
-use Rattle.std.proofs.lemmas.List.{get_or_default}
 use Rattle.errno.specs.declared.Errno.{Errno}
 use Rattle.errno.specs.declared.Errno.TheVariants.{EBADF, EINVAL, ENOENT, EFBIG, ENOSPC}
 use Rattle.layout.specs.declared.Geometry.{Geometry}
@@ -98,7 +97,8 @@ module _ (g : Geometry) (now : ℕ) (bytes : List ℕ) where
   last_reason t k o node h false = refl
 
   reasons : (t : Tree) (k : ℕ) (o : OpenFile) (node : Node) (h : File) (c : Directory) (may wide is symbolic : Bool)
-      → asked t k o node h c may wide is symbolic ≡ by_reason t k o node h (first_reason may wide is symbolic (nat_lt most_size (place_in o h + length bytes)))
+      → asked t k o node h c may wide is symbolic
+      ≡ by_reason t k o node h (first_reason may wide is symbolic (nat_lt most_size (place_in o h + length bytes)))
   reasons t k o node h c false wide is symbolic = refl
   reasons t k o node h c true true is symbolic = refl
   reasons t k o node h c true false true symbolic = refl
