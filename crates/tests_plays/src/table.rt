@@ -1,10 +1,11 @@
 //! Each play that is written as text.
-use crate::{attributes, bytes, calls, full, images, moves, opened, opening, places, renames};
+use crate::{attributes, bytes, calls, followed, full, images, links, moves, opened, opening, places};
+use crate::renames;
 use fixtures_plays::texts::{all_are_played, both_are_played};
 use std::test::Fail;
 
 /// The texts of plays, and how many plays each has.
-static PLAYS: [(&str, usize); 10] = [
+static PLAYS: [(&str, usize); 12] = [
     (opening::PLAYS, 6),
     (opened::PLAYS, 5),
     (attributes::PLAYS, 4),
@@ -15,6 +16,8 @@ static PLAYS: [(&str, usize); 10] = [
     (full::PLAYS, 1),
     (calls::PLAYS, 20),
     (images::PLAYS, 3),
+    (links::PLAYS, 7),
+    (followed::PLAYS, 11),
 ];
 
 /// Each is played, and at last one that another service reads from the image that is left.

@@ -17,13 +17,13 @@ const SCRIPTS: &str =
   seek FD set|cur|end OFFSET  moves the position
   stat PATH                   the attributes of a file or directory
   fstat FD                    the same of an open one
+  lstat PATH                  as stat, but a symbolic link that stands last isn't followed
   link OLD NEW                a further name for a file
   unlink PATH                 takes a file's name away
-  mkdir PATH MODE             makes a directory
-  rmdir PATH                  takes an empty directory away
   symlink TARGET PATH         makes a symbolic link
   readlink PATH               the target of a symbolic link
-  lstat PATH                  as stat, but a link that stands last isn't followed
+  mkdir PATH MODE             makes a directory
+  rmdir PATH                  takes an empty directory away
   rename OLD NEW              gives a file or directory another name
   chmod PATH MODE             sets the permissions
   chown PATH UID GID          sets user and group
