@@ -118,7 +118,8 @@ module _ (g : Geometry) (t : Tree) (tree : IsTree g t) (who : Who) (now fd : ℕ
       ]
 
 -- bytes that are the list's, one by one, are the list
-pub bytes_are : (bytes : List ℕ) (byte : ℕ → ℕ) (at : ℕ) → ((j : ℕ) → j < length bytes → byte (at + j) ≡ slice_index bytes j) → bytes_from byte at (length bytes) ≡ bytes
+pub bytes_are : (bytes : List ℕ) (byte : ℕ → ℕ) (at : ℕ) → ((j : ℕ) → j < length bytes → byte (at + j) ≡ slice_index bytes j)
+    → bytes_from byte at (length bytes) ≡ bytes
 bytes_are [] byte at each = refl
 bytes_are (x ∷ xs) byte at each =
     let first : byte at ≡ x = (let e : at ≡ at + 0 = omega arith in ap byte e) ∙ each 0 (omega arith) in
