@@ -1,11 +1,11 @@
 -- The bytes of symbolic links.
-use Rattle.std.proofs.Common.{◌≡◌, ◌≢◌, ◌<◌, ◌≤◌, ◌+◌, ◌-◌, ◌*◌, ◌/◌, ◌^◌, ℕ, zero, suc, List, Bool, length, true, false, refl, sym, ap}
+use Rattle.std.proofs.Common.{◌≡◌, ◌≢◌, ◌<◌, ◌≤◌, ◌+◌, ◌-◌, ◌*◌, ◌/◌, ◌^◌, ℕ, zero, suc, List, length, false, refl, sym, ap}
 use Rattle.std.proofs.Common.{subst, ◌∙◌, arith}
 use mathlib.Core.Logic.{inl, inr}
-use Rattle.std.specs.Prelude.{Option, Some, ◌==◌, ◌&&◌, ◌||◌, not, nat_lt, nat_le, slice_index, IsTrue, if◌then◌else◌}
+use Rattle.std.specs.Prelude.{Some, ◌==◌, ◌&&◌, not, nat_lt, nat_le, slice_index}
 use Rattle.std.specs.List.{All, list_any}
 use Rattle.std.proofs.Math.Nat.{le-div_iff_mul-le}
-use Rattle.std.proofs.lemmas.Bool.{eqb-true, eqb-false, eq-eqb, ne_eqb, cases_eq, cases_lt, cases_Bool, cond-true, cond-false, cond_both}
+use Rattle.std.proofs.lemmas.Bool.{eqb-true, eqb-false, eq-eqb, ne_eqb, cases_eq, cases_lt, cases_Bool, cond-true, cond_both}
 use Rattle.std.proofs.lemmas.Bool.{leb-true, le-leb, lt-ltb, ltb-true, or_cases, or_left, or_right, and_from, and_parts, not-true}
 use Rattle.std.proofs.lemmas.Bool.{not_from_false}
 use Rattle.std.proofs.lemmas.List.Folds.{list_any_at}
@@ -15,8 +15,8 @@ use Rattle.layout.specs.declared.Geometry.{Geometry}
 use Rattle.layout.specs.Places.{IsGeometry}
 use Rattle.layout.proofs.Parsed.{block_sizes}
 use Rattle.tree.specs.declared.User.{User}
-use Rattle.tree.specs.Tree.{Body, File, is_file, is_directory, Node, Tree, bytes_from, all_bytes, target_of, most_size, most_target}
-use Rattle.tree.specs.IsTree.{IsFile, IsBody, IsTarget, HasTarget, IsNode, IsTree}
+use Rattle.tree.specs.Tree.{Body, File, is_file, is_directory, bytes_from, most_target}
+use Rattle.tree.specs.IsTree.{IsFile, IsBody, IsTarget, HasTarget, IsNode}
 use Rattle.tree.specs.Changes.{no_bytes, target_file, new_link, file_after_write}
 use Rattle.lemmas.proofs.Bools.{false_not_true}
 use Rattle.tree.specs.Links.{LinkHasTarget, TargetIsWritten, LinkIsItsTarget}
