@@ -1,5 +1,5 @@
-use Rattle.std.proofs.Common.{◌≡◌, ◌-◌, ℕ, suc, true, false, sym, ap, subst, ◌∙◌, arith, Some, None, take, inl, inr, List}
-use Rattle.std.specs.Prelude.{Ok, Err, Option, IsTrue, is_some}
+use Rattle.std.proofs.Common.{◌≡◌, ◌-◌, ℕ, suc, sym, subst, arith, take, inl, inr, List}
+use Rattle.std.specs.Prelude.{Ok, Option, IsTrue, is_some}
 use Rattle.std.proofs.lemmas.Bool.{cases_eq, cond_both}
 use Rattle.store.proofs.Turns.{reads_as, reads_none, reads_then}
 use Rattle.tree.specs.Tree.{Tree}

@@ -1,4 +1,3 @@
-use Rattle.tree.specs.Refusals.{◌>>=◌}
 use Rattle.std.specs.Prelude.{Ok, Err}
 use Rattle.store.proofs.Turns.{reads_as}
 use Rattle.path.proofs.Ending.{answers_exit}
