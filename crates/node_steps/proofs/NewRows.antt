@@ -35,8 +35,7 @@ use Rattle.directory.proofs.Becoming.{body_is}
 use Rattle.directory.proofs.EntryBytes.{past}
 use Rattle.node_steps.specs.Steps.{BecomesAt}
 use Rattle.node_steps.specs.NewNodes.{MayMakeDirectory, MakesDirectory, new_inode, with_new_inode}
-use Rattle.node_steps.proofs.Marking.{directory_kind, directory_mode, directory_permissions, directory_no_link, its_file, its_nodes, marked}
-use Rattle.node_steps.proofs.Marking.{may_change, no_places, nothing, rules, some}
+use Rattle.node_steps.proofs.Marking.{directory_kind, directory_mode, directory_permissions, directory_no_link, its_file, its_nodes, marked, may_change, no_places, nothing, rules, some}
 
 -- what was put last is there
 pub put_twice : {X : Type 0} (f : ℕ → X) (n : ℕ) (x y : X) → put (put f n x) n y ≡ put f n y
