@@ -13,7 +13,8 @@ use Rattle.tree.specs.ZonesNeeded.{zones_needed}
 use Rattle.volume.specs.declared.Inode.{Inode}
 use Rattle.volume.specs.Pieces.{Pieces, pieces}
 use Rattle.volume.specs.Reading.{Disk, u32_in}
-use Rattle.volume.specs.Nodes.{directory_of, entry_inode, file_of, is_directory_mode, is_link_mode, is_marked, names_in, node_of, nodes_of, permissions_in}
+use Rattle.volume.specs.Nodes.{directory_of, entry_inode, file_of, is_directory_mode, is_link_mode, is_marked, names_in, node_of, nodes_of}
+use Rattle.volume.specs.Nodes.{permissions_in}
 use Rattle.volume.specs.Entries.{entry_count}
 use Rattle.volume.specs.Holds.{IsSoundDirectory}
 use Rattle.volume.proofs.Sums.{count_most}

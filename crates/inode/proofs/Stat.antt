@@ -11,7 +11,8 @@ use Rattle.layout.proofs.Parsed.{block_sizes, geometry_fits}
 use Rattle.errno.specs.declared.Errno.TheVariants.{EINVAL, ENOENT}
 use Rattle.tree.specs.declared.Who.{Who}
 use Rattle.tree.specs.declared.Call.TheVariants.{Stat}
-use Rattle.tree.specs.Tree.{Body, is_file, is_directory, Node, Tree, file_type, link_type, bytes_type, directory_type, mode_of, size_of, is_dir, most_sessions}
+use Rattle.tree.specs.Tree.{Body, is_file, is_directory, Node, Tree, file_type, link_type, bytes_type, directory_type, mode_of, size_of}
+use Rattle.tree.specs.Tree.{is_dir, most_sessions}
 use Rattle.tree.specs.Refusals.{◌>>=◌, or_refuse, refuse_if}
 use Rattle.tree.specs.Answers.{Answer, Effect, refused, node_is}
 use Rattle.tree.specs.NodeCalls.{stat, attributes_of}
@@ -66,7 +67,10 @@ module _ (g : Geometry) (v : Pieces) (sound : IsSound g v) (n : ℕ) (marked : i
 
   -- the mode of a body with the inode's permissions
   mode_with : Body → ℕ
-  mode_with body = elim body [ is_file f ↦ bytes_type (is_link_mode i.mode) + permissions_in i.mode | is_directory d ↦ directory_type + permissions_in i.mode ]
+  mode_with body = elim body [
+    | is_file f ↦ bytes_type (is_link_mode i.mode) + permissions_in i.mode
+    | is_directory d ↦ directory_type + permissions_in i.mode
+  ]
 
   -- its mode is a known type
   known : (type_in i.mode == 4) || (type_in i.mode == 8) || (type_in i.mode == 10) ≡ true

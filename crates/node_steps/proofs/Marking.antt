@@ -15,7 +15,8 @@ use Rattle.tree.proofs.Maps.{not_nothing, put-same, put-other}
 use Rattle.volume.specs.declared.Inode.{Inode}
 use Rattle.volume.specs.Reading.{Disk, is_inode}
 use Rattle.volume.specs.Pieces.{Pieces, pieces}
-use Rattle.volume.specs.Nodes.{is_directory_mode, is_link_mode, is_marked, is_mode, node_of, nodes_of, page_byte, page_zone, permissions_in, slot, type_in}
+use Rattle.volume.specs.Nodes.{is_directory_mode, is_link_mode, is_marked, is_mode, node_of, nodes_of, page_byte, page_zone, permissions_in}
+use Rattle.volume.specs.Nodes.{slot, type_in}
 use Rattle.volume.specs.Places.{zone_at}
 use Rattle.volume.specs.Holds.{IsSound}
 use Rattle.store.specs.Volume.{Alters}

@@ -24,8 +24,10 @@ led t user at part r steps rest =
 
 -- what follows, by the target
 abbrev aimed : Tree → User → ℕ → ℕ → ℕ → List Name → Option (List ℕ) → Result ℕ Errno
-aimed t user links here there rest o = elim o [ None ↦ walk_from t user (follow_links t user links) there rest
-    | Some x ↦ follow_links t user links here x rest ]
+aimed t user links here there rest o = elim o [
+  | None ↦ walk_from t user (follow_links t user links) there rest
+  | Some x ↦ follow_links t user links here x rest
+]
 
 -- a step that is refused
 pub refused_here : (t : Tree) (user : User) (at : Stand) (part : Name) (e : Errno) → StepsTo t user at.here part (Err e)
@@ -59,7 +61,7 @@ linked : (t : Tree) (user : User) (at : Stand) (links : ℕ) (part : Name) (ther
     (parts_of target ++ rest))
 linked t user at links part there target some steps link rest =
     led t user at part (Ok there) steps rest ∙ ap (aimed t user at.links at.here there rest) link
-        ∙ ap (λ (k : ℕ). follow_links t user k at.here target rest) some
+    ∙ ap (λ (k : ℕ). follow_links t user k at.here target rest) some
 
 -- a target with a part that is too long
 pub too_long : (t : Tree) (user : User) (at : Stand) (links : ℕ) (part : Name) (there : ℕ) (target : List ℕ) → at.links ≡ suc links
@@ -117,8 +119,11 @@ refused_there t user first at parts left others part e is way arrives = record {
 -- and so do no parts
 pub arrived : (t : Tree) (user : User) (first at : Stand) (parts left : List Name) → left ≡ [] → IsOnWay t user first parts at left
     → Arrives t user first parts (Ok at)
-arrived t user first at parts left is way = record { leads = λ rest. way.leads rest
-    ∙ ap (λ (ps : List Name). from t user at (ps ++ rest)) is; there = way.there }
+arrived t user first at parts left is way = record {
+  leads = λ rest. way.leads rest
+      ∙ ap (λ (ps : List Name). from t user at (ps ++ rest)) is;
+  there = way.there;
+}
 
 -- A call from the root with eight links is the tree's walk.
 pub is_walk : (t : Tree) (user : User) (parts : List Name) (r : Result Stand Errno)

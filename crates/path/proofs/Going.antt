@@ -104,8 +104,10 @@ stepped g d t user n i part r holds there entered is =
 
 -- what a walk does at a node to which a part led from here
 abbrev pub on : Tree → User → Follow → ℕ → List Name → ℕ → Result ℕ Errno
-on t user follow here rest there = elim (target_of (t.nodes there)) [ None ↦ walk_from t user follow there rest
-    | Some target ↦ follow here target rest ]
+on t user follow here rest there = elim (target_of (t.nodes there)) [
+  | None ↦ walk_from t user follow there rest
+  | Some target ↦ follow here target rest
+]
 
 -- a step, and then the others
 pub split : (t : Tree) (user : User) (follow : Follow) (here : ℕ) (part : Name) (rest : List Name)

@@ -1,10 +1,10 @@
 -- The target of a node, by its inode.
-use Rattle.std.proofs.Common.{◌≡◌, ◌≤◌, ◌<◌, ◌+◌, ◌-◌, ℕ, zero, suc, List, [], ◌∷◌, length, Bool, true, false, Option, Some, None, sym, ap}
+use Rattle.std.proofs.Common.{◌≡◌, ◌≤◌, ◌<◌, ◌+◌, ◌-◌, ℕ, zero, suc, List, [], ◌∷◌, length, Bool, true, false, Some, None, sym, ap}
 use Rattle.std.proofs.Common.{subst, ◌∙◌, arith, refl}
-use Rattle.std.specs.Prelude.{slice_index, take, nat_lt, ◌==◌, if◌then◌else◌, IsTrue, is_some}
-use Rattle.std.proofs.lemmas.Bool.{cond-true, cond-false, cond_both, eqb-true, ne_eqb, ltb-true, ltb-false}
+use Rattle.std.specs.Prelude.{slice_index, take, nat_lt, if◌then◌else◌}
+use Rattle.std.proofs.lemmas.Bool.{cond-false, cond_both, eqb-true, ne_eqb, ltb-false}
 use Rattle.layout.specs.declared.Geometry.{Geometry}
-use Rattle.tree.specs.Tree.{Body, File, is_file, is_directory, Node, Tree, bytes_from, all_bytes, target_of, most_target}
+use Rattle.tree.specs.Tree.{Body, is_file, is_directory, Tree, bytes_from, all_bytes, target_of}
 use Rattle.tree.specs.IsTree.{HasTarget, IsTarget}
 use Rattle.volume.specs.declared.Inode.{Inode}
 use Rattle.volume.specs.Holds.{Holds}
@@ -12,7 +12,7 @@ use Rattle.volume.specs.Nodes.{directory_of, file_of, is_directory_mode, is_link
 use Rattle.volume.specs.Pieces.{pieces}
 use Rattle.volume.specs.Reading.{Disk}
 use Rattle.file.specs.Reading.{HasFileBytes, read_count}
-use Rattle.path.proofs.Entering.{IsHeld, is_held}
+use Rattle.path.proofs.Entering.{IsHeld}
 
 -- the first bytes of a row, one by one
 firsts : (byte : ℕ → ℕ) (n at : ℕ) (bytes : List ℕ) → n ≤ length bytes → ((k : ℕ) → k < n → slice_index bytes k ≡ byte (at + k))

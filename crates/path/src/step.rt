@@ -24,6 +24,9 @@ use volume::Inode;
 /// The number of the root's inode.
 const ROOT: u32 = 1;
 
+/// How many symbolic links a walk follows.
+const MOST_LINKS: u32 = 8;
+
 /// Whether the mode's type is that of directories.
 fn is_directory(mode: u16) -> bool
     ensures { result ≡ is_directory_mode mode }
@@ -240,7 +243,7 @@ pub fn walk<B: Blocks>(
 {
     let root = Stand {
         here: ROOT,
-        links: 8,
+        links: MOST_LINKS,
     };
     let end = lead(blocks, geometry, user, root, parts)?;
     Ok(end.here)

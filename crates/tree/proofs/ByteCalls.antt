@@ -22,7 +22,8 @@ pub file_fits : (g : Geometry) (node : Node) (f : File) → IsNode g node → no
 file_fits g node f fits is = subst (λ b. IsBody g b) is fits.body
 
 -- a file with another file in its place
-pub file_changed : (g : Geometry) (t : Tree) (n now : ℕ) (node : Node) (f new : File) → now < 2 ^ 32 → t.nodes n ≡ Some node → node.body ≡ is_file f → node.symbolic ≡ false
+pub file_changed : (g : Geometry) (t : Tree) (n now : ℕ) (node : Node) (f new : File) → now < 2 ^ 32 → t.nodes n ≡ Some node
+    → node.body ≡ is_file f → node.symbolic ≡ false
     → IsFile g new → IsTree g t → IsTree g (with_node t n (Some (with_body now (is_file new) node)))
 file_changed g t n now node f new small there is no_link fits tree =
     let old = tree.nodes.each n node there in
@@ -31,7 +32,17 @@ file_changed g t n now node f new small there is no_link fits tree =
     (ap (λ b. names_of (Some (record node { body = b }))) (sym is))
     (ap (λ b. parent_of (Some (record node { body = b }))) (sym is))
     refl
-    (record { permissions = old.permissions; links = old.links; uid = old.uid; gid = old.gid; atime = old.atime; mtime = small; ctime = small; body = fits; target = λ h. absurd (false_not_true (sym no_link ∙ h)) })
+    (record {
+      permissions = old.permissions;
+      links = old.links;
+      uid = old.uid;
+      gid = old.gid;
+      atime = old.atime;
+      mtime = small;
+      ctime = small;
+      body = fits;
+      target = λ h. absurd (false_not_true (sym no_link ∙ h));
+    })
     tree
 
 -- truncate

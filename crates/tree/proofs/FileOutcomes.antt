@@ -144,7 +144,8 @@ module _ (t : Tree) (session : ℕ) (P : Effects → Type 0) (steps : IsClosed P
 
   module _ (g : Geometry) (now fd : ℕ) (bytes : List ℕ)
       (nothing : (found : ℕ × OpenFile) (node : Node) (f : File) → IsOpenOf fd found node f → length bytes ≡ 0 → P (λ z. Ok (wrote 0, t)))
-      (each : (found : ℕ × OpenFile) (node : Node) (f : File) → IsOpenOf fd found node f → node.symbolic ≡ false → length bytes ≤ most_bytes → start found.1 f + length bytes ≤ most_size
+      (each : (found : ℕ × OpenFile) (node : Node) (f : File) → IsOpenOf fd found node f → node.symbolic ≡ false → length bytes ≤ most_bytes
+      → start found.1 f + length bytes ≤ most_size
       → P (λ z. if_it_fits (with_zones z g) (wrote (length bytes)) (after_write g now found node f bytes))) where
     abbrev put_bytes : ℕ × OpenFile → Node → File → Effects
     put_bytes found node f z = if_it_fits (with_zones z g) (wrote (length bytes)) (after_write g now found node f bytes)
@@ -169,4 +170,5 @@ module _ (t : Tree) (session : ℕ) (P : Effects → Type 0) (steps : IsClosed P
         steps _ (refuse_if node.symbolic EBADF) (λ _. write_regular found node f) (plain_refuse _ _ refl) (λ u regular.
         steps _ (refuse_if (nat_lt most_size (start found.1 f + length bytes)) EFBIG) (λ _. put_any found node f) (plain_refuse _ _ refl) (λ x fits.
         at_test P (length bytes == 0) (λ z. Ok (wrote 0, t)) (put_bytes found node f) (λ none. nothing found node f is (eqb-true (length bytes) 0 none)) (λ _.
-        each found node f is (passed _ _ u regular) (ltb-false most_bytes (length bytes) (passed _ _ y few)) (ltb-false most_size (start found.1 f + length bytes) (passed _ _ x fits)))))))))
+        each found node f is (passed _ _ u regular) (ltb-false most_bytes (length bytes) (passed _ _ y few))
+        (ltb-false most_size (start found.1 f + length bytes) (passed _ _ x fits)))))))))

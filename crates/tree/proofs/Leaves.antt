@@ -6,7 +6,8 @@ use Rattle.errno.specs.declared.Errno.TheVariants.{EINVAL, EBADF, ENOTDIR}
 use Rattle.tree.specs.declared.User.{User}
 use Rattle.tree.specs.declared.Who.{Who}
 use Rattle.errno.specs.declared.Errno.{Errno}
-use Rattle.tree.specs.declared.Call.TheVariants.{Open, Close, Dup, Read, Write, Seek, Stat, Fstat, Link, Unlink, Mkdir, Rmdir, Rename, Chmod, Chown, Utime, Truncate, Readdir, Sync, Statfs, Symlink, Readlink, Lstat}
+use Rattle.tree.specs.declared.Call.TheVariants.{Open, Close, Dup, Read, Write, Seek, Stat, Fstat, Link, Unlink, Mkdir, Rmdir, Rename}
+use Rattle.tree.specs.declared.Call.TheVariants.{Chmod, Chown, Utime, Truncate, Readdir, Sync, Statfs, Symlink, Readlink, Lstat}
 use Rattle.tree.specs.Tree.{Tree, target_of, most_sessions}
 use Rattle.tree.specs.Refusals.{◌>>=◌, or_refuse, refuse_if}
 use Rattle.tree.specs.Answers.{Answer, refused, some_bytes, node_is, names_are, Effect}
@@ -51,14 +52,16 @@ stat_leaves t user path =
 -- lstat leaves the tree
 lstat_leaves : (t : Tree) (user : User) (path : List ℕ) → Leaves t (lstat t user path)
 lstat_leaves t user path =
-    bound t (read_path path) (λ parts. walk_to_last t user parts >>= λ n. node_at t n >>= λ node. Ok (node_is (attributes_of n node), t)) (λ parts.
+    bound t (read_path path) (λ parts. walk_to_last t user parts >>= λ n. node_at t n >>= λ node. Ok (node_is (attributes_of n node), t))
+    (λ parts.
     bound t (walk_to_last t user parts) (λ n. node_at t n >>= λ node. Ok (node_is (attributes_of n node), t)) (λ n.
     bound t (node_at t n) (λ node. Ok (node_is (attributes_of n node), t)) (λ node. answered t _)))
 
 -- readlink leaves the tree
 readlink_leaves : (t : Tree) (user : User) (path : List ℕ) → Leaves t (readlink t user path)
 readlink_leaves t user path =
-    bound t (read_path path) (λ parts. walk_to_last t user parts >>= λ n. or_refuse (target_of (t.nodes n)) EINVAL >>= λ target. Ok (some_bytes target, t)) (λ parts.
+    bound t (read_path path) (λ parts. walk_to_last t user parts >>= λ n. or_refuse (target_of (t.nodes n)) EINVAL
+    >>= λ target. Ok (some_bytes target, t)) (λ parts.
     bound t (walk_to_last t user parts) (λ n. or_refuse (target_of (t.nodes n)) EINVAL >>= λ target. Ok (some_bytes target, t)) (λ n.
     bound t (or_refuse (target_of (t.nodes n)) EINVAL) (λ target. Ok (some_bytes target, t)) (λ target. answered t _)))
 
@@ -87,8 +90,11 @@ looks_leave g t who now (Fstat fd) h = (bound t (session_refused who) (λ _. eff
 looks_leave g t who now (Readdir fd) h = (bound t (session_refused who) (λ _. effect_in_session g t who now (Readdir fd)) (λ _. readdir_leaves t who.session fd)).same
 looks_leave g t who now Sync h = (bound t (session_refused who) (λ _. effect_in_session g t who now Sync) (λ _. answered t _)).same
 looks_leave g t who now Statfs h = (bound t (session_refused who) (λ _. effect_in_session g t who now Statfs) (λ _. answered t _)).same
-looks_leave g t who now (Readlink path) h = (bound t (session_refused who) (λ _. effect_in_session g t who now (Readlink path)) (λ _. readlink_leaves t (user_of who) path.now)).same
-looks_leave g t who now (Lstat path) h = (bound t (session_refused who) (λ _. effect_in_session g t who now (Lstat path)) (λ _. lstat_leaves t (user_of who) path.now)).same
+looks_leave g t who now (Readlink path) h =
+    (bound t (session_refused who) (λ _. effect_in_session g t who now (Readlink path))
+    (λ _. readlink_leaves t (user_of who) path.now)).same
+looks_leave g t who now (Lstat path) h =
+    (bound t (session_refused who) (λ _. effect_in_session g t who now (Lstat path)) (λ _. lstat_leaves t (user_of who) path.now)).same
 looks_leave g t who now (Symlink target path) h = absurd (false_not_true h)
 looks_leave g t who now (Open path flags mode) h = absurd (false_not_true h)
 looks_leave g t who now (Close fd) h = absurd (false_not_true h)

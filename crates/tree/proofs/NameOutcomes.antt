@@ -13,7 +13,8 @@ use Rattle.tree.specs.Changes.{with_ctime, more_links, fewer_links, new_node, em
 use Rattle.tree.specs.Answers.{done, if_it_fits}
 use Rattle.tree.specs.NameCalls.{with_entry, without_entry, is_empty, link, mkdir, rmdir}
 use Rattle.tree.proofs.Steps.{passed, was_there}
-use Rattle.tree.proofs.Outcomes.{Effects, IsClosed, with_zones, IsFree, NoInodeFree, at_free_inode, plain_refuse, plain_or, plain_node, plain_read, plain_walk_to_last, plain_parent_walk}
+use Rattle.tree.proofs.Outcomes.{Effects, IsClosed, with_zones, IsFree, NoInodeFree, at_free_inode, plain_refuse, plain_or, plain_node}
+use Rattle.tree.proofs.Outcomes.{plain_read, plain_walk_to_last, plain_parent_walk}
 
 -- the tree with a new directory
 abbrev pub with_new_directory : Tree → User → ℕ → ℕ → Place → ℕ → Tree

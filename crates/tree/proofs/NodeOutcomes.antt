@@ -15,7 +15,8 @@ use Rattle.tree.specs.Answers.{done, some_bytes, node_is}
 use Rattle.tree.specs.NodeCalls.{attributes_of, file_or, stat, lstat, readlink, chmod, chown, utime, truncate}
 use Rattle.tree.specs.NameCalls.{without_entry, with_name_lost, unlink}
 use Rattle.tree.proofs.Steps.{passed, was_there, not_refused, ok_is}
-use Rattle.tree.proofs.Outcomes.{Effects, IsClosed, is_enospc, is_plain, plain_refuse, plain_or, plain_node, plain_read, plain_walk, plain_walk_to_last, plain_parent_walk}
+use Rattle.tree.proofs.Outcomes.{Effects, IsClosed, is_enospc, is_plain, plain_refuse, plain_or, plain_node, plain_read, plain_walk}
+use Rattle.tree.proofs.Outcomes.{plain_walk_to_last, plain_parent_walk}
 
 -- The file that a node is.
 
@@ -72,7 +73,8 @@ module _ (t : Tree) (user : User) (now : ℕ) (P : Effects → Type 0) (steps : 
 
   pub readlink_each : (path : List ℕ) → ((target : List ℕ) → P (λ z. Ok (some_bytes target, t))) → P (λ z. readlink t user path)
   readlink_each path each = named_last path (λ n z. or_refuse (target_of (t.nodes n)) EINVAL >>= λ target. Ok (some_bytes target, t)) (λ n.
-      steps _ (or_refuse (target_of (t.nodes n)) EINVAL) (λ target z. Ok (some_bytes target, t)) (plain_or _ _ refl) (λ target _. each target))
+      steps _ (or_refuse (target_of (t.nodes n)) EINVAL) (λ target z. Ok (some_bytes target, t)) (plain_or _ _ refl)
+      (λ target _. each target))
 
   pub chmod_each : (path : List ℕ) (mode : ℕ)
       → (mode ≤ most_permissions → (n : ℕ) (node : Node) → t.nodes n ≡ Some node → P (λ z. Ok (done, with_node t n (Some (with_ctime now (record node { permissions = mode }))))))
@@ -94,7 +96,8 @@ module _ (t : Tree) (user : User) (now : ℕ) (P : Effects → Type 0) (steps : 
 
   -- A file that another size is set of.
   module _ (path : List ℕ) (size : ℕ) (set_size : ℕ → Node → File → Effects)
-      (each : (n : ℕ) (node : Node) (f : File) → size ≤ most_size → t.nodes n ≡ Some node → node.body ≡ is_file f → node.symbolic ≡ false → P (set_size n node f)) where
+      (each : (n : ℕ) (node : Node) (f : File) → size ≤ most_size → t.nodes n ≡ Some node → node.body ≡ is_file f → node.symbolic ≡ false
+      → P (set_size n node f)) where
     abbrev at_regular : ℕ → Node → File → Effects
     at_regular n node f z = refuse_if (not (may_access user node to_write)) EACCES >>= λ _. set_size n node f z
 

@@ -16,7 +16,8 @@ use Rattle.errno.specs.declared.Errno.{Errno}
 use Rattle.tree.proofs.Walks.{walk_ends_at_no_link}
 use Rattle.tree.specs.IsTree.{HasTarget, IsTree}
 use Rattle.tree.specs.Refusals.{◌>>=◌}
-use Rattle.tree.specs.Walk.{Place, Found, is_there, is_missing, found_at, finds_link, open_look_up, look_up, walk_parts, parent_walk, has_last_name}
+use Rattle.tree.specs.Walk.{Place, Found, is_there, is_missing, found_at, finds_link, open_look_up, look_up, walk_parts, parent_walk}
+use Rattle.tree.specs.Walk.{has_last_name}
 use Rattle.tree.specs.Changes.{new_node, empty_file, with_body, file_after_resize}
 use Rattle.tree.specs.Answers.{descriptor, if_it_fits}
 use Rattle.tree.specs.NameCalls.{with_entry}
@@ -80,13 +81,16 @@ abbrev after_look : (t : Tree) (user : User) (as_is : Bool) (parts : List Name) 
 after_look t user as_is parts x = if not as_is && finds_link t x then (walk_parts t user parts >>= λ n. Ok (is_there n)) else Ok x
 
 -- a look-up for open finds no name where the look-up finds none
-open_missing_at : (t : Tree) (user : User) (as_is : Bool) (parts : List Name) (place : Place) → open_look_up t user as_is parts ≡ Ok (is_missing place) → look_up t user parts ≡ Ok (is_missing place)
+open_missing_at : (t : Tree) (user : User) (as_is : Bool) (parts : List Name) (place : Place)
+    → open_look_up t user as_is parts ≡ Ok (is_missing place) → look_up t user parts ≡ Ok (is_missing place)
 open_missing_at t user as_is parts place h =
     let first = both_steps (look_up t user parts) (after_look t user as_is parts) (is_missing place) h in
     elim (cases_Bool (not as_is && finds_link t first.0)) [
       | inl followed ↦
-          let walked = both_steps (walk_parts t user parts) (λ n. Ok (is_there n)) (is_missing place) (sym (cond-true _ (walk_parts t user parts >>= λ n. Ok (is_there n)) (Ok first.0) followed) ∙ first.2) in
-          absurd (false_not_true (ap is_missing_place (ok_is (is_there walked.0) (is_missing place) (Ok (is_there walked.0)) refl walked.2)))
+          let walked = both_steps (walk_parts t user parts) (λ n. Ok (is_there n)) (is_missing place)
+          (sym (cond-true _ (walk_parts t user parts >>= λ n. Ok (is_there n)) (Ok first.0) followed) ∙ first.2) in
+          absurd (false_not_true
+          (ap is_missing_place (ok_is (is_there walked.0) (is_missing place) (Ok (is_there walked.0)) refl walked.2)))
       | inr stays ↦ first.1 ∙ sym (cond-false _ (walk_parts t user parts >>= λ n. Ok (is_there n)) (Ok first.0) stays) ∙ first.2
     ]
 
@@ -96,16 +100,19 @@ node_or x (is_there n) = n
 node_or x (is_missing place) = x
 
 -- where links are followed, what open finds is no link
-open_finds_no_link : (t : Tree) (user : User) (parts : List Name) (n : ℕ) → is_link_at t.nodes 1 ≡ false → open_look_up t user false parts ≡ Ok (is_there n) → is_link_at t.nodes n ≡ false
+open_finds_no_link : (t : Tree) (user : User) (parts : List Name) (n : ℕ) → is_link_at t.nodes 1 ≡ false
+    → open_look_up t user false parts ≡ Ok (is_there n) → is_link_at t.nodes n ≡ false
 open_finds_no_link t user parts n root h =
     let first = both_steps (look_up t user parts) (after_look t user false parts) (is_there n) h in
     elim (cases_Bool (finds_link t first.0)) [
       | inl followed ↦
-          let walked = both_steps (walk_parts t user parts) (λ m. Ok (is_there m)) (is_there n) (sym (cond-true _ (walk_parts t user parts >>= λ m. Ok (is_there m)) (Ok first.0) followed) ∙ first.2) in
+          let walked = both_steps (walk_parts t user parts) (λ m. Ok (is_there m)) (is_there n)
+          (sym (cond-true _ (walk_parts t user parts >>= λ m. Ok (is_there m)) (Ok first.0) followed) ∙ first.2) in
           let same : walked.0 ≡ n = ap (node_or 0) (ok_is (is_there walked.0) (is_there n) (Ok (is_there walked.0)) refl walked.2) in
           walk_ends_at_no_link t user parts n root (walked.1 ∙ ap Ok same)
       | inr stays ↦
-          let same : first.0 ≡ is_there n = ok_is first.0 (is_there n) (Ok first.0) refl (sym (cond-false _ (walk_parts t user parts >>= λ m. Ok (is_there m)) (Ok first.0) stays) ∙ first.2) in
+          let same : first.0 ≡ is_there n = ok_is first.0 (is_there n) (Ok first.0) refl
+          (sym (cond-false _ (walk_parts t user parts >>= λ m. Ok (is_there m)) (Ok first.0) stays) ∙ first.2) in
           sym (ap (finds_link t) same) ∙ stays
     ]
 
@@ -113,7 +120,8 @@ open_finds_no_link t user parts n root h =
 root_no_link : (g : Geometry) (t : Tree) → IsTree g t → is_link_at t.nodes 1 ≡ false
 root_no_link g t tree = by_node (t.nodes 1) refl
   where
-    by_body : (symbolic : Bool) (body : Body) → (IsTrue symbolic → HasTarget body) → (elim body [ is_file f ↦ false | is_directory d ↦ true ]) ≡ true → symbolic ≡ false
+    by_body : (symbolic : Bool) (body : Body) → (IsTrue symbolic → HasTarget body)
+        → (elim body [ is_file f ↦ false | is_directory d ↦ true ]) ≡ true → symbolic ≡ false
     by_body false body target is = refl
     by_body true (is_file f) target is = absurd (false_not_true is)
     by_body true (is_directory d) target is = absurd (target refl)
@@ -144,10 +152,12 @@ module _ (g : Geometry) (t : Tree) (user : User) (now session : ℕ) (path : Lis
   }
 
   -- a node that is opened is no link
-  no_link : (slot : Slot) (n : ℕ) (node : Node) → IsThere g t user now session path flags mode (Keeps g t) (keeps_closed g t tree) slot n node → node.symbolic ≡ false
+  no_link : (slot : Slot) (n : ℕ) (node : Node) → IsThere g t user now session path flags mode (Keeps g t)
+      (keeps_closed g t tree) slot n node → node.symbolic ≡ false
   no_link slot n node is_it =
       sym (ap (λ o. elim o [ None ↦ false | Some x ↦ x.symbolic ]) is_it.at_inode)
-      ∙ open_finds_no_link t user is_it.parts n (root_no_link g t tree) (subst (λ b. open_look_up t user b is_it.parts ≡ Ok (is_there n)) is_it.not_exclusive is_it.asked.looked)
+      ∙ open_finds_no_link t user is_it.parts n (root_no_link g t tree)
+      (subst (λ b. open_look_up t user b is_it.parts ≡ Ok (is_there n)) is_it.not_exclusive is_it.asked.looked)
 
   opened_there : (slot : Slot) (n : ℕ) (node : Node) → IsThere g t user now session path flags mode (Keeps g t) (keeps_closed g t tree) slot n node
       → IsTree g (with_open (after_truncate_flag g t now flags n node) slot n flags)

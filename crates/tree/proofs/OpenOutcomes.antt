@@ -16,7 +16,8 @@ use Rattle.tree.specs.NameCalls.{with_entry}
 use Rattle.tree.specs.FileCalls.{Slot, with_open, after_truncate_flag, open_found, open_path}
 use Rattle.tree.proofs.Search.{free_place_is}
 use Rattle.tree.proofs.Steps.{passed, was_there}
-use Rattle.tree.proofs.Outcomes.{Effects, IsClosed, with_zones, IsFree, NoInodeFree, at_free_inode, plain_refuse, plain_free_place, plain_node, plain_read, plain_open_look_up}
+use Rattle.tree.proofs.Outcomes.{Effects, IsClosed, with_zones, IsFree, NoInodeFree, at_free_inode, plain_refuse, plain_free_place}
+use Rattle.tree.proofs.Outcomes.{plain_node, plain_read, plain_open_look_up}
 
 -- the tree with a new file, open
 abbrev pub with_new_file : Tree → User → ℕ → ℕ → ℕ → Slot → Place → ℕ → Tree
@@ -80,7 +81,14 @@ module _ (g : Geometry) (t : Tree) (user : User) (now session : ℕ) (path : Lis
         steps _ (node_at t n) (at_node slot n) (plain_node t n) (λ node node_is.
         steps _ (refuse_if (is_dir node && writes flags) EISDIR) (λ _. may_open slot n node) (plain_refuse _ _ refl) (λ x file.
         steps _ (refuse_if ((reads flags && not (may_access user node to_read)) || (writes flags && not (may_access user node to_write))) EACCES) (λ _. open_node slot n node) (plain_refuse _ _ refl) (λ _ _.
-        there slot n node (record { parts = parts; asked = asked; at_inode = was_there _ _ _ node_is; not_exclusive = passed _ _ y shared; not_a_directory = passed _ _ x file })))))
+        there slot n node
+        (record {
+          parts = parts;
+          asked = asked;
+          at_inode = was_there _ _ _ node_is;
+          not_exclusive = passed _ _ y shared;
+          not_a_directory = passed _ _ x file;
+        })))))
     found_each slot parts (is_missing place) asked =
         steps _ (refuse_if (not (creates flags)) ENOENT) (λ _. from_place slot place) (plain_refuse _ _ refl) (λ _ _.
         steps _ (node_at t place.directory) (at_parent slot place) (plain_node t place.directory) (λ parent _.
@@ -111,7 +119,8 @@ module _ (g : Geometry) (t : Tree) (user : User) (now session : ℕ) (path : Lis
         steps _ (free_place (t.descriptors session) most_descriptors EMFILE) at_descriptor (plain_free_place _ _ _ refl) (λ fd free_fd.
         steps _ (free_place t.open_files most_open_files ENFILE) (at_slot fd) (plain_free_place _ _ _ refl) (λ k free_k.
         steps _ (read_path path) (at_parts fd k) (plain_read path) (λ parts read.
-        steps _ (open_look_up t user (creates flags && is_exclusive flags) parts) (at_found fd k) (plain_open_look_up t user (creates flags && is_exclusive flags) parts) (λ found looked.
+        steps _ (open_look_up t user (creates flags && is_exclusive flags) parts) (at_found fd k)
+        (plain_open_look_up t user (creates flags && is_exclusive flags) parts) (λ found looked.
         let flags_and_mode = or_parts (bad_flags flags) (nat_lt most_permissions mode) (passed _ _ x good) in
         found_each (slot_at fd k) parts found (record {
           good = flags_and_mode.0;

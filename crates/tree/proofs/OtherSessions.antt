@@ -6,7 +6,8 @@ use Rattle.layout.specs.declared.Geometry.{Geometry}
 use Rattle.errno.specs.declared.Errno.TheVariants.{EINVAL, ENOSPC}
 use Rattle.tree.specs.declared.Who.{Who}
 use Rattle.tree.specs.declared.Call.{Call}
-use Rattle.tree.specs.declared.Call.TheVariants.{Open, Close, Dup, Read, Write, Seek, Stat, Fstat, Link, Unlink, Mkdir, Rmdir, Rename, Chmod, Chown, Utime, Truncate, Readdir, Sync, Statfs, Symlink, Readlink, Lstat}
+use Rattle.tree.specs.declared.Call.TheVariants.{Open, Close, Dup, Read, Write, Seek, Stat, Fstat, Link, Unlink, Mkdir, Rmdir, Rename}
+use Rattle.tree.specs.declared.Call.TheVariants.{Chmod, Chown, Utime, Truncate, Readdir, Sync, Statfs, Symlink, Readlink, Lstat}
 use Rattle.tree.specs.Tree.{Node, Tree, is_dir, is_open, has_descriptor, with_node, on_node, with_open_file, with_descriptor, most_sessions}
 use Rattle.tree.specs.Space.{zones_used, data_zones}
 use Rattle.tree.specs.Refusals.{refuse_if}
@@ -88,7 +89,8 @@ module _ (g : Geometry) (t : Tree) (who : Who) (now : ℕ) (s : ℕ) (other : s 
   call_stays (Close fd) = close_each t who.session Stays closed fd (λ found _. less_stays fd found.0 found.1.inode)
   call_stays (Dup fd) = dup_each t who.session Stays closed fd (λ found new _ _. λ i f. other_session t who.session new (Some found.0) s f other i)
   call_stays (Read fd count) = read_each t who.session Stays closed fd count (λ found node f _. refl)
-  call_stays (Write fd bytes) = write_each t who.session Stays closed g now fd bytes.now (λ found node f _ _. refl) (λ found node f _ _ _ _. fit_stays _ _ refl)
+  call_stays (Write fd bytes) = write_each t who.session Stays closed g now fd bytes.now (λ found node f _ _. refl)
+      (λ found node f _ _ _ _. fit_stays _ _ refl)
   call_stays (Seek fd whence offset) = seek_each t who.session Stays closed fd whence offset (λ found node f at _ _ _. refl)
   call_stays (Stat path) = stat_each t (user_of who) now Stays closed path.now (λ n node _. refl)
   call_stays (Fstat fd) = fstat_each t who.session Stays closed fd (λ found node. refl)

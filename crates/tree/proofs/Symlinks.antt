@@ -14,7 +14,8 @@ use Rattle.tree.specs.Changes.{new_link, free_inode}
 use Rattle.tree.specs.Answers.{done, if_it_fits}
 use Rattle.tree.specs.NameCalls.{with_entry, symlink}
 use Rattle.tree.proofs.Steps.{passed}
-use Rattle.tree.proofs.Outcomes.{Effects, IsClosed, with_zones, IsFree, NoInodeFree, at_free_inode, plain_refuse, plain_node, plain_read, plain_parent_walk}
+use Rattle.tree.proofs.Outcomes.{Effects, IsClosed, with_zones, IsFree, NoInodeFree, at_free_inode, plain_refuse, plain_node, plain_read}
+use Rattle.tree.proofs.Outcomes.{plain_parent_walk}
 
 -- the tree with a new link
 abbrev pub with_new_link : Tree → User → ℕ → List ℕ → Place → ℕ → Tree
@@ -84,7 +85,8 @@ module _ (g : Geometry) (t : Tree) (user : User) (now : ℕ) (P : Effects → Ty
         })))))))))
 
   pub symlink_each : (target path : List ℕ) → (NoInodeFree g t → P (λ z. Err ENOSPC))
-      → ((n : ℕ) (place : Place) → IsSymlinkMade target path n place → P (λ z. if_it_fits (with_zones z g) done (with_new_link t user now target place n)))
+      → ((n : ℕ) (place : Place) → IsSymlinkMade target path n place → P
+      (λ z. if_it_fits (with_zones z g) done (with_new_link t user now target place n)))
       → P (λ z. symlink (with_zones z g) t user now target path)
   symlink_each target path full made =
       symlink_up_to_inode (λ z. with_zones z g) target path (λ place asked.

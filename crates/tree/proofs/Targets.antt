@@ -1,10 +1,13 @@
 -- The bytes of symbolic links.
-use Rattle.std.proofs.Common.{◌≡◌, ◌≢◌, ◌<◌, ◌≤◌, ◌+◌, ◌-◌, ◌*◌, ◌/◌, ◌^◌, ℕ, zero, suc, List, Bool, length, true, false, refl, sym, ap, subst, ◌∙◌, arith}
+use Rattle.std.proofs.Common.{◌≡◌, ◌≢◌, ◌<◌, ◌≤◌, ◌+◌, ◌-◌, ◌*◌, ◌/◌, ◌^◌, ℕ, zero, suc, List, length, false, refl, sym, ap}
+use Rattle.std.proofs.Common.{subst, ◌∙◌, arith}
 use mathlib.Core.Logic.{inl, inr}
-use Rattle.std.specs.Prelude.{Option, Some, ◌==◌, ◌&&◌, ◌||◌, not, nat_lt, nat_le, slice_index, IsTrue, if◌then◌else◌}
+use Rattle.std.specs.Prelude.{Some, ◌==◌, ◌&&◌, not, nat_lt, nat_le, slice_index}
 use Rattle.std.specs.List.{All, list_any}
 use Rattle.std.proofs.Math.Nat.{le-div_iff_mul-le}
-use Rattle.std.proofs.lemmas.Bool.{eqb-true, eqb-false, eq-eqb, ne_eqb, cases_eq, cases_lt, cases_Bool, cond-true, cond-false, cond_both, leb-true, le-leb, lt-ltb, ltb-true, or_cases, or_left, or_right, and_from, and_parts, not-true, not_from_false}
+use Rattle.std.proofs.lemmas.Bool.{eqb-true, eqb-false, eq-eqb, ne_eqb, cases_eq, cases_lt, cases_Bool, cond-true, cond_both}
+use Rattle.std.proofs.lemmas.Bool.{leb-true, le-leb, lt-ltb, ltb-true, or_cases, or_left, or_right, and_from, and_parts, not-true}
+use Rattle.std.proofs.lemmas.Bool.{not_from_false}
 use Rattle.std.proofs.lemmas.List.Folds.{list_any_at}
 use Rattle.std.proofs.lemmas.List.Elements.{All-get_or}
 use Rattle.std.proofs.lemmas.List.{get_or_past}
@@ -12,8 +15,8 @@ use Rattle.layout.specs.declared.Geometry.{Geometry}
 use Rattle.layout.specs.Places.{IsGeometry}
 use Rattle.layout.proofs.Parsed.{block_sizes}
 use Rattle.tree.specs.declared.User.{User}
-use Rattle.tree.specs.Tree.{Body, File, is_file, is_directory, Node, Tree, bytes_from, all_bytes, target_of, most_size, most_target}
-use Rattle.tree.specs.IsTree.{IsFile, IsBody, IsTarget, HasTarget, IsNode, IsTree}
+use Rattle.tree.specs.Tree.{Body, File, is_file, is_directory, bytes_from, most_target}
+use Rattle.tree.specs.IsTree.{IsFile, IsBody, IsTarget, HasTarget, IsNode}
 use Rattle.tree.specs.Changes.{no_bytes, target_file, new_link, file_after_write}
 use Rattle.lemmas.proofs.Bools.{false_not_true}
 use Rattle.tree.specs.Links.{LinkHasTarget, TargetIsWritten, LinkIsItsTarget}
@@ -74,7 +77,8 @@ module _ (target : List ℕ) (some : (length target == 0) ≡ false) (few : leng
 
   -- and the new link fits
   pub link_fits : (g : Geometry) → IsGeometry g → All (λ b. b < 256) target → list_any (λ c. c == 0) target ≡ false
-      → (user : User) (now : ℕ) → user.uid < 2 ^ 16 → user.gid < 2 ^ 16 → now < 2 ^ 32 → IsNode g (record (new_link now user target) { links = 0 })
+      → (user : User) (now : ℕ) → user.uid < 2 ^ 16 → user.gid < 2 ^ 16 → now < 2 ^ 32
+      → IsNode g (record (new_link now user target) { links = 0 })
   link_fits g is bytes clean user now uid gid small = record {
     permissions = omega arith;
     links = omega arith;
@@ -89,7 +93,8 @@ module _ (target : List ℕ) (some : (length target == 0) ≡ false) (few : leng
 
 -- a new link has its target
 pub link_has_target : LinkHasTarget
-link_has_target now user target = ap Some (bytes_are target (slice_index target) 0 (λ j l. let e : 0 + j ≡ j = omega arith in ap (slice_index target) e))
+link_has_target now user target =
+    ap Some (bytes_are target (slice_index target) 0 (λ j l. let e : 0 + j ≡ j = omega arith in ap (slice_index target) e))
 
 -- a target is what is written into an empty file
 pub target_is_written : TargetIsWritten
@@ -99,17 +104,20 @@ target_is_written g target is some few = λ i. record { size = size i; byte = λ
     new = file_after_write g no_bytes 0 target
 
     size : new.size ≡ length target
-    size = cond-true (nat_lt 0 (0 + length target)) (0 + length target) 0 (lt-ltb 0 (0 + length target) (omega (arith, some))) ∙ (let e : 0 + length target ≡ length target = omega arith in e)
+    size = cond-true (nat_lt 0 (0 + length target)) (0 + length target) 0 (lt-ltb 0 (0 + length target) (omega (arith, some)))
+        ∙ (let e : 0 + length target ≡ length target = omega arith in e)
 
     byte : (p : ℕ) → new.byte p ≡ slice_index target p
     byte p = elim (cases_lt p (length target)) [
       | inl l ↦
           let same : p - 0 ≡ p = omega arith in
           cond-true (nat_le 0 p && nat_lt p (0 + length target)) (slice_index target (p - 0)) 0
-          (and_from (nat_le 0 p) (nat_lt p (0 + length target)) (le-leb 0 p (omega arith)) (lt-ltb p (0 + length target) (omega (arith, l)))) ∙ ap (slice_index target) same
+          (and_from (nat_le 0 p) (nat_lt p (0 + length target)) (le-leb 0 p (omega arith))
+          (lt-ltb p (0 + length target) (omega (arith, l)))) ∙ ap (slice_index target) same
       | inr l ↦
           let same : p - 0 ≡ p = omega arith in
-          cond_both (nat_le 0 p && nat_lt p (0 + length target)) (slice_index target (p - 0)) 0 (λ b. b ≡ slice_index target p) (λ _. ap (slice_index target) same)
+          cond_both (nat_le 0 p && nat_lt p (0 + length target)) (slice_index target (p - 0)) 0 (λ b. b ≡ slice_index target p)
+          (λ _. ap (slice_index target) same)
           (λ _. sym (get_or_past target p 0 l))
     ]
 
@@ -125,7 +133,8 @@ target_is_written g target is some few = λ i. record { size = size i; byte = λ
           let all = wide g is in
           elim (cases_Bool (new.held q)) [
             | inl h ↦
-                let low = ltb-true (q * g.block_size) (0 + length target) (and_parts (nat_lt (q * g.block_size) (0 + length target)) (nat_lt 0 ((q + 1) * g.block_size)) h).0 in
+                let low = ltb-true (q * g.block_size) (0 + length target)
+                (and_parts (nat_lt (q * g.block_size) (0 + length target)) (nat_lt 0 ((q + 1) * g.block_size)) h).0 in
                 absurd (omega (arith, far, all, few, low))
             | inr h ↦ h ∙ sym (ne_eqb q 0 d)
           ]
@@ -135,7 +144,8 @@ target_is_written g target is some few = λ i. record { size = size i; byte = λ
 byte_from : (byte : ℕ → ℕ) (at k p : ℕ) → p < k → slice_index (bytes_from byte at k) p ≡ byte (at + p)
 byte_from byte at zero p l = absurd (omega (arith, l))
 byte_from byte at (suc k) zero l = (let e : at ≡ at + 0 = omega arith in ap byte e)
-byte_from byte at (suc k) (suc p) l = byte_from byte (suc at) k p (omega (arith, l)) ∙ (let e : suc at + p ≡ at + suc p = omega arith in ap byte e)
+byte_from byte at (suc k) (suc p) l = byte_from byte (suc at) k p (omega (arith, l))
+    ∙ (let e : suc at + p ≡ at + suc p = omega arith in ap byte e)
 
 -- bytes that are a target are those of a list
 module _ (g : Geometry) (is : IsGeometry g) (f : File) (fits : IsFile g f) (target : IsTarget f) where
@@ -178,12 +188,18 @@ module _ (g : Geometry) (is : IsGeometry g) (f : File) (fits : IsFile g f) (targ
 
 -- a link is its target
 pub link_is_its_target : LinkIsItsTarget
-link_is_its_target g t n node is tree there symbolic = by_body node.body (tree.nodes.each n node there).body ((tree.nodes.each n node there).target symbolic)
+link_is_its_target g t n node is tree there symbolic = by_body node.body (tree.nodes.each n node there).body
+    ((tree.nodes.each n node there).target symbolic)
   where
-    by_body : (body : Body) → IsBody g body → HasTarget body → (target : List ℕ) × ((1 ≤ length target) × (length target ≤ most_target) × ((p : ℕ) → p < length target → slice_index target p ≢ 0)) × (body ≡ is_file (target_file target))
+    by_body : (body : Body) → IsBody g body → HasTarget body → (target : List ℕ)
+        × ((1 ≤ length target) × (length target ≤ most_target) × ((p : ℕ) → p < length target → slice_index target p ≢ 0))
+        × (body ≡ is_file (target_file target))
     by_body (is_file f) fits target =
         let as_long = long g is f fits target in
         let some = target.some in
-        let few = target.few in
-        (bytes g is f fits target, (omega (arith, as_long, some), omega (arith, as_long, few), not_zero g is f fits target), ap is_file (same_file g is f fits target))
+        let few = target.few in (
+          bytes g is f fits target,
+          (omega (arith, as_long, some), omega (arith, as_long, few), not_zero g is f fits target),
+          ap is_file (same_file g is f fits target),
+        )
     by_body (is_directory d) fits target = absurd target

@@ -1,5 +1,5 @@
 -- Calls on open files. Each line of a do block is one refusal, in their order.
-use Rattle.std.specs.Prelude.{ℕ, zero, suc, ℤ, pos, negsuc, ◌+◌, ◌-◌, List, [], ◌∷◌, length, not, ◌&&◌, ◌||◌, ◌==◌, nat_lt, Option, None, Some, Result, Ok, Err, if◌then◌else◌}
+use Rattle.std.specs.Prelude.{ℕ, ℤ, pos, negsuc, ◌+◌, ◌-◌, List, length, not, ◌&&◌, ◌||◌, ◌==◌, nat_lt, Option, None, Some, Result, Ok, Err, if◌then◌else◌}
 use Rattle.layout.specs.declared.Geometry.{Geometry}
 use Rattle.errno.specs.declared.Errno.{Errno}
 use Rattle.errno.specs.declared.Errno.TheVariants.{ENOENT, EBADF, EACCES, EEXIST, ENOTDIR, EISDIR, EINVAL, ENFILE, EMFILE, EFBIG}

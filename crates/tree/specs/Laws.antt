@@ -77,9 +77,11 @@ steps_from t user here (part ∷ parts) = do
 -- where no node is a link, a walk is that
 abbrev pub WalkWithoutLinks : Type 0
 WalkWithoutLinks =
-    (t : Tree) (user : User) (parts : List Name) → ((n : ℕ) → is_link_at t.nodes n ≡ false) → walk_parts t user parts ≡ steps_from t user 1 parts
+    (t : Tree) (user : User) (parts : List Name) → ((n : ℕ) → is_link_at t.nodes n ≡ false)
+    → walk_parts t user parts ≡ steps_from t user 1 parts
 
 -- a walk ends at no link, where the root is none
 abbrev pub WalkEndsAtNoLink : Type 0
 WalkEndsAtNoLink =
-    (t : Tree) (user : User) (parts : List Name) (n : ℕ) → is_link_at t.nodes 1 ≡ false → walk_parts t user parts ≡ Ok n → is_link_at t.nodes n ≡ false
+    (t : Tree) (user : User) (parts : List Name) (n : ℕ) → is_link_at t.nodes 1 ≡ false → walk_parts t user parts ≡ Ok n
+    → is_link_at t.nodes n ≡ false

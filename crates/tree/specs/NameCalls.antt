@@ -2,7 +2,8 @@
 use Rattle.std.specs.Prelude.{ℕ, ◌+◌, List, length, Bool, false, not, ◌&&◌, ◌||◌, ◌==◌, nat_lt, nat_le, None, Some, Option, Result, Ok, if◌then◌else◌}
 use Rattle.layout.specs.declared.Geometry.{Geometry}
 use Rattle.errno.specs.declared.Errno.{Errno}
-use Rattle.errno.specs.declared.Errno.TheVariants.{EPERM, ENOENT, EACCES, EBUSY, EEXIST, ENOTDIR, EISDIR, EINVAL, EMLINK, ENAMETOOLONG, ENOTEMPTY}
+use Rattle.errno.specs.declared.Errno.TheVariants.{EPERM, ENOENT, EACCES, EBUSY, EEXIST, ENOTDIR, EISDIR, EINVAL, EMLINK, ENAMETOOLONG}
+use Rattle.errno.specs.declared.Errno.TheVariants.{ENOTEMPTY}
 use Rattle.std.specs.List.{list_any}
 use Rattle.tree.specs.declared.User.{User}
 use Rattle.tree.specs.Sums.{one_if, some_below}
@@ -11,7 +12,8 @@ use Rattle.tree.specs.Tree.{Node, Tree, names_of, is_dir, is_open, with_node, on
 use Rattle.tree.specs.IsTree.{above}
 use Rattle.tree.specs.Refusals.{◌>>=◌, or_refuse, refuse_if}
 use Rattle.tree.specs.Walk.{read_path, walk_to_last, parent_walk, node_at, has_last_name, is_taken, Place, may_access, to_write}
-use Rattle.tree.specs.Changes.{with_ctime, with_names, with_parent, more_links, fewer_links, with_link_lost, new_node, new_link, empty_directory, free_inode, without_nameless}
+use Rattle.tree.specs.Changes.{with_ctime, with_names, with_parent, more_links, fewer_links, with_link_lost, new_node, new_link}
+use Rattle.tree.specs.Changes.{empty_directory, free_inode, without_nameless}
 use Rattle.tree.specs.Answers.{done, Effect, if_it_fits}
 
 -- the tree in which the place's name leads to node n

@@ -4,7 +4,8 @@ ghost use Rattle.std.specs.Prelude.{◌≡◌};
 ghost use Rattle.tree.specs.IsCall.{IsBytes, IsCall, IsCaller};
 ghost use Rattle.tree.specs.Laws.{FreshIsTree, HeldPagesFit, LooksLeave, PagesFit, RefusedLeaves, WalkEndsAtNoLink, WalkWithoutLinks};
 ghost use Rattle.tree.specs.Names.{most_name};
-ghost use Rattle.tree.specs.Tree.{most_bytes, most_descriptors, most_links, most_open_files, most_permissions, most_sessions, most_size, most_target};
+ghost use Rattle.tree.specs.Tree.{most_bytes, most_descriptors, most_links, most_open_files, most_permissions, most_sessions, most_size};
+ghost use Rattle.tree.specs.Tree.{most_target};
 ghost use Rattle.tree.specs.Walk.{most_path};
 ghost use Rattle.tree.specs.ZonesNeededByPlace.{ZonesNeededIsByPlace};
 

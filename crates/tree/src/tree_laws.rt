@@ -2,7 +2,8 @@
 //! clients may rest on from call to call. Each law is the contract of a function that does nothing.
 
 ghost use Rattle.tree.specs.Keeps.{ChmodKeeps, ChownKeeps, UtimeKeeps, SeekKeeps, ReadKeeps, DupKeeps, CloseKeeps, WriteKeeps};
-ghost use Rattle.tree.specs.Keeps.{TruncateKeeps, UnlinkKeeps, LinkKeeps, MkdirKeeps, RmdirKeeps, OpenKeeps, RenameKeeps, SymlinkKeeps, EveryCallKeeps};
+ghost use Rattle.tree.specs.Keeps.{TruncateKeeps, UnlinkKeeps, LinkKeeps, MkdirKeeps, RmdirKeeps, OpenKeeps, RenameKeeps, SymlinkKeeps};
+ghost use Rattle.tree.specs.Keeps.{EveryCallKeeps};
 ghost use Rattle.tree.specs.Room.{EveryCallFits, TooBigIsRefused, FullIsRefused, EnospcMeans, FullMakesNone, OthersHaveRoom};
 ghost use Rattle.tree.specs.Sessions.{OtherSessionsStay, RenameOfSameStays, ReaddirLists, ReadGivesWritten};
 ghost use Rattle.tree.specs.Links.{LinkHasTarget, TargetIsWritten, LinkIsItsTarget};

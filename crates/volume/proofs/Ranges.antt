@@ -71,7 +71,9 @@ module _ (g : Geometry) (v : Pieces) where
       and_false_right (is_data_zone g z) (p z) (none_below (λ k. is_data_zone g k && p k) (place_limit g) none z (omega (arith, low.1))) is
 
   -- one that no link meets
-  pub at_link : (p : ℕ → Bool) (n : ℕ) → some_below (λ k. is_link_inode g v k && p k) (place_limit g) ≡ false → is_link_inode g v n ≡ true → p n ≡ false
+  pub at_link : (p : ℕ → Bool) (n : ℕ) → some_below (λ k. is_link_inode g v k && p k) (place_limit g) ≡ false → is_link_inode g v n ≡ true
+      → p n ≡ false
   at_link p n none is =
       let low = marked_low n (and_parts (is_marked g v n) (is_link_mode (v.inodes n).mode) is).0 in
-      and_false_right (is_link_inode g v n) (p n) (none_below (λ k. is_link_inode g v k && p k) (place_limit g) none n (omega (arith, low.1))) is
+      and_false_right (is_link_inode g v n) (p n) (none_below (λ k. is_link_inode g v k && p k) (place_limit g) none n
+      (omega (arith, low.1))) is

@@ -7,10 +7,12 @@ use Rattle.layout.specs.declared.Geometry.{Geometry}
 use Rattle.tree.specs.Sums.{one_if, some_below}
 use Rattle.tree.specs.Names.{is_name}
 use Rattle.tree.specs.Tree.{Node, Tree, is_file, is_directory, is_dir, names_of, most_links, most_target}
-use Rattle.tree.specs.IsTree.{IsBody, HasTarget, IsDirectory, IsNode, IsPlaced, NodesAgree, OpenFilesAgree, IsTree, IsClosed, links_due, subdirectories}
+use Rattle.tree.specs.IsTree.{IsBody, HasTarget, IsDirectory, IsNode, IsPlaced, NodesAgree, OpenFilesAgree, IsTree, IsClosed, links_due}
+use Rattle.tree.specs.IsTree.{subdirectories}
 use Rattle.tree.proofs.Maps.{not_nothing}
 use Rattle.volume.specs.Pieces.{Pieces}
-use Rattle.volume.specs.Nodes.{is_marked, node_of, directory_of, file_of, file_byte, body_of, page_zone, type_in, is_directory_mode, is_link_mode}
+use Rattle.volume.specs.Nodes.{is_marked, node_of, directory_of, file_of, file_byte, body_of, page_zone, type_in, is_directory_mode}
+use Rattle.volume.specs.Nodes.{is_link_mode}
 use Rattle.volume.specs.Entries.{is_directory_inode, entry_count, name_at, target_at, is_padded}
 use Rattle.volume.specs.Findings.{names_in_of, all_names_of, is_reached, is_parent, links_of, is_bad_link_size}
 use Rattle.volume.specs.Holds.{IsSound, HoldsNodes}
@@ -154,12 +156,15 @@ module _ (g : Geometry) (v : Pieces) (ok : IsVolume g v) (bytes : IsOfBytes v) (
       let hole = page_zone g v i 0 == 0 in
       let zero = some_below (λ p. file_byte g v i p == 0) i.size in
       let none : (size || hole || zero) ≡ false
-      = at_link g v (λ n. is_bad_link_size g v (v.inodes n).size || (page_zone g v (v.inodes n) 0 == 0) || some_below (λ p. file_byte g v (v.inodes n) p == 0) (v.inodes n).size) n q.link_targets
+      = at_link g v (λ n. is_bad_link_size g v (v.inodes n).size || (page_zone g v (v.inodes n) 0 == 0)
+      || some_below (λ p. file_byte g v (v.inodes n) p == 0) (v.inodes n).size) n q.link_targets
       (ap (λ b. b && is_link_mode i.mode) is ∙ link) in
       let a = or_parts (size || hole) zero none in
       let b = or_parts (i.size == 0) (nat_lt most_target i.size) (or_parts size hole a.0).0 in
-      let no_directory : is_directory_mode i.mode ≡ false = ne_eqb (type_in i.mode) 4 (λ four. let ten = eqb-true (type_in i.mode) 10 link in absurd (omega (arith, four, ten))) in
-      subst HasTarget (sym (cond-false (is_directory_mode i.mode) (is_directory (directory_of g v i)) (is_file (file_of g v i)) no_directory)) (record {
+      let no_directory : is_directory_mode i.mode ≡ false = ne_eqb (type_in i.mode) 4
+      (λ four. let ten = eqb-true (type_in i.mode) 10 link in absurd (omega (arith, four, ten))) in
+      subst HasTarget
+      (sym (cond-false (is_directory_mode i.mode) (is_directory (directory_of g v i)) (is_file (file_of g v i)) no_directory)) (record {
         some = let some = eqb-false i.size 0 b.0 in omega (arith, some);
         few = ltb-false most_target i.size b.1;
         bytes = λ p low. eqb-false (file_byte g v i p) 0 (none_below (λ p. file_byte g v i p == 0) i.size a.1 p low);

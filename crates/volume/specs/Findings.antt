@@ -137,4 +137,5 @@ module _ (g : Geometry) (v : Pieces) where
   -- 17, at a symbolic link: its target has no byte or too many, page 0 has no zone, or a byte of the target is zero
   abbrev pub has_bad_link : ℕ → Bool
   has_bad_link n = is_link_inode g v n
-      && (is_bad_link_size (v.inodes n).size || (page_zone g v (v.inodes n) 0 == 0) || some_below (λ p. file_byte g v (v.inodes n) p == 0) (v.inodes n).size)
+      && (is_bad_link_size (v.inodes n).size || (page_zone g v (v.inodes n) 0 == 0)
+      || some_below (λ p. file_byte g v (v.inodes n) p == 0) (v.inodes n).size)

@@ -1,5 +1,5 @@
-use Rattle.std.proofs.Common.{◌≡◌, ◌-◌, ℕ, suc, true, false, sym, ap, subst, ◌∙◌, arith, Some, None, take, inl, inr, List}
-use Rattle.std.specs.Prelude.{Ok, Err, Option, IsTrue, is_some}
+use Rattle.std.proofs.Common.{◌≡◌, ◌-◌, ℕ, suc, sym, subst, arith, take, inl, inr, List}
+use Rattle.std.specs.Prelude.{Ok, Option, IsTrue, is_some}
 use Rattle.std.proofs.lemmas.Bool.{cases_eq, cond_both}
 use Rattle.store.proofs.Turns.{reads_as, reads_none, reads_then}
 use Rattle.tree.specs.Tree.{Tree}
@@ -20,7 +20,7 @@ pub follow-returns-in_err-there-clause-reads : goal.follow-returns-in_err-there-
 follow-returns-in_err-there-clause-reads g t c =
     let a = c.args in
     reads_as _ _ _ _ _ (λ d p u holds there. answers_exit _ _ _ _ c.from_residual.ensures.1
-        (λ e is. refused_here u a.user a.at a.part.now e is) (p u holds there)) c.in_err-there.ensures.reads
+    (λ e is. refused_here u a.user a.at a.part.now e is) (p u holds there)) c.in_err-there.ensures.reads
 
 pub follow-returns-in_err-count-clause-reads : goal.follow-returns-in_err-count-clause-reads
 follow-returns-in_err-count-clause-reads g t c =
@@ -114,4 +114,4 @@ lead-loop-part-init g t c = record {
 pub lead-returns-clause-reads : goal.lead-returns-clause-reads
 lead-returns-clause-reads g t c =
     reads_as _ _ _ _ _ (λ d p u holds there. arrived u c.args.user c.args.first c.loop-part.at c.args.parts _ c.in_default.ensures.none
-        (p u holds there)) c.loop-part.invariant.reads
+    (p u holds there)) c.loop-part.invariant.reads

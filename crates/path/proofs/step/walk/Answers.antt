@@ -1,4 +1,3 @@
-use Rattle.tree.specs.Refusals.{◌>>=◌}
 use Rattle.std.specs.Prelude.{Ok, Err}
 use Rattle.store.proofs.Turns.{reads_as}
 use Rattle.path.proofs.Ending.{answers_exit}
@@ -16,4 +15,4 @@ returns-in_err-end-clause-reads g c =
 pub returns-clause-reads : goal.returns-clause-reads
 returns-clause-reads g c =
     reads_as _ _ _ _ _ (λ d p t holds. is_walk t c.args.user _ (Ok c.in_ok-end.end)
-        (p t holds (dir_is_there (t.nodes 1) holds.tree.nodes.root))) c.in_ok-end.ensures.reads
+    (p t holds (dir_is_there (t.nodes 1) holds.tree.nodes.root))) c.in_ok-end.ensures.reads
