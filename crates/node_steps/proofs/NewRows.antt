@@ -1,7 +1,7 @@
 -- The first page of a directory is written: it is in order, and has no names.
 use Rattle.std.proofs.Common.{◌≡◌, ◌≢◌, ◌<◌, ◌≤◌, ◌+◌, ◌*◌, ◌-◌, ◌/◌, ℕ, true, false, List, length, refl, sym, ap, subst, ◌∙◌, arith}
 use mathlib.Core.Logic.{inl, inr}
-use Rattle.std.specs.Prelude.{◌&&◌, ◌==◌, nat_le, nat_lt, IsTrue, Some, slice_index, []}
+use Rattle.std.specs.Prelude.{◌&&◌, nat_le, nat_lt, IsTrue, Some, slice_index, []}
 use Rattle.std.proofs.lemmas.Bool.{and_from, cases_eq, cases_lt, cond-false, cond-true, le-leb, le-ltb, lt-ltb}
 use Rattle.lemmas.proofs.Numbers.{not_zero}
 use Rattle.layout.specs.declared.Geometry.{Geometry}
