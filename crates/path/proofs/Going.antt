@@ -104,13 +104,16 @@ stepped g d t user n i part r holds there entered is =
 
 -- what a walk does at a node to which a part led from here
 abbrev pub on : Tree → User → Follow → ℕ → List Name → ℕ → Result ℕ Errno
-on t user follow here rest there = elim (target_of (t.nodes there)) [ None ↦ walk_from t user follow there rest | Some target ↦ follow here target rest ]
+on t user follow here rest there = elim (target_of (t.nodes there)) [ None ↦ walk_from t user follow there rest
+    | Some target ↦ follow here target rest ]
 
 -- a step, and then the others
-pub split : (t : Tree) (user : User) (follow : Follow) (here : ℕ) (part : Name) (rest : List Name) → walk_from t user follow here (part ∷ rest) ≡ (step t user here part >>= on t user follow here rest)
+pub split : (t : Tree) (user : User) (follow : Follow) (here : ℕ) (part : Name) (rest : List Name)
+    → walk_from t user follow here (part ∷ rest) ≡ (step t user here part >>= on t user follow here rest)
 split t user follow here part rest = by (enter user (t.nodes here))
   where
     by : (e : Result (ℕ × Names) Errno)
-        → (e >>= λ dir. next here dir.0 dir.1 part >>= on t user follow here rest) ≡ ((e >>= λ dir. next here dir.0 dir.1 part) >>= on t user follow here rest)
+        → (e >>= λ dir. next here dir.0 dir.1 part >>= on t user follow here rest)
+        ≡ ((e >>= λ dir. next here dir.0 dir.1 part) >>= on t user follow here rest)
     by (Ok dir) = refl
     by (Err e) = refl

@@ -15,16 +15,21 @@ after : (part : Name) (xs ys : List ℕ) → parts_after part (xs ++ 47 ∷ ys) 
 after part [] ys = ended (length part == 0) part (parts_of ys)
 after part (x ∷ xs) ys = elim (cases_Bool (x == 47)) [
   | inl e ↦
-      cond-true (x == 47) (if length part == 0 then parts_after [] (xs ++ 47 ∷ ys) else part ∷ parts_after [] (xs ++ 47 ∷ ys)) (parts_after (part ++ x ∷ []) (xs ++ 47 ∷ ys)) e
+      cond-true (x == 47) (if length part == 0 then parts_after [] (xs ++ 47 ∷ ys) else part ∷ parts_after [] (xs ++ 47 ∷ ys))
+          (parts_after (part ++ x ∷ []) (xs ++ 47 ∷ ys)) e
       ∙ ap (λ (ps : List Name). if length part == 0 then ps else part ∷ ps) (after [] xs ys)
       ∙ both (length part == 0) (parts_after [] xs)
-      ∙ sym (ap (λ (ps : List Name). ps ++ parts_of ys) (cond-true (x == 47) (if length part == 0 then parts_after [] xs else part ∷ parts_after [] xs) (parts_after (part ++ x ∷ []) xs) e))
+      ∙ sym (ap (λ (ps : List Name). ps ++ parts_of ys) (cond-true (x == 47)
+      (if length part == 0 then parts_after [] xs else part ∷ parts_after [] xs) (parts_after (part ++ x ∷ []) xs) e))
   | inr e ↦
-      cond-false (x == 47) (if length part == 0 then parts_after [] (xs ++ 47 ∷ ys) else part ∷ parts_after [] (xs ++ 47 ∷ ys)) (parts_after (part ++ x ∷ []) (xs ++ 47 ∷ ys)) e
+      cond-false (x == 47) (if length part == 0 then parts_after [] (xs ++ 47 ∷ ys) else part ∷ parts_after [] (xs ++ 47 ∷ ys))
+          (parts_after (part ++ x ∷ []) (xs ++ 47 ∷ ys)) e
       ∙ after (part ++ x ∷ []) xs ys
-      ∙ sym (ap (λ (ps : List Name). ps ++ parts_of ys) (cond-false (x == 47) (if length part == 0 then parts_after [] xs else part ∷ parts_after [] xs) (parts_after (part ++ x ∷ []) xs) e))
+      ∙ sym (ap (λ (ps : List Name). ps ++ parts_of ys) (cond-false (x == 47)
+      (if length part == 0 then parts_after [] xs else part ∷ parts_after [] xs) (parts_after (part ++ x ∷ []) xs) e))
 ] where
-  both : (b : Bool) (ps : List Name) → (if b then ps ++ parts_of ys else part ∷ (ps ++ parts_of ys)) ≡ (if b then ps else part ∷ ps) ++ parts_of ys
+  both : (b : Bool) (ps : List Name) → (if b then ps ++ parts_of ys else part ∷ (ps ++ parts_of ys))
+      ≡ (if b then ps else part ∷ ps) ++ parts_of ys
   both true ps = refl
   both false ps = refl
 

@@ -3,10 +3,10 @@ mod PathRows
 mod OpenRows
 mod ByteRows
 mod NodeRows
-mod LinkRows
+mod SymlinkRows
 pub mod TriplePage
 mod ZoneRows
 mod BuiltRows
-mod TreeNameRowsLinkRows
+mod LinkRows
 mod DirectoryRows
 mod RenameRows

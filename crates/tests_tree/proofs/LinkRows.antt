@@ -1,168 +1,212 @@
--- Symbolic links: symlink, readlink and lstat, and what each call does where a link stands last or in the middle.
-use Rattle.std.proofs.Common.{◌≡◌, ◌++◌, ℕ, List, [], ◌∷◌, refl, codes, replicate}
-use Prim.Native.String.{String}
-use Rattle.std.specs.Prelude.{None, Some, true}
-use Rattle.errno.specs.declared.Errno.{Errno}
-use Rattle.errno.specs.declared.Errno.TheVariants.{EPERM, ENOENT, EACCES, EEXIST, ENOTDIR, EISDIR, EINVAL, ENAMETOOLONG, ELOOP}
-use Rattle.layout.specs.declared.Geometry.{Geometry}
-use Rattle.tree.specs.declared.Call.{Call}
-use Rattle.tree.specs.declared.Call.TheVariants.{Open, Stat, Link, Unlink, Mkdir, Rmdir, Rename, Chmod, Chown, Utime, Truncate, Statfs, Symlink, Readlink, Lstat}
-use Rattle.tree.specs.Sums.{put, sum_below, some_below, least_below}
-use Rattle.tree.specs.Tree.{Node, is_file, Tree}
-use Rattle.tree.specs.Changes.{target_file}
-use Rattle.tree.specs.Answers.{Answer, refused, done, some_bytes, descriptor, node_is, room_is}
-use Rattle.tests_tree.proofs.Small.{small, start, user0, other, at, path, flags, after, folder, no_bytes, Row, Rows}
+-- Link and unlink: what they answer and leave, each refusal, and of two the one that is answered.
+use Rattle.std.proofs.Common.{◌++◌, List, [], ◌∷◌, refl, codes, replicate, ℕ}
+use Rattle.std.specs.Borrow.{Bor}
+use Rattle.errno.specs.declared.Errno.TheVariants.{EPERM, ENOENT, EACCES, EEXIST, ENOTDIR, EINVAL, ENAMETOOLONG, EMLINK, ENOSPC}
+use Rattle.tree.specs.declared.Call.TheVariants.{Stat, Link, Unlink, Statfs}
+use Rattle.tree.specs.Sums.{sum_below, some_below, least_below}
+use Rattle.tree.specs.Tree.{Tree, on_node}
+use Rattle.tree.specs.Changes.{more_links}
+use Rattle.tree.specs.Answers.{refused, done, node_is, room_is}
+use Rattle.tree.specs.Effects.{tree_after_call}
+use Rattle.tests_tree.proofs.Small.{small, tight, user0, other, at, path, after, house, Row, Rows, empty_path, long_path, zero_path, wide_path}
 
--- a link with a target
-abbrev link_to : List ℕ → Node
-link_to target = record (no_bytes 511) { symbolic = true; body = is_file (target_file target) }
+-- the refusals of an old path, where the new one is this; and of a new path, where the old one is this
+abbrev old_paths : Bor (List ℕ) → List Row
+old_paths new =
+    (other, Link empty_path new, refused ENOENT) ∷ (other, Link long_path new, refused ENAMETOOLONG)
+    ∷ (other, Link (path "d") new, refused EINVAL) ∷ (other, Link zero_path new, refused EINVAL)
+    ∷ (other, Link wide_path new, refused ENAMETOOLONG) ∷ []
 
--- a link to nothing
+abbrev new_paths : Bor (List ℕ) → List Row
+new_paths old =
+    (other, Link old empty_path, refused ENOENT) ∷ (other, Link old long_path, refused ENAMETOOLONG)
+    ∷ (other, Link old (path "d"), refused EINVAL) ∷ (other, Link old zero_path, refused EINVAL)
+    ∷ (other, Link old wide_path, refused ENAMETOOLONG) ∷ []
+
+abbrev old_walks : Bor (List ℕ) → List Row
+old_walks new =
+    (other, Link (path "/f/x") new, refused ENOTDIR) ∷ (other, Link (path "/p/x") new, refused EACCES)
+    ∷ (other, Link (path "/none") new, refused ENOENT) ∷ []
+
+links : Rows small house (
+    (user0, Link (path "/f") (path "/d/g"), done)
+    ∷ (user0, Link (path "/f") (at (codes "/" ++ replicate 60 97)), done)
+    ∷ (user0, Link (path "/p/x") (path "/d/e/x"), done)
+    ∷ (user0, Link (path "/f") (path "/f"), refused EEXIST)
+    ∷ (user0, Link (path "/f") (path "/d"), refused EEXIST)
+    ∷ (user0, Link (path "/f") (path "/"), refused EEXIST)
+    ∷ (user0, Link (path "/f") (path "/d/."), refused EEXIST)
+    ∷ (user0, Link (path "/f") (path "/d/.."), refused EEXIST)
+    ∷ (user0, Link (path "/d") (path "/x"), refused EPERM)
+    ∷ (user0, Link (path "/f") (path "/f/x"), refused ENOTDIR)
+    ∷ (user0, Link (path "/f") (path "/none/x"), refused ENOENT)
+    ∷ (other, Link (path "/f") (path "/p/y"), refused EACCES)
+    ∷ (other, Link (path "/f") (path "/y"), refused EACCES)
+    ∷ [])
+unfolding house sum_below some_below least_below
+links = refl
+
+old_read_first : Rows small house (old_paths (path "/y"))
+unfolding house sum_below some_below least_below
+old_read_first = refl
+
+new_read_next : Rows small house (new_paths (path "/f"))
+unfolding house sum_below some_below least_below
+new_read_next = refl
+
+-- the old path is read before the new one, and both before each walk
+two_old_empty : Rows small house (
+    (other, Link empty_path (path "d"), refused ENOENT)
+    ∷ (other, Link empty_path wide_path, refused ENOENT)
+    ∷ (other, Link long_path empty_path, refused ENAMETOOLONG)
+    ∷ (other, Link long_path (path "d"), refused ENAMETOOLONG)
+    ∷ (other, Link (path "d") empty_path, refused EINVAL)
+    ∷ (other, Link (path "d") wide_path, refused EINVAL)
+    ∷ (other, Link zero_path long_path, refused EINVAL)
+    ∷ (other, Link wide_path empty_path, refused ENAMETOOLONG)
+    ∷ (other, Link wide_path (path "d"), refused ENAMETOOLONG)
+    ∷ [])
+unfolding house sum_below some_below least_below
+two_old_empty = refl
+
+new_read_before_old_walks : Rows small house (new_paths (path "/f/x") ++ new_paths (path "/p/x") ++ new_paths (path "/none") ++ new_paths (path "/d"))
+unfolding house sum_below some_below least_below
+new_read_before_old_walks = refl
+
+-- an unreadable old path before what the new one meets: a walk, a name that is there, no permission
+old_read_before_the_new : Rows small house (old_paths (path "/f/x") ++ old_paths (path "/none/x") ++ old_paths (path "/d"))
+unfolding house sum_below some_below least_below
+old_read_before_the_new = refl
+
+-- the walk of the old path before the same
+old_walks_first : Rows small house (old_walks (path "/y") ++ old_walks (path "/f/y") ++ old_walks (path "/none/y") ++ old_walks (path "/p/y") ++ old_walks (path "/d"))
+unfolding house sum_below some_below least_below
+old_walks_first = refl
+
+-- a directory before all that the new path meets
+directories_next : Rows small house (
+    (other, Link (path "/d") (path "/f/y"), refused EPERM)
+    ∷ (other, Link (path "/d") (path "/none/y"), refused EPERM)
+    ∷ (other, Link (path "/d") (path "/p/y"), refused EPERM)
+    ∷ (other, Link (path "/d") (path "/f"), refused EPERM)
+    ∷ (other, Link (path "/d") (path "/y"), refused EPERM)
+    ∷ [])
+unfolding house sum_below some_below least_below
+directories_next = refl
+
+-- 32767 links: /f, and the directory /d
+unfoldable linked_out : Tree
+linked_out = on_node (on_node house 5 (more_links 32766)) 2 (more_links 32764)
+
+links_next : Rows small linked_out (
+    (user0, Link (path "/f") (path "/y"), refused EMLINK)
+    ∷ (other, Link (path "/f") (path "/f/y"), refused EMLINK)
+    ∷ (other, Link (path "/f") (path "/none/y"), refused EMLINK)
+    ∷ (other, Link (path "/f") (path "/p/y"), refused EMLINK)
+    ∷ (other, Link (path "/f") (path "/d"), refused EMLINK)
+    ∷ (other, Link (path "/f") (path "/y"), refused EMLINK)
+    ∷ (user0, Link (path "/d") (path "/y"), refused EPERM)
+    ∷ (other, Link (path "/f") empty_path, refused ENOENT)
+    ∷ (other, Link wide_path (path "/y"), refused ENAMETOOLONG)
+    ∷ [])
+unfolding linked_out house sum_below some_below least_below
+links_next = refl
+
+-- one link fewer is room for one more
+last_link : Rows small (on_node house 5 (more_links 32765)) ((user0, Link (path "/f") (path "/y"), done) ∷ [])
+unfolding house sum_below some_below least_below
+last_link = refl
+
+-- the new path: its walk, a name that is there, permission
+new_in_order : Rows small house (
+    (other, Link (path "/f") (path "/p/."), refused EACCES)
+    ∷ (other, Link (path "/f") (path "/p/.."), refused EACCES)
+    ∷ (other, Link (path "/f") (path "/p/x"), refused EACCES)
+    ∷ (other, Link (path "/f") (path "/f/."), refused ENOTDIR)
+    ∷ (other, Link (path "/f") (path "/none/."), refused ENOENT)
+    ∷ (other, Link (path "/f") (path "/d"), refused EEXIST)
+    ∷ (other, Link (path "/f") (path "/"), refused EEXIST)
+    ∷ [])
+unfolding house sum_below some_below least_below
+new_in_order = refl
+
+-- no zone for another name comes last
+no_zone : Rows tight house (
+    (user0, Link (path "/f") (path "/y"), refused ENOSPC)
+    ∷ (other, Link (path "/f") (path "/y"), refused EACCES)
+    ∷ (user0, Link (path "/f") (path "/d"), refused EEXIST)
+    ∷ (user0, Link (path "/d") (path "/y"), refused EPERM)
+    ∷ (user0, Link (path "/none") (path "/y"), refused ENOENT)
+    ∷ (user0, Link empty_path (path "/y"), refused ENOENT)
+    ∷ [])
+unfolding house sum_below some_below least_below
+no_zone = refl
+
+no_zone_no_link : Rows tight linked_out ((user0, Link (path "/f") (path "/y"), refused EMLINK) ∷ [])
+unfolding linked_out house sum_below some_below least_below
+no_zone_no_link = refl
+
+-- what link leaves, at 200: a link more and another ctime of the node, another mtime and ctime of the directory
 unfoldable linked : Tree
-linked = after start (Symlink (path "d") (path "/l") ∷ [])
+linked = tree_after_call small house user0 200 (Link (path "/f") (path "/d/g"))
 
-fresh : Rows small linked (
-    (user0, Lstat (path "/l"), node_is (record { inode = 2; mode = 41471; links = 1; uid = 0; gid = 0; size = 1; atime = 100; mtime = 100; ctime = 100 }))
-    ∷ (user0, Readlink (path "/l"), some_bytes (100 ∷ []))
-    ∷ (user0, Stat (path "/l"), refused ENOENT)
-    ∷ (user0, Open (path "/l") (flags 11) 420, refused ENOENT)
-    ∷ (user0, Open (path "/l") (flags 27) 420, refused EEXIST)
-    ∷ (user0, Readlink (path "/"), refused EINVAL)
-    ∷ (user0, Statfs, room_is (record { block_size = 64; zones = 58; free_zones = 54; inodes = 8; free_inodes = 6 }))
+after_link : Rows small linked (
+    (user0, Stat (path "/d/g"), node_is (record { inode = 5; mode = 33188; links = 2; uid = 0; gid = 0; size = 0; atime = 100; mtime = 100; ctime = 200 }))
+    ∷ (user0, Stat (path "/d"), node_is (record { inode = 2; mode = 16877; links = 3; uid = 0; gid = 0; size = 256; atime = 100; mtime = 200; ctime = 200 }))
+    ∷ (user0, Statfs, room_is (record { block_size = 64; zones = 58; free_zones = 44; inodes = 8; free_inodes = 2 }))
     ∷ [])
-unfolding linked sum_below some_below least_below
-fresh = refl
+unfolding linked house sum_below some_below least_below
+after_link = refl
 
--- then a directory there
-unfoldable pointed : Tree
-pointed = after start (Symlink (path "d") (path "/l") ∷ Mkdir (path "/d") 493 ∷ [])
-
-led : Rows small pointed (
-    (user0, Stat (path "/l"), node_is (record { inode = 3; mode = 16877; links = 2; uid = 0; gid = 0; size = 128; atime = 100; mtime = 100; ctime = 100 }))
-    ∷ (user0, Stat (path "/l/.."), node_is (record { inode = 1; mode = 16877; links = 3; uid = 0; gid = 0; size = 256; atime = 50; mtime = 100; ctime = 100 }))
-    ∷ (user0, Lstat (path "/l/."), node_is (record { inode = 3; mode = 16877; links = 2; uid = 0; gid = 0; size = 128; atime = 100; mtime = 100; ctime = 100 }))
-    ∷ (user0, Lstat (path "/l/"), node_is (record { inode = 2; mode = 41471; links = 1; uid = 0; gid = 0; size = 1; atime = 100; mtime = 100; ctime = 100 }))
-    ∷ (user0, Open (path "/l") (flags 3) 0, refused EISDIR)
-    ∷ (user0, Rmdir (path "/l"), refused ENOTDIR)
-    ∷ (user0, Unlink (path "/l"), done)
-    ∷ (user0, Link (path "/l") (path "/m"), done)
-    ∷ (user0, Mkdir (path "/l/x") 493, done)
-    ∷ (user0, Mkdir (path "/l") 493, refused EEXIST)
-    ∷ (user0, Symlink (path "x") (path "/l"), refused EEXIST)
-    ∷ (user0, Truncate (path "/l") 0, refused EISDIR)
+-- Unlink. A path without a last name is refused right after it is read.
+unlinks : Rows small house (
+    (user0, Unlink (path "/f"), done)
+    ∷ (user0, Unlink (path "/p/x/"), done)
+    ∷ (user0, Unlink (path "/none"), refused ENOENT)
+    ∷ (user0, Unlink (path "/d"), refused EPERM)
+    ∷ (user0, Unlink (path "/"), refused EINVAL)
+    ∷ (user0, Unlink (path "/d/."), refused EINVAL)
+    ∷ (user0, Unlink (path "/d/.."), refused EINVAL)
+    ∷ (other, Unlink empty_path, refused ENOENT)
+    ∷ (other, Unlink long_path, refused ENAMETOOLONG)
+    ∷ (other, Unlink (path "d"), refused EINVAL)
+    ∷ (other, Unlink zero_path, refused EINVAL)
+    ∷ (other, Unlink wide_path, refused ENAMETOOLONG)
+    ∷ (other, Unlink (path "/f/x"), refused ENOTDIR)
+    ∷ (other, Unlink (path "/p/x"), refused EACCES)
+    ∷ (other, Unlink (path "/none/x"), refused ENOENT)
+    ∷ (other, Unlink (path "/f"), refused EACCES)
     ∷ [])
-unfolding pointed sum_below some_below least_below
-led = refl
+unfolding house sum_below some_below least_below
+unlinks = refl
 
--- The root has /a, a directory that other users may not search, with the file /a/x and the link /a/up to ../f; the file /f; and links:
--- /s0 to /, /s1 to s0, and so on to /s8; /x to itself; /in to a/x; /up to a/up; /w to a name of 61 bytes; /v to one of 60.
-unfoldable many : Tree
-many = record {
-  nodes =
-      put (put (put (put (put (put (put (put (put (put (put (put (put (put (put (put (put (put (put (λ n. None)
-      1 (Some (folder 493 3 50 1 (
-      (codes "a", 2) ∷ (codes "f", 4) ∷ (codes "in", 16) ∷ (codes "s0", 6) ∷ (codes "s1", 7) ∷ (codes "s2", 8) ∷ (codes "s3", 9) ∷ (codes "s4", 10)
-      ∷ (codes "s5", 11) ∷ (codes "s6", 12) ∷ (codes "s7", 13) ∷ (codes "s8", 14) ∷ (codes "up", 17) ∷ (codes "v", 19) ∷ (codes "w", 18) ∷ (codes "x", 15) ∷ []))))
-      2 (Some (folder 448 2 100 1 ((codes "up", 5) ∷ (codes "x", 3) ∷ []))))
-      3 (Some (no_bytes 420)))
-      4 (Some (no_bytes 420)))
-      5 (Some (link_to (codes "../f"))))
-      6 (Some (link_to (codes "/"))))
-      7 (Some (link_to (codes "s0"))))
-      8 (Some (link_to (codes "s1"))))
-      9 (Some (link_to (codes "s2"))))
-      10 (Some (link_to (codes "s3"))))
-      11 (Some (link_to (codes "s4"))))
-      12 (Some (link_to (codes "s5"))))
-      13 (Some (link_to (codes "s6"))))
-      14 (Some (link_to (codes "s7"))))
-      15 (Some (link_to (codes "x"))))
-      16 (Some (link_to (codes "a/x"))))
-      17 (Some (link_to (codes "a/up"))))
-      18 (Some (link_to (replicate 61 97))))
-      19 (Some (link_to (replicate 60 97)));
-  open_files = λ k. None;
-  descriptors = λ s fd. None;
-}
-
--- the attributes of the root, of /f and of /a/x
-abbrev of_root : Answer
-of_root = node_is (record { inode = 1; mode = 16877; links = 3; uid = 0; gid = 0; size = 1152; atime = 50; mtime = 100; ctime = 100 })
-
-abbrev of_file : ℕ → Answer
-of_file n = node_is (record { inode = n; mode = 33188; links = 1; uid = 0; gid = 0; size = 0; atime = 100; mtime = 100; ctime = 100 })
-
--- eight links are followed, and the ninth is refused, before its target's lengths are looked at
-eight : Rows small many (
-    (user0, Stat (path "/s7"), of_root)
-    ∷ (user0, Stat (path "/s8"), refused ELOOP)
-    ∷ (user0, Stat (path "/s7/f"), of_file 4)
-    ∷ (user0, Stat (path "/s6/in"), of_file 3)
-    ∷ (user0, Stat (path "/s7/in"), refused ELOOP)
-    ∷ (user0, Stat (path "/s7/w"), refused ELOOP)
-    ∷ (user0, Lstat (path "/s7/w"), node_is (record { inode = 18; mode = 41471; links = 1; uid = 0; gid = 0; size = 61; atime = 100; mtime = 100; ctime = 100 }))
-    ∷ (user0, Lstat (path "/s8/w"), refused ELOOP)
-    ∷ (user0, Stat (path "/w"), refused ENAMETOOLONG)
-    ∷ (user0, Stat (path "/v"), refused ENOENT)
-    ∷ (user0, Stat (path "/x"), refused ELOOP)
-    ∷ (user0, Open (path "/x") (flags 9) 420, refused ELOOP)
-    ∷ (user0, Open (path "/x") (flags 25) 420, refused EEXIST)
-    ∷ (user0, Unlink (path "/x"), done)
+unlink_in_order : Rows small house (
+    (other, Unlink (at (codes "/" ++ replicate 61 97 ++ codes "/.")), refused ENAMETOOLONG)
+    ∷ (other, Unlink (at (replicate 1025 47 ++ codes ".")), refused ENAMETOOLONG)
+    ∷ (other, Unlink (path "/f/."), refused EINVAL)
+    ∷ (other, Unlink (path "/p/.."), refused EINVAL)
+    ∷ (other, Unlink (path "/none/."), refused EINVAL)
+    ∷ (other, Unlink (path "/d/."), refused EINVAL)
+    ∷ (other, Unlink (path "/p/none"), refused EACCES)
+    ∷ (other, Unlink (path "/f/none"), refused ENOTDIR)
+    ∷ (other, Unlink (path "/none"), refused ENOENT)
+    ∷ (other, Unlink (path "/d"), refused EACCES)
     ∷ [])
-unfolding many sum_below some_below least_below
-eight = refl
+unfolding house sum_below some_below least_below
+unlink_in_order = refl
 
--- relative targets are walked from where the link stands; the link's own directory is asked, the link isn't
-ways : Rows small many (
-    (user0, Stat (path "/up"), of_file 4)
-    ∷ (user0, Stat (path "/a/up"), of_file 4)
-    ∷ (user0, Stat (path "/up/.."), refused ENOTDIR)
-    ∷ (user0, Stat (path "/s0/s0//s0/../f/"), of_file 4)
-    ∷ (user0, Stat (path "/in"), of_file 3)
-    ∷ (other, Stat (path "/in"), refused EACCES)
-    ∷ (other, Stat (path "/up"), refused EACCES)
-    ∷ (other, Lstat (path "/in"), node_is (record { inode = 16; mode = 41471; links = 1; uid = 0; gid = 0; size = 3; atime = 100; mtime = 100; ctime = 100 }))
-    ∷ (other, Readlink (path "/in"), some_bytes (codes "a/x"))
-    ∷ (other, Readlink (path "/a/up"), refused EACCES)
-    ∷ (other, Readlink (path "/f"), refused EINVAL)
-    ∷ (other, Readlink (path "/g"), refused ENOENT)
-    ∷ (other, Open (path "/in") (flags 1) 0, refused EACCES)
-    ∷ (user0, Open (path "/in") (flags 35) 0, descriptor 0)
-    ∷ (other, Chmod (path "/up") 0, refused EACCES)
-    ∷ (user0, Chmod (path "/up") 0, done)
-    ∷ (user0, Chown (path "/x") 1 1, refused ELOOP)
-    ∷ (user0, Utime (path "/w") 1 1, refused ENAMETOOLONG)
-    ∷ (user0, Truncate (path "/v") 0, refused ENOENT)
-    ∷ (user0, Truncate (path "/in") 0, done)
+-- one name less, and the last: the inode is free then
+after_unlink : Rows small (tree_after_call small linked user0 300 (Unlink (path "/f"))) (
+    (user0, Stat (path "/d/g"), node_is (record { inode = 5; mode = 33188; links = 1; uid = 0; gid = 0; size = 0; atime = 100; mtime = 100; ctime = 300 }))
+    ∷ (user0, Stat (path "/"), node_is (record { inode = 1; mode = 16877; links = 4; uid = 0; gid = 0; size = 256; atime = 50; mtime = 300; ctime = 300 }))
+    ∷ (user0, Stat (path "/f"), refused ENOENT)
+    ∷ (user0, Statfs, room_is (record { block_size = 64; zones = 58; free_zones = 45; inodes = 8; free_inodes = 2 }))
     ∷ [])
-unfolding many sum_below some_below least_below
-ways = refl
+unfolding linked house sum_below some_below least_below
+after_unlink = refl
 
--- symlink's refusals, in their order
-refusals : Rows small many (
-    (other, Symlink (at []) (at []), refused ENOENT)
-    ∷ (other, Symlink (at (replicate 1024 0)) (at []), refused ENAMETOOLONG)
-    ∷ (other, Symlink (at (replicate 1023 0)) (at []), refused EINVAL)
-    ∷ (other, Symlink (at (replicate 1023 47)) (path "f"), refused EINVAL)
-    ∷ (other, Symlink (path "x") (path "/f/g"), refused ENOTDIR)
-    ∷ (other, Symlink (path "x") (path "/a/g"), refused EACCES)
-    ∷ (other, Symlink (path "x") (path "/f"), refused EEXIST)
-    ∷ (other, Symlink (path "x") (path "/s1"), refused EEXIST)
-    ∷ (other, Symlink (path "x") (path "/"), refused EEXIST)
-    ∷ (other, Symlink (path "x") (path "/.."), refused EEXIST)
-    ∷ (other, Symlink (path "x") (path "/g"), refused EACCES)
-    ∷ (other, Readlink (at []), refused ENOENT)
-    ∷ (other, Lstat (path "f"), refused EINVAL)
+after_last : Rows small (after house (Unlink (path "/f") ∷ [])) (
+    (user0, Statfs, room_is (record { block_size = 64; zones = 58; free_zones = 46; inodes = 8; free_inodes = 3 }))
     ∷ [])
-unfolding many sum_below some_below least_below
-refusals = refl
-
--- a link is moved, and is replaced, as a file
-moved : Rows small pointed (
-    (user0, Rename (path "/l") (path "/m"), done)
-    ∷ (user0, Rename (path "/l") (path "/d"), refused EISDIR)
-    ∷ (user0, Rename (path "/d") (path "/l"), refused ENOTDIR)
-    ∷ (user0, Rename (path "/l") (path "/l/m"), done)
-    ∷ [])
-unfolding pointed sum_below some_below least_below
-moved = refl
+unfolding house sum_below some_below least_below
+after_last = refl

@@ -24,7 +24,17 @@ tight = record small { zones = 19 }
 
 -- a root without names, made at 50
 abbrev pub root : Node
-root = record { permissions = 493; symbolic = false; uid = 0; gid = 0; links = 2; atime = 50; mtime = 50; ctime = 50; body = is_directory (record { parent = 1; names = [] }) }
+root = record {
+  permissions = 493;
+  symbolic = false;
+  uid = 0;
+  gid = 0;
+  links = 2;
+  atime = 50;
+  mtime = 50;
+  ctime = 50;
+  body = is_directory (record { parent = 1; names = [] });
+}
 
 -- a root alone
 abbrev pub start : Tree

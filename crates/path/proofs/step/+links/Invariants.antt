@@ -14,7 +14,8 @@ decreases-lead g l = 2 * l.first.links + 1
 
 abbrev pub invariant-lead-loop-part : goal.invariant-lead-loop-part
 invariant-lead-loop-part g l = record {
-  reads : Reads g.B.Blocks.world l.fn.blocks l.blocks (λ d. (t : Tree) → Holds l.geometry d t → IsTrue (is_some (t.nodes l.fn.first.here)) → IsOnWay t l.user l.fn.first l.fn.parts l.at l.parts);
+  reads : Reads g.B.Blocks.world l.fn.blocks l.blocks (λ d. (t : Tree) → Holds l.geometry d t → IsTrue (is_some (t.nodes l.fn.first.here))
+      → IsOnWay t l.user l.fn.first l.fn.parts l.at l.parts);
   links : l.at.links ≤ l.fn.first.links;
 }
 
