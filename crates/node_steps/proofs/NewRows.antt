@@ -93,7 +93,8 @@ module _ (g : Geometry) (v : Pieces) (n parent now permissions : ℕ) (user : Us
 
   room : HasZonesFor g w n (written_at g w n 0 bytes).held
   room = subst (λ (f : File). HasZonesFor g w n f.held) (sym written)
-      (has_first_page g v n i ok may.make refl refl (directory_mode permissions few) (begun g bytes).held (held_is g ok bytes first.many) may.room)
+      (has_first_page g v n i ok may.make refl refl (directory_mode permissions few) (begun g bytes).held (held_is g ok bytes first.many)
+      may.room)
 
   pub may_write : MayWriteAt g w n 0 bytes
   may_write = record { change = may_change g v n i ok may.make refl refl (directory_mode permissions few); room = room }
