@@ -3,14 +3,14 @@
 ghost use Rattle.std.specs.Prelude.{◌≡◌, ◌≢◌, ℕ, IfOk, IfErr};
 ghost use Rattle.tree.specs.Tree.{Tree};
 ghost use Rattle.tree.specs.Answers.{answer_of, refused};
-ghost use Rattle.tree.specs.NodeCalls.{stat, lstat, chmod, chown, utime};
+ghost use Rattle.tree.specs.NodeCalls.{stat, chmod, chown, utime};
 ghost use Rattle.descriptors.specs.Files.{Files, HasFiles};
 ghost use Rattle.store.specs.World.{Turns};
 ghost use Rattle.store.specs.Volume.{IsOn};
 ghost use Rattle.store.specs.Halts.{IsHalt};
 ghost use Rattle.calls_data.specs.Does.{Meets};
 
-use crate::named::{find_last, find_node};
+use crate::named::find_node;
 use errno::Errno;
 use inode::attributes;
 use inode::inode_table::store;
@@ -33,30 +33,6 @@ pub fn stat<B: Blocks>(
     ensures proper { IfOk result (λ r. answer_of r ≢ refused Errno.EIO) }
 {
     match find_node(blocks, geometry, user, path)? {
-        Ok((number, inode)) => {
-            if number > 65535 {
-                return Err(Halt::Unsound);
-            }
-            Ok(Reply::Inode(attributes(&inode, number as u16)))
-        }
-        Err(errno) => Ok(Reply::Refused(errno)),
-    }
-}
-
-/// lstat: the attributes of the node to which a path leads, of a symbolic link that stands last its own.
-pub fn lstat<B: Blocks>(
-    blocks: &mut B,
-    geometry: &Geometry,
-    user: User,
-    path: &[u8],
-) -> Result<Reply, Halt>
-    requires on { IsOn B.world geometry.now blocks.old }
-    ensures turns { Turns B.world blocks.old blocks.new (λ d e. (f : Files) →
-        Meets geometry.now (λ t. lstat t user path.now) result (HasFiles f) (HasFiles f) d e) }
-    ensures halt { IfErr result (λ h. IsHalt B.world blocks.new h) }
-    ensures proper { IfOk result (λ r. answer_of r ≢ refused Errno.EIO) }
-{
-    match find_last(blocks, geometry, user, path)? {
         Ok((number, inode)) => {
             if number > 65535 {
                 return Err(Halt::Unsound);

@@ -8,17 +8,18 @@
 mod attributes;
 mod dated;
 pub mod found;
+pub mod last;
+mod links;
 pub mod named;
 pub mod open_files;
 pub mod reading;
 pub mod seeking;
-mod targets;
 mod truncating;
 pub mod whole;
 mod writing;
 
-pub use attributes::{chmod, chown, lstat, stat, utime};
+pub use attributes::{chmod, chown, stat, utime};
 pub use dated::set_size_at;
-pub use targets::readlink;
+pub use links::{lstat, readlink};
 pub use truncating::truncate;
 pub use writing::write;

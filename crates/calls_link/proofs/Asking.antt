@@ -1,5 +1,5 @@
 -- A file has a name more.
-use Rattle.std.proofs.Common.{◌≡◌, ◌<◌, ◌≤◌, ℕ, List, Bool, true, false, Option, Some, None, Ok, Err, refl, sym, ap, subst, ◌∙◌, arith}
+use Rattle.std.proofs.Common.{◌≡◌, ◌<◌, ◌≤◌, ℕ, List, Bool, true, false, Option, Some, None, Ok, Err, refl, sym, ap, ◌∙◌, arith}
 use Rattle.std.specs.Prelude.{IsTrue, Result, is_some, not, nat_le, ◌||◌}
 use Rattle.std.specs.Borrow.{Bor}
 use Rattle.std.proofs.lemmas.Bool.{and_parts, cond-true, le-leb, lt-leb}
@@ -52,31 +52,38 @@ module _ (g : Geometry) (d : Disk) (user : User) (parts : List Name) (n : ℕ) (
   there : (t : Tree) → HoldsVolume g d t → t.nodes n ≡ Some (node_at g (pieces g d) n)
   there t holds = (node_there g d t n holds (leads t holds).there).1
 
+  -- what follows once it is known whether it has too many links, and before that whether it is a directory
+  abbrev after_count : (ℕ → Node → Effect) → Bool → Effect
+  after_count rest many = refuse_if many EMLINK >>= λ _. rest n (node_at g (pieces g d) n)
+
+  abbrev after_kind : (ℕ → Node → Effect) → Bool → ℕ → Effect
+  after_kind rest directory links = refuse_if directory EPERM >>= λ _. after_count rest (nat_le most_links links)
+
   module _ (i : Inode) (loaded : i ≡ (pieces g d).inodes n) where
     kind : is_dir (node_at g (pieces g d) n) ≡ is_directory_mode i.mode
     kind = kind_is g (pieces g d) n ∙ sym (ap (λ (j : Inode). is_directory_mode j.mode) loaded)
 
     reached : (t : Tree) → HoldsVolume g d t → (rest : ℕ → Node → Effect) (b : Bool) → is_directory_mode i.mode ≡ b
-        → on_file t user parts rest ≡ (refuse_if b EPERM >>= λ _. refuse_if (nat_le most_links i.links) EMLINK >>= λ _. rest n (node_at g (pieces g d) n))
+        → on_file t user parts rest ≡ after_kind rest b i.links
     reached t holds rest b mode =
         ap (λ (r : Result ℕ Errno). r >>= λ m. tree.node_at t m >>= λ node. to_file rest m node) (leads t holds).answer
         ∙ ap (λ (o : Option Node). or_refuse o ENOENT >>= λ node. to_file rest n node) (there t holds)
-        ∙ ap (λ x. refuse_if x EPERM >>= λ _. refuse_if (nat_le most_links ((pieces g d).inodes n).links) EMLINK >>= λ _. rest n (node_at g (pieces g d) n)) (kind ∙ mode)
-        ∙ ap (λ (j : Inode). refuse_if b EPERM >>= λ _. refuse_if (nat_le most_links j.links) EMLINK >>= λ _. rest n (node_at g (pieces g d) n)) (sym loaded)
+        ∙ ap (λ x. after_kind rest x ((pieces g d).inodes n).links) (kind ∙ mode)
+        ∙ ap (λ (j : Inode). after_kind rest b j.links) (sym loaded)
 
     pub file_is_directory : is_directory_mode i.mode ≡ true → FindsFile g d user parts (Err EPERM)
     file_is_directory mode t holds rest = reached t holds rest true mode
 
     pub file_has_links : is_directory_mode i.mode ≡ false → most_links ≤ i.links → FindsFile g d user parts (Err EMLINK)
     file_has_links mode many t holds rest =
-        reached t holds rest false mode ∙ ap (λ x. refuse_if x EMLINK >>= λ _. rest n (node_at g (pieces g d) n)) (le-leb most_links i.links many)
+        reached t holds rest false mode ∙ ap (after_count rest) (le-leb most_links i.links many)
 
     pub file_found : is_directory_mode i.mode ≡ false → i.links < most_links → FindsFile g d user parts (Ok n)
     file_found mode few t holds = record {
       there = there t holds;
       file = kind ∙ mode;
       few = let same = ap (λ (j : Inode). j.links) loaded in omega (arith, few, same);
-      goes_on = λ rest. reached t holds rest false mode ∙ ap (λ x. refuse_if x EMLINK >>= λ _. rest n (node_at g (pieces g d) n)) (lt-leb most_links i.links few);
+      goes_on = λ rest. reached t holds rest false mode ∙ ap (after_count rest) (lt-leb most_links i.links few);
     }
 
 -- The place.

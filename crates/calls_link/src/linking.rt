@@ -16,7 +16,7 @@ ghost use Rattle.calls_link.specs.Linking.{FindsFile, FindsFree, IsLast, IsRoomF
 
 use crate::named::{may_write, place_of};
 use calls_data::found::is_directory;
-use calls_data::named::walk_to_last;
+use calls_data::last::walk_to_last;
 use directory::insert;
 use errno::Errno;
 use file::file_room::has_room;

@@ -3,7 +3,7 @@ use Rattle.store.proofs.Turns.{reads_then, reads_as}
 use Rattle.store.proofs.Ending.{ends_exit}
 use Rattle.calls_data.specs.Named.{NamesLast, last_walk}
 use Rattle.calls_data.proofs.Naming.{its_number, found_node, found_refused}
-use Rattle.calls_data.proofs.named.find_last.Goals as goal
+use Rattle.calls_data.proofs.last.find_last.Goals as goal
 
 pub returns-in_err-load-in-Ok-clause-reads : goal.returns-in_err-load-in-Ok-clause-reads
 returns-in_err-load-in-Ok-clause-reads g c =

@@ -6,7 +6,7 @@ use Rattle.file.specs.Reading.{HasFileBytes}
 use Rattle.store.proofs.Turns.{turns_as, turns_then}
 use Rattle.calls_data.specs.Named.{FindsLast}
 use Rattle.calls_data.proofs.ReadlinkCall.{readlink_refused, readlink_plain, readlink_done}
-use Rattle.calls_data.proofs.targets.readlink.Goals as goal
+use Rattle.calls_data.proofs.links.readlink.Goals as goal
 
 pub returns-then-not-is_link-clause-turns : goal.returns-then-not-is_link-clause-turns
 returns-then-not-is_link-clause-turns g c =

@@ -1,8 +1,8 @@
-//! The targets of symbolic links.
+//! The calls on a symbolic link that stands last in its path.
 
 ghost use Rattle.std.specs.Prelude.{◌≡◌, ◌≢◌, IfOk, IfErr, length};
 ghost use Rattle.tree.specs.Tree.{most_target};
-ghost use Rattle.tree.specs.NodeCalls.{readlink};
+ghost use Rattle.tree.specs.NodeCalls.{lstat, readlink};
 ghost use Rattle.tree.specs.Answers.{answer_of, refused};
 ghost use Rattle.volume.specs.Nodes.{file_of};
 ghost use Rattle.volume.specs.Pieces.{pieces};
@@ -14,13 +14,38 @@ ghost use Rattle.store.specs.Halts.{IsHalt};
 ghost use Rattle.calls_data.specs.Does.{Meets};
 
 use crate::found::is_link;
-use crate::named::find_last;
+use crate::last::find_last;
 use errno::Errno;
 use file::file_pages::reading::read_at;
+use inode::attributes;
 use layout::Geometry;
 use store::{Blocks, Cut, Halt};
 use tree::{LinkTarget, MAX_TARGET, Reply, User};
 use volume::Inode;
+
+/// lstat: the attributes of the node to which a path leads, of a symbolic link that stands last its own.
+pub fn lstat<B: Blocks>(
+    blocks: &mut B,
+    geometry: &Geometry,
+    user: User,
+    path: &[u8],
+) -> Result<Reply, Halt>
+    requires on { IsOn B.world geometry.now blocks.old }
+    ensures turns { Turns B.world blocks.old blocks.new (λ d e. (f : Files) →
+        Meets geometry.now (λ t. lstat t user path.now) result (HasFiles f) (HasFiles f) d e) }
+    ensures halt { IfErr result (λ h. IsHalt B.world blocks.new h) }
+    ensures proper { IfOk result (λ r. answer_of r ≢ refused Errno.EIO) }
+{
+    match find_last(blocks, geometry, user, path)? {
+        Ok((number, inode)) => {
+            if number > 65535 {
+                return Err(Halt::Unsound);
+            }
+            Ok(Reply::Inode(attributes(&inode, number as u16)))
+        }
+        Err(errno) => Ok(Reply::Refused(errno)),
+    }
+}
 
 /// The first 1023 bytes of the file of an inode, or all where there are fewer.
 fn target<B: Blocks>(blocks: &mut B, geometry: &Geometry, inode: &Inode) -> Result<LinkTarget, Cut>

@@ -1,7 +1,7 @@
 use Rattle.std.proofs.Common.{sym}
 use Rattle.store.proofs.Turns.{reads_as, ends_as}
 use Rattle.calls_data.proofs.Naming.{last_read}
-use Rattle.calls_data.proofs.named.named_last.Goals as goal
+use Rattle.calls_data.proofs.last.named_last.Goals as goal
 
 pub returns-in-Ok-clause-reads : goal.returns-in-Ok-clause-reads
 returns-in-Ok-clause-reads g c =

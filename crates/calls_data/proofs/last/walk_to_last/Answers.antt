@@ -1,7 +1,7 @@
 use Rattle.std.proofs.Common.{ap, ◌∙◌, Ok, Err}
 use Rattle.store.proofs.Turns.{reads_as}
 use Rattle.calls_data.proofs.Naming.{last_there, last_missing, last_refused, last_halted}
-use Rattle.calls_data.proofs.named.walk_to_last.Goals as goal
+use Rattle.calls_data.proofs.last.walk_to_last.Goals as goal
 
 pub returns-in-Ok-There-clause-reads : goal.returns-in-Ok-There-clause-reads
 returns-in-Ok-There-clause-reads g c =

@@ -5,7 +5,7 @@ use Rattle.descriptors.specs.Files.{HasFiles}
 use Rattle.calls_data.specs.Does.{Does}
 use Rattle.calls_data.specs.Named.{FindsLast, last_walk}
 use Rattle.calls_data.proofs.Calls.{lstat_is, stat_refused, stat_done, small_number}
-use Rattle.calls_data.proofs.attributes.lstat.Goals as goal
+use Rattle.calls_data.proofs.links.lstat.Goals as goal
 
 pub returns-then-number-gt65535-clause-turns : goal.returns-then-number-gt65535-clause-turns
 returns-then-number-gt65535-clause-turns g c =
