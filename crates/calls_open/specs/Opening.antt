@@ -1,10 +1,10 @@
 -- A node is readied, and then opened.
-use Rattle.std.specs.Prelude.{◌≡◌, ◌≤◌, ℕ, List, Bool, Result, Ok, Err, IsTrue, is_some}
+use Rattle.std.specs.Prelude.{◌≡◌, ◌≤◌, ℕ, List, Bool, false, Result, Ok, Err, IsTrue, is_some}
 use Rattle.errno.specs.declared.Errno.{Errno}
 use Rattle.layout.specs.declared.Geometry.{Geometry}
 use Rattle.tree.specs.declared.User.{User}
 use Rattle.tree.specs.Names.{Name}
-use Rattle.tree.specs.Tree.{Tree}
+use Rattle.tree.specs.Tree.{Tree, is_link_at}
 use Rattle.tree.specs.Refusals.{◌>>=◌}
 use Rattle.tree.specs.Walk.{is_there, open_look_up, read_path}
 use Rattle.tree.specs.Answers.{Answer, Effect, descriptor}
@@ -24,9 +24,15 @@ open_named g t user now path flags mode slot = do
   found ← open_look_up t user (only_makes flags) parts
   open_found g t user now slot flags mode found
 
--- what a path finds for open, a link as it is or what it leads to, or the refusal of the walk; where a name is missing no link stands
+-- A path finds this node for open: a link only where links are taken as they are.
+pub record IsFoundToOpen (t : Tree) (user : User) (as_is : Bool) (parts : List Name) (n : ℕ) : Type 0 where
+  pub found : open_look_up t user as_is parts ≡ Ok (is_there n)
+  pub there : IsTrue (is_some (t.nodes n))
+  pub no_link : as_is ≡ false → is_link_at t.nodes n ≡ false
+
+-- the node, or the place where a name is missing, or the refusal of the walk
 abbrev pub FindsToOpen : Geometry → Disk → Tree → User → Bool → List Name → Result Found Errno → Type 0
-FindsToOpen g d t user as_is parts (Ok (found.There n)) = (open_look_up t user as_is parts ≡ Ok (is_there n)) × IsTrue (is_some (t.nodes n))
+FindsToOpen g d t user as_is parts (Ok (found.There n)) = IsFoundToOpen t user as_is parts n
 FindsToOpen g d t user as_is parts (Ok (found.Missing p)) = Finds g d t user parts (Ok (found.Missing p))
 FindsToOpen g d t user as_is parts (Err e) = open_look_up t user as_is parts ≡ Err e
 

@@ -3,7 +3,7 @@
 ghost use Rattle.std.specs.Prelude.{◌≡◌, ◌≢◌, ◌<◌, ◌&&◌, IfErr, IfSome, not};
 ghost use Rattle.tree.specs.Flags.{bad_flags, truncates};
 ghost use Rattle.tree.specs.Tree.{Node, most_sessions};
-ghost use Rattle.volume.specs.Nodes.{is_directory_mode, is_link_mode, permissions_in};
+ghost use Rattle.volume.specs.Nodes.{is_directory_mode, permissions_in};
 ghost use Rattle.descriptors.specs.Table.{files_of};
 ghost use Rattle.path.specs.Wishes.{IsWhose};
 ghost use Rattle.calls_open.specs.Asking.{lacks_permission, may_begin, only_makes, why_barred};
@@ -94,11 +94,4 @@ pub(crate) fn only_makes(flags: OpenFlags) -> bool
     ensures { result ≡ only_makes flags.0 }
 {
     flags.creates() && flags.is_exclusive()
-}
-
-/// Whether an inode is a symbolic link's.
-pub(crate) fn is_link(inode: &Inode) -> bool
-    ensures { result ≡ is_link_mode inode.now.mode }
-{
-    inode.mode / 4096 == 10
 }

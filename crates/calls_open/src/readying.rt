@@ -1,15 +1,17 @@
 //! The node that open opens.
 
-ghost use Rattle.std.specs.Prelude.{◌≢◌, ◌≤◌, IfErr, IsTrue, is_some};
-ghost use Rattle.tree.specs.Tree.{Tree, most_permissions};
+ghost use Rattle.std.specs.Prelude.{◌≡◌, ◌≢◌, ◌≤◌, IfErr, IsTrue, false, is_some};
+ghost use Rattle.tree.specs.Tree.{Tree, is_link_at, most_permissions};
 ghost use Rattle.volume.specs.Holds.{HoldsVolume};
 ghost use Rattle.store.specs.Volume.{IsOn};
 ghost use Rattle.store.specs.World.{Reads, Turns};
 ghost use Rattle.path.specs.Stops.{Answers, IfRefused, IsStop};
+ghost use Rattle.calls_open.specs.Asking.{only_makes};
 ghost use Rattle.calls_open.specs.Opening.{FindsToOpen, Readies, ReadiesThere, open_named};
 
-use crate::asking::{is_emptied, is_link, only_makes, refusal};
+use crate::asking::{is_emptied, only_makes, refusal};
 use crate::make_file;
+use calls_data::found::is_link;
 use calls_data::set_size_at;
 use errno::Errno;
 use inode::inode_table::load;
@@ -18,7 +20,7 @@ use path::{Found, Path, Stop, look_up, walk};
 use store::Blocks;
 use tree::{OpenFlags, User};
 
-/// Readies a node that is there: with the truncate flag its file is emptied, changed at `now` (seconds). EEXIST where the call makes files
+/// Readies a node that is there, no symbolic link unless the call opens only what it makes: with the truncate flag its file is emptied, changed at `now` (seconds). EEXIST where the call makes files
 /// and takes no others, EISDIR of a directory to be written, EACCES where the user lacks a permission; then nothing is changed.
 fn ready_there<B: Blocks>(
     blocks: &mut B,
@@ -30,7 +32,7 @@ fn ready_there<B: Blocks>(
 ) -> Result<(), Stop>
     requires on { IsOn B.world geometry.now blocks.old }
     ensures turns { Turns B.world blocks.old blocks.new (λ d e. (t : Tree) → HoldsVolume geometry.now d t
-        → IsTrue (is_some (t.nodes number))
+        → IsTrue (is_some (t.nodes number)) → (only_makes flags.0 ≡ false → is_link_at t.nodes number ≡ false)
         → Answers result (ReadiesThere geometry.now t user now number flags.0 d e)) }
     ensures stop { IfErr result (λ s. IsStop B.world blocks.new s) }
     ensures proper { IfErr result (λ s. IfRefused s (λ e. e ≢ Errno.EIO)) }

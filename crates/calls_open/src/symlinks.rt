@@ -1,6 +1,7 @@
 //! New symbolic links.
 
-ghost use Rattle.std.specs.Prelude.{◌≡◌, ◌≢◌, ◌≤◌, ◌<◌, IfErr, IfOk, length};
+ghost use Rattle.std.specs.Prelude.{◌≡◌, ◌≢◌, ◌≤◌, ◌<◌, ◌==◌, IfErr, IfOk, length};
+ghost use Rattle.std.specs.List.{list_any};
 ghost use Rattle.tree.specs.Tree.{most_target};
 ghost use Rattle.tree.specs.Answers.{answer_of, done, refused};
 ghost use Rattle.tree.specs.NameCalls.{symlink};
@@ -23,6 +24,13 @@ use path::{Place, Stop};
 use store::{Blocks, Halt};
 use tree::{MAX_NAME, MAX_TARGET, Reply, User};
 
+/// Whether a byte of a target is zero.
+fn has_zero(target: &[u8]) -> bool
+    ensures { result ≡ list_any (λ c. c == 0) target.now }
+{
+    target.iter().any(|c| *c == 0)
+}
+
 /// Whether these bytes may be a link's target: ENOENT where there are none, ENAMETOOLONG of more than 1023, EINVAL where one is zero.
 fn may_be_target(target: &[u8]) -> Result<(), Errno>
     ensures asked { result ≡ may_be_target target.now }
@@ -36,7 +44,7 @@ fn may_be_target(target: &[u8]) -> Result<(), Errno>
     if target.len() > MAX_TARGET {
         return Err(Errno::ENAMETOOLONG);
     }
-    if target.iter().any(|c| *c == 0) {
+    if has_zero(target) {
         return Err(Errno::EINVAL);
     }
     Ok(())

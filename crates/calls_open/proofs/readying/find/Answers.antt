@@ -1,7 +1,5 @@
-use Rattle.std.proofs.Common.{◌≡◌, Bool, Err, List, Ok, false, sym, subst, ap, ◌∙◌}
-use Rattle.std.specs.Prelude.{not, ◌&&◌}
+use Rattle.std.proofs.Common.{Err, List, Ok, sym, subst, ◌∙◌}
 use Rattle.tree.specs.Names.{Name}
-use Rattle.tree.specs.Tree.{is_link_at}
 use Rattle.volume.specs.Pieces.{pieces}
 use Rattle.store.proofs.Turns.{reads_as, reads_then}
 use Rattle.zone.proofs.ZoneInodes.{inode_is}
@@ -12,7 +10,7 @@ use Rattle.path.proofs.Ending.{answers_exit}
 use Rattle.calls_data.proofs.Made.{node_there}
 use Rattle.calls_open.specs.Opening.{FindsToOpen}
 use Rattle.calls_open.proofs.Ending.{answers_halted, reads_both}
-use Rattle.calls_open.proofs.LastLinks.{link_is, look_follows, look_refused, look_stays, walk_found, walk_refused}
+use Rattle.calls_open.proofs.LastLinks.{found_as_is, found_no_link, look_refused, walk_found, walk_refused}
 use Rattle.calls_open.proofs.readying.find.Goals as goal
 
 pub returns-in_err-number-clause-reads : goal.returns-in_err-number-clause-reads
@@ -37,10 +35,9 @@ pub returns-then-as_is-clause-reads : goal.returns-then-as_is-clause-reads
 returns-then-as_is-clause-reads g c =
     let a = c.args in
     let v = a.geometry.now in
-    let n = c.in-There.number in
     reads_as _ _ _ _ _
     (λ d p t holds. let looked = subst (λ (x : Found). Finds v d t a.user a.path.now (Ok x)) c.in-There.is (p t holds.nodes) in
-    (look_stays t a.user a.as_is a.path.now n looked.0 (ap (λ b. not b && is_link_at t.nodes n) c.if-as_is.true), looked.1))
+    found_as_is v d t a.user a.as_is a.path.now holds c.in-There.number looked.0 looked.1 c.if-as_is.true)
     c.in_ok-number.ensures.reads
 
 pub returns-in_err-inode-clause-reads : goal.returns-in_err-inode-clause-reads
@@ -57,41 +54,31 @@ pub returns-then-not-is_link-clause-reads : goal.returns-then-not-is_link-clause
 returns-then-not-is_link-clause-reads g c =
     let a = c.args in
     let v = a.geometry.now in
-    let n = c.in-There.number in
     reads_then _ g.met.B.Blocks.lawful _ _ _ _ _ _
-    (λ d p q t holds. let looked = subst (λ (x : Found). Finds v d t a.user a.path.now (Ok x)) c.in-There.is (p t holds.nodes) in (
-      look_stays t a.user a.as_is a.path.now n looked.0
-          (ap (λ b. not b && is_link_at t.nodes n) c.if-as_is.false ∙ link_is v d t n holds looked.1 c.in_ok-inode.inode q
-          ∙ sym c.is_link.ensures ∙ c.if-not-is_link.true),
-      looked.1,
-    ))
+    (λ d p q t holds. let looked = subst (λ (x : Found). Finds v d t a.user a.path.now (Ok x)) c.in-There.is (p t holds.nodes) in
+    found_no_link v d t a.user a.as_is a.path.now holds c.in-There.number looked.0 looked.1 c.if-as_is.false c.in_ok-inode.inode q
+    (sym c.is_link.ensures ∙ c.if-not-is_link.true))
     c.in_ok-number.ensures.reads c.in_ok-inode.ensures.reads
 
 pub returns-in_err-end-clause-reads : goal.returns-in_err-end-clause-reads
 returns-in_err-end-clause-reads g c =
     let a = c.args in
     let v = a.geometry.now in
-    let n = c.in-There.number in
     reads_then _ g.met.B.Blocks.lawful _ _ _ _ _ _
     (λ d p q t holds. let looked = subst (λ (x : Found). Finds v d t a.user a.path.now (Ok x)) c.in-There.is (p.0 t holds.nodes) in
-    let follows = look_follows t a.user a.as_is a.path.now n looked.0
-    (ap (λ b. not b && is_link_at t.nodes n) c.if-as_is.false ∙ link_is v d t n holds looked.1 c.in_ok-inode.inode p.1
-    ∙ sym c.is_link.ensures ∙ c.if-not-is_link.false) in
     answers_exit _ _ (Walks t a.user c.parts.result) (FindsToOpen v d t a.user a.as_is a.path.now) c.from_residual-in_err-end.ensures.1
-    (λ errno w. follows ∙ walk_refused t a.user a.as_is a.path.now errno
-    (sym (subst (λ (ps : List Name). Walks t a.user ps (Err errno)) c.parts.ensures w).answer)) (q t holds.nodes))
+    (λ errno w. walk_refused v d t a.user a.as_is a.path.now holds c.in-There.number looked.0 looked.1 c.if-as_is.false c.in_ok-inode.inode p.1
+    (sym c.is_link.ensures ∙ c.if-not-is_link.false) errno (subst (λ (ps : List Name). Walks t a.user ps (Err errno)) c.parts.ensures w))
+    (q t holds.nodes))
     (reads_both _ g.met.B.Blocks.lawful _ _ _ _ _ c.in_ok-number.ensures.reads c.in_ok-inode.ensures.reads) c.in_err-end.ensures.reads
 
 pub returns-clause-reads : goal.returns-clause-reads
 returns-clause-reads g c =
     let a = c.args in
     let v = a.geometry.now in
-    let n = c.in-There.number in
+    let end = c.in_ok-end.end in
     reads_then _ g.met.B.Blocks.lawful _ _ _ _ _ _
     (λ d p q t holds. let looked = subst (λ (x : Found). Finds v d t a.user a.path.now (Ok x)) c.in-There.is (p.0 t holds.nodes) in
-    let follows = look_follows t a.user a.as_is a.path.now n looked.0
-    (ap (λ b. not b && is_link_at t.nodes n) c.if-as_is.false ∙ link_is v d t n holds looked.1 c.in_ok-inode.inode p.1
-    ∙ sym c.is_link.ensures ∙ c.if-not-is_link.false) in
-    let walked = subst (λ (ps : List Name). Walks t a.user ps (Ok c.in_ok-end.end)) c.parts.ensures (q t holds.nodes) in
-    (follows ∙ walk_found t a.user a.as_is a.path.now c.in_ok-end.end (sym walked.answer), walked.there))
+    walk_found v d t a.user a.as_is a.path.now holds c.in-There.number looked.0 looked.1 c.if-as_is.false c.in_ok-inode.inode p.1
+    (sym c.is_link.ensures ∙ c.if-not-is_link.false) end (subst (λ (ps : List Name). Walks t a.user ps (Ok end)) c.parts.ensures (q t holds.nodes)))
     (reads_both _ g.met.B.Blocks.lawful _ _ _ _ _ c.in_ok-number.ensures.reads c.in_ok-inode.ensures.reads) c.in_ok-end.ensures.reads

@@ -1,8 +1,8 @@
-use Rattle.std.proofs.Common.{◌≡◌, ◌<◌, Bool, Err, Ok, sym, subst, arith}
+use Rattle.std.proofs.Common.{◌≡◌, ◌<◌, Bool, Err, Ok, false, sym, subst, arith}
 use Rattle.std.proofs.lemmas.List.Elements.{All-from_get_or}
 use Rattle.std.specs.List.{All}
 use Rattle.std.specs.Prelude.{IsTrue, is_some}
-use Rattle.tree.specs.Tree.{Tree}
+use Rattle.tree.specs.Tree.{Tree, is_link_at}
 use Rattle.tree.specs.Walk.{is_there, open_look_up, read_path}
 use Rattle.volume.specs.Holds.{HoldsVolume}
 use Rattle.volume.specs.Reading.{Disk}
@@ -54,11 +54,12 @@ returns-in_err-ready_there-in-There-clause-turns g c =
     (λ d e f p q t holds.
     let looked = subst (λ (x : Found). FindsToOpen v d t a.user (only_makes a.flags.0) parts (Ok x)) c.in-There.is
     (subst (λ (b : Bool). FindsToOpen v d t a.user b parts (Ok c.in_ok-number.field-0)) c.only_makes.ensures (p.1 t holds)) in
-    let readied = subst (λ (z : Disk). (u : Tree) → HoldsVolume v z u → IsTrue (is_some (u.nodes n)) → Answers (Err why) (ReadiesThere v u a.user a.now n a.flags.0 z f)) p.0 q in
+    let readied = subst (λ (z : Disk). (u : Tree) → HoldsVolume v z u → IsTrue (is_some (u.nodes n)) → (only_makes a.flags.0 ≡ false → is_link_at u.nodes n ≡ false)
+    → Answers (Err why) (ReadiesThere v u a.user a.now n a.flags.0 z f)) p.0 q in
     answers_exit _ _ (ReadiesThere v t a.user a.now n a.flags.0 d f) (Readies v t (open_named v t a.user a.now a.path.now a.flags.0 a.mode) a.flags.0 d f)
     c.from_residual-in_err-ready_there-in-There.ensures.1
-    (λ errno x. refused_as v t a.user a.now a.path.now a.flags.0 a.mode d f parts read (is_there n) looked.0 errno (x a.mode))
-    (readied t holds looked.1))
+    (λ errno x. refused_as v t a.user a.now a.path.now a.flags.0 a.mode d f parts read (is_there n) looked.found errno (x a.mode))
+    (readied t holds looked.there looked.no_link))
     c.in_ok-number.ensures.reads c.in_err-ready_there-in-There.ensures.turns
 
 pub returns-in_ok-ready_there-in-There-clause-turns : goal.returns-in_ok-ready_there-in-There-clause-turns
@@ -72,8 +73,9 @@ returns-in_ok-ready_there-in-There-clause-turns g c =
     (λ d e f p q t holds.
     let looked = subst (λ (x : Found). FindsToOpen v d t a.user (only_makes a.flags.0) parts (Ok x)) c.in-There.is
     (subst (λ (b : Bool). FindsToOpen v d t a.user b parts (Ok c.in_ok-number.field-0)) c.only_makes.ensures (p.1 t holds)) in
-    let readied = subst (λ (z : Disk). (u : Tree) → HoldsVolume v z u → IsTrue (is_some (u.nodes n)) → ReadiesThere v u a.user a.now n a.flags.0 z f (Ok tt)) p.0 q in
-    ready_as v t a.user a.now a.path.now a.flags.0 a.mode d f parts read (is_there n) looked.0 n (readied t holds looked.1 a.mode))
+    let readied = subst (λ (z : Disk). (u : Tree) → HoldsVolume v z u → IsTrue (is_some (u.nodes n)) → (only_makes a.flags.0 ≡ false → is_link_at u.nodes n ≡ false)
+    → ReadiesThere v u a.user a.now n a.flags.0 z f (Ok tt)) p.0 q in
+    ready_as v t a.user a.now a.path.now a.flags.0 a.mode d f parts read (is_there n) looked.found n (readied t holds looked.there looked.no_link a.mode))
     c.in_ok-number.ensures.reads c.in_ok-ready_there-in-There.ensures.turns
 
 pub returns-in-Missing-clause-turns : goal.returns-in-Missing-clause-turns
