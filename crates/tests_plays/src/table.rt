@@ -1,6 +1,8 @@
 //! Each play that is written as text.
-use crate::{attributes, bytes, calls, followed, full, images, links, moves, opened, opening, places};
-use crate::renames;
+use crate::{
+    attributes, bytes, calls, followed, full, images, links, moves, opened, opening, places,
+    renames,
+};
 use fixtures_plays::texts::{all_are_played, both_are_played};
 use std::test::Fail;
 
