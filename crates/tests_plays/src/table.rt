@@ -15,7 +15,7 @@ static PLAYS: [(&str, usize); 12] = [
     (places::PLAYS, 5),
     (renames::PLAYS, 9),
     (moves::PLAYS, 11),
-    (full::PLAYS, 1),
+    (full::PLAYS, 2),
     (calls::PLAYS, 20),
     (images::PLAYS, 3),
     (links::PLAYS, 7),
