@@ -105,7 +105,10 @@ fn targets_have_1_to_1023_bytes(rt: HostRuntime) -> Result<(), Fail> {
     let before = Vec::from_slice(rt.alloc(), volume.bytes())?;
     for (number, (target, path, errno)) in REFUSED.iter().enumerate() {
         let call = Call::Symlink { target, path };
-        assert!(rt; volume.reply(ROOT, &call) == Reply::Refused(*errno), "{number}");
+        assert!(rt;
+            volume.reply(ROOT, &call) == Reply::Refused(*errno),
+            "{number}"
+        );
     }
     for call in [Call::Readlink { path: b"" }, Call::Lstat { path: b"" }] {
         assert!(rt; volume.reply(ROOT, &call) == Reply::Refused(Errno::ENOENT));

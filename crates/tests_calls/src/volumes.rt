@@ -86,8 +86,8 @@ fn image(alloc: Global) -> Result<Vec<u8>, AllocError> {
     Ok(image)
 }
 
-/// That image with one more name in the root, `l`. Inode 4 is a symbolic link of user 0 to `d`, whose bits grant nothing; its target lies in
-/// zone 8. Its times are 0.
+/// That image with one more name in the root, `l`. Inode 4 is a symbolic link of user 0 to `d`, whose bits grant nothing; its target lies
+/// in zone 8. Its times are 0.
 fn linked(alloc: Global) -> Result<Vec<u8>, AllocError> {
     let mut image = image(alloc)?;
     let parts: [(usize, &[u8]); 7] = [

@@ -1,6 +1,8 @@
 //! Each play that is written as text.
-use crate::{attributes, bytes, calls, followed, full, images, links, moves, opened, opening, places};
-use crate::renames;
+use crate::{
+    attributes, bytes, calls, followed, full, images, links, moves, opened, opening, places,
+    renames,
+};
 use fixtures_plays::texts::{all_are_played, both_are_played};
 use std::test::Fail;
 
@@ -13,7 +15,7 @@ static PLAYS: [(&str, usize); 12] = [
     (places::PLAYS, 5),
     (renames::PLAYS, 9),
     (moves::PLAYS, 11),
-    (full::PLAYS, 1),
+    (full::PLAYS, 2),
     (calls::PLAYS, 20),
     (images::PLAYS, 3),
     (links::PLAYS, 7),

@@ -168,13 +168,15 @@ returns-in-Symlink-clause-turns g c =
     let a = c.args in let f = files_of a.opens.now in let w = c.in-Symlink in let early = c.if-who-ge-MAX_SESSIONS.false in
     turns_as _ _ _ _ _ (λ d e x. kind_meets a.geometry.now a.who a.now (Symlink w.target w.path) early
     (λ t. symlink a.geometry.now t c.user_of-user.result a.now w.target.now w.path.now)
-    (λ t. ap (λ (u : User). symlink a.geometry.now t u a.now w.target.now w.path.now) (sym c.user_of-user.ensures)) a.call.now w.is c.symlink.result f f d e (x f))
+    (λ t. ap (λ (u : User). symlink a.geometry.now t u a.now w.target.now w.path.now) (sym c.user_of-user.ensures))
+    a.call.now w.is c.symlink.result f f d e (x f))
     c.symlink.ensures.turns
 
 pub returns-in-Readlink-clause-turns : goal.returns-in-Readlink-clause-turns
 returns-in-Readlink-clause-turns g c =
     let a = c.args in let f = files_of a.opens.now in let w = c.in-Readlink in let early = c.if-who-ge-MAX_SESSIONS.false in
-    turns_as _ _ _ _ _ (λ d e x. kind_meets a.geometry.now a.who a.now (Readlink w.path) early (λ t. readlink t c.user_of-user.result w.path.now)
+    turns_as _ _ _ _ _ (λ d e x. kind_meets a.geometry.now a.who a.now (Readlink w.path) early
+    (λ t. readlink t c.user_of-user.result w.path.now)
     (λ t. ap (λ (u : User). readlink t u w.path.now) (sym c.user_of-user.ensures)) a.call.now w.is c.readlink.result f f d e (x f))
     c.readlink.ensures.turns
 
