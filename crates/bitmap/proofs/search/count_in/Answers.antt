@@ -5,7 +5,7 @@ use Rattle.volume.specs.Pieces.{pieces}
 use Rattle.store.proofs.Turns.{turns_as, turns_seen}
 use Rattle.bitmap.specs.Maps.{numbers_in}
 use Rattle.bitmap.proofs.Blocks.{in_block, count_moved}
-use Rattle.bitmap.proofs.count_in.Goals as goal
+use Rattle.bitmap.proofs.search.count_in.Goals as goal
 
 pub returns-clause-reads : goal.returns-clause-reads
 returns-clause-reads g c =

@@ -4,7 +4,7 @@ use Rattle.volume.specs.Pieces.{pieces}
 use Rattle.store.proofs.Turns.{turns_as, turns_seen}
 use Rattle.bitmap.specs.Maps.{numbers_in}
 use Rattle.bitmap.proofs.Blocks.{in_block, lowest_moved, none_moved}
-use Rattle.bitmap.proofs.lowest_in.Goals as goal
+use Rattle.bitmap.proofs.search.lowest_in.Goals as goal
 
 pub returns-in-Some-clause-reads : goal.returns-in-Some-clause-reads
 returns-in-Some-clause-reads g c =
@@ -16,7 +16,7 @@ returns-in-Some-clause-reads g c =
       x.0,
       lowest_moved (numbers_in m (pieces v d)) (bit_in (slice_index c.bytes.result.now)) p.result.first p.result.from p.result.end
           (in_block m v d c.args.k p.result.block p.result.first p.result.from p.result.end c.bytes.result.now p.ensures.block p.ensures.first p.ensures.end p.ensures.within x.1)
-          c.in-Some.bit _ _ p.ensures.from p.ensures.end c.in-Some.ensures,
+          c.in-Some.bit _ _ p.ensures.from p.ensures.end c.in-Some.ensures.lowest,
     ))
     (turns_seen _ g.met.B.Blocks.lawful _ _ p.result.block c.bytes.result.now (c.bytes.ensures.bytes p.result.block c.in_ok-frame.ensures.frame) c.fetch.ensures.turns)
 
@@ -30,6 +30,6 @@ returns-in-None-clause-reads g c =
       x.0,
       none_moved (numbers_in m (pieces v d)) (bit_in (slice_index c.bytes.result.now)) p.result.first p.result.from p.result.end
           (in_block m v d c.args.k p.result.block p.result.first p.result.from p.result.end c.bytes.result.now p.ensures.block p.ensures.first p.ensures.end p.ensures.within x.1)
-          _ _ p.ensures.from p.ensures.end c.in-None.ensures,
+          _ _ p.ensures.from p.ensures.end c.in-None.ensures.lowest,
     ))
     (turns_seen _ g.met.B.Blocks.lawful _ _ p.result.block c.bytes.result.now (c.bytes.ensures.bytes p.result.block c.in_ok-frame.ensures.frame) c.fetch.ensures.turns)
