@@ -33,7 +33,8 @@ module _ (t : Tree) (user : User) (as_is : Bool) (parts : List Name) where
   look_refused e is = ap (λ r. r >>= after_look) is
 
   -- a name is missing
-  pub look_missing : (place : tree.Place) → look_up t user parts ≡ Ok (is_missing place) → open_look_up t user as_is parts ≡ Ok (is_missing place)
+  pub look_missing : (place : tree.Place) → look_up t user parts ≡ Ok (is_missing place)
+      → open_look_up t user as_is parts ≡ Ok (is_missing place)
   look_missing place is = ap (λ r. r >>= after_look) is ∙ ap (λ b. if b then whole else Ok (is_missing place)) (no_link (not as_is))
     where
       no_link : (b : Bool) → (b && false) ≡ false
@@ -41,14 +42,17 @@ module _ (t : Tree) (user : User) (as_is : Bool) (parts : List Name) where
       no_link false = refl
 
   -- what is there stays, or is followed
-  look_stays : (n : ℕ) → look_up t user parts ≡ Ok (is_there n) → (not as_is && is_link_at t.nodes n) ≡ false → open_look_up t user as_is parts ≡ Ok (is_there n)
+  look_stays : (n : ℕ) → look_up t user parts ≡ Ok (is_there n) → (not as_is && is_link_at t.nodes n) ≡ false
+      → open_look_up t user as_is parts ≡ Ok (is_there n)
   look_stays n is stays = ap (λ r. r >>= after_look) is ∙ ap (λ b. if b then whole else Ok (is_there n)) stays
 
-  look_follows : (n : ℕ) → look_up t user parts ≡ Ok (is_there n) → (not as_is && is_link_at t.nodes n) ≡ true → open_look_up t user as_is parts ≡ whole
+  look_follows : (n : ℕ) → look_up t user parts ≡ Ok (is_there n) → (not as_is && is_link_at t.nodes n) ≡ true
+      → open_look_up t user as_is parts ≡ whole
   look_follows n is follows = ap (λ r. r >>= after_look) is ∙ ap (λ b. if b then whole else Ok (is_there n)) follows
 
 -- whether a link stands there is in its inode
-link_is : (g : Geometry) (d : Disk) (t : Tree) (n : ℕ) → HoldsVolume g d t → IsTrue (is_some (t.nodes n)) → (i : Inode) → i ≡ (pieces g d).inodes n
+link_is : (g : Geometry) (d : Disk) (t : Tree) (n : ℕ) → HoldsVolume g d t → IsTrue (is_some (t.nodes n)) → (i : Inode)
+    → i ≡ (pieces g d).inodes n
     → is_link_at t.nodes n ≡ is_link_mode i.mode
 link_is g d t n holds there i loaded =
     ap (λ (o : Option Node). elim o [ None ↦ false | Some node ↦ node.symbolic ]) (node_there g d t n holds there).1
@@ -58,8 +62,8 @@ link_is g d t n holds there i loaded =
 root_no_link : (g : Geometry) (t : Tree) → IsTree g t → is_link_at t.nodes 1 ≡ false
 root_no_link g t tree = by_node (t.nodes 1) refl
   where
-    by_body : (symbolic : Bool) (body : Body) → (IsTrue symbolic → HasTarget body) → (elim body [ is_file f ↦ false | is_directory d ↦ true ]) ≡ true
-        → symbolic ≡ false
+    by_body : (symbolic : Bool) (body : Body) → (IsTrue symbolic → HasTarget body)
+        → (elim body [ is_file f ↦ false | is_directory d ↦ true ]) ≡ true → symbolic ≡ false
     by_body false body target is = refl
     by_body true (is_file f) target is = absurd (false_not_true is)
     by_body true (is_directory d) target is = absurd (target refl)

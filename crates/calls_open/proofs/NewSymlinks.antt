@@ -62,7 +62,9 @@ module _ (g : Geometry) (ok : IsGeometry g) (user : User) (now : ℕ) (target pa
   rest t place parent = free_inode g t >>= with_number t place
 
   by_target : (t : Tree) → effect t ≡ (may_be_target target.now >>= λ _. at_new_place t user path.now (rest t))
-  by_target t = asked_first (length target.now == 0) (nat_lt most_target (length target.now)) (list_any (λ c. c == 0) target.now) (at_new_place t user path.now (rest t))
+  by_target t =
+      asked_first (length target.now == 0) (nat_lt most_target (length target.now)) (list_any (λ c. c == 0) target.now)
+      (at_new_place t user path.now (rest t))
 
   -- the bytes are no target
   pub bad_target : (t : Tree) (e : Errno) → may_be_target target.now ≡ Err e → effect t ≡ Err e
@@ -73,7 +75,8 @@ module _ (g : Geometry) (ok : IsGeometry g) (user : User) (now : ℕ) (target pa
     good_target t = by_target t ∙ ap (λ r. r >>= λ _. at_new_place t user path.now (rest t)) fit
 
     -- the place isn't new
-    pub no_place : (t : Tree) (e : Errno) → ((rest : tree.Place → Node → Effect) → at_new_place t user path.now rest ≡ Err e) → effect t ≡ Err e
+    pub no_place : (t : Tree) (e : Errno) → ((rest : tree.Place → Node → Effect) → at_new_place t user path.now rest ≡ Err e)
+        → effect t ≡ Err e
     no_place t e h = good_target t ∙ h (rest t)
 
     module _ (d : Disk) (t : Tree) (p : Place) (holds : HoldsVolume g d t) (new : IsNewPlace g d t user path.now p) where
@@ -100,7 +103,8 @@ module _ (g : Geometry) (ok : IsGeometry g) (user : User) (now : ℕ) (target pa
             let zones = its_zones h.0 h.1 in
             let more = full.none h.0 h.1 now in
             ap (λ r. r >>= with_number t place) h.1
-            ∙ cond-true (nat_lt (data_zones g) (zones_used g (after t place h.0))) (Err ENOSPC) (Ok (done, after t place h.0)) (lt-ltb _ _ (omega (arith, zones, more)))
+            ∙ cond-true (nat_lt (data_zones g) (zones_used g (after t place h.0))) (Err ENOSPC) (Ok (done, after t place h.0))
+            (lt-ltb _ _ (omega (arith, zones, more)))
       ]) ∙ ap (λ x. Err x) (sym full.errno)
 
       -- it is made
@@ -110,16 +114,19 @@ module _ (g : Geometry) (ok : IsGeometry g) (user : User) (now : ℕ) (target pa
             let zones = its_zones n free.least in
             let fits = free.room now in
             to_number ∙ ap (λ r. r >>= with_number t place) free.least
-            ∙ cond-false (nat_lt (data_zones g) (zones_used g (after t place n))) (Err ENOSPC) (Ok (done, after t place n)) (le-ltb _ _ (omega (arith, zones, fits)))
+            ∙ cond-false (nat_lt (data_zones g) (zones_used g (after t place n))) (Err ENOSPC) (Ok (done, after t place n))
+            (le-ltb _ _ (omega (arith, zones, fits)))
 
         abbrev who : Who
         who = record { session = 0; uid = user.uid; gid = user.gid }
 
         -- and is a tree
-        still_tree : now < 2 ^ 32 → user.uid < 2 ^ 16 → user.gid < 2 ^ 16 → IsBytes target.now → IsBytes path.now → IsTree g (after t place n)
+        still_tree : now < 2 ^ 32 → user.uid < 2 ^ 16 → user.gid < 2 ^ 16 → IsBytes target.now → IsBytes path.now
+            → IsTree g (after t place n)
         still_tree small uid gid its_bytes bytes =
             subst (IsTree g) (ap (λ (r : Effect). elim r [ Ok made ↦ made.1 | Err e ↦ t ]) is_made)
-            (symlink_keeps g t who now target path ok (record { session = omega arith; uid = uid; gid = gid }) small its_bytes bytes holds.nodes.tree)
+            (symlink_keeps g t who now target path ok (record { session = omega arith; uid = uid; gid = gid }) small its_bytes bytes
+            holds.nodes.tree)
 
         pub may_make : MayMakeAt g d p n 1
         may_make = record { tree = t; holds = holds; parent = new.parent; vacant = new.vacant; free = free }
@@ -128,7 +135,8 @@ module _ (g : Geometry) (ok : IsGeometry g) (user : User) (now : ℕ) (target pa
             → IsBytes target.now → IsBytes path.now → HoldsVolume g e (after t place n)
         unfolding may_make
         made_held e makes small uid gid its_bytes bytes =
-            holds_at_end g d e (after t place n).nodes t (after t place n) ok holds (makes may_make) refl (still_tree small uid gid its_bytes bytes)
+            holds_at_end g d e (after t place n).nodes t (after t place n) ok holds (makes may_make) refl
+            (still_tree small uid gid its_bytes bytes)
 
         pub made_files : (f : Files) → HasFiles f t → HasFiles f (after t place n)
         made_files f h =
@@ -136,12 +144,14 @@ module _ (g : Geometry) (ok : IsGeometry g) (user : User) (now : ℕ) (target pa
             link_files g ok t user now 0 place n new.parent new.vacant.there new.vacant.directory it.nothing new.vacant.free target.now f h
 
     -- the whole call
-    pub link_done : (d e : Disk) (p : Place) (n : ℕ) (f : Files) → now < 2 ^ 32 → user.uid < 2 ^ 16 → user.gid < 2 ^ 16 → IsBytes target.now → IsBytes path.now
+    pub link_done : (d e : Disk) (p : Place) (n : ℕ) (f : Files) → now < 2 ^ 32 → user.uid < 2 ^ 16 → user.gid < 2 ^ 16
+        → IsBytes target.now → IsBytes path.now
         → ((t : Tree) → HoldsVolume g d t → (new : IsNewPlace g d t user path.now p) × IsFreeFor g t p.directory new.parent p.name.now 1 n)
         → MakesLinkAt g user now target.now p n d e → Does g effect done (HasFiles f) (HasFiles f) d e
     link_done d e p n f small uid gid its_bytes bytes found makes = record {
       each = λ t holds files.
           let x = found t holds in
           granted_made g t (after t (place_of g d p) n) (effect t) done (HasFiles f) e
-          (is_made d t p holds x.0 n x.1) (made_held d t p holds x.0 n x.1 e makes small uid gid its_bytes bytes) (made_files d t p holds x.0 n x.1 f files);
+          (is_made d t p holds x.0 n x.1) (made_held d t p holds x.0 n x.1 e makes small uid gid its_bytes bytes)
+          (made_files d t p holds x.0 n x.1 f files);
     }

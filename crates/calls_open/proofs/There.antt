@@ -150,8 +150,8 @@ module _ (g : Geometry) (ok : IsGeometry g) (d : Disk) (t : Tree) (holds : Holds
     }
 
     -- or it is emptied
-    module _ (emptied : (truncates flags && not (is_directory_mode i.mode)) ≡ true) (small : now < 2 ^ 32) (e : Disk) (s : SetsSizeAt g n 0 now d e)
-        (last : only_makes flags ≡ false → is_link_at t.nodes n ≡ false) where
+    module _ (emptied : (truncates flags && not (is_directory_mode i.mode)) ≡ true) (small : now < 2 ^ 32) (e : Disk)
+        (s : SetsSizeAt g n 0 now d e) (last : only_makes flags ≡ false → is_link_at t.nodes n ≡ false) where
       abbrev new : File
       new = file_after_resize g h 0
 

@@ -20,8 +20,9 @@ use path::{Found, Path, Stop, look_up, walk};
 use store::Blocks;
 use tree::{OpenFlags, User};
 
-/// Readies a node that is there, no symbolic link unless the call opens only what it makes: with the truncate flag its file is emptied, changed at `now` (seconds). EEXIST where the call makes files
-/// and takes no others, EISDIR of a directory to be written, EACCES where the user lacks a permission; then nothing is changed.
+/// Readies a node that is there, no symbolic link unless the call opens only what it makes: with the truncate flag its file is emptied,
+/// changed at `now` (seconds). EEXIST where the call makes files and takes no others, EISDIR of a directory to be written, EACCES where the
+/// user lacks a permission; then nothing is changed.
 fn ready_there<B: Blocks>(
     blocks: &mut B,
     geometry: &Geometry,

@@ -83,7 +83,8 @@ module _ (g : Geometry) (v : Pieces) (n now : ℕ) (user : User) (target : List 
 module _ (g : Geometry) (ok : IsGeometry g) (n now : ℕ) (user : User) (target : List ℕ) (some : 0 < length target)
     (few : length target ≤ most_target) (d e : Disk) (alters : Alters g (with_new_inode (pieces g d) n (link_inode user now)) d e) where
   pub may_begin : MayMakeLink g (pieces g d) n → MayWriteAt g (pieces g e) n 0 target
-  may_begin may = subst (λ (z : Pieces). MayWriteAt g z n 0 target) (sym alters.pieces) (may_write g (pieces g d) n now user target ok some few may)
+  may_begin may = subst (λ (z : Pieces). MayWriteAt g z n 0 target) (sym alters.pieces)
+      (may_write g (pieces g d) n now user target ok some few may)
 
   pub link_makes : (f : Disk) → WritesAt g n 0 target e f → MakesLink g n user now target d f
   link_makes f writes = record {
@@ -91,5 +92,6 @@ module _ (g : Geometry) (ok : IsGeometry g) (n now : ℕ) (user : User) (target 
     becomes = λ may.
         let w = with_new_inode (pieces g d) n (link_inode user now) in
         link_made g (pieces g d) n now user target ok some few may (pieces g f)
-        (subst (λ (z : Pieces). BecomesFile g z (pieces g f) n (z.inodes n) (written_at g z n 0 target)) alters.pieces (writes.becomes (may_begin may)));
+        (subst (λ (z : Pieces). BecomesFile g z (pieces g f) n (z.inodes n) (written_at g z n 0 target)) alters.pieces
+        (writes.becomes (may_begin may)));
   }

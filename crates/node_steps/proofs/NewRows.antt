@@ -1,7 +1,7 @@
 -- The first page of a directory is written: it is in order, and has no names.
 use Rattle.std.proofs.Common.{◌≡◌, ◌≢◌, ◌<◌, ◌≤◌, ◌+◌, ◌*◌, ◌-◌, ◌/◌, ℕ, true, false, List, length, refl, sym, ap, subst, ◌∙◌, arith}
 use mathlib.Core.Logic.{inl, inr}
-use Rattle.std.specs.Prelude.{◌&&◌, ◌==◌, nat_le, nat_lt, IsTrue, Some, slice_index, []}
+use Rattle.std.specs.Prelude.{◌&&◌, nat_le, nat_lt, IsTrue, Some, slice_index, []}
 use Rattle.std.proofs.lemmas.Bool.{and_from, cases_eq, cases_lt, cond-false, cond-true, le-leb, le-ltb, lt-ltb}
 use Rattle.lemmas.proofs.Numbers.{not_zero}
 use Rattle.layout.specs.declared.Geometry.{Geometry}
@@ -93,7 +93,8 @@ module _ (g : Geometry) (v : Pieces) (n parent now permissions : ℕ) (user : Us
 
   room : HasZonesFor g w n (written_at g w n 0 bytes).held
   room = subst (λ (f : File). HasZonesFor g w n f.held) (sym written)
-      (has_first_page g v n i ok may.make refl refl (directory_mode permissions few) (begun g bytes).held (held_is g ok bytes first.many) may.room)
+      (has_first_page g v n i ok may.make refl refl (directory_mode permissions few) (begun g bytes).held (held_is g ok bytes first.many)
+      may.room)
 
   pub may_write : MayWriteAt g w n 0 bytes
   may_write = record { change = may_change g v n i ok may.make refl refl (directory_mode permissions few); room = room }

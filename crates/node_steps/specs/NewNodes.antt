@@ -4,7 +4,7 @@ use Rattle.errno.specs.declared.Errno.TheVariants.{ENOSPC}
 use Rattle.layout.specs.declared.Geometry.{Geometry}
 use Rattle.tree.specs.declared.User.{User}
 use Rattle.tree.specs.Sums.{put}
-use Rattle.tree.specs.Tree.{Node, Tree}
+use Rattle.tree.specs.Tree.{Tree}
 use Rattle.tree.specs.Refusals.{or_refuse}
 use Rattle.tree.specs.Changes.{empty_directory, empty_file, free_inode, new_link, new_node}
 use Rattle.tree.specs.Space.{data_zones}

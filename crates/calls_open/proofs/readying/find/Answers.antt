@@ -67,8 +67,9 @@ returns-in_err-end-clause-reads g c =
     reads_then _ g.met.B.Blocks.lawful _ _ _ _ _ _
     (λ d p q t holds. let looked = subst (λ (x : Found). Finds v d t a.user a.path.now (Ok x)) c.in-There.is (p.0 t holds.nodes) in
     answers_exit _ _ (Walks t a.user c.parts.result) (FindsToOpen v d t a.user a.as_is a.path.now) c.from_residual-in_err-end.ensures.1
-    (λ errno w. walk_refused v d t a.user a.as_is a.path.now holds c.in-There.number looked.0 looked.1 c.if-as_is.false c.in_ok-inode.inode p.1
-    (sym c.is_link.ensures ∙ c.if-not-is_link.false) errno (subst (λ (ps : List Name). Walks t a.user ps (Err errno)) c.parts.ensures w))
+    (λ errno w. walk_refused v d t a.user a.as_is a.path.now holds c.in-There.number looked.0 looked.1 c.if-as_is.false
+    c.in_ok-inode.inode p.1 (sym c.is_link.ensures ∙ c.if-not-is_link.false) errno
+    (subst (λ (ps : List Name). Walks t a.user ps (Err errno)) c.parts.ensures w))
     (q t holds.nodes))
     (reads_both _ g.met.B.Blocks.lawful _ _ _ _ _ c.in_ok-number.ensures.reads c.in_ok-inode.ensures.reads) c.in_err-end.ensures.reads
 
@@ -80,5 +81,6 @@ returns-clause-reads g c =
     reads_then _ g.met.B.Blocks.lawful _ _ _ _ _ _
     (λ d p q t holds. let looked = subst (λ (x : Found). Finds v d t a.user a.path.now (Ok x)) c.in-There.is (p.0 t holds.nodes) in
     walk_found v d t a.user a.as_is a.path.now holds c.in-There.number looked.0 looked.1 c.if-as_is.false c.in_ok-inode.inode p.1
-    (sym c.is_link.ensures ∙ c.if-not-is_link.false) end (subst (λ (ps : List Name). Walks t a.user ps (Ok end)) c.parts.ensures (q t holds.nodes)))
+    (sym c.is_link.ensures ∙ c.if-not-is_link.false) end
+    (subst (λ (ps : List Name). Walks t a.user ps (Ok end)) c.parts.ensures (q t holds.nodes)))
     (reads_both _ g.met.B.Blocks.lawful _ _ _ _ _ c.in_ok-number.ensures.reads c.in_ok-inode.ensures.reads) c.in_ok-end.ensures.reads

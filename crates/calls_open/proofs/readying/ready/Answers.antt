@@ -37,7 +37,8 @@ returns-in_err-number-clause-turns g c =
     let parts = c.in_ok-path.path in
     let read : read_path a.path.now ≡ Ok parts = sym c.in_ok-path.ensures.parsed in
     turns_as _ _ _ _ _
-    (λ d e p t holds. answers_exit _ _ (FindsToOpen v d t a.user c.only_makes.result parts) (Readies v t (open_named v t a.user a.now a.path.now a.flags.0 a.mode) a.flags.0 d e) c.from_residual-in_err-number.ensures.1
+    (λ d e p t holds. answers_exit _ _ (FindsToOpen v d t a.user c.only_makes.result parts)
+    (Readies v t (open_named v t a.user a.now a.path.now a.flags.0 a.mode) a.flags.0 d e) c.from_residual-in_err-number.ensures.1
     (λ errno is. not_looked_up v t a.user a.now a.path.now a.flags.0 a.mode d e parts read errno p.0
     (subst (λ (b : Bool). open_look_up t a.user b parts ≡ Err errno) c.only_makes.ensures is)) (p.1 t holds))
     c.in_err-number.ensures.reads
@@ -54,7 +55,8 @@ returns-in_err-ready_there-in-There-clause-turns g c =
     (λ d e f p q t holds.
     let looked = subst (λ (x : Found). FindsToOpen v d t a.user (only_makes a.flags.0) parts (Ok x)) c.in-There.is
     (subst (λ (b : Bool). FindsToOpen v d t a.user b parts (Ok c.in_ok-number.field-0)) c.only_makes.ensures (p.1 t holds)) in
-    let readied = subst (λ (z : Disk). (u : Tree) → HoldsVolume v z u → IsTrue (is_some (u.nodes n)) → (only_makes a.flags.0 ≡ false → is_link_at u.nodes n ≡ false)
+    let readied = subst (λ (z : Disk). (u : Tree) → HoldsVolume v z u → IsTrue (is_some (u.nodes n))
+    → (only_makes a.flags.0 ≡ false → is_link_at u.nodes n ≡ false)
     → Answers (Err why) (ReadiesThere v u a.user a.now n a.flags.0 z f)) p.0 q in
     answers_exit _ _ (ReadiesThere v t a.user a.now n a.flags.0 d f) (Readies v t (open_named v t a.user a.now a.path.now a.flags.0 a.mode) a.flags.0 d f)
     c.from_residual-in_err-ready_there-in-There.ensures.1
@@ -73,9 +75,11 @@ returns-in_ok-ready_there-in-There-clause-turns g c =
     (λ d e f p q t holds.
     let looked = subst (λ (x : Found). FindsToOpen v d t a.user (only_makes a.flags.0) parts (Ok x)) c.in-There.is
     (subst (λ (b : Bool). FindsToOpen v d t a.user b parts (Ok c.in_ok-number.field-0)) c.only_makes.ensures (p.1 t holds)) in
-    let readied = subst (λ (z : Disk). (u : Tree) → HoldsVolume v z u → IsTrue (is_some (u.nodes n)) → (only_makes a.flags.0 ≡ false → is_link_at u.nodes n ≡ false)
+    let readied = subst (λ (z : Disk). (u : Tree) → HoldsVolume v z u → IsTrue (is_some (u.nodes n))
+    → (only_makes a.flags.0 ≡ false → is_link_at u.nodes n ≡ false)
     → ReadiesThere v u a.user a.now n a.flags.0 z f (Ok tt)) p.0 q in
-    ready_as v t a.user a.now a.path.now a.flags.0 a.mode d f parts read (is_there n) looked.found n (readied t holds looked.there looked.no_link a.mode))
+    ready_as v t a.user a.now a.path.now a.flags.0 a.mode d f parts read (is_there n) looked.found n
+    (readied t holds looked.there looked.no_link a.mode))
     c.in_ok-number.ensures.reads c.in_ok-ready_there-in-There.ensures.turns
 
 pub returns-in-Missing-clause-turns : goal.returns-in-Missing-clause-turns

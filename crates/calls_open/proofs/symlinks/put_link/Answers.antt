@@ -26,7 +26,8 @@ returns-clause-turns g c =
     let v = a.geometry.now in
     let ok = c.requires.on.geometry in
     turns_then _ g.met.B.Blocks.lawful _ _ _ _ _ _
-    (λ d e f p q. ends_as _ _ (λ x. MakesLinkAt v a.user a.now a.target.now a.place.now a.number d f) _ (MayMakeAt v d a.place.now a.number 1)
+    (λ d e f p q. ends_as _ _ (λ x. MakesLinkAt v a.user a.now a.target.now a.place.now a.number d f) _
+    (MayMakeAt v d a.place.now a.number 1)
     (λ x inserts may. link_done v ok d a.place.now a.number 1 a.now 0 a.user may a.target.now (omega arith) e p f inserts)
     (λ may. may_name_link v ok d a.place.now a.number 1 a.now 0 a.user may a.target.now (omega arith) e p) q)
     c.in_ok-new_link.ensures.turns c.insert.ensures.turns
