@@ -3,7 +3,6 @@
 #![tactic(auto)]
 
 pub mod opened;
-pub mod program;
 pub mod start;
 
 // passed on, for what starts a service

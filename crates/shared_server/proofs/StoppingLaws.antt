@@ -34,7 +34,7 @@ use Rattle.shared_server.specs.declared.stopping.StopRefusal.TheVariants.{Sessio
 use Rattle.shared_server.specs.Descriptors.{is_done, was_cut, succeeded}
 use Rattle.shared_server.specs.Held.{IsHeld}
 use Rattle.shared_server.specs.Stopping.{syncer, SyncEnd, Went, WasGivenUp, WasCut, sync_end, has_ended, SyncTells, IsLastRecord, IsLastLine, IsLastImage, WhyNotSynced}
-use Rattle.shared_server.proofs.HeldLaws.{Kept, ends_called, kept_if_cut, not_given_up, done_is}
+use Rattle.shared_server.proofs.HeldLaws.{Kept, ends_called, kept_if_cut, legal_from, not_given_up, done_is, true_before, true_outcome}
 
 -- a record goes on with a message, and with each act
 counted_goes_on : (b : Bool) (a : BlockReply) (marks : List Mark) → IsBeginning marks (if b then Answered a ∷ marks else marks)
@@ -163,18 +163,21 @@ last_of room link serving line is_ready knows runs_on record_in old mid outcome 
     subst (λ (h : SyncEnd). IsLastLine link room.geometry v marks h (line mid)) is (record {
       ended = sym ends ∙ ended_by outcome (serving mid).ended c.keeps.cut.0 c.keeps.cut.1;
       says = λ tree first.
-          let st = held.stands tree first in
-          let truth = c.truth v tree marks st.minor st.serves.agrees st.truth in
+          let st = held.stands in
+          let own = held.tree in
+          let truth = c.truth v own marks st.minor st.serves.agrees st.truth in
           let last : IsEndLast (serving mid).told = subst IsEndLast (sym (kept.tells mid)) (kept.end_last (line mid) here truth) in
           record {
             marks = here;
             guaranteed = truth;
             goes_on = acts_go_on c.keeps.acts marks;
             tells = outcome_tells room.geometry v tree here outcome
-                (c.keeps.once_given_up (contents_at v) tree marks st.serves.agrees)
-                (kept_if_cut serving link.truth old mid (line old) (line mid) syncer 0 Sync outcome v tree marks c last st (held.either tree first))
-                (λ replies. subst (λ (g : Geometry). IsLegal g (contents_at v) tree (with_outcome syncer 0 Sync outcome here))
-                (c.keeps.leads.geometry ∙ held.geometry) ((c.keeps.serves (contents_at v) tree marks st.serves).legal replies));
+                (c.keeps.once_given_up (contents_at v) own marks st.serves.agrees)
+                (kept_if_cut serving link.truth old mid (line old) (line mid) syncer 0 Sync outcome v own marks c last st held.either)
+                (λ replies.
+                let h = held.at_first (true_before c.keeps.acts (contents_at v) marks (true_outcome (contents_at v) syncer 0 Sync outcome here replies)) in
+                legal_from room.geometry (serving mid).geometry (contents_at v) own tree (with_outcome syncer 0 Sync outcome here)
+                (c.keeps.leads.geometry ∙ h.0, h.1) first ((c.keeps.serves (contents_at v) own marks st.serves).legal replies));
           };
     })
 
@@ -200,7 +203,7 @@ record_from link g v earlier seen how tree line begins r = record {
   tells = r.tells;
 }
 
-line_from : {L : Type 0} (link : LinkWords L) (g : Geometry) (v : Opening) (earlier seen : List Mark) (how : SyncEnd) (line : L)
+pub line_from : {L : Type 0} (link : LinkWords L) (g : Geometry) (v : Opening) (earlier seen : List Mark) (how : SyncEnd) (line : L)
     → IsBeginning earlier seen → IsLastLine link g v seen how line → IsLastLine link g v earlier how line
 line_from link g v earlier seen how line begins l = record {
   ended = l.ended;

@@ -1,7 +1,4 @@
-use Rattle.tree.specs.Tree.{Tree}
 use Rattle.tree.specs.Answers.{answer_of}
-use Rattle.records.specs.Opening.{contents_at}
-use Rattle.records.specs.Legal.{IsAtFirst}
 use Rattle.file_server.specs.Over.{outcome_of}
 use Rattle.shared_server.proofs.HeldLaws.{cut_given, eio_after, eio_given, held_after, held_sound, held_guaranteed, session_answered, session_cut}
 use Rattle.shared_server.proofs.calling.make_call.Goals as goal
@@ -96,7 +93,7 @@ returns-in-Reply-clause-cut g c =
 
 pub returns-in-Reply-clause-eio : goal.returns-in-Reply-clause-eio
 returns-in-Reply-clause-eio g c =
-    eio_given _ _ c.count_call-count.new.caller.view.seen (λ (t : Tree). IsAtFirst g.N.Room.geometry (contents_at g.N.Room.opening) t) c.in-Reply.is
+    eio_given _ _ c.count_call-count.new.caller.view.seen c.in-Reply.is
     (eio_after
     g.N.Room g.L.Link g.S.Serve.serving g.S.FileServer.line g.S.FileServer.is_ready g.S.FileServer.knows
     g.L.Supplied.runs_on g.L.Recorder.marks
@@ -163,7 +160,7 @@ returns-in-Cut-clause-cut g c =
 
 pub returns-in-Cut-clause-eio : goal.returns-in-Cut-clause-eio
 returns-in-Cut-clause-eio g c =
-    eio_given _ _ c.show.new.caller.view.seen (λ (t : Tree). IsAtFirst g.N.Room.geometry (contents_at g.N.Room.opening) t) c.in-Cut.is
+    eio_given _ _ c.show.new.caller.view.seen c.in-Cut.is
     (eio_after
     g.N.Room g.L.Link g.S.Serve.serving g.S.FileServer.line g.S.FileServer.is_ready g.S.FileServer.knows
     g.L.Supplied.runs_on g.L.Recorder.marks
