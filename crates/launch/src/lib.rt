@@ -3,6 +3,7 @@
 #![tactic(auto)]
 
 pub mod opened;
+pub mod program;
 pub mod start;
 
 // passed on, for what starts a service

@@ -2,20 +2,55 @@
 
 ghost use Rattle.std.specs.Prelude.{◌≡◌, ◌≤◌, ◌^◌, [], true, IfErr, OnOk};
 ghost use Rattle.std.specs.Arc.{arc_value};
+ghost use Rattle.layout.specs.Places.{IsGeometry};
+ghost use Rattle.tree.specs.Tree.{Tree};
 ghost use Rattle.records.specs.Opening.{contents_at};
+ghost use Rattle.records.specs.Legal.{IsAtFirst};
 ghost use Rattle.records.specs.Mount.{is_frame_count};
 ghost use Rattle.mounting.specs.Laws.{sizes_in};
-ghost use Rattle.launch.specs.Stopped.{IsMountedTruly, IsStopped, refusal_of as start_refusal_of};
+ghost use Rattle.launch.specs.Stopped.{IsStopped, refusal_of as start_refusal_of};
 
 use board::Board;
 use counting_link::recorder::Recorder;
 use counting_link::room::Room;
+use layout::Geometry;
 use mounting::mounted::mount;
+use mounting::opening::open;
 use mounting::{MountRefusal, Server, StartRefusal};
+use reissue::link::TrueLink;
 use serve::service::{Service, Shared};
-use std::alloc::Global;
+use std::alloc::{AllocError, Global};
 use std::sync::{Arc, Wait};
 use stored::Stored;
+
+/// A service of a server of all calls, with so many frames, for its volume in a range of the media, over a link that was told nothing yet,
+/// keeps an empty record on the service's board, and runs on the service's drivers under its policy. The link gives at most 2^58 messages.
+/// The volume as it was handed in holds a tree. Where no memory was found, the link is let go.
+pub fn over<N: Room, R: Wait + Copy, L: Recorder<N>>(
+    alloc: Global,
+    rt: R,
+    board: Arc<Board>,
+    link: L,
+    minor: u8,
+    geometry: Geometry,
+    frames: u32,
+) -> Result<Service<N, Shared<N, R, L, Server<Stored<L>>>>, AllocError>
+    requires board { arc_value board ≡ N.table }
+    requires marks { L.marks link ≡ [] }
+    requires told { L.Link.history link ≡ [] }
+    requires geometry { IsGeometry geometry × (geometry ≡ N.geometry) }
+    requires tree { (tree : Tree) × IsAtFirst N.geometry (contents_at N.opening) tree }
+    requires minor { minor ≡ N.opening.minor }
+    requires frames { is_frame_count frames ≡ true }
+    requires budget { L.Link.budget_left link ≤ 2 ^ 58 }
+    requires truth { L.Link.truth link N.opening [] }
+    requires drivers { L.runs_on link N.policy N.supply }
+{
+    match open(alloc, link, minor, geometry, frames) {
+        Ok(server) => Service::over(alloc, rt, board, server),
+        Err(_) => Err(AllocError),
+    }
+}
 
 /// The refusal of a mount, as a start has it: memory that is wanting is wanting to the start.
 fn refusal_of(refusal: MountRefusal) -> StartRefusal
@@ -27,12 +62,11 @@ fn refusal_of(refusal: MountRefusal) -> StartRefusal
     }
 }
 
-/// A service of a server of all calls, mounted with so many frames on its volume in a range of the media, over a link that was told nothing
-/// yet, keeps an empty record on the service's board, and runs on the service's drivers under its policy. The link gives at most 2^57
-/// messages. Where its replies were true, the volume then holds a tree.
+/// A service of a server of all calls, mounted with so many frames on its volume in a range of the media, over a link as `over` takes it,
+/// whose replies are true; it gives at most 2^57 messages. The volume then holds a tree.
 ///
 /// It is refused as a mount is; and where no memory was found. The link is let go then.
-pub fn mounted<N: Room, R: Wait + Copy, L: Recorder<N>>(
+pub fn mounted<N: Room, R: Wait + Copy, L: Recorder<N> + TrueLink>(
     alloc: Global,
     rt: R,
     board: Arc<Board>,
@@ -49,7 +83,7 @@ pub fn mounted<N: Room, R: Wait + Copy, L: Recorder<N>>(
     requires budget { L.Link.budget_left link ≤ 2 ^ 57 }
     requires truth { L.Link.truth link N.opening [] }
     requires drivers { L.runs_on link N.policy N.supply }
-    ensures holds { OnOk result (IsMountedTruly L.truth N.geometry N.opening) }
+    ensures holds { OnOk result ((tree : Tree) × IsAtFirst N.geometry (contents_at N.opening) tree) }
     ensures refused { IfErr result (IsStopped N.opening frames) }
 {
     match mount(alloc, link, minor, frames) {

@@ -7,7 +7,7 @@ ghost use Rattle.tree.specs.Tree.{Tree};
 ghost use Rattle.records.specs.Legal.{IsAtFirst};
 ghost use Rattle.shared_server.specs.Stopping.{IsLastImage, IsLastLine, IsSyncedImage, Went, WhyNotSynced};
 ghost use Rattle.shared_server.specs.Finishing.{sync_of};
-ghost use Rattle.shared_server.specs.Held.{IsAdmitted, IsGood, IsGuaranteed, IsHeld, IsNotAdmitted};
+ghost use Rattle.shared_server.specs.Held.{HoldsIfTrue, IsAdmitted, IsGood, IsGuaranteed, IsHeld, IsNotAdmitted};
 
 use crate::session::Session;
 use board::Board;
@@ -80,6 +80,7 @@ impl<N: Room, R: Wait + Copy, L: Recorder<N>, S: FileServer<L>> Service<N, Share
         ensures made { IfOk result (λ s. IsAdmitted L.runs_on L.marks L.numbers N.policy N.supply uid gid s) }
         ensures refused { IfErr result (IsNotAdmitted L.Link L.numbers) }
         ensures guaranteed { IfOk result (λ s. IsGuaranteed L.truth N.opening s.knows.seen) }
+        ensures volume { IfOk result (λ s. HoldsIfTrue N.geometry N.opening s.knows.seen) }
         ensures sound { (tree : Tree) → IsAtFirst N.geometry (contents_at N.opening) tree
             → IfOk result (λ s. IsGood N.geometry N.opening tree s.knows.seen) }
     {

@@ -47,7 +47,7 @@ use Rattle.shared_server.specs.Descriptors.{is_done, succeeded}
 use Rattle.shared_server.specs.Stopping.{IsSyncedImage, syncer}
 use Rattle.shared_server.specs.declared.refusal.SessionRefusal.{SessionRefusal}
 use Rattle.shared_server.specs.declared.refusal.SessionRefusal.TheVariants.{TooMany, Stopped, OutOfMemory}
-use Rattle.shared_server.specs.Held.{IsHeld, IsGood, IsGuaranteed, IsNotAdmitted, IsSound}
+use Rattle.shared_server.specs.Held.{HoldsIfTrue, IsHeld, IsGood, IsGuaranteed, IsNotAdmitted, IsSound}
 
 -- what servers and links keep, whichever they are
 pub record Kept {N S L : Type 0} (room : RoomWords N) (link : LinkWords L) (serving : S → Serving) (line : S → L)
@@ -386,6 +386,23 @@ pub held_guaranteed : {N S L : Type 0} (room : RoomWords N) (link : LinkWords L)
     → IsGuaranteed link.truth room.opening seen
 held_guaranteed room link serving line is_ready knows runs_on record_in s seen same held =
     (line s, subst (λ (ms : List Mark). link.truth (line s) room.opening ms) (sym same) held.stands.truth)
+
+-- where the replies in it were true, the volume held a tree
+pub held_volume : {N S L : Type 0} (room : RoomWords N) (link : LinkWords L) (serving : S → Serving) (line : S → L) (is_ready : S → Type 0)
+    (knows : Call → Type 0) (runs_on : L → Policy → List DriverState → Type 0) (record_in : L → List Mark)
+    (s : S) (seen : List Mark) → seen ≡ record_in (line s) → IsHeld room link serving line is_ready knows runs_on record_in s
+    → HoldsIfTrue room.geometry room.opening seen
+held_volume room link serving line is_ready knows runs_on record_in s seen same held = λ replies.
+    (held.tree, (held.at_first (subst (λ (ms : List Mark). HasTrueReplies (contents_at room.opening) ms) same replies)).1)
+
+pub admitted_volume : {N S L E : Type 0} (room : RoomWords N) (link : LinkWords L) (serving : S → Serving) (line : S → L) (is_ready : S → Type 0)
+    (knows : Call → Type 0) (runs_on : L → Policy → List DriverState → Type 0) (record_in : L → List Mark)
+    (s : S) (table : TableId) (result : Result (ℕ × SeatState × ℕ) E)
+    → IfOk result (λ r. (r.1.table ≡ table) × SessionIsNew r.0 r.1.view (record_in (line s))) → IsHeld room link serving line is_ready knows runs_on record_in s
+    → IfOk result (λ r. HoldsIfTrue room.geometry room.opening r.1.view.seen)
+admitted_volume room link serving line is_ready knows runs_on record_in s table (Ok r) new held =
+    held_volume room link serving line is_ready knows runs_on record_in s r.1.view.seen new.1.1 held
+admitted_volume room link serving line is_ready knows runs_on record_in s table (Err e) new held = tt
 
 -- and a new session has seen it
 pub admitted_guaranteed : {N S L E : Type 0} (room : RoomWords N) (link : LinkWords L) (serving : S → Serving) (line : S → L) (is_ready : S → Type 0)

@@ -59,6 +59,10 @@ pub record IsSound (marks : List Mark) : Type 0 where
   pub well_formed : IsWellFormed marks
   pub answered : gave_up marks ≡ true → went_on marks ≡ true
 
+-- where the replies in a record are true, the volume as it was handed in holds a tree
+abbrev pub HoldsIfTrue : Geometry → Opening → List Mark → Type 0
+HoldsIfTrue g v marks = HasTrueReplies (contents_at v) marks → (tree : Tree) × IsAtFirst g (contents_at v) tree
+
 -- a sound record of the volume is legal from this tree on, where its replies were true
 abbrev pub IsGood : Geometry → Opening → Tree → List Mark → Type 0
 IsGood g v tree marks = IsSound marks × (HasTrueReplies (contents_at v) marks → IsLegal g (contents_at v) tree marks)

@@ -4,7 +4,7 @@ ghost use Rattle.std.specs.Prelude.{◌≡◌, ◌↔◌, Some, true};
 ghost use Rattle.records.specs.Told.{took_end};
 ghost use Rattle.records.specs.Session.{tally_of};
 ghost use Rattle.file_server.specs.Over.{outcome_of};
-ghost use Rattle.shared_server.specs.Held.{IsEioOnceGivenUp, IsGuaranteed, IsHeld, IsServedCall, IsSound};
+ghost use Rattle.shared_server.specs.Held.{HoldsIfTrue, IsEioOnceGivenUp, IsGuaranteed, IsHeld, IsServedCall, IsSound};
 
 use crate::sharing::{count_call, show};
 use board::Seat;
@@ -32,6 +32,7 @@ pub fn make_call<N: Room, L: Recorder<N>, S: FileServer<L>>(
     ensures tally { result.1 ≡ tally_of seat.new.view.seen }
     ensures sound { IsSound seat.new.view.seen }
     ensures guaranteed { IsGuaranteed L.truth N.opening seat.new.view.seen }
+    ensures volume { HoldsIfTrue N.geometry N.opening seat.new.view.seen }
     ensures cut { (result.0 ≡ Outcome.Cut) ↔ (took_end (L.Link.history (S.line server.new)) ≡ true) }
     ensures eio { IsEioOnceGivenUp result.0 seat.new.view.seen }
 {

@@ -9,7 +9,7 @@ ghost use Rattle.records.specs.Session.{tally_of};
 ghost use Rattle.board.specs.View.{without};
 ghost use Rattle.board.specs.Steps.{SessionIsNew, SessionLearns};
 ghost use Rattle.file_server.specs.Over.{outcome_of};
-ghost use Rattle.shared_server.specs.Held.{IsEioOnceGivenUp, IsGood, IsGuaranteed, IsHeld, IsNotAdmitted, IsServedCall, IsSound};
+ghost use Rattle.shared_server.specs.Held.{HoldsIfTrue, IsEioOnceGivenUp, IsGood, IsGuaranteed, IsHeld, IsNotAdmitted, IsServedCall, IsSound};
 ghost use Rattle.shared_server.specs.Stopping.{IsLastImage, IsLastLine, IsSyncedImage, Went, WhyNotSynced};
 ghost use Rattle.shared_server.specs.Finishing.{sync_of};
 ghost use Rattle.counting_link.specs.Keeper.{AreAllUsed, IsLowestFree, IsOneFree};
@@ -90,6 +90,7 @@ impl<N: Room, L: Recorder<N>, S: FileServer<L>> Locked<N, L, S> {
         ensures tally { result.1 ≡ tally_of seat.new.view.seen }
         ensures sound { IsSound seat.new.view.seen }
         ensures guaranteed { IsGuaranteed L.truth N.opening seat.new.view.seen }
+        ensures volume { HoldsIfTrue N.geometry N.opening seat.new.view.seen }
         ensures cut { (result.0 ≡ Outcome.Cut) ↔ (took_end (L.Link.history self.new) ≡ true) }
         ensures eio { IsEioOnceGivenUp result.0 seat.new.view.seen }
     {
@@ -147,6 +148,7 @@ impl<N: Room, L: Recorder<N>, S: FileServer<L>> Locked<N, L, S> {
         ensures refusal { IfErr result (IsNotAdmitted L.Link L.numbers) }
         ensures drivers { L.runs_on self.old N.policy N.supply }
         ensures guaranteed { IfOk result (λ r. IsGuaranteed L.truth N.opening r.1.view.seen) }
+        ensures volume { IfOk result (λ r. HoldsIfTrue N.geometry N.opening r.1.view.seen) }
         ensures sound { (tree : Tree) → IsAtFirst N.geometry (contents_at N.opening) tree
             → IfOk result (λ r. IsGood N.geometry N.opening tree r.1.view.seen) }
         ensures rest { (L.marks self.new ≡ L.marks self.old) × (L.Link.history self.new ≡ L.Link.history self.old) }

@@ -1,6 +1,6 @@
 use Rattle.tree.specs.Answers.{answer_of}
 use Rattle.file_server.specs.Over.{outcome_of}
-use Rattle.shared_server.proofs.HeldLaws.{cut_given, eio_after, eio_given, held_after, held_sound, held_guaranteed, session_answered, session_cut}
+use Rattle.shared_server.proofs.HeldLaws.{cut_given, eio_after, eio_given, held_after, held_sound, held_guaranteed, held_volume, session_answered, session_cut}
 use Rattle.shared_server.proofs.calling.make_call.Goals as goal
 
 pub returns-in-Reply-clause-held : goal.returns-in-Reply-clause-held
@@ -69,6 +69,12 @@ returns-in-Reply-clause-guaranteed g c = held_guaranteed
     g.L.Supplied.runs_on g.L.Recorder.marks
     c.count_call-count.new.server c.count_call-count.new.caller.view.seen c.count_call-count.ensures.seen (returns-in-Reply-clause-held g c)
 
+pub returns-in-Reply-clause-volume : goal.returns-in-Reply-clause-volume
+returns-in-Reply-clause-volume g c = held_volume
+    g.N.Room g.L.Link g.S.Serve.serving g.S.FileServer.line g.S.FileServer.is_ready g.S.FileServer.knows
+    g.L.Supplied.runs_on g.L.Recorder.marks
+    c.count_call-count.new.server c.count_call-count.new.caller.view.seen c.count_call-count.ensures.seen (returns-in-Reply-clause-held g c)
+
 pub returns-in-Reply-clause-cut : goal.returns-in-Reply-clause-cut
 returns-in-Reply-clause-cut g c =
     cut_given
@@ -132,6 +138,12 @@ returns-in-Cut-clause-sound g c = held_sound
 
 pub returns-in-Cut-clause-guaranteed : goal.returns-in-Cut-clause-guaranteed
 returns-in-Cut-clause-guaranteed g c = held_guaranteed
+    g.N.Room g.L.Link g.S.Serve.serving g.S.FileServer.line g.S.FileServer.is_ready g.S.FileServer.knows
+    g.L.Supplied.runs_on g.L.Recorder.marks
+    c.show.new.server c.show.new.caller.view.seen c.show.ensures.seen (returns-in-Cut-clause-held g c)
+
+pub returns-in-Cut-clause-volume : goal.returns-in-Cut-clause-volume
+returns-in-Cut-clause-volume g c = held_volume
     g.N.Room g.L.Link g.S.Serve.serving g.S.FileServer.line g.S.FileServer.is_ready g.S.FileServer.knows
     g.L.Supplied.runs_on g.L.Recorder.marks
     c.show.new.server c.show.new.caller.view.seen c.show.ensures.seen (returns-in-Cut-clause-held g c)

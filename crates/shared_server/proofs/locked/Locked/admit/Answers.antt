@@ -1,5 +1,5 @@
 use Rattle.std.proofs.Common.{ℕ, ◌≤◌, subst, sym}
-use Rattle.shared_server.proofs.HeldLaws.{held_same, admitted_good, admitted_guaranteed, not_admitted}
+use Rattle.shared_server.proofs.HeldLaws.{held_same, admitted_good, admitted_guaranteed, admitted_volume, not_admitted}
 use Rattle.shared_server.proofs.locked.Locked.admit.Goals as goal
 
 pub invariant_of-self : goal.invariant_of-self
@@ -25,6 +25,14 @@ returns-clause-refusal g c =
 pub returns-clause-guaranteed : goal.returns-clause-guaranteed
 returns-clause-guaranteed g c =
     admitted_guaranteed
+    g.N.Room g.L.Link g.S.Serve.serving g.S.FileServer.line g.S.FileServer.is_ready g.S.FileServer.knows
+    g.L.Supplied.runs_on g.L.Recorder.marks
+    c.self.inside.server g.N.Room.table c.admit.result
+    c.admit.ensures.seat c.self.invariant.0
+
+pub returns-clause-volume : goal.returns-clause-volume
+returns-clause-volume g c =
+    admitted_volume
     g.N.Room g.L.Link g.S.Serve.serving g.S.FileServer.line g.S.FileServer.is_ready g.S.FileServer.knows
     g.L.Supplied.runs_on g.L.Recorder.marks
     c.self.inside.server g.N.Room.table c.admit.result
