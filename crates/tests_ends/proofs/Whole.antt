@@ -1,16 +1,17 @@
 -- An image that was found clean, as the volume of a service.
-use Rattle.std.proofs.Common.{◌≡◌, ℕ, ◌<◌, ◌*◌, List, length, take, drop, refl, sym, ◌∙◌, ap, subst, ok_same}
+use Rattle.std.proofs.Common.{◌≡◌, ℕ, ◌<◌, ◌*◌, List, length, take, sym, ◌∙◌, subst}
 use Rattle.std.specs.Prelude.{Ok, slice_index}
 use Rattle.std.proofs.lemmas.List.{take_all}
+use Rattle.lemmas.proofs.Options.{ok_same}
 use Rattle.layout.specs.declared.Geometry.{Geometry}
 use Rattle.layout.specs.declared.LayoutRefusal.{LayoutRefusal}
 use Rattle.layout.specs.Places.{IsGeometry, geometry_of}
 use Rattle.layout.proofs.Parsed.{geometry_fits}
 use Rattle.tree.specs.Tree.{Tree}
 use Rattle.volume.specs.Verdict.{HoldsClosed}
-use Rattle.volume.specs.Disk.{disk_of}
+use Rattle.volume.specs.Reading.{disk_of}
 use Rattle.volume.specs.Holds.{Holds}
-use Rattle.records.specs.Opening.{Opening, contents_at}
+use Rattle.records.specs.Opening.{contents_at}
 use Rattle.records.specs.Legal.{IsAtFirst}
 use Rattle.mounting.proofs.Volumes.{byte_at}
 
