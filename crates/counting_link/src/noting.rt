@@ -162,6 +162,11 @@ impl<N: Room, L: Steady + Supplied + Drop> Recorder<N> for Noting<N, L> {
         self.keeper.show(caller)
     }
 
+    fn note_flush(&mut self) {
+        self.keeper.note(&Incoming::Flush);
+        self.heard.takes(&Incoming::Flush);
+    }
+
     fn has_ended(&self) -> bool {
         self.ended
     }
@@ -179,6 +184,8 @@ impl<N: Room, L: Steady + Supplied + Drop> Recorder<N> for Noting<N, L> {
     }
 
     ghost is_record = { λ link v older truth. truth.1 };
+
+    ghost is_roomy = { λ link. L.has_room link.link };
 
     ghost end_last = { λ link v older truth. truth.3 };
 }

@@ -1,8 +1,8 @@
 //! Links that keep the record of a service.
 
-ghost use Rattle.std.specs.Prelude.{◌≡◌, ◌↔◌, ◌<◌, ◌∷◌, List, ℕ, true, Some, IfSome, IfNone};
+ghost use Rattle.std.specs.Prelude.{◌≡◌, ◌↔◌, ◌<◌, ◌≤◌, ◌∷◌, List, ℕ, true, Some, IfSome, IfNone};
 ghost use Rattle.tree.specs.Answers.{answer_of};
-ghost use Rattle.records.specs.Marks.{Mark, Took};
+ghost use Rattle.records.specs.Marks.{Mark, Took, Flush};
 ghost use Rattle.records.specs.Opening.{Opening};
 ghost use Rattle.records.specs.Told.{took_end};
 ghost use Rattle.records.specs.Session.{tally_of};
@@ -60,6 +60,13 @@ pub trait Recorder<N: Room>: Supplied + Drop {
         ensures mine { caller.new.view.mine ≡ caller.old.view.mine }
         ensures session { SessionLearns caller.old.view caller.new.view };
 
+    /// A Flush was taken between two calls.
+    fn note_flush(&mut self)
+        ensures same { SameLink Self.Link self.old self.new }
+        ensures truth { (v : Opening) (older : List Mark) → Self.truth self.old v older → Self.truth self.new v (Flush ∷ older) }
+        ensures marks { marks self.new ≡ Flush ∷ marks self.old }
+        ensures numbers { numbers self.new ≡ numbers self.old };
+
     /// Whether a take gave End. Nothing is taken then any more.
     fn has_ended(&self) -> bool
         ensures { result ≡ took_end (Self.Link.history self.now) };
@@ -89,6 +96,9 @@ pub trait Recorder<N: Room>: Supplied + Drop {
 
     // What it guarantees of a record it guarantees of this one alone.
     ghost is_record: { (link : Self) (v : Opening) (older : List Mark) → Self.truth link v older → marks link ≡ older };
+
+    // It always has room for what is done on a message.
+    ghost is_roomy: { (link : Self) → 33 ≤ Self.room link };
 
     // Where it guarantees a record, it took nothing after an End.
     ghost end_last: { (link : Self) (v : Opening) (older : List Mark) → Self.truth link v older → IsEndLast (Self.Link.history link) };

@@ -1,13 +1,13 @@
 //! What a service asks of the link to its drivers.
 
-ghost use Rattle.std.specs.Prelude.{◌≡◌, List};
-ghost use Rattle.records.specs.Marks.{Took};
+ghost use Rattle.std.specs.Prelude.{◌≡◌, ◌≤◌, List};
+ghost use Rattle.records.specs.Marks.{Took, Flush};
 ghost use Rattle.reincarnate.specs.declared.policy.Policy.{Policy};
 ghost use Rattle.media.specs.Contents.{MediaState};
 ghost use Rattle.bdev.specs.DriverState.{DriverState};
 ghost use Rattle.driven.specs.KeptLaws.{noted_drivers_kept};
 ghost use Rattle.driven.specs.View.{guarded_of};
-ghost use Rattle.counting_link.specs.Steady.{RestsNotOnCalls};
+ghost use Rattle.counting_link.specs.Steady.{RestsNotOnCalls, RestsNotOnFlushes, enough_room};
 ghost use Rattle.counting_link.specs.Supplied.{IsSupplied, supplied_on};
 
 use driven::Driven;
@@ -15,9 +15,14 @@ use inline::local::LocalDriver;
 use media::Media;
 use reissue::link::Link;
 
-/// A link whose guarantee doesn't rest on calls: what it guarantees of a record it guarantees of it and a call more.
+/// A link whose guarantee doesn't rest on calls and Flushes: what it guarantees of a record it guarantees of it and one more of these. It
+/// always has room for what is done on a message.
 pub trait Steady: Link {
     ghost rests: { (link : Self) → RestsNotOnCalls (Self.truth link) };
+
+    ghost flushes: { (link : Self) → RestsNotOnFlushes (Self.truth link) };
+
+    ghost has_room: { (link : Self) → 33 ≤ Self.room link };
 }
 
 /// A link to drivers that are replaced by a policy.
@@ -45,6 +50,10 @@ pub trait OnMedia: Link {
 impl<D: LocalDriver> Steady for Driven<D> {
     ghost rests = { λ l v marks who now call answer kept. noted_drivers_kept D.state v (guarded_of l.drivers) marks
         (Took who now call answer) tt kept };
+
+    ghost flushes = { λ l v marks kept. noted_drivers_kept D.state v (guarded_of l.drivers) marks Flush tt kept };
+
+    ghost has_room = { λ l. enough_room };
 }
 
 impl<D: LocalDriver> Supplied for Driven<D> {

@@ -1,5 +1,6 @@
 //! A link to no driver.
 ghost use Rattle.std.specs.Prelude.{◌≡◌, [], IfOk};
+ghost use Rattle.counting_link.specs.Steady.{enough_room};
 
 use board::History;
 use counting_link::steady::{OnMedia, Steady, Supplied};
@@ -65,6 +66,10 @@ impl Link for Silent {
 
 impl Steady for Silent {
     ghost rests = { λ l v marks who now call answer kept. tt };
+
+    ghost flushes = { λ l v marks kept. tt };
+
+    ghost has_room = { λ l. enough_room };
 }
 
 impl Supplied for Silent {

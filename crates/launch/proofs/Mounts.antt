@@ -16,6 +16,7 @@ use Rattle.reissue.specs.declared.link.Link.{Ghosts as LinkWords}
 use Rattle.file_server.specs.Over.{Stands}
 use Rattle.counting_link.specs.declared.room.Room.{Ghosts as RoomWords}
 use Rattle.shared_server.specs.Held.{IsHeld}
+use Rattle.shared_server.proofs.HeldLaws.{held_mounted}
 use Rattle.stored.specs.declared.Stored.{Stored}
 use Rattle.mounting.specs.declared.whole.MountRefusal.{MountRefusal}
 use Rattle.mounting.specs.declared.whole.MountRefusal.TheVariants as mount
@@ -27,16 +28,6 @@ use Rattle.mounting.specs.vfs.declared.server.Server.{Server}
 use Rattle.mounting.specs.Mounted.{IsMounted, IsNotMounted}
 use Rattle.mounting.specs.vfs.OverLink.{IsReadyOver, line_of, serving_over}
 use Rattle.launch.specs.Stopped.{IsMountRefused, IsStopped, refusal_of}
-
--- ---- one tree
-
--- two trees that an image holds at first are one
-one_tree : (g : Geometry) (image : Contents) (t u : Tree) → IsAtFirst g image t → IsAtFirst g image u → t ≡ u
-one_tree g image t u a b =
-    let nodes : t.nodes ≡ u.nodes = a.holds.nodes.nodes ∙ sym b.holds.nodes.nodes in
-    let files : t.open_files ≡ u.open_files = a.closed.open_files ∙ sym b.closed.open_files in
-    let descriptors : t.descriptors ≡ u.descriptors = a.closed.descriptors ∙ sym b.closed.descriptors in
-    λ i. record { nodes = nodes i; open_files = files i; descriptors = descriptors i }
 
 -- ---- what is held
 
@@ -57,9 +48,6 @@ module _ {N L : Type 0} (room : RoomWords N) (words : LinkWords L) (runs_on : L 
     replies : HasTrueReplies (contents_at room.opening) marks
     replies = are_true (line_of s) room.opening marks guaranteed
 
-    record_is : record_in (line_of s) ≡ marks
-    record_is = is_record (line_of s) room.opening marks guaranteed
-
     geometry_is : (serving_over words s).geometry ≡ room.geometry
     geometry_is =
         mounted_on_image minor frames (words.history link) (serving_over words s) (contents_at room.opening) m.keeps replies ∙ sym sizes
@@ -71,31 +59,12 @@ module _ {N L : Type 0} (room : RoomWords N) (words : LinkWords L) (runs_on : L 
       subst (λ (g : Geometry). IsAtFirst g (contents_at room.opening) m.keeps.tree) geometry_is (m.keeps.at_first (contents_at room.opening) replies),
     )
 
-    live : gave_up (record_in (line_of s)) ≡ false
-    live = ap gave_up record_is ∙ m.keeps.not_given_up
-
     pub mounted_held : runs_on link room.policy room.supply → (knows : Call → Type 0) → ((call : Call) → knows call)
         → IsHeld room words (serving_over words) line_of (IsReadyOver words) knows runs_on record_in s
-    unfolding holds
-    mounted_held drivers knows each = record {
-      ready = m.ready;
-      knows_each = each;
-      geometry = geometry_is;
-      ends = m.ready.may.ends;
-      drivers = keeps_on link (line_of s) room.policy room.supply m.goes drivers;
-      stands = λ tree first.
-          let one : m.keeps.tree ≡ tree = one_tree room.geometry (contents_at room.opening) m.keeps.tree tree holds.1 first in
-          subst (λ (ms : List Mark). Stands (serving_over words s) (words.truth (line_of s)) room.opening tree ms) (sym record_is)
-          (subst (λ (t : Tree). Stands (serving_over words s) (words.truth (line_of s)) room.opening t marks) one (record {
-            minor = sym same ∙ sym m.keeps.minor_is;
-            serves = m.keeps.serves (contents_at room.opening);
-            truth = guaranteed;
-          }));
-      answered = λ tree first gone. absurd (let no : ⊥ = never live gone in no);
-      either = λ tree first over. live;
-    } where
-      never : {b : Bool} → b ≡ false → b ≡ true → ⊥
-      never e f = cc
+    mounted_held drivers knows each =
+        held_mounted room words (serving_over words) line_of (IsReadyOver words) knows runs_on record_in s (words.history link) minor frames
+        m.ready each m.keeps (sym same) m.ready.may.ends (λ l older. is_record l room.opening older) (λ replies. geometry_is)
+        (keeps_on link (line_of s) room.policy room.supply m.goes drivers) guaranteed
 
 -- ---- why nothing is mounted
 

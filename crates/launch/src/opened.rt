@@ -25,7 +25,7 @@ use stored::Stored;
 
 /// A service of a server of all calls, with so many frames, for its volume in a range of the media, over a link that was told nothing yet,
 /// keeps an empty record on the service's board, and runs on the service's drivers under its policy. The link gives at most 2^58 messages.
-/// Where no memory was found, the link is let go.
+/// The volume as it was handed in holds a tree. Where no memory was found, the link is let go.
 pub fn over<N: Room, R: Wait + Copy, L: Recorder<N>>(
     alloc: Global,
     rt: R,
@@ -39,6 +39,7 @@ pub fn over<N: Room, R: Wait + Copy, L: Recorder<N>>(
     requires marks { L.marks link ≡ [] }
     requires told { L.Link.history link ≡ [] }
     requires geometry { IsGeometry geometry × (geometry ≡ N.geometry) }
+    requires tree { (tree : Tree) × IsAtFirst N.geometry (contents_at N.opening) tree }
     requires minor { minor ≡ N.opening.minor }
     requires frames { is_frame_count frames ≡ true }
     requires budget { L.Link.budget_left link ≤ 2 ^ 58 }

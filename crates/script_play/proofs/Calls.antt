@@ -27,9 +27,8 @@ ends_mine Cut who now call old new h = h
 -- what it has seen is vouched for
 pub call_vouched : {L : Type 0} (truth : L → Truth) (g : Geometry) (v : Opening) (old : SessionState) (who : Who) (now : ℕ) (call : Call) (outcome : Outcome) (new : SessionState)
     → SessionCallKeeps g (contents_at v) old who now call (outcome_of outcome) new
-    → ((tree : Tree) → IsAtFirst g (contents_at v) tree → IsSound new.knows.seen)
-    → ((tree : Tree) → IsAtFirst g (contents_at v) tree → IsGuaranteed truth v new.knows.seen) → Vouched truth g v new.knows.seen
-call_vouched truth g v old who now call outcome new h sound guaranteed = λ tree first. ((sound tree first, h.legal tree first), guaranteed tree first)
+    → IsSound new.knows.seen → IsGuaranteed truth v new.knows.seen → Vouched truth g v new.knows.seen
+call_vouched truth g v old who now call outcome new h sound guaranteed = λ tree first. ((sound, h.legal tree first), guaranteed)
 
 -- a call that was cut came once the link had ended
 pub cut_ended : {L : Type 0} (link : LinkWords L) (marks : L → List Mark) (outcome : Outcome) (seen : List Mark) → IsCutAtEnd link marks outcome seen → cuts outcome ≡ true
@@ -40,10 +39,10 @@ cut_ended link marks (Reply r) seen h is = absurd (cc)
 -- a session that was made has made no call
 pub made_unplayed : {L : Type 0} (truth : L → Truth) (g : Geometry) (v : Opening) (uid gid : ℕ) (s : SessionState) (marks : List Mark) → IsMadeFor uid gid s marks → s.knows.seen ≡ marks
     → ((tree : Tree) → IsAtFirst g (contents_at v) tree → IsGood g v tree s.knows.seen)
-    → ((tree : Tree) → IsAtFirst g (contents_at v) tree → IsGuaranteed truth v s.knows.seen) → IsUnplayed (Vouched truth g v) s
+    → IsGuaranteed truth v s.knows.seen → IsUnplayed (Vouched truth g v) s
 made_unplayed truth g v uid gid s marks made whole good guaranteed = record {
   low = made.number;
   none = made.new.none;
   none_seen = ap (λ (ms : List Mark). calls_of s.knows.number s.knows.place ms) whole ∙ made.new.saw_all;
-  vouched = λ tree first. (good tree first, guaranteed tree first);
+  vouched = λ tree first. (good tree first, guaranteed);
 }

@@ -59,16 +59,14 @@ pub are_served : {L : Type 0} (link : LinkWords L) (lies_on : L → MediaState) 
 are_served link lies_on g v scripts played seen last image are_true E turns shown = record {
   seen = seen;
   turns = in_turn_as (Vouched link.truth g v) (IsTrueRecord g v) E vouched [] scripts played seen turns;
-  left = λ tree first.
-      let said = shown.last.says tree first in
-      record {
-        media = lies_on shown.line;
-        bytes = shown.bytes;
-        marks = said.marks;
-        goes_on = said.goes_on;
-        true_replies = are_true shown.line v said.marks said.guaranteed;
-        tells = said.tells;
-      };
+  left = λ tree first. record {
+    media = lies_on shown.line;
+    bytes = shown.bytes;
+    marks = shown.last.marks;
+    goes_on = shown.last.goes_on;
+    true_replies = are_true shown.line v shown.last.marks shown.last.guaranteed;
+    tells = shown.last.tells tree first;
+  };
 } where
   vouched : (seen : List Mark) → Vouched link.truth g v seen → IsTrueRecord g v seen
   vouched seen h tree first =

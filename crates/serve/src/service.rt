@@ -5,8 +5,9 @@ ghost use Rattle.std.specs.Arc.{arc_value};
 ghost use Rattle.records.specs.Opening.{contents_at};
 ghost use Rattle.tree.specs.Tree.{Tree};
 ghost use Rattle.records.specs.Legal.{IsAtFirst};
-ghost use Rattle.shared_server.specs.Stopping.{IsLastImage, IsSyncedImage, Went, WhyNotSynced};
-ghost use Rattle.shared_server.specs.Held.{IsAdmitted, IsGood, IsGuaranteed, IsHeld, IsNotAdmitted};
+ghost use Rattle.shared_server.specs.Stopping.{IsLastImage, IsLastLine, IsSyncedImage, Went, WhyNotSynced};
+ghost use Rattle.shared_server.specs.Finishing.{sync_of};
+ghost use Rattle.shared_server.specs.Held.{HoldsIfTrue, IsAdmitted, IsGood, IsGuaranteed, IsHeld, IsNotAdmitted};
 
 use crate::session::Session;
 use board::Board;
@@ -15,7 +16,7 @@ use counting_link::room::Room;
 use counting_link::steady::OnMedia;
 use file_server::FileServer;
 use shared_server::left_open::LeftOpen;
-use shared_server::locked::Locked;
+use shared_server::locked::{LastSync, Locked};
 use shared_server::refusal::SessionRefusal;
 use shared_server::stopping::{StopRefusal, Stopped};
 use std::alloc::{AllocError, Global};
@@ -50,6 +51,7 @@ impl<N: Room, R: Wait + Copy, L: Recorder<N>, S: FileServer<L>> Service<N, Share
     ) -> Result<Service<N, Shared<N, R, L, S>>, AllocError>
         requires board { arc_value board ≡ N.table }
         requires held { IsHeld N.Room L.Link S.Serve.serving S.line S.is_ready S.knows L.runs_on L.marks server }
+        requires none_absorbed { S.absorbed server ≡ 0 }
     {
         let shared = Arc::new(
             alloc,
@@ -77,8 +79,8 @@ impl<N: Room, R: Wait + Copy, L: Recorder<N>, S: FileServer<L>> Service<N, Share
     ) -> Result<Session<N, Shared<N, R, L, S>>, SessionRefusal>
         ensures made { IfOk result (λ s. IsAdmitted L.runs_on L.marks L.numbers N.policy N.supply uid gid s) }
         ensures refused { IfErr result (IsNotAdmitted L.Link L.numbers) }
-        ensures guaranteed { (tree : Tree) → IsAtFirst N.geometry (contents_at N.opening) tree
-            → IfOk result (λ s. IsGuaranteed L.truth N.opening s.knows.seen) }
+        ensures guaranteed { IfOk result (λ s. IsGuaranteed L.truth N.opening s.knows.seen) }
+        ensures volume { IfOk result (λ s. HoldsIfTrue N.geometry N.opening s.knows.seen) }
         ensures sound { (tree : Tree) → IsAtFirst N.geometry (contents_at N.opening) tree
             → IfOk result (λ s. IsGood N.geometry N.opening tree s.knows.seen) }
     {
@@ -94,6 +96,39 @@ impl<N: Room, R: Wait + Copy, L: Recorder<N>, S: FileServer<L>> Service<N, Share
             shared,
             of: PhantomData,
         })
+    }
+}
+
+impl<N: Room, R: Wait + Copy, L: Recorder<N>, S: FileServer<L>> Shared<N, R, L, S> {
+    /// The server takes a Flush. It may wait for the calls of sessions.
+    pub fn flush(&self) {
+        self.server.lock(&self.rt).flush();
+    }
+}
+
+impl<N: Room, R: Wait + Copy, L: Recorder<N>, S: FileServer<L>> Service<N, Shared<N, R, L, S>> {
+    /// What its sessions share, once more.
+    pub fn end_for_flusher(&self) -> Result<Arc<Shared<N, R, L, S>>, AllocError> {
+        Arc::try_clone(&self.shared)
+    }
+
+    /// Whether somebody else shares it, but for so many.
+    pub fn is_shared(&self, others: usize) -> bool {
+        Arc::strong_count(&self.shared) > others.saturating_add(1)
+    }
+
+    /// A last sync, after which the server is let go with its link: how it went. It hands the service back where somebody shares it.
+    pub fn finish(self) -> Result<LastSync, Service<N, Shared<N, R, L, S>>>
+        ensures { IfOk result (λ how. (line : L) × IsLastLine L.Link N.geometry N.opening [] (sync_of how) line) }
+    {
+        let Service { board, shared, of } = self;
+        match Arc::try_unwrap(shared) {
+            Ok(shared) => {
+                let Shared { rt: _, server } = shared;
+                Ok(server.into_inner().finish())
+            }
+            Err(shared) => Err(Service { board, shared, of }),
+        }
     }
 }
 

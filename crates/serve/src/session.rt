@@ -11,7 +11,7 @@ ghost use Rattle.board.specs.Words.{is_given_up};
 ghost use Rattle.file_server.specs.Over.{outcome_of};
 ghost use Rattle.serve.specs.Closing.{ClosesBelow, ClosesOne};
 ghost use Rattle.shared_server.specs.Descriptors.{leaves_open};
-ghost use Rattle.shared_server.specs.Held.{HasEnded, IsCutAtEnd, IsEioOnceGivenUp, IsGuaranteed, IsSound};
+ghost use Rattle.shared_server.specs.Held.{HasEnded, HoldsIfTrue, IsCutAtEnd, IsEioOnceGivenUp, IsGuaranteed, IsSound};
 
 use crate::service::Shared;
 use board::{Board, Device, Seat};
@@ -100,11 +100,10 @@ impl<N: Room, R: Wait + Copy, L: Recorder<N>, S: FileServer<L>> Session<N, Share
     pub fn call(&mut self, now: u32, call: &Call<'_>) -> Outcome
         ensures keeps { SessionCallKeeps N.geometry (contents_at N.opening) self.old (caller_of self.old) now
             call.now (outcome_of result) self.new }
-        ensures sound { (tree : Tree) → IsAtFirst N.geometry (contents_at N.opening) tree → IsSound self.new.knows.seen }
-        ensures guaranteed { (tree : Tree) → IsAtFirst N.geometry (contents_at N.opening) tree
-            → IsGuaranteed L.truth N.opening self.new.knows.seen }
-        ensures eio { (tree : Tree) → IsAtFirst N.geometry (contents_at N.opening) tree
-            → IsEioOnceGivenUp result self.new.knows.seen }
+        ensures sound { IsSound self.new.knows.seen }
+        ensures guaranteed { IsGuaranteed L.truth N.opening self.new.knows.seen }
+        ensures volume { HoldsIfTrue N.geometry N.opening self.new.knows.seen }
+        ensures eio { IsEioOnceGivenUp result self.new.knows.seen }
         ensures cut { IsCutAtEnd L.Link L.marks result self.new.knows.seen }
     {
         let shared = &*self.shared;

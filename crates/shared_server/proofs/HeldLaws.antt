@@ -1,7 +1,7 @@
 -- What holds under the lock of a service after each call, and what a session has of it.
 use Rattle.std.proofs.Common.{◌≡◌, ◌≢◌, ℕ, List, [], ◌∷◌, Bool, true, false, refl, sym, ◌∙◌, ap, subst, Some, inl, inr}
 use Rattle.std.specs.List.{concat}
-use Rattle.std.specs.Prelude.{◌||◌, ◌↔◌, ◌⊎◌, ◌<◌, Result, Ok, Err, IsErrOf, IfErr, IfOk}
+use Rattle.std.specs.Prelude.{◌||◌, ◌↔◌, ◌⊎◌, ◌<◌, Result, Ok, Err, IsErrOf, IfErr, IfOk, if◌then◌else◌}
 use Rattle.atomic_table.specs.Seated.{TableId}
 use Rattle.layout.specs.declared.Geometry.{Geometry}
 use Rattle.tree.specs.declared.Who.{Who}
@@ -16,16 +16,20 @@ use Rattle.tree.specs.declared.Outcome.{Outcome as TreeOutcome}
 use Rattle.tree.specs.declared.Outcome.TheVariants as tree
 use Rattle.tree.specs.Tree.{Tree}
 use Rattle.tree.specs.Answers.{Answer, answer_of, refused, done, descriptor, some_bytes, wrote, position, node_is, names_are, room_is}
-use Rattle.records.specs.Marks.{Mark, Took, gave_up}
-use Rattle.records.specs.Disk.{HasTrueReplies}
-use Rattle.records.specs.Acts.{Act, told_of, marks_after}
+use Rattle.message.specs.declared.Incoming.{Incoming}
+use Rattle.message.specs.declared.Incoming.TheVariants as incoming
+use Rattle.message.specs.declared.BlockReply.{BlockReply}
+use Rattle.records.specs.Marks.{Mark, Took, Answered, gave_up}
+use Rattle.records.specs.Open.{counts}
+use Rattle.records.specs.Disk.{Contents, HasTrueReplies}
+use Rattle.records.specs.Acts.{Act, Began, Absorbed, AtLink, told_of, marks_after}
 use Rattle.records.specs.Opening.{Opening, contents_at}
-use Rattle.records.specs.Told.{took_end}
+use Rattle.records.specs.Told.{Told, Posted, Complained, Received, received, took_end}
 use Rattle.media.specs.Contents.{MediaState}
 use Rattle.bdev.specs.DriverState.{DriverState}
 use Rattle.reincarnate.specs.declared.policy.Policy.{Policy}
 use Rattle.records.specs.Legal.{IsAtFirst, IsLegal}
-use Rattle.records.specs.Mount.{OpenKeeps}
+use Rattle.records.specs.Mount.{OpenKeeps, MountKeeps}
 use Rattle.records.proofs.Legality.{synced_is_held}
 use Rattle.records.specs.ServerCall.{Serving, Outcome, Replied, Cut, with_outcome}
 use Rattle.records.specs.Session.{SessionCallKeeps, went_on}
@@ -43,7 +47,7 @@ use Rattle.shared_server.specs.Descriptors.{is_done, succeeded}
 use Rattle.shared_server.specs.Stopping.{IsSyncedImage, syncer}
 use Rattle.shared_server.specs.declared.refusal.SessionRefusal.{SessionRefusal}
 use Rattle.shared_server.specs.declared.refusal.SessionRefusal.TheVariants.{TooMany, Stopped, OutOfMemory}
-use Rattle.shared_server.specs.Held.{IsHeld, IsGood, IsGuaranteed, IsNotAdmitted, IsSound}
+use Rattle.shared_server.specs.Held.{HoldsIfTrue, IsHeld, IsGood, IsGuaranteed, IsNotAdmitted, IsSound}
 
 -- what servers and links keep, whichever they are
 pub record Kept {N S L : Type 0} (room : RoomWords N) (link : LinkWords L) (serving : S → Serving) (line : S → L)
@@ -122,12 +126,13 @@ kept_if_cut serving truth old mid l m who now call Cut v t marks c last stood ei
 stands_after : {N S L : Type 0} (room : RoomWords N) (link : LinkWords L) (serving : S → Serving) (line : S → L) (is_ready : S → Type 0)
     (knows : Call → Type 0) (runs_on : L → Policy → List DriverState → Type 0) (record_in : L → List Mark)
     (who : Who) (now : ℕ) (call : Call) (outcome : Outcome) (old mid new : S) → Kept room link serving line runs_on record_in
-    → (c : Called room link serving line is_ready who now call outcome old mid new) → IsHeld room link serving line is_ready knows runs_on record_in old
-    → (t : Tree) → IsAtFirst room.geometry (contents_at room.opening) t
-    → Stands (serving new) (link.truth (line new)) room.opening t
+    → (c : Called room link serving line is_ready who now call outcome old mid new)
+    → (held : IsHeld room link serving line is_ready knows runs_on record_in old)
+    → Stands (serving new) (link.truth (line new)) room.opening held.tree
     (with_outcome who now call outcome (marks_after c.calls.keeps.acts (record_in (line old))))
-stands_after room link serving line is_ready knows runs_on record_in who now call outcome old mid new kept c held t first =
-    let st = held.stands t first in
+stands_after room link serving line is_ready knows runs_on record_in who now call outcome old mid new kept c held =
+    let st = held.stands in
+    let t = held.tree in
     let marks = record_in (line old) in
     record {
       minor = st.minor ∙ sym c.calls.keeps.leads.minor ∙ sym c.same.served.minor;
@@ -142,10 +147,9 @@ record_after : {N S L : Type 0} (room : RoomWords N) (link : LinkWords L) (servi
     (knows : Call → Type 0) (runs_on : L → Policy → List DriverState → Type 0) (record_in : L → List Mark)
     (who : Who) (now : ℕ) (call : Call) (outcome : Outcome) (old mid new : S) → Kept room link serving line runs_on record_in
     → (c : Called room link serving line is_ready who now call outcome old mid new) → IsHeld room link serving line is_ready knows runs_on record_in old
-    → (t : Tree) → IsAtFirst room.geometry (contents_at room.opening) t
     → record_in (line new) ≡ with_outcome who now call outcome (marks_after c.calls.keeps.acts (record_in (line old)))
-record_after room link serving line is_ready knows runs_on record_in who now call outcome old mid new kept c held t first =
-    kept.is_record (line new) _ (stands_after room link serving line is_ready knows runs_on record_in who now call outcome old mid new kept c held t first).truth
+record_after room link serving line is_ready knows runs_on record_in who now call outcome old mid new kept c held =
+    kept.is_record (line new) _ (stands_after room link serving line is_ready knows runs_on record_in who now call outcome old mid new kept c held).truth
 
 -- after a call it has ended where its link has
 pub ends_called : {N S L : Type 0} (room : RoomWords N) (link : LinkWords L) (serving : S → Serving) (line : S → L) (is_ready : S → Type 0)
@@ -182,16 +186,54 @@ held_same room link serving line is_ready knows runs_on record_in old new kept s
     record {
       ready = same.may held.ready;
       knows_each = held.knows_each;
-      geometry = same.served.geometry ∙ held.geometry;
       ends = same.served.ended ∙ held.ends ∙ ap took_end (sym same.at_link.same_history);
       drivers = kept.keeps_on (line old) (line new) same.at_link.goes held.drivers;
-      stands = λ t first.
-          let st = held.stands t first in
-          subst (λ (ms : List Mark). Stands (serving new) (link.truth (line new)) v t ms) (sym none)
-          (same_stands serving link.truth old new (line old) (line new) v t marks same.served (truth marks st.truth) st);
-      answered = λ t first. subst (λ (ms : List Mark). gave_up ms ≡ true → went_on ms ≡ true) (sym none) (held.answered t first);
-      either = λ t first over. ap gave_up none ∙ held.either t first (sym same.served.ended ∙ over);
+      tree = held.tree;
+      at_first = λ replies.
+          let h = held.at_first (subst (λ (ms : List Mark). HasTrueReplies (contents_at v) ms) none replies) in
+          (same.served.geometry ∙ h.0, h.1);
+      stands =
+          subst (λ (ms : List Mark). Stands (serving new) (link.truth (line new)) v held.tree ms) (sym none)
+          (same_stands serving link.truth old new (line old) (line new) v held.tree marks same.served (truth marks held.stands.truth) held.stands);
+      answered = subst (λ (ms : List Mark). gave_up ms ≡ true → went_on ms ≡ true) (sym none) held.answered;
+      either = λ over. ap gave_up none ∙ held.either (sym same.served.ended ∙ over);
     }
+
+-- true replies were true before a call's own mark, and before what was done in it
+pub true_outcome : (image : Contents) (who : Who) (now : ℕ) (call : Call) (outcome : Outcome) (marks : List Mark)
+    → HasTrueReplies image (with_outcome who now call outcome marks) → HasTrueReplies image marks
+true_outcome image who now call (Replied answer) marks h = h
+true_outcome image who now call Cut marks h = h
+
+true_if : (b : Bool) (a : BlockReply) (image : Contents) (marks : List Mark) → HasTrueReplies image (if b then Answered a ∷ marks else marks)
+    → HasTrueReplies image marks
+true_if true a image marks h = h.0
+true_if false a image marks h = h
+
+true_received : (message : Incoming) (image : Contents) (marks : List Mark) → HasTrueReplies image (received message marks)
+    → HasTrueReplies image marks
+true_received (incoming.Reply a) image marks h = true_if (counts marks a) a image marks h
+true_received (incoming.Started e) image marks h = h
+true_received incoming.GaveUp image marks h = h
+true_received incoming.Flush image marks h = h
+true_received incoming.End image marks h = h
+
+pub true_before : (acts : List Act) (image : Contents) (marks : List Mark) → HasTrueReplies image (marks_after acts marks) → HasTrueReplies image marks
+true_before [] image marks h = h
+true_before (Began r ∷ acts) image marks h = true_before acts image marks h
+true_before (Absorbed message ∷ acts) image marks h = true_before acts image marks (true_received message image (marks_after acts marks) h)
+true_before (AtLink (Posted to r true) ∷ acts) image marks h = true_before acts image marks h
+true_before (AtLink (Posted to r false) ∷ acts) image marks h = true_before acts image marks h
+true_before (AtLink (Complained about) ∷ acts) image marks h = true_before acts image marks h
+true_before (AtLink (Received message) ∷ acts) image marks h = true_before acts image marks (true_received message image (marks_after acts marks) h)
+
+-- two trees that an image holds at first are one
+one_tree : (g : Geometry) (image : Contents) (t u : Tree) → IsAtFirst g image t → IsAtFirst g image u → t ≡ u
+one_tree g image t u a b =
+    let nodes : t.nodes ≡ u.nodes = a.holds.nodes.nodes ∙ sym b.holds.nodes.nodes in
+    let files : t.open_files ≡ u.open_files = a.closed.open_files ∙ sym b.closed.open_files in
+    let descriptors : t.descriptors ≡ u.descriptors = a.closed.descriptors ∙ sym b.closed.descriptors in
+    λ i. record { nodes = nodes i; open_files = files i; descriptors = descriptors i }
 
 -- after a call that was counted if it was answered
 pub held_after : {N S L : Type 0} (room : RoomWords N) (link : LinkWords L) (serving : S → Serving) (line : S → L) (is_ready : S → Type 0)
@@ -205,31 +247,39 @@ held_after room link serving line is_ready knows runs_on record_in who now call 
     record {
       ready = c.same.may c.ready;
       knows_each = held.knows_each;
-      geometry = c.same.served.geometry ∙ c.calls.keeps.leads.geometry ∙ held.geometry;
       ends = c.same.served.ended ∙ ends_after room link serving line is_ready knows runs_on record_in who now call outcome old mid new kept c held
           ∙ ap took_end (sym c.same.at_link.same_history);
       drivers = kept.keeps_on (line mid) (line new) c.same.at_link.goes (kept.keeps_on (line old) (line mid) c.goes held.drivers);
-      stands = λ t first.
-          subst (λ (ms : List Mark). Stands (serving new) (link.truth (line new)) v t ms)
-          (sym (record_after room link serving line is_ready knows runs_on record_in who now call outcome old mid new kept c held t first))
-          (stands_after room link serving line is_ready knows runs_on record_in who now call outcome old mid new kept c held t first);
-      answered = λ t first.
-          let st = held.stands t first in
+      tree = held.tree;
+      at_first = λ replies.
+          let is = record_after room link serving line is_ready knows runs_on record_in who now call outcome old mid new kept c held in
+          let h = held.at_first (true_before acts (contents_at v) marks
+          (true_outcome (contents_at v) who now call outcome (marks_after acts marks)
+          (subst (λ (ms : List Mark). HasTrueReplies (contents_at v) ms) is replies))) in
+          (c.same.served.geometry ∙ c.calls.keeps.leads.geometry ∙ h.0, h.1);
+      stands =
+          subst (λ (ms : List Mark). Stands (serving new) (link.truth (line new)) v held.tree ms)
+          (sym (record_after room link serving line is_ready knows runs_on record_in who now call outcome old mid new kept c held))
+          (stands_after room link serving line is_ready knows runs_on record_in who now call outcome old mid new kept c held);
+      answered =
+          let t = held.tree in
+          let st = held.stands in
           let last : IsEndLast (link.history (line mid)) =
           kept.end_last (line mid) (marks_after acts marks) (c.calls.truth v t marks st.minor st.serves.agrees st.truth) in
           subst (λ (ms : List Mark). gave_up ms ≡ true → went_on ms ≡ true)
-          (sym (record_after room link serving line is_ready knows runs_on record_in who now call outcome old mid new kept c held t first))
+          (sym (record_after room link serving line is_ready knows runs_on record_in who now call outcome old mid new kept c held))
           (went_after who now call outcome (marks_after acts marks)
           (went_if_cut serving link.truth old mid (line old) (line mid) who now call outcome v t marks c.calls
-          (subst IsEndLast (sym (kept.tells mid)) last) st (held.answered t first)));
-      either = λ t first over.
-          let st = held.stands t first in
+          (subst IsEndLast (sym (kept.tells mid)) last) st held.answered));
+      either = λ over.
+          let t = held.tree in
+          let st = held.stands in
           let last : IsEndLast (link.history (line mid)) =
           kept.end_last (line mid) (marks_after acts marks) (c.calls.truth v t marks st.minor st.serves.agrees st.truth) in
-          ap gave_up (record_after room link serving line is_ready knows runs_on record_in who now call outcome old mid new kept c held t first)
+          ap gave_up (record_after room link serving line is_ready knows runs_on record_in who now call outcome old mid new kept c held)
           ∙ gave_up_with who now call outcome (marks_after acts marks)
           ∙ kept_if_cut serving link.truth old mid (line old) (line mid) who now call outcome v t marks c.calls
-          (subst IsEndLast (sym (kept.tells mid)) last) st (held.either t first) (c.calls.keeps.cut.1 (sym c.same.served.ended ∙ over));
+          (subst IsEndLast (sym (kept.tells mid)) last) st held.either (c.calls.keeps.cut.1 (sym c.same.served.ended ∙ over));
     }
 
 -- a server that was opened over a link which told nothing yet
@@ -237,14 +287,15 @@ pub held_at_first : {N S L : Type 0} (room : RoomWords N) (link : LinkWords L) (
     (knows : Call → Type 0) (runs_on : L → Policy → List DriverState → Type 0) (record_in : L → List Mark)
     (s : S) (l : L) (minor frames : ℕ) → line s ≡ l → is_ready s → ((call : Call) → knows call) → link.history l ≡ [] → record_in l ≡ []
     → OpenKeeps room.geometry minor frames (link.history l) (serving s) → room.opening.minor ≡ minor → runs_on l room.policy room.supply
-    → link.truth l room.opening [] → IsHeld room link serving line is_ready knows runs_on record_in s
-held_at_first {L = L} room link serving line is_ready knows runs_on record_in s l minor frames is ready each told none opens same drivers truth = record {
+    → link.truth l room.opening [] → (t : Tree) → IsAtFirst room.geometry (contents_at room.opening) t → IsHeld room link serving line is_ready knows runs_on record_in s
+held_at_first {L = L} room link serving line is_ready knows runs_on record_in s l minor frames is ready each told none opens same drivers truth t first = record {
   ready = ready;
   knows_each = each;
-  geometry = opens.geometry;
   ends = opens.is_new.not_ended ∙ sym (ap (λ (k : L). took_end (link.history k)) is ∙ ap took_end told);
   drivers = subst (λ (k : L). runs_on k room.policy room.supply) (sym is) drivers;
-  stands = λ t first.
+  tree = t;
+  at_first = λ replies. (opens.geometry, first);
+  stands =
       let here : Stands (serving s) (link.truth l) room.opening t [] = record {
         minor = same ∙ sym opens.minor_is;
         serves = opens.serves (contents_at room.opening) t first;
@@ -252,19 +303,55 @@ held_at_first {L = L} room link serving line is_ready knows runs_on record_in s 
       } in
       subst (λ (ms : List Mark). Stands (serving s) (link.truth (line s)) room.opening t ms) (sym (ap record_in is ∙ none))
       (subst (λ (k : L). Stands (serving s) (link.truth k) room.opening t []) (sym is) here);
-  answered = λ t first gone. let gave : false ≡ true = sym (ap gave_up (ap record_in is ∙ none)) ∙ gone in cc;
-  either = λ t first over. ap gave_up (ap record_in is ∙ none);
+  answered = λ gone. let gave : false ≡ true = sym (ap gave_up (ap record_in is ∙ none)) ∙ gone in cc;
+  either = λ over. ap gave_up (ap record_in is ∙ none);
 }
+
+-- A server that was mounted over a link which told nothing yet, whatever its replies: where they were true it is for a volume of the service's
+-- sizes.
+pub held_mounted : {N S L : Type 0} (room : RoomWords N) (link : LinkWords L) (serving : S → Serving) (line : S → L) (is_ready : S → Type 0)
+    (knows : Call → Type 0) (runs_on : L → Policy → List DriverState → Type 0) (record_in : L → List Mark)
+    (s : S) (before : List Told) (minor frames : ℕ) → is_ready s → ((call : Call) → knows call)
+    → (m : MountKeeps minor frames before (serving s)) → room.opening.minor ≡ minor → (serving s).ended ≡ took_end (link.history (line s))
+    → ((l : L) (older : List Mark) → link.truth l room.opening older → record_in l ≡ older)
+    → (HasTrueReplies (contents_at room.opening) (marks_after m.acts []) → (serving s).geometry ≡ room.geometry)
+    → runs_on (line s) room.policy room.supply → link.truth (line s) room.opening (marks_after m.acts [])
+    → IsHeld room link serving line is_ready knows runs_on record_in s
+held_mounted room link serving line is_ready knows runs_on record_in s before minor frames ready each m same ends is_record sizes drivers truth =
+    let image = contents_at room.opening in
+    let is : record_in (line s) ≡ marks_after m.acts [] = is_record (line s) (marks_after m.acts []) truth in
+    record {
+      ready = ready;
+      knows_each = each;
+      ends = ends;
+      drivers = drivers;
+      tree = m.tree;
+      at_first = λ replies.
+          let early : HasTrueReplies image (marks_after m.acts []) = subst (λ (ms : List Mark). HasTrueReplies image ms) is replies in
+          (sizes early, subst (λ (g : Geometry). IsAtFirst g image m.tree) (sizes early) (m.at_first image early));
+      stands = subst (λ (ms : List Mark). Stands (serving s) (link.truth (line s)) room.opening m.tree ms) (sym is) (record {
+        minor = same ∙ sym m.minor_is;
+        serves = m.serves image;
+        truth = truth;
+      });
+      answered = λ gone. let gave : false ≡ true = sym (ap gave_up is ∙ m.not_given_up) ∙ gone in cc;
+      either = λ over. ap gave_up is ∙ m.not_given_up;
+    }
 
 -- what is held is sound
 pub held_sound : {N S L : Type 0} (room : RoomWords N) (link : LinkWords L) (serving : S → Serving) (line : S → L) (is_ready : S → Type 0)
     (knows : Call → Type 0) (runs_on : L → Policy → List DriverState → Type 0) (record_in : L → List Mark)
-    (s : S) (seen : List Mark) → seen ≡ record_in (line s) → IsHeld room link serving line is_ready knows runs_on record_in s
-    → (tree : Tree) → IsAtFirst room.geometry (contents_at room.opening) tree → IsSound seen
-held_sound room link serving line is_ready knows runs_on record_in s seen same held tree first =
-    let st = held.stands tree first in
-    let sound : IsSound (record_in (line s)) = record { well_formed = st.serves.well_formed; answered = held.answered tree first } in
+    (s : S) (seen : List Mark) → seen ≡ record_in (line s) → IsHeld room link serving line is_ready knows runs_on record_in s → IsSound seen
+held_sound room link serving line is_ready knows runs_on record_in s seen same held =
+    let sound : IsSound (record_in (line s)) = record { well_formed = held.stands.serves.well_formed; answered = held.answered } in
     subst (λ (ms : List Mark). IsSound ms) (sym same) sound
+
+-- what is legal from the tree that is held is so from each tree that the volume held at first, over true replies
+pub legal_from : (g h : Geometry) (image : Contents) (held tree : Tree) (marks : List Mark) → (h ≡ g) × IsAtFirst g image held → IsAtFirst g image tree
+    → IsLegal h image held marks → IsLegal g image tree marks
+legal_from g h image held tree marks both first legal =
+    subst (λ (t : Tree). IsLegal g image t marks) (one_tree g image held tree both.1 first)
+    (subst (λ (k : Geometry). IsLegal k image held marks) both.0 legal)
 
 -- what is held is legal
 held_legal : {N S L : Type 0} (room : RoomWords N) (link : LinkWords L) (serving : S → Serving) (line : S → L) (is_ready : S → Type 0)
@@ -274,9 +361,10 @@ held_legal : {N S L : Type 0} (room : RoomWords N) (link : LinkWords L) (serving
     → IsLegal room.geometry (contents_at room.opening) tree seen
 held_legal room link serving line is_ready knows runs_on record_in s seen same held tree first replies =
     let image = contents_at room.opening in
+    let here : HasTrueReplies image (record_in (line s)) = subst (λ (ms : List Mark). HasTrueReplies image ms) same replies in
     subst (λ (ms : List Mark). IsLegal room.geometry image tree ms) (sym same)
-    (subst (λ (h : Geometry). IsLegal h image tree (record_in (line s))) held.geometry
-    ((held.stands tree first).serves.legal (subst (λ (ms : List Mark). HasTrueReplies image ms) same replies)))
+    (legal_from room.geometry (serving s).geometry image held.tree tree (record_in (line s)) (held.at_first here) first
+    (held.stands.serves.legal here))
 
 -- a new session has seen what is held
 pub admitted_good : {N S L E : Type 0} (room : RoomWords N) (link : LinkWords L) (serving : S → Serving) (line : S → L) (is_ready : S → Type 0)
@@ -286,7 +374,7 @@ pub admitted_good : {N S L E : Type 0} (room : RoomWords N) (link : LinkWords L)
     → (tree : Tree) → IsAtFirst room.geometry (contents_at room.opening) tree → IfOk result (λ r. IsGood room.geometry room.opening tree r.1.view.seen)
 admitted_good room link serving line is_ready knows runs_on record_in s table (Ok r) new held tree first =
     let same = new.1.1 in (
-      held_sound room link serving line is_ready knows runs_on record_in s r.1.view.seen same held tree first,
+      held_sound room link serving line is_ready knows runs_on record_in s r.1.view.seen same held,
       held_legal room link serving line is_ready knows runs_on record_in s r.1.view.seen same held tree first,
     )
 admitted_good room link serving line is_ready knows runs_on record_in s table (Err e) new held tree first = tt
@@ -295,19 +383,36 @@ admitted_good room link serving line is_ready knows runs_on record_in s table (E
 pub held_guaranteed : {N S L : Type 0} (room : RoomWords N) (link : LinkWords L) (serving : S → Serving) (line : S → L) (is_ready : S → Type 0)
     (knows : Call → Type 0) (runs_on : L → Policy → List DriverState → Type 0) (record_in : L → List Mark)
     (s : S) (seen : List Mark) → seen ≡ record_in (line s) → IsHeld room link serving line is_ready knows runs_on record_in s
-    → (tree : Tree) → IsAtFirst room.geometry (contents_at room.opening) tree → IsGuaranteed link.truth room.opening seen
-held_guaranteed room link serving line is_ready knows runs_on record_in s seen same held tree first =
-    (line s, subst (λ (ms : List Mark). link.truth (line s) room.opening ms) (sym same) (held.stands tree first).truth)
+    → IsGuaranteed link.truth room.opening seen
+held_guaranteed room link serving line is_ready knows runs_on record_in s seen same held =
+    (line s, subst (λ (ms : List Mark). link.truth (line s) room.opening ms) (sym same) held.stands.truth)
+
+-- where the replies in it were true, the volume held a tree
+pub held_volume : {N S L : Type 0} (room : RoomWords N) (link : LinkWords L) (serving : S → Serving) (line : S → L) (is_ready : S → Type 0)
+    (knows : Call → Type 0) (runs_on : L → Policy → List DriverState → Type 0) (record_in : L → List Mark)
+    (s : S) (seen : List Mark) → seen ≡ record_in (line s) → IsHeld room link serving line is_ready knows runs_on record_in s
+    → HoldsIfTrue room.geometry room.opening seen
+held_volume room link serving line is_ready knows runs_on record_in s seen same held = λ replies.
+    (held.tree, (held.at_first (subst (λ (ms : List Mark). HasTrueReplies (contents_at room.opening) ms) same replies)).1)
+
+pub admitted_volume : {N S L E : Type 0} (room : RoomWords N) (link : LinkWords L) (serving : S → Serving) (line : S → L) (is_ready : S → Type 0)
+    (knows : Call → Type 0) (runs_on : L → Policy → List DriverState → Type 0) (record_in : L → List Mark)
+    (s : S) (table : TableId) (result : Result (ℕ × SeatState × ℕ) E)
+    → IfOk result (λ r. (r.1.table ≡ table) × SessionIsNew r.0 r.1.view (record_in (line s))) → IsHeld room link serving line is_ready knows runs_on record_in s
+    → IfOk result (λ r. HoldsIfTrue room.geometry room.opening r.1.view.seen)
+admitted_volume room link serving line is_ready knows runs_on record_in s table (Ok r) new held =
+    held_volume room link serving line is_ready knows runs_on record_in s r.1.view.seen new.1.1 held
+admitted_volume room link serving line is_ready knows runs_on record_in s table (Err e) new held = tt
 
 -- and a new session has seen it
 pub admitted_guaranteed : {N S L E : Type 0} (room : RoomWords N) (link : LinkWords L) (serving : S → Serving) (line : S → L) (is_ready : S → Type 0)
     (knows : Call → Type 0) (runs_on : L → Policy → List DriverState → Type 0) (record_in : L → List Mark)
     (s : S) (table : TableId) (result : Result (ℕ × SeatState × ℕ) E)
     → IfOk result (λ r. (r.1.table ≡ table) × SessionIsNew r.0 r.1.view (record_in (line s))) → IsHeld room link serving line is_ready knows runs_on record_in s
-    → (tree : Tree) → IsAtFirst room.geometry (contents_at room.opening) tree → IfOk result (λ r. IsGuaranteed link.truth room.opening r.1.view.seen)
-admitted_guaranteed room link serving line is_ready knows runs_on record_in s table (Ok r) new held tree first =
-    held_guaranteed room link serving line is_ready knows runs_on record_in s r.1.view.seen new.1.1 held tree first
-admitted_guaranteed room link serving line is_ready knows runs_on record_in s table (Err e) new held tree first = tt
+    → IfOk result (λ r. IsGuaranteed link.truth room.opening r.1.view.seen)
+admitted_guaranteed room link serving line is_ready knows runs_on record_in s table (Ok r) new held =
+    held_guaranteed room link serving line is_ready knows runs_on record_in s r.1.view.seen new.1.1 held
+admitted_guaranteed room link serving line is_ready knows runs_on record_in s table (Err e) new held = tt
 
 -- why no session was made
 pub not_admitted : {L T : Type 0} (link : LinkWords L) (numbers : L → List ℕ) (line : L) (result : Result T SessionRefusal)
@@ -388,24 +493,24 @@ pub eio_after : {N S L : Type 0} (room : RoomWords N) (link : LinkWords L) (serv
     (who : Who) (now : ℕ) (call : Call) (result : TreeOutcome) (old mid new : S) (seen : List Mark) → seen ≡ record_in (line new)
     → Kept room link serving line runs_on record_in
     → (c : Called room link serving line is_ready who now call (outcome_of result) old mid new) → IsHeld room link serving line is_ready knows runs_on record_in old
-    → (t : Tree) → IsAtFirst room.geometry (contents_at room.opening) t
     → (result ≡ tree.Reply (Refused EIO)) ↔ ((result ≢ tree.Cut) × (gave_up seen ≡ true))
-eio_after room link serving line is_ready knows runs_on record_in who now call result old mid new seen same kept c held t first =
+eio_after room link serving line is_ready knows runs_on record_in who now call result old mid new seen same kept c held =
     let marks = record_in (line old) in
-    let agrees = (held.stands t first).serves.agrees in
+    let t = held.tree in
+    let agrees = held.stands.serves.agrees in
     let gone : gave_up seen ≡ gave_up (marks_after c.calls.keeps.acts marks) =
-    ap gave_up (same ∙ record_after room link serving line is_ready knows runs_on record_in who now call (outcome_of result) old mid new kept c held t first)
+    ap gave_up (same ∙ record_after room link serving line is_ready knows runs_on record_in who now call (outcome_of result) old mid new kept c held)
     ∙ gave_up_with who now call (outcome_of result) (marks_after c.calls.keeps.acts marks) in
     eio_of result (gave_up seen)
     (λ eio. gone ∙ c.calls.keeps.only_given_up (contents_at room.opening) t marks agrees eio)
     (λ up. c.calls.keeps.once_given_up (contents_at room.opening) t marks agrees (sym gone ∙ up))
 
 -- the same of the outcome that is given back
-pub eio_given : (result given : TreeOutcome) (seen : List Mark) (P : Tree → Type 0) → result ≡ given
-    → ((t : Tree) → P t → (result ≡ tree.Reply (Refused EIO)) ↔ ((result ≢ tree.Cut) × (gave_up seen ≡ true)))
-    → (t : Tree) → P t → (given ≡ tree.Reply (Refused EIO)) ↔ ((given ≢ tree.Cut) × (gave_up seen ≡ true))
-eio_given result given seen P is exactly t first =
-    subst (λ (o : TreeOutcome). (o ≡ tree.Reply (Refused EIO)) ↔ ((o ≢ tree.Cut) × (gave_up seen ≡ true))) is (exactly t first)
+pub eio_given : (result given : TreeOutcome) (seen : List Mark) → result ≡ given
+    → (result ≡ tree.Reply (Refused EIO)) ↔ ((result ≢ tree.Cut) × (gave_up seen ≡ true))
+    → (given ≡ tree.Reply (Refused EIO)) ↔ ((given ≢ tree.Cut) × (gave_up seen ≡ true))
+eio_given result given seen is exactly =
+    subst (λ (o : TreeOutcome). (o ≡ tree.Reply (Refused EIO)) ↔ ((o ≢ tree.Cut) × (gave_up seen ≡ true))) is exactly
 
 -- a call was cut exactly where its link has ended
 pub cut_given : {N S L : Type 0} (room : RoomWords N) (link : LinkWords L) (serving : S → Serving) (line : S → L) (is_ready : S → Type 0)
@@ -454,19 +559,21 @@ pub synced_image : {N S L : Type 0} (room : RoomWords N) (link : LinkWords L) (s
     → image ≡ concat (lies_on (line mid)).sectors → (t : Tree) → IsAtFirst room.geometry (contents_at room.opening) t
     → IsSyncedImage room.geometry room.opening t link.truth lies_on image
 synced_image room link serving line is_ready knows runs_on record_in old mid lies_on image held c is t first =
-    let st = held.stands t first in
+    let st = held.stands in
+    let u = held.tree in
     let marks = record_in (line old) in
     let here = marks_after c.keeps.acts marks in
     let volume = contents_at room.opening in
-    let serves = c.keeps.serves volume t marks st.serves in
-    let live : gave_up here ≡ false = not_given_up (gave_up here) (c.keeps.once_given_up volume t marks st.serves.agrees) in
+    let serves = c.keeps.serves volume u marks st.serves in
+    let live : gave_up here ≡ false = not_given_up (gave_up here) (c.keeps.once_given_up volume u marks st.serves.agrees) in
     record {
       line = line mid;
       marks = here;
       bytes = is;
-      guaranteed = c.truth room.opening t marks st.minor st.serves.agrees st.truth;
+      guaranteed = c.truth room.opening u marks st.minor st.serves.agrees st.truth;
       synced = λ replies.
           synced_is_held room.geometry volume t here syncer 0 Sync done live refl refl
-          (subst (λ (g : Geometry). IsLegal g volume t (Took syncer 0 Sync done ∷ here)) (c.keeps.leads.geometry ∙ held.geometry)
+          (let h = held.at_first (true_before c.keeps.acts volume marks replies) in
+          legal_from room.geometry (serving mid).geometry volume u t (Took syncer 0 Sync done ∷ here) (c.keeps.leads.geometry ∙ h.0, h.1) first
           (serves.legal replies));
     }

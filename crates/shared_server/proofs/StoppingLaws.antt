@@ -33,8 +33,8 @@ use Rattle.shared_server.specs.declared.stopping.StopRefusal.{StopRefusal}
 use Rattle.shared_server.specs.declared.stopping.StopRefusal.TheVariants.{SessionsLeft, GivenUp, OutOfMemory, LinkEnded}
 use Rattle.shared_server.specs.Descriptors.{is_done, was_cut, succeeded}
 use Rattle.shared_server.specs.Held.{IsHeld}
-use Rattle.shared_server.specs.Stopping.{syncer, SyncEnd, Went, WasGivenUp, WasCut, sync_end, has_ended, SyncTells, IsLastRecord, IsLastLine, IsLastImage, WhyNotSynced}
-use Rattle.shared_server.proofs.HeldLaws.{Kept, ends_called, kept_if_cut, not_given_up, done_is}
+use Rattle.shared_server.specs.Stopping.{syncer, SyncEnd, Went, WasGivenUp, WasCut, sync_end, has_ended, SyncTells, IsLastLine, IsLastImage, WhyNotSynced}
+use Rattle.shared_server.proofs.HeldLaws.{Kept, ends_called, kept_if_cut, legal_from, not_given_up, done_is, true_before, true_outcome}
 
 -- a record goes on with a message, and with each act
 counted_goes_on : (b : Bool) (a : BlockReply) (marks : List Mark) → IsBeginning marks (if b then Answered a ∷ marks else marks)
@@ -160,22 +160,23 @@ last_of room link serving line is_ready knows runs_on record_in old mid outcome 
     let marks = record_in (line old) in
     let here = marks_after c.keeps.acts marks in
     let ends = ends_called room link serving line is_ready knows runs_on record_in syncer 0 Sync outcome old mid kept.tells c held in
+    let st = held.stands in
+    let own = held.tree in
+    let truth = c.truth v own marks st.minor st.serves.agrees st.truth in
+    let last : IsEndLast (serving mid).told = subst IsEndLast (sym (kept.tells mid)) (kept.end_last (line mid) here truth) in
     subst (λ (h : SyncEnd). IsLastLine link room.geometry v marks h (line mid)) is (record {
       ended = sym ends ∙ ended_by outcome (serving mid).ended c.keeps.cut.0 c.keeps.cut.1;
-      says = λ tree first.
-          let st = held.stands tree first in
-          let truth = c.truth v tree marks st.minor st.serves.agrees st.truth in
-          let last : IsEndLast (serving mid).told = subst IsEndLast (sym (kept.tells mid)) (kept.end_last (line mid) here truth) in
-          record {
-            marks = here;
-            guaranteed = truth;
-            goes_on = acts_go_on c.keeps.acts marks;
-            tells = outcome_tells room.geometry v tree here outcome
-                (c.keeps.once_given_up (contents_at v) tree marks st.serves.agrees)
-                (kept_if_cut serving link.truth old mid (line old) (line mid) syncer 0 Sync outcome v tree marks c last st (held.either tree first))
-                (λ replies. subst (λ (g : Geometry). IsLegal g (contents_at v) tree (with_outcome syncer 0 Sync outcome here))
-                (c.keeps.leads.geometry ∙ held.geometry) ((c.keeps.serves (contents_at v) tree marks st.serves).legal replies));
-          };
+      marks = here;
+      guaranteed = truth;
+      goes_on = acts_go_on c.keeps.acts marks;
+      tells = λ tree first.
+          outcome_tells room.geometry v tree here outcome
+          (c.keeps.once_given_up (contents_at v) own marks st.serves.agrees)
+          (kept_if_cut serving link.truth old mid (line old) (line mid) syncer 0 Sync outcome v own marks c last st held.either)
+          (λ replies.
+          let h = held.at_first (true_before c.keeps.acts (contents_at v) marks (true_outcome (contents_at v) syncer 0 Sync outcome here replies)) in
+          legal_from room.geometry (serving mid).geometry (contents_at v) own tree (with_outcome syncer 0 Sync outcome here)
+          (c.keeps.leads.geometry ∙ h.0, h.1) first ((c.keeps.serves (contents_at v) own marks st.serves).legal replies));
     })
 
 -- the same, by its link as contracts see it
@@ -191,20 +192,14 @@ last_line {L = L} room link serving line is_ready knows runs_on record_in old mi
     (last_of room link serving line is_ready knows runs_on record_in old mid outcome how kept held c is)
 
 -- what goes on from more goes on from less
-record_from : {L : Type 0} (link : LinkWords L) (g : Geometry) (v : Opening) (earlier seen : List Mark) (how : SyncEnd) (tree : Tree) (line : L)
-    → IsBeginning earlier seen → IsLastRecord link g v seen how tree line → IsLastRecord link g v earlier how tree line
-record_from link g v earlier seen how tree line begins r = record {
-  marks = r.marks;
-  guaranteed = r.guaranteed;
-  goes_on = begins_further earlier seen r.marks begins r.goes_on;
-  tells = r.tells;
-}
-
-line_from : {L : Type 0} (link : LinkWords L) (g : Geometry) (v : Opening) (earlier seen : List Mark) (how : SyncEnd) (line : L)
+pub line_from : {L : Type 0} (link : LinkWords L) (g : Geometry) (v : Opening) (earlier seen : List Mark) (how : SyncEnd) (line : L)
     → IsBeginning earlier seen → IsLastLine link g v seen how line → IsLastLine link g v earlier how line
 line_from link g v earlier seen how line begins l = record {
   ended = l.ended;
-  says = λ tree first. record_from link g v earlier seen how tree line begins (l.says tree first);
+  marks = l.marks;
+  guaranteed = l.guaranteed;
+  goes_on = begins_further earlier seen l.marks begins l.goes_on;
+  tells = l.tells;
 }
 
 pub image_from : {L : Type 0} (link : LinkWords L) (lies_on : L → MediaState) (g : Geometry) (v : Opening) (earlier seen : List Mark) (how : SyncEnd)

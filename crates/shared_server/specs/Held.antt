@@ -37,28 +37,31 @@ IsServedCall g v who now call before outcome after =
 abbrev pub IsEioOnceGivenUp : TreeOutcome → List Mark → Type 0
 IsEioOnceGivenUp outcome seen = (outcome ≡ Reply (Refused EIO)) ↔ ((outcome ≢ Cut) × (gave_up seen ≡ true))
 
--- The server may be called, knows each call, and is for the service's volume; it has ended where its link has, which runs on the service's
--- drivers under the service's policy. Whichever tree the volume held as it was handed in, the server stands on it with the record that the
--- link keeps, which is legal where its replies were true; in that record a call was answered since the device was given up, if it was; and a
+-- The server may be called, knows each call, and has ended where its link has, which runs on the service's drivers under the service's policy.
+-- It stands on some tree with the record that the link keeps; where the replies in it were true, the volume as it was handed in held that tree,
+-- and the server is for a volume of the service's sizes. In that record a call was answered since the device was given up, if it was; and a
 -- device whose link has ended wasn't given up.
 pub record IsHeld {N S L : Type 0} (room : RoomWords N) (link : LinkWords L) (serving : S → Serving) (line : S → L) (is_ready : S → Type 0)
     (knows : Call → Type 0) (runs_on : L → Policy → List DriverState → Type 0) (marks : L → List Mark) (s : S) : Type 0 where
   pub ready : is_ready s
   pub knows_each : (call : Call) → knows call
-  pub geometry : (serving s).geometry ≡ room.geometry
   pub ends : (serving s).ended ≡ took_end (link.history (line s))
   pub drivers : runs_on (line s) room.policy room.supply
-  pub stands : (tree : Tree) → IsAtFirst room.geometry (contents_at room.opening) tree
-      → Stands (serving s) (link.truth (line s)) room.opening tree (marks (line s))
-  pub answered : (tree : Tree) → IsAtFirst room.geometry (contents_at room.opening) tree → gave_up (marks (line s)) ≡ true
-      → went_on (marks (line s)) ≡ true
-  pub either : (tree : Tree) → IsAtFirst room.geometry (contents_at room.opening) tree → (serving s).ended ≡ true
-      → gave_up (marks (line s)) ≡ false
+  pub tree : Tree
+  pub at_first : HasTrueReplies (contents_at room.opening) (marks (line s))
+      → ((serving s).geometry ≡ room.geometry) × IsAtFirst room.geometry (contents_at room.opening) tree
+  pub stands : Stands (serving s) (link.truth (line s)) room.opening tree (marks (line s))
+  pub answered : gave_up (marks (line s)) ≡ true → went_on (marks (line s)) ≡ true
+  pub either : (serving s).ended ≡ true → gave_up (marks (line s)) ≡ false
 
 -- a record is well formed, and a call was answered since the device was given up, if it was
 pub record IsSound (marks : List Mark) : Type 0 where
   pub well_formed : IsWellFormed marks
   pub answered : gave_up marks ≡ true → went_on marks ≡ true
+
+-- where the replies in a record are true, the volume as it was handed in holds a tree
+abbrev pub HoldsIfTrue : Geometry → Opening → List Mark → Type 0
+HoldsIfTrue g v marks = HasTrueReplies (contents_at v) marks → (tree : Tree) × IsAtFirst g (contents_at v) tree
 
 -- a sound record of the volume is legal from this tree on, where its replies were true
 abbrev pub IsGood : Geometry → Opening → Tree → List Mark → Type 0

@@ -56,18 +56,14 @@ SyncTells Went g v tree marks =
 SyncTells WasGivenUp g v tree marks = HasTrueReplies (contents_at v) marks → gave_up marks ≡ true
 SyncTells WasCut g v tree marks = gave_up marks ≡ false
 
--- the link guarantees a record that goes on from what was seen, and says how the last sync went
-pub record IsLastRecord {L : Type 0} (link : LinkWords L) (g : Geometry) (v : Opening) (seen : List Mark) (how : SyncEnd) (tree : Tree) (line : L) : Type 0 where
+-- A service's link after the last sync, which went so: it has ended where the sync was cut, and guarantees a record that goes on from what was
+-- seen, and says how the sync went, whichever tree the volume held as it was handed in.
+pub record IsLastLine {L : Type 0} (link : LinkWords L) (g : Geometry) (v : Opening) (seen : List Mark) (how : SyncEnd) (line : L) : Type 0 where
+  pub ended : took_end (link.history line) ≡ has_ended how
   pub marks : List Mark
   pub guaranteed : link.truth line v marks
   pub goes_on : IsBeginning seen marks
-  pub tells : SyncTells how g v tree marks
-
--- A service's link after the last sync, which went so: it has ended where the sync was cut, and whichever tree the volume held as it was handed
--- in, the record goes on from what was seen.
-pub record IsLastLine {L : Type 0} (link : LinkWords L) (g : Geometry) (v : Opening) (seen : List Mark) (how : SyncEnd) (line : L) : Type 0 where
-  pub ended : took_end (link.history line) ≡ has_ended how
-  pub says : (tree : Tree) → IsAtFirst g (contents_at v) tree → IsLastRecord link g v seen how tree line
+  pub tells : (tree : Tree) → IsAtFirst g (contents_at v) tree → SyncTells how g v tree marks
 
 -- the image of the media of such a link
 pub record IsLastImage {L : Type 0} (link : LinkWords L) (lies_on : L → MediaState) (g : Geometry) (v : Opening) (seen : List Mark) (how : SyncEnd)

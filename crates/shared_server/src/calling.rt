@@ -1,13 +1,10 @@
 //! A call of a session.
 
 ghost use Rattle.std.specs.Prelude.{◌≡◌, ◌↔◌, Some, true};
-ghost use Rattle.records.specs.Opening.{contents_at};
 ghost use Rattle.records.specs.Told.{took_end};
-ghost use Rattle.tree.specs.Tree.{Tree};
-ghost use Rattle.records.specs.Legal.{IsAtFirst};
 ghost use Rattle.records.specs.Session.{tally_of};
 ghost use Rattle.file_server.specs.Over.{outcome_of};
-ghost use Rattle.shared_server.specs.Held.{IsEioOnceGivenUp, IsGuaranteed, IsHeld, IsServedCall, IsSound};
+ghost use Rattle.shared_server.specs.Held.{HoldsIfTrue, IsEioOnceGivenUp, IsGuaranteed, IsHeld, IsServedCall, IsSound};
 
 use crate::sharing::{count_call, show};
 use board::Seat;
@@ -28,16 +25,16 @@ pub fn make_call<N: Room, L: Recorder<N>, S: FileServer<L>>(
     requires held { IsHeld N.Room L.Link S.Serve.serving S.line S.is_ready S.knows L.runs_on L.marks server.old }
     requires seat { (seat.old.table ≡ N.table) × (seat.old.view.number ≡ Some who.session) }
     ensures held { IsHeld N.Room L.Link S.Serve.serving S.line S.is_ready S.knows L.runs_on L.marks server.new }
+    ensures absorbed { S.absorbed server.new ≡ S.absorbed server.old }
     ensures seat { (seat.new.table ≡ N.table) × (seat.new.view.number ≡ Some who.session) }
     ensures call { IsServedCall N.geometry N.opening who now call.now seat.old.view (outcome_of result.0) seat.new.view }
     ensures seen { seat.new.view.seen ≡ L.marks (S.line server.new) }
     ensures tally { result.1 ≡ tally_of seat.new.view.seen }
-    ensures sound { (tree : Tree) → IsAtFirst N.geometry (contents_at N.opening) tree → IsSound seat.new.view.seen }
-    ensures guaranteed { (tree : Tree) → IsAtFirst N.geometry (contents_at N.opening) tree
-        → IsGuaranteed L.truth N.opening seat.new.view.seen }
+    ensures sound { IsSound seat.new.view.seen }
+    ensures guaranteed { IsGuaranteed L.truth N.opening seat.new.view.seen }
+    ensures volume { HoldsIfTrue N.geometry N.opening seat.new.view.seen }
     ensures cut { (result.0 ≡ Outcome.Cut) ↔ (took_end (L.Link.history (S.line server.new)) ≡ true) }
-    ensures eio { (tree : Tree) → IsAtFirst N.geometry (contents_at N.opening) tree
-        → IsEioOnceGivenUp result.0 seat.new.view.seen }
+    ensures eio { IsEioOnceGivenUp result.0 seat.new.view.seen }
 {
     let outcome = server.call(who, now, call);
     match outcome {

@@ -9,11 +9,13 @@ ghost use Rattle.records.specs.Session.{tally_of};
 ghost use Rattle.board.specs.View.{without};
 ghost use Rattle.board.specs.Steps.{SessionIsNew, SessionLearns};
 ghost use Rattle.file_server.specs.Over.{outcome_of};
-ghost use Rattle.shared_server.specs.Held.{IsEioOnceGivenUp, IsGood, IsGuaranteed, IsHeld, IsNotAdmitted, IsServedCall, IsSound};
-ghost use Rattle.shared_server.specs.Stopping.{IsLastImage, IsSyncedImage, Went, WhyNotSynced};
+ghost use Rattle.shared_server.specs.Held.{HoldsIfTrue, IsEioOnceGivenUp, IsGood, IsGuaranteed, IsHeld, IsNotAdmitted, IsServedCall, IsSound};
+ghost use Rattle.shared_server.specs.Stopping.{IsLastImage, IsLastLine, IsSyncedImage, Went, WhyNotSynced};
+ghost use Rattle.shared_server.specs.Finishing.{sync_of};
 ghost use Rattle.counting_link.specs.Keeper.{AreAllUsed, IsLowestFree, IsOneFree};
 
 use crate::calling::make_call;
+use crate::flushing::take_flush;
 use crate::left_open::{is_cut, was_done};
 use crate::refusal::SessionRefusal;
 use crate::sharing::{admit, release, show};
@@ -27,32 +29,52 @@ use std::alloc::Global;
 use std::marker::{Model, PhantomData};
 use tree::{Call, Outcome, Who};
 
+/// How many Flushes are taken at most (own).
+const MOST_FLUSHES: u64 = 281474976710656;
+
+/// What came of the last sync of a service.
+#[derive(Clone, Copy, Debug, PartialEq, Eq)]
+pub enum LastSync {
+    /// It was answered ok.
+    Done,
+    /// The device was given up.
+    GivenUp,
+    /// The link to the drivers had ended.
+    Cut,
+}
+
 /// What lies under the lock of a service: its server, whose link keeps the record. Contracts see the link.
 #[derive(Drop)]
 pub struct Locked<N: Room, L: Recorder<N>, S: FileServer<L>> {
     server: S,
+    // How many Flushes it took between two calls, at least.
+    flushes: u64,
     of: PhantomData<N>,
     over: PhantomData<L>,
 }
 
 impl<N: Room, L: Recorder<N>, S: FileServer<L>> Model for Locked<N, L, S> {
+    ghost use Rattle.std.specs.Prelude.{◌≤◌};
     ghost use Rattle.shared_server.specs.Held.{IsHeld as IsHeldFor};
 
     ghost Value = { L };
 
     ghost view = { λ d. S.line d.server };
 
-    ghost invariant = { λ d. IsHeldFor N.Room L.Link S.Serve.serving S.line S.is_ready S.knows L.runs_on L.marks d.server };
+    ghost invariant = { λ d. IsHeldFor N.Room L.Link S.Serve.serving S.line S.is_ready S.knows L.runs_on L.marks d.server
+        × (S.absorbed d.server ≤ d.flushes) };
 }
 
 impl<N: Room, L: Recorder<N>, S: FileServer<L>> Locked<N, L, S> {
     /// A server over the service's volume, which stands with its record.
     pub fn new(server: S) -> Locked<N, L, S>
-        requires { IsHeld N.Room L.Link S.Serve.serving S.line S.is_ready S.knows L.runs_on L.marks server }
+        requires held { IsHeld N.Room L.Link S.Serve.serving S.line S.is_ready S.knows L.runs_on L.marks server }
+        requires none_absorbed { S.absorbed server ≡ 0 }
         ensures { result ≡ S.line server }
     {
         Locked {
             server,
+            flushes: 0,
             of: PhantomData,
             over: PhantomData,
         }
@@ -66,14 +88,51 @@ impl<N: Room, L: Recorder<N>, S: FileServer<L>> Locked<N, L, S> {
         ensures call { IsServedCall N.geometry N.opening who now call.now seat.old.view (outcome_of result.0) seat.new.view }
         ensures seen { seat.new.view.seen ≡ L.marks self.new }
         ensures tally { result.1 ≡ tally_of seat.new.view.seen }
-        ensures sound { (tree : Tree) → IsAtFirst N.geometry (contents_at N.opening) tree → IsSound seat.new.view.seen }
-        ensures guaranteed { (tree : Tree) → IsAtFirst N.geometry (contents_at N.opening) tree
-            → IsGuaranteed L.truth N.opening seat.new.view.seen }
+        ensures sound { IsSound seat.new.view.seen }
+        ensures guaranteed { IsGuaranteed L.truth N.opening seat.new.view.seen }
+        ensures volume { HoldsIfTrue N.geometry N.opening seat.new.view.seen }
         ensures cut { (result.0 ≡ Outcome.Cut) ↔ (took_end (L.Link.history self.new) ≡ true) }
-        ensures eio { (tree : Tree) → IsAtFirst N.geometry (contents_at N.opening) tree
-            → IsEioOnceGivenUp result.0 seat.new.view.seen }
+        ensures eio { IsEioOnceGivenUp result.0 seat.new.view.seen }
     {
         make_call(&mut self.server, seat, who, now, call)
+    }
+
+    /// A Flush is taken between two calls, while fewer than 2^48 were.
+    pub fn flush(&mut self) {
+        if self.flushes < MOST_FLUSHES {
+            take_flush(&mut self.server);
+            self.flushes += 1;
+        }
+    }
+
+    /// A last sync, after which the server is let go with its link: how it went.
+    pub fn finish(self) -> LastSync
+        ensures { (line : L) × IsLastLine L.Link N.geometry N.opening (L.marks self) (sync_of result) line }
+    {
+        let Locked {
+            mut server,
+            flushes: _,
+            of: _,
+            over: _,
+        } = self;
+        let outcome = server.call(SYNCER, 0, &Call::Sync);
+        if is_cut(&outcome) {
+            return LastSync::Cut;
+        }
+        if !was_done(&outcome) {
+            return LastSync::GivenUp;
+        }
+        LastSync::Done
+    }
+
+    /// The same once this session has ended: the record goes on from what it had seen.
+    pub fn finish_after(mut self, number: u8, mut seat: Seat) -> LastSync
+        requires { (seat.table ≡ N.table) × (seat.view.number ≡ Some number) × (number < 64) }
+        ensures { (line : L) × IsLastLine L.Link N.geometry N.opening seat.view.seen (sync_of result) line }
+    {
+        self.show(&mut seat);
+        self.release(number, seat);
+        self.finish()
     }
 
     /// A seat for a new session, with the lowest number that is free: 1 TooMany where 64 are in use, 2 Stopped where a take gave End.
@@ -88,8 +147,8 @@ impl<N: Room, L: Recorder<N>, S: FileServer<L>> Locked<N, L, S> {
         ensures tally { IfOk result (λ r. r.2 ≡ tally_of (L.marks self.old)) }
         ensures refusal { IfErr result (IsNotAdmitted L.Link L.numbers) }
         ensures drivers { L.runs_on self.old N.policy N.supply }
-        ensures guaranteed { (tree : Tree) → IsAtFirst N.geometry (contents_at N.opening) tree
-            → IfOk result (λ r. IsGuaranteed L.truth N.opening r.1.view.seen) }
+        ensures guaranteed { IfOk result (λ r. IsGuaranteed L.truth N.opening r.1.view.seen) }
+        ensures volume { IfOk result (λ r. HoldsIfTrue N.geometry N.opening r.1.view.seen) }
         ensures sound { (tree : Tree) → IsAtFirst N.geometry (contents_at N.opening) tree
             → IfOk result (λ r. IsGood N.geometry N.opening tree r.1.view.seen) }
         ensures rest { (L.marks self.new ≡ L.marks self.old) × (L.Link.history self.new ≡ L.Link.history self.old) }
@@ -136,6 +195,7 @@ impl<N: Room, L: Recorder<N> + OnMedia, S: FileServer<L>> Locked<N, L, S> {
     {
         let Locked {
             mut server,
+            flushes: _,
             of: _,
             over: _,
         } = self;

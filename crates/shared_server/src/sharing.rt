@@ -30,6 +30,7 @@ pub fn count_call<N: Room, L: Recorder<N>, S: FileServer<L>>(
 ) -> u64
     requires { (caller.old.table ≡ N.table) × (caller.old.view.number ≡ Some who.session) }
     ensures same { SameServer L.Link S.Serve.serving S.line S.is_ready server.old server.new }
+    ensures absorbed { S.absorbed server.new ≡ S.absorbed server.old }
     ensures truth { (v : Opening) (older : List Mark) → L.truth (S.line server.old) v older
         → L.truth (S.line server.new) v (Took who now call.now (answer_of reply.now) ∷ older) }
     ensures marks { L.marks (S.line server.new) ≡ Took who now call.now (answer_of reply.now) ∷ L.marks (S.line server.old) }
@@ -46,6 +47,7 @@ pub fn count_call<N: Room, L: Recorder<N>, S: FileServer<L>>(
 pub fn show<N: Room, L: Recorder<N>, S: FileServer<L>>(server: &mut S, caller: &mut Seat) -> u64
     requires { caller.old.table ≡ N.table }
     ensures same { SameServer L.Link S.Serve.serving S.line S.is_ready server.old server.new }
+    ensures absorbed { S.absorbed server.new ≡ S.absorbed server.old }
     ensures truth { (v : Opening) (older : List Mark) → L.truth (S.line server.old) v older → L.truth (S.line server.new) v older }
     ensures marks { L.marks (S.line server.new) ≡ L.marks (S.line server.old) }
     ensures caller { (caller.new.table ≡ N.table) × (caller.new.view.number ≡ caller.old.view.number) }
@@ -63,6 +65,7 @@ pub fn admit<N: Room, L: Recorder<N>, S: FileServer<L>>(
     server: &mut S,
 ) -> Result<(u8, Seat, u64), SessionRefusal>
     ensures same { SameServer L.Link S.Serve.serving S.line S.is_ready server.old server.new }
+    ensures absorbed { S.absorbed server.new ≡ S.absorbed server.old }
     ensures truth { (v : Opening) (older : List Mark) → L.truth (S.line server.old) v older → L.truth (S.line server.new) v older }
     ensures marks { L.marks (S.line server.new) ≡ L.marks (S.line server.old) }
     ensures too_many { IsErrOf result SessionRefusal.TooMany ↔ AreAllUsed (L.numbers (S.line server.old)) }
@@ -87,6 +90,7 @@ pub fn admit<N: Room, L: Recorder<N>, S: FileServer<L>>(
 pub fn release<N: Room, L: Recorder<N>, S: FileServer<L>>(server: &mut S, number: u8, caller: Seat)
     requires { (caller.table ≡ N.table) × (caller.view.number ≡ Some number) × (number < 64) }
     ensures same { SameServer L.Link S.Serve.serving S.line S.is_ready server.old server.new }
+    ensures absorbed { S.absorbed server.new ≡ S.absorbed server.old }
     ensures truth { (v : Opening) (older : List Mark) → L.truth (S.line server.old) v older → L.truth (S.line server.new) v older }
     ensures marks { L.marks (S.line server.new) ≡ L.marks (S.line server.old) }
     ensures numbers { L.numbers (S.line server.new) ≡ without (Some number) (L.numbers (S.line server.old)) }

@@ -1,6 +1,9 @@
 //! Over a link that has ended a session's call is cut, no further session is made, and the service stops with the image as the media stand.
 ghost use Rattle.std.specs.Prelude.{◌≡◌};
 ghost use Rattle.layout.specs.Places.{IsGeometry};
+ghost use Rattle.tree.specs.Tree.{Tree};
+ghost use Rattle.records.specs.Opening.{contents_at};
+ghost use Rattle.records.specs.Legal.{IsAtFirst};
 ghost use Rattle.board.specs.View.{IsKeeper, opener};
 
 use board::{Board, Seat};
@@ -9,6 +12,7 @@ use counting_link::room::Room;
 use fixtures::new_volume;
 use fixtures_sessions::services::asked_and_stopped;
 use fixtures_sessions::silent::Silent;
+use fsck::{Verdict, check};
 use launch::opened::over;
 use layout::Geometry;
 use media::Media;
@@ -31,6 +35,7 @@ fn ask_and_stop<N: Room, R: Wait + Copy>(
     requires board { board ≡ N.table }
     requires seat { IsKeeper N.table seat × (seat.view ≡ opener) }
     requires geometry { IsGeometry geometry × (geometry ≡ N.geometry) }
+    requires tree { (tree : Tree) × IsAtFirst N.geometry (contents_at N.opening) tree }
     requires minor { 0 ≡ N.opening.minor }
 {
     let link = Silent::new(alloc, media)?;
@@ -48,14 +53,14 @@ fn asked_of<R: Wait + Copy>(
     image: &[u8],
     lines: &mut String,
 ) -> Result<Option<Vec<u8>>, AllocError> {
-    let Ok(geometry) = Geometry::parse(image) else {
+    let Ok(Verdict::Clean(clean)) = check(alloc, image) else {
         return Ok(None);
     };
     let Ok(media) = Media::from_bytes(alloc, image) else {
         return Ok(None);
     };
     let (board, seat) = Board::new(alloc)?;
-    ask_and_stop::<Brand, R>(alloc, rt, board, seat, media, geometry, lines)
+    ask_and_stop::<Brand, R>(alloc, rt, board, seat, media, clean.geometry(), lines)
 }
 
 #[test]

@@ -11,4 +11,4 @@ over-requires-clause-held g c =
     c.requires.told c.requires.marks
     (subst (λ (h : Geometry). OpenKeeps h c.args.minor c.args.frames (g.L.Link.history c.args.link) (serving_over g.L.Link c.in-Ok.server))
     c.requires.geometry.1 c.in-Ok.ensures.opens)
-    (sym c.requires.minor) c.requires.drivers c.requires.truth
+    (sym c.requires.minor) c.requires.drivers c.requires.truth c.requires.tree.0 c.requires.tree.1

@@ -1,9 +1,6 @@
-use Rattle.tree.specs.Tree.{Tree}
 use Rattle.tree.specs.Answers.{answer_of}
-use Rattle.records.specs.Opening.{contents_at}
-use Rattle.records.specs.Legal.{IsAtFirst}
 use Rattle.file_server.specs.Over.{outcome_of}
-use Rattle.shared_server.proofs.HeldLaws.{cut_given, eio_after, eio_given, held_after, held_sound, held_guaranteed, session_answered, session_cut}
+use Rattle.shared_server.proofs.HeldLaws.{cut_given, eio_after, eio_given, held_after, held_sound, held_guaranteed, held_volume, session_answered, session_cut}
 use Rattle.shared_server.proofs.calling.make_call.Goals as goal
 
 pub returns-in-Reply-clause-held : goal.returns-in-Reply-clause-held
@@ -72,6 +69,12 @@ returns-in-Reply-clause-guaranteed g c = held_guaranteed
     g.L.Supplied.runs_on g.L.Recorder.marks
     c.count_call-count.new.server c.count_call-count.new.caller.view.seen c.count_call-count.ensures.seen (returns-in-Reply-clause-held g c)
 
+pub returns-in-Reply-clause-volume : goal.returns-in-Reply-clause-volume
+returns-in-Reply-clause-volume g c = held_volume
+    g.N.Room g.L.Link g.S.Serve.serving g.S.FileServer.line g.S.FileServer.is_ready g.S.FileServer.knows
+    g.L.Supplied.runs_on g.L.Recorder.marks
+    c.count_call-count.new.server c.count_call-count.new.caller.view.seen c.count_call-count.ensures.seen (returns-in-Reply-clause-held g c)
+
 pub returns-in-Reply-clause-cut : goal.returns-in-Reply-clause-cut
 returns-in-Reply-clause-cut g c =
     cut_given
@@ -96,7 +99,7 @@ returns-in-Reply-clause-cut g c =
 
 pub returns-in-Reply-clause-eio : goal.returns-in-Reply-clause-eio
 returns-in-Reply-clause-eio g c =
-    eio_given _ _ c.count_call-count.new.caller.view.seen (λ (t : Tree). IsAtFirst g.N.Room.geometry (contents_at g.N.Room.opening) t) c.in-Reply.is
+    eio_given _ _ c.count_call-count.new.caller.view.seen c.in-Reply.is
     (eio_after
     g.N.Room g.L.Link g.S.Serve.serving g.S.FileServer.line g.S.FileServer.is_ready g.S.FileServer.knows
     g.L.Supplied.runs_on g.L.Recorder.marks
@@ -139,6 +142,12 @@ returns-in-Cut-clause-guaranteed g c = held_guaranteed
     g.L.Supplied.runs_on g.L.Recorder.marks
     c.show.new.server c.show.new.caller.view.seen c.show.ensures.seen (returns-in-Cut-clause-held g c)
 
+pub returns-in-Cut-clause-volume : goal.returns-in-Cut-clause-volume
+returns-in-Cut-clause-volume g c = held_volume
+    g.N.Room g.L.Link g.S.Serve.serving g.S.FileServer.line g.S.FileServer.is_ready g.S.FileServer.knows
+    g.L.Supplied.runs_on g.L.Recorder.marks
+    c.show.new.server c.show.new.caller.view.seen c.show.ensures.seen (returns-in-Cut-clause-held g c)
+
 pub returns-in-Cut-clause-cut : goal.returns-in-Cut-clause-cut
 returns-in-Cut-clause-cut g c =
     cut_given
@@ -163,7 +172,7 @@ returns-in-Cut-clause-cut g c =
 
 pub returns-in-Cut-clause-eio : goal.returns-in-Cut-clause-eio
 returns-in-Cut-clause-eio g c =
-    eio_given _ _ c.show.new.caller.view.seen (λ (t : Tree). IsAtFirst g.N.Room.geometry (contents_at g.N.Room.opening) t) c.in-Cut.is
+    eio_given _ _ c.show.new.caller.view.seen c.in-Cut.is
     (eio_after
     g.N.Room g.L.Link g.S.Serve.serving g.S.FileServer.line g.S.FileServer.is_ready g.S.FileServer.knows
     g.L.Supplied.runs_on g.L.Recorder.marks

@@ -17,7 +17,7 @@ returns-clause-synced g c = λ t first.
     let is : outcome_of c.call-outcome.result ≡ Replied done =
     done_is (outcome_of c.call-outcome.result) (sym c.was_done.ensures ∙ c.if-not-was_done.false) in
     synced_image g.N.Room g.L.Link g.S.Serve.serving g.S.FileServer.line g.S.FileServer.is_ready g.S.FileServer.knows
-    g.L.Supplied.runs_on g.L.Recorder.marks old mid g.L.OnMedia.lies_on c.in-Ok.image.items c.self.invariant
+    g.L.Supplied.runs_on g.L.Recorder.marks old mid g.L.OnMedia.lies_on c.in-Ok.image.items c.self.invariant.0
     (subst (λ (o : Outcome). CallsOver (g.S.Serve.serving old) (g.S.Serve.serving mid) (g.L.Link.truth (g.S.FileServer.line old))
     (g.L.Link.truth (g.S.FileServer.line mid)) syncer 0 Sync o) is c.call-outcome.ensures.keeps)
     (c.in-Ok.ensures ∙ ap (λ (s : g.row.S.Denot). concat (g.L.OnMedia.lies_on (g.S.FileServer.line s)).sectors) c.new-stopped.ensures)
@@ -39,7 +39,7 @@ returns-clause-image g c =
       end_last = λ l older truth. g.met.L.Recorder.end_last l g.N.Room.opening older truth;
       keeps_on = λ l m goes runs. g.met.L.Supplied.keeps_on l m g.N.Room.policy g.N.Room.supply goes runs;
     })
-    c.self.invariant c.call-outcome.ensures.keeps
+    c.self.invariant.0 c.call-outcome.ensures.keeps
     (went_end (outcome_of c.call-outcome.result) c.is_cut.result c.was_done.result c.is_cut.ensures c.if-is_cut.false c.was_done.ensures c.if-not-was_done.false))
 
 pub returns-then-is_cut-clause-refused : goal.returns-then-is_cut-clause-refused
@@ -58,7 +58,7 @@ returns-then-is_cut-clause-refused g c =
       end_last = λ l older truth. g.met.L.Recorder.end_last l g.N.Room.opening older truth;
       keeps_on = λ l m goes runs. g.met.L.Supplied.keeps_on l m g.N.Room.policy g.N.Room.supply goes runs;
     })
-    c.self.invariant c.call-outcome.ensures.keeps
+    c.self.invariant.0 c.call-outcome.ensures.keeps
     (cut_end (outcome_of c.call-outcome.result) c.is_cut.result c.is_cut.ensures c.if-is_cut.true))
 
 pub returns-then-not-was_done-clause-refused : goal.returns-then-not-was_done-clause-refused
@@ -77,7 +77,7 @@ returns-then-not-was_done-clause-refused g c =
       end_last = λ l older truth. g.met.L.Recorder.end_last l g.N.Room.opening older truth;
       keeps_on = λ l m goes runs. g.met.L.Supplied.keeps_on l m g.N.Room.policy g.N.Room.supply goes runs;
     })
-    c.self.invariant c.call-outcome.ensures.keeps
+    c.self.invariant.0 c.call-outcome.ensures.keeps
     (given_up_end (outcome_of c.call-outcome.result) c.is_cut.result c.was_done.result c.is_cut.ensures c.if-is_cut.false c.was_done.ensures c.if-not-was_done.true))
 
 pub returns-in_default-clause-refused : goal.returns-in_default-clause-refused
@@ -97,6 +97,6 @@ returns-in_default-clause-refused g c =
             end_last = λ l older truth. g.met.L.Recorder.end_last l g.N.Room.opening older truth;
             keeps_on = λ l m goes runs. g.met.L.Supplied.keeps_on l m g.N.Room.policy g.N.Room.supply goes runs;
           })
-          c.self.invariant c.call-outcome.ensures.keeps
+          c.self.invariant.0 c.call-outcome.ensures.keeps
           (refl)),
     )

@@ -1,0 +1,191 @@
+//! A link over channels.
+ghost use Rattle.std.specs.Prelude.{◌≡◌, ◌≤◌, ◌<◌, ◌+◌, ◌^◌, ◌∷◌, List, [], length, refl, IfOk, IsTrue, is_ok, true};
+ghost use Rattle.channel_link.specs.News.{incoming_of};
+ghost use Rattle.records.specs.Marks.{Mark, Took, Flush};
+ghost use Rattle.records.specs.Opening.{Opening};
+ghost use Rattle.records.specs.Told.{Told, heard, received, took_end};
+ghost use Rattle.channel_link.specs.Received.{AreReceived, Other};
+ghost use Rattle.counting_link.specs.Steady.{enough_room};
+
+use crate::free::{Sends, Unsent};
+use crate::line::{Receiving, message_of};
+use crate::news::{Order, Report};
+use board::History;
+use counting_link::steady::{Steady, Supplied};
+use message::endpoint::Endpoint;
+use message::{BlockRequest, Incoming};
+use reissue::link::{Link, LinkRefusal};
+use std::alloc::{AllocError, Global};
+use std::sync::Wait;
+
+/// How many messages a link gives at most (own).
+const BUDGET: u64 = 1099511627776;
+
+/// The link of a server to drivers that run in threads of their own: the receiving end of the server's line, the line of the driver of the
+/// last Started, and an end of the reincarnation server's line.
+///
+/// What it guarantees of a record is that each start, each answer and the giving up in it is a message that it received, unchanged and in
+/// its order.
+pub struct ChannelLink<R: Wait + Copy> {
+    rt: R,
+    pub(crate) line: Receiving,
+    orders: Option<(Endpoint, Sends<Order>)>,
+    reports: Sends<Report>,
+    // A complaint that the reincarnation server's line had no room for.
+    due: Option<Endpoint>,
+    pub(crate) budget: u64,
+    pub(crate) history: History,
+    ghost paid: { budget + length line ≡ 1099511627776 },
+    ghost ended: { took_end history ≡ true → budget ≡ 0 },
+}
+
+impl<R: Wait + Copy> Drop for ChannelLink<R> {
+    fn drop(self) {
+        let Self {
+            rt: _,
+            line: _,
+            orders: _,
+            reports: _,
+            due: _,
+            budget: _,
+            history: _,
+        } = self;
+    }
+}
+
+impl<R: Wait + Copy> ChannelLink<R> {
+    /// A link on the server's line, on which nothing was received yet.
+    pub fn new(
+        alloc: Global,
+        rt: R,
+        line: Receiving,
+        reports: Sends<Report>,
+    ) -> Result<ChannelLink<R>, AllocError>
+        requires { line ≡ [] }
+        ensures history { IfOk result (λ l. ⟦<ChannelLink<R> as Link>⟧.history l ≡ []) }
+        ensures budget { IfOk result (λ l. ⟦<ChannelLink<R> as Link>⟧.budget_left l ≡ 1099511627776) }
+        ensures truth { IfOk result (λ l. (v : Opening) → ⟦<ChannelLink<R> as Link>⟧.truth l v []) }
+    {
+        let history = History::new(alloc)?;
+        Ok(ChannelLink {
+            rt,
+            line,
+            orders: None,
+            reports,
+            due: None,
+            budget: BUDGET,
+            history,
+        })
+    }
+
+    // Hands a request to the driver of this endpoint, if it is the one of the last Started.
+    fn hand_over(&mut self, to: Endpoint, request: &BlockRequest) -> Result<(), LinkRefusal>
+        ensures { (self.new.line ≡ self.old.line) × (self.new.budget ≡ self.old.budget) × (self.new.history ≡ self.old.history) }
+    {
+        let rt = self.rt;
+        match &mut self.orders {
+            Some((endpoint, line)) if *endpoint == to => {
+                match line.try_send(&rt, Order::Ask(*request)) {
+                    Ok(()) => Ok(()),
+                    Err(Unsent::Full) => Err(LinkRefusal::Full),
+                    Err(Unsent::Gone) => Err(LinkRefusal::DeadEndpoint),
+                }
+            }
+            _ => Err(LinkRefusal::DeadEndpoint),
+        }
+    }
+
+    // Tells the reincarnation server of the complaint that is due. Where its line is full, it stays due until the next message.
+    fn report(&mut self)
+        ensures { (self.new.line ≡ self.old.line) × (self.new.budget ≡ self.old.budget) × (self.new.history ≡ self.old.history) }
+    {
+        let Some(about) = self.due else {
+            return;
+        };
+        let rt = self.rt;
+        if !matches!(
+            self.reports.try_send(&rt, Report::Complaint(about)),
+            Err(Unsent::Full)
+        ) {
+            self.due = None;
+        }
+    }
+
+    // One message is received, which costs one of the budget.
+    fn receive(&mut self) -> Incoming
+        requires { 0 < self.old.budget }
+        ensures budget { self.new.budget + 1 ≡ self.old.budget }
+        ensures history { self.new.history ≡ self.old.history }
+        ensures live { (told : List Told) → took_end (heard result told) ≡ took_end told }
+        ensures truth { (marks : List Mark) → AreReceived marks self.old.line
+            → AreReceived (received result marks) self.new.line }
+    {
+        let rt = self.rt;
+        self.budget -= 1;
+        let news = self.line.next(&rt);
+        let (message, started) = message_of(news);
+        if started.is_some() {
+            self.orders = started;
+        }
+        message
+    }
+}
+
+impl<R: Wait + Copy> Link for ChannelLink<R> {
+    ghost history = { λ l. l.history };
+
+    ghost budget_left = { λ l. l.budget };
+
+    ghost room = { λ l. 34 };
+
+    ghost truth = { λ l v marks. AreReceived marks l.line };
+
+    ghost goes_on = { λ l m. Unit {0} };
+
+    fn post(&mut self, to: Endpoint, request: &BlockRequest) -> Result<(), LinkRefusal> {
+        let posted = self.hand_over(to, request);
+        self.history.posted(to, request, posted.is_ok());
+        posted
+    }
+
+    fn complain(&mut self, about: Endpoint) {
+        self.due = Some(about);
+        self.report();
+        self.history.complained(about);
+    }
+
+    #[tactic(auto, using(crate::proofs::Receives::still_live))]
+    fn take(&mut self) -> Incoming {
+        self.report();
+        if self.budget == 0 {
+            self.history.heard(&Incoming::End);
+            return Incoming::End;
+        }
+        let message = self.receive();
+        self.history.heard(&message);
+        message
+    }
+
+    fn budget(&self) -> u64 {
+        self.budget
+    }
+
+    ghost stays = { λ l. tt };
+
+    ghost joins = { λ l m n first next. tt };
+}
+
+impl<R: Wait + Copy> Steady for ChannelLink<R> {
+    ghost rests = { λ l v marks who now call answer kept. Other marks l.line (Took who now call answer) refl kept };
+
+    ghost flushes = { λ l v marks kept. Other marks l.line Flush refl kept };
+
+    ghost has_room = { λ l. enough_room };
+}
+
+// Of drivers in threads of their own nothing is known.
+impl<R: Wait + Copy> Supplied for ChannelLink<R> {
+    ghost runs_on = { λ l policy supply. Unit {0} };
+
+    ghost keeps_on = { λ l m policy supply goes runs. tt };
+}

@@ -1,0 +1,59 @@
+use Rattle.std.proofs.Common.{◌≡◌, sym}
+use Rattle.file_server.specs.Over.{outcome_of}
+use Rattle.shared_server.specs.Stopping.{Went, WasGivenUp, WasCut}
+use Rattle.shared_server.proofs.StoppingLaws.{last_line, cut_end, given_up_end, went_end}
+use Rattle.shared_server.proofs.locked.Locked.finish.Goals as goal
+
+pub returns-then-is_cut : goal.returns-then-is_cut
+returns-then-is_cut g c = (
+  g.S.FileServer.line c.call-outcome.new.self,
+  last_line
+      g.N.Room g.L.Link g.S.Serve.serving g.S.FileServer.line g.S.FileServer.is_ready g.S.FileServer.knows
+      g.L.Supplied.runs_on g.L.Recorder.marks
+      c.self.inside.server c.call-outcome.new.self c.args.self (outcome_of c.call-outcome.result) WasCut
+      c.self.view_is
+      (record {
+        tells = g.met.S.FileServer.tells;
+        is_record = λ l older truth. g.met.L.Recorder.is_record l g.N.Room.opening older truth;
+        end_last = λ l older truth. g.met.L.Recorder.end_last l g.N.Room.opening older truth;
+        keeps_on = λ l m goes runs. g.met.L.Supplied.keeps_on l m g.N.Room.policy g.N.Room.supply goes runs;
+      })
+      c.self.invariant.0 c.call-outcome.ensures.keeps
+      (cut_end (outcome_of c.call-outcome.result) c.is_cut.result c.is_cut.ensures c.if-is_cut.true),
+)
+
+pub returns-then-not-was_done : goal.returns-then-not-was_done
+returns-then-not-was_done g c = (
+  g.S.FileServer.line c.call-outcome.new.self,
+  last_line
+      g.N.Room g.L.Link g.S.Serve.serving g.S.FileServer.line g.S.FileServer.is_ready g.S.FileServer.knows
+      g.L.Supplied.runs_on g.L.Recorder.marks
+      c.self.inside.server c.call-outcome.new.self c.args.self (outcome_of c.call-outcome.result) WasGivenUp
+      c.self.view_is
+      (record {
+        tells = g.met.S.FileServer.tells;
+        is_record = λ l older truth. g.met.L.Recorder.is_record l g.N.Room.opening older truth;
+        end_last = λ l older truth. g.met.L.Recorder.end_last l g.N.Room.opening older truth;
+        keeps_on = λ l m goes runs. g.met.L.Supplied.keeps_on l m g.N.Room.policy g.N.Room.supply goes runs;
+      })
+      c.self.invariant.0 c.call-outcome.ensures.keeps
+      (given_up_end (outcome_of c.call-outcome.result) c.is_cut.result c.was_done.result c.is_cut.ensures c.if-is_cut.false c.was_done.ensures c.if-not-was_done.true),
+)
+
+pub returns : goal.returns
+returns g c = (
+  g.S.FileServer.line c.call-outcome.new.self,
+  last_line
+      g.N.Room g.L.Link g.S.Serve.serving g.S.FileServer.line g.S.FileServer.is_ready g.S.FileServer.knows
+      g.L.Supplied.runs_on g.L.Recorder.marks
+      c.self.inside.server c.call-outcome.new.self c.args.self (outcome_of c.call-outcome.result) Went
+      c.self.view_is
+      (record {
+        tells = g.met.S.FileServer.tells;
+        is_record = λ l older truth. g.met.L.Recorder.is_record l g.N.Room.opening older truth;
+        end_last = λ l older truth. g.met.L.Recorder.end_last l g.N.Room.opening older truth;
+        keeps_on = λ l m goes runs. g.met.L.Supplied.keeps_on l m g.N.Room.policy g.N.Room.supply goes runs;
+      })
+      c.self.invariant.0 c.call-outcome.ensures.keeps
+      (went_end (outcome_of c.call-outcome.result) c.is_cut.result c.was_done.result c.is_cut.ensures c.if-is_cut.false c.was_done.ensures c.if-not-was_done.false),
+)

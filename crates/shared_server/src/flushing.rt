@@ -1,0 +1,34 @@
+//! A Flush between two calls.
+
+ghost use Rattle.std.specs.Prelude.{◌≡◌, ◌<◌, ◌≤◌, ◌+◌, ◌^◌, ◌∷◌, List};
+ghost use Rattle.records.specs.Marks.{Mark, Flush};
+ghost use Rattle.records.specs.Opening.{Opening};
+ghost use Rattle.shared_server.specs.Recorder.{SameServer};
+ghost use Rattle.shared_server.specs.Held.{IsHeld};
+
+use counting_link::recorder::Recorder;
+use counting_link::room::Room;
+use file_server::FileServer;
+use message::Incoming;
+
+// The Flush is noted at the server's link.
+fn note_flush<N: Room, L: Recorder<N>, S: FileServer<L>>(server: &mut S)
+    ensures same { SameServer L.Link S.Serve.serving S.line S.is_ready server.old server.new }
+    ensures truth { (v : Opening) (older : List Mark) → L.truth (S.line server.old) v older
+        → L.truth (S.line server.new) v (Flush ∷ older) }
+    ensures absorbed { S.absorbed server.new ≡ S.absorbed server.old }
+    ensures room { 33 ≤ L.room (S.line server.new) }
+{
+    server.link_mut().note_flush();
+}
+
+/// The server takes a Flush, which is a mark of the record. It stands with its record as before.
+pub fn take_flush<N: Room, L: Recorder<N>, S: FileServer<L>>(server: &mut S)
+    requires held { IsHeld N.Room L.Link S.Serve.serving S.line S.is_ready S.knows L.runs_on L.marks server.old }
+    requires few { S.absorbed server.old < 2 ^ 48 }
+    ensures held { IsHeld N.Room L.Link S.Serve.serving S.line S.is_ready S.knows L.runs_on L.marks server.new }
+    ensures absorbed { S.absorbed server.new ≤ S.absorbed server.old + 1 }
+{
+    note_flush(server);
+    server.absorb(Incoming::Flush);
+}

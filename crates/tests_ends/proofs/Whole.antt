@@ -1,0 +1,31 @@
+-- An image that was found clean, as the volume of a service.
+use Rattle.std.proofs.Common.{◌≡◌, ℕ, ◌<◌, ◌*◌, List, length, take, sym, ◌∙◌, subst}
+use Rattle.std.specs.Prelude.{Ok, slice_index}
+use Rattle.std.proofs.lemmas.List.{take_all}
+use Rattle.lemmas.proofs.Options.{ok_same}
+use Rattle.layout.specs.declared.Geometry.{Geometry}
+use Rattle.layout.specs.declared.LayoutRefusal.{LayoutRefusal}
+use Rattle.layout.specs.Places.{IsGeometry, geometry_of}
+use Rattle.layout.proofs.Parsed.{geometry_fits}
+use Rattle.tree.specs.Tree.{Tree}
+use Rattle.volume.specs.Verdict.{HoldsClosed}
+use Rattle.volume.specs.Reading.{disk_of}
+use Rattle.volume.specs.Holds.{Holds}
+use Rattle.records.specs.Opening.{contents_at}
+use Rattle.records.specs.Legal.{IsAtFirst}
+use Rattle.mounting.proofs.Volumes.{byte_at}
+
+-- the volume that is the whole image holds the tree that the check found
+pub at_first : (image : List ℕ) (g : Geometry) (tree : Tree) → geometry_of image ≡ Ok g → HoldsClosed image tree
+    → IsAtFirst g (contents_at (record { media = image; first = 0; count = length image; minor = 0 })) tree
+at_first image g tree parsed held =
+    let same : held.geometry ≡ g = ok_same {E = LayoutRefusal} (sym held.parsed ∙ parsed) in
+    let fits : IsGeometry g = (geometry_fits image g parsed).0 in
+    let whole : take (512 * length image) image ≡ image = take_all (512 * length image) image (omega arith) in
+    subst (λ (bytes : List ℕ). IsAtFirst g (slice_index bytes) tree) (sym whole) (record {
+      holds = record {
+        superblock = record { image = image; parsed = parsed; same = λ p from to. byte_at g (slice_index image) p fits.sized };
+        nodes = subst (λ (x : Geometry). Holds x (disk_of x image) tree) same held.holds;
+      };
+      closed = held.closed;
+    })
