@@ -7,8 +7,8 @@ use lib.ListN.{get_elem?}
 use Rattle.crossbeam_channel.specs.Fifo.{Pushes, Pops, Forks}
 use Rattle.atomic_table.proofs.Lists.{at_set, at_snoc, at_longer, set_again, set_else}
 use Rattle.message.specs.declared.endpoint.Endpoint.{Endpoint}
-use Rattle.channel_link.specs.declared.news.News.{News}
-use Rattle.channel_link.specs.declared.news.NewsView.{NewsView}
+use Rattle.channel_link.specs.declared.messages.News.{News}
+use Rattle.channel_link.specs.declared.messages.NewsView.{NewsView}
 use Rattle.channel_link.specs.News.{reader, driver, sent_by, got_by, Bears, Among, SentBySome, Borne}
 
 off : false ≡ true → ⊥

@@ -10,8 +10,8 @@ use Rattle.records.specs.Open.{counts, MayFollow}
 use Rattle.records.specs.Opening.{Opening, Fits}
 use Rattle.records.specs.Told.{Told, received, heard, took_end}
 use Rattle.channel_link.specs.News.{incoming_of}
-use Rattle.channel_link.specs.declared.news.News.{News}
-use Rattle.channel_link.specs.declared.news.News.TheVariants as news
+use Rattle.channel_link.specs.declared.messages.News.{News}
+use Rattle.channel_link.specs.declared.messages.News.TheVariants as news
 use Rattle.channel_link.specs.Received.{AreReceived, None, Dropped, Left, Other, mark_of}
 
 by_count : (marks : List Mark) (got : List News) (reply : BlockReply) (b : Bool) → AreReceived marks got

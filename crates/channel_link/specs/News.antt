@@ -5,9 +5,9 @@ use lib.ListN.{get_elem?}
 use Rattle.message.specs.declared.endpoint.Endpoint.{Endpoint}
 use Rattle.message.specs.declared.Incoming.{Incoming}
 use Rattle.message.specs.declared.Incoming.TheVariants as incoming
-use Rattle.channel_link.specs.declared.news.News.{News}
-use Rattle.channel_link.specs.declared.news.News.TheVariants as news
-use Rattle.channel_link.specs.declared.news.NewsView.{NewsView}
+use Rattle.channel_link.specs.declared.messages.News.{News}
+use Rattle.channel_link.specs.declared.messages.News.TheVariants as news
+use Rattle.channel_link.specs.declared.messages.NewsView.{NewsView}
 
 -- the message that news are to a server
 abbrev pub incoming_of : News → Incoming

@@ -7,9 +7,9 @@ ghost use Rattle.records.specs.Told.{Told, heard, received, took_end};
 ghost use Rattle.channel_link.specs.Received.{AreReceived, Other};
 ghost use Rattle.counting_link.specs.Steady.{enough_room};
 
-use crate::free::{Sends, Unsent};
-use crate::line::{Receiving, message_of};
-use crate::news::{Order, Report};
+use crate::channel::{NotSent, Sender};
+use crate::server_line::{NewsReceiver, message_of};
+use crate::messages::{Order, Report};
 use board::History;
 use counting_link::steady::{Steady, Supplied};
 use message::endpoint::Endpoint;
@@ -28,9 +28,9 @@ const BUDGET: u64 = 1099511627776;
 /// its order.
 pub struct ChannelLink<R: Wait + Copy> {
     rt: R,
-    pub(crate) line: Receiving,
-    orders: Option<(Endpoint, Sends<Order>)>,
-    reports: Sends<Report>,
+    pub(crate) line: NewsReceiver,
+    orders: Option<(Endpoint, Sender<Order>)>,
+    reports: Sender<Report>,
     // A complaint that the reincarnation server's line had no room for.
     due: Option<Endpoint>,
     pub(crate) budget: u64,
@@ -58,8 +58,8 @@ impl<R: Wait + Copy> ChannelLink<R> {
     pub fn new(
         alloc: Global,
         rt: R,
-        line: Receiving,
-        reports: Sends<Report>,
+        line: NewsReceiver,
+        reports: Sender<Report>,
     ) -> Result<ChannelLink<R>, AllocError>
         requires { line ≡ [] }
         ensures history { IfOk result (λ l. ⟦<ChannelLink<R> as Link>⟧.history l ≡ []) }
@@ -87,8 +87,8 @@ impl<R: Wait + Copy> ChannelLink<R> {
             Some((endpoint, line)) if *endpoint == to => {
                 match line.try_send(&rt, Order::Ask(*request)) {
                     Ok(()) => Ok(()),
-                    Err(Unsent::Full) => Err(LinkRefusal::Full),
-                    Err(Unsent::Gone) => Err(LinkRefusal::DeadEndpoint),
+                    Err(NotSent::Full) => Err(LinkRefusal::Full),
+                    Err(NotSent::Gone) => Err(LinkRefusal::DeadEndpoint),
                 }
             }
             _ => Err(LinkRefusal::DeadEndpoint),
@@ -105,7 +105,7 @@ impl<R: Wait + Copy> ChannelLink<R> {
         let rt = self.rt;
         if !matches!(
             self.reports.try_send(&rt, Report::Complaint(about)),
-            Err(Unsent::Full)
+            Err(NotSent::Full)
         ) {
             self.due = None;
         }

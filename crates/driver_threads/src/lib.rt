@@ -1,10 +1,9 @@
-//! A link to drivers in threads of their own, with the threads behind it.
-//!
-//! A driver in a thread of its own.
-//!
-//! The reincarnation server in a thread of its own.
+//! Disk drivers, each in a thread of its own, and the reincarnation server in another, which starts them and ends them.
 #![tactic(auto)]
 
-pub mod keeper;
+pub mod confined;
 pub mod running;
-pub mod seated;
+
+mod driver_task;
+mod shared;
+mod supervisor;

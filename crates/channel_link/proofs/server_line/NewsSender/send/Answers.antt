@@ -1,5 +1,5 @@
 use Rattle.channel_link.proofs.Lines.{sends}
-use Rattle.channel_link.proofs.line.NewsEnd.send.Goals as goal
+use Rattle.channel_link.proofs.server_line.NewsSender.send.Goals as goal
 use Rattle.std.proofs.Common.{subst, sym}
 use Rattle.message.specs.declared.endpoint.Endpoint.{Endpoint}
 use Rattle.channel_link.specs.News.{Bears}

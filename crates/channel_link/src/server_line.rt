@@ -4,8 +4,8 @@ ghost use Rattle.crossbeam_channel.specs.Claims.{view, IsSeatAt};
 ghost use Rattle.crossbeam_channel.specs.Ends.{sends_on};
 ghost use Rattle.channel_link.specs.News.{reader, driver, Bears, incoming_of};
 
-use crate::free::Sends;
-use crate::news::{News, NewsView, Order};
+use crate::channel::Sender;
+use crate::messages::{News, NewsView, Order};
 use crossbeam_channel::protocol::{Lesson, Outcome, Protocol, Split};
 use crossbeam_channel::{Pass, RuledReceiver, RuledSender, bounded_with};
 use message::endpoint::Endpoint;
@@ -80,16 +80,16 @@ impl<K: Named> Split<NewsView> for Fresh<K> {
 
 /// The receiving end of the server's line, with the pass that knows what was received. Contracts see that, the newest first.
 #[derive(Drop)]
-pub struct Receiving {
+pub struct NewsReceiver {
     receiver: RuledReceiver<News, NewsView, LineLaw>,
     pass: Pass<News, NewsView>,
 }
 
-impl Model for Receiving {
+impl Model for NewsReceiver {
     ghost use Rattle.std.specs.Prelude.{◌≡◌, List, true};
     ghost use Rattle.crossbeam_channel.specs.Claims.{view as known, IsSeatAt};
     ghost use Rattle.crossbeam_channel.specs.Ends.{receives_on};
-    ghost use Rattle.channel_link.specs.declared.news.News.{News};
+    ghost use Rattle.channel_link.specs.declared.messages.News.{News};
 
     ghost Value = { List News };
 
@@ -100,7 +100,7 @@ impl Model for Receiving {
 
 /// An end of the server's line for a driver, or for the reincarnation server.
 #[derive(Drop)]
-pub struct NewsEnd {
+pub struct NewsSender {
     endpoint: Endpoint,
     sender: RuledSender<News, NewsView, LineLaw>,
     pass: Pass<News, NewsView>,
@@ -114,7 +114,7 @@ pub fn open_line(
     alloc: Global,
     room: usize,
     endpoint: Endpoint,
-) -> Result<(NewsEnd, Receiving), AllocError>
+) -> Result<(NewsSender, NewsReceiver), AllocError>
     requires { 0 < room }
     ensures { IfOk result (λ r. r.1 ≡ []) }
 {
@@ -123,12 +123,12 @@ pub fn open_line(
     )?;
     let other = spare(&sender, &mut pass, endpoint);
     Ok((
-        NewsEnd {
+        NewsSender {
             endpoint,
             sender,
             pass: other,
         },
-        Receiving { receiver, pass },
+        NewsReceiver { receiver, pass },
     ))
 }
 
@@ -157,14 +157,14 @@ fn spare(
     another_said::<Brand>(sender, pass, endpoint)
 }
 
-impl NewsEnd {
+impl NewsSender {
     /// An end for this endpoint.
-    pub fn another(&mut self, endpoint: Endpoint) -> Result<NewsEnd, AllocError>
+    pub fn another(&mut self, endpoint: Endpoint) -> Result<NewsSender, AllocError>
         ensures { IfOk result (λ d. (d.endpoint ≡ endpoint) × (view d.pass ≡ driver endpoint [])) }
     {
         let sender = self.sender.try_clone()?;
         let pass = spare(&self.sender, &mut self.pass, endpoint);
-        Ok(NewsEnd {
+        Ok(NewsSender {
             endpoint,
             sender,
             pass,
@@ -187,7 +187,7 @@ impl NewsEnd {
             .is_ok()
     }
 
-    /// Sends an answer, which bears this endpoint, and waits for room. False where the server has left.
+    /// Sender an answer, which bears this endpoint, and waits for room. False where the server has left.
     pub fn answer<R: Wait>(&mut self, rt: &R, reply: BlockReply) -> bool
         requires { reply.from ≡ self.old.endpoint }
         ensures { self.new.endpoint ≡ self.old.endpoint }
@@ -196,7 +196,7 @@ impl NewsEnd {
     }
 
     /// Tells of a start, and waits for room. False where the server has left.
-    pub fn started<R: Wait>(&mut self, rt: &R, endpoint: Endpoint, line: Sends<Order>) -> bool
+    pub fn started<R: Wait>(&mut self, rt: &R, endpoint: Endpoint, line: Sender<Order>) -> bool
         ensures { self.new.endpoint ≡ self.old.endpoint }
     {
         self.send(rt, News::Started(endpoint, line))
@@ -210,7 +210,7 @@ impl NewsEnd {
     }
 }
 
-impl Receiving {
+impl NewsReceiver {
     fn receive<R: Wait>(&mut self, rt: &R) -> Option<News>
         ensures some { IfSome result (λ news. self.new ≡ news ∷ self.old) }
         ensures none { IfNone result (self.new ≡ self.old) }
@@ -232,7 +232,7 @@ impl Receiving {
 }
 
 /// The message that news are to a server, and the line of a driver that was started.
-pub fn message_of(news: News) -> (Incoming, Option<(Endpoint, Sends<Order>)>)
+pub fn message_of(news: News) -> (Incoming, Option<(Endpoint, Sender<Order>)>)
     ensures { result.0 ≡ incoming_of news }
 {
     match news {

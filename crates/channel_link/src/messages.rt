@@ -1,10 +1,11 @@
 //! What the server, its drivers and the reincarnation server send each other.
-use crate::free::Sends;
+
+use crate::channel::Sender;
 use message::endpoint::Endpoint;
 use message::{BlockReply, BlockRequest};
 use std::collections::LinkedList;
 
-/// What a driver is told.
+/// What a driver is told, on its own channel.
 #[derive(Clone, Copy)]
 pub enum Order {
     /// A request.
@@ -29,13 +30,14 @@ pub enum Report {
 pub enum News {
     /// A driver answered.
     Answer(BlockReply),
-    /// A driver was started, which takes orders on this line.
-    Started(Endpoint, Sends<Order>),
+    /// A driver was started at this endpoint; it takes orders from this end's channel.
+    Started(Endpoint, Sender<Order>),
     /// The device was given up.
     GaveUp,
 }
 
-// What a pass of the server's line knows. No value of it is made.
+// What a pass of the server's line knows: whether it sends and for which endpoint, what it sent, whether it receives, and what it received.
+// No value of it is made.
 pub struct NewsView {
     pub drives: bool,
     pub endpoint: Endpoint,
