@@ -44,8 +44,8 @@ abbrev pub SentBySome : List NewsView → News → Type 0
 SentBySome views x =
     (p : ℕ) × (v : NewsView) × (get_elem? views p ≡ some v) × (v.drives ≡ true) × Bears v.endpoint x × Among v.sent x
 
--- each of the news that were received, or that the line holds, was sent by the pass of an end, and an answer bears the endpoint of that end. One
--- pass receives, and knows all that was received
+-- each of the news that were received, or that the line holds, was sent by the pass of an end, and an answer bears that end's endpoint.
+-- One pass receives, and knows all that was received
 abbrev pub Borne : List News → List NewsView → Type 0
 Borne items views =
     (at : ℕ) × (got : List News)

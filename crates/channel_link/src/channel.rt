@@ -1,4 +1,4 @@
-//! Bounded channels. Their rule says nothing of the messages; it is what lets them do without a lock, and without memory once they are made.
+//! Bounded channels. Their rule says nothing of the messages; it lets them do without a lock, and without memory once they are made.
 ghost use Rattle.std.specs.Prelude.{◌≡◌, ◌<◌};
 ghost use Rattle.crossbeam_channel.specs.Claims.{IsSeatAt};
 ghost use Rattle.crossbeam_channel.specs.Ends.{sends_on, receives_on};
@@ -43,10 +43,7 @@ pub struct Receiver<T: Drop> {
 }
 
 /// A channel that holds so many messages. It takes memory here, and none from then on.
-pub fn bounded<T: Drop>(
-    alloc: Global,
-    room: usize,
-) -> Result<(Sender<T>, Receiver<T>), AllocError>
+pub fn bounded<T: Drop>(alloc: Global, room: usize) -> Result<(Sender<T>, Receiver<T>), AllocError>
     requires { 0 < room }
 {
     let (sender, receiver, mut pass) = bounded_with::<T, (), Free, Global>(alloc, room)?;

@@ -13,6 +13,7 @@ use message::{BlockReply, Incoming};
 use std::alloc::{AllocError, Global};
 use std::marker::{Brand, Model, PhantomData};
 use std::sync::Wait;
+use std::thread;
 
 /// The rule of the server's line.
 pub struct LineLaw;
@@ -78,7 +79,7 @@ impl<K: Named> Split<NewsView> for Fresh<K> {
     ghost right = { λ v. driver K.endpoint [] };
 }
 
-/// The receiving end of the server's line, with the pass that knows what was received. Contracts see that, the newest first.
+/// The receiving end of the server's line, with the pass that knows what was received. Contracts see what it received, the newest first.
 #[derive(Drop)]
 pub struct NewsReceiver {
     receiver: RuledReceiver<News, NewsView, LineLaw>,
@@ -98,7 +99,7 @@ impl Model for NewsReceiver {
     ghost invariant = { λ r. IsSeatAt (receives_on r.receiver) r.pass × ((known r.pass).gets ≡ true) };
 }
 
-/// An end of the server's line for a driver, or for the reincarnation server.
+/// A sending end of the server's line, for a driver or for the reincarnation server. The answers that it sends bear its endpoint.
 #[derive(Drop)]
 pub struct NewsSender {
     endpoint: Endpoint,
@@ -109,7 +110,7 @@ pub struct NewsSender {
     ghost own: { (view pass).endpoint ≡ endpoint },
 }
 
-/// The server's line, with an end for this endpoint.
+/// The server's line, which holds so many news, with a sending end for this endpoint. It takes memory here, and none from then on.
 pub fn open_line(
     alloc: Global,
     room: usize,
@@ -187,7 +188,7 @@ impl NewsSender {
             .is_ok()
     }
 
-    /// Sender an answer, which bears this endpoint, and waits for room. False where the server has left.
+    /// Sends an answer, which bears this endpoint, and waits for room. False where the server has left.
     pub fn answer<R: Wait>(&mut self, rt: &R, reply: BlockReply) -> bool
         requires { reply.from ≡ self.old.endpoint }
         ensures { self.new.endpoint ≡ self.old.endpoint }
@@ -218,7 +219,7 @@ impl NewsReceiver {
         self.receiver.recv_as::<Getting, R>(rt, &mut self.pass).ok()
     }
 
-    /// The next of what is sent. It waits; a failed receive is tried again.
+    /// The next of what is sent, for which it waits. A failed receive is tried again: where no sending end is left, for ever.
     pub fn next<R: Wait>(&mut self, rt: &R) -> News
         ensures { self.new ≡ result ∷ self.old }
     {
@@ -226,6 +227,7 @@ impl NewsReceiver {
             if let Some(news) = self.receive(rt) {
                 return news;
             }
+            thread::yield_now();
         }
         unreachable!()
     }

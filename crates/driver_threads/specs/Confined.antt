@@ -1,5 +1,5 @@
 -- What drivers of one volume leave of the media.
-use Rattle.std.specs.Prelude.{◌≡◌, ℕ, ◌≤◌, ◌<◌, ◌+◌, length, IfSome, IsSomeAnd}
+use Rattle.std.specs.Prelude.{◌≡◌, ℕ, ◌≤◌, ◌<◌, ◌+◌, length, IfSome}
 use Rattle.media.specs.Contents.{MediaState}
 use Rattle.records.specs.Opening.{Opening}
 use Rattle.bdev.specs.DriverState.{DriverState}
@@ -18,7 +18,3 @@ IsInVolume v s = (v.first ≤ s) × (s < v.first + v.count)
 -- a driver names no sector as the next to be written, or one of the volume's
 abbrev pub StaysInVolume : Opening → DriverState → Type 0
 StaysInVolume v d = IfSome d.in_work (IsInVolume v)
-
--- it names another one
-abbrev pub LeavesVolume : Opening → DriverState → Type 0
-LeavesVolume v d = IsSomeAnd d.in_work (λ s. ¬ IsInVolume v s)

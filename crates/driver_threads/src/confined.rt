@@ -4,7 +4,7 @@ ghost use Rattle.std.specs.Prelude.{◌≡◌, ◌≤◌, ◌<◌, ◌+◌, ◌�
 ghost use Rattle.media.specs.Contents.{adopted};
 ghost use Rattle.true_replies.specs.Events.{opening_media};
 ghost use Rattle.bdev.specs.Promises.{StepKeeps};
-ghost use Rattle.driver_threads.specs.Confined.{KeepsOutside, IsInVolume, StaysInVolume, LeavesVolume};
+ghost use Rattle.driver_threads.specs.Confined.{KeepsOutside, IsInVolume, StaysInVolume};
 
 use bdev::{BlockDriver, Step};
 use counting_link::room::Room;
@@ -51,6 +51,7 @@ impl<N: Room> Confined<N> {
     }
 
     /// Makes a greater generation the one that may move sectors.
+    #[tactic(auto, using(crate::proofs::Confining::keeps_adopted))]
     pub fn adopt(&mut self, generation: u32)
         ensures { self.new ≡ adopted self.old generation }
     {
@@ -59,16 +60,17 @@ impl<N: Room> Confined<N> {
 
     /// Takes a driver's step, under its generation. A driver that names a sector outside of the range as the one that its step may write
     /// isn't stepped: it counts as failed.
+    #[tactic(auto, using(crate::proofs::Confining::keeps_stepped))]
     pub fn step<D: BlockDriver>(&mut self, driver: &mut D, generation: u32) -> Step
         ensures inside { StaysInVolume N.opening (D.state driver.old)
             → StepKeeps (D.state driver.old) self.old generation result (D.state driver.new) self.new }
-        ensures outside { LeavesVolume N.opening (D.state driver.old)
+        ensures outside { ¬ (StaysInVolume N.opening (D.state driver.old))
             → (result ≡ Step.Failed) × (D.state driver.new ≡ D.state driver.old) × (self.new ≡ self.old) }
     {
-        match driver.in_work() {
-            Some(sector) if !self.holds(sector) => Step::Failed,
-            _ => driver.step(&mut self.media, generation),
+        if !self.admits(driver) {
+            return Step::Failed;
         }
+        driver.step(&mut self.media, generation)
     }
 
     /// The media, with no drivers on them.
@@ -78,6 +80,16 @@ impl<N: Room> Confined<N> {
     {
         let Confined { media, .. } = self;
         media
+    }
+
+    // Whether a driver names no sector as the next to be written, or one of the volume's.
+    fn admits<D: BlockDriver>(&self, driver: &D) -> bool
+        ensures { IsTrue result ↔ StaysInVolume N.opening (D.state driver.now) }
+    {
+        match driver.in_work() {
+            Some(sector) => self.holds(sector),
+            None => true,
+        }
     }
 
     // Whether a sector is one of the volume's.

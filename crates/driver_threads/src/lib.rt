@@ -2,8 +2,7 @@
 #![tactic(auto)]
 
 pub mod confined;
-pub mod running;
-
 mod driver_task;
+pub mod running;
 mod shared;
 mod supervisor;

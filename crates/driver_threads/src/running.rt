@@ -90,15 +90,7 @@ pub fn start_drivers<
     };
     let media = Arc::try_clone(&shared.media)?;
     let ending = Arc::try_clone(&shared.ending)?;
-    let supervisor = Supervisor::new(
-        alloc,
-        reincarnation,
-        heard,
-        report_end,
-        news,
-        shared,
-        seat,
-    );
+    let supervisor = Supervisor::new(alloc, reincarnation, heard, report_end, news, shared, seat);
     let supervisor = start_supervisor(&rt, supervisor).ok_or(AllocError)?;
     Ok((
         link,

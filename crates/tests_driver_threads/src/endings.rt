@@ -51,8 +51,8 @@ fn is_zero(image: &[u8]) -> bool {
     image.iter().all(|byte| *byte == 0)
 }
 
-// The threads are stopped while the first driver is held, until the drivers that weren't started are dropped. It takes no step then, and its
-// thread is joined.
+// The threads are stopped while the first driver is held, until the drivers that weren't started are dropped. It takes no step then, and
+// its thread is joined.
 #[test]
 fn stopped_while_held(rt: HostRuntime) -> Result<(), Fail> {
     let alloc = rt.alloc();
@@ -63,8 +63,9 @@ fn stopped_while_held(rt: HostRuntime) -> Result<(), Fail> {
         steps: 1,
     };
     let drivers = counted(alloc, filled_up(alloc, Vec::new(alloc))?, &gone)?;
-    let (came, image) = play(alloc, rt, SECTORS, drivers, &gate, plan, Ending::Stopped)
-        .ok_or("not stopped")?;
+    let (came, image) = play(alloc, rt, SECTORS, drivers, &gate, plan, Ending::Stopped).ok_or(
+        "not stopped",
+    )?;
     assert!(rt; came && is_zero(&image));
     assert_eq!(rt; gate.passed(), 1);
     assert_eq!(rt; gone.load(Ordering::SeqCst), 33);
@@ -96,8 +97,9 @@ fn stopped_at_work(rt: HostRuntime) -> Result<(), Fail> {
         steps: 100,
     };
     let drivers = never_done(alloc, &gone)?;
-    let (came, image) = play(alloc, rt, SECTORS, drivers, &gate, plan, Ending::Stopped)
-        .ok_or("not stopped")?;
+    let (came, image) = play(alloc, rt, SECTORS, drivers, &gate, plan, Ending::Stopped).ok_or(
+        "not stopped",
+    )?;
     assert!(rt; came && is_zero(&image));
     assert_eq!(rt; gone.load(Ordering::SeqCst), 33);
     Ok(())
@@ -114,8 +116,9 @@ fn let_go_at_work(rt: HostRuntime) -> Result<(), Fail> {
         steps: 100,
     };
     let drivers = never_done(alloc, &gone)?;
-    let (came, _) = play(alloc, rt, SECTORS, drivers, &gate, plan, Ending::LetGo)
-        .ok_or("not let go")?;
+    let (came, _) = play(alloc, rt, SECTORS, drivers, &gate, plan, Ending::LetGo).ok_or(
+        "not let go",
+    )?;
     assert!(rt; came && is_reached(&*gone, 33));
     Ok(())
 }
@@ -142,8 +145,16 @@ fn ends_idle<R: Threads + Wait + Abort + Copy + Send + Sync + 'static>(
     let gone = Arc::new(alloc, AtomicU64::new(0))?;
     let gate = Arc::new(alloc, Watch::open(rt))?;
     let drivers = counted(alloc, filled_up(alloc, Vec::new(alloc))?, &gone)?;
-    let (came, image) = play(alloc, rt, SECTORS, drivers, &gate, Idles { takes }, Ending::Stopped)
-        .ok_or("not stopped")?;
+    let (came, image) = play(
+        alloc,
+        rt,
+        SECTORS,
+        drivers,
+        &gate,
+        Idles { takes },
+        Ending::Stopped,
+    )
+    .ok_or("not stopped")?;
     assert!(rt; came && is_zero(&image));
     assert_eq!(rt; gone.load(Ordering::SeqCst), 33);
     Ok(())

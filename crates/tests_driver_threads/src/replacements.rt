@@ -104,8 +104,9 @@ fn held_driver(rt: HostRuntime) -> Result<(), Fail> {
         release,
     };
     let drivers = filled_up(alloc, Vec::new(alloc))?;
-    let (came, image) = play(alloc, rt, SECTORS, drivers, &gate, plan, Ending::Stopped)
-        .ok_or("not stopped")?;
+    let (came, image) = play(alloc, rt, SECTORS, drivers, &gate, plan, Ending::Stopped).ok_or(
+        "not stopped",
+    )?;
     let came = came.ok_or("no answer")?;
     assert_eq!(rt; came.first, 1);
     assert!(rt; came.answered.from.generation > 1);
@@ -156,8 +157,9 @@ fn dies_in_each_step(rt: HostRuntime) -> Result<(), Fail> {
     let plan = AskedUntilAnswered {
         request: request_at(1, 4096, 4096, 0x5a),
     };
-    let (came, image) = play(alloc, rt, SECTORS, drivers, &gate, plan, Ending::Stopped)
-        .ok_or("not stopped")?;
+    let (came, image) = play(alloc, rt, SECTORS, drivers, &gate, plan, Ending::Stopped).ok_or(
+        "not stopped",
+    )?;
     let answered = came.ok_or("no answer")?;
     assert!(rt; answered.from.generation > 8);
     assert_eq!(rt; answered.outcome, Ok(4096));
@@ -197,8 +199,16 @@ fn given_up(rt: HostRuntime) -> Result<(), Fail> {
     for _ in 0..3 {
         drivers.push(dying(alloc, 0)?)?;
     }
-    let (came, image) = play(alloc, rt, SECTORS, drivers, &gate, AskedUntilGivenUp, Ending::Stopped)
-        .ok_or("not stopped")?;
+    let (came, image) = play(
+        alloc,
+        rt,
+        SECTORS,
+        drivers,
+        &gate,
+        AskedUntilGivenUp,
+        Ending::Stopped,
+    )
+    .ok_or("not stopped")?;
     assert_eq!(rt; came, Some(3));
     assert!(rt; is_all(&image, 0, 65536, 0));
     Ok(())
@@ -228,8 +238,16 @@ fn complained_of(rt: HostRuntime) -> Result<(), Fail> {
     let alloc = rt.alloc();
     let gate = Arc::new(alloc, Watch::open(rt))?;
     let drivers = filled_up(alloc, Vec::new(alloc))?;
-    let (came, _) = play(alloc, rt, SECTORS, drivers, &gate, Complains, Ending::Stopped)
-        .ok_or("not stopped")?;
+    let (came, _) = play(
+        alloc,
+        rt,
+        SECTORS,
+        drivers,
+        &gate,
+        Complains,
+        Ending::Stopped,
+    )
+    .ok_or("not stopped")?;
     assert_eq!(rt; came, Some((1, 2)));
     Ok(())
 }
@@ -252,8 +270,9 @@ fn leaves_its_range(rt: HostRuntime) -> Result<(), Fail> {
     let alloc = rt.alloc();
     let gate = Arc::new(alloc, Watch::open(rt))?;
     let drivers = filled_up(alloc, Vec::new(alloc))?;
-    let (came, image) = play(alloc, rt, 16, drivers, &gate, LeavesRange, Ending::Stopped)
-        .ok_or("not stopped")?;
+    let (came, image) = play(alloc, rt, 16, drivers, &gate, LeavesRange, Ending::Stopped).ok_or(
+        "not stopped",
+    )?;
     let answered = came.ok_or("no answer")?;
     assert!(rt; answered.id == 2 && answered.from.generation > 1);
     assert_eq!(rt; answered.outcome, Ok(1024));
@@ -287,8 +306,9 @@ fn late_reply(rt: HostRuntime) -> Result<(), Fail> {
     let gate = Arc::new(alloc, Watch::holding(rt, Arc::try_clone(&release)?))?;
     let plan = LateReply { release };
     let drivers = filled_up(alloc, Vec::new(alloc))?;
-    let (came, _) = play(alloc, rt, SECTORS, drivers, &gate, plan, Ending::Stopped)
-        .ok_or("not stopped")?;
+    let (came, _) = play(alloc, rt, SECTORS, drivers, &gate, plan, Ending::Stopped).ok_or(
+        "not stopped",
+    )?;
     let (early, late) = came.ok_or("no answers")?;
     assert!(rt; early.from.generation > 1 && early.id == 2);
     assert_eq!(rt; early.outcome, Ok(1024));

@@ -166,5 +166,6 @@ pub(crate) fn play<
         gate,
         plan,
         ending,
-    ).ok()?
+    )
+    .ok()?
 }

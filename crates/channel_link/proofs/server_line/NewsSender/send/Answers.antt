@@ -6,4 +6,5 @@ use Rattle.channel_link.specs.News.{Bears}
 
 pub send_as-requires-clause-rule : goal.send_as-requires-clause-rule
 send_as-requires-clause-rule g c =
-    (sends _ _ _ _ c.args.self.now.drives (subst (λ (o : Endpoint). Bears o c.args.news) (sym c.args.self.now.own) c.requires), λ items views h at. tt)
+    let own = subst (λ (o : Endpoint). Bears o c.args.news) (sym c.args.self.now.own) c.requires in
+    (sends _ _ _ _ c.args.self.now.drives own, λ items views h at. tt)

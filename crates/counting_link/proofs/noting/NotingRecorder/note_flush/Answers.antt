@@ -15,6 +15,6 @@ pub returns-clause-truth : goal.returns-clause-truth
 returns-clause-truth g c = λ v older truth. (
   g.met.L.Steady.flushes c.args.self.now.link v older truth.0,
   c.note.ensures.record_is ∙ ap (λ (ms : List Mark). Flush ∷ ms) truth.1,
-  c.takes.ensures older truth.2,
+  c.takes.ensures older refl truth.2,
   truth.3,
 )
