@@ -1,5 +1,5 @@
 -- A step of a driver that names no sector outside of the volume changes none there.
-use Rattle.std.proofs.Common.{◌≡◌, ◌≢◌, ℕ, ◌+◌, ◌<◌, ◌≤◌, length, List, refl, sym, ◌∙◌, ap, subst, inl, inr, arith, Option, Some, None}
+use Rattle.std.proofs.Common.{◌≡◌, ◌≢◌, ℕ, ◌+◌, ◌<◌, ◌≤◌, ◌⊎◌, List, refl, sym, ◌∙◌, subst, inl, inr, arith, Option, Some, None}
 use Rattle.std.specs.Prelude.{IfSome}
 use Rattle.message.specs.declared.Kind.{Kind}
 use Rattle.message.specs.declared.Kind.TheVariants.{Read, Write}
@@ -10,9 +10,14 @@ use Rattle.bdev.specs.declared.Step.{Step}
 use Rattle.bdev.specs.declared.Run.{Run}
 use Rattle.bdev.specs.DriverState.{DriverState, Work, chunk}
 use Rattle.bdev.specs.Promises.{StepKeeps, StepsAt, MovesBytes, IsNext}
+use Rattle.true_replies.specs.Events.{opening_media}
 use Rattle.driver_threads.specs.Confined.{KeepsOutside, IsInVolume, StaysInVolume}
 
 -- the media as they were handed in
+pub keeps_given : (v : Opening) (m : MediaState) → m ≡ opening_media v → KeepsOutside v m
+keeps_given v m given =
+    subst (λ (x : MediaState). KeepsOutside v x) (sym given) (record { number = refl; outside = record { each = λ n out. refl } })
+
 pub keeps_same : (v : Opening) (old new : MediaState) → new ≡ old → KeepsOutside v old → KeepsOutside v new
 keeps_same v old new same kept = subst (λ (m : MediaState). KeepsOutside v m) (sym same) kept
 

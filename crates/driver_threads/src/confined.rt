@@ -36,6 +36,7 @@ impl<N: Room> Model for Confined<N> {
 
 impl<N: Room> Confined<N> {
     /// The media as they were handed in, and the volume's first sector and how many it has.
+    #[tactic(auto, using(crate::proofs::Confining::keeps_given))]
     pub fn new(media: Media, range: (u32, u32)) -> Confined<N>
         requires range { (range.0 ≡ N.opening.first) × (range.1 ≡ N.opening.count) }
         requires media { media ≡ opening_media N.opening }
