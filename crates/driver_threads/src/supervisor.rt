@@ -2,6 +2,7 @@
 
 ghost use Rattle.std.specs.Prelude.{◌≡◌, ◌<◌, ◌^◌};
 ghost use Rattle.std.specs.Arc.{arc_value};
+ghost use Rattle.std.specs.Thread.{IsSend};
 ghost use Rattle.reincarnate.specs.Laws.{tick_of};
 
 use crate::driver_task::{DriverTask, start_driver};
@@ -269,5 +270,11 @@ pub(crate) fn start_supervisor<
     R: Threads + Wait + Copy + Send + 'static,
 >(rt: &R, supervisor: Supervisor<N, D, G>) -> Option<JoinHandle<()>> {
     let mine = *rt;
-    thread::spawn(rt, move || supervisor.run(&mine)).ok()
+    thread::spawn(
+        rt,
+        move ||
+            requires { IsSend N.row × IsSend D.row × IsSend G.row }
+        { supervisor.run(&mine) },
+    )
+    .ok()
 }

@@ -281,6 +281,18 @@ fn leaves_its_range(rt: HostRuntime) -> Result<(), Fail> {
     Ok(())
 }
 
+// The next answer of the first driver. Starts, and answers of others, are passed over.
+fn answered_by_first<R: Wait + Copy>(link: &mut ChannelLink<R>) -> Option<BlockReply> {
+    for _ in 0..MESSAGES {
+        match link.take() {
+            Incoming::Reply(reply) if reply.from.generation == 1 => return Some(reply),
+            Incoming::Reply(_) | Incoming::Started(_) => {}
+            _ => return None,
+        }
+    }
+    None
+}
+
 // The first driver is asked for a sector that is none, and held until a later one has answered another request. Then it answers, too.
 #[derive(Drop)]
 struct LateReply {
@@ -294,7 +306,7 @@ impl<R: Wait + Copy> Plan<R> for LateReply {
         let _ = first_asked(link, &request_at(1, 1, 512, 0x11))?;
         let early = asked_until_answered(link, &write_of(2, 0x22))?;
         self.release.store(1, Ordering::SeqCst);
-        let late = asked_until_answered(link, &write_of(3, 0x33))?;
+        let late = answered_by_first(link)?;
         Some((early, late))
     }
 }
