@@ -2,11 +2,10 @@
 
 ghost use Rattle.std.specs.Prelude.{◌≡◌, ◌<◌, ◌^◌};
 ghost use Rattle.std.specs.Arc.{arc_value};
-ghost use Rattle.std.specs.Thread.{IsSend};
 ghost use Rattle.reincarnate.specs.Laws.{tick_of};
 
 use crate::driver_task::{DriverTask, start_driver};
-use crate::shared::Shared;
+use crate::shared::{Shared, Volume};
 use bdev::BlockDriver;
 use board::Seat;
 use channel_link::channel::{Receiver, Sender, bounded};
@@ -69,11 +68,7 @@ pub(crate) struct Supervisor<N: Room, D: BlockDriver, G: Gate> {
     ghost low: { ticks < 2 ^ 48 },
 }
 
-impl<N: Room + Send + Sync + 'static, D: BlockDriver + 'static, G: Gate + 'static> Supervisor<
-    N,
-    D,
-    G,
-> {
+impl<N: Volume + 'static, D: BlockDriver + 'static, G: Gate + 'static> Supervisor<N, D, G> {
     /// The reincarnation server, which was told nothing yet.
     pub(crate) fn new(
         alloc: Global,
@@ -264,17 +259,11 @@ fn join<R: Threads + Wait>(rt: &R, worker: Worker) {
 
 /// Starts the thread of the reincarnation server. None where no thread could be made: all its drivers are dropped then.
 pub(crate) fn start_supervisor<
-    N: Room + Send + Sync + 'static,
+    N: Volume + 'static,
     D: BlockDriver + 'static,
     G: Gate + 'static,
     R: Threads + Wait + Copy + Send + 'static,
 >(rt: &R, supervisor: Supervisor<N, D, G>) -> Option<JoinHandle<()>> {
     let mine = *rt;
-    thread::spawn(
-        rt,
-        move ||
-            requires { IsSend N.row × IsSend D.row × IsSend G.row }
-        { supervisor.run(&mine) },
-    )
-    .ok()
+    thread::spawn(rt, move || supervisor.run(&mine)).ok()
 }
