@@ -75,7 +75,7 @@ ends_needing : (s : Serving) (p : RunState) (last : Doing) → EndsIn last s p �
     → (((moment s p last).doing ≡ Resting) × (p.queue ≡ [])) ⊎ ((p.over ≡ true) × Needs (moment s p last))
 ends_needing s p Resting ends needs = inl (refl, ends.2)
 ends_needing s p (Hearing message) ends needs = absurd ends
-ends_needing s p (Answering call) ends needs = inr (ends.2, needs ends.2)
+ends_needing s p (Answering call) ends needs = inr (ends.1, needs ends.1)
 
 module _ {L : Type 0} (words : LinkWords L) (run : L → RunState) (link : L) (image : List ℕ) (setup : Setup) (supply : List DriverState) (events : List Event)
     (range : ℕ × ℕ) (g : Geometry) (tree : Tree) (frames : ℕ) (s : Server (Stored L)) (t : Transcript) where
