@@ -3,7 +3,7 @@
 ghost use Rattle.std.specs.Prelude.{◌≡◌};
 ghost use Rattle.std.specs.Arc.{arc_value};
 
-use crate::shared::{Shared, Volume};
+use crate::shared::Shared;
 use bdev::{Answer, BlockDriver, Step};
 use board::Seat;
 use channel_link::channel::{Receiver, Sender};
@@ -142,7 +142,7 @@ impl<N: Room, D: BlockDriver, G: Gate> DriverTask<N, D, G> {
 
 /// Starts a driver's thread. None where no thread could be made: the driver is dropped then.
 pub(crate) fn start_driver<
-    N: Volume + 'static,
+    N: Room + Send + Sync + 'static,
     D: BlockDriver + 'static,
     G: Gate + 'static,
     R: Threads + Wait + Copy + Send + 'static,

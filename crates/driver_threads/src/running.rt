@@ -7,7 +7,7 @@ ghost use Rattle.true_replies.specs.Events.{opening_media};
 ghost use Rattle.driver_threads.specs.Confined.{KeepsOutside};
 
 use crate::confined::Confined;
-use crate::shared::{Shared, Volume};
+use crate::shared::Shared;
 use crate::supervisor::{Supervisor, start_supervisor};
 use bdev::BlockDriver;
 use board::{Board, Seat};
@@ -53,7 +53,7 @@ impl<N: Room> Drop for Running<N> {
 ///
 /// The seat is one of the board's without a number. No driver is started before the gate lets the first tick pass.
 pub fn start_drivers<
-    N: Volume + 'static,
+    N: Room + Send + Sync + 'static,
     D: BlockDriver + 'static,
     G: Gate + 'static,
     R: Threads + Wait + Copy + Send + 'static,

@@ -11,11 +11,6 @@ use std::alloc::AllocError;
 use std::sync::atomic::AtomicBool;
 use std::sync::{Arc, Mutex};
 
-/// What the parts of one service agree on, where threads may speak of it: each `Room` that is `Send` and `Sync`.
-pub trait Volume: Room + Send + Sync {}
-
-impl<N: Room + Send + Sync> Volume for N {}
-
 /// The media under their lock, the board, the gate, and the word that says that all threads are to end.
 #[derive(Drop)]
 pub(crate) struct Shared<N: Room, G: Gate> {

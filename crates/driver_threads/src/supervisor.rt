@@ -5,7 +5,7 @@ ghost use Rattle.std.specs.Arc.{arc_value};
 ghost use Rattle.reincarnate.specs.Laws.{tick_of};
 
 use crate::driver_task::{DriverTask, start_driver};
-use crate::shared::{Shared, Volume};
+use crate::shared::Shared;
 use bdev::BlockDriver;
 use board::Seat;
 use channel_link::channel::{Receiver, Sender, bounded};
@@ -68,7 +68,11 @@ pub(crate) struct Supervisor<N: Room, D: BlockDriver, G: Gate> {
     ghost low: { ticks < 2 ^ 48 },
 }
 
-impl<N: Volume + 'static, D: BlockDriver + 'static, G: Gate + 'static> Supervisor<N, D, G> {
+impl<N: Room + Send + Sync + 'static, D: BlockDriver + 'static, G: Gate + 'static> Supervisor<
+    N,
+    D,
+    G,
+> {
     /// The reincarnation server, which was told nothing yet.
     pub(crate) fn new(
         alloc: Global,
@@ -259,7 +263,7 @@ fn join<R: Threads + Wait>(rt: &R, worker: Worker) {
 
 /// Starts the thread of the reincarnation server. None where no thread could be made: all its drivers are dropped then.
 pub(crate) fn start_supervisor<
-    N: Volume + 'static,
+    N: Room + Send + Sync + 'static,
     D: BlockDriver + 'static,
     G: Gate + 'static,
     R: Threads + Wait + Copy + Send + 'static,
