@@ -1,4 +1,5 @@
-//! Calls that make something: where memory is refused they say so, and else make it.
+//! Calls that make something: they make it, or say that no memory was found, and that only where a request was refused. (Where room for
+//! many is refused, a list may still find room for one after the other.)
 
 use crate::orders::{Trial, each_refused};
 use cache::{Cache, CacheRefusal};
@@ -39,7 +40,7 @@ impl Trial for Mkfs {
         refused: bool,
     ) -> Result<bool, AllocError> {
         Ok(match came {
-            Ok(image) => !refused && image.as_slice() == self.0.as_slice(),
+            Ok(image) => image.as_slice() == self.0.as_slice(),
             Err(refusal) => refused && *refusal == MkfsRefusal::OutOfMemory,
         })
     }
@@ -63,7 +64,7 @@ impl Trial for Check {
         refused: bool,
     ) -> Result<bool, AllocError> {
         Ok(match came {
-            Ok(verdict) => !refused && matches!(verdict, Verdict::Clean(_)),
+            Ok(verdict) => matches!(verdict, Verdict::Clean(_)),
             Err(_) => refused,
         })
     }
@@ -88,7 +89,7 @@ impl Trial for FromBytes {
     ) -> Result<bool, AllocError> {
         Ok(match came {
             Ok(media) => match media.image(alloc) {
-                Ok(image) => !refused && image.as_slice() == self.0.as_slice(),
+                Ok(image) => image.as_slice() == self.0.as_slice(),
                 Err(_) => false,
             },
             Err(refusal) => refused && *refusal == MediaRefusal::OutOfMemory,
@@ -114,7 +115,7 @@ impl Trial for Drivers {
     fn is_right(&self, _alloc: Global, came: &Supplied, refused: bool) -> Result<bool, AllocError> {
         Ok(match came {
             None => refused,
-            Some(Ok(_)) => !refused,
+            Some(Ok(_)) => true,
             Some(Err(refusal)) => refused && *refusal == SupplyRefusal::OutOfMemory,
         })
     }
@@ -161,7 +162,7 @@ impl Trial for Spares {
     ) -> Result<bool, AllocError> {
         Ok(match came {
             None => refused,
-            Some((back, added)) => *back == u32::from(refused) && *added == SPARES,
+            Some((back, added)) => *back <= u32::from(refused) && *added == SPARES,
         })
     }
 }
@@ -191,7 +192,7 @@ impl Trial for Frames {
     ) -> Result<bool, AllocError> {
         Ok(match came {
             None => refused,
-            Some(Ok(_)) => !refused,
+            Some(Ok(_)) => true,
             Some(Err(refusal)) => refused && *refusal == CacheRefusal::OutOfMemory,
         })
     }
@@ -249,7 +250,7 @@ impl Trial for Mount {
     fn is_right(&self, _alloc: Global, came: &Mounted, refused: bool) -> Result<bool, AllocError> {
         Ok(match came {
             None => refused,
-            Some(Ok(_)) => !refused,
+            Some(Ok(_)) => true,
             Some(Err(refusal)) => refused && *refusal == MountRefusal::OutOfMemory,
         })
     }
