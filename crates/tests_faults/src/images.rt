@@ -69,9 +69,8 @@ static RUNS: [(usize, Clean); 26] = [
     (1984, Clean::Any),
 ];
 
-/// How many bytes the root's two entries have, of which each has to be as it is, and how many stand behind them.
+/// How many bytes the root's two entries have, of which each has to be as it is. Behind them each may have any value.
 const ENTRIES: usize = 128;
-const BEHIND: usize = 896;
 
 /// The bytes up to the end of the root's zone.
 const LOOKED_AT: usize = 7168;
@@ -133,30 +132,54 @@ fn put(image: &mut [u8], at: usize, bytes: &[u8]) {
 // In all 7168 bytes 1780924 of 1835008 volumes are clean.
 
 #[test]
-fn each_byte_before_the_maps(rt: HostRuntime) -> Result<(), Fail> {
-    // 1024 + 4 + 993 + 4 bytes of no meaning, 16 numbers of inodes, 58 of zones, and 21 bytes that have to be as they are
-    assert_eq!(rt; clean_values(rt.alloc(), 0, 2048)?, 2023 * 256 + 16 + 58 + 23);
+fn each_byte_of_the_boot_block(rt: HostRuntime) -> Result<(), Fail> {
+    assert_eq!(rt; clean_values(rt.alloc(), 0, 1024)?, 1024 * 256);
     Ok(())
 }
 
 #[test]
-fn each_byte_of_the_maps(rt: HostRuntime) -> Result<(), Fail> {
-    // of the inode map 1019 bytes of no meaning, one without a bit, and 4; of the zone map 1016, one without three bits, and 7
-    assert_eq!(rt; clean_values(rt.alloc(), 2048, 4096)?, 2035 * 256 + 128 + 32 + 11);
+fn each_byte_of_the_superblock(rt: HostRuntime) -> Result<(), Fail> {
+    // six bytes of pads and 993 behind it of any value, 16 numbers of inodes, 58 of zones, and 23 bytes that have to be as they are
+    assert_eq!(rt;
+        clean_values(rt.alloc(), 1024, 2048)?,
+        999 * 256 + 16 + 58 + 23
+    );
     Ok(())
 }
 
 #[test]
-fn each_byte_of_the_inodes(rt: HostRuntime) -> Result<(), Fail> {
-    // of the root's inode 17 bytes of any value, one of two, and 46; 1984 of inodes that aren't marked
-    assert_eq!(rt; clean_values(rt.alloc(), 4096, 6144)?, 2001 * 256 + 2 + 46);
+fn each_byte_of_the_inode_map(rt: HostRuntime) -> Result<(), Fail> {
+    // 1019 bytes of any value, one without a bit, and 4
+    assert_eq!(rt; clean_values(rt.alloc(), 2048, 3072)?, 1019 * 256 + 128 + 4);
+    Ok(())
+}
+
+#[test]
+fn each_byte_of_the_zone_map(rt: HostRuntime) -> Result<(), Fail> {
+    // 1016 bytes of any value, one without three bits, and 7
+    assert_eq!(rt; clean_values(rt.alloc(), 3072, 4096)?, 1016 * 256 + 32 + 7);
+    Ok(())
+}
+
+#[test]
+fn each_byte_of_the_first_inodes(rt: HostRuntime) -> Result<(), Fail> {
+    // of the root's inode 17 bytes of any value, one of two, and 46; those of 15 inodes that aren't marked
+    assert_eq!(rt;
+        clean_values(rt.alloc(), 4096, 5120)?,
+        (17 + 960) * 256 + 2 + 46
+    );
+    Ok(())
+}
+
+#[test]
+fn each_byte_of_the_last_inodes(rt: HostRuntime) -> Result<(), Fail> {
+    assert_eq!(rt; clean_values(rt.alloc(), 5120, 6144)?, 1024 * 256);
     Ok(())
 }
 
 #[test]
 fn each_byte_of_the_roots_zone(rt: HostRuntime) -> Result<(), Fail> {
     assert_eq!(rt; clean_values(rt.alloc(), 6144, LOOKED_AT)?, 896 * 256 + 128);
-    assert_eq!(rt; ENTRIES.saturating_add(BEHIND), 1024);
     Ok(())
 }
 
@@ -185,6 +208,7 @@ type Put = (usize, &'static [u8]);
 
 /// A single indirect block that names itself, and a triple one: zone 7 is marked, the root's inode has it, and its first number is 7.
 const SINGLE: &[Put] = &[(4148, &[7]), (7168, &[7]), (3072, &[7])];
+
 const TRIPLE: &[Put] = &[(4156, &[7]), (7168, &[7]), (3072, &[7])];
 
 /// Two names of one directory: inode 2 and zone 7 are marked; the root has four entries, `x` and `y` both to inode 2, which has two links
@@ -203,11 +227,7 @@ const TWO_NAMES: &[Put] = &[
 ];
 
 /// What is put into the small volume, and the check's finding.
-static KNOWN: [(&[Put], u32, u32); 3] = [
-    (SINGLE, 8, 7),
-    (TRIPLE, 8, 7),
-    (TWO_NAMES, 15, 2),
-];
+static KNOWN: [(&[Put], u32, u32); 3] = [(SINGLE, 8, 7), (TRIPLE, 8, 7), (TWO_NAMES, 15, 2)];
 
 #[test]
 fn images_of_malice(rt: HostRuntime) -> Result<(), Fail> {
@@ -217,7 +237,10 @@ fn images_of_malice(rt: HostRuntime) -> Result<(), Fail> {
             put(&mut image, *at, *bytes);
         }
         let (number, place) = (*number, *place);
-        assert_eq!(rt; finding(rt.alloc(), &image)?, Some(Finding { number, place }));
+        assert_eq!(rt;
+            finding(rt.alloc(), &image)?,
+            Some(Finding { number, place })
+        );
     }
     Ok(())
 }
@@ -326,13 +349,19 @@ fn plays_before_the_maps(rt: HostRuntime) -> Result<(), Fail> {
 
 #[test]
 fn plays_on_the_maps(rt: HostRuntime) -> Result<(), Fail> {
-    assert_eq!(rt; plays(rt.alloc(), rt, 2048, 4096)?, 4 * (127 + 127) + 128 + 32);
+    assert_eq!(rt;
+        plays(rt.alloc(), rt, 2048, 4096)?,
+        4 * (127 + 127) + 128 + 32
+    );
     Ok(())
 }
 
 #[test]
 fn plays_on_the_inodes_and_the_root(rt: HostRuntime) -> Result<(), Fail> {
     // 17 bytes of the root's inode, and two types; each eighth byte of the other inodes, and behind the root's entries
-    assert_eq!(rt; plays(rt.alloc(), rt, 4096, LOOKED_AT)?, 4 * (17 + 248 + 112) + 2);
+    assert_eq!(rt;
+        plays(rt.alloc(), rt, 4096, LOOKED_AT)?,
+        4 * (17 + 248 + 112) + 2
+    );
     Ok(())
 }
