@@ -133,7 +133,7 @@ user 0 0
 100 open /f rwc 644
 100 fill 0 40000 61
 100 write 0 68656c6c6f
-100 fill 0 2147483647 62
+100 fill 0 131072 62
 100 seek 0 set 39998
 100 dup 0
 100 close 1
