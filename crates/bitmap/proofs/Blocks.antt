@@ -1,13 +1,18 @@
 -- The numbers of a map that stand in one of its blocks.
 use Rattle.std.proofs.Common.{◌≡◌, ◌<◌, ◌≤◌, ◌+◌, ◌-◌, ◌*◌, ◌/◌, ◌%◌, ℕ, zero, suc, List, Bool, refl, sym, ap, subst, ◌∙◌, arith}
-use Rattle.std.specs.Prelude.{not, Some, None, slice_index}
+use Rattle.std.specs.Prelude.{not, IsTrue, Some, None, max, min, slice_index}
+use Rattle.std.proofs.Math.Nat.{add-mul, mul-mod_left, mul_assoc}
+use Rattle.std.proofs.lemmas.Bool.{cases_lt}
 use Rattle.std.proofs.lemmas.Nat.{div-mul-add, mod-mul-add}
+use mathlib.Core.Logic.{inl, inr}
 use Rattle.layout.specs.declared.Geometry.{Geometry}
+use Rattle.layout.specs.Places.{is_block_size}
+use Rattle.layout.proofs.Parsed.{block_sizes}
 use Rattle.tree.specs.Sums.{count_below, sum_below, one_if}
 use Rattle.volume.specs.Reading.{Disk, bit_in}
 use Rattle.volume.specs.Pieces.{pieces}
 use Rattle.bitmap.specs.declared.Map.{Map}
-use Rattle.bitmap.specs.Numbers.{AllIn, IsLowestFree, count_free_in}
+use Rattle.bitmap.specs.Numbers.{AllIn, IsLowestFree, count_free_in, words_for}
 use Rattle.bitmap.specs.Maps.{numbers_in, last_number, first_block, reach}
 use Rattle.bitmap.proofs.Maps.{by_bit}
 
@@ -61,3 +66,22 @@ in_block m g d k block first from end bytes at begins ends within shown b low hi
     ∙ ap (λ (z : ℕ). bit_in (d (first_block m g + k)) z) (mod-mul-add k width b under)
     ∙ ap (λ (z : ℕ). bit_in (d z) b) (sym at)
     ∙ ap (λ (f : ℕ → ℕ). bit_in f b) shown
+
+-- a block has whole words
+pub sized_words : (size : ℕ) → IsTrue (is_block_size size) → size % 8 ≡ 0
+sized_words size sized = elim (block_sizes size sized) [ inl e ↦ omega (arith, e) | inr r ↦ elim r [ inl e ↦ omega (arith, e) | inr e ↦ omega (arith, e) ] ]
+
+-- so do the blocks before one
+pub whole_words : (k size : ℕ) → IsTrue (is_block_size size) → k * (8 * size) % 64 ≡ 0
+whole_words k size sized =
+    let eight = sized_words size sized in
+    let apart : 8 * size ≡ (size / 8) * 64 = omega (arith, eight) in
+    ap (λ (n : ℕ). k * n % 64) apart ∙ ap (λ (n : ℕ). n % 64) (sym (mul_assoc k (size / 8) 64)) ∙ mul-mod_left (k * (size / 8)) 64
+
+-- the words of a map's blocks up to one, and those of that one
+pub words_more : (last width k a b c : ℕ) → 0 < width → b ≤ a + words_for (min (last + 1) (k * width))
+    → c + words_for (k * width) ≤ b + words_for (min (last + 1) (max 1 ((k + 1) * width)))
+    → c ≤ a + words_for (min (last + 1) ((k + 1) * width))
+words_more last width k a b c some before one =
+    let next : (k + 1) * width ≡ k * width + width = omega (arith, add-mul k 1 width) in
+    elim (cases_lt last (k * width)) [ inl past ↦ omega (arith, some, before, one, next, past) | inr low ↦ omega (arith, some, before, one, next, low) ]

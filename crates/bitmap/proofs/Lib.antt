@@ -1,4 +1,4 @@
 pub mod Counting
-mod Bytes
+mod Words
 pub mod Maps
 pub mod Blocks

@@ -2,3 +2,4 @@
 pub mod Numbers
 pub mod Maps
 pub mod Laws
+pub mod Words

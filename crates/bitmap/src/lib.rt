@@ -4,6 +4,7 @@
 
 pub mod laws;
 mod row;
+pub mod search;
 
 ghost use Rattle.std.specs.Prelude.{◌≡◌, ◌≤◌, ◌<◌, ◌+◌, ◌-◌, ◌*◌, ◌/◌, ◌%◌, OnOk, IfOk, IfErr, IfSome, true, false};
 ghost use Rattle.layout.specs.Places.{IsGeometry};
@@ -11,10 +12,11 @@ ghost use Rattle.volume.specs.Pieces.{pieces};
 ghost use Rattle.store.specs.World.{Turns, Reads};
 ghost use Rattle.store.specs.Volume.{IsOn, Alters};
 ghost use Rattle.bitmap.specs.Numbers.{IsLowestFree, count_free_in};
-ghost use Rattle.bitmap.specs.Maps.{numbers_in, with_number, last_number, first_block, reach};
+ghost use Rattle.bitmap.specs.Maps.{numbers_in, with_number, last_number, first_block};
 
-use crate::row::{count_clear, first_clear, with_bit};
+use crate::row::with_bit;
 use layout::Geometry;
+use step_count::Steps;
 use store::words::{read_byte, write_bytes};
 use store::{Blocks, Cut};
 
@@ -122,58 +124,6 @@ pub fn clear<B: Blocks>(
     put(blocks, geometry, map, number, false)
 }
 
-/// The part of a map that stands in one of its blocks: `first` is the number of the block's bit 0, and its bits `from` to before
-/// `end` count.
-#[derive(Clone, Copy)]
-struct Part {
-    block: u32,
-    first: u32,
-    from: u32,
-    end: u32,
-}
-
-fn part_of(geometry: &Geometry, map: Map, k: u32) -> Part
-    requires geometry { IsGeometry geometry.now }
-    requires block { k * (8 * geometry.now.block_size) ≤ last_number map geometry.now }
-    ensures block { result.block ≡ first_block map geometry.now + k }
-    ensures first { result.first ≡ k * (8 * geometry.now.block_size) }
-    ensures from { result.first + result.from ≡ reach map geometry.now k }
-    ensures end { result.first + result.end ≡ reach map geometry.now (k + 1) }
-    ensures some { result.from ≤ result.end }
-    ensures within { result.end ≤ 8 * geometry.now.block_size }
-{
-    let width = 8 * geometry.block_size;
-    let first = k * width;
-    Part {
-        block: map.first_block(geometry) + k,
-        first,
-        from: if k == 0 { 1 } else { 0 },
-        end: width.min(map.last(geometry) + 1 - first),
-    }
-}
-
-/// The lowest free number of those in one block of a map.
-fn lowest_in<B: Blocks>(
-    blocks: &mut B,
-    geometry: &Geometry,
-    map: Map,
-    k: u32,
-) -> Result<Option<u32>, Cut>
-    requires on { IsOn B.world geometry.now blocks.old }
-    requires block { k * (8 * geometry.now.block_size) ≤ last_number map geometry.now }
-    ensures reads { Reads B.world blocks.old blocks.new (λ d. IfOk result (λ x.
-        IsLowestFree x (numbers_in map (pieces geometry.now d)) (reach map geometry.now k) (reach map geometry.now (k + 1)))) }
-    ensures within { IfOk result (λ x. IfSome x (λ n. (1 ≤ n) × (n ≤ last_number map geometry.now))) }
-    ensures cut { IfErr result (λ c. B.world.over blocks.new c) }
-{
-    let part = part_of(geometry, map, k);
-    let frame = blocks.fetch(part.block)?;
-    match first_clear(blocks.bytes(frame), part.from, part.end) {
-        Some(bit) => Ok(Some(part.first + bit)),
-        None => Ok(None),
-    }
-}
-
 /// The lowest free number of a map, from 1 to its last: the least that isn't in it. None where each is in it.
 pub fn lowest_free<B: Blocks>(
     blocks: &mut B,
@@ -186,27 +136,7 @@ pub fn lowest_free<B: Blocks>(
     ensures within { IfOk result (λ x. IfSome x (λ n. (1 ≤ n) × (n ≤ last_number map geometry.now))) }
     ensures cut { IfErr result (λ c. B.world.over blocks.new c) }
 {
-    let width = 8 * geometry.block_size;
-    for k in 0..map.last(geometry) / width + 1 {
-        if let Some(number) = lowest_in(blocks, geometry, map, k)? {
-            return Ok(Some(number));
-        }
-    }
-    Ok(None)
-}
-
-/// How many numbers are free of those in one block of a map.
-fn count_in<B: Blocks>(blocks: &mut B, geometry: &Geometry, map: Map, k: u32) -> Result<u32, Cut>
-    requires on { IsOn B.world geometry.now blocks.old }
-    requires block { k * (8 * geometry.now.block_size) ≤ last_number map geometry.now }
-    ensures reads { Reads B.world blocks.old blocks.new (λ d. IfOk result (λ x.
-        x ≡ count_free_in (numbers_in map (pieces geometry.now d)) (reach map geometry.now k) (reach map geometry.now (k + 1)))) }
-    ensures within { IfOk result (λ x. x + reach map geometry.now k ≤ reach map geometry.now (k + 1)) }
-    ensures cut { IfErr result (λ c. B.world.over blocks.new c) }
-{
-    let part = part_of(geometry, map, k);
-    let frame = blocks.fetch(part.block)?;
-    Ok(count_clear(blocks.bytes(frame), part.from, part.end))
+    search::lowest_free(blocks, geometry, map, &mut Steps::new())
 }
 
 /// How many numbers of a map are free, from 1 to its last.
@@ -217,10 +147,5 @@ pub fn count_free<B: Blocks>(blocks: &mut B, geometry: &Geometry, map: Map) -> R
     ensures within { IfOk result (λ x. x ≤ last_number map geometry.now) }
     ensures cut { IfErr result (λ c. B.world.over blocks.new c) }
 {
-    let width = 8 * geometry.block_size;
-    let mut free = 0;
-    for k in 0..map.last(geometry) / width + 1 {
-        free += count_in(blocks, geometry, map, k)?;
-    }
-    Ok(free)
+    search::count_free(blocks, geometry, map, &mut Steps::new())
 }

@@ -1,8 +1,12 @@
-//! Bits in a row of bytes: bit b is bit b mod 8 of byte b div 8.
+//! Bits in a row of bytes: bit b is bit b mod 8 of byte b div 8. The rows are looked at a word of 64 bits at a time.
 
 ghost use Rattle.std.specs.Prelude.{◌≡◌, ◌≢◌, ◌≤◌, ◌<◌, ◌+◌, ◌*◌, ◌/◌, ◌%◌, ◌^◌, ◌==◌, ℕ, length, slice_index};
 ghost use Rattle.volume.specs.Reading.{bit_in};
-ghost use Rattle.bitmap.specs.Numbers.{IsLowestFree, count_free_in};
+ghost use Rattle.bitmap.specs.Numbers.{IsLowestFree, count_free_in, words_for};
+ghost use Rattle.bitmap.specs.Words.{bit_of};
+
+use byteorder::{ByteOrder, LittleEndian};
+use step_count::Steps;
 
 /// A byte where one bit is set or not, and the others are as they were.
 pub(crate) fn with_bit(byte: u8, bit: u32, on: bool) -> u8
@@ -17,72 +21,76 @@ pub(crate) fn with_bit(byte: u8, bit: u32, on: bool) -> u8
     }
 }
 
-/// Whether a bit is set.
-fn is_set(bytes: &[u8], bit: u32) -> bool
-    requires { bit < 8 * length bytes.now }
-    ensures { result ≡ bit_in (slice_index bytes.now) bit }
+/// The word of 64 bits at a place of a row, counted in words: one step.
+fn word_at(bytes: &[u8], place: u32, steps: &mut Steps) -> u64
+    requires within { 8 * place + 8 ≤ length bytes.now }
+    ensures bits { (j : ℕ) → j < 64 → bit_in (slice_index bytes.now) (64 * place + j) ≡ bit_of result j }
+    ensures cost { steps.new ≤ steps.old + 1 }
 {
-    bytes[(bit / 8) as usize] >> (bit % 8) & 1 == 1
+    steps.tick();
+    LittleEndian::read_u64(&bytes[8 * place as usize..])
+}
+
+/// The lowest bit of a word from one up to another that isn't set.
+fn clear_in_word(word: u64, from: u32, end: u32) -> Option<u32>
+    requires order { from ≤ end }
+    requires from { from < 64 }
+    requires end { end ≤ 64 }
+    ensures { IsLowestFree result (bit_of word) from end }
+{
+    let bit = from + (word >> from).trailing_ones();
+    if bit < end { Some(bit) } else { None }
 }
 
 /// The lowest bit from one up to another that isn't set.
-pub(crate) fn first_clear(bytes: &[u8], from: u32, end: u32) -> Option<u32>
+pub(crate) fn first_clear(bytes: &[u8], from: u32, end: u32, steps: &mut Steps) -> Option<u32>
     requires order { from ≤ end }
     requires within { end ≤ 8 * length bytes.now }
-    ensures { IsLowestFree result (bit_in (slice_index bytes.now)) from end }
+    requires words { length bytes.now % 8 ≡ 0 }
+    ensures lowest { IsLowestFree result (bit_in (slice_index bytes.now)) from end }
+    ensures cost { steps.new ≤ steps.old + words_for end }
 {
-    for bit in from..end {
-        if !is_set(bytes, bit) {
-            return Some(bit);
+    for place in from / 64..end.div_ceil(64) {
+        let first = 64 * place;
+        let word = word_at(bytes, place, steps);
+        let (low, high) = (from.saturating_sub(first), (end - first).min(64));
+        if let Some(bit) = clear_in_word(word, low, high) {
+            return Some(first + bit);
         }
     }
     None
 }
 
-/// How many bits from one up to another aren't set, looked at one by one.
-fn count_bits(bytes: &[u8], from: u32, end: u32) -> u32
+/// How many bits of a word from one up to another aren't set.
+fn count_in_word(word: u64, from: u32, end: u32) -> u32
     requires order { from ≤ end }
-    requires within { end ≤ 8 * length bytes.now }
-    ensures value { result ≡ count_free_in (bit_in (slice_index bytes.now)) from end }
+    requires from { from < 64 }
+    requires some { 0 < end }
+    requires end { end ≤ 64 }
+    ensures value { result ≡ count_free_in (bit_of word) from end }
     ensures most { result + from ≤ end }
 {
-    let mut clear = 0;
-    for bit in from..end {
-        if !is_set(bytes, bit) {
-            clear += 1;
-        }
+    if from == 0 && end == 64 {
+        return word.count_zeros();
     }
-    clear
-}
-
-/// How many bits aren't set of the bytes from one up to another.
-fn count_whole(bytes: &[u8], from: u32, end: u32) -> u32
-    requires order { from ≤ end }
-    requires within { end ≤ length bytes.now }
-    requires few { 8 * end < 2 ^ 32 }
-    ensures value { result ≡ count_free_in (bit_in (slice_index bytes.now)) (8 * from) (8 * end) }
-    ensures most { result + 8 * from ≤ 8 * end }
-{
-    let mut clear = 0;
-    for at in from..end {
-        clear += 8 - bytes[at as usize].count_ones();
-    }
-    clear
+    let past = word >> (end - 1) >> 1;
+    end - from - ((word >> from).count_ones() - past.count_ones())
 }
 
 /// How many bits from one up to another aren't set.
-pub(crate) fn count_clear(bytes: &[u8], from: u32, end: u32) -> u32
+pub(crate) fn count_clear(bytes: &[u8], from: u32, end: u32, steps: &mut Steps) -> u32
     requires order { from ≤ end }
     requires within { end ≤ 8 * length bytes.now }
+    requires words { length bytes.now % 8 ≡ 0 }
     ensures value { result ≡ count_free_in (bit_in (slice_index bytes.now)) from end }
     ensures most { result + from ≤ end }
+    ensures cost { steps.new ≤ steps.old + words_for end }
 {
-    let first = from / 8 + 1;
-    let last = end / 8;
-    if last <= first {
-        return count_bits(bytes, from, end);
+    let mut clear = 0;
+    for place in from / 64..end.div_ceil(64) {
+        let first = 64 * place;
+        let word = word_at(bytes, place, steps);
+        clear += count_in_word(word, from.saturating_sub(first), (end - first).min(64));
     }
-    count_bits(bytes, from, 8 * first)
-        + count_whole(bytes, first, last)
-        + count_bits(bytes, 8 * last, end)
+    clear
 }

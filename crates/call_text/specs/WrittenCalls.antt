@@ -4,7 +4,7 @@ use Rattle.std.specs.Borrow.{Bor}
 use Rattle.std.specs.Option.{option_map, option_zip}
 use Rattle.std.specs.Str.{bytes_eq}
 use Rattle.tree.specs.declared.Call.{Call}
-use Rattle.tree.specs.declared.Call.TheVariants.{Open, Close, Dup, Read, Write, Seek, Stat, Fstat, Link, Unlink, Mkdir, Rmdir, Rename, Chmod, Chown, Utime, Truncate, Readdir, Sync, Statfs}
+use Rattle.tree.specs.declared.Call.TheVariants.{Open, Close, Dup, Read, Write, Seek, Stat, Fstat, Link, Unlink, Mkdir, Rmdir, Rename, Chmod, Chown, Utime, Truncate, Readdir, Sync, Statfs, Symlink, Readlink, Lstat}
 use Rattle.call_text.specs.Words.{number_of, mode_of, path_of}
 use Rattle.call_text.specs.Bytes.{hex_bytes, digits_in}
 use Rattle.call_text.specs.declared.written_call.call.WrittenCall.{WrittenCall}
@@ -40,6 +40,9 @@ plain (Truncate path size) = Truncate (anywhere path) size
 plain (Readdir fd) = Readdir fd
 plain Sync = Sync
 plain Statfs = Statfs
+plain (Symlink target path) = Symlink (anywhere target) (anywhere path)
+plain (Readlink path) = Readlink (anywhere path)
+plain (Lstat path) = Lstat (anywhere path)
 
 -- the call that is written, with its bytes
 abbrev pub meant : WrittenCall → Call
@@ -73,7 +76,9 @@ call_of_one name a =
     else if bytes_eq name (codes "readdir") then option_map Readdir (word a)
     else if bytes_eq name (codes "stat") then option_map (λ p. Stat (at p)) (path_of a)
     else if bytes_eq name (codes "unlink") then option_map (λ p. Unlink (at p)) (path_of a)
-    else if bytes_eq name (codes "rmdir") then option_map (λ p. Rmdir (at p)) (path_of a) else None
+    else if bytes_eq name (codes "rmdir") then option_map (λ p. Rmdir (at p)) (path_of a)
+    else if bytes_eq name (codes "readlink") then option_map (λ p. Readlink (at p)) (path_of a)
+    else if bytes_eq name (codes "lstat") then option_map (λ p. Lstat (at p)) (path_of a) else None
 
 -- a call of two words
 abbrev pub call_of_two : List ℕ → List ℕ → List ℕ → Option Call
@@ -81,6 +86,7 @@ call_of_two name a b =
     if bytes_eq name (codes "read") then both Read (word a) (count b)
     else if bytes_eq name (codes "write") then both (λ fd digits. Write fd (at (hex_bytes digits))) (word a) (digits_in b)
     else if bytes_eq name (codes "link") then both (λ old new. Link (at old) (at new)) (path_of a) (path_of b)
+    else if bytes_eq name (codes "symlink") then both (λ target p. Symlink (at target) (at p)) (path_of a) (path_of b)
     else if bytes_eq name (codes "rename") then both (λ old new. Rename (at old) (at new)) (path_of a) (path_of b)
     else if bytes_eq name (codes "mkdir") then both (λ p mode. Mkdir (at p) mode) (path_of a) (mode_of b)
     else if bytes_eq name (codes "chmod") then both (λ p mode. Chmod (at p) mode) (path_of a) (mode_of b)

@@ -74,7 +74,7 @@ pub fn offset(word: &[u8]) -> Option<i64>
     }
 }
 
-/// A path: any bytes of a word, one at least.
+/// A path, or the target of a symbolic link: any bytes of a word, one at least.
 pub fn path(word: &[u8]) -> Option<&[u8]>
     ensures { option_copied result ≡ path_of word.now }
 {

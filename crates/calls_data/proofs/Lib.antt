@@ -10,6 +10,7 @@ pub mod Volumes
 pub mod Effects
 pub mod Naming
 pub mod Calls
+mod ReadlinkCall
 mod Stamped
 mod WriteCall
 mod TruncateCall

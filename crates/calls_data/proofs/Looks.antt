@@ -1,19 +1,17 @@
 -- Calls on open files that only look.
 use Rattle.std.proofs.Common.{◌≡◌, ◌<◌, ◌≤◌, arith, ℕ, refl, sym, ap, subst, ◌∙◌, Option, Some, None, Ok, Err, true}
-use Rattle.std.specs.Prelude.{Result, IsTrue, IfOk, IfSome, option_map, ◌&&◌}
+use Rattle.std.specs.Prelude.{Result, IsTrue, IfOk, IfSome, option_map}
 use Rattle.std.proofs.lemmas.Bool.{cond-true, and_parts}
 use Rattle.errno.specs.declared.Errno.{Errno}
 use Rattle.errno.specs.declared.Errno.TheVariants.{EBADF, ENOENT}
 use Rattle.layout.specs.declared.Geometry.{Geometry}
-use Rattle.tree.specs.declared.OpenFlags.{OpenFlags}
 use Rattle.tree.specs.Tree.{Tree, Node, OpenFile}
 use Rattle.tree.specs.Refusals.{◌>>=◌, or_refuse}
 use Rattle.tree.specs.Walk.{node_at}
 use Rattle.tree.specs.Changes.{open_file_of}
 use Rattle.tree.specs.NodeCalls.{attributes_of}
 use Rattle.tree.specs.FileCalls.{fstat}
-use Rattle.tree.specs.Answers.{Answer, Effect, refused, node_is}
-use Rattle.volume.specs.declared.Inode.{Inode}
+use Rattle.tree.specs.Answers.{Effect, refused, node_is}
 use Rattle.volume.specs.Reading.{Disk, is_inode, inode_of_disk}
 use Rattle.volume.specs.Pieces.{pieces, blank}
 use Rattle.volume.specs.Nodes.{is_marked, node_of}
@@ -21,7 +19,6 @@ use Rattle.volume.specs.Holds.{HoldsVolume}
 use Rattle.inode.specs.Bytes.{attributes_in}
 use Rattle.inode.proofs.Stat.{held_attributes}
 use Rattle.descriptors.specs.Files.{Files, HasFiles, file_at, tree_with}
-use Rattle.descriptors.specs.Made.{shown}
 use Rattle.calls_data.specs.Does.{Does, IsHeld}
 use Rattle.calls_data.specs.declared.found.Found.{Found}
 use Rattle.calls_data.specs.Found.{file_of}

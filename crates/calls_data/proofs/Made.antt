@@ -1,13 +1,13 @@
 -- How an effect is made on a volume.
-use Rattle.std.proofs.Common.{◌≡◌, ℕ, refl, sym, ap, subst, ◌∙◌, Option, Some, None, Ok, Err, Bool, true, false}
-use Rattle.std.specs.Prelude.{Result, if◌then◌else◌, is_some, IsTrue}
+use Rattle.std.proofs.Common.{◌≡◌, ℕ, refl, sym, ap, subst, Option, Some, None, Ok, Err, Bool, true, false}
+use Rattle.std.specs.Prelude.{if◌then◌else◌, is_some, IsTrue}
 use Rattle.errno.specs.declared.Errno.{Errno}
 use Rattle.layout.specs.declared.Geometry.{Geometry}
-use Rattle.tree.specs.Tree.{Tree, Node, OpenFile}
+use Rattle.tree.specs.Tree.{Tree, Node}
 use Rattle.tree.specs.Answers.{Answer, Effect, refused}
 use Rattle.volume.specs.Reading.{Disk}
 use Rattle.volume.specs.Pieces.{pieces}
-use Rattle.volume.specs.Nodes.{is_marked, node_of, nodes_of}
+use Rattle.volume.specs.Nodes.{is_marked, node_of}
 use Rattle.volume.specs.Holds.{HoldsVolume}
 use Rattle.calls_data.specs.Does.{answer_in, tree_in, IsMade}
 

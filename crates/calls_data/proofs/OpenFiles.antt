@@ -1,14 +1,14 @@
 -- Calls that change the open files and the descriptors alone.
-use Rattle.std.proofs.Common.{◌≡◌, ◌≢◌, ℕ, ◌<◌, refl, sym, ap, subst, ◌∙◌, Option, Some, None, Ok, Err, Bool}
+use Rattle.std.proofs.Common.{◌≡◌, ℕ, ◌<◌, refl, sym, ap, subst, ◌∙◌, Option, Some, Ok, Err, Bool}
 use Rattle.std.specs.Prelude.{Result}
 use Rattle.std.proofs.lemmas.Bool.{lt-leb}
 use Rattle.errno.specs.declared.Errno.{Errno}
-use Rattle.errno.specs.declared.Errno.TheVariants.{EINVAL, EIO}
+use Rattle.errno.specs.declared.Errno.TheVariants.{EINVAL}
 use Rattle.layout.specs.declared.Geometry.{Geometry}
 use Rattle.tree.specs.declared.Who.{Who}
 use Rattle.tree.specs.declared.Call.{Call}
 use Rattle.tree.specs.declared.Call.TheVariants.{Dup}
-use Rattle.tree.specs.Tree.{Tree, Node, OpenFile}
+use Rattle.tree.specs.Tree.{Tree, OpenFile}
 use Rattle.tree.specs.Sums.{put}
 use Rattle.tree.specs.IsTree.{IsTree}
 use Rattle.tree.specs.Refusals.{◌>>=◌, refuse_if}
@@ -20,7 +20,6 @@ use Rattle.tree.proofs.OpenFileCalls.{dup_keeps}
 use Rattle.volume.specs.Reading.{Disk}
 use Rattle.volume.specs.Holds.{HoldsVolume}
 use Rattle.descriptors.specs.Files.{Files, HasFiles, files_in, tree_with, with_files, dup_file, moved}
-use Rattle.descriptors.specs.Table.{Table, files_of, told}
 use Rattle.descriptors.proofs.TreeCalls.{dup_is_dup}
 use Rattle.calls_data.specs.Does.{tree_in, Does}
 use Rattle.calls_data.proofs.Made.{refused_made, granted_made}

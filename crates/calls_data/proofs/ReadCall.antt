@@ -1,17 +1,15 @@
 -- read, made on a volume.
 use Rattle.std.proofs.Common.{◌≡◌, ℕ, ◌+◌, ◌<◌, ◌≤◌, refl, sym, ap, subst, ◌∙◌, Option, Some, None, Ok, Err, Bool, true, false, List, length}
 use mathlib.Core.Logic.{inl, inr}
-use Rattle.std.specs.Prelude.{Result, IsTrue, not, nat_lt, if◌then◌else◌, ◌⊎◌}
-use Rattle.std.proofs.lemmas.Bool.{cond-true, cond-false, ltb-true}
+use Rattle.std.specs.Prelude.{Result, not, nat_lt, if◌then◌else◌}
+use Rattle.std.proofs.lemmas.Bool.{cond-false}
 use Rattle.errno.specs.declared.Errno.{Errno}
 use Rattle.errno.specs.declared.Errno.TheVariants.{EBADF, EISDIR, EINVAL, ENOENT, ENOMEM}
 use Rattle.layout.specs.declared.Geometry.{Geometry}
 use Rattle.tree.specs.declared.Call.TheVariants.{Read}
-use Rattle.tree.specs.Sums.{put}
-use Rattle.tree.specs.Tree.{Tree, Node, Body, File, Directory, OpenFile, is_file, is_directory, most_bytes, most_size, with_open_file}
-use Rattle.tree.specs.IsTree.{IsTree, IsBody}
+use Rattle.tree.specs.Tree.{Tree, Node, Body, File, Directory, OpenFile, is_file, is_directory, most_bytes, most_size}
+use Rattle.tree.specs.IsTree.{IsBody}
 use Rattle.tree.specs.Refusals.{◌>>=◌, refuse_if, or_refuse}
-use Rattle.tree.specs.Walk.{node_at}
 use Rattle.tree.specs.Changes.{open_file_of, at_position}
 use Rattle.tree.specs.NodeCalls.{file_or}
 use Rattle.tree.specs.FileCalls.{bytes_read, read}
@@ -21,17 +19,16 @@ use Rattle.records.specs.Legal.{is_success}
 use Rattle.tree.proofs.OpenFileCalls.{read_keeps}
 use Rattle.volume.specs.Reading.{Disk}
 use Rattle.volume.specs.declared.Inode.{Inode}
-use Rattle.volume.specs.Pieces.{Pieces, pieces}
+use Rattle.volume.specs.Pieces.{pieces}
 use Rattle.volume.specs.Nodes.{node_of, file_of, directory_of, is_directory_mode}
 use Rattle.volume.specs.Holds.{HoldsVolume}
-use Rattle.descriptors.specs.Files.{Files, HasFiles, file_at, files_in, tree_with, moved}
-use Rattle.descriptors.proofs.TreeCalls.{moved_is_moved}
+use Rattle.descriptors.specs.Files.{Files, HasFiles, file_at, moved}
 use Rattle.calls_data.specs.declared.found.Found.{Found}
 use Rattle.calls_data.specs.Found.{file_of as open_file}
 use Rattle.calls_data.specs.Reading.{why_unread}
-use Rattle.calls_data.specs.Does.{answer_in, IsHeld, DoesOrLacks, IsMade, IsLacking}
+use Rattle.calls_data.specs.Does.{answer_in, IsHeld, DoesOrLacks}
 use Rattle.calls_data.proofs.Made.{refused_made, granted_made}
-use Rattle.calls_data.proofs.Looks.{open_is, none_is, node_open, same_found}
+use Rattle.calls_data.proofs.Looks.{open_is, none_is, node_open}
 use Rattle.calls_data.proofs.OpenFiles.{tree_kept, other_files, files_moved, caller}
 
 -- read, of the file that was found

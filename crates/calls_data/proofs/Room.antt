@@ -1,11 +1,11 @@
 -- The room of a volume.
-use Rattle.std.proofs.Common.{◌≡◌, ℕ, zero, suc, ◌+◌, ◌-◌, ◌<◌, ◌≤◌, refl, sym, ap, subst, ◌∙◌, arith, Option, Some, None, Ok, Bool, true, false}
-use Rattle.std.specs.Prelude.{is_some, IsTrue, ◌&&◌, nat_le, if◌then◌else◌}
+use Rattle.std.proofs.Common.{◌≡◌, ℕ, ◌+◌, ◌<◌, refl, sym, ap, ◌∙◌, arith, Option, Some, None, Ok, Bool, true, false}
+use Rattle.std.specs.Prelude.{is_some, ◌&&◌, nat_le, if◌then◌else◌}
 use Rattle.std.proofs.lemmas.Bool.{le-leb}
 use Rattle.layout.specs.declared.Geometry.{Geometry}
 use Rattle.layout.specs.Places.{IsGeometry}
 use Rattle.tree.specs.Sums.{sum_below, count_below, one_if}
-use Rattle.tree.specs.Space.{data_zones, zones_used, free_zones, free_inodes}
+use Rattle.tree.specs.Space.{data_zones, free_zones, free_inodes}
 use Rattle.tree.specs.Tree.{Tree, Node}
 use Rattle.tree.specs.NodeCalls.{statfs}
 use Rattle.tree.specs.Answers.{room_is}

@@ -16,7 +16,7 @@ use Rattle.tree.specs.FileCalls.{seek, seek_base, seek_place}
 use Rattle.tree.specs.Answers.{Effect, refused, position}
 use Rattle.tree.proofs.OpenFileCalls.{seek_keeps}
 use Rattle.volume.specs.Reading.{Disk}
-use Rattle.volume.specs.Pieces.{Pieces, pieces}
+use Rattle.volume.specs.Pieces.{pieces}
 use Rattle.volume.specs.Nodes.{node_of, file_of, directory_of, is_directory_mode}
 use Rattle.volume.specs.Holds.{HoldsVolume}
 use Rattle.descriptors.specs.Files.{Files, HasFiles, file_at, moved}

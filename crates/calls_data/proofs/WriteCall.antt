@@ -1,11 +1,11 @@
 -- write, made on a volume.
-use Rattle.std.proofs.Common.{◌≡◌, ℕ, ◌+◌, ◌-◌, ◌/◌, ◌<◌, ◌≤◌, ◌^◌, refl, sym, ap, subst, ◌∙◌, Option, Some, None, Ok, Err, Bool, true, false, List, length, get_or, Fits, w8, arith}
+use Rattle.std.proofs.Common.{◌≡◌, ℕ, ◌+◌, ◌-◌, ◌/◌, ◌<◌, ◌≤◌, ◌^◌, refl, sym, ap, subst, ◌∙◌, Option, Some, None}
+use Rattle.std.proofs.Common.{Ok, Err, Bool, true, false, List, length, arith}
 use mathlib.Core.Logic.{inl, inr}
-use Rattle.std.specs.Prelude.{Result, not, nat_lt, ◌==◌, if◌then◌else◌}
+use Rattle.std.specs.Prelude.{Result, not, nat_lt, ◌==◌, ◌||◌, if◌then◌else◌}
 use Rattle.std.specs.Borrow.{Bor}
 use Rattle.std.specs.List.{All}
 use Rattle.std.proofs.lemmas.Bool.{cond-true, cond-false, cases_lt, lt-ltb, le-ltb, eq-eqb, ne_eqb}
-use Rattle.std.proofs.lemmas.List.{get_or_default}
 use Rattle.errno.specs.declared.Errno.{Errno}
 use Rattle.errno.specs.declared.Errno.TheVariants.{EBADF, EINVAL, ENOENT, EFBIG, ENOSPC}
 use Rattle.layout.specs.declared.Geometry.{Geometry}
@@ -23,7 +23,7 @@ use Rattle.tree.specs.Answers.{Effect, refused, wrote, if_it_fits}
 use Rattle.tree.proofs.ByteCalls.{write_keeps}
 use Rattle.volume.specs.Reading.{Disk}
 use Rattle.volume.specs.Pieces.{Pieces, pieces}
-use Rattle.volume.specs.Nodes.{node_of, directory_of, is_directory_mode, nodes_of, entry_inode, names_in}
+use Rattle.volume.specs.Nodes.{node_of, directory_of, is_directory_mode, is_link_mode, nodes_of, entry_inode, names_in}
 use Rattle.volume.specs.Holds.{HoldsVolume}
 use Rattle.zone.specs.ZoneSteps.{node_from}
 use Rattle.zone.specs.Room.{taken_by}
@@ -44,6 +44,11 @@ use Rattle.calls_data.specs.Writing.{write_place, why_unwritten}
 
 -- ---- the effect, step by step
 
+-- the first of the reasons against a write
+abbrev first_reason : Bool → Bool → Bool → Bool → Bool → Option Errno
+first_reason may wide is symbolic big =
+    if not may then Some EBADF else if wide then Some EINVAL else if is || symbolic then Some EBADF else if big then Some EFBIG else None
+
 module _ (g : Geometry) (now : ℕ) (bytes : List ℕ) where
   -- where a write to an open file begins in its file
   abbrev place_in : OpenFile → File → ℕ
@@ -60,13 +65,14 @@ module _ (g : Geometry) (now : ℕ) (bytes : List ℕ) where
   abbrev by_count : Tree → ℕ → OpenFile → Node → File → Bool → Effect
   by_count t k o node f b = if b then Ok (wrote 0, t) else if_it_fits g (wrote (length bytes)) (after t k o node f)
 
-  -- of the file
-  abbrev from_file : Tree → ℕ → OpenFile → Node → Result File Errno → Effect
-  from_file t k o node r = r >>= λ f. refuse_if (nat_lt most_size (place_in o f + length bytes)) EFBIG >>= λ _. by_count t k o node f (length bytes == 0)
+  -- of the file, which may be a link
+  abbrev from_file : Tree → ℕ → OpenFile → Node → Bool → Result File Errno → Effect
+  from_file t k o node symbolic r = r >>= λ f. refuse_if symbolic EBADF >>= λ _.
+      refuse_if (nat_lt most_size (place_in o f + length bytes)) EFBIG >>= λ _. by_count t k o node f (length bytes == 0)
 
   -- of the node
   abbrev from_node : Tree → ℕ → OpenFile → Option Node → Effect
-  from_node t k o x = or_refuse x ENOENT >>= λ node. from_file t k o node (file_or node EBADF)
+  from_node t k o x = or_refuse x ENOENT >>= λ node. from_file t k o node node.symbolic (file_or node EBADF)
 
   -- of an open file
   abbrev from_flags : Tree → ℕ → OpenFile → Bool → Effect
@@ -77,9 +83,9 @@ module _ (g : Geometry) (now : ℕ) (bytes : List ℕ) where
   from_descriptor t r = r >>= λ x. from_flags t x.0 x.1 (writes x.1.flags)
 
   -- by what is asked of the open file and its node
-  abbrev asked : Tree → ℕ → OpenFile → Node → File → Directory → Bool → Bool → Bool → Effect
-  asked t k o node h c may wide is = refuse_if (not may) EBADF >>= λ _. refuse_if wide EINVAL >>= λ _.
-      from_file t k o node (elim (if is then is_directory c else is_file h) [ is_file x ↦ Ok x | is_directory x ↦ Err EBADF ])
+  abbrev asked : Tree → ℕ → OpenFile → Node → File → Directory → Bool → Bool → Bool → Bool → Effect
+  asked t k o node h c may wide is symbolic = refuse_if (not may) EBADF >>= λ _. refuse_if wide EINVAL >>= λ _.
+      from_file t k o node symbolic (elim (if is then is_directory c else is_file h) [ is_file x ↦ Ok x | is_directory x ↦ Err EBADF ])
 
   -- the first reason against it is the answer, and without one the bytes are written
   abbrev by_reason : Tree → ℕ → OpenFile → Node → File → Option Errno → Effect
@@ -91,19 +97,21 @@ module _ (g : Geometry) (now : ℕ) (bytes : List ℕ) where
   last_reason t k o node h true = refl
   last_reason t k o node h false = refl
 
-  reasons : (t : Tree) (k : ℕ) (o : OpenFile) (node : Node) (h : File) (c : Directory) (may wide is : Bool) → asked t k o node h c may wide is
-      ≡ by_reason t k o node h (if not may then Some EBADF else if wide then Some EINVAL else if is then Some EBADF else if nat_lt most_size (place_in o h + length bytes) then Some EFBIG else None)
-  reasons t k o node h c false wide is = refl
-  reasons t k o node h c true true is = refl
-  reasons t k o node h c true false true = refl
-  reasons t k o node h c true false false = last_reason t k o node h (nat_lt most_size (place_in o h + length bytes))
+  reasons : (t : Tree) (k : ℕ) (o : OpenFile) (node : Node) (h : File) (c : Directory) (may wide is symbolic : Bool)
+      → asked t k o node h c may wide is symbolic
+      ≡ by_reason t k o node h (first_reason may wide is symbolic (nat_lt most_size (place_in o h + length bytes)))
+  reasons t k o node h c false wide is symbolic = refl
+  reasons t k o node h c true true is symbolic = refl
+  reasons t k o node h c true false true symbolic = refl
+  reasons t k o node h c true false false true = refl
+  reasons t k o node h c true false false false = last_reason t k o node h (nat_lt most_size (place_in o h + length bytes))
 
 -- what may be written is no directory
-plain_kind : (may wide is big : Bool) → (if not may then Some EBADF else if wide then Some EINVAL else if is then Some EBADF else if big then Some EFBIG else None) ≡ None → is ≡ false
-plain_kind may wide false big h = refl
-plain_kind true false true big h = cc
-plain_kind true true true big h = cc
-plain_kind false wide true big h = cc
+plain_kind : (may wide is symbolic big : Bool) → first_reason may wide is symbolic big ≡ None → is ≡ false
+plain_kind may wide false symbolic big h = refl
+plain_kind true false true symbolic big h = cc
+plain_kind true true true symbolic big h = cc
+plain_kind false wide true symbolic big h = cc
 
 -- what was written where the volume was read before
 pub from_start : (g : Geometry) (m n at : ℕ) (bytes : List ℕ) (now : ℕ) (x y : Bool) (z d e : Disk) → m ≡ n → x ≡ y → z ≡ d
@@ -152,7 +160,8 @@ module _ (g : Geometry) (ok : IsGeometry g) (d : Disk) (session fd now : ℕ) (b
         ap (from_descriptor g now bytes.now t) found
         ∙ ap (λ (z : Option Node). refuse_if (not (writes o.flags)) EBADF >>= λ _. refuse_if (nat_lt most_bytes (length bytes.now)) EINVAL >>= λ _. from_node g now bytes.now t k o z)
         (node_open g d t session fd k o holds found).1
-        ∙ reasons g now bytes.now t k o node h (directory_of g v (v.inodes n)) (writes o.flags) (nat_lt most_bytes (length bytes.now)) (is_directory_mode (v.inodes n).mode)
+        ∙ reasons g now bytes.now t k o node h (directory_of g v (v.inodes n)) (writes o.flags) (nat_lt most_bytes (length bytes.now))
+        (is_directory_mode (v.inodes n).mode) (is_link_mode (v.inodes n).mode)
         ∙ ap (λ (z : Found). by_reason g now bytes.now t k o node h (why_unwritten z (length bytes.now))) (sym same_found_file)
 
     pub write_refused : (e : Disk) (error : Errno) → e ≡ d → why_unwritten x (length bytes.now) ≡ Some error
@@ -235,7 +244,8 @@ module _ (g : Geometry) (ok : IsGeometry g) (d : Disk) (session fd now : ℕ) (b
               let effect : write g t now session fd bytes.now ≡ Ok (wrote (length bytes.now), u) =
               takes t k holds a.1 ∙ cond-false (nat_lt (data_zones g) (zones_used g u)) _ (Ok (wrote (length bytes.now), u)) (le-ltb (data_zones g) (zones_used g u) few) in
               let kind : is_directory_mode (v.inodes n).mode ≡ false = ap (λ (z : Found). is_directory_mode z.inode.mode) (sym same_found_file)
-              ∙ plain_kind (writes o.flags) (nat_lt most_bytes (length bytes.now)) (is_directory_mode x.inode.mode) (nat_lt most_size (write_place x + length bytes.now)) may in
+              ∙ plain_kind (writes o.flags) (nat_lt most_bytes (length bytes.now)) (is_directory_mode x.inode.mode)
+              (is_link_mode x.inode.mode) (nat_lt most_size (write_place x + length bytes.now)) may in
               let file : written_at g v n at bytes.now ≡ file_after_write g h (place_in g now bytes.now o h) bytes.now = ap (λ p. written_at g v n p bytes.now) begins in
               let end : place_in g now bytes.now o h + length bytes.now ≡ to = ap (λ p. p + length bytes.now) (sym begins) ∙ sym is_to in
               granted_made g t u (write g t now session fd bytes.now) (wrote (length bytes.now)) (HasFiles new) e effect

@@ -1,5 +1,5 @@
 -- What a body does on a volume, whatever tree the volume holds.
-use Rattle.std.specs.Prelude.{◌≡◌, ◌⊎◌, ℕ, true, Result, Ok, Err}
+use Rattle.std.specs.Prelude.{◌≡◌, ◌⊎◌, true, Result, Ok, Err}
 use Rattle.errno.specs.declared.Errno.TheVariants.{ENOMEM}
 use Rattle.layout.specs.declared.Geometry.{Geometry}
 use Rattle.tree.specs.declared.Reply.{Reply}

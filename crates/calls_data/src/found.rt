@@ -2,7 +2,7 @@
 
 ghost use Rattle.std.specs.Prelude.{◌≡◌, ◌<◌, ◌≤◌, IfOk, IfErr, IfSome, option_map};
 ghost use Rattle.tree.specs.Tree.{most_sessions, most_size};
-ghost use Rattle.volume.specs.Nodes.{is_directory_mode};
+ghost use Rattle.volume.specs.Nodes.{is_directory_mode, is_link_mode};
 ghost use Rattle.volume.specs.Pieces.{pieces};
 ghost use Rattle.descriptors.specs.Files.{HasFiles, file_at};
 ghost use Rattle.descriptors.specs.Table.{files_of};
@@ -37,6 +37,13 @@ pub fn is_directory(inode: &Inode) -> bool
     ensures { result ≡ is_directory_mode inode.now.mode }
 {
     inode.mode / 4096 == 4
+}
+
+/// Whether an inode is a symbolic link's.
+pub fn is_link(inode: &Inode) -> bool
+    ensures { result ≡ is_link_mode inode.now.mode }
+{
+    inode.mode / 4096 == 10
 }
 
 /// The open file to which a descriptor leads, with its inode, if it leads to one. Nothing is changed.

@@ -8,6 +8,8 @@
 mod attributes;
 mod dated;
 pub mod found;
+pub mod last;
+mod links;
 pub mod named;
 pub mod open_files;
 pub mod reading;
@@ -18,5 +20,6 @@ mod writing;
 
 pub use attributes::{chmod, chown, stat, utime};
 pub use dated::set_size_at;
+pub use links::{lstat, readlink};
 pub use truncating::truncate;
 pub use writing::write;

@@ -13,7 +13,7 @@ ghost use Rattle.calls_data.specs.Does.{Meets};
 ghost use Rattle.calls_data.specs.Writing.{write_place, why_unwritten};
 
 use crate::dated::write_if_room;
-use crate::found::{Found, find, is_directory};
+use crate::found::{Found, find, is_directory, is_link};
 use descriptors::Descriptors;
 use errno::Errno;
 use layout::Geometry;
@@ -39,7 +39,7 @@ fn refusal(file: &Found, count: usize) -> Option<Errno>
         Some(Errno::EBADF)
     } else if count > MAX_TRANSFER as usize {
         Some(Errno::EINVAL)
-    } else if is_directory(&file.inode) {
+    } else if is_directory(&file.inode) || is_link(&file.inode) {
         Some(Errno::EBADF)
     } else if write_place(file) as usize + count > MAX_SIZE as usize {
         Some(Errno::EFBIG)

@@ -1,5 +1,5 @@
 -- A file has a name more.
-use Rattle.std.proofs.Common.{◌≡◌, ◌<◌, ◌≤◌, ℕ, List, Bool, true, false, Option, Some, None, Ok, Err, refl, sym, ap, subst, ◌∙◌, arith}
+use Rattle.std.proofs.Common.{◌≡◌, ◌<◌, ◌≤◌, ℕ, List, Bool, true, false, Option, Some, None, Ok, Err, refl, sym, ap, ◌∙◌, arith}
 use Rattle.std.specs.Prelude.{IsTrue, Result, is_some, not, nat_le, ◌||◌}
 use Rattle.std.specs.Borrow.{Bor}
 use Rattle.std.proofs.lemmas.Bool.{and_parts, cond-true, le-leb, lt-leb}
@@ -11,24 +11,19 @@ use Rattle.tree.specs.declared.User.{User}
 use Rattle.tree.specs.Names.{Name, has_name, inode_of}
 use Rattle.tree.specs.Tree.{Node, Tree, is_dir, most_links}
 use Rattle.tree.specs.Refusals.{◌>>=◌, or_refuse, refuse_if}
-use Rattle.tree.specs.Walk.{Place, has_last_name, is_taken, last_part, may_access, parent_walk, read_path, to_write, walk_parts}
+use Rattle.tree.specs.Walk.{Place, has_last_name, is_taken, last_part, may_access, parent_walk, read_path, to_write}
 use Rattle.tree.specs.Walk as tree
 use Rattle.tree.specs.Answers.{Effect}
 use Rattle.volume.specs.declared.Inode.{Inode}
 use Rattle.volume.specs.Reading.{Disk, is_inode}
 use Rattle.volume.specs.Pieces.{Pieces, pieces}
 use Rattle.volume.specs.Nodes.{directory_of, is_directory_mode, is_marked, node_of}
-use Rattle.volume.specs.Holds.{Holds, HoldsVolume}
-use Rattle.store.specs.declared.Halt.{Halt}
-use Rattle.store.specs.declared.Halt.TheVariants as halt
-use Rattle.store.specs.Halts.{Ends}
+use Rattle.volume.specs.Holds.{HoldsVolume}
 use Rattle.zone.proofs.ZoneInodes.{inode_is}
-use Rattle.path.specs.declared.stop.Stop.{Stop}
-use Rattle.path.specs.declared.stop.Stop.TheVariants as stop
 use Rattle.path.specs.declared.place.Place.{Place as Found}
-use Rattle.path.specs.Stops.{Answers}
-use Rattle.path.specs.Walking.{Walks}
 use Rattle.path.specs.Places.{place_of}
+use Rattle.calls_data.specs.Named.{LeadsTo}
+use Rattle.calls_data.specs.Named as named
 use Rattle.calls_data.proofs.Made.{node_there}
 use Rattle.node_steps.specs.Steps.{node_at}
 use Rattle.node_steps.proofs.Between.{kind_is}
@@ -39,58 +34,57 @@ use Rattle.calls_link.specs.Linking.{FindsFile, FindsFree, on_file, on_free}
 abbrev to_file : (ℕ → Node → Effect) → ℕ → Node → Effect
 to_file rest n node = refuse_if (is_dir node) EPERM >>= λ _. refuse_if (nat_le most_links node.links) EMLINK >>= λ _. rest n node
 
--- the walk there
-module _ (g : Geometry) (d : Disk) (user : User) (parts : List Name) (s : Result ℕ Stop) (walks : (t : Tree) → Holds g d t → Answers s (Walks t user parts)) where
-  answered : (r : Result ℕ Stop) → s ≡ r → (t : Tree) → HoldsVolume g d t → Answers r (Walks t user parts)
-  answered r is t holds = subst (λ (x : Result ℕ Stop). Answers x (Walks t user parts)) is (walks t holds.nodes)
+-- a volume that holds a tree, by the name that the walk has for it
+pub volume_named : (g : Geometry) (d : Disk) → IsVolume g d → named.IsVolume g d
+volume_named g d x = record { tree = x.tree; holds = x.holds }
 
-  pub file_not_walked : (e : Errno) → s ≡ Err (stop.Refused e) → FindsFile g d user parts (Err e)
-  file_not_walked e is t holds rest =
-      ap (λ (r : Result ℕ Errno). r >>= λ n. tree.node_at t n >>= λ node. to_file rest n node) (sym (answered (Err (stop.Refused e)) is t holds).answer)
+-- the walk there is refused
+pub file_not_walked : (g : Geometry) (d : Disk) (user : User) (parts : List Name) (e : Errno) → LeadsTo g d user parts (Err e)
+    → FindsFile g d user parts (Err e)
+file_not_walked g d user parts e leads t holds rest =
+    ap (λ (r : Result ℕ Errno). r >>= λ n. tree.node_at t n >>= λ node. to_file rest n node) (leads t holds).answer
 
-  pub file_halted : {X : Type 0} (h : Halt) (P : X → Type 0) → s ≡ Err (stop.Halted h) → Ends (Err h) P (IsVolume g d)
-  file_halted h P is = by P h (λ t holds. answered (Err (stop.Halted h)) is t holds)
-    where
-      by : {X : Type 0} (P : X → Type 0) (h : Halt) → ((t : Tree) → HoldsVolume g d t → Answers (Err (stop.Halted h)) (Walks t user parts)) → Ends (Err h) P (IsVolume g d)
-      by P (halt.Cut c) a = tt
-      by P halt.Unsound a = λ x. a x.tree x.holds
+-- or leads to a node
+module _ (g : Geometry) (d : Disk) (user : User) (parts : List Name) (n : ℕ) (leads : LeadsTo g d user parts (Ok n)) where
+  pub number_of_file : IsVolume g d → IsTrue (is_inode g n)
+  number_of_file x = inode_is g (pieces g d) n (node_there g d x.tree n x.holds (leads x.tree x.holds).there).0
 
-  module _ (n : ℕ) (is : s ≡ Ok n) where
-    leads : (t : Tree) → HoldsVolume g d t → Walks t user parts (Ok n)
-    leads t holds = answered (Ok n) is t holds
+  there : (t : Tree) → HoldsVolume g d t → t.nodes n ≡ Some (node_at g (pieces g d) n)
+  there t holds = (node_there g d t n holds (leads t holds).there).1
 
-    pub number_of_file : IsVolume g d → IsTrue (is_inode g n)
-    number_of_file x = inode_is g (pieces g d) n (node_there g d x.tree n x.holds (leads x.tree x.holds).there).0
+  -- what follows once it is known whether it has too many links, and before that whether it is a directory
+  abbrev after_count : (ℕ → Node → Effect) → Bool → Effect
+  after_count rest many = refuse_if many EMLINK >>= λ _. rest n (node_at g (pieces g d) n)
 
-    there : (t : Tree) → HoldsVolume g d t → t.nodes n ≡ Some (node_at g (pieces g d) n)
-    there t holds = (node_there g d t n holds (leads t holds).there).1
+  abbrev after_kind : (ℕ → Node → Effect) → Bool → ℕ → Effect
+  after_kind rest directory links = refuse_if directory EPERM >>= λ _. after_count rest (nat_le most_links links)
 
-    module _ (i : Inode) (loaded : i ≡ (pieces g d).inodes n) where
-      kind : is_dir (node_at g (pieces g d) n) ≡ is_directory_mode i.mode
-      kind = kind_is g (pieces g d) n ∙ sym (ap (λ (j : Inode). is_directory_mode j.mode) loaded)
+  module _ (i : Inode) (loaded : i ≡ (pieces g d).inodes n) where
+    kind : is_dir (node_at g (pieces g d) n) ≡ is_directory_mode i.mode
+    kind = kind_is g (pieces g d) n ∙ sym (ap (λ (j : Inode). is_directory_mode j.mode) loaded)
 
-      reached : (t : Tree) → HoldsVolume g d t → (rest : ℕ → Node → Effect) (b : Bool) → is_directory_mode i.mode ≡ b
-          → on_file t user parts rest ≡ (refuse_if b EPERM >>= λ _. refuse_if (nat_le most_links i.links) EMLINK >>= λ _. rest n (node_at g (pieces g d) n))
-      reached t holds rest b mode =
-          ap (λ (r : Result ℕ Errno). r >>= λ m. tree.node_at t m >>= λ node. to_file rest m node) (sym (leads t holds).answer)
-          ∙ ap (λ (o : Option Node). or_refuse o ENOENT >>= λ node. to_file rest n node) (there t holds)
-          ∙ ap (λ x. refuse_if x EPERM >>= λ _. refuse_if (nat_le most_links ((pieces g d).inodes n).links) EMLINK >>= λ _. rest n (node_at g (pieces g d) n)) (kind ∙ mode)
-          ∙ ap (λ (j : Inode). refuse_if b EPERM >>= λ _. refuse_if (nat_le most_links j.links) EMLINK >>= λ _. rest n (node_at g (pieces g d) n)) (sym loaded)
+    reached : (t : Tree) → HoldsVolume g d t → (rest : ℕ → Node → Effect) (b : Bool) → is_directory_mode i.mode ≡ b
+        → on_file t user parts rest ≡ after_kind rest b i.links
+    reached t holds rest b mode =
+        ap (λ (r : Result ℕ Errno). r >>= λ m. tree.node_at t m >>= λ node. to_file rest m node) (leads t holds).answer
+        ∙ ap (λ (o : Option Node). or_refuse o ENOENT >>= λ node. to_file rest n node) (there t holds)
+        ∙ ap (λ x. after_kind rest x ((pieces g d).inodes n).links) (kind ∙ mode)
+        ∙ ap (λ (j : Inode). after_kind rest b j.links) (sym loaded)
 
-      pub file_is_directory : is_directory_mode i.mode ≡ true → FindsFile g d user parts (Err EPERM)
-      file_is_directory mode t holds rest = reached t holds rest true mode
+    pub file_is_directory : is_directory_mode i.mode ≡ true → FindsFile g d user parts (Err EPERM)
+    file_is_directory mode t holds rest = reached t holds rest true mode
 
-      pub file_has_links : is_directory_mode i.mode ≡ false → most_links ≤ i.links → FindsFile g d user parts (Err EMLINK)
-      file_has_links mode many t holds rest =
-          reached t holds rest false mode ∙ ap (λ x. refuse_if x EMLINK >>= λ _. rest n (node_at g (pieces g d) n)) (le-leb most_links i.links many)
+    pub file_has_links : is_directory_mode i.mode ≡ false → most_links ≤ i.links → FindsFile g d user parts (Err EMLINK)
+    file_has_links mode many t holds rest =
+        reached t holds rest false mode ∙ ap (after_count rest) (le-leb most_links i.links many)
 
-      pub file_found : is_directory_mode i.mode ≡ false → i.links < most_links → FindsFile g d user parts (Ok n)
-      file_found mode few t holds = record {
-        there = there t holds;
-        file = kind ∙ mode;
-        few = let same = ap (λ (j : Inode). j.links) loaded in omega (arith, few, same);
-        goes_on = λ rest. reached t holds rest false mode ∙ ap (λ x. refuse_if x EMLINK >>= λ _. rest n (node_at g (pieces g d) n)) (lt-leb most_links i.links few);
-      }
+    pub file_found : is_directory_mode i.mode ≡ false → i.links < most_links → FindsFile g d user parts (Ok n)
+    file_found mode few t holds = record {
+      there = there t holds;
+      file = kind ∙ mode;
+      few = let same = ap (λ (j : Inode). j.links) loaded in omega (arith, few, same);
+      goes_on = λ rest. reached t holds rest false mode ∙ ap (after_count rest) (lt-leb most_links i.links few);
+    }
 
 -- The place.
 abbrev to_place : Tree → User → List Name → (Place → Effect) → Place → Effect

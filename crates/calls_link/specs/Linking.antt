@@ -7,7 +7,7 @@ use Rattle.tree.specs.declared.User.{User}
 use Rattle.tree.specs.Names.{Name, inode_of}
 use Rattle.tree.specs.Tree.{Node, Tree, is_dir, most_links, most_size}
 use Rattle.tree.specs.Refusals.{◌>>=◌, refuse_if}
-use Rattle.tree.specs.Walk.{Place, has_last_name, is_taken, last_part, may_access, node_at, parent_walk, to_write, walk_parts}
+use Rattle.tree.specs.Walk.{Place, has_last_name, is_taken, last_part, may_access, node_at, parent_walk, to_write, walk_to_last}
 use Rattle.tree.specs.Answers.{Effect}
 use Rattle.volume.specs.Reading.{Disk}
 use Rattle.volume.specs.Pieces.{Pieces, pieces}
@@ -19,10 +19,10 @@ use Rattle.file.specs.PageChanges.{MayChange}
 use Rattle.node_steps.specs.Naming.{IsRoomForEntry}
 use Rattle.calls_link.specs.declared.linking.Free.{Free}
 
--- Link, from where the paths are read up to where it looks for the new place.
+-- Link, from where the paths are read up to where it looks for the new place. A link that stands last isn't followed.
 abbrev pub on_file : Tree → User → List Name → (ℕ → Node → Effect) → Effect
 on_file t user parts rest = do
-  n ← walk_parts t user parts
+  n ← walk_to_last t user parts
   node ← node_at t n
   _ ← refuse_if (is_dir node) EPERM
   _ ← refuse_if (nat_le most_links node.links) EMLINK

@@ -16,13 +16,14 @@ ghost use Rattle.calls_link.specs.Linking.{FindsFile, FindsFree, IsLast, IsRoomF
 
 use crate::named::{may_write, place_of};
 use calls_data::found::is_directory;
+use calls_data::last::walk_to_last;
 use directory::insert;
 use errno::Errno;
 use file::file_room::has_room;
 use inode::inode_table::load;
 use layout::Geometry;
 use node_steps::add_link;
-use path::{Path, Stop, walk};
+use path::Path;
 use store::{Blocks, Halt};
 use tree::{MAX_LINKS, MAX_SIZE, Reply, User};
 
@@ -36,8 +37,8 @@ pub(crate) struct Free<'a> {
     pub name: &'a [u8],
 }
 
-/// The number of the file to which a path leads, which may have a link more. In this order: the refusals of the walk, EPERM of a directory,
-/// EMLINK.
+/// The number of the file to which a path leads, which may have a link more; of a symbolic link that stands last its own. In this order:
+/// the refusals of the walk, ENOENT where the last name is missing, EPERM of a directory, EMLINK.
 fn find_file<B: Blocks>(
     blocks: &mut B,
     geometry: &Geometry,
@@ -50,10 +51,9 @@ fn find_file<B: Blocks>(
     ensures halt { IfErr result (λ h. IsHalt B.world blocks.new h) }
     ensures proper { IfOk result (λ r. IfErr r (λ e. e ≢ Errno.EIO)) }
 {
-    let number = match walk(blocks, geometry, user, path.parts()) {
+    let number = match walk_to_last(blocks, geometry, user, path)? {
         Ok(number) => number,
-        Err(Stop::Refused(errno)) => return Ok(Err(errno)),
-        Err(Stop::Halted(halt)) => return Err(halt),
+        Err(errno) => return Ok(Err(errno)),
     };
     let inode = load(blocks, geometry, number)?;
     if is_directory(&inode) {

@@ -1,5 +1,5 @@
 -- How calls stop.
-use Rattle.std.proofs.Common.{◌≡◌, sym, ap, subst, ◌∙◌}
+use Rattle.std.proofs.Common.{◌≡◌, refl, sym, ap, subst, ◌∙◌}
 use Rattle.std.specs.Prelude.{Result, Err, IsErrAnd}
 use Rattle.std.proofs.lemmas.Result.{err_from_is_err_and}
 use Rattle.errno.specs.declared.Errno.{Errno}
@@ -32,6 +32,15 @@ module _ {X Y : Type 0} (g : Geometry) (effect : Tree → Effect) (answer : Y �
       by (stop.Refused x) p = record { each = λ t holds before. refused_made g t (effect t) x After d e (h t x holds (p t holds before)) same holds (keeps t before) }
       by (stop.Halted (halt.Cut c)) p = tt
       by (stop.Halted halt.Unsound) p = λ held. p held.tree held.holds held.before
+
+-- a call that is left because of a refusal before it looks at the volume
+pub meets_left : {X : Type 0} (g : Geometry) (effect : Tree → Effect) (answer : X → Answer) (Before After : Tree → Type 0) (d e : Disk)
+    → e ≡ d → ((t : Tree) → Before t → After t) → (s : Result X Stop) (x : Errno) → IsErrAnd s (λ y. y ≡ refused_stop x)
+    → ((t : Tree) → effect t ≡ Err x)
+    → MeetsOrStops g effect answer s Before After d e
+meets_left g effect answer Before After d e same keeps s x left h =
+    meets_exit g effect answer Before After d e same keeps s (refused_stop x) (λ t r. r ≡ Err x) left
+    (λ t holds before. refl) (λ t y holds q. h t ∙ sym q)
 
 -- a call that refuses
 pub meets_refused : (g : Geometry) (effect : Tree → Effect) (Before After : Tree → Type 0) (d e : Disk) → e ≡ d → ((t : Tree) → Before t → After t) → (x : Errno)

@@ -6,7 +6,9 @@ pub mod Putting
 pub mod Ending
 pub mod NewDirectories
 pub mod NewFiles
+pub mod NewSymlinks
 pub mod Slots
 pub mod There
+pub mod LastLinks
 pub mod Missing
 pub mod OpenBody

@@ -12,7 +12,7 @@ use Rattle.tree.specs.Flags.{creates}
 use Rattle.tree.specs.Names.{Name, has_name}
 use Rattle.tree.specs.Tree.{Node, Tree}
 use Rattle.tree.specs.Refusals.{◌>>=◌}
-use Rattle.tree.specs.Walk.{Found, is_missing, is_taken, is_there, look_up, read_path}
+use Rattle.tree.specs.Walk.{Found, is_missing, is_taken, is_there, look_up, open_look_up, read_path}
 use Rattle.tree.specs.Walk as tree
 use Rattle.tree.specs.Answers.{Effect, descriptor, if_it_fits}
 use Rattle.tree.specs.FileCalls.{Slot, open_found, with_open}
@@ -23,6 +23,7 @@ use Rattle.volume.specs.Holds.{HoldsVolume}
 use Rattle.descriptors.specs.Files.{files_in}
 use Rattle.path.specs.declared.place.Place.{Place}
 use Rattle.path.specs.Places.{IsPlace, place_of}
+use Rattle.calls_open.specs.Asking.{only_makes}
 use Rattle.calls_open.specs.Making.{IsFileMade, IsFileRefused, MakesFileOr, with_new_file}
 use Rattle.calls_open.specs.Vacant.{IsVacant}
 use Rattle.calls_open.proofs.Putting.{is_free}
@@ -34,25 +35,28 @@ module _ (g : Geometry) (t : Tree) (user : User) (now : ℕ) (path : List ℕ) (
   abbrev call : Slot → Effect
   call slot = open_named g t user now path flags mode slot
 
+  abbrev looked_up : List Name → Result Found Errno
+  looked_up parts = open_look_up t user (only_makes flags) parts
+
   -- the path can't be read
   pub not_read : (errno : Errno) → e ≡ d → read_path path ≡ Err errno → Readies g t call flags d e (Err errno)
   not_read errno same is = record {
     same = same;
-    refused = λ slot. ap (λ r. r >>= λ parts. look_up t user parts >>= λ found. open_found g t user now slot flags mode found) is;
+    refused = λ slot. ap (λ r. r >>= λ parts. looked_up parts >>= λ found. open_found g t user now slot flags mode found) is;
   }
 
   module _ (parts : List Name) (read : read_path path ≡ Ok parts) where
-    to_parts : (slot : Slot) → call slot ≡ (look_up t user parts >>= λ found. open_found g t user now slot flags mode found)
-    to_parts slot = ap (λ r. r >>= λ parts. look_up t user parts >>= λ found. open_found g t user now slot flags mode found) read
+    to_parts : (slot : Slot) → call slot ≡ (looked_up parts >>= λ found. open_found g t user now slot flags mode found)
+    to_parts slot = ap (λ r. r >>= λ parts. looked_up parts >>= λ found. open_found g t user now slot flags mode found) read
 
     -- the look-up is refused
-    pub not_looked_up : (errno : Errno) → e ≡ d → look_up t user parts ≡ Err errno → Readies g t call flags d e (Err errno)
+    pub not_looked_up : (errno : Errno) → e ≡ d → looked_up parts ≡ Err errno → Readies g t call flags d e (Err errno)
     not_looked_up errno same is = record {
       same = same;
       refused = λ slot. to_parts slot ∙ ap (λ r. r >>= λ found. open_found g t user now slot flags mode found) is;
     }
 
-    module _ (found : Found) (looked : look_up t user parts ≡ Ok found) where
+    module _ (found : Found) (looked : looked_up parts ≡ Ok found) where
       pub to_found : (slot : Slot) → call slot ≡ open_found g t user now slot flags mode found
       to_found slot = to_parts slot ∙ ap (λ r. r >>= λ found. open_found g t user now slot flags mode found) looked
 
@@ -107,7 +111,8 @@ module _ (g : Geometry) (ok : IsGeometry g) (t : Tree) (user : User) (now flags 
   }
 
   -- what make_file answers is what open does up to the descriptor
-  pub file_readies : (path : List ℕ) (parts : List Name) (r : Result ℕ Errno) → read_path path ≡ Ok parts → look_up t user parts ≡ Ok (is_missing place)
+  pub file_readies : (path : List ℕ) (parts : List Name) (r : Result ℕ Errno) → read_path path ≡ Ok parts
+      → open_look_up t user (only_makes flags) parts ≡ Ok (is_missing place)
       → MakesFileOr g t user (creates flags) now mode p d e r → Readies g t (open_named g t user now path flags mode) flags d e r
   file_readies path parts (Ok n) read looked x = ready_as g t user now path flags mode d e parts read (is_missing place) looked n (file_ready n x)
   file_readies path parts (Err errno) read looked x = refused_as g t user now path flags mode d e parts read (is_missing place) looked errno (file_refused errno x)

@@ -1,5 +1,5 @@
 -- A new node and its name are put on a volume, step by step.
-use Rattle.std.proofs.Common.{◌≡◌, ◌≢◌, ◌<◌, ◌≤◌, ◌+◌, ℕ, length, refl, sym, ap, subst, ◌∙◌, arith, Some, Ok}
+use Rattle.std.proofs.Common.{◌≡◌, ◌≢◌, ◌<◌, ◌≤◌, ◌+◌, ℕ, List, length, refl, sym, ap, subst, ◌∙◌, arith, Some, Ok}
 use mathlib.Core.Logic.{inl, inr}
 use Rattle.std.specs.Prelude.{IsTrue, Option, nat_le, nat_lt, ◌&&◌, ◌||◌, ◌==◌, not}
 use Rattle.std.specs.List.{list_any}
@@ -12,7 +12,7 @@ use Rattle.tree.specs.Sums.{put}
 use Rattle.tree.specs.Names.{Name, is_dots, is_name, most_name, with_name}
 use Rattle.tree.specs.Tree.{Node, Tree, most_links}
 use Rattle.tree.specs.Walk as tree
-use Rattle.tree.specs.Changes.{empty_directory, empty_file, free_inode, more_links, new_node, with_ctime, with_names}
+use Rattle.tree.specs.Changes.{empty_directory, empty_file, free_inode, more_links, new_link, new_node, with_ctime, with_names}
 use Rattle.tree.specs.Space.{zones_of}
 use Rattle.tree.proofs.Maps.{put-same}
 use Rattle.tree.proofs.Outcomes.{IsFree, free_inode_is}
@@ -26,16 +26,16 @@ use Rattle.zone.specs.Room.{taken_by}
 use Rattle.directory.specs.Names.{Inserts, MayInsert}
 use Rattle.path.specs.declared.place.Place.{Place}
 use Rattle.path.specs.Places.{place_of}
-use Rattle.node_steps.specs.NewNodes.{MakesDirectory, MakesFile, MayMakeDirectory, MayMakeFile}
+use Rattle.node_steps.specs.NewNodes.{MakesDirectory, MakesFile, MakesLink, MayMakeDirectory, MayMakeFile, MayMakeLink}
 use Rattle.node_steps.specs.Steps.{AddsLink, MayAddLink}
 use Rattle.node_steps.specs.Stands.{Stands}
 use Rattle.node_steps.proofs.Between.{node_stands, nothing_is_done, step_is_done}
 use Rattle.node_steps.proofs.Entering.{name_may_be_put}
-use Rattle.calls_open.specs.Making.{MayMakeAt, MayMakeDirectoryAt, with_new_directory, with_new_file}
+use Rattle.calls_open.specs.Making.{MayMakeAt, MayMakeDirectoryAt, with_new_directory, with_new_file, with_new_link}
 use Rattle.calls_open.specs.Vacant.{IsVacant, zones_with_name}
 use Rattle.calls_open.proofs.Numbers.{directory_in, directory_some, may_grow}
-use Rattle.calls_open.proofs.Trees.{directory_nodes, entered_takes, file_nodes, still_there}
-use Rattle.calls_open.proofs.Zones.{by_directory, directory_takes, file_takes, name_takes_more, taken_put}
+use Rattle.calls_open.proofs.Trees.{directory_nodes, entered_takes, file_nodes, link_nodes, still_there}
+use Rattle.calls_open.proofs.Zones.{by_directory, directory_takes, file_takes, link_takes, name_takes_more, taken_put}
 
 -- what was found free is
 pub is_free : (g : Geometry) (t : Tree) (n : ℕ) → free_inode g t ≡ Ok n → IsFree g t n
@@ -111,6 +111,9 @@ module _ (g : Geometry) (ok : IsGeometry g) (d : Disk) (p : Place) (n others now
         omega (arith, a, b, c, some_others);
   }
 
+  pub may_make_link : 0 < others → MayMakeLink g v n
+  may_make_link some_others = record { make = may_make_file; room = (may_make_directory some_others).room }
+
   -- a node at n, then its name
   module _ (x : Node) (e : Disk) (fits : zones_of g (Some x) ≤ others) (one : Stands g d e (put t.nodes n (Some x))) where
     abbrev first : ℕ → Option Node
@@ -150,6 +153,26 @@ module _ (g : Geometry) (ok : IsGeometry g) (d : Disk) (p : Place) (n others now
   file_done e f makes inserts = subst (λ (nodes : ℕ → Option Node). Stands g d f nodes)
       (sym (file_nodes g ok t user now mode place n parent may.vacant.there may.vacant.directory free.nothing may.vacant.free))
       (entered file e file_small (file_stands e makes) f inserts)
+
+  -- a symbolic link
+  module _ (target : List ℕ) (some_others : 0 < others) where
+    abbrev link : Node
+    link = new_link now user target
+
+    link_stands : (e : Disk) → MakesLink g n user now target d e → Stands g d e (put t.nodes n (Some link))
+    link_stands e makes = step_is_done g d d e t.nodes n (Some link) begun makes.head (makes.becomes (may_make_link some_others))
+
+    link_small : zones_of g (Some link) ≤ others
+    link_small = let a = link_takes g now user target in omega (arith, a, some_others)
+
+    module _ (e : Disk) (makes : MakesLink g n user now target d e) where
+      pub may_name_link : MayInsert g (pieces g e) at p.name.now n
+      may_name_link = may_enter link e link_small (link_stands e makes)
+
+      pub link_done : (f : Disk) → Inserts g at p.name.now n now e f → Stands g d f (with_new_link t user now target place n).nodes
+      link_done f inserts = subst (λ (nodes : ℕ → Option Node). Stands g d f nodes)
+          (sym (link_nodes g ok t user now mode place n parent may.vacant.there may.vacant.directory free.nothing may.vacant.free target))
+          (entered link e link_small (link_stands e makes) f inserts)
 
   -- a directory
   abbrev directory : Node

@@ -8,7 +8,7 @@ use Rattle.layout.specs.declared.Geometry.{Geometry}
 use Rattle.layout.specs.Places.{IsGeometry}
 use Rattle.tree.specs.declared.User.{User}
 use Rattle.tree.specs.Flags.{creates, is_exclusive, truncates, writes}
-use Rattle.tree.specs.Tree.{Directory, File, Node, Tree, is_dir, is_directory, is_file, with_node}
+use Rattle.tree.specs.Tree.{Directory, File, Node, Tree, is_dir, is_directory, is_file, is_link_at, with_node}
 use Rattle.tree.specs.Refusals.{◌>>=◌, or_refuse, refuse_if}
 use Rattle.tree.specs.Walk.{is_there}
 use Rattle.tree.specs.Changes.{file_after_resize, with_body}
@@ -29,7 +29,7 @@ use Rattle.calls_data.proofs.Volumes.{may_change, no_directory, volume_changed}
 use Rattle.calls_data.specs.Dated.{SetsSizeAt}
 use Rattle.node_steps.specs.Stands.{Stands}
 use Rattle.node_steps.proofs.Between.{kind_is, nothing_is_done}
-use Rattle.calls_open.specs.Asking.{lacks_permission, why_barred}
+use Rattle.calls_open.specs.Asking.{lacks_permission, only_makes, why_barred}
 use Rattle.calls_open.specs.Opening.{IsReady, IsRefused}
 
 -- the refusal, or what the call gives
@@ -41,6 +41,11 @@ first_of a b c = if a then Some EEXIST else if b then Some EISDIR else if c then
 
 abbrev asked : Bool → Bool → Bool → Answer × Tree → Effect
 asked a b c last = refuse_if a EEXIST >>= λ _. refuse_if b EISDIR >>= λ _. refuse_if c EACCES >>= λ _. Ok last
+
+-- nothing speaks against it, so the call takes what is there
+not_made : (a b c : Bool) → first_of a b c ≡ None → a ≡ false
+not_made true b c h = cc
+not_made false b c h = refl
 
 asked_is : (a b c : Bool) (last : Answer × Tree) → asked a b c last ≡ told (first_of a b c) last
 asked_is true b c last = refl
@@ -145,7 +150,8 @@ module _ (g : Geometry) (ok : IsGeometry g) (d : Disk) (t : Tree) (holds : Holds
     }
 
     -- or it is emptied
-    module _ (emptied : (truncates flags && not (is_directory_mode i.mode)) ≡ true) (small : now < 2 ^ 32) (e : Disk) (s : SetsSizeAt g n 0 now d e) where
+    module _ (emptied : (truncates flags && not (is_directory_mode i.mode)) ≡ true) (small : now < 2 ^ 32) (e : Disk)
+        (s : SetsSizeAt g n 0 now d e) (last : only_makes flags ≡ false → is_link_at t.nodes n ≡ false) where
       abbrev new : File
       new = file_after_resize g h 0
 
@@ -161,6 +167,11 @@ module _ (g : Geometry) (ok : IsGeometry g) (d : Disk) (t : Tree) (holds : Holds
       body : node.body ≡ is_file h
       body = cond-false (is_directory_mode (v.inodes n).mode) (is_directory dir) (is_file h) plain
 
+      no_link : node.symbolic ≡ false
+      no_link =
+          sym (ap (λ (o : Option Node). elim o [ None ↦ false | Some x ↦ x.symbolic ]) at.1)
+          ∙ last (not_made (only_makes flags) (is_dir node && writes flags) (lacks_permission user node flags) (sym its_why ∙ none))
+
       held : HoldsVolume g e (with_node t n (Some new_node))
       held =
           let became = s.becomes there_may_change in
@@ -170,7 +181,8 @@ module _ (g : Geometry) (ok : IsGeometry g) (d : Disk) (t : Tree) (holds : Holds
           (λ k. record (node_from (stamped now (v.inodes n)) new) {
             body = if plain k then is_directory (record { parent = entry_inode new.byte 1; names = names_in new.byte (new.size / 64 - 2) }) else is_file new;
           })
-          (file_changed g t n now node h new small at.1 body (resized_fits g h 0 (omega arith) (file_fits g node h (holds.nodes.tree.nodes.each n node at.1) body)) holds.nodes.tree)
+          (file_changed g t n now node h new small at.1 body no_link
+          (resized_fits g h 0 (omega arith) (file_fits g node h (holds.nodes.tree.nodes.each n node at.1) body)) holds.nodes.tree)
 
       pub there_emptied : IsReady g t (call mode) flags d e n
       there_emptied = record {

@@ -1,5 +1,5 @@
 -- A tree with a new node at a place: its nodes, its zones, its open files.
-use Rattle.std.proofs.Common.{◌≡◌, ◌≢◌, ◌<◌, ◌+◌, ℕ, true, refl, sym, ap, ◌∙◌, arith}
+use Rattle.std.proofs.Common.{◌≡◌, ◌≢◌, ◌<◌, ◌+◌, ℕ, List, true, refl, sym, ap, ◌∙◌, arith}
 use Rattle.std.specs.Prelude.{None, Some}
 use Rattle.layout.specs.declared.Geometry.{Geometry}
 use Rattle.layout.specs.Places.{IsGeometry}
@@ -8,7 +8,7 @@ use Rattle.tree.specs.Names.{inode_of, with_name}
 use Rattle.tree.specs.Sums.{put}
 use Rattle.tree.specs.Tree.{Node, Tree, is_dir, names_of, on_node, with_node}
 use Rattle.tree.specs.Walk.{Place}
-use Rattle.tree.specs.Changes.{empty_directory, empty_file, more_links, new_node, with_ctime, with_names}
+use Rattle.tree.specs.Changes.{empty_directory, empty_file, more_links, new_link, new_node, with_ctime, with_names}
 use Rattle.tree.specs.NameCalls.{with_entry}
 use Rattle.tree.specs.Space.{zones_of}
 use Rattle.tree.proofs.Maps.{not_nothing, put-other, put-same}
@@ -17,9 +17,9 @@ use Rattle.tree.proofs.Views.{on_node_there}
 use Rattle.zone.specs.Room.{taken_by}
 use Rattle.descriptors.specs.Files.{Files, HasFiles}
 use Rattle.node_steps.proofs.Nodes.{put_twice}
-use Rattle.calls_open.specs.Making.{with_new_directory, with_new_file}
+use Rattle.calls_open.specs.Making.{with_new_directory, with_new_file, with_new_link}
 use Rattle.calls_open.specs.Vacant.{zones_with_name}
-use Rattle.calls_open.proofs.Zones.{by_directory, directory_takes, file_takes, taken_put}
+use Rattle.calls_open.proofs.Zones.{by_directory, directory_takes, file_takes, link_takes, taken_put}
 
 module _ (g : Geometry) (ok : IsGeometry g) (t : Tree) (user : User) (now mode : ℕ) (place : Place) (n : ℕ) (parent : Node)
     (there : t.nodes place.directory ≡ Some parent) (kind : is_dir parent ≡ true) (nothing : t.nodes n ≡ None)
@@ -74,6 +74,28 @@ module _ (g : Geometry) (ok : IsGeometry g) (t : Tree) (user : User) (now mode :
   file_files f h =
       let over = over_on_node t (with_node t n (Some file)) d (with_names now (λ names. with_name names place.name n)) (over_with_node t t n (Some file) (over_itself t)) in
       record { opened = over.files ∙ h.opened; descriptors = over.descriptors ∙ h.descriptors }
+
+  -- a symbolic link
+  module _ (target : List ℕ) where
+    abbrev link : Node
+    link = new_link now user target
+
+    pub link_nodes : (with_new_link t user now target place n).nodes ≡ put (put t.nodes n (Some link)) d (Some named)
+    link_nodes = ap (λ (u : Tree). u.nodes) (entered link)
+
+    pub link_zones : d < g.inodes + 1 → n < g.inodes + 1
+        → taken_by g (with_new_link t user now target place n).nodes ≡ zones_with_name g t d parent place.name now n + 1
+    link_zones d_in n_in =
+        let same = ap (taken_by g) link_nodes in
+        let all = entered_takes link d_in n_in in
+        let one = link_takes g now user target in
+        omega (arith, same, all, one)
+
+    pub link_files : (f : Files) → HasFiles f t → HasFiles f (with_new_link t user now target place n)
+    link_files f h =
+        let over = over_on_node t (with_node t n (Some link)) d (with_names now (λ names. with_name names place.name n))
+        (over_with_node t t n (Some link) (over_itself t)) in
+        record { opened = over.files ∙ h.opened; descriptors = over.descriptors ∙ h.descriptors }
 
   -- a directory
   abbrev directory : Node

@@ -1,8 +1,8 @@
 -- How many zones the nodes take when one is new, or has a name more.
-use Rattle.std.proofs.Common.{◌≡◌, ◌<◌, ◌≤◌, ◌+◌, ◌*◌, ◌-◌, ◌/◌, ℕ, Bool, true, false, length, refl, sym, ap, subst, ◌∙◌, arith}
+use Rattle.std.proofs.Common.{◌≡◌, ◌<◌, ◌≤◌, ◌+◌, ◌*◌, ◌-◌, ◌/◌, ℕ, Bool, List, true, false, length, refl, sym, ap, subst, ◌∙◌, arith}
 use mathlib.Core.Logic.{inl, inr}
-use Rattle.std.specs.Prelude.{IsTrue, None, Option, Some, nat_lt}
-use Rattle.std.proofs.lemmas.Bool.{cases_eq, cases_lt, cond-false, le-ltb, lt-ltb, ltb-true}
+use Rattle.std.specs.Prelude.{◌==◌, IsTrue, None, Option, Some, nat_lt}
+use Rattle.std.proofs.lemmas.Bool.{cases_eq, cases_lt, cond-false, eq-eqb, le-ltb, lt-ltb, ltb-true, ne_eqb}
 use Rattle.lemmas.proofs.Bools.{false_not_true}
 use Rattle.layout.specs.declared.Geometry.{Geometry}
 use Rattle.layout.specs.Places.{IsGeometry, is_block_size}
@@ -10,7 +10,7 @@ use Rattle.tree.specs.declared.User.{User}
 use Rattle.tree.specs.Sums.{count_below, one_if, put, some_below, sum_below}
 use Rattle.tree.specs.Names.{Name, inode_of, with_name}
 use Rattle.tree.specs.Tree.{Body, Directory, Node, is_dir, is_directory, is_file, names_of, size_of}
-use Rattle.tree.specs.Changes.{empty_directory, empty_file, new_node, with_names}
+use Rattle.tree.specs.Changes.{empty_directory, empty_file, new_link, new_node, with_names}
 use Rattle.tree.specs.Space.{numbers_in_zone, pages_of, zones_of}
 use Rattle.tree.specs.ZonesNeeded.{double_blocks, from_page, page_limit, single_blocks, triple_blocks, zones_needed}
 use Rattle.tree.proofs.Maps.{put-other, put-same, same_sum, sum_put}
@@ -59,26 +59,37 @@ none_held limit = none_counted (λ q. false) limit (none_below (λ q. false) lim
 no_page : (n : ℕ) → zones_needed n (λ q. false) ≡ 0
 no_page n = few_pages n 0 (λ q. false) (λ q _. refl) (none_held (page_limit n))
 
-one_page : (n : ℕ) → zones_needed n (λ q. nat_lt q 1) ≡ 1
-one_page n =
-    let one : count_below (put (λ (q : ℕ). false) 0 true) (page_limit n) ≡ 1 =
+one_page : (n : ℕ) (held : ℕ → Bool) → ((q : ℕ) → held q ≡ put (λ (k : ℕ). false) 0 true q) → zones_needed n held ≡ 1
+one_page n held same =
+    let one : count_below (put (λ (k : ℕ). false) 0 true) (page_limit n) ≡ 1 =
     (let c = count_put (λ q. false) 0 (page_limit n) (omega arith) in let z = none_held (page_limit n) in omega (arith, c, z)) in
-    few_pages n 1 (λ q. nat_lt q 1) (λ q l. le-ltb q 1 (omega (arith, l))) (ap (λ (f : ℕ → Bool). count_below f (page_limit n)) (λ t q. same q t) ∙ one)
-  where
-    same : (q : ℕ) → nat_lt q 1 ≡ put (λ (q : ℕ). false) 0 true q
-    same q = elim (cases_eq q 0) [
-      | inl e ↦ lt-ltb q 1 (omega (arith, e)) ∙ sym (ap (put (λ (q : ℕ). false) 0 true) e ∙ put-same (λ (q : ℕ). false) 0 true)
-      | inr d ↦ le-ltb q 1 (omega (arith, d)) ∙ sym (put-other (λ (q : ℕ). false) 0 true q d)
-    ]
+    few_pages n 1 held (λ q l. same q ∙ put-other (λ (k : ℕ). false) 0 true q (omega (arith, l)))
+    (ap (λ (f : ℕ → Bool). count_below f (page_limit n)) (λ t q. same q t) ∙ one)
 
--- a new file, and a new directory
+-- the pages below 1, and page 0
+below_one : (q : ℕ) → nat_lt q 1 ≡ put (λ (k : ℕ). false) 0 true q
+below_one q = elim (cases_eq q 0) [
+  | inl e ↦ lt-ltb q 1 (omega (arith, e)) ∙ sym (ap (put (λ (k : ℕ). false) 0 true) e ∙ put-same (λ (k : ℕ). false) 0 true)
+  | inr d ↦ le-ltb q 1 (omega (arith, d)) ∙ sym (put-other (λ (k : ℕ). false) 0 true q d)
+]
+
+at_zero : (q : ℕ) → (q == 0) ≡ put (λ (k : ℕ). false) 0 true q
+at_zero q = elim (cases_eq q 0) [
+  | inl e ↦ eq-eqb q 0 e ∙ sym (ap (put (λ (k : ℕ). false) 0 true) e ∙ put-same (λ (k : ℕ). false) 0 true)
+  | inr d ↦ ne_eqb q 0 d ∙ sym (put-other (λ (k : ℕ). false) 0 true q d)
+]
+
+-- a new file, a new directory, a new symbolic link
 pub file_takes : (g : Geometry) (now permissions : ℕ) (user : User) → zones_of g (Some (new_node now user permissions 1 empty_file)) ≡ 0
 file_takes g now permissions user = no_page (numbers_in_zone g)
 
 pub directory_takes : (g : Geometry) (now permissions parent : ℕ) (user : User) → IsGeometry g → zones_of g (Some (new_node now user permissions 2 (empty_directory parent))) ≡ 1
 directory_takes g now permissions parent user ok =
     let one : pages_of g 128 ≡ 1 = each_size (λ w. (128 + w - 1) / w ≡ 1) g.block_size ok.block_size (omega arith) (omega arith) (omega arith) in
-    ap (λ k. zones_needed (numbers_in_zone g) (λ q. nat_lt q k)) one ∙ one_page (numbers_in_zone g)
+    ap (λ k. zones_needed (numbers_in_zone g) (λ q. nat_lt q k)) one ∙ one_page (numbers_in_zone g) (λ q. nat_lt q 1) below_one
+
+pub link_takes : (g : Geometry) (now : ℕ) (user : User) (target : List ℕ) → zones_of g (Some (new_link now user target)) ≡ 1
+link_takes g now user target = one_page (numbers_in_zone g) (λ q. q == 0) at_zero
 
 -- a directory by its body
 pub by_directory : (P : Node → Type 0) (node : Node) → is_dir node ≡ true → ((d : Directory) → P (record node { body = is_directory d })) → P node

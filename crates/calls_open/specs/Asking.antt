@@ -1,10 +1,11 @@
--- What open asks before it looks at the path, and of a node that is there.
-use Rattle.std.specs.Prelude.{ℕ, Bool, not, ◌&&◌, ◌||◌, nat_lt, Option, None, Some, Result, if◌then◌else◌}
+-- What open asks before it looks at the path, and of a node that is there; what symlink asks of a target.
+use Rattle.std.specs.Prelude.{ℕ, List, length, Bool, not, ◌&&◌, ◌||◌, ◌==◌, nat_lt, Option, None, Some, Result, Ok, if◌then◌else◌}
+use Rattle.std.specs.List.{list_any}
 use Rattle.errno.specs.declared.Errno.{Errno}
-use Rattle.errno.specs.declared.Errno.TheVariants.{EACCES, EEXIST, EINVAL, EISDIR}
+use Rattle.errno.specs.declared.Errno.TheVariants.{EACCES, EEXIST, EINVAL, EISDIR, ENAMETOOLONG, ENOENT}
 use Rattle.tree.specs.declared.User.{User}
 use Rattle.tree.specs.Flags.{bad_flags, creates, is_exclusive, reads, writes}
-use Rattle.tree.specs.Tree.{Node, most_permissions}
+use Rattle.tree.specs.Tree.{Node, most_permissions, most_target}
 use Rattle.tree.specs.Refusals.{◌>>=◌, refuse_if}
 use Rattle.tree.specs.Walk.{may_access, to_read, to_write}
 use Rattle.descriptors.specs.Files.{Files, room_for_file}
@@ -27,3 +28,15 @@ why_barred directory lacks flags =
     else if directory && writes flags then Some EISDIR
     else if lacks then Some EACCES
     else None
+
+-- with create and exclusive a call opens no node that is there, and a link is one
+abbrev pub only_makes : ℕ → Bool
+only_makes flags = creates flags && is_exclusive flags
+
+-- some bytes, not too many, and none of them zero
+abbrev pub may_be_target : List ℕ → Result (Unit {0}) Errno
+may_be_target target = do
+  _ ← refuse_if (length target == 0) ENOENT
+  _ ← refuse_if (nat_lt most_target (length target)) ENAMETOOLONG
+  _ ← refuse_if (list_any (λ c. c == 0) target) EINVAL
+  Ok tt

@@ -1,5 +1,5 @@
 -- Nodes that are made at places.
-use Rattle.std.specs.Prelude.{◌≡◌, ◌<◌, ◌≤◌, ℕ, Bool, not, Some, Result, Ok, Err}
+use Rattle.std.specs.Prelude.{◌≡◌, ◌<◌, ◌≤◌, ℕ, List, Bool, not, Some, Result, Ok, Err}
 use Rattle.errno.specs.declared.Errno.{Errno}
 use Rattle.errno.specs.declared.Errno.TheVariants.{EACCES, ENOENT, ENOSPC}
 use Rattle.layout.specs.declared.Geometry.{Geometry}
@@ -8,7 +8,7 @@ use Rattle.tree.specs.Tree.{Node, Tree, most_links, on_node, with_node}
 use Rattle.tree.specs.Refusals.{◌>>=◌, refuse_if}
 use Rattle.tree.specs.Walk.{may_access, node_at, to_write}
 use Rattle.tree.specs.Walk as tree
-use Rattle.tree.specs.Changes.{empty_directory, empty_file, free_inode, more_links, new_node}
+use Rattle.tree.specs.Changes.{empty_directory, empty_file, free_inode, more_links, new_link, new_node}
 use Rattle.tree.specs.Answers.{Effect}
 use Rattle.tree.specs.NameCalls.{with_entry}
 use Rattle.tree.specs.Space.{data_zones, zones_used}
@@ -29,6 +29,10 @@ with_new_directory t user now mode place n =
 abbrev pub with_new_file : Tree → User → ℕ → ℕ → tree.Place → ℕ → Tree
 with_new_file t user now mode place n = with_entry (with_node t n (Some (new_node now user mode 1 empty_file))) now place n
 
+-- the tree with a new symbolic link at a place
+abbrev pub with_new_link : Tree → User → ℕ → List ℕ → tree.Place → ℕ → Tree
+with_new_link t user now target place n = with_entry (with_node t n (Some (new_link now user target))) now place n
+
 -- A tree is held in which the place is vacant, with a number for a new node and zones enough for its name and others beside.
 pub record MayMakeAt (g : Geometry) (d : Disk) (p : Place) (n others : ℕ) : Type 0 where
   pub tree : Tree
@@ -42,7 +46,7 @@ pub record MayMakeDirectoryAt (g : Geometry) (d : Disk) (p : Place) (n : ℕ) : 
   pub make : MayMakeAt g d p n 1
   pub links : p.inode.links < most_links
 
--- The nodes are those with a new file, or a new directory, there.
+-- The nodes are those with a new file, a new directory or a new symbolic link there.
 abbrev pub MakesFileAt : Geometry → User → ℕ → ℕ → Place → ℕ → Disk → Disk → Type 0
 MakesFileAt g user now mode p n d e =
     (may : MayMakeAt g d p n 0) → Stands g d e (with_new_file may.tree user now mode (place_of g d p) n).nodes
@@ -50,6 +54,10 @@ MakesFileAt g user now mode p n d e =
 abbrev pub MakesDirectoryAt : Geometry → User → ℕ → ℕ → Place → ℕ → Disk → Disk → Type 0
 MakesDirectoryAt g user now mode p n d e =
     (may : MayMakeDirectoryAt g d p n) → Stands g d e (with_new_directory may.make.tree user now mode (place_of g d p) n).nodes
+
+abbrev pub MakesLinkAt : Geometry → User → ℕ → List ℕ → Place → ℕ → Disk → Disk → Type 0
+MakesLinkAt g user now target p n d e =
+    (may : MayMakeAt g d p n 1) → Stands g d e (with_new_link may.tree user now target (place_of g d p) n).nodes
 
 -- What open does where the name is missing, up to the number of the new file.
 abbrev pub at_missing : Geometry → Tree → User → Bool → ℕ → (ℕ → Effect) → Effect

@@ -6,7 +6,7 @@ ghost use Rattle.tree.specs.Tree.{Node, most_sessions};
 ghost use Rattle.volume.specs.Nodes.{is_directory_mode, permissions_in};
 ghost use Rattle.descriptors.specs.Table.{files_of};
 ghost use Rattle.path.specs.Wishes.{IsWhose};
-ghost use Rattle.calls_open.specs.Asking.{lacks_permission, may_begin, why_barred};
+ghost use Rattle.calls_open.specs.Asking.{lacks_permission, may_begin, only_makes, why_barred};
 
 use bitflags::Flags;
 use calls_data::found::is_directory;
@@ -87,4 +87,11 @@ pub(crate) fn is_emptied(inode: &Inode, flags: OpenFlags) -> bool
     ensures { result ≡ (truncates flags.0 && not (is_directory_mode inode.now.mode)) }
 {
     flags.truncates() && !is_directory(inode)
+}
+
+/// Whether the call opens only what it makes: no node that is there, a symbolic link among them.
+pub(crate) fn only_makes(flags: OpenFlags) -> bool
+    ensures { result ≡ only_makes flags.0 }
+{
+    flags.creates() && flags.is_exclusive()
 }

@@ -34,11 +34,13 @@ fn put(opens: &mut Descriptors, session: u8, inode: u16, flags: OpenFlags) -> Re
 }
 
 /// open: the lowest free descriptor of the session leads to a new open file of the path's node, at position 0, with these flags. With the
-/// create flag a missing file is made with the mode, with the truncate flag a file that is there is emptied, both at `now` (seconds).
+/// create flag a missing file is made with the mode, with the truncate flag a file that is there is emptied, both at `now` (seconds). A
+/// symbolic link that stands last is followed, but with create and exclusive; no file is made where it leads to nothing.
 /// Refused, in this order, with nothing changed: EINVAL of flags or of a mode that can't be, EMFILE where the session has no free
-/// descriptor, ENFILE where 128 files are open, the refusals of the path and of the look-up; then of a node that is there EEXIST with
-/// create and exclusive, EISDIR of a directory to be written, EACCES where the user lacks a permission; and of a missing name ENOENT
-/// without create, EACCES where the user may not change the directory's names, ENOSPC where no inode is free or there are too few zones.
+/// descriptor, ENFILE where 128 files are open, the refusals of the path and of the look-up, and of a link that is followed those of the
+/// walk of the whole path; then of a node that is there EEXIST with create and exclusive, EISDIR of a directory to be written, EACCES where
+/// the user lacks a permission; and of a missing name ENOENT without create, EACCES where the user may not change the directory's names,
+/// ENOSPC where no inode is free or there are too few zones.
 pub fn open<B: Blocks>(
     blocks: &mut B,
     opens: &mut Descriptors,

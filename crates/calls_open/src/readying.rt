@@ -1,25 +1,28 @@
 //! The node that open opens.
 
-ghost use Rattle.std.specs.Prelude.{◌≢◌, ◌≤◌, IfErr, IsTrue, is_some};
-ghost use Rattle.tree.specs.Tree.{Tree, most_permissions};
+ghost use Rattle.std.specs.Prelude.{◌≡◌, ◌≢◌, ◌≤◌, IfErr, IsTrue, false, is_some};
+ghost use Rattle.tree.specs.Tree.{Tree, is_link_at, most_permissions};
 ghost use Rattle.volume.specs.Holds.{HoldsVolume};
 ghost use Rattle.store.specs.Volume.{IsOn};
-ghost use Rattle.store.specs.World.{Turns};
+ghost use Rattle.store.specs.World.{Reads, Turns};
 ghost use Rattle.path.specs.Stops.{Answers, IfRefused, IsStop};
-ghost use Rattle.calls_open.specs.Opening.{Readies, ReadiesThere, open_named};
+ghost use Rattle.calls_open.specs.Asking.{only_makes};
+ghost use Rattle.calls_open.specs.Opening.{FindsToOpen, Readies, ReadiesThere, open_named};
 
-use crate::asking::{is_emptied, refusal};
+use crate::asking::{is_emptied, only_makes, refusal};
 use crate::make_file;
+use calls_data::found::is_link;
 use calls_data::set_size_at;
 use errno::Errno;
 use inode::inode_table::load;
 use layout::Geometry;
-use path::{Found, Path, Stop, look_up};
+use path::{Found, Path, Stop, look_up, walk};
 use store::Blocks;
 use tree::{OpenFlags, User};
 
-/// Readies a node that is there: with the truncate flag its file is emptied, changed at `now` (seconds). EEXIST where the call makes files
-/// and takes no others, EISDIR of a directory to be written, EACCES where the user lacks a permission; then nothing is changed.
+/// Readies a node that is there, no symbolic link unless the call opens only what it makes: with the truncate flag its file is emptied,
+/// changed at `now` (seconds). EEXIST where the call makes files and takes no others, EISDIR of a directory to be written, EACCES where the
+/// user lacks a permission; then nothing is changed.
 fn ready_there<B: Blocks>(
     blocks: &mut B,
     geometry: &Geometry,
@@ -30,7 +33,7 @@ fn ready_there<B: Blocks>(
 ) -> Result<(), Stop>
     requires on { IsOn B.world geometry.now blocks.old }
     ensures turns { Turns B.world blocks.old blocks.new (λ d e. (t : Tree) → HoldsVolume geometry.now d t
-        → IsTrue (is_some (t.nodes number))
+        → IsTrue (is_some (t.nodes number)) → (only_makes flags.0 ≡ false → is_link_at t.nodes number ≡ false)
         → Answers result (ReadiesThere geometry.now t user now number flags.0 d e)) }
     ensures stop { IfErr result (λ s. IsStop B.world blocks.new s) }
     ensures proper { IfErr result (λ s. IfRefused s (λ e. e ≢ Errno.EIO)) }
@@ -43,6 +46,36 @@ fn ready_there<B: Blocks>(
         set_size_at(blocks, geometry, number, 0, now)?;
     }
     Ok(())
+}
+
+/// What a path finds for open: where a symbolic link stands last, what the whole path leads to, or the link itself where it is taken as it
+/// is. The refusals of the walk come first; of a link those of the whole path's walk come then, ENOENT and ELOOP among them.
+fn find<'a, B: Blocks>(
+    blocks: &mut B,
+    geometry: &Geometry,
+    user: User,
+    path: &Path<'a>,
+    as_is: bool,
+) -> Result<Found<'a>, Stop>
+    requires on { IsOn B.world geometry.now blocks.old }
+    ensures reads { Reads B.world blocks.old blocks.new (λ d. (t : Tree) → HoldsVolume geometry.now d t
+        → Answers result (FindsToOpen geometry.now d t user as_is path.now)) }
+    ensures stop { IfErr result (λ s. IsStop B.world blocks.new s) }
+    ensures proper { IfErr result (λ s. IfRefused s (λ e. e ≢ Errno.EIO)) }
+{
+    let number = match look_up(blocks, geometry, user, path)? {
+        Found::There(number) => number,
+        Found::Missing(place) => return Ok(Found::Missing(place)),
+    };
+    if as_is {
+        return Ok(Found::There(number));
+    }
+    let inode = load(blocks, geometry, number)?;
+    if !is_link(&inode) {
+        return Ok(Found::There(number));
+    }
+    let end = walk(blocks, geometry, user, path.parts())?;
+    Ok(Found::There(end))
 }
 
 /// The number of the node that open opens, which is readied or made. The refusals of the path and of the look-up come first, then those of
@@ -64,7 +97,7 @@ pub(crate) fn ready<B: Blocks>(
     ensures proper { IfErr result (λ s. IfRefused s (λ e. e ≢ Errno.EIO)) }
 {
     let path = Path::parse(path)?;
-    match look_up(blocks, geometry, user, &path)? {
+    match find(blocks, geometry, user, &path, only_makes(flags))? {
         Found::There(number) => {
             ready_there(blocks, geometry, user, now, number, flags)?;
             Ok(number)

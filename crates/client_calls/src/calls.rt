@@ -16,8 +16,8 @@ use calls_data::open_files::{dup, fstat};
 use calls_data::reading::read;
 use calls_data::seeking::seek;
 use calls_data::whole::{statfs, sync};
-use calls_data::{chmod, chown, stat, truncate, utime, write};
-use calls_open::{mkdir, open};
+use calls_data::{chmod, chown, lstat, readlink, stat, truncate, utime, write};
+use calls_open::{mkdir, open, symlink};
 use calls_rename::calls_link::{link, rmdir, unlink};
 use calls_rename::rename;
 use descriptors::Descriptors;
@@ -88,6 +88,9 @@ fn perform<B: Blocks>(
         Call::Link { old, new } => link(blocks, geometry, user, now, old, new),
         Call::Mkdir { path, mode } => mkdir(blocks, geometry, user, now, path, mode),
         Call::Rename { old, new } => rename(blocks, opens, geometry, user, now, old, new),
+        Call::Symlink { target, path } => symlink(blocks, geometry, user, now, target, path),
+        Call::Readlink { path } => readlink(blocks, geometry, user, path),
+        Call::Lstat { path } => lstat(blocks, geometry, user, path),
     }
 }
 

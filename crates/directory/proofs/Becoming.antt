@@ -13,7 +13,8 @@ use Rattle.tree.specs.ZonesNeeded.{zones_needed}
 use Rattle.volume.specs.declared.Inode.{Inode}
 use Rattle.volume.specs.Pieces.{Pieces, pieces}
 use Rattle.volume.specs.Reading.{Disk, u32_in}
-use Rattle.volume.specs.Nodes.{directory_of, entry_inode, file_of, is_directory_mode, is_marked, names_in, node_of, nodes_of, permissions_in}
+use Rattle.volume.specs.Nodes.{directory_of, entry_inode, file_of, is_directory_mode, is_link_mode, is_marked, names_in, node_of, nodes_of}
+use Rattle.volume.specs.Nodes.{permissions_in}
 use Rattle.volume.specs.Entries.{entry_count}
 use Rattle.volume.specs.Holds.{IsSoundDirectory}
 use Rattle.volume.proofs.Sums.{count_most}
@@ -45,6 +46,7 @@ said_by f = record { parent = entry_inode f.byte 1; names = names_in f.byte (f.s
 abbrev made_of : Inode → Body → Node
 made_of i body = record {
   permissions = permissions_in i.mode;
+  symbolic = is_link_mode i.mode;
   uid = i.uid;
   gid = i.gid;
   links = i.links;

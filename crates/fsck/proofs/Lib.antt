@@ -5,3 +5,4 @@ pub mod Walks
 pub mod Standing
 pub mod Firsts
 pub mod Trees
+pub mod Targets

@@ -3,7 +3,24 @@ use Rattle.std.specs.Prelude.{ℕ, ◌+◌, List, [], ◌∷◌, Option, None, S
 use Rattle.layout.specs.declared.Geometry.{Geometry}
 use Rattle.volume.specs.declared.Finding.{Finding}
 use Rattle.volume.specs.Pieces.{Pieces}
-use Rattle.volume.specs.Findings.{lacks_inode_bit, lacks_zone_bit, lacks_root, has_bad_mode, has_bad_size, has_bad_number, is_used_twice, has_bad_bit, has_spare_zone, has_hole, has_bad_dots, has_bad_entry, has_bad_target, is_misplaced, has_bad_links}
+use Rattle.volume.specs.Findings.{
+  lacks_inode_bit,
+  lacks_zone_bit,
+  lacks_root,
+  has_bad_mode,
+  has_bad_size,
+  has_bad_number,
+  is_used_twice,
+  has_bad_bit,
+  has_spare_zone,
+  has_hole,
+  has_bad_dots,
+  has_bad_entry,
+  has_bad_target,
+  is_misplaced,
+  has_bad_links,
+  has_bad_link,
+}
 use Rattle.volume.specs.Verdict.{Test}
 use Rattle.image.specs.Least.{least_of}
 
@@ -33,6 +50,6 @@ block_tests g v = has_spare_zone g v ∷ has_hole g v ∷ []
 abbrev pub entry_tests : Geometry → Pieces → List Test
 entry_tests g v = has_bad_dots g v ∷ has_bad_entry g v ∷ has_bad_target g v ∷ []
 
--- findings 15 and 16
+-- findings 15 to 17
 abbrev pub tree_tests : Geometry → Pieces → List Test
-tree_tests g v = is_misplaced g v ∷ has_bad_links g v ∷ []
+tree_tests g v = is_misplaced g v ∷ has_bad_links g v ∷ has_bad_link g v ∷ []

@@ -1,4 +1,4 @@
-//! Findings 12 to 16: the entries of directories, where directories stand, and link counts.
+//! Findings 12 to 17: the entries of directories, where directories stand, link counts, and symbolic links.
 
 ghost use Rattle.std.specs.Prelude.{◌≡◌, ◌+◌, ℕ, IfOk, false, length, slice_index, slice_index_or};
 ghost use Rattle.volume.specs.Findings.{has_bad_size};
@@ -7,7 +7,7 @@ ghost use Rattle.image.specs.Contents.{contents};
 ghost use Rattle.fsck.specs.Parts.{entry_tests, first_of, tree_tests};
 
 use crate::scan::{
-    bad_dots, bad_entry, bad_links, bad_target, count_names, mark_reached, misplaced,
+    bad_dots, bad_entry, bad_link, bad_links, bad_target, count_names, mark_reached, misplaced,
 };
 use image::Image;
 use std::alloc::{AllocError, Global};
@@ -30,7 +30,7 @@ pub(crate) fn entries(alloc: Global, image: &Image) -> Result<Option<Finding>, A
     Ok(None)
 }
 
-/// The first of findings 15 and 16, where no size is bad.
+/// The first of findings 15 to 17, where no size is bad.
 pub(crate) fn tree(alloc: Global, image: &Image) -> Result<Option<Finding>, AllocError>
     requires { (n : ℕ) → has_bad_size image.now.geometry (contents image.now) n ≡ false }
     ensures { IfOk result (λ r. r ≡ first_of (place_limit image.now.geometry) 15 (tree_tests image.now.geometry (contents image.now))) }
@@ -71,6 +71,9 @@ fn tree_with(
     }
     if let Some(place) = bad_links(image, named, namer) {
         return Ok(Some(Finding { number: 16, place }));
+    }
+    if let Some(place) = bad_link(image) {
+        return Ok(Some(Finding { number: 17, place }));
     }
     Ok(None)
 }

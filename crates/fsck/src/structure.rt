@@ -76,7 +76,7 @@ fn has_bad_mode(image: &Image, n: u32) -> bool
 fn is_mode(mode: u16) -> bool
     ensures { result ≡ is_mode mode }
 {
-    (mode / 4096 == 4 || mode / 4096 == 8) && mode % 4096 < 512
+    (mode / 4096 == 4 || mode / 4096 == 8 || mode / 4096 == 10) && mode % 4096 < 512
 }
 
 /// The least inode with a size over the greatest, or with one that no directory has.

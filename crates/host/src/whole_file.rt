@@ -1,12 +1,22 @@
 //! Reading a file at once, and writing one so that its name never leads to a part of it.
 
 use std::fs::{self, File, OpenFile, OpenOptions};
-use std::io::{self, ErrorKind, Read, Write};
+use std::io::{self, ErrorKind, Read, Seek, SeekFrom, Write};
 use std::path::PathBuf;
 use std::rt::Files;
 
 /// How many names beside a file are tried for the new one (own).
 const MOST_TRIES: u32 = 100;
+
+/// How many bytes are looked at together, whether they are all zero (own).
+const PIECE: usize = 16384;
+
+/// What is to be in a file: these bytes, and zeros up to a length.
+#[derive(Clone, Copy)]
+struct Contents<'a> {
+    bytes: &'a [u8],
+    length: u64,
+}
 
 /// The bytes of a file. Room is made first for all of them and one more, so that they stay where they are while they are read.
 pub fn read<R: Files + Alloc>(rt: &R, name: &str) -> io::Result<Vec<u8, R::A>> {
@@ -23,6 +33,21 @@ pub fn read<R: Files + Alloc>(rt: &R, name: &str) -> io::Result<Vec<u8, R::A>> {
 /// Where the name is a symbolic link, the file that it leads to is replaced. What is there and is no file, as a folder or a device, or
 /// is a file that may not be written, is refused.
 pub fn replace<R: Files + Alloc>(rt: &R, name: &str, bytes: &[u8]) -> io::Result<()> {
+    replace_filled(rt, name, bytes, bytes.len() as u64)
+}
+
+/// The same with these bytes, and zeros behind them up to a length in bytes: as many bytes are in the file as they are, or as the length
+/// says, whichever is more.
+pub fn replace_filled<R: Files + Alloc>(
+    rt: &R,
+    name: &str,
+    bytes: &[u8],
+    length: u64,
+) -> io::Result<()> {
+    let contents = Contents {
+        bytes,
+        length: length.max(bytes.len() as u64),
+    };
     let place = place_of(rt, name)?;
     let place = place.as_path().as_str();
     let old = permissions_of(rt, place)?;
@@ -33,7 +58,7 @@ pub fn replace<R: Files + Alloc>(rt: &R, name: &str, bytes: &[u8]) -> io::Result
             .create_new(true)
             .open(rt, beside.as_str())
         {
-            Ok(file) => return put(rt, file, beside.as_str(), place, old, bytes),
+            Ok(file) => return put(rt, file, beside.as_str(), place, old, &contents),
             Err(error) if error.kind() == ErrorKind::AlreadyExists => {}
             Err(error) => return Err(error),
         }
@@ -75,9 +100,9 @@ fn put<R: Files>(
     beside: &str,
     place: &str,
     old: Option<fs::Permissions>,
-    bytes: &[u8],
+    contents: &Contents<'_>,
 ) -> io::Result<()> {
-    let put = match fill::<R>(file, old, bytes) {
+    let put = match fill::<R>(file, old, contents) {
         Ok(()) => fs::rename(rt, beside, place),
         Err(error) => Err(error),
     };
@@ -87,11 +112,30 @@ fn put<R: Files>(
     put
 }
 
-/// Writes the bytes to the new file, and waits until the disk has them.
-fn fill<R: Files>(mut file: R::File, old: Option<fs::Permissions>, bytes: &[u8]) -> io::Result<()> {
+/// Writes the bytes to the new file, and waits until the disk has them. A piece of zeros isn't written: the file has its length first,
+/// and reads as zeros where nothing was written.
+fn fill<R: Files>(
+    mut file: R::File,
+    old: Option<fs::Permissions>,
+    contents: &Contents<'_>,
+) -> io::Result<()> {
     if let Some(permissions) = old {
         file.set_permissions(permissions)?;
     }
-    file.write_all(bytes)?;
+    file.set_len(contents.length)?;
+    let mut at: u64 = 0;
+    for piece in contents.bytes.chunks(PIECE) {
+        if !is_zero(piece) {
+            file.seek(SeekFrom::Start(at))?;
+            file.write_all(piece)?;
+        }
+        at = at.saturating_add(piece.len() as u64);
+    }
     file.sync_all()
+}
+
+/// Whether all of these bytes are zero.
+pub fn is_zero(bytes: &[u8]) -> bool {
+    let (words, rest) = bytes.as_chunks::<16>();
+    words.iter().all(|word| u128::from_le_bytes(*word) == 0) && rest.iter().all(|byte| *byte == 0)
 }

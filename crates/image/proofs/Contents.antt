@@ -1,17 +1,19 @@
 -- The numbers of an image's inodes and zones.
-use Rattle.std.proofs.Common.{◌≡◌, ◌≢◌, ◌⊎◌, ◌<◌, ◌≤◌, ◌+◌, ◌-◌, ◌*◌, ◌/◌, ℕ, zero, suc, Bool, true, false, refl, sym, ap, ◌∙◌, cond, arith}
+use Rattle.std.proofs.Common.{◌≡◌, ◌≢◌, ◌<◌, ◌≤◌, ◌+◌, ◌-◌, ◌*◌, ℕ, zero, suc, true, false, refl, sym, ap, ◌∙◌, cond, arith}
 use mathlib.Core.Logic.{inl, inr}
 use Rattle.std.specs.Prelude.{◌==◌, nat_lt, nat_le}
-use Rattle.std.proofs.lemmas.Bool.{cases_eq, cases_lt, cases_Bool, cond-true, cond-false, and_parts, and_left, and_right, leb-true, lt-leb, lt-ltb, le-ltb, eq-eqb, ne_eqb}
+use Rattle.std.proofs.lemmas.Bool.{cases_eq, cases_lt, cases_Bool, cond-true, cond-false, and_parts, and_left, and_right, leb-true, lt-leb}
+use Rattle.std.proofs.lemmas.Bool.{lt-ltb, eq-eqb, ne_eqb}
 use Rattle.layout.specs.declared.Geometry.{Geometry}
 use Rattle.layout.specs.Places.{IsGeometry}
 use Rattle.tree.specs.Space.{numbers_in_zone}
+use Rattle.volume.specs.declared.Inode.{Inode}
 use Rattle.volume.specs.Reading.{is_inode, is_data_zone}
 use Rattle.volume.specs.Pieces.{Pieces}
-use Rattle.volume.specs.Nodes.{word, number, slot, is_marked}
+use Rattle.volume.specs.Nodes.{word, number, slot, page_zone, file_byte, is_marked}
 use Rattle.volume.specs.Places.{zone_at}
-use Rattle.volume.proofs.Naming.{Naming, room, front, spot}
-use Rattle.volume.proofs.Spots.{under, beside, Inner, Outer, seen_top, seen_next, spot_word}
+use Rattle.volume.proofs.Naming.{Naming, room}
+use Rattle.volume.proofs.Spots.{spot_word}
 use Rattle.volume.proofs.Bridge.{naming, zone_spot}
 use Rattle.image.specs.declared.Image.{Image}
 use Rattle.image.specs.Contents.{contents}
@@ -103,6 +105,11 @@ module _ (i : Image) where
     | inl is ↦ number_is z j (zone_some z is)
     | inr out ↦ sym (places.no_word i.bytes.now g i.parsed z j out) ∙ sym (places.blank_word i.bytes.now g i.parsed z j out)
   ]
+
+  -- byte 0 of a file is 0 where no data zone lies
+  pub blank_first : (x : Inode) → 0 < x.size → is_data_zone g (page_zone g v x 0) ≡ false → file_byte g v x 0 ≡ 0
+  unfolding contents
+  blank_first x some out = places.first_blank i.bytes.now g i.parsed x some out
 
   -- a page has no numbers
   pub numbers_low : (level j : ℕ) → j < numbers_at i level → (0 < level) × (j < numbers_in_zone g)

@@ -279,6 +279,50 @@ module _ (image : List ℕ) (g : Geometry) (parsed : geometry_of image ≡ Ok g)
         | inr d ↦ cond-false (z == 0) 0 (v.zones z o) (ne_eqb z 0 d) ∙ no_byte z o out
       ])
 
+  -- a byte of page 0, and its place there
+  first_spot : (k : ℕ) → k < 1024 → (k / g.block_size ≡ 0) × (k % g.block_size ≡ k)
+  first_spot k h =
+      let P : ℕ → Type 0 = λ m. (k / m ≡ 0) × (k % m ≡ k) in
+      let small : P 1024 = (omega arith, omega arith) in
+      let middle : P 2048 = (omega arith, omega arith) in
+      let large : P 4096 = (omega arith, omega arith) in
+      elim sizes [
+        | inl s ↦ subst P (sym s) small
+        | inr (inl s) ↦ subst P (sym s) middle
+        | inr (inr s) ↦ subst P (sym s) large
+      ]
+
+  -- the first bytes of a data zone lie in the image
+  pub first_inside : (z n : ℕ) → n ≤ 1024 → is_data_zone g z ≡ true → z * g.block_size + n ≤ length image
+  first_inside z n few is =
+      let large : 1024 ≤ g.block_size = elim sizes [ inl e ↦ omega arith | inr (inl e) ↦ omega arith | inr (inr e) ↦ omega arith ] in
+      let last = inside z 1023 (data_some z is).1 (omega arith) in
+      omega arith
+
+  -- a byte of a small file is read in the zone of page 0
+  pub first_read : (i : Inode) (k : ℕ) → k < i.size → k < 1024 → is_data_zone g (page_zone g v i 0) ≡ true
+      → slice_index image (page_zone g v i 0 * g.block_size + k) ≡ file_byte g v i k
+  first_read i k below few is =
+      let z = page_zone g v i 0 in
+      let spot = first_spot k few in
+      let large : 1024 ≤ g.block_size = elim sizes [ inl e ↦ omega arith | inr (inl e) ↦ omega arith | inr (inr e) ↦ omega arith ] in
+      sym (cond-true (nat_lt k i.size) _ 0 (lt-ltb k i.size below)
+      ∙ (λ j. page_byte v (page_zone g v i (spot.0 j)) (spot.1 j))
+      ∙ cond-false (z == 0) 0 (v.zones z k) (ne_eqb z 0 (data_some z is).0)
+      ∙ zone_byte z k is (omega arith))
+
+  -- and is 0 where no data zone lies
+  pub first_blank : (i : Inode) → 0 < i.size → is_data_zone g (page_zone g v i 0) ≡ false → file_byte g v i 0 ≡ 0
+  first_blank i some out =
+      let z = page_zone g v i 0 in
+      let spot = first_spot 0 (omega arith) in
+      cond-true (nat_lt 0 i.size) _ 0 (lt-ltb 0 i.size some)
+      ∙ (λ j. page_byte v (page_zone g v i (spot.0 j)) (spot.1 j))
+      ∙ elim (cases_eq z 0) [
+        | inl e ↦ cond-true (z == 0) 0 (v.zones z 0) (eq-eqb z 0 e)
+        | inr d ↦ cond-false (z == 0) 0 (v.zones z 0) (ne_eqb z 0 d) ∙ no_byte z 0 out
+      ]
+
   -- the byte of a bit of a map lies in the image
   map_inside : (start blocks k : ℕ) → start + blocks ≤ g.zones → k < 8 * g.block_size * blocks → start * g.block_size + k / 8 < length image
   map_inside start blocks k low h =

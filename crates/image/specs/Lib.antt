@@ -6,3 +6,4 @@ pub mod Least
 pub mod Entered
 pub mod Counts
 pub mod Spare
+pub mod Targets

@@ -11,7 +11,8 @@ mod least;
 mod spare;
 mod uses;
 
-ghost use Rattle.std.specs.Prelude.{◌≡◌, ◌≤◌, ◌<◌, ◌+◌, ◌-◌, ◌*◌, ◌/◌, ◌%◌, ℕ, Ok, Err, MatchResult, length, slice_index, true};
+ghost use Rattle.std.specs.Prelude.{◌≡◌, ◌≤◌, ◌<◌, ◌+◌, ◌-◌, ◌*◌, ◌/◌, ◌%◌, ℕ, Ok, Err, MatchOption, MatchResult, false, length};
+ghost use Rattle.std.specs.Prelude.{slice_index, true};
 ghost use Rattle.layout.specs.Places.{geometry_of};
 
 pub use enter::bad_number;
@@ -38,8 +39,9 @@ impl<'a> Image<'a> {
     ghost use Rattle.tree.specs.Space.{numbers_in_zone, pages_of};
     ghost use Rattle.volume.specs.Reading.{bit_in, is_data_zone, is_inode};
     ghost use Rattle.volume.specs.Nodes.{entry_count_of, file_byte, is_marked, last_block, number, page_zone, second_block};
-    ghost use Rattle.volume.specs.Entries.{is_directory_inode};
+    ghost use Rattle.volume.specs.Entries.{is_directory_inode, is_link_inode};
     ghost use Rattle.image.specs.Contents.{contents};
+    ghost use Rattle.image.specs.Targets.{IsTarget};
 
     /// The volume that the bytes begin with, or why its superblock is refused.
     pub fn parse(bytes: &'a [u8]) -> Result<Image<'a>, LayoutRefusal>
@@ -163,6 +165,13 @@ impl<'a> Image<'a> {
         self.is_marked(n) && is_directory_mode(self.mode(n))
     }
 
+    /// Whether inode n is marked and a symbolic link.
+    pub fn is_link(&self, n: u32) -> bool
+        ensures { result ≡ is_link_inode self.now.geometry (contents self.now) n }
+    {
+        self.is_marked(n) && is_link_mode(self.mode(n))
+    }
+
     /// Number j of a zone; in what is no data zone stands none.
     pub fn number(&self, zone: u32, j: usize) -> u32
         requires { j < numbers_in_zone self.now.geometry }
@@ -268,13 +277,34 @@ impl<'a> Image<'a> {
         let at = zone as usize * self.geometry.block_size as usize + offset;
         &self.bytes[at..at + 64]
     }
+
+    /// The bytes of a symbolic link's target, which page 0 has room for; none where no data zone lies there.
+    pub fn target(&self, inode: &Inode) -> Option<&'a [u8]>
+        requires { inode.now.size ≤ 1024 }
+        ensures { MatchOption result (is_data_zone self.now.geometry (page_zone self.now.geometry (contents self.now) inode.now 0) ≡ false)
+            (λ bytes. IsTarget self.now inode.now bytes.now) }
+    {
+        let zone = self.page_zone(inode, 0);
+        if !self.is_data_zone(zone) {
+            return None;
+        }
+        let at = zone as usize * self.geometry.block_size as usize;
+        Some(&self.bytes[at..at + inode.size as usize])
+    }
 }
 
-ghost use Rattle.volume.specs.Nodes.{is_directory_mode};
+ghost use Rattle.volume.specs.Nodes.{is_directory_mode, is_link_mode};
 
 /// Whether a mode's type is that of directories.
 pub fn is_directory_mode(mode: u16) -> bool
     ensures { result ≡ is_directory_mode mode }
 {
     mode / 4096 == 4
+}
+
+/// Whether a mode's type is that of symbolic links.
+fn is_link_mode(mode: u16) -> bool
+    ensures { result ≡ is_link_mode mode }
+{
+    mode / 4096 == 10
 }

@@ -11,7 +11,8 @@ use Rattle.layout.proofs.Parsed.{block_sizes, geometry_fits}
 use Rattle.errno.specs.declared.Errno.TheVariants.{EINVAL, ENOENT}
 use Rattle.tree.specs.declared.Who.{Who}
 use Rattle.tree.specs.declared.Call.TheVariants.{Stat}
-use Rattle.tree.specs.Tree.{Body, is_file, is_directory, Node, Tree, file_type, directory_type, mode_of, size_of, is_dir, most_sessions}
+use Rattle.tree.specs.Tree.{Body, is_file, is_directory, Node, Tree, file_type, link_type, bytes_type, directory_type, mode_of, size_of}
+use Rattle.tree.specs.Tree.{is_dir, most_sessions}
 use Rattle.tree.specs.Refusals.{◌>>=◌, or_refuse, refuse_if}
 use Rattle.tree.specs.Answers.{Answer, Effect, refused, node_is}
 use Rattle.tree.specs.NodeCalls.{stat, attributes_of}
@@ -20,7 +21,7 @@ use Rattle.tree.proofs.Leaves.{looks_leave}
 use Rattle.volume.specs.declared.Inode.{Inode}
 use Rattle.volume.specs.Reading.{Disk, u16_in, u32_in, inode_in, blocks_of, is_inode, inode_block, inode_offset, inode_of_disk}
 use Rattle.volume.specs.Pieces.{Pieces, pieces, blank}
-use Rattle.volume.specs.Nodes.{type_in, permissions_in, is_directory_mode, is_marked, body_of, file_of, node_of, directory_of}
+use Rattle.volume.specs.Nodes.{type_in, permissions_in, is_directory_mode, is_link_mode, is_marked, body_of, file_of, node_of, directory_of}
 use Rattle.volume.specs.Holds.{IsSound, HoldsVolume}
 use Rattle.volume.proofs.NodesAs.{names_differ, node_is as node_from, length_node}
 use Rattle.inode.specs.Bytes.{attributes_in}
@@ -66,10 +67,13 @@ module _ (g : Geometry) (v : Pieces) (sound : IsSound g v) (n : ℕ) (marked : i
 
   -- the mode of a body with the inode's permissions
   mode_with : Body → ℕ
-  mode_with body = elim body [ is_file f ↦ file_type + permissions_in i.mode | is_directory d ↦ directory_type + permissions_in i.mode ]
+  mode_with body = elim body [
+    | is_file f ↦ bytes_type (is_link_mode i.mode) + permissions_in i.mode
+    | is_directory d ↦ directory_type + permissions_in i.mode
+  ]
 
   -- its mode is a known type
-  known : (type_in i.mode == 4) || (type_in i.mode == 8) ≡ true
+  known : (type_in i.mode == 4) || (type_in i.mode == 8) || (type_in i.mode == 10) ≡ true
   known = (and_parts _ _ (sound.inodes n marked).mode).0
 
   -- with permissions and nothing else
@@ -84,12 +88,30 @@ module _ (g : Geometry) (v : Pieces) (sound : IsSound g v) (n : ℕ) (marked : i
   of_file : is_directory_mode i.mode ≡ false → body_of g v i ≡ is_file (file_of g v i)
   of_file out = cond-false (is_directory_mode i.mode) _ _ out
 
-  -- what is no directory is a file
-  file_mode : is_directory_mode i.mode ≡ false → type_in i.mode ≡ 8
-  file_mode out = elim (or_cases (type_in i.mode == 4) (type_in i.mode == 8) known) [
-    | inl is ↦ absurd (false_not_true (sym out ∙ is))
-    | inr is ↦ eqb-true (type_in i.mode) 8 is
+  -- what is no directory is a file or a link
+  file_mode : is_directory_mode i.mode ≡ false → is_link_mode i.mode ≡ false → type_in i.mode ≡ 8
+  file_mode out no_link = elim (or_cases ((type_in i.mode == 4) || (type_in i.mode == 8)) (type_in i.mode == 10) known) [
+    | inl is ↦ elim (or_cases (type_in i.mode == 4) (type_in i.mode == 8) is) [
+      | inl is ↦ absurd (false_not_true (sym out ∙ is))
+      | inr is ↦ eqb-true (type_in i.mode) 8 is
+    ]
+    | inr is ↦ absurd (false_not_true (sym no_link ∙ is))
   ]
+
+  -- so the type of what is no directory is the mode's
+  bytes_mode : is_directory_mode i.mode ≡ false → bytes_type (is_link_mode i.mode) + permissions_in i.mode ≡ i.mode
+  bytes_mode out =
+      let rest = bare in
+      elim (cases_Bool (is_link_mode i.mode)) [
+        | inl link ↦
+            let type = eqb-true (type_in i.mode) 10 link in
+            let is = cond-true (is_link_mode i.mode) link_type file_type link in
+            omega arith
+        | inr no_link ↦
+            let type = file_mode out no_link in
+            let is = cond-false (is_link_mode i.mode) link_type file_type no_link in
+            omega arith
+      ]
 
   -- the mode of its node is its own
   same_mode : mode_of (node_of g v i) ≡ i.mode
@@ -101,10 +123,7 @@ module _ (g : Geometry) (v : Pieces) (sound : IsSound g v) (n : ℕ) (marked : i
         let sum : directory_type + permissions_in i.mode ≡ i.mode = omega arith in
         ap mode_with (of_directory is) ∙ sum
     | inr out ↦
-        let type = file_mode out in
-        let rest = bare in
-        let sum : file_type + permissions_in i.mode ≡ i.mode = omega arith in
-        ap mode_with (of_file out) ∙ sum
+        ap mode_with (of_file out) ∙ bytes_mode out
   ]
 
   -- a directory has as many names as its size says

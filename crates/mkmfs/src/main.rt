@@ -3,7 +3,7 @@
 
 use host::command_line::{line_of, status_for};
 use host::volume_words::mkmfs::{Words, read};
-use host::whole_file::replace;
+use host::whole_file::replace_filled;
 use std::io;
 use std::process::ExitCode;
 use volume_tools::make::{Wanted, finish, make};
@@ -21,7 +21,8 @@ fn make_file(rt: HostRuntime, words: &Words<'_>) -> io::Result<ExitCode> {
     let made = make(alloc, &wanted, &mut out, &mut err);
     let status = match made.image {
         Some(image) => {
-            let written = replace(&rt, words.image, &image).is_ok();
+            let length = image.length();
+            let written = replace_filled(&rt, words.image, &image.front, length).is_ok();
             finish(alloc, words.image, written, &mut err)
         }
         None => made.status,

@@ -10,7 +10,7 @@ use Rattle.layout.proofs.Written.{reads_back}
 use Rattle.tree.specs.Space.{data_zones}
 use Rattle.volume.specs.Fresh.{fresh_inode, fresh_entries}
 use Rattle.inode.specs.Bytes.{bytes_of}
-use Rattle.new_volume.specs.Image.{map_byte, map_bytes, filled, new_image}
+use Rattle.new_volume.specs.Image.{map_byte, map_bytes, filled, filled_image, new_image, new_tables}
 use Rattle.new_volume.proofs.Widths.{large, some_block, one_block, parts}
 
 -- zeros after bytes say no more than there is past their end
@@ -162,6 +162,22 @@ module _ (g : Geometry) (now : ℕ) (ok : IsGeometry g) where
         length-append zone_map (table ++ data_part),
         length-append table data_part,
       )
+
+  -- without the zeros at its end
+  pub front_filled : filled_image g (new_tables g now ++ fresh_entries) ≡ new_image g now
+  front_filled =
+      let tables = new_tables g now in
+      let n = data_zones g * B - length fresh_entries in
+      let whole : length (new_image g now) ≡ g.zones * B = ap length image_is ∙ image_length in
+      let left : g.zones * B - length (tables ++ fresh_entries) ≡ n = omega (
+        arith,
+        whole,
+        data_length,
+        length-append tables data_part,
+        length-append tables fresh_entries,
+        length-append fresh_entries (replicate n 0),
+      ) in
+      ap (λ k. (tables ++ fresh_entries) ++ replicate k 0) left ∙ append_assoc tables fresh_entries (replicate n 0)
 
   -- and is read as its sizes
   pub image_parsed : geometry_of image ≡ Ok g

@@ -26,12 +26,18 @@ map_bytes last size = map (map_byte last) (range_with_len 0 size)
 abbrev pub filled : List ℕ → ℕ → List ℕ
 filled bytes size = bytes ++ replicate (size - length bytes) 0
 
--- Two blocks with the superblock, the maps, the inode table with the root's inode first, and the data zones with the root's
--- directory first; all else is zero.
-abbrev pub new_image : Geometry → ℕ → List ℕ
-new_image g now =
+-- an image by its sizes and its first bytes: all others are zero
+abbrev pub filled_image : Geometry → List ℕ → List ℕ
+filled_image g front = filled front (g.zones * g.block_size)
+
+-- two blocks with the superblock, the maps, and the inode table with the root's inode first; all else is zero
+abbrev pub new_tables : Geometry → ℕ → List ℕ
+new_tables g now =
     with_superblock g (replicate (2 * g.block_size) 0)
     ++ map_bytes g.inodes (g.inode_map_blocks * g.block_size)
     ++ map_bytes (data_zones g) (g.zone_map_blocks * g.block_size)
     ++ filled (bytes_of (fresh_inode g now)) (table_blocks g * g.block_size)
-    ++ filled fresh_entries (data_zones g * g.block_size)
+
+-- These, and the data zones with the root's directory first; all else is zero.
+abbrev pub new_image : Geometry → ℕ → List ℕ
+new_image g now = new_tables g now ++ filled fresh_entries (data_zones g * g.block_size)

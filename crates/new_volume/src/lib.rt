@@ -1,12 +1,12 @@
 //! Makes the image of a new volume: a root alone.
 #![tactic(auto)]
 
-ghost use Rattle.std.specs.Prelude.{◌≡◌, ◌≤◌, ◌<◌, ◌+◌, ◌-◌, ◌*◌, ◌++◌, ◌^◌, IfOk, IfErr, OnOk, length};
+ghost use Rattle.std.specs.Prelude.{◌≡◌, ◌≤◌, ◌<◌, ◌+◌, ◌-◌, ◌*◌, ◌++◌, ◌^◌, Ok, IfOk, IfErr, OnOk, length};
 ghost use Rattle.layout.specs.Places.{IsGeometry, table_blocks};
 ghost use Rattle.tree.specs.Space.{data_zones};
 ghost use Rattle.volume.specs.Fresh.{fresh_inode};
 ghost use Rattle.new_volume.specs.Sizes.{blocks_for, new_geometry, refusal_name, refusal_number, sizes_of};
-ghost use Rattle.new_volume.specs.Image.{filled, is_set, map_byte, map_bytes, new_image};
+ghost use Rattle.new_volume.specs.Image.{filled, filled_image, is_set, map_byte, map_bytes, new_image, new_tables};
 ghost use Rattle.new_volume.specs.Made.{IsNewVolume, IsRefused};
 
 use inode::encode;
@@ -165,14 +165,74 @@ fn bytes_in(volume: &Geometry, blocks: u32) -> u32
     blocks * volume.block_size
 }
 
+/// A new volume's image without the zeros at its end.
+#[derive(Drop)]
+pub struct NewVolume {
+    /// Its sizes: the image has all its blocks.
+    pub volume: Geometry,
+    /// The image's first bytes. All others are zero.
+    pub front: Vec<u8>,
+}
+
+impl NewVolume {
+    /// How many bytes the image has.
+    pub fn length(&self) -> u64
+        ensures { result ≡ self.now.volume.zones * self.now.volume.block_size }
+    {
+        u64::from(self.volume.zones) * u64::from(self.volume.block_size)
+    }
+}
+
+/// The image that `mkfs` makes, without the zeros behind the root's directory: little memory is taken where the volume is large.
+///
+/// Refused as `mkfs` is.
+pub fn mkfs_front(
+    alloc: Global,
+    blocks: u32,
+    block_size: u32,
+    inodes: u32,
+    now: u32,
+) -> Result<NewVolume, MkfsRefusal>
+    ensures made { IfOk result (λ new. IsNewVolume blocks block_size inodes now (filled_image new.volume new.front.items)) }
+    ensures sizes { IfOk result (λ new. sizes_of blocks block_size inodes ≡ Ok new.volume) }
+    ensures geometry { IfOk result (λ new. IsGeometry new.volume) }
+    ensures refused { IfErr result (IsRefused blocks block_size inodes) }
+{
+    let geometry = sizes(blocks, block_size, inodes)?;
+    let room = bytes_in(&geometry, geometry.first_zone) as usize + ENTRIES.len();
+    let mut front = new_tables(alloc, &geometry, now, room)?;
+    front.extend_from_slice(&ENTRIES)?;
+    Ok(NewVolume {
+        volume: geometry,
+        front,
+    })
+}
+
 /// The image of a new volume of these sizes, each byte of which is written once.
 fn new_image(alloc: Global, volume: &Geometry, now: u32) -> Result<Vec<u8>, AllocError>
     requires { IsGeometry volume.now }
     ensures { IfOk result (λ image. image.items ≡ new_image volume.now now) }
 {
     let zones = volume.zones - volume.first_zone;
+    let room = bytes_in(volume, volume.zones) as usize;
+    let mut image = new_tables(alloc, volume, now, room)?;
+    push_filled(&mut image, &ENTRIES, bytes_in(volume, zones))?;
+    Ok(image)
+}
+
+/// The blocks of that image before the data zones, with room for so many bytes.
+fn new_tables(
+    alloc: Global,
+    volume: &Geometry,
+    now: u32,
+    room: usize,
+) -> Result<Vec<u8>, AllocError>
+    requires { IsGeometry volume.now }
+    ensures { IfOk result (λ image. image.items ≡ new_tables volume.now now) }
+{
+    let zones = volume.zones - volume.first_zone;
     let table = blocks_for(64 * volume.inodes, volume.block_size);
-    let mut image = Vec::with_capacity(alloc, bytes_in(volume, volume.zones) as usize)?;
+    let mut image = Vec::with_capacity(alloc, room)?;
     image.resize(bytes_in(volume, 2) as usize, 0)?;
     volume.write(&mut image);
     push_map(
@@ -186,7 +246,6 @@ fn new_image(alloc: Global, volume: &Geometry, now: u32) -> Result<Vec<u8>, Allo
         &encode(&root(volume, now)),
         bytes_in(volume, table),
     )?;
-    push_filled(&mut image, &ENTRIES, bytes_in(volume, zones))?;
     Ok(image)
 }
 

@@ -1,16 +1,14 @@
 -- What a move asks of the tree before its first step.
-use Rattle.std.proofs.Common.{◌≡◌, ◌≢◌, ℕ, refl, sym, ap, ◌∙◌, Some}
+use Rattle.std.proofs.Common.{◌≡◌, ◌≢◌, ℕ, ap, ◌∙◌, Some}
 use Rattle.layout.specs.declared.Geometry.{Geometry}
 use Rattle.layout.specs.Places.{IsGeometry}
 use Rattle.tree.specs.Names.{Names, with_name, without_name}
 use Rattle.tree.specs.Tree.{Node, Tree, on_node}
 use Rattle.tree.specs.Changes.{fewer_links, more_links, with_names}
 use Rattle.tree.proofs.Maps.{put-other}
-use Rattle.node_steps.specs.declared.moves.Move.{Move}
 use Rattle.node_steps.specs.Moves.{IsParent}
-use Rattle.node_steps.specs.Replaced.{IsFresh}
-use Rattle.node_steps.specs.Whole.{MayMoveTo, into, links_of, out_of}
-use Rattle.node_steps.specs.Asking.{AsksMoveTo, MoveToMayBeMade}
+use Rattle.node_steps.specs.Whole.{links_of, out_of}
+use Rattle.node_steps.specs.Asking.{MoveToMayBeMade}
 use Rattle.node_steps.proofs.Leading.{changed_at}
 use Rattle.node_steps.proofs.Parents.{fresh_after}
 

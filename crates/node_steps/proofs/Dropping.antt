@@ -1,6 +1,5 @@
 -- What was replaced goes.
-use Rattle.std.proofs.Common.{◌≡◌, ◌≢◌, ℕ, Bool, true, false, refl, sym, ap, subst, ◌∙◌, Some, None}
-use Rattle.std.specs.Prelude.{Option}
+use Rattle.std.proofs.Common.{◌≡◌, ℕ, Bool, true, false, refl, sym, ap, subst, ◌∙◌, Some, None}
 use Rattle.layout.specs.declared.Geometry.{Geometry}
 use Rattle.layout.specs.Places.{IsGeometry}
 use Rattle.tree.specs.Tree.{Node, Tree, on_node, with_node}
@@ -8,7 +7,7 @@ use Rattle.tree.specs.Changes.{fewer_links, with_link_lost, without_nameless}
 use Rattle.tree.proofs.Maps.{put-other}
 use Rattle.volume.specs.Reading.{Disk}
 use Rattle.volume.specs.Pieces.{pieces}
-use Rattle.descriptors.specs.Files.{Files, HasFiles}
+use Rattle.descriptors.specs.Files.{Files}
 use Rattle.node_steps.specs.Steps.{BecomesAt, DropsLink, FreesNode, IsOfNode, LosesName, left_of}
 use Rattle.node_steps.specs.Stands.{Stands}
 use Rattle.node_steps.proofs.Between.{node_stands, step_is_done}

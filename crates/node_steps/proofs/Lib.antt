@@ -7,7 +7,9 @@ pub mod Entering
 pub mod CallLawsEnding
 pub mod Marking
 pub mod Lowest
+pub mod FirstPages
 pub mod NewRows
+pub mod NewLinks
 pub mod Leading
 pub mod Parents
 pub mod Putting

@@ -15,7 +15,8 @@ use Rattle.tree.proofs.Maps.{not_nothing, put-same, put-other}
 use Rattle.volume.specs.declared.Inode.{Inode}
 use Rattle.volume.specs.Reading.{Disk, is_inode}
 use Rattle.volume.specs.Pieces.{Pieces, pieces}
-use Rattle.volume.specs.Nodes.{is_directory_mode, is_marked, is_mode, node_of, nodes_of, page_byte, page_zone, permissions_in, slot, type_in}
+use Rattle.volume.specs.Nodes.{is_directory_mode, is_link_mode, is_marked, is_mode, node_of, nodes_of, page_byte, page_zone, permissions_in}
+use Rattle.volume.specs.Nodes.{slot, type_in}
 use Rattle.volume.specs.Places.{zone_at}
 use Rattle.volume.specs.Holds.{IsSound}
 use Rattle.store.specs.Volume.{Alters}
@@ -44,7 +45,13 @@ module _ (permissions : ℕ) (few : permissions ≤ 511) where
   file_mode =
       let t : type_in (file_type + permissions) ≡ 8 = omega (arith, few) in
       let low : (file_type + permissions) % 8 ^ 4 < 8 ^ 3 = omega (arith, few) in
-      and_from _ _ (ap (λ x. (x == 4) || (x == 8)) t) (lt-ltb _ _ low)
+      and_from _ _ (ap (λ x. (x == 4) || (x == 8) || (x == 10)) t) (lt-ltb _ _ low)
+
+  pub file_no_link : is_link_mode (file_type + permissions) ≡ false
+  file_no_link = let t : type_in (file_type + permissions) ≡ 8 = omega (arith, few) in ap (λ x. x == 10) t
+
+  pub directory_no_link : is_link_mode (directory_type + permissions) ≡ false
+  directory_no_link = let t : type_in (directory_type + permissions) ≡ 4 = omega (arith, few) in ap (λ x. x == 10) t
 
   pub directory_permissions : permissions_in (directory_type + permissions) ≡ permissions
   directory_permissions = omega (arith, few)
@@ -56,7 +63,7 @@ module _ (permissions : ℕ) (few : permissions ≤ 511) where
   directory_mode =
       let t : type_in (directory_type + permissions) ≡ 4 = omega (arith, few) in
       let low : (directory_type + permissions) % 8 ^ 4 < 8 ^ 3 = omega (arith, few) in
-      and_from _ _ (ap (λ x. (x == 4) || (x == 8)) t) (lt-ltb _ _ low)
+      and_from _ _ (ap (λ x. (x == 4) || (x == 8) || (x == 10)) t) (lt-ltb _ _ low)
 
 module _ (g : Geometry) (v : Pieces) (n : ℕ) (i : Inode) (ok : IsGeometry g) (may : MayMakeFile g v n)
     (size : i.size ≡ 0) (zones : i.zones ≡ replicate 10 0) (mode : IsTrue (is_mode i.mode)) where
@@ -132,6 +139,7 @@ file_made g v n now permissions user ok few may =
       nodes = its_nodes g v n i ok may refl refl mode ∙ ap (λ (x : Node). put (nodes_of g v) n (Some x))
           (λ t. record {
             permissions = file_permissions permissions few t;
+            symbolic = file_no_link permissions few t;
             uid = user.uid;
             gid = user.gid;
             links = 1;

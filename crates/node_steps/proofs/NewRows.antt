@@ -1,29 +1,25 @@
 -- The first page of a directory is written: it is in order, and has no names.
 use Rattle.std.proofs.Common.{◌≡◌, ◌≢◌, ◌<◌, ◌≤◌, ◌+◌, ◌*◌, ◌-◌, ◌/◌, ℕ, true, false, List, length, refl, sym, ap, subst, ◌∙◌, arith}
 use mathlib.Core.Logic.{inl, inr}
-use Rattle.std.specs.Prelude.{◌&&◌, ◌==◌, nat_le, nat_lt, IsTrue, Some, slice_index, []}
+use Rattle.std.specs.Prelude.{◌&&◌, nat_le, nat_lt, IsTrue, Some, slice_index, []}
 use Rattle.std.proofs.lemmas.Bool.{and_from, cases_eq, cases_lt, cond-false, cond-true, le-leb, le-ltb, lt-ltb}
 use Rattle.lemmas.proofs.Numbers.{not_zero}
 use Rattle.layout.specs.declared.Geometry.{Geometry}
 use Rattle.layout.specs.Places.{IsGeometry, is_block_size}
 use Rattle.tree.specs.declared.User.{User}
 use Rattle.tree.specs.Names.{dot, dot_dot}
-use Rattle.tree.specs.Sums.{one_if, put}
+use Rattle.tree.specs.Sums.{put}
 use Rattle.tree.specs.Tree.{File, directory_type}
 use Rattle.tree.specs.Changes.{empty_directory, file_after_write, new_node}
-use Rattle.tree.specs.Space.{numbers_in_zone, pages_of}
-use Rattle.tree.specs.ZonesNeeded.{zones_needed}
-use Rattle.tree.proofs.Maps.{is_put, put-same, put-other}
+use Rattle.tree.specs.Space.{pages_of}
+use Rattle.tree.proofs.Maps.{put-same, put-other}
 use Rattle.volume.specs.declared.Inode.{Inode}
 use Rattle.volume.specs.Pieces.{Pieces, pieces}
 use Rattle.volume.specs.Reading.{Disk}
-use Rattle.volume.specs.Nodes.{is_directory_mode, nodes_of, page_zone}
+use Rattle.volume.specs.Nodes.{is_directory_mode, nodes_of}
 use Rattle.store.specs.Volume.{Alters}
-use Rattle.zone.specs.ZoneSteps.{marked_in, node_from}
-use Rattle.zone.specs.Missing.{missing}
+use Rattle.zone.specs.ZoneSteps.{node_from}
 use Rattle.zone.proofs.Keeps.{sound_but_is_sound}
-use Rattle.zone.proofs.Missing.{page_takes_missing}
-use Rattle.zone.proofs.Room.{nodes_take_marked}
 use Rattle.directory.specs.Rows.{IsEntry}
 use Rattle.directory.specs.Directories.{IsDirectoryOf, IsWhole, row_of}
 use Rattle.directory.proofs.Directories.{new_directory}
@@ -35,11 +31,9 @@ use Rattle.directory.proofs.Becoming.{body_is}
 use Rattle.directory.proofs.EntryBytes.{past}
 use Rattle.node_steps.specs.Steps.{BecomesAt}
 use Rattle.node_steps.specs.NewNodes.{MayMakeDirectory, MakesDirectory, new_inode, with_new_inode}
-use Rattle.node_steps.proofs.Marking.{directory_kind, directory_mode, directory_permissions, its_file, its_nodes, marked, may_change, no_places, nothing, rules, some}
-
--- what was put last is there
-pub put_twice : {X : Type 0} (f : ℕ → X) (n : ℕ) (x y : X) → put (put f n x) n y ≡ put f n y
-put_twice f n x y = is_put f (put (put f n x) n y) n y (put-same (put f n x) n y) (λ m d. put-other (put f n x) n y m d ∙ put-other f n x m d)
+use Rattle.node_steps.proofs.Marking.{directory_kind, directory_mode, directory_permissions, directory_no_link, its_file, its_nodes, may_change, nothing, some}
+use Rattle.node_steps.proofs.FirstPages.{has_first_page}
+use Rattle.node_steps.proofs.Nodes.{put_twice}
 
 -- 128 bytes are one page
 first_page : (q b : ℕ) → IsTrue (is_block_size b) → q < (128 + b - 1) / b → q ≡ 0
@@ -97,30 +91,10 @@ module _ (g : Geometry) (v : Pieces) (n parent now permissions : ℕ) (user : Us
   written : written_at g w n 0 bytes ≡ begun g bytes
   written = ap (λ (f : File). file_after_write g f 0 bytes) empty
 
-  -- one zone is enough
-  takes_one : zones_needed (numbers_in_zone g) (begun g bytes).held ≡ zones_needed (numbers_in_zone g) nothing.held + 1
-  unfolding missing
-  takes_one =
-      let is = marked g v n i ok may.make refl refl (directory_mode permissions few) in
-      let keeps = rules g v n i ok may.make refl refl (directory_mode permissions few) in
-      let more : zones_needed (numbers_in_zone g) (put (file_at g w n).held 0 true) ≡ zones_needed (numbers_in_zone g) (file_at g w n).held + missing g w n 4 0 0 =
-      page_takes_missing g w n 0 0 ok keeps is (omega arith) in
-      let hole : page_zone g w (w.inodes n) 0 ≡ 0 = no_places g v n i ok may.make refl refl (directory_mode permissions few) 0 0 in
-      let one : missing g w n 4 0 0 ≡ 1 = ap (λ z. one_if (z == 0) + 0) hole in
-      let a : zones_needed (numbers_in_zone g) (begun g bytes).held ≡ zones_needed (numbers_in_zone g) (put (file_at g w n).held 0 true) =
-      ap (zones_needed (numbers_in_zone g)) ((λ t q. held_is g ok bytes first.many q t) ∙ ap (λ (f : File). put f.held 0 true) (sym empty)) in
-      let b : zones_needed (numbers_in_zone g) (file_at g w n).held ≡ zones_needed (numbers_in_zone g) nothing.held = ap (λ (f : File). zones_needed (numbers_in_zone g) f.held) empty in
-      omega (arith, more, one, a, b)
-
   room : HasZonesFor g w n (written_at g w n 0 bytes).held
-  room =
-      let all = nodes_take_marked g v ok may.make.sound in
-      let free = may.room in
-      let same : marked_in g w ≡ marked_in g v = refl in
-      let a : zones_needed (numbers_in_zone g) (written_at g w n 0 bytes).held ≡ zones_needed (numbers_in_zone g) (begun g bytes).held = ap (λ (f : File). zones_needed (numbers_in_zone g) f.held) written in
-      let b : zones_needed (numbers_in_zone g) (file_at g w n).held ≡ zones_needed (numbers_in_zone g) nothing.held = ap (λ (f : File). zones_needed (numbers_in_zone g) f.held) empty in
-      let c = takes_one in
-      omega (arith, all, free, same, a, b, c)
+  room = subst (λ (f : File). HasZonesFor g w n f.held) (sym written)
+      (has_first_page g v n i ok may.make refl refl (directory_mode permissions few) (begun g bytes).held (held_is g ok bytes first.many)
+      may.room)
 
   pub may_write : MayWriteAt g w n 0 bytes
   may_write = record { change = may_change g v n i ok may.make refl refl (directory_mode permissions few); room = room }
@@ -154,6 +128,7 @@ module _ (g : Geometry) (v : Pieces) (n parent now permissions : ℕ) (user : Us
     node_is : node_from (w.inodes n) (written_at g w n 0 bytes) ≡ new_node now user permissions 2 (empty_directory parent)
     node_is = (λ t. node_from (its t) (written_at g w n 0 bytes)) ∙ (λ t. record {
       permissions = directory_permissions permissions few t;
+      symbolic = directory_no_link permissions few t;
       uid = user.uid;
       gid = user.gid;
       links = 2;

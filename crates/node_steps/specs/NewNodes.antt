@@ -1,12 +1,12 @@
 -- A free inode of a volume becomes a node.
-use Rattle.std.specs.Prelude.{◌≡◌, ◌≢◌, ◌<◌, ℕ, ◌+◌, replicate, true, Option, None, Some, IsTrue}
+use Rattle.std.specs.Prelude.{◌≡◌, ◌≢◌, ◌<◌, ℕ, ◌+◌, List, replicate, true, Option, None, Some, IsTrue}
 use Rattle.errno.specs.declared.Errno.TheVariants.{ENOSPC}
 use Rattle.layout.specs.declared.Geometry.{Geometry}
 use Rattle.tree.specs.declared.User.{User}
 use Rattle.tree.specs.Sums.{put}
-use Rattle.tree.specs.Tree.{Node, Tree}
+use Rattle.tree.specs.Tree.{Tree}
 use Rattle.tree.specs.Refusals.{or_refuse}
-use Rattle.tree.specs.Changes.{empty_directory, empty_file, free_inode, new_node}
+use Rattle.tree.specs.Changes.{empty_directory, empty_file, free_inode, new_link, new_node}
 use Rattle.tree.specs.Space.{data_zones}
 use Rattle.volume.specs.declared.Inode.{Inode}
 use Rattle.volume.specs.Reading.{Disk, is_inode}
@@ -58,3 +58,12 @@ pub record MayMakeDirectory (g : Geometry) (v : Pieces) (n parent : ℕ) : Type 
 abbrev pub MakesDirectory : Geometry → ℕ → ℕ → User → ℕ → ℕ → Disk → Disk → Type 0
 MakesDirectory g n parent user now permissions d e =
     Changes g n (MayMakeDirectory g (pieces g d) n parent) (Some (new_node now user permissions 2 (empty_directory parent))) d e
+
+-- The same as of a file, and a zone that no node takes.
+pub record MayMakeLink (g : Geometry) (v : Pieces) (n : ℕ) : Type 0 where
+  pub make : MayMakeFile g v n
+  pub room : taken_by g (nodes_of g v) < data_zones g
+
+-- a symbolic link with this target stands there
+abbrev pub MakesLink : Geometry → ℕ → User → ℕ → List ℕ → Disk → Disk → Type 0
+MakesLink g n user now target d e = Changes g n (MayMakeLink g (pieces g d) n) (Some (new_link now user target)) d e

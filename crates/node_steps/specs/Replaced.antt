@@ -1,5 +1,5 @@
 -- What a rename makes of the node whose name another took.
-use Rattle.std.specs.Prelude.{◌≡◌, ◌≢◌, ℕ, Bool, true, false, None, Some, if◌then◌else◌}
+use Rattle.std.specs.Prelude.{◌≡◌, ◌≢◌, ℕ, Bool, true, None, Some, if◌then◌else◌}
 use Rattle.tree.specs.Tree.{Node, Tree, is_dir, on_node, with_node}
 use Rattle.tree.specs.Changes.{fewer_links, with_link_lost, without_nameless}
 use Rattle.tree.specs.Walk.{Place}

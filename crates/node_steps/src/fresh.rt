@@ -1,14 +1,14 @@
 //! A free inode becomes a node.
 
-ghost use Rattle.std.specs.Prelude.{◌≡◌, ◌≤◌, IfErr, IfOk, IfSome, IsTrue};
-ghost use Rattle.tree.specs.Tree.{directory_type, file_type, most_permissions};
+ghost use Rattle.std.specs.Prelude.{◌≡◌, ◌≤◌, ◌<◌, IfErr, IfOk, IfSome, IsTrue, length};
+ghost use Rattle.tree.specs.Tree.{directory_type, file_type, link_type, most_permissions, most_target};
 ghost use Rattle.volume.specs.Pieces.{pieces};
 ghost use Rattle.volume.specs.Reading.{is_inode};
 ghost use Rattle.store.specs.World.{Reads, Turns};
 ghost use Rattle.store.specs.Halts.{Ends, IsHalt};
 ghost use Rattle.store.specs.Volume.{Alters, IsOn};
 ghost use Rattle.node_steps.specs.NewNodes.{new_inode, with_new_inode, IsLeastFree, MakesDirectory, MakesFile, MayMakeDirectory};
-ghost use Rattle.node_steps.specs.NewNodes.{MayMakeFile};
+ghost use Rattle.node_steps.specs.NewNodes.{MakesLink, MayMakeFile, MayMakeLink};
 
 use bitmap::{Map, lowest_free, set};
 use directory::first_entries;
@@ -16,7 +16,7 @@ use file::write_at;
 use inode::inode_table::store;
 use layout::Geometry;
 use store::{Blocks, Cut, Halt};
-use tree::User;
+use tree::{MAX_PERMISSIONS, User};
 use volume::Inode;
 
 /// The type bits of a file's mode.
@@ -24,6 +24,9 @@ const FILE: u16 = 0o100000;
 
 /// The type bits of a directory's mode.
 const DIRECTORY: u16 = 0o040000;
+
+/// The type bits of a symbolic link's mode.
+const LINK: u16 = 0o120000;
 
 /// The least number of an inode that is free. None where each is in use.
 pub fn free_inode<B: Blocks>(blocks: &mut B, geometry: &Geometry) -> Result<Option<u32>, Cut>
@@ -36,7 +39,7 @@ pub fn free_inode<B: Blocks>(blocks: &mut B, geometry: &Geometry) -> Result<Opti
 
 /// The inode of a new node of this type: it has no bytes and no zones.
 fn new_inode(kind: u16, links: u16, user: User, now: u32, permissions: u16) -> Inode
-    requires kind { kind ≤ file_type }
+    requires kind { kind ≤ link_type }
     requires permissions { permissions ≤ most_permissions }
     ensures { result ≡ new_inode kind links user now permissions }
 {
@@ -112,4 +115,28 @@ pub fn new_directory<B: Blocks>(
     let inode = new_inode(DIRECTORY, 2, user, now, permissions);
     mark(blocks, geometry, number, &inode)?;
     write_at(blocks, geometry, number, 0, &first_entries(number, parent))
+}
+
+/// Makes a symbolic link with this target, of one link, which is the user's, and with which all may do all: a free inode is written whole
+/// and marked, and its first page gets the target's bytes. Its times are `now`, in seconds. That a zone is free is asked for before.
+/// Unsound only where no inode has the number, or the volume isn't sound.
+pub fn new_link<B: Blocks>(
+    blocks: &mut B,
+    geometry: &Geometry,
+    number: u32,
+    user: User,
+    now: u32,
+    target: &[u8],
+) -> Result<(), Halt>
+    requires on { IsOn B.world geometry.now blocks.old }
+    requires some { 0 < length target.now }
+    requires few { length target.now ≤ most_target }
+    ensures turns { Turns B.world blocks.old blocks.new (λ d e. Ends result
+        (λ x. MakesLink geometry.now number user now target.now d e)
+        (MayMakeLink geometry.now (pieces geometry.now d) number)) }
+    ensures halt { IfErr result (λ h. IsHalt B.world blocks.new h) }
+{
+    let inode = new_inode(LINK, 1, user, now, MAX_PERMISSIONS);
+    mark(blocks, geometry, number, &inode)?;
+    write_at(blocks, geometry, number, 0, target)
 }

@@ -1,5 +1,5 @@
 //! Steps of client calls that change one node of a volume, over any blocks: its attributes, its links, its end; a free inode that becomes
-//! a file or a directory; the moves of a rename. No memory is taken.
+//! a file, a directory or a symbolic link; the moves of a rename. No memory is taken.
 #![tactic(auto)]
 
 mod attributes;
@@ -13,7 +13,7 @@ mod steps;
 
 pub use attributes::{add_link, drop_link, set_attributes};
 pub use ending::{free_node, lose_name, lose_node};
-pub use fresh::{free_inode, new_directory, new_file};
+pub use fresh::{free_inode, new_directory, new_file, new_link};
 pub use laws::{moves_are_the_trees, moves_may_be_made};
 pub use moves::{Move, move_over, move_to, move_within};
 pub use replaced::drop_replaced;

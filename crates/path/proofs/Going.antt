@@ -1,5 +1,5 @@
 -- From node to node of a tree that a volume holds.
-use Rattle.std.proofs.Common.{◌≡◌, ◌≤◌, ◌/◌, ℕ, true, false, Option, Some, None, refl, sym, ap, subst, ◌∙◌, arith, inl, inr, []}
+use Rattle.std.proofs.Common.{◌≡◌, ◌≤◌, ◌/◌, ℕ, true, false, Option, Some, None, refl, sym, ap, subst, ◌∙◌, arith, inl, inr}
 use Rattle.std.specs.Prelude.{◌==◌, List, ◌∷◌, Result, Ok, Err, IsTrue, is_some, if◌then◌else◌}
 use Rattle.std.proofs.lemmas.Bool.{cases_Bool, cond-true, cond-false, and_parts, eqb-true, eqb-false}
 use Rattle.errno.specs.declared.Errno.{Errno}
@@ -7,20 +7,20 @@ use Rattle.errno.specs.declared.Errno.TheVariants.{ENOENT}
 use Rattle.layout.specs.declared.Geometry.{Geometry}
 use Rattle.tree.specs.declared.User.{User}
 use Rattle.tree.specs.Names.{Name, Names, same_name, dot, dot_dot, inode_of}
-use Rattle.tree.specs.Tree.{Body, is_file, is_directory, Node, Tree, names_of, parent_of, is_dir_at, is_dir}
+use Rattle.tree.specs.Tree.{Body, is_file, is_directory, Node, Tree, target_of, names_of, parent_of, is_dir_at, is_dir}
 use Rattle.tree.specs.IsTree.{NodesAgree, names_to}
 use Rattle.tree.specs.Refusals.{◌>>=◌, or_refuse}
-use Rattle.tree.specs.Walk.{enter, next, walk_from, walk_parts}
+use Rattle.tree.specs.Walk.{Follow, enter, next, walk_from}
 use Rattle.volume.specs.declared.Inode.{Inode}
 use Rattle.volume.specs.Entries.{is_directory_inode, entry_count}
 use Rattle.volume.specs.Holds.{Holds}
 use Rattle.volume.specs.Nodes.{directory_of, file_of, is_directory_mode, is_marked, node_of}
 use Rattle.volume.specs.Pieces.{pieces}
 use Rattle.volume.specs.Reading.{Disk}
-use Rattle.path.specs.Walking.{Entered, step, StepsTo, Walks, IsThere}
+use Rattle.path.specs.Walking.{Entered, step, StepsTo, IsThere}
 
 -- a directory is there
-dir_is_there : (o : Option Node) → IsTrue (elim o [ None ↦ false | Some node ↦ is_dir node ]) → IsTrue (is_some o)
+pub dir_is_there : (o : Option Node) → IsTrue (elim o [ None ↦ false | Some node ↦ is_dir node ]) → IsTrue (is_some o)
 dir_is_there None h = h
 dir_is_there (Some node) h = refl
 
@@ -102,40 +102,20 @@ stepped g d t user n i part r holds there entered is =
       there = subst (IsThere t) (sym is) (next_is_there g d t n i part holds there has);
     }
 
--- The parts that are left lead on from here as all of them do from the root.
-pub record IsOnWay (t : Tree) (user : User) (parts : List Name) (here : ℕ) (rest : List Name) : Type 0 where
-  pub leads : walk_parts t user parts ≡ walk_from t user here rest
-  pub there : IsTrue (is_some (t.nodes here))
-
--- at the root all are left
-pub at_root : (g : Geometry) (d : Disk) (t : Tree) (user : User) (parts : List Name) → Holds g d t → IsOnWay t user parts 1 parts
-at_root g d t user parts holds = record { leads = refl; there = dir_is_there (t.nodes 1) holds.tree.nodes.root }
+-- what a walk does at a node to which a part led from here
+abbrev pub on : Tree → User → Follow → ℕ → List Name → ℕ → Result ℕ Errno
+on t user follow here rest there = elim (target_of (t.nodes there)) [
+  | None ↦ walk_from t user follow there rest
+  | Some target ↦ follow here target rest
+]
 
 -- a step, and then the others
-split : (t : Tree) (user : User) (here : ℕ) (part : Name) (rest : List Name) → walk_from t user here (part ∷ rest) ≡ (step t user here part >>= λ there. walk_from t user there rest)
-split t user here part rest = by (enter user (t.nodes here))
+pub split : (t : Tree) (user : User) (follow : Follow) (here : ℕ) (part : Name) (rest : List Name)
+    → walk_from t user follow here (part ∷ rest) ≡ (step t user here part >>= on t user follow here rest)
+split t user follow here part rest = by (enter user (t.nodes here))
   where
     by : (e : Result (ℕ × Names) Errno)
-        → (e >>= λ dir. next here dir.0 dir.1 part >>= λ there. walk_from t user there rest) ≡ ((e >>= λ dir. next here dir.0 dir.1 part) >>= λ there. walk_from t user there rest)
+        → (e >>= λ dir. next here dir.0 dir.1 part >>= on t user follow here rest)
+        ≡ ((e >>= λ dir. next here dir.0 dir.1 part) >>= on t user follow here rest)
     by (Ok dir) = refl
     by (Err e) = refl
-
--- after a step the others are left
-pub goes_on : (t : Tree) (user : User) (parts : List Name) (here there : ℕ) (left rest : List Name) (part : Name) → left ≡ part ∷ rest
-    → IsOnWay t user parts here left → StepsTo t user here part (Ok there) → IsOnWay t user parts there rest
-goes_on t user parts here there left rest part is way steps = record {
-  leads = way.leads ∙ ap (walk_from t user here) is ∙ split t user here part rest ∙ ap (λ (r : Result ℕ Errno). r >>= λ n. walk_from t user n rest) (sym steps.answer);
-  there = steps.there;
-}
-
--- a refusal ends the walk
-pub refused_here : (t : Tree) (user : User) (parts : List Name) (here : ℕ) (left rest : List Name) (part : Name) (e : Errno) → left ≡ part ∷ rest
-    → IsOnWay t user parts here left → StepsTo t user here part (Err e) → Walks t user parts (Err e)
-refused_here t user parts here left rest part e is way steps = record {
-  answer = sym (way.leads ∙ ap (walk_from t user here) is ∙ split t user here part rest ∙ ap (λ (r : Result ℕ Errno). r >>= λ n. walk_from t user n rest) (sym steps.answer));
-  there = tt;
-}
-
--- and the last step, too
-pub arrived : (t : Tree) (user : User) (parts : List Name) (here : ℕ) (left : List Name) → left ≡ [] → IsOnWay t user parts here left → Walks t user parts (Ok here)
-arrived t user parts here left is way = record { answer = sym (way.leads ∙ ap (walk_from t user here) is); there = way.there }

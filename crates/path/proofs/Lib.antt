@@ -1,6 +1,9 @@
 pub mod Dots
 pub mod Splits
+pub mod Joined
 pub mod Ending
 pub mod Entering
 pub mod Going
 pub mod Finding
+pub mod Arriving
+pub mod Targets

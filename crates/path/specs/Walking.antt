@@ -1,12 +1,13 @@
 -- Steps from node to node.
-use Rattle.std.specs.Prelude.{◌≡◌, ℕ, List, Result, Ok, Err, IfOk, IsTrue, is_some}
+use Rattle.std.specs.Prelude.{◌≡◌, ◌++◌, ℕ, List, take, Option, None, Some, Result, Ok, Err, IfOk, IsTrue, is_some}
 use Rattle.errno.specs.declared.Errno.{Errno}
 use Rattle.layout.specs.declared.Geometry.{Geometry}
 use Rattle.tree.specs.declared.User.{User}
 use Rattle.tree.specs.Names.{Name, Names}
-use Rattle.tree.specs.Tree.{Tree}
+use Rattle.tree.specs.Tree.{Tree, target_of}
 use Rattle.tree.specs.Refusals.{◌>>=◌}
-use Rattle.tree.specs.Walk.{enter, next, walk_parts}
+use Rattle.tree.specs.Walk.{enter, next, walk_from, follow_links, walk_parts}
+use Rattle.path.specs.declared.step.Stand.{Stand}
 use Rattle.volume.specs.declared.Inode.{Inode}
 use Rattle.volume.specs.Entries.{is_directory_inode}
 use Rattle.volume.specs.Nodes.{directory_of}
@@ -45,3 +46,18 @@ pub record StepsTo (t : Tree) (user : User) (here : ℕ) (part : Name) (r : Resu
 pub record Walks (t : Tree) (user : User) (parts : List Name) (r : Result ℕ Errno) : Type 0 where
   pub answer : r ≡ walk_parts t user parts
   pub there : IsThere t r
+
+-- the target of a node, the first so many of these bytes, or that it has none
+abbrev pub TellsTarget : Tree → ℕ → List ℕ → Result (Option ℕ) Errno → Type 0
+TellsTarget t n bytes (Ok None) = target_of (t.nodes n) ≡ None
+TellsTarget t n bytes (Ok (Some k)) = target_of (t.nodes n) ≡ Some (take k bytes)
+TellsTarget t n bytes (Err e) = ⊥
+
+-- the walk of some parts from a stand
+abbrev pub from : Tree → User → Stand → List Name → Result ℕ Errno
+from t user s parts = walk_from t user (follow_links t user s.links) s.here parts
+
+-- The parts lead from one stand to another, whatever follows them.
+pub record Arrives (t : Tree) (user : User) (first : Stand) (parts : List Name) (r : Result Stand Errno) : Type 0 where
+  pub leads : (rest : List Name) → from t user first (parts ++ rest) ≡ (r >>= λ s. from t user s rest)
+  pub there : IfOk r (λ s. IsTrue (is_some (t.nodes s.here)))

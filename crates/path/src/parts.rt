@@ -1,10 +1,11 @@
 //! The parts of a path, one by one.
 
-ghost use Rattle.std.specs.Prelude.{◌≡◌, ◌∷◌, ◌<◌, ◌≤◌, ◌+◌, ◌==◌, [], IfNone, IfSome, length, not, take};
+ghost use Rattle.std.specs.Prelude.{◌≡◌, ◌∷◌, ◌<◌, ◌≤◌, ◌+◌, ◌==◌, [], IfNone, IfSome, length, not, take, true, false};
 ghost use Rattle.std.specs.List.{prefix_len};
-ghost use Rattle.tree.specs.Walk.{parts_of};
+ghost use Rattle.tree.specs.Walk.{has_long_part, parts_of};
 
 use std::marker::Model;
+use tree::MAX_NAME;
 
 /// How many slashes some bytes begin with.
 fn leading_slashes(bytes: &[u8]) -> usize
@@ -66,7 +67,33 @@ impl<'a> Model for Parts<'a> {
     ghost view = { λ p. take p.left (parts_of p.rest.now) };
 }
 
+/// How many parts some bytes have, if none of them is longer than a name may be.
+fn count_short(bytes: &[u8]) -> Option<usize>
+    ensures none { IfNone result (has_long_part bytes.now ≡ true) }
+    ensures some { IfSome result (λ n. (has_long_part bytes.now ≡ false) × (n ≡ length (parts_of bytes.now))) }
+{
+    let mut left = bytes;
+    let mut count = 0;
+    while let Some((part, rest)) = split_first(left) {
+        if part.len() > MAX_NAME {
+            return None;
+        }
+        count += 1;
+        left = rest;
+    }
+    Some(count)
+}
+
 impl<'a> Parts<'a> {
+    /// The parts of the target of a symbolic link, if none of them is longer than a name may be.
+    pub fn of_target(bytes: &'a [u8]) -> Option<Parts<'a>>
+        ensures none { IfNone result (has_long_part bytes.now ≡ true) }
+        ensures some { IfSome result (λ parts. (has_long_part bytes.now ≡ false) × (parts ≡ parts_of bytes.now)) }
+    {
+        let count = count_short(bytes)?;
+        Some(Parts::new(bytes, count))
+    }
+
     /// The first so many parts of some bytes, or all where there are fewer.
     pub(crate) fn new(bytes: &'a [u8], left: usize) -> Parts<'a>
         ensures { result ≡ take left (parts_of bytes.now) }

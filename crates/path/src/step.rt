@@ -1,27 +1,31 @@
 //! The walk of a path's parts.
 
-ghost use Rattle.std.specs.Prelude.{◌≡◌, ◌≢◌, ◌<◌, ◌≤◌, ◌/◌, ◌%◌, ◌==◌, IfErr, IfOk, IsTrue, is_some, length};
+ghost use Rattle.std.specs.Prelude.{◌≡◌, ◌≢◌, ◌<◌, ◌≤◌, ◌/◌, ◌%◌, ◌==◌, ◌∷◌, [], IfErr, IfOk, IfSome, IsTrue, is_some, length};
 ghost use Rattle.store.specs.Volume.{IsOn};
 ghost use Rattle.store.specs.World.{Reads};
 ghost use Rattle.tree.specs.Tree.{Tree};
-ghost use Rattle.tree.specs.Walk.{next};
+ghost use Rattle.tree.specs.Walk.{next, start_of};
 ghost use Rattle.volume.specs.Holds.{Holds};
-ghost use Rattle.volume.specs.Nodes.{is_directory_mode, permissions_in};
+ghost use Rattle.volume.specs.Nodes.{is_directory_mode, is_link_mode, permissions_in};
 ghost use Rattle.path.specs.Stops.{Answers, IsStop, IfRefused};
-ghost use Rattle.path.specs.Walking.{entries_in, Enters, StepsTo, Walks};
+ghost use Rattle.path.specs.Walking.{entries_in, Arrives, Enters, StepsTo, TellsTarget, Walks};
 
 use crate::stop::Stop;
 use crate::{Parts, Wish, is_dot, is_dot_dot, may};
 use directory::{find, parent};
 use errno::Errno;
+use file::file_pages::reading::read_at;
 use inode::inode_table::load;
 use layout::Geometry;
 use store::Blocks;
-use tree::User;
+use tree::{MAX_TARGET, User};
 use volume::Inode;
 
 /// The number of the root's inode.
 const ROOT: u32 = 1;
+
+/// How many symbolic links a walk follows.
+const MOST_LINKS: u32 = 8;
 
 /// Whether the mode's type is that of directories.
 fn is_directory(mode: u16) -> bool
@@ -112,6 +116,116 @@ fn step<B: Blocks>(
     next(blocks, geometry, here, &inode, part)
 }
 
+/// Whether the mode's type is that of symbolic links.
+fn is_link(mode: u16) -> bool
+    ensures { result ≡ is_link_mode mode }
+{
+    mode / 4096 == 10
+}
+
+/// How many bytes the target of a symbolic link has, which are put into the room for them. None of what is no link.
+fn target<B: Blocks>(
+    blocks: &mut B,
+    geometry: &Geometry,
+    there: u32,
+    room: &mut [u8],
+) -> Result<Option<usize>, Stop>
+    requires on { IsOn B.world geometry.now blocks.old }
+    requires room { length room.old ≡ 1023 }
+    ensures reads { Reads B.world blocks.old blocks.new (λ d. (t : Tree) → Holds geometry.now d t → IsTrue (is_some (t.nodes there))
+        → Answers result (TellsTarget t there room.new)) }
+    ensures count { IfOk result (λ o. IfSome o (λ n. n ≤ 1023)) }
+    ensures stop { IfErr result (λ s. IsStop B.world blocks.new s) }
+    ensures proper { IfErr result (λ s. IfRefused s (λ e. e ≢ Errno.EIO)) }
+{
+    let inode = load(blocks, geometry, there)?;
+    if !is_link(inode.mode) {
+        return Ok(None);
+    }
+    let count = read_at(blocks, geometry, &inode, 0, room)?;
+    Ok(Some(count))
+}
+
+/// Where a target is read from: the root where it begins with a slash, else the directory of its link.
+fn start(here: u32, target: &[u8]) -> u32
+    ensures { result ≡ start_of here target.now }
+{
+    match target.first() {
+        Some(first) => { if *first == b'/' { ROOT } else { here } }
+        None => here,
+    }
+}
+
+/// Where a walk stands: at a node, with so many links that it may follow still.
+#[derive(Clone, Copy)]
+pub struct Stand {
+    pub here: u32,
+    pub links: u32,
+}
+
+/// Where parts lead from a stand. The target of each link on the way is read into this call's own room and walked by a further call.
+#[cycle(links)]
+fn lead<B: Blocks>(
+    blocks: &mut B,
+    geometry: &Geometry,
+    user: User,
+    first: Stand,
+    parts: Parts,
+) -> Result<Stand, Stop>
+    requires on { IsOn B.world geometry.now blocks.old }
+    ensures reads { Reads B.world blocks.old blocks.new (λ d. (t : Tree) → Holds geometry.now d t → IsTrue (is_some (t.nodes first.here))
+        → Answers result (Arrives t user first parts.entry)) }
+    ensures links { IfOk result (λ s. s.links ≤ first.links) }
+    ensures stop { IfErr result (λ s. IsStop B.world blocks.new s) }
+    ensures proper { IfErr result (λ s. IfRefused s (λ e. e ≢ Errno.EIO)) }
+{
+    let mut parts = parts;
+    let mut at = first;
+    while let Some(part) = parts.next() {
+        at = follow(blocks, geometry, user, at, part)?;
+    }
+    Ok(at)
+}
+
+/// Where one part leads from a stand.
+#[cycle(links)]
+fn follow<B: Blocks>(
+    blocks: &mut B,
+    geometry: &Geometry,
+    user: User,
+    at: Stand,
+    part: &[u8],
+) -> Result<Stand, Stop>
+    requires on { IsOn B.world geometry.now blocks.old }
+    requires part { 0 < length part.now }
+    ensures reads { Reads B.world blocks.old blocks.new (λ d. (t : Tree) → Holds geometry.now d t → IsTrue (is_some (t.nodes at.here))
+        → Answers result (Arrives t user at (part.now ∷ []))) }
+    ensures links { IfOk result (λ s. s.links ≤ at.links) }
+    ensures stop { IfErr result (λ s. IsStop B.world blocks.new s) }
+    ensures proper { IfErr result (λ s. IfRefused s (λ e. e ≢ Errno.EIO)) }
+{
+    let there = step(blocks, geometry, user, at.here, part)?;
+    let mut room = [0; MAX_TARGET];
+    let Some(count) = target(blocks, geometry, there, &mut room)? else {
+        return Ok(Stand {
+            here: there,
+            links: at.links,
+        });
+    };
+    if at.links == 0 {
+        return Err(Stop::Refused(Errno::ELOOP));
+    }
+    let bytes = &room[..count];
+    let Some(parts) = Parts::of_target(bytes) else {
+        return Err(Stop::Refused(Errno::ENAMETOOLONG));
+    };
+    let next = Stand {
+        here: start(at.here, bytes),
+        links: at.links - 1,
+    };
+    lead(blocks, geometry, user, next, parts)
+}
+
 /// The inode to which parts of a path lead from the root: the tree's walk, with its refusals in their order. From each part but the
 /// last a directory is entered: ENOTDIR where it is a file, EACCES where the user may not search it, then ENOENT where the name is
 /// missing. Where the volume isn't sound, any inode may be answered, any refusal but EIO, or Unsound; each part is read once.
@@ -127,10 +241,10 @@ pub fn walk<B: Blocks>(
     ensures stop { IfErr result (λ s. IsStop B.world blocks.new s) }
     ensures proper { IfErr result (λ s. IfRefused s (λ e. e ≢ Errno.EIO)) }
 {
-    let mut parts = parts;
-    let mut here = ROOT;
-    while let Some(part) = parts.next() {
-        here = step(blocks, geometry, user, here, part)?;
-    }
-    Ok(here)
+    let root = Stand {
+        here: ROOT,
+        links: MOST_LINKS,
+    };
+    let end = lead(blocks, geometry, user, root, parts)?;
+    Ok(end.here)
 }

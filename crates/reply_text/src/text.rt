@@ -1,12 +1,12 @@
 //! The texts of replies: numbers are decimal, modes octal in seven digits, bytes lower-case hexadecimal.
 
-ghost use Rattle.std.specs.Prelude.{Some, map};
-ghost use Rattle.tree.specs.Answers.{answer_of, entry_of};
+ghost use Rattle.std.specs.Prelude.{◌≡◌, Some, map};
+ghost use Rattle.tree.specs.Answers.{answer_of, bytes_of_target, entry_of};
 ghost use Rattle.reply_text.specs.Text.{answer_text, attributes_text, bytes_text, details_text, entry_text, free_text, hex_text};
 ghost use Rattle.reply_text.specs.Text.{names_text, octal_text, outcome_text, owner_text, room_text, times_text};
 
 use std::fmt;
-use tree::{Attributes, Entry, Outcome, Reply, Room};
+use tree::{Attributes, Entry, LinkTarget, MAX_TARGET, Outcome, Reply, Room};
 
 /// A number of 16 bits in seven octal digits.
 #[derive(Clone, Copy)]
@@ -54,6 +54,14 @@ impl fmt::Display for Bytes<'_> {
         let hex = Hex(self.0);
         write!(f, "{hex}")
     }
+}
+
+/// The bytes of a target.
+fn target_bytes(target: &LinkTarget) -> &[u8]
+    ensures { result.now ≡ bytes_of_target target.now }
+{
+    let end = target.length.min(MAX_TARGET);
+    &target.bytes[..end]
 }
 
 /// The owner's user and group.
@@ -186,7 +194,7 @@ impl fmt::Display for Names<'_> {
 pub struct ReplyText<'a>(pub &'a Reply);
 
 /// Writes a refusal's name; `ok`; `fd N`; `bytes` with the bytes in hexadecimal, or with `-` for none;
-/// `wrote N`; `at N`; a node's attributes; `names K` and the entries; or a volume's room.
+/// `wrote N`; `at N`; a node's attributes; `names K` and the entries; or a volume's room. A target is written as bytes are.
 impl fmt::Display for ReplyText<'_> {
     ghost output = { λ r. Some (answer_text (answer_of r.0.now)) };
 
@@ -212,6 +220,10 @@ impl fmt::Display for ReplyText<'_> {
             Reply::Space(room) => {
                 let shown = Volume(room);
                 write!(f, "{shown}")
+            }
+            Reply::Target(target) => {
+                let shown = Bytes(target_bytes(target));
+                write!(f, "bytes {shown}")
             }
         }
     }

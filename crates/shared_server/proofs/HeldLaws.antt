@@ -364,6 +364,7 @@ is_refused (reply.At n) e is = cc
 is_refused (reply.Inode a) e is = cc
 is_refused (reply.Names names) e is = cc
 is_refused (reply.Space r) e is = cc
+is_refused (reply.Target target) e is = cc
 
 -- EIO is answered exactly once the device was given up, unless the call is cut
 eio_of : (result : TreeOutcome) (gone : Bool) → (outcome_of result ≡ Replied (refused EIO) → gone ≡ true)

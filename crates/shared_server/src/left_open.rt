@@ -51,6 +51,7 @@ fn given(reply: &Reply) -> Option<(u32, bool)>
         Reply::Inode(_) => None,
         Reply::Names(_) => None,
         Reply::Space(_) => None,
+        Reply::Target(_) => None,
     }
 }
 
@@ -68,6 +69,7 @@ fn is_done(reply: &Reply) -> bool
         Reply::Inode(_) => false,
         Reply::Names(_) => false,
         Reply::Space(_) => false,
+        Reply::Target(_) => false,
     }
 }
 

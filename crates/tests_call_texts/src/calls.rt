@@ -16,7 +16,7 @@ const NEW: &[u8] = b"/g";
 const LAST: u32 = 4294967295;
 
 /// Words, and the call that they are.
-static CALLS: [(&[u8], Call<'static>); 24] = [
+static CALLS: [(&[u8], Call<'static>); 28] = [
     // descriptors, paths and numbers
     (b"close 0", Call::Close { fd: 0 }),
     (b"dup 31", Call::Dup { fd: 31 }),
@@ -34,6 +34,23 @@ static CALLS: [(&[u8], Call<'static>); 24] = [
     ),
     (b"link /d/e /g", Call::Link { old: OLD, new: NEW }),
     (b"rename /d/e /g", Call::Rename { old: OLD, new: NEW }),
+    (b"readlink /f", Call::Readlink { path: PATH }),
+    (b"lstat /f", Call::Lstat { path: PATH }),
+    // a target is any bytes of a word, as a path is
+    (
+        b"symlink ../d\r /f",
+        Call::Symlink {
+            target: b"../d\r",
+            path: PATH,
+        },
+    ),
+    (
+        b"symlink - /f",
+        Call::Symlink {
+            target: b"-",
+            path: PATH,
+        },
+    ),
     (
         b"mkdir /f 755",
         Call::Mkdir {
@@ -144,7 +161,7 @@ static FLAGS: [(&[u8], u8); 6] = [
 ];
 
 /// Words that are no call.
-static REFUSED: [&[u8]; 47] = [
+static REFUSED: [&[u8]; 56] = [
     // offsets
     b"seek 0 cur 9223372036854775808",
     b"seek 0 cur -9223372036854775809",
@@ -182,6 +199,15 @@ static REFUSED: [&[u8]; 47] = [
     b"chown / 0 65536",
     b"link  /a",
     b"link /a ",
+    b"symlink  /a",
+    b"symlink a ",
+    b"symlink /a",
+    b"symlink a /b /c",
+    b"readlink",
+    b"readlink ",
+    b"readlink /a /b",
+    b"lstat",
+    b"lstats /a",
     b"truncate / 4294967296",
     b"utime / 0 0 0",
     b"write 0 0",

@@ -86,6 +86,25 @@ fn image(alloc: Global) -> Result<Vec<u8>, AllocError> {
     Ok(image)
 }
 
+/// That image with one more name in the root, `l`. Inode 4 is a symbolic link of user 0 to `d`, whose bits grant nothing; its target lies
+/// in zone 8. Its times are 0.
+fn linked(alloc: Global) -> Result<Vec<u8>, AllocError> {
+    let mut image = image(alloc)?;
+    let parts: [(usize, &[u8]); 7] = [
+        (2048, &[31]),
+        (3072, &[15]),
+        (4104, &[64, 1]),
+        (4288, &[0, 0xa0, 1, 0, 0, 0, 0, 0, 1]),
+        (4312, &[8]),
+        (6400, &[4, 0, 0, 0, b'l']),
+        (8192, b"d"),
+    ];
+    for (from, bytes) in parts {
+        put_bytes(&mut image, from, bytes);
+    }
+    Ok(image)
+}
+
 /// An open: its session, its user and group, the path, the bits of the flags, and the mode.
 pub(crate) type Open<'a> = (u8, (u16, u16), &'a [u8], u8, u16);
 
@@ -106,10 +125,20 @@ pub(crate) struct Volume {
 impl Volume {
     /// The volume, in which nothing is open.
     pub(crate) fn new(alloc: Global) -> Result<Volume, AllocError> {
+        Volume::over(alloc, image(alloc)?)
+    }
+
+    /// The volume that has a link besides.
+    pub(crate) fn with_link(alloc: Global) -> Result<Volume, AllocError> {
+        Volume::over(alloc, linked(alloc)?)
+    }
+
+    /// The volume of this image.
+    fn over(alloc: Global, image: Vec<u8>) -> Result<Volume, AllocError> {
         let geometry = sizes();
         Ok(Volume {
             alloc,
-            blocks: Memory::new(geometry.block_size, image(alloc)?),
+            blocks: Memory::new(geometry.block_size, image),
             opens: Descriptors::new(alloc)?,
             geometry,
         })
@@ -118,12 +147,20 @@ impl Volume {
     /// Does a call at 60: the error that it is refused with, a descriptor, or `DONE`. Another answer, or a call that is cut, of which there
     /// is none here, is EIO.
     pub(crate) fn call(&mut self, who: Who, call: &Call) -> Result<u32, Errno> {
+        match self.reply(who, call) {
+            Reply::Descriptor(fd) => Ok(fd),
+            Reply::Refused(errno) => Err(errno),
+            Reply::Done => Ok(DONE),
+            _ => Err(Errno::EIO),
+        }
+    }
+
+    /// Does a call at 60: its reply. A call that is cut, of which there is none here, is EIO.
+    pub(crate) fn reply(&mut self, who: Who, call: &Call) -> Reply {
         let (blocks, opens) = (&mut self.blocks, &mut self.opens);
         match done(self.alloc, blocks, opens, &self.geometry, who, call) {
-            Ok(Reply::Descriptor(fd)) => Ok(fd),
-            Ok(Reply::Refused(errno)) => Err(errno),
-            Ok(Reply::Done) => Ok(DONE),
-            Ok(_) | Err(_) => Err(Errno::EIO),
+            Ok(reply) => reply,
+            Err(_) => Reply::Refused(Errno::EIO),
         }
     }
 

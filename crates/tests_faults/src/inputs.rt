@@ -55,6 +55,9 @@ user 5 7
 100 chown /f 5 7
 100 utime /f 1 2
 100 truncate /f 3
+100 symlink f /l
+100 readlink /l
+100 lstat /l
 100 sync
 100 statfs
 ";

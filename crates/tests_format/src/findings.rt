@@ -36,12 +36,18 @@ static SMALL: [Put; 9] = [
     (6208, &[1, 0, 0, 0, b'.', b'.']),
 ];
 
+/// Puts bytes at several places.
+fn change(image: &mut [u8], changes: &[Put]) {
+    for (at, bytes) in changes {
+        put(image, *at, bytes);
+    }
+}
+
 /// The volume with these bytes changed.
 fn small_volume(alloc: Global, changes: &[Put]) -> Result<Vec<u8>, AllocError> {
     let mut image = vec![in alloc; 0; 65536]?;
-    for (at, bytes) in SMALL.iter().chain(changes) {
-        put(image.as_mut_slice(), *at, bytes);
-    }
+    change(&mut image, &SMALL);
+    change(&mut image, changes);
     Ok(image)
 }
 
@@ -111,6 +117,94 @@ fn changed_volumes(rt: HostRuntime) -> Result<(), Fail> {
     Ok(())
 }
 
+/// The name `l` of the root leads to inode 2, a symbolic link whose target, `a`, lies in zone 7.
+static LINK: [Put; 7] = [
+    (2048, &[7]),
+    (3072, &[7]),
+    (4104, &[192]),
+    (4160, &[0xff, 0xa1, 1, 0, 0, 0, 0, 0, 1]),
+    (4184, &[7]),
+    (6272, &[2, 0, 0, 0, b'l']),
+    (7168, b"a"),
+];
+
+/// What is changed for a second one: `m` leads to inode 3, whose target, `bc`, lies in zone 8.
+static SECOND: [Put; 7] = [
+    (2048, &[15]),
+    (3072, &[15]),
+    (4104, &[0, 1]),
+    (4224, &[0xff, 0xa1, 1, 0, 0, 0, 0, 0, 2]),
+    (4248, &[8]),
+    (6336, &[3, 0, 0, 0, b'm']),
+    (8192, b"bc"),
+];
+
+/// Bytes that are changed on the volume with one link, and what is said.
+static LINKED: [Row; 31] = [
+    // targets of one byte, of 1023, and of bytes that are no letters
+    (&[], (0, 0)),
+    (&[(4168, &[0xff, 3]), (7168, &[b'a'; 1023])], (0, 0)),
+    (&[(4168, &[3]), (7168, &[0xff, 1, b'/'])], (0, 0)),
+    // modes: without permissions; with a bit between; of a socket
+    (&[(4160, &[0, 0xa0])], (0, 0)),
+    (&[(4161, &[0xa3])], (5, 2)),
+    (&[(4161, &[0xc1])], (5, 2)),
+    // no byte; 1024, 65537 and 2147483647 of them
+    (&[(3072, &[3]), (4168, &[0]), (4184, &[0])], (17, 2)),
+    (&[(4168, &[0, 4]), (7168, &[b'a'; 1024])], (17, 2)),
+    (&[(4170, &[1])], (17, 2)),
+    (&[(4168, &[0xff, 0xff, 0xff, 0x7f])], (17, 2)),
+    // no zone at page 0
+    (&[(3072, &[3]), (4184, &[0])], (17, 2)),
+    // a zero byte: the only one, the first, one between, the last, the last of 1023
+    (&[(7168, &[0])], (17, 2)),
+    (&[(4168, &[3]), (7168, b"\0bc")], (17, 2)),
+    (&[(4168, &[3]), (7168, b"a\0c")], (17, 2)),
+    (&[(4168, &[3]), (7168, b"ab\0")], (17, 2)),
+    (&[(4168, &[0xff, 3]), (7168, &[b'a'; 1022])], (17, 2)),
+    // a zero byte, with an earlier finding at the root, at the link or at a zone
+    (&[(7168, &[0]), (2048, &[6])], (2, 0)),
+    (&[(7168, &[0]), (3072, &[6])], (3, 0)),
+    (&[(7168, &[0]), (4097, &[0x81])], (4, 1)),
+    (&[(7168, &[0]), (4097, &[0x43])], (5, 1)),
+    (&[(7168, &[0]), (4104, &[64])], (6, 1)),
+    (&[(7168, &[0]), (4188, &[5])], (7, 2)),
+    (&[(7168, &[0]), (4188, &[6])], (8, 6)),
+    (&[(7168, &[0]), (3072, &[15])], (9, 8)),
+    (&[(7168, &[0]), (4188, &[8]), (3072, &[15])], (10, 2)),
+    (&[(7168, &[0]), (4120, &[0]), (3072, &[5])], (11, 1)),
+    (&[(7168, &[0]), (6144, &[2])], (12, 1)),
+    (&[(7168, &[0]), (6276, b"/")], (13, 1)),
+    (&[(7168, &[0]), (6272, &[9])], (14, 1)),
+    (&[(7168, &[0]), (6208, &[2])], (15, 1)),
+    (&[(7168, &[0]), (4162, &[2])], (16, 2)),
+];
+
+/// Bytes that are changed on the volume with two links, and what is said: the least link that is at fault is told.
+static TWO_LINKED: [Row; 5] = [
+    (&[], (0, 0)),
+    (&[(7168, &[0])], (17, 2)),
+    (&[(8193, &[0])], (17, 3)),
+    (&[(7168, &[0]), (8193, &[0])], (17, 2)),
+    (&[(4232, &[0, 4]), (7168, &[0])], (17, 2)),
+];
+
+#[test]
+fn symbolic_links(rt: HostRuntime) -> Result<(), Fail> {
+    for (number, (changes, finding)) in LINKED.iter().enumerate() {
+        let mut image = small_volume(rt.alloc(), &LINK)?;
+        change(&mut image, changes);
+        assert_eq!(rt; said(rt.alloc(), &image)?, *finding, "row {number}");
+    }
+    for (number, (changes, finding)) in TWO_LINKED.iter().enumerate() {
+        let mut image = small_volume(rt.alloc(), &LINK)?;
+        change(&mut image, &SECOND);
+        change(&mut image, changes);
+        assert_eq!(rt; said(rt.alloc(), &image)?, *finding, "two, row {number}");
+    }
+    Ok(())
+}
+
 /// The sizes of the volume, if it is clean.
 fn sizes(alloc: Global, image: &[u8]) -> Result<Option<Geometry>, Fail> {
     match check(alloc, image)? {
@@ -149,7 +243,7 @@ fn any_byte(rt: HostRuntime) -> Result<(), Fail> {
         for value in 0..=255u8 {
             set(image.as_mut_slice(), at, value);
             let (number, _) = said(rt.alloc(), image.as_slice())?;
-            assert!(rt; number <= 16);
+            assert!(rt; number <= 17);
         }
         set(image.as_mut_slice(), at, old);
     }

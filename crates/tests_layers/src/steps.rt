@@ -2,9 +2,10 @@
 ghost use Rattle.store.specs.Volume.{IsOn};
 
 use crate::tables::{OTHER, ROOT};
-use bitmap::{Map, clear, count_free, lowest_free, set};
+use bitmap::{Map, clear, count_free, lowest_free, search, set};
 use inode::inode_table::{load, store};
 use layout::Geometry;
+use step_count::Steps;
 use store::{Blocks, Halt};
 use volume::Inode;
 
@@ -14,6 +15,10 @@ pub(crate) enum Step {
     Lowest(Map),
     /// How many numbers of a map are free.
     Count(Map),
+    /// How many words are looked at for the lowest free number of a map.
+    LowestWords(Map),
+    /// How many are looked at to count the free ones.
+    CountWords(Map),
     /// A number is put into a map, or taken out; 1 where that was done, 0 past the last.
     Mark(Map, u32, bool),
     /// An inode is read: 1 is the root, 2 the other.
@@ -62,6 +67,16 @@ pub(crate) fn does<B: Blocks>(blocks: &mut B, geometry: &Geometry, step: &Step) 
     match step {
         Step::Lowest(map) => Ok(lowest_free(blocks, geometry, *map)?.unwrap_or(u32::MAX)),
         Step::Count(map) => Ok(count_free(blocks, geometry, *map)?),
+        Step::LowestWords(map) => {
+            let mut words = Steps::new();
+            search::lowest_free(blocks, geometry, *map, &mut words)?;
+            Ok(words.count() as u32)
+        }
+        Step::CountWords(map) => {
+            let mut words = Steps::new();
+            search::count_free(blocks, geometry, *map, &mut words)?;
+            Ok(words.count() as u32)
+        }
         Step::Mark(map, number, inside) => mark(blocks, geometry, *map, *number, *inside),
         Step::Load(number) => Ok(which(&load(blocks, geometry, *number)?)),
         Step::StoreRoot(number) => {

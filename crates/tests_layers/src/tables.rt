@@ -61,7 +61,7 @@ type Steps = &'static [(Step, Result<u32, Halt>, usize, &'static [u8])];
 
 /// A volume's sizes and image, and what is done with it. A fresh volume of 64 blocks with 32 inodes is made at time 50: the root is inode
 /// 1, its zone the first.
-static ROWS: [(Sizes, Image, Steps); 12] = [
+static ROWS: [(Sizes, Image, Steps); 13] = [
     // a fresh volume has free numbers
     (
         Sizes::Small,
@@ -144,13 +144,27 @@ static ROWS: [(Sizes, Image, Steps); 12] = [
             (Step::Mark(Map::Zones, 59, true), Ok(0), 0, b""),
         ],
     ),
-    // numbers past the last are not looked at: of 200 inodes 0 to 64 are in the map, and 65 to 200 are free
+    // numbers past the last are not looked at: of 200 inodes 0 to 64 are in the map, and 65 to 200 are free. The first that is free stands
+    // in the second word of 64 bits, and 0 to 200 in four
     (
         Sizes::MoreInodes,
         (65536, &[(2048, b"\xff\xff\xff\xff\xff\xff\xff\xff\x01", 0)]),
         &[
             (Step::Lowest(Map::Inodes), Ok(65), 0, b""),
+            (Step::LowestWords(Map::Inodes), Ok(2), 0, b""),
             (Step::Count(Map::Inodes), Ok(136), 0, b""),
+            (Step::CountWords(Map::Inodes), Ok(4), 0, b""),
+        ],
+    ),
+    // 64 inodes, 0 to 64 in the map, and no bit past them: none is free. The last one stands alone in a second word
+    (
+        Sizes::SixtyFourInodes,
+        (65536, &[(2048, b"\xff\xff\xff\xff\xff\xff\xff\xff\x01", 0)]),
+        &[
+            (Step::Lowest(Map::Inodes), Ok(u32::MAX), 0, b""),
+            (Step::LowestWords(Map::Inodes), Ok(2), 0, b""),
+            (Step::Count(Map::Inodes), Ok(0), 0, b""),
+            (Step::CountWords(Map::Inodes), Ok(2), 0, b""),
         ],
     ),
     // 32 inodes, 0 to 32 in the map, and no bit past them: none is free
@@ -177,7 +191,10 @@ static ROWS: [(Sizes, Image, Steps); 12] = [
         (614400, &[(2048, b"", 3072)]),
         &[
             (Step::Lowest(Map::Inodes), Ok(8192), 0, b""),
+            // behind the 128 words of the first block; 0 to 8292 stand in 130
+            (Step::LowestWords(Map::Inodes), Ok(129), 0, b""),
             (Step::Count(Map::Inodes), Ok(101), 0, b""),
+            (Step::CountWords(Map::Inodes), Ok(130), 0, b""),
             (Step::Mark(Map::Inodes, 8192, true), Ok(1), 3072, b"\x01"),
             (Step::Lowest(Map::Inodes), Ok(8193), 0, b""),
             (Step::Count(Map::Inodes), Ok(100), 0, b""),

@@ -16,6 +16,8 @@ pub(crate) enum Sizes {
     Middle,
     /// And with blocks of 4096 bytes.
     Large,
+    /// 64 inodes.
+    SixtyFourInodes,
     /// 200 inodes.
     MoreInodes,
     /// An inode map of two blocks: the second begins with number 8192.
@@ -30,6 +32,7 @@ fn geometry(sizes: &Sizes) -> Geometry
         Sizes::Small => (1024, 32, 64, 1, 6),
         Sizes::Middle => (2048, 32, 64, 1, 5),
         Sizes::Large => (4096, 32, 64, 1, 5),
+        Sizes::SixtyFourInodes => (1024, 64, 64, 1, 8),
         Sizes::MoreInodes => (1024, 200, 64, 1, 17),
         Sizes::ManyInodes => (1024, 8292, 600, 2, 524),
     };

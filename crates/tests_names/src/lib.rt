@@ -5,6 +5,8 @@
 #[cfg(test)]
 mod images;
 #[cfg(test)]
+mod links;
+#[cfg(test)]
 mod names;
 #[cfg(test)]
 mod stops;

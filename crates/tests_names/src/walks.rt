@@ -47,8 +47,8 @@ static WALKS: [Step; 27] = [
     (Call::Walk(ROOT, b"/x/f"), MISSING),
     (Call::Walk(ROOT, b"/d/x/.."), MISSING),
     (Call::Walk(ROOT, b"/d/f"), MISSING),
-    // inode 99 isn't the volume's: it is found, and can't be entered
-    (Call::Walk(ROOT, b"/n"), Ok(Seen::There(99))),
+    // inode 99 isn't the volume's: whether it is a link can't be told
+    (Call::Walk(ROOT, b"/n"), UNSOUND),
     (Call::Walk(ROOT, b"/n/x"), UNSOUND),
     // a directory of one entry has no parent, and no name either
     (Call::Walk(ROOT, b"/s/.."), UNSOUND),
@@ -56,12 +56,14 @@ static WALKS: [Step; 27] = [
 ];
 
 /// What paths find, and where names belong.
-static PLACES: [Step; 17] = [
+static PLACES: [Step; 18] = [
     (Call::LookUp(ROOT, b"/"), Ok(Seen::There(1))),
     (Call::LookUp(ROOT, b"/d/."), Ok(Seen::There(2))),
     (Call::LookUp(ROOT, b"/d/e/.."), Ok(Seen::There(2))),
     (Call::LookUp(ROOT, b"/f"), Ok(Seen::There(3))),
     (Call::LookUp(ROOT, b"/d/e/"), Ok(Seen::There(4))),
+    // the last name isn't followed, so that its inode isn't read
+    (Call::LookUp(ROOT, b"/n"), Ok(Seen::There(99))),
     (Call::LookUp(ROOT, b"/x"), Ok(Seen::MissingIn(1))),
     (Call::LookUp(ROOT, b"/x/"), Ok(Seen::MissingIn(1))),
     (Call::LookUp(ROOT, b"/d/x"), Ok(Seen::MissingIn(2))),

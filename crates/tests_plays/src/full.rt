@@ -1,4 +1,4 @@
-//! A volume is filled to its last inode and its last zone, and emptied again.
+//! Volumes are filled to their last inode and their last zone, and emptied again.
 
 /// The plays.
 pub(crate) const PLAYS: &str = "volume 1024 64
@@ -79,4 +79,50 @@ user 0 0
 100 rmdir /29 -> ok
 100 rmdir /30 -> ok
 100 statfs -> block 1024 zones 58 free 57 inodes 32 free 31
+
+volume 1024 64
+# 31 links take all inodes, a zone each, and two more of the root; a further name takes no inode.
+user 0 0
+100 symlink / /1 -> ok
+100 symlink / /2 -> ok
+100 symlink / /3 -> ok
+100 symlink / /4 -> ok
+100 symlink / /5 -> ok
+100 symlink / /6 -> ok
+100 symlink / /7 -> ok
+100 symlink / /8 -> ok
+100 symlink / /9 -> ok
+100 symlink / /10 -> ok
+100 symlink / /11 -> ok
+100 symlink / /12 -> ok
+100 symlink / /13 -> ok
+100 symlink / /14 -> ok
+100 symlink / /15 -> ok
+100 symlink / /16 -> ok
+100 symlink / /17 -> ok
+100 symlink / /18 -> ok
+100 symlink / /19 -> ok
+100 symlink / /20 -> ok
+100 symlink / /21 -> ok
+100 symlink / /22 -> ok
+100 symlink / /23 -> ok
+100 symlink / /24 -> ok
+100 symlink / /25 -> ok
+100 symlink / /26 -> ok
+100 symlink / /27 -> ok
+100 symlink / /28 -> ok
+100 symlink / /29 -> ok
+100 symlink / /30 -> ok
+100 symlink / /31 -> ok
+100 statfs -> block 1024 zones 58 free 24 inodes 32 free 0
+100 symlink / /32 -> ENOSPC
+100 link /1 /32 -> ok
+100 stat /32 -> inode 1 mode 0040755 links 2 uid 0 gid 0 size 2176 times 50 100 100
+100 unlink /1 -> ok
+100 statfs -> block 1024 zones 58 free 24 inodes 32 free 0
+100 unlink /32 -> ok
+100 statfs -> block 1024 zones 58 free 26 inodes 32 free 1
+100 symlink a /33 -> ok
+100 lstat /33 -> inode 2 mode 0120777 links 1 uid 0 gid 0 size 1 times 100 100 100
+100 statfs -> block 1024 zones 58 free 24 inodes 32 free 0
 ";

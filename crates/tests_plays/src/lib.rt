@@ -13,11 +13,15 @@ mod deaths;
 #[cfg(test)]
 mod faults;
 #[cfg(test)]
+mod followed;
+#[cfg(test)]
 mod full;
 #[cfg(test)]
 mod images;
 #[cfg(test)]
 mod largest;
+#[cfg(test)]
+mod links;
 #[cfg(test)]
 mod moves;
 #[cfg(test)]

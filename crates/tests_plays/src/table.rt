@@ -1,10 +1,13 @@
 //! Each play that is written as text.
-use crate::{attributes, bytes, calls, full, images, moves, opened, opening, places, renames};
+use crate::{
+    attributes, bytes, calls, followed, full, images, links, moves, opened, opening, places,
+    renames,
+};
 use fixtures_plays::texts::{all_are_played, both_are_played};
 use std::test::Fail;
 
 /// The texts of plays, and how many plays each has.
-static PLAYS: [(&str, usize); 10] = [
+static PLAYS: [(&str, usize); 12] = [
     (opening::PLAYS, 6),
     (opened::PLAYS, 5),
     (attributes::PLAYS, 4),
@@ -12,9 +15,11 @@ static PLAYS: [(&str, usize); 10] = [
     (places::PLAYS, 5),
     (renames::PLAYS, 9),
     (moves::PLAYS, 11),
-    (full::PLAYS, 1),
+    (full::PLAYS, 2),
     (calls::PLAYS, 20),
     (images::PLAYS, 3),
+    (links::PLAYS, 7),
+    (followed::PLAYS, 11),
 ];
 
 /// Each is played, and at last one that another service reads from the image that is left.

@@ -2,10 +2,10 @@
 use bitflags::Flags;
 use errno::Errno;
 use reply_text::text::{OutcomeText, ReplyText};
-use std::alloc::Global;
+use std::alloc::{AllocError, Global};
 use std::test::Fail;
 use tests_texts::is_told;
-use tree::{Attributes, Entry, OpenFlags, Outcome, Reply, Room};
+use tree::{Attributes, Entry, LinkTarget, OpenFlags, Outcome, Reply, Room};
 
 /// Each error with its number and its name.
 static ERRORS: [(Errno, &str); 19] = [
@@ -104,6 +104,38 @@ fn lists_are_written(alloc: Global) -> Result<(), Fail> {
     is_written(alloc, &names, "names 2 61:2 6e3135:16")
 }
 
+/// Targets, which are written as bytes are, up to their length.
+fn targets_are_written(alloc: Global) -> Result<(), Fail> {
+    let mut bytes = [0u8; 1023];
+    for (place, byte) in bytes.iter_mut().zip([b'd', 0xff, b'/', b'x']) {
+        *place = byte;
+    }
+    let cases = [
+        (0, "bytes -"),
+        (1, "bytes 64"),
+        (3, "bytes 64ff2f"),
+        (5, "bytes 64ff2f7800"),
+    ];
+    for (length, wanted) in cases {
+        is_written(alloc, &Reply::Target(LinkTarget { bytes, length }), wanted)?;
+    }
+    let longest = Reply::Target(LinkTarget {
+        bytes: [0xa5; 1023],
+        length: 1023,
+    });
+    is_written(alloc, &longest, longest_text(alloc)?.as_str())
+}
+
+/// The text of a target of 1023 bytes a5.
+fn longest_text(alloc: Global) -> Result<String, AllocError> {
+    let mut text = String::new(alloc);
+    text.push_str("bytes ")?;
+    for _ in 0..1023u32 {
+        text.push_str("a5")?;
+    }
+    Ok(text)
+}
+
 /// Outcomes, and any flags.
 fn outcomes_and_flags(alloc: Global) -> Result<(), Fail> {
     let (cut, done) = (Outcome::Cut, Outcome::Reply(Reply::Done));
@@ -122,5 +154,6 @@ fn texts_are_the_formats(rt: HostRuntime) -> Result<(), Fail> {
     errors_are_named(rt.alloc())?;
     plain_replies_are_written(rt.alloc())?;
     lists_are_written(rt.alloc())?;
+    targets_are_written(rt.alloc())?;
     outcomes_and_flags(rt.alloc())
 }

@@ -10,3 +10,5 @@ mod verified;
 mod words;
 #[cfg(test)]
 mod writers;
+#[cfg(test)]
+mod zeros;

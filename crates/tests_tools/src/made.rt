@@ -7,7 +7,7 @@ use std::test::Fail;
 use volume_tools::make::{Status, Wanted, finish, make};
 
 /// What `make` writes on standard output and on standard error, the status, and how long the image is, if there is one.
-type Said = (&'static str, &'static str, Status, Option<usize>);
+type Said = (&'static str, &'static str, Status, Option<u64>);
 
 /// It was refused, and the line on standard error says why.
 const REFUSED: Status = Status::Refused(Told::Whole);
@@ -69,7 +69,7 @@ static FAILING: [(u32, Said); 6] = [
 fn is_said(alloc: Global, wanted: &Wanted, out: &mut Writer, said: &Said) -> bool {
     let mut err = taker(alloc);
     let made = make(alloc, wanted, out, &mut err);
-    let length = made.image.as_deref().map(|image| image.len());
+    let length = made.image.as_ref().map(|image| image.length());
     out.taken.as_slice() == said.0.as_bytes()
         && err.taken.as_slice() == said.1.as_bytes()
         && made.status == said.2

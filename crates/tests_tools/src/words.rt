@@ -171,7 +171,8 @@ fn words_are_taken_or_not(rt: HostRuntime) -> Result<(), Fail> {
 
 /// The calls, each of which has its line in the help of `mfs`.
 const CALLS: &str =
-    "open close dup read write fill seek stat fstat link unlink mkdir rmdir rename chmod chown utime truncate readdir sync statfs";
+    "open close dup read write fill seek stat fstat lstat link unlink symlink readlink mkdir rmdir rename chmod chown utime truncate \
+    readdir sync statfs";
 
 #[test]
 fn the_help_lists_each_call(rt: HostRuntime) -> Result<(), Fail> {

@@ -3,6 +3,7 @@ mod PathRows
 mod OpenRows
 mod ByteRows
 mod NodeRows
+mod SymlinkRows
 pub mod TriplePage
 mod ZoneRows
 mod BuiltRows

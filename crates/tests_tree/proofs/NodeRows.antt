@@ -4,7 +4,8 @@ use Rattle.std.specs.Prelude.{pos}
 use Rattle.errno.specs.declared.Errno.{Errno}
 use Rattle.errno.specs.declared.Errno.TheVariants.{EPERM, ENOENT, EACCES, ENOTDIR, EISDIR, EINVAL, EFBIG, ENAMETOOLONG}
 use Rattle.tree.specs.declared.Call.{Call}
-use Rattle.tree.specs.declared.Call.TheVariants.{Open, Close, Dup, Read, Write, Seek, Stat, Fstat, Link, Unlink, Mkdir, Rmdir, Rename, Chmod, Chown, Utime, Truncate, Readdir, Sync, Statfs}
+use Rattle.tree.specs.declared.Call.TheVariants.{Open, Close, Dup, Read, Write, Seek, Stat, Fstat, Link, Unlink, Mkdir, Rmdir, Rename}
+use Rattle.tree.specs.declared.Call.TheVariants.{Chmod, Chown, Utime, Truncate, Readdir, Sync, Statfs, Symlink, Readlink, Lstat}
 use Rattle.tree.specs.declared.Whence.TheVariants.{Set}
 use Rattle.tree.specs.Sums.{sum_below, some_below, least_below}
 use Rattle.tree.specs.Tree.{Tree}
@@ -145,7 +146,8 @@ abbrev all_calls : List Call
 all_calls =
     Open empty_path (flags 0) 512 ∷ Close 7 ∷ Dup 7 ∷ Read 7 70000 ∷ Write 7 (path "A") ∷ Seek 7 Set (pos 0) ∷ Stat empty_path ∷ Fstat 7
     ∷ Link empty_path empty_path ∷ Unlink empty_path ∷ Mkdir (path "/x") 493 ∷ Rmdir empty_path ∷ Rename empty_path empty_path
-    ∷ Chmod (path "/f") 0 ∷ Chown (path "/f") 0 0 ∷ Utime (path "/f") 0 0 ∷ Truncate (path "/f") 0 ∷ Readdir 7 ∷ Sync ∷ Statfs ∷ []
+    ∷ Chmod (path "/f") 0 ∷ Chown (path "/f") 0 0 ∷ Utime (path "/f") 0 0 ∷ Truncate (path "/f") 0 ∷ Readdir 7 ∷ Sync ∷ Statfs
+    ∷ Symlink empty_path empty_path ∷ Readlink empty_path ∷ Lstat empty_path ∷ []
 
 abbrev in_session : ℕ → Call → Row
 in_session session call = (record user0 { session = session }, call, refused EINVAL)
@@ -165,5 +167,6 @@ session_63 = refl
 
 -- read and readdir alone answer with memory
 memory : map may_want_memory all_calls
-    ≡ false ∷ false ∷ false ∷ true ∷ false ∷ false ∷ false ∷ false ∷ false ∷ false ∷ false ∷ false ∷ false ∷ false ∷ false ∷ false ∷ false ∷ true ∷ false ∷ false ∷ []
+    ≡ false ∷ false ∷ false ∷ true ∷ false ∷ false ∷ false ∷ false ∷ false ∷ false ∷ false ∷ false ∷ false ∷ false ∷ false ∷ false ∷ false
+    ∷ true ∷ false ∷ false ∷ false ∷ false ∷ false ∷ []
 memory = refl

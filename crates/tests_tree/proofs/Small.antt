@@ -24,7 +24,17 @@ tight = record small { zones = 19 }
 
 -- a root without names, made at 50
 abbrev pub root : Node
-root = record { permissions = 493; uid = 0; gid = 0; links = 2; atime = 50; mtime = 50; ctime = 50; body = is_directory (record { parent = 1; names = [] }) }
+root = record {
+  permissions = 493;
+  symbolic = false;
+  uid = 0;
+  gid = 0;
+  links = 2;
+  atime = 50;
+  mtime = 50;
+  ctime = 50;
+  body = is_directory (record { parent = 1; names = [] });
+}
 
 -- a root alone
 abbrev pub start : Tree
@@ -62,6 +72,7 @@ after t (call ∷ calls) = after (tree_after_call small t user0 100 call) calls
 abbrev pub folder : ℕ → ℕ → ℕ → ℕ → Names → Node
 folder permissions links atime parent names = record {
   permissions = permissions;
+  symbolic = false;
   uid = 0;
   gid = 0;
   links = links;
@@ -75,6 +86,7 @@ folder permissions links atime parent names = record {
 abbrev pub no_bytes : ℕ → Node
 no_bytes permissions = record {
   permissions = permissions;
+  symbolic = false;
   uid = 0;
   gid = 0;
   links = 1;

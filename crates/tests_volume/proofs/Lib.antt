@@ -4,3 +4,4 @@ mod ReadRows
 mod FreshRows
 mod RootRows
 mod TreeRows
+mod SymlinkRows

@@ -79,10 +79,11 @@ bytes : Gives (file_byte wide (wide_pieces (with_block 32 (replicate 64 77) tree
     ((0, 65) ∷ (1, 0) ∷ (64, 0) ∷ (448, 66) ∷ (449, 0) ∷ (1472, 67) ∷ (17855, 0) ∷ (17856, 77) ∷ (17865, 77) ∷ (17866, 0) ∷ (17919, 0) ∷ (17920, 0) ∷ [])
 bytes = refl
 
--- modes: a directory, a file; permissions are the last nine bits; only both types are known, and no bits between
+-- modes: a directory, files, a symbolic link; permissions are the last nine bits; these three types alone are known, and no bits between
 modes : Gives {B = ℕ × ℕ × Bool} (λ mode. (type_in mode, permissions_in mode, is_mode mode))
-    ((16877, (4, 493, true)) ∷ (33188, (8, 420, true)) ∷ (32768, (8, 0, true)) ∷ (41471, (10, 511, false)) ∷ (17389, (4, 493, false)) ∷ (420, (0, 420, false))
-    ∷ (65535, (15, 511, false)) ∷ [])
+    ((16877, (4, 493, true)) ∷ (33188, (8, 420, true)) ∷ (32768, (8, 0, true)) ∷ (41471, (10, 511, true)) ∷ (17389, (4, 493, false))
+    ∷ (420, (0, 420, false))
+    ∷ (43519, (10, 511, false)) ∷ (49663, (12, 511, false)) ∷ (65535, (15, 511, false)) ∷ [])
 modes = refl
 
 -- the node of an inode whose attributes all differ

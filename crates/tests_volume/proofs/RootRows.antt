@@ -62,14 +62,16 @@ first_findings_rows = refl
 abbrev with_second : Disk → Disk
 with_second d = with_byte 2 0 7 d
 
--- modes: a symbolic link, a block device, none, a directory with the setgid bit, a file with the setuid bit; two of them
+-- modes: a socket, a block device, none, a directory with the setgid bit, a file with the setuid bit, a symbolic link with the setuid bit;
+-- two of them
 abbrev modes : Rows Disk Verdict
 modes =
-    (with_second (with_block 5 (inode 41471 1 1 []) start), found 5 2)
+    (with_second (with_block 5 (inode 49663 1 0 []) start), found 5 2)
     ∷ (with_second (with_block 5 (inode 24996 1 0 []) start), found 5 2)
     ∷ (with_second start, found 5 2)
     ∷ (with_byte 4 1 69 start, found 5 1)
     ∷ (with_second (with_block 5 (inode 35236 1 0 []) start), found 5 2)
+    ∷ (with_second (with_block 5 (inode 43519 1 1 []) start), found 5 2)
     ∷ (with_byte 2 0 15 (with_block 5 (inode 33188 1 0 []) start), found 5 3)
     ∷ (with_byte 2 0 15 start, found 5 2)
     ∷ (with_byte 2 1 255 start, found 5 8)

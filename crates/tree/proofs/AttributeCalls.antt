@@ -26,7 +26,17 @@ chmod_keeps g t who now mode path small tree = in_session g t who now (Chmod pat
     chmod_each t (user_of who) now (Keeps g t) (keeps_closed g t tree) path.now mode (λ fits n node there.
     let old = tree.nodes.each n node there in
     same_body g t n node (with_ctime now (record node { permissions = mode })) tree there refl refl
-    (record { permissions = fits; links = old.links; uid = old.uid; gid = old.gid; atime = old.atime; mtime = old.mtime; ctime = small; body = old.body })))
+    (record {
+      permissions = fits;
+      links = old.links;
+      uid = old.uid;
+      gid = old.gid;
+      atime = old.atime;
+      mtime = old.mtime;
+      ctime = small;
+      body = old.body;
+      target = old.target;
+    })))
 
 -- chown
 pub chown_keeps : ChownKeeps
@@ -34,7 +44,17 @@ chown_keeps g t who now uid gid path small u v tree = in_session g t who now (Ch
     chown_each t (user_of who) now (Keeps g t) (keeps_closed g t tree) path.now uid gid (λ n node there.
     let old = tree.nodes.each n node there in
     same_body g t n node (with_ctime now (record node { uid = uid; gid = gid })) tree there refl refl
-    (record { permissions = old.permissions; links = old.links; uid = u; gid = v; atime = old.atime; mtime = old.mtime; ctime = small; body = old.body })))
+    (record {
+      permissions = old.permissions;
+      links = old.links;
+      uid = u;
+      gid = v;
+      atime = old.atime;
+      mtime = old.mtime;
+      ctime = small;
+      body = old.body;
+      target = old.target;
+    })))
 
 -- utime
 pub utime_keeps : UtimeKeeps
@@ -42,4 +62,14 @@ utime_keeps g t who now atime mtime path small a m tree = in_session g t who now
     utime_each t (user_of who) now (Keeps g t) (keeps_closed g t tree) path.now atime mtime (λ n node there.
     let old = tree.nodes.each n node there in
     same_body g t n node (with_ctime now (record node { atime = atime; mtime = mtime })) tree there refl refl
-    (record { permissions = old.permissions; links = old.links; uid = old.uid; gid = old.gid; atime = a; mtime = m; ctime = small; body = old.body })))
+    (record {
+      permissions = old.permissions;
+      links = old.links;
+      uid = old.uid;
+      gid = old.gid;
+      atime = a;
+      mtime = m;
+      ctime = small;
+      body = old.body;
+      target = old.target;
+    })))

@@ -28,7 +28,17 @@ link_keeps g t who now old new is small bytes tree = in_session g t who now (Lin
     taken_if_it_fits g t done (with_entry (with_node t n (Some (with_ctime now (more_links 1 node)))) now place n) tree (λ fits.
     (linked g is t tree now small place at.at at.free at.is_named n inside.0 inside.1 (ap kind_of made.there ∙ made.file)
     (with_ctime now (more_links 1 node)) made.file
-    (record { permissions = fit.permissions; links = omega arith; uid = fit.uid; gid = fit.gid; atime = fit.atime; mtime = fit.mtime; ctime = small; body = fit.body })
+    (record {
+      permissions = fit.permissions;
+      links = omega arith;
+      uid = fit.uid;
+      gid = fit.gid;
+      atime = fit.atime;
+      mtime = fit.mtime;
+      ctime = small;
+      body = fit.body;
+      target = fit.target;
+    })
     (ap (λ o. links_of o + 1) (sym made.there)) (omega (arith, few)) fits).is_tree)))
 
 -- mkdir

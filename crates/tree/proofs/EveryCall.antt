@@ -1,6 +1,7 @@
 -- Every client call keeps a tree a tree.
 use Rattle.std.proofs.Common.{refl, sym, subst}
-use Rattle.tree.specs.declared.Call.TheVariants.{Open, Close, Dup, Read, Write, Seek, Stat, Fstat, Link, Unlink, Mkdir, Rmdir, Rename, Chmod, Chown, Utime, Truncate, Readdir, Sync, Statfs}
+use Rattle.tree.specs.declared.Call.TheVariants.{Open, Close, Dup, Read, Write, Seek, Stat, Fstat, Link, Unlink, Mkdir, Rmdir, Rename}
+use Rattle.tree.specs.declared.Call.TheVariants.{Chmod, Chown, Utime, Truncate, Readdir, Sync, Statfs, Symlink, Readlink, Lstat}
 use Rattle.tree.specs.IsTree.{IsTree}
 use Rattle.tree.proofs.Leaves.{looks_leave}
 use Rattle.tree.specs.Keeps.{EveryCallKeeps}
@@ -11,9 +12,10 @@ use Rattle.tree.proofs.ByteCalls.{write_keeps, truncate_keeps}
 use Rattle.tree.proofs.Unlinked.{unlink_keeps}
 use Rattle.tree.proofs.CallsKeep.{link_keeps, mkdir_keeps, rmdir_keeps}
 use Rattle.tree.proofs.OpenCall.{open_keeps}
+use Rattle.tree.proofs.SymlinkCall.{symlink_keeps}
 use Rattle.tree.proofs.RenameCall.{rename_keeps}
 
--- all twenty
+-- all of them
 pub every_call_keeps : EveryCallKeeps
 every_call_keeps g t who now (Open path flags mode) is caller small fits tree = open_keeps g t who now path flags mode is caller small fits.0 tree
 every_call_keeps g t who now (Close fd) is caller small fits tree = close_keeps g t who now fd tree
@@ -35,3 +37,9 @@ every_call_keeps g t who now (Truncate path size) is caller small fits tree = tr
 every_call_keeps g t who now (Readdir fd) is caller small fits tree = subst (IsTree g) (sym (looks_leave g t who now (Readdir fd) refl)) tree
 every_call_keeps g t who now Sync is caller small fits tree = subst (IsTree g) (sym (looks_leave g t who now Sync refl)) tree
 every_call_keeps g t who now Statfs is caller small fits tree = subst (IsTree g) (sym (looks_leave g t who now Statfs refl)) tree
+every_call_keeps g t who now (Symlink target path) is caller small fits tree =
+    symlink_keeps g t who now target path is caller small fits.0 fits.1 tree
+every_call_keeps g t who now (Readlink path) is caller small fits tree =
+    subst (IsTree g) (sym (looks_leave g t who now (Readlink path) refl)) tree
+every_call_keeps g t who now (Lstat path) is caller small fits tree = subst (IsTree g)
+    (sym (looks_leave g t who now (Lstat path) refl)) tree

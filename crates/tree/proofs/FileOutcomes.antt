@@ -144,7 +144,8 @@ module _ (t : Tree) (session : ℕ) (P : Effects → Type 0) (steps : IsClosed P
 
   module _ (g : Geometry) (now fd : ℕ) (bytes : List ℕ)
       (nothing : (found : ℕ × OpenFile) (node : Node) (f : File) → IsOpenOf fd found node f → length bytes ≡ 0 → P (λ z. Ok (wrote 0, t)))
-      (each : (found : ℕ × OpenFile) (node : Node) (f : File) → IsOpenOf fd found node f → length bytes ≤ most_bytes → start found.1 f + length bytes ≤ most_size
+      (each : (found : ℕ × OpenFile) (node : Node) (f : File) → IsOpenOf fd found node f → node.symbolic ≡ false → length bytes ≤ most_bytes
+      → start found.1 f + length bytes ≤ most_size
       → P (λ z. if_it_fits (with_zones z g) (wrote (length bytes)) (after_write g now found node f bytes))) where
     abbrev put_bytes : ℕ × OpenFile → Node → File → Effects
     put_bytes found node f z = if_it_fits (with_zones z g) (wrote (length bytes)) (after_write g now found node f bytes)
@@ -152,8 +153,11 @@ module _ (t : Tree) (session : ℕ) (P : Effects → Type 0) (steps : IsClosed P
     abbrev put_any : ℕ × OpenFile → Node → File → Effects
     put_any found node f z = if length bytes == 0 then Ok (wrote 0, t) else put_bytes found node f z
 
+    abbrev write_regular : ℕ × OpenFile → Node → File → Effects
+    write_regular found node f z = refuse_if (nat_lt most_size (start found.1 f + length bytes)) EFBIG >>= λ _. put_any found node f z
+
     abbrev write_in : ℕ × OpenFile → Node → File → Effects
-    write_in found node f z = refuse_if (nat_lt most_size (start found.1 f + length bytes)) EFBIG >>= λ _. put_any found node f z
+    write_in found node f z = refuse_if node.symbolic EBADF >>= λ _. write_regular found node f z
 
     abbrev write_few : ℕ × OpenFile → Effects
     write_few found z = refuse_if (nat_lt most_bytes (length bytes)) EINVAL >>= λ _. at_file write_in EBADF found z
@@ -163,6 +167,8 @@ module _ (t : Tree) (session : ℕ) (P : Effects → Type 0) (steps : IsClosed P
         steps _ (refuse_if (not (writes found.1.flags)) EBADF) (λ _. write_few found) (plain_refuse _ _ refl) (λ _ _.
         steps _ (refuse_if (nat_lt most_bytes (length bytes)) EINVAL) (λ _. at_file write_in EBADF found) (plain_refuse _ _ refl) (λ y few.
         file_each fd write_in EBADF refl found opened (λ node f is.
+        steps _ (refuse_if node.symbolic EBADF) (λ _. write_regular found node f) (plain_refuse _ _ refl) (λ u regular.
         steps _ (refuse_if (nat_lt most_size (start found.1 f + length bytes)) EFBIG) (λ _. put_any found node f) (plain_refuse _ _ refl) (λ x fits.
         at_test P (length bytes == 0) (λ z. Ok (wrote 0, t)) (put_bytes found node f) (λ none. nothing found node f is (eqb-true (length bytes) 0 none)) (λ _.
-        each found node f is (ltb-false most_bytes (length bytes) (passed _ _ y few)) (ltb-false most_size (start found.1 f + length bytes) (passed _ _ x fits))))))))
+        each found node f is (passed _ _ u regular) (ltb-false most_bytes (length bytes) (passed _ _ y few))
+        (ltb-false most_size (start found.1 f + length bytes) (passed _ _ x fits)))))))))

@@ -6,14 +6,15 @@ use Rattle.errno.specs.declared.Errno.TheVariants.{EINVAL, EBADF, ENOTDIR}
 use Rattle.tree.specs.declared.User.{User}
 use Rattle.tree.specs.declared.Who.{Who}
 use Rattle.errno.specs.declared.Errno.{Errno}
-use Rattle.tree.specs.declared.Call.TheVariants.{Open, Close, Dup, Read, Write, Seek, Stat, Fstat, Link, Unlink, Mkdir, Rmdir, Rename, Chmod, Chown, Utime, Truncate, Readdir, Sync, Statfs}
-use Rattle.tree.specs.Tree.{Tree, most_sessions}
-use Rattle.tree.specs.Refusals.{◌>>=◌, refuse_if}
-use Rattle.tree.specs.Answers.{Answer, refused, node_is, names_are, Effect}
+use Rattle.tree.specs.declared.Call.TheVariants.{Open, Close, Dup, Read, Write, Seek, Stat, Fstat, Link, Unlink, Mkdir, Rmdir, Rename}
+use Rattle.tree.specs.declared.Call.TheVariants.{Chmod, Chown, Utime, Truncate, Readdir, Sync, Statfs, Symlink, Readlink, Lstat}
+use Rattle.tree.specs.Tree.{Tree, target_of, most_sessions}
+use Rattle.tree.specs.Refusals.{◌>>=◌, or_refuse, refuse_if}
+use Rattle.tree.specs.Answers.{Answer, refused, some_bytes, node_is, names_are, Effect}
 use Rattle.tree.specs.Flags.{reads}
-use Rattle.tree.specs.Walk.{walk, node_at}
+use Rattle.tree.specs.Walk.{walk, walk_to_last, read_path, node_at}
 use Rattle.tree.specs.Changes.{open_file_of}
-use Rattle.tree.specs.NodeCalls.{stat, attributes_of}
+use Rattle.tree.specs.NodeCalls.{stat, lstat, readlink, attributes_of}
 use Rattle.tree.specs.FileCalls.{fstat, readdir, names_or}
 use Rattle.tree.specs.Effects.{effect_in_session, user_of}
 use Rattle.tree.specs.Laws.{RefusedLeaves, LooksLeave}
@@ -48,6 +49,22 @@ stat_leaves t user path =
     bound t (walk t user path) (λ n. node_at t n >>= λ node. Ok (node_is (attributes_of n node), t)) (λ n.
     bound t (node_at t n) (λ node. Ok (node_is (attributes_of n node), t)) (λ node. answered t _))
 
+-- lstat leaves the tree
+lstat_leaves : (t : Tree) (user : User) (path : List ℕ) → Leaves t (lstat t user path)
+lstat_leaves t user path =
+    bound t (read_path path) (λ parts. walk_to_last t user parts >>= λ n. node_at t n >>= λ node. Ok (node_is (attributes_of n node), t))
+    (λ parts.
+    bound t (walk_to_last t user parts) (λ n. node_at t n >>= λ node. Ok (node_is (attributes_of n node), t)) (λ n.
+    bound t (node_at t n) (λ node. Ok (node_is (attributes_of n node), t)) (λ node. answered t _)))
+
+-- readlink leaves the tree
+readlink_leaves : (t : Tree) (user : User) (path : List ℕ) → Leaves t (readlink t user path)
+readlink_leaves t user path =
+    bound t (read_path path) (λ parts. walk_to_last t user parts >>= λ n. or_refuse (target_of (t.nodes n)) EINVAL
+    >>= λ target. Ok (some_bytes target, t)) (λ parts.
+    bound t (walk_to_last t user parts) (λ n. or_refuse (target_of (t.nodes n)) EINVAL >>= λ target. Ok (some_bytes target, t)) (λ n.
+    bound t (or_refuse (target_of (t.nodes n)) EINVAL) (λ target. Ok (some_bytes target, t)) (λ target. answered t _)))
+
 -- fstat leaves the tree
 fstat_leaves : (t : Tree) (session fd : ℕ) → Leaves t (fstat t session fd)
 fstat_leaves t session fd =
@@ -73,6 +90,12 @@ looks_leave g t who now (Fstat fd) h = (bound t (session_refused who) (λ _. eff
 looks_leave g t who now (Readdir fd) h = (bound t (session_refused who) (λ _. effect_in_session g t who now (Readdir fd)) (λ _. readdir_leaves t who.session fd)).same
 looks_leave g t who now Sync h = (bound t (session_refused who) (λ _. effect_in_session g t who now Sync) (λ _. answered t _)).same
 looks_leave g t who now Statfs h = (bound t (session_refused who) (λ _. effect_in_session g t who now Statfs) (λ _. answered t _)).same
+looks_leave g t who now (Readlink path) h =
+    (bound t (session_refused who) (λ _. effect_in_session g t who now (Readlink path))
+    (λ _. readlink_leaves t (user_of who) path.now)).same
+looks_leave g t who now (Lstat path) h =
+    (bound t (session_refused who) (λ _. effect_in_session g t who now (Lstat path)) (λ _. lstat_leaves t (user_of who) path.now)).same
+looks_leave g t who now (Symlink target path) h = absurd (false_not_true h)
 looks_leave g t who now (Open path flags mode) h = absurd (false_not_true h)
 looks_leave g t who now (Close fd) h = absurd (false_not_true h)
 looks_leave g t who now (Dup fd) h = absurd (false_not_true h)

@@ -4,6 +4,7 @@ pub mod Leaves
 pub mod Fresh
 pub mod Needs
 pub mod FlagBits
+pub mod Walks
 pub mod Names
 pub mod Search
 pub mod Steps
@@ -61,3 +62,6 @@ pub mod MovedDirectory
 pub mod Kept
 pub mod AttributeCalls
 pub mod Order
+pub mod Symlinks
+pub mod SymlinkCall
+pub mod Targets

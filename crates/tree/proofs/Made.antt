@@ -127,6 +127,7 @@ module _ (g : Geometry) (is_geometry : IsGeometry g) (t : Tree) (tree : IsTree g
     mtime = small;
     ctime = small;
     body = record { size = omega arith; names = refl; sorted = refl };
+    target = λ h. absurd (false_not_true h);
   }
 
   module _ (fits : zones_used g after ≤ data_zones g) where

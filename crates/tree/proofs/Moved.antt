@@ -2,9 +2,7 @@
 use Rattle.std.proofs.Common.{◌≡◌, ◌≢◌, ◌<◌, ◌≤◌, ◌+◌, ◌*◌, ◌^◌, ℕ, true, false, refl, sym, ap, ◌∙◌, arith}
 use mathlib.Core.Logic.{inl, inr}
 use Rattle.std.specs.Prelude.{Option, None, Some, is_some}
-use Rattle.std.specs.Ordering.{eq_by_cmp, is_eq}
-use Rattle.std.specs.declared.cmp.Ordering.{Ordering}
-use Rattle.std.specs.declared.cmp.Ordering.TheVariants.{Less, Equal, Greater}
+use Rattle.std.specs.Ordering.{eq_by_cmp}
 use Rattle.std.proofs.lemmas.Bool.{cases_eq, cases_Bool}
 use Rattle.std.specs.Cmp.Lexicographic.{nat_list_cmp_total}
 use Rattle.std.specs.FinMap.Entries.{find_tied}
@@ -60,6 +58,7 @@ under_fits g now d small node (is_file f) fit = record {
   mtime = fit.mtime;
   ctime = small;
   body = fit.body;
+  target = fit.target;
 }
 under_fits g now d small node (is_directory x) fit = record {
   permissions = fit.permissions;
@@ -70,6 +69,7 @@ under_fits g now d small node (is_directory x) fit = record {
   mtime = fit.mtime;
   ctime = small;
   body = record { size = fit.body.size; names = fit.body.names; sorted = fit.body.sorted };
+  target = fit.target;
 }
 
 -- a directory without a name has the names without it

@@ -210,7 +210,17 @@ module _ (g : Geometry) (is : IsGeometry g) (t : Tree) (tree : IsTree g t) (now 
       lost_agree : NodesAgree g lost.nodes
       lost_agree = shaped_agree g lost.nodes lost_shape
           (fits_on g after q (with_link_lost now) (moved_fit g t tree now small old new from to n node there found named size)
-          (λ x e fit. record { permissions = fit.permissions; links = omega arith; uid = fit.uid; gid = fit.gid; atime = fit.atime; mtime = fit.mtime; ctime = small; body = fit.body }))
+          (λ x e fit. record {
+            permissions = fit.permissions;
+            links = omega arith;
+            uid = fit.uid;
+            gid = fit.gid;
+            atime = fit.atime;
+            mtime = fit.mtime;
+            ctime = small;
+            body = fit.body;
+            target = fit.target;
+          }))
           (λ m. let same = lost_links m in let few = links_fit g t.nodes tree.nodes m in omega (arith, same, few))
 
       pub file_moved_onto : IsTree g final

@@ -8,12 +8,13 @@ use Rattle.tree.specs.declared.User.{User}
 use Rattle.tree.specs.Names.{Name, inode_of}
 use Rattle.tree.specs.Tree.{Node, Tree, is_dir, is_open, with_node, on_node, most_links, most_permissions}
 use Rattle.tree.specs.Refusals.{◌>>=◌, or_refuse, refuse_if}
-use Rattle.tree.specs.Walk.{read_path, walk_parts, parent_walk, node_at, has_last_name, is_taken, Place, may_access, to_write}
+use Rattle.tree.specs.Walk.{read_path, walk_to_last, parent_walk, node_at, has_last_name, is_taken, Place, may_access, to_write}
 use Rattle.tree.specs.Changes.{with_ctime, more_links, fewer_links, new_node, empty_directory, free_inode}
 use Rattle.tree.specs.Answers.{done, if_it_fits}
 use Rattle.tree.specs.NameCalls.{with_entry, without_entry, is_empty, link, mkdir, rmdir}
 use Rattle.tree.proofs.Steps.{passed, was_there}
-use Rattle.tree.proofs.Outcomes.{Effects, IsClosed, with_zones, IsFree, NoInodeFree, at_free_inode, plain_refuse, plain_or, plain_node, plain_read, plain_walk_parts, plain_parent_walk}
+use Rattle.tree.proofs.Outcomes.{Effects, IsClosed, with_zones, IsFree, NoInodeFree, at_free_inode, plain_refuse, plain_or, plain_node}
+use Rattle.tree.proofs.Outcomes.{plain_read, plain_walk_to_last, plain_parent_walk}
 
 -- the tree with a new directory
 abbrev pub with_new_directory : Tree → User → ℕ → ℕ → Place → ℕ → Tree
@@ -58,7 +59,7 @@ module _ (g : Geometry) (t : Tree) (user : User) (now : ℕ) (P : Effects → Ty
     from_walk parts n z = node_at t n >>= λ node. from_node parts n node z
 
     abbrev from_new : List Name → List Name → Effects
-    from_new old_parts parts z = walk_parts t user old_parts >>= λ n. from_walk parts n z
+    from_new old_parts parts z = walk_to_last t user old_parts >>= λ n. from_walk parts n z
 
     abbrev from_old : List Name → Effects
     from_old old_parts z = read_path new >>= λ parts. from_new old_parts parts z
@@ -67,7 +68,7 @@ module _ (g : Geometry) (t : Tree) (user : User) (now : ℕ) (P : Effects → Ty
     link_each =
         steps _ (read_path old) from_old (plain_read old) (λ old_parts _.
         steps _ (read_path new) (from_new old_parts) (plain_read new) (λ parts read.
-        steps _ (walk_parts t user old_parts) (from_walk parts) (plain_walk_parts t user old_parts) (λ n _.
+        steps _ (walk_to_last t user old_parts) (from_walk parts) (plain_walk_to_last t user old_parts) (λ n _.
         steps _ (node_at t n) (from_node parts n) (plain_node t n) (λ node at_node.
         steps _ (refuse_if (is_dir node) EPERM) (λ _. from_file parts n node) (plain_refuse _ _ refl) (λ x file.
         steps _ (refuse_if (nat_le most_links node.links) EMLINK) (λ _. from_few parts n node) (plain_refuse _ _ refl) (λ y few.

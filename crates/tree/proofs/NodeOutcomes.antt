@@ -7,15 +7,16 @@ use Rattle.errno.specs.declared.Errno.{Errno}
 use Rattle.errno.specs.declared.Errno.TheVariants.{EPERM, ENOENT, EACCES, EISDIR, EINVAL, EFBIG}
 use Rattle.tree.specs.declared.User.{User}
 use Rattle.tree.specs.Names.{Name, inode_of}
-use Rattle.tree.specs.Tree.{Body, File, is_file, is_directory, Node, Tree, is_dir, with_node, most_size, most_permissions}
+use Rattle.tree.specs.Tree.{Body, File, is_file, is_directory, Node, Tree, target_of, is_dir, with_node, most_size, most_permissions}
 use Rattle.tree.specs.Refusals.{◌>>=◌, or_refuse, refuse_if}
-use Rattle.tree.specs.Walk.{read_path, walk, parent_walk, node_at, has_last_name, Place, may_access, to_write, is_owner}
+use Rattle.tree.specs.Walk.{read_path, walk, walk_to_last, parent_walk, node_at, has_last_name, Place, may_access, to_write, is_owner}
 use Rattle.tree.specs.Changes.{with_ctime, with_body, file_after_resize}
-use Rattle.tree.specs.Answers.{done, node_is}
-use Rattle.tree.specs.NodeCalls.{attributes_of, file_or, stat, chmod, chown, utime, truncate}
+use Rattle.tree.specs.Answers.{done, some_bytes, node_is}
+use Rattle.tree.specs.NodeCalls.{attributes_of, file_or, stat, lstat, readlink, chmod, chown, utime, truncate}
 use Rattle.tree.specs.NameCalls.{without_entry, with_name_lost, unlink}
 use Rattle.tree.proofs.Steps.{passed, was_there, not_refused, ok_is}
-use Rattle.tree.proofs.Outcomes.{Effects, IsClosed, is_enospc, is_plain, plain_refuse, plain_or, plain_node, plain_read, plain_walk, plain_parent_walk}
+use Rattle.tree.proofs.Outcomes.{Effects, IsClosed, is_enospc, is_plain, plain_refuse, plain_or, plain_node, plain_read, plain_walk}
+use Rattle.tree.proofs.Outcomes.{plain_walk_to_last, plain_parent_walk}
 
 -- The file that a node is.
 
@@ -56,6 +57,25 @@ module _ (t : Tree) (user : User) (now : ℕ) (P : Effects → Type 0) (steps : 
   pub stat_each : (path : List ℕ) → ((n : ℕ) (node : Node) → t.nodes n ≡ Some node → P (λ z. Ok (node_is (attributes_of n node), t))) → P (λ z. stat t user path)
   stat_each path each = found_each path (λ n node z. Ok (node_is (attributes_of n node), t)) each
 
+  -- a node that a path names, as it stands
+  module _ (path : List ℕ) (tell : ℕ → Effects) (each : (n : ℕ) → P (tell n)) where
+    abbrev named_at : List Name → Effects
+    named_at parts z = walk_to_last t user parts >>= λ n. tell n z
+
+    named_last : P (λ z. read_path path >>= λ parts. named_at parts z)
+    named_last =
+        steps _ (read_path path) named_at (plain_read path) (λ parts _.
+        steps _ (walk_to_last t user parts) tell (plain_walk_to_last t user parts) (λ n _. each n))
+
+  pub lstat_each : (path : List ℕ) → ((n : ℕ) (node : Node) → P (λ z. Ok (node_is (attributes_of n node), t))) → P (λ z. lstat t user path)
+  lstat_each path each = named_last path (λ n z. node_at t n >>= λ node. Ok (node_is (attributes_of n node), t)) (λ n.
+      steps _ (node_at t n) (λ node z. Ok (node_is (attributes_of n node), t)) (plain_node t n) (λ node _. each n node))
+
+  pub readlink_each : (path : List ℕ) → ((target : List ℕ) → P (λ z. Ok (some_bytes target, t))) → P (λ z. readlink t user path)
+  readlink_each path each = named_last path (λ n z. or_refuse (target_of (t.nodes n)) EINVAL >>= λ target. Ok (some_bytes target, t)) (λ n.
+      steps _ (or_refuse (target_of (t.nodes n)) EINVAL) (λ target z. Ok (some_bytes target, t)) (plain_or _ _ refl)
+      (λ target _. each target))
+
   pub chmod_each : (path : List ℕ) (mode : ℕ)
       → (mode ≤ most_permissions → (n : ℕ) (node : Node) → t.nodes n ≡ Some node → P (λ z. Ok (done, with_node t n (Some (with_ctime now (record node { permissions = mode }))))))
       → P (λ z. chmod t user now path mode)
@@ -76,9 +96,13 @@ module _ (t : Tree) (user : User) (now : ℕ) (P : Effects → Type 0) (steps : 
 
   -- A file that another size is set of.
   module _ (path : List ℕ) (size : ℕ) (set_size : ℕ → Node → File → Effects)
-      (each : (n : ℕ) (node : Node) (f : File) → size ≤ most_size → t.nodes n ≡ Some node → node.body ≡ is_file f → P (set_size n node f)) where
+      (each : (n : ℕ) (node : Node) (f : File) → size ≤ most_size → t.nodes n ≡ Some node → node.body ≡ is_file f → node.symbolic ≡ false
+      → P (set_size n node f)) where
+    abbrev at_regular : ℕ → Node → File → Effects
+    at_regular n node f z = refuse_if (not (may_access user node to_write)) EACCES >>= λ _. set_size n node f z
+
     abbrev at_file : ℕ → Node → File → Effects
-    at_file n node f z = refuse_if (not (may_access user node to_write)) EACCES >>= λ _. set_size n node f z
+    at_file n node f z = refuse_if node.symbolic EISDIR >>= λ _. at_regular n node f z
 
     abbrev at_node : ℕ → Node → Effects
     at_node n node z = file_or node EISDIR >>= λ f. at_file n node f z
@@ -88,11 +112,12 @@ module _ (t : Tree) (user : User) (now : ℕ) (P : Effects → Type 0) (steps : 
         steps _ (refuse_if (nat_lt most_size size) EFBIG) (λ _ z. walk t user path >>= λ n. node_at t n >>= λ node. at_node n node z) (plain_refuse _ _ refl) (λ x fits.
         found_each path at_node (λ n node there.
         steps _ (file_or node EISDIR) (at_file n node) (plain_file node EISDIR refl) (λ f is_f.
+        steps _ (refuse_if node.symbolic EISDIR) (λ _. at_regular n node f) (plain_refuse _ _ refl) (λ y regular.
         steps _ (refuse_if (not (may_access user node to_write)) EACCES) (λ _. set_size n node f) (plain_refuse _ _ refl) (λ _ _.
-        each n node f (ltb-false most_size size (passed _ _ x fits)) there (file_is node EISDIR f is_f)))))
+        each n node f (ltb-false most_size size (passed _ _ x fits)) there (file_is node EISDIR f is_f) (passed _ _ y regular))))))
 
   pub truncate_each : (g : Geometry) (path : List ℕ) (size : ℕ)
-      → ((n : ℕ) (node : Node) (f : File) → size ≤ most_size → t.nodes n ≡ Some node → node.body ≡ is_file f
+      → ((n : ℕ) (node : Node) (f : File) → size ≤ most_size → t.nodes n ≡ Some node → node.body ≡ is_file f → node.symbolic ≡ false
       → P (λ z. Ok (done, with_node t n (Some (with_body now (is_file (file_after_resize g f size)) node)))))
       → P (λ z. truncate g t user now path size)
   truncate_each g path size each = sized_each path size (λ n node f z. Ok (done, with_node t n (Some (with_body now (is_file (file_after_resize g f size)) node)))) each

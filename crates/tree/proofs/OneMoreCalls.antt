@@ -1,5 +1,5 @@
 -- When a client call is refused for want of an inode.
-use Rattle.std.proofs.Common.{◌≡◌, ℕ, true, refl, sym, ap, ◌∙◌}
+use Rattle.std.proofs.Common.{◌≡◌, ℕ, List, true, refl, sym, ap, ◌∙◌}
 use mathlib.Core.Logic.{inl, inr}
 use Rattle.std.specs.Prelude.{Some, is_some, nat_le}
 use Rattle.std.proofs.lemmas.Bool.{cases_Bool}
@@ -8,11 +8,12 @@ use Rattle.layout.specs.declared.Geometry.{Geometry}
 use Rattle.errno.specs.declared.Errno.TheVariants.{EINVAL}
 use Rattle.tree.specs.declared.Who.{Who}
 use Rattle.tree.specs.declared.Call.{Call}
-use Rattle.tree.specs.declared.Call.TheVariants.{Open, Close, Dup, Read, Write, Seek, Stat, Fstat, Link, Unlink, Mkdir, Rmdir, Rename, Chmod, Chown, Utime, Truncate, Readdir, Sync, Statfs}
+use Rattle.tree.specs.declared.Call.TheVariants.{Open, Close, Dup, Read, Write, Seek, Stat, Fstat, Link, Unlink, Mkdir, Rmdir, Rename}
+use Rattle.tree.specs.declared.Call.TheVariants.{Chmod, Chown, Utime, Truncate, Readdir, Sync, Statfs, Symlink, Readlink, Lstat}
 use Rattle.tree.specs.Tree.{Tree, with_node, most_sessions}
 use Rattle.tree.specs.Refusals.{refuse_if}
 use Rattle.tree.specs.Walk.{Place}
-use Rattle.tree.specs.Changes.{new_node, empty_file, empty_directory, more_links}
+use Rattle.tree.specs.Changes.{new_node, new_link, empty_file, empty_directory, more_links}
 use Rattle.tree.specs.Names.{with_name}
 use Rattle.tree.specs.Answers.{done, descriptor}
 use Rattle.tree.specs.FileCalls.{Slot, with_open, after_truncate_flag}
@@ -23,6 +24,7 @@ use Rattle.tree.specs.Room.{with_one_inode_more, NoInodeFree, may_make, FullIsRe
 use Rattle.tree.proofs.Outcomes.{plain_refuse}
 use Rattle.tree.proofs.OpenOutcomes.{with_new_file, open_up_to_inode}
 use Rattle.tree.proofs.NameOutcomes.{with_new_directory, mkdir_up_to_inode}
+use Rattle.tree.proofs.Symlinks.{with_new_link, symlink_up_to_inode}
 use Rattle.tree.proofs.OpenCall.{cut_is}
 use Rattle.tree.proofs.Views.{view_kept, some_named}
 use Rattle.tree.proofs.Spaced.{IsNoMore, no_more_itself, no_more_at}
@@ -43,6 +45,12 @@ module _ (g : Geometry) (t : Tree) (full : NoInodeFree g t) (who : Who) (now : �
       view_kept is_some (with_entry (with_node t n node) now place n) place.directory (more_links 1) (λ _. refl) n
       ∙ (some_named (with_node t n node) place.directory now (λ names. with_name names place.name n) n ∙ ap is_some (put-same t.nodes n node))
 
+  -- the new link is there
+  link_there : (target : List ℕ) (place : Place) (n : ℕ) → is_some ((with_new_link t (user_of who) now target place n).nodes n) ≡ true
+  link_there target place n =
+      let node = Some (new_link now (user_of who) target) in
+      some_named (with_node t n node) place.directory now (λ names. with_name names place.name n) n ∙ ap is_some (put-same t.nodes n node)
+
   -- a call that may make a node wants an inode
   call_wants : (call : Call) → may_make call ≡ true → WantsInode g t (λ z. effect_in_session (volumes g z) t who now call)
   call_wants (Open path flags mode) _ =
@@ -55,6 +63,11 @@ module _ (g : Geometry) (t : Tree) (full : NoInodeFree g t) (who : Who) (now : �
   call_wants (Mkdir path mode) _ =
       mkdir_up_to_inode g t (user_of who) now (WantsInode g t) (wants_closed g t) (volumes g) path.now mode (λ place parent asked.
       wants_inode g t full done (with_new_directory t (user_of who) now mode place) (directory_there mode place))
+  call_wants (Symlink target path) _ =
+      symlink_up_to_inode g t (user_of who) now (WantsInode g t) (wants_closed g t) (volumes g) target.now path.now (λ place asked.
+      wants_inode g t full done (with_new_link t (user_of who) now target.now place) (link_there target.now place))
+  call_wants (Readlink path) never = absurd (false_not_true never)
+  call_wants (Lstat path) never = absurd (false_not_true never)
   call_wants (Close fd) never = absurd (false_not_true never)
   call_wants (Dup fd) never = absurd (false_not_true never)
   call_wants (Read fd count) never = absurd (false_not_true never)

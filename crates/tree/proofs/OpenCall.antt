@@ -1,7 +1,7 @@
 -- Open keeps a tree a tree.
 use Rattle.std.proofs.Common.{◌≡◌, ◌<◌, ◌+◌, ◌^◌, ℕ, List, Bool, true, false, refl, sym, ap, subst, ◌∙◌, arith}
 use mathlib.Core.Logic.{inl, inr}
-use Rattle.std.specs.Prelude.{Option, None, Some, is_some, Ok}
+use Rattle.std.specs.Prelude.{Option, None, Some, is_some, Ok, Result, not, IsTrue, if◌then◌else◌, ◌&&◌}
 use Rattle.std.specs.List.{All}
 use Rattle.std.proofs.lemmas.Bool.{cases_Bool, cond_both, cond-true, cond-false, and_cases, not_from_false}
 use Rattle.lemmas.proofs.Bools.{false_not_true}
@@ -11,10 +11,13 @@ use Rattle.tree.specs.declared.User.{User}
 use Rattle.tree.specs.declared.Call.TheVariants.{Open}
 use Rattle.tree.specs.Names.{Name, inode_of}
 use Rattle.tree.specs.Flags.{writes, truncates}
-use Rattle.tree.specs.Tree.{Body, File, is_file, is_directory, Node, Tree, is_dir, with_node, most_sessions}
-use Rattle.tree.specs.IsTree.{IsTree}
+use Rattle.tree.specs.Tree.{Body, File, is_file, is_directory, Node, Tree, is_dir, is_dir_at, is_link_at, with_node, most_sessions}
+use Rattle.errno.specs.declared.Errno.{Errno}
+use Rattle.tree.proofs.Walks.{walk_ends_at_no_link}
+use Rattle.tree.specs.IsTree.{HasTarget, IsTree}
 use Rattle.tree.specs.Refusals.{◌>>=◌}
-use Rattle.tree.specs.Walk.{Place, Found, is_there, is_missing, found_at, look_up, walk_parts, parent_walk, has_last_name}
+use Rattle.tree.specs.Walk.{Place, Found, is_there, is_missing, found_at, finds_link, open_look_up, look_up, walk_parts, parent_walk}
+use Rattle.tree.specs.Walk.{has_last_name}
 use Rattle.tree.specs.Changes.{new_node, empty_file, with_body, file_after_resize}
 use Rattle.tree.specs.Answers.{descriptor, if_it_fits}
 use Rattle.tree.specs.NameCalls.{with_entry}
@@ -73,6 +76,62 @@ missing_at t user parts place h = elim (cases_Bool (has_last_name parts)) [
       absurd (false_not_true (ap is_missing_place (ok_is (is_there walked.0) (is_missing place) (Ok (is_there walked.0)) refl walked.2)))
 ]
 
+-- what open finds where its look-up found this
+abbrev after_look : (t : Tree) (user : User) (as_is : Bool) (parts : List Name) (x : Found) → Result Found Errno
+after_look t user as_is parts x = if not as_is && finds_link t x then (walk_parts t user parts >>= λ n. Ok (is_there n)) else Ok x
+
+-- a look-up for open finds no name where the look-up finds none
+open_missing_at : (t : Tree) (user : User) (as_is : Bool) (parts : List Name) (place : Place)
+    → open_look_up t user as_is parts ≡ Ok (is_missing place) → look_up t user parts ≡ Ok (is_missing place)
+open_missing_at t user as_is parts place h =
+    let first = both_steps (look_up t user parts) (after_look t user as_is parts) (is_missing place) h in
+    elim (cases_Bool (not as_is && finds_link t first.0)) [
+      | inl followed ↦
+          let walked = both_steps (walk_parts t user parts) (λ n. Ok (is_there n)) (is_missing place)
+          (sym (cond-true _ (walk_parts t user parts >>= λ n. Ok (is_there n)) (Ok first.0) followed) ∙ first.2) in
+          absurd (false_not_true
+          (ap is_missing_place (ok_is (is_there walked.0) (is_missing place) (Ok (is_there walked.0)) refl walked.2)))
+      | inr stays ↦ first.1 ∙ sym (cond-false _ (walk_parts t user parts >>= λ n. Ok (is_there n)) (Ok first.0) stays) ∙ first.2
+    ]
+
+-- the node that was found
+abbrev node_or : ℕ → Found → ℕ
+node_or x (is_there n) = n
+node_or x (is_missing place) = x
+
+-- where links are followed, what open finds is no link
+open_finds_no_link : (t : Tree) (user : User) (parts : List Name) (n : ℕ) → is_link_at t.nodes 1 ≡ false
+    → open_look_up t user false parts ≡ Ok (is_there n) → is_link_at t.nodes n ≡ false
+open_finds_no_link t user parts n root h =
+    let first = both_steps (look_up t user parts) (after_look t user false parts) (is_there n) h in
+    elim (cases_Bool (finds_link t first.0)) [
+      | inl followed ↦
+          let walked = both_steps (walk_parts t user parts) (λ m. Ok (is_there m)) (is_there n)
+          (sym (cond-true _ (walk_parts t user parts >>= λ m. Ok (is_there m)) (Ok first.0) followed) ∙ first.2) in
+          let same : walked.0 ≡ n = ap (node_or 0) (ok_is (is_there walked.0) (is_there n) (Ok (is_there walked.0)) refl walked.2) in
+          walk_ends_at_no_link t user parts n root (walked.1 ∙ ap Ok same)
+      | inr stays ↦
+          let same : first.0 ≡ is_there n = ok_is first.0 (is_there n) (Ok first.0) refl
+          (sym (cond-false _ (walk_parts t user parts >>= λ m. Ok (is_there m)) (Ok first.0) stays) ∙ first.2) in
+          sym (ap (finds_link t) same) ∙ stays
+    ]
+
+-- the root of a tree is no link
+root_no_link : (g : Geometry) (t : Tree) → IsTree g t → is_link_at t.nodes 1 ≡ false
+root_no_link g t tree = by_node (t.nodes 1) refl
+  where
+    by_body : (symbolic : Bool) (body : Body) → (IsTrue symbolic → HasTarget body)
+        → (elim body [ is_file f ↦ false | is_directory d ↦ true ]) ≡ true → symbolic ≡ false
+    by_body false body target is = refl
+    by_body true (is_file f) target is = absurd (false_not_true is)
+    by_body true (is_directory d) target is = absurd (target refl)
+
+    by_node : (o : Option Node) → t.nodes 1 ≡ o → is_link_at t.nodes 1 ≡ false
+    by_node None e = ap (λ o. elim o [ None ↦ false | Some node ↦ node.symbolic ]) e
+    by_node (Some node) e =
+        ap (λ o. elim o [ None ↦ false | Some x ↦ x.symbolic ]) e
+        ∙ by_body node.symbolic node.body (tree.nodes.each 1 node e).target (sym (ap (λ o. is_dir_at (λ _. o) 1) e) ∙ tree.nodes.root)
+
 -- what holds of the tree, and of the tree in which the file is cut, holds after the truncate flag
 pub cut_is : (g : Geometry) (t : Tree) (now flags n : ℕ) (Q : Tree → Type 0) → Q t → (body : Body) (node : Node)
     → ((f : File) → body ≡ is_file f → Q (with_node t n (Some (with_body now (is_file (file_after_resize g f 0)) (record node { body = body })))))
@@ -92,6 +151,14 @@ module _ (g : Geometry) (t : Tree) (user : User) (now session : ℕ) (path : Lis
     no_file = ap (λ f. f slot.number) over.files ∙ asked.number.1;
   }
 
+  -- a node that is opened is no link
+  no_link : (slot : Slot) (n : ℕ) (node : Node) → IsThere g t user now session path flags mode (Keeps g t)
+      (keeps_closed g t tree) slot n node → node.symbolic ≡ false
+  no_link slot n node is_it =
+      sym (ap (λ o. elim o [ None ↦ false | Some x ↦ x.symbolic ]) is_it.at_inode)
+      ∙ open_finds_no_link t user is_it.parts n (root_no_link g t tree)
+      (subst (λ b. open_look_up t user b is_it.parts ≡ Ok (is_there n)) is_it.not_exclusive is_it.asked.looked)
+
   opened_there : (slot : Slot) (n : ℕ) (node : Node) → IsThere g t user now session path flags mode (Keeps g t) (keeps_closed g t tree) slot n node
       → IsTree g (with_open (after_truncate_flag g t now flags n node) slot n flags)
   opened_there slot n node is_it =
@@ -104,7 +171,7 @@ module _ (g : Geometry) (t : Tree) (user : User) (now session : ℕ) (path : Lis
       let new = with_body now (is_file (file_after_resize g f 0)) node in
       let u = with_node t n (Some new) in
       opened_is_tree g u
-      (file_changed g t n now node f (file_after_resize g f 0) small is_it.at_inode body
+      (file_changed g t n now node f (file_after_resize g f 0) small is_it.at_inode body (no_link slot n node is_it)
       (resized_fits g f 0 (omega arith) (file_fits g node f (tree.nodes.each n node is_it.at_inode) body)) tree)
       slot (slot_free slot is_it.parts (is_there n) is_it.asked u (record { files = refl; descriptors = refl })) n flags
       (ap is_some (put-same t.nodes n (Some new))) good (λ w. ap kind_of (put-same t.nodes n (Some new))))
@@ -112,7 +179,7 @@ module _ (g : Geometry) (t : Tree) (user : User) (now session : ℕ) (path : Lis
   opened_new : (slot : Slot) (place : Place) (n : ℕ) → IsMissing g t user now session path flags mode (Keeps g t) (keeps_closed g t tree) slot place n
       → Keeps g t (λ z. if_it_fits g (descriptor slot.fd) (with_open (with_entry (with_node t n (Some (new_node now user mode 1 empty_file))) now place n) slot n flags))
   opened_new slot place n is_it =
-      let missing = missing_at t user is_it.parts place is_it.asked.looked in
+      let missing = missing_at t user is_it.parts place (open_missing_at t user _ is_it.parts place is_it.asked.looked) in
       let free = is_it.inode in
       let made = linked g is t tree now small place (is_place t user is_it.parts place missing.walked) missing.free
       (last_named t user path is_it.parts place bytes is_it.asked.read missing.walked missing.last)
@@ -126,6 +193,7 @@ module _ (g : Geometry) (t : Tree) (user : User) (now session : ℕ) (path : Lis
         mtime = small;
         ctime = small;
         body = record { size = omega arith; held = λ q h. absurd (false_not_true h); zeros = λ p h. refl; bytes = λ p. omega arith };
+        target = λ h. absurd (false_not_true h);
       })
       (ap (λ o. links_of o + 1) (sym free.nothing)) (omega arith) in
       taken_if_it_fits g t (descriptor slot.fd) (with_open (with_entry (with_node t n (Some (new_node now user mode 1 empty_file))) now place n) slot n flags) tree (λ fits.

@@ -9,14 +9,15 @@ use Rattle.tree.specs.Names.{Name}
 use Rattle.tree.specs.Flags.{reads, writes, creates, is_exclusive, bad_flags}
 use Rattle.tree.specs.Tree.{Node, Tree, is_dir, with_node, most_descriptors, most_open_files, most_permissions}
 use Rattle.tree.specs.Refusals.{◌>>=◌, refuse_if, free_place}
-use Rattle.tree.specs.Walk.{read_path, node_at, Place, Found, is_there, is_missing, look_up, may_access, to_read, to_write}
+use Rattle.tree.specs.Walk.{read_path, node_at, Place, Found, is_there, is_missing, open_look_up, may_access, to_read, to_write}
 use Rattle.tree.specs.Changes.{new_node, empty_file, free_inode}
 use Rattle.tree.specs.Answers.{descriptor, if_it_fits}
 use Rattle.tree.specs.NameCalls.{with_entry}
 use Rattle.tree.specs.FileCalls.{Slot, with_open, after_truncate_flag, open_found, open_path}
 use Rattle.tree.proofs.Search.{free_place_is}
 use Rattle.tree.proofs.Steps.{passed, was_there}
-use Rattle.tree.proofs.Outcomes.{Effects, IsClosed, with_zones, IsFree, NoInodeFree, at_free_inode, plain_refuse, plain_free_place, plain_node, plain_read, plain_look_up}
+use Rattle.tree.proofs.Outcomes.{Effects, IsClosed, with_zones, IsFree, NoInodeFree, at_free_inode, plain_refuse, plain_free_place}
+use Rattle.tree.proofs.Outcomes.{plain_node, plain_read, plain_open_look_up}
 
 -- the tree with a new file, open
 abbrev pub with_new_file : Tree → User → ℕ → ℕ → ℕ → Slot → Place → ℕ → Tree
@@ -32,13 +33,14 @@ module _ (g : Geometry) (t : Tree) (user : User) (now session : ℕ) (path : Lis
     pub fd : (slot.fd < most_descriptors) × (t.descriptors session slot.fd ≡ None)
     pub number : (slot.number < most_open_files) × (t.open_files slot.number ≡ None)
     pub read : read_path path ≡ Ok parts
-    pub looked : look_up t user parts ≡ Ok found
+    pub looked : open_look_up t user (creates flags && is_exclusive flags) parts ≡ Ok found
 
   -- A node that is there.
   pub record IsThere (slot : Slot) (n : ℕ) (node : Node) : Type 0 where
     pub parts : List Name
     pub asked : IsAsked slot parts (is_there n)
     pub at_inode : t.nodes n ≡ Some node
+    pub not_exclusive : (creates flags && is_exclusive flags) ≡ false
     pub not_a_directory : (is_dir node && writes flags) ≡ false
 
   -- A name that is missing, and an inode for it.
@@ -75,11 +77,18 @@ module _ (g : Geometry) (t : Tree) (user : User) (now session : ℕ) (path : Lis
 
     found_each : (slot : Slot) (parts : List Name) (found : Found) → IsAsked slot parts found → P (λ z. open_found (volumes z) t user now slot flags mode found)
     found_each slot parts (is_there n) asked =
-        steps _ (refuse_if (creates flags && is_exclusive flags) EEXIST) (λ _. from_node slot n) (plain_refuse _ _ refl) (λ _ _.
+        steps _ (refuse_if (creates flags && is_exclusive flags) EEXIST) (λ _. from_node slot n) (plain_refuse _ _ refl) (λ y shared.
         steps _ (node_at t n) (at_node slot n) (plain_node t n) (λ node node_is.
         steps _ (refuse_if (is_dir node && writes flags) EISDIR) (λ _. may_open slot n node) (plain_refuse _ _ refl) (λ x file.
         steps _ (refuse_if ((reads flags && not (may_access user node to_read)) || (writes flags && not (may_access user node to_write))) EACCES) (λ _. open_node slot n node) (plain_refuse _ _ refl) (λ _ _.
-        there slot n node (record { parts = parts; asked = asked; at_inode = was_there _ _ _ node_is; not_a_directory = passed _ _ x file })))))
+        there slot n node
+        (record {
+          parts = parts;
+          asked = asked;
+          at_inode = was_there _ _ _ node_is;
+          not_exclusive = passed _ _ y shared;
+          not_a_directory = passed _ _ x file;
+        })))))
     found_each slot parts (is_missing place) asked =
         steps _ (refuse_if (not (creates flags)) ENOENT) (λ _. from_place slot place) (plain_refuse _ _ refl) (λ _ _.
         steps _ (node_at t place.directory) (at_parent slot place) (plain_node t place.directory) (λ parent _.
@@ -93,7 +102,7 @@ module _ (g : Geometry) (t : Tree) (user : User) (now session : ℕ) (path : Lis
     at_found fd k found z = open_found (volumes z) t user now (slot_at fd k) flags mode found
 
     abbrev at_parts : ℕ → ℕ → List Name → Effects
-    at_parts fd k parts z = look_up t user parts >>= λ found. at_found fd k found z
+    at_parts fd k parts z = open_look_up t user (creates flags && is_exclusive flags) parts >>= λ found. at_found fd k found z
 
     abbrev at_slot : ℕ → ℕ → Effects
     at_slot fd k z = read_path path >>= λ parts. at_parts fd k parts z
@@ -110,7 +119,8 @@ module _ (g : Geometry) (t : Tree) (user : User) (now session : ℕ) (path : Lis
         steps _ (free_place (t.descriptors session) most_descriptors EMFILE) at_descriptor (plain_free_place _ _ _ refl) (λ fd free_fd.
         steps _ (free_place t.open_files most_open_files ENFILE) (at_slot fd) (plain_free_place _ _ _ refl) (λ k free_k.
         steps _ (read_path path) (at_parts fd k) (plain_read path) (λ parts read.
-        steps _ (look_up t user parts) (at_found fd k) (plain_look_up t user parts) (λ found looked.
+        steps _ (open_look_up t user (creates flags && is_exclusive flags) parts) (at_found fd k)
+        (plain_open_look_up t user (creates flags && is_exclusive flags) parts) (λ found looked.
         let flags_and_mode = or_parts (bad_flags flags) (nat_lt most_permissions mode) (passed _ _ x good) in
         found_each (slot_at fd k) parts found (record {
           good = flags_and_mode.0;

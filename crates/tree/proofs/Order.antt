@@ -10,7 +10,8 @@ use Rattle.tree.specs.Names.{Name, inode_of}
 use Rattle.tree.specs.Flags.{reads, writes, creates, is_exclusive, bad_flags}
 use Rattle.tree.specs.Tree.{Node, Tree, is_dir, with_node, most_links, most_descriptors, most_open_files, most_permissions}
 use Rattle.tree.specs.Refusals.{◌>>=◌, or_refuse, refuse_if, free_place}
-use Rattle.tree.specs.Walk.{read_path, walk_parts, parent_walk, node_at, has_last_name, is_taken, Place, Found, look_up, may_access, to_read, to_write}
+use Rattle.tree.specs.Walk.{read_path, walk_to_last, parent_walk, node_at, has_last_name, is_taken, Place, Found, open_look_up, may_access}
+use Rattle.tree.specs.Walk.{to_read, to_write}
 use Rattle.tree.specs.Changes.{with_ctime, more_links, new_node, empty_file, free_inode}
 use Rattle.tree.specs.Answers.{done, descriptor, Effect, if_it_fits}
 use Rattle.tree.specs.NameCalls.{with_entry, link, is_within, is_same, has_room_for_link, can_replace, with_moved, without_moved, without_replaced, rename_onto, rename}
@@ -60,19 +61,22 @@ module _ (g : Geometry) (t : Tree) (user : User) (now : ℕ) (old new : List ℕ
   at_node qs n node = refuse_if (is_dir node) EPERM >>= λ _. at_file qs n node
 
   abbrev after_new_read : List Name → List Name → Effect
-  after_new_read ps qs = walk_parts t user ps >>= λ n. node_at t n >>= at_node qs n
+  after_new_read ps qs = walk_to_last t user ps >>= λ n. node_at t n >>= at_node qs n
 
   abbrev after_old_read : List Name → Effect
   after_old_read ps = read_path new >>= after_new_read ps
 
   -- link as far as its node
-  to_node : (ps qs : List Name) (n : ℕ) (node : Node) → read_path old ≡ Ok ps → read_path new ≡ Ok qs → walk_parts t user ps ≡ Ok n → t.nodes n ≡ Some node
+  to_node : (ps qs : List Name) (n : ℕ) (node : Node) → read_path old ≡ Ok ps → read_path new ≡ Ok qs → walk_to_last t user ps ≡ Ok n
+      → t.nodes n ≡ Some node
       → link g t user now old new ≡ at_node qs n node
   to_node ps qs n node a b c d =
-      goes_on (read_path old) after_old_read ps a ∙ goes_on (read_path new) (after_new_read ps) qs b ∙ goes_on (walk_parts t user ps) (λ m. node_at t m >>= at_node qs m) n c ∙ at_there t n node (at_node qs n) d
+      goes_on (read_path old) after_old_read ps a ∙ goes_on (read_path new) (after_new_read ps) qs b
+      ∙ goes_on (walk_to_last t user ps) (λ m. node_at t m >>= at_node qs m) n c ∙ at_there t n node (at_node qs n) d
 
   -- link as far as its new place
-  to_place : (ps qs : List Name) (n : ℕ) (node : Node) → read_path old ≡ Ok ps → read_path new ≡ Ok qs → walk_parts t user ps ≡ Ok n → t.nodes n ≡ Some node
+  to_place : (ps qs : List Name) (n : ℕ) (node : Node) → read_path old ≡ Ok ps → read_path new ≡ Ok qs → walk_to_last t user ps ≡ Ok n
+      → t.nodes n ≡ Some node
       → is_dir node ≡ false → nat_le most_links node.links ≡ false → link g t user now old new ≡ at_few qs n node
   to_place ps qs n node a b c d e f = to_node ps qs n node a b c d ∙ passes (is_dir node) EPERM (at_file qs n node) e ∙ passes (nat_le most_links node.links) EMLINK (at_few qs n node) f
 
@@ -80,7 +84,8 @@ module _ (g : Geometry) (t : Tree) (user : User) (now : ℕ) (old new : List ℕ
   link_in_order = record {
     old_read = λ e h. ends (read_path old) after_old_read e h;
     new_read = λ ps e a h. goes_on (read_path old) after_old_read ps a ∙ ends (read_path new) (after_new_read ps) e h;
-    walked = λ ps qs e a b h. goes_on (read_path old) after_old_read ps a ∙ goes_on (read_path new) (after_new_read ps) qs b ∙ ends (walk_parts t user ps) (λ m. node_at t m >>= at_node qs m) e h;
+    walked = λ ps qs e a b h. goes_on (read_path old) after_old_read ps a ∙ goes_on (read_path new) (after_new_read ps) qs b
+        ∙ ends (walk_to_last t user ps) (λ m. node_at t m >>= at_node qs m) e h;
     directory = λ ps qs n node a b c d h. to_node ps qs n node a b c d ∙ holds (is_dir node) EPERM (at_file qs n node) h;
     links = λ ps qs n node a b c d e h. to_node ps qs n node a b c d ∙ passes (is_dir node) EPERM (at_file qs n node) e ∙ holds (nat_le most_links node.links) EMLINK (at_few qs n node) h;
     place = λ ps qs n node x a b c d e f h. to_place ps qs n node a b c d e f ∙ ends (parent_walk t user qs) (at_place qs n node) x h;
@@ -138,7 +143,7 @@ module _ (g : Geometry) (t : Tree) (user : User) (now session : ℕ) (path : Lis
   after_look fd k found = open_found g t user now (record { session = session; fd = fd; number = k }) flags mode found
 
   abbrev after_path : ℕ → ℕ → List Name → Effect
-  after_path fd k ps = look_up t user ps >>= after_look fd k
+  after_path fd k ps = open_look_up t user (creates flags && is_exclusive flags) ps >>= after_look fd k
 
   abbrev after_number : ℕ → ℕ → Effect
   after_number fd k = read_path path >>= after_path fd k
@@ -163,8 +168,10 @@ module _ (g : Geometry) (t : Tree) (user : User) (now session : ℕ) (path : Lis
     descriptor = λ e a h. passes bad EINVAL after_flags a ∙ ends (free_place (t.descriptors session) most_descriptors EMFILE) after_descriptor e h;
     number = λ e fd a b h. passes bad EINVAL after_flags a ∙ goes_on (free_place (t.descriptors session) most_descriptors EMFILE) after_descriptor fd b ∙ ends (free_place t.open_files most_open_files ENFILE) (after_number fd) e h;
     read = λ e fd k a b c h. to_path fd k a b c ∙ ends (read_path path) (after_path fd k) e h;
-    looked = λ e fd k ps a b c d h. to_path fd k a b c ∙ goes_on (read_path path) (after_path fd k) ps d ∙ ends (look_up t user ps) (after_look fd k) e h;
-    found = λ fd k ps found a b c d h. to_path fd k a b c ∙ goes_on (read_path path) (after_path fd k) ps d ∙ goes_on (look_up t user ps) (after_look fd k) found h;
+    looked = λ e fd k ps a b c d h. to_path fd k a b c ∙ goes_on (read_path path) (after_path fd k) ps d
+        ∙ ends (open_look_up t user (creates flags && is_exclusive flags) ps) (after_look fd k) e h;
+    found = λ fd k ps found a b c d h. to_path fd k a b c ∙ goes_on (read_path path) (after_path fd k) ps d
+        ∙ goes_on (open_look_up t user (creates flags && is_exclusive flags) ps) (after_look fd k) found h;
   }
 
 -- open

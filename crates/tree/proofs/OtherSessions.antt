@@ -6,7 +6,8 @@ use Rattle.layout.specs.declared.Geometry.{Geometry}
 use Rattle.errno.specs.declared.Errno.TheVariants.{EINVAL, ENOSPC}
 use Rattle.tree.specs.declared.Who.{Who}
 use Rattle.tree.specs.declared.Call.{Call}
-use Rattle.tree.specs.declared.Call.TheVariants.{Open, Close, Dup, Read, Write, Seek, Stat, Fstat, Link, Unlink, Mkdir, Rmdir, Rename, Chmod, Chown, Utime, Truncate, Readdir, Sync, Statfs}
+use Rattle.tree.specs.declared.Call.TheVariants.{Open, Close, Dup, Read, Write, Seek, Stat, Fstat, Link, Unlink, Mkdir, Rmdir, Rename}
+use Rattle.tree.specs.declared.Call.TheVariants.{Chmod, Chown, Utime, Truncate, Readdir, Sync, Statfs, Symlink, Readlink, Lstat}
 use Rattle.tree.specs.Tree.{Node, Tree, is_dir, is_open, has_descriptor, with_node, on_node, with_open_file, with_descriptor, most_sessions}
 use Rattle.tree.specs.Space.{zones_used, data_zones}
 use Rattle.tree.specs.Refusals.{refuse_if}
@@ -21,9 +22,10 @@ use Rattle.tree.specs.Room.{with_zones}
 use Rattle.tree.proofs.Steps.{tree_after}
 use Rattle.tree.proofs.OpenFiles.{other_session}
 use Rattle.tree.proofs.Outcomes.{Effects, IsClosed, plain_refuse}
-use Rattle.tree.proofs.NodeOutcomes.{stat_each, chmod_each, chown_each, utime_each, truncate_each, unlink_each}
+use Rattle.tree.proofs.NodeOutcomes.{stat_each, lstat_each, readlink_each, chmod_each, chown_each, utime_each, truncate_each, unlink_each}
 use Rattle.tree.proofs.FileOutcomes.{close_each, dup_each, fstat_each, readdir_each, seek_each, read_each, write_each}
 use Rattle.tree.proofs.NameOutcomes.{link_each, mkdir_each, rmdir_each}
+use Rattle.tree.proofs.Symlinks.{with_new_link, symlink_each}
 use Rattle.tree.proofs.OpenOutcomes.{open_each}
 use Rattle.tree.proofs.RenameOutcomes.{rename_each}
 use Rattle.tree.proofs.OpenCall.{cut_is}
@@ -87,7 +89,8 @@ module _ (g : Geometry) (t : Tree) (who : Who) (now : ℕ) (s : ℕ) (other : s 
   call_stays (Close fd) = close_each t who.session Stays closed fd (λ found _. less_stays fd found.0 found.1.inode)
   call_stays (Dup fd) = dup_each t who.session Stays closed fd (λ found new _ _. λ i f. other_session t who.session new (Some found.0) s f other i)
   call_stays (Read fd count) = read_each t who.session Stays closed fd count (λ found node f _. refl)
-  call_stays (Write fd bytes) = write_each t who.session Stays closed g now fd bytes.now (λ found node f _ _. refl) (λ found node f _ _ _. fit_stays _ _ refl)
+  call_stays (Write fd bytes) = write_each t who.session Stays closed g now fd bytes.now (λ found node f _ _. refl)
+      (λ found node f _ _ _ _. fit_stays _ _ refl)
   call_stays (Seek fd whence offset) = seek_each t who.session Stays closed fd whence offset (λ found node f at _ _ _. refl)
   call_stays (Stat path) = stat_each t (user_of who) now Stays closed path.now (λ n node _. refl)
   call_stays (Fstat fd) = fstat_each t who.session Stays closed fd (λ found node. refl)
@@ -115,14 +118,20 @@ module _ (g : Geometry) (t : Tree) (who : Who) (now : ℕ) (s : ℕ) (other : s 
   call_stays (Chmod path mode) = chmod_each t (user_of who) now Stays closed path.now mode (λ _ n node _. refl)
   call_stays (Chown path uid gid) = chown_each t (user_of who) now Stays closed path.now uid gid (λ n node _. refl)
   call_stays (Utime path atime mtime) = utime_each t (user_of who) now Stays closed path.now atime mtime (λ n node _. refl)
-  call_stays (Truncate path size) = truncate_each t (user_of who) now Stays closed g path.now size (λ n node f _ _ _. refl)
+  call_stays (Truncate path size) = truncate_each t (user_of who) now Stays closed g path.now size (λ n node f _ _ _ _. refl)
   call_stays (Readdir fd) = readdir_each t who.session Stays closed fd (λ found node d _ _ _. refl)
   call_stays Sync = refl
   call_stays Statfs = refl
+  call_stays (Symlink target path) =
+      symlink_each g t (user_of who) now Stays closed target.now path.now (λ _. refl) (λ n place made.
+      fit_stays _ (with_new_link t (user_of who) now target.now place n)
+      (over_stays _ (over_on_node t _ place.directory _ (over_with_node t t n _ (over_itself t)))))
+  call_stays (Readlink path) = readlink_each t (user_of who) now Stays closed path.now (λ target. refl)
+  call_stays (Lstat path) = lstat_each t (user_of who) now Stays closed path.now (λ n node. refl)
 
   stays : (call : Call) → Stays (λ z. effect_of (with_zones z g) t who now call)
   stays call = closed _ (refuse_if (nat_le most_sessions who.session) EINVAL) (λ _ z. effect_in_session (with_zones z g) t who now call) (plain_refuse _ _ refl) (λ _ _. call_stays call)
 
--- all twenty
+-- all of them
 pub other_sessions_stay : OtherSessionsStay
 other_sessions_stay g t who now call session other = stays g t who now session other call

@@ -1,8 +1,8 @@
 -- What holds of each refusal, and of each success, of a call holds of the call. A call is looked at on volumes of all sizes
 -- at once: an effect for each number of zones.
-use Rattle.std.proofs.Common.{◌≡◌, ◌≤◌, ◌+◌, ◌-◌, ℕ, List, Bool, true, false, refl, sym, ap, subst, ◌∙◌, arith, [], ◌∷◌, length}
+use Rattle.std.proofs.Common.{◌≡◌, ◌≤◌, ◌+◌, ◌-◌, ℕ, List, Bool, true, false, refl, sym, ap, subst, ◌∙◌, arith, length}
 use mathlib.Core.Logic.{inl, inr, ◌⊎◌}
-use Rattle.std.specs.Prelude.{Option, None, Some, is_some, is_none, IsTrue, Result, Ok, Err, not, ◌==◌, ◌||◌, nat_lt}
+use Rattle.std.specs.Prelude.{Option, None, Some, is_some, is_none, IsTrue, Result, Ok, Err, not, ◌==◌, ◌||◌, ◌&&◌, nat_lt, if◌then◌else◌}
 use Rattle.std.specs.List.{list_any}
 use Rattle.std.proofs.lemmas.Bool.{cases_Bool, cond_both, cond-true, cond-false, eq-eqb, ne_eqb}
 use Rattle.lemmas.proofs.Bools.{false_not_true}
@@ -14,10 +14,13 @@ use Rattle.tree.specs.Sums.{some_below, least_below}
 use Rattle.tree.specs.Names.{Name, Names, most_name, same_name, dot, dot_dot, inode_of}
 use Rattle.tree.specs.Tree.{Body, is_file, is_directory, Node, Tree}
 use Rattle.tree.specs.Refusals.{◌>>=◌, or_refuse, refuse_if, free_place}
-use Rattle.tree.specs.Walk.{read_path, parts_of, begins_with_slash, most_path, enter, next, walk_from, walk_parts, walk, node_at, parent_walk, has_last_name, all_but_last, last_part, is_there, found_at, look_up, may_access, to_search}
+use Rattle.tree.specs.Walk.{read_path, parts_of, begins_with_slash, most_path, enter, next, walk_parts, walk, node_at, parent_walk}
+use Rattle.tree.specs.Walk.{has_last_name, all_but_last, last_part, Found, is_there, is_missing, found_at, found_or, finds_link, look_up}
+use Rattle.tree.specs.Walk.{open_look_up, walk_to_last, may_access, to_search}
 use Rattle.tree.specs.Changes.{free_inode}
 use Rattle.tree.specs.Answers.{Effect}
 pub use Rattle.tree.specs.Room.{with_zones, NoInodeFree}
+use Rattle.tree.proofs.Walks.{walks_keep}
 use Rattle.tree.proofs.Search.{found_below, least_is_one, least_is_end, free_place_is}
 
 -- the refusal for want of room
@@ -81,16 +84,22 @@ plain_next here parent names part =
     cond_both (same_name part dot) (Ok here) _ (λ r. is_plain r ≡ true) (λ _. refl) (λ _.
     cond_both (same_name part dot_dot) (Ok parent) (or_refuse (inode_of names part) ENOENT) (λ r. is_plain r ≡ true) (λ _. refl) (λ _. plain_or (inode_of names part) ENOENT refl))
 
--- a walk from a node
-pub plain_walk_from : (t : Tree) (user : User) (here : ℕ) (parts : List Name) → is_plain (walk_from t user here parts) ≡ true
-plain_walk_from t user here [] = refl
-plain_walk_from t user here (part ∷ parts) =
-    plain_bind (enter user (t.nodes here)) (λ dir. next here dir.0 dir.1 part >>= λ there. walk_from t user there parts) (plain_enter user (t.nodes here)) (λ dir.
-    plain_bind (next here dir.0 dir.1 part) (λ there. walk_from t user there parts) (plain_next here dir.0 dir.1 part) (λ there. plain_walk_from t user there parts))
+-- one step of a walk
+plain_step : (t : Tree) (user : User) (here : ℕ) (part : Name) → is_plain (enter user (t.nodes here) >>= λ dir. next here dir.0 dir.1 part)
+    ≡ true
+plain_step t user here part = plain_bind (enter user (t.nodes here)) (λ dir. next here dir.0 dir.1 part) (plain_enter user (t.nodes here))
+    (λ dir. plain_next here dir.0 dir.1 part)
 
 -- a walk from the root
 pub plain_walk_parts : (t : Tree) (user : User) (parts : List Name) → is_plain (walk_parts t user parts) ≡ true
-plain_walk_parts t user parts = plain_walk_from t user 1 parts
+plain_walk_parts t user = walks_keep t user (λ _. Unit {0}) (λ r. is_plain r ≡ true) (record {
+  root = tt;
+  steps = λ here there part at is none. tt;
+  refused = λ here part e is. subst (λ r. is_plain r ≡ true) is (plain_step t user here part);
+  looping = refl;
+  long = refl;
+  reached = λ here at. refl;
+})
 
 -- a path that is read
 pub plain_read : (path : List ℕ) → is_plain (read_path path) ≡ true
@@ -122,6 +131,24 @@ plain_look_up t user parts =
     cond_both (has_last_name parts) (parent_walk t user parts >>= λ place. Ok (found_at place)) (walk_parts t user parts >>= λ n. Ok (is_there n)) (λ r. is_plain r ≡ true)
     (λ _. plain_bind (parent_walk t user parts) (λ place. Ok (found_at place)) (plain_parent_walk t user parts) (λ place. refl))
     (λ _. plain_bind (walk_parts t user parts) (λ n. Ok (is_there n)) (plain_walk_parts t user parts) (λ n. refl))
+
+-- what was found, or a refusal
+plain_found : (found : Found) → is_plain (found_or found ENOENT) ≡ true
+plain_found (is_there n) = refl
+plain_found (is_missing place) = refl
+
+-- a walk that doesn't follow its last part
+pub plain_walk_to_last : (t : Tree) (user : User) (parts : List Name) → is_plain (walk_to_last t user parts) ≡ true
+plain_walk_to_last t user parts = plain_bind (look_up t user parts) (λ found. found_or found ENOENT) (plain_look_up t user parts)
+    (λ found. plain_found found)
+
+-- a look-up for open
+pub plain_open_look_up : (t : Tree) (user : User) (as_is : Bool) (parts : List Name) → is_plain (open_look_up t user as_is parts) ≡ true
+plain_open_look_up t user as_is parts =
+    plain_bind (look_up t user parts) (λ found. if not as_is && finds_link t found then (walk_parts t user parts >>= λ n. Ok (is_there n))
+    else Ok found) (plain_look_up t user parts) (λ found.
+    cond_both (not as_is && finds_link t found) (walk_parts t user parts >>= λ n. Ok (is_there n)) (Ok found) (λ r. is_plain r ≡ true)
+    (λ _. plain_bind (walk_parts t user parts) (λ n. Ok (is_there n)) (plain_walk_parts t user parts) (λ n. refl)) (λ _. refl))
 
 -- The one that does: the least inode that is free.
 

@@ -2,7 +2,7 @@
 use Rattle.std.proofs.Common.{◌≡◌, ◌≤◌, ◌<◌, ◌+◌, ◌-◌, ℕ, suc, List, [], ◌∷◌, true, false, refl, sym, ap, subst, ◌∙◌, arith, length, pos}
 use Rattle.std.specs.Prelude.{Some, Result, Ok, Err, nat_le, nat_lt, not, ◌&&◌, slice_index}
 use mathlib.Core.Logic.{inl, inr}
-use Rattle.std.proofs.lemmas.Bool.{cases_Bool, cond-true, cond-false, and_from, le-leb, lt-ltb, ltb-true, ltb-false, not_from_true}
+use Rattle.std.proofs.lemmas.Bool.{cases_Bool, cond-true, cond-false, and_from, le-leb, lt-ltb, ltb-false, not_from_true}
 use Rattle.lemmas.proofs.Numbers.{less_fails}
 use Rattle.layout.specs.declared.Geometry.{Geometry}
 use Rattle.errno.specs.declared.Errno.{Errno}
@@ -92,7 +92,7 @@ module _ (g : Geometry) (t : Tree) (tree : IsTree g t) (who : Who) (now fd : ℕ
         whole = less_fails (f.size - found.1.position) (length bytes) (omega (arith, none));
         each = λ j l. absurd (omega (arith, none, l));
       }))
-      (λ found node f is few fits made made_is.
+      (λ found node f is _ few fits made made_is.
       let after = after_write t who.session Puts closed g now found node f bytes in
       let new = with_body now (is_file (file_after_write g f (start t who.session Puts closed found.1 f) bytes)) node in
       subst (λ u. IsWritten u who.session fd bytes) (ap (λ x. x.1) (fitted (wrote (length bytes)) after made made_is)) (record {
@@ -118,7 +118,8 @@ module _ (g : Geometry) (t : Tree) (tree : IsTree g t) (who : Who) (now fd : ℕ
       ]
 
 -- bytes that are the list's, one by one, are the list
-bytes_are : (bytes : List ℕ) (byte : ℕ → ℕ) (at : ℕ) → ((j : ℕ) → j < length bytes → byte (at + j) ≡ slice_index bytes j) → bytes_from byte at (length bytes) ≡ bytes
+pub bytes_are : (bytes : List ℕ) (byte : ℕ → ℕ) (at : ℕ) → ((j : ℕ) → j < length bytes → byte (at + j) ≡ slice_index bytes j)
+    → bytes_from byte at (length bytes) ≡ bytes
 bytes_are [] byte at each = refl
 bytes_are (x ∷ xs) byte at each =
     let first : byte at ≡ x = (let e : at ≡ at + 0 = omega arith in ap byte e) ∙ each 0 (omega arith) in

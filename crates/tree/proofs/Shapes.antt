@@ -66,6 +66,7 @@ fits_without_links g node fits = record {
   mtime = fits.mtime;
   ctime = fits.ctime;
   body = fits.body;
+  target = fits.target;
 }
 
 -- and fits with links within the limit
@@ -79,6 +80,7 @@ fits_with_links g node fits links = record {
   mtime = fits.mtime;
   ctime = fits.ctime;
   body = fits.body;
+  target = fits.target;
 }
 
 -- names to a node are a sum of weights

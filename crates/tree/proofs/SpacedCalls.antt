@@ -7,7 +7,8 @@ use Rattle.layout.specs.declared.Geometry.{Geometry}
 use Rattle.errno.specs.declared.Errno.TheVariants.{EINVAL}
 use Rattle.tree.specs.declared.Who.{Who}
 use Rattle.tree.specs.declared.Call.{Call}
-use Rattle.tree.specs.declared.Call.TheVariants.{Open, Close, Dup, Read, Write, Seek, Stat, Fstat, Link, Unlink, Mkdir, Rmdir, Rename, Chmod, Chown, Utime, Truncate, Readdir, Sync, Statfs}
+use Rattle.tree.specs.declared.Call.TheVariants.{Open, Close, Dup, Read, Write, Seek, Stat, Fstat, Link, Unlink, Mkdir, Rmdir, Rename}
+use Rattle.tree.specs.declared.Call.TheVariants.{Chmod, Chown, Utime, Truncate, Readdir, Sync, Statfs, Symlink, Readlink, Lstat}
 use Rattle.tree.specs.Tree.{Node, Tree, has_descriptor, with_node, on_node, with_open_file, with_descriptor, is_dir, most_sessions}
 use Rattle.tree.specs.Space.{zones_of, zones_used, data_zones, free_zones, free_inodes}
 use Rattle.tree.specs.Refusals.{refuse_if}
@@ -20,9 +21,10 @@ use Rattle.tree.specs.Answers.{Answer, Effect, done, descriptor, some_bytes, wro
 use Rattle.tree.specs.Effects.{user_of, effect_in_session, effect_of, tree_after_call}
 use Rattle.tree.specs.Room.{with_zones, NoInodeFree, may_take, may_make, EveryCallFits, TooBigIsRefused, FullMakesNone, OthersHaveRoom}
 use Rattle.tree.proofs.Outcomes.{IsFree, plain_refuse}
-use Rattle.tree.proofs.NodeOutcomes.{stat_each, chmod_each, chown_each, utime_each, truncate_each, unlink_each}
+use Rattle.tree.proofs.NodeOutcomes.{stat_each, lstat_each, readlink_each, chmod_each, chown_each, utime_each, truncate_each, unlink_each}
 use Rattle.tree.proofs.FileOutcomes.{close_each, dup_each, fstat_each, readdir_each, seek_each, read_each, write_each, after_write}
 use Rattle.tree.proofs.NameOutcomes.{link_each, mkdir_each, rmdir_each}
+use Rattle.tree.proofs.Symlinks.{with_new_link, symlink_each}
 use Rattle.tree.proofs.OpenOutcomes.{open_each}
 use Rattle.tree.proofs.RenameOutcomes.{rename_each}
 use Rattle.tree.proofs.OpenCall.{cut_is}
@@ -119,7 +121,8 @@ module _ (g : Geometry) (sized : 0 < g.block_size) (t : Tree) (who : Who) (now :
       read_each t who.session (IsSpaced g t false false) (spaced_closed g t false false) fd count (λ found node f _.
       spaced_ok g t false false (λ _. some_bytes (bytes_read f found.1.position count)) _ (no_less (zones_used g t)) (no_more_itself t))
   call_spaced (Write fd bytes) =
-      write_each t who.session (IsSpaced g t true false) (spaced_closed g t true false) g now fd bytes.now (λ _ _ _ _ _. same true false (wrote 0)) (λ found node f is _ _.
+      write_each t who.session (IsSpaced g t true false) (spaced_closed g t true false) g now fd bytes.now
+      (λ _ _ _ _ _. same true false (wrote 0)) (λ found node f is _ _ _.
       spaced_fit g t false (wrote (length bytes.now)) (after_write t who.session (IsSpaced g t true false) (spaced_closed g t true false) g now found node f bytes.now)
       (λ _. no_more_at t found.1.inode node _ is.there))
   call_spaced (Seek fd whence offset) =
@@ -158,9 +161,20 @@ module _ (g : Geometry) (sized : 0 < g.block_size) (t : Tree) (who : Who) (now :
   call_spaced (Utime path atime mtime) =
       utime_each t (user_of who) now (IsSpaced g t false false) (spaced_closed g t false false) path.now atime mtime (λ n node there. changed false false done n node _ there (no_less (zones_of g (Some node))))
   call_spaced (Truncate path size) =
-      truncate_each t (user_of who) now (IsSpaced g t false false) (spaced_closed g t false false) g path.now size (λ n node f _ there body. changed false false done n node _ there (resized_less g now size node f body))
+      truncate_each t (user_of who) now (IsSpaced g t false false) (spaced_closed g t false false) g path.now size
+      (λ n node f _ there body _. changed false false done n node _ there (resized_less g now size node f body))
   call_spaced (Readdir fd) =
       readdir_each t who.session (IsSpaced g t false false) (spaced_closed g t false false) fd (λ found node d _ _ _. same false false (names_are d.names))
+  call_spaced (Symlink target path) =
+      symlink_each g t (user_of who) now (IsSpaced g t true true) (spaced_closed g t true true) target.now path.now (spaced_full g t)
+      (λ n place made.
+      spaced_fit g t true done (with_new_link t (user_of who) now target.now place n) (λ full. never_free n made.inode (full refl)))
+  call_spaced (Readlink path) =
+      readlink_each t (user_of who) now (IsSpaced g t false false) (spaced_closed g t false false) path.now
+      (λ target. same false false (some_bytes target))
+  call_spaced (Lstat path) =
+      lstat_each t (user_of who) now (IsSpaced g t false false) (spaced_closed g t false false) path.now
+      (λ n node. same false false (node_is (attributes_of n node)))
   call_spaced Sync = same false false done
   call_spaced Statfs =
       spaced_ok g t false false

@@ -101,7 +101,17 @@ module _ (g : Geometry) (t : Tree) (tree : IsTree g t) (now : ℕ) (small : now 
   agree : NodesAgree g after.nodes
   agree = shaped_agree g after.nodes shape
       (fits_on g left n (with_link_lost now) (fits_without g t now place n fit d_directory is_found small)
-      (λ node e x. record { permissions = x.permissions; links = omega arith; uid = x.uid; gid = x.gid; atime = x.atime; mtime = x.mtime; ctime = small; body = x.body }))
+      (λ node e x. record {
+        permissions = x.permissions;
+        links = omega arith;
+        uid = x.uid;
+        gid = x.gid;
+        atime = x.atime;
+        mtime = x.mtime;
+        ctime = small;
+        body = x.body;
+        target = x.target;
+      }))
       (λ m. let is = links m in let few = links_fit g t.nodes tree.nodes m in omega (arith, is, few))
 
   pub unlinked_is_tree : IsTree g (without_nameless after n)

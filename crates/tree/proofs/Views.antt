@@ -173,6 +173,7 @@ module _ (t : Tree) (now : ℕ) (place : Place) (n : ℕ) (directory : kind_of (
             mtime = small;
             ctime = small;
             body = with_name_fits d place.name n named (omega (arith, count, size)) fits.body;
+            target = fits.target;
           }
 
   over_in : (g : Geometry) (w : ℕ → ℕ) (q : ℕ) (body : Body) (node : Node) → IsNode g (record node { links = 0; body = body }) → kind_of (Some (record node { body = body })) ≡ true
@@ -236,4 +237,5 @@ module _ (g : Geometry) (t : Tree) (now : ℕ) (place : Place) (n : ℕ) (fits :
         mtime = small;
         ctime = small;
         body = without_name_fits d place.name fit.body;
+        target = fit.target;
       }

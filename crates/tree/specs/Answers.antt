@@ -1,13 +1,14 @@
 -- What a call answers, and its effect: its answer with the tree after it, or its refusal.
-use Rattle.std.specs.Prelude.{ℕ, List, map, Result, Ok, Err, nat_lt, if◌then◌else◌}
+use Rattle.std.specs.Prelude.{ℕ, List, take, map, Result, Ok, Err, nat_lt, if◌then◌else◌}
 use Rattle.layout.specs.declared.Geometry.{Geometry}
 use Rattle.errno.specs.declared.Errno.{Errno}
 use Rattle.errno.specs.declared.Errno.TheVariants.{ENOSPC}
 use Rattle.tree.specs.declared.Attributes.{Attributes}
 use Rattle.tree.specs.declared.Room.{Room}
 use Rattle.tree.specs.declared.Entry.{Entry}
+use Rattle.tree.specs.declared.LinkTarget.{LinkTarget}
 use Rattle.tree.specs.declared.Reply.{Reply}
-use Rattle.tree.specs.declared.Reply.TheVariants.{Refused, Done, Descriptor, Bytes, Wrote, At, Inode, Names, Space}
+use Rattle.tree.specs.declared.Reply.TheVariants.{Refused, Done, Descriptor, Bytes, Wrote, At, Inode, Names, Space, Target}
 use Rattle.tree.specs.Names.{Name, Names as NameMap}
 use Rattle.tree.specs.Tree.{Tree}
 use Rattle.tree.specs.Space.{zones_used, data_zones}
@@ -28,6 +29,10 @@ pub data Answer : Type 0 where
 abbrev pub entry_of : Entry → Name × ℕ
 entry_of e = (e.name.items, e.inode)
 
+-- the bytes of a target, which is kept in place
+abbrev pub bytes_of_target : LinkTarget → List ℕ
+bytes_of_target target = take target.length target.bytes
+
 -- what a reply says
 abbrev pub answer_of : Reply → Answer
 answer_of (Refused e) = refused e
@@ -39,6 +44,7 @@ answer_of (At n) = position n
 answer_of (Inode a) = node_is a
 answer_of (Names names) = names_are (map entry_of names.items)
 answer_of (Space r) = room_is r
+answer_of (Target target) = some_bytes (bytes_of_target target)
 
 -- an answer and the tree after the call, or the refusal
 abbrev pub Effect : Type 0

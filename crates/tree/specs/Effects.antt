@@ -5,12 +5,13 @@ use Rattle.errno.specs.declared.Errno.TheVariants.{EINVAL}
 use Rattle.tree.specs.declared.User.{User}
 use Rattle.tree.specs.declared.Who.{Who}
 use Rattle.tree.specs.declared.Call.{Call}
-use Rattle.tree.specs.declared.Call.TheVariants.{Open, Close, Dup, Read, Write, Seek, Stat, Fstat, Link, Unlink, Mkdir, Rmdir, Rename, Chmod, Chown, Utime, Truncate, Readdir, Sync, Statfs}
+use Rattle.tree.specs.declared.Call.TheVariants.{Open, Close, Dup, Read, Write, Seek, Stat, Fstat, Link, Unlink, Mkdir, Rmdir, Rename}
+use Rattle.tree.specs.declared.Call.TheVariants.{Chmod, Chown, Utime, Truncate, Readdir, Sync, Statfs, Symlink, Readlink, Lstat}
 use Rattle.tree.specs.Tree.{Tree, most_sessions}
 use Rattle.tree.specs.Refusals.{◌>>=◌, refuse_if}
 use Rattle.tree.specs.Answers.{Answer, refused, done, Effect}
-use Rattle.tree.specs.NodeCalls.{stat, chmod, chown, utime, truncate, statfs}
-use Rattle.tree.specs.NameCalls.{link, unlink, mkdir, rmdir, rename}
+use Rattle.tree.specs.NodeCalls.{stat, lstat, readlink, chmod, chown, utime, truncate, statfs}
+use Rattle.tree.specs.NameCalls.{link, unlink, mkdir, symlink, rmdir, rename}
 use Rattle.tree.specs.FileCalls.{open_path, close, dup, read, write, seek, fstat, readdir}
 
 -- the user who calls
@@ -39,6 +40,9 @@ effect_in_session g t who now (Truncate path size) = truncate g t (user_of who) 
 effect_in_session g t who now (Readdir fd) = readdir t who.session fd
 effect_in_session g t who now Sync = Ok (done, t)
 effect_in_session g t who now Statfs = statfs g t
+effect_in_session g t who now (Symlink target path) = symlink g t (user_of who) now target.now path.now
+effect_in_session g t who now (Readlink path) = readlink t (user_of who) path.now
+effect_in_session g t who now (Lstat path) = lstat t (user_of who) path.now
 
 -- the effect of a call; sessions are numbered below 64
 abbrev pub effect_of : Geometry → Tree → Who → ℕ → Call → Effect

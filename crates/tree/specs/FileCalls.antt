@@ -1,5 +1,5 @@
 -- Calls on open files. Each line of a do block is one refusal, in their order.
-use Rattle.std.specs.Prelude.{ℕ, zero, suc, ℤ, pos, negsuc, ◌+◌, ◌-◌, List, [], ◌∷◌, length, not, ◌&&◌, ◌||◌, ◌==◌, nat_lt, Option, None, Some, Result, Ok, Err, if◌then◌else◌}
+use Rattle.std.specs.Prelude.{ℕ, ℤ, pos, negsuc, ◌+◌, ◌-◌, List, length, not, ◌&&◌, ◌||◌, ◌==◌, nat_lt, Option, None, Some, Result, Ok, Err, if◌then◌else◌}
 use Rattle.layout.specs.declared.Geometry.{Geometry}
 use Rattle.errno.specs.declared.Errno.{Errno}
 use Rattle.errno.specs.declared.Errno.TheVariants.{ENOENT, EBADF, EACCES, EEXIST, ENOTDIR, EISDIR, EINVAL, ENFILE, EMFILE, EFBIG}
@@ -8,9 +8,10 @@ use Rattle.tree.specs.declared.Whence.{Whence}
 use Rattle.tree.specs.declared.Whence.TheVariants.{Set, Cur, End}
 use Rattle.tree.specs.Names.{Names}
 use Rattle.tree.specs.Flags.{reads, writes, appends, creates, is_exclusive, truncates, bad_flags}
+pub use Rattle.tree.specs.Tree.{bytes_from}
 use Rattle.tree.specs.Tree.{File, is_file, is_directory, Node, Tree, is_dir, with_node, with_open_file, with_descriptor, most_descriptors, most_open_files, most_bytes, most_size, most_permissions}
 use Rattle.tree.specs.Refusals.{◌>>=◌, or_refuse, refuse_if, free_place}
-use Rattle.tree.specs.Walk.{read_path, node_at, Found, is_there, is_missing, look_up, may_access, to_read, to_write}
+use Rattle.tree.specs.Walk.{read_path, node_at, Found, is_there, is_missing, open_look_up, may_access, to_read, to_write}
 use Rattle.tree.specs.Changes.{new_node, empty_file, free_inode, with_body, file_after_write, file_after_resize, open_file_of, without_unused, without_nameless, at_position}
 use Rattle.tree.specs.Answers.{done, descriptor, some_bytes, wrote, position, node_is, names_are, Effect, if_it_fits}
 use Rattle.tree.specs.NodeCalls.{attributes_of, file_or}
@@ -53,14 +54,15 @@ open_found g t user now slot flags mode (is_missing place) = do
   if_it_fits g (descriptor slot.fd)
       (with_open (with_entry (with_node t n (Some (new_node now user mode 1 empty_file))) now place n) slot n flags)
 
--- open: its flags and mode, the room for one more open file, the path, then what is found there
+-- open: its flags and mode, the room for one more open file, the path, then what is found there. A link that stands last is
+-- followed, but for c with x.
 abbrev pub open_path : Geometry → Tree → User → ℕ → ℕ → List ℕ → ℕ → ℕ → Effect
 open_path g t user now session path flags mode = do
   _ ← refuse_if (bad_flags flags || nat_lt most_permissions mode) EINVAL
   fd ← free_place (t.descriptors session) most_descriptors EMFILE
   k ← free_place t.open_files most_open_files ENFILE
   parts ← read_path path
-  found ← look_up t user parts
+  found ← open_look_up t user (creates flags && is_exclusive flags) parts
   open_found g t user now (record { session = session; fd = fd; number = k }) flags mode found
 
 -- close: the last close of a file without a name frees it
@@ -77,11 +79,6 @@ dup t session fd = do
   Ok (descriptor other, with_descriptor t session other (Some found.0))
 
 -- Bytes and names.
-
--- k bytes of the file from a place on
-abbrev pub bytes_from : (ℕ → ℕ) → ℕ → ℕ → List ℕ
-bytes_from byte at zero = []
-bytes_from byte at (suc k) = byte at ∷ bytes_from byte (suc at) k
 
 -- the bytes up to the end, count of them at most
 abbrev pub bytes_read : File → ℕ → ℕ → List ℕ
@@ -100,7 +97,7 @@ read t session fd count = do
         Ok (some_bytes bytes, at_position t found.0 o (o.position + length bytes))
 
 -- write: all the bytes, at the position or with the append flag at the end; no bytes change nothing.
--- A directory is never open for writing, so the EBADF of one isn't met.
+-- A directory is never open for writing, and a link never open, so the EBADF of one isn't met.
 abbrev pub write : Geometry → Tree → ℕ → ℕ → ℕ → List ℕ → Effect
 write g t now session fd bytes = do
   found ← open_file_of t session fd
@@ -109,6 +106,7 @@ write g t now session fd bytes = do
     _ ← refuse_if (nat_lt most_bytes (length bytes)) EINVAL
     node ← node_at t o.inode
     f ← file_or node EBADF
+    _ ← refuse_if node.symbolic EBADF
     let at = if appends o.flags then f.size else o.position in do
       _ ← refuse_if (nat_lt most_size (at + length bytes)) EFBIG
       if length bytes == 0 then Ok (wrote 0, t) else

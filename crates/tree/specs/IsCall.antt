@@ -2,7 +2,8 @@
 use Rattle.std.specs.Prelude.{⊤, ◌<◌, ◌^◌, ℕ, List, All}
 use Rattle.tree.specs.declared.Who.{Who}
 use Rattle.tree.specs.declared.Call.{Call}
-use Rattle.tree.specs.declared.Call.TheVariants.{Open, Close, Dup, Read, Write, Seek, Stat, Fstat, Link, Unlink, Mkdir, Rmdir, Rename, Chmod, Chown, Utime, Truncate, Readdir, Sync, Statfs}
+use Rattle.tree.specs.declared.Call.TheVariants.{Open, Close, Dup, Read, Write, Seek, Stat, Fstat, Link, Unlink, Mkdir, Rmdir, Rename}
+use Rattle.tree.specs.declared.Call.TheVariants.{Chmod, Chown, Utime, Truncate, Readdir, Sync, Statfs, Symlink, Readlink, Lstat}
 
 -- each is a byte
 abbrev pub IsBytes : List ℕ → Type 0
@@ -30,6 +31,9 @@ IsCall (Truncate path size) = IsBytes path.now × (size < 2 ^ 32)
 IsCall (Readdir fd) = fd < 2 ^ 32
 IsCall Sync = ⊤
 IsCall Statfs = ⊤
+IsCall (Symlink target path) = IsBytes target.now × IsBytes path.now
+IsCall (Readlink path) = IsBytes path.now
+IsCall (Lstat path) = IsBytes path.now
 
 -- the session and the ids fit their widths
 pub record IsCaller (who : Who) : Type 0 where

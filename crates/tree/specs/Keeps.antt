@@ -8,7 +8,8 @@ use Rattle.tree.specs.declared.Who.{Who}
 use Rattle.tree.specs.declared.Whence.{Whence}
 use Rattle.tree.specs.declared.OpenFlags.{OpenFlags}
 use Rattle.tree.specs.declared.Call.{Call}
-use Rattle.tree.specs.declared.Call.TheVariants.{Chmod, Chown, Utime, Seek, Read, Dup, Close, Write, Truncate, Unlink, Link, Mkdir, Rmdir, Open, Rename}
+use Rattle.tree.specs.declared.Call.TheVariants.{Chmod, Chown, Utime, Seek, Read, Dup, Close, Write, Truncate, Unlink, Link, Mkdir, Rmdir}
+use Rattle.tree.specs.declared.Call.TheVariants.{Open, Rename, Symlink}
 use Rattle.tree.specs.IsCall.{IsBytes, IsCall, IsCaller}
 use Rattle.tree.specs.Tree.{Tree}
 use Rattle.tree.specs.IsTree.{IsTree}
@@ -87,6 +88,12 @@ abbrev pub RenameKeeps : Type 0
 RenameKeeps =
     (g : Geometry) (t : Tree) (who : Who) (now : ℕ) (old new : Bor (List ℕ)) → IsGeometry g → now < 2 ^ 32 → IsBytes new.now
     → IsTree g t → IsTree g (tree_after_call g t who now (Rename old new))
+
+abbrev pub SymlinkKeeps : Type 0
+SymlinkKeeps =
+    (g : Geometry) (t : Tree) (who : Who) (now : ℕ) (target path : Bor (List ℕ)) → IsGeometry g → IsCaller who → now < 2 ^ 32
+    → IsBytes target.now → IsBytes path.now
+    → IsTree g t → IsTree g (tree_after_call g t who now (Symlink target path))
 
 -- Every client call keeps a tree a tree.
 abbrev pub EveryCallKeeps : Type 0

@@ -1,16 +1,20 @@
 -- Laws of the tree.
-use Rattle.std.specs.Prelude.{◌≡◌, ◌≤◌, ◌<◌, ◌*◌, ◌/◌, ◌^◌, ℕ, Bool, true, false, None, Some, Err, IsTrue}
+use Rattle.std.specs.Prelude.{[], ◌∷◌, List, Result, Ok, false, ◌≡◌, ◌≤◌, ◌<◌, ◌*◌, ◌/◌, ◌^◌, ℕ, Bool, true, false, None, Some, Err, IsTrue}
 use Rattle.layout.specs.declared.Geometry.{Geometry}
 use Rattle.layout.specs.Places.{is_block_size}
 use Rattle.errno.specs.declared.Errno.{Errno}
+use Rattle.tree.specs.declared.User.{User}
 use Rattle.tree.specs.declared.Who.{Who}
 use Rattle.tree.specs.declared.Call.{Call}
-use Rattle.tree.specs.declared.Call.TheVariants.{Stat, Fstat, Readdir, Sync, Statfs}
+use Rattle.tree.specs.declared.Call.TheVariants.{Stat, Fstat, Readdir, Sync, Statfs, Readlink, Lstat}
 use Rattle.tree.specs.Sums.{put}
 use Rattle.tree.specs.ZonesNeeded.{page_limit}
-use Rattle.tree.specs.Tree.{Body, Node, Tree, most_size}
+use Rattle.tree.specs.Tree.{Body, Node, Tree, is_link_at, most_size}
 use Rattle.tree.specs.Space.{numbers_in_zone, held_of}
 use Rattle.tree.specs.IsTree.{IsBody, IsTree}
+use Rattle.tree.specs.Names.{Name}
+use Rattle.tree.specs.Refusals.{◌>>=◌}
+use Rattle.tree.specs.Walk.{enter, next, walk_parts}
 use Rattle.tree.specs.Changes.{new_node, empty_directory}
 use Rattle.tree.specs.Answers.{refused}
 use Rattle.tree.specs.Effects.{effect_of, reply_to, tree_after_call}
@@ -28,6 +32,8 @@ only_looks (Fstat fd) = true
 only_looks (Readdir fd) = true
 only_looks Sync = true
 only_looks Statfs = true
+only_looks (Readlink path) = true
+only_looks (Lstat path) = true
 only_looks _ = false
 
 -- they leave the tree
@@ -59,3 +65,23 @@ abbrev pub HeldPagesFit : Type 0
 HeldPagesFit =
     (g : Geometry) (body : Body) (q : ℕ) → IsTrue (is_block_size g.block_size) → IsBody g body → IsTrue (held_of g body q)
     → q < page_limit (numbers_in_zone g)
+
+-- the walk of a tree without links: each part is one step
+abbrev pub steps_from : Tree → User → ℕ → List Name → Result ℕ Errno
+steps_from t user here [] = Ok here
+steps_from t user here (part ∷ parts) = do
+  dir ← enter user (t.nodes here)
+  there ← next here dir.0 dir.1 part
+  steps_from t user there parts
+
+-- where no node is a link, a walk is that
+abbrev pub WalkWithoutLinks : Type 0
+WalkWithoutLinks =
+    (t : Tree) (user : User) (parts : List Name) → ((n : ℕ) → is_link_at t.nodes n ≡ false)
+    → walk_parts t user parts ≡ steps_from t user 1 parts
+
+-- a walk ends at no link, where the root is none
+abbrev pub WalkEndsAtNoLink : Type 0
+WalkEndsAtNoLink =
+    (t : Tree) (user : User) (parts : List Name) (n : ℕ) → is_link_at t.nodes 1 ≡ false → walk_parts t user parts ≡ Ok n
+    → is_link_at t.nodes n ≡ false

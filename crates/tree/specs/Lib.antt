@@ -22,3 +22,4 @@ pub mod Room
 pub mod Zones
 pub mod Sessions
 pub mod Order
+pub mod Links

@@ -2,15 +2,18 @@
 use Rattle.std.specs.Prelude.{ℕ, ◌+◌, List, length, Bool, false, not, ◌&&◌, ◌||◌, ◌==◌, nat_lt, nat_le, None, Some, Option, Result, Ok, if◌then◌else◌}
 use Rattle.layout.specs.declared.Geometry.{Geometry}
 use Rattle.errno.specs.declared.Errno.{Errno}
-use Rattle.errno.specs.declared.Errno.TheVariants.{EPERM, ENOENT, EACCES, EBUSY, EEXIST, ENOTDIR, EISDIR, EINVAL, EMLINK, ENOTEMPTY}
+use Rattle.errno.specs.declared.Errno.TheVariants.{EPERM, ENOENT, EACCES, EBUSY, EEXIST, ENOTDIR, EISDIR, EINVAL, EMLINK, ENAMETOOLONG}
+use Rattle.errno.specs.declared.Errno.TheVariants.{ENOTEMPTY}
+use Rattle.std.specs.List.{list_any}
 use Rattle.tree.specs.declared.User.{User}
 use Rattle.tree.specs.Sums.{one_if, some_below}
 use Rattle.tree.specs.Names.{inode_of, with_name, without_name}
-use Rattle.tree.specs.Tree.{Node, Tree, names_of, is_dir, is_open, with_node, on_node, most_links, most_permissions}
+use Rattle.tree.specs.Tree.{Node, Tree, names_of, is_dir, is_open, with_node, on_node, most_target, most_links, most_permissions}
 use Rattle.tree.specs.IsTree.{above}
 use Rattle.tree.specs.Refusals.{◌>>=◌, or_refuse, refuse_if}
-use Rattle.tree.specs.Walk.{read_path, walk_parts, parent_walk, node_at, has_last_name, is_taken, Place, may_access, to_write}
-use Rattle.tree.specs.Changes.{with_ctime, with_names, with_parent, more_links, fewer_links, with_link_lost, new_node, empty_directory, free_inode, without_nameless}
+use Rattle.tree.specs.Walk.{read_path, walk_to_last, parent_walk, node_at, has_last_name, is_taken, Place, may_access, to_write}
+use Rattle.tree.specs.Changes.{with_ctime, with_names, with_parent, more_links, fewer_links, with_link_lost, new_node, new_link}
+use Rattle.tree.specs.Changes.{empty_directory, free_inode, without_nameless}
 use Rattle.tree.specs.Answers.{done, Effect, if_it_fits}
 
 -- the tree in which the place's name leads to node n
@@ -29,12 +32,12 @@ is_empty node = length (names_of (Some node)) == 0
 abbrev pub with_name_lost : Tree → ℕ → ℕ → Tree
 with_name_lost t now n = without_nameless (on_node t n (with_link_lost now)) n
 
--- link: a file has one name more
+-- link: a file has one name more, or a symbolic link that stands last
 abbrev pub link : Geometry → Tree → User → ℕ → List ℕ → List ℕ → Effect
 link g t user now old new = do
   old_parts ← read_path old
   new_parts ← read_path new
-  n ← walk_parts t user old_parts
+  n ← walk_to_last t user old_parts
   node ← node_at t n
   _ ← refuse_if (is_dir node) EPERM
   _ ← refuse_if (nat_le most_links node.links) EMLINK
@@ -71,6 +74,20 @@ mkdir g t user now path mode = do
   if_it_fits g done (on_node
       (with_entry (with_node t n (Some (new_node now user mode 2 (empty_directory place.directory)))) now place n)
       place.directory (more_links 1))
+
+-- symlink: a new link with this target
+abbrev pub symlink : Geometry → Tree → User → ℕ → List ℕ → List ℕ → Effect
+symlink g t user now target path = do
+  _ ← refuse_if (length target == 0) ENOENT
+  _ ← refuse_if (nat_lt most_target (length target)) ENAMETOOLONG
+  _ ← refuse_if (list_any (λ c. c == 0) target) EINVAL
+  parts ← read_path path
+  place ← parent_walk t user parts
+  _ ← refuse_if (is_taken place parts) EEXIST
+  parent ← node_at t place.directory
+  _ ← refuse_if (not (may_access user parent to_write)) EACCES
+  n ← free_inode g t
+  if_it_fits g done (with_entry (with_node t n (Some (new_link now user target))) now place n)
 
 -- rmdir: an empty directory that isn't open is gone
 abbrev pub rmdir : Tree → User → ℕ → List ℕ → Effect

@@ -5,12 +5,12 @@ use Rattle.errno.specs.declared.Errno.{Errno}
 use Rattle.errno.specs.declared.Errno.TheVariants.{EPERM, EACCES, EISDIR, EINVAL, EFBIG}
 use Rattle.tree.specs.declared.User.{User}
 use Rattle.tree.specs.declared.Attributes.{Attributes}
-use Rattle.tree.specs.Tree.{File, is_file, is_directory, Node, Tree, with_node, mode_of, size_of, most_size, most_permissions}
+use Rattle.tree.specs.Tree.{File, is_file, is_directory, Node, Tree, target_of, with_node, mode_of, size_of, most_size, most_permissions}
 use Rattle.tree.specs.Space.{data_zones, free_zones, free_inodes}
-use Rattle.tree.specs.Refusals.{◌>>=◌, refuse_if}
-use Rattle.tree.specs.Walk.{walk, node_at, may_access, to_write, is_owner}
+use Rattle.tree.specs.Refusals.{◌>>=◌, or_refuse, refuse_if}
+use Rattle.tree.specs.Walk.{walk, walk_to_last, read_path, node_at, may_access, to_write, is_owner}
 use Rattle.tree.specs.Changes.{with_ctime, with_body, file_after_resize}
-use Rattle.tree.specs.Answers.{done, node_is, room_is, Effect}
+use Rattle.tree.specs.Answers.{done, some_bytes, node_is, room_is, Effect}
 
 -- what stat tells of node n
 abbrev pub attributes_of : ℕ → Node → Attributes
@@ -37,6 +37,22 @@ stat t user path = do
   node ← node_at t n
   Ok (node_is (attributes_of n node), t)
 
+-- lstat: of a link that stands last, its own attributes
+abbrev pub lstat : Tree → User → List ℕ → Effect
+lstat t user path = do
+  parts ← read_path path
+  n ← walk_to_last t user parts
+  node ← node_at t n
+  Ok (node_is (attributes_of n node), t)
+
+-- readlink: the target of a link that stands last
+abbrev pub readlink : Tree → User → List ℕ → Effect
+readlink t user path = do
+  parts ← read_path path
+  n ← walk_to_last t user parts
+  target ← or_refuse (target_of (t.nodes n)) EINVAL
+  Ok (some_bytes target, t)
+
 -- chmod: the permissions; the type stays
 abbrev pub chmod : Tree → User → ℕ → List ℕ → ℕ → Effect
 chmod t user now path mode = do
@@ -62,13 +78,14 @@ utime t user now path atime mtime = do
   _ ← refuse_if (not (is_owner user node)) EPERM
   Ok (done, with_node t n (Some (with_ctime now (record node { atime = atime; mtime = mtime }))))
 
--- truncate: another size
+-- Truncate: another size. The walk ends at no link, so the refusal of one isn't met.
 abbrev pub truncate : Geometry → Tree → User → ℕ → List ℕ → ℕ → Effect
 truncate g t user now path size = do
   _ ← refuse_if (nat_lt most_size size) EFBIG
   n ← walk t user path
   node ← node_at t n
   f ← file_or node EISDIR
+  _ ← refuse_if node.symbolic EISDIR
   _ ← refuse_if (not (may_access user node to_write)) EACCES
   Ok (done, with_node t n (Some (with_body now (is_file (file_after_resize g f size)) node)))
 

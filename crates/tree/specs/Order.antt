@@ -9,7 +9,8 @@ use Rattle.tree.specs.Names.{Name, inode_of}
 use Rattle.tree.specs.Flags.{reads, writes, creates, is_exclusive, bad_flags}
 use Rattle.tree.specs.Tree.{Node, Tree, is_dir, most_links, most_descriptors, most_open_files, most_permissions}
 use Rattle.tree.specs.Refusals.{free_place}
-use Rattle.tree.specs.Walk.{read_path, walk_parts, parent_walk, has_last_name, is_taken, Place, Found, is_there, is_missing, look_up, may_access, to_read, to_write}
+use Rattle.tree.specs.Walk.{read_path, walk_to_last, parent_walk, has_last_name, is_taken, Place, Found, is_there, is_missing, open_look_up}
+use Rattle.tree.specs.Walk.{may_access, to_read, to_write}
 use Rattle.tree.specs.Changes.{free_inode}
 use Rattle.tree.specs.NameCalls.{link, is_within, is_same, has_room_for_link, can_replace, rename}
 use Rattle.tree.specs.FileCalls.{Slot, open_found, open_path}
@@ -18,21 +19,27 @@ use Rattle.tree.specs.FileCalls.{Slot, open_found, open_path}
 pub record LinkRefusesInOrder (g : Geometry) (t : Tree) (user : User) (now : ℕ) (old new : List ℕ) : Type 0 where
   pub old_read : (e : Errno) → read_path old ≡ Err e → link g t user now old new ≡ Err e
   pub new_read : (ps : List Name) (e : Errno) → read_path old ≡ Ok ps → read_path new ≡ Err e → link g t user now old new ≡ Err e
-  pub walked : (ps qs : List Name) (e : Errno) → read_path old ≡ Ok ps → read_path new ≡ Ok qs → walk_parts t user ps ≡ Err e → link g t user now old new ≡ Err e
+  pub walked : (ps qs : List Name) (e : Errno) → read_path old ≡ Ok ps → read_path new ≡ Ok qs → walk_to_last t user ps ≡ Err e
+      → link g t user now old new ≡ Err e
   pub directory :
-      (ps qs : List Name) (n : ℕ) (node : Node) → read_path old ≡ Ok ps → read_path new ≡ Ok qs → walk_parts t user ps ≡ Ok n → t.nodes n ≡ Some node
+      (ps qs : List Name) (n : ℕ) (node : Node) → read_path old ≡ Ok ps → read_path new ≡ Ok qs → walk_to_last t user ps ≡ Ok n
+      → t.nodes n ≡ Some node
       → is_dir node ≡ true → link g t user now old new ≡ Err EPERM
   pub links :
-      (ps qs : List Name) (n : ℕ) (node : Node) → read_path old ≡ Ok ps → read_path new ≡ Ok qs → walk_parts t user ps ≡ Ok n → t.nodes n ≡ Some node
+      (ps qs : List Name) (n : ℕ) (node : Node) → read_path old ≡ Ok ps → read_path new ≡ Ok qs → walk_to_last t user ps ≡ Ok n
+      → t.nodes n ≡ Some node
       → is_dir node ≡ false → nat_le most_links node.links ≡ true → link g t user now old new ≡ Err EMLINK
   pub place :
-      (ps qs : List Name) (n : ℕ) (node : Node) (e : Errno) → read_path old ≡ Ok ps → read_path new ≡ Ok qs → walk_parts t user ps ≡ Ok n → t.nodes n ≡ Some node
+      (ps qs : List Name) (n : ℕ) (node : Node) (e : Errno) → read_path old ≡ Ok ps → read_path new ≡ Ok qs → walk_to_last t user ps ≡ Ok n
+      → t.nodes n ≡ Some node
       → is_dir node ≡ false → nat_le most_links node.links ≡ false → parent_walk t user qs ≡ Err e → link g t user now old new ≡ Err e
   pub taken :
-      (ps qs : List Name) (n : ℕ) (node : Node) (place : Place) → read_path old ≡ Ok ps → read_path new ≡ Ok qs → walk_parts t user ps ≡ Ok n → t.nodes n ≡ Some node
+      (ps qs : List Name) (n : ℕ) (node : Node) (place : Place) → read_path old ≡ Ok ps → read_path new ≡ Ok qs
+      → walk_to_last t user ps ≡ Ok n → t.nodes n ≡ Some node
       → is_dir node ≡ false → nat_le most_links node.links ≡ false → parent_walk t user qs ≡ Ok place → is_taken place qs ≡ true → link g t user now old new ≡ Err EEXIST
   pub permission :
-      (ps qs : List Name) (n : ℕ) (node : Node) (place : Place) (parent : Node) → read_path old ≡ Ok ps → read_path new ≡ Ok qs → walk_parts t user ps ≡ Ok n
+      (ps qs : List Name) (n : ℕ) (node : Node) (place : Place) (parent : Node) → read_path old ≡ Ok ps → read_path new ≡ Ok qs
+      → walk_to_last t user ps ≡ Ok n
       → t.nodes n ≡ Some node → is_dir node ≡ false → nat_le most_links node.links ≡ false → parent_walk t user qs ≡ Ok place → is_taken place qs ≡ false
       → t.nodes place.directory ≡ Some parent → may_access user parent to_write ≡ false → link g t user now old new ≡ Err EACCES
 
@@ -51,11 +58,11 @@ pub record OpenRefusesInOrder (g : Geometry) (t : Tree) (user : User) (now sessi
   pub looked :
       (e : Errno) (fd k : ℕ) (ps : List Name) → (bad_flags flags || nat_lt most_permissions mode) ≡ false
       → free_place (t.descriptors session) most_descriptors EMFILE ≡ Ok fd → free_place t.open_files most_open_files ENFILE ≡ Ok k → read_path path ≡ Ok ps
-      → look_up t user ps ≡ Err e → open_path g t user now session path flags mode ≡ Err e
+      → open_look_up t user (creates flags && is_exclusive flags) ps ≡ Err e → open_path g t user now session path flags mode ≡ Err e
   pub found :
       (fd k : ℕ) (ps : List Name) (found : Found) → (bad_flags flags || nat_lt most_permissions mode) ≡ false
       → free_place (t.descriptors session) most_descriptors EMFILE ≡ Ok fd → free_place t.open_files most_open_files ENFILE ≡ Ok k → read_path path ≡ Ok ps
-      → look_up t user ps ≡ Ok found
+      → open_look_up t user (creates flags && is_exclusive flags) ps ≡ Ok found
       → open_path g t user now session path flags mode ≡ open_found g t user now (record { session = session; fd = fd; number = k }) flags mode found
 
 -- What open found: a node (exclusive, a directory to write, permission), or a missing name (no create, permission, no inode).

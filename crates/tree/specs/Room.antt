@@ -5,7 +5,7 @@ use Rattle.layout.specs.Places.{IsGeometry}
 use Rattle.errno.specs.declared.Errno.TheVariants.{ENOSPC}
 use Rattle.tree.specs.declared.Who.{Who}
 use Rattle.tree.specs.declared.Call.{Call}
-use Rattle.tree.specs.declared.Call.TheVariants.{Open, Write, Link, Mkdir, Rename}
+use Rattle.tree.specs.declared.Call.TheVariants.{Open, Write, Link, Mkdir, Rename, Symlink}
 use Rattle.tree.specs.Tree.{Tree}
 use Rattle.tree.specs.Space.{zones_used, data_zones}
 use Rattle.tree.specs.Answers.{Answer}
@@ -42,6 +42,7 @@ TooBigIsRefused =
 abbrev pub may_make : Call → Bool
 may_make (Open path flags mode) = true
 may_make (Mkdir path mode) = true
+may_make (Symlink target path) = true
 may_make _ = false
 
 -- a volume with one inode more, and with that many zones
@@ -88,6 +89,7 @@ may_take (Write fd bytes) = true
 may_take (Link old new) = true
 may_take (Mkdir path mode) = true
 may_take (Rename old new) = true
+may_take (Symlink target path) = true
 may_take _ = false
 
 -- The others are never refused with ENOSPC.

@@ -1,12 +1,13 @@
 -- Paths, the walk, and access.
-use Rattle.std.specs.Prelude.{ℕ, ◌/◌, ◌%◌, List, [], ◌∷◌, ◌++◌, length, Bool, false, not, ◌&&◌, ◌||◌, ◌==◌, nat_lt, if◌then◌else◌, Option, None, Some, Result, Ok, Err}
+use Rattle.std.specs.Prelude.{ℕ, zero, suc, ◌/◌, ◌%◌, List, [], ◌∷◌, ◌++◌, length, Bool, false, not, ◌&&◌, ◌||◌, ◌==◌, nat_lt}
+use Rattle.std.specs.Prelude.{if◌then◌else◌, Option, None, Some, Result, Ok, Err}
 use Rattle.std.specs.List.{list_any}
 use Rattle.errno.specs.declared.Errno.{Errno}
-use Rattle.errno.specs.declared.Errno.TheVariants.{ENOENT, EACCES, ENOTDIR, EINVAL, ENAMETOOLONG}
+use Rattle.errno.specs.declared.Errno.TheVariants.{ENOENT, EACCES, ENOTDIR, EINVAL, ENAMETOOLONG, ELOOP}
 use Rattle.tree.specs.declared.User.{User}
 use Rattle.tree.specs.Names.{Name, most_name, same_name, dot, dot_dot, is_dots, Names, inode_of, has_name}
 use Rattle.tree.specs.Flags.{has_bit}
-use Rattle.tree.specs.Tree.{is_file, is_directory, Node, Tree}
+use Rattle.tree.specs.Tree.{is_file, is_directory, Node, Tree, target_of, is_link_at}
 use Rattle.tree.specs.Refusals.{◌>>=◌, or_refuse, refuse_if}
 
 -- the parts between slashes (47), empty ones left out; `part` has the bytes so far of the present one
@@ -30,13 +31,17 @@ abbrev pub begins_with_slash : List ℕ → Bool
 begins_with_slash [] = false
 begins_with_slash (c ∷ cs) = c == 47
 
+-- some part is longer than a name may be
+abbrev pub has_long_part : List ℕ → Bool
+has_long_part path = list_any (λ part. nat_lt most_name (length part)) (parts_of path)
+
 -- a path's parts, or why it can't be read
 abbrev pub read_path : List ℕ → Result (List Name) Errno
 read_path path = do
   _ ← refuse_if (length path == 0) ENOENT
   _ ← refuse_if (nat_lt most_path (length path)) ENAMETOOLONG
   _ ← refuse_if (not (begins_with_slash path) || list_any (λ c. c == 0) path) EINVAL
-  _ ← refuse_if (list_any (λ part. nat_lt most_name (length part)) (parts_of path)) ENAMETOOLONG
+  _ ← refuse_if (has_long_part path) ENAMETOOLONG
   Ok (parts_of path)
 
 -- the three bits that speak for the user: the owner's, else the group's, else the others'
@@ -79,17 +84,36 @@ next here parent names part =
     if same_name part dot then Ok here else
     if same_name part dot_dot then Ok parent else or_refuse (inode_of names part) ENOENT
 
--- the node to which the parts lead from a node
-abbrev pub walk_from : Tree → User → ℕ → List Name → Result ℕ Errno
-walk_from t user here [] = Ok here
-walk_from t user here (part ∷ parts) = do
+-- where a walk ends that met a link: the directory where it stands, its target, and the parts that follow
+abbrev pub Follow : Type 0
+Follow = ℕ → List ℕ → List Name → Result ℕ Errno
+
+-- the node to which the parts lead from a node; where one leads to a link, the walk goes on as `follow` says
+abbrev pub walk_from : Tree → User → Follow → ℕ → List Name → Result ℕ Errno
+walk_from t user follow here [] = Ok here
+walk_from t user follow here (part ∷ parts) = do
   dir ← enter user (t.nodes here)
   there ← next here dir.0 dir.1 part
-  walk_from t user there parts
+  elim (target_of (t.nodes there)) [ None ↦ walk_from t user follow there parts | Some target ↦ follow here target parts ]
 
--- the node to which the parts lead from the root
+-- a target that begins with a slash is read from the root on, another from the directory where its link stands
+abbrev pub start_of : ℕ → List ℕ → ℕ
+start_of here target = if begins_with_slash target then 1 else here
+
+-- a walk that may follow k links more: the target's parts are walked, then the rest
+abbrev pub follow_links : Tree → User → ℕ → Follow
+follow_links t user zero here target parts = Err ELOOP
+follow_links t user (suc k) here target parts = do
+  _ ← refuse_if (has_long_part target) ENAMETOOLONG
+  walk_from t user (follow_links t user k) (start_of here target) (parts_of target ++ parts)
+
+-- links that one walk follows; the next is ELOOP
+abbrev pub most_followed : ℕ
+most_followed = 8
+
+-- the node to which the parts lead from the root; a link that stands last is followed too
 abbrev pub walk_parts : Tree → User → List Name → Result ℕ Errno
-walk_parts t user parts = walk_from t user 1 parts
+walk_parts t user parts = walk_from t user (follow_links t user most_followed) 1 parts
 
 -- the node that a path leads to
 abbrev pub walk : Tree → User → List ℕ → Result ℕ Errno
@@ -142,9 +166,29 @@ pub data Found : Type 0 where
 abbrev pub found_at : Place → Found
 found_at place = elim (inode_of place.names place.name) [ None ↦ is_missing place | Some n ↦ is_there n ]
 
--- what a path finds; the walk's refusals come first
+-- what a path finds, a link that stands last too; the walk's refusals come first
 abbrev pub look_up : Tree → User → List Name → Result Found Errno
 look_up t user parts =
     if has_last_name parts
     then (parent_walk t user parts >>= λ place. Ok (found_at place))
     else (walk_parts t user parts >>= λ n. Ok (is_there n))
+
+-- the node that is found, or the refusal of a name that is missing
+abbrev pub found_or : Found → Errno → Result ℕ Errno
+found_or (is_there n) e = Ok n
+found_or (is_missing place) e = Err e
+
+-- the node to which the parts lead from the root, where a link that stands last isn't followed
+abbrev pub walk_to_last : Tree → User → List Name → Result ℕ Errno
+walk_to_last t user parts = look_up t user parts >>= λ found. found_or found ENOENT
+
+-- a link that stands last
+abbrev pub finds_link : Tree → Found → Bool
+finds_link t (is_there n) = is_link_at t.nodes n
+finds_link t (is_missing place) = false
+
+-- what a path finds for open: where a link stands last, what the whole path leads to; the link itself where it isn't to be followed
+abbrev pub open_look_up : Tree → User → Bool → List Name → Result Found Errno
+open_look_up t user as_is parts = do
+  found ← look_up t user parts
+  if not as_is && finds_link t found then (walk_parts t user parts >>= λ n. Ok (is_there n)) else Ok found

@@ -2,15 +2,16 @@
 
 ghost use Rattle.std.specs.Prelude.{◌≡◌};
 ghost use Rattle.tree.specs.IsCall.{IsBytes, IsCall, IsCaller};
-ghost use Rattle.tree.specs.Laws.{FreshIsTree, HeldPagesFit, LooksLeave, PagesFit, RefusedLeaves};
+ghost use Rattle.tree.specs.Laws.{FreshIsTree, HeldPagesFit, LooksLeave, PagesFit, RefusedLeaves, WalkEndsAtNoLink, WalkWithoutLinks};
 ghost use Rattle.tree.specs.Names.{most_name};
 ghost use Rattle.tree.specs.Tree.{most_bytes, most_descriptors, most_links, most_open_files, most_permissions, most_sessions, most_size};
+ghost use Rattle.tree.specs.Tree.{most_target};
 ghost use Rattle.tree.specs.Walk.{most_path};
 ghost use Rattle.tree.specs.ZonesNeededByPlace.{ZonesNeededIsByPlace};
 
 use super::{
     Call, MAX_DESCRIPTORS, MAX_LINKS, MAX_NAME, MAX_OPEN_FILES, MAX_PATH, MAX_PERMISSIONS,
-    MAX_SESSIONS, MAX_SIZE, MAX_TRANSFER, Who,
+    MAX_SESSIONS, MAX_SIZE, MAX_TARGET, MAX_TRANSFER, Who,
 };
 use bitflags::Flags;
 
@@ -46,10 +47,18 @@ pub fn is_call(call: &Call<'_>)
             are_bytes(path);
             let _number = size;
         }
-        Call::Stat { path } | Call::Unlink { path } | Call::Rmdir { path } => are_bytes(path),
+        Call::Stat { path }
+        | Call::Unlink { path }
+        | Call::Rmdir { path }
+        | Call::Readlink { path }
+        | Call::Lstat { path } => are_bytes(path),
         Call::Link { old, new } | Call::Rename { old, new } => {
             are_bytes(old);
             are_bytes(new);
+        }
+        Call::Symlink { target, path } => {
+            are_bytes(target);
+            are_bytes(path);
         }
         Call::Read { fd, count } => {
             let _fd = fd;
@@ -110,6 +119,12 @@ pub fn pages_fit()
     ensures held { HeldPagesFit }
 {}
 
+/// In a tree without links a walk is one step for each part; in any tree it ends at no link.
+pub fn walks_follow_links()
+    ensures without { WalkWithoutLinks }
+    ensures ends { WalkEndsAtNoLink }
+{}
+
 /// The constants of the code are the limits of the definitions.
 pub fn limits_agree()
     ensures sessions { MAX_SESSIONS ≡ most_sessions }
@@ -117,6 +132,7 @@ pub fn limits_agree()
     ensures open_files { MAX_OPEN_FILES ≡ most_open_files }
     ensures transfer { MAX_TRANSFER ≡ most_bytes }
     ensures size { MAX_SIZE ≡ most_size }
+    ensures target { MAX_TARGET ≡ most_target }
     ensures links { MAX_LINKS ≡ most_links }
     ensures permissions { MAX_PERMISSIONS ≡ most_permissions }
     ensures name { MAX_NAME ≡ most_name }

@@ -25,6 +25,9 @@ pub const MAX_TRANSFER: u32 = 65536;
 /// The most bytes of a file; a write or truncate past them answers EFBIG, a seek EINVAL.
 pub const MAX_SIZE: u32 = 2147483647;
 
+/// The most bytes of the target of a symbolic link; a longer one answers ENAMETOOLONG.
+pub const MAX_TARGET: usize = 1023;
+
 /// The most links of a node; past them a call answers EMLINK.
 pub const MAX_LINKS: u16 = 32767;
 
@@ -253,6 +256,19 @@ pub enum Call<'a> {
     Sync,
     /// The sizes of the volume, and what is free of them.
     Statfs,
+    /// Makes a symbolic link with a target of 1 to [`MAX_TARGET`] bytes, none of them zero.
+    Symlink {
+        target: &'a [u8],
+        path: &'a [u8],
+    },
+    /// The target of the symbolic link that a path names.
+    Readlink {
+        path: &'a [u8],
+    },
+    /// The attributes of what a path names: of a symbolic link that stands last, its own.
+    Lstat {
+        path: &'a [u8],
+    },
 }
 
 /// What stat tells of a node.
@@ -260,7 +276,7 @@ pub enum Call<'a> {
 pub struct Attributes {
     /// Its number; the root's is 1.
     pub inode: u16,
-    /// Its type and permissions: octal 0040000 for a directory, 0100000 for a file, and bits of 0777.
+    /// Its type and permissions: octal 0040000 for a directory, 0100000 for a file, 0120000 for a symbolic link, and bits of 0777.
     pub mode: u16,
     /// How many names a file has; for a directory 2 and its subdirectories.
     pub links: u16,
@@ -287,6 +303,15 @@ pub struct Room {
     /// How many inodes there are.
     pub inodes: u32,
     pub free_inodes: u32,
+}
+
+/// The target of a symbolic link. It is kept in place, so that none takes memory.
+#[derive(Clone, Copy, Debug, PartialEq, Eq)]
+pub struct LinkTarget {
+    /// Its bytes, and zeros behind them.
+    pub bytes: [u8; MAX_TARGET],
+    /// How many they are.
+    pub length: usize,
 }
 
 /// A name in a directory, and its inode.
@@ -318,6 +343,8 @@ pub enum Reply {
     Names(Vec<Entry>),
     /// The room of statfs.
     Space(Room),
+    /// The target of readlink.
+    Target(LinkTarget),
 }
 
 /// The server's answer to a call.

@@ -2,9 +2,11 @@
 //! clients may rest on from call to call. Each law is the contract of a function that does nothing.
 
 ghost use Rattle.tree.specs.Keeps.{ChmodKeeps, ChownKeeps, UtimeKeeps, SeekKeeps, ReadKeeps, DupKeeps, CloseKeeps, WriteKeeps};
-ghost use Rattle.tree.specs.Keeps.{TruncateKeeps, UnlinkKeeps, LinkKeeps, MkdirKeeps, RmdirKeeps, OpenKeeps, RenameKeeps, EveryCallKeeps};
+ghost use Rattle.tree.specs.Keeps.{TruncateKeeps, UnlinkKeeps, LinkKeeps, MkdirKeeps, RmdirKeeps, OpenKeeps, RenameKeeps, SymlinkKeeps};
+ghost use Rattle.tree.specs.Keeps.{EveryCallKeeps};
 ghost use Rattle.tree.specs.Room.{EveryCallFits, TooBigIsRefused, FullIsRefused, EnospcMeans, FullMakesNone, OthersHaveRoom};
 ghost use Rattle.tree.specs.Sessions.{OtherSessionsStay, RenameOfSameStays, ReaddirLists, ReadGivesWritten};
+ghost use Rattle.tree.specs.Links.{LinkHasTarget, TargetIsWritten, LinkIsItsTarget};
 ghost use Rattle.tree.specs.Order.{LinkOrder, OpenOrder, FoundOrder, RenameOrder};
 ghost use Rattle.tree.specs.Zones.{NeedIsMonotone, NeedGrows, OnePageMore, PagesLetGo};
 
@@ -57,6 +59,18 @@ pub fn open_keeps()
 /// Rename keeps a tree a tree, of a file and of a directory, onto nothing and onto another node.
 pub fn rename_keeps()
     ensures { RenameKeeps }
+{}
+
+/// Symlink keeps a tree a tree.
+pub fn symlink_keeps()
+    ensures { SymlinkKeeps }
+{}
+
+/// A symbolic link is its target, whose bytes are those that are written into an empty file.
+pub fn links_are_targets()
+    ensures made { LinkHasTarget }
+    ensures written { TargetIsWritten }
+    ensures only { LinkIsItsTarget }
 {}
 
 /// Every client call keeps a tree a tree, refused or not: for each geometry that a superblock can have, each caller, time and call of Rust.

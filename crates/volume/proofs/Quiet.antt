@@ -6,7 +6,9 @@ use Rattle.std.proofs.lemmas.Bool.{cases_Bool, cond-true, cond-false}
 use Rattle.layout.specs.declared.Geometry.{Geometry}
 use Rattle.tree.specs.Sums.{some_below, least_below}
 use Rattle.volume.specs.Pieces.{Pieces}
-use Rattle.volume.specs.Findings.{lacks_inode_bit, lacks_zone_bit, lacks_root, has_bad_mode, has_bad_size, has_bad_number, is_used_twice, has_bad_bit, has_spare_zone, has_hole, has_bad_dots, has_bad_entry, has_bad_target, is_misplaced, has_bad_links}
+use Rattle.volume.specs.Findings.{lacks_inode_bit, lacks_zone_bit, lacks_root, has_bad_mode, has_bad_size, has_bad_number, is_used_twice}
+use Rattle.volume.specs.Findings.{has_bad_bit, has_spare_zone, has_hole, has_bad_dots, has_bad_entry, has_bad_target, is_misplaced}
+use Rattle.volume.specs.Findings.{has_bad_links, has_bad_link}
 use Rattle.volume.specs.Verdict.{Clean, Test, found, first_found, tests, place_limit, verdict_of_pieces}
 
 -- a test that is true nowhere
@@ -30,6 +32,7 @@ pub record Quiet (g : Geometry) (v : Pieces) : Type 0 where
   pub targets : Never g (has_bad_target g v)
   pub places : Never g (is_misplaced g v)
   pub links : Never g (has_bad_links g v)
+  pub link_targets : Never g (has_bad_link g v)
 
 -- tests that are all true nowhere
 AllNever : Geometry → List Test → Type 0
@@ -58,6 +61,7 @@ clean_quiet g v e =
     let q = clean_never g 2 (tests g v) e in
     let r = q.1.1.1.1.1 in
     let s = r.1.1.1.1.1 in
+    let u = s.1.1.1.1.1 in
     record {
       inode_bit = q.0;
       zone_bit = q.1.0;
@@ -74,13 +78,17 @@ clean_quiet g v e =
       targets = s.1.1.0;
       places = s.1.1.1.0;
       links = s.1.1.1.1.0;
+      link_targets = u.0;
     }
 
 -- and where nothing is found it is clean
 pub quiet_clean : (g : Geometry) (v : Pieces) → Quiet g v → verdict_of_pieces g v ≡ Clean
 unfolding AllNever
-quiet_clean g v q = never_clean g 2 (tests g v)
-    (q.inode_bit, (q.zone_bit, (q.root, (q.modes, (q.sizes, (q.numbers, (q.twice, (q.bits, (q.ends, (q.holes, (q.dots, (q.entries, (q.targets, (q.places, (q.links, tt)))))))))))))))
+quiet_clean g v q =
+    let dots : AllNever g (has_bad_dots g v ∷ has_bad_entry g v ∷ has_bad_target g v ∷ is_misplaced g v ∷ has_bad_links g v
+    ∷ has_bad_link g v ∷ []) = (q.dots, (q.entries, (q.targets, (q.places, (q.links, (q.link_targets, tt)))))) in
+    never_clean g 2 (tests g v)
+    (q.inode_bit, (q.zone_bit, (q.root, (q.modes, (q.sizes, (q.numbers, (q.twice, (q.bits, (q.ends, (q.holes, dots))))))))))
 
 -- a guarded test is false where it is false under the guard
 pub guard_false : (a b : Bool) → (a ≡ true → b ≡ false) → (a && b) ≡ false

@@ -1,16 +1,20 @@
 -- Where a tree without open files is held, no finding holds.
 use Rattle.std.proofs.Common.{◌≡◌, ◌≢◌, ◌<◌, ◌≤◌, ◌+◌, ℕ, true, false, sym, ap, ◌∙◌, arith, subst}
 use mathlib.Core.Logic.{inl, inr}
-use Rattle.std.specs.Prelude.{not, ◌||◌, ◌==◌, nat_lt, None, Some}
-use Rattle.std.proofs.lemmas.Bool.{cases_eq, cases_Bool, cases_lt, or_from, cond-true, cond-false, eq-eqb, ne_eqb, lt-ltb, le-ltb, both_ways}
+use Rattle.std.specs.Prelude.{not, ◌||◌, ◌==◌, ◌/◌, nat_lt, nat_le, None, Some}
+use Rattle.std.proofs.lemmas.Bool.{cases_eq, cases_Bool, cases_lt, or_from, cond-true, cond-false, eq-eqb, ne_eqb, lt-ltb, le-ltb}
+use Rattle.std.proofs.lemmas.Bool.{both_ways, and_parts, eqb-true, or_right, not_from_false}
+use Rattle.std.proofs.Math.Nat.{zero-div}
 use Rattle.layout.specs.declared.Geometry.{Geometry}
 use Rattle.tree.specs.Sums.{one_if}
-use Rattle.tree.specs.Tree.{Tree, is_dir, names_of, opens, is_open, most_size, most_links, most_open_files}
-use Rattle.tree.specs.IsTree.{IsBody, IsTree, IsClosed, above, links_due, subdirectories}
+use Rattle.tree.specs.Tree.{Tree, is_file, is_directory, most_target, is_dir, names_of, opens, is_open, most_size, most_links}
+use Rattle.tree.specs.Tree.{most_open_files}
+use Rattle.tree.specs.IsTree.{IsBody, HasTarget, IsTree, IsClosed, above, links_due, subdirectories}
 use Rattle.volume.specs.Pieces.{Pieces}
-use Rattle.volume.specs.Nodes.{is_marked, node_of}
-use Rattle.volume.specs.Entries.{is_directory_inode, entry_count, name_at, target_at}
-use Rattle.volume.specs.Findings.{has_bad_size, has_bad_target, is_misplaced, has_bad_links, names_in_of, all_names_of, is_reached, is_parent, links_of}
+use Rattle.volume.specs.Nodes.{is_marked, node_of, directory_of, file_of, file_byte, page_zone, type_in, is_directory_mode, is_link_mode}
+use Rattle.volume.specs.Entries.{is_directory_inode, is_link_inode, entry_count, name_at, target_at}
+use Rattle.volume.specs.Findings.{has_bad_size, has_bad_target, is_misplaced, has_bad_links, has_bad_link, is_bad_link_size, names_in_of}
+use Rattle.volume.specs.Findings.{all_names_of, is_reached, is_parent, links_of}
 use Rattle.volume.specs.Holds.{IsSound}
 use Rattle.volume.specs.Verdict.{place_limit}
 use Rattle.volume.proofs.Sums.{none_from}
@@ -157,6 +161,27 @@ module _ (g : Geometry) (v : Pieces) (ok : IsVolume g v) (s : IsSound g v) (u : 
       (ne_eqb l 0 (λ z. both_ways _ (none_open n) (tree.nameless n node at z))))
       (le-ltb most_links l (tree.nodes.each n node at).links))
 
+  -- finding 17
+  quiet_link_targets : (n : ℕ) → has_bad_link g v n ≡ false
+  quiet_link_targets n = guard_false (is_link_inode g v n) _ (λ is.
+      let i = v.inodes n in
+      let parts = and_parts (is_marked g v n) (is_link_mode i.mode) is in
+      let no_directory : is_directory_mode i.mode ≡ false = ne_eqb (type_in i.mode) 4
+      (λ four. let ten = eqb-true (type_in i.mode) 10 parts.1 in absurd (omega (arith, four, ten))) in
+      let body_is = cond-false (is_directory_mode i.mode) (is_directory (directory_of g v i)) (is_file (file_of g v i)) no_directory in
+      let node = tree.nodes.each n (node_of g v i) (node_marked g v n parts.0) in
+      let file = subst (IsBody g) body_is node.body in
+      let target = subst HasTarget body_is (node.target parts.1) in
+      let some = target.some in
+      or_from (is_bad_link_size g v i.size || (page_zone g v i 0 == 0)) _
+      (or_from (is_bad_link_size g v i.size) (page_zone g v i 0 == 0)
+      (or_from (i.size == 0) (nat_lt most_target i.size) (ne_eqb i.size 0 (λ e. absurd (omega (arith, some, e))))
+      (le-ltb most_target i.size target.few))
+      (ne_eqb (page_zone g v i 0) 0 (λ hole.
+      let first : page_zone g v i (0 / g.block_size) ≡ 0 = ap (page_zone g v i) (zero-div g.block_size) ∙ hole in
+      target.bytes 0 some (file.zeros 0 (or_right (nat_le i.size 0) _ (not_from_false _ (not_false_from _ (eq-eqb _ 0 first))))))))
+      (none_from _ i.size (λ p low. ne_eqb (file_byte g v i p) 0 (target.bytes p low))))
+
   -- nothing is found
   pub is_quiet : Quiet g v
   is_quiet = record {
@@ -175,4 +200,5 @@ module _ (g : Geometry) (v : Pieces) (ok : IsVolume g v) (s : IsSound g v) (u : 
     targets = none_from _ (place_limit g) (λ n _. quiet_targets n);
     places = none_from _ (place_limit g) (λ n _. quiet_places n);
     links = none_from _ (place_limit g) (λ n _. quiet_links n);
+    link_targets = none_from _ (place_limit g) (λ n _. quiet_link_targets n);
   }

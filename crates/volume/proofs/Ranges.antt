@@ -9,8 +9,8 @@ use Rattle.tree.specs.Sums.{some_below}
 use Rattle.volume.specs.Reading.{is_inode, is_data_zone}
 use Rattle.layout.specs.Places.{IsGeometry}
 use Rattle.volume.specs.Pieces.{Pieces}
-use Rattle.volume.specs.Nodes.{is_directory_mode, is_marked}
-use Rattle.volume.specs.Entries.{is_directory_inode}
+use Rattle.volume.specs.Nodes.{is_directory_mode, is_link_mode, is_marked}
+use Rattle.volume.specs.Entries.{is_directory_inode, is_link_inode}
 use Rattle.volume.proofs.Sums.{none_below}
 use Rattle.volume.specs.Verdict.{place_limit}
 
@@ -69,3 +69,11 @@ module _ (g : Geometry) (v : Pieces) where
   at_zone p z none is =
       let low = data_low z is in
       and_false_right (is_data_zone g z) (p z) (none_below (λ k. is_data_zone g k && p k) (place_limit g) none z (omega (arith, low.1))) is
+
+  -- one that no link meets
+  pub at_link : (p : ℕ → Bool) (n : ℕ) → some_below (λ k. is_link_inode g v k && p k) (place_limit g) ≡ false → is_link_inode g v n ≡ true
+      → p n ≡ false
+  at_link p n none is =
+      let low = marked_low n (and_parts (is_marked g v n) (is_link_mode (v.inodes n).mode) is).0 in
+      and_false_right (is_link_inode g v n) (p n) (none_below (λ k. is_link_inode g v k && p k) (place_limit g) none n
+      (omega (arith, low.1))) is

@@ -6,20 +6,22 @@ use Rattle.std.proofs.lemmas.Bool.{cases_Bool, and_parts, or_parts, cond-true, c
 use Rattle.layout.specs.declared.Geometry.{Geometry}
 use Rattle.tree.specs.Sums.{one_if, some_below}
 use Rattle.tree.specs.Names.{is_name}
-use Rattle.tree.specs.Tree.{Node, Tree, is_dir, names_of, most_links}
-use Rattle.tree.specs.IsTree.{IsBody, IsDirectory, IsNode, IsPlaced, NodesAgree, OpenFilesAgree, IsTree, IsClosed, links_due, subdirectories}
+use Rattle.tree.specs.Tree.{Node, Tree, is_file, is_directory, is_dir, names_of, most_links, most_target}
+use Rattle.tree.specs.IsTree.{IsBody, HasTarget, IsDirectory, IsNode, IsPlaced, NodesAgree, OpenFilesAgree, IsTree, IsClosed, links_due}
+use Rattle.tree.specs.IsTree.{subdirectories}
 use Rattle.tree.proofs.Maps.{not_nothing}
 use Rattle.volume.specs.Pieces.{Pieces}
-use Rattle.volume.specs.Nodes.{is_marked, node_of, directory_of, body_of}
+use Rattle.volume.specs.Nodes.{is_marked, node_of, directory_of, file_of, file_byte, body_of, page_zone, type_in, is_directory_mode}
+use Rattle.volume.specs.Nodes.{is_link_mode}
 use Rattle.volume.specs.Entries.{is_directory_inode, entry_count, name_at, target_at, is_padded}
-use Rattle.volume.specs.Findings.{names_in_of, all_names_of, is_reached, is_parent, links_of}
+use Rattle.volume.specs.Findings.{names_in_of, all_names_of, is_reached, is_parent, links_of, is_bad_link_size}
 use Rattle.volume.specs.Holds.{IsSound, HoldsNodes}
 use Rattle.volume.specs.Verdict.{place_limit}
 use Rattle.volume.proofs.Sums.{none_below, sum_at, sum_same}
 use Rattle.volume.proofs.Reached.{reached_climbs}
 use Rattle.volume.proofs.Quiet.{Quiet}
 use Rattle.volume.proofs.Volumes.{IsVolume}
-use Rattle.volume.proofs.Ranges.{marked_low, dir_marked, at_inode, at_dir}
+use Rattle.volume.proofs.Ranges.{marked_low, dir_marked, at_inode, at_dir, at_link}
 use Rattle.volume.proofs.DirectoriesFrom.{size_low, is_sound}
 use Rattle.volume.proofs.NodesAs.{nodes, names_differ, node_marked, some_node, node_is, body_directory, body_file, dir_node, names_sorted, names_good, parent_node, find_entry, named_node, all_named_node, subdirectories_node, length_node}
 use Rattle.volume.proofs.Widths.{IsOfBytes}
@@ -146,6 +148,28 @@ module _ (g : Geometry) (v : Pieces) (ok : IsVolume g v) (bytes : IsOfBytes v) (
         (is_file_of g v (v.inodes n) ok.geometry.sized bytes.zones (size_low g v q n is) (s.inodes n is).inside)
   ]
 
+  -- what finding 17 asks of a link
+  target_good : (n : ℕ) → is_marked g v n ≡ true → is_link_mode (v.inodes n).mode ≡ true → HasTarget (body_of g v (v.inodes n))
+  target_good n is link =
+      let i = v.inodes n in
+      let size = is_bad_link_size g v i.size in
+      let hole = page_zone g v i 0 == 0 in
+      let zero = some_below (λ p. file_byte g v i p == 0) i.size in
+      let none : (size || hole || zero) ≡ false
+      = at_link g v (λ n. is_bad_link_size g v (v.inodes n).size || (page_zone g v (v.inodes n) 0 == 0)
+      || some_below (λ p. file_byte g v (v.inodes n) p == 0) (v.inodes n).size) n q.link_targets
+      (ap (λ b. b && is_link_mode i.mode) is ∙ link) in
+      let a = or_parts (size || hole) zero none in
+      let b = or_parts (i.size == 0) (nat_lt most_target i.size) (or_parts size hole a.0).0 in
+      let no_directory : is_directory_mode i.mode ≡ false = ne_eqb (type_in i.mode) 4
+      (λ four. let ten = eqb-true (type_in i.mode) 10 link in absurd (omega (arith, four, ten))) in
+      subst HasTarget
+      (sym (cond-false (is_directory_mode i.mode) (is_directory (directory_of g v i)) (is_file (file_of g v i)) no_directory)) (record {
+        some = let some = eqb-false i.size 0 b.0 in omega (arith, some);
+        few = ltb-false most_target i.size b.1;
+        bytes = λ p low. eqb-false (file_byte g v i p) 0 (none_below (λ p. file_byte g v i p == 0) i.size a.1 p low);
+      })
+
   -- a node fits
   node_good : (n : ℕ) → is_marked g v n ≡ true → IsNode g (node_of g v (v.inodes n))
   node_good n is =
@@ -159,6 +183,7 @@ module _ (g : Geometry) (v : Pieces) (ok : IsVolume g v) (bytes : IsOfBytes v) (
         mtime = fits.mtime;
         ctime = fits.ctime;
         body = body_good n is;
+        target = target_good n is;
       }
 
   -- the nodes agree

@@ -9,8 +9,8 @@ use Rattle.layout.specs.Places.{geometry_of, refusal_number}
 use Rattle.layout.proofs.Parsed.{geometry_fits}
 use Rattle.volume.specs.Reading.{disk_of, is_inode, is_data_zone}
 use Rattle.volume.specs.Pieces.{Pieces, pieces}
-use Rattle.volume.specs.Nodes.{is_marked, is_directory_mode}
-use Rattle.volume.specs.Entries.{is_directory_inode}
+use Rattle.volume.specs.Nodes.{is_marked, is_directory_mode, is_link_mode}
+use Rattle.volume.specs.Entries.{is_directory_inode, is_link_inode}
 use Rattle.volume.specs.Verdict.{Verdict, Clean, Found, Test, found, tests, place_limit, verdict_of_pieces}
 use Rattle.volume.specs.IsVerdict.{is_true_at, is_finding, IsVerdict, VerdictIsLeast}
 use Rattle.volume.proofs.Least.{IsWithin, no_test, ◌⨾◌, IsFirstOf, first_is_least}
@@ -24,6 +24,10 @@ module _ (g : Geometry) (v : Pieces) (some_inode : 1 ≤ g.inodes) where
   -- so none is a directory
   no_directory : (n : ℕ) → place_limit g ≤ n → is_directory_inode g v n ≡ false
   no_directory n h = and_left (is_marked g v n) (is_directory_mode (v.inodes n).mode) (unmarked n h)
+
+  -- nor a link
+  no_link : (n : ℕ) → place_limit g ≤ n → is_link_inode g v n ≡ false
+  no_link n h = and_left (is_marked g v n) (is_link_mode (v.inodes n).mode) (unmarked n h)
 
   -- nor a data zone
   no_zone : (z : ℕ) → place_limit g ≤ z → is_data_zone g z ≡ false
@@ -47,6 +51,7 @@ module _ (g : Geometry) (v : Pieces) (some_inode : 1 ≤ g.inodes) where
       ⨾ (λ p h. and_left (is_directory_inode g v p) _ (no_directory p h))
       ⨾ (λ p h. and_left (is_directory_inode g v p) _ (no_directory p h))
       ⨾ (λ p h. and_left (is_marked g v p) _ (unmarked p h))
+      ⨾ (λ p h. and_left (is_link_inode g v p) _ (no_link p h))
       ⨾ no_test
 
 -- an image is refused or read

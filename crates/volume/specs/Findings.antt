@@ -4,13 +4,13 @@ use Rattle.layout.specs.declared.Geometry.{Geometry}
 use Rattle.tree.specs.Sums.{sum_below, count_below, some_below, one_if}
 use Rattle.tree.specs.ZonesNeeded.{page_limit}
 use Rattle.tree.specs.Names.{same_name, dot, dot_dot}
-use Rattle.tree.specs.Tree.{most_size, most_links}
+use Rattle.tree.specs.Tree.{most_size, most_target, most_links}
 use Rattle.tree.specs.Space.{pages_of, numbers_in_zone}
 use Rattle.volume.specs.Reading.{is_data_zone}
 use Rattle.volume.specs.Pieces.{Pieces}
-use Rattle.volume.specs.Nodes.{page_zone, is_mode, is_marked}
+use Rattle.volume.specs.Nodes.{page_zone, file_byte, is_mode, is_marked}
 use Rattle.volume.specs.Places.{zone_at, has_number, uses}
-use Rattle.volume.specs.Entries.{is_directory_inode, entry_count, name_at, target_at, is_field, is_name_field}
+use Rattle.volume.specs.Entries.{is_directory_inode, is_link_inode, entry_count, name_at, target_at, is_field, is_name_field}
 
 module _ (g : Geometry) (v : Pieces) where
   -- more than any place of any level of an inode
@@ -129,3 +129,13 @@ module _ (g : Geometry) (v : Pieces) where
   abbrev pub has_bad_links : ℕ → Bool
   has_bad_links n = is_marked g v n
       && (not ((v.inodes n).links == links_of n) || ((v.inodes n).links == 0) || nat_lt most_links (v.inodes n).links)
+
+  -- a size that no target has
+  abbrev pub is_bad_link_size : ℕ → Bool
+  is_bad_link_size size = (size == 0) || nat_lt most_target size
+
+  -- 17, at a symbolic link: its target has no byte or too many, page 0 has no zone, or a byte of the target is zero
+  abbrev pub has_bad_link : ℕ → Bool
+  has_bad_link n = is_link_inode g v n
+      && (is_bad_link_size (v.inodes n).size || (page_zone g v (v.inodes n) 0 == 0)
+      || some_below (λ p. file_byte g v (v.inodes n) p == 0) (v.inodes n).size)

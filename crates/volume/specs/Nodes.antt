@@ -90,7 +90,7 @@ directory_of g v i = record {
 
 -- A mode is a type, the bits of octal 170000, and permissions, those of octal 777.
 
--- the type in a mode: 4 is a directory, 8 a file
+-- the type in a mode: 4 is a directory, 8 a file, 10 a symbolic link
 abbrev pub type_in : ℕ → ℕ
 type_in mode = mode / 8 ^ 4
 
@@ -102,11 +102,15 @@ permissions_in mode = mode % 8 ^ 3
 abbrev pub is_directory_mode : ℕ → Bool
 is_directory_mode mode = type_in mode == 4
 
+-- the type is that of symbolic links, whatever the other bits are
+abbrev pub is_link_mode : ℕ → Bool
+is_link_mode mode = type_in mode == 10
+
 -- A known type, and no bits between the type and the permissions.
 abbrev pub is_mode : ℕ → Bool
-is_mode mode = ((type_in mode == 4) || (type_in mode == 8)) && nat_lt (mode % 8 ^ 4) (8 ^ 3)
+is_mode mode = ((type_in mode == 4) || (type_in mode == 8) || (type_in mode == 10)) && nat_lt (mode % 8 ^ 4) (8 ^ 3)
 
--- The body that an inode says.
+-- The body that an inode says. A symbolic link has bytes, as a file has.
 abbrev pub body_of : Geometry → Pieces → Inode → Body
 body_of g v i = if is_directory_mode i.mode then is_directory (directory_of g v i) else is_file (file_of g v i)
 
@@ -114,6 +118,7 @@ body_of g v i = if is_directory_mode i.mode then is_directory (directory_of g v 
 abbrev pub node_of : Geometry → Pieces → Inode → Node
 node_of g v i = record {
   permissions = permissions_in i.mode;
+  symbolic = is_link_mode i.mode;
   uid = i.uid;
   gid = i.gid;
   links = i.links;

@@ -36,7 +36,7 @@ pub struct Inode {
 /// What a check finds: the number of a rule that the volume breaks, and where. It prints as `finding 9 at 7`.
 #[derive(Clone, Copy, Debug, PartialEq, Eq)]
 pub struct Finding {
-    /// From 1 to 16, in the order in which the rules are looked at.
+    /// From 1 to 17, in the order in which the rules are looked at.
     pub number: u32,
     /// Of 1 the number of the layout's refusal; of 2 and 3 it is 0; of 8 and 9 a zone; of the others an inode.
     pub place: u32,

@@ -3,11 +3,11 @@
 ghost use Rattle.std.specs.Prelude.{◌≡◌, ◌<◌, Some, IfOk, IfErr, IfSome, IfNone, string_bytes};
 ghost use Rattle.std.specs.Bool.{OnTrue, OnFalse};
 ghost use Rattle.std.specs.Io.KnownBytes.{Appends};
+ghost use Rattle.new_volume.specs.Image.{filled_image};
 ghost use Rattle.output.specs.Output.{AppendsPart, Tells};
 ghost use Rattle.volume_tools.specs.Making.{IsMade, IsUnmade, line_text, refusal_text, status_number, unwritten_text};
 
-use layout::Geometry;
-use new_volume::{MkfsRefusal, mkfs};
+use new_volume::{MkfsRefusal, NewVolume, mkfs_front};
 use output::{Told, tell, write_text};
 use std::alloc::{AllocError, Global};
 use std::fmt;
@@ -72,8 +72,8 @@ impl fmt::Display for MakeRefusal {
 pub struct Made {
     /// How it ended so far.
     pub status: Status,
-    /// The image that is to be written; none where it was refused.
-    pub image: Option<Vec<u8>>,
+    /// The image that is to be written, without the zeros at its end; none where it was refused.
+    pub image: Option<NewVolume>,
 }
 
 /// Makes the image of a new volume, and writes on `out` a line with its first data zone, how many data zones it has and how many of
@@ -81,7 +81,7 @@ pub struct Made {
 /// out is handed back.
 pub fn make<W: Write, E: Write>(alloc: Global, wanted: &Wanted, out: &mut W, err: &mut E) -> Made
     ensures made { IfSome result.image (λ image. (result.status ≡ Status.Done) × (err.new ≡ err.old)
-        × IsMade wanted.entry.now image.items (Appends (W.contents out.old) (W.contents out.new))) }
+        × IsMade wanted.entry.now (filled_image image.volume image.front.items) (Appends (W.contents out.old) (W.contents out.new))) }
     ensures refused { IfNone result.image ((told : Told) × (result.status ≡ Status.Refused told) × (refusal : MakeRefusal)
         × Tells (Some (refusal_text refusal)) told (E.contents err.old) (E.contents err.new)
         × IsUnmade wanted.entry.now refusal (out.new ≡ out.old) (AppendsPart (W.contents out.old) (W.contents out.new))) }
@@ -99,12 +99,13 @@ pub fn make<W: Write, E: Write>(alloc: Global, wanted: &Wanted, out: &mut W, err
 }
 
 /// The image, once the line about it was written.
-fn try_make<W: Write>(alloc: Global, wanted: &Wanted, out: &mut W) -> Result<Vec<u8>, MakeRefusal>
-    ensures made { IfOk result (λ image. IsMade wanted.entry.now image.items (Appends (W.contents out.old) (W.contents out.new))) }
+fn try_make<W: Write>(alloc: Global, wanted: &Wanted, out: &mut W) -> Result<NewVolume, MakeRefusal>
+    ensures made { IfOk result (λ image. IsMade wanted.entry.now (filled_image image.volume image.front.items)
+        (Appends (W.contents out.old) (W.contents out.new))) }
     ensures refused { IfErr result (λ refusal. IsUnmade wanted.entry.now refusal (out.new ≡ out.old) (AppendsPart (W.contents out.old)
         (W.contents out.new))) }
 {
-    let image = match mkfs(
+    let image = match mkfs_front(
         alloc,
         wanted.blocks,
         wanted.block_size,
@@ -114,9 +115,7 @@ fn try_make<W: Write>(alloc: Global, wanted: &Wanted, out: &mut W) -> Result<Vec
         Ok(image) => image,
         Err(refusal) => return Err(MakeRefusal::Mkfs(refusal)),
     };
-    let Ok(volume) = Geometry::parse(&image) else {
-        unreachable!();
-    };
+    let volume = &image.volume;
     let zones = volume.zones - volume.first_zone;
     // all but the root's
     let free = zones - 1;

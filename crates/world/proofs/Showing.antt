@@ -1,5 +1,5 @@
 -- From a schedule that was run out to what is shown of the run.
-use Rattle.std.proofs.Common.{◌≡◌, cond, inl, inr, ℕ, suc, ◌-◌, List, [], ◌∷◌, Bool, true, false, length, refl, sym, ◌∙◌, subst, arith}
+use Rattle.std.proofs.Common.{◌≡◌, cond, inl, inr, ℕ, suc, ◌-◌, List, [], ◌∷◌, Bool, true, false, length, refl, sym, ap, ◌∙◌, subst, arith}
 use Rattle.std.specs.List.{concat}
 use Rattle.layout.specs.declared.Geometry.{Geometry}
 use Rattle.tree.specs.Tree.{Tree}
@@ -24,7 +24,7 @@ use Rattle.schedule.specs.Headline.{Transcript}
 use Rattle.schedule.specs.Noted.{marks_in}
 use Rattle.run_link.specs.declared.run.RunLink.{RunLink}
 use Rattle.run_link.specs.StateView.{RunState, IsOpened}
-use Rattle.run_link.specs.Moments.{Doing, Resting, Hearing, Answering}
+use Rattle.run_link.specs.Moments.{Doing, Resting, Hearing, Answering, Moment, Runs, Needs}
 use Rattle.justified.specs.Steady.{drivers_of}
 use Rattle.justified.specs.Whole.{IsUnused, IsAtEnd, IsWhole as IsWholeRun}
 use Rattle.justified.proofs.WholeLaws.{runs_are_whole}
@@ -41,6 +41,7 @@ use Rattle.world.specs.declared.run_refusal.RunRefusal.TheVariants.{OutOfMemory}
 use Rattle.world.specs.Beginning.{IsBegun, IsNotBegun, range_of}
 use Rattle.transcript.specs.ShownTranscript.{frames_in}
 use Rattle.world.specs.ServerRuns.{IsFresh, RunsFrom}
+use Rattle.world.specs.Exact.{IsExact, media_with}
 use Rattle.world.specs.Occurs.{RunShows}
 
 -- ---- before the first event
@@ -69,6 +70,13 @@ ends_so s p Resting ends = inl (refl, ends.2)
 ends_so s p (Hearing message) ends = absurd ends
 ends_so s p (Answering call) ends = inr ends.1
 
+-- in the second case the server needs a message
+ends_needing : (s : Serving) (p : RunState) (last : Doing) → EndsIn last s p → (p.over ≡ true → Needs (moment s p last))
+    → (((moment s p last).doing ≡ Resting) × (p.queue ≡ [])) ⊎ ((p.over ≡ true) × Needs (moment s p last))
+ends_needing s p Resting ends needs = inl (refl, ends.2)
+ends_needing s p (Hearing message) ends needs = absurd ends
+ends_needing s p (Answering call) ends needs = inr (ends.2, needs ends.2)
+
 module _ {L : Type 0} (words : LinkWords L) (run : L → RunState) (link : L) (image : List ℕ) (setup : Setup) (supply : List DriverState) (events : List Event)
     (range : ℕ × ℕ) (g : Geometry) (tree : Tree) (frames : ℕ) (s : Server (Stored L)) (t : Transcript) where
   abbrev v : Opening
@@ -78,12 +86,12 @@ module _ {L : Type 0} (words : LinkWords L) (run : L → RunState) (link : L) (i
   last = run (line_of s)
 
   -- what is shown of it
-  pub run_shows : (media : MediaState) → media.generation ≡ 0 → IsOpened media setup.policy (new_watch (length supply)) supply events (run link)
+  pub run_shows : (media : MediaState) → media ≡ media_with image → IsOpened media setup.policy (new_watch (length supply)) supply events (run link)
       → IsBegun image setup supply (range_of range) g tree → Each IsUnused supply → IsOnMedia v → words.truth link v (Started (driver 1) ∷ [])
       → IsFresh events (length (sectors_of image)) (run link) → RunsFrom words run link setup.minor g frames s t.unanswered
       → IsWhole last.scene.disks.media.sectors → t.marks ≡ marks_in last.scene.noted → t.frames ≡ frames_in s
       → t.sent ≡ last.scene.disks.sent → t.drivers ≡ drivers_of last.scene.disks → t.image ≡ concat last.scene.disks.media.sectors → RunShows image setup supply events t
-  run_shows media none_started opened begun unused on truth new from whole marks frames_are sent drivers bytes =
+  run_shows media loaded opened begun unused on truth new from whole marks frames_are sent drivers bytes =
       let hears : Hears (serving_over words from.before) (words.truth link) v tree [] (Started (driver 1) ∷ []) = record {
         minor = sym from.opened.minor_is;
         serves = from.opened.serves (contents_at v) tree begun.at_first;
@@ -95,6 +103,7 @@ module _ {L : Type 0} (words : LinkWords L) (run : L → RunState) (link : L) (i
       subst (λ (h : Geometry). RunHolds h (frames_in s) v tree last.scene t.unanswered) from.opened.geometry x.holds in
       let shows : Shows g v tree t = runs_are_shown g (frames_in s) v tree last.scene t on
       (record { marks = marks; frames_are = frames_are; image = bytes; whole = whole; number = from.plays.sectors ∙ new.sectors_are }) holds in
+      let none_started : media.generation ≡ 0 = ap (λ (m : MediaState). m.generation) loaded in
       let end : IsAtEnd (moment (serving_over words s) last from.plays.last) = record {
         calm = x.calm;
         paid = from.plays.spent.paid;
@@ -124,6 +133,26 @@ module _ {L : Type 0} (words : LinkWords L) (run : L → RunState) (link : L) (i
                 (subst (λ (l : List DriverState). Justified setup.policy supply last.scene.noted.groups last.scene.disks.sent l t.unanswered) (sym drivers)
                 (subst (λ (n : ℕ). Justified setup.policy supply last.scene.noted.groups last.scene.disks.sent (drivers_of last.scene.disks) n)
                 (sym from.plays.number) w.justified));
+          };
+        };
+        exact = record {
+          first = run link;
+          opened = subst (λ (m : MediaState). IsOpened m setup.policy (new_watch (length supply)) supply events (run link)) loaded
+              opened;
+          last = moment (serving_over words s) last from.plays.last;
+          steps = subst (λ n. Runs n (at_first (run link)) (moment (serving_over words s) last from.plays.last)) from.opened.minor_is
+              x.runs;
+          over = record {
+            spent = from.plays.spent;
+            calm = x.calm;
+            ends = ends_needing (serving_over words s) last from.plays.last from.plays.ends x.needs;
+          };
+          read_off = record {
+            marks = marks;
+            sent = sent;
+            drivers = drivers;
+            image = bytes;
+            unanswered = from.plays.number ∙ ap length from.plays.left_is;
           };
         };
       }

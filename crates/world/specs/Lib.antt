@@ -1,3 +1,4 @@
+pub mod Exact
 pub mod Occurs
 pub mod Shows
 pub mod Reasons

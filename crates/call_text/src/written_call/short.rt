@@ -48,6 +48,10 @@ pub fn call_of_one<'t>(name: &[u8], word: &'t [u8]) -> Option<WrittenCall<'t>>
         Call::Unlink { path: path(word)? }
     } else if name == b"rmdir".as_slice() {
         Call::Rmdir { path: path(word)? }
+    } else if name == b"readlink".as_slice() {
+        Call::Readlink { path: path(word)? }
+    } else if name == b"lstat".as_slice() {
+        Call::Lstat { path: path(word)? }
     } else {
         return None;
     };
@@ -67,6 +71,9 @@ pub fn call_of_two<'t>(name: &[u8], first: &'t [u8], second: &'t [u8]) -> Option
     } else if name == b"link".as_slice() {
         let (old, new) = (path(first)?, path(second)?);
         Some(WrittenCall::Whole(Call::Link { old, new }))
+    } else if name == b"symlink".as_slice() {
+        let (target, path) = (path(first)?, path(second)?);
+        Some(WrittenCall::Whole(Call::Symlink { target, path }))
     } else if name == b"rename".as_slice() {
         let (old, new) = (path(first)?, path(second)?);
         Some(WrittenCall::Whole(Call::Rename { old, new }))

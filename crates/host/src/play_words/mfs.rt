@@ -17,8 +17,11 @@ const SCRIPTS: &str =
   seek FD set|cur|end OFFSET  moves the position
   stat PATH                   the attributes of a file or directory
   fstat FD                    the same of an open one
+  lstat PATH                  as stat, but a symbolic link that stands last isn't followed
   link OLD NEW                a further name for a file
   unlink PATH                 takes a file's name away
+  symlink TARGET PATH         makes a symbolic link
+  readlink PATH               the target of a symbolic link
   mkdir PATH MODE             makes a directory
   rmdir PATH                  takes an empty directory away
   rename OLD NEW              gives a file or directory another name

@@ -1,4 +1,4 @@
-use Rattle.std.proofs.Common.{◌≡◌, sym, ap, subst, ◌∙◌, Option, Some}
+use Rattle.std.proofs.Common.{sym, ap, subst, ◌∙◌, Option}
 use Rattle.std.specs.Prelude.{IsTrue, option_map, ℕ}
 use Rattle.volume.specs.Reading.{is_inode}
 use Rattle.descriptors.specs.Table.{files_of}

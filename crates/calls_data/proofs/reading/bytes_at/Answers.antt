@@ -1,4 +1,4 @@
-use Rattle.std.proofs.Common.{◌≡◌, ◌+◌, ◌-◌, length, rules}
+use Rattle.std.proofs.Common.{◌≡◌, length, rules}
 use Rattle.volume.specs.Pieces.{pieces}
 use Rattle.volume.specs.Nodes.{file_of}
 use Rattle.file.specs.Reading.{read_count}

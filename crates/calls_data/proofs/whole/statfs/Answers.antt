@@ -1,4 +1,4 @@
-use Rattle.std.proofs.Common.{sym, ap, ◌∙◌, ◌+◌, rules}
+use Rattle.std.proofs.Common.{ap, ◌∙◌, ◌+◌, rules}
 use Rattle.volume.specs.Reading.{Disk}
 use Rattle.volume.specs.Pieces.{pieces}
 use Rattle.bitmap.specs.Numbers.{count_free_in}

@@ -2,10 +2,10 @@ use Rattle.std.proofs.Common.{◌≡◌, ap, sym, refl, Ok, w64, to_z, of_z, rul
 use mir.Val.{SFits}
 use Rattle.std.proofs.lemmas.Int.{to_z-of_z}
 use Rattle.tree.specs.declared.User.{User}
-use Rattle.tree.specs.declared.Call.TheVariants.{Open, Rename, Mkdir, Link, Truncate, Write, Close, Unlink, Rmdir, Dup, Read, Seek, Stat, Fstat, Chmod, Chown, Utime, Readdir, Sync, Statfs}
-use Rattle.tree.specs.NodeCalls.{truncate, stat, chmod, chown, utime, statfs}
+use Rattle.tree.specs.declared.Call.TheVariants.{Open, Rename, Mkdir, Link, Truncate, Write, Close, Unlink, Rmdir, Dup, Read, Seek, Stat, Fstat, Chmod, Chown, Utime, Readdir, Sync, Statfs, Symlink, Readlink, Lstat}
+use Rattle.tree.specs.NodeCalls.{truncate, stat, lstat, readlink, chmod, chown, utime, statfs}
 use Rattle.tree.specs.FileCalls.{open_path, write, close, dup, read, seek, fstat, readdir}
-use Rattle.tree.specs.NameCalls.{mkdir, rename, link, unlink, rmdir}
+use Rattle.tree.specs.NameCalls.{mkdir, symlink, rename, link, unlink, rmdir}
 use Rattle.tree.specs.Answers.{done}
 use Rattle.descriptors.specs.Table.{files_of}
 use Rattle.store.proofs.Turns.{turns_none, turns_as}
@@ -162,3 +162,27 @@ returns-in-Rename-clause-turns g c =
     (λ t. rename a.geometry.now t c.user_of-user.result a.now w.old.now w.new.now)
     (λ t. ap (λ (u : User). rename a.geometry.now t u a.now w.old.now w.new.now) (sym c.user_of-user.ensures)) a.call.now w.is c.rename.result f f d e x)
     c.rename.ensures.turns
+
+pub returns-in-Symlink-clause-turns : goal.returns-in-Symlink-clause-turns
+returns-in-Symlink-clause-turns g c =
+    let a = c.args in let f = files_of a.opens.now in let w = c.in-Symlink in let early = c.if-who-ge-MAX_SESSIONS.false in
+    turns_as _ _ _ _ _ (λ d e x. kind_meets a.geometry.now a.who a.now (Symlink w.target w.path) early
+    (λ t. symlink a.geometry.now t c.user_of-user.result a.now w.target.now w.path.now)
+    (λ t. ap (λ (u : User). symlink a.geometry.now t u a.now w.target.now w.path.now) (sym c.user_of-user.ensures))
+    a.call.now w.is c.symlink.result f f d e (x f))
+    c.symlink.ensures.turns
+
+pub returns-in-Readlink-clause-turns : goal.returns-in-Readlink-clause-turns
+returns-in-Readlink-clause-turns g c =
+    let a = c.args in let f = files_of a.opens.now in let w = c.in-Readlink in let early = c.if-who-ge-MAX_SESSIONS.false in
+    turns_as _ _ _ _ _ (λ d e x. kind_meets a.geometry.now a.who a.now (Readlink w.path) early
+    (λ t. readlink t c.user_of-user.result w.path.now)
+    (λ t. ap (λ (u : User). readlink t u w.path.now) (sym c.user_of-user.ensures)) a.call.now w.is c.readlink.result f f d e (x f))
+    c.readlink.ensures.turns
+
+pub returns-in-Lstat-clause-turns : goal.returns-in-Lstat-clause-turns
+returns-in-Lstat-clause-turns g c =
+    let a = c.args in let f = files_of a.opens.now in let w = c.in-Lstat in let early = c.if-who-ge-MAX_SESSIONS.false in
+    turns_as _ _ _ _ _ (λ d e x. kind_meets a.geometry.now a.who a.now (Lstat w.path) early (λ t. lstat t c.user_of-user.result w.path.now)
+    (λ t. ap (λ (u : User). lstat t u w.path.now) (sym c.user_of-user.ensures)) a.call.now w.is c.lstat.result f f d e (x f))
+    c.lstat.ensures.turns

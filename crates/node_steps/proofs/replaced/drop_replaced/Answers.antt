@@ -1,4 +1,4 @@
-use Rattle.std.proofs.Common.{subst, sym, true, false}
+use Rattle.std.proofs.Common.{subst, sym}
 use Rattle.store.proofs.Turns.{turns_as, turns_then, ends_as}
 use Rattle.store.proofs.Ending.{ends_exit}
 use Rattle.descriptors.specs.Table.{files_of}
