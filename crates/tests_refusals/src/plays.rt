@@ -4,6 +4,7 @@ use crate::orders::{Trial, each_refused};
 use crate::told::Said;
 use fixtures::{new_volume, whole};
 use modeldisk::supply::{drivers_for, table_in};
+use new_volume::NewVolume;
 use script_text::script_files;
 use simulation::inputs::File;
 use simulation::simulate::simulate;
@@ -364,8 +365,8 @@ pub(crate) const WANTED: Wanted = Wanted {
 #[derive(Drop)]
 struct Making(Vec<u8>);
 
-/// What is said of it, and the image.
-type Made = Option<(Said, Option<Vec<u8>>)>;
+/// What is said of it, and the image without the zeros at its end.
+type Made = Option<(Said, Option<NewVolume>)>;
 
 /// Makes it; nothing where there was no memory for a writer.
 fn made(alloc: Global) -> Made {
@@ -374,6 +375,14 @@ fn made(alloc: Global) -> Made {
     let made = make(alloc, &WANTED, &mut out, &mut err);
     let status = made.status.number();
     Some((Said { status, out, err }, made.image))
+}
+
+/// Whether an image is this one without the zeros at its end.
+fn is_front(image: &NewVolume, whole: &[u8]) -> bool {
+    let (front, rest) = whole.split_at(image.front.len().min(whole.len()));
+    image.length() == whole.len() as u64
+        && image.front.as_slice() == front
+        && rest.iter().all(|byte| *byte == 0)
 }
 
 impl Trial for Making {
@@ -388,7 +397,7 @@ impl Trial for Making {
             None => refused,
             Some((said, image)) => {
                 let is_made = match image {
-                    Some(image) => !refused && image.as_slice() == self.0.as_slice(),
+                    Some(image) => !refused && is_front(image, &self.0),
                     None => refused && said.status == 1,
                 };
                 is_made && said.is_right(MADE, refused)

@@ -34,6 +34,9 @@ const LARGEST: usize = 0x4000_0000_0000;
 
 const HALVES: u32 = 43;
 
+/// Blocks of each size up to so many bytes are taken too: an allocator may keep those that were given back for such requests alone.
+const MOST_SMALL: usize = 1040;
+
 /// Whether a small request is granted.
 fn is_granted(alloc: Global) -> bool {
     let asked: Result<Vec<u8>, AllocError> = Vec::with_capacity(alloc, 16);
@@ -61,6 +64,9 @@ impl Hoard {
             for _ in 0..HALVES {
                 take_all(alloc, size, &mut blocks);
                 size /= 2;
+            }
+            for size in (16..=MOST_SMALL).step_by(16) {
+                take_all(alloc, size, &mut blocks);
             }
         }
         if is_granted(alloc) {
@@ -150,11 +156,18 @@ user 0 0
 100 chown /f 5 7
 100 utime /f 1 2
 100 truncate /f 50000
+100 symlink f /l
+100 symlink l /m
+100 lstat /m
+100 readlink /m
+100 stat /m
+100 symlink /n/n /n
+100 stat /n
 100 sync
 100 statfs
 100 open / r 0
 100 open /none r 0
-100 open /f rwac 644
+100 open /m rwac 644
 100 fill 2 3000 63
 100 sync
 100 close 2
