@@ -38,6 +38,7 @@ fn user_of(who: Who) -> User
 }
 
 /// The call by its kind.
+#[inline(always)]
 fn perform<B: Blocks>(
     alloc: Global,
     blocks: &mut B,
@@ -97,6 +98,7 @@ fn perform<B: Blocks>(
 /// Does a client call. EINVAL where the session isn't one that may be, before anything else is looked at. EIO is never answered, and
 /// after a sync that succeeded all that was changed is written. A volume that turns out not to be sound holds no tree; the call is
 /// refused with EINVAL then. Read and readdir take memory for their answer, and no other call takes any.
+#[inline(always)]
 pub fn body<B: Blocks>(
     alloc: Global,
     blocks: &mut B,

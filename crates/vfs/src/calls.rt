@@ -27,6 +27,7 @@ fn stop(cut: Cut) -> Outcome
 
 /// Answers a client call on a volume of these sizes with these open files, with the time in seconds since 1970. Cut once a take gave End,
 /// else EIO once the device was given up; neither does anything at the link. No Flush is left undone where the call is answered otherwise.
+#[inline(always)]
 pub fn answer<B: Caches>(
     alloc: Global,
     blocks: &mut B,

@@ -25,6 +25,7 @@ impl<L: Link + Drop> FileServer<L> for Server<Stored<L>> {
 
     ghost is_idle = { IsIdleOver L.Link };
 
+    #[inline(always)]
     fn call(&mut self, who: Who, now: u32, call: &Call) -> Outcome {
         self.call(who, now, call)
     }

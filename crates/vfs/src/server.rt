@@ -53,6 +53,7 @@ impl<B: Caches> Server<B> {
 
     /// Answers a client call, with the time in seconds since 1970. Cut once a take gave End, else EIO once the device was given up. No
     /// Flush is left undone where the call is answered otherwise.
+    #[inline(always)]
     pub fn call(&mut self, who: Who, now: u32, call: &Call) -> Outcome
         requires may { IsOpen B.caching self.old }
         ensures may { IsOpen B.caching self.new }
