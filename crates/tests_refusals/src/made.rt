@@ -1,5 +1,5 @@
 //! Calls that make something: they make it, or say that no memory was found, and that only where a request was refused. (Where room for
-//! many is refused, a list may still find room for one after the other.)
+//! many is refused, a list may still find room for one after the other. Where the link had no memory, a mount says that it ended.)
 
 use crate::orders::{Trial, each_refused};
 use cache::{Cache, CacheRefusal};
@@ -239,6 +239,11 @@ fn mounted_over(
     Ok(mount(alloc, ListLink::new(alloc, messages)?, 0, 64))
 }
 
+/// Whether a mount is refused for want of memory, its own or its link's: a link that keeps a list of what was done there ends then.
+fn is_for_memory(refusal: &MountRefusal) -> bool {
+    *refusal == MountRefusal::OutOfMemory || *refusal == MountRefusal::LinkEnded
+}
+
 impl Trial for Mount {
     type Came = Mounted;
 
@@ -251,7 +256,7 @@ impl Trial for Mount {
         Ok(match came {
             None => refused,
             Some(Ok(_)) => true,
-            Some(Err(refusal)) => refused && *refusal == MountRefusal::OutOfMemory,
+            Some(Err(refusal)) => refused && is_for_memory(refusal),
         })
     }
 }

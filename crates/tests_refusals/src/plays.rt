@@ -86,7 +86,7 @@ impl<R: Wait + Copy> Trial for Played<R> {
 }
 
 /// Scripts of which each read is made again, from the same place on, so that one that had no memory changes no later reply.
-static SCRIPTS: [&str; 8] = [
+static SCRIPTS: [&str; 9] = [
     "user 0 0
 100 open /f rwc 644
 100 seek 0 set 67378176
@@ -174,6 +174,22 @@ static SCRIPTS: [&str; 8] = [
 100 seek 0 set 2147483646
 100 fill 0 1 07
 100 fill 0 1 07
+100 statfs
+",
+    "user 0 0
+100 symlink d /l
+100 mkdir /l 755
+100 stat /l
+100 mkdir /d 755
+100 stat /l
+100 lstat /l
+100 open /l/f rwc 644
+100 write 0 6162
+100 rename /l/f /l/g
+100 symlink /m /m
+100 stat /m
+100 unlink /l
+100 stat /d/g
 100 statfs
 ",
 ];
