@@ -1,0 +1,406 @@
+//! Damaged images: of each the check's finding, and plays on those that are clean.
+
+use crate::replies::are_replies;
+use fixtures::new_volume;
+use fixtures_plays::plays::Play;
+use fsck::{Verdict, check};
+use std::alloc::{AllocError, Global};
+use std::sync::Wait;
+use std::test::Fail;
+use volume::Finding;
+
+/// With which values of a byte the small volume is clean.
+#[derive(Clone, Copy)]
+enum Clean {
+    /// With each, since nothing looks at the byte.
+    Ignored,
+    /// With each, since each has a meaning.
+    Any,
+    /// With that of the volume alone.
+    Own,
+    /// With those from one on to another.
+    Between(u8, u8),
+    /// With those that have all these bits clear.
+    Without(u8),
+}
+
+/// The bytes of the small volume up to the end of the root's zone, in runs: how many each has, and with which values of one of them the
+/// volume is clean. They follow from docs/FORMAT.md alone.
+static RUNS: [(usize, Clean); 26] = [
+    // the boot block
+    (1024, Clean::Ignored),
+    // 17 to 32 inodes take the two blocks of the table
+    (1, Clean::Between(17, 32)),
+    (3, Clean::Own),
+    // a pad
+    (2, Clean::Ignored),
+    // both maps' blocks, the first data zone, the logarithm
+    (8, Clean::Own),
+    // a pad
+    (2, Clean::Ignored),
+    // the greatest size
+    (4, Clean::Own),
+    // the image has 64 blocks, and the root's zone is number 6
+    (1, Clean::Between(7, 64)),
+    // the other bytes of the zones, the magic number
+    (5, Clean::Own),
+    // a pad
+    (2, Clean::Ignored),
+    // the block size, the version
+    (3, Clean::Own),
+    // behind the superblock
+    (993, Clean::Ignored),
+    // the inode map: the bits 0 to 31 are nobody's, the root's and those of inodes without a mode, bit 32 the last inode's
+    (4, Clean::Own),
+    (1, Clean::Without(1)),
+    (1019, Clean::Ignored),
+    // the zone map: the bits 0 to 55 are nobody's, that of the root's zone and those of zones without a use, 56 to 58 the last three's
+    (7, Clean::Own),
+    (1, Clean::Without(7)),
+    (1016, Clean::Ignored),
+    // the root's mode: nine permissions of a directory, which a link isn't; its links
+    (1, Clean::Any),
+    (1, Clean::Between(0x40, 0x41)),
+    (2, Clean::Own),
+    // its user and group; its size; its times; its zones
+    (4, Clean::Any),
+    (4, Clean::Own),
+    (12, Clean::Any),
+    (40, Clean::Own),
+    // inodes that aren't marked
+    (1984, Clean::Ignored),
+];
+
+/// How many bytes the root's two entries have, of which each has to be as it is. Nothing looks at those behind them.
+const ENTRIES: usize = 128;
+
+/// The bytes up to the end of the root's zone.
+const LOOKED_AT: usize = 7168;
+
+/// With which values of the byte at a place the volume is clean.
+fn clean_at(place: usize) -> Clean {
+    let mut end = 0usize;
+    for (count, clean) in &RUNS {
+        end = end.saturating_add(*count);
+        if place < end {
+            return *clean;
+        }
+    }
+    if place < end.saturating_add(ENTRIES) {
+        Clean::Own
+    } else {
+        Clean::Ignored
+    }
+}
+
+/// Whether this is such a value, where the volume has that one.
+fn is_clean(clean: Clean, value: u8, own: u8) -> bool {
+    match clean {
+        Clean::Ignored | Clean::Any => true,
+        Clean::Own => value == own,
+        Clean::Between(first, last) => first <= value && value <= last,
+        Clean::Without(bits) => value & bits == 0,
+    }
+}
+
+/// Whether a value of a byte is tried: each, but of a byte that nothing looks at 0, 85, 170 and 255.
+fn is_tried(values: Clean, value: u8) -> bool {
+    match values {
+        Clean::Ignored => value.is_multiple_of(85),
+        _ => true,
+    }
+}
+
+/// How many of these bytes' values leave the volume clean, of those that are tried; it is an error where a check says something else of
+/// one.
+fn clean_values(alloc: Global, from: usize, to: usize) -> Result<u32, Fail> {
+    let mut image = new_volume(alloc, 1024)?;
+    let mut count = 0u32;
+    for place in from..to {
+        count = count.saturating_add(clean_values_at(alloc, &mut image, place)?);
+    }
+    Ok(count)
+}
+
+/// The same of one byte.
+fn clean_values_at(alloc: Global, image: &mut [u8], place: usize) -> Result<u32, Fail> {
+    let (own, values) = (image.get(place).copied().unwrap_or(0), clean_at(place));
+    let mut count = 0u32;
+    for value in 0..=255u8 {
+        if is_tried(values, value) {
+            put(image, place, &[value]);
+            let verdict = check(alloc, image)?;
+            let clean = is_clean(values, value, own);
+            if matches!(verdict, Verdict::Clean(_)) != clean {
+                return Err(Fail::new(format_args!("{place} {value}: {verdict:?}")));
+            }
+            count = count.saturating_add(u32::from(clean));
+        }
+    }
+    put(image, place, &[own]);
+    Ok(count)
+}
+
+/// Puts bytes at a place.
+fn put(image: &mut [u8], at: usize, bytes: &[u8]) {
+    for (place, byte) in image.iter_mut().skip(at).zip(bytes) {
+        *place = *byte;
+    }
+}
+
+// In all 86632 values are tried, of which 32548 leave the volume clean.
+
+#[test]
+fn each_byte_of_the_boot_block(rt: HostRuntime) -> Result<(), Fail> {
+    assert_eq!(rt; clean_values(rt.alloc(), 0, 1024)?, 1024 * 4);
+    Ok(())
+}
+
+#[test]
+fn each_byte_of_the_superblock(rt: HostRuntime) -> Result<(), Fail> {
+    // six bytes of pads and 993 behind it, 16 numbers of inodes, 58 of zones, and 23 bytes that have to be as they are
+    assert_eq!(rt;
+        clean_values(rt.alloc(), 1024, 2048)?,
+        999 * 4 + 16 + 58 + 23
+    );
+    Ok(())
+}
+
+#[test]
+fn each_byte_of_the_maps(rt: HostRuntime) -> Result<(), Fail> {
+    // of the inode map 1019 bytes that nothing looks at, one without a bit, and 4
+    assert_eq!(rt; clean_values(rt.alloc(), 2048, 3072)?, 1019 * 4 + 128 + 4);
+    // of the zone map 1016, one without three bits, and 7
+    assert_eq!(rt; clean_values(rt.alloc(), 3072, 4096)?, 1016 * 4 + 32 + 7);
+    Ok(())
+}
+
+#[test]
+fn each_byte_of_the_inodes(rt: HostRuntime) -> Result<(), Fail> {
+    // of the root's inode 17 bytes of any value, one of two, and 46; those of 31 inodes that aren't marked
+    assert_eq!(rt;
+        clean_values(rt.alloc(), 4096, 6144)?,
+        17 * 256 + 2 + 46 + 1984 * 4
+    );
+    Ok(())
+}
+
+#[test]
+fn each_byte_of_the_roots_zone(rt: HostRuntime) -> Result<(), Fail> {
+    assert_eq!(rt; clean_values(rt.alloc(), 6144, LOOKED_AT)?, 896 * 4 + 128);
+    Ok(())
+}
+
+/// The finding of an image.
+fn finding(alloc: Global, image: &[u8]) -> Result<Option<Finding>, Fail> {
+    match check(alloc, image)? {
+        Verdict::Clean(_) => Ok(None),
+        Verdict::Found(finding) => Ok(Some(finding)),
+    }
+}
+
+#[test]
+fn images_cut_short(rt: HostRuntime) -> Result<(), Fail> {
+    let image = new_volume(rt.alloc(), 1024)?;
+    assert_eq!(rt; image.len(), 65536);
+    for length in 0..65536usize {
+        let place = if length < 1055 { 1 } else { 6 };
+        let found = finding(rt.alloc(), image.get(..length).unwrap_or(&[]))?;
+        assert_eq!(rt; found, Some(Finding { number: 1, place }), "{length}");
+    }
+    Ok(())
+}
+
+/// Bytes that are put at a place.
+type Put = (usize, &'static [u8]);
+
+/// A single indirect block that names itself, and a triple one: zone 7 is marked, the root's inode has it, and its first number is 7.
+const SINGLE: &[Put] = &[(4148, &[7]), (7168, &[7]), (3072, &[7])];
+
+const TRIPLE: &[Put] = &[(4156, &[7]), (7168, &[7]), (3072, &[7])];
+
+/// Two names of one directory: inode 2 and zone 7 are marked; the root has four entries, `x` and `y` both to inode 2, which has two links
+/// and a zone with `.` and with `..` to inode 1.
+const TWO_NAMES: &[Put] = &[
+    (2048, &[7]),
+    (3072, &[7]),
+    (4104, &[0, 1]),
+    (4160, &[0xed, 0x41, 2]),
+    (4168, &[128]),
+    (4184, &[7]),
+    (6272, &[2, 0, 0, 0, b'x']),
+    (6336, &[2, 0, 0, 0, b'y']),
+    (7168, &[2, 0, 0, 0, b'.']),
+    (7232, &[1, 0, 0, 0, b'.', b'.']),
+];
+
+/// A link `x` to itself: inode 2 and zone 7 are marked, the root has three entries, and inode 2 is a link of one byte, which is `x`.
+const LINK: &[Put] = &[
+    (2048, &[7]),
+    (3072, &[7]),
+    (4104, &[192]),
+    (4160, &[0xff, 0xa1, 1]),
+    (4168, &[1]),
+    (4184, &[7]),
+    (6272, &[2, 0, 0, 0, b'x']),
+    (7168, &[b'x']),
+];
+
+/// What makes that link one of no bytes and no zone; of 1024 bytes; one without a zone; and one with a zero byte.
+const EMPTY: &[Put] = &[(3072, &[3]), (4168, &[0]), (4184, &[0])];
+
+const LONG: &[Put] = &[(4168, &[0, 4]), (7168, &[b'x'; 1024])];
+
+const HOLE: &[Put] = &[(3072, &[3]), (4184, &[0])];
+
+const ZERO_BYTE: &[Put] = &[(4168, &[2])];
+
+/// What is put into the small volume, first the one and then the other, and the check's finding, if there is one.
+static KNOWN: [(&[Put], &[Put], Option<(u32, u32)>); 8] = [
+    (SINGLE, &[], Some((8, 7))),
+    (TRIPLE, &[], Some((8, 7))),
+    (TWO_NAMES, &[], Some((15, 2))),
+    (LINK, &[], None),
+    (LINK, EMPTY, Some((17, 2))),
+    (LINK, LONG, Some((17, 2))),
+    (LINK, HOLE, Some((17, 2))),
+    (LINK, ZERO_BYTE, Some((17, 2))),
+];
+
+#[test]
+fn images_of_malice(rt: HostRuntime) -> Result<(), Fail> {
+    for (first, second, wanted) in &KNOWN {
+        let mut image = new_volume(rt.alloc(), 1024)?;
+        for (at, bytes) in first.iter().chain(second.iter()) {
+            put(&mut image, *at, *bytes);
+        }
+        let wanted = wanted.map(|(number, place)| Finding { number, place });
+        assert_eq!(rt; finding(rt.alloc(), &image)?, wanted);
+    }
+    Ok(())
+}
+
+/// Each call, on the root and on what is made below it.
+const SCRIPT: &str = "\
+user 0 0
+100 stat /
+100 open / r 0
+100 readdir 0
+100 fstat 0
+100 read 0 99
+100 seek 0 end 0
+100 dup 0
+100 close 1
+100 close 0
+100 open / rw 0
+100 open / rwcx 644
+100 chmod / 700
+100 chown / 1 1
+100 utime / 1 2
+100 mkdir / 755
+100 mkdir /new 755
+100 open /file rwc 644
+100 fill 0 3000 61
+100 write 0 6162
+100 sync
+100 close 0
+100 link /file /link
+100 rename /link /new/link
+100 truncate /file 1
+100 stat /./file
+100 symlink ../file /soft
+100 lstat /soft
+100 readlink /soft
+100 truncate /soft 2
+100 rename /soft /.
+100 unlink /soft
+100 unlink /file
+100 unlink /../new/link
+100 rmdir /new
+100 link / /other
+100 rename / /third
+100 truncate / 0
+100 unlink /
+100 rmdir /
+100 statfs
+100 sync
+";
+
+/// Whether each call of the script has a reply on an image.
+fn is_played<R: Wait + Copy>(alloc: Global, rt: R, image: &[u8]) -> Result<bool, AllocError> {
+    let scripts = [Some(SCRIPT.as_bytes())];
+    let played = Play::new(image, &scripts).played(alloc, rt)?;
+    let out = str::from_utf8(played.out.as_slice()).unwrap_or("");
+    Ok(played.status == 0 && played.err.is_empty() && are_replies(out, 41))
+}
+
+/// Whether a clean value of the byte at a place is played on: 0, 85, 170 and 255 of one that may have any in the root's inode, and of each
+/// 32nd that nothing looks at; each of a byte that may have some; of others none.
+fn is_played_on(values: Clean, place: usize, value: u8) -> bool {
+    match values {
+        Clean::Any => value.is_multiple_of(85),
+        Clean::Ignored => place.is_multiple_of(32) && value.is_multiple_of(85),
+        Clean::Own => false,
+        Clean::Between(_, _) | Clean::Without(_) => true,
+    }
+}
+
+/// Plays on the small volume with some clean values of the byte at a place; how many were played on.
+fn plays_at<R: Wait + Copy>(
+    alloc: Global,
+    rt: R,
+    image: &mut [u8],
+    place: usize,
+) -> Result<u32, Fail> {
+    let (own, values) = (image.get(place).copied().unwrap_or(0), clean_at(place));
+    let mut count = 0u32;
+    for value in 0..=255u8 {
+        if is_clean(values, value, own) && is_played_on(values, place, value) {
+            put(image, place, &[value]);
+            if !is_played(alloc, rt, image)? {
+                return Err(Fail::new(format_args!("{place} {value}")));
+            }
+            count = count.saturating_add(1);
+        }
+    }
+    put(image, place, &[own]);
+    Ok(count)
+}
+
+/// Plays on the small volume with some clean values of each of these bytes; how many were played on.
+fn plays<R: Wait + Copy>(alloc: Global, rt: R, from: usize, to: usize) -> Result<u32, Fail> {
+    let mut image = new_volume(alloc, 1024)?;
+    let mut count = 0u32;
+    for place in from..to {
+        count = count.saturating_add(plays_at(alloc, rt, &mut image, place)?);
+    }
+    Ok(count)
+}
+
+// In all 1164 plays.
+
+#[test]
+fn plays_before_the_maps(rt: HostRuntime) -> Result<(), Fail> {
+    // four for each 32nd byte of the boot block, and of those behind the superblock; the numbers of inodes and of zones
+    assert_eq!(rt; plays(rt.alloc(), rt, 0, 2048)?, 4 * (32 + 31) + 16 + 58);
+    Ok(())
+}
+
+#[test]
+fn plays_on_the_maps(rt: HostRuntime) -> Result<(), Fail> {
+    assert_eq!(rt;
+        plays(rt.alloc(), rt, 2048, 4096)?,
+        4 * (31 + 31) + 128 + 32
+    );
+    Ok(())
+}
+
+#[test]
+fn plays_on_the_inodes_and_the_root(rt: HostRuntime) -> Result<(), Fail> {
+    // 17 bytes of the root's inode, and two types; each 32nd byte of the other inodes, and behind the root's entries
+    assert_eq!(rt;
+        plays(rt.alloc(), rt, 4096, LOOKED_AT)?,
+        4 * (17 + 62 + 28) + 2
+    );
+    Ok(())
+}

@@ -1,0 +1,248 @@
+//! Calls of a service after its opening, while there is no memory: none but read and readdir takes any.
+
+use crate::orders::{refuse, was_refused};
+use counting_link::recorder::Recorder;
+use counting_link::room::Room;
+use counting_link::steady::OnMedia;
+use errno::Errno;
+use file_server::FileServer;
+use fixtures::{new_volume, whole};
+use launch::program::Program;
+use launch::start::serve;
+use modeldisk::supply::{drivers_for, table_in};
+use reissue::link::TrueLink;
+use script_text::reading::read_script;
+use script_text::timed::TimedCall;
+use serve::gate::Open;
+use serve::service::{Service, Shared};
+use serve::session::Session;
+use std::alloc::{AllocError, Global};
+use std::env;
+use std::sync::Wait;
+use std::test::Fail;
+use tree::{Outcome, Reply};
+
+/// All memory that there is, or an order by which no request is granted.
+#[derive(Drop)]
+struct Hoard(Vec<Vec<u8>>);
+
+/// How many blocks are taken, at most.
+const BLOCKS: usize = 262_144;
+
+/// The bytes of the largest blocks, 2^46, and how often they are halved: to 16.
+const LARGEST: usize = 0x4000_0000_0000;
+
+const HALVES: u32 = 43;
+
+/// Blocks of each size up to so many bytes are taken too: an allocator may keep those that were given back for such requests alone.
+const MOST_SMALL: usize = 1040;
+
+/// Whether a small request is granted.
+fn is_granted(alloc: Global) -> bool {
+    let asked: Result<Vec<u8>, AllocError> = Vec::with_capacity(alloc, 16);
+    asked.is_ok()
+}
+
+/// Takes blocks of this size while there are any.
+fn take_all(alloc: Global, size: usize, blocks: &mut Vec<Vec<u8>>) {
+    for _ in blocks.len()..BLOCKS {
+        let asked: Result<Vec<u8>, AllocError> = Vec::with_capacity(alloc, size);
+        let Ok(block) = asked else {
+            return;
+        };
+        let _ = blocks.push(block);
+    }
+}
+
+impl Hoard {
+    /// Takes all memory; nothing where some is left.
+    fn all(alloc: Global) -> Option<Hoard> {
+        let mut blocks = Vec::with_capacity(alloc, BLOCKS).ok()?;
+        refuse(alloc, 9, 0);
+        if is_granted(alloc) {
+            let mut size = LARGEST;
+            for _ in 0..HALVES {
+                take_all(alloc, size, &mut blocks);
+                size /= 2;
+            }
+            for size in (16..=MOST_SMALL).step_by(16) {
+                take_all(alloc, size, &mut blocks);
+            }
+        }
+        if is_granted(alloc) {
+            None
+        } else {
+            Some(Hoard(blocks))
+        }
+    }
+
+    /// Gives it back.
+    fn release(self, alloc: Global) {
+        drop(self);
+        was_refused(alloc);
+    }
+}
+
+/// Calls that are made in a session, those of the second list at the end; where `without` holds all of them without memory, and then those
+/// of the second list again.
+#[derive(Drop)]
+struct Calls<'c> {
+    alloc: Global,
+    calls: &'c [TimedCall<'c>],
+    reads: &'c [TimedCall<'c>],
+    without: bool,
+}
+
+/// Makes calls, and adds what each comes to; nothing where there is no room for it.
+fn make<N: Room, R: Wait + Copy, L: Recorder<N>, S: FileServer<L>>(
+    session: &mut Session<N, Shared<N, R, L, S>>,
+    calls: &[TimedCall<'_>],
+    outcomes: &mut Vec<Outcome>,
+) -> Option<()> {
+    for timed in calls {
+        let outcome = session.call(timed.time, &timed.call);
+        outcomes.push(outcome).ok()?;
+    }
+    Some(())
+}
+
+impl<R: Wait + Copy> Program<R> for Calls<'_> {
+    /// What each call came to, in their order; nothing where memory couldn't be taken away.
+    type Output = Option<Vec<Outcome>>;
+
+    ghost gives = { λ program geometry opening output. Unit {0} };
+
+    fn run<N: Room, L: Recorder<N> + TrueLink + OnMedia, S: FileServer<L>>(
+        self,
+        service: Service<N, Shared<N, R, L, S>>,
+    ) -> Option<Vec<Outcome>>
+        ensures { Unit {0} }
+    {
+        let mut session = service.session(0, 0).ok()?;
+        let mut outcomes = Vec::with_capacity(self.alloc, 128).ok()?;
+        if self.without {
+            let hoard = Hoard::all(self.alloc)?;
+            make(&mut session, self.calls, &mut outcomes)?;
+            make(&mut session, self.reads, &mut outcomes)?;
+            hoard.release(self.alloc);
+        } else {
+            make(&mut session, self.calls, &mut outcomes)?;
+        }
+        make(&mut session, self.reads, &mut outcomes)?;
+        Some(outcomes)
+    }
+}
+
+/// Each call but read and readdir.
+const CALLS: &str = "\
+user 0 0
+100 open /f rwc 644
+100 fill 0 40000 61
+100 write 0 68656c6c6f
+100 fill 0 131072 62
+100 seek 0 set 39998
+100 dup 0
+100 close 1
+100 stat /f
+100 fstat 0
+100 mkdir /d 755
+100 mkdir /d/e 755
+100 rename /d/e /e
+100 link /f /d/g
+100 rename /d/g /h
+100 unlink /h
+100 rmdir /e
+100 chmod /f 600
+100 chown /f 5 7
+100 utime /f 1 2
+100 truncate /f 50000
+100 symlink f /l
+100 symlink l /m
+100 lstat /m
+100 readlink /m
+100 stat /m
+100 symlink /n/n /n
+100 stat /n
+100 sync
+100 statfs
+100 open / r 0
+100 open /none r 0
+100 open /m rwac 644
+100 fill 2 3000 63
+100 sync
+100 close 2
+";
+
+/// Reads of a file and of a directory that are open, which change what later reads give.
+const READS: &str = "\
+user 0 0
+101 read 0 9
+101 readdir 1
+";
+
+/// What calls come to on an image, with memory or without.
+fn outcomes<R: Wait + Copy>(
+    alloc: Global,
+    rt: R,
+    image: &[u8],
+    without: bool,
+) -> Result<Vec<Outcome>, Fail> {
+    let (script, reads) = (
+        read_script(alloc, CALLS.as_bytes())?,
+        read_script(alloc, READS.as_bytes())?,
+    );
+    let (calls, reads) = (script.calls(alloc)?, reads.calls(alloc)?);
+    let supply = drivers_for(alloc, 0, false, table_in(image))?;
+    let program = Calls {
+        alloc,
+        calls: calls.as_slice(),
+        reads: reads.as_slice(),
+        without,
+    };
+    match serve(alloc, rt, image, &whole(), supply, Open, program) {
+        Ok(Some(outcomes)) => Ok(outcomes),
+        Ok(None) => Err(Fail::from("memory is left, or none at first")),
+        Err(_) => Err(Fail::from("not served")),
+    }
+}
+
+/// Whether a call wanted memory.
+fn wants_memory(outcome: &Outcome) -> bool {
+    *outcome == Outcome::Reply(Reply::Refused(Errno::ENOMEM))
+}
+
+/// On a volume with blocks of this size each call but the two reads comes without memory to what it comes to with it. The reads want
+/// memory, and give then what they would have given.
+fn are_made_without<R: Wait + Copy>(alloc: Global, rt: R, block: usize) -> Result<(), Fail> {
+    let image = new_volume(alloc, block)?;
+    let with = outcomes(alloc, rt, &image, false)?;
+    let without = outcomes(alloc, rt, &image, true)?;
+    let made = with.len().saturating_sub(2);
+    let (calls, rest) = without.as_slice().split_at(made.min(without.len()));
+    let (wanting, reads) = rest.split_at(2.min(rest.len()));
+    let (same, last) = with.as_slice().split_at(made.min(with.len()));
+    if calls == same && reads == last && wanting.iter().all(|outcome| wants_memory(outcome)) {
+        return Ok(());
+    }
+    for (number, (one, other)) in calls.iter().zip(same).enumerate() {
+        if one != other {
+            return Err(Fail::new(format_args!("call {number}: {one:?}, not {other:?}")));
+        }
+    }
+    Err(Fail::new(format_args!("blocks of {block}: the reads")))
+}
+
+#[test]
+fn calls_after_opening(rt: HostRuntime) -> Result<(), Fail> {
+    // An allocator takes orders, or all memory is taken: not under `rt try`, which gives no environment, and whose memory has no end.
+    refuse(rt.alloc(), 9, 1);
+    let takes_orders = !is_granted(rt.alloc());
+    was_refused(rt.alloc());
+    if !takes_orders && env::var(&rt, "PATH").is_err() {
+        return Ok(());
+    }
+    for block in [1024, 2048, 4096] {
+        are_made_without(rt.alloc(), rt, block)?;
+    }
+    Ok(())
+}
