@@ -34,7 +34,7 @@ pub guard_ok : {A : Type 0} (b : Bool) (d : Fault) (x : Result A Fault) (y : A) 
 guard_ok true d x y e = absurd cc
 guard_ok false d x y e = (refl, e)
 
-abbrev done : {A : Type 0} → A → Result A Fault
+abbrev pub done : {A : Type 0} → A → Result A Fault
 done x = Ok x
 
 pub ok_is : {A : Type 0} (x y : A) → done x ≡ done y → x ≡ y

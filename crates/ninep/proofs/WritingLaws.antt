@@ -53,6 +53,10 @@ cut_back old out rest is = ap (take (length old)) (put_behind old out rest is) �
 pub answer_size : (tag : ℕ) (r : Reply) → 4 + length (rest_bytes (replied tag r)) ≡ size_of r
 answer_size tag r =
     let fields = fields_bytes (reply_fields r) in
-    omega (arith,
-        length-append (number_bytes One (number_of r)) (number_bytes Two tag ++ fields), number_length One (number_of r),
-        length-append (number_bytes Two tag) fields, number_length Two tag)
+    omega (
+      arith,
+      length-append (number_bytes One (number_of r)) (number_bytes Two tag ++ fields),
+      number_length One (number_of r),
+      length-append (number_bytes Two tag) fields,
+      number_length Two tag,
+    )

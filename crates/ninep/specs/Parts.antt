@@ -53,3 +53,7 @@ texts_or_none (Err fault) = []
 abbrev pub IsBehind : Result (Bor (List ℕ)) Fault → Result (List (List ℕ) × List ℕ) Fault → Type 0
 IsBehind (Ok rest) read = (texts : List (List ℕ)) × (read ≡ Ok (texts, rest.now))
 IsBehind (Err fault) read = read ≡ Err fault
+
+-- these bytes are so many texts, and nothing else
+abbrev pub AreTexts : ℕ → List ℕ → Type 0
+AreTexts count bytes = texts_at count bytes ≡ Ok (texts_or_none (texts_at count bytes), [])

@@ -12,8 +12,7 @@ returns-then-size-limit-clause-long c = λ same.
     let at : length c.args.out.now.items ≡ c.len-at.result = search rules in
     let end : length c.put_rest.new.out.items ≡ c.len.result = search rules in
     let long = put_length_is c.args.out.now.items c.put_rest.new.out.items rest put in
-    let size = answer_size c.args.tag c.args.reply.now in
-    (
+    let size = answer_size c.args.tag c.args.reply.now in (
       omega (arith, at, end, long, size, c.if-size-limit.true),
       c.truncate.ensures.items ∙ ap (λ n. take n c.put_rest.new.out.items) (sym at) ∙ cut_back c.args.out.now.items c.put_rest.new.out.items rest put,
     )
@@ -27,8 +26,7 @@ returns-clause-ok c =
     let long = put_length_is c.args.out.now.items c.put_rest.new.out.items rest put in
     let size = answer_size c.args.tag c.args.reply.now in
     let own : c.len.result - c.len-at.result ≡ 4 + length rest = omega (arith, at, end, long) in
-    let made = c.put_length.ensures c.args.out.now.items rest (put_behind c.args.out.now.items c.put_rest.new.out.items rest put) at in
-    (
+    let made = c.put_length.ensures c.args.out.now.items rest (put_behind c.args.out.now.items c.put_rest.new.out.items rest put) at in (
       omega (arith, own, size, c.if-size-limit.false),
       made ∙ ap (λ n. c.args.out.now.items ++ (number_bytes Four n ++ rest)) own,
     )
