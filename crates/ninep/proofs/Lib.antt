@@ -1,0 +1,4 @@
+mod FieldLaws
+mod RequestLaws
+mod TextLaws
+pub mod WritingLaws

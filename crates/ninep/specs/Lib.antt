@@ -1,0 +1,5 @@
+pub mod Fields
+pub mod Parts
+pub mod Requests
+pub mod Reading
+pub mod Replies

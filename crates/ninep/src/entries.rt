@@ -1,0 +1,31 @@
+//! The entries of a directory, as an answer has them.
+
+ghost use Rattle.std.specs.Prelude.{◌≡◌, ◌++◌, OnOk};
+ghost use Rattle.ninep.specs.Fields.{IsShort, fields_bytes};
+ghost use Rattle.ninep.specs.Replies.{entry_fields};
+
+use crate::reply::Qid;
+use crate::writing::{put_qid, put_text, put_u8, put_u64};
+use std::alloc::AllocError;
+
+/// An entry of a directory.
+#[derive(Clone, Copy, Debug)]
+pub struct Entry<'a> {
+    pub qid: Qid,
+    /// The offset by which a later request goes on behind this entry.
+    pub next: u64,
+    /// 4 for a directory, 8 for a file, 10 for a symbolic link.
+    pub kind: u8,
+    pub name: &'a [u8],
+}
+
+/// Writes an entry behind others. An error: no memory was found, and a part of it may have been written.
+pub fn push_entry(out: &mut Vec<u8>, entry: &Entry<'_>) -> Result<(), AllocError>
+    requires { IsShort entry.now.name.now }
+    ensures { OnOk result (out.new.items ≡ out.old.items ++ fields_bytes (entry_fields entry.now)) }
+{
+    put_qid(out, &entry.qid)?;
+    put_u64(out, entry.next)?;
+    put_u8(out, entry.kind)?;
+    put_text(out, entry.name)
+}
