@@ -22,13 +22,13 @@ use std::sync::{Arc, Wait};
 use std::test::Fail;
 use tests_texts::is_told;
 
-/// A session calls, another one is asked for, and the service is stopped. The image.
+/// A session of a service on the volume in an image calls, another one is asked for, and the service is stopped. The image.
 fn ask_and_stop<N: Room, R: Wait + Copy>(
     alloc: Global,
     rt: R,
     board: Board,
     seat: Seat,
-    media: Media,
+    image: &[u8],
     geometry: Geometry,
     lines: &mut String,
 ) -> Result<Option<Vec<u8>>, AllocError>
@@ -38,6 +38,9 @@ fn ask_and_stop<N: Room, R: Wait + Copy>(
     requires tree { (tree : Tree) × IsAtFirst N.geometry (contents_at N.opening) tree }
     requires minor { 0 ≡ N.opening.minor }
 {
+    let Ok(media) = Media::from_bytes(alloc, image) else {
+        return Ok(None);
+    };
     let link = Silent::new(alloc, media)?;
     let board = Arc::new(alloc, board)?;
     let counted = Arc::try_clone(&board)?;
@@ -56,11 +59,8 @@ fn asked_of<R: Wait + Copy>(
     let Ok(Verdict::Clean(clean)) = check(alloc, image) else {
         return Ok(None);
     };
-    let Ok(media) = Media::from_bytes(alloc, image) else {
-        return Ok(None);
-    };
     let (board, seat) = Board::new(alloc)?;
-    ask_and_stop::<Brand, R>(alloc, rt, board, seat, media, clean.geometry(), lines)
+    ask_and_stop::<Brand, R>(alloc, rt, board, seat, image, clean.geometry(), lines)
 }
 
 #[test]

@@ -7,7 +7,7 @@ abbrev pub ghosts-ask_and_stop : goal.ghosts-ask_and_stop
 ghosts-ask_and_stop g a = record {
   table = a.board;
   opening = record { media = a.image.now; first = 0; count = length a.image.now; minor = 0 };
-  geometry = a.clean.geometry;
+  geometry = a.geometry;
   policy = default_policy;
   supply = [];
 }
