@@ -2,7 +2,6 @@
 
 ghost use Rattle.std.specs.Prelude.{◌≡◌, ◌≢◌, []};
 ghost use Rattle.std.specs.Arc.{arc_value};
-ghost use Rattle.true_replies.specs.Events.{opening_media};
 
 use crate::watch::Watch;
 use bdev::{BlockDriver, Driver};
@@ -103,7 +102,7 @@ fn play_on<
 >(
     alloc: Global,
     rt: R,
-    media: Media,
+    image: &[u8],
     sectors: u32,
     reincarnation: Reincarnation<D>,
     board: Board,
@@ -113,9 +112,12 @@ fn play_on<
     ending: Ending,
 ) -> Result<Option<(P::Came, Vec<u8>)>, AllocError>
     requires range { (N.opening.first ≡ 0) × (N.opening.count ≡ sectors) }
-    requires media { media ≡ opening_media N.opening }
+    requires image { N.opening.media ≡ image.now }
     requires seat { seat.table ≡ board }
 {
+    let Ok(media) = Media::from_bytes(alloc, image) else {
+        return Ok(None);
+    };
     let board = Arc::new(alloc, board)?;
     let gate = Arc::try_clone(gate)?;
     let (mut link, running) = start_drivers::<N, D, Watch<R>, R>(
@@ -152,13 +154,12 @@ pub(crate) fn play<
     ending: Ending,
 ) -> Option<(P::Came, Vec<u8>)> {
     let image = vec![in alloc; 0u8; 512 * SECTORS as usize].ok()?;
-    let media = Media::from_bytes(alloc, &image).ok()?;
     let reincarnation = Reincarnation::new(alloc, POLICY, drivers).ok()?;
     let (board, seat) = Board::new(alloc).ok()?;
     play_on::<Brand, R, D, P>(
         alloc,
         rt,
-        media,
+        &image,
         sectors,
         reincarnation,
         board,

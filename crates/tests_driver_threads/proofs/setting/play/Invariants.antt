@@ -7,7 +7,7 @@ use Rattle.tests_driver_threads.proofs.setting.play.Given as goal
 abbrev pub ghosts-play_on : goal.ghosts-play_on
 ghosts-play_on g a = record {
   table = a.board;
-  opening = record { media = a.image.items; first = 0; count = a.sectors; minor = 0 };
+  opening = record { media = a.image.now; first = 0; count = a.sectors; minor = 0 };
   geometry = no_geometry;
   policy = default_policy;
   supply = [];
