@@ -1,4 +1,8 @@
 //! Answers: each type by its bytes; the limit of a message; entries of a directory.
+ghost use Rattle.std.specs.List.{AllByRecursion};
+ghost use Rattle.ninep.specs.Fields.{Fits};
+ghost use Rattle.ninep.specs.Replies.{reply_fields};
+
 use ninep::entries::{Entry, push_entry};
 use ninep::reply::{Attributes, Held, Qid, Reply, Room};
 use ninep::write_refusal::WriteRefusal;
@@ -14,7 +18,9 @@ const QID: Qid = Qid {
 };
 
 /// An answer is written with tag 258 as these bytes.
-fn is_written(alloc: Global, reply: &Reply<'_>, wanted: &[u8]) -> Result<(), Fail> {
+fn is_written(alloc: Global, reply: &Reply<'_>, wanted: &[u8]) -> Result<(), Fail>
+    requires { AllByRecursion Fits (reply_fields reply.now) }
+{
     let mut out = Vec::new(alloc);
     out.push(9)?;
     if write(&mut out, 8192, 258, reply).is_err() {
@@ -86,7 +92,7 @@ fn short_answers_are_written(rt: HostRuntime) -> Result<(), Fail> {
     is_written(alloc, &Reply::Attach { qid: QID }, attached)
 }
 
-/// Answers of bytes, and of qids one behind another.
+/// Answers of bytes.
 #[test]
 fn answers_of_bytes_are_written(rt: HostRuntime) -> Result<(), Fail> {
     let alloc = rt.alloc();
@@ -114,6 +120,21 @@ fn answers_of_bytes_are_written(rt: HostRuntime) -> Result<(), Fail> {
         &version,
         b"\x15\0\0\0\x65\x02\x01\0\x20\0\0\x08\09P2000.L",
     )?;
+    let held = Held {
+        kind: 1,
+        start: 2,
+        length: 3,
+        process: 4,
+        client: b"c",
+    };
+    let lock = b"\x1f\0\0\0\x37\x02\x01\x01\x02\0\0\0\0\0\0\0\x03\0\0\0\0\0\0\0\x04\0\0\0\x01\0c";
+    is_written(alloc, &Reply::Getlock { held }, lock)
+}
+
+/// Qids one behind another.
+#[test]
+fn walks_are_answered(rt: HostRuntime) -> Result<(), Fail> {
+    let alloc = rt.alloc();
     is_written(
         alloc,
         &Reply::Walk { qids: &[] },
@@ -126,20 +147,12 @@ fn answers_of_bytes_are_written(rt: HostRuntime) -> Result<(), Fail> {
     };
     let walked =
         b"\x23\0\0\0\x6f\x02\x01\x02\0\x80\x01\0\0\0\x02\0\0\0\0\0\0\0\0\0\0\0\0\x03\0\0\0\0\0\0\0";
-    is_written(alloc, &Reply::Walk { qids: &[QID, file] }, walked)?;
-    let held = Held {
-        kind: 1,
-        start: 2,
-        length: 3,
-        process: 4,
-        client: b"c",
-    };
-    let lock = b"\x1f\0\0\0\x37\x02\x01\x01\x02\0\0\0\0\0\0\0\x03\0\0\0\0\0\0\0\x04\0\0\0\x01\0c";
-    is_written(alloc, &Reply::Getlock { held }, lock)
+    is_written(alloc, &Reply::Walk { qids: &[QID, file] }, walked)
 }
 
 /// A volume's room: nine numbers, of which each is another.
 #[test]
+#[tactic(auto, unfolding(ninep::specs::Replies::block_fields, ninep::specs::Replies::file_fields))]
 fn a_room_is_written(rt: HostRuntime) -> Result<(), Fail> {
     let room = Room {
         kind: 1,
@@ -159,6 +172,7 @@ fn a_room_is_written(rt: HostRuntime) -> Result<(), Fail> {
 
 /// Attributes: 160 bytes, of which each number is another.
 #[test]
+#[tactic(auto, unfolding(ninep::specs::Replies::owner_fields, ninep::specs::Replies::size_fields, ninep::specs::Replies::times_fields, ninep::specs::Replies::version_fields))]
 fn attributes_are_written(rt: HostRuntime) -> Result<(), Fail> {
     let attributes = Attributes {
         valid: 0x7ff,
