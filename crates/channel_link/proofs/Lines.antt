@@ -1,5 +1,6 @@
 -- Each move keeps the rule of the server's line.
-use Rattle.std.proofs.Common.{◌≡◌, ◌≢◌, ℕ, zero, suc, true, false, true≢false, List, [], ◌∷◌, ◌++◌, set, sym, refl, ap, ◌∙◌, subst, ⊎_elim, ◌⊎◌, inl, inr}
+use Rattle.std.proofs.Common.{◌≡◌, ◌≢◌, ℕ, zero, suc, true, false, true≢false, List, [], ◌∷◌, ◌++◌, set, sym, refl, ap, ◌∙◌, subst}
+use Rattle.std.proofs.Common.{⊎_elim, ◌⊎◌, inl, inr}
 use mathlib.Core.Option.{some, some-ne-none, some-injective}
 use mathlib.Core.Logic.{dite}
 use native.Mathlib.Decide.{ℕ_discrete}
@@ -7,8 +8,8 @@ use lib.ListN.{get_elem?}
 use Rattle.crossbeam_channel.specs.Fifo.{Pushes, Pops, Forks}
 use Rattle.atomic_table.proofs.Lists.{at_set, at_snoc, at_longer, set_again, set_else}
 use Rattle.message.specs.declared.endpoint.Endpoint.{Endpoint}
-use Rattle.channel_link.specs.declared.news.News.{News}
-use Rattle.channel_link.specs.declared.news.NewsView.{NewsView}
+use Rattle.channel_link.specs.declared.messages.News.{News}
+use Rattle.channel_link.specs.declared.messages.NewsView.{NewsView}
 use Rattle.channel_link.specs.News.{reader, driver, sent_by, got_by, Bears, Among, SentBySome, Borne}
 
 off : false ≡ true → ⊥
@@ -33,12 +34,15 @@ among_none : (x : News) (k : ℕ) → get_elem? [] k ≡ some x → ⊥
 among_none x k e = some-ne-none x (sym e)
 
 -- it stays borne where a pass keeps its endpoint and what it sent
-stays : (views : List NewsView) (port : ℕ) (v w : NewsView) (x : News) → get_elem? views port ≡ some v → w.drives ≡ v.drives → w.endpoint ≡ v.endpoint → (Among v.sent x → Among w.sent x)
+stays : (views : List NewsView) (port : ℕ) (v w : NewsView) (x : News) → get_elem? views port ≡ some v → w.drives ≡ v.drives
+    → w.endpoint ≡ v.endpoint → (Among v.sent x → Among w.sent x)
     → SentBySome views x → SentBySome (set views port w) x
 stays views port v w x at d e more h = dite (ℕ_discrete h.0 port)
     (λ same.
     let is : v ≡ h.1 = some-injective v h.1 (sym at ∙ ap (λ p. get_elem? views p) (sym same) ∙ h.2) in
-    (port, w, set_at views port v w at, d ∙ ap (λ (u : NewsView). u.drives) is ∙ h.3, subst (λ (o : Endpoint). Bears o x) (sym (e ∙ ap (λ (u : NewsView). u.endpoint) is)) h.4, more (subst (λ (u : NewsView). Among u.sent x) (sym is) h.5)))
+    let own : Bears w.endpoint x = subst (λ (o : Endpoint). Bears o x) (sym (e ∙ ap (λ (u : NewsView). u.endpoint) is)) h.4 in
+    let among : Among w.sent x = more (subst (λ (u : NewsView). Among u.sent x) (sym is) h.5) in
+    (port, w, set_at views port v w at, d ∙ ap (λ (u : NewsView). u.drives) is ∙ h.3, own, among))
     (λ other. (h.0, h.1, set_else views port h.0 w other ∙ h.2, h.3, h.4, h.5))
 
 pub begins : Borne [] (reader [] ∷ [])
@@ -57,10 +61,13 @@ sends n port v x may own items views room h at = let w = sent_by v x in (
     (λ y m. stays views port v w y at refl refl (among_tail v.sent x y) (h.2 y m)),
     (λ y m. ⊎_elim
         (λ old. stays views port v w y at refl refl (among_tail v.sent x y) (h.3 y (m.0, old)))
-        (λ (new : x ≡ y). subst (λ (z : News). SentBySome (set views port w) z) new (port, w, set_at views port v w at, may, own, among_head v.sent x))
+        (λ (new : x ≡ y).
+        subst (λ (z : News). SentBySome (set views port w) z) new (port, w, set_at views port v w at, may, own, among_head v.sent x))
         (at_snoc items x y m.0 m.1)),
     (λ p u e g. ⊎_elim
-        (λ (t : (p ≡ port) × (w ≡ u)). let m = h.4 port v at (ap (λ (z : NewsView). z.gets) t.1 ∙ g) in (t.0 ∙ m.0, ap (λ (z : NewsView). z.got) (sym t.1) ∙ m.1))
+        (λ (t : (p ≡ port) × (w ≡ u)).
+        let m = h.4 port v at (ap (λ (z : NewsView). z.gets) t.1 ∙ g) in
+        (t.0 ∙ m.0, ap (λ (z : NewsView). z.got) (sym t.1) ∙ m.1))
         (λ (t : (p ≢ port) × (get_elem? views p ≡ some u)). h.4 p u t.1 g)
         (at_set views port p w u e)),
   ),

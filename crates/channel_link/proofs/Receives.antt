@@ -1,5 +1,6 @@
 -- What was received goes on with the record.
-use Rattle.std.proofs.Common.{◌≡◌, ℕ, ◌==◌, ◌∙◌, ap, List, [], ◌∷◌, Bool, true, false, refl, sym, subst, Result, Ok, Err, OnOk, if◌then◌else◌}
+use Rattle.std.proofs.Common.{◌≡◌, ℕ, ◌==◌, ◌∙◌, ap, List, [], ◌∷◌, Bool, true, false, refl, sym, subst, Result, Ok, Err, OnOk}
+use Rattle.std.proofs.Common.{if◌then◌else◌}
 use Rattle.message.specs.declared.Incoming.{Incoming}
 use Rattle.message.specs.declared.Incoming.TheVariants as incoming
 use Rattle.message.specs.declared.BlockReply.{BlockReply}
@@ -10,8 +11,8 @@ use Rattle.records.specs.Open.{counts, MayFollow}
 use Rattle.records.specs.Opening.{Opening, Fits}
 use Rattle.records.specs.Told.{Told, received, heard, took_end}
 use Rattle.channel_link.specs.News.{incoming_of}
-use Rattle.channel_link.specs.declared.news.News.{News}
-use Rattle.channel_link.specs.declared.news.News.TheVariants as news
+use Rattle.channel_link.specs.declared.messages.News.{News}
+use Rattle.channel_link.specs.declared.messages.News.TheVariants as news
 use Rattle.channel_link.specs.Received.{AreReceived, None, Dropped, Left, Other, mark_of}
 
 by_count : (marks : List Mark) (got : List News) (reply : BlockReply) (b : Bool) → AreReceived marks got
@@ -19,7 +20,8 @@ by_count : (marks : List Mark) (got : List News) (reply : BlockReply) (b : Bool)
 by_count marks got reply true is = Left marks got (news.Answer reply) is
 by_count marks got reply false is = Dropped marks got (news.Answer reply) is
 
-pub receives : (marks : List Mark) (got : List News) (x : News) → AreReceived marks got → AreReceived (received (incoming_of x) marks) (x ∷ got)
+pub receives : (marks : List Mark) (got : List News) (x : News) → AreReceived marks got
+    → AreReceived (received (incoming_of x) marks) (x ∷ got)
 receives marks got (news.Answer reply) is = by_count marks got reply (counts marks reply) is
 receives marks got (news.Started endpoint line) is = Left marks got (news.Started endpoint line) is
 receives marks got news.GaveUp is = Left marks got news.GaveUp is
@@ -34,8 +36,9 @@ pub receives_none : (got : List News) → got ≡ [] → AreReceived [] got
 receives_none got none = subst (λ (l : List News). AreReceived [] l) (sym none) None
 
 -- an issue is no message
-pub posts : {A E : Type 0} (r : Result A E) (v : Opening) (marks : List Mark) (got more : List News) (request : BlockRequest) (to : Endpoint) → more ≡ got
-    → AreReceived marks got → OnOk r (MayFollow (Issued request to) marks → Fits v request → AreReceived (Issued request to ∷ marks) more)
+pub posts : {A E : Type 0} (r : Result A E) (v : Opening) (marks : List Mark) (got more : List News) (request : BlockRequest)
+    (to : Endpoint) → more ≡ got → AreReceived marks got
+    → OnOk r (MayFollow (Issued request to) marks → Fits v request → AreReceived (Issued request to ∷ marks) more)
 posts (Ok a) v marks got more request to same kept = λ may fits.
     subst (λ (l : List News). AreReceived (Issued request to ∷ marks) l) (sym same) (Other marks got (Issued request to) refl kept)
 posts (Err e) v marks got more request to same kept = tt
@@ -46,10 +49,12 @@ goes_live (news.Answer reply) told = refl
 goes_live (news.Started endpoint line) told = refl
 goes_live news.GaveUp told = refl
 
-pub goes_live_as : (x : News) (message : Incoming) → message ≡ incoming_of x → (told : List Told) → took_end (heard message told) ≡ took_end told
+pub goes_live_as : (x : News) (message : Incoming) → message ≡ incoming_of x
+    → (told : List Told) → took_end (heard message told) ≡ took_end told
 goes_live_as x message is told = subst (λ (m : Incoming). took_end (heard m told) ≡ took_end told) (sym is) (goes_live x told)
 
 -- so a link that has some of its budget left hasn't ended
 pub still_live : (message : Incoming) (told later : List Told) (budget left : ℕ) → later ≡ heard message told
-    → took_end (heard message told) ≡ took_end told → (took_end told ≡ true → budget ≡ 0) → (budget ≡ 0 → ⊥) → took_end later ≡ true → left ≡ 0
+    → took_end (heard message told) ≡ took_end told → (took_end told ≡ true → budget ≡ 0) → (budget ≡ 0 → ⊥)
+    → took_end later ≡ true → left ≡ 0
 still_live message told later budget left is live ended some over = absurd (some (ended (sym live ∙ sym (ap took_end is) ∙ over)))

@@ -5,9 +5,9 @@ use lib.ListN.{get_elem?}
 use Rattle.message.specs.declared.endpoint.Endpoint.{Endpoint}
 use Rattle.message.specs.declared.Incoming.{Incoming}
 use Rattle.message.specs.declared.Incoming.TheVariants as incoming
-use Rattle.channel_link.specs.declared.news.News.{News}
-use Rattle.channel_link.specs.declared.news.News.TheVariants as news
-use Rattle.channel_link.specs.declared.news.NewsView.{NewsView}
+use Rattle.channel_link.specs.declared.messages.News.{News}
+use Rattle.channel_link.specs.declared.messages.News.TheVariants as news
+use Rattle.channel_link.specs.declared.messages.NewsView.{NewsView}
 
 -- the message that news are to a server
 abbrev pub incoming_of : News → Incoming
@@ -44,8 +44,8 @@ abbrev pub SentBySome : List NewsView → News → Type 0
 SentBySome views x =
     (p : ℕ) × (v : NewsView) × (get_elem? views p ≡ some v) × (v.drives ≡ true) × Bears v.endpoint x × Among v.sent x
 
--- each of the news that were received, or that the line holds, was sent by the pass of an end, and an answer bears the endpoint of that end. One
--- pass receives, and knows all that was received
+-- each of the news that were received, or that the line holds, was sent by the pass of an end, and an answer bears that end's endpoint.
+-- One pass receives, and knows all that was received
 abbrev pub Borne : List News → List NewsView → Type 0
 Borne items views =
     (at : ℕ) × (got : List News)

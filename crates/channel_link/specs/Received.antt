@@ -1,8 +1,8 @@
 -- Which marks of a record are messages that were received.
 use Rattle.std.specs.Prelude.{◌≡◌, List, [], ◌∷◌, Bool, true, false}
 use Rattle.records.specs.Marks.{Mark, Started, Answered, Flush, GaveUp, Issued, Took, Fault}
-use Rattle.channel_link.specs.declared.news.News.{News}
-use Rattle.channel_link.specs.declared.news.News.TheVariants as news
+use Rattle.channel_link.specs.declared.messages.News.{News}
+use Rattle.channel_link.specs.declared.messages.News.TheVariants as news
 
 -- the mark that news leave where they count
 abbrev pub mark_of : News → Mark

@@ -1,9 +1,7 @@
-//! The link of a file server to drivers that run in threads of their own.
-//!
-//! The lines between the threads of a service.
+//! The link of a file server to drivers that run in threads of their own, and the channels between these threads.
 #![tactic(auto)]
 
-pub mod free;
-pub mod line;
+pub mod channel;
 pub mod link;
-pub mod news;
+pub mod messages;
+pub mod server_line;

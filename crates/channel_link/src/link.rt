@@ -1,4 +1,5 @@
-//! A link over channels.
+//! The link over channels.
+
 ghost use Rattle.std.specs.Prelude.{◌≡◌, ◌≤◌, ◌<◌, ◌+◌, ◌^◌, ◌∷◌, List, [], length, refl, IfOk, IsTrue, is_ok, true};
 ghost use Rattle.channel_link.specs.News.{incoming_of};
 ghost use Rattle.records.specs.Marks.{Mark, Took, Flush};
@@ -7,9 +8,9 @@ ghost use Rattle.records.specs.Told.{Told, heard, received, took_end};
 ghost use Rattle.channel_link.specs.Received.{AreReceived, Other};
 ghost use Rattle.counting_link.specs.Steady.{enough_room};
 
-use crate::free::{Sends, Unsent};
-use crate::line::{Receiving, message_of};
-use crate::news::{Order, Report};
+use crate::channel::{NotSent, Sender};
+use crate::messages::{Order, Report};
+use crate::server_line::{NewsReceiver, message_of};
 use board::History;
 use counting_link::steady::{Steady, Supplied};
 use message::endpoint::Endpoint;
@@ -21,17 +22,23 @@ use std::sync::Wait;
 /// How many messages a link gives at most (own).
 const BUDGET: u64 = 1099511627776;
 
-/// The link of a server to drivers that run in threads of their own: the receiving end of the server's line, the line of the driver of the
-/// last Started, and an end of the reincarnation server's line.
+/// The link of a server to drivers that run in threads of their own: the receiving end of the server's line, the channel of the driver that
+/// was started last, and an end of the reincarnation server's line.
 ///
-/// What it guarantees of a record is that each start, each answer and the giving up in it is a message that it received, unchanged and in
-/// its order.
+/// - `post` hands a request to the driver that was started last: `DeadEndpoint` where the endpoint isn't that one's or the driver has
+///   ended, else `Full` where its channel is full. It doesn't wait.
+/// - `complain` tells the reincarnation server. It doesn't wait: where its line is full, the complaint is made at the next message.
+/// - `take` waits for the next message. It costs one of the budget, 2^40 at first; once that is spent, and not before, it gives End.
+///
+/// What it guarantees of a record is that each start, each answer and each giving up in it is a message that it received, unchanged and in
+/// their order. Of what drivers answer it guarantees nothing. It takes memory when it is made, and none from then on.
 pub struct ChannelLink<R: Wait + Copy> {
     rt: R,
-    pub(crate) line: Receiving,
-    orders: Option<(Endpoint, Sends<Order>)>,
-    reports: Sends<Report>,
-    // A complaint that the reincarnation server's line had no room for.
+    pub(crate) line: NewsReceiver,
+    orders: Option<(Endpoint, Sender<Order>)>,
+    reports: Sender<Report>,
+    // A complaint that the reincarnation server's line had no room for. A later one takes its place: it is about the same driver or a later
+    // one.
     due: Option<Endpoint>,
     pub(crate) budget: u64,
     pub(crate) history: History,
@@ -58,8 +65,8 @@ impl<R: Wait + Copy> ChannelLink<R> {
     pub fn new(
         alloc: Global,
         rt: R,
-        line: Receiving,
-        reports: Sends<Report>,
+        line: NewsReceiver,
+        reports: Sender<Report>,
     ) -> Result<ChannelLink<R>, AllocError>
         requires { line ≡ [] }
         ensures history { IfOk result (λ l. ⟦<ChannelLink<R> as Link>⟧.history l ≡ []) }
@@ -87,15 +94,15 @@ impl<R: Wait + Copy> ChannelLink<R> {
             Some((endpoint, line)) if *endpoint == to => {
                 match line.try_send(&rt, Order::Ask(*request)) {
                     Ok(()) => Ok(()),
-                    Err(Unsent::Full) => Err(LinkRefusal::Full),
-                    Err(Unsent::Gone) => Err(LinkRefusal::DeadEndpoint),
+                    Err(NotSent::Full) => Err(LinkRefusal::Full),
+                    Err(NotSent::Gone) => Err(LinkRefusal::DeadEndpoint),
                 }
             }
             _ => Err(LinkRefusal::DeadEndpoint),
         }
     }
 
-    // Tells the reincarnation server of the complaint that is due. Where its line is full, it stays due until the next message.
+    // Makes the complaint that is due. Where the reincarnation server's line is full, it stays due until the next message.
     fn report(&mut self)
         ensures { (self.new.line ≡ self.old.line) × (self.new.budget ≡ self.old.budget) × (self.new.history ≡ self.old.history) }
     {
@@ -105,7 +112,7 @@ impl<R: Wait + Copy> ChannelLink<R> {
         let rt = self.rt;
         if !matches!(
             self.reports.try_send(&rt, Report::Complaint(about)),
-            Err(Unsent::Full)
+            Err(NotSent::Full)
         ) {
             self.due = None;
         }
@@ -130,6 +137,12 @@ impl<R: Wait + Copy> ChannelLink<R> {
         message
     }
 }
+
+/// A link gives End once its budget is spent, and not before; and its budget is 2^40 less the messages that it received.
+pub fn ends_when_spent<R: Wait + Copy>(link: &ChannelLink<R>)
+    ensures ended { took_end (⟦<ChannelLink<R> as Link>⟧.history link.now) ≡ true → ⟦<ChannelLink<R> as Link>⟧.budget_left link.now ≡ 0 }
+    ensures paid { ⟦<ChannelLink<R> as Link>⟧.budget_left link.now + length link.now.line ≡ 1099511627776 }
+{}
 
 impl<R: Wait + Copy> Link for ChannelLink<R> {
     ghost history = { λ l. l.history };

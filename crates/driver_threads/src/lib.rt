@@ -1,10 +1,8 @@
-//! A link to drivers in threads of their own, with the threads behind it.
-//!
-//! A driver in a thread of its own.
-//!
-//! The reincarnation server in a thread of its own.
+//! Disk drivers, each in a thread of its own, and the reincarnation server in another, which starts them and ends them.
 #![tactic(auto)]
 
-pub mod keeper;
+pub mod confined;
+mod driver_task;
 pub mod running;
-pub mod seated;
+mod shared;
+mod supervisor;

@@ -1,15 +1,21 @@
-//! The threads behind a link.
-ghost use Rattle.std.specs.Prelude.{◌≡◌, [], IfOk};
+//! The threads behind a link, from their start to their end.
+
+ghost use Rattle.std.specs.Prelude.{◌≡◌, [], IfOk, IfSome};
 ghost use Rattle.std.specs.Arc.{arc_value};
 ghost use Rattle.records.specs.Opening.{Opening};
+ghost use Rattle.true_replies.specs.Events.{opening_media};
+ghost use Rattle.driver_threads.specs.Confined.{KeepsOutside};
 
-use crate::keeper::{Keeper, start_keeper};
+use crate::confined::Confined;
+use crate::shared::Shared;
+use crate::supervisor::{Supervisor, start_supervisor};
 use bdev::BlockDriver;
 use board::{Board, Seat};
-use channel_link::free::open;
-use channel_link::line::open_line;
+use channel_link::channel::bounded;
 use channel_link::link::ChannelLink;
-use channel_link::news::Report;
+use channel_link::messages::Report;
+use channel_link::server_line::open_line;
+use counting_link::room::Room;
 use gate::Gate;
 use media::Media;
 use message::endpoint::{DISK_DRIVER, Endpoint};
@@ -23,17 +29,31 @@ use std::thread::{JoinHandle, Threads};
 /// How many messages the lines of the server and of the reincarnation server hold (own).
 const LINE: usize = 64;
 
-/// The thread of the reincarnation server, which has those of the drivers, and the media that they share.
-#[derive(Drop)]
-pub struct Running {
-    keeper: JoinHandle<()>,
-    media: Arc<Mutex<Media>>,
+/// The thread of the reincarnation server, which has those of the drivers, and the media that they share. Where it is let go and not
+/// stopped, all its threads are told to end, and end by themselves.
+pub struct Running<N: Room> {
+    supervisor: JoinHandle<()>,
+    media: Arc<Mutex<Confined<N>>>,
     ending: Arc<AtomicBool>,
 }
 
-/// Starts the reincarnation server on these media, and makes the link to the drivers that it will start. Where no memory or no thread was
-/// found, all is let go.
+impl<N: Room> Drop for Running<N> {
+    fn drop(self) {
+        let Self {
+            supervisor: _,
+            media: _,
+            ending,
+        } = self;
+        ending.store(true, Ordering::SeqCst);
+    }
+}
+
+/// Starts the reincarnation server on these media, and makes the link to the drivers that it will start, which write in this range of the
+/// media alone: a first sector, and how many there are. Where no memory or no thread was found, all is let go.
+///
+/// The seat is one of the board's without a number. No driver is started before the gate lets the first tick pass.
 pub fn start_drivers<
+    N: Room + Send + Sync + 'static,
     D: BlockDriver + 'static,
     G: Gate + 'static,
     R: Threads + Wait + Copy + Send + 'static,
@@ -41,12 +61,15 @@ pub fn start_drivers<
     alloc: Global,
     rt: R,
     media: Media,
+    range: (u32, u32),
     reincarnation: Reincarnation<D>,
     board: &Arc<Board>,
     seat: Seat,
     gate: Arc<G>,
-) -> Result<(ChannelLink<R>, Running), AllocError>
-    requires { seat.table ≡ arc_value board.now }
+) -> Result<(ChannelLink<R>, Running<N>), AllocError>
+    requires range { (range.0 ≡ N.opening.first) × (range.1 ≡ N.opening.count) }
+    requires media { media ≡ opening_media N.opening }
+    requires seat { seat.table ≡ arc_value board.now }
     ensures history { IfOk result (λ r. ⟦<ChannelLink<R> as Link>⟧.history r.0 ≡ []) }
     ensures budget { IfOk result (λ r. ⟦<ChannelLink<R> as Link>⟧.budget_left r.0 ≡ 1099511627776) }
     ensures truth { IfOk result (λ r. (v : Opening) → ⟦<ChannelLink<R> as Link>⟧.truth r.0 v []) }
@@ -56,51 +79,46 @@ pub fn start_drivers<
         generation: 0,
     };
     let (news, line) = open_line(alloc, LINE, nobody)?;
-    let (mut reports, heard) = open::<Report>(alloc, LINE)?;
+    let (mut reports, heard) = bounded::<Report>(alloc, LINE)?;
     let report_end = reports.another()?;
     let link = ChannelLink::new(alloc, rt, line, reports)?;
-    let media = Arc::new(alloc, Mutex::new(media))?;
-    let ending = Arc::new(alloc, AtomicBool::new(false))?;
-    let theirs = Arc::try_clone(&media)?;
-    let told = Arc::try_clone(&ending)?;
-    let board = Arc::try_clone(board)?;
-    let keeper = Keeper::new(
-        alloc,
-        reincarnation,
-        heard,
-        report_end,
-        news,
-        theirs,
-        board,
-        seat,
+    let shared = Shared {
+        media: Arc::new(alloc, Mutex::new(Confined::new(media, range)))?,
+        board: Arc::try_clone(board)?,
         gate,
-        told,
-    );
-    let Some(keeper) = start_keeper(&rt, keeper) else {
-        return Err(AllocError);
+        ending: Arc::new(alloc, AtomicBool::new(false))?,
     };
+    let media = Arc::try_clone(&shared.media)?;
+    let ending = Arc::try_clone(&shared.ending)?;
+    let supervisor = Supervisor::new(alloc, reincarnation, heard, report_end, news, shared, seat);
+    let supervisor = start_supervisor(&rt, supervisor).ok_or(AllocError)?;
     Ok((
         link,
         Running {
-            keeper,
+            supervisor,
             media,
             ending,
         },
     ))
 }
 
-impl Running {
-    /// Ends all drivers, joins all threads, and gives the media back. The link has been let go of before, so that none waits for room.
-    pub fn stop<R: Threads>(self, rt: &R) -> Option<Media> {
+impl<N: Room> Running<N> {
+    /// Ends all drivers, joins all threads, and gives the media back: as many sectors as were handed in, and outside of the volume's range
+    /// each as it was handed in. The link has to be let go of before, since else a driver may wait for room in it.
+    ///
+    /// None where somebody else still has the media; by the code nobody has.
+    pub fn stop<R: Threads>(self, rt: &R) -> Option<Media>
+        ensures { IfSome result (KeepsOutside N.opening) }
+    {
         let Running {
-            keeper,
+            supervisor,
             media,
             ending,
         } = self;
         ending.store(true, Ordering::SeqCst);
-        keeper.join(rt);
+        supervisor.join(rt);
         match Arc::try_unwrap(media) {
-            Ok(media) => Some(media.into_inner()),
+            Ok(media) => Some(media.into_inner().into_media()),
             Err(_) => None,
         }
     }

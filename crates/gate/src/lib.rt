@@ -1,4 +1,4 @@
-//! Where the threads of a service ask before they go on.
+//! Where the threads of a service ask before they go on, so that a test can hold one of them back, and a program sets their pace.
 #![tactic(auto)]
 
 pub mod paced_gate;
@@ -10,18 +10,18 @@ pub enum Point {
     DriverStep(u32),
     /// The flusher is about to take its turn.
     FlusherTurn,
-    /// A tick is about to pass.
+    /// The reincarnation server is about to let a tick pass.
     Tick,
 }
 
-/// What the threads of a service ask before they go on, so that a test can hold one of them back. Until there are such threads it is
-/// never asked.
+/// What the threads of a service ask before they go on. Each pass at `Tick` is one tick of the restart policy's clock: so the gate says how
+/// long a tick is, and with it how soon a driver that doesn't beat counts as hung.
 pub trait Gate: Send + Sync + Drop {
-    /// Comes back when the thread may go on.
+    /// Comes back when the thread may go on. It is asked under no lock.
     fn pass(&self, at: Point);
 }
 
-/// A gate that holds nobody back.
+/// A gate that holds nobody back. Ticks pass as fast as they can under it, so a driver that has no time to beat is soon replaced.
 #[derive(Clone, Copy, Drop)]
 pub struct Open;
 

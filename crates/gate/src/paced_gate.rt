@@ -5,9 +5,14 @@ use std::sync::atomic::{AtomicBool, Ordering};
 use std::thread;
 use std::time::{Clock, Duration};
 
-/// The first tick passes at once, and each later one, and each turn of the flusher, after a tenth of a second.
+/// How long a tick is, and a turn of the flusher, in milliseconds.
+const PACE: u64 = 100;
+
+/// The first tick passes at once, so that a driver is there for the first request; each later one, and each turn of the flusher, after a
+/// tenth of a second. Steps of drivers pass at once.
 pub struct Paced<R: Clock + Copy> {
     rt: R,
+    // Whether a tick has passed.
     ticked: AtomicBool,
 }
 
@@ -25,16 +30,20 @@ impl<R: Clock + Copy> Paced<R> {
             ticked: AtomicBool::new(false),
         }
     }
+
+    fn wait(&self) {
+        thread::sleep(&self.rt, Duration::from_millis(PACE));
+    }
 }
 
 impl<R: Clock + Copy + Send + Sync> Gate for Paced<R> {
     fn pass(&self, at: Point) {
         match at {
             Point::DriverStep(_) => {}
-            Point::FlusherTurn => thread::sleep(&self.rt, Duration::from_millis(100)),
+            Point::FlusherTurn => self.wait(),
             Point::Tick => {
                 if self.ticked.swap(true, Ordering::SeqCst) {
-                    thread::sleep(&self.rt, Duration::from_millis(100));
+                    self.wait();
                 }
             }
         }

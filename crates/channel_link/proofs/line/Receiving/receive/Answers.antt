@@ -1,5 +1,0 @@
-use Rattle.channel_link.proofs.Lines.{gets}
-use Rattle.channel_link.proofs.line.Receiving.receive.Goals as goal
-
-pub recv_as-requires-clause-rule : goal.recv_as-requires-clause-rule
-recv_as-requires-clause-rule g c = (gets _ _ c.self.invariant.1, λ items views h at. tt)

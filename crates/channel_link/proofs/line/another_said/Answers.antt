@@ -1,5 +1,0 @@
-use Rattle.channel_link.proofs.Lines.{forks}
-use Rattle.channel_link.proofs.line.another_said.Goals as goal
-
-pub another-requires-clause-rule : goal.another-requires-clause-rule
-another-requires-clause-rule g c = forks _ _ _

@@ -1,0 +1,20 @@
+-- What drivers of one volume leave of the media.
+use Rattle.std.specs.Prelude.{◌≡◌, ℕ, ◌≤◌, ◌<◌, ◌+◌, length, IfSome}
+use Rattle.media.specs.Contents.{MediaState}
+use Rattle.records.specs.Opening.{Opening}
+use Rattle.bdev.specs.DriverState.{DriverState}
+use Rattle.true_replies.specs.State.{OutsideHolds}
+use Rattle.true_replies.specs.Events.{opening_media}
+
+-- the media have as many sectors as were handed in, and outside of the volume each sector is as it was handed in
+pub record KeepsOutside (v : Opening) (media : MediaState) : Type 0 where
+  pub number : length media.sectors ≡ length (opening_media v).sectors
+  pub outside : OutsideHolds v (opening_media v) media
+
+-- sector s of the media is one of the volume's
+abbrev pub IsInVolume : Opening → ℕ → Type 0
+IsInVolume v s = (v.first ≤ s) × (s < v.first + v.count)
+
+-- a driver names no sector as the next to be written, or one of the volume's
+abbrev pub StaysInVolume : Opening → DriverState → Type 0
+StaysInVolume v d = IfSome d.in_work (IsInVolume v)

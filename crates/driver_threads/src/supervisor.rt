@@ -1,0 +1,280 @@
+//! What the reincarnation server's thread does.
+
+ghost use Rattle.std.specs.Prelude.{◌≡◌, ◌<◌, ◌^◌};
+ghost use Rattle.std.specs.Arc.{arc_value};
+ghost use Rattle.std.specs.Thread.{IsSend};
+ghost use Rattle.reincarnate.specs.Laws.{tick_of};
+
+use crate::driver_task::{DriverTask, start_driver};
+use crate::shared::Shared;
+use bdev::BlockDriver;
+use board::Seat;
+use channel_link::channel::{Receiver, Sender, bounded};
+use channel_link::messages::{Order, Report};
+use channel_link::server_line::NewsSender;
+use counting_link::room::Room;
+use gate::{Gate, Point};
+use message::endpoint::Endpoint;
+use reincarnate::policy::Event;
+use reincarnate::{Action, Reincarnation};
+use std::alloc::{AllocError, Global};
+use std::sync::atomic::{AtomicBool, Ordering};
+use std::sync::{Arc, Wait};
+use std::thread;
+use std::thread::{JoinHandle, Threads};
+
+/// The last tick that there is (own).
+const LAST_TICK: u64 = 281474976710655;
+
+/// How many orders the channel of a driver holds (own).
+const ORDERS: usize = 32;
+
+/// A driver's thread, and an end of the channel of its orders.
+#[derive(Drop)]
+struct Worker {
+    handle: JoinHandle<()>,
+    orders: Sender<Order>,
+}
+
+// The driver that was started last: an end of the channel of its orders, and whether a ping is on its way to it.
+#[derive(Drop)]
+struct Pinging {
+    orders: Sender<Order>,
+    pinged: Arc<AtomicBool>,
+}
+
+// What the start of a driver's thread gives: the thread, an end for the server's link and one for pings.
+#[derive(Drop)]
+struct Spawned {
+    worker: Worker,
+    orders: Sender<Order>,
+    pinging: Pinging,
+}
+
+/// The reincarnation server, with the ends of channels that its thread uses, and what it shares with the drivers.
+#[derive(Drop)]
+pub(crate) struct Supervisor<N: Room, D: BlockDriver, G: Gate> {
+    alloc: Global,
+    reincarnation: Reincarnation<D>,
+    reports: Receiver<Report>,
+    // From which the drivers' ends are made.
+    report_end: Sender<Report>,
+    news: NewsSender,
+    shared: Shared<N, G>,
+    seat: Seat,
+    // The number of the next tick.
+    ticks: u64,
+    running: Option<Pinging>,
+    ghost seated: { seat.table ≡ arc_value shared.board },
+    ghost low: { ticks < 2 ^ 48 },
+}
+
+impl<N: Room + Send + Sync + 'static, D: BlockDriver + 'static, G: Gate + 'static> Supervisor<
+    N,
+    D,
+    G,
+> {
+    /// The reincarnation server, which was told nothing yet.
+    pub(crate) fn new(
+        alloc: Global,
+        reincarnation: Reincarnation<D>,
+        reports: Receiver<Report>,
+        report_end: Sender<Report>,
+        news: NewsSender,
+        shared: Shared<N, G>,
+        seat: Seat,
+    ) -> Supervisor<N, D, G>
+        requires { seat.table ≡ arc_value shared.board }
+    {
+        Supervisor {
+            alloc,
+            reincarnation,
+            reports,
+            report_end,
+            news,
+            shared,
+            seat,
+            ticks: 0,
+            running: None,
+        }
+    }
+
+    // The last tick that passed; 0 before the first.
+    fn last_tick(&self) -> u64
+        ensures { result < 2 ^ 48 }
+    {
+        self.ticks.saturating_sub(1)
+    }
+
+    // A thread for a driver, with all that it needs. Refused where no memory or no thread was found: the driver is dropped then.
+    fn spawn<R: Threads + Wait + Copy + Send + 'static>(
+        &mut self,
+        rt: &R,
+        endpoint: Endpoint,
+        driver: D,
+    ) -> Result<Spawned, AllocError> {
+        let (mut orders, taken) = bounded::<Order>(self.alloc, ORDERS)?;
+        let for_pings = orders.another()?;
+        let for_end = orders.another()?;
+        let pinged = Arc::new(self.alloc, AtomicBool::new(false))?;
+        let theirs = Arc::try_clone(&pinged)?;
+        let news = self.news.another(endpoint)?;
+        let reports = self.report_end.another()?;
+        let shared = self.shared.another()?;
+        let seat = self.shared.board.split(&mut self.seat, None)?;
+        let task = DriverTask::new(driver, taken, news, reports, theirs, shared, seat);
+        let handle = start_driver(rt, task).ok_or(AllocError)?;
+        Ok(Spawned {
+            worker: Worker {
+                handle,
+                orders: for_end,
+            },
+            orders,
+            pinging: Pinging {
+                orders: for_pings,
+                pinged,
+            },
+        })
+    }
+
+    // Starts a driver: its generation is adopted first, then the server is told. Where no thread is made, that is an exit of the driver.
+    fn start<R: Threads + Wait + Copy + Send + 'static>(
+        &mut self,
+        rt: &R,
+        endpoint: Endpoint,
+        driver: D,
+        workers: &mut Vec<Worker>,
+    ) {
+        (&mut *self.shared.media.lock(rt)).adopt(endpoint.generation);
+        self.shared
+            .board
+            .started(&mut self.seat, endpoint.generation);
+        if workers.reserve(1).is_ok() {
+            if let Ok(spawned) = self.spawn(rt, endpoint, driver) {
+                workers.push_reserved(spawned.worker);
+                self.running = Some(spawned.pinging);
+                let _ = self.news.started(rt, endpoint, spawned.orders);
+                return;
+            }
+        }
+        self.fault(rt, Event::Exit(endpoint, self.last_tick()));
+    }
+
+    // An exit or a complaint, at which no driver is started.
+    fn fault<R: Wait>(&mut self, rt: &R, event: Event)
+        requires { tick_of event < 2 ^ 48 }
+    {
+        if let Action::GiveUp = self.reincarnation.on(event) {
+            let _ = self.news.gave_up(rt);
+        }
+    }
+
+    // One report, if there is one.
+    fn hear_one<R: Wait>(&mut self, rt: &R) -> bool {
+        let Some(report) = self.reports.try_receive(rt) else {
+            return false;
+        };
+        let tick = self.last_tick();
+        let event = match report {
+            Report::Exit(endpoint) => Event::Exit(endpoint, tick),
+            Report::Complaint(endpoint) => Event::Complaint(endpoint, tick),
+        };
+        self.fault(rt, event);
+        true
+    }
+
+    // All that was reported since the last tick.
+    fn hear<R: Wait>(&mut self, rt: &R) {
+        for _ in rt.forever() {
+            if !self.hear_one(rt) {
+                return;
+            }
+        }
+        unreachable!()
+    }
+
+    // Pings the driver that was started last, unless a ping is still on its way to it.
+    fn ping<R: Wait>(&mut self, rt: &R) {
+        let Some(running) = &mut self.running else {
+            return;
+        };
+        if running.pinged.swap(true, Ordering::SeqCst) {
+            return;
+        }
+        if running.orders.try_send(rt, Order::Ping).is_err() {
+            running.pinged.store(false, Ordering::SeqCst);
+        }
+    }
+
+    // One tick passes.
+    fn tick<R: Threads + Wait + Copy + Send + 'static>(
+        &mut self,
+        rt: &R,
+        workers: &mut Vec<Worker>,
+    ) {
+        self.hear(rt);
+        let pulse = self.shared.board.pulse(&mut self.seat);
+        let tick = self.ticks;
+        self.ticks = (tick + 1).min(LAST_TICK);
+        match self.reincarnation.on(Event::Tick(tick, pulse)) {
+            Action::Start(endpoint, driver) => self.start(rt, endpoint, driver, workers),
+            Action::GiveUp => {
+                let _ = self.news.gave_up(rt);
+            }
+            Action::Nothing => self.ping(rt),
+            Action::WaitUntil(_) => {}
+        }
+    }
+
+    // Passes the gate, and lets a tick pass. Whether the reincarnation server goes on.
+    fn turn<R: Threads + Wait + Copy + Send + 'static>(
+        &mut self,
+        rt: &R,
+        workers: &mut Vec<Worker>,
+    ) -> bool {
+        self.shared.gate.pass(Point::Tick);
+        if self.shared.ending.load(Ordering::SeqCst) {
+            return false;
+        }
+        self.tick(rt, workers);
+        true
+    }
+
+    // Lets ticks pass, as the gate does, until all is to end; then all drivers are told, and joined. By then it has let its ends go.
+    fn run<R: Threads + Wait + Copy + Send + 'static>(mut self, rt: &R) {
+        let mut workers: Vec<Worker> = Vec::new(self.alloc);
+        for _ in rt.forever() {
+            if !self.turn(rt, &mut workers) {
+                break;
+            }
+        }
+        drop(self);
+        for worker in workers {
+            join(rt, worker);
+        }
+    }
+}
+
+// Tells a driver to end, and joins its thread.
+fn join<R: Threads + Wait>(rt: &R, worker: Worker) {
+    let Worker { handle, mut orders } = worker;
+    let _ = orders.send(rt, Order::Stop);
+    handle.join(rt);
+}
+
+/// Starts the thread of the reincarnation server. None where no thread could be made: all its drivers are dropped then.
+pub(crate) fn start_supervisor<
+    N: Room + Send + Sync + 'static,
+    D: BlockDriver + 'static,
+    G: Gate + 'static,
+    R: Threads + Wait + Copy + Send + 'static,
+>(rt: &R, supervisor: Supervisor<N, D, G>) -> Option<JoinHandle<()>> {
+    let mine = *rt;
+    thread::spawn(
+        rt,
+        move ||
+            requires { IsSend N.row × IsSend D.row × IsSend G.row }
+        { supervisor.run(&mine) },
+    )
+    .ok()
+}
