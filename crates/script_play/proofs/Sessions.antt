@@ -1,6 +1,6 @@
 -- Sessions whose calls were made at one time, and that then meet.
-use Rattle.std.proofs.Common.{◌≡◌, ℕ, suc, get_or, ◌+◌, ◌<◌, ◌≤◌, arith, List, [], ◌∷◌, ◌++◌, length, length-append, map, refl, sym, ap, ◌∙◌, append-nil, append_assoc, subst, Option, Some, None, Result, Ok, Err, inl, inr, ◌⊎◌, reverse}
-use Rattle.std.specs.Prelude.{All}
+use Rattle.std.proofs.Common.{◌≡◌, ℕ, suc, take, ◌-◌, ◌+◌, ◌<◌, ◌≤◌, arith, List, [], ◌∷◌, ◌++◌, length, length-append, map, refl, sym, ap, ◌∙◌, append-nil, append_assoc, subst, Option, Some, None, Result, Ok, Err, inl, inr, ◌⊎◌, reverse}
+use Rattle.std.specs.Prelude.{All, slice_index_or}
 use Rattle.std.proofs.lemmas.List.{reverse-append}
 use Rattle.tree.specs.Tree.{most_sessions}
 use Rattle.tree.specs.declared.Who.{Who}
@@ -283,13 +283,20 @@ module _ {C : Type 0} (Vouches Ended : List Mark → Type 0) (state : C → Sess
             (subst (λ (l : List (ℕ × ℕ × List TimedCall)). EachIn Vouches Ended seen l all) (sym all_of) h.each),
       )
 
+-- a list from which nothing was taken is empty
+pub none_popped : {X : Type 0} (old new : List X) (count : ℕ) → old ≡ new ++ [] → count ≡ 0 → new ≡ take (count - 1) old → old ≡ []
+none_popped old new count items zero rest = items ∙ append-nil new ∙ rest ∙ ap (λ (n : ℕ). take (n - 1) old) zero
+
+no_scripts : (done : List (ℕ × ℕ × List TimedCall)) (script : ℕ × ℕ × List TimedCall) → done ++ script ∷ [] ≡ [] → ⊥
+no_scripts done script none = let l = ap length none in omega (arith, l, length-append done (script ∷ []))
+
 -- ---- all of them
 
 module _ {C E : Type 0} (Vouches Ended : List Mark → Type 0) (state : C → SessionState) where
   -- a result for each, from what is said of each by its index
   pub results_of : (turns : List (Turn C)) (results : List (Result (Taken C) E)) → length results ≡ length turns
       → ((i : ℕ) (t : Turn C) (r : Result (Taken C) E) → i < length turns
-      → IsTaken Vouches Ended state (asked state (get_or turns i t)) (get_or results i r))
+      → IsTaken Vouches Ended state (asked state (slice_index_or turns i t)) (slice_index_or results i r))
       → AreResults Vouches Ended state (map (asked state) turns) results
   results_of [] [] same each = tt
   results_of [] (r ∷ results) same each = absurd (omega (arith, same))
@@ -298,9 +305,6 @@ module _ {C E : Type 0} (Vouches Ended : List Mark → Type 0) (state : C → Se
     each 0 t r (omega arith),
     results_of turns results (omega (arith, same)) (λ i d e inside. each (suc i) d e (omega (arith, inside))),
   )
-
-  no_scripts : (done : List (ℕ × ℕ × List TimedCall)) (script : ℕ × ℕ × List TimedCall) → done ++ script ∷ [] ≡ [] → ⊥
-  no_scripts done script none = let l = ap length none in omega (arith, l, length-append done (script ∷ []))
 
   -- there was none
   pub none_played : (scripts : List (ℕ × ℕ × List TimedCall)) (results : List (Result (Taken C) E)) (played : List Played) → results ≡ [] → played ≡ []

@@ -1,10 +1,10 @@
 //! Sessions whose calls are made at one time.
 
-ghost use Rattle.std.specs.Prelude.{◌≡◌, All, IfOk, map};
+ghost use Rattle.std.specs.Prelude.{◌≡◌, ◌<◌, ℕ, All, IfOk, length, map, slice_index_or, vec_len};
 ghost use Rattle.std.specs.Option.{option_map};
 ghost use Rattle.std.specs.List.{list_any};
 ghost use Rattle.script_play.specs.Made.{Calls, Plays, cuts, is_eio, has_eio};
-ghost use Rattle.script_play.specs.Turns.{ArePlayed, AreResults, HaveEnded, HaveMet, IsTaken, IsUnplayed, asked, seen_by};
+ghost use Rattle.script_play.specs.Turns.{ArePlayed, HaveEnded, HaveMet, IsTaken, IsUnplayed, asked, seen_by};
 
 use crate::client::Client;
 use errno::Errno;
@@ -64,7 +64,9 @@ fn take_each<R: Threads + Sync, C: Client>(
     turns: Vec<Turn<'_, C>>,
 ) -> Result<Vec<Result<Taken<C>, AllocError>>, AllocError>
     requires { All (λ turn. IsUnplayed C.vouches (C.state turn.client)) turns.items }
-    ensures { IfOk result (λ results. AreResults C.vouches C.ended C.state (map (asked C.state) turns.entry.items) results.items) }
+    ensures len { IfOk result (λ results. vec_len results ≡ vec_len turns.entry) }
+    ensures each { IfOk result (λ results. (i : ℕ) (r : Result (Taken C) AllocError) (t : Turn C) → i < length turns.entry.items
+        → IsTaken C.vouches C.ended C.state (asked C.state (slice_index_or turns.entry.items i t)) (slice_index_or results.items i r)) }
 {
     thread::map_vec(
         rt,

@@ -1,5 +1,5 @@
 use Rattle.std.proofs.Common.{◌≡◌, ◌∷◌, [], ◌++◌, rules}
-use Rattle.script_play.proofs.Sessions.{ending_none, ending_more, ending_all}
+use Rattle.script_play.proofs.Sessions.{ending_none, ending_more, ending_all, none_popped}
 use Rattle.script_play.proofs.turns.end_each.Goals as goal
 
 pub loop-other-init : goal.loop-other-init
@@ -17,4 +17,5 @@ loop-other-preserved g c = λ script played scripts leads taken seen.
 pub returns : goal.returns
 returns g c = λ script played scripts leads taken seen.
     ending_all g.C.Client.vouches g.C.Client.ended g.C.Client.state script played scripts _ _ c.loop-other.left.items c.loop-other.all.items
-    c.in_default.ensures.items (c.loop-other.invariant script played scripts leads taken seen)
+    (none_popped c.loop-other.left.items c.pop.new.self.items c.loop-other.left.len c.in_default.ensures.items c.in_default.ensures.cases.0
+    c.in_default.ensures.rest) (c.loop-other.invariant script played scripts leads taken seen)
