@@ -9,6 +9,7 @@ use fixtures_sessions::services::{many, stopped, two_in_turn};
 use launch::program::Program;
 use launch::start::serve;
 use modeldisk::FaultKind;
+use reincarnate::policy::{Policy, Setup};
 use serve::service::Service;
 use std::alloc::{AllocError, Global};
 use std::sync::{Arc, Wait};
@@ -68,6 +69,17 @@ impl<R: Threads + Wait + Copy + Send + Sync + 'static> Program<R> for Does {
     }
 }
 
+/// The whole image is the volume, and a driver that is slow on a loaded machine isn't hung at once.
+fn patient() -> Setup {
+    Setup {
+        policy: Policy {
+            misses: 16,
+            ..Policy::default()
+        },
+        ..whole()
+    }
+}
+
 /// What comes of it over a service of the volume in an image, whose driver has this fault in its first request after those of the mount.
 pub(crate) fn served<R: Threads + Wait + Copy + Send + Sync + 'static>(
     alloc: Global,
@@ -83,7 +95,7 @@ pub(crate) fn served<R: Threads + Wait + Copy + Send + Sync + 'static>(
         what,
         gate: Arc::try_clone(&gate)?,
     };
-    match serve(alloc, rt, image, &whole(), supply, gate, does) {
+    match serve(alloc, rt, image, &patient(), supply, gate, does) {
         Ok(came) => Ok(came),
         Err(_) => Ok(None),
     }
