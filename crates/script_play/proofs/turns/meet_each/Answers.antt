@@ -1,4 +1,4 @@
-use Rattle.std.proofs.Common.{◌≡◌, ◌∷◌, [], ◌++◌, refl, rules}
+use Rattle.std.proofs.Common.{◌≡◌, ◌∷◌, [], ◌++◌, Ok, refl, rules}
 use Rattle.script_play.proofs.Sessions.{meeting_none, meeting_more, meeting_all, none_popped}
 use Rattle.script_play.proofs.turns.meet_each.Goals as goal
 
@@ -11,8 +11,9 @@ pub loop-result-preserved : goal.loop-result-preserved
 loop-result-preserved g c = λ script played scripts leads results.
     let met : _ = record { client = c.meet.new.other; played = c.in_ok-other.other.played } in
     let grown : c.push.new.self.items ≡ c.loop-result.others.items ++ met ∷ [] = search rules in
+    let is : c.loop-result.left.items ≡ c.pop.new.self.items ++ Ok c.in_ok-other.other ∷ [] = search rules in
     meeting_more g.C.Client.vouches g.C.Client.ended g.C.Client.state script played scripts _ _ c.loop-result.left.items c.pop.new.self.items
-    c.loop-result.others.items c.push.new.self.items c.in_ok-other.other met c.in-Some.ensures.items grown refl c.meet.ensures
+    c.loop-result.others.items c.push.new.self.items c.in_ok-other.other met is grown refl c.meet.ensures
     (c.loop-result.invariant script played scripts leads results)
 
 pub returns : goal.returns

@@ -1,4 +1,4 @@
-use Rattle.std.proofs.Common.{◌≡◌, ◌∷◌, [], ◌++◌, map, rules}
+use Rattle.std.proofs.Common.{◌≡◌, ◌∷◌, [], ◌++◌, Ok, map, rules}
 use Rattle.script_play.specs.Turns.{AreResults, asked}
 use Rattle.script_play.proofs.Sessions.{none_played, none_popped, all_played, results_of}
 use Rattle.script_play.proofs.turns.play_together.Goals as goal
@@ -16,8 +16,8 @@ returns-in_default g c =
 pub returns : goal.returns
 returns g c =
     let state = g.C.Client.state in
-    let grown : c.push.new.self.items ≡ c.in_ok-all.all.items ++ c.in_ok-client.played ∷ [] = search rules in
-    let is : c.in_ok-results.results.items ≡ c.pop.new.self.items ++ _ ∷ [] = search rules in
+    let grown : c.push.new.self.items ≡ c.in_ok-all.all.items ++ c.in_ok-client.field-0.played ∷ [] = search rules in
+    let is : c.in_ok-results.results.items ≡ c.pop.new.self.items ++ Ok c.in_ok-client.field-0 ∷ [] = search rules in
     all_played g.C.Client.vouches g.C.Client.ended state (map (asked state) c.args.turns.items) c.in_ok-results.results.items c.pop.new.self.items
     c.in_ok-client.field-0 (state c.meet_each.new.client) (state c.end_each.new.client) c.in_ok-others.others.items c.in_ok-all.all.items
     c.push.new.self.items is grown
