@@ -22,7 +22,7 @@ enum Wanted {
 }
 
 /// What the words ask for, if they are `--seed S --count N`, `--each` or `--each --most M`.
-fn wanted(words: &[String]) -> Option<Wanted> {
+fn read_words(words: &[String]) -> Option<Wanted> {
     match words {
         [_, seed, s, count, n] if seed.as_str() == "--seed" && count.as_str() == "--count" => {
             Some(Wanted::Drawn(s.parse().ok()?, n.parse().ok()?))
@@ -100,7 +100,7 @@ fn main(rt: HostRuntime) -> io::Result<ExitCode> {
     let Some(line) = line_of(&rt)? else {
         return Ok(ExitCode::from(2));
     };
-    let Some(wanted) = wanted(line.as_slice()) else {
+    let Some(wanted) = read_words(line.as_slice()) else {
         eprintln!(rt; "usage: fault-places --seed S --count N | --each [--most M]")?;
         return Ok(ExitCode::from(2));
     };
