@@ -22,9 +22,9 @@ use Rattle.message.specs.declared.BlockReply.{BlockReply}
 use Rattle.records.specs.Marks.{Mark, Took, Answered, gave_up}
 use Rattle.records.specs.Open.{counts}
 use Rattle.records.specs.Disk.{Contents, HasTrueReplies}
-use Rattle.records.specs.Acts.{Act, Began, Absorbed, AtLink, told_of, marks_after}
+use Rattle.records.specs.Acts.{Act, Began, Absorbed, AtLink, told_of, has_absorbed, marks_after}
 use Rattle.records.specs.Opening.{Opening, contents_at}
-use Rattle.records.specs.Told.{Told, Posted, Complained, Received, received, took_end}
+use Rattle.records.specs.Told.{Told, Posted, Complained, Received, received, with_told, grown, took_end}
 use Rattle.media.specs.Contents.{MediaState}
 use Rattle.bdev.specs.DriverState.{DriverState}
 use Rattle.reincarnate.specs.declared.policy.Policy.{Policy}
@@ -47,7 +47,7 @@ use Rattle.shared_server.specs.Descriptors.{is_done, succeeded}
 use Rattle.shared_server.specs.Stopping.{IsSyncedImage, syncer}
 use Rattle.shared_server.specs.declared.refusal.SessionRefusal.{SessionRefusal}
 use Rattle.shared_server.specs.declared.refusal.SessionRefusal.TheVariants.{TooMany, Stopped, OutOfMemory}
-use Rattle.shared_server.specs.Held.{HoldsIfTrue, IsHeld, IsGood, IsGuaranteed, IsNotAdmitted, IsSound}
+use Rattle.shared_server.specs.Held.{AddsCall, HoldsIfTrue, IsHeld, IsGood, IsGuaranteed, IsNotAdmitted, IsSound}
 
 -- what servers and links keep, whichever they are
 pub record Kept {N S L : Type 0} (room : RoomWords N) (link : LinkWords L) (serving : S → Serving) (line : S → L)
@@ -150,6 +150,28 @@ record_after : {N S L : Type 0} (room : RoomWords N) (link : LinkWords L) (servi
     → record_in (line new) ≡ with_outcome who now call outcome (marks_after c.calls.keeps.acts (record_in (line old)))
 record_after room link serving line is_ready knows runs_on record_in who now call outcome old mid new kept c held =
     kept.is_record (line new) _ (stands_after room link serving line is_ready knows runs_on record_in who now call outcome old mid new kept c held).truth
+
+-- where nothing was handed over between two calls, the record grew by what the link was told and gave alone
+grown_by : (acts : List Act) (marks : List Mark) → has_absorbed acts ≡ false → marks_after acts marks ≡ grown (told_of acts) marks
+grown_by [] marks none = refl
+grown_by (Began r ∷ acts) marks none = grown_by acts marks none
+grown_by (Absorbed message ∷ acts) marks none = absurd cc
+grown_by (AtLink told ∷ acts) marks none = ap (with_told told) (grown_by acts marks none)
+
+-- a call adds itself, and no other
+pub adds_call : {N S L : Type 0} (room : RoomWords N) (link : LinkWords L) (serving : S → Serving) (line : S → L) (is_ready : S → Type 0)
+    (knows : Call → Type 0) (runs_on : L → Policy → List DriverState → Type 0) (record_in : L → List Mark)
+    (who : Who) (now : ℕ) (call : Call) (result given : TreeOutcome) (old mid new : S) → result ≡ given
+    → Kept room link serving line runs_on record_in
+    → (c : Called room link serving line is_ready who now call (outcome_of result) old mid new)
+    → IsHeld room link serving line is_ready knows runs_on record_in old
+    → AddsCall who now call (outcome_of given) (record_in (line old)) (record_in (line new))
+adds_call room link serving line is_ready knows runs_on record_in who now call result given old mid new is kept c held = (
+  told_of c.calls.keeps.acts,
+  record_after room link serving line is_ready knows runs_on record_in who now call (outcome_of result) old mid new kept c held
+      ∙ ap (with_outcome who now call (outcome_of result)) (grown_by c.calls.keeps.acts (record_in (line old)) c.calls.keeps.none_absorbed)
+      ∙ ap (λ (o : TreeOutcome). with_outcome who now call (outcome_of o) (grown (told_of c.calls.keeps.acts) (record_in (line old)))) is,
+)
 
 -- after a call it has ended where its link has
 pub ends_called : {N S L : Type 0} (room : RoomWords N) (link : LinkWords L) (serving : S → Serving) (line : S → L) (is_ready : S → Type 0)

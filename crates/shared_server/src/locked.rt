@@ -9,7 +9,7 @@ ghost use Rattle.records.specs.Session.{tally_of};
 ghost use Rattle.board.specs.View.{without};
 ghost use Rattle.board.specs.Steps.{SessionIsNew, SessionLearns};
 ghost use Rattle.file_server.specs.Over.{outcome_of};
-ghost use Rattle.shared_server.specs.Held.{HoldsIfTrue, IsEioOnceGivenUp, IsGood, IsGuaranteed, IsHeld, IsNotAdmitted, IsServedCall, IsSound};
+ghost use Rattle.shared_server.specs.Held.{AddsCall, HoldsIfTrue, IsEioOnceGivenUp, IsGood, IsGuaranteed, IsHeld, IsNotAdmitted, IsServedCall, IsSound};
 ghost use Rattle.shared_server.specs.Stopping.{IsLastImage, IsLastLine, IsSyncedImage, Went, WhyNotSynced};
 ghost use Rattle.shared_server.specs.Finishing.{sync_of};
 ghost use Rattle.counting_link.specs.Keeper.{AreAllUsed, IsLowestFree, IsOneFree};
@@ -80,12 +80,13 @@ impl<N: Room, L: Recorder<N>, S: FileServer<L>> Locked<N, L, S> {
         }
     }
 
-    /// A call of a session, which has then seen the whole record. An answer is a mark of it, the last; a cut isn't. With the outcome
-    /// comes how many counted marks the record has, modulo 2^64.
+    /// A call of a session, which has then seen the whole record. An answer is a mark of it, the last; a cut isn't. No other call is made
+    /// meanwhile. With the outcome comes how many counted marks the record has, modulo 2^64.
     pub fn call(&mut self, seat: &mut Seat, who: Who, now: u32, call: &Call) -> (Outcome, u64)
         requires seat { (seat.old.table ≡ N.table) × (seat.old.view.number ≡ Some who.session) }
         ensures seat { (seat.new.table ≡ N.table) × (seat.new.view.number ≡ Some who.session) }
         ensures call { IsServedCall N.geometry N.opening who now call.now seat.old.view (outcome_of result.0) seat.new.view }
+        ensures added { AddsCall who now call.now (outcome_of result.0) (L.marks self.old) (L.marks self.new) }
         ensures seen { seat.new.view.seen ≡ L.marks self.new }
         ensures tally { result.1 ≡ tally_of seat.new.view.seen }
         ensures sound { IsSound seat.new.view.seen }
