@@ -5,6 +5,7 @@ use reincarnate::policy::{Policy, Setup};
 use std::alloc::Global;
 use std::sync::Wait;
 use std::test::Fail;
+use std::thread::Threads;
 
 /// What comes of a play: the status, what is printed, and what is said of a refusal.
 pub type Told = (u8, &'static str, &'static str);
@@ -31,7 +32,7 @@ fn setup(numbers: Numbers) -> Setup {
 }
 
 /// A row comes out as it says on a new volume, and leaves the image as it is.
-fn comes_out<R: Wait + Copy>(
+fn comes_out<R: Threads + Wait + Copy + Send + Sync + 'static>(
     alloc: Global,
     rt: R,
     image: &[u8],
@@ -54,7 +55,7 @@ fn comes_out<R: Wait + Copy>(
 }
 
 /// Each row comes out as it says, and leaves the image as it is.
-pub fn all_come_out<R: Wait + Copy>(
+pub fn all_come_out<R: Threads + Wait + Copy + Send + Sync + 'static>(
     alloc: Global,
     rt: R,
     rows: &[OverDrivers],

@@ -7,6 +7,7 @@ use reincarnate::policy::Setup;
 use std::alloc::{AllocError, Global};
 use std::sync::Wait;
 use std::test::Fail;
+use std::thread::Threads;
 
 /// A new volume of 128 sectors behind a sector with a table, whose second entry has this type, is said to have so many sectors from sector
 /// 1 on, and which ends in 0x55 and this byte.
@@ -23,7 +24,7 @@ fn disk(alloc: Global, kind: u8, count: u8, last: u8) -> Result<Vec<u8>, AllocEr
 }
 
 /// What a script gives on the volume of this minor of an image, over a driver of the image's partitions.
-pub(crate) fn played_on<R: Wait + Copy>(
+pub(crate) fn played_on<R: Threads + Wait + Copy + Send + Sync + 'static>(
     alloc: Global,
     rt: R,
     image: &[u8],
@@ -46,7 +47,7 @@ pub(crate) fn played_on<R: Wait + Copy>(
 pub type OnDisk = ((u8, u8, u8), u8, u8, &'static str, &'static str);
 
 /// A script gives what each of these rows says.
-pub fn are_served<R: Wait + Copy>(
+pub fn are_served<R: Threads + Wait + Copy + Send + Sync + 'static>(
     alloc: Global,
     rt: R,
     script: &[u8],

@@ -2,6 +2,7 @@
 
 ghost use Rattle.std.specs.Prelude.{◌≡◌, ◌↔◌, IsOk, is_some, not, ◌==◌};
 
+use fixtures::gates::Yielding;
 use fixtures::{supply_at, whole};
 use fsck::{Verdict, check};
 use modeldisk::{FaultKind, ScriptedDriver};
@@ -9,8 +10,9 @@ use reincarnate::policy::Setup;
 use script_text::script_files::File;
 use std::alloc::{AllocError, Global};
 use std::io::{self, Write};
-use std::sync::Wait;
+use std::sync::{Arc, Wait};
 use std::test::Fail;
+use std::thread::Threads;
 use tools::play::{Status, play};
 
 /// Drivers, each with its fault once so many of a request's sectors were moved, or with none.
@@ -46,6 +48,36 @@ impl Played {
         let out = str::from_utf8(self.out.as_slice()).unwrap_or("no text");
         let err = str::from_utf8(self.err.as_slice()).unwrap_or("no text");
         Err(Fail::new(format_args!("status {}, {err}, {out}", self.status)))
+    }
+
+    /// Nothing was played yet, on this image.
+    fn before(alloc: Global, image: Option<&[u8]>) -> Result<Played, AllocError> {
+        let mut bytes = Vec::new(alloc);
+        bytes.extend_from_slice(image.unwrap_or(&[]))?;
+        Ok(Played {
+            status: 0,
+            out: Vec::new(alloc),
+            err: Vec::new(alloc),
+            image: Some(bytes),
+        })
+    }
+
+    /// A play of one script was made after these, whose session gets this number.
+    fn go_on(&mut self, number: usize, played: Played) -> Result<(), AllocError> {
+        let Played {
+            status,
+            out,
+            err,
+            image,
+        } = played;
+        let replies = out.as_slice().strip_prefix(b"session 0\n".as_slice());
+        let _ = write!(self.out, "session {number}\n");
+        self.out
+            .extend_from_slice(replies.unwrap_or(out.as_slice()))?;
+        self.err.extend_from_slice(err.as_slice())?;
+        self.status = self.status.max(status);
+        self.image = image;
+        Ok(())
     }
 
     /// The image, or no bytes.
@@ -113,7 +145,7 @@ impl Write for Sink {
 }
 
 /// Plays the scripts of files on an image, of each the bytes if it can be read, into writers with this room; and how it ended.
-fn play_into<R: Wait + Copy>(
+fn play_into<R: Threads + Wait + Copy + Send + Sync + 'static>(
     alloc: Global,
     rt: R,
     image: Option<&[u8]>,
@@ -129,6 +161,7 @@ fn play_into<R: Wait + Copy>(
     };
     let mut out = Sink(Vec::new(alloc), room.most, room.out);
     let mut err = Sink(Vec::new(alloc), room.most, room.err);
+    let gate = Arc::new(alloc, Yielding)?;
     let came = play(
         alloc,
         rt,
@@ -136,6 +169,7 @@ fn play_into<R: Wait + Copy>(
         files.as_slice(),
         setup,
         supply,
+        gate,
         &mut out,
         &mut err,
     );
@@ -180,7 +214,7 @@ impl<'p> Play<'p> {
     }
 
     /// What it gives over other drivers.
-    pub(crate) fn played_over<R: Wait + Copy>(
+    pub(crate) fn played_over<R: Threads + Wait + Copy + Send + Sync + 'static>(
         &self,
         alloc: Global,
         rt: R,
@@ -192,7 +226,7 @@ impl<'p> Play<'p> {
     }
 
     /// What it gives to writers with this room, and how it ended.
-    pub fn played_into<R: Wait + Copy>(
+    pub fn played_into<R: Threads + Wait + Copy + Send + Sync + 'static>(
         &self,
         alloc: Global,
         rt: R,
@@ -211,13 +245,38 @@ impl<'p> Play<'p> {
     }
 
     /// What it gives.
-    pub fn played<R: Wait + Copy>(&self, alloc: Global, rt: R) -> Result<Played, AllocError> {
+    pub fn played<R: Threads + Wait + Copy + Send + Sync + 'static>(
+        &self,
+        alloc: Global,
+        rt: R,
+    ) -> Result<Played, AllocError> {
         let (played, _) = self.played_into(alloc, rt, FREE)?;
         Ok(played)
     }
 
+    /// What its scripts give one after the other: each is played by a service of its own, on the image that the one before it leaves. The
+    /// sessions are numbered as those of one play.
+    pub fn played_in_turn<R: Threads + Wait + Copy + Send + Sync + 'static>(
+        &self,
+        alloc: Global,
+        rt: R,
+    ) -> Result<Played, AllocError> {
+        let mut all = Played::before(alloc, self.image)?;
+        for (number, script) in self.scripts.iter().enumerate() {
+            let scripts = [*script];
+            let one = Play {
+                image: all.image.as_deref(),
+                scripts: &scripts,
+                ..*self
+            };
+            let played = one.played(alloc, rt)?;
+            all.go_on(number, played)?;
+        }
+        Ok(all)
+    }
+
     /// Looks at what it gives, which is an error where it is something else.
-    pub fn gives<R: Wait + Copy>(
+    pub fn gives<R: Threads + Wait + Copy + Send + Sync + 'static>(
         &self,
         alloc: Global,
         rt: R,

@@ -1,4 +1,4 @@
-//! Starting a service of the file server on the volume of an image, whose drivers it runs itself: the volume is mounted over that link,
+//! Starting a service of the file server on the volume of an image, whose drivers run in threads of their own: the volume is mounted,
 //! or the start is refused; and a program that runs over the service.
 #![tactic(auto)]
 

@@ -18,7 +18,7 @@ use Rattle.reply_text.specs.Answers.{sessions_text}
 use Rattle.script_play.specs.Made.{has_eio}
 use Rattle.script_play.specs.Served.{AreServed, service_text}
 use Rattle.tools.specs.Status.{is_given_up}
-use Rattle.script_play.specs.declared.players.LastSync.{LastSync}
+use Rattle.shared_server.specs.declared.locked.LastSync.{LastSync}
 use Rattle.tools.specs.declared.play.PlayRefusal.{PlayRefusal}
 use Rattle.tools.specs.declared.play.PlayRefusal.TheVariants.{Files, Start, Service, OutOfMemory, NotWritten}
 

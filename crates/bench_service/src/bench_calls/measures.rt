@@ -4,14 +4,13 @@ use crate::bench_calls::work::{Caller, at_start, copies, measure, once, rewind};
 use bench_layers::timing::say;
 use counting_link::recorder::Recorder;
 use counting_link::room::Room;
-use counting_link::steady::OnMedia;
 use file_server::FileServer;
 use launch::program::Program;
-use reissue::link::TrueLink;
-use serve::service::{Service, Shared};
+use serve::service::Service;
 use std::alloc::Global;
 use std::io;
 use std::sync::Wait;
+use std::thread::Threads;
 use tree::{Call, OpenFlags};
 
 /// Measures calls in a session of user 0.
@@ -20,15 +19,16 @@ pub(crate) struct Measures {
     pub(crate) rt: HostRuntime,
 }
 
-impl<R: Wait + Copy> Program<R> for Measures {
+impl<R: Threads + Wait + Copy + Send + Sync + 'static> Program<R> for Measures {
     type Output = io::Result<()>;
 
     ghost gives = { λ program geometry opening output. Unit {0} };
 
-    fn run<N: Room, L: Recorder<N> + TrueLink + OnMedia, S: FileServer<L>>(
-        self,
-        service: Service<N, Shared<N, R, L, S>>,
-    ) -> io::Result<()>
+    fn run<
+        N: Room + Send + Sync + 'static,
+        L: Recorder<N> + Send + 'static,
+        S: FileServer<L> + Send + 'static,
+    >(self, service: Service<N, R, L, S>) -> io::Result<()>
         ensures { Unit {0} }
     {
         let Ok(mut session) = service.session(0, 0) else {

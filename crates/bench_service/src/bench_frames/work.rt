@@ -8,11 +8,11 @@ use bench_layers::sizes::large_blocks;
 use cache::Cache;
 use driven::Driven;
 use flusher::{flush_some, sync};
-use launch::start::drivers_on;
 use media::Media;
 use media::partition::Table;
 use message::{BlockRequest, Kind};
 use modeldisk::RamDriver;
+use reincarnate::Reincarnation;
 use reincarnate::policy::Policy;
 use reissue::{Link, Transfers};
 use std::alloc::Global;
@@ -39,7 +39,10 @@ fn link(alloc: Global) -> Option<Driven<RamDriver>>
     ensures { IfSome result (λ link. ⟦<Driven<RamDriver> as Link>⟧.budget_left link ≡ 1099511627776) }
 {
     let supply = vec![in alloc; driver()].ok()?;
-    drivers_on(alloc, zeros(alloc)?, Policy::default(), supply).ok()
+    let Ok(reincarnation) = Reincarnation::new(alloc, Policy::default(), supply) else {
+        return None;
+    };
+    Driven::new(alloc, zeros(alloc)?, reincarnation).ok()
 }
 
 /// A cache of so many frames over a driver.

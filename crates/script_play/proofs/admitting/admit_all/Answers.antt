@@ -7,7 +7,7 @@ use Rattle.script_play.proofs.admitting.admit_all.Goals as goal
 pub loop-script-preserved : goal.loop-script-preserved
 loop-script-preserved g c =
     let old = c.loop-script.turns.items in
-    let new = c.push_back.new.self.items in
+    let new = c.push.new.self.items in
     let turn = c.in_ok-turn.turn in
     let items : new ≡ old ++ turn ∷ [] = search rules in
     record {
