@@ -28,8 +28,7 @@ pub record IsMountedTruly {L : Type 0} (truth : L → Truth) (g : Geometry) (v :
 pub record IsMountRefused (v : Opening) (frames : ℕ) (refusal : MountRefusal) : Type 0 where
   pub after : List Told
   pub refused : MountRefused v.minor frames [] (in_words refusal) after
-  pub true_replies : HasTrueReplies (contents_at v) (marks_after refused.acts [])
-  pub said : IsSaidOf (contents_at v) (in_words refusal)
+  pub said : HasTrueReplies (contents_at v) (marks_after refused.acts []) → IsSaidOf (contents_at v) (in_words refusal)
 
 -- the refusal of a mount, as a start has it
 abbrev pub refusal_of : MountRefusal → StartRefusal
