@@ -31,9 +31,11 @@ use Rattle.launch.specs.Stopped.{IsMountedTruly, IsMountRefused, IsStopped, refu
 
 -- ---- what is held
 
-module _ {N L : Type 0} (room : RoomWords N) (words : LinkWords L) (runs_on : L → Policy → List DriverState → Type 0) (record_in : L → List Mark)
+module _ {N L : Type 0} (room : RoomWords N) (words : LinkWords L) (runs_on : L → Policy → List DriverState → Type 0)
+    (record_in : L → List Mark)
     (is_record : (l : L) (v : Opening) (older : List Mark) → words.truth l v older → record_in l ≡ older)
-    (keeps_on : (l m : L) (policy : Policy) (supply : List DriverState) → words.goes_on l m → runs_on l policy supply → runs_on m policy supply)
+    (keeps_on : (l m : L) (policy : Policy) (supply : List DriverState) → words.goes_on l m → runs_on l policy supply
+        → runs_on m policy supply)
     (link : L) (minor frames : ℕ) (same : minor ≡ room.opening.minor) (truth : words.truth link room.opening [])
     (sizes : room.geometry ≡ sizes_in (contents_at room.opening)) where
   module _ (s : Server (Stored L)) (m : IsMounted words link minor frames s) where
@@ -56,7 +58,8 @@ module _ {N L : Type 0} (room : RoomWords N) (words : LinkWords L) (runs_on : L 
       guaranteed = guaranteed;
       holds = λ replies. (
         m.keeps.tree,
-        subst (λ (g : Geometry). IsAtFirst g (contents_at room.opening) m.keeps.tree) (geometry_is replies) (m.keeps.at_first (contents_at room.opening) replies),
+        subst (λ (g : Geometry). IsAtFirst g (contents_at room.opening) m.keeps.tree) (geometry_is replies)
+            (m.keeps.at_first (contents_at room.opening) replies),
       );
     }
 
