@@ -35,7 +35,7 @@ module _ {N L : Type 0} (room : RoomWords N) (words : LinkWords L) (runs_on : L 
     (record_in : L → List Mark)
     (is_record : (l : L) (v : Opening) (older : List Mark) → words.truth l v older → record_in l ≡ older)
     (keeps_on : (l m : L) (policy : Policy) (supply : List DriverState) → words.goes_on l m → runs_on l policy supply
-        → runs_on m policy supply)
+    → runs_on m policy supply)
     (link : L) (minor frames : ℕ) (same : minor ≡ room.opening.minor) (truth : words.truth link room.opening [])
     (sizes : room.geometry ≡ sizes_in (contents_at room.opening)) where
   module _ (s : Server (Stored L)) (m : IsMounted words link minor frames s) where

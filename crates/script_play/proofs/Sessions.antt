@@ -189,7 +189,7 @@ module _ {C E : Type 0} (Vouches Ended : List Mark → Type 0) (state : C → Se
       → Meeting Vouches Ended state script played scripts new rest grown
   meeting_more old new left rest others grown other met is grows same m h =
       let last = results_last Vouches Ended state h.done rest (Ok other)
-          (subst (λ (l : List (Result (Taken C) E)). AreResults Vouches Ended state h.done l) is h.rest) in
+      (subst (λ (l : List (Result (Taken C) E)). AreResults Vouches Ended state h.done l) is h.rest) in
       let back : reverse grown ≡ met ∷ reverse others = ap reverse grows ∙ reverse_more others met in
       let there : IsTurn Vouches Ended last.1 other.played (state met.client) =
       met_second Vouches Ended last.1 other.played old (state other.client) new (state met.client) last.4 h.leads.vouched m in
@@ -270,12 +270,12 @@ module _ {C : Type 0} (Vouches Ended : List Mark → Type 0) (state : C → Sess
   ending_more seen old new left rest all grown other met is grows m h =
       let back : reverse left ≡ other ∷ reverse rest = ap reverse is ∙ reverse_more rest other in
       let first = taken_first h.tail other (reverse rest)
-          (subst (λ (l : List (Taken C)). AreTaken Vouches Ended state h.tail l) back h.taken) in
+      (subst (λ (l : List (Taken C)). AreTaken Vouches Ended state h.tail l) back h.taken) in
       let begun = subst (λ (l : List (Taken C)). HaveSeen state l seen) back h.begun in
       let begins : IsBeginning (state other.client).knows.seen old.knows.seen =
       subst (λ (s : List Mark). IsBeginning (state other.client).knows.seen s) (sym h.same) begun.0 in
       let stays : new.knows.seen ≡ old.knows.seen =
-          longer_is old.knows.seen (state other.client).knows.seen new.knows.seen m.longer begins in
+      longer_is old.knows.seen (state other.client).knows.seen new.knows.seen m.longer begins in
       let there : IsTurn Vouches Ended first.0 other.played met =
       met_second Vouches Ended first.0 other.played old (state other.client) new met first.3 h.leads.vouched m in
       record {
@@ -296,7 +296,7 @@ module _ {C : Type 0} (Vouches Ended : List Mark → Type 0) (state : C → Sess
       → IsTurn Vouches Ended script played now × EachIn Vouches Ended now.knows.seen scripts all
   ending_all seen now left all none h =
       let over : h.tail ≡ [] =
-          taken_none h.tail (subst (λ (l : List (Taken C)). AreTaken Vouches Ended state h.tail (reverse l)) none h.taken) in
+      taken_none h.tail (subst (λ (l : List (Taken C)). AreTaken Vouches Ended state h.tail (reverse l)) none h.taken) in
       let all_of : scripts ≡ h.done = h.split ∙ ap (λ (l : List (ℕ × ℕ × List TimedCall)). h.done ++ l) over ∙ append-nil h.done in (
         h.leads,
         subst (λ (s : List Mark). EachIn Vouches Ended s scripts all) (sym h.same)
@@ -346,7 +346,7 @@ module _ {C E : Type 0} (Vouches Ended : List Mark → Type 0) (state : C → Se
       → HaveEnded Vouches Ended state met others ended all → ArePlayed Vouches Ended scripts grown ended.knows.seen
   all_played scripts results rest last met ended others all grown is grows h first second =
       let parts = results_last Vouches Ended state scripts rest (Ok last)
-          (subst (λ (l : List (Result (Taken C) E)). AreResults Vouches Ended state scripts l) is h) in
+      (subst (λ (l : List (Result (Taken C) E)). AreResults Vouches Ended state scripts l) is h) in
       let one = first parts.1 last.played parts.0 parts.4 parts.3 in
       let two = second parts.1 last.played parts.0 one.0 one.1 one.2 in
       record {

@@ -67,7 +67,7 @@ IsUnplayed image scripts setup supply NotWritten = ⊥
 abbrev pub IsShown : File → List File → Setup → List DriverState → Bool → (List ℕ → Type 0) → Option (List ℕ) → Type 0
 IsShown image scripts setup supply gave WentOut left =
     (played : List Played) × (bytes : List ℕ) × IsPlayed image scripts setup supply played gave bytes × WentOut (sessions_text played)
-        × (left ≡ Some bytes)
+    × (left ≡ Some bytes)
 
 -- whether it is about writing
 abbrev pub is_of_output : PlayRefusal → Bool

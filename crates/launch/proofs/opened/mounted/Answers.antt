@@ -7,7 +7,7 @@ pub over-requires-clause-held : goal.over-requires-clause-held
 over-requires-clause-held g c =
     mounted_held g.N.Room g.L.Link g.L.Supplied.runs_on g.L.Recorder.marks g.met.L.Recorder.is_record g.met.L.Supplied.keeps_on
     c.args.link c.args.minor c.args.frames c.requires.minor c.requires.truth c.requires.geometry c.in-Ok.server c.in-Ok.ensures.mounted
-        c.requires.drivers
+    c.requires.drivers
     (λ call. Unit {0}) (λ call. tt)
 
 pub returns-in_ok-over-in-Ok-clause-holds : goal.returns-in_ok-over-in-Ok-clause-holds

@@ -6,5 +6,5 @@ use Rattle.script_play.proofs.turns.make_calls.Given as goal
 abbrev pub invariant-loop-timed : goal.invariant-loop-timed
 invariant-loop-timed g l =
     Plays g.C.Client.vouches g.C.Client.ended (g.C.Client.state l.fn.client) (take l.timed-index l.calls) l.outcomes.items
-        (g.C.Client.state l.client)
+    (g.C.Client.state l.client)
     × (l.cut ≡ some_cut l.outcomes.items)
