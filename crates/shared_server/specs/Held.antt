@@ -12,11 +12,11 @@ use Rattle.records.specs.Marks.{Mark, gave_up}
 use Rattle.records.specs.Open.{IsWellFormed}
 use Rattle.records.specs.Disk.{HasTrueReplies}
 use Rattle.records.specs.Opening.{Opening, contents_at}
-use Rattle.records.specs.Told.{took_end}
+use Rattle.records.specs.Told.{Told, grown, took_end}
 use Rattle.bdev.specs.DriverState.{DriverState}
 use Rattle.reincarnate.specs.declared.policy.Policy.{Policy}
 use Rattle.records.specs.Legal.{IsAtFirst, IsLegal}
-use Rattle.records.specs.ServerCall.{Serving, Outcome}
+use Rattle.records.specs.ServerCall.{Serving, Outcome, with_outcome}
 use Rattle.records.specs.Session.{SessionState, SessionCallKeeps, IsMadeFor, went_on}
 use Rattle.reissue.specs.declared.link.Link.{Ghosts as LinkWords}
 use Rattle.reissue.specs.Calls.{Truth}
@@ -32,6 +32,11 @@ abbrev pub IsServedCall : Geometry → Opening → Who → ℕ → Call → View
 IsServedCall g v who now call before outcome after =
     SessionCallKeeps g (contents_at v) (session_for who.uid who.gid who.session before) who now call outcome
     (session_for who.uid who.gid who.session after)
+
+-- What a call adds to the record: what the link was told and gave meanwhile, none of which is a client's call, and then, where it was answered,
+-- the call itself, last.
+abbrev pub AddsCall : Who → ℕ → Call → Outcome → List Mark → List Mark → Type 0
+AddsCall who now call outcome before after = (told : List Told) × (after ≡ with_outcome who now call outcome (grown told before))
 
 -- the outcome is EIO exactly where it isn't a cut and the caller has then seen that the device was given up
 abbrev pub IsEioOnceGivenUp : TreeOutcome → List Mark → Type 0

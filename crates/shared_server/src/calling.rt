@@ -4,7 +4,7 @@ ghost use Rattle.std.specs.Prelude.{◌≡◌, ◌↔◌, Some, true};
 ghost use Rattle.records.specs.Told.{took_end};
 ghost use Rattle.records.specs.Session.{tally_of};
 ghost use Rattle.file_server.specs.Over.{outcome_of};
-ghost use Rattle.shared_server.specs.Held.{HoldsIfTrue, IsEioOnceGivenUp, IsGuaranteed, IsHeld, IsServedCall, IsSound};
+ghost use Rattle.shared_server.specs.Held.{AddsCall, HoldsIfTrue, IsEioOnceGivenUp, IsGuaranteed, IsHeld, IsServedCall, IsSound};
 
 use crate::sharing::{count_call, show};
 use board::Seat;
@@ -13,8 +13,9 @@ use counting_link::room::Room;
 use file_server::FileServer;
 use tree::{Call, Outcome, Who};
 
-/// A call of the session that has this seat, which has then seen the whole record. An answer is a mark of it, the last; a cut isn't. With
-/// the outcome comes how many counted marks the record has, modulo 2^64. The server stands with its record as before.
+/// A call of the session that has this seat, which has then seen the whole record. An answer is a mark of it, the last; a cut isn't. No
+/// other call is made meanwhile. With the outcome comes how many counted marks the record has, modulo 2^64. The server stands with its
+/// record as before.
 pub fn make_call<N: Room, L: Recorder<N>, S: FileServer<L>>(
     server: &mut S,
     seat: &mut Seat,
@@ -28,6 +29,7 @@ pub fn make_call<N: Room, L: Recorder<N>, S: FileServer<L>>(
     ensures absorbed { S.absorbed server.new ≡ S.absorbed server.old }
     ensures seat { (seat.new.table ≡ N.table) × (seat.new.view.number ≡ Some who.session) }
     ensures call { IsServedCall N.geometry N.opening who now call.now seat.old.view (outcome_of result.0) seat.new.view }
+    ensures added { AddsCall who now call.now (outcome_of result.0) (L.marks (S.line server.old)) (L.marks (S.line server.new)) }
     ensures seen { seat.new.view.seen ≡ L.marks (S.line server.new) }
     ensures tally { result.1 ≡ tally_of seat.new.view.seen }
     ensures sound { IsSound seat.new.view.seen }

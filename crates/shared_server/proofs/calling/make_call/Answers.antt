@@ -1,6 +1,6 @@
 use Rattle.tree.specs.Answers.{answer_of}
 use Rattle.file_server.specs.Over.{outcome_of}
-use Rattle.shared_server.proofs.HeldLaws.{cut_given, eio_after, eio_given, held_after, held_sound, held_guaranteed, held_volume, session_answered, session_cut}
+use Rattle.shared_server.proofs.HeldLaws.{adds_call, cut_given, eio_after, eio_given, held_after, held_sound, held_guaranteed, held_volume, session_answered, session_cut}
 use Rattle.shared_server.proofs.calling.make_call.Goals as goal
 
 pub returns-in-Reply-clause-held : goal.returns-in-Reply-clause-held
@@ -192,3 +192,47 @@ returns-in-Cut-clause-eio g c =
       counted = λ older truth. rw c.in-Cut.is (c.show.ensures.truth g.N.Room.opening older truth);
     })
     c.requires.held)
+
+pub returns-in-Reply-clause-added : goal.returns-in-Reply-clause-added
+returns-in-Reply-clause-added g c =
+    adds_call
+    g.N.Room g.L.Link g.S.Serve.serving g.S.FileServer.line g.S.FileServer.is_ready g.S.FileServer.knows
+    g.L.Supplied.runs_on g.L.Recorder.marks
+    c.args.who c.args.now c.args.call.now c.call-outcome.result _
+    c.args.server.now c.call-outcome.new.self c.count_call-count.new.server c.in-Reply.is
+    (record {
+      tells = g.met.S.FileServer.tells;
+      is_record = λ l older truth. g.met.L.Recorder.is_record l g.N.Room.opening older truth;
+      end_last = λ l older truth. g.met.L.Recorder.end_last l g.N.Room.opening older truth;
+      keeps_on = λ l m goes runs. g.met.L.Supplied.keeps_on l m g.N.Room.policy g.N.Room.supply goes runs;
+    })
+    (record {
+      calls = c.call-outcome.ensures.keeps;
+      ready = c.call-outcome.ensures.ready;
+      goes = c.call-outcome.ensures.goes;
+      same = c.count_call-count.ensures.same;
+      counted = λ older truth. rw c.in-Reply.is (c.count_call-count.ensures.truth g.N.Room.opening older truth);
+    })
+    c.requires.held
+
+pub returns-in-Cut-clause-added : goal.returns-in-Cut-clause-added
+returns-in-Cut-clause-added g c =
+    adds_call
+    g.N.Room g.L.Link g.S.Serve.serving g.S.FileServer.line g.S.FileServer.is_ready g.S.FileServer.knows
+    g.L.Supplied.runs_on g.L.Recorder.marks
+    c.args.who c.args.now c.args.call.now c.call-outcome.result _
+    c.args.server.now c.call-outcome.new.self c.show.new.server c.in-Cut.is
+    (record {
+      tells = g.met.S.FileServer.tells;
+      is_record = λ l older truth. g.met.L.Recorder.is_record l g.N.Room.opening older truth;
+      end_last = λ l older truth. g.met.L.Recorder.end_last l g.N.Room.opening older truth;
+      keeps_on = λ l m goes runs. g.met.L.Supplied.keeps_on l m g.N.Room.policy g.N.Room.supply goes runs;
+    })
+    (record {
+      calls = c.call-outcome.ensures.keeps;
+      ready = c.call-outcome.ensures.ready;
+      goes = c.call-outcome.ensures.goes;
+      same = c.show.ensures.same;
+      counted = λ older truth. rw c.in-Cut.is (c.show.ensures.truth g.N.Room.opening older truth);
+    })
+    c.requires.held
