@@ -6,6 +6,8 @@ use std::alloc::{AllocError, Global};
 use std::io::{self, ErrorKind, Write};
 use std::sync::Wait;
 use std::test::Fail;
+use std::thread::Threads;
+use std::time::Clock;
 use volume_tools::make::make;
 use volume_tools::verify::verify;
 
@@ -63,7 +65,7 @@ impl Text for Verifying {
 
 /// A script is played on it.
 #[derive(Drop)]
-struct Playing<R: Wait + Copy>(R, Vec<u8>);
+struct Playing<R: Copy>(R, Vec<u8>);
 
 /// The script, and what is written of it.
 const SCRIPT: &str = "user 0 0\n100 stat /\n100 open / r 0\n100 readdir 0\n";
@@ -71,7 +73,7 @@ const SCRIPT: &str = "user 0 0\n100 stat /\n100 open / r 0\n100 readdir 0\n";
 const ANSWERS: &[u8] =
     b"session 0\ninode 1 mode 0040755 links 2 uid 0 gid 0 size 128 times 50 50 50\nfd 0\nnames 0\n";
 
-impl<R: Wait + Copy> Text for Playing<R> {
+impl<R: Threads + Wait + Clock + Copy + Send + Sync + 'static> Text for Playing<R> {
     fn write(&self, alloc: Global, out: &mut Failing, err: &mut Vec<u8>) -> Result<u8, AllocError> {
         let (status, _) = play_script(alloc, self.0, &self.1, SCRIPT, out, err)?;
         Ok(status)

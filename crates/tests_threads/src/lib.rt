@@ -5,7 +5,15 @@
 #[cfg(test)]
 mod drivers;
 #[cfg(test)]
+mod endings;
+#[cfg(test)]
 mod held;
+#[cfg(test)]
+mod left;
+#[cfg(test)]
+mod many;
+#[cfg(test)]
+mod no_wait;
 #[cfg(test)]
 mod read_back;
 #[cfg(test)]

@@ -2,14 +2,18 @@
 
 use gate::{Gate, Point};
 use std::process::Abort;
+use std::sync::Arc;
 use std::sync::atomic::{AtomicBool, AtomicU64, Ordering};
 use std::thread;
 
 /// How many times a thread that is held asks at most before it goes on.
 const ASKS: u64 = 10_000_000;
 
-/// How many times the threads that set the pace yield, at a tick and at a turn of the flusher.
+/// How many times the threads that set the pace yield at least, at a tick and at a turn of the flusher.
 const YIELDS: u64 = 1000;
+
+/// The same in a test that moves many sectors.
+const MANY_YIELDS: u64 = 20_000;
 
 /// The most ticks of a test.
 const TICKS: u64 = 1000;
@@ -19,9 +23,9 @@ const TICKS: u64 = 1000;
 pub(crate) enum Holds {
     /// The flusher.
     Flusher,
-    /// The first driver, and the flusher.
+    /// The first driver.
     FirstDriver,
-    /// Each driver, and the flusher.
+    /// Each driver.
     Drivers,
 }
 
@@ -31,7 +35,7 @@ impl Holds {
         match at {
             Point::DriverStep(1) => self != Holds::Flusher,
             Point::DriverStep(_) => self == Holds::Drivers,
-            Point::FlusherTurn => true,
+            Point::FlusherTurn => self == Holds::Flusher,
             Point::Tick => false,
         }
     }
@@ -41,6 +45,8 @@ impl Holds {
 pub(crate) struct Watch<R: Abort + Copy> {
     rt: R,
     holds: Holds,
+    // How many times the threads that set the pace yield.
+    yields: u64,
     holding: AtomicBool,
     // Steps of drivers that came while drivers were held, and those of them that passed.
     came: AtomicU64,
@@ -60,6 +66,7 @@ impl<R: Abort + Copy> Drop for Watch<R> {
         let Self {
             rt: _,
             holds: _,
+            yields: _,
             holding: _,
             came: _,
             passed: _,
@@ -75,9 +82,19 @@ impl<R: Abort + Copy> Drop for Watch<R> {
 impl<R: Abort + Copy> Watch<R> {
     /// A gate that can hold these, and holds nobody yet.
     pub(crate) fn new(rt: R, holds: Holds) -> Watch<R> {
+        Watch::with_pace(rt, holds, YIELDS)
+    }
+
+    /// The same with slower ticks.
+    pub(crate) fn slow(rt: R, holds: Holds) -> Watch<R> {
+        Watch::with_pace(rt, holds, MANY_YIELDS)
+    }
+
+    fn with_pace(rt: R, holds: Holds, yields: u64) -> Watch<R> {
         Watch {
             rt,
             holds,
+            yields,
             holding: AtomicBool::new(false),
             came: AtomicU64::new(0),
             passed: AtomicU64::new(0),
@@ -172,7 +189,7 @@ impl<R: Abort + Copy> Watch<R> {
 
     // A turn of the flusher.
     fn turn(&self) {
-        for_turns(YIELDS);
+        for_turns(self.yields);
         if !self.is_held(Point::FlusherTurn, &self.flusher_came) {
             self.flusher_came.fetch_add(1, Ordering::SeqCst);
         }
@@ -181,7 +198,7 @@ impl<R: Abort + Copy> Watch<R> {
 
     // A tick.
     fn tick(&self) {
-        for_turns(YIELDS);
+        for_turns(self.yields);
         let earlier = self.ticks.fetch_add(1, Ordering::SeqCst);
         assert!(self.rt; earlier < TICKS, "more than a thousand ticks");
     }
@@ -191,6 +208,17 @@ impl<R: Abort + Copy> Watch<R> {
 pub(crate) fn is_reached(count: &AtomicU64, least: u64) -> bool {
     for _ in 0..ASKS {
         if count.load(Ordering::SeqCst) >= least {
+            return true;
+        }
+        thread::yield_now();
+    }
+    false
+}
+
+/// Waits until nobody else has a gate, or for ten million turns, and says whether nobody has: all threads that ask it have ended then.
+pub(crate) fn is_alone<R: Abort + Copy>(gate: &Arc<Watch<R>>) -> bool {
+    for _ in 0..ASKS {
+        if Arc::strong_count(gate) == 1 {
             return true;
         }
         thread::yield_now();
