@@ -15,14 +15,12 @@ use message::{BlockReply, BlockRequest, Kind};
 use modeldisk::RamDriver;
 use reincarnate::Reincarnation;
 use reincarnate::policy::Policy;
-use std::alloc::Global;
-use std::io;
 use std::marker::Brand;
 use std::sync::atomic::{AtomicU64, Ordering};
 use std::sync::{Arc, Wait};
-use std::thread;
 use std::thread::Threads;
 use std::time::{Duration, Instant};
+use std::{io, thread};
 
 /// How many round trips are made.
 const TRIPS: u32 = 20_000;

@@ -218,7 +218,11 @@ fn wants_memory(outcome: &Outcome) -> bool {
 
 /// On a volume with blocks of this size each call but the two reads comes without memory to what it comes to with it. The reads want
 /// memory, and give then what they would have given.
-fn are_made_without<R: Threads + Wait + Clock + Copy + Send + Sync + 'static>(alloc: Global, rt: R, block: usize) -> Result<(), Fail> {
+fn are_made_without<R: Threads + Wait + Clock + Copy + Send + Sync + 'static>(
+    alloc: Global,
+    rt: R,
+    block: usize,
+) -> Result<(), Fail> {
     let image = new_volume(alloc, block)?;
     let with = outcomes(alloc, rt, &image, false)?;
     let without = outcomes(alloc, rt, &image, true)?;

@@ -83,7 +83,11 @@ impl<R: Wait + Copy> Notes<R> {
     }
 
     /// An image, changed by the writes in their order. None where there was no memory for a note.
-    pub(crate) fn changed(&self, alloc: Global, image: &[u8]) -> Result<Option<Vec<u8>>, AllocError> {
+    pub(crate) fn changed(
+        &self,
+        alloc: Global,
+        image: &[u8],
+    ) -> Result<Option<Vec<u8>>, AllocError> {
         if self.is_short.load(Ordering::SeqCst) {
             return Ok(None);
         }
@@ -121,7 +125,9 @@ impl<R: Wait + Copy> Noting<R> {
     // The bytes that the request in work has for a sector of the media, of which the volume has the first ones.
     fn bytes_of(&self, sector: u32) -> Option<[u8; 512]> {
         let request = self.request?;
-        let at = u64::from(sector).saturating_mul(512).checked_sub(request.position)?;
+        let at = u64::from(sector)
+            .saturating_mul(512)
+            .checked_sub(request.position)?;
         let from = usize::try_from(at).ok()?;
         let mut bytes = [0u8; 512];
         for (place, byte) in bytes.iter_mut().zip(request.bytes.iter().skip(from)) {

@@ -18,6 +18,7 @@ use std::sync::{Arc, Wait};
 use std::test::*;
 use std::thread;
 use std::thread::Threads;
+use std::time::Clock;
 use tests_texts::is_told;
 use tree::Call;
 
@@ -34,7 +35,7 @@ enum Ending {
 
 /// A service ends in which a session has changed the root.
 #[derive(Drop)]
-struct Ends<R: Threads + Wait + Abort + Copy> {
+struct Ends<R: Threads + Wait + Abort + Clock + Copy> {
     alloc: Global,
     rt: R,
     ending: Ending,
@@ -53,7 +54,7 @@ fn change<C: Caller>(session: &mut C, lines: &mut String) {
 }
 
 /// Lets the held driver go once some driver is dropped, in a thread of its own. Whether there is one.
-fn lets_go_later<R: Threads + Wait + Abort + Copy + Send + Sync + 'static>(
+fn lets_go_later<R: Threads + Wait + Abort + Clock + Copy + Send + Sync + 'static>(
     rt: &R,
     gate: &Arc<Watch<R>>,
     notes: &Arc<Notes<R>>,
@@ -68,7 +69,7 @@ fn lets_go_later<R: Threads + Wait + Abort + Copy + Send + Sync + 'static>(
     Some(())
 }
 
-impl<R: Threads + Wait + Abort + Copy + Send + Sync + 'static> Program<R> for Ends<R> {
+impl<R: Threads + Wait + Abort + Clock + Copy + Send + Sync + 'static> Program<R> for Ends<R> {
     /// A line for each answer, and the image, or no bytes where the service was let go.
     type Output = Option<(String, Vec<u8>)>;
 
@@ -104,7 +105,7 @@ impl<R: Threads + Wait + Abort + Copy + Send + Sync + 'static> Program<R> for En
 
 /// What comes of a service of a volume with blocks of this size that ends so, over these drivers' faults, and what its drivers did. By then
 /// all its threads have ended, and all its drivers are dropped.
-fn ended<R: Threads + Wait + Abort + Copy + Send + Sync + 'static>(
+fn ended<R: Threads + Wait + Abort + Clock + Copy + Send + Sync + 'static>(
     alloc: Global,
     rt: R,
     image: &[u8],

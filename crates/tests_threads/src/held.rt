@@ -15,6 +15,7 @@ use std::process::Abort;
 use std::sync::{Arc, Wait};
 use std::test::*;
 use std::thread::Threads;
+use std::time::Clock;
 use tests_texts::is_told;
 use tree::Call;
 
@@ -41,7 +42,7 @@ impl What {
 
 /// A service whose first driver or flusher is held while a session calls.
 #[derive(Drop)]
-struct Held<R: Abort + Copy> {
+struct Held<R: Abort + Clock + Copy> {
     alloc: Global,
     what: What,
     gate: Arc<Watch<R>>,
@@ -69,7 +70,7 @@ fn changes<C: Caller>(session: &mut C, lines: &mut String) {
 }
 
 /// Calls while one of the service's threads is held, which then goes on. Whether it had passed before, and whether it passed then.
-fn calls<R: Abort + Copy, C: Caller>(
+fn calls<R: Abort + Clock + Copy, C: Caller>(
     what: What,
     gate: &Watch<R>,
     session: &mut C,
@@ -100,7 +101,7 @@ fn calls<R: Abort + Copy, C: Caller>(
     (is_early, has_passed)
 }
 
-impl<R: Threads + Wait + Abort + Copy + Send + Sync + 'static> Program<R> for Held<R> {
+impl<R: Threads + Wait + Abort + Clock + Copy + Send + Sync + 'static> Program<R> for Held<R> {
     type Output = Option<Came>;
 
     ghost gives = { λ program geometry opening output. Unit {0} };
@@ -127,7 +128,7 @@ impl<R: Threads + Wait + Abort + Copy + Send + Sync + 'static> Program<R> for He
 }
 
 /// What comes of it over the small volume: these lines, and an image that is the volume changed by what drivers but the first wrote.
-fn comes_out<R: Threads + Wait + Abort + Copy + Send + Sync + 'static>(
+fn comes_out<R: Threads + Wait + Abort + Clock + Copy + Send + Sync + 'static>(
     alloc: Global,
     rt: R,
     what: What,

@@ -17,6 +17,7 @@ use std::process::Abort;
 use std::sync::{Arc, Wait};
 use std::test::*;
 use std::thread::Threads;
+use std::time::Clock;
 use tests_texts::is_told;
 use tree::Call;
 
@@ -26,7 +27,7 @@ struct StopsTwice {
     alloc: Global,
 }
 
-impl<R: Threads + Wait + Abort + Copy + Send + Sync + 'static> Program<R> for StopsTwice {
+impl<R: Threads + Wait + Abort + Clock + Copy + Send + Sync + 'static> Program<R> for StopsTwice {
     /// A line for the answer, and the image. None where the first stop isn't refused since a session is left, or the second one is.
     type Output = Option<(String, Vec<u8>)>;
 

@@ -18,6 +18,7 @@ use std::sync::{Arc, Wait};
 use std::test::*;
 use std::thread;
 use std::thread::Threads;
+use std::time::Clock;
 use tree::{Call, OpenFlags, Outcome, Reply};
 
 /// How many sessions there are.
@@ -29,9 +30,9 @@ const PIECE: usize = 1500;
 const PIECES: u8 = 3;
 
 /// How many blocks of 4096 bytes the volume has, and how many sectors these are.
-const BLOCKS: u32 = 256;
+const BLOCKS: u32 = 160;
 
-const SECTORS: u32 = 2048;
+const SECTORS: u32 = 1280;
 
 /// Each driver dies in its 26th request, when those before it have moved 200 sectors, eight each.
 const FAULT: Fault = Fault {
@@ -89,10 +90,12 @@ fn has_bytes<C: Caller>(session: &mut C, number: u8) -> bool {
             fd: 0,
             count: PIECE as u32,
         };
-        is_right = is_right && match session.make(200, &read) {
-            Outcome::Reply(Reply::Bytes(bytes)) => bytes.as_slice() == [byte(number, piece); PIECE].as_slice(),
-            _ => false,
-        };
+        is_right = is_right
+            && match session.make(200, &read) {
+                Outcome::Reply(Reply::Bytes(bytes)) => bytes.as_slice()
+                    == [byte(number, piece); PIECE].as_slice(),
+                _ => false,
+            };
     }
     let end = session.make(200, &Call::Read { fd: 0, count: 1 });
     let is_end = matches!(end, Outcome::Reply(Reply::Bytes(bytes)) if bytes.is_empty());
@@ -156,7 +159,7 @@ struct Many<R: Threads + Copy> {
     what: What,
 }
 
-impl<R: Threads + Wait + Abort + Copy + Send + Sync + 'static> Program<R> for Many<R> {
+impl<R: Threads + Wait + Abort + Clock + Copy + Send + Sync + 'static> Program<R> for Many<R> {
     /// Whether all was done, and the image.
     type Output = Option<(bool, Vec<u8>)>;
 
@@ -192,7 +195,7 @@ fn faults(alloc: Global) -> Result<Vec<Fault>, AllocError> {
 }
 
 /// It is done over the volume in an image, while drivers die. The image that is left.
-fn done<R: Threads + Wait + Abort + Copy + Send + Sync + 'static>(
+fn done<R: Threads + Wait + Abort + Clock + Copy + Send + Sync + 'static>(
     alloc: Global,
     rt: R,
     image: &[u8],

@@ -19,6 +19,7 @@ use std::process::Abort;
 use std::sync::{Arc, Wait};
 use std::test::*;
 use std::thread::{Threads, join};
+use std::time::Clock;
 use tests_texts::is_told;
 use tree::Call;
 
@@ -27,18 +28,11 @@ fn felt(board: &Board, seat: &mut Seat) -> (u64, u32, (u32, u32))
     requires { seat.old.table ≡ board.now }
 {
     board.beat(seat, 3, 7);
-    (
-        board.tally(seat),
-        board.current(seat),
-        board.pulse(seat),
-    )
+    (board.tally(seat), board.current(seat), board.pulse(seat))
 }
 
 /// Two sessions meet: how many marks each has seen then, and whether the device was given up. It is handed nothing that may wait.
-fn looked_at<N: Room, S>(
-    one: &mut Session<N, S>,
-    two: &mut Session<N, S>,
-) -> (u64, u64, Device) {
+fn looked_at<N: Room, S>(one: &mut Session<N, S>, two: &mut Session<N, S>) -> (u64, u64, Device) {
     one.meet(two);
     let device = one.device();
     (one.seen(), two.seen(), device)
@@ -46,7 +40,7 @@ fn looked_at<N: Room, S>(
 
 /// One session calls while drivers are held; two others look meanwhile.
 #[derive(Drop)]
-struct Looks<R: Threads + Abort + Copy> {
+struct Looks<R: Threads + Abort + Clock + Copy> {
     alloc: Global,
     rt: R,
     gate: Arc<Watch<R>>,
@@ -67,7 +61,7 @@ fn calls<N: Room, R: Threads + Wait + Copy, L: Recorder<N>, S: FileServer<L>>(
 }
 
 /// Two sessions look while a driver is held, which is then let go, and end.
-fn look<N: Room, R: Threads + Wait + Abort + Copy, L: Recorder<N>, S: FileServer<L>>(
+fn look<N: Room, R: Threads + Wait + Abort + Clock + Copy, L: Recorder<N>, S: FileServer<L>>(
     gate: &Watch<R>,
     mut one: Session<N, Shared<N, R, L, S>>,
     mut two: Session<N, Shared<N, R, L, S>>,
@@ -78,10 +72,14 @@ fn look<N: Room, R: Threads + Wait + Abort + Copy, L: Recorder<N>, S: FileServer
     gate.let_go();
     one.end();
     two.end();
-    if is_held && is_still_held { Some(seen) } else { None }
+    if is_held && is_still_held {
+        Some(seen)
+    } else {
+        None
+    }
 }
 
-impl<R: Threads + Wait + Abort + Copy + Send + Sync + 'static> Program<R> for Looks<R> {
+impl<R: Threads + Wait + Abort + Clock + Copy + Send + Sync + 'static> Program<R> for Looks<R> {
     type Output = Option<Came>;
 
     ghost gives = { λ program geometry opening output. Unit {0} };

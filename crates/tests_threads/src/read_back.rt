@@ -17,6 +17,7 @@ use std::process::Abort;
 use std::sync::{Arc, Wait};
 use std::test::*;
 use std::thread::Threads;
+use std::time::Clock;
 use tests_texts::is_told;
 use tree::{Call, OpenFlags};
 
@@ -40,7 +41,7 @@ fn opening(flags: OpenFlags) -> Call<'static> {
 
 /// Two sessions: one writes, the other reads.
 #[derive(Drop)]
-struct WritesAndReads<R: Abort + Copy> {
+struct WritesAndReads<R: Abort + Clock + Copy> {
     alloc: Global,
     gate: Arc<Watch<R>>,
 }
@@ -57,7 +58,7 @@ struct Came {
 
 /// The first session writes, they meet, and the second one reads. Whether both then gave the same number of marks, and whether the driver
 /// had died by then.
-fn write_and_read<R: Abort + Copy, C: Caller>(
+fn write_and_read<R: Abort + Clock + Copy, C: Caller>(
     gate: &Watch<R>,
     one: &mut C,
     two: &mut C,
@@ -74,7 +75,8 @@ fn write_and_read<R: Abort + Copy, C: Caller>(
     (is_equal, has_died)
 }
 
-impl<R: Threads + Wait + Abort + Copy + Send + Sync + 'static> Program<R> for WritesAndReads<R> {
+impl<R: Threads + Wait + Abort + Clock + Copy + Send + Sync + 'static> Program<R>
+    for WritesAndReads<R> {
     type Output = Option<Came>;
 
     ghost gives = { λ program geometry opening output. Unit {0} };
@@ -109,7 +111,7 @@ struct Reads {
     alloc: Global,
 }
 
-impl<R: Threads + Wait + Abort + Copy + Send + Sync + 'static> Program<R> for Reads {
+impl<R: Threads + Wait + Abort + Clock + Copy + Send + Sync + 'static> Program<R> for Reads {
     type Output = Option<String>;
 
     ghost gives = { λ program geometry opening output. Unit {0} };
@@ -137,7 +139,7 @@ impl<R: Threads + Wait + Abort + Copy + Send + Sync + 'static> Program<R> for Re
 }
 
 /// What a further service over an image reads from the file.
-fn is_read<R: Threads + Wait + Abort + Copy + Send + Sync + 'static>(
+fn is_read<R: Threads + Wait + Abort + Clock + Copy + Send + Sync + 'static>(
     alloc: Global,
     rt: R,
     image: &[u8],

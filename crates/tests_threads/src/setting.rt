@@ -11,6 +11,7 @@ use std::process::Abort;
 use std::sync::{Arc, Wait};
 use std::test::Fail;
 use std::thread::Threads;
+use std::time::Clock;
 
 /// The whole image is the volume. A driver that isn't scheduled for a while on a loaded machine is no fault under it, and no number of
 /// faults gives the device up while there are drivers.
@@ -28,7 +29,7 @@ fn patient() -> Setup {
 
 /// What comes of a program over a service on the volume in an image.
 pub(crate) fn served<
-    R: Threads + Wait + Abort + Copy + Send + Sync + 'static,
+    R: Threads + Wait + Abort + Clock + Copy + Send + Sync + 'static,
     P: Program<R>,
 >(
     alloc: Global,

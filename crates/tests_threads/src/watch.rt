@@ -5,6 +5,7 @@ use std::process::Abort;
 use std::sync::Arc;
 use std::sync::atomic::{AtomicBool, AtomicU64, Ordering};
 use std::thread;
+use std::time::{Clock, Duration};
 
 /// How many times a thread that is held asks at most before it goes on.
 const ASKS: u64 = 10_000_000;
@@ -12,8 +13,8 @@ const ASKS: u64 = 10_000_000;
 /// How many times the threads that set the pace yield at least, at a tick and at a turn of the flusher.
 const YIELDS: u64 = 1000;
 
-/// The same in a test that moves many sectors.
-const MANY_YIELDS: u64 = 20_000;
+/// For how many milliseconds they rest then in a test that moves many sectors.
+const REST: u64 = 2;
 
 /// The most ticks of a test.
 const TICKS: u64 = 1000;
@@ -42,11 +43,11 @@ impl Holds {
 }
 
 /// A gate that holds some threads from `hold` on until `let_go`. At its 1001st tick it ends the test.
-pub(crate) struct Watch<R: Abort + Copy> {
+pub(crate) struct Watch<R: Abort + Clock + Copy> {
     rt: R,
     holds: Holds,
-    // How many times the threads that set the pace yield.
-    yields: u64,
+    // For how many milliseconds the threads that set the pace rest.
+    rest: u64,
     holding: AtomicBool,
     // Steps of drivers that came while drivers were held, and those of them that passed.
     came: AtomicU64,
@@ -61,12 +62,12 @@ pub(crate) struct Watch<R: Abort + Copy> {
     is_late: AtomicBool,
 }
 
-impl<R: Abort + Copy> Drop for Watch<R> {
+impl<R: Abort + Clock + Copy> Drop for Watch<R> {
     fn drop(self) {
         let Self {
             rt: _,
             holds: _,
-            yields: _,
+            rest: _,
             holding: _,
             came: _,
             passed: _,
@@ -79,22 +80,22 @@ impl<R: Abort + Copy> Drop for Watch<R> {
     }
 }
 
-impl<R: Abort + Copy> Watch<R> {
+impl<R: Abort + Clock + Copy> Watch<R> {
     /// A gate that can hold these, and holds nobody yet.
     pub(crate) fn new(rt: R, holds: Holds) -> Watch<R> {
-        Watch::with_pace(rt, holds, YIELDS)
+        Watch::with_rest(rt, holds, 0)
     }
 
     /// The same with slower ticks.
     pub(crate) fn slow(rt: R, holds: Holds) -> Watch<R> {
-        Watch::with_pace(rt, holds, MANY_YIELDS)
+        Watch::with_rest(rt, holds, REST)
     }
 
-    fn with_pace(rt: R, holds: Holds, yields: u64) -> Watch<R> {
+    fn with_rest(rt: R, holds: Holds, rest: u64) -> Watch<R> {
         Watch {
             rt,
             holds,
-            yields,
+            rest,
             holding: AtomicBool::new(false),
             came: AtomicU64::new(0),
             passed: AtomicU64::new(0),
@@ -187,9 +188,19 @@ impl<R: Abort + Copy> Watch<R> {
         }
     }
 
+    // Sets the pace.
+    fn wait(&self) {
+        for _ in 0..YIELDS {
+            thread::yield_now();
+        }
+        if self.rest > 0 {
+            thread::sleep(&self.rt, Duration::from_millis(self.rest));
+        }
+    }
+
     // A turn of the flusher.
     fn turn(&self) {
-        for_turns(self.yields);
+        self.wait();
         if !self.is_held(Point::FlusherTurn, &self.flusher_came) {
             self.flusher_came.fetch_add(1, Ordering::SeqCst);
         }
@@ -198,7 +209,7 @@ impl<R: Abort + Copy> Watch<R> {
 
     // A tick.
     fn tick(&self) {
-        for_turns(self.yields);
+        self.wait();
         let earlier = self.ticks.fetch_add(1, Ordering::SeqCst);
         assert!(self.rt; earlier < TICKS, "more than a thousand ticks");
     }
@@ -216,7 +227,7 @@ pub(crate) fn is_reached(count: &AtomicU64, least: u64) -> bool {
 }
 
 /// Waits until nobody else has a gate, or for ten million turns, and says whether nobody has: all threads that ask it have ended then.
-pub(crate) fn is_alone<R: Abort + Copy>(gate: &Arc<Watch<R>>) -> bool {
+pub(crate) fn is_alone<R: Abort + Clock + Copy>(gate: &Arc<Watch<R>>) -> bool {
     for _ in 0..ASKS {
         if Arc::strong_count(gate) == 1 {
             return true;
@@ -226,14 +237,7 @@ pub(crate) fn is_alone<R: Abort + Copy>(gate: &Arc<Watch<R>>) -> bool {
     false
 }
 
-// Lets other threads go on, so many times.
-fn for_turns(turns: u64) {
-    for _ in 0..turns {
-        thread::yield_now();
-    }
-}
-
-impl<R: Abort + Copy + Send + Sync> Gate for Watch<R> {
+impl<R: Abort + Clock + Copy + Send + Sync> Gate for Watch<R> {
     fn pass(&self, at: Point) {
         match at {
             Point::DriverStep(_) => self.step(at),

@@ -9,11 +9,10 @@ use launch::program::Program;
 use serve::service::{Service, Shared};
 use serve::session::Session;
 use std::alloc::Global;
-use std::io;
 use std::sync::Wait;
-use std::thread;
 use std::thread::Threads;
 use std::time::Instant;
+use std::{io, thread};
 use tree::{Call, OpenFlags};
 
 /// Measures calls in a session of user 0, and in eight.
@@ -69,12 +68,7 @@ fn in_threads<
     R: Threads + Wait + Copy + Send + Sync,
     L: Recorder<N> + Send,
     S: FileServer<L> + Send,
->(
-    rt: &HostRuntime,
-    waits: &R,
-    service: &Service<N, R, L, S>,
-    count: u32,
-) -> io::Result<()> {
+>(rt: &HostRuntime, waits: &R, service: &Service<N, R, L, S>, count: u32) -> io::Result<()> {
     let mut sessions = Vec::new(rt.alloc());
     for _ in 0..count {
         let Ok(session) = service.session(0, 0) else {

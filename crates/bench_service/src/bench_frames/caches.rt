@@ -9,9 +9,8 @@ use bench_layers::sizes::large_blocks;
 use bench_layers::timing::{say, tell};
 use board::{Board, Seat};
 use cache::Cache;
-use channel_link::link::ChannelLink;
 use counting_link::room::Room;
-use driver_threads::running::{Running, start_drivers};
+use driver_threads::running::start_drivers;
 use gate::paced_gate::Paced;
 use media::Media;
 use modeldisk::RamDriver;
@@ -54,11 +53,7 @@ fn measure_cache<L: Link>(rt: &HostRuntime, cache: &mut Cache<L>) -> io::Result<
 }
 
 /// Measures a cache of so many frames over a link that may give 2^40 messages.
-fn measure_over<L: Link>(
-    rt: &HostRuntime,
-    link: L,
-    frames: u32,
-) -> io::Result<()>
+fn measure_over<L: Link + Drop>(rt: &HostRuntime, link: L, frames: u32) -> io::Result<()>
     requires { L.budget_left link ≡ 1099511627776 }
 {
     let Ok(transfers) = Transfers::new(rt.alloc(), link) else {
