@@ -2,7 +2,7 @@
 ghost use Rattle.std.specs.Prelude.{◌≡◌};
 ghost use Rattle.true_replies.specs.Events.{opening_media};
 
-use bench_layers::timing::{micros_since, say, tell};
+use bench_layers::timing::{say, tell};
 use board::{Board, Seat};
 use channel_link::channel::{Receiver, Sender, bounded};
 use counting_link::room::Room;
@@ -25,8 +25,8 @@ use std::{io, thread};
 /// How many round trips are made.
 const TRIPS: u32 = 20_000;
 
-/// For how long ticks are counted, in milliseconds.
-const COUNTED: u64 = 200;
+/// For how long ticks are timed, in milliseconds.
+const COUNTED: u64 = 300;
 
 /// Answers each request with its bytes, until nobody asks any more.
 fn answer_all<R: Wait>(rt: &R, mut asked: Receiver<BlockRequest>, mut answers: Sender<BlockReply>) {
@@ -90,30 +90,57 @@ fn round_trips<R: Threads + Wait + Copy + Send + 'static>(
     Ok(())
 }
 
-/// Lets ticks pass as fast as they can, and counts them.
+/// Lets a tick pass each millisecond, and adds up how long the ticks take, from where the gate is passed to where it is asked again.
 #[derive(Drop)]
-struct CountsTicks {
+struct TimesTicks {
+    rt: HostRuntime,
+    start: Instant,
     ticks: AtomicU64,
+    // How long they took, and when the last one began, in nanoseconds.
+    took: AtomicU64,
+    began: AtomicU64,
 }
 
-impl Gate for CountsTicks {
+impl TimesTicks {
+    /// Nanoseconds since the start.
+    fn now(&self) -> u64 {
+        match self.start.elapsed(&self.rt) {
+            Ok(since) => u64::try_from(since.as_nanos()).unwrap_or(0),
+            Err(_) => 0,
+        }
+    }
+
+    /// A tick ends, and the next one begins a millisecond later.
+    fn tick(&self) {
+        let began = self.began.load(Ordering::SeqCst);
+        if began > 0 {
+            self.took
+                .fetch_add(self.now().saturating_sub(began), Ordering::SeqCst);
+            self.ticks.fetch_add(1, Ordering::SeqCst);
+        }
+        thread::sleep(&self.rt, Duration::from_millis(1));
+        self.began.store(self.now(), Ordering::SeqCst);
+    }
+}
+
+impl Gate for TimesTicks {
     fn pass(&self, at: Point) {
         if at == Point::Tick {
-            self.ticks.fetch_add(1, Ordering::SeqCst);
+            self.tick();
         }
     }
 }
 
-/// A policy under which no driver is ever hung.
-const NEVER_HUNG: Policy = Policy {
-    max_faults: 5,
-    cap: 32,
-    calm: 64,
-    misses: u32::MAX,
-};
+/// The default policy, but that a driver may miss 16 heartbeats.
+fn patient() -> Policy {
+    Policy {
+        misses: 16,
+        ..Policy::default()
+    }
+}
 
-/// Counts the ticks over an idle driver of one sector.
-fn count_ticks<N: Room + Send + Sync + 'static, R: Threads + Wait + Copy + Send + Sync + 'static>(
+/// Times the ticks over an idle driver of one sector.
+fn time_ticks<N: Room + Send + Sync + 'static, R: Threads + Wait + Copy + Send + Sync + 'static>(
     rt: &HostRuntime,
     waits: R,
     media: Media,
@@ -127,14 +154,16 @@ fn count_ticks<N: Room + Send + Sync + 'static, R: Threads + Wait + Copy + Send 
 {
     let alloc = rt.alloc();
     let board = Arc::new(alloc, board)?;
-    let gate = Arc::new(
-        alloc,
-        CountsTicks {
-            ticks: AtomicU64::new(0),
-        },
-    )?;
+    let timing = TimesTicks {
+        rt: *rt,
+        start: Instant::now(rt)?,
+        ticks: AtomicU64::new(0),
+        took: AtomicU64::new(0),
+        began: AtomicU64::new(0),
+    };
+    let gate = Arc::new(alloc, timing)?;
     let asked = Arc::try_clone(&gate)?;
-    let (link, running) = start_drivers::<N, RamDriver, CountsTicks, R>(
+    let (link, running) = start_drivers::<N, RamDriver, TimesTicks, R>(
         alloc,
         waits,
         media,
@@ -144,14 +173,12 @@ fn count_ticks<N: Room + Send + Sync + 'static, R: Threads + Wait + Copy + Send 
         seat,
         asked,
     )?;
-    let start = Instant::now(rt)?;
-    let earlier = gate.ticks.load(Ordering::SeqCst);
     thread::sleep(rt, Duration::from_millis(COUNTED));
-    let ticks = gate.ticks.load(Ordering::SeqCst).saturating_sub(earlier);
-    let micros = micros_since(rt, start)?;
+    let ticks = gate.ticks.load(Ordering::SeqCst);
+    let took = gate.took.load(Ordering::SeqCst);
     drop(link);
     let _ = running.stop(&waits);
-    eprintln!(*rt; "ticks that wait for nothing: {ticks} in {micros} microseconds")
+    eprintln!(*rt; "ticks over an idle driver: {ticks} in {took} nanoseconds")
 }
 
 /// Measures ticks.
@@ -164,11 +191,11 @@ fn ticks<R: Threads + Wait + Copy + Send + Sync + 'static>(
         return say(rt, "no memory");
     };
     let supply = vec![in alloc; RamDriver::new(Table::whole(1))]?;
-    let Ok(reincarnation) = Reincarnation::new(alloc, NEVER_HUNG, supply) else {
+    let Ok(reincarnation) = Reincarnation::new(alloc, patient(), supply) else {
         return say(rt, "no memory");
     };
     let (board, seat) = Board::new(alloc)?;
-    count_ticks::<Brand, R>(rt, waits, media, reincarnation, board, seat)
+    time_ticks::<Brand, R>(rt, waits, media, reincarnation, board, seat)
 }
 
 /// Measures both.

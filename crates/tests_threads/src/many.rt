@@ -201,7 +201,7 @@ fn done<R: Threads + Wait + Abort + Clock + Copy + Send + Sync + 'static>(
     image: &[u8],
     what: What,
 ) -> Result<Vec<u8>, Fail> {
-    let gate = Arc::new(alloc, Watch::slow(rt, Holds::Flusher))?;
+    let gate = Arc::new(alloc, Watch::new(rt, Holds::Flusher))?;
     let notes = Arc::new(alloc, Notes::new(alloc, rt))?;
     let supply = drivers(alloc, SECTORS, faults(alloc)?.as_slice(), &notes)?;
     let came = served(alloc, rt, image, supply, &gate, Many { alloc, rt, what })?;

@@ -34,8 +34,7 @@ fn felt(board: &Board, seat: &mut Seat) -> (u64, u32, (u32, u32))
 /// Two sessions meet: how many marks each has seen then, and whether the device was given up. It is handed nothing that may wait.
 fn looked_at<N: Room, S>(one: &mut Session<N, S>, two: &mut Session<N, S>) -> (u64, u64, Device) {
     one.meet(two);
-    let device = one.device();
-    (one.seen(), two.seen(), device)
+    (one.seen(), two.seen(), one.device())
 }
 
 /// One session calls while drivers are held; two others look meanwhile.

@@ -10,11 +10,10 @@ use std::time::{Clock, Duration};
 /// How many times a thread that is held asks at most before it goes on.
 const ASKS: u64 = 10_000_000;
 
-/// How many times the threads that set the pace yield at least, at a tick and at a turn of the flusher.
+/// How many times the threads that set the pace yield, at a tick and at a turn of the flusher, and for how many milliseconds they rest then.
 const YIELDS: u64 = 1000;
 
-/// For how many milliseconds they rest then in a test that moves many sectors.
-const REST: u64 = 2;
+const REST: u64 = 5;
 
 /// The most ticks of a test.
 const TICKS: u64 = 1000;
@@ -46,8 +45,6 @@ impl Holds {
 pub(crate) struct Watch<R: Abort + Clock + Copy> {
     rt: R,
     holds: Holds,
-    // For how many milliseconds the threads that set the pace rest.
-    rest: u64,
     holding: AtomicBool,
     // Steps of drivers that came while drivers were held, and those of them that passed.
     came: AtomicU64,
@@ -67,7 +64,6 @@ impl<R: Abort + Clock + Copy> Drop for Watch<R> {
         let Self {
             rt: _,
             holds: _,
-            rest: _,
             holding: _,
             came: _,
             passed: _,
@@ -83,19 +79,9 @@ impl<R: Abort + Clock + Copy> Drop for Watch<R> {
 impl<R: Abort + Clock + Copy> Watch<R> {
     /// A gate that can hold these, and holds nobody yet.
     pub(crate) fn new(rt: R, holds: Holds) -> Watch<R> {
-        Watch::with_rest(rt, holds, 0)
-    }
-
-    /// The same with slower ticks.
-    pub(crate) fn slow(rt: R, holds: Holds) -> Watch<R> {
-        Watch::with_rest(rt, holds, REST)
-    }
-
-    fn with_rest(rt: R, holds: Holds, rest: u64) -> Watch<R> {
         Watch {
             rt,
             holds,
-            rest,
             holding: AtomicBool::new(false),
             came: AtomicU64::new(0),
             passed: AtomicU64::new(0),
@@ -193,9 +179,7 @@ impl<R: Abort + Clock + Copy> Watch<R> {
         for _ in 0..YIELDS {
             thread::yield_now();
         }
-        if self.rest > 0 {
-            thread::sleep(&self.rt, Duration::from_millis(self.rest));
-        }
+        thread::sleep(&self.rt, Duration::from_millis(REST));
     }
 
     // A turn of the flusher.
