@@ -95,8 +95,8 @@ impl<R: Wait + Copy> Notes<R> {
         let writes = self.writes.lock(&self.rt);
         for written in writes.iter() {
             let from = (written.sector as usize).saturating_mul(512);
-            let sector = changed.iter_mut().skip(from);
-            for (place, byte) in sector.zip(written.bytes.iter()) {
+            let (_, rest) = changed.split_at_mut(from.min(image.len()));
+            for (place, byte) in rest.iter_mut().zip(written.bytes.iter()) {
                 *place = *byte;
             }
         }
