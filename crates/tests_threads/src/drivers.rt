@@ -95,7 +95,8 @@ impl<R: Wait + Copy> Notes<R> {
         let writes = self.writes.lock(&self.rt);
         for written in writes.iter() {
             let from = (written.sector as usize).saturating_mul(512);
-            let (_, rest) = changed.split_at_mut(from.min(image.len()));
+            let at = from.min(changed.len());
+            let (_, rest) = changed.split_at_mut(at);
             for (place, byte) in rest.iter_mut().zip(written.bytes.iter()) {
                 *place = *byte;
             }
