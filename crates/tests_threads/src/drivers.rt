@@ -1,7 +1,5 @@
 //! Drivers that note what they write, and are counted when they are dropped.
 
-ghost use Rattle.std.specs.Prelude.{◌≡◌};
-
 use bdev::{Accept, BlockDriver, Step};
 use media::Media;
 use media::partition::Table;
@@ -150,7 +148,9 @@ impl<R: Wait + Copy> Drop for Noting<R> {
 }
 
 impl<R: Wait + Copy + Send + Sync> BlockDriver for Noting<R> {
-    ghost state = { λ n. ⟦<ScriptedDriver as BlockDriver>⟧.state n.driver };
+    ghost use Rattle.modeldisk.specs.Script.{scripted_state};
+
+    ghost state = { λ n. scripted_state n.driver };
 
     fn accept(&mut self, request: BlockRequest) -> Accept {
         let accept = self.driver.accept(request);
