@@ -10,9 +10,10 @@ use std::time::{Clock, Duration};
 /// How many times a thread that is held asks at most before it goes on.
 const ASKS: u64 = 10_000_000;
 
-/// How many times the threads that set the pace yield, at a tick and at a turn of the flusher, and for how many milliseconds they rest then.
+/// How many times the threads that set the pace yield, at a tick and at a turn of the flusher.
 const YIELDS: u64 = 1000;
 
+/// For how many milliseconds they rest then.
 const REST: u64 = 5;
 
 /// The most ticks of a test.
