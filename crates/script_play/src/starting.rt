@@ -1,5 +1,7 @@
-//! Starting the service on which scripts are played. It isn't a `Program` of `launch`: what is known of the types that a program's `run` takes
-//! is known in one thread alone, and scripts are played in several.
+//! Starting the service on which scripts are played.
+//!
+//! It isn't a `Program` of `launch`: what is known of the types that a program's `run` takes is known in one thread alone, and scripts are
+//! played in several.
 
 ghost use Rattle.std.specs.Prelude.{◌≡◌, ◌≢◌, ◌≤◌, ◌^◌, [], true, IfErr, IfOk, OnOk, map};
 ghost use Rattle.std.specs.Arc.{arc_value};
