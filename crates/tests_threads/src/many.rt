@@ -27,12 +27,12 @@ const SESSIONS: u8 = 64;
 /// How many bytes a write has, and how many writes each session makes.
 const PIECE: usize = 1500;
 
-const PIECES: u8 = 3;
+const PIECES: u8 = 2;
 
 /// How many blocks of 4096 bytes the volume has, and how many sectors these are.
-const BLOCKS: u32 = 160;
+const BLOCKS: u32 = 96;
 
-const SECTORS: u32 = 1280;
+const SECTORS: u32 = 768;
 
 /// Each driver dies in its 26th request, when those before it have moved 200 sectors, eight each.
 const FAULT: Fault = Fault {
@@ -42,7 +42,7 @@ const FAULT: Fault = Fault {
 };
 
 /// How many drivers there are.
-const DRIVERS: usize = 300;
+const DRIVERS: usize = 150;
 
 /// The path of a session's file.
 fn path(number: u8) -> [u8; 3] {
