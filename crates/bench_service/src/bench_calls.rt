@@ -33,7 +33,7 @@ pub fn run<R: Threads + Wait + Copy + Send + Sync + 'static>(
         &setup,
         supply,
         gate,
-        Measures { rt: *rt },
+        Measures { rt: *rt, waits },
     ) {
         Ok(measured) => measured,
         Err(refusal) => eprintln!(*rt; "{refusal}"),

@@ -5,6 +5,7 @@ use std::alloc::{AllocError, Global};
 use std::sync::Wait;
 use std::test::Fail;
 use std::thread::Threads;
+use std::time::Clock;
 
 /// An image: one that can't be read, the first bytes of a new volume's, or a new volume's with a byte at a place changed to another.
 #[derive(Clone, Copy)]
@@ -40,7 +41,7 @@ fn bytes_of(alloc: Global, image: Image) -> Result<Option<Vec<u8>>, AllocError> 
 }
 
 /// The fault of a row is told, of an image whose bytes are these.
-fn is_first<R: Threads + Wait + Copy + Send + Sync + 'static>(
+fn is_first<R: Threads + Wait + Clock + Copy + Send + Sync + 'static>(
     alloc: Global,
     rt: R,
     image: Option<&[u8]>,
@@ -57,7 +58,7 @@ fn is_first<R: Threads + Wait + Copy + Send + Sync + 'static>(
 }
 
 /// The fault of each row is told.
-pub fn are_first<R: Threads + Wait + Copy + Send + Sync + 'static>(
+pub fn are_first<R: Threads + Wait + Clock + Copy + Send + Sync + 'static>(
     alloc: Global,
     rt: R,
     rows: &[Refused],
@@ -73,7 +74,7 @@ pub fn are_first<R: Threads + Wait + Copy + Send + Sync + 'static>(
 pub type Count = (usize, &'static [u8], &'static str);
 
 /// A play of so many scripts over a driver of other media is refused.
-fn is_refused<R: Threads + Wait + Copy + Send + Sync + 'static>(
+fn is_refused<R: Threads + Wait + Clock + Copy + Send + Sync + 'static>(
     alloc: Global,
     rt: R,
     image: &[u8],
@@ -94,7 +95,7 @@ fn is_refused<R: Threads + Wait + Copy + Send + Sync + 'static>(
 }
 
 /// Each of these plays on a new volume, of scripts that are the same but for the last one, is refused over a driver of other media.
-pub fn are_refused<R: Threads + Wait + Copy + Send + Sync + 'static>(
+pub fn are_refused<R: Threads + Wait + Clock + Copy + Send + Sync + 'static>(
     alloc: Global,
     rt: R,
     each: &'static [u8],

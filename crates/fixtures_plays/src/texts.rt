@@ -7,6 +7,7 @@ use std::alloc::{AllocError, Global};
 use std::sync::Wait;
 use std::test::Fail;
 use std::thread::Threads;
+use std::time::Clock;
 
 /// Reads a volume: the root's names and attributes, and the volume's numbers.
 const READS: &[u8] = b"user 0 0
@@ -25,7 +26,7 @@ fn behind<'p>(played: &'p Played, text: &str) -> Option<&'p str> {
 }
 
 /// Looks at whether the play of a text up to its line `unchanged`, if it has one, leaves this image; it is an error where it doesn't.
-fn has_stayed<R: Threads + Wait + Copy + Send + Sync + 'static>(
+fn has_stayed<R: Threads + Wait + Clock + Copy + Send + Sync + 'static>(
     alloc: Global,
     rt: R,
     image: &[u8],
@@ -45,7 +46,7 @@ fn has_stayed<R: Threads + Wait + Copy + Send + Sync + 'static>(
 
 /// Plays a text on an image: the replies are those of the text, nothing is complained of, and the image that is left is as it says, and
 /// clean; another server reads from it what a further session reads. It is an error where that isn't so.
-fn are_played<R: Threads + Wait + Copy + Send + Sync + 'static>(
+fn are_played<R: Threads + Wait + Clock + Copy + Send + Sync + 'static>(
     alloc: Global,
     rt: R,
     image: &[u8],
@@ -102,7 +103,7 @@ fn volume_of(alloc: Global, line: &str) -> Result<Vec<u8>, Fail> {
 
 /// Each play of a text is played on the volume that its first line says; a blank line stands between two of them. It is an error where
 /// there are more or fewer of them than this.
-pub fn all_are_played<R: Threads + Wait + Copy + Send + Sync + 'static>(
+pub fn all_are_played<R: Threads + Wait + Clock + Copy + Send + Sync + 'static>(
     alloc: Global,
     rt: R,
     text: &str,
@@ -125,7 +126,7 @@ pub fn all_are_played<R: Threads + Wait + Copy + Send + Sync + 'static>(
 }
 
 /// A text is played on a new volume of 64 blocks of 1024 bytes, and then another one by another service on the image that is left.
-pub fn both_are_played<R: Threads + Wait + Copy + Send + Sync + 'static>(
+pub fn both_are_played<R: Threads + Wait + Clock + Copy + Send + Sync + 'static>(
     alloc: Global,
     rt: R,
     text: &str,
@@ -138,7 +139,7 @@ pub fn both_are_played<R: Threads + Wait + Copy + Send + Sync + 'static>(
 }
 
 /// Scripts of one call on a new volume: each has its session, and is answered by this line.
-pub fn are_answered<R: Threads + Wait + Copy + Send + Sync + 'static>(
+pub fn are_answered<R: Threads + Wait + Clock + Copy + Send + Sync + 'static>(
     alloc: Global,
     rt: R,
     scripts: &[Option<&[u8]>],

@@ -9,6 +9,7 @@ use std::alloc::Global;
 use std::sync::Wait;
 use std::test::Fail;
 use std::thread::Threads;
+use std::time::Clock;
 use tools::play::{Status, finish};
 
 /// Whether there is an image, a script, how many bytes are taken at a call, on standard output and on standard error, how the play ends,
@@ -36,7 +37,7 @@ fn is_as_said(alloc: Global, played: &Played, status: Status, row: &Narrow) -> R
 }
 
 /// A row comes out as it says, on a new volume.
-fn comes_out<R: Threads + Wait + Copy + Send + Sync + 'static>(
+fn comes_out<R: Threads + Wait + Clock + Copy + Send + Sync + 'static>(
     alloc: Global,
     rt: R,
     image: &[u8],
@@ -53,7 +54,7 @@ fn comes_out<R: Threads + Wait + Copy + Send + Sync + 'static>(
 }
 
 /// Each row comes out as it says.
-pub fn all_come_out<R: Threads + Wait + Copy + Send + Sync + 'static>(
+pub fn all_come_out<R: Threads + Wait + Clock + Copy + Send + Sync + 'static>(
     alloc: Global,
     rt: R,
     rows: &[Narrow],

@@ -4,12 +4,11 @@ use counting_link::recorder::Recorder;
 use counting_link::room::Room;
 use file_server::FileServer;
 use fixtures::gates::HoldsFlusher;
-use fixtures::{MOUNT_READS, supply_at, whole};
+use fixtures::{MOUNT_READS, patient, supply_at};
 use fixtures_sessions::services::{many, stopped, two_in_turn};
 use launch::program::Program;
 use launch::start::serve;
 use modeldisk::FaultKind;
-use reincarnate::policy::{Policy, Setup};
 use serve::service::Service;
 use std::alloc::{AllocError, Global};
 use std::sync::{Arc, Wait};
@@ -66,17 +65,6 @@ impl<R: Threads + Wait + Copy + Send + Sync + 'static> Program<R> for Does {
             }
         };
         Some(Came { lines, image })
-    }
-}
-
-/// The whole image is the volume, and a driver that is slow on a loaded machine isn't hung at once.
-fn patient() -> Setup {
-    Setup {
-        policy: Policy {
-            misses: 16,
-            ..Policy::default()
-        },
-        ..whole()
     }
 }
 

@@ -1,79 +1,108 @@
-//! A driver that is held at its gate is replaced, and writes nothing later: a whole service.
+//! Drivers and a flusher that are held run beside the server: it goes on without them.
 
-use bdev::Driver;
+use crate::drivers::{Notes, drivers};
+use crate::setting::served;
+use crate::watch::{Holds, Watch};
 use counting_link::recorder::Recorder;
 use counting_link::room::Room;
 use file_server::FileServer;
-use fixtures::gates::{for_turns, until};
-use fixtures::{new_volume, whole};
-use gate::{Gate, Point};
+use fixtures::{ROOT, new_volume};
+use fixtures_sessions::callers::{Caller, told};
 use launch::program::Program;
-use launch::start::serve;
-use media::partition::Table;
-use modeldisk::RamDriver;
-use reincarnate::policy::{Policy, Setup};
-use reply_text::text::OutcomeText;
-use serve::service::{Service, Shared};
-use serve::session::Session;
-use std::alloc::{AllocError, Global};
-use std::sync::atomic::{AtomicBool, AtomicU64, Ordering};
+use serve::service::Service;
+use std::alloc::Global;
+use std::process::Abort;
 use std::sync::{Arc, Wait};
-use std::test::Fail;
+use std::test::*;
 use std::thread::Threads;
+use std::time::Clock;
 use tests_texts::is_told;
 use tree::Call;
 
-/// How many turns of other threads a tick takes.
-const YIELDS: u64 = 1000;
-
-/// How many ticks the test has.
-const MOST_TICKS: u64 = 1000;
-
-/// Holds driver 1 until a call was answered.
-#[derive(Drop)]
-struct HoldsFirst {
-    answered: AtomicBool,
-    passed: AtomicU64,
-    ticks: AtomicU64,
+/// Who is held, and what is called meanwhile.
+#[derive(Clone, Copy)]
+enum What {
+    /// The first driver, while the root's attributes are read.
+    Read,
+    /// The first driver, while what was changed is written, twice.
+    Write,
+    /// The flusher.
+    Flusher,
 }
 
-impl Gate for HoldsFirst {
-    fn pass(&self, at: Point) {
-        match at {
-            Point::DriverStep(1) => {
-                until(&self.answered);
-                self.passed.fetch_add(1, Ordering::SeqCst);
-            }
-            Point::DriverStep(_) => {}
-            Point::FlusherTurn => for_turns(YIELDS),
-            Point::Tick => {
-                for_turns(YIELDS);
-                self.ticks.fetch_add(1, Ordering::SeqCst);
-            }
+impl What {
+    // Who is held.
+    fn holds(self) -> Holds {
+        match self {
+            What::Read | What::Write => Holds::FirstDriver,
+            What::Flusher => Holds::Flusher,
         }
     }
 }
 
-/// What is done: a call, after which driver 1 goes on; and whether it had taken a step before.
+/// A service whose first driver or flusher is held while a session calls.
 #[derive(Drop)]
-struct Calls {
+struct Held<R: Abort + Clock + Copy> {
     alloc: Global,
-    gate: Arc<HoldsFirst>,
+    what: What,
+    gate: Arc<Watch<R>>,
 }
 
-/// Makes a call, and adds a line with what it is answered.
-fn told<N: Room, R: Wait + Copy, L: Recorder<N>, S: FileServer<L>>(
-    session: &mut Session<N, Shared<N, R, L, S>>,
-    call: &Call<'_>,
+/// What came of it.
+#[derive(Drop)]
+struct Came {
+    /// A line for each answer.
+    lines: String,
+    /// Whether who was held had passed before it was let go.
+    is_early: bool,
+    /// Whether it passed then.
+    has_passed: bool,
+    /// The image that is left.
+    image: Vec<u8>,
+}
+
+/// Changes the root's permissions and has them written, twice. Its inode is at hand.
+fn changes<C: Caller>(session: &mut C, lines: &mut String) {
+    for mode in [0o700, 0o755] {
+        told(session, 100, &Call::Chmod { path: b"/", mode }, lines);
+        told(session, 100, &Call::Sync, lines);
+    }
+}
+
+/// Calls while one of the service's threads is held, which then goes on. Whether it had passed before, and whether it passed then.
+fn calls<R: Abort + Clock + Copy, C: Caller>(
+    what: What,
+    gate: &Watch<R>,
+    session: &mut C,
     lines: &mut String,
-) {
-    let outcome = session.call(100, call);
-    let shown = OutcomeText(&outcome);
-    let _ = writeln!(lines, "{shown}");
+) -> (bool, bool) {
+    let stat = Call::Stat { path: b"/" };
+    match what {
+        What::Read => {
+            gate.hold();
+            told(session, 100, &stat, lines);
+        }
+        What::Write => {
+            told(session, 100, &stat, lines);
+            gate.hold();
+            changes(session, lines);
+        }
+        What::Flusher => {
+            let _ = gate.awaits_flusher();
+            told(session, 100, &stat, lines);
+        }
+    }
+    let is_early = gate.passed() > 0 || what.holds() == Holds::Flusher && gate.flusher_passed() > 0;
+    gate.let_go();
+    let has_passed = match what.holds() {
+        Holds::Flusher => gate.awaits_flush(),
+        _ => gate.awaits_passed(),
+    };
+    (is_early, has_passed)
 }
 
-impl<R: Threads + Wait + Copy + Send + Sync + 'static> Program<R> for Calls {
-    type Output = Option<(String, u64, Vec<u8>)>;
+impl<R: Threads + Wait + Abort + Clock + Copy + Send + Sync + 'static> Program<R> for Held<R> {
+    type Output = Option<Came>;
 
     ghost gives = { λ program geometry opening output. Unit {0} };
 
@@ -81,78 +110,68 @@ impl<R: Threads + Wait + Copy + Send + Sync + 'static> Program<R> for Calls {
         N: Room + Send + Sync + 'static,
         L: Recorder<N> + Send + 'static,
         S: FileServer<L> + Send + 'static,
-    >(self, service: Service<N, R, L, S>) -> Self::Output
+    >(self, service: Service<N, R, L, S>) -> Option<Came>
         ensures { Unit {0} }
     {
         let mut lines = String::new(self.alloc);
         let mut session = service.session(0, 0).ok()?;
-        told(&mut session, &Call::Stat { path: b"/" }, &mut lines);
-        let early = self.gate.passed.load(Ordering::SeqCst);
-        self.gate.answered.store(true, Ordering::SeqCst);
+        let (is_early, has_passed) = calls(self.what, &self.gate, &mut session, &mut lines);
         session.end();
         let image = service.stop(self.alloc).ok()?;
-        Some((lines, early, image))
+        Some(Came {
+            lines,
+            is_early,
+            has_passed,
+            image,
+        })
     }
 }
 
-/// So many drivers of the small volume.
-fn drivers(alloc: Global, count: usize) -> Result<Vec<Driver>, AllocError> {
-    let mut all: Vec<Driver> = Vec::new(alloc);
-    for _ in 0..count {
-        all.push(Box::new(alloc, RamDriver::new(Table::whole(128)))?)?;
+/// What comes of it over the small volume: these lines, and an image that is the volume changed by what drivers but the first wrote.
+fn comes_out<R: Threads + Wait + Abort + Clock + Copy + Send + Sync + 'static>(
+    alloc: Global,
+    rt: R,
+    what: What,
+    lines: &str,
+) -> Result<(), Fail> {
+    let image = new_volume(alloc, 1024)?;
+    let gate = Arc::new(alloc, Watch::new(rt, what.holds()))?;
+    let notes = Arc::new(alloc, Notes::new(alloc, rt))?;
+    let supply = drivers(alloc, 128, &[], &notes)?;
+    if matches!(what, What::Flusher) {
+        gate.hold();
     }
-    Ok(all)
-}
-
-/// The whole image is the volume, and a driver that is slow on a loaded machine isn't hung at once.
-fn patient() -> Setup {
-    Setup {
-        policy: Policy {
-            max_faults: 32,
-            cap: 1,
-            calm: 1,
-            misses: 16,
-        },
-        ..whole()
-    }
-}
-
-#[test]
-fn a_held_driver_is_replaced(rt: HostRuntime) -> Result<(), Fail> {
-    let alloc = rt.alloc();
-    let gate = Arc::new(
+    let program = Held {
         alloc,
-        HoldsFirst {
-            answered: AtomicBool::new(false),
-            passed: AtomicU64::new(0),
-            ticks: AtomicU64::new(0),
-        },
-    )?;
-    let program = Calls {
-        alloc,
+        what,
         gate: Arc::try_clone(&gate)?,
     };
-    let image = new_volume(alloc, 1024)?;
-    let asked = Arc::try_clone(&gate)?;
-    let supply = drivers(alloc, 33)?;
-    let Ok(Some((lines, early, left))) = serve(
-        alloc,
-        rt,
-        &image,
-        &patient(),
-        supply,
-        asked,
-        program,
-    ) else {
-        return Err(Fail::from("not served"));
-    };
-    is_told(
-        lines.as_str(),
-        "inode 1 mode 0040755 links 2 uid 0 gid 0 size 128 times 50 50 50\n",
-    )?;
-    let ticks = gate.ticks.load(Ordering::SeqCst);
-    if early == 0 && ticks < MOST_TICKS && left.as_slice() == image.as_slice() {
-        return Ok(());
-    }
-    Err(Fail::new(format_args!("{early} steps, {ticks} ticks")))
+    let came = served(alloc, rt, &image, supply, &gate, program)?.ok_or("not stopped")?;
+    is_told(came.lines.as_str(), lines)?;
+    assert!(rt; !came.is_early && came.has_passed);
+    let changed = notes.changed(alloc, &image)?.ok_or("no memory for notes")?;
+    assert!(rt; came.image.as_slice() == changed.as_slice());
+    assert!(rt; !notes.has_written(1));
+    Ok(())
+}
+
+/// The first driver is held before its first step after the start until a later one has answered. The step that it takes then writes
+/// nothing.
+#[test]
+fn held_driver(rt: HostRuntime) -> Result<(), Fail> {
+    comes_out(rt.alloc(), rt, What::Read, ROOT)
+}
+
+/// The same, while the first driver has a write in work: what it would write by its next step is old by then.
+#[test]
+fn held_writer(rt: HostRuntime) -> Result<(), Fail> {
+    let mut lines = String::new(rt.alloc());
+    write!(lines, "{ROOT}ok\nok\nok\nok\n")?;
+    comes_out(rt.alloc(), rt, What::Write, lines.as_str())
+}
+
+/// The flusher is held before its first turn until a call was answered.
+#[test]
+fn held_flusher(rt: HostRuntime) -> Result<(), Fail> {
+    comes_out(rt.alloc(), rt, What::Flusher, ROOT)
 }
