@@ -5,3 +5,4 @@ pub mod Talks
 pub mod Written
 pub mod Sending
 pub mod Connections
+pub mod Fids

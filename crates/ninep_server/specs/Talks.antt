@@ -66,6 +66,10 @@ IsBehindSync (turn.Go work) log = ⊤
 IsBehindSync (turn.Sync session) log = ⊤
 IsBehindSync (turn.Said s) log = s ≡ said.Synced → EndsInSync log
 
+-- By exchanges the sessions came from one state to another, and the answer to a message to this turn.
+abbrev pub Reaches : {S : Type 0} → (S → Ask → Heard → S → Type 0) → S → Turn → S → Type 0
+Reaches may s here t = (log : List Exchange) × Leads may s log t × IsBehindSync here log
+
 -- What was said, behind exchanges that led the sessions from one state to another: that a sync was done, behind one alone.
 abbrev pub HasAsked : {S : Type 0} → (S → Ask → Heard → S → Type 0) → S → Said → S → Type 0
 HasAsked may s it t = (log : List Exchange) × Leads may s log t × (it ≡ said.Synced → EndsInSync log)

@@ -1,7 +1,7 @@
 //! A connection, which answers messages.
 
 ghost use Rattle.std.specs.Prelude.{◌≡◌, ◌<◌, length, IfOk, IfErr, IsErr, OnOk, ◌↔◌, Err};
-ghost use Rattle.ninep_server.specs.Talks.{MayHear, HasAsked, IsPlain, IsBehindSync};
+ghost use Rattle.ninep_server.specs.Talks.{MayHear, Reaches, HasAsked};
 ghost use Rattle.ninep_server.specs.Written.{tag_in};
 
 use crate::answer::{Answer, Said};
@@ -66,23 +66,34 @@ fn tag_of(bytes: &[u8]) -> Result<u16, End>
     Ok(u16::from_le_bytes([bytes[5], bytes[6]]))
 }
 
+/// Asks what a turn waits for, and goes on from what is answered.
+fn step<'m, S: Sessions>(knows: &mut Knows, sessions: &mut S, now: u32, turn: Turn<'m>) -> Turn<'m>
+    ensures { (start : S) → Reaches (MayHear S.called S.entered S.left now) start turn.entry sessions.old
+        → Reaches (MayHear S.called S.entered S.left now) start result sessions.new }
+{
+    match turn {
+        Turn::Said(said) => Turn::Said(said),
+        Turn::Sync(session) => {
+            let call = Call::Sync;
+            Turn::synced(heard(sessions, now, &Ask::Call { session, call }))
+        }
+        Turn::Go(work) => {
+            let heard = heard(sessions, now, &work.ask());
+            Turn::of(work.hear(knows, heard))
+        }
+    }
+}
+
 /// What is said to a request, once what it asks of the sessions was asked in turn.
 fn serve<S: Sessions>(knows: &mut Knows, sessions: &mut S, now: u32, request: &Request<'_>) -> Said
     ensures { HasAsked (MayHear S.called S.entered S.left now) sessions.old result sessions.new }
 {
     let mut turn = begin(knows, now, request);
-    for _ in 0..MOST_ASKED {
-        turn = match turn {
+    'turns: for _ in 0..MOST_ASKED {
+        match turn {
             Turn::Said(said) => return said,
-            Turn::Sync(session) => {
-                let call = Call::Sync;
-                Turn::synced(heard(sessions, now, &Ask::Call { session, call }))
-            }
-            Turn::Go(work) => {
-                let heard = heard(sessions, now, &work.ask());
-                Turn::of(work.hear(knows, heard))
-            }
-        };
+            waiting => turn = step(knows, sessions, now, waiting),
+        }
     }
     match turn {
         Turn::Said(said) => said,

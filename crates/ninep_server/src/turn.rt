@@ -35,9 +35,10 @@ impl<'m> Turn<'m> {
     pub(crate) fn synced(heard: Heard) -> Turn<'m>
         ensures { IsDone heard ⊎ IsPlain result }
     {
-        match heard.done() {
-            Ok(()) => Turn::Said(Said::Synced),
-            Err(refused) => Turn::Said(Said::Plain(Answer::Refused(refused))),
-        }
+        let said = match heard.done() {
+            Ok(()) => Said::Synced,
+            Err(refused) => Said::Plain(Answer::Refused(refused)),
+        };
+        Turn::Said(said)
     }
 }
