@@ -21,7 +21,8 @@ written limit tag s r old new sent is =
 
 -- the numbers of one qid more fit their fields
 pub one_more : (qids : List Qid) (i : ℕ) (q : Qid) → i < length qids → q ≡ slice_index_or qids i q → q.kind < 2 ^ 8 → q.version < 2 ^ 32
-    → q.path < 2 ^ 64 → AllByRecursion Fits (flat_map qid_fields (take i qids)) → AllByRecursion Fits (flat_map qid_fields (take (suc i) qids))
+    → q.path < 2 ^ 64 → AllByRecursion Fits (flat_map qid_fields (take i qids))
+    → AllByRecursion Fits (flat_map qid_fields (take (suc i) qids))
 one_more [] i q h e a b c rest = absurd (omega (arith, h))
 one_more (x ∷ xs) zero q h e a b c rest =
     subst (λ (r : Qid). AllByRecursion Fits (flat_map qid_fields (r ∷ []))) e (a, (b, (c, tt)))

@@ -59,19 +59,20 @@ plainly may start t here a reached = (reached.0, reached.1, λ e. absurd (isnt_s
 pub unasked : {S : Type 0} (may : S → Ask → Heard → S → Type 0) (s : S) (a : Answer) → HasAsked may s (said.Plain a) s
 unasked may s a = plainly may s s (turn.Said (said.Plain a)) a (begins may s (turn.Said (said.Plain a)) tt)
 
+-- what is written with this tag behind these bytes is so with the same ones by other names
+at_mark : (tag mark limit : ℕ) (from old new : List ℕ) (what : Said) → tag ≡ mark → from ≡ old → IsWritten limit tag what from new
+    → IsWritten limit mark what old new
+at_mark tag mark limit from old new what same_tag same h =
+    subst (λ (m : ℕ). IsWritten limit m what old new) same_tag (subst (λ (o : List ℕ). IsWritten limit tag what o new) same h)
+
 -- what was said is written, or that it is too long
 pub answered : {S A E : Type 0} (may : S → Ask → Heard → S → Type 0) (tag mark limit : ℕ) (s t : S) (from old new : List ℕ) (it : Said)
     (r : Result A E) → tag ≡ mark → from ≡ old → HasAsked may s it t
     → OnOk r (IsWritten limit tag it from new ⊎ IsWritten limit tag too_long from new) → OnOk r (Answers may mark limit s t old new)
 answered may tag mark limit s t from old new it (Err e) same_tag same asked written = tt
 answered may tag mark limit s t from old new it (Ok a) same_tag same asked (inl written) =
-    (it, asked, at_mark it written) where
-      at_mark : (what : Said) → IsWritten limit tag what from new → IsWritten limit mark what old new
-      at_mark what h = subst (λ (m : ℕ). IsWritten limit m what old new) same_tag (subst (λ (o : List ℕ). IsWritten limit tag what o new) same h)
+    (it, asked, at_mark tag mark limit from old new it same_tag same written)
 answered may tag mark limit s t from old new it (Ok a) same_tag same asked (inr written) =
-    (too_long, (asked.0, asked.1, λ e. absurd (isnt_synced e)), at_mark too_long written) where
-      at_mark : (what : Said) → IsWritten limit tag what from new → IsWritten limit mark what old new
-      at_mark what h = subst (λ (m : ℕ). IsWritten limit m what old new) same_tag (subst (λ (o : List ℕ). IsWritten limit tag what o new) same h)
-
+    (too_long, (asked.0, asked.1, λ e. absurd (isnt_synced e)), at_mark tag mark limit from old new too_long same_tag same written) where
       isnt_synced : too_long ≡ said.Synced → ⊥
       isnt_synced e = cc

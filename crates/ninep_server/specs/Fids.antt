@@ -6,7 +6,8 @@ use Rattle.ninep_server.specs.declared.fid.Fid.{Fid}
 -- A name became another one. A fid at the old name or below it goes along, unless no memory was found for its path: then it is gone. What
 -- stood at the new name or below it is gone. Any other stays, and each keeps its user, its node and its descriptor.
 pub record IsRenamed (old new : List ℕ) (f g : Fid) : Type 0 where
-  pub moved : (rest : List ℕ) → IsRest rest → f.path.items ≡ old ++ rest → (g.gone ≡ true) ⊎ ((g.path.items ≡ new ++ rest) × (g.gone ≡ f.gone))
+  pub moved : (rest : List ℕ) → IsRest rest → f.path.items ≡ old ++ rest
+      → (g.gone ≡ true) ⊎ ((g.path.items ≡ new ++ rest) × (g.gone ≡ f.gone))
   pub replaced : (rest : List ℕ) → IsRest rest → IsElsewhere old f.path.items → f.path.items ≡ new ++ rest → g.gone ≡ true
   pub others : IsElsewhere old f.path.items → IsElsewhere new f.path.items → g.gone ≡ f.gone
   pub path : IsElsewhere old f.path.items → g.path.items ≡ f.path.items

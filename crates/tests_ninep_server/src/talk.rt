@@ -187,7 +187,7 @@ impl Talk {
     /// To this message the sessions are asked this, and this is the answer. Both are given without the four bytes of their sizes.
     pub(crate) fn hears(&mut self, message: &[u8], asked: &str, answer: &[u8]) -> Result<(), Fail> {
         let mut bytes = Vec::new(self.alloc);
-        let size = (message.len() as u32).saturating_add(4);
+        let size = u32::try_from(message.len())?.saturating_add(4);
         bytes.extend_from_slice(&size.to_le_bytes())?;
         bytes.extend_from_slice(message)?;
         self.fake.asked.clear();
@@ -203,7 +203,7 @@ impl Talk {
             let told = self.fake.asked.as_str();
             return Err(Fail::new(format_args!("{message:?} asks {told}, and not {asked}")));
         }
-        let size = (answer.len() as u32).saturating_add(4).to_le_bytes();
+        let size = u32::try_from(answer.len())?.saturating_add(4).to_le_bytes();
         if out.get(..4) != Some(size.as_slice()) || out.get(4..) != Some(answer) {
             return Err(Fail::new(format_args!(
                 "{message:?} is answered {out:?}, and not {answer:?}"

@@ -8,5 +8,7 @@ pub returns-in_default-clause-none : goal.returns-in_default-clause-none
 returns-in_default-clause-none c other _ = strip_prefix_is Decides-eqb c.args.path.now c.args.old.now None c.in_default.ensures.cases other
 
 pub returns-then-is_rest-clause-some : goal.returns-then-is_rest-clause-some
-returns-then-is_rest-clause-some c =
-    (strip_prefix_is Decides-eqb c.args.path.now c.args.old.now (Some c.in-Some.rest) c.in-Some.ensures.cases, sym c.is_rest.ensures ∙ c.if-is_rest.true)
+returns-then-is_rest-clause-some c = (
+  strip_prefix_is Decides-eqb c.args.path.now c.args.old.now (Some c.in-Some.rest) c.in-Some.ensures.cases,
+  sym c.is_rest.ensures ∙ c.if-is_rest.true,
+)
