@@ -1,0 +1,164 @@
+//! A connection, which answers messages.
+
+ghost use Rattle.std.specs.Prelude.{◌≡◌, ◌<◌, length, IfOk, IfErr, IsErr, OnOk, ◌↔◌, Err};
+ghost use Rattle.ninep_server.specs.Talks.{MayHear, Reaches, HasAsked};
+ghost use Rattle.ninep_server.specs.Written.{tag_in};
+
+use crate::answer::{Answer, Said};
+use crate::ask::Ask;
+use crate::begin::begin;
+use crate::end::End;
+use crate::heard::Heard;
+use crate::knows::Knows;
+use crate::refused::Refused;
+use crate::send::send;
+use crate::sessions::Sessions;
+use crate::turn::Turn;
+use errno::Errno;
+use ninep::fault::Fault;
+use ninep::reading::read;
+use ninep::request::Request;
+use std::alloc::Global;
+use tree::Call;
+
+/// The most that the answer to one message asks of the sessions: a look at each name of a walk is the most that any asks.
+const MOST_ASKED: usize = 16;
+
+/// A connection.
+#[derive(Drop)]
+pub struct Connection {
+    knows: Knows,
+}
+
+/// What the sessions answer.
+fn heard<S: Sessions>(sessions: &mut S, now: u32, ask: &Ask<'_>) -> Heard
+    ensures { MayHear S.called S.entered S.left now sessions.old ask.now result sessions.new }
+{
+    match ask {
+        Ask::Enter { uid, gid } => Heard::Entered(sessions.enter(*uid, *gid)),
+        Ask::Leave => {
+            sessions.leave();
+            Heard::Left
+        }
+        Ask::Call { session, call } => Heard::Outcome(sessions.call(*session, now, call)),
+    }
+}
+
+/// Why a message isn't taken that has a tag.
+fn refusal_of(fault: Fault) -> Refused {
+    match fault {
+        Fault::Unknown => Refused::Unsupported,
+        Fault::Short | Fault::Size | Fault::ManyNames | Fault::Trailing => {
+            Refused::By(Errno::EINVAL)
+        }
+    }
+}
+
+/// The tag of a message.
+fn tag_of(bytes: &[u8]) -> Result<u16, End>
+    ensures tag { IfOk result (λ tag. tag ≡ tag_in bytes.now) }
+    ensures none { IfErr result (λ e. e ≡ End.NoMessage) }
+    ensures short { IsErr result ↔ (length bytes.now < 7) }
+{
+    if bytes.len() < 7 {
+        return Err(End::NoMessage);
+    }
+    Ok(u16::from_le_bytes([bytes[5], bytes[6]]))
+}
+
+/// Asks what a turn waits for, and goes on from what is answered.
+fn step<'m, S: Sessions>(knows: &mut Knows, sessions: &mut S, now: u32, turn: Turn<'m>) -> Turn<'m>
+    ensures { (start : S) → Reaches (MayHear S.called S.entered S.left now) start turn.entry sessions.old
+        → Reaches (MayHear S.called S.entered S.left now) start result sessions.new }
+{
+    match turn {
+        Turn::Said(said) => Turn::Said(said),
+        Turn::Sync(session) => {
+            let call = Call::Sync;
+            Turn::synced(heard(sessions, now, &Ask::Call { session, call }))
+        }
+        Turn::Go(work) => {
+            let heard = heard(sessions, now, &work.ask());
+            Turn::of(work.hear(knows, heard))
+        }
+    }
+}
+
+/// What is said to a request, once what it asks of the sessions was asked in turn.
+fn serve<S: Sessions>(knows: &mut Knows, sessions: &mut S, now: u32, request: &Request<'_>) -> Said
+    ensures { HasAsked (MayHear S.called S.entered S.left now) sessions.old result sessions.new }
+{
+    let mut turn = begin(knows, now, request);
+    'turns: for _ in 0..MOST_ASKED {
+        match turn {
+            Turn::Said(said) => return said,
+            waiting => turn = step(knows, sessions, now, waiting),
+        }
+    }
+    match turn {
+        Turn::Said(said) => said,
+        Turn::Sync(_) | Turn::Go(_) => Said::Plain(Answer::Refused(Refused::By(Errno::EIO))),
+    }
+}
+
+/// What is said to a message, or that there is no room for what could be said.
+fn said_to<S: Sessions>(
+    knows: &mut Knows,
+    sessions: &mut S,
+    now: u32,
+    bytes: &[u8],
+    has_room: bool,
+) -> Said
+    ensures { HasAsked (MayHear S.called S.entered S.left now) sessions.old result sessions.new }
+{
+    if !has_room {
+        return Said::Plain(Answer::Refused(Refused::By(Errno::ENOMEM)));
+    }
+    match read(bytes) {
+        Ok(message) => serve(knows, sessions, now, &message.request),
+        Err(fault) => Said::Plain(Answer::Refused(refusal_of(fault))),
+    }
+}
+
+impl Connection {
+    ghost use Rattle.ninep_server.specs.Connections.{Answers, limit_of};
+
+    /// A connection of no user, whose messages have at most 65560 bytes until a version is settled.
+    pub fn new(alloc: Global) -> Connection
+        ensures { limit_of result ≡ 65560 }
+    {
+        Connection {
+            knows: Knows::new(alloc),
+        }
+    }
+
+    /// The most bytes of a message.
+    pub fn message_size(&self) -> u32
+        ensures { result ≡ limit_of self.now }
+    {
+        self.knows.message_size
+    }
+
+    /// Answers one message, all of its bytes: its answer is written behind what stands in `out`, by what the sessions answer to what they
+    /// are asked.
+    ///
+    /// NoMessage: the bytes have no tag, and nothing is asked or written. OutOfMemory: no memory was found for the answer, and a part of it
+    /// may have been written. Where none is found for the longest answer there may be, nothing is asked, and the answer is ENOMEM.
+    pub fn answer<S: Sessions>(
+        &mut self,
+        sessions: &mut S,
+        now: u32,
+        bytes: &[u8],
+        out: &mut Vec<u8>,
+    ) -> Result<(), End>
+        ensures answered { OnOk result (Answers (MayHear S.called S.entered S.left now) (tag_in bytes.now) (limit_of self.new)
+            sessions.old sessions.new out.old.items out.new.items) }
+        ensures short { (result ≡ Err End.NoMessage) ↔ (length bytes.now < 7) }
+        ensures none { result ≡ Err End.NoMessage → (sessions.new ≡ sessions.old) × (out.new.items ≡ out.old.items) }
+    {
+        let tag = tag_of(bytes)?;
+        let has_room = out.reserve(self.knows.message_size as usize).is_ok();
+        let said = said_to(&mut self.knows, sessions, now, bytes, has_room);
+        send(out, self.knows.message_size, tag, &said)
+    }
+}
