@@ -1,0 +1,49 @@
+//! A gate that tells which drivers work.
+
+use gate::{Gate, Point};
+use std::sync::atomic::{AtomicU32, Ordering};
+
+/// A gate of a service that does as another one does, and tells each driver that takes its first step: a line `started 1.G` on standard
+/// error, for the driver of generation G. A driver that is replaced before it has a step to take isn't told.
+pub struct Telling<G: Gate, E: Eprint> {
+    gate: G,
+    to: E,
+    // The newest generation that was told, 0 at first.
+    newest: AtomicU32,
+}
+
+impl<G: Gate, E: Eprint + Drop> Drop for Telling<G, E> {
+    fn drop(self) {
+        let Self { gate: _, to: _, newest: _ } = self;
+    }
+}
+
+impl<G: Gate, E: Eprint> Telling<G, E> {
+    /// No driver was told.
+    pub fn new(gate: G, to: E) -> Telling<G, E> {
+        Telling {
+            gate,
+            to,
+            newest: AtomicU32::new(0),
+        }
+    }
+
+    /// Tells a driver, unless it or a later one was told. Of two drivers at one time the older one may be left out.
+    fn tell(&self, generation: u32) {
+        if self.newest.load(Ordering::SeqCst) < generation {
+            let before = self.newest.swap(generation, Ordering::SeqCst);
+            if before < generation {
+                let _ = self.to.eprintln(format_args!("started 1.{generation}"));
+            }
+        }
+    }
+}
+
+impl<G: Gate, E: Eprint + Send + Sync + Drop> Gate for Telling<G, E> {
+    fn pass(&self, at: Point) {
+        if let Point::DriverStep(generation) = at {
+            self.tell(generation);
+        }
+        self.gate.pass(at);
+    }
+}
