@@ -1,0 +1,16 @@
+-- Paths of fids: each name behind a slash, so that the root's is empty.
+use Rattle.std.specs.Prelude.{⊤, ◌≡◌, ℕ, List, [], ◌∷◌, ◌++◌}
+
+-- a path as a call has it
+abbrev pub called : List ℕ → List ℕ
+called [] = 47 ∷ []
+called (c ∷ path) = c ∷ path
+
+-- the path of a name in a directory
+abbrev pub below : List ℕ → List ℕ → List ℕ
+below directory name = directory ++ 47 ∷ name
+
+-- what is behind a path in one that is the same or lies below it: nothing, or a slash and more
+abbrev pub IsRest : List ℕ → Type 0
+IsRest [] = ⊤
+IsRest (c ∷ rest) = c ≡ 47

@@ -1,0 +1,45 @@
+//! What a connection answers.
+
+use crate::refused::Refused;
+use ninep::reply::{Attributes, Qid, Room};
+
+/// The answer to a message, before it is written.
+#[derive(Debug, Drop)]
+pub enum Answer {
+    Refused(Refused),
+    Statfs(Room),
+    Open(Qid),
+    Create(Qid),
+    Symlink(Qid),
+    Rename,
+    Readlink(Vec<u8>),
+    Getattr(Attributes),
+    Setattr,
+    /// Entries of a directory, as they are written.
+    Readdir(Vec<u8>),
+    Fsync,
+    /// The lock is granted.
+    Lock,
+    /// No lock stands in the way of this one.
+    Getlock {
+        start: u64,
+        length: u64,
+        process: u32,
+    },
+    Link,
+    Mkdir(Qid),
+    Renameat,
+    Unlinkat,
+    /// The most bytes of a message, and whether the version is one that is spoken here.
+    Version {
+        message_size: u32,
+        known: bool,
+    },
+    Attach(Qid),
+    Flush,
+    Walk(Vec<Qid>),
+    Read(Vec<u8>),
+    Write(u32),
+    Clunk,
+    Remove,
+}

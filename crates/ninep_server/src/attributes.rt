@@ -1,0 +1,277 @@
+//! Attributes: told, and changed.
+
+use crate::answer::Answer;
+use crate::ask::Ask;
+use crate::fid::{Kind, Node};
+use crate::heard::Heard;
+use crate::knows::Knows;
+use crate::paths::called;
+use crate::refused::Refused;
+use crate::work::{Next, Work};
+use errno::Errno;
+use ninep::reply;
+use tree::{Attributes, Call, MAX_NAME, Room};
+
+/// Linux's number of a file system over 9P.
+const KIND: u32 = 0x0102_1997;
+
+/// The bits of the attributes that are told: all that Linux counts as basic ones.
+const BASIC: u64 = 0x7ff;
+
+/// How many bytes are best moved at once, as `stat` says.
+const BEST: u64 = 4096;
+
+/// The room of the volume, as an answer has it.
+pub(crate) fn room_of(room: &Room) -> reply::Room {
+    reply::Room {
+        kind: KIND,
+        block_size: room.block_size,
+        blocks: u64::from(room.zones),
+        free: u64::from(room.free_zones),
+        available: u64::from(room.free_zones),
+        files: u64::from(room.inodes),
+        free_files: u64::from(room.free_inodes),
+        id: 0,
+        name_length: MAX_NAME as u32,
+    }
+}
+
+/// The attributes of a node, as an answer has them. Its blocks are counted by its size.
+fn told(attributes: &Attributes) -> reply::Attributes {
+    let size = u64::from(attributes.size);
+    reply::Attributes {
+        valid: BASIC,
+        qid: Node::of(attributes).qid(),
+        mode: u32::from(attributes.mode),
+        uid: u32::from(attributes.uid),
+        gid: u32::from(attributes.gid),
+        links: u64::from(attributes.links),
+        device: 0,
+        size,
+        block_size: BEST,
+        blocks: size.div_ceil(512),
+        atime: (u64::from(attributes.atime), 0),
+        mtime: (u64::from(attributes.mtime), 0),
+        ctime: (u64::from(attributes.ctime), 0),
+        made: (0, 0),
+        generation: 0,
+        data_version: 0,
+    }
+}
+
+/// The attributes of a fid are asked for: by its descriptor where it is open, else by its path.
+#[derive(Drop)]
+pub(crate) struct Getattr {
+    session: u8,
+    path: Vec<u8>,
+    descriptor: Option<u32>,
+}
+
+impl Getattr {
+    /// ESTALE where the node has lost its name and isn't open.
+    pub(crate) fn begin<'m>(knows: &Knows, fid: u32) -> Result<Next<'m>, Refused> {
+        let file = knows.fids.get(fid)?;
+        if file.gone && file.descriptor.is_none() {
+            return Err(Refused::Stale);
+        }
+        Ok(Next::Go(Work::Getattr(Getattr {
+            session: file.user.session,
+            path: file.path.to_vec(knows.alloc)?,
+            descriptor: file.descriptor,
+        })))
+    }
+
+    pub(crate) fn ask(&self) -> Ask<'_> {
+        let call = match self.descriptor {
+            Some(fd) => Call::Fstat { fd },
+            None => Call::Lstat {
+                path: called(&self.path),
+            },
+        };
+        Ask::Call {
+            session: self.session,
+            call,
+        }
+    }
+
+    pub(crate) fn hear<'m>(self, heard: Heard) -> Result<Next<'m>, Refused> {
+        Ok(Next::Done(Answer::Getattr(told(&heard.attributes()?))))
+    }
+}
+
+/// The bits that say which attributes are changed, and whether times are given or are now.
+const MODE: u32 = 0x1;
+
+const UID: u32 = 0x2;
+
+const GID: u32 = 0x4;
+
+const SIZE: u32 = 0x8;
+
+const ATIME: u32 = 0x10;
+
+const MTIME: u32 = 0x20;
+
+const ATIME_SET: u32 = 0x80;
+
+const MTIME_SET: u32 = 0x100;
+
+/// The attributes that a client wants changed: those of the bits of `valid`.
+#[derive(Clone, Copy, Debug)]
+pub(crate) struct Wanted {
+    pub(crate) valid: u32,
+    pub(crate) mode: u32,
+    pub(crate) uid: u32,
+    pub(crate) gid: u32,
+    pub(crate) size: u64,
+    /// Seconds since 1970, as the other times.
+    pub(crate) atime: u64,
+    pub(crate) mtime: u64,
+    /// The time that "now" means.
+    pub(crate) now: u32,
+}
+
+/// What a time becomes: the given one, now, or what it was. EINVAL where it doesn't fit the volume.
+fn time(valid: u32, bits: (u32, u32), given: u64, now: u32, was: u32) -> Result<u32, Refused> {
+    if valid & bits.0 == 0 {
+        return Ok(was);
+    }
+    if valid & bits.1 == 0 {
+        return Ok(now);
+    }
+    match u32::try_from(given) {
+        Ok(seconds) => Ok(seconds),
+        Err(_) => Err(Refused::By(Errno::EINVAL)),
+    }
+}
+
+/// What an owner becomes: the given one, or what it was. EINVAL where it doesn't fit the volume.
+fn owner(valid: u32, bit: u32, given: u32, was: u16) -> Result<u16, Refused> {
+    if valid & bit == 0 {
+        return Ok(was);
+    }
+    match u16::try_from(given) {
+        Ok(number) => Ok(number),
+        Err(_) => Err(Refused::By(Errno::EINVAL)),
+    }
+}
+
+/// What is left to change, in this order.
+#[derive(Clone, Copy, Debug)]
+struct Changes {
+    size: Option<u32>,
+    owners: Option<(u16, u16)>,
+    mode: Option<u16>,
+    times: Option<(u32, u32)>,
+}
+
+impl Wanted {
+    /// The changes, where the node is so.
+    fn changes(&self, was: &Attributes) -> Result<Changes, Refused> {
+        let valid = self.valid;
+        let size = match u32::try_from(self.size) {
+            _ if valid & SIZE == 0 => None,
+            Ok(size) => Some(size),
+            Err(_) => return Err(Refused::By(Errno::EFBIG)),
+        };
+        let uid = owner(valid, UID, self.uid, was.uid)?;
+        let gid = owner(valid, GID, self.gid, was.gid)?;
+        let atime = time(valid, (ATIME, ATIME_SET), self.atime, self.now, was.atime)?;
+        let mtime = time(valid, (MTIME, MTIME_SET), self.mtime, self.now, was.mtime)?;
+        Ok(Changes {
+            size,
+            owners: (valid & (UID | GID) != 0).then_some((uid, gid)),
+            mode: (valid & MODE != 0).then_some((self.mode & 0o7777) as u16),
+            times: (valid & (ATIME | MTIME) != 0).then_some((atime, mtime)),
+        })
+    }
+}
+
+impl Changes {
+    /// The call that makes the first of them.
+    fn call<'a>(&self, path: &'a [u8]) -> Option<Call<'a>> {
+        if let Some(size) = self.size {
+            Some(Call::Truncate { path, size })
+        } else if let Some((uid, gid)) = self.owners {
+            Some(Call::Chown { path, uid, gid })
+        } else if let Some(mode) = self.mode {
+            Some(Call::Chmod { path, mode })
+        } else if let Some((atime, mtime)) = self.times {
+            Some(Call::Utime { path, atime, mtime })
+        } else {
+            None
+        }
+    }
+
+    /// Those behind the first one.
+    fn rest(self) -> Changes {
+        if self.size.is_some() {
+            Changes { size: None, ..self }
+        } else if self.owners.is_some() {
+            Changes {
+                owners: None,
+                ..self
+            }
+        } else if self.mode.is_some() {
+            Changes { mode: None, ..self }
+        } else {
+            Changes {
+                times: None,
+                ..self
+            }
+        }
+    }
+}
+
+/// Attributes of a fid are changed: first it is looked at, and then one change is made after the other.
+#[derive(Drop)]
+pub(crate) struct Setattr {
+    session: u8,
+    path: Vec<u8>,
+    wanted: Wanted,
+    /// What is left to change; none before the look.
+    left: Option<Changes>,
+}
+
+impl Setattr {
+    /// ESTALE where the node has lost its name, EOPNOTSUPP for a symbolic link.
+    pub(crate) fn begin<'m>(knows: &Knows, fid: u32, wanted: Wanted) -> Result<Next<'m>, Refused> {
+        let file = knows.fids.named(fid)?;
+        if file.node.kind == Kind::Symlink {
+            return Err(Refused::Unsupported);
+        }
+        Ok(Next::Go(Work::Setattr(Setattr {
+            session: file.user.session,
+            path: file.path.to_vec(knows.alloc)?,
+            wanted,
+            left: None,
+        })))
+    }
+
+    pub(crate) fn ask(&self) -> Ask<'_> {
+        let path = called(&self.path);
+        let change = match self.left {
+            Some(changes) => changes.call(path),
+            None => None,
+        };
+        Ask::Call {
+            session: self.session,
+            call: change.unwrap_or(Call::Lstat { path }),
+        }
+    }
+
+    pub(crate) fn hear<'m>(mut self, heard: Heard) -> Result<Next<'m>, Refused> {
+        let left = match self.left {
+            None => self.wanted.changes(&heard.attributes()?)?,
+            Some(changes) => {
+                heard.done()?;
+                changes.rest()
+            }
+        };
+        if left.call(b"").is_none() {
+            return Ok(Next::Done(Answer::Setattr));
+        }
+        self.left = Some(left);
+        Ok(Next::Go(Work::Setattr(self)))
+    }
+}

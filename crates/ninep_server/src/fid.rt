@@ -1,0 +1,97 @@
+//! What a fid is.
+
+use crate::paths::{joined, rest};
+use crate::users::User;
+use ninep::reply::Qid;
+use std::alloc::Global;
+use tree::Attributes;
+
+/// What kind of node a fid stands on.
+#[derive(Clone, Copy, Debug, PartialEq, Eq)]
+pub(crate) enum Kind {
+    File,
+    Directory,
+    Symlink,
+}
+
+/// The node that a fid stands on.
+#[derive(Clone, Copy, Debug, PartialEq, Eq)]
+pub(crate) struct Node {
+    pub(crate) inode: u16,
+    pub(crate) kind: Kind,
+}
+
+impl Node {
+    /// The node with these attributes.
+    pub(crate) fn of(attributes: &Attributes) -> Node {
+        let kind = match attributes.mode / 0o10000 {
+            0o04 => Kind::Directory,
+            0o12 => Kind::Symlink,
+            _ => Kind::File,
+        };
+        Node {
+            inode: attributes.inode,
+            kind,
+        }
+    }
+
+    /// Its name to the client.
+    pub(crate) fn qid(&self) -> Qid {
+        let kind = match self.kind {
+            Kind::File => 0,
+            Kind::Directory => 0x80,
+            Kind::Symlink => 0x02,
+        };
+        Qid {
+            kind,
+            version: 0,
+            path: u64::from(self.inode),
+        }
+    }
+}
+
+/// What a fid stands for.
+#[derive(Debug, Drop)]
+pub(crate) struct Fid {
+    pub(crate) user: User,
+    /// Where its node's name is, if it isn't gone.
+    pub(crate) path: Vec<u8>,
+    pub(crate) node: Node,
+    /// The descriptor of its user's session, if the fid is open.
+    pub(crate) descriptor: Option<u32>,
+    /// Whether the node has lost that name: then only the descriptor leads to it.
+    pub(crate) gone: bool,
+}
+
+impl Fid {
+    /// A fid that isn't open.
+    pub(crate) fn closed(user: User, path: Vec<u8>, node: Node) -> Fid {
+        Fid {
+            user,
+            path,
+            node,
+            descriptor: None,
+            gone: false,
+        }
+    }
+
+    /// The old name is the new one now, and what stood at the new one is gone: the fid stays on its node. Where no memory is found for
+    /// its path, it counts as gone.
+    pub(crate) fn rename(&mut self, alloc: Global, old: &[u8], new: &[u8]) {
+        if let Some(rest) = rest(&self.path, old) {
+            match joined(alloc, new, rest) {
+                Ok(path) => self.path = path,
+                Err(_) => self.gone = true,
+            }
+        } else if rest(&self.path, new).is_some() {
+            self.gone = true;
+        }
+    }
+
+    /// The name at this path is gone.
+    pub(crate) fn unlink(&mut self, path: &[u8]) {
+        if rest(&self.path, path).is_some() {
+            self.gone = true;
+        }
+    }
+}

@@ -1,0 +1,106 @@
+//! The fids of a connection.
+
+use crate::fid::{Fid, Node};
+use crate::refused::Refused;
+use errno::Errno;
+use std::alloc::{AllocError, Global};
+use std::collections::BTreeMap;
+
+/// The most fids of a connection; past them a walk or an attach is refused with ENFILE.
+pub(crate) const MAX_FIDS: usize = 4096;
+
+/// The fids of a connection, by their numbers.
+#[derive(Drop)]
+pub(crate) struct Fids {
+    fids: BTreeMap<u32, Fid>,
+}
+
+impl Fids {
+    /// None.
+    pub(crate) fn new(alloc: Global) -> Fids {
+        Fids {
+            fids: BTreeMap::new(alloc),
+        }
+    }
+
+    /// What a fid stands for; EBADF where there is none.
+    pub(crate) fn get(&self, fid: u32) -> Result<&Fid, Refused> {
+        match self.fids.get(&fid) {
+            Some(found) => Ok(found),
+            None => Err(Refused::By(Errno::EBADF)),
+        }
+    }
+
+    /// What a fid stands for whose node has its name; ESTALE where it has lost it.
+    pub(crate) fn named(&self, fid: u32) -> Result<&Fid, Refused> {
+        let found = self.get(fid)?;
+        if found.gone {
+            return Err(Refused::Stale);
+        }
+        Ok(found)
+    }
+
+    /// The descriptor of an open fid, with its session; EBADF where it isn't open.
+    pub(crate) fn open(&self, fid: u32) -> Result<(u8, u32), Refused> {
+        let found = self.get(fid)?;
+        match found.descriptor {
+            Some(fd) => Ok((found.user.session, fd)),
+            None => Err(Refused::By(Errno::EBADF)),
+        }
+    }
+
+    /// Refuses a number for a new fid: EINVAL where it is used, ENFILE where there are as many fids as may be.
+    pub(crate) fn check_new(&self, fid: u32) -> Result<(), Refused> {
+        if self.fids.contains_key(&fid) {
+            return Err(Refused::By(Errno::EINVAL));
+        }
+        if self.fids.len() >= MAX_FIDS {
+            return Err(Refused::By(Errno::ENFILE));
+        }
+        Ok(())
+    }
+
+    /// The number stands for this from now on.
+    pub(crate) fn put(&mut self, fid: u32, what: Fid) -> Result<(), AllocError> {
+        self.fids.insert(fid, what)?;
+        Ok(())
+    }
+
+    /// The fid is open from now on. Its node.
+    pub(crate) fn opened(&mut self, fid: u32, fd: u32) -> Result<Node, Refused> {
+        match self.fids.get_mut(&fid) {
+            Some(found) => {
+                found.descriptor = Some(fd);
+                Ok(found.node)
+            }
+            None => Err(Refused::By(Errno::EBADF)),
+        }
+    }
+
+    /// Lets a fid go.
+    pub(crate) fn take(&mut self, fid: u32) -> Result<Fid, Refused> {
+        match self.fids.remove(&fid) {
+            Some(taken) => Ok(taken),
+            None => Err(Refused::By(Errno::EBADF)),
+        }
+    }
+
+    /// A name was changed: each fid stays on its node.
+    pub(crate) fn rename(&mut self, alloc: Global, old: &[u8], new: &[u8]) {
+        for fid in self.fids.values_mut() {
+            fid.rename(alloc, old, new);
+        }
+    }
+
+    /// A name was taken away: what had it is gone.
+    pub(crate) fn unlink(&mut self, path: &[u8]) {
+        for fid in self.fids.values_mut() {
+            fid.unlink(path);
+        }
+    }
+
+    /// All go.
+    pub(crate) fn clear(&mut self) {
+        self.fids.clear();
+    }
+}

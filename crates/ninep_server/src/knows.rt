@@ -1,0 +1,46 @@
+//! What a connection knows.
+
+ghost use Rattle.std.specs.Prelude.{◌≡◌, ◌+◌, ◌≤◌};
+
+use crate::fids::Fids;
+use crate::users::Users;
+use std::alloc::Global;
+
+/// The fewest bytes that a client may have its messages limited to.
+pub const MIN_MESSAGE: u32 = 4096;
+
+/// The most bytes of a message: those of a read of 64 KiB, and what stands before them.
+pub const MAX_MESSAGE: u32 = 65560;
+
+/// How many bytes of a message its data leave to what stands before them.
+pub const HEAD: u32 = 24;
+
+/// What a connection knows.
+#[derive(Drop)]
+pub(crate) struct Knows {
+    pub(crate) alloc: Global,
+    /// The most bytes of a message.
+    pub(crate) message_size: u32,
+    pub(crate) users: Users,
+    pub(crate) fids: Fids,
+    ghost sized: { (4096 ≤ message_size) × (message_size ≤ 65560) },
+}
+
+impl Knows {
+    /// A new connection's: no user is attached.
+    pub(crate) fn new(alloc: Global) -> Knows {
+        Knows {
+            alloc,
+            message_size: MAX_MESSAGE,
+            users: Users::new(alloc),
+            fids: Fids::new(alloc),
+        }
+    }
+
+    /// The most bytes that a read, a write or a list of names may move.
+    pub(crate) fn most(&self) -> u32
+        ensures { result + 24 ≡ self.now.message_size }
+    {
+        self.message_size - HEAD
+    }
+}

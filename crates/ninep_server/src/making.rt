@@ -1,0 +1,126 @@
+//! Making a directory or a symbolic link.
+
+use crate::answer::Answer;
+use crate::ask::Ask;
+use crate::creation::{group_of, mode_of};
+use crate::fid::Node;
+use crate::heard::Heard;
+use crate::knows::Knows;
+use crate::paths::called;
+use crate::refused::Refused;
+use crate::walk::named;
+use crate::work::{Next, Work};
+use tree::Call;
+
+/// What is made.
+#[derive(Clone, Copy, Debug)]
+pub(crate) enum Made<'m> {
+    Directory { mode: u16 },
+    Symlink { target: &'m [u8] },
+}
+
+/// How far the making is.
+#[derive(Clone, Copy, Debug)]
+enum Stage {
+    /// It is made.
+    Make,
+    /// It is given its group.
+    Chown { gid: u16 },
+    /// It is looked at.
+    Look,
+}
+
+/// A directory or a symbolic link is made.
+#[derive(Drop)]
+pub(crate) struct Making<'m> {
+    session: u8,
+    path: Vec<u8>,
+    made: Made<'m>,
+    /// The group that it is given; a symbolic link is given none.
+    group: Option<u16>,
+    stage: Stage,
+}
+
+impl<'m> Making<'m> {
+    /// Makes a directory.
+    pub(crate) fn mkdir(
+        knows: &Knows,
+        directory: u32,
+        name: &[u8],
+        mode: u32,
+        gid: u32,
+    ) -> Result<Next<'m>, Refused> {
+        let parent = knows.fids.named(directory)?;
+        Ok(Next::Go(Work::Make(Making {
+            session: parent.user.session,
+            path: named(knows.alloc, &parent.path, name)?,
+            made: Made::Directory {
+                mode: mode_of(mode),
+            },
+            group: group_of(parent.user, gid),
+            stage: Stage::Make,
+        })))
+    }
+
+    /// Makes a symbolic link.
+    pub(crate) fn symlink(
+        knows: &Knows,
+        directory: u32,
+        name: &[u8],
+        target: &'m [u8],
+    ) -> Result<Next<'m>, Refused> {
+        let parent = knows.fids.named(directory)?;
+        Ok(Next::Go(Work::Make(Making {
+            session: parent.user.session,
+            path: named(knows.alloc, &parent.path, name)?,
+            made: Made::Symlink { target },
+            group: None,
+            stage: Stage::Make,
+        })))
+    }
+
+    /// The call of its stage.
+    fn call(&self) -> Call<'_> {
+        let path = called(&self.path);
+        match self.stage {
+            Stage::Make => match self.made {
+                Made::Directory { mode } => Call::Mkdir { path, mode },
+                Made::Symlink { target } => Call::Symlink { target, path },
+            },
+            Stage::Chown { gid } => Call::Chown { path, uid: 0, gid },
+            Stage::Look => Call::Lstat { path },
+        }
+    }
+
+    pub(crate) fn ask(&self) -> Ask<'_> {
+        Ask::Call {
+            session: self.session,
+            call: self.call(),
+        }
+    }
+
+    pub(crate) fn hear(mut self, heard: Heard) -> Result<Next<'m>, Refused> {
+        match self.stage {
+            Stage::Make => {
+                heard.done()?;
+                self.stage = match self.group {
+                    Some(gid) => Stage::Chown { gid },
+                    None => Stage::Look,
+                };
+                Ok(Next::Go(Work::Make(self)))
+            }
+            Stage::Chown { .. } => {
+                heard.done()?;
+                self.stage = Stage::Look;
+                Ok(Next::Go(Work::Make(self)))
+            }
+            Stage::Look => {
+                let qid = Node::of(&heard.attributes()?).qid();
+                Ok(Next::Done(match self.made {
+                    Made::Directory { .. } => Answer::Mkdir(qid),
+                    Made::Symlink { .. } => Answer::Symlink(qid),
+                }))
+            }
+        }
+    }
+}

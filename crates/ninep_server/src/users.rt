@@ -1,0 +1,46 @@
+//! Users and their sessions.
+
+use std::alloc::{AllocError, Global};
+
+/// A user who is attached, and its session.
+#[derive(Clone, Copy, Debug, PartialEq, Eq)]
+pub(crate) struct User {
+    pub(crate) uid: u16,
+    pub(crate) session: u8,
+}
+
+/// The users who are attached.
+#[derive(Drop)]
+pub(crate) struct Users {
+    users: Vec<User>,
+}
+
+impl Users {
+    /// None.
+    pub(crate) fn new(alloc: Global) -> Users {
+        Users {
+            users: Vec::new(alloc),
+        }
+    }
+
+    /// The user with this number, if it is attached.
+    pub(crate) fn find(&self, uid: u16) -> Option<User> {
+        self.users.iter().find(|user| user.uid == uid).copied()
+    }
+
+    /// Finds the memory for a user more.
+    pub(crate) fn reserve(&mut self) -> Result<(), AllocError> {
+        self.users.reserve(1)
+    }
+
+    /// A user more.
+    pub(crate) fn put(&mut self, user: User) -> Result<(), AllocError> {
+        self.users.push(user)?;
+        Ok(())
+    }
+
+    /// All go.
+    pub(crate) fn clear(&mut self) {
+        self.users.clear();
+    }
+}

@@ -1,0 +1,130 @@
+//! What the answer to a message waits for.
+
+use crate::answer::Answer;
+use crate::ask::Ask;
+use crate::attach::{Attach, Version};
+use crate::attributes::{Getattr, Setattr};
+use crate::creation::Creation;
+use crate::heard::Heard;
+use crate::knows::Knows;
+use crate::listing::Listing;
+use crate::making::Making;
+use crate::naming::{Link, Remove, Rename, Unlink};
+use crate::opening::{Close, Opening, Readlink};
+use crate::refused::Refused;
+use crate::transfer::Transfer;
+use crate::walk::Walk;
+use tree::Call;
+
+/// What the answer to a message waits for: what it asks next of the sessions, and how it goes on.
+#[derive(Drop)]
+pub(crate) enum Work<'m> {
+    Version(Version),
+    Attach(Attach),
+    Walk(Walk<'m>),
+    Open(Opening),
+    Create(Creation),
+    Make(Making<'m>),
+    Transfer(Transfer<'m>),
+    List(Listing),
+    Getattr(Getattr),
+    Setattr(Setattr),
+    Readlink(Readlink),
+    Link(Link),
+    Rename(Rename),
+    Unlink(Unlink),
+    Remove(Remove),
+    Close(Close),
+    /// The room of the volume, as this session is told it.
+    Statfs(u8),
+    /// A sync by this session.
+    Fsync(u8),
+}
+
+/// How the answer to a message goes on.
+#[derive(Drop)]
+pub(crate) enum Next<'m> {
+    /// It asks something more.
+    Go(Work<'m>),
+    /// It is known.
+    Done(Answer),
+}
+
+impl<'m> Next<'m> {
+    /// A refusal is an answer.
+    pub(crate) fn of(next: Result<Next<'m>, Refused>) -> Next<'m> {
+        match next {
+            Ok(next) => next,
+            Err(refused) => Next::Done(Answer::Refused(refused)),
+        }
+    }
+}
+
+impl<'m> Work<'m> {
+    /// What it asks of the sessions.
+    pub(crate) fn ask(&self) -> Ask<'_> {
+        match self {
+            Work::Version(_) => Ask::Leave,
+            Work::Attach(work) => work.ask(),
+            Work::Walk(work) => work.ask(),
+            Work::Open(work) => work.ask(),
+            Work::Create(work) => work.ask(),
+            Work::Make(work) => work.ask(),
+            Work::Transfer(work) => work.ask(),
+            Work::List(work) => work.ask(),
+            Work::Getattr(work) => work.ask(),
+            Work::Setattr(work) => work.ask(),
+            Work::Readlink(work) => work.ask(),
+            Work::Link(work) => work.ask(),
+            Work::Rename(work) => work.ask(),
+            Work::Unlink(work) => work.ask(),
+            Work::Remove(work) => work.ask(),
+            Work::Close(work) => work.ask(),
+            Work::Statfs(session) => Ask::Call {
+                session: *session,
+                call: Call::Statfs,
+            },
+            Work::Fsync(session) => Ask::Call {
+                session: *session,
+                call: Call::Sync,
+            },
+        }
+    }
+
+    /// How it goes on once that was answered.
+    pub(crate) fn hear(self, knows: &mut Knows, heard: Heard) -> Next<'m> {
+        let next = match self {
+            Work::Version(work) => Ok(work.hear(knows)),
+            Work::Attach(work) => work.hear(knows, heard),
+            Work::Walk(work) => work.hear(knows, heard),
+            Work::Open(work) => work.hear(knows, heard),
+            Work::Create(work) => work.hear(knows, heard),
+            Work::Make(work) => work.hear(heard),
+            Work::Transfer(work) => work.hear(heard),
+            Work::List(work) => work.hear(knows, heard),
+            Work::Getattr(work) => work.hear(heard),
+            Work::Setattr(work) => work.hear(heard),
+            Work::Readlink(work) => work.hear(knows, heard),
+            Work::Link(work) => work.hear(heard),
+            Work::Rename(work) => work.hear(knows, heard),
+            Work::Unlink(work) => work.hear(knows, heard),
+            Work::Remove(work) => work.hear(knows, heard),
+            Work::Close(work) => Ok(work.hear()),
+            Work::Statfs(_) => room_told(heard),
+            Work::Fsync(_) => synced(heard),
+        };
+        Next::of(next)
+    }
+}
+
+/// The answer to an fsync: the sync was done.
+fn synced<'m>(heard: Heard) -> Result<Next<'m>, Refused> {
+    heard.done()?;
+    Ok(Next::Done(Answer::Fsync))
+}
+
+/// The answer to a statfs.
+fn room_told<'m>(heard: Heard) -> Result<Next<'m>, Refused> {
+    let room = heard.space()?;
+    Ok(Next::Done(Answer::Statfs(crate::attributes::room_of(&room))))
+}
