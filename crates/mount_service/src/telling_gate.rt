@@ -1,14 +1,14 @@
-//! A gate that tells which drivers work.
+//! A gate that tells which drivers take the place of others.
 
 use gate::{Gate, Point};
 use std::sync::atomic::{AtomicU32, Ordering};
 
-/// A gate of a service that does as another one does, and tells each driver that takes its first step: a line `started 1.G` on standard
-/// error, for the driver of generation G. A driver that is replaced before it has a step to take isn't told.
+/// A gate of a service that does as another one does, and tells each driver after the first one when it takes its first step: a line
+/// `started 1.G` on standard error, for the driver of generation G. A driver that is replaced before it has a step to take isn't told.
 pub struct Telling<G: Gate, E: Eprint> {
     gate: G,
     to: E,
-    // The newest generation that was told, 0 at first.
+    // The newest generation that was told, at first that of the first driver.
     newest: AtomicU32,
 }
 
@@ -19,12 +19,12 @@ impl<G: Gate, E: Eprint + Drop> Drop for Telling<G, E> {
 }
 
 impl<G: Gate, E: Eprint> Telling<G, E> {
-    /// No driver was told.
+    /// The drivers of this gate's service are told from the second one on.
     pub fn new(gate: G, to: E) -> Telling<G, E> {
         Telling {
             gate,
             to,
-            newest: AtomicU32::new(0),
+            newest: AtomicU32::new(1),
         }
     }
 

@@ -14,7 +14,7 @@ const MOUNTING: &str =
   socat TCP-LISTEN:5640,bind=127.0.0.1,reuseaddr EXEC:\"mfs9p v.img --out v.img\"
   mount -t 9p -o trans=tcp,port=5640,version=9p2000.L,access=any,msize=65536 127.0.0.1 /mnt
 
-A line `started 1.G` on standard error tells of each driver that begins to work.";
+A line `started 1.G` on standard error tells of each driver that takes the place of an earlier one.";
 
 /// The words that `mfs9p` knows.
 fn command<'a>(alloc: Global) -> Result<Command<'a>, AllocError> {
