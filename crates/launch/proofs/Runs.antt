@@ -23,7 +23,8 @@ stopped_on v w frames result same h = subst (λ (x : Opening). IfErr result (IsS
 
 -- a program that ran over a service of a volume that was mounted
 pub has_run : {O : Type 0} (image : List ℕ) (setup : Setup) (supply : List DriverState) (range : ℕ × ℕ) (v : Opening) (g : Geometry)
-    (gives : Geometry → Opening → O → Type 0) (result : Result O StartRefusal) → v ≡ opening_of image setup.minor range → g ≡ sizes_in (contents_at v)
+    (gives : Geometry → Opening → O → Type 0) (result : Result O StartRefusal) → v ≡ opening_of image setup.minor range
+    → g ≡ sizes_in (contents_at v)
     → IsPrepared image setup supply range → {L : Type 0} → (truth : L → Truth) → IfOk result (λ o. gives g v o)
     → OnOk result (IsMountedTruly truth g v)
     → IfOk result (λ o. HasRun image setup supply (λ h opening. gives h opening o))
@@ -53,7 +54,8 @@ never_prepared image setup supply NoDriver h = h
 never_prepared image setup supply OutOfMemory h = h
 
 -- why no service starts where all stands ready
-pub never_started : (image : List ℕ) (setup : Setup) (supply : List DriverState) (range : ℕ × ℕ) (e : StartRefusal) → IsPrepared image setup supply range
+pub never_started : (image : List ℕ) (setup : Setup) (supply : List DriverState) (range : ℕ × ℕ) (e : StartRefusal)
+    → IsPrepared image setup supply range
     → IsStopped (opening_of image setup.minor range) setup.frames e → IsNotStarted image setup supply e
 never_started image setup supply range (Mount refusal) p h = (range, p, h)
 never_started image setup supply range OutOfMemory p h = p.place.0

@@ -18,8 +18,8 @@ IsNotStarted image setup supply (Mount refusal) =
     (range : ℕ × ℕ) × IsPrepared image setup supply range × IsStopped (opening_of image setup.minor range) setup.frames (Mount refusal)
 IsNotStarted image setup supply refusal = IsRefused image setup supply refusal
 
--- A service starts on the image: all stands ready, and the volume in this range, of the sizes that its superblock gives, was mounted: where the
--- replies in the mount's record were true, it holds a tree.
+-- A service starts on the image: all stands ready, and the volume in this range, of the sizes that its superblock gives, was mounted: where
+-- the replies in the mount's record were true, it holds a tree.
 pub record IsStartable (image : List ℕ) (setup : Setup) (supply : List DriverState) (g : Geometry) (range : ℕ × ℕ) : Type 0 where
   pub prepared : IsPrepared image setup supply range
   pub sizes : g ≡ sizes_in (contents_at (opening_of image setup.minor range))

@@ -2,6 +2,7 @@
 //! or the start is refused; and a program that runs over the service.
 #![tactic(auto)]
 
+pub mod ending;
 pub mod opened;
 pub mod program;
 pub mod start;

@@ -8,7 +8,7 @@ ghost use Rattle.records.specs.Opening.{contents_at};
 ghost use Rattle.records.specs.Legal.{IsAtFirst};
 ghost use Rattle.records.specs.Mount.{is_frame_count};
 ghost use Rattle.mounting.specs.Laws.{sizes_in};
-ghost use Rattle.launch.specs.Stopped.{IsStopped, refusal_of as start_refusal_of};
+ghost use Rattle.launch.specs.Stopped.{IsMountedTruly, IsStopped, refusal_of as start_refusal_of};
 
 use board::Board;
 use counting_link::recorder::Recorder;
@@ -104,7 +104,7 @@ pub fn mounted<
     requires budget { L.Link.budget_left link ≤ 2 ^ 57 }
     requires truth { L.Link.truth link N.opening [] }
     requires drivers { L.runs_on link N.policy N.supply }
-    ensures holds { OnOk result ((tree : Tree) × IsAtFirst N.geometry (contents_at N.opening) tree) }
+    ensures holds { OnOk result (IsMountedTruly L.truth N.geometry N.opening) }
     ensures refused { IfErr result (IsStopped N.opening frames) }
 {
     match mount(alloc, link, minor, frames) {

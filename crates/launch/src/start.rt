@@ -5,6 +5,7 @@ ghost use Rattle.std.specs.Arc.{arc_value};
 ghost use Rattle.records.specs.Opening.{Opening, contents_at};
 ghost use Rattle.mounting.specs.Laws.{sizes_in};
 ghost use Rattle.reincarnate.specs.Policy.{IsAllowed};
+ghost use Rattle.reincarnate.specs.Supply.{new_state};
 ghost use Rattle.true_replies.specs.Events.{opening_media};
 ghost use Rattle.board.specs.View.{IsKeeper, opener};
 ghost use Rattle.mounting.specs.Starting.{opening_of, IsPrepared};
@@ -33,7 +34,7 @@ use std::thread::Threads;
 // passed on: what is done with a service
 use crate::program::Program;
 
-/// The reincarnation server of an allowed policy and these drivers.
+/// The reincarnation server of an allowed policy and these drivers, none of which was started.
 fn reincarnation_of<D: BlockDriver>(
     alloc: Global,
     policy: Policy,
@@ -41,6 +42,7 @@ fn reincarnation_of<D: BlockDriver>(
 ) -> Result<Reincarnation<D>, AllocError>
     requires allowed { IsAllowed policy }
     requires some { supply.items ≢ [] }
+    ensures { IfOk result (λ r. r ≡ new_state policy supply.items) }
 {
     match Reincarnation::new(alloc, policy, supply) {
         Ok(reincarnation) => Ok(reincarnation),

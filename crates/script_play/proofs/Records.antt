@@ -21,7 +21,8 @@ use Rattle.script_play.specs.Served.{AreServed, IsImageOf}
 
 -- what is vouched for in one way is in another
 module _ (V W E : List Mark → Type 0) (weaker : (seen : List Mark) → V seen → W seen) where
-  turn_as : (script : ℕ × ℕ × List TimedCall) (p : Played) (s : SessionState) → IsTurn V E script p s → IsTurn W (λ ended. Unit {0}) script p s
+  turn_as : (script : ℕ × ℕ × List TimedCall) (p : Played) (s : SessionState) → IsTurn V E script p s
+      → IsTurn W (λ ended. Unit {0}) script p s
   turn_as script p s t = record {
     user = t.user;
     group = t.group;
@@ -47,8 +48,9 @@ module _ (V W E : List Mark → Type 0) (weaker : (seen : List Mark) → V seen 
   each_as seen (script ∷ scripts) (p ∷ played) h = ((h.0.0, turn_as script p h.0.0 h.0.1, h.0.2), each_as seen scripts played h.1)
 
 -- scripts that were played in a service, and the image that it left
-pub are_served : {L : Type 0} (link : LinkWords L) (g : Geometry) (v : Opening) (scripts : List (ℕ × ℕ × List TimedCall)) (played : List Played)
-    (seen : List Mark) (last : LastSync) (image : List ℕ) (E : List Mark → Type 0) → ArePlayed (Vouched link.truth g v) E scripts played seen
+pub are_served : {L : Type 0} (link : LinkWords L) (g : Geometry) (v : Opening) (scripts : List (ℕ × ℕ × List TimedCall))
+    (played : List Played) (seen : List Mark) (last : LastSync) (image : List ℕ) (E : List Mark → Type 0)
+    → ArePlayed (Vouched link.truth g v) E scripts played seen
     → IsLastImage link g v seen (sync_of last) image → AreServed g v scripts played last image
 are_served link g v scripts played seen last image E turns shown = record {
   seen = seen;

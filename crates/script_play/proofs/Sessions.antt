@@ -1,5 +1,6 @@
 -- Sessions whose calls were made at one time, and that then meet.
-use Rattle.std.proofs.Common.{◌≡◌, ℕ, suc, take, ◌-◌, ◌+◌, ◌<◌, ◌≤◌, arith, List, [], ◌∷◌, ◌++◌, length, length-append, map, refl, sym, ap, ◌∙◌, append-nil, append_assoc, subst, Option, Some, None, Result, Ok, Err, inl, inr, ◌⊎◌, reverse}
+use Rattle.std.proofs.Common.{◌≡◌, ℕ, suc, take, ◌-◌, ◌+◌, ◌<◌, ◌≤◌, arith, List, [], ◌∷◌, ◌++◌, length, length-append, map, refl, sym, ap}
+use Rattle.std.proofs.Common.{◌∙◌, append-nil, append_assoc, subst, Option, Some, None, Result, Ok, Err, inl, inr, ◌⊎◌, reverse}
 use Rattle.std.specs.Prelude.{All, slice_index_or}
 use Rattle.std.proofs.lemmas.List.{reverse-append}
 use Rattle.tree.specs.Tree.{most_sessions}
@@ -12,13 +13,15 @@ use Rattle.reply_text.specs.declared.answers.Played.{Played}
 use Rattle.script_play.specs.Made.{Plays, calls_made}
 use Rattle.script_play.specs.declared.turns.Turn.{Turn}
 use Rattle.script_play.specs.declared.turns.Taken.{Taken}
-use Rattle.script_play.specs.Turns.{ArePlayed, AreResults, AreTaken, EachIn, HaveEnded, HaveMet, HaveSeen, IsTaken, IsTurn, IsUnplayed, asked, seen_by}
+use Rattle.script_play.specs.Turns.{ArePlayed, AreResults, AreTaken, EachIn, HaveEnded, HaveMet, HaveSeen, IsTaken, IsTurn, IsUnplayed}
+use Rattle.script_play.specs.Turns.{asked, seen_by}
 use Rattle.script_play.proofs.Later.{begins_all, begins_self, begins_through, goes_later, later_self, same_caller}
 
 -- ---- a session
 
 -- what was vouched for of both is of the longer
-either : (Vouches : List Mark → Type 0) (a b longer : List Mark) → ((longer ≡ a) × IsBeginning b a) ⊎ ((longer ≡ b) × IsBeginning a b) → Vouches a → Vouches b → Vouches longer
+either : (Vouches : List Mark → Type 0) (a b longer : List Mark) → ((longer ≡ a) × IsBeginning b a) ⊎ ((longer ≡ b) × IsBeginning a b)
+    → Vouches a → Vouches b → Vouches longer
 either Vouches a b longer (inl h) v w = subst Vouches (sym h.0) v
 either Vouches a b longer (inr h) v w = subst Vouches (sym h.0) w
 
@@ -50,7 +53,8 @@ is_turn Vouches Ended before last calls played h plays numbered =
     }
 
 -- a session that learns more, and makes no call
-turn_later : (Vouches Ended : List Mark → Type 0) (script : ℕ × ℕ × List TimedCall) (p : Played) (a b : SessionState) → IsTurn Vouches Ended script p a
+turn_later : (Vouches Ended : List Mark → Type 0) (script : ℕ × ℕ × List TimedCall) (p : Played) (a b : SessionState)
+    → IsTurn Vouches Ended script p a
     → SessionGoesOn a b → b.knows.mine ≡ a.knows.mine → Vouches b.knows.seen → IsTurn Vouches Ended script p b
 turn_later Vouches Ended script p a b t goes same vouched =
     let caller : caller_of b ≡ caller_of a = same_caller a b goes in
@@ -129,13 +133,15 @@ module _ {C E : Type 0} (Vouches Ended : List Mark → Type 0) (state : C → Se
 
 module _ {C : Type 0} (Vouches Ended : List Mark → Type 0) (state : C → SessionState) where
   -- each has seen a beginning of a longer record, too
-  pub seen_further : (taken : List (Taken C)) (seen longer : List Mark) → IsBeginning seen longer → HaveSeen state taken seen → HaveSeen state taken longer
+  pub seen_further : (taken : List (Taken C)) (seen longer : List Mark) → IsBeginning seen longer → HaveSeen state taken seen
+      → HaveSeen state taken longer
   seen_further [] seen longer begins h = tt
   seen_further (t ∷ taken) seen longer begins h =
       (begins_through (state t.client).knows.seen seen longer h.0 begins, seen_further taken seen longer begins h.1)
 
   -- one more turn, in a record that all have seen
-  pub each_more : (seen : List Mark) (scripts : List (ℕ × ℕ × List TimedCall)) (played : List Played) (script : ℕ × ℕ × List TimedCall) (p : Played) (s : SessionState)
+  pub each_more : (seen : List Mark) (scripts : List (ℕ × ℕ × List TimedCall)) (played : List Played) (script : ℕ × ℕ × List TimedCall)
+      (p : Played) (s : SessionState)
       → EachIn Vouches Ended seen scripts played → IsTurn Vouches Ended script p s → s.knows.seen ≡ seen
       → EachIn Vouches Ended seen (scripts ++ script ∷ []) (played ++ p ∷ [])
   each_more seen [] [] script p s h t same = ((s, t, same), tt)
@@ -150,8 +156,10 @@ reverse_more xs x = reverse-append xs (x ∷ [])
 -- ---- sessions that meet one, from the last on
 
 -- what was met so far, and what is left, for any script of the one that meets and any of the others
-pub record Meeting {C E : Type 0} (Vouches Ended : List Mark → Type 0) (state : C → SessionState) (script : ℕ × ℕ × List TimedCall) (played : Played)
-    (scripts : List (ℕ × ℕ × List TimedCall)) (now : SessionState) (left : List (Result (Taken C) E)) (others : List (Taken C)) : Type 0 where
+pub record Meeting {C E : Type 0} (Vouches Ended : List Mark → Type 0) (state : C → SessionState) (script : ℕ × ℕ × List TimedCall)
+    (played : Played)
+    (scripts : List (ℕ × ℕ × List TimedCall)) (now : SessionState) (left : List (Result (Taken C) E))
+    (others : List (Taken C)) : Type 0 where
   pub done : List (ℕ × ℕ × List TimedCall)
   pub tail : List (ℕ × ℕ × List TimedCall)
   pub split : scripts ≡ done ++ tail
@@ -162,7 +170,8 @@ pub record Meeting {C E : Type 0} (Vouches Ended : List Mark → Type 0) (state 
 
 module _ {C E : Type 0} (Vouches Ended : List Mark → Type 0) (state : C → SessionState) (script : ℕ × ℕ × List TimedCall) (played : Played)
     (scripts : List (ℕ × ℕ × List TimedCall)) where
-  pub meeting_none : (now : SessionState) (left : List (Result (Taken C) E)) (others : List (Taken C)) → others ≡ [] → IsTurn Vouches Ended script played now
+  pub meeting_none : (now : SessionState) (left : List (Result (Taken C) E)) (others : List (Taken C)) → others ≡ []
+      → IsTurn Vouches Ended script played now
       → AreResults Vouches Ended state scripts left → Meeting Vouches Ended state script played scripts now left others
   meeting_none now left others none t h = record {
     done = scripts;
@@ -179,7 +188,8 @@ module _ {C E : Type 0} (Vouches Ended : List Mark → Type 0) (state : C → Se
       → MeetKeeps old (state other.client) new (state met.client) → Meeting Vouches Ended state script played scripts old left others
       → Meeting Vouches Ended state script played scripts new rest grown
   meeting_more old new left rest others grown other met is grows same m h =
-      let last = results_last Vouches Ended state h.done rest (Ok other) (subst (λ (l : List (Result (Taken C) E)). AreResults Vouches Ended state h.done l) is h.rest) in
+      let last = results_last Vouches Ended state h.done rest (Ok other)
+      (subst (λ (l : List (Result (Taken C) E)). AreResults Vouches Ended state h.done l) is h.rest) in
       let back : reverse grown ≡ met ∷ reverse others = ap reverse grows ∙ reverse_more others met in
       let there : IsTurn Vouches Ended last.1 other.played (state met.client) =
       met_second Vouches Ended last.1 other.played old (state other.client) new (state met.client) last.4 h.leads.vouched m in
@@ -193,14 +203,16 @@ module _ {C E : Type 0} (Vouches Ended : List Mark → Type 0) (state : C → Se
         taken = subst (λ (l : List (Taken C)). AreTaken Vouches Ended state (last.1 ∷ h.tail) l) (sym back)
             (subst (λ (p : Played). IsTurn Vouches Ended last.1 p (state met.client)) (sym same) there, h.taken);
         seen = subst (λ (l : List (Taken C)). HaveSeen state l new.knows.seen) (sym back) (
-          subst (λ (seen : List Mark). IsBeginning (state met.client).knows.seen seen) (sym m.same) (begins_self (state met.client).knows.seen),
+          subst (λ (seen : List Mark). IsBeginning (state met.client).knows.seen seen) (sym m.same)
+              (begins_self (state met.client).knows.seen),
           seen_further Vouches Ended state (reverse others) old.knows.seen new.knows.seen m.first.learns.beginning h.seen,
         );
       }
 
   pub meeting_all : (now : SessionState) (left : List (Result (Taken C) E)) (others : List (Taken C)) → left ≡ []
       → Meeting Vouches Ended state script played scripts now left others
-      → IsTurn Vouches Ended script played now × AreTaken Vouches Ended state scripts (reverse others) × HaveSeen state (reverse others) now.knows.seen
+      → IsTurn Vouches Ended script played now × AreTaken Vouches Ended state scripts (reverse others)
+      × HaveSeen state (reverse others) now.knows.seen
   meeting_all now left others none h =
       let all : scripts ≡ h.tail =
       h.split ∙ ap (λ (l : List (ℕ × ℕ × List TimedCall)). l ++ h.tail) (results_none Vouches Ended state h.done left none h.rest) in
@@ -209,8 +221,10 @@ module _ {C E : Type 0} (Vouches Ended : List Mark → Type 0) (state : C → Se
 -- ---- sessions that meet one again, from the first on, and end
 
 -- what was met so far, and what is left
-pub record Ending {C : Type 0} (Vouches Ended : List Mark → Type 0) (state : C → SessionState) (script : ℕ × ℕ × List TimedCall) (played : Played)
-    (scripts : List (ℕ × ℕ × List TimedCall)) (seen : List Mark) (now : SessionState) (left : List (Taken C)) (all : List Played) : Type 0 where
+pub record Ending {C : Type 0} (Vouches Ended : List Mark → Type 0) (state : C → SessionState) (script : ℕ × ℕ × List TimedCall)
+    (played : Played)
+    (scripts : List (ℕ × ℕ × List TimedCall)) (seen : List Mark) (now : SessionState) (left : List (Taken C))
+    (all : List Played) : Type 0 where
   pub done : List (ℕ × ℕ × List TimedCall)
   pub tail : List (ℕ × ℕ × List TimedCall)
   pub split : scripts ≡ done ++ tail
@@ -238,7 +252,8 @@ module _ {C : Type 0} (Vouches Ended : List Mark → Type 0) (state : C → Sess
 
   -- the first of those that stand in reverse
   taken_first : (tail : List (ℕ × ℕ × List TimedCall)) (t : Taken C) (rest : List (Taken C)) → AreTaken Vouches Ended state tail (t ∷ rest)
-      → (s : ℕ × ℕ × List TimedCall) × (more : List (ℕ × ℕ × List TimedCall)) × (tail ≡ s ∷ more) × IsTurn Vouches Ended s t.played (state t.client)
+      → (s : ℕ × ℕ × List TimedCall) × (more : List (ℕ × ℕ × List TimedCall)) × (tail ≡ s ∷ more)
+      × IsTurn Vouches Ended s t.played (state t.client)
       × AreTaken Vouches Ended state more rest
   taken_first [] t rest h = absurd h
   taken_first (s ∷ more) t rest h = (s, more, refl, h.0, h.1)
@@ -247,16 +262,20 @@ module _ {C : Type 0} (Vouches Ended : List Mark → Type 0) (state : C → Sess
   taken_none [] h = refl
   taken_none (s ∷ more) h = absurd h
 
-  pub ending_more : (seen : List Mark) (old new : SessionState) (left rest : List (Taken C)) (all grown : List Played) (other : Taken C) (met : SessionState)
+  pub ending_more : (seen : List Mark) (old new : SessionState) (left rest : List (Taken C)) (all grown : List Played) (other : Taken C)
+      (met : SessionState)
       → left ≡ rest ++ other ∷ [] → grown ≡ all ++ other.played ∷ [] → MeetKeeps old (state other.client) new met
-      → Ending Vouches Ended state script played scripts seen old left all → Ending Vouches Ended state script played scripts seen new rest grown
+      → Ending Vouches Ended state script played scripts seen old left all
+      → Ending Vouches Ended state script played scripts seen new rest grown
   ending_more seen old new left rest all grown other met is grows m h =
       let back : reverse left ≡ other ∷ reverse rest = ap reverse is ∙ reverse_more rest other in
-      let first = taken_first h.tail other (reverse rest) (subst (λ (l : List (Taken C)). AreTaken Vouches Ended state h.tail l) back h.taken) in
+      let first = taken_first h.tail other (reverse rest)
+      (subst (λ (l : List (Taken C)). AreTaken Vouches Ended state h.tail l) back h.taken) in
       let begun = subst (λ (l : List (Taken C)). HaveSeen state l seen) back h.begun in
       let begins : IsBeginning (state other.client).knows.seen old.knows.seen =
       subst (λ (s : List Mark). IsBeginning (state other.client).knows.seen s) (sym h.same) begun.0 in
-      let stays : new.knows.seen ≡ old.knows.seen = longer_is old.knows.seen (state other.client).knows.seen new.knows.seen m.longer begins in
+      let stays : new.knows.seen ≡ old.knows.seen =
+      longer_is old.knows.seen (state other.client).knows.seen new.knows.seen m.longer begins in
       let there : IsTurn Vouches Ended first.0 other.played met =
       met_second Vouches Ended first.0 other.played old (state other.client) new met first.3 h.leads.vouched m in
       record {
@@ -276,7 +295,8 @@ module _ {C : Type 0} (Vouches Ended : List Mark → Type 0) (state : C → Sess
       → Ending Vouches Ended state script played scripts seen now left all
       → IsTurn Vouches Ended script played now × EachIn Vouches Ended now.knows.seen scripts all
   ending_all seen now left all none h =
-      let over : h.tail ≡ [] = taken_none h.tail (subst (λ (l : List (Taken C)). AreTaken Vouches Ended state h.tail (reverse l)) none h.taken) in
+      let over : h.tail ≡ [] =
+      taken_none h.tail (subst (λ (l : List (Taken C)). AreTaken Vouches Ended state h.tail (reverse l)) none h.taken) in
       let all_of : scripts ≡ h.done = h.split ∙ ap (λ (l : List (ℕ × ℕ × List TimedCall)). h.done ++ l) over ∙ append-nil h.done in (
         h.leads,
         subst (λ (s : List Mark). EachIn Vouches Ended s scripts all) (sym h.same)
@@ -307,7 +327,8 @@ module _ {C E : Type 0} (Vouches Ended : List Mark → Type 0) (state : C → Se
   )
 
   -- there was none
-  pub none_played : (scripts : List (ℕ × ℕ × List TimedCall)) (results : List (Result (Taken C) E)) (played : List Played) → results ≡ [] → played ≡ []
+  pub none_played : (scripts : List (ℕ × ℕ × List TimedCall)) (results : List (Result (Taken C) E)) (played : List Played) → results ≡ []
+      → played ≡ []
       → AreResults Vouches Ended state scripts results → ArePlayed Vouches Ended scripts played []
   none_played scripts results played none empty h =
       let same : scripts ≡ [] = results_none Vouches Ended state scripts results none h in
@@ -318,12 +339,14 @@ module _ {C E : Type 0} (Vouches Ended : List Mark → Type 0) (state : C → Se
       }
 
   -- all met the last one, twice
-  pub all_played : (scripts : List (ℕ × ℕ × List TimedCall)) (results rest : List (Result (Taken C) E)) (last : Taken C) (met ended : SessionState)
+  pub all_played : (scripts : List (ℕ × ℕ × List TimedCall)) (results rest : List (Result (Taken C) E)) (last : Taken C)
+      (met ended : SessionState)
       (others : List (Taken C)) (all grown : List Played) → results ≡ rest ++ Ok last ∷ [] → grown ≡ all ++ last.played ∷ []
       → AreResults Vouches Ended state scripts results → HaveMet Vouches Ended state (state last.client) rest met others
       → HaveEnded Vouches Ended state met others ended all → ArePlayed Vouches Ended scripts grown ended.knows.seen
   all_played scripts results rest last met ended others all grown is grows h first second =
-      let parts = results_last Vouches Ended state scripts rest (Ok last) (subst (λ (l : List (Result (Taken C) E)). AreResults Vouches Ended state scripts l) is h) in
+      let parts = results_last Vouches Ended state scripts rest (Ok last)
+      (subst (λ (l : List (Result (Taken C) E)). AreResults Vouches Ended state scripts l) is h) in
       let one = first parts.1 last.played parts.0 parts.4 parts.3 in
       let two = second parts.1 last.played parts.0 one.0 one.1 one.2 in
       record {

@@ -21,16 +21,16 @@ use Rattle.shared_server.specs.declared.locked.LastSync.TheVariants.{Done, Given
 use Rattle.script_play.specs.declared.players.ServiceRefusal.{ServiceRefusal}
 use Rattle.script_play.specs.declared.players.ServiceRefusal.TheVariants.{NoSession, SessionsLeft, NoImage}
 
--- The image that a service left, whose media have as many sectors as were handed in, and outside of the volume each as it was handed in; and a record
--- that goes on from what its sessions had seen, and says how the last sync went, whichever tree the volume held.
+-- The image that a service left, whose media have as many sectors as were handed in, and outside of the volume each as it was handed in;
+-- and a record that goes on from what its sessions had seen, and says how the last sync went, whichever tree the volume held.
 pub record IsLeft (g : Geometry) (v : Opening) (seen : List Mark) (last : LastSync) (image : List ℕ) : Type 0 where
   pub outside : IsImageOutside v image
   pub marks : List Mark
   pub goes_on : IsBeginning seen marks
   pub tells : (tree : Tree) → IsAtFirst g (contents_at v) tree → SyncTells (sync_of last) g v tree marks
 
--- These scripts were played in sessions of one service for the volume, of whose record this was seen in the end; then the service was stopped: what
--- came of its last sync, and the image.
+-- These scripts were played in sessions of one service for the volume, of whose record this was seen in the end; then the service was
+-- stopped: what came of its last sync, and the image.
 pub record AreServed (g : Geometry) (v : Opening) (scripts : List (ℕ × ℕ × List TimedCall)) (played : List Played) (last : LastSync)
     (image : List ℕ) : Type 0 where
   pub seen : List Mark

@@ -26,7 +26,8 @@ abbrev pub seen_by : Option SessionState → List Mark
 seen_by None = []
 seen_by (Some s) = s.knows.seen
 
--- What came of a script, by what its session has seen: its user's calls and no others were made in it, each answered as told or cut, in their order.
+-- What came of a script, by what its session has seen: its user's calls and no others were made in it, each answered as told or cut, in
+-- their order.
 pub record IsTurn (Vouches Ended : List Mark → Type 0) (script : ℕ × ℕ × List TimedCall) (played : Played) (s : SessionState) : Type 0 where
   pub user : s.uid ≡ script.0
   pub group : s.gid ≡ script.1
@@ -53,12 +54,14 @@ EachIn Vouches Ended seen (script ∷ scripts) (p ∷ played) =
 EachIn Vouches Ended seen _ _ = ⊥
 
 -- The scripts were played in sessions of one service. All have then seen one record, which is that of the last; no script, nothing seen.
-pub record ArePlayed (Vouches Ended : List Mark → Type 0) (scripts : List (ℕ × ℕ × List TimedCall)) (played : List Played) (seen : List Mark) : Type 0 where
+pub record ArePlayed (Vouches Ended : List Mark → Type 0) (scripts : List (ℕ × ℕ × List TimedCall)) (played : List Played)
+    (seen : List Mark) : Type 0 where
   pub each : EachIn Vouches Ended seen scripts played
   pub none : scripts ≡ [] → seen ≡ []
 
 -- what came of a turn in a thread, if there was memory for it
-abbrev pub IsTaken : {C E : Type 0} → (List Mark → Type 0) → (List Mark → Type 0) → (C → SessionState) → ℕ × ℕ × List TimedCall → Result (Taken C) E → Type 0
+abbrev pub IsTaken : {C E : Type 0} → (List Mark → Type 0) → (List Mark → Type 0) → (C → SessionState) → ℕ × ℕ × List TimedCall
+    → Result (Taken C) E → Type 0
 IsTaken Vouches Ended state script (Ok taken) = IsTurn Vouches Ended script taken.played (state taken.client)
 IsTaken Vouches Ended state script (Err e) = Unit {0}
 
@@ -70,7 +73,8 @@ AreResults Vouches Ended state (script ∷ scripts) (r ∷ results) =
 AreResults Vouches Ended state _ _ = ⊥
 
 -- what came of each
-abbrev pub AreTaken : {C : Type 0} → (List Mark → Type 0) → (List Mark → Type 0) → (C → SessionState) → List (ℕ × ℕ × List TimedCall) → List (Taken C) → Type 0
+abbrev pub AreTaken : {C : Type 0} → (List Mark → Type 0) → (List Mark → Type 0) → (C → SessionState) → List (ℕ × ℕ × List TimedCall)
+    → List (Taken C) → Type 0
 AreTaken Vouches Ended state [] [] = Unit {0}
 AreTaken Vouches Ended state (script ∷ scripts) (t ∷ taken) =
     IsTurn Vouches Ended script t.played (state t.client) × AreTaken Vouches Ended state scripts taken
@@ -82,14 +86,17 @@ HaveSeen state [] seen = Unit {0}
 HaveSeen state (t ∷ taken) seen = IsBeginning (state t.client).knows.seen seen × HaveSeen state taken seen
 
 -- A session in which a script was played has met the others, which have then all seen a beginning of what it has. They stand in reverse.
-abbrev pub HaveMet : {C E : Type 0} → (List Mark → Type 0) → (List Mark → Type 0) → (C → SessionState) → SessionState → List (Result (Taken C) E)
+abbrev pub HaveMet : {C E : Type 0} → (List Mark → Type 0) → (List Mark → Type 0) → (C → SessionState) → SessionState
+    → List (Result (Taken C) E)
     → SessionState → List (Taken C) → Type 0
 HaveMet Vouches Ended state old results new others =
     (script : ℕ × ℕ × List TimedCall) (played : Played) (scripts : List (ℕ × ℕ × List TimedCall)) → IsTurn Vouches Ended script played old
     → AreResults Vouches Ended state scripts results
-    → IsTurn Vouches Ended script played new × AreTaken Vouches Ended state scripts (reverse others) × HaveSeen state (reverse others) new.knows.seen
+    → IsTurn Vouches Ended script played new × AreTaken Vouches Ended state scripts (reverse others)
+    × HaveSeen state (reverse others) new.knows.seen
 
--- The others, which stood in reverse and had seen beginnings of what a session has, have then seen all of it, and ended. The session has seen no more.
+-- The others, which stood in reverse and had seen beginnings of what a session has, have then seen all of it, and ended. The session has
+-- seen no more.
 abbrev pub HaveEnded : {C : Type 0} → (List Mark → Type 0) → (List Mark → Type 0) → (C → SessionState) → SessionState → List (Taken C)
     → SessionState → List Played → Type 0
 HaveEnded Vouches Ended state old others new all =

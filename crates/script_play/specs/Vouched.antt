@@ -8,8 +8,8 @@ use Rattle.records.specs.Legal.{IsAtFirst}
 use Rattle.reissue.specs.Calls.{Truth}
 use Rattle.shared_server.specs.Held.{HoldsIfTrue, IsGood, IsGuaranteed}
 
--- Where its replies are true, the volume held a tree as it was handed in. Whichever that was, the record is sound, and over true replies legal from
--- that tree on.
+-- Where its replies are true, the volume held a tree as it was handed in. Whichever that was, the record is sound, and over true replies
+-- legal from that tree on.
 abbrev pub IsServedRecord : Geometry → Opening → List Mark → Type 0
 IsServedRecord g v seen = HoldsIfTrue g v seen × ((tree : Tree) → IsAtFirst g (contents_at v) tree → IsGood g v tree seen)
 

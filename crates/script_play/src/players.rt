@@ -138,8 +138,8 @@ fn play_all<
     service: &Service<N, R, L, S>,
     scripts: &[Script<'_>],
 ) -> Result<(Vec<Played>, Option<ScriptSession<N, R, L, S>>), ServiceRefusal>
-    ensures { IfOk result (λ came. ArePlayed (Vouched L.truth N.geometry N.opening) (HasEnded L.Link L.marks) (map said scripts.now) came.0.items
-        (seen_by (option_map (λ s. s.0) came.1))) }
+    ensures { IfOk result (λ came. ArePlayed (Vouched L.truth N.geometry N.opening) (HasEnded L.Link L.marks) (map said scripts.now)
+        came.0.items (seen_by (option_map (λ s. s.0) came.1))) }
 {
     let turns = match admit_all(alloc, service, scripts) {
         Ok(turns) => turns,

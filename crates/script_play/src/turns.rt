@@ -94,7 +94,8 @@ fn meet_each<C: Client>(
     client: &mut C,
     results: Vec<Result<Taken<C>, AllocError>>,
 ) -> Result<Vec<Taken<C>>, AllocError>
-    ensures { IfOk result (λ others. HaveMet C.vouches C.ended C.state (C.state client.old) results.items (C.state client.new) others.items) }
+    ensures { IfOk result (λ others.
+        HaveMet C.vouches C.ended C.state (C.state client.old) results.items (C.state client.new) others.items) }
 {
     let mut others = Vec::new(alloc);
     let mut left = results;
@@ -112,7 +113,8 @@ fn end_each<C: Client>(
     client: &mut C,
     others: Vec<Taken<C>>,
 ) -> Result<Vec<Played>, AllocError>
-    ensures { IfOk result (λ played. HaveEnded C.vouches C.ended C.state (C.state client.old) others.items (C.state client.new) played.items) }
+    ensures { IfOk result (λ played.
+        HaveEnded C.vouches C.ended C.state (C.state client.old) others.items (C.state client.new) played.items) }
 {
     let mut all = Vec::new(alloc);
     let mut left = others;

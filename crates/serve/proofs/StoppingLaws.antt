@@ -19,12 +19,13 @@ abbrev pub LastLine : {L : Type 0} → LinkWords L → Geometry → Opening → 
 LastLine {L} link g v seen how = (line : L) × IsLastLine link g v seen (sync_of how) line
 
 -- it goes on from less, too
-pub line_after : {L : Type 0} (link : LinkWords L) (g : Geometry) (v : Opening) (earlier seen : List Mark) (how : LastSync) → IsBeginning earlier seen
+pub line_after : {L : Type 0} (link : LinkWords L) (g : Geometry) (v : Opening) (earlier seen : List Mark) (how : LastSync)
+    → IsBeginning earlier seen
     → LastLine link g v seen how → LastLine link g v earlier how
 line_after link g v earlier seen how begins l = (l.0, line_from link g v earlier seen (sync_of how) l.0 begins l.1)
 
-last_image : {L : Type 0} (link : LinkWords L) (g : Geometry) (v : Opening) (seen : List Mark) (how is : LastSync) (image : List ℕ) → how ≡ is
-    → IsImageOutside v image → LastLine link g v seen how → IsLastImage link g v seen (sync_of is) image
+last_image : {L : Type 0} (link : LinkWords L) (g : Geometry) (v : Opening) (seen : List Mark) (how is : LastSync) (image : List ℕ)
+    → how ≡ is → IsImageOutside v image → LastLine link g v seen how → IsLastImage link g v seen (sync_of is) image
 last_image link g v seen how is image same left l = record {
   outside = left;
   line = l.0;

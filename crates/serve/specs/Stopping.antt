@@ -2,7 +2,7 @@
 use Rattle.std.specs.Prelude.{◌≡◌, ℕ, List, IfSome}
 use Rattle.std.specs.List.{concat}
 use Rattle.layout.specs.declared.Geometry.{Geometry}
-use Rattle.media.specs.Contents.{MediaState}
+use Rattle.media.specs.Contents.{IsWhole, MediaState}
 use Rattle.records.specs.Marks.{Mark}
 use Rattle.records.specs.Opening.{Opening}
 use Rattle.reissue.specs.declared.link.Link.{Ghosts as LinkWords}
@@ -13,10 +13,11 @@ use Rattle.driver_threads.specs.Confined.{KeepsOutside}
 use Rattle.serve.specs.declared.stopping.StopRefusal.{StopRefusal}
 use Rattle.serve.specs.declared.stopping.StopRefusal.TheVariants.{SessionsLeft, GivenUp, OutOfMemory, LinkEnded}
 
--- the bytes of media that have as many sectors as were handed in, and outside of the volume each as it was handed in
+-- the bytes of media that have as many sectors as were handed in, each of 512 bytes, and outside of the volume each as it was handed in
 pub record IsImageOutside (v : Opening) (image : List ℕ) : Type 0 where
   pub media : MediaState
   pub bytes : image ≡ concat media.sectors
+  pub whole : IsWhole media.sectors
   pub outside : KeepsOutside v media
 
 -- why no image of a synced volume is left of the media, after a last sync that went so
@@ -27,13 +28,14 @@ IsLeftAfter v how (OutOfMemory left) = IfSome left (KeepsOutside v)
 IsLeftAfter v how (LinkEnded image) = (how ≡ sync.Cut) × IsImageOutside v image.items
 
 -- the image that a service leaves, and its link after a last sync that went so
-pub record IsLastImage {L : Type 0} (link : LinkWords L) (g : Geometry) (v : Opening) (seen : List Mark) (how : SyncEnd) (image : List ℕ) : Type 0 where
+pub record IsLastImage {L : Type 0} (link : LinkWords L) (g : Geometry) (v : Opening) (seen : List Mark) (how : SyncEnd)
+    (image : List ℕ) : Type 0 where
   pub outside : IsImageOutside v image
   pub line : L
   pub last : IsLastLine link g v seen how line
 
--- Why a service that is stopped gives no image of a synced volume. While a session is left it comes back, as it has to; else a last sync was tried,
--- which the device's giving up or the link's end kept from being made; or no memory was found, and the media are left.
+-- Why a service that is stopped gives no image of a synced volume. While a session is left it comes back, as it has to; else a last sync
+-- was tried, which the device's giving up or the link's end kept from being made; or no memory was found, and the media are left.
 abbrev pub WhyNotSynced : {L T : Type 0} → LinkWords L → Geometry → Opening → List Mark → (T → Type 0) → StopRefusal T → Type 0
 WhyNotSynced link g v seen is_back (SessionsLeft left) = is_back left
 WhyNotSynced link g v seen is_back (GivenUp image) = IsLastImage link g v seen WasGivenUp image.items

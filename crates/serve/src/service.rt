@@ -166,8 +166,8 @@ impl<N: Room, R: Threads + Wait + Copy, L: Recorder<N>, S: FileServer<L>> Servic
     /// bytes of all sectors, as they stand.
     ///
     /// It is refused: 1 SessionsLeft, where some session neither ended nor was let go, which hands the service back; 3 OutOfMemory, where
-    /// none was found for the image, which hands back the media, by the code always; 2 GivenUp and 4 LinkEnded, where the last sync wasn't made, with the
-    /// image as the media stand. The first of these that holds is answered.
+    /// none was found for the image, which hands back the media, by the code always; 2 GivenUp and 4 LinkEnded, where the last sync wasn't
+    /// made, with the image as the media stand. The first of these that holds is answered.
     pub fn stop(self, alloc: Global) -> Result<Vec<u8>, StopRefusal<Service<N, R, L, S>>>
         ensures image { IfOk result (λ image. IsLastImage L.Link N.geometry N.opening [] Went image.items) }
         ensures refused { IfErr result (WhyNotSynced L.Link N.geometry N.opening []

@@ -1,6 +1,7 @@
 //! What is left of a service that was stopped.
 
 ghost use Rattle.std.specs.Prelude.{◌≡◌, IfErr, IfOk, IfSome};
+ghost use Rattle.media.specs.Contents.{IsWhole};
 ghost use Rattle.driver_threads.specs.Confined.{KeepsOutside};
 ghost use Rattle.serve.specs.Stopping.{IsImageOutside, IsLeftAfter, stop_refusal_number};
 
@@ -17,7 +18,7 @@ pub enum StopRefusal<S> {
     /// The device was given up, so not all may have been written. With it comes the image, as the media stand.
     GivenUp(Vec<u8>),
     /// No memory was found for the image, which may be asked for again of the media that come with it; None where somebody else still has
-    /// them, by the code nobody has. All that could be written was.
+    /// them, by the code nobody has. The last sync was tried.
     OutOfMemory(Option<Media>),
     /// The link to the drivers has ended, so not all may have been written. With it comes the image, as the media stand.
     LinkEnded(Vec<u8>),
@@ -37,6 +38,13 @@ impl<S> StopRefusal<S> {
     }
 }
 
+/// The sectors of media are whole, whichever media these are.
+fn has_whole_sectors(media: &Media)
+    ensures { IsWhole media.now.sectors }
+{
+    let _ = media.sectors();
+}
+
 /// The image of the media that a service leaves whose last sync went so, or why there is none of a synced volume.
 pub(crate) fn image_of<N: Room, S>(
     alloc: Global,
@@ -50,6 +58,7 @@ pub(crate) fn image_of<N: Room, S>(
     let Some(media) = media else {
         return Err(StopRefusal::OutOfMemory(None));
     };
+    has_whole_sectors(&media);
     let Ok(image) = media.image(alloc) else {
         return Err(StopRefusal::OutOfMemory(Some(media)));
     };

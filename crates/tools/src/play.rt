@@ -95,7 +95,8 @@ impl fmt::Display for PlayRefusal<'_> {
 }
 
 /// Plays scripts at one time, each in a session and a thread of its own, on a service on the volume in an image, whose threads ask this
-/// gate; stops the service, and writes the answers on `out`, in the order of the scripts: for each script a line with its session's number, as `session 0`, and then a line for each call.
+/// gate; stops the service, and writes the answers on `out`, in the order of the scripts: for each script a line with its session's number,
+/// as `session 0`, and then a line for each call.
 ///
 /// Faults are looked for in this order: reading the image, reading the scripts in their order, their lines file by file, more than 64
 /// scripts, the start of the service, its sessions, the image. For the first of them a line goes to `err`, nothing goes out, and no image

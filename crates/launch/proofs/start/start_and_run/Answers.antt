@@ -12,7 +12,8 @@ run_over-requires-clause-frames g c =
 
 pub returns-clause-ran : goal.returns-clause-ran
 returns-clause-ran g c =
-    has_run c.args.image.now c.args.setup.now (map g.D.BlockDriver.state c.args.supply.items) c.args.prepared.range g.N.Room.opening g.N.Room.geometry
+    has_run c.args.image.now c.args.setup.now (map g.D.BlockDriver.state c.args.supply.items) c.args.prepared.range g.N.Room.opening
+    g.N.Room.geometry
     (λ h v o. g.P.Program.gives c.args.program h v o) c.run_over.result c.requires.opening c.requires.geometry c.requires.prepared
     _ c.run_over.ensures.ran c.run_over.ensures.holds
 

@@ -11,7 +11,8 @@ invariant-loop-result g l =
     (script : ℕ × ℕ × List TimedCall) (played : Played) (scripts : List (ℕ × ℕ × List TimedCall))
     → IsTurn g.C.Client.vouches g.C.Client.ended script played (g.C.Client.state l.fn.client)
     → AreResults g.C.Client.vouches g.C.Client.ended g.C.Client.state scripts l.fn.results.items
-    → Meeting g.C.Client.vouches g.C.Client.ended g.C.Client.state script played scripts (g.C.Client.state l.client) l.left.items l.others.items
+    → Meeting g.C.Client.vouches g.C.Client.ended g.C.Client.state script played scripts (g.C.Client.state l.client) l.left.items
+    l.others.items
 
 abbrev pub decreases-loop-result : goal.decreases-loop-result
 decreases-loop-result g l = length l.left.items

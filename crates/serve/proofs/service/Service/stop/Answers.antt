@@ -1,4 +1,4 @@
-use Rattle.std.proofs.Common.{[], refl}
+use Rattle.std.proofs.Common.{[]}
 use Rattle.shared_server.proofs.StoppingLaws.{begins_empty}
 use Rattle.serve.proofs.StoppingLaws.{image_after, line_after, why_after}
 use Rattle.serve.proofs.service.Service.stop.Goals as goal
