@@ -1,5 +1,11 @@
 //! Drivers that die after so many requests, for a mount that is to go on while they do.
 
+ghost use Rattle.std.specs.Prelude.{◌≡◌, ◌+◌, All, IfOk, length};
+ghost use Rattle.media.specs.Table.{ranges_of};
+ghost use Rattle.bdev.specs.DriverState.{fresh};
+ghost use Rattle.modeldisk.specs.Script.{has_arm, inner_state};
+ghost use Rattle.mount_service.specs.Mortal.{IsMortal, faults_by, setup_by};
+
 use media::partition::Table;
 use modeldisk::{Fault, FaultKind, Inner, ModelDriver, RamDriver, ScriptedDriver};
 use modeldisk::supply::setup_for;
@@ -22,17 +28,35 @@ pub fn mortal_drivers(
     model: bool,
     mortality: Mortality,
     table: Table,
-) -> Result<Vec<ScriptedDriver>, AllocError> {
+) -> Result<Vec<ScriptedDriver>, AllocError>
+    ensures count { IfOk result (λ drivers. length drivers.items ≡ spares + 1) }
+    ensures each { IfOk result (λ drivers. All (IsMortal model mortality table) drivers.items) }
+{
     let mut drivers = Vec::new(alloc);
-    for _ in 0..u32::from(spares) + 1 {
-        let faults = faults_of(alloc, mortality)?;
-        drivers.push(ScriptedDriver::new(inner(model, table), faults))?;
+    for spare in 0..u32::from(spares) + 1 {
+        drivers.push(mortal_driver(alloc, model, mortality, table)?)?;
     }
     Ok(drivers)
 }
 
+/// A new driver, which dies so.
+fn mortal_driver(
+    alloc: Global,
+    model: bool,
+    mortality: Mortality,
+    table: Table,
+) -> Result<ScriptedDriver, AllocError>
+    ensures { IfOk result (IsMortal model mortality table) }
+{
+    let faults = faults_of(alloc, mortality)?;
+    Ok(ScriptedDriver::new(inner(model, table), faults))
+}
+
 /// A new driver, which doesn't fail.
-fn inner(model: bool, table: Table) -> Inner {
+fn inner(model: bool, table: Table) -> Inner
+    ensures state { inner_state result ≡ fresh (ranges_of table) }
+    ensures arm { has_arm result ≡ model }
+{
     if model {
         Inner::Model(ModelDriver::new(table, 0))
     } else {
@@ -41,7 +65,9 @@ fn inner(model: bool, table: Table) -> Inner {
 }
 
 /// The script of a driver.
-fn faults_of(alloc: Global, mortality: Mortality) -> Result<Vec<Fault>, AllocError> {
+fn faults_of(alloc: Global, mortality: Mortality) -> Result<Vec<Fault>, AllocError>
+    ensures { IfOk result (λ faults. faults.items ≡ faults_by mortality) }
+{
     let mut faults = Vec::new(alloc);
     if let Mortality::InRequest(request) = mortality {
         faults.push(Fault {
@@ -55,7 +81,9 @@ fn faults_of(alloc: Global, mortality: Mortality) -> Result<Vec<Fault>, AllocErr
 
 /// The setup of a program for this minor. Where drivers die, each fault a tick after the one before it counts as a first one, so that the
 /// device isn't given up while drivers are left.
-pub fn mortal_setup(minor: u8, mortality: Mortality) -> Setup {
+pub fn mortal_setup(minor: u8, mortality: Mortality) -> Setup
+    ensures { result ≡ setup_by minor mortality }
+{
     let setup = setup_for(minor);
     match mortality {
         Mortality::Never => setup,
