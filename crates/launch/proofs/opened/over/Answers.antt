@@ -6,7 +6,7 @@ use Rattle.shared_server.proofs.HeldLaws.{held_at_first}
 use Rattle.launch.proofs.opened.over.Goals as goal
 
 pub over-requires-clause-held : goal.over-requires-clause-held
-over-requires-clause-held g c =
+over-requires-clause-held g c κs lives =
     held_at_first _ _ _ _ _ _ _ _ c.in-Ok.server c.args.link c.args.minor c.args.frames c.in-Ok.ensures.link c.in-Ok.ensures.ready
     (λ call. tt)
     c.requires.told c.requires.marks
