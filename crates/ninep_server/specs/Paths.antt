@@ -14,3 +14,7 @@ below directory name = directory ++ 47 ∷ name
 abbrev pub IsRest : List ℕ → Type 0
 IsRest [] = ⊤
 IsRest (c ∷ rest) = c ≡ 47
+
+-- a path that is neither a name's nor below it
+abbrev pub IsElsewhere : List ℕ → List ℕ → Type 0
+IsElsewhere name path = (rest : List ℕ) → IsRest rest → ¬ (path ≡ name ++ rest)

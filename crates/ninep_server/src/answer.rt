@@ -3,7 +3,7 @@
 use crate::refused::Refused;
 use ninep::reply::{Attributes, Qid, Room};
 
-/// The answer to a message, before it is written.
+/// The answer to a message that isn't an fsync done, before it is written.
 #[derive(Debug, Drop)]
 pub enum Answer {
     Refused(Refused),
@@ -17,7 +17,6 @@ pub enum Answer {
     Setattr,
     /// Entries of a directory, as they are written.
     Readdir(Vec<u8>),
-    Fsync,
     /// The lock is granted.
     Lock,
     /// No lock stands in the way of this one.
@@ -42,4 +41,12 @@ pub enum Answer {
     Write(u32),
     Clunk,
     Remove,
+}
+
+/// What is said to a message: an answer, or that all that was written lies on the disk.
+#[derive(Debug, Drop)]
+pub enum Said {
+    Plain(Answer),
+    /// A sync was done.
+    Synced,
 }

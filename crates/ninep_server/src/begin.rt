@@ -1,6 +1,8 @@
 //! How the answer to a message begins.
 
-use crate::answer::Answer;
+ghost use Rattle.ninep_server.specs.Talks.{IsPlain};
+
+use crate::answer::{Answer, Said};
 use crate::attach::{Attach, Version};
 use crate::attributes::{Getattr, Setattr, Wanted};
 use crate::creation::Creation;
@@ -11,13 +13,27 @@ use crate::naming::{Link, Remove, Rename, Unlink};
 use crate::opening::{Close, Opening, Readlink};
 use crate::refused::Refused;
 use crate::transfer::Transfer;
+use crate::turn::Turn;
 use crate::walk::Walk;
 use crate::work::{Next, Work};
 use ninep::request::Request;
 
 /// How the answer to a message begins, at this time.
-pub(crate) fn begin<'m>(knows: &mut Knows, now: u32, request: &Request<'m>) -> Next<'m> {
-    let next = match *request {
+pub(crate) fn begin<'m>(knows: &mut Knows, now: u32, request: &Request<'m>) -> Turn<'m>
+    ensures { IsPlain result }
+{
+    match *request {
+        Request::Fsync { fid, .. } => match knows.fids.get(fid) {
+            Ok(file) => Turn::Sync(file.user.session),
+            Err(refused) => Turn::Said(Said::Plain(Answer::Refused(refused))),
+        },
+        _ => Turn::of(on_fid(knows, now, request)),
+    }
+}
+
+/// Of a request that makes fids or lets them go, or is none of those below.
+fn on_fid<'m>(knows: &mut Knows, now: u32, request: &Request<'m>) -> Result<Next<'m>, Refused> {
+    match *request {
         Request::Version {
             message_size,
             version,
@@ -31,13 +47,8 @@ pub(crate) fn begin<'m>(knows: &mut Knows, now: u32, request: &Request<'m>) -> N
         Request::Clunk { fid } => Close::clunk(knows, fid),
         Request::Remove { fid } => Remove::begin(knows, fid),
         Request::Flush { .. } => Ok(Next::Done(Answer::Flush)),
-        Request::Auth { .. }
-        | Request::Xattrwalk { .. }
-        | Request::Xattrcreate { .. }
-        | Request::Mknod { .. } => Err(Refused::Unsupported),
         _ => on_node(knows, now, request),
-    };
-    Next::of(next)
+    }
 }
 
 /// Of a request about a node or a name.
@@ -129,10 +140,6 @@ fn on_file<'m>(knows: &Knows, request: &Request<'m>) -> Result<Next<'m>, Refused
         Request::Read { fid, offset, count } => Transfer::read(knows, fid, offset, count),
         Request::Write { fid, offset, bytes } => Transfer::write(knows, fid, offset, bytes),
         Request::Readdir { fid, offset, count } => Listing::begin(knows, fid, offset, count),
-        Request::Fsync { fid, .. } => {
-            let session = knows.fids.get(fid)?.user.session;
-            Ok(Next::Go(Work::Fsync(session)))
-        }
         Request::Lock { fid, .. } => {
             knows.fids.open(fid)?;
             Ok(Next::Done(Answer::Lock))

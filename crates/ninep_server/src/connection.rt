@@ -1,6 +1,10 @@
 //! A connection, which answers messages.
 
-use crate::answer::Answer;
+ghost use Rattle.std.specs.Prelude.{◌≡◌, ◌<◌, length, IfOk, IfErr, IsErr, OnOk, ◌↔◌, Err};
+ghost use Rattle.ninep_server.specs.Talks.{MayHear, Reaches, HasAsked};
+ghost use Rattle.ninep_server.specs.Written.{tag_in};
+
+use crate::answer::{Answer, Said};
 use crate::ask::Ask;
 use crate::begin::begin;
 use crate::end::End;
@@ -9,12 +13,13 @@ use crate::knows::Knows;
 use crate::refused::Refused;
 use crate::send::send;
 use crate::sessions::Sessions;
-use crate::work::Next;
+use crate::turn::Turn;
 use errno::Errno;
 use ninep::fault::Fault;
 use ninep::reading::read;
 use ninep::request::Request;
 use std::alloc::Global;
+use tree::Call;
 
 /// The most that the answer to one message asks of the sessions: a look at each name of a walk is the most that any asks.
 const MOST_ASKED: usize = 16;
@@ -26,7 +31,9 @@ pub struct Connection {
 }
 
 /// What the sessions answer.
-fn heard<S: Sessions>(sessions: &mut S, now: u32, ask: &Ask<'_>) -> Heard {
+fn heard<S: Sessions>(sessions: &mut S, now: u32, ask: &Ask<'_>) -> Heard
+    ensures { MayHear S.called S.entered S.left now sessions.old ask.now result sessions.new }
+{
     match ask {
         Ask::Enter { uid, gid } => Heard::Entered(sessions.enter(*uid, *gid)),
         Ask::Leave => {
@@ -47,64 +54,98 @@ fn refusal_of(fault: Fault) -> Refused {
     }
 }
 
-/// The tag of a message that isn't taken.
-fn tag_of(bytes: &[u8]) -> Result<u16, End> {
+/// The tag of a message.
+fn tag_of(bytes: &[u8]) -> Result<u16, End>
+    ensures tag { IfOk result (λ tag. tag ≡ tag_in bytes.now) }
+    ensures none { IfErr result (λ e. e ≡ End.NoMessage) }
+    ensures short { IsErr result ↔ (length bytes.now < 7) }
+{
     if bytes.len() < 7 {
         return Err(End::NoMessage);
     }
     Ok(u16::from_le_bytes([bytes[5], bytes[6]]))
 }
 
+/// Asks what a turn waits for, and goes on from what is answered.
+fn step<'m, S: Sessions>(knows: &mut Knows, sessions: &mut S, now: u32, turn: Turn<'m>) -> Turn<'m>
+    ensures { (start : S) → Reaches (MayHear S.called S.entered S.left now) start turn.entry sessions.old
+        → Reaches (MayHear S.called S.entered S.left now) start result sessions.new }
+{
+    match turn {
+        Turn::Said(said) => Turn::Said(said),
+        Turn::Sync(session) => {
+            let call = Call::Sync;
+            Turn::synced(heard(sessions, now, &Ask::Call { session, call }))
+        }
+        Turn::Go(work) => {
+            let heard = heard(sessions, now, &work.ask());
+            Turn::of(work.hear(knows, heard))
+        }
+    }
+}
+
+/// What is said to a request, once what it asks of the sessions was asked in turn.
+fn serve<S: Sessions>(knows: &mut Knows, sessions: &mut S, now: u32, request: &Request<'_>) -> Said
+    ensures { HasAsked (MayHear S.called S.entered S.left now) sessions.old result sessions.new }
+{
+    let mut turn = begin(knows, now, request);
+    'turns: for _ in 0..MOST_ASKED {
+        match turn {
+            Turn::Said(said) => return said,
+            waiting => turn = step(knows, sessions, now, waiting),
+        }
+    }
+    match turn {
+        Turn::Said(said) => said,
+        Turn::Sync(_) | Turn::Go(_) => Said::Plain(Answer::Refused(Refused::By(Errno::EIO))),
+    }
+}
+
 impl Connection {
+    ghost use Rattle.ninep_server.specs.Connections.{Answers, limit_of};
+
     /// A connection of no user, whose messages have at most 65560 bytes until a version is settled.
-    pub fn new(alloc: Global) -> Connection {
+    pub fn new(alloc: Global) -> Connection
+        ensures { limit_of result ≡ 65560 }
+    {
         Connection {
             knows: Knows::new(alloc),
         }
     }
 
     /// The most bytes of a message.
-    pub fn message_size(&self) -> u32 {
+    pub fn message_size(&self) -> u32
+        ensures { result ≡ limit_of self.now }
+    {
         self.knows.message_size
     }
 
-    /// Answers a request: what it asks of the sessions is asked in turn.
-    fn serve<S: Sessions>(&mut self, sessions: &mut S, now: u32, request: &Request<'_>) -> Answer {
-        let mut next = begin(&mut self.knows, now, request);
-        for _ in 0..MOST_ASKED {
-            match next {
-                Next::Done(answer) => return answer,
-                Next::Go(work) => {
-                    let heard = heard(sessions, now, &work.ask());
-                    next = work.hear(&mut self.knows, heard);
-                }
-            }
-        }
-        match next {
-            Next::Done(answer) => answer,
-            Next::Go(_) => Answer::Refused(Refused::By(Errno::EIO)),
-        }
-    }
-
-    /// Answers one message, all of its bytes: its answer is written behind what stands in `out`.
+    /// Answers one message, all of its bytes: its answer is written behind what stands in `out`, by what the sessions answer to what they
+    /// are asked.
     ///
-    /// NoMessage: the bytes have no tag, and nothing is written. OutOfMemory: no memory was found for an answer, and a part of one may have
-    /// been written.
+    /// NoMessage: the bytes have no tag, and nothing is asked or written. OutOfMemory: no memory was found for the answer, and a part of it
+    /// may have been written. Where none is found for the longest answer there may be, nothing is asked, and the answer is ENOMEM.
     pub fn answer<S: Sessions>(
         &mut self,
         sessions: &mut S,
         now: u32,
         bytes: &[u8],
         out: &mut Vec<u8>,
-    ) -> Result<(), End> {
-        match out.reserve(self.knows.message_size as usize) {
-            Ok(()) => (),
-            Err(_) => return Err(End::OutOfMemory),
-        }
-        let (tag, answer) = match read(bytes) {
-            Ok(message) => (message.tag, self.serve(sessions, now, &message.request)),
-            Err(fault) => (tag_of(bytes)?, Answer::Refused(refusal_of(fault))),
+    ) -> Result<(), End>
+        ensures answered { OnOk result (Answers (MayHear S.called S.entered S.left now) (tag_in bytes.now) (limit_of self.new)
+            sessions.old sessions.new out.old.items out.new.items) }
+        ensures short { (result ≡ Err End.NoMessage) ↔ (length bytes.now < 7) }
+        ensures none { result ≡ Err End.NoMessage → (sessions.new ≡ sessions.old) × (out.new.items ≡ out.old.items) }
+    {
+        let tag = tag_of(bytes)?;
+        let said = if out.reserve(self.knows.message_size as usize).is_err() {
+            Said::Plain(Answer::Refused(Refused::By(Errno::ENOMEM)))
+        } else {
+            match read(bytes) {
+                Ok(message) => serve(&mut self.knows, sessions, now, &message.request),
+                Err(fault) => Said::Plain(Answer::Refused(refusal_of(fault))),
+            }
         };
-        send(out, self.knows.message_size, tag, &answer)
+        send(out, self.knows.message_size, tag, &said)
     }
 }

@@ -64,6 +64,8 @@ pub(crate) struct Fid {
 }
 
 impl Fid {
+    ghost use Rattle.ninep_server.specs.Fids.{IsRenamed, IsUnlinked};
+
     /// A fid that isn't open.
     pub(crate) fn closed(user: User, path: Vec<u8>, node: Node) -> Fid {
         Fid {
@@ -77,7 +79,9 @@ impl Fid {
 
     /// The old name is the new one now, and what stood at the new one is gone: the fid stays on its node. Where no memory is found for
     /// its path, it counts as gone.
-    pub(crate) fn rename(&mut self, alloc: Global, old: &[u8], new: &[u8]) {
+    pub(crate) fn rename(&mut self, alloc: Global, old: &[u8], new: &[u8])
+        ensures { IsRenamed old.now new.now self.old self.new }
+    {
         if let Some(rest) = rest(&self.path, old) {
             match joined(alloc, new, rest) {
                 Ok(path) => self.path = path,
@@ -89,7 +93,9 @@ impl Fid {
     }
 
     /// The name at this path is gone.
-    pub(crate) fn unlink(&mut self, path: &[u8]) {
+    pub(crate) fn unlink(&mut self, path: &[u8])
+        ensures { IsUnlinked path.now self.old self.new }
+    {
         if rest(&self.path, path).is_some() {
             self.gone = true;
         }

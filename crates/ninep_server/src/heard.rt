@@ -1,5 +1,8 @@
 //! What the sessions answer.
 
+ghost use Rattle.std.specs.Prelude.{IsOk, IfOk};
+ghost use Rattle.ninep_server.specs.Talks.{IsDone, Replies};
+
 use crate::refused::Refused;
 use crate::sessions::EnterRefusal;
 use errno::Errno;
@@ -27,7 +30,9 @@ impl Heard {
     }
 
     /// The reply of a call that wasn't refused; a call that was cut is EIO.
-    fn reply(self) -> Result<Reply, Refused> {
+    fn reply(self) -> Result<Reply, Refused>
+        ensures { IfOk result (λ reply. Replies self reply) }
+    {
         match self {
             Heard::Outcome(Outcome::Reply(Reply::Refused(errno))) => Err(Refused::By(errno)),
             Heard::Outcome(Outcome::Reply(reply)) => Ok(reply),
@@ -38,7 +43,9 @@ impl Heard {
     }
 
     /// That the call was done.
-    pub(crate) fn done(self) -> Result<(), Refused> {
+    pub(crate) fn done(self) -> Result<(), Refused>
+        ensures { IsOk result → IsDone self }
+    {
         match self.reply()? {
             Reply::Done => Ok(()),
             _ => Err(Refused::By(Errno::EIO)),

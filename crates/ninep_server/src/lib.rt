@@ -22,6 +22,7 @@ pub mod refused;
 mod send;
 pub mod sessions;
 mod transfer;
+mod turn;
 mod users;
 mod walk;
 mod work;

@@ -1,7 +1,7 @@
 //! Paths of fids: each name behind a slash, so that the root's is empty.
 
-ghost use Rattle.std.specs.Prelude.{◌≡◌, ◌++◌, ◌∷◌, List, ℕ, IfOk, IfSome, IfNone};
-ghost use Rattle.ninep_server.specs.Paths.{IsRest, called, below};
+ghost use Rattle.std.specs.Prelude.{◌≡◌, ◌++◌, IfOk, IfSome, IfNone};
+ghost use Rattle.ninep_server.specs.Paths.{IsRest, IsElsewhere, called, below};
 
 use std::alloc::{AllocError, Global};
 
@@ -25,7 +25,7 @@ pub(crate) fn below(alloc: Global, directory: &[u8], name: &[u8]) -> Result<Vec<
 /// What a path has behind another one, where it is that one or lies below it.
 pub(crate) fn rest<'a>(path: &'a [u8], old: &[u8]) -> Option<&'a [u8]>
     ensures some { IfSome result (λ rest. (path.now ≡ old.now ++ rest.now) × IsRest rest.now) }
-    ensures none { IfNone result ((rest : List ℕ) → IsRest rest → ¬ (path.now ≡ old.now ++ rest)) }
+    ensures none { IfNone result (IsElsewhere old.now path.now) }
 {
     let rest = path.strip_prefix(old)?;
     if rest.is_empty() || rest[0] == b'/' {

@@ -1,53 +1,103 @@
 //! Answers, as they are written.
 
-use crate::answer::Answer;
+ghost use Rattle.std.specs.Prelude.{◌≡◌, ◌⊎◌, ◌≤◌, take, OnOk, IfErr};
+ghost use Rattle.ninep.specs.Replies.{reply_fields};
+ghost use Rattle.ninep.specs.declared.reply.Reply.{Reply as ToClient};
+ghost use Rattle.ninep_server.specs.Written.{answer_number, answer_fields, said_number, said_fields, too_long, IsWritten};
+ghost use Rattle.ninep_server.specs.Sending.{IsSent};
+
+use crate::answer::{Answer, Said};
 use crate::end::End;
 use crate::knows::HEAD;
+use crate::refused::Refused;
 use errno::Errno;
 use ninep::names::MAX_NAMES;
-use ninep::reply::{Held, Reply};
+use ninep::reply::{Attributes, Held, Qid, Reply, Room};
 use ninep::write_refusal::WriteRefusal;
 use ninep::writing::write;
+use tree::MAX_TARGET;
 
 /// The kind of a lock that isn't held, as Linux's client has it.
 const UNLOCKED: u8 = 2;
 
+/// The version that is spoken.
+const SPOKEN: &[u8] = b"9P2000.L";
+
+/// The first of some bytes, at most so many.
+fn within(bytes: &[u8], most: u32) -> &[u8]
+    ensures { result.now ≡ take most bytes.now }
+{
+    if bytes.len() <= most as usize {
+        return bytes;
+    }
+    &bytes[..most as usize]
+}
+
+/// The first of some qids, at most sixteen.
+fn walked(qids: &[Qid]) -> &[Qid]
+    ensures { result.now ≡ take 16 qids.now }
+{
+    if qids.len() <= MAX_NAMES {
+        return qids;
+    }
+    &qids[..MAX_NAMES]
+}
+
+/// The reply of a room.
+#[tactic(auto, unfolding(ninep::specs::Replies::block_fields, ninep::specs::Replies::file_fields))]
+fn room_reply<'a>(room: Room) -> Reply<'a>
+    ensures { IsSent 9 (reply_fields (ToClient.Statfs room)) result }
+{
+    Reply::Statfs { room }
+}
+
+/// The reply of attributes.
+#[tactic(auto, unfolding(ninep::specs::Replies::owner_fields, ninep::specs::Replies::size_fields, ninep::specs::Replies::times_fields, ninep::specs::Replies::version_fields))]
+fn attributes_reply<'a>(attributes: Attributes) -> Reply<'a>
+    ensures { IsSent 25 (reply_fields (ToClient.Getattr attributes)) result }
+{
+    Reply::Getattr { attributes }
+}
+
+/// The reply of a lock that isn't held.
+fn unlocked<'a>(start: u64, length: u64, process: u32) -> Reply<'a> {
+    let held = Held {
+        kind: UNLOCKED,
+        start,
+        length,
+        process,
+        client: b"",
+    };
+    Reply::Getlock { held }
+}
+
 /// The reply of an answer, where data have at most so many bytes.
-fn reply_of(answer: &Answer, most: u32) -> Reply<'_> {
+fn reply_of(answer: &Answer, most: u32) -> Reply<'_>
+    ensures { IsSent (answer_number answer.now) (answer_fields most answer.now) result }
+{
     match answer {
         Answer::Refused(refused) => Reply::Error {
             number: refused.number(),
         },
-        Answer::Statfs(room) => Reply::Statfs { room: *room },
+        Answer::Statfs(room) => room_reply(*room),
         Answer::Open(qid) => Reply::Open { qid: *qid, unit: 0 },
         Answer::Create(qid) => Reply::Create { qid: *qid, unit: 0 },
         Answer::Symlink(qid) => Reply::Symlink { qid: *qid },
         Answer::Rename => Reply::Rename,
         Answer::Readlink(target) => Reply::Readlink {
-            target: within(target, most),
+            target: within(target, MAX_TARGET as u32),
         },
-        Answer::Getattr(attributes) => Reply::Getattr {
-            attributes: *attributes,
-        },
+        Answer::Getattr(attributes) => attributes_reply(*attributes),
         Answer::Setattr => Reply::Setattr,
         Answer::Readdir(entries) => Reply::Readdir {
             entries: within(entries, most),
         },
-        Answer::Fsync => Reply::Fsync,
         Answer::Lock => Reply::Lock { status: 0 },
         Answer::Getlock {
             start,
             length,
             process,
-        } => Reply::Getlock {
-            held: Held {
-                kind: UNLOCKED,
-                start: *start,
-                length: *length,
-                process: *process,
-                client: b"",
-            },
-        },
+        } => unlocked(*start, *length, *process),
         Answer::Link => Reply::Link,
         Answer::Mkdir(qid) => Reply::Mkdir { qid: *qid },
         Answer::Renameat => Reply::Renameat,
@@ -57,13 +107,11 @@ fn reply_of(answer: &Answer, most: u32) -> Reply<'_> {
             known,
         } => Reply::Version {
             message_size: *message_size,
-            version: if *known { b"9P2000.L" } else { b"unknown" },
+            version: if *known { SPOKEN } else { b"unknown" },
         },
         Answer::Attach(qid) => Reply::Attach { qid: *qid },
         Answer::Flush => Reply::Flush,
-        Answer::Walk(qids) => Reply::Walk {
-            qids: &qids[..qids.len().min(MAX_NAMES)],
-        },
+        Answer::Walk(qids) => Reply::Walk { qids: walked(qids) },
         Answer::Read(bytes) => Reply::Read {
             bytes: within(bytes, most),
         },
@@ -73,21 +121,32 @@ fn reply_of(answer: &Answer, most: u32) -> Reply<'_> {
     }
 }
 
-/// The first of some bytes, at most so many.
-fn within(bytes: &[u8], most: u32) -> &[u8] {
-    &bytes[..bytes.len().min(most as usize)]
+/// The reply of what is said.
+fn reply_to(said: &Said, most: u32) -> Reply<'_>
+    ensures { IsSent (said_number said.now) (said_fields most said.now) result }
+{
+    match said {
+        Said::Plain(answer) => reply_of(answer, most),
+        Said::Synced => Reply::Fsync,
+    }
 }
 
-/// Writes an answer with this tag. Where no memory is found for it, a refusal is written.
-pub(crate) fn send(out: &mut Vec<u8>, limit: u32, tag: u16, answer: &Answer) -> Result<(), End> {
-    let at = out.len();
-    let number = match write(out, limit, tag, &reply_of(answer, limit - HEAD)) {
+/// Writes what is said with this tag. Where that is longer than a message may be, EIO is said.
+///
+/// An error: no memory was found for it, and a part of it may have been written.
+pub(crate) fn send(out: &mut Vec<u8>, limit: u32, tag: u16, said: &Said) -> Result<(), End>
+    requires { 4096 ≤ limit }
+    ensures ok { OnOk result (IsWritten limit tag said.now out.old.items out.new.items
+        ⊎ IsWritten limit tag too_long out.old.items out.new.items) }
+    ensures err { IfErr result (λ e. e ≡ End.OutOfMemory) }
+{
+    match write(out, limit, tag, &reply_to(said, limit - HEAD)) {
         Ok(()) => return Ok(()),
-        Err(WriteRefusal::TooLong) => Errno::EIO.number(),
-        Err(WriteRefusal::OutOfMemory) => Errno::ENOMEM.number(),
-    };
-    out.truncate(at);
-    match write(out, limit, tag, &Reply::Error { number }) {
+        Err(WriteRefusal::OutOfMemory) => return Err(End::OutOfMemory),
+        Err(WriteRefusal::TooLong) => (),
+    }
+    let too_long = Said::Plain(Answer::Refused(Refused::By(Errno::EIO)));
+    match write(out, limit, tag, &reply_to(&too_long, limit - HEAD)) {
         Ok(()) => Ok(()),
         Err(_) => Err(End::OutOfMemory),
     }

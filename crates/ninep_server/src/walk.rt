@@ -44,7 +44,11 @@ pub(crate) fn named(alloc: Global, directory: &[u8], name: &[u8]) -> Result<Vec<
     if name.is_empty() {
         return Err(Refused::By(Errno::ENOENT));
     }
-    if name == b".".as_slice() || name == b"..".as_slice() || name.contains(&b'/') || name.contains(&0) {
+    if name == b".".as_slice()
+        || name == b"..".as_slice()
+        || name.contains(&b'/')
+        || name.contains(&0)
+    {
         return Err(Refused::By(Errno::EINVAL));
     }
     Ok(below(alloc, directory, name)?)

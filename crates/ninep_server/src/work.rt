@@ -37,27 +37,15 @@ pub(crate) enum Work<'m> {
     Close(Close),
     /// The room of the volume, as this session is told it.
     Statfs(u8),
-    /// A sync by this session.
-    Fsync(u8),
 }
 
-/// How the answer to a message goes on.
+/// How the answer to a message goes on, where that isn't a sync done.
 #[derive(Drop)]
 pub(crate) enum Next<'m> {
     /// It asks something more.
     Go(Work<'m>),
     /// It is known.
     Done(Answer),
-}
-
-impl<'m> Next<'m> {
-    /// A refusal is an answer.
-    pub(crate) fn of(next: Result<Next<'m>, Refused>) -> Next<'m> {
-        match next {
-            Ok(next) => next,
-            Err(refused) => Next::Done(Answer::Refused(refused)),
-        }
-    }
 }
 
 impl<'m> Work<'m> {
@@ -84,16 +72,12 @@ impl<'m> Work<'m> {
                 session: *session,
                 call: Call::Statfs,
             },
-            Work::Fsync(session) => Ask::Call {
-                session: *session,
-                call: Call::Sync,
-            },
         }
     }
 
     /// How it goes on once that was answered.
-    pub(crate) fn hear(self, knows: &mut Knows, heard: Heard) -> Next<'m> {
-        let next = match self {
+    pub(crate) fn hear(self, knows: &mut Knows, heard: Heard) -> Result<Next<'m>, Refused> {
+        match self {
             Work::Version(work) => Ok(work.hear(knows)),
             Work::Attach(work) => work.hear(knows, heard),
             Work::Walk(work) => work.hear(knows, heard),
@@ -111,16 +95,8 @@ impl<'m> Work<'m> {
             Work::Remove(work) => work.hear(knows, heard),
             Work::Close(work) => Ok(work.hear()),
             Work::Statfs(_) => room_told(heard),
-            Work::Fsync(_) => synced(heard),
-        };
-        Next::of(next)
+        }
     }
-}
-
-/// The answer to an fsync: the sync was done.
-fn synced<'m>(heard: Heard) -> Result<Next<'m>, Refused> {
-    heard.done()?;
-    Ok(Next::Done(Answer::Fsync))
 }
 
 /// The answer to a statfs.

@@ -1,0 +1,44 @@
+//! How the answer to a message goes on.
+
+ghost use Rattle.std.specs.Prelude.{◌⊎◌};
+ghost use Rattle.ninep_server.specs.Talks.{IsPlain, IsDone};
+
+use crate::answer::{Answer, Said};
+use crate::heard::Heard;
+use crate::refused::Refused;
+use crate::work::{Next, Work};
+
+/// How the answer to a message goes on.
+#[derive(Drop)]
+pub(crate) enum Turn<'m> {
+    /// It waits for this.
+    Go(Work<'m>),
+    /// It waits for a sync by this session.
+    Sync(u8),
+    /// It is known.
+    Said(Said),
+}
+
+impl<'m> Turn<'m> {
+    /// A refusal is an answer. None says that a sync was done.
+    pub(crate) fn of(next: Result<Next<'m>, Refused>) -> Turn<'m>
+        ensures { IsPlain result }
+    {
+        match next {
+            Ok(Next::Go(work)) => Turn::Go(work),
+            Ok(Next::Done(answer)) => Turn::Said(Said::Plain(answer)),
+            Err(refused) => Turn::Said(Said::Plain(Answer::Refused(refused))),
+        }
+    }
+
+    /// Behind a sync: that it was done, where it was, or why it wasn't.
+    pub(crate) fn synced(heard: Heard) -> Turn<'m>
+        ensures { IsDone heard ⊎ IsPlain result }
+    {
+        let said = match heard.done() {
+            Ok(()) => Said::Synced,
+            Err(refused) => Said::Plain(Answer::Refused(refused)),
+        };
+        Turn::Said(said)
+    }
+}
