@@ -1,11 +1,12 @@
 //! Whole messages from a stream: each begins with its size in bytes, which counts itself, in 4 bytes, the lowest first.
 
-ghost use Rattle.std.specs.Prelude.{◌≡◌, ◌≢◌, ◌⊎◌, ◌<◌, ◌≤◌, ℕ, Err, IfOk, OnOk, vec_len};
+ghost use Rattle.std.specs.Prelude.{◌≡◌, ◌≢◌, ◌⊎◌, ◌<◌, ◌≤◌, ℕ, Err, IfOk, OnOk, length, vec_len};
 ghost use Rattle.std.specs.Bool.{OnTrue, OnFalse};
 ghost use Rattle.std.specs.Io.KnownBytes.{Consumes, IsAtEnd, Keeps};
 ghost use Rattle.std.specs.Int.{w32, from_le_bytes};
 ghost use Rattle.ninep_stream.specs.Messages.{IsMessage};
 
+use std::fmt;
 use std::io::{BufRead, ErrorKind};
 
 /// The bytes of a size.
@@ -27,6 +28,18 @@ pub enum InputRefusal {
     OutOfMemory,
 }
 
+/// Writes why, as a user is told.
+impl fmt::Display for InputRefusal {
+    fn fmt<W: fmt::Write>(&self, f: &mut fmt::Formatter<W>) -> fmt::Result {
+        match self {
+            InputRefusal::CutShort => f.write_str("the input ends within a message"),
+            InputRefusal::BadSize(size) => write!(f, "bad message of {size} bytes"),
+            InputRefusal::NotRead => f.write_str("cannot read standard input"),
+            InputRefusal::OutOfMemory => f.write_str("OutOfMemory"),
+        }
+    }
+}
+
 /// Reads the next message in the place of `message`, at most so many bytes. Whether there was one: there is none where the stream has
 /// ended before it. After a refusal the stream may stand within the message.
 pub fn next_message<I: BufRead>(
@@ -34,7 +47,8 @@ pub fn next_message<I: BufRead>(
     most: u32,
     message: &mut Vec<u8>,
 ) -> Result<bool, InputRefusal>
-    ensures message { IfOk result (λ some. OnTrue some (IsMessage most message.new.items)) }
+    ensures message { IfOk result (λ some. OnTrue some (IsMessage message.new.items)) }
+    ensures few { IfOk result (λ some. OnTrue some (length message.new.items ≤ most)) }
     ensures taken { IfOk result (λ some. OnTrue some (Consumes (I.remaining input.old) (I.remaining input.new) message.new.items)) }
     ensures ended { IfOk result (λ some. OnFalse some (IsAtEnd (I.remaining input.old))) }
     ensures size { (size : ℕ) → result ≡ Err (InputRefusal.BadSize size) → (size < 7) ⊎ (most < size) }
