@@ -1,1 +1,3 @@
 pub mod Mortal
+pub mod Spoken
+pub mod Left
