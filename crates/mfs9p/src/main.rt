@@ -58,9 +58,9 @@ fn mount_file<W: Threads + Wait + Copy + Send + Sync + 'static>(
         streams,
         &mut err,
     );
-    let status = match (mounted.image, words.out) {
-        (Some(image), Some(name)) => {
-            let written = replace(&rt, name, &image).is_ok();
+    let status = match (mounted.came, words.out) {
+        (Some(came), Some(name)) => {
+            let written = replace(&rt, name, &came.image).is_ok();
             finish(alloc, mounted.status, name, written, &mut err)
         }
         _ => mounted.status,

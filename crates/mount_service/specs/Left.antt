@@ -6,6 +6,8 @@ use Rattle.records.specs.Opening.{Opening}
 use Rattle.shared_server.specs.declared.locked.LastSync.{LastSync}
 use Rattle.shared_server.specs.declared.locked.LastSync.TheVariants.{Done, GivenUp, Cut}
 use Rattle.serve.specs.Stopping.{IsImageOutside}
+use Rattle.ninep_stream.specs.declared.answering.StreamRefusal.{StreamRefusal}
+use Rattle.mount_service.specs.Spoken.{IsSpoken}
 use Rattle.serve.specs.declared.stopping.StopRefusal.{StopRefusal}
 use Rattle.serve.specs.declared.stopping.StopRefusal.TheVariants as stop
 
@@ -15,3 +17,9 @@ IsImageOf (Ok image) Done left = left ≡ image
 IsImageOf (Err (stop.GivenUp image)) GivenUp left = left ≡ image
 IsImageOf (Err (stop.LinkEnded image)) Cut left = left ≡ image
 IsImageOf _ _ _ = ⊥
+
+-- A service on this volume answered the messages of a stream, all of it where it says so, and left an image, whose media have as many sectors as
+-- were handed in, and outside of the volume each as it was handed in.
+pub record IsLeftBy (g : Geometry) (v : Opening) (stream old new : Option (List ℕ)) (answered : Result (Unit {0}) StreamRefusal) (image : List ℕ) : Type 0 where
+  pub spoken : OnOk answered (IsSpoken g v stream old new)
+  pub outside : IsImageOutside v image

@@ -1,35 +1,25 @@
 -- What the sessions of a service answer to a connection, and so what is spoken on its streams.
-use Rattle.std.specs.Prelude.{⊤, ◌≡◌, ◌⊎◌, ℕ, List, Option, Result}
+use Rattle.std.specs.Prelude.{◌≡◌, ◌⊎◌, ℕ, List, Option}
 use Rattle.layout.specs.declared.Geometry.{Geometry}
 use Rattle.errno.specs.declared.Errno.TheVariants.{EINVAL}
 use Rattle.tree.specs.declared.Call.{Call}
 use Rattle.tree.specs.declared.Outcome.{Outcome}
 use Rattle.tree.specs.declared.Outcome.TheVariants.{Reply}
 use Rattle.tree.specs.declared.Reply.TheVariants.{Refused}
-use Rattle.tree.specs.Tree.{Tree}
-use Rattle.records.specs.Marks.{Mark}
 use Rattle.records.specs.Opening.{Opening, contents_at}
-use Rattle.records.specs.Legal.{IsAtFirst}
 use Rattle.records.specs.Session.{SessionState, SessionCallKeeps, caller_of}
 use Rattle.file_server.specs.Over.{outcome_of}
-use Rattle.shared_server.specs.Held.{HoldsIfTrue, IsGood}
-use Rattle.ninep_server.specs.declared.sessions.EnterRefusal.{EnterRefusal}
+use Rattle.shared_server.specs.Held.{HoldsIfTrue}
 use Rattle.ninep_stream.specs.Answered.{IsAnsweredWhole}
 use Rattle.ninep_stream.specs.Exchanges.{answers}
 
--- What a service guarantees of a record that a session of it has seen: where its replies are true, the volume held a tree as it was handed in, and
--- whichever that was, the record is legal from it on.
-pub record IsServed (g : Geometry) (v : Opening) (seen : List Mark) : Type 0 where
-  pub holds : HoldsIfTrue g v seen
-  pub good : (tree : Tree) → IsAtFirst g (contents_at v) tree → IsGood g v tree seen
-
--- A call that a session of a service on this volume answered so: the answer is the last mark of what it has then seen, and over true replies so the
--- file tree's.
+-- A call that a session of a service on this volume answered so: the answer is the last mark of what it has then seen. Where the replies of drivers in
+-- that are true, the volume held a tree as it was handed in, and whichever that was, it is legal from that on: the answer is the file tree's.
 pub record IsAnsweredBy (g : Geometry) (v : Opening) (now : ℕ) (call : Call) (outcome : Outcome) : Type 0 where
   pub before : SessionState
   pub after : SessionState
   pub keeps : SessionCallKeeps g (contents_at v) before (caller_of before) now call (outcome_of outcome) after
-  pub served : IsServed g v after.knows.seen
+  pub holds : HoldsIfTrue g v after.knows.seen
 
 -- so, or EINVAL where there is no session of the number
 abbrev pub MayAnswer : Geometry → Opening → ℕ → Call → Outcome → Type 0

@@ -1,5 +1,9 @@
 //! Mounting the volume of an image: messages are answered until their stream ends, and the image is left.
 
+ghost use Rattle.std.specs.Prelude.{◌≡◌, IfErr, IfNone, IfOk, IfSome, map};
+ghost use Rattle.std.specs.Bool.{OnTrue, OnFalse};
+ghost use Rattle.mount_service.specs.Mounted.{IsMounted, IsRefused, IsStatus, IsUnmounted, status_number};
+
 use crate::program::{Answering, Came, NoImage, Streams};
 use bdev::BlockDriver;
 use gate::Gate;
@@ -30,7 +34,9 @@ pub enum Status {
 
 impl Status {
     /// The status of the process: 0, 1 or 3.
-    pub fn number(self) -> u8 {
+    pub fn number(self) -> u8
+        ensures { result ≡ status_number self }
+    {
         match self {
             Status::Done => 0,
             Status::Refused(_) => 1,
@@ -40,13 +46,12 @@ impl Status {
 }
 
 /// What came of a mount.
-#[derive(Debug, PartialEq, Eq, Drop)]
-pub struct Ended {
+#[derive(Drop)]
+pub struct Ended<I, O, C> {
     /// How it ended.
     pub status: Status,
-    /// The bytes of the image as the media stand after the last sync, also where not all messages were answered; none where no service
-    /// started, or it left no image.
-    pub image: Option<Vec<u8>>,
+    /// What the service left, also where not all messages were answered; none where no service started, or it left no image.
+    pub came: Option<Came<I, O, C>>,
 }
 
 /// Why a volume isn't mounted, or what ended it.
@@ -100,15 +105,22 @@ pub fn mount<
     gate: Arc<G>,
     streams: Streams<I, O, C>,
     err: &mut E,
-) -> Ended {
+) -> Ended<I, O, C>
+    ensures mounted { IfSome result.came (λ came. IsMounted image.entry setup.now (map D.state supply.items) (I.Read.remaining streams.input)
+        (O.contents streams.output) (O.contents came.streams.output) came.answered came.image.items) }
+    ensures status { IfSome result.came (λ came. IsStatus came.answered came.last_sync result.status) }
+    ensures unmounted { IfNone result.came ((refusal : MountRefusal)
+        × IsUnmounted image.entry name.entry setup.now (map D.state supply.items) refusal) }
+    ensures refused { IfNone result.came (IsRefused result.status) }
+{
     match run(alloc, rt, name, image, setup, supply, gate, streams) {
         Ok(came) => Ended {
-            status: shown(alloc, &came, err),
-            image: Some(came.image),
+            status: shown(alloc, came.answered, came.last_sync, err),
+            came: Some(came),
         },
         Err(refusal) => Ended {
             status: Status::Refused(tell(alloc, err, &refusal)),
-            image: None,
+            came: None,
         },
     }
 }
@@ -121,7 +133,10 @@ pub fn finish<E: Write>(
     name: &str,
     written: bool,
     err: &mut E,
-) -> Status {
+) -> Status
+    ensures written { OnTrue written (result ≡ mounted) }
+    ensures unwritten { OnFalse written (IsRefused result) }
+{
     match make::finish(alloc, name, written, err) {
         make::Status::Done => mounted,
         make::Status::Refused(told) => Status::Refused(told),
@@ -146,7 +161,11 @@ fn run<
     supply: Vec<D>,
     gate: Arc<G>,
     streams: Streams<I, O, C>,
-) -> Result<Came<I, O, C>, MountRefusal<'n>> {
+) -> Result<Came<I, O, C>, MountRefusal<'n>>
+    ensures mounted { IfOk result (λ came. IsMounted image.entry setup.now (map D.state supply.items) (I.Read.remaining streams.input)
+        (O.contents streams.output) (O.contents came.streams.output) came.answered came.image.items) }
+    ensures unmounted { IfErr result (IsUnmounted image.entry name.entry setup.now (map D.state supply.items)) }
+{
     let Some(bytes) = image else {
         return Err(MountRefusal::CannotRead(name));
     };
@@ -158,11 +177,18 @@ fn run<
 }
 
 /// How a mount ended whose service left an image; where not all went well, a line says so.
-fn shown<I, O, C, E: Write>(alloc: Global, came: &Came<I, O, C>, err: &mut E) -> Status {
-    if let Err(refusal) = came.answered {
+fn shown<E: Write>(
+    alloc: Global,
+    answered: Result<(), StreamRefusal>,
+    last_sync: LastSync,
+    err: &mut E,
+) -> Status
+    ensures { IsStatus answered last_sync result }
+{
+    if let Err(refusal) = answered {
         return Status::Refused(tell(alloc, err, &MountRefusal::Stream(refusal)));
     }
-    match came.last_sync {
+    match last_sync {
         LastSync::Done => Status::Done,
         LastSync::GivenUp | LastSync::Cut => {
             tell(alloc, err, &MountRefusal::GivenUp);

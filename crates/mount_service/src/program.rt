@@ -1,5 +1,9 @@
 //! What is done with a service: its sessions answer the messages of a stream until that ends; then the service is stopped.
 
+ghost use Rattle.std.specs.Prelude.{IfOk, OnOk};
+ghost use Rattle.mount_service.specs.Left.{IsImageOf, IsLeftBy};
+ghost use Rattle.mount_service.specs.Spoken.{IsSpoken};
+
 use crate::sessions::ServiceSessions;
 use counting_link::recorder::Recorder;
 use counting_link::room::Room;
@@ -66,15 +70,17 @@ impl<
 > Program<R> for Answering<I, O, C> {
     type Output = Result<Came<I, O, C>, NoImage>;
 
-    ghost use Rattle.std.specs.Prelude.{⊤};
-
-    ghost gives = { λ _ _ _ _. ⊤ };
+    ghost gives = { λ answering g v result. IfOk result (λ came. IsLeftBy g v (I.Read.remaining answering.streams.input)
+        (O.contents answering.streams.output) (O.contents came.streams.output) came.answered came.image.items) };
 
     fn run<
         N: Room + Send + Sync + 'static,
         L: Recorder<N> + Send + 'static,
         S: FileServer<L> + Send + 'static,
-    >(self, service: Service<N, R, L, S>) -> Result<Came<I, O, C>, NoImage> {
+    >(self, service: Service<N, R, L, S>) -> Result<Came<I, O, C>, NoImage>
+        ensures { IfOk result (λ came. IsLeftBy N.geometry N.opening (I.Read.remaining self.entry.streams.input)
+            (O.contents self.entry.streams.output) (O.contents came.streams.output) came.answered came.image.items) }
+    {
         let Answering { alloc, mut streams } = self;
         let answered = answer_by(alloc, &service, &mut streams);
         let (last_sync, image) = image_of(service.stop(alloc))?;
@@ -100,7 +106,10 @@ fn answer_by<
     alloc: Global,
     service: &Service<N, R, L, S>,
     streams: &mut Streams<I, O, C>,
-) -> Result<(), StreamRefusal> {
+) -> Result<(), StreamRefusal>
+    ensures { OnOk result (IsSpoken N.geometry N.opening (I.Read.remaining streams.old.input) (O.contents streams.old.output)
+        (O.contents streams.new.output)) }
+{
     let mut sessions = ServiceSessions::new(alloc, service);
     let answered = answer_all(
         alloc,
@@ -116,7 +125,9 @@ fn answer_by<
 /// What came of the last sync of a service that was stopped, and the image.
 fn image_of<T: Drop>(
     stopped: Result<Vec<u8>, StopRefusal<T>>,
-) -> Result<(LastSync, Vec<u8>), NoImage> {
+) -> Result<(LastSync, Vec<u8>), NoImage>
+    ensures { IfOk result (λ came. IsImageOf stopped came.0 came.1) }
+{
     match stopped {
         Ok(image) => Ok((LastSync::Done, image)),
         Err(StopRefusal::GivenUp(image)) => Ok((LastSync::GivenUp, image)),

@@ -42,13 +42,13 @@ impl<
     L: Recorder<N> + Send + 'static,
     S: FileServer<L> + Send + 'static,
 > Sessions for ServiceSessions<'_, N, R, L, S> {
-    ghost use Rattle.std.specs.Prelude.{⊤};
+    ghost use Rattle.mount_service.specs.Spoken.{MayAnswer};
 
-    ghost called = { λ _ _ _ _ _ _. ⊤ };
+    ghost called = { λ s session now call outcome t. MayAnswer N.geometry N.opening now call outcome };
 
-    ghost entered = { λ _ _ _ _ _. ⊤ };
+    ghost entered = { λ s uid gid result t. Unit {0} };
 
-    ghost left = { λ _ _. ⊤ };
+    ghost left = { λ s t. Unit {0} };
 
     /// A session of the service, as it makes one.
     fn enter(&mut self, uid: u16, gid: u16) -> Result<u8, EnterRefusal> {
