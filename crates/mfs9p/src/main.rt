@@ -7,7 +7,7 @@ use host::play_words::mfs9p::{Words, read};
 use host::whole_file::replace;
 use modeldisk::supply::table_in;
 use mount_service::mortal::{Mortality, mortal_drivers, mortal_setup};
-use mount_service::mounting::{finish, mount};
+use mount_service::mount::{finish, mount};
 use mount_service::program::Streams;
 use mount_service::telling_gate::Telling;
 use std::io::BufReader;

@@ -8,10 +8,10 @@ use Rattle.shared_server.specs.declared.locked.LastSync.TheVariants as sync
 use Rattle.launch.specs.Ran.{HasRun, IsNotStarted}
 use Rattle.ninep_stream.specs.declared.answering.StreamRefusal.{StreamRefusal}
 use Rattle.mount_service.specs.Left.{IsLeftBy}
-use Rattle.mount_service.specs.declared.mounting.Status.{Status}
-use Rattle.mount_service.specs.declared.mounting.Status.TheVariants.{Done, Refused, GivenUp}
-use Rattle.mount_service.specs.declared.mounting.MountRefusal.{MountRefusal}
-use Rattle.mount_service.specs.declared.mounting.MountRefusal.TheVariants as no
+use Rattle.mount_service.specs.declared.mount.Status.{Status}
+use Rattle.mount_service.specs.declared.mount.Status.TheVariants.{Done, Refused, GivenUp}
+use Rattle.mount_service.specs.declared.mount.MountRefusal.{MountRefusal}
+use Rattle.mount_service.specs.declared.mount.MountRefusal.TheVariants as no
 
 -- A service started on the volume in the image, answered the messages of a stream, all of it where it says so, and left an image.
 pub record IsMounted (image : Option (Bor (List ℕ))) (setup : Setup) (supply : List DriverState) (stream old new : Option (List ℕ))

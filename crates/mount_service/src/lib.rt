@@ -2,7 +2,7 @@
 #![tactic(auto)]
 
 pub mod mortal;
-pub mod mounting;
+pub mod mount;
 pub mod program;
 pub mod sessions;
 pub mod telling_gate;
