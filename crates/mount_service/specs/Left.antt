@@ -18,8 +18,9 @@ IsImageOf (Err (stop.GivenUp image)) GivenUp left = left ≡ image
 IsImageOf (Err (stop.LinkEnded image)) Cut left = left ≡ image
 IsImageOf _ _ _ = ⊥
 
--- A service on this volume answered the messages of a stream, all of it where it says so, and left an image, whose media have as many sectors as
--- were handed in, and outside of the volume each as it was handed in.
-pub record IsLeftBy (g : Geometry) (v : Opening) (stream old new : Option (List ℕ)) (answered : Result (Unit {0}) StreamRefusal) (image : List ℕ) : Type 0 where
+-- A service on this volume answered the messages of a stream, all of it where it says so, and left an image, whose media have as many
+-- sectors as were handed in, and outside of the volume each as it was handed in.
+pub record IsLeftBy (g : Geometry) (v : Opening) (stream old new : Option (List ℕ)) (answered : Result (Unit {0}) StreamRefusal)
+    (image : List ℕ) : Type 0 where
   pub spoken : OnOk answered (IsSpoken g v stream old new)
   pub outside : IsImageOutside v image

@@ -62,7 +62,8 @@ pub answered_more : {S : Type 0} (R : List ℕ → List ℕ → S → S → Type
 answered_more R a b c o p q s t u so_far one = record {
   messages = so_far.messages ++ one.message ∷ [];
   replies = so_far.replies ++ one.answer ∷ [];
-  whole = All-append IsMessage so_far.messages (one.message ∷ []) so_far.whole (All-cons IsMessage one.message [] one.whole (All-nil IsMessage));
+  whole = All-append IsMessage so_far.messages (one.message ∷ []) so_far.whole
+      (All-cons IsMessage one.message [] one.whole (All-nil IsMessage));
   taken = subst (Consumes a c) (sym (one_more so_far.messages one.message)) (consumes_more a b c _ _ so_far.taken one.taken);
   given = subst (Appends o q) (sym (one_more so_far.replies one.answer)) (appends_more o p q _ _ so_far.given one.given);
   leads = lead_more R so_far.messages so_far.replies one.message one.answer s t u so_far.leads one.leads;

@@ -6,7 +6,8 @@ use Rattle.ninep_stream.specs.Messages.{IsMessage}
 
 -- One message was taken, and bytes went out. A relation says of both that they are a message and its answer, and how the state of the
 -- sessions went on with it.
-pub record IsAnswered {S : Type 0} (answers : List ℕ → List ℕ → S → S → Type 0) (before after old new : Option (List ℕ)) (s t : S) : Type 0 where
+pub record IsAnswered {S : Type 0} (answers : List ℕ → List ℕ → S → S → Type 0) (before after old new : Option (List ℕ))
+    (s t : S) : Type 0 where
   pub message : List ℕ
   pub answer : List ℕ
   pub whole : IsMessage message
@@ -22,7 +23,8 @@ Lead answers (m ∷ ms) [] s t = ⊥
 Lead {S} answers (m ∷ ms) (r ∷ rs) s t = (u : S) × answers m r s u × Lead answers ms rs u t
 
 -- messages were taken, one after the other, and an answer to each went out, in the same order
-pub record AreAnswered {S : Type 0} (answers : List ℕ → List ℕ → S → S → Type 0) (before after old new : Option (List ℕ)) (s t : S) : Type 0 where
+pub record AreAnswered {S : Type 0} (answers : List ℕ → List ℕ → S → S → Type 0) (before after old new : Option (List ℕ))
+    (s t : S) : Type 0 where
   pub messages : List (List ℕ)
   pub replies : List (List ℕ)
   pub whole : All IsMessage messages
@@ -36,7 +38,8 @@ IsAllOf None bytes = ⊤
 IsAllOf (Some known) bytes = known ≡ bytes
 
 -- a stream was messages, one after the other, and an answer to each went out, in the same order
-pub record IsAnsweredWhole {S : Type 0} (answers : List ℕ → List ℕ → S → S → Type 0) (stream old new : Option (List ℕ)) (s t : S) : Type 0 where
+pub record IsAnsweredWhole {S : Type 0} (answers : List ℕ → List ℕ → S → S → Type 0) (stream old new : Option (List ℕ))
+    (s t : S) : Type 0 where
   pub messages : List (List ℕ)
   pub replies : List (List ℕ)
   pub whole : All IsMessage messages

@@ -68,8 +68,8 @@ impl Answerer {
         sessions: &mut S,
     ) -> Result<bool, StreamRefusal>
         ensures answered { IfOk result (λ some. OnTrue some
-            (IsAnswered (answers S.called S.entered S.left) (I.remaining input.old) (I.remaining input.new) (O.contents output.old) (O.contents output.new)
-            sessions.old sessions.new)) }
+            (IsAnswered (answers S.called S.entered S.left) (I.remaining input.old) (I.remaining input.new)
+            (O.contents output.old) (O.contents output.new) sessions.old sessions.new)) }
         ensures ended { IfOk result (λ some. OnFalse some (IsAtEnd (I.remaining input.old))) }
         ensures silent { IfOk result (λ some. OnFalse some ((output.new ≡ output.old) × (sessions.new ≡ sessions.old))) }
     {
@@ -92,7 +92,8 @@ impl Answerer {
     /// Reads the next message. Whether there was one.
     fn read<I: BufRead>(&mut self, input: &mut I) -> Result<bool, StreamRefusal>
         ensures message { IfOk result (λ some. OnTrue some (IsMessage self.new.message.items)) }
-        ensures taken { IfOk result (λ some. OnTrue some (Consumes (I.remaining input.old) (I.remaining input.new) self.new.message.items)) }
+        ensures taken { IfOk result (λ some. OnTrue some
+            (Consumes (I.remaining input.old) (I.remaining input.new) self.new.message.items)) }
         ensures ended { IfOk result (λ some. OnFalse some (IsAtEnd (I.remaining input.old))) }
     {
         let most = self.connection.message_size();
@@ -113,8 +114,8 @@ pub fn answer_all<I: BufRead, O: Write, C: Clock, S: Sessions>(
     clock: &C,
     sessions: &mut S,
 ) -> Result<(), StreamRefusal>
-    ensures { OnOk result (IsAnsweredWhole (answers S.called S.entered S.left) (I.remaining input.old) (O.contents output.old) (O.contents output.new)
-        sessions.old sessions.new) }
+    ensures { OnOk result (IsAnsweredWhole (answers S.called S.entered S.left) (I.remaining input.old)
+        (O.contents output.old) (O.contents output.new) sessions.old sessions.new) }
 {
     let mut answerer = Answerer::new(alloc);
     for _ in 0..u64::MAX {
