@@ -1,1 +1,4 @@
 pub mod Turns
+pub mod PathLaws
+pub mod FidLaws
+pub mod SendLaws

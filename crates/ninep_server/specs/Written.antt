@@ -1,8 +1,8 @@
 -- The bytes of what is said to a message.
-use Rattle.std.specs.Prelude.{◌≡◌, ◌≤◌, ℕ, ◌-◌, Bool, List, [], ◌∷◌, ◌++◌, length, take, slice_index, codes, if◌then◌else◌}
+use Rattle.std.specs.Prelude.{◌≡◌, ◌≤◌, ℕ, ◌+◌, ◌-◌, Bool, List, [], ◌∷◌, ◌++◌, length, take, slice_index, codes, if◌then◌else◌}
 use Rattle.std.specs.List.{flat_map}
 use Rattle.std.specs.Int.{w16, from_le_bytes}
-use Rattle.ninep.specs.Fields.{One, Two, Four, Eight, Field, Number, Text, Data}
+use Rattle.ninep.specs.Fields.{One, Two, Four, Eight, Field, Number, Text, Data, fields_bytes}
 use Rattle.ninep.specs.Requests.{Tagged, spelling}
 use Rattle.ninep.specs.Replies.{qid_fields, room_fields, attribute_fields}
 use Rattle.errno.specs.declared.Errno.TheVariants.{EIO}
@@ -98,6 +98,10 @@ told limit tag s = record { tag = tag; body = record { number = said_number s; f
 abbrev pub too_long : Said
 too_long = said.Plain (answer.Refused (By EIO))
 
+-- how many bytes that has: its size, its type and its tag are seven
+abbrev pub size_told : ℕ → Said → ℕ
+size_told limit s = 7 + length (fields_bytes (said_fields (limit - 24) s))
+
 -- one message more, of at most so many bytes: this is said
 abbrev pub IsWritten : ℕ → ℕ → Said → List ℕ → List ℕ → Type 0
-IsWritten limit tag s old new = (new ≡ old ++ spelling (told limit tag s)) × (length (spelling (told limit tag s)) ≤ limit)
+IsWritten limit tag s old new = (new ≡ old ++ spelling (told limit tag s)) × (size_told limit s ≤ limit)

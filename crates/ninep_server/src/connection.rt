@@ -101,6 +101,25 @@ fn serve<S: Sessions>(knows: &mut Knows, sessions: &mut S, now: u32, request: &R
     }
 }
 
+/// What is said to a message, or that there is no room for what could be said.
+fn said_to<S: Sessions>(
+    knows: &mut Knows,
+    sessions: &mut S,
+    now: u32,
+    bytes: &[u8],
+    has_room: bool,
+) -> Said
+    ensures { HasAsked (MayHear S.called S.entered S.left now) sessions.old result sessions.new }
+{
+    if !has_room {
+        return Said::Plain(Answer::Refused(Refused::By(Errno::ENOMEM)));
+    }
+    match read(bytes) {
+        Ok(message) => serve(knows, sessions, now, &message.request),
+        Err(fault) => Said::Plain(Answer::Refused(refusal_of(fault))),
+    }
+}
+
 impl Connection {
     ghost use Rattle.ninep_server.specs.Connections.{Answers, limit_of};
 
@@ -138,14 +157,8 @@ impl Connection {
         ensures none { result ≡ Err End.NoMessage → (sessions.new ≡ sessions.old) × (out.new.items ≡ out.old.items) }
     {
         let tag = tag_of(bytes)?;
-        let said = if out.reserve(self.knows.message_size as usize).is_err() {
-            Said::Plain(Answer::Refused(Refused::By(Errno::ENOMEM)))
-        } else {
-            match read(bytes) {
-                Ok(message) => serve(&mut self.knows, sessions, now, &message.request),
-                Err(fault) => Said::Plain(Answer::Refused(refusal_of(fault))),
-            }
-        };
+        let has_room = out.reserve(self.knows.message_size as usize).is_ok();
+        let said = said_to(&mut self.knows, sessions, now, bytes, has_room);
         send(out, self.knows.message_size, tag, &said)
     }
 }

@@ -28,7 +28,9 @@ pub(crate) struct Knows {
 
 impl Knows {
     /// A new connection's: no user is attached.
-    pub(crate) fn new(alloc: Global) -> Knows {
+    pub(crate) fn new(alloc: Global) -> Knows
+        ensures { result.message_size ≡ 65560 }
+    {
         Knows {
             alloc,
             message_size: MAX_MESSAGE,

@@ -1,7 +1,7 @@
 //! Paths of fids: each name behind a slash, so that the root's is empty.
 
 ghost use Rattle.std.specs.Prelude.{◌≡◌, ◌++◌, IfOk, IfSome, IfNone};
-ghost use Rattle.ninep_server.specs.Paths.{IsRest, IsElsewhere, called, below};
+ghost use Rattle.ninep_server.specs.Paths.{IsRest, IsElsewhere, is_rest, called, below};
 
 use std::alloc::{AllocError, Global};
 
@@ -22,17 +22,26 @@ pub(crate) fn below(alloc: Global, directory: &[u8], name: &[u8]) -> Result<Vec<
     Ok(path)
 }
 
+/// Whether bytes may stand behind a path in one that is the same or lies below it.
+#[tactic(auto, using(crate::proofs::PathLaws::rest_of_none, crate::proofs::PathLaws::rest_of_some))]
+fn is_rest(bytes: &[u8]) -> bool
+    ensures { result ≡ is_rest bytes.now }
+{
+    if bytes.is_empty() {
+        return true;
+    }
+    bytes[0] == b'/'
+}
+
 /// What a path has behind another one, where it is that one or lies below it.
 pub(crate) fn rest<'a>(path: &'a [u8], old: &[u8]) -> Option<&'a [u8]>
     ensures some { IfSome result (λ rest. (path.now ≡ old.now ++ rest.now) × IsRest rest.now) }
     ensures none { IfNone result (IsElsewhere old.now path.now) }
 {
-    let rest = path.strip_prefix(old)?;
-    if rest.is_empty() || rest[0] == b'/' {
-        Some(rest)
-    } else {
-        None
-    }
+    let Some(rest) = path.strip_prefix(old) else {
+        return None;
+    };
+    if is_rest(rest) { Some(rest) } else { None }
 }
 
 /// A path, and what is behind it.

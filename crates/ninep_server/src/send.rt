@@ -1,7 +1,9 @@
 //! Answers, as they are written.
 
-ghost use Rattle.std.specs.Prelude.{◌≡◌, ◌⊎◌, ◌≤◌, take, OnOk, IfErr};
-ghost use Rattle.ninep.specs.Replies.{reply_fields};
+ghost use Rattle.std.specs.Prelude.{◌≡◌, ◌∷◌, ◌⊎◌, ◌≤◌, length, take, OnOk, IfErr};
+ghost use Rattle.std.specs.List.{AllByRecursion, flat_map};
+ghost use Rattle.ninep.specs.Fields.{Two, Number, Fits};
+ghost use Rattle.ninep.specs.Replies.{qid_fields, reply_fields};
 ghost use Rattle.ninep.specs.declared.reply.Reply.{Reply as ToClient};
 ghost use Rattle.ninep_server.specs.Written.{answer_number, answer_fields, said_number, said_fields, too_long, IsWritten};
 ghost use Rattle.ninep_server.specs.Sending.{IsSent};
@@ -9,7 +11,6 @@ ghost use Rattle.ninep_server.specs.Sending.{IsSent};
 use crate::answer::{Answer, Said};
 use crate::end::End;
 use crate::knows::HEAD;
-use crate::refused::Refused;
 use errno::Errno;
 use ninep::names::MAX_NAMES;
 use ninep::reply::{Attributes, Held, Qid, Reply, Room};
@@ -25,7 +26,8 @@ const SPOKEN: &[u8] = b"9P2000.L";
 
 /// The first of some bytes, at most so many.
 fn within(bytes: &[u8], most: u32) -> &[u8]
-    ensures { result.now ≡ take most bytes.now }
+    ensures bytes { result.now ≡ take most bytes.now }
+    ensures short { length result.now ≤ most }
 {
     if bytes.len() <= most as usize {
         return bytes;
@@ -33,14 +35,41 @@ fn within(bytes: &[u8], most: u32) -> &[u8]
     &bytes[..most as usize]
 }
 
+/// A qid.
+fn own(qid: &Qid) -> Qid
+    ensures { result ≡ qid.now }
+{
+    *qid
+}
+
+/// Qids, of which each number is seen to fit its field.
+fn seen(qids: &[Qid]) -> &[Qid]
+    ensures same { result.now ≡ qids.now }
+    ensures fits { AllByRecursion Fits (flat_map qid_fields qids.now) }
+{
+    for qid in qids {
+        let _ = own(qid);
+    }
+    qids
+}
+
 /// The first of some qids, at most sixteen.
 fn walked(qids: &[Qid]) -> &[Qid]
-    ensures { result.now ≡ take 16 qids.now }
+    ensures first { result.now ≡ take 16 qids.now }
+    ensures few { length result.now ≤ 16 }
 {
     if qids.len() <= MAX_NAMES {
         return qids;
     }
     &qids[..MAX_NAMES]
+}
+
+/// The reply of a walk.
+fn walk_reply(qids: &[Qid]) -> Reply<'_>
+    requires { length qids.now ≤ 16 }
+    ensures { IsSent 111 (Number Two (length qids.now) ∷ flat_map qid_fields qids.now) result }
+{
+    Reply::Walk { qids: seen(qids) }
 }
 
 /// The reply of a room.
@@ -60,7 +89,9 @@ fn attributes_reply<'a>(attributes: Attributes) -> Reply<'a>
 }
 
 /// The reply of a lock that isn't held.
-fn unlocked<'a>(start: u64, length: u64, process: u32) -> Reply<'a> {
+fn unlocked<'a>(start: u64, length: u64, process: u32) -> Reply<'a>
+    ensures { IsSent 55 (answer_fields 0 (Answer.Getlock start length process)) result }
+{
     let held = Held {
         kind: UNLOCKED,
         start,
@@ -80,9 +111,15 @@ fn reply_of(answer: &Answer, most: u32) -> Reply<'_>
             number: refused.number(),
         },
         Answer::Statfs(room) => room_reply(*room),
-        Answer::Open(qid) => Reply::Open { qid: *qid, unit: 0 },
-        Answer::Create(qid) => Reply::Create { qid: *qid, unit: 0 },
-        Answer::Symlink(qid) => Reply::Symlink { qid: *qid },
+        Answer::Open(qid) => Reply::Open {
+            qid: own(qid),
+            unit: 0,
+        },
+        Answer::Create(qid) => Reply::Create {
+            qid: own(qid),
+            unit: 0,
+        },
+        Answer::Symlink(qid) => Reply::Symlink { qid: own(qid) },
         Answer::Rename => Reply::Rename,
         Answer::Readlink(target) => Reply::Readlink {
             target: within(target, MAX_TARGET as u32),
@@ -99,7 +136,7 @@ fn reply_of(answer: &Answer, most: u32) -> Reply<'_>
             process,
         } => unlocked(*start, *length, *process),
         Answer::Link => Reply::Link,
-        Answer::Mkdir(qid) => Reply::Mkdir { qid: *qid },
+        Answer::Mkdir(qid) => Reply::Mkdir { qid: own(qid) },
         Answer::Renameat => Reply::Renameat,
         Answer::Unlinkat => Reply::Unlinkat,
         Answer::Version {
@@ -109,9 +146,9 @@ fn reply_of(answer: &Answer, most: u32) -> Reply<'_>
             message_size: *message_size,
             version: if *known { SPOKEN } else { b"unknown" },
         },
-        Answer::Attach(qid) => Reply::Attach { qid: *qid },
+        Answer::Attach(qid) => Reply::Attach { qid: own(qid) },
         Answer::Flush => Reply::Flush,
-        Answer::Walk(qids) => Reply::Walk { qids: walked(qids) },
+        Answer::Walk(qids) => walk_reply(walked(qids)),
         Answer::Read(bytes) => Reply::Read {
             bytes: within(bytes, most),
         },
@@ -131,6 +168,18 @@ fn reply_to(said: &Said, most: u32) -> Reply<'_>
     }
 }
 
+/// Writes with this tag that an answer is longer than a message may be.
+fn refuse(out: &mut Vec<u8>, limit: u32, tag: u16) -> Result<(), End>
+    ensures ok { OnOk result (IsWritten limit tag too_long out.old.items out.new.items) }
+    ensures err { IfErr result (λ e. e ≡ End.OutOfMemory) }
+{
+    let number = Errno::EIO.number();
+    match write(out, limit, tag, &Reply::Error { number }) {
+        Ok(()) => Ok(()),
+        Err(_) => Err(End::OutOfMemory),
+    }
+}
+
 /// Writes what is said with this tag. Where that is longer than a message may be, EIO is said.
 ///
 /// An error: no memory was found for it, and a part of it may have been written.
@@ -141,13 +190,8 @@ pub(crate) fn send(out: &mut Vec<u8>, limit: u32, tag: u16, said: &Said) -> Resu
     ensures err { IfErr result (λ e. e ≡ End.OutOfMemory) }
 {
     match write(out, limit, tag, &reply_to(said, limit - HEAD)) {
-        Ok(()) => return Ok(()),
-        Err(WriteRefusal::OutOfMemory) => return Err(End::OutOfMemory),
-        Err(WriteRefusal::TooLong) => (),
-    }
-    let too_long = Said::Plain(Answer::Refused(Refused::By(Errno::EIO)));
-    match write(out, limit, tag, &reply_to(&too_long, limit - HEAD)) {
         Ok(()) => Ok(()),
-        Err(_) => Err(End::OutOfMemory),
+        Err(WriteRefusal::OutOfMemory) => Err(End::OutOfMemory),
+        Err(WriteRefusal::TooLong) => refuse(out, limit, tag),
     }
 }

@@ -1,0 +1,30 @@
+-- A reply that is written.
+use Rattle.std.proofs.Common.{◌≡◌, ◌≤◌, ◌<◌, ◌+◌, ◌-◌, ◌^◌, ℕ, zero, suc, List, [], ◌∷◌, ◌++◌, length, take, slice_index_or, subst, arith}
+use Rattle.std.specs.List.{AllByRecursion, flat_map}
+use Rattle.ninep.specs.Fields.{Field, Fits, fields_bytes}
+use Rattle.ninep.specs.Requests.{spelling}
+use Rattle.ninep.specs.Replies.{qid_fields, replied, reply_fields, size_of}
+use Rattle.ninep.specs.declared.reply.Qid.{Qid}
+use Rattle.ninep.specs.declared.reply.Reply.{Reply}
+use Rattle.ninep_server.specs.declared.answer.Said.{Said}
+use Rattle.ninep_server.specs.Sending.{IsSent}
+use Rattle.ninep_server.specs.Written.{said_number, said_fields, IsWritten}
+
+pub written : (limit tag : ℕ) (s : Said) (r : Reply) (old new : List ℕ) → IsSent (said_number s) (said_fields (limit - 24) s) r
+    → (size_of r ≤ limit) × (new ≡ old ++ spelling (replied tag r)) → IsWritten limit tag s old new
+written limit tag s r old new sent is =
+    let P : ℕ → List Field → Type 0 = λ number fields.
+    (new ≡ old ++ spelling (record { tag = tag; body = record { number = number; fields = fields } }))
+    × (7 + length (fields_bytes fields) ≤ limit) in
+    subst (λ (fields : List Field). P (said_number s) fields) sent.1
+    (subst (λ (number : ℕ). P number (reply_fields r)) sent.0 (is.1, is.0))
+
+-- the numbers of one qid more fit their fields
+pub one_more : (qids : List Qid) (i : ℕ) (q : Qid) → i < length qids → q ≡ slice_index_or qids i q → q.kind < 2 ^ 8 → q.version < 2 ^ 32
+    → q.path < 2 ^ 64 → AllByRecursion Fits (flat_map qid_fields (take i qids)) → AllByRecursion Fits (flat_map qid_fields (take (suc i) qids))
+one_more [] i q h e a b c rest = absurd (omega (arith, h))
+one_more (x ∷ xs) zero q h e a b c rest =
+    subst (λ (r : Qid). AllByRecursion Fits (flat_map qid_fields (r ∷ []))) e (a, (b, (c, tt)))
+one_more (x ∷ xs) (suc i) q h e a b c rest =
+    let less : i < length xs = omega (arith, h) in
+    (rest.0, (rest.1.0, (rest.1.1.0, one_more xs i q less e a b c rest.1.1.1)))
