@@ -20,8 +20,10 @@ pub left_outside : {L T : Type 0} (link : LinkWords L) (g : Geometry) (v : Openi
     → IfOk stopped (λ i. IsLastImage link g v seen Went i.items) → IfErr stopped (WhyNotSynced link g v seen back)
     → IsImageOutside v image.items
 left_outside link g v seen back (Ok i) Done image same ok err = subst (λ (x : Vec ℕ). IsImageOutside v x.items) (sym same) ok.outside
-left_outside link g v seen back (Err (stop.GivenUp i)) GivenUp image same ok err = subst (λ (x : Vec ℕ). IsImageOutside v x.items) (sym same) err.outside
-left_outside link g v seen back (Err (stop.LinkEnded i)) Cut image same ok err = subst (λ (x : Vec ℕ). IsImageOutside v x.items) (sym same) err.outside
+left_outside link g v seen back (Err (stop.GivenUp i)) GivenUp image same ok err =
+    subst (λ (x : Vec ℕ). IsImageOutside v x.items) (sym same) err.outside
+left_outside link g v seen back (Err (stop.LinkEnded i)) Cut image same ok err =
+    subst (λ (x : Vec ℕ). IsImageOutside v x.items) (sym same) err.outside
 left_outside link g v seen back (Ok i) GivenUp image same ok err = absurd same
 left_outside link g v seen back (Ok i) Cut image same ok err = absurd same
 left_outside link g v seen back (Err (stop.GivenUp i)) Done image same ok err = absurd same

@@ -23,7 +23,8 @@ leads_plain may plain f s t (e ∷ es) (u, before, last) = (tt, leads_plain may 
 
 -- messages with their answers, without them
 lead_plain : {S : Type 0} (R : List ℕ → List ℕ → S → S → Type 0) (P : List ℕ → List ℕ → Unit {0} → Unit {0} → Type 0)
-    → ((m r : List ℕ) (s t : S) → R m r s t → P m r tt tt) → (ms rs : List (List ℕ)) (s t : S) → Lead R ms rs s t → Lead P ms rs tt tt
+    → ((m r : List ℕ) (s t : S) → R m r s t → P m r tt tt) → (ms rs : List (List ℕ)) (s t : S) → Lead R ms rs s t
+    → Lead P ms rs tt tt
 lead_plain R P f [] [] s t same = refl
 lead_plain R P f [] (r ∷ rs) s t lead = absurd lead
 lead_plain R P f (m ∷ ms) [] s t lead = absurd lead
@@ -32,8 +33,8 @@ lead_plain R P f (m ∷ ms) (r ∷ rs) s t (u, first, rest) = (tt, f m r s u fir
 -- what a service's sessions may answer, without them
 hear_plain : {S : Type 0} (g : Geometry) (v : Opening) (now : ℕ) (s t : S) (a : Ask) (h : Heard)
     → MayHear (λ s session now call outcome t. MayAnswer g v now call outcome) (λ s uid gid result t. Unit {0}) (λ s t. Unit {0}) now s a h t
-    → MayHear {S = Unit {0}} (λ s session now call outcome t. MayAnswer g v now call outcome) (λ s uid gid result t. Unit {0}) (λ s t. Unit {0})
-    now tt a h tt
+    → MayHear {S = Unit {0}} (λ s session now call outcome t. MayAnswer g v now call outcome) (λ s uid gid result t. Unit {0})
+    (λ s t. Unit {0}) now tt a h tt
 hear_plain g v now s t (ask.Enter uid gid) (heard.Entered r) it = it
 hear_plain g v now s t (ask.Enter uid gid) heard.Left it = absurd it
 hear_plain g v now s t (ask.Enter uid gid) (heard.Outcome o) it = absurd it
@@ -46,8 +47,8 @@ hear_plain g v now s t (ask.Call session c) (heard.Outcome o) it = it
 
 -- what was spoken, without the states of the sessions
 spoken : {S : Type 0} (g : Geometry) (v : Opening) (stream old new : Option (List ℕ)) (s t : S)
-    → IsAnsweredWhole (answers (λ s session now call outcome t. MayAnswer g v now call outcome) (λ s uid gid result t. Unit {0}) (λ s t. Unit {0}))
-    stream old new s t
+    → IsAnsweredWhole (answers (λ s session now call outcome t. MayAnswer g v now call outcome) (λ s uid gid result t. Unit {0})
+    (λ s t. Unit {0})) stream old new s t
     → IsSpoken g v stream old new
 spoken g v stream old new s t it = record {
   messages = it.messages;
@@ -61,8 +62,8 @@ spoken g v stream old new s t it = record {
 }
 
 pub spoken_ok : {S E : Type 0} (result : Result (Unit {0}) E) (g : Geometry) (v : Opening) (stream old new : Option (List ℕ)) (s t : S)
-    → OnOk result (IsAnsweredWhole (answers (λ s session now call outcome t. MayAnswer g v now call outcome) (λ s uid gid result t. Unit {0})
-    (λ s t. Unit {0})) stream old new s t)
+    → OnOk result (IsAnsweredWhole (answers (λ s session now call outcome t. MayAnswer g v now call outcome)
+    (λ s uid gid result t. Unit {0}) (λ s t. Unit {0})) stream old new s t)
     → OnOk result (IsSpoken g v stream old new)
 spoken_ok (Ok done) g v stream old new s t it = spoken g v stream old new s t it
 spoken_ok (Err e) g v stream old new s t it = tt

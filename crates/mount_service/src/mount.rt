@@ -106,8 +106,8 @@ pub fn mount<
     streams: Streams<I, O, C>,
     err: &mut E,
 ) -> Ended<I, O, C>
-    ensures mounted { IfSome result.came (λ came. IsMounted image.entry setup.now (map D.state supply.items) (I.Read.remaining streams.input)
-        (O.contents streams.output) (O.contents came.streams.output) came.answered came.image.items) }
+    ensures mounted { IfSome result.came (λ came. IsMounted image.entry setup.now (map D.state supply.items)
+        (I.Read.remaining streams.input) (O.contents streams.output) (O.contents came.streams.output) came.answered came.image.items) }
     ensures status { IfSome result.came (λ came. IsStatus came.answered came.last_sync result.status) }
     ensures unmounted { IfNone result.came ((refusal : MountRefusal)
         × IsUnmounted image.entry name.entry setup.now (map D.state supply.items) refusal) }
