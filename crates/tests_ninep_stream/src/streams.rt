@@ -57,6 +57,7 @@ impl Write for Narrow {
 }
 
 /// A clock that stands.
+#[derive(Drop)]
 pub struct Fixed;
 
 impl Clock for Fixed {
@@ -70,6 +71,7 @@ impl Clock for Fixed {
 }
 
 /// Sessions that are never made.
+#[derive(Drop)]
 pub struct Idle;
 
 impl Sessions for Idle {
