@@ -1,5 +1,5 @@
 -- A fid that goes along with a name.
-use Rattle.std.proofs.Common.{◌≡◌, ℕ, List, ◌++◌, refl, sym, ap, ◌∙◌, inr}
+use Rattle.std.proofs.Common.{◌≡◌, ℕ, List, ◌++◌, sym, ap, ◌∙◌, inr}
 use Rattle.std.proofs.lemmas.List.{append_cancel_left}
 use Rattle.ninep_server.specs.Paths.{IsRest}
 use Rattle.ninep_server.specs.Fids.{IsRenamed}

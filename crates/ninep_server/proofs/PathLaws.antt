@@ -1,8 +1,8 @@
 -- What stands behind a path.
-use Rattle.std.proofs.Common.{◌≡◌, ◌<◌, ℕ, Bool, true, false, List, [], ◌∷◌, ◌++◌, length, slice_index_or, refl, sym, ap, ◌∙◌, arith}
+use Rattle.std.proofs.Common.{◌≡◌, ◌<◌, ℕ, true, false, List, [], ◌∷◌, ◌++◌, length, slice_index_or, refl, sym, ap, ◌∙◌, arith}
 use Rattle.std.specs.Prelude.{◌==◌}
 use Rattle.std.proofs.lemmas.List.{append_cancel_left}
-use Rattle.ninep_server.specs.Paths.{IsRest, IsElsewhere, is_rest}
+use Rattle.ninep_server.specs.Paths.{IsElsewhere, is_rest}
 
 pub rest_of_none : (xs : List ℕ) → length xs ≡ 0 → is_rest xs ≡ true
 rest_of_none [] h = refl

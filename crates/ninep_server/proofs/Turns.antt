@@ -11,7 +11,7 @@ use Rattle.ninep_server.specs.declared.ask.Ask.{Ask}
 use Rattle.ninep_server.specs.declared.ask.Ask.TheVariants as ask
 use Rattle.ninep_server.specs.Written.{IsWritten, too_long}
 use Rattle.ninep_server.specs.Connections.{Answers}
-use Rattle.ninep_server.specs.Talks.{Exchange, EndsInSync, IsPlain, IsBehindSync, IsDone, Reaches, HasAsked}
+use Rattle.ninep_server.specs.Talks.{Exchange, IsPlain, IsBehindSync, IsDone, Reaches, HasAsked}
 
 -- what doesn't say that a sync was done may be said behind anything
 pub plain_behind : (t : Turn) (log : List Exchange) → IsPlain t → IsBehindSync t log

@@ -1,5 +1,5 @@
 -- What a connection answers.
-use Rattle.std.specs.Prelude.{◌≡◌, ℕ, List}
+use Rattle.std.specs.Prelude.{ℕ, List}
 use Rattle.ninep_server.specs.Talks.{HasAsked}
 use Rattle.ninep_server.specs.Written.{IsWritten}
 use Rattle.ninep_server.specs.declared.ask.Ask.{Ask}

@@ -47,7 +47,11 @@ fn files_are_opened(rt: HostRuntime) -> Result<(), Fail> {
         talk.hears(&message, asked.as_str(), b"\x07\x06\0\x0d\0\0\0")?;
     }
     let mut talk = with_file(rt.alloc())?;
-    talk.hears(b"\x0c\x06\0\x02\0\0\0\x03\0\0\0", "", b"\x07\x06\0\x16\0\0\0")
+    talk.hears(
+        b"\x0c\x06\0\x02\0\0\0\x03\0\0\0",
+        "",
+        b"\x07\x06\0\x16\0\0\0",
+    )
 }
 
 /// A read and a write, each behind a seek; at an offset past all files; of a fid that isn't open.
@@ -112,11 +116,7 @@ fn files_are_synced_and_closed(rt: HostRuntime) -> Result<(), Fail> {
     talk.gives(Outcome::Cut)?;
     talk.hears(fsync, "0 Sync;", b"\x07\x09\0\x05\0\0\0")?;
     talk.gives(Outcome::Cut)?;
-    talk.hears(
-        b"\x78\x0a\0\x02\0\0\0",
-        "0 Close { fd: 6 };",
-        b"\x79\x0a\0",
-    )?;
+    talk.hears(b"\x78\x0a\0\x02\0\0\0", "0 Close { fd: 6 };", b"\x79\x0a\0")?;
     talk.hears(b"\x78\x0a\0\x02\0\0\0", "", b"\x07\x0a\0\x09\0\0\0")
 }
 

@@ -32,11 +32,7 @@ fn with_three(alloc: Global) -> Result<Talk, Fail> {
 /// A readlink of this fid asks this; the server refuses it.
 fn stands(talk: &mut Talk, fid: u8, asked: &str) -> Result<(), Fail> {
     talk.gives(refused(Errno::EINVAL))?;
-    talk.hears(
-        &[0x16, 7, 0, fid, 0, 0, 0],
-        asked,
-        b"\x07\x07\0\x16\0\0\0",
-    )
+    talk.hears(&[0x16, 7, 0, fid, 0, 0, 0], asked, b"\x07\x07\0\x16\0\0\0")
 }
 
 /// A fid whose file has lost its name is answered ESTALE.
@@ -116,11 +112,7 @@ fn files_are_removed(rt: HostRuntime) -> Result<(), Fail> {
         b"\x07\x08\0\x74\0\0\0",
     )?;
     talk.gives(done())?;
-    talk.hears(
-        b"\x7a\x08\0\x03\0\0\0",
-        "0 unlink /d/f;",
-        b"\x7b\x08\0",
-    )?;
+    talk.hears(b"\x7a\x08\0\x03\0\0\0", "0 unlink /d/f;", b"\x7b\x08\0")?;
     talk.hears(b"\x7a\x08\0\x03\0\0\0", "", b"\x07\x08\0\x09\0\0\0")?;
     talk.gives(refused(Errno::EBUSY))?;
     talk.hears(

@@ -185,12 +185,7 @@ impl Talk {
     }
 
     /// To this message the sessions are asked this, and this is the answer. Both are given without the four bytes of their sizes.
-    pub(crate) fn hears(
-        &mut self,
-        message: &[u8],
-        asked: &str,
-        answer: &[u8],
-    ) -> Result<(), Fail> {
+    pub(crate) fn hears(&mut self, message: &[u8], asked: &str, answer: &[u8]) -> Result<(), Fail> {
         let mut bytes = Vec::new(self.alloc);
         let size = (message.len() as u32).saturating_add(4);
         bytes.extend_from_slice(&size.to_le_bytes())?;
@@ -210,7 +205,9 @@ impl Talk {
         }
         let size = (answer.len() as u32).saturating_add(4).to_le_bytes();
         if out.get(..4) != Some(size.as_slice()) || out.get(4..) != Some(answer) {
-            return Err(Fail::new(format_args!("{message:?} is answered {out:?}, and not {answer:?}")));
+            return Err(Fail::new(format_args!(
+                "{message:?} is answered {out:?}, and not {answer:?}"
+            )));
         }
         Ok(())
     }

@@ -47,11 +47,7 @@ fn users(rt: HostRuntime) -> Result<(), Fail> {
         "",
         b"\x07\x03\0\x16\0\0\0",
     )?;
-    talk.hears(
-        VERSION,
-        "leave;",
-        b"\x65\xff\xff\0\x20\0\0\x08\x009P2000.L",
-    )?;
+    talk.hears(VERSION, "leave;", b"\x65\xff\xff\0\x20\0\0\x08\x009P2000.L")?;
     talk.hears(b"\x78\x04\0\x01\0\0\0", "", b"\x07\x04\0\x09\0\0\0")
 }
 
@@ -80,11 +76,7 @@ fn walks(rt: HostRuntime) -> Result<(), Fail> {
         "0 lstat /e;",
         b"\x07\x05\0\x0d\0\0\0",
     )?;
-    talk.hears(
-        b"\x6e\x05\0\x02\0\0\0\x03\0\0\0\0\0",
-        "",
-        b"\x6f\x05\0\0\0",
-    )?;
+    talk.hears(b"\x6e\x05\0\x02\0\0\0\x03\0\0\0\0\0", "", b"\x6f\x05\0\0\0")?;
     talk.gives(node(2, 0o40755))?;
     talk.hears(
         b"\x6e\x05\0\x01\0\0\0\x04\0\0\0\x02\0\x01\0d\x03\0a/b",

@@ -1,4 +1,3 @@
-use Rattle.std.proofs.Common.{◌≡◌}
 use Rattle.ninep_server.proofs.Turns.{goes_on, syncs}
 use Rattle.ninep_server.proofs.connection.step.Goals as goal
 

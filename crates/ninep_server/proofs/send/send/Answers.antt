@@ -1,5 +1,4 @@
-use Rattle.std.proofs.Common.{◌≡◌, ◌++◌, List, ℕ, inl, inr, subst}
-use Rattle.ninep_server.specs.Written.{IsWritten, too_long}
+use Rattle.std.proofs.Common.{inl}
 use Rattle.ninep_server.proofs.SendLaws.{written}
 use Rattle.ninep_server.proofs.send.send.Goals as goal
 

@@ -1,4 +1,3 @@
-use Rattle.std.proofs.Common.{◌≡◌}
 use Rattle.ninep_server.proofs.Turns.{answered}
 use Rattle.ninep_server.proofs.connection.Connection.answer.Goals as goal
 

@@ -1,4 +1,4 @@
-use Rattle.std.proofs.Common.{◌≡◌, refl, sym, ◌∙◌}
+use Rattle.std.proofs.Common.{refl, sym, ◌∙◌}
 use Rattle.ninep_server.proofs.FidLaws.{goes_along}
 use Rattle.ninep_server.proofs.fid.Fid.rename.Goals as goal
 
