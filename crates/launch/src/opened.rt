@@ -67,7 +67,7 @@ pub fn over<
 }
 
 /// The refusal of a mount, as a start has it: memory that is wanting is wanting to the start.
-fn refusal_of(refusal: MountRefusal) -> StartRefusal
+pub fn refusal_of(refusal: MountRefusal) -> StartRefusal
     ensures { result ≡ start_refusal_of refusal }
 {
     match refusal {

@@ -6,6 +6,8 @@ pub mod admitting;
 pub mod client;
 pub mod players;
 pub mod script_session;
+pub mod starting;
 pub mod turns;
 
-pub use players::{Came, ServiceRefusal, play_scripts};
+pub use players::{Came, ServiceRefusal};
+pub use starting::play_scripts;

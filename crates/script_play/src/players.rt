@@ -8,21 +8,14 @@ ghost use Rattle.shared_server.specs.Finishing.{sync_of};
 ghost use Rattle.script_text.specs.Said.{said};
 ghost use Rattle.script_play.specs.Turns.{ArePlayed, seen_by};
 ghost use Rattle.script_play.specs.Vouched.{Vouched};
-ghost use Rattle.launch.specs.Ran.{HasRun, IsNotStarted};
 ghost use Rattle.script_play.specs.Served.{AreServed, IsImageOf, service_text};
 
 use crate::admitting::admit_all;
 use crate::script_session::ScriptSession;
 use crate::turns::play_together;
-use bdev::BlockDriver;
 use counting_link::recorder::Recorder;
 use counting_link::room::Room;
 use file_server::FileServer;
-use gate::Gate;
-use launch::StartRefusal;
-use launch::program::Program;
-use launch::start::serve;
-use reincarnate::policy::Setup;
 use reply_text::answers::Played;
 use script_text::script::Script;
 use serve::service::Service;
@@ -31,7 +24,7 @@ use shared_server::locked::LastSync;
 use shared_server::refusal::SessionRefusal;
 use std::alloc::Global;
 use std::fmt;
-use std::sync::{Arc, Wait};
+use std::sync::Wait;
 use std::thread::Threads;
 
 /// Why no image comes of a service that started.
@@ -68,61 +61,28 @@ pub struct Came {
     pub image: Vec<u8>,
 }
 
-/// Scripts, to be played each in a session and a thread of its own.
-#[derive(Drop)]
-struct Players<'t, R: Threads + Copy> {
-    alloc: Global,
-    rt: R,
-    scripts: Vec<Script<'t>>,
-}
-
-impl<R: Threads + Wait + Copy + Send + Sync + 'static> Program<R> for Players<'_, R> {
-    type Output = Result<Came, ServiceRefusal>;
-
-    ghost gives = { λ players g v result. IfOk result (λ came.
-        AreServed g v (map said players.scripts.items) came.sessions.items came.last_sync came.image.items) };
-
-    fn run<
-        N: Room + Send + Sync + 'static,
-        L: Recorder<N> + Send + 'static,
-        S: FileServer<L> + Send + 'static,
-    >(self, service: Service<N, R, L, S>) -> Result<Came, ServiceRefusal>
-        ensures { IfOk result (λ came.
-            AreServed N.geometry N.opening (map said self.entry.scripts.items) came.sessions.items came.last_sync came.image.items) }
-    {
-        let (sessions, last) = play_all(self.alloc, &self.rt, &service, self.scripts.as_slice())?;
-        let (last_sync, image) = stop(self.alloc, service, last)?;
-        Ok(Came {
-            sessions,
-            last_sync,
-            image,
-        })
-    }
-}
-
-/// Starts a service on the volume in an image, whose threads ask this gate, plays scripts at one time, each in a session and a thread of
-/// its own, and stops the service.
-///
-/// The service is refused as `launch::start::serve` refuses it, and then nothing is played; of a service that started no image may come.
-pub fn play_scripts<
-    R: Threads + Wait + Copy + Send + Sync + 'static,
-    D: BlockDriver + 'static,
-    G: Gate + 'static,
+/// Plays scripts on a service at one time, each in a session and a thread of its own, and stops the service.
+pub fn play_on<
+    N: Room + Send + Sync,
+    R: Threads + Wait + Copy + Send + Sync,
+    L: Recorder<N> + Send,
+    S: FileServer<L> + Send,
 >(
     alloc: Global,
-    rt: R,
-    image: &[u8],
-    scripts: Vec<Script<'_>>,
-    setup: &Setup,
-    supply: Vec<D>,
-    gate: Arc<G>,
-) -> Result<Result<Came, ServiceRefusal>, StartRefusal>
-    ensures refusal { IfErr result (IsNotStarted image.now setup.now (map D.state supply.items)) }
-    ensures played { IfOk result (λ o. HasRun image.now setup.now (map D.state supply.items) (λ g v. IfOk o (λ came.
-        AreServed g v (map said scripts.entry.items) came.sessions.items came.last_sync came.image.items))) }
+    rt: &R,
+    service: Service<N, R, L, S>,
+    scripts: &[Script<'_>],
+) -> Result<Came, ServiceRefusal>
+    ensures { IfOk result (λ came.
+        AreServed N.geometry N.opening (map said scripts.now) came.sessions.items came.last_sync came.image.items) }
 {
-    let players = Players { alloc, rt, scripts };
-    serve(alloc, rt, image, setup, supply, gate, players)
+    let (sessions, last) = play_all(alloc, rt, &service, scripts)?;
+    let (last_sync, image) = stop(alloc, service, last)?;
+    Ok(Came {
+        sessions,
+        last_sync,
+        image,
+    })
 }
 
 /// Plays scripts, each in a session and a thread of its own; all sessions are made before a call is. What came of them, and the last
