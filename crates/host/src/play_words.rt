@@ -4,8 +4,8 @@ pub mod mfs;
 pub mod mfs9p;
 pub mod mfssim;
 
-use clap::{Arg, ArgAction};
 use clap::builder::ValueParser;
+use clap::{Arg, ArgAction};
 use std::alloc::Global;
 
 /// A word that takes a number up to a most.

@@ -7,8 +7,8 @@ ghost use Rattle.modeldisk.specs.Script.{has_arm, inner_state};
 ghost use Rattle.mount_service.specs.Mortal.{IsMortal, faults_by, setup_by};
 
 use media::partition::Table;
-use modeldisk::{Fault, FaultKind, Inner, ModelDriver, RamDriver, ScriptedDriver};
 use modeldisk::supply::setup_for;
+use modeldisk::{Fault, FaultKind, Inner, ModelDriver, RamDriver, ScriptedDriver};
 use reincarnate::policy::{Policy, Setup};
 use std::alloc::{AllocError, Global};
 

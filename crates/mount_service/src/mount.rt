@@ -169,7 +169,15 @@ fn run<
     let Some(bytes) = image else {
         return Err(MountRefusal::CannotRead(name));
     };
-    match serve(alloc, rt, bytes, setup, supply, gate, Answering { alloc, streams }) {
+    match serve(
+        alloc,
+        rt,
+        bytes,
+        setup,
+        supply,
+        gate,
+        Answering { alloc, streams },
+    ) {
         Ok(Ok(came)) => Ok(came),
         Ok(Err(refusal)) => Err(MountRefusal::NoImage(refusal)),
         Err(refusal) => Err(MountRefusal::Start(refusal)),

@@ -20,7 +20,13 @@ pub struct ServiceSessions<'s, N: Room, R: Wait + Copy, L: Recorder<N>, S: FileS
     sessions: Vec<Session<N, Shared<N, R, L, S>>>,
 }
 
-impl<'s, N: Room, R: Wait + Copy, L: Recorder<N>, S: FileServer<L>> ServiceSessions<'s, N, R, L, S> {
+impl<'s, N: Room, R: Wait + Copy, L: Recorder<N>, S: FileServer<L>> ServiceSessions<
+    's,
+    N,
+    R,
+    L,
+    S,
+> {
     /// None of this service.
     pub fn new(alloc: Global, service: &'s Service<N, R, L, S>) -> ServiceSessions<'s, N, R, L, S> {
         ServiceSessions {
@@ -31,7 +37,10 @@ impl<'s, N: Room, R: Wait + Copy, L: Recorder<N>, S: FileServer<L>> ServiceSessi
 
     /// The session of this number.
     fn session(&mut self, number: u8) -> Option<&mut Session<N, Shared<N, R, L, S>>> {
-        let place = self.sessions.iter().position(|session| session.number() == number)?;
+        let place = self
+            .sessions
+            .iter()
+            .position(|session| session.number() == number)?;
         Some(&mut self.sessions[place])
     }
 }

@@ -12,6 +12,7 @@ use std::test::Fail;
 
 /// A version, and its answer; they differ in the type.
 const ASKED: &[u8] = b"\x15\0\0\0\x64\xff\xff\0\0\x01\0\x08\09P2000.L";
+
 const TOLD: &[u8] = b"\x15\0\0\0\x65\xff\xff\0\0\x01\0\x08\09P2000.L";
 
 /// How the messages of these bytes are answered, which come in pieces of so many, where so many bytes of answers are taken: how it ends,
@@ -79,7 +80,14 @@ fn sizes_are_refused(rt: HostRuntime) -> Result<(), Fail> {
     let alloc = rt.alloc();
     let bad = |size: u32| Err(StreamRefusal::Input(InputRefusal::BadSize(size)));
     is_answered(alloc, "six", b"\x06\0\0\0\x64\xff", 9, 1000, (bad(6), b""))?;
-    is_answered(alloc, "large", b"\x19\0\x01\0\x64", 9, 1000, (bad(65561), b""))?;
+    is_answered(
+        alloc,
+        "large",
+        b"\x19\0\x01\0\x64",
+        9,
+        1000,
+        (bad(65561), b""),
+    )?;
     let mut bytes = b"\x15\0\0\0\x64\xff\xff\0\x10\0\0\x08\09P2000.L".to_vec(alloc)?;
     bytes.extend_from_slice(b"\x01\x10\0\0\x64")?;
     let told = b"\x15\0\0\0\x65\xff\xff\0\x10\0\0\x08\09P2000.L";

@@ -21,10 +21,15 @@ fn command<'a>(alloc: Global) -> Result<Command<'a>, AllocError> {
     let file = "The file of a MINIX 3 volume; it is read only, unless --out names it";
     Command::new(alloc, "mfs9p")
         .version("0.1.0")
-        .about("Serves the image of a volume by 9P, so that Linux mounts it, while its drivers may die")
+        .about(
+            "Serves the image of a volume by 9P, so that Linux mounts it, while its drivers may die",
+        )
         .after_help(MOUNTING)
         .arg(image(alloc, file))?
-        .arg(out(alloc, "Writes the image as it is once the input has ended to this file"))?
+        .arg(out(
+            alloc,
+            "Writes the image as it is once the input has ended to this file",
+        ))?
         .arg(minor(alloc))?
         .arg(spares(alloc))?
         .arg(model(alloc))?
