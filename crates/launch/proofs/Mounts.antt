@@ -1,10 +1,9 @@
 -- From a volume that was mounted to what a service holds, or why it doesn't start.
-use Rattle.std.proofs.Common.{◌≡◌, ℕ, List, [], ◌++◌, Bool, true, false, sym, ap, ◌∙◌, subst}
+use Rattle.std.proofs.Common.{◌≡◌, ℕ, List, [], ◌++◌, sym, ap, ◌∙◌, subst}
 use Rattle.layout.specs.declared.Geometry.{Geometry}
 use Rattle.tree.specs.declared.Call.{Call}
-use Rattle.tree.specs.Tree.{Tree}
-use Rattle.records.specs.Marks.{Mark, gave_up}
-use Rattle.records.specs.Disk.{Contents, HasTrueReplies}
+use Rattle.records.specs.Marks.{Mark}
+use Rattle.records.specs.Disk.{HasTrueReplies}
 use Rattle.records.specs.Acts.{KeepsRules, empty_outbox, marks_after, told_of}
 use Rattle.records.specs.Opening.{Opening, contents_at}
 use Rattle.records.specs.Told.{Told}
@@ -13,7 +12,6 @@ use Rattle.reincarnate.specs.declared.policy.Policy.{Policy}
 use Rattle.records.specs.Legal.{IsAtFirst}
 use Rattle.records.specs.Mount.{MountRefused}
 use Rattle.reissue.specs.declared.link.Link.{Ghosts as LinkWords}
-use Rattle.file_server.specs.Over.{Stands}
 use Rattle.counting_link.specs.declared.room.Room.{Ghosts as RoomWords}
 use Rattle.shared_server.specs.Held.{IsHeld}
 use Rattle.stored.specs.declared.Stored.{Stored}
@@ -22,7 +20,6 @@ use Rattle.mounting.specs.declared.whole.MountRefusal.TheVariants as mount
 use Rattle.mounting.specs.Laws.{sizes_in}
 use Rattle.mounting.specs.Mounts.{in_words}
 use Rattle.mounting.proofs.OfImage.{mounted_on_image, refused_by_image}
-use Rattle.mounting.specs.declared.refusal.StartRefusal.TheVariants.{OutOfMemory}
 use Rattle.mounting.specs.vfs.declared.server.Server.{Server}
 use Rattle.mounting.specs.Mounted.{IsMounted, IsNotMounted}
 use Rattle.mounting.specs.vfs.OverLink.{IsReadyOver, line_of, serving_over}

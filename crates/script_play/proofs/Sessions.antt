@@ -1,7 +1,7 @@
 -- Sessions whose calls were made at one time, and that then meet.
-use Rattle.std.proofs.Common.{◌≡◌, ℕ, suc, take, ◌-◌, ◌+◌, ◌<◌, ◌≤◌, arith, List, [], ◌∷◌, ◌++◌, length, length-append, map, refl, sym, ap}
-use Rattle.std.proofs.Common.{◌∙◌, append-nil, append_assoc, subst, Option, Some, None, Result, Ok, Err, inl, inr, ◌⊎◌, reverse}
-use Rattle.std.specs.Prelude.{All, slice_index_or}
+use Rattle.std.proofs.Common.{◌≡◌, ℕ, suc, take, ◌-◌, ◌<◌, ◌≤◌, arith, List, [], ◌∷◌, ◌++◌, length, length-append, map, refl, sym, ap}
+use Rattle.std.proofs.Common.{◌∙◌, append-nil, append_assoc, subst, Result, Ok, inl, inr, ◌⊎◌, reverse}
+use Rattle.std.specs.Prelude.{slice_index_or}
 use Rattle.std.proofs.lemmas.List.{reverse-append}
 use Rattle.tree.specs.Tree.{most_sessions}
 use Rattle.tree.specs.declared.Who.{Who}
@@ -14,8 +14,8 @@ use Rattle.script_play.specs.Made.{Plays, calls_made}
 use Rattle.script_play.specs.declared.turns.Turn.{Turn}
 use Rattle.script_play.specs.declared.turns.Taken.{Taken}
 use Rattle.script_play.specs.Turns.{ArePlayed, AreResults, AreTaken, EachIn, HaveEnded, HaveMet, HaveSeen, IsTaken, IsTurn, IsUnplayed}
-use Rattle.script_play.specs.Turns.{asked, seen_by}
-use Rattle.script_play.proofs.Later.{begins_all, begins_self, begins_through, goes_later, later_self, same_caller}
+use Rattle.script_play.specs.Turns.{asked}
+use Rattle.script_play.proofs.Later.{begins_self, begins_through, same_caller}
 
 -- ---- a session
 

@@ -1,4 +1,4 @@
-use Rattle.std.proofs.Common.{◌≡◌, ℕ, List, length, reverse}
+use Rattle.std.proofs.Common.{ℕ, List, length, reverse}
 use Rattle.script_text.specs.declared.timed.TimedCall.{TimedCall}
 use Rattle.reply_text.specs.declared.answers.Played.{Played}
 use Rattle.script_play.specs.Turns.{AreTaken, HaveSeen, IsTurn}

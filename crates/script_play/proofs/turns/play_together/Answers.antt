@@ -1,5 +1,5 @@
 use Rattle.std.proofs.Common.{◌≡◌, ◌∷◌, [], ◌++◌, Ok, map, rules}
-use Rattle.script_play.specs.Turns.{AreResults, asked}
+use Rattle.script_play.specs.Turns.{asked}
 use Rattle.script_play.proofs.Sessions.{none_played, none_popped, all_played, results_of}
 use Rattle.script_play.proofs.turns.play_together.Goals as goal
 
