@@ -1,0 +1,3 @@
+pub mod Messages
+pub mod Answered
+pub mod Exchanges

@@ -1,0 +1,146 @@
+//! Messages that are answered as they come.
+
+ghost use Rattle.std.specs.Prelude.{◌≡◌, IfOk, OnOk};
+ghost use Rattle.std.specs.Bool.{OnTrue, OnFalse};
+ghost use Rattle.std.specs.Io.KnownBytes.{Appends, Consumes, IsAtEnd};
+ghost use Rattle.ninep_stream.specs.Messages.{IsMessage};
+ghost use Rattle.ninep_stream.specs.Answered.{IsAnswered, IsAnsweredWhole};
+ghost use Rattle.ninep_stream.specs.Exchanges.{answers};
+
+use crate::framing::{InputRefusal, next_message};
+use ninep_server::connection::Connection;
+use ninep_server::sessions::Sessions;
+use output::write_text;
+use std::alloc::Global;
+use std::fmt;
+use std::io::{BufRead, Write};
+use std::time::Clock;
+
+/// Why messages are answered no further, though the stream hasn't ended.
+#[derive(Clone, Copy, Debug, PartialEq, Eq)]
+pub enum StreamRefusal {
+    /// No further message came.
+    Input(InputRefusal),
+    /// No memory was found for an answer, not even for a refusal; nothing of it went out.
+    OutOfMemory,
+    /// The stream of answers refused bytes, or isn't flushed.
+    NotWritten,
+    /// As many messages were answered as 64 bits count.
+    TooMany,
+}
+
+/// Writes why, as a user is told.
+impl fmt::Display for StreamRefusal {
+    fn fmt<W: fmt::Write>(&self, f: &mut fmt::Formatter<W>) -> fmt::Result {
+        match self {
+            StreamRefusal::Input(refusal) => write!(f, "{refusal}"),
+            StreamRefusal::OutOfMemory => f.write_str("OutOfMemory"),
+            StreamRefusal::NotWritten => f.write_str("cannot write standard output"),
+            StreamRefusal::TooMany => f.write_str("TooMany"),
+        }
+    }
+}
+
+/// A connection, with room for a message and for its answer.
+#[derive(Drop)]
+struct Answerer {
+    connection: Connection,
+    message: Vec<u8>,
+    answer: Vec<u8>,
+}
+
+impl Answerer {
+    /// A connection that begins.
+    fn new(alloc: Global) -> Answerer {
+        Answerer {
+            connection: Connection::new(alloc),
+            message: Vec::new(alloc),
+            answer: Vec::new(alloc),
+        }
+    }
+
+    /// Reads the next message, and answers it. Whether there was one.
+    fn next<I: BufRead, O: Write, C: Clock, S: Sessions>(
+        &mut self,
+        input: &mut I,
+        output: &mut O,
+        clock: &C,
+        sessions: &mut S,
+    ) -> Result<bool, StreamRefusal>
+        ensures answered { IfOk result (λ some. OnTrue some
+            (IsAnswered (answers S.called S.entered S.left) (I.remaining input.old) (I.remaining input.new)
+            (O.contents output.old) (O.contents output.new) sessions.old sessions.new)) }
+        ensures ended { IfOk result (λ some. OnFalse some (IsAtEnd (I.remaining input.old))) }
+        ensures silent { IfOk result (λ some. OnFalse some ((output.new ≡ output.old) × (sessions.new ≡ sessions.old))) }
+    {
+        if !self.read(input)? {
+            return Ok(false);
+        }
+        self.answer.clear();
+        let (now, bytes) = (seconds(clock), self.message.as_slice());
+        if self
+            .connection
+            .answer(sessions, now, bytes, &mut self.answer)
+            .is_err()
+        {
+            return Err(StreamRefusal::OutOfMemory);
+        }
+        write(output, self.answer.as_slice())?;
+        Ok(true)
+    }
+
+    /// Reads the next message. Whether there was one.
+    fn read<I: BufRead>(&mut self, input: &mut I) -> Result<bool, StreamRefusal>
+        ensures message { IfOk result (λ some. OnTrue some (IsMessage self.new.message.items)) }
+        ensures taken { IfOk result (λ some. OnTrue some
+            (Consumes (I.remaining input.old) (I.remaining input.new) self.new.message.items)) }
+        ensures ended { IfOk result (λ some. OnFalse some (IsAtEnd (I.remaining input.old))) }
+    {
+        let most = self.connection.message_size();
+        match next_message(input, most, &mut self.message) {
+            Ok(some) => Ok(some),
+            Err(refusal) => Err(StreamRefusal::Input(refusal)),
+        }
+    }
+}
+
+/// Answers each message of a stream by a connection's calls of sessions, in order, until the stream ends. An answer is written whole, and
+/// flushed, before the next message is read. Times of calls are those of this clock.
+#[tactic(auto, using(crate::proofs::Streams::none_answered, crate::proofs::Streams::answered_more, crate::proofs::Streams::answered_whole))]
+pub fn answer_all<I: BufRead, O: Write, C: Clock, S: Sessions>(
+    alloc: Global,
+    input: &mut I,
+    output: &mut O,
+    clock: &C,
+    sessions: &mut S,
+) -> Result<(), StreamRefusal>
+    ensures { OnOk result (IsAnsweredWhole (answers S.called S.entered S.left) (I.remaining input.old)
+        (O.contents output.old) (O.contents output.new) sessions.old sessions.new) }
+{
+    let mut answerer = Answerer::new(alloc);
+    for _ in 0..u64::MAX {
+        if !answerer.next(input, output, clock, sessions)? {
+            return Ok(());
+        }
+    }
+    Err(StreamRefusal::TooMany)
+}
+
+/// Writes an answer, and flushes it.
+#[tactic(auto, using(crate::proofs::Streams::appends_kept))]
+fn write<O: Write>(output: &mut O, answer: &[u8]) -> Result<(), StreamRefusal>
+    ensures { OnOk result (Appends (O.contents output.old) (O.contents output.new) answer.now) }
+{
+    if write_text(output, answer).is_err() || output.flush().is_err() {
+        return Err(StreamRefusal::NotWritten);
+    }
+    Ok(())
+}
+
+/// The seconds since 1970 by a clock, at most those that 32 bits hold; 0 where it gives none.
+fn seconds<C: Clock>(clock: &C) -> u32 {
+    match clock.since_1970() {
+        Ok(since) => since.as_secs().min(u64::from(u32::MAX)) as u32,
+        Err(_) => 0,
+    }
+}

@@ -1,0 +1,93 @@
+//! Streams, a clock and sessions of tests.
+
+use ninep_server::sessions::{EnterRefusal, Sessions};
+use std::alloc::Global;
+use std::io;
+use std::io::{ErrorKind, Read, Write};
+use std::time::{Clock, Duration};
+use tree::{Call, Outcome};
+
+/// Bytes that are read at most so many at a time.
+#[derive(Drop)]
+pub struct Piecemeal<'b> {
+    pub bytes: &'b [u8],
+    pub piece: usize,
+}
+
+impl Read for Piecemeal<'_> {
+    fn read(&mut self, buf: &mut [u8]) -> io::Result<usize> {
+        let count = self.piece.min(self.bytes.len()).min(buf.len());
+        let (front, rest) = self.bytes.split_at(count);
+        buf[..count].copy_from_slice(front);
+        self.bytes = rest;
+        Ok(count)
+    }
+}
+
+/// A writer that takes so many bytes, at most seven at a time, and refuses more.
+#[derive(Drop)]
+pub struct Narrow {
+    pub taken: Vec<u8>,
+    room: usize,
+}
+
+impl Narrow {
+    pub fn new(alloc: Global, room: usize) -> Narrow {
+        Narrow {
+            taken: Vec::new(alloc),
+            room,
+        }
+    }
+}
+
+impl Write for Narrow {
+    fn write(&mut self, buf: &[u8]) -> io::Result<usize> {
+        let count = buf.len().min(self.room).min(7);
+        if count == 0 && !buf.is_empty() {
+            return Err(io::Error::from(ErrorKind::StorageFull));
+        }
+        self.taken.extend_from_slice(&buf[..count])?;
+        self.room -= count;
+        Ok(count)
+    }
+
+    fn flush(&mut self) -> io::Result<()> {
+        Ok(())
+    }
+}
+
+/// A clock that stands.
+#[derive(Drop)]
+pub struct Fixed;
+
+impl Clock for Fixed {
+    fn monotonic(&self) -> io::Result<Duration> {
+        Ok(Duration::from_secs(100))
+    }
+
+    fn since_1970(&self) -> io::Result<Duration> {
+        Ok(Duration::from_secs(100))
+    }
+}
+
+/// Sessions that are never made.
+#[derive(Drop)]
+pub struct Idle;
+
+impl Sessions for Idle {
+    ghost called = { λ s session now call outcome t. Unit {0} };
+
+    ghost entered = { λ s uid gid result t. Unit {0} };
+
+    ghost left = { λ s t. Unit {0} };
+
+    fn enter(&mut self, _uid: u16, _gid: u16) -> Result<u8, EnterRefusal> {
+        Err(EnterRefusal::TooMany)
+    }
+
+    fn call(&mut self, _session: u8, _now: u32, _call: &Call<'_>) -> Outcome {
+        Outcome::Cut
+    }
+
+    fn leave(&mut self) {}
+}
