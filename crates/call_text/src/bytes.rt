@@ -1,6 +1,6 @@
 //! Bytes in hexadecimal, and the flags of open.
 
-ghost use Rattle.std.specs.Prelude.{◌≡◌, ◌++◌, ◌≤◌, OnOk};
+ghost use Rattle.std.specs.Prelude.{◌≡◌, ◌++◌, ◌≤◌, OnOk, OnErr};
 ghost use Rattle.std.specs.List.{list_all};
 ghost use Rattle.std.specs.Option.{option_copied};
 ghost use Rattle.call_text.specs.Bytes.{bit_of, byte_of, digits_in, flags_of, flag_bits, hex_bytes, hex_digit, is_hex, is_hex_digit};
@@ -67,13 +67,15 @@ pub fn digits(word: &[u8]) -> Option<&[u8]>
     }
 }
 
-/// Adds the bytes that pairs of lower-case hexadecimal digits write. Where no memory is found, some may have been added.
+/// Adds the bytes that pairs of lower-case hexadecimal digits write, or none where no memory is found for all of them.
 pub fn push_hex(to: &mut Vec<u8>, digits: &[u8]) -> Result<(), AllocError>
-    ensures { OnOk result (to.new.items ≡ to.old.items ++ hex_bytes digits.now) }
+    ensures ok { OnOk result (to.new.items ≡ to.old.items ++ hex_bytes digits.now) }
+    ensures err { OnErr result (to.new.items ≡ to.old.items) }
 {
+    to.reserve(digits.len() / 2)?;
     let mut rest = digits;
     while let [high, low, after @ ..] = rest {
-        to.push(16 * hex_digit(*high) + hex_digit(*low))?;
+        to.push_reserved(16 * hex_digit(*high) + hex_digit(*low));
         rest = after;
     }
     Ok(())

@@ -1,19 +1,35 @@
-//! Tries schedules with three faults at places that are drawn, and says how many came out wrong.
+//! Tries schedules with faults put in, and says how many came out wrong: with three at places that are drawn, or with one and two at every
+//! place.
 #![tactic(auto)]
 
 use fixtures_faults::drawn::threes;
 use fixtures_faults::draws::Draws;
-use fixtures_faults::settings::{SETTINGS, Setting};
-use fixtures_faults::trial::{events_in, try_all};
+use fixtures_faults::places::{pairs, singles};
+use fixtures_faults::settings::{PLAIN, SETTINGS, Setting};
+use fixtures_faults::trial::{Tried, events_in, try_all};
 use host::command_line::line_of;
+use std::alloc::{AllocError, Global};
 use std::io;
 use std::process::ExitCode;
 
-/// The seed and the count of the words, if they are `--seed S --count N`.
-fn numbers(words: &[String]) -> Option<(u64, u32)> {
+/// Which schedules are tried.
+#[derive(Clone, Copy)]
+enum Wanted {
+    /// So many over all settings, with faults that this seed draws.
+    Drawn(u64, u32),
+    /// The base schedule with each fault and each two faults, until so many came out wrong.
+    Each(u32),
+}
+
+/// What the words ask for, if they are `--seed S --count N`, `--each` or `--each --most M`.
+fn read_words(words: &[String]) -> Option<Wanted> {
     match words {
         [_, seed, s, count, n] if seed.as_str() == "--seed" && count.as_str() == "--count" => {
-            Some((s.parse().ok()?, n.parse().ok()?))
+            Some(Wanted::Drawn(s.parse().ok()?, n.parse().ok()?))
+        }
+        [_, each] if each.as_str() == "--each" => Some(Wanted::Each(u32::MAX)),
+        [_, each, most, m] if each.as_str() == "--each" && most.as_str() == "--most" => {
+            Some(Wanted::Each(m.parse().ok()?))
         }
         _ => None,
     }
@@ -25,39 +41,70 @@ fn share(count: u32, number: u32) -> u32 {
     (count / SETTINGS).saturating_add(more)
 }
 
-/// Tries so many schedules in the setting of this number, and prints those that come out wrong: how many were tried, and how many of them
-/// are wrong.
-fn try_setting<R: Print + AllocGlobal>(
-    rt: &R,
+/// How many schedules were tried, and how many of them came out wrong.
+#[derive(Clone, Copy)]
+struct Counts {
+    runs: u32,
+    wrong: u32,
+}
+
+impl Counts {
+    /// Prints which schedules came out wrong, after the number of their setting, and counts them.
+    fn tell<R: Print>(&mut self, rt: &R, number: u32, tried: &Tried) -> io::Result<()> {
+        for line in tried.which.as_str().lines() {
+            println!(rt; "setting {number}: {line}")?;
+        }
+        self.runs = self.runs.saturating_add(tried.count);
+        self.wrong = self.wrong.saturating_add(tried.wrong);
+        Ok(())
+    }
+}
+
+/// Tries so many schedules in the setting of this number.
+fn try_drawn(
+    alloc: Global,
     draws: &mut Draws,
     number: u32,
     count: u32,
-) -> io::Result<(u32, u32)> {
+) -> Result<Tried, AllocError> {
     let setting = Setting::of(number);
-    let events = events_in(rt.alloc(), &setting)?;
-    let plans = threes(rt.alloc(), draws, events, count)?;
-    let tried = try_all(rt.alloc(), &setting, plans.as_slice())?;
-    for line in tried.which.as_str().lines() {
-        println!(rt; "setting {number}: {line}")?;
+    let plans = threes(alloc, draws, events_in(alloc, &setting)?, count)?;
+    try_all(alloc, &setting, plans.as_slice(), u32::MAX)
+}
+
+/// Tries the base schedule with each fault and each two, until so many came out wrong.
+fn try_each(alloc: Global, most: u32) -> Result<Tried, AllocError> {
+    let events = events_in(alloc, &PLAIN)?;
+    let mut plans = singles(alloc, events)?;
+    plans.append(&mut pairs(alloc, events, 0, events.saturating_add(1))?)?;
+    try_all(alloc, &PLAIN, plans.as_slice(), most)
+}
+
+/// Tries what is wanted, and prints which schedules came out wrong.
+fn try_wanted<R: Print + AllocGlobal>(rt: &R, wanted: Wanted) -> io::Result<Counts> {
+    let mut counts = Counts { runs: 0, wrong: 0 };
+    match wanted {
+        Wanted::Each(most) => counts.tell(rt, 0, &try_each(rt.alloc(), most)?)?,
+        Wanted::Drawn(seed, count) => {
+            let mut draws = Draws::new(seed);
+            for number in 0..SETTINGS {
+                let tried = try_drawn(rt.alloc(), &mut draws, number, share(count, number))?;
+                counts.tell(rt, number, &tried)?;
+            }
+        }
     }
-    Ok((tried.count, tried.wrong))
+    Ok(counts)
 }
 
 fn main(rt: HostRuntime) -> io::Result<ExitCode> {
     let Some(line) = line_of(&rt)? else {
         return Ok(ExitCode::from(2));
     };
-    let Some((seed, count)) = numbers(line.as_slice()) else {
-        eprintln!(rt; "usage: fault-places --seed S --count N")?;
+    let Some(wanted) = read_words(line.as_slice()) else {
+        eprintln!(rt; "usage: fault-places --seed S --count N | --each [--most M]")?;
         return Ok(ExitCode::from(2));
     };
-    let mut draws = Draws::new(seed);
-    let (mut runs, mut wrong) = (0u32, 0u32);
-    for number in 0..SETTINGS {
-        let (more, bad) = try_setting(&rt, &mut draws, number, share(count, number))?;
-        runs = runs.saturating_add(more);
-        wrong = wrong.saturating_add(bad);
-    }
+    let Counts { runs, wrong } = try_wanted(&rt, wanted)?;
     println!(rt; "{runs} runs, {wrong} wrong")?;
     Ok(ExitCode::from(if wrong == 0 { 0 } else { 1 }))
 }

@@ -4,6 +4,7 @@
 
 pub mod drawn;
 pub mod draws;
+pub mod places;
 pub mod requests;
 pub mod run_out;
 pub mod schedules;

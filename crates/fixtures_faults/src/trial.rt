@@ -129,10 +129,13 @@ impl Trial<'_> {
         }
     }
 
-    /// Tries each of these faults.
-    fn try_each(&self, alloc: Global, plans: &[Faults]) -> Result<Tried, AllocError> {
+    /// Tries one of these faults after the other, until so many came out wrong.
+    fn try_each(&self, alloc: Global, plans: &[Faults], most: u32) -> Result<Tried, AllocError> {
         let mut tried = Tried::new(alloc);
         for faults in plans {
+            if tried.wrong >= most {
+                break;
+            }
             tried.count = tried.count.saturating_add(1);
             if let Some(why) = self.wrong_with(alloc, faults.as_slice())? {
                 tried.note(faults.as_slice(), why)?;
@@ -142,14 +145,20 @@ impl Trial<'_> {
     }
 }
 
-/// Tries the base schedule of a setting with each of these faults. Without faults it has to come out right first, and leave a clean volume.
-pub fn try_all(alloc: Global, setting: &Setting, plans: &[Faults]) -> Result<Tried, AllocError> {
+/// Tries the base schedule of a setting with one of these faults after the other, until so many came out wrong. Without faults it has to
+/// come out right first, and leave a clean volume; where it doesn't, nothing was tried and one is wrong.
+pub fn try_all(
+    alloc: Global,
+    setting: &Setting,
+    plans: &[Faults],
+    most: u32,
+) -> Result<Tried, AllocError> {
     let Ok(schedule) = read_schedule(alloc, setting.calls().as_bytes()) else {
         return Err(AllocError);
     };
     let calls = schedule.events(alloc)?;
     match trial_of(alloc, setting, calls.as_slice())? {
-        Ok(trial) => trial.try_each(alloc, plans),
+        Ok(trial) => trial.try_each(alloc, plans, most),
         Err(why) => {
             let mut tried = Tried::new(alloc);
             tried.note(&[], why)?;

@@ -1,6 +1,6 @@
 //! The lines of a schedule.
 
-ghost use Rattle.std.specs.Prelude.{◌≡◌, ◌<◌, ◌^◌, ◌++◌, IfSome, OnOk, length};
+ghost use Rattle.std.specs.Prelude.{◌≡◌, ◌<◌, ◌^◌, ◌++◌, IfSome, OnOk, OnErr, length};
 ghost use Rattle.std.specs.Option.{option_map};
 ghost use Rattle.call_text.specs.Words.{words_of};
 ghost use Rattle.schedule_text.specs.Events.{arrival_of, caller_of, event_at, event_of, event_of_none, event_of_one, event_of_two};
@@ -146,9 +146,10 @@ impl Line<'_> {
         }
     }
 
-    /// Adds the bytes that are decoded for its call. Where no memory is found, some may have been added.
+    /// Adds the bytes that are decoded for its call, or none where no memory is found for all of them.
     pub fn decode(&self, to: &mut Vec<u8>) -> Result<(), AllocError>
-        ensures { OnOk result (to.new.items ≡ to.old.items ++ line_bytes self.now) }
+        ensures ok { OnOk result (to.new.items ≡ to.old.items ++ line_bytes self.now) }
+        ensures err { OnErr result (to.new.items ≡ to.old.items) }
     {
         match self {
             Line::Arrive(_, _, call) => call.decode(to),

@@ -1,6 +1,6 @@
 //! The lines of a script.
 
-ghost use Rattle.std.specs.Prelude.{◌≡◌, ◌≢◌, ℕ, List, ◌∷◌, [], ◌++◌, MatchOption, OnOk, length};
+ghost use Rattle.std.specs.Prelude.{◌≡◌, ◌≢◌, ℕ, List, ◌∷◌, [], ◌++◌, MatchOption, OnOk, OnErr, length};
 ghost use Rattle.std.specs.Option.{option_map};
 ghost use Rattle.call_text.specs.Words.{words_of};
 ghost use Rattle.script_text.specs.Scripts.{line_bytes, line_call, plain_timed, timed_of, user_of};
@@ -73,9 +73,10 @@ impl TimedLine<'_> {
         self.call.decoded_len()
     }
 
-    /// Adds the bytes that are decoded for its call. Where no memory is found, some may have been added.
+    /// Adds the bytes that are decoded for its call, or none where no memory is found for all of them.
     pub fn decode(&self, to: &mut Vec<u8>) -> Result<(), AllocError>
-        ensures { OnOk result (to.new.items ≡ to.old.items ++ line_bytes self.now) }
+        ensures ok { OnOk result (to.new.items ≡ to.old.items ++ line_bytes self.now) }
+        ensures err { OnErr result (to.new.items ≡ to.old.items) }
     {
         self.call.decode(to)
     }

@@ -12,7 +12,7 @@ pub fn all_are_right(
     plans: &[Faults],
     count: u32,
 ) -> Result<(), Fail> {
-    let tried = try_all(alloc, setting, plans)?;
+    let tried = try_all(alloc, setting, plans, u32::MAX)?;
     if tried.wrong == 0 && tried.count == count {
         return Ok(());
     }

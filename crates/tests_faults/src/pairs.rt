@@ -1,41 +1,17 @@
 //! Two faults at every pair of places.
 
 use crate::all_right::all_are_right;
-use fixtures_faults::schedules::{End, Fault};
+use fixtures_faults::places::pairs;
 use fixtures_faults::settings::PLAIN;
-use fixtures_faults::trial::Faults;
-use std::alloc::{AllocError, Global};
+use std::alloc::Global;
 use std::test::Fail;
 
 /// How many events the base schedule has.
 const EVENTS: usize = 40;
 
-/// Driver 1 dies at each of these places, and driver 2 at the same or a later one; a sector that it was writing is torn.
-fn pairs(alloc: Global, from: usize, to: usize) -> Result<Vec<Faults>, AllocError> {
-    let mut plans = Vec::new(alloc);
-    for place in from..to {
-        let first = Fault {
-            place,
-            generation: 1,
-            end: End::Dies,
-            ticks: 1,
-        };
-        for place in place..=EVENTS {
-            let second = Fault {
-                place,
-                generation: 2,
-                end: End::Tears,
-                ticks: 0,
-            };
-            plans.push(vec![in alloc; first, second]?)?;
-        }
-    }
-    Ok(plans)
-}
-
 /// Each pair whose first place is one of these comes out right, and there are so many.
 fn two_faults(alloc: Global, from: usize, to: usize, count: u32) -> Result<(), Fail> {
-    let plans = pairs(alloc, from, to)?;
+    let plans = pairs(alloc, EVENTS, from, to)?;
     all_are_right(alloc, &PLAIN, plans.as_slice(), count)
 }
 

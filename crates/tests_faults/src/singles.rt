@@ -1,28 +1,11 @@
 //! One fault at every place.
 
 use crate::all_right::all_are_right;
-use fixtures_faults::schedules::{End, Fault};
+use fixtures_faults::places::singles;
 use fixtures_faults::settings::{PLAIN, Setting};
-use fixtures_faults::trial::{Faults, events_in};
-use std::alloc::{AllocError, Global};
+use fixtures_faults::trial::events_in;
+use std::alloc::Global;
 use std::test::Fail;
-
-/// Each end of driver 1 before each of so many events, and behind them.
-fn singles(alloc: Global, events: usize) -> Result<Vec<Faults>, AllocError> {
-    let mut plans = Vec::new(alloc);
-    for place in 0..=events {
-        for end in [End::Dies, End::Tears, End::Hangs] {
-            let fault = Fault {
-                place,
-                generation: 1,
-                end,
-                ticks: 0,
-            };
-            plans.push(vec![in alloc; fault]?)?;
-        }
-    }
-    Ok(plans)
-}
 
 /// The base schedule of a setting, which has so many places, comes out right with each fault at each of them.
 fn one_fault(alloc: Global, setting: &Setting, places: u32) -> Result<(), Fail> {

@@ -1,6 +1,6 @@
 //! Calls as words write them.
 
-ghost use Rattle.std.specs.Prelude.{◌≡◌, ◌++◌, OnOk, length, replicate};
+ghost use Rattle.std.specs.Prelude.{◌≡◌, ◌++◌, OnOk, OnErr, length, replicate};
 ghost use Rattle.call_text.specs.WrittenCalls.{decoded, meant, plain};
 
 use crate::bytes::push_hex;
@@ -35,9 +35,10 @@ impl WrittenCall<'_> {
         }
     }
 
-    /// Adds the bytes that are decoded for it. Where no memory is found, some may have been added.
+    /// Adds the bytes that are decoded for it, or none where no memory is found for all of them.
     pub fn decode(&self, to: &mut Vec<u8>) -> Result<(), AllocError>
-        ensures { OnOk result (to.new.items ≡ to.old.items ++ decoded self.now) }
+        ensures ok { OnOk result (to.new.items ≡ to.old.items ++ decoded self.now) }
+        ensures err { OnErr result (to.new.items ≡ to.old.items) }
     {
         match self {
             WrittenCall::Whole(_) => Ok(()),
@@ -47,9 +48,10 @@ impl WrittenCall<'_> {
     }
 }
 
-/// Adds so many equal bytes. Where no memory is found, some may have been added.
+/// Adds so many equal bytes, or none where no memory is found for all of them.
 fn push_equal(to: &mut Vec<u8>, count: u32, byte: u8) -> Result<(), AllocError>
-    ensures { OnOk result (to.new.items ≡ to.old.items ++ replicate count byte) }
+    ensures ok { OnOk result (to.new.items ≡ to.old.items ++ replicate count byte) }
+    ensures err { OnErr result (to.new.items ≡ to.old.items) }
 {
     to.resize(to.len() + count as usize, byte)
 }
