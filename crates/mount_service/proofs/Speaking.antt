@@ -56,8 +56,8 @@ spoken g v stream old new s t it = record {
   whole = it.whole;
   taken = it.taken;
   given = it.given;
-  leads = lead_plain _ _ (λ m r a b (now, limit, said, (log, leads, sync), written).
-      (now, limit, said, (log, leads_plain _ _ (hear_plain g v now) a b log leads, sync), written))
+  leads = lead_plain _ _ (λ m r a b (now, limit, (said, (log, leads, sync), written)).
+      (now, limit, (said, (log, leads_plain _ _ (hear_plain g v now) a b log leads, sync), written)))
       it.messages it.replies s t it.leads;
 }
 
