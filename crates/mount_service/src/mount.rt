@@ -169,15 +169,7 @@ fn run<
     let Some(bytes) = image else {
         return Err(MountRefusal::CannotRead(name));
     };
-    match answer_messages(
-        alloc,
-        rt,
-        bytes,
-        setup,
-        supply,
-        gate,
-        streams,
-    ) {
+    match answer_messages(alloc, rt, bytes, setup, supply, gate, streams) {
         Ok(Ok(came)) => Ok(came),
         Ok(Err(refusal)) => Err(MountRefusal::NoImage(refusal)),
         Err(refusal) => Err(MountRefusal::Start(refusal)),

@@ -2,7 +2,7 @@
 //!
 //! It isn't a `Program` of `launch`: what is known of the types that a program's `run` takes is known in one thread alone.
 
-ghost use Rattle.std.specs.Prelude.{◌≡◌, ◌≢◌, ◌≤◌, ◌^◌, [], true, IfErr, IfOk, OnOk, map};
+ghost use Rattle.std.specs.Prelude.{◌≡◌, ◌≤◌, ◌^◌, [], true, IfErr, IfOk, OnOk, map};
 ghost use Rattle.std.specs.Arc.{arc_value};
 ghost use Rattle.records.specs.Opening.{contents_at};
 ghost use Rattle.records.specs.Mount.{is_frame_count};
@@ -156,7 +156,7 @@ pub fn answer_messages<
     alloc: Global,
     rt: R,
     image: &[u8],
-        setup: &Setup,
+    setup: &Setup,
     supply: Vec<D>,
     gate: Arc<G>,
     streams: Streams<I, O, C>,
@@ -169,15 +169,6 @@ pub fn answer_messages<
     let prepared = prepare(alloc, image, setup, &supply)?;
     let (board, seat) = Board::new(alloc)?;
     start_and_answer::<Brand, R, D, G, I, O, C>(
-        alloc,
-        rt,
-        board,
-        seat,
-        prepared,
-        image,
-        setup,
-        supply,
-        gate,
-        streams,
+        alloc, rt, board, seat, prepared, image, setup, supply, gate, streams,
     )
 }
