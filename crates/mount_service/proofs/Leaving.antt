@@ -1,5 +1,5 @@
 -- The image that a service leaves.
-use Rattle.std.proofs.Common.{◌≡◌, ℕ, List, [], subst, sym, ap}
+use Rattle.std.proofs.Common.{ℕ, List, subst, sym}
 use Rattle.std.specs.Prelude.{Result, Ok, Err, IfOk, IfErr}
 use Rattle.std.specs.Global.{Vec}
 use Rattle.layout.specs.declared.Geometry.{Geometry}

@@ -1,10 +1,8 @@
 -- What is spoken by sessions, whichever their states are.
-use Rattle.std.proofs.Common.{◌≡◌, ℕ, List, [], ◌∷◌, refl}
+use Rattle.std.proofs.Common.{ℕ, List, [], ◌∷◌, refl}
 use Rattle.std.specs.Prelude.{Option, Result, Ok, Err, OnOk}
 use Rattle.layout.specs.declared.Geometry.{Geometry}
 use Rattle.records.specs.Opening.{Opening}
-use Rattle.tree.specs.declared.Call.{Call}
-use Rattle.tree.specs.declared.Outcome.{Outcome}
 use Rattle.ninep_server.specs.Talks.{Exchange, Leads, MayHear}
 use Rattle.ninep_server.specs.declared.ask.Ask.{Ask}
 use Rattle.ninep_server.specs.declared.ask.Ask.TheVariants as ask
@@ -32,7 +30,8 @@ lead_plain R P f (m ∷ ms) (r ∷ rs) s t (u, first, rest) = (tt, f m r s u fir
 
 -- what a service's sessions may answer, without them
 hear_plain : {S : Type 0} (g : Geometry) (v : Opening) (now : ℕ) (s t : S) (a : Ask) (h : Heard)
-    → MayHear (λ s session now call outcome t. MayAnswer g v now call outcome) (λ s uid gid result t. Unit {0}) (λ s t. Unit {0}) now s a h t
+    → MayHear (λ s session now call outcome t. MayAnswer g v now call outcome) (λ s uid gid result t. Unit {0}) (λ s t. Unit {0})
+    now s a h t
     → MayHear {S = Unit {0}} (λ s session now call outcome t. MayAnswer g v now call outcome) (λ s uid gid result t. Unit {0})
     (λ s t. Unit {0}) now tt a h tt
 hear_plain g v now s t (ask.Enter uid gid) (heard.Entered r) it = it
@@ -56,8 +55,8 @@ spoken g v stream old new s t it = record {
   whole = it.whole;
   taken = it.taken;
   given = it.given;
-  leads = lead_plain _ _ (λ m r a b (now, limit, said, (log, leads, sync), written).
-      (now, limit, said, (log, leads_plain _ _ (hear_plain g v now) a b log leads, sync), written))
+  leads = lead_plain _ _ (λ m r a b (now, limit, (said, (log, leads, sync), written)).
+      (now, limit, (said, (log, leads_plain _ _ (hear_plain g v now) a b log leads, sync), written)))
       it.messages it.replies s t it.leads;
 }
 

@@ -22,7 +22,7 @@ pub record IsAnsweredBy (g : Geometry) (v : Opening) (now : ℕ) (call : Call) (
   pub keeps : SessionCallKeeps g (contents_at v) before (caller_of before) now call (outcome_of outcome) after
   pub holds : HoldsIfTrue g v after.knows.seen
 
--- so, or EINVAL where there is no session of the number
+-- so, or EINVAL: that is also what comes where there is no session of the number
 abbrev pub MayAnswer : Geometry → Opening → ℕ → Call → Outcome → Type 0
 MayAnswer g v now call outcome = IsAnsweredBy g v now call outcome ⊎ (outcome ≡ Reply (Refused EINVAL))
 

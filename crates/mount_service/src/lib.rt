@@ -5,4 +5,5 @@ pub mod mortal;
 pub mod mount;
 pub mod program;
 pub mod sessions;
+pub mod starting;
 pub mod telling_gate;

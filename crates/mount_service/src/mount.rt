@@ -4,11 +4,11 @@ ghost use Rattle.std.specs.Prelude.{◌≡◌, IfErr, IfNone, IfOk, IfSome, map}
 ghost use Rattle.std.specs.Bool.{OnTrue, OnFalse};
 ghost use Rattle.mount_service.specs.Mounted.{IsMounted, IsRefused, IsStatus, IsUnmounted, status_number};
 
-use crate::program::{Answering, Came, NoImage, Streams};
+use crate::program::{Came, NoImage, Streams};
+use crate::starting::answer_messages;
 use bdev::BlockDriver;
 use gate::Gate;
 use launch::StartRefusal;
-use launch::start::serve;
 use ninep_stream::answering::StreamRefusal;
 use output::{Told, tell};
 use reincarnate::policy::Setup;
@@ -169,15 +169,7 @@ fn run<
     let Some(bytes) = image else {
         return Err(MountRefusal::CannotRead(name));
     };
-    match serve(
-        alloc,
-        rt,
-        bytes,
-        setup,
-        supply,
-        gate,
-        Answering { alloc, streams },
-    ) {
+    match answer_messages(alloc, rt, bytes, setup, supply, gate, streams) {
         Ok(Ok(came)) => Ok(came),
         Ok(Err(refusal)) => Err(MountRefusal::NoImage(refusal)),
         Err(refusal) => Err(MountRefusal::Start(refusal)),

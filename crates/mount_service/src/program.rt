@@ -8,7 +8,6 @@ use crate::sessions::ServiceSessions;
 use counting_link::recorder::Recorder;
 use counting_link::room::Room;
 use file_server::FileServer;
-use launch::program::Program;
 use ninep_server::sessions::Sessions;
 use ninep_stream::answering::{StreamRefusal, answer_all};
 use serve::service::Service;
@@ -53,44 +52,32 @@ pub struct Came<I, O, C> {
     pub image: Vec<u8>,
 }
 
-/// Messages that are to be answered.
-#[derive(Drop)]
-pub struct Answering<I, O, C> {
-    /// Where memory comes from.
-    pub alloc: Global,
-    /// The streams.
-    pub streams: Streams<I, O, C>,
-}
-
-impl<
+/// Answers the messages of a stream by sessions of this service, and stops it. What came of it.
+pub(crate) fn answer_on<
+    N: Room + Send + Sync + 'static,
     R: Threads + Wait + Copy + Send + Sync + 'static,
+    L: Recorder<N> + Send + 'static,
+    S: FileServer<L> + Send + 'static,
     I: BufRead + Drop,
     O: Write + Drop,
     C: Clock + Drop,
-> Program<R> for Answering<I, O, C> {
-    type Output = Result<Came<I, O, C>, NoImage>;
-
-    ghost gives = { λ answering g v result. IfOk result (λ came. IsLeftBy g v (I.Read.remaining answering.streams.input)
-        (O.contents answering.streams.output) (O.contents came.streams.output) came.answered came.image.items) };
-
-    fn run<
-        N: Room + Send + Sync + 'static,
-        L: Recorder<N> + Send + 'static,
-        S: FileServer<L> + Send + 'static,
-    >(self, service: Service<N, R, L, S>) -> Result<Came<I, O, C>, NoImage>
-        ensures { IfOk result (λ came. IsLeftBy N.geometry N.opening (I.Read.remaining self.entry.streams.input)
-            (O.contents self.entry.streams.output) (O.contents came.streams.output) came.answered came.image.items) }
-    {
-        let Answering { alloc, mut streams } = self;
-        let answered = answer_by(alloc, &service, &mut streams);
-        let (last_sync, image) = image_of(service.stop(alloc))?;
-        Ok(Came {
-            streams,
-            answered,
-            last_sync,
-            image,
-        })
-    }
+>(
+    alloc: Global,
+    service: Service<N, R, L, S>,
+    streams: Streams<I, O, C>,
+) -> Result<Came<I, O, C>, NoImage>
+    ensures { IfOk result (λ came. IsLeftBy N.geometry N.opening (I.Read.remaining streams.input)
+        (O.contents streams.output) (O.contents came.streams.output) came.answered came.image.items) }
+{
+    let mut streams = streams;
+    let answered = answer_by(alloc, &service, &mut streams);
+    let (last_sync, image) = image_of(service.stop(alloc))?;
+    Ok(Came {
+        streams,
+        answered,
+        last_sync,
+        image,
+    })
 }
 
 /// Answers the messages of a stream by sessions of this service, which end then.
