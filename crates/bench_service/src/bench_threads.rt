@@ -1,6 +1,5 @@
 //! Measures what threads cost: a bare round trip between two of them by a pair of channels, and a tick of the reincarnation server.
 ghost use Rattle.std.specs.Prelude.{◌≡◌};
-ghost use Rattle.true_replies.specs.Events.{opening_media};
 
 use bench_layers::timing::{say, tell};
 use board::{Board, Seat};
@@ -143,16 +142,19 @@ fn patient() -> Policy {
 fn time_ticks<N: Room + Send + Sync + 'static, R: Threads + Wait + Copy + Send + Sync + 'static>(
     rt: &HostRuntime,
     waits: R,
-    media: Media,
+    image: &[u8],
     reincarnation: Reincarnation<RamDriver>,
     board: Board,
     seat: Seat,
 ) -> io::Result<()>
     requires range { (N.opening.first ≡ 0) × (N.opening.count ≡ 1) }
-    requires media { media ≡ opening_media N.opening }
+    requires image { N.opening.media ≡ image.now }
     requires seat { seat.table ≡ board }
 {
     let alloc = rt.alloc();
+    let Ok(media) = Media::from_bytes(alloc, image) else {
+        return say(rt, "no memory");
+    };
     let board = Arc::new(alloc, board)?;
     let timing = TimesTicks {
         rt: *rt,
@@ -187,15 +189,12 @@ fn ticks<R: Threads + Wait + Copy + Send + Sync + 'static>(
     waits: R,
 ) -> io::Result<()> {
     let alloc = rt.alloc();
-    let Ok(media) = Media::from_bytes(alloc, &[0; 512]) else {
-        return say(rt, "no memory");
-    };
     let supply = vec![in alloc; RamDriver::new(Table::whole(1))]?;
     let Ok(reincarnation) = Reincarnation::new(alloc, patient(), supply) else {
         return say(rt, "no memory");
     };
     let (board, seat) = Board::new(alloc)?;
-    time_ticks::<Brand, R>(rt, waits, media, reincarnation, board, seat)
+    time_ticks::<Brand, R>(rt, waits, &[0; 512], reincarnation, board, seat)
 }
 
 /// Measures both.

@@ -1,6 +1,5 @@
 //! Measures a cache over a driver in a thread of its own.
 ghost use Rattle.std.specs.Prelude.{◌≡◌};
-ghost use Rattle.true_replies.specs.Events.{opening_media};
 ghost use Rattle.cache.specs.Calls.{caching, IsReady};
 
 use crate::bench_frames::BLOCKS;
@@ -65,21 +64,24 @@ fn measure_over<L: Link + Drop>(rt: &HostRuntime, link: L, frames: u32) -> io::R
     measure_cache(rt, &mut cache)
 }
 
-/// Starts a driver of these media in a thread of its own, measures a cache over it, and ends it.
+/// Starts a driver of media with these bytes in a thread of its own, measures a cache over it, and ends it.
 fn measure_on<N: Room + Send + Sync + 'static, R: Threads + Wait + Copy + Send + Sync + 'static>(
     rt: &HostRuntime,
     waits: R,
-    media: Media,
+    image: &[u8],
     reincarnation: Reincarnation<RamDriver>,
     board: Board,
     seat: Seat,
     frames: u32,
 ) -> io::Result<()>
     requires range { (N.opening.first ≡ 0) × (N.opening.count ≡ 32768) }
-    requires media { media ≡ opening_media N.opening }
+    requires image { N.opening.media ≡ image.now }
     requires seat { seat.table ≡ board }
 {
     let alloc = rt.alloc();
+    let Ok(media) = Media::from_bytes(alloc, image) else {
+        return say(rt, "no memory");
+    };
     let board = Arc::new(alloc, board)?;
     let gate = Arc::new(alloc, Paced::new(*rt))?;
     let (link, running) = start_drivers::<N, RamDriver, Paced<HostRuntime>, R>(
@@ -105,13 +107,11 @@ pub(crate) fn measure_frames<R: Threads + Wait + Copy + Send + Sync + 'static>(
 ) -> io::Result<()> {
     let alloc = rt.alloc();
     eprintln!(*rt; "{frames} frames")?;
-    let Some(media) = zeros(alloc) else {
-        return say(rt, "no memory");
-    };
+    let image = vec![in alloc; 0u8; 16777216]?;
     let supply = vec![in alloc; driver()]?;
     let Ok(reincarnation) = Reincarnation::new(alloc, Policy::default(), supply) else {
         return say(rt, "no memory");
     };
     let (board, seat) = Board::new(alloc)?;
-    measure_on::<Brand, R>(rt, waits, media, reincarnation, board, seat, frames)
+    measure_on::<Brand, R>(rt, waits, &image, reincarnation, board, seat, frames)
 }
