@@ -12,7 +12,7 @@ use counting_link::Noting;
 use counting_link::room::Room;
 use driver_threads::running::start_drivers;
 use fixtures::gates::Yielding;
-use fixtures::{new_volume, supply_of, whole};
+use fixtures::{new_volume, supply_of};
 use fixtures_sessions::services::asked_and_stopped;
 use fixtures_sessions::silent::Silent;
 use fsck::{Verdict, check};
@@ -21,7 +21,7 @@ use layout::Geometry;
 use modeldisk::ScriptedDriver;
 use mounting::{Prepared, prepare};
 use reincarnate::Reincarnation;
-use reincarnate::policy::Policy;
+use reincarnate::policy::{Policy, Setup};
 use std::alloc::{AllocError, Global};
 use std::marker::Brand;
 use std::sync::{Arc, Wait};
@@ -82,7 +82,12 @@ fn asked_of<R: Threads + Wait + Copy + Send + Sync + 'static>(
         return Ok(None);
     };
     let supply = supply_of(alloc, image.len() / 512, &[None])?;
-    let Ok(prepared) = prepare(alloc, image, &whole(), &supply) else {
+    let setup = Setup {
+        minor: 0,
+        frames: 16,
+        policy: Policy::default(),
+    };
+    let Ok(prepared) = prepare(alloc, image, &setup, &supply) else {
         return Ok(None);
     };
     let Ok(reincarnation) = Reincarnation::new(alloc, Policy::default(), supply) else {

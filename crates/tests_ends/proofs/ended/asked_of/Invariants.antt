@@ -8,7 +8,7 @@ abbrev pub ghosts-ask_and_stop : goal.ghosts-ask_and_stop
 ghosts-ask_and_stop g a = record {
   table = a.board;
   opening = opening_of a.image.now 0 a.prepared.range;
-  geometry = a.clean.geometry;
+  geometry = a.geometry;
   policy = default_policy;
   supply = [];
 }
