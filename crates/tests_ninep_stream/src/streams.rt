@@ -32,6 +32,7 @@ pub struct Narrow {
 }
 
 impl Narrow {
+    /// A stream that has taken nothing, and takes so many bytes.
     pub fn new(alloc: Global, room: usize) -> Narrow {
         Narrow {
             taken: Vec::new(alloc),
