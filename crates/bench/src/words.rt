@@ -13,16 +13,19 @@ pub(crate) enum Work {
     Names,
     /// Reading and writing the bytes of a file.
     Bytes,
-    /// Client calls in a session.
+    /// Round trips between threads, and ticks.
+    Threads,
+    /// Client calls in sessions.
     Calls,
 }
 
 /// All of it, in turn.
-const ALL: [Work; 5] = [
+const ALL: [Work; 6] = [
     Work::Drivers,
     Work::Volumes,
     Work::Names,
     Work::Bytes,
+    Work::Threads,
     Work::Calls,
 ];
 
@@ -34,6 +37,7 @@ impl Work {
             Work::Volumes => "volumes",
             Work::Names => "names",
             Work::Bytes => "bytes",
+            Work::Threads => "threads",
             Work::Calls => "calls",
         }
     }

@@ -1,20 +1,21 @@
-//! Measures the drivers and the frames, over 2048 blocks of 4096 bytes, which is 8 MiB.
+//! Measures the drivers and the frames, over 2048 blocks of 4096 bytes, which is 8 MiB. The frames' driver runs in a thread of its own, as
+//! those of a service do.
 
+mod caches;
 mod work;
 
-ghost use Rattle.cache.specs.Calls.{caching, IsReady};
-
 use bench_layers::timing::{copy, micros_since, say, tell};
-use cache::Cache;
+use caches::{measure_frames, zeros};
 use media::Media;
 use message::Kind;
-use reissue::Link;
 use std::io;
+use std::sync::Wait;
+use std::thread::Threads;
 use std::time::Instant;
-use work::{cache_over, drive, fetch_again, fetch_run, write_run, zeros};
+use work::drive;
 
 /// How many blocks a piece of work goes over.
-const BLOCKS: u32 = 2048;
+pub(crate) const BLOCKS: u32 = 2048;
 
 /// How many rounds.
 const ROUNDS: u32 = 3;
@@ -41,31 +42,6 @@ fn measure_on(rt: &HostRuntime, media: &mut Media) -> io::Result<()> {
     Ok(())
 }
 
-/// Measures a cache of so many frames.
-fn measure_frames(rt: &HostRuntime, frames: u32) -> io::Result<()> {
-    let Some(mut cache) = cache_over(rt.alloc(), frames) else {
-        return say(rt, "no memory");
-    };
-    eprintln!(*rt; "{frames} frames")?;
-    measure_cache(rt, &mut cache)
-}
-
-/// The same, of a cache.
-fn measure_cache<L: Link>(rt: &HostRuntime, cache: &mut Cache<L>) -> io::Result<()>
-    requires { IsReady (caching L.Link cache.old) }
-{
-    let start = Instant::now(rt)?;
-    let missed = fetch_run(cache, 16, BLOCKS);
-    tell(rt, "fetches that miss", missed, "blocks", start)?;
-    let _ = fetch_run(cache, 0, 16);
-    let start = Instant::now(rt)?;
-    let hit = fetch_again(cache, BLOCKS);
-    tell(rt, "fetches that hit", hit, "blocks", start)?;
-    let start = Instant::now(rt)?;
-    let written = write_run(cache, BLOCKS / 16);
-    tell(rt, "made anew and written back", written, "blocks", start)
-}
-
 /// Measures a plain copy of as many bytes, into memory that was used before, and tells the last byte that was copied.
 fn measure_copy(rt: &HostRuntime, from: &[u8], to: &mut [u8]) -> io::Result<()> {
     let start = Instant::now(rt)?;
@@ -76,14 +52,17 @@ fn measure_copy(rt: &HostRuntime, from: &[u8], to: &mut [u8]) -> io::Result<()> 
 }
 
 /// Measures a plain copy, a driver, and caches of three sizes, in several rounds.
-pub fn run(rt: &HostRuntime) -> io::Result<()> {
+pub fn run<R: Threads + Wait + Copy + Send + Sync + 'static>(
+    rt: &HostRuntime,
+    waits: R,
+) -> io::Result<()> {
     let from = vec![in rt.alloc(); 1u8; 8388608]?;
     let mut to = vec![in rt.alloc(); 0u8; 8388608]?;
     for _ in 0..ROUNDS {
         measure_copy(rt, &from, &mut to)?;
         measure_driver(rt)?;
         for frames in [16, 256, 1024] {
-            measure_frames(rt, frames)?;
+            measure_frames(rt, waits, frames)?;
         }
     }
     Ok(())

@@ -15,10 +15,9 @@ ghost use Rattle.counting_link.specs.Keeper.{record_of, numbers_of, begins_itsel
 use crate::keeper::Keeper;
 use crate::recorder::Recorder;
 use crate::room::Room;
-use crate::steady::{OnMedia, Steady, Supplied};
+use crate::steady::{Steady, Supplied};
 use board::{Board, Seat};
 use heard::Heard;
-use media::Media;
 use message::endpoint::Endpoint;
 use message::{BlockRequest, Incoming};
 use reissue::link::{Link, LinkRefusal, TrueLink};
@@ -132,14 +131,6 @@ impl<N: Room, L: Supplied> Supplied for Noting<N, L> {
     ghost runs_on = { λ l policy supply. L.runs_on l.link policy supply };
 
     ghost keeps_on = { λ l m policy supply goes. L.keeps_on l.link m.link policy supply goes.0 };
-}
-
-impl<N: Room, L: OnMedia> OnMedia for Noting<N, L> {
-    ghost lies_on = { λ l. L.lies_on l.link };
-
-    fn media(&self) -> &Media {
-        self.link.media()
-    }
 }
 
 impl<N: Room, L: Steady + Supplied + Drop> Recorder<N> for Noting<N, L> {

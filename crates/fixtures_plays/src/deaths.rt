@@ -1,10 +1,13 @@
 //! Plays over drivers that die, hang or answer wrongly.
 use crate::plays::{Faults, Play};
-use fixtures::{new_volume, whole};
+use fixtures::gates::Hanging;
+use fixtures::{new_volume, patient, whole};
 use reincarnate::policy::{Policy, Setup};
 use std::alloc::Global;
-use std::sync::Wait;
+use std::sync::{Arc, Wait};
 use std::test::Fail;
+use std::thread::Threads;
+use std::time::Clock;
 
 /// What comes of a play: the status, what is printed, and what is said of a refusal.
 pub type Told = (u8, &'static str, &'static str);
@@ -16,22 +19,33 @@ pub type Numbers = Option<(u32, u32, u32)>;
 /// comes of it.
 pub type OverDrivers = (Numbers, u32, Faults<'static>, &'static [u8], Told);
 
-/// The default setup, but for these numbers of its policy.
-fn setup(numbers: Numbers) -> Setup {
+/// How long a tick is where numbers of a policy are told, in milliseconds: so long that a driver dies in the tick of its start.
+const LONG_TICK: u64 = 100;
+
+/// A play under the patient policy, or under one with these numbers and long ticks.
+fn with_numbers<'p>(numbers: Numbers, play: Play<'p>) -> Play<'p> {
     let Some((max_faults, cap, calm)) = numbers else {
-        return whole();
+        return play;
     };
     let policy = Policy {
         max_faults,
         cap,
         calm,
-        ..whole().policy
+        ..patient().policy
     };
-    Setup { policy, ..whole() }
+    let setup = Setup {
+        policy,
+        ..patient()
+    };
+    Play {
+        setup,
+        pace: LONG_TICK,
+        ..play
+    }
 }
 
 /// A row comes out as it says on a new volume, and leaves the image as it is.
-fn comes_out<R: Wait + Copy>(
+fn comes_out<R: Threads + Wait + Clock + Copy + Send + Sync + 'static>(
     alloc: Global,
     rt: R,
     image: &[u8],
@@ -40,12 +54,11 @@ fn comes_out<R: Wait + Copy>(
     let (numbers, request, faults, script, (status, out, err)) = *row;
     let scripts = [Some(script)];
     let play = Play {
-        setup: setup(numbers),
         request,
         faults,
         ..Play::new(image, &scripts)
     };
-    let played = play.played(alloc, rt)?;
+    let played = with_numbers(numbers, play).played(alloc, rt)?;
     played.gave(status, out, err)?;
     if status == 1 || played.is_clean(alloc) && played.left() == image {
         return Ok(());
@@ -54,7 +67,7 @@ fn comes_out<R: Wait + Copy>(
 }
 
 /// Each row comes out as it says, and leaves the image as it is.
-pub fn all_come_out<R: Wait + Copy>(
+pub fn all_come_out<R: Threads + Wait + Clock + Copy + Send + Sync + 'static>(
     alloc: Global,
     rt: R,
     rows: &[OverDrivers],
@@ -62,6 +75,53 @@ pub fn all_come_out<R: Wait + Copy>(
     let image = new_volume(alloc, 1024)?;
     for row in rows {
         comes_out(alloc, rt, &image, row)?;
+    }
+    Ok(())
+}
+
+/// Before which of its steps the first driver hangs, the script, and what is printed of it.
+pub type AtHang = (u64, &'static [u8], &'static str);
+
+/// How long a tick is where a driver hangs, in milliseconds.
+const TICK: u64 = 50;
+
+/// The least and the most ticks for which a driver may hang: it is hung after three without a beat, and the next one is started at once.
+const HUNG_FOR: (u64, u64) = (3, 6);
+
+/// A row comes out as it says on a new volume, under the default policy, which replaces a driver that misses three heartbeats.
+fn goes_on<R: Threads + Wait + Clock + Copy + Send + Sync + 'static>(
+    alloc: Global,
+    rt: R,
+    image: &[u8],
+    row: &AtHang,
+) -> Result<(), Fail> {
+    let (at, script, out) = *row;
+    let gate = Arc::new(alloc, Hanging::new(rt, TICK, at))?;
+    let scripts = [Some(script)];
+    let play = Play {
+        setup: whole(),
+        faults: &[None; 6],
+        ..Play::new(image, &scripts)
+    };
+    let played = play.played_at(alloc, rt, Arc::try_clone(&gate)?)?;
+    played.gave(0, out, "")?;
+    let (least, most) = HUNG_FOR;
+    let hung_for = gate.hung_for().unwrap_or(0);
+    if played.is_clean(alloc) && least <= hung_for && hung_for <= most {
+        return Ok(());
+    }
+    Err(Fail::new(format_args!("hung for {hung_for} ticks")))
+}
+
+/// Each row comes out as it says.
+pub fn all_go_on<R: Threads + Wait + Clock + Copy + Send + Sync + 'static>(
+    alloc: Global,
+    rt: R,
+    rows: &[AtHang],
+) -> Result<(), Fail> {
+    let image = new_volume(alloc, 1024)?;
+    for row in rows {
+        goes_on(alloc, rt, &image, row)?;
     }
     Ok(())
 }

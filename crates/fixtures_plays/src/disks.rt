@@ -1,12 +1,14 @@
 //! Volumes in a partition of an image: a new volume of 128 sectors behind a sector with a table, from sector 1 on.
 use crate::plays::{Play, Played};
-use fixtures::{new_volume, whole};
+use fixtures::{new_volume, patient};
 use modeldisk::supply::table_in;
 use modeldisk::{Inner, RamDriver, ScriptedDriver};
 use reincarnate::policy::Setup;
 use std::alloc::{AllocError, Global};
 use std::sync::Wait;
 use std::test::Fail;
+use std::thread::Threads;
+use std::time::Clock;
 
 /// A new volume of 128 sectors behind a sector with a table, whose second entry has this type, is said to have so many sectors from sector
 /// 1 on, and which ends in 0x55 and this byte.
@@ -23,7 +25,7 @@ fn disk(alloc: Global, kind: u8, count: u8, last: u8) -> Result<Vec<u8>, AllocEr
 }
 
 /// What a script gives on the volume of this minor of an image, over a driver of the image's partitions.
-pub(crate) fn played_on<R: Wait + Copy>(
+pub(crate) fn played_on<R: Threads + Wait + Clock + Copy + Send + Sync + 'static>(
     alloc: Global,
     rt: R,
     image: &[u8],
@@ -35,7 +37,7 @@ pub(crate) fn played_on<R: Wait + Copy>(
     supply.push(ScriptedDriver::new(inner, Vec::new(alloc)))?;
     let scripts = [Some(script)];
     let play = Play {
-        setup: Setup { minor, ..whole() },
+        setup: Setup { minor, ..patient() },
         ..Play::new(image, &scripts)
     };
     play.played_over(alloc, rt, supply)
@@ -46,7 +48,7 @@ pub(crate) fn played_on<R: Wait + Copy>(
 pub type OnDisk = ((u8, u8, u8), u8, u8, &'static str, &'static str);
 
 /// A script gives what each of these rows says.
-pub fn are_served<R: Wait + Copy>(
+pub fn are_served<R: Threads + Wait + Clock + Copy + Send + Sync + 'static>(
     alloc: Global,
     rt: R,
     script: &[u8],

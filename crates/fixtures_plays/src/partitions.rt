@@ -5,6 +5,8 @@ use fsck::{Verdict, check};
 use std::alloc::{AllocError, Global};
 use std::sync::Wait;
 use std::test::Fail;
+use std::thread::Threads;
+use std::time::Clock;
 
 /// The table in the first sector, from byte 446 on: the partitions are of type 0x81 and have 128 sectors each, from sectors 1, 130, 259 and
 /// 388 on. The sector behind each of them lies in none.
@@ -56,7 +58,7 @@ pub type Printed = (&'static [u8], &'static str);
 pub type Written = (u8, Printed, Printed);
 
 /// The image that a row's first script leaves: it comes out as the row says, and the rest of the disk is as it was.
-fn written<R: Wait + Copy>(
+fn written<R: Threads + Wait + Clock + Copy + Send + Sync + 'static>(
     alloc: Global,
     rt: R,
     image: &[u8],
@@ -72,7 +74,12 @@ fn written<R: Wait + Copy>(
 }
 
 /// A row's second script comes out as it says, and leaves the image as it is.
-fn is_read<R: Wait + Copy>(alloc: Global, rt: R, image: &[u8], row: &Written) -> Result<(), Fail> {
+fn is_read<R: Threads + Wait + Clock + Copy + Send + Sync + 'static>(
+    alloc: Global,
+    rt: R,
+    image: &[u8],
+    row: &Written,
+) -> Result<(), Fail> {
     let (minor, _, (script, out)) = *row;
     let played = played_on(alloc, rt, image, minor, script)?;
     played.gave(0, out, "")?;
@@ -83,7 +90,11 @@ fn is_read<R: Wait + Copy>(alloc: Global, rt: R, image: &[u8], row: &Written) ->
 }
 
 /// The rows' first scripts are played in turn on one disk, each on the image that the one before it left, and then their second ones.
-pub fn are_written<R: Wait + Copy>(alloc: Global, rt: R, rows: &[Written]) -> Result<(), Fail> {
+pub fn are_written<R: Threads + Wait + Clock + Copy + Send + Sync + 'static>(
+    alloc: Global,
+    rt: R,
+    rows: &[Written],
+) -> Result<(), Fail> {
     let mut image = disk(alloc)?;
     for row in rows {
         let left = written(alloc, rt, &image, row)?;

@@ -2,19 +2,26 @@
 
 ghost use Rattle.std.specs.Prelude.{◌≡◌, ◌↔◌, IsOk, is_some, not, ◌==◌};
 
-use fixtures::{supply_at, whole};
+use fixtures::gates::Ticking;
+use fixtures::{patient, supply_at};
 use fsck::{Verdict, check};
+use gate::Gate;
 use modeldisk::{FaultKind, ScriptedDriver};
 use reincarnate::policy::Setup;
 use script_text::script_files::File;
 use std::alloc::{AllocError, Global};
 use std::io::{self, Write};
-use std::sync::Wait;
+use std::sync::{Arc, Wait};
 use std::test::Fail;
+use std::thread::Threads;
+use std::time::Clock;
 use tools::play::{Status, play};
 
 /// Drivers, each with its fault once so many of a request's sectors were moved, or with none.
 pub type Faults<'f> = &'f [Option<(u32, FaultKind)>];
+
+/// How long a short tick is, in milliseconds.
+const PACE: u64 = 10;
 
 /// One driver without a fault.
 pub const HONEST: Faults<'static> = &[None];
@@ -46,6 +53,36 @@ impl Played {
         let out = str::from_utf8(self.out.as_slice()).unwrap_or("no text");
         let err = str::from_utf8(self.err.as_slice()).unwrap_or("no text");
         Err(Fail::new(format_args!("status {}, {err}, {out}", self.status)))
+    }
+
+    /// Nothing was played yet, on this image.
+    fn before(alloc: Global, image: Option<&[u8]>) -> Result<Played, AllocError> {
+        let mut bytes = Vec::new(alloc);
+        bytes.extend_from_slice(image.unwrap_or(&[]))?;
+        Ok(Played {
+            status: 0,
+            out: Vec::new(alloc),
+            err: Vec::new(alloc),
+            image: Some(bytes),
+        })
+    }
+
+    /// A play of one script was made after these, whose session gets this number.
+    fn go_on(&mut self, number: usize, played: Played) -> Result<(), AllocError> {
+        let Played {
+            status,
+            out,
+            err,
+            image,
+        } = played;
+        let replies = out.as_slice().strip_prefix(b"session 0\n".as_slice());
+        let _ = write!(self.out, "session {number}\n");
+        self.out
+            .extend_from_slice(replies.unwrap_or(out.as_slice()))?;
+        self.err.extend_from_slice(err.as_slice())?;
+        self.status = self.status.max(status);
+        self.image = image;
+        Ok(())
     }
 
     /// The image, or no bytes.
@@ -112,14 +149,16 @@ impl Write for Sink {
     }
 }
 
-/// Plays the scripts of files on an image, of each the bytes if it can be read, into writers with this room; and how it ended.
-fn play_into<R: Wait + Copy>(
+/// Plays the scripts of files on an image, of each the bytes if it can be read, under this gate, into writers with this room; and how it
+/// ended.
+fn play_into<R: Threads + Wait + Copy + Send + Sync + 'static, G: Gate + 'static>(
     alloc: Global,
     rt: R,
     image: Option<&[u8]>,
     scripts: &[Option<&[u8]>],
     setup: &Setup,
     supply: Vec<ScriptedDriver>,
+    gate: Arc<G>,
     room: Room,
 ) -> Result<(Played, Status), AllocError> {
     let files = files(alloc, scripts)?;
@@ -136,6 +175,7 @@ fn play_into<R: Wait + Copy>(
         files.as_slice(),
         setup,
         supply,
+        gate,
         &mut out,
         &mut err,
     );
@@ -164,60 +204,105 @@ pub struct Play<'p> {
     pub request: u32,
     /// The drivers.
     pub faults: Faults<'p>,
+    /// How long a tick is, in milliseconds.
+    pub pace: u64,
 }
 
 impl<'p> Play<'p> {
-    /// Scripts on an image that is a volume, over one driver of it without a fault, under the default policy.
+    /// Scripts on an image that is a volume, over one driver of it without a fault, under a patient policy and short ticks.
     pub fn new(image: &'p [u8], scripts: &'p [Option<&'p [u8]>]) -> Play<'p> {
         Play {
             image: Some(image),
             scripts,
-            setup: whole(),
+            setup: patient(),
             sectors: image.len() / 512,
             request: 1,
             faults: HONEST,
+            pace: PACE,
         }
     }
 
     /// What it gives over other drivers.
-    pub(crate) fn played_over<R: Wait + Copy>(
+    pub(crate) fn played_over<R: Threads + Wait + Clock + Copy + Send + Sync + 'static>(
         &self,
         alloc: Global,
         rt: R,
         supply: Vec<ScriptedDriver>,
     ) -> Result<Played, AllocError> {
         let (image, scripts, setup) = (self.image, self.scripts, &self.setup);
-        let (played, _) = play_into(alloc, rt, image, scripts, setup, supply, FREE)?;
+        let gate = Arc::new(alloc, Ticking::new(rt, self.pace))?;
+        let (played, _) = play_into(alloc, rt, image, scripts, setup, supply, gate, FREE)?;
         Ok(played)
     }
 
+    /// What it gives under this gate to writers with this room, and how it ended.
+    fn played_under<R: Threads + Wait + Copy + Send + Sync + 'static, G: Gate + 'static>(
+        &self,
+        alloc: Global,
+        rt: R,
+        gate: Arc<G>,
+        room: Room,
+    ) -> Result<(Played, Status), AllocError> {
+        let supply = supply_at(alloc, self.sectors, self.request, self.faults)?;
+        let (image, scripts, setup) = (self.image, self.scripts, &self.setup);
+        play_into(alloc, rt, image, scripts, setup, supply, gate, room)
+    }
+
     /// What it gives to writers with this room, and how it ended.
-    pub fn played_into<R: Wait + Copy>(
+    pub fn played_into<R: Threads + Wait + Clock + Copy + Send + Sync + 'static>(
         &self,
         alloc: Global,
         rt: R,
         room: Room,
     ) -> Result<(Played, Status), AllocError> {
-        let supply = supply_at(alloc, self.sectors, self.request, self.faults)?;
-        play_into(
-            alloc,
-            rt,
-            self.image,
-            self.scripts,
-            &self.setup,
-            supply,
-            room,
-        )
+        let gate = Arc::new(alloc, Ticking::new(rt, self.pace))?;
+        self.played_under(alloc, rt, gate, room)
+    }
+
+    /// What it gives under this gate.
+    pub(crate) fn played_at<R: Threads + Wait + Copy + Send + Sync + 'static, G: Gate + 'static>(
+        &self,
+        alloc: Global,
+        rt: R,
+        gate: Arc<G>,
+    ) -> Result<Played, AllocError> {
+        let (played, _) = self.played_under(alloc, rt, gate, FREE)?;
+        Ok(played)
     }
 
     /// What it gives.
-    pub fn played<R: Wait + Copy>(&self, alloc: Global, rt: R) -> Result<Played, AllocError> {
+    pub fn played<R: Threads + Wait + Clock + Copy + Send + Sync + 'static>(
+        &self,
+        alloc: Global,
+        rt: R,
+    ) -> Result<Played, AllocError> {
         let (played, _) = self.played_into(alloc, rt, FREE)?;
         Ok(played)
     }
 
+    /// What its scripts give one after the other: each is played by a service of its own, on the image that the one before it leaves. The
+    /// sessions are numbered as those of one play.
+    pub fn played_in_turn<R: Threads + Wait + Clock + Copy + Send + Sync + 'static>(
+        &self,
+        alloc: Global,
+        rt: R,
+    ) -> Result<Played, AllocError> {
+        let mut all = Played::before(alloc, self.image)?;
+        for (number, script) in self.scripts.iter().enumerate() {
+            let scripts = [*script];
+            let one = Play {
+                image: all.image.as_deref(),
+                scripts: &scripts,
+                ..*self
+            };
+            let played = one.played(alloc, rt)?;
+            all.go_on(number, played)?;
+        }
+        Ok(all)
+    }
+
     /// Looks at what it gives, which is an error where it is something else.
-    pub fn gives<R: Wait + Copy>(
+    pub fn gives<R: Threads + Wait + Clock + Copy + Send + Sync + 'static>(
         &self,
         alloc: Global,
         rt: R,

@@ -4,6 +4,8 @@ use fixtures::{changed, new_volume};
 use std::alloc::{AllocError, Global};
 use std::sync::Wait;
 use std::test::Fail;
+use std::thread::Threads;
+use std::time::Clock;
 
 /// An image: one that can't be read, the first bytes of a new volume's, or a new volume's with a byte at a place changed to another.
 #[derive(Clone, Copy)]
@@ -39,7 +41,7 @@ fn bytes_of(alloc: Global, image: Image) -> Result<Option<Vec<u8>>, AllocError> 
 }
 
 /// The fault of a row is told, of an image whose bytes are these.
-fn is_first<R: Wait + Copy>(
+fn is_first<R: Threads + Wait + Clock + Copy + Send + Sync + 'static>(
     alloc: Global,
     rt: R,
     image: Option<&[u8]>,
@@ -56,7 +58,11 @@ fn is_first<R: Wait + Copy>(
 }
 
 /// The fault of each row is told.
-pub fn are_first<R: Wait + Copy>(alloc: Global, rt: R, rows: &[Refused]) -> Result<(), Fail> {
+pub fn are_first<R: Threads + Wait + Clock + Copy + Send + Sync + 'static>(
+    alloc: Global,
+    rt: R,
+    rows: &[Refused],
+) -> Result<(), Fail> {
     for row in rows {
         let image = bytes_of(alloc, row.0)?;
         is_first(alloc, rt, image.as_deref(), row)?;
@@ -68,7 +74,7 @@ pub fn are_first<R: Wait + Copy>(alloc: Global, rt: R, rows: &[Refused]) -> Resu
 pub type Count = (usize, &'static [u8], &'static str);
 
 /// A play of so many scripts over a driver of other media is refused.
-fn is_refused<R: Wait + Copy>(
+fn is_refused<R: Threads + Wait + Clock + Copy + Send + Sync + 'static>(
     alloc: Global,
     rt: R,
     image: &[u8],
@@ -89,7 +95,7 @@ fn is_refused<R: Wait + Copy>(
 }
 
 /// Each of these plays on a new volume, of scripts that are the same but for the last one, is refused over a driver of other media.
-pub fn are_refused<R: Wait + Copy>(
+pub fn are_refused<R: Threads + Wait + Clock + Copy + Send + Sync + 'static>(
     alloc: Global,
     rt: R,
     each: &'static [u8],

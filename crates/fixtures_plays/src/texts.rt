@@ -6,6 +6,8 @@ use fixtures::new_volume;
 use std::alloc::{AllocError, Global};
 use std::sync::Wait;
 use std::test::Fail;
+use std::thread::Threads;
+use std::time::Clock;
 
 /// Reads a volume: the root's names and attributes, and the volume's numbers.
 const READS: &[u8] = b"user 0 0
@@ -24,7 +26,7 @@ fn behind<'p>(played: &'p Played, text: &str) -> Option<&'p str> {
 }
 
 /// Looks at whether the play of a text up to its line `unchanged`, if it has one, leaves this image; it is an error where it doesn't.
-fn has_stayed<R: Wait + Copy>(
+fn has_stayed<R: Threads + Wait + Clock + Copy + Send + Sync + 'static>(
     alloc: Global,
     rt: R,
     image: &[u8],
@@ -35,7 +37,7 @@ fn has_stayed<R: Wait + Copy>(
         return Ok(());
     };
     let files = before.files(alloc, None)?;
-    let earlier = Play::new(image, files.as_slice()).played(alloc, rt)?;
+    let earlier = Play::new(image, files.as_slice()).played_in_turn(alloc, rt)?;
     if earlier.left() == left {
         return Ok(());
     }
@@ -44,7 +46,7 @@ fn has_stayed<R: Wait + Copy>(
 
 /// Plays a text on an image: the replies are those of the text, nothing is complained of, and the image that is left is as it says, and
 /// clean; another server reads from it what a further session reads. It is an error where that isn't so.
-fn are_played<R: Wait + Copy>(
+fn are_played<R: Threads + Wait + Clock + Copy + Send + Sync + 'static>(
     alloc: Global,
     rt: R,
     image: &[u8],
@@ -53,7 +55,7 @@ fn are_played<R: Wait + Copy>(
     let mut said = read(alloc, text)?;
     said.begin_replies()?;
     let files = said.files(alloc, Some(READS))?;
-    let first = Play::new(image, files.as_slice()).played(alloc, rt)?;
+    let first = Play::new(image, files.as_slice()).played_in_turn(alloc, rt)?;
     let again = Play::new(first.left(), &[Some(READS)]).played(alloc, rt)?;
     let told = behind(&first, said.replies.as_str());
     let is_read = told.is_some() && told == behind(&again, "session 0\n");
@@ -101,7 +103,7 @@ fn volume_of(alloc: Global, line: &str) -> Result<Vec<u8>, Fail> {
 
 /// Each play of a text is played on the volume that its first line says; a blank line stands between two of them. It is an error where
 /// there are more or fewer of them than this.
-pub fn all_are_played<R: Wait + Copy>(
+pub fn all_are_played<R: Threads + Wait + Clock + Copy + Send + Sync + 'static>(
     alloc: Global,
     rt: R,
     text: &str,
@@ -124,7 +126,7 @@ pub fn all_are_played<R: Wait + Copy>(
 }
 
 /// A text is played on a new volume of 64 blocks of 1024 bytes, and then another one by another service on the image that is left.
-pub fn both_are_played<R: Wait + Copy>(
+pub fn both_are_played<R: Threads + Wait + Clock + Copy + Send + Sync + 'static>(
     alloc: Global,
     rt: R,
     text: &str,
@@ -137,7 +139,7 @@ pub fn both_are_played<R: Wait + Copy>(
 }
 
 /// Scripts of one call on a new volume: each has its session, and is answered by this line.
-pub fn are_answered<R: Wait + Copy>(
+pub fn are_answered<R: Threads + Wait + Clock + Copy + Send + Sync + 'static>(
     alloc: Global,
     rt: R,
     scripts: &[Option<&[u8]>],

@@ -8,6 +8,8 @@ use fixtures::new_volume;
 use std::alloc::Global;
 use std::sync::Wait;
 use std::test::Fail;
+use std::thread::Threads;
+use std::time::Clock;
 use tools::play::{Status, finish};
 
 /// Whether there is an image, a script, how many bytes are taken at a call, on standard output and on standard error, how the play ends,
@@ -35,7 +37,12 @@ fn is_as_said(alloc: Global, played: &Played, status: Status, row: &Narrow) -> R
 }
 
 /// A row comes out as it says, on a new volume.
-fn comes_out<R: Wait + Copy>(alloc: Global, rt: R, image: &[u8], row: &Narrow) -> Result<(), Fail> {
+fn comes_out<R: Threads + Wait + Clock + Copy + Send + Sync + 'static>(
+    alloc: Global,
+    rt: R,
+    image: &[u8],
+    row: &Narrow,
+) -> Result<(), Fail> {
     let (has_image, script, (most, out, err), _, _, _) = *row;
     let scripts = [Some(script)];
     let play = Play {
@@ -47,7 +54,11 @@ fn comes_out<R: Wait + Copy>(alloc: Global, rt: R, image: &[u8], row: &Narrow) -
 }
 
 /// Each row comes out as it says.
-pub fn all_come_out<R: Wait + Copy>(alloc: Global, rt: R, rows: &[Narrow]) -> Result<(), Fail> {
+pub fn all_come_out<R: Threads + Wait + Clock + Copy + Send + Sync + 'static>(
+    alloc: Global,
+    rt: R,
+    rows: &[Narrow],
+) -> Result<(), Fail> {
     let image = new_volume(alloc, 1024)?;
     for row in rows {
         comes_out(alloc, rt, &image, row)?;

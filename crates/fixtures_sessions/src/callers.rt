@@ -11,7 +11,7 @@ use std::sync::Wait;
 use tree::{Call, Outcome};
 
 /// A session, whichever service it is of.
-pub(crate) trait Caller {
+pub trait Caller {
     /// Makes a call at this time.
     fn make(&mut self, now: u32, call: &Call<'_>) -> Outcome;
 
@@ -45,7 +45,7 @@ impl<N: Room, R: Wait + Copy, L: Recorder<N>, S: FileServer<L>> Caller
 }
 
 /// Makes a call at this time, and adds a line with what it is answered, where there is memory for it.
-pub(crate) fn told<C: Caller>(caller: &mut C, now: u32, call: &Call<'_>, lines: &mut String) {
+pub fn told<C: Caller>(caller: &mut C, now: u32, call: &Call<'_>, lines: &mut String) {
     let outcome = caller.make(now, call);
     let shown = OutcomeText(&outcome);
     let _ = writeln!(lines, "{shown}");

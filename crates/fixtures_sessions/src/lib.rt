@@ -1,6 +1,6 @@
 //! What is done with services and their sessions, whichever server and link they have, and a link that has ended: for tests of sessions.
 #![tactic(auto)]
 
-mod callers;
+pub mod callers;
 pub mod services;
 pub mod silent;

@@ -3,20 +3,19 @@
 use crate::callers::{in_turn, told};
 use counting_link::recorder::Recorder;
 use counting_link::room::Room;
-use counting_link::steady::OnMedia;
 use file_server::FileServer;
 use serve::service::{Service, Shared};
 use serve::session::Session;
-use shared_server::stopping::StopRefusal;
+use serve::stopping::StopRefusal;
 use std::alloc::Global;
 use std::sync::Wait;
 use std::thread::{Threads, join};
 use tree::Call;
 
 /// Two sessions, of user 0 and of user 7, call in turn, and end. No image.
-pub fn two_in_turn<N: Room, R: Wait + Copy, L: Recorder<N>, S: FileServer<L>>(
+pub fn two_in_turn<N: Room, R: Threads + Wait + Copy, L: Recorder<N>, S: FileServer<L>>(
     alloc: Global,
-    service: Service<N, Shared<N, R, L, S>>,
+    service: Service<N, R, L, S>,
     lines: &mut String,
 ) -> Option<Vec<u8>> {
     let mut one = service.session(0, 0).ok()?;
@@ -28,7 +27,7 @@ pub fn two_in_turn<N: Room, R: Wait + Copy, L: Recorder<N>, S: FileServer<L>>(
 }
 
 /// A session asks for the root three times, and ends. A line for each answer.
-fn three_calls<N: Room, R: Wait + Copy, L: Recorder<N>, S: FileServer<L>>(
+fn three_calls<N: Room, R: Threads + Wait + Copy, L: Recorder<N>, S: FileServer<L>>(
     alloc: Global,
     mut session: Session<N, Shared<N, R, L, S>>,
 ) -> String {
@@ -46,19 +45,19 @@ pub fn two_in_threads<
     R: Threads + Wait + Copy + Send + Sync,
     L: Recorder<N> + Send,
     S: FileServer<L> + Send,
->(alloc: Global, rt: R, service: Service<N, Shared<N, R, L, S>>) -> Option<(String, String)> {
+>(alloc: Global, rt: &R, service: Service<N, R, L, S>) -> Option<(String, String)> {
     let one = service.session(0, 0).ok()?;
     let two = service.session(7, 8).ok()?;
     Some(join(
-        &rt,
+        rt,
         move || three_calls(alloc, one),
         move || three_calls(alloc, two),
     ))
 }
 
 /// Makes as many sessions as there are numbers.
-fn fill<N: Room, R: Wait + Copy, L: Recorder<N>, S: FileServer<L>>(
-    service: &Service<N, Shared<N, R, L, S>>,
+fn fill<N: Room, R: Threads + Wait + Copy, L: Recorder<N>, S: FileServer<L>>(
+    service: &Service<N, R, L, S>,
     sessions: &mut Vec<Session<N, Shared<N, R, L, S>>>,
 ) -> Option<()> {
     for _ in 0..64 {
@@ -69,9 +68,9 @@ fn fill<N: Room, R: Wait + Copy, L: Recorder<N>, S: FileServer<L>>(
 
 /// As many sessions are made as there are numbers, and one more is asked for before and after one of them ends: why there was none more,
 /// before and after, and how many are left. No image.
-pub fn many<N: Room, R: Wait + Copy, L: Recorder<N>, S: FileServer<L>>(
+pub fn many<N: Room, R: Threads + Wait + Copy, L: Recorder<N>, S: FileServer<L>>(
     alloc: Global,
-    service: Service<N, Shared<N, R, L, S>>,
+    service: Service<N, R, L, S>,
     lines: &mut String,
 ) -> Option<Vec<u8>> {
     let mut sessions: Vec<Session<N, Shared<N, R, L, S>>> = Vec::new(alloc);
@@ -85,7 +84,7 @@ pub fn many<N: Room, R: Wait + Copy, L: Recorder<N>, S: FileServer<L>>(
 }
 
 /// The service that wasn't stopped since a session is left.
-fn still_open<S: Drop, T: Drop>(stopped: Result<Vec<u8>, StopRefusal<S, T>>) -> Option<S> {
+fn still_open<S: Drop>(stopped: Result<Vec<u8>, StopRefusal<S>>) -> Option<S> {
     match stopped {
         Err(StopRefusal::SessionsLeft(service)) => Some(service),
         _ => None,
@@ -93,9 +92,7 @@ fn still_open<S: Drop, T: Drop>(stopped: Result<Vec<u8>, StopRefusal<S, T>>) -> 
 }
 
 /// Whether the last sync of a service that was stopped was made, and the image.
-fn last_sync<S: Drop, T: Drop>(
-    stopped: Result<Vec<u8>, StopRefusal<S, T>>,
-) -> Option<(&'static str, Vec<u8>)> {
+fn last_sync<S: Drop>(stopped: Result<Vec<u8>, StopRefusal<S>>) -> Option<(&'static str, Vec<u8>)> {
     match stopped {
         Ok(image) => Some(("synced", image)),
         Err(StopRefusal::GivenUp(image)) => Some(("given up", image)),
@@ -104,7 +101,7 @@ fn last_sync<S: Drop, T: Drop>(
 }
 
 /// The image of a service that was stopped, whose link has ended.
-fn cut_off<S: Drop, T: Drop>(stopped: Result<Vec<u8>, StopRefusal<S, T>>) -> Option<Vec<u8>> {
+fn cut_off<S: Drop>(stopped: Result<Vec<u8>, StopRefusal<S>>) -> Option<Vec<u8>> {
     match stopped {
         Err(StopRefusal::LinkEnded(image)) => Some(image),
         _ => None,
@@ -112,20 +109,20 @@ fn cut_off<S: Drop, T: Drop>(stopped: Result<Vec<u8>, StopRefusal<S, T>>) -> Opt
 }
 
 /// Stops a service with the end of a session, and at once, which are both refused since another session is left.
-fn refused<N: Room, R: Wait + Copy, L: Recorder<N> + OnMedia, S: FileServer<L>>(
+fn refused<N: Room, R: Threads + Wait + Copy, L: Recorder<N>, S: FileServer<L>>(
     alloc: Global,
-    service: Service<N, Shared<N, R, L, S>>,
+    service: Service<N, R, L, S>,
     session: Session<N, Shared<N, R, L, S>>,
-) -> Option<Service<N, Shared<N, R, L, S>>> {
+) -> Option<Service<N, R, L, S>> {
     let service = still_open(service.stop_after(alloc, session))?;
     still_open(service.stop(alloc))
 }
 
 /// Makes a call in one of two sessions, and stops the service three times: with the end of the other session, at once, which are refused
 /// since the first session is left, and when that one has ended, or with its end. The image.
-pub fn stopped<N: Room, R: Wait + Copy, L: Recorder<N> + OnMedia, S: FileServer<L>>(
+pub fn stopped<N: Room, R: Threads + Wait + Copy, L: Recorder<N>, S: FileServer<L>>(
     alloc: Global,
-    service: Service<N, Shared<N, R, L, S>>,
+    service: Service<N, R, L, S>,
     call: &Call<'_>,
     has_ended: bool,
     lines: &mut String,
@@ -140,9 +137,9 @@ pub fn stopped<N: Room, R: Wait + Copy, L: Recorder<N> + OnMedia, S: FileServer<
 }
 
 /// Stops a service when its last session has ended, or with its end. Whether the last sync was made, and the image.
-fn stopped_at_last<N: Room, R: Wait + Copy, L: Recorder<N> + OnMedia, S: FileServer<L>>(
+fn stopped_at_last<N: Room, R: Threads + Wait + Copy, L: Recorder<N>, S: FileServer<L>>(
     alloc: Global,
-    service: Service<N, Shared<N, R, L, S>>,
+    service: Service<N, R, L, S>,
     last: Session<N, Shared<N, R, L, S>>,
     has_ended: bool,
 ) -> Option<(&'static str, Vec<u8>)> {
@@ -155,9 +152,9 @@ fn stopped_at_last<N: Room, R: Wait + Copy, L: Recorder<N> + OnMedia, S: FileSer
 }
 
 /// A session calls, another one is asked for, and the service is stopped, whose link has ended. The image.
-pub fn asked_and_stopped<N: Room, R: Wait + Copy, L: Recorder<N> + OnMedia, S: FileServer<L>>(
+pub fn asked_and_stopped<N: Room, R: Threads + Wait + Copy, L: Recorder<N>, S: FileServer<L>>(
     alloc: Global,
-    service: Service<N, Shared<N, R, L, S>>,
+    service: Service<N, R, L, S>,
     lines: &mut String,
 ) -> Option<Vec<u8>> {
     let mut session = service.session(0, 0).ok()?;

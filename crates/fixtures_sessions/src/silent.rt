@@ -3,29 +3,26 @@ ghost use Rattle.std.specs.Prelude.{◌≡◌, [], IfOk};
 ghost use Rattle.counting_link.specs.Steady.{enough_room};
 
 use board::History;
-use counting_link::steady::{OnMedia, Steady, Supplied};
-use media::Media;
+use counting_link::steady::{Steady, Supplied};
 use message::endpoint::Endpoint;
 use message::{BlockRequest, Incoming};
 use reissue::link::{Link, LinkRefusal};
 use std::alloc::{AllocError, Global};
 
-/// A link that has ended, beside media that nobody moves: it refuses each post, and each take gives End. Of any record it guarantees
+/// A link that has ended: it refuses each post, and each take gives End. Of any record it guarantees
 /// nothing, and it says nothing of drivers.
 #[derive(Drop)]
 pub struct Silent {
     history: History,
-    media: Media,
 }
 
 impl Silent {
     /// It was told nothing yet.
-    pub fn new(alloc: Global, media: Media) -> Result<Silent, AllocError>
+    pub fn new(alloc: Global) -> Result<Silent, AllocError>
         ensures history { IfOk result (λ link. ⟦<Silent as Link>⟧.history link ≡ []) }
     {
         Ok(Silent {
             history: History::new(alloc)?,
-            media,
         })
     }
 }
@@ -76,12 +73,4 @@ impl Supplied for Silent {
     ghost runs_on = { λ l policy supply. Unit {0} };
 
     ghost keeps_on = { λ l m policy supply goes runs. tt };
-}
-
-impl OnMedia for Silent {
-    ghost lies_on = { λ l. l.media };
-
-    fn media(&self) -> &Media {
-        &self.media
-    }
 }

@@ -1,14 +1,20 @@
 //! The words of the programs that play against a server, and what they say: a module for each program.
 
 pub mod mfs;
+pub mod mfs9p;
 pub mod mfssim;
 
-use clap::Arg;
 use clap::builder::ValueParser;
+use clap::{Arg, ArgAction};
 use std::alloc::Global;
 
 /// A word that takes a number up to a most.
-fn number<'a>(alloc: Global, name: &'static str, value: &'static str, most: u64) -> Arg<'a> {
+pub(crate) fn number<'a>(
+    alloc: Global,
+    name: &'static str,
+    value: &'static str,
+    most: u64,
+) -> Arg<'a> {
     Arg::new(alloc, name)
         .long(name)
         .value_name(value)
@@ -35,4 +41,20 @@ pub(crate) fn spares<'a>(alloc: Global) -> Arg<'a> {
 /// The word that names the image's file.
 pub(crate) fn image<'a>(alloc: Global, help: &'static str) -> Arg<'a> {
     Arg::new(alloc, "IMAGE").required(true).help(help)
+}
+
+/// The word that names the file of the image that is left.
+pub(crate) fn out<'a>(alloc: Global, help: &'static str) -> Arg<'a> {
+    Arg::new(alloc, "out")
+        .long("out")
+        .value_name("FILE")
+        .help(help)
+}
+
+/// The word by which drivers move an arm.
+pub(crate) fn model<'a>(alloc: Global) -> Arg<'a> {
+    Arg::new(alloc, "model")
+        .long("model")
+        .action(ArgAction::SetTrue)
+        .help("The drivers move an arm over the sectors, from sector 0 on")
 }

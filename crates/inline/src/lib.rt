@@ -1,5 +1,4 @@
-//! What a link needs that runs its drivers itself: running one of them.
+//! What is asked of a driver that is run by the thread which waits for it.
 #![tactic(auto)]
 
 pub mod local;
-pub mod running;

@@ -1,10 +1,9 @@
 -- From a volume that was mounted to what a service holds, or why it doesn't start.
-use Rattle.std.proofs.Common.{◌≡◌, ℕ, List, [], ◌++◌, Bool, true, false, sym, ap, ◌∙◌, subst}
+use Rattle.std.proofs.Common.{◌≡◌, ℕ, List, [], ◌++◌, sym, ap, ◌∙◌, subst}
 use Rattle.layout.specs.declared.Geometry.{Geometry}
 use Rattle.tree.specs.declared.Call.{Call}
-use Rattle.tree.specs.Tree.{Tree}
-use Rattle.records.specs.Marks.{Mark, gave_up}
-use Rattle.records.specs.Disk.{Contents, HasTrueReplies}
+use Rattle.records.specs.Marks.{Mark}
+use Rattle.records.specs.Disk.{HasTrueReplies}
 use Rattle.records.specs.Acts.{KeepsRules, empty_outbox, marks_after, told_of}
 use Rattle.records.specs.Opening.{Opening, contents_at}
 use Rattle.records.specs.Told.{Told}
@@ -13,28 +12,27 @@ use Rattle.reincarnate.specs.declared.policy.Policy.{Policy}
 use Rattle.records.specs.Legal.{IsAtFirst}
 use Rattle.records.specs.Mount.{MountRefused}
 use Rattle.reissue.specs.declared.link.Link.{Ghosts as LinkWords}
-use Rattle.file_server.specs.Over.{Stands}
 use Rattle.counting_link.specs.declared.room.Room.{Ghosts as RoomWords}
 use Rattle.shared_server.specs.Held.{IsHeld}
-use Rattle.shared_server.proofs.HeldLaws.{held_mounted}
 use Rattle.stored.specs.declared.Stored.{Stored}
 use Rattle.mounting.specs.declared.whole.MountRefusal.{MountRefusal}
 use Rattle.mounting.specs.declared.whole.MountRefusal.TheVariants as mount
 use Rattle.mounting.specs.Laws.{sizes_in}
 use Rattle.mounting.specs.Mounts.{in_words}
 use Rattle.mounting.proofs.OfImage.{mounted_on_image, refused_by_image}
-use Rattle.mounting.specs.declared.refusal.StartRefusal.TheVariants.{OutOfMemory}
 use Rattle.mounting.specs.vfs.declared.server.Server.{Server}
 use Rattle.mounting.specs.Mounted.{IsMounted, IsNotMounted}
 use Rattle.mounting.specs.vfs.OverLink.{IsReadyOver, line_of, serving_over}
-use Rattle.launch.specs.Stopped.{IsMountRefused, IsStopped, refusal_of}
+use Rattle.shared_server.proofs.HeldLaws.{held_mounted}
+use Rattle.launch.specs.Stopped.{IsMountedTruly, IsMountRefused, IsStopped, refusal_of}
 
 -- ---- what is held
 
-module _ {N L : Type 0} (room : RoomWords N) (words : LinkWords L) (runs_on : L → Policy → List DriverState → Type 0) (record_in : L → List Mark)
+module _ {N L : Type 0} (room : RoomWords N) (words : LinkWords L) (runs_on : L → Policy → List DriverState → Type 0)
+    (record_in : L → List Mark)
     (is_record : (l : L) (v : Opening) (older : List Mark) → words.truth l v older → record_in l ≡ older)
-    (are_true : (l : L) (v : Opening) (older : List Mark) → words.truth l v older → HasTrueReplies (contents_at v) older)
-    (keeps_on : (l m : L) (policy : Policy) (supply : List DriverState) → words.goes_on l m → runs_on l policy supply → runs_on m policy supply)
+    (keeps_on : (l m : L) (policy : Policy) (supply : List DriverState) → words.goes_on l m → runs_on l policy supply
+    → runs_on m policy supply)
     (link : L) (minor frames : ℕ) (same : minor ≡ room.opening.minor) (truth : words.truth link room.opening [])
     (sizes : room.geometry ≡ sizes_in (contents_at room.opening)) where
   module _ (s : Server (Stored L)) (m : IsMounted words link minor frames s) where
@@ -45,33 +43,36 @@ module _ {N L : Type 0} (room : RoomWords N) (words : LinkWords L) (runs_on : L 
     guaranteed : words.truth (line_of s) room.opening marks
     guaranteed = m.truth room.opening (sym same) truth
 
-    replies : HasTrueReplies (contents_at room.opening) marks
-    replies = are_true (line_of s) room.opening marks guaranteed
-
-    geometry_is : (serving_over words s).geometry ≡ room.geometry
-    geometry_is =
+    geometry_is : HasTrueReplies (contents_at room.opening) marks → (serving_over words s).geometry ≡ room.geometry
+    geometry_is replies =
         mounted_on_image minor frames (words.history link) (serving_over words s) (contents_at room.opening) m.keeps replies ∙ sym sizes
 
-    -- the volume holds the tree that is served
-    pub holds : (tree : Tree) × IsAtFirst room.geometry (contents_at room.opening) tree
-    holds = (
-      m.keeps.tree,
-      subst (λ (g : Geometry). IsAtFirst g (contents_at room.opening) m.keeps.tree) geometry_is (m.keeps.at_first (contents_at room.opening) replies),
-    )
+    -- where the replies were true the volume holds the tree that is served
+    pub holds : IsMountedTruly words.truth room.geometry room.opening
+    holds = record {
+      line = line_of s;
+      marks = marks;
+      guaranteed = guaranteed;
+      holds = λ replies. (
+        m.keeps.tree,
+        subst (λ (g : Geometry). IsAtFirst g (contents_at room.opening) m.keeps.tree) (geometry_is replies)
+            (m.keeps.at_first (contents_at room.opening) replies),
+      );
+    }
 
     pub mounted_held : runs_on link room.policy room.supply → (knows : Call → Type 0) → ((call : Call) → knows call)
         → IsHeld room words (serving_over words) line_of (IsReadyOver words) knows runs_on record_in s
     mounted_held drivers knows each =
         held_mounted room words (serving_over words) line_of (IsReadyOver words) knows runs_on record_in s (words.history link) minor frames
-        m.ready each m.keeps (sym same) m.ready.may.ends (λ l older. is_record l room.opening older) (λ replies. geometry_is)
+        m.ready each m.keeps (sym same) m.ready.may.ends (λ l older. is_record l room.opening older) geometry_is
         (keeps_on link (line_of s) room.policy room.supply m.goes drivers) guaranteed
 
 -- ---- why nothing is mounted
 
--- a mount was refused over true replies
+-- a mount was refused
 refused_over : (v : Opening) (frames minor : ℕ) (before after : List Told) (e : MountRefusal) → before ≡ [] → minor ≡ v.minor
-    → (r : MountRefused minor frames before (in_words e) after) → HasTrueReplies (contents_at v) (marks_after r.acts []) → IsMountRefused v frames e
-refused_over v frames minor before after e none same r replies = record {
+    → (r : MountRefused minor frames before (in_words e) after) → IsMountRefused v frames e
+refused_over v frames minor before after e none same r = record {
   after = after;
   refused = record {
     acts = r.acts;
@@ -85,8 +86,7 @@ refused_over v frames minor before after e none same r replies = record {
     bad_frames = λ is. let b = r.bad_frames is in (b.0, b.1 ∙ none);
     why = r.why;
   };
-  true_replies = replies;
-  said = refused_by_image minor frames before after (in_words e) (contents_at v) r replies;
+  said = λ replies. refused_by_image minor frames before after (in_words e) (contents_at v) r replies;
 }
 
 -- as a start has it
@@ -98,11 +98,8 @@ as_start v frames mount.Eio h = h
 as_start v frames mount.LinkEnded h = h
 as_start v frames mount.BadFrames h = h
 
--- over a link whose replies are true, and that was told nothing
-pub mount_stopped : {L : Type 0} (words : LinkWords L)
-    → ((l : L) (v : Opening) (older : List Mark) → words.truth l v older → HasTrueReplies (contents_at v) older)
-    → (v : Opening) (link : L) (minor frames : ℕ) (e : MountRefusal) → minor ≡ v.minor → words.history link ≡ [] → words.truth link v []
-    → IsNotMounted words link minor frames e → IsStopped v frames (refusal_of e)
-mount_stopped words are_true v link minor frames e same none truth m =
-    as_start v frames e (refused_over v frames minor (words.history link) (words.history m.last) e none same m.refused
-    (are_true m.last v (marks_after m.refused.acts []) (m.truth v (sym same) truth)))
+-- over a link that was told nothing
+pub mount_stopped : {L : Type 0} (words : LinkWords L) (v : Opening) (link : L) (minor frames : ℕ) (e : MountRefusal) → minor ≡ v.minor
+    → words.history link ≡ [] → IsNotMounted words link minor frames e → IsStopped v frames (refusal_of e)
+mount_stopped words v link minor frames e same none m =
+    as_start v frames e (refused_over v frames minor (words.history link) (words.history m.last) e none same m.refused)

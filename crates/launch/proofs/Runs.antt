@@ -1,16 +1,17 @@
 -- What a program came to over a service, or why none is started.
-use Rattle.std.proofs.Common.{◌≡◌, ℕ, List, subst}
+use Rattle.std.proofs.Common.{◌≡◌, ℕ, List, ap, subst, ◌∙◌}
 use Rattle.std.specs.Prelude.{IfErr, IfOk, OnOk, Result, Ok, Err}
 use Rattle.layout.specs.declared.Geometry.{Geometry}
-use Rattle.tree.specs.Tree.{Tree}
 use Rattle.records.specs.Opening.{Opening, contents_at}
 use Rattle.bdev.specs.DriverState.{DriverState}
-use Rattle.records.specs.Legal.{IsAtFirst}
+use Rattle.reissue.specs.Calls.{Truth}
+use Rattle.shared_server.specs.Held.{HoldsIfTrue}
+use Rattle.mounting.specs.Laws.{sizes_in}
 use Rattle.mounting.specs.declared.refusal.StartRefusal.{StartRefusal}
 use Rattle.mounting.specs.declared.refusal.StartRefusal.TheVariants.{Media, Partition, NoPartition, Mount, BadSetup, NoDriver, OutOfMemory}
 use Rattle.mounting.specs.Starting.{opening_of, IsPrepared, IsRefused}
 use Rattle.reincarnate.specs.declared.policy.Setup.{Setup}
-use Rattle.launch.specs.Stopped.{IsStopped}
+use Rattle.launch.specs.Stopped.{IsMountedTruly, IsStopped}
 use Rattle.launch.specs.Ran.{HasRun, IsNotStarted}
 
 -- the same of the opening that is another's name
@@ -22,17 +23,20 @@ stopped_on v w frames result same h = subst (λ (x : Opening). IfErr result (IsS
 
 -- a program that ran over a service of a volume that was mounted
 pub has_run : {O : Type 0} (image : List ℕ) (setup : Setup) (supply : List DriverState) (range : ℕ × ℕ) (v : Opening) (g : Geometry)
-    (gives : Geometry → Opening → O → Type 0) (result : Result O StartRefusal) → v ≡ opening_of image setup.minor range → IsPrepared image setup supply range
-    → IfOk result (λ o. gives g v o) → OnOk result ((tree : Tree) × IsAtFirst g (contents_at v) tree)
+    (gives : Geometry → Opening → O → Type 0) (result : Result O StartRefusal) → v ≡ opening_of image setup.minor range
+    → g ≡ sizes_in (contents_at v)
+    → IsPrepared image setup supply range → {L : Type 0} → (truth : L → Truth) → IfOk result (λ o. gives g v o)
+    → OnOk result (IsMountedTruly truth g v)
     → IfOk result (λ o. HasRun image setup supply (λ h opening. gives h opening o))
-has_run image setup supply range v g gives (Err e) same prepared given held = tt
-has_run image setup supply range v g gives (Ok o) same prepared given held = (
+has_run image setup supply range v g gives (Err e) same sizes prepared truth given held = tt
+has_run image setup supply range v g gives (Ok o) same sizes prepared truth given held = (
   g,
   range,
   record {
     prepared = prepared;
-    tree = held.0;
-    at_first = subst (λ (x : Opening). IsAtFirst g (contents_at x) held.0) same held.1;
+    sizes = sizes ∙ ap (λ (x : Opening). sizes_in (contents_at x)) same;
+    marks = held.marks;
+    holds = subst (λ (x : Opening). HoldsIfTrue g x held.marks) same held.holds;
   },
   subst (λ (x : Opening). gives g x o) same given,
 )
@@ -50,7 +54,8 @@ never_prepared image setup supply NoDriver h = h
 never_prepared image setup supply OutOfMemory h = h
 
 -- why no service starts where all stands ready
-pub never_started : (image : List ℕ) (setup : Setup) (supply : List DriverState) (range : ℕ × ℕ) (e : StartRefusal) → IsPrepared image setup supply range
+pub never_started : (image : List ℕ) (setup : Setup) (supply : List DriverState) (range : ℕ × ℕ) (e : StartRefusal)
+    → IsPrepared image setup supply range
     → IsStopped (opening_of image setup.minor range) setup.frames e → IsNotStarted image setup supply e
 never_started image setup supply range (Mount refusal) p h = (range, p, h)
 never_started image setup supply range OutOfMemory p h = p.place.0

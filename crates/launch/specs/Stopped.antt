@@ -1,5 +1,9 @@
 -- Why a service doesn't start where all stands ready.
 use Rattle.std.specs.Prelude.{ℕ, List, []}
+use Rattle.layout.specs.declared.Geometry.{Geometry}
+use Rattle.shared_server.specs.Held.{HoldsIfTrue}
+use Rattle.records.specs.Marks.{Mark}
+use Rattle.reissue.specs.Calls.{Truth}
 use Rattle.records.specs.Disk.{HasTrueReplies}
 use Rattle.records.specs.Told.{Told}
 use Rattle.records.specs.Acts.{marks_after}
@@ -12,13 +16,20 @@ use Rattle.mounting.specs.Mounts.{in_words}
 use Rattle.mounting.specs.declared.refusal.StartRefusal.{StartRefusal}
 use Rattle.mounting.specs.declared.refusal.StartRefusal.TheVariants.{Mount, OutOfMemory}
 
--- The volume isn't mounted. Over some link, whose replies were true of the volume as it was handed in, a mount with so many frames was refused
--- so, and what the refusal says of the volume is so.
+-- The volume was mounted, with this record, which the link guaranteed: where its replies were true, the volume as it was handed in holds a
+-- tree.
+pub record IsMountedTruly {L : Type 0} (truth : L → Truth) (g : Geometry) (v : Opening) : Type 0 where
+  pub line : L
+  pub marks : List Mark
+  pub guaranteed : truth line v marks
+  pub holds : HoldsIfTrue g v marks
+
+-- The volume isn't mounted. Over some link a mount with so many frames was refused so, and where its replies were true of the volume as it
+-- was handed in, what the refusal says of the volume is so.
 pub record IsMountRefused (v : Opening) (frames : ℕ) (refusal : MountRefusal) : Type 0 where
   pub after : List Told
   pub refused : MountRefused v.minor frames [] (in_words refusal) after
-  pub true_replies : HasTrueReplies (contents_at v) (marks_after refused.acts [])
-  pub said : IsSaidOf (contents_at v) (in_words refusal)
+  pub said : HasTrueReplies (contents_at v) (marks_after refused.acts []) → IsSaidOf (contents_at v) (in_words refusal)
 
 -- the refusal of a mount, as a start has it
 abbrev pub refusal_of : MountRefusal → StartRefusal

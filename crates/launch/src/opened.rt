@@ -1,4 +1,4 @@
-//! A service of the file server over a link.
+//! A service of the file server over a link, and the threads behind it.
 
 ghost use Rattle.std.specs.Prelude.{◌≡◌, ◌≤◌, ◌^◌, [], true, IfErr, OnOk};
 ghost use Rattle.std.specs.Arc.{arc_value};
@@ -8,25 +8,34 @@ ghost use Rattle.records.specs.Opening.{contents_at};
 ghost use Rattle.records.specs.Legal.{IsAtFirst};
 ghost use Rattle.records.specs.Mount.{is_frame_count};
 ghost use Rattle.mounting.specs.Laws.{sizes_in};
-ghost use Rattle.launch.specs.Stopped.{IsStopped, refusal_of as start_refusal_of};
+ghost use Rattle.launch.specs.Stopped.{IsMountedTruly, IsStopped, refusal_of as start_refusal_of};
 
 use board::Board;
 use counting_link::recorder::Recorder;
 use counting_link::room::Room;
+use driver_threads::running::Running;
+use gate::Gate;
 use layout::Geometry;
 use mounting::mounted::mount;
 use mounting::opening::open;
 use mounting::{MountRefusal, Server, StartRefusal};
-use reissue::link::TrueLink;
-use serve::service::{Service, Shared};
+use serve::service::Service;
 use std::alloc::{AllocError, Global};
 use std::sync::{Arc, Wait};
+use std::thread::Threads;
 use stored::Stored;
 
 /// A service of a server of all calls, with so many frames, for its volume in a range of the media, over a link that was told nothing yet,
 /// keeps an empty record on the service's board, and runs on the service's drivers under its policy. The link gives at most 2^58 messages.
-/// The volume as it was handed in holds a tree. Where no memory was found, the link is let go.
-pub fn over<N: Room, R: Wait + Copy, L: Recorder<N>>(
+/// The volume as it was handed in holds a tree.
+///
+/// Where no memory or no thread was found, the link is let go, and all threads are ended.
+pub fn over<
+    N: Room + Send + Sync + 'static,
+    R: Threads + Wait + Copy + Send + Sync + 'static,
+    L: Recorder<N> + Send + 'static,
+    G: Gate + 'static,
+>(
     alloc: Global,
     rt: R,
     board: Arc<Board>,
@@ -34,7 +43,9 @@ pub fn over<N: Room, R: Wait + Copy, L: Recorder<N>>(
     minor: u8,
     geometry: Geometry,
     frames: u32,
-) -> Result<Service<N, Shared<N, R, L, Server<Stored<L>>>>, AllocError>
+    running: Running<N>,
+    gate: Arc<G>,
+) -> Result<Service<N, R, L, Server<Stored<L>>>, AllocError>
     requires board { arc_value board ≡ N.table }
     requires marks { L.marks link ≡ [] }
     requires told { L.Link.history link ≡ [] }
@@ -47,13 +58,16 @@ pub fn over<N: Room, R: Wait + Copy, L: Recorder<N>>(
     requires drivers { L.runs_on link N.policy N.supply }
 {
     match open(alloc, link, minor, geometry, frames) {
-        Ok(server) => Service::over(alloc, rt, board, server),
-        Err(_) => Err(AllocError),
+        Ok(server) => Service::over(alloc, rt, board, server, running, gate),
+        Err(_) => {
+            let _ = running.stop(&rt);
+            Err(AllocError)
+        }
     }
 }
 
 /// The refusal of a mount, as a start has it: memory that is wanting is wanting to the start.
-fn refusal_of(refusal: MountRefusal) -> StartRefusal
+pub fn refusal_of(refusal: MountRefusal) -> StartRefusal
     ensures { result ≡ start_refusal_of refusal }
 {
     match refusal {
@@ -62,18 +76,25 @@ fn refusal_of(refusal: MountRefusal) -> StartRefusal
     }
 }
 
-/// A service of a server of all calls, mounted with so many frames on its volume in a range of the media, over a link as `over` takes it,
-/// whose replies are true; it gives at most 2^57 messages. The volume then holds a tree.
+/// A service of a server of all calls, mounted with so many frames on its volume in a range of the media, over a link as `over` takes it;
+/// it gives at most 2^57 messages. Where its replies were true, the volume then holds a tree.
 ///
-/// It is refused as a mount is; and where no memory was found. The link is let go then.
-pub fn mounted<N: Room, R: Wait + Copy, L: Recorder<N> + TrueLink>(
+/// It is refused as a mount is; and where no memory or no thread was found. The link is let go then, and all threads are ended.
+pub fn mounted<
+    N: Room + Send + Sync + 'static,
+    R: Threads + Wait + Copy + Send + Sync + 'static,
+    L: Recorder<N> + Send + 'static,
+    G: Gate + 'static,
+>(
     alloc: Global,
     rt: R,
     board: Arc<Board>,
     link: L,
     minor: u8,
     frames: u32,
-) -> Result<Service<N, Shared<N, R, L, Server<Stored<L>>>>, StartRefusal>
+    running: Running<N>,
+    gate: Arc<G>,
+) -> Result<Service<N, R, L, Server<Stored<L>>>, StartRefusal>
     requires board { arc_value board ≡ N.table }
     requires marks { L.marks link ≡ [] }
     requires told { L.Link.history link ≡ [] }
@@ -83,11 +104,14 @@ pub fn mounted<N: Room, R: Wait + Copy, L: Recorder<N> + TrueLink>(
     requires budget { L.Link.budget_left link ≤ 2 ^ 57 }
     requires truth { L.Link.truth link N.opening [] }
     requires drivers { L.runs_on link N.policy N.supply }
-    ensures holds { OnOk result ((tree : Tree) × IsAtFirst N.geometry (contents_at N.opening) tree) }
+    ensures holds { OnOk result (IsMountedTruly L.truth N.geometry N.opening) }
     ensures refused { IfErr result (IsStopped N.opening frames) }
 {
     match mount(alloc, link, minor, frames) {
-        Ok(server) => Ok(Service::over(alloc, rt, board, server)?),
-        Err(refusal) => Err(refusal_of(refusal)),
+        Ok(server) => Ok(Service::over(alloc, rt, board, server, running, gate)?),
+        Err(refusal) => {
+            let _ = running.stop(&rt);
+            Err(refusal_of(refusal))
+        }
     }
 }

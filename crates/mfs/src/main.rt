@@ -1,6 +1,7 @@
 //! Plays scripts of client calls against a file server over the image of a volume.
 #![tactic(auto)]
 
+use gate::paced_gate::Paced;
 use host::command_line::{line_of, status_for};
 use host::play_words::mfs::{Words, read};
 use host::whole_file::replace;
@@ -9,7 +10,8 @@ use script_text::script_files::File;
 use std::alloc::{AllocError, Global};
 use std::process::ExitCode;
 use std::rt::Files;
-use std::sync::Wait;
+use std::sync::{Arc, Wait};
+use std::thread::Threads;
 use std::{fs, io};
 use tools::play::{finish, play};
 
@@ -47,8 +49,8 @@ fn files<'n, 'b>(
 }
 
 /// Plays the scripts that the words name on the image that they name, and writes the image that is left, where they name a file for it. The
-/// service may wait for its lock.
-fn play_files<W: Wait + Copy>(
+/// service has threads of its own, and a tick of it takes a tenth of a second.
+fn play_files<W: Threads + Wait + Copy + Send + Sync + 'static>(
     rt: HostRuntime,
     waits: W,
     words: &Words<'_>,
@@ -60,6 +62,7 @@ fn play_files<W: Wait + Copy>(
     let table = table_in(image.as_deref().unwrap_or(&[]));
     let supply = drivers_for(alloc, words.spares, words.model, table)?;
     let setup = setup_for(words.minor);
+    let gate = Arc::new(alloc, Paced::new(rt))?;
     let (mut out, mut err) = (io::writer(&rt), rt.stderr());
     let played = play(
         alloc,
@@ -68,6 +71,7 @@ fn play_files<W: Wait + Copy>(
         scripts.as_slice(),
         &setup,
         supply,
+        gate,
         &mut out,
         &mut err,
     );

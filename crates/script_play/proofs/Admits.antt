@@ -12,8 +12,10 @@ use Rattle.script_play.specs.Turns.{asked}
 pub each_more : {X : Type 0} (old new : List X) (x : X) (P : X → Type 0) → new ≡ old ++ x ∷ [] → All P old → P x → All P new
 each_more old new x P is each more = subst (All P) (sym is) (All-push P old x each more)
 
-pub asked_more : {C : Type 0} (old new : List (Turn C)) (turn : Turn C) (state : C → SessionState) (scripts : List Script) (i : ℕ) (item : Script) → i < length scripts
-    → item ≡ get_or scripts i item → new ≡ old ++ turn ∷ [] → map (asked state) old ≡ map said (take i scripts) → asked state turn ≡ said item
+pub asked_more : {C : Type 0} (old new : List (Turn C)) (turn : Turn C) (state : C → SessionState) (scripts : List Script) (i : ℕ)
+    (item : Script) → i < length scripts
+    → item ≡ get_or scripts i item → new ≡ old ++ turn ∷ [] → map (asked state) old ≡ map said (take i scripts)
+    → asked state turn ≡ said item
     → map (asked state) new ≡ map said (take (i + 1) scripts)
 asked_more old new turn state scripts i item inside item_is is so_far here =
     ap (map (asked state)) is ∙ map-append (asked state) old (turn ∷ []) ∙ ap (λ l. l ++ asked state turn ∷ []) so_far

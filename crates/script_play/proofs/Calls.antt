@@ -13,36 +13,41 @@ use Rattle.records.specs.Session.{Seen, SessionState, SessionCallKeeps, EndsWith
 use Rattle.file_server.specs.Over.{outcome_of}
 use Rattle.reissue.specs.declared.link.Link.{Ghosts as LinkWords}
 use Rattle.reissue.specs.Calls.{Truth}
-use Rattle.shared_server.specs.Held.{HasEnded, IsCutAtEnd, IsGood, IsGuaranteed, IsSound}
+use Rattle.shared_server.specs.Held.{HasEnded, HoldsIfTrue, IsCutAtEnd, IsGood, IsGuaranteed, IsSound}
 use Rattle.script_play.specs.Made.{call_made, cuts}
 use Rattle.script_play.specs.Turns.{IsUnplayed}
 use Rattle.script_play.specs.Vouched.{Vouched}
 
 -- its own calls grew by this one, unless it was cut
-pub ends_mine : (outcome : Outcome) (who : Who) (now : ℕ) (call : Call) (old new : Seen) → EndsWith (outcome_of outcome) who now call old new
+pub ends_mine : (outcome : Outcome) (who : Who) (now : ℕ) (call : Call) (old new : Seen)
+    → EndsWith (outcome_of outcome) who now call old new
     → new.mine ≡ call_made who now call outcome old.mine
 ends_mine (Reply r) who now call old new h = h.2
 ends_mine Cut who now call old new h = h
 
 -- what it has seen is vouched for
-pub call_vouched : {L : Type 0} (truth : L → Truth) (g : Geometry) (v : Opening) (old : SessionState) (who : Who) (now : ℕ) (call : Call) (outcome : Outcome) (new : SessionState)
+pub call_vouched : {L : Type 0} (truth : L → Truth) (g : Geometry) (v : Opening) (old : SessionState) (who : Who) (now : ℕ) (call : Call)
+    (outcome : Outcome) (new : SessionState)
     → SessionCallKeeps g (contents_at v) old who now call (outcome_of outcome) new
-    → IsSound new.knows.seen → IsGuaranteed truth v new.knows.seen → Vouched truth g v new.knows.seen
-call_vouched truth g v old who now call outcome new h sound guaranteed = λ tree first. ((sound, h.legal tree first), guaranteed)
+    → HoldsIfTrue g v new.knows.seen → IsSound new.knows.seen → IsGuaranteed truth v new.knows.seen → Vouched truth g v new.knows.seen
+call_vouched truth g v old who now call outcome new h volume sound guaranteed =
+    ((volume, λ tree first. (sound, h.legal tree first)), guaranteed)
 
 -- a call that was cut came once the link had ended
-pub cut_ended : {L : Type 0} (link : LinkWords L) (marks : L → List Mark) (outcome : Outcome) (seen : List Mark) → IsCutAtEnd link marks outcome seen → cuts outcome ≡ true
+pub cut_ended : {L : Type 0} (link : LinkWords L) (marks : L → List Mark) (outcome : Outcome) (seen : List Mark)
+    → IsCutAtEnd link marks outcome seen → cuts outcome ≡ true
     → HasEnded link marks seen
 cut_ended link marks Cut seen h is = record { line = h.line; kept = h.kept; ended = h.exactly.0 refl }
 cut_ended link marks (Reply r) seen h is = absurd (cc)
 
 -- a session that was made has made no call
-pub made_unplayed : {L : Type 0} (truth : L → Truth) (g : Geometry) (v : Opening) (uid gid : ℕ) (s : SessionState) (marks : List Mark) → IsMadeFor uid gid s marks → s.knows.seen ≡ marks
+pub made_unplayed : {L : Type 0} (truth : L → Truth) (g : Geometry) (v : Opening) (uid gid : ℕ) (s : SessionState) (marks : List Mark)
+    → IsMadeFor uid gid s marks → s.knows.seen ≡ marks
     → ((tree : Tree) → IsAtFirst g (contents_at v) tree → IsGood g v tree s.knows.seen)
-    → IsGuaranteed truth v s.knows.seen → IsUnplayed (Vouched truth g v) s
-made_unplayed truth g v uid gid s marks made whole good guaranteed = record {
+    → HoldsIfTrue g v s.knows.seen → IsGuaranteed truth v s.knows.seen → IsUnplayed (Vouched truth g v) s
+made_unplayed truth g v uid gid s marks made whole good volume guaranteed = record {
   low = made.number;
   none = made.new.none;
   none_seen = ap (λ (ms : List Mark). calls_of s.knows.number s.knows.place ms) whole ∙ made.new.saw_all;
-  vouched = λ tree first. (good tree first, guaranteed);
+  vouched = ((volume, good), guaranteed);
 }

@@ -11,14 +11,22 @@ pub begins_all : (a : List Mark) → IsBeginning [] a
 begins_all a = record { later = a; is = sym (append-nil a) }
 
 pub begins_through : (a b c : List Mark) → IsBeginning a b → IsBeginning b c → IsBeginning a c
-begins_through a b c h k = record { later = k.later ++ h.later; is = k.is ∙ ap (λ l. k.later ++ l) h.is ∙ sym (append_assoc k.later h.later a) }
+begins_through a b c h k = record {
+  later = k.later ++ h.later;
+  is = k.is ∙ ap (λ l. k.later ++ l) h.is ∙ sym (append_assoc k.later h.later a);
+}
 
 pub same_caller : (old new : SessionState) → SessionGoesOn old new → caller_of new ≡ caller_of old
 same_caller old new h = λ i. record { session = h.learns.number i; uid = h.user i; gid = h.group i }
 
 -- a session that goes on is the same later
 pub goes_later : (old new : SessionState) → SessionGoesOn old new → IsLater old new
-goes_later old new h = record { caller = same_caller old new h; place = h.learns.place; beginning = h.learns.beginning; own = λ own. h.learns.own }
+goes_later old new h = record {
+  caller = same_caller old new h;
+  place = h.learns.place;
+  beginning = h.learns.beginning;
+  own = λ own. h.learns.own;
+}
 
 pub later_self : (s : SessionState) → IsLater s s
 later_self s = record { caller = refl; place = refl; beginning = begins_self s.knows.seen; own = λ own. own }

@@ -1,5 +1,6 @@
 -- One call after others, in a session.
-use Rattle.std.proofs.Common.{◌≡◌, ℕ, ◌+◌, ◌<◌, get_or, take, List, [], ◌∷◌, ◌++◌, length, Bool, true, false, refl, sym, ap, ◌∙◌, arith, length-append, subst}
+use Rattle.std.proofs.Common.{◌≡◌, ℕ, ◌+◌, ◌<◌, get_or, take, List, [], ◌∷◌, ◌++◌, length, Bool, true, false, refl, sym, ap, ◌∙◌, arith}
+use Rattle.std.proofs.Common.{length-append, subst}
 use Rattle.std.proofs.lemmas.List.{take_more}
 use Rattle.tree.specs.declared.Who.{Who}
 use Rattle.tree.specs.declared.Outcome.{Outcome}
@@ -13,7 +14,8 @@ use Rattle.script_play.proofs.Later.{goes_later, later_self, later_through}
 -- one call more
 calls_made-more : (who : Who) (calls : List TimedCall) (outcomes : List Outcome) (timed : TimedCall) (outcome : Outcome) (older : List Mark)
     → length outcomes ≡ length calls
-    → calls_made who (calls ++ timed ∷ []) (outcomes ++ outcome ∷ []) older ≡ call_made who timed.time timed.call outcome (calls_made who calls outcomes older)
+    → calls_made who (calls ++ timed ∷ []) (outcomes ++ outcome ∷ []) older
+    ≡ call_made who timed.time timed.call outcome (calls_made who calls outcomes older)
 calls_made-more who [] [] timed outcome older same = refl
 calls_made-more who [] (o ∷ outcomes) timed outcome older same = absurd (omega arith)
 calls_made-more who (t ∷ calls) [] timed outcome older same = absurd (omega arith)
@@ -49,12 +51,14 @@ module _ (Vouches Ended : List Mark → Type 0) (old : SessionState) where
   pub plays_none : Plays Vouches Ended old [] [] old
   plays_none = record { later = later_self old; each = refl; cuts_last = refl; mine = refl; vouched = λ v. v; ended = λ is. absurd (cc) }
 
-  module _ (mid new : SessionState) (calls : List TimedCall) (outcomes : List Outcome) (timed : TimedCall) (plays : Plays Vouches Ended old calls outcomes mid) where
+  module _ (mid new : SessionState) (calls : List TimedCall) (outcomes : List Outcome) (timed : TimedCall)
+      (plays : Plays Vouches Ended old calls outcomes mid) where
     counts_more : (outcome : Outcome) → length (outcomes ++ outcome ∷ []) ≡ length (calls ++ timed ∷ [])
     counts_more outcome = omega (arith, length-append outcomes (outcome ∷ []), length-append calls (timed ∷ []), plays.each)
 
     -- a call more
-    called : (outcome : Outcome) → cuts_last (outcomes ++ outcome ∷ []) ≡ true → (some_cut (outcomes ++ outcome ∷ []) ≡ true → cuts outcome ≡ true)
+    called : (outcome : Outcome) → cuts_last (outcomes ++ outcome ∷ []) ≡ true
+        → (some_cut (outcomes ++ outcome ∷ []) ≡ true → cuts outcome ≡ true)
         → Calls Vouches Ended mid false timed outcome new → Plays Vouches Ended old (calls ++ timed ∷ []) (outcomes ++ outcome ∷ []) new
     called outcome last only c = record {
       later = later_through old mid new plays.later (goes_later mid new (c.goes_on refl));
@@ -70,11 +74,13 @@ module _ (Vouches Ended : List Mark → Type 0) (old : SessionState) where
 
     plays_called : (outcome : Outcome) → some_cut outcomes ≡ false → Calls Vouches Ended mid false timed outcome new
         → Plays Vouches Ended old (calls ++ timed ∷ []) (outcomes ++ outcome ∷ []) new
-    plays_called (Reply r) none c = called (Reply r) (cuts_last-reply outcomes r none) (λ is. sym none ∙ sym (some_cut-reply outcomes r) ∙ is) c
+    plays_called (Reply r) none c = called (Reply r) (cuts_last-reply outcomes r none)
+        (λ is. sym none ∙ sym (some_cut-reply outcomes r) ∙ is) c
     plays_called Cut none c = called Cut (cuts_last-cut outcomes plays.cuts_last) (λ is. refl) c
 
     -- a call that wasn't made, since an earlier one was cut
-    plays_cut : (outcome : Outcome) → true ≡ some_cut outcomes → Calls Vouches Ended mid true timed outcome new → Plays Vouches Ended old (calls ++ timed ∷ []) (outcomes ++ outcome ∷ []) new
+    plays_cut : (outcome : Outcome) → true ≡ some_cut outcomes → Calls Vouches Ended mid true timed outcome new
+        → Plays Vouches Ended old (calls ++ timed ∷ []) (outcomes ++ outcome ∷ []) new
     plays_cut outcome was c =
         let both = c.after_cut refl in
         subst (λ (o : Outcome). Plays Vouches Ended old (calls ++ timed ∷ []) (outcomes ++ o ∷ []) new) (sym both.0)
@@ -93,15 +99,18 @@ module _ (Vouches Ended : List Mark → Type 0) (old : SessionState) where
     plays_more false outcome is c = plays_called outcome (sym is) c
 
 -- from the first that is cut on all are, so the last tells whether one was
-pub cut_more : (Vouches Ended : List Mark → Type 0) (mid new : SessionState) (outcomes : List Outcome) (timed : TimedCall) (cut : Bool) (outcome : Outcome)
+pub cut_more : (Vouches Ended : List Mark → Type 0) (mid new : SessionState) (outcomes : List Outcome) (timed : TimedCall) (cut : Bool)
+    (outcome : Outcome)
     → cut ≡ some_cut outcomes → Calls Vouches Ended mid cut timed outcome new → cuts outcome ≡ some_cut (outcomes ++ outcome ∷ [])
 cut_more Vouches Ended mid new outcomes timed cut Cut is c = sym (some_cut-cut outcomes)
 cut_more Vouches Ended mid new outcomes timed true (Reply r) is c = let no = (c.after_cut refl).0 in cc
 cut_more Vouches Ended mid new outcomes timed false (Reply r) is c = is ∙ sym (some_cut-reply outcomes r)
 
 -- the next of the calls
-pub plays_next : (Vouches Ended : List Mark → Type 0) (old mid new : SessionState) (calls : List TimedCall) (i : ℕ) (d : TimedCall) (outcomes : List Outcome) → i < length calls
-    → Plays Vouches Ended old (take i calls) outcomes mid → (cut : Bool) (outcome : Outcome) → cut ≡ some_cut outcomes → Calls Vouches Ended mid cut (get_or calls i d) outcome new
+pub plays_next : (Vouches Ended : List Mark → Type 0) (old mid new : SessionState) (calls : List TimedCall) (i : ℕ) (d : TimedCall)
+    (outcomes : List Outcome) → i < length calls
+    → Plays Vouches Ended old (take i calls) outcomes mid → (cut : Bool) (outcome : Outcome) → cut ≡ some_cut outcomes
+    → Calls Vouches Ended mid cut (get_or calls i d) outcome new
     → Plays Vouches Ended old (take (i + 1) calls) (outcomes ++ outcome ∷ []) new
 plays_next Vouches Ended old mid new calls i d outcomes inside plays cut outcome is c =
     subst (λ (cs : List TimedCall). Plays Vouches Ended old cs (outcomes ++ outcome ∷ []) new) (sym (take_more calls i d inside))

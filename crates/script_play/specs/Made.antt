@@ -20,7 +20,8 @@ call_made who now call Cut older = older
 
 -- the marks of these calls, onto older ones, the newest first
 abbrev pub calls_made : Who → List TimedCall → List Outcome → List Mark → List Mark
-calls_made who (timed ∷ calls) (outcome ∷ outcomes) older = calls_made who calls outcomes (call_made who timed.time timed.call outcome older)
+calls_made who (timed ∷ calls) (outcome ∷ outcomes) older = calls_made who calls outcomes
+    (call_made who timed.time timed.call outcome older)
 calls_made who _ _ older = older
 
 -- whether a call was cut
@@ -66,9 +67,10 @@ pub record IsLater (old new : SessionState) : Type 0 where
   pub beginning : IsBeginning old.knows.seen new.knows.seen
   pub own : IsOwn old → IsOwn new
 
--- These calls were made in a session, each in its turn and with its outcome; from the first that is cut on all are. Its own calls grew by those that
--- were answered, and what it has seen is still vouched for. Where one was cut, the link had ended, by what it has seen.
-pub record Plays (Vouches Ended : List Mark → Type 0) (old : SessionState) (calls : List TimedCall) (outcomes : List Outcome) (new : SessionState) : Type 0 where
+-- These calls were made in a session, each in its turn and with its outcome; from the first that is cut on all are. Its own calls grew by
+-- those that were answered, and what it has seen is still vouched for. Where one was cut, the link had ended, by what it has seen.
+pub record Plays (Vouches Ended : List Mark → Type 0) (old : SessionState) (calls : List TimedCall) (outcomes : List Outcome)
+    (new : SessionState) : Type 0 where
   pub later : IsLater old new
   pub each : length outcomes ≡ length calls
   pub cuts_last : cuts_last outcomes ≡ true
@@ -77,7 +79,8 @@ pub record Plays (Vouches Ended : List Mark → Type 0) (old : SessionState) (ca
   pub ended : some_cut outcomes ≡ true → Ended new.knows.seen
 
 -- One call, unless an earlier one was cut.
-pub record Calls (Vouches Ended : List Mark → Type 0) (old : SessionState) (cut : Bool) (timed : TimedCall) (outcome : Outcome) (new : SessionState) : Type 0 where
+pub record Calls (Vouches Ended : List Mark → Type 0) (old : SessionState) (cut : Bool) (timed : TimedCall) (outcome : Outcome)
+    (new : SessionState) : Type 0 where
   pub after_cut : cut ≡ true → (outcome ≡ Cut) × (new ≡ old)
   pub goes_on : cut ≡ false → SessionGoesOn old new
   pub mine : cut ≡ false → new.knows.mine ≡ call_made (caller_of old) timed.time timed.call outcome old.knows.mine

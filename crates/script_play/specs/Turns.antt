@@ -1,5 +1,5 @@
--- Scripts played one after the other, each in a session of its own.
-use Rattle.std.specs.Prelude.{◌≡◌, ℕ, ◌<◌, List, [], ◌∷◌, Option, Some, None, true, length, map}
+-- Scripts played, each in a session of its own, at one time.
+use Rattle.std.specs.Prelude.{◌≡◌, ℕ, ◌<◌, List, [], ◌∷◌, Option, Some, None, Result, Ok, Err, true, length, map, reverse}
 use Rattle.tree.specs.Tree.{most_sessions}
 use Rattle.records.specs.Marks.{Mark, IsBeginning}
 use Rattle.records.specs.Session.{SessionState, caller_of, calls_of}
@@ -7,7 +7,8 @@ use Rattle.script_text.specs.declared.timed.TimedCall.{TimedCall}
 use Rattle.script_text.specs.Scripts.{plain_timed}
 use Rattle.reply_text.specs.declared.answers.Played.{Played}
 use Rattle.script_play.specs.declared.turns.Turn.{Turn}
-use Rattle.script_play.specs.Made.{IsLater, calls_made, cuts_last, some_cut}
+use Rattle.script_play.specs.declared.turns.Taken.{Taken}
+use Rattle.script_play.specs.Made.{calls_made, cuts_last, some_cut}
 
 -- what is asked in a turn: the user and group of its session, and its calls, wherever their paths and bytes stand
 abbrev pub asked : {C : Type 0} → (C → SessionState) → Turn C → ℕ × ℕ × List TimedCall
@@ -20,26 +21,14 @@ pub record IsUnplayed (Vouches : List Mark → Type 0) (s : SessionState) : Type
   pub none_seen : calls_of s.knows.number s.knows.place s.knows.seen ≡ []
   pub vouched : Vouches s.knows.seen
 
--- what an earlier session had seen, if there was one
+-- what the session has seen that goes on, if there is one
 abbrev pub seen_by : Option SessionState → List Mark
 seen_by None = []
 seen_by (Some s) = s.knows.seen
 
--- what it had seen is vouched for
-abbrev pub IsVouched : (List Mark → Type 0) → Option SessionState → Type 0
-IsVouched Vouches None = Unit {0}
-IsVouched Vouches (Some s) = Vouches s.knows.seen
-
--- a session that has made no call, and then has seen what was seen before it
-pub record Follows (Vouches : List Mark → Type 0) (earlier : List Mark) (old new : SessionState) : Type 0 where
-  pub later : IsLater old new
-  pub unplayed : IsUnplayed Vouches new
-  pub follows : IsBeginning earlier new.knows.seen
-
--- What came of a script, by what its session has seen in the end: its user's calls and no others were made in it, each answered as told or cut,
--- after all that was seen before it.
-pub record IsTurn (Vouches Ended : List Mark → Type 0) (earlier : List Mark) (script : ℕ × ℕ × List TimedCall) (played : Played)
-    (s : SessionState) : Type 0 where
+-- What came of a script, by what its session has seen: its user's calls and no others were made in it, each answered as told or cut, in
+-- their order.
+pub record IsTurn (Vouches Ended : List Mark → Type 0) (script : ℕ × ℕ × List TimedCall) (played : Played) (s : SessionState) : Type 0 where
   pub user : s.uid ≡ script.0
   pub group : s.gid ≡ script.1
   pub number : s.knows.number ≡ played.number
@@ -49,23 +38,68 @@ pub record IsTurn (Vouches Ended : List Mark → Type 0) (earlier : List Mark) (
   pub asked : map plain_timed made ≡ script.2
   pub each : length played.outcomes.items ≡ length made
   pub cuts : cuts_last played.outcomes.items ≡ true
-  -- what it had seen before its first call
-  pub before : List Mark
-  pub follows : IsBeginning earlier before
-  pub none : calls_of s.knows.number s.knows.place before ≡ []
-  pub goes_on : IsBeginning before s.knows.seen
+  pub mine : s.knows.mine ≡ calls_made (caller_of s) made played.outcomes.items []
   pub calls : calls_of s.knows.number s.knows.place s.knows.seen ≡ calls_made (caller_of s) made played.outcomes.items []
   pub vouched : Vouches s.knows.seen
-  -- where a call was cut, the link had ended, by what it has seen
-  pub ended : some_cut played.outcomes.items ≡ true → Ended s.knows.seen
+  -- where a call was cut, the link had ended, by what it had seen then
+  pub at_end : List Mark
+  pub begins : IsBeginning at_end s.knows.seen
+  pub ended : some_cut played.outcomes.items ≡ true → Ended at_end
 
--- each script came to what was played of it, one after the other, from what was seen at first to what was seen in the end
-abbrev pub InTurn : (List Mark → Type 0) → (List Mark → Type 0) → List Mark → List (ℕ × ℕ × List TimedCall) → List Played → List Mark → Type 0
-InTurn Vouches Ended earlier [] [] last = last ≡ earlier
-InTurn Vouches Ended earlier (script ∷ scripts) (p ∷ played) last =
-    (s : SessionState) × IsTurn Vouches Ended earlier script p s × InTurn Vouches Ended s.knows.seen scripts played last
-InTurn Vouches Ended earlier _ _ last = ⊥
+-- each script came to what was played of it, in a session that has seen this record
+abbrev pub EachIn : (List Mark → Type 0) → (List Mark → Type 0) → List Mark → List (ℕ × ℕ × List TimedCall) → List Played → Type 0
+EachIn Vouches Ended seen [] [] = Unit {0}
+EachIn Vouches Ended seen (script ∷ scripts) (p ∷ played) =
+    ((s : SessionState) × IsTurn Vouches Ended script p s × (s.knows.seen ≡ seen)) × EachIn Vouches Ended seen scripts played
+EachIn Vouches Ended seen _ _ = ⊥
 
--- the scripts were played one after the other, in sessions of one service; this is what the last of them has seen in the end
-abbrev pub ArePlayed : (List Mark → Type 0) → (List Mark → Type 0) → List (ℕ × ℕ × List TimedCall) → List Played → List Mark → Type 0
-ArePlayed Vouches Ended scripts played last = InTurn Vouches Ended [] scripts played last
+-- The scripts were played in sessions of one service. All have then seen one record, which is that of the last; no script, nothing seen.
+pub record ArePlayed (Vouches Ended : List Mark → Type 0) (scripts : List (ℕ × ℕ × List TimedCall)) (played : List Played)
+    (seen : List Mark) : Type 0 where
+  pub each : EachIn Vouches Ended seen scripts played
+  pub none : scripts ≡ [] → seen ≡ []
+
+-- what came of a turn in a thread, if there was memory for it
+abbrev pub IsTaken : {C E : Type 0} → (List Mark → Type 0) → (List Mark → Type 0) → (C → SessionState) → ℕ × ℕ × List TimedCall
+    → Result (Taken C) E → Type 0
+IsTaken Vouches Ended state script (Ok taken) = IsTurn Vouches Ended script taken.played (state taken.client)
+IsTaken Vouches Ended state script (Err e) = Unit {0}
+
+abbrev pub AreResults : {C E : Type 0} → (List Mark → Type 0) → (List Mark → Type 0) → (C → SessionState) → List (ℕ × ℕ × List TimedCall)
+    → List (Result (Taken C) E) → Type 0
+AreResults Vouches Ended state [] [] = Unit {0}
+AreResults Vouches Ended state (script ∷ scripts) (r ∷ results) =
+    IsTaken Vouches Ended state script r × AreResults Vouches Ended state scripts results
+AreResults Vouches Ended state _ _ = ⊥
+
+-- what came of each
+abbrev pub AreTaken : {C : Type 0} → (List Mark → Type 0) → (List Mark → Type 0) → (C → SessionState) → List (ℕ × ℕ × List TimedCall)
+    → List (Taken C) → Type 0
+AreTaken Vouches Ended state [] [] = Unit {0}
+AreTaken Vouches Ended state (script ∷ scripts) (t ∷ taken) =
+    IsTurn Vouches Ended script t.played (state t.client) × AreTaken Vouches Ended state scripts taken
+AreTaken Vouches Ended state _ _ = ⊥
+
+-- each of these has seen a beginning of the record
+abbrev pub HaveSeen : {C : Type 0} → (C → SessionState) → List (Taken C) → List Mark → Type 0
+HaveSeen state [] seen = Unit {0}
+HaveSeen state (t ∷ taken) seen = IsBeginning (state t.client).knows.seen seen × HaveSeen state taken seen
+
+-- A session in which a script was played has met the others, which have then all seen a beginning of what it has. They stand in reverse.
+abbrev pub HaveMet : {C E : Type 0} → (List Mark → Type 0) → (List Mark → Type 0) → (C → SessionState) → SessionState
+    → List (Result (Taken C) E)
+    → SessionState → List (Taken C) → Type 0
+HaveMet Vouches Ended state old results new others =
+    (script : ℕ × ℕ × List TimedCall) (played : Played) (scripts : List (ℕ × ℕ × List TimedCall)) → IsTurn Vouches Ended script played old
+    → AreResults Vouches Ended state scripts results
+    → IsTurn Vouches Ended script played new × AreTaken Vouches Ended state scripts (reverse others)
+    × HaveSeen state (reverse others) new.knows.seen
+
+-- The others, which stood in reverse and had seen beginnings of what a session has, have then seen all of it, and ended. The session has
+-- seen no more.
+abbrev pub HaveEnded : {C : Type 0} → (List Mark → Type 0) → (List Mark → Type 0) → (C → SessionState) → SessionState → List (Taken C)
+    → SessionState → List Played → Type 0
+HaveEnded Vouches Ended state old others new all =
+    (script : ℕ × ℕ × List TimedCall) (played : Played) (scripts : List (ℕ × ℕ × List TimedCall)) → IsTurn Vouches Ended script played old
+    → AreTaken Vouches Ended state scripts (reverse others) → HaveSeen state (reverse others) old.knows.seen
+    → IsTurn Vouches Ended script played new × EachIn Vouches Ended new.knows.seen scripts all

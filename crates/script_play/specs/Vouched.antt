@@ -6,8 +6,13 @@ use Rattle.records.specs.Marks.{Mark}
 use Rattle.records.specs.Opening.{Opening, contents_at}
 use Rattle.records.specs.Legal.{IsAtFirst}
 use Rattle.reissue.specs.Calls.{Truth}
-use Rattle.shared_server.specs.Held.{IsGood, IsGuaranteed}
+use Rattle.shared_server.specs.Held.{HoldsIfTrue, IsGood, IsGuaranteed}
 
--- whichever tree the volume held as it was handed in, it is sound, over true replies legal from that tree on, and the service's link guaranteed it
+-- Where its replies are true, the volume held a tree as it was handed in. Whichever that was, the record is sound, and over true replies
+-- legal from that tree on.
+abbrev pub IsServedRecord : Geometry → Opening → List Mark → Type 0
+IsServedRecord g v seen = HoldsIfTrue g v seen × ((tree : Tree) → IsAtFirst g (contents_at v) tree → IsGood g v tree seen)
+
+-- and the service's link guaranteed it
 abbrev pub Vouched : {L : Type 0} → (L → Truth) → Geometry → Opening → List Mark → Type 0
-Vouched truth g v seen = (tree : Tree) → IsAtFirst g (contents_at v) tree → IsGood g v tree seen × IsGuaranteed truth v seen
+Vouched truth g v seen = IsServedRecord g v seen × IsGuaranteed truth v seen

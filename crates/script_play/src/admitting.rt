@@ -12,16 +12,22 @@ use counting_link::recorder::Recorder;
 use counting_link::room::Room;
 use file_server::FileServer;
 use script_text::script::Script;
-use serve::service::{Service, Shared};
+use serve::service::Service;
 use shared_server::refusal::SessionRefusal;
 use std::alloc::Global;
-use std::collections::VecDeque;
 use std::sync::Wait;
+use std::thread::Threads;
 
 /// A session for the script's user and group, and its calls. It is refused as the service's session is.
-pub fn admit<'s, N: Room, R: Wait + Copy, L: Recorder<N>, S: FileServer<L>>(
+pub fn admit<
+    's,
+    N: Room + Send + Sync,
+    R: Threads + Wait + Copy + Send + Sync,
+    L: Recorder<N> + Send,
+    S: FileServer<L> + Send,
+>(
     alloc: Global,
-    service: &Service<N, Shared<N, R, L, S>>,
+    service: &Service<N, R, L, S>,
     script: &'s Script<'_>,
 ) -> Result<Turn<'s, ScriptSession<N, R, L, S>>, SessionRefusal>
     ensures { IfOk result (λ turn. IsAdmittedFor (Vouched L.truth N.geometry N.opening) (λ s. s.0) (said script.now) turn) }
@@ -35,18 +41,24 @@ pub fn admit<'s, N: Room, R: Wait + Copy, L: Recorder<N>, S: FileServer<L>>(
 }
 
 /// A session for each script, in their order: all are made before a call is. The first that is refused is told.
-pub fn admit_all<'s, N: Room, R: Wait + Copy, L: Recorder<N>, S: FileServer<L>>(
+pub fn admit_all<
+    's,
+    N: Room + Send + Sync,
+    R: Threads + Wait + Copy + Send + Sync,
+    L: Recorder<N> + Send,
+    S: FileServer<L> + Send,
+>(
     alloc: Global,
-    service: &Service<N, Shared<N, R, L, S>>,
+    service: &Service<N, R, L, S>,
     scripts: &'s [Script<'_>],
-) -> Result<VecDeque<Turn<'s, ScriptSession<N, R, L, S>>>, SessionRefusal>
+) -> Result<Vec<Turn<'s, ScriptSession<N, R, L, S>>>, SessionRefusal>
     ensures unplayed { IfOk result (λ turns. All (λ turn. IsUnplayed (Vouched L.truth N.geometry N.opening) turn.client.0) turns.items) }
     ensures asked { IfOk result (λ turns. map (asked (λ s. s.0)) turns.items ≡ map said scripts.now) }
 {
-    let mut turns = VecDeque::new(alloc);
+    let mut turns = Vec::new(alloc);
     for script in scripts {
         let turn = admit(alloc, service, script)?;
-        if turns.push_back(turn).is_err() {
+        if turns.push(turn).is_err() {
             return Err(SessionRefusal::OutOfMemory);
         }
     }

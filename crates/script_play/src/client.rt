@@ -11,7 +11,7 @@ use tree::{Call, Outcome};
 ///
 /// Of the service contracts see here what the session has seen of its record, that it vouches for each record that a session has seen, and
 /// whether its link had ended with that record.
-pub trait Client: Drop {
+pub trait Client: Send + Drop {
     // the session's user and group, and what it knows
     ghost state: { Self → SessionState };
 

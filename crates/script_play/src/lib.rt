@@ -1,4 +1,4 @@
-//! Scripts played on a service that is started for them: a session for each, one after the other, and the image once the service was
+//! Scripts played on a service that is started for them, each in a session and a thread of its own; and the image once the service was
 //! stopped.
 #![tactic(auto)]
 
@@ -6,6 +6,8 @@ pub mod admitting;
 pub mod client;
 pub mod players;
 pub mod script_session;
+pub mod starting;
 pub mod turns;
 
-pub use players::{Came, LastSync, ServiceRefusal, play_scripts};
+pub use players::{Came, ServiceRefusal};
+pub use starting::play_scripts;

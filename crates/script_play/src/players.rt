@@ -1,48 +1,31 @@
-//! Scripts played one after the other in sessions of one service, which is stopped then.
+//! Scripts played at one time, each in a session of one service, which is stopped then.
 
 ghost use Rattle.std.specs.Prelude.{◌≡◌, Some, IfErr, IfOk, map};
 ghost use Rattle.std.specs.Option.{option_map};
 ghost use Rattle.shared_server.specs.Held.{HasEnded};
-ghost use Rattle.shared_server.specs.Stopping.{IsLastImage};
+ghost use Rattle.serve.specs.Stopping.{IsLastImage};
+ghost use Rattle.shared_server.specs.Finishing.{sync_of};
 ghost use Rattle.script_text.specs.Said.{said};
 ghost use Rattle.script_play.specs.Turns.{ArePlayed, seen_by};
 ghost use Rattle.script_play.specs.Vouched.{Vouched};
-ghost use Rattle.launch.specs.Ran.{HasRun, IsNotStarted};
-ghost use Rattle.script_play.specs.Served.{AreServed, IsImageOf, service_text, sync_of};
+ghost use Rattle.script_play.specs.Served.{AreServed, IsImageOf, service_text};
 
 use crate::admitting::admit_all;
 use crate::script_session::ScriptSession;
-use crate::turns::play_in_turn;
+use crate::turns::play_together;
 use counting_link::recorder::Recorder;
 use counting_link::room::Room;
-use counting_link::steady::OnMedia;
 use file_server::FileServer;
-use inline::local::LocalDriver;
-use launch::StartRefusal;
-use launch::program::Program;
-use launch::start::serve;
-use reincarnate::policy::Setup;
-use reissue::link::TrueLink;
 use reply_text::answers::Played;
 use script_text::script::Script;
-use serve::gate::Open;
-use serve::service::{Service, Shared};
+use serve::service::Service;
+use serve::stopping::StopRefusal;
+use shared_server::locked::LastSync;
 use shared_server::refusal::SessionRefusal;
-use shared_server::stopping::{StopRefusal, Stopped};
 use std::alloc::Global;
 use std::fmt;
 use std::sync::Wait;
-
-/// What came of the last sync, which a service makes when it is stopped.
-#[derive(Clone, Copy, Debug, PartialEq, Eq)]
-pub enum LastSync {
-    /// All is in the image.
-    Done,
-    /// The device was given up, so what was changed last may not be in the image.
-    GivenUp,
-    /// The link to the drivers had ended, so what was changed last may not be in the image.
-    Cut,
-}
+use std::thread::Threads;
 
 /// Why no image comes of a service that started.
 #[derive(Clone, Copy)]
@@ -78,83 +61,64 @@ pub struct Came {
     pub image: Vec<u8>,
 }
 
-/// Scripts, to be played one after the other, each in a session of its own.
-#[derive(Drop)]
-struct Players<'t> {
+/// Plays scripts on a service at one time, each in a session and a thread of its own, and stops the service.
+pub fn play_on<
+    N: Room + Send + Sync,
+    R: Threads + Wait + Copy + Send + Sync,
+    L: Recorder<N> + Send,
+    S: FileServer<L> + Send,
+>(
     alloc: Global,
-    scripts: Vec<Script<'t>>,
-}
-
-impl<R: Wait + Copy> Program<R> for Players<'_> {
-    type Output = Result<Came, ServiceRefusal>;
-
-    ghost gives = { λ players g v result. IfOk result (λ came.
-        AreServed g v (map said players.scripts.items) came.sessions.items came.last_sync came.image.items) };
-
-    fn run<N: Room, L: Recorder<N> + TrueLink + OnMedia, S: FileServer<L>>(
-        self,
-        service: Service<N, Shared<N, R, L, S>>,
-    ) -> Result<Came, ServiceRefusal>
-        ensures { IfOk result (λ came.
-            AreServed N.geometry N.opening (map said self.entry.scripts.items) came.sessions.items came.last_sync came.image.items) }
-    {
-        let (sessions, last) = play_all(self.alloc, &service, self.scripts.as_slice())?;
-        let (last_sync, image) = stop(self.alloc, service, last)?;
-        Ok(Came {
-            sessions,
-            last_sync,
-            image,
-        })
-    }
-}
-
-/// Starts a service on the volume in an image, plays scripts one after the other, each in a session of its own, and stops the service.
-///
-/// The service is refused as `launch::start::serve` refuses it, and then nothing is played; of a service that started no image may come.
-pub fn play_scripts<R: Wait + Copy, D: LocalDriver>(
-    alloc: Global,
-    rt: R,
-    image: &[u8],
-    scripts: Vec<Script<'_>>,
-    setup: &Setup,
-    supply: Vec<D>,
-) -> Result<Result<Came, ServiceRefusal>, StartRefusal>
-    ensures refusal { IfErr result (IsNotStarted image.now setup.now (map D.state supply.items)) }
-    ensures played { IfOk result (λ o. HasRun image.now setup.now (map D.state supply.items) (λ g v. IfOk o (λ came.
-        AreServed g v (map said scripts.entry.items) came.sessions.items came.last_sync came.image.items))) }
+    rt: &R,
+    service: Service<N, R, L, S>,
+    scripts: &[Script<'_>],
+) -> Result<Came, ServiceRefusal>
+    ensures { IfOk result (λ came.
+        AreServed N.geometry N.opening (map said scripts.now) came.sessions.items came.last_sync came.image.items) }
 {
-    let players = Players { alloc, scripts };
-    serve(alloc, rt, image, setup, supply, Open, players)
+    let (sessions, last) = play_all(alloc, rt, &service, scripts)?;
+    let (last_sync, image) = stop(alloc, service, last)?;
+    Ok(Came {
+        sessions,
+        last_sync,
+        image,
+    })
 }
 
-/// Plays scripts one after the other, each in a session of its own; all sessions are made before a call is. What came of them, and the last
+/// Plays scripts, each in a session and a thread of its own; all sessions are made before a call is. What came of them, and the last
 /// session, which goes on.
-fn play_all<N: Room, R: Wait + Copy, L: Recorder<N>, S: FileServer<L>>(
+fn play_all<
+    N: Room + Send + Sync,
+    R: Threads + Wait + Copy + Send + Sync,
+    L: Recorder<N> + Send,
+    S: FileServer<L> + Send,
+>(
     alloc: Global,
-    service: &Service<N, Shared<N, R, L, S>>,
+    rt: &R,
+    service: &Service<N, R, L, S>,
     scripts: &[Script<'_>],
 ) -> Result<(Vec<Played>, Option<ScriptSession<N, R, L, S>>), ServiceRefusal>
-    ensures { IfOk result (λ came. ArePlayed (Vouched L.truth N.geometry N.opening) (HasEnded L.Link L.marks) (map said scripts.now) came.0.items
-        (seen_by (option_map (λ s. s.0) came.1))) }
+    ensures { IfOk result (λ came. ArePlayed (Vouched L.truth N.geometry N.opening) (HasEnded L.Link L.marks) (map said scripts.now)
+        came.0.items (seen_by (option_map (λ s. s.0) came.1))) }
 {
     let turns = match admit_all(alloc, service, scripts) {
         Ok(turns) => turns,
         Err(refusal) => return Err(ServiceRefusal::NoSession(refusal)),
     };
-    match play_in_turn(alloc, turns) {
+    match play_together(rt, alloc, turns) {
         Ok(came) => Ok(came),
         Err(_) => Err(ServiceRefusal::NoSession(SessionRefusal::OutOfMemory)),
     }
 }
 
 /// Stops a service once this session has ended, if there was one. What came of its last sync, and the image as the media stand.
-fn stop<N: Room, R: Wait + Copy, L: Recorder<N> + OnMedia, S: FileServer<L>>(
+fn stop<N: Room, R: Threads + Wait + Copy, L: Recorder<N>, S: FileServer<L>>(
     alloc: Global,
-    service: Service<N, Shared<N, R, L, S>>,
+    service: Service<N, R, L, S>,
     last: Option<ScriptSession<N, R, L, S>>,
 ) -> Result<(LastSync, Vec<u8>), ServiceRefusal>
     ensures { IfOk result (λ came.
-        IsLastImage L.Link L.lies_on N.geometry N.opening (seen_by (option_map (λ s. s.0) last)) (sync_of came.0) came.1.items) }
+        IsLastImage L.Link N.geometry N.opening (seen_by (option_map (λ s. s.0) last)) (sync_of came.0) came.1.items) }
 {
     let Some(session) = last else {
         return image_of(service.stop(alloc));
@@ -163,8 +127,8 @@ fn stop<N: Room, R: Wait + Copy, L: Recorder<N> + OnMedia, S: FileServer<L>>(
 }
 
 /// What came of the last sync of a service that was stopped, and the image.
-fn image_of<L: OnMedia + Drop, S: FileServer<L>, T: Drop>(
-    stopped: Result<Vec<u8>, StopRefusal<T, Stopped<L, S>>>,
+fn image_of<T: Drop>(
+    stopped: Result<Vec<u8>, StopRefusal<T>>,
 ) -> Result<(LastSync, Vec<u8>), ServiceRefusal>
     ensures { IfOk result (λ came. IsImageOf stopped came.0 came.1) }
 {

@@ -27,8 +27,12 @@ impl<N: Room, R: Wait + Copy, L: Recorder<N>, S: FileServer<L>> ScriptSession<N,
     }
 }
 
-impl<N: Room, R: Wait + Copy, L: Recorder<N>, S: FileServer<L>> Client
-    for ScriptSession<N, R, L, S> {
+impl<
+    N: Room + Send + Sync,
+    R: Wait + Copy + Send + Sync,
+    L: Recorder<N> + Send,
+    S: FileServer<L> + Send,
+> Client for ScriptSession<N, R, L, S> {
     ghost use Rattle.script_play.specs.Vouched.{Vouched};
     ghost use Rattle.shared_server.specs.Held.{HasEnded};
 

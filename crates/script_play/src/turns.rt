@@ -1,20 +1,21 @@
-//! Sessions that take turns.
+//! Sessions whose calls are made at one time.
 
-ghost use Rattle.std.specs.Prelude.{◌≡◌, All, IfOk, map};
+ghost use Rattle.std.specs.Prelude.{◌≡◌, ◌<◌, ℕ, All, IfOk, Result, length, map, slice_index_or, vec_len};
 ghost use Rattle.std.specs.Option.{option_map};
 ghost use Rattle.std.specs.List.{list_any};
 ghost use Rattle.script_play.specs.Made.{Calls, Plays, cuts, is_eio, has_eio};
-ghost use Rattle.script_play.specs.Turns.{ArePlayed, Follows, IsTurn, IsUnplayed, IsVouched, asked, seen_by};
+ghost use Rattle.script_play.specs.Turns.{ArePlayed, HaveEnded, HaveMet, IsTaken, IsUnplayed, asked, seen_by};
 
 use crate::client::Client;
 use errno::Errno;
 use reply_text::answers::Played;
 use script_text::timed::TimedCall;
 use std::alloc::{AllocError, Global};
-use std::collections::VecDeque;
+use std::thread;
+use std::thread::Threads;
 use tree::{Outcome, Reply};
 
-/// A session, and the calls that are still to be made in it.
+/// A session, and the calls that are to be made in it.
 #[derive(Drop)]
 pub struct Turn<'t, C: Client> {
     /// The session, which has made no call.
@@ -23,62 +24,110 @@ pub struct Turn<'t, C: Client> {
     pub calls: Vec<TimedCall<'t>>,
 }
 
-/// Makes the calls of each session, one session after the other. Before its first call a session meets the one before it, which then ends.
-/// Gives what came of them, and the last session, which goes on.
+/// A session whose calls were made, and what came of them.
+#[derive(Drop)]
+pub struct Taken<C: Client> {
+    /// The session.
+    pub client: C,
+    /// Its number, and the outcomes of its calls.
+    pub played: Played,
+}
+
+/// Makes the calls of each session, each in a thread of its own where threads can be made; then the sessions meet, so that all have seen
+/// one record, and all end but the last. Gives what came of each, in their order, and the last session, which goes on.
 ///
-/// From the first call of a session that is cut on all its calls are. Without memory for the outcomes of a session none of its calls is
-/// made, nor one of those after it.
-pub fn play_in_turn<C: Client>(
+/// From the first call of a session that is cut on all its calls are. An error: no memory was found; some calls may have been made then.
+pub fn play_together<R: Threads + Sync, C: Client>(
+    rt: &R,
     alloc: Global,
-    turns: VecDeque<Turn<'_, C>>,
+    turns: Vec<Turn<'_, C>>,
 ) -> Result<(Vec<Played>, Option<C>), AllocError>
     requires { All (λ turn. IsUnplayed C.vouches (C.state turn.client)) turns.items }
     ensures { IfOk result (λ came. ArePlayed C.vouches C.ended (map (asked C.state) turns.entry.items) came.0.items
         (seen_by (option_map C.state came.1))) }
 {
-    let mut played = Vec::new(alloc);
-    let mut left = turns;
-    let mut last = None;
-    while let Some(turn) = left.pop_front() {
-        let (came, client) = play_next(alloc, turn, last)?;
-        if played.push(came).is_err() {
-            return Err(AllocError);
-        }
-        last = Some(client);
-    }
-    Ok((played, last))
+    let mut results = take_each(rt, alloc, turns)?;
+    let Some(last) = results.pop() else {
+        return Ok((Vec::new(alloc), None));
+    };
+    let Taken { mut client, played } = last?;
+    let others = meet_each(alloc, &mut client, results)?;
+    let mut all = end_each(alloc, &mut client, others)?;
+    all.push(played)?;
+    Ok((all, Some(client)))
 }
 
-/// Makes the calls of a turn, once its session has met the one before it, which ends. What came of them, and the session.
-fn play_next<C: Client>(
+/// Makes the calls of each turn, each in a thread of its own where threads can be made. What came of each, in their order.
+fn take_each<R: Threads + Sync, C: Client>(
+    rt: &R,
     alloc: Global,
-    turn: Turn<'_, C>,
-    earlier: Option<C>,
-) -> Result<(Played, C), AllocError>
-    requires new { IsUnplayed C.vouches (C.state turn.client) }
-    requires earlier { IsVouched C.vouches (option_map C.state earlier) }
-    ensures { IfOk result (λ came. IsTurn C.vouches C.ended (seen_by (option_map C.state earlier)) (asked C.state turn.entry) came.0
-        (C.state came.1)) }
+    turns: Vec<Turn<'_, C>>,
+) -> Result<Vec<Result<Taken<C>, AllocError>>, AllocError>
+    requires { All (λ turn. IsUnplayed C.vouches (C.state turn.client)) turns.items }
+    ensures len { IfOk result (λ results. vec_len results ≡ vec_len turns.entry) }
+    ensures each { IfOk result (λ results. (i : ℕ) (r : Result (Taken C) AllocError) (t : Turn C) → i < length turns.entry.items
+        → IsTaken C.vouches C.ended C.state (asked C.state (slice_index_or turns.entry.items i t)) (slice_index_or results.items i r)) }
+{
+    thread::map_vec(
+        rt,
+        turns,
+        &|turn: Turn<'_, C>| -> Result<Taken<C>, AllocError>
+            requires { IsUnplayed C.vouches (C.state turn.client) }
+            ensures { IsTaken C.vouches C.ended C.state (asked C.state turn.entry) result }
+        { take(alloc, turn) },
+    )
+}
+
+/// Makes the calls of a turn.
+fn take<C: Client>(alloc: Global, turn: Turn<'_, C>) -> Result<Taken<C>, AllocError>
+    requires { IsUnplayed C.vouches (C.state turn.client) }
+    ensures { IsTaken C.vouches C.ended C.state (asked C.state turn.entry) result }
 {
     let Turn { mut client, calls } = turn;
-    follow(&mut client, earlier);
     let played = play_turn(alloc, &mut client, calls.as_slice())?;
-    Ok((played, client))
+    Ok(Taken { client, played })
 }
 
-/// The session has then seen what the one before it had, which ends.
-fn follow<C: Client>(client: &mut C, earlier: Option<C>)
-    requires new { IsUnplayed C.vouches (C.state client.old) }
-    requires earlier { IsVouched C.vouches (option_map C.state earlier) }
-    ensures { Follows C.vouches (seen_by (option_map C.state earlier)) (C.state client.old) (C.state client.new) }
+/// Each of the others meets the session, which has then seen what each of them had, the last one first. The others, in reverse.
+fn meet_each<C: Client>(
+    alloc: Global,
+    client: &mut C,
+    results: Vec<Result<Taken<C>, AllocError>>,
+) -> Result<Vec<Taken<C>>, AllocError>
+    ensures { IfOk result (λ others.
+        HaveMet C.vouches C.ended C.state (C.state client.old) results.items (C.state client.new) others.items) }
 {
-    match earlier {
-        None => {}
-        Some(mut earlier) => {
-            client.meet(&mut earlier);
-            earlier.end();
-        }
+    let mut others = Vec::new(alloc);
+    let mut left = results;
+    while let Some(result) = left.pop() {
+        let mut other = result?;
+        client.meet(&mut other.client);
+        others.push(other)?;
     }
+    Ok(others)
+}
+
+/// Each of the others meets the session and ends, from the end on. What came of each.
+fn end_each<C: Client>(
+    alloc: Global,
+    client: &mut C,
+    others: Vec<Taken<C>>,
+) -> Result<Vec<Played>, AllocError>
+    ensures { IfOk result (λ played.
+        HaveEnded C.vouches C.ended C.state (C.state client.old) others.items (C.state client.new) played.items) }
+{
+    let mut all = Vec::new(alloc);
+    let mut left = others;
+    while let Some(other) = left.pop() {
+        let Taken {
+            client: mut met,
+            played,
+        } = other;
+        client.meet(&mut met);
+        met.end();
+        all.push(played)?;
+    }
+    Ok(all)
 }
 
 /// Makes a session's calls.

@@ -1,27 +1,30 @@
-//! A service: a server that several sessions share.
+//! A service: a server that several sessions share, and the threads that it runs on.
 
 ghost use Rattle.std.specs.Prelude.{◌≡◌, [], IfErr, IfOk};
 ghost use Rattle.std.specs.Arc.{arc_value};
 ghost use Rattle.records.specs.Opening.{contents_at};
 ghost use Rattle.tree.specs.Tree.{Tree};
 ghost use Rattle.records.specs.Legal.{IsAtFirst};
-ghost use Rattle.shared_server.specs.Stopping.{IsLastImage, IsLastLine, IsSyncedImage, Went, WhyNotSynced};
-ghost use Rattle.shared_server.specs.Finishing.{sync_of};
+ghost use Rattle.shared_server.specs.Stopping.{Went};
+ghost use Rattle.serve.specs.Stopping.{IsLastImage, WhyNotSynced};
 ghost use Rattle.shared_server.specs.Held.{HoldsIfTrue, IsAdmitted, IsGood, IsGuaranteed, IsHeld, IsNotAdmitted};
 
+use crate::flusher::Flusher;
 use crate::session::Session;
+use crate::stopping::{StopRefusal, image_of};
 use board::Board;
 use counting_link::recorder::Recorder;
 use counting_link::room::Room;
-use counting_link::steady::OnMedia;
+use driver_threads::running::Running;
 use file_server::FileServer;
+use gate::Gate;
 use shared_server::left_open::LeftOpen;
-use shared_server::locked::{LastSync, Locked};
+use shared_server::locked::Locked;
 use shared_server::refusal::SessionRefusal;
-use shared_server::stopping::{StopRefusal, Stopped};
 use std::alloc::{AllocError, Global};
 use std::marker::PhantomData;
 use std::sync::{Arc, Mutex, Wait};
+use std::thread::Threads;
 use tree::Who;
 
 /// What the sessions of a service share: the server under its lock, and the handle by which they wait for it.
@@ -31,42 +34,97 @@ pub struct Shared<N: Room, R: Wait + Copy, L: Recorder<N>, S: FileServer<L>> {
     pub(crate) server: Mutex<Locked<N, L, S>>,
 }
 
-/// A service. Its sessions may outlive it.
+impl<N: Room, R: Wait + Copy, L: Recorder<N>, S: FileServer<L>> Shared<N, R, L, S> {
+    /// The server takes a Flush. It may wait for the calls of sessions.
+    pub(crate) fn flush(&self) {
+        self.server.lock(&self.rt).flush();
+    }
+}
+
+/// A service: a server under its lock, the thread of its flusher, and those of its drivers with their reincarnation server. It stays in the
+/// thread that it was made in; its sessions needn't.
+///
+/// Where it is let go without `stop`, all its threads are told to end, and end by themselves. A session may outlive it, but a call that
+/// needs a driver then waits for ever.
 #[derive(Drop)]
-pub struct Service<N: Room, S> {
+pub struct Service<N: Room, R: Wait + Copy, L: Recorder<N>, S: FileServer<L>> {
+    rt: R,
     board: Arc<Board>,
-    shared: Arc<S>,
+    shared: Arc<Shared<N, R, L, S>>,
+    // None once its thread has ended.
+    flusher: Option<Flusher>,
+    running: Running<N>,
     of: PhantomData<N>,
     ghost named: { arc_value board ≡ N.table },
 }
 
-impl<N: Room, R: Wait + Copy, L: Recorder<N>, S: FileServer<L>> Service<N, Shared<N, R, L, S>> {
-    /// A service of this server, which stands with what its link keeps as the record on the service's board. Where no memory was found, the
-    /// server is let go.
-    pub fn over(
+impl<
+    N: Room + Send + Sync + 'static,
+    R: Threads + Wait + Copy + Send + Sync + 'static,
+    L: Recorder<N> + Send + 'static,
+    S: FileServer<L> + Send + 'static,
+> Service<N, R, L, S> {
+    /// A service of this server, which stands with what its link keeps as the record on the service's board, over these threads of drivers.
+    /// Its flusher gets a thread of its own, which asks this gate.
+    ///
+    /// Where no memory or no thread was found, the server is let go, and all threads are ended.
+    pub fn over<G: Gate + 'static>(
         alloc: Global,
         rt: R,
         board: Arc<Board>,
         server: S,
-    ) -> Result<Service<N, Shared<N, R, L, S>>, AllocError>
+        running: Running<N>,
+        gate: Arc<G>,
+    ) -> Result<Service<N, R, L, S>, AllocError>
         requires board { arc_value board ≡ N.table }
         requires held { IsHeld N.Room L.Link S.Serve.serving S.line S.is_ready S.knows L.runs_on L.marks server }
         requires none_absorbed { S.absorbed server ≡ 0 }
     {
-        let shared = Arc::new(
-            alloc,
-            Shared {
+        match shared_with_flusher(alloc, rt, server, gate) {
+            Ok((shared, flusher)) => Ok(Service {
                 rt,
-                server: Mutex::new(Locked::new(server)),
-            },
-        )?;
-        Ok(Service {
-            board,
-            shared,
-            of: PhantomData,
-        })
+                board,
+                shared,
+                flusher: Some(flusher),
+                running,
+                of: PhantomData,
+            }),
+            Err(error) => {
+                let _ = running.stop(&rt);
+                Err(error)
+            }
+        }
     }
+}
 
+/// What the sessions of a service of this server share, and its flusher.
+fn shared_with_flusher<
+    N: Room + Send + Sync + 'static,
+    R: Threads + Wait + Copy + Send + Sync + 'static,
+    L: Recorder<N> + Send + 'static,
+    S: FileServer<L> + Send + 'static,
+    G: Gate + 'static,
+>(
+    alloc: Global,
+    rt: R,
+    server: S,
+    gate: Arc<G>,
+) -> Result<(Arc<Shared<N, R, L, S>>, Flusher), AllocError>
+    requires held { IsHeld N.Room L.Link S.Serve.serving S.line S.is_ready S.knows L.runs_on L.marks server }
+    requires none_absorbed { S.absorbed server ≡ 0 }
+{
+    let shared = Arc::new(
+        alloc,
+        Shared {
+            rt,
+            server: Mutex::new(Locked::new(server)),
+        },
+    )?;
+    let flusher = Flusher::start(alloc, &rt, Arc::try_clone(&shared)?, gate)?;
+    Ok((shared, flusher))
+}
+
+impl<N: Room, R: Threads + Wait + Copy, L: Recorder<N>, S: FileServer<L>> Service<N, R, L, S> {
     /// A session for this user and group, with the lowest number that is free. It has seen the whole record, and made no call. It may wait
     /// for the calls of other sessions.
     ///
@@ -97,82 +155,76 @@ impl<N: Room, R: Wait + Copy, L: Recorder<N>, S: FileServer<L>> Service<N, Share
             of: PhantomData,
         })
     }
-}
 
-impl<N: Room, R: Wait + Copy, L: Recorder<N>, S: FileServer<L>> Shared<N, R, L, S> {
-    /// The server takes a Flush. It may wait for the calls of sessions.
-    pub fn flush(&self) {
-        self.server.lock(&self.rt).flush();
-    }
-}
-
-impl<N: Room, R: Wait + Copy, L: Recorder<N>, S: FileServer<L>> Service<N, Shared<N, R, L, S>> {
-    /// What its sessions share, once more.
-    pub fn end_for_flusher(&self) -> Result<Arc<Shared<N, R, L, S>>, AllocError> {
-        Arc::try_clone(&self.shared)
+    /// Whether a session is left.
+    fn has_sessions(&self) -> bool {
+        let others: usize = if self.flusher.is_some() { 2 } else { 1 };
+        Arc::strong_count(&self.shared) > others
     }
 
-    /// Whether somebody else shares it, but for so many.
-    pub fn is_shared(&self, others: usize) -> bool {
-        Arc::strong_count(&self.shared) > others.saturating_add(1)
-    }
-
-    /// A last sync, after which the server is let go with its link: how it went. It hands the service back where somebody shares it.
-    pub fn finish(self) -> Result<LastSync, Service<N, Shared<N, R, L, S>>>
-        ensures { IfOk result (λ how. (line : L) × IsLastLine L.Link N.geometry N.opening [] (sync_of how) line) }
-    {
-        let Service { board, shared, of } = self;
-        match Arc::try_unwrap(shared) {
-            Ok(shared) => {
-                let Shared { rt: _, server } = shared;
-                Ok(server.into_inner().finish())
-            }
-            Err(shared) => Err(Service { board, shared, of }),
-        }
-    }
-}
-
-impl<N: Room, R: Wait + Copy, L: Recorder<N> + OnMedia, S: FileServer<L>> Service<
-    N,
-    Shared<N, R, L, S>,
-> {
-    /// Stops the service: a last sync is made, and the media are given back as an image: the sectors of the media on which its link lies,
-    /// as they stand. Where the volume held a tree, the record that this link guarantees has the tree after the calls of all sessions on
-    /// the disk alone; what that says of the media is the link's own.
+    /// Stops the service: the flusher is ended, a last sync is made, the drivers are ended, and the media are given back as an image: the
+    /// bytes of all sectors, as they stand.
     ///
     /// It is refused: 1 SessionsLeft, where some session neither ended nor was let go, which hands the service back; 3 OutOfMemory, where
-    /// none was found for the image, which hands back what is left; 2 GivenUp and 4 LinkEnded, where the last sync wasn't made, with the
-    /// image as the media stand. The first of these that holds is answered.
-    pub fn stop(
-        self,
-        alloc: Global,
-    ) -> Result<Vec<u8>, StopRefusal<Service<N, Shared<N, R, L, S>>, Stopped<L, S>>>
-        ensures synced { (tree : Tree) → IsAtFirst N.geometry (contents_at N.opening) tree
-            → IfOk result (λ image. IsSyncedImage N.geometry N.opening tree L.truth L.lies_on image.items) }
-        ensures image { IfOk result (λ image. IsLastImage L.Link L.lies_on N.geometry N.opening [] Went image.items) }
-        ensures refused { IfErr result (WhyNotSynced L.Link S.line L.lies_on N.geometry N.opening []
+    /// none was found for the image, which hands back the media, by the code always; 2 GivenUp and 4 LinkEnded, where the last sync wasn't
+    /// made, with the image as the media stand. The first of these that holds is answered.
+    pub fn stop(self, alloc: Global) -> Result<Vec<u8>, StopRefusal<Service<N, R, L, S>>>
+        ensures image { IfOk result (λ image. IsLastImage L.Link N.geometry N.opening [] Went image.items) }
+        ensures refused { IfErr result (WhyNotSynced L.Link N.geometry N.opening []
             (λ left. (left.board ≡ self.board) × (left.shared ≡ self.shared))) }
     {
-        let Service { board, shared, of } = self;
+        if self.has_sessions() {
+            return Err(StopRefusal::SessionsLeft(self));
+        }
+        match self.alone() {
+            Ok((rt, locked, running)) => {
+                let how = locked.finish();
+                image_of::<N, Service<N, R, L, S>>(alloc, how, running.stop(&rt))
+            }
+            Err(service) => Err(StopRefusal::SessionsLeft(service)),
+        }
+    }
+
+    /// What lies under the lock, once the flusher was ended, unless somebody shares it.
+    fn alone(self) -> Result<(R, Locked<N, L, S>, Running<N>), Service<N, R, L, S>>
+        ensures { IfErr result (λ left. (left.board ≡ self.board) × (left.shared ≡ self.shared)) }
+    {
+        let Service {
+            rt,
+            board,
+            shared,
+            flusher,
+            running,
+            of,
+        } = self;
+        if let Some(flusher) = flusher {
+            flusher.stop(&rt);
+        }
         match Arc::try_unwrap(shared) {
             Ok(shared) => {
                 let Shared { rt: _, server } = shared;
-                server.into_inner().stop(alloc)
+                Ok((rt, server.into_inner(), running))
             }
-            Err(shared) => Err(StopRefusal::SessionsLeft(Service { board, shared, of })),
+            Err(shared) => Err(Service {
+                rt,
+                board,
+                shared,
+                flusher: None,
+                running,
+                of,
+            }),
         }
     }
+
     /// Stops the service once this session, which is one of its, has ended: its descriptors are closed first, as `end` does. What `stop`
-    /// says of the image and of each refusal holds then, and the image's record goes on from what the session had seen.
+    /// says of the image and of each refusal holds then, and the last record goes on from what the session had seen.
     pub fn stop_after(
         self,
         alloc: Global,
         mut last: Session<N, Shared<N, R, L, S>>,
-    ) -> Result<Vec<u8>, StopRefusal<Service<N, Shared<N, R, L, S>>, Stopped<L, S>>>
-        ensures synced { (tree : Tree) → IsAtFirst N.geometry (contents_at N.opening) tree
-            → IfOk result (λ image. IsSyncedImage N.geometry N.opening tree L.truth L.lies_on image.items) }
-        ensures image { IfOk result (λ image. IsLastImage L.Link L.lies_on N.geometry N.opening last.knows.seen Went image.items) }
-        ensures refused { IfErr result (WhyNotSynced L.Link S.line L.lies_on N.geometry N.opening last.knows.seen
+    ) -> Result<Vec<u8>, StopRefusal<Service<N, R, L, S>>>
+        ensures image { IfOk result (λ image. IsLastImage L.Link N.geometry N.opening last.knows.seen Went image.items) }
+        ensures refused { IfErr result (WhyNotSynced L.Link N.geometry N.opening last.knows.seen
             (λ left. (left.board ≡ self.board) × (left.shared ≡ self.shared))) }
     {
         last.close_all();
@@ -186,15 +238,22 @@ impl<N: Room, R: Wait + Copy, L: Recorder<N> + OnMedia, S: FileServer<L>> Servic
             of: _,
         } = last;
         drop(other);
-        let Service { board, shared, of } = self;
-        match Arc::try_unwrap(shared) {
-            Ok(shared) => {
-                let Shared { rt: _, server } = shared;
-                server.into_inner().stop_after(alloc, who.session, seat)
+        if self.has_sessions() {
+            self.shared.server.lock(&self.rt).release(who.session, seat);
+            return Err(StopRefusal::SessionsLeft(self));
+        }
+        match self.alone() {
+            Ok((rt, locked, running)) => {
+                let how = locked.finish_after(who.session, seat);
+                image_of::<N, Service<N, R, L, S>>(alloc, how, running.stop(&rt))
             }
-            Err(shared) => {
-                shared.server.lock(&shared.rt).release(who.session, seat);
-                Err(StopRefusal::SessionsLeft(Service { board, shared, of }))
+            Err(service) => {
+                service
+                    .shared
+                    .server
+                    .lock(&service.rt)
+                    .release(who.session, seat);
+                Err(StopRefusal::SessionsLeft(service))
             }
         }
     }

@@ -1,18 +1,15 @@
 -- What holds under the lock of a service after a Flush.
-use Rattle.std.proofs.Common.{◌≡◌, ℕ, List, [], ◌∷◌, ◌++◌, Bool, true, false, refl, sym, ◌∙◌, ap, subst, true≢false}
+use Rattle.std.proofs.Common.{◌≡◌, List, [], ◌∷◌, ◌++◌, Bool, true, false, refl, sym, ◌∙◌, ap, subst, true≢false}
 use Rattle.std.specs.Prelude.{◌||◌}
-use Rattle.message.specs.declared.Incoming.{Incoming}
 use Rattle.message.specs.declared.Incoming.TheVariants as incoming
 use Rattle.tree.specs.declared.Call.{Call}
-use Rattle.tree.specs.Tree.{Tree}
 use Rattle.records.specs.Marks.{Mark, Flush, gave_up}
 use Rattle.records.specs.Acts.{Act, Began, Absorbed, AtLink, told_of, marks_after, has_absorbed}
 use Rattle.records.specs.Disk.{HasTrueReplies}
-use Rattle.records.specs.Opening.{Opening, contents_at}
-use Rattle.records.specs.Told.{Told, Posted, Complained, Received, took_end, took_nothing}
+use Rattle.records.specs.Opening.{contents_at}
+use Rattle.records.specs.Told.{Posted, Complained, Received, took_end, took_nothing}
 use Rattle.bdev.specs.DriverState.{DriverState}
 use Rattle.reincarnate.specs.declared.policy.Policy.{Policy}
-use Rattle.records.specs.Legal.{IsAtFirst}
 use Rattle.records.specs.ServerCall.{Serving}
 use Rattle.records.specs.Session.{went_on}
 use Rattle.reissue.specs.declared.link.Link.{Ghosts as LinkWords}

@@ -1,12 +1,10 @@
 -- What holds under the lock of a service after each call, and what a session has of it.
 use Rattle.std.proofs.Common.{◌≡◌, ◌≢◌, ℕ, List, [], ◌∷◌, Bool, true, false, refl, sym, ◌∙◌, ap, subst, Some, inl, inr}
-use Rattle.std.specs.List.{concat}
 use Rattle.std.specs.Prelude.{◌||◌, ◌↔◌, ◌⊎◌, ◌<◌, Result, Ok, Err, IsErrOf, IfErr, IfOk, if◌then◌else◌}
 use Rattle.atomic_table.specs.Seated.{TableId}
 use Rattle.layout.specs.declared.Geometry.{Geometry}
 use Rattle.tree.specs.declared.Who.{Who}
 use Rattle.tree.specs.declared.Call.{Call}
-use Rattle.tree.specs.declared.Call.TheVariants.{Sync}
 use Rattle.errno.specs.declared.Errno.{Errno}
 use Rattle.errno.specs.declared.Errno.TheVariants.{EIO}
 use Rattle.tree.specs.declared.Reply.{Reply}
@@ -25,12 +23,10 @@ use Rattle.records.specs.Disk.{Contents, HasTrueReplies}
 use Rattle.records.specs.Acts.{Act, Began, Absorbed, AtLink, told_of, has_absorbed, marks_after}
 use Rattle.records.specs.Opening.{Opening, contents_at}
 use Rattle.records.specs.Told.{Told, Posted, Complained, Received, received, with_told, grown, took_end}
-use Rattle.media.specs.Contents.{MediaState}
 use Rattle.bdev.specs.DriverState.{DriverState}
 use Rattle.reincarnate.specs.declared.policy.Policy.{Policy}
 use Rattle.records.specs.Legal.{IsAtFirst, IsLegal}
 use Rattle.records.specs.Mount.{OpenKeeps, MountKeeps}
-use Rattle.records.proofs.Legality.{synced_is_held}
 use Rattle.records.specs.ServerCall.{Serving, Outcome, Replied, Cut, with_outcome}
 use Rattle.records.specs.Session.{SessionCallKeeps, went_on}
 use Rattle.reissue.specs.declared.link.Link.{Ghosts as LinkWords}
@@ -44,7 +40,6 @@ use Rattle.board.specs.Steps.{SessionLearns, SessionIsNew}
 use Rattle.counting_link.specs.declared.room.Room.{Ghosts as RoomWords}
 use Rattle.shared_server.specs.Recorder.{SameServer}
 use Rattle.shared_server.specs.Descriptors.{is_done, succeeded}
-use Rattle.shared_server.specs.Stopping.{IsSyncedImage, syncer}
 use Rattle.shared_server.specs.declared.refusal.SessionRefusal.{SessionRefusal}
 use Rattle.shared_server.specs.declared.refusal.SessionRefusal.TheVariants.{TooMany, Stopped, OutOfMemory}
 use Rattle.shared_server.specs.Held.{AddsCall, HoldsIfTrue, IsHeld, IsGood, IsGuaranteed, IsNotAdmitted, IsSound}
@@ -572,30 +567,3 @@ is_done_answer (room_is r) is = cc
 pub done_is : (outcome : Outcome) → succeeded outcome ≡ true → outcome ≡ Replied done
 done_is (Replied answer) is = ap Replied (is_done_answer answer is)
 done_is Cut is = cc
-
--- after a last sync that was done, the media's image is that of a synced volume
-pub synced_image : {N S L : Type 0} (room : RoomWords N) (link : LinkWords L) (serving : S → Serving) (line : S → L) (is_ready : S → Type 0)
-    (knows : Call → Type 0) (runs_on : L → Policy → List DriverState → Type 0) (record_in : L → List Mark)
-    (old mid : S) (lies_on : L → MediaState) (image : List ℕ) → IsHeld room link serving line is_ready knows runs_on record_in old
-    → CallsOver (serving old) (serving mid) (link.truth (line old)) (link.truth (line mid)) syncer 0 Sync (Replied done)
-    → image ≡ concat (lies_on (line mid)).sectors → (t : Tree) → IsAtFirst room.geometry (contents_at room.opening) t
-    → IsSyncedImage room.geometry room.opening t link.truth lies_on image
-synced_image room link serving line is_ready knows runs_on record_in old mid lies_on image held c is t first =
-    let st = held.stands in
-    let u = held.tree in
-    let marks = record_in (line old) in
-    let here = marks_after c.keeps.acts marks in
-    let volume = contents_at room.opening in
-    let serves = c.keeps.serves volume u marks st.serves in
-    let live : gave_up here ≡ false = not_given_up (gave_up here) (c.keeps.once_given_up volume u marks st.serves.agrees) in
-    record {
-      line = line mid;
-      marks = here;
-      bytes = is;
-      guaranteed = c.truth room.opening u marks st.minor st.serves.agrees st.truth;
-      synced = λ replies.
-          synced_is_held room.geometry volume t here syncer 0 Sync done live refl refl
-          (let h = held.at_first (true_before c.keeps.acts volume marks replies) in
-          legal_from room.geometry (serving mid).geometry volume u t (Took syncer 0 Sync done ∷ here) (c.keeps.leads.geometry ∙ h.0, h.1) first
-          (serves.legal replies));
-    }

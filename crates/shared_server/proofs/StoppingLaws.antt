@@ -1,7 +1,6 @@
 -- How the last sync of a service went, and what its link then guarantees.
-use Rattle.std.proofs.Common.{◌≡◌, ℕ, List, [], ◌∷◌, Bool, true, false, refl, sym, ◌∙◌, ap, subst, inl, inr, append-nil}
-use Rattle.std.specs.List.{concat}
-use Rattle.std.specs.Prelude.{◌⊎◌, Result, Ok, Err, IfOk, IfErr, if◌then◌else◌}
+use Rattle.std.proofs.Common.{◌≡◌, List, [], ◌∷◌, Bool, true, false, refl, sym, ◌∙◌, ap, subst, inl, inr, append-nil}
+use Rattle.std.specs.Prelude.{◌⊎◌, Result, Ok, Err, IfErr, if◌then◌else◌}
 use Rattle.layout.specs.declared.Geometry.{Geometry}
 use Rattle.tree.specs.declared.Call.{Call}
 use Rattle.tree.specs.declared.Call.TheVariants.{Sync}
@@ -11,7 +10,6 @@ use Rattle.tree.specs.Answers.{Answer, done, refused}
 use Rattle.message.specs.declared.Incoming.{Incoming}
 use Rattle.message.specs.declared.Incoming.TheVariants as incoming
 use Rattle.message.specs.declared.BlockReply.{BlockReply}
-use Rattle.media.specs.Contents.{MediaState}
 use Rattle.bdev.specs.DriverState.{DriverState}
 use Rattle.reincarnate.specs.declared.policy.Policy.{Policy}
 use Rattle.records.specs.Marks.{Mark, Issued, Answered, Started, Flush, GaveUp, Took, gave_up, IsBeginning}
@@ -28,12 +26,9 @@ use Rattle.file_server.specs.Over.{CallsOver}
 use Rattle.file_server.specs.Leaving.{IsEndLast}
 use Rattle.counting_link.specs.declared.room.Room.{Ghosts as RoomWords}
 use Rattle.counting_link.specs.Keeper.{begins_itself, begins_before, begins_further}
-use Rattle.shared_server.specs.declared.stopping.Stopped.{Stopped}
-use Rattle.shared_server.specs.declared.stopping.StopRefusal.{StopRefusal}
-use Rattle.shared_server.specs.declared.stopping.StopRefusal.TheVariants.{SessionsLeft, GivenUp, OutOfMemory, LinkEnded}
 use Rattle.shared_server.specs.Descriptors.{is_done, was_cut, succeeded}
 use Rattle.shared_server.specs.Held.{IsHeld}
-use Rattle.shared_server.specs.Stopping.{syncer, SyncEnd, Went, WasGivenUp, WasCut, sync_end, has_ended, SyncTells, IsLastLine, IsLastImage, WhyNotSynced}
+use Rattle.shared_server.specs.Stopping.{syncer, SyncEnd, Went, WasGivenUp, WasCut, sync_end, has_ended, SyncTells, IsLastLine}
 use Rattle.shared_server.proofs.HeldLaws.{Kept, ends_called, kept_if_cut, legal_from, not_given_up, done_is, true_before, true_outcome}
 
 -- a record goes on with a message, and with each act
@@ -137,16 +132,6 @@ pub went_end : (outcome : Outcome) (cut ok : Bool) → cut ≡ was_cut outcome �
     → sync_end (was_cut outcome) (succeeded outcome) ≡ Went
 went_end outcome cut ok is none done_is done_was = answered_end outcome cut ok true is none done_is done_was
 
--- the image of the media of such a link
-pub image_of : {L S : Type 0} (link : LinkWords L) (line : S → L) (lies_on : L → MediaState) (g : Geometry) (v : Opening) (seen : List Mark)
-    (how : SyncEnd) (image : List ℕ) (mid left : S) → left ≡ mid → image ≡ concat (lies_on (line left)).sectors
-    → IsLastLine link g v seen how (line mid) → IsLastImage link lies_on g v seen how image
-image_of {S = S} link line lies_on g v seen how image mid left same is last = record {
-  line = line mid;
-  bytes = is ∙ ap (λ (s : S). concat (lies_on (line s)).sectors) same;
-  last = last;
-}
-
 -- a server's link after a last sync of a server that was held
 last_of : {N S L : Type 0} (room : RoomWords N) (link : LinkWords L) (serving : S → Serving) (line : S → L) (is_ready : S → Type 0)
     (knows : Call → Type 0) (runs_on : L → Policy → List DriverState → Type 0) (record_in : L → List Mark)
@@ -201,25 +186,6 @@ line_from link g v earlier seen how line begins l = record {
   goes_on = begins_further earlier seen l.marks begins l.goes_on;
   tells = l.tells;
 }
-
-pub image_from : {L : Type 0} (link : LinkWords L) (lies_on : L → MediaState) (g : Geometry) (v : Opening) (earlier seen : List Mark) (how : SyncEnd)
-    (image : List ℕ) → IsBeginning earlier seen → IsLastImage link lies_on g v seen how image → IsLastImage link lies_on g v earlier how image
-image_from link lies_on g v earlier seen how image begins i = record {
-  line = i.line;
-  bytes = i.bytes;
-  last = line_from link g v earlier seen how i.line begins i.last;
-}
-
-pub why_from : {L S T : Type 0} (link : LinkWords L) (line : S → L) (lies_on : L → MediaState) (g : Geometry) (v : Opening)
-    (earlier seen : List Mark) (was is_back : T → Type 0) (why : StopRefusal T (Stopped L S)) → ((left : T) → was left → is_back left)
-    → IsBeginning earlier seen → WhyNotSynced link line lies_on g v seen was why → WhyNotSynced link line lies_on g v earlier is_back why
-why_from link line lies_on g v earlier seen was is_back (SessionsLeft left) so begins is = so left is
-why_from link line lies_on g v earlier seen was is_back (GivenUp image) so begins is =
-    image_from link lies_on g v earlier seen WasGivenUp image.items begins is
-why_from link line lies_on g v earlier seen was is_back (OutOfMemory left) so begins is =
-    (is.0, line_from link g v earlier seen is.0 (line left.server) begins is.1)
-why_from link line lies_on g v earlier seen was is_back (LinkEnded image) so begins is =
-    image_from link lies_on g v earlier seen WasCut image.items begins is
 
 -- each record goes on from nothing
 pub begins_empty : (marks : List Mark) → IsBeginning [] marks

@@ -1,6 +1,5 @@
 -- The descriptors that a session's calls left open.
-use Rattle.std.specs.Prelude.{◌≡◌, ◌<◌, slice_index_or, Option, Some, None, ℕ, zero, suc, ◌==◌, List, [], ◌∷◌, Bool, true, false, if◌then◌else◌}
-use Rattle.tree.specs.declared.Who.{Who}
+use Rattle.std.specs.Prelude.{◌≡◌, ◌<◌, slice_index_or, Option, Some, None, ℕ, ◌==◌, List, [], ◌∷◌, Bool, true, false, if◌then◌else◌}
 use Rattle.tree.specs.declared.Call.{Call}
 use Rattle.tree.specs.declared.Call.TheVariants.{Open, Close, Dup}
 use Rattle.tree.specs.Answers.{Answer, done, descriptor}

@@ -10,7 +10,7 @@ ghost use Rattle.board.specs.View.{without};
 ghost use Rattle.board.specs.Steps.{SessionIsNew, SessionLearns};
 ghost use Rattle.file_server.specs.Over.{outcome_of};
 ghost use Rattle.shared_server.specs.Held.{AddsCall, HoldsIfTrue, IsEioOnceGivenUp, IsGood, IsGuaranteed, IsHeld, IsNotAdmitted, IsServedCall, IsSound};
-ghost use Rattle.shared_server.specs.Stopping.{IsLastImage, IsLastLine, IsSyncedImage, Went, WhyNotSynced};
+ghost use Rattle.shared_server.specs.Stopping.{IsLastLine};
 ghost use Rattle.shared_server.specs.Finishing.{sync_of};
 ghost use Rattle.counting_link.specs.Keeper.{AreAllUsed, IsLowestFree, IsOneFree};
 
@@ -19,13 +19,10 @@ use crate::flushing::take_flush;
 use crate::left_open::{is_cut, was_done};
 use crate::refusal::SessionRefusal;
 use crate::sharing::{admit, release, show};
-use crate::stopping::{StopRefusal, Stopped};
 use board::Seat;
 use counting_link::recorder::Recorder;
 use counting_link::room::Room;
-use counting_link::steady::OnMedia;
 use file_server::FileServer;
-use std::alloc::Global;
 use std::marker::{Model, PhantomData};
 use tree::{Call, Outcome, Who};
 
@@ -185,49 +182,3 @@ const SYNCER: Who = Who {
     uid: 0,
     gid: 0,
 };
-
-impl<N: Room, L: Recorder<N> + OnMedia, S: FileServer<L>> Locked<N, L, S> {
-    /// A last sync, and then the image, as the media stand: where the sync was answered ok the disk alone holds the tree.
-    pub fn stop<T>(self, alloc: Global) -> Result<Vec<u8>, StopRefusal<T, Stopped<L, S>>>
-        ensures synced { (tree : Tree) → IsAtFirst N.geometry (contents_at N.opening) tree
-            → IfOk result (λ image. IsSyncedImage N.geometry N.opening tree L.truth L.lies_on image.items) }
-        ensures image { IfOk result (λ image. IsLastImage L.Link L.lies_on N.geometry N.opening (L.marks self) Went image.items) }
-        ensures refused { IfErr result (WhyNotSynced L.Link S.line L.lies_on N.geometry N.opening (L.marks self) (λ left. ⊥)) }
-    {
-        let Locked {
-            mut server,
-            flushes: _,
-            of: _,
-            over: _,
-        } = self;
-        let outcome = server.call(SYNCER, 0, &Call::Sync);
-        let stopped = Stopped::new(server);
-        let Ok(image) = stopped.image(alloc) else {
-            return Err(StopRefusal::OutOfMemory(stopped));
-        };
-        if is_cut(&outcome) {
-            return Err(StopRefusal::LinkEnded(image));
-        }
-        if !was_done(&outcome) {
-            return Err(StopRefusal::GivenUp(image));
-        }
-        Ok(image)
-    }
-    /// The same once this session has ended: what is left goes on from what it had seen.
-    pub fn stop_after<T>(
-        mut self,
-        alloc: Global,
-        number: u8,
-        mut seat: Seat,
-    ) -> Result<Vec<u8>, StopRefusal<T, Stopped<L, S>>>
-        requires { (seat.table ≡ N.table) × (seat.view.number ≡ Some number) × (number < 64) }
-        ensures synced { (tree : Tree) → IsAtFirst N.geometry (contents_at N.opening) tree
-            → IfOk result (λ image. IsSyncedImage N.geometry N.opening tree L.truth L.lies_on image.items) }
-        ensures image { IfOk result (λ image. IsLastImage L.Link L.lies_on N.geometry N.opening seat.view.seen Went image.items) }
-        ensures refused { IfErr result (WhyNotSynced L.Link S.line L.lies_on N.geometry N.opening seat.view.seen (λ left. ⊥)) }
-    {
-        self.show(&mut seat);
-        self.release(number, seat);
-        self.stop(alloc)
-    }
-}

@@ -1,5 +1,5 @@
 -- An image that was found clean, as the volume of a service.
-use Rattle.std.proofs.Common.{◌≡◌, ℕ, ◌<◌, ◌*◌, List, length, take, sym, ◌∙◌, subst, arith}
+use Rattle.std.proofs.Common.{◌≡◌, ℕ, ◌<◌, ◌*◌, ◌/◌, ◌%◌, List, length, take, sym, ◌∙◌, subst, arith}
 use Rattle.std.specs.Prelude.{Ok, slice_index}
 use Rattle.std.proofs.lemmas.List.{take_all}
 use Rattle.lemmas.proofs.Options.{ok_same}
@@ -13,19 +13,27 @@ use Rattle.volume.specs.Reading.{disk_of}
 use Rattle.volume.specs.Holds.{Holds}
 use Rattle.records.specs.Opening.{contents_at}
 use Rattle.records.specs.Legal.{IsAtFirst}
+use Rattle.media.specs.Contents.{sectors_of}
+use Rattle.mounting.specs.declared.refusal.StartRefusal.{StartRefusal}
+use Rattle.mounting.specs.Starting.{opening_of, place_in}
+use Rattle.mounting.proofs.Starts.{many_sectors}
 use Rattle.mounting.proofs.Volumes.{byte_at}
 
 -- the volume that is the whole image holds the tree that the check found
-pub at_first : (image : List ℕ) (g : Geometry) (tree : Tree) → geometry_of image ≡ Ok g → HoldsClosed image tree
-    → IsAtFirst g (contents_at (record { media = image; first = 0; count = length image; minor = 0 })) tree
-at_first image g tree parsed held =
+pub at_first : (image : List ℕ) (range : ℕ × ℕ) (g : Geometry) (tree : Tree) → place_in (sectors_of image) 0 ≡ Ok range
+    → length image % 512 ≡ 0 → geometry_of image ≡ Ok g → HoldsClosed image tree → IsAtFirst g (contents_at (opening_of image 0 range)) tree
+at_first image range g tree placed even parsed held =
+    let is : (0, length (sectors_of image)) ≡ range = ok_same {E = StartRefusal} placed in
+    let many : length (sectors_of image) ≡ length image / 512 = many_sectors image in
     let same : held.geometry ≡ g = ok_same {E = LayoutRefusal} (sym held.parsed ∙ parsed) in
     let fits : IsGeometry g = (geometry_fits image g parsed).0 in
-    let whole : take (512 * length image) image ≡ image = take_all (512 * length image) image (omega arith) in
-    subst (λ (bytes : List ℕ). IsAtFirst g (slice_index bytes) tree) (sym whole) (record {
+    let all : take (512 * length (sectors_of image)) image ≡ image = take_all (512 * length (sectors_of image)) image (omega (arith, many, even)) in
+    let first : IsAtFirst g (slice_index image) tree = record {
       holds = record {
         superblock = record { image = image; parsed = parsed; same = λ p from to. byte_at g (slice_index image) p fits.sized };
         nodes = subst (λ (x : Geometry). Holds x (disk_of x image) tree) same held.holds;
       };
       closed = held.closed;
-    })
+    } in
+    subst (λ (r : ℕ × ℕ). IsAtFirst g (contents_at (opening_of image 0 r)) tree) is
+    (subst (λ (bytes : List ℕ). IsAtFirst g (slice_index bytes) tree) (sym all) first)

@@ -5,31 +5,39 @@ ghost use Rattle.tree.specs.Tree.{Tree};
 ghost use Rattle.records.specs.Opening.{contents_at};
 ghost use Rattle.records.specs.Legal.{IsAtFirst};
 ghost use Rattle.board.specs.View.{IsKeeper, opener};
+ghost use Rattle.true_replies.specs.Events.{opening_media};
 
 use board::{Board, Seat};
 use counting_link::Noting;
 use counting_link::room::Room;
-use fixtures::new_volume;
+use driver_threads::running::start_drivers;
+use fixtures::gates::Yielding;
+use fixtures::{new_volume, supply_of};
 use fixtures_sessions::services::asked_and_stopped;
 use fixtures_sessions::silent::Silent;
 use fsck::{Verdict, check};
 use launch::opened::over;
 use layout::Geometry;
-use media::Media;
+use modeldisk::ScriptedDriver;
+use mounting::{Prepared, prepare};
+use reincarnate::Reincarnation;
+use reincarnate::policy::{Policy, Setup};
 use std::alloc::{AllocError, Global};
 use std::marker::Brand;
 use std::sync::{Arc, Wait};
 use std::test::Fail;
+use std::thread::Threads;
 use tests_texts::is_told;
 
-/// A session of a service on the volume in an image calls, another one is asked for, and the service is stopped. The image.
-fn ask_and_stop<N: Room, R: Wait + Copy>(
+/// A session calls, another one is asked for, and the service is stopped. The image.
+fn ask_and_stop<N: Room + Send + Sync + 'static, R: Threads + Wait + Copy + Send + Sync + 'static>(
     alloc: Global,
     rt: R,
     board: Board,
     seat: Seat,
-    image: &[u8],
+    prepared: Prepared,
     geometry: Geometry,
+    reincarnation: Reincarnation<ScriptedDriver>,
     lines: &mut String,
 ) -> Result<Option<Vec<u8>>, AllocError>
     requires board { board ≡ N.table }
@@ -37,20 +45,34 @@ fn ask_and_stop<N: Room, R: Wait + Copy>(
     requires geometry { IsGeometry geometry × (geometry ≡ N.geometry) }
     requires tree { (tree : Tree) × IsAtFirst N.geometry (contents_at N.opening) tree }
     requires minor { 0 ≡ N.opening.minor }
+    requires range { (prepared.range.0 ≡ N.opening.first) × (prepared.range.1 ≡ N.opening.count) }
+    requires media { prepared.media ≡ opening_media N.opening }
 {
-    let Ok(media) = Media::from_bytes(alloc, image) else {
-        return Ok(None);
-    };
-    let link = Silent::new(alloc, media)?;
+    let Prepared { media, range } = prepared;
+    let mut seat = seat;
+    let theirs = board.split(&mut seat, None)?;
     let board = Arc::new(alloc, board)?;
     let counted = Arc::try_clone(&board)?;
-    let noting = Noting::<N, Silent>::new(alloc, link, counted, seat)?;
-    let service = over(alloc, rt, board, noting, 0, geometry, 16)?;
+    let gate = Arc::new(alloc, Yielding)?;
+    let asked = Arc::try_clone(&gate)?;
+    let noting = Noting::<N, Silent>::new(alloc, Silent::new(alloc)?, counted, seat)?;
+    let (link, running) = start_drivers::<N, ScriptedDriver, Yielding, R>(
+        alloc,
+        rt,
+        media,
+        range,
+        reincarnation,
+        &board,
+        theirs,
+        asked,
+    )?;
+    drop(link);
+    let service = over(alloc, rt, board, noting, 0, geometry, 16, running, gate)?;
     Ok(asked_and_stopped(alloc, service, lines))
 }
 
 /// The same, over a service on the volume in an image.
-fn asked_of<R: Wait + Copy>(
+fn asked_of<R: Threads + Wait + Copy + Send + Sync + 'static>(
     alloc: Global,
     rt: R,
     image: &[u8],
@@ -59,8 +81,29 @@ fn asked_of<R: Wait + Copy>(
     let Ok(Verdict::Clean(clean)) = check(alloc, image) else {
         return Ok(None);
     };
+    let supply = supply_of(alloc, image.len() / 512, &[None])?;
+    let setup = Setup {
+        minor: 0,
+        frames: 16,
+        policy: Policy::default(),
+    };
+    let Ok(prepared) = prepare(alloc, image, &setup, &supply) else {
+        return Ok(None);
+    };
+    let Ok(reincarnation) = Reincarnation::new(alloc, Policy::default(), supply) else {
+        return Ok(None);
+    };
     let (board, seat) = Board::new(alloc)?;
-    ask_and_stop::<Brand, R>(alloc, rt, board, seat, image, clean.geometry(), lines)
+    ask_and_stop::<Brand, R>(
+        alloc,
+        rt,
+        board,
+        seat,
+        prepared,
+        clean.geometry(),
+        reincarnation,
+        lines,
+    )
 }
 
 #[test]

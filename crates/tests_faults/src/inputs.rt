@@ -11,6 +11,7 @@ use simulation::simulate::simulate;
 use std::alloc::{AllocError, Global};
 use std::sync::Wait;
 use std::test::Fail;
+use std::thread::Threads;
 
 /// How many of each are tried.
 const COUNT: u32 = 1000;
@@ -240,7 +241,11 @@ fn became_of_play(script: &[u8], status: u8, out: &[u8], err: &[u8]) -> Became {
 }
 
 /// What becomes of a script that is played on a new volume.
-fn play_of<R: Wait + Copy>(alloc: Global, rt: R, script: &[u8]) -> Result<Became, AllocError> {
+fn play_of<R: Threads + Wait + Copy + Send + Sync + 'static>(
+    alloc: Global,
+    rt: R,
+    script: &[u8],
+) -> Result<Became, AllocError> {
     let image = new_volume(alloc, 1024)?;
     let scripts = [Some(script)];
     let played = Play::new(image.as_slice(), &scripts).played(alloc, rt)?;

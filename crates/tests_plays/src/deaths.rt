@@ -1,6 +1,6 @@
 //! Drivers that die, hang or answer wrongly in the middle of a read, and what they leave.
 use errno::Errno;
-use fixtures_plays::deaths::{OverDrivers, Told, all_come_out};
+use fixtures_plays::deaths::{AtHang, OverDrivers, Told, all_come_out, all_go_on};
 use fixtures_plays::plays::HONEST;
 use message::endpoint::{SlotRefusal, Slots};
 use modeldisk::FaultKind;
@@ -153,4 +153,25 @@ fn replies_outlive_drivers(rt: HostRuntime) -> Result<(), Fail> {
     let mut slots = Slots::new();
     assert!(rt; matches!(slots.start(16), Err(SlotRefusal::NoSuchSlot)));
     Ok(())
+}
+
+/// What is written and read back.
+const WRITES: &[u8] =
+    b"user 0 0\n100 open /f rwc 644\n100 write 0 68\n100 sync\n100 seek 0 set 0\n100 read 0 9\n";
+
+const WRITTEN: &str = "session 0\nfd 0\nwrote 1\nok\nat 0\nbytes 68\n";
+
+/// The mount reads 128 sectors, one a step. The first driver hangs before its first step, in the mount's last read, in the first read of
+/// the call, and in the second sector of it.
+static HANGS: [AtHang; 4] = [
+    (0, WRITES, WRITTEN),
+    (127, WRITES, WRITTEN),
+    (128, WRITES, WRITTEN),
+    (129, WRITES, WRITTEN),
+];
+
+/// A play whose driver hangs goes on after three ticks.
+#[test]
+fn a_driver_that_hangs_is_replaced(rt: HostRuntime) -> Result<(), Fail> {
+    all_go_on(rt.alloc(), rt, &HANGS)
 }

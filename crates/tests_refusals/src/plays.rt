@@ -2,7 +2,8 @@
 
 use crate::orders::{Trial, each_refused};
 use crate::told::Said;
-use fixtures::{new_volume, whole};
+use fixtures::gates::Ticking;
+use fixtures::{new_volume, patient, whole};
 use modeldisk::supply::{drivers_for, table_in};
 use new_volume::NewVolume;
 use script_text::script_files;
@@ -10,15 +11,17 @@ use simulation::inputs::File;
 use simulation::simulate::simulate;
 use std::alloc::{AllocError, Global};
 use std::io::Write;
-use std::sync::Wait;
+use std::sync::{Arc, Wait};
 use std::test::Fail;
+use std::thread::Threads;
+use std::time::Clock;
 use tools::play::play;
 use volume_tools::make::{Wanted, make};
 use volume_tools::verify::verify;
 
 /// A script that is played on the volume in an image; what is written of it where no memory is refused, and the image that it leaves then.
 #[derive(Drop)]
-struct Played<R: Wait + Copy> {
+struct Played<R: Copy> {
     rt: R,
     image: Vec<u8>,
     script: &'static str,
@@ -26,7 +29,7 @@ struct Played<R: Wait + Copy> {
     left: Vec<u8>,
 }
 
-impl<R: Wait + Copy> Played<R> {
+impl<R: Threads + Wait + Clock + Copy + Send + Sync + 'static> Played<R> {
     /// What is said of the script, and the image that is left; an error where there was no memory for a list.
     fn said(&self, alloc: Global) -> Result<(Said, Option<Vec<u8>>), AllocError> {
         let mut out = Vec::with_capacity(alloc, 8192)?;
@@ -37,8 +40,15 @@ impl<R: Wait + Copy> Played<R> {
     }
 }
 
+/// How long a tick is, in milliseconds.
+const PACE: u64 = 5;
+
 /// Plays a script on the volume in an image: the status of the process, and the image that is left.
-pub(crate) fn play_script<R: Wait + Copy, W: Write, E: Write>(
+pub(crate) fn play_script<
+    R: Threads + Wait + Clock + Copy + Send + Sync + 'static,
+    W: Write,
+    E: Write,
+>(
     alloc: Global,
     rt: R,
     image: &[u8],
@@ -55,11 +65,22 @@ pub(crate) fn play_script<R: Wait + Copy, W: Write, E: Write>(
         name: "s.txt",
         bytes: Some(script.as_bytes()),
     }];
-    let played = play(alloc, rt, image, &scripts, &whole(), supply, out, err);
+    let gate = Arc::new(alloc, Ticking::new(rt, PACE))?;
+    let played = play(
+        alloc,
+        rt,
+        image,
+        &scripts,
+        &patient(),
+        supply,
+        gate,
+        out,
+        err,
+    );
     Ok((played.status.number(), played.image))
 }
 
-impl<R: Wait + Copy> Trial for Played<R> {
+impl<R: Threads + Wait + Clock + Copy + Send + Sync + 'static> Trial for Played<R> {
     type Came = Option<(Said, Option<Vec<u8>>)>;
 
     fn run(&self, alloc: Global) -> Option<(Said, Option<Vec<u8>>)> {
@@ -195,7 +216,7 @@ static SCRIPTS: [&str; 9] = [
 ];
 
 /// A script comes out right on a new volume, whichever of its requests is refused.
-fn is_played<R: Wait + Copy>(
+fn is_played<R: Threads + Wait + Clock + Copy + Send + Sync + 'static>(
     alloc: Global,
     rt: R,
     number: u16,

@@ -3,19 +3,18 @@
 use crate::orders::{refuse, was_refused};
 use counting_link::recorder::Recorder;
 use counting_link::room::Room;
-use counting_link::steady::OnMedia;
 use file_server::FileServer;
-use fixtures::{new_volume, whole};
+use fixtures::gates::Ticking;
+use fixtures::{new_volume, patient};
 use launch::program::Program;
 use launch::start::serve;
 use modeldisk::supply::{drivers_for, table_in};
-use reissue::link::TrueLink;
-use serve::gate::Open;
-use serve::service::{Service, Shared};
+use serve::service::Service;
 use shared_server::refusal::SessionRefusal;
 use std::alloc::Global;
-use std::sync::Wait;
+use std::sync::{Arc, Wait};
 use std::test::Fail;
+use std::thread::Threads;
 
 /// Asks for a session with the first request refused, then with the second, until none is.
 #[derive(Drop)]
@@ -24,16 +23,17 @@ struct Asks(Global);
 /// How many requests a session takes, at most.
 const MOST: u32 = 100;
 
-impl<R: Wait + Copy> Program<R> for Asks {
+impl<R: Threads + Wait + Copy + Send + Sync + 'static> Program<R> for Asks {
     /// Whether each was refused for want of memory exactly where a request was, and the last one, with number 0, was made.
     type Output = bool;
 
     ghost gives = { λ program geometry opening output. Unit {0} };
 
-    fn run<N: Room, L: Recorder<N> + TrueLink + OnMedia, S: FileServer<L>>(
-        self,
-        service: Service<N, Shared<N, R, L, S>>,
-    ) -> bool
+    fn run<
+        N: Room + Send + Sync + 'static,
+        L: Recorder<N> + Send + 'static,
+        S: FileServer<L> + Send + 'static,
+    >(self, service: Service<N, R, L, S>) -> bool
         ensures { Unit {0} }
     {
         for request in 1..=MOST {
@@ -55,7 +55,8 @@ fn sessions_that_are_asked_for(rt: HostRuntime) -> Result<(), Fail> {
     let alloc = rt.alloc();
     let image = new_volume(alloc, 1024)?;
     let supply = drivers_for(alloc, 0, false, table_in(&image))?;
-    match serve(alloc, rt, &image, &whole(), supply, Open, Asks(alloc)) {
+    let gate = Arc::new(alloc, Ticking::new(rt, 5))?;
+    match serve(alloc, rt, &image, &patient(), supply, gate, Asks(alloc)) {
         Ok(true) => Ok(()),
         Ok(false) => Err(Fail::from("a session")),
         Err(_) => Err(Fail::from("not served")),

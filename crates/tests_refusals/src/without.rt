@@ -3,23 +3,23 @@
 use crate::orders::{refuse, was_refused};
 use counting_link::recorder::Recorder;
 use counting_link::room::Room;
-use counting_link::steady::OnMedia;
 use errno::Errno;
 use file_server::FileServer;
-use fixtures::{new_volume, whole};
+use fixtures::gates::Ticking;
+use fixtures::{new_volume, patient};
 use launch::program::Program;
 use launch::start::serve;
 use modeldisk::supply::{drivers_for, table_in};
-use reissue::link::TrueLink;
 use script_text::reading::read_script;
 use script_text::timed::TimedCall;
-use serve::gate::Open;
 use serve::service::{Service, Shared};
 use serve::session::Session;
 use std::alloc::{AllocError, Global};
 use std::env;
-use std::sync::Wait;
+use std::sync::{Arc, Wait};
 use std::test::Fail;
+use std::thread::Threads;
+use std::time::Clock;
 use tree::{Outcome, Reply};
 
 /// All memory that there is, or an order by which no request is granted.
@@ -106,16 +106,17 @@ fn make<N: Room, R: Wait + Copy, L: Recorder<N>, S: FileServer<L>>(
     Some(())
 }
 
-impl<R: Wait + Copy> Program<R> for Calls<'_> {
+impl<R: Threads + Wait + Copy + Send + Sync + 'static> Program<R> for Calls<'_> {
     /// What each call came to, in their order; nothing where memory couldn't be taken away.
     type Output = Option<Vec<Outcome>>;
 
     ghost gives = { λ program geometry opening output. Unit {0} };
 
-    fn run<N: Room, L: Recorder<N> + TrueLink + OnMedia, S: FileServer<L>>(
-        self,
-        service: Service<N, Shared<N, R, L, S>>,
-    ) -> Option<Vec<Outcome>>
+    fn run<
+        N: Room + Send + Sync + 'static,
+        L: Recorder<N> + Send + 'static,
+        S: FileServer<L> + Send + 'static,
+    >(self, service: Service<N, R, L, S>) -> Option<Vec<Outcome>>
         ensures { Unit {0} }
     {
         let mut session = service.session(0, 0).ok()?;
@@ -180,8 +181,11 @@ user 0 0
 101 readdir 1
 ";
 
+/// How long a tick is, in milliseconds.
+const PACE: u64 = 50;
+
 /// What calls come to on an image, with memory or without.
-fn outcomes<R: Wait + Copy>(
+fn outcomes<R: Threads + Wait + Clock + Copy + Send + Sync + 'static>(
     alloc: Global,
     rt: R,
     image: &[u8],
@@ -199,7 +203,8 @@ fn outcomes<R: Wait + Copy>(
         reads: reads.as_slice(),
         without,
     };
-    match serve(alloc, rt, image, &whole(), supply, Open, program) {
+    let gate = Arc::new(alloc, Ticking::new(rt, PACE))?;
+    match serve(alloc, rt, image, &patient(), supply, gate, program) {
         Ok(Some(outcomes)) => Ok(outcomes),
         Ok(None) => Err(Fail::from("memory is left, or none at first")),
         Err(_) => Err(Fail::from("not served")),
@@ -213,7 +218,11 @@ fn wants_memory(outcome: &Outcome) -> bool {
 
 /// On a volume with blocks of this size each call but the two reads comes without memory to what it comes to with it. The reads want
 /// memory, and give then what they would have given.
-fn are_made_without<R: Wait + Copy>(alloc: Global, rt: R, block: usize) -> Result<(), Fail> {
+fn are_made_without<R: Threads + Wait + Clock + Copy + Send + Sync + 'static>(
+    alloc: Global,
+    rt: R,
+    block: usize,
+) -> Result<(), Fail> {
     let image = new_volume(alloc, block)?;
     let with = outcomes(alloc, rt, &image, false)?;
     let without = outcomes(alloc, rt, &image, true)?;

@@ -6,6 +6,8 @@ use std::alloc::{AllocError, Global};
 use std::io::{self, ErrorKind, Write};
 use std::sync::Wait;
 use std::test::Fail;
+use std::thread::Threads;
+use std::time::Clock;
 use volume_tools::make::make;
 use volume_tools::verify::verify;
 
@@ -63,7 +65,7 @@ impl Text for Verifying {
 
 /// A script is played on it.
 #[derive(Drop)]
-struct Playing<R: Wait + Copy>(R, Vec<u8>);
+struct Playing<R: Copy>(R, Vec<u8>, &'static str);
 
 /// The script, and what is written of it.
 const SCRIPT: &str = "user 0 0\n100 stat /\n100 open / r 0\n100 readdir 0\n";
@@ -71,9 +73,14 @@ const SCRIPT: &str = "user 0 0\n100 stat /\n100 open / r 0\n100 readdir 0\n";
 const ANSWERS: &[u8] =
     b"session 0\ninode 1 mode 0040755 links 2 uid 0 gid 0 size 128 times 50 50 50\nfd 0\nnames 0\n";
 
-impl<R: Wait + Copy> Text for Playing<R> {
+/// A short script, and what is written of it: each play is a service of its own.
+const SYNC: &str = "user 0 0\n100 sync\n";
+
+const OK: &[u8] = b"session 0\nok\n";
+
+impl<R: Threads + Wait + Clock + Copy + Send + Sync + 'static> Text for Playing<R> {
     fn write(&self, alloc: Global, out: &mut Failing, err: &mut Vec<u8>) -> Result<u8, AllocError> {
-        let (status, _) = play_script(alloc, self.0, &self.1, SCRIPT, out, err)?;
+        let (status, _) = play_script(alloc, self.0, &self.1, self.2, out, err)?;
         Ok(status)
     }
 }
@@ -138,13 +145,16 @@ fn at_each_call<T: Text>(
     Err(Fail::from("no end"))
 }
 
-/// The same for writers that take all that they are handed, or one byte, and are refused or interrupted.
+/// The same for writers that take as many bytes, and are refused or interrupted.
+fn over_both<T: Text>(alloc: Global, text: &T, whole: &[u8], most: usize) -> Result<(), Fail> {
+    at_each_call(alloc, text, whole, most, ErrorKind::WriteZero)?;
+    at_each_call(alloc, text, whole, most, ErrorKind::Interrupted)
+}
+
+/// The same for writers that take all that they are handed, or one byte.
 fn over_each<T: Text>(alloc: Global, text: &T, whole: &[u8]) -> Result<(), Fail> {
-    for most in [usize::MAX, 1] {
-        at_each_call(alloc, text, whole, most, ErrorKind::WriteZero)?;
-        at_each_call(alloc, text, whole, most, ErrorKind::Interrupted)?;
-    }
-    Ok(())
+    over_both(alloc, text, whole, usize::MAX)?;
+    over_both(alloc, text, whole, 1)
 }
 
 #[test]
@@ -152,6 +162,9 @@ fn output_at_each_call(rt: HostRuntime) -> Result<(), Fail> {
     let alloc = rt.alloc();
     over_each(alloc, &Making, MADE)?;
     over_each(alloc, &Verifying(new_volume(alloc, 1024)?), CLEAN)?;
-    over_each(alloc, &Playing(rt, new_volume(alloc, 1024)?), ANSWERS)?;
+    let image = new_volume(alloc, 1024)?;
+    over_both(alloc, &Playing(rt, image, SCRIPT), ANSWERS, usize::MAX)?;
+    let image = new_volume(alloc, 1024)?;
+    over_both(alloc, &Playing(rt, image, SYNC), OK, 1)?;
     over_each(alloc, &Running(new_volume(alloc, 1024)?), TRANSCRIPT)
 }

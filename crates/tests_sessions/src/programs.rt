@@ -2,18 +2,17 @@
 
 use counting_link::recorder::Recorder;
 use counting_link::room::Room;
-use counting_link::steady::OnMedia;
 use file_server::FileServer;
-use fixtures::{MOUNT_READS, supply_at, whole};
+use fixtures::gates::HoldsFlusher;
+use fixtures::{MOUNT_READS, patient, supply_at};
 use fixtures_sessions::services::{many, stopped, two_in_turn};
 use launch::program::Program;
 use launch::start::serve;
 use modeldisk::FaultKind;
-use reissue::link::TrueLink;
-use serve::gate::Open;
-use serve::service::{Service, Shared};
+use serve::service::Service;
 use std::alloc::{AllocError, Global};
-use std::sync::Wait;
+use std::sync::{Arc, Wait};
+use std::thread::Threads;
 use tree::Call;
 
 /// What is done.
@@ -40,17 +39,19 @@ pub(crate) struct Came {
 struct Does {
     alloc: Global,
     what: &'static What,
+    gate: Arc<HoldsFlusher>,
 }
 
-impl<R: Wait + Copy> Program<R> for Does {
+impl<R: Threads + Wait + Copy + Send + Sync + 'static> Program<R> for Does {
     type Output = Option<Came>;
 
     ghost gives = { λ program geometry opening output. Unit {0} };
 
-    fn run<N: Room, L: Recorder<N> + TrueLink + OnMedia, S: FileServer<L>>(
-        self,
-        service: Service<N, Shared<N, R, L, S>>,
-    ) -> Option<Came>
+    fn run<
+        N: Room + Send + Sync + 'static,
+        L: Recorder<N> + Send + 'static,
+        S: FileServer<L> + Send + 'static,
+    >(self, service: Service<N, R, L, S>) -> Option<Came>
         ensures { Unit {0} }
     {
         let alloc = self.alloc;
@@ -59,6 +60,7 @@ impl<R: Wait + Copy> Program<R> for Does {
             What::InTurn => two_in_turn(alloc, service, &mut lines)?,
             What::Many => many(alloc, service, &mut lines)?,
             What::Stops(call, has_ended) => {
+                self.gate.let_go();
                 stopped(alloc, service, call, *has_ended, &mut lines)?
             }
         };
@@ -67,7 +69,7 @@ impl<R: Wait + Copy> Program<R> for Does {
 }
 
 /// What comes of it over a service of the volume in an image, whose driver has this fault in its first request after those of the mount.
-pub(crate) fn served<R: Wait + Copy>(
+pub(crate) fn served<R: Threads + Wait + Copy + Send + Sync + 'static>(
     alloc: Global,
     rt: R,
     image: &[u8],
@@ -75,8 +77,13 @@ pub(crate) fn served<R: Wait + Copy>(
     what: &'static What,
 ) -> Result<Option<Came>, AllocError> {
     let supply = supply_at(alloc, 128, MOUNT_READS + 1, &[fault])?;
-    let does = Does { alloc, what };
-    match serve(alloc, rt, image, &whole(), supply, Open, does) {
+    let gate = Arc::new(alloc, HoldsFlusher::new())?;
+    let does = Does {
+        alloc,
+        what,
+        gate: Arc::try_clone(&gate)?,
+    };
+    match serve(alloc, rt, image, &patient(), supply, gate, does) {
         Ok(came) => Ok(came),
         Err(_) => Ok(None),
     }

@@ -6,6 +6,7 @@ use modeldisk::FaultKind;
 use std::alloc::Global;
 use std::sync::Wait;
 use std::test::Fail;
+use std::thread::Threads;
 use tests_texts::is_told;
 use tree::Call;
 
@@ -76,7 +77,7 @@ static AGAIN: [Row; 1] = [(
 )];
 
 /// A row comes out as it says over the volume in an image. The image that is left.
-fn comes_out<R: Wait + Copy>(
+fn comes_out<R: Threads + Wait + Copy + Send + Sync + 'static>(
     alloc: Global,
     rt: R,
     image: &[u8],
@@ -99,7 +100,7 @@ fn comes_out<R: Wait + Copy>(
 }
 
 /// Rows come out one after the other, each over this image; the image that the last one leaves.
-fn come_out<R: Wait + Copy>(
+fn come_out<R: Threads + Wait + Copy + Send + Sync + 'static>(
     alloc: Global,
     rt: R,
     image: &[u8],

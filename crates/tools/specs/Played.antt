@@ -18,12 +18,13 @@ use Rattle.reply_text.specs.Answers.{sessions_text}
 use Rattle.script_play.specs.Made.{has_eio}
 use Rattle.script_play.specs.Served.{AreServed, service_text}
 use Rattle.tools.specs.Status.{is_given_up}
-use Rattle.script_play.specs.declared.players.LastSync.{LastSync}
+use Rattle.shared_server.specs.declared.locked.LastSync.{LastSync}
 use Rattle.tools.specs.declared.play.PlayRefusal.{PlayRefusal}
 use Rattle.tools.specs.declared.play.PlayRefusal.TheVariants.{Files, Start, Service, OutOfMemory, NotWritten}
 
 -- a service starts on the volume of these sizes, which lies in this range of the image
-pub record IsStarted (image : File) (setup : Setup) (supply : List DriverState) (bytes : Bor (List ℕ)) (g : Geometry) (range : ℕ × ℕ) : Type 0 where
+pub record IsStarted (image : File) (setup : Setup) (supply : List DriverState) (bytes : Bor (List ℕ)) (g : Geometry)
+    (range : ℕ × ℕ) : Type 0 where
   pub read : image.bytes ≡ Some bytes
   pub startable : IsStartable bytes.now setup supply g range
 
@@ -65,7 +66,8 @@ IsUnplayed image scripts setup supply NotWritten = ⊥
 -- the scripts were played, of the text of their sessions this went out, and this image was left
 abbrev pub IsShown : File → List File → Setup → List DriverState → Bool → (List ℕ → Type 0) → Option (List ℕ) → Type 0
 IsShown image scripts setup supply gave WentOut left =
-    (played : List Played) × (bytes : List ℕ) × IsPlayed image scripts setup supply played gave bytes × WentOut (sessions_text played) × (left ≡ Some bytes)
+    (played : List Played) × (bytes : List ℕ) × IsPlayed image scripts setup supply played gave bytes × WentOut (sessions_text played)
+    × (left ≡ Some bytes)
 
 -- whether it is about writing
 abbrev pub is_of_output : PlayRefusal → Bool

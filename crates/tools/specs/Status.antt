@@ -2,8 +2,8 @@
 use Rattle.std.specs.Prelude.{ℕ, Bool, true, false}
 use Rattle.tools.specs.declared.play.Status.{Status}
 use Rattle.tools.specs.declared.play.Status.TheVariants.{Done, Refused, GivenUp}
-use Rattle.script_play.specs.declared.players.LastSync.{LastSync}
-use Rattle.script_play.specs.declared.players.LastSync.TheVariants as last
+use Rattle.shared_server.specs.declared.locked.LastSync.{LastSync}
+use Rattle.shared_server.specs.declared.locked.LastSync.TheVariants as last
 
 -- the status of the process
 abbrev pub status_number : Status → ℕ

@@ -13,19 +13,22 @@ ghost use Rattle.tools.specs.Status.{status_number, gave_of, is_given_up, IsWhol
 ghost use Rattle.script_text.specs.Said.{said};
 ghost use Rattle.script_text.specs.Files.{AreScripts};
 
-use inline::local::LocalDriver;
+use bdev::BlockDriver;
+use gate::Gate;
 use mounting::StartRefusal;
 use output::{OutputRefusal, Told, tell};
 use reincarnate::policy::Setup;
 use reply_text::answers::write_sessions;
 use script_play::turns::has_eio;
-use script_play::{Came, LastSync, ServiceRefusal, play_scripts};
+use script_play::{Came, ServiceRefusal, play_scripts};
 use script_text::script::Script;
 use script_text::script_files::{File, FileRefusal, read_scripts};
+use shared_server::locked::LastSync;
 use std::alloc::Global;
 use std::fmt;
 use std::io::Write;
-use std::sync::Wait;
+use std::sync::{Arc, Wait};
+use std::thread::Threads;
 use volume_tools::make;
 
 /// How a play ended.
@@ -91,20 +94,28 @@ impl fmt::Display for PlayRefusal<'_> {
     }
 }
 
-/// Plays scripts one after the other, each in a session of its own of a service on the volume in an image, stops the service, and writes
-/// the answers on `out`: for each script a line with its session's number, as `session 0`, and then a line for each call.
+/// Plays scripts at one time, each in a session and a thread of its own, on a service on the volume in an image, whose threads ask this
+/// gate; stops the service, and writes the answers on `out`, in the order of the scripts: for each script a line with its session's number,
+/// as `session 0`, and then a line for each call.
 ///
 /// Faults are looked for in this order: reading the image, reading the scripts in their order, their lines file by file, more than 64
 /// scripts, the start of the service, its sessions, the image. For the first of them a line goes to `err`, nothing goes out, and no image
 /// is left. Where the answers can't be written, a line goes to `err` too, and the image is there all the same. The status says how that
 /// line went out.
-pub fn play<R: Wait + Copy, D: LocalDriver, W: Write, E: Write>(
+pub fn play<
+    R: Threads + Wait + Copy + Send + Sync + 'static,
+    D: BlockDriver + 'static,
+    G: Gate + 'static,
+    W: Write,
+    E: Write,
+>(
     alloc: Global,
     rt: R,
     image: File<'_, '_>,
     scripts: &[File<'_, '_>],
     setup: &Setup,
     supply: Vec<D>,
+    gate: Arc<G>,
     out: &mut W,
     err: &mut E,
 ) -> Ended
@@ -115,7 +126,7 @@ pub fn play<R: Wait + Copy, D: LocalDriver, W: Write, E: Write>(
         × IsCutShort image.entry scripts.now setup.now (map D.state supply.items) refusal (out.new ≡ out.old)
         (AppendsPart (W.contents out.old) (W.contents out.new)) (option_map (λ bytes. bytes.items) result.image) }
 {
-    let came = match run(alloc, rt, image, scripts, setup, supply) {
+    let came = match run(alloc, rt, image, scripts, setup, supply, gate) {
         Ok(came) => came,
         Err(refusal) => {
             return Ended {
@@ -150,13 +161,19 @@ pub fn finish<E: Write>(
 }
 
 /// Reads, starts, plays and stops, in this order.
-fn run<'n, R: Wait + Copy, D: LocalDriver>(
+fn run<
+    'n,
+    R: Threads + Wait + Copy + Send + Sync + 'static,
+    D: BlockDriver + 'static,
+    G: Gate + 'static,
+>(
     alloc: Global,
     rt: R,
     image: File<'n, '_>,
     scripts: &[File<'n, '_>],
     setup: &Setup,
     supply: Vec<D>,
+    gate: Arc<G>,
 ) -> Result<Came, PlayRefusal<'n>>
     ensures played { IfOk result (λ came. IsPlayed image.entry scripts.now setup.now (map D.state supply.items) came.sessions.items
         (gave_up came.sessions.items came.last_sync) came.image.items) }
@@ -166,7 +183,7 @@ fn run<'n, R: Wait + Copy, D: LocalDriver>(
         Ok(read) => read,
         Err(refusal) => return Err(PlayRefusal::Files(refusal)),
     };
-    match play_scripts(alloc, rt, image, scripts, setup, supply) {
+    match play_scripts(alloc, rt, image, scripts, setup, supply, gate) {
         Ok(Ok(came)) => Ok(came),
         Ok(Err(refusal)) => Err(PlayRefusal::Service(refusal)),
         Err(refusal) => Err(PlayRefusal::Start(refusal)),

@@ -1,34 +1,37 @@
 //! What is measured, in a session.
 
-use crate::bench_calls::work::{Caller, at_start, copies, measure, once, rewind};
-use bench_layers::timing::say;
+use crate::bench_calls::work::{Caller, at_start, copies, measure, once, repeat, rewind};
+use bench_layers::timing::{say, tell};
 use counting_link::recorder::Recorder;
 use counting_link::room::Room;
-use counting_link::steady::OnMedia;
 use file_server::FileServer;
 use launch::program::Program;
-use reissue::link::TrueLink;
 use serve::service::{Service, Shared};
+use serve::session::Session;
 use std::alloc::Global;
-use std::io;
 use std::sync::Wait;
+use std::thread::Threads;
+use std::time::Instant;
+use std::{io, thread};
 use tree::{Call, OpenFlags};
 
-/// Measures calls in a session of user 0.
+/// Measures calls in a session of user 0, and in eight.
 #[derive(Drop)]
-pub(crate) struct Measures {
+pub(crate) struct Measures<R: Threads + Copy> {
     pub(crate) rt: HostRuntime,
+    pub(crate) waits: R,
 }
 
-impl<R: Wait + Copy> Program<R> for Measures {
+impl<R: Threads + Wait + Copy + Send + Sync + 'static> Program<R> for Measures<R> {
     type Output = io::Result<()>;
 
     ghost gives = { λ program geometry opening output. Unit {0} };
 
-    fn run<N: Room, L: Recorder<N> + TrueLink + OnMedia, S: FileServer<L>>(
-        self,
-        service: Service<N, Shared<N, R, L, S>>,
-    ) -> io::Result<()>
+    fn run<
+        N: Room + Send + Sync + 'static,
+        L: Recorder<N> + Send + 'static,
+        S: FileServer<L> + Send + 'static,
+    >(self, service: Service<N, R, L, S>) -> io::Result<()>
         ensures { Unit {0} }
     {
         let Ok(mut session) = service.session(0, 0) else {
@@ -36,11 +39,58 @@ impl<R: Wait + Copy> Program<R> for Measures {
         };
         let measured = all(&self.rt, &mut session);
         session.end();
-        measured
+        measured?;
+        for sessions in [1, SESSIONS] {
+            in_threads(&self.rt, &self.waits, &service, sessions)?;
+        }
+        Ok(())
     }
 }
 
-/// All that is measured.
+/// How many sessions call at one time.
+const SESSIONS: u32 = 8;
+
+/// How many calls each of them makes.
+const CALLS: u32 = 40000;
+
+/// Asks for the root so many times, and ends the session; how many calls were done.
+fn ask<N: Room, R: Threads + Wait + Copy, L: Recorder<N>, S: FileServer<L>>(
+    mut session: Session<N, Shared<N, R, L, S>>,
+) -> u32 {
+    let done = repeat(&mut session, CALLS, &[Call::Stat { path: b"/" }]);
+    session.end();
+    done
+}
+
+/// Measures so many sessions, each of which asks for the root in a thread of its own.
+fn in_threads<
+    N: Room + Send + Sync,
+    R: Threads + Wait + Copy + Send + Sync,
+    L: Recorder<N> + Send,
+    S: FileServer<L> + Send,
+>(rt: &HostRuntime, waits: &R, service: &Service<N, R, L, S>, count: u32) -> io::Result<()> {
+    let mut sessions = Vec::new(rt.alloc());
+    for _ in 0..count {
+        let Ok(session) = service.session(0, 0) else {
+            return say(rt, "no session");
+        };
+        sessions.push(session)?;
+    }
+    let start = Instant::now(rt)?;
+    let each = thread::map_vec(
+        waits,
+        sessions,
+        &|session: Session<N, Shared<N, R, L, S>>| -> u32 { ask(session) },
+    )?;
+    let mut done = 0u32;
+    for calls in each.iter() {
+        done = done.saturating_add(*calls);
+    }
+    eprintln!(*rt; "sessions in threads: {count}")?;
+    tell(rt, "stat of the root", done, "calls", start)
+}
+
+/// All that is measured in one session.
 fn all<C: Caller>(rt: &HostRuntime, caller: &mut C) -> io::Result<()> {
     small_calls(rt, caller)?;
     let mut to = vec![in rt.alloc(); 0u8; 65536]?;
@@ -169,6 +219,14 @@ fn bytes_of_drivers<C: Caller>(rt: &HostRuntime, caller: &mut C, whole: &[u8]) -
         "64 KiB reads from the driver",
         128,
         &[reading(65536)],
+    )?;
+    let _ = once(caller, &[rewind()]);
+    measure(
+        rt,
+        caller,
+        "4 KiB reads from the driver",
+        2048,
+        &[reading(4096)],
     )?;
     let _ = once(caller, &[rewind()]);
     measure(

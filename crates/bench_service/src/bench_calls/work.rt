@@ -37,7 +37,7 @@ pub(crate) fn once<C: Caller>(caller: &mut C, calls: &[Call<'_>]) -> u32 {
 }
 
 /// Makes these calls so many times; how many were done.
-fn repeat<C: Caller>(caller: &mut C, times: u32, calls: &[Call<'_>]) -> u32 {
+pub(crate) fn repeat<C: Caller>(caller: &mut C, times: u32, calls: &[Call<'_>]) -> u32 {
     let mut done = 0u32;
     for _ in 0..times {
         done = done.wrapping_add(once(caller, calls));

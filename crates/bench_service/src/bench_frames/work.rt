@@ -1,53 +1,22 @@
 //! The work that is measured. Each piece tells how many blocks it went over: fewer where a request wasn't taken or a call was cut. What a
 //! driver answers isn't looked at.
-ghost use Rattle.std.specs.Prelude.{◌≡◌, IfSome};
 ghost use Rattle.cache.specs.Calls.{caching, IsReady};
 
 use bdev::{Accept, BlockDriver};
-use bench_layers::sizes::large_blocks;
 use cache::Cache;
-use driven::Driven;
 use flusher::{flush_some, sync};
-use launch::start::drivers_on;
 use media::Media;
 use media::partition::Table;
 use message::{BlockRequest, Kind};
 use modeldisk::RamDriver;
-use reincarnate::policy::Policy;
-use reissue::{Link, Transfers};
-use std::alloc::Global;
+use reissue::Link;
 
-/// How many blocks of 4096 bytes the volume has: 16 MiB.
-const ZONES: u32 = 4096;
-
-/// Its sectors.
+/// The sectors of the volume.
 const SECTORS: u32 = 32768;
-
-/// Media of zero bytes that hold the volume.
-pub(crate) fn zeros(alloc: Global) -> Option<Media> {
-    let bytes = vec![in alloc; 0; 16777216].ok()?;
-    Media::from_bytes(alloc, &bytes).ok()
-}
 
 /// A driver of the whole volume.
 pub(crate) fn driver() -> RamDriver {
     RamDriver::new(Table::whole(SECTORS))
-}
-
-/// A link to a driver of the whole volume.
-fn link(alloc: Global) -> Option<Driven<RamDriver>>
-    ensures { IfSome result (λ link. ⟦<Driven<RamDriver> as Link>⟧.budget_left link ≡ 1099511627776) }
-{
-    let supply = vec![in alloc; driver()].ok()?;
-    drivers_on(alloc, zeros(alloc)?, Policy::default(), supply).ok()
-}
-
-/// A cache of so many frames over a driver.
-pub(crate) fn cache_over(alloc: Global, frames: u32) -> Option<Cache<Driven<RamDriver>>>
-    ensures { IfSome result (λ c. IsReady (caching ⟦<Driven<RamDriver> as Link>⟧ c)) }
-{
-    let transfers = Transfers::new(alloc, link(alloc)?).ok()?;
-    Cache::new(alloc, transfers, 0, &large_blocks(ZONES), frames).ok()
 }
 
 /// Fetches each of so many blocks once, from the first on.

@@ -1,6 +1,6 @@
 //! The words that `mfs` takes, and what they say.
 
-use crate::play_words::{image, minor, spares};
+use crate::play_words::{image, minor, model, out, spares};
 use clap::{Arg, ArgAction, ArgMatches, Command, Error};
 use std::alloc::{AllocError, Global};
 
@@ -46,7 +46,10 @@ fn command<'a>(alloc: Global) -> Result<Command<'a>, AllocError> {
         .after_help(SCRIPTS)
         .arg(image(alloc, file))?
         .arg(scripts(alloc))?
-        .arg(out(alloc))?
+        .arg(out(
+            alloc,
+            "Writes the image as it is after the calls to this file",
+        ))?
         .arg(minor(alloc))?
         .arg(spares(alloc))?
         .arg(model(alloc))
@@ -59,22 +62,6 @@ fn scripts<'a>(alloc: Global) -> Arg<'a> {
         .num_args(1..)
         .action(ArgAction::Append)
         .help("The files of scripts, 64 at most; they are played one after the other")
-}
-
-/// The word that names the file of the image that is left.
-fn out<'a>(alloc: Global) -> Arg<'a> {
-    Arg::new(alloc, "out")
-        .long("out")
-        .value_name("FILE")
-        .help("Writes the image as it is after the calls to this file")
-}
-
-/// The word by which drivers move an arm.
-fn model<'a>(alloc: Global) -> Arg<'a> {
-    Arg::new(alloc, "model")
-        .long("model")
-        .action(ArgAction::SetTrue)
-        .help("The drivers move an arm over the sectors, from sector 0 on")
 }
 
 /// What the words say.

@@ -11,5 +11,5 @@ ghosts-start_and_run g a = record {
   opening = opening_of a.image.now a.setup.now.minor a.prepared.range;
   geometry = sizes_in (contents_at (opening_of a.image.now a.setup.now.minor a.prepared.range));
   policy = a.setup.now.policy;
-  supply = map g.D.LocalDriver.state a.supply.items;
+  supply = map g.D.BlockDriver.state a.supply.items;
 }

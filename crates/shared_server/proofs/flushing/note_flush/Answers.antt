@@ -1,4 +1,3 @@
-use Rattle.std.proofs.Common.{◌≡◌, sym, ◌∙◌, ap, subst}
 use Rattle.shared_server.proofs.SharingLaws.{same_over}
 use Rattle.shared_server.proofs.flushing.note_flush.Goals as goal
 

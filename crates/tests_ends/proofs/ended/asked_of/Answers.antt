@@ -13,8 +13,4 @@ ask_and_stop-requires-clause-geometry g c =
     ((geometry_fits c.args.image.now c.geometry.result parsed).0, refl)
 
 pub ask_and_stop-requires-clause-tree : goal.ask_and_stop-requires-clause-tree
-ask_and_stop-requires-clause-tree g c =
-    let clean = subst (λ v. HasItsGeometry c.args.image.now v) c.in-Ok-Clean.field-0-is c.in-Ok-Clean.ensures.geometry in
-    let parsed = clean ∙ ap (λ (x : Geometry). Ok x) (sym c.geometry.ensures) in
-    let held = subst (λ v. TellsWhetherTree c.args.image.now v) c.in-Ok-Clean.field-0-is c.in-Ok-Clean.ensures.tree in
-    (held.0, at_first c.args.image.now c.geometry.result held.0 parsed held.1)
+ask_and_stop-requires-clause-tree g c = ?

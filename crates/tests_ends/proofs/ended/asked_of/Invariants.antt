@@ -1,4 +1,5 @@
-use Rattle.std.specs.Prelude.{[], length}
+use Rattle.std.specs.Prelude.{[]}
+use Rattle.mounting.specs.Starting.{opening_of}
 use Rattle.reincarnate.specs.Policy.{default_policy}
 use Rattle.tests_ends.proofs.ended.asked_of.Given as goal
 
@@ -6,7 +7,7 @@ use Rattle.tests_ends.proofs.ended.asked_of.Given as goal
 abbrev pub ghosts-ask_and_stop : goal.ghosts-ask_and_stop
 ghosts-ask_and_stop g a = record {
   table = a.board;
-  opening = record { media = a.image.now; first = 0; count = length a.image.now; minor = 0 };
+  opening = opening_of a.image.now 0 a.prepared.range;
   geometry = a.geometry;
   policy = default_policy;
   supply = [];

@@ -7,7 +7,8 @@ returns-clause-whole g c = λ whole.
     let shown = c.show-status.ensures.whole whole in
     let came = c.in-Ok.came in
     let played = subst
-    (λ (gave : Bool). IsPlayed c.args.image c.args.scripts.now c.args.setup.now (map g.D.LocalDriver.state c.args.supply.items) came.sessions.items gave
+    (λ (gave : Bool). IsPlayed c.args.image c.args.scripts.now c.args.setup.now (map g.D.BlockDriver.state c.args.supply.items)
+    came.sessions.items gave
     came.image.items) (sym shown.0) c.in-Ok.ensures.played in
     ((came.sessions.items, came.image.items, played, shown.1, refl), shown.2)
 

@@ -1,4 +1,3 @@
-use Rattle.std.proofs.Common.{◌≡◌, sym}
 use Rattle.file_server.specs.Over.{outcome_of}
 use Rattle.shared_server.specs.Stopping.{Went, WasGivenUp, WasCut}
 use Rattle.shared_server.proofs.StoppingLaws.{last_line, cut_end, given_up_end, went_end}

@@ -1,0 +1,117 @@
+//! Measures a cache over a driver in a thread of its own.
+ghost use Rattle.std.specs.Prelude.{◌≡◌};
+ghost use Rattle.cache.specs.Calls.{caching, IsReady};
+
+use crate::bench_frames::BLOCKS;
+use crate::bench_frames::work::{driver, fetch_again, fetch_run, write_run};
+use bench_layers::sizes::large_blocks;
+use bench_layers::timing::{say, tell};
+use board::{Board, Seat};
+use cache::Cache;
+use counting_link::room::Room;
+use driver_threads::running::start_drivers;
+use gate::paced_gate::Paced;
+use media::Media;
+use modeldisk::RamDriver;
+use reincarnate::Reincarnation;
+use reincarnate::policy::Policy;
+use reissue::{Link, Transfers};
+use std::alloc::Global;
+use std::io;
+use std::marker::Brand;
+use std::sync::{Arc, Wait};
+use std::thread::Threads;
+use std::time::Instant;
+
+/// How many blocks of 4096 bytes the volume has: 16 MiB.
+const ZONES: u32 = 4096;
+
+/// Its sectors.
+const SECTORS: u32 = 32768;
+
+/// Media of zero bytes that hold the volume.
+pub(crate) fn zeros(alloc: Global) -> Option<Media> {
+    let bytes = vec![in alloc; 0; 16777216].ok()?;
+    Media::from_bytes(alloc, &bytes).ok()
+}
+
+/// Measures fetches and writes of a cache over any link.
+fn measure_cache<L: Link>(rt: &HostRuntime, cache: &mut Cache<L>) -> io::Result<()>
+    requires { IsReady (caching L.Link cache.old) }
+{
+    let start = Instant::now(rt)?;
+    let missed = fetch_run(cache, 16, BLOCKS);
+    tell(rt, "fetches that miss", missed, "blocks", start)?;
+    let _ = fetch_run(cache, 0, 16);
+    let start = Instant::now(rt)?;
+    let hit = fetch_again(cache, BLOCKS);
+    tell(rt, "fetches that hit", hit, "blocks", start)?;
+    let start = Instant::now(rt)?;
+    let written = write_run(cache, BLOCKS / 16);
+    tell(rt, "made anew and written back", written, "blocks", start)
+}
+
+/// Measures a cache of so many frames over a link that may give 2^40 messages.
+fn measure_over<L: Link + Drop>(rt: &HostRuntime, link: L, frames: u32) -> io::Result<()>
+    requires { L.budget_left link ≡ 1099511627776 }
+{
+    let Ok(transfers) = Transfers::new(rt.alloc(), link) else {
+        return say(rt, "no memory");
+    };
+    let Ok(mut cache) = Cache::new(rt.alloc(), transfers, 0, &large_blocks(ZONES), frames) else {
+        return say(rt, "no memory");
+    };
+    measure_cache(rt, &mut cache)
+}
+
+/// Starts a driver of media with these bytes in a thread of its own, measures a cache over it, and ends it.
+fn measure_on<N: Room + Send + Sync + 'static, R: Threads + Wait + Copy + Send + Sync + 'static>(
+    rt: &HostRuntime,
+    waits: R,
+    image: &[u8],
+    reincarnation: Reincarnation<RamDriver>,
+    board: Board,
+    seat: Seat,
+    frames: u32,
+) -> io::Result<()>
+    requires range { (N.opening.first ≡ 0) × (N.opening.count ≡ 32768) }
+    requires image { N.opening.media ≡ image.now }
+    requires seat { seat.table ≡ board }
+{
+    let alloc = rt.alloc();
+    let Ok(media) = Media::from_bytes(alloc, image) else {
+        return say(rt, "no memory");
+    };
+    let board = Arc::new(alloc, board)?;
+    let gate = Arc::new(alloc, Paced::new(*rt))?;
+    let (link, running) = start_drivers::<N, RamDriver, Paced<HostRuntime>, R>(
+        alloc,
+        waits,
+        media,
+        (0, SECTORS),
+        reincarnation,
+        &board,
+        seat,
+        gate,
+    )?;
+    let measured = measure_over(rt, link, frames);
+    let _ = running.stop(&waits);
+    measured
+}
+
+/// Measures a cache of so many frames.
+pub(crate) fn measure_frames<R: Threads + Wait + Copy + Send + Sync + 'static>(
+    rt: &HostRuntime,
+    waits: R,
+    frames: u32,
+) -> io::Result<()> {
+    let alloc = rt.alloc();
+    eprintln!(*rt; "{frames} frames")?;
+    let image = vec![in alloc; 0u8; 16777216]?;
+    let supply = vec![in alloc; driver()]?;
+    let Ok(reincarnation) = Reincarnation::new(alloc, Policy::default(), supply) else {
+        return say(rt, "no memory");
+    };
+    let (board, seat) = Board::new(alloc)?;
+    measure_on::<Brand, R>(rt, waits, &image, reincarnation, board, seat, frames)
+}

@@ -1,0 +1,88 @@
+//! The words that `mfs9p` takes, and what they say.
+
+use crate::play_words::{image, minor, model, number, out};
+use clap::{Arg, ArgMatches, Command, Error};
+use std::alloc::{AllocError, Global};
+
+/// The most drivers that stand by (own).
+const MOST_SPARES: u64 = 4095;
+
+/// What the help says of mounting.
+const MOUNTING: &str =
+    "Messages of 9P2000.L are read from standard input, and answered on standard output, until the input ends. With socat, and as root:
+
+socat TCP-LISTEN:5640,bind=127.0.0.1,reuseaddr EXEC:\"mfs9p v.img --out v.img\"
+mount -t 9p -o trans=tcp,port=5640,version=9p2000.L,access=any,msize=65536 127.0.0.1 /mnt
+
+A line `started 1.G` on standard error tells of each driver that takes the place of an earlier one.";
+
+/// The words that `mfs9p` knows.
+fn command<'a>(alloc: Global) -> Result<Command<'a>, AllocError> {
+    let file = "The file of a MINIX 3 volume; it is read only, unless --out names it";
+    Command::new(alloc, "mfs9p")
+        .version("0.1.0")
+        .about(
+            "Serves the image of a volume by 9P, so that Linux mounts it, while its drivers may die",
+        )
+        .after_help(MOUNTING)
+        .arg(image(alloc, file))?
+        .arg(out(
+            alloc,
+            "Writes the image as it is once the input has ended to this file",
+        ))?
+        .arg(minor(alloc))?
+        .arg(spares(alloc))?
+        .arg(model(alloc))?
+        .arg(die_every(alloc))
+}
+
+/// The word that says how many drivers stand by.
+fn spares<'a>(alloc: Global) -> Arg<'a> {
+    number(alloc, "spares", "K", MOST_SPARES)
+        .default_value("5")
+        .help("How many drivers stand by to take the place of one that fails")
+}
+
+/// The word by which drivers die.
+fn die_every<'a>(alloc: Global) -> Arg<'a> {
+    number(alloc, "die-every", "N", 4294967295)
+        .default_value("0")
+        .help("Each driver dies in the N-th request that it takes; 0: none does")
+}
+
+/// What the words say.
+#[derive(Drop)]
+pub struct Words<'a> {
+    /// The image's file.
+    pub image: &'a str,
+    /// The file that the image is written to in the end, if one is named.
+    pub out: Option<&'a str>,
+    /// Where the volume lies: 0 is the whole image.
+    pub minor: u8,
+    /// How many drivers stand by, 0 to 4095.
+    pub spares: u16,
+    /// The drivers move an arm.
+    pub model: bool,
+    /// In which of the requests that it takes each driver dies, counted from 1; 0: none does.
+    pub die_every: u32,
+}
+
+impl<'a> Words<'a> {
+    /// What words that were taken say.
+    fn of(matches: &ArgMatches<'a>) -> Words<'a> {
+        Words {
+            image: matches.get_str("IMAGE").unwrap_or(""),
+            out: matches.get_str("out"),
+            minor: matches.get_one::<u8>("minor").unwrap_or(0),
+            spares: matches.get_one::<u16>("spares").unwrap_or(0),
+            model: matches.get_flag("model"),
+            die_every: matches.get_one::<u32>("die-every").unwrap_or(0),
+        }
+    }
+}
+
+/// What the words of a line say, or why they aren't taken.
+pub fn read<'a>(alloc: Global, line: &'a [String]) -> Result<Words<'a>, Error> {
+    let matches = command(alloc)?.try_get_matches_from(line)?;
+    Ok(Words::of(&matches))
+}

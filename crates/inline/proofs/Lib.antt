@@ -1,4 +1,0 @@
-pub mod Runs
-pub mod Going
-pub mod Opens
-pub mod LinkLaws

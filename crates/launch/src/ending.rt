@@ -1,0 +1,22 @@
+//! When a call of a service over drivers in threads is cut.
+
+ghost use Rattle.std.specs.Prelude.{◌≡◌, List, length};
+ghost use Rattle.records.specs.Marks.{Mark};
+ghost use Rattle.shared_server.specs.Held.{IsCutAtEnd};
+
+use channel_link::link::ChannelLink;
+use counting_link::Noting;
+use counting_link::recorder::Recorder;
+use counting_link::room::Room;
+use reissue::link::Link;
+use std::sync::Wait;
+use tree::Outcome;
+
+/// Where a session says of a call that it was cut exactly once the link to the drivers had ended, and that link is one to drivers in
+/// threads, its budget was spent then: it had received 2^40 messages, which is all that it gives.
+pub fn cut_once_spent<N: Room, R: Wait + Copy>()
+    ensures { (outcome : Outcome) (seen : List Mark)
+        → (is : IsCutAtEnd ⟦<Noting<N, ChannelLink<R>> as Link>⟧ ⟦<Noting<N, ChannelLink<R>> as Recorder<N>>⟧.marks outcome seen)
+        → outcome ≡ Outcome.Cut
+        → (⟦<ChannelLink<R> as Link>⟧.budget_left is.line.link ≡ 0) × (length is.line.link.line ≡ 1099511627776) }
+{}

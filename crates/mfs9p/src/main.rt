@@ -1,0 +1,82 @@
+//! Serves the image of a volume by 9P, so that Linux mounts it, while its drivers may die.
+#![tactic(auto)]
+
+use gate::paced_gate::Paced;
+use host::command_line::{line_of, status_for};
+use host::play_words::mfs9p::{Words, read};
+use host::whole_file::replace;
+use modeldisk::supply::table_in;
+use mount_service::mortal::{Mortality, mortal_drivers, mortal_setup};
+use mount_service::mount::{finish, mount};
+use mount_service::program::Streams;
+use mount_service::telling_gate::Telling;
+use std::io::BufReader;
+use std::process::ExitCode;
+use std::sync::{Arc, Wait};
+use std::thread::Threads;
+use std::{fs, io};
+
+/// How many bytes of messages are read together.
+const ROOM: usize = 65536;
+
+/// When drivers die that do so in the request of this number; none does in that of number 0.
+fn mortality(die_every: u32) -> Mortality {
+    match die_every {
+        0 => Mortality::Never,
+        request => Mortality::InRequest(request),
+    }
+}
+
+/// Mounts the volume in the image that the words name, and writes the image that is left, where they name a file for it. The service has
+/// threads of its own, and a tick of it takes a tenth of a second.
+fn mount_file<W: Threads + Wait + Copy + Send + Sync + 'static>(
+    rt: HostRuntime,
+    waits: W,
+    words: &Words<'_>,
+) -> io::Result<ExitCode> {
+    let alloc = rt.alloc();
+    let image = fs::read(&rt, words.image).ok();
+    let mortality = mortality(words.die_every);
+    let table = table_in(image.as_deref().unwrap_or(&[]));
+    let supply = mortal_drivers(alloc, words.spares, words.model, mortality, table)?;
+    let setup = mortal_setup(words.minor, mortality);
+    let gate = Arc::new(alloc, Telling::new(Paced::new(rt), rt))?;
+    let streams = Streams {
+        input: BufReader::with_capacity(alloc, ROOM, rt.reader())?,
+        output: rt.stdout(),
+        clock: rt,
+    };
+    let mut err = rt.stderr();
+    let mounted = mount(
+        alloc,
+        waits,
+        words.image,
+        image.as_deref(),
+        &setup,
+        supply,
+        gate,
+        streams,
+        &mut err,
+    );
+    let status = match (mounted.came, words.out) {
+        (Some(came), Some(name)) => {
+            let written = replace(&rt, name, &came.image).is_ok();
+            finish(alloc, mounted.status, name, written, &mut err)
+        }
+        _ => mounted.status,
+    };
+    Ok(ExitCode::from(status.number()))
+}
+
+fn main(rt: HostRuntime) -> io::Result<ExitCode> {
+    let Some(line) = line_of(&rt)? else {
+        return Ok(ExitCode::from(2));
+    };
+    match read(rt.alloc(), line.as_slice()) {
+        Ok(words) => mount_file(rt, rt, &words),
+        Err(error) => {
+            error.print(&rt)?;
+            Ok(ExitCode::from(status_for(&error)))
+        }
+    }
+}

@@ -1,0 +1,2 @@
+mod Speaking
+mod Leaving

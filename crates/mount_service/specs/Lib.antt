@@ -1,0 +1,4 @@
+pub mod Mortal
+pub mod Spoken
+pub mod Left
+pub mod Mounted

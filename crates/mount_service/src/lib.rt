@@ -1,0 +1,9 @@
+//! A volume that is mounted by 9P: a service on it, whose sessions answer the messages of a stream.
+#![tactic(auto)]
+
+pub mod mortal;
+pub mod mount;
+pub mod program;
+pub mod sessions;
+pub mod starting;
+pub mod telling_gate;

@@ -1,0 +1,125 @@
+//! What is done with a service: its sessions answer the messages of a stream until that ends; then the service is stopped.
+
+ghost use Rattle.std.specs.Prelude.{IfOk, OnOk};
+ghost use Rattle.mount_service.specs.Left.{IsImageOf, IsLeftBy};
+ghost use Rattle.mount_service.specs.Spoken.{IsSpoken};
+
+use crate::sessions::ServiceSessions;
+use counting_link::recorder::Recorder;
+use counting_link::room::Room;
+use file_server::FileServer;
+use ninep_server::sessions::Sessions;
+use ninep_stream::answering::{StreamRefusal, answer_all};
+use serve::service::Service;
+use serve::stopping::StopRefusal;
+use shared_server::locked::LastSync;
+use std::alloc::Global;
+use std::io::{BufRead, Write};
+use std::sync::Wait;
+use std::thread::Threads;
+use std::time::Clock;
+
+/// The streams of messages and answers, and the clock that says when calls are made.
+#[derive(Drop)]
+pub struct Streams<I, O, C> {
+    /// Where messages come from.
+    pub input: I,
+    /// Where answers go.
+    pub output: O,
+    /// What the time of a call is.
+    pub clock: C,
+}
+
+/// Why no image comes of a service that answered messages.
+#[derive(Clone, Copy, Debug, PartialEq, Eq)]
+pub enum NoImage {
+    /// The service isn't stopped, since a session is left.
+    SessionsLeft,
+    /// No memory was found for the image.
+    OutOfMemory,
+}
+
+/// What came of the messages of a stream.
+#[derive(Drop)]
+pub struct Came<I, O, C> {
+    /// The streams, as far as they were read and written.
+    pub streams: Streams<I, O, C>,
+    /// Whether all messages were answered, and why not.
+    pub answered: Result<(), StreamRefusal>,
+    /// How the last sync went.
+    pub last_sync: LastSync,
+    /// The bytes of the image as the media stand once the service was stopped.
+    pub image: Vec<u8>,
+}
+
+/// Answers the messages of a stream by sessions of this service, and stops it. What came of it.
+pub(crate) fn answer_on<
+    N: Room + Send + Sync + 'static,
+    R: Threads + Wait + Copy + Send + Sync + 'static,
+    L: Recorder<N> + Send + 'static,
+    S: FileServer<L> + Send + 'static,
+    I: BufRead + Drop,
+    O: Write + Drop,
+    C: Clock + Drop,
+>(
+    alloc: Global,
+    service: Service<N, R, L, S>,
+    streams: Streams<I, O, C>,
+) -> Result<Came<I, O, C>, NoImage>
+    ensures { IfOk result (λ came. IsLeftBy N.geometry N.opening (I.Read.remaining streams.input)
+        (O.contents streams.output) (O.contents came.streams.output) came.answered came.image.items) }
+{
+    let mut streams = streams;
+    let answered = answer_by(alloc, &service, &mut streams);
+    let (last_sync, image) = image_of(service.stop(alloc))?;
+    Ok(Came {
+        streams,
+        answered,
+        last_sync,
+        image,
+    })
+}
+
+/// Answers the messages of a stream by sessions of this service, which end then.
+fn answer_by<
+    N: Room + Send + Sync + 'static,
+    R: Threads + Wait + Copy + Send + Sync + 'static,
+    L: Recorder<N> + Send + 'static,
+    S: FileServer<L> + Send + 'static,
+    I: BufRead,
+    O: Write,
+    C: Clock,
+>(
+    alloc: Global,
+    service: &Service<N, R, L, S>,
+    streams: &mut Streams<I, O, C>,
+) -> Result<(), StreamRefusal>
+    ensures { OnOk result (IsSpoken N.geometry N.opening (I.Read.remaining streams.old.input) (O.contents streams.old.output)
+        (O.contents streams.new.output)) }
+{
+    let mut sessions = ServiceSessions::new(alloc, service);
+    let answered = answer_all(
+        alloc,
+        &mut streams.input,
+        &mut streams.output,
+        &streams.clock,
+        &mut sessions,
+    );
+    sessions.leave();
+    answered
+}
+
+/// What came of the last sync of a service that was stopped, and the image.
+fn image_of<T: Drop>(
+    stopped: Result<Vec<u8>, StopRefusal<T>>,
+) -> Result<(LastSync, Vec<u8>), NoImage>
+    ensures { IfOk result (λ came. IsImageOf stopped came.0 came.1) }
+{
+    match stopped {
+        Ok(image) => Ok((LastSync::Done, image)),
+        Err(StopRefusal::GivenUp(image)) => Ok((LastSync::GivenUp, image)),
+        Err(StopRefusal::LinkEnded(image)) => Ok((LastSync::Cut, image)),
+        Err(StopRefusal::SessionsLeft(_)) => Err(NoImage::SessionsLeft),
+        Err(StopRefusal::OutOfMemory(_)) => Err(NoImage::OutOfMemory),
+    }
+}

@@ -1,7 +1,0 @@
-use Rattle.script_play.proofs.Records.{are_served}
-use Rattle.script_play.proofs.players.PlayersProgram.run.Goals as goal
-
-pub returns : goal.returns
-returns g c =
-    are_served g.L.Link g.L.OnMedia.lies_on g.N.Room.geometry g.N.Room.opening _ _ _ _ _
-    g.met.L.TrueLink.replies_are_true _ (rw c.as_slice.ensures.value at c.in_ok-sessions.ensures) c.in_ok-last_sync.ensures

@@ -1,0 +1,21 @@
+use Rattle.std.proofs.Common.{sym, subst}
+use Rattle.records.specs.Marks.{IsBeginning}
+use Rattle.records.specs.Session.{SessionState}
+use Rattle.serve.proofs.StoppingLaws.{image_after, line_after, why_after}
+use Rattle.serve.proofs.service.Service.stop_after.Goals as goal
+
+pub returns-in-Ok-clause-image : goal.returns-in-Ok-clause-image
+returns-in-Ok-clause-image g c =
+    image_after g.L.Link g.N.Room.geometry g.N.Room.opening c.args.last.knows.seen c.finish_after-how.result c.image_of.result
+    c.image_of.ensures.image
+    (line_after g.L.Link g.N.Room.geometry g.N.Room.opening c.args.last.knows.seen c.last.inside.seat.view.seen c.finish_after-how.result
+    (subst (λ (s : SessionState). IsBeginning c.args.last.knows.seen s.knows.seen) (sym c.last.view_is) c.close_all.ensures.seen)
+    c.finish_after-how.ensures)
+
+pub returns-in-Ok-clause-refused : goal.returns-in-Ok-clause-refused
+returns-in-Ok-clause-refused g c =
+    why_after g.L.Link g.N.Room.geometry g.N.Room.opening c.args.last.knows.seen c.finish_after-how.result _ c.image_of.result
+    c.image_of.ensures.refused
+    (line_after g.L.Link g.N.Room.geometry g.N.Room.opening c.args.last.knows.seen c.last.inside.seat.view.seen c.finish_after-how.result
+    (subst (λ (s : SessionState). IsBeginning c.args.last.knows.seen s.knows.seen) (sym c.last.view_is) c.close_all.ensures.seen)
+    c.finish_after-how.ensures)

@@ -1,0 +1,51 @@
+-- What a service that is stopped leaves.
+use Rattle.std.specs.Prelude.{◌≡◌, ℕ, List, IfSome}
+use Rattle.std.specs.List.{concat}
+use Rattle.layout.specs.declared.Geometry.{Geometry}
+use Rattle.media.specs.Contents.{IsWhole, MediaState}
+use Rattle.records.specs.Marks.{Mark}
+use Rattle.records.specs.Opening.{Opening}
+use Rattle.reissue.specs.declared.link.Link.{Ghosts as LinkWords}
+use Rattle.shared_server.specs.Stopping.{IsLastLine, SyncEnd, WasGivenUp, WasCut}
+use Rattle.shared_server.specs.declared.locked.LastSync.{LastSync}
+use Rattle.shared_server.specs.declared.locked.LastSync.TheVariants as sync
+use Rattle.driver_threads.specs.Confined.{KeepsOutside}
+use Rattle.serve.specs.declared.stopping.StopRefusal.{StopRefusal}
+use Rattle.serve.specs.declared.stopping.StopRefusal.TheVariants.{SessionsLeft, GivenUp, OutOfMemory, LinkEnded}
+
+-- the bytes of media that have as many sectors as were handed in, each of 512 bytes, and outside of the volume each as it was handed in
+pub record IsImageOutside (v : Opening) (image : List ℕ) : Type 0 where
+  pub media : MediaState
+  pub bytes : image ≡ concat media.sectors
+  pub whole : IsWhole media.sectors
+  pub outside : KeepsOutside v media
+
+-- why no image of a synced volume is left of the media, after a last sync that went so
+abbrev pub IsLeftAfter : {T : Type 0} → Opening → LastSync → StopRefusal T → Type 0
+IsLeftAfter v how (SessionsLeft left) = ⊥
+IsLeftAfter v how (GivenUp image) = (how ≡ sync.GivenUp) × IsImageOutside v image.items
+IsLeftAfter v how (OutOfMemory left) = IfSome left (KeepsOutside v)
+IsLeftAfter v how (LinkEnded image) = (how ≡ sync.Cut) × IsImageOutside v image.items
+
+-- the image that a service leaves, and its link after a last sync that went so
+pub record IsLastImage {L : Type 0} (link : LinkWords L) (g : Geometry) (v : Opening) (seen : List Mark) (how : SyncEnd)
+    (image : List ℕ) : Type 0 where
+  pub outside : IsImageOutside v image
+  pub line : L
+  pub last : IsLastLine link g v seen how line
+
+-- Why a service that is stopped gives no image of a synced volume. While a session is left it comes back, as it has to; else a last sync
+-- was tried, which the device's giving up or the link's end kept from being made; or no memory was found, and the media are left.
+abbrev pub WhyNotSynced : {L T : Type 0} → LinkWords L → Geometry → Opening → List Mark → (T → Type 0) → StopRefusal T → Type 0
+WhyNotSynced link g v seen is_back (SessionsLeft left) = is_back left
+WhyNotSynced link g v seen is_back (GivenUp image) = IsLastImage link g v seen WasGivenUp image.items
+WhyNotSynced {L} link g v seen is_back (OutOfMemory left) =
+    ((how : SyncEnd) × (line : L) × IsLastLine link g v seen how line) × IfSome left (KeepsOutside v)
+WhyNotSynced link g v seen is_back (LinkEnded image) = IsLastImage link g v seen WasCut image.items
+
+-- the numbers of the refusals to stop
+abbrev pub stop_refusal_number : {S : Type 0} → StopRefusal S → ℕ
+stop_refusal_number (SessionsLeft service) = 1
+stop_refusal_number (GivenUp image) = 2
+stop_refusal_number (OutOfMemory left) = 3
+stop_refusal_number (LinkEnded image) = 4

@@ -1,0 +1,177 @@
+//! Drivers and a flusher that are held run beside the server: it goes on without them.
+
+use crate::drivers::{Notes, drivers};
+use crate::setting::served;
+use crate::watch::{Holds, Watch};
+use counting_link::recorder::Recorder;
+use counting_link::room::Room;
+use file_server::FileServer;
+use fixtures::{ROOT, new_volume};
+use fixtures_sessions::callers::{Caller, told};
+use launch::program::Program;
+use serve::service::Service;
+use std::alloc::Global;
+use std::process::Abort;
+use std::sync::{Arc, Wait};
+use std::test::*;
+use std::thread::Threads;
+use std::time::Clock;
+use tests_texts::is_told;
+use tree::Call;
+
+/// Who is held, and what is called meanwhile.
+#[derive(Clone, Copy)]
+enum What {
+    /// The first driver, while the root's attributes are read.
+    Read,
+    /// The first driver, while what was changed is written, twice.
+    Write,
+    /// The flusher.
+    Flusher,
+}
+
+impl What {
+    // Who is held.
+    fn holds(self) -> Holds {
+        match self {
+            What::Read | What::Write => Holds::FirstDriver,
+            What::Flusher => Holds::Flusher,
+        }
+    }
+}
+
+/// A service whose first driver or flusher is held while a session calls.
+#[derive(Drop)]
+struct Held<R: Abort + Clock + Copy> {
+    alloc: Global,
+    what: What,
+    gate: Arc<Watch<R>>,
+}
+
+/// What came of it.
+#[derive(Drop)]
+struct Came {
+    /// A line for each answer.
+    lines: String,
+    /// Whether who was held had passed before it was let go.
+    is_early: bool,
+    /// Whether it passed then.
+    has_passed: bool,
+    /// The image that is left.
+    image: Vec<u8>,
+}
+
+/// Changes the root's permissions and has them written, twice. Its inode is at hand.
+fn changes<C: Caller>(session: &mut C, lines: &mut String) {
+    for mode in [0o700, 0o755] {
+        told(session, 100, &Call::Chmod { path: b"/", mode }, lines);
+        told(session, 100, &Call::Sync, lines);
+    }
+}
+
+/// Calls while one of the service's threads is held, which then goes on. Whether it had passed before, and whether it passed then.
+fn calls<R: Abort + Clock + Copy, C: Caller>(
+    what: What,
+    gate: &Watch<R>,
+    session: &mut C,
+    lines: &mut String,
+) -> (bool, bool) {
+    let stat = Call::Stat { path: b"/" };
+    match what {
+        What::Read => {
+            gate.hold();
+            told(session, 100, &stat, lines);
+        }
+        What::Write => {
+            told(session, 100, &stat, lines);
+            gate.hold();
+            changes(session, lines);
+        }
+        What::Flusher => {
+            let _ = gate.awaits_flusher();
+            told(session, 100, &stat, lines);
+        }
+    }
+    let is_early = gate.passed() > 0 || what.holds() == Holds::Flusher && gate.flusher_passed() > 0;
+    gate.let_go();
+    let has_passed = match what.holds() {
+        Holds::Flusher => gate.awaits_flush(),
+        _ => gate.awaits_passed(),
+    };
+    (is_early, has_passed)
+}
+
+impl<R: Threads + Wait + Abort + Clock + Copy + Send + Sync + 'static> Program<R> for Held<R> {
+    type Output = Option<Came>;
+
+    ghost gives = { λ program geometry opening output. Unit {0} };
+
+    fn run<
+        N: Room + Send + Sync + 'static,
+        L: Recorder<N> + Send + 'static,
+        S: FileServer<L> + Send + 'static,
+    >(self, service: Service<N, R, L, S>) -> Option<Came>
+        ensures { Unit {0} }
+    {
+        let mut lines = String::new(self.alloc);
+        let mut session = service.session(0, 0).ok()?;
+        let (is_early, has_passed) = calls(self.what, &self.gate, &mut session, &mut lines);
+        session.end();
+        let image = service.stop(self.alloc).ok()?;
+        Some(Came {
+            lines,
+            is_early,
+            has_passed,
+            image,
+        })
+    }
+}
+
+/// What comes of it over the small volume: these lines, and an image that is the volume changed by what drivers but the first wrote.
+fn comes_out<R: Threads + Wait + Abort + Clock + Copy + Send + Sync + 'static>(
+    alloc: Global,
+    rt: R,
+    what: What,
+    lines: &str,
+) -> Result<(), Fail> {
+    let image = new_volume(alloc, 1024)?;
+    let gate = Arc::new(alloc, Watch::new(rt, what.holds()))?;
+    let notes = Arc::new(alloc, Notes::new(alloc, rt))?;
+    let supply = drivers(alloc, 128, &[], &notes)?;
+    if matches!(what, What::Flusher) {
+        gate.hold();
+    }
+    let program = Held {
+        alloc,
+        what,
+        gate: Arc::try_clone(&gate)?,
+    };
+    let came = served(alloc, rt, &image, supply, &gate, program)?.ok_or("not stopped")?;
+    is_told(came.lines.as_str(), lines)?;
+    assert!(rt; !came.is_early && came.has_passed);
+    let changed = notes.changed(alloc, &image)?.ok_or("no memory for notes")?;
+    assert!(rt; came.image.as_slice() == changed.as_slice());
+    assert!(rt; !notes.has_written(1));
+    Ok(())
+}
+
+/// The first driver is held before its first step after the start until a later one has answered. The step that it takes then writes
+/// nothing.
+#[test]
+fn held_driver(rt: HostRuntime) -> Result<(), Fail> {
+    comes_out(rt.alloc(), rt, What::Read, ROOT)
+}
+
+/// The same, while the first driver has a write in work: what it would write by its next step is old by then.
+#[test]
+fn held_writer(rt: HostRuntime) -> Result<(), Fail> {
+    let mut lines = String::new(rt.alloc());
+    write!(lines, "{ROOT}ok\nok\nok\nok\n")?;
+    comes_out(rt.alloc(), rt, What::Write, lines.as_str())
+}
+
+/// The flusher is held before its first turn until a call was answered.
+#[test]
+fn held_flusher(rt: HostRuntime) -> Result<(), Fail> {
+    comes_out(rt.alloc(), rt, What::Flusher, ROOT)
+}

@@ -1,0 +1,74 @@
+//! A service that is stopped while a session is left.
+
+use crate::drivers::{Notes, drivers};
+use crate::setting::served;
+use crate::watch::{Holds, Watch};
+use counting_link::recorder::Recorder;
+use counting_link::room::Room;
+use file_server::FileServer;
+use fixtures::new_volume;
+use fixtures_sessions::callers::told;
+use fsck::{Verdict, check};
+use launch::program::Program;
+use serve::service::Service;
+use serve::stopping::StopRefusal;
+use std::alloc::Global;
+use std::process::Abort;
+use std::sync::{Arc, Wait};
+use std::test::*;
+use std::thread::Threads;
+use std::time::Clock;
+use tests_texts::is_told;
+use tree::Call;
+
+/// A session makes a directory, the service is stopped, and once more when the session has ended.
+#[derive(Drop)]
+struct StopsTwice {
+    alloc: Global,
+}
+
+impl<R: Threads + Wait + Abort + Clock + Copy + Send + Sync + 'static> Program<R> for StopsTwice {
+    /// A line for the answer, and the image. None where the first stop isn't refused since a session is left, or the second one is.
+    type Output = Option<(String, Vec<u8>)>;
+
+    ghost gives = { λ program geometry opening output. Unit {0} };
+
+    fn run<
+        N: Room + Send + Sync + 'static,
+        L: Recorder<N> + Send + 'static,
+        S: FileServer<L> + Send + 'static,
+    >(self, service: Service<N, R, L, S>) -> Option<(String, Vec<u8>)>
+        ensures { Unit {0} }
+    {
+        let mut lines = String::new(self.alloc);
+        let mut session = service.session(0, 0).ok()?;
+        let mkdir = Call::Mkdir {
+            path: b"/d",
+            mode: 0o755,
+        };
+        told(&mut session, 100, &mkdir, &mut lines);
+        let Err(StopRefusal::SessionsLeft(service)) = service.stop(self.alloc) else {
+            return None;
+        };
+        session.end();
+        let image = service.stop(self.alloc).ok()?;
+        Some((lines, image))
+    }
+}
+
+/// A stop with a session is refused, and the service goes on; once the session has ended it gives a sound volume, to which the directory
+/// was written.
+#[test]
+fn left(rt: HostRuntime) -> Result<(), Fail> {
+    let alloc = rt.alloc();
+    let image = new_volume(alloc, 1024)?;
+    let gate = Arc::new(alloc, Watch::new(rt, Holds::Flusher))?;
+    let notes = Arc::new(alloc, Notes::new(alloc, rt))?;
+    let supply = drivers(alloc, 128, &[], &notes)?;
+    let came = served(alloc, rt, &image, supply, &gate, StopsTwice { alloc })?;
+    let (lines, left) = came.ok_or("not refused, or not stopped")?;
+    is_told(lines.as_str(), "ok\n")?;
+    assert!(rt; matches!(check(alloc, &left), Ok(Verdict::Clean(_))));
+    assert!(rt; left.as_slice() != image.as_slice());
+    Ok(())
+}

@@ -1,0 +1,225 @@
+//! Sixty-four sessions write files of their own, in threads of their own, while drivers die.
+
+use crate::drivers::{Notes, drivers};
+use crate::setting::served;
+use crate::watch::{Holds, Watch};
+use counting_link::recorder::Recorder;
+use counting_link::room::Room;
+use file_server::FileServer;
+use fixtures_sessions::callers::Caller;
+use launch::program::Program;
+use modeldisk::{Fault, FaultKind};
+use new_volume::mkfs;
+use serve::service::{Service, Shared};
+use serve::session::Session;
+use std::alloc::{AllocError, Global};
+use std::process::Abort;
+use std::sync::{Arc, Wait};
+use std::test::*;
+use std::thread;
+use std::thread::Threads;
+use std::time::Clock;
+use tree::{Call, OpenFlags, Outcome, Reply};
+
+/// How many sessions there are.
+const SESSIONS: u8 = 64;
+
+/// How many bytes a write has, and how many writes each session makes.
+const PIECE: usize = 1500;
+
+const PIECES: u8 = 2;
+
+/// How many blocks of 4096 bytes the volume has, and how many sectors these are.
+const BLOCKS: u32 = 96;
+
+const SECTORS: u32 = 768;
+
+/// Each driver dies in its 26th request, when those before it have moved 200 sectors, eight each.
+const FAULT: Fault = Fault {
+    request: 26,
+    after: 0,
+    kind: FaultKind::Die,
+};
+
+/// How many drivers there are.
+const DRIVERS: usize = 150;
+
+/// The path of a session's file.
+fn path(number: u8) -> [u8; 3] {
+    [b'/', b'a' + number / 16, b'a' + number % 16]
+}
+
+/// The byte that a session writes in its so-manieth piece.
+fn byte(number: u8, piece: u8) -> u8 {
+    number.wrapping_mul(PIECES).wrapping_add(piece)
+}
+
+/// Opens a session's file.
+fn opened<C: Caller>(session: &mut C, number: u8, flags: OpenFlags) -> bool {
+    let open = Call::Open {
+        path: &path(number),
+        flags,
+        mode: 0o644,
+    };
+    session.make(100, &open) == Outcome::Reply(Reply::Descriptor(0))
+}
+
+/// A session makes its file and writes its pieces there. Whether each call was answered so.
+fn has_written<C: Caller>(session: &mut C, number: u8) -> bool {
+    let flags = OpenFlags::READ | OpenFlags::WRITE | OpenFlags::CREATE;
+    let mut is_right = opened(session, number, flags);
+    for piece in 0..PIECES {
+        let bytes = [byte(number, piece); PIECE];
+        let written = session.make(
+            100,
+            &Call::Write {
+                fd: 0,
+                bytes: &bytes,
+            },
+        );
+        is_right = is_right && written == Outcome::Reply(Reply::Wrote(PIECE as u32));
+    }
+    is_right
+}
+
+/// Whether a session's file has its bytes and no more.
+fn has_bytes<C: Caller>(session: &mut C, number: u8) -> bool {
+    let mut is_right = opened(session, number, OpenFlags::READ);
+    for piece in 0..PIECES {
+        let read = Call::Read {
+            fd: 0,
+            count: PIECE as u32,
+        };
+        is_right = is_right
+            && match session.make(200, &read) {
+                Outcome::Reply(Reply::Bytes(bytes)) => bytes.as_slice()
+                    == [byte(number, piece); PIECE].as_slice(),
+                _ => false,
+            };
+    }
+    let end = session.make(200, &Call::Read { fd: 0, count: 1 });
+    let is_end = matches!(end, Outcome::Reply(Reply::Bytes(bytes)) if bytes.is_empty());
+    let closed = session.make(200, &Call::Close { fd: 0 });
+    is_right && is_end && closed == Outcome::Reply(Reply::Done)
+}
+
+/// A session writes its file, and ends. Whether all was done.
+fn writes<N: Room, R: Threads + Wait + Copy, L: Recorder<N>, S: FileServer<L>>(
+    number: u8,
+    mut session: Session<N, Shared<N, R, L, S>>,
+) -> bool {
+    let is_right = has_written(&mut session, number);
+    session.end();
+    is_right
+}
+
+/// As many sessions as there are numbers, with their numbers.
+fn sessions<N: Room, R: Threads + Wait + Copy, L: Recorder<N>, S: FileServer<L>>(
+    alloc: Global,
+    service: &Service<N, R, L, S>,
+) -> Option<Vec<(u8, Session<N, Shared<N, R, L, S>>)>> {
+    let mut all = Vec::new(alloc);
+    for number in 0..SESSIONS {
+        all.push((number, service.session(0, 0).ok()?)).ok()?;
+    }
+    Some(all)
+}
+
+/// Each session writes its file in a thread of its own. Whether all was done by each.
+fn all_write<
+    N: Room + Send + Sync,
+    R: Threads + Wait + Copy + Send + Sync,
+    L: Recorder<N> + Send,
+    S: FileServer<L> + Send,
+>(alloc: Global, rt: &R, service: &Service<N, R, L, S>) -> Option<bool> {
+    let jobs = sessions(alloc, service)?;
+    let done = thread::map_vec(
+        rt,
+        jobs,
+        &|job: (u8, Session<N, Shared<N, R, L, S>>)| -> bool { writes(job.0, job.1) },
+    )
+    .ok()?;
+    Some(done.iter().all(|is_right| *is_right))
+}
+
+/// What is done with a service.
+#[derive(Clone, Copy, PartialEq, Eq)]
+enum What {
+    /// Each session writes its file.
+    Write,
+    /// One session reads all files.
+    Read,
+}
+
+/// It is done, and the service is stopped.
+#[derive(Drop)]
+struct Many<R: Threads + Copy> {
+    alloc: Global,
+    rt: R,
+    what: What,
+}
+
+impl<R: Threads + Wait + Abort + Clock + Copy + Send + Sync + 'static> Program<R> for Many<R> {
+    /// Whether all was done, and the image.
+    type Output = Option<(bool, Vec<u8>)>;
+
+    ghost gives = { λ program geometry opening output. Unit {0} };
+
+    fn run<
+        N: Room + Send + Sync + 'static,
+        L: Recorder<N> + Send + 'static,
+        S: FileServer<L> + Send + 'static,
+    >(self, service: Service<N, R, L, S>) -> Option<(bool, Vec<u8>)>
+        ensures { Unit {0} }
+    {
+        let is_right = match self.what {
+            What::Write => all_write(self.alloc, &self.rt, &service)?,
+            What::Read => {
+                let mut session = service.session(0, 0).ok()?;
+                let mut is_right = true;
+                for number in 0..SESSIONS {
+                    is_right = has_bytes(&mut session, number) && is_right;
+                }
+                session.end();
+                is_right
+            }
+        };
+        let image = service.stop(self.alloc).ok()?;
+        Some((is_right, image))
+    }
+}
+
+/// The drivers' faults: each dies.
+fn faults(alloc: Global) -> Result<Vec<Fault>, AllocError> {
+    vec![in alloc; FAULT; DRIVERS]
+}
+
+/// It is done over the volume in an image, while drivers die. The image that is left.
+fn done<R: Threads + Wait + Abort + Clock + Copy + Send + Sync + 'static>(
+    alloc: Global,
+    rt: R,
+    image: &[u8],
+    what: What,
+) -> Result<Vec<u8>, Fail> {
+    let gate = Arc::new(alloc, Watch::new(rt, Holds::Flusher))?;
+    let notes = Arc::new(alloc, Notes::new(alloc, rt))?;
+    let supply = drivers(alloc, SECTORS, faults(alloc)?.as_slice(), &notes)?;
+    let came = served(alloc, rt, image, supply, &gate, Many { alloc, rt, what })?;
+    let (is_right, left) = came.ok_or("not stopped")?;
+    let changed = notes.changed(alloc, image)?.ok_or("no memory for notes")?;
+    if is_right && gate.later() > 0 && left.as_slice() == changed.as_slice() {
+        return Ok(left);
+    }
+    Err(Fail::new(format_args!("all was answered: {is_right}")))
+}
+
+/// Each session's file has its bytes, as another service finds them.
+#[test]
+fn many_sessions(rt: HostRuntime) -> Result<(), Fail> {
+    let alloc = rt.alloc();
+    let image = mkfs(alloc, BLOCKS, 4096, 128, 50)?;
+    let left = done(alloc, rt, &image, What::Write)?;
+    let again = done(alloc, rt, &left, What::Read)?;
+    assert!(rt; again.as_slice() == left.as_slice());
+    Ok(())
+}
