@@ -45,7 +45,7 @@ pub fn two_in_threads<
     R: Threads + Wait + Copy + Send + Sync,
     L: Recorder<N> + Send,
     S: FileServer<L> + Send,
->(alloc: Global, rt: &R, service: Service<N, R, L, S>) -> Option<(String, String)> {
+>(alloc: Global, rt: &R, service: &Service<N, R, L, S>) -> Option<(String, String)> {
     let one = service.session(0, 0).ok()?;
     let two = service.session(7, 8).ok()?;
     Some(join(

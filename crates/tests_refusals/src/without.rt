@@ -112,11 +112,10 @@ impl<R: Threads + Wait + Copy + Send + Sync + 'static> Program<R> for Calls<'_> 
 
     ghost gives = { λ program geometry opening output. Unit {0} };
 
-    fn run<
-        N: Room + Send + Sync + 'static,
-        L: Recorder<N> + Send + 'static,
-        S: FileServer<L> + Send + 'static,
-    >(self, service: Service<N, R, L, S>) -> Option<Vec<Outcome>>
+    fn run<N: Room, L: Recorder<N>, S: FileServer<L>>(
+        self,
+        service: Service<N, R, L, S>,
+    ) -> Option<Vec<Outcome>>
         ensures { Unit {0} }
     {
         let mut session = service.session(0, 0).ok()?;

@@ -106,11 +106,10 @@ impl<R: Threads + Wait + Abort + Clock + Copy + Send + Sync + 'static> Program<R
 
     ghost gives = { λ program geometry opening output. Unit {0} };
 
-    fn run<
-        N: Room + Send + Sync + 'static,
-        L: Recorder<N> + Send + 'static,
-        S: FileServer<L> + Send + 'static,
-    >(self, service: Service<N, R, L, S>) -> Option<Came>
+    fn run<N: Room, L: Recorder<N>, S: FileServer<L>>(
+        self,
+        service: Service<N, R, L, S>,
+    ) -> Option<Came>
         ensures { Unit {0} }
     {
         let mut lines = String::new(self.alloc);

@@ -1,13 +1,12 @@
 //! Sixty-four sessions write files of their own, in threads of their own, while drivers die.
 
+use crate::at_once::{Came, What, at_once};
 use crate::drivers::{Notes, drivers};
-use crate::setting::served;
 use crate::watch::{Holds, Watch};
 use counting_link::recorder::Recorder;
 use counting_link::room::Room;
 use file_server::FileServer;
 use fixtures_sessions::callers::Caller;
-use launch::program::Program;
 use modeldisk::{Fault, FaultKind};
 use new_volume::mkfs;
 use serve::service::{Service, Shared};
@@ -94,11 +93,14 @@ fn has_bytes<C: Caller>(session: &mut C, number: u8) -> bool {
             && match session.make(200, &read) {
                 Outcome::Reply(Reply::Bytes(bytes)) => bytes.as_slice()
                     == [byte(number, piece); PIECE].as_slice(),
-                _ => false,
+                _other => false,
             };
     }
     let end = session.make(200, &Call::Read { fd: 0, count: 1 });
-    let is_end = matches!(end, Outcome::Reply(Reply::Bytes(bytes)) if bytes.is_empty());
+    let is_end = match end {
+        Outcome::Reply(Reply::Bytes(bytes)) => bytes.is_empty(),
+        _other => false,
+    };
     let closed = session.make(200, &Call::Close { fd: 0 });
     is_right && is_end && closed == Outcome::Reply(Reply::Done)
 }
@@ -126,7 +128,7 @@ fn sessions<N: Room, R: Threads + Wait + Copy, L: Recorder<N>, S: FileServer<L>>
 }
 
 /// Each session writes its file in a thread of its own. Whether all was done by each.
-fn all_write<
+pub(crate) fn write_all<
     N: Room + Send + Sync,
     R: Threads + Wait + Copy + Send + Sync,
     L: Recorder<N> + Send,
@@ -142,51 +144,17 @@ fn all_write<
     Some(done.iter().all(|is_right| *is_right))
 }
 
-/// What is done with a service.
-#[derive(Clone, Copy, PartialEq, Eq)]
-enum What {
-    /// Each session writes its file.
-    Write,
-    /// One session reads all files.
-    Read,
-}
-
-/// It is done, and the service is stopped.
-#[derive(Drop)]
-struct Many<R: Threads + Copy> {
-    alloc: Global,
-    rt: R,
-    what: What,
-}
-
-impl<R: Threads + Wait + Abort + Clock + Copy + Send + Sync + 'static> Program<R> for Many<R> {
-    /// Whether all was done, and the image.
-    type Output = Option<(bool, Vec<u8>)>;
-
-    ghost gives = { λ program geometry opening output. Unit {0} };
-
-    fn run<
-        N: Room + Send + Sync + 'static,
-        L: Recorder<N> + Send + 'static,
-        S: FileServer<L> + Send + 'static,
-    >(self, service: Service<N, R, L, S>) -> Option<(bool, Vec<u8>)>
-        ensures { Unit {0} }
-    {
-        let is_right = match self.what {
-            What::Write => all_write(self.alloc, &self.rt, &service)?,
-            What::Read => {
-                let mut session = service.session(0, 0).ok()?;
-                let mut is_right = true;
-                for number in 0..SESSIONS {
-                    is_right = has_bytes(&mut session, number) && is_right;
-                }
-                session.end();
-                is_right
-            }
-        };
-        let image = service.stop(self.alloc).ok()?;
-        Some((is_right, image))
+/// One session reads all files, and ends. Whether each has its bytes.
+pub(crate) fn has_all<N: Room, R: Threads + Wait + Copy, L: Recorder<N>, S: FileServer<L>>(
+    service: &Service<N, R, L, S>,
+) -> Option<bool> {
+    let mut session = service.session(0, 0).ok()?;
+    let mut is_right = true;
+    for number in 0..SESSIONS {
+        is_right = has_bytes(&mut session, number) && is_right;
     }
+    session.end();
+    Some(is_right)
 }
 
 /// The drivers' faults: each dies.
@@ -204,8 +172,9 @@ fn done<R: Threads + Wait + Abort + Clock + Copy + Send + Sync + 'static>(
     let gate = Arc::new(alloc, Watch::new(rt, Holds::Flusher))?;
     let notes = Arc::new(alloc, Notes::new(alloc, rt))?;
     let supply = drivers(alloc, SECTORS, faults(alloc)?.as_slice(), &notes)?;
-    let came = served(alloc, rt, image, supply, &gate, Many { alloc, rt, what })?;
-    let (is_right, left) = came.ok_or("not stopped")?;
+    let (Came::Files(is_right), left) = at_once(alloc, rt, image, supply, &gate, what)? else {
+        return Err(Fail::from("no files"));
+    };
     let changed = notes.changed(alloc, image)?.ok_or("no memory for notes")?;
     if is_right && gate.later() > 0 && left.as_slice() == changed.as_slice() {
         return Ok(left);

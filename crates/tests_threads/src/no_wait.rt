@@ -2,8 +2,8 @@
 
 ghost use Rattle.std.specs.Prelude.{◌≡◌};
 
+use crate::at_once::{Came, What, at_once};
 use crate::drivers::{Notes, drivers};
-use crate::setting::served;
 use crate::watch::{Holds, Watch};
 use board::{Board, Device, Seat};
 use counting_link::recorder::Recorder;
@@ -11,7 +11,6 @@ use counting_link::room::Room;
 use file_server::FileServer;
 use fixtures::{MOUNT_READS, ROOT, new_volume};
 use fixtures_sessions::callers::told;
-use launch::program::Program;
 use serve::service::{Service, Shared};
 use serve::session::Session;
 use std::alloc::Global;
@@ -32,21 +31,13 @@ fn felt(board: &Board, seat: &mut Seat) -> (u64, u32, (u32, u32))
 }
 
 /// Two sessions meet: how many marks each has seen then, and whether the device was given up. It is handed nothing that may wait.
-fn looked_at<N: Room, S>(one: &mut Session<N, S>, two: &mut Session<N, S>) -> (u64, u64, Device) {
+fn looked_at<N: Room, S>(one: &mut Session<N, S>, two: &mut Session<N, S>) -> Looked {
     one.meet(two);
     (one.seen(), two.seen(), one.device())
 }
 
-/// One session calls while drivers are held; two others look meanwhile.
-#[derive(Drop)]
-struct Looks<R: Threads + Abort + Clock + Copy> {
-    alloc: Global,
-    rt: R,
-    gate: Arc<Watch<R>>,
-}
-
-/// What a session is answered, and what others saw meanwhile, if the call was held then.
-type Came = (String, Option<(u64, u64, Device)>);
+/// How many marks each of two sessions that met has seen, and the device's state.
+pub(crate) type Looked = (u64, u64, Device);
 
 /// A session asks for the root, and ends.
 fn calls<N: Room, R: Threads + Wait + Copy, L: Recorder<N>, S: FileServer<L>>(
@@ -64,7 +55,7 @@ fn look<N: Room, R: Threads + Wait + Abort + Clock + Copy, L: Recorder<N>, S: Fi
     gate: &Watch<R>,
     mut one: Session<N, Shared<N, R, L, S>>,
     mut two: Session<N, Shared<N, R, L, S>>,
-) -> Option<(u64, u64, Device)> {
+) -> Option<Looked> {
     let is_held = gate.awaits_held();
     let seen = looked_at(&mut one, &mut two);
     let is_still_held = gate.passed() == 0;
@@ -78,31 +69,28 @@ fn look<N: Room, R: Threads + Wait + Abort + Clock + Copy, L: Recorder<N>, S: Fi
     }
 }
 
-impl<R: Threads + Wait + Abort + Clock + Copy + Send + Sync + 'static> Program<R> for Looks<R> {
-    type Output = Option<Came>;
-
-    ghost gives = { λ program geometry opening output. Unit {0} };
-
-    fn run<
-        N: Room + Send + Sync + 'static,
-        L: Recorder<N> + Send + 'static,
-        S: FileServer<L> + Send + 'static,
-    >(self, service: Service<N, R, L, S>) -> Option<Came>
-        ensures { Unit {0} }
-    {
-        let (alloc, gate) = (self.alloc, Arc::try_clone(&self.gate).ok()?);
-        let one = service.session(0, 0).ok()?;
-        let two = service.session(0, 0).ok()?;
-        let three = service.session(0, 0).ok()?;
-        self.gate.hold();
-        let came = join(
-            &self.rt,
-            move || calls(alloc, one),
-            move || look(&*gate, two, three),
-        );
-        service.stop(alloc).ok()?;
-        Some(came)
-    }
+/// One session calls while drivers are held, and two others look meanwhile; all three end. What the first is answered, and what the others
+/// saw, if the call was held then.
+pub(crate) fn look_meanwhile<
+    N: Room + Send + Sync,
+    R: Threads + Wait + Abort + Clock + Copy + Send + Sync,
+    L: Recorder<N> + Send,
+    S: FileServer<L> + Send,
+>(
+    alloc: Global,
+    rt: &R,
+    watch: Arc<Watch<R>>,
+    service: &Service<N, R, L, S>,
+) -> Option<(String, Option<Looked>)> {
+    let one = service.session(0, 0).ok()?;
+    let two = service.session(0, 0).ok()?;
+    let three = service.session(0, 0).ok()?;
+    watch.hold();
+    Some(join(
+        rt,
+        move || calls(alloc, one),
+        move || look(&*watch, two, three),
+    ))
 }
 
 /// The marks at the start are the first driver's start and its answers to the mount's reads; of more drivers there are more.
@@ -115,13 +103,10 @@ fn no_wait(rt: HostRuntime) -> Result<(), Fail> {
     let gate = Arc::new(alloc, Watch::new(rt, Holds::Drivers))?;
     let notes = Arc::new(alloc, Notes::new(alloc, rt))?;
     let supply = drivers(alloc, 128, &[], &notes)?;
-    let looks = Looks {
-        alloc,
-        rt,
-        gate: Arc::try_clone(&gate)?,
+    let (Came::Looked(lines, seen), _) = at_once(alloc, rt, &image, supply, &gate, What::Look)?
+    else {
+        return Err(Fail::from("not looked"));
     };
-    let came = served(alloc, rt, &image, supply, &gate, looks)?;
-    let (lines, seen) = came.ok_or("not stopped")?;
     is_told(lines.as_str(), ROOT)?;
     let (one, two, device) = seen.ok_or("no driver was held")?;
     assert!(rt; one == two && one >= u64::from(MOUNT_READS) + 1);

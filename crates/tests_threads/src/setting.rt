@@ -15,7 +15,7 @@ use std::time::Clock;
 
 /// The whole image is the volume. A driver that isn't scheduled for a while on a loaded machine is no fault under it, and no number of
 /// faults gives the device up while there are drivers.
-fn patient() -> Setup {
+pub(crate) fn patient() -> Setup {
     Setup {
         policy: Policy {
             max_faults: 32,

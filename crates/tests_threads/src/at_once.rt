@@ -1,0 +1,145 @@
+//! What is done in sessions that are in threads of their own.
+//!
+//! It isn't a `Program` of `launch`, whose `run` knows in one thread alone what its types keep; so the service is started here.
+
+ghost use Rattle.std.specs.Prelude.{◌≡◌, map};
+ghost use Rattle.records.specs.Opening.{contents_at};
+ghost use Rattle.mounting.specs.Laws.{sizes_in};
+ghost use Rattle.mounting.specs.Starting.{opening_of, IsPrepared};
+ghost use Rattle.true_replies.specs.Events.{opening_media};
+ghost use Rattle.board.specs.View.{IsKeeper, opener};
+
+use crate::drivers::Noting;
+use crate::many::{has_all, write_all};
+use crate::no_wait::{Looked, look_meanwhile};
+use crate::setting::patient;
+use crate::watch::Watch;
+use bdev::BlockDriver;
+use board::{Board, Seat};
+use counting_link::recorder::Recorder;
+use counting_link::room::Room;
+use file_server::FileServer;
+use fixtures_sessions::services::two_in_threads;
+use launch::start::started;
+use mounting::{Prepared, prepare};
+use reincarnate::policy::Setup;
+use serve::service::Service;
+use std::alloc::Global;
+use std::marker::Brand;
+use std::process::Abort;
+use std::sync::{Arc, Wait};
+use std::test::Fail;
+use std::thread::Threads;
+use std::time::Clock;
+
+/// What sessions do, each in a thread of its own.
+#[derive(Clone, Copy, PartialEq, Eq)]
+pub(crate) enum What {
+    /// Two ask for the root.
+    Ask,
+    /// One asks for the root while drivers are held; two others look meanwhile.
+    Look,
+    /// Each of sixty-four writes its file.
+    Write,
+    /// One reads all these files.
+    Read,
+}
+
+/// What came of it.
+#[derive(Drop)]
+pub(crate) enum Came {
+    /// The lines of both.
+    Asked(String, String),
+    /// The lines of the one, and what the others saw meanwhile, if it was held then.
+    Looked(String, Option<Looked>),
+    /// Whether all was answered as it should be.
+    Files(bool),
+}
+
+/// It is done. None where a session or memory was wanting.
+fn done<
+    N: Room + Send + Sync,
+    R: Threads + Wait + Abort + Clock + Copy + Send + Sync,
+    L: Recorder<N> + Send,
+    S: FileServer<L> + Send,
+>(
+    alloc: Global,
+    rt: &R,
+    what: What,
+    watch: Arc<Watch<R>>,
+    service: &Service<N, R, L, S>,
+) -> Option<Came> {
+    match what {
+        What::Ask => {
+            let (one, two) = two_in_threads(alloc, rt, service)?;
+            Some(Came::Asked(one, two))
+        }
+        What::Look => {
+            let (lines, looked) = look_meanwhile(alloc, rt, watch, service)?;
+            Some(Came::Looked(lines, looked))
+        }
+        What::Write => Some(Came::Files(write_all(alloc, rt, service)?)),
+        What::Read => Some(Came::Files(has_all(service)?)),
+    }
+}
+
+// Starts the service, does it, and stops the service: what came of it, and the image that is left. The caller picks `N` from what it
+// hands over.
+fn start_and_do<
+    N: Room + Send + Sync + 'static,
+    R: Threads + Wait + Abort + Clock + Copy + Send + Sync + 'static,
+>(
+    alloc: Global,
+    rt: R,
+    board: Board,
+    seat: Seat,
+    prepared: Prepared,
+    image: &[u8],
+    setup: &Setup,
+    supply: Vec<Noting<R>>,
+    watch: &Arc<Watch<R>>,
+    what: What,
+) -> Result<(Came, Vec<u8>), Fail>
+    requires board { board ≡ N.table }
+    requires seat { IsKeeper N.table seat × (seat.view ≡ opener) }
+    requires opening { N.opening ≡ opening_of image.now setup.now.minor prepared.range }
+    requires geometry { N.geometry ≡ sizes_in (contents_at N.opening) }
+    requires prepared { IsPrepared image.now setup.now (map ⟦<Noting<R> as BlockDriver>⟧.state supply.items) prepared.range }
+    requires contents { prepared.media ≡ opening_media N.opening }
+{
+    let (gate, watch) = (Arc::try_clone(watch)?, Arc::try_clone(watch)?);
+    let service = started::<N, R, Noting<R>, Watch<R>>(
+        alloc, rt, board, seat, prepared, image, setup, supply, gate,
+    );
+    let Ok(service) = service else {
+        return Err(Fail::from("not started"));
+    };
+    let came = done(alloc, &rt, what, watch, &service).ok_or("not done")?;
+    match service.stop(alloc) {
+        Ok(left) => Ok((came, left)),
+        Err(_) => Err(Fail::from("not stopped")),
+    }
+}
+
+/// What comes of it over the volume in an image, and the image that is left.
+pub(crate) fn at_once<R: Threads + Wait + Abort + Clock + Copy + Send + Sync + 'static>(
+    alloc: Global,
+    rt: R,
+    image: &[u8],
+    supply: Vec<Noting<R>>,
+    watch: &Arc<Watch<R>>,
+    what: What,
+) -> Result<(Came, Vec<u8>), Fail> {
+    let setup = patient();
+    let Ok(prepared) = prepare(alloc, image, &setup, &supply) else {
+        return Err(Fail::from("not prepared"));
+    };
+    let (board, seat) = Board::new(alloc)?;
+    let came = start_and_do::<Brand, R>(
+        alloc, rt, board, seat, prepared, image, &setup, supply, watch, what,
+    )?;
+    if watch.is_in_time() {
+        return Ok(came);
+    }
+    Err(Fail::from("a thread was held for too long"))
+}
