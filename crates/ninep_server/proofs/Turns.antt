@@ -1,5 +1,5 @@
 -- Turns and what was asked before them.
-use Rattle.std.proofs.Common.{◌≡◌, ℕ, List, [], ◌∷◌, Result, Ok, Err, OnOk, refl, subst, inl, inr, ◌⊎◌}
+use Rattle.std.proofs.Common.{◌≡◌, ◌∙◌, ◌<◌, ◌+◌, ℕ, Bool, true, false, sym, List, [], ◌∷◌, Result, Ok, Err, OnOk, OnErr, is_ok, refl, subst, inl, inr, ◌⊎◌}
 use Rattle.ninep_server.specs.declared.heard.Heard.{Heard}
 use Rattle.ninep_server.specs.declared.answer.Said.{Said}
 use Rattle.ninep_server.specs.declared.answer.Said.TheVariants as said
@@ -9,8 +9,19 @@ use Rattle.tree.specs.declared.Call.TheVariants as call
 use Rattle.ninep_server.specs.declared.answer.Answer.{Answer}
 use Rattle.ninep_server.specs.declared.ask.Ask.{Ask}
 use Rattle.ninep_server.specs.declared.ask.Ask.TheVariants as ask
-use Rattle.ninep_server.specs.Written.{IsWritten, too_long}
-use Rattle.ninep_server.specs.Connections.{Answers}
+use Rattle.ninep_server.specs.Written.{IsWritten, IsSaidIn, too_long, tag_in}
+use Rattle.ninep_server.specs.Connections.{Answers, Says}
+use Rattle.errno.specs.declared.Errno.TheVariants.{ENOMEM}
+use Rattle.ninep.specs.Parts.{Gives}
+use Rattle.ninep.specs.Reading.{request_at}
+use Rattle.ninep.specs.Requests.{view}
+use Rattle.ninep.specs.declared.fault.Fault.{Fault}
+use Rattle.ninep.specs.declared.request.Message.{Message}
+use Rattle.ninep_server.specs.Knowledge.{Known}
+use Rattle.ninep_server.specs.Plans.{Follows}
+use Rattle.ninep_server.specs.Answering.{IsAnswered, plan_for}
+use Rattle.ninep_server.specs.declared.refused.Refused.TheVariants.{By}
+use Rattle.ninep_server.specs.declared.answer.Answer.TheVariants as answer
 use Rattle.ninep_server.specs.Talks.{Exchange, IsPlain, IsBehindSync, IsDone, Reaches, HasAsked}
 
 -- what doesn't say that a sync was done may be said behind anything
@@ -68,11 +79,43 @@ at_mark tag mark limit from old new what same_tag same h =
 -- what was said is written, or that it is too long
 pub answered : {S A E : Type 0} (may : S → Ask → Heard → S → Type 0) (tag mark limit : ℕ) (s t : S) (from old new : List ℕ) (it : Said)
     (r : Result A E) → tag ≡ mark → from ≡ old → HasAsked may s it t
-    → OnOk r (IsWritten limit tag it from new ⊎ IsWritten limit tag too_long from new) → OnOk r (Answers may mark limit s t old new)
+    → OnOk r (IsSaidIn limit tag it from new) → OnOk r (Answers may mark limit s t old new)
 answered may tag mark limit s t from old new it (Err e) same_tag same asked written = tt
 answered may tag mark limit s t from old new it (Ok a) same_tag same asked (inl written) =
     (it, asked, at_mark tag mark limit from old new it same_tag same written)
 answered may tag mark limit s t from old new it (Ok a) same_tag same asked (inr written) =
-    (too_long, (asked.0, asked.1, λ e. absurd (isnt_synced e)), at_mark tag mark limit from old new too_long same_tag same written) where
+    (too_long, (asked.0, asked.1, λ e. absurd (isnt_synced e)), at_mark tag mark limit from old new too_long same_tag same written.1) where
       isnt_synced : too_long ≡ said.Synced → ⊥
       isnt_synced e = cc
+
+-- where there is room
+pub with_room : {S : Type 0} (may : S → Ask → Heard → S → Type 0) (now : ℕ) (bytes : List ℕ) (has_room : Bool) (s t : S) (k l : Known)
+    (it : Said) (read : Result Message Fault) → has_room ≡ true → Gives (λ (m : Message). view m) read (request_at bytes)
+    → Follows may (plan_for k now read) s k it t l → IsAnswered may now bytes has_room s k it t l
+with_room may now bytes true s t k l it read e exact followed = (read, exact, followed)
+with_room may now bytes false s t k l it read e exact followed = absurd (no e) where
+  no : false ≡ true → ⊥
+  no f = cc
+
+pub without_room : {S : Type 0} (may : S → Ask → Heard → S → Type 0) (now : ℕ) (bytes : List ℕ) (has_room : Bool) (s : S) (k : Known)
+    → has_room ≡ false → IsAnswered may now bytes has_room s k (said.Plain (answer.Refused (By ENOMEM))) s k
+without_room may now bytes true s k e = absurd (no e) where
+  no : true ≡ false → ⊥
+  no f = cc
+without_room may now bytes false s k e = ((λ most. refl), refl, refl)
+
+-- room is only wanting where it was missing
+pub wants_room : {A E : Type 0} (r : Result A E) (b : Bool) (P : Type 0) → b ≡ is_ok r → OnErr r P → b ≡ false → P
+wants_room (Ok a) b P e h f = absurd (no (sym e ∙ f)) where
+  no : true ≡ false → ⊥
+  no x = cc
+wants_room (Err x) b P e h f = h
+
+pub said_so : {S A E : Type 0} (may : S → Ask → Heard → S → Type 0) (now : ℕ) (bytes : List ℕ) (s t : S) (k l : Known)
+    (len capacity tag : ℕ) (from old new : List ℕ) (it : Said) (has_room : Bool) (r : Result A E) → tag ≡ tag_in bytes → from ≡ old
+    → IsAnswered may now bytes has_room s k it t l → (has_room ≡ false → capacity < len + k.message_size)
+    → OnOk r (IsSaidIn l.message_size tag it from new) → OnOk r (Says may now bytes s k t l len capacity old new)
+said_so may now bytes s t k l len capacity tag from old new it has_room (Err e) same_tag same answered room written = tt
+said_so may now bytes s t k l len capacity tag from old new it has_room (Ok a) same_tag same answered room written =
+    (it, has_room, answered, room,
+    subst (λ (m : ℕ). IsSaidIn l.message_size m it old new) same_tag (subst (λ (o : List ℕ). IsSaidIn l.message_size tag it o new) same written))

@@ -6,3 +6,9 @@ pub mod Written
 pub mod Sending
 pub mod Connections
 pub mod Fids
+pub mod Knowledge
+pub mod Hearing
+pub mod Plans
+pub mod Messages
+pub mod Progress
+pub mod Answering

@@ -1,5 +1,5 @@
 -- The bytes of what is said to a message.
-use Rattle.std.specs.Prelude.{◌≡◌, ◌≤◌, ℕ, ◌+◌, ◌-◌, Bool, List, [], ◌∷◌, ◌++◌, length, take, slice_index, codes, if◌then◌else◌}
+use Rattle.std.specs.Prelude.{◌≡◌, ◌≤◌, ◌<◌, ◌⊎◌, ℕ, ◌+◌, ◌-◌, Bool, List, [], ◌∷◌, ◌++◌, length, take, slice_index, codes, if◌then◌else◌}
 use Rattle.std.specs.List.{flat_map}
 use Rattle.std.specs.Int.{w16, from_le_bytes}
 use Rattle.ninep.specs.Fields.{One, Two, Four, Eight, Field, Number, Text, Data, fields_bytes}
@@ -105,3 +105,7 @@ size_told limit s = 7 + length (fields_bytes (said_fields (limit - 24) s))
 -- one message more, of at most so many bytes: this is said
 abbrev pub IsWritten : ℕ → ℕ → Said → List ℕ → List ℕ → Type 0
 IsWritten limit tag s old new = (new ≡ old ++ spelling (told limit tag s)) × (size_told limit s ≤ limit)
+
+-- this is said, or that it has more bytes than a message may have
+abbrev pub IsSaidIn : ℕ → ℕ → Said → List ℕ → List ℕ → Type 0
+IsSaidIn limit tag s old new = IsWritten limit tag s old new ⊎ ((limit < size_told limit s) × IsWritten limit tag too_long old new)

@@ -1,5 +1,10 @@
 //! Attributes: told, and changed.
 
+ghost use Rattle.std.specs.Prelude.{◌≡◌};
+ghost use Rattle.ninep_server.specs.Knowledge.{known_of};
+ghost use Rattle.ninep_server.specs.Messages.{room_told, attributes_told, telling};
+ghost use Rattle.ninep_server.specs.Progress.{AsksNext, BeginsAs, GoesOnAs, left_of_getattr};
+
 use crate::answer::Answer;
 use crate::ask::Ask;
 use crate::fid::{Kind, Node};
@@ -22,7 +27,9 @@ const BASIC: u64 = 0x7ff;
 const BEST: u64 = 4096;
 
 /// The room of the volume, as an answer has it.
-pub(crate) fn room_of(room: &Room) -> reply::Room {
+pub(crate) fn room_of(room: &Room) -> reply::Room
+    ensures { result ≡ room_told room.now }
+{
     reply::Room {
         kind: KIND,
         block_size: room.block_size,
@@ -37,7 +44,9 @@ pub(crate) fn room_of(room: &Room) -> reply::Room {
 }
 
 /// The attributes of a node, as an answer has them. Its blocks are counted by its size.
-fn told(attributes: &Attributes) -> reply::Attributes {
+fn told(attributes: &Attributes) -> reply::Attributes
+    ensures { result ≡ attributes_told attributes.now }
+{
     let size = u64::from(attributes.size);
     reply::Attributes {
         valid: BASIC,
@@ -69,7 +78,9 @@ pub(crate) struct Getattr {
 
 impl Getattr {
     /// ESTALE where the node has lost its name and isn't open.
-    pub(crate) fn begin<'m>(knows: &Knows, fid: u32) -> Result<Next<'m>, Refused> {
+    pub(crate) fn begin<'m>(knows: &Knows, fid: u32) -> Result<Next<'m>, Refused>
+        ensures { BeginsAs (telling (known_of knows.now) fid) knows.now knows.now result }
+    {
         let file = knows.fids.get(fid)?;
         if file.gone && file.descriptor.is_none() {
             return Err(Refused::Stale);
@@ -81,7 +92,9 @@ impl Getattr {
         })))
     }
 
-    pub(crate) fn ask(&self) -> Ask<'_> {
+    pub(crate) fn ask(&self) -> Ask<'_>
+        ensures { AsksNext (left_of_getattr self.now) result }
+    {
         let call = match self.descriptor {
             Some(fd) => Call::Fstat { fd },
             None => Call::Lstat {
@@ -94,7 +107,9 @@ impl Getattr {
         }
     }
 
-    pub(crate) fn hear<'m>(self, heard: Heard) -> Result<Next<'m>, Refused> {
+    pub(crate) fn hear<'m>(self, heard: Heard) -> Result<Next<'m>, Refused>
+        ensures { GoesOnAs (left_of_getattr self) heard result }
+    {
         Ok(Next::Done(Answer::Getattr(told(&heard.attributes()?))))
     }
 }

@@ -1,6 +1,9 @@
 //! How the answer to a message begins.
 
 ghost use Rattle.ninep_server.specs.Talks.{IsPlain};
+ghost use Rattle.ninep_server.specs.Knowledge.{known_of};
+ghost use Rattle.ninep_server.specs.Messages.{of_fid, of_node, of_name, of_file, plan_of};
+ghost use Rattle.ninep_server.specs.Progress.{BeginsAs, Leaves, left_of_turn};
 
 use crate::answer::{Answer, Said};
 use crate::attach::{Attach, Version};
@@ -20,7 +23,8 @@ use ninep::request::Request;
 
 /// How the answer to a message begins, at this time.
 pub(crate) fn begin<'m>(knows: &mut Knows, now: u32, request: &Request<'m>) -> Turn<'m>
-    ensures { IsPlain result }
+    ensures plain { IsPlain result }
+    ensures begun { Leaves (plan_of (known_of knows.old) now request.now) (known_of knows.old) (left_of_turn result) (known_of knows.new) }
 {
     match *request {
         Request::Fsync { fid, .. } => match knows.fids.get(fid) {
@@ -32,7 +36,9 @@ pub(crate) fn begin<'m>(knows: &mut Knows, now: u32, request: &Request<'m>) -> T
 }
 
 /// Of a request that makes fids or lets them go, or is none of those below.
-fn on_fid<'m>(knows: &mut Knows, now: u32, request: &Request<'m>) -> Result<Next<'m>, Refused> {
+fn on_fid<'m>(knows: &mut Knows, now: u32, request: &Request<'m>) -> Result<Next<'m>, Refused>
+    ensures { BeginsAs (of_fid (known_of knows.old) now request.now) knows.old knows.new result }
+{
     match *request {
         Request::Version {
             message_size,
@@ -52,7 +58,9 @@ fn on_fid<'m>(knows: &mut Knows, now: u32, request: &Request<'m>) -> Result<Next
 }
 
 /// Of a request about a node or a name.
-fn on_node<'m>(knows: &Knows, now: u32, request: &Request<'m>) -> Result<Next<'m>, Refused> {
+fn on_node<'m>(knows: &Knows, now: u32, request: &Request<'m>) -> Result<Next<'m>, Refused>
+    ensures { BeginsAs (of_node (known_of knows.now) now request.now) knows.now knows.now result }
+{
     match *request {
         Request::Getattr { fid, .. } => Getattr::begin(knows, fid),
         Request::Setattr {
@@ -87,7 +95,9 @@ fn on_node<'m>(knows: &Knows, now: u32, request: &Request<'m>) -> Result<Next<'m
 }
 
 /// Of a request about a name.
-fn on_name<'m>(knows: &Knows, request: &Request<'m>) -> Result<Next<'m>, Refused> {
+fn on_name<'m>(knows: &Knows, request: &Request<'m>) -> Result<Next<'m>, Refused>
+    ensures { BeginsAs (of_name (known_of knows.now) request.now) knows.now knows.now result }
+{
     match *request {
         Request::Symlink {
             directory,
@@ -127,7 +137,9 @@ fn on_name<'m>(knows: &Knows, request: &Request<'m>) -> Result<Next<'m>, Refused
 }
 
 /// Of a request about an open file, or one that is opened.
-fn on_file<'m>(knows: &Knows, request: &Request<'m>) -> Result<Next<'m>, Refused> {
+fn on_file<'m>(knows: &Knows, request: &Request<'m>) -> Result<Next<'m>, Refused>
+    ensures { BeginsAs (of_file (known_of knows.now) request.now) knows.now knows.now result }
+{
     match *request {
         Request::Open { fid, flags } => Opening::begin(knows, fid, flags),
         Request::Create {

@@ -1,8 +1,13 @@
 //! A connection, which answers messages.
 
-ghost use Rattle.std.specs.Prelude.{◌≡◌, ◌<◌, length, IfOk, IfErr, IsErr, OnOk, ◌↔◌, Err};
+ghost use Rattle.std.specs.Prelude.{◌≡◌, ◌<◌, ◌⊎◌, ℕ, suc, length, vec_len, vec_capacity, IfOk, IfErr, IsErr, OnOk, ◌↔◌, Err};
 ghost use Rattle.ninep_server.specs.Talks.{MayHear, Reaches, HasAsked};
 ghost use Rattle.ninep_server.specs.Written.{tag_in};
+ghost use Rattle.ninep_server.specs.Knowledge.{known_of};
+ghost use Rattle.ninep_server.specs.Plans.{Follows};
+ghost use Rattle.ninep_server.specs.Answering.{IsAnswered};
+ghost use Rattle.ninep_server.specs.Messages.{plan_of, refusal_for};
+ghost use Rattle.ninep_server.specs.Progress.{IsCarriedOn, IsLoose, Within, left_of_turn};
 
 use crate::answer::{Answer, Said};
 use crate::ask::Ask;
@@ -45,7 +50,9 @@ fn heard<S: Sessions>(sessions: &mut S, now: u32, ask: &Ask<'_>) -> Heard
 }
 
 /// Why a message isn't taken that has a tag.
-fn refusal_of(fault: Fault) -> Refused {
+fn refusal_of(fault: Fault) -> Refused
+    ensures { result ≡ refusal_for fault }
+{
     match fault {
         Fault::Unknown => Refused::Unsupported,
         Fault::Short | Fault::Size | Fault::ManyNames | Fault::Trailing => {
@@ -68,8 +75,12 @@ fn tag_of(bytes: &[u8]) -> Result<u16, End>
 
 /// Asks what a turn waits for, and goes on from what is answered.
 fn step<'m, S: Sessions>(knows: &mut Knows, sessions: &mut S, now: u32, turn: Turn<'m>) -> Turn<'m>
-    ensures { (start : S) → Reaches (MayHear S.called S.entered S.left now) start turn.entry sessions.old
+    ensures reaches { (start : S) → Reaches (MayHear S.called S.entered S.left now) start turn.entry sessions.old
         → Reaches (MayHear S.called S.entered S.left now) start result sessions.new }
+    ensures carried { IsCarriedOn (MayHear S.called S.entered S.left now) (left_of_turn turn.entry) sessions.old (known_of knows.old)
+        (left_of_turn result) sessions.new (known_of knows.new) }
+    ensures few { (n : ℕ) → Within (left_of_turn turn.entry) (suc n) → Within (left_of_turn result) n
+        ⊎ IsLoose (MayHear S.called S.entered S.left now) (left_of_turn turn.entry) sessions.old (known_of knows.old) }
 {
     match turn {
         Turn::Said(said) => Turn::Said(said),
@@ -85,11 +96,14 @@ fn step<'m, S: Sessions>(knows: &mut Knows, sessions: &mut S, now: u32, turn: Tu
 }
 
 /// What is said to a request, once what it asks of the sessions was asked in turn.
+#[tactic(auto, using(crate::proofs::Following::carried, crate::proofs::Following::begins_few, crate::proofs::Following::goes_few, crate::proofs::Following::carried_further, crate::proofs::Following::ends, crate::proofs::Bounds::plan_within, crate::proofs::Bounds::none_left))]
 fn serve<S: Sessions>(knows: &mut Knows, sessions: &mut S, now: u32, request: &Request<'_>) -> Said
-    ensures { HasAsked (MayHear S.called S.entered S.left now) sessions.old result sessions.new }
+    ensures asked { HasAsked (MayHear S.called S.entered S.left now) sessions.old result sessions.new }
+    ensures followed { Follows (MayHear S.called S.entered S.left now) (plan_of (known_of knows.old) now request.now) sessions.old
+        (known_of knows.old) result sessions.new (known_of knows.new) }
 {
     let mut turn = begin(knows, now, request);
-    'turns: for _ in 0..MOST_ASKED {
+    'turns: for _asked in 0..MOST_ASKED {
         match turn {
             Turn::Said(said) => return said,
             waiting => turn = step(knows, sessions, now, waiting),
@@ -102,6 +116,7 @@ fn serve<S: Sessions>(knows: &mut Knows, sessions: &mut S, now: u32, request: &R
 }
 
 /// What is said to a message, or that there is no room for what could be said.
+#[tactic(auto, using(crate::proofs::Turns::with_room, crate::proofs::Turns::without_room))]
 fn said_to<S: Sessions>(
     knows: &mut Knows,
     sessions: &mut S,
@@ -109,7 +124,9 @@ fn said_to<S: Sessions>(
     bytes: &[u8],
     has_room: bool,
 ) -> Said
-    ensures { HasAsked (MayHear S.called S.entered S.left now) sessions.old result sessions.new }
+    ensures asked { HasAsked (MayHear S.called S.entered S.left now) sessions.old result sessions.new }
+    ensures followed { IsAnswered (MayHear S.called S.entered S.left now) now bytes.now has_room sessions.old (known_of knows.old) result
+        sessions.new (known_of knows.new) }
 {
     if !has_room {
         return Said::Plain(Answer::Refused(Refused::By(Errno::ENOMEM)));
@@ -121,7 +138,7 @@ fn said_to<S: Sessions>(
 }
 
 impl Connection {
-    ghost use Rattle.ninep_server.specs.Connections.{Answers, limit_of};
+    ghost use Rattle.ninep_server.specs.Connections.{Answers, Says, limit_of, known};
 
     /// A connection of no user, whose messages have at most 65560 bytes until a version is settled.
     pub fn new(alloc: Global) -> Connection
@@ -153,6 +170,8 @@ impl Connection {
     ) -> Result<(), End>
         ensures answered { OnOk result (Answers (MayHear S.called S.entered S.left now) (tag_in bytes.now) (limit_of self.new)
             sessions.old sessions.new out.old.items out.new.items) }
+        ensures said { OnOk result (Says (MayHear S.called S.entered S.left now) now bytes.now sessions.old (known self.old) sessions.new
+            (known self.new) (vec_len out.old) (vec_capacity out.old) out.old.items out.new.items) }
         ensures short { (result ≡ Err End.NoMessage) ↔ (length bytes.now < 7) }
         ensures none { result ≡ Err End.NoMessage → (sessions.new ≡ sessions.old) × (out.new.items ≡ out.old.items) }
     {

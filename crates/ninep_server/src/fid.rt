@@ -1,5 +1,7 @@
 //! What a fid is.
 
+ghost use Rattle.std.specs.Prelude.{◌≡◌};
+
 use crate::paths::{joined, rest};
 use crate::users::User;
 use ninep::reply::Qid;
@@ -22,8 +24,12 @@ pub(crate) struct Node {
 }
 
 impl Node {
+    ghost use Rattle.ninep_server.specs.Messages.{node_of, qid_of};
+
     /// The node with these attributes.
-    pub(crate) fn of(attributes: &Attributes) -> Node {
+    pub(crate) fn of(attributes: &Attributes) -> Node
+        ensures { result ≡ node_of attributes.now }
+    {
         let kind = match attributes.mode / 0o10000 {
             0o04 => Kind::Directory,
             0o12 => Kind::Symlink,
@@ -36,7 +42,9 @@ impl Node {
     }
 
     /// Its name to the client.
-    pub(crate) fn qid(&self) -> Qid {
+    pub(crate) fn qid(&self) -> Qid
+        ensures { result ≡ qid_of self.now }
+    {
         let kind = match self.kind {
             Kind::File => 0,
             Kind::Directory => 0x80,

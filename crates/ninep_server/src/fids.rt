@@ -1,5 +1,11 @@
 //! The fids of a connection.
 
+ghost use Rattle.std.specs.Prelude.{◌≡◌, OnErr};
+ghost use Rattle.std.specs.Result.{result_map_both};
+ghost use Rattle.std.specs.Map.{remove_entry};
+ghost use Rattle.std.specs.BTreeMap.{is_at};
+ghost use Rattle.std.specs.Ordering.{nat_cmp};
+
 use crate::fid::{Fid, Node};
 use crate::refused::Refused;
 use errno::Errno;
@@ -16,6 +22,8 @@ pub(crate) struct Fids {
 }
 
 impl Fids {
+    ghost use Rattle.ninep_server.specs.Knowledge.{table_of, found, named, opened, seen, file_of};
+
     /// None.
     pub(crate) fn new(alloc: Global) -> Fids {
         Fids {
@@ -24,7 +32,9 @@ impl Fids {
     }
 
     /// What a fid stands for; EBADF where there is none.
-    pub(crate) fn get(&self, fid: u32) -> Result<&Fid, Refused> {
+    pub(crate) fn get(&self, fid: u32) -> Result<&Fid, Refused>
+        ensures { seen result ≡ found (table_of self.now) fid }
+    {
         match self.fids.get(&fid) {
             Some(found) => Ok(found),
             None => Err(Refused::By(Errno::EBADF)),
@@ -32,7 +42,9 @@ impl Fids {
     }
 
     /// What a fid stands for whose node has its name; ESTALE where it has lost it.
-    pub(crate) fn named(&self, fid: u32) -> Result<&Fid, Refused> {
+    pub(crate) fn named(&self, fid: u32) -> Result<&Fid, Refused>
+        ensures { seen result ≡ named (table_of self.now) fid }
+    {
         let found = self.get(fid)?;
         if found.gone {
             return Err(Refused::Stale);
@@ -41,7 +53,9 @@ impl Fids {
     }
 
     /// The descriptor of an open fid, with its session; EBADF where it isn't open.
-    pub(crate) fn open(&self, fid: u32) -> Result<(u8, u32), Refused> {
+    pub(crate) fn open(&self, fid: u32) -> Result<(u8, u32), Refused>
+        ensures { result ≡ opened (table_of self.now) fid }
+    {
         let found = self.get(fid)?;
         match found.descriptor {
             Some(fd) => Ok((found.user.session, fd)),
@@ -78,7 +92,11 @@ impl Fids {
     }
 
     /// Lets a fid go.
-    pub(crate) fn take(&mut self, fid: u32) -> Result<Fid, Refused> {
+    pub(crate) fn take(&mut self, fid: u32) -> Result<Fid, Refused>
+        ensures taken { result_map_both file_of (λ e. e) result ≡ found (table_of self.old) fid }
+        ensures same { OnErr result (table_of self.new ≡ table_of self.old) }
+        ensures left { table_of self.new ≡ remove_entry (is_at (nat_cmp fid)) (table_of self.old) }
+    {
         match self.fids.remove(&fid) {
             Some(taken) => Ok(taken),
             None => Err(Refused::By(Errno::EBADF)),

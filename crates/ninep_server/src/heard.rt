@@ -1,6 +1,9 @@
 //! What the sessions answer.
 
-ghost use Rattle.std.specs.Prelude.{IsOk, IfOk};
+ghost use Rattle.std.specs.Prelude.{◌≡◌, Ok, Err, IsOk, IfOk, MatchResult};
+ghost use Rattle.std.specs.Result.{result_map_both};
+ghost use Rattle.tree.specs.declared.Reply.TheVariants as reply;
+ghost use Rattle.ninep_server.specs.Hearing.{reply_in, done_in, attributes_in, descriptor_in, position_in, bytes_in, count_in, room_in, target_in};
 ghost use Rattle.ninep_server.specs.Talks.{IsDone, Replies};
 
 use crate::refused::Refused;
@@ -31,7 +34,8 @@ impl Heard {
 
     /// The reply of a call that wasn't refused; a call that was cut is EIO.
     fn reply(self) -> Result<Reply, Refused>
-        ensures { IfOk result (λ reply. Replies self reply) }
+        ensures told { result ≡ reply_in self }
+        ensures replies { IfOk result (λ it. Replies self it) }
     {
         match self {
             Heard::Outcome(Outcome::Reply(Reply::Refused(errno))) => Err(Refused::By(errno)),
@@ -44,7 +48,8 @@ impl Heard {
 
     /// That the call was done.
     pub(crate) fn done(self) -> Result<(), Refused>
-        ensures { IsOk result → IsDone self }
+        ensures done { IsOk result → IsDone self }
+        ensures told { MatchResult result (λ _. done_in self ≡ Ok reply.Done) (λ e. done_in self ≡ Err e) }
     {
         match self.reply()? {
             Reply::Done => Ok(()),
@@ -53,7 +58,9 @@ impl Heard {
     }
 
     /// The attributes of a node.
-    pub(crate) fn attributes(self) -> Result<Attributes, Refused> {
+    pub(crate) fn attributes(self) -> Result<Attributes, Refused>
+        ensures { result ≡ attributes_in self }
+    {
         match self.reply()? {
             Reply::Inode(attributes) => Ok(attributes),
             _ => Err(Refused::By(Errno::EIO)),
@@ -61,23 +68,29 @@ impl Heard {
     }
 
     /// A descriptor.
-    pub(crate) fn descriptor(self) -> Result<u32, Refused> {
+    pub(crate) fn descriptor(self) -> Result<u32, Refused>
+        ensures { result ≡ descriptor_in self }
+    {
         match self.reply()? {
             Reply::Descriptor(fd) => Ok(fd),
             _ => Err(Refused::By(Errno::EIO)),
         }
     }
 
-    /// That the position was set.
-    pub(crate) fn at(self) -> Result<(), Refused> {
+    /// The position that was set.
+    pub(crate) fn at(self) -> Result<u32, Refused>
+        ensures { result ≡ position_in self }
+    {
         match self.reply()? {
-            Reply::At(_) => Ok(()),
+            Reply::At(position) => Ok(position),
             _ => Err(Refused::By(Errno::EIO)),
         }
     }
 
     /// The bytes of a file.
-    pub(crate) fn bytes(self) -> Result<Vec<u8>, Refused> {
+    pub(crate) fn bytes(self) -> Result<Vec<u8>, Refused>
+        ensures { result_map_both (λ bytes. bytes.items) (λ e. e) result ≡ bytes_in self }
+    {
         match self.reply()? {
             Reply::Bytes(bytes) => Ok(bytes),
             _ => Err(Refused::By(Errno::EIO)),
@@ -85,7 +98,9 @@ impl Heard {
     }
 
     /// How many bytes were written.
-    pub(crate) fn wrote(self) -> Result<u32, Refused> {
+    pub(crate) fn wrote(self) -> Result<u32, Refused>
+        ensures { result ≡ count_in self }
+    {
         match self.reply()? {
             Reply::Wrote(count) => Ok(count),
             _ => Err(Refused::By(Errno::EIO)),
@@ -101,7 +116,9 @@ impl Heard {
     }
 
     /// The room of the volume.
-    pub(crate) fn space(self) -> Result<Room, Refused> {
+    pub(crate) fn space(self) -> Result<Room, Refused>
+        ensures { result ≡ room_in self }
+    {
         match self.reply()? {
             Reply::Space(room) => Ok(room),
             _ => Err(Refused::By(Errno::EIO)),
@@ -109,7 +126,9 @@ impl Heard {
     }
 
     /// The target of a symbolic link.
-    pub(crate) fn target(self) -> Result<LinkTarget, Refused> {
+    pub(crate) fn target(self) -> Result<LinkTarget, Refused>
+        ensures { result ≡ target_in self }
+    {
         match self.reply()? {
             Reply::Target(target) => Ok(target),
             _ => Err(Refused::By(Errno::EIO)),

@@ -1,6 +1,6 @@
 //! What a connection knows.
 
-ghost use Rattle.std.specs.Prelude.{◌≡◌, ◌+◌, ◌≤◌};
+ghost use Rattle.std.specs.Prelude.{◌≡◌, ◌-◌, ◌≤◌};
 
 use crate::fids::Fids;
 use crate::users::Users;
@@ -39,9 +39,10 @@ impl Knows {
         }
     }
 
+    #[tactic(auto, using(crate::proofs::Following::carried, crate::proofs::Bounds::plan_within, crate::proofs::Turns::said_so, crate::proofs::SendLaws::too_much, crate::proofs::Tables::found_seen))]
     /// The most bytes that a read, a write or a list of names may move.
     pub(crate) fn most(&self) -> u32
-        ensures { result + 24 ≡ self.now.message_size }
+        ensures { result ≡ self.now.message_size - 24 }
     {
         self.message_size - HEAD
     }

@@ -1,5 +1,10 @@
 //! Opening, letting go, and reading a link.
 
+ghost use Rattle.std.specs.Prelude.{◌≡◌, Ok, take};
+ghost use Rattle.ninep_server.specs.Knowledge.{known_of};
+ghost use Rattle.ninep_server.specs.Messages.{said_of, closing, clunking, following, target_of};
+ghost use Rattle.ninep_server.specs.Progress.{AsksNext, BeginsAs, GoesOnAs, left_of_close, left_of_readlink, left_of_next};
+
 use crate::answer::Answer;
 use crate::ask::Ask;
 use crate::fid::Kind;
@@ -10,7 +15,7 @@ use crate::refused::Refused;
 use crate::work::{Next, Work};
 use bitflags::Flags;
 use errno::Errno;
-use tree::{Call, MAX_TARGET, OpenFlags};
+use tree::{Call, LinkTarget, MAX_TARGET, OpenFlags};
 
 /// The bits of Linux's flags of open that mean something here; the others are passed over.
 const ACCESS: u32 = 0o3;
@@ -96,33 +101,45 @@ impl Opening {
 pub(crate) struct Close {
     session: u8,
     fd: u32,
-    then: Answer,
+    answer: Answer,
 }
 
 impl Close {
     /// Closes a descriptor, if there is one; then this is answered.
-    pub(crate) fn begin<'m>(session: u8, descriptor: Option<u32>, then: Answer) -> Next<'m> {
+    pub(crate) fn begin<'m>(session: u8, descriptor: Option<u32>, answer: Answer) -> Next<'m>
+        ensures { left_of_next (Ok result) ≡ closing session descriptor (said_of answer) }
+    {
         match descriptor {
-            Some(fd) => Next::Go(Work::Close(Close { session, fd, then })),
-            None => Next::Done(then),
+            Some(fd) => Next::Go(Work::Close(Close {
+                session,
+                fd,
+                answer,
+            })),
+            None => Next::Done(answer),
         }
     }
 
     /// Lets a fid go.
-    pub(crate) fn clunk<'m>(knows: &mut Knows, fid: u32) -> Result<Next<'m>, Refused> {
+    pub(crate) fn clunk<'m>(knows: &mut Knows, fid: u32) -> Result<Next<'m>, Refused>
+        ensures { BeginsAs (clunking (known_of knows.old) fid) knows.old knows.new result }
+    {
         let gone = knows.fids.take(fid)?;
         Ok(Close::begin(gone.user.session, gone.descriptor, Answer::Clunk))
     }
 
-    pub(crate) fn ask(&self) -> Ask<'_> {
+    pub(crate) fn ask(&self) -> Ask<'_>
+        ensures { AsksNext (left_of_close self.now) result }
+    {
         Ask::Call {
             session: self.session,
             call: Call::Close { fd: self.fd },
         }
     }
 
-    pub(crate) fn hear<'m>(self) -> Next<'m> {
-        Next::Done(self.then)
+    pub(crate) fn hear<'m>(self) -> Next<'m>
+        ensures { result ≡ Next.Done self.answer }
+    {
+        Next::Done(self.answer)
     }
 }
 
@@ -133,8 +150,21 @@ pub(crate) struct Readlink {
     path: Vec<u8>,
 }
 
+/// Its bytes.
+fn bytes_of(target: &LinkTarget) -> &[u8]
+    ensures { result.now ≡ target_of target.now }
+{
+    if target.length <= MAX_TARGET {
+        &target.bytes[..target.length]
+    } else {
+        &target.bytes
+    }
+}
+
 impl Readlink {
-    pub(crate) fn begin<'m>(knows: &Knows, fid: u32) -> Result<Next<'m>, Refused> {
+    pub(crate) fn begin<'m>(knows: &Knows, fid: u32) -> Result<Next<'m>, Refused>
+        ensures { BeginsAs (following (known_of knows.now) fid) knows.now knows.now result }
+    {
         let link = knows.fids.named(fid)?;
         Ok(Next::Go(Work::Readlink(Readlink {
             session: link.user.session,
@@ -142,7 +172,9 @@ impl Readlink {
         })))
     }
 
-    pub(crate) fn ask(&self) -> Ask<'_> {
+    pub(crate) fn ask(&self) -> Ask<'_>
+        ensures { AsksNext (left_of_readlink self.now) result }
+    {
         Ask::Call {
             session: self.session,
             call: Call::Readlink {
@@ -151,10 +183,11 @@ impl Readlink {
         }
     }
 
-    pub(crate) fn hear<'m>(self, knows: &Knows, heard: Heard) -> Result<Next<'m>, Refused> {
+    pub(crate) fn hear<'m>(self, knows: &Knows, heard: Heard) -> Result<Next<'m>, Refused>
+        ensures { GoesOnAs (left_of_readlink self) heard result }
+    {
         let target = heard.target()?;
-        let length = target.length.min(MAX_TARGET);
-        let bytes = target.bytes[..length].to_vec(knows.alloc)?;
+        let bytes = bytes_of(&target).to_vec(knows.alloc)?;
         Ok(Next::Done(Answer::Readlink(bytes)))
     }
 }

@@ -1,11 +1,11 @@
 //! Answers, as they are written.
 
-ghost use Rattle.std.specs.Prelude.{◌≡◌, ◌∷◌, ◌⊎◌, ◌≤◌, length, take, OnOk, IfErr};
+ghost use Rattle.std.specs.Prelude.{◌≡◌, ◌∷◌, ◌≤◌, length, take, OnOk, IfErr};
 ghost use Rattle.std.specs.List.{AllByRecursion, flat_map};
 ghost use Rattle.ninep.specs.Fields.{Two, Number, Fits};
 ghost use Rattle.ninep.specs.Replies.{qid_fields, reply_fields};
 ghost use Rattle.ninep.specs.declared.reply.Reply.{Reply as ToClient};
-ghost use Rattle.ninep_server.specs.Written.{answer_number, answer_fields, said_number, said_fields, too_long, IsWritten};
+ghost use Rattle.ninep_server.specs.Written.{answer_number, answer_fields, said_number, said_fields, too_long, IsWritten, IsSaidIn};
 ghost use Rattle.ninep_server.specs.Sending.{IsSent};
 
 use crate::answer::{Answer, Said};
@@ -25,7 +25,7 @@ const UNLOCKED: u8 = 2;
 const SPOKEN: &[u8] = b"9P2000.L";
 
 /// The first of some bytes, at most so many.
-fn within(bytes: &[u8], most: u32) -> &[u8]
+pub(crate) fn within(bytes: &[u8], most: u32) -> &[u8]
     ensures bytes { result.now ≡ take most bytes.now }
     ensures short { length result.now ≤ most }
 {
@@ -183,10 +183,10 @@ fn refuse(out: &mut Vec<u8>, limit: u32, tag: u16) -> Result<(), End>
 /// Writes what is said with this tag. Where that is longer than a message may be, EIO is said.
 ///
 /// An error: no memory was found for it, and a part of it may have been written.
+#[tactic(auto, using(crate::proofs::SendLaws::too_much))]
 pub(crate) fn send(out: &mut Vec<u8>, limit: u32, tag: u16, said: &Said) -> Result<(), End>
     requires { 4096 ≤ limit }
-    ensures ok { OnOk result (IsWritten limit tag said.now out.old.items out.new.items
-        ⊎ IsWritten limit tag too_long out.old.items out.new.items) }
+    ensures ok { OnOk result (IsSaidIn limit tag said.now out.old.items out.new.items) }
     ensures err { IfErr result (λ e. e ≡ End.OutOfMemory) }
 {
     match write(out, limit, tag, &reply_to(said, limit - HEAD)) {

@@ -1,10 +1,16 @@
 //! Reads and writes: a seek to the offset, and then the call.
 
+ghost use Rattle.std.specs.Prelude.{◌≡◌, min};
+ghost use Rattle.ninep_server.specs.Knowledge.{known_of};
+ghost use Rattle.ninep_server.specs.Messages.{reading, writing};
+ghost use Rattle.ninep_server.specs.Progress.{AsksNext, BeginsAs, GoesOnAs, left_of_transfer};
+
 use crate::answer::Answer;
 use crate::ask::Ask;
 use crate::heard::Heard;
 use crate::knows::Knows;
 use crate::refused::Refused;
+use crate::send::within;
 use crate::work::{Next, Work};
 use errno::Errno;
 use tree::{Call, MAX_SIZE, MAX_TRANSFER, Whence};
@@ -28,6 +34,13 @@ pub(crate) struct Transfer<'m> {
     moved: Moved<'m>,
 }
 
+/// The smaller one.
+fn least(a: u32, b: u32) -> u32
+    ensures { result ≡ min a b }
+{
+    if a < b { a } else { b }
+}
+
 impl<'m> Transfer<'m> {
     /// Reads at most so many bytes, and at most what an answer and a read of the server may have. Past the largest offset there are none.
     pub(crate) fn read(
@@ -35,12 +48,14 @@ impl<'m> Transfer<'m> {
         fid: u32,
         offset: u64,
         count: u32,
-    ) -> Result<Next<'m>, Refused> {
+    ) -> Result<Next<'m>, Refused>
+        ensures { BeginsAs (reading (known_of knows.now) fid offset count) knows.now knows.now result }
+    {
         let (session, fd) = knows.fids.open(fid)?;
         if offset > u64::from(MAX_SIZE) {
             return Ok(Next::Done(Answer::Read(Vec::new(knows.alloc))));
         }
-        let count = count.min(knows.most()).min(MAX_TRANSFER);
+        let count = least(least(count, knows.most()), MAX_TRANSFER);
         Ok(Next::Go(Work::Transfer(Transfer {
             session,
             fd,
@@ -55,24 +70,27 @@ impl<'m> Transfer<'m> {
         fid: u32,
         offset: u64,
         bytes: &'m [u8],
-    ) -> Result<Next<'m>, Refused> {
+    ) -> Result<Next<'m>, Refused>
+        ensures { BeginsAs (writing (known_of knows.now) fid offset bytes.now) knows.now knows.now result }
+    {
         let (session, fd) = knows.fids.open(fid)?;
         if offset > u64::from(MAX_SIZE) {
             return Err(Refused::By(Errno::EFBIG));
         }
-        let count = bytes.len().min(MAX_TRANSFER as usize);
         Ok(Next::Go(Work::Transfer(Transfer {
             session,
             fd,
             seek: Some(offset as i64),
             moved: Moved::Write {
-                bytes: &bytes[..count],
+                bytes: within(bytes, MAX_TRANSFER),
             },
         })))
     }
 
     /// The call of its stage.
-    fn call(&self) -> Call<'_> {
+    fn call(&self) -> Call<'_>
+        ensures { AsksNext (left_of_transfer self.now) (Ask.Call self.now.session result) }
+    {
         let fd = self.fd;
         match (self.seek, self.moved) {
             (Some(offset), _) => Call::Seek {
@@ -85,22 +103,25 @@ impl<'m> Transfer<'m> {
         }
     }
 
-    pub(crate) fn ask(&self) -> Ask<'_> {
+    pub(crate) fn ask(&self) -> Ask<'_>
+        ensures { AsksNext (left_of_transfer self.now) result }
+    {
         Ask::Call {
             session: self.session,
             call: self.call(),
         }
     }
 
-    pub(crate) fn hear(self, heard: Heard) -> Result<Next<'m>, Refused> {
-        if self.seek.is_some() {
-            heard.at()?;
-            return Ok(Next::Go(Work::Transfer(Transfer { seek: None, ..self })));
+    pub(crate) fn hear(self, heard: Heard) -> Result<Next<'m>, Refused>
+        ensures { GoesOnAs (left_of_transfer self.entry) heard result }
+    {
+        match (self.seek, self.moved) {
+            (Some(_), _) => {
+                heard.at()?;
+                Ok(Next::Go(Work::Transfer(Transfer { seek: None, ..self })))
+            }
+            (None, Moved::Read { .. }) => Ok(Next::Done(Answer::Read(heard.bytes()?))),
+            (None, Moved::Write { .. }) => Ok(Next::Done(Answer::Write(heard.wrote()?))),
         }
-        let answer = match self.moved {
-            Moved::Read { .. } => Answer::Read(heard.bytes()?),
-            Moved::Write { .. } => Answer::Write(heard.wrote()?),
-        };
-        Ok(Next::Done(answer))
     }
 }

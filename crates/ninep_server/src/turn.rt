@@ -1,7 +1,10 @@
 //! How the answer to a message goes on.
 
-ghost use Rattle.std.specs.Prelude.{◌⊎◌};
+ghost use Rattle.std.specs.Prelude.{◌≡◌, ◌⊎◌};
 ghost use Rattle.ninep_server.specs.Talks.{IsPlain, IsDone};
+ghost use Rattle.ninep_server.specs.Knowledge.{Known};
+ghost use Rattle.ninep_server.specs.Messages.{synced};
+ghost use Rattle.ninep_server.specs.Progress.{Leaves, left_of_next, left_of_turn};
 
 use crate::answer::{Answer, Said};
 use crate::heard::Heard;
@@ -22,7 +25,8 @@ pub(crate) enum Turn<'m> {
 impl<'m> Turn<'m> {
     /// A refusal is an answer. None says that a sync was done.
     pub(crate) fn of(next: Result<Next<'m>, Refused>) -> Turn<'m>
-        ensures { IsPlain result }
+        ensures plain { IsPlain result }
+        ensures left { left_of_turn result ≡ left_of_next next.entry }
     {
         match next {
             Ok(Next::Go(work)) => Turn::Go(work),
@@ -33,7 +37,8 @@ impl<'m> Turn<'m> {
 
     /// Behind a sync: that it was done, where it was, or why it wasn't.
     pub(crate) fn synced(heard: Heard) -> Turn<'m>
-        ensures { IsDone heard ⊎ IsPlain result }
+        ensures told { IsDone heard ⊎ IsPlain result }
+        ensures left { (k : Known) → Leaves (synced heard) k (left_of_turn result) k }
     {
         let said = match heard.done() {
             Ok(()) => Said::Synced,

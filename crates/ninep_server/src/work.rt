@@ -1,5 +1,9 @@
 //! What the answer to a message waits for.
 
+ghost use Rattle.ninep_server.specs.Knowledge.{known_of};
+ghost use Rattle.ninep_server.specs.Messages.{measuring};
+ghost use Rattle.ninep_server.specs.Progress.{AsksNext, Leaves, GoesOnAs, behind, left_of, left_of_next};
+
 use crate::answer::Answer;
 use crate::ask::Ask;
 use crate::attach::{Attach, Version};
@@ -50,7 +54,9 @@ pub(crate) enum Next<'m> {
 
 impl<'m> Work<'m> {
     /// What it asks of the sessions.
-    pub(crate) fn ask(&self) -> Ask<'_> {
+    pub(crate) fn ask(&self) -> Ask<'_>
+        ensures { AsksNext (left_of self.now) result }
+    {
         match self {
             Work::Version(_) => Ask::Leave,
             Work::Attach(work) => work.ask(),
@@ -76,7 +82,9 @@ impl<'m> Work<'m> {
     }
 
     /// How it goes on once that was answered.
-    pub(crate) fn hear(self, knows: &mut Knows, heard: Heard) -> Result<Next<'m>, Refused> {
+    pub(crate) fn hear(self, knows: &mut Knows, heard: Heard) -> Result<Next<'m>, Refused>
+        ensures { Leaves (behind (left_of self.entry) heard) (known_of knows.old) (left_of_next result) (known_of knows.new) }
+    {
         match self {
             Work::Version(work) => Ok(work.hear(knows)),
             Work::Attach(work) => work.hear(knows, heard),
@@ -94,13 +102,15 @@ impl<'m> Work<'m> {
             Work::Unlink(work) => work.hear(knows, heard),
             Work::Remove(work) => work.hear(knows, heard),
             Work::Close(work) => Ok(work.hear()),
-            Work::Statfs(_) => room_told(heard),
+            Work::Statfs(session) => room_told(session, heard),
         }
     }
 }
 
 /// The answer to a statfs.
-fn room_told<'m>(heard: Heard) -> Result<Next<'m>, Refused> {
+fn room_told<'m>(session: u8, heard: Heard) -> Result<Next<'m>, Refused>
+    ensures { GoesOnAs (measuring session) heard result }
+{
     let room = heard.space()?;
     Ok(Next::Done(Answer::Statfs(crate::attributes::room_of(&room))))
 }

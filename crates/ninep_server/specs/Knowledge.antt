@@ -1,0 +1,72 @@
+-- What a connection knows: its users, and what its fids stand for.
+use Rattle.std.specs.Prelude.{◌≡◌, ℕ, Bool, true, false, List, map, Option, Some, None, Result, Ok, Err}
+use Rattle.std.specs.Borrow.{Bor}
+use Rattle.std.specs.Option.{ok_or}
+use Rattle.std.specs.Ordering.{nat_cmp}
+use Rattle.std.specs.BTreeMap.{is_at}
+use Rattle.std.specs.Map.{lookup}
+use Rattle.errno.specs.declared.Errno.TheVariants.{EBADF}
+use Rattle.ninep_server.specs.declared.refused.Refused.{Refused}
+use Rattle.ninep_server.specs.declared.refused.Refused.TheVariants.{By, Stale}
+use Rattle.ninep_server.specs.declared.users.User.{User}
+use Rattle.ninep_server.specs.declared.fid.Node.{Node}
+use Rattle.ninep_server.specs.declared.fid.Fid.{Fid}
+use Rattle.ninep_server.specs.declared.fids.Fids.{Fids}
+use Rattle.ninep_server.specs.declared.knows.Knows.{Knows}
+
+-- What a fid stands for: the user whose session uses it, where its node's name is, the node, its descriptor if it is open, and whether the
+-- node has lost that name.
+pub record File : Type 0 where
+  pub user : User
+  pub path : List ℕ
+  pub node : Node
+  pub descriptor : Option ℕ
+  pub gone : Bool
+
+-- the most bytes of a message, the users who are attached, and the fids by their numbers, in order
+pub record Known : Type 0 where
+  pub message_size : ℕ
+  pub users : List User
+  pub fids : List (ℕ × File)
+
+abbrev pub file_of : Fid → File
+file_of f = record { user = f.user; path = f.path.items; node = f.node; descriptor = f.descriptor; gone = f.gone }
+
+abbrev pub entry_of : ℕ × Fid → ℕ × File
+entry_of e = (e.0, file_of e.1)
+
+abbrev pub table_of : Fids → List (ℕ × File)
+table_of fids = map entry_of fids.fids.entries
+
+abbrev pub known_of : Knows → Known
+known_of k = record { message_size = k.message_size; users = k.users.users.items; fids = table_of k.fids }
+
+-- what comes next, where something was found
+abbrev pub then_of : {A B : Type 0} → Result A Refused → (A → Result B Refused) → Result B Refused
+then_of (Ok a) next = next a
+then_of (Err refused) next = Err refused
+
+-- what a fid stands for
+abbrev pub found : List (ℕ × File) → ℕ → Result File Refused
+found fids fid = ok_or (lookup (is_at (nat_cmp fid)) fids) (By EBADF)
+
+-- a file by its name, which it mustn't have lost
+abbrev pub by_name : File → Bool → Result File Refused
+by_name file true = Err Stale
+by_name file false = Ok file
+
+abbrev pub named : List (ℕ × File) → ℕ → Result File Refused
+named fids fid = then_of (found fids fid) (λ file. by_name file file.gone)
+
+-- the session and the descriptor of a file, which must be open
+abbrev pub by_descriptor : File → Option ℕ → Result (ℕ × ℕ) Refused
+by_descriptor file None = Err (By EBADF)
+by_descriptor file (Some fd) = Ok (file.user.session, fd)
+
+abbrev pub opened : List (ℕ × File) → ℕ → Result (ℕ × ℕ) Refused
+opened fids fid = then_of (found fids fid) (λ file. by_descriptor file file.descriptor)
+
+-- what was found, as it is seen
+abbrev pub seen : Result (Bor Fid) Refused → Result File Refused
+seen (Ok fid) = Ok (file_of fid.now)
+seen (Err refused) = Err refused

@@ -1,0 +1,216 @@
+-- What each message asks, and what is answered.
+use Rattle.std.specs.Prelude.{ℕ, ◌+◌, ◌-◌, ◌/◌, min, pos, ℤ, Bool, true, false, List, [], ◌∷◌, take, nat_lt, Option, Some, None, if◌then◌else◌, ◌==◌}
+use Rattle.std.specs.Int.{div_ceil}
+use Rattle.errno.specs.declared.Errno.TheVariants.{EFBIG, EINVAL}
+use Rattle.ninep.specs.Fields.{Text, Data}
+use Rattle.ninep.specs.Requests.{Body}
+use Rattle.ninep.specs.declared.fault.Fault.{Fault}
+use Rattle.ninep.specs.declared.fault.Fault.TheVariants as fault
+use Rattle.ninep.specs.declared.reply.Qid.{Qid}
+use Rattle.ninep.specs.declared.reply.Room.{Room as RoomTold}
+use Rattle.ninep.specs.declared.reply.Attributes.{Attributes as AttributesTold}
+use Rattle.ninep.specs.declared.request.Request.{Request}
+use Rattle.ninep.specs.declared.request.Request.TheVariants as request
+use Rattle.tree.specs.declared.Attributes.{Attributes}
+use Rattle.tree.specs.declared.LinkTarget.{LinkTarget}
+use Rattle.tree.specs.declared.Room.{Room}
+use Rattle.tree.specs.declared.Call.TheVariants as call
+use Rattle.tree.specs.declared.Whence.TheVariants.{Set}
+use Rattle.ninep_server.specs.Paths.{called}
+use Rattle.ninep_server.specs.Knowledge.{Known, File, found, named, opened}
+use Rattle.ninep_server.specs.Hearing.{done_in, attributes_in, position_in, bytes_in, count_in, room_in, target_in}
+use Rattle.ninep_server.specs.Plans.{Plan, Open, Says, Changes, OrNoMemory, Drops, reply, body_said, refuses, with_it, calls, at}
+use Rattle.ninep_server.specs.declared.refused.Refused.{Refused}
+use Rattle.ninep_server.specs.declared.refused.Refused.TheVariants.{By, Stale, Unsupported}
+use Rattle.ninep_server.specs.declared.fid.Kind.{Kind}
+use Rattle.ninep_server.specs.declared.fid.Kind.TheVariants as kind
+use Rattle.ninep_server.specs.declared.fid.Node.{Node}
+use Rattle.ninep_server.specs.declared.transfer.Moved.{Moved}
+use Rattle.ninep_server.specs.declared.transfer.Moved.TheVariants as moved
+use Rattle.ninep_server.specs.declared.heard.Heard.{Heard}
+use Rattle.ninep_server.specs.declared.answer.Answer.{Answer}
+use Rattle.ninep_server.specs.declared.answer.Answer.TheVariants as answer
+use Rattle.ninep_server.specs.declared.answer.Said.TheVariants as said
+
+abbrev pub said_of : Answer → ℕ → Body
+said_of a = body_said (said.Plain a)
+
+abbrev pub says : Answer → Plan
+says a = Says (said_of a)
+
+-- the node with these attributes: its type is that of its mode
+abbrev pub kind_of : ℕ → Kind
+kind_of mode =
+    if mode / 4096 == 4 then kind.Directory else if mode / 4096 == 10 then kind.Symlink else kind.File
+
+abbrev pub node_of : Attributes → Node
+node_of a = record { inode = a.inode; kind = kind_of a.mode }
+
+-- the type of a file in its qid
+abbrev pub qid_kind : Kind → ℕ
+qid_kind kind.File = 0
+qid_kind kind.Directory = 0x80
+qid_kind kind.Symlink = 0x02
+
+abbrev pub qid_of : Node → Qid
+qid_of node = record { kind = qid_kind node.kind; version = 0; path = node.inode }
+
+-- the attributes of a node: blocks are counted by its size, times are whole seconds
+abbrev pub attributes_told : Attributes → AttributesTold
+attributes_told a = record {
+  valid = 0x7ff;
+  qid = qid_of (node_of a);
+  mode = a.mode;
+  uid = a.uid;
+  gid = a.gid;
+  links = a.links;
+  device = 0;
+  size = a.size;
+  block_size = 4096;
+  blocks = div_ceil a.size 512;
+  atime = (a.atime, 0);
+  mtime = (a.mtime, 0);
+  ctime = (a.ctime, 0);
+  made = (0, 0);
+  generation = 0;
+  data_version = 0;
+}
+
+-- the room of the volume, by zones
+abbrev pub room_told : Room → RoomTold
+room_told room = record {
+  kind = 0x01021997;
+  block_size = room.block_size;
+  blocks = room.zones;
+  free = room.free_zones;
+  available = room.free_zones;
+  files = room.inodes;
+  free_files = room.free_inodes;
+  id = 0;
+  name_length = 60;
+}
+
+-- Rread
+abbrev pub says_bytes : List ℕ → Plan
+says_bytes bytes = Says (λ most. reply 117 (Data (take most bytes) ∷ []) most)
+
+-- a read or a write, at the position
+abbrev pub moving : ℕ → ℕ → Moved → Plan
+moving session fd (moved.Read count) = calls session (call.Read fd count) (λ h. with_it (bytes_in h) says_bytes)
+moving session fd (moved.Write bytes) =
+    calls session (call.Write fd (at bytes.now)) (λ h. with_it (count_in h) (λ count. says (answer.Write count)))
+
+-- first a seek, where an offset is given
+abbrev pub transferring : ℕ → ℕ → Option ℤ → Moved → Plan
+transferring session fd None what = moving session fd what
+transferring session fd (Some offset) what =
+    calls session (call.Seek fd Set offset) (λ h. with_it (position_in h) (λ _. moving session fd what))
+
+-- Tread: at most so many bytes from the offset on, and at most what an answer and a read of the server may have; past the largest offset none
+abbrev pub reading : Known → ℕ → ℕ → ℕ → Plan
+reading k fid offset count = with_it (opened k.fids fid) (λ file.
+    if nat_lt 2147483647 offset then says_bytes []
+    else transferring file.0 file.1 (Some (pos offset)) (moved.Read (min (min count (k.message_size - 24)) 65536)))
+
+-- Twrite: at most as many bytes as a write of the server takes
+abbrev pub writing : Known → ℕ → ℕ → List ℕ → Plan
+writing k fid offset bytes = with_it (opened k.fids fid) (λ file.
+    if nat_lt 2147483647 offset then refuses (By EFBIG)
+    else transferring file.0 file.1 (Some (pos offset)) (moved.Write (at (take 65536 bytes))))
+
+-- Tgetattr: by the descriptor of an open fid, else by its path
+abbrev pub looking : ℕ → List ℕ → Option ℕ → Plan
+looking session path None =
+    calls session (call.Lstat (at (called path))) (λ h. with_it (attributes_in h) (λ a. says (answer.Getattr (attributes_told a))))
+looking session path (Some fd) =
+    calls session (call.Fstat fd) (λ h. with_it (attributes_in h) (λ a. says (answer.Getattr (attributes_told a))))
+
+abbrev pub attributes_of : File → Option ℕ → Bool → Plan
+attributes_of file None true = refuses Stale
+attributes_of file None false = OrNoMemory (looking file.user.session file.path None)
+attributes_of file (Some fd) gone = OrNoMemory (looking file.user.session file.path (Some fd))
+
+abbrev pub telling : Known → ℕ → Plan
+telling k fid = with_it (found k.fids fid) (λ file. attributes_of file file.descriptor file.gone)
+
+-- Tfsync: Rfsync behind a sync that was done
+abbrev pub synced : Heard → Plan
+synced h = with_it (done_in h) (λ _. Says (body_said said.Synced))
+
+abbrev pub syncing : ℕ → Plan
+syncing session = calls session call.Sync synced
+
+-- a descriptor is closed, if there is one, and then this is said, whatever the close says
+abbrev pub closing : ℕ → Option ℕ → (ℕ → Body) → Plan
+closing session None body = Says body
+closing session (Some fd) body = calls session (call.Close fd) (λ h. Says body)
+
+-- Tclunk: the fid is let go
+abbrev pub clunking : Known → ℕ → Plan
+clunking k fid = with_it (found k.fids fid)
+    (λ file. Changes (Drops fid) (closing file.user.session file.descriptor (said_of answer.Clunk)))
+
+-- Tstatfs
+abbrev pub measuring : ℕ → Plan
+measuring session = calls session call.Statfs (λ h. with_it (room_in h) (λ room. says (answer.Statfs (room_told room))))
+
+-- Treadlink
+abbrev pub target_of : LinkTarget → List ℕ
+target_of target = take target.length target.bytes
+
+abbrev pub reading_link : ℕ → List ℕ → Plan
+reading_link session path = calls session (call.Readlink (at (called path))) (λ h. with_it (target_in h)
+    (λ target. OrNoMemory (Says (λ most. reply 23 (Text (take 1023 (target_of target)) ∷ []) most))))
+
+abbrev pub following : Known → ℕ → Plan
+following k fid = with_it (named k.fids fid) (λ file. OrNoMemory (reading_link file.user.session file.path))
+
+-- why a message isn't answered that can't be read
+abbrev pub refusal_for : Fault → Refused
+refusal_for fault.Unknown = Unsupported
+refusal_for f = By EINVAL
+
+-- Of an open file, or one that is opened. Tlock is granted, and Tgetlock finds none.
+abbrev pub of_file : Known → Request → Plan
+of_file k (request.Open fid flags) = Open
+of_file k (request.Create fid name flags mode gid) = Open
+of_file k (request.Read fid offset count) = reading k fid offset count
+of_file k (request.Write fid offset bytes) = writing k fid offset bytes.now
+of_file k (request.Readdir fid offset count) = Open
+of_file k (request.Lock fid kind flags start length process client) = with_it (opened k.fids fid) (λ _. says answer.Lock)
+of_file k (request.Getlock fid kind start length process client) =
+    with_it (opened k.fids fid) (λ _. says (answer.Getlock start length process))
+of_file k r = refuses Unsupported
+
+-- of a name
+abbrev pub of_name : Known → Request → Plan
+of_name k (request.Symlink directory name target gid) = Open
+of_name k (request.Mkdir directory name mode gid) = Open
+of_name k (request.Link directory fid name) = Open
+of_name k (request.Rename fid directory name) = Open
+of_name k (request.Renameat old_directory old_name new_directory new_name) = Open
+of_name k (request.Unlinkat directory name flags) = Open
+of_name k r = of_file k r
+
+-- of a node
+abbrev pub of_node : Known → ℕ → Request → Plan
+of_node k now (request.Getattr fid mask) = telling k fid
+of_node k now (request.Setattr fid valid mode uid gid size atime mtime) = Open
+of_node k now (request.Readlink fid) = following k fid
+of_node k now (request.Statfs fid) = with_it (found k.fids fid) (λ file. measuring file.user.session)
+of_node k now r = of_name k r
+
+-- of fids that are made or let go
+abbrev pub of_fid : Known → ℕ → Request → Plan
+of_fid k now (request.Version message_size version) = Open
+of_fid k now (request.Attach fid auth_fid user_name tree uid) = Open
+of_fid k now (request.Walk fid new_fid names) = Open
+of_fid k now (request.Clunk fid) = clunking k fid
+of_fid k now (request.Remove fid) = Open
+of_fid k now (request.Flush old_tag) = says answer.Flush
+of_fid k now r = of_node k now r
+
+-- How a request is answered, by what is known and at this time, in seconds since 1970.
+abbrev pub plan_of : Known → ℕ → Request → Plan
+plan_of k now (request.Fsync fid data_only) = with_it (found k.fids fid) (λ file. syncing file.user.session)
+plan_of k now r = of_fid k now r
