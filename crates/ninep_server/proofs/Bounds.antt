@@ -1,5 +1,6 @@
 -- No message asks more than sixteen things.
-use Rattle.std.proofs.Common.{ℕ, zero, suc, ◌-◌, min, take, pos, Bool, true, false, ℤ, List, Option, Some, None, Result, Ok, Err, if◌then◌else◌, nat_lt}
+use Rattle.std.proofs.Common.{ℕ, zero, suc, ◌-◌, min, take, pos, Bool, true, false, ℤ, List, Option, Some, None, Result, Ok, Err}
+use Rattle.std.proofs.Common.{if◌then◌else◌, nat_lt}
 use Rattle.ninep.specs.Requests.{Body}
 use Rattle.ninep.specs.declared.request.Request.{Request}
 use Rattle.ninep.specs.declared.request.Request.TheVariants as request

@@ -144,7 +144,8 @@ work_few {S} may n here w q r a h s t k l e asks heard left same =
     let P : Turn → Type 0 = λ x. Within (left_of_turn x) (suc n) → Within r n ⊎ IsLoose may (left_of_turn x) s k in
     subst P (sym e) (asks_less may n (left_of w) q r a h s t k l asks heard left same)
 
-pub sync_carried : {S : Type 0} (may : S → Ask → Heard → S → Type 0) (here : Turn) (session : ℕ) (r : Plan) (h : Heard) (s t : S) (k : Known)
+pub sync_carried : {S : Type 0} (may : S → Ask → Heard → S → Type 0) (here : Turn) (session : ℕ) (r : Plan) (h : Heard) (s t : S)
+    (k : Known)
     → here ≡ turn.Sync session → may s (ask.Call session call.Sync) h t → Leaves (synced h) k r k
     → IsCarriedOn may (left_of_turn here) s k r t k
 sync_carried {S} may here session r h s t k e heard left =

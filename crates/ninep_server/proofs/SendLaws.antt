@@ -1,5 +1,6 @@
 -- A reply that is written.
-use Rattle.std.proofs.Common.{◌≡◌, ◌≤◌, ◌<◌, ◌+◌, ◌-◌, ◌^◌, ℕ, zero, suc, List, [], ◌∷◌, ◌++◌, length, take, slice_index_or, Result, Ok, Err, OnOk, inr, subst, arith}
+use Rattle.std.proofs.Common.{◌≡◌, ◌≤◌, ◌<◌, ◌+◌, ◌-◌, ◌^◌, ℕ, zero, suc, List, [], ◌∷◌, ◌++◌, length, take, slice_index_or, Result, Ok}
+use Rattle.std.proofs.Common.{Err, OnOk, inr, subst, arith}
 use Rattle.std.specs.List.{AllByRecursion, flat_map}
 use Rattle.ninep.specs.Fields.{Field, Fits, fields_bytes}
 use Rattle.ninep.specs.Requests.{spelling}
@@ -32,9 +33,11 @@ one_more (x ∷ xs) (suc i) q h e a b c rest =
 
 -- a reply that is too long is so as what is said
 pub too_much : {A E : Type 0} (limit tag : ℕ) (s : Said) (r : Reply) (old mid new : List ℕ) (res : Result A E)
-    → IsSent (said_number s) (said_fields (limit - 24) s) r → (limit < size_of r) × (mid ≡ old) → OnOk res (IsWritten limit tag too_long mid new)
+    → IsSent (said_number s) (said_fields (limit - 24) s) r → (limit < size_of r) × (mid ≡ old)
+    → OnOk res (IsWritten limit tag too_long mid new)
     → OnOk res (IsSaidIn limit tag s old new)
 too_much limit tag s r old mid new (Err e) sent long h = tt
-too_much limit tag s r old mid new (Ok a) sent long h = inr
-    (subst (λ (fields : List Field). limit < 7 + length (fields_bytes fields)) sent.1 long.0,
-    subst (λ (o : List ℕ). IsWritten limit tag too_long o new) long.1 h)
+too_much limit tag s r old mid new (Ok a) sent long h = inr (
+  subst (λ (fields : List Field). limit < 7 + length (fields_bytes fields)) sent.1 long.0,
+  subst (λ (o : List ℕ). IsWritten limit tag too_long o new) long.1 h,
+)

@@ -1,5 +1,6 @@
 -- Turns and what was asked before them.
-use Rattle.std.proofs.Common.{◌≡◌, ◌∙◌, ◌<◌, ◌+◌, ℕ, Bool, true, false, sym, List, [], ◌∷◌, Result, Ok, Err, OnOk, OnErr, is_ok, refl, subst, inl, inr, ◌⊎◌}
+use Rattle.std.proofs.Common.{◌≡◌, ◌∙◌, ◌<◌, ◌+◌, ℕ, Bool, true, false, sym, List, [], ◌∷◌, Result, Ok, Err, OnOk, OnErr, is_ok, refl}
+use Rattle.std.proofs.Common.{subst, inl, inr, ◌⊎◌}
 use Rattle.ninep_server.specs.declared.heard.Heard.{Heard}
 use Rattle.ninep_server.specs.declared.answer.Said.{Said}
 use Rattle.ninep_server.specs.declared.answer.Said.TheVariants as said
@@ -116,6 +117,11 @@ pub said_so : {S A E : Type 0} (may : S → Ask → Heard → S → Type 0) (now
     → IsAnswered may now bytes has_room s k it t l → (has_room ≡ false → capacity < len + k.message_size)
     → OnOk r (IsSaidIn l.message_size tag it from new) → OnOk r (Says may now bytes s k t l len capacity old new)
 said_so may now bytes s t k l len capacity tag from old new it has_room (Err e) same_tag same answered room written = tt
-said_so may now bytes s t k l len capacity tag from old new it has_room (Ok a) same_tag same answered room written =
-    (it, has_room, answered, room,
-    subst (λ (m : ℕ). IsSaidIn l.message_size m it old new) same_tag (subst (λ (o : List ℕ). IsSaidIn l.message_size tag it o new) same written))
+said_so may now bytes s t k l len capacity tag from old new it has_room (Ok a) same_tag same answered room written = (
+  it,
+  has_room,
+  answered,
+  room,
+  subst (λ (m : ℕ). IsSaidIn l.message_size m it old new) same_tag
+      (subst (λ (o : List ℕ). IsSaidIn l.message_size tag it o new) same written),
+)

@@ -1,5 +1,6 @@
 -- What each message asks, and what is answered.
-use Rattle.std.specs.Prelude.{ℕ, ◌+◌, ◌-◌, ◌/◌, min, pos, ℤ, Bool, true, false, List, [], ◌∷◌, take, nat_lt, Option, Some, None, if◌then◌else◌, ◌==◌}
+use Rattle.std.specs.Prelude.{ℕ, ◌+◌, ◌-◌, ◌/◌, min, pos, ℤ, Bool, true, false, List, [], ◌∷◌, take, nat_lt, Option, Some, None}
+use Rattle.std.specs.Prelude.{if◌then◌else◌, ◌==◌}
 use Rattle.std.specs.Int.{div_ceil}
 use Rattle.errno.specs.declared.Errno.TheVariants.{EFBIG, EINVAL}
 use Rattle.ninep.specs.Fields.{Text, Data}
@@ -106,7 +107,8 @@ transferring session fd None what = moving session fd what
 transferring session fd (Some offset) what =
     calls session (call.Seek fd Set offset) (λ h. with_it (position_in h) (λ _. moving session fd what))
 
--- Tread: at most so many bytes from the offset on, and at most what an answer and a read of the server may have; past the largest offset none
+-- Tread: at most so many bytes from the offset on, and at most what an answer and a read of the server may have; past the largest offset
+-- none
 abbrev pub reading : Known → ℕ → ℕ → ℕ → Plan
 reading k fid offset count = with_it (opened k.fids fid) (λ file.
     if nat_lt 2147483647 offset then says_bytes []

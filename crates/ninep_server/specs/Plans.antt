@@ -92,8 +92,8 @@ calls session c next = Asks (ask.Call session c) next
 abbrev pub IsSaid : Said → (ℕ → Body) → Type 0
 IsSaid it body = (most : ℕ) → body_said it most ≡ body most
 
--- A plan is followed: the sessions come from one state to another by what it asks, and by nothing else; this is said in the end, and what is
--- known has become this. The first argument says what the sessions may answer.
+-- A plan is followed: the sessions come from one state to another by what it asks, and by nothing else; this is said in the end, and what
+-- is known has become this. The first argument says what the sessions may answer.
 abbrev pub Follows : {S : Type 0} → (S → Ask → Heard → S → Type 0) → Plan → S → Known → Said → S → Known → Type 0
 Follows may Open s k it t l = ⊤
 Follows may (Says body) s k it t l = IsSaid it body × (t ≡ s) × (l ≡ k)

@@ -4,7 +4,8 @@ use Rattle.ninep.specs.Requests.{Body}
 use Rattle.errno.specs.declared.Errno.TheVariants.{ENOMEM}
 use Rattle.tree.specs.declared.Call.TheVariants as call
 use Rattle.ninep_server.specs.Knowledge.{Known, known_of}
-use Rattle.ninep_server.specs.Plans.{Plan, Open, Says, Asks, Changes, OrNoMemory, IsChanged, IsSaid, Follows, body_said, error, refuses, calls, plain}
+use Rattle.ninep_server.specs.Plans.{Plan, Open, Says, Asks, Changes, OrNoMemory, IsChanged, IsSaid, Follows, body_said, error, refuses}
+use Rattle.ninep_server.specs.Plans.{calls, plain}
 use Rattle.ninep_server.specs.Messages.{says, transferring, looking, closing, measuring, reading_link, syncing}
 use Rattle.ninep_server.specs.declared.refused.Refused.{Refused}
 use Rattle.ninep_server.specs.declared.refused.Refused.TheVariants.{By}

@@ -3,7 +3,8 @@
 ghost use Rattle.std.specs.Prelude.{◌≡◌, Ok, Err, IsOk, IfOk, MatchResult};
 ghost use Rattle.std.specs.Result.{result_map_both};
 ghost use Rattle.tree.specs.declared.Reply.TheVariants as reply;
-ghost use Rattle.ninep_server.specs.Hearing.{reply_in, done_in, attributes_in, descriptor_in, position_in, bytes_in, count_in, room_in, target_in};
+ghost use Rattle.ninep_server.specs.Hearing.{reply_in, done_in, attributes_in, descriptor_in, position_in, bytes_in, count_in, room_in};
+ghost use Rattle.ninep_server.specs.Hearing.{target_in};
 ghost use Rattle.ninep_server.specs.Talks.{IsDone, Replies};
 
 use crate::refused::Refused;

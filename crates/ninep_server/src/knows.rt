@@ -39,7 +39,6 @@ impl Knows {
         }
     }
 
-    #[tactic(auto, using(crate::proofs::Following::carried, crate::proofs::Bounds::plan_within, crate::proofs::Turns::said_so, crate::proofs::SendLaws::too_much, crate::proofs::Tables::found_seen))]
     /// The most bytes that a read, a write or a list of names may move.
     pub(crate) fn most(&self) -> u32
         ensures { result ≡ self.now.message_size - 24 }

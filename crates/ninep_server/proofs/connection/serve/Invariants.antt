@@ -9,7 +9,8 @@ abbrev pub invariant-turns : goal.invariant-turns
 invariant-turns g l = record {
   reached : Reaches (MayHear g.S.Sessions.called g.S.Sessions.entered g.S.Sessions.left l.now) l.fn.sessions l.turn l.sessions;
   carried : IsCarriedOn (MayHear g.S.Sessions.called g.S.Sessions.entered g.S.Sessions.left l.now)
-      (plan_of (known_of l.fn.knows) l.now l.request) l.fn.sessions (known_of l.fn.knows) (left_of_turn l.turn) l.sessions (known_of l.knows);
+      (plan_of (known_of l.fn.knows) l.now l.request) l.fn.sessions (known_of l.fn.knows) (left_of_turn l.turn) l.sessions
+      (known_of l.knows);
   few : (n : ℕ) → n + l._asked ≡ 16 → Within (left_of_turn l.turn) n
       ⊎ IsLoose (MayHear g.S.Sessions.called g.S.Sessions.entered g.S.Sessions.left l.now)
       (plan_of (known_of l.fn.knows) l.now l.request) l.fn.sessions (known_of l.fn.knows);

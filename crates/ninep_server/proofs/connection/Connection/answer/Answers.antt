@@ -14,4 +14,4 @@ returns-clause-said g c =
     c.args.sessions.now c.said_to-said.new.sessions (known_of c.args.self.now.knows) (known_of c.said_to-said.new.knows) _ _
     c.in_ok-tag.tag c.reserve.new.self.items c.args.out.now.items _ c.said_to-said.result _ c.send.result c.in_ok-tag.ensures.tag
     c.reserve.ensures.items c.said_to-said.ensures.followed
-    (wants_room c.reserve.result _ _ c.is_ok.ensures.value c.reserve.ensures.full) c.send.ensures.ok
+    (wants_room c.reserve.result _ _ c.is_ok-has_room.ensures.value c.reserve.ensures.full) c.send.ensures.ok
