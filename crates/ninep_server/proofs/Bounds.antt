@@ -1,14 +1,14 @@
 -- No message asks more than sixteen things.
 use Rattle.std.proofs.Common.{ℕ, zero, suc, ◌-◌, min, take, pos, Bool, true, false, ℤ, List, Option, Some, None, Result, Ok, Err}
-use Rattle.std.proofs.Common.{if◌then◌else◌, nat_lt}
+use Rattle.std.proofs.Common.{if◌then◌else◌, nat_lt, ◌≡◌, ◌⊎◌, ◌≤◌, ◌+◌, inl, inr, sym, subst, arith}
 use Rattle.ninep.specs.Requests.{Body}
 use Rattle.ninep.specs.declared.request.Request.{Request}
 use Rattle.ninep.specs.declared.request.Request.TheVariants as request
 use Rattle.ninep_server.specs.Knowledge.{Known, File, found, named, opened}
 use Rattle.ninep_server.specs.Hearing.{done_in, attributes_in, position_in, bytes_in, count_in, room_in, target_in}
-use Rattle.ninep_server.specs.Plans.{Plan, with_it, at}
+use Rattle.ninep_server.specs.Plans.{Plan, Follows, with_it, at}
 use Rattle.ninep_server.specs.Messages.{moving, transferring, looking, attributes_of, closing, of_file, of_name, of_node, of_fid, plan_of}
-use Rattle.ninep_server.specs.Progress.{Within, IsLoose, left_of}
+use Rattle.ninep_server.specs.Progress.{Within, IsLoose, IsCarriedOn, left_of, left_of_turn}
 use Rattle.ninep_server.specs.declared.refused.Refused.{Refused}
 use Rattle.ninep_server.specs.declared.transfer.Moved.{Moved}
 use Rattle.ninep_server.specs.declared.transfer.Moved.TheVariants as moved
@@ -16,6 +16,9 @@ use Rattle.ninep_server.specs.declared.work.Work.{Work}
 use Rattle.ninep_server.specs.declared.work.Work.TheVariants as work
 use Rattle.ninep_server.specs.declared.ask.Ask.{Ask}
 use Rattle.ninep_server.specs.declared.heard.Heard.{Heard}
+use Rattle.ninep_server.specs.declared.answer.Said.{Said}
+use Rattle.ninep_server.specs.declared.turn.Turn.{Turn}
+use Rattle.ninep_server.specs.declared.turn.Turn.TheVariants as turn
 
 it_within : {A : Type 0} (n : ℕ) (r : Result A Refused) (next : A → Plan) → ((a : A) → Within (next a) n) → Within (with_it r next) n
 it_within n (Ok a) next h = h a
@@ -110,3 +113,19 @@ none_left may (work.Readlink r) s k few = absurd few
 none_left may (work.Close c) s k few = absurd few
 none_left may (work.Statfs session) s k few = absurd few
 none_left may w s k few = λ it u m. tt
+
+-- A turn that still waits when sixteen things were asked has a plan that leaves open what is said.
+pub runs_out : {S : Type 0} (may : S → Ask → Heard → S → Type 0) (p : Plan) (s t : S) (k l : Known) (here : Turn) (asked : ℕ) (it : Said)
+    → 16 ≤ asked → asked ≤ 16 → ((session : ℕ) × (here ≡ turn.Sync session)) ⊎ ((w : Work) × (here ≡ turn.Go w))
+    → ((n : ℕ) → n + asked ≡ 16 → Within (left_of_turn here) n ⊎ IsLoose may p s k) → IsCarriedOn may p s k (left_of_turn here) t l
+    → Follows may p s k it t l
+runs_out may p s t k l here asked it low high is few carries =
+    let done : 0 + asked ≡ 16 = omega (arith, low, high) in
+    elim (few 0 done) [
+      | inl none ↦ elim is [
+        | inl sync ↦ absurd (subst (λ (x : Turn). Within (left_of_turn x) 0) sync.1 none)
+        | inr go ↦ carries it t l (subst (λ (x : Turn). IsLoose may (left_of_turn x) t l) (sym go.1)
+            (none_left may go.0 t l (subst (λ (x : Turn). Within (left_of_turn x) 0) go.1 none)) it t l)
+      ]
+      | inr loose ↦ loose it t l
+    ]

@@ -96,7 +96,7 @@ fn step<'m, S: Sessions>(knows: &mut Knows, sessions: &mut S, now: u32, turn: Tu
 }
 
 /// What is said to a request, once what it asks of the sessions was asked in turn.
-#[tactic(auto, using(crate::proofs::Following::carried, crate::proofs::Following::begins_few, crate::proofs::Following::goes_few, crate::proofs::Following::carried_further, crate::proofs::Following::ends, crate::proofs::Bounds::plan_within, crate::proofs::Bounds::none_left))]
+#[tactic(auto, using(crate::proofs::Following::ends))]
 fn serve<S: Sessions>(knows: &mut Knows, sessions: &mut S, now: u32, request: &Request<'_>) -> Said
     ensures asked { HasAsked (MayHear S.called S.entered S.left now) sessions.old result sessions.new }
     ensures followed { Follows (MayHear S.called S.entered S.left now) (plan_of (known_of knows.old) now request.now) sessions.old
