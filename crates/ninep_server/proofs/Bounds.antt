@@ -1,5 +1,5 @@
 -- No message asks more than sixteen things.
-use Rattle.std.proofs.Common.{ℕ, zero, suc, ◌-◌, min, take, pos, Bool, true, false, ℤ, List, Option, Some, None, Result, Ok, Err}
+use Rattle.std.proofs.Common.{ℕ, suc, ◌-◌, min, take, pos, Bool, true, false, ℤ, List, Option, Some, None, Result, Ok, Err}
 use Rattle.std.proofs.Common.{if◌then◌else◌, nat_lt, ◌≡◌, ◌⊎◌, ◌≤◌, ◌+◌, inl, inr, sym, subst, arith}
 use Rattle.ninep.specs.Requests.{Body}
 use Rattle.ninep.specs.declared.request.Request.{Request}

@@ -1,5 +1,5 @@
 -- How plans are followed.
-use Rattle.std.proofs.Common.{◌≡◌, ◌⊎◌, ◌∙◌, ◌+◌, ℕ, zero, suc, inl, inr, refl, sym, subst, arith}
+use Rattle.std.proofs.Common.{◌≡◌, ◌⊎◌, ◌∙◌, ◌+◌, ℕ, suc, inl, inr, refl, sym, subst, arith}
 use Rattle.errno.specs.declared.Errno.TheVariants.{ENOMEM}
 use Rattle.ninep.specs.Requests.{Body}
 use Rattle.ninep_server.specs.Knowledge.{Known}

@@ -1,5 +1,5 @@
 -- What is answered to the bytes of a message.
-use Rattle.std.specs.Prelude.{◌≡◌, ℕ, List, Bool, true, false, Result, Ok, Err}
+use Rattle.std.specs.Prelude.{ℕ, List, Bool, true, false, Result, Ok, Err}
 use Rattle.errno.specs.declared.Errno.TheVariants.{ENOMEM}
 use Rattle.ninep.specs.Parts.{Gives}
 use Rattle.ninep.specs.Reading.{request_at}

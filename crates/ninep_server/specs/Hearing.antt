@@ -2,7 +2,6 @@
 use Rattle.std.specs.Prelude.{ℕ, List, Result, Ok, Err}
 use Rattle.errno.specs.declared.Errno.TheVariants.{EIO}
 use Rattle.tree.specs.declared.Attributes.{Attributes}
-use Rattle.tree.specs.declared.Entry.{Entry}
 use Rattle.tree.specs.declared.LinkTarget.{LinkTarget}
 use Rattle.tree.specs.declared.Room.{Room}
 use Rattle.tree.specs.declared.Outcome.TheVariants as outcome

@@ -1,5 +1,5 @@
 -- What each message asks, and what is answered.
-use Rattle.std.specs.Prelude.{ℕ, ◌+◌, ◌-◌, ◌/◌, min, pos, ℤ, Bool, true, false, List, [], ◌∷◌, take, nat_lt, Option, Some, None}
+use Rattle.std.specs.Prelude.{ℕ, ◌-◌, ◌/◌, min, pos, ℤ, Bool, true, false, List, [], ◌∷◌, take, nat_lt, Option, Some, None}
 use Rattle.std.specs.Prelude.{if◌then◌else◌, ◌==◌}
 use Rattle.std.specs.Int.{div_ceil}
 use Rattle.errno.specs.declared.Errno.TheVariants.{EFBIG, EINVAL}

@@ -10,7 +10,7 @@ use Rattle.ninep.specs.Fields.{Four, Field, Number}
 use Rattle.ninep.specs.Requests.{Body}
 use Rattle.tree.specs.declared.Call.{Call}
 use Rattle.tree.specs.declared.Call.TheVariants as call
-use Rattle.ninep_server.specs.Knowledge.{Known, File}
+use Rattle.ninep_server.specs.Knowledge.{Known}
 use Rattle.ninep_server.specs.Numbers.{number_of}
 use Rattle.ninep_server.specs.Written.{said_number, said_fields}
 use Rattle.ninep_server.specs.declared.refused.Refused.{Refused}

@@ -4,16 +4,14 @@ use Rattle.ninep.specs.Requests.{Body}
 use Rattle.errno.specs.declared.Errno.TheVariants.{ENOMEM}
 use Rattle.tree.specs.declared.Call.TheVariants as call
 use Rattle.ninep_server.specs.Knowledge.{Known, known_of}
-use Rattle.ninep_server.specs.Plans.{Plan, Open, Says, Asks, Changes, OrNoMemory, IsChanged, IsSaid, Follows, body_said, error, refuses}
+use Rattle.ninep_server.specs.Plans.{Plan, Open, Says, Asks, Changes, OrNoMemory, IsChanged, Follows, body_said, error, refuses}
 use Rattle.ninep_server.specs.Plans.{calls, plain}
-use Rattle.ninep_server.specs.Messages.{says, transferring, looking, closing, measuring, reading_link, syncing}
+use Rattle.ninep_server.specs.Messages.{says, transferring, looking, measuring, reading_link, syncing}
 use Rattle.ninep_server.specs.declared.refused.Refused.{Refused}
 use Rattle.ninep_server.specs.declared.refused.Refused.TheVariants.{By}
 use Rattle.ninep_server.specs.declared.ask.Ask.{Ask}
 use Rattle.ninep_server.specs.declared.heard.Heard.{Heard}
-use Rattle.ninep_server.specs.declared.answer.Answer.{Answer}
 use Rattle.ninep_server.specs.declared.answer.Said.{Said}
-use Rattle.ninep_server.specs.declared.answer.Said.TheVariants as said
 use Rattle.ninep_server.specs.declared.knows.Knows.{Knows}
 use Rattle.ninep_server.specs.declared.turn.Turn.{Turn}
 use Rattle.ninep_server.specs.declared.turn.Turn.TheVariants as turn
