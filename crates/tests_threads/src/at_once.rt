@@ -2,8 +2,10 @@
 //!
 //! It isn't a `Program` of `launch`, whose `run` knows in one thread alone what its types keep; so the service is started here.
 
-ghost use Rattle.std.specs.Prelude.{◌≡◌, map};
+ghost use Rattle.std.specs.Prelude.{◌≡◌, ◌≤◌, ◌^◌, [], true, map};
+ghost use Rattle.std.specs.Arc.{arc_value};
 ghost use Rattle.records.specs.Opening.{contents_at};
+ghost use Rattle.records.specs.Mount.{is_frame_count};
 ghost use Rattle.mounting.specs.Laws.{sizes_in};
 ghost use Rattle.mounting.specs.Starting.{opening_of, IsPrepared};
 ghost use Rattle.true_replies.specs.Events.{opening_media};
@@ -18,9 +20,11 @@ use bdev::BlockDriver;
 use board::{Board, Seat};
 use counting_link::recorder::Recorder;
 use counting_link::room::Room;
+use driver_threads::running::Running;
 use file_server::FileServer;
 use fixtures_sessions::services::two_in_threads;
-use launch::start::started;
+use launch::opened::mounted;
+use launch::start::counted_drivers;
 use mounting::{Prepared, prepare};
 use reincarnate::policy::Setup;
 use serve::service::Service;
@@ -83,8 +87,44 @@ fn done<
     }
 }
 
-// Starts the service, does it, and stops the service: what came of it, and the image that is left. The caller picks `N` from what it
-// hands over.
+/// Mounts the volume over this link, does it on the service of it, and stops the service: what came of it, and the image that is left.
+fn mount_and_do<
+    N: Room + Send + Sync + 'static,
+    R: Threads + Wait + Abort + Clock + Copy + Send + Sync + 'static,
+    L: Recorder<N> + Send + 'static,
+>(
+    alloc: Global,
+    rt: R,
+    board: Arc<Board>,
+    link: L,
+    setup: &Setup,
+    running: Running<N>,
+    watch: &Arc<Watch<R>>,
+    what: What,
+) -> Result<(Came, Vec<u8>), Fail>
+    requires board { arc_value board ≡ N.table }
+    requires marks { L.marks link ≡ [] }
+    requires told { L.Link.history link ≡ [] }
+    requires geometry { N.geometry ≡ sizes_in (contents_at N.opening) }
+    requires minor { setup.now.minor ≡ N.opening.minor }
+    requires frames { is_frame_count setup.now.frames ≡ true }
+    requires budget { L.Link.budget_left link ≤ 2 ^ 57 }
+    requires truth { L.Link.truth link N.opening [] }
+    requires drivers { L.runs_on link N.policy N.supply }
+{
+    let gate = Arc::try_clone(watch)?;
+    let frames = setup.frames as u32;
+    let Ok(service) = mounted(alloc, rt, board, link, setup.minor, frames, running, gate) else {
+        return Err(Fail::from("not mounted"));
+    };
+    let came = done(alloc, &rt, what, Arc::try_clone(watch)?, &service).ok_or("not done")?;
+    match service.stop(alloc) {
+        Ok(left) => Ok((came, left)),
+        Err(_) => Err(Fail::from("not stopped")),
+    }
+}
+
+// The caller picks `N` from what it hands over.
 fn start_and_do<
     N: Room + Send + Sync + 'static,
     R: Threads + Wait + Abort + Clock + Copy + Send + Sync + 'static,
@@ -107,18 +147,20 @@ fn start_and_do<
     requires prepared { IsPrepared image.now setup.now (map ⟦<Noting<R> as BlockDriver>⟧.state supply.items) prepared.range }
     requires contents { prepared.media ≡ opening_media N.opening }
 {
-    let (gate, watch) = (Arc::try_clone(watch)?, Arc::try_clone(watch)?);
-    let service = started::<N, R, Noting<R>, Watch<R>>(
-        alloc, rt, board, seat, prepared, image, setup, supply, gate,
-    );
-    let Ok(service) = service else {
-        return Err(Fail::from("not started"));
-    };
-    let came = done(alloc, &rt, what, watch, &service).ok_or("not done")?;
-    match service.stop(alloc) {
-        Ok(left) => Ok((came, left)),
-        Err(_) => Err(Fail::from("not stopped")),
-    }
+    let Prepared { media, range } = prepared;
+    let asked = Arc::try_clone(watch)?;
+    let (board, link, running) = counted_drivers::<N, R, Noting<R>, Watch<R>>(
+        alloc,
+        rt,
+        board,
+        seat,
+        media,
+        range,
+        setup.policy,
+        supply,
+        asked,
+    )?;
+    mount_and_do(alloc, rt, board, link, setup, running, watch, what)
 }
 
 /// What comes of it over the volume in an image, and the image that is left.
