@@ -11,7 +11,8 @@ ghost use Rattle.mounting.specs.Starting.{opening_of, IsPrepared};
 ghost use Rattle.true_replies.specs.Events.{opening_media};
 ghost use Rattle.board.specs.View.{IsKeeper, opener};
 
-use crate::drivers::Noting;
+use crate::drivers::{Notes, Noting};
+use crate::endings::{Ending, end};
 use crate::many::{has_all, write_all};
 use crate::no_wait::{Looked, look_meanwhile};
 use crate::setting::patient;
@@ -47,6 +48,8 @@ pub(crate) enum What {
     Write,
     /// One reads all these files.
     Read,
+    /// One changes the root, and the service ends so.
+    End(Ending),
 }
 
 /// What came of it.
@@ -58,33 +61,43 @@ pub(crate) enum Came {
     Looked(String, Option<Looked>),
     /// Whether all was answered as it should be.
     Files(bool),
+    /// The lines of the one.
+    Ended(String),
 }
 
-/// It is done. None where a session or memory was wanting.
+/// It is done, and the service ends: what came of it, and the image, or no bytes where the service was let go. None where a session, memory
+/// or an image was wanting.
 fn done<
     N: Room + Send + Sync,
-    R: Threads + Wait + Abort + Clock + Copy + Send + Sync,
+    R: Threads + Wait + Abort + Clock + Copy + Send + Sync + 'static,
     L: Recorder<N> + Send,
     S: FileServer<L> + Send,
 >(
     alloc: Global,
     rt: &R,
     what: What,
-    watch: Arc<Watch<R>>,
-    service: &Service<N, R, L, S>,
-) -> Option<Came> {
-    match what {
+    watch: &Arc<Watch<R>>,
+    notes: &Arc<Notes<R>>,
+    service: Service<N, R, L, S>,
+) -> Option<(Came, Vec<u8>)> {
+    let came = match what {
         What::Ask => {
-            let (one, two) = two_in_threads(alloc, rt, service)?;
-            Some(Came::Asked(one, two))
+            let (one, two) = two_in_threads(alloc, rt, &service)?;
+            Came::Asked(one, two)
         }
         What::Look => {
-            let (lines, looked) = look_meanwhile(alloc, rt, watch, service)?;
-            Some(Came::Looked(lines, looked))
+            let (lines, looked) = look_meanwhile(alloc, rt, watch, &service)?;
+            Came::Looked(lines, looked)
         }
-        What::Write => Some(Came::Files(write_all(alloc, rt, service)?)),
-        What::Read => Some(Came::Files(has_all(service)?)),
-    }
+        What::Write => Came::Files(write_all(alloc, rt, &service)?),
+        What::Read => Came::Files(has_all(&service)?),
+        What::End(ending) => {
+            let (lines, left) = end(alloc, rt, ending, watch, notes, service)?;
+            return Some((Came::Ended(lines), left));
+        }
+    };
+    let left = service.stop(alloc).ok()?;
+    Some((came, left))
 }
 
 /// Mounts the volume over this link, does it on the service of it, and stops the service: what came of it, and the image that is left.
@@ -100,6 +113,7 @@ fn mount_and_do<
     setup: &Setup,
     running: Running<N>,
     watch: &Arc<Watch<R>>,
+    notes: &Arc<Notes<R>>,
     what: What,
 ) -> Result<(Came, Vec<u8>), Fail>
     requires board { arc_value board ≡ N.table }
@@ -117,10 +131,9 @@ fn mount_and_do<
     let Ok(service) = mounted(alloc, rt, board, link, setup.minor, frames, running, gate) else {
         return Err(Fail::from("not mounted"));
     };
-    let came = done(alloc, &rt, what, Arc::try_clone(watch)?, &service).ok_or("not done")?;
-    match service.stop(alloc) {
-        Ok(left) => Ok((came, left)),
-        Err(_) => Err(Fail::from("not stopped")),
+    match done(alloc, &rt, what, watch, notes, service) {
+        Some(came) => Ok(came),
+        None => Err(Fail::from("not done")),
     }
 }
 
@@ -138,6 +151,7 @@ fn start_and_do<
     setup: &Setup,
     supply: Vec<Noting<R>>,
     watch: &Arc<Watch<R>>,
+    notes: &Arc<Notes<R>>,
     what: What,
 ) -> Result<(Came, Vec<u8>), Fail>
     requires board { board ≡ N.table }
@@ -160,7 +174,7 @@ fn start_and_do<
         supply,
         asked,
     )?;
-    mount_and_do(alloc, rt, board, link, setup, running, watch, what)
+    mount_and_do(alloc, rt, board, link, setup, running, watch, notes, what)
 }
 
 /// What comes of it over the volume in an image, and the image that is left.
@@ -170,6 +184,7 @@ pub(crate) fn at_once<R: Threads + Wait + Abort + Clock + Copy + Send + Sync + '
     image: &[u8],
     supply: Vec<Noting<R>>,
     watch: &Arc<Watch<R>>,
+    notes: &Arc<Notes<R>>,
     what: What,
 ) -> Result<(Came, Vec<u8>), Fail> {
     let setup = patient();
@@ -178,7 +193,7 @@ pub(crate) fn at_once<R: Threads + Wait + Abort + Clock + Copy + Send + Sync + '
     };
     let (board, seat) = Board::new(alloc)?;
     let came = start_and_do::<Brand, R>(
-        alloc, rt, board, seat, prepared, image, &setup, supply, watch, what,
+        alloc, rt, board, seat, prepared, image, &setup, supply, watch, notes, what,
     )?;
     if watch.is_in_time() {
         return Ok(came);
