@@ -1,14 +1,16 @@
 -- Bytes that are zero, and bytes that are put where all is.
-use Rattle.std.proofs.Common.{◌≡◌, ◌≤◌, ◌+◌, ◌-◌, ◌++◌, ◌∙◌, ◌∷◌, ℕ, zero, suc, List, length, take, drop, replicate, refl, sym, ap, subst, arith, append_assoc, length-drop, length-take-le}
+use Rattle.std.proofs.Common.{◌≡◌, ◌≤◌, ◌+◌, ◌-◌, ◌++◌, ◌∙◌, ℕ, List, length, take, drop, replicate, sym, ap, subst, arith, append_assoc, length-drop, length-take-le}
 use Rattle.std.proofs.Math.Seq.{take-add, take-append_seam, drop-append-add}
-use Rattle.std.proofs.lemmas.List.{drop-replicate, take_rest}
+use Rattle.std.proofs.lemmas.List.{take-append-drop, take-replicate, drop-replicate, take_rest}
 use Rattle.std.specs.Prelude.{Option, Some}
 use Rattle.host.specs.Sparse.{Puts, put_at}
 
 -- so many zeros, and so many more
 pub zeros_more : (n m : ℕ) → replicate {A = ℕ} (n + m) 0 ≡ replicate {A = ℕ} n 0 ++ replicate {A = ℕ} m 0
-zeros_more zero m = refl
-zeros_more (suc n) m = ap (λ l. 0 ∷ l) (zeros_more n m)
+zeros_more n m =
+    sym (take-append-drop n (replicate {A = ℕ} (n + m) 0))
+    ∙ (λ i. take-replicate {X = ℕ} n (n + m) 0 (omega arith) i ++ drop-replicate {X = ℕ} n (n + m) 0 i)
+    ∙ ap (λ k. replicate {A = ℕ} n 0 ++ replicate {A = ℕ} k 0) (omega arith)
 
 -- zeros, and zeros behind them
 pub zeros_next : (bytes : List ℕ) (at count k : ℕ) → k ≡ count → at + count ≤ length bytes → take at bytes ≡ replicate at 0
