@@ -46,11 +46,11 @@ put_next bytes n at count within fits long =
     let zeros : List ℕ = replicate {A = ℕ} (n - at) 0 in
     let kept : take at (take at bytes ++ zeros) ≡ take at bytes = ap (λ k. take k (take at bytes ++ zeros)) (sym front) ∙ take-append_seam (take at bytes) zeros in
     let behind : drop (at + length (take count (drop at bytes))) (take at bytes ++ zeros) ≡ replicate (n - (at + count)) 0 =
-      ap (λ k. drop (at + k) (take at bytes ++ zeros)) long
-      ∙ ap (λ k. drop (k + count) (take at bytes ++ zeros)) (sym front)
-      ∙ drop-append-add (take at bytes) zeros count
-      ∙ drop-replicate count (n - at) 0
-      ∙ ap (λ k. replicate k 0) (omega arith) in
+    ap (λ k. drop (at + k) (take at bytes ++ zeros)) long
+    ∙ ap (λ k. drop (k + count) (take at bytes ++ zeros)) (sym front)
+    ∙ drop-append-add (take at bytes) zeros count
+    ∙ drop-replicate count (n - at) 0
+    ∙ ap (λ k. replicate k 0) (omega arith) in
     (λ i. kept i ++ take count (drop at bytes) ++ behind i)
     ∙ ap (λ l. l ++ replicate (n - (at + count)) 0) (sym (take-add at count bytes))
 

@@ -8,11 +8,11 @@ use host::whole_file::{read, replace};
 use modeldisk::supply::{drivers_for, setup_for, table_in};
 use script_text::script_files::File;
 use std::alloc::{AllocError, Global};
+use std::io;
 use std::process::ExitCode;
 use std::rt::Files;
 use std::sync::{Arc, Wait};
 use std::thread::Threads;
-use std::io;
 use tools::play::{finish, play};
 
 /// A file of this name, with its bytes if it could be read.

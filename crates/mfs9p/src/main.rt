@@ -10,11 +10,11 @@ use mount_service::mortal::{Mortality, mortal_drivers, mortal_setup};
 use mount_service::mount::{finish, mount};
 use mount_service::program::Streams;
 use mount_service::telling_gate::Telling;
+use std::io;
 use std::io::BufReader;
 use std::process::ExitCode;
 use std::sync::{Arc, Wait};
 use std::thread::Threads;
-use std::io;
 
 /// How many bytes of messages are read together.
 const ROOM: usize = 65536;

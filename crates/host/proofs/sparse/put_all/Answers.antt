@@ -11,9 +11,8 @@ loop-at-init g c =
 pub loop-at-preserved : goal.loop-at-preserved
 loop-at-preserved g c =
     let run = c.run_at_front.ensures.within in
-    let behind = c.zeros_at_front.ensures in
-    (
+    let behind = c.zeros_at_front.ensures in (
       end_within _ _ _ _ c.loop-at.invariant.0 run behind.within,
       λ n is fits. moved _ n _ _ _ _ _ _ (omega arith) c.loop-at.invariant.0 run behind.within behind.zeros c.in_ok-put.ensures
-      (c.loop-at.invariant.1 n is fits) fits,
+          (c.loop-at.invariant.1 n is fits) fits,
     )
