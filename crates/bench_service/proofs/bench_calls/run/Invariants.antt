@@ -4,7 +4,7 @@ use Rattle.mounting.specs.Laws.{sizes_in}
 use Rattle.mounting.specs.Starting.{opening_of}
 use Rattle.bench_service.proofs.bench_calls.run.Given as goal
 
--- the service's board, its volume, the sizes that its superblock gives, and the policy, from what is handed over; nothing is asked of drivers
+-- the board, the volume, its sizes and the policy, from what is handed over; nothing is asked of drivers
 abbrev pub ghosts-start_and_measure : goal.ghosts-start_and_measure
 ghosts-start_and_measure g a = record {
   table = a.board;
