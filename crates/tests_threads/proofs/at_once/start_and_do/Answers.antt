@@ -1,4 +1,3 @@
-use Rattle.launch.proofs.Frames.{frames_fit}
 use Rattle.tests_threads.proofs.at_once.start_and_do.Goals as goal
 
 pub mount_and_do-requires-clause-truth : goal.mount_and_do-requires-clause-truth
