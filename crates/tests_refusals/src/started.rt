@@ -211,14 +211,16 @@ impl Case {
     }
 
     /// Whether it may come out so where the request or the thread of this number is refused. The threads of a start are the reincarnation
-    /// server's, the first driver's and the flusher's.
+    /// server's, the first driver's and the flusher's. Where room for many is refused a list may find room for one after the other.
     fn allows(self, number: u32, way: Way) -> bool {
         let of_driver = way == self.without_driver();
         match (self.when, self.what) {
-            (When::Start, Refused::Memory) => of_driver || way == Way::OutOfMemory,
-            (When::Start, Refused::Thread) if number == 2 => of_driver,
-            (When::Start, Refused::Thread) => way == Way::OutOfMemory,
-            (When::Call, _) => of_driver,
+            (When::Start, Refused::Memory) => {
+                of_driver || way == Way::OutOfMemory || way == self.undisturbed()
+            }
+            (When::Call, Refused::Memory) => of_driver || way == self.undisturbed(),
+            (When::Start, Refused::Thread) if number != 2 => way == Way::OutOfMemory,
+            (_, Refused::Thread) => of_driver,
         }
     }
 }
