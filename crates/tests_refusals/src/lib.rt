@@ -1,6 +1,5 @@
-//! Tests of memory and of threads that are refused. Each run is made once as it is, and over an allocator that takes orders
-//! (`bin/refusals` builds one) once for each of its requests, of which that one is refused. What is made after the opening of a service is
-//! made without memory.
+//! Tests of memory that is refused. Each run is made once as it is, and over an allocator that takes orders (`bin/refusals` builds one)
+//! once for each of its requests, of which that one is refused. What is made after the opening of a service is made without memory.
 #![tactic(auto)]
 
 #[cfg(test)]
@@ -11,8 +10,6 @@ mod orders;
 mod plays;
 #[cfg(test)]
 mod served;
-#[cfg(test)]
-mod started;
 #[cfg(test)]
 mod told;
 #[cfg(test)]

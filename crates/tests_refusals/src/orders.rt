@@ -1,4 +1,4 @@
-//! Orders to an allocator, and runs that are made once for each of their requests for memory, or threads, which is refused.
+//! Orders to an allocator, and runs that are made once for each of their requests for memory, which is refused.
 
 use std::alloc::{AllocError, Global};
 use std::test::Fail;
@@ -6,9 +6,6 @@ use std::test::Fail;
 /// A request for 2^62 bytes and more, which no allocator grants, is an order to one that takes orders: 2^32 times the number of the trial,
 /// and which of the requests from there on is refused, or 0 for each of them.
 const ORDER: usize = 0x4000_0000_0000_0000;
-
-/// With so many more it is an order about threads: which of those that are started from there on is refused.
-const THREAD: usize = 0x2000_0000_0000_0000;
 
 const TRIAL: usize = 0x1_0000_0000;
 
@@ -18,35 +15,16 @@ const ASK: usize = 1_000_003;
 /// How many requests a run has, at most.
 const MOST: u32 = 100_000;
 
-/// What is refused.
-#[derive(Clone, Copy, Debug, PartialEq, Eq)]
-pub(crate) enum Refused {
-    /// A request for memory.
-    Memory,
-    /// A thread.
-    Thread,
-}
-
 /// From now on each request is refused, or this one alone, counted from 1, where the allocator takes orders.
 pub(crate) fn refuse(alloc: Global, trial: u16, request: u32) {
-    refuse_one(alloc, Refused::Memory, trial, request);
-}
-
-/// From now on this request or thread is refused, counted from 1, where the allocator takes orders.
-pub(crate) fn refuse_one(alloc: Global, what: Refused, trial: u16, number: u32) {
-    let kind = match what {
-        Refused::Memory => 0,
-        Refused::Thread => THREAD,
-    };
     let order = ORDER
-        .saturating_add(kind)
         .saturating_add((trial as usize).saturating_mul(TRIAL))
-        .saturating_add(number as usize);
+        .saturating_add(request as usize);
     let refused: Result<Vec<u8>, AllocError> = Vec::with_capacity(alloc, order);
     drop(refused);
 }
 
-/// Whether a request or a thread was refused since the last order; from now on none is.
+/// Whether a request was refused since the last order; from now on none is.
 pub(crate) fn was_refused(alloc: Global) -> bool {
     let asked: Result<Vec<u8>, AllocError> = Vec::with_capacity(alloc, ASK);
     asked.is_err()
